@@ -1,0 +1,28 @@
+//! Lists, and the ends through which bytes come from the outside and go to it.
+//!
+//! Every other crate stands on this one. It has the list types that contracts see as plain lists,
+//! the traits [`Source`] and [`Sink`] with ends in memory, and the reading of lines.
+#![tactic(auto)]
+
+mod lines;
+mod lists;
+mod mem;
+mod memory;
+mod node;
+mod put;
+mod sequence;
+mod sink;
+mod source;
+
+pub use lines::{LineErr, LineReader, MAX_INPUT, MAX_LINE};
+pub use lists::{ByteLists, Bytes, Numbers, Rows, Times};
+pub use mem::{MemSink, MemSource};
+pub use memory::Memory;
+pub use node::Node;
+pub use put::{PutErr, put_all};
+pub use sequence::Sequence;
+pub use sink::Sink;
+pub use source::{Fault, Source};
+
+#[cfg(test)]
+mod tests;

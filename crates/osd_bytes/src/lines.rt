@@ -1,0 +1,206 @@
+ghost use Rattle.std.specs.Prelude.{◌≡◌, ◌+◌, ◌++◌, ◌≤◌, ◌<◌, ◌↔◌, true, false, [], IfOk, IfNone, OnOk, OnErr, IsErrOf, IsNone, length};
+ghost use Rattle.std.specs.Option.{option_to_list};
+ghost use Rattle.std.specs.Io.KnownBytes.{prepend_known, Consumes, Keeps, IsAtEnd};
+ghost use Rattle.osd_bytes.specs.Causes.{HasCause, Rose};
+ghost use Rattle.osd_bytes.specs.Lines.{NextIs, Leaves, GivesLine, Yields, HasReadCause};
+
+use crate::lists::Bytes;
+use crate::source::{Fault, Source};
+use std::alloc::Global;
+use std::marker::Model;
+
+/// The most bytes of a line.
+pub const MAX_LINE: u32 = 600_000;
+
+/// The most bytes of an input.
+pub const MAX_INPUT: u64 = 67_108_864;
+
+/// Why no line came.
+#[derive(Clone, Copy, Debug, PartialEq, Eq)]
+pub enum LineErr {
+    TooLong,
+    InputFull,
+    ReadFault,
+    Memory,
+}
+
+impl From<crate::Memory> for LineErr {
+    ghost use Rattle.osd_bytes.specs.declared.lines.LineErr.TheVariants.{Memory};
+
+    ghost from_gives = { λ _ e. e ≡ Memory };
+
+    fn from(_: crate::Memory) -> Self {
+        LineErr::Memory
+    }
+}
+
+const WINDOW: usize = 4096;
+
+/// Bytes that were read ahead.
+#[derive(Drop)]
+struct Window {
+    buf: [u8; WINDOW],
+    at: usize,
+    end: usize,
+}
+
+impl Model for Window {
+    ghost use Rattle.std.specs.Prelude.{List, ℕ, ◌≤◌, drop, take};
+
+    ghost Value = { List ℕ };
+
+    ghost view = { λ w. drop w.at (take w.end w.buf) };
+
+    ghost invariant = { λ w. (w.at ≤ w.end) × (w.end ≤ 4096) };
+}
+
+impl Window {
+    fn new() -> Self
+        ensures { result ≡ [] }
+    {
+        Window {
+            buf: [0; WINDOW],
+            at: 0,
+            end: 0,
+        }
+    }
+
+    fn pop(&mut self) -> Option<u8>
+        ensures bytes { self.old ≡ option_to_list result ++ self.new }
+        ensures none { IsNone result ↔ (self.old ≡ []) }
+    {
+        if self.at == self.end {
+            return None;
+        }
+        let byte = self.buf[self.at];
+        self.at += 1;
+        Some(byte)
+    }
+
+    fn fill<S: Source>(&mut self, s: &mut S) -> Result<(), Fault>
+        requires { self.old ≡ [] }
+        ensures bytes { OnOk result (Consumes (S.left s.old) (S.left s.new) self.new) }
+        ensures end { OnOk result (self.new ≡ [] → IsAtEnd (S.left s.new)) }
+        ensures err { OnErr result ((self.new ≡ []) × Keeps (S.left s.old) (S.left s.new)) }
+        ensures cause { HasCause (S.faults s.old) (S.faults s.new) result }
+        ensures loan { S.loan s.new ≡ S.loan s.old }
+    {
+        self.at = 0;
+        self.end = 0;
+        self.end = s.take(&mut self.buf)?;
+        Ok(())
+    }
+}
+
+// The next byte, read ahead or from the source.
+fn next_byte<S: Source>(window: &mut Window, s: &mut S) -> Result<Option<u8>, Fault>
+    ensures bytes { IfOk result (λ b. Consumes (prepend_known window.old (S.left s.old)) (prepend_known window.new (S.left s.new)) (option_to_list b)) }
+    ensures end { IfOk result (λ b. IfNone b (IsAtEnd (prepend_known window.new (S.left s.new)))) }
+    ensures cause { HasCause (S.faults s.old) (S.faults s.new) result }
+    ensures loan { S.loan s.new ≡ S.loan s.old }
+{
+    match window.pop() {
+        Some(byte) => Ok(Some(byte)),
+        None => {
+            window.fill(s)?;
+            Ok(window.pop())
+        }
+    }
+}
+
+// A line, and how many bytes came.
+fn line_from<S: Source>(
+    alloc: Global,
+    window: &mut Window,
+    taken: &mut u64,
+    s: &mut S,
+) -> Result<Option<Bytes>, LineErr>
+    requires { taken.old ≤ MAX_INPUT }
+    ensures answer { NextIs taken.old (prepend_known window.old (S.left s.old)) result }
+    ensures rest { OnOk result (Leaves (prepend_known window.old (S.left s.old)) (prepend_known window.new (S.left s.new))) }
+    ensures taken { taken.new ≤ MAX_INPUT }
+    ensures counts { GivesLine result → taken.old < taken.new }
+    ensures cause { HasReadCause (S.faults s.old) (S.faults s.new) result }
+    ensures loan { S.loan s.new ≡ S.loan s.old }
+{
+    let mut line = Bytes::new(alloc);
+    for _ in 0..MAX_LINE + 1 {
+        match next_byte(window, s) {
+            Err(_) => return Err(LineErr::ReadFault),
+            Ok(None) => {
+                return Ok(if line.len() == 0 { None } else { Some(line) });
+            }
+            Ok(Some(byte)) => {
+                if *taken == MAX_INPUT {
+                    return Err(LineErr::InputFull);
+                }
+                *taken += 1;
+                if byte == b'\n' {
+                    return Ok(Some(line));
+                }
+                line.push(byte)?;
+            }
+        }
+    }
+    Err(LineErr::TooLong)
+}
+
+/// The lines of a source.
+#[derive(Drop)]
+pub struct LineReader {
+    alloc: Global,
+    window: Window,
+    taken: u64,
+    over: bool,
+}
+
+impl Model for LineReader {
+    ghost use Rattle.std.specs.Prelude.{◌≤◌};
+    ghost use Rattle.osd_bytes.specs.declared.lines.TheConstants.{MAX_INPUT};
+    ghost use Rattle.osd_bytes.specs.Reading.{Reading};
+
+    ghost Value = { Reading };
+
+    ghost view = { λ r. record { pending = r.window; taken = r.taken; over = r.over } };
+
+    ghost invariant = { λ r. r.taken ≤ MAX_INPUT };
+}
+
+impl LineReader {
+    ghost use Rattle.std.specs.Prelude.{List, ℕ};
+
+    pub fn new(alloc: Global) -> Self
+        ensures { result ≡ record { pending = []; taken = 0; over = false } }
+    {
+        LineReader {
+            alloc,
+            window: Window::new(),
+            taken: 0,
+            over: false,
+        }
+    }
+
+    /// Whether no further line may be asked.
+    pub fn is_over(&self) -> bool
+        ensures { result ≡ self.now.over }
+    {
+        self.over
+    }
+
+    /// The next line without its newline, or `None` at the end.
+    pub fn next_line<S: Source>(&mut self, s: &mut S) -> Result<Option<Bytes>, LineErr>
+        requires { self.old.over ≡ false }
+        ensures answer { NextIs self.old.taken (prepend_known self.old.pending (S.left s.old)) result }
+        ensures rest { OnOk result (Leaves (prepend_known self.old.pending (S.left s.old)) (prepend_known self.new.pending (S.left s.new))) }
+        ensures lines { Yields (prepend_known self.old.pending (S.left s.old)) (prepend_known self.new.pending (S.left s.new)) result }
+        ensures over { (self.new.over ≡ false) ↔ GivesLine result }
+        ensures counts { GivesLine result → self.old.taken < self.new.taken }
+        ensures within { self.new.taken ≤ MAX_INPUT }
+        ensures cause { HasReadCause (S.faults s.old) (S.faults s.new) result }
+        ensures loan { S.loan s.new ≡ S.loan s.old }
+    {
+        let found = line_from(self.alloc, &mut self.window, &mut self.taken, s);
+        self.over = !matches!(found, Ok(Some(_)));
+        found
+    }
+}
