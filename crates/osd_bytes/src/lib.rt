@@ -9,6 +9,7 @@ mod lists;
 mod mem;
 mod memory;
 mod node;
+mod overwrite;
 mod put;
 mod sequence;
 mod sink;

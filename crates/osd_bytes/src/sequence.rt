@@ -1,6 +1,8 @@
-ghost use Rattle.std.specs.Prelude.{◌≡◌, ◌<◌, ◌++◌, ◌∷◌, [], length, slice_get, ◌↔◌, IsTrue, IfOk, OnOk, OnErr};
+ghost use Rattle.std.specs.Prelude.{◌≡◌, ◌<◌, ◌+◌, ◌^◌, ◌++◌, ◌∷◌, [], length, slice_get, ◌↔◌, IsTrue, IfOk, OnOk, OnErr};
+ghost use Rattle.osd_bytes.specs.Overwrite.{overwritten};
 
 use crate::memory::Memory;
+use crate::overwrite::overwrite;
 use std::alloc::Global;
 use std::marker::Model;
 
@@ -91,6 +93,18 @@ impl<T: Copy> Sequence<T> {
     {
         self.items.extend_from_slice(more)?;
         Ok(())
+    }
+}
+
+impl Sequence<u8> {
+    /// Writes bytes over the old ones from an offset on, and past their end; a gap before the
+    /// offset becomes zeros. Where there is no memory the list is as before.
+    pub fn overwrite(&mut self, offset: usize, bytes: &[u8]) -> Result<(), Memory>
+        requires { offset + length bytes.now < 2 ^ 63 }
+        ensures ok { OnOk result (self.new ≡ overwritten self.old offset bytes.now) }
+        ensures err { OnErr result (self.new ≡ self.old) }
+    {
+        overwrite(&mut self.items, offset, bytes)
     }
 }
 
