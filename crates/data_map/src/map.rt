@@ -1,4 +1,4 @@
-ghost use Rattle.std.specs.Prelude.{◌≡◌, ◌<◌};
+ghost use Rattle.std.specs.Prelude.{◌≡◌, ◌<◌, IfOk};
 ghost use Rattle.data_map.specs.Check.{checked, IsPlain};
 ghost use Rattle.data_map.specs.Striping.{place_of, left_in_unit};
 
@@ -38,7 +38,8 @@ impl DataMap {
     #[tactic(auto, unfolding(crate::specs::Check::checked))]
     pub fn check(raw: RawMap) -> Result<DataMap, MapErr>
         requires { IsPlain raw }
-        ensures { result ≡ checked raw }
+        ensures value { result ≡ checked raw }
+        ensures same { IfOk result (λ map. map ≡ raw) }
     {
         if raw.unit == 0 || raw.unit > MAX_STRIPE_UNIT {
             return Err(MapErr::Unit);

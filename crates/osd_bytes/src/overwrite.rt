@@ -11,8 +11,8 @@ fn paste(all: &mut [u8], at: usize, new: &[u8])
     all[at..at + new.len()].copy_from_slice(new);
 }
 
-// Adds zeros up to a length, where the vector is shorter.
-fn grow(bytes: &mut Vec<u8>, end: usize) -> Result<(), Memory>
+/// Adds zeros up to a length, where the vector is shorter. Where there is no memory it is as before.
+pub fn grow(bytes: &mut Vec<u8>, end: usize) -> Result<(), Memory>
     requires { end < 2 ^ 63 }
     ensures ok { OnOk result (bytes.new.items ≡ bytes.old.items ++ replicate (end - length bytes.old.items) 0) }
     ensures err { OnErr result (bytes.new.items ≡ bytes.old.items) }

@@ -1,8 +1,8 @@
-ghost use Rattle.std.specs.Prelude.{◌≡◌, ◌<◌, ◌+◌, ◌^◌, ◌++◌, ◌∷◌, [], length, slice_get, ◌↔◌, IsTrue, IfOk, OnOk, OnErr};
+ghost use Rattle.std.specs.Prelude.{◌≡◌, ◌<◌, ◌+◌, ◌-◌, ◌^◌, ◌++◌, ◌∷◌, [], length, replicate, slice_get, ◌↔◌, IsTrue, IfOk, OnOk, OnErr};
 ghost use Rattle.osd_bytes.specs.Overwrite.{overwritten};
 
 use crate::memory::Memory;
-use crate::overwrite::overwrite;
+use crate::overwrite::{grow, overwrite};
 use std::alloc::Global;
 use std::marker::Model;
 
@@ -97,6 +97,15 @@ impl<T: Copy> Sequence<T> {
 }
 
 impl Sequence<u8> {
+    /// Adds zeros up to a length, where the list is shorter. Where there is no memory it is as before.
+    pub fn grow(&mut self, end: usize) -> Result<(), Memory>
+        requires { end < 2 ^ 63 }
+        ensures ok { OnOk result (self.new ≡ self.old ++ replicate (end - length self.old) 0) }
+        ensures err { OnErr result (self.new ≡ self.old) }
+    {
+        grow(&mut self.items, end)
+    }
+
     /// Writes bytes over the old ones from an offset on, and past their end; a gap before the
     /// offset becomes zeros. Where there is no memory the list is as before.
     pub fn overwrite(&mut self, offset: usize, bytes: &[u8]) -> Result<(), Memory>

@@ -10,4 +10,4 @@ mod names;
 
 pub use event::{Call, Event, EventErr, FileMap};
 pub use line::{Line, Note, Outcome};
-pub use names::{ClientName, DriveName, FileName};
+pub use names::{CLIENTS, ClientName, DRIVES, DriveName, FILES, FileName};

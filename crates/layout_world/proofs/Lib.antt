@@ -1,0 +1,4 @@
+pub mod Storing
+pub mod Loading
+pub mod Placed
+pub mod Calls

@@ -1,0 +1,4 @@
+pub mod Cluster
+pub mod Placing
+pub mod Striped
+pub mod State

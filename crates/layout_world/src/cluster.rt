@@ -1,0 +1,181 @@
+ghost use Rattle.std.specs.Prelude.{◌≡◌, ◌<◌, ◌↔◌, ◌==◌, ℕ, max, if◌then◌else◌, IsTrue, IsErrOf, OnOk, IfOk, IfSome};
+ghost use Rattle.std.specs.Ordering.{nat_cmp};
+ghost use Rattle.std.specs.BTreeMap.{is_at};
+ghost use Rattle.std.specs.Map.{lookup};
+ghost use Rattle.data_map.specs.Check.{IsPlain};
+ghost use Rattle.layout_world.specs.State.{new_cluster, IsWell, CanAddDrive, AddsDrive, IsClient, AddsClient, CanAddFile, AddsFile, InRange, CanWrite, DoesWrite, CanRead, Answers};
+
+use crate::drives::Drives;
+use crate::err::WorldErr;
+use crate::file::{MAX_CALL, MAX_FILE_SIZE, StripedFile};
+use crate::making::make_objects;
+use crate::placing::choose;
+use crate::striped::{has_room, load, store};
+use data_map::{DataMap, RawMap};
+use osd_bytes::Bytes;
+use std::alloc::Global;
+use std::collections::BTreeMap;
+use std::marker::Model;
+
+/// The drives, clients and files of a world.
+#[derive(Drop)]
+pub struct Cluster {
+    alloc: Global,
+    drives: Drives,
+    clients: [bool; 16],
+    files: BTreeMap<u32, StripedFile>,
+}
+
+impl Model for Cluster {
+    ghost use Rattle.layout_world.specs.State.{ClusterState};
+
+    ghost Value = { ClusterState };
+
+    ghost view = { λ c. record { drives = c.drives; clients = c.clients; files = c.files.entries } };
+}
+
+// Whether a range can be called.
+fn in_range(offset: u64, length: u64) -> bool
+    ensures { IsTrue result ↔ InRange offset length }
+{
+    length <= MAX_CALL && offset <= MAX_FILE_SIZE && offset + length <= MAX_FILE_SIZE
+}
+
+// Whether a map is of plain striping.
+fn is_plain(map: &RawMap) -> bool
+    ensures { IsTrue result ↔ IsPlain map.now }
+{
+    map.width == 0 && map.depth == 0 && map.mirrors == 0 && map.algorithm == 1
+}
+
+// Raises the size of a file to an end.
+fn raise_size(files: &mut BTreeMap<u32, StripedFile>, file: u32, end: u64)
+    ensures { IfSome (lookup (is_at (nat_cmp file)) files.old.entries) (λ old. (g : ℕ) → lookup (is_at (nat_cmp g)) files.new.entries ≡ (if g == file then Some (record old { size = max old.size end }) else lookup (is_at (nat_cmp g)) files.old.entries)) }
+{
+    if let Some(found) = files.get_mut(&file) {
+        found.size = found.size.max(end);
+    }
+}
+
+impl Cluster {
+    /// No drives, clients and files.
+    pub fn new(alloc: Global) -> Self
+        ensures { result ≡ new_cluster }
+    {
+        Cluster {
+            alloc,
+            drives: Drives::new(alloc),
+            clients: [false; 16],
+            files: BTreeMap::new(alloc),
+        }
+    }
+
+    /// Adds a drive.
+    pub fn add_drive(&mut self, drive: u32, capacity: u64) -> Result<(), WorldErr>
+        ensures ok { OnOk result (CanAddDrive self.old drive × AddsDrive self.old drive capacity self.new) }
+        ensures refused { IsErrOf result WorldErr.NotYet → (CanAddDrive self.old drive → ⊥) × (self.new ≡ self.old) }
+    {
+        if self.drives.contains(drive) {
+            return Err(WorldErr::NotYet);
+        }
+        self.drives.add(self.alloc, drive, capacity)?;
+        Ok(())
+    }
+
+    /// Whether there is this client.
+    pub fn has_client(&self, client: u32) -> bool
+        requires well { IsWell self.now }
+        requires named { client < 16 }
+        ensures { IsTrue result ↔ IsClient self.now client }
+    {
+        self.clients[client as usize]
+    }
+
+    /// Adds a client.
+    pub fn add_client(&mut self, client: u32) -> Result<(), WorldErr>
+        requires named { client < 16 }
+        ensures ok { OnOk result ((IsClient self.old client → ⊥) × AddsClient self.old client self.new) }
+        ensures refused { IsErrOf result WorldErr.NotYet → IsClient self.old client × (self.new ≡ self.old) }
+    {
+        if self.clients[client as usize] {
+            return Err(WorldErr::NotYet);
+        }
+        self.clients[client as usize] = true;
+        Ok(())
+    }
+    /// Makes a file, its components on the drives with the fewest objects.
+    pub fn add_file(&mut self, file: u32, raw: RawMap) -> Result<(), WorldErr>
+        requires well { IsWell self.old }
+        requires named { file < 64 }
+        ensures ok { OnOk result (CanAddFile self.old file raw × AddsFile self.old file raw self.new) }
+        ensures refused { IsErrOf result WorldErr.NotYet → (CanAddFile self.old file raw → ⊥) × (self.new ≡ self.old) }
+    {
+        if self.files.contains_key(&file) || !is_plain(&raw) {
+            return Err(WorldErr::NotYet);
+        }
+        let map = match DataMap::check(raw) {
+            Ok(map) => map,
+            Err(_) => return Err(WorldErr::NotYet),
+        };
+        let chosen = match choose(self.alloc, &self.drives, raw.comps)? {
+            Some(chosen) => chosen,
+            None => return Err(WorldErr::NotYet),
+        };
+        let first = 65_536 + 64 * u64::from(file);
+        make_objects(self.alloc, &mut self.drives, first, chosen.as_slice())?;
+        let made = StripedFile {
+            map,
+            size: 0,
+            first,
+            drives: chosen,
+        };
+        match self.files.insert(file, made) {
+            Ok(_) => Ok(()),
+            Err(_) => Err(WorldErr::Memory),
+        }
+    }
+
+    /// Writes bytes over those of a file. It refuses the write where the range, the file or the
+    /// drives' room doesn't allow it.
+    pub fn write(&mut self, file: u32, offset: u64, bytes: &[u8]) -> Result<(), WorldErr>
+        requires well { IsWell self.old }
+        ensures ok { OnOk result (CanWrite self.old file offset bytes.now × DoesWrite self.old file offset bytes.now self.new) }
+        ensures refused { IsErrOf result WorldErr.NotYet → (CanWrite self.old file offset bytes.now → ⊥) × (self.new ≡ self.old) }
+    {
+        let length = bytes.len() as u64;
+        if !in_range(offset, length) {
+            return Err(WorldErr::NotYet);
+        }
+        if bytes.is_empty() {
+            return Ok(());
+        }
+        let found = match self.files.get(&file) {
+            Some(found) => found,
+            None => return Err(WorldErr::NotYet),
+        };
+        if !has_room(&self.drives, found, offset, length) {
+            return Err(WorldErr::NotYet);
+        }
+        store(&mut self.drives, found, offset, bytes)?;
+        raise_size(&mut self.files, file, offset + length);
+        Ok(())
+    }
+
+    /// The bytes of a range of a file that lie below its size.
+    pub fn read(&self, file: u32, offset: u64, length: u64) -> Result<Bytes, WorldErr>
+        requires well { IsWell self.now }
+        ensures ok { IfOk result (λ answer. CanRead self.now file offset length × Answers self.now file offset length answer) }
+        ensures refused { IsErrOf result WorldErr.NotYet → CanRead self.now file offset length → ⊥ }
+    {
+        if !in_range(offset, length) {
+            return Err(WorldErr::NotYet);
+        }
+        let found = match self.files.get(&file) {
+            Some(found) => found,
+            None => return Err(WorldErr::NotYet),
+        };
+        let end = (offset + length).min(found.size);
+        let answer = load(self.alloc, &self.drives, found, offset, end.saturating_sub(offset))?;
+        Ok(answer)
+    }
+}

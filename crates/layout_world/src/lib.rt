@@ -1,0 +1,11 @@
+//! All parties of a scenario: its drives, clients and files, and what its events do to them.
+#![tactic(auto)]
+
+mod cluster;
+mod drive;
+mod drives;
+mod err;
+mod file;
+mod making;
+mod placing;
+mod striped;
