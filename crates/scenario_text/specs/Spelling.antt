@@ -1,10 +1,12 @@
 -- What a line of a scenario spells, and the text of a line of a transcript.
-use Rattle.std.specs.Prelude.{◌≡◌, ℕ, ◌^◌, ◌<◌, ◌≤◌, ⊤, List, [], ◌∷◌, length, codes}
+use Rattle.std.specs.Prelude.{◌≡◌, ℕ, ◌^◌, ◌<◌, ◌≤◌, ⊤, List, [], ◌∷◌, length, codes, Option, Some, None, Result, Ok, Err}
 use Rattle.std.specs.Fmt.{decimal}
-use Rattle.hex.specs.Hex.{IsBytes}
+use Rattle.hex.specs.Hex.{IsBytes, encode_lower}
 use Rattle.scenario_text.specs.Words.{words_of, spaced, drive_word, client_word, file_word, yes_or_no, SpellsBytes, SpellsKey, hex_word}
 use Rattle.scenario_text.specs.declared.event.Event.{Event}
 use Rattle.scenario_text.specs.declared.event.Event.TheVariants.{Drive, Client, File, Do}
+use Rattle.scenario_text.specs.declared.event.EventErr.{EventErr}
+use Rattle.scenario_text.specs.declared.event.EventErr.TheVariants.{NotYet, Memory}
 use Rattle.scenario_text.specs.declared.event.Call.{Call}
 use Rattle.scenario_text.specs.declared.event.Call.TheVariants.{Write, Read}
 use Rattle.scenario_text.specs.declared.event.FileMap.{FileMap}
@@ -75,13 +77,20 @@ abbrev pub IsSkipped : List ℕ → Type 0
 IsSkipped [] = ⊤
 IsSkipped (b ∷ rest) = b ≡ 35
 
+-- an answer of `read_event` for a line that spells an event
+abbrev pub GivesEvent : Event → Result (Option Event) EventErr → Type 0
+GivesEvent e (Ok None) = ⊥
+GivesEvent e (Ok (Some x)) = x ≡ e
+GivesEvent e (Err NotYet) = ⊥
+GivesEvent e (Err Memory) = ⊤
+
 abbrev pub call_hex : Call → List ℕ
 call_hex (Write f offset bytes) = hex_word bytes
 call_hex (Read f offset len) = []
 
 -- the bytes of an event with lower-case digits
 abbrev pub event_hex : Event → List ℕ
-event_hex (Drive d key capacity) = hex_word key
+event_hex (Drive d key capacity) = encode_lower key
 event_hex (Client c) = []
 event_hex (File f map tag) = []
 event_hex (Do c call) = call_hex call

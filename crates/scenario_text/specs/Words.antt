@@ -1,5 +1,6 @@
 -- Words, and how names, numbers and bytes are spelled.
-use Rattle.std.specs.Prelude.{◌≡◌, ℕ, ◌==◌, Bool, true, false, List, [], ◌∷◌, codes, Ok}
+use Rattle.std.specs.Prelude.{◌≡◌, ℕ, ◌==◌, Bool, true, false, List, [], ◌∷◌, codes, Ok, Option, Some, None}
+use Rattle.std.specs.Borrow.{Bor}
 use Rattle.std.specs.Fmt.{decimal}
 use Rattle.std.specs.List.{slice_split, join_with_byte}
 use Rattle.hex.specs.Hex.{decode_of, decode_sized, encode_lower}
@@ -7,6 +8,11 @@ use Rattle.hex.specs.Hex.{decode_of, decode_sized, encode_lower}
 -- the words of a line, which single spaces separate
 abbrev pub words_of : List ℕ → List (List ℕ)
 words_of line = slice_split (λ b. b == 32) line
+
+-- the words of what is left of a line, if anything is
+abbrev pub words_left : Option (Bor (List ℕ)) → List (List ℕ)
+words_left None = []
+words_left (Some rest) = words_of rest.now
 
 -- words, separated by single spaces
 abbrev pub spaced : List (List ℕ) → List ℕ

@@ -5,9 +5,15 @@
 #![tactic(auto)]
 
 mod event;
+mod hexadecimal;
+mod keyword;
 mod line;
 mod names;
+mod read;
+mod refusal;
+mod words;
 
 pub use event::{Call, Event, EventErr, FileMap};
 pub use line::{Line, Note, Outcome};
 pub use names::{ClientName, DriveName, FileName};
+pub use read::read_event;

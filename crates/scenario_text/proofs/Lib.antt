@@ -1,0 +1,5 @@
+pub mod Numbers
+pub mod Splitting
+pub mod Fields
+pub mod EventLaws
+pub mod ReadLaws

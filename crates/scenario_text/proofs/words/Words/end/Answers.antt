@@ -1,0 +1,7 @@
+use Rattle.std.proofs.Common.{List, ◌≡◌, Err, ap, ℕ, sym, ◌∙◌}
+use Rattle.scenario_text.specs.Words.{words_left}
+use Rattle.scenario_text.proofs.Splitting.{line_is_extra}
+use Rattle.scenario_text.proofs.words.Words.end.Goals as goal
+
+pub returns-in-Some : goal.returns-in-Some
+returns-in-Some c = rw (← c.self.view_is, c.in-Some.is) (line_is_extra c.in-Some.field-0.now)
