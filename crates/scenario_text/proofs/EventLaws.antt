@@ -1,22 +1,18 @@
 -- The reading of an event's words against what they spell, both ways.
-use Rattle.std.proofs.Common.{◌≡◌, ℕ, ◌+◌, ◌-◌, ◌^◌, ◌<◌, ◌≤◌, List, [], ◌∷◌, length, Result, Ok, Err, codes, refl, sym, ap, subst, ◌∙◌, arith, lit≤, lit<}
+use Rattle.std.proofs.Common.{◌≡◌, ℕ, ◌-◌, ◌^◌, ◌<◌, List, [], ◌∷◌, Result, Ok, Err, codes, refl, subst, arith}
 use Rattle.std.specs.Prelude.{⊤}
 use Rattle.std.specs.Fmt.{decimal}
-use Rattle.std.specs.Str.{bytes_eq}
-use Rattle.std.proofs.lemmas.Slice.Eq.{bytes_eq-Decides}
-use Rattle.hex.specs.Hex.{IsBytes}
 use Rattle.scenario_text.specs.declared.refusal.WordErr.{WordErr}
 use Rattle.scenario_text.specs.declared.event.Event.{Event}
-use Rattle.scenario_text.specs.declared.event.Event.TheVariants.{Drive, Client, File, Do}
+use Rattle.scenario_text.specs.declared.event.Event.TheVariants.{Drive, Client, File}
 use Rattle.scenario_text.specs.declared.event.Call.{Call}
 use Rattle.scenario_text.specs.declared.event.Call.TheVariants.{Write, Read}
 use Rattle.scenario_text.specs.declared.event.FileMap.{FileMap}
-use Rattle.scenario_text.specs.Words.{drive_word, client_word, file_word, SpellsBytes, SpellsKey}
+use Rattle.scenario_text.specs.Words.{drive_word, client_word, SpellsBytes, SpellsKey}
 use Rattle.scenario_text.specs.Spelling.{Fits, MapFits, CallFits, call_words, event_words, SpellsCallBytes, SpellsEventBytes}
-use Rattle.scenario_text.specs.Reading.{◌>>=◌, first, after, end_at, number_of, name_of, key_of, bytes_of, number_at, name_at, key_at, bytes_at}
-use Rattle.scenario_text.specs.Keywords.{event_word_of, call_word_of, event_word_at, call_word_at}
-use Rattle.scenario_text.specs.EventReading.{u32_at, u64_at, drive_of, client_of, map_of, file_of, write_of, read_of, call_by, call_of, do_of, event_by, event_of}
-use Rattle.scenario_text.proofs.Fields.{bind_ok, first_ok, end_ok, number_ok, number_again, name_ok, name_again, key_ok, key_again, bytes_ok, bytes_again, ReadKey, ReadBytes}
+use Rattle.scenario_text.specs.Reading.{after, end_at, number_at, name_at, key_at, bytes_at}
+use Rattle.scenario_text.specs.EventReading.{u32_at, u64_at, drive_of, client_of, map_of, file_of, write_of, read_of}
+use Rattle.scenario_text.proofs.Fields.{bind_ok, end_ok, number_ok, number_again, name_ok, name_again, key_ok, key_again, bytes_ok, bytes_again}
 
 abbrev pub good : {A : Type 0} → A → Result A WordErr
 good x = Ok x

@@ -1,17 +1,17 @@
 -- What the reading of one word shows, and that a spelled word reads back.
-use Rattle.std.proofs.Common.{◌≡◌, ℕ, zero, suc, ◌+◌, ◌*◌, ◌%◌, ◌^◌, ◌<◌, ◌≤◌, Bool, true, false, ◌&&◌, ◌⊎◌, inl, inr, List, [], ◌∷◌, length, Option, Some, None, Result, Ok, Err, codes, refl, sym, ap, ◌∙◌, arith}
-use Rattle.std.specs.Prelude.{nat_eq, nat_le, if◌then◌else◌, ◌==◌}
+use Rattle.std.proofs.Common.{◌≡◌, ℕ, suc, ◌*◌, ◌^◌, ◌<◌, ◌≤◌, Bool, true, false, ◌&&◌, ◌⊎◌, inl, inr, List, [], ◌∷◌, length, Option, Some, None, Result, Ok, Err, codes, refl, sym, ap, ◌∙◌, arith}
+use Rattle.std.specs.Prelude.{nat_eq, nat_le, if◌then◌else◌}
 use Rattle.std.specs.Fmt.{decimal}
 use Rattle.std.specs.Str.{bytes_eq}
 use Rattle.std.proofs.lemmas.Bool.{leb-true, le-leb, eqb-true, eq-eqb, false_from_ne_true}
 use Rattle.std.proofs.lemmas.Slice.Eq.{bytes_eq-Decides}
-use Rattle.hex.specs.Hex.{IsBytes, decode_of, decode_sized, decode_pairs}
+use Rattle.hex.specs.Hex.{IsBytes, decode_of, decode_sized}
 use Rattle.hex.specs.declared.error.FromHexError.{FromHexError}
 use Rattle.hex.proofs.HexLemmas.{decode_of-ok, decode_sized-ok, decode_sized-twice}
 use Rattle.scenario_text.specs.declared.refusal.WordErr.{WordErr}
-use Rattle.scenario_text.specs.declared.refusal.WordErr.TheVariants.{BadNumber, BadName, BadHex, Missing, Extra}
+use Rattle.scenario_text.specs.declared.refusal.WordErr.TheVariants.{BadNumber, BadName, BadHex}
 use Rattle.scenario_text.specs.Words.{SpellsBytes, SpellsKey}
-use Rattle.scenario_text.specs.Reading.{◌>>=◌, first, after, nothing, end_at, in_range, number_of, name_of, number_at, name_at, or_bad_hex, key_of, bytes_of, key_at, bytes_at, decimal_of}
+use Rattle.scenario_text.specs.Reading.{◌>>=◌, first, after, nothing, in_range, number_of, name_of, number_at, name_at, or_bad_hex, key_of, bytes_of, key_at, bytes_at, decimal_of}
 use Rattle.scenario_text.proofs.Numbers.{decimal_of-some, decimal_of-decimal}
 
 -- what an `Ok` after `>>=` shows

@@ -2,7 +2,7 @@
 use Rattle.std.proofs.Common.{◌≡◌, ℕ, Bool, true, false, ◌⊎◌, inl, inr, List, [], ◌∷◌, Result, Ok, Err, codes, Option, refl, sym, ap, subst, ◌∙◌, arith}
 use Rattle.std.specs.Prelude.{⊤, if◌then◌else◌}
 use Rattle.std.specs.Str.{bytes_eq}
-use Rattle.std.specs.List.{slice_split, onto_first}
+use Rattle.std.specs.List.{onto_first}
 use Rattle.std.proofs.lemmas.Slice.Eq.{bytes_eq-Decides}
 use Rattle.scenario_text.specs.declared.refusal.WordErr.{WordErr}
 use Rattle.scenario_text.specs.declared.refusal.WordErr.TheVariants.{UnknownWord, BadName, BadNumber, BadHex, Missing, Extra, Memory}
@@ -18,7 +18,7 @@ use Rattle.scenario_text.specs.declared.keyword.CallWord.{CallWord}
 use Rattle.scenario_text.specs.declared.keyword.CallWord.TheVariants.{Write as WriteWord, Read as ReadWord}
 use Rattle.scenario_text.specs.Words.{words_of, client_word}
 use Rattle.scenario_text.specs.Spelling.{Fits, CallFits, call_words, event_words, SpellsCallBytes, SpellsEventBytes, Spells, IsSkipped, GivesEvent}
-use Rattle.scenario_text.specs.Reading.{◌>>=◌, first, after, name_at, GivesOrMemory}
+use Rattle.scenario_text.specs.Reading.{first, after, name_at, GivesOrMemory}
 use Rattle.scenario_text.specs.Keywords.{event_word_of, call_word_of, event_word_at, call_word_at}
 use Rattle.scenario_text.specs.EventReading.{call_by, call_of, do_of, event_by, event_of, refusal_of}
 use Rattle.scenario_text.proofs.Fields.{bind_ok, first_ok, name_ok, name_again}

@@ -1,5 +1,5 @@
 -- How the words of an event are read.
-use Rattle.std.specs.Prelude.{ℕ, ◌-◌, ◌^◌, List, [], ◌∷◌, Result, Ok}
+use Rattle.std.specs.Prelude.{ℕ, ◌-◌, ◌^◌, List, Result, Ok}
 use Rattle.scenario_text.specs.Keywords.{event_word_at, call_word_at}
 use Rattle.scenario_text.specs.declared.keyword.EventWord.{EventWord}
 use Rattle.scenario_text.specs.declared.keyword.EventWord.TheVariants.{Drive as DriveWord, Client as ClientWord, File as FileWord, Do as DoWord}

@@ -1,12 +1,12 @@
 -- How a line is read, word by word: the first wrong word from the left decides.
-use Rattle.std.specs.Prelude.{◌≡◌, ◌⊎◌, ◌≢◌, ◌<◌, length, slice_index, ℕ, zero, suc, ◌-◌, ◌^◌, nat_eq, nat_le, nat_lt, ◌&&◌, if◌then◌else◌, List, [], ◌∷◌, Option, Some, None, Result, Ok, Err, codes}
+use Rattle.std.specs.Prelude.{◌≡◌, ◌⊎◌, ◌≢◌, ◌<◌, length, slice_index, ℕ, zero, suc, ◌^◌, nat_eq, nat_le, nat_lt, ◌&&◌, if◌then◌else◌, List, [], ◌∷◌, Option, Some, None, Result, Ok, Err, codes}
 use Rattle.std.specs.Fmt.{decimal}
 use Rattle.std.specs.Str.{bytes_eq}
 use Rattle.std.specs.Str.Parse.{digits_value}
 use Rattle.hex.specs.Hex.{decode_of, decode_sized}
 use Rattle.hex.specs.declared.error.FromHexError.{FromHexError}
 use Rattle.scenario_text.specs.declared.refusal.WordErr.{WordErr}
-use Rattle.scenario_text.specs.declared.refusal.WordErr.TheVariants.{UnknownWord, BadName, BadNumber, BadHex, Missing, Extra, Memory}
+use Rattle.scenario_text.specs.declared.refusal.WordErr.TheVariants.{BadName, BadNumber, BadHex, Missing, Extra, Memory}
 
 -- the second step, if the first gave a value
 infixl 10 ◌>>=◌

@@ -1,5 +1,5 @@
 -- What a line of a scenario spells, and the text of a line of a transcript.
-use Rattle.std.specs.Prelude.{◌≡◌, ℕ, ◌^◌, ◌<◌, ◌≤◌, ⊤, List, [], ◌∷◌, length, codes, Option, Some, None, Result, Ok, Err}
+use Rattle.std.specs.Prelude.{◌≡◌, ℕ, ◌^◌, ◌<◌, ◌≤◌, ⊤, List, [], ◌∷◌, ◌++◌, length, codes, Option, Some, None, Result, Ok, Err}
 use Rattle.std.specs.Fmt.{decimal}
 use Rattle.hex.specs.Hex.{IsBytes, encode_lower}
 use Rattle.scenario_text.specs.Words.{words_of, spaced, drive_word, client_word, file_word, yes_or_no, SpellsBytes, SpellsKey, hex_word}
@@ -47,13 +47,17 @@ abbrev pub call_words : Call → List ℕ → List (List ℕ)
 call_words (Write f offset bytes) hex = codes "write" ∷ file_word f ∷ decimal offset ∷ hex ∷ []
 call_words (Read f offset len) hex = codes "read" ∷ file_word f ∷ decimal offset ∷ decimal len ∷ []
 
+abbrev pub map_words : FileMap → List (List ℕ)
+map_words map =
+    decimal map.components ∷ decimal map.unit ∷ decimal map.width ∷ decimal map.depth ∷ decimal map.mirrors
+    ∷ decimal map.algorithm ∷ []
+
 -- the words of an event, with `hex` in the place of its bytes
 abbrev pub event_words : Event → List ℕ → List (List ℕ)
 event_words (Drive d key capacity) hex = codes "drive" ∷ drive_word d ∷ hex ∷ decimal capacity ∷ []
 event_words (Client c) hex = codes "client" ∷ client_word c ∷ []
 event_words (File f map tag) hex =
-    codes "file" ∷ file_word f ∷ decimal map.components ∷ decimal map.unit ∷ decimal map.width ∷ decimal map.depth
-    ∷ decimal map.mirrors ∷ decimal map.algorithm ∷ decimal tag ∷ []
+    codes "file" ∷ file_word f ∷ (map_words map ++ (decimal tag ∷ []))
 event_words (Do c call) hex = codes "do" ∷ client_word c ∷ call_words call hex
 
 -- whether a word spells the bytes of a call; where it has none there is nothing to spell

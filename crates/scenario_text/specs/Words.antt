@@ -1,5 +1,5 @@
 -- Words, and how names, numbers and bytes are spelled.
-use Rattle.std.specs.Prelude.{◌≡◌, ℕ, ◌==◌, Bool, true, false, List, [], ◌∷◌, codes, Ok, Option, Some, None}
+use Rattle.std.specs.Prelude.{◌≡◌, ℕ, ◌==◌, Bool, true, false, List, [], ◌∷◌, ◌++◌, codes, Ok, Option, Some, None}
 use Rattle.std.specs.Borrow.{Bor}
 use Rattle.std.specs.Fmt.{decimal}
 use Rattle.std.specs.List.{slice_split, join_with_byte}
@@ -17,6 +17,11 @@ words_left (Some rest) = words_of rest.now
 -- words, separated by single spaces
 abbrev pub spaced : List (List ℕ) → List ℕ
 spaced words = join_with_byte 32 words
+
+-- words, each behind a space
+abbrev pub spaced_after : List (List ℕ) → List ℕ
+spaced_after [] = []
+spaced_after (word ∷ words) = 32 ∷ (word ++ spaced_after words)
 
 abbrev pub drive_word : ℕ → List ℕ
 drive_word d = 100 ∷ decimal d

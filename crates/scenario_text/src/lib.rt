@@ -12,8 +12,10 @@ mod names;
 mod read;
 mod refusal;
 mod words;
+mod write;
 
 pub use event::{Call, Event, EventErr, FileMap};
 pub use line::{Line, Note, Outcome};
 pub use names::{ClientName, DriveName, FileName};
 pub use read::read_event;
+pub use write::write_line;

@@ -1,5 +1,5 @@
 use Rattle.scenario_text.proofs.Splitting.{split_at_space, split_nowhere}
-use Rattle.std.proofs.Common.{sym, ◌∙◌}
+use Rattle.std.proofs.Common.{sym}
 use Rattle.scenario_text.proofs.words.split_word.Goals as goal
 
 pub returns-in-Some : goal.returns-in-Some

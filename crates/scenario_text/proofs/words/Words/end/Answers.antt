@@ -1,5 +1,3 @@
-use Rattle.std.proofs.Common.{List, ◌≡◌, Err, ap, ℕ, sym, ◌∙◌}
-use Rattle.scenario_text.specs.Words.{words_left}
 use Rattle.scenario_text.proofs.Splitting.{line_is_extra}
 use Rattle.scenario_text.proofs.words.Words.end.Goals as goal
 
