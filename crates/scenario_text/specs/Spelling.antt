@@ -121,3 +121,10 @@ line_words (Last calm unguessed) = codes "calm" ∷ yes_or_no calm ∷ codes "un
 -- the text of a line of a transcript, without its newline
 abbrev pub line_text : Line → List ℕ
 line_text l = spaced (line_words l)
+
+-- behind `= ` the text of an event's line spells the event
+abbrev pub SpellsItsEvent : Line → List ℕ → Type 0
+SpellsItsEvent (EventLine e) text = Fits e → (rest : List ℕ) × (text ≡ codes "= " ++ rest) × Spells e rest
+SpellsItsEvent (Ended c outcome) text = ⊤
+SpellsItsEvent (NoteLine f note) text = ⊤
+SpellsItsEvent (Last calm unguessed) text = ⊤

@@ -19,3 +19,6 @@ pub use line::{Line, Note, Outcome};
 pub use names::{ClientName, DriveName, FileName};
 pub use read::read_event;
 pub use write::write_line;
+
+#[cfg(test)]
+mod tests;

@@ -1,7 +1,7 @@
 ghost use Rattle.std.specs.Prelude.{◌≡◌, ◌++◌, ◌∷◌, IfOk, OnOk, decimal};
 ghost use Rattle.hex.specs.Hex.{encode_lower};
 ghost use Rattle.scenario_text.specs.Words.{hex_word, spaced_after, yes_or_no};
-ghost use Rattle.scenario_text.specs.Spelling.{line_text, event_words, event_hex, call_words, call_hex, map_words, outcome_words, note_words};
+ghost use Rattle.scenario_text.specs.Spelling.{line_text, SpellsItsEvent, event_words, event_hex, call_words, call_hex, map_words, outcome_words, note_words};
 
 use crate::event::{Call, Event, FileMap};
 use crate::line::{Line, Note, Outcome};
@@ -159,8 +159,7 @@ fn put_yes_or_no(out: &mut Bytes, yes: bool) -> Result<(), Memory>
     )
 }
 
-/// The text of a line of a transcript, without its newline. Hexadecimal digits are in lower case.
-pub fn write_line(alloc: Global, line: &Line) -> Result<Bytes, Memory>
+fn text_of(alloc: Global, line: &Line) -> Result<Bytes, Memory>
     ensures { IfOk result (λ text. text ≡ line_text line.now) }
 {
     match line {
@@ -189,4 +188,14 @@ pub fn write_line(alloc: Global, line: &Line) -> Result<Bytes, Memory>
             Ok(out)
         }
     }
+}
+
+/// The text of a line of a transcript, without its newline. Hexadecimal digits are in lower case.
+///
+/// The text of an event's line is `= ` and a text that [`crate::read_event`] reads as the event.
+pub fn write_line(alloc: Global, line: &Line) -> Result<Bytes, Memory>
+    ensures text { IfOk result (λ text. text ≡ line_text line.now) }
+    ensures spells { IfOk result (SpellsItsEvent line.now) }
+{
+    text_of(alloc, line)
 }
