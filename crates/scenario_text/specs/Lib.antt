@@ -1,2 +1,5 @@
 pub mod Words
+pub mod Reading
+pub mod Keywords
+pub mod EventReading
 pub mod Spelling

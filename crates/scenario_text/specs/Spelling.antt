@@ -1,10 +1,12 @@
 -- What a line of a scenario spells, and the text of a line of a transcript.
-use Rattle.std.specs.Prelude.{◌≡◌, ℕ, ◌^◌, ◌<◌, ◌≤◌, ⊤, List, [], ◌∷◌, length, codes}
+use Rattle.std.specs.Prelude.{◌≡◌, ℕ, ◌^◌, ◌<◌, ◌≤◌, ⊤, List, [], ◌∷◌, ◌++◌, length, codes, Option, Some, None, Result, Ok, Err}
 use Rattle.std.specs.Fmt.{decimal}
-use Rattle.hex.specs.Hex.{IsBytes}
+use Rattle.hex.specs.Hex.{IsBytes, encode_lower}
 use Rattle.scenario_text.specs.Words.{words_of, spaced, drive_word, client_word, file_word, yes_or_no, SpellsBytes, SpellsKey, hex_word}
 use Rattle.scenario_text.specs.declared.event.Event.{Event}
 use Rattle.scenario_text.specs.declared.event.Event.TheVariants.{Drive, Client, File, Do}
+use Rattle.scenario_text.specs.declared.event.EventErr.{EventErr}
+use Rattle.scenario_text.specs.declared.event.EventErr.TheVariants.{NotYet, Memory}
 use Rattle.scenario_text.specs.declared.event.Call.{Call}
 use Rattle.scenario_text.specs.declared.event.Call.TheVariants.{Write, Read}
 use Rattle.scenario_text.specs.declared.event.FileMap.{FileMap}
@@ -45,13 +47,17 @@ abbrev pub call_words : Call → List ℕ → List (List ℕ)
 call_words (Write f offset bytes) hex = codes "write" ∷ file_word f ∷ decimal offset ∷ hex ∷ []
 call_words (Read f offset len) hex = codes "read" ∷ file_word f ∷ decimal offset ∷ decimal len ∷ []
 
+abbrev pub map_words : FileMap → List (List ℕ)
+map_words map =
+    decimal map.components ∷ decimal map.unit ∷ decimal map.width ∷ decimal map.depth ∷ decimal map.mirrors
+    ∷ decimal map.algorithm ∷ []
+
 -- the words of an event, with `hex` in the place of its bytes
 abbrev pub event_words : Event → List ℕ → List (List ℕ)
 event_words (Drive d key capacity) hex = codes "drive" ∷ drive_word d ∷ hex ∷ decimal capacity ∷ []
 event_words (Client c) hex = codes "client" ∷ client_word c ∷ []
 event_words (File f map tag) hex =
-    codes "file" ∷ file_word f ∷ decimal map.components ∷ decimal map.unit ∷ decimal map.width ∷ decimal map.depth
-    ∷ decimal map.mirrors ∷ decimal map.algorithm ∷ decimal tag ∷ []
+    codes "file" ∷ file_word f ∷ (map_words map ++ (decimal tag ∷ []))
 event_words (Do c call) hex = codes "do" ∷ client_word c ∷ call_words call hex
 
 -- whether a word spells the bytes of a call; where it has none there is nothing to spell
@@ -75,13 +81,20 @@ abbrev pub IsSkipped : List ℕ → Type 0
 IsSkipped [] = ⊤
 IsSkipped (b ∷ rest) = b ≡ 35
 
+-- an answer of `read_event` for a line that spells an event
+abbrev pub GivesEvent : Event → Result (Option Event) EventErr → Type 0
+GivesEvent e (Ok None) = ⊥
+GivesEvent e (Ok (Some x)) = x ≡ e
+GivesEvent e (Err NotYet) = ⊥
+GivesEvent e (Err Memory) = ⊤
+
 abbrev pub call_hex : Call → List ℕ
 call_hex (Write f offset bytes) = hex_word bytes
 call_hex (Read f offset len) = []
 
 -- the bytes of an event with lower-case digits
 abbrev pub event_hex : Event → List ℕ
-event_hex (Drive d key capacity) = hex_word key
+event_hex (Drive d key capacity) = encode_lower key
 event_hex (Client c) = []
 event_hex (File f map tag) = []
 event_hex (Do c call) = call_hex call
@@ -108,3 +121,10 @@ line_words (Last calm unguessed) = codes "calm" ∷ yes_or_no calm ∷ codes "un
 -- the text of a line of a transcript, without its newline
 abbrev pub line_text : Line → List ℕ
 line_text l = spaced (line_words l)
+
+-- behind `= ` the text of an event's line spells the event
+abbrev pub SpellsItsEvent : Line → List ℕ → Type 0
+SpellsItsEvent (EventLine e) text = Fits e → (rest : List ℕ) × (text ≡ codes "= " ++ rest) × Spells e rest
+SpellsItsEvent (Ended c outcome) text = ⊤
+SpellsItsEvent (NoteLine f note) text = ⊤
+SpellsItsEvent (Last calm unguessed) text = ⊤

@@ -1,5 +1,6 @@
 -- Words, and how names, numbers and bytes are spelled.
-use Rattle.std.specs.Prelude.{◌≡◌, ℕ, ◌==◌, Bool, true, false, List, [], ◌∷◌, codes, Ok}
+use Rattle.std.specs.Prelude.{◌≡◌, ℕ, ◌==◌, Bool, true, false, List, [], ◌∷◌, ◌++◌, codes, Ok, Option, Some, None}
+use Rattle.std.specs.Borrow.{Bor}
 use Rattle.std.specs.Fmt.{decimal}
 use Rattle.std.specs.List.{slice_split, join_with_byte}
 use Rattle.hex.specs.Hex.{decode_of, decode_sized, encode_lower}
@@ -8,9 +9,19 @@ use Rattle.hex.specs.Hex.{decode_of, decode_sized, encode_lower}
 abbrev pub words_of : List ℕ → List (List ℕ)
 words_of line = slice_split (λ b. b == 32) line
 
+-- the words of what is left of a line, if anything is
+abbrev pub words_left : Option (Bor (List ℕ)) → List (List ℕ)
+words_left None = []
+words_left (Some rest) = words_of rest.now
+
 -- words, separated by single spaces
 abbrev pub spaced : List (List ℕ) → List ℕ
 spaced words = join_with_byte 32 words
+
+-- words, each behind a space
+abbrev pub spaced_after : List (List ℕ) → List ℕ
+spaced_after [] = []
+spaced_after (word ∷ words) = 32 ∷ (word ++ spaced_after words)
 
 abbrev pub drive_word : ℕ → List ℕ
 drive_word d = 100 ∷ decimal d

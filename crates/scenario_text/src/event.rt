@@ -1,5 +1,8 @@
+ghost use Rattle.std.specs.Prelude.{◌≡◌, IfOk};
+
 use crate::names::{ClientName, DriveName, FileName};
 use osd_bytes::{Bytes, Memory};
+use std::alloc::Global;
 
 /// The numbers of a file's data map, as the scenario gives them (RFC 5664 3).
 ///
@@ -62,6 +65,63 @@ pub enum Event {
         client: ClientName,
         call: Call,
     },
+}
+
+impl Call {
+    /// The same call, with a copy of its bytes.
+    pub fn copied(&self, alloc: Global) -> Result<Self, Memory>
+        ensures { IfOk result (λ call. call ≡ self.now) }
+    {
+        match self {
+            Call::Write {
+                file,
+                offset,
+                bytes,
+            } => Ok(Call::Write {
+                file: *file,
+                offset: *offset,
+                bytes: Bytes::copied(alloc, bytes.as_slice())?,
+            }),
+            Call::Read {
+                file,
+                offset,
+                length,
+            } => Ok(Call::Read {
+                file: *file,
+                offset: *offset,
+                length: *length,
+            }),
+        }
+    }
+}
+
+impl Event {
+    /// The same event, with a copy of its bytes.
+    pub fn copied(&self, alloc: Global) -> Result<Self, Memory>
+        ensures { IfOk result (λ event. event ≡ self.now) }
+    {
+        match self {
+            Event::Drive {
+                drive,
+                key,
+                capacity,
+            } => Ok(Event::Drive {
+                drive: *drive,
+                key: *key,
+                capacity: *capacity,
+            }),
+            Event::Client { client } => Ok(Event::Client { client: *client }),
+            Event::File { file, map, tag } => Ok(Event::File {
+                file: *file,
+                map: *map,
+                tag: *tag,
+            }),
+            Event::Do { client, call } => Ok(Event::Do {
+                client: *client,
+                call: call.copied(alloc)?,
+            }),
+        }
+    }
 }
 
 /// Why a line gave no event.

@@ -1,0 +1,5 @@
+use Rattle.scenario_text.proofs.Splitting.{line_is_extra}
+use Rattle.scenario_text.proofs.words.Words.end.Goals as goal
+
+pub returns-in-Some : goal.returns-in-Some
+returns-in-Some c = rw (← c.self.view_is, c.in-Some.is) (line_is_extra c.in-Some.field-0.now)
