@@ -1,1 +1,2 @@
 pub mod Striping
+pub mod Checks

@@ -1,1 +1,1 @@
-pub mod PlainFile
+pub mod Settled

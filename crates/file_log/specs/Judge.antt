@@ -73,3 +73,13 @@ candidates_from c (e ∷ es) = candidates_from (after_entry c e) es
 
 abbrev pub candidates : List Entry → Candidates
 candidates log = candidates_from new_file log
+
+-- the file's bytes are these, and no others may stand there
+pub record IsSettled (c : Candidates) (bytes : List ℕ) : Type 0 where
+  pub values : (p : ℕ) → c.values p ≡ slice_index bytes p ∷ []
+  pub sizes : c.sizes ≡ length bytes ∷ []
+
+-- the bytes of a range, cut at the file's end
+pub record IsRange (bytes : List ℕ) (offset len : ℕ) (answer : List ℕ) : Type 0 where
+  pub size : length answer ≡ given offset len (length bytes)
+  pub same : (i : ℕ) → i < length answer → slice_index answer i ≡ slice_index bytes (offset + i)

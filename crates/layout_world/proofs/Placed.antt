@@ -10,6 +10,7 @@ use Rattle.std.proofs.Math.ListN.{get_or-map}
 use Rattle.std.proofs.lemmas.List.{length-append, length-map, length-take, get_or-take, get_or_append_left, get_or-append_right}
 use Rattle.std.proofs.lemmas.List.Elements.{All-take, All-cons}
 use Rattle.std.proofs.lemmas.List.Sorted.{All-permutation, length_permutation}
+use Rattle.layout_world.proofs.Entries.{is_at_same}
 use Rattle.layout_world.specs.Cluster.{Drives, DriveState, drive_at, object_at, capacity_at, capacity_or_none}
 use Rattle.layout_world.specs.Placing.{loads_of, Chosen, Made}
 
@@ -17,14 +18,11 @@ use Rattle.layout_world.specs.Placing.{loads_of, Chosen, Made}
 abbrev Found : Drives → ℕ → Type 0
 Found drives d = IsSome (drive_at drives d)
 
-at_itself : (d : ℕ) → is_at (nat_cmp d) d ≡ true
-at_itself d = rw (le-ltb d d (omega arith), eq-eqb d d refl) refl
-
 found_in_longer : (k : ℕ) (e : ℕ × DriveState) (es : Drives) → Found es k → Found (e ∷ es) k
 found_in_longer k e es h = elim (is_at (nat_cmp k) e.0) as (λ b. IsSome (cond b (Some e.1) (lookup (is_at (nat_cmp k)) es))) [ true ↦ refl | false ↦ h ]
 
 found_first : (e : ℕ × DriveState) (es : Drives) → Found (e ∷ es) e.0
-found_first e es = rw (at_itself e.0) refl
+found_first e es = rw (is_at_same e.0) refl
 
 all_found : (es drives : Drives) → ((k : ℕ) → Found es k → Found drives k) → All (λ load. Found drives load.1) (loads_of es)
 all_found [] drives more = λ k d inside. absurd (omega (arith, inside))
@@ -34,10 +32,13 @@ all_found (e ∷ es) drives more = All-cons (λ load. Found drives load.1) (leng
 pub chosen_known : (drives : Drives) (count : ℕ) (chosen : List ℕ) → Chosen drives count chosen → (length chosen ≡ count) × ((k : ℕ) → k < length chosen → IsSome (drive_at drives (slice_index chosen k))) × (count ≤ length drives)
 chosen_known drives count chosen h =
     let all : All (λ load. Found drives load.1) (take count h.order) = All-take (λ load. Found drives load.1) count h.order (All-permutation (λ load. Found drives load.1) (loads_of drives) h.order h.all (all_found drives drives (λ k f. f))) in
-    let long : length chosen ≡ count = ap length h.first ∙ length-map (take count h.order) (λ load. load.1) ∙ length-take count h.order ∙ omega (arith, h.enough) in
-    (long, λ k inside.
-      let drive : slice_index chosen k ≡ (get_or (take count h.order) k (0, 0)).1 = ap (λ (x : List ℕ). slice_index x k) h.first ∙ get_or-map (λ load. load.1) (take count h.order) k (0, 0) in
-      rw drive (all k (0, 0) (omega (arith, inside, long, length-take count h.order, h.enough))), omega (arith, h.enough, length_permutation (loads_of drives) h.order h.all, length-map {B = ℕ × ℕ} drives (λ (d : ℕ × DriveState). (length d.1.objects, d.0))))
+    let long : length chosen ≡ count = ap length h.first ∙ length-map (take count h.order) (λ load. load.1) ∙ length-take count h.order ∙ omega (arith, h.enough) in (
+      long,
+      λ k inside.
+          let drive : slice_index chosen k ≡ (get_or (take count h.order) k (0, 0)).1 = ap (λ (x : List ℕ). slice_index x k) h.first ∙ get_or-map (λ load. load.1) (take count h.order) k (0, 0) in
+          rw drive (all k (0, 0) (omega (arith, inside, long, length-take count h.order, h.enough))),
+      omega (arith, h.enough, length_permutation (loads_of drives) h.order h.all, length-map {B = ℕ × ℕ} drives (λ (d : ℕ × DriveState). (length d.1.objects, d.0))),
+    )
 
 kept : (x y : Option DriveState) → capacity_or_none x ≡ capacity_or_none y → IsSome y → IsSome x
 kept None None e h = h
@@ -61,29 +62,29 @@ made_there before after drive object m = m drive object ∙ rw (eq-eqb drive dri
 made_elsewhere : (before after : Drives) (drive object d o : ℕ) → Makes before drive object after → (d ≡ drive → o ≡ object → ⊥) → object_at after d o ≡ object_at before d o
 made_elsewhere before after drive object d o m other =
     elim (cases_eq d drive) [
-      inl d_same ↦ elim (cases_eq o object) [
-          inl o_same ↦ absurd (other d_same o_same)
-          | inr o_other ↦ m d o ∙ rw (eq-eqb d drive d_same, ne_eqb o object o_other) refl
-        ]
+      | inl d_same ↦ elim (cases_eq o object) [
+        | inl o_same ↦ absurd (other d_same o_same)
+        | inr o_other ↦ m d o ∙ rw (eq-eqb d drive d_same, ne_eqb o object o_other) refl
+      ]
       | inr d_other ↦ m d o ∙ rw (ne_eqb d drive d_other) refl
     ]
 
 -- one object more
 pub made_more : (before middle after : Drives) (first : ℕ) (xs : List ℕ) (drive : ℕ) → Made before first xs middle → Makes middle drive (first + length xs) after →
-  ((d : ℕ) → capacity_at after d ≡ capacity_at middle d) → Made before first (xs ++ drive ∷ []) after
+    ((d : ℕ) → capacity_at after d ≡ capacity_at middle d) → Made before first (xs ++ drive ∷ []) after
 made_more before middle after first xs drive h made capacity =
     let long : length (xs ++ drive ∷ []) ≡ length xs + 1 = length-append xs (drive ∷ []) in
     let last : slice_index (xs ++ drive ∷ []) (length xs) ≡ drive = get_or-append_right xs (drive ∷ []) (length xs) (length xs) 0 refl (omega arith) ∙ (let none : length xs - length xs ≡ 0 = omega arith in ap (λ n. get_or (drive ∷ []) n 0) none) in
     record {
       there = λ k inside. elim (cases_lt k (length xs)) [
-          inl old ↦
+        | inl old ↦
             let same : slice_index (xs ++ drive ∷ []) k ≡ slice_index xs k = get_or_append_left xs (drive ∷ []) 0 k old in
             ap (λ d. object_at after d (first + k)) same ∙ made_elsewhere middle after drive (first + length xs) (slice_index xs k) (first + k) made (λ _ o. absurd (omega (arith, o, old))) ∙ h.there k old
-          | inr new ↦
+        | inr new ↦
             let here : k ≡ length xs = omega (arith, new, inside, long) in
             ap (λ j. object_at after (slice_index (xs ++ drive ∷ []) j) (first + j)) here ∙ ap (λ d. object_at after d (first + length xs)) last ∙ made_there middle after drive (first + length xs) made
-        ];
+      ];
       others = λ d o other. made_elsewhere middle after drive (first + length xs) d o made (λ e f. other (length xs) (omega (arith, long)) (e ∙ sym last) f)
-        ∙ h.others d o (λ k inside e f. other k (omega (arith, inside, long)) (e ∙ sym (get_or_append_left xs (drive ∷ []) 0 k inside)) f);
+          ∙ h.others d o (λ k inside e f. other k (omega (arith, inside, long)) (e ∙ sym (get_or_append_left xs (drive ∷ []) 0 k inside)) f);
       drives = λ d. capacity d ∙ h.drives d;
     }

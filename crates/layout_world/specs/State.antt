@@ -59,6 +59,7 @@ AddsClient c k after = after ≡ record c { clients = slice_set c.clients k true
 
 -- a file can be made where its number is free, its map is of plain striping and can be used, and there are drives enough
 pub record CanAddFile (c : ClusterState) (f : ℕ) (map : RawMap) : Type 0 where
+  pub named : f < 64
   pub free : IsNone (file_at c f)
   pub plain : IsPlain map
   pub usable : checked map ≡ Ok map

@@ -31,7 +31,7 @@ IsFormed file = IsChecked file.map × (length file.drives ≡ file.map.comps) ×
 -- each byte of the range lies inside its component and what the component's drive has free
 abbrev pub HasRoom : Drives → StripedFile → ℕ → ℕ → Type 0
 HasRoom drives file offset len = (l : ℕ) → offset ≤ l → l < offset + len →
-  (place_of file.map l).offset < length (component_bytes drives file (place_of file.map l).position) + free_at drives (slice_index file.drives (place_of file.map l).position)
+    (place_of file.map l).offset < length (component_bytes drives file (place_of file.map l).position) + free_at drives (slice_index file.drives (place_of file.map l).position)
 
 -- an object that is no component of the file
 abbrev pub IsOther : StripedFile → ℕ → ℕ → Type 0
@@ -52,8 +52,8 @@ pub record Loaded (drives : Drives) (file : StripedFile) (offset len : ℕ) (ans
 -- the front of a range that lies in one unit, on its component
 abbrev pub part_of : StripedFile → ℕ → ℕ → Part
 part_of file l len = record {
-    drive = slice_index file.drives (place_of file.map l).position;
-    object = file.first + (place_of file.map l).position;
-    offset = (place_of file.map l).offset;
-    length = min len (left_in_unit file.map l);
-  }
+  drive = slice_index file.drives (place_of file.map l).position;
+  object = file.first + (place_of file.map l).position;
+  offset = (place_of file.map l).offset;
+  length = min len (left_in_unit file.map l);
+}

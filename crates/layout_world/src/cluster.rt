@@ -175,7 +175,13 @@ impl Cluster {
             None => return Err(WorldErr::NotYet),
         };
         let end = (offset + length).min(found.size);
-        let answer = load(self.alloc, &self.drives, found, offset, end.saturating_sub(offset))?;
+        let answer = load(
+            self.alloc,
+            &self.drives,
+            found,
+            offset,
+            end.saturating_sub(offset),
+        )?;
         Ok(answer)
     }
 }

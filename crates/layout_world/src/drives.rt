@@ -79,7 +79,13 @@ impl Drives {
     }
 
     /// Writes bytes over those of an object of a drive.
-    pub fn write(&mut self, drive: u32, object: u64, offset: u64, bytes: &[u8]) -> Result<(), Memory>
+    pub fn write(
+        &mut self,
+        drive: u32,
+        object: u64,
+        offset: u64,
+        bytes: &[u8],
+    ) -> Result<(), Memory>
         requires exists { IsSome (object_at self.old drive object) }
         requires end { offset + length bytes.now < 2 ^ 63 }
         ensures objects { OnOk result ((d o : ℕ) → object_at self.new d o ≡ (if d == drive && o == object then Some (overwritten (bytes_at self.old drive object) offset bytes.now) else object_at self.old d o)) }
@@ -105,7 +111,14 @@ impl Drives {
     }
 
     /// Adds `count` bytes of an object of a drive to a list, zeros past the object's end.
-    pub fn read(&self, drive: u32, object: u64, offset: u64, count: u64, into: &mut Bytes) -> Result<(), Memory>
+    pub fn read(
+        &self,
+        drive: u32,
+        object: u64,
+        offset: u64,
+        count: u64,
+        into: &mut Bytes,
+    ) -> Result<(), Memory>
         requires { length into.old + count < 2 ^ 63 }
         ensures { OnOk result (into.new ≡ into.old ++ window (bytes_at self.now drive object) offset count) }
     {
@@ -138,7 +151,12 @@ fn front_from(bytes: &[u8], offset: u64, most: u64) -> &[u8]
     front
 }
 
-fn add_window(into: &mut Bytes, object: Option<&Bytes>, offset: u64, count: u64) -> Result<(), Memory>
+fn add_window(
+    into: &mut Bytes,
+    object: Option<&Bytes>,
+    offset: u64,
+    count: u64,
+) -> Result<(), Memory>
     requires { length into.old + count < 2 ^ 63 }
     ensures { OnOk result (into.new ≡ into.old ++ window (bytes_or_none (option_copied object.entry)) offset count) }
 {

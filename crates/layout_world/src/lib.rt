@@ -9,3 +9,7 @@ mod file;
 mod making;
 mod placing;
 mod striped;
+mod world;
+
+pub use err::WorldErr;
+pub use world::{Lines, World};

@@ -7,7 +7,12 @@ use osd_bytes::Memory;
 use std::alloc::Global;
 
 /// Makes the objects of a new file: object `first + k` on the drive of component k.
-pub fn make_objects(alloc: Global, drives: &mut Drives, first: u64, chosen: &[u32]) -> Result<(), Memory>
+pub fn make_objects(
+    alloc: Global,
+    drives: &mut Drives,
+    first: u64,
+    chosen: &[u32],
+) -> Result<(), Memory>
     requires known { (k : ℕ) → k < length chosen.now → IsSome (drive_at drives.old (slice_index chosen.now k)) }
     requires small { first + length chosen.now < 2 ^ 64 }
     ensures { OnOk result (Made drives.old first chosen.now drives.new) }

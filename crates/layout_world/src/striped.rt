@@ -7,7 +7,12 @@ use osd_bytes::{Bytes, Memory};
 use std::alloc::Global;
 
 /// Writes bytes over those of a file, each at its place.
-pub fn store(drives: &mut Drives, file: &StripedFile, offset: u64, bytes: &[u8]) -> Result<(), Memory>
+pub fn store(
+    drives: &mut Drives,
+    file: &StripedFile,
+    offset: u64,
+    bytes: &[u8],
+) -> Result<(), Memory>
     requires formed { IsFormed file.now }
     requires stands { Stands drives.old file.now }
     requires inside { offset + length bytes.now ≤ MAX_FILE_SIZE }
@@ -43,7 +48,13 @@ pub fn has_room(drives: &Drives, file: &StripedFile, offset: u64, length: u64) -
 }
 
 /// The bytes of a range of a file, each from its place; zeros where none was written.
-pub fn load(alloc: Global, drives: &Drives, file: &StripedFile, offset: u64, length: u64) -> Result<Bytes, Memory>
+pub fn load(
+    alloc: Global,
+    drives: &Drives,
+    file: &StripedFile,
+    offset: u64,
+    length: u64,
+) -> Result<Bytes, Memory>
     requires formed { IsFormed file.now }
     requires inside { offset + length ≤ MAX_FILE_SIZE }
     ensures { IfOk result (Loaded drives.now file.now offset length) }
@@ -52,7 +63,13 @@ pub fn load(alloc: Global, drives: &Drives, file: &StripedFile, offset: u64, len
     while (answer.len() as u64) < length {
         let at = answer.len() as u64;
         let part = file.part(offset + at, length - at);
-        drives.read(part.drive, part.object, part.offset, part.length, &mut answer)?;
+        drives.read(
+            part.drive,
+            part.object,
+            part.offset,
+            part.length,
+            &mut answer,
+        )?;
     }
     Ok(answer)
 }

@@ -12,4 +12,4 @@ pub loop-k-preserved : goal.loop-k-preserved
 loop-k-preserved c =
     let long : length (take c.loop-k.k c.args.chosen.now) ≡ c.loop-k.k = omega (arith, length-take c.loop-k.k c.args.chosen.now, c.loop-k-test.true) in
     rw (take_more c.args.chosen.now c.loop-k.k 0 c.loop-k-test.true)
-      (made_more c.args.drives.now c.loop-k.drives c.create.new.self c.args.first (take c.loop-k.k c.args.chosen.now) (get_or c.args.chosen.now c.loop-k.k 0) c.loop-k.invariant (rw long c.in_ok-create.ensures.objects) c.in_ok-create.ensures.capacity)
+    (made_more c.args.drives.now c.loop-k.drives c.create.new.self c.args.first (take c.loop-k.k c.args.chosen.now) (get_or c.args.chosen.now c.loop-k.k 0) c.loop-k.invariant (rw long c.in_ok-create.ensures.objects) c.in_ok-create.ensures.capacity)

@@ -13,9 +13,19 @@ returns-then-end-room c =
     let offset : c.part-part.result.offset ≡ (place_of file.map l).offset = ap (λ (p : Part). p.offset) c.part-part.ensures in
     let n : c.part-part.result.length ≡ min (c.args.length - c.loop-at.at) (left_in_unit file.map l) = ap (λ (p : Part). p.length) c.part-part.ensures in
     let room : c.room.result ≡ reach c.args.drives.now file l = c.room.ensures ∙ ap (λ (p : Part). length (bytes_at c.args.drives.now p.drive p.object) + free_at c.args.drives.now p.drive) c.part-part.ensures in
-    let column = mod_below l file.map.unit c.requires.formed.0.0 in
-    (λ h. absurd (search (rules, h)), λ h. absurd (omega (arith, offset, n, room, c.if-end-room.true, c.from.ensures, c.from-in-loop-at.ensures,
-      room_for_part c.args.drives.now file c.args.offset c.args.length c.loop-at.at c.part-part.result.length c.requires.formed (omega (arith, n, column, c.loop-at-test.true)) (omega (arith, n, c.loop-at-test.true)) (omega (arith, n)) h)))
+    let column = mod_below l file.map.unit c.requires.formed.0.0 in (
+      λ h. absurd (search (rules, h)),
+      λ h. absurd (omega (
+        arith,
+        offset,
+        n,
+        room,
+        c.if-end-room.true,
+        c.from.ensures,
+        c.from-in-loop-at.ensures,
+        room_for_part c.args.drives.now file c.args.offset c.args.length c.loop-at.at c.part-part.result.length c.requires.formed (omega (arith, n, column, c.loop-at-test.true)) (omega (arith, n, c.loop-at-test.true)) (omega (arith, n)) h,
+      )),
+    )
 
 pub loop-at-preserved : goal.loop-at-preserved
 loop-at-preserved c =

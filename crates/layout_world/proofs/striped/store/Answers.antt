@@ -21,12 +21,12 @@ loop-at-preserved c =
     let cut : take c.part-part.result.length (drop c.loop-at.at bytes) ≡ front = sym (c.split_at-in-loop-at.ensures.front ∙ ap (take c.part-part.result.length) c.split_at.ensures.back) in
     let short : length front ≡ c.part-part.result.length = c.split_at-in-loop-at.ensures.front_len in
     let whole : take (c.loop-at.at + length front) bytes ≡ take c.loop-at.at bytes ++ front =
-      take-add c.loop-at.at (length front) bytes ∙ ap (λ x. take c.loop-at.at bytes ++ x) (ap (λ n. take n (drop c.loop-at.at bytes)) short ∙ cut) in
+    take-add c.loop-at.at (length front) bytes ∙ ap (λ x. take c.loop-at.at bytes ++ x) (ap (λ n. take n (drop c.loop-at.at bytes)) short ∙ cut) in
     let here : c.args.offset + length (take c.loop-at.at bytes) ≡ c.args.offset + c.loop-at.at = omega (arith, length-take c.loop-at.at bytes, c.loop-at.invariant.inside) in
     let unit : c.part-part.result.length ≤ left_in_unit c.args.file.now.map (c.args.offset + c.loop-at.at) = rw c.part-part.ensures (omega arith) in
     let rest : c.part-part.result.length ≤ length c.split_at.result.1.now = rw c.part-part.ensures (omega arith) in
     record {
       inside = omega (arith, short, rest, c.split_at.ensures.back_len);
       stored = rw whole (stored_on c.args.drives.now c.loop-at.drives c.write.new.self c.args.file.now c.args.offset (take c.loop-at.at bytes) front (c.args.offset + c.loop-at.at) here c.requires.formed (omega (arith, short, unit))
-        c.loop-at.invariant.stored (rw c.part-part.ensures at c.in_ok-write.ensures.objects) c.in_ok-write.ensures.capacity);
+          c.loop-at.invariant.stored (rw c.part-part.ensures at c.in_ok-write.ensures.objects) c.in_ok-write.ensures.capacity);
     }

@@ -26,4 +26,4 @@ returns-in-Ok-insert-clause-ok c =
     let enough : c.args.raw.comps ≤ length c.self.inside.drives = known.2 in
     let made : Made c.self.inside.drives (first_of c.args.file) c.in-Some.chosen c.make_objects.new.drives = search rules in
     let files : c.insert.new.self.entries ≡ insert_entry nat_cmp c.self.inside.files.entries c.args.file (record { map = c.args.raw; size = 0; first = first_of c.args.file; drives = c.in-Some.chosen }) = search rules in
-    rw (← c.self.view_is) (record { free = free; plain = plain; usable = usable ∙ ap Ok same; drives = enough }, record { on = c.in-Some.chosen; chosen = chosen; made = made; files = files; clients = refl })
+    rw (← c.self.view_is) (record { named = c.requires.named; free = free; plain = plain; usable = usable ∙ ap Ok same; drives = enough }, record { on = c.in-Some.chosen; chosen = chosen; made = made; files = files; clients = refl })

@@ -29,5 +29,7 @@ returns-clause-ok c =
     let range : InRange c.args.offset (length c.args.bytes.now) = search rules in
     let room : HasRoom c.self.inside.drives c.in-Some.found.now c.args.offset (length c.args.bytes.now) = search rules in
     let sizes = rw found at c.raise_size.ensures in
-    rw (← c.self.view_is) (can_write before c.args.file c.args.offset c.args.bytes.now some range (c.in-Some.found.now, found, room),
-      does_write before c.args.file c.args.offset c.args.bytes.now _ c.in-Some.found.now some found record { stored = c.in_ok-store.ensures; files = sizes; clients = refl })
+    rw (← c.self.view_is) (
+      can_write before c.args.file c.args.offset c.args.bytes.now some range (c.in-Some.found.now, found, room),
+      does_write before c.args.file c.args.offset c.args.bytes.now _ c.in-Some.found.now some found record { stored = c.in_ok-store.ensures; files = sizes; clients = refl },
+    )

@@ -1,4 +1,4 @@
--- A file of which every write was acknowledged: one value at each position, and one size.
+-- A file of which every write was acknowledged has one value at each position, and one size.
 use Rattle.std.proofs.Common.{◌≡◌, ℕ, zero, suc, ◌+◌, ◌-◌, ◌<◌, ◌≤◌, max, min, Bool, true, false, cond, List, [], ◌∷◌, ◌++◌, length, get_or, Option, Some, None, refl, sym, ap, ◌∙◌, arith, inl, inr}
 use Rattle.std.specs.Prelude.{nat_lt, ◌==◌, slice_get, slice_index, Contains}
 use Rattle.std.proofs.lemmas.Bool.{cases_lt, lt-ltb, le-ltb, eq-eqb}
@@ -7,15 +7,10 @@ use Rattle.osd_bytes.specs.Overwrite.{overwritten}
 use Rattle.osd_bytes.proofs.Overwritten.{length-overwritten, before_overwritten, inside_overwritten, behind_overwritten}
 use Rattle.file_log.specs.declared.entry.Entry.{Entry}
 use Rattle.file_log.specs.declared.entry.Entry.TheVariants.{Write, Read}
-use Rattle.file_log.specs.Judge.{Candidates, byte_for, settled, given, after_entry, Finds, Fits, AcceptsFrom, candidates_from, new_file}
+use Rattle.file_log.specs.Judge.{Candidates, byte_for, settled, given, after_entry, Finds, Fits, AcceptsFrom, candidates_from, new_file, IsSettled, IsRange}
 
--- the file's bytes are these, for sure
-pub record IsPlain (c : Candidates) (bytes : List ℕ) : Type 0 where
-  pub values : (p : ℕ) → c.values p ≡ get_or bytes p 0 ∷ []
-  pub sizes : c.sizes ≡ length bytes ∷ []
-
-pub new_is_plain : IsPlain new_file []
-new_is_plain = record { values = λ p. refl; sizes = refl }
+pub new_is_settled : IsSettled new_file []
+new_is_settled = record { values = λ p. refl; sizes = refl }
 
 byte_before : (offset : ℕ) (bytes : List ℕ) (p : ℕ) → p < offset → byte_for offset bytes p ≡ None
 byte_before offset bytes p h = rw (lt-ltb p offset h) refl
@@ -39,19 +34,14 @@ settled_over old offset new p =
       ]
     ]
 
-pub after_write : (c : Candidates) (old : List ℕ) (offset : ℕ) (new : List ℕ) → IsPlain c old → IsPlain (after_entry c (Write offset new true)) (overwritten old offset new)
+pub after_write : (c : Candidates) (old : List ℕ) (offset : ℕ) (new : List ℕ) → IsSettled c old → IsSettled (after_entry c (Write offset new true)) (overwritten old offset new)
 after_write c old offset new h = record {
   values = λ p. rw (h.values p) (settled_over old offset new p);
   sizes = rw h.sizes (ap (λ n. n ∷ []) (omega (arith, length-overwritten old offset new)));
 }
 
--- the bytes of a range, cut at the end
-pub record IsRange (bytes : List ℕ) (offset len : ℕ) (answer : List ℕ) : Type 0 where
-  pub size : length answer ≡ given offset len (length bytes)
-  pub same : (i : ℕ) → i < length answer → get_or answer i 0 ≡ get_or bytes (offset + i) 0
-
--- such an answer is accepted, and nothing changes
-pub answer_fits : (c : Candidates) (bytes : List ℕ) (offset len : ℕ) (answer : List ℕ) → IsPlain c bytes → IsRange bytes offset len answer → Fits c (Read offset len (Some answer))
+-- the bytes of a range are accepted as its answer, and nothing changes
+pub answer_fits : (c : Candidates) (bytes : List ℕ) (offset len : ℕ) (answer : List ℕ) → IsSettled c bytes → IsRange bytes offset len answer → Fits c (Read offset len (Some answer))
 answer_fits c bytes offset len answer h r = record {
   size = (length bytes, rw h.sizes (0, omega arith, refl), sym r.size);
   bytes = λ i inside. rw (h.values (offset + i)) (0, omega arith, sym (r.same i inside));
@@ -69,7 +59,7 @@ settled_again bytes offset answer p same =
       ]
     ]
 
-pub after_answer : (c : Candidates) (bytes : List ℕ) (offset len : ℕ) (answer : List ℕ) → IsPlain c bytes → IsRange bytes offset len answer → IsPlain (after_entry c (Read offset len (Some answer))) bytes
+pub after_answer : (c : Candidates) (bytes : List ℕ) (offset len : ℕ) (answer : List ℕ) → IsSettled c bytes → IsRange bytes offset len answer → IsSettled (after_entry c (Read offset len (Some answer))) bytes
 after_answer c bytes offset len answer h r = record {
   values = λ p. rw (h.values p) (settled_again bytes offset answer p r.same);
   sizes = rw (h.sizes, r.size, eq-eqb (given offset len (length bytes)) (given offset len (length bytes)) refl) refl;
