@@ -1,8 +1,9 @@
-ghost use Rattle.std.specs.Prelude.{◌≡◌, ◌+◌, ◌++◌, ◌≤◌, ◌<◌, ◌↔◌, true, false, [], IfOk, IfNone, OnOk, OnErr, IsErrOf, IsNone, length};
+ghost use Rattle.std.specs.Prelude.{◌≡◌, ◌⊎◌, ◌+◌, ◌++◌, ◌≤◌, ◌<◌, ◌↔◌, true, false, [], IfOk, IfNone, OnOk, OnErr, IsErrOf, IsNone, length};
 ghost use Rattle.std.specs.Option.{option_to_list};
-ghost use Rattle.std.specs.Io.KnownBytes.{prepend_known, Consumes, Keeps, IsAtEnd};
+ghost use Rattle.std.specs.Io.KnownBytes.{Consumes, Keeps, IsAtEnd};
+ghost use Rattle.osd_bytes.specs.Reading.{known_of, SeesEnd};
 ghost use Rattle.osd_bytes.specs.Causes.{HasCause, Rose};
-ghost use Rattle.osd_bytes.specs.Lines.{NextIs, Leaves, GivesLine, Yields, HasReadCause};
+ghost use Rattle.osd_bytes.specs.Lines.{NextIs, Leaves, GivesLine, TakesLine, Yields, HasReadCause};
 
 use crate::lists::Bytes;
 use crate::source::{Fault, Source};
@@ -36,38 +37,42 @@ impl From<crate::Memory> for LineErr {
 
 const WINDOW: usize = 4096;
 
-/// Bytes that were read ahead.
+/// Bytes that were read ahead, and whether the source has come to its end.
 #[derive(Drop)]
 struct Window {
     buf: [u8; WINDOW],
     at: usize,
     end: usize,
+    ended: bool,
 }
 
 impl Model for Window {
-    ghost use Rattle.std.specs.Prelude.{List, ℕ, ◌≤◌, drop, take};
+    ghost use Rattle.std.specs.Prelude.{◌≤◌, drop, take};
+    ghost use Rattle.osd_bytes.specs.Reading.{Ahead};
 
-    ghost Value = { List ℕ };
+    ghost Value = { Ahead };
 
-    ghost view = { λ w. drop w.at (take w.end w.buf) };
+    ghost view = { λ w. record { bytes = drop w.at (take w.end w.buf); ended = w.ended } };
 
     ghost invariant = { λ w. (w.at ≤ w.end) × (w.end ≤ 4096) };
 }
 
 impl Window {
     fn new() -> Self
-        ensures { result ≡ [] }
+        ensures { result ≡ record { bytes = []; ended = false } }
     {
         Window {
             buf: [0; WINDOW],
             at: 0,
             end: 0,
+            ended: false,
         }
     }
 
     fn pop(&mut self) -> Option<u8>
-        ensures bytes { self.old ≡ option_to_list result ++ self.new }
-        ensures none { IsNone result ↔ (self.old ≡ []) }
+        ensures bytes { self.old.bytes ≡ option_to_list result ++ self.new.bytes }
+        ensures none { IsNone result ↔ (self.old.bytes ≡ []) }
+        ensures same { self.new.ended ≡ self.old.ended }
     {
         if self.at == self.end {
             return None;
@@ -77,25 +82,32 @@ impl Window {
         Some(byte)
     }
 
+    // Reads on where all bytes were taken. A source that has ended is asked no more.
     fn fill<S: Source>(&mut self, s: &mut S) -> Result<(), Fault>
-        requires { self.old ≡ [] }
-        ensures bytes { OnOk result (Consumes (S.left s.old) (S.left s.new) self.new) }
-        ensures end { OnOk result (self.new ≡ [] → IsAtEnd (S.left s.new)) }
-        ensures err { OnErr result ((self.new ≡ []) × Keeps (S.left s.old) (S.left s.new)) }
+        requires { self.old.bytes ≡ [] }
+        ensures bytes { OnOk result (Consumes (known_of self.old (S.left s.old)) (known_of self.new (S.left s.new)) []) }
+        ensures end { OnOk result (self.new.bytes ≡ [] → self.new.ended ≡ true) }
+        ensures at_end { OnOk result (SeesEnd self.old.ended (S.left s.old) self.new.ended (S.left s.new)) }
+        ensures err { OnErr result ((self.new ≡ self.old) × Keeps (S.left s.old) (S.left s.new)) }
         ensures cause { HasCause (S.faults s.old) (S.faults s.new) result }
         ensures loan { S.loan s.new ≡ S.loan s.old }
     {
+        if self.ended {
+            return Ok(());
+        }
         self.at = 0;
         self.end = 0;
         self.end = s.take(&mut self.buf)?;
+        self.ended = self.end == 0;
         Ok(())
     }
 }
 
 // The next byte, read ahead or from the source.
 fn next_byte<S: Source>(window: &mut Window, s: &mut S) -> Result<Option<u8>, Fault>
-    ensures bytes { IfOk result (λ b. Consumes (prepend_known window.old (S.left s.old)) (prepend_known window.new (S.left s.new)) (option_to_list b)) }
-    ensures end { IfOk result (λ b. IfNone b (IsAtEnd (prepend_known window.new (S.left s.new)))) }
+    ensures bytes { IfOk result (λ b. Consumes (known_of window.old (S.left s.old)) (known_of window.new (S.left s.new)) (option_to_list b)) }
+    ensures end { IfOk result (λ b. IfNone b (window.new ≡ record { bytes = []; ended = true })) }
+    ensures at_end { OnOk result (SeesEnd window.old.ended (S.left s.old) window.new.ended (S.left s.new)) }
     ensures cause { HasCause (S.faults s.old) (S.faults s.new) result }
     ensures loan { S.loan s.new ≡ S.loan s.old }
 {
@@ -116,10 +128,13 @@ fn line_from<S: Source>(
     s: &mut S,
 ) -> Result<Option<Bytes>, LineErr>
     requires { taken.old ≤ MAX_INPUT }
-    ensures answer { NextIs taken.old (prepend_known window.old (S.left s.old)) result }
-    ensures rest { OnOk result (Leaves (prepend_known window.old (S.left s.old)) (prepend_known window.new (S.left s.new))) }
+    ensures answer { NextIs taken.old (known_of window.old (S.left s.old)) result }
+    ensures rest { OnOk result (Leaves (known_of window.old (S.left s.old)) (known_of window.new (S.left s.new))) }
     ensures taken { taken.new ≤ MAX_INPUT }
+    ensures takes { TakesLine taken.old taken.new (known_of window.old (S.left s.old)) (known_of window.new (S.left s.new)) result }
     ensures counts { GivesLine result → taken.old < taken.new }
+    ensures end { result ≡ Ok None → window.new.ended ≡ true }
+    ensures at_end { OnOk result (SeesEnd window.old.ended (S.left s.old) window.new.ended (S.left s.new)) }
     ensures cause { HasReadCause (S.faults s.old) (S.faults s.new) result }
     ensures loan { S.loan s.new ≡ S.loan s.old }
 {
@@ -161,7 +176,7 @@ impl Model for LineReader {
 
     ghost Value = { Reading };
 
-    ghost view = { λ r. record { pending = r.window; taken = r.taken; over = r.over } };
+    ghost view = { λ r. record { ahead = r.window; taken = r.taken; over = r.over } };
 
     ghost invariant = { λ r. r.taken ≤ MAX_INPUT };
 }
@@ -170,7 +185,7 @@ impl LineReader {
     ghost use Rattle.std.specs.Prelude.{List, ℕ};
 
     pub fn new(alloc: Global) -> Self
-        ensures { result ≡ record { pending = []; taken = 0; over = false } }
+        ensures { result ≡ record { ahead = record { bytes = []; ended = false }; taken = 0; over = false } }
     {
         LineReader {
             alloc,
@@ -190,11 +205,14 @@ impl LineReader {
     /// The next line without its newline, or `None` at the end.
     pub fn next_line<S: Source>(&mut self, s: &mut S) -> Result<Option<Bytes>, LineErr>
         requires { self.old.over ≡ false }
-        ensures answer { NextIs self.old.taken (prepend_known self.old.pending (S.left s.old)) result }
-        ensures rest { OnOk result (Leaves (prepend_known self.old.pending (S.left s.old)) (prepend_known self.new.pending (S.left s.new))) }
-        ensures lines { Yields (prepend_known self.old.pending (S.left s.old)) (prepend_known self.new.pending (S.left s.new)) result }
+        ensures answer { NextIs self.old.taken (known_of self.old.ahead (S.left s.old)) result }
+        ensures rest { OnOk result (Leaves (known_of self.old.ahead (S.left s.old)) (known_of self.new.ahead (S.left s.new))) }
+        ensures lines { Yields (known_of self.old.ahead (S.left s.old)) (known_of self.new.ahead (S.left s.new)) result }
         ensures over { (self.new.over ≡ false) ↔ GivesLine result }
+        ensures takes { TakesLine self.old.taken self.new.taken (known_of self.old.ahead (S.left s.old)) (known_of self.new.ahead (S.left s.new)) result }
         ensures counts { GivesLine result → self.old.taken < self.new.taken }
+        ensures end { result ≡ Ok None → self.new.ahead.ended ≡ true }
+        ensures at_end { OnOk result (SeesEnd self.old.ahead.ended (S.left s.old) self.new.ahead.ended (S.left s.new)) }
         ensures within { self.new.taken ≤ MAX_INPUT }
         ensures cause { HasReadCause (S.faults s.old) (S.faults s.new) result }
         ensures loan { S.loan s.new ≡ S.loan s.old }

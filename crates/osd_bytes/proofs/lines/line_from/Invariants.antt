@@ -1,5 +1,6 @@
 use Rattle.std.proofs.Common.{◌≡◌, ◌+◌, ◌≤◌, length}
-use Rattle.std.specs.Io.KnownBytes.{prepend_known, Consumes}
+use Rattle.std.specs.Io.KnownBytes.{Consumes}
+use Rattle.osd_bytes.specs.Reading.{known_of, SeesEnd}
 use Rattle.osd_bytes.specs.declared.lines.TheConstants.{MAX_INPUT}
 use Rattle.osd_bytes.proofs.NextLine.{NoNewline}
 use Rattle.osd_bytes.proofs.lines.line_from.Given as goal
@@ -11,5 +12,6 @@ invariant-loop g l =
     × (length l.line ≡ l.counter)
     × NoNewline l.line
     × (g.S.Source.faults l.s ≡ g.S.Source.faults l.initial.s)
-    × Consumes (prepend_known l.initial.window (g.S.Source.left l.initial.s)) (prepend_known l.window (g.S.Source.left l.s)) l.line
+    × Consumes (known_of l.initial.window (g.S.Source.left l.initial.s)) (known_of l.window (g.S.Source.left l.s)) l.line
     × (g.S.Source.loan l.s ≡ g.S.Source.loan l.initial.s)
+    × SeesEnd l.initial.window.ended (g.S.Source.left l.initial.s) l.window.ended (g.S.Source.left l.s)
