@@ -1,0 +1,4 @@
+pub mod Pieces
+pub mod SoFar
+pub mod Promised
+pub mod Words

@@ -1,0 +1,133 @@
+-- What a replay promises.
+use Rattle.std.specs.Prelude.{◌≡◌, ℕ, ◌+◌, ◌≤◌, ◌⊎◌, true, List, [], ◌∷◌, ◌++◌, length, take, codes, ⊤, Option, Some, None, Ok, Err, Result}
+use Rattle.std.specs.Io.KnownBytes.{Appends, IsAtEnd}
+use Rattle.osd_bytes.specs.Causes.{Rose}
+use Rattle.osd_bytes.specs.Lines.{lines_of, next_of}
+use Rattle.osd_bytes.specs.declared.lines.LineErr.{LineErr}
+use Rattle.osd_bytes.specs.declared.lines.LineErr.TheVariants.{TooLong, InputFull, ReadFault as LineFault, Memory as LineMemory}
+use Rattle.scenario_text.specs.declared.event.Event.{Event}
+use Rattle.scenario_text.specs.declared.line.Line.{Line}
+use Rattle.scenario_text.specs.declared.line.Line.TheVariants.{Last}
+use Rattle.scenario_text.specs.Spelling.{Fits, Spells, IsSkipped}
+use Rattle.layout_world.specs.State.{ClusterState, new_cluster}
+use Rattle.layout_world.specs.Events.{IsAllowed}
+use Rattle.layout_world.specs.History.{Step, IsRun, lines_of_steps, events_of_steps, state_from, text}
+use Rattle.scenario_text.specs.declared.event.EventErr.TheVariants.{NotYet}
+use Rattle.layout_world.specs.declared.err.WorldErr.TheVariants.{NotYet as WorldNotYet}
+use Rattle.pnfs_osd.specs.Errors.{words_error, error_line, kind_name}
+use Rattle.pnfs_osd.specs.declared.status.ScenarioKind.{ScenarioKind}
+use Rattle.pnfs_osd.specs.declared.status.ScenarioKind.TheVariants.{Event as EventKind, World as WorldKind}
+use Rattle.pnfs_osd.specs.declared.status.Status.{Status}
+use Rattle.pnfs_osd.specs.declared.status.Status.TheVariants.{Done, BadWords, BadScenario, ReadFault, WriteFault, Memory}
+
+-- the bytes that the source has left and that the sink has taken, where they tell them, and the counts of their faults
+pub record Ends : Type 0 where
+  pub left : Option (List ℕ)
+  pub taken : Option (List ℕ)
+  pub reads_failed : ℕ
+  pub writes_failed : ℕ
+
+-- these lines have these events: a line that isn't skipped spells one
+abbrev pub HasEvents : List (List ℕ) → List Event → Type 0
+HasEvents [] events = events ≡ []
+HasEvents (line ∷ lines) events =
+    (IsSkipped line × HasEvents lines events)
+    ⊎ ((e : Event) × (rest : List Event) × (events ≡ e ∷ rest) × Fits e × Spells e line × HasEvents lines rest)
+
+-- these are the first lines of the input, where it is known
+abbrev pub Begins : Option (List ℕ) → List (List ℕ) → Type 0
+Begins None lines = ⊤
+Begins (Some input) lines = (later : List (List ℕ)) × (lines_of input ≡ lines ++ later)
+
+-- these are all lines of the input, where it is known
+abbrev pub IsAll : Option (List ℕ) → List (List ℕ) → Type 0
+IsAll None lines = ⊤
+IsAll (Some input) lines = lines_of input ≡ lines
+
+-- A run over the input's first lines: their events are carried out one after another, from a new world on.
+pub record Runs (input : Option (List ℕ)) (lines : List (List ℕ)) (steps : List Step) : Type 0 where
+  pub begins : Begins input lines
+  pub events : HasEvents lines (events_of_steps steps)
+  pub run : IsRun steps
+
+-- the bytes went out, and then an error line, cut only where the sink failed
+pub record Tells (before after : Ends) (bytes error : List ℕ) : Type 0 where
+  pub upto : ℕ
+  pub out : Appends before.taken after.taken (bytes ++ take upto error)
+  pub cut : (upto ≡ length error) ⊎ Rose before.writes_failed after.writes_failed
+
+-- an answer of the line reader, or an event, that isn't carried out yet: a limit is passed, or no event that the state allows is spelled
+abbrev pub IsRefused : ClusterState → Result (Option (List ℕ)) LineErr → Type 0
+IsRefused c (Err TooLong) = ⊤
+IsRefused c (Err InputFull) = ⊤
+IsRefused c (Err LineFault) = ⊥
+IsRefused c (Err LineMemory) = ⊥
+IsRefused c (Ok None) = ⊥
+IsRefused c (Ok (Some line)) = (IsSkipped line → ⊥) × ((e : Event) → Fits e → Spells e line → IsAllowed c e → ⊥)
+
+-- the line behind these lines of the input is refused in a state
+abbrev pub RefusesNext : Option (List ℕ) → List (List ℕ) → ClusterState → Type 0
+RefusesNext None lines c = ⊤
+RefusesNext (Some input) lines c =
+    (front rest : List ℕ) × (input ≡ front ++ rest) × (lines_of input ≡ lines ++ lines_of rest) × IsRefused c (next_of (length front) rest)
+
+abbrev pub final_text : List Step → List ℕ
+final_text steps = text (lines_of_steps steps ++ Last true true ∷ [])
+
+-- every line of the input was carried out, and the whole transcript went out
+pub record IsDone (before after : Ends) : Type 0 where
+  pub lines : List (List ℕ)
+  pub steps : List Step
+  pub runs : Runs before.left lines steps
+  pub all : IsAll before.left lines
+  pub out : Appends before.taken after.taken (final_text steps)
+  pub at_end : IsAtEnd after.left
+  pub reads : after.reads_failed ≡ before.reads_failed
+  pub writes : after.writes_failed ≡ before.writes_failed
+
+-- the lines before a line were carried out and told, and then an error line
+pub record Stops (before after : Ends) (number : ℕ) (reason : List ℕ) : Type 0 where
+  pub lines : List (List ℕ)
+  pub steps : List Step
+  pub runs : Runs before.left lines steps
+  pub number_is : number ≡ length lines + 1
+  pub tells : Tells before after (text (lines_of_steps steps)) (error_line number reason)
+
+-- the line of that number is the first that isn't carried out yet
+pub record IsBadScenario (before after : Ends) (number : ℕ) (kind : ScenarioKind) : Type 0 where
+  pub stops : Stops before after number (kind_name kind)
+  pub not_yet : (kind ≡ EventKind NotYet) ⊎ (kind ≡ WorldKind WorldNotYet)
+  pub refused : RefusesNext before.left stops.lines (state_from new_cluster stops.steps)
+
+-- the source failed at the line of that number
+pub record IsReadFault (before after : Ends) : Type 0 where
+  pub number : ℕ
+  pub stops : Stops before after number (codes "read")
+  pub rose : Rose before.reads_failed after.reads_failed
+
+-- the sink failed: what went out is a part of a transcript of the input's first lines
+pub record IsWriteFault (before after : Ends) : Type 0 where
+  pub lines : List (List ℕ)
+  pub steps : List Step
+  pub runs : Runs before.left lines steps
+  pub upto : ℕ
+  pub out : Appends before.taken after.taken (take upto (final_text steps))
+  pub rose : Rose before.writes_failed after.writes_failed
+
+-- there was no memory: for the line of that number, or where all lines were carried out
+pub record IsMemory (before after : Ends) : Type 0 where
+  pub lines : List (List ℕ)
+  pub steps : List Step
+  pub runs : Runs before.left lines steps
+  pub number : ℕ
+  pub number_is : (number ≡ length lines + 1) ⊎ ((number ≡ 0) × IsAll before.left lines)
+  pub tells : Tells before after (text (lines_of_steps steps)) (error_line number (codes "memory"))
+
+-- what each status promises
+abbrev pub Promises : Ends → Ends → Status → Type 0
+Promises before after Done = IsDone before after
+Promises before after BadWords = Tells before after [] words_error
+Promises before after (BadScenario number kind) = IsBadScenario before after number kind
+Promises before after ReadFault = IsReadFault before after
+Promises before after WriteFault = IsWriteFault before after
+Promises before after Memory = IsMemory before after

@@ -1,0 +1,66 @@
+// A scenario replayed line by line.
+ghost use Rattle.std.specs.Prelude.{◌≡◌, false};
+ghost use Rattle.pnfs_osd.specs.Stops.{stop_of_line};
+ghost use Rattle.pnfs_osd.specs.Finish.{Finishes};
+ghost use Rattle.pnfs_osd.specs.Replay.{Promises};
+
+use crate::carry_out::{carry_out, text_of};
+use crate::status::{ScenarioKind, Status};
+use crate::stop::{Stop, stopped};
+use layout_world::World;
+use osd_bytes::{LineErr, LineReader, Sink, Source, put_all};
+use scenario_text::EventErr;
+use std::alloc::Global;
+
+// Why no further line came.
+fn stop_of(e: LineErr) -> Stop
+    ensures { result ≡ stop_of_line e }
+{
+    match e {
+        LineErr::TooLong | LineErr::InputFull => {
+            Stop::Refused(ScenarioKind::Event(EventErr::NotYet))
+        }
+        LineErr::ReadFault => Stop::Read,
+        LineErr::Memory => Stop::Memory,
+    }
+}
+
+// Puts the last line.
+fn finish<K: Sink>(alloc: Global, world: &World, sink: &mut K) -> Status
+    ensures ends { Finishes (K.taken sink.old) (K.taken sink.new) (K.faults sink.old) (K.faults sink.new) result }
+    ensures loan { K.loan sink.new ≡ K.loan sink.old }
+{
+    let text = match text_of(alloc, &[world.last_line()]) {
+        Ok(text) => text,
+        Err(_) => return stopped(sink, Stop::Memory, 0),
+    };
+    match put_all(sink, text.as_slice()) {
+        Ok(()) => Status::Done,
+        Err(_) => Status::WriteFault,
+    }
+}
+
+/// Replays the scenario that the source gives, and puts its transcript.
+pub fn replay<S: Source, K: Sink>(alloc: Global, source: &mut S, sink: &mut K) -> Status
+    ensures promise { Promises (record { left = S.left source.old; taken = K.taken sink.old; reads_failed = S.faults source.old; writes_failed = K.faults sink.old }) (record { left = S.left source.new; taken = K.taken sink.new; reads_failed = S.faults source.new; writes_failed = K.faults sink.new }) result }
+    ensures words { result ≡ Status.BadWords → ⊥ }
+{
+    let mut reader = LineReader::new(alloc);
+    let mut world = World::new(alloc);
+    let mut number = 0;
+    'lines: loop {
+        let line = match reader.next_line(source) {
+            Ok(Some(line)) => line,
+            Ok(None) => return finish(alloc, &world, sink),
+            Err(e) => return stopped(sink, stop_of(e), number + 1),
+        };
+        let text = match carry_out(alloc, &mut world, line.as_slice()) {
+            Ok(text) => text,
+            Err(stop) => return stopped(sink, stop, number + 1),
+        };
+        match put_all(sink, text.as_slice()) {
+            Ok(()) => number += 1,
+            Err(_) => return Status::WriteFault,
+        }
+    }
+}
