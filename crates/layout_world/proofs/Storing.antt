@@ -1,5 +1,5 @@
 -- Writing a file's bytes unit by unit writes them all.
-use Rattle.std.proofs.Common.{◌≡◌, ℕ, zero, suc, ◌+◌, ◌-◌, ◌<◌, ◌≤◌, min, Bool, true, false, cond, eqb, List, [], ◌∷◌, ◌++◌, length, get_or, Option, Some, None, refl, sym, ap, subst, ◌∙◌, arith, inl, inr}
+use Rattle.std.proofs.Common.{◌≡◌, ℕ, zero, suc, ◌+◌, ◌-◌, ◌<◌, ◌≤◌, min, max, Bool, true, false, cond, eqb, List, [], ◌∷◌, ◌++◌, length, get_or, Option, Some, None, refl, sym, ap, subst, ◌∙◌, arith, inl, inr}
 use Rattle.std.specs.Prelude.{◌⊎◌, ◌==◌, ◌&&◌, slice_index, is_some, IsSome, if◌then◌else◌}
 use Rattle.std.proofs.lemmas.Bool.{cases_lt, cases_eq, eq-eqb, ne_eqb}
 use Rattle.std.proofs.lemmas.List.{length-append, get_or_append_left, get_or-append_right, append-nil}
@@ -8,7 +8,7 @@ use Rattle.data_map.proofs.Striping.{position_below, one_place, ahead}
 use Rattle.osd_bytes.specs.Overwrite.{overwritten}
 use Rattle.osd_bytes.proofs.Overwritten.{length-overwritten, before_overwritten, inside_overwritten, behind_overwritten}
 use Rattle.layout_world.specs.Cluster.{Drives, object_at, bytes_at, bytes_or_none, capacity_at}
-use Rattle.layout_world.specs.Striped.{component_bytes, byte_of, Holds, Stands, IsFormed, IsOther, Stored}
+use Rattle.layout_world.specs.Striped.{component_bytes, byte_of, Holds, Stands, IsFormed, IsOther, Reaches, Stored}
 use Rattle.layout_world.specs.declared.file.StripedFile.{StripedFile}
 
 -- one object was written over, and no other changed
@@ -140,16 +140,64 @@ stored_nothing drives file offset stands = record {
   written = λ old h l. h l ∙ sym (overwritten_nothing old offset l);
   others = λ d o other. refl;
   stands = stands;
+  reaches = λ k below. record { longer = omega arith; covered = λ l on. absurd (omega (arith, on.0, on.1)); least = inl refl };
   capacity = λ d. refl;
 }
 
+-- a component of which the range gets longer by a part on another component
+reaches_beside : (file : StripedFile) (offset len more k before after : ℕ) → ((l : ℕ) → offset + len ≤ l → l < offset + (len + more) → (place_of file.map l).position ≡ k → ⊥) →
+  Reaches file offset len k before after → Reaches file offset (len + more) k before after
+reaches_beside file offset len more k before after other r = record {
+    longer = r.longer;
+    covered = λ l on. elim (cases_lt l (offset + len)) [
+        inl old ↦ r.covered l (on.0, old, on.2)
+        | inr new ↦ absurd (other l new on.1 on.2)
+      ];
+    least = elim r.least [
+        inl same ↦ inl same
+        | inr last ↦ inr (last.0, (last.1.0, omega (arith, last.1.1), last.1.2), last.2)
+      ];
+  }
+
+-- a component of which the range gets longer by a part on it
+reaches_on : (file : StripedFile) (offset len more k before middle : ℕ) → IsFormed file → 0 < more → more ≤ left_in_unit file.map (offset + len) → (place_of file.map (offset + len)).position ≡ k →
+  Reaches file offset len k before middle → Reaches file offset (len + more) k before (max middle ((place_of file.map (offset + len)).offset + more))
+reaches_on file offset len more k before middle formed some short here r =
+    let at = (place_of file.map (offset + len)).offset in
+    record {
+      longer = omega (arith, r.longer);
+      covered = λ l on. elim (cases_lt l (offset + len)) [
+          inl old ↦ omega (arith, r.covered l (on.0, old, on.2))
+          | inr new ↦
+            let there : offset + len + (l - (offset + len)) ≡ l = omega (arith, new) in
+            let place = ahead file.map (offset + len) (l - (offset + len)) formed.0.0 formed.0.2 (omega (arith, short, on.1, new)) in
+            let spot : (place_of file.map l).offset ≡ at + (l - (offset + len)) = ap (λ x. (place_of file.map x).offset) (sym there) ∙ place.1 in
+            omega (arith, spot, on.1, new)
+        ];
+      least = elim (cases_lt middle (at + more)) [
+          inl grows ↦
+            let place = ahead file.map (offset + len) (more - 1) formed.0.0 formed.0.2 (omega (arith, short, some)) in
+            inr (offset + len + (more - 1), (omega arith, omega (arith, some), place.0 ∙ here), omega (arith, place.1, grows, some))
+          | inr stays ↦ elim r.least [
+              inl same ↦ inl (omega (arith, same, stays))
+              | inr last ↦ inr (last.0, (last.1.0, omega (arith, last.1.1), last.1.2), omega (arith, last.2, stays))
+            ]
+        ];
+    }
+
+-- the first byte of a part tells on which component all of it lies
+on_one_component : (file : StripedFile) (l n q : ℕ) → IsFormed file → n ≤ left_in_unit file.map l → l ≤ q → q < l + n → (place_of file.map q).position ≡ (place_of file.map l).position
+on_one_component file l n q formed short from below =
+    let there : l + (q - l) ≡ q = omega (arith, from) in
+    ap (λ x. (place_of file.map x).position) (sym there) ∙ (ahead file.map l (q - l) formed.0.0 formed.0.2 (omega (arith, short, from, below))).0
+
 -- one part more
-pub stored_more : (before middle after : Drives) (file : StripedFile) (offset : ℕ) (xs ys : List ℕ) → IsFormed file → length ys ≤ left_in_unit file.map (offset + length xs) →
+pub stored_more : (before middle after : Drives) (file : StripedFile) (offset : ℕ) (xs ys : List ℕ) → IsFormed file → 0 < length ys → length ys ≤ left_in_unit file.map (offset + length xs) →
     Stored before file offset xs middle →
     Writes middle (slice_index file.drives (place_of file.map (offset + length xs)).position) (file.first + (place_of file.map (offset + length xs)).position) (place_of file.map (offset + length xs)).offset ys after →
     ((d : ℕ) → capacity_at after d ≡ capacity_at middle d) →
     Stored before file offset (xs ++ ys) after
-stored_more before middle after file offset xs ys formed short s w capacity =
+stored_more before middle after file offset xs ys formed some short s w capacity =
     let l = offset + length xs in
     let k = (place_of file.map l).position in
     let below : k < file.map.comps = position_below file.map l formed.0.0 formed.0.2 in
@@ -160,6 +208,23 @@ stored_more before middle after file offset xs ys formed short s w capacity =
         | inl same ↦ ap (λ x. is_some (object_at after (slice_index file.drives x) (file.first + x))) same ∙ ap is_some (written_there middle after (slice_index file.drives k) (file.first + k) (place_of file.map l).offset ys w)
         | inr other ↦ ap is_some (kept_elsewhere middle after (slice_index file.drives k) (file.first + k) (place_of file.map l).offset ys (slice_index file.drives j) (file.first + j) w (λ _ o. other (omega (arith, o)))) ∙ s.stands j small
       ];
+      reaches = λ j small.
+        let long : length (xs ++ ys) ≡ length xs + length ys = length-append xs ys in
+        let old = s.reaches j small in
+        elim (cases_eq j k) [
+          inl same ↦
+            let bytes : component_bytes after file k ≡ overwritten (component_bytes middle file k) (place_of file.map l).offset ys =
+              ap bytes_or_none (written_there middle after (slice_index file.drives k) (file.first + k) (place_of file.map l).offset ys w) in
+            let grown : length (component_bytes after file j) ≡ max (length (component_bytes middle file j)) ((place_of file.map l).offset + length ys) =
+              ap (λ x. length (component_bytes after file x)) same ∙ ap length bytes ∙ length-overwritten (component_bytes middle file k) (place_of file.map l).offset ys
+              ∙ ap (λ x. max (length (component_bytes middle file x)) ((place_of file.map l).offset + length ys)) (sym same) in
+            rw (long, grown) (reaches_on file offset (length xs) (length ys) j (length (component_bytes before file j)) (length (component_bytes middle file j)) formed some short (sym same) old)
+          | inr other ↦
+            let kept : component_bytes after file j ≡ component_bytes middle file j =
+              ap bytes_or_none (kept_elsewhere middle after (slice_index file.drives k) (file.first + k) (place_of file.map l).offset ys (slice_index file.drives j) (file.first + j) w (λ _ o. other (omega (arith, o)))) in
+            rw (long, kept) (reaches_beside file offset (length xs) (length ys) j (length (component_bytes before file j)) (length (component_bytes middle file j))
+              (λ q from below on. other (sym on ∙ on_one_component file l (length ys) q formed short from (omega (arith, below)))) old)
+        ];
       capacity = λ d. capacity d ∙ s.capacity d;
     }
 
@@ -167,8 +232,8 @@ stored_more before middle after file offset xs ys formed short s w capacity =
 abbrev pub WritesPart : StripedFile → ℕ → Drives → List ℕ → Drives → Type 0
 WritesPart file l before new after = Writes before (slice_index file.drives (place_of file.map l).position) (file.first + (place_of file.map l).position) (place_of file.map l).offset new after
 
-pub stored_on : (before middle after : Drives) (file : StripedFile) (offset : ℕ) (xs ys : List ℕ) (l : ℕ) → offset + length xs ≡ l → IsFormed file → length ys ≤ left_in_unit file.map l →
+pub stored_on : (before middle after : Drives) (file : StripedFile) (offset : ℕ) (xs ys : List ℕ) (l : ℕ) → offset + length xs ≡ l → IsFormed file → 0 < length ys → length ys ≤ left_in_unit file.map l →
     Stored before file offset xs middle → WritesPart file l middle ys after → ((d : ℕ) → capacity_at after d ≡ capacity_at middle d) →
     Stored before file offset (xs ++ ys) after
-stored_on before middle after file offset xs ys l here formed short s w capacity =
-    stored_more before middle after file offset xs ys formed (subst (λ x. length ys ≤ left_in_unit file.map x) (sym here) short) s (subst (λ x. WritesPart file x middle ys after) (sym here) w) capacity
+stored_on before middle after file offset xs ys l here formed some short s w capacity =
+    stored_more before middle after file offset xs ys formed some (subst (λ x. length ys ≤ left_in_unit file.map x) (sym here) short) s (subst (λ x. WritesPart file x middle ys after) (sym here) w) capacity

@@ -1,5 +1,5 @@
 -- A file's bytes on the drives: each at its place, by the file's map.
-use Rattle.std.specs.Prelude.{◌≡◌, ℕ, ◌+◌, ◌-◌, ◌<◌, ◌≤◌, min, List, length, slice_index, IsSome}
+use Rattle.std.specs.Prelude.{◌≡◌, ◌⊎◌, ℕ, ◌+◌, ◌-◌, ◌<◌, ◌≤◌, min, List, length, slice_index, IsSome}
 use Rattle.data_map.specs.declared.check.RawMap.{RawMap}
 use Rattle.data_map.specs.Check.{IsChecked}
 use Rattle.data_map.specs.Striping.{place_of, left_in_unit}
@@ -37,11 +37,22 @@ HasRoom drives file offset len = (l : ℕ) → offset ≤ l → l < offset + len
 abbrev pub IsOther : StripedFile → ℕ → ℕ → Type 0
 IsOther file d o = (k : ℕ) → k < file.map.comps → d ≡ slice_index file.drives k → o ≡ file.first + k → ⊥
 
+-- byte l of the file is one of a range, and lies on component k
+abbrev pub LiesOn : StripedFile → ℕ → ℕ → ℕ → ℕ → Type 0
+LiesOn file offset len k l = (offset ≤ l) × (l < offset + len) × ((place_of file.map l).position ≡ k)
+
+-- A component reaches the last byte of the range that lies on it, and is otherwise as long as before.
+pub record Reaches (file : StripedFile) (offset len k before after : ℕ) : Type 0 where
+  pub longer : before ≤ after
+  pub covered : (l : ℕ) → LiesOn file offset len k l → (place_of file.map l).offset < after
+  pub least : (after ≡ before) ⊎ ((l : ℕ) × LiesOn file offset len k l × (after ≡ (place_of file.map l).offset + 1))
+
 -- bytes were written over those of the file, and nothing else changed
 pub record Stored (before : Drives) (file : StripedFile) (offset : ℕ) (bytes : List ℕ) (after : Drives) : Type 0 where
   pub written : (old : List ℕ) → Holds before file old → Holds after file (overwritten old offset bytes)
   pub others : (d o : ℕ) → IsOther file d o → object_at after d o ≡ object_at before d o
   pub stands : Stands after file
+  pub reaches : (k : ℕ) → k < file.map.comps → Reaches file offset (length bytes) k (length (component_bytes before file k)) (length (component_bytes after file k))
   pub capacity : (d : ℕ) → capacity_at after d ≡ capacity_at before d
 
 -- the bytes of a range of the file, each from its place

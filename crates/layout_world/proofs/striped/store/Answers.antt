@@ -1,6 +1,7 @@
-use Rattle.std.proofs.Common.{rules, arith, ◌≡◌, ◌+◌, ◌++◌, ◌≤◌, length, take, drop, refl, sym, ap, ◌∙◌}
+use Rattle.std.proofs.Common.{rules, arith, ◌≡◌, ◌+◌, ◌++◌, ◌<◌, ◌≤◌, length, take, drop, refl, sym, ap, ◌∙◌}
 use Rattle.std.proofs.Math.Seq.{take-add}
 use Rattle.std.proofs.lemmas.List.{length-take}
+use Rattle.std.proofs.lemmas.Nat.{mod_below}
 use Rattle.data_map.proofs.Striping.{position_below}
 use Rattle.data_map.specs.Striping.{left_in_unit}
 use Rattle.layout_world.specs.Striped.{part_of}
@@ -25,8 +26,11 @@ loop-at-preserved c =
     let here : c.args.offset + length (take c.loop-at.at bytes) ≡ c.args.offset + c.loop-at.at = omega (arith, length-take c.loop-at.at bytes, c.loop-at.invariant.inside) in
     let unit : c.part-part.result.length ≤ left_in_unit c.args.file.now.map (c.args.offset + c.loop-at.at) = rw c.part-part.ensures (omega arith) in
     let rest : c.part-part.result.length ≤ length c.split_at.result.1.now = rw c.part-part.ensures (omega arith) in
+    let column = mod_below (c.args.offset + c.loop-at.at) c.args.file.now.map.unit c.requires.formed.0.0 in
+    let left : 0 < left_in_unit c.args.file.now.map (c.args.offset + c.loop-at.at) = omega (arith, column) in
+    let some : 0 < c.part-part.result.length = rw c.part-part.ensures (omega (arith, left, c.loop-at-test.true, c.split_at.ensures.back_len)) in
     record {
       inside = omega (arith, short, rest, c.split_at.ensures.back_len);
-      stored = rw whole (stored_on c.args.drives.now c.loop-at.drives c.write.new.self c.args.file.now c.args.offset (take c.loop-at.at bytes) front (c.args.offset + c.loop-at.at) here c.requires.formed (omega (arith, short, unit))
+      stored = rw whole (stored_on c.args.drives.now c.loop-at.drives c.write.new.self c.args.file.now c.args.offset (take c.loop-at.at bytes) front (c.args.offset + c.loop-at.at) here c.requires.formed (omega (arith, short, some)) (omega (arith, short, unit))
           c.loop-at.invariant.stored (rw c.part-part.ensures at c.in_ok-write.ensures.objects) c.in_ok-write.ensures.capacity);
     }
