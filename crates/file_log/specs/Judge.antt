@@ -1,5 +1,5 @@
 -- The judge of a file's log.
-use Rattle.std.specs.Prelude.{◌≡◌, ℕ, ◌+◌, ◌-◌, ◌<◌, max, min, nat_lt, ◌==◌, if◌then◌else◌, true, false, List, [], ◌∷◌, ◌++◌, length, map, slice_get, slice_index, Contains, Option, Some, None}
+use Rattle.std.specs.Prelude.{◌≡◌, ℕ, ◌+◌, ◌-◌, ◌<◌, max, min, nat_lt, ◌==◌, if◌then◌else◌, Bool, true, false, List, [], ◌∷◌, ◌++◌, length, map, slice_get, slice_index, Contains, Option, Some, None}
 use Rattle.std.specs.List.{filter}
 use Rattle.file_log.specs.declared.entry.Entry.{Entry}
 use Rattle.file_log.specs.declared.entry.Entry.TheVariants.{Write, Read}
@@ -27,14 +27,18 @@ abbrev pub joined : Option ℕ → List ℕ → List ℕ
 joined (Some v) values = values ++ v ∷ []
 joined None values = values
 
+-- a byte is settled, or joins
+abbrev pub taken_byte : Bool → Option ℕ → List ℕ → List ℕ
+taken_byte true byte values = settled byte values
+taken_byte false byte values = joined byte values
+
 -- how many bytes a read of a range gives at a size
 abbrev pub given : ℕ → ℕ → ℕ → ℕ
 given offset len size = min (offset + len) size - offset
 
 -- what may stand at position p after an entry
 abbrev pub values_after : Entry → ℕ → List ℕ → List ℕ
-values_after (Write offset bytes true) p values = settled (byte_for offset bytes p) values
-values_after (Write offset bytes false) p values = joined (byte_for offset bytes p) values
+values_after (Write offset bytes acknowledged) p values = taken_byte acknowledged (byte_for offset bytes p) values
 values_after (Read offset len (Some answer)) p values = settled (byte_for offset answer p) values
 values_after (Read offset len None) p values = values
 
