@@ -10,7 +10,8 @@ use std::simd::prelude::*;
 #[inline(always)]
 pub fn load(s: &[u8], at: usize) -> u8x64
     requires { at + 64 ≤ length s.now }
-    ensures { HasLanes result (λ k. slice_index s.now (at + k)) }
+    ensures lanes { HasLanes result (λ k. slice_index s.now (at + k)) }
+    ensures bytes { (k : ℕ) → k < 64 → slice_index result k < 256 }
 {
     u8x64::from_slice(&s[at..])
 }

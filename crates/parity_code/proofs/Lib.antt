@@ -1,0 +1,3 @@
+pub mod ColumnLaws
+pub mod ParityLaws
+pub mod CodeLaws
