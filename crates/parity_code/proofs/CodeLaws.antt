@@ -32,7 +32,7 @@ pub encoded_p : (units at n : ℕ) (f : ℕ → ℕ) (old new : List (List ℕ))
     → ((k : ℕ) → k < n → f k ≡ p_of (take units (column old (at + k)))) → Become at n (λ col. codeword Xor (take units col)) old new
 encoded_p units at n f old new long s is =
     become_one units at n f (λ col. codeword Xor (take units col)) old new s
-      (λ k lt. set_last units (f k) (column old (at + k)) (length_column old (at + k) ∙ long) ∙ ap (λ (p : ℕ). take units (column old (at + k)) ++ (p ∷ [])) (is k lt))
+    (λ k lt. set_last units (f k) (column old (at + k)) (length_column old (at + k) ∙ long) ∙ ap (λ (p : ℕ). take units (column old (at + k)) ++ (p ∷ [])) (is k lt))
 
 -- a stripe whose P and Q were stored
 pub encoded_both : (units at n : ℕ) (f h : ℕ → ℕ) (old mid new : List (List ℕ)) → length old ≡ units + 2 → Stored units at n f old mid → Stored (units + 1) at n h mid new
@@ -40,4 +40,4 @@ pub encoded_both : (units at n : ℕ) (f h : ℕ → ℕ) (old mid new : List (L
     → Become at n (λ col. codeword PandQ (take units col)) old new
 encoded_both units at n f h old mid new long s t is_p is_q =
     become_two units (units + 1) at n f h (λ col. codeword PandQ (take units col)) old mid new s t
-      (λ k lt. set_last_two units (f k) (h k) (column old (at + k)) (length_column old (at + k) ∙ long) ∙ rw (is_p k lt, is_q k lt) refl)
+    (λ k lt. set_last_two units (f k) (h k) (column old (at + k)) (length_column old (at + k) ∙ long) ∙ rw (is_p k lt, is_q k lt) refl)

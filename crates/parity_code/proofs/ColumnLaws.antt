@@ -83,8 +83,9 @@ become_more m n end f old mid new e s t = record {
   inside = λ k lt. elim (cases_lt k m) [
     | inl below ↦ let zero_k : 0 + k ≡ k = omega arith in rw zero_k (t.below k below ∙ rw zero_k at (s.inside k below))
     | inr above ↦
-      let there : 0 + k ≡ m + (k - m) = omega arith in
-      rw there (t.inside (k - m) (omega arith) ∙ ap f (s.above (m + (k - m)) (omega arith))) ];
+        let there : 0 + k ≡ m + (k - m) = omega arith in
+        rw there (t.inside (k - m) (omega arith) ∙ ap f (s.above (m + (k - m)) (omega arith)))
+  ];
   below = λ k lt. absurd (omega arith);
   above = λ k le. t.above k (omega arith) ∙ s.above k (omega arith);
 }

@@ -46,7 +46,7 @@ q_shifted : (i : ℕ) (ds : List ℕ) → AreBytes ds → q_from (i + 1) ds ≡ 
 q_shifted i [] h = sym (product_zero 2)
 q_shifted i (d ∷ ds) h =
     rw (next_power i d (head_byte d ds h), q_shifted (i + 1) ds (tail_bytes d ds h))
-      (sym (product-xor 2 (product (two_to i) d) (q_from (i + 1) ds)))
+    (sym (product-xor 2 (product (two_to i) d) (q_from (i + 1) ds)))
 
 -- Q by doubling
 pub q_of-cons : (d : ℕ) (ds : List ℕ) → AreBytes (d ∷ ds) → q_of (d ∷ ds) ≡ bit_xor (product 2 (q_of ds)) d

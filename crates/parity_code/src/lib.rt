@@ -7,16 +7,14 @@
 
 mod code;
 mod columns;
-
-
+mod decoding;
+mod delta;
 mod encoding;
-
+mod repair;
+mod restoring;
 mod sums;
 
 pub use code::{Code, CodeErr};
-
-
+pub use decoding::decode;
+pub use delta::parity_delta;
 pub use encoding::encode;
-
-
-

@@ -16,7 +16,7 @@ returns-in-Xor c =
     let there : (k : ℕ) → k < 1 → c.args.k ≡ c.args.k + k = λ k lt. omega arith in
     let front : c.split_at.result.0.now ≡ take c.args.units c.args.rows.now = c.split_at.ensures.front ∙ ap (take c.args.units) c.as_slice.ensures in
     rw c.in-Xor.is (encoded_p c.args.units c.args.k 1 (λ (_ : ℕ). c.column_p_and_q-p.result.0) c.args.rows.now c.store_byte.new.rows (sym long) c.store_byte.ensures
-      (λ k lt. c.column_p_and_q-p.ensures.p ∙ ap (λ (i : ℕ). p_of (column c.split_at.result.0.now i)) (there k lt) ∙ ap (λ rows. p_of (column rows (c.args.k + k))) front ∙ ap p_of (take_column c.args.units c.args.rows.now (c.args.k + k))))
+    (λ k lt. c.column_p_and_q-p.ensures.p ∙ ap (λ (i : ℕ). p_of (column c.split_at.result.0.now i)) (there k lt) ∙ ap (λ rows. p_of (column rows (c.args.k + k))) front ∙ ap p_of (take_column c.args.units c.args.rows.now (c.args.k + k))))
 
 pub returns-in-PandQ : goal.returns-in-PandQ
 returns-in-PandQ c =
@@ -24,6 +24,6 @@ returns-in-PandQ c =
     let there : (k : ℕ) → k < 1 → c.args.k ≡ c.args.k + k = λ k lt. omega arith in
     let front : c.split_at.result.0.now ≡ take c.args.units c.args.rows.now = c.split_at.ensures.front ∙ ap (take c.args.units) c.as_slice.ensures in
     rw c.in-PandQ.is (encoded_both c.args.units c.args.k 1 (λ (_ : ℕ). c.column_p_and_q-p.result.0) (λ (_ : ℕ). c.column_p_and_q-p.result.1) c.args.rows.now c.store_byte-in-PandQ.new.rows c.store_byte-in-PandQ-2.new.rows (sym long)
-      c.store_byte-in-PandQ.ensures c.store_byte-in-PandQ-2.ensures
-      (λ k lt. c.column_p_and_q-p.ensures.p ∙ ap (λ (i : ℕ). p_of (column c.split_at.result.0.now i)) (there k lt) ∙ ap (λ rows. p_of (column rows (c.args.k + k))) front ∙ ap p_of (take_column c.args.units c.args.rows.now (c.args.k + k)))
-      (λ k lt. c.column_p_and_q-p.ensures.q ∙ ap (λ (i : ℕ). q_of (column c.split_at.result.0.now i)) (there k lt) ∙ ap (λ rows. q_of (column rows (c.args.k + k))) front ∙ ap q_of (take_column c.args.units c.args.rows.now (c.args.k + k))))
+    c.store_byte-in-PandQ.ensures c.store_byte-in-PandQ-2.ensures
+    (λ k lt. c.column_p_and_q-p.ensures.p ∙ ap (λ (i : ℕ). p_of (column c.split_at.result.0.now i)) (there k lt) ∙ ap (λ rows. p_of (column rows (c.args.k + k))) front ∙ ap p_of (take_column c.args.units c.args.rows.now (c.args.k + k)))
+    (λ k lt. c.column_p_and_q-p.ensures.q ∙ ap (λ (i : ℕ). q_of (column c.split_at.result.0.now i)) (there k lt) ∙ ap (λ rows. q_of (column rows (c.args.k + k))) front ∙ ap q_of (take_column c.args.units c.args.rows.now (c.args.k + k))))
