@@ -4,9 +4,10 @@ use Rattle.std.specs.List.{All, Contains}
 use Rattle.std.proofs.lemmas.Bool.{cases_lt, cases_eq}
 use Rattle.std.proofs.lemmas.List.{length-set, get_or-set_same, get_or-set_other}
 use Rattle.std.proofs.lemmas.Grind.{get_or-set_at, same_number_lists}
+use Rattle.parity_code.specs.declared.code.Code.{Code}
 use Rattle.parity_code.specs.declared.repair.Repair.{Repair}
 use Rattle.parity_code.specs.Parity.{column}
-use Rattle.parity_code.specs.Codeword.{width_of, AgreeOutside}
+use Rattle.parity_code.specs.Codeword.{count_of, width_of, AreRows, AgreeOutside}
 use Rattle.parity_code.specs.Columns.{Stored, Become}
 use Rattle.parity_code.specs.Syndromes.{p_syndrome, q_syndrome, IsWhole}
 use Rattle.parity_code.specs.Repairs.{repaired, repaired_column, IsRepair, AreRepairs, HasParity, Restored}
@@ -149,3 +150,17 @@ restored_by_two units x y r s old one mid new parity rising lt two repairs clear
           ∙ ap (repaired_column units r s) (erased k k_lt ∙ same_without_two x y col (column old k) agree (omega arith) (omega arith))
           ∙ two_restored units x y r s col repairs whole rising (omega arith) (omega arith);
     }
+
+-- rows of the same lengths serve as well
+pub rows_kept : (code : Code) (old new : List (List ℕ)) → map length new ≡ map length old → AreRows code old → AreRows code new
+rows_kept code old new e h =
+    let count : length new ≡ length old = same_count old new e in
+    record {
+      some = omega (arith, h.some);
+      most = omega (arith, h.most);
+      even = λ j d lt. same_row old new j d e ∙ h.even j d (omega arith) ∙ sym (width_kept old new e);
+    }
+
+pub rows_of_width : (w : ℕ) (rows : List (List ℕ)) → 0 < length rows → All (λ row. length row ≡ w) rows → All (λ row. length row ≡ width_of rows) rows
+rows_of_width w [] some even = absurd (omega arith)
+rows_of_width w (x ∷ xs) some even = λ j d lt. even j d lt ∙ sym (even 0 d (omega arith))
