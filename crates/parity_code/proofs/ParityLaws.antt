@@ -4,6 +4,7 @@ use Rattle.std.specs.Prelude.{bit_xor}
 use Rattle.std.specs.List.{All}
 use Rattle.std.specs.Int.Bits.{xor_assoc, xor_zero_r, xor_zero_l, xor_self}
 use Rattle.std.proofs.lemmas.Nat.{xor_comm, xor_of_8}
+use Rattle.std.proofs.lemmas.List.{drop_all}
 use Rattle.std.proofs.lemmas.List.Elements.{All-cons}
 use Rattle.std.proofs.Math.Seq.{drop-cons}
 use Rattle.gf256.specs.Field.{product, two_to}
@@ -69,3 +70,20 @@ pub q_next : (col : List ℕ) (i d q q' : ℕ) → 0 < i → i ≤ length col �
 q_next col i d q q' pos le is_d bytes is_q is =
     let cons = next_drop col i pos le in
     is ∙ rw (is_d, is_q) (sym (q_of-cons (get_or col (i - 1) 0) (drop i col) (rw cons at bytes))) ∙ ap q_of (sym cons)
+
+-- the last byte alone
+last_alone : (col : List ℕ) (i : ℕ) → i + 1 ≡ length col → drop i col ≡ get_or col i 0 ∷ []
+last_alone col i e =
+    let s : suc i ≡ length col = omega arith in
+    drop-cons col i 0 (omega arith) ∙ ap (λ (rest : List ℕ). get_or col i 0 ∷ rest) (drop_all (suc i) col (omega arith))
+
+pub p_last : (col : List ℕ) (i d : ℕ) → i + 1 ≡ length col → d ≡ get_or col i 0 → d ≡ p_of (drop i col)
+p_last col i d e is_d = is_d ∙ rw (last_alone col i e) (sym (xor_zero_r (get_or col i 0)))
+
+pub q_last : (col : List ℕ) (i d : ℕ) → i + 1 ≡ length col → d ≡ get_or col i 0 → d < 256 → d ≡ q_of (drop i col)
+q_last col i d e is_d lt =
+    let byte : get_or col i 0 < 256 = rw is_d at lt in
+    is_d ∙ rw (last_alone col i e, two_to_zero, one_product (get_or col i 0) byte) (sym (xor_zero_r (get_or col i 0)))
+
+pub bytes_last : (col : List ℕ) (i d : ℕ) → i + 1 ≡ length col → d ≡ get_or col i 0 → d < 256 → AreBytes (drop i col)
+bytes_last col i d e is_d lt = rw (last_alone col i e) (All-cons (λ (b : ℕ). b < 256) (get_or col i 0) [] (rw is_d at lt) (λ k x none. absurd (omega arith)))

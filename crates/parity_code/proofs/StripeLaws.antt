@@ -25,6 +25,7 @@ pub parity_kept : (units : ℕ) (old new : List (List ℕ)) → map length new �
 parity_kept units old new e h =
     let count : length new ≡ length old = same_count old new e in
     record {
+      data_rows = h.data_rows;
       some = omega (arith, h.some);
       most = omega (arith, h.most);
       few = h.few;

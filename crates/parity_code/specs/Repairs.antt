@@ -49,8 +49,9 @@ pub record HasTables (r : Repair) (t : RepairTables) : Type 0 where
   pub by_p : HasProducts r.by_p t.by_p
   pub by_q : HasProducts r.by_q t.by_q
 
--- a stripe with one or two rows of parity
+-- a stripe with data and one or two rows of parity
 pub record HasParity (units : ℕ) (rows : List (List ℕ)) : Type 0 where
+  pub data_rows : 0 < units
   pub some : units + 1 ≤ length rows
   pub most : length rows ≤ units + 2
   pub few : units ≤ 255

@@ -32,6 +32,7 @@ pub fn encode(code: Code, rows: &mut Rows)
 
 #[inline(always)]
 fn encode_block(code: Code, rows: &mut Rows, units: usize, at: usize)
+    requires some { 0 < units }
     requires units { units + count_of code ≡ length rows.old }
     requires room { All (λ row. at + 64 ≤ length row) rows.old }
     ensures { Become at 64 (λ col. codeword code (take units col)) rows.old rows.new }

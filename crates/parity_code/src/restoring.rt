@@ -11,7 +11,7 @@ ghost use Rattle.parity_code.specs.Repairs.{repaired_column, HasTables, HasParit
 
 use crate::columns::{clear, store_block, store_byte};
 use crate::repair::{Repair, RepairTables, repair_of_one, repairs_of_two};
-use crate::sums::{block_p_and_q, byte_at, column_p_and_q};
+use crate::sums::{block_of, block_p_and_q, byte_at, column_p_and_q};
 use gf256::lanes;
 use osd_bytes::{Bytes, Rows};
 use std::simd::prelude::*;
@@ -70,6 +70,7 @@ fn restore_block(
 )
     requires first { first.now.row < length rows.old }
     requires second { second.now.row < length rows.old }
+    requires some { 0 < units }
     requires units { units < length rows.old }
     requires room { All (λ row. at + 64 ≤ length row) rows.old }
     ensures { (r s : Repair) → HasTables r first.now → HasTables s second.now → Become at 64 (repaired_column units r s) rows.old rows.new }
@@ -93,6 +94,7 @@ fn restore_column(rows: &mut Rows, units: usize, k: usize, first: Repair, second
 
 #[inline(always)]
 fn block_syndromes(rows: &[Bytes], units: usize, at: usize) -> (u8x64, u8x64)
+    requires some { 0 < units }
     requires units { units < length rows.now }
     requires room { All (λ row. at + 64 ≤ length row) rows.now }
     ensures p { HasLanes result.0 (λ k. p_syndrome units (column rows.now (at + k))) }
@@ -127,7 +129,7 @@ fn block_or_zero(rows: &[Bytes], row: usize, at: usize) -> u8x64
     ensures { HasLanes result (λ k. slice_index (column rows.now (at + k)) row) }
 {
     if row < rows.len() {
-        lanes::load(rows[row].as_slice(), at)
+        block_of(rows, row, at)
     } else {
         lanes::zero()
     }
