@@ -1,21 +1,23 @@
 -- Codewords that come back.
-use Rattle.std.proofs.Common.{◌≡◌, ◌≢◌, ℕ, zero, suc, ◌+◌, ◌-◌, ◌<◌, ◌≤◌, List, [], ◌∷◌, ◌++◌, length, map, get_or, take, refl, sym, ap, ◌∙◌, append_assoc, arith, inl, inr}
+use Rattle.std.proofs.Common.{◌≡◌, ◌≢◌, ℕ, zero, suc, ◌+◌, ◌-◌, ◌<◌, ◌≤◌, List, [], ◌∷◌, ◌++◌, length, map, get_or, take, set, refl, sym, ap, ◌∙◌, append_assoc, arith, inl, inr}
 use Rattle.std.specs.Prelude.{bit_xor}
 use Rattle.std.specs.List.{All, Contains}
 use Rattle.std.specs.List.Sorted.{IsStrictlyIncreasing}
 use Rattle.std.specs.Int.Bits.{xor_self}
-use Rattle.std.proofs.lemmas.List.{length-append, get_or-append-add, take-append-le, take_all}
+use Rattle.std.proofs.lemmas.List.{set-get_or, length-append, get_or-append-add, take-append-le, take_all}
 use Rattle.std.proofs.lemmas.List.Elements.{All-push}
 use Rattle.std.proofs.Math.Seq.{take-append_seam}
 use Rattle.std.proofs.lemmas.Grind.{same_number_lists}
+use Rattle.gf256.proofs.Sums.{xor-eq-zero}
 use Rattle.parity_code.specs.declared.code.Code.{Code}
 use Rattle.parity_code.specs.declared.code.Code.TheVariants.{Plain, Xor, PandQ}
 use Rattle.parity_code.specs.Parity.{column, p_of, q_of}
 use Rattle.parity_code.specs.Codeword.{count_of, codeword, width_of, AgreeOutside}
-use Rattle.parity_code.specs.Syndromes.{p_syndrome, q_syndrome, IsWhole}
+use Rattle.parity_code.specs.Syndromes.{p_syndrome, q_syndrome, IsWhole, HasNoSyndrome}
 use Rattle.parity_code.specs.Repairs.{Restored}
 use Rattle.parity_code.proofs.ParityLaws.{AreBytes, p_of_lt, q_from_lt}
-use Rattle.parity_code.proofs.ColumnLaws.{length_column}
+use Rattle.parity_code.proofs.ColumnLaws.{length_column, same_count}
+use Rattle.parity_code.proofs.CodeLaws.{set_last, set_last_two}
 
 pub length_codeword : (code : Code) (ds : List ℕ) → length (codeword code ds) ≡ length ds + count_of code
 length_codeword Plain ds = omega arith
@@ -85,3 +87,26 @@ pub count_most : (code : Code) → count_of code ≤ 2
 count_most Plain = omega arith
 count_most Xor = omega arith
 count_most PandQ = omega arith
+
+-- a column of which no syndrome is left is a codeword
+pub codeword_by_syndromes : (code : Code) (n : ℕ) (col : List ℕ) → 0 < count_of code → length col ≡ n + count_of code → HasNoSyndrome n col → col ≡ codeword code (take n col)
+codeword_by_syndromes Plain n col some long none = absurd (omega arith)
+codeword_by_syndromes Xor n col some long none =
+    sym (set-get_or col n 0) ∙ set_last n (get_or col n 0) col long ∙ ap (λ (p : ℕ). take n col ++ (p ∷ [])) (sym (xor-eq-zero (p_of (take n col)) (get_or col n 0) none.p))
+codeword_by_syndromes PandQ n col some long none =
+    let last : n + 1 < length col = omega arith in
+    sym (ap (λ (c : List ℕ). set c (n + 1) (get_or col (n + 1) 0)) (set-get_or col n 0) ∙ set-get_or col (n + 1) 0)
+    ∙ set_last_two n (get_or col n 0) (get_or col (n + 1) 0) col long
+    ∙ rw (xor-eq-zero (p_of (take n col)) (get_or col n 0) none.p, xor-eq-zero (q_of (take n col)) (get_or col (n + 1) 0) (none.q last)) refl
+
+-- with as many rows lost as there are rows of parity
+pub coded : (code : Code) (n : ℕ) (lost : List ℕ) (old new : List (List ℕ)) → Restored n lost old new → n + count_of code ≡ length old → 0 < count_of code → length lost ≡ count_of code
+    → (k : ℕ) → k < width_of old → column new k ≡ codeword code (take (length old - count_of code) (column new k))
+coded code n lost old new restored count some all k lt =
+    let same : length old - count_of code ≡ n = omega arith in
+    rw same (codeword_by_syndromes code n (column new k) some (length_column new k ∙ same_count old new restored.shape ∙ sym count) (restored.solved (omega arith) k lt))
+
+pub coded_plain : (code : Code) (old : List (List ℕ)) (k : ℕ) → count_of code ≡ 0 → column old k ≡ codeword code (take (length old - count_of code) (column old k))
+coded_plain Plain old k none = sym (take_all (length old - 0) (column old k) (omega (arith, length_column old k)))
+coded_plain Xor old k none = absurd (omega arith)
+coded_plain PandQ old k none = absurd (omega arith)

@@ -3,18 +3,20 @@ use Rattle.std.proofs.Common.{◌≡◌, ◌≢◌, ℕ, zero, suc, ◌+◌, ◌
 use Rattle.std.specs.Prelude.{bit_xor}
 use Rattle.std.specs.List.{All}
 use Rattle.std.specs.Int.Bits.{xor_assoc, xor_zero_r, xor_zero_l, xor_self}
+use Rattle.std.proofs.lemmas.Nat.{xor_of_8}
 use Rattle.std.proofs.lemmas.Bool.{cases_lt, cases_eq}
 use Rattle.std.proofs.lemmas.List.{length-set, get_or-set_same, get_or-set_other, set-get_or, set-set}
 use Rattle.std.proofs.lemmas.Grind.{get_or-set_at, same_number_lists}
 use Rattle.gf256.specs.Field.{product}
 use Rattle.gf256.proofs.Sums.{xor_swap, xor-eq-zero}
 use Rattle.gf256.proofs.Computed.{one_product}
-use Rattle.gf256.proofs.Product.{product-xor, product_lt, zero_product}
+use Rattle.gf256.proofs.Product.{product-xor, product_lt, zero_product, product_one}
 use Rattle.gf256.proofs.Laws.{product_assoc, xor-product}
 use Rattle.parity_code.specs.declared.repair.Repair.{Repair}
-use Rattle.parity_code.specs.Syndromes.{p_syndrome, q_syndrome, p_weight, q_weight, IsWhole}
+use Rattle.parity_code.specs.Syndromes.{p_syndrome, q_syndrome, p_weight, q_weight, IsWhole, HasNoSyndrome}
 use Rattle.parity_code.specs.Repairs.{repaired, repaired_column, share, IsRepair, AreRepairs}
-use Rattle.parity_code.proofs.SyndromeLaws.{p_syndrome_set, q_syndrome_set, p_weight_lt, q_weight_lt}
+use Rattle.parity_code.proofs.ParityLaws.{AreBytes}
+use Rattle.parity_code.proofs.SyndromeLaws.{p_syndrome_set, q_syndrome_set, p_weight_below, p_weight_lt, q_weight_lt, p_syndrome_lt, q_syndrome_lt}
 
 -- the columns that a kernel writes are those of the repairs
 pub both_repaired : (units i j : ℕ) (r s : Repair) (col : List ℕ) (f h p q : ℕ) → i ≡ r.row → j ≡ s.row → f ≡ repaired r p q → h ≡ repaired s p q
@@ -121,3 +123,59 @@ pub two_restored : (units x y : ℕ) (r s : Repair) (col : List ℕ) → AreRepa
 two_restored units x y r s col repairs whole rising lt long =
     let bytes = repaired_bytes units x y r s col repairs whole rising lt long in
     rw (bytes.0, bytes.1, repairs.row, repairs.other_row) (filled_again x y col rising lt)
+
+-- a byte that is 0, replaced
+p_filled : (units x v : ℕ) (col : List ℕ) → x < length col → units < length col → v < 256 → get_or col x 0 ≡ 0 → p_syndrome units (set col x v) ≡ bit_xor (p_syndrome units col) (product (p_weight units x) v)
+p_filled units x v col lt room byte none =
+    p_syndrome_set units x v col lt room byte ∙ ap (λ (c : List ℕ). bit_xor (p_syndrome units c) (product (p_weight units x) v)) (ap (set col x) (sym none) ∙ set-get_or col x 0)
+
+q_filled : (units x v : ℕ) (col : List ℕ) → x < length col → length col ≡ units + 2 → v < 256 → get_or col x 0 ≡ 0 → q_syndrome units (set col x v) ≡ bit_xor (q_syndrome units col) (product (q_weight units x) v)
+q_filled units x v col lt long byte none =
+    q_syndrome_set units x v col lt long byte ∙ ap (λ (c : List ℕ). bit_xor (q_syndrome units c) (product (q_weight units x) v)) (ap (set col x) (sym none) ∙ set-get_or col x 0)
+
+-- a lone row of parity, and one repaired row: no syndrome is left
+pub one_solved : (units x : ℕ) (r : Repair) (col : List ℕ) → IsRepair units x r → AreBytes col → x ≤ units → length col ≡ units + 1 → get_or col x 0 ≡ 0 → HasNoSyndrome units (repaired_column units r r col)
+one_solved units x r col repair bytes le long none =
+    let p : ℕ = p_syndrome units col in
+    let p_lt : p < 256 = p_syndrome_lt units col bytes in
+    let plain : r.by_q ≡ 0 = repair.plain le in
+    let weight : p_weight units x ≡ 1 = p_weight_below units x le in
+    let once : r.by_p ≡ 1 = sym (xor_zero_r r.by_p) ∙ rw (weight, plain, zero_product (q_weight units x), product_one r.by_p) at repair.whole in
+    let value : repaired r p (q_syndrome units col) ≡ p = rw (once, plain, zero_product (q_syndrome units col), one_product p p_lt) (xor_zero_r p) in
+    let filled : repaired_column units r r col ≡ set col x p = rw (value, repair.row) (set-set col x p p) in
+    rw filled (record {
+      p = p_filled units x p col (omega arith) (omega arith) p_lt none ∙ rw (weight, one_product p p_lt) (xor_self p);
+      q = λ lt. absurd (omega (arith, length-set col x p));
+    })
+
+-- two rows of parity, and two repaired rows
+two_filled : (units x y v u : ℕ) (col : List ℕ) → x < y → y < length col → length col ≡ units + 2 → v < 256 → u < 256 → get_or col x 0 ≡ 0 → get_or col y 0 ≡ 0
+    → (p_syndrome units (set (set col x v) y u) ≡ bit_xor (p_syndrome units col) (bit_xor (product (p_weight units x) v) (product (p_weight units y) u)))
+    × (q_syndrome units (set (set col x v) y u) ≡ bit_xor (q_syndrome units col) (bit_xor (product (q_weight units x) v) (product (q_weight units y) u)))
+two_filled units x y v u col rising lt long v_lt u_lt none none_other =
+    let first : List ℕ = set col x v in
+    let first_long : length first ≡ length col = length-set col x v in
+    let still : get_or first y 0 ≡ 0 = get_or-set_other col x y v 0 (λ e. omega arith) ∙ none_other in (
+      p_filled units y u first (omega arith) (omega arith) u_lt still ∙ ap (λ (n : ℕ). bit_xor n (product (p_weight units y) u)) (p_filled units x v col (omega arith) (omega arith) v_lt none)
+          ∙ xor_assoc (p_syndrome units col) (product (p_weight units x) v) (product (p_weight units y) u),
+      q_filled units y u first (omega arith) (omega arith) u_lt still ∙ ap (λ (n : ℕ). bit_xor n (product (q_weight units y) u)) (q_filled units x v col (omega arith) long v_lt none)
+          ∙ xor_assoc (q_syndrome units col) (product (q_weight units x) v) (product (q_weight units y) u),
+    )
+
+repaired_lt : (r : Repair) (p q : ℕ) → r.by_p < 256 → r.by_q < 256 → repaired r p q < 256
+repaired_lt r p q p_lt q_lt = xor_of_8 (product r.by_p p) (product r.by_q q) (product_lt r.by_p p p_lt) (product_lt r.by_q q q_lt)
+
+pub two_solved : (units x y : ℕ) (r s : Repair) (col : List ℕ) → AreRepairs units x y r s → AreBytes col → x < y → y < length col → length col ≡ units + 2 → get_or col x 0 ≡ 0 → get_or col y 0 ≡ 0
+    → HasNoSyndrome units (repaired_column units r s col)
+two_solved units x y r s col repairs bytes rising lt long none none_other =
+    let p : ℕ = p_syndrome units col in
+    let q : ℕ = q_syndrome units col in
+    let p_lt : p < 256 = p_syndrome_lt units col bytes in
+    let q_lt : q < 256 = q_syndrome_lt units col bytes in
+    let filled = two_filled units x y (repaired r p q) (repaired s p q) col rising lt long (repaired_lt r p q repairs.by_p_lt repairs.by_q_lt) (repaired_lt s p q repairs.other_by_p_lt repairs.other_by_q_lt) none none_other in
+    rw (repairs.row, repairs.other_row) (record {
+      p = filled.0 ∙ ap (bit_xor p) (both_weighted (p_weight units x) (p_weight units y) r.by_p r.by_q s.by_p s.by_q p q (p_weight_lt units x) (p_weight_lt units y) repairs.by_p_lt repairs.by_q_lt repairs.other_by_p_lt repairs.other_by_q_lt p_lt q_lt
+          ∙ rw (repairs.p_of_p, repairs.p_of_q, one_product p p_lt, zero_product q) (xor_zero_r p)) ∙ xor_self p;
+      q = λ _. filled.1 ∙ ap (bit_xor q) (both_weighted (q_weight units x) (q_weight units y) r.by_p r.by_q s.by_p s.by_q p q (q_weight_lt units x) (q_weight_lt units y) repairs.by_p_lt repairs.by_q_lt repairs.other_by_p_lt repairs.other_by_q_lt p_lt q_lt
+          ∙ rw (repairs.q_of_p, repairs.q_of_q, one_product q q_lt, zero_product p) (xor_zero_l q)) ∙ xor_self q;
+    })

@@ -2,7 +2,8 @@
 use Rattle.std.proofs.Common.{◌≡◌, ◌≢◌, ℕ, zero, suc, ◌+◌, ◌-◌, ◌<◌, ◌≤◌, ◌⊎◌, List, [], ◌∷◌, length, map, get_or, set, refl, sym, ap, ◌∙◌, arith, inl, inr}
 use Rattle.std.specs.List.{All, Contains}
 use Rattle.std.proofs.lemmas.Bool.{cases_lt, cases_eq}
-use Rattle.std.proofs.lemmas.List.{length-set, get_or-set_same, get_or-set_other}
+use Rattle.std.proofs.lemmas.List.{length-set, get_or-map, get_or-set_same, get_or-set_other}
+use Rattle.std.proofs.lemmas.List.Elements.{All-set}
 use Rattle.std.proofs.lemmas.Grind.{get_or-set_at, same_number_lists}
 use Rattle.parity_code.specs.declared.code.Code.{Code}
 use Rattle.parity_code.specs.declared.repair.Repair.{Repair}
@@ -11,8 +12,9 @@ use Rattle.parity_code.specs.Codeword.{count_of, width_of, AreRows, AgreeOutside
 use Rattle.parity_code.specs.Columns.{Stored, Become}
 use Rattle.parity_code.specs.Syndromes.{p_syndrome, q_syndrome, IsWhole}
 use Rattle.parity_code.specs.Repairs.{repaired, repaired_column, IsRepair, AreRepairs, HasParity, Restored}
+use Rattle.parity_code.proofs.ParityLaws.{AreBytes}
 use Rattle.parity_code.proofs.ColumnLaws.{length_column, same_count, same_row}
-use Rattle.parity_code.proofs.RestoreLaws.{one_restored, two_restored}
+use Rattle.parity_code.proofs.RestoreLaws.{one_restored, two_restored, one_solved, two_solved}
 
 width_is : (rows : List (List ℕ)) → width_of rows ≡ get_or (map length rows) 0 0
 width_is [] = refl
@@ -95,9 +97,15 @@ agree_by lost old new k shape same = record {
   same = λ j none. sym (same j none);
 }
 
-pub restored_by_one : (units x : ℕ) (r : Repair) (old mid new : List (List ℕ)) → HasParity units old → x < length old → IsRepair units x r
+-- the columns of rows of bytes are bytes
+column_bytes : (rows : List (List ℕ)) (k : ℕ) → All (λ row. (i : ℕ) → get_or row i 0 < 256) rows → AreBytes (column rows k)
+column_bytes rows k bytes = λ j d lt.
+    let there : j < length rows = omega (arith, length_column rows k) in
+    rw (get_or-map (λ (row : List ℕ). get_or row k 0) rows j [] d there) (bytes j [] there k)
+
+pub restored_by_one : (units x : ℕ) (r : Repair) (old mid new : List (List ℕ)) → HasParity units old → All (λ row. (i : ℕ) → get_or row i 0 < 256) old → x < length old → IsRepair units x r
     → Stored x 0 (length (get_or old x [])) (λ _. 0) old mid → Become 0 (width_of mid) (repaired_column units r r) mid new → Restored units (x ∷ []) old new
-restored_by_one units x r old mid new parity lt repair clear become =
+restored_by_one units x r old mid new parity bytes lt repair clear become =
     let room : length (get_or old x []) ≡ width_of old = parity.even x [] lt in
     let width : width_of mid ≡ width_of old = width_kept old mid clear.shape in
     let shape : map length new ≡ map length old = become.shape ∙ clear.shape in
@@ -118,12 +126,19 @@ restored_by_one units x r old mid new parity lt repair clear become =
           up_to (width_of mid) (repaired_column units r r) mid new become k (omega arith)
           ∙ ap (repaired_column units r r) (cleared x (length (get_or old x [])) old mid clear k (omega arith) ∙ same_without_one x col (column old k) agree (omega arith))
           ∙ one_restored units x r col repair whole (omega arith) (omega (arith, parity.some)) (omega (arith, parity.most));
+      solved = λ count k k_lt.
+          let col : List ℕ = column old k in
+          let long : length col ≡ length old = length_column old k in
+          let erased_long : length (set col x 0) ≡ length col = length-set col x 0 in
+          let is : column new k ≡ repaired_column units r r (set col x 0) =
+          up_to (width_of mid) (repaired_column units r r) mid new become k (omega arith) ∙ ap (repaired_column units r r) (cleared x (length (get_or old x [])) old mid clear k (omega arith)) in
+          rw is (one_solved units x r (set col x 0) repair (All-set (λ (d : ℕ). d < 256) col x 0 (omega arith) (column_bytes old k bytes)) (omega arith) (omega arith) (get_or-set_same col x 0 0 (omega arith)));
     }
 
-pub restored_by_two : (units x y : ℕ) (r s : Repair) (old one mid new : List (List ℕ)) → HasParity units old → x < y → y < length old → length old ≡ units + 2 → AreRepairs units x y r s
+pub restored_by_two : (units x y : ℕ) (r s : Repair) (old one mid new : List (List ℕ)) → HasParity units old → All (λ row. (i : ℕ) → get_or row i 0 < 256) old → x < y → y < length old → length old ≡ units + 2 → AreRepairs units x y r s
     → Stored x 0 (length (get_or old x [])) (λ _. 0) old one → Stored y 0 (length (get_or one y [])) (λ _. 0) one mid
     → Become 0 (width_of mid) (repaired_column units r s) mid new → Restored units (x ∷ (y ∷ [])) old new
-restored_by_two units x y r s old one mid new parity rising lt two repairs clear clear_other become =
+restored_by_two units x y r s old one mid new parity bytes rising lt two repairs clear clear_other become =
     let room : length (get_or old x []) ≡ width_of old = parity.even x [] (omega arith) in
     let room_other : length (get_or one y []) ≡ width_of old = same_row old one y [] clear.shape ∙ parity.even y [] lt in
     let shape_mid : map length mid ≡ map length old = clear_other.shape ∙ clear.shape in
@@ -150,6 +165,16 @@ restored_by_two units x y r s old one mid new parity rising lt two repairs clear
           up_to (width_of mid) (repaired_column units r s) mid new become k (omega arith)
           ∙ ap (repaired_column units r s) (erased k k_lt ∙ same_without_two x y col (column old k) agree (omega arith) (omega arith))
           ∙ two_restored units x y r s col repairs whole rising (omega arith) (omega arith);
+      solved = λ count k k_lt.
+          let col : List ℕ = column old k in
+          let first : List ℕ = set col x 0 in
+          let long : length col ≡ length old = length_column old k in
+          let first_long : length first ≡ length col = length-set col x 0 in
+          let erased_long : length (set first y 0) ≡ length first = length-set first y 0 in
+          let is : column new k ≡ repaired_column units r s (set first y 0) = up_to (width_of mid) (repaired_column units r s) mid new become k (omega arith) ∙ ap (repaired_column units r s) (erased k k_lt) in
+          let all : AreBytes (set first y 0) = All-set (λ (d : ℕ). d < 256) first y 0 (omega arith) (All-set (λ (d : ℕ). d < 256) col x 0 (omega arith) (column_bytes old k bytes)) in
+          rw is (two_solved units x y r s (set first y 0) repairs all rising (omega arith) (omega arith)
+          (other_byte x y 0 first (λ e. omega arith) ∙ get_or-set_same col x 0 0 (omega arith)) (get_or-set_same first y 0 0 (omega arith)));
     }
 
 -- rows of the same lengths serve as well

@@ -5,7 +5,8 @@ use Rattle.std.specs.List.{All}
 use Rattle.std.specs.Int.Bits.{xor_assoc, xor_zero_r, xor_zero_l, xor_self}
 use Rattle.std.proofs.lemmas.Nat.{xor_comm, xor_of_8}
 use Rattle.std.proofs.lemmas.Bool.{cases_lt, lt-ltb, le-ltb, le-leb, lt-leb}
-use Rattle.std.proofs.lemmas.List.{length-set, length-take-le, get_or-set_same, get_or-set_other, take-set-le, set-get_or, set-set}
+use Rattle.std.proofs.lemmas.List.{length-set, length-take-le, get_or-set_same, get_or-set_other, take-set-le, set-get_or, set-set, get_or_past}
+use Rattle.std.proofs.lemmas.List.Elements.{All-take}
 use Rattle.std.proofs.lemmas.Grind.{get_or-set_at}
 use Rattle.std.proofs.Math.Seq.{take-set-lt}
 use Rattle.gf256.specs.Field.{product, two_to}
@@ -14,6 +15,7 @@ use Rattle.gf256.proofs.Computed.{one_product}
 use Rattle.gf256.proofs.Product.{product-xor, product_lt, product_zero, zero_product}
 use Rattle.gf256.proofs.Laws.{two_to_lt}
 use Rattle.parity_code.specs.Parity.{p_of, q_from, q_of}
+use Rattle.parity_code.proofs.ParityLaws.{AreBytes, p_of_lt, q_from_lt}
 use Rattle.parity_code.specs.Syndromes.{p_syndrome, q_syndrome, p_weight, q_weight}
 
 -- the last of three summands, moved out
@@ -111,3 +113,13 @@ q_syndrome_set units j v col lt long byte = elim (cases_lt j units) [
         (sym (xor_zero_r (bit_xor (q_of (take units col)) (get_or col (units + 1) 0))))
   ]
 ]
+
+-- a column of bytes has only bytes, and 0 beyond its end
+pub any_byte : (col : List ℕ) (k : ℕ) → AreBytes col → get_or col k 0 < 256
+any_byte col k bytes = elim (cases_lt k (length col)) [ inl there ↦ bytes k 0 there | inr past ↦ rw (get_or_past col k 0 past) (omega arith) ]
+
+pub p_syndrome_lt : (units : ℕ) (col : List ℕ) → AreBytes col → p_syndrome units col < 256
+p_syndrome_lt units col bytes = xor_of_8 (p_of (take units col)) (get_or col units 0) (p_of_lt (take units col) (All-take (λ (d : ℕ). d < 256) units col bytes)) (any_byte col units bytes)
+
+pub q_syndrome_lt : (units : ℕ) (col : List ℕ) → AreBytes col → q_syndrome units col < 256
+q_syndrome_lt units col bytes = xor_of_8 (q_of (take units col)) (get_or col (units + 1) 0) (q_from_lt 0 (take units col)) (any_byte col (units + 1) bytes)

@@ -7,7 +7,7 @@ use Rattle.parity_code.specs.declared.repair.Repair.{Repair}
 use Rattle.parity_code.specs.declared.repair.RepairTables.{RepairTables}
 use Rattle.parity_code.specs.Parity.{column}
 use Rattle.parity_code.specs.Codeword.{width_of, AgreeOutside}
-use Rattle.parity_code.specs.Syndromes.{p_syndrome, q_syndrome, p_weight, q_weight, IsWhole}
+use Rattle.parity_code.specs.Syndromes.{p_syndrome, q_syndrome, p_weight, q_weight, IsWhole, HasNoSyndrome}
 
 -- the byte that a repair makes of the syndromes
 abbrev pub repaired : Repair → ℕ → ℕ → ℕ
@@ -30,7 +30,8 @@ pub record IsRepair (units x : ℕ) (r : Repair) : Type 0 where
   pub by_p_lt : r.by_p < 256
   pub by_q_lt : r.by_q < 256
 
--- each of the repairs of rows x and y takes its own byte once, and the other's not at all
+-- each of the repairs of rows x and y takes its own byte once and the other's not at all, and with both repaired no
+-- syndrome is left
 pub record AreRepairs (units x y : ℕ) (r s : Repair) : Type 0 where
   pub row : r.row ≡ x
   pub other_row : s.row ≡ y
@@ -38,6 +39,10 @@ pub record AreRepairs (units x y : ℕ) (r s : Repair) : Type 0 where
   pub none_of_other : share units r y ≡ 0
   pub none : share units s x ≡ 0
   pub other_whole : share units s y ≡ 1
+  pub p_of_p : bit_xor (product (p_weight units x) r.by_p) (product (p_weight units y) s.by_p) ≡ 1
+  pub p_of_q : bit_xor (product (p_weight units x) r.by_q) (product (p_weight units y) s.by_q) ≡ 0
+  pub q_of_p : bit_xor (product (q_weight units x) r.by_p) (product (q_weight units y) s.by_p) ≡ 0
+  pub q_of_q : bit_xor (product (q_weight units x) r.by_q) (product (q_weight units y) s.by_q) ≡ 1
   pub by_p_lt : r.by_p < 256
   pub by_q_lt : r.by_q < 256
   pub other_by_p_lt : s.by_p < 256
@@ -57,8 +62,10 @@ pub record HasParity (units : ℕ) (rows : List (List ℕ)) : Type 0 where
   pub few : units ≤ 255
   pub even : All (λ row. length row ≡ width_of rows) rows
 
--- whatever was whole before rows were lost is whole again, and the other rows are as they were
+-- whatever was whole before rows were lost is whole again, and the other rows are as they were. With as many rows
+-- lost as there are rows of parity, every column is whole.
 pub record Restored (units : ℕ) (lost : List ℕ) (old new : List (List ℕ)) : Type 0 where
   pub shape : map length new ≡ map length old
   pub kept : (k : ℕ) → AgreeOutside lost (column old k) (column new k)
   pub whole : (k : ℕ) (col : List ℕ) → k < width_of old → IsWhole units col → AgreeOutside lost col (column old k) → column new k ≡ col
+  pub solved : length old ≡ units + length lost → (k : ℕ) → k < width_of old → HasNoSyndrome units (column new k)

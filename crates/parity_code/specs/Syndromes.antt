@@ -19,7 +19,12 @@ p_weight units j = if nat_le j units then 1 else 0
 abbrev pub q_weight : ℕ → ℕ → ℕ
 q_weight units j = if nat_lt j units then two_to j else (if nat_le j units then 0 else 1)
 
--- a column of bytes with as much parity as it has positions for, and of which no syndrome is left
+-- no syndrome is left of a column: of the first, and where it has Q, of the second
+pub record HasNoSyndrome (units : ℕ) (col : List ℕ) : Type 0 where
+  pub p : p_syndrome units col ≡ 0
+  pub q : units + 1 < length col → q_syndrome units col ≡ 0
+
+-- the same of a column of bytes
 pub record IsWhole (units : ℕ) (col : List ℕ) : Type 0 where
   pub bytes : All (λ d. d < 256) col
   pub p : p_syndrome units col ≡ 0

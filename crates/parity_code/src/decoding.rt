@@ -1,15 +1,16 @@
 // Lost rows from the rows that are left.
-ghost use Rattle.std.specs.Prelude.{◌≡◌, ℕ, ◌<◌, List, length, map, OnOk, OnErr};
+ghost use Rattle.std.specs.Prelude.{◌≡◌, ℕ, ◌-◌, ◌<◌, List, length, map, take, OnOk, OnErr};
 ghost use Rattle.std.specs.List.{All};
 ghost use Rattle.parity_code.specs.Parity.{column};
-ghost use Rattle.parity_code.specs.Codeword.{codeword, width_of, AreRows, AgreeOutside};
+ghost use Rattle.parity_code.specs.Codeword.{count_of, codeword, width_of, AreRows, AgreeOutside};
 ghost use Rattle.parity_code.specs.Decoding.{decoding, ArePositions};
 
 use crate::code::{Code, CodeErr};
 use crate::restoring::{restore_one, restore_two};
 use osd_bytes::Rows;
 
-/// Brings back the lost rows, whatever they hold: a column that was a codeword is that codeword again.
+/// Brings back the lost rows, whatever they hold: a column that was a codeword is that codeword again. With as many
+/// rows lost as the code has parity rows, each column becomes a codeword.
 ///
 /// The rows are as [`encode`](crate::encode) takes them, and the positions rise and are below their number. It fails
 /// with [`CodeErr::TooManyLost`] exactly where more rows are lost than the code has parity rows, and then changes
@@ -24,6 +25,8 @@ pub fn decode(code: Code, rows: &mut Rows, lost: &[u32]) -> Result<(), CodeErr>
     ensures whole { OnOk result ((k : ℕ) (units : List ℕ) → k < width_of rows.old → All (λ d. d < 256) units
         → AgreeOutside lost.now (codeword code units) (column rows.old k)
         → column rows.new k ≡ codeword code units) }
+    ensures coded { OnOk result (length lost.now ≡ count_of code → (k : ℕ) → k < width_of rows.old
+        → column rows.new k ≡ codeword code (take (length rows.old - count_of code) (column rows.new k))) }
 {
     if lost.len() > code.count() as usize {
         return Err(CodeErr::TooManyLost {

@@ -11,7 +11,7 @@ ghost use Rattle.parity_code.specs.Repairs.{repaired_column, HasTables, HasParit
 
 use crate::columns::{clear, store_block, store_byte};
 use crate::repair::{Repair, RepairTables, repair_of_one, repairs_of_two};
-use crate::sums::{block_of, block_p_and_q, byte_at, column_p_and_q};
+use crate::sums::{block_of, block_p_and_q, byte_at, column_p_and_q, rows_are_bytes};
 use gf256::lanes;
 use osd_bytes::{Bytes, Rows};
 use std::simd::prelude::*;
@@ -22,6 +22,7 @@ pub(crate) fn restore_one(rows: &mut Rows, units: usize, x: usize)
     requires last { x < length rows.old }
     ensures { Restored units (x ∷ []) rows.old rows.new }
 {
+    rows_are_bytes(rows.as_slice());
     clear(rows, x);
     let repair = repair_of_one(units, x);
     restore(rows, units, repair, repair);
@@ -35,6 +36,7 @@ pub(crate) fn restore_two(rows: &mut Rows, units: usize, x: usize, y: usize)
     requires last { y < length rows.old }
     ensures { Restored units (x ∷ y ∷ []) rows.old rows.new }
 {
+    rows_are_bytes(rows.as_slice());
     clear(rows, x);
     clear(rows, y);
     let (first, second) = repairs_of_two(units, x, y);

@@ -76,3 +76,18 @@ pub(crate) fn byte_at(row: &Bytes, k: usize) -> u8
 {
     row.as_slice()[k]
 }
+
+// What the members of a list of rows are known to be. Nothing runs.
+pub(crate) fn rows_are_bytes(rows: &[Bytes])
+    ensures { All (λ row. (k : ℕ) → slice_index row k < 256) rows.now }
+{
+    for row in rows {
+        row_is_bytes(row.as_slice());
+    }
+}
+
+fn row_is_bytes(bytes: &[u8])
+    ensures { (k : ℕ) → slice_index bytes.now k < 256 }
+{
+    let _ = bytes;
+}

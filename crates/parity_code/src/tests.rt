@@ -61,7 +61,10 @@ fn the_worked_column(rt: HostRuntime) -> Result<(), Fail> {
     let mut rows = encoded(rt.alloc(), Code::PandQ, &[1, 2, 4, 0, 0], 1)?;
     assert_eq!(rt; rows.get(3).as_slice(), [0x07].as_slice());
     assert_eq!(rt; rows.get(4).as_slice(), [0x15].as_slice());
-    assert_eq!(rt; decode(Code::PandQ, &mut rows, &[0, 1, 2]), Err(CodeErr::TooManyLost { lost: 3 }));
+    assert_eq!(rt;
+        decode(Code::PandQ, &mut rows, &[0, 1, 2]),
+        Err(CodeErr::TooManyLost { lost: 3 })
+    );
     lose(Code::PandQ, &mut rows, 0);
     lose(Code::PandQ, &mut rows, 1);
     assert_eq!(rt; decode(Code::PandQ, &mut rows, &[0, 1]), Ok(()));

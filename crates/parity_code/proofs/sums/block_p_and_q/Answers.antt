@@ -20,7 +20,7 @@ loop-i-preserved c =
     let long : (k : ℕ) → c.loop-i.i ≤ length (column c.args.units.now (c.args.at + k)) = λ k. omega (arith, length_column c.args.units.now (c.args.at + k)) in
     let unit = c.block_of-unit.ensures.lanes in
     let bytes : (k : ℕ) → k < 64 → AreBytes (drop (c.loop-i.i - 1) (column c.args.units.now (c.args.at + k))) = λ k lt.
-      bytes_next (column c.args.units.now (c.args.at + k)) c.loop-i.i (get_or c.block_of-unit.result k 0) (omega arith) (long k) (unit.each k lt) (c.block_of-unit.ensures.bytes k lt) (c.loop-i.invariant.bytes k lt) in
+    bytes_next (column c.args.units.now (c.args.at + k)) c.loop-i.i (get_or c.block_of-unit.result k 0) (omega arith) (long k) (unit.each k lt) (c.block_of-unit.ensures.bytes k lt) (c.loop-i.invariant.bytes k lt) in
     record {
       p = record {
         long = c.sum-p.ensures.long;
@@ -29,7 +29,7 @@ loop-i-preserved c =
       q = record {
         long = c.sum-q.ensures.long;
         each = λ k lt. q_next (column c.args.units.now (c.args.at + k)) c.loop-i.i (get_or c.block_of-unit.result k 0) (get_or c.loop-i.q k 0) (get_or c.sum-q.result k 0) (omega arith) (long k) (unit.each k lt) (bytes k lt) (c.loop-i.invariant.q.each k lt)
-          (c.sum-q.ensures.each k lt ∙ ap (λ (n : ℕ). bit_xor n (get_or c.block_of-unit.result k 0)) (c.doubled.ensures.each k lt));
+            (c.sum-q.ensures.each k lt ∙ ap (λ (n : ℕ). bit_xor n (get_or c.block_of-unit.result k 0)) (c.doubled.ensures.each k lt));
       };
       bytes = bytes;
     }
