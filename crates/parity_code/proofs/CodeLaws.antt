@@ -1,8 +1,6 @@
 -- Codewords by their parts.
-use Rattle.std.proofs.Common.{◌≡◌, ℕ, zero, suc, ◌+◌, ◌-◌, ◌<◌, ◌≤◌, List, [], ◌∷◌, ◌++◌, length, get_or, take, drop, map, set, refl, sym, ap, ◌∙◌, arith, inl, inr}
-use Rattle.std.proofs.lemmas.List.{take_all}
-use Rattle.parity_code.specs.declared.code.Code.{Code}
-use Rattle.parity_code.specs.declared.code.Code.TheVariants.{Plain, Xor, PandQ}
+use Rattle.std.proofs.Common.{◌≡◌, ℕ, zero, suc, ◌+◌, ◌<◌, List, [], ◌∷◌, ◌++◌, length, take, set, refl, ap, ◌∙◌, arith}
+use Rattle.parity_code.specs.declared.code.Code.TheVariants.{Xor, PandQ}
 use Rattle.parity_code.specs.Parity.{column, p_of, q_of}
 use Rattle.parity_code.specs.Codeword.{codeword}
 use Rattle.parity_code.specs.Columns.{Stored, Become}

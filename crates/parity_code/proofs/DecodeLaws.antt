@@ -1,10 +1,9 @@
 -- Codewords that come back.
-use Rattle.std.proofs.Common.{◌≡◌, ◌≢◌, ℕ, zero, suc, ◌+◌, ◌-◌, ◌<◌, ◌≤◌, List, [], ◌∷◌, ◌++◌, length, map, get_or, take, set, refl, sym, ap, ◌∙◌, append_assoc, arith, inl, inr}
-use Rattle.std.specs.Prelude.{bit_xor}
-use Rattle.std.specs.List.{All, Contains}
+use Rattle.std.proofs.Common.{◌≡◌, ℕ, zero, suc, ◌+◌, ◌-◌, ◌<◌, ◌≤◌, List, [], ◌∷◌, ◌++◌, length, get_or, take, set, refl, sym, ap, ◌∙◌, append_assoc, arith}
+use Rattle.std.specs.List.{All}
 use Rattle.std.specs.List.Sorted.{IsStrictlyIncreasing}
 use Rattle.std.specs.Int.Bits.{xor_self}
-use Rattle.std.proofs.lemmas.List.{set-get_or, length-append, get_or-append-add, take-append-le, take_all}
+use Rattle.std.proofs.lemmas.List.{set-get_or, length-append, get_or-append-add, take_all}
 use Rattle.std.proofs.lemmas.List.Elements.{All-push}
 use Rattle.std.proofs.Math.Seq.{take-append_seam}
 use Rattle.std.proofs.lemmas.Grind.{same_number_lists}
@@ -13,7 +12,7 @@ use Rattle.parity_code.specs.declared.code.Code.{Code}
 use Rattle.parity_code.specs.declared.code.Code.TheVariants.{Plain, Xor, PandQ}
 use Rattle.parity_code.specs.Parity.{column, p_of, q_of}
 use Rattle.parity_code.specs.Codeword.{count_of, codeword, width_of, AgreeOutside}
-use Rattle.parity_code.specs.Syndromes.{p_syndrome, q_syndrome, IsWhole, HasNoSyndrome}
+use Rattle.parity_code.specs.Syndromes.{IsWhole, HasNoSyndrome}
 use Rattle.parity_code.specs.Repairs.{Restored}
 use Rattle.parity_code.proofs.ParityLaws.{AreBytes, p_of_lt, q_from_lt}
 use Rattle.parity_code.proofs.ColumnLaws.{length_column, same_count}

@@ -1,17 +1,16 @@
 -- P and Q, byte by byte of their columns.
-use Rattle.std.proofs.Common.{◌≡◌, ℕ, zero, suc, ◌+◌, ◌-◌, ◌<◌, ◌≤◌, List, [], ◌∷◌, ◌++◌, length, get_or, take, drop, map, set, refl, sym, ap, ◌∙◌, arith, inl, inr}
+use Rattle.std.proofs.Common.{◌≡◌, ℕ, suc, ◌+◌, ◌-◌, ◌<◌, ◌≤◌, List, [], ◌∷◌, length, get_or, drop, sym, ap, ◌∙◌, arith}
 use Rattle.std.specs.Prelude.{bit_xor}
 use Rattle.std.specs.List.{All}
-use Rattle.std.specs.Int.Bits.{xor_assoc, xor_zero_r, xor_zero_l, xor_self}
+use Rattle.std.specs.Int.Bits.{xor_zero_r}
 use Rattle.std.proofs.lemmas.Nat.{xor_comm, xor_of_8}
 use Rattle.std.proofs.lemmas.List.{drop_all}
 use Rattle.std.proofs.lemmas.List.Elements.{All-cons}
 use Rattle.std.proofs.Math.Seq.{drop-cons}
 use Rattle.gf256.specs.Field.{product, two_to}
-use Rattle.gf256.proofs.Sums.{xor_swap, xor_cancel, xor_left_comm}
 use Rattle.gf256.proofs.Computed.{one_product}
-use Rattle.gf256.proofs.Product.{product-xor, product_lt, product_zero, zero_product, product_two}
-use Rattle.gf256.proofs.Laws.{product_assoc, product_comm, two_to_lt, two_to_zero, two_to_add}
+use Rattle.gf256.proofs.Product.{product-xor, product_lt, product_zero}
+use Rattle.gf256.proofs.Laws.{product_assoc, two_to_lt, two_to_zero, two_to_add}
 use Rattle.parity_code.specs.Parity.{p_of, q_from, q_of}
 
 -- each number of the list is a byte

@@ -1,14 +1,13 @@
 -- The weights of the lost positions in their repairs.
-use Rattle.std.proofs.Common.{◌≡◌, ◌≢◌, ℕ, zero, suc, ◌+◌, ◌-◌, ◌<◌, ◌≤◌, refl, sym, ap, ◌∙◌, arith, inl, inr}
+use Rattle.std.proofs.Common.{◌≡◌, ◌≢◌, ℕ, ◌<◌, ◌≤◌, refl, sym, ap, ◌∙◌, arith}
 use Rattle.std.specs.Prelude.{bit_xor}
-use Rattle.std.specs.Int.Bits.{xor_assoc, xor_zero_r, xor_zero_l, xor_self}
+use Rattle.std.specs.Int.Bits.{xor_assoc, xor_self}
 use Rattle.std.proofs.lemmas.Nat.{xor_comm, xor_of_8}
 use Rattle.gf256.specs.Field.{product, two_to}
-use Rattle.gf256.proofs.Sums.{xor_swap, xor_cancel, xor_left_comm, xor-eq-zero}
+use Rattle.gf256.proofs.Sums.{xor_cancel, xor-eq-zero}
 use Rattle.gf256.proofs.Computed.{one_product}
-use Rattle.gf256.proofs.Product.{product-xor, product_lt, product_zero, zero_product, product_one}
-use Rattle.gf256.proofs.Laws.{two_to_lt, two_to_pos, two_to_injective, product_comm, product_assoc, xor-product}
-use Rattle.parity_code.specs.declared.repair.Repair.{Repair}
+use Rattle.gf256.proofs.Product.{product-xor, product_zero, zero_product, product_one}
+use Rattle.gf256.proofs.Laws.{two_to_lt, two_to_injective, product_comm, product_assoc, xor-product}
 use Rattle.parity_code.specs.Syndromes.{p_weight, q_weight}
 use Rattle.parity_code.specs.Repairs.{IsRepair, AreRepairs}
 use Rattle.parity_code.proofs.SyndromeLaws.{xor_right_comm, p_weight_below, p_weight_above, q_weight_below, q_weight_at, q_weight_above}

@@ -1,20 +1,19 @@
 -- Columns whose lost bytes are repaired.
-use Rattle.std.proofs.Common.{◌≡◌, ◌≢◌, ℕ, zero, suc, ◌+◌, ◌-◌, ◌<◌, ◌≤◌, ◌⊎◌, List, [], ◌∷◌, length, get_or, set, refl, sym, ap, ◌∙◌, arith, inl, inr}
+use Rattle.std.proofs.Common.{◌≡◌, ℕ, ◌+◌, ◌<◌, ◌≤◌, List, length, get_or, set, refl, sym, ap, ◌∙◌, arith, inl, inr}
 use Rattle.std.specs.Prelude.{bit_xor}
-use Rattle.std.specs.List.{All}
 use Rattle.std.specs.Int.Bits.{xor_assoc, xor_zero_r, xor_zero_l, xor_self}
 use Rattle.std.proofs.lemmas.Nat.{xor_of_8}
 use Rattle.std.proofs.lemmas.Bool.{cases_lt, cases_eq}
-use Rattle.std.proofs.lemmas.List.{length-set, get_or-set_same, get_or-set_other, set-get_or, set-set}
+use Rattle.std.proofs.lemmas.List.{length-set, get_or-set_other, set-get_or, set-set}
 use Rattle.std.proofs.lemmas.Grind.{get_or-set_at, same_number_lists}
 use Rattle.gf256.specs.Field.{product}
-use Rattle.gf256.proofs.Sums.{xor_swap, xor-eq-zero}
+use Rattle.gf256.proofs.Sums.{xor_swap}
 use Rattle.gf256.proofs.Computed.{one_product}
 use Rattle.gf256.proofs.Product.{product-xor, product_lt, zero_product, product_one}
 use Rattle.gf256.proofs.Laws.{product_assoc, xor-product}
 use Rattle.parity_code.specs.declared.repair.Repair.{Repair}
 use Rattle.parity_code.specs.Syndromes.{p_syndrome, q_syndrome, p_weight, q_weight, IsWhole, HasNoSyndrome}
-use Rattle.parity_code.specs.Repairs.{repaired, repaired_column, share, IsRepair, AreRepairs}
+use Rattle.parity_code.specs.Repairs.{repaired, repaired_column, IsRepair, AreRepairs}
 use Rattle.parity_code.proofs.ParityLaws.{AreBytes}
 use Rattle.parity_code.proofs.SyndromeLaws.{p_syndrome_set, q_syndrome_set, p_weight_below, p_weight_lt, q_weight_lt, p_syndrome_lt, q_syndrome_lt}
 

@@ -1,5 +1,5 @@
 -- Stripes whose lost rows are restored.
-use Rattle.std.proofs.Common.{◌≡◌, ◌≢◌, ℕ, zero, suc, ◌+◌, ◌-◌, ◌<◌, ◌≤◌, ◌⊎◌, List, [], ◌∷◌, length, map, get_or, set, refl, sym, ap, ◌∙◌, arith, inl, inr}
+use Rattle.std.proofs.Common.{◌≡◌, ◌≢◌, ℕ, zero, suc, ◌+◌, ◌<◌, ◌⊎◌, List, [], ◌∷◌, length, map, get_or, set, refl, sym, ap, ◌∙◌, arith, inl, inr}
 use Rattle.std.specs.List.{All, Contains}
 use Rattle.std.proofs.lemmas.Bool.{cases_lt, cases_eq}
 use Rattle.std.proofs.lemmas.List.{length-set, get_or-map, get_or-set_same, get_or-set_other}
@@ -8,9 +8,9 @@ use Rattle.std.proofs.lemmas.Grind.{get_or-set_at, same_number_lists}
 use Rattle.parity_code.specs.declared.code.Code.{Code}
 use Rattle.parity_code.specs.declared.repair.Repair.{Repair}
 use Rattle.parity_code.specs.Parity.{column}
-use Rattle.parity_code.specs.Codeword.{count_of, width_of, AreRows, AgreeOutside}
+use Rattle.parity_code.specs.Codeword.{width_of, AreRows, AgreeOutside}
 use Rattle.parity_code.specs.Columns.{Stored, Become}
-use Rattle.parity_code.specs.Syndromes.{p_syndrome, q_syndrome, IsWhole}
+use Rattle.parity_code.specs.Syndromes.{p_syndrome, q_syndrome}
 use Rattle.parity_code.specs.Repairs.{repaired, repaired_column, IsRepair, AreRepairs, HasParity, Restored}
 use Rattle.parity_code.proofs.ParityLaws.{AreBytes}
 use Rattle.parity_code.proofs.ColumnLaws.{length_column, same_count, same_row}

@@ -1,18 +1,16 @@
 -- The syndromes of a column of which one byte is replaced.
-use Rattle.std.proofs.Common.{◌≡◌, ◌≢◌, ℕ, zero, suc, ◌+◌, ◌-◌, ◌<◌, ◌≤◌, ◌⊎◌, Bool, true, false, cond, List, [], ◌∷◌, ◌++◌, length, get_or, take, drop, set, refl, sym, ap, ◌∙◌, arith, inl, inr}
+use Rattle.std.proofs.Common.{◌≡◌, ℕ, zero, suc, ◌+◌, ◌<◌, ◌≤◌, Bool, cond, List, [], ◌∷◌, length, get_or, take, set, refl, sym, ap, ◌∙◌, arith, inl, inr}
 use Rattle.std.specs.Prelude.{bit_xor}
-use Rattle.std.specs.List.{All}
-use Rattle.std.specs.Int.Bits.{xor_assoc, xor_zero_r, xor_zero_l, xor_self}
+use Rattle.std.specs.Int.Bits.{xor_assoc, xor_zero_r, xor_zero_l}
 use Rattle.std.proofs.lemmas.Nat.{xor_comm, xor_of_8}
 use Rattle.std.proofs.lemmas.Bool.{cases_lt, lt-ltb, le-ltb, le-leb, lt-leb}
-use Rattle.std.proofs.lemmas.List.{length-set, length-take-le, get_or-set_same, get_or-set_other, take-set-le, set-get_or, set-set, get_or_past}
+use Rattle.std.proofs.lemmas.List.{length-take-le, get_or-set_other, take-set-le, get_or_past}
 use Rattle.std.proofs.lemmas.List.Elements.{All-take}
 use Rattle.std.proofs.lemmas.Grind.{get_or-set_at}
 use Rattle.std.proofs.Math.Seq.{take-set-lt}
 use Rattle.gf256.specs.Field.{product, two_to}
-use Rattle.gf256.proofs.Sums.{xor_swap, xor_cancel, xor_left_comm, xor-eq-zero}
 use Rattle.gf256.proofs.Computed.{one_product}
-use Rattle.gf256.proofs.Product.{product-xor, product_lt, product_zero, zero_product}
+use Rattle.gf256.proofs.Product.{product_zero, zero_product}
 use Rattle.gf256.proofs.Laws.{two_to_lt}
 use Rattle.parity_code.specs.Parity.{p_of, q_from, q_of}
 use Rattle.parity_code.proofs.ParityLaws.{AreBytes, p_of_lt, q_from_lt}

@@ -1,6 +1,6 @@
 -- Lost rows as sums of multiples of the syndromes.
-use Rattle.std.specs.Prelude.{◌≡◌, ℕ, ◌+◌, ◌<◌, ◌≤◌, List, length, map, bit_xor, slice_index, slice_set}
-use Rattle.std.specs.List.{All, Contains}
+use Rattle.std.specs.Prelude.{◌≡◌, ℕ, ◌+◌, ◌<◌, ◌≤◌, List, length, map, bit_xor, slice_set}
+use Rattle.std.specs.List.{All}
 use Rattle.gf256.specs.Field.{product}
 use Rattle.gf256.specs.Tables.{HasProducts}
 use Rattle.parity_code.specs.declared.repair.Repair.{Repair}

@@ -1,7 +1,7 @@
 -- What a column's parity lacks, by which lost bytes come back.
-use Rattle.std.specs.Prelude.{◌≡◌, ℕ, ◌+◌, ◌<◌, ◌≤◌, Bool, List, length, take, bit_xor, slice_index, slice_set, nat_lt, nat_le, if◌then◌else◌}
+use Rattle.std.specs.Prelude.{◌≡◌, ℕ, ◌+◌, ◌<◌, List, length, take, bit_xor, slice_index, nat_lt, nat_le, if◌then◌else◌}
 use Rattle.std.specs.List.{All}
-use Rattle.gf256.specs.Field.{product, two_to}
+use Rattle.gf256.specs.Field.{two_to}
 use Rattle.parity_code.specs.Parity.{p_of, q_of}
 
 -- the sum of P and of the data, which is 0 in a codeword

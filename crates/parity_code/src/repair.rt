@@ -46,45 +46,11 @@ pub(crate) fn repairs_of_two(units: usize, x: usize, y: usize) -> (Repair, Repai
     if y < units {
         two_units(units, x, y)
     } else if y == units {
-        let by_q = inverse(power(x as u32));
-        (
-            Repair {
-                row: x,
-                by_p: 0,
-                by_q,
-            },
-            Repair {
-                row: y,
-                by_p: 1,
-                by_q,
-            },
-        )
+        unit_and_p(units, x, y)
     } else if x < units {
-        (
-            Repair {
-                row: x,
-                by_p: 1,
-                by_q: 0,
-            },
-            Repair {
-                row: y,
-                by_p: power(x as u32),
-                by_q: 1,
-            },
-        )
+        unit_and_q(units, x, y)
     } else {
-        (
-            Repair {
-                row: x,
-                by_p: 1,
-                by_q: 0,
-            },
-            Repair {
-                row: y,
-                by_p: 0,
-                by_q: 1,
-            },
-        )
+        p_and_q(units, x, y)
     }
 }
 
@@ -96,14 +62,70 @@ fn two_units(units: usize, x: usize, y: usize) -> (Repair, Repair)
 {
     let by_q = inverse(power(x as u32) ^ power(y as u32));
     let by_p = mul(by_q, power(y as u32));
-    (
-        Repair { row: x, by_p, by_q },
-        Repair {
-            row: y,
-            by_p: by_p ^ 1,
-            by_q,
-        },
-    )
+    let first = Repair { row: x, by_p, by_q };
+    let second = Repair {
+        row: y,
+        by_p: by_p ^ 1,
+        by_q,
+    };
+    (first, second)
+}
+
+fn unit_and_p(units: usize, x: usize, y: usize) -> (Repair, Repair)
+    requires unit { x < units }
+    requires p { y ≡ units }
+    requires few { units ≤ 255 }
+    ensures { AreRepairs units x y result.0 result.1 }
+{
+    let by_q = inverse(power(x as u32));
+    let first = Repair {
+        row: x,
+        by_p: 0,
+        by_q,
+    };
+    let second = Repair {
+        row: y,
+        by_p: 1,
+        by_q,
+    };
+    (first, second)
+}
+
+fn unit_and_q(units: usize, x: usize, y: usize) -> (Repair, Repair)
+    requires unit { x < units }
+    requires q { units < y }
+    requires few { units ≤ 255 }
+    ensures { AreRepairs units x y result.0 result.1 }
+{
+    let first = Repair {
+        row: x,
+        by_p: 1,
+        by_q: 0,
+    };
+    let second = Repair {
+        row: y,
+        by_p: power(x as u32),
+        by_q: 1,
+    };
+    (first, second)
+}
+
+fn p_and_q(units: usize, x: usize, y: usize) -> (Repair, Repair)
+    requires p { x ≡ units }
+    requires q { units < y }
+    ensures { AreRepairs units x y result.0 result.1 }
+{
+    let first = Repair {
+        row: x,
+        by_p: 1,
+        by_q: 0,
+    };
+    let second = Repair {
+        row: y,
+        by_p: 0,
+        by_q: 1,
+    };
+    (first, second)
 }
 
 impl Repair {

@@ -1,4 +1,4 @@
-use Rattle.std.proofs.Common.{◌≡◌, ◌∙◌, ap, [], get_or, arith, ℕ}
+use Rattle.std.proofs.Common.{[], get_or, ℕ}
 use Rattle.std.proofs.lemmas.Option.{get_or_from_slice_get}
 use Rattle.parity_code.proofs.ColumnLaws.{stored_row, refill_same}
 use Rattle.parity_code.proofs.columns.store_block.Goals as goal

@@ -1,7 +1,6 @@
-use Rattle.std.proofs.Common.{◌≡◌, ◌∙◌, ◌+◌, ◌<◌, ◌≤◌, [], ◌∷◌, sym, arith, ℕ, length, get_or, List}
-use Rattle.parity_code.specs.Codeword.{count_of, codeword, AgreeOutside}
+use Rattle.std.proofs.Common.{sym, arith, length}
+use Rattle.parity_code.specs.Codeword.{codeword}
 use Rattle.parity_code.specs.Parity.{column}
-use Rattle.parity_code.specs.Repairs.{Restored}
 use Rattle.parity_code.proofs.DecodeLaws.{decoded, coded, coded_plain, none_lost, no_position, one_position, two_positions, rising_few, count_most}
 use Rattle.parity_code.proofs.decoding.decode.Goals as goal
 

@@ -1,5 +1,5 @@
-use Rattle.std.proofs.Common.{◌≡◌, ◌∙◌, ap, sym}
-use Rattle.gf256.specs.Field.{added, two_to}
+use Rattle.std.proofs.Common.{◌∙◌, ap}
+use Rattle.gf256.specs.Field.{added}
 use Rattle.parity_code.proofs.DeltaLaws.{p_follows, q_follows}
 use Rattle.parity_code.proofs.delta.parity_delta.Goals as goal
 

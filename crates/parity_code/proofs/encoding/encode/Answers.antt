@@ -1,6 +1,6 @@
-use Rattle.std.proofs.Common.{suc, ◌≡◌, ◌∙◌, ◌+◌, ◌*◌, ◌-◌, ◌<◌, ◌≤◌, sym, arith, ℕ, length}
+use Rattle.std.proofs.Common.{suc, ◌≡◌, ◌∙◌, ◌+◌, ◌*◌, sym, arith}
 use Rattle.parity_code.specs.Codeword.{width_of}
-use Rattle.parity_code.proofs.ColumnLaws.{room_kept, same_count, width_at, become_more}
+use Rattle.parity_code.proofs.ColumnLaws.{room_kept, width_at, become_more}
 use Rattle.parity_code.proofs.encoding.encode.Goals as goal
 
 pub encode_block-requires-clause-room : goal.encode_block-requires-clause-room

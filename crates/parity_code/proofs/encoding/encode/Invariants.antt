@@ -1,4 +1,4 @@
-use Rattle.std.proofs.Common.{◌≡◌, ◌+◌, ◌*◌, length, take, ℕ}
+use Rattle.std.proofs.Common.{◌*◌, take}
 use Rattle.parity_code.specs.Codeword.{codeword}
 use Rattle.parity_code.specs.Columns.{Become}
 use Rattle.parity_code.proofs.encoding.encode.Given as goal

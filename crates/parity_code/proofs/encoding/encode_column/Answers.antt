@@ -1,4 +1,4 @@
-use Rattle.std.proofs.Common.{◌≡◌, ◌∙◌, ◌+◌, ◌<◌, ◌≤◌, [], ap, sym, get_or, take, arith, ℕ, length, List}
+use Rattle.std.proofs.Common.{◌≡◌, ◌∙◌, ◌+◌, ◌<◌, [], ap, sym, take, arith, ℕ, length}
 use Rattle.parity_code.specs.Parity.{column, p_of, q_of}
 use Rattle.parity_code.specs.Codeword.{count_of}
 use Rattle.parity_code.proofs.ColumnLaws.{same_row, take_column}

@@ -1,4 +1,4 @@
-use Rattle.std.proofs.Common.{arith, ◌<◌, ◌≤◌}
+use Rattle.std.proofs.Common.{arith}
 use Rattle.parity_code.proofs.RepairLaws.{repair_by_p, repair_by_q}
 use Rattle.parity_code.proofs.repair.repair_of_one.Goals as goal
 

@@ -1,6 +1,5 @@
-use Rattle.std.proofs.Common.{◌≡◌, sym, ap, ◌∙◌, arith, ◌<◌, ◌≤◌, refl}
-use Rattle.std.specs.Prelude.{bit_xor}
-use Rattle.gf256.specs.Field.{product, two_to}
+use Rattle.std.proofs.Common.{ap, ◌∙◌, arith}
+use Rattle.gf256.specs.Field.{product}
 use Rattle.parity_code.proofs.RepairLaws.{powers_apart, repairs_of_units}
 use Rattle.parity_code.proofs.repair.two_units.Goals as goal
 

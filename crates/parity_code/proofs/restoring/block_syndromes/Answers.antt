@@ -1,5 +1,4 @@
-use Rattle.std.proofs.Common.{◌≡◌, ◌∙◌, ◌+◌, ap, refl, get_or, take, ℕ}
-use Rattle.std.specs.Prelude.{bit_xor}
+use Rattle.std.proofs.Common.{◌≡◌, ◌∙◌, ◌+◌, ap, refl, take}
 use Rattle.parity_code.specs.Parity.{column, p_of, q_of}
 use Rattle.parity_code.proofs.ColumnLaws.{take_column}
 use Rattle.parity_code.proofs.restoring.block_syndromes.Goals as goal

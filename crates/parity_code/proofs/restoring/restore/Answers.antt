@@ -1,4 +1,4 @@
-use Rattle.std.proofs.Common.{suc, ◌≡◌, ◌∙◌, ◌+◌, ◌*◌, ◌<◌, ◌≤◌, sym, arith, ℕ, length}
+use Rattle.std.proofs.Common.{suc, ◌≡◌, ◌∙◌, ◌+◌, ◌*◌, sym, arith}
 use Rattle.parity_code.specs.Codeword.{width_of}
 use Rattle.parity_code.proofs.ColumnLaws.{room_kept, width_at, become_more}
 use Rattle.parity_code.proofs.restoring.restore.Goals as goal

@@ -1,4 +1,4 @@
-use Rattle.std.proofs.Common.{◌≡◌, ◌∙◌, ◌+◌, ◌<◌, [], ap, sym, get_or, arith, ℕ, length}
+use Rattle.std.proofs.Common.{◌∙◌, ◌+◌, [], ap, get_or, ℕ}
 use Rattle.parity_code.specs.Parity.{column}
 use Rattle.parity_code.specs.Syndromes.{p_syndrome, q_syndrome}
 use Rattle.parity_code.specs.Repairs.{repaired_column}

@@ -1,4 +1,4 @@
-use Rattle.std.proofs.Common.{◌≡◌, ◌∙◌, ◌+◌, ◌<◌, [], ap, sym, get_or, arith, ℕ, length}
+use Rattle.std.proofs.Common.{[]}
 use Rattle.parity_code.proofs.ColumnLaws.{same_row}
 use Rattle.parity_code.proofs.restoring.restore_column.Goals as goal
 

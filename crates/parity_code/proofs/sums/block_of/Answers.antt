@@ -1,4 +1,4 @@
-use Rattle.std.proofs.Common.{◌≡◌, ◌∙◌, ◌+◌, ap, sym, get_or, ℕ, List}
+use Rattle.std.proofs.Common.{◌∙◌, ◌+◌, ap, sym, get_or, ℕ, List}
 use Rattle.parity_code.proofs.ColumnLaws.{cell}
 use Rattle.parity_code.proofs.sums.block_of.Goals as goal
 

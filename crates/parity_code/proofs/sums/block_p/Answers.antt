@@ -1,4 +1,4 @@
-use Rattle.std.proofs.Common.{◌+◌, get_or, arith, ℕ, length, List}
+use Rattle.std.proofs.Common.{◌+◌, get_or, arith}
 use Rattle.parity_code.specs.Parity.{column}
 use Rattle.parity_code.proofs.ColumnLaws.{length_column}
 use Rattle.parity_code.proofs.ParityLaws.{p_next}

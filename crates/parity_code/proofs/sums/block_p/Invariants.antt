@@ -1,4 +1,4 @@
-use Rattle.std.proofs.Common.{ℕ, ◌+◌, drop}
+use Rattle.std.proofs.Common.{◌+◌, drop}
 use Rattle.gf256.specs.Lanes.{HasLanes}
 use Rattle.parity_code.specs.Parity.{column, p_of}
 use Rattle.parity_code.proofs.sums.block_p.Given as goal

@@ -1,4 +1,4 @@
-use Rattle.std.proofs.Common.{◌≡◌, ◌∙◌, ◌+◌, ◌-◌, ◌<◌, ◌≤◌, ap, get_or, drop, arith, ℕ, length, List}
+use Rattle.std.proofs.Common.{◌≡◌, ◌∙◌, ◌+◌, ◌-◌, ◌<◌, ◌≤◌, ap, get_or, drop, arith, ℕ, length}
 use Rattle.std.specs.Prelude.{bit_xor}
 use Rattle.parity_code.specs.Parity.{column}
 use Rattle.parity_code.proofs.ColumnLaws.{length_column}

@@ -1,7 +1,6 @@
-use Rattle.std.proofs.Common.{◌≡◌, ◌∙◌, ◌+◌, ◌-◌, ◌<◌, ◌≤◌, ap, sym, refl, get_or, drop, arith, ℕ, length, List}
+use Rattle.std.proofs.Common.{◌≡◌, ◌∙◌, ◌-◌, ◌≤◌, ap, sym, refl, get_or, drop, arith, ℕ, length, List}
 use Rattle.std.specs.Prelude.{bit_xor}
 use Rattle.std.proofs.lemmas.List.{length-map}
-use Rattle.gf256.specs.Field.{product}
 use Rattle.parity_code.specs.Parity.{column}
 use Rattle.parity_code.proofs.ColumnLaws.{cell}
 use Rattle.parity_code.proofs.ParityLaws.{AreBytes, p_next, q_next, bytes_next}

@@ -1,4 +1,4 @@
-use Rattle.std.proofs.Common.{◌≡◌, ◌+◌, ◌<◌, ◌≤◌, arith, length}
+use Rattle.std.proofs.Common.{arith}
 use Rattle.parity_code.proofs.StripeLaws.{rows_kept, rows_of_width}
 use Rattle.parity_code.proofs.tests.encoded.Goals as goal
 

@@ -1,5 +1,4 @@
-use Rattle.std.proofs.Common.{◌≡◌, ap, ◌∙◌, refl, get_or, ℕ}
-use Rattle.std.specs.Prelude.{bit_xor}
+use Rattle.std.proofs.Common.{◌∙◌, refl}
 use Rattle.parity_code.proofs.repair.RepairTables.block.Goals as goal
 
 pub returns : goal.returns
