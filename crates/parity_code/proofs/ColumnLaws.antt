@@ -4,6 +4,8 @@ use Rattle.std.specs.Prelude.{slice_get}
 use Rattle.std.specs.List.{All, refill}
 use Rattle.std.proofs.lemmas.Bool.{cases_lt}
 use Rattle.std.proofs.lemmas.List.{map-set, get_or-map, length-map, take-map, take-append-le, take_all}
+use Rattle.std.proofs.lemmas.Option.{slice_get-get_or, slice_get_past}
+use Rattle.std.proofs.lemmas.Grind.{same_number_lists}
 use Rattle.std.proofs.Math.ListN.{get_or-map as length_at}
 use Rattle.std.proofs.Math.Seq.{map-set_same}
 use Rattle.parity_code.specs.Parity.{column}
@@ -91,3 +93,15 @@ become_more m n end f old mid new e s t = record {
 
 pub become_none : (f : List ℕ → List ℕ) (rows : List (List ℕ)) → Become 0 0 f rows rows
 become_none f rows = record { shape = refl; inside = λ k lt. absurd (omega arith); below = λ k lt. refl; above = λ k le. refl }
+
+-- a row whose byte is the same in each column is the same row
+pub row_kept : (old new : List (List ℕ)) (j : ℕ) → map length new ≡ map length old → ((k : ℕ) → get_or (column new k) j 0 ≡ get_or (column old k) j 0) → slice_get new j ≡ slice_get old j
+row_kept old new j shape same = elim (cases_lt j (length old)) [
+  | inl there ↦
+      let count : length new ≡ length old = same_count old new shape in
+      let there_new : j < length new = omega arith in
+      let rows : get_or new j [] ≡ get_or old j [] = same_number_lists (get_or new j []) (get_or old j []) (same_row old new j [] shape) (λ k lt.
+      sym (cell new j k [] there_new) ∙ same k ∙ cell old j k [] there) in
+      slice_get-get_or new j [] there_new ∙ ap Some rows ∙ sym (slice_get-get_or old j [] there)
+  | inr past ↦ slice_get_past new j (omega (arith, same_count old new shape)) ∙ sym (slice_get_past old j past)
+]

@@ -13,7 +13,7 @@ use Rattle.parity_code.specs.Columns.{Stored, Become}
 use Rattle.parity_code.specs.Syndromes.{p_syndrome, q_syndrome}
 use Rattle.parity_code.specs.Repairs.{repaired, repaired_column, IsRepair, AreRepairs, HasParity, Restored}
 use Rattle.parity_code.proofs.ParityLaws.{AreBytes}
-use Rattle.parity_code.proofs.ColumnLaws.{length_column, same_count, same_row}
+use Rattle.parity_code.proofs.ColumnLaws.{row_kept, length_column, same_count, same_row}
 use Rattle.parity_code.proofs.RestoreLaws.{one_restored, two_restored, one_solved, two_solved}
 
 width_is : (rows : List (List ℕ)) → width_of rows ≡ get_or (map length rows) 0 0
@@ -91,12 +91,6 @@ up_to n f old new b k lt = let same : 0 + k ≡ k = omega arith in rw same at (b
 cleared : (x n : ℕ) (old new : List (List ℕ)) → Stored x 0 n (λ _. 0) old new → (k : ℕ) → k < n → column new k ≡ set (column old k) x 0
 cleared x n old new s k lt = let same : 0 + k ≡ k = omega arith in rw same at (s.inside k lt)
 
-agree_by : (lost : List ℕ) (old new : List (List ℕ)) (k : ℕ) → map length new ≡ map length old → ((j : ℕ) → ¬ Contains lost j → get_or (column new k) j 0 ≡ get_or (column old k) j 0) → AgreeOutside lost (column old k) (column new k)
-agree_by lost old new k shape same = record {
-  long = length_column old k ∙ sym (same_count old new shape) ∙ sym (length_column new k);
-  same = λ j none. sym (same j none);
-}
-
 -- the columns of rows of bytes are bytes
 column_bytes : (rows : List (List ℕ)) (k : ℕ) → All (λ row. (i : ℕ) → get_or row i 0 < 256) rows → AreBytes (column rows k)
 column_bytes rows k bytes = λ j d lt.
@@ -111,7 +105,7 @@ restored_by_one units x r old mid new parity bytes lt repair clear become =
     let shape : map length new ≡ map length old = become.shape ∙ clear.shape in
     record {
       shape = shape;
-      kept = λ k. agree_by (x ∷ []) old new k shape (λ j none.
+      kept = λ j none. row_kept old new j shape (λ k.
           let other : j ≢ x = not_first x j [] none in
           let not_row : j ≢ r.row = rw repair.row other in
           elim (cases_lt k (width_of old)) [
@@ -148,7 +142,7 @@ restored_by_two units x y r s old one mid new parity bytes rising lt two repairs
     cleared y (length (get_or one y [])) one mid clear_other k (omega arith) ∙ ap (λ (col : List ℕ). set col y 0) (cleared x (length (get_or old x [])) old one clear k (omega arith)) in
     record {
       shape = shape;
-      kept = λ k. agree_by (x ∷ (y ∷ [])) old new k shape (λ j none.
+      kept = λ j none. row_kept old new j shape (λ k.
           let other : j ≢ x = not_first x j (y ∷ []) none in
           let third : j ≢ y = not_second x y j [] none in
           let not_row : j ≢ r.row = rw repairs.row other in

@@ -1,6 +1,6 @@
 -- Lost rows as sums of multiples of the syndromes.
-use Rattle.std.specs.Prelude.{◌≡◌, ℕ, ◌+◌, ◌<◌, ◌≤◌, List, length, map, bit_xor, slice_set}
-use Rattle.std.specs.List.{All}
+use Rattle.std.specs.Prelude.{◌≡◌, ℕ, ◌+◌, ◌<◌, ◌≤◌, List, length, map, bit_xor, slice_get, slice_set}
+use Rattle.std.specs.List.{All, Contains}
 use Rattle.gf256.specs.Field.{product}
 use Rattle.gf256.specs.Tables.{HasProducts}
 use Rattle.parity_code.specs.declared.repair.Repair.{Repair}
@@ -66,6 +66,6 @@ pub record HasParity (units : ℕ) (rows : List (List ℕ)) : Type 0 where
 -- lost as there are rows of parity, every column is whole.
 pub record Restored (units : ℕ) (lost : List ℕ) (old new : List (List ℕ)) : Type 0 where
   pub shape : map length new ≡ map length old
-  pub kept : (k : ℕ) → AgreeOutside lost (column old k) (column new k)
+  pub kept : (j : ℕ) → ¬ Contains lost j → slice_get new j ≡ slice_get old j
   pub whole : (k : ℕ) (col : List ℕ) → k < width_of old → IsWhole units col → AgreeOutside lost col (column old k) → column new k ≡ col
   pub solved : length old ≡ units + length lost → (k : ℕ) → k < width_of old → HasNoSyndrome units (column new k)

@@ -1,6 +1,6 @@
 // Lost rows from the rows that are left.
-ghost use Rattle.std.specs.Prelude.{◌≡◌, ℕ, ◌-◌, ◌<◌, List, length, map, take, OnOk, OnErr};
-ghost use Rattle.std.specs.List.{All};
+ghost use Rattle.std.specs.Prelude.{◌≡◌, ℕ, ◌-◌, ◌<◌, List, length, map, take, slice_get, OnOk, OnErr};
+ghost use Rattle.std.specs.List.{All, Contains};
 ghost use Rattle.parity_code.specs.Parity.{column};
 ghost use Rattle.parity_code.specs.Codeword.{count_of, codeword, width_of, AreRows, AgreeOutside};
 ghost use Rattle.parity_code.specs.Decoding.{decoding, ArePositions};
@@ -21,7 +21,7 @@ pub fn decode(code: Code, rows: &mut Rows, lost: &[u32]) -> Result<(), CodeErr>
     ensures outcome { result ≡ decoding code lost.now }
     ensures refused { OnErr result (rows.new ≡ rows.old) }
     ensures shape { map length rows.new ≡ map length rows.old }
-    ensures kept { (k : ℕ) → AgreeOutside lost.now (column rows.old k) (column rows.new k) }
+    ensures kept { (j : ℕ) → ¬ Contains lost.now j → slice_get rows.new j ≡ slice_get rows.old j }
     ensures whole { OnOk result ((k : ℕ) (units : List ℕ) → k < width_of rows.old → All (λ d. d < 256) units
         → AgreeOutside lost.now (codeword code units) (column rows.old k)
         → column rows.new k ≡ codeword code units) }

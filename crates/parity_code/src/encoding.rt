@@ -1,5 +1,5 @@
 // The parity of a stripe from its data.
-ghost use Rattle.std.specs.Prelude.{◌≡◌, ℕ, ◌+◌, ◌-◌, ◌<◌, ◌≤◌, length, map, take};
+ghost use Rattle.std.specs.Prelude.{◌≡◌, ℕ, ◌+◌, ◌-◌, ◌<◌, ◌≤◌, length, map, take, slice_get};
 ghost use Rattle.std.specs.List.{All};
 ghost use Rattle.parity_code.specs.Parity.{column};
 ghost use Rattle.parity_code.specs.Codeword.{count_of, codeword, width_of, AreRows};
@@ -16,6 +16,7 @@ use osd_bytes::Rows;
 pub fn encode(code: Code, rows: &mut Rows)
     requires { AreRows code rows.old }
     ensures shape { map length rows.new ≡ map length rows.old }
+    ensures kept { (j : ℕ) → j < length rows.old - count_of code → slice_get rows.new j ≡ slice_get rows.old j }
     ensures coded { (k : ℕ) → k < width_of rows.old
         → column rows.new k ≡ codeword code (take (length rows.old - count_of code) (column rows.old k)) }
 {

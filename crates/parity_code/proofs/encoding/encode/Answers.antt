@@ -1,6 +1,7 @@
-use Rattle.std.proofs.Common.{suc, ◌≡◌, ◌∙◌, ◌+◌, ◌*◌, sym, arith}
+use Rattle.std.proofs.Common.{suc, ◌≡◌, ◌∙◌, ◌+◌, ◌-◌, ◌*◌, sym, arith}
 use Rattle.parity_code.specs.Codeword.{width_of}
 use Rattle.parity_code.proofs.ColumnLaws.{room_kept, width_at, become_more}
+use Rattle.parity_code.proofs.CodeLaws.{data_kept}
 use Rattle.parity_code.proofs.encoding.encode.Goals as goal
 
 pub encode_block-requires-clause-room : goal.encode_block-requires-clause-room
@@ -24,3 +25,6 @@ returns-clause-coded c = λ k lt.
     let width : width_of c.args.rows.now ≡ c.len-width.result = width_at c.args.rows.now _ c.get.ensures ∙ sym c.len-width.ensures in
     let same : 0 + k ≡ k = omega arith in
     rw (same, c.len.ensures, c.count.ensures) at (c.loop-k.invariant.inside k (omega arith))
+
+pub returns-clause-kept : goal.returns-clause-kept
+returns-clause-kept c = λ j lt. data_kept c.args.code (c.len.result - c.count.result) c.loop-k.k c.args.rows.now c.loop-k.rows (omega arith) c.loop-k.invariant j (omega arith)
