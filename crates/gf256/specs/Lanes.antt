@@ -7,11 +7,11 @@ pub record HasLanes (v : List ℕ) (f : ℕ → ℕ) : Type 0 where
   pub long : length v ≡ 64
   pub each : (k : ℕ) → k < 64 → slice_index v k ≡ f k
 
--- v holds c times each low half of a byte, twice
+-- v holds c times each low half of a byte, once in each 16 lanes
 abbrev pub HoldsLow : ℕ → List ℕ → Type 0
 HoldsLow c v = HasLanes v (λ k. product c (k % 16))
 
--- v holds c times each high half of a byte, twice
+-- v holds c times each high half of a byte, once in each 16 lanes
 abbrev pub HoldsHigh : ℕ → List ℕ → Type 0
 HoldsHigh c v = HasLanes v (λ k. product c (16 * (k % 16)))
 
