@@ -21,6 +21,9 @@ impl<T> Model for Sequence<T> {
 }
 
 impl<T: Drop> Sequence<T> {
+    ghost use Rattle.std.specs.Borrow.{sem};
+    ghost use Rattle.osd_bytes.specs.Lending.{LendsMember, LendsMembers};
+
     /// An empty list, which takes no memory.
     pub fn new(alloc: Global) -> Self
         ensures { result ≡ [] }
@@ -73,6 +76,23 @@ impl<T: Drop> Sequence<T> {
         ensures { result.now ≡ self.now }
     {
         self.items.as_slice()
+    }
+
+    /// Member `i`, from 0, to be written.
+    pub fn get_mut(&mut self, i: usize) -> &mut T
+        requires { i < length self.old }
+        ensures* writes_back { sem 𝓛 (LendsMember T.row self.entry i result) }
+        ensures value { slice_get self.old i ≡ Some result.now }
+    {
+        &mut self.items[i]
+    }
+
+    /// The members as a slice to be written.
+    pub fn as_mut_slice(&mut self) -> &mut [T]
+        ensures* writes_back { sem 𝓛 (LendsMembers T.row self.entry result) }
+        ensures value { result.now ≡ self.old }
+    {
+        self.items.as_mut_slice()
     }
 }
 

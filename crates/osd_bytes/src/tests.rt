@@ -50,3 +50,12 @@ fn a_sink_that_fails(rt: HostRuntime) -> Result<(), Fail> {
     assert_eq!(rt; sink.bytes(), b"abc".as_slice());
     Ok(())
 }
+
+#[test]
+fn members_are_written_in_place(rt: HostRuntime) -> Result<(), Fail> {
+    let mut rows = Rows::new(rt.alloc());
+    rows.push(Bytes::copied(rt.alloc(), b"abc")?)?;
+    rows.get_mut(0).as_mut_slice().fill(b'd');
+    assert_eq!(rt; rows.get(0).as_slice(), b"ddd".as_slice());
+    Ok(())
+}

@@ -1,0 +1,7 @@
+pub mod Computed
+pub mod Sums
+pub mod Product
+pub mod Laws
+pub mod Halves
+pub mod LaneLaws
+pub mod Blocks

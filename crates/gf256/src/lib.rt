@@ -1,0 +1,19 @@
+//! The field of 256 elements that RAID P+Q computes in.
+//!
+//! A byte is a polynomial over bits. The sum of two elements is their XOR, and the product that of
+//! polynomials, reduced by `x^8 + x^4 + x^3 + x^2 + 1` (Anvin, The mathematics of RAID-6). The powers
+//! of 2 run through all elements but 0. No call takes memory.
+#![tactic(auto)]
+
+mod elements;
+pub mod lanes;
+mod scaling;
+mod summing;
+mod tables;
+
+pub use elements::{inverse, mul, power};
+pub use scaling::add_scaled;
+pub use summing::add;
+
+#[cfg(test)]
+mod tests;

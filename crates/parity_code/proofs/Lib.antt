@@ -1,0 +1,9 @@
+pub mod ColumnLaws
+pub mod ParityLaws
+pub mod CodeLaws
+pub mod SyndromeLaws
+pub mod RepairLaws
+pub mod RestoreLaws
+pub mod StripeLaws
+pub mod DecodeLaws
+pub mod DeltaLaws
