@@ -4,7 +4,8 @@ use Rattle.std.specs.Prelude.{position, slice_range}
 use Rattle.std.specs.Option.{option_map, option_or}
 use Rattle.std.specs.Int.{w16, w32, w64, to_be_bytes, from_be_bytes}
 use Rattle.std.specs.List.{position_from}
-use Rattle.std.proofs.lemmas.List.{take-append-drop, length-take, length-drop, get_or-drop, get_or-take, get_or_past, drop-drop}
+use Rattle.std.proofs.Math.Seq.{take-add}
+use Rattle.std.proofs.lemmas.List.{take-append-drop, length-take, length-drop, get_or-drop, get_or-take, get_or_past, drop-drop, drop-append-le, take-append-le}
 use Rattle.std.proofs.lemmas.Nat.{be_bytes_2, be_bytes_4, be_bytes_8}
 use Rattle.std.proofs.lemmas.Bool.{cases_lt}
 use Rattle.std.proofs.lemmas.Bool.Decides.{eqb_tells}
@@ -26,6 +27,18 @@ pub next : (xs : List ℕ) (a b : ℕ) (field rest : List ℕ) → a ≤ b → f
 next xs a b field rest le p q =
     let there : a + (b - a) ≡ b = omega arith in
     rw (p, q) (rw (drop-drop, there) at (take-append-drop (b - a) (drop a xs)))
+
+-- a field and what follows it up to a place are what stands there
+pub joined : (xs : List ℕ) (a b c : ℕ) (field rest : List ℕ) → a ≤ b → b ≤ c → field ≡ slice_range xs a b → rest ≡ slice_range xs b c → field ++ rest ≡ slice_range xs a c
+joined xs a b c field rest first second p q =
+    let there : a + (b - a) ≡ b = omega arith in
+    let whole : (b - a) + (c - b) ≡ c - a = omega arith in
+    let cut = take-add (b - a) (c - b) (drop a xs) in
+    rw (p, q) (sym (rw (drop-drop, there, whole) at cut))
+
+-- what follows changes nothing
+pub slice_range-append : (xs ys : List ℕ) (a b : ℕ) → a ≤ b → b ≤ length xs → slice_range (xs ++ ys) a b ≡ slice_range xs a b
+slice_range-append xs ys a b le within = rw (drop-append-le a xs ys (omega arith)) (take-append-le (b - a) (drop a xs) ys (omega (arith, length-drop a xs)))
 
 -- ---- bytes that must be 0
 
