@@ -85,3 +85,11 @@ reading-found bytes (Err f) fits e = tt
 pub reading-spelling : (c : Capability) → Fits c → reading (spelling c) ≡ Ok c
 unfolding reading spelling stray capability_at
 reading-spelling c h = rw (h.format, from_be_bytes-to_be_bytes_2 c.key_version h.key_version, from_be_bytes-to_be_bytes_4 c.rights h.rights, from_be_bytes-to_be_bytes_8 c.expiry h.expiry, from_be_bytes-to_be_bytes_4 c.grant h.grant, from_be_bytes-to_be_bytes_4 c.holder h.holder, from_be_bytes-to_be_bytes_4 c.tag h.tag, from_be_bytes-to_be_bytes_8 c.partition h.partition, from_be_bytes-to_be_bytes_8 c.object h.object, from_be_bytes-to_be_bytes_8 c.range_start h.range_start, from_be_bytes-to_be_bytes_8 c.range_len h.range_len) refl
+
+pub length-spelling : (c : Capability) → length (spelling c) ≡ 96
+unfolding spelling
+length-spelling c = refl
+
+pub spelling-format : (c : Capability) → get_or (spelling c) 0 0 ≡ c.format
+unfolding spelling
+spelling-format c = refl

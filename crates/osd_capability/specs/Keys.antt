@@ -10,6 +10,11 @@ use Rattle.osd_capability.specs.Layout.{spelling}
 abbrev pub key_of : List ℕ → Capability → CapKey
 key_of key c = if nat_eq c.format 2 then Two (hmac_sha256 key (spelling c)) else One (hmac_sha1 key (spelling c))
 
+-- the format of the capabilities that a key belongs to
+abbrev pub format_of : CapKey → ℕ
+format_of (One key) = 1
+format_of (Two key) = 2
+
 -- HMAC of the text, over the hash of the key's format, in a place of 32 bytes
 abbrev pub check_of : CapKey → List ℕ → List ℕ
 check_of (One key) text = hmac_sha1 key text ++ replicate 12 0

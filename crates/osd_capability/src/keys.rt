@@ -1,5 +1,6 @@
-ghost use Rattle.std.specs.Prelude.{◌≡◌, ◌++◌, replicate};
-ghost use Rattle.osd_capability.specs.Keys.{key_of, check_of};
+ghost use Rattle.std.specs.Prelude.{◌≡◌, ◌++◌, replicate, IsTrue};
+ghost use Rattle.osd_capability.specs.Layout.{is_format};
+ghost use Rattle.osd_capability.specs.Keys.{key_of, check_of, format_of};
 
 use crate::layout::Capability;
 use hmac_tags::{Hmac, Hmac256};
@@ -16,7 +17,8 @@ pub enum CapKey {
 /// The key of a capability under a drive's key, of the variant of the capability's format: an
 /// HMAC (RFC 2104) of its 96 bytes.
 pub fn capability_key(key: &[u8; 20], c: &Capability) -> CapKey
-    ensures { result ≡ key_of key.now c.now }
+    ensures key { result ≡ key_of key.now c.now }
+    ensures format { IsTrue (is_format c.now.format) → format_of result ≡ c.now.format }
 {
     if c.format == 2 {
         let mut tag = Hmac256::new(key);

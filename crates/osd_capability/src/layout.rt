@@ -9,6 +9,22 @@ use thiserror::Error;
 pub const CAPABILITY_BYTES: usize = 96;
 
 /// What a holder may do with an object, until when, and under which policy access tag.
+///
+/// | place | size | field |
+/// |---|---|---|
+/// | 0 | 1 | format |
+/// | 2 | 2 | key version |
+/// | 4 | 4 | rights |
+/// | 8 | 8 | expiry |
+/// | 16 | 4 | grant |
+/// | 20 | 4 | holder |
+/// | 24 | 4 | tag |
+/// | 32 | 8 | partition |
+/// | 40 | 8 | object |
+/// | 48 | 8 | range start |
+/// | 56 | 8 | range length |
+///
+/// Numbers are big-endian. The bytes between, and from 64 on, are 0.
 #[derive(Clone, Copy, Debug, PartialEq, Eq)]
 pub struct Capability {
     /// 1 for check values over SHA-1, 2 for SHA-256.
@@ -115,6 +131,7 @@ impl Capability {
     /// gives it back.
     pub fn to_bytes(&self) -> [u8; CAPABILITY_BYTES]
         ensures spelled { result ≡ spelling self.now }
+        ensures fits { IsTrue (is_format self.now.format) → Fits self.now }
         ensures read_back { IsTrue (is_format self.now.format) → reading result ≡ Ok self.now }
     {
         write(self)
