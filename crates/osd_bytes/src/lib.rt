@@ -1,7 +1,8 @@
 //! Lists, and the ends through which bytes come from the outside and go to it.
 //!
 //! Every other crate stands on this one. It has the list types that contracts see as plain lists,
-//! the traits [`Source`] and [`Sink`] with ends in memory, and the reading of lines.
+//! the traits [`Source`] and [`Sink`] with ends in memory, the reading of lines, and fields at fixed
+//! places of a block of bytes.
 #![tactic(auto)]
 
 mod lines;
