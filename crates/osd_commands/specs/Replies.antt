@@ -22,7 +22,7 @@ spelling r = fields r ++ r.payload
 
 -- ---- what is read
 
--- A reply has an action's number, or 0 where the bytes spelled no command; 15, a command that was performed before, is answered by its kept reply and stands in none.
+-- A verdict's number. A command that was performed before, 15, is answered by its kept reply, so no reply has that.
 abbrev pub is_verdict : ℕ → Bool
 is_verdict n = nat_le n 17 && not (nat_eq n 15)
 

@@ -130,6 +130,7 @@ fn fields_of(c: &Command) -> [u8; 64]
     put_u64(&mut out, 32, c.length);
     put_u64(&mut out, 40, c.nonce);
     put_u32(&mut out, 48, c.attribute);
+    // The low four bytes: no command has a payload of 2^32 bytes or more.
     put_at(&mut out, 56, &c.payload.len().to_be_bytes()[4..]);
     out
 }
@@ -146,6 +147,9 @@ pub fn head_of(c: &Command) -> [u8; HEAD]
 }
 
 /// The one spelling of a command.
+///
+/// It is read back where the command keeps what its type doesn't: format 1 or 2, a payload that the
+/// action allows and that has less than 2^32 bytes, and zeros behind a check value of format 1.
 ///
 /// # Errors
 ///

@@ -59,11 +59,15 @@ fn fields_of(r: &Reply) -> [u8; BLOCK]
     put_u64(&mut out, 8, r.object);
     put_u64(&mut out, 16, r.nonce);
     put_u64(&mut out, 24, r.detail);
+    // The low four bytes: no reply has a payload of 2^32 bytes or more.
     put_at(&mut out, 32, &r.payload.len().to_be_bytes()[4..]);
     out
 }
 
 /// The one spelling of a reply.
+///
+/// It is read back where the reply keeps what its type doesn't: an action up to 6, a verdict up to
+/// 17 that isn't 15, and a payload that such a reply may have, of less than 2^32 bytes.
 ///
 /// # Errors
 ///

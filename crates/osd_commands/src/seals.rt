@@ -13,7 +13,8 @@ fn check_under(cap_key: &CapKey, c: &Command) -> [u8; 32]
     check_value(cap_key, &head_of(c)[..BLOCK - size], c.payload.as_slice())
 }
 
-/// Gives a command its check value under the key of its capability (RFC 2104).
+/// Gives a command its check value under the key of its capability (RFC 2104). The key must be of
+/// the capability's format.
 pub fn seal(c: &mut Command, cap_key: &CapKey)
     requires { format_of cap_key.now ≡ c.old.capability.format }
     ensures sealed { c.new ≡ record c.old { check = check_of cap_key.now (head c.old ++ c.old.payload) } }
