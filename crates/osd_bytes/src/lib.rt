@@ -1,7 +1,8 @@
 //! Lists, and the ends through which bytes come from the outside and go to it.
 //!
 //! Every other crate stands on this one. It has the list types that contracts see as plain lists,
-//! the traits [`Source`] and [`Sink`] with ends in memory, and the reading of lines.
+//! the traits [`Source`] and [`Sink`] with ends in memory, the reading of lines, and fields at fixed
+//! places of a block of bytes.
 #![tactic(auto)]
 
 mod lines;
@@ -10,6 +11,7 @@ mod mem;
 mod memory;
 mod node;
 mod overwrite;
+mod places;
 mod put;
 mod sequence;
 mod sink;
@@ -20,6 +22,7 @@ pub use lists::{ByteLists, Bytes, Numbers, Rows, Times};
 pub use mem::{MemSink, MemSource};
 pub use memory::Memory;
 pub use node::Node;
+pub use places::{first_nonzero_in, put_at, put_u16, put_u32, put_u64, u16_at, u32_at, u64_at};
 pub use put::{PutErr, put_all};
 pub use sequence::Sequence;
 pub use sink::Sink;

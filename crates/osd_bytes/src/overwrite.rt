@@ -2,14 +2,7 @@ ghost use Rattle.std.specs.Prelude.{◌≡◌, ◌<◌, ◌≤◌, ◌+◌, ◌-
 ghost use Rattle.osd_bytes.specs.Overwrite.{overwritten};
 
 use crate::memory::Memory;
-
-// Copies `new` over the bytes of `all` from `at` on.
-fn paste(all: &mut [u8], at: usize, new: &[u8])
-    requires { at + length new.now ≤ length all.old }
-    ensures { all.new ≡ take at all.old ++ (new.now ++ drop (at + length new.now) all.old) }
-{
-    all[at..at + new.len()].copy_from_slice(new);
-}
+use crate::places::put_at;
 
 /// Adds zeros up to a length, where the vector is shorter. Where there is no memory it is as before.
 pub fn grow(bytes: &mut Vec<u8>, end: usize) -> Result<(), Memory>
@@ -31,6 +24,6 @@ pub fn overwrite(old: &mut Vec<u8>, offset: usize, new: &[u8]) -> Result<(), Mem
     ensures err { OnErr result (old.new.items ≡ old.old.items) }
 {
     grow(old, offset + new.len())?;
-    paste(old, offset, new);
+    put_at(old, offset, new);
     Ok(())
 }

@@ -1,4 +1,4 @@
-use Rattle.std.proofs.Common.{rules, arith, refl, append_assoc, ◌≡◌, ◌+◌, ◌++◌, length, ◌∷◌, []}
+use Rattle.std.proofs.Common.{rules, arith, refl, ◌∷◌, []}
 use Rattle.std.proofs.lemmas.List.{append-nil, length-append}
 use Rattle.osd_bytes.proofs.Known.{SeesEnd-then}
 use Rattle.osd_bytes.proofs.NextLine.{not_equal, Consumes-then, NoNewline-push, is_full, is_line, is_last, is_long}

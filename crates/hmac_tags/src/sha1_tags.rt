@@ -1,0 +1,60 @@
+ghost use Rattle.std.specs.Prelude.{◌≡◌, ℕ, List, [], ◌++◌};
+ghost use Rattle.sha1.specs.Sha1.{sha1};
+ghost use Rattle.hmac_tags.specs.Mac.{hmac_sha1, key_of, zero_filled};
+
+use crate::block::{BLOCK, filled, xored};
+use sha1::Sha1;
+
+// The block of a key. One that is longer than a block is replaced by its hash.
+fn key_block(key: &[u8]) -> [u8; BLOCK]
+    ensures { result ≡ zero_filled (key_of sha1 key.now) }
+{
+    if key.len() > BLOCK {
+        filled(&Sha1::digest(key))
+    } else {
+        filled(key)
+    }
+}
+
+/// HMAC-SHA1 (RFC 2104) in the making: the text comes in pieces.
+#[derive(Drop)]
+pub struct Hmac {
+    inner: Sha1,
+    outer: [u8; BLOCK],
+}
+
+impl Hmac {
+    ghost use Rattle.hmac_tags.specs.InTheMaking.{Holds};
+
+    /// Begins with a key of any length and the empty text.
+    pub fn new(key: &[u8]) -> Self
+        ensures { Holds result key.now [] }
+    {
+        let block = key_block(key);
+        let mut inner = Sha1::new();
+        inner.update(&xored(&block, 0x36));
+        Hmac {
+            inner,
+            outer: xored(&block, 0x5c),
+        }
+    }
+
+    /// Goes on with the text.
+    pub fn update(&mut self, bytes: &[u8])
+        ensures { (key text : List ℕ) → Holds self.old key text → Holds self.new key (text ++ bytes.now) }
+    {
+        self.inner.update(bytes);
+    }
+
+    /// The tag of the whole text under the key.
+    pub fn finish(self) -> [u8; 20]
+        ensures { (key text : List ℕ) → Holds self key text → result ≡ hmac_sha1 key text }
+    {
+        let Hmac { inner, outer } = self;
+        let first = inner.finalize();
+        let mut last = Sha1::new();
+        last.update(&outer);
+        last.update(&first);
+        last.finalize()
+    }
+}

@@ -1,0 +1,4 @@
+pub mod Passing
+pub mod Writing
+pub mod CommandLaws
+pub mod ReplyLaws

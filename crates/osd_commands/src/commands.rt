@@ -1,0 +1,280 @@
+ghost use Rattle.std.specs.Prelude.{◌≡◌, ℕ, List, [], ◌≤◌, ◌<◌, ◌^◌, ◌-◌, ◌++◌, length, slice_range, replicate, nat_eq, ◌&&◌, IsTrue, IfOk, IfSome, Ok};
+ghost use Rattle.std.specs.Int.{w32, w64, from_be_bytes};
+ghost use Rattle.osd_capability.specs.Layout.{spelling as capability_bytes, is_format};
+ghost use Rattle.osd_commands.specs.declared.commands.Command.{Command as Cmd};
+ghost use Rattle.osd_commands.specs.Commands.{fields, spelling, reading, stray, allows, sized, command_at, check_len, NumbersFit, Fits, IsWhole, ReadsAs};
+
+use crate::actions::Action;
+use osd_bytes::{
+    Bytes, Memory, first_nonzero_in, put_at, put_u16, put_u32, put_u64, u16_at, u32_at, u64_at,
+};
+use osd_capability::{CAPABILITY_BYTES, CapErr, Capability};
+use std::alloc::Global;
+use thiserror::Error;
+
+/// `OSD2`.
+const MAGIC: u32 = 0x4f53_4432;
+
+/// The bytes of a command before its payload.
+pub const BLOCK: usize = 256;
+
+// The most bytes before the check value: those of format 1.
+const HEAD: usize = 236;
+
+/// What a holder of a capability asks of a drive.
+///
+/// | place | size | field |
+/// |---|---|---|
+/// | 0 | 4 | `OSD2` |
+/// | 4 | 2 | action |
+/// | 8 | 8 | partition |
+/// | 16 | 8 | object |
+/// | 24 | 8 | offset |
+/// | 32 | 8 | length |
+/// | 40 | 8 | nonce |
+/// | 48 | 4 | attribute |
+/// | 56 | 4 | length of the payload |
+/// | 64 | 96 | capability |
+/// | 236, in format 2 224 | 20, in format 2 32 | check value |
+/// | 256 | | payload |
+///
+/// The bytes between are 0. The payload of a WRITE has `length` bytes. A CREATE and a SET ATTR have
+/// one of any length, and `length` 0. The others have none.
+#[derive(Debug, Drop, PartialEq)]
+pub struct Command {
+    pub action: Action,
+    /// The partition of the object.
+    pub partition: u64,
+    /// The number of the object.
+    pub object: u64,
+    /// The first byte to read or write. It means nothing in other actions.
+    pub offset: u64,
+    /// How many bytes to read or write.
+    pub length: u64,
+    /// A number by which a reply is known, and in order of which a holder's changes are made.
+    pub nonce: u64,
+    /// The number of the attribute to get or set. It means nothing in other actions.
+    pub attribute: u32,
+    pub capability: Capability,
+    /// The bytes to write, the value of the attribute, or the label of a new object.
+    pub payload: Bytes,
+    /// The check value. In format 1 it has 20 bytes, and the last 12 of the 32 are 0.
+    pub check: [u8; 32],
+}
+
+/// Why bytes spell no command, or no reply. The first that applies is given, in this order.
+#[derive(Clone, Copy, Debug, PartialEq, Eq, Error)]
+pub enum CommandErr {
+    /// The bytes end inside the block.
+    #[error("the bytes end inside the block")]
+    Short,
+    /// The first four bytes are others.
+    #[error("the first four bytes are others")]
+    Magic,
+    /// There is no action, or in a reply no verdict, of this number.
+    #[error("{value} is no action and no verdict")]
+    BadAction { value: u16 },
+    /// The byte at this place, the first such, must be 0 and isn't.
+    #[error("byte {at} is reserved")]
+    Reserved { at: u32 },
+    /// The capability is none.
+    #[error("the capability is none")]
+    BadCapability(CapErr),
+    /// The payload, of this many bytes, isn't as long as is stated or the action allows.
+    #[error("the payload has {bytes} bytes")]
+    Length { bytes: u64 },
+    /// There is no memory for the payload.
+    #[error("no memory for the payload")]
+    Memory,
+}
+
+impl From<CapErr> for CommandErr {
+    ghost use Rattle.osd_commands.specs.declared.commands.CommandErr.TheVariants.{BadCapability};
+
+    ghost from_gives = { λ cause e. e ≡ BadCapability cause };
+
+    fn from(cause: CapErr) -> Self {
+        CommandErr::BadCapability(cause)
+    }
+}
+
+impl From<Memory> for CommandErr {
+    ghost use Rattle.osd_commands.specs.declared.commands.CommandErr.TheVariants.{Memory};
+
+    ghost from_gives = { λ _ e. e ≡ Memory };
+
+    fn from(_: osd_bytes::Memory) -> Self {
+        CommandErr::Memory
+    }
+}
+
+// How many bytes the check value has in a format. An unknown format is taken as 1.
+pub fn check_len(format: u8) -> usize
+    ensures { result ≡ check_len format }
+{
+    if format == 2 { 32 } else { 20 }
+}
+
+// The block before the capability.
+#[tactic(auto, unfolding(crate::specs::Commands::fields))]
+fn fields_of(c: &Command) -> [u8; 64]
+    ensures written { result ≡ fields c.now }
+    ensures fits { NumbersFit c.now }
+{
+    let mut out = [0u8; 64];
+    put_u32(&mut out, 0, MAGIC);
+    put_u16(&mut out, 4, c.action.number());
+    put_u64(&mut out, 8, c.partition);
+    put_u64(&mut out, 16, c.object);
+    put_u64(&mut out, 24, c.offset);
+    put_u64(&mut out, 32, c.length);
+    put_u64(&mut out, 40, c.nonce);
+    put_u32(&mut out, 48, c.attribute);
+    // The low four bytes: no command has a payload of 2^32 bytes or more.
+    put_at(&mut out, 56, &c.payload.len().to_be_bytes()[4..]);
+    out
+}
+
+// The block before the check value, and zeros to 236 bytes.
+pub fn head_of(c: &Command) -> [u8; HEAD]
+    ensures written { result ≡ fields c.now ++ (capability_bytes c.now.capability ++ replicate 76 0) }
+    ensures fits { IsWhole c.now → Fits c.now }
+{
+    let mut out = [0u8; HEAD];
+    put_at(&mut out, 0, &fields_of(c));
+    put_at(&mut out, 64, &c.capability.to_bytes());
+    out
+}
+
+/// The one spelling of a command.
+///
+/// It is read back where the command keeps what its type doesn't: format 1 or 2, a payload that the
+/// action allows and that has less than 2^32 bytes, and zeros behind a check value of format 1.
+///
+/// # Errors
+///
+/// Want of memory alone.
+pub fn write_command(alloc: Global, c: &Command) -> Result<Bytes, Memory>
+    ensures spelled { IfOk result (λ bytes. bytes ≡ spelling c.now) }
+    ensures read_back { IfOk result (λ bytes. IsWhole c.now → reading bytes ≡ Ok c.now) }
+{
+    let size = check_len(c.capability.format);
+    let mut bytes = Bytes::copied(alloc, &head_of(c)[..BLOCK - size])?;
+    bytes.extend_from_slice(&c.check[..size])?;
+    bytes.extend_from_slice(c.payload.as_slice())?;
+    Ok(bytes)
+}
+
+// The first place that must be 0 and isn't.
+#[tactic(auto, unfolding(crate::specs::Commands::stray))]
+fn stray_in(bytes: &[u8]) -> Option<usize>
+    requires { 256 ≤ length bytes.now }
+    ensures found { result ≡ stray bytes.now }
+    ensures bound { IfSome result (λ at. at < 256) }
+{
+    first_nonzero_in(bytes, 6, 8)
+        .or(first_nonzero_in(bytes, 52, 56))
+        .or(first_nonzero_in(bytes, 60, 64))
+        .or(first_nonzero_in(bytes, 160, BLOCK - check_len(bytes[64])))
+}
+
+// Whether an action may have a payload of this length.
+fn allows_payload(action: Action, length: u64, payload: u64) -> bool
+    ensures { result ≡ allows action length payload }
+{
+    match action {
+        Action::Create | Action::SetAttr => length == 0,
+        Action::Write => payload == length,
+        Action::Read | Action::GetAttr | Action::SetTag => payload == 0,
+    }
+}
+
+// Whether a payload is as long as is stated and the action allows.
+fn is_sized(bytes: &[u8], action: Action, payload: u64) -> bool
+    requires { 256 ≤ length bytes.now }
+    ensures { result ≡ (nat_eq (from_be_bytes w32 (slice_range bytes.now 56 60)) payload && allows action (from_be_bytes w64 (slice_range bytes.now 32 40)) payload) }
+{
+    u64::from(u32_at(bytes, 56)) == payload && allows_payload(action, u64_at(bytes, 32), payload)
+}
+
+// The check value of a block, with zeros to 32 bytes.
+fn check_at(bytes: &[u8], format: u8) -> [u8; 32]
+    requires { 256 ≤ length bytes.now }
+    ensures { result ≡ slice_range bytes.now (256 - check_len format) 256 ++ replicate (32 - check_len format) 0 }
+{
+    let size = check_len(format);
+    let mut check = [0u8; 32];
+    check[..size].copy_from_slice(&bytes[BLOCK - size..BLOCK]);
+    check
+}
+
+// The last test, and the command.
+#[tactic(auto, unfolding(crate::specs::Commands::command_at))]
+fn sized_command(
+    alloc: Global,
+    bytes: &[u8],
+    action: Action,
+    capability: Capability,
+) -> Result<Command, CommandErr>
+    requires { 256 ≤ length bytes.now }
+    ensures { ReadsAs result (sized bytes.now (command_at action capability bytes.now)) }
+{
+    let (_, payload) = bytes.split_at(BLOCK);
+    let size = payload.len() as u64;
+    if !is_sized(bytes, action, size) {
+        return Err(CommandErr::Length { bytes: size });
+    }
+    Ok(Command {
+        action,
+        partition: u64_at(bytes, 8),
+        object: u64_at(bytes, 16),
+        offset: u64_at(bytes, 24),
+        length: u64_at(bytes, 32),
+        nonce: u64_at(bytes, 40),
+        attribute: u32_at(bytes, 48),
+        capability,
+        payload: Bytes::copied(alloc, payload)?,
+        check: check_at(bytes, capability.format),
+    })
+}
+
+// The command, or the first refusal.
+#[tactic(auto, unfolding(crate::specs::Commands::reading))]
+fn read(alloc: Global, bytes: &[u8]) -> Result<Command, CommandErr>
+    ensures { ReadsAs result (reading bytes.now) }
+{
+    if bytes.len() < BLOCK {
+        return Err(CommandErr::Short);
+    }
+    if u32_at(bytes, 0) != MAGIC {
+        return Err(CommandErr::Magic);
+    }
+    let value = u16_at(bytes, 4);
+    let Some(action) = Action::from_number(value) else {
+        return Err(CommandErr::BadAction { value });
+    };
+    if let Some(at) = stray_in(bytes) {
+        return Err(CommandErr::Reserved { at: at as u32 });
+    }
+    let capability = Capability::from_bytes(&bytes[64..160])?;
+    sized_command(alloc, bytes, action, capability)
+}
+
+/// The command that the bytes spell.
+///
+/// # Errors
+///
+/// The first of [`CommandErr`] that applies, in its order. A byte that must be 0 in format 1 alone
+/// is judged as in format 1 where the capability's format is unknown.
+pub fn read_command(alloc: Global, bytes: &[u8]) -> Result<Command, CommandErr>
+    // What is read is spelled so.
+    ensures found { IfOk result (λ c. Fits c × (bytes.now ≡ spelling c)) }
+    // What is spelled so is read.
+    ensures only { (c : Cmd) → Fits c → bytes.now ≡ spelling c → ReadsAs result (Ok c) }
+    // No command's bytes begin another's.
+    ensures alone { IfOk result (λ _. (d : Cmd) (rest : List ℕ) → Fits d → spelling d ≡ bytes.now ++ rest → rest ≡ []) }
+    // Which refusal it is.
+    ensures exact { ReadsAs result (reading bytes.now) }
+{
+    read(alloc, bytes)
+}

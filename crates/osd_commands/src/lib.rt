@@ -1,0 +1,20 @@
+//! The commands of the object drives and their replies, as bytes.
+//!
+//! A command is a block of 256 bytes and a payload, a reply one of 40 bytes and a payload; numbers
+//! are big-endian. The layouts are this project's own profile of the idea of T10's OSD-2. A command
+//! carries a capability and a check value: [`seal`] makes it, and [`holds`] tells whether it is
+//! right under a drive's key.
+#![tactic(auto)]
+
+mod actions;
+mod commands;
+mod replies;
+mod seals;
+
+pub use actions::Action;
+pub use commands::{Command, CommandErr, read_command, write_command};
+pub use replies::{Reply, read_reply, write_reply};
+pub use seals::{holds, seal};
+
+#[cfg(test)]
+mod tests;

@@ -1,0 +1,35 @@
+ghost use Rattle.std.specs.Prelude.{◌≡◌, ◌++◌, ◌↔◌, ℕ, List, IsTrue};
+ghost use Rattle.osd_capability.specs.Keys.{check_of, format_of, key_of};
+ghost use Rattle.osd_commands.specs.Commands.{head, Holds, IsCheck};
+
+use crate::commands::{BLOCK, Command, check_len, head_of};
+use osd_capability::{CapKey, capability_key, check_value};
+
+// The check value of a command under a key.
+fn check_under(cap_key: &CapKey, c: &Command) -> [u8; 32]
+    ensures { result ≡ check_of cap_key.now (head c.now ++ c.now.payload) }
+{
+    let size = check_len(c.capability.format);
+    check_value(cap_key, &head_of(c)[..BLOCK - size], c.payload.as_slice())
+}
+
+/// Gives a command its check value under the key of its capability (RFC 2104). The key must be of
+/// the capability's format.
+pub fn seal(c: &mut Command, cap_key: &CapKey)
+    requires { format_of cap_key.now ≡ c.old.capability.format }
+    ensures sealed { c.new ≡ record c.old { check = check_of cap_key.now (head c.old ++ c.old.payload) } }
+
+    // Under the drive's key that the capability's was made with, the check value is right.
+    ensures holds { (key : List ℕ) → cap_key.now ≡ key_of key c.old.capability → Holds key c.new }
+    ensures check { IsCheck c.new.capability.format c.new.check }
+{
+    c.check = check_under(cap_key, c);
+}
+
+/// Whether the check value of a command is the one that the drive's key gives.
+pub fn holds(key: &[u8; 20], c: &Command) -> bool
+    ensures { IsTrue result ↔ Holds key.now c.now }
+{
+    let check = check_under(&capability_key(key, &c.capability), c);
+    check.as_slice() == c.check.as_slice()
+}
