@@ -9,3 +9,6 @@ mod map;
 
 pub use check::{MAX_COMPONENTS, MAX_STRIPE_UNIT, MAX_WIDTH, MapErr, RawMap};
 pub use map::{DataMap, Place};
+
+#[cfg(test)]
+mod tests;
