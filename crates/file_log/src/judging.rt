@@ -39,7 +39,11 @@ fn next_values(values: &mut Vec<u8>, entry: &Entry, position: u128) -> Result<()
             offset,
             bytes,
             acknowledged,
-        } => take_byte(values, byte_at(*offset, bytes.as_slice(), position), *acknowledged),
+        } => take_byte(
+            values,
+            byte_at(*offset, bytes.as_slice(), position),
+            *acknowledged,
+        ),
         Entry::Read {
             offset,
             answer: Some(bytes),
@@ -77,7 +81,13 @@ fn raised(alloc: Global, sizes: &[u128], end: u128) -> Result<Vec<u128>, Memory>
 }
 
 // The sizes at which a range gives so many bytes.
-fn fitting(alloc: Global, sizes: &[u128], offset: u64, length: u64, count: usize) -> Result<Vec<u128>, Memory>
+fn fitting(
+    alloc: Global,
+    sizes: &[u128],
+    offset: u64,
+    length: u64,
+    count: usize,
+) -> Result<Vec<u128>, Memory>
     ensures { IfOk result (λ fitting. fitting.items ≡ filter (λ size. given offset length size == count) sizes.now) }
 {
     let fitting = sizes
@@ -163,7 +173,13 @@ fn has_bytes(alloc: Global, log: &[Entry], offset: u64, answer: &[u8]) -> Result
 }
 
 // Whether the answer of a read finds what it needs.
-fn finds(alloc: Global, log: &[Entry], offset: u64, length: u64, answer: &[u8]) -> Result<bool, Memory>
+fn finds(
+    alloc: Global,
+    log: &[Entry],
+    offset: u64,
+    length: u64,
+    answer: &[u8],
+) -> Result<bool, Memory>
     ensures { IfOk result (λ found. IsTrue found ↔ Finds (candidates log.now) offset length answer.now) }
 {
     let sizes = sizes_at(alloc, log)?;

@@ -12,3 +12,6 @@ mod judging;
 
 pub use entry::Entry;
 pub use judging::judge;
+
+#[cfg(test)]
+mod tests;

@@ -146,43 +146,43 @@ stored_nothing drives file offset stands = record {
 
 -- a component of which the range gets longer by a part on another component
 reaches_beside : (file : StripedFile) (offset len more k before after : ℕ) → ((l : ℕ) → offset + len ≤ l → l < offset + (len + more) → (place_of file.map l).position ≡ k → ⊥) →
-  Reaches file offset len k before after → Reaches file offset (len + more) k before after
+    Reaches file offset len k before after → Reaches file offset (len + more) k before after
 reaches_beside file offset len more k before after other r = record {
-    longer = r.longer;
-    covered = λ l on. elim (cases_lt l (offset + len)) [
-        inl old ↦ r.covered l (on.0, old, on.2)
-        | inr new ↦ absurd (other l new on.1 on.2)
-      ];
-    least = elim r.least [
-        inl same ↦ inl same
-        | inr last ↦ inr (last.0, (last.1.0, omega (arith, last.1.1), last.1.2), last.2)
-      ];
-  }
+  longer = r.longer;
+  covered = λ l on. elim (cases_lt l (offset + len)) [
+    | inl old ↦ r.covered l (on.0, old, on.2)
+    | inr new ↦ absurd (other l new on.1 on.2)
+  ];
+  least = elim r.least [
+    | inl same ↦ inl same
+    | inr last ↦ inr (last.0, (last.1.0, omega (arith, last.1.1), last.1.2), last.2)
+  ];
+}
 
 -- a component of which the range gets longer by a part on it
 reaches_on : (file : StripedFile) (offset len more k before middle : ℕ) → IsFormed file → 0 < more → more ≤ left_in_unit file.map (offset + len) → (place_of file.map (offset + len)).position ≡ k →
-  Reaches file offset len k before middle → Reaches file offset (len + more) k before (max middle ((place_of file.map (offset + len)).offset + more))
+    Reaches file offset len k before middle → Reaches file offset (len + more) k before (max middle ((place_of file.map (offset + len)).offset + more))
 reaches_on file offset len more k before middle formed some short here r =
     let at = (place_of file.map (offset + len)).offset in
     record {
       longer = omega (arith, r.longer);
       covered = λ l on. elim (cases_lt l (offset + len)) [
-          inl old ↦ omega (arith, r.covered l (on.0, old, on.2))
-          | inr new ↦
+        | inl old ↦ omega (arith, r.covered l (on.0, old, on.2))
+        | inr new ↦
             let there : offset + len + (l - (offset + len)) ≡ l = omega (arith, new) in
             let place = ahead file.map (offset + len) (l - (offset + len)) formed.0.0 formed.0.2 (omega (arith, short, on.1, new)) in
             let spot : (place_of file.map l).offset ≡ at + (l - (offset + len)) = ap (λ x. (place_of file.map x).offset) (sym there) ∙ place.1 in
             omega (arith, spot, on.1, new)
-        ];
+      ];
       least = elim (cases_lt middle (at + more)) [
-          inl grows ↦
+        | inl grows ↦
             let place = ahead file.map (offset + len) (more - 1) formed.0.0 formed.0.2 (omega (arith, short, some)) in
             inr (offset + len + (more - 1), (omega arith, omega (arith, some), place.0 ∙ here), omega (arith, place.1, grows, some))
-          | inr stays ↦ elim r.least [
-              inl same ↦ inl (omega (arith, same, stays))
-              | inr last ↦ inr (last.0, (last.1.0, omega (arith, last.1.1), last.1.2), omega (arith, last.2, stays))
-            ]
-        ];
+        | inr stays ↦ elim r.least [
+          | inl same ↦ inl (omega (arith, same, stays))
+          | inr last ↦ inr (last.0, (last.1.0, omega (arith, last.1.1), last.1.2), omega (arith, last.2, stays))
+        ]
+      ];
     }
 
 -- the first byte of a part tells on which component all of it lies
@@ -209,22 +209,22 @@ stored_more before middle after file offset xs ys formed some short s w capacity
         | inr other ↦ ap is_some (kept_elsewhere middle after (slice_index file.drives k) (file.first + k) (place_of file.map l).offset ys (slice_index file.drives j) (file.first + j) w (λ _ o. other (omega (arith, o)))) ∙ s.stands j small
       ];
       reaches = λ j small.
-        let long : length (xs ++ ys) ≡ length xs + length ys = length-append xs ys in
-        let old = s.reaches j small in
-        elim (cases_eq j k) [
-          inl same ↦
-            let bytes : component_bytes after file k ≡ overwritten (component_bytes middle file k) (place_of file.map l).offset ys =
-              ap bytes_or_none (written_there middle after (slice_index file.drives k) (file.first + k) (place_of file.map l).offset ys w) in
-            let grown : length (component_bytes after file j) ≡ max (length (component_bytes middle file j)) ((place_of file.map l).offset + length ys) =
-              ap (λ x. length (component_bytes after file x)) same ∙ ap length bytes ∙ length-overwritten (component_bytes middle file k) (place_of file.map l).offset ys
-              ∙ ap (λ x. max (length (component_bytes middle file x)) ((place_of file.map l).offset + length ys)) (sym same) in
-            rw (long, grown) (reaches_on file offset (length xs) (length ys) j (length (component_bytes before file j)) (length (component_bytes middle file j)) formed some short (sym same) old)
-          | inr other ↦
-            let kept : component_bytes after file j ≡ component_bytes middle file j =
-              ap bytes_or_none (kept_elsewhere middle after (slice_index file.drives k) (file.first + k) (place_of file.map l).offset ys (slice_index file.drives j) (file.first + j) w (λ _ o. other (omega (arith, o)))) in
-            rw (long, kept) (reaches_beside file offset (length xs) (length ys) j (length (component_bytes before file j)) (length (component_bytes middle file j))
-              (λ q from below on. other (sym on ∙ on_one_component file l (length ys) q formed short from (omega (arith, below)))) old)
-        ];
+          let long : length (xs ++ ys) ≡ length xs + length ys = length-append xs ys in
+          let old = s.reaches j small in
+          elim (cases_eq j k) [
+            | inl same ↦
+                let bytes : component_bytes after file k ≡ overwritten (component_bytes middle file k) (place_of file.map l).offset ys =
+                ap bytes_or_none (written_there middle after (slice_index file.drives k) (file.first + k) (place_of file.map l).offset ys w) in
+                let grown : length (component_bytes after file j) ≡ max (length (component_bytes middle file j)) ((place_of file.map l).offset + length ys) =
+                ap (λ x. length (component_bytes after file x)) same ∙ ap length bytes ∙ length-overwritten (component_bytes middle file k) (place_of file.map l).offset ys
+                ∙ ap (λ x. max (length (component_bytes middle file x)) ((place_of file.map l).offset + length ys)) (sym same) in
+                rw (long, grown) (reaches_on file offset (length xs) (length ys) j (length (component_bytes before file j)) (length (component_bytes middle file j)) formed some short (sym same) old)
+            | inr other ↦
+                let kept : component_bytes after file j ≡ component_bytes middle file j =
+                ap bytes_or_none (kept_elsewhere middle after (slice_index file.drives k) (file.first + k) (place_of file.map l).offset ys (slice_index file.drives j) (file.first + j) w (λ _ o. other (omega (arith, o)))) in
+                rw (long, kept) (reaches_beside file offset (length xs) (length ys) j (length (component_bytes before file j)) (length (component_bytes middle file j))
+                (λ q from below on. other (sym on ∙ on_one_component file l (length ys) q formed short from (omega (arith, below)))) old)
+          ];
       capacity = λ d. capacity d ∙ s.capacity d;
     }
 

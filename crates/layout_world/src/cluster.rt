@@ -21,7 +21,7 @@ use std::marker::Model;
 #[derive(Drop)]
 pub struct Cluster {
     alloc: Global,
-    drives: Drives,
+    pub(crate) drives: Drives,
     clients: [bool; 16],
     files: BTreeMap<u32, StripedFile>,
 }

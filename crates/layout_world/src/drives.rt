@@ -97,17 +97,32 @@ impl Drives {
         Ok(())
     }
 
+    /// The bytes of an object of a drive.
+    pub fn object(&self, drive: u32, object: u64) -> Option<&Bytes>
+        ensures { option_copied result ≡ object_at self.now drive object }
+    {
+        match self.by_number.get(&drive) {
+            Some(found) => found.object(object),
+            None => None,
+        }
+    }
+
+    // The capacity that a drive's objects leave, 0 where there is no such drive.
+    fn free(&self, drive: u32) -> u64
+        ensures { result ≡ free_at self.now drive }
+    {
+        match self.by_number.get(&drive) {
+            Some(found) => found.free(),
+            None => 0,
+        }
+    }
+
     /// The length of an object of a drive and the capacity that the drive has left: how far the
     /// object may reach.
     pub fn room(&self, drive: u32, object: u64) -> u128
         ensures { result ≡ length (bytes_at self.now drive object) + free_at self.now drive }
     {
-        match self.by_number.get(&drive) {
-            Some(found) => {
-                u128::from(length_of(found.object(object))) + u128::from(found.free())
-            }
-            None => 0,
-        }
+        u128::from(length_of(self.object(drive, object))) + u128::from(self.free(drive))
     }
 
     /// Adds `count` bytes of an object of a drive to a list, zeros past the object's end.
@@ -122,10 +137,7 @@ impl Drives {
         requires { length into.old + count < 2 ^ 63 }
         ensures { OnOk result (into.new ≡ into.old ++ window (bytes_at self.now drive object) offset count) }
     {
-        match self.by_number.get(&drive) {
-            Some(found) => add_window(into, found.object(object), offset, count),
-            None => add_window(into, None, offset, count),
-        }
+        add_window(into, self.object(drive, object), offset, count)
     }
 }
 

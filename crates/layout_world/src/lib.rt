@@ -13,3 +13,6 @@ mod world;
 
 pub use err::WorldErr;
 pub use world::{Lines, World};
+
+#[cfg(test)]
+mod tests;

@@ -19,7 +19,7 @@ pub type Lines = Sequence<Line>;
 #[derive(Drop)]
 pub struct World {
     alloc: Global,
-    cluster: Cluster,
+    pub(crate) cluster: Cluster,
     over: bool,
 }
 

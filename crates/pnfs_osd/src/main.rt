@@ -7,6 +7,8 @@ mod replay;
 mod run;
 mod status;
 mod stop;
+#[cfg(test)]
+mod tests;
 
 use osd_links::{StdSink, StdSource};
 use run::run;

@@ -10,9 +10,9 @@ returns-then-not-branch c =
 
 pub loop-i-preserved : goal.loop-i-preserved
 loop-i-preserved c = λ k below. elim (cases_lt k c.loop-i.i) [
-    inl old ↦ c.loop-i.invariant k old
-    | inr new ↦
-        let here : k ≡ c.loop-i.i = omega (arith, new, below) in
-        let found = c.in_ok-may_stand.ensures.0 c.if-not-branch.false in
-        subst (λ n. Contains ((candidates c.args.log.now).values (c.args.offset + n)) (slice_index c.args.answer.now n)) (sym here) (rw c.from.ensures at found)
-  ]
+  | inl old ↦ c.loop-i.invariant k old
+  | inr new ↦
+      let here : k ≡ c.loop-i.i = omega (arith, new, below) in
+      let found = c.in_ok-may_stand.ensures.0 c.if-not-branch.false in
+      subst (λ n. Contains ((candidates c.args.log.now).values (c.args.offset + n)) (slice_index c.args.answer.now n)) (sym here) (rw c.from.ensures at found)
+]
