@@ -1,8 +1,7 @@
 -- The text of an event spells it.
-use Rattle.std.proofs.Common.{◌≡◌, ℕ, ◌^◌, ◌<◌, ◌≤◌, true, List, [], ◌∷◌, ◌++◌, length, Ok, codes, refl, sym, ap, ◌∙◌, arith}
-use Rattle.std.specs.Prelude.{⊤}
+use Rattle.std.proofs.Common.{◌≡◌, ℕ, ◌^◌, ◌<◌, true, List, [], ◌∷◌, ◌++◌, codes, refl, ◌∙◌, arith}
 use Rattle.std.specs.Fmt.{decimal}
-use Rattle.hex.specs.Hex.{IsBytes, encode_lower}
+use Rattle.hex.specs.Hex.{IsBytes}
 use Rattle.hex.proofs.HexLemmas.{decode_of-encode_lower, decode_sized-encode_lower}
 use Rattle.scenario_text.specs.declared.event.Event.{Event}
 use Rattle.scenario_text.specs.declared.event.Event.TheVariants.{Drive, Client, File, Do}
@@ -11,9 +10,9 @@ use Rattle.scenario_text.specs.declared.event.Call.TheVariants.{Write, Read}
 use Rattle.scenario_text.specs.declared.event.FileMap.{FileMap}
 use Rattle.scenario_text.specs.declared.line.Line.{Line}
 use Rattle.scenario_text.specs.declared.line.Line.TheVariants.{Event as EventLine, Ended, Note as NoteLine, Last}
-use Rattle.scenario_text.specs.Words.{words_of, spaced, hex_word, SpellsBytes}
+use Rattle.scenario_text.specs.Words.{words_of, hex_word, SpellsBytes}
 use Rattle.scenario_text.specs.Spelling.{Fits, MapFits, CallFits, map_words, call_words, event_words, call_hex, event_hex, event_text, line_text, SpellsCallBytes, SpellsEventBytes, Spells, SpellsItsEvent}
-use Rattle.scenario_text.proofs.Spaces.{spaceless, all_spaceless, both, split_joined, decimal_spaceless, encode_spaceless, hex_spaceless}
+use Rattle.scenario_text.proofs.Spaces.{all_spaceless, both, split_joined, decimal_spaceless, encode_spaceless, hex_spaceless}
 
 -- ---- the words have no space
 
