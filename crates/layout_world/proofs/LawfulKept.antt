@@ -250,6 +250,7 @@ stands_after c after (Do k (ReadCall f offset len)) h lines s w =
     along h lines w.rest (Do k (ReadCall f offset len)) after w.whole
     (subst (λ (x : List Line). StandsFor after (h ++ EventLine (Do k (ReadCall f offset len)) ∷ x)) (sym w.leads.1) (subst (λ x. StandsFor x (h ++ EventLine (Do k (ReadCall f offset len)) ∷ Ended k (ReadOk w.leads.0) ∷ [])) (sym w.leads.3)
     (stands_after_read c f k offset len w.leads.0 h s w.leads.2)))
+stands_after c after other h lines s w = absurd w.allowed
 
 pub stands_for_new : StandsFor new_cluster []
 stands_for_new = record {

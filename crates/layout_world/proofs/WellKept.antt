@@ -158,3 +158,4 @@ well_after c after (Client k) lines w s = subst IsWell (sym s.leads.1) (well_by_
 well_after c after (File f map tag) lines w s = well_after_file c after f (raw_of map) w s.allowed s.leads.1
 well_after c after (Do k (Write f offset bytes)) lines w s = well_after_write_call c after f offset bytes w s.allowed.1 s.leads.1
 well_after c after (Do k (Read f offset len)) lines w s = subst IsWell (sym s.leads.3) w
+well_after c after other lines w s = absurd s.allowed

@@ -28,12 +28,13 @@ abbrev pub CanCall : ClusterState → Call → Type 0
 CanCall c (Write f offset bytes) = CanWrite c f offset bytes
 CanCall c (Read f offset len) = CanRead c f offset len
 
--- the state lets an event be carried out
+-- The state lets an event be carried out. Events other than these aren't carried out yet.
 abbrev pub IsAllowed : ClusterState → Event → Type 0
 IsAllowed c (Drive d key capacity) = CanAddDrive c d
 IsAllowed c (Client k) = IsClient c k → ⊥
 IsAllowed c (File f map tag) = CanAddFile c f (raw_of map)
 IsAllowed c (Do k call) = IsClient c k × CanCall c call
+IsAllowed c other = ⊥
 
 -- how a call is answered, and the state that it leaves
 abbrev pub Calls : ClusterState → ℕ → Call → List Line → ClusterState → Type 0
@@ -46,6 +47,7 @@ Leads c (Drive d key capacity) lines after = (lines ≡ []) × AddsDrive c d cap
 Leads c (Client k) lines after = (lines ≡ []) × AddsClient c k after
 Leads c (File f map tag) lines after = (lines ≡ NoteLine f Ready ∷ []) × AddsFile c f (raw_of map) after
 Leads c (Do k call) lines after = Calls c k call lines after
+Leads c other lines after = ⊥
 
 -- An event is carried out: the state allows it, its own line comes first, then those of its call or note.
 pub record Carries (c : ClusterState) (e : Event) (lines : List Line) (after : ClusterState) : Type 0 where

@@ -2,14 +2,14 @@
 use Rattle.std.specs.Prelude.{◌≡◌, ℕ, ◌==◌, if◌then◌else◌, Bool, true, false, List, [], ◌∷◌, ◌++◌, length, IsSome, Option, Some, None, map}
 use Rattle.std.specs.List.{flat_map}
 use Rattle.scenario_text.specs.declared.event.Event.{Event}
-use Rattle.scenario_text.specs.declared.event.Event.TheVariants.{Drive, Client, File, Do}
+use Rattle.scenario_text.specs.declared.event.Event.TheVariants.{Do}
 use Rattle.scenario_text.specs.declared.event.Call.{Call}
 use Rattle.scenario_text.specs.declared.event.Call.TheVariants.{Write as WriteCall, Read as ReadCall}
 use Rattle.scenario_text.specs.declared.line.Line.{Line}
-use Rattle.scenario_text.specs.declared.line.Line.TheVariants.{Event as EventLine, Ended, Note as NoteLine, Last}
+use Rattle.scenario_text.specs.declared.line.Line.TheVariants.{Event as EventLine, Ended}
 use Rattle.scenario_text.specs.declared.line.Outcome.{Outcome}
 use Rattle.scenario_text.specs.declared.line.Outcome.TheVariants.{WriteOk, ReadOk}
-use Rattle.scenario_text.specs.Spelling.{line_text}
+use Rattle.scenario_text.specs.LineSpelling.{line_text}
 use Rattle.file_log.specs.declared.entry.Entry.{Entry}
 use Rattle.file_log.specs.declared.entry.Entry.TheVariants.{Write, Read}
 use Rattle.file_log.specs.Judge.{Accepts, candidates, IsSettled}
@@ -28,20 +28,16 @@ text lines = flat_map (λ line. line_text line ++ 10 ∷ []) lines
 -- how the next call of a client to end ended
 abbrev pub outcome_of : ℕ → List Line → Option Outcome
 outcome_of k [] = None
-outcome_of k (EventLine e ∷ lines) = outcome_of k lines
 outcome_of k (Ended client outcome ∷ lines) = if client == k then Some outcome else outcome_of k lines
-outcome_of k (NoteLine f note ∷ lines) = outcome_of k lines
-outcome_of k (Last calm unguessed ∷ lines) = outcome_of k lines
+outcome_of k (line ∷ lines) = outcome_of k lines
 
 abbrev pub acknowledged : Option Outcome → Bool
 acknowledged (Some (WriteOk len)) = true
-acknowledged (Some (ReadOk bytes)) = false
-acknowledged None = false
+acknowledged other = false
 
 abbrev pub answer_of : Option Outcome → Option (List ℕ)
 answer_of (Some (ReadOk bytes)) = Some bytes
-answer_of (Some (WriteOk len)) = None
-answer_of None = None
+answer_of other = None
 
 -- what a call adds to the log of file f; a write without bytes adds nothing
 abbrev pub entries_of : ℕ → Call → Option Outcome → List Entry
@@ -51,31 +47,23 @@ entries_of f (ReadCall g offset len) outcome = if g == f then Read offset len (a
 
 abbrev pub event_entries : ℕ → Event → List Line → List Entry
 event_entries f (Do k call) later = entries_of f call (outcome_of k later)
-event_entries f (Drive d key capacity) later = []
-event_entries f (Client k) later = []
-event_entries f (File g map tag) later = []
+event_entries f other later = []
 
 -- the log of file f: its calls in order of start, each with what became of it
 abbrev pub log : ℕ → List Line → List Entry
 log f [] = []
 log f (EventLine e ∷ lines) = event_entries f e lines ++ log f lines
-log f (Ended k outcome ∷ lines) = log f lines
-log f (NoteLine g note ∷ lines) = log f lines
-log f (Last calm unguessed ∷ lines) = log f lines
+log f (line ∷ lines) = log f lines
 
 -- each call has ended
 abbrev pub IsEventAnswered : Event → List Line → Type 0
 IsEventAnswered (Do k call) later = IsSome (outcome_of k later)
-IsEventAnswered (Drive d key capacity) later = Unit {0}
-IsEventAnswered (Client k) later = Unit {0}
-IsEventAnswered (File f map tag) later = Unit {0}
+IsEventAnswered other later = Unit {0}
 
 abbrev pub IsAnswered : List Line → Type 0
 IsAnswered [] = Unit {0}
 IsAnswered (EventLine e ∷ lines) = IsEventAnswered e lines × IsAnswered lines
-IsAnswered (Ended k outcome ∷ lines) = IsAnswered lines
-IsAnswered (NoteLine f note ∷ lines) = IsAnswered lines
-IsAnswered (Last calm unguessed ∷ lines) = IsAnswered lines
+IsAnswered (line ∷ lines) = IsAnswered lines
 
 -- ---- what holds of a history and of the state after it
 

@@ -110,6 +110,7 @@ fn carry_out(cluster: &mut Cluster, event: &Event) -> Result<Option<Line>, World
             }))
         }
         Event::Do { client, call } => Ok(Some(carry_out_call(cluster, client, call)?)),
+        _ => Err(WorldErr::NotYet),
     }
 }
 

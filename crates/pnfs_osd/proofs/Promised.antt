@@ -21,6 +21,8 @@ use Rattle.pnfs_osd.specs.Finish.{Finishes, last_text}
 use Rattle.pnfs_osd.specs.Stops.{error_of, status_of, stop_of_line}
 use Rattle.pnfs_osd.specs.LineCarried.{CarriesLine, StopsLine}
 use Rattle.pnfs_osd.specs.Replay.{Ends, HasEvents, Begins, IsAll, Runs, Tells, IsRefused, RefusesNext, final_text, Promises, Stops}
+use Rattle.pnfs_osd.specs.declared.status.ScenarioKind.{ScenarioKind}
+use Rattle.pnfs_osd.specs.declared.status.ScenarioKind.TheVariants.{Event as EventKind}
 use Rattle.pnfs_osd.specs.declared.status.Status.{Status}
 use Rattle.pnfs_osd.specs.declared.status.Status.TheVariants.{Done, BadWords, BadScenario, ReadFault, WriteFault, Memory}
 use Rattle.pnfs_osd.specs.declared.stop.Stop.{Stop}
@@ -96,12 +98,12 @@ finished b a now next taken middle state number failed ReadFault s y end reads w
 finished b a now next taken middle state number failed (BadScenario line kind) s y end reads writes fin = absurd fin
 
 -- the line that comes next is refused
-refuses : (input now : Option (List ℕ)) (taken : ℕ) (lines : List (List ℕ)) (c : ClusterState) (answer : Result (Option (List ℕ)) LineErr) → Reached input lines taken now → NextIs taken now answer →
-    ((rest : List ℕ) → NextIs taken (Some rest) answer → IsRefused c (next_of taken rest)) → RefusesNext input lines c
-refuses None now taken lines c answer r next refused = tt
-refuses (Some input) None taken lines c answer r next refused = absurd r
-refuses (Some input) (Some rest) taken lines c answer r next refused =
-    (r.0, rest, r.1, r.3, subst (λ n. IsRefused c (next_of n rest)) (sym r.2) (refused rest next))
+refuses : (input now : Option (List ℕ)) (taken : ℕ) (lines : List (List ℕ)) (c : ClusterState) (kind : ScenarioKind) (answer : Result (Option (List ℕ)) LineErr) → Reached input lines taken now → NextIs taken now answer →
+    ((rest : List ℕ) → NextIs taken (Some rest) answer → IsRefused c kind (next_of taken rest)) → RefusesNext input lines c kind
+refuses None now taken lines c kind answer r next refused = tt
+refuses (Some input) None taken lines c kind answer r next refused = absurd r
+refuses (Some input) (Some rest) taken lines c kind answer r next refused =
+    (r.0, rest, r.1, r.3, subst (λ n. IsRefused c kind (next_of n rest)) (sym r.2) (refused rest next))
 
 stops_at : (b a : Ends) (now : Option (List ℕ)) (taken : ℕ) (middle : Option (List ℕ)) (state : ClusterState) (number failed : ℕ) (reason : List ℕ) (whole : Bool) → (s : SoFar b.left now taken b.taken middle state number) → failed ≡ b.writes_failed →
     Puts middle a.taken failed a.writes_failed (error_line (number + 1) reason) whole → Stops b a (number + 1) reason
@@ -119,13 +121,11 @@ pub no_line : (b a : Ends) (now : Option (List ℕ)) (taken : ℕ) (middle : Opt
 unfolding stops_at
 no_line b a now taken middle state number failed whole TooLong s next fault writes put = record {
   stops = stops_at b a now taken middle state number failed (codes "NotYet") whole s writes put;
-  not_yet = inl refl;
-  refused = refuses b.left now taken s.lines (state_from new_cluster s.steps) (Err TooLong) s.reached next (λ rest h. rw h tt);
+  refused = refuses b.left now taken s.lines (state_from new_cluster s.steps) (EventKind NotYet) (Err TooLong) s.reached next (λ rest h. rw h refl);
 }
 no_line b a now taken middle state number failed whole InputFull s next fault writes put = record {
   stops = stops_at b a now taken middle state number failed (codes "NotYet") whole s writes put;
-  not_yet = inl refl;
-  refused = refuses b.left now taken s.lines (state_from new_cluster s.steps) (Err InputFull) s.reached next (λ rest h. rw h tt);
+  refused = refuses b.left now taken s.lines (state_from new_cluster s.steps) (EventKind NotYet) (Err InputFull) s.reached next (λ rest h. rw h refl);
 }
 no_line b a now taken middle state number failed whole LineFault s next fault writes put = record {
   number = number + 1;
@@ -147,8 +147,7 @@ pub line_stopped : (b a : Ends) (now : Option (List ℕ)) (taken : ℕ) (middle 
 unfolding stops_at
 line_stopped b a now taken middle state number failed whole line (Refused kind) s next stopped writes put = record {
   stops = stops_at b a now taken middle state number failed (kind_name kind) whole s writes put;
-  not_yet = stopped.0;
-  refused = refuses b.left now taken s.lines (state_from new_cluster s.steps) (Ok (Some line)) s.reached next (λ rest h. rw h (subst (λ (x : ClusterState). IsRefused x (Ok (Some line))) (sym s.state_is) stopped.1));
+  refused = refuses b.left now taken s.lines (state_from new_cluster s.steps) kind (Ok (Some line)) s.reached next (λ rest h. rw h (subst (λ (x : ClusterState). IsRefused x kind (Ok (Some line))) (sym s.state_is) stopped));
 }
 line_stopped b a now taken middle state number failed whole line Read s next stopped writes put = absurd stopped
 line_stopped b a now taken middle state number failed whole line WantsMemory s next stopped writes put = record {

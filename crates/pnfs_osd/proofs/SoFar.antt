@@ -10,7 +10,8 @@ use Rattle.osd_bytes.specs.Lines.{Yields, TakesLine, lines_of}
 use Rattle.osd_bytes.proofs.Known.{Appends-then}
 use Rattle.scenario_text.specs.declared.event.Event.{Event}
 use Rattle.scenario_text.specs.declared.line.Line.{Line}
-use Rattle.scenario_text.specs.Spelling.{Fits, Spells, IsSkipped, line_text}
+use Rattle.scenario_text.specs.Spelling.{Fits, Spells, IsSkipped}
+use Rattle.scenario_text.specs.LineSpelling.{line_text}
 use Rattle.layout_world.specs.State.{ClusterState, new_cluster}
 use Rattle.layout_world.specs.Events.{Carries}
 use Rattle.layout_world.specs.History.{Step, IsRunFrom, IsRun, IsLawful, StandsFor, lines_of_steps, events_of_steps, state_from, text}

@@ -2,7 +2,6 @@
 use Rattle.std.specs.Prelude.{◌≡◌, ◌⊎◌, ◌++◌, ℕ, List, [], Ok, Some, Result, Err}
 use Rattle.osd_bytes.specs.declared.lines.LineErr.{LineErr}
 use Rattle.scenario_text.specs.declared.event.Event.{Event}
-use Rattle.scenario_text.specs.declared.event.EventErr.TheVariants.{NotYet}
 use Rattle.scenario_text.specs.declared.line.Line.{Line}
 use Rattle.scenario_text.specs.Spelling.{Fits, Spells, IsSkipped}
 use Rattle.layout_world.specs.State.{ClusterState}
@@ -10,7 +9,7 @@ use Rattle.layout_world.specs.Events.{IsAllowed, Carries}
 use Rattle.layout_world.specs.History.{StandsFor, text}
 use Rattle.layout_world.specs.declared.err.WorldErr.TheVariants.{NotYet as WorldNotYet}
 use Rattle.pnfs_osd.specs.Replay.{IsRefused}
-use Rattle.pnfs_osd.specs.declared.status.ScenarioKind.TheVariants.{Event as EventKind, World as WorldKind}
+use Rattle.pnfs_osd.specs.declared.status.ScenarioKind.TheVariants.{World as WorldKind}
 use Rattle.pnfs_osd.specs.declared.stop.Stop.{Stop}
 use Rattle.pnfs_osd.specs.declared.stop.Stop.TheVariants.{Refused, Read, Memory}
 
@@ -40,6 +39,6 @@ CarriesLine before line bytes after = (IsSkipped line × (bytes ≡ []) × (afte
 
 -- why a line wasn't carried out
 abbrev pub StopsLine : ClusterState → List ℕ → Stop → Type 0
-StopsLine before line (Refused kind) = ((kind ≡ EventKind NotYet) ⊎ (kind ≡ WorldKind WorldNotYet)) × IsRefused before (Ok (Some line))
+StopsLine before line (Refused kind) = IsRefused before kind (Ok (Some line))
 StopsLine before line Read = ⊥
 StopsLine before line Memory = Unit {0}

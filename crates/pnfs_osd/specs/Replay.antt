@@ -1,5 +1,5 @@
 -- What a replay promises.
-use Rattle.std.specs.Prelude.{◌≡◌, ℕ, ◌+◌, ◌≤◌, ◌⊎◌, true, List, [], ◌∷◌, ◌++◌, length, take, codes, ⊤, Option, Some, None, Ok, Err, Result}
+use Rattle.std.specs.Prelude.{◌≡◌, ◌≢◌, ℕ, ◌+◌, ◌≤◌, ◌⊎◌, true, List, [], ◌∷◌, ◌++◌, length, take, codes, ⊤, Option, Some, None, Ok, Err, Result}
 use Rattle.std.specs.Io.KnownBytes.{Appends, IsAtEnd}
 use Rattle.osd_bytes.specs.Causes.{Rose}
 use Rattle.osd_bytes.specs.Lines.{lines_of, next_of}
@@ -12,7 +12,9 @@ use Rattle.scenario_text.specs.Spelling.{Fits, Spells, IsSkipped}
 use Rattle.layout_world.specs.State.{ClusterState, new_cluster}
 use Rattle.layout_world.specs.Events.{IsAllowed}
 use Rattle.layout_world.specs.History.{Step, IsRun, lines_of_steps, events_of_steps, state_from, text}
-use Rattle.scenario_text.specs.declared.event.EventErr.TheVariants.{NotYet}
+use Rattle.scenario_text.specs.declared.event.EventErr.{EventErr}
+use Rattle.scenario_text.specs.declared.event.EventErr.TheVariants.{NotYet, Memory as EventMemory}
+use Rattle.scenario_text.specs.Refusals.{IsRefusal}
 use Rattle.layout_world.specs.declared.err.WorldErr.TheVariants.{NotYet as WorldNotYet}
 use Rattle.pnfs_osd.specs.Errors.{words_error, error_line, kind_name}
 use Rattle.pnfs_osd.specs.declared.status.ScenarioKind.{ScenarioKind}
@@ -56,20 +58,23 @@ pub record Tells (before after : Ends) (bytes error : List ℕ) : Type 0 where
   pub out : Appends before.taken after.taken (bytes ++ take upto error)
   pub cut : (upto ≡ length error) ⊎ Rose before.writes_failed after.writes_failed
 
--- an answer of the line reader, or an event, that isn't carried out yet: a limit is passed, or no event that the state allows is spelled
-abbrev pub IsRefused : ClusterState → Result (Option (List ℕ)) LineErr → Type 0
-IsRefused c (Err TooLong) = ⊤
-IsRefused c (Err InputFull) = ⊤
-IsRefused c (Err LineFault) = ⊥
-IsRefused c (Err LineMemory) = ⊥
-IsRefused c (Ok None) = ⊥
-IsRefused c (Ok (Some line)) = (IsSkipped line → ⊥) × ((e : Event) → Fits e → Spells e line → IsAllowed c e → ⊥)
+-- Why an answer of the line reader isn't carried out. A line that passes a limit isn't read yet. A line that spells no event is refused for its first
+-- wrong word. The event that a line spells isn't carried out where the state doesn't allow it.
+abbrev pub IsRefused : ClusterState → ScenarioKind → Result (Option (List ℕ)) LineErr → Type 0
+IsRefused c kind (Err TooLong) = kind ≡ EventKind NotYet
+IsRefused c kind (Err InputFull) = kind ≡ EventKind NotYet
+IsRefused c kind (Err LineFault) = ⊥
+IsRefused c kind (Err LineMemory) = ⊥
+IsRefused c kind (Ok None) = ⊥
+IsRefused c kind (Ok (Some line)) =
+    ((e : EventErr) × (kind ≡ EventKind e) × (e ≢ EventMemory) × IsRefusal line e)
+    ⊎ ((kind ≡ WorldKind WorldNotYet) × (e : Event) × Fits e × Spells e line × (IsAllowed c e → ⊥))
 
 -- the line behind these lines of the input is refused in a state
-abbrev pub RefusesNext : Option (List ℕ) → List (List ℕ) → ClusterState → Type 0
-RefusesNext None lines c = ⊤
-RefusesNext (Some input) lines c =
-    (front rest : List ℕ) × (input ≡ front ++ rest) × (lines_of input ≡ lines ++ lines_of rest) × IsRefused c (next_of (length front) rest)
+abbrev pub RefusesNext : Option (List ℕ) → List (List ℕ) → ClusterState → ScenarioKind → Type 0
+RefusesNext None lines c kind = ⊤
+RefusesNext (Some input) lines c kind =
+    (front rest : List ℕ) × (input ≡ front ++ rest) × (lines_of input ≡ lines ++ lines_of rest) × IsRefused c kind (next_of (length front) rest)
 
 abbrev pub final_text : List Step → List ℕ
 final_text steps = text (lines_of_steps steps ++ Last true true ∷ [])
@@ -93,11 +98,10 @@ pub record Stops (before after : Ends) (number : ℕ) (reason : List ℕ) : Type
   pub number_is : number ≡ length lines + 1
   pub tells : Tells before after (text (lines_of_steps steps)) (error_line number reason)
 
--- the line of that number is the first that isn't carried out yet
+-- the line of that number is the first that is refused, for that reason
 pub record IsBadScenario (before after : Ends) (number : ℕ) (kind : ScenarioKind) : Type 0 where
   pub stops : Stops before after number (kind_name kind)
-  pub not_yet : (kind ≡ EventKind NotYet) ⊎ (kind ≡ WorldKind WorldNotYet)
-  pub refused : RefusesNext before.left stops.lines (state_from new_cluster stops.steps)
+  pub refused : RefusesNext before.left stops.lines (state_from new_cluster stops.steps) kind
 
 -- the source failed at the line of that number
 pub record IsReadFault (before after : Ends) : Type 0 where

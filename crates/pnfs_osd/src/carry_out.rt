@@ -52,7 +52,7 @@ pub fn carry_out(alloc: Global, world: &mut World, line: &[u8]) -> Result<Bytes,
     match read_event(alloc, line) {
         Ok(Some(event)) => carry_out_event(alloc, world, &event),
         Ok(None) => Ok(Bytes::new(alloc)),
-        Err(EventErr::NotYet) => Err(Stop::Refused(ScenarioKind::Event(EventErr::NotYet))),
         Err(EventErr::Memory) => Err(Stop::Memory),
+        Err(e) => Err(Stop::Refused(ScenarioKind::Event(e))),
     }
 }

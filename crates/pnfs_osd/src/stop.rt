@@ -36,6 +36,12 @@ fn name_of(kind: ScenarioKind) -> &'static str
 {
     match kind {
         ScenarioKind::Event(EventErr::NotYet) => "NotYet",
+        ScenarioKind::Event(EventErr::UnknownWord) => "UnknownWord",
+        ScenarioKind::Event(EventErr::BadName) => "BadName",
+        ScenarioKind::Event(EventErr::BadNumber) => "BadNumber",
+        ScenarioKind::Event(EventErr::BadHex) => "BadHex",
+        ScenarioKind::Event(EventErr::Missing) => "Missing",
+        ScenarioKind::Event(EventErr::Extra) => "Extra",
         ScenarioKind::Event(EventErr::Memory) => "Memory",
         ScenarioKind::World(WorldErr::NotYet) => "NotYet",
         ScenarioKind::World(WorldErr::Memory) => "Memory",

@@ -34,9 +34,10 @@ fn refused(line: u64, kind: ScenarioKind) -> Status {
 
 #[test]
 fn scenarios_and_their_transcripts(rt: HostRuntime) -> Result<(), Fail> {
-    let event = ScenarioKind::Event(EventErr::NotYet);
+    let unknown = ScenarioKind::Event(EventErr::UnknownWord);
+    let name = ScenarioKind::Event(EventErr::BadName);
     let world = ScenarioKind::World(WorldErr::NotYet);
-    let table: [(&[u8], Status, &[u8]); 7] = [
+    let table: [(&[u8], Status, &[u8]); 9] = [
         (b"", Status::Done, b"calm yes unguessed yes\n"),
         (
             b"client c0",
@@ -50,11 +51,17 @@ fn scenarios_and_their_transcripts(rt: HostRuntime) -> Result<(), Fail> {
         ),
         (
             b"client c0\nclient c1\njump c0\n",
-            refused(3, event),
-            b"= client c0\n= client c1\nerror 3 NotYet\n",
+            refused(3, unknown),
+            b"= client c0\n= client c1\nerror 3 UnknownWord\n",
         ),
         (
             b"client c0\nclient c0\n",
+            refused(2, world),
+            b"= client c0\nerror 2 NotYet\n",
+        ),
+        (b"client c16 d0\n", refused(1, name), b"error 1 BadName\n"),
+        (
+            b"client c0\nsettle\n",
             refused(2, world),
             b"= client c0\nerror 2 NotYet\n",
         ),

@@ -1,5 +1,11 @@
 pub mod Words
-pub mod Reading
+pub mod Groups
 pub mod Keywords
+pub mod Reading
 pub mod EventReading
 pub mod Spelling
+pub mod Refusals
+pub mod LineSpelling
+pub mod LineKeywords
+pub mod LineReading
+pub mod LineRefusals

@@ -3,25 +3,32 @@ use Rattle.std.specs.Prelude.{◌≡◌, ℕ, ◌==◌, Bool, true, false, List,
 use Rattle.std.specs.Borrow.{Bor}
 use Rattle.std.specs.Fmt.{decimal}
 use Rattle.std.specs.List.{slice_split, join_with_byte}
+use Rattle.scenario_text.specs.declared.event.Sender.{Sender}
+use Rattle.scenario_text.specs.declared.event.Sender.TheVariants as sender
+use Rattle.scenario_text.specs.declared.event.Machine.{Machine}
+use Rattle.scenario_text.specs.declared.event.Machine.TheVariants as machine
 use Rattle.hex.specs.Hex.{decode_of, decode_sized, encode_lower}
 
 -- the words of a line, which single spaces separate
 abbrev pub words_of : List ℕ → List (List ℕ)
 words_of line = slice_split (λ b. b == 32) line
 
--- the words of what is left of a line, if anything is
-abbrev pub words_left : Option (Bor (List ℕ)) → List (List ℕ)
-words_left None = []
-words_left (Some rest) = words_of rest.now
+-- the parts of what is left behind a separator, if anything is
+abbrev pub parts_left : ℕ → Option (Bor (List ℕ)) → List (List ℕ)
+parts_left separator None = []
+parts_left separator (Some rest) = slice_split (λ b. b == separator) rest.now
 
 -- words, separated by single spaces
 abbrev pub spaced : List (List ℕ) → List ℕ
 spaced words = join_with_byte 32 words
 
--- words, each behind a space
+-- words, each behind a separator
+abbrev pub behind : ℕ → List (List ℕ) → List ℕ
+behind separator [] = []
+behind separator (word ∷ words) = separator ∷ (word ++ behind separator words)
+
 abbrev pub spaced_after : List (List ℕ) → List ℕ
-spaced_after [] = []
-spaced_after (word ∷ words) = 32 ∷ (word ++ spaced_after words)
+spaced_after words = behind 32 words
 
 abbrev pub drive_word : ℕ → List ℕ
 drive_word d = 100 ∷ decimal d
@@ -31,6 +38,14 @@ client_word c = 99 ∷ decimal c
 
 abbrev pub file_word : ℕ → List ℕ
 file_word f = 102 ∷ decimal f
+
+abbrev pub sender_word : Sender → List ℕ
+sender_word (sender.Client c) = client_word c
+sender_word sender.Server = codes "s"
+
+abbrev pub machine_word : Machine → List ℕ
+machine_word (machine.Drive d) = drive_word d
+machine_word machine.Server = codes "s"
 
 abbrev pub yes_or_no : Bool → List ℕ
 yes_or_no true = codes "yes"

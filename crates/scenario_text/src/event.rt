@@ -1,5 +1,7 @@
 ghost use Rattle.std.specs.Prelude.{◌≡◌, IfOk};
 
+use crate::copies::{copied_setup, copied_traffic, copied_upkeep};
+use crate::group::{Group, event_group};
 use crate::names::{ClientName, DriveName, FileName};
 use osd_bytes::{Bytes, Memory};
 use std::alloc::Global;
@@ -41,11 +43,31 @@ pub enum Call {
     },
 }
 
+/// A client or the server, as one that sends again what it waits for.
+#[derive(Clone, Copy, Debug, PartialEq, Eq)]
+pub enum Sender {
+    Client { client: ClientName },
+    Server,
+}
+
+/// A drive or the server, as a machine that has a clock and can crash.
+#[derive(Clone, Copy, Debug, PartialEq, Eq)]
+pub enum Machine {
+    Drive { drive: DriveName },
+    Server,
+}
+
 /// An event of a scenario.
 #[derive(Debug, Drop, PartialEq)]
 pub enum Event {
     /// Makes a drive with that key and that capacity in bytes.
     Drive {
+        drive: DriveName,
+        key: [u8; 20],
+        capacity: u64,
+    },
+    /// Makes a drive in the same way, which is kept on a memory disk.
+    Disk {
         drive: DriveName,
         key: [u8; 20],
         capacity: u64,
@@ -60,10 +82,104 @@ pub enum Event {
         map: FileMap,
         tag: u32,
     },
+    /// Makes a file in the same way, whose components are spread over zones.
+    ZonedFile {
+        file: FileName,
+        map: FileMap,
+        tag: u32,
+    },
+    /// Puts a drive into a zone.
+    Zone {
+        drive: DriveName,
+        zone: u32,
+    },
+    /// Raises a drive's least capability format to 1 or 2.
+    Least {
+        drive: DriveName,
+        format: u8,
+    },
+    /// Raises the server's capability format to 1 or 2.
+    Format {
+        format: u8,
+    },
     /// A call with prompt delivery.
     Do {
         client: ClientName,
         call: Call,
+    },
+    /// A call whose messages wait.
+    Call {
+        client: ClientName,
+        call: Call,
+    },
+    /// Delivers a message, by its number in the order of sending, from 0.
+    Deliver {
+        message: u64,
+    },
+    /// Leaves a message out when messages are settled.
+    Exclude {
+        message: u64,
+    },
+    /// Delivers every message that was never delivered and not left out.
+    Settle,
+    /// Sends again what a client or the server waits for.
+    Resend {
+        sender: Sender,
+    },
+    /// A component of the pending call's file times out at a client.
+    Timeout {
+        client: ClientName,
+        component: u32,
+    },
+    /// An idle client returns its grants.
+    Leave {
+        client: ClientName,
+    },
+    /// Hands bytes to a drive, whose reply goes nowhere.
+    Inject {
+        drive: DriveName,
+        bytes: Bytes,
+    },
+    /// Sets a clock.
+    Clock {
+        machine: Machine,
+        time: u64,
+    },
+    /// Recalls every grant of a file.
+    Recall {
+        file: FileName,
+    },
+    /// Fences a file and repairs it.
+    Revoke {
+        file: FileName,
+    },
+    /// Rebuilds a file's missing components.
+    Rebuild {
+        file: FileName,
+    },
+    /// Audits a file.
+    Audit {
+        file: FileName,
+    },
+    /// The server takes a failed drive out.
+    Declare {
+        drive: DriveName,
+    },
+    /// A client is deaf from now on.
+    Stop {
+        client: ClientName,
+    },
+    /// A drive has lost everything and is deaf from now on.
+    Fail {
+        drive: DriveName,
+    },
+    /// A machine stops and is deaf until it is opened again.
+    Crash {
+        machine: Machine,
+    },
+    /// Opens a crashed machine again.
+    Reopen {
+        machine: Machine,
     },
 }
 
@@ -100,26 +216,10 @@ impl Event {
     pub fn copied(&self, alloc: Global) -> Result<Self, Memory>
         ensures { IfOk result (λ event. event ≡ self.now) }
     {
-        match self {
-            Event::Drive {
-                drive,
-                key,
-                capacity,
-            } => Ok(Event::Drive {
-                drive: *drive,
-                key: *key,
-                capacity: *capacity,
-            }),
-            Event::Client { client } => Ok(Event::Client { client: *client }),
-            Event::File { file, map, tag } => Ok(Event::File {
-                file: *file,
-                map: *map,
-                tag: *tag,
-            }),
-            Event::Do { client, call } => Ok(Event::Do {
-                client: *client,
-                call: call.copied(alloc)?,
-            }),
+        match event_group(self) {
+            Group::Setup => Ok(copied_setup(self)),
+            Group::Traffic => copied_traffic(alloc, self),
+            Group::Upkeep => Ok(copied_upkeep(self)),
         }
     }
 }
@@ -127,8 +227,20 @@ impl Event {
 /// Why a line gave no event.
 #[derive(Clone, Copy, Debug, PartialEq, Eq)]
 pub enum EventErr {
-    /// The line spells no event.
+    /// The event isn't carried out yet.
     NotYet,
+    /// No event, call or line has this word in its place.
+    UnknownWord,
+    /// A word in the place of a name isn't one.
+    BadName,
+    /// A word in the place of a number isn't one, or not one of the range of its place.
+    BadNumber,
+    /// A word in the place of bytes isn't pairs of hexadecimal digits or `-`, or doesn't have the bytes of its place.
+    BadHex,
+    /// A word is lacking.
+    Missing,
+    /// A further word follows.
+    Extra,
     Memory,
 }
 

@@ -4,21 +4,28 @@
 //! in `specs/Spelling.antt`, which stands apart from reading and from writing.
 #![tactic(auto)]
 
+mod copies;
 mod event;
+mod group;
 mod hexadecimal;
 mod keyword;
 mod line;
+mod line_keyword;
+mod line_reading;
+mod line_writing;
 mod names;
 mod read;
-mod refusal;
 mod words;
 mod write;
 
-pub use event::{Call, Event, EventErr, FileMap};
-pub use line::{Line, Note, Outcome};
+pub use event::{Call, Event, EventErr, FileMap, Machine, Sender};
+pub use line::{
+    CallKind, Delivery, Ending, LayoutFault, Line, MapFault, Note, Outcome, Party, Refusal, Verdict,
+};
+pub use line_reading::read_line;
+pub use line_writing::write_line;
 pub use names::{CLIENTS, ClientName, DRIVES, DriveName, FILES, FileName};
 pub use read::read_event;
-pub use write::write_line;
 
 #[cfg(test)]
 mod tests;

@@ -1,31 +1,32 @@
 ghost use Rattle.std.specs.Prelude.{◌≡◌, ◌++◌, ◌∷◌, IfOk, OnOk, decimal};
 ghost use Rattle.hex.specs.Hex.{encode_lower};
-ghost use Rattle.scenario_text.specs.Words.{hex_word, spaced_after, yes_or_no};
-ghost use Rattle.scenario_text.specs.Spelling.{line_text, SpellsItsEvent, event_words, event_hex, call_words, call_hex, map_words, outcome_words, note_words};
+ghost use Rattle.scenario_text.specs.Words.{hex_word, spaced_after, sender_word, machine_word};
+ghost use Rattle.scenario_text.specs.Spelling.{event_words, event_hex, call_words, call_hex, map_words};
+ghost use Rattle.scenario_text.specs.Groups.{group_of};
+ghost use Rattle.scenario_text.specs.declared.group.Group.TheVariants.{Setup, Traffic, Upkeep};
 
-use crate::event::{Call, Event, FileMap};
-use crate::line::{Line, Note, Outcome};
-use crate::names::{ClientName, DriveName, FileName};
+use crate::event::{Call, Event, FileMap, Machine, Sender};
+use crate::group::{Group, event_group};
 use itoa::Buffer;
 use osd_bytes::{Bytes, Memory};
 use std::alloc::Global;
 
 // Adds a space and a word.
-fn put_word(out: &mut Bytes, word: &[u8]) -> Result<(), Memory>
+pub(crate) fn put_word(out: &mut Bytes, word: &[u8]) -> Result<(), Memory>
     ensures { OnOk result (out.new ≡ out.old ++ (32 ∷ word.now)) }
 {
     out.push(b' ')?;
     out.extend_from_slice(word)
 }
 
-fn put_number(out: &mut Bytes, n: u64) -> Result<(), Memory>
+pub(crate) fn put_number(out: &mut Bytes, n: u64) -> Result<(), Memory>
     ensures { OnOk result (out.new ≡ out.old ++ (32 ∷ decimal n)) }
 {
     put_word(out, Buffer::new().format(n).as_bytes())
 }
 
 // Adds a space, a letter and a number.
-fn put_name(out: &mut Bytes, letter: u8, n: u32) -> Result<(), Memory>
+pub(crate) fn put_name(out: &mut Bytes, letter: u8, n: u32) -> Result<(), Memory>
     ensures { OnOk result (out.new ≡ out.old ++ (32 ∷ letter ∷ decimal n)) }
 {
     out.push(b' ')?;
@@ -33,7 +34,7 @@ fn put_name(out: &mut Bytes, letter: u8, n: u32) -> Result<(), Memory>
     out.extend_from_slice(Buffer::new().format(n).as_bytes())
 }
 
-fn put_bytes(alloc: Global, out: &mut Bytes, bytes: &[u8]) -> Result<(), Memory>
+pub(crate) fn put_bytes(alloc: Global, out: &mut Bytes, bytes: &[u8]) -> Result<(), Memory>
     ensures { OnOk result (out.new ≡ out.old ++ (32 ∷ hex_word bytes.now)) }
 {
     if bytes.is_empty() {
@@ -88,8 +89,26 @@ fn put_map(out: &mut Bytes, map: &FileMap) -> Result<(), Memory>
     put_number(out, u64::from(map.algorithm))
 }
 
-// Adds the words of an event, each behind a space.
-fn put_event(alloc: Global, out: &mut Bytes, event: &Event) -> Result<(), Memory>
+fn put_sender(out: &mut Bytes, sender: &Sender) -> Result<(), Memory>
+    ensures { OnOk result (out.new ≡ out.old ++ (32 ∷ sender_word sender.now)) }
+{
+    match sender {
+        Sender::Client { client } => put_name(out, b'c', client.number()),
+        Sender::Server => put_word(out, b"s"),
+    }
+}
+
+fn put_machine(out: &mut Bytes, machine: &Machine) -> Result<(), Memory>
+    ensures { OnOk result (out.new ≡ out.old ++ (32 ∷ machine_word machine.now)) }
+{
+    match machine {
+        Machine::Drive { drive } => put_name(out, b'd', drive.number()),
+        Machine::Server => put_word(out, b"s"),
+    }
+}
+
+fn put_setup(alloc: Global, out: &mut Bytes, event: &Event) -> Result<(), Memory>
+    requires { group_of event.now ≡ Setup }
     ensures { OnOk result (out.new ≡ out.old ++ spaced_after (event_words event.now (event_hex event.now))) }
 {
     match event {
@@ -99,6 +118,16 @@ fn put_event(alloc: Global, out: &mut Bytes, event: &Event) -> Result<(), Memory
             capacity,
         } => {
             put_word(out, b"drive")?;
+            put_name(out, b'd', drive.number())?;
+            put_key(alloc, out, key)?;
+            put_number(out, *capacity)
+        }
+        Event::Disk {
+            drive,
+            key,
+            capacity,
+        } => {
+            put_word(out, b"disk")?;
             put_name(out, b'd', drive.number())?;
             put_key(alloc, out, key)?;
             put_number(out, *capacity)
@@ -113,89 +142,134 @@ fn put_event(alloc: Global, out: &mut Bytes, event: &Event) -> Result<(), Memory
             put_map(out, map)?;
             put_number(out, u64::from(*tag))
         }
+        Event::ZonedFile { file, map, tag } => {
+            put_word(out, b"zfile")?;
+            put_name(out, b'f', file.number())?;
+            put_map(out, map)?;
+            put_number(out, u64::from(*tag))
+        }
+        Event::Zone { drive, zone } => {
+            put_word(out, b"zone")?;
+            put_name(out, b'd', drive.number())?;
+            put_number(out, u64::from(*zone))
+        }
+        Event::Least { drive, format } => {
+            put_word(out, b"least")?;
+            put_name(out, b'd', drive.number())?;
+            put_number(out, u64::from(*format))
+        }
+        Event::Format { format } => {
+            put_word(out, b"format")?;
+            put_word(out, b"s")?;
+            put_number(out, u64::from(*format))
+        }
+        _ => unreachable!(),
+    }
+}
+
+fn put_traffic(alloc: Global, out: &mut Bytes, event: &Event) -> Result<(), Memory>
+    requires { group_of event.now ≡ Traffic }
+    ensures { OnOk result (out.new ≡ out.old ++ spaced_after (event_words event.now (event_hex event.now))) }
+{
+    match event {
         Event::Do { client, call } => {
             put_word(out, b"do")?;
             put_name(out, b'c', client.number())?;
             put_call(alloc, out, call)
         }
-    }
-}
-
-fn put_outcome(alloc: Global, out: &mut Bytes, outcome: &Outcome) -> Result<(), Memory>
-    ensures { OnOk result (out.new ≡ out.old ++ spaced_after (outcome_words outcome.now)) }
-{
-    match outcome {
-        Outcome::WriteOk { length } => {
-            put_word(out, b"write")?;
-            put_word(out, b"ok")?;
-            put_number(out, *length)
+        Event::Call { client, call } => {
+            put_word(out, b"call")?;
+            put_name(out, b'c', client.number())?;
+            put_call(alloc, out, call)
         }
-        Outcome::ReadOk { bytes } => {
-            put_word(out, b"read")?;
-            put_word(out, b"ok")?;
+        Event::Deliver { message } => {
+            put_word(out, b"deliver")?;
+            put_number(out, *message)
+        }
+        Event::Exclude { message } => {
+            put_word(out, b"drop")?;
+            put_number(out, *message)
+        }
+        Event::Settle => put_word(out, b"settle"),
+        Event::Resend { sender } => {
+            put_word(out, b"resend")?;
+            put_sender(out, sender)
+        }
+        Event::Timeout { client, component } => {
+            put_word(out, b"timeout")?;
+            put_name(out, b'c', client.number())?;
+            put_number(out, u64::from(*component))
+        }
+        Event::Leave { client } => {
+            put_word(out, b"leave")?;
+            put_name(out, b'c', client.number())
+        }
+        Event::Inject { drive, bytes } => {
+            put_word(out, b"inject")?;
+            put_name(out, b'd', drive.number())?;
             put_bytes(alloc, out, bytes.as_slice())
         }
+        _ => unreachable!(),
     }
 }
 
-fn put_note(out: &mut Bytes, note: Note) -> Result<(), Memory>
-    ensures { OnOk result (out.new ≡ out.old ++ spaced_after (note_words note)) }
+fn put_upkeep(out: &mut Bytes, event: &Event) -> Result<(), Memory>
+    requires { group_of event.now ≡ Upkeep }
+    ensures { OnOk result (out.new ≡ out.old ++ spaced_after (event_words event.now (event_hex event.now))) }
 {
-    match note {
-        Note::Ready => put_word(out, b"ready"),
+    match event {
+        Event::Clock { machine, time } => {
+            put_word(out, b"clock")?;
+            put_machine(out, machine)?;
+            put_number(out, *time)
+        }
+        Event::Recall { file } => {
+            put_word(out, b"recall")?;
+            put_name(out, b'f', file.number())
+        }
+        Event::Revoke { file } => {
+            put_word(out, b"revoke")?;
+            put_name(out, b'f', file.number())
+        }
+        Event::Rebuild { file } => {
+            put_word(out, b"rebuild")?;
+            put_name(out, b'f', file.number())
+        }
+        Event::Audit { file } => {
+            put_word(out, b"audit")?;
+            put_name(out, b'f', file.number())
+        }
+        Event::Declare { drive } => {
+            put_word(out, b"declare")?;
+            put_name(out, b'd', drive.number())
+        }
+        Event::Stop { client } => {
+            put_word(out, b"stop")?;
+            put_name(out, b'c', client.number())
+        }
+        Event::Fail { drive } => {
+            put_word(out, b"fail")?;
+            put_name(out, b'd', drive.number())
+        }
+        Event::Crash { machine } => {
+            put_word(out, b"crash")?;
+            put_machine(out, machine)
+        }
+        Event::Reopen { machine } => {
+            put_word(out, b"reopen")?;
+            put_machine(out, machine)
+        }
+        _ => unreachable!(),
     }
 }
 
-fn put_yes_or_no(out: &mut Bytes, yes: bool) -> Result<(), Memory>
-    ensures { OnOk result (out.new ≡ out.old ++ (32 ∷ yes_or_no yes)) }
+// Adds the words of an event, each behind a space.
+pub(crate) fn put_event(alloc: Global, out: &mut Bytes, event: &Event) -> Result<(), Memory>
+    ensures { OnOk result (out.new ≡ out.old ++ spaced_after (event_words event.now (event_hex event.now))) }
 {
-    put_word(
-        out,
-        if yes {
-            b"yes".as_slice()
-        } else {
-            b"no".as_slice()
-        },
-    )
-}
-
-fn text_of(alloc: Global, line: &Line) -> Result<Bytes, Memory>
-    ensures { IfOk result (λ text. text ≡ line_text line.now) }
-{
-    match line {
-        Line::Event { event } => {
-            let mut out = Bytes::copied(alloc, b"=")?;
-            put_event(alloc, &mut out, event)?;
-            Ok(out)
-        }
-        Line::Ended { client, outcome } => {
-            let mut out = Bytes::copied(alloc, b"o")?;
-            put_name(&mut out, b'c', client.number())?;
-            put_outcome(alloc, &mut out, outcome)?;
-            Ok(out)
-        }
-        Line::Note { file, note } => {
-            let mut out = Bytes::copied(alloc, b"f")?;
-            put_name(&mut out, b'f', file.number())?;
-            put_note(&mut out, *note)?;
-            Ok(out)
-        }
-        Line::Last { calm, unguessed } => {
-            let mut out = Bytes::copied(alloc, b"calm")?;
-            put_yes_or_no(&mut out, *calm)?;
-            put_word(&mut out, b"unguessed")?;
-            put_yes_or_no(&mut out, *unguessed)?;
-            Ok(out)
-        }
+    match event_group(event) {
+        Group::Setup => put_setup(alloc, out, event),
+        Group::Traffic => put_traffic(alloc, out, event),
+        Group::Upkeep => put_upkeep(out, event),
     }
-}
-
-/// The text of a line of a transcript, without its newline. Hexadecimal digits are in lower case.
-///
-/// The text of an event's line is `= ` and a text that [`crate::read_event`] reads as the event.
-pub fn write_line(alloc: Global, line: &Line) -> Result<Bytes, Memory>
-    ensures text { IfOk result (λ text. text ≡ line_text line.now) }
-    ensures spells { IfOk result (SpellsItsEvent line.now) }
-{
-    text_of(alloc, line)
 }
