@@ -1,10 +1,9 @@
 -- What the layers above need of plain striping: a byte is found again from its place, and the bytes of a unit lie one after another.
-use Rattle.std.proofs.Common.{◌≡◌, ℕ, ◌+◌, ◌-◌, ◌*◌, ◌/◌, ◌%◌, ◌<◌, ◌≤◌, refl, sym, ap, ◌∙◌, arith}
+use Rattle.std.proofs.Common.{◌≡◌, ℕ, ◌+◌, ◌*◌, ◌/◌, ◌%◌, ◌<◌, refl, sym, ap, ◌∙◌, arith}
 use Rattle.std.proofs.lemmas.Nat.{div-add-mod', div-mul-add, mod-mul-add, mul-add-lt, div_below, mod_below, mul-lt}
 use Rattle.std.proofs.Math.Nat.{mul-add-mod_self_right, mul_assoc, mul_comm}
 use Rattle.data_map.specs.declared.check.RawMap.{RawMap}
-use Rattle.data_map.specs.Check.{IsChecked}
-use Rattle.data_map.specs.Striping.{stripe_length, place_of, logical_of, left_in_unit}
+use Rattle.data_map.specs.Striping.{place_of, logical_of, left_in_unit}
 
 stripe_positive : (m : RawMap) → 0 < m.unit → 0 < m.comps → 0 < m.comps * m.unit
 stripe_positive m u c = mul-lt 0 0 m.comps m.unit c u

@@ -1,5 +1,5 @@
 -- Which maps can be used.
-use Rattle.std.specs.Prelude.{◌≡◌, ℕ, ◌<◌, ◌≤◌, nat_eq, nat_lt, if◌then◌else◌, ◌||◌, Result, Ok, Err}
+use Rattle.std.specs.Prelude.{◌≡◌, ◌<◌, ◌≤◌, nat_eq, nat_lt, if◌then◌else◌, ◌||◌, Result, Ok, Err}
 use Rattle.data_map.specs.declared.check.TheConstants.{MAX_COMPONENTS, MAX_STRIPE_UNIT, MAX_WIDTH}
 use Rattle.data_map.specs.declared.check.RawMap.{RawMap}
 use Rattle.data_map.specs.declared.check.MapErr.{MapErr}

@@ -1,5 +1,5 @@
 -- A log that is judged entry by entry.
-use Rattle.std.proofs.Common.{◌≡◌, ℕ, ◌+◌, ◌<◌, List, [], ◌∷◌, ◌++◌, length, take, drop, get_or, refl, sym, ap, subst, ◌∙◌, arith, drop-cons, add-one}
+use Rattle.std.proofs.Common.{◌≡◌, ℕ, ◌+◌, ◌<◌, List, [], ◌∷◌, ◌++◌, length, take, drop, get_or, sym, ap, subst, ◌∙◌, drop-cons, add-one}
 use Rattle.std.proofs.lemmas.List.{take_more, take-append-drop}
 use Rattle.file_log.specs.declared.entry.Entry.{Entry}
 use Rattle.file_log.specs.Judge.{Candidates, new_file, after_entry, Fits, Accepts, AcceptsFrom, candidates, candidates_from}

@@ -1,13 +1,12 @@
 -- A file of which every write was acknowledged has one value at each position, and one size.
-use Rattle.std.proofs.Common.{◌≡◌, ℕ, zero, suc, ◌+◌, ◌-◌, ◌<◌, ◌≤◌, max, min, Bool, true, false, cond, List, [], ◌∷◌, ◌++◌, length, get_or, Option, Some, None, refl, sym, ap, ◌∙◌, arith, inl, inr}
-use Rattle.std.specs.Prelude.{nat_lt, ◌==◌, slice_get, slice_index, Contains}
+use Rattle.std.proofs.Common.{◌≡◌, ℕ, ◌+◌, ◌-◌, ◌<◌, ◌≤◌, true, List, [], ◌∷◌, ◌++◌, length, get_or, Some, None, refl, sym, ap, ◌∙◌, arith, inl, inr}
 use Rattle.std.proofs.lemmas.Bool.{cases_lt, lt-ltb, le-ltb, eq-eqb}
 use Rattle.std.proofs.lemmas.Option.{slice_get-get_or, slice_get_past}
 use Rattle.osd_bytes.specs.Overwrite.{overwritten}
 use Rattle.osd_bytes.proofs.Overwritten.{length-overwritten, before_overwritten, inside_overwritten, behind_overwritten}
 use Rattle.file_log.specs.declared.entry.Entry.{Entry}
 use Rattle.file_log.specs.declared.entry.Entry.TheVariants.{Write, Read}
-use Rattle.file_log.specs.Judge.{Candidates, byte_for, settled, given, after_entry, Finds, Fits, AcceptsFrom, candidates_from, new_file, IsSettled, IsRange}
+use Rattle.file_log.specs.Judge.{Candidates, byte_for, settled, given, after_entry, Fits, AcceptsFrom, candidates_from, new_file, IsSettled, IsRange}
 
 pub new_is_settled : IsSettled new_file []
 new_is_settled = record { values = λ p. refl; sizes = refl }

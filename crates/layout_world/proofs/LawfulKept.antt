@@ -1,6 +1,6 @@
 -- Each event that is carried out leaves a lawful history.
-use Rattle.std.proofs.Common.{◌≡◌, ℕ, ◌+◌, ◌<◌, ◌≤◌, max, Bool, true, false, cond, List, [], ◌∷◌, ◌++◌, length, get_or, Option, Some, None, refl, sym, ap, subst, ◌∙◌, arith, inl, inr}
-use Rattle.std.specs.Prelude.{◌⊎◌, ◌==◌, slice_index, slice_set, IsSome, IsNone, if◌then◌else◌}
+use Rattle.std.proofs.Common.{◌≡◌, ℕ, ◌+◌, max, Bool, true, List, [], ◌∷◌, ◌++◌, length, Option, Some, None, refl, sym, ap, subst, ◌∙◌, arith, inl, inr}
+use Rattle.std.specs.Prelude.{slice_index, slice_set, IsNone}
 use Rattle.std.specs.Ordering.{nat_cmp}
 use Rattle.std.specs.BTreeMap.{insert_entry}
 use Rattle.std.proofs.lemmas.Bool.{cases_eq, eq-eqb, ne_eqb}
@@ -13,7 +13,7 @@ use Rattle.osd_bytes.specs.Overwrite.{overwritten}
 use Rattle.osd_bytes.proofs.Overwritten.{length-overwritten}
 use Rattle.file_log.specs.declared.entry.Entry.{Entry}
 use Rattle.file_log.specs.declared.entry.Entry.TheVariants.{Write, Read}
-use Rattle.file_log.specs.Judge.{new_file, after_entry, given, Fits, Accepts, candidates, candidates_from, IsSettled, IsRange}
+use Rattle.file_log.specs.Judge.{new_file, given, Accepts, candidates, IsSettled, IsRange}
 use Rattle.file_log.proofs.Settled.{new_is_settled, after_write, answer_fits, after_answer, accepts_more, candidates_more}
 use Rattle.scenario_text.specs.declared.event.Event.{Event}
 use Rattle.scenario_text.specs.declared.event.Event.TheVariants.{Drive, Client, File, Do}
@@ -25,11 +25,11 @@ use Rattle.scenario_text.specs.declared.line.Outcome.{Outcome}
 use Rattle.scenario_text.specs.declared.line.Outcome.TheVariants.{WriteOk, ReadOk}
 use Rattle.scenario_text.specs.declared.line.Note.TheVariants.{Ready}
 use Rattle.layout_world.specs.Cluster.{Drives, new_drive, drive_at, object_at, bytes_or_none}
-use Rattle.layout_world.specs.Striped.{byte_of, Holds, IsFormed, Loaded}
+use Rattle.layout_world.specs.Striped.{IsFormed}
 use Rattle.layout_world.specs.declared.file.StripedFile.{StripedFile}
-use Rattle.layout_world.specs.State.{ClusterState, new_cluster, file_at, IsWell, IsWellPlaced, CanAddFile, AddsFile, InRange, CanWrite, DoesWrite, StoresAt, Answers}
+use Rattle.layout_world.specs.State.{ClusterState, new_cluster, file_at, IsWell, CanAddFile, AddsFile, InRange, CanWrite, DoesWrite, StoresAt, Answers}
 use Rattle.layout_world.specs.Events.{raw_of, Carries}
-use Rattle.layout_world.specs.History.{log, IsAnswered, IsLawful, Keeps, StandsFor}
+use Rattle.layout_world.specs.History.{log, IsAnswered, Keeps, StandsFor}
 use Rattle.layout_world.proofs.Logs.{log_more, answered_more}
 use Rattle.layout_world.proofs.Placed.{chosen_known}
 use Rattle.layout_world.proofs.WellKept.{Untouched, still_held, drive_added, well_by_same, made_file, file_made, file_beside, made_untouched, well_after_file, some_is, written_file, file_beside_write, write_untouched, well_after_write}

@@ -1,11 +1,11 @@
 -- Reading a file's bytes unit by unit, and testing for room so.
-use Rattle.std.proofs.Common.{◌≡◌, ℕ, ◌+◌, ◌-◌, ◌<◌, ◌≤◌, min, List, [], ◌∷◌, ◌++◌, length, take, drop, replicate, get_or, refl, sym, ap, ◌∙◌, arith, inl, inr}
+use Rattle.std.proofs.Common.{◌≡◌, ℕ, ◌+◌, ◌-◌, ◌<◌, ◌≤◌, min, List, ◌++◌, length, take, drop, replicate, get_or, sym, ap, ◌∙◌, arith, inl, inr}
 use Rattle.std.specs.Prelude.{slice_index}
 use Rattle.std.proofs.lemmas.Bool.{cases_lt}
 use Rattle.std.proofs.lemmas.List.{length-append, length-take, length-drop, length-replicate, get_or_append_left, get_or-append_right, get_or-take, get_or-drop, get_or-replicate, get_or_past}
 use Rattle.data_map.specs.Striping.{place_of, left_in_unit}
 use Rattle.data_map.proofs.Striping.{ahead}
-use Rattle.layout_world.specs.Cluster.{Drives, bytes_at, free_at, window}
+use Rattle.layout_world.specs.Cluster.{Drives, free_at, window}
 use Rattle.layout_world.specs.Striped.{component_bytes, byte_of, IsFormed, HasRoom, Loaded}
 use Rattle.layout_world.specs.declared.file.StripedFile.{StripedFile}
 

@@ -1,5 +1,5 @@
 -- A history that goes on: the log of each file goes on with it.
-use Rattle.std.proofs.Common.{◌≡◌, ℕ, Bool, true, false, cond, eqb, List, [], ◌∷◌, ◌++◌, Option, Some, None, refl, sym, ap, ◌∙◌, append_assoc}
+use Rattle.std.proofs.Common.{◌≡◌, ℕ, Bool, true, false, cond, eqb, List, [], ◌∷◌, ◌++◌, Option, Some, refl, sym, ap, ◌∙◌, append_assoc}
 use Rattle.std.specs.Prelude.{is_some, IsSome}
 use Rattle.file_log.specs.declared.entry.Entry.{Entry}
 use Rattle.scenario_text.specs.declared.event.Event.{Event}

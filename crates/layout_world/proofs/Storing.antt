@@ -1,14 +1,14 @@
 -- Writing a file's bytes unit by unit writes them all.
-use Rattle.std.proofs.Common.{◌≡◌, ℕ, zero, suc, ◌+◌, ◌-◌, ◌<◌, ◌≤◌, min, max, Bool, true, false, cond, eqb, List, [], ◌∷◌, ◌++◌, length, get_or, Option, Some, None, refl, sym, ap, subst, ◌∙◌, arith, inl, inr}
-use Rattle.std.specs.Prelude.{◌⊎◌, ◌==◌, ◌&&◌, slice_index, is_some, IsSome, if◌then◌else◌}
+use Rattle.std.proofs.Common.{◌≡◌, ℕ, ◌+◌, ◌-◌, ◌<◌, ◌≤◌, max, List, [], ◌++◌, length, get_or, Some, refl, sym, ap, subst, ◌∙◌, arith, inl, inr}
+use Rattle.std.specs.Prelude.{◌⊎◌, ◌==◌, ◌&&◌, slice_index, is_some, if◌then◌else◌}
 use Rattle.std.proofs.lemmas.Bool.{cases_lt, cases_eq, eq-eqb, ne_eqb}
-use Rattle.std.proofs.lemmas.List.{length-append, get_or_append_left, get_or-append_right, append-nil}
+use Rattle.std.proofs.lemmas.List.{length-append, get_or_append_left, get_or-append_right}
 use Rattle.data_map.specs.Striping.{place_of, left_in_unit}
 use Rattle.data_map.proofs.Striping.{position_below, one_place, ahead}
 use Rattle.osd_bytes.specs.Overwrite.{overwritten}
 use Rattle.osd_bytes.proofs.Overwritten.{length-overwritten, before_overwritten, inside_overwritten, behind_overwritten}
 use Rattle.layout_world.specs.Cluster.{Drives, object_at, bytes_at, bytes_or_none, capacity_at}
-use Rattle.layout_world.specs.Striped.{component_bytes, byte_of, Holds, Stands, IsFormed, IsOther, Reaches, Stored}
+use Rattle.layout_world.specs.Striped.{component_bytes, byte_of, Holds, Stands, IsFormed, Reaches, Stored}
 use Rattle.layout_world.specs.declared.file.StripedFile.{StripedFile}
 
 -- one object was written over, and no other changed

@@ -1,10 +1,10 @@
 -- Each event leaves a state whose files are well placed.
-use Rattle.std.proofs.Common.{◌≡◌, ℕ, ◌+◌, ◌-◌, ◌*◌, ◌<◌, ◌≤◌, max, Bool, true, false, cond, List, [], ◌∷◌, length, Option, Some, None, Ok, refl, sym, ap, subst, ◌∙◌, arith, inl, inr}
-use Rattle.std.specs.Prelude.{◌⊎◌, ◌==◌, is_some, IsSome, IsNone, slice_index, slice_set, if◌then◌else◌}
+use Rattle.std.proofs.Common.{◌≡◌, ℕ, ◌+◌, ◌-◌, ◌<◌, ◌≤◌, max, Bool, true, List, [], ◌∷◌, length, Option, Some, None, refl, sym, ap, subst, ◌∙◌, arith, inl, inr}
+use Rattle.std.specs.Prelude.{is_some, IsNone, slice_index, slice_set}
 use Rattle.std.specs.Ordering.{nat_cmp}
 use Rattle.std.specs.BTreeMap.{is_at, insert_entry}
 use Rattle.std.specs.Map.{lookup}
-use Rattle.std.proofs.lemmas.Bool.{cases_lt, cases_eq, eq-eqb, ne_eqb}
+use Rattle.std.proofs.lemmas.Bool.{cases_eq, eq-eqb, ne_eqb}
 use Rattle.std.proofs.lemmas.List.{length-set}
 use Rattle.data_map.specs.declared.check.RawMap.{RawMap}
 use Rattle.data_map.specs.Check.{IsChecked}
@@ -12,10 +12,9 @@ use Rattle.data_map.proofs.Checks.{checked_is_checked}
 use Rattle.data_map.specs.Striping.{place_of}
 use Rattle.data_map.proofs.Striping.{position_below}
 use Rattle.layout_world.specs.Cluster.{Drives, DriveState, new_drive, drive_at, object_of, object_at, bytes_or_none}
-use Rattle.layout_world.specs.Placing.{Made}
-use Rattle.layout_world.specs.Striped.{component_bytes, byte_of, Holds, Stands, IsFormed, IsOther, Stored}
+use Rattle.layout_world.specs.Striped.{Holds, Stands, IsFormed}
 use Rattle.layout_world.specs.declared.file.StripedFile.{StripedFile}
-use Rattle.layout_world.specs.State.{ClusterState, file_at, first_of, IsWell, IsWellPlaced, CanAddDrive, AddsDrive, CanAddFile, AddsFile, InRange, CanWrite, DoesWrite, StoresAt}
+use Rattle.layout_world.specs.State.{ClusterState, file_at, first_of, IsWell, IsWellPlaced, CanAddFile, AddsFile, InRange, CanWrite, DoesWrite, StoresAt}
 use Rattle.scenario_text.specs.declared.event.Event.{Event}
 use Rattle.scenario_text.specs.declared.event.Event.TheVariants.{Drive, Client, File, Do}
 use Rattle.scenario_text.specs.declared.event.Call.TheVariants.{Write, Read}

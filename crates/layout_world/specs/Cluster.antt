@@ -4,7 +4,6 @@ use Rattle.std.specs.Ordering.{nat_cmp}
 use Rattle.std.specs.BTreeMap.{is_at}
 use Rattle.std.specs.List.{fold}
 use Rattle.std.specs.Map.{lookup, values_of}
-use Rattle.data_map.specs.declared.check.RawMap.{RawMap}
 
 -- a drive: how many bytes it takes, and its objects by number
 pub record DriveState : Type 0 where

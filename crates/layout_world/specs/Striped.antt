@@ -1,6 +1,5 @@
 -- A file's bytes on the drives: each at its place, by the file's map.
-use Rattle.std.specs.Prelude.{◌≡◌, ◌⊎◌, ℕ, ◌+◌, ◌-◌, ◌<◌, ◌≤◌, min, List, length, slice_index, IsSome}
-use Rattle.data_map.specs.declared.check.RawMap.{RawMap}
+use Rattle.std.specs.Prelude.{◌≡◌, ◌⊎◌, ℕ, ◌+◌, ◌<◌, ◌≤◌, min, List, length, slice_index, IsSome}
 use Rattle.data_map.specs.Check.{IsChecked}
 use Rattle.data_map.specs.Striping.{place_of, left_in_unit}
 use Rattle.osd_bytes.specs.Overwrite.{overwritten}

@@ -1,9 +1,9 @@
 -- Each way to end keeps its promise.
-use Rattle.std.proofs.Common.{◌≡◌, ℕ, ◌+◌, ◌-◌, ◌<◌, ◌≤◌, Bool, true, false, List, [], ◌∷◌, ◌++◌, length, take, Option, Some, None, Result, Ok, Err, refl, sym, ap, subst, ◌∙◌, append_assoc, arith, inl, inr}
-use Rattle.std.specs.Prelude.{◌⊎◌, codes}
+use Rattle.std.proofs.Common.{◌≡◌, ℕ, ◌+◌, ◌<◌, Bool, true, false, List, [], ◌∷◌, ◌++◌, length, take, Option, Some, None, Result, Ok, Err, refl, sym, ap, subst, ◌∙◌, append_assoc, arith, inl, inr}
+use Rattle.std.specs.Prelude.{codes}
 use Rattle.std.specs.Io.KnownBytes.{Appends, IsAtEnd}
 use Rattle.std.proofs.Math.Seq.{take-append-add}
-use Rattle.std.proofs.lemmas.List.{append-nil, take_all, take-append-le, length-append}
+use Rattle.std.proofs.lemmas.List.{append-nil, take_all, take-append-le}
 use Rattle.std.specs.Io.KnownBytes.{prepend_known}
 use Rattle.osd_bytes.specs.Reading.{SeesEnd}
 use Rattle.osd_bytes.specs.Causes.{Rose}
@@ -14,20 +14,20 @@ use Rattle.osd_bytes.proofs.Known.{Appends-then}
 use Rattle.scenario_text.specs.declared.line.Line.TheVariants.{Last}
 use Rattle.scenario_text.specs.declared.event.EventErr.TheVariants.{NotYet}
 use Rattle.layout_world.specs.State.{ClusterState, new_cluster}
-use Rattle.layout_world.specs.History.{Step, lines_of_steps, events_of_steps, state_from, text}
+use Rattle.layout_world.specs.History.{Step, lines_of_steps, state_from, text}
 use Rattle.pnfs_osd.specs.Errors.{error_line, kind_name}
 use Rattle.pnfs_osd.specs.Puts.{Puts}
 use Rattle.pnfs_osd.specs.Finish.{Finishes, last_text}
 use Rattle.pnfs_osd.specs.Stops.{error_of, status_of, stop_of_line}
 use Rattle.pnfs_osd.specs.LineCarried.{CarriesLine, StopsLine}
-use Rattle.pnfs_osd.specs.Replay.{Ends, HasEvents, Begins, IsAll, Runs, Tells, IsRefused, RefusesNext, final_text, Promises, Stops}
+use Rattle.pnfs_osd.specs.Replay.{Ends, Begins, IsAll, Runs, Tells, IsRefused, RefusesNext, final_text, Promises, Stops}
 use Rattle.pnfs_osd.specs.declared.status.ScenarioKind.{ScenarioKind}
 use Rattle.pnfs_osd.specs.declared.status.ScenarioKind.TheVariants.{Event as EventKind}
 use Rattle.pnfs_osd.specs.declared.status.Status.{Status}
 use Rattle.pnfs_osd.specs.declared.status.Status.TheVariants.{Done, BadWords, BadScenario, ReadFault, WriteFault, Memory}
 use Rattle.pnfs_osd.specs.declared.stop.Stop.{Stop}
 use Rattle.pnfs_osd.specs.declared.stop.Stop.TheVariants.{Refused, Read, Memory as WantsMemory}
-use Rattle.pnfs_osd.proofs.SoFar.{SoFar, Reached, OneMore, one_more, text_more, reached_more}
+use Rattle.pnfs_osd.proofs.SoFar.{SoFar, Reached, one_more, text_more, reached_more}
 
 -- what went out before an error line, and that line
 pub tells : (b a : Ends) (middle : Option (List ℕ)) (bytes error : List ℕ) (failed : ℕ) (whole : Bool) → Appends b.taken middle bytes → Puts middle a.taken failed a.writes_failed error whole → failed ≡ b.writes_failed → Tells b a bytes error

@@ -1,8 +1,6 @@
 -- A replay so far: the lines that were carried out, and what went out for them.
-use Rattle.std.proofs.Common.{◌≡◌, ℕ, ◌+◌, ◌-◌, ◌<◌, ◌≤◌, List, [], ◌∷◌, ◌++◌, length, take, Option, Some, None, Result, Ok, Err, refl, sym, ap, subst, ◌∙◌, append_assoc, arith, inl, inr}
-use Rattle.std.specs.Prelude.{◌⊎◌, ⊤}
-use Rattle.std.specs.List.{flat_map}
-use Rattle.std.specs.Io.KnownBytes.{Appends, Consumes}
+use Rattle.std.proofs.Common.{◌≡◌, ℕ, ◌+◌, List, [], ◌∷◌, ◌++◌, length, Option, Some, None, Ok, refl, sym, ap, subst, ◌∙◌, append_assoc, arith, inl, inr}
+use Rattle.std.specs.Io.KnownBytes.{Appends}
 use Rattle.std.proofs.lemmas.List.{append-nil, length-append, map-append}
 use Rattle.std.proofs.lemmas.Grind.{flat_map-append}
 use Rattle.std.proofs.lemmas.List.Concat.{flat_map-cons}
@@ -10,13 +8,12 @@ use Rattle.osd_bytes.specs.Lines.{Yields, TakesLine, lines_of}
 use Rattle.osd_bytes.proofs.Known.{Appends-then}
 use Rattle.scenario_text.specs.declared.event.Event.{Event}
 use Rattle.scenario_text.specs.declared.line.Line.{Line}
-use Rattle.scenario_text.specs.Spelling.{Fits, Spells, IsSkipped}
 use Rattle.scenario_text.specs.LineSpelling.{line_text}
 use Rattle.layout_world.specs.State.{ClusterState, new_cluster}
 use Rattle.layout_world.specs.Events.{Carries}
 use Rattle.layout_world.specs.History.{Step, IsRunFrom, IsRun, IsLawful, StandsFor, lines_of_steps, events_of_steps, state_from, text}
-use Rattle.pnfs_osd.specs.Replay.{HasEvents, Begins, IsAll, Runs}
-use Rattle.pnfs_osd.specs.LineCarried.{CarriesLine, CarriesEvent}
+use Rattle.pnfs_osd.specs.Replay.{HasEvents}
+use Rattle.pnfs_osd.specs.LineCarried.{CarriesLine}
 
 -- the input's bytes up to those that are still to come, and their lines
 abbrev pub Reached : Option (List ℕ) → List (List ℕ) → ℕ → Option (List ℕ) → Type 0

@@ -1,6 +1,5 @@
 -- What carrying out one line of a scenario gives.
-use Rattle.std.specs.Prelude.{◌≡◌, ◌⊎◌, ◌++◌, ℕ, List, [], Ok, Some, Result, Err}
-use Rattle.osd_bytes.specs.declared.lines.LineErr.{LineErr}
+use Rattle.std.specs.Prelude.{◌≡◌, ◌⊎◌, ◌++◌, ℕ, List, [], Ok, Some}
 use Rattle.scenario_text.specs.declared.event.Event.{Event}
 use Rattle.scenario_text.specs.declared.line.Line.{Line}
 use Rattle.scenario_text.specs.Spelling.{Fits, Spells, IsSkipped}

@@ -1,4 +1,4 @@
-use Rattle.std.proofs.Common.{◌≡◌, true, false, true≢false, sym, ap, subst, ◌∙◌, List, take}
+use Rattle.std.proofs.Common.{true≢false, sym, subst, ◌∙◌, List, take}
 use Rattle.file_log.specs.declared.entry.Entry.{Entry}
 use Rattle.file_log.specs.Judge.{Fits, candidates}
 use Rattle.file_log.proofs.Growing.{accepts_next, accepted_fits}

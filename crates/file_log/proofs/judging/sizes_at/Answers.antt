@@ -1,4 +1,4 @@
-use Rattle.std.proofs.Common.{ap, sym, ◌∙◌, ◌≡◌, List, ℕ}
+use Rattle.std.proofs.Common.{ap, sym, ◌∙◌, List, ℕ}
 use Rattle.file_log.specs.Judge.{sizes_after}
 use Rattle.file_log.proofs.Growing.{candidates_next}
 use Rattle.file_log.proofs.judging.sizes_at.Goals as goal

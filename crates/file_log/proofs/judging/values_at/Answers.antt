@@ -1,4 +1,4 @@
-use Rattle.std.proofs.Common.{ap, sym, ◌∙◌, ◌≡◌, List, ℕ}
+use Rattle.std.proofs.Common.{ap, sym, ◌∙◌, List, ℕ}
 use Rattle.file_log.specs.Judge.{values_after}
 use Rattle.file_log.proofs.Growing.{candidates_next}
 use Rattle.file_log.proofs.judging.values_at.Goals as goal

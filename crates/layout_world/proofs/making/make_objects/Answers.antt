@@ -1,8 +1,7 @@
-use Rattle.std.proofs.Common.{rules, arith, ◌≡◌, ◌+◌, ◌++◌, ◌∷◌, [], length, take, get_or, ap, sym, subst, ◌∙◌}
+use Rattle.std.proofs.Common.{arith, ◌≡◌, length, take, get_or}
 use Rattle.std.specs.Prelude.{slice_index}
 use Rattle.std.proofs.lemmas.List.{length-take, take_more}
-use Rattle.layout_world.proofs.Placed.{drive_kept, made_more, Makes}
-use Rattle.layout_world.specs.Placing.{Made}
+use Rattle.layout_world.proofs.Placed.{drive_kept, made_more}
 use Rattle.layout_world.proofs.making.make_objects.Goals as goal
 
 pub create-requires : goal.create-requires

@@ -1,6 +1,4 @@
-use Rattle.std.proofs.Common.{rules, arith, subst, ◌≡◌, sym, ap, ◌∙◌, length, map, take, List, ℕ}
-use Rattle.std.specs.List.Sorted.{IsPermutation}
-use Rattle.layout_world.specs.Placing.{Chosen}
+use Rattle.std.proofs.Common.{rules, ap, ◌∙◌, map, take, List, ℕ}
 use Rattle.layout_world.proofs.placing.choose.Goals as goal
 
 pub returns-clause-chosen : goal.returns-clause-chosen

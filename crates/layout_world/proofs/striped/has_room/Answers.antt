@@ -1,4 +1,4 @@
-use Rattle.std.proofs.Common.{rules, arith, ◌≡◌, ◌+◌, ◌-◌, ◌<◌, ◌≤◌, min, length, ap, ◌∙◌, true, false}
+use Rattle.std.proofs.Common.{rules, arith, ◌≡◌, ◌+◌, ◌-◌, min, length, ap, ◌∙◌}
 use Rattle.std.proofs.lemmas.Nat.{mod_below}
 use Rattle.data_map.specs.Striping.{place_of, left_in_unit}
 use Rattle.layout_world.specs.Cluster.{bytes_at, free_at}

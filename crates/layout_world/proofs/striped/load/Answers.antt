@@ -1,10 +1,9 @@
-use Rattle.std.proofs.Common.{rules, arith, ◌≡◌, ◌+◌, ◌-◌, ◌≤◌, ◌++◌, min, length, ap, ◌∙◌, subst}
-use Rattle.std.proofs.lemmas.List.{length-append}
+use Rattle.std.proofs.Common.{arith, ◌≡◌, ◌+◌, ◌-◌, ◌++◌, min, length, ap, ◌∙◌}
 use Rattle.data_map.specs.Striping.{place_of, left_in_unit}
 use Rattle.layout_world.specs.Cluster.{bytes_at, window}
-use Rattle.layout_world.specs.Striped.{component_bytes, Loaded}
+use Rattle.layout_world.specs.Striped.{component_bytes}
 use Rattle.layout_world.specs.declared.file.Part.{Part}
-use Rattle.layout_world.proofs.Loading.{length-window, loaded_more}
+use Rattle.layout_world.proofs.Loading.{loaded_more}
 use Rattle.layout_world.proofs.striped.load.Goals as goal
 
 pub loop-answer-preserved : goal.loop-answer-preserved

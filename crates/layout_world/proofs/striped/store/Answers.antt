@@ -1,10 +1,9 @@
-use Rattle.std.proofs.Common.{rules, arith, ◌≡◌, ◌+◌, ◌++◌, ◌<◌, ◌≤◌, length, take, drop, refl, sym, ap, ◌∙◌}
+use Rattle.std.proofs.Common.{arith, ◌≡◌, ◌+◌, ◌++◌, ◌<◌, ◌≤◌, length, take, drop, sym, ap, ◌∙◌}
 use Rattle.std.proofs.Math.Seq.{take-add}
 use Rattle.std.proofs.lemmas.List.{length-take}
 use Rattle.std.proofs.lemmas.Nat.{mod_below}
 use Rattle.data_map.proofs.Striping.{position_below}
 use Rattle.data_map.specs.Striping.{left_in_unit}
-use Rattle.layout_world.specs.Striped.{part_of}
 use Rattle.layout_world.proofs.Storing.{stored_nothing, stored_on}
 use Rattle.layout_world.proofs.striped.store.Goals as goal
 

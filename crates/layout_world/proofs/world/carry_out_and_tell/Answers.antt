@@ -1,4 +1,4 @@
-use Rattle.std.proofs.Common.{rules, refl, inr, ◌≡◌, ◌++◌, ◌∷◌, List}
+use Rattle.std.proofs.Common.{refl, inr, ◌∷◌, List}
 use Rattle.std.specs.Option.{option_to_list}
 use Rattle.scenario_text.specs.declared.line.Line.{Line}
 use Rattle.scenario_text.specs.declared.line.Line.TheVariants.{Event as EventLine}

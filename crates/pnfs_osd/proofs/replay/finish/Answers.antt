@@ -1,4 +1,4 @@
-use Rattle.std.proofs.Common.{rules, ◌≡◌, ◌∙◌}
+use Rattle.std.proofs.Common.{rules, ◌≡◌}
 use Rattle.osd_bytes.specs.Put.{written_of}
 use Rattle.pnfs_osd.specs.Finish.{last_text}
 use Rattle.pnfs_osd.proofs.replay.finish.Goals as goal

@@ -1,10 +1,9 @@
-use Rattle.std.proofs.Common.{rules, arith, refl, sym, ap, Err, subst, ◌≡◌, ◌∙◌, ◌+◌, List, ℕ, [], Option, Some, true, false}
-use Rattle.std.specs.Io.KnownBytes.{IsAtEnd}
+use Rattle.std.proofs.Common.{arith, refl, ap, Err, ◌≡◌, ◌∙◌, []}
 use Rattle.osd_bytes.specs.Put.{written_of}
 use Rattle.layout_world.specs.State.{new_cluster}
 use Rattle.layout_world.specs.History.{StandsFor}
 use Rattle.pnfs_osd.specs.LineCarried.{CarriesLine, StopsLine}
-use Rattle.pnfs_osd.proofs.SoFar.{SoFar, nothing_yet, goes_on}
+use Rattle.pnfs_osd.proofs.SoFar.{nothing_yet, goes_on}
 use Rattle.pnfs_osd.proofs.Promised.{finished, no_line, line_stopped, part_put, nothing_ahead, at_end}
 use Rattle.pnfs_osd.proofs.replay.replay.Goals as goal
 

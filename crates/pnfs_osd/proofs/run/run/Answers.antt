@@ -1,6 +1,5 @@
-use Rattle.std.proofs.Common.{rules, refl, ◌≡◌, []}
+use Rattle.std.proofs.Common.{refl, []}
 use Rattle.pnfs_osd.specs.Errors.{words_error}
-use Rattle.pnfs_osd.specs.Puts.{Puts}
 use Rattle.pnfs_osd.proofs.SoFar.{appends_none}
 use Rattle.pnfs_osd.proofs.Promised.{tells}
 use Rattle.pnfs_osd.proofs.run.run.Goals as goal

@@ -1,9 +1,8 @@
-use Rattle.std.proofs.Common.{rules, refl, ◌≡◌, ◌≤◌, Some, Ok, sym, ap, ◌∙◌, length, ℕ, List, subst, arith}
-use Rattle.std.specs.Prelude.{IsNone, IsSome, slice_index}
+use Rattle.std.proofs.Common.{rules, refl, ◌≡◌, ◌≤◌, Ok, ap, ◌∙◌, length}
+use Rattle.std.specs.Prelude.{IsNone}
 use Rattle.std.specs.Ordering.{nat_cmp}
 use Rattle.std.specs.BTreeMap.{insert_entry}
 use Rattle.data_map.specs.Check.{IsPlain, checked}
-use Rattle.layout_world.specs.Cluster.{drive_at}
 use Rattle.layout_world.specs.Placing.{Chosen, Made}
 use Rattle.layout_world.specs.State.{ClusterState, file_at, first_of}
 use Rattle.layout_world.proofs.Placed.{chosen_known}

@@ -1,4 +1,4 @@
-use Rattle.std.proofs.Common.{rules, refl, ◌≡◌, Some, true, false, true≢false, sym, ap, ◌∙◌, length, [], List, ℕ}
+use Rattle.std.proofs.Common.{rules, refl, ◌≡◌, Some, true≢false, sym, ap, ◌∙◌, length, [], List, ℕ}
 use Rattle.std.specs.Prelude.{◌==◌}
 use Rattle.layout_world.specs.State.{ClusterState, file_at, InRange}
 use Rattle.layout_world.specs.Striped.{HasRoom}
