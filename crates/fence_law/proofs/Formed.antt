@@ -4,7 +4,7 @@ use Rattle.fence_law.specs.Words.{upd}
 use Rattle.fence_law.specs.Machine.{Book, Event, Allowed, after, Grant, Call, Start, granted, written_start, read_start, mend_start, rebuilt_start, spans, overlaid, only}
 use Rattle.fence_law.specs.Machine.Call.{Idle, Writes, Reads, Broken}
 use Rattle.fence_law.specs.Machine.Event.{Grants, Reports, Forgets, Frees, Fences, Fenced, StartsWrite, StartsRead, Acks, Breaks, Answers, EndsRead, Fails, Drops, Declares, Mends, Mended, Rebuilds, TakesBad, Loses, Leaves}
-use Rattle.fence_law.specs.Law.{gives}
+use Rattle.fence_law.specs.Log.{gives}
 use Rattle.fence_law.proofs.Words.{up_on, upd_other, upd_read, upd_same}
 use Rattle.fence_law.proofs.Holds.{Holds}
 use Rattle.fence_law.proofs.Commands.{Calls}

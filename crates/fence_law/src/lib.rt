@@ -2,7 +2,43 @@
 #![tactic(auto)]
 
 ghost use Rattle.fence_law.specs.Runs.{IsMeantThen, IsShown};
-ghost use Rattle.fence_law.specs.Law.{IsFenced, IsJudged, IsSized, IsSpared, IsWhole};
+ghost use Rattle.fence_law.specs.Law.{IsConflictFree, IsFenced, IsGranted, IsJudged, IsRestored, IsSized, IsSpared, IsWhole};
+
+/// In every run, grants of different clients that share a column are both for reading.
+pub fn conflict_free()
+    ensures { IsConflictFree }
+{
+}
+
+/// In every run, what a drive may write is of a grant for writing that is live, or that the running fence ends.
+pub fn granted()
+    ensures { IsGranted }
+{
+}
+
+/// In every run, nothing of a grant that a fence ended is performed from the fence's end on.
+pub fn fenced()
+    ensures { IsFenced }
+{
+}
+
+/// In every run, a client's call under a live grant knows the size.
+pub fn sized()
+    ensures { IsSized }
+{
+}
+
+/// In every run, no call's command is performed at a component that was dropped after its grant.
+pub fn spared()
+    ensures { IsSpared }
+{
+}
+
+/// Right after a repair no column that it counts as repaired is disturbed.
+pub fn restored()
+    ensures { IsRestored }
+{
+}
 
 /// The judge accepts the log of every calm run.
 pub fn judged()
@@ -10,25 +46,13 @@ pub fn judged()
 {
 }
 
-/// A column that isn't disturbed is whole.
+/// In a calm run a column that isn't disturbed is whole, of bytes among the judge's values.
 pub fn whole()
     ensures { IsWhole }
 {
 }
 
-/// A call under a grant of its time knows the size.
-pub fn sized()
-    ensures { IsSized }
-{
-}
-
-/// No call's command is performed at a component that was dropped after its grant.
-pub fn spared()
-    ensures { IsSpared }
-{
-}
-
-/// Two short runs, and what their reads answer.
+/// Three short runs, and what their reads answer.
 pub fn shown()
     ensures { IsShown }
 {
@@ -37,11 +61,5 @@ pub fn shown()
 /// With "lost" meant of the present moment, an undisturbed column needn't be whole.
 pub fn meant_then()
     ensures { IsMeantThen }
-{
-}
-
-/// What a drive may perform is of a grant of the file's tag.
-pub fn fenced()
-    ensures { IsFenced }
 {
 }
