@@ -1,5 +1,5 @@
 use Rattle.std.proofs.Common.{sym, ◌∙◌, inl, arith}
-use Rattle.fence_law.specs.Machine.{Book, Layout, Event, Allowed, after, first_book, IsCalm}
+use Rattle.fence_law.specs.Machine.{State, Layout, Event, Allowed, after, new_file_state, IsCalm}
 use Rattle.fence_law.specs.Law.{IsCode}
 use Rattle.fence_law.proofs.Chains.{chain-none}
 use Rattle.fence_law.proofs.Chosen.{Late_ack}
@@ -20,7 +20,7 @@ use Rattle.fence_law.proofs.WholeNow.{Whole_now, keep_whole_now, start_whole, re
 use Rattle.fence_law.proofs.Safe.{Safe, keep_safe, safe_first}
 
 -- what holds at every moment of a calm run
-pub record Sure (b : Book) : Type 0 where
+pub record Sure (b : State) : Type 0 where
   pub safe : Safe b
   pub late : Late_ack b
   pub quiet : Quiet b
@@ -32,7 +32,7 @@ pub record Sure (b : Book) : Type 0 where
   pub mixed : Mixed b
   pub whole : Whole_now b
 
-pub keep_sure : (b : Book) (e : Event) → Allowed b e → IsCalm b → Sure b → Sure (after b e)
+pub keep_sure : (b : State) (e : Event) → Allowed b e → IsCalm b → Sure b → Sure (after b e)
 keep_sure b e a calm s = let re = rebuilt_word b s.safe.code s.safe.formed s.safe.cells s.safe.eras s.settled_ s.whole in let now = start_whole b s.safe.formed s.safe.holds s.safe.mending s.safe.eras s.safe.busy s.settled_ s.whole in
   let safe2 = keep_safe b e a s.safe in record {
   safe = safe2;
@@ -46,7 +46,7 @@ keep_sure b e a calm s = let re = rebuilt_word b s.safe.code s.safe.formed s.saf
   mixed = keep_mixed b e a calm s.safe.code s.safe.tags s.safe.formed s.safe.calls s.safe.running s.safe.known s.safe.unacked s.safe.done s.safe.dead s.late s.safe.mending s.safe.eras s.safe.later s.safe.unserved s.safe.chosen_open s.safe.cells s.sound s.all_word s.safe.mended re s.safe.gone_lost s.mixed;
   whole = keep_whole_now b e a s.safe.code s.safe.tags s.safe.formed s.safe.calls s.safe.running s.safe.known s.safe.unacked s.safe.done s.safe.dead s.late s.safe.mending s.safe.eras s.safe.later s.safe.chosen_open s.safe.cells s.all_word s.safe.mended s.mixed s.settled_ re s.safe.gone_lost s.whole }
 
-pub sure_first : (m : Layout) → IsCode m → Sure (first_book m)
+pub sure_first : (m : Layout) → IsCode m → Sure (new_file_state m)
 sure_first m code = record {
   safe = safe_first m code;
   late = λ j p v o. absurd (omega (arith, o.0));

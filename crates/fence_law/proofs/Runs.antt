@@ -1,28 +1,28 @@
 use Rattle.std.proofs.Common.{◌≡◌, ℕ, zero, suc, ◌+◌, ◌<◌, Bool, true, false, ◌==◌, ◌&&◌, ◌||◌, List, [], ◌∷◌, ◌++◌, Some, None, ◌⊎◌, refl, sym, ap, ◌∙◌, inl, inr, arith}
 use Rattle.std.proofs.lemmas.Bool.Decides.{nat_tests}
 use Rattle.std.proofs.lemmas.Bool.{and_parts, eq-eqb, eqb-true, true≢false}
-use Rattle.fence_law.specs.Words.{upd, over}
-use Rattle.fence_law.specs.Machine.{Book, Event, spans, Lawful, after, after_all, first_book, Short, Grant}
-use Rattle.fence_law.specs.Machine.Event.{Fences, Steps, Fenced, StartsWrite, Sends, Performs, StartsRead, Fails, Drops, Mends, Rebuilds, Loses}
-use Rattle.fence_law.specs.Machine.{Out, only}
-use Rattle.fence_law.specs.Machine.Out.{NotSent, Sent, Done}
+use Rattle.fence_law.specs.Words.{updated, over}
+use Rattle.fence_law.specs.Machine.{State, Event, spans, Lawful, after, after_all, new_file_state, Short, Grant}
+use Rattle.fence_law.specs.Machine.Event.{Fences, SetsTag, Fenced, StartsWrite, Sends, Performs, StartsRead, Fails, Drops, Repairs, Rebuilds, Loses}
+use Rattle.fence_law.specs.Machine.{PartState, only}
+use Rattle.fence_law.specs.Machine.PartState.{NotSent, Sent, Done}
 use Rattle.fence_law.specs.Law.{IsCode, Calms}
-use Rattle.fence_law.specs.Runs.{reported, lease, message, always, among, at_first, byte, file, nothing, one_part, first_cells, doubles, doubled, tripled, written_41, stopped, late, copied_on, IsShown, CalmsNow, IsMeantThen, never}
-use Rattle.fence_law.proofs.Words.{upd_at, upd_other, upd_read}
+use Rattle.fence_law.specs.Runs.{reported, lease, message, always, among, at_first, byte, file, nothing, one_part, first_cells, doubles, doubled, tripled, written_41, stopped, late, copied_on, CalmsNow, IsMeantThen, never}
+use Rattle.fence_law.proofs.Words.{updated_at, updated_other, updated_read}
 
 -- runs without losses are calm
-Keeps : Event → Type 0
+pub Keeps : Event → Type 0
 Keeps (Fails k) = ⊥
 Keeps (Drops k) = ⊥
 Keeps (Loses c k) = ⊥
 Keeps (Rebuilds k cells) = ⊥
 Keeps e = Unit {0}
 
-abbrev AllKeep : List Event → Type 0
+abbrev pub AllKeep : List Event → Type 0
 AllKeep [] = Unit {0}
 AllKeep (e ∷ es) = Keeps e × AllKeep es
 
-keeps_lost : (b : Book) (e : Event) → Keeps e → (after b e).lost ≡ b.lost
+keeps_lost : (b : State) (e : Event) → Keeps e → (after b e).lost ≡ b.lost
 unfolding Keeps
 keeps_lost b (Fails k) n = absurd n
 keeps_lost b (Drops k) n = absurd n
@@ -30,18 +30,18 @@ keeps_lost b (Loses c k) n = absurd n
 keeps_lost b (Rebuilds k cells) n = absurd n
 keeps_lost b e n = refl
 
-calm_unlost : (b : Book) → ((k : ℕ) → b.lost k ≡ false) → (x : ℕ) → Short b x → ⊥
+calm_unlost : (b : State) → ((k : ℕ) → b.lost k ≡ false) → (x : ℕ) → Short b x → ⊥
 calm_unlost b none x s = true≢false (sym (s.4 s.0 s.1 s.2 s.3 (λ d. refl)) ∙ none s.0)
 
-calms_unlost : (b : Book) (es : List Event) → AllKeep es → ((k : ℕ) → b.lost k ≡ false) → Calms b es
+pub calms_unlost : (b : State) (es : List Event) → AllKeep es → ((k : ℕ) → b.lost k ≡ false) → Calms b es
 calms_unlost b [] n none = λ x c t s. calm_unlost b none x s
 calms_unlost b (e ∷ es) n none = (λ x c t s. calm_unlost b none x s, calms_unlost (after b e) es n.1 (λ k. ap (λ f. f k) (keeps_lost b e n.0) ∙ none k))
 
-lawful_more : (b : Book) (es fs : List Event) → Lawful b es → Lawful (after_all b es) fs → Lawful b (es ++ fs)
+pub lawful_more : (b : State) (es fs : List Event) → Lawful b es → Lawful (after_all b es) fs → Lawful b (es ++ fs)
 lawful_more b [] fs l m = m
 lawful_more b (e ∷ es) fs l m = (l.0, lawful_more (after b e) es fs l.1 m)
 
-doubled_code : IsCode doubled
+pub doubled_code : IsCode doubled
 doubled_code = record { local = local; zeros = zeros; copies = copies; has_copy = λ p. (0, p, rw (eq-eqb p p refl) refl); plain = λ k z f y c. absurd (true≢false c) }
   where
     local : (k z : ℕ) (d f : ℕ → ℕ) → ((q : ℕ) → q ≡ z → d q ≡ f q) → doubles k z d ≡ doubles k z f
@@ -88,34 +88,34 @@ sees_none v (suc q) t n = absurd (true≢false (sym t))
 
 
 -- the parts of a call once both replies have come
-abbrev outs : ℕ → ℕ → ℕ → ℕ → Out
-outs a w = upd (upd (upd (upd (λ k i. NotSent) 0 (upd (λ i. NotSent) 0 (Sent a))) 1 (upd (λ i. NotSent) 0 (Sent w))) 0 (upd (upd (λ i. NotSent) 0 (Sent a)) 0 Done)) 1 (upd (upd (λ i. NotSent) 0 (Sent w)) 0 Done)
+abbrev outs : ℕ → ℕ → ℕ → ℕ → PartState
+outs a w = updated (updated (updated (updated (λ k i. NotSent) 0 (updated (λ i. NotSent) 0 (Sent a))) 1 (updated (λ i. NotSent) 0 (Sent w))) 0 (updated (updated (λ i. NotSent) 0 (Sent a)) 0 Done)) 1 (updated (updated (λ i. NotSent) 0 (Sent w)) 0 Done)
 
 outs_told : (a w k i v : ℕ) → outs a w k i ≡ Sent v → ⊥
-outs_told a w k i v e = go (upd_read _ 1 _ k).1
+outs_told a w k i v e = go (updated_read _ 1 _ k).1
   where
-    part : (x : Out) → upd (upd (λ i2. NotSent) 0 x) 0 Done i ≡ Sent v → ⊥
-    part x f = elim (upd_read (upd (λ i2. NotSent) 0 x) 0 Done i).1 [
+    part : (x : PartState) → updated (updated (λ i2. NotSent) 0 x) 0 Done i ≡ Sent v → ⊥
+    part x f = elim (updated_read (updated (λ i2. NotSent) 0 x) 0 Done i).1 [
         inl y ↦ let z : Done ≡ Sent v = sym y.1 ∙ f in cc z
-      | inr y ↦ let z : NotSent ≡ Sent v = sym (upd_other (λ i2. NotSent) 0 x i y.0) ∙ sym y.1 ∙ f in cc z ]
-    go : ((k ≡ 1) × (outs a w k ≡ upd (upd (λ i2. NotSent) 0 (Sent w)) 0 Done)) ⊎ ((k ≡ 1 → ⊥) × (outs a w k ≡ upd (upd (upd (λ k2 i2. NotSent) 0 (upd (λ i2. NotSent) 0 (Sent a))) 1 (upd (λ i2. NotSent) 0 (Sent w))) 0 (upd (upd (λ i2. NotSent) 0 (Sent a)) 0 Done) k)) → ⊥
+      | inr y ↦ let z : NotSent ≡ Sent v = sym (updated_other (λ i2. NotSent) 0 x i y.0) ∙ sym y.1 ∙ f in cc z ]
+    go : ((k ≡ 1) × (outs a w k ≡ updated (updated (λ i2. NotSent) 0 (Sent w)) 0 Done)) ⊎ ((k ≡ 1 → ⊥) × (outs a w k ≡ updated (updated (updated (λ k2 i2. NotSent) 0 (updated (λ i2. NotSent) 0 (Sent a))) 1 (updated (λ i2. NotSent) 0 (Sent w))) 0 (updated (updated (λ i2. NotSent) 0 (Sent a)) 0 Done) k)) → ⊥
     go (inl y) = part (Sent w) (sym (ap (λ f. f i) y.1) ∙ e)
-    go (inr y) = elim (upd_read (upd (upd (λ k2 i2. NotSent) 0 (upd (λ i2. NotSent) 0 (Sent a))) 1 (upd (λ i2. NotSent) 0 (Sent w))) 0 (upd (upd (λ i2. NotSent) 0 (Sent a)) 0 Done) k).1 [
+    go (inr y) = elim (updated_read (updated (updated (λ k2 i2. NotSent) 0 (updated (λ i2. NotSent) 0 (Sent a))) 1 (updated (λ i2. NotSent) 0 (Sent w))) 0 (updated (updated (λ i2. NotSent) 0 (Sent a)) 0 Done) k).1 [
         inl x ↦ part (Sent a) (sym (ap (λ f. f i) (y.1 ∙ x.1)) ∙ e)
-      | inr x ↦ let z : NotSent ≡ Sent v = sym (ap (λ f. f i) (y.1 ∙ x.1 ∙ upd_other (upd (λ k2 i2. NotSent) 0 (upd (λ i2. NotSent) 0 (Sent a))) 1 _ k y.0 ∙ upd_other (λ k2 i2. NotSent) 0 _ k x.0)) ∙ e in cc z ]
+      | inr x ↦ let z : NotSent ≡ Sent v = sym (ap (λ f. f i) (y.1 ∙ x.1 ∙ updated_other (updated (λ k2 i2. NotSent) 0 (updated (λ i2. NotSent) 0 (Sent a))) 1 _ k y.0 ∙ updated_other (λ k2 i2. NotSent) 0 _ k x.0)) ∙ e in cc z ]
 
 outs_all : (a w x k z v : ℕ) → only (first_cells 2 k z) x ≡ Some v → outs a w k 0 ≡ Done
-unfolding upd
+unfolding updated
 outs_all a w x zero zero v e = refl
 outs_all a w x (suc zero) zero v e = refl
 outs_all a w x (suc (suc k)) zero v e = absurd (cc e)
 outs_all a w x k (suc z) v e = absurd (cc e)
 
-lawful_41 : Lawful (first_book doubled) written_41
-unfolding upd
+pub lawful_41 : Lawful (new_file_state doubled) written_41
+unfolding updated
 lawful_41 =
   (record { free = refl; home = refl; none = refl; idle = refl },
-  (record { asks = inl refl; over = refl; mended = refl; none = refl; apart = λ d g e. absurd (cc e); apart_ext = λ d g e. absurd (cc e) },
+  (record { asks = inl refl; over = refl; repaired = refl; none = refl; apart = λ d g e. absurd (cc e); apart_ext = λ d g e. absurd (cc e) },
   (record { waits = refl; comes = inl refl },
   (record { has = refl; idle = refl; within = λ x r. refl; reaches = λ p w. refl },
   (record { some = (0, 41, refl, refl); ends = λ p v e. (byte_place 41 p v e).1; room = inl refl; has = refl; may = refl; gathers = refl; gathered = λ x t. refl;
@@ -129,7 +129,7 @@ lawful_41 =
   (record { free = refl; home = refl },
   (record { runs = refl; plain = refl },
   (record { free = refl; out = refl; next = refl },
-  (record { asks = refl; live = refl; ext = refl; over = refl },
+  (record { asks = refl; live = refl; extending = refl; over = refl },
   (record { out = refl; served = refl },
   (refl,
   (record { runs = refl; plain = refl; fits = inr refl; told = λ k i v e. absurd (outs_told 1 2 k i v e); all = λ k z v e. inl (outs_all 1 2 _ k z v e) },
@@ -147,45 +147,45 @@ shown_first : (v : ℕ) (cells d : ℕ → ℕ) → cells 0 ≡ v → (p : ℕ) 
 shown_first v cells d c zero s h = sym c ∙ h
 shown_first v cells d c (suc p) s h = absurd (grind (arith, nat_tests, s))
 
--- the book when the repair begins
-abbrev at_repair : Book
-at_repair = after_all (after_all (first_book doubled) written_41) (StartsRead 0 (lease 1 1 true true) 0 0 always ∷ StartsWrite 0 (lease 1 1 true true) 2 (byte 42) at_first (first_cells 2) nothing 1 one_part ∷
-  Sends 0 0 (lease 1 1 true true) 3 0 ∷ Performs (message 0 1 1 3 0 3) ∷ Fences ∷ Steps 0 ∷ Steps 1 ∷ Fenced ∷ [])
+-- the state when the repair begins
+abbrev at_repair : State
+at_repair = after_all (after_all (new_file_state doubled) written_41) (StartsRead 0 (lease 1 1 true true) 0 0 always ∷ StartsWrite 0 (lease 1 1 true true) 2 (byte 42) at_first (first_cells 2) nothing 1 one_part ∷
+  Sends 0 0 (lease 1 1 true true) 3 0 ∷ Performs (message 0 1 1 3 0 3) ∷ Fences ∷ SetsTag 0 ∷ SetsTag 1 ∷ Fenced ∷ [])
 
-abbrev after_repair : Book
-after_repair = after at_repair (Mends 1 0 (file 42))
+abbrev after_repair : State
+after_repair = after at_repair (Repairs 1 0 (file 42))
 
-abbrev both_written : Book
-both_written = after_all (after_all (first_book doubled) written_41) (StartsRead 0 (lease 1 1 true true) 0 0 always ∷ StartsWrite 0 (lease 1 1 true true) 2 (byte 42) at_first (first_cells 2) nothing 1 one_part ∷
+abbrev both_written : State
+both_written = after_all (after_all (new_file_state doubled) written_41) (StartsRead 0 (lease 1 1 true true) 0 0 always ∷ StartsWrite 0 (lease 1 1 true true) 2 (byte 42) at_first (first_cells 2) nothing 1 one_part ∷
   Sends 0 0 (lease 1 1 true true) 3 0 ∷ Sends 0 1 (lease 1 1 true true) 3 0 ∷ Performs (message 0 1 1 3 0 3) ∷ Performs (message 0 1 1 4 1 3) ∷ [])
 
 abbrev written_43 : ℕ → ℕ
-written_43 = (after_all (first_book doubled) (written_41 ++ late)).cell 0
+written_43 = (after_all (new_file_state doubled) (written_41 ++ late)).cell 0
 
-lawful_stopped : Lawful (after_all (first_book doubled) written_41) stopped
-unfolding upd
+pub lawful_stopped : Lawful (after_all (new_file_state doubled) written_41) stopped
+unfolding updated
 lawful_stopped =
   (record { has = refl; idle = refl; within = λ x r. refl; reaches = λ p w. refl },
   (record { some = (0, 42, refl, refl); ends = λ p v e. (byte_place 42 p v e).1; room = inl refl; has = refl; may = refl; gathers = refl; gathered = λ x t. refl;
     touches = λ p v e. (byte_place 42 p v e).0; hits = λ k z e. hits_first 2 k z e; lands = λ p v e. (0, 0, refl, lands_first 42 p v e); misses = λ k z a lf n e. misses_double 42 k z a n e; sees = λ q t n e g. sees_none 42 q t n },
   (record { runs = refl; has = refl; listed = refl; first = refl },
   (record { comes = inl refl; there = omega arith; stands = refl; here = refl; right = refl; new = omega arith },
-  (record { over = refl; mended = refl },
+  (record { over = refl; repaired = refl },
   (inl refl,
   (inl refl,
   (record { runs = refl; all = two_cases _ (inr (inr (inl refl))) (inr (inl refl)) },
   (record { runs = refl; is = refl; stands = refl; all = λ q c. (0, 0, rw c refl, refl, rw c refl) },
   (record { runs = refl; left = λ x d. absurd (true≢false d);
-    right = λ x d k z is here l. four_cells after_repair.cell 42 refl (λ y. refl) refl (λ y. upd_other (at_repair.cell 1) 0 84 (suc y) (λ e. absurd (omega (arith, e)))) k z is; copies = λ q d. (0, q, rw (eq-eqb q q refl) refl, refl) },
+    right = λ x d k z is here l. four_cells after_repair.cell 42 refl (λ y. refl) refl (λ y. updated_other (at_repair.cell 1) 0 84 (suc y) (λ e. absurd (omega (arith, e)))) k z is; copies = λ q d. (0, q, rw (eq-eqb q q refl) refl, refl) },
   (record { free = refl; home = refl; none = refl; idle = refl },
-  (record { asks = inl refl; over = refl; mended = refl; none = refl; apart = λ d g e. absurd (cc e); apart_ext = λ d g e. absurd (cc e) },
+  (record { asks = inl refl; over = refl; repaired = refl; none = refl; apart = λ d g e. absurd (cc e); apart_ext = λ d g e. absurd (cc e) },
   (record { waits = refl; comes = inl refl },
   (record { has = refl; idle = refl; within = λ x r. refl; reaches = λ p w. refl },
   (record { client = refl; in_log = omega arith; right = refl; there = omega arith; stands = refl },
   (record { runs = refl; told = (_, inl refl, refl); all = λ p w d ag. shown_first 42 (after_repair.cell 0) d refl p w (ag _ (inl refl) refl p refl refl) }, tt))))))))))))))))
 
-lawful_late : Lawful (after_all (first_book doubled) written_41) late
-unfolding upd
+pub lawful_late : Lawful (after_all (new_file_state doubled) written_41) late
+unfolding updated
 lawful_late =
   (record { has = refl; idle = refl; within = λ x r. refl; reaches = λ p w. refl },
   (record { some = (0, 42, refl, refl); ends = λ p v e. (byte_place 42 p v e).1; room = inl refl; has = refl; may = refl; gathers = refl; gathered = λ x t. refl;
@@ -194,14 +194,14 @@ lawful_late =
   (record { runs = refl; has = refl; listed = refl; first = refl },
   (record { comes = inr (inl refl); there = omega arith; stands = refl; here = refl; right = refl; new = omega arith },
   (record { comes = inl refl; there = omega arith; stands = refl; here = refl; right = refl; new = omega arith },
-  (record { over = refl; mended = refl },
+  (record { over = refl; repaired = refl },
   (inl refl,
   (inl refl,
   (record { runs = refl; all = two_cases _ (inr (inr (inl refl))) (inr (inl refl)) },
   (record { runs = refl; left = λ x d. absurd (true≢false d);
     right = λ x d k z is here l. four_cells both_written.cell 42 refl (λ y. refl) refl (λ y. refl) k z is; copies = λ q d. (0, q, rw (eq-eqb q q refl) refl, refl) },
   (record { free = refl; home = refl; none = refl; idle = refl },
-  (record { asks = inl refl; over = refl; mended = refl; none = refl; apart = λ d g e. absurd (cc e); apart_ext = λ d g e. absurd (cc e) },
+  (record { asks = inl refl; over = refl; repaired = refl; none = refl; apart = λ d g e. absurd (cc e); apart_ext = λ d g e. absurd (cc e) },
   (record { waits = refl; comes = inl refl },
   (record { has = refl; idle = refl; within = λ x r. refl; reaches = λ p w. refl },
   (record { some = (0, 43, refl, refl); ends = λ p v e. (byte_place 43 p v e).1; room = inl refl; has = refl; may = refl; gathers = refl; gathered = λ x t. refl;
@@ -222,23 +222,23 @@ lawful_late =
   (record { client = refl; in_log = omega arith; right = refl; there = omega arith; stands = refl },
   (record { runs = refl; told = (_, inl refl, refl); all = λ p w d ag. shown_first 43 written_43 d refl p w (ag _ (inl refl) refl p refl refl) }, tt)))))))))))))))))))))))))))))))
 
-all_keep : (es fs : List Event) → AllKeep es → AllKeep fs → AllKeep (es ++ fs)
+pub all_keep : (es fs : List Event) → AllKeep es → AllKeep fs → AllKeep (es ++ fs)
 all_keep [] fs a c = c
 all_keep (e ∷ es) fs a c = (a.0, all_keep es fs a.1 c)
 
-keep_41 : AllKeep written_41
+pub keep_41 : AllKeep written_41
 unfolding Keeps
 keep_41 = (tt, (tt, (tt, (tt, (tt, (tt, (tt, (tt, (tt, (tt, (tt, (tt, (tt, (tt, (tt, (tt, (tt, (tt, (tt, tt)))))))))))))))))))
 
-keep_stopped : AllKeep stopped
+pub keep_stopped : AllKeep stopped
 unfolding Keeps
 keep_stopped = (tt, (tt, (tt, (tt, (tt, (tt, (tt, (tt, (tt, (tt, (tt, (tt, (tt, (tt, (tt, (tt, tt))))))))))))))))
 
-keep_late : AllKeep late
+pub keep_late : AllKeep late
 unfolding Keeps
 keep_late = (tt, (tt, (tt, (tt, (tt, (tt, (tt, (tt, (tt, (tt, (tt, (tt, (tt, (tt, (tt, (tt, (tt, (tt, (tt, (tt, (tt, (tt, (tt, (tt, (tt, (tt, (tt, (tt, (tt, (tt, (tt, tt)))))))))))))))))))))))))))))))
 
-tripled_code : IsCode tripled
+pub tripled_code : IsCode tripled
 tripled_code = record { local = λ k z d f h. h z refl; zeros = λ k z. refl; copies = copies; has_copy = λ p. (0, p, rw (eq-eqb p p refl) refl);
   plain = λ k z f y c a d e. (z, rw (a, eq-eqb z z refl) refl, rw (d, eq-eqb y z e) refl) }
   where
@@ -249,18 +249,18 @@ misses_plain : (v k z : ℕ) → among 3 k ≡ true → first_cells 3 k z ≡ fa
 misses_plain v k zero a n e = absurd (true≢false (sym a ∙ n))
 misses_plain v k (suc z) a n e = refl
 
-lawful_copied : Lawful (first_book tripled) copied_on
-unfolding upd
+lawful_copied : Lawful (new_file_state tripled) copied_on
+unfolding updated
 lawful_copied =
   (record { free = refl; home = refl; none = refl; idle = refl },
-  (record { asks = inl refl; over = refl; mended = refl; none = refl; apart = λ d g e. absurd (cc e); apart_ext = λ d g e. absurd (cc e) },
+  (record { asks = inl refl; over = refl; repaired = refl; none = refl; apart = λ d g e. absurd (cc e); apart_ext = λ d g e. absurd (cc e) },
   (record { waits = refl; comes = inl refl },
   (record { has = refl; idle = refl; within = λ x r. refl; reaches = λ p w. refl },
   (record { some = (0, 1, refl, refl); ends = λ p v e. (byte_place 1 p v e).1; room = inl refl; has = refl; may = refl; gathers = refl; gathered = λ x t. refl;
     touches = λ p v e. (byte_place 1 p v e).0; hits = λ k z e. hits_first 3 k z e; lands = λ p v e. (0, 0, refl, lands_first 1 p v e); misses = λ k z a lf n e. misses_plain 1 k z a n e; sees = λ q t n e g. sees_none 1 q t n },
   (record { runs = refl; has = refl; listed = refl; first = refl },
   (record { comes = inl refl; there = omega arith; stands = refl; here = refl; right = refl; new = omega arith },
-  (record { over = refl; mended = refl },
+  (record { over = refl; repaired = refl },
   (inl refl,
   (inl refl,
   (inl refl,
@@ -268,49 +268,49 @@ lawful_copied =
   (record { runs = refl; is = refl; stands = refl; all = λ q c. (0, 0, rw c refl, refl, rw c refl) },
   (tt, tt))))))))))))))
 
-same_map : (b : Book) (e : Event) → (after b e).map ≡ b.map
+same_map : (b : State) (e : Event) → (after b e).layout ≡ b.layout
 same_map b Fenced = refl
 same_map b e = refl
 
-calms_plain : (b : Book) (es : List Event) → ((x : ℕ) → b.map.coded x ≡ false) → CalmsNow b es
+calms_plain : (b : State) (es : List Event) → ((x : ℕ) → b.layout.coded x ≡ false) → CalmsNow b es
 calms_plain b [] p = λ x c t s. true≢false (sym c ∙ p x)
 calms_plain b (e ∷ es) p = (λ x c t s. true≢false (sym c ∙ p x), calms_plain (after b e) es (λ x. ap (λ m. m.coded x) (same_map b e) ∙ p x))
 
 -- the parts of a call that waits for its third
-abbrev outs3 : ℕ → ℕ → Out
-outs3 = upd (upd (upd (upd (upd (λ k i. NotSent) 0 (upd (λ i. NotSent) 0 (Sent 1))) 1 (upd (λ i. NotSent) 0 (Sent 2))) 2 (upd (λ i. NotSent) 0 (Sent 3))) 0 (upd (upd (λ i. NotSent) 0 (Sent 1)) 0 Done)) 1 (upd (upd (λ i. NotSent) 0 (Sent 2)) 0 Done)
+abbrev outs3 : ℕ → ℕ → PartState
+outs3 = updated (updated (updated (updated (updated (λ k i. NotSent) 0 (updated (λ i. NotSent) 0 (Sent 1))) 1 (updated (λ i. NotSent) 0 (Sent 2))) 2 (updated (λ i. NotSent) 0 (Sent 3))) 0 (updated (updated (λ i. NotSent) 0 (Sent 1)) 0 Done)) 1 (updated (updated (λ i. NotSent) 0 (Sent 2)) 0 Done)
 
 outs3_told : (k i v : ℕ) → outs3 k i ≡ Sent v → k ≡ 2
-outs3_told k i v e = elim (upd_read (upd (upd (upd (upd (λ k2 i2. NotSent) 0 (upd (λ i2. NotSent) 0 (Sent 1))) 1 (upd (λ i2. NotSent) 0 (Sent 2))) 2 (upd (λ i2. NotSent) 0 (Sent 3))) 0 (upd (upd (λ i2. NotSent) 0 (Sent 1)) 0 Done)) 1 (upd (upd (λ i2. NotSent) 0 (Sent 2)) 0 Done) k).1 [
+outs3_told k i v e = elim (updated_read (updated (updated (updated (updated (λ k2 i2. NotSent) 0 (updated (λ i2. NotSent) 0 (Sent 1))) 1 (updated (λ i2. NotSent) 0 (Sent 2))) 2 (updated (λ i2. NotSent) 0 (Sent 3))) 0 (updated (updated (λ i2. NotSent) 0 (Sent 1)) 0 Done)) 1 (updated (updated (λ i2. NotSent) 0 (Sent 2)) 0 Done) k).1 [
     inl y ↦ absurd (part (Sent 2) (sym (ap (λ f. f i) y.1) ∙ e))
-  | inr y ↦ elim (upd_read (upd (upd (upd (λ k2 i2. NotSent) 0 (upd (λ i2. NotSent) 0 (Sent 1))) 1 (upd (λ i2. NotSent) 0 (Sent 2))) 2 (upd (λ i2. NotSent) 0 (Sent 3))) 0 (upd (upd (λ i2. NotSent) 0 (Sent 1)) 0 Done) k).1 [
+  | inr y ↦ elim (updated_read (updated (updated (updated (λ k2 i2. NotSent) 0 (updated (λ i2. NotSent) 0 (Sent 1))) 1 (updated (λ i2. NotSent) 0 (Sent 2))) 2 (updated (λ i2. NotSent) 0 (Sent 3))) 0 (updated (updated (λ i2. NotSent) 0 (Sent 1)) 0 Done) k).1 [
         inl x ↦ absurd (part (Sent 1) (sym (ap (λ f. f i) (y.1 ∙ x.1)) ∙ e))
-      | inr x ↦ elim (upd_read (upd (upd (λ k2 i2. NotSent) 0 (upd (λ i2. NotSent) 0 (Sent 1))) 1 (upd (λ i2. NotSent) 0 (Sent 2))) 2 (upd (λ i2. NotSent) 0 (Sent 3)) k).1 [
+      | inr x ↦ elim (updated_read (updated (updated (λ k2 i2. NotSent) 0 (updated (λ i2. NotSent) 0 (Sent 1))) 1 (updated (λ i2. NotSent) 0 (Sent 2))) 2 (updated (λ i2. NotSent) 0 (Sent 3)) k).1 [
             inl w ↦ w.0
-          | inr w ↦ absurd (let z : NotSent ≡ Sent v = sym (ap (λ f. f i) (y.1 ∙ x.1 ∙ w.1 ∙ upd_other (upd (λ k2 i2. NotSent) 0 (upd (λ i2. NotSent) 0 (Sent 1))) 1 _ k y.0 ∙ upd_other (λ k2 i2. NotSent) 0 _ k x.0)) ∙ e in cc z) ] ] ]
+          | inr w ↦ absurd (let z : NotSent ≡ Sent v = sym (ap (λ f. f i) (y.1 ∙ x.1 ∙ w.1 ∙ updated_other (updated (λ k2 i2. NotSent) 0 (updated (λ i2. NotSent) 0 (Sent 1))) 1 _ k y.0 ∙ updated_other (λ k2 i2. NotSent) 0 _ k x.0)) ∙ e in cc z) ] ] ]
   where
-    part : (x : Out) → upd (upd (λ i2. NotSent) 0 x) 0 Done i ≡ Sent v → ⊥
-    part x f = elim (upd_read (upd (λ i2. NotSent) 0 x) 0 Done i).1 [
+    part : (x : PartState) → updated (updated (λ i2. NotSent) 0 x) 0 Done i ≡ Sent v → ⊥
+    part x f = elim (updated_read (updated (λ i2. NotSent) 0 x) 0 Done i).1 [
         inl y ↦ let z : Done ≡ Sent v = sym y.1 ∙ f in cc z
-      | inr y ↦ let z : NotSent ≡ Sent v = sym (upd_other (λ i2. NotSent) 0 x i y.0) ∙ sym y.1 ∙ f in cc z ]
+      | inr y ↦ let z : NotSent ≡ Sent v = sym (updated_other (λ i2. NotSent) 0 x i y.0) ∙ sym y.1 ∙ f in cc z ]
 
-outs3_all : (t x k z v : ℕ) → only (first_cells 3 k z) x ≡ Some v → (outs3 k 0 ≡ Done) ⊎ ((upd never 2 true k ≡ true) × (t ≡ t))
-unfolding upd
+outs3_all : (t x k z v : ℕ) → only (first_cells 3 k z) x ≡ Some v → (outs3 k 0 ≡ Done) ⊎ ((updated never 2 true k ≡ true) × (t ≡ t))
+unfolding updated
 outs3_all t x zero zero v e = inl refl
 outs3_all t x (suc zero) zero v e = inl refl
 outs3_all t x (suc (suc zero)) zero v e = inr (refl, refl)
 outs3_all t x (suc (suc (suc k))) zero v e = absurd (cc e)
 outs3_all t x k (suc z) v e = absurd (cc e)
 
-calms_uncoded : (b : Book) (es : List Event) → ((x : ℕ) → b.map.coded x ≡ false) → Calms b es
+pub calms_uncoded : (b : State) (es : List Event) → ((x : ℕ) → b.layout.coded x ≡ false) → Calms b es
 calms_uncoded b [] p = λ x c t s. true≢false (sym c ∙ p x)
 calms_uncoded b (e ∷ es) p = (λ x c t s. true≢false (sym c ∙ p x), calms_uncoded (after b e) es (λ x. ap (λ m. m.coded x) (same_map b e) ∙ p x))
 
-lawful_reported : Lawful (first_book tripled) reported
-unfolding upd
+pub lawful_reported : Lawful (new_file_state tripled) reported
+unfolding updated
 lawful_reported =
   (record { free = refl; home = refl; none = refl; idle = refl },
-  (record { asks = inl refl; over = refl; mended = refl; none = refl; apart = λ d g e. absurd (cc e); apart_ext = λ d g e. absurd (cc e) },
+  (record { asks = inl refl; over = refl; repaired = refl; none = refl; apart = λ d g e. absurd (cc e); apart_ext = λ d g e. absurd (cc e) },
   (record { waits = refl; comes = inl refl },
   (record { has = refl; idle = refl; within = λ x r. refl; reaches = λ p w. refl },
   (record { some = (0, 7, refl, refl); ends = λ p v e. (byte_place 7 p v e).1; room = inl refl; has = refl; may = refl; gathers = refl; gathered = λ x t. refl;
@@ -325,46 +325,39 @@ lawful_reported =
   (record { free = refl; home = refl },
   (record { runs = refl; plain = refl },
   (record { free = refl; out = refl; next = refl },
-  (record { asks = refl; live = refl; ext = refl; over = refl },
+  (record { asks = refl; live = refl; extending = refl; over = refl },
   (record { out = refl; served = refl },
   (refl,
   (record { free = refl; home = refl },
   (record { free = refl; out = refl; next = refl },
-  (record { over = refl; mended = refl; has = (_, refl); only = λ d ne. upd_other (λ y. None) 0 (Some (lease 1 1 true true)) d ne },
+  (record { over = refl; repaired = refl; has = (_, refl); only = λ d ne. updated_other (λ y. None) 0 (Some (lease 1 1 true true)) d ne },
   (record { runs = refl; plain = refl; fits = inr refl; told = λ k i v e. gone_third k (outs3_told k i v e); all = λ k z v e. outs3_all 1 _ k z v e },
   (record { has = refl; idle = refl },
   (record { out = refl; served = refl },
   (record { low = omega arith; on = refl },
   (record { free = refl; home = refl; none = refl; idle = refl },
-  (record { asks = inl refl; over = refl; mended = refl; none = refl; apart = λ d g e. absurd (none_left d g e); apart_ext = λ d g e. absurd (none_left d g e) },
+  (record { asks = inl refl; over = refl; repaired = refl; none = refl; apart = λ d g e. absurd (none_left d g e); apart_ext = λ d g e. absurd (none_left d g e) },
   (record { waits = refl; comes = inl refl },
   (record { comes = inl refl; there = omega arith; lost = refl; right = refl; new = omega arith },
   (record { has = refl; idle = refl; within = λ x r. refl; reaches = λ p w. refl },
   (record { client = refl; in_log = omega arith; right = refl; there = omega arith; stands = refl },
-  (record { runs = refl; told = (_, inl refl, refl); all = λ p w d ag. shown_first 7 ((after_all (first_book tripled) reported).cell 0) d refl p w (ag _ (inl refl) refl p refl refl) }, tt))))))))))))))))))))))))))))))))
+  (record { runs = refl; told = (_, inl refl, refl); all = λ p w d ag. shown_first 7 ((after_all (new_file_state tripled) reported).cell 0) d refl p w (ag _ (inl refl) refl p refl refl) }, tt))))))))))))))))))))))))))))))))
   where
-    gone_third : (k : ℕ) → k ≡ 2 → upd never 2 true k ≡ true
-    gone_third k e = upd_at never 2 true k e
-    none_left : (d : ℕ) (g : Grant) → upd (upd (λ y. None) 0 (Some (lease 1 1 true true))) 0 None d ≡ Some g → ⊥
-    none_left d g e = elim (upd_read (upd (λ y. None) 0 (Some (lease 1 1 true true))) 0 None d).1 [
+    gone_third : (k : ℕ) → k ≡ 2 → updated never 2 true k ≡ true
+    gone_third k e = updated_at never 2 true k e
+    none_left : (d : ℕ) (g : Grant) → updated (updated (λ y. None) 0 (Some (lease 1 1 true true))) 0 None d ≡ Some g → ⊥
+    none_left d g e = elim (updated_read (updated (λ y. None) 0 (Some (lease 1 1 true true))) 0 None d).1 [
         inl w ↦ let z : None ≡ Some g = sym w.1 ∙ e in cc z
-      | inr w ↦ let z : None ≡ Some g = sym (upd_other (λ y. None) 0 (Some (lease 1 1 true true)) d w.0) ∙ sym w.1 ∙ e in cc z ]
+      | inr w ↦ let z : None ≡ Some g = sym (updated_other (λ y. None) 0 (Some (lease 1 1 true true)) d w.0) ∙ sym w.1 ∙ e in cc z ]
 
-pub is_shown : IsShown
-unfolding upd
-is_shown = (doubled_code,
-  lawful_more (first_book doubled) written_41 stopped lawful_41 lawful_stopped, calms_unlost (first_book doubled) (written_41 ++ stopped) (all_keep written_41 stopped keep_41 keep_stopped) (λ k. refl), refl,
-  lawful_more (first_book doubled) written_41 late lawful_41 lawful_late, calms_unlost (first_book doubled) (written_41 ++ late) (all_keep written_41 late keep_41 keep_late) (λ k. refl), refl, refl,
-  tripled_code, lawful_reported, calms_uncoded (first_book tripled) reported (λ x. refl), refl, refl)
-
-row_other : (k z : ℕ) → (after_all (first_book tripled) copied_on).applied 1 (suc k) z ≡ false
-unfolding upd
-row_other k z = ap (λ (y : ℕ → Bool). y z) (upd_other (λ f y. false) 0 (λ y. false || (0 == 0)) (suc k) (λ e. absurd (omega (arith, e))))
+row_other : (k z : ℕ) → (after_all (new_file_state tripled) copied_on).applied 1 (suc k) z ≡ false
+unfolding updated
+row_other k z = ap (λ (y : ℕ → Bool). y z) (updated_other (λ f y. false) 0 (λ y. false || (0 == 0)) (suc k) (λ e. absurd (omega (arith, e))))
 
 -- the only part that was performed stands on a component that is lost
-none_now : (j k z : ℕ) → j < 3 → ((after_all (first_book tripled) copied_on).start j).is_write ≡ true → (after_all (first_book tripled) copied_on).applied j k z ≡ true →
-  (after_all (first_book tripled) copied_on).lost k ≡ false → ⊥
-unfolding upd
+none_now : (j k z : ℕ) → j < 3 → ((after_all (new_file_state tripled) copied_on).start j).is_write ≡ true → (after_all (new_file_state tripled) copied_on).applied j k z ≡ true →
+  (after_all (new_file_state tripled) copied_on).lost k ≡ false → ⊥
+unfolding updated
 none_now zero k z l w a lo = true≢false (sym w)
 none_now (suc zero) zero z l w a lo = true≢false lo
 none_now (suc zero) (suc k) z l w a lo = true≢false (sym a ∙ row_other k z)
@@ -372,6 +365,6 @@ none_now (suc (suc zero)) k z l w a lo = true≢false (sym w)
 none_now (suc (suc (suc j))) k z l w a lo = absurd (omega (arith, l))
 
 pub is_meant_then : IsMeantThen
-unfolding upd
-is_meant_then h = let d = h tripled copied_on 0 tripled_code lawful_copied (calms_plain (first_book tripled) copied_on (λ x. refl)) (λ t. none_now t.0 t.1 t.2 t.5 t.6 t.11 t.12) in
+unfolding updated
+is_meant_then h = let d = h tripled copied_on 0 tripled_code lawful_copied (calms_plain (new_file_state tripled) copied_on (λ x. refl)) (λ t. none_now t.0 t.1 t.2 t.5 t.6 t.11 t.12) in
   let one : 1 ≡ d.0 0 = d.1 1 0 refl refl refl in let zero1 : 0 ≡ d.0 0 = d.1 2 0 refl refl refl in absurd (grind (arith, one, zero1))

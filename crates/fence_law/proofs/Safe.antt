@@ -1,6 +1,6 @@
 use Rattle.std.proofs.Common.{List, [], ◌∷◌, refl, sym, inl, arith}
 use Rattle.std.proofs.lemmas.Bool.{true≢false}
-use Rattle.fence_law.specs.Machine.{Book, Layout, Event, Allowed, after, after_all, first_book, Lawful}
+use Rattle.fence_law.specs.Machine.{State, Layout, Event, Allowed, after, after_all, new_file_state, Lawful}
 use Rattle.fence_law.specs.Machine.Event.{Fenced}
 use Rattle.fence_law.specs.Law.{IsCode}
 use Rattle.fence_law.proofs.Tags.{Tags}
@@ -32,8 +32,8 @@ use Rattle.fence_law.proofs.AllWord.{Left_gone, keep_left_gone}
 use Rattle.fence_law.proofs.SettledWrites.{keep_mended_low}
 
 -- what holds at every moment of every run, calm or not
-pub record Safe (b : Book) : Type 0 where
-  pub code : IsCode b.map
+pub record Safe (b : State) : Type 0 where
+  pub code : IsCode b.layout
   pub tags : Tags b
   pub slots : Slots b
   pub holds : Holds b
@@ -65,11 +65,11 @@ pub record Safe (b : Book) : Type 0 where
   pub cells : Cells b
   pub mended : Mended_low b
 
-keep_code : (b : Book) (e : Event) → IsCode b.map → IsCode (after b e).map
+keep_code : (b : State) (e : Event) → IsCode b.layout → IsCode (after b e).layout
 keep_code b Fenced h = h
 keep_code b e h = h
 
-pub keep_safe : (b : Book) (e : Event) → Allowed b e → Safe b → Safe (after b e)
+pub keep_safe : (b : State) (e : Event) → Allowed b e → Safe b → Safe (after b e)
 keep_safe b e a s = record {
   code = keep_code b e s.code;
   tags = keep_tags b e a s.tags;
@@ -103,18 +103,18 @@ keep_safe b e a s = record {
   cells = keep_cells b e a s.tags s.formed s.known s.unacked s.dead s.later s.unserved s.gone_lost s.cells;
   mended = keep_mended_low b e a s.formed s.mending s.eras s.mended }
 
-pub safe_first : (m : Layout) → IsCode m → Safe (first_book m)
+pub safe_first : (m : Layout) → IsCode m → Safe (new_file_state m)
 safe_first m code = record {
   code = code;
   tags = record { at = λ k l x. inl refl; sent = λ t i. absurd i; told = λ k t i. absurd i; high = λ k. inl (omega arith) };
   slots = record { near = λ c. inl (refl, refl, refl); asks = λ r i. absurd i; told = λ r i. absurd i };
   holds = record { waits = λ c w. refl; has = λ c g e. absurd (cc e); comes = λ c g w e k. absurd (cc k); eras = λ c g e. absurd (cc e); apart = λ c d g h ne x y. absurd (cc x) };
   calls = record { waits = λ c w. refl; writes = λ c j e. absurd (cc e); may = λ c j g e x. absurd (cc e); reads = λ c j e. absurd (cc e) };
-  mending = record { era = λ c m. refl; over = λ m. refl };
+  mending = record { outstanding = λ c m. refl; over = λ m. refl };
   formed = λ j l. absurd (omega (arith, l));
   running = record { writes = λ c j e. absurd (cc e); reads = λ c j e. absurd (cc e) };
   known = λ w i. absurd i;
-  unissued = record { era = λ c un. refl; entries = λ j l. absurd (omega (arith, l)) };
+  unissued = record { outstanding = λ c un. refl; entries = λ j l. absurd (omega (arith, l)) };
   caps = record { held = λ c k g e. absurd (cc e); comes = λ c k g w e kp. absurd (cc kp); entries = λ j k l. absurd (omega (arith, l)); sent = λ w i. absurd i };
   sent_low = λ c k i v e. absurd (cc e);
   own = λ w i. absurd i;
@@ -133,10 +133,10 @@ safe_first m code = record {
   chosen_open = λ j p o. refl;
   missing_lost = record { lost = λ k m. absurd (true≢false (sym m)); dropped = λ k m. absurd (true≢false (sym m)) };
   gone_lost = λ k g. g;
-  left_gone = record { era = λ c k g e. absurd (cc e); writes = λ j k o. absurd (omega (arith, o.0)) };
+  left_gone = record { outstanding = λ c k g e. absurd (cc e); writes = λ j k o. absurd (omega (arith, o.0)) };
   cells = λ k z l. sym (chain-none _ _);
   mended = record { low = λ x. omega arith; opened = λ j x o. absurd (omega (arith, o.0)) } }
 
-pub safe_all : (b : Book) (es : List Event) → Lawful b es → Safe b → Safe (after_all b es)
+pub safe_all : (b : State) (es : List Event) → Lawful b es → Safe b → Safe (after_all b es)
 safe_all b [] l s = s
 safe_all b (e ∷ es) l s = safe_all (after b e) es l.1 (keep_safe b e l.0 s)

@@ -3,7 +3,7 @@ use Rattle.std.specs.Prelude.{◌≡◌, ℕ, zero, suc, ◌+◌, ◌-◌, ◌<�
 use Rattle.file_log.specs.declared.entry.Entry.{Entry}
 use Rattle.file_log.specs.declared.entry.Entry.TheVariants.{Write, Read}
 use Rattle.file_log.specs.Judge.{byte_for}
-use Rattle.fence_law.specs.Machine.{Book, Start}
+use Rattle.fence_law.specs.Machine.{State, Start}
 
 -- how many bytes a read of this range gives at the size that its client knew
 abbrev pub gives : Start → ℕ
@@ -24,11 +24,11 @@ IsEntry s said answer (Read offset len given) = record {
   read : s.is_read ≡ true; first : s.from_ ≡ offset; past : s.to_ ≡ offset + len; same : SameAnswer s answer given }
 
 -- an entry of which the file's log says nothing: the server's own writes, and reads without an answer, as those before a write
-abbrev pub IsPassed : Book → ℕ → Type 0
+abbrev pub IsPassed : State → ℕ → Type 0
 IsPassed b j = record { write : (b.start j).is_write ≡ false; answer : b.answer j ≡ None }
 
 -- the list is the log of the machine's entries below a number, in order of start
-abbrev pub IsLog : Book → ℕ → List Entry → Type 0
+abbrev pub IsLog : State → ℕ → List Entry → Type 0
 IsLog b zero log = log ≡ []
 IsLog b (suc j) log = (IsPassed b j × IsLog b j log) ⊎
-  ((front : List Entry) × (e : Entry) × (log ≡ front ++ e ∷ []) × IsLog b j front × IsEntry (b.start j) (b.said j) (b.answer j) e)
+  ((front : List Entry) × (e : Entry) × (log ≡ front ++ e ∷ []) × IsLog b j front × IsEntry (b.start j) (b.told_client j) (b.answer j) e)

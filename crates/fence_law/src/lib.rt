@@ -1,7 +1,8 @@
 // One striped file under leases with a fence, over every schedule: its laws.
 #![tactic(auto)]
 
-ghost use Rattle.fence_law.specs.Runs.{IsMeantThen, IsShown};
+ghost use Rattle.fence_law.specs.Runs.{IsMeantThen};
+ghost use Rattle.fence_law.specs.Examples.{IsShown};
 ghost use Rattle.fence_law.specs.Law.{IsConflictFree, IsFenced, IsGranted, IsJudged, IsRestored, IsSized, IsSpared, IsWhole};
 
 /// In every run, grants of different clients that share a column are both for reading.
