@@ -1,3 +1,4 @@
+-- What a list of writes leaves, by which of them count: lemmas of the recursion.
 use Rattle.std.proofs.Common.{◌≡◌, ℕ, zero, suc, ◌+◌, ◌<◌, ◌≤◌, Bool, true, false, Option, Some, None, ◌⊎◌, refl, sym, ◌∙◌, inl, inr, add-one, arith}
 use Rattle.std.proofs.lemmas.Bool.{cases_eq}
 use Rattle.fence_law.specs.Words.{over}
@@ -47,15 +48,16 @@ pub chain_quiet : (w : ℕ → Bool) (v : ℕ → Option ℕ) (i j : ℕ) → i 
 unfolding chain
 chain_quiet w v i zero l none = let e : i ≡ 0 = omega arith in rw e refl
 chain_quiet w v i (suc j) l none = elim (cases_eq i (suc j)) [
-    inl e ↦ rw e refl
-  | inr ne ↦ over_quiet (w j) (v j) _ (none j (omega arith) (omega arith)) ∙ chain_quiet w v i j (omega arith) (λ x low high. none x low (omega arith)) ]
+  | inl e ↦ rw e refl
+  | inr ne ↦ over_quiet (w j) (v j) _ (none j (omega arith) (omega arith)) ∙ chain_quiet w v i j (omega arith) (λ x low high. none x low (omega arith))
+]
 
 -- the last entry of which anything was performed is performed there too
 pub chain_performs : (w x : ℕ → Bool) (v : ℕ → Option ℕ) (m n : ℕ) → m < n → ((i : ℕ) → m < i → i < n → (w i ≡ false) ⊎ (v i ≡ None)) →
-  x m ≡ true → ((i : ℕ) → (i ≡ m → ⊥) → x i ≡ w i) → over true (v m) (chain w v n) ≡ chain x v n
+    x m ≡ true → ((i : ℕ) → (i ≡ m → ⊥) → x i ≡ w i) → over true (v m) (chain w v n) ≡ chain x v n
 chain_performs w x v m n low none here other =
-  let old : chain w v n ≡ over (w m) (v m) (chain w v m) = chain_quiet w v (m + 1) n (omega arith) (λ i lo hi. none i (omega arith) hi) ∙ chain-next w v m in
-  let new : chain x v n ≡ over (x m) (v m) (chain x v m) =
+    let old : chain w v n ≡ over (w m) (v m) (chain w v m) = chain_quiet w v (m + 1) n (omega arith) (λ i lo hi. none i (omega arith) hi) ∙ chain-next w v m in
+    let new : chain x v n ≡ over (x m) (v m) (chain x v m) =
     chain_quiet x v (m + 1) n (omega arith) (λ i lo hi. rw (other i (omega arith)) (none i (omega arith) hi)) ∙ chain-next x v m in
-  let same : chain x v m ≡ chain w v m = chain_same x w v v m (λ i l. (other i (omega arith), refl)) in
-  rw (old, new, here, same) (over_twice (v m) (w m) (chain w v m))
+    let same : chain x v m ≡ chain w v m = chain_same x w v v m (λ i l. (other i (omega arith), refl)) in
+    rw (old, new, here, same) (over_twice (v m) (w m) (chain w v m))

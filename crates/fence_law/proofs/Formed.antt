@@ -1,3 +1,5 @@
+-- Kept: what is fixed of an entry at its start agrees with the layout and the tags; what is gone is lost; no grant is outstanding while a repair runs.
+-- The guards of the starts say it, and later events change no entry's start.
 use Rattle.std.proofs.Common.{◌≡◌, ℕ, ◌+◌, ◌<◌, ◌≤◌, Bool, true, false, ◌||◌, ◌==◌, Some, None, ◌⊎◌, refl, sym, ◌∙◌, inl, inr, arith}
 use Rattle.std.proofs.lemmas.Bool.{false_from_ne_true, eqb-false, true≢false}
 use Rattle.fence_law.specs.Words.{updated}
@@ -12,8 +14,14 @@ use Rattle.fence_law.proofs.Commands.{Calls}
 -- a new entry, of which the components in this row are written at once
 abbrev pub added : State → Start → (ℕ → ℕ → Bool) → State
 added b s row = record b {
-  count = b.count + 1; start = updated b.start b.count s;
-  applied = updated b.applied b.count row; chosen = updated b.chosen b.count (λ p. false); committed = updated b.committed b.count false; acknowledged = updated b.acknowledged b.count false; answer = updated b.answer b.count None }
+  count = b.count + 1;
+  start = updated b.start b.count s;
+  applied = updated b.applied b.count row;
+  chosen = updated b.chosen b.count (λ p. false);
+  committed = updated b.committed b.count false;
+  acknowledged = updated b.acknowledged b.count false;
+  answer = updated b.answer b.count None;
+}
 
 pub old_low : (b : State) (g : Grant) (c : ℕ) → b.held c ≡ Some g → Holds b → (g.tag == b.tag) ≡ false → g.tag < b.tag
 old_low b g c has o e = grind (arith, o.has c g has, eqb-false g.tag b.tag e)
@@ -24,7 +32,9 @@ Mending b = record { outstanding : (c : ℕ) → b.repairing ≡ true → b.outs
 
 pub keep_mending : (b : State) (e : Event) → Allowed b e → Mending b → Mending (after b e)
 keep_mending b (Grants c rw range extending) a h = record {
-  outstanding = λ d m. grind (arith, updated_read b.outstanding c (Some (granted b c rw range extending)) d, h.outstanding d m, a.repaired, m); over = h.over }
+  outstanding = λ d m. grind (arith, updated_read b.outstanding c (Some (granted b c rw range extending)) d, h.outstanding d m, a.repaired, m);
+  over = h.over;
+}
 keep_mending b (Leaves c g) a h = record { outstanding = λ d m. grind (arith, updated_read b.outstanding c None d, h.outstanding d m); over = h.over }
 keep_mending b (Frees c) a h = record { outstanding = λ d m. grind (arith, updated_read b.outstanding c None d, h.outstanding d m); over = h.over }
 keep_mending b Fences a h = record { outstanding = h.outstanding; over = λ m. absurd (grind (arith, a.repaired, m)) }
@@ -91,15 +101,17 @@ FormedOne b s = record {
   some : s.is_write ≡ true → (p v : ℕ) × (s.data_at p ≡ Some v);
   silent : s.is_read ≡ true → (k z : ℕ) → s.content k z ≡ None;
   lands : (p v : ℕ) → s.is_write ≡ true → s.data_at p ≡ Some v → (k z u : ℕ) × (s.content k z ≡ Some u) × (b.layout.cell_col k z ≡ b.layout.col p) × (b.layout.is_cell k z ≡ true);
-  misses : (k z : ℕ) → s.is_write ≡ true → b.layout.is_cell k z ≡ true → s.left k ≡ false → s.content k z ≡ None → (e : ℕ → ℕ) → b.layout.word k z (overlaid s.data_at e) ≡ b.layout.word k z e }
+  misses : (k z : ℕ) → s.is_write ≡ true → b.layout.is_cell k z ≡ true → s.left k ≡ false → s.content k z ≡ None → (e : ℕ → ℕ) → b.layout.word k z (overlaid s.data_at e) ≡ b.layout.word k z e;
+}
 
 abbrev pub Formed : State → Type 0
 Formed b = (j : ℕ) → j < b.count → FormedOne b (b.start j)
 
 formed_added : (b : State) (s : Start) (row : ℕ → ℕ → Bool) → FormedOne b s → Formed b → Formed (added b s row)
 formed_added b s row new h j low = elim (updated_read b.start b.count s j).1 [
-    inl w ↦ rw w.1 new
-  | inr w ↦ rw w.1 (h j (grind (arith, w.0, low))) ]
+  | inl w ↦ rw w.1 new
+  | inr w ↦ rw w.1 (h j (grind (arith, w.0, low)))
+]
 
 only_true : (w : Bool) (v : ℕ) → w ≡ true → only w v ≡ Some v
 only_true true v e = refl
@@ -115,43 +127,131 @@ only_none false v e = refl
 
 pub keep_formed : (b : State) (e : Event) → Allowed b e → Holds b → Formed b → Formed (after b e)
 keep_formed b (Grants c rw range extending) a o h = λ j l. let x = h j l in record {
-  low = x.low; number = λ w. grind (arith, x.number w); touches = x.touches; none = x.none; apart = x.apart; payless = x.payless; reaches = x.reaches; wants = x.wants; own = x.own; reads = x.reads; plain = x.plain; asks = x.asks; some = x.some; silent = x.silent; lands = x.lands; misses = x.misses }
+  low = x.low;
+  number = λ w. grind (arith, x.number w);
+  touches = x.touches;
+  none = x.none;
+  apart = x.apart;
+  payless = x.payless;
+  reaches = x.reaches;
+  wants = x.wants;
+  own = x.own;
+  reads = x.reads;
+  plain = x.plain;
+  asks = x.asks;
+  some = x.some;
+  silent = x.silent;
+  lands = x.lands;
+  misses = x.misses;
+}
 keep_formed b Fenced a o h = λ j l. let x = h j l in record {
-  low = grind (arith, x.low); number = x.number; touches = x.touches; none = x.none; apart = x.apart; payless = x.payless; reaches = x.reaches; wants = x.wants; own = x.own; reads = x.reads; plain = x.plain; asks = x.asks; some = x.some; silent = x.silent; lands = x.lands; misses = x.misses }
+  low = grind (arith, x.low);
+  number = x.number;
+  touches = x.touches;
+  none = x.none;
+  apart = x.apart;
+  payless = x.payless;
+  reaches = x.reaches;
+  wants = x.wants;
+  own = x.own;
+  reads = x.reads;
+  plain = x.plain;
+  asks = x.asks;
+  some = x.some;
+  silent = x.silent;
+  lands = x.lands;
+  misses = x.misses;
+}
 keep_formed b (StartsWrite c g i d touch hit seen e1 pt) a o h = formed_added b (written_start b c g d touch hit seen e1 pt) (λ k z. false) (record {
-  low = grind (arith, o.has c g a.has); number = λ w. (o.has c g a.has).0; touches = a.touches; none = λ p w. absurd (true≢false w); apart = λ p w. absurd (true≢false (sym w));
-  payless = λ k z t. only_false (hit k z) _ (false_from_ne_true (hit k z) (λ on. true≢false (sym ((a.hits k z on).1) ∙ t))); reaches = λ x t. t; wants = λ p w. absurd (true≢false (sym w));
-  own = λ w. refl; reads = λ w. refl; plain = λ w. absurd (true≢false (sym w)); asks = λ w. absurd (true≢false (sym w)); some = λ w. (a.some.0, a.some.1, a.some.2); silent = λ w. absurd (true≢false (sym w));
+  low = grind (arith, o.has c g a.has);
+  number = λ w. (o.has c g a.has).0;
+  touches = a.touches;
+  none = λ p w. absurd (true≢false w);
+  apart = λ p w. absurd (true≢false (sym w));
+  payless = λ k z t. only_false (hit k z) _ (false_from_ne_true (hit k z) (λ on. true≢false (sym ((a.hits k z on).1) ∙ t)));
+  reaches = λ x t. t;
+  wants = λ p w. absurd (true≢false (sym w));
+  own = λ w. refl;
+  reads = λ w. refl;
+  plain = λ w. absurd (true≢false (sym w));
+  asks = λ w. absurd (true≢false (sym w));
+  some = λ w. (a.some.0, a.some.1, a.some.2);
+  silent = λ w. absurd (true≢false (sym w));
   lands = λ p v w e. let x = a.lands p v e in (x.0, x.1, b.layout.word x.0 x.1 (overlaid d seen), only_true (hit x.0 x.1) _ x.2, x.3, (a.hits x.0 x.1 x.2).0);
-  misses = λ k z w is lf n. a.misses k z is lf (only_none (hit k z) _ n) }) h
+  misses = λ k z w is lf n. a.misses k z is lf (only_none (hit k z) _ n);
+}) h
 keep_formed b (StartsRead c g lo hi reach) a o h = formed_added b (read_start b c g lo hi reach) (λ k z. false) (record {
-  low = grind (arith, o.has c g a.has); number = λ w. absurd (true≢false (sym w)); touches = λ p v e. absurd (cc e); none = λ p w. refl; apart = λ p w. refl;
-  payless = λ k z t. refl; reaches = λ x t. absurd (true≢false (sym t)); wants = a.reaches;
-  own = λ w. refl; reads = λ w. refl; plain = λ w. refl; asks = λ w p. refl; some = λ w. absurd (true≢false (sym w)); silent = λ w k z. refl; lands = λ p v w. absurd (true≢false (sym w)); misses = λ k z w. absurd (true≢false (sym w)) }) h
+  low = grind (arith, o.has c g a.has);
+  number = λ w. absurd (true≢false (sym w));
+  touches = λ p v e. absurd (cc e);
+  none = λ p w. refl;
+  apart = λ p w. refl;
+  payless = λ k z t. refl;
+  reaches = λ x t. absurd (true≢false (sym t));
+  wants = a.reaches;
+  own = λ w. refl;
+  reads = λ w. refl;
+  plain = λ w. refl;
+  asks = λ w p. refl;
+  some = λ w. absurd (true≢false (sym w));
+  silent = λ w k z. refl;
+  lands = λ p v w. absurd (true≢false (sym w));
+  misses = λ k z w. absurd (true≢false (sym w));
+}) h
 keep_formed b (Repairs k z e0) a o h = formed_added b (repair_start b k z e0) (λ f y. updated (λ w. false) k true f) (record {
-  low = grind arith; number = λ w. absurd (true≢false (sym w)); touches = λ p v e. absurd (cc e); none = λ p w. refl; apart = λ p w. refl;
-  payless = λ f y t. absurd (true≢false t); reaches = λ y t. t; wants = λ p w. absurd (true≢false (sym w));
-  own = λ w. absurd (true≢false (sym w)); reads = λ w. absurd (true≢false (sym w)); plain = λ w. absurd (true≢false (sym w)); asks = λ w. absurd (true≢false (sym w)); some = λ w. absurd (true≢false (sym w)); silent = λ w. absurd (true≢false (sym w)); lands = λ p v w. absurd (true≢false (sym w)); misses = λ f y w. absurd (true≢false (sym w)) }) h
+  low = grind arith;
+  number = λ w. absurd (true≢false (sym w));
+  touches = λ p v e. absurd (cc e);
+  none = λ p w. refl;
+  apart = λ p w. refl;
+  payless = λ f y t. absurd (true≢false t);
+  reaches = λ y t. t;
+  wants = λ p w. absurd (true≢false (sym w));
+  own = λ w. absurd (true≢false (sym w));
+  reads = λ w. absurd (true≢false (sym w));
+  plain = λ w. absurd (true≢false (sym w));
+  asks = λ w. absurd (true≢false (sym w));
+  some = λ w. absurd (true≢false (sym w));
+  silent = λ w. absurd (true≢false (sym w));
+  lands = λ p v w. absurd (true≢false (sym w));
+  misses = λ f y w. absurd (true≢false (sym w));
+}) h
 keep_formed b (Rebuilds k cells) a o h = formed_added b (rebuilt_start b k cells) (λ f y. updated (λ w. false) k true f) (record {
-  low = grind arith; number = λ w. absurd (true≢false (sym w)); touches = λ p v e. absurd (cc e); none = λ p w. refl; apart = λ p w. refl;
-  payless = λ f y t. absurd (true≢false t); reaches = λ y t. t; wants = λ p w. absurd (true≢false (sym w));
-  own = λ w. absurd (true≢false (sym w)); reads = λ w. absurd (true≢false (sym w)); plain = λ w. absurd (true≢false (sym w)); asks = λ w. absurd (true≢false (sym w)); some = λ w. absurd (true≢false (sym w)); silent = λ w. absurd (true≢false (sym w)); lands = λ p v w. absurd (true≢false (sym w)); misses = λ f y w. absurd (true≢false (sym w)) }) h
+  low = grind arith;
+  number = λ w. absurd (true≢false (sym w));
+  touches = λ p v e. absurd (cc e);
+  none = λ p w. refl;
+  apart = λ p w. refl;
+  payless = λ f y t. absurd (true≢false t);
+  reaches = λ y t. t;
+  wants = λ p w. absurd (true≢false (sym w));
+  own = λ w. absurd (true≢false (sym w));
+  reads = λ w. absurd (true≢false (sym w));
+  plain = λ w. absurd (true≢false (sym w));
+  asks = λ w. absurd (true≢false (sym w));
+  some = λ w. absurd (true≢false (sym w));
+  silent = λ w. absurd (true≢false (sym w));
+  lands = λ p v w. absurd (true≢false (sym w));
+  misses = λ f y w. absurd (true≢false (sym w));
+}) h
 keep_formed b e a o h = h
 
 -- what runs is a write or a read that isn't acknowledged
 abbrev pub Running : State → Type 0
 Running b = record {
   writes : (c j : ℕ) → b.call c ≡ Writes j → ((b.start j).is_write ≡ true) × (b.acknowledged j ≡ false);
-  reads : (c j : ℕ) → b.call c ≡ Reads j → (b.start j).is_read ≡ true }
+  reads : (c j : ℕ) → b.call c ≡ Reads j → (b.start j).is_read ≡ true;
+}
 
 running_call : (b : State) (c : ℕ) (x : Call) → ((j : ℕ) → x ≡ Writes j → ⊥) → ((j : ℕ) → x ≡ Reads j → ⊥) → Running b → Running (record b { call = updated b.call c x })
 running_call b c x nw nr h = record {
   writes = λ d j e. h.writes d j (grind (arith, updated_read b.call c x d, nw j, e));
-  reads = λ d j e. h.reads d j (grind (arith, updated_read b.call c x d, nr j, e)) }
+  reads = λ d j e. h.reads d j (grind (arith, updated_read b.call c x d, nr j, e));
+}
 
 running_old_w : (b : State) (s : Start) (row : ℕ → ℕ → Bool) (d j : ℕ) → Calls b → Running b → b.call d ≡ Writes j → ((updated b.start b.count s j).is_write ≡ true) × (updated b.acknowledged b.count false j ≡ false)
 running_old_w b s row d j r h e = let u = r.writes d j e in let ne : j ≡ b.count → ⊥ = grind (arith, u.below) in
-  rw (updated_other b.start b.count s j ne, updated_other b.acknowledged b.count false j ne) (h.writes d j e)
+    rw (updated_other b.start b.count s j ne, updated_other b.acknowledged b.count false j ne) (h.writes d j e)
 
 running_old_r : (b : State) (s : Start) (d j : ℕ) → Calls b → Running b → b.call d ≡ Reads j → (updated b.start b.count s j).is_read ≡ true
 running_old_r b s d j r h e = let u = r.reads d j e in let ne : j ≡ b.count → ⊥ = grind (arith, u.below) in rw (updated_other b.start b.count s j ne) (h.reads d j e)
@@ -159,11 +259,13 @@ running_old_r b s d j r h e = let u = r.reads d j e in let ne : j ≡ b.count �
 running_acks : (b : State) (c j : ℕ) → Allowed b (Acknowledges c j) → Calls b → Running b → Running (after b (Acknowledges c j))
 running_acks b c i a r h = record {
   writes = λ d j e. elim (updated_read b.call c Idle d).1 [
-      inl w ↦ absurd (grind (arith, w, e))
+    | inl w ↦ absurd (grind (arith, w, e))
     | inr w ↦ let e2 : b.call d ≡ Writes j = sym w.1 ∙ e in
         let ne : j ≡ i → ⊥ = λ same. w.0 (grind (arith, (r.writes d j e2).by, (r.writes c i a.runs).by, same)) in
-        rw (updated_other b.acknowledged i true j ne) (h.writes d j e2) ];
-  reads = λ d j e. h.reads d j (grind (arith, updated_read b.call c Idle d, e)) }
+        rw (updated_other b.acknowledged i true j ne) (h.writes d j e2)
+  ];
+  reads = λ d j e. h.reads d j (grind (arith, updated_read b.call c Idle d, e));
+}
 
 pub keep_running : (b : State) (e : Event) → Allowed b e → Calls b → Running b → Running (after b e)
 keep_running b (Reports c g) a r h = running_call b c Idle (λ j e. cc) (λ j e. cc) h
@@ -171,20 +273,26 @@ keep_running b (Forgets c) a r h = running_call b c Idle (λ j e. cc) (λ j e. c
 keep_running b (TakesRefusal c j0) a r h = running_call b c Idle (λ j e. cc) (λ j e. cc) h
 keep_running b (StartsWrite c g i d touch hit seen e1 pt) a r h = record {
   writes = λ f j e. elim (updated_read b.call c (Writes b.count) f).1 [
-      inl w ↦ let same : j ≡ b.count = grind (arith, w, e) in rw (same, updated_same b.start b.count (written_start b c g d touch hit seen e1 pt), updated_same b.acknowledged b.count false) (refl, refl)
-    | inr w ↦ running_old_w b (written_start b c g d touch hit seen e1 pt) (λ k z. false) f j r h (sym w.1 ∙ e) ];
-  reads = λ f j e. running_old_r b (written_start b c g d touch hit seen e1 pt) f j r h (grind (arith, updated_read b.call c (Writes b.count) f, e)) }
+    | inl w ↦ let same : j ≡ b.count = grind (arith, w, e) in rw (same, updated_same b.start b.count (written_start b c g d touch hit seen e1 pt), updated_same b.acknowledged b.count false) (refl, refl)
+    | inr w ↦ running_old_w b (written_start b c g d touch hit seen e1 pt) (λ k z. false) f j r h (sym w.1 ∙ e)
+  ];
+  reads = λ f j e. running_old_r b (written_start b c g d touch hit seen e1 pt) f j r h (grind (arith, updated_read b.call c (Writes b.count) f, e));
+}
 keep_running b (StartsRead c g lo hi reach) a r h = record {
   writes = λ f j e. running_old_w b (read_start b c g lo hi reach) (λ k z. false) f j r h (grind (arith, updated_read b.call c (Reads b.count) f, e));
   reads = λ f j e. elim (updated_read b.call c (Reads b.count) f).1 [
-      inl w ↦ let same : j ≡ b.count = grind (arith, w, e) in rw (same, updated_same b.start b.count (read_start b c g lo hi reach)) refl
-    | inr w ↦ running_old_r b (read_start b c g lo hi reach) f j r h (sym w.1 ∙ e) ] }
+    | inl w ↦ let same : j ≡ b.count = grind (arith, w, e) in rw (same, updated_same b.start b.count (read_start b c g lo hi reach)) refl
+    | inr w ↦ running_old_r b (read_start b c g lo hi reach) f j r h (sym w.1 ∙ e)
+  ];
+}
 keep_running b (Repairs k z e0) a r h = record {
   writes = λ f j e. running_old_w b (repair_start b k z e0) (λ f y. updated (λ w. false) k true f) f j r h e;
-  reads = λ f j e. running_old_r b (repair_start b k z e0) f j r h e }
+  reads = λ f j e. running_old_r b (repair_start b k z e0) f j r h e;
+}
 keep_running b (Rebuilds k cells) a r h = record {
   writes = λ f j e. running_old_w b (rebuilt_start b k cells) (λ f y. updated (λ w. false) k true f) f j r h e;
-  reads = λ f j e. running_old_r b (rebuilt_start b k cells) f j r h e }
+  reads = λ f j e. running_old_r b (rebuilt_start b k cells) f j r h e;
+}
 keep_running b (Acknowledges c j) a r h = running_acks b c j a r h
 keep_running b (Breaks c j) a r h = running_call b c Broken (λ j e. cc) (λ j e. cc) h
 keep_running b (Answers c j f) a r h = running_call b c Idle (λ j e. cc) (λ j e. cc) h

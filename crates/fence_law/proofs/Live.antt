@@ -1,3 +1,5 @@
+-- Kept: an open write's grant is outstanding, for writing, and covers it; its client is at it or has given up, and sends no clean return.
+-- So the server can't free the grant, and a fence that ends it lifts the tag.
 use Rattle.std.proofs.Common.{◌≡◌, ℕ, ◌+◌, ◌<◌, Bool, true, false, Option, Some, None, ◌⊎◌, refl, sym, ◌∙◌, inl, inr, arith}
 use Rattle.std.proofs.lemmas.Bool.{cases_eq, true≢false}
 use Rattle.std.proofs.lemmas.Option.{same_Some}
@@ -16,26 +18,27 @@ use Rattle.fence_law.proofs.Open.{Open, open_added, open_acks, open_fenced}
 -- under a grant that its client hasn't taken yet nothing was started
 abbrev pub Unused : State → Type 0
 Unused b = (j : ℕ) → j < b.count → (b.start j).is_write ≡ true → (g : Grant) →
-  b.waiting (b.start j).client ≡ true → b.slot (b.start j).client ≡ b.sequence (b.start j).client → b.kept_grant (b.start j).client ≡ Some g → (b.start j).grant < g.number
+    b.waiting (b.start j).client ≡ true → b.slot (b.start j).client ≡ b.sequence (b.start j).client → b.kept_grant (b.start j).client ≡ Some g → (b.start j).grant < g.number
 
 unused_asks : (b : State) (c : ℕ) → b.waiting c ≡ false → Slots b → Unused b → Unused (record b { sequence = updated b.sequence c (b.sequence c + 1); waiting = updated b.waiting c true })
 unused_asks b c free s h j l w g x e k = let d : ℕ = (b.start j).client in
-  grind (arith, updated_read b.sequence c (b.sequence c + 1) d, updated_read b.waiting c true d, s.near d, h j l w g)
+    grind (arith, updated_read b.sequence c (b.sequence c + 1) d, updated_read b.waiting c true d, s.near d, h j l w g)
 
 unused_served : (b : State) (c : ℕ) → Unused b → Unused (record b { slot = updated b.slot c (b.slot c + 1); kept_grant = updated b.kept_grant c None })
 unused_served b c h j l w g x e k = let d : ℕ = (b.start j).client in grind (arith, updated_read b.slot c (b.slot c + 1) d, updated_read b.kept_grant c None d, h j l w g)
 
 unused_grants : (b : State) (c : ℕ) (rw : Bool) (range : ℕ → Bool) (extending : Bool) → Formed b → Unused b → Unused (after b (Grants c rw range extending))
 unused_grants b c rw range extending f h j l w g x e k = let d : ℕ = (b.start j).client in
-  grind (arith, updated_read b.slot c (b.slot c + 1) d, updated_read b.kept_grant c (Some (granted b c rw range extending)) d, h j l w g, (f j l).number w)
+    grind (arith, updated_read b.slot c (b.slot c + 1) d, updated_read b.kept_grant c (Some (granted b c rw range extending)) d, h j l w g, (f j l).number w)
 
 unused_takes : (b : State) (c : ℕ) → Unused b → Unused (record b { waiting = updated b.waiting c false })
 unused_takes b c h j l w g x e k = grind (arith, updated_read b.waiting c false (b.start j).client, h j l w g)
 
 unused_added : (b : State) (s : Start) (row : ℕ → ℕ → Bool) → (s.is_write ≡ true → b.waiting s.client ≡ true → ⊥) → Unused b → Unused (added b s row)
 unused_added b s row free h j l w g x e k = elim (updated_read b.start b.count s j).1 [
-    inl y ↦ absurd (free (rw y.1 at w) (rw y.1 at x))
-  | inr y ↦ rw y.1 (h j (grind (arith, y.0, l)) (rw y.1 at w) g (rw y.1 at x) (rw y.1 at e) (rw y.1 at k)) ]
+  | inl y ↦ absurd (free (rw y.1 at w) (rw y.1 at x))
+  | inr y ↦ rw y.1 (h j (grind (arith, y.0, l)) (rw y.1 at w) g (rw y.1 at x) (rw y.1 at e) (rw y.1 at k))
+]
 
 pub keep_unused : (b : State) (e : Event) → Allowed b e → Slots b → Holds b → Formed b → Unused b → Unused (after b e)
 keep_unused b (Asks c rw) a s r f h = unused_asks b c a.free s h
@@ -73,14 +76,16 @@ eras_frees b c a s u h j o = let x = h j o in (x.0, grind (arith, x.1, updated_r
 
 eras_added : (b : State) (s : Start) (row : ℕ → ℕ → Bool) → (s.is_write ≡ true → s.tag ≡ b.tag → (g : Grant) × (b.outstanding s.client ≡ Some g) × (g.number ≡ s.grant) × (g.rw ≡ true) × ((x : ℕ) → s.touch x ≡ true → g.covers x ≡ true)) → Eras b → Eras (added b s row)
 eras_added b s row new h j o = elim (open_added b s row j o) [
-    inl w ↦ rw (w.0, updated_same b.start b.count s) (new w.1 w.3)
-  | inr w ↦ rw (updated_other b.start b.count s j w.0) (h j w.1) ]
+  | inl w ↦ rw (w.0, updated_same b.start b.count s) (new w.1 w.3)
+  | inr w ↦ rw (updated_other b.start b.count s j w.0) (h j w.1)
+]
 
 -- a client that holds a grant and is at no write has no open write
 pub busy_free : (b : State) (c j : ℕ) (g : Grant) → b.held c ≡ Some g → (b.call c ≡ Idle) ⊎ ((i : ℕ) × (b.call c ≡ Reads i)) → Busy b → Open b j → (b.start j).client ≡ c → ⊥
 busy_free b c j g has free h o by = elim free [
-    inl e ↦ grind (arith, h j o, e, has, by)
-  | inr e ↦ grind (arith, h j o, e.1, has, by) ]
+  | inl e ↦ grind (arith, h j o, e, has, by)
+  | inr e ↦ grind (arith, h j o, e.1, has, by)
+]
 
 pub keep_eras : (b : State) (e : Event) → Allowed b e → Calls b → Slots b → Holds b → Formed b → Unclean b → Busy b → Eras b → Eras (after b e)
 keep_eras b (Grants c rw range extending) a r s o f u y h = eras_grants b c rw range extending a h
@@ -88,7 +93,7 @@ keep_eras b (Leaves c g) a r s o f u y h = λ j op. let x = h j op in (x.0, upda
 keep_eras b (Frees c) a r s o f u y h = eras_frees b c a s u h
 keep_eras b Fenced a r s o f u y h = λ j x. absurd (open_fenced b j f x)
 keep_eras b (StartsWrite c g i d touch hit seen e1 pt) a r s o f u y h = eras_added b (written_start b c g d touch hit seen e1 pt) (λ k z. false)
-  (λ w t. (g, grind (arith, o.has c g a.has, t), refl, a.may, λ x z. let u2 = r.reads c i a.gathers in let same : Some u2.under.0 ≡ Some g = sym u2.under.1 ∙ a.has in rw (same_Some u2.under.0 g same) at (u2.under.3 x (a.gathered x z)))) h
+    (λ w t. (g, grind (arith, o.has c g a.has, t), refl, a.may, λ x z. let u2 = r.reads c i a.gathers in let same : Some u2.under.0 ≡ Some g = sym u2.under.1 ∙ a.has in rw (same_Some u2.under.0 g same) at (u2.under.3 x (a.gathered x z)))) h
 keep_eras b (StartsRead c g lo hi reach) a r s o f u y h = eras_added b (read_start b c g lo hi reach) (λ k z. false) (λ w. absurd (true≢false (sym w))) h
 keep_eras b (Repairs k z e0) a r s o f u y h = eras_added b (repair_start b k z e0) (λ f y. updated (λ w. false) k true f) (λ w. absurd (true≢false (sym w))) h
 keep_eras b (Rebuilds k cells) a r s o f u y h = eras_added b (rebuilt_start b k cells) (λ f y. updated (λ w. false) k true f) (λ w. absurd (true≢false (sym w))) h
@@ -96,15 +101,17 @@ keep_eras b (Acknowledges c j) a r s o f u y h = λ i x. h i (open_acks b j i x)
 keep_eras b e a r s o f u y h = h
 
 busy_added_idle : (b : State) (s : Start) (row : ℕ → ℕ → Bool) (c : ℕ) (x : Call) → (s.is_write ≡ true → (s.client ≡ c) × (x ≡ Writes b.count)) →
-  ((j : ℕ) → Open b j → (b.start j).client ≡ c → ⊥) → Busy b → Busy (record (added b s row) { call = updated b.call c x })
+    ((j : ℕ) → Open b j → (b.start j).client ≡ c → ⊥) → Busy b → Busy (record (added b s row) { call = updated b.call c x })
 busy_added_idle b s row c x new free h j o = elim (open_added b s row j o) [
-    inl w ↦ rw (w.0, updated_same b.start b.count s) (inr (inl (rw ((new w.1).0, updated_same b.call c x) ((new w.1).1))))
-  | inr w ↦ rw (updated_other b.start b.count s j w.0, updated_other b.call c x (b.start j).client (free j w.1)) (h j w.1) ]
+  | inl w ↦ rw (w.0, updated_same b.start b.count s) (inr (inl (rw ((new w.1).0, updated_same b.call c x) ((new w.1).1))))
+  | inr w ↦ rw (updated_other b.start b.count s j w.0, updated_other b.call c x (b.start j).client (free j w.1)) (h j w.1)
+]
 
 busy_added : (b : State) (s : Start) (row : ℕ → ℕ → Bool) → s.is_write ≡ false → Busy b → Busy (added b s row)
 busy_added b s row no_write h j o = elim (open_added b s row j o) [
-    inl w ↦ absurd (true≢false (sym w.1 ∙ no_write))
-  | inr w ↦ rw (updated_other b.start b.count s j w.0) (h j w.1) ]
+  | inl w ↦ absurd (true≢false (sym w.1 ∙ no_write))
+  | inr w ↦ rw (updated_other b.start b.count s j w.0) (h j w.1)
+]
 
 busy_drops : (b : State) (c : ℕ) → Busy b → Busy (record b { held = updated b.held c None })
 busy_drops b c h j o = grind (arith, updated_read b.held c None (b.start j).client, h j o)
@@ -117,7 +124,7 @@ busy_breaks b c h j o = grind (arith, updated_read b.call c Broken (b.start j).c
 
 busy_takes : (b : State) (c : ℕ) (o : Option Grant) (s0 : ℕ) → Allowed b (Takes c o s0) → Slots b → Holds b → Unused b → Eras b → Busy b → Busy (after b (Takes c o s0))
 busy_takes b c o s0 a s r u q h j x = let y = q j x in let d : ℕ = (b.start j).client in
-  grind (arith, updated_read b.held c o d, h j x, taken_now b c o s0 a.comes s a.waits, r.comes d y.0, u j x.0 x.1 y.0, y, a.waits, r.comes c, u j x.0 x.1)
+    grind (arith, updated_read b.held c o d, h j x, taken_now b c o s0 a.comes s a.waits, r.comes d y.0, u j x.0 x.1 y.0, y, a.waits, r.comes c, u j x.0 x.1)
 
 busy_acks : (b : State) (c i : ℕ) → Allowed b (Acknowledges c i) → Busy b → Busy (after b (Acknowledges c i))
 busy_acks b c i a h j o = let x = open_acks b i j o in grind (arith, updated_read b.call c Idle (b.start j).client, h j x.1, x.0, a.runs)
@@ -144,13 +151,14 @@ keep_busy b Fenced a s r f u q h = λ j x. absurd (open_fenced b j f x)
 keep_busy b e a s r f u q h = h
 
 unclean_asks : (b : State) (c : ℕ) (kind : RequestKind) → ((kind ≡ Return true) → (j : ℕ) → Open b j → (b.start j).client ≡ c → ⊥) → b.waiting c ≡ false → Unclean b →
-  Unclean (record b { sequence = updated b.sequence c (b.sequence c + 1); waiting = updated b.waiting c true; asked = updated b.asked c kind })
+    Unclean (record b { sequence = updated b.sequence c (b.sequence c + 1); waiting = updated b.waiting c true; asked = updated b.asked c kind })
 unclean_asks b c kind other free h j o w e = let d : ℕ = (b.start j).client in elim (cases_eq d c) [
-    inl y ↦ absurd (other (sym (updated_same b.asked c kind) ∙ rw y at e) j o y)
-  | inr ne ↦ grind (arith, updated_read b.sequence c (b.sequence c + 1) d, updated_read b.waiting c true d, updated_read b.asked c kind d, h j o, ne, w, e) ]
+  | inl y ↦ absurd (other (sym (updated_same b.asked c kind) ∙ rw y at e) j o y)
+  | inr ne ↦ grind (arith, updated_read b.sequence c (b.sequence c + 1) d, updated_read b.waiting c true d, updated_read b.asked c kind d, h j o, ne, w, e)
+]
 
 unclean_served : (b : State) (c : ℕ) (kind : RequestKind) → In (record { client = c; sequence = b.slot c + 1; kind = kind }) b.requests → Slots b → Unclean b →
-  Unclean (record b { slot = updated b.slot c (b.slot c + 1) })
+    Unclean (record b { slot = updated b.slot c (b.slot c + 1) })
 unclean_served b c kind a s h j o w e = grind (arith, updated_read b.slot c (b.slot c + 1) (b.start j).client, served_now b c kind a s, h j o)
 
 unclean_takes : (b : State) (c : ℕ) → Unclean b → Unclean (record b { waiting = updated b.waiting c false })
@@ -158,8 +166,9 @@ unclean_takes b c h j o w e = grind (arith, updated_read b.waiting c false (b.st
 
 unclean_added : (b : State) (s : Start) (row : ℕ → ℕ → Bool) → (s.is_write ≡ true → b.waiting s.client ≡ true → ⊥) → Unclean b → Unclean (added b s row)
 unclean_added b s row free h j o w e = elim (open_added b s row j o) [
-    inl y ↦ absurd (free y.1 (rw (y.0, updated_same b.start b.count s) at w))
-  | inr y ↦ rw (updated_other b.start b.count s j y.0) (h j y.1 (rw (updated_other b.start b.count s j y.0) at w) (rw (updated_other b.start b.count s j y.0) at e)) ]
+  | inl y ↦ absurd (free y.1 (rw (y.0, updated_same b.start b.count s) at w))
+  | inr y ↦ rw (updated_other b.start b.count s j y.0) (h j y.1 (rw (updated_other b.start b.count s j y.0) at w) (rw (updated_other b.start b.count s j y.0) at e))
+]
 
 pub keep_unclean : (b : State) (e : Event) → Allowed b e → Slots b → Holds b → Formed b → Busy b → Unclean b → Unclean (after b e)
 keep_unclean b (Asks c rw) a s r f y h = unclean_asks b c (Get rw) (λ e. absurd (cc e)) a.free h

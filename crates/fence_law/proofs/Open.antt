@@ -1,3 +1,5 @@
+-- Kept: a WRITE on the wire is of its holder's entry and part; one that a drive may still perform (fresh) is awaited, and its entry isn't acknowledged.
+-- A nonce is used once, a drive performs only nonces above the last, and a write is acknowledged only when nothing is awaited.
 use Rattle.std.proofs.Common.{◌≡◌, ℕ, ◌+◌, ◌<◌, ◌≤◌, Bool, true, false, Some, None, ◌⊎◌, sym, ap, ◌∙◌, inl, inr, arith, refl}
 use Rattle.std.proofs.lemmas.Bool.{true_from_ne_false, cases_eq, true≢false}
 use Rattle.fence_law.specs.Words.{updated, In}
@@ -22,19 +24,29 @@ Fresh b m = (m.tag ≡ b.tag) × (b.last_nonce m.at m.holder < m.nonce) × (b.go
 -- each WRITE belongs to the call for which it was sent
 abbrev pub Known : State → Type 0
 Known b = (m : Write) → In m b.writes → record {
-  nonce : m.nonce ≤ b.nonce m.holder; entry : m.entry < b.count; by : (b.start m.entry).client ≡ m.holder; tag : (b.start m.entry).tag ≡ m.tag;
-  write : (b.start m.entry).is_write ≡ true }
+  nonce : m.nonce ≤ b.nonce m.holder;
+  entry : m.entry < b.count;
+  by : (b.start m.entry).client ≡ m.holder;
+  tag : (b.start m.entry).tag ≡ m.tag;
+  write : (b.start m.entry).is_write ≡ true;
+}
 
 known_added : (b : State) (s : Start) (row : ℕ → ℕ → Bool) → Known b → Known (added b s row)
 known_added b s row h m i = let k = h m i in let e : updated b.start b.count s m.entry ≡ b.start m.entry = grind (arith, updated_read b.start b.count s m.entry, k.entry) in
-  record { nonce = k.nonce; entry = grind (arith, k.entry); by = rw e k.by; tag = rw e k.tag; write = rw e k.write }
+    record { nonce = k.nonce; entry = grind (arith, k.entry); by = rw e k.by; tag = rw e k.tag; write = rw e k.write }
 
 known_sends : (b : State) (c k : ℕ) (g : Grant) (j pi : ℕ) → Allowed b (Sends c k g j pi) → Calls b → Running b → Known b → Known (after b (Sends c k g j pi))
 known_sends b c k g j pi a r u h m i = elim i [
-    inl e ↦ let run = r.writes c j a.runs in let same : Some run.under.0 ≡ Some g = sym run.under.1 ∙ a.has in
-      record { nonce = grind (arith, e, updated_read b.nonce c (b.nonce c + 1) m.holder);
-        entry = grind (arith, e, run.below); by = grind (arith, e, run.by); tag = grind (arith, e, run.under, same); write = grind (arith, e, u.writes c j a.runs) }
-  | inr o ↦ let w = h m o in record { nonce = grind (arith, w.nonce, updated_read b.nonce c (b.nonce c + 1) m.holder); entry = w.entry; by = w.by; tag = w.tag; write = w.write } ]
+  | inl e ↦ let run = r.writes c j a.runs in let same : Some run.under.0 ≡ Some g = sym run.under.1 ∙ a.has in
+      record {
+        nonce = grind (arith, e, updated_read b.nonce c (b.nonce c + 1) m.holder);
+        entry = grind (arith, e, run.below);
+        by = grind (arith, e, run.by);
+        tag = grind (arith, e, run.under, same);
+        write = grind (arith, e, u.writes c j a.runs);
+      }
+  | inr o ↦ let w = h m o in record { nonce = grind (arith, w.nonce, updated_read b.nonce c (b.nonce c + 1) m.holder); entry = w.entry; by = w.by; tag = w.tag; write = w.write }
+]
 
 pub keep_known : (b : State) (e : Event) → Allowed b e → Calls b → Running b → Known b → Known (after b e)
 keep_known b (StartsWrite c g i d touch hit seen e1 pt) a r u h = known_added b (written_start b c g d touch hit seen e1 pt) (λ k z. false) h
@@ -63,16 +75,18 @@ own_call b c x none h m i j y run out = h m i j y (grind (arith, updated_read b.
 
 own_starts : (b : State) (c : ℕ) (x : Call) → Own b → Own (record b { call = updated b.call c x; out = updated b.out c (λ k i2. NotSent) })
 own_starts b c x h m i j y run out = elim (updated_read b.out c (λ k i2. NotSent) m.holder).1 [
-    inl w ↦ absurd (let e : NotSent ≡ Sent m.nonce = sym (ap (λ f. f m.at y) w.1) ∙ out in cc e)
-  | inr w ↦ h m i j y (sym (updated_other b.call c x m.holder w.0) ∙ run) (sym (ap (λ f. f m.at y) w.1) ∙ out) ]
+  | inl w ↦ absurd (let e : NotSent ≡ Sent m.nonce = sym (ap (λ f. f m.at y) w.1) ∙ out in cc e)
+  | inr w ↦ h m i j y (sym (updated_other b.call c x m.holder w.0) ∙ run) (sym (ap (λ f. f m.at y) w.1) ∙ out)
+]
 
 own_learns : (b : State) (c k pi : ℕ) → Own b → Own (record b { out = updated b.out c (updated (b.out c) k (updated (b.out c k) pi Done)) })
 own_learns b c k pi h m i j y run out = h m i j y run (grind (arith, updated_read b.out c (updated (b.out c) k (updated (b.out c k) pi Done)) m.holder, updated_read (b.out c) k (updated (b.out c k) pi Done) m.at, updated_read (b.out c k) pi Done y, out))
 
 own_sends : (b : State) (c k : ℕ) (g : Grant) (j pi : ℕ) → Allowed b (Sends c k g j pi) → Known b → Sent_low b → Own b → Own (after b (Sends c k g j pi))
 own_sends b c k g j pi a n sl h m i x y run out = elim i [
-    inl e ↦ (grind (arith, e, a.runs, run), grind (arith, e, updated_read b.out c (updated (b.out c) k (updated (b.out c k) pi (Sent (b.nonce c + 1)))) m.holder, updated_read (b.out c) k (updated (b.out c k) pi (Sent (b.nonce c + 1))) m.at, updated_read (b.out c k) pi (Sent (b.nonce c + 1)) y, sl c k y (b.nonce c + 1), out))
-  | inr o ↦ h m o x y run (grind (arith, updated_read b.out c (updated (b.out c) k (updated (b.out c k) pi (Sent (b.nonce c + 1)))) m.holder, updated_read (b.out c) k (updated (b.out c k) pi (Sent (b.nonce c + 1))) m.at, updated_read (b.out c k) pi (Sent (b.nonce c + 1)) y, (n m o).nonce, out)) ]
+  | inl e ↦ (grind (arith, e, a.runs, run), grind (arith, e, updated_read b.out c (updated (b.out c) k (updated (b.out c k) pi (Sent (b.nonce c + 1)))) m.holder, updated_read (b.out c) k (updated (b.out c k) pi (Sent (b.nonce c + 1))) m.at, updated_read (b.out c k) pi (Sent (b.nonce c + 1)) y, sl c k y (b.nonce c + 1), out))
+  | inr o ↦ h m o x y run (grind (arith, updated_read b.out c (updated (b.out c) k (updated (b.out c k) pi (Sent (b.nonce c + 1)))) m.holder, updated_read (b.out c) k (updated (b.out c k) pi (Sent (b.nonce c + 1))) m.at, updated_read (b.out c k) pi (Sent (b.nonce c + 1)) y, (n m o).nonce, out))
+]
 
 pub keep_own : (b : State) (e : Event) → Allowed b e → Known b → Sent_low b → Own b → Own (after b e)
 keep_own b (Reports c g) a n sl h = own_call b c Idle (λ j e. cc) h
@@ -92,12 +106,17 @@ keep_own b e a n sl h = h
 abbrev pub Unissued : State → Type 0
 Unissued b = record {
   outstanding : (c : ℕ) → b.granted_since ≡ false → b.outstanding c ≡ None;
-  entries : (j : ℕ) → j < b.count → (b.start j).server ≡ false → b.granted_since ≡ false → (b.start j).tag < b.tag }
+  entries : (j : ℕ) → j < b.count → (b.start j).server ≡ false → b.granted_since ≡ false → (b.start j).tag < b.tag;
+}
 
 ui_added : (b : State) (s : Start) (row : ℕ → ℕ → Bool) → (s.server ≡ false → b.granted_since ≡ false → s.tag < b.tag) → Unissued b → Unissued (added b s row)
-ui_added b s row new h = record { outstanding = h.outstanding; entries = λ j low sv un. elim (updated_read b.start b.count s j).1 [
-    inl w ↦ rw w.1 (new (rw w.1 at sv) un)
-  | inr w ↦ rw w.1 (h.entries j (grind (arith, w.0, low)) (rw w.1 at sv) un) ] }
+ui_added b s row new h = record {
+  outstanding = h.outstanding;
+  entries = λ j low sv un. elim (updated_read b.start b.count s j).1 [
+    | inl w ↦ rw w.1 (new (rw w.1 at sv) un)
+    | inr w ↦ rw w.1 (h.entries j (grind (arith, w.0, low)) (rw w.1 at sv) un)
+  ];
+}
 
 ui_low : (b : State) (c : ℕ) (g : Grant) → b.held c ≡ Some g → Holds b → Unissued b → b.granted_since ≡ false → g.tag < b.tag
 ui_low b c g has o h un = grind (arith, o.has c g has, h.outstanding c un)
@@ -148,17 +167,19 @@ awaited_call b c x none h m i f run = h m i f (grind (arith, updated_read b.call
 
 awaited_starts : (b : State) (c : ℕ) (o : ℕ → ℕ → PartState) → Known b → Awaited b → Awaited (record b { call = updated b.call c (Writes b.count); out = updated b.out c o })
 awaited_starts b c o n h m i f run = elim (updated_read b.call c (Writes b.count) m.holder).1 [
-    inl w ↦ let e : m.entry ≡ b.count = grind (arith, w, run) in absurd (grind (arith, e, (n m i).entry))
-  | inr w ↦ rw (updated_other b.out c o m.holder w.0) (h m i f (sym w.1 ∙ run)) ]
+  | inl w ↦ let e : m.entry ≡ b.count = grind (arith, w, run) in absurd (grind (arith, e, (n m i).entry))
+  | inr w ↦ rw (updated_other b.out c o m.holder w.0) (h m i f (sym w.1 ∙ run))
+]
 
 awaited_sends : (b : State) (c k : ℕ) (g : Grant) (j pi : ℕ) → Allowed b (Sends c k g j pi) → Awaited b → Awaited (after b (Sends c k g j pi))
 awaited_sends b c k g j pi a h m i f run = elim i [
-    inl e ↦ grind (arith, e, updated_read b.out c (updated (b.out c) k (updated (b.out c k) pi (Sent (b.nonce c + 1)))) m.holder, updated_read (b.out c) k (updated (b.out c k) pi (Sent (b.nonce c + 1))) m.at, updated_read (b.out c k) pi (Sent (b.nonce c + 1)) m.part)
-  | inr o ↦ grind (arith, h m o f run, updated_read b.out c (updated (b.out c) k (updated (b.out c k) pi (Sent (b.nonce c + 1)))) m.holder, updated_read (b.out c) k (updated (b.out c k) pi (Sent (b.nonce c + 1))) m.at, updated_read (b.out c k) pi (Sent (b.nonce c + 1)) m.part, a.first) ]
+  | inl e ↦ grind (arith, e, updated_read b.out c (updated (b.out c) k (updated (b.out c k) pi (Sent (b.nonce c + 1)))) m.holder, updated_read (b.out c) k (updated (b.out c k) pi (Sent (b.nonce c + 1))) m.at, updated_read (b.out c k) pi (Sent (b.nonce c + 1)) m.part)
+  | inr o ↦ grind (arith, h m o f run, updated_read b.out c (updated (b.out c) k (updated (b.out c k) pi (Sent (b.nonce c + 1)))) m.holder, updated_read (b.out c) k (updated (b.out c k) pi (Sent (b.nonce c + 1))) m.at, updated_read (b.out c k) pi (Sent (b.nonce c + 1)) m.part, a.first)
+]
 
 awaited_learns : (b : State) (c k j v pi : ℕ) → Allowed b (Learns c k j v pi) → Replied b → Awaited b → Awaited (after b (Learns c k j v pi))
 awaited_learns b c k j v pi a n h m i f run =
-  grind (arith, h m i f run, updated_read b.out c (updated (b.out c) k (updated (b.out c k) pi Done)) m.holder, updated_read (b.out c) k (updated (b.out c k) pi Done) m.at, updated_read (b.out c k) pi Done m.part, n (record { holder = c; nonce = v; at = k }) a.comes, a.sent, f.1)
+    grind (arith, h m i f run, updated_read b.out c (updated (b.out c) k (updated (b.out c k) pi Done)) m.holder, updated_read (b.out c) k (updated (b.out c k) pi Done) m.at, updated_read (b.out c k) pi Done m.part, n (record { holder = c; nonce = v; at = k }) a.comes, a.sent, f.1)
 
 pub keep_awaited : (b : State) (e : Event) → Allowed b e → Formed b → Known b → Replied b → Gone_lost b → Unissued b → Awaited b → Awaited (after b e)
 keep_awaited b (Reports c g) a o n p gl ui h = awaited_call b c Idle (λ j e. cc) h
@@ -190,9 +211,10 @@ unacked_added b s row n h m i f = grind (arith, updated_read b.acknowledged b.co
 
 unacked_acks : (b : State) (c j : ℕ) → Allowed b (Acknowledges c j) → Calls b → Known b → Awaited b → Unacked b → Unacked (after b (Acknowledges c j))
 unacked_acks b c j a r n w h m i f = elim (cases_eq m.entry j) [
-    inr ne ↦ rw (updated_other b.acknowledged j true m.entry ne) (h m i f)
+  | inr ne ↦ rw (updated_other b.acknowledged j true m.entry ne) (h m i f)
   | inl e ↦ let by : m.holder ≡ c = grind (arith, e, (n m i).by, (r.writes c j a.runs).by) in
-      absurd (true≢false (sym (a.told m.at m.part m.nonce (rw (by, e) at (w m i f) a.runs)) ∙ f.2)) ]
+      absurd (true≢false (sym (a.told m.at m.part m.nonce (rw (by, e) at (w m i f) a.runs)) ∙ f.2))
+]
 
 unacked_sends : (b : State) (c k : ℕ) (g : Grant) (j pi : ℕ) → Allowed b (Sends c k g j pi) → Running b → Unacked b → Unacked (after b (Sends c k g j pi))
 unacked_sends b c k g j pi a u h m i f = elim i [ inl e ↦ grind (arith, e, u.writes c j a.runs) | inr o ↦ h m o f ]
@@ -218,22 +240,24 @@ Open b j = (j < b.count) × ((b.start j).is_write ≡ true) × ((b.start j).aliv
 
 pub fresh_open : (b : State) (m : Write) → In m b.writes → Fresh b m → Known b → Dead b → Unacked b → Open b m.entry
 fresh_open b m i f n dead u = let k = n m i in
-  (k.entry, k.write, true_from_ne_false (b.start m.entry).alive (λ e. grind (arith, dead m.entry k.entry e, k.tag, f.0)), u m i f, grind (arith, k.tag, f.0))
+    (k.entry, k.write, true_from_ne_false (b.start m.entry).alive (λ e. grind (arith, dead m.entry k.entry e, k.tag, f.0)), u m i f, grind (arith, k.tag, f.0))
 
 pub now_fresh : (b : State) (m : Write) → Allowed b (Performs m) → Tags b → Formed b → Known b → Fresh b m
 now_fresh b m a t o n = (grind (arith, t.at m.at a.there a.stands, low_write b m a.comes o n, a.right), a.new, a.here)
 
 -- the new entry, or one that was open
 pub open_added : (b : State) (s : Start) (row : ℕ → ℕ → Bool) (j : ℕ) → Open (added b s row) j →
-  ((j ≡ b.count) × (s.is_write ≡ true) × (s.alive ≡ true) × (s.tag ≡ b.tag)) ⊎ ((j ≡ b.count → ⊥) × Open b j)
+    ((j ≡ b.count) × (s.is_write ≡ true) × (s.alive ≡ true) × (s.tag ≡ b.tag)) ⊎ ((j ≡ b.count → ⊥) × Open b j)
 open_added b s row j o = elim (updated_read b.start b.count s j).1 [
-    inl w ↦ inl (w.0, rw w.1 at o.1, rw w.1 at o.2, rw w.1 at o.4)
-  | inr w ↦ inr (w.0, (grind (arith, o.0, w.0), rw w.1 at o.1, rw w.1 at o.2, rw (updated_other b.acknowledged b.count false j w.0) at o.3, rw w.1 at o.4)) ]
+  | inl w ↦ inl (w.0, rw w.1 at o.1, rw w.1 at o.2, rw w.1 at o.4)
+  | inr w ↦ inr (w.0, (grind (arith, o.0, w.0), rw w.1 at o.1, rw w.1 at o.2, rw (updated_other b.acknowledged b.count false j w.0) at o.3, rw w.1 at o.4))
+]
 
 pub open_acks : (b : State) (i j : ℕ) → Open (record b { acknowledged = updated b.acknowledged i true }) j → (j ≡ i → ⊥) × Open b j
 open_acks b i j o = elim (updated_read b.acknowledged i true j).1 [
-    inl w ↦ absurd (grind (arith, w.1, o.3))
-  | inr w ↦ (w.0, (o.0, o.1, o.2, sym w.1 ∙ o.3, o.4)) ]
+  | inl w ↦ absurd (grind (arith, w.1, o.3))
+  | inr w ↦ (w.0, (o.0, o.1, o.2, sym w.1 ∙ o.3, o.4))
+]
 
 pub open_fenced : (b : State) (j : ℕ) → Formed b → Open (after b Fenced) j → ⊥
 open_fenced b j f o = grind (arith, (f j o.0).low, o.4)

@@ -1,3 +1,4 @@
+-- All invariants that need no calm together.
 use Rattle.std.proofs.Common.{List, [], ◌∷◌, refl, sym, inl, arith}
 use Rattle.std.proofs.lemmas.Bool.{true≢false}
 use Rattle.fence_law.specs.Machine.{State, Layout, Event, Allowed, after, after_all, new_file_state, Lawful}
@@ -101,7 +102,8 @@ keep_safe b e a s = record {
   gone_lost = keep_gone_lost b e s.missing_lost s.gone_lost;
   left_gone = keep_left_gone b e a s.holds s.formed s.mending s.eras s.gone_lost s.left_gone;
   cells = keep_cells b e a s.tags s.formed s.known s.unacked s.dead s.later s.unserved s.gone_lost s.cells;
-  mended = keep_mended_low b e a s.formed s.mending s.eras s.mended }
+  mended = keep_mended_low b e a s.formed s.mending s.eras s.mended;
+}
 
 pub safe_first : (m : Layout) → IsCode m → Safe (new_file_state m)
 safe_first m code = record {
@@ -135,7 +137,8 @@ safe_first m code = record {
   gone_lost = λ k g. g;
   left_gone = record { outstanding = λ c k g e. absurd (cc e); writes = λ j k o. absurd (omega (arith, o.0)) };
   cells = λ k z l. sym (chain-none _ _);
-  mended = record { low = λ x. omega arith; opened = λ j x o. absurd (omega (arith, o.0)) } }
+  mended = record { low = λ x. omega arith; opened = λ j x o. absurd (omega (arith, o.0)) };
+}
 
 pub safe_all : (b : State) (es : List Event) → Lawful b es → Safe b → Safe (after_all b es)
 safe_all b [] l s = s
