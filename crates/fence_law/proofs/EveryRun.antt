@@ -70,7 +70,10 @@ is_spared m es code l = let b : State = reached m es in let s = safe_end m es co
 )
 
 pub is_conflict_free : IsConflictFree
-is_conflict_free m es code l = (safe_end m es code l).holds.apart
+is_conflict_free m es code l c d g h ne x y = (
+  (sized_all (new_file_state m) es l (safe_first m code) (sized_first m)).alone c d g h ne x y,
+  (safe_end m es code l).holds.apart c d g h ne x y,
+)
 
 granted_now : (b : State) → Safe b → (w : Write) → Allowed b (Performs w) → (w.tag ≡ b.tag) ×
     ((g : Grant) × (b.outstanding w.holder ≡ Some g) × (g.number ≡ (b.start w.entry).grant) × (g.tag ≡ b.tag) × (g.rw ≡ true))

@@ -82,12 +82,12 @@ IsSpared =
     ((j k : ℕ) → j < (reached m events).count → ((reached m events).start j).server ≡ false → ((reached m events).start j).left k ≡ false →
     (reached m events).dropped k ≡ true → ((reached m events).start j).tag < (reached m events).object_tag k)
 
--- Grants of different clients that are live, or that the running fence ends, and that share a column are both for reading.
+-- Of grants of different clients that are live, or that the running fence ends, none is extending, and those that share a column are both for reading.
 abbrev pub IsConflictFree : Type 0
 IsConflictFree =
     (m : Layout) (events : List Event) → IsCode m → Lawful (new_file_state m) events →
     (c d : ℕ) (g h : Grant) → (c ≡ d → ⊥) → (reached m events).outstanding c ≡ Some g → (reached m events).outstanding d ≡ Some h →
-    (x : ℕ) → g.covers x ≡ true → h.covers x ≡ true → (g.rw || h.rw) ≡ false
+    ((g.extending || h.extending) ≡ false) × ((x : ℕ) → g.covers x ≡ true → h.covers x ≡ true → (g.rw || h.rw) ≡ false)
 
 -- A WRITE that a drive may perform is of an RW grant of the file's tag, which is live or is ended by the fence that runs.
 abbrev pub IsGranted : Type 0
