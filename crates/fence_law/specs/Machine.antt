@@ -1,0 +1,733 @@
+-- The machine of one striped file: clients under layouts, a server that grants, fences and repairs, drives, the network between them, and the file's log.
+-- It is one flat record of functions. Numbers name what there is: c, d clients; k, f components; z, y cells of a component; p, q positions of bytes; x a column; j, i entries of the log; i a part too.
+-- A column is the bytes of one stripe at one offset, with their parity; in a file without parity each byte is a column of its own.
+use Rattle.std.specs.Prelude.{◌≡◌, ℕ, max, min, ◌-◌, nat_le, nat_lt, ◌+◌, ◌<◌, ◌≤◌, Bool, true, false, cond, ◌||◌, ◌&&◌, not, ◌==◌, List, [], ◌∷◌, Option, Some, None, ◌⊎◌}
+use Rattle.fence_law.specs.Words.{updated, In, over}
+
+-- a layout that the server granted to a client
+pub record Grant : Type 0 where
+  -- its number: no two grants have the same
+  pub number : ℕ
+  -- the file's capability tag when it was granted
+  pub tag : ℕ
+  -- whether it is for reading and writing
+  pub rw : Bool
+  -- the columns of its range
+  pub covers : ℕ → Bool
+  -- whether a write under it may extend the file
+  pub extending : Bool
+  -- the components that it leaves out, since they were missing
+  pub left : ℕ → Bool
+
+-- what a client asks of the server: a layout, for writing or not, or to take one back, cleanly or with a report of errors
+pub data RequestKind : Type 0 where
+  Get : Bool → RequestKind
+  Return : Bool → RequestKind
+
+-- a request on the wire, with its number in the client's session slot
+pub record Request : Type 0 where
+  pub client : ℕ
+  pub sequence : ℕ
+  pub kind : RequestKind
+
+-- the server's answer to it: a grant or none, and the file's size
+pub record Answer : Type 0 where
+  pub client : ℕ
+  pub sequence : ℕ
+  pub grant : Option Grant
+  pub size : ℕ
+
+-- a WRITE on the wire: who sends it, under which grant and tag, its nonce, the component, the log's entry, and which part of what that entry writes there
+pub record Write : Type 0 where
+  pub holder : ℕ
+  pub grant : ℕ
+  pub tag : ℕ
+  pub nonce : ℕ
+  pub at : ℕ
+  pub entry : ℕ
+  pub part : ℕ
+
+-- a drive's reply to a WRITE that it performed
+pub record WriteReply : Type 0 where
+  pub holder : ℕ
+  pub nonce : ℕ
+  pub at : ℕ
+
+-- a drive's reply to a READ of the call with this entry: its cells as they are
+pub record ReadReply : Type 0 where
+  pub entry : ℕ
+  pub at : ℕ
+  pub cells : ℕ → ℕ
+
+-- what a client is at: nothing, the write or read of an entry, or a write that broke off
+pub data Call : Type 0 where
+  Idle : Call
+  Writes : ℕ → Call
+  Reads : ℕ → Call
+  Broken : Call
+
+-- a LAYOUTCOMMIT for the write of an entry: none, asked, carried out, refused
+pub data Commit : Type 0 where
+  NoCommit : Commit
+  CommitAsked : ℕ → Commit
+  CommitDone : ℕ → Commit
+  CommitRefused : ℕ → Commit
+
+-- a part of a running write: not sent, sent with a nonce, or known to be performed
+pub data PartState : Type 0 where
+  NotSent : PartState
+  Sent : ℕ → PartState
+  Done : PartState
+
+-- the positions from lo on, n of them
+abbrev pub spans : ℕ → ℕ → ℕ → Bool
+spans lo n p = nat_le lo p && nat_lt p (lo + n)
+
+-- an entry of the log, as it is fixed at its start: a client's write or read, the read before a write that gathers what parity needs, or a write of the server
+pub record Start : Type 0 where
+  pub client : ℕ
+  -- the number and the tag of its grant
+  pub grant : ℕ
+  pub tag : ℕ
+  -- whether its tag was the file's when it started; if not, no drive performs any of it
+  pub alive : Bool
+  pub is_write : Bool
+  pub is_read : Bool
+  -- a repair's or a rebuild's write
+  pub server : Bool
+  -- the bytes of a write
+  pub data_at : ℕ → Option ℕ
+  -- the columns that it writes, and those that it may read or write
+  pub touch : ℕ → Bool
+  pub reach : ℕ → Bool
+  -- what it writes into a component's cell
+  pub content : ℕ → ℕ → Option ℕ
+  -- the number of the WRITE to a component that carries a cell
+  pub part : ℕ → ℕ → ℕ
+  -- the positions of which a read wants the bytes
+  pub wanted : ℕ → Bool
+  -- the end of a write, and the file's size as the client knew it, which clips a read
+  pub end_ : ℕ
+  pub clip : ℕ
+  -- the range that a read asks
+  pub from_ : ℕ
+  pub to_ : ℕ
+  -- the components that its layout left out
+  pub left : ℕ → Bool
+
+-- where the bytes of a file lie
+pub record Layout : Type 0 where
+  -- how many components there are
+  pub components : ℕ
+  -- the column of a byte, and whether a column has parity
+  pub col : ℕ → ℕ
+  pub coded : ℕ → Bool
+  -- whether a component has this cell, and the cell's column
+  pub is_cell : ℕ → ℕ → Bool
+  pub cell_col : ℕ → ℕ → ℕ
+  -- whether the cell is a replica of the byte at a position
+  pub copy : ℕ → ℕ → ℕ → Bool
+  -- what the cell should hold for these bytes of the file: a byte, or parity
+  pub word : ℕ → ℕ → (ℕ → ℕ) → ℕ
+
+-- all that there is at a moment
+pub record State : Type 0 where
+  pub layout : Layout
+  -- the objects: the capability tag that each wants, the last nonce that it performed of a client, its bytes
+  pub object_tag : ℕ → ℕ
+  pub last_nonce : ℕ → ℕ → ℕ
+  pub cell : ℕ → ℕ → ℕ
+  -- a component that failed, or is missing from the layout
+  pub lost : ℕ → Bool
+  -- one that was lost when the last fence or repair ended, or was missing when a grant was issued since, or was reported as lost: no claim is made of its cells
+  pub gone : ℕ → Bool
+  -- one that is missing though its drive lives
+  pub dropped : ℕ → Bool
+  -- one that later layouts leave out
+  pub missing : ℕ → Bool
+  -- the server: whether a fence runs, or the repair after it
+  pub fencing : Bool
+  pub repairing : Bool
+  -- the entry before which a column was last repaired
+  pub repaired_at : ℕ → ℕ
+  -- the file's capability tag
+  pub tag : ℕ
+  -- a client's grant that is live, or that the running fence ends
+  pub outstanding : ℕ → Option Grant
+  -- the number of the next grant
+  pub next : ℕ
+  -- whether a grant was issued since the last fence
+  pub granted_since : Bool
+  -- a client's session slot: the last number carried out, and the answer that is kept for it
+  pub slot : ℕ → ℕ
+  pub kept_grant : ℕ → Option Grant
+  pub kept_size : ℕ → ℕ
+  -- the file's size
+  pub size : ℕ
+  -- the clients: the number of a client's last request
+  pub sequence : ℕ → ℕ
+  -- whether it waits for an answer of this file, or for one of another file or to a commit
+  pub waiting : ℕ → Bool
+  pub away : ℕ → Bool
+  -- what it asked last
+  pub asked : ℕ → RequestKind
+  -- the grant that it holds, its last nonce, the call that it is at
+  pub held : ℕ → Option Grant
+  pub nonce : ℕ → ℕ
+  pub call : ℕ → Call
+  -- the file's size as it knows it
+  pub known_size : ℕ → ℕ
+  -- its LAYOUTCOMMIT
+  pub commit : ℕ → Commit
+  -- by client, component and part: what it knows of that WRITE
+  pub out : ℕ → ℕ → ℕ → PartState
+  -- the network: all that was ever sent, newest first; it may come late, often or never
+  pub requests : List Request
+  pub answers : List Answer
+  pub writes : List Write
+  pub replies : List WriteReply
+  pub shown : List ReadReply
+  -- SET TAGs, each by the tag from which it lifts an object's to the next, and the objects' replies with the new tag
+  pub set_tags : List ℕ
+  pub tag_replies : List (ℕ × ℕ)
+  -- the log: how many entries, and each as it started
+  pub count : ℕ
+  pub start : ℕ → Start
+  -- by entry, component and cell: whether that was performed
+  pub applied : ℕ → ℕ → ℕ → Bool
+  -- by entry and position: whether the write's byte counts, old or new once for all
+  pub chosen : ℕ → ℕ → Bool
+  -- whether its commit was carried out
+  pub committed : ℕ → Bool
+  -- whether it was acknowledged, or its report taken as a loss, and whether its client was told so
+  pub acknowledged : ℕ → Bool
+  pub told_client : ℕ → Bool
+  -- a read's answer
+  pub answer : ℕ → Option (ℕ → ℕ)
+
+-- what can happen
+pub data Event : Type 0 where
+  -- a client asks for a layout; the server grants it, or refuses a request; the client takes the answer
+  Asks : (c : ℕ) (rw : Bool) → Event
+  Grants : (c : ℕ) (rw : Bool) (range : ℕ → Bool) (extending : Bool) → Event
+  Refuses : (c : ℕ) (kind : RequestKind) → Event
+  Takes : (c : ℕ) (o : Option Grant) (s0 : ℕ) → Event
+  -- a commit, or a request of another file, is asked, carried out, answered
+  AsksOther : (c : ℕ) → Event
+  ServesOther : (c : ℕ) → Event
+  TakesOther : (c : ℕ) → Event
+  -- a client gives its layout back cleanly, or with a report after a write that broke off, or forgets it
+  GivesBack : (c : ℕ) (g : Grant) → Event
+  Reports : (c : ℕ) (g : Grant) → Event
+  Forgets : (c : ℕ) → Event
+  -- the server carries out a clean return
+  Frees : (c : ℕ) → Event
+  -- the server begins a fence; an object sets its tag; all objects that aren't lost have, and the fence is over
+  Fences : Event
+  SetsTag : (k : ℕ) → Event
+  Fenced : Event
+  -- a client starts a write: under grant g, after gather i, of bytes d that end at e1; the cells that are hit, what was seen where d has nothing, the part of each cell
+  StartsWrite : (c : ℕ) (g : Grant) (i : ℕ) (d : ℕ → Option ℕ) (touch : ℕ → Bool) (hit : ℕ → ℕ → Bool) (seen : ℕ → ℕ) (e1 : ℕ) (part : ℕ → ℕ → ℕ) → Event
+  -- it sends part i to component k; the drive performs it; the client learns that
+  Sends : (c k : ℕ) (g : Grant) (j i : ℕ) → Event
+  Performs : (m : Write) → Event
+  Learns : (c k j v i : ℕ) → Event
+  -- a write is acknowledged, or breaks off
+  Acknowledges : (c j : ℕ) → Event
+  Breaks : (c j : ℕ) → Event
+  -- a client starts a read of lo to hi, or a gather; a drive shows its cells; the read is answered, or ends without an answer
+  StartsRead : (c : ℕ) (g : Grant) (lo hi : ℕ) (reach : ℕ → Bool) → Event
+  Shows : (j k : ℕ) → Event
+  Answers : (c j : ℕ) (f : ℕ → ℕ) → Event
+  EndsRead : (c j : ℕ) → Event
+  -- a component fails
+  Fails : (k : ℕ) → Event
+  -- a component whose drive lives is dropped, as for want of space; a lost one is declared missing
+  Drops : (k : ℕ) → Event
+  Declares : (k : ℕ) → Event
+  -- the server takes a client's report as a loss: each named component is lost, the write is acknowledged, the client leaves its grant; later it is told, and late WRITEs are performed on what is lost
+  Loses : (c k : ℕ) → Event
+  Leaves : (c : ℕ) (g : Grant) → Event
+  Tells : (j : ℕ) → Event
+  PerformsLost : (m : Write) → Event
+  -- a commit is asked, carried out or refused, and its answer taken
+  AsksCommit : (c j : ℕ) → Event
+  Commits : (c j : ℕ) (g : Grant) → Event
+  RefusesCommit : (c j : ℕ) → Event
+  TakesCommit : (c j : ℕ) → Event
+  TakesRefusal : (c j : ℕ) → Event
+  -- a repair's WRITE of one cell is performed, the word of bytes e; the repair ends, with the columns that are done
+  Repairs : (k z : ℕ) (e : ℕ → ℕ) → Event
+  Repaired : (done : ℕ → Bool) (e : ℕ → ℕ) → Event
+  -- a lost component is made anew, with these cells
+  Rebuilds : (k : ℕ) (cells : ℕ → ℕ) → Event
+
+-- d, and what was seen where d has nothing
+abbrev pub overlaid : (ℕ → Option ℕ) → (ℕ → ℕ) → ℕ → ℕ
+overlaid d seen p = over true (d p) (seen p)
+
+-- a value where a flag is set
+abbrev pub only : Bool → ℕ → Option ℕ
+only true v = Some v
+only false v = None
+
+-- what a write sends to the cells that it hits
+abbrev pub payload : Layout → (ℕ → ℕ → Bool) → (ℕ → Option ℕ) → (ℕ → ℕ) → ℕ → ℕ → Option ℕ
+payload m hit d seen k z = only (hit k z) (m.word k z (overlaid d seen))
+
+-- data that agree with every reply of this call in this column
+abbrev pub Agrees : State → ℕ → ℕ → (ℕ → ℕ) → Type 0
+Agrees b j x d = (r : ReadReply) → In r b.shown → r.entry ≡ j → (z : ℕ) → b.layout.is_cell r.at z ≡ true → b.layout.cell_col r.at z ≡ x → r.cells z ≡ b.layout.word r.at z d
+
+-- data that agree with every component of this column that isn't lost
+abbrev pub Stands : State → ℕ → (ℕ → ℕ) → Type 0
+Stands b x d = (k z : ℕ) → b.layout.is_cell k z ≡ true → b.layout.cell_col k z ≡ x → b.lost k ≡ false → b.cell k z ≡ b.layout.word k z d
+
+-- a byte of which every copy is lost, or a parity of which every replica is
+abbrev pub Short : State → ℕ → Type 0
+Short b x = (k z : ℕ) × (b.layout.is_cell k z ≡ true) × (b.layout.cell_col k z ≡ x) ×
+    ((f y : ℕ) → b.layout.is_cell f y ≡ true → b.layout.cell_col f y ≡ x → ((d : ℕ → ℕ) → b.layout.word f y d ≡ b.layout.word k z d) → b.lost f ≡ true)
+
+-- nothing was left of the column
+abbrev pub Gone : State → ℕ → Type 0
+Gone b x = (k z : ℕ) → b.layout.is_cell k z ≡ true → b.layout.cell_col k z ≡ x → b.gone k ≡ true
+
+-- data that agree with every component that there was in this column when this phase of the job began
+abbrev pub Stood : State → ℕ → (ℕ → ℕ) → Type 0
+Stood b x d = (k z : ℕ) → b.layout.is_cell k z ≡ true → b.layout.cell_col k z ≡ x → b.gone k ≡ false → b.cell k z ≡ b.layout.word k z d
+
+-- no write ever touched the column
+abbrev pub Untouched : State → ℕ → Type 0
+Untouched b x = (j : ℕ) → j < b.count → (b.start j).is_write ≡ true → (b.start j).touch x ≡ false
+
+-- a part of a write that isn't acknowledged was performed in this column since it was repaired
+abbrev pub Disturbed : State → ℕ → Type 0
+Disturbed b x = (j k z v : ℕ) × (b.repaired_at x ≤ j) × (j < b.count) × ((b.start j).is_write ≡ true) × (b.acknowledged j ≡ false) ×
+    ((b.start j).content k z ≡ Some v) × (b.layout.cell_col k z ≡ x) × (b.layout.is_cell k z ≡ true) × (b.applied j k z ≡ true)
+
+-- and its grant is over
+abbrev pub Torn : State → ℕ → Type 0
+Torn b x = (j k z v : ℕ) × (b.repaired_at x ≤ j) × (j < b.count) × ((b.start j).is_write ≡ true) × (b.acknowledged j ≡ false) ×
+    ((b.start j).content k z ≡ Some v) × (b.layout.cell_col k z ≡ x) × (b.layout.is_cell k z ≡ true) × (b.applied j k z ≡ true) × ((b.start j).tag < b.tag)
+
+-- no column with parity is both torn and short
+abbrev pub IsCalm : State → Type 0
+IsCalm b = (x : ℕ) → b.layout.coded x ≡ true → Torn b x → Short b x → ⊥
+
+-- not a clean return, which the server never refuses
+abbrev pub NotClean : RequestKind → Type 0
+NotClean (Get rw) = Unit {0}
+NotClean (Return true) = ⊥
+NotClean (Return false) = Unit {0}
+
+-- when an event can happen: a name for each part of its guard
+abbrev pub Allowed : State → Event → Type 0
+Allowed b (Asks c rw) = record { free : b.waiting c ≡ false; home : b.away c ≡ false; none : b.held c ≡ None; idle : b.call c ≡ Idle }
+Allowed b (Grants c rw range extending) = record {
+  asks : In (record { client = c; sequence = b.slot c + 1; kind = Get rw }) b.requests;
+  over : b.fencing ≡ false;
+  repaired : b.repairing ≡ false;
+  none : b.outstanding c ≡ None;
+  apart : (d : ℕ) (g : Grant) → b.outstanding d ≡ Some g → (x : ℕ) → range x ≡ true → g.covers x ≡ true → (rw || g.rw) ≡ false;
+  apart_ext : (d : ℕ) (g : Grant) → b.outstanding d ≡ Some g → (extending || g.extending) ≡ false;
+}
+Allowed b (Refuses c kind) = record {
+  asks : In (record { client = c; sequence = b.slot c + 1; kind = kind }) b.requests;
+  unclean : NotClean kind;
+}
+Allowed b (Takes c o s0) = record {
+  waits : b.waiting c ≡ true;
+  comes : In (record { client = c; sequence = b.sequence c; grant = o; size = s0 }) b.answers;
+}
+Allowed b (AsksOther c) = record { free : b.waiting c ≡ false; home : b.away c ≡ false }
+Allowed b (ServesOther c) = record { free : b.waiting c ≡ false; out : b.away c ≡ true; next : b.slot c + 1 ≡ b.sequence c }
+Allowed b (TakesOther c) = record { out : b.away c ≡ true; served : b.slot c ≡ b.sequence c }
+Allowed b (GivesBack c g) = record { free : b.waiting c ≡ false; home : b.away c ≡ false; has : b.held c ≡ Some g; idle : b.call c ≡ Idle }
+Allowed b (Reports c g) = record { free : b.waiting c ≡ false; home : b.away c ≡ false; has : b.held c ≡ Some g; broken : b.call c ≡ Broken }
+Allowed b (Forgets c) = record { free : b.waiting c ≡ false; plain : b.commit c ≡ NoCommit }
+Allowed b (Frees c) = In (record { client = c; sequence = b.slot c + 1; kind = Return true }) b.requests
+Allowed b Fences = record { over : b.fencing ≡ false; repaired : b.repairing ≡ false }
+Allowed b (SetsTag k) = In (b.object_tag k) b.set_tags
+Allowed b Fenced = record { runs : b.fencing ≡ true; all : (k : ℕ) → k < b.layout.components → (b.lost k ≡ true) ⊎ In (k, b.tag + 1) b.tag_replies }
+Allowed b (StartsWrite c g i d touch hit seen e1 part) = record {
+  some : (p v : ℕ) × (d p ≡ Some v) × (p + 1 ≡ e1);
+  ends : (p v : ℕ) → d p ≡ Some v → p < e1;
+  room : (g.extending ≡ true) ⊎ (e1 ≤ b.known_size c);
+  has : b.held c ≡ Some g;
+  may : g.rw ≡ true;
+  gathers : b.call c ≡ Reads i;
+  gathered : (x : ℕ) → touch x ≡ true → (b.start i).reach x ≡ true;
+  touches : (p v : ℕ) → d p ≡ Some v → touch (b.layout.col p) ≡ true;
+  hits : (k z : ℕ) → hit k z ≡ true → (b.layout.is_cell k z ≡ true) × (touch (b.layout.cell_col k z) ≡ true);
+  lands : (p v : ℕ) → d p ≡ Some v → (k z : ℕ) × (hit k z ≡ true) × (b.layout.cell_col k z ≡ b.layout.col p);
+  misses : (k z : ℕ) → b.layout.is_cell k z ≡ true → g.left k ≡ false → hit k z ≡ false → (e : ℕ → ℕ) → b.layout.word k z (overlaid d e) ≡ b.layout.word k z e;
+  sees : (q : ℕ) → touch (b.layout.col q) ≡ true → d q ≡ None → (e : ℕ → ℕ) → Agrees b i (b.layout.col q) e → seen q ≡ e q;
+}
+Allowed b (Sends c k g j i) = record { runs : b.call c ≡ Writes j; has : b.held c ≡ Some g; listed : (b.start j).left k ≡ false; first : b.out c k i ≡ NotSent }
+Allowed b (Performs m) = record { comes : In m b.writes; there : m.at < b.layout.components; stands : b.lost m.at ≡ false; here : b.gone m.at ≡ false; right : m.tag ≡ b.object_tag m.at; new : b.last_nonce m.at m.holder < m.nonce }
+Allowed b (Learns c k j v i) = record {
+  runs : b.call c ≡ Writes j;
+  sent : b.out c k i ≡ Sent v;
+  comes : In (record { holder = c; nonce = v; at = k }) b.replies;
+}
+Allowed b (Acknowledges c j) = record {
+  runs : b.call c ≡ Writes j;
+  plain : b.commit c ≡ NoCommit;
+  fits : ((b.start j).end_ ≤ (b.start j).clip) ⊎ (b.committed j ≡ true);
+  told : (k i v : ℕ) → b.out c k i ≡ Sent v → b.gone k ≡ true;
+  all : (k z v : ℕ) → (b.start j).content k z ≡ Some v → (b.out c k ((b.start j).part k z) ≡ Done) ⊎ ((b.gone k ≡ true) × ((b.start j).tag ≡ b.tag));
+}
+Allowed b (Breaks c j) = record { runs : b.call c ≡ Writes j; plain : b.commit c ≡ NoCommit }
+Allowed b (StartsRead c g lo hi reach) = record {
+  has : b.held c ≡ Some g;
+  idle : b.call c ≡ Idle;
+  within : (x : ℕ) → reach x ≡ true → g.covers x ≡ true;
+  reaches : (p : ℕ) → spans lo (min hi (b.known_size c) - lo) p ≡ true → reach (b.layout.col p) ≡ true;
+}
+Allowed b (Shows j k) = record { client : (b.start j).server ≡ false; in_log : j < b.count; right : (b.start j).tag ≡ b.object_tag k; there : k < b.layout.components; stands : b.lost k ≡ false }
+Allowed b (Answers c j f) = record {
+  runs : b.call c ≡ Reads j;
+  told : (r : ReadReply) × In r b.shown × (r.entry ≡ j);
+  all : (p : ℕ) → (b.start j).wanted p ≡ true → (d : ℕ → ℕ) → Agrees b j (b.layout.col p) d → f p ≡ d p;
+}
+Allowed b (EndsRead c j) = b.call c ≡ Reads j
+Allowed b (Fails k) = Unit {0}
+Allowed b (Loses c k) = record { over : b.fencing ≡ false; repaired : b.repairing ≡ false; has : (g : Grant) × (b.outstanding c ≡ Some g); only : (d : ℕ) → (d ≡ c → ⊥) → b.outstanding d ≡ None }
+Allowed b (Leaves c g) = record { has : b.held c ≡ Some g; idle : b.call c ≡ Idle }
+Allowed b (Tells j) = record { low : j < b.count; on : b.acknowledged j ≡ true }
+Allowed b (PerformsLost m) = record { comes : In m b.writes; there : m.at < b.layout.components; lost : b.gone m.at ≡ true; right : m.tag ≡ b.object_tag m.at; new : b.last_nonce m.at m.holder < m.nonce }
+Allowed b (Declares k) = b.lost k ≡ true
+Allowed b (Drops k) = record { there : k < b.layout.components; stands : b.lost k ≡ false; over : b.fencing ≡ false; unused : b.granted_since ≡ false }
+Allowed b (AsksCommit c j) = record { runs : b.call c ≡ Writes j; plain : b.commit c ≡ NoCommit }
+Allowed b (Commits c j g) = record { asks : b.commit c ≡ CommitAsked j; live : b.outstanding c ≡ Some g; extending : g.extending ≡ true; over : b.fencing ≡ false }
+Allowed b (RefusesCommit c j) = b.commit c ≡ CommitAsked j
+Allowed b (TakesCommit c j) = b.commit c ≡ CommitDone j
+Allowed b (TakesRefusal c j) = b.commit c ≡ CommitRefused j
+Allowed b (Repairs k z e) = record {
+  at_work : b.repairing ≡ true;
+  is : b.layout.is_cell k z ≡ true;
+  stands : b.lost k ≡ false;
+  all : (q : ℕ) → b.layout.col q ≡ b.layout.cell_col k z → (f y : ℕ) × (b.layout.copy f y q ≡ true) × (b.gone f ≡ false) × (e q ≡ b.cell f y);
+}
+Allowed b (Repaired done e) = record {
+  runs : b.repairing ≡ true;
+  left : (x : ℕ) → done x ≡ false → Short b x;
+  right : (x : ℕ) → done x ≡ true → Stands b x e;
+  copies : (q : ℕ) → done (b.layout.col q) ≡ true → (f y : ℕ) × (b.layout.copy f y q ≡ true) × (b.lost f ≡ false);
+}
+Allowed b (Rebuilds k cells) = record {
+  gone : b.lost k ≡ true;
+  over : b.fencing ≡ false;
+  repaired : b.repairing ≡ false;
+  unused : b.granted_since ≡ false;
+  none : (c : ℕ) → b.outstanding c ≡ None;
+  right : (z : ℕ) → b.layout.is_cell k z ≡ true → ((d : ℕ → ℕ) → Stood b (b.layout.cell_col k z) d → cells z ≡ b.layout.word k z d) ⊎ (Untouched b (b.layout.cell_col k z) × (cells z ≡ 0));
+}
+
+-- the cells of which the writes were performed, after this WRITE
+abbrev pub performed : State → Write → ℕ → ℕ → ℕ → Bool
+performed b m = updated b.applied m.entry (updated (b.applied m.entry) m.at (λ z. b.applied m.entry m.at z || ((b.start m.entry).part m.at z == m.part)))
+
+-- the grant that is issued: of the next number, with the file's tag
+abbrev pub granted : State → ℕ → Bool → (ℕ → Bool) → Bool → Grant
+granted b c rw range extending = record { number = b.next; tag = b.tag; rw = rw; covers = range; extending = extending; left = b.missing }
+
+-- the entry of a write
+abbrev pub written_start : State → ℕ → Grant → (ℕ → Option ℕ) → (ℕ → Bool) → (ℕ → ℕ → Bool) → (ℕ → ℕ) → ℕ → (ℕ → ℕ → ℕ) → Start
+written_start b c g d touch hit seen e1 part = record {
+  part = part;
+  end_ = e1;
+  clip = b.known_size c;
+  from_ = 0;
+  to_ = 0;
+  left = g.left;
+  client = c;
+  grant = g.number;
+  tag = g.tag;
+  alive = g.tag == b.tag;
+  is_write = true;
+  is_read = false;
+  server = false;
+  data_at = d;
+  touch = touch;
+  reach = touch;
+  content = payload b.layout hit d seen;
+  wanted = λ p. false;
+}
+
+-- the entry of a read
+abbrev pub read_start : State → ℕ → Grant → ℕ → ℕ → (ℕ → Bool) → Start
+read_start b c g lo hi reach = record {
+  end_ = 0;
+  clip = b.known_size c;
+  from_ = lo;
+  to_ = hi;
+  left = g.left;
+  part = λ k z. 0;
+  client = c;
+  grant = g.number;
+  tag = g.tag;
+  alive = g.tag == b.tag;
+  is_write = false;
+  is_read = true;
+  server = false;
+  data_at = λ p. None;
+  touch = λ x. false;
+  reach = reach;
+  content = λ k z. None;
+  wanted = spans lo (min hi (b.known_size c) - lo);
+}
+
+-- what a repair writes into one cell
+abbrev pub repair_start : State → ℕ → ℕ → (ℕ → ℕ) → Start
+repair_start b k z e = record {
+  end_ = 0;
+  clip = 0;
+  from_ = 0;
+  to_ = 0;
+  left = λ f. false;
+  part = λ f y. 0;
+  client = 0;
+  grant = 0;
+  tag = b.tag;
+  alive = true;
+  is_write = false;
+  is_read = false;
+  server = true;
+  data_at = λ p. None;
+  touch = λ y. true;
+  reach = λ y. true;
+  content = λ f y. only ((f == k) && (y == z)) (b.layout.word k z e);
+  wanted = λ p. false;
+}
+
+-- what a rebuild writes into one component
+abbrev pub rebuilt_start : State → ℕ → (ℕ → ℕ) → Start
+rebuilt_start b k cells = record {
+  end_ = 0;
+  clip = 0;
+  from_ = 0;
+  to_ = 0;
+  left = λ f. false;
+  part = λ f y. 0;
+  client = 0;
+  grant = 0;
+  tag = b.tag;
+  alive = true;
+  is_write = false;
+  is_read = false;
+  server = true;
+  data_at = λ p. None;
+  touch = λ y. true;
+  reach = λ y. true;
+  content = λ f y. only (f == k) (cells y);
+  wanted = λ p. false;
+}
+
+-- whether a write put this byte there
+abbrev pub is_byte : Option ℕ → ℕ → Bool
+is_byte None v = false
+is_byte (Some u) v = u == v
+
+-- a write that wasn't acknowledged under a grant that the last fence ended
+abbrev pub ended : State → ℕ → Bool
+ended b j = (b.start j).is_write && ((b.start j).alive && (not (b.acknowledged j) && ((b.start j).tag + 1 == b.tag)))
+
+-- which bytes count from a repair's end on: of the writes that the fence ended those that the repair found; where a column without parity has nothing left, all
+abbrev pub settled : State → (ℕ → Bool) → (ℕ → ℕ) → ℕ → ℕ → Bool
+settled b done e j p = cond (ended b j) (cond (done (b.layout.col p)) (is_byte ((b.start j).data_at p) (e p)) (cond (b.layout.coded (b.layout.col p)) (b.chosen j p) true)) (b.chosen j p)
+
+-- what an event changes: its guard has decided
+abbrev pub after : State → Event → State
+after b (Asks c rw) = record b {
+  sequence = updated b.sequence c (b.sequence c + 1);
+  waiting = updated b.waiting c true;
+  asked = updated b.asked c (Get rw);
+  requests = record { client = c; sequence = b.sequence c + 1; kind = Get rw } ∷ b.requests;
+}
+after b (Grants c rw range extending) = record b {
+  kept_size = updated b.kept_size c b.size;
+  slot = updated b.slot c (b.slot c + 1);
+  kept_grant = updated b.kept_grant c (Some (granted b c rw range extending));
+  outstanding = updated b.outstanding c (Some (granted b c rw range extending));
+  next = b.next + 1;
+  granted_since = true;
+  gone = λ k. b.gone k || b.missing k;
+  answers = record { client = c; sequence = b.slot c + 1; grant = Some (granted b c rw range extending); size = b.size } ∷ b.answers;
+}
+after b (Refuses c kind) = record b {
+  kept_size = updated b.kept_size c b.size;
+  slot = updated b.slot c (b.slot c + 1);
+  kept_grant = updated b.kept_grant c None;
+  answers = record { client = c; sequence = b.slot c + 1; grant = None; size = b.size } ∷ b.answers;
+}
+after b (Takes c o s0) = record b { known_size = updated b.known_size c s0; waiting = updated b.waiting c false; held = updated b.held c o }
+after b (AsksOther c) = record b { sequence = updated b.sequence c (b.sequence c + 1); away = updated b.away c true }
+after b (ServesOther c) = record b { slot = updated b.slot c (b.slot c + 1) }
+after b (TakesOther c) = record b { away = updated b.away c false }
+after b (GivesBack c g) = record b {
+  held = updated b.held c None;
+  sequence = updated b.sequence c (b.sequence c + 1);
+  waiting = updated b.waiting c true;
+  asked = updated b.asked c (Return true);
+  requests = record { client = c; sequence = b.sequence c + 1; kind = Return true } ∷ b.requests;
+}
+after b (Reports c g) = record b {
+  held = updated b.held c None;
+  call = updated b.call c Idle;
+  sequence = updated b.sequence c (b.sequence c + 1);
+  waiting = updated b.waiting c true;
+  asked = updated b.asked c (Return false);
+  requests = record { client = c; sequence = b.sequence c + 1; kind = Return false } ∷ b.requests;
+}
+after b (Forgets c) = record b { held = updated b.held c None; call = updated b.call c Idle }
+after b (Frees c) = record b {
+  kept_size = updated b.kept_size c b.size;
+  slot = updated b.slot c (b.slot c + 1);
+  kept_grant = updated b.kept_grant c None;
+  outstanding = updated b.outstanding c None;
+  answers = record { client = c; sequence = b.slot c + 1; grant = None; size = b.size } ∷ b.answers;
+}
+after b Fences = record b { fencing = true; set_tags = b.tag ∷ b.set_tags }
+after b (SetsTag k) = record b { object_tag = updated b.object_tag k (b.object_tag k + 1); tag_replies = (k, b.object_tag k + 1) ∷ b.tag_replies }
+after b Fenced = record b { tag = b.tag + 1; fencing = false; repairing = true; gone = b.lost; outstanding = λ c. None; granted_since = false }
+after b (StartsWrite c g i d touch hit seen e1 part) = record b {
+  count = b.count + 1;
+  start = updated b.start b.count (written_start b c g d touch hit seen e1 part);
+  applied = updated b.applied b.count (λ k z. false);
+  chosen = updated b.chosen b.count (λ p. false);
+  committed = updated b.committed b.count false;
+  acknowledged = updated b.acknowledged b.count false;
+  answer = updated b.answer b.count None;
+  call = updated b.call c (Writes b.count);
+  out = updated b.out c (λ k i2. NotSent);
+}
+after b (Sends c k g j i) = record b {
+  nonce = updated b.nonce c (b.nonce c + 1);
+  out = updated b.out c (updated (b.out c) k (updated (b.out c k) i (Sent (b.nonce c + 1))));
+  writes = record { holder = c; grant = g.number; tag = g.tag; nonce = b.nonce c + 1; at = k; entry = j; part = i } ∷ b.writes;
+}
+after b (Performs m) = record b {
+  cell = updated b.cell m.at (λ z. over ((b.start m.entry).part m.at z == m.part) ((b.start m.entry).content m.at z) (b.cell m.at z));
+  last_nonce = updated b.last_nonce m.at (updated (b.last_nonce m.at) m.holder m.nonce);
+  replies = record { holder = m.holder; nonce = m.nonce; at = m.at } ∷ b.replies;
+  applied = performed b m;
+}
+after b (Learns c k j v i) = record b { out = updated b.out c (updated (b.out c) k (updated (b.out c k) i Done)) }
+after b (Acknowledges c j) = record b { acknowledged = updated b.acknowledged j true; chosen = updated b.chosen j (λ p. true); call = updated b.call c Idle }
+after b (Breaks c j) = record b { call = updated b.call c Broken }
+after b (StartsRead c g lo hi reach) = record b {
+  count = b.count + 1;
+  start = updated b.start b.count (read_start b c g lo hi reach);
+  applied = updated b.applied b.count (λ k z. false);
+  chosen = updated b.chosen b.count (λ p. false);
+  committed = updated b.committed b.count false;
+  acknowledged = updated b.acknowledged b.count false;
+  answer = updated b.answer b.count None;
+  call = updated b.call c (Reads b.count);
+}
+after b (Shows j k) = record b { shown = record { entry = j; at = k; cells = b.cell k } ∷ b.shown }
+after b (Answers c j f) = record b { answer = updated b.answer j (Some f); call = updated b.call c Idle }
+after b (EndsRead c j) = record b { call = updated b.call c Idle }
+after b (Fails k) = record b { lost = updated b.lost k true }
+after b (Drops k) = record b { lost = updated b.lost k true; dropped = updated b.dropped k true; missing = updated b.missing k true }
+after b (Loses c k) = record b { lost = updated b.lost k true; missing = updated b.missing k true; gone = updated b.gone k true }
+after b (Leaves c g) = record b { held = updated b.held c None; outstanding = updated b.outstanding c None }
+after b (Tells j) = record b { told_client = updated b.told_client j true }
+after b (PerformsLost m) = record b {
+  cell = updated b.cell m.at (λ z. over ((b.start m.entry).part m.at z == m.part) ((b.start m.entry).content m.at z) (b.cell m.at z));
+  last_nonce = updated b.last_nonce m.at (updated (b.last_nonce m.at) m.holder m.nonce);
+}
+after b (Declares k) = record b { missing = updated b.missing k true }
+after b (AsksCommit c j) = record b { commit = updated b.commit c (CommitAsked j) }
+after b (Commits c j g) = record b { commit = updated b.commit c (CommitDone j); size = max b.size (b.start j).end_; committed = updated b.committed j true }
+after b (RefusesCommit c j) = record b { commit = updated b.commit c (CommitRefused j) }
+after b (TakesCommit c j) = record b { commit = updated b.commit c NoCommit; known_size = updated b.known_size c (max (b.known_size c) (b.start j).end_) }
+after b (TakesRefusal c j) = record b { commit = updated b.commit c NoCommit; held = updated b.held c None; call = updated b.call c Idle }
+after b (Repairs k z e) = record b {
+  count = b.count + 1;
+  start = updated b.start b.count (repair_start b k z e);
+  applied = updated b.applied b.count (λ f y. updated (λ w. false) k true f);
+  chosen = updated b.chosen b.count (λ p. false);
+  committed = updated b.committed b.count false;
+  acknowledged = updated b.acknowledged b.count false;
+  answer = updated b.answer b.count None;
+  cell = updated b.cell k (updated (b.cell k) z (b.layout.word k z e));
+}
+after b (Repaired done e) = record b { repairing = false; gone = b.lost; repaired_at = λ x. cond (done x) b.count (b.repaired_at x); chosen = settled b done e }
+after b (Rebuilds k cells) = record b {
+  count = b.count + 1;
+  start = updated b.start b.count (rebuilt_start b k cells);
+  applied = updated b.applied b.count (λ f y. updated (λ w. false) k true f);
+  chosen = updated b.chosen b.count (λ p. false);
+  committed = updated b.committed b.count false;
+  acknowledged = updated b.acknowledged b.count false;
+  answer = updated b.answer b.count None;
+  lost = updated b.lost k false;
+  gone = updated b.gone k false;
+  dropped = updated b.dropped k false;
+  missing = updated b.missing k false;
+  cell = updated b.cell k cells;
+  object_tag = updated b.object_tag k b.tag;
+}
+
+-- after a list of events
+abbrev pub after_all : State → List Event → State
+after_all b [] = b
+after_all b (e ∷ es) = after_all (after b e) es
+
+-- each event is allowed where it comes
+abbrev pub Lawful : State → List Event → Type 0
+Lawful b [] = Unit {0}
+Lawful b (e ∷ es) = Allowed b e × Lawful (after b e) es
+
+-- a new file
+abbrev pub new_file_state : Layout → State
+new_file_state m = record {
+  layout = m;
+  object_tag = λ k. 1;
+  last_nonce = λ k c. 0;
+  cell = λ k z. 0;
+  lost = λ k. false;
+  gone = λ k. false;
+  dropped = λ k. false;
+  missing = λ k. false;
+  granted_since = false;
+  repairing = false;
+  repaired_at = λ x. 0;
+  tag = 1;
+  fencing = false;
+  outstanding = λ c. None;
+  next = 1;
+  slot = λ c. 0;
+  kept_grant = λ c. None;
+  kept_size = λ c. 0;
+  size = 0;
+  known_size = λ c. 0;
+  commit = λ c. NoCommit;
+  committed = λ j. false;
+  told_client = λ j. false;
+  sequence = λ c. 0;
+  waiting = λ c. false;
+  away = λ c. false;
+  asked = λ c. Get false;
+  held = λ c. None;
+  nonce = λ c. 0;
+  call = λ c. Idle;
+  out = λ c k i. NotSent;
+  requests = [];
+  answers = [];
+  writes = [];
+  replies = [];
+  shown = [];
+  set_tags = [];
+  tag_replies = [];
+  count = 0;
+  start = λ j. record { client = 0; grant = 0; tag = 0; alive = false; is_write = false; is_read = false; server = false; end_ = 0; clip = 0; from_ = 0; to_ = 0; left = λ k. false; part = λ k z. 0; data_at = λ p. None; touch = λ x. false; reach = λ x. false; content = λ k z. None; wanted = λ p. false };
+  applied = λ j k z. false;
+  chosen = λ j p. false;
+  acknowledged = λ j. false;
+  answer = λ j. None;
+}
+
+-- x
