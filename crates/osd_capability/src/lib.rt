@@ -2,9 +2,10 @@
 //!
 //! A capability says what its holder may do with one object. It is the credential of a RFC 5664
 //! layout (`oc_capability`, with `oc_capability_key` beside it); its 96 bytes are this project's
-//! own profile of the idea of T10's OSD-2. Nobody can alter one without the drive's key: the
-//! capability key is an HMAC of the bytes under that key, and each command carries a check value
-//! under the capability key. Format 1 computes both over SHA-1, format 2 over SHA-256.
+//! own profile of the capabilities of SCSI object storage (OSD-2, ANSI INCITS 458). Nobody can alter
+//! one without the drive's key: the capability key is an HMAC of the bytes under that key, and each
+//! command carries a check value under the capability key. Format 1 computes both over SHA-1,
+//! format 2 over SHA-256.
 //!
 //! No call takes memory.
 #![tactic(auto)]

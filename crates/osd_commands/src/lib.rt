@@ -1,9 +1,9 @@
 //! The commands of the object drives and their replies, as bytes.
 //!
 //! A command is a block of 256 bytes and a payload, a reply one of 40 bytes and a payload; numbers
-//! are big-endian. The layouts are this project's own profile of the idea of T10's OSD-2. A command
-//! carries a capability and a check value: [`seal`] makes it, and [`holds`] tells whether it is
-//! right under a drive's key.
+//! are big-endian. The layouts are this project's own profile of the commands of SCSI object storage
+//! (OSD-2, ANSI INCITS 458). A command carries a capability and a check value: [`seal`] makes it, and
+//! [`holds`] tells whether it is right under a drive's key.
 #![tactic(auto)]
 
 mod actions;

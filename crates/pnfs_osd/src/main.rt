@@ -12,14 +12,30 @@ mod tests;
 
 use osd_links::{StdSink, StdSource};
 use run::run;
+use std::io::ErrorKind;
 use std::process::ExitCode;
 use std::{env, io};
+use stop::{Stop, stopped};
 
-fn main(rt: HostRuntime) -> io::Result<ExitCode> {
+// The program's name and its words.
+fn all_words(rt: HostRuntime) -> io::Result<Vec<String>> {
     let words: Vec<String> = env::args(&rt)?.collect(rt.alloc())?;
-    let (_, words) = words.split_at(words.len().min(1));
+    Ok(words)
+}
+
+fn main(rt: HostRuntime) -> ExitCode {
     let mut source = StdSource::new(rt);
     let mut sink = StdSink::new(rt);
+    let words = match all_words(rt) {
+        Ok(words) => words,
+        Err(e) if e.kind() == ErrorKind::OutOfMemory => {
+            let status = stopped(&mut sink, Stop::Memory, 0);
+            return ExitCode::from(status.exit_code());
+        }
+        // A word that isn't text is none of a command.
+        Err(_) => Vec::new(rt.alloc()),
+    };
+    let (_, words) = words.split_at(words.len().min(1));
     let status = run(rt.alloc(), words, &mut source, &mut sink);
-    Ok(ExitCode::from(status.exit_code()))
+    ExitCode::from(status.exit_code())
 }
