@@ -2,8 +2,20 @@
 use Rattle.std.proofs.Common.{◌≡◌, arith, Ok}
 use Rattle.std.proofs.lemmas.Bool.Decides.{nat_tests}
 use Rattle.data_map.specs.declared.check.RawMap.{RawMap}
-use Rattle.data_map.specs.Check.{checked, IsChecked}
+use Rattle.data_map.specs.Check.{HasAlgorithm, checked, IsChecked}
 
-pub checked_is_checked : (m n : RawMap) → checked m ≡ Ok n → IsChecked m
+pub checked_is_checked : (m n : RawMap) → HasAlgorithm m → checked m ≡ Ok n → IsChecked m
 unfolding checked
-checked_is_checked m n h = grind (arith, nat_tests)
+checked_is_checked m n a h = record {
+  some_unit = grind (arith, nat_tests);
+  short_unit = grind (arith, nat_tests);
+  some_components = grind (arith, nat_tests);
+  few_components = grind (arith, nat_tests);
+  whole_positions = grind (arith, nat_tests);
+  narrow = grind (arith, nat_tests);
+  whole_groups = grind (arith, nat_tests);
+  some_data = grind (arith, nat_tests);
+  some_depth = grind (arith, nat_tests);
+  short_depth = grind (arith, nat_tests);
+  algorithm = a;
+}

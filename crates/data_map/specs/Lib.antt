@@ -1,2 +1,4 @@
 pub mod Check
+pub mod Inverse
+pub mod Ranges
 pub mod Striping

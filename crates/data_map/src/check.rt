@@ -4,23 +4,39 @@ pub const MAX_COMPONENTS: u32 = 1_024;
 /// The most positions of a group.
 pub const MAX_WIDTH: u32 = 64;
 
+/// The most stripes of a group before the next group follows.
+pub const MAX_DEPTH: u32 = 1_048_576;
+
 /// The longest stripe unit in bytes.
 pub const MAX_STRIPE_UNIT: u64 = 1_048_576;
 
-/// A data map as it is written down, not yet checked (`pnfs_osd_data_map4`, RFC 5664 3.1).
+/// RAID 0: no parity (`PNFS_OSD_RAID_0`, RFC 5664 3.4 and 5.4.1).
+pub const RAID_0: u32 = 1;
+
+/// RAID 4: a parity unit in each stripe, at the last position of its group (RFC 5664 5.4.2).
+pub const RAID_4: u32 = 2;
+
+/// RAID 5: a parity unit in each stripe, one position further to the front with each stripe (RFC
+/// 5664 5.4.3).
+pub const RAID_5: u32 = 3;
+
+/// RAID P+Q: two parity units in each stripe, at the last positions of its group (RFC 5664 5.4.4).
+pub const RAID_PQ: u32 = 4;
+
+/// A data map as it is written down, not yet checked (`pnfs_osd_data_map4`, RFC 5664 5.1).
 #[derive(Clone, Copy, Debug, PartialEq, Eq)]
 pub struct RawMap {
     /// The number of components.
     pub comps: u32,
     /// The length of a stripe unit in bytes.
     pub unit: u64,
-    /// The components of a group, or 0 where all components are one group.
+    /// The positions of a group, or 0 where all positions are one group.
     pub width: u32,
     /// The stripes of a group before the next group follows, or 0 without groups.
     pub depth: u32,
     /// The further replicas of each component.
     pub mirrors: u32,
-    /// The RAID algorithm: 1 for RAID 0, 2 for RAID 4, 3 for RAID 5, 4 for RAID P+Q.
+    /// The RAID algorithm: [`RAID_0`], [`RAID_4`], [`RAID_5`] or [`RAID_PQ`].
     pub algorithm: u32,
 }
 
@@ -33,6 +49,11 @@ pub enum MapErr {
     TooMany,
     /// There is no component.
     TooFew,
-    /// A group has more than [`MAX_WIDTH`] positions.
+    /// The number of components isn't a multiple of the replicas of a position.
+    Multiple,
+    /// A group has more than [`MAX_WIDTH`] positions or no data unit, or the groups don't take up the
+    /// positions.
     Width,
+    /// There is a depth without groups, or with groups none or one above [`MAX_DEPTH`].
+    Depth,
 }

@@ -1,43 +1,65 @@
-ghost use Rattle.std.specs.Prelude.{◌≡◌, ◌<◌, IfOk};
-ghost use Rattle.data_map.specs.Check.{checked, IsPlain};
-ghost use Rattle.data_map.specs.Striping.{place_of, left_in_unit};
+ghost use Rattle.std.specs.Prelude.{◌≡◌, ◌<◌, ◌≤◌, ◌*◌, IfOk};
+ghost use Rattle.data_map.specs.Check.{bad_depth, checked, HasAlgorithm, IsChecked};
+ghost use Rattle.data_map.specs.Striping.{positions, replicas, group_width, groups, parities, data_units, stripe_length, replica_of};
 
-use crate::check::{MAX_COMPONENTS, MAX_STRIPE_UNIT, MAX_WIDTH, MapErr, RawMap};
+use crate::check::{
+    MAX_COMPONENTS, MAX_DEPTH, MAX_STRIPE_UNIT, MAX_WIDTH, MapErr, RAID_0, RAID_PQ, RawMap,
+};
 use std::marker::Model;
 
-/// Where a byte of a file lies.
-#[derive(Clone, Copy, Debug, PartialEq, Eq)]
-pub struct Place {
-    /// The position of its component.
-    pub position: u32,
-    /// Its offset in the component, in bytes.
-    pub offset: u64,
-    /// The number of its stripe in the file.
-    pub stripe: u64,
-}
-
 /// A checked map. Contracts see the map that was checked.
+///
+/// A position stands for a component and its mirrors. A group of positions holds whole stripes: a
+/// unit of each data position, and the parity. Without groups all positions are one group.
 #[derive(Debug, Drop)]
 pub struct DataMap {
     raw: RawMap,
+    positions: u32,
+    group_width: u32,
+    parities: u32,
 }
 
 impl Model for DataMap {
+    ghost use Rattle.std.specs.Prelude.{◌≡◌};
     ghost use Rattle.data_map.specs.Check.{IsChecked};
+    ghost use Rattle.data_map.specs.Striping.{positions as positions_of, group_width as width_of, parities as parities_of};
     ghost use Rattle.data_map.specs.declared.check.RawMap.{RawMap as ARawMap};
 
     ghost Value = { ARawMap };
 
     ghost view = { λ m. m.raw };
 
-    ghost invariant = { λ m. IsChecked m.raw };
+    ghost invariant = { λ m. IsChecked m.raw × (m.positions ≡ positions_of m.raw) × (m.group_width ≡ width_of m.raw) × (m.parities ≡ parities_of m.raw) };
+}
+
+// The parity units of a stripe.
+fn parities_of(raw: &RawMap) -> u32
+    ensures value { result ≡ parities raw.now }
+    ensures bound { result ≤ 2 }
+{
+    match raw.algorithm {
+        RAID_0 => 0,
+        RAID_PQ => 2,
+        _ => 1,
+    }
+}
+
+// Whether a depth doesn't go with a width.
+fn is_bad_depth(raw: &RawMap) -> bool
+    ensures { result ≡ bad_depth raw.now }
+{
+    if raw.width == 0 {
+        raw.depth != 0
+    } else {
+        raw.depth == 0 || raw.depth > MAX_DEPTH
+    }
 }
 
 impl DataMap {
-    /// Checks a map, which must be of plain striping: no groups, no mirrors, RAID 0.
+    /// Checks a map. Each refusal comes exactly where it is the first of [`MapErr`] that applies.
     #[tactic(auto, unfolding(crate::specs::Check::checked))]
     pub fn check(raw: RawMap) -> Result<DataMap, MapErr>
-        requires { IsPlain raw }
+        requires algorithm { HasAlgorithm raw }
         ensures value { result ≡ checked raw }
         ensures same { IfOk result (λ map. map ≡ raw) }
     {
@@ -50,38 +72,89 @@ impl DataMap {
         if raw.comps == 0 {
             return Err(MapErr::TooFew);
         }
-        if raw.comps > MAX_WIDTH {
+        let replicas = u64::from(raw.mirrors) + 1;
+        if u64::from(raw.comps) % replicas != 0 {
+            return Err(MapErr::Multiple);
+        }
+        let positions = (u64::from(raw.comps) / replicas) as u32;
+        let group_width = if raw.width == 0 { positions } else { raw.width };
+        let parities = parities_of(&raw);
+        if group_width > MAX_WIDTH || positions % group_width != 0 || group_width < parities + 1 {
             return Err(MapErr::Width);
         }
-        Ok(DataMap { raw })
+        if is_bad_depth(&raw) {
+            return Err(MapErr::Depth);
+        }
+        Ok(DataMap {
+            raw,
+            positions,
+            group_width,
+            parities,
+        })
     }
 
     /// The map that was checked.
     pub fn raw(&self) -> RawMap
-        ensures { result ≡ self.now }
+        ensures value { result ≡ self.now }
+        ensures usable { IsChecked self.now }
     {
         self.raw
     }
 
-    /// The place of byte `l` of the file, `l` below 2 to the 40.
-    pub fn place(&self, l: u64) -> Place
-        requires { l < 1_099_511_627_776 }
-        ensures { result ≡ place_of self.now l }
+    /// The positions, each a component and its mirrors.
+    pub fn positions(&self) -> u32
+        ensures value { result ≡ positions self.now }
+        ensures bound { (0 < result) × (result ≤ MAX_COMPONENTS) }
     {
-        let stripe_length = u64::from(self.raw.comps) * self.raw.unit;
-        let stripe = l / stripe_length;
-        let rest = l % stripe_length;
-        Place {
-            position: (rest / self.raw.unit) as u32,
-            offset: stripe * self.raw.unit + rest % self.raw.unit,
-            stripe,
-        }
+        self.positions
     }
 
-    /// How many bytes of the file from byte `l` on lie in one unit: at their places one after another.
-    pub fn left_in_unit(&self, l: u64) -> u64
-        ensures { result ≡ left_in_unit self.now l }
+    /// The positions of a group.
+    pub fn group_width(&self) -> u32
+        ensures value { result ≡ group_width self.now }
+        ensures bound { (0 < result) × (result ≤ MAX_WIDTH) }
     {
-        self.raw.unit - l % self.raw.unit
+        self.group_width
+    }
+
+    /// The groups.
+    pub fn groups(&self) -> u32
+        ensures value { result ≡ groups self.now }
+        ensures bound { (0 < result) × (result ≤ MAX_COMPONENTS) }
+    {
+        self.positions / self.group_width
+    }
+
+    /// The parity units of a stripe: none for RAID 0, one for RAID 4 and RAID 5, two for RAID P+Q.
+    pub fn parities(&self) -> u32
+        ensures { result ≡ parities self.now }
+    {
+        self.parities
+    }
+
+    /// The data units of a stripe.
+    pub fn data_units(&self) -> u32
+        ensures value { result ≡ data_units self.now }
+        ensures bound { (0 < result) × (result ≤ MAX_WIDTH) }
+    {
+        self.group_width - self.parities
+    }
+
+    /// The bytes of the file in one stripe.
+    pub fn stripe_length(&self) -> u64
+        ensures value { result ≡ stripe_length self.now }
+        ensures bound { (0 < result) × (result ≤ MAX_WIDTH * MAX_STRIPE_UNIT) }
+    {
+        u64::from(self.data_units()) * self.raw.unit
+    }
+
+    /// The component that holds replica `i` of a position; a position has one replica more than the
+    /// map has mirrors.
+    pub fn replica(&self, position: u32, i: u32) -> u32
+        requires position { position < positions self.now }
+        requires replica { i < replicas self.now }
+        ensures { result ≡ replica_of self.now position i }
+    {
+        position * (self.raw.mirrors + 1) + i
     }
 }

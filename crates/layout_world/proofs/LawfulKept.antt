@@ -7,7 +7,7 @@ use Rattle.std.proofs.lemmas.Bool.{cases_eq, eq-eqb, ne_eqb}
 use Rattle.std.proofs.lemmas.List.{append-nil, length-set}
 use Rattle.data_map.specs.declared.check.RawMap.{RawMap}
 use Rattle.data_map.specs.Striping.{place_of}
-use Rattle.data_map.proofs.Striping.{position_below}
+use Rattle.layout_world.proofs.Plain.{component_below, few_components, has_algorithm}
 use Rattle.data_map.proofs.Checks.{checked_is_checked}
 use Rattle.osd_bytes.specs.Overwrite.{overwritten}
 use Rattle.osd_bytes.proofs.Overwritten.{length-overwritten}
@@ -81,7 +81,7 @@ pub stands_after_file : (c after : ClusterState) (f : ℕ) (raw : RawMap) (e : E
     ((g : ℕ) → log g (EventLine e ∷ NoteLine f Ready ∷ []) ≡ []) → IsAnswered (EventLine e ∷ NoteLine f Ready ∷ []) → StandsFor after (h ++ EventLine e ∷ NoteLine f Ready ∷ [])
 stands_after_file c after f raw e h s can a none answered =
     let lines = EventLine e ∷ NoteLine f Ready ∷ [] in
-    let checked = checked_is_checked raw raw can.usable in
+    let checked = checked_is_checked raw raw (has_algorithm raw can.plain) can.usable in
     let known = chosen_known c.drives raw.comps a.on a.chosen in
     let well : IsWell after = well_after_file c after f raw s.well can a in
     let missing : file_at c f ≡ None = none_is (file_at c f) can.free in
@@ -90,7 +90,7 @@ stands_after_file c after f raw e h s can a none answered =
       settled = subst (λ (x : List Entry). IsSettled (candidates x) []) (sym (quiet f h lines s.answered (none f) ∙ s.unmade f missing)) new_is_settled;
       size = refl;
       held = λ l.
-          let position = position_below raw l checked.0 checked.2 in
+          let position = component_below raw l checked can.plain in
           ap (λ o. slice_index (bytes_or_none o) (place_of raw l).offset) (a.made.there (place_of raw l).position (omega (arith, position, known.0)));
     } in
     record {
@@ -104,7 +104,7 @@ stands_after_file c after f raw e h s can a none answered =
           | inr other ↦
               let before : file_at c g ≡ Some file = sym (file_beside c after f g raw a other) ∙ found in
               let placed = s.well.files g file before in
-              still_kept c.drives after.drives file (log g h) (log g (h ++ lines)) placed.formed (made_untouched c after f g raw file a checked.3 other placed) (quiet g h lines s.answered (none g)) (s.lawful.kept g file before)
+              still_kept c.drives after.drives file (log g h) (log g (h ++ lines)) placed.formed (made_untouched c after f g raw file a (few_components raw checked can.plain) other placed) (quiet g h lines s.answered (none g)) (s.lawful.kept g file before)
         ];
       };
       answered = answered_more h lines s.answered answered;

@@ -1,3 +1,4 @@
+pub mod Plain
 pub mod Storing
 pub mod Loading
 pub mod Placed

@@ -37,7 +37,7 @@ loaded_more drives file offset a n xs formed short h =
       same = λ i inside. elim (cases_lt i a) [
         | inl first ↦ get_or_append_left xs piece 0 i (omega (arith, h.size, first)) ∙ h.same i first
         | inr second ↦
-            let place = ahead file.map (offset + a) (i - a) formed.0.0 formed.0.2 (omega (arith, short, inside, second)) in
+            let place = ahead file.map (offset + a) (i - a) formed.0 (omega (arith, short, inside, second)) in
             let here : offset + a + (i - a) ≡ offset + i = omega (arith, second) in
             get_or-append_right xs piece a i 0 h.size second
             ∙ byte-window (component_bytes drives file (position file (offset + a))) (place_of file.map (offset + a)).offset n (i - a) (omega (arith, inside, second))
@@ -57,7 +57,7 @@ room_more drives file offset a n formed short fits h l from below =
     elim (cases_lt l (offset + a)) [
       | inl first ↦ h l from first
       | inr second ↦
-          let place = ahead file.map (offset + a) (l - (offset + a)) formed.0.0 formed.0.2 (omega (arith, short, below, second)) in
+          let place = ahead file.map (offset + a) (l - (offset + a)) formed.0 (omega (arith, short, below, second)) in
           let here : l ≡ offset + a + (l - (offset + a)) = omega (arith, second) in
           let spot : (place_of file.map l).offset ≡ (place_of file.map (offset + a)).offset + (l - (offset + a)) = ap (λ x. (place_of file.map x).offset) here ∙ place.1 in
           let same : reach drives file l ≡ reach drives file (offset + a) =
@@ -69,7 +69,7 @@ room_more drives file offset a n formed short fits h l from below =
 pub room_for_part : (drives : Drives) (file : StripedFile) (offset len a n : ℕ) → IsFormed file → 0 < n → a + n ≤ len → n ≤ left_in_unit file.map (offset + a) →
     HasRoom drives file offset len → (place_of file.map (offset + a)).offset + n ≤ reach drives file (offset + a)
 room_for_part drives file offset len a n formed some inside short h =
-    let place = ahead file.map (offset + a) (n - 1) formed.0.0 formed.0.2 (omega (arith, short, some)) in
+    let place = ahead file.map (offset + a) (n - 1) formed.0 (omega (arith, short, some)) in
     let last = h (offset + a + (n - 1)) (omega arith) (omega (arith, some, inside)) in
     let same : reach drives file (offset + a + (n - 1)) ≡ reach drives file (offset + a) =
     ap (λ p. length (component_bytes drives file p) + free_at drives (slice_index file.drives p)) place.0 in

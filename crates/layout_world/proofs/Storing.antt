@@ -4,11 +4,12 @@ use Rattle.std.specs.Prelude.{◌⊎◌, ◌==◌, ◌&&◌, slice_index, is_som
 use Rattle.std.proofs.lemmas.Bool.{cases_lt, cases_eq, eq-eqb, ne_eqb}
 use Rattle.std.proofs.lemmas.List.{length-append, get_or_append_left, get_or-append_right}
 use Rattle.data_map.specs.Striping.{place_of, left_in_unit}
-use Rattle.data_map.proofs.Striping.{position_below, one_place, ahead}
+use Rattle.data_map.proofs.Striping.{one_place, ahead}
 use Rattle.osd_bytes.specs.Overwrite.{overwritten}
 use Rattle.osd_bytes.proofs.Overwritten.{length-overwritten, before_overwritten, inside_overwritten, behind_overwritten}
 use Rattle.layout_world.specs.Cluster.{Drives, object_at, bytes_at, bytes_or_none, capacity_at}
 use Rattle.layout_world.specs.Striped.{component_bytes, byte_of, Holds, Stands, IsFormed, Reaches, Stored}
+use Rattle.layout_world.proofs.Plain.{component_below}
 use Rattle.layout_world.specs.declared.file.StripedFile.{StripedFile}
 
 -- one object was written over, and no other changed
@@ -88,7 +89,7 @@ outside_part file l n q formed short apart =
       | inr from ↦ elim (cases_lt q (l + n)) [
         | inl inside ↦
             let here : l + (q - l) ≡ q = omega (arith, from) in
-            let place = ahead file.map l (q - l) formed.0.0 formed.0.2 (omega (arith, from, inside, short)) in
+            let place = ahead file.map l (q - l) formed.0 (omega (arith, from, inside, short)) in
             let position : (place_of file.map q).position ≡ (place_of file.map l).position = ap (λ x. (place_of file.map x).position) (sym here) ∙ place.0 in
             let offset : (place_of file.map q).offset ≡ (place_of file.map l).offset + (q - l) = ap (λ x. (place_of file.map x).offset) (sym here) ∙ place.1 in
             elim (apart position) [
@@ -121,8 +122,8 @@ part_written before after file bytes new l formed short w h q =
               | inl inside ↦
                   let here : at + (offset - at) ≡ offset = omega (arith, from) in
                   let j_short : offset - at < length new = omega (arith, from, inside) in
-                  let place = ahead file.map l (offset - at) formed.0.0 formed.0.2 (omega (arith, j_short, short)) in
-                  let byte : q ≡ l + (offset - at) = one_place file.map q (l + (offset - at)) formed.0.0 formed.0.2 (same ∙ sym place.0) (sym here ∙ sym place.1) in
+                  let place = ahead file.map l (offset - at) formed.0 (omega (arith, j_short, short)) in
+                  let byte : q ≡ l + (offset - at) = one_place file.map q (l + (offset - at)) formed.0 (same ∙ sym place.0) (sym here ∙ sym place.1) in
                   ap (λ x. get_or x offset 0) there ∙ ap (λ x. get_or (overwritten (component_bytes before file k) at new) x 0) (sym here)
                   ∙ inside_overwritten (component_bytes before file k) at new (offset - at) j_short
                   ∙ sym (inside_overwritten bytes l new (offset - at) j_short) ∙ ap (λ x. get_or (overwritten bytes l new) x 0) (sym byte)
@@ -170,13 +171,13 @@ reaches_on file offset len more k before middle formed some short here r =
         | inl old ↦ omega (arith, r.covered l (on.0, old, on.2))
         | inr new ↦
             let there : offset + len + (l - (offset + len)) ≡ l = omega (arith, new) in
-            let place = ahead file.map (offset + len) (l - (offset + len)) formed.0.0 formed.0.2 (omega (arith, short, on.1, new)) in
+            let place = ahead file.map (offset + len) (l - (offset + len)) formed.0 (omega (arith, short, on.1, new)) in
             let spot : (place_of file.map l).offset ≡ at + (l - (offset + len)) = ap (λ x. (place_of file.map x).offset) (sym there) ∙ place.1 in
             omega (arith, spot, on.1, new)
       ];
       least = elim (cases_lt middle (at + more)) [
         | inl grows ↦
-            let place = ahead file.map (offset + len) (more - 1) formed.0.0 formed.0.2 (omega (arith, short, some)) in
+            let place = ahead file.map (offset + len) (more - 1) formed.0 (omega (arith, short, some)) in
             inr (offset + len + (more - 1), (omega arith, omega (arith, some), place.0 ∙ here), omega (arith, place.1, grows, some))
         | inr stays ↦ elim r.least [
           | inl same ↦ inl (omega (arith, same, stays))
@@ -189,7 +190,7 @@ reaches_on file offset len more k before middle formed some short here r =
 on_one_component : (file : StripedFile) (l n q : ℕ) → IsFormed file → n ≤ left_in_unit file.map l → l ≤ q → q < l + n → (place_of file.map q).position ≡ (place_of file.map l).position
 on_one_component file l n q formed short from below =
     let there : l + (q - l) ≡ q = omega (arith, from) in
-    ap (λ x. (place_of file.map x).position) (sym there) ∙ (ahead file.map l (q - l) formed.0.0 formed.0.2 (omega (arith, short, from, below))).0
+    ap (λ x. (place_of file.map x).position) (sym there) ∙ (ahead file.map l (q - l) formed.0 (omega (arith, short, from, below))).0
 
 -- one part more
 pub stored_more : (before middle after : Drives) (file : StripedFile) (offset : ℕ) (xs ys : List ℕ) → IsFormed file → 0 < length ys → length ys ≤ left_in_unit file.map (offset + length xs) →
@@ -200,7 +201,7 @@ pub stored_more : (before middle after : Drives) (file : StripedFile) (offset : 
 stored_more before middle after file offset xs ys formed some short s w capacity =
     let l = offset + length xs in
     let k = (place_of file.map l).position in
-    let below : k < file.map.comps = position_below file.map l formed.0.0 formed.0.2 in
+    let below : k < file.map.comps = component_below file.map l formed.0 formed.3 in
     record {
       written = λ old h q. part_written middle after file (overwritten old offset xs) ys l formed short w (s.written old h) q ∙ overwritten_again old offset xs ys q;
       others = λ d o other. kept_elsewhere middle after (slice_index file.drives k) (file.first + k) (place_of file.map l).offset ys d o w (λ e f. other k below e f) ∙ s.others d o other;

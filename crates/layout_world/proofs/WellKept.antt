@@ -10,7 +10,7 @@ use Rattle.data_map.specs.declared.check.RawMap.{RawMap}
 use Rattle.data_map.specs.Check.{IsChecked}
 use Rattle.data_map.proofs.Checks.{checked_is_checked}
 use Rattle.data_map.specs.Striping.{place_of}
-use Rattle.data_map.proofs.Striping.{position_below}
+use Rattle.layout_world.proofs.Plain.{component_below, few_components, has_algorithm}
 use Rattle.layout_world.specs.Cluster.{Drives, DriveState, new_drive, drive_at, object_of, object_at, bytes_or_none}
 use Rattle.layout_world.specs.Striped.{Holds, Stands, IsFormed}
 use Rattle.layout_world.specs.declared.file.StripedFile.{StripedFile}
@@ -32,7 +32,7 @@ still_stands before after file same h k below = ap is_some (same k below) ∙ h 
 
 pub still_held : (before after : Drives) (file : StripedFile) (bytes : List ℕ) → IsFormed file → Untouched before file after → Holds before file bytes → Holds after file bytes
 still_held before after file bytes formed same h l =
-    ap (λ o. slice_index (bytes_or_none o) (place_of file.map l).offset) (same (place_of file.map l).position (position_below file.map l formed.0.0 formed.0.2)) ∙ h l
+    ap (λ o. slice_index (bytes_or_none o) (place_of file.map l).offset) (same (place_of file.map l).position (component_below file.map l formed.0 formed.3)) ∙ h l
 
 pub some_is : (x y : StripedFile) → Some x ≡ Some y → x ≡ y
 some_is x y h = cc h
@@ -82,13 +82,13 @@ apart f g i j other low high same = other (omega (arith, low, high, same))
 pub made_untouched : (c after : ClusterState) (f g : ℕ) (map : RawMap) (file : StripedFile) → (a : AddsFile c f map after) → map.comps ≤ 64 → (g ≡ f → ⊥) → IsWellPlaced c.drives g file → Untouched c.drives file after.drives
 made_untouched c after f g map file a small other w k below =
     let count = (chosen_known c.drives map.comps a.on a.chosen).0 in
-    a.made.others (slice_index file.drives k) (file.first + k) (λ j inside _ same. apart f g k j other (omega (arith, below, w.formed.0.3)) (omega (arith, inside, count, small)) (ap (λ x. x + k) (sym w.numbered) ∙ same))
+    a.made.others (slice_index file.drives k) (file.first + k) (λ j inside _ same. apart f g k j other (omega (arith, below, few_components file.map w.formed.0 w.formed.3)) (omega (arith, inside, count, small)) (ap (λ x. x + k) (sym w.numbered) ∙ same))
 
 pub well_after_file : (c after : ClusterState) (f : ℕ) (map : RawMap) → IsWell c → CanAddFile c f map → AddsFile c f map after → IsWell after
 well_after_file c after f map w can a =
-    let checked : IsChecked map = checked_is_checked map map can.usable in
+    let checked : IsChecked map = checked_is_checked map map (has_algorithm map can.plain) can.usable in
     let known = chosen_known c.drives map.comps a.on a.chosen in
-    let formed : IsFormed (made_file map f a.on) = (checked, known.0, omega (arith, can.named)) in
+    let formed : IsFormed (made_file map f a.on) = (checked, known.0, omega (arith, can.named), can.plain) in
     let new : IsWellPlaced after.drives f (made_file map f a.on) =
     record { formed = formed; stands = λ k below. ap is_some (a.made.there k (omega (arith, below, known.0))); numbered = refl; size = omega arith } in
     record {
@@ -98,11 +98,11 @@ well_after_file c after f map w can a =
             subst (λ n. IsWellPlaced after.drives n file) (sym same) (subst (λ (x : StripedFile). IsWellPlaced after.drives f x) (some_is (made_file map f a.on) file it) new)
         | inr other ↦
             let old = w.files g file (sym (file_beside c after f g map a other) ∙ found) in
-            record { formed = old.formed; stands = still_stands c.drives after.drives file (made_untouched c after f g map file a checked.3 other old) old.stands; numbered = old.numbered; size = old.size }
+            record { formed = old.formed; stands = still_stands c.drives after.drives file (made_untouched c after f g map file a (few_components map checked can.plain) other old) old.stands; numbered = old.numbered; size = old.size }
       ];
       unused = λ g d o none low high. elim (cases_eq g f) [
         | inl same ↦ absurd (cc (sym none ∙ ap (file_at after) same ∙ file_made c after f map a))
-        | inr other ↦ a.made.others d o (λ j inside _ same. apart f g (o - first_of g) j other (omega (arith, low, high)) (omega (arith, inside, known.0, checked.3)) (omega (arith, low, same)))
+        | inr other ↦ a.made.others d o (λ j inside _ same. apart f g (o - first_of g) j other (omega (arith, low, high)) (omega (arith, inside, known.0, (few_components map checked can.plain))) (omega (arith, low, same)))
             ∙ w.unused g d o (sym (file_beside c after f g map a other) ∙ none) low high
       ];
       clients = ap length a.clients ∙ w.clients;
@@ -120,7 +120,7 @@ file_beside_write c after f g file offset bytes s other = s.files g ∙ rw (ne_e
 pub write_untouched : (c after : ClusterState) (f g : ℕ) (file other_file : StripedFile) (offset : ℕ) (bytes : List ℕ) → StoresAt c f file offset bytes after → (g ≡ f → ⊥) → IsWellPlaced c.drives f file → IsWellPlaced c.drives g other_file →
     Untouched c.drives other_file after.drives
 write_untouched c after f g file other_file offset bytes s other old there k below =
-    s.stored.others (slice_index other_file.drives k) (other_file.first + k) (λ j inside _ same. apart f g k j other (omega (arith, below, there.formed.0.3)) (omega (arith, inside, old.formed.0.3)) (omega (arith, same, there.numbered, old.numbered)))
+    s.stored.others (slice_index other_file.drives k) (other_file.first + k) (λ j inside _ same. apart f g k j other (omega (arith, below, few_components other_file.map there.formed.0 there.formed.3)) (omega (arith, inside, few_components file.map old.formed.0 old.formed.3)) (omega (arith, same, there.numbered, old.numbered)))
 
 pub well_after_write : (c after : ClusterState) (f : ℕ) (file : StripedFile) (offset : ℕ) (bytes : List ℕ) → IsWell c → InRange offset (length bytes) → file_at c f ≡ Some file → StoresAt c f file offset bytes after → IsWell after
 well_after_write c after f file offset bytes w range found s =
@@ -138,7 +138,7 @@ well_after_write c after f file offset bytes w range found s =
       ];
       unused = λ g d o none low high. elim (cases_eq g f) [
         | inl same ↦ absurd (cc (sym none ∙ ap (file_at after) same ∙ written_file c after f file offset bytes s))
-        | inr apart_from ↦ s.stored.others d o (λ k below _ same. apart f g (o - first_of g) k apart_from (omega (arith, low, high)) (omega (arith, below, old.formed.0.3)) (omega (arith, low, same, old.numbered)))
+        | inr apart_from ↦ s.stored.others d o (λ k below _ same. apart f g (o - first_of g) k apart_from (omega (arith, low, high)) (omega (arith, below, few_components file.map old.formed.0 old.formed.3)) (omega (arith, low, same, old.numbered)))
             ∙ w.unused g d o (sym (file_beside_write c after f g file offset bytes s apart_from) ∙ none) low high
       ];
       clients = ap length s.clients ∙ w.clients;

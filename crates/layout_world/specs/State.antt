@@ -4,13 +4,14 @@ use Rattle.std.specs.Ordering.{nat_cmp}
 use Rattle.std.specs.BTreeMap.{is_at, insert_entry}
 use Rattle.std.specs.Map.{lookup}
 use Rattle.data_map.specs.declared.check.RawMap.{RawMap}
-use Rattle.data_map.specs.Check.{IsPlain, checked}
+use Rattle.data_map.specs.Check.{checked}
 use Rattle.file_log.specs.Judge.{given}
 use Rattle.layout_world.specs.Cluster.{Drives, new_drive, drive_at, object_at}
 use Rattle.layout_world.specs.Placing.{Chosen, Made}
-use Rattle.layout_world.specs.Striped.{IsFormed, Stands, HasRoom, Stored, Loaded}
+use Rattle.layout_world.specs.Striped.{IsPlain, IsFormed, Stands, HasRoom, Stored, Loaded}
 use Rattle.layout_world.specs.declared.file.StripedFile.{StripedFile}
-use Rattle.layout_world.specs.declared.file.TheConstants.{MAX_CALL, MAX_FILE_SIZE}
+use Rattle.data_map.specs.declared.ranges.TheConstants.{MAX_FILE_SIZE}
+use Rattle.layout_world.specs.declared.file.TheConstants.{MAX_CALL}
 
 -- the drives and files by number, and of each client number whether there is that client
 pub record ClusterState : Type 0 where

@@ -1,5 +1,6 @@
 -- A file's bytes on the drives: each at its place, by the file's map.
 use Rattle.std.specs.Prelude.{◌≡◌, ◌⊎◌, ℕ, ◌+◌, ◌<◌, ◌≤◌, min, List, length, slice_index, IsSome}
+use Rattle.data_map.specs.declared.check.RawMap.{RawMap}
 use Rattle.data_map.specs.Check.{IsChecked}
 use Rattle.data_map.specs.Striping.{place_of, left_in_unit}
 use Rattle.osd_bytes.specs.Overwrite.{overwritten}
@@ -23,9 +24,13 @@ Holds drives file bytes = (l : ℕ) → byte_of drives file l ≡ slice_index by
 abbrev pub Stands : Drives → StripedFile → Type 0
 Stands drives file = (k : ℕ) → k < file.map.comps → IsSome (object_at drives (slice_index file.drives k) (file.first + k))
 
--- a file of a checked map has a drive for each component
+-- plain striping: one group, no mirrors, RAID 0
+abbrev pub IsPlain : RawMap → Type 0
+IsPlain m = (m.width ≡ 0) × (m.depth ≡ 0) × (m.mirrors ≡ 0) × (m.algorithm ≡ 1)
+
+-- a file of a checked map of plain striping has a drive for each component
 abbrev pub IsFormed : StripedFile → Type 0
-IsFormed file = IsChecked file.map × (length file.drives ≡ file.map.comps) × (file.first < 9_223_372_036_854_775_808)
+IsFormed file = IsChecked file.map × (length file.drives ≡ file.map.comps) × (file.first < 9_223_372_036_854_775_808) × IsPlain file.map
 
 -- each byte of the range lies inside its component and what the component's drive has free
 abbrev pub HasRoom : Drives → StripedFile → ℕ → ℕ → Type 0

@@ -2,16 +2,16 @@ ghost use Rattle.std.specs.Prelude.{◌≡◌, ◌<◌, ◌↔◌, ◌==◌, ℕ
 ghost use Rattle.std.specs.Ordering.{nat_cmp};
 ghost use Rattle.std.specs.BTreeMap.{is_at};
 ghost use Rattle.std.specs.Map.{lookup};
-ghost use Rattle.data_map.specs.Check.{IsPlain};
+ghost use Rattle.layout_world.specs.Striped.{IsPlain};
 ghost use Rattle.layout_world.specs.State.{new_cluster, IsWell, CanAddDrive, AddsDrive, IsClient, AddsClient, CanAddFile, AddsFile, InRange, CanWrite, DoesWrite, CanRead, Answers};
 
 use crate::drives::Drives;
 use crate::err::WorldErr;
-use crate::file::{MAX_CALL, MAX_FILE_SIZE, StripedFile};
+use crate::file::{MAX_CALL, StripedFile};
 use crate::making::make_objects;
 use crate::placing::choose;
 use crate::striped::{has_room, load, store};
-use data_map::{DataMap, RawMap};
+use data_map::{DataMap, MAX_FILE_SIZE, RawMap};
 use osd_bytes::Bytes;
 use std::alloc::Global;
 use std::collections::BTreeMap;

@@ -1,11 +1,8 @@
 ghost use Rattle.std.specs.Prelude.{◌≡◌, ◌+◌, ◌<◌, ◌≤◌};
 ghost use Rattle.layout_world.specs.Striped.{IsFormed, part_of};
 
-use data_map::DataMap;
+use data_map::{DataMap, MAX_FILE_SIZE};
 use osd_bytes::Numbers;
-
-/// The longest file in bytes.
-pub const MAX_FILE_SIZE: u64 = 16_777_216;
 
 /// The most bytes that one call reads or writes.
 pub const MAX_CALL: u64 = 262_144;

@@ -2,7 +2,8 @@ ghost use Rattle.std.specs.Prelude.{◌≡◌, ◌+◌, ◌<◌, ◌≤◌, ◌^
 ghost use Rattle.layout_world.specs.Striped.{IsFormed, Stands, HasRoom, Stored, Loaded};
 
 use crate::drives::Drives;
-use crate::file::{MAX_FILE_SIZE, StripedFile};
+use crate::file::StripedFile;
+use data_map::MAX_FILE_SIZE;
 use osd_bytes::{Bytes, Memory};
 use std::alloc::Global;
 

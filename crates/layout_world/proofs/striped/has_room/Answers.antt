@@ -13,7 +13,7 @@ returns-then-end-room c =
     let offset : c.part-part.result.offset ≡ (place_of file.map l).offset = ap (λ (p : Part). p.offset) c.part-part.ensures in
     let n : c.part-part.result.length ≡ min (c.args.length - c.loop-at.at) (left_in_unit file.map l) = ap (λ (p : Part). p.length) c.part-part.ensures in
     let room : c.room.result ≡ reach c.args.drives.now file l = c.room.ensures ∙ ap (λ (p : Part). length (bytes_at c.args.drives.now p.drive p.object) + free_at c.args.drives.now p.drive) c.part-part.ensures in
-    let column = mod_below l file.map.unit c.requires.formed.0.0 in (
+    let column = mod_below l file.map.unit c.requires.formed.0.some_unit in (
       λ h. absurd (search (rules, h)),
       λ h. absurd (omega (
         arith,

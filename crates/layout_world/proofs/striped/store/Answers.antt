@@ -2,7 +2,7 @@ use Rattle.std.proofs.Common.{arith, ◌≡◌, ◌+◌, ◌++◌, ◌<◌, ◌�
 use Rattle.std.proofs.Math.Seq.{take-add}
 use Rattle.std.proofs.lemmas.List.{length-take}
 use Rattle.std.proofs.lemmas.Nat.{mod_below}
-use Rattle.data_map.proofs.Striping.{position_below}
+use Rattle.layout_world.proofs.Plain.{component_below}
 use Rattle.data_map.specs.Striping.{left_in_unit}
 use Rattle.layout_world.proofs.Storing.{stored_nothing, stored_on}
 use Rattle.layout_world.proofs.striped.store.Goals as goal
@@ -12,7 +12,7 @@ loop-at-init c = record { inside = omega arith; stored = stored_nothing c.args.d
 
 pub write-requires-clause-exists : goal.write-requires-clause-exists
 write-requires-clause-exists c =
-    rw c.part-part.ensures (c.loop-at.invariant.stored.stands _ (position_below c.args.file.now.map (c.args.offset + c.loop-at.at) c.requires.formed.0.0 c.requires.formed.0.2))
+    rw c.part-part.ensures (c.loop-at.invariant.stored.stands _ (component_below c.args.file.now.map (c.args.offset + c.loop-at.at) c.requires.formed.0 c.requires.formed.3))
 
 pub loop-at-preserved : goal.loop-at-preserved
 loop-at-preserved c =
@@ -25,7 +25,7 @@ loop-at-preserved c =
     let here : c.args.offset + length (take c.loop-at.at bytes) ≡ c.args.offset + c.loop-at.at = omega (arith, length-take c.loop-at.at bytes, c.loop-at.invariant.inside) in
     let unit : c.part-part.result.length ≤ left_in_unit c.args.file.now.map (c.args.offset + c.loop-at.at) = rw c.part-part.ensures (omega arith) in
     let rest : c.part-part.result.length ≤ length c.split_at.result.1.now = rw c.part-part.ensures (omega arith) in
-    let column = mod_below (c.args.offset + c.loop-at.at) c.args.file.now.map.unit c.requires.formed.0.0 in
+    let column = mod_below (c.args.offset + c.loop-at.at) c.args.file.now.map.unit c.requires.formed.0.some_unit in
     let left : 0 < left_in_unit c.args.file.now.map (c.args.offset + c.loop-at.at) = omega (arith, column) in
     let some : 0 < c.part-part.result.length = rw c.part-part.ensures (omega (arith, left, c.loop-at-test.true, c.split_at.ensures.back_len)) in
     record {

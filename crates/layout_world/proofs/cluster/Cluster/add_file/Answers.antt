@@ -2,7 +2,8 @@ use Rattle.std.proofs.Common.{rules, refl, ◌≡◌, ◌≤◌, Ok, ap, ◌∙�
 use Rattle.std.specs.Prelude.{IsNone}
 use Rattle.std.specs.Ordering.{nat_cmp}
 use Rattle.std.specs.BTreeMap.{insert_entry}
-use Rattle.data_map.specs.Check.{IsPlain, checked}
+use Rattle.data_map.specs.Check.{checked}
+use Rattle.layout_world.specs.Striped.{IsPlain}
 use Rattle.layout_world.specs.Placing.{Chosen, Made}
 use Rattle.layout_world.specs.State.{ClusterState, file_at, first_of}
 use Rattle.layout_world.proofs.Placed.{chosen_known}
