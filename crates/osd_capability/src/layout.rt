@@ -39,7 +39,7 @@ pub struct Capability {
     pub grant: u32,
     /// Whom it was issued to: the client's number, or 4,294,967,295 for the server.
     pub holder: u32,
-    /// The policy access tag that the object must have (RFC 5664, section 6).
+    /// The policy access tag that the object must have (RFC 5664 13.4).
     pub tag: u32,
     /// The partition of the object.
     pub partition: u64,

@@ -18,7 +18,7 @@ pub enum Action {
     GetAttr,
     /// Sets the attribute of that number to the payload.
     SetAttr,
-    /// Raises the policy access tag by 1 (RFC 5664, section 6).
+    /// Raises the policy access tag by 1 (RFC 5664 13.4).
     SetTag,
 }
 
