@@ -1,0 +1,5 @@
+pub mod Steps
+pub mod Codecs
+pub mod ListLoops
+pub mod Shown
+pub mod Writable
