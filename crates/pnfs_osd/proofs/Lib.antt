@@ -2,3 +2,4 @@ pub mod Pieces
 pub mod SoFar
 pub mod Promised
 pub mod Words
+pub mod Inspecting

@@ -42,12 +42,12 @@ tells b a middle bytes error failed false out put same = record {
   cut = inr (subst (λ x. Rose x a.writes_failed) same put.3);
 }
 
-begins : (input : Option (List ℕ)) (lines : List (List ℕ)) (taken : ℕ) (now : Option (List ℕ)) → Reached input lines taken now → Begins input lines
+pub begins : (input : Option (List ℕ)) (lines : List (List ℕ)) (taken : ℕ) (now : Option (List ℕ)) → Reached input lines taken now → Begins input lines
 begins None lines taken now r = tt
 begins (Some input) lines taken None r = absurd r
 begins (Some input) lines taken (Some rest) r = (lines_of rest, r.3)
 
-all_lines : (input : Option (List ℕ)) (lines : List (List ℕ)) (taken : ℕ) (now next : Option (List ℕ)) → Reached input lines taken now → Yields now next (Ok None) → IsAll input lines
+pub all_lines : (input : Option (List ℕ)) (lines : List (List ℕ)) (taken : ℕ) (now next : Option (List ℕ)) → Reached input lines taken now → Yields now next (Ok None) → IsAll input lines
 unfolding lines_of
 all_lines None lines taken now next r y = tt
 all_lines (Some input) lines taken None next r y = absurd r

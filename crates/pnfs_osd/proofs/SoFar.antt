@@ -123,7 +123,7 @@ goes_on input now next taken more before middle after state new number line byte
       out = subst (Appends before after) (sym o.text_is) (Appends-then before middle after (text (lines_of_steps s.steps)) bytes s.out out);
     }
 
-reached_none : (input : Option (List ℕ)) → Reached input [] 0 input
+pub reached_none : (input : Option (List ℕ)) → Reached input [] 0 input
 reached_none None = tt
 reached_none (Some input) = ([], refl, refl, refl)
 

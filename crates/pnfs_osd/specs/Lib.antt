@@ -5,3 +5,6 @@ pub mod Stops
 pub mod Replay
 pub mod LineCarried
 pub mod Finish
+pub mod Commands
+pub mod Inspect
+pub mod Run

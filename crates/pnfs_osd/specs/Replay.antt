@@ -15,7 +15,7 @@ use Rattle.scenario_text.specs.declared.event.EventErr.{EventErr}
 use Rattle.scenario_text.specs.declared.event.EventErr.TheVariants.{NotYet, Memory as EventMemory}
 use Rattle.scenario_text.specs.Refusals.{IsRefusal}
 use Rattle.layout_world.specs.declared.err.WorldErr.TheVariants.{NotYet as WorldNotYet}
-use Rattle.pnfs_osd.specs.Errors.{words_error, error_line, kind_name}
+use Rattle.pnfs_osd.specs.Errors.{error_line, kind_name}
 use Rattle.pnfs_osd.specs.declared.status.ScenarioKind.{ScenarioKind}
 use Rattle.pnfs_osd.specs.declared.status.ScenarioKind.TheVariants.{Event as EventKind, World as WorldKind}
 use Rattle.pnfs_osd.specs.declared.status.Status.{Status}
@@ -129,7 +129,7 @@ pub record IsMemory (before after : Ends) : Type 0 where
 -- what each status promises
 abbrev pub Promises : Ends → Ends → Status → Type 0
 Promises before after Done = IsDone before after
-Promises before after BadWords = Tells before after [] words_error
+Promises before after BadWords = ⊥
 Promises before after (BadScenario number kind) = IsBadScenario before after number kind
 Promises before after ReadFault = IsReadFault before after
 Promises before after WriteFault = IsWriteFault before after

@@ -1,7 +1,10 @@
-//! Replays scenarios of files striped over object drives (RFC 5664), as proved in `run`.
+//! Replays scenarios of files striped over object drives, and shows and checks the structures of their
+//! layouts (RFC 5664), as proved in `run`.
 #![tactic(auto)]
 
 mod carry_out;
+mod command;
+mod inspect;
 mod put_line;
 mod replay;
 mod run;

@@ -1,29 +1,14 @@
 // A scenario replayed line by line.
 ghost use Rattle.std.specs.Prelude.{◌≡◌, false};
-ghost use Rattle.pnfs_osd.specs.Stops.{stop_of_line};
 ghost use Rattle.pnfs_osd.specs.Finish.{Finishes};
 ghost use Rattle.pnfs_osd.specs.Replay.{Promises};
 
 use crate::carry_out::{carry_out, text_of};
-use crate::status::{ScenarioKind, Status};
-use crate::stop::{Stop, stopped};
+use crate::status::Status;
+use crate::stop::{Stop, stop_of, stopped};
 use layout_world::World;
-use osd_bytes::{LineErr, LineReader, Sink, Source, put_all};
-use scenario_text::EventErr;
+use osd_bytes::{LineReader, Sink, Source, put_all};
 use std::alloc::Global;
-
-// Why no further line came.
-fn stop_of(e: LineErr) -> Stop
-    ensures { result ≡ stop_of_line e }
-{
-    match e {
-        LineErr::TooLong | LineErr::InputFull => {
-            Stop::Refused(ScenarioKind::Event(EventErr::NotYet))
-        }
-        LineErr::ReadFault => Stop::Read,
-        LineErr::Memory => Stop::Memory,
-    }
-}
 
 // Puts the last line.
 fn finish<K: Sink>(alloc: Global, world: &World, sink: &mut K) -> Status
@@ -42,8 +27,7 @@ fn finish<K: Sink>(alloc: Global, world: &World, sink: &mut K) -> Status
 
 /// Replays the scenario that the source gives, and puts its transcript.
 pub fn replay<S: Source, K: Sink>(alloc: Global, source: &mut S, sink: &mut K) -> Status
-    ensures promise { Promises (record { left = S.left source.old; taken = K.taken sink.old; reads_failed = S.faults source.old; writes_failed = K.faults sink.old }) (record { left = S.left source.new; taken = K.taken sink.new; reads_failed = S.faults source.new; writes_failed = K.faults sink.new }) result }
-    ensures words { result ≡ Status.BadWords → ⊥ }
+    ensures { Promises (record { left = S.left source.old; taken = K.taken sink.old; reads_failed = S.faults source.old; writes_failed = K.faults sink.old }) (record { left = S.left source.new; taken = K.taken sink.new; reads_failed = S.faults source.new; writes_failed = K.faults sink.new }) result }
 {
     let mut reader = LineReader::new(alloc);
     let mut world = World::new(alloc);

@@ -1,12 +1,12 @@
 ghost use Rattle.std.specs.Prelude.{◌≡◌, Bool};
-ghost use Rattle.pnfs_osd.specs.Stops.{error_of, status_of};
+ghost use Rattle.pnfs_osd.specs.Stops.{error_of, status_of, stop_of_line};
 ghost use Rattle.pnfs_osd.specs.Errors.{kind_name};
 ghost use Rattle.pnfs_osd.specs.Puts.{Puts};
 
 use crate::put_line::put_error;
 use crate::status::{ScenarioKind, Status};
 use layout_world::WorldErr;
-use osd_bytes::{Memory, Sink};
+use osd_bytes::{LineErr, Memory, Sink};
 use scenario_text::EventErr;
 
 /// Why a replay stops before its input ends.
@@ -27,6 +27,19 @@ impl From<Memory> for Stop {
 
     fn from(_: Memory) -> Self {
         Stop::Memory
+    }
+}
+
+/// Why no further line came.
+pub fn stop_of(e: LineErr) -> Stop
+    ensures { result ≡ stop_of_line e }
+{
+    match e {
+        LineErr::TooLong | LineErr::InputFull => {
+            Stop::Refused(ScenarioKind::Event(EventErr::NotYet))
+        }
+        LineErr::ReadFault => Stop::Read,
+        LineErr::Memory => Stop::Memory,
     }
 }
 

@@ -5,12 +5,12 @@ use osd_bytes::{Bytes, MemSink, MemSource, Numbers};
 use scenario_text::EventErr;
 use std::test::Fail;
 
-// The status of a run over a scenario whose source and sink fail at the calls of these numbers,
-// and what was written.
+// The status of a run over an input whose source and sink fail at the calls of these numbers, and
+// what was written.
 fn ran(
     rt: &HostRuntime,
     words: &[&str],
-    scenario: &[u8],
+    input: &[u8],
     reads: &[u32],
     writes: &[u32],
 ) -> Result<(Status, Bytes), Fail> {
@@ -19,10 +19,7 @@ fn ran(
     for word in words {
         given.push(String::from_str(alloc, word)?)?;
     }
-    let mut source = MemSource::new(
-        Bytes::copied(alloc, scenario)?,
-        Numbers::copied(alloc, reads)?,
-    );
+    let mut source = MemSource::new(Bytes::copied(alloc, input)?, Numbers::copied(alloc, reads)?);
     let mut sink = MemSink::new(alloc, Numbers::copied(alloc, writes)?);
     let status = run(alloc, given.as_slice(), &mut source, &mut sink);
     Ok((status, Bytes::copied(alloc, sink.bytes())?))
@@ -85,8 +82,18 @@ fn scenarios_and_their_transcripts(rt: HostRuntime) -> Result<(), Fail> {
 }
 
 #[test]
-fn words_other_than_replay(rt: HostRuntime) -> Result<(), Fail> {
-    let table: [&[&str]; 4] = [&[], &["replay", "now"], &["Replay"], &["now"]];
+fn words_that_name_no_command(rt: HostRuntime) -> Result<(), Fail> {
+    let table: [&[&str]; 9] = [
+        &[],
+        &["replay", "now"],
+        &["Replay"],
+        &["now"],
+        &["show"],
+        &["check"],
+        &["show", "replay"],
+        &["map", "show"],
+        &["check", "map", "map"],
+    ];
     for words in table {
         let (ended, written) = ran(&rt, words, b"client c0\n", &[], &[])?;
         assert_eq!(rt; ended, Status::BadWords);
@@ -96,18 +103,107 @@ fn words_other_than_replay(rt: HostRuntime) -> Result<(), Fail> {
 }
 
 #[test]
+fn structures_checked_and_shown(rt: HostRuntime) -> Result<(), Fail> {
+    let hex = ScenarioKind::Event(EventErr::BadHex);
+    let table: [(&[&str], &[u8], Status, &[u8]); 11] = [
+        (&["check", "map"], b"", Status::Done, b""),
+        (
+            &["check", "map"],
+            b"00000004000000000001000000000000000000000000000000000003\n000000040000000000010000000000000000000000000000000000\n00000004000000000001000000000000000000000000000000000005\n",
+            Status::Done,
+            b"ok 00000004000000000001000000000000000000000000000000000003\nrefused Short 24\nrefused BadEnum 24\n",
+        ),
+        (
+            &["show", "map"],
+            b"00000004000000000001000000000000000000000000000000000003",
+            Status::Done,
+            b"odm_num_comps 4\nodm_stripe_unit 65536\nodm_group_width 0\nodm_group_depth 0\nodm_mirror_cnt 0\nodm_raid_algorithm 3\n.\n",
+        ),
+        (
+            &["show", "update"],
+            b"00000001ffffFFFFffffffFE00000000\n0000000000000002\n",
+            Status::Done,
+            b"dsu_valid 1\ndsu_delta -2\nolu_ioerr_flag 0\n.\nrefused BadBool 4\n",
+        ),
+        (
+            &["check", "update"],
+            b"00000001FFFFFFFFFFFFFFFE00000000\n\n",
+            Status::Done,
+            b"ok 00000001fffffffffffffffe00000000\nrefused Short 0\n",
+        ),
+        (
+            &["show", "ioerrs"],
+            b"00000000\n0000000000\n00000401\n",
+            Status::Done,
+            b"olr_ioerr_report 0\n.\nrefused Trailing 4\nrefused TooMany 0\n",
+        ),
+        (
+            &["check", "deviceaddr"],
+            b"0000000200000001aa000001\n",
+            Status::Done,
+            b"refused Padding 11\n",
+        ),
+        (
+            &["show", "cred"],
+            b"0\n",
+            refused(1, hex),
+            b"error 1 BadHex\n",
+        ),
+        (
+            &["show", "layout"],
+            b"00\n-\n",
+            refused(2, hex),
+            b"refused Short 0\nerror 2 BadHex\n",
+        ),
+        (
+            &["check", "hint"],
+            b"000000000000000000000000000000000000000000000000\n# none\n",
+            refused(2, hex),
+            b"ok 000000000000000000000000000000000000000000000000\nerror 2 BadHex\n",
+        ),
+        (
+            &["check", "map"],
+            b"00 00\n",
+            refused(1, hex),
+            b"error 1 BadHex\n",
+        ),
+    ];
+    for (words, input, status, output) in table {
+        let (ended, written) = ran(&rt, words, input, &[], &[])?;
+        assert_eq!(rt; ended, status);
+        assert_eq!(rt; written.as_slice(), output);
+    }
+    Ok(())
+}
+
+#[test]
 fn a_source_or_a_sink_that_fails(rt: HostRuntime) -> Result<(), Fail> {
-    let table: [(&[u32], &[u32], Status, &[u8]); 5] = [
+    let replayed: [(&[u32], &[u32], Status, &[u8]); 5] = [
         (&[0], &[], Status::ReadFault, b"error 1 read\n"),
         (&[1], &[], Status::ReadFault, b"= client c0\nerror 2 read\n"),
         (&[], &[0], Status::WriteFault, b""),
         (&[], &[1], Status::WriteFault, b"= client c0\n"),
         (&[0], &[1], Status::ReadFault, b"error "),
     ];
-    for (reads, writes, status, transcript) in table {
+    for (reads, writes, status, transcript) in replayed {
         let (ended, written) = ran(&rt, &["replay"], b"client c0\n", reads, writes)?;
         assert_eq!(rt; ended, status);
         assert_eq!(rt; written.as_slice(), transcript);
+    }
+    let checked: [(&[u32], &[u32], Status, &[u8]); 3] = [
+        (&[0], &[], Status::ReadFault, b"error 1 read\n"),
+        (
+            &[1],
+            &[],
+            Status::ReadFault,
+            b"refused Short 0\nerror 2 read\n",
+        ),
+        (&[], &[0], Status::WriteFault, b""),
+    ];
+    for (reads, writes, status, output) in checked {
+        let (ended, written) = ran(&rt, &["check", "map"], b"00\n", reads, writes)?;
+        assert_eq!(rt; ended, status);
+        assert_eq!(rt; written.as_slice(), output);
     }
     Ok(())
 }

@@ -21,22 +21,22 @@ lines-init g c =
       so_far = rw (nothing_ahead (g.S.Source.left c.args.source.now)) (nothing_yet (g.S.Source.left c.args.source.now) (g.K.Sink.taken c.args.sink.now) stands);
     }
 
-pub returns-in-Ok-None-clause-promise : goal.returns-in-Ok-None-clause-promise
-returns-in-Ok-None-clause-promise g c =
+pub returns-in-Ok-None : goal.returns-in-Ok-None
+returns-in-Ok-None g c =
     let here = rw c.in-Ok-None.field-0-is at c.in-Ok-None.ensures in
     let inv = c.lines.invariant in
     finished _ _ _ _ c.lines.reader.taken (g.K.Sink.taken c.lines.sink) c.lines.world.state c.lines.number (g.K.Sink.faults c.lines.sink) c.finish.result inv.so_far here.lines
     (at_end _ _ _ _ here.at_end inv.ended (here.end refl)) (here.cause.same ∙ inv.reads) inv.writes c.finish.ensures.ends
 
-pub returns-in-Err-clause-promise : goal.returns-in-Err-clause-promise
-returns-in-Err-clause-promise g c =
+pub returns-in-Err : goal.returns-in-Err
+returns-in-Err g c =
     let inv = c.lines.invariant in
     rw (c.stopped.ensures.status, c.stop_of.ensures)
     (no_line _ _ _ c.lines.reader.taken (g.K.Sink.taken c.lines.sink) c.lines.world.state c.lines.number (g.K.Sink.faults c.lines.sink) c.stopped.ensures.puts.0 c.in-Err.e inv.so_far c.in-Err.ensures.answer
     (λ h. rw inv.reads at (c.in-Err.ensures.cause.fault (ap (λ x. Err x) h))) inv.writes (rw c.stop_of.ensures at c.stopped.ensures.puts.1))
 
-pub returns-in-Err-carry_out-clause-promise : goal.returns-in-Err-carry_out-clause-promise
-returns-in-Err-carry_out-clause-promise g c =
+pub returns-in-Err-carry_out : goal.returns-in-Err-carry_out
+returns-in-Err-carry_out g c =
     let here = rw c.in-Ok-Some.field-0-is at c.in-Ok-Some.ensures in
     let inv = c.lines.invariant in
     let stops : StopsLine c.lines.world.state c.in-Ok-Some.line c.in-Err-carry_out.stop = rw c.as_slice.ensures at c.in-Err-carry_out.ensures.err in
@@ -44,8 +44,8 @@ returns-in-Err-carry_out-clause-promise g c =
     (line_stopped _ _ _ c.lines.reader.taken (g.K.Sink.taken c.lines.sink) c.lines.world.state c.lines.number (g.K.Sink.faults c.lines.sink) c.stopped-in-Err-carry_out.ensures.puts.0 c.in-Ok-Some.line c.in-Err-carry_out.stop
     inv.so_far here.answer stops inv.writes c.stopped-in-Err-carry_out.ensures.puts.1)
 
-pub returns-in-Err-put_all-clause-promise : goal.returns-in-Err-put_all-clause-promise
-returns-in-Err-put_all-clause-promise g c =
+pub returns-in-Err-put_all : goal.returns-in-Err-put_all
+returns-in-Err-put_all g c =
     let here = rw c.in-Ok-Some.field-0-is at c.in-Ok-Some.ensures in
     let inv = c.lines.invariant in
     let carried : CarriesLine c.lines.world.state c.in-Ok-Some.line c.in-Ok.text c.carry_out.new.world.state = rw c.as_slice.ensures at c.in-Ok.ensures.ok in
