@@ -1,0 +1,86 @@
+-- What no fault says: none of the rows applies.
+use Rattle.std.proofs.Common.{◌≡◌, ℕ, ◌+◌, List, [], ◌∷◌, ◌++◌, length, Bool, true, false, ◌&&◌, ◌||◌, if◌then◌else◌, nat_eq, nat_lt, nat_le, bit_and, refl, sym, ap, ◌∙◌}
+use Rattle.osd_commands.specs.declared.commands.Command.{Command}
+use Rattle.osd_commands.specs.Actions.{right_of}
+use Rattle.osd_drive.specs.declared.seen.Seen.{Seen}
+use Rattle.osd_drive.specs.declared.verdict.Verdict.{Verdict}
+use Rattle.osd_drive.specs.declared.verdict.Verdict.TheVariants as verdict
+use Rattle.osd_drive.specs.State.{DriveState, seen_of}
+use Rattle.osd_drive.specs.Table.{is_create, is_set_attr, is_set_tag, has_range, has_value, of_object, finds_object, lacks_space, lacks_lane, lacks_attribute, Row, early_rows, late_rows, first_row, late_fault_of, first_fault}
+
+abbrev pub refuses : Verdict → Bool
+refuses verdict.Perform = false
+refuses v = true
+
+abbrev pub all_refuse : List Row → Bool
+all_refuse [] = true
+all_refuse (r ∷ rows) = refuses r.1 && all_refuse rows
+
+abbrev pub NoneApplies : List Row → Type 0
+NoneApplies [] = Unit {0}
+NoneApplies (r ∷ rows) = (r.0 ≡ false) × NoneApplies rows
+
+both : (a b : Bool) → (a && b) ≡ true → (a ≡ true) × (b ≡ true)
+both true b e = (refl, e)
+both false b e = absurd (cc e)
+
+neither : (a b : Bool) → (a || b) ≡ false → (a ≡ false) × (b ≡ false)
+neither true b e = absurd (cc e)
+neither false b e = (refl, e)
+
+-- a row doesn't apply where the verdict is Perform
+row_passes : (b : Bool) (v w : Verdict) → refuses v ≡ true → (if b then v else w) ≡ verdict.Perform → (b ≡ false) × (w ≡ verdict.Perform)
+row_passes true v w refusal e = absurd (cc (sym (ap refuses e) ∙ refusal))
+row_passes false v w refusal e = (refl, e)
+
+pub none_applies : (rows : List Row) → all_refuse rows ≡ true → first_row rows ≡ verdict.Perform → NoneApplies rows
+none_applies [] refusals e = tt
+none_applies (r ∷ rows) refusals e =
+    let rest = both (refuses r.1) (all_refuse rows) refusals in
+    let row = row_passes r.0 r.1 (first_row rows) rest.0 e in
+    (row.0, none_applies rows rest.1 row.1)
+
+-- what the rows on the object say, where none of them applies
+pub record IsClear (s : Seen) (c : Command) : Type 0 where
+  pub finds : finds_object s c ≡ false
+  pub range : (has_range c.action && nat_lt 17825792 (c.offset + c.length)) ≡ false
+  pub tag : (is_set_tag c.action && of_object (λ o. nat_eq o.tag 4294967295) s.object) ≡ false
+  pub space : lacks_space s c ≡ false
+  pub lane : lacks_lane s c ≡ false
+  pub attribute : lacks_attribute s c ≡ false
+
+pub clear_late : (s : Seen) (c : Command) → late_fault_of s c ≡ verdict.Perform → IsClear s c
+unfolding late_fault_of
+clear_late s c e =
+    let rows = none_applies (late_rows s c) refl e in
+    let range = has_range c.action && nat_lt 17825792 (c.offset + c.length) in
+    let value = has_value c.action && nat_lt 256 (length c.payload) in
+    let tag = is_set_tag c.action && of_object (λ o. nat_eq o.tag 4294967295) s.object in
+    let count = is_create c.action && nat_le 65536 s.objects in
+    let past_length = (neither (nat_lt 262144 c.length) (range || (value || (tag || count))) rows.1.1.1.0).1 in
+    let past_range = neither range (value || (tag || count)) past_length in
+    let past_value = (neither value (tag || count) past_range.1).1 in
+    record {
+      finds = rows.1.0;
+      range = past_range.0;
+      tag = (neither tag count past_value).0;
+      space = rows.1.1.1.1.0;
+      lane = rows.1.1.1.1.1.0;
+      attribute = rows.1.1.1.1.1.1.1.0;
+    }
+
+-- what is left of the table past the rows that don't ask what objects there are
+pub past_early : (early late : List Row) → all_refuse early ≡ true → first_row (early ++ late) ≡ verdict.Perform → NoneApplies early × (first_row late ≡ verdict.Perform)
+past_early [] late refusals e = (tt, e)
+past_early (r ∷ rows) late refusals e =
+    let rest = both (refuses r.1) (all_refuse rows) refusals in
+    let row = row_passes r.0 r.1 (first_row (rows ++ late)) rest.0 e in
+    let more = past_early rows late rest.1 row.1 in
+    ((row.0, more.0), more.1)
+
+-- a command without any fault has none of the object, and a SET ATTR names a user's attribute
+pub clear_early : (d : DriveState) (now : ℕ) (c : Command) → first_fault d now c ≡ verdict.Perform → (late_fault_of (seen_of d.store c) c ≡ verdict.Perform) × ((is_set_attr c.action && nat_lt c.attribute 65536) ≡ false)
+unfolding first_fault late_fault_of
+clear_early d now c e =
+    let past = past_early (early_rows d now c) (late_rows (seen_of d.store c) c) refl e in
+    (past.1, (neither (nat_eq (bit_and c.capability.rights (right_of c.action)) 0) (is_set_attr c.action && nat_lt c.attribute 65536) past.0.1.1.1.1.0).1)

@@ -1,0 +1,4 @@
+pub mod Clear
+pub mod Ready
+pub mod LaneLaws
+pub mod Repeated

@@ -1,0 +1,160 @@
+ghost use Rattle.std.specs.Prelude.{◌≡◌, ◌≤◌, ◌↔◌, max, IfOk, OnOk, OnErr, IsTrue, length};
+ghost use Rattle.osd_commands.specs.declared.actions.Action.TheVariants.{SetAttr};
+ghost use Rattle.osd_commands.specs.Commands.{allows, Holds};
+ghost use Rattle.osd_drive.specs.declared.verdict.Verdict.TheVariants.{Perform};
+ghost use Rattle.osd_drive.specs.State.{new_drive, key_of_version};
+ghost use Rattle.osd_drive.specs.Table.{is_mutating, has_old_format, has_no_key, has_wrong_check, is_checked, late_fault, first_fault};
+ghost use Rattle.osd_drive.specs.Effects.{performed, performed_reply, reply_by, state_by, reply_to, drive_after};
+
+use crate::keys::{DriveKey, KeyTable, key_in};
+use crate::performing::perform_on;
+use crate::replies::{format_reply, kept_reply, refused_reply};
+use crate::rows::{has_no_right, is_elsewhere, is_out_of_range, late_verdict};
+use crate::seen::Seen;
+use crate::verdict::Verdict;
+use osd_bytes::Memory;
+use osd_commands::{Command, CommandErr, Reply, holds, read_command};
+use osd_objects::Store;
+use std::alloc::Global;
+use std::marker::Model;
+
+/// A drive: a number, keys, the least format of capabilities that it takes, and objects.
+#[derive(Drop)]
+pub struct DriveCore {
+    number: u32,
+    keys: KeyTable,
+    least: u8,
+    store: Store,
+}
+
+impl Model for DriveCore {
+    ghost use Rattle.osd_drive.specs.State.{DriveState};
+
+    ghost Value = { DriveState };
+
+    ghost view = { λ d. record { number = d.number; keys = d.keys; least = d.least; store = d.store } };
+}
+
+impl DriveCore {
+    /// A drive of a capacity in bytes without objects, which takes capabilities of format 1 and 2. The
+    /// versions of its keys differ; were two the same, the first would count.
+    pub fn new(alloc: Global, number: u32, keys: KeyTable, capacity: u64) -> Self
+        ensures { result ≡ new_drive number keys capacity }
+    {
+        DriveCore {
+            number,
+            keys,
+            least: 1,
+            store: Store::new(alloc, capacity),
+        }
+    }
+
+    // The key of the capability's version.
+    fn key(&self, c: &Command) -> Option<DriveKey>
+        ensures { result ≡ key_of_version self.now.keys c.now.capability.key_version }
+    {
+        key_in(self.keys.as_slice(), c.capability.key_version)
+    }
+
+    /// The first of the rows on the object, from [`Verdict::NoObject`] to [`Verdict::Again`], that
+    /// applies, else `Perform`: for a command whose capability was judged before.
+    pub fn late(&self, c: &Command) -> Verdict
+        ensures { result ≡ late_fault self.now c.now }
+    {
+        late_verdict(&Seen::of(&self.store, c), c)
+    }
+
+    /// The first row of the table that applies, else `Perform`. `now` is the drive's clock in seconds.
+    #[tactic(auto, unfolding(crate::specs::Table::first_fault, crate::specs::Table::late_fault_of))]
+    pub fn verdict(&self, now: u64, c: &Command) -> Verdict
+        ensures { result ≡ first_fault self.now now c.now }
+    {
+        if c.capability.format < self.least {
+            return Verdict::OldFormat;
+        }
+        let Some(key) = self.key(c) else {
+            return Verdict::NoKey;
+        };
+        if !is_checked(&key, c) {
+            Verdict::CheckValue
+        } else if now > c.capability.expiry {
+            Verdict::Expired
+        } else if has_no_right(c) {
+            Verdict::Rights
+        } else if is_elsewhere(self.number, c) {
+            Verdict::WrongObject
+        } else if is_out_of_range(c) {
+            Verdict::Range
+        } else {
+            self.late(c)
+        }
+    }
+
+    /// Takes no more capabilities of a format below this one, which is 1 or 2. It never falls.
+    pub fn raise_least(&mut self, format: u8)
+        ensures { self.new ≡ record self.old { least = max self.old.least format } }
+    {
+        self.least = self.least.max(format);
+    }
+
+    /// Performs a command, whatever its capability says: for one that is known to have had no fault.
+    /// [`DriveCore::late`] must give `Perform`, a SET ATTR must name an attribute from 65,536 on, and
+    /// the payload must be as long as the action allows, as that of each command read from bytes is.
+    ///
+    /// # Errors
+    ///
+    /// Want of memory alone; then nothing changes.
+    pub fn perform(&mut self, alloc: Global, c: &Command) -> Result<Reply, Memory>
+        requires late { late_fault self.old c.now ≡ Perform }
+        requires attribute { c.now.action ≡ SetAttr → 65536 ≤ c.now.attribute }
+        requires sized { IsTrue (allows c.now.action c.now.length (length c.now.payload)) }
+        ensures reply { IfOk result (λ r. r ≡ performed_reply self.old c.now) }
+        ensures state { OnOk result (self.new ≡ performed self.old c.now) }
+        ensures err { OnErr result (self.new ≡ self.old) }
+    {
+        perform_on(&mut self.store, alloc, c)
+    }
+
+    // The reply to a command, which is performed where nothing stands against it.
+    fn answer(&mut self, alloc: Global, now: u64, c: &Command) -> Result<Reply, Memory>
+        requires sized { IsTrue (allows c.now.action c.now.length (length c.now.payload)) }
+        ensures reply { IfOk result (λ r. r ≡ reply_by (first_fault self.old now c.now) self.old c.now) }
+        ensures state { OnOk result (self.new ≡ state_by (first_fault self.old now c.now) self.old c.now) }
+        ensures err { OnErr result (self.new ≡ self.old) }
+    {
+        match self.verdict(now, c) {
+            Verdict::Perform => self.perform(alloc, c),
+            Verdict::Again => {
+                let lane = self.store.lane(c.object, c.capability.holder);
+                Ok(kept_reply(alloc, c, lane))
+            }
+            verdict => Ok(refused_reply(alloc, c, verdict)),
+        }
+    }
+
+    /// Takes any bytes as a command, performs it where no row of the table applies, and gives the
+    /// reply. `now` is the drive's clock in seconds.
+    ///
+    /// # Errors
+    ///
+    /// Want of memory alone. All memory is taken before anything changes, so then nothing changes.
+    pub fn handle(&mut self, alloc: Global, now: u64, message: &[u8]) -> Result<Reply, Memory>
+        ensures reply { IfOk result (λ r. r ≡ reply_to self.old now message.now) }
+        ensures state { OnOk result (self.new ≡ drive_after self.old now message.now) }
+        ensures err { OnErr result (self.new ≡ self.old) }
+    {
+        match read_command(alloc, message) {
+            Ok(c) => self.answer(alloc, now, &c),
+            Err(CommandErr::Memory) => Err(Memory),
+            Err(_) => Ok(format_reply(alloc)),
+        }
+    }
+}
+
+// Whether the check value is the one that a key gives.
+fn is_checked(key: &DriveKey, c: &Command) -> bool
+    ensures row { result ≡ is_checked key.now.key c.now }
+    ensures law { IsTrue result ↔ Holds key.now.key c.now }
+{
+    holds(&key.key, c)
+}
