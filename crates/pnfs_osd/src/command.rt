@@ -22,36 +22,31 @@ pub enum Command {
     Inspect(Inspection, Kind),
 }
 
-// The value of a word, by a table of words.
-macro_rules! by_table {
-    ($word:expr; $($text:literal => $value:expr),* $(,)?) => {{
-        $(if $word == $text {
-            return Some($value);
-        })*
-        None
-    }};
-}
-
 #[tactic(auto, unfolding(crate::specs::Commands::kind_of))]
 fn kind_named(word: &str) -> Option<Kind>
     ensures { result ≡ kind_of word.now }
 {
-    by_table!(word;
-        "map" => Kind::Map,
-        "cred" => Kind::Cred,
-        "layout" => Kind::Layout,
-        "deviceaddr" => Kind::DeviceAddr,
-        "update" => Kind::Update,
-        "ioerrs" => Kind::IoErrs,
-        "hint" => Kind::Hint,
-    )
+    match word {
+        "map" => Some(Kind::Map),
+        "cred" => Some(Kind::Cred),
+        "layout" => Some(Kind::Layout),
+        "deviceaddr" => Some(Kind::DeviceAddr),
+        "update" => Some(Kind::Update),
+        "ioerrs" => Some(Kind::IoErrs),
+        "hint" => Some(Kind::Hint),
+        _ => None,
+    }
 }
 
 #[tactic(auto, unfolding(crate::specs::Commands::inspection_of))]
 fn inspection_named(word: &str) -> Option<Inspection>
     ensures { result ≡ inspection_of word.now }
 {
-    by_table!(word; "show" => Inspection::Show, "check" => Inspection::Check)
+    match word {
+        "show" => Some(Inspection::Show),
+        "check" => Some(Inspection::Check),
+        _ => None,
+    }
 }
 
 /// The command that the words name.
