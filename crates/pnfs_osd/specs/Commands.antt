@@ -1,17 +1,13 @@
 -- The words of the program's commands.
 use Rattle.std.specs.Prelude.{ℕ, if◌then◌else◌, List, [], ◌∷◌, Option, Some, None, codes}
 use Rattle.std.specs.Str.{bytes_eq}
+use Rattle.scenario_text.specs.Keywords.{word_in}
 use Rattle.layout_types.specs.declared.kind.Kind.{Kind}
 use Rattle.layout_types.specs.declared.kind.Kind.TheVariants.{Map, Cred, Layout, DeviceAddr, Update, IoErrs, Hint}
 use Rattle.pnfs_osd.specs.declared.command.Inspection.{Inspection}
 use Rattle.pnfs_osd.specs.declared.command.Inspection.TheVariants.{Show, Check}
 use Rattle.pnfs_osd.specs.declared.command.Command.{Command}
 use Rattle.pnfs_osd.specs.declared.command.Command.TheVariants.{Replay, Inspect}
-
--- the value of a word in a table, of which the first entry counts
-abbrev pub word_in : {K : Type 0} → List (List ℕ × K) → List ℕ → Option K
-word_in [] word = None
-word_in (entry ∷ table) word = if bytes_eq word entry.0 then Some entry.1 else word_in table word
 
 unfoldable pub kind_of : List ℕ → Option Kind
 kind_of word = word_in (
