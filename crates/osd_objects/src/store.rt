@@ -132,8 +132,8 @@ impl Store {
         }
     }
 
-    /// Writes bytes over those of an object, and past their end; a gap becomes zeros. No bytes change
-    /// neither the bytes nor the length. The growth must be free, and the holder must have a lane or
+    /// Writes bytes over those of an object, and past their end; a gap becomes zeros. An empty
+    /// write changes neither the bytes nor the length. The growth must be free, and the holder must have a lane or
     /// room for one.
     ///
     /// # Errors
