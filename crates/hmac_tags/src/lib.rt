@@ -10,6 +10,3 @@ mod sha256_tags;
 
 pub use sha1_tags::Hmac;
 pub use sha256_tags::Hmac256;
-
-#[cfg(test)]
-mod tests;

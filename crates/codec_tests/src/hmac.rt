@@ -1,4 +1,4 @@
-use super::*;
+use hmac_tags::{Hmac, Hmac256};
 use std::test::Fail;
 
 // Both tags of a text under a key, in hexadecimal. The text comes in two pieces.

@@ -1,0 +1,7 @@
+//! Tests of objects and drives, over their public calls.
+#![tactic(auto)]
+
+#[cfg(test)]
+mod drives;
+#[cfg(test)]
+mod objects;
