@@ -5,9 +5,9 @@
 //! places of a block of bytes.
 #![tactic(auto)]
 
+mod in_memory;
 mod lines;
 mod lists;
-mod mem;
 mod memory;
 mod node;
 mod overwrite;
@@ -17,9 +17,9 @@ mod sequence;
 mod sink;
 mod source;
 
+pub use in_memory::{MemSink, MemSource};
 pub use lines::{LineErr, LineReader, MAX_INPUT, MAX_LINE};
 pub use lists::{ByteLists, Bytes, Numbers, Rows, Times};
-pub use mem::{MemSink, MemSource};
 pub use memory::Memory;
 pub use node::Node;
 pub use places::{first_nonzero_in, put_at, put_u16, put_u32, put_u64, u16_at, u32_at, u64_at};
@@ -27,6 +27,3 @@ pub use put::{PutErr, put_all};
 pub use sequence::Sequence;
 pub use sink::Sink;
 pub use source::{Fault, Source};
-
-#[cfg(test)]
-mod tests;

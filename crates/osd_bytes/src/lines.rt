@@ -35,6 +35,7 @@ impl From<crate::Memory> for LineErr {
     }
 }
 
+// How many bytes are read ahead at most.
 const WINDOW: usize = 4096;
 
 /// Bytes that were read ahead, and whether the source has come to its end.
@@ -49,12 +50,13 @@ struct Window {
 impl Model for Window {
     ghost use Rattle.std.specs.Prelude.{◌≤◌, drop, take};
     ghost use Rattle.osd_bytes.specs.Reading.{Ahead};
+    ghost use Rattle.osd_bytes.specs.declared.lines.TheConstants.{WINDOW};
 
     ghost Value = { Ahead };
 
     ghost view = { λ w. record { bytes = drop w.at (take w.end w.buf); ended = w.ended } };
 
-    ghost invariant = { λ w. (w.at ≤ w.end) × (w.end ≤ 4096) };
+    ghost invariant = { λ w. (w.at ≤ w.end) × (w.end ≤ WINDOW) };
 }
 
 impl Window {
