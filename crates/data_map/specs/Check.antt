@@ -1,14 +1,18 @@
 -- Which maps can be used.
-use Rattle.std.specs.Prelude.{◌≡◌, ◌+◌, ◌%◌, ◌<◌, ◌≤◌, ◌==◌, nat_eq, nat_lt, Bool, not, if◌then◌else◌, ◌||◌, Result, Ok, Err}
-use Rattle.data_map.specs.declared.check.TheConstants.{MAX_COMPONENTS, MAX_DEPTH, MAX_STRIPE_UNIT, MAX_WIDTH}
+use Rattle.std.specs.Prelude.{◌≡◌, ℕ, ◌+◌, ◌%◌, ◌<◌, ◌≤◌, ◌==◌, nat_eq, nat_lt, Bool, not, if◌then◌else◌, ◌||◌, Result, Ok, Err}
+use Rattle.data_map.specs.declared.check.TheConstants.{MAX_COMPONENTS, MAX_DEPTH, MAX_STRIPE_UNIT, MAX_WIDTH, RAID_0, RAID_PQ}
 use Rattle.data_map.specs.declared.check.RawMap.{RawMap}
 use Rattle.data_map.specs.declared.check.MapErr.{MapErr}
 use Rattle.data_map.specs.declared.check.MapErr.TheVariants.{Unit as BadUnit, TooMany, TooFew, Multiple, Width, Depth}
 use Rattle.data_map.specs.Striping.{replicas, positions, group_width, parities}
 
--- RAID 0, RAID 4, RAID 5 or RAID P+Q
+-- the number of RAID 0, RAID 4, RAID 5 or RAID P+Q, whoever holds it
+abbrev pub IsAlgorithm : ℕ → Type 0
+IsAlgorithm n = (RAID_0 ≤ n) × (n ≤ RAID_PQ)
+
+-- what a map must have before it is checked
 abbrev pub HasAlgorithm : RawMap → Type 0
-HasAlgorithm m = (0 < m.algorithm) × (m.algorithm ≤ 4)
+HasAlgorithm m = IsAlgorithm m.algorithm
 
 -- ---- the reasons against a map
 
@@ -51,6 +55,7 @@ pub record IsChecked (m : RawMap) : Type 0 where
   pub narrow : group_width m ≤ MAX_WIDTH
   pub whole_groups : positions m % group_width m ≡ 0
   pub some_data : parities m < group_width m
+  pub no_depth : m.width ≡ 0 → m.depth ≡ 0
   pub some_depth : (m.width ≡ 0 → ⊥) → 0 < m.depth
   pub short_depth : m.depth ≤ MAX_DEPTH
   pub algorithm : HasAlgorithm m

@@ -1,3 +1,5 @@
+use thiserror::Error;
+
 /// The most components of a map.
 pub const MAX_COMPONENTS: u32 = 1_024;
 
@@ -41,19 +43,25 @@ pub struct RawMap {
 }
 
 /// Why a map can't be used; of several reasons the first in this order.
-#[derive(Clone, Copy, Debug, PartialEq, Eq)]
+#[derive(Clone, Copy, Debug, PartialEq, Eq, Error)]
 pub enum MapErr {
     /// The stripe unit is 0 or above [`MAX_STRIPE_UNIT`].
+    #[error("the stripe unit is 0 or too long")]
     Unit,
     /// There are more than [`MAX_COMPONENTS`] components.
+    #[error("there are too many components")]
     TooMany,
     /// There is no component.
+    #[error("there is no component")]
     TooFew,
     /// The number of components isn't a multiple of the replicas of a position.
+    #[error("the components aren't whole positions")]
     Multiple,
     /// A group has more than [`MAX_WIDTH`] positions or no data unit, or the groups don't take up the
     /// positions.
+    #[error("the groups are too wide or too narrow, or don't take up the positions")]
     Width,
     /// There is a depth without groups, or with groups none or one above [`MAX_DEPTH`].
+    #[error("the depth is none of this map's groups")]
     Depth,
 }

@@ -18,6 +18,3 @@ pub use check::{
 pub use map::DataMap;
 pub use place::Place;
 pub use ranges::{Extent, Extents, MAX_FILE_SIZE};
-
-#[cfg(test)]
-mod tests;

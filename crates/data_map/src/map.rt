@@ -1,4 +1,4 @@
-ghost use Rattle.std.specs.Prelude.{◌≡◌, ◌<◌, ◌≤◌, ◌*◌, IfOk};
+ghost use Rattle.std.specs.Prelude.{◌≡◌, ◌<◌, ◌≤◌, ◌*◌, IfOk, Ok};
 ghost use Rattle.data_map.specs.Check.{bad_depth, checked, HasAlgorithm, IsChecked};
 ghost use Rattle.data_map.specs.Striping.{positions, replicas, group_width, groups, parities, data_units, stripe_length, replica_of};
 
@@ -11,7 +11,7 @@ use std::marker::Model;
 ///
 /// A position stands for a component and its mirrors. A group of positions holds whole stripes: a
 /// unit of each data position, and the parity. Without groups all positions are one group.
-#[derive(Debug, Drop)]
+#[derive(Clone, Copy, Debug)]
 pub struct DataMap {
     raw: RawMap,
     positions: u32,
@@ -20,7 +20,7 @@ pub struct DataMap {
 }
 
 impl Model for DataMap {
-    ghost use Rattle.std.specs.Prelude.{◌≡◌};
+    ghost use Rattle.std.specs.Prelude.{◌≡◌, refl};
     ghost use Rattle.data_map.specs.Check.{IsChecked};
     ghost use Rattle.data_map.specs.Striping.{positions as positions_of, group_width as width_of, parities as parities_of};
     ghost use Rattle.data_map.specs.declared.check.RawMap.{RawMap as ARawMap};
@@ -30,6 +30,10 @@ impl Model for DataMap {
     ghost view = { λ m. m.raw };
 
     ghost invariant = { λ m. IsChecked m.raw × (m.positions ≡ positions_of m.raw) × (m.group_width ≡ width_of m.raw) × (m.parities ≡ parities_of m.raw) };
+
+    ghost inverse = { λ raw. record { raw = raw; positions = positions_of raw; group_width = width_of raw; parities = parities_of raw } };
+
+    ghost inverse_ok = { λ a h. rw (h.1, h.2, h.3) refl };
 }
 
 // The parity units of a stripe.
@@ -93,10 +97,11 @@ impl DataMap {
         })
     }
 
-    /// The map that was checked.
+    /// The map that was checked. [`DataMap::check`] takes it again, and gives the same map.
     pub fn raw(&self) -> RawMap
         ensures value { result ≡ self.now }
         ensures usable { IsChecked self.now }
+        ensures again { checked result ≡ Ok result }
     {
         self.raw
     }
