@@ -1,5 +1,5 @@
 -- The field of 256 elements: a byte is a polynomial over bits, reduced by x^8 + x^4 + x^3 + x^2 + 1.
-use Rattle.std.specs.Prelude.{ℕ, zero, suc, ◌*◌, ◌/◌, ◌%◌, bit_xor, nat_lt, nat_eq, if◌then◌else◌, List}
+use Rattle.std.specs.Prelude.{ℕ, zero, suc, ◌+◌, ◌*◌, ◌/◌, ◌%◌, ◌==◌, bit_xor, nat_lt, nat_eq, if◌then◌else◌, List}
 use lib.Lanes.{zip2}
 
 -- x times a polynomial, reduced
@@ -23,6 +23,15 @@ product a b = product_bits 8 a b
 unfoldable pub two_to : ℕ → ℕ
 two_to zero = 1
 two_to (suc n) = product (two_to n) 2
+
+-- the first of n elements from b on whose product with a is 1, or 0 where none has it
+unfoldable pub inverse_from : (a b n : ℕ) → ℕ
+inverse_from a b zero = 0
+inverse_from a b (suc n) = if product a b == 1 then b else inverse_from a (b + 1) n
+
+-- the inverse of an element, which 0 doesn't have
+abbrev pub inverse_of : ℕ → ℕ
+inverse_of a = inverse_from a 0 256
 
 -- out with c times src added to it
 abbrev pub added : ℕ → List ℕ → List ℕ → List ℕ

@@ -1,6 +1,6 @@
 // Single elements, by tables of the powers of 2 and of their exponents.
 ghost use Rattle.std.specs.Prelude.{◌≡◌, ◌≢◌};
-ghost use Rattle.gf256.specs.Field.{product, two_to};
+ghost use Rattle.gf256.specs.Field.{inverse_of, product, two_to};
 
 use crate::tables::{EXPONENTS, POWERS};
 
@@ -15,10 +15,11 @@ pub fn mul(a: u8, b: u8) -> u8
     POWERS[sum % 255]
 }
 
-/// The element whose product with `a` is 1, where `a` isn't 0.
+/// The one element whose product with `a` is 1, where `a` isn't 0.
 pub fn inverse(a: u8) -> u8
     requires { a ≢ 0 }
-    ensures { product a result ≡ 1 }
+    ensures undoes { product a result ≡ 1 }
+    ensures value { result ≡ inverse_of a }
 {
     POWERS[(255 - EXPONENTS[a as usize] as usize) % 255]
 }

@@ -14,6 +14,3 @@ mod tables;
 pub use elements::{inverse, mul, power};
 pub use scaling::add_scaled;
 pub use summing::add;
-
-#[cfg(test)]
-mod tests;
