@@ -13,7 +13,8 @@ use Rattle.parity_code.specs.declared.code.Code.TheVariants.{Plain, Xor, PandQ}
 use Rattle.parity_code.specs.Parity.{column, p_of, q_of}
 use Rattle.parity_code.specs.Codeword.{count_of, codeword, width_of, AgreeOutside}
 use Rattle.parity_code.specs.Syndromes.{IsWhole, HasNoSyndrome}
-use Rattle.parity_code.specs.Repairs.{Restored}
+use Rattle.parity_code.specs.Decoding.{decoded}
+use Rattle.parity_code.specs.Restored.{Restored}
 use Rattle.parity_code.proofs.ParityLaws.{AreBytes, p_of_lt, q_from_lt}
 use Rattle.parity_code.proofs.ColumnLaws.{length_column, same_count}
 use Rattle.parity_code.proofs.CodeLaws.{set_last, set_last_two}
@@ -40,11 +41,20 @@ codeword_whole PandQ ds some bytes = record {
 }
 
 -- a stripe that was restored has its codewords again
-pub decoded : (code : Code) (n : ℕ) (lost : List ℕ) (old new : List (List ℕ)) → Restored n lost old new → n + count_of code ≡ length old → 0 < count_of code
+pub back : (code : Code) (n : ℕ) (lost : List ℕ) (old new : List (List ℕ)) → Restored n lost old new → n + count_of code ≡ length old → 0 < count_of code
     → (k : ℕ) (ds : List ℕ) → k < width_of old → AreBytes ds → AgreeOutside lost (codeword code ds) (column old k) → column new k ≡ codeword code ds
-decoded code n lost old new restored count some k ds lt bytes agree =
+back code n lost old new restored count some k ds lt bytes agree =
     let same : length ds ≡ n = omega (arith, length_codeword code ds, agree.long, length_column old k) in
     restored.whole k (codeword code ds) lt (rw same at (codeword_whole code ds some bytes)) agree
+
+-- and every column is what the definition makes of it
+pub decoded_by : (code : Code) (n : ℕ) (lost : List ℕ) (old new : List (List ℕ)) → Restored n lost old new → n + count_of code ≡ length old
+    → (k : ℕ) → k < width_of old → column new k ≡ decoded (length old - count_of code) lost (column old k)
+decoded_by code n lost old new restored count k lt = let same : length old - count_of code ≡ n = omega (arith, count) in rw same (restored.exact k lt)
+
+pub decoded_none : (n : ℕ) (col : List ℕ) → decoded n [] col ≡ col
+unfolding decoded
+decoded_none n col = refl
 
 -- columns that agree at each position are equal
 pub none_lost : (xs ys : List ℕ) → AgreeOutside [] xs ys → ys ≡ xs

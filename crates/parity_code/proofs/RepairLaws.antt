@@ -3,13 +3,15 @@ use Rattle.std.proofs.Common.{◌≡◌, ◌≢◌, ℕ, ◌<◌, ◌≤◌, ref
 use Rattle.std.specs.Prelude.{bit_xor}
 use Rattle.std.specs.Int.Bits.{xor_assoc, xor_self}
 use Rattle.std.proofs.lemmas.Nat.{xor_comm, xor_of_8}
-use Rattle.gf256.specs.Field.{product, two_to}
+use Rattle.std.proofs.lemmas.Bool.{lt-ltb, le-ltb, eq-eqb, ne_eqb}
+use Rattle.gf256.specs.Field.{product, two_to, inverse_of}
 use Rattle.gf256.proofs.Sums.{xor_cancel, xor-eq-zero}
 use Rattle.gf256.proofs.Computed.{one_product}
 use Rattle.gf256.proofs.Product.{product-xor, product_zero, zero_product, product_one}
 use Rattle.gf256.proofs.Laws.{two_to_lt, two_to_injective, product_comm, product_assoc, xor-product}
 use Rattle.parity_code.specs.Syndromes.{p_weight, q_weight}
-use Rattle.parity_code.specs.Repairs.{IsRepair, AreRepairs}
+use Rattle.parity_code.specs.Repairs.{repair_of, first_repair, second_repair, IsRepair, AreRepairs}
+use Rattle.parity_code.specs.declared.repair.Repair.{Repair}
 use Rattle.parity_code.proofs.SyndromeLaws.{xor_right_comm, p_weight_below, p_weight_above, q_weight_below, q_weight_at, q_weight_above}
 
 -- of one row but Q's, by the first syndrome
@@ -125,3 +127,33 @@ repairs_of_units units x y i a lt few i_lt a_lt e is_a =
       other_by_p_lt = more_lt;
       other_by_q_lt = i_lt;
     }
+
+-- ---- the repairs are the ones that the definitions name
+
+pub by_p_named : (units x : ℕ) → x ≤ units → record { row = x; by_p = 1; by_q = 0 } ≡ repair_of units x
+unfolding repair_of
+by_p_named units x le = rw (le-ltb units x le) refl
+
+pub by_q_named : (units x : ℕ) → units < x → record { row = x; by_p = 0; by_q = 1 } ≡ repair_of units x
+unfolding repair_of
+by_q_named units x lt = rw (lt-ltb units x lt) refl
+
+pub units_named : (units x y i a : ℕ) → y < units → i ≡ inverse_of (bit_xor (two_to x) (two_to y)) → a ≡ product i (two_to y)
+    → ◌≡◌ {A = Repair × Repair} (record { row = x; by_p = a; by_q = i }, record { row = y; by_p = bit_xor a 1; by_q = i }) (first_repair units x y, second_repair units x y)
+unfolding first_repair second_repair
+units_named units x y i a few is_i is_a = rw (lt-ltb y units few, is_a, is_i) refl
+
+pub unit_and_p_named : (units x y i : ℕ) → y ≡ units → i ≡ inverse_of (two_to x)
+    → ◌≡◌ {A = Repair × Repair} (record { row = x; by_p = 0; by_q = i }, record { row = y; by_p = 1; by_q = i }) (first_repair units x y, second_repair units x y)
+unfolding first_repair second_repair
+unit_and_p_named units x y i same is_i = rw (le-ltb y units (omega (arith, same)), eq-eqb y units same, is_i) refl
+
+pub unit_and_q_named : (units x y : ℕ) → x < units → units < y
+    → ◌≡◌ {A = Repair × Repair} (record { row = x; by_p = 1; by_q = 0 }, record { row = y; by_p = two_to x; by_q = 1 }) (first_repair units x y, second_repair units x y)
+unfolding first_repair second_repair
+unit_and_q_named units x y lt above = rw (le-ltb y units (omega (arith, above)), ne_eqb y units (λ e. omega (arith, e, above)), lt-ltb x units lt) refl
+
+pub both_named : (units x y : ℕ) → x ≡ units → units < y
+    → ◌≡◌ {A = Repair × Repair} (record { row = x; by_p = 1; by_q = 0 }, record { row = y; by_p = 0; by_q = 1 }) (first_repair units x y, second_repair units x y)
+unfolding first_repair second_repair
+both_named units x y same above = rw (le-ltb y units (omega (arith, above)), ne_eqb y units (λ e. omega (arith, e, above)), le-ltb x units (omega (arith, same))) refl

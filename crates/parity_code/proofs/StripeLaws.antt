@@ -11,7 +11,9 @@ use Rattle.parity_code.specs.Parity.{column}
 use Rattle.parity_code.specs.Codeword.{width_of, AreRows, AgreeOutside}
 use Rattle.parity_code.specs.Columns.{Stored, Become}
 use Rattle.parity_code.specs.Syndromes.{p_syndrome, q_syndrome}
-use Rattle.parity_code.specs.Repairs.{repaired, repaired_column, IsRepair, AreRepairs, HasParity, Restored}
+use Rattle.parity_code.specs.Repairs.{repaired, repaired_column, repair_of, first_repair, second_repair, IsRepair, AreRepairs}
+use Rattle.parity_code.specs.Decoding.{decoded}
+use Rattle.parity_code.specs.Restored.{HasParity, Restored}
 use Rattle.parity_code.proofs.ParityLaws.{AreBytes}
 use Rattle.parity_code.proofs.ColumnLaws.{row_kept, length_column, same_count, same_row}
 use Rattle.parity_code.proofs.RestoreLaws.{one_restored, two_restored, one_solved, two_solved}
@@ -97,14 +99,19 @@ column_bytes rows k bytes = λ j d lt.
     let there : j < length rows = omega (arith, length_column rows k) in
     rw (get_or-map (λ (row : List ℕ). get_or row k 0) rows j [] d there) (bytes j [] there k)
 
-pub restored_by_one : (units x : ℕ) (r : Repair) (old mid new : List (List ℕ)) → HasParity units old → All (λ row. (i : ℕ) → get_or row i 0 < 256) old → x < length old → IsRepair units x r
+pub restored_by_one : (units x : ℕ) (r : Repair) (old mid new : List (List ℕ)) → HasParity units old → All (λ row. (i : ℕ) → get_or row i 0 < 256) old → x < length old → IsRepair units x r → r ≡ repair_of units x
     → Stored x 0 (length (get_or old x [])) (λ _. 0) old mid → Become 0 (width_of mid) (repaired_column units r r) mid new → Restored units (x ∷ []) old new
-restored_by_one units x r old mid new parity bytes lt repair clear become =
+unfolding decoded
+restored_by_one units x r old mid new parity bytes lt repair is_r clear become =
     let room : length (get_or old x []) ≡ width_of old = parity.even x [] lt in
     let width : width_of mid ≡ width_of old = width_kept old mid clear.shape in
     let shape : map length new ≡ map length old = become.shape ∙ clear.shape in
     record {
       shape = shape;
+      exact = λ k k_lt.
+          up_to (width_of mid) (repaired_column units r r) mid new become k (omega arith)
+          ∙ ap (repaired_column units r r) (cleared x (length (get_or old x [])) old mid clear k (omega arith))
+          ∙ ap (λ (a : Repair). repaired_column units a a (set (column old k) x 0)) is_r;
       kept = λ j none. row_kept old new j shape (λ k.
           let other : j ≢ x = not_first x j [] none in
           let not_row : j ≢ r.row = rw repair.row other in
@@ -129,10 +136,11 @@ restored_by_one units x r old mid new parity bytes lt repair clear become =
           rw is (one_solved units x r (set col x 0) repair (All-set (λ (d : ℕ). d < 256) col x 0 (omega arith) (column_bytes old k bytes)) (omega arith) (omega arith) (get_or-set_same col x 0 0 (omega arith)));
     }
 
-pub restored_by_two : (units x y : ℕ) (r s : Repair) (old one mid new : List (List ℕ)) → HasParity units old → All (λ row. (i : ℕ) → get_or row i 0 < 256) old → x < y → y < length old → length old ≡ units + 2 → AreRepairs units x y r s
+pub restored_by_two : (units x y : ℕ) (r s : Repair) (old one mid new : List (List ℕ)) → HasParity units old → All (λ row. (i : ℕ) → get_or row i 0 < 256) old → x < y → y < length old → length old ≡ units + 2 → AreRepairs units x y r s → r ≡ first_repair units x y → s ≡ second_repair units x y
     → Stored x 0 (length (get_or old x [])) (λ _. 0) old one → Stored y 0 (length (get_or one y [])) (λ _. 0) one mid
     → Become 0 (width_of mid) (repaired_column units r s) mid new → Restored units (x ∷ (y ∷ [])) old new
-restored_by_two units x y r s old one mid new parity bytes rising lt two repairs clear clear_other become =
+unfolding decoded
+restored_by_two units x y r s old one mid new parity bytes rising lt two repairs is_r is_s clear clear_other become =
     let room : length (get_or old x []) ≡ width_of old = parity.even x [] (omega arith) in
     let room_other : length (get_or one y []) ≡ width_of old = same_row old one y [] clear.shape ∙ parity.even y [] lt in
     let shape_mid : map length mid ≡ map length old = clear_other.shape ∙ clear.shape in
@@ -142,6 +150,11 @@ restored_by_two units x y r s old one mid new parity bytes rising lt two repairs
     cleared y (length (get_or one y [])) one mid clear_other k (omega arith) ∙ ap (λ (col : List ℕ). set col y 0) (cleared x (length (get_or old x [])) old one clear k (omega arith)) in
     record {
       shape = shape;
+      exact = λ k k_lt.
+          up_to (width_of mid) (repaired_column units r s) mid new become k (omega arith)
+          ∙ ap (repaired_column units r s) (erased k k_lt)
+          ∙ ap (λ (a : Repair). repaired_column units a s (set (set (column old k) x 0) y 0)) is_r
+          ∙ ap (λ (b : Repair). repaired_column units (first_repair units x y) b (set (set (column old k) x 0) y 0)) is_s;
       kept = λ j none. row_kept old new j shape (λ k.
           let other : j ≢ x = not_first x j (y ∷ []) none in
           let third : j ≢ y = not_second x y j [] none in

@@ -4,4 +4,5 @@ pub mod Columns
 pub mod Syndromes
 pub mod Repairs
 pub mod Decoding
+pub mod Restored
 pub mod Delta

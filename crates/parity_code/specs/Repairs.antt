@@ -1,13 +1,10 @@
 -- Lost rows as sums of multiples of the syndromes.
-use Rattle.std.specs.Prelude.{◌≡◌, ℕ, ◌+◌, ◌<◌, ◌≤◌, List, length, map, bit_xor, slice_get, slice_set}
-use Rattle.std.specs.List.{All, Contains}
-use Rattle.gf256.specs.Field.{product}
+use Rattle.std.specs.Prelude.{◌≡◌, ℕ, ◌<◌, ◌≤◌, ◌==◌, nat_lt, if◌then◌else◌, List, bit_xor, slice_set}
+use Rattle.gf256.specs.Field.{product, two_to, inverse_of}
 use Rattle.gf256.specs.Tables.{HasProducts}
 use Rattle.parity_code.specs.declared.repair.Repair.{Repair}
 use Rattle.parity_code.specs.declared.repair.RepairTables.{RepairTables}
-use Rattle.parity_code.specs.Parity.{column}
-use Rattle.parity_code.specs.Codeword.{width_of, AgreeOutside}
-use Rattle.parity_code.specs.Syndromes.{p_syndrome, q_syndrome, p_weight, q_weight, IsWhole, HasNoSyndrome}
+use Rattle.parity_code.specs.Syndromes.{p_syndrome, q_syndrome, p_weight, q_weight}
 
 -- the byte that a repair makes of the syndromes
 abbrev pub repaired : Repair → ℕ → ℕ → ℕ
@@ -21,6 +18,35 @@ repaired_column units r s col =
 -- how often the repair takes the byte at position j
 abbrev pub share : ℕ → Repair → ℕ → ℕ
 share units r j = repaired r (p_weight units j) (q_weight units j)
+
+-- ---- the repairs of lost rows
+
+-- of one lost row: Q's by the second syndrome, any other by the first
+unfoldable pub repair_of : (units x : ℕ) → Repair
+repair_of units x =
+    if nat_lt units x then record { row = x; by_p = 0; by_q = 1 }
+    else record { row = x; by_p = 1; by_q = 0 }
+
+-- of the first of two lost rows x < y, which are units, a unit and P, or one of these and Q
+unfoldable pub first_repair : (units x y : ℕ) → Repair
+first_repair units x y =
+    if nat_lt y units then record {
+      row = x;
+      by_p = product (inverse_of (bit_xor (two_to x) (two_to y))) (two_to y);
+      by_q = inverse_of (bit_xor (two_to x) (two_to y));
+    }
+    else if y == units then record { row = x; by_p = 0; by_q = inverse_of (two_to x) }
+    else record { row = x; by_p = 1; by_q = 0 }
+
+-- and of the second
+unfoldable pub second_repair : (units x y : ℕ) → Repair
+second_repair units x y =
+    if nat_lt y units then record { row = y; by_p = bit_xor (first_repair units x y).by_p 1; by_q = (first_repair units x y).by_q }
+    else if y == units then record { row = y; by_p = 1; by_q = inverse_of (two_to x) }
+    else if nat_lt x units then record { row = y; by_p = two_to x; by_q = 1 }
+    else record { row = y; by_p = 0; by_q = 1 }
+
+-- ---- what they are chosen for
 
 -- a repair of row x takes the byte that was there once, and needs Q only for Q
 pub record IsRepair (units x : ℕ) (r : Repair) : Type 0 where
@@ -53,19 +79,3 @@ pub record HasTables (r : Repair) (t : RepairTables) : Type 0 where
   pub row : t.row ≡ r.row
   pub by_p : HasProducts r.by_p t.by_p
   pub by_q : HasProducts r.by_q t.by_q
-
--- a stripe with data and one or two rows of parity
-pub record HasParity (units : ℕ) (rows : List (List ℕ)) : Type 0 where
-  pub data_rows : 0 < units
-  pub some : units + 1 ≤ length rows
-  pub most : length rows ≤ units + 2
-  pub few : units ≤ 255
-  pub even : All (λ row. length row ≡ width_of rows) rows
-
--- whatever was whole before rows were lost is whole again, and the other rows are as they were. With as many rows
--- lost as there are rows of parity, every column is whole.
-pub record Restored (units : ℕ) (lost : List ℕ) (old new : List (List ℕ)) : Type 0 where
-  pub shape : map length new ≡ map length old
-  pub kept : (j : ℕ) → ¬ Contains lost j → slice_get new j ≡ slice_get old j
-  pub whole : (k : ℕ) (col : List ℕ) → k < width_of old → IsWhole units col → AgreeOutside lost col (column old k) → column new k ≡ col
-  pub solved : length old ≡ units + length lost → (k : ℕ) → k < width_of old → HasNoSyndrome units (column new k)

@@ -1,4 +1,5 @@
 // The codes, and why a stripe isn't repaired.
+use thiserror::Error;
 
 /// How a stripe's parity is computed.
 #[derive(Clone, Copy, Debug, PartialEq, Eq)]
@@ -28,8 +29,9 @@ impl Code {
 }
 
 /// Why lost rows don't come back.
-#[derive(Clone, Copy, Debug, PartialEq, Eq)]
+#[derive(Clone, Copy, Debug, PartialEq, Eq, Error)]
 pub enum CodeErr {
     /// More rows are lost than the code has parity rows: this many.
+    #[error("{lost} rows are lost, more than there is parity")]
     TooManyLost { lost: u32 },
 }

@@ -3,14 +3,15 @@ ghost use Rattle.std.specs.Prelude.{◌≡◌, ℕ, ◌-◌, ◌<◌, List, leng
 ghost use Rattle.std.specs.List.{All, Contains};
 ghost use Rattle.parity_code.specs.Parity.{column};
 ghost use Rattle.parity_code.specs.Codeword.{count_of, codeword, width_of, AreRows, AgreeOutside};
-ghost use Rattle.parity_code.specs.Decoding.{decoding, ArePositions};
+ghost use Rattle.parity_code.specs.Decoding.{decoded, decoding, ArePositions};
 
 use crate::code::{Code, CodeErr};
 use crate::restoring::{restore_one, restore_two};
 use osd_bytes::Rows;
 
 /// Brings back the lost rows, whatever they hold: a column that was a codeword is that codeword again. With as many
-/// rows lost as the code has parity rows, each column becomes a codeword.
+/// rows lost as the code has parity rows, each column becomes a codeword. In any other column a lost row becomes the
+/// sum of multiples of the other rows that `decoded` of specs/ names.
 ///
 /// The rows are as [`encode`](crate::encode) takes them, and the positions rise and are below their number. It fails
 /// with [`CodeErr::TooManyLost`] exactly where more rows are lost than the code has parity rows, and then changes
@@ -21,6 +22,8 @@ pub fn decode(code: Code, rows: &mut Rows, lost: &[u32]) -> Result<(), CodeErr>
     ensures outcome { result ≡ decoding code lost.now }
     ensures refused { OnErr result (rows.new ≡ rows.old) }
     ensures shape { map length rows.new ≡ map length rows.old }
+    ensures exact { OnOk result ((k : ℕ) → k < width_of rows.old
+        → column rows.new k ≡ decoded (length rows.old - count_of code) lost.now (column rows.old k)) }
     ensures kept { (j : ℕ) → ¬ Contains lost.now j → slice_get rows.new j ≡ slice_get rows.old j }
     ensures whole { OnOk result ((k : ℕ) (units : List ℕ) → k < width_of rows.old → All (λ d. d < 256) units
         → AgreeOutside lost.now (codeword code units) (column rows.old k)

@@ -1,6 +1,7 @@
 // Parity that follows a change of one row of data.
 ghost use Rattle.std.specs.Prelude.{◌≡◌, ℕ, ◌<◌, List, length, slice_index, slice_set};
 ghost use Rattle.std.specs.List.{All};
+ghost use Rattle.gf256.specs.Field.{summed};
 ghost use Rattle.parity_code.specs.Parity.{p_of, q_of};
 ghost use Rattle.parity_code.specs.Codeword.{count_of};
 ghost use Rattle.parity_code.specs.Delta.{p_after, q_after};
@@ -35,16 +36,22 @@ pub fn parity_delta(
 {
     match code {
         Code::Plain => {}
-        Code::Xor => {
-            add(p, old);
-            add(p, new);
-        }
+        Code::Xor => exchange(p, old, new),
         Code::PandQ => {
-            add(p, old);
-            add(p, new);
+            exchange(p, old, new);
             let weight = power(data_position);
             add_scaled(q, weight, old);
             add_scaled(q, weight, new);
         }
     }
+}
+
+// Takes `old` out of a sum and puts `new` in.
+fn exchange(sum: &mut [u8], old: &[u8], new: &[u8])
+    requires old { length sum.old ≡ length old.now }
+    requires new { length new.now ≡ length old.now }
+    ensures { sum.new ≡ summed (summed sum.old old.now) new.now }
+{
+    add(sum, old);
+    add(sum, new);
 }

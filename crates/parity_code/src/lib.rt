@@ -18,6 +18,3 @@ pub use code::{Code, CodeErr};
 pub use decoding::decode;
 pub use delta::parity_delta;
 pub use encoding::encode;
-
-#[cfg(test)]
-mod tests;

@@ -2,7 +2,7 @@
 // bytes count as 0 (Anvin's formulas).
 ghost use Rattle.std.specs.Prelude.{◌≡◌, ℕ, ◌+◌, ◌<◌, ◌≤◌, slice_index};
 ghost use Rattle.gf256.specs.Lanes.{HasLanes};
-ghost use Rattle.parity_code.specs.Repairs.{repaired, IsRepair, AreRepairs, HasTables};
+ghost use Rattle.parity_code.specs.Repairs.{repaired, repair_of, first_repair, second_repair, IsRepair, AreRepairs, HasTables};
 
 use gf256::lanes::{self, ProductTables};
 use gf256::{inverse, mul, power};
@@ -19,7 +19,8 @@ pub(crate) struct Repair {
 // Of one lost row.
 pub(crate) fn repair_of_one(units: usize, x: usize) -> Repair
     requires { x ≤ units + 1 }
-    ensures { IsRepair units x result }
+    ensures value { result ≡ repair_of units x }
+    ensures repair { IsRepair units x result }
 {
     if x <= units {
         Repair {
@@ -41,7 +42,8 @@ pub(crate) fn repairs_of_two(units: usize, x: usize, y: usize) -> (Repair, Repai
     requires rising { x < y }
     requires last { y ≤ units + 1 }
     requires few { units ≤ 255 }
-    ensures { AreRepairs units x y result.0 result.1 }
+    ensures value { result ≡ (first_repair units x y, second_repair units x y) }
+    ensures repair { AreRepairs units x y result.0 result.1 }
 {
     if y < units {
         two_units(units, x, y)
@@ -58,7 +60,8 @@ fn two_units(units: usize, x: usize, y: usize) -> (Repair, Repair)
     requires rising { x < y }
     requires last { y < units }
     requires few { units ≤ 255 }
-    ensures { AreRepairs units x y result.0 result.1 }
+    ensures value { result ≡ (first_repair units x y, second_repair units x y) }
+    ensures repair { AreRepairs units x y result.0 result.1 }
 {
     let by_q = inverse(power(x as u32) ^ power(y as u32));
     let by_p = mul(by_q, power(y as u32));
@@ -75,7 +78,8 @@ fn unit_and_p(units: usize, x: usize, y: usize) -> (Repair, Repair)
     requires unit { x < units }
     requires p { y ≡ units }
     requires few { units ≤ 255 }
-    ensures { AreRepairs units x y result.0 result.1 }
+    ensures value { result ≡ (first_repair units x y, second_repair units x y) }
+    ensures repair { AreRepairs units x y result.0 result.1 }
 {
     let by_q = inverse(power(x as u32));
     let first = Repair {
@@ -95,7 +99,8 @@ fn unit_and_q(units: usize, x: usize, y: usize) -> (Repair, Repair)
     requires unit { x < units }
     requires q { units < y }
     requires few { units ≤ 255 }
-    ensures { AreRepairs units x y result.0 result.1 }
+    ensures value { result ≡ (first_repair units x y, second_repair units x y) }
+    ensures repair { AreRepairs units x y result.0 result.1 }
 {
     let first = Repair {
         row: x,
@@ -113,7 +118,8 @@ fn unit_and_q(units: usize, x: usize, y: usize) -> (Repair, Repair)
 fn p_and_q(units: usize, x: usize, y: usize) -> (Repair, Repair)
     requires p { x ≡ units }
     requires q { units < y }
-    ensures { AreRepairs units x y result.0 result.1 }
+    ensures value { result ≡ (first_repair units x y, second_repair units x y) }
+    ensures repair { AreRepairs units x y result.0 result.1 }
 {
     let first = Repair {
         row: x,

@@ -7,7 +7,8 @@ ghost use Rattle.parity_code.specs.Parity.{column};
 ghost use Rattle.parity_code.specs.Codeword.{width_of};
 ghost use Rattle.parity_code.specs.Columns.{Become};
 ghost use Rattle.parity_code.specs.Syndromes.{p_syndrome, q_syndrome};
-ghost use Rattle.parity_code.specs.Repairs.{repaired_column, HasTables, HasParity, Restored};
+ghost use Rattle.parity_code.specs.Repairs.{repaired_column, HasTables};
+ghost use Rattle.parity_code.specs.Restored.{HasParity, Restored};
 
 use crate::columns::{clear, store_block, store_byte};
 use crate::repair::{Repair, RepairTables, repair_of_one, repairs_of_two};
