@@ -26,6 +26,3 @@ pub use line_reading::read_line;
 pub use line_writing::write_line;
 pub use names::{CLIENTS, ClientName, DRIVES, DriveName, FILES, FileName};
 pub use read::read_event;
-
-#[cfg(test)]
-mod tests;
