@@ -4,14 +4,15 @@ use Rattle.sha1.specs.Sha1.{sha1}
 use Rattle.sha1.specs.Sha1 as S1
 use Rattle.sha2.specs.Sha256.{sha256}
 use Rattle.sha2.specs.Hashers as S256
+use Rattle.hmac_tags.specs.declared.block.TheConstants.{INNER_PAD, OUTER_PAD}
 use Rattle.hmac_tags.specs.Mac.{key_of, padded}
 use Rattle.hmac_tags.specs.declared.sha1_tags.Hmac.{Hmac}
 use Rattle.hmac_tags.specs.declared.sha256_tags.Hmac256.{Hmac256}
 
 pub record Holds (h : Hmac) (key text : List ℕ) : Type 0 where
-  pub inner : S1.Holds h.inner (padded 0x36 (key_of sha1 key) ++ text)
-  pub outer : h.outer ≡ padded 0x5c (key_of sha1 key)
+  pub inner : S1.Holds h.inner (padded INNER_PAD (key_of sha1 key) ++ text)
+  pub outer : h.outer ≡ padded OUTER_PAD (key_of sha1 key)
 
 pub record Holds256 (h : Hmac256) (key text : List ℕ) : Type 0 where
-  pub inner : S256.Holds256 h.inner (padded 0x36 (key_of sha256 key) ++ text)
-  pub outer : h.outer ≡ padded 0x5c (key_of sha256 key)
+  pub inner : S256.Holds256 h.inner (padded INNER_PAD (key_of sha256 key) ++ text)
+  pub outer : h.outer ≡ padded OUTER_PAD (key_of sha256 key)

@@ -2,7 +2,7 @@ ghost use Rattle.std.specs.Prelude.{◌≡◌, ℕ, List, [], ◌++◌};
 ghost use Rattle.sha1.specs.Sha1.{sha1};
 ghost use Rattle.hmac_tags.specs.Mac.{hmac_sha1, key_of, zero_filled};
 
-use crate::block::{BLOCK, filled, xored};
+use crate::block::{BLOCK, INNER_PAD, OUTER_PAD, filled, xored};
 use sha1::Sha1;
 
 // The block of a key. One that is longer than a block is replaced by its hash.
@@ -32,10 +32,10 @@ impl Hmac {
     {
         let block = key_block(key);
         let mut inner = Sha1::new();
-        inner.update(&xored(&block, 0x36));
+        inner.update(&xored(&block, INNER_PAD));
         Hmac {
             inner,
-            outer: xored(&block, 0x5c),
+            outer: xored(&block, OUTER_PAD),
         }
     }
 

@@ -2,7 +2,7 @@ ghost use Rattle.std.specs.Prelude.{◌≡◌, ℕ, List, [], ◌++◌};
 ghost use Rattle.sha2.specs.Sha256.{sha256};
 ghost use Rattle.hmac_tags.specs.Mac.{hmac_sha256, key_of, zero_filled};
 
-use crate::block::{BLOCK, filled, xored};
+use crate::block::{BLOCK, INNER_PAD, OUTER_PAD, filled, xored};
 use sha2::{Digest, Sha256};
 
 // The block of a key. One that is longer than a block is replaced by its hash.
@@ -32,10 +32,10 @@ impl Hmac256 {
     {
         let block = key_block(key);
         let mut inner = Sha256::new();
-        inner.update(xored(&block, 0x36));
+        inner.update(xored(&block, INNER_PAD));
         Hmac256 {
             inner,
-            outer: xored(&block, 0x5c),
+            outer: xored(&block, OUTER_PAD),
         }
     }
 

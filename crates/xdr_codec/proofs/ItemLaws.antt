@@ -12,7 +12,8 @@ use Rattle.osd_bytes.proofs.BlockLaws.{length-range, zeros, first_nonzero-zeros,
 use Rattle.xdr_codec.specs.declared.err.XdrErr.{XdrErr}
 use Rattle.xdr_codec.specs.declared.err.XdrErr.TheVariants.{BadBool, TooMany}
 use Rattle.xdr_codec.specs.Items.{padded, u32_item, u64_item, i64_item, bool_item, fixed_item, opaque_item}
-use Rattle.xdr_codec.specs.Reading.{IsCodec, number_in, Rest, behind, ◌>>=◌, u32_in, u64_in, i64_in, bool_in, count_in, body_in, unless_padding, fixed_in, opaque_in, Reads, ReadsInto, ReadsOrMemory, IsFront, TakesFront, TakesFrontOrMemory}
+use Rattle.xdr_codec.proofs.Codec.{IsCodec}
+use Rattle.xdr_codec.specs.Reading.{number_in, Rest, behind, ◌>>=◌, u32_in, u64_in, i64_in, bool_in, count_in, body_in, unless_padding, fixed_in, opaque_in, Reads, ReadsInto, ReadsOrMemory, IsFront, TakesFront, TakesFrontOrMemory}
 
 -- ---- steps
 

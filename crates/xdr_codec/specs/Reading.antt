@@ -2,10 +2,10 @@
 use Rattle.std.specs.Prelude.{◌≡◌, ◌⊎◌, ◌≤◌, ℕ, ℤ, ◌+◌, List, ◌++◌, length, take, drop, slice_range, Bool, true, false, if◌then◌else◌, nat_eq, nat_lt, Option, Some, None, Result, Ok, Err, IfOk}
 use Rattle.std.specs.Borrow.{Bor}
 use Rattle.std.specs.Int.{Width, byte_len, w32, w64, from_be_bytes, cast_signed}
-use Rattle.osd_bytes.specs.Blocks.{first_nonzero, IsBytes}
+use Rattle.osd_bytes.specs.Blocks.{first_nonzero}
 use Rattle.xdr_codec.specs.declared.err.XdrErr.{XdrErr}
 use Rattle.xdr_codec.specs.declared.err.XdrErr.TheVariants.{Short, Padding, BadBool, TooMany, Trailing, Memory}
-use Rattle.xdr_codec.specs.Items.{padded}
+use Rattle.xdr_codec.specs.Items.{padded, fixed_item}
 
 -- the bytes that are left, and the place of the first of them
 pub record Rest : Type 0 where
@@ -26,7 +26,9 @@ Err e >>= f = Err e
 
 -- a big-endian number of a width
 abbrev pub number_in : Width → Rest → Result (ℕ × Rest) XdrErr
-number_in w i = if nat_lt (length i.left) (byte_len w) then Err (Short i.at) else Ok (from_be_bytes w (take (byte_len w) i.left), behind (byte_len w) i)
+number_in w i =
+    if nat_lt (length i.left) (byte_len w) then Err (Short i.at)
+    else Ok (from_be_bytes w (take (byte_len w) i.left), behind (byte_len w) i)
 
 unfoldable pub u32_in : Rest → Result (ℕ × Rest) XdrErr
 u32_in i = number_in w32 i
@@ -58,7 +60,9 @@ unless_padding at (Some k) x = Err (Padding (at + k))
 unfoldable pub body_in : ℕ → ℕ → Rest → Result (List ℕ × Rest) XdrErr
 body_in start n i =
     if nat_lt (length i.left) (start + padded n) then Err (Short i.at)
-    else unless_padding i.at (first_nonzero i.left (start + n) (start + padded n)) (slice_range i.left start (start + n), behind (start + padded n) i)
+    else
+    unless_padding i.at (first_nonzero i.left (start + n) (start + padded n))
+    (slice_range i.left start (start + n), behind (start + padded n) i)
 
 abbrev pub fixed_in : ℕ → Rest → Result (List ℕ × Rest) XdrErr
 fixed_in n i = body_in 0 n i
@@ -84,6 +88,10 @@ abbrev pub ReadsInto : (Rest → Result (List ℕ × Rest) XdrErr) → Rest → 
 ReadsInto reading old before (Ok done) new out = reading old ≡ Ok (out, new)
 ReadsInto reading old before (Err e) new out = (reading old ≡ Err e) × (new ≡ old) × (out ≡ before)
 
+-- the n bytes at the front were taken
+abbrev pub IsTaken : ℕ → Rest → List ℕ → Rest → Type 0
+IsTaken n old front new = (n ≤ length old.left) × (front ≡ take n old.left) × (new ≡ behind n old)
+
 -- a body's bytes and the number of bytes up to its end
 abbrev pub ReadsBody : Rest → ℕ → ℕ → Result (Bor (List ℕ) × ℕ) XdrErr → Type 0
 ReadsBody i start n (Ok x) = (body_in start n i ≡ Ok (x.0.now, behind x.1 i)) × (length x.0.now ≡ n) × (x.1 ≤ length i.left)
@@ -100,15 +108,14 @@ IsFront Fits spelling old result new = IfOk result (λ v. Fits v × (old.left �
 
 -- what is spelled so at the front is read
 abbrev pub TakesFront : {V : Type 0} → (V → Type 0) → (V → List ℕ) → Rest → Result V XdrErr → Rest → Type 0
-TakesFront Fits spelling old result new = (v : _) (more : List ℕ) → Fits v → old.left ≡ spelling v ++ more → (result ≡ Ok v) × (new.left ≡ more)
+TakesFront Fits spelling old result new =
+    (v : _) (more : List ℕ) → Fits v → old.left ≡ spelling v ++ more → (result ≡ Ok v) × (new.left ≡ more)
 
 abbrev pub TakesFrontOrMemory : {V : Type 0} → (V → Type 0) → (V → List ℕ) → Rest → Result V XdrErr → Rest → Type 0
-TakesFrontOrMemory Fits spelling old result new = (v : _) (more : List ℕ) → Fits v → old.left ≡ spelling v ++ more → (result ≡ Err Memory) ⊎ ((result ≡ Ok v) × (new.left ≡ more))
+TakesFrontOrMemory Fits spelling old result new =
+    (v : _) (more : List ℕ) → Fits v → old.left ≡ spelling v ++ more → (result ≡ Err Memory) ⊎ ((result ≡ Ok v) × (new.left ≡ more))
 
--- ---- a reading function and a spelling that are each other's inverse
-
-pub record IsCodec {V E : Type 0} (reading : Rest → Result (V × Rest) E) (spelling : V → List ℕ) (Fits : V → Type 0) : Type 0 where
-  -- what is spelled so is read, whatever follows it
-  pub again : (v : V) (more : List ℕ) (at : ℕ) → Fits v → (end : ℕ) × (reading (record { left = spelling v ++ more; at = at }) ≡ Ok (v, record { left = more; at = end }))
-  -- what is read is spelled so
-  pub found : (i : Rest) (v : V) (j : Rest) → IsBytes i.left → reading i ≡ Ok (v, j) → Fits v × (i.left ≡ spelling v ++ j.left)
+-- bytes of a length that is known, spelled so at the front, are read into the place
+abbrev pub TakesInto : ℕ → Rest → Result (Unit {0}) XdrErr → Rest → List ℕ → Type 0
+TakesInto n old result new out =
+    (v more : List ℕ) → length v ≡ n → old.left ≡ fixed_item v ++ more → (result ≡ Ok tt) × (out ≡ v) × (new.left ≡ more)

@@ -1,5 +1,5 @@
-ghost use Rattle.std.specs.Prelude.{◌≡◌, ◌<◌, ◌≤◌, ◌+◌, ◌^◌, length, take, IfOk, IfErr, OnErr};
-ghost use Rattle.xdr_codec.specs.Reading.{behind, u32_in, u64_in, i64_in, bool_in, count_in, fixed_in, opaque_in, ReadsBody, Reads, ReadsInto, ReadsOrMemory};
+ghost use Rattle.std.specs.Prelude.{◌≡◌, ◌<◌, ◌≤◌, ◌+◌, ◌^◌, length, IfOk, IfErr, OnErr};
+ghost use Rattle.xdr_codec.specs.Reading.{u32_in, u64_in, i64_in, bool_in, count_in, fixed_in, opaque_in, ReadsBody, Reads, ReadsInto, ReadsOrMemory, IsTaken};
 
 use crate::err::XdrErr;
 use crate::padding::padded_length;
@@ -28,7 +28,7 @@ fn body(bytes: &[u8], at: u64, start: usize, n: usize) -> Result<(&[u8], usize),
 impl<'a> Reader<'a> {
     // The n bytes at the front.
     fn take(&mut self, n: usize) -> Result<&'a [u8], XdrErr>
-        ensures ok { IfOk result (λ front. (n ≤ length self.old.left) × (front.now ≡ take n self.old.left) × (self.new ≡ behind n self.old)) }
+        ensures ok { IfOk result (λ front. IsTaken n self.old front.now self.new) }
         ensures err { OnErr result ((length self.old.left < n) × (self.new ≡ self.old)) }
         ensures short { IfErr result (λ e. e ≡ XdrErr.Short self.old.at) }
     {

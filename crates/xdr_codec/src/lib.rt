@@ -15,6 +15,3 @@ mod writer;
 pub use err::XdrErr;
 pub use reader::Reader;
 pub use writer::Writer;
-
-#[cfg(test)]
-mod tests;

@@ -1,8 +1,8 @@
-ghost use Rattle.std.specs.Prelude.{◌≡◌, ◌<◌, ◌≤◌, ◌+◌, ◌++◌, ◌^◌, ⊤, ℕ, List, length, Ok, OnOk, FitsSigned};
+ghost use Rattle.std.specs.Prelude.{◌≡◌, ◌<◌, ◌≤◌, ◌+◌, ◌++◌, ◌^◌, ⊤, length, OnOk, FitsSigned};
 ghost use Rattle.std.specs.Int.{w64};
 ghost use Rattle.osd_bytes.specs.Blocks.{IsBytes};
 ghost use Rattle.xdr_codec.specs.Items.{u32_item, u64_item, i64_item, bool_item, fixed_item, opaque_item};
-ghost use Rattle.xdr_codec.specs.Reading.{u32_in, u64_in, i64_in, bool_in, count_in, fixed_in, opaque_in, end_of, Reads, ReadsInto, ReadsOrMemory, IsFront, TakesFront, TakesFrontOrMemory};
+ghost use Rattle.xdr_codec.specs.Reading.{u32_in, u64_in, i64_in, bool_in, count_in, fixed_in, opaque_in, end_of, Reads, ReadsInto, ReadsOrMemory, IsFront, TakesFront, TakesFrontOrMemory, TakesInto};
 
 use crate::err::XdrErr;
 use osd_bytes::Bytes;
@@ -157,7 +157,7 @@ impl<'a> Reader<'a> {
         // What is read is spelled so.
         ensures found { OnOk result (self.old.left ≡ fixed_item out.new ++ self.new.left) }
         // What is spelled so is read.
-        ensures only { (v more : List ℕ) → length v ≡ length out.old → self.old.left ≡ fixed_item v ++ more → (result ≡ Ok tt) × (out.new ≡ v) × (self.new.left ≡ more) }
+        ensures only { TakesInto (length out.old) self.old result self.new out.new }
     {
         self.holds_bytes();
         self.read_fixed(out)
