@@ -1,0 +1,69 @@
+-- What comes to a server, and the one function of all its steps.
+use Rattle.std.specs.Prelude.{ℕ, List, [], ◌∷◌, Result, Ok, Err, ◌≡◌, map}
+use Rattle.osd_bytes.specs.declared.node.Node.{Node}
+use Rattle.server_rules.specs.State.{Server, RawMap, Drive, OrderKind, Outgoing, Note, Refusal}
+use Rattle.server_rules.specs.Files.{Step, still}
+use Rattle.server_rules.specs.Making.{add_drive, set_format, create_file}
+use Rattle.server_rules.specs.Messages.{Message, on_message, resend}
+use Rattle.server_rules.specs.Orders.{ordered}
+use Rattle.server_rules.specs.Openings.{crash, reopen}
+
+-- what comes to a server
+pub data Input : Type 0 where
+  Hears : (now : ℕ) → Node → Message → Input
+  Makes : (file : ℕ) → RawMap → (tag : ℕ) → Input
+  Obeys : OrderKind → (target : ℕ) → Input
+  Adds : Drive → Input
+  Formats : (format : ℕ) → Input
+  Resends : Input
+  Crashes : Input
+  Opens : Input
+
+-- the server changes, and sends nothing
+abbrev pub changed : Server → Step
+changed s = still s
+
+-- the step of a file that is made; else nothing happens
+abbrev pub unless_made : Server → Result Step Refusal → Step
+unless_made s (Ok step) = step
+unless_made s (Err r) = still s
+
+-- `chosen` are the drives that the placer names, in the order in which it is asked
+abbrev pub step : Server → (chosen : List ℕ) → Input → Step
+step s chosen (Hears now from message) = on_message s now chosen from message
+step s chosen (Makes n m tag) = unless_made s (create_file s n m tag chosen)
+step s chosen (Obeys kind n) = (ordered s chosen kind n).step
+step s chosen (Adds d) = changed (record s { drives = add_drive s.drives d })
+step s chosen (Formats n) = changed (set_format s n)
+step s chosen Resends = record (still s) { sends = resend s }
+step s chosen Crashes = changed (crash s)
+step s chosen Opens = reopen s
+
+-- ---- one step after the other
+
+-- an input, and the drives that the placer names
+pub record Act : Type 0 where
+  pub input : Input
+  pub chosen : List ℕ
+
+-- the server after these
+abbrev pub state_after : Server → List Act → Server
+state_after s [] = s
+state_after s (a ∷ acts) = state_after (step s a.chosen a.input).state acts
+
+-- what came, and what the server did
+pub record Event : Type 0 where
+  pub act : Act
+  pub sends : List Outgoing
+  pub notes : List Note
+
+-- each event does what the rules say
+abbrev pub Follows : Server → List Event → Type 0
+Follows s [] = Unit {0}
+Follows s (e ∷ es) =
+    (e.sends ≡ (step s e.act.chosen e.act.input).sends) × (e.notes ≡ (step s e.act.chosen e.act.input).notes)
+    × Follows (step s e.act.chosen e.act.input).state es
+
+-- these events lead from the first state to this one
+abbrev pub StandsFor : Server → Server → List Event → Type 0
+StandsFor first now h = Follows first h × (state_after first (map (λ e. e.act) h) ≡ now)

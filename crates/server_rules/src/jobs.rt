@@ -1,0 +1,117 @@
+use osd_bytes::{Bytes, Sequence};
+use osd_commands::Command;
+
+/// Columns of one stripe.
+#[derive(Clone, Copy, Debug, PartialEq, Eq)]
+pub struct Piece {
+    pub stripe: u64,
+    pub column: u64,
+    pub count: u64,
+}
+
+/// Pieces still to be worked, the first of which is in work.
+pub type Todo = Sequence<Piece>;
+
+/// What a job is for.
+#[derive(Clone, Copy, Debug, PartialEq, Eq)]
+pub enum JobKind {
+    Making,
+    Revoking,
+    Rebuilding,
+    Auditing,
+}
+
+/// Where a missing component is made anew.
+#[derive(Clone, Copy, Debug, PartialEq, Eq)]
+pub struct Target {
+    pub component: u32,
+    pub drive: u32,
+    pub object: u64,
+}
+
+/// The length that a component's object told.
+#[derive(Clone, Copy, Debug, PartialEq, Eq)]
+pub struct Measured {
+    pub component: u32,
+    pub length: u64,
+}
+
+/// What an audit found so far.
+#[derive(Debug, Drop)]
+pub struct Tally {
+    pub lengths: Sequence<Measured>,
+    /// Stripes of which a position has no present replica.
+    pub short: Sequence<u64>,
+    /// Stripes that are no codeword with equal replicas.
+    pub bad: Sequence<u64>,
+}
+
+/// What a job waits for, and what it still has to do.
+#[derive(Debug, Drop)]
+pub enum Work {
+    /// The components are made.
+    Creates,
+    /// The present components are sent the next tag.
+    Fences,
+    /// Repair: the rows of the first piece are read. `short` are the stripes left short.
+    Fetches {
+        todo: Todo,
+        short: Sequence<u64>,
+    },
+    /// Repair: the rows that differ are written. Where a component became missing since, the piece
+    /// is `broken` and begins again afterwards.
+    Stores {
+        todo: Todo,
+        short: Sequence<u64>,
+        broken: bool,
+    },
+    /// Rebuild: an object for the component is made.
+    Targets {
+        target: Target,
+    },
+    /// Rebuild: the sources of the first piece are read.
+    Gathers {
+        target: Target,
+        todo: Todo,
+    },
+    /// Rebuild: the first piece is written.
+    Fills {
+        target: Target,
+        todo: Todo,
+    },
+    /// Audit: the lengths of the objects are read.
+    Lengths,
+    /// Audit: the rows of the first piece are read.
+    Checks {
+        todo: Todo,
+        tally: Tally,
+    },
+}
+
+/// A command that a job sent to a drive and that isn't answered yet. It isn't sealed.
+#[derive(Debug, Drop)]
+pub struct Awaited {
+    pub component: u32,
+    pub drive: u32,
+    pub command: Command,
+}
+
+/// Commands in order of components.
+pub type AwaitedCommands = Sequence<Awaited>;
+
+/// What a component's reply that counted carried.
+#[derive(Debug, Drop)]
+pub struct Heard {
+    pub component: u32,
+    pub payload: Bytes,
+}
+
+/// A job of a file. Where it rests it awaits something.
+#[derive(Debug, Drop)]
+pub struct Job {
+    pub kind: JobKind,
+    pub work: Work,
+    pub awaited: AwaitedCommands,
+    /// The replies to the commands that were sent together with those awaited.
+    pub heard: Sequence<Heard>,
+}
