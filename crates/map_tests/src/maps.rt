@@ -64,7 +64,10 @@ fn a_checked_map_gives_back_what_was_checked(rt: HostRuntime) -> Result<(), Fail
         raw(1_024, 1, 1, 1, 1_023, 1),
     ];
     for map in table {
-        assert_eq!(rt; usable(&rt, map).raw(), map);
+        let first = usable(&rt, map);
+        let again = usable(&rt, first.raw());
+        let copy = again;
+        assert_eq!(rt; (first.raw(), again.raw(), copy.raw()), (map, map, map));
     }
     Ok(())
 }
