@@ -1,0 +1,7 @@
+pub mod Touched
+pub mod Lost
+pub mod Asks
+pub mod Parity
+pub mod Words
+pub mod Plans
+pub mod Laws

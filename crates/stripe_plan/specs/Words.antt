@@ -1,0 +1,90 @@
+-- The bytes that a call has of a stripe, and those that it writes there.
+use Rattle.std.specs.Prelude.{ℕ, zero, suc, ◌+◌, ◌-◌, ◌==◌, nat_le, nat_lt, Bool, ◌&&◌, if◌then◌else◌, List, [], ◌∷◌, length, map, take, slice_index, replicate, Option, Some, None, unwrap_or}
+use Rattle.std.specs.List.{range_with_len}
+use Rattle.data_map.specs.declared.check.RawMap.{RawMap}
+use Rattle.data_map.specs.Striping.{stripe_of, data_unit_of, column_of, group_width, data_units, position_of, offset_of}
+use Rattle.stripe_plan.specs.declared.plan.Span.{Span}
+use Rattle.stripe_plan.specs.declared.plan.Column.{Column}
+use Rattle.stripe_plan.specs.Touched.{own, unit_start, whole}
+use Rattle.stripe_plan.specs.Lost.{is_out, is_degraded}
+use Rattle.parity_code.specs.declared.code.Code.{Code}
+use Rattle.parity_code.specs.declared.code.Code.TheVariants.{Plain, Xor, PandQ}
+use Rattle.parity_code.specs.Decoding.{decoded}
+use Rattle.stripe_plan.specs.Parity.{overlaid, parity_of, parity_changed}
+
+-- the code of a map's stripes
+abbrev pub code_of : RawMap → Code
+code_of m = if m.algorithm == 1 then Plain else if m.algorithm == 4 then PandQ else Xor
+
+-- whether a piece has the byte of position p at offset o
+abbrev pub has_byte : Column → (p o : ℕ) → Bool
+has_byte c p o = (c.position == p) && (nat_le c.offset o && nat_lt o (c.offset + length c.bytes))
+
+-- the byte of position p at offset o, 0 where no piece has it
+unfoldable pub byte_at : List Column → (p o : ℕ) → ℕ
+byte_at [] p o = 0
+byte_at (c ∷ cs) p o = if has_byte c p o then slice_index c.bytes (o - c.offset) else byte_at cs p o
+
+-- what was got of unit c in column b of stripe s
+abbrev pub got_at : RawMap → List Column → (s b c : ℕ) → ℕ
+got_at m got s b c = byte_at got (position_of m s c) (offset_of m s b)
+
+-- what was got of n units from c on, with 0 for those whose positions are out
+unfoldable pub known_from : RawMap → List Column → List ℕ → (s b c n : ℕ) → List ℕ
+known_from m got out s b c zero = []
+known_from m got out s b c (suc n) =
+    (if is_out m out (position_of m s c) then 0 else got_at m got s b c) ∷ known_from m got out s b (c + 1) n
+
+-- those of n units from c on whose positions are out
+unfoldable pub lost_from : RawMap → List ℕ → (s c n : ℕ) → List ℕ
+lost_from m out s c zero = []
+lost_from m out s c (suc n) =
+    if is_out m out (position_of m s c) then c ∷ lost_from m out s (c + 1) n else lost_from m out s (c + 1) n
+
+-- column b of stripe s, data, P and Q, with what is out decoded
+unfoldable pub decoded_at : RawMap → List Column → List ℕ → (s b : ℕ) → List ℕ
+decoded_at m got out s b =
+    decoded (data_units m) (lost_from m out s 0 (group_width m)) (known_from m got out s b 0 (group_width m))
+
+-- ---- reads
+
+-- the byte that a read gives for byte l of the file
+unfoldable pub answer_at : RawMap → List Column → List ℕ → (l : ℕ) → ℕ
+answer_at m got out l =
+    if is_out m out (position_of m (stripe_of m l) (data_unit_of m l))
+    then slice_index (decoded_at m got out (stripe_of m l) (column_of m l)) (data_unit_of m l)
+    else got_at m got (stripe_of m l) (column_of m l) (data_unit_of m l)
+
+-- the bytes that a read gives
+unfoldable pub answered : RawMap → Span → List Column → List ℕ → List ℕ
+answered m r got out = map (answer_at m got out) (range_with_len r.offset r.length)
+
+-- ---- writes
+
+-- the call's byte for unit c in column b of stripe s, if there is one
+unfoldable pub new_at : RawMap → Span → List ℕ → (s b c : ℕ) → Option ℕ
+new_at m r bytes s b c =
+    if nat_le (own m r s c).first b && nat_lt b (own m r s c).end
+    then Some (slice_index bytes (unit_start m s c + b - r.offset))
+    else None
+
+-- for n units from c on
+unfoldable pub news_from : RawMap → Span → List ℕ → (s b c n : ℕ) → List (Option ℕ)
+news_from m r bytes s b c zero = []
+news_from m r bytes s b c (suc n) = new_at m r bytes s b c ∷ news_from m r bytes s b (c + 1) n
+
+-- for the data units
+abbrev pub news_at : RawMap → Span → List ℕ → (s b : ℕ) → List (Option ℕ)
+news_at m r bytes s b = news_from m r bytes s b 0 (data_units m)
+
+-- the parity that a write gives column b: of new data alone, of decoded data with the new, or the old parity changed
+unfoldable pub parity_at : RawMap → Span → List ℕ → List Column → List ℕ → (s b row : ℕ) → ℕ
+parity_at m r bytes got out s b row =
+    if whole m r s then parity_of row (overlaid (news_at m r bytes s b) (replicate (data_units m) 0))
+    else if is_degraded m out s then parity_of row (overlaid (news_at m r bytes s b) (take (data_units m) (decoded_at m got out s b)))
+    else parity_changed row (news_at m r bytes s b) (known_from m got [] s b 0 (data_units m)) (got_at m got s b (data_units m + row))
+
+-- the byte that a write puts into unit c in column b of stripe s
+unfoldable pub word_at : RawMap → Span → List ℕ → List Column → List ℕ → (s b c : ℕ) → ℕ
+word_at m r bytes got out s b c =
+    if nat_lt c (data_units m) then unwrap_or (new_at m r bytes s b c) 0 else parity_at m r bytes got out s b (c - data_units m)

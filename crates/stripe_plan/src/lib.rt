@@ -1,0 +1,14 @@
+//! Plans of reads and writes over striped files: which bytes of which components a call reads or writes, what it
+//! writes there, and what a read gives.
+//!
+//! A file's bytes lie in stripes. A stripe has units of data and of parity, each in a position of its group, and each
+//! position has replicas. A column is one byte of each unit. What a call needs of a stripe is stated by definitions in
+//! specs/, over the formulas of `data_map` and the codewords of `parity_code`; nothing here sends anything.
+#![tactic(auto)]
+
+mod plan;
+
+pub use plan::{
+    Aim, Ask, Asks, Column, Columns, Fetched, Interval, Intervals, Out, Part, Piece, Pieces, PlanErr, Span, Store,
+    Stretch, Writes,
+};
