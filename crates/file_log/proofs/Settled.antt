@@ -11,13 +11,13 @@ use Rattle.file_log.specs.Judge.{Candidates, byte_for, settled, given, after_ent
 pub new_is_settled : IsSettled new_file []
 new_is_settled = record { values = λ p. refl; sizes = refl }
 
-byte_before : (offset : ℕ) (bytes : List ℕ) (p : ℕ) → p < offset → byte_for offset bytes p ≡ None
+pub byte_before : (offset : ℕ) (bytes : List ℕ) (p : ℕ) → p < offset → byte_for offset bytes p ≡ None
 byte_before offset bytes p h = rw (lt-ltb p offset h) refl
 
-byte_inside : (offset : ℕ) (bytes : List ℕ) (p : ℕ) → offset ≤ p → p - offset < length bytes → byte_for offset bytes p ≡ Some (get_or bytes (p - offset) 0)
+pub byte_inside : (offset : ℕ) (bytes : List ℕ) (p : ℕ) → offset ≤ p → p - offset < length bytes → byte_for offset bytes p ≡ Some (get_or bytes (p - offset) 0)
 byte_inside offset bytes p h inside = rw (le-ltb p offset h) (slice_get-get_or bytes (p - offset) 0 inside)
 
-byte_behind : (offset : ℕ) (bytes : List ℕ) (p : ℕ) → offset ≤ p → length bytes ≤ p - offset → byte_for offset bytes p ≡ None
+pub byte_behind : (offset : ℕ) (bytes : List ℕ) (p : ℕ) → offset ≤ p → length bytes ≤ p - offset → byte_for offset bytes p ≡ None
 byte_behind offset bytes p h behind = rw (le-ltb p offset h) (slice_get_past bytes (p - offset) behind)
 
 -- bytes that were written over another list stand there for sure

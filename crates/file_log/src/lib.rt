@@ -8,10 +8,12 @@
 #![tactic(auto)]
 
 mod entry;
+mod held;
 mod judging;
+mod laws;
+mod sizes;
+mod values;
 
 pub use entry::Entry;
 pub use judging::judge;
-
-#[cfg(test)]
-mod tests;
+pub use laws::{plain, range_found};

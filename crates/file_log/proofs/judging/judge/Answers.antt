@@ -1,21 +1,26 @@
-use Rattle.std.proofs.Common.{true≢false, sym, subst, ◌∙◌, List, take}
+use Rattle.std.proofs.Common.{true≢false, sym, subst, ◌∙◌, take}
 use Rattle.file_log.specs.declared.entry.Entry.{Entry}
 use Rattle.file_log.specs.Judge.{Fits, candidates}
-use Rattle.file_log.proofs.Growing.{accepts_next, accepted_fits}
+use Rattle.file_log.proofs.Growing.{candidates_next, accepts_next, accepted_fits}
+use Rattle.file_log.proofs.Same.{same_after, same_then, same_back, same_fits}
 use Rattle.file_log.proofs.judging.judge.Goals as goal
 
-pub returns-then-not-branch : goal.returns-then-not-branch
-returns-then-not-branch c = (
+pub returns-then-not-fits : goal.returns-then-not-fits
+returns-then-not-fits c = (
   λ h. absurd (cc h),
   λ all.
-      let here = accepted_fits c.args.log.now c.loop-i.i c.index-log-i.result c.loop-i-test.true all in
-      let fits : Fits (candidates c.split_at.result.0.now) c.index-log-i.result =
-      subst (λ (x : List Entry). Fits (candidates x) c.index-log-i.result) (sym c.split_at.ensures.front) (subst (λ (x : Entry). Fits (candidates (take c.loop-i.i c.args.log.now)) x) (sym c.index-log-i.is) here) in
-      absurd (true≢false (sym (c.in_ok-fits.ensures.1 fits) ∙ c.if-not-branch.true)),
+      let here = accepted_fits c.args.log.now c.loop-entry.entry-index c.entry-item.result c.loop-entry-test.true all in
+      let fits = subst (λ (x : Entry). Fits (candidates (take c.loop-entry.entry-index c.args.log.now)) x) (sym c.entry-item.is) here in
+      absurd (true≢false (sym (c.fits.ensures.1 (same_fits _ _ c.entry-item.result (same_back _ _ c.loop-entry.invariant.0) fits)) ∙ c.if-not-fits.true)),
 )
 
-pub loop-i-preserved : goal.loop-i-preserved
-loop-i-preserved c =
-    let fits = c.in_ok-fits.ensures.0 c.if-not-branch.false in
-    accepts_next c.args.log.now c.loop-i.i c.index-log-i.result c.loop-i-test.true c.loop-i.invariant
-    (subst (λ (x : Entry). Fits (candidates (take c.loop-i.i c.args.log.now)) x) c.index-log-i.is (subst (λ (x : List Entry). Fits (candidates x) c.index-log-i.result) c.split_at.ensures.front fits))
+pub loop-entry-preserved : goal.loop-entry-preserved
+loop-entry-preserved c =
+    let at = c.loop-entry.entry-index in
+    let log = c.args.log.now in
+    let entry = c.entry-item.result in
+    let fits = same_fits _ _ entry c.loop-entry.invariant.0 (c.fits.ensures.0 c.if-not-fits.false) in
+    let next = same_then _ _ _ c.in_ok-take.ensures (same_after _ _ entry c.loop-entry.invariant.0) in (
+      rw (candidates_next log at entry c.loop-entry-test.true, sym c.entry-item.is) next,
+      accepts_next log at entry c.loop-entry-test.true c.loop-entry.invariant.1 (subst (λ (x : Entry). Fits (candidates (take at log)) x) c.entry-item.is fits),
+    )
