@@ -12,14 +12,15 @@ use Rattle.osd_objects.specs.Objects.{length_of, state_of, attribute_of, after_w
 use Rattle.osd_objects.specs.Store.{StoreState, object_at, lane_or_none, attribute_or_none, changed, changed_if_there, growth}
 use Rattle.osd_objects.proofs.Entries.{lookup_set, lookup_inserted}
 use Rattle.osd_objects.proofs.Counting.{length-written}
-use Rattle.osd_drive.specs.declared.seen.Seen.{Seen}
+use Rattle.osd_objects.specs.declared.attributes.TheConstants.{FIRST_USER_ATTRIBUTE}
+use Rattle.osd_drive.specs.declared.store_view.StoreView.{StoreView}
 use Rattle.osd_drive.specs.declared.verdict.Verdict.TheVariants as verdict
-use Rattle.osd_drive.specs.State.{DriveState, seen_of}
-use Rattle.osd_drive.specs.Table.{is_create, is_mutating, is_write, is_set_attr, is_expired, lacks_object, finds_object, has_other_tag, passes_limit, lacks_space, lacks_lane, is_stale, lacks_attribute, is_repeated, tag_of, nonce_of, of_object, Row, early_rows, late_rows, first_row, late_fault_of, first_fault}
+use Rattle.osd_drive.specs.State.{DriveState, view_of}
+use Rattle.osd_drive.specs.Table.{is_create, is_mutating, is_write, is_set_attr, is_expired, lacks_object, finds_object, has_other_tag, passes_limit, lacks_space, lacks_lane, is_stale, lacks_attribute, is_repeated, tag_of, nonce_of, of_object, Row, early_rows, late_rows, first_row, NoneApplies, late_fault_of, first_fault}
 use Rattle.osd_commands.specs.Commands.{allows}
 use Rattle.osd_drive.specs.Effects.{lane_for, effect_of, performed, performed_reply, reply_with, kept_reply}
 use Rattle.osd_drive.specs.Repeats.{IsAnsweredAlike}
-use Rattle.osd_drive.proofs.Clear.{NoneApplies, none_applies, past_early, clear_early}
+use Rattle.osd_drive.proofs.Clear.{none_applies, past_early, clear_early}
 use Rattle.osd_drive.proofs.LaneLaws.{lane_kept}
 
 -- rows that don't apply are passed
@@ -32,7 +33,7 @@ neither_way true = refl
 neither_way false = refl
 
 -- what the objects have on a command that comes again
-record IsSeenAgain (s : Seen) (c : Command) (o : ObjectState) (l : LaneEntry) : Type 0 where
+record IsSeenAgain (s : StoreView) (c : Command) (o : ObjectState) (l : LaneEntry) : Type 0 where
   object : s.object ≡ Some o
   lane : s.lane ≡ Some l
   nonce : l.nonce ≡ c.nonce
@@ -42,7 +43,7 @@ record IsSeenAgain (s : Seen) (c : Command) (o : ObjectState) (l : LaneEntry) : 
   space : lacks_space s c ≡ false
   attribute : lacks_attribute s c ≡ false
 
-answered_again : (s : Seen) (c : Command) (o : ObjectState) (l : LaneEntry) → IsSeenAgain s c o l → is_mutating c.action ≡ true → late_fault_of s c ≡ verdict.Again
+answered_again : (s : StoreView) (c : Command) (o : ObjectState) (l : LaneEntry) → IsSeenAgain s c o l → is_mutating c.action ≡ true → late_fault_of s c ≡ verdict.Again
 unfolding late_fault_of
 answered_again s c o l h mutating =
     let same : nat_lt c.nonce l.nonce ≡ false = rw h.nonce (le-ltb c.nonce c.nonce (omega arith)) in
@@ -59,10 +60,10 @@ answered_again s c o l h mutating =
     (there, (h.finds, (tag, (h.limit, (h.space, (lane, (stale, (h.attribute, tt))))))))
     ∙ rw repeated refl
 
-space_again : (s : Seen) (c : Command) (o : ObjectState) → s.object ≡ Some o → (nat_lt 0 c.length && nat_lt s.free ((c.offset + c.length) - o.length)) ≡ false → lacks_space s c ≡ false
+space_again : (s : StoreView) (c : Command) (o : ObjectState) → s.object ≡ Some o → (nat_lt 0 c.length && nat_lt s.free ((c.offset + c.length) - o.length)) ≡ false → lacks_space s c ≡ false
 space_again s c o object fits = rw object (rw fits (neither_way (is_write c.action)))
 
-attribute_again : (s : Seen) (c : Command) → s.has_attribute ≡ true → lacks_attribute s c ≡ false
+attribute_again : (s : StoreView) (c : Command) → s.has_attribute ≡ true → lacks_attribute s c ≡ false
 attribute_again s c has = rw has (neither_way (is_set_attr c.action))
 
 -- the object after a change of it
@@ -77,7 +78,7 @@ inside_now free offset len size (b ∷ bytes) long =
     rw none (rw (le-ltb free 0 (omega arith)) (neither_way (nat_lt 0 len)))
 
 -- an attribute that was set is there
-attribute_now : (o : StoredObject) (number : ℕ) (value : List ℕ) (l : LaneEntry) → 65536 ≤ number → is_some (attribute_of (after_set_attr number value l o) number) ≡ true
+attribute_now : (o : StoredObject) (number : ℕ) (value : List ℕ) (l : LaneEntry) → FIRST_USER_ATTRIBUTE ≤ number → is_some (attribute_of (after_set_attr number value l o) number) ≡ true
 attribute_now o number value l user =
     rw (ne_eqb number 1 (λ e. absurd (omega (arith, e, user))), ne_eqb number 2 (λ e. absurd (omega (arith, e, user)))) (ap is_some (lookup_inserted o.attributes number value))
 
@@ -86,22 +87,22 @@ object_of None e = absurd (cc e)
 object_of (Some x) e = (x, refl)
 
 -- what the first time shows of the object
-found_at_first : (s : StoreState) (c : Command) → is_create c.action ≡ false → lacks_object (seen_of s c) c ≡ false → (o : StoredObject) × (object_at s c.object ≡ Some o)
+found_at_first : (s : StoreState) (c : Command) → is_create c.action ≡ false → lacks_object (view_of s c) c ≡ false → (o : StoredObject) × (object_at s c.object ≡ Some o)
 found_at_first s c creates lacks = object_of (object_at s c.object) (rw creates at lacks)
 
-there_at_first : (d : DriveState) (c : Command) → is_create c.action ≡ false → late_fault_of (seen_of d.store c) c ≡ verdict.Perform → (o : StoredObject) × (object_at d.store c.object ≡ Some o)
+there_at_first : (d : DriveState) (c : Command) → is_create c.action ≡ false → late_fault_of (view_of d.store c) c ≡ verdict.Perform → (o : StoredObject) × (object_at d.store c.object ≡ Some o)
 unfolding late_fault_of
-there_at_first d c creates e = found_at_first d.store c creates (none_applies (late_rows (seen_of d.store c) c) refl e).0
+there_at_first d c creates e = found_at_first d.store c creates (none_applies (late_rows (view_of d.store c) c) refl e).0
 
 same_tag : (o : Option StoredObject) (x : StoredObject) (tag : ℕ) → o ≡ Some x → of_object (λ s. not (nat_eq tag s.tag)) (option_map state_of o) ≡ false → not (nat_eq tag x.tag) ≡ false
 same_tag o x tag found h = rw found at h
 
 -- the same command after its WRITE
-written_again : (d : DriveState) (c : Command) (o : StoredObject) → object_at d.store c.object ≡ Some o → c.action ≡ Write → length c.payload ≡ c.length → late_fault_of (seen_of d.store c) c ≡ verdict.Perform →
-    IsSeenAgain (seen_of (performed d c).store c) c (state_of (after_write c.offset c.payload (lane_for c 0) o)) (lane_for c 0)
+written_again : (d : DriveState) (c : Command) (o : StoredObject) → object_at d.store c.object ≡ Some o → c.action ≡ Write → length c.payload ≡ c.length → late_fault_of (view_of d.store c) c ≡ verdict.Perform →
+    IsSeenAgain (view_of (performed d c).store c) c (state_of (after_write c.offset c.payload (lane_for c 0) o)) (lane_for c 0)
 unfolding late_fault_of
 written_again d c o found writes sized e =
-    let rows = none_applies (late_rows (seen_of d.store c) c) refl e in
+    let rows = none_applies (late_rows (view_of d.store c) c) refl e in
     let change = after_write c.offset c.payload (lane_for c 0) in
     let there : object_at (changed d.store c.object change) c.object ≡ Some (change o) = object_changed d.store c.object change o found in
     let now : object_at (performed d c).store c.object ≡ Some (change o) = ap (λ (x : StoreState). object_at x c.object) (ap (λ a. effect_of a d.store c) writes) ∙ there in
@@ -113,16 +114,16 @@ written_again d c o found writes sized e =
       tag = same_tag _ o c.capability.tag found (rw writes at rows.1.1.0);
       finds = rw writes refl;
       limit = rw writes (rw writes at rows.1.1.1.0);
-      space = space_again (seen_of (performed d c).store c) c (state_of (change o)) (ap (λ (x : Option StoredObject). option_map state_of x) now) (rw size (inside_now (seen_of (performed d c).store c).free c.offset c.length (length_of o) c.payload sized));
+      space = space_again (view_of (performed d c).store c) c (state_of (change o)) (ap (λ (x : Option StoredObject). option_map state_of x) now) (rw size (inside_now (view_of (performed d c).store c).free c.offset c.length (length_of o) c.payload sized));
       attribute = rw writes refl;
     }
 
 -- the same command after its SET ATTR
-set_again : (d : DriveState) (c : Command) (o : StoredObject) → object_at d.store c.object ≡ Some o → c.action ≡ SetAttr → 65536 ≤ c.attribute → late_fault_of (seen_of d.store c) c ≡ verdict.Perform →
-    IsSeenAgain (seen_of (performed d c).store c) c (state_of (after_set_attr c.attribute c.payload (lane_for c 0) o)) (lane_for c 0)
+set_again : (d : DriveState) (c : Command) (o : StoredObject) → object_at d.store c.object ≡ Some o → c.action ≡ SetAttr → FIRST_USER_ATTRIBUTE ≤ c.attribute → late_fault_of (view_of d.store c) c ≡ verdict.Perform →
+    IsSeenAgain (view_of (performed d c).store c) c (state_of (after_set_attr c.attribute c.payload (lane_for c 0) o)) (lane_for c 0)
 unfolding late_fault_of
 set_again d c o found sets user e =
-    let rows = none_applies (late_rows (seen_of d.store c) c) refl e in
+    let rows = none_applies (late_rows (view_of d.store c) c) refl e in
     let change = after_set_attr c.attribute c.payload (lane_for c 0) in
     let there : object_at (changed d.store c.object change) c.object ≡ Some (change o) = object_changed d.store c.object change o found in
     let now : object_at (performed d c).store c.object ≡ Some (change o) = ap (λ (x : StoreState). object_at x c.object) (ap (λ a. effect_of a d.store c) sets) ∙ there in
@@ -135,17 +136,17 @@ set_again d c o found sets user e =
       finds = rw sets refl;
       limit = rw sets (rw sets at rows.1.1.1.0);
       space = rw sets refl;
-      attribute = attribute_again (seen_of (performed d c).store c) c has;
+      attribute = attribute_again (view_of (performed d c).store c) c has;
     }
 
-alike : (d : DriveState) (now later : ℕ) (c : Command) (o : ObjectState) → first_fault d now c ≡ verdict.Perform → is_expired later c ≡ false → IsSeenAgain (seen_of (performed d c).store c) c o (lane_for c 0) → is_mutating c.action ≡ true →
+alike : (d : DriveState) (now later : ℕ) (c : Command) (o : ObjectState) → first_fault d now c ≡ verdict.Perform → is_expired later c ≡ false → IsSeenAgain (view_of (performed d c).store c) c o (lane_for c 0) → is_mutating c.action ≡ true →
     performed_reply d c ≡ reply_with c 0 [] → IsAnsweredAlike d later c
 unfolding first_fault late_fault_of
 alike d now later c o e fresh seen mutating reply =
-    let early = (past_early (early_rows d now c) (late_rows (seen_of d.store c) c) refl e).0 in
+    let early = (past_early (early_rows d now c) (late_rows (view_of d.store c) c) refl e).0 in
     record {
-      verdict = past_rows (early_rows (performed d c) later c) (late_rows (seen_of (performed d c).store c) c) (early.0, (early.1.0, (early.1.1.0, (fresh, (early.1.1.1.1.0, (early.1.1.1.1.1.0, (early.1.1.1.1.1.1.0, tt)))))))
-          ∙ answered_again (seen_of (performed d c).store c) c o (lane_for c 0) seen mutating;
+      verdict = past_rows (early_rows (performed d c) later c) (late_rows (view_of (performed d c).store c) c) (early.0, (early.1.0, (early.1.1.0, (fresh, (early.1.1.1.1.0, (early.1.1.1.1.1.0, (early.1.1.1.1.1.1.0, tt)))))))
+          ∙ answered_again (view_of (performed d c).store c) c o (lane_for c 0) seen mutating;
       reply = ap (kept_reply c) seen.lane ∙ sym reply;
       state = refl;
     }

@@ -11,6 +11,7 @@ use Rattle.osd_objects.specs.declared.lanes.LaneEntry.{LaneEntry}
 use Rattle.osd_objects.specs.declared.object.StoredObject.{StoredObject}
 use Rattle.osd_objects.specs.Objects.{created, after_write, after_set_tag, after_set_attr}
 use Rattle.osd_objects.specs.Store.{StoreState, object_at, lane_or_none, bytes_at, attribute_at, attribute_bytes, with_object, changed}
+use Rattle.osd_drive.specs.declared.replies.TheConstants.{FORMAT_VERDICT}
 use Rattle.osd_drive.specs.declared.verdict.Verdict.{Verdict}
 use Rattle.osd_drive.specs.declared.verdict.Verdict.TheVariants as verdict
 use Rattle.osd_drive.specs.State.{DriveState}
@@ -94,7 +95,7 @@ kept_reply c None = refused_reply c verdict.Again
 
 -- to bytes that spell no command
 abbrev pub format_reply : Reply
-format_reply = record { action = 0; verdict = 16; object = 0; nonce = 0; detail = 0; payload = [] }
+format_reply = record { action = 0; verdict = FORMAT_VERDICT; object = 0; nonce = 0; detail = 0; payload = [] }
 
 -- ---- a message's reply, and the state after it
 

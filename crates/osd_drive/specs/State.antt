@@ -5,7 +5,8 @@ use Rattle.osd_commands.specs.declared.commands.Command.{Command}
 use Rattle.osd_objects.specs.Objects.{state_of}
 use Rattle.osd_objects.specs.Store.{StoreState, empty_store, object_at, free_of, lane_or_none, attribute_at}
 use Rattle.osd_drive.specs.declared.keys.DriveKey.{DriveKey}
-use Rattle.osd_drive.specs.declared.seen.Seen.{Seen}
+use Rattle.osd_drive.specs.declared.limits.TheConstants.{FIRST_FORMAT}
+use Rattle.osd_drive.specs.declared.store_view.StoreView.{StoreView}
 
 -- a number, a key table, the least format of capabilities, and objects by number that share a capacity
 pub record DriveState : Type 0 where
@@ -15,7 +16,7 @@ pub record DriveState : Type 0 where
   pub store : StoreState
 
 abbrev pub new_drive : ℕ → List DriveKey → ℕ → DriveState
-new_drive number keys capacity = record { number = number; keys = keys; least = 1; store = empty_store capacity }
+new_drive number keys capacity = record { number = number; keys = keys; least = FIRST_FORMAT; store = empty_store capacity }
 
 abbrev pub key_at_place : List DriveKey → Option ℕ → Option DriveKey
 key_at_place keys (Some i) = slice_get keys i
@@ -25,9 +26,10 @@ key_at_place keys None = None
 abbrev pub key_of_version : List DriveKey → ℕ → Option DriveKey
 key_of_version keys version = key_at_place keys (position (λ k. nat_eq k.version version) keys)
 
--- what the objects have on a command: its object, the lane of its holder there, whether its attribute is there, the free capacity and the number of objects
-abbrev pub seen_of : StoreState → Command → Seen
-seen_of s c = record {
+-- what the objects have on a command: its object, the lane of its holder there, whether its attribute is
+-- there, the free capacity and the number of objects
+abbrev pub view_of : StoreState → Command → StoreView
+view_of s c = record {
   object = option_map state_of (object_at s c.object);
   lane = lane_or_none (object_at s c.object) c.capability.holder;
   has_attribute = is_some (attribute_at s c.object c.attribute);

@@ -1,16 +1,18 @@
 ghost use Rattle.std.specs.Prelude.{◌≡◌, ◌≤◌, ◌↔◌, max, IfOk, OnOk, OnErr, IsTrue, length};
-ghost use Rattle.osd_commands.specs.declared.actions.Action.TheVariants.{SetAttr};
+ghost use Rattle.osd_commands.specs.declared.actions.Action.TheVariants.{SetAttr, Write};
 ghost use Rattle.osd_commands.specs.Commands.{allows, Holds};
+ghost use Rattle.osd_objects.specs.declared.attributes.TheConstants.{FIRST_USER_ATTRIBUTE};
 ghost use Rattle.osd_drive.specs.declared.verdict.Verdict.TheVariants.{Perform};
 ghost use Rattle.osd_drive.specs.State.{new_drive, key_of_version};
-ghost use Rattle.osd_drive.specs.Table.{is_mutating, has_old_format, has_no_key, has_wrong_check, is_checked, late_fault, first_fault};
+ghost use Rattle.osd_drive.specs.Table.{is_mutating, has_old_format, has_no_key, has_wrong_check, is_checked, rows_on_object, late_fault, all_rows, first_fault, NoneApplies, IsReady};
 ghost use Rattle.osd_drive.specs.Effects.{performed, performed_reply, reply_by, state_by, reply_to, drive_after};
 
 use crate::keys::{DriveKey, KeyTable, key_in};
+use crate::limits::FIRST_FORMAT;
 use crate::performing::perform_on;
 use crate::replies::{format_reply, kept_reply, refused_reply};
 use crate::rows::{has_no_right, is_elsewhere, is_out_of_range, late_verdict};
-use crate::seen::Seen;
+use crate::store_view::StoreView;
 use crate::verdict::Verdict;
 use osd_bytes::Memory;
 use osd_commands::{Command, CommandErr, Reply, holds, read_command};
@@ -44,7 +46,7 @@ impl DriveCore {
         DriveCore {
             number,
             keys,
-            least: 1,
+            least: FIRST_FORMAT,
             store: Store::new(alloc, capacity),
         }
     }
@@ -56,17 +58,25 @@ impl DriveCore {
         key_in(self.keys.as_slice(), c.capability.key_version)
     }
 
+    // The first of the rows on the object that applies.
+    fn first_late(&self, c: &Command) -> Verdict
+        ensures { result ≡ late_fault self.now c.now }
+    {
+        late_verdict(&StoreView::of(&self.store, c), c)
+    }
+
     /// The first of the rows on the object, from [`Verdict::NoObject`] to [`Verdict::Again`], that
     /// applies, else `Perform`: for a command whose capability was judged before.
     pub fn late(&self, c: &Command) -> Verdict
-        ensures { result ≡ late_fault self.now c.now }
+        ensures row { result ≡ late_fault self.now c.now }
+        ensures none { (result ≡ Perform) ↔ NoneApplies (rows_on_object self.now c.now) }
     {
-        late_verdict(&Seen::of(&self.store, c), c)
+        self.first_late(c)
     }
 
-    /// The first row of the table that applies, else `Perform`. `now` is the drive's clock in seconds.
+    // The first row of the table that applies.
     #[tactic(auto, unfolding(crate::specs::Table::first_fault, crate::specs::Table::late_fault_of))]
-    pub fn verdict(&self, now: u64, c: &Command) -> Verdict
+    fn first_verdict(&self, now: u64, c: &Command) -> Verdict
         ensures { result ≡ first_fault self.now now c.now }
     {
         if c.capability.format < self.least {
@@ -86,8 +96,25 @@ impl DriveCore {
         } else if is_out_of_range(c) {
             Verdict::Range
         } else {
-            self.late(c)
+            self.first_late(c)
         }
+    }
+
+    /// The first row of the table that applies, else `Perform`: then [`DriveCore::late`] gives `Perform`
+    /// too, and a SET ATTR names a user's attribute. `now` is the drive's clock in seconds.
+    pub fn verdict(&self, now: u64, c: &Command) -> Verdict
+        ensures row { result ≡ first_fault self.now now c.now }
+        ensures none { (result ≡ Perform) ↔ NoneApplies (all_rows self.now now c.now) }
+        ensures ready { result ≡ Perform → IsReady self.now c.now }
+    {
+        self.first_verdict(now, c)
+    }
+
+    /// The least format of capabilities that the drive takes, 1 or 2 where it was raised to these alone.
+    pub fn least_format(&self) -> u8
+        ensures { result ≡ self.now.least }
+    {
+        self.least
     }
 
     /// Takes no more capabilities of a format below this one, which is 1 or 2. It never falls.
@@ -99,15 +126,15 @@ impl DriveCore {
 
     /// Performs a command, whatever its capability says: for one that is known to have had no fault.
     /// [`DriveCore::late`] must give `Perform`, a SET ATTR must name an attribute from 65,536 on, and
-    /// the payload must be as long as the action allows, as that of each command read from bytes is.
+    /// the payload of a WRITE must be as long as it says, as that of each command read from bytes is.
     ///
     /// # Errors
     ///
     /// Want of memory alone; then nothing changes.
     pub fn perform(&mut self, alloc: Global, c: &Command) -> Result<Reply, Memory>
         requires late { late_fault self.old c.now ≡ Perform }
-        requires attribute { c.now.action ≡ SetAttr → 65536 ≤ c.now.attribute }
-        requires sized { IsTrue (allows c.now.action c.now.length (length c.now.payload)) }
+        requires attribute { c.now.action ≡ SetAttr → FIRST_USER_ATTRIBUTE ≤ c.now.attribute }
+        requires sized { c.now.action ≡ Write → length c.now.payload ≡ c.now.length }
         ensures reply { IfOk result (λ r. r ≡ performed_reply self.old c.now) }
         ensures state { OnOk result (self.new ≡ performed self.old c.now) }
         ensures err { OnErr result (self.new ≡ self.old) }

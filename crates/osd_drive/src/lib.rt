@@ -12,16 +12,17 @@
 mod drive;
 mod keys;
 mod laws;
+mod limits;
 mod performing;
 mod replies;
 mod rows;
-mod seen;
+mod store_view;
 mod verdict;
 
 pub use drive::DriveCore;
 pub use keys::{DriveKey, KeyTable};
 pub use laws::answers_repeats;
+pub use limits::{
+    FIRST_FORMAT, FIRST_PARTITION, MAX_END, MAX_LENGTH, MAX_OBJECTS, MAX_TAG, MAX_VALUE,
+};
 pub use verdict::Verdict;
-
-#[cfg(test)]
-mod tests;

@@ -1,9 +1,10 @@
-ghost use Rattle.std.specs.Prelude.{◌≡◌, ◌≢◌, ◌≤◌, ◌<◌, ◌-◌, ◌^◌, length, if◌then◌else◌, is_some, IfOk, IfSome, OnOk, OnErr, IsTrue};
+ghost use Rattle.std.specs.Prelude.{◌≡◌, ◌≢◌, ◌≤◌, ◌<◌, ◌-◌, ◌^◌, length, if◌then◌else◌, is_some, IfOk, IfSome, OnOk, OnErr};
 ghost use Rattle.osd_commands.specs.declared.actions.Action.TheVariants.{Create, Write, SetAttr, SetTag};
-ghost use Rattle.osd_commands.specs.Commands.{allows};
+ghost use Rattle.osd_objects.specs.declared.attributes.TheConstants.{FIRST_USER_ATTRIBUTE};
+ghost use Rattle.osd_drive.specs.declared.limits.TheConstants.{MAX_TAG};
 ghost use Rattle.osd_objects.specs.Store.{object_at, bytes_at, attribute_at};
 ghost use Rattle.osd_drive.specs.declared.verdict.Verdict.TheVariants.{Perform};
-ghost use Rattle.osd_drive.specs.State.{seen_of};
+ghost use Rattle.osd_drive.specs.State.{view_of};
 ghost use Rattle.osd_drive.specs.Table.{late_fault_of};
 ghost use Rattle.osd_drive.specs.Effects.{lane_for, next_tag, effect_of, result_of};
 
@@ -26,7 +27,7 @@ fn lane_for(c: &Command, detail: u64) -> LaneEntry
 }
 
 fn create(store: &mut Store, alloc: Global, c: &Command) -> Result<(), Memory>
-    requires late { late_fault_of (seen_of store.old c.now) c.now ≡ Perform }
+    requires late { late_fault_of (view_of store.old c.now) c.now ≡ Perform }
     requires action { c.now.action ≡ Create }
     ensures ok { OnOk result (store.new ≡ effect_of Create store.old c.now) }
     ensures err { OnErr result (store.new ≡ store.old) }
@@ -36,7 +37,7 @@ fn create(store: &mut Store, alloc: Global, c: &Command) -> Result<(), Memory>
 }
 
 fn write(store: &mut Store, alloc: Global, c: &Command) -> Result<(), Memory>
-    requires late { late_fault_of (seen_of store.old c.now) c.now ≡ Perform }
+    requires late { late_fault_of (view_of store.old c.now) c.now ≡ Perform }
     requires action { c.now.action ≡ Write }
     requires sized { length c.now.payload ≡ c.now.length }
     ensures ok { OnOk result (store.new ≡ effect_of Write store.old c.now) }
@@ -47,9 +48,9 @@ fn write(store: &mut Store, alloc: Global, c: &Command) -> Result<(), Memory>
 }
 
 fn set_attr(store: &mut Store, alloc: Global, c: &Command) -> Result<(), Memory>
-    requires late { late_fault_of (seen_of store.old c.now) c.now ≡ Perform }
+    requires late { late_fault_of (view_of store.old c.now) c.now ≡ Perform }
     requires action { c.now.action ≡ SetAttr }
-    requires attribute { 65536 ≤ c.now.attribute }
+    requires attribute { FIRST_USER_ATTRIBUTE ≤ c.now.attribute }
     ensures ok { OnOk result (store.new ≡ effect_of SetAttr store.old c.now) }
     ensures err { OnErr result (store.new ≡ store.old) }
 {
@@ -59,7 +60,7 @@ fn set_attr(store: &mut Store, alloc: Global, c: &Command) -> Result<(), Memory>
 
 // The tag after a SET TAG, 0 where there is no such object.
 fn next_tag_of(store: &Store, object: u64) -> u32
-    requires { IfSome (object_at store.now object) (λ o. o.tag ≢ 4294967295) }
+    requires { IfSome (object_at store.now object) (λ o. o.tag ≢ MAX_TAG) }
     ensures tag { result ≡ next_tag (object_at store.now object) }
     ensures fits { IfSome (object_at store.now object) (λ o. o.tag < 2 ^ 32 - 1) }
 {
@@ -71,7 +72,7 @@ fn next_tag_of(store: &Store, object: u64) -> u32
 
 // The new tag.
 fn set_tag(store: &mut Store, c: &Command) -> Result<u32, Memory>
-    requires late { late_fault_of (seen_of store.old c.now) c.now ≡ Perform }
+    requires late { late_fault_of (view_of store.old c.now) c.now ≡ Perform }
     requires action { c.now.action ≡ SetTag }
     ensures tag { IfOk result (λ tag. tag ≡ next_tag (object_at store.old c.now.object)) }
     ensures ok { OnOk result (store.new ≡ effect_of SetTag store.old c.now) }
@@ -94,9 +95,9 @@ fn length_of(store: &Store, object: u64) -> u64
 
 /// Performs a command that has no late fault.
 pub fn perform_on(store: &mut Store, alloc: Global, c: &Command) -> Result<Reply, Memory>
-    requires late { late_fault_of (seen_of store.old c.now) c.now ≡ Perform }
-    requires attribute { c.now.action ≡ SetAttr → 65536 ≤ c.now.attribute }
-    requires sized { IsTrue (allows c.now.action c.now.length (length c.now.payload)) }
+    requires late { late_fault_of (view_of store.old c.now) c.now ≡ Perform }
+    requires attribute { c.now.action ≡ SetAttr → FIRST_USER_ATTRIBUTE ≤ c.now.attribute }
+    requires sized { c.now.action ≡ Write → length c.now.payload ≡ c.now.length }
     ensures reply { IfOk result (λ r. r ≡ result_of c.now.action store.old c.now) }
     ensures state { OnOk result (store.new ≡ effect_of c.now.action store.old c.now) }
     ensures err { OnErr result (store.new ≡ store.old) }

@@ -8,7 +8,7 @@ use osd_objects::LaneEntry;
 use std::alloc::Global;
 
 /// The verdict's number in the reply to bytes that spell no command.
-const FORMAT: u16 = 16;
+pub const FORMAT_VERDICT: u16 = 16;
 
 /// The reply to a command that was performed.
 pub fn reply_with(c: &Command, detail: u64, payload: Bytes) -> Reply
@@ -61,7 +61,7 @@ pub fn format_reply(alloc: Global) -> Reply
 {
     Reply {
         action: 0,
-        verdict: FORMAT,
+        verdict: FORMAT_VERDICT,
         object: 0,
         nonce: 0,
         detail: 0,

@@ -1,25 +1,12 @@
 ghost use Rattle.std.specs.Prelude.{◌≡◌, ◌+◌, nat_eq};
+ghost use Rattle.osd_drive.specs.declared.limits.TheConstants.{MAX_TAG};
 ghost use Rattle.osd_drive.specs.Table.{is_create, is_write, is_set_attr, is_set_tag, has_range, has_value, is_mutating, of_object, has_no_right, is_elsewhere, is_out_of_range, lacks_object, finds_object, has_other_tag, passes_limit, lacks_space, lacks_lane, is_stale, lacks_attribute, is_repeated, tag_of, nonce_of, late_fault_of};
 
-use crate::seen::Seen;
+use crate::limits::{FIRST_PARTITION, MAX_END, MAX_LENGTH, MAX_OBJECTS, MAX_TAG, MAX_VALUE};
+use crate::store_view::StoreView;
 use crate::verdict::Verdict;
 use osd_commands::{Action, Command};
 use osd_objects::{FIRST_USER_ATTRIBUTE, MAX_ATTRIBUTES, MAX_LANES};
-
-// The most bytes that one command may read or write.
-const MAX_LENGTH: u64 = 262_144;
-
-// The end of the longest object.
-const MAX_END: u64 = 17_825_792;
-
-// The most bytes of an attribute.
-const MAX_VALUE: usize = 256;
-
-// The most objects of a drive.
-const MAX_OBJECTS: u64 = 65_536;
-
-// The partition of drive 0; that of drive d is d more.
-const FIRST_PARTITION: u64 = 65_536;
 
 fn creates(action: Action) -> bool
     ensures { result ≡ is_create action }
@@ -97,22 +84,22 @@ pub fn is_out_of_range(c: &Command) -> bool
     ranges(c.action) && !(start <= c.offset && end_of(c) <= end)
 }
 
-fn lacks_object(seen: &Seen, c: &Command) -> bool
-    ensures { result ≡ lacks_object seen.now c.now }
+fn lacks_object(view: &StoreView, c: &Command) -> bool
+    ensures { result ≡ lacks_object view.now c.now }
 {
-    !creates(c.action) && seen.object.is_none()
+    !creates(c.action) && view.object.is_none()
 }
 
-fn finds_object(seen: &Seen, c: &Command) -> bool
-    ensures { result ≡ finds_object seen.now c.now }
+fn finds_object(view: &StoreView, c: &Command) -> bool
+    ensures { result ≡ finds_object view.now c.now }
 {
-    creates(c.action) && seen.object.is_some()
+    creates(c.action) && view.object.is_some()
 }
 
-fn has_other_tag(seen: &Seen, c: &Command) -> bool
-    ensures { result ≡ has_other_tag seen.now c.now }
+fn has_other_tag(view: &StoreView, c: &Command) -> bool
+    ensures { result ≡ has_other_tag view.now c.now }
 {
-    let other = match seen.object {
+    let other = match view.object {
         Some(object) => c.capability.tag != object.tag,
         None => false,
     };
@@ -120,88 +107,88 @@ fn has_other_tag(seen: &Seen, c: &Command) -> bool
 }
 
 // Whether the object has the greatest tag.
-fn has_last_tag(seen: &Seen) -> bool
-    ensures { result ≡ of_object (λ o. nat_eq o.tag 4294967295) seen.now.object }
+fn has_last_tag(view: &StoreView) -> bool
+    ensures { result ≡ of_object (λ o. nat_eq o.tag MAX_TAG) view.now.object }
 {
-    match seen.object {
-        Some(object) => object.tag == u32::MAX,
+    match view.object {
+        Some(object) => object.tag == MAX_TAG,
         None => false,
     }
 }
 
-fn passes_limit(seen: &Seen, c: &Command) -> bool
-    ensures { result ≡ passes_limit seen.now c.now }
+fn passes_limit(view: &StoreView, c: &Command) -> bool
+    ensures { result ≡ passes_limit view.now c.now }
 {
     c.length > MAX_LENGTH
         || (ranges(c.action) && end_of(c) > u128::from(MAX_END))
         || (carries_value(c.action) && c.payload.len() > MAX_VALUE)
-        || (sets_tag(c.action) && has_last_tag(seen))
-        || (creates(c.action) && seen.objects >= MAX_OBJECTS)
+        || (sets_tag(c.action) && has_last_tag(view))
+        || (creates(c.action) && view.objects >= MAX_OBJECTS)
 }
 
-fn lacks_space(seen: &Seen, c: &Command) -> bool
-    ensures { result ≡ lacks_space seen.now c.now }
+fn lacks_space(view: &StoreView, c: &Command) -> bool
+    ensures { result ≡ lacks_space view.now c.now }
 {
-    let growth = match seen.object {
+    let growth = match view.object {
         Some(object) => end_of(c).saturating_sub(u128::from(object.length)),
         None => 0,
     };
-    writes(c.action) && c.length > 0 && growth > u128::from(seen.free)
+    writes(c.action) && c.length > 0 && growth > u128::from(view.free)
 }
 
-fn lacks_lane(seen: &Seen, c: &Command) -> bool
-    ensures { result ≡ lacks_lane seen.now c.now }
+fn lacks_lane(view: &StoreView, c: &Command) -> bool
+    ensures { result ≡ lacks_lane view.now c.now }
 {
-    let full = match seen.object {
+    let full = match view.object {
         Some(object) => object.lanes as usize >= MAX_LANES,
         None => false,
     };
-    mutates(c.action) && seen.lane.is_none() && full
+    mutates(c.action) && view.lane.is_none() && full
 }
 
-fn is_stale(seen: &Seen, c: &Command) -> bool
-    ensures { result ≡ is_stale seen.now c.now }
+fn is_stale(view: &StoreView, c: &Command) -> bool
+    ensures { result ≡ is_stale view.now c.now }
 {
-    let later = match seen.lane {
+    let later = match view.lane {
         Some(lane) => lane.nonce > c.nonce,
         None => false,
     };
     mutates(c.action) && later
 }
 
-fn lacks_attribute(seen: &Seen, c: &Command) -> bool
-    ensures { result ≡ lacks_attribute seen.now c.now }
+fn lacks_attribute(view: &StoreView, c: &Command) -> bool
+    ensures { result ≡ lacks_attribute view.now c.now }
 {
-    let full = match seen.object {
+    let full = match view.object {
         Some(object) => object.user_attrs as usize >= MAX_ATTRIBUTES,
         None => false,
     };
-    sets_attr(c.action) && !seen.has_attribute && full
+    sets_attr(c.action) && !view.has_attribute && full
 }
 
-fn is_repeated(seen: &Seen, c: &Command) -> bool
-    ensures { result ≡ is_repeated seen.now c.now }
+fn is_repeated(view: &StoreView, c: &Command) -> bool
+    ensures { result ≡ is_repeated view.now c.now }
 {
-    let same = match seen.lane {
+    let same = match view.lane {
         Some(lane) => lane.nonce == c.nonce,
         None => false,
     };
     mutates(c.action) && same
 }
 
-fn tag_in(seen: &Seen) -> u32
-    ensures { result ≡ tag_of seen.now.object }
+fn tag_in(view: &StoreView) -> u32
+    ensures { result ≡ tag_of view.now.object }
 {
-    match seen.object {
+    match view.object {
         Some(object) => object.tag,
         None => 0,
     }
 }
 
-fn nonce_in(seen: &Seen) -> u64
-    ensures { result ≡ nonce_of seen.now.lane }
+fn nonce_in(view: &StoreView) -> u64
+    ensures { result ≡ nonce_of view.now.lane }
 {
-    match seen.lane {
+    match view.lane {
         Some(lane) => lane.nonce,
         None => 0,
     }
@@ -209,30 +196,30 @@ fn nonce_in(seen: &Seen) -> u64
 
 /// The first of the rows on the object that applies, else `Perform`.
 #[tactic(auto, unfolding(crate::specs::Table::late_fault_of))]
-pub fn late_verdict(seen: &Seen, c: &Command) -> Verdict
-    ensures { result ≡ late_fault_of seen.now c.now }
+pub fn late_verdict(view: &StoreView, c: &Command) -> Verdict
+    ensures { result ≡ late_fault_of view.now c.now }
 {
-    if lacks_object(seen, c) {
+    if lacks_object(view, c) {
         Verdict::NoObject
-    } else if finds_object(seen, c) {
+    } else if finds_object(view, c) {
         Verdict::Exists
-    } else if has_other_tag(seen, c) {
+    } else if has_other_tag(view, c) {
         Verdict::Tag {
-            current: tag_in(seen),
+            current: tag_in(view),
         }
-    } else if passes_limit(seen, c) {
+    } else if passes_limit(view, c) {
         Verdict::Limit
-    } else if lacks_space(seen, c) {
-        Verdict::NoSpace { free: seen.free }
-    } else if lacks_lane(seen, c) {
+    } else if lacks_space(view, c) {
+        Verdict::NoSpace { free: view.free }
+    } else if lacks_lane(view, c) {
         Verdict::LaneFull
-    } else if is_stale(seen, c) {
+    } else if is_stale(view, c) {
         Verdict::Stale {
-            last: nonce_in(seen),
+            last: nonce_in(view),
         }
-    } else if lacks_attribute(seen, c) {
+    } else if lacks_attribute(view, c) {
         Verdict::AttrFull
-    } else if is_repeated(seen, c) {
+    } else if is_repeated(view, c) {
         Verdict::Again
     } else {
         Verdict::Perform

@@ -1,11 +1,13 @@
 -- Laws of pages: where a byte stands, and what a span of bytes is.
-use Rattle.std.proofs.Common.{◌≡◌, ℕ, zero, suc, ◌+◌, ◌-◌, ◌/◌, ◌%◌, ◌<◌, ◌≤◌, List, ◌∷◌, ◌++◌, length, take, drop, replicate, get_or, Some, None, is_some, true, false, refl, sym, ap, ◌∙◌, arith}
+use Rattle.std.proofs.Common.{◌≡◌, ℕ, zero, suc, ◌+◌, ◌-◌, ◌/◌, ◌%◌, ◌<◌, ◌≤◌, List, [], ◌∷◌, ◌++◌, length, take, drop, replicate, get_or, Some, None, is_some, false, refl, sym, ap, ◌∙◌, arith}
 use Rattle.std.proofs.lemmas.Grind.{same_number_lists}
 use Rattle.std.proofs.lemmas.List.{length-drop, length-take, length-replicate, get_or-take, get_or-drop, get_or-replicate}
 use Rattle.osd_objects.specs.declared.pages.TheConstants.{PAGE_BYTES}
 use Rattle.std.specs.Ordering.{nat_cmp}
-use Rattle.std.specs.BTreeMap.{insert_entry}
-use Rattle.osd_objects.specs.Pages.{Pages, page_at, byte_on, byte_at, span, with_page, with_pages}
+use Rattle.std.specs.BTreeMap.{is_at, insert_entry}
+use Rattle.std.specs.Map.{remove_entry}
+use Rattle.osd_objects.proofs.Entries.{removed_again, none_there}
+use Rattle.osd_objects.specs.Pages.{Pages, page_at, byte_on, byte_at, span, with_page, with_pages, without_pages}
 
 -- a place that lies on the page of `at`
 pub on_page : (at i : ℕ) → at % PAGE_BYTES + i < PAGE_BYTES → ((at + i) / PAGE_BYTES ≡ at / PAGE_BYTES) × ((at + i) % PAGE_BYTES ≡ at % PAGE_BYTES + i)
@@ -53,13 +55,6 @@ one_page_more : (pages : Pages) (first end : ℕ) → first < end → with_pages
 unfolding with_pages
 one_page_more pages first end h = let e : end - first ≡ suc (end - (first + 1)) = omega (arith, h) in rw e refl
 
-pub page_is_there : (pages : Pages) (first end : ℕ) → first < end → is_some (page_at pages first) ≡ true → with_pages pages first (end - first) ≡ with_pages pages (first + 1) (end - (first + 1))
-page_is_there pages first end h there = one_page_more pages first end h ∙ rw there refl
-
-pub page_is_new : (pages : Pages) (first end : ℕ) → first < end → is_some (page_at pages first) ≡ false →
-    with_pages pages first (end - first) ≡ with_pages (insert_entry nat_cmp pages first (replicate PAGE_BYTES 0)) (first + 1) (end - (first + 1))
-page_is_new pages first end h there = one_page_more pages first end h ∙ rw there refl
-
 -- a span goes on
 pub span_append : (pages : Pages) (start m n : ℕ) → span pages start (m + n) ≡ span pages start m ++ span pages (start + m) n
 unfolding span
@@ -68,3 +63,23 @@ span_append pages start (suc m) n =
     let more : suc m + n ≡ suc (m + n) = omega arith in
     let place : start + 1 + m ≡ start + suc m = omega arith in
     ap (span pages start) more ∙ ap (λ (x : List ℕ). byte_at pages start ∷ x) (span_append pages (start + 1) m n ∙ ap (λ x. span pages (start + 1) m ++ span pages x n) place)
+
+pub without_none : (pages : Pages) (numbers : List ℕ) → numbers ≡ [] → without_pages pages numbers ≡ pages
+unfolding without_pages
+without_none pages numbers none = rw none refl
+
+-- the last number goes first
+pub without_last : (pages : Pages) (numbers : List ℕ) (n : ℕ) → without_pages pages (numbers ++ n ∷ []) ≡ without_pages (remove_entry (is_at (nat_cmp n)) pages) numbers
+unfolding without_pages
+without_last pages [] n = refl
+without_last pages (m ∷ numbers) n = ap (remove_entry (is_at (nat_cmp m))) (without_last pages numbers n)
+
+-- a page that was added, and taken out before the others
+pub without_added : (pages after : Pages) (numbers : List ℕ) (n : ℕ) → is_some (page_at pages n) ≡ false → after ≡ insert_entry nat_cmp pages n (replicate PAGE_BYTES 0) →
+    without_pages after (numbers ++ n ∷ []) ≡ without_pages pages numbers
+without_added pages after numbers n none added =
+    without_last after numbers n
+    ∙ ap (λ (x : Pages). without_pages x numbers) (ap (remove_entry (is_at (nat_cmp n))) added ∙ removed_again pages n (replicate PAGE_BYTES 0) (none_there _ none))
+
+pub page_is_added : (pages after : Pages) (first end : ℕ) → first < end → after ≡ with_page pages first → with_pages after (first + 1) (end - (first + 1)) ≡ with_pages pages first (end - first)
+page_is_added pages after first end h added = ap (λ (x : Pages). with_pages x (first + 1) (end - (first + 1))) added ∙ sym (one_page_more pages first end h)

@@ -7,6 +7,7 @@ use Rattle.osd_objects.specs.declared.attributes.TheConstants.{FIRST_USER_ATTRIB
 use Rattle.osd_objects.specs.declared.lanes.LaneEntry.{LaneEntry}
 use Rattle.osd_objects.specs.declared.object.ObjectState.{ObjectState}
 use Rattle.osd_objects.specs.declared.object.StoredObject.{StoredObject}
+use Rattle.osd_objects.specs.declared.object.TheConstants.{LENGTH_ATTRIBUTE, TAG_ATTRIBUTE}
 use Rattle.osd_objects.specs.Attributes.{value_of}
 use Rattle.osd_objects.specs.Lanes.{with_lane}
 use Rattle.osd_objects.specs.Sparse.{no_bytes, written}
@@ -16,11 +17,11 @@ use Rattle.osd_objects.specs.Sparse.{no_bytes, written}
 abbrev pub length_of : StoredObject → ℕ
 length_of o = length o.content.bytes
 
--- attribute 1 is the length and 2 the tag, each as its bytes; the others are what was set
+-- two attributes are the length and the tag, each as its bytes; the others are what was set
 abbrev pub attribute_of : StoredObject → ℕ → Option (List ℕ)
 attribute_of o number =
-    if nat_eq number 1 then Some (to_be_bytes w64 (length_of o))
-    else if nat_eq number 2 then Some (to_be_bytes w32 o.tag)
+    if nat_eq number LENGTH_ATTRIBUTE then Some (to_be_bytes w64 (length_of o))
+    else if nat_eq number TAG_ATTRIBUTE then Some (to_be_bytes w32 o.tag)
     else value_of o.attributes number
 
 abbrev pub state_of : StoredObject → ObjectState
@@ -30,7 +31,12 @@ state_of o = record { length = length_of o; tag = o.tag; lanes = length o.lanes;
 
 -- an empty object with its label
 abbrev pub created : ℕ → List ℕ → LaneEntry → StoredObject
-created tag label lane = record { content = no_bytes; tag = tag; attributes = (FIRST_USER_ATTRIBUTE, label) ∷ []; lanes = lane ∷ [] }
+created tag label lane = record {
+  content = no_bytes;
+  tag = tag;
+  attributes = (FIRST_USER_ATTRIBUTE, label) ∷ [];
+  lanes = lane ∷ [];
+}
 
 abbrev pub after_write : ℕ → List ℕ → LaneEntry → StoredObject → StoredObject
 after_write offset bytes lane o = record o { content = written o.content offset bytes; lanes = with_lane o.lanes lane }

@@ -1,8 +1,9 @@
--- How the bytes of an object are kept: pages of 4,096 bytes by number, those alone that were touched. A byte on no page is 0.
+-- How the bytes of an object are kept: pages of 4,096 bytes by number, those alone that were touched.
+-- A byte on no page is 0.
 use Rattle.std.specs.Prelude.{◌≡◌, ℕ, zero, suc, ◌+◌, ◌/◌, ◌%◌, ◌≤◌, ◌<◌, ◌^◌, ◌⊎◌, true, List, [], ◌∷◌, length, take, drop, ◌++◌, replicate, get_or, Option, Some, None, is_some, if◌then◌else◌}
 use Rattle.std.specs.Ordering.{nat_cmp}
 use Rattle.std.specs.BTreeMap.{is_at, insert_entry}
-use Rattle.std.specs.Map.{lookup, set_value, keys_of}
+use Rattle.std.specs.Map.{lookup, set_value, remove_entry, keys_of}
 use Rattle.osd_objects.specs.declared.pages.TheConstants.{PAGE_BYTES}
 
 abbrev pub Pages : Type 0
@@ -33,6 +34,11 @@ with_page pages n = if is_some (page_at pages n) then pages else insert_entry na
 unfoldable pub with_pages : Pages → ℕ → ℕ → Pages
 with_pages pages first zero = pages
 with_pages pages first (suc n) = with_pages (with_page pages first) (first + 1) n
+
+-- the pages without those of some numbers
+unfoldable pub without_pages : Pages → List ℕ → Pages
+without_pages pages [] = pages
+without_pages pages (n ∷ numbers) = remove_entry (is_at (nat_cmp n)) (without_pages pages numbers)
 
 -- each page is whole
 abbrev pub AreFull : Pages → Type 0

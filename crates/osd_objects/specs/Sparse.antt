@@ -7,7 +7,8 @@ use Rattle.std.specs.BTreeSet.{insert_key}
 use Rattle.osd_bytes.specs.Overwrite.{overwritten}
 use Rattle.osd_objects.specs.declared.pages.TheConstants.{PAGE_BYTES}
 
--- all bytes below the length, a byte that was never written being 0, and the numbers of the pages on which something was written, in order
+-- all bytes below the length, a byte that was never written being 0, and the numbers of the pages on which
+-- something was written, in order
 pub record Sparse : Type 0 where
   pub bytes : List ℕ
   pub touched : List ℕ
@@ -28,7 +29,11 @@ touch_from touched first (suc n) = touch_from (touch touched first) (first + 1) 
 abbrev pub touch_range : List ℕ → ℕ → ℕ → List ℕ
 touch_range touched offset count = touch_from touched (offset / PAGE_BYTES) ((offset + count - 1) / PAGE_BYTES + 1 - offset / PAGE_BYTES)
 
--- bytes written over the old ones from an offset on, and past their end; a gap before the offset becomes zeros. No bytes change nothing.
+-- bytes written over the old ones from an offset on, and past their end; a gap before the offset becomes
+-- zeros. No bytes change nothing.
 abbrev pub written : Sparse → ℕ → List ℕ → Sparse
 written s offset [] = s
-written s offset (b ∷ bytes) = record { bytes = overwritten s.bytes offset (b ∷ bytes); touched = touch_range s.touched offset (length (b ∷ bytes)) }
+written s offset (b ∷ bytes) = record {
+  bytes = overwritten s.bytes offset (b ∷ bytes);
+  touched = touch_range s.touched offset (length (b ∷ bytes));
+}

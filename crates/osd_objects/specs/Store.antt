@@ -1,5 +1,5 @@
 -- The objects of a drive by number, and the capacity that they share.
-use Rattle.std.specs.Prelude.{◌≡◌, ℕ, ◌+◌, ◌-◌, ◌≤◌, List, [], ◌∷◌, length, Option, Some, None}
+use Rattle.std.specs.Prelude.{◌≡◌, ℕ, ◌+◌, ◌-◌, ◌≤◌, List, [], ◌∷◌, length, Option, Some, None, IfSome}
 use Rattle.std.specs.Ordering.{nat_cmp}
 use Rattle.std.specs.List.{sum_by}
 use Rattle.std.specs.BTreeMap.{is_at, insert_entry}
@@ -7,7 +7,7 @@ use Rattle.std.specs.Map.{lookup, set_value, values_of}
 use Rattle.osd_objects.specs.declared.lanes.LaneEntry.{LaneEntry}
 use Rattle.osd_objects.specs.declared.object.StoredObject.{StoredObject}
 use Rattle.osd_objects.specs.Objects.{length_of, attribute_of}
-use Rattle.osd_objects.specs.Lanes.{lane_of}
+use Rattle.osd_objects.specs.Lanes.{lane_of, HasRoom}
 
 -- objects by number, in order
 pub record StoreState : Type 0 where
@@ -75,6 +75,18 @@ changed s object change = changed_if_there s object change (object_at s object)
 abbrev pub growth : ℕ → ℕ → List ℕ → ℕ
 growth size offset [] = 0
 growth size offset (b ∷ bytes) = (offset + length (b ∷ bytes)) - size
+
+-- the growth by bytes in a range is free
+abbrev pub HasSpace : StoreState → ℕ → ℕ → List ℕ → Type 0
+HasSpace s object offset bytes = IfSome (object_at s object) (λ o. growth (length_of o) offset bytes ≤ free_of s)
+
+-- the holder has a lane of the object, or there is room for one
+abbrev pub HasLane : StoreState → ℕ → ℕ → Type 0
+HasLane s object holder = IfSome (object_at s object) (λ o. HasRoom o.lanes holder)
+
+-- no other object changed
+abbrev pub AreOthersKept : StoreState → ℕ → StoreState → Type 0
+AreOthersKept before object after = (q : ℕ) → (q ≡ object → ⊥) → object_at after q ≡ object_at before q
 
 -- what is kept of the objects is what they take, and no more than the capacity
 pub record IsCounted (capacity used : ℕ) (objects : List (ℕ × StoredObject)) : Type 0 where

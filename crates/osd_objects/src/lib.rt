@@ -20,6 +20,3 @@ pub use attributes::{FIRST_USER_ATTRIBUTE, MAX_ATTRIBUTES};
 pub use lanes::{LaneEntry, MAX_LANES};
 pub use object::ObjectState;
 pub use store::Store;
-
-#[cfg(test)]
-mod tests;

@@ -1,5 +1,5 @@
 ghost use Rattle.std.specs.Prelude.{◌≡◌, ◌+◌, ◌-◌, ◌≤◌, ◌<◌, ◌^◌, ◌/◌, ◌%◌, ◌++◌, ℕ, List, Some, length, OnOk, OnErr, IfOk, IsSome, replicate};
-ghost use Rattle.osd_objects.specs.Pages.{page_at, span, with_pages, with_part, AreFull, HavePages, IsOverlaid};
+ghost use Rattle.osd_objects.specs.Pages.{page_at, span, with_page, with_pages, without_pages, with_part, AreFull, HavePages, IsOverlaid};
 
 use osd_bytes::{Bytes, Memory, put_at};
 use std::alloc::Global;
@@ -17,6 +17,39 @@ fn zeros(alloc: Global) -> Result<Bytes, Memory>
     Ok(page)
 }
 
+// Adds a page of zeros and its number, unless the page is there. Where there is no memory nothing changes.
+fn add_page(
+    pages: &mut BTreeMap<u64, Bytes>,
+    alloc: Global,
+    number: u64,
+    added: &mut Vec<u64>,
+) -> Result<(), Memory>
+    ensures ok { OnOk result (pages.new.entries ≡ with_page pages.old.entries number) }
+    ensures err { OnErr result (pages.new.entries ≡ pages.old.entries) }
+    ensures back { without_pages pages.new.entries added.new.items ≡ without_pages pages.old.entries added.old.items }
+{
+    if pages.contains_key(&number) {
+        return Ok(());
+    }
+    pages.insert(number, zeros(alloc)?)?;
+    match added.push(number) {
+        Ok(()) => Ok(()),
+        Err(_) => {
+            pages.remove(&number);
+            Err(Memory)
+        }
+    }
+}
+
+// Takes out the pages of these numbers, the last first.
+fn take_out(pages: &mut BTreeMap<u64, Bytes>, mut numbers: Vec<u64>)
+    ensures { pages.new.entries ≡ without_pages pages.old.entries numbers.items }
+{
+    while let Some(number) = numbers.pop() {
+        pages.remove(&number);
+    }
+}
+
 /// Adds a page of zeros for each number from `first` to before `end` that has none. Where there is no
 /// memory for all of them, the pages are as before.
 pub fn fill(
@@ -28,20 +61,18 @@ pub fn fill(
     ensures ok { OnOk result (pages.new.entries ≡ with_pages pages.old.entries first (end - first)) }
     ensures err { OnErr result (pages.new.entries ≡ pages.old.entries) }
 {
-    if first >= end {
-        return Ok(());
-    }
-    if pages.contains_key(&first) {
-        return fill(pages, alloc, first + 1, end);
-    }
-    pages.insert(first, zeros(alloc)?)?;
-    match fill(pages, alloc, first + 1, end) {
-        Ok(()) => Ok(()),
-        Err(cause) => {
-            pages.remove(&first);
-            Err(cause)
+    let mut added = Vec::new(alloc);
+    let mut number = first;
+    while number < end {
+        match add_page(pages, alloc, number, &mut added) {
+            Ok(()) => number += 1,
+            Err(cause) => {
+                take_out(pages, added);
+                return Err(cause);
+            }
         }
     }
+    Ok(())
 }
 
 /// How many bytes there are from a place on to the end of its page.

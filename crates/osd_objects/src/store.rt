@@ -1,8 +1,7 @@
 ghost use Rattle.std.specs.Prelude.{◌≡◌, ◌+◌, ◌-◌, ◌<◌, ◌≤◌, ◌^◌, ℕ, length, take, drop, is_some, IfOk, IfSome, IsNone, OnOk, OnErr};
 ghost use Rattle.std.specs.Option.{option_map};
-ghost use Rattle.osd_objects.specs.Lanes.{HasRoom};
-ghost use Rattle.osd_objects.specs.Objects.{length_of, state_of, created, after_write, after_set_tag, after_set_attr, TakesAttribute};
-ghost use Rattle.osd_objects.specs.Store.{empty_store, object_at, free_of, touched_or_none, lane_or_none, bytes_at, attribute_at, attribute_bytes, with_object, changed, growth};
+ghost use Rattle.osd_objects.specs.Objects.{state_of, created, after_write, after_set_tag, after_set_attr, TakesAttribute};
+ghost use Rattle.osd_objects.specs.Store.{empty_store, object_at, free_of, touched_or_none, lane_or_none, bytes_at, attribute_at, attribute_bytes, with_object, changed, HasSpace, HasLane, AreOthersKept};
 
 use crate::lanes::LaneEntry;
 use crate::object::{ObjectState, StoredObject};
@@ -103,7 +102,7 @@ impl Store {
     ) -> Result<(), Memory>
         requires { IsNone (object_at self.old object) }
         ensures ok { OnOk result (self.new ≡ with_object self.old object (created tag label.now lane)) }
-        ensures others { (q : ℕ) → (q ≡ object → ⊥) → object_at self.new q ≡ object_at self.old q }
+        ensures others { AreOthersKept self.old object self.new }
         ensures err { OnErr result (self.new ≡ self.old) }
     {
         let made = StoredObject::new(alloc, tag, label, lane)?;
@@ -133,8 +132,8 @@ impl Store {
     }
 
     /// Writes bytes over those of an object, and past their end; a gap becomes zeros. An empty
-    /// write changes neither the bytes nor the length. The growth must be free, and the holder must have a lane or
-    /// room for one.
+    /// write changes neither the bytes nor the length. The growth must be free, and the holder must
+    /// have a lane or room for one.
     ///
     /// # Errors
     ///
@@ -148,10 +147,10 @@ impl Store {
         lane: LaneEntry,
     ) -> Result<(), Memory>
         requires end { offset + length bytes.now < 2 ^ 63 }
-        requires space { IfSome (object_at self.old object) (λ o. growth (length_of o) offset bytes.now ≤ free_of self.old) }
-        requires lane { IfSome (object_at self.old object) (λ o. HasRoom o.lanes lane.holder) }
+        requires space { HasSpace self.old object offset bytes.now }
+        requires lane { HasLane self.old object lane.holder }
         ensures ok { OnOk result (self.new ≡ changed self.old object (after_write offset bytes.now lane)) }
-        ensures others { (q : ℕ) → (q ≡ object → ⊥) → object_at self.new q ≡ object_at self.old q }
+        ensures others { AreOthersKept self.old object self.new }
         ensures err { OnErr result (self.new ≡ self.old) }
     {
         if let Some(found) = self.objects.get_mut(&object) {
@@ -170,9 +169,9 @@ impl Store {
     /// None today: a lane takes no memory.
     pub fn set_tag(&mut self, object: u64, lane: LaneEntry) -> Result<(), Memory>
         requires tag { IfSome (object_at self.old object) (λ o. o.tag < 2 ^ 32 - 1) }
-        requires lane { IfSome (object_at self.old object) (λ o. HasRoom o.lanes lane.holder) }
+        requires lane { HasLane self.old object lane.holder }
         ensures ok { OnOk result (self.new ≡ changed self.old object (after_set_tag lane)) }
-        ensures others { (q : ℕ) → (q ≡ object → ⊥) → object_at self.new q ≡ object_at self.old q }
+        ensures others { AreOthersKept self.old object self.new }
         ensures err { OnErr result (self.new ≡ self.old) }
     {
         if let Some(found) = self.objects.get_mut(&object) {
@@ -221,9 +220,9 @@ impl Store {
         lane: LaneEntry,
     ) -> Result<(), Memory>
         requires room { IfSome (object_at self.old object) (λ o. TakesAttribute o number) }
-        requires lane { IfSome (object_at self.old object) (λ o. HasRoom o.lanes lane.holder) }
+        requires lane { HasLane self.old object lane.holder }
         ensures ok { OnOk result (self.new ≡ changed self.old object (after_set_attr number value.now lane)) }
-        ensures others { (q : ℕ) → (q ≡ object → ⊥) → object_at self.new q ≡ object_at self.old q }
+        ensures others { AreOthersKept self.old object self.new }
         ensures err { OnErr result (self.new ≡ self.old) }
     {
         if let Some(found) = self.objects.get_mut(&object) {

@@ -1,12 +1,12 @@
 ghost use Rattle.std.specs.Prelude.{◌≡◌};
-ghost use Rattle.osd_drive.specs.State.{seen_of};
+ghost use Rattle.osd_drive.specs.State.{view_of};
 
 use osd_commands::Command;
 use osd_objects::{LaneEntry, ObjectState, Store};
 
-/// What a drive's objects have on a command.
+/// What of a drive's objects a command is judged by.
 #[derive(Clone, Copy)]
-pub struct Seen {
+pub struct StoreView {
     /// The command's object.
     pub object: Option<ObjectState>,
     /// The lane that the command's holder has there.
@@ -19,12 +19,12 @@ pub struct Seen {
     pub objects: u64,
 }
 
-impl Seen {
+impl StoreView {
     /// What a store has on a command.
-    pub fn of(store: &Store, c: &Command) -> Seen
-        ensures { result ≡ seen_of store.now c.now }
+    pub fn of(store: &Store, c: &Command) -> StoreView
+        ensures { result ≡ view_of store.now c.now }
     {
-        Seen {
+        StoreView {
             object: store.state(c.object),
             lane: store.lane(c.object, c.capability.holder),
             has_attribute: store.has_attr(c.object, c.attribute),
