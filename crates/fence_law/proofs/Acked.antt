@@ -6,7 +6,7 @@ use Rattle.fence_law.specs.Words.{updated, In}
 use Rattle.fence_law.specs.Machine.{State, Event, Allowed, after, Grant, Write, WriteReply, Call, PartState, Start, written_start, read_start, repair_start, rebuilt_start, ended, performed}
 use Rattle.fence_law.specs.Machine.Call.{Idle, Writes, Reads, Broken}
 use Rattle.fence_law.specs.Machine.PartState.{NotSent, Sent, Done}
-use Rattle.fence_law.specs.Machine.Event.{Reports, Forgets, Fenced, Sends, StartsWrite, StartsRead, Performs, Learns, Acknowledges, Breaks, Answers, EndsRead, Repairs, Repaired, Rebuilds, TakesRefusal}
+use Rattle.fence_law.specs.Machine.Event.{Reports, Forgets, Fenced, Refenced, Sends, StartsWrite, StartsRead, Performs, Learns, Acknowledges, Breaks, Answers, EndsRead, Repairs, Repaired, Rebuilds, TakesRefusal}
 use Rattle.fence_law.specs.Law.{IsCode}
 use Rattle.fence_law.proofs.Words.{updated_other, updated_read, updated_same}
 use Rattle.fence_law.proofs.Parts.{pf_row, pf_hit, pf_grows}
@@ -58,11 +58,11 @@ kd_starts b s c u h = record {
   ];
 }
 
-kd_sends : (b : State) (c k : ℕ) (g : Grant) (j pi : ℕ) → Known_done b → Known_done (after b (Sends c k g j pi))
-kd_sends b c k g j pi h = let F : ℕ → ℕ → PartState = updated (b.out c) k (updated (b.out c k) pi (Sent (b.nonce c + 1))) in record {
-  nonce = λ r i. grind (arith, updated_read b.nonce c (b.nonce c + 1) r.holder, h.nonce r i);
-  told = λ r i x z run out. h.told r i x z run (grind (arith, updated_read b.out c F r.holder, updated_read (b.out c) k (updated (b.out c k) pi (Sent (b.nonce c + 1))) r.at, updated_read (b.out c k) pi (Sent (b.nonce c + 1)) ((b.start x).part r.at z), h.nonce r i, out));
-  done = λ d x y z run out. h.done d x y z run (grind (arith, updated_read b.out c F d, updated_read (b.out c) k (updated (b.out c k) pi (Sent (b.nonce c + 1))) y, updated_read (b.out c k) pi (Sent (b.nonce c + 1)) ((b.start x).part y z), out));
+kd_sends : (b : State) (c k : ℕ) (g : Grant) (j pi fresh : ℕ) → b.nonce c < fresh → Known_done b → Known_done (after b (Sends c k g j pi fresh))
+kd_sends b c k g j pi fresh new h = let F : ℕ → ℕ → PartState = updated (b.out c) k (updated (b.out c k) pi (Sent fresh)) in record {
+  nonce = λ r i. grind (arith, updated_read b.nonce c fresh r.holder, h.nonce r i, new);
+  told = λ r i x z run out. h.told r i x z run (grind (arith, updated_read b.out c F r.holder, updated_read (b.out c) k (updated (b.out c k) pi (Sent fresh)) r.at, updated_read (b.out c k) pi (Sent fresh) ((b.start x).part r.at z), h.nonce r i, new, out));
+  done = λ d x y z run out. h.done d x y z run (grind (arith, updated_read b.out c F d, updated_read (b.out c) k (updated (b.out c k) pi (Sent fresh)) y, updated_read (b.out c k) pi (Sent fresh) ((b.start x).part y z), out));
 }
 
 kd_learns : (b : State) (c k j v pi : ℕ) → Allowed b (Learns c k j v pi) → Known_done b → Known_done (after b (Learns c k j v pi))
@@ -102,9 +102,9 @@ keep_known_done b (Forgets c) a n own u h = kd_call b c Idle (λ j e. cc) h
 keep_known_done b (TakesRefusal c j0) a n own u h = kd_call b c Idle (λ j e. cc) h
 keep_known_done b (StartsWrite c g i d touch hit seen e1 pt) a n own u h = kd_starts b (written_start b c g d touch hit seen e1 pt) c u h
 keep_known_done b (StartsRead c g lo hi reach) a n own u h = kd_call (added b (read_start b c g lo hi reach) (λ k z. false)) c (Reads b.count) (λ j e. cc) (kd_added b (read_start b c g lo hi reach) (λ k z. false) u h)
-keep_known_done b (Repairs k z e0) a n own u h = kd_added b (repair_start b k z e0) (λ f y. updated (λ w. false) k true f) u h
+keep_known_done b (Repairs k which e0) a n own u h = kd_added b (repair_start b k which e0) (λ f y. updated (λ w. false) k true f) u h
 keep_known_done b (Rebuilds k cells) a n own u h = kd_added b (rebuilt_start b k cells) (λ f y. updated (λ w. false) k true f) u h
-keep_known_done b (Sends c k g j pi) a n own u h = kd_sends b c k g j pi h
+keep_known_done b (Sends c k g j pi fresh) a n own u h = kd_sends b c k g j pi fresh a.new h
 keep_known_done b (Learns c k j v pi) a n own u h = kd_learns b c k j v pi a h
 keep_known_done b (Acknowledges c j) a n own u h = kd_call b c Idle (λ j e. cc) h
 keep_known_done b (Breaks c j) a n own u h = kd_call b c Broken (λ j e. cc) h
@@ -165,10 +165,11 @@ dead_mended b done e0 h j low dead = let x = h j low dead in (x.0, x.1, λ p. rw
 pub keep_dead : (b : State) (e : Event) → Allowed b e → IsCode b.layout → Tags b → Formed b → Holds b → Calls b → Running b → Known b → Unacked b → Known_done b → Dead b → Dead (after b e)
 keep_dead b (StartsWrite c g i d touch hit seen e1 pt) a code t f o r run n u kd h = dead_added b (written_start b c g d touch hit seen e1 pt) (λ k z. false) (λ e. (old_low b g c a.has o e, λ k z. refl)) h
 keep_dead b (StartsRead c g lo hi reach) a code t f o r run n u kd h = dead_added b (read_start b c g lo hi reach) (λ k z. false) (λ e. (old_low b g c a.has o e, λ k z. refl)) h
-keep_dead b (Repairs k z e0) a code t f o r run n u kd h = dead_added b (repair_start b k z e0) (λ f y. updated (λ w. false) k true f) (λ e. absurd (true≢false e)) h
+keep_dead b (Repairs k which e0) a code t f o r run n u kd h = dead_added b (repair_start b k which e0) (λ f y. updated (λ w. false) k true f) (λ e. absurd (true≢false e)) h
 keep_dead b (Rebuilds k cells) a code t f o r run n u kd h = dead_added b (rebuilt_start b k cells) (λ f y. updated (λ w. false) k true f) (λ e. absurd (true≢false e)) h
 keep_dead b (Performs m) a code t f o r run n u kd h = dead_performs b m a (fresh_open b m a.comes (now_fresh b m a t f n) n h u) h
 keep_dead b (Acknowledges c i) a code t f o r run n u kd h = dead_acks b c i a code r run f kd h
 keep_dead b (Repaired done e0) a code t f o r run n u kd h = dead_mended b done e0 h
 keep_dead b Fenced a code t f o r run n u kd h = λ j l d. let x = h j l d in (grind (arith, x.0), x.1, x.2)
+keep_dead b Refenced a code t f o r run n u kd h = λ j l d. let x = h j l d in (grind (arith, x.0), x.1, x.2)
 keep_dead b e a code t f o r run n u kd h = h

@@ -1,12 +1,12 @@
 -- Kept: where a write under way was performed whole its columns are words of its data; what a layout left out is gone.
 -- Every cell that a write doesn't hit keeps its word, and each that it hits gets the new one.
 use Rattle.std.proofs.Common.{◌≡◌, ℕ, ◌≤◌, Bool, true, false, ◌||◌, ◌&&◌, ◌==◌, Option, Some, None, ◌⊎◌, refl, sym, ap, ◌∙◌, inl, inr, arith}
-use Rattle.std.proofs.lemmas.Bool.{and_right, false_from_ne_true, eqb-true, eq-eqb, ne_eqb, cases_eq, true≢false}
+use Rattle.std.proofs.lemmas.Bool.{cases_Bool, and_right, false_from_ne_true, eqb-true, eq-eqb, ne_eqb, cases_eq, true≢false}
 use Rattle.std.proofs.lemmas.Option.{same_Some}
 use Rattle.fence_law.specs.Words.{updated, over}
 use Rattle.fence_law.specs.Machine.{State, Event, Allowed, after, Grant, Write, Start, granted, written_start, read_start, repair_start, rebuilt_start, performed, overlaid, only}
 use Rattle.fence_law.specs.Machine.Call.{Idle, Reads}
-use Rattle.fence_law.specs.Machine.Event.{Grants, Frees, Fenced, StartsWrite, StartsRead, Performs, Acknowledges, Repairs, Repaired, Rebuilds, Loses, Leaves}
+use Rattle.fence_law.specs.Machine.Event.{Grants, Frees, Fenced, Refenced, StartsWrite, StartsRead, Performs, Acknowledges, Repairs, Repaired, Rebuilds, Loses, Leaves}
 use Rattle.fence_law.specs.Law.{chain, byte_before, cell_before, IsCode}
 use Rattle.fence_law.proofs.Words.{up_off, up_on, updated_at, updated_other, updated_read, updated_same}
 use Rattle.fence_law.proofs.Parts.{pf_row}
@@ -18,7 +18,7 @@ use Rattle.fence_law.proofs.Formed.{Gone_lost, not_gone, or_off, or_on, added, M
 use Rattle.fence_law.proofs.Open.{Dead, Known, Unacked, Open, fresh_open, now_fresh}
 use Rattle.fence_law.proofs.Live.{Eras}
 use Rattle.fence_law.proofs.Acked.{FullHere, Known_done, option_cases}
-use Rattle.fence_law.proofs.Later.{Unsettled, open_unsettled, none_open, unsettled_added, unsettled_acks, unsettled_fenced, unsettled_mended, unsettled_none, Later, Unserved, gathered_covers, before_unsettled, pay_or_touch}
+use Rattle.fence_law.proofs.Later.{Unsettled, open_unsettled, none_open, unsettled_added, unsettled_acks, unsettled_fenced, unsettled_mended, unsettled_none, Later, Unserved, gathered_covers, before_unsettled, pay_or_touch, unsettled_refenced, refenced_unsettled}
 use Rattle.fence_law.proofs.Chosen.{Late_ack, at_acks}
 use Rattle.fence_law.proofs.Held.{at_added, ct_new, ct_performs, ct_open, Cells}
 use Rattle.fence_law.proofs.Before.{WholeAt, Before_whole}
@@ -50,9 +50,9 @@ lg_added b s row new h = record {
 }
 
 pub keep_left_gone : (b : State) (e : Event) → Allowed b e → Holds b → Formed b → Mending b → Eras b → Gone_lost b → Left_gone b → Left_gone (after b e)
-keep_left_gone b (Grants c rw range extending) a o f m q gl h = record {
-  outstanding = λ d k g e l. elim (updated_read b.outstanding c (Some (granted b c rw range extending)) d).1 [
-    | inl w ↦ let same : b.missing ≡ g.left = ap (λ y. y.left) (same_Some (granted b c rw range extending) g (sym w.1 ∙ e)) in or_new (b.gone k) (b.missing k) (ap (λ y. y k) same ∙ l)
+keep_left_gone b (Grants c number rw range extending) a o f m q gl h = record {
+  outstanding = λ d k g e l. elim (updated_read b.outstanding c (Some (granted b c number rw range extending)) d).1 [
+    | inl w ↦ let same : b.missing ≡ g.left = ap (λ y. y.left) (same_Some (granted b c number rw range extending) g (sym w.1 ∙ e)) in or_new (b.gone k) (b.missing k) (ap (λ y. y k) same ∙ l)
     | inr w ↦ or_on (b.gone k) (b.missing k) (h.outstanding d k g (sym w.1 ∙ e) l)
   ];
   writes = λ j k u l. or_on (b.gone k) (b.missing k) (h.writes j k u l);
@@ -65,10 +65,11 @@ keep_left_gone b (Loses c k0) a o f m q gl h = record { outstanding = λ d k g e
 keep_left_gone b (Leaves c g0) a o f m q gl h = record { outstanding = λ d k g e. h.outstanding d k g (grind (arith, updated_read b.outstanding c None d, e)); writes = h.writes }
 keep_left_gone b (Frees c) a o f m q gl h = record { outstanding = λ d k g e. h.outstanding d k g (grind (arith, updated_read b.outstanding c None d, e)); writes = h.writes }
 keep_left_gone b Fenced a o f m q gl h = record { outstanding = λ d k g e. absurd (cc e); writes = λ j k u l. gl k (h.writes j k (unsettled_fenced b j f u) l) }
+keep_left_gone b Refenced a o f m q gl h = record { outstanding = λ d k g e. absurd (cc e); writes = λ j k u l. h.writes j k (unsettled_refenced b j f u) l }
 keep_left_gone b (Repaired done e0) a o f m q gl h = record { outstanding = λ d k g e l. gl k (h.outstanding d k g e l); writes = λ j k u. absurd (unsettled_mended b j a.runs m q u) }
 keep_left_gone b (StartsWrite c g i d touch hit seen e1 pt) a o f m q gl h = lg_added b (written_start b c g d touch hit seen e1 pt) (λ k z. false) (λ w al k l. h.outstanding c k g (grind (arith, o.has c g a.has, eqb-true g.tag b.tag al)) l) h
 keep_left_gone b (StartsRead c g lo hi reach) a o f m q gl h = lg_added b (read_start b c g lo hi reach) (λ k z. false) (λ w. absurd (true≢false (sym w))) h
-keep_left_gone b (Repairs k z e0) a o f m q gl h = lg_added b (repair_start b k z e0) (λ f y. updated (λ w. false) k true f) (λ w. absurd (true≢false (sym w))) h
+keep_left_gone b (Repairs k which e0) a o f m q gl h = lg_added b (repair_start b k which e0) (λ f y. updated (λ w. false) k true f) (λ w. absurd (true≢false (sym w))) h
 keep_left_gone b (Rebuilds k cells) a o f m q gl h = record {
   outstanding = λ d y g e. absurd (let z : None ≡ Some g = sym (a.none d) ∙ e in cc z);
   writes = λ j y u. absurd (elim (unsettled_added b (rebuilt_start b k cells) (λ f y. updated (λ w. false) k true f) j u) [ inl w ↦ true≢false (sym w.1) | inr w ↦ unsettled_none b j a.repaired q a.none w.1 ]);
@@ -125,8 +126,8 @@ aw_added b s code f fs ls new h j k z u full t is l = ct_new b s (λ k z. false)
 ]
 
 -- a repair writes the words that stand already
-aw_mends : (b : State) (k0 z0 : ℕ) (e0 : ℕ → ℕ) → Allowed b (Repairs k0 z0 e0) → IsCode b.layout → Cells b → All_word b → All_word (after b (Repairs k0 z0 e0))
-aw_mends b k0 z0 e0 a code cells h j k z u full t is l = let s : Start = repair_start b k0 z0 e0 in let row : ℕ → ℕ → Bool = λ f y. updated (λ w. false) k0 true f in
+aw_mends : (b : State) (k0 : ℕ) (which : ℕ → Bool) (e0 : ℕ → ℕ) → Allowed b (Repairs k0 which e0) → IsCode b.layout → Cells b → All_word b → All_word (after b (Repairs k0 which e0))
+aw_mends b k0 which e0 a code cells h j k z u full t is l = let s : Start = repair_start b k0 which e0 in let row : ℕ → ℕ → Bool = λ f y. updated (λ w. false) k0 true f in
     elim (unsettled_added b s row j u) [
       | inl w ↦ absurd (true≢false (sym w.1))
       | inr w ↦ let st : updated b.start b.count s j ≡ b.start j = updated_other b.start b.count s j w.0 in
@@ -135,10 +136,10 @@ aw_mends b k0 z0 e0 a code cells h j k z u full t is l = let s : Start = repair_
           let moved = word_moves b (added b s row) j j k z code (λ q here. at_added b s row j q (grind (arith, w.1))) in
           ct_new b s row k z ∙ rw st (elim (cases_eq k k0) [
             | inr ne ↦ ap (λ y. over y (s.content k z) (cell_before b b.count k z)) (updated_other (λ f. false) k0 true k ne) ∙ old ∙ moved
-            | inl e ↦ ap (λ y. over y (s.content k z) (cell_before b b.count k z)) (updated_at (λ f. false) k0 true k e) ∙ elim (cases_eq z z0) [
-              | inr ne ↦ over_none true (s.content k z) _ (rw (ne_eqb z z0 ne) (only_false ((k == k0) && false) _ (and_right (k == k0) false refl))) ∙ old ∙ moved
-              | inl ez ↦ over_some (s.content k z) _ (b.layout.word k0 z0 e0) (rw (eq-eqb k k0 e, eq-eqb z z0 ez) refl) ∙ ap (λ y. b.layout.word y z0 e0) (sym e) ∙ ap (λ y. b.layout.word k y e0) (sym ez) ∙
-                  code.local k z _ _ (λ q here. let c = a.all q (here ∙ ap (b.layout.cell_col k) ez ∙ ap (λ y. b.layout.cell_col y z0) e) in let law = code.copies c.0 c.1 q c.2 in
+            | inl e ↦ ap (λ y. over y (s.content k z) (cell_before b b.count k z)) (updated_at (λ f. false) k0 true k e) ∙ elim (cases_Bool (which z)) [
+              | inr ne ↦ over_none true (s.content k z) _ (rw ne (only_false ((k == k0) && false) _ (and_right (k == k0) false refl))) ∙ old ∙ moved
+              | inl ez ↦ over_some (s.content k z) _ (b.layout.word k0 z e0) (rw (eq-eqb k k0 e, ez) refl) ∙ ap (λ y. b.layout.word y z e0) (sym e) ∙
+                  code.local k z _ _ (λ q here. let c = a.all z q ez (here ∙ ap (λ y. b.layout.cell_col y z) e) in let law = code.copies c.0 c.1 q c.2 in
                   c.4 ∙ cells c.0 c.1 c.3 ∙ h j c.0 c.1 w.1 full2 (ap (b.start j).touch (law.1 ∙ here) ∙ rw st at t) law.0 c.3 ∙ law.2 (overlaid (b.start j).data_at (byte_before b j)))
                   ∙ moved
             ]
@@ -161,15 +162,16 @@ keep_all_word b (StartsWrite c g i d touch hit seen e1 pt) a code t f f2 o r run
     aw_added b (written_start b c g d touch hit seen e1 pt) code f (rw (updated_same b.start b.count (written_start b c g d touch hit seen e1 pt)) at (f2 b.count (omega arith))) (λ w al k l. false_from_ne_true (g.left k) (λ on. true≢false (sym (lg.outstanding c k g (grind (arith, o.has c g a.has, eqb-true g.tag b.tag al)) on) ∙ l))) (λ w al x t2. now c g a.has (inr (i, a.gathers)) al x (gathered_covers b c g i d touch hit seen e1 pt a r x t2)) h
 keep_all_word b (StartsRead c g lo hi reach) a code t f f2 o r run n u kd dead late m q lt us cells bw sound now gl lg h =
     aw_added b (read_start b c g lo hi reach) code f (rw (updated_same b.start b.count (read_start b c g lo hi reach)) at (f2 b.count (omega arith))) (λ w. absurd (true≢false (sym w))) (λ w. absurd (true≢false (sym w))) h
-keep_all_word b (Repairs k z e0) a code t f f2 o r run n u kd dead late m q lt us cells bw sound now gl lg h = aw_mends b k z e0 a code cells h
+keep_all_word b (Repairs k which e0) a code t f f2 o r run n u kd dead late m q lt us cells bw sound now gl lg h = aw_mends b k which e0 a code cells h
 keep_all_word b (Rebuilds k cells0) a code t f f2 o r run n u kd dead late m q lt us cells bw sound now gl lg h = λ j x y v. absurd (elim (unsettled_added b (rebuilt_start b k cells0) (λ f y. updated (λ w. false) k true f) j v) [
   | inl w ↦ true≢false (sym w.1)
   | inr w ↦ unsettled_none b j a.repaired q a.none w.1
 ])
 keep_all_word b (Acknowledges c i) a code t f f2 o r run n u kd dead late m q lt us cells bw sound now gl lg h = aw_acks b c i a code r run f kd dead late lt h
 keep_all_word b (Performs w) a code t f f2 o r run n u kd dead late m q lt us cells bw sound now gl lg h = aw_performs b w a (fresh_open b w a.comes (now_fresh b w a t f n) n dead u) code f m q dead lt us bw sound lg h
-keep_all_word b (Grants c rw range extending) a code t f f2 o r run n u kd dead late m q lt us cells bw sound now gl lg h = λ j k z v full t2 is l. aw_again b j k z a.repaired v (λ u2 content. full k z u2 l content) t2 is (or_off (b.gone k) (b.missing k) l) code f dead lt us bw sound lg
+keep_all_word b (Grants c number rw range extending) a code t f f2 o r run n u kd dead late m q lt us cells bw sound now gl lg h = λ j k z v full t2 is l. aw_again b j k z a.repaired v (λ u2 content. full k z u2 l content) t2 is (or_off (b.gone k) (b.missing k) l) code f dead lt us bw sound lg
 keep_all_word b (Loses c k0) a code t f f2 o r run n u kd dead late m q lt us cells bw sound now gl lg h = λ j k z v full t2 is l. aw_again b j k z a.repaired v (λ u2 content. full k z u2 l content) t2 is (up_off b.gone k0 k l) code f dead lt us bw sound lg
-keep_all_word b Fenced a code t f f2 o r run n u kd dead late m q lt us cells bw sound now gl lg h = λ j k z v full t2 is l. aw_again b j k z (false_from_ne_true b.repairing (λ on. true≢false (sym a.runs ∙ m.over on))) (unsettled_fenced b j f v) (λ u2 content. full k z u2 l content) t2 is (not_gone b k gl l) code f dead lt us bw sound lg
+keep_all_word b Fenced a code t f f2 o r run n u kd dead late m q lt us cells bw sound now gl lg h = λ j k z v full t2 is l. aw_again b j k z a.first (unsettled_fenced b j f v) (λ u2 content. full k z u2 l content) t2 is (not_gone b k gl l) code f dead lt us bw sound lg
+keep_all_word b Refenced a code t f f2 o r run n u kd dead late m q lt us cells bw sound now gl lg h = λ j k z v full t2 is l. h j k z (unsettled_refenced b j f v) full t2 is l
 keep_all_word b (Repaired done e0) a code t f f2 o r run n u kd dead late m q lt us cells bw sound now gl lg h = λ j k z v. absurd (unsettled_mended b j a.runs m q v)
 keep_all_word b e a code t f f2 o r run n u kd dead late m q lt us cells bw sound now gl lg h = h

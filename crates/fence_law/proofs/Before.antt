@@ -5,7 +5,7 @@ use Rattle.std.proofs.lemmas.Bool.{cases_eq, true≢false}
 use Rattle.fence_law.specs.Words.{updated, In}
 use Rattle.fence_law.specs.Machine.{State, Event, Allowed, after, Grant, Write, ReadReply, Call, Start, written_start, read_start, repair_start, rebuilt_start}
 use Rattle.fence_law.specs.Machine.Call.{Idle, Writes, Reads, Broken}
-use Rattle.fence_law.specs.Machine.Event.{Grants, Reports, Forgets, Fenced, StartsWrite, StartsRead, Performs, Acknowledges, Breaks, Answers, EndsRead, Repairs, Repaired, Rebuilds, TakesRefusal, Loses}
+use Rattle.fence_law.specs.Machine.Event.{Grants, Reports, Forgets, Fenced, Refenced, StartsWrite, StartsRead, Performs, Acknowledges, Breaks, Answers, EndsRead, Repairs, Repaired, Rebuilds, TakesRefusal, Loses}
 use Rattle.fence_law.specs.Law.{byte_before, cell_before, IsCode}
 use Rattle.fence_law.proofs.Words.{up_off, updated_at, updated_other, updated_read}
 use Rattle.fence_law.proofs.Tags.{Tags}
@@ -15,7 +15,7 @@ use Rattle.fence_law.proofs.Formed.{Gone_lost, not_gone, or_off, added, Mending,
 use Rattle.fence_law.proofs.Open.{Dead, Known, Unacked, Open, fresh_open, now_fresh}
 use Rattle.fence_law.proofs.Live.{Eras}
 use Rattle.fence_law.proofs.Acked.{Known_done}
-use Rattle.fence_law.proofs.Later.{Unsettled, open_unsettled, unsettled_added, unsettled_acks, unsettled_fenced, unsettled_mended, unsettled_none, Later, gathered_covers, before_unsettled, pay_or_touch}
+use Rattle.fence_law.proofs.Later.{Unsettled, open_unsettled, unsettled_added, unsettled_acks, unsettled_fenced, unsettled_mended, unsettled_none, Later, gathered_covers, before_unsettled, pay_or_touch, unsettled_refenced, refenced_unsettled}
 use Rattle.fence_law.proofs.Chosen.{Late_ack, at_acks}
 use Rattle.fence_law.proofs.Held.{read_over, at_added, ct_added, ct_performs}
 
@@ -93,7 +93,7 @@ keep_before_whole b (StartsRead c g lo hi reach) a code t f o r run n u kd dead 
     | inr w ↦ inr (w.0, elim (updated_read b.call c (Reads b.count) w.0).1 [ inl y ↦ absurd (ne (grind (arith, y, w.1))) | inr y ↦ sym y.1 ∙ w.1 ], w.2)
   ])
 ]
-keep_before_whole b (Repairs k z e0) a code t f o r run n u kd dead late m q lt now gl h = bw_added b (repair_start b k z e0) (λ f y. updated (λ w. false) k true f) code (λ x al rx sv. absurd (true≢false sv)) (λ c2 i2 go. (r.reads c2 i2 go).below) h
+keep_before_whole b (Repairs k which e0) a code t f o r run n u kd dead late m q lt now gl h = bw_added b (repair_start b k which e0) (λ f y. updated (λ w. false) k true f) code (λ x al rx sv. absurd (true≢false sv)) (λ c2 i2 go. (r.reads c2 i2 go).below) h
 keep_before_whole b (Rebuilds k cells) a code t f o r run n u kd dead late m q lt now gl h = λ i x low al rx sv cur.
     absurd (elim cur [
       | inl w ↦ elim (unsettled_added b (rebuilt_start b k cells) (λ f y. updated (λ w. false) k true f) i w) [ inl y ↦ true≢false (sym y.1) | inr y ↦ unsettled_none b i a.repaired q a.none y.1 ]
@@ -106,12 +106,16 @@ keep_before_whole b (Breaks c j) a code t f o r run n u kd dead late m q lt now 
 keep_before_whole b (Answers c j g) a code t f o r run n u kd dead late m q lt now gl h = bw_call b c Idle (λ j e. cc) h
 keep_before_whole b (EndsRead c j) a code t f o r run n u kd dead late m q lt now gl h = bw_call b c Idle (λ j e. cc) h
 keep_before_whole b (Performs w) a code t f o r run n u kd dead late m q lt now gl h = bw_performs b w code (fresh_open b w a.comes (now_fresh b w a t f n) n dead u) f lt h
-keep_before_whole b (Grants c rw range extending) a code t f o r run n u kd dead late m q lt now gl h = λ i x low al rx sv cur k z is here l. h i x low al rx sv cur k z is here (or_off (b.gone k) (b.missing k) l)
+keep_before_whole b (Grants c number rw range extending) a code t f o r run n u kd dead late m q lt now gl h = λ i x low al rx sv cur k z is here l. h i x low al rx sv cur k z is here (or_off (b.gone k) (b.missing k) l)
 keep_before_whole b (Loses c k0) a code t f o r run n u kd dead late m q lt now gl h = λ i x low al rx sv cur k z is here l. h i x low al rx sv cur k z is here (up_off b.gone k0 k l)
 keep_before_whole b Fenced a code t f o r run n u kd dead late m q lt now gl h = λ i x low al rx sv cur k z is here l. h i x low al rx sv (elim cur [
   | inl w ↦ inl (unsettled_fenced b i f w)
   | inr w ↦ absurd (let v = r.reads w.0 i w.1 in grind (arith, o.has w.0 v.under.0 v.under.1, v.under.2, w.2))
 ]) k z is here (not_gone b k gl l)
+keep_before_whole b Refenced a code t f o r run n u kd dead late m q lt now gl h = λ i x low al rx sv cur k z is here l. h i x low al rx sv (elim cur [
+  | inl w ↦ inl (unsettled_refenced b i f w)
+  | inr w ↦ absurd (let v = r.reads w.0 i w.1 in grind (arith, o.has w.0 v.under.0 v.under.1, v.under.2, w.2))
+]) k z is here l
 keep_before_whole b (Repaired done e0) a code t f o r run n u kd dead late m q lt now gl h = λ i x low al rx sv cur.
     absurd (elim cur [
       | inl w ↦ unsettled_mended b i a.runs m q w

@@ -4,7 +4,7 @@ use Rattle.std.proofs.Common.{◌≡◌, ℕ, ◌+◌, ◌<◌, ◌≤◌, Bool,
 use Rattle.std.proofs.lemmas.Bool.{and_right, and_parts, not-true, cases_Bool, eqb-true, cases_eq, true≢false}
 use Rattle.fence_law.specs.Words.{updated, over}
 use Rattle.fence_law.specs.Machine.{State, Event, Allowed, after, Start, written_start, read_start, repair_start, rebuilt_start, ended}
-use Rattle.fence_law.specs.Machine.Event.{Fenced, StartsWrite, StartsRead, Acknowledges, Repairs, Repaired, Rebuilds}
+use Rattle.fence_law.specs.Machine.Event.{Fenced, Refenced, StartsWrite, StartsRead, Acknowledges, Repairs, Repaired, Rebuilds}
 use Rattle.fence_law.specs.Law.{byte_before, IsCode}
 use Rattle.fence_law.proofs.Words.{updated_at, updated_other, updated_read}
 use Rattle.fence_law.proofs.Commands.{Calls}
@@ -13,14 +13,17 @@ use Rattle.fence_law.proofs.Formed.{added, Mending, Formed, Running}
 use Rattle.fence_law.proofs.Open.{Dead}
 use Rattle.fence_law.proofs.Live.{Eras}
 use Rattle.fence_law.proofs.Acked.{Full, Known_done, acks_full, option_cases}
-use Rattle.fence_law.proofs.Later.{Unsettled, unsettled_added, unsettled_acks, unsettled_fenced, unsettled_mended, byte_or_touch}
+use Rattle.fence_law.proofs.Later.{Unsettled, unsettled_added, unsettled_acks, unsettled_fenced, unsettled_mended, byte_or_touch, unsettled_refenced, refenced_unsettled}
 
 -- a write that was settled by the end of an earlier repair
 abbrev pub Old : State → ℕ → Type 0
-Old b j = (j < b.count) × ((b.start j).is_write ≡ true) × ((b.start j).alive ≡ true) × (b.acknowledged j ≡ false) × ((b.start j).tag < b.tag) × ((b.repairing ≡ false) ⊎ ((b.start j).tag + 1 < b.tag))
+Old b j = (j < b.count) × ((b.start j).is_write ≡ true) × ((b.start j).alive ≡ true) × (b.acknowledged j ≡ false) × ((b.start j).tag < b.tag) × ((b.repairing ≡ false) ⊎ ((b.start j).tag ≡ b.ended_tag → ⊥))
 
 pub old_apart : (b : State) (j : ℕ) → Old b j → Unsettled b j → ⊥
-old_apart b j o u = grind (arith, o.4, o.5, u.4)
+old_apart b j o u = elim u.4 [
+  | inl e ↦ let l = o.4 in absurd (omega (arith, l, e))
+  | inr e ↦ elim o.5 [ inl off ↦ true≢false (sym e.0 ∙ off) | inr ne ↦ ne e.1 ]
+]
 
 pub three : (b : State) (j : ℕ) → j < b.count → (b.start j).is_write ≡ true → b.acknowledged j ≡ false → Formed b → (Unsettled b j) ⊎ ((Old b j) ⊎ ((b.start j).alive ≡ false))
 three b j low w a f = elim (cases_Bool (b.start j).alive) [
@@ -29,9 +32,9 @@ three b j low w a f = elim (cases_Bool (b.start j).alive) [
     | inl e ↦ inl (low, w, al, a, inl e)
     | inr ne ↦ elim (cases_Bool b.repairing) [
       | inr over ↦ inr (inl (low, w, al, a, grind (arith, (f j low).low, ne), inl over))
-      | inl m ↦ elim (cases_eq ((b.start j).tag + 1) b.tag) [
+      | inl m ↦ elim (cases_eq (b.start j).tag b.ended_tag) [
         | inl e ↦ inl (low, w, al, a, inr (m, e))
-        | inr ne2 ↦ inr (inl (low, w, al, a, grind (arith, (f j low).low, ne), inr (grind (arith, (f j low).low, ne, ne2))))
+        | inr ne2 ↦ inr (inl (low, w, al, a, grind (arith, (f j low).low, ne), inr ne2))
       ]
     ]
   ]
@@ -53,7 +56,7 @@ acked_not_ended b j a = rw a (and_right (b.start j).is_write _ (and_right (b.sta
 pub keep_chosen_acked : (b : State) (e : Event) → Allowed b e → Chosen_acked b → Chosen_acked (after b e)
 keep_chosen_acked b (StartsWrite c g i d touch hit seen e1 pt) a h = ca_added b (written_start b c g d touch hit seen e1 pt) (λ k z. false) h
 keep_chosen_acked b (StartsRead c g lo hi reach) a h = ca_added b (read_start b c g lo hi reach) (λ k z. false) h
-keep_chosen_acked b (Repairs k z e0) a h = ca_added b (repair_start b k z e0) (λ f y. updated (λ w. false) k true f) h
+keep_chosen_acked b (Repairs k which e0) a h = ca_added b (repair_start b k which e0) (λ f y. updated (λ w. false) k true f) h
 keep_chosen_acked b (Rebuilds k cells) a h = ca_added b (rebuilt_start b k cells) (λ f y. updated (λ w. false) k true f) h
 keep_chosen_acked b (Acknowledges c i) a h = λ j p low x. elim (cases_eq j i) [
   | inl e ↦ ap (λ y. y p) (updated_at b.chosen i (λ q. true) j e)
@@ -75,10 +78,11 @@ co_added b s row h j p o = elim (unsettled_added b s row j o) [
 pub keep_chosen_open : (b : State) (e : Event) → Allowed b e → Formed b → Mending b → Eras b → Chosen_open b → Chosen_open (after b e)
 keep_chosen_open b (StartsWrite c g i d touch hit seen e1 pt) a f n q h = co_added b (written_start b c g d touch hit seen e1 pt) (λ k z. false) h
 keep_chosen_open b (StartsRead c g lo hi reach) a f n q h = co_added b (read_start b c g lo hi reach) (λ k z. false) h
-keep_chosen_open b (Repairs k z e0) a f n q h = co_added b (repair_start b k z e0) (λ f y. updated (λ w. false) k true f) h
+keep_chosen_open b (Repairs k which e0) a f n q h = co_added b (repair_start b k which e0) (λ f y. updated (λ w. false) k true f) h
 keep_chosen_open b (Rebuilds k cells) a f n q h = co_added b (rebuilt_start b k cells) (λ f y. updated (λ w. false) k true f) h
 keep_chosen_open b (Acknowledges c i) a f n q h = λ j p o. let x = unsettled_acks b i j o in rw (updated_other b.chosen i (λ z. true) j x.0) (h j p x.1)
 keep_chosen_open b Fenced a f n q h = λ j p o. h j p (unsettled_fenced b j f o)
+keep_chosen_open b Refenced a f n q h = λ j p o. h j p (unsettled_refenced b j f o)
 keep_chosen_open b (Repaired done e0) a f n q h = λ j p o. absurd (unsettled_mended b j a.runs n q o)
 keep_chosen_open b e a f n q h = h
 
@@ -118,7 +122,7 @@ at_acks b c j i q a code r run f kd dead late before = let low = (r.writes c j a
 pub ended_unsettled : (b : State) (j : ℕ) → j < b.count → b.repairing ≡ true → ended b j ≡ true → Unsettled b j
 ended_unsettled b j low m e =
     let p = and_parts (b.start j).is_write _ e in let q = and_parts (b.start j).alive _ p.1 in let r = and_parts (not (b.acknowledged j)) _ q.1 in
-    (low, p.0, q.0, not-true (b.acknowledged j) r.0, inr (m, eqb-true ((b.start j).tag + 1) b.tag r.1))
+    (low, p.0, q.0, not-true (b.acknowledged j) r.0, inr (m, eqb-true (b.start j).tag b.ended_tag r.1))
 
 pub at_mended : (b : State) (done : ℕ → Bool) (e0 : ℕ → ℕ) (i q : ℕ) → b.repairing ≡ true → i ≤ b.count → Formed b →
     ((j : ℕ) → Unsettled b j → (b.start j).touch (b.layout.col q) ≡ true → i ≤ j) → byte_before (after b (Repaired done e0)) i q ≡ byte_before b i q

@@ -110,7 +110,7 @@ keep_caps b (Reports c g) a t s o f r run n u ml h = caps_leaves (record b { seq
 keep_caps b (Leaves c g) a t s o f r run n u ml h = caps_leaves b c h
 keep_caps b (Forgets c) a t s o f r run n u ml h = caps_leaves b c h
 keep_caps b (TakesRefusal c j) a t s o f r run n u ml h = caps_leaves b c h
-keep_caps b (Grants c rw range extending) a t s o f r run n u ml h = caps_served b c (Some (granted b c rw range extending)) (λ k g e on l. let same : b.missing ≡ g.left = ap (λ y. y.left) (same_Some (granted b c rw range extending) g e) in absurd (true≢false (sym (ml.dropped k on) ∙ ap (λ y. y k) same ∙ l))) h
+keep_caps b (Grants c number rw range extending) a t s o f r run n u ml h = caps_served b c (Some (granted b c number rw range extending)) (λ k g e on l. let same : b.missing ≡ g.left = ap (λ y. y.left) (same_Some (granted b c number rw range extending) g e) in absurd (true≢false (sym (ml.dropped k on) ∙ ap (λ y. y k) same ∙ l))) h
 keep_caps b (Refuses c kind) a t s o f r run n u ml h = caps_served b c None (λ k g e. absurd (cc e)) h
 keep_caps b (Frees c) a t s o f r run n u ml h = caps_served b c None (λ k g e. absurd (cc e)) h
 keep_caps b (Takes c o1 s0) a t s o f r run n u ml h = caps_takes b c o1 s0 a s h
@@ -118,9 +118,9 @@ keep_caps b (AsksOther c) a t s o f r run n u ml h = record { held = h.held; ent
 keep_caps b (ServesOther c) a t s o f r run n u ml h = record { held = h.held; entries = h.entries; sent = h.sent; comes = λ d k g w e. h.comes d k g w (grind (arith, updated_read b.slot c (b.slot c + 1) d, e, w, a.free)) }
 keep_caps b (StartsWrite c g i d touch hit seen e1 pt) a t s o f r run n u ml h = caps_added b (written_start b c g d touch hit seen e1 pt) (λ k z. false) (λ k sv. h.held c k g a.has) n h
 keep_caps b (StartsRead c g lo hi reach) a t s o f r run n u ml h = caps_added b (read_start b c g lo hi reach) (λ k z. false) (λ k sv. h.held c k g a.has) n h
-keep_caps b (Repairs k z e0) a t s o f r run n u ml h = caps_added b (repair_start b k z e0) (λ f y. updated (λ w. false) k true f) (λ q sv. absurd (true≢false sv)) n h
+keep_caps b (Repairs k which e0) a t s o f r run n u ml h = caps_added b (repair_start b k which e0) (λ f y. updated (λ w. false) k true f) (λ q sv. absurd (true≢false sv)) n h
 keep_caps b (Rebuilds k cells) a t s o f r run n u ml h = caps_back (added b (rebuilt_start b k cells) (λ f y. updated (λ w. false) k true f)) k (caps_added b (rebuilt_start b k cells) (λ f y. updated (λ w. false) k true f) (λ q sv. absurd (true≢false sv)) n h)
-keep_caps b (Sends c k g j pi) a t s o f r run n u ml h = record {
+keep_caps b (Sends c k g j pi fresh) a t s o f r run n u ml h = record {
   held = h.held;
   comes = h.comes;
   entries = h.entries;

@@ -3,7 +3,7 @@ use Rattle.std.proofs.Common.{◌≡◌, ℕ, ◌+◌, ◌<◌, Bool, true, fals
 use Rattle.std.proofs.lemmas.Bool.{and_parts, and_from, false_from_ne_true, cases_Bool, eqb-true, eq-eqb, cases_eq, true≢false}
 use Rattle.fence_law.specs.Words.{updated, over}
 use Rattle.fence_law.specs.Machine.{State, Event, Allowed, after, Start, written_start, read_start, repair_start, rebuilt_start, is_byte, ended, overlaid, IsCalm}
-use Rattle.fence_law.specs.Machine.Event.{Grants, Fenced, StartsWrite, StartsRead, Performs, Acknowledges, Repairs, Repaired, Rebuilds, Loses}
+use Rattle.fence_law.specs.Machine.Event.{Grants, Fenced, Refenced, StartsWrite, StartsRead, Performs, Acknowledges, Repairs, Repaired, Rebuilds, Loses}
 use Rattle.fence_law.specs.Law.{byte_before, cell_before, IsCode}
 use Rattle.fence_law.proofs.Words.{up_off, updated_at, updated_other}
 use Rattle.fence_law.proofs.Parts.{pf_row}
@@ -14,8 +14,8 @@ use Rattle.fence_law.proofs.Formed.{Gone_lost, not_gone, or_off, added, Mending,
 use Rattle.fence_law.proofs.Open.{Dead, Known, Unacked, fresh_open, now_fresh}
 use Rattle.fence_law.proofs.Live.{Eras}
 use Rattle.fence_law.proofs.Acked.{Known_done}
-use Rattle.fence_law.proofs.Later.{Unsettled, none_open, Later, Unserved}
-use Rattle.fence_law.proofs.Chosen.{Chosen_open, Late_ack, ended_unsettled}
+use Rattle.fence_law.proofs.Later.{Unsettled, none_open, Later, Unserved, unsettled_refenced, refenced_unsettled}
+use Rattle.fence_law.proofs.Chosen.{Old, Chosen_open, Late_ack, ended_unsettled}
 use Rattle.fence_law.proofs.Held.{ct_new, Cells}
 use Rattle.fence_law.proofs.Sound.{Sound}
 use Rattle.fence_law.proofs.AllWord.{All_word}
@@ -61,9 +61,9 @@ end_done b done e0 q a d gl code f dead lt md eras co cells mixed =
         not_on true e = absurd (true≢false e)
         not_on false e = refl
 
-        tag_of : ((b.start j).tag ≡ b.tag → ⊥) → ((b.start j).tag ≡ b.tag) ⊎ ((b.repairing ≡ true) × ((b.start j).tag + 1 ≡ b.tag)) → ((b.start j).tag + 1 == b.tag) ≡ true
+        tag_of : ((b.start j).tag ≡ b.tag → ⊥) → ((b.start j).tag ≡ b.tag) ⊎ ((b.repairing ≡ true) × ((b.start j).tag ≡ b.ended_tag)) → ((b.start j).tag == b.ended_tag) ≡ true
         tag_of no_ (inl e) = absurd (no_ e)
-        tag_of no_ (inr e) = eq-eqb ((b.start j).tag + 1) b.tag e.1
+        tag_of no_ (inr e) = eq-eqb (b.start j).tag b.ended_tag e.1
 
 -- of a column with parity that was left the log leaves what it left
 pub end_left : (b : State) (done : ℕ → Bool) (e0 : ℕ → ℕ) (i q : ℕ) → done (b.layout.col q) ≡ false → b.layout.coded (b.layout.col q) ≡ true → byte_before (after b (Repaired done e0)) i q ≡ byte_before b i q
@@ -80,7 +80,7 @@ pub left_calm : (b : State) (done : ℕ → Bool) (e0 : ℕ → ℕ) (j k z v x 
     (b.start j).content k z ≡ Some v → b.layout.cell_col k z ≡ x → b.layout.is_cell k z ≡ true → b.applied j k z ≡ true → done x ≡ false → b.layout.coded x ≡ true → ⊥
 left_calm b done e0 j k z v x a calm ml m q u content here is on d coded = elim u.4 [
   | inl same ↦ none_open b j a.runs m q (u.0, u.1, u.2, u.3, same)
-  | inr old ↦ calm x coded (j, k, z, v, ml.opened j x u, u.0, u.1, u.3, content, here, is, on, grind (arith, old.1)) (a.left x d)
+  | inr old ↦ calm x coded (j, k, z, v, ml.opened j x u, u.0, u.1, u.3, content, here, is, on, grind (arith, old.1, m.low a.runs)) (a.left x d)
 ]
 
 mixed_mended : (b : State) (done : ℕ → Bool) (e0 : ℕ → ℕ) → Allowed b (Repaired done e0) → IsCalm b → Gone_lost b → IsCode b.layout → Formed b → Dead b → Later b → Mending b → Eras b → Chosen_open b → Cells b → Mended_low b → Mixed b → Mixed (after b (Repaired done e0))
@@ -99,15 +99,19 @@ pub keep_mixed : (b : State) (e : Event) → Allowed b e → IsCalm b → IsCode
     ((k : ℕ) (cells : ℕ → ℕ) → Allowed b (Rebuilds k cells) → (z : ℕ) → b.layout.is_cell k z ≡ true → cells z ≡ b.layout.word k z (byte_before b b.count)) → Gone_lost b → Mixed b → Mixed (after b e)
 keep_mixed b (StartsWrite c g i d touch hit seen e1 pt) a calm code t f r run n u kd dead late m q lt us co cells sound aw ml re gl h = λ k z p c2 l. mixed_added b (written_start b c g d touch hit seen e1 pt) (λ k z. false) k z p (ct_new b (written_start b c g d touch hit seen e1 pt) (λ k z. false) k z) (h k z p c2 l)
 keep_mixed b (StartsRead c g lo hi reach) a calm code t f r run n u kd dead late m q lt us co cells sound aw ml re gl h = λ k z p c2 l. mixed_added b (read_start b c g lo hi reach) (λ k z. false) k z p (ct_new b (read_start b c g lo hi reach) (λ k z. false) k z) (h k z p c2 l)
-keep_mixed b (Repairs k z e0) a calm code t f r run n u kd dead late m q lt us co cells sound aw ml re gl h = mixed_mends b k z e0 a code cells h
+keep_mixed b (Repairs k which e0) a calm code t f r run n u kd dead late m q lt us co cells sound aw ml re gl h = mixed_mends b k which e0 a code cells h
 keep_mixed b (Rebuilds k cells0) a calm code t f r run n u kd dead late m q lt us co cells sound aw ml re gl h = mixed_rebuilds b k cells0 (re k cells0 a) code h
 keep_mixed b (Acknowledges c i) a calm code t f r run n u kd dead late m q lt us co cells sound aw ml re gl h = mixed_acks b c i a code r run f kd dead late lt aw h
 keep_mixed b (Performs w) a calm code t f r run n u kd dead late m q lt us co cells sound aw ml re gl h = mixed_performs b w (fresh_open b w a.comes (now_fresh b w a t f n) n dead u) code f dead lt us co sound h
-keep_mixed b (Grants c rw range extending) a calm code t f r run n u kd dead late m q lt us co cells sound aw ml re gl h = λ k z p c2 l. h k z p c2 (or_off (b.gone k) (b.missing k) l)
+keep_mixed b (Grants c number rw range extending) a calm code t f r run n u kd dead late m q lt us co cells sound aw ml re gl h = λ k z p c2 l. h k z p c2 (or_off (b.gone k) (b.missing k) l)
 keep_mixed b (Loses c k0) a calm code t f r run n u kd dead late m q lt us co cells sound aw ml re gl h = λ k z p c2 l. h k z p c2 (up_off b.gone k0 k l)
 keep_mixed b Fenced a calm code t f r run n u kd dead late m q lt us co cells sound aw ml re gl h = λ k z p c l. elim (h k z p c (not_gone b k gl l)) [
   | inl e ↦ inl e
-  | inr w ↦ inr (w.0, w.1, w.2, w.3, w.4, (w.5.0, w.5.1, w.5.2, w.5.3, inr (refl, elim w.5.4 [ inl e ↦ ap (λ y. y + 1) e | inr e ↦ absurd (true≢false (sym a.runs ∙ m.over e.0)) ])), w.6, w.7, w.8, w.9, w.10, w.11)
+  | inr w ↦ inr (w.0, w.1, w.2, w.3, w.4, (w.5.0, w.5.1, w.5.2, w.5.3, inr (refl, elim w.5.4 [ inl e ↦ e | inr e ↦ absurd (true≢false (sym e.0 ∙ a.first)) ])), w.6, w.7, w.8, w.9, w.10, w.11)
+]
+keep_mixed b Refenced a calm code t f r run n u kd dead late m q lt us co cells sound aw ml re gl h = λ k z p c l. elim (h k z p c l) [
+  | inl e ↦ inl e
+  | inr w ↦ inr (w.0, w.1, w.2, w.3, w.4, refenced_unsettled b w.0 a.again m q w.5, w.6, w.7, w.8, w.9, w.10, w.11)
 ]
 keep_mixed b (Repaired done e0) a calm code t f r run n u kd dead late m q lt us co cells sound aw ml re gl h = mixed_mended b done e0 a calm gl code f dead lt m q co cells ml h
 keep_mixed b e a calm code t f r run n u kd dead late m q lt us co cells sound aw ml re gl h = h
@@ -136,16 +140,16 @@ late_mended b done e0 a calm gl code f m q cells ml aw h j p v o full byte1 = el
   ]
 ]
   where
-    not_ended : ended b j ≡ false → (b.start j).tag + 1 < b.tag
-    not_ended no_ = elim (cases_eq ((b.start j).tag + 1) b.tag) [
-      | inl e ↦ absurd (true≢false (sym (and_from (b.start j).is_write _ o.1 (and_from (b.start j).alive _ o.2 (and_from (not (b.acknowledged j)) _ (rw o.3 refl) (eq-eqb ((b.start j).tag + 1) b.tag e)))) ∙ no_))
-      | inr ne ↦ grind (arith, o.4, ne)
+    not_ended : ended b j ≡ false → (b.start j).tag ≡ b.ended_tag → ⊥
+    not_ended no_ = elim (cases_eq (b.start j).tag b.ended_tag) [
+      | inl e ↦ absurd (true≢false (sym (and_from (b.start j).is_write _ o.1 (and_from (b.start j).alive _ o.2 (and_from (not (b.acknowledged j)) _ (rw o.3 refl) (eq-eqb (b.start j).tag b.ended_tag e)))) ∙ no_))
+      | inr ne ↦ ne
     ]
 
 pub keep_late : (b : State) (e : Event) → Allowed b e → IsCalm b → IsCode b.layout → Tags b → Formed b → Known b → Unacked b → Dead b → Mending b → Eras b → Cells b → Mended_low b → All_word b → Gone_lost b → Late_ack b → Late_ack (after b e)
 keep_late b (StartsWrite c g i d touch hit seen e1 pt) a calm code t f n u dead m q cells ml aw gl h = late_added b (written_start b c g d touch hit seen e1 pt) (λ k z. false) (λ w al. eqb-true g.tag b.tag al) h
 keep_late b (StartsRead c g lo hi reach) a calm code t f n u dead m q cells ml aw gl h = late_added b (read_start b c g lo hi reach) (λ k z. false) (λ w. absurd (true≢false (sym w))) h
-keep_late b (Repairs k z e0) a calm code t f n u dead m q cells ml aw gl h = late_added b (repair_start b k z e0) (λ f y. updated (λ w. false) k true f) (λ w. absurd (true≢false (sym w))) h
+keep_late b (Repairs k which e0) a calm code t f n u dead m q cells ml aw gl h = late_added b (repair_start b k which e0) (λ f y. updated (λ w. false) k true f) (λ w. absurd (true≢false (sym w))) h
 keep_late b (Rebuilds k cells0) a calm code t f n u dead m q cells ml aw gl h = late_added b (rebuilt_start b k cells0) (λ f y. updated (λ w. false) k true f) (λ w. absurd (true≢false (sym w))) h
 keep_late b (Acknowledges c i) a calm code t f n u dead m q cells ml aw gl h = λ j p v o full byte1. elim (cases_eq j i) [
   | inl e ↦ ap (λ y. y p) (updated_at b.chosen i (λ z. true) j e)
@@ -154,6 +158,13 @@ keep_late b (Acknowledges c i) a calm code t f n u dead m q cells ml aw gl h = �
 keep_late b (Performs w) a calm code t f n u dead m q cells ml aw gl h = λ j p v o full byte1.
     let op = fresh_open b w a.comes (now_fresh b w a t f n) n dead u in let ne : j ≡ w.entry → ⊥ = λ e. grind (arith, op.4, e, o.4) in
     h j p v o (λ x y z content. sym (ap (λ f2. f2 x y) (pf_row b w j ne)) ∙ full x y z content) byte1
-keep_late b Fenced a calm code t f n u dead m q cells ml aw gl h = λ j p v o full byte1. h j p v (o.0, o.1, o.2, o.3, grind (arith, o.5), inl (false_from_ne_true b.repairing (λ on. true≢false (sym a.runs ∙ m.over on)))) full byte1
+keep_late b Fenced a calm code t f n u dead m q cells ml aw gl h = λ j p v o full byte1. h j p v (o.0, o.1, o.2, o.3, grind (arith, o.5), inl a.first) full byte1
+keep_late b Refenced a calm code t f n u dead m q cells ml aw gl h = λ j p v o full byte1. h j p v (o.0, o.1, o.2, o.3, refenced_low j o, elim o.5 [ inl off ↦ inl off | inr ne ↦ inr ne ]) full byte1
+  where
+    refenced_low : (j : ℕ) → Old (after b Refenced) j → (b.start j).tag < b.tag
+    refenced_low j o = elim (cases_eq (b.start j).tag b.tag) [
+      | inl e ↦ absurd (none_open b j a.again m q (o.0, o.1, o.2, o.3, e))
+      | inr ne ↦ let l = o.4 in omega (arith, l, ne)
+    ]
 keep_late b (Repaired done e0) a calm code t f n u dead m q cells ml aw gl h = late_mended b done e0 a calm gl code f m q cells ml aw h
 keep_late b e a calm code t f n u dead m q cells ml aw gl h = h

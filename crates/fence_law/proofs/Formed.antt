@@ -5,8 +5,11 @@ use Rattle.std.proofs.lemmas.Bool.{false_from_ne_true, eqb-false, true≢false}
 use Rattle.fence_law.specs.Words.{updated}
 use Rattle.fence_law.specs.Machine.{State, Event, Allowed, after, Grant, Call, Start, granted, written_start, read_start, repair_start, rebuilt_start, spans, overlaid, only}
 use Rattle.fence_law.specs.Machine.Call.{Idle, Writes, Reads, Broken}
-use Rattle.fence_law.specs.Machine.Event.{Grants, Reports, Forgets, Frees, Fences, Fenced, StartsWrite, StartsRead, Acknowledges, Breaks, Answers, EndsRead, Fails, Drops, Declares, Repairs, Repaired, Rebuilds, TakesRefusal, Loses, Leaves}
+use Rattle.fence_law.specs.Machine.Event.{Grants, Reports, Forgets, Frees, Fences, Fenced, Refenced, StartsWrite, StartsRead, Acknowledges, Breaks, Answers, EndsRead, Fails, Drops, Declares, Repairs, Repaired, Rebuilds, TakesRefusal, Loses, Leaves}
 use Rattle.fence_law.specs.Log.{gives}
+use Rattle.fence_law.specs.Law.{byte_before}
+use Rattle.fence_law.specs.Machine.{AreBytes}
+use Rattle.fence_law.proofs.Chains.{chain_low}
 use Rattle.fence_law.proofs.Words.{up_on, updated_other, updated_read, updated_same}
 use Rattle.fence_law.proofs.Holds.{Holds}
 use Rattle.fence_law.proofs.Commands.{Calls}
@@ -28,18 +31,18 @@ old_low b g c has o e = grind (arith, o.has c g has, eqb-false g.tag b.tag e)
 
 -- no grant is outstanding while a repair runs
 abbrev pub Mending : State → Type 0
-Mending b = record { outstanding : (c : ℕ) → b.repairing ≡ true → b.outstanding c ≡ None; over : b.repairing ≡ true → b.fencing ≡ false }
+Mending b = record { outstanding : (c : ℕ) → b.repairing ≡ true → b.outstanding c ≡ None; low : b.repairing ≡ true → b.ended_tag < b.tag }
 
 pub keep_mending : (b : State) (e : Event) → Allowed b e → Mending b → Mending (after b e)
-keep_mending b (Grants c rw range extending) a h = record {
-  outstanding = λ d m. grind (arith, updated_read b.outstanding c (Some (granted b c rw range extending)) d, h.outstanding d m, a.repaired, m);
-  over = h.over;
+keep_mending b (Grants c number rw range extending) a h = record {
+  outstanding = λ d m. grind (arith, updated_read b.outstanding c (Some (granted b c number rw range extending)) d, h.outstanding d m, a.repaired, m);
+  low = h.low;
 }
-keep_mending b (Leaves c g) a h = record { outstanding = λ d m. grind (arith, updated_read b.outstanding c None d, h.outstanding d m); over = h.over }
-keep_mending b (Frees c) a h = record { outstanding = λ d m. grind (arith, updated_read b.outstanding c None d, h.outstanding d m); over = h.over }
-keep_mending b Fences a h = record { outstanding = h.outstanding; over = λ m. absurd (grind (arith, a.repaired, m)) }
-keep_mending b Fenced a h = record { outstanding = λ d m. refl; over = λ m. refl }
-keep_mending b (Repaired done e0) a h = record { outstanding = λ d m. absurd (true≢false (sym m)); over = λ m. absurd (true≢false (sym m)) }
+keep_mending b (Leaves c g) a h = record { outstanding = λ d m. grind (arith, updated_read b.outstanding c None d, h.outstanding d m); low = h.low }
+keep_mending b (Frees c) a h = record { outstanding = λ d m. grind (arith, updated_read b.outstanding c None d, h.outstanding d m); low = h.low }
+keep_mending b Fenced a h = record { outstanding = λ d m. refl; low = λ m. omega arith }
+keep_mending b Refenced a h = record { outstanding = λ d m. refl; low = λ m. let l = h.low m in omega (arith, l) }
+keep_mending b (Repaired done e0) a h = record { outstanding = λ d m. absurd (true≢false (sym m)); low = λ m. absurd (true≢false (sym m)) }
 keep_mending b e a h = h
 
 -- what was lost is lost
@@ -71,7 +74,7 @@ keep_missing b (Rebuilds k0 cells) a h = record { lost = λ k m. grind (arith, u
 keep_missing b e a h = h
 
 pub keep_gone_lost : (b : State) (e : Event) → Missing_lost b → Gone_lost b → Gone_lost (after b e)
-keep_gone_lost b (Grants c rw range extending) m h = λ k g. elim (or_last (b.gone k) (b.missing k) g) [ inl x ↦ h k x | inr x ↦ m.lost k x ]
+keep_gone_lost b (Grants c number rw range extending) m h = λ k g. elim (or_last (b.gone k) (b.missing k) g) [ inl x ↦ h k x | inr x ↦ m.lost k x ]
 keep_gone_lost b Fenced m h = λ k g. g
 keep_gone_lost b (Repaired done e0) m h = λ k g. g
 keep_gone_lost b (Fails k0) m h = λ k g. grind (arith, updated_read b.lost k0 true k, h k g)
@@ -101,6 +104,7 @@ FormedOne b s = record {
   some : s.is_write ≡ true → (p v : ℕ) × (s.data_at p ≡ Some v);
   silent : s.is_read ≡ true → (k z : ℕ) → s.content k z ≡ None;
   lands : (p v : ℕ) → s.is_write ≡ true → s.data_at p ≡ Some v → (k z u : ℕ) × (s.content k z ≡ Some u) × (b.layout.cell_col k z ≡ b.layout.col p) × (b.layout.is_cell k z ≡ true);
+  bytes : (p v : ℕ) → s.data_at p ≡ Some v → v < 256;
   misses : (k z : ℕ) → s.is_write ≡ true → b.layout.is_cell k z ≡ true → s.left k ≡ false → s.content k z ≡ None → (e : ℕ → ℕ) → b.layout.word k z (overlaid s.data_at e) ≡ b.layout.word k z e;
 }
 
@@ -126,7 +130,7 @@ only_none true v e = absurd (cc e)
 only_none false v e = refl
 
 pub keep_formed : (b : State) (e : Event) → Allowed b e → Holds b → Formed b → Formed (after b e)
-keep_formed b (Grants c rw range extending) a o h = λ j l. let x = h j l in record {
+keep_formed b (Grants c number rw range extending) a o h = λ j l. let x = h j l in record {
   low = x.low;
   number = λ w. grind (arith, x.number w);
   touches = x.touches;
@@ -143,6 +147,7 @@ keep_formed b (Grants c rw range extending) a o h = λ j l. let x = h j l in rec
   silent = x.silent;
   lands = x.lands;
   misses = x.misses;
+  bytes = x.bytes;
 }
 keep_formed b Fenced a o h = λ j l. let x = h j l in record {
   low = grind (arith, x.low);
@@ -161,6 +166,26 @@ keep_formed b Fenced a o h = λ j l. let x = h j l in record {
   silent = x.silent;
   lands = x.lands;
   misses = x.misses;
+  bytes = x.bytes;
+}
+keep_formed b Refenced a o h = λ j l. let x = h j l in record {
+  low = grind (arith, x.low);
+  number = x.number;
+  touches = x.touches;
+  none = x.none;
+  apart = x.apart;
+  payless = x.payless;
+  reaches = x.reaches;
+  wants = x.wants;
+  own = x.own;
+  reads = x.reads;
+  plain = x.plain;
+  asks = x.asks;
+  some = x.some;
+  silent = x.silent;
+  lands = x.lands;
+  misses = x.misses;
+  bytes = x.bytes;
 }
 keep_formed b (StartsWrite c g i d touch hit seen e1 pt) a o h = formed_added b (written_start b c g d touch hit seen e1 pt) (λ k z. false) (record {
   low = grind (arith, o.has c g a.has);
@@ -178,6 +203,7 @@ keep_formed b (StartsWrite c g i d touch hit seen e1 pt) a o h = formed_added b 
   some = λ w. (a.some.0, a.some.1, a.some.2);
   silent = λ w. absurd (true≢false (sym w));
   lands = λ p v w e. let x = a.lands p v e in (x.0, x.1, b.layout.word x.0 x.1 (overlaid d seen), only_true (hit x.0 x.1) _ x.2, x.3, (a.hits x.0 x.1 x.2).0);
+  bytes = a.bytes;
   misses = λ k z w is lf n. a.misses k z is lf (only_none (hit k z) _ n);
 }) h
 keep_formed b (StartsRead c g lo hi reach) a o h = formed_added b (read_start b c g lo hi reach) (λ k z. false) (record {
@@ -197,8 +223,9 @@ keep_formed b (StartsRead c g lo hi reach) a o h = formed_added b (read_start b 
   silent = λ w k z. refl;
   lands = λ p v w. absurd (true≢false (sym w));
   misses = λ k z w. absurd (true≢false (sym w));
+  bytes = λ p v e. absurd (cc e);
 }) h
-keep_formed b (Repairs k z e0) a o h = formed_added b (repair_start b k z e0) (λ f y. updated (λ w. false) k true f) (record {
+keep_formed b (Repairs k which e0) a o h = formed_added b (repair_start b k which e0) (λ f y. updated (λ w. false) k true f) (record {
   low = grind arith;
   number = λ w. absurd (true≢false (sym w));
   touches = λ p v e. absurd (cc e);
@@ -215,6 +242,7 @@ keep_formed b (Repairs k z e0) a o h = formed_added b (repair_start b k z e0) (�
   silent = λ w. absurd (true≢false (sym w));
   lands = λ p v w. absurd (true≢false (sym w));
   misses = λ f y w. absurd (true≢false (sym w));
+  bytes = λ p v e. absurd (cc e);
 }) h
 keep_formed b (Rebuilds k cells) a o h = formed_added b (rebuilt_start b k cells) (λ f y. updated (λ w. false) k true f) (record {
   low = grind arith;
@@ -233,6 +261,7 @@ keep_formed b (Rebuilds k cells) a o h = formed_added b (rebuilt_start b k cells
   silent = λ w. absurd (true≢false (sym w));
   lands = λ p v w. absurd (true≢false (sym w));
   misses = λ f y w. absurd (true≢false (sym w));
+  bytes = λ p v e. absurd (cc e);
 }) h
 keep_formed b e a o h = h
 
@@ -285,9 +314,9 @@ keep_running b (StartsRead c g lo hi reach) a r h = record {
     | inr w ↦ running_old_r b (read_start b c g lo hi reach) f j r h (sym w.1 ∙ e)
   ];
 }
-keep_running b (Repairs k z e0) a r h = record {
-  writes = λ f j e. running_old_w b (repair_start b k z e0) (λ f y. updated (λ w. false) k true f) f j r h e;
-  reads = λ f j e. running_old_r b (repair_start b k z e0) f j r h e;
+keep_running b (Repairs k which e0) a r h = record {
+  writes = λ f j e. running_old_w b (repair_start b k which e0) (λ f y. updated (λ w. false) k true f) f j r h e;
+  reads = λ f j e. running_old_r b (repair_start b k which e0) f j r h e;
 }
 keep_running b (Rebuilds k cells) a r h = record {
   writes = λ f j e. running_old_w b (rebuilt_start b k cells) (λ f y. updated (λ w. false) k true f) f j r h e;
@@ -298,3 +327,7 @@ keep_running b (Breaks c j) a r h = running_call b c Broken (λ j e. cc) (λ j e
 keep_running b (Answers c j f) a r h = running_call b c Idle (λ j e. cc) (λ j e. cc) h
 keep_running b (EndsRead c j) a r h = running_call b c Idle (λ j e. cc) (λ j e. cc) h
 keep_running b e a r h = h
+
+-- the bytes that the log leaves are bytes
+pub bytes_before : (b : State) (j : ℕ) → j ≤ b.count → Formed b → AreBytes (byte_before b j)
+bytes_before b j low f q = chain_low (λ i. b.chosen i q) (λ i. (b.start i).data_at q) j (λ i l v e. (f i (omega (arith, l, low))).bytes q v e)

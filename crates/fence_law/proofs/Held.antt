@@ -1,11 +1,12 @@
 -- Kept: a component that isn't gone holds what the performed writes leave, in order of their start; beside a running read nothing changes what it reaches.
 -- Two writes of one column are never at work together.
 use Rattle.std.proofs.Common.{◌≡◌, ℕ, ◌+◌, ◌<◌, ◌≤◌, Bool, true, false, Some, None, ◌⊎◌, refl, sym, ap, ◌∙◌, inl, inr, arith, ◌==◌}
-use Rattle.std.proofs.lemmas.Bool.{false_from_ne_true, eq-eqb, ne_eqb, cases_eq, true≢false}
+use Rattle.std.proofs.lemmas.Bool.{cases_Bool, false_from_ne_true, eq-eqb, ne_eqb, cases_eq, true≢false}
 use Rattle.fence_law.specs.Words.{updated, over}
+use Rattle.std.proofs.Common.{cond}
 use Rattle.fence_law.specs.Machine.{State, Event, Allowed, after, Write, Call, Start, written_start, read_start, repair_start, rebuilt_start, performed}
 use Rattle.fence_law.specs.Machine.Call.{Idle, Writes, Reads, Broken}
-use Rattle.fence_law.specs.Machine.Event.{Grants, Reports, Forgets, Fenced, StartsWrite, StartsRead, Performs, Acknowledges, Breaks, Answers, EndsRead, Repairs, Repaired, Rebuilds, TakesRefusal, Loses, PerformsLost}
+use Rattle.fence_law.specs.Machine.Event.{Grants, Reports, Forgets, Fenced, Refenced, StartsWrite, StartsRead, Performs, Acknowledges, Breaks, Answers, EndsRead, Repairs, Repaired, Rebuilds, TakesRefusal, Loses, PerformsLost}
 use Rattle.fence_law.specs.Law.{chain, byte_before, cell_before, IsCode}
 use Rattle.fence_law.proofs.Words.{up_off, updated_at, updated_other, updated_read, updated_same}
 use Rattle.fence_law.proofs.Parts.{pf_row, pf_hit, hit_case}
@@ -17,7 +18,7 @@ use Rattle.fence_law.proofs.Formed.{Gone_lost, not_gone, or_off, added, Mending,
 use Rattle.fence_law.proofs.Open.{Dead, Known, Unacked, Open, fresh_open, now_fresh}
 use Rattle.fence_law.proofs.Live.{Eras, Busy}
 use Rattle.fence_law.proofs.Acked.{Known_done}
-use Rattle.fence_law.proofs.Later.{Unsettled, Later, Unserved, pay_or_touch, cells_end}
+use Rattle.fence_law.proofs.Later.{Unsettled, Later, Unserved, pay_or_touch, cells_end, unsettled_refenced, refenced_unsettled}
 use Rattle.fence_law.proofs.Chosen.{Late_ack, acks_same}
 
 -- no writer is at work beside a read under an outstanding grant
@@ -89,8 +90,8 @@ keep_quiet b (StartsRead c g lo hi reach) a code t f o r run n kd d u m q y late
           (λ k z. ap (λ y. y k z) (updated_at b.applied b.count (λ k z. false) i same), λ p. inl (ap (λ y. y p) (updated_at b.chosen b.count (λ p. false) i same)))
       | inr w ↦ quiet_old b (read_start b c g lo hi reach) r h e j (sym w.1 ∙ go) tag i x low high rx tx
     ]
-keep_quiet b (Repairs k z e0) a code t f o r run n kd d u m q y late h = λ c j go tag i x low high rx tx. let v = r.reads c j go in
-    let e : updated b.start b.count (repair_start b k z e0) j ≡ b.start j = grind (arith, updated_read b.start b.count (repair_start b k z e0) j, v.below) in
+keep_quiet b (Repairs k which e0) a code t f o r run n kd d u m q y late h = λ c j go tag i x low high rx tx. let v = r.reads c j go in
+    let e : updated b.start b.count (repair_start b k which e0) j ≡ b.start j = grind (arith, updated_read b.start b.count (repair_start b k which e0) j, v.below) in
     absurd (true≢false (sym a.at_work ∙ read_over b c j go (rw e at tag) o r m))
 keep_quiet b (Rebuilds k cells) a code t f o r run n kd d u m q y late h = λ c j go tag i x low high rx tx. let v = r.reads c j go in
     let e : updated b.start b.count (rebuilt_start b k cells) j ≡ b.start j = grind (arith, updated_read b.start b.count (rebuilt_start b k cells) j, v.below) in
@@ -102,6 +103,7 @@ keep_quiet b (EndsRead c j) a code t f o r run n kd d u m q y late h = quiet_cal
 keep_quiet b (Performs w) a code t f o r run n kd d u m q y late h = quiet_performs b w (fresh_open b w a.comes (now_fresh b w a t f n) n d u) o r q y h
 keep_quiet b (Repaired done e0) a code t f o r run n kd d u m q y late h = λ c j go tag i x low high rx tx. absurd (true≢false (sym a.runs ∙ read_over b c j go tag o r m))
 keep_quiet b Fenced a code t f o r run n kd d u m q y late h = λ c j go tag i x low high rx tx. let v = r.reads c j go in absurd (grind (arith, o.has c v.under.0 v.under.1, v.under.2, tag))
+keep_quiet b Refenced a code t f o r run n kd d u m q y late h = λ c j go tag i x low high rx tx. let v = r.reads c j go in absurd (grind (arith, o.has c v.under.0 v.under.1, v.under.2, tag))
 keep_quiet b e a code t f o r run n kd d u m q y late h = h
 
 -- a new entry changes nothing before it
@@ -163,13 +165,13 @@ cells_performs b m o f dead lt us h k z l = let content = (b.start m.entry).cont
       ]
 ]
 
-cells_mends : (b : State) (k z : ℕ) (e0 : ℕ → ℕ) → Cells b → Cells (after b (Repairs k z e0))
-cells_mends b k z e0 h f y l = let v : ℕ = b.layout.word k z e0 in let old = h f y l in
-    rw (ct_new b (repair_start b k z e0) (λ f y. updated (λ w. false) k true f) f y) (elim (cases_eq f k) [
-      | inr ne ↦ rw (updated_other b.cell k (updated (b.cell k) z v) f ne, updated_other (λ z. false) k true f ne) old
-      | inl e ↦ rw (updated_at (λ z. false) k true f e, eq-eqb f k e) (ap (λ w. w y) (updated_at b.cell k (updated (b.cell k) z v) f e) ∙ elim (cases_eq y z) [
-        | inl w ↦ rw (updated_at (b.cell k) z v y w, eq-eqb y z w) refl
-        | inr ne ↦ rw (updated_other (b.cell k) z v y ne, ne_eqb y z ne) (ap (λ w. b.cell w y) (sym e) ∙ old)
+cells_mends : (b : State) (k : ℕ) (which : ℕ → Bool) (e0 : ℕ → ℕ) → Cells b → Cells (after b (Repairs k which e0))
+cells_mends b k which e0 h f y l = let new : ℕ → ℕ = λ w. cond (which w) (b.layout.word k w e0) (b.cell k w) in let old = h f y l in
+    rw (ct_new b (repair_start b k which e0) (λ f y. updated (λ w. false) k true f) f y) (elim (cases_eq f k) [
+      | inr ne ↦ rw (updated_other b.cell k new f ne, updated_other (λ z. false) k true f ne) old
+      | inl e ↦ rw (updated_at (λ z. false) k true f e, eq-eqb f k e) (ap (λ w. w y) (updated_at b.cell k new f e) ∙ elim (cases_Bool (which y)) [
+        | inl on ↦ rw on refl
+        | inr off ↦ rw off (ap (λ w. b.cell w y) (sym e) ∙ old)
       ])
     ])
 
@@ -182,9 +184,9 @@ cells_rebuilds b k cells h f y l = rw (ct_new b (rebuilt_start b k cells) (λ f 
 pub keep_cells : (b : State) (e : Event) → Allowed b e → Tags b → Formed b → Known b → Unacked b → Dead b → Later b → Unserved b → Gone_lost b → Cells b → Cells (after b e)
 keep_cells b (StartsWrite c g i d touch hit seen e1 pt) a t f n u dead lt us gl h = cells_starts b (written_start b c g d touch hit seen e1 pt) h
 keep_cells b (StartsRead c g lo hi reach) a t f n u dead lt us gl h = cells_starts b (read_start b c g lo hi reach) h
-keep_cells b (Repairs k z e0) a t f n u dead lt us gl h = cells_mends b k z e0 h
+keep_cells b (Repairs k which e0) a t f n u dead lt us gl h = cells_mends b k which e0 h
 keep_cells b (Rebuilds k cells) a t f n u dead lt us gl h = cells_rebuilds b k cells h
-keep_cells b (Grants c rw range extending) a t f n u dead lt us gl h = λ k z l. h k z (or_off (b.gone k) (b.missing k) l)
+keep_cells b (Grants c number rw range extending) a t f n u dead lt us gl h = λ k z l. h k z (or_off (b.gone k) (b.missing k) l)
 keep_cells b (Loses c k0) a t f n u dead lt us gl h = λ k z l. h k z (up_off b.gone k0 k l)
 keep_cells b (PerformsLost m) a t f n u dead lt us gl h = λ k z l. ap (λ y. y z) (updated_other b.cell m.at (λ y. over ((b.start m.entry).part m.at y == m.part) ((b.start m.entry).content m.at y) (b.cell m.at y)) k (λ e. true≢false (sym a.lost ∙ ap b.gone (sym e) ∙ l))) ∙ h k z l
 keep_cells b Fenced a t f n u dead lt us gl h = λ q z l. h q z (not_gone b q gl l)

@@ -4,7 +4,7 @@ use Rattle.std.proofs.Common.{◌≡◌, ℕ, ◌+◌, ◌<◌, Bool, true, fals
 use Rattle.fence_law.specs.Words.{updated, In}
 use Rattle.fence_law.specs.Machine.{State, Event, Allowed, after, RequestKind, Grant, granted}
 use Rattle.fence_law.specs.Machine.RequestKind.{Get, Return}
-use Rattle.fence_law.specs.Machine.Event.{Asks, Grants, Refuses, Takes, AsksOther, ServesOther, GivesBack, Reports, Forgets, Frees, Fenced, TakesRefusal, Leaves}
+use Rattle.fence_law.specs.Machine.Event.{Asks, Grants, Refuses, Takes, AsksOther, ServesOther, GivesBack, Reports, Forgets, Frees, Fenced, Refenced, TakesRefusal, Leaves}
 use Rattle.fence_law.proofs.Words.{updated_read}
 use Rattle.fence_law.proofs.Slots.{Slots}
 
@@ -42,13 +42,13 @@ keep_asks b c rw a s h = record {
   apart = h.apart;
 }
 
-keep_grants : (b : State) (c : ℕ) (rw : Bool) (range : ℕ → Bool) (extending : Bool) → Allowed b (Grants c rw range extending) → Slots b → Holds b → Holds (after b (Grants c rw range extending))
-keep_grants b c rw range extending a s h = let now = served_now b c (Get rw) a.asks s in record {
+keep_grants : (b : State) (c number : ℕ) (rw : Bool) (range : ℕ → Bool) (extending : Bool) → Allowed b (Grants c number rw range extending) → Slots b → Holds b → Holds (after b (Grants c number rw range extending))
+keep_grants b c number rw range extending a s h = let now = served_now b c (Get rw) a.asks s in record {
   waits = h.waits;
-  has = λ d g e. grind (arith, updated_read b.outstanding c (Some (granted b c rw range extending)) d, h.has d g, h.waits c, now);
-  comes = λ d g w e k. grind (arith, updated_read b.slot c (b.slot c + 1) d, updated_read b.kept_grant c (Some (granted b c rw range extending)) d, updated_read b.outstanding c (Some (granted b c rw range extending)) d, h.comes d g);
-  eras = λ d g e. grind (arith, updated_read b.outstanding c (Some (granted b c rw range extending)) d, h.eras d g);
-  apart = λ d f g k ne x y z p q. grind (arith, updated_read b.outstanding c (Some (granted b c rw range extending)) d, updated_read b.outstanding c (Some (granted b c rw range extending)) f, λ (u : b.outstanding d ≡ Some g) (v : b.outstanding f ≡ Some k). h.apart d f g k ne u v z p q, λ (u : b.outstanding d ≡ Some g). a.apart d g u z, λ (u : b.outstanding f ≡ Some k). a.apart f k u z);
+  has = λ d g e. grind (arith, updated_read b.outstanding c (Some (granted b c number rw range extending)) d, h.has d g, h.waits c, now);
+  comes = λ d g w e k. grind (arith, updated_read b.slot c (b.slot c + 1) d, updated_read b.kept_grant c (Some (granted b c number rw range extending)) d, updated_read b.outstanding c (Some (granted b c number rw range extending)) d, h.comes d g);
+  eras = λ d g e. grind (arith, updated_read b.outstanding c (Some (granted b c number rw range extending)) d, h.eras d g);
+  apart = λ d f g k ne x y z p q. grind (arith, updated_read b.outstanding c (Some (granted b c number rw range extending)) d, updated_read b.outstanding c (Some (granted b c number rw range extending)) f, λ (u : b.outstanding d ≡ Some g) (v : b.outstanding f ≡ Some k). h.apart d f g k ne u v z p q, λ (u : b.outstanding d ≡ Some g). a.apart d g u z, λ (u : b.outstanding f ≡ Some k). a.apart f k u z);
 }
 
 keep_refuses : (b : State) (c : ℕ) (kind : RequestKind) → Allowed b (Refuses c kind) → Slots b → Holds b → Holds (after b (Refuses c kind))
@@ -116,7 +116,7 @@ keep_serves_other b c a h = record { waits = h.waits; has = h.has; comes = λ d 
 
 pub keep_holds : (b : State) (e : Event) → Allowed b e → Slots b → Holds b → Holds (after b e)
 keep_holds b (Asks c rw) a s h = keep_asks b c rw a s h
-keep_holds b (Grants c rw range extending) a s h = keep_grants b c rw range extending a s h
+keep_holds b (Grants c number rw range extending) a s h = keep_grants b c number rw range extending a s h
 keep_holds b (Refuses c kind) a s h = keep_refuses b c kind a s h
 keep_holds b (Frees c) a s h = keep_frees b c a s h
 keep_holds b (Takes c o s0) a s h = keep_takes b c o s0 a s h
@@ -134,4 +134,5 @@ keep_holds b (Leaves c g) a s h = record {
 keep_holds b (AsksOther c) a s h = keep_asks_other b c a h
 keep_holds b (ServesOther c) a s h = keep_serves_other b c a h
 keep_holds b Fenced a s h = keep_fenced b s h
+keep_holds b Refenced a s h = keep_fenced b s h
 keep_holds b e a s h = h

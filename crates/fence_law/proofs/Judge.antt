@@ -13,11 +13,12 @@ use Rattle.fence_law.specs.Machine.{State, Layout, Event, Allowed, Lawful, after
 use Rattle.fence_law.specs.Machine.Call.{Reads}
 use Rattle.fence_law.specs.Machine.Event.{StartsWrite, StartsRead, Acknowledges, Answers, Repairs, Repaired, Rebuilds}
 use Rattle.fence_law.specs.Log.{gives, SameAnswer, IsEntry, IsLog}
-use Rattle.fence_law.specs.Law.{byte_before, size_before, IsCode, Calms, IsJudged, IsWhole, reached}
+use Rattle.fence_law.specs.Law.{byte_before, size_before, IsCode, Calms, IsAudited, IsJudged, IsWhole, reached}
 use Rattle.fence_law.proofs.Words.{updated_at, updated_other, updated_read}
 use Rattle.fence_law.proofs.Chains.{chain-next, chain-none, over_none}
-use Rattle.fence_law.proofs.Formed.{not_gone, added}
-use Rattle.fence_law.proofs.Later.{before_unsettled}
+use Rattle.fence_law.proofs.Formed.{not_gone, added, bytes_before}
+use Rattle.fence_law.proofs.WholeNow.{calm_whole}
+use Rattle.fence_law.proofs.Later.{before_unsettled, unsettled_none}
 use Rattle.fence_law.proofs.Chosen.{at_acks, at_mended}
 use Rattle.fence_law.proofs.Held.{at_added}
 use Rattle.fence_law.proofs.Accepted.{Sure, keep_sure, sure_first}
@@ -54,14 +55,14 @@ answered_now b c i f a s h j g low ans = elim (cases_eq j i) [
         alive = ap (λ y. (b.start y).alive) (sym a.told.2) ∙ sh.alive;
         client = (s.safe.formed i low2).reads (s.safe.running.reads c i a.runs);
         read = s.safe.running.reads c i a.runs;
-        right = λ p want. a.all p want (byte_before b i) (agrees b c i (b.layout.col p) a.runs ((s.safe.formed i low2).wants p want) s);
+        right = λ p want. a.all p want (byte_before b i) (bytes_before b i (omega (arith, low2)) s.safe.formed) (agrees b c i (b.layout.col p) a.runs ((s.safe.formed i low2).wants p want) s);
       })
 ]
 
 keep_answered : (b : State) (e : Event) → Allowed b e → Sure b → Answered b → Answered (after b e)
 keep_answered b (StartsWrite c g i d touch hit seen e1 pt) a s h = answered_added b (written_start b c g d touch hit seen e1 pt) (λ k z. false) h
 keep_answered b (StartsRead c g lo hi reach) a s h = answered_added b (read_start b c g lo hi reach) (λ k z. false) h
-keep_answered b (Repairs k z e0) a s h = answered_added b (repair_start b k z e0) (λ f y. updated (λ w. false) k true f) h
+keep_answered b (Repairs k which e0) a s h = answered_added b (repair_start b k which e0) (λ f y. updated (λ w. false) k true f) h
 keep_answered b (Rebuilds k cells) a s h = answered_added b (rebuilt_start b k cells) (λ f y. updated (λ w. false) k true f) h
 keep_answered b (Answers c j f) a s h = answered_now b c j f a s h
 keep_answered b (Acknowledges c i) a s h = λ j f low ans. let w = h j f low ans in record {
@@ -253,8 +254,15 @@ pub is_judged : IsJudged
 is_judged m es log code l c il = let b : State = reached m es in (front_judged b b.count log (right_end m es code l c) (omega arith) il).0
 
 pub is_whole : IsWhole
-is_whole m es x code l c calm_here = let b : State = reached m es in let r = right_end m es code l c in (
-  byte_before b b.count,
-  λ k z is here lo. let g = not_gone b k r.sure.safe.gone_lost lo in r.sure.safe.cells k z g ∙ r.sure.whole k z is g (λ d. calm_here (rw here at d)),
-  λ log il q here. contained _ _ ((front_judged b b.count log r (omega arith) il).1.byte q),
-)
+is_whole m es code l c = let b : State = reached m es in let r = right_end m es code l c in record {
+  bytes = bytes_before b b.count (omega arith) r.sure.safe.formed;
+  among = λ log il q. contained _ _ ((front_judged b b.count log r (omega arith) il).1.byte q);
+  undisturbed = λ x none k z is here g. r.sure.safe.cells k z g ∙ r.sure.whole k z is g (λ d. none (rw here at d));
+  settled = λ x none k z is here g. r.sure.safe.cells k z g ∙ calm_whole b x r.sure.safe.formed r.sure.settled_ r.sure.whole none k z is here g;
+  stands = λ k lo. not_gone b k r.sure.safe.gone_lost lo;
+  replies = λ e j x run rx. (agrees b e j x run rx r.sure, bytes_before b j (let u = r.sure.safe.calls.reads e j run in let w = u.below in omega (arith, w)) r.sure.safe.formed);
+}
+
+-- with no repair and no outstanding grant nothing is unsettled
+pub is_audited : IsAudited
+is_audited m es x code l c over none = (is_whole m es code l c).settled x (λ j u t. unsettled_none (reached m es) j over (right_end m es code l c).sure.safe.eras none u)

@@ -6,7 +6,8 @@ use Rattle.std.proofs.lemmas.Option.{same_Some}
 use Rattle.fence_law.specs.Words.{updated}
 use Rattle.fence_law.specs.Machine.{State, Event, Allowed, after, Grant, Start, written_start, read_start, repair_start, rebuilt_start}
 use Rattle.fence_law.specs.Machine.Call.{Idle, Reads}
-use Rattle.fence_law.specs.Machine.Event.{Fenced, StartsWrite, StartsRead, Acknowledges, Repairs, Repaired, Rebuilds}
+use Rattle.fence_law.specs.Machine.Event.{Fenced, Refenced, StartsWrite, StartsRead, Acknowledges, Repairs, Repaired, Rebuilds}
+use Rattle.fence_law.specs.Law.{IsUnsettled}
 use Rattle.fence_law.proofs.Words.{updated_other, updated_read}
 use Rattle.fence_law.proofs.Holds.{Holds}
 use Rattle.fence_law.proofs.Commands.{Calls}
@@ -15,9 +16,8 @@ use Rattle.fence_law.proofs.Open.{Dead, Open, open_added, open_acks, open_fenced
 use Rattle.fence_law.proofs.Live.{Eras, Busy, busy_free}
 use Rattle.fence_law.proofs.Acked.{option_cases}
 
--- a write under an outstanding grant, or under one that the last fence ended while its repair runs, that isn't acknowledged
 abbrev pub Unsettled : State → ℕ → Type 0
-Unsettled b j = (j < b.count) × ((b.start j).is_write ≡ true) × ((b.start j).alive ≡ true) × (b.acknowledged j ≡ false) × (((b.start j).tag ≡ b.tag) ⊎ ((b.repairing ≡ true) × ((b.start j).tag + 1 ≡ b.tag)))
+Unsettled b j = IsUnsettled b j
 
 pub open_unsettled : (b : State) (j : ℕ) → Open b j → Unsettled b j
 open_unsettled b j o = (o.0, o.1, o.2, o.3, inl o.4)
@@ -29,7 +29,7 @@ pub nobody : (b : State) → Eras b → ((c : ℕ) → b.outstanding c ≡ None)
 nobody b q none j o = grind (arith, (q j o).1, none (b.start j).client)
 
 pub unsettled_added : (b : State) (s : Start) (row : ℕ → ℕ → Bool) (j : ℕ) → Unsettled (added b s row) j →
-    ((j ≡ b.count) × (s.is_write ≡ true) × (s.alive ≡ true) × ((s.tag ≡ b.tag) ⊎ ((b.repairing ≡ true) × (s.tag + 1 ≡ b.tag)))) ⊎ ((j ≡ b.count → ⊥) × Unsettled b j)
+    ((j ≡ b.count) × (s.is_write ≡ true) × (s.alive ≡ true) × ((s.tag ≡ b.tag) ⊎ ((b.repairing ≡ true) × (s.tag ≡ b.ended_tag)))) ⊎ ((j ≡ b.count → ⊥) × Unsettled b j)
 unsettled_added b s row j o = elim (updated_read b.start b.count s j).1 [
   | inl w ↦ inl (w.0, rw w.1 at o.1, rw w.1 at o.2, rw w.1 at o.4)
   | inr w ↦ inr (w.0, (grind (arith, o.0, w.0), rw w.1 at o.1, rw w.1 at o.2, rw (updated_other b.acknowledged b.count false j w.0) at o.3, rw w.1 at o.4))
@@ -43,6 +43,12 @@ unsettled_acks b i j o = elim (updated_read b.acknowledged i true j).1 [
 
 pub unsettled_fenced : (b : State) (j : ℕ) → Formed b → Unsettled (after b Fenced) j → Unsettled b j
 unsettled_fenced b j f o = (o.0, o.1, o.2, o.3, inl (grind (arith, (f j o.0).low, o.4)))
+
+pub unsettled_refenced : (b : State) (j : ℕ) → Formed b → Unsettled (after b Refenced) j → Unsettled b j
+unsettled_refenced b j f o = (o.0, o.1, o.2, o.3, elim o.4 [ inl e ↦ absurd (let l = (f j o.0).low in omega (arith, l, e)) | inr e ↦ inr e ])
+
+pub refenced_unsettled : (b : State) (j : ℕ) → b.repairing ≡ true → Mending b → Eras b → Unsettled b j → Unsettled (after b Refenced) j
+refenced_unsettled b j m n q o = (o.0, o.1, o.2, o.3, elim o.4 [ inl e ↦ absurd (none_open b j m n q (o.0, o.1, o.2, o.3, e)) | inr e ↦ inr e ])
 
 pub unsettled_mended : (b : State) (j : ℕ) → b.repairing ≡ true → Mending b → Eras b → Unsettled (record b { repairing = false }) j → ⊥
 unsettled_mended b j m n q o = none_open b j m n q (o.0, o.1, o.2, o.3, grind (arith, o.4))
@@ -87,10 +93,11 @@ gathered_covers b c g i d touch hit seen e1 pt a r x t = let u = r.reads c i a.g
 pub keep_later : (b : State) (e : Event) → Allowed b e → Calls b → Holds b → Formed b → Mending b → Eras b → Busy b → Later b → Later (after b e)
 keep_later b (StartsWrite c g i d touch hit seen e1 pt) a r o f n q y h = later_added b (written_start b c g d touch hit seen e1 pt) (λ k z. false) (λ j x z t u sv. later_starts b c g a.has (inr (i, a.gathers)) o n q y j x z t (gathered_covers b c g i d touch hit seen e1 pt a r x u)) h
 keep_later b (StartsRead c g lo hi reach) a r o f n q y h = later_added b (read_start b c g lo hi reach) (λ k z. false) (λ j x z t u sv. later_starts b c g a.has (inl a.idle) o n q y j x z t (a.within x u)) h
-keep_later b (Repairs k z e0) a r o f n q y h = later_added b (repair_start b k z e0) (λ f y. updated (λ w. false) k true f) (λ j x u t r2 sv. absurd (true≢false sv)) h
+keep_later b (Repairs k which e0) a r o f n q y h = later_added b (repair_start b k which e0) (λ f y. updated (λ w. false) k true f) (λ j x u t r2 sv. absurd (true≢false sv)) h
 keep_later b (Rebuilds k cells) a r o f n q y h = later_added b (rebuilt_start b k cells) (λ f y. updated (λ w. false) k true f) (λ j x u t r2 sv. absurd (true≢false sv)) h
 keep_later b (Acknowledges c i) a r o f n q y h = λ j x. h j (unsettled_acks b i j x).1
 keep_later b Fenced a r o f n q y h = λ j x. h j (unsettled_fenced b j f x)
+keep_later b Refenced a r o f n q y h = λ j x. h j (unsettled_refenced b j f x)
 keep_later b (Repaired done e0) a r o f n q y h = λ j x. absurd (unsettled_mended b j a.runs n q x)
 keep_later b e a r o f n q y h = h
 
@@ -106,10 +113,11 @@ unserved_added b s row new h j o i low high = elim (open_added b s row j o) [
 pub keep_unserved : (b : State) (e : Event) → Allowed b e → Formed b → Mending b → Eras b → Unserved b → Unserved (after b e)
 keep_unserved b (StartsWrite c g i d touch hit seen e1 pt) a f n q h = unserved_added b (written_start b c g d touch hit seen e1 pt) (λ k z. false) (inl refl) h
 keep_unserved b (StartsRead c g lo hi reach) a f n q h = unserved_added b (read_start b c g lo hi reach) (λ k z. false) (inl refl) h
-keep_unserved b (Repairs k z e0) a f n q h = unserved_added b (repair_start b k z e0) (λ f y. updated (λ w. false) k true f) (inr (λ j o. none_open b j a.at_work n q o)) h
+keep_unserved b (Repairs k which e0) a f n q h = unserved_added b (repair_start b k which e0) (λ f y. updated (λ w. false) k true f) (inr (λ j o. none_open b j a.at_work n q o)) h
 keep_unserved b (Rebuilds k cells) a f n q h = unserved_added b (rebuilt_start b k cells) (λ f y. updated (λ w. false) k true f) (inr (nobody b q a.none)) h
 keep_unserved b (Acknowledges c i) a f n q h = λ j x. h j (open_acks b i j x).1
 keep_unserved b Fenced a f n q h = λ j x. absurd (open_fenced b j f x)
+keep_unserved b Refenced a f n q h = λ j x. absurd (open_fenced b j f x)
 keep_unserved b e a f n q h = h
 
 -- an entry of a client that lives stands before an unsettled write of a column that it reaches

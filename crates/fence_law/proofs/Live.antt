@@ -1,13 +1,13 @@
 -- Kept: an open write's grant is outstanding, for writing, and covers it; its client is at it or has given up, and sends no clean return.
 -- So the server can't free the grant, and a fence that ends it lifts the tag.
-use Rattle.std.proofs.Common.{◌≡◌, ℕ, ◌+◌, ◌<◌, Bool, true, false, Option, Some, None, ◌⊎◌, refl, sym, ◌∙◌, inl, inr, arith}
+use Rattle.std.proofs.Common.{◌≡◌, ℕ, ◌+◌, ◌<◌, ◌≤◌, Bool, true, false, Option, Some, None, ◌⊎◌, refl, sym, ◌∙◌, inl, inr, arith}
 use Rattle.std.proofs.lemmas.Bool.{cases_eq, true≢false}
 use Rattle.std.proofs.lemmas.Option.{same_Some}
 use Rattle.fence_law.specs.Words.{updated, In}
 use Rattle.fence_law.specs.Machine.{State, Event, Allowed, after, RequestKind, Grant, Call, Start, granted, written_start, read_start, repair_start, rebuilt_start}
 use Rattle.fence_law.specs.Machine.RequestKind.{Get, Return}
 use Rattle.fence_law.specs.Machine.Call.{Idle, Writes, Reads, Broken}
-use Rattle.fence_law.specs.Machine.Event.{Asks, Grants, Refuses, Takes, AsksOther, ServesOther, GivesBack, Reports, Forgets, Frees, Fenced, StartsWrite, StartsRead, Acknowledges, Breaks, Answers, EndsRead, Repairs, Rebuilds, TakesRefusal, Leaves}
+use Rattle.fence_law.specs.Machine.Event.{Asks, Grants, Refuses, Takes, AsksOther, ServesOther, GivesBack, Reports, Forgets, Frees, Fenced, Refenced, StartsWrite, StartsRead, Acknowledges, Breaks, Answers, EndsRead, Repairs, Rebuilds, TakesRefusal, Leaves}
 use Rattle.fence_law.proofs.Words.{updated_other, updated_read, updated_same}
 use Rattle.fence_law.proofs.Slots.{Slots}
 use Rattle.fence_law.proofs.Holds.{Holds, taken_now, served_now}
@@ -27,9 +27,9 @@ unused_asks b c free s h j l w g x e k = let d : ℕ = (b.start j).client in
 unused_served : (b : State) (c : ℕ) → Unused b → Unused (record b { slot = updated b.slot c (b.slot c + 1); kept_grant = updated b.kept_grant c None })
 unused_served b c h j l w g x e k = let d : ℕ = (b.start j).client in grind (arith, updated_read b.slot c (b.slot c + 1) d, updated_read b.kept_grant c None d, h j l w g)
 
-unused_grants : (b : State) (c : ℕ) (rw : Bool) (range : ℕ → Bool) (extending : Bool) → Formed b → Unused b → Unused (after b (Grants c rw range extending))
-unused_grants b c rw range extending f h j l w g x e k = let d : ℕ = (b.start j).client in
-    grind (arith, updated_read b.slot c (b.slot c + 1) d, updated_read b.kept_grant c (Some (granted b c rw range extending)) d, h j l w g, (f j l).number w)
+unused_grants : (b : State) (c number : ℕ) (rw : Bool) (range : ℕ → Bool) (extending : Bool) → b.next ≤ number → Formed b → Unused b → Unused (after b (Grants c number rw range extending))
+unused_grants b c number rw range extending new f h j l w g x e k = let d : ℕ = (b.start j).client in
+    grind (arith, updated_read b.slot c (b.slot c + 1) d, updated_read b.kept_grant c (Some (granted b c number rw range extending)) d, h j l w g, (f j l).number w, new)
 
 unused_takes : (b : State) (c : ℕ) → Unused b → Unused (record b { waiting = updated b.waiting c false })
 unused_takes b c h j l w g x e k = grind (arith, updated_read b.waiting c false (b.start j).client, h j l w g)
@@ -46,13 +46,13 @@ keep_unused b (GivesBack c g) a s r f h = unused_asks b c a.free s h
 keep_unused b (Reports c g) a s r f h = unused_asks b c a.free s h
 keep_unused b (Refuses c kind) a s r f h = unused_served b c h
 keep_unused b (Frees c) a s r f h = unused_served b c h
-keep_unused b (Grants c rw range extending) a s r f h = unused_grants b c rw range extending f h
+keep_unused b (Grants c number rw range extending) a s r f h = unused_grants b c number rw range extending a.new f h
 keep_unused b (Takes c o s0) a s r f h = unused_takes b c h
 keep_unused b (AsksOther c) a s r f h = λ j l w g x e k. h j l w g x (grind (arith, updated_read b.sequence c (b.sequence c + 1) (b.start j).client, e, x, a.free)) k
 keep_unused b (ServesOther c) a s r f h = λ j l w g x e k. h j l w g x (grind (arith, updated_read b.slot c (b.slot c + 1) (b.start j).client, e, x, a.free)) k
 keep_unused b (StartsWrite c g i d touch hit seen e1 pt) a s r f h = unused_added b (written_start b c g d touch hit seen e1 pt) (λ k z. false) (λ w x. grind (arith, r.waits c x, a.has)) h
 keep_unused b (StartsRead c g lo hi reach) a s r f h = unused_added b (read_start b c g lo hi reach) (λ k z. false) (λ w. absurd (true≢false (sym w))) h
-keep_unused b (Repairs k z e0) a s r f h = unused_added b (repair_start b k z e0) (λ f y. updated (λ w. false) k true f) (λ w. absurd (true≢false (sym w))) h
+keep_unused b (Repairs k which e0) a s r f h = unused_added b (repair_start b k which e0) (λ f y. updated (λ w. false) k true f) (λ w. absurd (true≢false (sym w))) h
 keep_unused b (Rebuilds k cells) a s r f h = unused_added b (rebuilt_start b k cells) (λ f y. updated (λ w. false) k true f) (λ w. absurd (true≢false (sym w))) h
 keep_unused b e a s r f h = h
 
@@ -68,8 +68,8 @@ Busy b = (j : ℕ) → Open b j → (b.held (b.start j).client ≡ None) ⊎ ((b
 abbrev pub Unclean : State → Type 0
 Unclean b = (j : ℕ) → Open b j → b.waiting (b.start j).client ≡ true → b.asked (b.start j).client ≡ Return true → b.slot (b.start j).client ≡ b.sequence (b.start j).client
 
-eras_grants : (b : State) (c : ℕ) (rw : Bool) (range : ℕ → Bool) (extending : Bool) → Allowed b (Grants c rw range extending) → Eras b → Eras (after b (Grants c rw range extending))
-eras_grants b c rw range extending a h j o = let x = h j o in (x.0, grind (arith, x.1, a.none, updated_read b.outstanding c (Some (granted b c rw range extending)) (b.start j).client), x.2, x.3, x.4)
+eras_grants : (b : State) (c number : ℕ) (rw : Bool) (range : ℕ → Bool) (extending : Bool) → Allowed b (Grants c number rw range extending) → Eras b → Eras (after b (Grants c number rw range extending))
+eras_grants b c number rw range extending a h j o = let x = h j o in (x.0, grind (arith, x.1, a.none, updated_read b.outstanding c (Some (granted b c number rw range extending)) (b.start j).client), x.2, x.3, x.4)
 
 eras_frees : (b : State) (c : ℕ) → Allowed b (Frees c) → Slots b → Unclean b → Eras b → Eras (after b (Frees c))
 eras_frees b c a s u h j o = let x = h j o in (x.0, grind (arith, x.1, updated_read b.outstanding c None (b.start j).client, u j o, served_now b c (Return true) a s), x.2, x.3, x.4)
@@ -88,14 +88,15 @@ busy_free b c j g has free h o by = elim free [
 ]
 
 pub keep_eras : (b : State) (e : Event) → Allowed b e → Calls b → Slots b → Holds b → Formed b → Unclean b → Busy b → Eras b → Eras (after b e)
-keep_eras b (Grants c rw range extending) a r s o f u y h = eras_grants b c rw range extending a h
+keep_eras b (Grants c number rw range extending) a r s o f u y h = eras_grants b c number rw range extending a h
 keep_eras b (Leaves c g) a r s o f u y h = λ j op. let x = h j op in (x.0, updated_other b.outstanding c None (b.start j).client (λ e. busy_free b c j g a.has (inl a.idle) y op e) ∙ x.1, x.2, x.3, x.4)
 keep_eras b (Frees c) a r s o f u y h = eras_frees b c a s u h
 keep_eras b Fenced a r s o f u y h = λ j x. absurd (open_fenced b j f x)
+keep_eras b Refenced a r s o f u y h = λ j x. absurd (open_fenced b j f x)
 keep_eras b (StartsWrite c g i d touch hit seen e1 pt) a r s o f u y h = eras_added b (written_start b c g d touch hit seen e1 pt) (λ k z. false)
     (λ w t. (g, grind (arith, o.has c g a.has, t), refl, a.may, λ x z. let u2 = r.reads c i a.gathers in let same : Some u2.under.0 ≡ Some g = sym u2.under.1 ∙ a.has in rw (same_Some u2.under.0 g same) at (u2.under.3 x (a.gathered x z)))) h
 keep_eras b (StartsRead c g lo hi reach) a r s o f u y h = eras_added b (read_start b c g lo hi reach) (λ k z. false) (λ w. absurd (true≢false (sym w))) h
-keep_eras b (Repairs k z e0) a r s o f u y h = eras_added b (repair_start b k z e0) (λ f y. updated (λ w. false) k true f) (λ w. absurd (true≢false (sym w))) h
+keep_eras b (Repairs k which e0) a r s o f u y h = eras_added b (repair_start b k which e0) (λ f y. updated (λ w. false) k true f) (λ w. absurd (true≢false (sym w))) h
 keep_eras b (Rebuilds k cells) a r s o f u y h = eras_added b (rebuilt_start b k cells) (λ f y. updated (λ w. false) k true f) (λ w. absurd (true≢false (sym w))) h
 keep_eras b (Acknowledges c j) a r s o f u y h = λ i x. h i (open_acks b j i x).1
 keep_eras b e a r s o f u y h = h
@@ -141,13 +142,14 @@ keep_busy b (Forgets c) a s r f u q h = busy_leaves b c h
 keep_busy b (TakesRefusal c j0) a s r f u q h = busy_leaves b c h
 keep_busy b (StartsWrite c g i d touch hit seen e1 pt) a s r f u q h = busy_added_idle b (written_start b c g d touch hit seen e1 pt) (λ k z. false) c (Writes b.count) (λ w. (refl, refl)) (λ j o by. busy_free b c j g a.has (inr (i, a.gathers)) h o by) h
 keep_busy b (StartsRead c g lo hi reach) a s r f u q h = busy_added_idle b (read_start b c g lo hi reach) (λ k z. false) c (Reads b.count) (λ w. absurd (true≢false (sym w))) (λ j o by. busy_free b c j g a.has (inl a.idle) h o by) h
-keep_busy b (Repairs k z e0) a s r f u q h = busy_added b (repair_start b k z e0) (λ f y. updated (λ w. false) k true f) refl h
+keep_busy b (Repairs k which e0) a s r f u q h = busy_added b (repair_start b k which e0) (λ f y. updated (λ w. false) k true f) refl h
 keep_busy b (Rebuilds k cells) a s r f u q h = busy_added b (rebuilt_start b k cells) (λ f y. updated (λ w. false) k true f) refl h
 keep_busy b (Acknowledges c j) a s r f u q h = busy_acks b c j a h
 keep_busy b (Breaks c j) a s r f u q h = busy_breaks b c h
 keep_busy b (Answers c j f2) a s r f u q h = busy_reads b c j a.runs h
 keep_busy b (EndsRead c j) a s r f u q h = busy_reads b c j a h
 keep_busy b Fenced a s r f u q h = λ j x. absurd (open_fenced b j f x)
+keep_busy b Refenced a s r f u q h = λ j x. absurd (open_fenced b j f x)
 keep_busy b e a s r f u q h = h
 
 unclean_asks : (b : State) (c : ℕ) (kind : RequestKind) → ((kind ≡ Return true) → (j : ℕ) → Open b j → (b.start j).client ≡ c → ⊥) → b.waiting c ≡ false → Unclean b →
@@ -174,7 +176,7 @@ pub keep_unclean : (b : State) (e : Event) → Allowed b e → Slots b → Holds
 keep_unclean b (Asks c rw) a s r f y h = unclean_asks b c (Get rw) (λ e. absurd (cc e)) a.free h
 keep_unclean b (GivesBack c g) a s r f y h = unclean_asks b c (Return true) (λ e j o by. busy_free b c j g a.has (inl a.idle) y o by) a.free h
 keep_unclean b (Reports c g) a s r f y h = unclean_asks b c (Return false) (λ e. absurd (cc e)) a.free h
-keep_unclean b (Grants c rw range extending) a s r f y h = unclean_served b c (Get rw) a.asks s h
+keep_unclean b (Grants c number rw range extending) a s r f y h = unclean_served b c (Get rw) a.asks s h
 keep_unclean b (Refuses c kind) a s r f y h = unclean_served b c kind a.asks s h
 keep_unclean b (Frees c) a s r f y h = unclean_served b c (Return true) a s h
 keep_unclean b (Takes c o s0) a s r f y h = unclean_takes b c h
@@ -182,8 +184,9 @@ keep_unclean b (AsksOther c) a s r f y h = λ j o w e. grind (arith, updated_rea
 keep_unclean b (ServesOther c) a s r f y h = λ j o w e. grind (arith, updated_read b.slot c (b.slot c + 1) (b.start j).client, h j o w e, w, a.free)
 keep_unclean b (StartsWrite c g i d touch hit seen e1 pt) a s r f y h = unclean_added b (written_start b c g d touch hit seen e1 pt) (λ k z. false) (λ w x. grind (arith, r.waits c x, a.has)) h
 keep_unclean b (StartsRead c g lo hi reach) a s r f y h = unclean_added b (read_start b c g lo hi reach) (λ k z. false) (λ w. absurd (true≢false (sym w))) h
-keep_unclean b (Repairs k z e0) a s r f y h = unclean_added b (repair_start b k z e0) (λ f y. updated (λ w. false) k true f) (λ w. absurd (true≢false (sym w))) h
+keep_unclean b (Repairs k which e0) a s r f y h = unclean_added b (repair_start b k which e0) (λ f y. updated (λ w. false) k true f) (λ w. absurd (true≢false (sym w))) h
 keep_unclean b (Rebuilds k cells) a s r f y h = unclean_added b (rebuilt_start b k cells) (λ f y. updated (λ w. false) k true f) (λ w. absurd (true≢false (sym w))) h
 keep_unclean b (Acknowledges c i) a s r f y h = λ j o. h j (open_acks b i j o).1
 keep_unclean b Fenced a s r f y h = λ j x. absurd (open_fenced b j f x)
+keep_unclean b Refenced a s r f y h = λ j x. absurd (open_fenced b j f x)
 keep_unclean b e a s r f y h = h

@@ -1,7 +1,7 @@
 -- Kept: a replica that isn't gone holds what the log leaves, or the byte of an unsettled write.
 -- A repair takes each byte from a replica, so it is old or new, whatever the mixture.
 use Rattle.std.proofs.Common.{◌≡◌, ℕ, ◌+◌, Bool, true, false, ◌&&◌, ◌==◌, Option, Some, None, ◌⊎◌, refl, sym, ap, ◌∙◌, inl, inr, arith}
-use Rattle.std.proofs.lemmas.Bool.{and_right, eq-eqb, ne_eqb, cases_eq, true≢false}
+use Rattle.std.proofs.lemmas.Bool.{cases_Bool, and_right, eq-eqb, ne_eqb, cases_eq, true≢false}
 use Rattle.fence_law.specs.Words.{updated, over}
 use Rattle.fence_law.specs.Machine.{State, Allowed, after, Write, Start, repair_start, rebuilt_start, performed, overlaid, only}
 use Rattle.fence_law.specs.Machine.Event.{Performs, Acknowledges, Repairs, Rebuilds}
@@ -13,7 +13,7 @@ use Rattle.fence_law.proofs.Chains.{chain-next, chain_cares, chain_quiet, over_n
 use Rattle.fence_law.proofs.Formed.{added, Formed, Running}
 use Rattle.fence_law.proofs.Open.{Dead, Open}
 use Rattle.fence_law.proofs.Acked.{Known_done, acks_here, option_cases}
-use Rattle.fence_law.proofs.Later.{Unsettled, open_unsettled, Later, Unserved, pay_or_touch, bytes_end}
+use Rattle.fence_law.proofs.Later.{Unsettled, open_unsettled, Later, Unserved, pay_or_touch, bytes_end, unsettled_refenced, refenced_unsettled}
 use Rattle.fence_law.proofs.Chosen.{old_apart, three, Chosen_open, Late_ack, acks_same}
 use Rattle.fence_law.proofs.Held.{at_new, ct_new, ct_performs, ct_open, Cells}
 use Rattle.fence_law.proofs.Sound.{Sound}
@@ -48,18 +48,18 @@ pub mixed_added : (b : State) (s : Start) (row : ℕ → ℕ → Bool) (k z p : 
     (cell_before (added b s row) (b.count + 1) k z ≡ byte_before (added b s row) (b.count + 1) p) ⊎ Newer (added b s row) p (cell_before (added b s row) (b.count + 1) k z)
 mixed_added b s row k z p same h = elim h [ inl e ↦ inl (same ∙ e ∙ sym (at_new b s row p)) | inr w ↦ inr (newer_added b s row p _ _ same w) ]
 
-pub mixed_mends : (b : State) (k0 z0 : ℕ) (e0 : ℕ → ℕ) → Allowed b (Repairs k0 z0 e0) → IsCode b.layout → Cells b → Mixed b → Mixed (after b (Repairs k0 z0 e0))
-mixed_mends b k0 z0 e0 a code cells h k z p c l = let s : Start = repair_start b k0 z0 e0 in let row : ℕ → ℕ → Bool = λ f y. updated (λ w. false) k0 true f in let law = code.copies k z p c in
+pub mixed_mends : (b : State) (k0 : ℕ) (which : ℕ → Bool) (e0 : ℕ → ℕ) → Allowed b (Repairs k0 which e0) → IsCode b.layout → Cells b → Mixed b → Mixed (after b (Repairs k0 which e0))
+mixed_mends b k0 which e0 a code cells h k z p c l = let s : Start = repair_start b k0 which e0 in let row : ℕ → ℕ → Bool = λ f y. updated (λ w. false) k0 true f in let law = code.copies k z p c in
     elim (cases_eq k k0) [
       | inr ne ↦ mixed_added b s row k z p (ct_new b s row k z ∙ ap (λ y. over y (s.content k z) (cell_before b b.count k z)) (updated_other (λ f. false) k0 true k ne)) (h k z p c l)
-      | inl e ↦ elim (cases_eq z z0) [
+      | inl e ↦ elim (cases_Bool (which z)) [
         | inr ne ↦ mixed_added b s row k z p (ct_new b s row k z ∙ ap (λ y. over y (s.content k z) (cell_before b b.count k z)) (updated_at (λ f. false) k0 true k e) ∙
-            over_none true (s.content k z) _ (rw (ne_eqb z z0 ne) (only_off ((k == k0) && false) _ (and_right (k == k0) false refl)))) (h k z p c l)
+            over_none true (s.content k z) _ (rw ne (only_off ((k == k0) && false) _ (and_right (k == k0) false refl)))) (h k z p c l)
         | inl ez ↦
-            let new : cell_before (added b s row) (b.count + 1) k z ≡ b.layout.word k0 z0 e0 = ct_new b s row k z ∙ ap (λ y. over y (s.content k z) (cell_before b b.count k z)) (updated_at (λ f. false) k0 true k e) ∙
+            let new : cell_before (added b s row) (b.count + 1) k z ≡ b.layout.word k0 z e0 = ct_new b s row k z ∙ ap (λ y. over y (s.content k z) (cell_before b b.count k z)) (updated_at (λ f. false) k0 true k e) ∙
             ap (λ o. over true o (cell_before b b.count k z)) (pay_here e ez) in
-            let word1 : b.layout.word k0 z0 e0 ≡ e0 p = ap (λ y. b.layout.word y z0 e0) (sym e) ∙ ap (λ y. b.layout.word k y e0) (sym ez) ∙ law.2 e0 in
-            let src = a.all p (sym law.1 ∙ ap (b.layout.cell_col k) ez ∙ ap (λ y. b.layout.cell_col y z0) e) in
+            let word1 : b.layout.word k0 z e0 ≡ e0 p = ap (λ y. b.layout.word y z e0) (sym e) ∙ law.2 e0 in
+            let src = a.all z p ez (sym law.1 ∙ ap (λ y. b.layout.cell_col y z) e) in
             let val : cell_before (added b s row) (b.count + 1) k z ≡ cell_before b b.count src.0 src.1 = new ∙ word1 ∙ src.4 ∙ cells src.0 src.1 src.3 in
             elim (h src.0 src.1 p src.2 src.3) [
               | inl y ↦ inl (val ∙ y ∙ sym (at_new b s row p))
@@ -72,8 +72,8 @@ mixed_mends b k0 z0 e0 a code cells h k z p c l = let s : Start = repair_start b
     only_off true v e = absurd (true≢false e)
     only_off false v e = refl
 
-    pay_here : k ≡ k0 → z ≡ z0 → only ((k == k0) && (z == z0)) (b.layout.word k0 z0 e0) ≡ Some (b.layout.word k0 z0 e0)
-    pay_here e ez = rw (eq-eqb k k0 e, eq-eqb z z0 ez) refl
+    pay_here : k ≡ k0 → which z ≡ true → only ((k == k0) && which z) (b.layout.word k0 z e0) ≡ Some (b.layout.word k0 z e0)
+    pay_here e ez = rw (eq-eqb k k0 e, ez) refl
 
 pub mixed_rebuilds : (b : State) (k0 : ℕ) (cells : ℕ → ℕ) → ((z : ℕ) → b.layout.is_cell k0 z ≡ true → cells z ≡ b.layout.word k0 z (byte_before b b.count)) → IsCode b.layout → Mixed b → Mixed (after b (Rebuilds k0 cells))
 mixed_rebuilds b k0 cells right code h k z p c l = let s : Start = rebuilt_start b k0 cells in let row : ℕ → ℕ → Bool = λ f y. updated (λ w. false) k0 true f in let law = code.copies k z p c in

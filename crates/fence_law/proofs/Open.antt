@@ -6,7 +6,7 @@ use Rattle.fence_law.specs.Words.{updated, In}
 use Rattle.fence_law.specs.Machine.{State, Event, Allowed, after, Grant, Write, WriteReply, Call, PartState, Start, written_start, read_start, repair_start, rebuilt_start}
 use Rattle.fence_law.specs.Machine.Call.{Idle, Writes, Reads, Broken}
 use Rattle.fence_law.specs.Machine.PartState.{NotSent, Sent, Done}
-use Rattle.fence_law.specs.Machine.Event.{Reports, Forgets, Fenced, Sends, StartsWrite, StartsRead, Performs, Learns, Acknowledges, Breaks, Answers, EndsRead, Repairs, Rebuilds, TakesRefusal, Loses, Leaves, PerformsLost, Grants, Repaired, Frees}
+use Rattle.fence_law.specs.Machine.Event.{Reports, Forgets, Fenced, Refenced, Sends, StartsWrite, StartsRead, Performs, Learns, Acknowledges, Breaks, Answers, EndsRead, Repairs, Rebuilds, TakesRefusal, Loses, Leaves, PerformsLost, Grants, Repaired, Frees}
 use Rattle.fence_law.proofs.Words.{up_off, updated_other, updated_read}
 use Rattle.fence_law.proofs.Tags.{Tags}
 use Rattle.fence_law.proofs.Commands.{Calls}
@@ -35,25 +35,25 @@ known_added : (b : State) (s : Start) (row : ℕ → ℕ → Bool) → Known b �
 known_added b s row h m i = let k = h m i in let e : updated b.start b.count s m.entry ≡ b.start m.entry = grind (arith, updated_read b.start b.count s m.entry, k.entry) in
     record { nonce = k.nonce; entry = grind (arith, k.entry); by = rw e k.by; tag = rw e k.tag; write = rw e k.write }
 
-known_sends : (b : State) (c k : ℕ) (g : Grant) (j pi : ℕ) → Allowed b (Sends c k g j pi) → Calls b → Running b → Known b → Known (after b (Sends c k g j pi))
-known_sends b c k g j pi a r u h m i = elim i [
+known_sends : (b : State) (c k : ℕ) (g : Grant) (j pi fresh : ℕ) → Allowed b (Sends c k g j pi fresh) → Calls b → Running b → Known b → Known (after b (Sends c k g j pi fresh))
+known_sends b c k g j pi fresh a r u h m i = elim i [
   | inl e ↦ let run = r.writes c j a.runs in let same : Some run.under.0 ≡ Some g = sym run.under.1 ∙ a.has in
       record {
-        nonce = grind (arith, e, updated_read b.nonce c (b.nonce c + 1) m.holder);
+        nonce = grind (arith, e, updated_read b.nonce c fresh m.holder);
         entry = grind (arith, e, run.below);
         by = grind (arith, e, run.by);
         tag = grind (arith, e, run.under, same);
         write = grind (arith, e, u.writes c j a.runs);
       }
-  | inr o ↦ let w = h m o in record { nonce = grind (arith, w.nonce, updated_read b.nonce c (b.nonce c + 1) m.holder); entry = w.entry; by = w.by; tag = w.tag; write = w.write }
+  | inr o ↦ let w = h m o in record { nonce = grind (arith, w.nonce, updated_read b.nonce c fresh m.holder); entry = w.entry; by = w.by; tag = w.tag; write = w.write }
 ]
 
 pub keep_known : (b : State) (e : Event) → Allowed b e → Calls b → Running b → Known b → Known (after b e)
 keep_known b (StartsWrite c g i d touch hit seen e1 pt) a r u h = known_added b (written_start b c g d touch hit seen e1 pt) (λ k z. false) h
 keep_known b (StartsRead c g lo hi reach) a r u h = known_added b (read_start b c g lo hi reach) (λ k z. false) h
-keep_known b (Repairs k z e0) a r u h = known_added b (repair_start b k z e0) (λ f y. updated (λ w. false) k true f) h
+keep_known b (Repairs k which e0) a r u h = known_added b (repair_start b k which e0) (λ f y. updated (λ w. false) k true f) h
 keep_known b (Rebuilds k cells) a r u h = known_added b (rebuilt_start b k cells) (λ f y. updated (λ w. false) k true f) h
-keep_known b (Sends c k g j pi) a r u h = known_sends b c k g j pi a r u h
+keep_known b (Sends c k g j pi fresh) a r u h = known_sends b c k g j pi fresh a r u h
 keep_known b e a r u h = h
 
 -- no nonce of an awaited WRITE is ahead of its client's
@@ -62,7 +62,7 @@ Sent_low b = (c k i v : ℕ) → b.out c k i ≡ Sent v → v ≤ b.nonce c
 
 pub keep_sent_low : (b : State) (e : Event) → Allowed b e → Sent_low b → Sent_low (after b e)
 keep_sent_low b (StartsWrite c g i d touch hit seen e1 pt) a h = λ f k y v o. grind (arith, updated_read b.out c (λ k i2. NotSent) f, h f k y v, o)
-keep_sent_low b (Sends c k g j pi) a h = λ f q y v o. grind (arith, updated_read b.nonce c (b.nonce c + 1) f, updated_read b.out c (updated (b.out c) k (updated (b.out c k) pi (Sent (b.nonce c + 1)))) f, updated_read (b.out c) k (updated (b.out c k) pi (Sent (b.nonce c + 1))) q, updated_read (b.out c k) pi (Sent (b.nonce c + 1)) y, h f q y v, o)
+keep_sent_low b (Sends c k g j pi fresh) a h = λ f q y v o. grind (arith, updated_read b.nonce c fresh f, updated_read b.out c (updated (b.out c) k (updated (b.out c k) pi (Sent fresh))) f, updated_read (b.out c) k (updated (b.out c k) pi (Sent fresh)) q, updated_read (b.out c k) pi (Sent fresh) y, h f q y v, o)
 keep_sent_low b (Learns c k j v pi) a h = λ f q y u o. grind (arith, updated_read b.out c (updated (b.out c) k (updated (b.out c k) pi Done)) f, updated_read (b.out c) k (updated (b.out c k) pi Done) q, updated_read (b.out c k) pi Done y, h f q y u, o)
 keep_sent_low b e a h = h
 
@@ -82,10 +82,10 @@ own_starts b c x h m i j y run out = elim (updated_read b.out c (λ k i2. NotSen
 own_learns : (b : State) (c k pi : ℕ) → Own b → Own (record b { out = updated b.out c (updated (b.out c) k (updated (b.out c k) pi Done)) })
 own_learns b c k pi h m i j y run out = h m i j y run (grind (arith, updated_read b.out c (updated (b.out c) k (updated (b.out c k) pi Done)) m.holder, updated_read (b.out c) k (updated (b.out c k) pi Done) m.at, updated_read (b.out c k) pi Done y, out))
 
-own_sends : (b : State) (c k : ℕ) (g : Grant) (j pi : ℕ) → Allowed b (Sends c k g j pi) → Known b → Sent_low b → Own b → Own (after b (Sends c k g j pi))
-own_sends b c k g j pi a n sl h m i x y run out = elim i [
-  | inl e ↦ (grind (arith, e, a.runs, run), grind (arith, e, updated_read b.out c (updated (b.out c) k (updated (b.out c k) pi (Sent (b.nonce c + 1)))) m.holder, updated_read (b.out c) k (updated (b.out c k) pi (Sent (b.nonce c + 1))) m.at, updated_read (b.out c k) pi (Sent (b.nonce c + 1)) y, sl c k y (b.nonce c + 1), out))
-  | inr o ↦ h m o x y run (grind (arith, updated_read b.out c (updated (b.out c) k (updated (b.out c k) pi (Sent (b.nonce c + 1)))) m.holder, updated_read (b.out c) k (updated (b.out c k) pi (Sent (b.nonce c + 1))) m.at, updated_read (b.out c k) pi (Sent (b.nonce c + 1)) y, (n m o).nonce, out))
+own_sends : (b : State) (c k : ℕ) (g : Grant) (j pi fresh : ℕ) → Allowed b (Sends c k g j pi fresh) → Known b → Sent_low b → Own b → Own (after b (Sends c k g j pi fresh))
+own_sends b c k g j pi fresh a n sl h m i x y run out = elim i [
+  | inl e ↦ (grind (arith, e, a.runs, run), grind (arith, e, updated_read b.out c (updated (b.out c) k (updated (b.out c k) pi (Sent fresh))) m.holder, updated_read (b.out c) k (updated (b.out c k) pi (Sent fresh)) m.at, updated_read (b.out c k) pi (Sent fresh) y, sl c k y fresh, out))
+  | inr o ↦ h m o x y run (grind (arith, updated_read b.out c (updated (b.out c) k (updated (b.out c k) pi (Sent fresh))) m.holder, updated_read (b.out c) k (updated (b.out c k) pi (Sent fresh)) m.at, updated_read (b.out c k) pi (Sent fresh) y, (n m o).nonce, out))
 ]
 
 pub keep_own : (b : State) (e : Event) → Allowed b e → Known b → Sent_low b → Own b → Own (after b e)
@@ -94,7 +94,7 @@ keep_own b (Forgets c) a n sl h = own_call b c Idle (λ j e. cc) h
 keep_own b (TakesRefusal c j0) a n sl h = own_call b c Idle (λ j e. cc) h
 keep_own b (StartsWrite c g i d touch hit seen e1 pt) a n sl h = own_starts b c (Writes b.count) h
 keep_own b (StartsRead c g lo hi reach) a n sl h = own_call b c (Reads b.count) (λ j e. cc) h
-keep_own b (Sends c k g j pi) a n sl h = own_sends b c k g j pi a n sl h
+keep_own b (Sends c k g j pi fresh) a n sl h = own_sends b c k g j pi fresh a n sl h
 keep_own b (Learns c k j v pi) a n sl h = own_learns b c k pi h
 keep_own b (Acknowledges c j) a n sl h = own_call b c Idle (λ j e. cc) h
 keep_own b (Breaks c j) a n sl h = own_call b c Broken (λ j e. cc) h
@@ -122,13 +122,14 @@ ui_low : (b : State) (c : ℕ) (g : Grant) → b.held c ≡ Some g → Holds b �
 ui_low b c g has o h un = grind (arith, o.has c g has, h.outstanding c un)
 
 pub keep_unissued : (b : State) (e : Event) → Allowed b e → Holds b → Formed b → Unissued b → Unissued (after b e)
-keep_unissued b (Grants c rw range extending) a o f h = record { outstanding = λ d un. absurd (true≢false un); entries = λ j low sv un. absurd (true≢false un) }
+keep_unissued b (Grants c number rw range extending) a o f h = record { outstanding = λ d un. absurd (true≢false un); entries = λ j low sv un. absurd (true≢false un) }
 keep_unissued b (Leaves c g) a o f h = record { outstanding = λ d un. grind (arith, updated_read b.outstanding c None d, h.outstanding d un); entries = h.entries }
 keep_unissued b (Frees c) a o f h = record { outstanding = λ d un. grind (arith, updated_read b.outstanding c None d, h.outstanding d un); entries = h.entries }
 keep_unissued b Fenced a o f h = record { outstanding = λ d un. refl; entries = λ j low sv un. grind (arith, (f j low).low) }
+keep_unissued b Refenced a o f h = record { outstanding = λ d un. refl; entries = λ j low sv un. grind (arith, (f j low).low) }
 keep_unissued b (StartsWrite c g i d touch hit seen e1 pt) a o f h = ui_added b (written_start b c g d touch hit seen e1 pt) (λ k z. false) (λ sv. ui_low b c g a.has o h) h
 keep_unissued b (StartsRead c g lo hi reach) a o f h = ui_added b (read_start b c g lo hi reach) (λ k z. false) (λ sv. ui_low b c g a.has o h) h
-keep_unissued b (Repairs k z e0) a o f h = ui_added b (repair_start b k z e0) (λ f y. updated (λ w. false) k true f) (λ sv. absurd (true≢false sv)) h
+keep_unissued b (Repairs k which e0) a o f h = ui_added b (repair_start b k which e0) (λ f y. updated (λ w. false) k true f) (λ sv. absurd (true≢false sv)) h
 keep_unissued b (Rebuilds k cells) a o f h = ui_added b (rebuilt_start b k cells) (λ f y. updated (λ w. false) k true f) (λ sv. absurd (true≢false sv)) h
 keep_unissued b e a o f h = h
 
@@ -171,10 +172,10 @@ awaited_starts b c o n h m i f run = elim (updated_read b.call c (Writes b.count
   | inr w ↦ rw (updated_other b.out c o m.holder w.0) (h m i f (sym w.1 ∙ run))
 ]
 
-awaited_sends : (b : State) (c k : ℕ) (g : Grant) (j pi : ℕ) → Allowed b (Sends c k g j pi) → Awaited b → Awaited (after b (Sends c k g j pi))
-awaited_sends b c k g j pi a h m i f run = elim i [
-  | inl e ↦ grind (arith, e, updated_read b.out c (updated (b.out c) k (updated (b.out c k) pi (Sent (b.nonce c + 1)))) m.holder, updated_read (b.out c) k (updated (b.out c k) pi (Sent (b.nonce c + 1))) m.at, updated_read (b.out c k) pi (Sent (b.nonce c + 1)) m.part)
-  | inr o ↦ grind (arith, h m o f run, updated_read b.out c (updated (b.out c) k (updated (b.out c k) pi (Sent (b.nonce c + 1)))) m.holder, updated_read (b.out c) k (updated (b.out c k) pi (Sent (b.nonce c + 1))) m.at, updated_read (b.out c k) pi (Sent (b.nonce c + 1)) m.part, a.first)
+awaited_sends : (b : State) (c k : ℕ) (g : Grant) (j pi fresh : ℕ) → Allowed b (Sends c k g j pi fresh) → Awaited b → Awaited (after b (Sends c k g j pi fresh))
+awaited_sends b c k g j pi fresh a h m i f run = elim i [
+  | inl e ↦ grind (arith, e, updated_read b.out c (updated (b.out c) k (updated (b.out c k) pi (Sent fresh))) m.holder, updated_read (b.out c) k (updated (b.out c k) pi (Sent fresh)) m.at, updated_read (b.out c k) pi (Sent fresh) m.part)
+  | inr o ↦ grind (arith, h m o f run, updated_read b.out c (updated (b.out c) k (updated (b.out c k) pi (Sent fresh))) m.holder, updated_read (b.out c) k (updated (b.out c k) pi (Sent fresh)) m.at, updated_read (b.out c k) pi (Sent fresh) m.part, a.first)
 ]
 
 awaited_learns : (b : State) (c k j v pi : ℕ) → Allowed b (Learns c k j v pi) → Replied b → Awaited b → Awaited (after b (Learns c k j v pi))
@@ -187,7 +188,7 @@ keep_awaited b (Forgets c) a o n p gl ui h = awaited_call b c Idle (λ j e. cc) 
 keep_awaited b (TakesRefusal c j0) a o n p gl ui h = awaited_call b c Idle (λ j e. cc) h
 keep_awaited b (StartsWrite c g i d touch hit seen e1 pt) a o n p gl ui h = awaited_starts b c (λ k i2. NotSent) n h
 keep_awaited b (StartsRead c g lo hi reach) a o n p gl ui h = awaited_call b c (Reads b.count) (λ j e. cc) h
-keep_awaited b (Sends c k g j pi) a o n p gl ui h = awaited_sends b c k g j pi a h
+keep_awaited b (Sends c k g j pi fresh) a o n p gl ui h = awaited_sends b c k g j pi fresh a h
 keep_awaited b (Learns c k j v pi) a o n p gl ui h = awaited_learns b c k j v pi a p h
 keep_awaited b (Acknowledges c j) a o n p gl ui h = awaited_call b c Idle (λ j e. cc) h
 keep_awaited b (Breaks c j) a o n p gl ui h = awaited_call b c Broken (λ j e. cc) h
@@ -195,11 +196,12 @@ keep_awaited b (Answers c j f) a o n p gl ui h = awaited_call b c Idle (λ j e. 
 keep_awaited b (EndsRead c j) a o n p gl ui h = awaited_call b c Idle (λ j e. cc) h
 keep_awaited b (Performs m) a o n p gl ui h = λ w i f. h w i (fresh_before b m w a.new f)
 keep_awaited b (PerformsLost m) a o n p gl ui h = λ w i f. h w i (fresh_before b m w a.new f)
-keep_awaited b (Grants c rw range extending) a o n p gl ui h = λ w i f. h w i (f.0, f.1, or_off (b.gone w.at) (b.missing w.at) f.2)
+keep_awaited b (Grants c number rw range extending) a o n p gl ui h = λ w i f. h w i (f.0, f.1, or_off (b.gone w.at) (b.missing w.at) f.2)
 keep_awaited b (Loses c k) a o n p gl ui h = λ w i f. h w i (f.0, f.1, up_off b.gone k w.at f.2)
 keep_awaited b (Repaired done e0) a o n p gl ui h = λ w i f. h w i (f.0, f.1, not_gone b w.at gl f.2)
 keep_awaited b (Rebuilds k cells) a o n p gl ui h = λ w i f. absurd (unissued_fresh b w i f.0 a.unused o n ui)
 keep_awaited b Fenced a o n p gl ui h = λ m i f. absurd (grind (arith, low_write b m i o n, f.0))
+keep_awaited b Refenced a o n p gl ui h = λ m i f. absurd (grind (arith, low_write b m i o n, f.0))
 keep_awaited b e a o n p gl ui h = h
 
 -- the write of a fresh WRITE isn't acknowledged
@@ -216,22 +218,23 @@ unacked_acks b c j a r n w h m i f = elim (cases_eq m.entry j) [
       absurd (true≢false (sym (a.told m.at m.part m.nonce (rw (by, e) at (w m i f) a.runs)) ∙ f.2))
 ]
 
-unacked_sends : (b : State) (c k : ℕ) (g : Grant) (j pi : ℕ) → Allowed b (Sends c k g j pi) → Running b → Unacked b → Unacked (after b (Sends c k g j pi))
-unacked_sends b c k g j pi a u h m i f = elim i [ inl e ↦ grind (arith, e, u.writes c j a.runs) | inr o ↦ h m o f ]
+unacked_sends : (b : State) (c k : ℕ) (g : Grant) (j pi fresh : ℕ) → Allowed b (Sends c k g j pi fresh) → Running b → Unacked b → Unacked (after b (Sends c k g j pi fresh))
+unacked_sends b c k g j pi fresh a u h m i f = elim i [ inl e ↦ grind (arith, e, u.writes c j a.runs) | inr o ↦ h m o f ]
 
 pub keep_unacked : (b : State) (e : Event) → Allowed b e → Calls b → Running b → Formed b → Known b → Awaited b → Gone_lost b → Unissued b → Unacked b → Unacked (after b e)
 keep_unacked b (StartsWrite c g i d touch hit seen e1 pt) a r u o n w gl ui h = unacked_added b (written_start b c g d touch hit seen e1 pt) (λ k z. false) n h
 keep_unacked b (StartsRead c g lo hi reach) a r u o n w gl ui h = unacked_added b (read_start b c g lo hi reach) (λ k z. false) n h
-keep_unacked b (Repairs k z e0) a r u o n w gl ui h = unacked_added b (repair_start b k z e0) (λ f y. updated (λ w. false) k true f) n h
+keep_unacked b (Repairs k which e0) a r u o n w gl ui h = unacked_added b (repair_start b k which e0) (λ f y. updated (λ w. false) k true f) n h
 keep_unacked b (Rebuilds k cells) a r u o n w gl ui h = λ x i f. absurd (unissued_fresh b x i f.0 a.unused o n ui)
-keep_unacked b (Sends c k g j pi) a r u o n w gl ui h = unacked_sends b c k g j pi a u h
+keep_unacked b (Sends c k g j pi fresh) a r u o n w gl ui h = unacked_sends b c k g j pi fresh a u h
 keep_unacked b (Acknowledges c j) a r u o n w gl ui h = unacked_acks b c j a r n w h
 keep_unacked b (Performs m) a r u o n w gl ui h = λ x i f. h x i (fresh_before b m x a.new f)
 keep_unacked b (PerformsLost m) a r u o n w gl ui h = λ x i f. h x i (fresh_before b m x a.new f)
-keep_unacked b (Grants c rw range extending) a r u o n w gl ui h = λ x i f. h x i (f.0, f.1, or_off (b.gone x.at) (b.missing x.at) f.2)
+keep_unacked b (Grants c number rw range extending) a r u o n w gl ui h = λ x i f. h x i (f.0, f.1, or_off (b.gone x.at) (b.missing x.at) f.2)
 keep_unacked b (Loses c k) a r u o n w gl ui h = λ x i f. h x i (f.0, f.1, up_off b.gone k x.at f.2)
 keep_unacked b (Repaired done e0) a r u o n w gl ui h = λ x i f. h x i (f.0, f.1, not_gone b x.at gl f.2)
 keep_unacked b Fenced a r u o n w gl ui h = λ m i f. absurd (grind (arith, low_write b m i o n, f.0))
+keep_unacked b Refenced a r u o n w gl ui h = λ m i f. absurd (grind (arith, low_write b m i o n, f.0))
 keep_unacked b e a r u o n w gl ui h = h
 
 -- a write under an outstanding grant that isn't acknowledged

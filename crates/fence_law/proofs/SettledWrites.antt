@@ -4,7 +4,7 @@ use Rattle.std.proofs.Common.{◌≡◌, ℕ, zero, suc, ◌+◌, ◌<◌, ◌�
 use Rattle.std.proofs.lemmas.Bool.{false_from_ne_true, cases_Bool, eqb-true, eq-eqb, cases_eq, true≢false}
 use Rattle.fence_law.specs.Words.{updated, over}
 use Rattle.fence_law.specs.Machine.{State, Event, Allowed, after, Write, Start, written_start, read_start, repair_start, rebuilt_start, is_byte, ended, settled, Stood, Untouched, Short, Gone, IsCalm}
-use Rattle.fence_law.specs.Machine.Event.{Grants, Fenced, StartsWrite, StartsRead, Performs, Acknowledges, Repairs, Repaired, Rebuilds, Loses}
+use Rattle.fence_law.specs.Machine.Event.{Grants, Fenced, Refenced, StartsWrite, StartsRead, Performs, Acknowledges, Repairs, Repaired, Rebuilds, Loses}
 use Rattle.fence_law.specs.Law.{byte_before, IsCode}
 use Rattle.fence_law.proofs.Words.{up_on, updated_at, updated_other}
 use Rattle.fence_law.proofs.Parts.{pf_row}
@@ -14,7 +14,7 @@ use Rattle.fence_law.proofs.Chains.{chain-next, chain_quiet}
 use Rattle.fence_law.proofs.Formed.{Gone_lost, or_on, added, Mending, Formed}
 use Rattle.fence_law.proofs.Open.{Dead, Known, Unacked, Open, fresh_open, now_fresh}
 use Rattle.fence_law.proofs.Live.{Eras}
-use Rattle.fence_law.proofs.Later.{Unsettled, none_open, unsettled_added, unsettled_acks, unsettled_fenced, unsettled_mended, Later, byte_or_touch, pay_or_touch, bytes_end}
+use Rattle.fence_law.proofs.Later.{Unsettled, none_open, unsettled_added, unsettled_acks, unsettled_fenced, unsettled_mended, Later, byte_or_touch, pay_or_touch, bytes_end, unsettled_refenced, refenced_unsettled}
 use Rattle.fence_law.proofs.Chosen.{ended_unsettled}
 use Rattle.fence_law.proofs.AllWord.{one_writer}
 
@@ -35,10 +35,11 @@ cond_low false a b n h k = k
 pub keep_mended_low : (b : State) (e : Event) → Allowed b e → Formed b → Mending b → Eras b → Mended_low b → Mended_low (after b e)
 keep_mended_low b (StartsWrite c g i d touch hit seen e1 pt) a f m q h = ml_added b (written_start b c g d touch hit seen e1 pt) (λ k z. false) h
 keep_mended_low b (StartsRead c g lo hi reach) a f m q h = ml_added b (read_start b c g lo hi reach) (λ k z. false) h
-keep_mended_low b (Repairs k z e0) a f m q h = ml_added b (repair_start b k z e0) (λ f y. updated (λ w. false) k true f) h
+keep_mended_low b (Repairs k which e0) a f m q h = ml_added b (repair_start b k which e0) (λ f y. updated (λ w. false) k true f) h
 keep_mended_low b (Rebuilds k cells) a f m q h = ml_added b (rebuilt_start b k cells) (λ f y. updated (λ w. false) k true f) h
 keep_mended_low b (Acknowledges c i) a f m q h = record { low = h.low; opened = λ j x o. h.opened j x (unsettled_acks b i j o).1 }
 keep_mended_low b Fenced a f m q h = record { low = h.low; opened = λ j x o. h.opened j x (unsettled_fenced b j f o) }
+keep_mended_low b Refenced a f m q h = record { low = h.low; opened = λ j x o. h.opened j x (unsettled_refenced b j f o) }
 keep_mended_low b (Repaired done e0) a f m q h = record { low = λ x. cond_low (done x) b.count (b.repaired_at x) b.count (omega arith) (h.low x); opened = λ j x o. absurd (unsettled_mended b j a.runs m q o) }
 keep_mended_low b e a f m q h = h
 
@@ -46,7 +47,7 @@ keep_mended_low b e a f m q h = h
 pub short_gone : (b : State) (x : ℕ) → IsCode b.layout → b.layout.coded x ≡ false → Short b x → (k z : ℕ) → b.layout.is_cell k z ≡ true → b.layout.cell_col k z ≡ x → b.lost k ≡ true
 short_gone b x code plain s k z is here =
     let p = code.plain s.0 s.1 k z (ap b.layout.coded s.3 ∙ plain) s.2 is (here ∙ sym s.3) in
-    s.4 k z is here (λ d. (code.copies k z p.0 p.2).2 d ∙ sym ((code.copies s.0 s.1 p.0 p.1).2 d))
+    s.4 k z is here (sym p.3)
 
 -- of a column with nothing left nothing is rebuilt
 pub gone_rebuilds : (b : State) (k : ℕ) (cells : ℕ → ℕ) (x z : ℕ) → Allowed b (Rebuilds k cells) → IsCode b.layout → b.layout.coded x ≡ false → (Untouched b x → ⊥) → Gone b x → b.layout.is_cell k z ≡ true → b.layout.cell_col k z ≡ x → ⊥
@@ -55,8 +56,8 @@ gone_rebuilds b k cells x z a code plain granted_since gone is here = elim (a.ri
   | inl all ↦
       let p = code.plain k z k z (ap b.layout.coded here ∙ plain) is is refl in let law = code.copies k z p.0 p.1 in
       let any : (d : ℕ → ℕ) → Stood b (b.layout.cell_col k z) d = λ d f y isf heref l. absurd (true≢false (sym (gone f y isf (heref ∙ here)) ∙ l)) in
-      let zero1 = all (λ q. 0) (any (λ q. 0)) ∙ law.2 (λ q. 0) in
-      let one1 = all (λ q. 1) (any (λ q. 1)) ∙ law.2 (λ q. 1) in
+      let zero1 = all (λ q. 0) (λ q. omega arith) (any (λ q. 0)) ∙ law.2 (λ q. 0) in
+      let one1 = all (λ q. 1) (λ q. omega arith) (any (λ q. 1)) ∙ law.2 (λ q. 1) in
       absurd (grind (arith, zero1, one1))
 ]
 
@@ -85,7 +86,7 @@ settled_mended b done e0 a code calm gl m q h j k z v low w ack content is l = l
       | inr plain ↦ inr (short_gone b x code plain (a.left x d), plain)
       | inl coded ↦ inl (false_from_ne_true (b.applied j k z) (λ on. elim u.4 [
         | inl same ↦ none_open b j a.runs m q (u.0, u.1, u.2, u.3, same)
-        | inr old ↦ calm x coded (j, k, z, v, l2, low, w, ack, content, refl, is, on, grind (arith, old.1)) (a.left x d)
+        | inr old ↦ calm x coded (j, k, z, v, l2, low, w, ack, content, refl, is, on, grind (arith, old.1, m.low a.runs)) (a.left x d)
       ]))
     ])
   ]
@@ -124,11 +125,11 @@ settled_rebuilds b k0 cells a code f h j k z v low w ack content is l = let x : 
 pub keep_settled : (b : State) (e : Event) → Allowed b e → IsCalm b → IsCode b.layout → Tags b → Formed b → Holds b → Known b → Unacked b → Dead b → Mending b → Eras b → Gone_lost b → Settled b → Settled (after b e)
 keep_settled b (StartsWrite c g i d touch hit seen e1 pt) a calm code t f o n u dead m q gl h = settled_starts b (written_start b c g d touch hit seen e1 pt) (λ k z. false) (λ w. (λ al. eqb-true g.tag b.tag al, λ k z. refl)) h
 keep_settled b (StartsRead c g lo hi reach) a calm code t f o n u dead m q gl h = settled_starts b (read_start b c g lo hi reach) (λ k z. false) (λ w. absurd (true≢false (sym w))) h
-keep_settled b (Repairs k z e0) a calm code t f o n u dead m q gl h = settled_starts b (repair_start b k z e0) (λ f y. updated (λ w. false) k true f) (λ w. absurd (true≢false (sym w))) h
+keep_settled b (Repairs k which e0) a calm code t f o n u dead m q gl h = settled_starts b (repair_start b k which e0) (λ f y. updated (λ w. false) k true f) (λ w. absurd (true≢false (sym w))) h
 keep_settled b (Rebuilds k cells) a calm code t f o n u dead m q gl h = settled_rebuilds b k cells a code f h
 keep_settled b (Acknowledges c i) a calm code t f o n u dead m q gl h = settled_acks b i h
 keep_settled b (Performs w) a calm code t f o n u dead m q gl h = settled_performs b w (fresh_open b w a.comes (now_fresh b w a t f n) n dead u) h
-keep_settled b (Grants c rw range extending) a calm code t f o n u dead m q gl h = λ j k z v low w ack content is l. elim (h j k z v low w ack content is l) [
+keep_settled b (Grants c number rw range extending) a calm code t f o n u dead m q gl h = λ j k z v low w ack content is l. elim (h j k z v low w ack content is l) [
   | inl y ↦ inl y
   | inr v2 ↦ inr (elim v2 [ inl off ↦ inl off | inr g ↦ inr (λ f2 u is2 here. or_on (b.gone f2) (b.missing f2) (g.0 f2 u is2 here), g.1) ])
 ]
@@ -138,7 +139,11 @@ keep_settled b (Loses c k0) a calm code t f o n u dead m q gl h = λ j k z v low
 ]
 keep_settled b Fenced a calm code t f o n u dead m q gl h = λ j k z v low w ack content is l. elim (h j k z v low w ack content is l) [
   | inr v ↦ inr (elim v [ inl off ↦ inl off | inr g ↦ inr (λ f2 u is2 here. gl f2 (g.0 f2 u is2 here), g.1) ])
-  | inl y ↦ inl (y.0, y.1, y.2, y.3, inr (refl, elim y.4 [ inl e ↦ ap (λ z. z + 1) e | inr e ↦ absurd (true≢false (sym a.runs ∙ m.over e.0)) ]))
+  | inl y ↦ inl (y.0, y.1, y.2, y.3, inr (refl, elim y.4 [ inl e ↦ e | inr e ↦ absurd (true≢false (sym e.0 ∙ a.first)) ]))
+]
+keep_settled b Refenced a calm code t f o n u dead m q gl h = λ j k z v low w ack content is l. elim (h j k z v low w ack content is l) [
+  | inr v ↦ inr v
+  | inl y ↦ inl (refenced_unsettled b j a.again m q y)
 ]
 keep_settled b (Repaired done e0) a calm code t f o n u dead m q gl h = settled_mended b done e0 a code calm gl m q h
 keep_settled b e a calm code t f o n u dead m q gl h = h

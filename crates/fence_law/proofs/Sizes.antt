@@ -6,7 +6,7 @@ use Rattle.fence_law.specs.Words.{updated, In}
 use Rattle.fence_law.specs.Machine.{Commit, State, Event, Allowed, after, Answer, Grant, Call, Start, granted, written_start, read_start, repair_start, rebuilt_start}
 use Rattle.fence_law.specs.Machine.Commit.{NoCommit, CommitAsked, CommitDone, CommitRefused}
 use Rattle.fence_law.specs.Machine.Call.{Idle, Writes, Reads, Broken}
-use Rattle.fence_law.specs.Machine.Event.{Asks, Grants, Refuses, Takes, AsksOther, ServesOther, GivesBack, Reports, Forgets, Frees, Fenced, StartsWrite, StartsRead, Acknowledges, Breaks, Answers, EndsRead, Repairs, Rebuilds, AsksCommit, Commits, RefusesCommit, TakesCommit, TakesRefusal, Leaves, Tells}
+use Rattle.fence_law.specs.Machine.Event.{Asks, Grants, Refuses, Takes, AsksOther, ServesOther, GivesBack, Reports, Forgets, Frees, Fenced, Refenced, StartsWrite, StartsRead, Acknowledges, Breaks, Answers, EndsRead, Repairs, Rebuilds, AsksCommit, Commits, RefusesCommit, TakesCommit, TakesRefusal, Leaves, Tells}
 use Rattle.fence_law.specs.Law.{IsCode, grow, size_before}
 use Rattle.fence_law.proofs.Words.{up_on, updated_at, updated_other, updated_read, updated_same}
 use Rattle.fence_law.proofs.Slots.{Slots}
@@ -51,7 +51,7 @@ ts_served : (b : State) (c : ℕ) (o : Option Grant) → Slots b → Told_size b
 ts_served b c o s h a i e = grind (arith, updated_read b.slot c (b.slot c + 1) a.client, updated_read b.kept_size c b.size a.client, h a, s.told a)
 
 pub keep_told : (b : State) (e : Event) → Allowed b e → Slots b → Told_size b → Told_size (after b e)
-keep_told b (Grants c rw range extending) a s h = ts_served b c (Some (granted b c rw range extending)) s h
+keep_told b (Grants c number rw range extending) a s h = ts_served b c (Some (granted b c number rw range extending)) s h
 keep_told b (Refuses c kind) a s h = ts_served b c None s h
 keep_told b (Frees c) a s h = ts_served b c None s h
 keep_told b (ServesOther c) a s h = λ r i e. h r i (grind (arith, updated_read b.slot c (b.slot c + 1) r.client, (s.told r i).0, e))
@@ -62,10 +62,11 @@ abbrev pub Alone : State → Type 0
 Alone b = (c d : ℕ) (g h : Grant) → (c ≡ d → ⊥) → b.outstanding c ≡ Some g → b.outstanding d ≡ Some h → (g.extending || h.extending) ≡ false
 
 pub keep_alone : (b : State) (e : Event) → Allowed b e → Alone b → Alone (after b e)
-keep_alone b (Grants c rw range extending) a h = λ d f g k ne x y. grind (arith, updated_read b.outstanding c (Some (granted b c rw range extending)) d, updated_read b.outstanding c (Some (granted b c rw range extending)) f, h d f g k ne, a.apart_ext d g, a.apart_ext f k)
+keep_alone b (Grants c number rw range extending) a h = λ d f g k ne x y. grind (arith, updated_read b.outstanding c (Some (granted b c number rw range extending)) d, updated_read b.outstanding c (Some (granted b c number rw range extending)) f, h d f g k ne, a.apart_ext d g, a.apart_ext f k)
 keep_alone b (Frees c) a h = λ d f g k ne x y. h d f g k ne (grind (arith, updated_read b.outstanding c None d, x)) (grind (arith, updated_read b.outstanding c None f, y))
 keep_alone b (Leaves c g0) a h = λ d f g k ne x y. h d f g k ne (grind (arith, updated_read b.outstanding c None d, x)) (grind (arith, updated_read b.outstanding c None f, y))
 keep_alone b Fenced a h = λ d f g k ne x y. absurd (cc x)
+keep_alone b Refenced a h = λ d f g k ne x y. absurd (cc x)
 keep_alone b e a h = h
 
 -- a client under an outstanding grant knows the size, but for its commit that was carried out
@@ -166,13 +167,13 @@ keep_knows b (GivesBack c g) a s o r cm ts al h = kn_drops (record b { sequence 
 keep_knows b (Reports c g) a s o r cm ts al h = kn_drops (record b { sequence = updated b.sequence c (b.sequence c + 1); waiting = updated b.waiting c true }) c (kn_asks b c a.free s h)
 keep_knows b (Leaves c g) a s o r cm ts al h = kn_drops b c h
 keep_knows b (Forgets c) a s o r cm ts al h = kn_drops b c h
-keep_knows b (Grants c rw range extending) a s o r cm ts al h = kn_served b c (Some (granted b c rw range extending)) h
+keep_knows b (Grants c number rw range extending) a s o r cm ts al h = kn_served b c (Some (granted b c number rw range extending)) h
 keep_knows b (Refuses c kind) a s o r cm ts al h = kn_served b c None h
 keep_knows b (Frees c) a s o r cm ts al h = kn_served b c None h
 keep_knows b (Takes c o1 s0) a s o r cm ts al h = kn_takes b c o1 s0 a s r cm ts h
 keep_knows b (StartsWrite c g i d touch hit seen e1 pt) a s o r cm ts al h = kn_added b (written_start b c g d touch hit seen e1 pt) h
 keep_knows b (StartsRead c g lo hi reach) a s o r cm ts al h = kn_added b (read_start b c g lo hi reach) h
-keep_knows b (Repairs k z e0) a s o r cm ts al h = kn_added b (repair_start b k z e0) h
+keep_knows b (Repairs k which e0) a s o r cm ts al h = kn_added b (repair_start b k which e0) h
 keep_knows b (Rebuilds k cells) a s o r cm ts al h = kn_added b (rebuilt_start b k cells) h
 keep_knows b (AsksCommit c j) a s o r cm ts al h = kn_com b c (CommitAsked j) (λ i e. absurd (cc e)) (λ i e. absurd (let z : NoCommit ≡ CommitDone i = sym a.plain ∙ e in cc z)) h
 keep_knows b (RefusesCommit c j) a s o r cm ts al h = kn_com b c (CommitRefused j) (λ i e. absurd (cc e)) (λ i e. absurd (let z : CommitAsked j ≡ CommitDone i = sym a ∙ e in cc z)) h
@@ -182,6 +183,10 @@ keep_knows b (TakesRefusal c j) a s o r cm ts al h = kn_drops (record b { commit
 keep_knows b (AsksOther c) a s o r cm ts al h = record { held = h.held; comes = λ d g w e. h.comes d g w (grind (arith, updated_read b.sequence c (b.sequence c + 1) d, e, w, a.free)) }
 keep_knows b (ServesOther c) a s o r cm ts al h = record { held = h.held; comes = λ d g w e. h.comes d g w (grind (arith, updated_read b.slot c (b.slot c + 1) d, e, w, a.free)) }
 keep_knows b Fenced a s o r cm ts al h = record {
+  held = λ c g e t. absurd (grind (arith, o.has c g e, t));
+  comes = λ c g w e k t. absurd (grind (arith, o.comes c g w e k, t));
+}
+keep_knows b Refenced a s o r cm ts al h = record {
   held = λ c g e t. absurd (grind (arith, o.has c g e, t));
   comes = λ c g w e k t. absurd (grind (arith, o.comes c g w e k, t));
 }
@@ -207,13 +212,14 @@ last_starts b c f has free o y al j op g e x = false_from_ne_true (f.tag == b.ta
 pub keep_last : (b : State) (e : Event) → Allowed b e → Formed b → Holds b → Eras b → Busy b → Alone b → Last b → Last (after b e)
 keep_last b (StartsWrite c g i d touch hit seen e1 pt) a f o q y al h = last_added b (written_start b c g d touch hit seen e1 pt) (λ k z. false) (λ sv. last_starts b c g a.has (inr (i, a.gathers)) o y al) h
 keep_last b (StartsRead c g lo hi reach) a f o q y al h = last_added b (read_start b c g lo hi reach) (λ k z. false) (λ sv. last_starts b c g a.has (inl a.idle) o y al) h
-keep_last b (Repairs k z e0) a f o q y al h = last_added b (repair_start b k z e0) (λ f y. updated (λ w. false) k true f) (λ sv. absurd (true≢false sv)) h
+keep_last b (Repairs k which e0) a f o q y al h = last_added b (repair_start b k which e0) (λ f y. updated (λ w. false) k true f) (λ sv. absurd (true≢false sv)) h
 keep_last b (Rebuilds k cells) a f o q y al h = last_added b (rebuilt_start b k cells) (λ f y. updated (λ w. false) k true f) (λ sv. absurd (true≢false sv)) h
-keep_last b (Grants c rw range extending) a f o q y al h = λ j op g e. h j op g (grind (arith, updated_read b.outstanding c (Some (granted b c rw range extending)) (b.start j).client, e, (q j op).1, a.none))
+keep_last b (Grants c number rw range extending) a f o q y al h = λ j op g e. h j op g (grind (arith, updated_read b.outstanding c (Some (granted b c number rw range extending)) (b.start j).client, e, (q j op).1, a.none))
 keep_last b (Leaves c g0) a f o q y al h = λ j op g e. h j op g (grind (arith, updated_read b.outstanding c None (b.start j).client, e))
 keep_last b (Frees c) a f o q y al h = λ j op g e. h j op g (grind (arith, updated_read b.outstanding c None (b.start j).client, e))
 keep_last b (Acknowledges c i) a f o q y al h = λ j op. h j (open_acks b i j op).1
 keep_last b Fenced a f o q y al h = λ j op. absurd (open_fenced b j f op)
+keep_last b Refenced a f o q y al h = λ j op. absurd (open_fenced b j f op)
 keep_last b e a f o q y al h = h
 
 grow_same : (t u : ℕ → Bool) (e f : ℕ → ℕ) (j : ℕ) → ((i : ℕ) → i < j → (t i ≡ u i) × (e i ≡ f i)) → grow t e j ≡ grow u f j
@@ -266,7 +272,7 @@ si_commits b c j g a r cm h = let run : b.call c ≡ Writes j = grind (arith, cm
 pub keep_size : (b : State) (e : Event) → Allowed b e → Calls b → Commit_call b → Size_is b → Size_is (after b e)
 keep_size b (StartsWrite c g i d touch hit seen e1 pt) a r cm h = si_added b (written_start b c g d touch hit seen e1 pt) (λ k z. false) h
 keep_size b (StartsRead c g lo hi reach) a r cm h = si_added b (read_start b c g lo hi reach) (λ k z. false) h
-keep_size b (Repairs k z e0) a r cm h = si_added b (repair_start b k z e0) (λ f y. updated (λ w. false) k true f) h
+keep_size b (Repairs k which e0) a r cm h = si_added b (repair_start b k which e0) (λ f y. updated (λ w. false) k true f) h
 keep_size b (Rebuilds k cells) a r cm h = si_added b (rebuilt_start b k cells) (λ f y. updated (λ w. false) k true f) h
 keep_size b (Commits c j g) a r cm h = si_commits b c j g a r cm h
 keep_size b e a r cm h = h
@@ -299,7 +305,7 @@ clips_commits b c j g a o r run dead cm last h i low sv al =
 pub keep_clips : (b : State) (e : Event) → Allowed b e → Holds b → Calls b → Running b → Dead b → Commit_call b → Knows b → Size_is b → Last b → Clips b → Clips (after b e)
 keep_clips b (StartsWrite c g i d touch hit seen e1 pt) a o r run dead cm kn si last h = clips_added b (written_start b c g d touch hit seen e1 pt) (λ k z. false) (λ sv al. clip_now b c g a.has (inr (i, a.gathers)) cm kn si al) h
 keep_clips b (StartsRead c g lo hi reach) a o r run dead cm kn si last h = clips_added b (read_start b c g lo hi reach) (λ k z. false) (λ sv al. clip_now b c g a.has (inl a.idle) cm kn si al) h
-keep_clips b (Repairs k z e0) a o r run dead cm kn si last h = clips_added b (repair_start b k z e0) (λ f y. updated (λ w. false) k true f) (λ sv. absurd (true≢false sv)) h
+keep_clips b (Repairs k which e0) a o r run dead cm kn si last h = clips_added b (repair_start b k which e0) (λ f y. updated (λ w. false) k true f) (λ sv. absurd (true≢false sv)) h
 keep_clips b (Rebuilds k cells) a o r run dead cm kn si last h = clips_added b (rebuilt_start b k cells) (λ f y. updated (λ w. false) k true f) (λ sv. absurd (true≢false sv)) h
 keep_clips b (Commits c j g) a o r run dead cm kn si last h = clips_commits b c j g a o r run dead cm last h
 keep_clips b e a o r run dead cm kn si last h = h
@@ -317,7 +323,7 @@ tw_added b s row h j low t = elim (updated_read b.start b.count s j).1 [
 pub keep_took : (b : State) (e : Event) → Allowed b e → Running b → Commit_call b → Took_write b → Took_write (after b e)
 keep_took b (StartsWrite c g i d touch hit seen e1 pt) a run cm h = tw_added b (written_start b c g d touch hit seen e1 pt) (λ k z. false) h
 keep_took b (StartsRead c g lo hi reach) a run cm h = tw_added b (read_start b c g lo hi reach) (λ k z. false) h
-keep_took b (Repairs k z e0) a run cm h = tw_added b (repair_start b k z e0) (λ f y. updated (λ w. false) k true f) h
+keep_took b (Repairs k which e0) a run cm h = tw_added b (repair_start b k which e0) (λ f y. updated (λ w. false) k true f) h
 keep_took b (Rebuilds k cells) a run cm h = tw_added b (rebuilt_start b k cells) (λ f y. updated (λ w. false) k true f) h
 keep_took b (Commits c i g) a run cm h = λ j low t. elim (cases_eq j i) [
   | inl e ↦ ap (λ y. (b.start y).is_write) e ∙ (run.writes c i (grind (arith, cm c, a.asks))).0
@@ -347,7 +353,7 @@ af_acks b c i a code r run f kd dead h j low t = elim (cases_eq j i) [
 pub keep_acked_fits : (b : State) (e : Event) → Allowed b e → IsCode b.layout → Calls b → Running b → Formed b → Known_done b → Dead b → Acked_fits b → Acked_fits (after b e)
 keep_acked_fits b (StartsWrite c g i d touch hit seen e1 pt) a code r run f kd dead h = af_added b (written_start b c g d touch hit seen e1 pt) (λ k z. false) h
 keep_acked_fits b (StartsRead c g lo hi reach) a code r run f kd dead h = af_added b (read_start b c g lo hi reach) (λ k z. false) h
-keep_acked_fits b (Repairs k z e0) a code r run f kd dead h = af_added b (repair_start b k z e0) (λ f2 y. updated (λ w. false) k true f2) h
+keep_acked_fits b (Repairs k which e0) a code r run f kd dead h = af_added b (repair_start b k which e0) (λ f2 y. updated (λ w. false) k true f2) h
 keep_acked_fits b (Rebuilds k cells) a code r run f kd dead h = af_added b (rebuilt_start b k cells) (λ f2 y. updated (λ w. false) k true f2) h
 keep_acked_fits b (Commits c i g) a code r run f kd dead h = λ j low t. let x = h j low t in (x.0, x.1, elim x.2 [ inl l ↦ inl l | inr on ↦ inr (grind (arith, updated_read b.committed i true j, on)) ])
 keep_acked_fits b (Acknowledges c i) a code r run f kd dead h = af_acks b c i a code r run f kd dead h
@@ -370,7 +376,7 @@ said_added b s row h j t = let x = h j t in (grind (arith, x.0), grind (arith, u
 pub keep_said : (b : State) (e : Event) → Allowed b e → Said b → Said (after b e)
 keep_said b (StartsWrite c g i d touch hit seen e1 pt) a h = said_added b (written_start b c g d touch hit seen e1 pt) (λ k z. false) h
 keep_said b (StartsRead c g lo hi reach) a h = said_added b (read_start b c g lo hi reach) (λ k z. false) h
-keep_said b (Repairs k z e0) a h = said_added b (repair_start b k z e0) (λ f y. updated (λ w. false) k true f) h
+keep_said b (Repairs k which e0) a h = said_added b (repair_start b k which e0) (λ f y. updated (λ w. false) k true f) h
 keep_said b (Rebuilds k cells) a h = said_added b (rebuilt_start b k cells) (λ f y. updated (λ w. false) k true f) h
 keep_said b (Acknowledges c i) a h = λ j t. let x = h j t in (x.0, up_on b.acknowledged i j x.1)
 keep_said b (Tells i) a h = λ j t. elim (updated_read b.told_client i true j).1 [ inl w ↦ rw w.0 (a.low, a.on) | inr w ↦ h j (sym w.1 ∙ t) ]

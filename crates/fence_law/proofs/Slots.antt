@@ -79,7 +79,7 @@ pub keep_slots : (b : State) (e : Event) → Allowed b e → Slots b → Slots (
 keep_slots b (Asks c rw) a h = ask _ _ _ _ _ _ _ _ c (Get rw) a.free a.home h
 keep_slots b (GivesBack c g) a h = ask _ _ _ _ _ _ _ _ c (Return true) a.free a.home h
 keep_slots b (Reports c g) a h = ask _ _ _ _ _ _ _ _ c (Return false) a.free a.home h
-keep_slots b (Grants c rw range extending) a h = serve b.size _ _ _ _ _ _ _ _ c (Get rw) (Some (granted b c rw range extending)) a.asks h
+keep_slots b (Grants c number rw range extending) a h = serve b.size _ _ _ _ _ _ _ _ c (Get rw) (Some (granted b c number rw range extending)) a.asks h
 keep_slots b (Refuses c kind) a h = serve b.size _ _ _ _ _ _ _ _ c kind None a.asks h
 keep_slots b (Frees c) a h = serve b.size _ _ _ _ _ _ _ _ c (Return true) None a h
 keep_slots b (Takes c o s0) a h = take_answer s0 _ _ _ _ _ _ _ _ c o a.waits a.comes h

@@ -13,10 +13,10 @@ use Rattle.fence_law.proofs.Tags.{Tags}
 use Rattle.fence_law.proofs.Holds.{Holds}
 use Rattle.fence_law.proofs.Commands.{Calls}
 use Rattle.fence_law.proofs.Chains.{chain_quiet}
-use Rattle.fence_law.proofs.Formed.{Gone_lost, not_gone, added, Mending, Formed, Running}
+use Rattle.fence_law.proofs.Formed.{Gone_lost, not_gone, added, Mending, Formed, Running, bytes_before}
 use Rattle.fence_law.proofs.Open.{Dead}
 use Rattle.fence_law.proofs.Acked.{Known_done}
-use Rattle.fence_law.proofs.Later.{Later, before_unsettled, byte_or_touch, pay_or_touch}
+use Rattle.fence_law.proofs.Later.{Later, before_unsettled, byte_or_touch, pay_or_touch, unsettled_refenced, refenced_unsettled}
 use Rattle.fence_law.proofs.Chosen.{Late_ack, at_acks, at_mended}
 use Rattle.fence_law.proofs.Held.{Quiet, at_added, Cells}
 use Rattle.fence_law.proofs.Before.{Before_whole, Shows_right}
@@ -93,7 +93,7 @@ keep_shows b (Forgets c) a gl code t f o r run kd dead late m lt q con bw h = sh
 keep_shows b (TakesRefusal c j0) a gl code t f o r run kd dead late m lt q con bw h = shows_call b c Idle (λ j e. cc) h
 keep_shows b (StartsWrite c g i d touch hit seen e1 pt) a gl code t f o r run kd dead late m lt q con bw h = shows_starts b (written_start b c g d touch hit seen e1 pt) c (Writes b.count) (λ j low e. cc) code h
 keep_shows b (StartsRead c g lo hi reach) a gl code t f o r run kd dead late m lt q con bw h = shows_starts b (read_start b c g lo hi reach) c (Reads b.count) (λ j low e. grind (arith, low, e)) code h
-keep_shows b (Repairs k z e0) a gl code t f o r run kd dead late m lt q con bw h = shows_added b (repair_start b k z e0) (λ f y. updated (λ w. false) k true f) code h
+keep_shows b (Repairs k which e0) a gl code t f o r run kd dead late m lt q con bw h = shows_added b (repair_start b k which e0) (λ f y. updated (λ w. false) k true f) code h
 keep_shows b (Rebuilds k cells) a gl code t f o r run kd dead late m lt q con bw h = shows_added b (rebuilt_start b k cells) (λ f y. updated (λ w. false) k true f) code h
 keep_shows b (Acknowledges c j) a gl code t f o r run kd dead late m lt q con bw h = shows_call (record b { acknowledged = updated b.acknowledged j true; chosen = updated b.chosen j (λ p. true) }) c Idle (λ j e. cc) (shows_acks b c j a code r run f kd dead late lt h)
 keep_shows b (Breaks c j) a gl code t f o r run kd dead late m lt q con bw h = shows_call b c Broken (λ j e. cc) h
@@ -125,10 +125,6 @@ only_some : (w : Bool) (u v : ℕ) → only w u ≡ Some v → (w ≡ true) × (
 only_some true u v e = (refl, sym (same_Some u v e))
 only_some false u v e = absurd (cc e)
 
-over_true : (d : Option ℕ) (x y : ℕ) → (d ≡ None → x ≡ y) → over true d x ≡ over true d y
-over_true None x y h = h refl
-over_true (Some v) x y h = refl
-
 sound_write : (b : State) (c : ℕ) (g : Grant) (i : ℕ) (d : ℕ → Option ℕ) (touch : ℕ → Bool) (hit : ℕ → ℕ → Bool) (seen : ℕ → ℕ) (e1 : ℕ) (pt : ℕ → ℕ → ℕ) → Allowed b (StartsWrite c g i d touch hit seen e1 pt) →
     IsCode b.layout → Formed b → Calls b → Quiet b → Shows_right b →
     (g.tag == b.tag) ≡ true → (k z v : ℕ) → payload b.layout hit d seen k z ≡ Some v → v ≡ b.layout.word k z (overlaid d (byte_before b b.count))
@@ -136,13 +132,12 @@ sound_write b c g i d touch hit seen e1 pt a code f r quiet s alive k z v conten
     let p = only_some (hit k z) _ v content in let u = r.reads c i a.gathers in
     let same : Some u.under.0 ≡ Some g = sym u.under.1 ∙ a.has in
     let tag : (b.start i).tag ≡ b.tag = grind (arith, u.under.2, same, eqb-true g.tag b.tag alive) in
-    p.1 ∙ code.local k z _ _ (λ q here. over_true (d q) (seen q) (byte_before b b.count q) (λ none.
-    let tq : touch (b.layout.col q) ≡ true = ap touch here ∙ (a.hits k z p.0).1 in
-    let rq : (b.start i).reach (b.layout.col q) ≡ true = a.gathered (b.layout.col q) tq in
-    let agrees : Agrees b i (b.layout.col q) (byte_before b i) = λ y iy ey w is col. let sh = s y iy in
+    let tq : touch (b.layout.cell_col k z) ≡ true = (a.hits k z p.0).1 in
+    let rq : (b.start i).reach (b.layout.cell_col k z) ≡ true = a.gathered (b.layout.cell_col k z) tq in
+    let agrees : Agrees b i (b.layout.cell_col k z) (byte_before b i) = λ y iy ey w is col. let sh = s y iy in
     sh.cells c w (a.gathers ∙ ap Reads (sym ey)) is (ap (λ n. (b.start n).reach (b.layout.cell_col y.at w)) ey ∙ ap (b.start i).reach col ∙ rq) ∙ ap (λ n. b.layout.word y.at w (byte_before b n)) ey in
-    a.sees q tq none (byte_before b i) agrees ∙
-    sym (chain_quiet (λ n. b.chosen n q) (λ n. (b.start n).data_at q) i b.count (omega (arith, u.below)) (λ n low high. elim (byte_or_touch b n q high f) [ inl no_ ↦ inr no_ | inr tn ↦ (quiet c i a.gathers tag n (b.layout.col q) low high rq tn).1 q ]))))
+    p.1 ∙ a.sees k z p.0 (byte_before b i) (bytes_before b i (omega (arith, u.below)) f) agrees ∙ code.local k z _ _ (λ q here. ap (over true (d q))
+    (sym (chain_quiet (λ n. b.chosen n q) (λ n. (b.start n).data_at q) i b.count (omega (arith, u.below)) (λ n low high. elim (byte_or_touch b n q high f) [ inl no_ ↦ inr no_ | inr tn ↦ (quiet c i a.gathers tag n (b.layout.col q) low high (ap (b.start i).reach here ∙ rq) tn).1 q ]))))
 
 sound_stays : (b b2 : State) (j k z : ℕ) → IsCode b.layout → Formed b → j < b.count → (v : ℕ) → (b.start j).content k z ≡ Some v → ((q : ℕ) → b.layout.col q ≡ b.layout.cell_col k z → (b.start j).reach (b.layout.col q) ≡ true → byte_before b2 j q ≡ byte_before b j q) →
     b.layout.word k z (overlaid (b.start j).data_at (byte_before b j)) ≡ b.layout.word k z (overlaid (b.start j).data_at (byte_before b2 j))
@@ -157,7 +152,7 @@ sound_stays b b2 j k z code f low v content at = word_moves b b2 j j k z code (�
 pub keep_sound : (b : State) (e : Event) → Allowed b e → IsCode b.layout → Formed b → Calls b → Running b → Known_done b → Dead b → Late_ack b → Later b → Quiet b → Shows_right b → Sound b → Sound (after b e)
 keep_sound b (StartsWrite c g i d touch hit seen e1 pt) a code f r run kd dead late lt q s h = sound_added b (written_start b c g d touch hit seen e1 pt) (λ k z. false) code (λ w al. sound_write b c g i d touch hit seen e1 pt a code f r q s al) h
 keep_sound b (StartsRead c g lo hi reach) a code f r run kd dead late lt q s h = sound_added b (read_start b c g lo hi reach) (λ k z. false) code (λ w. absurd (true≢false (sym w))) h
-keep_sound b (Repairs k z e0) a code f r run kd dead late lt q s h = sound_added b (repair_start b k z e0) (λ f y. updated (λ w. false) k true f) code (λ w. absurd (true≢false (sym w))) h
+keep_sound b (Repairs k which e0) a code f r run kd dead late lt q s h = sound_added b (repair_start b k which e0) (λ f y. updated (λ w. false) k true f) code (λ w. absurd (true≢false (sym w))) h
 keep_sound b (Rebuilds k cells) a code f r run kd dead late lt q s h = sound_added b (rebuilt_start b k cells) (λ f y. updated (λ w. false) k true f) code (λ w. absurd (true≢false (sym w))) h
 keep_sound b (Acknowledges c i) a code f r run kd dead late lt q s h = λ j k z v low w al content. h j k z v low w al content ∙
     sound_stays b (after b (Acknowledges c i)) j k z code f low v content (λ y here rx. at_acks b c i j y a code r run f kd dead late (λ u t. before_unsettled b i j (b.layout.col y) u lt low al rx ((f j low).own w) t))

@@ -5,7 +5,7 @@ use Rattle.std.proofs.lemmas.Bool.{cases_Bool, eq-eqb, ne_eqb, cases_eq, true≢
 use Rattle.fence_law.specs.Words.{updated, over}
 use Rattle.fence_law.specs.Machine.{State, Event, Allowed, after, Grant, Write, Start, written_start, read_start, repair_start, rebuilt_start, performed, only, Untouched, Disturbed}
 use Rattle.fence_law.specs.Machine.Call.{Idle, Reads}
-use Rattle.fence_law.specs.Machine.Event.{Grants, Fenced, StartsWrite, StartsRead, Performs, Acknowledges, Repairs, Repaired, Rebuilds, Loses}
+use Rattle.fence_law.specs.Machine.Event.{Grants, Fenced, Refenced, StartsWrite, StartsRead, Performs, Acknowledges, Repairs, Repaired, Rebuilds, Loses}
 use Rattle.fence_law.specs.Law.{byte_before, cell_before, IsCode}
 use Rattle.fence_law.proofs.Words.{up_off, updated_at, updated_other}
 use Rattle.fence_law.proofs.Parts.{pf_hit, hit_case, pf_grows}
@@ -13,11 +13,11 @@ use Rattle.fence_law.proofs.Tags.{Tags}
 use Rattle.fence_law.proofs.Holds.{Holds}
 use Rattle.fence_law.proofs.Commands.{Calls}
 use Rattle.fence_law.proofs.Chains.{chain-none, chain_cares, chain_quiet, over_none}
-use Rattle.fence_law.proofs.Formed.{Gone_lost, not_gone, or_off, added, Mending, Formed, Running}
+use Rattle.fence_law.proofs.Formed.{Gone_lost, not_gone, or_off, added, Mending, Formed, Running, bytes_before}
 use Rattle.fence_law.proofs.Open.{Dead, Known, Unacked, Open, fresh_open, now_fresh}
 use Rattle.fence_law.proofs.Live.{Eras, Busy}
 use Rattle.fence_law.proofs.Acked.{Known_done, acks_here, option_cases}
-use Rattle.fence_law.proofs.Later.{Unsettled, open_unsettled, unsettled_none, Later, later_starts, byte_or_touch, pay_or_touch, bytes_end}
+use Rattle.fence_law.proofs.Later.{Unsettled, open_unsettled, unsettled_none, Later, later_starts, byte_or_touch, pay_or_touch, bytes_end, unsettled_refenced, refenced_unsettled}
 use Rattle.fence_law.proofs.Chosen.{old_apart, three, Chosen_open, Late_ack, acks_same, at_acks}
 use Rattle.fence_law.proofs.Held.{at_new, ct_new, ct_performs, Cells}
 use Rattle.fence_law.proofs.Before.{WholeAt}
@@ -45,24 +45,24 @@ wn_added : (b : State) (s : Start) (row : ℕ → ℕ → Bool) (k z : ℕ) → 
     ((Disturbed b (b.layout.cell_col k z) → ⊥) → cell_before b b.count k z ≡ b.layout.word k z (byte_before b b.count)) → cell_before (added b s row) (b.count + 1) k z ≡ b.layout.word k z (byte_before (added b s row) (b.count + 1))
 wn_added b s row k z code same none h = same ∙ h (λ d. none (disturbed_added b s row (b.layout.cell_col k z) d)) ∙ code.local k z _ _ (λ q here. sym (at_new b s row q))
 
-wn_mends : (b : State) (k0 z0 : ℕ) (e0 : ℕ → ℕ) → Allowed b (Repairs k0 z0 e0) → IsCode b.layout → Cells b → Whole_now b → Whole_now (after b (Repairs k0 z0 e0))
-wn_mends b k0 z0 e0 a code cells h k z is l none = let s : Start = repair_start b k0 z0 e0 in let row : ℕ → ℕ → Bool = λ f y. updated (λ w. false) k0 true f in
+wn_mends : (b : State) (k0 : ℕ) (which : ℕ → Bool) (e0 : ℕ → ℕ) → Allowed b (Repairs k0 which e0) → IsCode b.layout → Cells b → Whole_now b → Whole_now (after b (Repairs k0 which e0))
+wn_mends b k0 which e0 a code cells h k z is l none = let s : Start = repair_start b k0 which e0 in let row : ℕ → ℕ → Bool = λ f y. updated (λ w. false) k0 true f in
     elim (cases_eq k k0) [
       | inr ne ↦ wn_added b s row k z code (ct_new b s row k z ∙ ap (λ y. over y (s.content k z) (cell_before b b.count k z)) (updated_other (λ f. false) k0 true k ne)) none (h k z is l)
-      | inl e ↦ elim (cases_eq z z0) [
+      | inl e ↦ elim (cases_Bool (which z)) [
         | inr ne ↦ wn_added b s row k z code (ct_new b s row k z ∙ ap (λ y. over y (s.content k z) (cell_before b b.count k z)) (updated_at (λ f. false) k0 true k e) ∙ over_none true (s.content k z) _ (off e ne)) none (h k z is l)
         | inl ez ↦ ct_new b s row k z ∙ ap (λ y. over y (s.content k z) (cell_before b b.count k z)) (updated_at (λ f. false) k0 true k e) ∙ ap (λ o. over true o (cell_before b b.count k z)) (pay_here e ez) ∙
-            ap (λ y. b.layout.word y z0 e0) (sym e) ∙ ap (λ y. b.layout.word k y e0) (sym ez) ∙
-            code.local k z _ _ (λ q here. let c = a.all q (here ∙ ap (b.layout.cell_col k) ez ∙ ap (λ y. b.layout.cell_col y z0) e) in let law = code.copies c.0 c.1 q c.2 in
+            ap (λ y. b.layout.word y z e0) (sym e) ∙
+            code.local k z _ _ (λ q here. let c = a.all z q ez (here ∙ ap (λ y. b.layout.cell_col y z) e) in let law = code.copies c.0 c.1 q c.2 in
             c.4 ∙ cells c.0 c.1 c.3 ∙ h c.0 c.1 law.0 c.3 (λ d. none (disturbed_added b s row (b.layout.cell_col k z) (move law.1 here d))) ∙ law.2 (byte_before b b.count) ∙ sym (at_new b s row q))
       ]
     ]
   where
-    pay_here : k ≡ k0 → z ≡ z0 → only ((k == k0) && (z == z0)) (b.layout.word k0 z0 e0) ≡ Some (b.layout.word k0 z0 e0)
-    pay_here e ez = rw (eq-eqb k k0 e, eq-eqb z z0 ez) refl
+    pay_here : k ≡ k0 → which z ≡ true → only ((k == k0) && which z) (b.layout.word k0 z e0) ≡ Some (b.layout.word k0 z e0)
+    pay_here e ez = rw (eq-eqb k k0 e, ez) refl
 
-    off : k ≡ k0 → (z ≡ z0 → ⊥) → only ((k == k0) && (z == z0)) (b.layout.word k0 z0 e0) ≡ None
-    off e ne = rw (eq-eqb k k0 e, ne_eqb z z0 ne) refl
+    off : k ≡ k0 → which z ≡ false → only ((k == k0) && which z) (b.layout.word k0 z e0) ≡ None
+    off e ne = rw (eq-eqb k k0 e, ne) refl
 
     move : {x y q : ℕ} → x ≡ b.layout.col q → b.layout.col q ≡ y → Disturbed b x → Disturbed b y
     move e f d = (d.0, d.1, d.2, d.3, rw (e ∙ f) at d.4, d.5, d.6, d.7, d.8, d.9 ∙ e ∙ f, d.10, d.11)
@@ -154,11 +154,11 @@ pub keep_whole_now : (b : State) (e : Event) → Allowed b e → IsCode b.layout
     ((k : ℕ) (cells : ℕ → ℕ) → Allowed b (Rebuilds k cells) → (z : ℕ) → b.layout.is_cell k z ≡ true → cells z ≡ b.layout.word k z (byte_before b b.count)) → Gone_lost b → Whole_now b → Whole_now (after b e)
 keep_whole_now b (StartsWrite c g i d touch hit seen e1 pt) a code t f r run n u kd dead late m q lt co cells aw ml mixed st re gl h = λ k z is l none. wn_added b (written_start b c g d touch hit seen e1 pt) (λ k z. false) k z code (ct_new b (written_start b c g d touch hit seen e1 pt) (λ k z. false) k z) none (h k z is l)
 keep_whole_now b (StartsRead c g lo hi reach) a code t f r run n u kd dead late m q lt co cells aw ml mixed st re gl h = λ k z is l none. wn_added b (read_start b c g lo hi reach) (λ k z. false) k z code (ct_new b (read_start b c g lo hi reach) (λ k z. false) k z) none (h k z is l)
-keep_whole_now b (Repairs k z e0) a code t f r run n u kd dead late m q lt co cells aw ml mixed st re gl h = wn_mends b k z e0 a code cells h
+keep_whole_now b (Repairs k which e0) a code t f r run n u kd dead late m q lt co cells aw ml mixed st re gl h = wn_mends b k which e0 a code cells h
 keep_whole_now b (Rebuilds k cells0) a code t f r run n u kd dead late m q lt co cells aw ml mixed st re gl h = wn_rebuilds b k cells0 (re k cells0 a) code h
 keep_whole_now b (Acknowledges c i) a code t f r run n u kd dead late m q lt co cells aw ml mixed st re gl h = wn_acks b c i a code r run f kd dead late lt aw st h
 keep_whole_now b (Performs w) a code t f r run n u kd dead late m q lt co cells aw ml mixed st re gl h = wn_performs b w (fresh_open b w a.comes (now_fresh b w a t f n) n dead u) f ml h
-keep_whole_now b (Grants c rw range extending) a code t f r run n u kd dead late m q lt co cells aw ml mixed st re gl h = λ k z is l none. h k z is (or_off (b.gone k) (b.missing k) l) none
+keep_whole_now b (Grants c number rw range extending) a code t f r run n u kd dead late m q lt co cells aw ml mixed st re gl h = λ k z is l none. h k z is (or_off (b.gone k) (b.missing k) l) none
 keep_whole_now b (Loses c k0) a code t f r run n u kd dead late m q lt co cells aw ml mixed st re gl h = λ k z is l none. h k z is (up_off b.gone k0 k l) none
 keep_whole_now b Fenced a code t f r run n u kd dead late m q lt co cells aw ml mixed st re gl h = λ k z is l none. h k z is (not_gone b k gl l) none
 keep_whole_now b (Repaired done e0) a code t f r run n u kd dead late m q lt co cells aw ml mixed st re gl h = wn_mended b done e0 a gl code f dead lt m q co cells mixed h
@@ -186,6 +186,6 @@ untouched_zero b q f un = chain_quiet (λ i. b.chosen i q) (λ i. (b.start i).da
 
 pub rebuilt_word : (b : State) → IsCode b.layout → Formed b → Cells b → Eras b → Settled b → Whole_now b → (k : ℕ) (cells : ℕ → ℕ) → Allowed b (Rebuilds k cells) → (z : ℕ) → b.layout.is_cell k z ≡ true → cells z ≡ b.layout.word k z (byte_before b b.count)
 rebuilt_word b code formed held q st h k cells a z is = elim (a.right z is) [
-  | inl all ↦ all (byte_before b b.count) (λ f y isf here l. held f y l ∙ calm_whole b (b.layout.cell_col k z) formed st h (λ j u t. unsettled_none b j a.repaired q a.none u) f y isf here l)
+  | inl all ↦ all (byte_before b b.count) (bytes_before b b.count (omega arith) formed) (λ f y isf here l. held f y l ∙ calm_whole b (b.layout.cell_col k z) formed st h (λ j u t. unsettled_none b j a.repaired q a.none u) f y isf here l)
   | inr w ↦ w.1 ∙ sym (code.zeros k z) ∙ code.local k z _ _ (λ p here. sym (untouched_zero b p formed (rw (← here) at w.0)))
 ]

@@ -1,9 +1,11 @@
 -- What is claimed of every run of the machine.
-use Rattle.std.specs.Prelude.{cond, max, ◌≡◌, ℕ, zero, suc, ◌<◌, Bool, true, false, List, [], ◌∷◌, Option, Some, ◌||◌, Contains}
+use Rattle.std.specs.Prelude.{cond, max, ◌≡◌, ℕ, zero, suc, ◌<◌, Bool, true, false, List, [], ◌∷◌, Option, Some, None, ◌⊎◌, ◌||◌, Contains}
 use Rattle.file_log.specs.declared.entry.Entry.{Entry}
 use Rattle.file_log.specs.Judge.{Accepts, candidates}
 use Rattle.fence_law.specs.Words.{In, over}
-use Rattle.fence_law.specs.Machine.{State, Layout, Event, Write, Lawful, after, after_all, new_file_state, IsCalm, Disturbed, Short, Stands, Grant, Allowed}
+use Rattle.fence_law.specs.Machine.{State, Layout, Event, Write, Lawful, after, after_all, new_file_state, IsCalm, Disturbed, Short, Grant, Allowed, Agrees, AreBytes, Stood}
+use Rattle.fence_law.specs.Machine.Call.{Reads}
+use Rattle.fence_law.specs.Machine.Commit.{CommitDone}
 use Rattle.fence_law.specs.Machine.Event.{Performs, Shows, Fenced, Repaired}
 use Rattle.fence_law.specs.Log.{IsLog, IsPieces}
 
@@ -27,7 +29,7 @@ pub record IsCode (m : Layout) : Type 0 where
   pub copies : (k z p : ℕ) → m.copy k z p ≡ true → (m.is_cell k z ≡ true) × (m.cell_col k z ≡ m.col p) × ((d : ℕ → ℕ) → m.word k z d ≡ d p)
   pub has_copy : (p : ℕ) → (k z : ℕ) × (m.copy k z p ≡ true)
   pub plain : (k z f y : ℕ) → m.coded (m.cell_col k z) ≡ false → m.is_cell k z ≡ true → m.is_cell f y ≡ true → m.cell_col f y ≡ m.cell_col k z →
-      (p : ℕ) × (m.copy k z p ≡ true) × (m.copy f y p ≡ true)
+      (p : ℕ) × (m.copy k z p ≡ true) × (m.copy f y p ≡ true) × (m.position k ≡ m.position f)
 
 -- each moment is calm
 abbrev pub Calms : State → List Event → Type 0
@@ -50,13 +52,48 @@ IsLogged =
     (m : Layout) (events : List Event) → IsCode m → Lawful (new_file_state m) events → Calms (new_file_state m) events →
     IsPieces (reached m events) → (log : List Entry) × IsLog (reached m events) (reached m events).count log
 
--- In a calm run a column that isn't disturbed is whole: its components that aren't lost hold the codeword of bytes of which each is among the judge's values.
+-- a write under an outstanding grant, or under one that the running repair settles, that isn't acknowledged
+abbrev pub IsUnsettled : State → ℕ → Type 0
+IsUnsettled b j = (j < b.count) × ((b.start j).is_write ≡ true) × ((b.start j).alive ≡ true) × (b.acknowledged j ≡ false) × (((b.start j).tag ≡ b.tag) ⊎ ((b.repairing ≡ true) × ((b.start j).tag ≡ b.ended_tag)))
+
+-- what holds of a state that a calm run has reached
+pub record IsWholeAt (b : State) : Type 0 where
+  -- the log leaves bytes, each among the judge's values
+  pub bytes : AreBytes (byte_before b b.count)
+  pub among : (log : List Entry) → IsLog b b.count log → (q : ℕ) → Contains ((candidates log).values q) (byte_before b b.count q)
+  -- their words stand in a column that isn't disturbed, and in one that no unsettled write touches, on each component that isn't gone
+  pub undisturbed : (x : ℕ) → (Disturbed b x → ⊥) → Stood b x (byte_before b b.count)
+  pub settled : (x : ℕ) → ((j : ℕ) → IsUnsettled b j → (b.start j).touch x ≡ true → ⊥) → Stood b x (byte_before b b.count)
+  -- what isn't lost isn't gone
+  pub stands : (k : ℕ) → b.lost k ≡ false → b.gone k ≡ false
+  -- what a running read or gather was shown agrees with the bytes that the log left before it, also after a fence ended its grant
+  pub replies : (c j x : ℕ) → b.call c ≡ Reads j → (b.start j).reach x ≡ true → Agrees b j x (byte_before b j) × AreBytes (byte_before b j)
+
+-- In a calm run a column that isn't disturbed is whole: one list of bytes, each among the judge's values, gives the words of all such columns.
 abbrev pub IsWhole : Type 0
-IsWhole =
+IsWhole = (m : Layout) (events : List Event) → IsCode m → Lawful (new_file_state m) events → Calms (new_file_state m) events → IsWholeAt (reached m events)
+
+-- In a calm run, while no repair runs and no grant is outstanding, each column is whole: what was there when the last job's phase began still holds the words of the log's bytes.
+abbrev pub IsAudited : Type 0
+IsAudited =
     (m : Layout) (events : List Event) (x : ℕ) → IsCode m → Lawful (new_file_state m) events → Calms (new_file_state m) events →
-    (Disturbed (reached m events) x → ⊥) →
-    (d : ℕ → ℕ) × Stands (reached m events) x d ×
-    ((log : List Entry) → IsLog (reached m events) (reached m events).count log → (q : ℕ) → m.col q ≡ x → Contains ((candidates log).values q) (d q))
+    (reached m events).repairing ≡ false → ((c : ℕ) → (reached m events).outstanding c ≡ None) → Stood (reached m events) x (byte_before (reached m events) (reached m events).count)
+
+-- what holds of a state that a run has reached, calm or not
+pub record IsKeptAt (b : State) : Type 0 where
+  -- a held grant is the outstanding one, of the file's tag, or of an older tag, and then its client has none outstanding
+  pub held : (c : ℕ) (g : Grant) → b.held c ≡ Some g → ((g.tag ≡ b.tag) × (b.outstanding c ≡ Some g)) ⊎ ((g.tag < b.tag) × (b.outstanding c ≡ None))
+  -- but for a repair, the grant of an unsettled write is outstanding, for writing, and covers what the write touches
+  pub unsettled : (j : ℕ) → IsUnsettled b j → b.repairing ≡ false →
+      (g : Grant) × (b.outstanding (b.start j).client ≡ Some g) × (g.rw ≡ true) × ((x : ℕ) → (b.start j).touch x ≡ true → g.covers x ≡ true)
+  -- a component that the layout of an outstanding grant left out is gone
+  pub left : (c k : ℕ) (g : Grant) → b.outstanding c ≡ Some g → g.left k ≡ true → b.gone k ≡ true
+  -- a client under the file's tag knows the size, unless a commit of its own was carried out and isn't taken yet
+  pub knows : (c : ℕ) (g : Grant) → b.held c ≡ Some g → g.tag ≡ b.tag → ((j : ℕ) → b.commit c ≡ CommitDone j → ⊥) → b.known_size c ≡ b.size
+
+-- What a proof that follows the program's steps may use of grants, writes and sizes, in every run.
+abbrev pub IsKept : Type 0
+IsKept = (m : Layout) (events : List Event) → IsCode m → Lawful (new_file_state m) events → IsKeptAt (reached m events)
 
 -- the greatest end of the first entries that are flagged
 unfoldable pub grow : (ℕ → Bool) → (ℕ → ℕ) → ℕ → ℕ

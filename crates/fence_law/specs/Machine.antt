@@ -6,7 +6,7 @@ use Rattle.fence_law.specs.Words.{updated, In, over}
 
 -- a layout that the server granted to a client
 pub record Grant : Type 0 where
-  -- its number: no two grants have the same
+  -- its number: it rises from grant to grant
   pub number : ℕ
   -- the file's capability tag when it was granted
   pub tag : ℕ
@@ -119,6 +119,10 @@ pub record Start : Type 0 where
 pub record Layout : Type 0 where
   -- how many components there are
   pub components : ℕ
+  -- the tag with which the file is made
+  pub first_tag : ℕ
+  -- the position of a component: those of one position are replicas of each other
+  pub position : ℕ → ℕ
   -- the column of a byte, and whether a column has parity
   pub col : ℕ → ℕ
   pub coded : ℕ → Bool
@@ -148,6 +152,8 @@ pub record State : Type 0 where
   -- the server: whether a fence runs, or the repair after it
   pub fencing : Bool
   pub repairing : Bool
+  -- the tag of the grants whose writes the repair settles
+  pub ended_tag : ℕ
   -- the entry before which a column was last repaired
   pub repaired_at : ℕ → ℕ
   -- the file's capability tag
@@ -209,7 +215,7 @@ pub record State : Type 0 where
 pub data Event : Type 0 where
   -- a client asks for a layout; the server grants it, or refuses a request; the client takes the answer
   Asks : (c : ℕ) (rw : Bool) → Event
-  Grants : (c : ℕ) (rw : Bool) (range : ℕ → Bool) (extending : Bool) → Event
+  Grants : (c number : ℕ) (rw : Bool) (range : ℕ → Bool) (extending : Bool) → Event
   Refuses : (c : ℕ) (kind : RequestKind) → Event
   Takes : (c : ℕ) (o : Option Grant) (s0 : ℕ) → Event
   -- a commit, or a request of another file, is asked, carried out, answered
@@ -226,10 +232,12 @@ pub data Event : Type 0 where
   Fences : Event
   SetsTag : (k : ℕ) → Event
   Fenced : Event
+  -- a fence is over that began while the repair after an earlier one had not ended, since the server had stopped
+  Refenced : Event
   -- a client starts a write: under grant g, after gather i, of bytes d that end at e1; the cells that are hit, what was seen where d has nothing, the part of each cell
   StartsWrite : (c : ℕ) (g : Grant) (i : ℕ) (d : ℕ → Option ℕ) (touch : ℕ → Bool) (hit : ℕ → ℕ → Bool) (seen : ℕ → ℕ) (e1 : ℕ) (part : ℕ → ℕ → ℕ) → Event
   -- it sends part i to component k; the drive performs it; the client learns that
-  Sends : (c k : ℕ) (g : Grant) (j i : ℕ) → Event
+  Sends : (c k : ℕ) (g : Grant) (j i v : ℕ) → Event
   Performs : (m : Write) → Event
   Learns : (c k j v i : ℕ) → Event
   -- a write is acknowledged, or breaks off
@@ -256,8 +264,8 @@ pub data Event : Type 0 where
   RefusesCommit : (c j : ℕ) → Event
   TakesCommit : (c j : ℕ) → Event
   TakesRefusal : (c j : ℕ) → Event
-  -- a repair's WRITE of one cell is performed, the word of bytes e; the repair ends, with the columns that are done
-  Repairs : (k z : ℕ) (e : ℕ → ℕ) → Event
+  -- a repair's WRITE of these cells is performed, words of bytes e; the repair ends, with the columns that are done
+  Repairs : (k : ℕ) (cells : ℕ → Bool) (e : ℕ → ℕ) → Event
   Repaired : (done : ℕ → Bool) (e : ℕ → ℕ) → Event
   -- a lost component is made anew, with these cells
   Rebuilds : (k : ℕ) (cells : ℕ → ℕ) → Event
@@ -275,6 +283,10 @@ only false v = None
 abbrev pub payload : Layout → (ℕ → ℕ → Bool) → (ℕ → Option ℕ) → (ℕ → ℕ) → ℕ → ℕ → Option ℕ
 payload m hit d seen k z = only (hit k z) (m.word k z (overlaid d seen))
 
+-- data of bytes
+abbrev pub AreBytes : (ℕ → ℕ) → Type 0
+AreBytes d = (q : ℕ) → d q < 256
+
 -- data that agree with every reply of this call in this column
 abbrev pub Agrees : State → ℕ → ℕ → (ℕ → ℕ) → Type 0
 Agrees b j x d = (r : ReadReply) → In r b.shown → r.entry ≡ j → (z : ℕ) → b.layout.is_cell r.at z ≡ true → b.layout.cell_col r.at z ≡ x → r.cells z ≡ b.layout.word r.at z d
@@ -286,7 +298,7 @@ Stands b x d = (k z : ℕ) → b.layout.is_cell k z ≡ true → b.layout.cell_c
 -- a byte of which every copy is lost, or a parity of which every replica is
 abbrev pub Short : State → ℕ → Type 0
 Short b x = (k z : ℕ) × (b.layout.is_cell k z ≡ true) × (b.layout.cell_col k z ≡ x) ×
-    ((f y : ℕ) → b.layout.is_cell f y ≡ true → b.layout.cell_col f y ≡ x → ((d : ℕ → ℕ) → b.layout.word f y d ≡ b.layout.word k z d) → b.lost f ≡ true)
+    ((f y : ℕ) → b.layout.is_cell f y ≡ true → b.layout.cell_col f y ≡ x → b.layout.position f ≡ b.layout.position k → b.lost f ≡ true)
 
 -- nothing was left of the column
 abbrev pub Gone : State → ℕ → Type 0
@@ -323,7 +335,8 @@ NotClean (Return false) = Unit {0}
 -- when an event can happen: a name for each part of its guard
 abbrev pub Allowed : State → Event → Type 0
 Allowed b (Asks c rw) = record { free : b.waiting c ≡ false; home : b.away c ≡ false; none : b.held c ≡ None; idle : b.call c ≡ Idle }
-Allowed b (Grants c rw range extending) = record {
+Allowed b (Grants c number rw range extending) = record {
+  new : b.next ≤ number;
   asks : In (record { client = c; sequence = b.slot c + 1; kind = Get rw }) b.requests;
   over : b.fencing ≡ false;
   repaired : b.repairing ≡ false;
@@ -346,9 +359,10 @@ Allowed b (GivesBack c g) = record { free : b.waiting c ≡ false; home : b.away
 Allowed b (Reports c g) = record { free : b.waiting c ≡ false; home : b.away c ≡ false; has : b.held c ≡ Some g; broken : b.call c ≡ Broken }
 Allowed b (Forgets c) = record { free : b.waiting c ≡ false; plain : b.commit c ≡ NoCommit }
 Allowed b (Frees c) = In (record { client = c; sequence = b.slot c + 1; kind = Return true }) b.requests
-Allowed b Fences = record { over : b.fencing ≡ false; repaired : b.repairing ≡ false }
+Allowed b Fences = record { over : b.fencing ≡ false }
 Allowed b (SetsTag k) = In (b.object_tag k) b.set_tags
-Allowed b Fenced = record { runs : b.fencing ≡ true; all : (k : ℕ) → k < b.layout.components → (b.lost k ≡ true) ⊎ In (k, b.tag + 1) b.tag_replies }
+Allowed b Fenced = record { runs : b.fencing ≡ true; first : b.repairing ≡ false; all : (k : ℕ) → k < b.layout.components → (b.lost k ≡ true) ⊎ In (k, b.tag + 1) b.tag_replies }
+Allowed b Refenced = record { runs : b.fencing ≡ true; again : b.repairing ≡ true; all : (k : ℕ) → k < b.layout.components → (b.lost k ≡ true) ⊎ In (k, b.tag + 1) b.tag_replies }
 Allowed b (StartsWrite c g i d touch hit seen e1 part) = record {
   some : (p v : ℕ) × (d p ≡ Some v) × (p + 1 ≡ e1);
   ends : (p v : ℕ) → d p ≡ Some v → p < e1;
@@ -361,9 +375,10 @@ Allowed b (StartsWrite c g i d touch hit seen e1 part) = record {
   hits : (k z : ℕ) → hit k z ≡ true → (b.layout.is_cell k z ≡ true) × (touch (b.layout.cell_col k z) ≡ true);
   lands : (p v : ℕ) → d p ≡ Some v → (k z : ℕ) × (hit k z ≡ true) × (b.layout.cell_col k z ≡ b.layout.col p);
   misses : (k z : ℕ) → b.layout.is_cell k z ≡ true → g.left k ≡ false → hit k z ≡ false → (e : ℕ → ℕ) → b.layout.word k z (overlaid d e) ≡ b.layout.word k z e;
-  sees : (q : ℕ) → touch (b.layout.col q) ≡ true → d q ≡ None → (e : ℕ → ℕ) → Agrees b i (b.layout.col q) e → seen q ≡ e q;
+  bytes : (p v : ℕ) → d p ≡ Some v → v < 256;
+  sees : (k z : ℕ) → hit k z ≡ true → (e : ℕ → ℕ) → AreBytes e → Agrees b i (b.layout.cell_col k z) e → b.layout.word k z (overlaid d seen) ≡ b.layout.word k z (overlaid d e);
 }
-Allowed b (Sends c k g j i) = record { runs : b.call c ≡ Writes j; has : b.held c ≡ Some g; listed : (b.start j).left k ≡ false; first : b.out c k i ≡ NotSent }
+Allowed b (Sends c k g j i v) = record { new : b.nonce c < v; runs : b.call c ≡ Writes j; has : b.held c ≡ Some g; listed : (b.start j).left k ≡ false; first : b.out c k i ≡ NotSent }
 Allowed b (Performs m) = record { comes : In m b.writes; there : m.at < b.layout.components; stands : b.lost m.at ≡ false; here : b.gone m.at ≡ false; right : m.tag ≡ b.object_tag m.at; new : b.last_nonce m.at m.holder < m.nonce }
 Allowed b (Learns c k j v i) = record {
   runs : b.call c ≡ Writes j;
@@ -388,7 +403,7 @@ Allowed b (Shows j k) = record { client : (b.start j).server ≡ false; in_log :
 Allowed b (Answers c j f) = record {
   runs : b.call c ≡ Reads j;
   told : (r : ReadReply) × In r b.shown × (r.entry ≡ j);
-  all : (p : ℕ) → (b.start j).wanted p ≡ true → (d : ℕ → ℕ) → Agrees b j (b.layout.col p) d → f p ≡ d p;
+  all : (p : ℕ) → (b.start j).wanted p ≡ true → (d : ℕ → ℕ) → AreBytes d → Agrees b j (b.layout.col p) d → f p ≡ d p;
 }
 Allowed b (EndsRead c j) = b.call c ≡ Reads j
 Allowed b (Fails k) = Unit {0}
@@ -403,11 +418,10 @@ Allowed b (Commits c j g) = record { asks : b.commit c ≡ CommitAsked j; live :
 Allowed b (RefusesCommit c j) = b.commit c ≡ CommitAsked j
 Allowed b (TakesCommit c j) = b.commit c ≡ CommitDone j
 Allowed b (TakesRefusal c j) = b.commit c ≡ CommitRefused j
-Allowed b (Repairs k z e) = record {
+Allowed b (Repairs k cells e) = record {
   at_work : b.repairing ≡ true;
-  is : b.layout.is_cell k z ≡ true;
   stands : b.lost k ≡ false;
-  all : (q : ℕ) → b.layout.col q ≡ b.layout.cell_col k z → (f y : ℕ) × (b.layout.copy f y q ≡ true) × (b.gone f ≡ false) × (e q ≡ b.cell f y);
+  all : (z q : ℕ) → cells z ≡ true → b.layout.col q ≡ b.layout.cell_col k z → (f y : ℕ) × (b.layout.copy f y q ≡ true) × (b.gone f ≡ false) × (e q ≡ b.cell f y);
 }
 Allowed b (Repaired done e) = record {
   runs : b.repairing ≡ true;
@@ -421,7 +435,7 @@ Allowed b (Rebuilds k cells) = record {
   repaired : b.repairing ≡ false;
   unused : b.granted_since ≡ false;
   none : (c : ℕ) → b.outstanding c ≡ None;
-  right : (z : ℕ) → b.layout.is_cell k z ≡ true → ((d : ℕ → ℕ) → Stood b (b.layout.cell_col k z) d → cells z ≡ b.layout.word k z d) ⊎ (Untouched b (b.layout.cell_col k z) × (cells z ≡ 0));
+  right : (z : ℕ) → b.layout.is_cell k z ≡ true → ((d : ℕ → ℕ) → AreBytes d → Stood b (b.layout.cell_col k z) d → cells z ≡ b.layout.word k z d) ⊎ (Untouched b (b.layout.cell_col k z) × (cells z ≡ 0));
 }
 
 -- the cells of which the writes were performed, after this WRITE
@@ -429,8 +443,8 @@ abbrev pub performed : State → Write → ℕ → ℕ → ℕ → Bool
 performed b m = updated b.applied m.entry (updated (b.applied m.entry) m.at (λ z. b.applied m.entry m.at z || ((b.start m.entry).part m.at z == m.part)))
 
 -- the grant that is issued: of the next number, with the file's tag
-abbrev pub granted : State → ℕ → Bool → (ℕ → Bool) → Bool → Grant
-granted b c rw range extending = record { number = b.next; tag = b.tag; rw = rw; covers = range; extending = extending; left = b.missing }
+abbrev pub granted : State → ℕ → ℕ → Bool → (ℕ → Bool) → Bool → Grant
+granted b c number rw range extending = record { number = number; tag = b.tag; rw = rw; covers = range; extending = extending; left = b.missing }
 
 -- the entry of a write
 abbrev pub written_start : State → ℕ → Grant → (ℕ → Option ℕ) → (ℕ → Bool) → (ℕ → ℕ → Bool) → (ℕ → ℕ) → ℕ → (ℕ → ℕ → ℕ) → Start
@@ -478,9 +492,9 @@ read_start b c g lo hi reach = record {
   wanted = spans lo (min hi (b.known_size c) - lo);
 }
 
--- what a repair writes into one cell
-abbrev pub repair_start : State → ℕ → ℕ → (ℕ → ℕ) → Start
-repair_start b k z e = record {
+-- what a repair writes into some cells of a component
+abbrev pub repair_start : State → ℕ → (ℕ → Bool) → (ℕ → ℕ) → Start
+repair_start b k cells e = record {
   end_ = 0;
   clip = 0;
   from_ = 0;
@@ -497,7 +511,7 @@ repair_start b k z e = record {
   data_at = λ p. None;
   touch = λ y. true;
   reach = λ y. true;
-  content = λ f y. only ((f == k) && (y == z)) (b.layout.word k z e);
+  content = λ f y. only ((f == k) && cells y) (b.layout.word k y e);
   wanted = λ p. false;
 }
 
@@ -531,7 +545,7 @@ is_byte (Some u) v = u == v
 
 -- a write that wasn't acknowledged under a grant that the last fence ended
 abbrev pub ended : State → ℕ → Bool
-ended b j = (b.start j).is_write && ((b.start j).alive && (not (b.acknowledged j) && ((b.start j).tag + 1 == b.tag)))
+ended b j = (b.start j).is_write && ((b.start j).alive && (not (b.acknowledged j) && ((b.start j).tag == b.ended_tag)))
 
 -- which bytes count from a repair's end on: of the writes that the fence ended those that the repair found; where a column without parity has nothing left, all
 abbrev pub settled : State → (ℕ → Bool) → (ℕ → ℕ) → ℕ → ℕ → Bool
@@ -545,15 +559,15 @@ after b (Asks c rw) = record b {
   asked = updated b.asked c (Get rw);
   requests = record { client = c; sequence = b.sequence c + 1; kind = Get rw } ∷ b.requests;
 }
-after b (Grants c rw range extending) = record b {
+after b (Grants c number rw range extending) = record b {
   kept_size = updated b.kept_size c b.size;
   slot = updated b.slot c (b.slot c + 1);
-  kept_grant = updated b.kept_grant c (Some (granted b c rw range extending));
-  outstanding = updated b.outstanding c (Some (granted b c rw range extending));
-  next = b.next + 1;
+  kept_grant = updated b.kept_grant c (Some (granted b c number rw range extending));
+  outstanding = updated b.outstanding c (Some (granted b c number rw range extending));
+  next = number + 1;
   granted_since = true;
   gone = λ k. b.gone k || b.missing k;
-  answers = record { client = c; sequence = b.slot c + 1; grant = Some (granted b c rw range extending); size = b.size } ∷ b.answers;
+  answers = record { client = c; sequence = b.slot c + 1; grant = Some (granted b c number rw range extending); size = b.size } ∷ b.answers;
 }
 after b (Refuses c kind) = record b {
   kept_size = updated b.kept_size c b.size;
@@ -590,7 +604,8 @@ after b (Frees c) = record b {
 }
 after b Fences = record b { fencing = true; set_tags = b.tag ∷ b.set_tags }
 after b (SetsTag k) = record b { object_tag = updated b.object_tag k (b.object_tag k + 1); tag_replies = (k, b.object_tag k + 1) ∷ b.tag_replies }
-after b Fenced = record b { tag = b.tag + 1; fencing = false; repairing = true; gone = b.lost; outstanding = λ c. None; granted_since = false }
+after b Refenced = record b { tag = b.tag + 1; fencing = false; outstanding = λ c. None; granted_since = false }
+after b Fenced = record b { tag = b.tag + 1; ended_tag = b.tag; fencing = false; repairing = true; gone = b.lost; outstanding = λ c. None; granted_since = false }
 after b (StartsWrite c g i d touch hit seen e1 part) = record b {
   count = b.count + 1;
   start = updated b.start b.count (written_start b c g d touch hit seen e1 part);
@@ -602,10 +617,10 @@ after b (StartsWrite c g i d touch hit seen e1 part) = record b {
   call = updated b.call c (Writes b.count);
   out = updated b.out c (λ k i2. NotSent);
 }
-after b (Sends c k g j i) = record b {
-  nonce = updated b.nonce c (b.nonce c + 1);
-  out = updated b.out c (updated (b.out c) k (updated (b.out c k) i (Sent (b.nonce c + 1))));
-  writes = record { holder = c; grant = g.number; tag = g.tag; nonce = b.nonce c + 1; at = k; entry = j; part = i } ∷ b.writes;
+after b (Sends c k g j i v) = record b {
+  nonce = updated b.nonce c v;
+  out = updated b.out c (updated (b.out c) k (updated (b.out c k) i (Sent v)));
+  writes = record { holder = c; grant = g.number; tag = g.tag; nonce = v; at = k; entry = j; part = i } ∷ b.writes;
 }
 after b (Performs m) = record b {
   cell = updated b.cell m.at (λ z. over ((b.start m.entry).part m.at z == m.part) ((b.start m.entry).content m.at z) (b.cell m.at z));
@@ -644,15 +659,15 @@ after b (Commits c j g) = record b { commit = updated b.commit c (CommitDone j);
 after b (RefusesCommit c j) = record b { commit = updated b.commit c (CommitRefused j) }
 after b (TakesCommit c j) = record b { commit = updated b.commit c NoCommit; known_size = updated b.known_size c (max (b.known_size c) (b.start j).end_) }
 after b (TakesRefusal c j) = record b { commit = updated b.commit c NoCommit; held = updated b.held c None; call = updated b.call c Idle }
-after b (Repairs k z e) = record b {
+after b (Repairs k cells e) = record b {
   count = b.count + 1;
-  start = updated b.start b.count (repair_start b k z e);
+  start = updated b.start b.count (repair_start b k cells e);
   applied = updated b.applied b.count (λ f y. updated (λ w. false) k true f);
   chosen = updated b.chosen b.count (λ p. false);
   committed = updated b.committed b.count false;
   acknowledged = updated b.acknowledged b.count false;
   answer = updated b.answer b.count None;
-  cell = updated b.cell k (updated (b.cell k) z (b.layout.word k z e));
+  cell = updated b.cell k (λ y. cond (cells y) (b.layout.word k y e) (b.cell k y));
 }
 after b (Repaired done e) = record b { repairing = false; gone = b.lost; repaired_at = λ x. cond (done x) b.count (b.repaired_at x); chosen = settled b done e }
 after b (Rebuilds k cells) = record b {
@@ -685,7 +700,7 @@ Lawful b (e ∷ es) = Allowed b e × Lawful (after b e) es
 abbrev pub new_file_state : Layout → State
 new_file_state m = record {
   layout = m;
-  object_tag = λ k. 1;
+  object_tag = λ k. m.first_tag;
   last_nonce = λ k c. 0;
   cell = λ k z. 0;
   lost = λ k. false;
@@ -694,8 +709,9 @@ new_file_state m = record {
   missing = λ k. false;
   granted_since = false;
   repairing = false;
+  ended_tag = 0;
   repaired_at = λ x. 0;
-  tag = 1;
+  tag = m.first_tag;
   fencing = false;
   outstanding = λ c. None;
   next = 1;

@@ -3,7 +3,7 @@
 
 ghost use Rattle.fence_law.specs.Runs.{IsMeantThen};
 ghost use Rattle.fence_law.specs.Examples.{IsShown};
-ghost use Rattle.fence_law.specs.Law.{IsConflictFree, IsFenced, IsGranted, IsJudged, IsLogged, IsRestored, IsSized, IsSpared, IsWhole};
+ghost use Rattle.fence_law.specs.Law.{IsAudited, IsConflictFree, IsFenced, IsGranted, IsJudged, IsKept, IsLogged, IsRestored, IsSized, IsSpared, IsWhole};
 
 /// In every run, beside an extending grant no other client has one, and grants of different clients that share a column are both for reading.
 pub fn conflict_free()
@@ -45,9 +45,20 @@ pub fn has_log()
     ensures { IsLogged }
 {}
 
-/// In a calm run a column that isn't disturbed is whole, of bytes among the judge's values.
+/// In every run, what a proof that follows the program's steps may use of grants, writes and sizes.
+pub fn kept()
+    ensures { IsKept }
+{}
+
+/// In a calm run a column that isn't disturbed is whole, of bytes among the judge's values, which are the
+/// same for all columns.
 pub fn whole()
     ensures { IsWhole }
+{}
+
+/// In a calm run, while no repair runs and no grant is outstanding, each column is whole.
+pub fn audited()
+    ensures { IsAudited }
 {}
 
 /// Three short runs, and what their reads answer.
