@@ -5,7 +5,7 @@ use Rattle.std.proofs.lemmas.Bool.{cases_Bool}
 use Rattle.std.proofs.lemmas.Bool.Decides.{nat_tests}
 use Rattle.data_map.specs.declared.ranges.TheConstants.{MAX_FILE_SIZE}
 use Rattle.server_rules.specs.declared.limits.TheConstants.{GREATEST_TAG, GREATEST_GRANT}
-use Rattle.server_rules.specs.State.{File, Kept, Grant, Component, Awaited, Job, JobKind, Work, Reply, Entry, Args, Get, Commit, Return, Revoking, Spent, Reported, Targets, Gathers, Fills}
+use Rattle.server_rules.specs.State.{File, Kept, Grant, Component, Awaited, Job, JobKind, Work, Reply, IoErr, RequestArgs, Get, Commit, Return, Revoking, Spent, Reported, Targets, Gathers, Fills}
 use Rattle.server_rules.specs.Grants.{conflicts, grant_of, without}
 use Rattle.server_rules.specs.Going.{Going, keeping, with_components, noting, noting_if}
 use Rattle.server_rules.specs.Numbers.{among}
@@ -280,13 +280,13 @@ leaves_return go format client (Taken ks) s =
 leaves_return go format client TooMany s = leaves_here (noting go Spent) s
 leaves_return go format client Fencing s = leaves_fence Revoking format go
 
-leaves_returns : (go : Going) (format client : ℕ) (report : List Entry) → IsSafe go.file → Leaves go.file.kept (returns_on go format client report).going
+leaves_returns : (go : Going) (format client : ℕ) (report : List IoErr) → IsSafe go.file → Leaves go.file.kept (returns_on go format client report).going
 unfolding returns_on
 leaves_returns go format client report s = leaves_return go format client (return_row go.file.kept client report) s
 
 -- ---- a request
 
-pub leaves_served : (go : Going) (next format now client : ℕ) (args : Args) → IsSafe go.file → Leaves go.file.kept (serves go next format now client args).going
+pub leaves_served : (go : Going) (next format now client : ℕ) (args : RequestArgs) → IsSafe go.file → Leaves go.file.kept (serves go next format now client args).going
 leaves_served go next format now client (Get iomode offset count) s = leaves_gets go next format now client iomode offset count s
 leaves_served go next format now client (Commit last) s = leaves_commits go client last s
 leaves_served go next format now client (Return report) s = leaves_returns go format client report s

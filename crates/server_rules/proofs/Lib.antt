@@ -13,8 +13,10 @@ mod RowsFence
 mod RowsGet
 mod RowsGroups
 mod RowsLoss
+mod RowsLost
 mod RowsMirrors
 mod RowsNoSpace
+mod RowsNumbers
 mod RowsOlder
 mod RowsRebuild
 mod RowsRepair

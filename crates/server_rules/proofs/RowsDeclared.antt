@@ -1,6 +1,8 @@
--- drive d0 0b0b0b0b0b0b0b0b0b0b0b0b0b0b0b0b0b0b0b0b 20000
--- drive d1 0b0b0b0b0b0b0b0b0b0b0b0b0b0b0b0b0b0b0b0b 20000
--- drive d2 0b0b0b0b0b0b0b0b0b0b0b0b0b0b0b0b0b0b0b0b 20000
+-- A drive is declared while its component is read by a repair: the stripe is left short.
+-- The scenario:
+-- drive d0 0b..0b 20000
+-- drive d1 0b..0b 20000
+-- drive d2 0b..0b 20000
 -- client c0
 -- client c1
 -- file f0 3 4 0 0 0 3 1
@@ -19,43 +21,35 @@
 -- fail d1
 -- declare d1
 -- settle
-use Rattle.std.specs.Prelude.{List, [], ◌∷◌, true, refl, ◌≡◌}
-use Rattle.osd_bytes.specs.declared.node.Node.TheVariants.{Drive as FromDrive, Client as FromClient}
-use Rattle.server_rules.specs.State.{Server, Get, ToRevoke, ToDeclare}
-use Rattle.server_rules.specs.Messages.{Asks, Replies}
-use Rattle.server_rules.specs.History.{Hears, Makes, Obeys, Act}
+use Rattle.std.specs.Prelude.{List, [], ◌∷◌, refl, ◌≡◌, true}
+use Rattle.osd_commands.specs.declared.actions.Action.TheVariants.{Create, SetTag}
+use Rattle.server_rules.specs.State.{Server, RawMap, Fenced, Ready, Repaired, Get, ToDeclare, ToRevoke}
+use Rattle.server_rules.specs.Commands.{label}
+use Rattle.server_rules.specs.History.{Makes, Obeys, Event}
 use Rattle.server_rules.specs.Making.{new_server}
-use Rattle.server_rules.specs.Rows.{run}
+use Rattle.server_rules.specs.Rows.{done, on, placing, note, asks_at, performed, creates, raises_tag, answers, Usable, gives_layout}
 use Rattle.server_rules.proofs.Opened.{opened}
 
-abbrev acts : List Act
-acts =
-    record { input = Makes 0 (record { comps = 3; unit = 4; width = 0; depth = 0; mirrors = 0; algorithm = 3 }) 1; chosen = (0 ∷ 1 ∷ 2 ∷ []) } ∷
-    record { input = Hears 0 (FromDrive 0) (Replies (record { action = 1; verdict = 0; object = 65536; nonce = 1; detail = 0; payload = [] })); chosen = [] } ∷
-    record { input = Hears 0 (FromDrive 1) (Replies (record { action = 1; verdict = 0; object = 65537; nonce = 2; detail = 0; payload = [] })); chosen = [] } ∷
-    record { input = Hears 0 (FromDrive 2) (Replies (record { action = 1; verdict = 0; object = 65538; nonce = 3; detail = 0; payload = [] })); chosen = [] } ∷
-    record { input = Hears 0 (FromClient 0) (Asks (record { client = 0; sequence = 1; file = 0; args = Get 2 0 8 })); chosen = [] } ∷
-    record { input = Obeys ToRevoke 0; chosen = [] } ∷
-    record { input = Hears 0 (FromDrive 0) (Replies (record { action = 6; verdict = 0; object = 65536; nonce = 4; detail = 2; payload = [] })); chosen = [] } ∷
-    record { input = Hears 0 (FromDrive 1) (Replies (record { action = 6; verdict = 0; object = 65537; nonce = 5; detail = 2; payload = [] })); chosen = [] } ∷
-    record { input = Obeys ToDeclare 1; chosen = [] } ∷
-    record { input = Hears 0 (FromDrive 2) (Replies (record { action = 6; verdict = 0; object = 65538; nonce = 6; detail = 2; payload = [] })); chosen = [] } ∷
-    []
+abbrev striping : RawMap
+striping = record { comps = 3; unit = 4; width = 0; depth = 0; mirrors = 0; algorithm = 3 }
 
 abbrev first : Server
 first = new_server ((record { number = 0; key = []; capacity = 20000; online = true }) ∷ (record { number = 1; key = []; capacity = 20000; online = true }) ∷ (record { number = 2; key = []; capacity = 20000; online = true }) ∷ [])
 
-pub steps : run first acts ≡
-    ((1 ∷ 0 ∷ 1 ∷ 65536 ∷ 0 ∷ 0 ∷ 1 ∷ 0 ∷ 1 ∷ 1 ∷ 0 ∷ 0 ∷ 0 ∷ 0 ∷ 0 ∷ 0 ∷ 0 ∷ 0 ∷ 0 ∷ 0 ∷ 0 ∷ 3 ∷ 0 ∷ 0 ∷ 0 ∷ 0 ∷ 0 ∷ 0 ∷ 0 ∷ 4 ∷ 0 ∷ 0 ∷ 0 ∷ 0 ∷ 0 ∷ 0 ∷ 0 ∷ 0 ∷ 0 ∷ 0 ∷ 0 ∷ 0 ∷ 0 ∷ 0 ∷ 0 ∷ 3 ∷ []) ∷ (1 ∷ 1 ∷ 1 ∷ 65537 ∷ 0 ∷ 0 ∷ 2 ∷ 0 ∷ 1 ∷ 1 ∷ 0 ∷ 0 ∷ 0 ∷ 0 ∷ 0 ∷ 0 ∷ 0 ∷ 1 ∷ 0 ∷ 0 ∷ 0 ∷ 3 ∷ 0 ∷ 0 ∷ 0 ∷ 0 ∷ 0 ∷ 0 ∷ 0 ∷ 4 ∷ 0 ∷ 0 ∷ 0 ∷ 0 ∷ 0 ∷ 0 ∷ 0 ∷ 0 ∷ 0 ∷ 0 ∷ 0 ∷ 0 ∷ 0 ∷ 0 ∷ 0 ∷ 3 ∷ []) ∷ (1 ∷ 2 ∷ 1 ∷ 65538 ∷ 0 ∷ 0 ∷ 3 ∷ 0 ∷ 1 ∷ 1 ∷ 0 ∷ 0 ∷ 0 ∷ 0 ∷ 0 ∷ 0 ∷ 0 ∷ 2 ∷ 0 ∷ 0 ∷ 0 ∷ 3 ∷ 0 ∷ 0 ∷ 0 ∷ 0 ∷ 0 ∷ 0 ∷ 0 ∷ 4 ∷ 0 ∷ 0 ∷ 0 ∷ 0 ∷ 0 ∷ 0 ∷ 0 ∷ 0 ∷ 0 ∷ 0 ∷ 0 ∷ 0 ∷ 0 ∷ 0 ∷ 0 ∷ 3 ∷ []) ∷ []) ∷
-    [] ∷
-    [] ∷
-    ((9 ∷ 0 ∷ 10 ∷ []) ∷ []) ∷
-    ((3 ∷ 0 ∷ 1 ∷ 0 ∷ 50 ∷ 0 ∷ 0 ∷ 0 ∷ 1 ∷ 2 ∷ 0 ∷ 8 ∷ 0 ∷ 65536 ∷ 1 ∷ 1 ∷ 6 ∷ 90 ∷ 1 ∷ 0 ∷ 1 ∷ 65536 ∷ 65536 ∷ 0 ∷ 4 ∷ 1 ∷ 65537 ∷ 1 ∷ 1 ∷ 6 ∷ 90 ∷ 1 ∷ 0 ∷ 1 ∷ 65537 ∷ 65537 ∷ 0 ∷ 4 ∷ 2 ∷ 65538 ∷ 1 ∷ 1 ∷ 6 ∷ 90 ∷ 1 ∷ 0 ∷ 1 ∷ 65538 ∷ 65538 ∷ 0 ∷ 4 ∷ []) ∷ []) ∷
-    ((1 ∷ 0 ∷ 6 ∷ 65536 ∷ 0 ∷ 0 ∷ 4 ∷ 0 ∷ 1 ∷ 1 ∷ []) ∷ (1 ∷ 1 ∷ 6 ∷ 65537 ∷ 0 ∷ 0 ∷ 5 ∷ 0 ∷ 1 ∷ 1 ∷ []) ∷ (1 ∷ 2 ∷ 6 ∷ 65538 ∷ 0 ∷ 0 ∷ 6 ∷ 0 ∷ 1 ∷ 1 ∷ []) ∷ []) ∷
-    [] ∷
-    [] ∷
-    [] ∷
-    ((9 ∷ 0 ∷ 11 ∷ 2 ∷ []) ∷ (9 ∷ 0 ∷ 12 ∷ 1 ∷ 1 ∷ []) ∷ []) ∷
+abbrev events : List Event
+events =
+    placing (0 ∷ 1 ∷ 2 ∷ []) (on (Makes 0 striping 1) [] (creates 0 65536 1 1 1 (label striping 0 0) ∷ creates 1 65537 1 1 2 (label striping 0 1) ∷ creates 2 65538 1 1 3 (label striping 0 2) ∷ [])) ∷
+    on (performed 0 Create 65536 1 0 []) [] [] ∷
+    on (performed 1 Create 65537 2 0 []) [] [] ∷
+    on (performed 2 Create 65538 3 0 []) (note 0 Ready ∷ []) [] ∷
+    on (asks_at 0 0 1 0 (Get 2 0 8)) [] (answers 0 1 0 0 0 (gives_layout (record { number = 1; client = 0; writes = true; expiry = 90; tag = 1; format = 1; offset = 0; len = 8; map = striping; components = Usable 0 65536 0 4 ∷ Usable 1 65537 0 4 ∷ Usable 2 65538 0 4 ∷ [] })) ∷ []) ∷
+    on (Obeys ToRevoke 0) [] (raises_tag 0 65536 1 1 4 ∷ raises_tag 1 65537 1 1 5 ∷ raises_tag 2 65538 1 1 6 ∷ []) ∷
+    on (performed 0 SetTag 65536 4 2 []) [] [] ∷
+    on (performed 1 SetTag 65537 5 2 []) [] [] ∷
+    on (Obeys ToDeclare 1) [] [] ∷
+    on (performed 2 SetTag 65538 6 2 []) (note 0 (Fenced 2) ∷ note 0 (Repaired 1 1) ∷ []) [] ∷
     []
+
+pub steps : done first events ≡ events
 unfolding opened
 steps = refl

@@ -1,4 +1,6 @@
--- drive d0 0b0b0b0b0b0b0b0b0b0b0b0b0b0b0b0b0b0b0b0b 20000
+-- Grants, a conflict, a recall, a clean return; a file that there isn't.
+-- The scenario:
+-- drive d0 0b..0b 20000
 -- client c0
 -- client c1
 -- file f0 1 4 0 0 0 1 1
@@ -8,39 +10,33 @@
 -- resend c0
 -- deliver 14
 -- do c1 read f9 0 1
-use Rattle.std.specs.Prelude.{List, [], ◌∷◌, Some, true, refl, ◌≡◌}
-use Rattle.osd_bytes.specs.declared.node.Node.TheVariants.{Drive as FromDrive, Client as FromClient}
-use Rattle.server_rules.specs.State.{Server, Get, Commit, Return}
-use Rattle.server_rules.specs.Messages.{Asks, Replies}
-use Rattle.server_rules.specs.History.{Hears, Makes, Act}
+use Rattle.std.specs.Prelude.{List, [], ◌∷◌, refl, ◌≡◌, Some, true, false}
+use Rattle.osd_commands.specs.declared.actions.Action.TheVariants.{Create}
+use Rattle.layout_ops.specs.declared.statuses.TheConstants.{NFS4ERR_NOENT}
+use Rattle.server_rules.specs.State.{Server, RawMap, Ready, Commit, Get, Return}
+use Rattle.server_rules.specs.History.{Makes, Event}
 use Rattle.server_rules.specs.Making.{new_server}
-use Rattle.server_rules.specs.Rows.{run}
+use Rattle.server_rules.specs.Rows.{done, on, placing, note, asks_at, performed, creates, answers, no_layout, try_later, committed, returned, Usable, gives_layout, recalls}
 use Rattle.server_rules.proofs.Opened.{opened}
 
-abbrev acts : List Act
-acts =
-    record { input = Makes 0 (record { comps = 1; unit = 4; width = 0; depth = 0; mirrors = 0; algorithm = 1 }) 1; chosen = (0 ∷ []) } ∷
-    record { input = Hears 0 (FromDrive 0) (Replies (record { action = 1; verdict = 0; object = 65536; nonce = 1; detail = 0; payload = [] })); chosen = [] } ∷
-    record { input = Hears 0 (FromClient 0) (Asks (record { client = 0; sequence = 1; file = 0; args = Get 2 0 1 })); chosen = [] } ∷
-    record { input = Hears 0 (FromClient 0) (Asks (record { client = 0; sequence = 2; file = 0; args = Commit (Some 0) })); chosen = [] } ∷
-    record { input = Hears 0 (FromClient 1) (Asks (record { client = 1; sequence = 1; file = 0; args = Get 1 0 1 })); chosen = [] } ∷
-    record { input = Hears 0 (FromClient 0) (Asks (record { client = 0; sequence = 3; file = 0; args = Return [] })); chosen = [] } ∷
-    record { input = Hears 0 (FromClient 1) (Asks (record { client = 1; sequence = 2; file = 0; args = Get 1 0 1 })); chosen = [] } ∷
-    record { input = Hears 0 (FromClient 1) (Asks (record { client = 1; sequence = 3; file = 9; args = Get 1 0 1 })); chosen = [] } ∷
-    []
+abbrev striping : RawMap
+striping = record { comps = 1; unit = 4; width = 0; depth = 0; mirrors = 0; algorithm = 1 }
 
 abbrev first : Server
 first = new_server ((record { number = 0; key = []; capacity = 20000; online = true }) ∷ [])
 
-pub steps : run first acts ≡
-    ((1 ∷ 0 ∷ 1 ∷ 65536 ∷ 0 ∷ 0 ∷ 1 ∷ 0 ∷ 1 ∷ 1 ∷ 0 ∷ 0 ∷ 0 ∷ 0 ∷ 0 ∷ 0 ∷ 0 ∷ 0 ∷ 0 ∷ 0 ∷ 0 ∷ 1 ∷ 0 ∷ 0 ∷ 0 ∷ 0 ∷ 0 ∷ 0 ∷ 0 ∷ 4 ∷ 0 ∷ 0 ∷ 0 ∷ 0 ∷ 0 ∷ 0 ∷ 0 ∷ 0 ∷ 0 ∷ 0 ∷ 0 ∷ 0 ∷ 0 ∷ 0 ∷ 0 ∷ 1 ∷ []) ∷ []) ∷
-    ((9 ∷ 0 ∷ 10 ∷ []) ∷ []) ∷
-    ((3 ∷ 0 ∷ 1 ∷ 0 ∷ 50 ∷ 0 ∷ 0 ∷ 0 ∷ 1 ∷ 2 ∷ 0 ∷ 4 ∷ 0 ∷ 65536 ∷ 1 ∷ 1 ∷ 6 ∷ 90 ∷ 1 ∷ 0 ∷ 1 ∷ 65536 ∷ 65536 ∷ 0 ∷ 4 ∷ []) ∷ []) ∷
-    ((3 ∷ 0 ∷ 2 ∷ 0 ∷ 49 ∷ 0 ∷ 0 ∷ 1 ∷ []) ∷ []) ∷
-    ((2 ∷ 0 ∷ 1 ∷ 0 ∷ 1 ∷ []) ∷ (3 ∷ 1 ∷ 1 ∷ 0 ∷ 50 ∷ 10058 ∷ 0 ∷ 1 ∷ []) ∷ []) ∷
-    ((3 ∷ 0 ∷ 3 ∷ 0 ∷ 51 ∷ 0 ∷ 0 ∷ 1 ∷ []) ∷ []) ∷
-    ((3 ∷ 1 ∷ 2 ∷ 0 ∷ 50 ∷ 0 ∷ 0 ∷ 1 ∷ 2 ∷ 1 ∷ 0 ∷ 4 ∷ 0 ∷ 65536 ∷ 1 ∷ 1 ∷ 2 ∷ 90 ∷ 2 ∷ 1 ∷ 1 ∷ 65536 ∷ 65536 ∷ 0 ∷ 4 ∷ []) ∷ []) ∷
-    ((3 ∷ 1 ∷ 3 ∷ 9 ∷ 50 ∷ 2 ∷ 0 ∷ 0 ∷ []) ∷ []) ∷
+abbrev events : List Event
+events =
+    placing (0 ∷ []) (on (Makes 0 striping 1) [] (creates 0 65536 1 1 1 (0 ∷ 0 ∷ 0 ∷ 0 ∷ 0 ∷ 0 ∷ 0 ∷ 0 ∷ 0 ∷ 0 ∷ 0 ∷ 1 ∷ 0 ∷ 0 ∷ 0 ∷ 0 ∷ 0 ∷ 0 ∷ 0 ∷ 4 ∷ 0 ∷ 0 ∷ 0 ∷ 0 ∷ 0 ∷ 0 ∷ 0 ∷ 0 ∷ 0 ∷ 0 ∷ 0 ∷ 0 ∷ 0 ∷ 0 ∷ 0 ∷ 1 ∷ []) ∷ [])) ∷
+    on (performed 0 Create 65536 1 0 []) (note 0 Ready ∷ []) [] ∷
+    on (asks_at 0 0 1 0 (Get 2 0 1)) [] (answers 0 1 0 0 0 (gives_layout (record { number = 1; client = 0; writes = true; expiry = 90; tag = 1; format = 1; offset = 0; len = 4; map = striping; components = Usable 0 65536 0 4 ∷ [] })) ∷ []) ∷
+    on (asks_at 0 0 2 0 (Commit (Some 0))) [] (answers 0 2 0 0 1 committed ∷ []) ∷
+    on (asks_at 0 1 1 0 (Get 1 0 1)) [] (recalls 0 1 0 1 ∷ answers 1 1 0 0 1 try_later ∷ []) ∷
+    on (asks_at 0 0 3 0 (Return [])) [] (answers 0 3 0 0 1 returned ∷ []) ∷
+    on (asks_at 0 1 2 0 (Get 1 0 1)) [] (answers 1 2 0 0 1 (gives_layout (record { number = 2; client = 1; writes = false; expiry = 90; tag = 1; format = 1; offset = 0; len = 4; map = striping; components = Usable 0 65536 0 4 ∷ [] })) ∷ []) ∷
+    on (asks_at 0 1 3 9 (Get 1 0 1)) [] (answers 1 3 9 0 0 (no_layout NFS4ERR_NOENT) ∷ []) ∷
     []
+
+pub steps : done first events ≡ events
 unfolding opened
 steps = refl

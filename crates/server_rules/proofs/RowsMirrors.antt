@@ -1,7 +1,9 @@
--- drive d0 0b0b0b0b0b0b0b0b0b0b0b0b0b0b0b0b0b0b0b0b 20000
--- drive d1 0b0b0b0b0b0b0b0b0b0b0b0b0b0b0b0b0b0b0b0b 20000
--- drive d2 0b0b0b0b0b0b0b0b0b0b0b0b0b0b0b0b0b0b0b0b 20000
--- drive d3 0b0b0b0b0b0b0b0b0b0b0b0b0b0b0b0b0b0b0b0b 20000
+-- A repair makes the mirrors equal to the first present replica of each position.
+-- The scenario:
+-- drive d0 0b..0b 20000
+-- drive d1 0b..0b 20000
+-- drive d2 0b..0b 20000
+-- drive d3 0b..0b 20000
 -- client c0
 -- client c1
 -- file f0 4 2 0 0 1 1 1
@@ -11,55 +13,42 @@
 -- deliver 10
 -- revoke f0
 -- settle
-use Rattle.std.specs.Prelude.{List, [], ◌∷◌, Some, true, refl, ◌≡◌}
-use Rattle.osd_bytes.specs.declared.node.Node.TheVariants.{Drive as FromDrive, Client as FromClient}
-use Rattle.server_rules.specs.State.{Server, Get, Commit, ToRevoke}
-use Rattle.server_rules.specs.Messages.{Asks, Replies}
-use Rattle.server_rules.specs.History.{Hears, Makes, Obeys, Act}
+use Rattle.std.specs.Prelude.{List, [], ◌∷◌, refl, ◌≡◌, Some, true}
+use Rattle.osd_commands.specs.declared.actions.Action.TheVariants.{Create, Read, SetTag}
+use Rattle.layout_ops.specs.declared.statuses.TheConstants.{NFS4ERR_BADLAYOUT}
+use Rattle.server_rules.specs.State.{Server, RawMap, Fenced, Ready, Repaired, Commit, Get, ToRevoke}
+use Rattle.server_rules.specs.Commands.{label}
+use Rattle.server_rules.specs.History.{Makes, Obeys, Event}
 use Rattle.server_rules.specs.Making.{new_server}
-use Rattle.server_rules.specs.Rows.{run}
+use Rattle.server_rules.specs.Rows.{done, on, placing, note, asks_at, performed, creates, raises_tag, reads_from, answers, not_committed, Usable, gives_layout}
 use Rattle.server_rules.proofs.Opened.{opened}
 
-abbrev acts : List Act
-acts =
-    record { input = Makes 0 (record { comps = 4; unit = 2; width = 0; depth = 0; mirrors = 1; algorithm = 1 }) 1; chosen = (0 ∷ 1 ∷ 2 ∷ 3 ∷ []) } ∷
-    record { input = Hears 0 (FromDrive 0) (Replies (record { action = 1; verdict = 0; object = 65536; nonce = 1; detail = 0; payload = [] })); chosen = [] } ∷
-    record { input = Hears 0 (FromDrive 1) (Replies (record { action = 1; verdict = 0; object = 65537; nonce = 2; detail = 0; payload = [] })); chosen = [] } ∷
-    record { input = Hears 0 (FromDrive 2) (Replies (record { action = 1; verdict = 0; object = 65538; nonce = 3; detail = 0; payload = [] })); chosen = [] } ∷
-    record { input = Hears 0 (FromDrive 3) (Replies (record { action = 1; verdict = 0; object = 65539; nonce = 4; detail = 0; payload = [] })); chosen = [] } ∷
-    record { input = Hears 0 (FromClient 0) (Asks (record { client = 0; sequence = 1; file = 0; args = Get 2 0 4 })); chosen = [] } ∷
-    record { input = Obeys ToRevoke 0; chosen = [] } ∷
-    record { input = Hears 0 (FromDrive 0) (Replies (record { action = 6; verdict = 0; object = 65536; nonce = 5; detail = 2; payload = [] })); chosen = [] } ∷
-    record { input = Hears 0 (FromDrive 1) (Replies (record { action = 6; verdict = 0; object = 65537; nonce = 6; detail = 2; payload = [] })); chosen = [] } ∷
-    record { input = Hears 0 (FromDrive 2) (Replies (record { action = 6; verdict = 0; object = 65538; nonce = 7; detail = 2; payload = [] })); chosen = [] } ∷
-    record { input = Hears 0 (FromDrive 3) (Replies (record { action = 6; verdict = 0; object = 65539; nonce = 8; detail = 2; payload = [] })); chosen = [] } ∷
-    record { input = Hears 0 (FromClient 0) (Asks (record { client = 0; sequence = 2; file = 0; args = Commit (Some 3) })); chosen = [] } ∷
-    record { input = Hears 0 (FromDrive 0) (Replies (record { action = 2; verdict = 0; object = 65536; nonce = 9; detail = 2; payload = (10 ∷ 11 ∷ []) })); chosen = [] } ∷
-    record { input = Hears 0 (FromDrive 1) (Replies (record { action = 2; verdict = 0; object = 65537; nonce = 10; detail = 2; payload = (10 ∷ 11 ∷ []) })); chosen = [] } ∷
-    record { input = Hears 0 (FromDrive 2) (Replies (record { action = 2; verdict = 0; object = 65538; nonce = 11; detail = 2; payload = (12 ∷ 13 ∷ []) })); chosen = [] } ∷
-    record { input = Hears 0 (FromDrive 3) (Replies (record { action = 2; verdict = 0; object = 65539; nonce = 12; detail = 2; payload = (12 ∷ 13 ∷ []) })); chosen = [] } ∷
-    []
+abbrev striping : RawMap
+striping = record { comps = 4; unit = 2; width = 0; depth = 0; mirrors = 1; algorithm = 1 }
 
 abbrev first : Server
 first = new_server ((record { number = 0; key = []; capacity = 20000; online = true }) ∷ (record { number = 1; key = []; capacity = 20000; online = true }) ∷ (record { number = 2; key = []; capacity = 20000; online = true }) ∷ (record { number = 3; key = []; capacity = 20000; online = true }) ∷ [])
 
-pub steps : run first acts ≡
-    ((1 ∷ 0 ∷ 1 ∷ 65536 ∷ 0 ∷ 0 ∷ 1 ∷ 0 ∷ 1 ∷ 1 ∷ 0 ∷ 0 ∷ 0 ∷ 0 ∷ 0 ∷ 0 ∷ 0 ∷ 0 ∷ 0 ∷ 0 ∷ 0 ∷ 4 ∷ 0 ∷ 0 ∷ 0 ∷ 0 ∷ 0 ∷ 0 ∷ 0 ∷ 2 ∷ 0 ∷ 0 ∷ 0 ∷ 0 ∷ 0 ∷ 0 ∷ 0 ∷ 0 ∷ 0 ∷ 0 ∷ 0 ∷ 1 ∷ 0 ∷ 0 ∷ 0 ∷ 1 ∷ []) ∷ (1 ∷ 1 ∷ 1 ∷ 65537 ∷ 0 ∷ 0 ∷ 2 ∷ 0 ∷ 1 ∷ 1 ∷ 0 ∷ 0 ∷ 0 ∷ 0 ∷ 0 ∷ 0 ∷ 0 ∷ 1 ∷ 0 ∷ 0 ∷ 0 ∷ 4 ∷ 0 ∷ 0 ∷ 0 ∷ 0 ∷ 0 ∷ 0 ∷ 0 ∷ 2 ∷ 0 ∷ 0 ∷ 0 ∷ 0 ∷ 0 ∷ 0 ∷ 0 ∷ 0 ∷ 0 ∷ 0 ∷ 0 ∷ 1 ∷ 0 ∷ 0 ∷ 0 ∷ 1 ∷ []) ∷ (1 ∷ 2 ∷ 1 ∷ 65538 ∷ 0 ∷ 0 ∷ 3 ∷ 0 ∷ 1 ∷ 1 ∷ 0 ∷ 0 ∷ 0 ∷ 0 ∷ 0 ∷ 0 ∷ 0 ∷ 2 ∷ 0 ∷ 0 ∷ 0 ∷ 4 ∷ 0 ∷ 0 ∷ 0 ∷ 0 ∷ 0 ∷ 0 ∷ 0 ∷ 2 ∷ 0 ∷ 0 ∷ 0 ∷ 0 ∷ 0 ∷ 0 ∷ 0 ∷ 0 ∷ 0 ∷ 0 ∷ 0 ∷ 1 ∷ 0 ∷ 0 ∷ 0 ∷ 1 ∷ []) ∷ (1 ∷ 3 ∷ 1 ∷ 65539 ∷ 0 ∷ 0 ∷ 4 ∷ 0 ∷ 1 ∷ 1 ∷ 0 ∷ 0 ∷ 0 ∷ 0 ∷ 0 ∷ 0 ∷ 0 ∷ 3 ∷ 0 ∷ 0 ∷ 0 ∷ 4 ∷ 0 ∷ 0 ∷ 0 ∷ 0 ∷ 0 ∷ 0 ∷ 0 ∷ 2 ∷ 0 ∷ 0 ∷ 0 ∷ 0 ∷ 0 ∷ 0 ∷ 0 ∷ 0 ∷ 0 ∷ 0 ∷ 0 ∷ 1 ∷ 0 ∷ 0 ∷ 0 ∷ 1 ∷ []) ∷ []) ∷
-    [] ∷
-    [] ∷
-    [] ∷
-    ((9 ∷ 0 ∷ 10 ∷ []) ∷ []) ∷
-    ((3 ∷ 0 ∷ 1 ∷ 0 ∷ 50 ∷ 0 ∷ 0 ∷ 0 ∷ 1 ∷ 2 ∷ 0 ∷ 4 ∷ 0 ∷ 65536 ∷ 1 ∷ 1 ∷ 6 ∷ 90 ∷ 1 ∷ 0 ∷ 1 ∷ 65536 ∷ 65536 ∷ 0 ∷ 2 ∷ 1 ∷ 65537 ∷ 1 ∷ 1 ∷ 6 ∷ 90 ∷ 1 ∷ 0 ∷ 1 ∷ 65537 ∷ 65537 ∷ 0 ∷ 2 ∷ 2 ∷ 65538 ∷ 1 ∷ 1 ∷ 6 ∷ 90 ∷ 1 ∷ 0 ∷ 1 ∷ 65538 ∷ 65538 ∷ 0 ∷ 2 ∷ 3 ∷ 65539 ∷ 1 ∷ 1 ∷ 6 ∷ 90 ∷ 1 ∷ 0 ∷ 1 ∷ 65539 ∷ 65539 ∷ 0 ∷ 2 ∷ []) ∷ []) ∷
-    ((1 ∷ 0 ∷ 6 ∷ 65536 ∷ 0 ∷ 0 ∷ 5 ∷ 0 ∷ 1 ∷ 1 ∷ []) ∷ (1 ∷ 1 ∷ 6 ∷ 65537 ∷ 0 ∷ 0 ∷ 6 ∷ 0 ∷ 1 ∷ 1 ∷ []) ∷ (1 ∷ 2 ∷ 6 ∷ 65538 ∷ 0 ∷ 0 ∷ 7 ∷ 0 ∷ 1 ∷ 1 ∷ []) ∷ (1 ∷ 3 ∷ 6 ∷ 65539 ∷ 0 ∷ 0 ∷ 8 ∷ 0 ∷ 1 ∷ 1 ∷ []) ∷ []) ∷
-    [] ∷
-    [] ∷
-    [] ∷
-    ((9 ∷ 0 ∷ 11 ∷ 2 ∷ []) ∷ (1 ∷ 0 ∷ 2 ∷ 65536 ∷ 0 ∷ 2 ∷ 9 ∷ 0 ∷ 2 ∷ 1 ∷ []) ∷ (1 ∷ 1 ∷ 2 ∷ 65537 ∷ 0 ∷ 2 ∷ 10 ∷ 0 ∷ 2 ∷ 1 ∷ []) ∷ (1 ∷ 2 ∷ 2 ∷ 65538 ∷ 0 ∷ 2 ∷ 11 ∷ 0 ∷ 2 ∷ 1 ∷ []) ∷ (1 ∷ 3 ∷ 2 ∷ 65539 ∷ 0 ∷ 2 ∷ 12 ∷ 0 ∷ 2 ∷ 1 ∷ []) ∷ []) ∷
-    ((3 ∷ 0 ∷ 2 ∷ 0 ∷ 49 ∷ 10050 ∷ 0 ∷ 0 ∷ []) ∷ []) ∷
-    [] ∷
-    [] ∷
-    [] ∷
-    ((9 ∷ 0 ∷ 12 ∷ 1 ∷ 0 ∷ []) ∷ []) ∷
+abbrev events : List Event
+events =
+    placing (0 ∷ 1 ∷ 2 ∷ 3 ∷ []) (on (Makes 0 striping 1) [] (creates 0 65536 1 1 1 (label striping 0 0) ∷ creates 1 65537 1 1 2 (label striping 0 1) ∷ creates 2 65538 1 1 3 (label striping 0 2) ∷ creates 3 65539 1 1 4 (label striping 0 3) ∷ [])) ∷
+    on (performed 0 Create 65536 1 0 []) [] [] ∷
+    on (performed 1 Create 65537 2 0 []) [] [] ∷
+    on (performed 2 Create 65538 3 0 []) [] [] ∷
+    on (performed 3 Create 65539 4 0 []) (note 0 Ready ∷ []) [] ∷
+    on (asks_at 0 0 1 0 (Get 2 0 4)) [] (answers 0 1 0 0 0 (gives_layout (record { number = 1; client = 0; writes = true; expiry = 90; tag = 1; format = 1; offset = 0; len = 4; map = striping; components = Usable 0 65536 0 2 ∷ Usable 1 65537 0 2 ∷ Usable 2 65538 0 2 ∷ Usable 3 65539 0 2 ∷ [] })) ∷ []) ∷
+    on (Obeys ToRevoke 0) [] (raises_tag 0 65536 1 1 5 ∷ raises_tag 1 65537 1 1 6 ∷ raises_tag 2 65538 1 1 7 ∷ raises_tag 3 65539 1 1 8 ∷ []) ∷
+    on (performed 0 SetTag 65536 5 2 []) [] [] ∷
+    on (performed 1 SetTag 65537 6 2 []) [] [] ∷
+    on (performed 2 SetTag 65538 7 2 []) [] [] ∷
+    on (performed 3 SetTag 65539 8 2 []) (note 0 (Fenced 2) ∷ []) (reads_from 0 65536 2 1 9 0 2 ∷ reads_from 1 65537 2 1 10 0 2 ∷ reads_from 2 65538 2 1 11 0 2 ∷ reads_from 3 65539 2 1 12 0 2 ∷ []) ∷
+    on (asks_at 0 0 2 0 (Commit (Some 3))) [] (answers 0 2 0 0 0 (not_committed NFS4ERR_BADLAYOUT) ∷ []) ∷
+    on (performed 0 Read 65536 9 2 (10 ∷ 11 ∷ [])) [] [] ∷
+    on (performed 1 Read 65537 10 2 (10 ∷ 11 ∷ [])) [] [] ∷
+    on (performed 2 Read 65538 11 2 (12 ∷ 13 ∷ [])) [] [] ∷
+    on (performed 3 Read 65539 12 2 (12 ∷ 13 ∷ [])) (note 0 (Repaired 1 0) ∷ []) [] ∷
     []
+
+pub steps : done first events ≡ events
 unfolding opened
 steps = refl

@@ -1,42 +1,36 @@
 -- Orders that come as messages: a file that isn't there, a job that is refused as busy, a drive that isn't there, a recall.
-use Rattle.std.specs.Prelude.{List, [], ◌∷◌, true, refl, ◌≡◌}
-use Rattle.osd_bytes.specs.declared.node.Node.TheVariants.{Server as FromServer, Drive as FromDrive, Client as FromClient}
-use Rattle.server_rules.specs.State.{Server, Get, ToRecall, ToRevoke, ToDeclare, ToRebuild, ToAudit}
-use Rattle.server_rules.specs.Messages.{Asks, Replies, Orders}
-use Rattle.server_rules.specs.History.{Hears, Makes, Act}
+use Rattle.std.specs.Prelude.{List, [], ◌∷◌, refl, ◌≡◌, true}
+use Rattle.osd_bytes.specs.declared.node.Node.TheVariants.{Server as FromServer, Client as FromClient}
+use Rattle.osd_commands.specs.declared.actions.Action.TheVariants.{Create}
+use Rattle.server_rules.specs.declared.limits.TheConstants.{EXISTS}
+use Rattle.server_rules.specs.State.{Server, RawMap, Audit, Busy, Fenced, Ready, Repaired, Get, HasStarted, IsBusy, IsUnknown, ToAudit, ToDeclare, ToRebuild, ToRecall, ToRevoke}
+use Rattle.server_rules.specs.Commands.{label}
+use Rattle.server_rules.specs.Messages.{Orders}
+use Rattle.server_rules.specs.History.{Hears, Makes, Event}
 use Rattle.server_rules.specs.Making.{new_server}
-use Rattle.server_rules.specs.Rows.{run}
+use Rattle.server_rules.specs.Rows.{done, on, placing, note, asks_at, replied, creates, raises_tag, answers, Usable, gives_layout, recalls, answers_order}
 use Rattle.server_rules.proofs.Opened.{opened}
 
-abbrev acts : List Act
-acts =
-    record { input = Makes 0 (record { comps = 1; unit = 4; width = 0; depth = 0; mirrors = 0; algorithm = 1 }) 1; chosen = 0 ∷ [] }
-    ∷ record { input = Hears 0 FromServer (Orders (record { kind = ToRevoke; target = 0 })); chosen = [] }
-    ∷ record { input = Hears 0 (FromDrive 0) (Replies (record { action = 1; verdict = 8; object = 65536; nonce = 1; detail = 0; payload = [] })); chosen = [] }
-    ∷ record { input = Hears 0 (FromClient 5) (Asks (record { client = 5; sequence = 1; file = 0; args = Get 2 0 1 })); chosen = [] }
-    ∷ record { input = Hears 0 FromServer (Orders (record { kind = ToRecall; target = 0 })); chosen = [] }
-    ∷ record { input = Hears 0 FromServer (Orders (record { kind = ToAudit; target = 0 })); chosen = [] }
-    ∷ record { input = Hears 0 FromServer (Orders (record { kind = ToRebuild; target = 7 })); chosen = [] }
-    ∷ record { input = Hears 0 FromServer (Orders (record { kind = ToDeclare; target = 1 })); chosen = [] }
-    ∷ record { input = Hears 0 FromServer (Orders (record { kind = ToDeclare; target = 0 })); chosen = [] }
-    ∷ record { input = Hears 0 (FromClient 5) (Orders (record { kind = ToRevoke; target = 0 })); chosen = [] }
-    ∷ []
+abbrev striping : RawMap
+striping = record { comps = 1; unit = 4; width = 0; depth = 0; mirrors = 0; algorithm = 1 }
 
 abbrev first : Server
 first = new_server (record { number = 0; key = []; capacity = 20000; online = true } ∷ [])
 
-pub steps : run first acts ≡
-    ((1 ∷ 0 ∷ 1 ∷ 65536 ∷ 0 ∷ 0 ∷ 1 ∷ 0 ∷ 1 ∷ 1 ∷ 0 ∷ 0 ∷ 0 ∷ 0 ∷ 0 ∷ 0 ∷ 0 ∷ 0 ∷ 0 ∷ 0 ∷ 0 ∷ 1 ∷ 0 ∷ 0 ∷ 0 ∷ 0 ∷ 0 ∷ 0 ∷ 0 ∷ 4
-    ∷ 0 ∷ 0 ∷ 0 ∷ 0 ∷ 0 ∷ 0 ∷ 0 ∷ 0 ∷ 0 ∷ 0 ∷ 0 ∷ 0 ∷ 0 ∷ 0 ∷ 0 ∷ 1 ∷ []) ∷ [])
-    ∷ ((9 ∷ 0 ∷ 18 ∷ 0 ∷ []) ∷ (4 ∷ 1 ∷ []) ∷ [])
-    ∷ ((9 ∷ 0 ∷ 10 ∷ []) ∷ [])
-    ∷ ((3 ∷ 5 ∷ 1 ∷ 0 ∷ 50 ∷ 0 ∷ 0 ∷ 0 ∷ 1 ∷ 2 ∷ 0 ∷ 4 ∷ 0 ∷ 65536 ∷ 1 ∷ 1 ∷ 6 ∷ 90 ∷ 1 ∷ 5 ∷ 1 ∷ 65536 ∷ 65536 ∷ 0 ∷ 4 ∷ []) ∷ [])
-    ∷ ((2 ∷ 5 ∷ 1 ∷ 0 ∷ 1 ∷ []) ∷ (4 ∷ 0 ∷ []) ∷ [])
-    ∷ ((1 ∷ 0 ∷ 6 ∷ 65536 ∷ 0 ∷ 0 ∷ 2 ∷ 0 ∷ 1 ∷ 1 ∷ []) ∷ (4 ∷ 0 ∷ []) ∷ [])
-    ∷ ((4 ∷ 3 ∷ []) ∷ [])
-    ∷ ((4 ∷ 3 ∷ []) ∷ [])
-    ∷ ((9 ∷ 0 ∷ 11 ∷ 2 ∷ []) ∷ (9 ∷ 0 ∷ 12 ∷ 1 ∷ 1 ∷ []) ∷ (9 ∷ 0 ∷ 17 ∷ 1 ∷ 1 ∷ 0 ∷ 0 ∷ []) ∷ (4 ∷ 0 ∷ []) ∷ [])
-    ∷ []
-    ∷ []
+abbrev events : List Event
+events =
+    placing (0 ∷ []) (on (Makes 0 striping 1) [] (creates 0 65536 1 1 1 (label striping 0 0) ∷ [])) ∷
+    on (Hears 0 FromServer (Orders (record { order = ToRevoke; target = 0 }))) (note 0 (Busy 0) ∷ []) (answers_order ToRevoke IsBusy ∷ []) ∷
+    on (replied 0 Create EXISTS 65536 1 0) (note 0 Ready ∷ []) [] ∷
+    on (asks_at 0 5 1 0 (Get 2 0 1)) [] (answers 5 1 0 0 0 (gives_layout (record { number = 1; client = 5; writes = true; expiry = 90; tag = 1; format = 1; offset = 0; len = 4; map = striping; components = Usable 0 65536 0 4 ∷ [] })) ∷ []) ∷
+    on (Hears 0 FromServer (Orders (record { order = ToRecall; target = 0 }))) [] (recalls 5 1 0 1 ∷ answers_order ToRecall HasStarted ∷ []) ∷
+    on (Hears 0 FromServer (Orders (record { order = ToAudit; target = 0 }))) [] (raises_tag 0 65536 1 1 2 ∷ answers_order ToAudit HasStarted ∷ []) ∷
+    on (Hears 0 FromServer (Orders (record { order = ToRebuild; target = 7 }))) [] (answers_order ToRebuild IsUnknown ∷ []) ∷
+    on (Hears 0 FromServer (Orders (record { order = ToDeclare; target = 1 }))) [] (answers_order ToDeclare IsUnknown ∷ []) ∷
+    on (Hears 0 FromServer (Orders (record { order = ToDeclare; target = 0 }))) (note 0 (Fenced 2) ∷ note 0 (Repaired 1 1) ∷ note 0 (Audit 1 1 0 0) ∷ []) (answers_order ToDeclare HasStarted ∷ []) ∷
+    on (Hears 0 (FromClient 5) (Orders (record { order = ToRevoke; target = 0 }))) [] [] ∷
+    []
+
+pub steps : done first events ≡ events
 unfolding opened
 steps = refl

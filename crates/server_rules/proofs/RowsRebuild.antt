@@ -1,9 +1,11 @@
--- drive d0 0b0b0b0b0b0b0b0b0b0b0b0b0b0b0b0b0b0b0b0b 20000
--- drive d1 0b0b0b0b0b0b0b0b0b0b0b0b0b0b0b0b0b0b0b0b 20000
--- drive d2 0b0b0b0b0b0b0b0b0b0b0b0b0b0b0b0b0b0b0b0b 20000
+-- RAID 5: a component is rebuilt from the others on another drive, and an audit finds all well.
+-- The scenario:
+-- drive d0 0b..0b 20000
+-- drive d1 0b..0b 20000
+-- drive d2 0b..0b 20000
 -- client c0
 -- client c1
--- drive d3 0b0b0b0b0b0b0b0b0b0b0b0b0b0b0b0b0b0b0b0b 20000
+-- drive d3 0b..0b 20000
 -- file f0 3 4 0 0 0 3 1
 -- do c0 write f0 0 0102030405060708
 -- fail d1
@@ -12,71 +14,49 @@
 -- settle
 -- audit f0
 -- settle
-use Rattle.std.specs.Prelude.{List, [], ◌∷◌, Some, true, refl, ◌≡◌}
-use Rattle.osd_bytes.specs.declared.node.Node.TheVariants.{Drive as FromDrive, Client as FromClient}
-use Rattle.server_rules.specs.State.{Server, Get, Commit, ToDeclare, ToRebuild, ToAudit}
-use Rattle.server_rules.specs.Messages.{Asks, Replies}
-use Rattle.server_rules.specs.History.{Hears, Makes, Obeys, Act}
+use Rattle.std.specs.Prelude.{List, [], ◌∷◌, refl, ◌≡◌, Some, true}
+use Rattle.osd_commands.specs.declared.actions.Action.TheVariants.{Create, GetAttr, Read, SetTag, Write}
+use Rattle.server_rules.specs.State.{Server, RawMap, Audit, Fenced, Ready, Rebuilt, Repaired, Commit, Get, ToAudit, ToDeclare, ToRebuild}
+use Rattle.server_rules.specs.Commands.{label}
+use Rattle.server_rules.specs.History.{Makes, Obeys, Event}
 use Rattle.server_rules.specs.Making.{new_server}
-use Rattle.server_rules.specs.Rows.{run}
+use Rattle.server_rules.specs.Rows.{done, on, placing, note, asks_at, performed, creates, raises_tag, reads_from, writes_to, asks_length, answers, committed, Usable, gives_layout}
 use Rattle.server_rules.proofs.Opened.{opened}
 
-abbrev acts : List Act
-acts =
-    record { input = Makes 0 (record { comps = 3; unit = 4; width = 0; depth = 0; mirrors = 0; algorithm = 3 }) 1; chosen = (0 ∷ 1 ∷ 2 ∷ []) } ∷
-    record { input = Hears 0 (FromDrive 0) (Replies (record { action = 1; verdict = 0; object = 65536; nonce = 1; detail = 0; payload = [] })); chosen = [] } ∷
-    record { input = Hears 0 (FromDrive 1) (Replies (record { action = 1; verdict = 0; object = 65537; nonce = 2; detail = 0; payload = [] })); chosen = [] } ∷
-    record { input = Hears 0 (FromDrive 2) (Replies (record { action = 1; verdict = 0; object = 65538; nonce = 3; detail = 0; payload = [] })); chosen = [] } ∷
-    record { input = Hears 0 (FromClient 0) (Asks (record { client = 0; sequence = 1; file = 0; args = Get 2 0 8 })); chosen = [] } ∷
-    record { input = Hears 0 (FromClient 0) (Asks (record { client = 0; sequence = 2; file = 0; args = Commit (Some 7) })); chosen = [] } ∷
-    record { input = Obeys ToDeclare 1; chosen = [] } ∷
-    record { input = Obeys ToRebuild 0; chosen = [] } ∷
-    record { input = Hears 0 (FromDrive 0) (Replies (record { action = 6; verdict = 0; object = 65536; nonce = 4; detail = 2; payload = [] })); chosen = [] } ∷
-    record { input = Hears 0 (FromDrive 2) (Replies (record { action = 6; verdict = 0; object = 65538; nonce = 5; detail = 2; payload = [] })); chosen = (3 ∷ []) } ∷
-    record { input = Hears 0 (FromDrive 3) (Replies (record { action = 1; verdict = 0; object = 65539; nonce = 6; detail = 0; payload = [] })); chosen = [] } ∷
-    record { input = Hears 0 (FromDrive 0) (Replies (record { action = 2; verdict = 0; object = 65536; nonce = 7; detail = 4; payload = (1 ∷ 2 ∷ 3 ∷ 4 ∷ []) })); chosen = [] } ∷
-    record { input = Hears 0 (FromDrive 2) (Replies (record { action = 2; verdict = 0; object = 65538; nonce = 8; detail = 4; payload = (4 ∷ 4 ∷ 4 ∷ 12 ∷ []) })); chosen = [] } ∷
-    record { input = Hears 0 (FromDrive 3) (Replies (record { action = 3; verdict = 0; object = 65539; nonce = 9; detail = 0; payload = [] })); chosen = [] } ∷
-    record { input = Obeys ToAudit 0; chosen = [] } ∷
-    record { input = Hears 0 (FromDrive 0) (Replies (record { action = 6; verdict = 0; object = 65536; nonce = 10; detail = 3; payload = [] })); chosen = [] } ∷
-    record { input = Hears 0 (FromDrive 3) (Replies (record { action = 6; verdict = 0; object = 65539; nonce = 11; detail = 3; payload = [] })); chosen = [] } ∷
-    record { input = Hears 0 (FromDrive 2) (Replies (record { action = 6; verdict = 0; object = 65538; nonce = 12; detail = 3; payload = [] })); chosen = [] } ∷
-    record { input = Hears 0 (FromDrive 0) (Replies (record { action = 4; verdict = 0; object = 65536; nonce = 13; detail = 1; payload = (0 ∷ 0 ∷ 0 ∷ 0 ∷ 0 ∷ 0 ∷ 0 ∷ 4 ∷ []) })); chosen = [] } ∷
-    record { input = Hears 0 (FromDrive 3) (Replies (record { action = 4; verdict = 0; object = 65539; nonce = 14; detail = 1; payload = (0 ∷ 0 ∷ 0 ∷ 0 ∷ 0 ∷ 0 ∷ 0 ∷ 4 ∷ []) })); chosen = [] } ∷
-    record { input = Hears 0 (FromDrive 2) (Replies (record { action = 4; verdict = 0; object = 65538; nonce = 15; detail = 1; payload = (0 ∷ 0 ∷ 0 ∷ 0 ∷ 0 ∷ 0 ∷ 0 ∷ 4 ∷ []) })); chosen = [] } ∷
-    record { input = Hears 0 (FromDrive 0) (Replies (record { action = 2; verdict = 0; object = 65536; nonce = 16; detail = 4; payload = (1 ∷ 2 ∷ 3 ∷ 4 ∷ []) })); chosen = [] } ∷
-    record { input = Hears 0 (FromDrive 3) (Replies (record { action = 2; verdict = 0; object = 65539; nonce = 17; detail = 4; payload = (5 ∷ 6 ∷ 7 ∷ 8 ∷ []) })); chosen = [] } ∷
-    record { input = Hears 0 (FromDrive 2) (Replies (record { action = 2; verdict = 0; object = 65538; nonce = 18; detail = 4; payload = (4 ∷ 4 ∷ 4 ∷ 12 ∷ []) })); chosen = [] } ∷
-    []
+abbrev striping : RawMap
+striping = record { comps = 3; unit = 4; width = 0; depth = 0; mirrors = 0; algorithm = 3 }
 
 abbrev first : Server
 first = new_server ((record { number = 0; key = []; capacity = 20000; online = true }) ∷ (record { number = 1; key = []; capacity = 20000; online = true }) ∷ (record { number = 2; key = []; capacity = 20000; online = true }) ∷ (record { number = 3; key = []; capacity = 20000; online = true }) ∷ [])
 
-pub steps : run first acts ≡
-    ((1 ∷ 0 ∷ 1 ∷ 65536 ∷ 0 ∷ 0 ∷ 1 ∷ 0 ∷ 1 ∷ 1 ∷ 0 ∷ 0 ∷ 0 ∷ 0 ∷ 0 ∷ 0 ∷ 0 ∷ 0 ∷ 0 ∷ 0 ∷ 0 ∷ 3 ∷ 0 ∷ 0 ∷ 0 ∷ 0 ∷ 0 ∷ 0 ∷ 0 ∷ 4 ∷ 0 ∷ 0 ∷ 0 ∷ 0 ∷ 0 ∷ 0 ∷ 0 ∷ 0 ∷ 0 ∷ 0 ∷ 0 ∷ 0 ∷ 0 ∷ 0 ∷ 0 ∷ 3 ∷ []) ∷ (1 ∷ 1 ∷ 1 ∷ 65537 ∷ 0 ∷ 0 ∷ 2 ∷ 0 ∷ 1 ∷ 1 ∷ 0 ∷ 0 ∷ 0 ∷ 0 ∷ 0 ∷ 0 ∷ 0 ∷ 1 ∷ 0 ∷ 0 ∷ 0 ∷ 3 ∷ 0 ∷ 0 ∷ 0 ∷ 0 ∷ 0 ∷ 0 ∷ 0 ∷ 4 ∷ 0 ∷ 0 ∷ 0 ∷ 0 ∷ 0 ∷ 0 ∷ 0 ∷ 0 ∷ 0 ∷ 0 ∷ 0 ∷ 0 ∷ 0 ∷ 0 ∷ 0 ∷ 3 ∷ []) ∷ (1 ∷ 2 ∷ 1 ∷ 65538 ∷ 0 ∷ 0 ∷ 3 ∷ 0 ∷ 1 ∷ 1 ∷ 0 ∷ 0 ∷ 0 ∷ 0 ∷ 0 ∷ 0 ∷ 0 ∷ 2 ∷ 0 ∷ 0 ∷ 0 ∷ 3 ∷ 0 ∷ 0 ∷ 0 ∷ 0 ∷ 0 ∷ 0 ∷ 0 ∷ 4 ∷ 0 ∷ 0 ∷ 0 ∷ 0 ∷ 0 ∷ 0 ∷ 0 ∷ 0 ∷ 0 ∷ 0 ∷ 0 ∷ 0 ∷ 0 ∷ 0 ∷ 0 ∷ 3 ∷ []) ∷ []) ∷
-    [] ∷
-    [] ∷
-    ((9 ∷ 0 ∷ 10 ∷ []) ∷ []) ∷
-    ((3 ∷ 0 ∷ 1 ∷ 0 ∷ 50 ∷ 0 ∷ 0 ∷ 0 ∷ 1 ∷ 2 ∷ 0 ∷ 8 ∷ 0 ∷ 65536 ∷ 1 ∷ 1 ∷ 6 ∷ 90 ∷ 1 ∷ 0 ∷ 1 ∷ 65536 ∷ 65536 ∷ 0 ∷ 4 ∷ 1 ∷ 65537 ∷ 1 ∷ 1 ∷ 6 ∷ 90 ∷ 1 ∷ 0 ∷ 1 ∷ 65537 ∷ 65537 ∷ 0 ∷ 4 ∷ 2 ∷ 65538 ∷ 1 ∷ 1 ∷ 6 ∷ 90 ∷ 1 ∷ 0 ∷ 1 ∷ 65538 ∷ 65538 ∷ 0 ∷ 4 ∷ []) ∷ []) ∷
-    ((3 ∷ 0 ∷ 2 ∷ 0 ∷ 49 ∷ 0 ∷ 0 ∷ 8 ∷ []) ∷ []) ∷
-    [] ∷
-    ((1 ∷ 0 ∷ 6 ∷ 65536 ∷ 0 ∷ 0 ∷ 4 ∷ 0 ∷ 1 ∷ 1 ∷ []) ∷ (1 ∷ 2 ∷ 6 ∷ 65538 ∷ 0 ∷ 0 ∷ 5 ∷ 0 ∷ 1 ∷ 1 ∷ []) ∷ []) ∷
-    [] ∷
-    ((9 ∷ 0 ∷ 11 ∷ 2 ∷ []) ∷ (9 ∷ 0 ∷ 12 ∷ 1 ∷ 1 ∷ []) ∷ (1 ∷ 3 ∷ 1 ∷ 65539 ∷ 0 ∷ 0 ∷ 6 ∷ 0 ∷ 2 ∷ 1 ∷ 0 ∷ 0 ∷ 0 ∷ 0 ∷ 0 ∷ 0 ∷ 0 ∷ 1 ∷ 0 ∷ 0 ∷ 0 ∷ 3 ∷ 0 ∷ 0 ∷ 0 ∷ 0 ∷ 0 ∷ 0 ∷ 0 ∷ 4 ∷ 0 ∷ 0 ∷ 0 ∷ 0 ∷ 0 ∷ 0 ∷ 0 ∷ 0 ∷ 0 ∷ 0 ∷ 0 ∷ 0 ∷ 0 ∷ 0 ∷ 0 ∷ 3 ∷ []) ∷ []) ∷
-    ((1 ∷ 0 ∷ 2 ∷ 65536 ∷ 0 ∷ 4 ∷ 7 ∷ 0 ∷ 2 ∷ 1 ∷ []) ∷ (1 ∷ 2 ∷ 2 ∷ 65538 ∷ 0 ∷ 4 ∷ 8 ∷ 0 ∷ 2 ∷ 1 ∷ []) ∷ []) ∷
-    [] ∷
-    ((1 ∷ 3 ∷ 3 ∷ 65539 ∷ 0 ∷ 4 ∷ 9 ∷ 0 ∷ 2 ∷ 1 ∷ 5 ∷ 6 ∷ 7 ∷ 8 ∷ []) ∷ []) ∷
-    ((9 ∷ 0 ∷ 13 ∷ 1 ∷ 3 ∷ []) ∷ []) ∷
-    ((1 ∷ 0 ∷ 6 ∷ 65536 ∷ 0 ∷ 0 ∷ 10 ∷ 0 ∷ 2 ∷ 1 ∷ []) ∷ (1 ∷ 3 ∷ 6 ∷ 65539 ∷ 0 ∷ 0 ∷ 11 ∷ 0 ∷ 2 ∷ 1 ∷ []) ∷ (1 ∷ 2 ∷ 6 ∷ 65538 ∷ 0 ∷ 0 ∷ 12 ∷ 0 ∷ 2 ∷ 1 ∷ []) ∷ []) ∷
-    [] ∷
-    [] ∷
-    ((9 ∷ 0 ∷ 11 ∷ 3 ∷ []) ∷ (9 ∷ 0 ∷ 12 ∷ 0 ∷ 0 ∷ []) ∷ (1 ∷ 0 ∷ 4 ∷ 65536 ∷ 0 ∷ 0 ∷ 13 ∷ 1 ∷ 3 ∷ 1 ∷ []) ∷ (1 ∷ 3 ∷ 4 ∷ 65539 ∷ 0 ∷ 0 ∷ 14 ∷ 1 ∷ 3 ∷ 1 ∷ []) ∷ (1 ∷ 2 ∷ 4 ∷ 65538 ∷ 0 ∷ 0 ∷ 15 ∷ 1 ∷ 3 ∷ 1 ∷ []) ∷ []) ∷
-    [] ∷
-    [] ∷
-    ((1 ∷ 0 ∷ 2 ∷ 65536 ∷ 0 ∷ 4 ∷ 16 ∷ 0 ∷ 3 ∷ 1 ∷ []) ∷ (1 ∷ 3 ∷ 2 ∷ 65539 ∷ 0 ∷ 4 ∷ 17 ∷ 0 ∷ 3 ∷ 1 ∷ []) ∷ (1 ∷ 2 ∷ 2 ∷ 65538 ∷ 0 ∷ 4 ∷ 18 ∷ 0 ∷ 3 ∷ 1 ∷ []) ∷ []) ∷
-    [] ∷
-    [] ∷
-    ((9 ∷ 0 ∷ 17 ∷ 1 ∷ 0 ∷ 0 ∷ 12 ∷ []) ∷ []) ∷
+abbrev events : List Event
+events =
+    placing (0 ∷ 1 ∷ 2 ∷ []) (on (Makes 0 striping 1) [] (creates 0 65536 1 1 1 (label striping 0 0) ∷ creates 1 65537 1 1 2 (label striping 0 1) ∷ creates 2 65538 1 1 3 (label striping 0 2) ∷ [])) ∷
+    on (performed 0 Create 65536 1 0 []) [] [] ∷
+    on (performed 1 Create 65537 2 0 []) [] [] ∷
+    on (performed 2 Create 65538 3 0 []) (note 0 Ready ∷ []) [] ∷
+    on (asks_at 0 0 1 0 (Get 2 0 8)) [] (answers 0 1 0 0 0 (gives_layout (record { number = 1; client = 0; writes = true; expiry = 90; tag = 1; format = 1; offset = 0; len = 8; map = striping; components = Usable 0 65536 0 4 ∷ Usable 1 65537 0 4 ∷ Usable 2 65538 0 4 ∷ [] })) ∷ []) ∷
+    on (asks_at 0 0 2 0 (Commit (Some 7))) [] (answers 0 2 0 0 8 committed ∷ []) ∷
+    on (Obeys ToDeclare 1) [] [] ∷
+    on (Obeys ToRebuild 0) [] (raises_tag 0 65536 1 1 4 ∷ raises_tag 2 65538 1 1 5 ∷ []) ∷
+    on (performed 0 SetTag 65536 4 2 []) [] [] ∷
+    placing (3 ∷ []) (on (performed 2 SetTag 65538 5 2 []) (note 0 (Fenced 2) ∷ note 0 (Repaired 1 1) ∷ []) (creates 3 65539 2 1 6 (label striping 0 1) ∷ [])) ∷
+    on (performed 3 Create 65539 6 0 []) [] (reads_from 0 65536 2 1 7 0 4 ∷ reads_from 2 65538 2 1 8 0 4 ∷ []) ∷
+    on (performed 0 Read 65536 7 4 (1 ∷ 2 ∷ 3 ∷ 4 ∷ [])) [] [] ∷
+    on (performed 2 Read 65538 8 4 (4 ∷ 4 ∷ 4 ∷ 12 ∷ [])) [] (writes_to 3 65539 2 1 9 0 (5 ∷ 6 ∷ 7 ∷ 8 ∷ []) ∷ []) ∷
+    on (performed 3 Write 65539 9 0 []) (note 0 (Rebuilt 1 3) ∷ []) [] ∷
+    on (Obeys ToAudit 0) [] (raises_tag 0 65536 2 1 10 ∷ raises_tag 3 65539 2 1 11 ∷ raises_tag 2 65538 2 1 12 ∷ []) ∷
+    on (performed 0 SetTag 65536 10 3 []) [] [] ∷
+    on (performed 3 SetTag 65539 11 3 []) [] [] ∷
+    on (performed 2 SetTag 65538 12 3 []) (note 0 (Fenced 3) ∷ note 0 (Repaired 0 0) ∷ []) (asks_length 0 65536 3 1 13 ∷ asks_length 3 65539 3 1 14 ∷ asks_length 2 65538 3 1 15 ∷ []) ∷
+    on (performed 0 GetAttr 65536 13 1 (0 ∷ 0 ∷ 0 ∷ 0 ∷ 0 ∷ 0 ∷ 0 ∷ 4 ∷ [])) [] [] ∷
+    on (performed 3 GetAttr 65539 14 1 (0 ∷ 0 ∷ 0 ∷ 0 ∷ 0 ∷ 0 ∷ 0 ∷ 4 ∷ [])) [] [] ∷
+    on (performed 2 GetAttr 65538 15 1 (0 ∷ 0 ∷ 0 ∷ 0 ∷ 0 ∷ 0 ∷ 0 ∷ 4 ∷ [])) [] (reads_from 0 65536 3 1 16 0 4 ∷ reads_from 3 65539 3 1 17 0 4 ∷ reads_from 2 65538 3 1 18 0 4 ∷ []) ∷
+    on (performed 0 Read 65536 16 4 (1 ∷ 2 ∷ 3 ∷ 4 ∷ [])) [] [] ∷
+    on (performed 3 Read 65539 17 4 (5 ∷ 6 ∷ 7 ∷ 8 ∷ [])) [] [] ∷
+    on (performed 2 Read 65538 18 4 (4 ∷ 4 ∷ 4 ∷ 12 ∷ [])) (note 0 (Audit 1 0 0 12) ∷ []) [] ∷
     []
+
+pub steps : done first events ≡ events
 unfolding opened
 steps = refl

@@ -1,7 +1,9 @@
--- drive d0 0b0b0b0b0b0b0b0b0b0b0b0b0b0b0b0b0b0b0b0b 20000
--- drive d1 0b0b0b0b0b0b0b0b0b0b0b0b0b0b0b0b0b0b0b0b 20000
--- drive d2 0b0b0b0b0b0b0b0b0b0b0b0b0b0b0b0b0b0b0b0b 20000
--- drive d3 0b0b0b0b0b0b0b0b0b0b0b0b0b0b0b0b0b0b0b0b 20000
+-- RAID P+Q: two components are decoded, one after the other.
+-- The scenario:
+-- drive d0 0b..0b 20000
+-- drive d1 0b..0b 20000
+-- drive d2 0b..0b 20000
+-- drive d3 0b..0b 20000
 -- client c0
 -- client c1
 -- file f0 4 2 0 0 0 4 1
@@ -10,73 +12,52 @@
 -- fail d1
 -- declare d0
 -- declare d1
--- drive d4 0b0b0b0b0b0b0b0b0b0b0b0b0b0b0b0b0b0b0b0b 20000
--- drive d5 0b0b0b0b0b0b0b0b0b0b0b0b0b0b0b0b0b0b0b0b 20000
+-- drive d4 0b..0b 20000
+-- drive d5 0b..0b 20000
 -- rebuild f0
 -- settle
-use Rattle.std.specs.Prelude.{List, [], ◌∷◌, Some, true, refl, ◌≡◌}
-use Rattle.osd_bytes.specs.declared.node.Node.TheVariants.{Drive as FromDrive, Client as FromClient}
-use Rattle.server_rules.specs.State.{Server, Get, Commit, ToDeclare, ToRebuild}
-use Rattle.server_rules.specs.Messages.{Asks, Replies}
-use Rattle.server_rules.specs.History.{Hears, Makes, Obeys, Adds, Act}
+use Rattle.std.specs.Prelude.{List, [], ◌∷◌, refl, ◌≡◌, Some, true}
+use Rattle.osd_commands.specs.declared.actions.Action.TheVariants.{Create, Read, SetTag, Write}
+use Rattle.server_rules.specs.State.{Server, RawMap, Fenced, Ready, Rebuilt, Repaired, Commit, Get, ToDeclare, ToRebuild}
+use Rattle.server_rules.specs.Commands.{label}
+use Rattle.server_rules.specs.History.{Makes, Obeys, Adds, Event}
 use Rattle.server_rules.specs.Making.{new_server}
-use Rattle.server_rules.specs.Rows.{run}
+use Rattle.server_rules.specs.Rows.{done, on, placing, note, asks_at, performed, creates, raises_tag, reads_from, writes_to, answers, committed, Usable, gives_layout}
 use Rattle.server_rules.proofs.Opened.{opened}
 
-abbrev acts : List Act
-acts =
-    record { input = Makes 0 (record { comps = 4; unit = 2; width = 0; depth = 0; mirrors = 0; algorithm = 4 }) 1; chosen = (0 ∷ 1 ∷ 2 ∷ 3 ∷ []) } ∷
-    record { input = Hears 0 (FromDrive 0) (Replies (record { action = 1; verdict = 0; object = 65536; nonce = 1; detail = 0; payload = [] })); chosen = [] } ∷
-    record { input = Hears 0 (FromDrive 1) (Replies (record { action = 1; verdict = 0; object = 65537; nonce = 2; detail = 0; payload = [] })); chosen = [] } ∷
-    record { input = Hears 0 (FromDrive 2) (Replies (record { action = 1; verdict = 0; object = 65538; nonce = 3; detail = 0; payload = [] })); chosen = [] } ∷
-    record { input = Hears 0 (FromDrive 3) (Replies (record { action = 1; verdict = 0; object = 65539; nonce = 4; detail = 0; payload = [] })); chosen = [] } ∷
-    record { input = Hears 0 (FromClient 0) (Asks (record { client = 0; sequence = 1; file = 0; args = Get 2 0 4 })); chosen = [] } ∷
-    record { input = Hears 0 (FromClient 0) (Asks (record { client = 0; sequence = 2; file = 0; args = Commit (Some 3) })); chosen = [] } ∷
-    record { input = Obeys ToDeclare 0; chosen = [] } ∷
-    record { input = Obeys ToDeclare 1; chosen = [] } ∷
-    record { input = Adds (record { number = 4; key = []; capacity = 20000; online = true }); chosen = [] } ∷
-    record { input = Adds (record { number = 5; key = []; capacity = 20000; online = true }); chosen = [] } ∷
-    record { input = Obeys ToRebuild 0; chosen = [] } ∷
-    record { input = Hears 0 (FromDrive 2) (Replies (record { action = 6; verdict = 0; object = 65538; nonce = 5; detail = 2; payload = [] })); chosen = [] } ∷
-    record { input = Hears 0 (FromDrive 3) (Replies (record { action = 6; verdict = 0; object = 65539; nonce = 6; detail = 2; payload = [] })); chosen = (4 ∷ []) } ∷
-    record { input = Hears 0 (FromDrive 4) (Replies (record { action = 1; verdict = 0; object = 65540; nonce = 7; detail = 0; payload = [] })); chosen = [] } ∷
-    record { input = Hears 0 (FromDrive 2) (Replies (record { action = 2; verdict = 0; object = 65538; nonce = 8; detail = 2; payload = (2 ∷ 6 ∷ []) })); chosen = [] } ∷
-    record { input = Hears 0 (FromDrive 3) (Replies (record { action = 2; verdict = 0; object = 65539; nonce = 9; detail = 2; payload = (7 ∷ 10 ∷ []) })); chosen = [] } ∷
-    record { input = Hears 0 (FromDrive 4) (Replies (record { action = 3; verdict = 0; object = 65540; nonce = 10; detail = 0; payload = [] })); chosen = (5 ∷ []) } ∷
-    record { input = Hears 0 (FromDrive 5) (Replies (record { action = 1; verdict = 0; object = 65541; nonce = 11; detail = 0; payload = [] })); chosen = [] } ∷
-    record { input = Hears 0 (FromDrive 4) (Replies (record { action = 2; verdict = 0; object = 65540; nonce = 12; detail = 2; payload = (1 ∷ 2 ∷ []) })); chosen = [] } ∷
-    record { input = Hears 0 (FromDrive 2) (Replies (record { action = 2; verdict = 0; object = 65538; nonce = 13; detail = 2; payload = (2 ∷ 6 ∷ []) })); chosen = [] } ∷
-    record { input = Hears 0 (FromDrive 3) (Replies (record { action = 2; verdict = 0; object = 65539; nonce = 14; detail = 2; payload = (7 ∷ 10 ∷ []) })); chosen = [] } ∷
-    record { input = Hears 0 (FromDrive 5) (Replies (record { action = 3; verdict = 0; object = 65541; nonce = 15; detail = 0; payload = [] })); chosen = [] } ∷
-    []
+abbrev striping : RawMap
+striping = record { comps = 4; unit = 2; width = 0; depth = 0; mirrors = 0; algorithm = 4 }
 
 abbrev first : Server
 first = new_server ((record { number = 0; key = []; capacity = 20000; online = true }) ∷ (record { number = 1; key = []; capacity = 20000; online = true }) ∷ (record { number = 2; key = []; capacity = 20000; online = true }) ∷ (record { number = 3; key = []; capacity = 20000; online = true }) ∷ [])
 
-pub steps : run first acts ≡
-    ((1 ∷ 0 ∷ 1 ∷ 65536 ∷ 0 ∷ 0 ∷ 1 ∷ 0 ∷ 1 ∷ 1 ∷ 0 ∷ 0 ∷ 0 ∷ 0 ∷ 0 ∷ 0 ∷ 0 ∷ 0 ∷ 0 ∷ 0 ∷ 0 ∷ 4 ∷ 0 ∷ 0 ∷ 0 ∷ 0 ∷ 0 ∷ 0 ∷ 0 ∷ 2 ∷ 0 ∷ 0 ∷ 0 ∷ 0 ∷ 0 ∷ 0 ∷ 0 ∷ 0 ∷ 0 ∷ 0 ∷ 0 ∷ 0 ∷ 0 ∷ 0 ∷ 0 ∷ 4 ∷ []) ∷ (1 ∷ 1 ∷ 1 ∷ 65537 ∷ 0 ∷ 0 ∷ 2 ∷ 0 ∷ 1 ∷ 1 ∷ 0 ∷ 0 ∷ 0 ∷ 0 ∷ 0 ∷ 0 ∷ 0 ∷ 1 ∷ 0 ∷ 0 ∷ 0 ∷ 4 ∷ 0 ∷ 0 ∷ 0 ∷ 0 ∷ 0 ∷ 0 ∷ 0 ∷ 2 ∷ 0 ∷ 0 ∷ 0 ∷ 0 ∷ 0 ∷ 0 ∷ 0 ∷ 0 ∷ 0 ∷ 0 ∷ 0 ∷ 0 ∷ 0 ∷ 0 ∷ 0 ∷ 4 ∷ []) ∷ (1 ∷ 2 ∷ 1 ∷ 65538 ∷ 0 ∷ 0 ∷ 3 ∷ 0 ∷ 1 ∷ 1 ∷ 0 ∷ 0 ∷ 0 ∷ 0 ∷ 0 ∷ 0 ∷ 0 ∷ 2 ∷ 0 ∷ 0 ∷ 0 ∷ 4 ∷ 0 ∷ 0 ∷ 0 ∷ 0 ∷ 0 ∷ 0 ∷ 0 ∷ 2 ∷ 0 ∷ 0 ∷ 0 ∷ 0 ∷ 0 ∷ 0 ∷ 0 ∷ 0 ∷ 0 ∷ 0 ∷ 0 ∷ 0 ∷ 0 ∷ 0 ∷ 0 ∷ 4 ∷ []) ∷ (1 ∷ 3 ∷ 1 ∷ 65539 ∷ 0 ∷ 0 ∷ 4 ∷ 0 ∷ 1 ∷ 1 ∷ 0 ∷ 0 ∷ 0 ∷ 0 ∷ 0 ∷ 0 ∷ 0 ∷ 3 ∷ 0 ∷ 0 ∷ 0 ∷ 4 ∷ 0 ∷ 0 ∷ 0 ∷ 0 ∷ 0 ∷ 0 ∷ 0 ∷ 2 ∷ 0 ∷ 0 ∷ 0 ∷ 0 ∷ 0 ∷ 0 ∷ 0 ∷ 0 ∷ 0 ∷ 0 ∷ 0 ∷ 0 ∷ 0 ∷ 0 ∷ 0 ∷ 4 ∷ []) ∷ []) ∷
-    [] ∷
-    [] ∷
-    [] ∷
-    ((9 ∷ 0 ∷ 10 ∷ []) ∷ []) ∷
-    ((3 ∷ 0 ∷ 1 ∷ 0 ∷ 50 ∷ 0 ∷ 0 ∷ 0 ∷ 1 ∷ 2 ∷ 0 ∷ 4 ∷ 0 ∷ 65536 ∷ 1 ∷ 1 ∷ 6 ∷ 90 ∷ 1 ∷ 0 ∷ 1 ∷ 65536 ∷ 65536 ∷ 0 ∷ 2 ∷ 1 ∷ 65537 ∷ 1 ∷ 1 ∷ 6 ∷ 90 ∷ 1 ∷ 0 ∷ 1 ∷ 65537 ∷ 65537 ∷ 0 ∷ 2 ∷ 2 ∷ 65538 ∷ 1 ∷ 1 ∷ 6 ∷ 90 ∷ 1 ∷ 0 ∷ 1 ∷ 65538 ∷ 65538 ∷ 0 ∷ 2 ∷ 3 ∷ 65539 ∷ 1 ∷ 1 ∷ 6 ∷ 90 ∷ 1 ∷ 0 ∷ 1 ∷ 65539 ∷ 65539 ∷ 0 ∷ 2 ∷ []) ∷ []) ∷
-    ((3 ∷ 0 ∷ 2 ∷ 0 ∷ 49 ∷ 0 ∷ 0 ∷ 4 ∷ []) ∷ []) ∷
-    [] ∷
-    [] ∷
-    [] ∷
-    [] ∷
-    ((1 ∷ 2 ∷ 6 ∷ 65538 ∷ 0 ∷ 0 ∷ 5 ∷ 0 ∷ 1 ∷ 1 ∷ []) ∷ (1 ∷ 3 ∷ 6 ∷ 65539 ∷ 0 ∷ 0 ∷ 6 ∷ 0 ∷ 1 ∷ 1 ∷ []) ∷ []) ∷
-    [] ∷
-    ((9 ∷ 0 ∷ 11 ∷ 2 ∷ []) ∷ (9 ∷ 0 ∷ 12 ∷ 1 ∷ 1 ∷ []) ∷ (1 ∷ 4 ∷ 1 ∷ 65540 ∷ 0 ∷ 0 ∷ 7 ∷ 0 ∷ 2 ∷ 1 ∷ 0 ∷ 0 ∷ 0 ∷ 0 ∷ 0 ∷ 0 ∷ 0 ∷ 0 ∷ 0 ∷ 0 ∷ 0 ∷ 4 ∷ 0 ∷ 0 ∷ 0 ∷ 0 ∷ 0 ∷ 0 ∷ 0 ∷ 2 ∷ 0 ∷ 0 ∷ 0 ∷ 0 ∷ 0 ∷ 0 ∷ 0 ∷ 0 ∷ 0 ∷ 0 ∷ 0 ∷ 0 ∷ 0 ∷ 0 ∷ 0 ∷ 4 ∷ []) ∷ []) ∷
-    ((1 ∷ 2 ∷ 2 ∷ 65538 ∷ 0 ∷ 2 ∷ 8 ∷ 0 ∷ 2 ∷ 1 ∷ []) ∷ (1 ∷ 3 ∷ 2 ∷ 65539 ∷ 0 ∷ 2 ∷ 9 ∷ 0 ∷ 2 ∷ 1 ∷ []) ∷ []) ∷
-    [] ∷
-    ((1 ∷ 4 ∷ 3 ∷ 65540 ∷ 0 ∷ 2 ∷ 10 ∷ 0 ∷ 2 ∷ 1 ∷ 1 ∷ 2 ∷ []) ∷ []) ∷
-    ((9 ∷ 0 ∷ 13 ∷ 0 ∷ 4 ∷ []) ∷ (1 ∷ 5 ∷ 1 ∷ 65541 ∷ 0 ∷ 0 ∷ 11 ∷ 0 ∷ 2 ∷ 1 ∷ 0 ∷ 0 ∷ 0 ∷ 0 ∷ 0 ∷ 0 ∷ 0 ∷ 1 ∷ 0 ∷ 0 ∷ 0 ∷ 4 ∷ 0 ∷ 0 ∷ 0 ∷ 0 ∷ 0 ∷ 0 ∷ 0 ∷ 2 ∷ 0 ∷ 0 ∷ 0 ∷ 0 ∷ 0 ∷ 0 ∷ 0 ∷ 0 ∷ 0 ∷ 0 ∷ 0 ∷ 0 ∷ 0 ∷ 0 ∷ 0 ∷ 4 ∷ []) ∷ []) ∷
-    ((1 ∷ 4 ∷ 2 ∷ 65540 ∷ 0 ∷ 2 ∷ 12 ∷ 0 ∷ 2 ∷ 1 ∷ []) ∷ (1 ∷ 2 ∷ 2 ∷ 65538 ∷ 0 ∷ 2 ∷ 13 ∷ 0 ∷ 2 ∷ 1 ∷ []) ∷ (1 ∷ 3 ∷ 2 ∷ 65539 ∷ 0 ∷ 2 ∷ 14 ∷ 0 ∷ 2 ∷ 1 ∷ []) ∷ []) ∷
-    [] ∷
-    [] ∷
-    ((1 ∷ 5 ∷ 3 ∷ 65541 ∷ 0 ∷ 2 ∷ 15 ∷ 0 ∷ 2 ∷ 1 ∷ 3 ∷ 4 ∷ []) ∷ []) ∷
-    ((9 ∷ 0 ∷ 13 ∷ 1 ∷ 5 ∷ []) ∷ []) ∷
+abbrev events : List Event
+events =
+    placing (0 ∷ 1 ∷ 2 ∷ 3 ∷ []) (on (Makes 0 striping 1) [] (creates 0 65536 1 1 1 (label striping 0 0) ∷ creates 1 65537 1 1 2 (label striping 0 1) ∷ creates 2 65538 1 1 3 (label striping 0 2) ∷ creates 3 65539 1 1 4 (label striping 0 3) ∷ [])) ∷
+    on (performed 0 Create 65536 1 0 []) [] [] ∷
+    on (performed 1 Create 65537 2 0 []) [] [] ∷
+    on (performed 2 Create 65538 3 0 []) [] [] ∷
+    on (performed 3 Create 65539 4 0 []) (note 0 Ready ∷ []) [] ∷
+    on (asks_at 0 0 1 0 (Get 2 0 4)) [] (answers 0 1 0 0 0 (gives_layout (record { number = 1; client = 0; writes = true; expiry = 90; tag = 1; format = 1; offset = 0; len = 4; map = striping; components = Usable 0 65536 0 2 ∷ Usable 1 65537 0 2 ∷ Usable 2 65538 0 2 ∷ Usable 3 65539 0 2 ∷ [] })) ∷ []) ∷
+    on (asks_at 0 0 2 0 (Commit (Some 3))) [] (answers 0 2 0 0 4 committed ∷ []) ∷
+    on (Obeys ToDeclare 0) [] [] ∷
+    on (Obeys ToDeclare 1) [] [] ∷
+    on (Adds (record { number = 4; key = []; capacity = 20000; online = true })) [] [] ∷
+    on (Adds (record { number = 5; key = []; capacity = 20000; online = true })) [] [] ∷
+    on (Obeys ToRebuild 0) [] (raises_tag 2 65538 1 1 5 ∷ raises_tag 3 65539 1 1 6 ∷ []) ∷
+    on (performed 2 SetTag 65538 5 2 []) [] [] ∷
+    placing (4 ∷ []) (on (performed 3 SetTag 65539 6 2 []) (note 0 (Fenced 2) ∷ note 0 (Repaired 1 1) ∷ []) (creates 4 65540 2 1 7 (label striping 0 0) ∷ [])) ∷
+    on (performed 4 Create 65540 7 0 []) [] (reads_from 2 65538 2 1 8 0 2 ∷ reads_from 3 65539 2 1 9 0 2 ∷ []) ∷
+    on (performed 2 Read 65538 8 2 (2 ∷ 6 ∷ [])) [] [] ∷
+    on (performed 3 Read 65539 9 2 (7 ∷ 10 ∷ [])) [] (writes_to 4 65540 2 1 10 0 (1 ∷ 2 ∷ []) ∷ []) ∷
+    placing (5 ∷ []) (on (performed 4 Write 65540 10 0 []) (note 0 (Rebuilt 0 4) ∷ []) (creates 5 65541 2 1 11 (label striping 0 1) ∷ [])) ∷
+    on (performed 5 Create 65541 11 0 []) [] (reads_from 4 65540 2 1 12 0 2 ∷ reads_from 2 65538 2 1 13 0 2 ∷ reads_from 3 65539 2 1 14 0 2 ∷ []) ∷
+    on (performed 4 Read 65540 12 2 (1 ∷ 2 ∷ [])) [] [] ∷
+    on (performed 2 Read 65538 13 2 (2 ∷ 6 ∷ [])) [] [] ∷
+    on (performed 3 Read 65539 14 2 (7 ∷ 10 ∷ [])) [] (writes_to 5 65541 2 1 15 0 (3 ∷ 4 ∷ []) ∷ []) ∷
+    on (performed 5 Write 65541 15 0 []) (note 0 (Rebuilt 1 5) ∷ []) [] ∷
     []
+
+pub steps : done first events ≡ events
 unfolding opened
 steps = refl

@@ -7,12 +7,13 @@ use Rattle.std.proofs.lemmas.List.{append_assoc}
 use Rattle.osd_bytes.specs.declared.node.Node.{Node}
 use Rattle.osd_bytes.specs.declared.node.Node.TheVariants.{Server as FromServer, Drive as FromDrive, Client as FromClient}
 use Rattle.server_rules.specs.declared.limits.TheConstants.{MAX_CLIENT, GREATEST_TAG, GREATEST_SEQUENCE}
-use Rattle.server_rules.specs.State.{Server, File, Slot, Answer, JobKind, Job, Request, Reply, OrderKind, ToRecall, ToRevoke, ToDeclare, ToRebuild, ToAudit, RawMap, Refusal, Revoking, Rebuilding, Auditing, Outgoing, Answers}
+use Rattle.server_rules.specs.State.{Server, File, Slot, Answer, JobKind, Job, ClientRequest, Reply, OrderKind, ToRecall, ToRevoke, ToDeclare, ToRebuild, ToAudit, RawMap, Refusal, Revoking, Rebuilding, Auditing, Outgoing, Answers}
 use Rattle.server_rules.specs.Slots.{Admit, New, Again, Misordered, admit, admit_after, slot_of}
 use Rattle.server_rules.specs.Going.{Going}
-use Rattle.server_rules.specs.Served.{Served, tells}
+use Rattle.server_rules.specs.Served.{Served}
 use Rattle.server_rules.specs.Files.{Step, file_at, at_file, to_drives}
-use Rattle.server_rules.specs.Requests.{serves, carries_out, by_admit, on_request, recalls_from, answer, answer_with, no_file}
+use Rattle.server_rules.specs.Requests.{serves, carries_out, by_admit, on_request, answer_with, answer_without}
+use Rattle.server_rules.specs.Answers.{recalls_from}
 use Rattle.server_rules.specs.Making.{refusal, unless_refused, makes_file, unmade, places, create_file}
 use Rattle.server_rules.specs.Messages.{heard_at, by_heard, on_drive_reply, Message, Asks, Replies, Orders, handled, on_message, counters_low}
 use Rattle.server_rules.specs.Orders.{begins_job, starts, recalls_on, declare, declares_known, ordered}
@@ -86,14 +87,14 @@ unfolding admit
 admit_again o t n e m = rw e (rw (eq-eqb n t.last m) refl)
 
 -- a request that is carried out leaves its answer in the slot, and answers it last
-abbrev IsCarriedOut : Server → Request → Step → Type 0
+abbrev IsCarriedOut : Server → ClientRequest → Step → Type 0
 IsCarriedOut s q t =
     (a : Answer) × (front : List Outgoing) × (t.sends ≡ front ++ (Answers a ∷ []))
     × (slot_of t.state.slots q.client ≡ Some (record { client = q.client; last = q.sequence; kept = a }))
 
-leaves_answer : (s : Server) (now : ℕ) (chosen : List ℕ) (q : Request) (o : Option File) → IsCarriedOut s q (carries_out s now chosen q o)
+leaves_answer : (s : Server) (now : ℕ) (chosen : List ℕ) (q : ClientRequest) (o : Option File) → IsCarriedOut s q (carries_out s now chosen q o)
 leaves_answer s now chosen q None =
-    let a : Answer = answer q (tells (no_file q.args) 0) 0 None
+    let a : Answer = answer_without q
     in (a, [], refl, keep_same s.slots (record { client = q.client; last = q.sequence; kept = a }))
 leaves_answer s now chosen q (Some f) =
     let v : Served = serves (at_file s chosen f) s.next_grant s.format now q.client q.args
@@ -104,39 +105,39 @@ leaves_answer s now chosen q (Some f) =
       keep_same s.slots (record { client = q.client; last = q.sequence; kept = answer_with s q v }),
     )
 
-by_new : (s : Server) (now : ℕ) (chosen : List ℕ) (q : Request) (a : Admit) → a ≡ New → IsCarriedOut s q (by_admit s now chosen q a)
+by_new : (s : Server) (now : ℕ) (chosen : List ℕ) (q : ClientRequest) (a : Admit) → a ≡ New → IsCarriedOut s q (by_admit s now chosen q a)
 by_new s now chosen q New e = leaves_answer s now chosen q (file_at s.files q.file)
 by_new s now chosen q (Again kept) e = absurd (cc e)
 by_new s now chosen q (Misordered expected) e = absurd (cc e)
 
-carried_out : (s : Server) (now : ℕ) (chosen : List ℕ) (q : Request) → admit (slot_of s.slots q.client) q.sequence ≡ New → IsCarriedOut s q (on_request s now chosen q)
+carried_out : (s : Server) (now : ℕ) (chosen : List ℕ) (q : ClientRequest) → admit (slot_of s.slots q.client) q.sequence ≡ New → IsCarriedOut s q (on_request s now chosen q)
 unfolding on_request
 carried_out s now chosen q e = by_new s now chosen q (admit (slot_of s.slots q.client) q.sequence) e
 
 -- one that isn't carried out changes nothing
-by_old : (s : Server) (now : ℕ) (chosen : List ℕ) (q : Request) (a : Admit) → where_new a q.sequence ≡ [] → (by_admit s now chosen q a).state ≡ s
+by_old : (s : Server) (now : ℕ) (chosen : List ℕ) (q : ClientRequest) (a : Admit) → where_new a q.sequence ≡ [] → (by_admit s now chosen q a).state ≡ s
 by_old s now chosen q New e = absurd (cc e)
 by_old s now chosen q (Again kept) e = refl
 by_old s now chosen q (Misordered expected) e = refl
 
-not_carried : (s : Server) (now : ℕ) (chosen : List ℕ) (q : Request) → where_new (admit (slot_of s.slots q.client) q.sequence) q.sequence ≡ [] → (on_request s now chosen q).state ≡ s
+not_carried : (s : Server) (now : ℕ) (chosen : List ℕ) (q : ClientRequest) → where_new (admit (slot_of s.slots q.client) q.sequence) q.sequence ≡ [] → (on_request s now chosen q).state ≡ s
 unfolding on_request
 not_carried s now chosen q e = by_old s now chosen q (admit (slot_of s.slots q.client) q.sequence) e
 
 -- the slot of another client stays
-other_kept : (s : Server) (now : ℕ) (chosen : List ℕ) (q : Request) (client : ℕ) (o : Option File) → (q.client == client) ≡ false →
+other_kept : (s : Server) (now : ℕ) (chosen : List ℕ) (q : ClientRequest) (client : ℕ) (o : Option File) → (q.client == client) ≡ false →
     slot_of (carries_out s now chosen q o).state.slots client ≡ slot_of s.slots client
-other_kept s now chosen q client None z = keep_other s.slots (record { client = q.client; last = q.sequence; kept = answer q (tells (no_file q.args) 0) 0 None }) client z
+other_kept s now chosen q client None z = keep_other s.slots (record { client = q.client; last = q.sequence; kept = answer_without q }) client z
 other_kept s now chosen q client (Some f) z =
     keep_other s.slots (record { client = q.client; last = q.sequence; kept = answer_with s q (serves (at_file s chosen f) s.next_grant s.format now q.client q.args) }) client z
 
-other_admitted : (s : Server) (now : ℕ) (chosen : List ℕ) (q : Request) (client : ℕ) (a : Admit) → (q.client == client) ≡ false →
+other_admitted : (s : Server) (now : ℕ) (chosen : List ℕ) (q : ClientRequest) (client : ℕ) (a : Admit) → (q.client == client) ≡ false →
     slot_of (by_admit s now chosen q a).state.slots client ≡ slot_of s.slots client
 other_admitted s now chosen q client New z = other_kept s now chosen q client (file_at s.files q.file) z
 other_admitted s now chosen q client (Again kept) z = refl
 other_admitted s now chosen q client (Misordered expected) z = refl
 
-other_slot : (s : Server) (now : ℕ) (chosen : List ℕ) (q : Request) (client : ℕ) → (q.client == client) ≡ false →
+other_slot : (s : Server) (now : ℕ) (chosen : List ℕ) (q : ClientRequest) (client : ℕ) → (q.client == client) ≡ false →
     slot_of (on_request s now chosen q).state.slots client ≡ slot_of s.slots client
 unfolding on_request
 other_slot s now chosen q client z = other_admitted s now chosen q client (admit (slot_of s.slots q.client) q.sequence) z
@@ -156,7 +157,7 @@ slot_last : (o : Option Slot) (t : Slot) → o ≡ Some t → last_of o ≡ t.la
 slot_last o t e = rw e refl
 
 -- of its own requests
-own_counts : (s : Server) (now : ℕ) (chosen : List ℕ) (q : Request) (a : Admit) → admit (slot_of s.slots q.client) q.sequence ≡ a →
+own_counts : (s : Server) (now : ℕ) (chosen : List ℕ) (q : ClientRequest) (a : Admit) → admit (slot_of s.slots q.client) q.sequence ≡ a →
     Counts s q.client (where_new a q.sequence) (on_request s now chosen q).state
 own_counts s now chosen q New e =
     let w : IsCarriedOut s q (on_request s now chosen q) = carried_out s now chosen q e
@@ -165,7 +166,7 @@ own_counts s now chosen q (Again kept) e = inl (refl, ap (λ t. slot_of t.slots 
 own_counts s now chosen q (Misordered expected) e = inl (refl, ap (λ t. slot_of t.slots q.client) (not_carried s now chosen q (rw e refl)))
 
 -- of a request that is taken, the client's or another's
-request_counts : (s : Server) (now client : ℕ) (chosen : List ℕ) (q : Request) → (b : Bool) → (q.client == client) ≡ b →
+request_counts : (s : Server) (now client : ℕ) (chosen : List ℕ) (q : ClientRequest) → (b : Bool) → (q.client == client) ≡ b →
     Counts s client (if b then where_new (admit (slot_of s.slots client) q.sequence) q.sequence else []) (on_request s now chosen q).state
 request_counts s now client chosen q true e =
     subst (λ c. Counts s c (where_new (admit (slot_of s.slots c) q.sequence) q.sequence) (on_request s now chosen q).state) (eqb-true q.client client e)
@@ -173,7 +174,7 @@ request_counts s now client chosen q true e =
 request_counts s now client chosen q false e = inl (refl, other_slot s now chosen q client e)
 
 -- a request from client c, once the counters have room
-taken_counts : (s : Server) (now client c : ℕ) (chosen : List ℕ) (q : Request) →
+taken_counts : (s : Server) (now client c : ℕ) (chosen : List ℕ) (q : ClientRequest) →
     Counts s client (if (c == client) && ((q.client == c) && nat_le c MAX_CLIENT) then where_new (admit (slot_of s.slots client) q.sequence) q.sequence else [])
     (handled s now chosen (FromClient c) (Asks q)).state
 taken_counts s now client c chosen q = elim (cases_Bool ((q.client == c) && nat_le c MAX_CLIENT)) [
@@ -195,7 +196,7 @@ message_counts s now client chosen (FromDrive d) (Replies r) =
     (elim (cases_Bool (counters_low s)) [ inl t ↦ rw t (same_reply s chosen d r) | inr z ↦ rw z refl ])
 message_counts s now client chosen FromServer (Orders o) =
     none_counts s client (on_message s now chosen FromServer (Orders o)).state
-    (elim (cases_Bool (counters_low s)) [ inl t ↦ rw t (same_ordered s chosen o.kind o.target) | inr z ↦ rw z refl ])
+    (elim (cases_Bool (counters_low s)) [ inl t ↦ rw t (same_ordered s chosen o.order o.target) | inr z ↦ rw z refl ])
 message_counts s now client chosen from m =
     none_counts s client (on_message s now chosen from m).state (elim (cases_Bool (counters_low s)) [ inl t ↦ rw t refl | inr z ↦ rw z refl ])
 
@@ -256,7 +257,7 @@ slot_after s client (a ∷ acts) e =
     slot_after (step s a.chosen a.input).state client acts (both_empty (carried_by s client a.input) _ e).1
     ∙ stays_by s (step s a.chosen a.input).state client (carried_by s client a.input) (both_empty (carried_by s client a.input) _ e).0 (step_counts s client a.chosen a.input)
 
-answers_again : (s : Server) (q : Request) (a : Answer) → slot_of s.slots q.client ≡ Some (record { client = q.client; last = q.sequence; kept = a }) → IsAnsweredAgain s q a
+answers_again : (s : Server) (q : ClientRequest) (a : Answer) → slot_of s.slots q.client ≡ Some (record { client = q.client; last = q.sequence; kept = a }) → IsAnsweredAgain s q a
 unfolding on_request
 answers_again s q a e = λ now chosen r c n.
     ap (by_admit s now chosen r) (admit_again (slot_of s.slots r.client) (record { client = q.client; last = q.sequence; kept = a }) r.sequence (ap (slot_of s.slots) c ∙ e) n)

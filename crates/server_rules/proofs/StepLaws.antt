@@ -5,7 +5,7 @@ use Rattle.std.proofs.lemmas.Bool.{cases_Bool}
 use Rattle.osd_bytes.specs.declared.node.Node.{Node}
 use Rattle.osd_bytes.specs.declared.node.Node.TheVariants.{Server as FromServer, Drive as FromDrive, Client as FromClient}
 use Rattle.server_rules.specs.declared.limits.TheConstants.{MAX_CLIENT, GREATEST_TAG}
-use Rattle.server_rules.specs.State.{Server, File, Kept, Drive, JobKind, Job, Request, Reply, OrderKind, ToRecall, ToRevoke, ToDeclare, ToRebuild, ToAudit, Moved, RawMap, Refusal, Revoking, Rebuilding, Auditing}
+use Rattle.server_rules.specs.State.{Server, File, Kept, Drive, JobKind, Job, ClientRequest, Reply, OrderKind, ToRecall, ToRevoke, ToDeclare, ToRebuild, ToAudit, Moved, RawMap, Refusal, Revoking, Rebuilding, Auditing}
 use Rattle.server_rules.specs.Slots.{Admit, New, Again, Misordered, admit, slot_of}
 use Rattle.server_rules.specs.Going.{Going}
 use Rattle.server_rules.specs.Jobs.{making, declares, fence_begins}
@@ -24,35 +24,35 @@ use Rattle.server_rules.proofs.HandlerLaws.{Heard_out, leaves_fence, leaves_decl
 
 -- ---- a request
 
-safe_carried : (s : Server) (now : ℕ) (chosen : List ℕ) (q : Request) (o : Option File) → file_at s.files q.file ≡ o → AreSafe s.files →
+safe_carried : (s : Server) (now : ℕ) (chosen : List ℕ) (q : ClientRequest) (o : Option File) → file_at s.files q.file ≡ o → AreSafe s.files →
     AreSafe (carries_out s now chosen q o).state.files
 safe_carried s now chosen q None e h = h
 safe_carried s now chosen q (Some f) e h =
     safe_put s.files q.file _ h (leaves_served (at_file s chosen f) s.next_grant s.format now q.client q.args (safe_at s.files q.file f h e)).safe
 
-safe_admitted : (s : Server) (now : ℕ) (chosen : List ℕ) (q : Request) (a : Admit) → AreSafe s.files → AreSafe (by_admit s now chosen q a).state.files
+safe_admitted : (s : Server) (now : ℕ) (chosen : List ℕ) (q : ClientRequest) (a : Admit) → AreSafe s.files → AreSafe (by_admit s now chosen q a).state.files
 safe_admitted s now chosen q New h = safe_carried s now chosen q (file_at s.files q.file) refl h
 safe_admitted s now chosen q (Again kept) h = h
 safe_admitted s now chosen q (Misordered expected) h = h
 
-pub safe_request : (s : Server) (now : ℕ) (chosen : List ℕ) (q : Request) → AreSafe s.files → AreSafe (on_request s now chosen q).state.files
+pub safe_request : (s : Server) (now : ℕ) (chosen : List ℕ) (q : ClientRequest) → AreSafe s.files → AreSafe (on_request s now chosen q).state.files
 unfolding on_request
 safe_request s now chosen q h = safe_admitted s now chosen q (admit (slot_of s.slots q.client) q.sequence) h
 
-others_carried : (s : Server) (now : ℕ) (chosen : List ℕ) (q : Request) (o : Option File) → file_at s.files q.file ≡ o → AreSafe s.files →
+others_carried : (s : Server) (now : ℕ) (chosen : List ℕ) (q : ClientRequest) (o : Option File) → file_at s.files q.file ≡ o → AreSafe s.files →
     OthersStay q.file s.files (carries_out s now chosen q o).state.files
 others_carried s now chosen q None e h = λ n z. refl
 others_carried s now chosen q (Some f) e h =
     put_other s.files q.file (serves (at_file s chosen f) s.next_grant s.format now q.client q.args).going.file
     ((leaves_served (at_file s chosen f) s.next_grant s.format now q.client q.args (safe_at s.files q.file f h e)).number ∙ number_at s.files q.file f e)
 
-others_admitted : (s : Server) (now : ℕ) (chosen : List ℕ) (q : Request) (a : Admit) → AreSafe s.files → OthersStay q.file s.files (by_admit s now chosen q a).state.files
+others_admitted : (s : Server) (now : ℕ) (chosen : List ℕ) (q : ClientRequest) (a : Admit) → AreSafe s.files → OthersStay q.file s.files (by_admit s now chosen q a).state.files
 others_admitted s now chosen q New h = others_carried s now chosen q (file_at s.files q.file) refl h
 others_admitted s now chosen q (Again kept) h = λ n z. refl
 others_admitted s now chosen q (Misordered expected) h = λ n z. refl
 
 -- a request changes its file at most
-pub others_request : (s : Server) (now : ℕ) (chosen : List ℕ) (q : Request) → AreSafe s.files → OthersStay q.file s.files (on_request s now chosen q).state.files
+pub others_request : (s : Server) (now : ℕ) (chosen : List ℕ) (q : ClientRequest) → AreSafe s.files → OthersStay q.file s.files (on_request s now chosen q).state.files
 unfolding on_request
 others_request s now chosen q h = others_admitted s now chosen q (admit (slot_of s.slots q.client) q.sequence) h
 
@@ -138,7 +138,7 @@ safe_handled s now chosen (FromClient c) (Asks q) h = elim (cases_Bool ((q.clien
   | inr z ↦ rw z h
 ]
 safe_handled s now chosen (FromDrive d) (Replies r) h = safe_reply s chosen d r h
-safe_handled s now chosen FromServer (Orders o) h = safe_ordered s chosen o.kind o.target h
+safe_handled s now chosen FromServer (Orders o) h = safe_ordered s chosen o.order o.target h
 safe_handled s now chosen from m h = h
 
 safe_message : (s : Server) (now : ℕ) (chosen : List ℕ) (from : Node) (m : Message) → AreSafe s.files → AreSafe (on_message s now chosen from m).state.files
@@ -237,7 +237,7 @@ one_handled s now chosen (FromClient c) (Asks q) h d = elim (cases_Bool ((q.clie
   | inr z ↦ rw z (one_of_none s.files)
 ]
 one_handled s now chosen (FromDrive drive) (Replies r) h d = others_reply s chosen drive r
-one_handled s now chosen FromServer (Orders o) h d = one_ordered s chosen o.kind o.target d
+one_handled s now chosen FromServer (Orders o) h d = one_ordered s chosen o.order o.target d
 one_handled s now chosen from m h d = one_of_none s.files
 
 one_message : (s : Server) (now : ℕ) (chosen : List ℕ) (from : Node) (m : Message) → AreSafe s.files → tells_to_declare m ≡ false → One s.files (on_message s now chosen from m).state.files

@@ -2,6 +2,7 @@
 use Rattle.std.specs.Prelude.{ℕ, Bool, Option, Some, None, ◌+◌, ◌*◌, ◌&&◌, nat_lt, nat_le, max, if◌then◌else◌}
 use Rattle.data_map.specs.Striping.{stripe_length}
 use Rattle.data_map.specs.declared.ranges.TheConstants.{MAX_FILE_SIZE}
+use Rattle.layout_ops.specs.declared.statuses.TheConstants.{NFS4_OK, NFS4ERR_BADLAYOUT, NFS4ERR_INVAL}
 use Rattle.server_rules.specs.State.{Grant, Kept}
 use Rattle.server_rules.specs.Grants.{grant_of}
 use Rattle.server_rules.specs.Going.{Going, keeping}
@@ -29,9 +30,9 @@ commit_row f client last = commit_under (stripe_length f.map) f.size last (grant
 
 -- what the row does
 abbrev pub by_commit : Going → Committed → Served
-by_commit go NoGrant = says go 10050 0
-by_commit go Wrong = says go 22 0
-by_commit go (Sizes size) = says (keeping go (record go.file.kept { size = size })) 0 0
+by_commit go NoGrant = says go NFS4ERR_BADLAYOUT 0
+by_commit go Wrong = says go NFS4ERR_INVAL 0
+by_commit go (Sizes size) = says (keeping go (record go.file.kept { size = size })) NFS4_OK 0
 
 -- a LAYOUTCOMMIT on a file
 unfoldable pub commits : Going → (client : ℕ) → Option ℕ → Served

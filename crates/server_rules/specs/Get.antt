@@ -1,6 +1,7 @@
 -- LAYOUTGET: the first row that applies, in levels.
 use Rattle.std.specs.Prelude.{ℕ, Bool, List, [], ◌∷◌, ◌++◌, Option, Some, None, is_some, ◌+◌, ◌==◌, ◌||◌, not, nat_lt, min, max, if◌then◌else◌, find}
 use Rattle.data_map.specs.declared.ranges.TheConstants.{MAX_FILE_SIZE}
+use Rattle.layout_ops.specs.declared.statuses.TheConstants.{LAYOUTIOMODE4_READ, LAYOUTIOMODE4_RW, NFS4_OK, NFS4ERR_BADIOMODE, NFS4ERR_INVAL, NFS4ERR_LAYOUTTRYLATER, NFS4ERR_LAYOUTUNAVAILABLE, NFS4ERR_RECALLCONFLICT}
 use Rattle.server_rules.specs.declared.limits.TheConstants.{GREATEST_TAG, GREATEST_GRANT, NO_COMPONENT}
 use Rattle.server_rules.specs.State.{File, Kept, Grant, Awaited, Job, Revoking, Spent}
 use Rattle.server_rules.specs.Standing.{lacked_from}
@@ -48,7 +49,7 @@ by_job (Some j) = Waits (lowest j.awaited)
 -- the first of these rows
 unfoldable pub early : File → (iomode offset count : ℕ) → Early
 early f iomode offset count =
-    if not ((iomode == 1) || (iomode == 2)) then BadMode
+    if not ((iomode == LAYOUTIOMODE4_READ) || (iomode == LAYOUTIOMODE4_RW)) then BadMode
     else if (count == 0) || nat_lt MAX_FILE_SIZE (offset + count) then Invalid
     else if f.spent then Unable
     else by_job f.job
@@ -98,17 +99,17 @@ gives go g = record {
   going = keeping go (record go.file.kept { grants = go.file.kept.grants ++ (g ∷ []); high = high_after go.file.kept.high g });
   recalled = [];
   numbers = 1;
-  told = record { status = 0; detail = 0; grant = Some g };
+  told = record { status = NFS4_OK; detail = 0; grant = Some g };
 }
 
 -- each holder that conflicts is recalled, and the first is named
 abbrev pub recalls_for : Going → Grant → (holder : ℕ) → Served
-recalls_for go g holder = record { going = go; recalled = against go.file.kept.grants g; numbers = 0; told = tells 10058 holder }
+recalls_for go g holder = record { going = go; recalled = against go.file.kept.grants g; numbers = 0; told = tells NFS4ERR_LAYOUTTRYLATER holder }
 
 -- what the late row does
 abbrev pub by_late : Going → Grant → Late → Served
-by_late go g NoNumber = says go 10059 NO_COMPONENT
-by_late go g (Lacks k) = says go 10059 k
+by_late go g NoNumber = says go NFS4ERR_LAYOUTUNAVAILABLE NO_COMPONENT
+by_late go g (Lacks k) = says go NFS4ERR_LAYOUTUNAVAILABLE k
 by_late go g (Conflict holder) = recalls_for go g holder
 by_late go g Gives = gives go g
 
@@ -119,7 +120,7 @@ give_or_refuse go next g = by_late go g (late go.file.kept next g)
 -- a fence that waits for nobody is over, and the order goes on
 abbrev pub after_fence : Going → (next : ℕ) → Grant → Option Job → Served
 after_fence go next g None = give_or_refuse go next g
-after_fence go next g (Some j) = says go 10061 (lowest j.awaited)
+after_fence go next g (Some j) = says go NFS4ERR_RECALLCONFLICT (lowest j.awaited)
 
 -- the order goes on, unless the fence waits
 abbrev pub fence_then : Going → (next : ℕ) → Grant → Served
@@ -128,7 +129,7 @@ fence_then go next g = after_fence go next g go.file.job
 -- the fence, which a spent tag refuses
 unfoldable pub fence_first : Going → (next format : ℕ) → Grant → Served
 fence_first go next format g =
-    if go.file.kept.tag == GREATEST_TAG then says (noting go Spent) 10059 NO_COMPONENT
+    if go.file.kept.tag == GREATEST_TAG then says (noting go Spent) NFS4ERR_LAYOUTUNAVAILABLE NO_COMPONENT
     else fence_then (fence_begins Revoking format go) next g
 
 -- the row of the fence and the late rows
@@ -137,13 +138,13 @@ on_grants go next format now g = if must_fence now go.file.kept.grants g then fe
 
 -- what the early row does
 abbrev pub by_early : Going → (next format now : ℕ) → Grant → Early → Served
-by_early go next format now g BadMode = says go 10049 0
-by_early go next format now g Invalid = says go 22 0
-by_early go next format now g Unable = says go 10059 NO_COMPONENT
-by_early go next format now g (Waits k) = says go 10061 k
+by_early go next format now g BadMode = says go NFS4ERR_BADIOMODE 0
+by_early go next format now g Invalid = says go NFS4ERR_INVAL 0
+by_early go next format now g Unable = says go NFS4ERR_LAYOUTUNAVAILABLE NO_COMPONENT
+by_early go next format now g (Waits k) = says go NFS4ERR_RECALLCONFLICT k
 by_early go next format now g On = on_grants go next format now g
 
 -- a LAYOUTGET on a file
 unfoldable pub gets : Going → (next format now client : ℕ) → (iomode offset count : ℕ) → Served
 gets go next format now client iomode offset count =
-    by_early go next format now (asked go.file.kept next client now offset count (iomode == 2)) (early go.file iomode offset count)
+    by_early go next format now (asked go.file.kept next client now offset count (iomode == LAYOUTIOMODE4_RW)) (early go.file iomode offset count)

@@ -1,9 +1,9 @@
 -- What holds of the state after each step.
-use Rattle.std.specs.Prelude.{ℕ, Bool, true, false, List, [], ◌∷◌, ◌++◌, Option, Some, None, ◌≡◌, ◌+◌, ◌==◌, ◌&&◌, ◌⊎◌, nat_le, if◌then◌else◌}
+use Rattle.std.specs.Prelude.{ℕ, Bool, true, false, List, [], ◌∷◌, ◌++◌, Option, Some, None, ◌≡◌, ◌+◌, ◌≤◌, ◌<◌, ◌==◌, ◌&&◌, ◌⊎◌, nat_le, if◌then◌else◌}
 use Rattle.osd_bytes.specs.declared.node.Node.{Node}
 use Rattle.osd_bytes.specs.declared.node.Node.TheVariants.{Client as FromClient}
 use Rattle.server_rules.specs.declared.limits.TheConstants.{MAX_CLIENT}
-use Rattle.server_rules.specs.State.{Server, Slot, File, Kept, Drive, Job, Awaited, Grant, Request, Answer, OrderKind, ToDeclare, Outgoing, Answers}
+use Rattle.server_rules.specs.State.{Server, Slot, File, Kept, Drive, Job, Awaited, Grant, ClientRequest, Answer, OrderKind, ToDeclare, Outgoing, Answers}
 use Rattle.server_rules.specs.Grants.{conflicts}
 use Rattle.server_rules.specs.Going.{Going}
 use Rattle.server_rules.specs.Slots.{Admit, New, Again, Misordered, slot_of, admit, keep}
@@ -17,6 +17,18 @@ use Rattle.server_rules.specs.History.{Input, Hears, Obeys, Crashes, Opens, Act,
 abbrev pub In : {A : Type 0} → A → List A → Type 0
 In x [] = ⊥
 In x (y ∷ ys) = (x ≡ y) ⊎ In x ys
+
+-- ---- grants
+
+-- grants that can be live beside each other: none is extending, and where they share a stripe both are for reading
+pub record AreCompatible (a b : Grant) : Type 0 where
+  pub bounded : (a.extending ≡ false) × (b.extending ≡ false)
+  pub reading : (s : ℕ) → a.first ≤ s → s < a.end → b.first ≤ s → s < b.end → (a.rw ≡ false) × (b.rw ≡ false)
+
+-- so it is exactly with grants of different clients that don't conflict
+abbrev pub ConflictsAreExact : Type 0
+ConflictsAreExact =
+    (a b : Grant) → (a.client ≡ b.client → ⊥) → (conflicts a b ≡ false → AreCompatible a b) × (AreCompatible a b → conflicts a b ≡ false)
 
 -- ---- a file
 
@@ -79,7 +91,7 @@ declares_one kind = false
 
 -- a message with that order
 abbrev pub tells_to_declare : Message → Bool
-tells_to_declare (Orders o) = declares_one o.kind
+tells_to_declare (Orders o) = declares_one o.order
 tells_to_declare m = false
 
 -- an input that goes through all files: a drive is declared, the server crashes, or it is opened
@@ -109,7 +121,7 @@ where_new (Again kept) n = []
 where_new (Misordered expected) n = []
 
 -- the message is taken as a request of that client
-abbrev pub is_taken_of : Server → (client from : ℕ) → Request → Bool
+abbrev pub is_taken_of : Server → (client from : ℕ) → ClientRequest → Bool
 is_taken_of s client from q = (from == client) && (counters_low s && ((q.client == from) && nat_le from MAX_CLIENT))
 
 -- the sequence number of the client's request that is carried out for this message, if any
@@ -139,18 +151,18 @@ RequestsAreCarriedOutInOrder = (s : Server) (client : ℕ) (acts : List Act) →
 -- a request that isn't carried out changes nothing
 abbrev pub OtherRequestsChangeNothing : Type 0
 OtherRequestsChangeNothing =
-    (s : Server) (now client : ℕ) (chosen : List ℕ) (q : Request) → carried_by s client (Hears now (FromClient client) (Asks q)) ≡ [] →
+    (s : Server) (now client : ℕ) (chosen : List ℕ) (q : ClientRequest) → carried_by s client (Hears now (FromClient client) (Asks q)) ≡ [] →
     (step s chosen (Hears now (FromClient client) (Asks q))).state ≡ s
 
 -- the request, again, is answered as it was, and changes nothing
-abbrev pub IsAnsweredAgain : Server → Request → Answer → Type 0
-IsAnsweredAgain s q a = (now : ℕ) (chosen : List ℕ) (r : Request) → r.client ≡ q.client → r.sequence ≡ q.sequence → on_request s now chosen r ≡ only_answers s a
+abbrev pub IsAnsweredAgain : Server → ClientRequest → Answer → Type 0
+IsAnsweredAgain s q a = (now : ℕ) (chosen : List ℕ) (r : ClientRequest) → r.client ≡ q.client → r.sequence ≡ q.sequence → on_request s now chosen r ≡ only_answers s a
 
 -- a request that is carried out has an answer, its step's last message; and whatever comes behind, until a further
 -- request of the client is carried out, its repeat gets that answer and changes nothing
 abbrev pub RepeatsAreAnsweredAlike : Type 0
 RepeatsAreAnsweredAlike =
-    (s : Server) (now : ℕ) (chosen : List ℕ) (q : Request) → admit (slot_of s.slots q.client) q.sequence ≡ New →
+    (s : Server) (now : ℕ) (chosen : List ℕ) (q : ClientRequest) → admit (slot_of s.slots q.client) q.sequence ≡ New →
     (a : Answer) × (front : List Outgoing) × ((on_request s now chosen q).sends ≡ front ++ (Answers a ∷ []))
     × ((acts : List Act) → carried (on_request s now chosen q).state q.client acts ≡ [] → IsAnsweredAgain (state_after (on_request s now chosen q).state acts) q a)
 

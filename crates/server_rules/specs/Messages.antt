@@ -3,7 +3,7 @@ use Rattle.std.specs.Prelude.{ℕ, Bool, List, [], ◌∷◌, Option, Some, None
 use Rattle.osd_bytes.specs.declared.node.Node.{Node}
 use Rattle.osd_bytes.specs.declared.node.Node.TheVariants.{Server as FromServer, Drive as FromDrive, Client as FromClient}
 use Rattle.server_rules.specs.declared.limits.TheConstants.{MAX_CLIENT, COUNTERS_END}
-use Rattle.server_rules.specs.State.{Server, File, Awaited, Job, Request, Reply, Order, Outgoing}
+use Rattle.server_rules.specs.State.{Server, File, Awaited, Job, ClientRequest, Reply, Order, Outgoing}
 use Rattle.server_rules.specs.Going.{Going}
 use Rattle.server_rules.specs.Replies.{on_reply}
 use Rattle.server_rules.specs.Files.{Step, still, at_file, to_drives, step_at}
@@ -40,7 +40,7 @@ on_drive_reply s chosen drive r = by_heard s (heard_at s chosen drive r s.files)
 
 -- what the server takes; all else that comes to it is nothing
 pub data Message : Type 0 where
-  Asks : Request → Message
+  Asks : ClientRequest → Message
   Replies : Reply → Message
   Orders : Order → Message
 
@@ -48,7 +48,7 @@ pub data Message : Type 0 where
 abbrev pub handled : Server → (now : ℕ) → (chosen : List ℕ) → Node → Message → Step
 handled s now chosen (FromClient c) (Asks q) = if (q.client == c) && nat_le c MAX_CLIENT then on_request s now chosen q else still s
 handled s now chosen (FromDrive d) (Replies r) = on_drive_reply s chosen d r
-handled s now chosen FromServer (Orders o) = with_result o.kind (ordered s chosen o.kind o.target)
+handled s now chosen FromServer (Orders o) = with_result o.order (ordered s chosen o.order o.target)
 handled s now chosen from message = still s
 
 -- any message; none is taken while the counters are high

@@ -1,22 +1,22 @@
 -- Orders: recall, revoke, declare, rebuild, audit.
 use Rattle.std.specs.Prelude.{ℕ, Bool, true, false, List, [], ◌∷◌, ◌++◌, Option, Some, None, is_some, ◌+◌, ◌==◌, length, find, if◌then◌else◌}
 use Rattle.server_rules.specs.declared.limits.TheConstants.{GREATEST_TAG}
-use Rattle.server_rules.specs.State.{Server, File, Drive, Job, JobKind, Revoking, Rebuilding, Auditing, OrderKind, ToRecall, ToRevoke, ToDeclare, ToRebuild, ToAudit, AnswersOrder, Moved, Spent, Busy}
+use Rattle.server_rules.specs.State.{Server, File, Drive, Job, JobKind, Revoking, Rebuilding, Auditing, OrderKind, ToRecall, ToRevoke, ToDeclare, ToRebuild, ToAudit, AnswersOrder, OrderResult, HasStarted, IsBusy, IsSpent, IsUnknown, Moved, Spent, Busy}
 use Rattle.server_rules.specs.Going.{Going, noting}
 use Rattle.server_rules.specs.Jobs.{fence_begins, declares}
 use Rattle.server_rules.specs.Get.{lowest}
 use Rattle.server_rules.specs.Files.{Step, file_at, still, begins, at_file, step_at}
 use Rattle.server_rules.specs.Rounds.{Round, then_files, step_round}
-use Rattle.server_rules.specs.Requests.{recalls_from}
+use Rattle.server_rules.specs.Answers.{recalls_from}
 
--- the step of an order, and the number of its result
+-- the step of an order, and what came of it
 pub record Ordered : Type 0 where
   pub step : Step
-  pub result : ℕ
+  pub result : OrderResult
 
 -- there is no such file or drive
 abbrev pub unknown : Server → Ordered
-unknown s = record { step = still s; result = 3 }
+unknown s = record { step = still s; result = IsUnknown }
 
 -- a recall goes to each holder
 abbrev pub recalls : Server → File → Ordered
@@ -27,15 +27,15 @@ recalls s f = record {
     notes = [];
     mended = [];
   };
-  result = 0;
+  result = HasStarted;
 }
 
 -- busy where a job runs, spent where the tag is, else the fence starts
 abbrev pub begins_job : Server → (chosen : List ℕ) → JobKind → File → Option Job → Ordered
-begins_job s chosen kind f (Some j) = record { step = step_at s f.kept.number (noting (at_file s chosen f) (Busy (lowest j.awaited))); result = 1 }
+begins_job s chosen kind f (Some j) = record { step = step_at s f.kept.number (noting (at_file s chosen f) (Busy (lowest j.awaited))); result = IsBusy }
 begins_job s chosen kind f None =
-    if f.kept.tag == GREATEST_TAG then record { step = step_at s f.kept.number (noting (at_file s chosen f) Spent); result = 2 }
-    else record { step = step_at s f.kept.number (fence_begins kind s.format (at_file s chosen f)); result = 0 }
+    if f.kept.tag == GREATEST_TAG then record { step = step_at s f.kept.number (noting (at_file s chosen f) Spent); result = IsSpent }
+    else record { step = step_at s f.kept.number (fence_begins kind s.format (at_file s chosen f)); result = HasStarted }
 
 -- revoke, rebuild or audit
 abbrev pub starts : Server → (chosen : List ℕ) → JobKind → Option File → Ordered
@@ -73,7 +73,7 @@ declare s chosen drive = step_round (with_offline s drive) (declares_each drive 
 
 -- a declaration of a drive that there is
 abbrev pub declares_known : Server → (chosen : List ℕ) → (drive : ℕ) → Bool → Ordered
-declares_known s chosen drive true = record { step = declare s chosen drive; result = 0 }
+declares_known s chosen drive true = record { step = declare s chosen drive; result = HasStarted }
 declares_known s chosen drive false = unknown s
 
 -- an order, by its kind
@@ -86,4 +86,4 @@ ordered s chosen ToAudit n = starts s chosen Auditing (file_at s.files n)
 
 -- the order with its answer behind
 abbrev pub with_result : OrderKind → Ordered → Step
-with_result kind o = record o.step { sends = o.step.sends ++ (AnswersOrder (record { kind = kind; result = o.result }) ∷ []) }
+with_result kind o = record o.step { sends = o.step.sends ++ (AnswersOrder (record { order = kind; result = o.result }) ∷ []) }

@@ -1,8 +1,12 @@
 -- LAYOUTRETURN: clean, taken as a loss, or with a fence.
-use Rattle.std.specs.Prelude.{ℕ, Bool, true, List, [], ◌∷◌, Option, Some, None, ◌+◌, ◌==◌, ◌&&◌, not, length, take, drop, if◌then◌else◌}
+use Rattle.std.specs.Prelude.{ℕ, Bool, true, false, List, [], ◌∷◌, Option, Some, None, ◌+◌, ◌==◌, ◌&&◌, not, length, take, drop, if◌then◌else◌}
 use Rattle.std.specs.Int.{w64, from_be_bytes}
-use Rattle.server_rules.specs.declared.limits.TheConstants.{GREATEST_TAG, NO_COMPONENT, FIRST_PARTITION}
-use Rattle.server_rules.specs.State.{RawMap, Component, Grant, Kept, Entry, Revoking, Spent, Reported}
+use Rattle.layout_ops.specs.declared.statuses.TheConstants.{NFS4_OK, NFS4ERR_LAYOUTUNAVAILABLE}
+use Rattle.server_rules.specs.declared.limits.TheConstants.{GREATEST_TAG, NO_COMPONENT, LOSS_TAKEN, FIRST_PARTITION}
+use Rattle.server_rules.specs.State.{RawMap, Component, Grant, Kept, IoErr, Revoking, Spent, Reported}
+use Rattle.layout_types.specs.declared.objid.ObjId.{ObjId}
+use Rattle.layout_types.specs.declared.ioerrs.Errno.{Errno}
+use Rattle.layout_types.specs.declared.ioerrs.Errno.TheVariants.{Unreachable}
 use Rattle.server_rules.specs.Maps.{group_with}
 use Rattle.server_rules.specs.Numbers.{among}
 use Rattle.server_rules.specs.Standing.{is_beyond, lose_from}
@@ -17,18 +21,23 @@ use Rattle.server_rules.specs.Served.{Served, says}
 unfoldable pub is_device : List ℕ → (drive : ℕ) → Bool
 is_device bytes drive = (from_be_bytes w64 (take 8 bytes) == 0) && (from_be_bytes w64 (drop 8 bytes) == drive)
 
--- the entry names this object
-abbrev pub is_at : Entry → Component → Bool
-is_at e at = is_device e.device at.drive && ((e.partition == FIRST_PARTITION + at.drive) && (e.object == at.object))
+-- this is the component's object
+abbrev pub is_at : ObjId → Component → Bool
+is_at o at = is_device o.oid_device_id at.drive && ((o.oid_partition_id == FIRST_PARTITION + at.drive) && (o.oid_object_id == at.object))
 
 -- the component, from number k on, whose present or last object the entry names
-unfoldable pub named_from : Entry → List Component → (k : ℕ) → Option ℕ
+unfoldable pub named_from : IoErr → List Component → (k : ℕ) → Option ℕ
 named_from e [] k = None
-named_from e (at ∷ cs) k = if is_at e at then Some k else named_from e cs (k + 1)
+named_from e (at ∷ cs) k = if is_at e.oer_component at then Some k else named_from e cs (k + 1)
 
--- an entry that is UNREACHABLE names a component
-abbrev pub named_by : Entry → List Component → Option ℕ
-named_by e cs = if e.errno == 6 then named_from e cs 0 else None
+-- its drive wasn't reached
+abbrev pub is_unreachable : Errno → Bool
+is_unreachable Unreachable = true
+is_unreachable e = false
+
+-- an entry for a drive that wasn't reached names a component
+abbrev pub named_by : IoErr → List Component → Option ℕ
+named_by e cs = if is_unreachable e.oer_errno then named_from e cs 0 else None
 
 -- all of them, where each is there
 abbrev pub and_others : Option ℕ → Option (List ℕ) → Option (List ℕ)
@@ -37,7 +46,7 @@ and_others (Some k) None = None
 and_others (Some k) (Some ks) = Some (k ∷ ks)
 
 -- the components that the entries name, where each does
-unfoldable pub named : List Entry → List Component → Option (List ℕ)
+unfoldable pub named : List IoErr → List Component → Option (List ℕ)
 named [] cs = Some []
 named (e ∷ es) cs = and_others (named_by e cs) (named es cs)
 
@@ -58,7 +67,7 @@ bearable f None = None
 bearable f (Some ks) = if none_beyond f.map (lose_from ks f.components 0) ks then Some ks else None
 
 -- the components that become missing where the report is taken as a loss
-unfoldable pub loss : Kept → Grant → List Entry → Option (List ℕ)
+unfoldable pub loss : Kept → Grant → List IoErr → Option (List ℕ)
 loss f g report = if is_sole f g then bearable f (named report f.components) else None
 
 -- ---- the rows
@@ -77,17 +86,17 @@ by_loss f (Some ks) = Taken ks
 by_loss f None = if f.tag == GREATEST_TAG then TooMany else Fencing
 
 -- an empty report is clean
-abbrev pub by_report : Kept → Grant → List Entry → Returned
+abbrev pub by_report : Kept → Grant → List IoErr → Returned
 by_report f g [] = Clean
 by_report f g (e ∷ es) = by_loss f (loss f g (e ∷ es))
 
 -- the client has a grant, or none
-abbrev pub by_grant : Kept → List Entry → Option Grant → Returned
+abbrev pub by_grant : Kept → List IoErr → Option Grant → Returned
 by_grant f report None = NoGrant
 by_grant f report (Some g) = by_report f g report
 
 -- the row that applies on the file
-unfoldable pub return_row : Kept → (client : ℕ) → List Entry → Returned
+unfoldable pub return_row : Kept → (client : ℕ) → List IoErr → Returned
 return_row f client report = by_grant f report (grant_of f.grants client)
 
 -- ---- what is done
@@ -108,12 +117,12 @@ takes_loss go ks =
 
 -- what the row does
 abbrev pub by_return : Going → (format client : ℕ) → Returned → Served
-by_return go format client NoGrant = says go 0 0
-by_return go format client Clean = says (ends_grant go client) 0 0
-by_return go format client (Taken ks) = says (ends_grant (takes_loss go ks) client) 0 1
-by_return go format client TooMany = says (noting go Spent) 10059 NO_COMPONENT
-by_return go format client Fencing = says (fence_begins Revoking format go) 0 0
+by_return go format client NoGrant = says go NFS4_OK 0
+by_return go format client Clean = says (ends_grant go client) NFS4_OK 0
+by_return go format client (Taken ks) = says (ends_grant (takes_loss go ks) client) NFS4_OK LOSS_TAKEN
+by_return go format client TooMany = says (noting go Spent) NFS4ERR_LAYOUTUNAVAILABLE NO_COMPONENT
+by_return go format client Fencing = says (fence_begins Revoking format go) NFS4_OK 0
 
 -- a LAYOUTRETURN on a file
-unfoldable pub returns_on : Going → (format client : ℕ) → List Entry → Served
+unfoldable pub returns_on : Going → (format client : ℕ) → List IoErr → Served
 returns_on go format client report = by_return go format client (return_row go.file.kept client report)

@@ -21,20 +21,9 @@ pub use Rattle.server_rules.specs.declared.notes.NoteKind.{NoteKind}
 pub use Rattle.server_rules.specs.declared.notes.NoteKind.TheVariants.{Ready, Fenced, Repaired, Rebuilt, NoDrive, Lost, NoSpace, Audit, Busy, Spent, Reported}
 pub use Rattle.server_rules.specs.declared.notes.Note.{Note}
 pub use Rattle.server_rules.specs.declared.notes.Mended.{Mended}
-pub use Rattle.server_rules.specs.declared.messages.Entry.{Entry}
-pub use Rattle.server_rules.specs.declared.messages.Args.{Args}
-pub use Rattle.server_rules.specs.declared.messages.Args.TheVariants.{Get, Commit, Return}
-pub use Rattle.server_rules.specs.declared.messages.Request.{Request}
-pub use Rattle.server_rules.specs.declared.messages.Given.{Given}
-pub use Rattle.server_rules.specs.declared.messages.Credential.{Credential}
-pub use Rattle.server_rules.specs.declared.messages.Layout.{Layout}
-pub use Rattle.server_rules.specs.declared.messages.Granted.{Granted}
-pub use Rattle.server_rules.specs.declared.messages.Answer.{Answer}
-pub use Rattle.server_rules.specs.declared.messages.Recall.{Recall}
-pub use Rattle.server_rules.specs.declared.messages.OrderKind.{OrderKind}
-pub use Rattle.server_rules.specs.declared.messages.OrderKind.TheVariants.{ToRecall, ToRevoke, ToDeclare, ToRebuild, ToAudit}
-pub use Rattle.server_rules.specs.declared.messages.Order.{Order}
-pub use Rattle.server_rules.specs.declared.messages.OrderAnswer.{OrderAnswer}
+pub use Rattle.server_rules.specs.declared.requests.RequestArgs.{RequestArgs}
+pub use Rattle.server_rules.specs.declared.requests.RequestArgs.TheVariants.{Get, Commit, Return}
+pub use Rattle.server_rules.specs.declared.requests.ClientRequest.{ClientRequest}
 pub use Rattle.server_rules.specs.declared.server.Drive.{Drive}
 pub use Rattle.server_rules.specs.declared.server.Slot.{Slot}
 pub use Rattle.server_rules.specs.declared.server.Server.{Server}
@@ -43,6 +32,15 @@ pub use Rattle.server_rules.specs.declared.server.Outgoing.TheVariants.{ToDrive,
 pub use Rattle.server_rules.specs.declared.server.Moved.{Moved}
 pub use Rattle.server_rules.specs.declared.server.Refusal.{Refusal}
 pub use Rattle.server_rules.specs.declared.server.Refusal.TheVariants.{FileExists, BadMap, TooFewDrives}
+pub use Rattle.layout_ops.specs.declared.messages.Answer.{Answer}
+pub use Rattle.layout_ops.specs.declared.recalls.Recall.{Recall}
+pub use Rattle.layout_ops.specs.declared.orders.OrderKind.{OrderKind}
+pub use Rattle.layout_ops.specs.declared.orders.OrderKind.TheVariants.{Recall as ToRecall, Revoke as ToRevoke, Declare as ToDeclare, Rebuild as ToRebuild, Audit as ToAudit}
+pub use Rattle.layout_ops.specs.declared.orders.OrderResult.{OrderResult}
+pub use Rattle.layout_ops.specs.declared.orders.OrderResult.TheVariants.{Started as HasStarted, Busy as IsBusy, Spent as IsSpent, Unknown as IsUnknown}
+pub use Rattle.layout_ops.specs.declared.orders.Order.{Order}
+pub use Rattle.layout_ops.specs.declared.orders.OrderAnswer.{OrderAnswer}
+pub use Rattle.layout_types.specs.declared.ioerrs.IoErr.{IoErr}
 pub use Rattle.osd_commands.specs.declared.commands.Command.{Command}
 pub use Rattle.osd_commands.specs.declared.replies.Reply.{Reply}
 pub use Rattle.osd_capability.specs.declared.layout.Capability.{Capability}

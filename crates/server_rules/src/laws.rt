@@ -1,5 +1,11 @@
 // What holds of every step, for the crates above.
-ghost use Rattle.server_rules.specs.Laws.{EachStepIsSafe, EveryRunIsSafe, EachStepChangesOneFile, RequestsAreCarriedOutInOrder, OtherRequestsChangeNothing, RepeatsAreAnsweredAlike, FilesArePut, SlotsAreKept};
+ghost use Rattle.server_rules.specs.Laws.{ConflictsAreExact, EachStepIsSafe, EveryRunIsSafe, EachStepChangesOneFile, RequestsAreCarriedOutInOrder, OtherRequestsChangeNothing, RepeatsAreAnsweredAlike, FilesArePut, SlotsAreKept};
+
+/// Grants of different clients don't conflict exactly where none is extending, and both are for
+/// reading where they share a stripe.
+pub fn conflicts_are_exact()
+    ensures { ConflictsAreExact }
+{}
 
 /// Each step keeps that a job that rests awaits something, that no two live grants of a file
 /// conflict and a client has at most one of them, and that no grant is live while a job runs.

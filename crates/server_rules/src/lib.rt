@@ -10,8 +10,8 @@ mod grants;
 mod jobs;
 mod laws;
 mod limits;
-mod messages;
 mod notes;
+mod requests;
 mod server;
 
 pub use files::{Component, Components, File, Kept, Phase};
@@ -20,19 +20,17 @@ pub use jobs::{
     Awaited, AwaitedCommands, Heard, Job, JobKind, Measured, Piece, Tally, Target, Todo, Work,
 };
 pub use laws::{
-    each_step_changes_one_file, each_step_is_safe, every_run_is_safe, files_are_put,
-    other_requests_change_nothing, repeats_are_answered_alike, requests_are_carried_out_in_order,
-    slots_are_kept,
+    conflicts_are_exact, each_step_changes_one_file, each_step_is_safe, every_run_is_safe,
+    files_are_put, other_requests_change_nothing, repeats_are_answered_alike,
+    requests_are_carried_out_in_order, slots_are_kept,
 };
 pub use limits::{
     ALL_RIGHTS, COUNTERS_END, EXISTS, FIRST_OBJECT, FIRST_PARTITION, GREATEST_GRANT,
-    GREATEST_SEQUENCE, GREATEST_TAG, KEY_VERSION, LEASE, LENGTH_ATTRIBUTE, MAX_CLIENT,
+    GREATEST_SEQUENCE, GREATEST_TAG, KEY_VERSION, LEASE, LENGTH_ATTRIBUTE, LOSS_TAKEN, MAX_CLIENT,
     MAX_FILE_COMPONENTS, MAX_OBJECT_LENGTH, MAX_PIECE, NO_COMPONENT, NO_EXPIRY, NO_SPACE,
-    OLD_FORMAT, OTHER_TAG, PERFORMED, READ_RIGHTS, SERVER_HOLDER, WHOLE_OBJECT, WRITE_RIGHTS,
-};
-pub use messages::{
-    Answer, Args, Credential, Entry, Given, Granted, Layout, Order, OrderAnswer, OrderKind, Recall,
-    Request,
+    OLD_FORMAT, OTHER_TAG, PERFORMED, READ_RIGHTS, RECALL_NUMBERS, SERVER_HOLDER, WHOLE_FILE,
+    WHOLE_OBJECT, WRITE_RIGHTS,
 };
 pub use notes::{Mended, Note, NoteKind};
+pub use requests::{ClientRequest, RequestArgs};
 pub use server::{Drive, Moved, Outgoing, Refusal, Server, Slot};

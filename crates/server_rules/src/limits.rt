@@ -30,6 +30,9 @@ pub const GREATEST_SEQUENCE: u32 = 4_294_967_295;
 /// The detail of an answer that is refused for no component's sake.
 pub const NO_COMPONENT: u32 = 4_294_967_295;
 
+/// The detail of the answer to a report that was taken as a loss.
+pub const LOSS_TAKEN: u32 = 1;
+
 /// The holder that the server's own capabilities name.
 pub const SERVER_HOLDER: u32 = 4_294_967_295;
 
@@ -44,6 +47,12 @@ pub const WRITE_RIGHTS: u32 = 6;
 
 /// The length of a range that takes in a whole object.
 pub const WHOLE_OBJECT: u64 = 18_446_744_073_709_551_615;
+
+/// The length of a range that takes in a whole file.
+pub const WHOLE_FILE: u64 = 18_446_744_073_709_551_615;
+
+/// How many numbers recalls have before they begin again.
+pub const RECALL_NUMBERS: u64 = 4_294_967_296;
 
 /// The version of the drives' keys.
 pub const KEY_VERSION: u16 = 1;

@@ -1,8 +1,8 @@
 use crate::files::File;
 use crate::jobs::AwaitedCommands;
-use crate::messages::{Answer, OrderAnswer, Recall};
 use crate::notes::{Mended, Note};
 use data_map::MapErr;
+use layout_ops::{Answer, OrderAnswer, Recall};
 use osd_bytes::Sequence;
 use osd_commands::Command;
 
