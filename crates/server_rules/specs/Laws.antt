@@ -2,9 +2,11 @@
 use Rattle.std.specs.Prelude.{ℕ, Bool, true, false, List, [], ◌∷◌, ◌++◌, Option, Some, None, ◌≡◌, ◌+◌, ◌≤◌, ◌<◌, ◌==◌, ◌&&◌, ◌⊎◌, nat_le, if◌then◌else◌}
 use Rattle.osd_bytes.specs.declared.node.Node.{Node}
 use Rattle.osd_bytes.specs.declared.node.Node.TheVariants.{Client as FromClient}
+use Rattle.data_map.specs.Striping.{stripe_length}
+use Rattle.data_map.specs.Ranges.{HoldRange}
 use Rattle.server_rules.specs.declared.limits.TheConstants.{MAX_CLIENT}
 use Rattle.server_rules.specs.State.{Server, Slot, File, Kept, Drive, Job, Awaited, Grant, ClientRequest, Answer, OrderKind, ToDeclare, Outgoing, Answers}
-use Rattle.server_rules.specs.Grants.{conflicts}
+use Rattle.server_rules.specs.Grants.{conflicts, asked}
 use Rattle.server_rules.specs.Going.{Going}
 use Rattle.server_rules.specs.Slots.{Admit, New, Again, Misordered, slot_of, admit, keep}
 use Rattle.server_rules.specs.Files.{file_at, put_file}
@@ -29,6 +31,12 @@ pub record AreCompatible (a b : Grant) : Type 0 where
 abbrev pub ConflictsAreExact : Type 0
 ConflictsAreExact =
     (a b : Grant) → (a.client ≡ b.client → ⊥) → (conflicts a b ≡ false → AreCompatible a b) × (AreCompatible a b → conflicts a b ≡ false)
+
+-- the stripes of the grant that a LAYOUTGET asks for hold each byte that it asks
+abbrev pub AskedGrantsHoldTheirBytes : Type 0
+AskedGrantsHoldTheirBytes =
+    (f : Kept) (number client now offset count : ℕ) (rw : Bool) → 0 < stripe_length f.map →
+    HoldRange f.map offset count (asked f number client now offset count rw).first (asked f number client now offset count rw).end
 
 -- ---- a file
 

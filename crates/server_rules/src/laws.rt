@@ -1,10 +1,15 @@
 // What holds of every step, for the crates above.
-ghost use Rattle.server_rules.specs.Laws.{ConflictsAreExact, EachStepIsSafe, EveryRunIsSafe, EachStepChangesOneFile, RequestsAreCarriedOutInOrder, OtherRequestsChangeNothing, RepeatsAreAnsweredAlike, FilesArePut, SlotsAreKept};
+ghost use Rattle.server_rules.specs.Laws.{ConflictsAreExact, AskedGrantsHoldTheirBytes, EachStepIsSafe, EveryRunIsSafe, EachStepChangesOneFile, RequestsAreCarriedOutInOrder, OtherRequestsChangeNothing, RepeatsAreAnsweredAlike, FilesArePut, SlotsAreKept};
 
 /// Grants of different clients don't conflict exactly where none is extending, and both are for
 /// reading where they share a stripe.
 pub fn conflicts_are_exact()
     ensures { ConflictsAreExact }
+{}
+
+/// The stripes of the grant that a LAYOUTGET asks for hold each byte that it asks.
+pub fn asked_grants_hold_their_bytes()
+    ensures { AskedGrantsHoldTheirBytes }
 {}
 
 /// Each step keeps that a job that rests awaits something, that no two live grants of a file

@@ -20,9 +20,9 @@ pub use jobs::{
     Awaited, AwaitedCommands, Heard, Job, JobKind, Measured, Piece, Tally, Target, Todo, Work,
 };
 pub use laws::{
-    conflicts_are_exact, each_step_changes_one_file, each_step_is_safe, every_run_is_safe,
-    files_are_put, other_requests_change_nothing, repeats_are_answered_alike,
-    requests_are_carried_out_in_order, slots_are_kept,
+    asked_grants_hold_their_bytes, conflicts_are_exact, each_step_changes_one_file,
+    each_step_is_safe, every_run_is_safe, files_are_put, other_requests_change_nothing,
+    repeats_are_answered_alike, requests_are_carried_out_in_order, slots_are_kept,
 };
 pub use limits::{
     ALL_RIGHTS, COUNTERS_END, EXISTS, FIRST_OBJECT, FIRST_PARTITION, GREATEST_GRANT,
