@@ -5,25 +5,34 @@
 //! places of a block of bytes.
 #![tactic(auto)]
 
+mod asking;
+mod clock;
+mod header;
 mod in_memory;
 mod lines;
+mod links;
 mod lists;
 mod memory;
 mod node;
 mod overwrite;
 mod places;
 mod put;
+mod records;
 mod sequence;
 mod sink;
 mod source;
 
+pub use asking::{ExchangeErr, exchange};
+pub use clock::{Clock, MemClock};
 pub use in_memory::{MemSink, MemSource};
 pub use lines::{LineErr, LineReader, MAX_INPUT, MAX_LINE};
+pub use links::{Links, Peer, Peers};
 pub use lists::{ByteLists, Bytes, Numbers, Rows, Times};
 pub use memory::Memory;
 pub use node::Node;
 pub use places::{first_nonzero_in, put_at, put_u16, put_u32, put_u64, u16_at, u32_at, u64_at};
 pub use put::{PutErr, put_all};
+pub use records::{MAX_FRAGMENTS, MAX_RECORD, RecordErr, Records, frame, joins_fragments};
 pub use sequence::Sequence;
 pub use sink::Sink;
 pub use source::{Fault, Source};

@@ -1,4 +1,4 @@
-ghost use Rattle.std.specs.Prelude.{◌≡◌, ◌<◌, ◌+◌, ◌-◌, ◌^◌, ◌++◌, ◌∷◌, [], length, replicate, slice_get, ◌↔◌, IsTrue, IfOk, OnOk, OnErr};
+ghost use Rattle.std.specs.Prelude.{◌≡◌, ◌<◌, ◌+◌, ◌-◌, ◌^◌, ◌++◌, ◌∷◌, [], length, replicate, take, slice_get, ◌↔◌, IsTrue, IfOk, IfErr, OnOk, OnErr};
 ghost use Rattle.osd_bytes.specs.Overwrite.{overwritten};
 
 use crate::memory::Memory;
@@ -47,6 +47,24 @@ impl<T: Drop> Sequence<T> {
     {
         self.items.push(member)?;
         Ok(())
+    }
+
+    /// Adds a member at the end. Where there is no memory it comes back, and the list is as before.
+    pub fn offer(&mut self, member: T) -> Result<(), T>
+        ensures ok { OnOk result (self.new ≡ self.old ++ member ∷ []) }
+        ensures err { IfErr result (λ back. (back ≡ member) × (self.new ≡ self.old)) }
+    {
+        match self.items.push(member) {
+            Ok(()) => Ok(()),
+            Err(refused) => Err(refused.value),
+        }
+    }
+
+    /// Keeps the first members, `len` of them, or all where there are no more.
+    pub fn truncate(&mut self, len: usize)
+        ensures { self.new ≡ take len self.old }
+    {
+        self.items.truncate(len);
     }
 
     /// The number of members.
