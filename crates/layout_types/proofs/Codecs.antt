@@ -1,11 +1,12 @@
 -- Reading a structure and spelling it are each other's inverse.
-use Rattle.std.proofs.Common.{◌≡◌, ◌⊎◌, ℕ, ◌<◌, ◌≤◌, ◌^◌, Bool, true, false, ◌&&◌, cond, eqb, leb, List, [], ◌∷◌, ◌++◌, Option, None, Some, inl, inr, Ok, refl, sym, ap, subst, ◌∙◌, arith}
-use Rattle.std.specs.Prelude.{IsTrue, ⊤}
-use Rattle.std.proofs.lemmas.Bool.{leb-true, eqb-true}
+use Rattle.std.proofs.Common.{◌≡◌, ◌⊎◌, ℕ, ◌<◌, ◌^◌, Bool, true, false, ◌&&◌, cond, eqb, leb, ltb, List, [], ◌∷◌, ◌++◌, Option, None, Some, inl, inr, Ok, refl, sym, ap, subst, ◌∙◌, arith}
+use Rattle.std.specs.Prelude.{⊤}
+use Rattle.std.proofs.lemmas.Bool.{leb-true, le-leb, ltb-true, lt-ltb, eqb-true}
 use Rattle.osd_bytes.specs.Blocks.{IsBytes}
 use Rattle.data_map.specs.declared.check.RawMap.{RawMap}
 use Rattle.xdr_codec.specs.Items.{u32_item, u64_item, i64_item, bool_item, fixed_item, opaque_item}
-use Rattle.xdr_codec.specs.Reading.{Rest, IsCodec}
+use Rattle.xdr_codec.proofs.Codec.{IsCodec}
+use Rattle.xdr_codec.specs.Reading.{Rest}
 use Rattle.xdr_codec.proofs.ItemLaws.{ok_is, err_is_not, chosen}
 use Rattle.layout_types.specs.declared.objid.ObjId.{ObjId}
 use Rattle.layout_types.specs.declared.cred.OsdVersion.{OsdVersion}
@@ -24,7 +25,7 @@ use Rattle.layout_types.specs.declared.ioerrs.Errno.TheVariants as errno
 use Rattle.layout_types.specs.declared.ioerrs.IoErr.{IoErr}
 use Rattle.layout_types.specs.declared.ioerrs.IoErrs.{IoErrs}
 use Rattle.layout_types.specs.declared.hint.LayoutHint.{LayoutHint}
-use Rattle.layout_types.specs.Enumerations.{version_number, version_of, security_number, security_of, errno_number, errno_of, is_algorithm, algorithm_of}
+use Rattle.layout_types.specs.Enumerations.{version_number, version_of, security_number, security_of, errno_number, errno_of, IsAlgorithm, algorithm_of}
 use Rattle.layout_types.specs.Grammar.{enum_part, optional_item, list_item}
 use Rattle.layout_types.specs.Spelling.{objid_item, ObjIdFits, cred_item, CredFits, map_item, MapFits, layout_item, LayoutFits, target_item, TargetFits, netaddr_item, NetAddrFits, deviceaddr_item, DeviceAddrFits, update_item, UpdateFits, ioerr_item, IoErrFits, ioerrs_item, IoErrsFits, hint_item, HintFits}
 use Rattle.layout_types.specs.Reading.{objid_in, cred_in, map_in, layout_in, target_in, netaddr_in, deviceaddr_in, update_in, ioerr_in, ioerrs_in, hint_in}
@@ -32,22 +33,25 @@ use Rattle.layout_types.proofs.Steps.{u32_law, u64_law, i64_law, bool_law, fixed
 
 -- ---- enumerations
 
-algorithm_only : (n v : ℕ) → algorithm_of n ≡ Some v → (v ≡ n) × IsTrue (is_algorithm v)
-algorithm_only n v e =
-    elim (chosen (is_algorithm n) (Some n) None (Some v) e) [
-      | inl p ↦ let same : n ≡ v = cc in (sym same, rw (← same) p.0)
-      | inr p ↦ absurd cc
-    ]
-
 and_true : (a b : Bool) → (a && b) ≡ true → (a ≡ true) × (b ≡ true)
 and_true true b e = (refl, e)
 and_true false b e = absurd cc
 
-algorithm_small : (v : ℕ) → IsTrue (is_algorithm v) → v < 2 ^ 32
-algorithm_small v fits = let both = and_true (leb 1 v) (leb v 4) fits in let most : v ≤ 4 = leb-true v 4 both.1 in omega (arith, most)
+algorithm_only : (n v : ℕ) → algorithm_of n ≡ Some v → (v ≡ n) × IsAlgorithm v
+algorithm_only n v e =
+    elim (chosen (ltb 0 n && leb n 4) (Some n) None (Some v) e) [
+      | inl p ↦
+          let same : n ≡ v = cc in
+          let both = and_true (ltb 0 n) (leb n 4) p.0 in
+          (sym same, rw (← same) (ltb-true 0 n both.0, leb-true n 4 both.1))
+      | inr p ↦ absurd cc
+    ]
 
-algorithm_law : IsCodec (enum_part algorithm_of) u32_item (λ n. IsTrue (is_algorithm n))
-algorithm_law = enum_law algorithm_of (λ n. n) (λ n. IsTrue (is_algorithm n)) (record { back = λ v fits. rw fits refl; small = algorithm_small; only = algorithm_only })
+algorithm_back : (n : ℕ) → IsAlgorithm n → algorithm_of n ≡ Some n
+algorithm_back n fits = rw (lt-ltb 0 n fits.0, le-leb n 4 fits.1) refl
+
+algorithm_law : IsCodec (enum_part algorithm_of) u32_item IsAlgorithm
+algorithm_law = enum_law algorithm_of (λ n. n) IsAlgorithm (record { back = algorithm_back; small = λ n fits. omega (arith, fits.1); only = algorithm_only })
 
 some_is : {V : Type 0} (n m : ℕ) (x v : V) (o : Option V) → cond (eqb n m) (Some x) o ≡ Some v → ((n ≡ m) × (x ≡ v)) ⊎ (o ≡ Some v)
 some_is n m x v o e =

@@ -4,7 +4,8 @@ use Rattle.std.specs.Prelude.{OnOk, IfOk}
 use Rattle.std.proofs.Math.Seq.{drop-cons}
 use Rattle.std.proofs.lemmas.List.{append-nil, drop_all}
 use Rattle.osd_bytes.specs.Blocks.{IsBytes}
-use Rattle.xdr_codec.specs.Reading.{Rest, IsCodec}
+use Rattle.xdr_codec.proofs.Codec.{IsCodec}
+use Rattle.xdr_codec.specs.Reading.{Rest}
 use Rattle.xdr_codec.proofs.ItemLaws.{bind_ok, ok_is}
 use Rattle.layout_types.specs.declared.err.LayoutErr.{LayoutErr}
 use Rattle.layout_types.specs.Grammar.{GivesOrMemory, whole}

@@ -10,7 +10,8 @@ use Rattle.osd_bytes.specs.Blocks.{IsBytes}
 use Rattle.xdr_codec.specs.declared.err.XdrErr.{XdrErr}
 use Rattle.xdr_codec.specs.declared.err.XdrErr.TheVariants.{Trailing}
 use Rattle.xdr_codec.specs.Items.{u32_item, u64_item, i64_item, bool_item, fixed_item, opaque_item}
-use Rattle.xdr_codec.specs.Reading.{Rest, ◌>>=◌, IsCodec, u32_in, u64_in, i64_in, bool_in, count_in, fixed_in, opaque_in, end_of}
+use Rattle.xdr_codec.proofs.Codec.{IsCodec}
+use Rattle.xdr_codec.specs.Reading.{Rest, ◌>>=◌, u32_in, u64_in, i64_in, bool_in, count_in, fixed_in, opaque_in, end_of}
 use Rattle.xdr_codec.proofs.ItemLaws.{bind_ok, ok_is, err_is_not, rest_fits, chosen, u32_codec, u64_codec, i64_codec, bool_codec, count_codec, fixed_codec, opaque_codec}
 use Rattle.layout_types.specs.declared.err.LayoutErr.{LayoutErr}
 use Rattle.layout_types.specs.Spelling.{ListFits}

@@ -1,18 +1,28 @@
 -- What is read may be written again: a value that fits keeps what a writer asks.
-use Rattle.std.proofs.Common.{List, [], ◌∷◌}
-use Rattle.std.specs.Prelude.{IsTrue}
+use Rattle.std.proofs.Common.{ℕ, ℤ, List, [], ◌∷◌, Option, Some, None}
+use Rattle.std.specs.Prelude.{⊤}
 use Rattle.std.specs.List.{AllByRecursion}
 use Rattle.data_map.specs.declared.check.RawMap.{RawMap}
+use Rattle.data_map.specs.Check.{HasAlgorithm}
 use Rattle.layout_types.specs.declared.cred.ObjectCred.{ObjectCred}
 use Rattle.layout_types.specs.declared.layout.Layout.{Layout}
 use Rattle.layout_types.specs.declared.device_addr.DeviceAddr.{DeviceAddr}
 use Rattle.layout_types.specs.declared.ioerrs.IoErrs.{IoErrs}
 use Rattle.layout_types.specs.declared.hint.LayoutHint.{LayoutHint}
-use Rattle.layout_types.specs.Enumerations.{is_algorithm}
+use Rattle.layout_types.specs.Enumerations.{IsAlgorithm}
 use Rattle.layout_types.specs.Grammar.{OptionalFits}
 use Rattle.layout_types.specs.Spelling.{CredFits, CredWritable, MapFits, LayoutFits, LayoutWritable, DeviceAddrFits, DeviceAddrWritable, IoErrsFits, IoErrsWritable, HintFits}
 
-pub map_writable : (v : RawMap) → MapFits v → IsTrue (is_algorithm v.algorithm)
+-- a number is written whatever it is
+pub any_number : (o : Option ℕ) → OptionalFits (λ n. ⊤) o
+any_number None = tt
+any_number (Some n) = tt
+
+pub any_signed : (o : Option ℤ) → OptionalFits (λ z. ⊤) o
+any_signed None = tt
+any_signed (Some z) = tt
+
+pub map_writable : (v : RawMap) → MapFits v → HasAlgorithm v
 map_writable v fits = fits.algorithm
 
 pub cred_writable : (v : ObjectCred) → CredFits v → CredWritable v
@@ -37,5 +47,5 @@ deviceaddr_writable v fits = record {
 pub ioerrs_writable : (v : IoErrs) → IoErrsFits v → IoErrsWritable v
 ioerrs_writable v fits = fits.0
 
-pub hint_writable : (v : LayoutHint) → HintFits v → OptionalFits (λ n. IsTrue (is_algorithm n)) v.raid_algorithm
+pub hint_writable : (v : LayoutHint) → HintFits v → OptionalFits IsAlgorithm v.raid_algorithm
 hint_writable v fits = fits.raid_algorithm

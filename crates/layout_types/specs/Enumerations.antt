@@ -1,5 +1,6 @@
 -- The enumerations of RFC 5664 and their numbers, both ways.
-use Rattle.std.specs.Prelude.{ℕ, Bool, ◌&&◌, if◌then◌else◌, nat_eq, nat_le, Option, Some, None}
+use Rattle.std.specs.Prelude.{ℕ, ◌<◌, ◌≤◌, ◌&&◌, if◌then◌else◌, nat_eq, nat_le, nat_lt, Option, Some, None}
+use Rattle.data_map.specs.declared.check.TheConstants.{RAID_PQ}
 use Rattle.layout_types.specs.declared.cred.OsdVersion.{OsdVersion}
 use Rattle.layout_types.specs.declared.cred.OsdVersion.TheVariants as version
 use Rattle.layout_types.specs.declared.cred.KeySecurity.{KeySecurity}
@@ -49,9 +50,9 @@ errno_of n =
     else if nat_eq n 7 then Some errno.Resource
     else None
 
--- RAID 0, RAID 4, RAID 5 and RAID P+Q, which stay numbers
-abbrev pub is_algorithm : ℕ → Bool
-is_algorithm n = nat_le 1 n && nat_le n 4
+-- RAID 0, RAID 4, RAID 5 and RAID P+Q, which stay numbers: what `HasAlgorithm` says of a map's
+abbrev pub IsAlgorithm : ℕ → Type 0
+IsAlgorithm n = (0 < n) × (n ≤ RAID_PQ)
 
 abbrev pub algorithm_of : ℕ → Option ℕ
-algorithm_of n = if is_algorithm n then Some n else None
+algorithm_of n = if nat_lt 0 n && nat_le n RAID_PQ then Some n else None

@@ -6,6 +6,7 @@ use Rattle.xdr_codec.specs.Items.{u32_item, bool_item}
 use Rattle.xdr_codec.specs.Reading.{Rest, ◌>>=◌, u32_in, u64_in, i64_in, bool_in, count_in, fixed_in, opaque_in, end_of}
 use Rattle.layout_types.specs.declared.err.LayoutErr.{LayoutErr}
 use Rattle.layout_types.specs.declared.err.LayoutErr.TheVariants.{BadEnum, Memory}
+use Rattle.layout_types.specs.declared.parts.TheConstants.{MAX_OPAQUE, MAX_MEMBERS}
 use Rattle.layout_types.specs.Refusals.{of_item}
 
 -- ---- items
@@ -29,13 +30,13 @@ bool_part i = lifted (bool_in i)
 unfoldable pub fixed_part : ℕ → Rest → Result (List ℕ × Rest) LayoutErr
 fixed_part n i = lifted (fixed_in n i)
 
--- an opaque or a string has at most 4,096 bytes
+-- an opaque or a string is within its largest length
 unfoldable pub opaque_part : Rest → Result (List ℕ × Rest) LayoutErr
-opaque_part i = lifted (opaque_in 4096 i)
+opaque_part i = lifted (opaque_in MAX_OPAQUE i)
 
--- a list has at most 1,024 members
+-- a list is within its largest length
 unfoldable pub count_part : Rest → Result (ℕ × Rest) LayoutErr
-count_part i = lifted (count_in 1024 i)
+count_part i = lifted (count_in MAX_MEMBERS i)
 
 -- ---- enumerations
 
@@ -89,6 +90,10 @@ whole part bytes = do
   v ← part (record { left = bytes; at = 0 })
   _ ← lifted (end_of v.1)
   Ok v.0
+
+-- the spelling of no value begins with other bytes than its own: whatever stands behind these is none
+abbrev pub BeginsNoOther : {V : Type 0} → (V → Type 0) → (V → List ℕ) → List ℕ → Type 0
+BeginsNoOther Fits spelling bytes = (w : _) (more : List ℕ) → Fits w → spelling w ≡ bytes ++ more → more ≡ []
 
 -- ---- answers
 

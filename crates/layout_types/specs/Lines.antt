@@ -94,24 +94,36 @@ layout_lines front v =
 -- the enumeration, and behind it the value, if there is one
 unfoldable pub target_lines : List ℕ → TargetId → List ℕ
 target_lines front target.Anon = number_line (front ++ codes "oti_type") 1
-target_lines front (target.ScsiName name) = number_line (front ++ codes "oti_type") 2 ++ opaque_line (front ++ codes "oti_value") name
-target_lines front (target.ScsiDeviceId id) = number_line (front ++ codes "oti_type") 3 ++ opaque_line (front ++ codes "oti_value") id
+target_lines front (target.ScsiName name) =
+    number_line (front ++ codes "oti_type") 2 ++ opaque_line (front ++ codes "oti_value") name
+target_lines front (target.ScsiDeviceId id) =
+    number_line (front ++ codes "oti_type") 3 ++ opaque_line (front ++ codes "oti_value") id
 
 unfoldable pub netaddr_lines : List ℕ → NetAddr → List ℕ
-netaddr_lines front v = opaque_line (front ++ codes "na_r_netid") v.na_r_netid ++ opaque_line (front ++ codes "na_r_addr") v.na_r_addr
+netaddr_lines front v =
+    opaque_line (front ++ codes "na_r_netid") v.na_r_netid ++ opaque_line (front ++ codes "na_r_addr") v.na_r_addr
+
+-- the bool of an address, and the address
+abbrev pub targetaddr_lines : List ℕ → Option NetAddr → List ℕ
+targetaddr_lines front o =
+    optional_lines netaddr_lines (front ++ codes "oda_targetaddr.ota_available") (front ++ codes "oda_targetaddr.") o
 
 unfoldable pub deviceaddr_lines : List ℕ → DeviceAddr → List ℕ
 deviceaddr_lines front v =
     target_lines (front ++ codes "oda_targetid.") v.oda_targetid
-    ++ (optional_lines netaddr_lines (front ++ codes "oda_targetaddr.ota_available") (front ++ codes "oda_targetaddr.") v.oda_targetaddr
+    ++ (targetaddr_lines front v.oda_targetaddr
     ++ (opaque_line (front ++ codes "oda_lun") v.oda_lun
     ++ (opaque_line (front ++ codes "oda_systemid") v.oda_systemid
     ++ (cred_lines (front ++ codes "oda_root_obj_cred.") v.oda_root_obj_cred
     ++ opaque_line (front ++ codes "oda_osdname") v.oda_osdname))))
 
+-- the bool of a delta, and the delta
+abbrev pub delta_lines : List ℕ → Option ℤ → List ℕ
+delta_lines front o = optional_lines signed_line (front ++ codes "dsu_valid") (front ++ codes "dsu_delta") o
+
 unfoldable pub update_lines : List ℕ → LayoutUpdate → List ℕ
 update_lines front v =
-    optional_lines signed_line (front ++ codes "dsu_valid") (front ++ codes "dsu_delta") v.dsu_delta
+    delta_lines front v.dsu_delta
     ++ bool_line (front ++ codes "olu_ioerr_flag") v.olu_ioerr_flag
 
 unfoldable pub ioerr_lines : List ℕ → IoErr → List ℕ

@@ -4,6 +4,8 @@ use Rattle.data_map.specs.declared.check.RawMap.{RawMap}
 use Rattle.xdr_codec.specs.Reading.{Rest, ◌>>=◌}
 use Rattle.layout_types.specs.declared.err.LayoutErr.{LayoutErr}
 use Rattle.layout_types.specs.declared.err.LayoutErr.TheVariants.{BadEnum}
+use Rattle.layout_types.specs.declared.objid.TheConstants.{DEVICE_ID_BYTES}
+use Rattle.layout_types.specs.declared.device_addr.TheConstants.{LUN_BYTES}
 use Rattle.layout_types.specs.declared.objid.ObjId.{ObjId}
 use Rattle.layout_types.specs.declared.cred.ObjectCred.{ObjectCred}
 use Rattle.layout_types.specs.declared.layout.Layout.{Layout}
@@ -20,10 +22,17 @@ use Rattle.layout_types.specs.Grammar.{u32_part, u64_part, i64_part, bool_part, 
 
 unfoldable pub objid_in : Rest → Result (ObjId × Rest) LayoutErr
 objid_in i = do
-  device_id ← fixed_part 16 i
+  device_id ← fixed_part DEVICE_ID_BYTES i
   partition_id ← u64_part device_id.1
   object_id ← u64_part partition_id.1
-  Ok (record { oid_device_id = device_id.0; oid_partition_id = partition_id.0; oid_object_id = object_id.0 }, object_id.1)
+  Ok (
+    record {
+      oid_device_id = device_id.0;
+      oid_partition_id = partition_id.0;
+      oid_object_id = object_id.0;
+    },
+    object_id.1,
+  )
 
 unfoldable pub cred_in : Rest → Result (ObjectCred × Rest) LayoutErr
 cred_in i = do
@@ -32,7 +41,16 @@ cred_in i = do
   security ← enum_part security_of version.1
   key ← opaque_part security.1
   capability ← opaque_part key.1
-  Ok (record { oc_object_id = object_id.0; oc_osd_version = version.0; oc_cap_key_sec = security.0; oc_capability_key = key.0; oc_capability = capability.0 }, capability.1)
+  Ok (
+    record {
+      oc_object_id = object_id.0;
+      oc_osd_version = version.0;
+      oc_cap_key_sec = security.0;
+      oc_capability_key = key.0;
+      oc_capability = capability.0;
+    },
+    capability.1,
+  )
 
 unfoldable pub map_in : Rest → Result (RawMap × Rest) LayoutErr
 map_in i = do
@@ -42,7 +60,17 @@ map_in i = do
   depth ← u32_part width.1
   mirrors ← u32_part depth.1
   algorithm ← enum_part algorithm_of mirrors.1
-  Ok (record { comps = comps.0; unit = unit.0; width = width.0; depth = depth.0; mirrors = mirrors.0; algorithm = algorithm.0 }, algorithm.1)
+  Ok (
+    record {
+      comps = comps.0;
+      unit = unit.0;
+      width = width.0;
+      depth = depth.0;
+      mirrors = mirrors.0;
+      algorithm = algorithm.0;
+    },
+    algorithm.1,
+  )
 
 unfoldable pub layout_in : Rest → Result (Layout × Rest) LayoutErr
 layout_in i = do
@@ -72,11 +100,21 @@ unfoldable pub deviceaddr_in : Rest → Result (DeviceAddr × Rest) LayoutErr
 deviceaddr_in i = do
   targetid ← target_in i
   targetaddr ← optional_part netaddr_in targetid.1
-  lun ← fixed_part 8 targetaddr.1
+  lun ← fixed_part LUN_BYTES targetaddr.1
   systemid ← opaque_part lun.1
   root ← cred_in systemid.1
   osdname ← opaque_part root.1
-  Ok (record { oda_targetid = targetid.0; oda_targetaddr = targetaddr.0; oda_lun = lun.0; oda_systemid = systemid.0; oda_root_obj_cred = root.0; oda_osdname = osdname.0 }, osdname.1)
+  Ok (
+    record {
+      oda_targetid = targetid.0;
+      oda_targetaddr = targetaddr.0;
+      oda_lun = lun.0;
+      oda_systemid = systemid.0;
+      oda_root_obj_cred = root.0;
+      oda_osdname = osdname.0;
+    },
+    osdname.1,
+  )
 
 unfoldable pub update_in : Rest → Result (LayoutUpdate × Rest) LayoutErr
 update_in i = do
@@ -91,7 +129,16 @@ ioerr_in i = do
   size ← u64_part offset.1
   iswrite ← bool_part size.1
   errno ← enum_part errno_of iswrite.1
-  Ok (record { oer_component = component.0; oer_comp_offset = offset.0; oer_comp_length = size.0; oer_iswrite = iswrite.0; oer_errno = errno.0 }, errno.1)
+  Ok (
+    record {
+      oer_component = component.0;
+      oer_comp_offset = offset.0;
+      oer_comp_length = size.0;
+      oer_iswrite = iswrite.0;
+      oer_errno = errno.0;
+    },
+    errno.1,
+  )
 
 unfoldable pub ioerrs_in : Rest → Result (IoErrs × Rest) LayoutErr
 ioerrs_in i = do
@@ -106,4 +153,14 @@ hint_in i = do
   group_depth ← optional_part u32_part group_width.1
   mirror_cnt ← optional_part u32_part group_depth.1
   raid_algorithm ← optional_part (enum_part algorithm_of) mirror_cnt.1
-  Ok (record { max_comps = max_comps.0; stripe_unit = stripe_unit.0; group_width = group_width.0; group_depth = group_depth.0; mirror_cnt = mirror_cnt.0; raid_algorithm = raid_algorithm.0 }, raid_algorithm.1)
+  Ok (
+    record {
+      max_comps = max_comps.0;
+      stripe_unit = stripe_unit.0;
+      group_width = group_width.0;
+      group_depth = group_depth.0;
+      mirror_cnt = mirror_cnt.0;
+      raid_algorithm = raid_algorithm.0;
+    },
+    raid_algorithm.1,
+  )

@@ -1,9 +1,13 @@
 -- The structures of RFC 5664 as XDR spells them, field by field, and the values that have a spelling.
-use Rattle.std.specs.Prelude.{◌≡◌, ⊤, ℕ, ◌<◌, ◌≤◌, ◌^◌, List, ◌++◌, length, IsTrue, FitsSigned}
+use Rattle.std.specs.Prelude.{◌≡◌, ⊤, ℕ, ◌<◌, ◌≤◌, ◌^◌, List, ◌++◌, length, FitsSigned}
 use Rattle.std.specs.Int.{w64}
 use Rattle.std.specs.List.{AllByRecursion}
 use Rattle.data_map.specs.declared.check.RawMap.{RawMap}
+use Rattle.data_map.specs.Check.{HasAlgorithm}
 use Rattle.xdr_codec.specs.Items.{u32_item, u64_item, i64_item, bool_item, fixed_item, opaque_item}
+use Rattle.layout_types.specs.declared.parts.TheConstants.{MAX_OPAQUE, MAX_MEMBERS}
+use Rattle.layout_types.specs.declared.objid.TheConstants.{DEVICE_ID_BYTES}
+use Rattle.layout_types.specs.declared.device_addr.TheConstants.{LUN_BYTES}
 use Rattle.layout_types.specs.declared.objid.ObjId.{ObjId}
 use Rattle.layout_types.specs.declared.cred.ObjectCred.{ObjectCred}
 use Rattle.layout_types.specs.declared.layout.Layout.{Layout}
@@ -15,16 +19,16 @@ use Rattle.layout_types.specs.declared.update.LayoutUpdate.{LayoutUpdate}
 use Rattle.layout_types.specs.declared.ioerrs.IoErr.{IoErr}
 use Rattle.layout_types.specs.declared.ioerrs.IoErrs.{IoErrs}
 use Rattle.layout_types.specs.declared.hint.LayoutHint.{LayoutHint}
-use Rattle.layout_types.specs.Enumerations.{version_number, security_number, errno_number, is_algorithm}
+use Rattle.layout_types.specs.Enumerations.{version_number, security_number, errno_number, IsAlgorithm}
 use Rattle.layout_types.specs.Grammar.{optional_item, OptionalFits, list_item}
 
--- an opaque or a string has at most 4,096 bytes
+-- an opaque or a string is within its largest length
 abbrev pub IsShort : List ℕ → Type 0
-IsShort bytes = length bytes ≤ 4096
+IsShort bytes = length bytes ≤ MAX_OPAQUE
 
--- a list has at most 1,024 members
+-- a list is within its largest length
 abbrev pub ListFits : {V : Type 0} → (V → Type 0) → List V → Type 0
-ListFits Fits vs = (length vs ≤ 1024) × AllByRecursion Fits vs
+ListFits Fits vs = (length vs ≤ MAX_MEMBERS) × AllByRecursion Fits vs
 
 -- ---- objects
 
@@ -33,14 +37,16 @@ objid_item v = fixed_item v.oid_device_id ++ (u64_item v.oid_partition_id ++ u64
 
 abbrev pub ObjIdFits : ObjId → Type 0
 ObjIdFits v = record {
-  device_id : length v.oid_device_id ≡ 16;
+  device_id : length v.oid_device_id ≡ DEVICE_ID_BYTES;
   partition_id : v.oid_partition_id < 2 ^ 64;
   object_id : v.oid_object_id < 2 ^ 64;
 }
 
 abbrev pub cred_item : ObjectCred → List ℕ
 cred_item v =
-    objid_item v.oc_object_id ++ (u32_item (version_number v.oc_osd_version) ++ (u32_item (security_number v.oc_cap_key_sec)
+    objid_item v.oc_object_id
+    ++ (u32_item (version_number v.oc_osd_version)
+    ++ (u32_item (security_number v.oc_cap_key_sec)
     ++ (opaque_item v.oc_capability_key ++ opaque_item v.oc_capability)))
 
 abbrev pub CredFits : ObjectCred → Type 0
@@ -54,7 +60,8 @@ CredFits v = record {
 
 abbrev pub map_item : RawMap → List ℕ
 map_item v =
-    u32_item v.comps ++ (u64_item v.unit ++ (u32_item v.width ++ (u32_item v.depth ++ (u32_item v.mirrors ++ u32_item v.algorithm))))
+    u32_item v.comps ++ (u64_item v.unit ++ (u32_item v.width ++ (u32_item v.depth
+    ++ (u32_item v.mirrors ++ u32_item v.algorithm))))
 
 abbrev pub MapFits : RawMap → Type 0
 MapFits v = record {
@@ -63,7 +70,7 @@ MapFits v = record {
   width : v.width < 2 ^ 32;
   depth : v.depth < 2 ^ 32;
   mirrors : v.mirrors < 2 ^ 32;
-  algorithm : IsTrue (is_algorithm v.algorithm);
+  algorithm : HasAlgorithm v;
 }
 
 abbrev pub layout_item : Layout → List ℕ
@@ -97,14 +104,16 @@ NetAddrFits v = record { netid : IsShort v.na_r_netid; addr : IsShort v.na_r_add
 
 abbrev pub deviceaddr_item : DeviceAddr → List ℕ
 deviceaddr_item v =
-    target_item v.oda_targetid ++ (optional_item netaddr_item v.oda_targetaddr ++ (fixed_item v.oda_lun ++ (opaque_item v.oda_systemid
+    target_item v.oda_targetid
+    ++ (optional_item netaddr_item v.oda_targetaddr
+    ++ (fixed_item v.oda_lun ++ (opaque_item v.oda_systemid
     ++ (cred_item v.oda_root_obj_cred ++ opaque_item v.oda_osdname))))
 
 abbrev pub DeviceAddrFits : DeviceAddr → Type 0
 DeviceAddrFits v = record {
   targetid : TargetFits v.oda_targetid;
   targetaddr : OptionalFits NetAddrFits v.oda_targetaddr;
-  lun : length v.oda_lun ≡ 8;
+  lun : length v.oda_lun ≡ LUN_BYTES;
   systemid : IsShort v.oda_systemid;
   root_obj_cred : CredFits v.oda_root_obj_cred;
   osdname : IsShort v.oda_osdname;
@@ -120,7 +129,9 @@ UpdateFits v = OptionalFits (FitsSigned w64) v.dsu_delta
 
 abbrev pub ioerr_item : IoErr → List ℕ
 ioerr_item v =
-    objid_item v.oer_component ++ (u64_item v.oer_comp_offset ++ (u64_item v.oer_comp_length ++ (bool_item v.oer_iswrite ++ u32_item (errno_number v.oer_errno))))
+    objid_item v.oer_component
+    ++ (u64_item v.oer_comp_offset ++ (u64_item v.oer_comp_length
+    ++ (bool_item v.oer_iswrite ++ u32_item (errno_number v.oer_errno))))
 
 abbrev pub IoErrFits : IoErr → Type 0
 IoErrFits v = record {
@@ -139,7 +150,10 @@ IoErrsFits v = ListFits IoErrFits v.olr_ioerr_report
 
 abbrev pub hint_item : LayoutHint → List ℕ
 hint_item v =
-    optional_item u32_item v.max_comps ++ (optional_item u64_item v.stripe_unit ++ (optional_item u32_item v.group_width ++ (optional_item u32_item v.group_depth
+    optional_item u32_item v.max_comps
+    ++ (optional_item u64_item v.stripe_unit
+    ++ (optional_item u32_item v.group_width
+    ++ (optional_item u32_item v.group_depth
     ++ (optional_item u32_item v.mirror_cnt ++ optional_item u32_item v.raid_algorithm))))
 
 abbrev pub HintFits : LayoutHint → Type 0
@@ -149,7 +163,7 @@ HintFits v = record {
   group_width : OptionalFits (λ n. n < 2 ^ 32) v.group_width;
   group_depth : OptionalFits (λ n. n < 2 ^ 32) v.group_depth;
   mirror_cnt : OptionalFits (λ n. n < 2 ^ 32) v.mirror_cnt;
-  raid_algorithm : OptionalFits (λ n. IsTrue (is_algorithm n)) v.raid_algorithm;
+  raid_algorithm : OptionalFits IsAlgorithm v.raid_algorithm;
 }
 
 -- ---- what the types don't keep of that
@@ -157,9 +171,9 @@ HintFits v = record {
 abbrev pub CredWritable : ObjectCred → Type 0
 CredWritable v = IsShort v.oc_capability_key × IsShort v.oc_capability
 
--- at most 1,024 components, an algorithm that there is, and short opaques
+-- not too many components, an algorithm that there is, and short opaques
 abbrev pub LayoutWritable : Layout → Type 0
-LayoutWritable v = IsTrue (is_algorithm v.olo_map.algorithm) × ListFits CredWritable v.olo_components
+LayoutWritable v = HasAlgorithm v.olo_map × ListFits CredWritable v.olo_components
 
 abbrev pub DeviceAddrWritable : DeviceAddr → Type 0
 DeviceAddrWritable v = record {
@@ -171,4 +185,4 @@ DeviceAddrWritable v = record {
 }
 
 abbrev pub IoErrsWritable : IoErrs → Type 0
-IoErrsWritable v = length v.olr_ioerr_report ≤ 1024
+IoErrsWritable v = length v.olr_ioerr_report ≤ MAX_MEMBERS

@@ -1,11 +1,11 @@
-ghost use Rattle.std.specs.Prelude.{◌≡◌, ◌++◌, OnOk};
-ghost use Rattle.layout_types.specs.Grammar.{Gives, optional_part, optional_item, OptionalFits};
-ghost use Rattle.layout_types.specs.Spelling.{target_item, TargetFits, netaddr_item, NetAddrFits};
-ghost use Rattle.layout_types.specs.Reading.{target_in, netaddr_in};
+ghost use Rattle.std.specs.Prelude.{◌≡◌, ◌++◌, IfOk, OnOk};
+ghost use Rattle.layout_types.specs.Grammar.{Gives};
+ghost use Rattle.layout_types.specs.Spelling.{target_item, TargetFits};
+ghost use Rattle.layout_types.specs.Reading.{target_in};
 
 use crate::cred::ObjectCred;
 use crate::err::LayoutErr;
-use crate::parts::{put_8, read_8, read_bool, read_opaque, read_u32};
+use crate::parts::{put_fixed, read_fixed, read_opaque, read_optional, read_u32, write_optional};
 use crate::structure::{Part, Structure, read_all, write_all};
 use osd_bytes::{Bytes, Memory};
 use std::alloc::Global;
@@ -31,6 +31,9 @@ pub struct NetAddr {
     pub na_r_addr: Bytes,
 }
 
+/// The bytes of a logical unit number.
+pub const LUN_BYTES: usize = 8;
+
 /// The address of a drive (`pnfs_osd_deviceaddr4`, RFC 5664 4.2). The order of its
 /// fields is this project's own.
 #[derive(Debug, PartialEq, Drop)]
@@ -40,7 +43,7 @@ pub struct DeviceAddr {
     /// Where it is reached, if that is told.
     pub oda_targetaddr: Option<NetAddr>,
     /// Its logical unit number.
-    pub oda_lun: [u8; 8],
+    pub oda_lun: [u8; LUN_BYTES],
     /// Its system id, at most [`MAX_OPAQUE`](crate::MAX_OPAQUE) bytes.
     pub oda_systemid: Bytes,
     /// A credential for its root object.
@@ -51,7 +54,8 @@ pub struct DeviceAddr {
 
 #[tactic(auto, unfolding(crate::specs::Reading::target_in))]
 fn read_target(alloc: Global, reader: &mut Reader<'_>) -> Result<TargetId, LayoutErr>
-    ensures { Gives (target_in reader.old) result reader.new }
+    ensures exact { Gives (target_in reader.old) result reader.new }
+    ensures fits { IfOk result TargetFits }
 {
     let at = reader.place();
     let value = read_u32(reader)?;
@@ -80,41 +84,29 @@ fn put_target(writer: &mut Writer, target: &TargetId) -> Result<(), Memory>
     }
 }
 
-#[tactic(auto, unfolding(crate::specs::Reading::netaddr_in))]
-fn read_netaddr(alloc: Global, reader: &mut Reader<'_>) -> Result<NetAddr, LayoutErr>
-    ensures { Gives (netaddr_in reader.old) result reader.new }
-{
-    Ok(NetAddr {
-        na_r_netid: read_opaque(alloc, reader)?,
-        na_r_addr: read_opaque(alloc, reader)?,
-    })
-}
+impl Part for NetAddr {
+    ghost use Rattle.layout_types.specs.Spelling.{netaddr_item, NetAddrFits};
+    ghost use Rattle.layout_types.specs.Reading.{netaddr_in};
 
-#[tactic(auto, unfolding(crate::specs::Grammar::optional_part))]
-fn read_optional_netaddr(
-    alloc: Global,
-    reader: &mut Reader<'_>,
-) -> Result<Option<NetAddr>, LayoutErr>
-    ensures { Gives (optional_part netaddr_in reader.old) result reader.new }
-{
-    if read_bool(reader)? {
-        Ok(Some(read_netaddr(alloc, reader)?))
-    } else {
-        Ok(None)
+    ghost spelling = { netaddr_item };
+
+    ghost fits = { NetAddrFits };
+
+    ghost writable = { NetAddrFits };
+
+    ghost reading = { netaddr_in };
+
+    #[tactic(auto, unfolding(crate::specs::Reading::netaddr_in))]
+    fn read_from(alloc: Global, reader: &mut Reader<'_>) -> Result<Self, LayoutErr> {
+        Ok(NetAddr {
+            na_r_netid: read_opaque(alloc, reader)?,
+            na_r_addr: read_opaque(alloc, reader)?,
+        })
     }
-}
 
-fn put_optional_netaddr(writer: &mut Writer, netaddr: &Option<NetAddr>) -> Result<(), Memory>
-    requires { OptionalFits NetAddrFits netaddr.now }
-    ensures { OnOk result (writer.new ≡ writer.old ++ optional_item netaddr_item netaddr.now) }
-{
-    match netaddr {
-        None => writer.bool(false),
-        Some(netaddr) => {
-            writer.bool(true)?;
-            writer.opaque(netaddr.na_r_netid.as_slice())?;
-            writer.opaque(netaddr.na_r_addr.as_slice())
-        }
+    fn write_to(&self, writer: &mut Writer) -> Result<(), Memory> {
+        writer.opaque(self.na_r_netid.as_slice())?;
+        writer.opaque(self.na_r_addr.as_slice())
     }
 }
 
@@ -135,8 +127,8 @@ impl Part for DeviceAddr {
     fn read_from(alloc: Global, reader: &mut Reader<'_>) -> Result<Self, LayoutErr> {
         Ok(DeviceAddr {
             oda_targetid: read_target(alloc, reader)?,
-            oda_targetaddr: read_optional_netaddr(alloc, reader)?,
-            oda_lun: read_8(reader)?,
+            oda_targetaddr: read_optional(alloc, reader)?,
+            oda_lun: read_fixed(reader)?,
             oda_systemid: read_opaque(alloc, reader)?,
             oda_root_obj_cred: ObjectCred::read_from(alloc, reader)?,
             oda_osdname: read_opaque(alloc, reader)?,
@@ -145,8 +137,8 @@ impl Part for DeviceAddr {
 
     fn write_to(&self, writer: &mut Writer) -> Result<(), Memory> {
         put_target(writer, &self.oda_targetid)?;
-        put_optional_netaddr(writer, &self.oda_targetaddr)?;
-        put_8(writer, &self.oda_lun)?;
+        write_optional(writer, &self.oda_targetaddr)?;
+        put_fixed(writer, &self.oda_lun)?;
         writer.opaque(self.oda_systemid.as_slice())?;
         self.oda_root_obj_cred.write_to(writer)?;
         writer.opaque(self.oda_osdname.as_slice())

@@ -1,8 +1,5 @@
 use crate::err::LayoutErr;
-use crate::parts::{
-    put_optional_u32, put_optional_u64, read_optional_algorithm, read_optional_u32,
-    read_optional_u64,
-};
+use crate::parts::{read_optional, read_optional_algorithm, write_optional};
 use crate::structure::{Part, Structure, read_all, write_all};
 use osd_bytes::{Bytes, Memory};
 use std::alloc::Global;
@@ -29,37 +26,37 @@ pub struct LayoutHint {
 impl Part for LayoutHint {
     ghost use Rattle.layout_types.specs.Spelling.{hint_item, HintFits};
     ghost use Rattle.layout_types.specs.Reading.{hint_in};
-    ghost use Rattle.std.specs.Prelude.{IsTrue};
-    ghost use Rattle.layout_types.specs.Enumerations.{is_algorithm};
+    ghost use Rattle.layout_types.specs.Enumerations.{IsAlgorithm};
     ghost use Rattle.layout_types.specs.Grammar.{OptionalFits};
 
     ghost spelling = { hint_item };
 
     ghost fits = { HintFits };
 
-    ghost writable = { λ v. OptionalFits (λ n. IsTrue (is_algorithm n)) v.raid_algorithm };
+    ghost writable = { λ v. OptionalFits IsAlgorithm v.raid_algorithm };
 
     ghost reading = { hint_in };
 
     #[tactic(auto, unfolding(crate::specs::Reading::hint_in))]
-    fn read_from(_alloc: Global, reader: &mut Reader<'_>) -> Result<Self, LayoutErr> {
+    fn read_from(alloc: Global, reader: &mut Reader<'_>) -> Result<Self, LayoutErr> {
         Ok(LayoutHint {
-            max_comps: read_optional_u32(reader)?,
-            stripe_unit: read_optional_u64(reader)?,
-            group_width: read_optional_u32(reader)?,
-            group_depth: read_optional_u32(reader)?,
-            mirror_cnt: read_optional_u32(reader)?,
+            max_comps: read_optional(alloc, reader)?,
+            stripe_unit: read_optional(alloc, reader)?,
+            group_width: read_optional(alloc, reader)?,
+            group_depth: read_optional(alloc, reader)?,
+            mirror_cnt: read_optional(alloc, reader)?,
             raid_algorithm: read_optional_algorithm(reader)?,
         })
     }
 
+    #[tactic(auto, using(crate::proofs::Writable::any_number))]
     fn write_to(&self, writer: &mut Writer) -> Result<(), Memory> {
-        put_optional_u32(writer, self.max_comps)?;
-        put_optional_u64(writer, self.stripe_unit)?;
-        put_optional_u32(writer, self.group_width)?;
-        put_optional_u32(writer, self.group_depth)?;
-        put_optional_u32(writer, self.mirror_cnt)?;
-        put_optional_u32(writer, self.raid_algorithm)
+        write_optional(writer, &self.max_comps)?;
+        write_optional(writer, &self.stripe_unit)?;
+        write_optional(writer, &self.group_width)?;
+        write_optional(writer, &self.group_depth)?;
+        write_optional(writer, &self.mirror_cnt)?;
+        write_optional(writer, &self.raid_algorithm)
     }
 }
 

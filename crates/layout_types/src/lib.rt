@@ -24,16 +24,13 @@ mod update;
 
 pub use again::written_again;
 pub use cred::{KeySecurity, ObjectCred, OsdVersion};
-pub use device_addr::{DeviceAddr, NetAddr, TargetId};
+pub use device_addr::{DeviceAddr, LUN_BYTES, NetAddr, TargetId};
 pub use err::LayoutErr;
 pub use hint::LayoutHint;
 pub use ioerrs::{Errno, IoErr, IoErrs};
 pub use kind::{Kind, leaves};
 pub use layout::Layout;
-pub use objid::ObjId;
+pub use objid::{DEVICE_ID_BYTES, ObjId};
 pub use parts::{MAX_MEMBERS, MAX_OPAQUE};
 pub use structure::{Part, Structure};
 pub use update::LayoutUpdate;
-
-#[cfg(test)]
-mod tests;

@@ -1,4 +1,4 @@
-ghost use Rattle.std.specs.Prelude.{◌≡◌, ◌++◌, ◌≤◌, ℕ, length, OnOk};
+ghost use Rattle.std.specs.Prelude.{◌≡◌, ◌++◌, ◌≤◌, ℕ, length, IfOk, OnOk};
 ghost use Rattle.std.specs.List.{AllByRecursion, flat_map};
 ghost use Rattle.layout_types.specs.Grammar.{Gives, members, list_part, list_item};
 ghost use Rattle.layout_types.specs.Spelling.{ListFits};
@@ -16,7 +16,8 @@ fn read_members<T: Part>(
     reader: &mut Reader<'_>,
     count: u32,
 ) -> Result<Sequence<T>, LayoutErr>
-    ensures { Gives (members T.reading count reader.old) result reader.new }
+    ensures exact { Gives (members T.reading count reader.old) result reader.new }
+    ensures fits { IfOk result (λ vs. (length vs ≡ count) × AllByRecursion T.fits vs) }
 {
     let mut list = Sequence::new(alloc);
     for _ in 0..count {
@@ -31,7 +32,8 @@ pub(crate) fn read_list<T: Part>(
     alloc: Global,
     reader: &mut Reader<'_>,
 ) -> Result<Sequence<T>, LayoutErr>
-    ensures { Gives (list_part T.reading reader.old) result reader.new }
+    ensures exact { Gives (list_part T.reading reader.old) result reader.new }
+    ensures fits { IfOk result (ListFits T.fits) }
 {
     let count = read_count(reader)?;
     read_members(alloc, reader, count)

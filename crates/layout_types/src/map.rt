@@ -1,5 +1,4 @@
 ghost use Rattle.std.specs.Prelude.{◌≡◌, ◌++◌, OnOk, IsTrue};
-ghost use Rattle.layout_types.specs.Enumerations.{is_algorithm};
 ghost use Rattle.layout_types.specs.Grammar.{Gives};
 ghost use Rattle.layout_types.specs.Spelling.{map_item, MapFits};
 ghost use Rattle.layout_types.specs.Reading.{map_in};
@@ -15,7 +14,7 @@ use xdr_codec::{Reader, Writer};
 // The map of a layout (`pnfs_osd_data_map4`, RFC 5664 5.1). A writer's caller has to know that the
 // algorithm is 1 to 4.
 impl Part for RawMap {
-    ghost use Rattle.layout_types.specs.Enumerations.{is_algorithm};
+    ghost use Rattle.data_map.specs.Check.{HasAlgorithm};
     ghost use Rattle.layout_types.specs.Spelling.{map_item, MapFits};
     ghost use Rattle.layout_types.specs.Reading.{map_in};
 
@@ -23,7 +22,7 @@ impl Part for RawMap {
 
     ghost fits = { MapFits };
 
-    ghost writable = { λ v. IsTrue (is_algorithm v.algorithm) };
+    ghost writable = { HasAlgorithm };
 
     ghost reading = { map_in };
 

@@ -1,15 +1,18 @@
 use crate::err::LayoutErr;
-use crate::parts::{put_16, read_16, read_u64};
+use crate::parts::{put_fixed, read_fixed, read_u64};
 use crate::structure::{Part, Structure, read_all, write_all};
 use osd_bytes::{Bytes, Memory};
 use std::alloc::Global;
 use xdr_codec::{Reader, Writer};
 
+/// The bytes of a device id (`deviceid4`, RFC 5661 3.3.14).
+pub const DEVICE_ID_BYTES: usize = 16;
+
 /// An object of a drive (`pnfs_osd_objid4`, RFC 5664 3.1).
 #[derive(Clone, Copy, Debug, PartialEq, Eq)]
 pub struct ObjId {
     /// The drive, by its device id. The project writes the drive's number, big-endian.
-    pub oid_device_id: [u8; 16],
+    pub oid_device_id: [u8; DEVICE_ID_BYTES],
     /// The partition of the drive.
     pub oid_partition_id: u64,
     /// The object in its partition.
@@ -32,14 +35,14 @@ impl Part for ObjId {
     #[tactic(auto, unfolding(crate::specs::Reading::objid_in))]
     fn read_from(_alloc: Global, reader: &mut Reader<'_>) -> Result<Self, LayoutErr> {
         Ok(ObjId {
-            oid_device_id: read_16(reader)?,
+            oid_device_id: read_fixed(reader)?,
             oid_partition_id: read_u64(reader)?,
             oid_object_id: read_u64(reader)?,
         })
     }
 
     fn write_to(&self, writer: &mut Writer) -> Result<(), Memory> {
-        put_16(writer, &self.oid_device_id)?;
+        put_fixed(writer, &self.oid_device_id)?;
         writer.u64(self.oid_partition_id)?;
         writer.u64(self.oid_object_id)
     }

@@ -1,7 +1,7 @@
 ghost use Rattle.std.specs.Prelude.{◌≡◌, ◌++◌, ℕ, List, OnOk, codes};
 ghost use Rattle.layout_types.specs.Grammar.{GivesOrMemory};
 ghost use Rattle.layout_types.specs.Leaves.{text_read};
-ghost use Rattle.layout_types.specs.Lines.{members_lines, list_lines, optional_lines, target_lines, netaddr_lines, hint_part, number_line, signed_line};
+ghost use Rattle.layout_types.specs.Lines.{members_lines, list_lines, targetaddr_lines, delta_lines, hint_part};
 
 use crate::cred::ObjectCred;
 use crate::device_addr::{DeviceAddr, NetAddr, TargetId};
@@ -188,7 +188,7 @@ fn show_netaddr(
     front: &[u8],
     netaddr: &Option<NetAddr>,
 ) -> Result<(), Memory>
-    ensures { OnOk result (out.new ≡ out.old ++ optional_lines netaddr_lines (front.now ++ codes "oda_targetaddr.ota_available") (front.now ++ codes "oda_targetaddr.") netaddr.now) }
+    ensures { OnOk result (out.new ≡ out.old ++ targetaddr_lines front.now netaddr.now) }
 {
     match netaddr {
         None => put_bool(out, front, b"oda_targetaddr.ota_available", false),
@@ -223,7 +223,7 @@ impl Show for DeviceAddr {
 
 // The bool of a delta, and the delta.
 fn show_delta(out: &mut Bytes, front: &[u8], delta: Option<i64>) -> Result<(), Memory>
-    ensures { OnOk result (out.new ≡ out.old ++ optional_lines signed_line (front.now ++ codes "dsu_valid") (front.now ++ codes "dsu_delta") delta) }
+    ensures { OnOk result (out.new ≡ out.old ++ delta_lines front.now delta) }
 {
     match delta {
         None => put_bool(out, front, b"dsu_valid", false),
@@ -298,22 +298,13 @@ fn show_hint(
     }
 }
 
-fn show_hint_u32(
-    alloc: Global,
-    out: &mut Bytes,
-    front: &[u8],
-    name: &[u8],
-    value: Option<u32>,
-) -> Result<(), Memory>
-    ensures { OnOk result (out.new ≡ out.old ++ hint_part (front.now ++ name.now) value) }
+// The same number in 64 bits.
+fn widened(value: Option<u32>) -> Option<u64>
+    ensures { result ≡ value }
 {
-    let path = joined(alloc, front, name)?;
     match value {
-        None => put_bool(out, path.as_slice(), b"_set", false),
-        Some(value) => {
-            put_bool(out, path.as_slice(), b"_set", true)?;
-            put_u32(out, front, name, value)
-        }
+        None => None,
+        Some(n) => Some(u64::from(n)),
     }
 }
 
@@ -324,11 +315,17 @@ impl Show for LayoutHint {
 
     #[tactic(auto, unfolding(crate::specs::Lines::hint_lines))]
     fn show(&self, alloc: Global, out: &mut Bytes, front: &[u8]) -> Result<(), Memory> {
-        show_hint_u32(alloc, out, front, b"max_comps", self.max_comps)?;
+        show_hint(alloc, out, front, b"max_comps", widened(self.max_comps))?;
         show_hint(alloc, out, front, b"stripe_unit", self.stripe_unit)?;
-        show_hint_u32(alloc, out, front, b"group_width", self.group_width)?;
-        show_hint_u32(alloc, out, front, b"group_depth", self.group_depth)?;
-        show_hint_u32(alloc, out, front, b"mirror_cnt", self.mirror_cnt)?;
-        show_hint_u32(alloc, out, front, b"raid_algorithm", self.raid_algorithm)
+        show_hint(alloc, out, front, b"group_width", widened(self.group_width))?;
+        show_hint(alloc, out, front, b"group_depth", widened(self.group_depth))?;
+        show_hint(alloc, out, front, b"mirror_cnt", widened(self.mirror_cnt))?;
+        show_hint(
+            alloc,
+            out,
+            front,
+            b"raid_algorithm",
+            widened(self.raid_algorithm),
+        )
     }
 }

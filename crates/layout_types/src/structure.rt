@@ -1,7 +1,7 @@
-ghost use Rattle.std.specs.Prelude.{◌≡◌, ◌++◌, ⊤, ℕ, [], List, Result, Ok, IfOk, OnOk};
+ghost use Rattle.std.specs.Prelude.{◌≡◌, ◌++◌, ⊤, ℕ, List, Result, Ok, IfOk, OnOk};
 ghost use Rattle.xdr_codec.specs.Reading.{Rest};
 ghost use Rattle.layout_types.specs.declared.err.LayoutErr.{LayoutErr as Refusal};
-ghost use Rattle.layout_types.specs.Grammar.{Gives, GivesOrMemory, whole};
+ghost use Rattle.layout_types.specs.Grammar.{BeginsNoOther, Gives, GivesOrMemory, whole};
 
 use crate::err::LayoutErr;
 use osd_bytes::{Bytes, Memory};
@@ -29,7 +29,10 @@ pub trait Part: Sized + Drop {
     /// As [`Structure::read`], but for bytes that follow. Where the reader stands after a refusal
     /// isn't told.
     fn read_from(alloc: Global, reader: &mut Reader<'_>) -> Result<Self, LayoutErr>
-        ensures { Gives (reading reader.old) result reader.new };
+        // Which value, or which refusal, and where the reader stands behind a value.
+        ensures exact { Gives (reading reader.old) result reader.new }
+        // What is read has a spelling that is read again.
+        ensures fits { IfOk result fits };
 
     /// Writes the value behind what was written before. The caller has to know that opaques, strings
     /// and lists are within their largest lengths, and an algorithm 1 to 4. Where there is no memory,
@@ -56,7 +59,7 @@ pub trait Structure: Part {
         // What is spelled so is read.
         ensures only { (v : Self) → Self.fits v → bytes.now ≡ Self.spelling v → GivesOrMemory (Ok v) result }
         // No spelling begins another.
-        ensures alone { IfOk result (λ v. (w : Self) (more : List ℕ) → Self.fits w → Self.spelling w ≡ bytes.now ++ more → more ≡ []) }
+        ensures alone { IfOk result (λ _. BeginsNoOther Self.fits Self.spelling bytes.now) }
         // Which refusal it is.
         ensures exact { GivesOrMemory (whole Self.reading bytes.now) result };
 

@@ -1,5 +1,5 @@
 use crate::err::LayoutErr;
-use crate::parts::{put_optional_i64, read_bool, read_optional_i64};
+use crate::parts::{read_bool, read_optional, write_optional};
 use crate::structure::{Part, Structure, read_all, write_all};
 use osd_bytes::{Bytes, Memory};
 use std::alloc::Global;
@@ -28,15 +28,16 @@ impl Part for LayoutUpdate {
     ghost reading = { update_in };
 
     #[tactic(auto, unfolding(crate::specs::Reading::update_in))]
-    fn read_from(_alloc: Global, reader: &mut Reader<'_>) -> Result<Self, LayoutErr> {
+    fn read_from(alloc: Global, reader: &mut Reader<'_>) -> Result<Self, LayoutErr> {
         Ok(LayoutUpdate {
-            dsu_delta: read_optional_i64(reader)?,
+            dsu_delta: read_optional(alloc, reader)?,
             olu_ioerr_flag: read_bool(reader)?,
         })
     }
 
+    #[tactic(auto, using(crate::proofs::Writable::any_signed))]
     fn write_to(&self, writer: &mut Writer) -> Result<(), Memory> {
-        put_optional_i64(writer, self.dsu_delta)?;
+        write_optional(writer, &self.dsu_delta)?;
         writer.bool(self.olu_ioerr_flag)
     }
 }
