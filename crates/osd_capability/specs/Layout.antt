@@ -1,21 +1,23 @@
--- The 96 bytes of a capability, both ways.
-use Rattle.std.specs.Prelude.{ℕ, ◌<◌, ◌^◌, List, [], ◌∷◌, ◌++◌, length, slice_index, slice_range, replicate, Result, Ok, Err, Option, Some, None, Bool, ◌||◌, IsTrue, if◌then◌else◌, nat_eq, not}
+-- The bytes of a capability, both ways.
+use Rattle.std.specs.Prelude.{ℕ, ◌-◌, ◌<◌, ◌^◌, List, [], ◌∷◌, ◌++◌, length, slice_index, slice_range, replicate, Result, Ok, Err, Option, Some, None, Bool, ◌||◌, IsTrue, if◌then◌else◌, nat_eq, not}
 use Rattle.std.specs.Option.{option_or}
 use Rattle.std.specs.Int.{w16, w32, w64, to_be_bytes, from_be_bytes}
 use Rattle.osd_bytes.specs.Blocks.{first_nonzero}
+use Rattle.osd_capability.specs.declared.layout.TheConstants.{CAPABILITY_BYTES, FIELDS, FORMAT_SHA1, FORMAT_SHA256}
 use Rattle.osd_capability.specs.declared.layout.Capability.{Capability}
 use Rattle.osd_capability.specs.declared.layout.CapErr.{CapErr}
 use Rattle.osd_capability.specs.declared.layout.CapErr.TheVariants.{Length, Format, Reserved}
 
 -- there are two formats
 abbrev pub is_format : ℕ → Bool
-is_format n = nat_eq n 1 || nat_eq n 2
+is_format n = nat_eq n FORMAT_SHA1 || nat_eq n FORMAT_SHA256
 
--- the format, a zero, the numbers in order with four zeros after the tag, and 32 zeros
+-- the format, a zero, the numbers in order with four zeros after the tag, and zeros
 unfoldable pub spelling : Capability → List ℕ
 spelling c =
-    (c.format ∷ []) ++ (replicate 1 0 ++ (to_be_bytes w16 c.key_version ++ (to_be_bytes w32 c.rights ++ (to_be_bytes w64 c.expiry ++ (to_be_bytes w32 c.grant ++ (to_be_bytes w32 c.holder ++ (to_be_bytes w32 c.tag ++ (replicate 4 0
-    ++ (to_be_bytes w64 c.partition ++ (to_be_bytes w64 c.object ++ (to_be_bytes w64 c.range_start ++ (to_be_bytes w64 c.range_len ++ replicate 32 0))))))))))))
+    (c.format ∷ []) ++ (replicate 1 0 ++ (to_be_bytes w16 c.key_version ++ (to_be_bytes w32 c.rights ++ (to_be_bytes w64 c.expiry
+    ++ (to_be_bytes w32 c.grant ++ (to_be_bytes w32 c.holder ++ (to_be_bytes w32 c.tag ++ (replicate 4 0
+    ++ (to_be_bytes w64 c.partition ++ (to_be_bytes w64 c.object ++ (to_be_bytes w64 c.range_start ++ (to_be_bytes w64 c.range_len ++ replicate (CAPABILITY_BYTES - FIELDS) 0))))))))))))
 
 -- the numbers at their places
 unfoldable pub capability_at : List ℕ → Capability
@@ -35,7 +37,7 @@ capability_at bytes = record {
 
 -- the first place that must be 0 and isn't
 unfoldable pub stray : List ℕ → Option ℕ
-stray bytes = option_or (option_or (first_nonzero bytes 1 2) (first_nonzero bytes 28 32)) (first_nonzero bytes 64 96)
+stray bytes = option_or (option_or (first_nonzero bytes 1 2) (first_nonzero bytes 28 32)) (first_nonzero bytes FIELDS CAPABILITY_BYTES)
 
 abbrev pub unless_reserved : Option ℕ → Capability → Result Capability CapErr
 unless_reserved None c = Ok c
@@ -44,7 +46,7 @@ unless_reserved (Some at) c = Err (Reserved at)
 -- the capability that bytes spell, or the first of the three refusals
 unfoldable pub reading : List ℕ → Result Capability CapErr
 reading bytes =
-    if not (nat_eq (length bytes) 96) then Err Length
+    if not (nat_eq (length bytes) CAPABILITY_BYTES) then Err Length
     else if not (is_format (slice_index bytes 0)) then Err Format
     else unless_reserved (stray bytes) (capability_at bytes)
 

@@ -8,6 +8,15 @@ use thiserror::Error;
 /// The length of a capability's spelling.
 pub const CAPABILITY_BYTES: usize = 96;
 
+/// The format whose check values are made over SHA-1.
+pub const FORMAT_SHA1: u8 = 1;
+
+/// The format whose check values are made over SHA-256.
+pub const FORMAT_SHA256: u8 = 2;
+
+// The bytes before the last zeros.
+const FIELDS: usize = 64;
+
 /// What a holder may do with an object, until when, and under which policy access tag.
 ///
 /// | place | size | field |
@@ -27,7 +36,7 @@ pub const CAPABILITY_BYTES: usize = 96;
 /// Numbers are big-endian. The bytes between, and from 64 on, are 0.
 #[derive(Clone, Copy, Debug, PartialEq, Eq)]
 pub struct Capability {
-    /// 1 for check values over SHA-1, 2 for SHA-256.
+    /// [`FORMAT_SHA1`] or [`FORMAT_SHA256`].
     pub format: u8,
     /// Which of the drive's keys it is made with.
     pub key_version: u16,
@@ -54,7 +63,7 @@ pub struct Capability {
 /// Why bytes spell no capability. The first that applies is given, in this order.
 #[derive(Clone, Copy, Debug, PartialEq, Eq, Error)]
 pub enum CapErr {
-    /// There aren't 96 bytes.
+    /// There aren't [`CAPABILITY_BYTES`].
     #[error("a capability has 96 bytes")]
     Length,
     /// The first byte is neither 1 nor 2.
@@ -68,13 +77,13 @@ pub enum CapErr {
 // The first place that must be 0 and isn't.
 #[tactic(auto, unfolding(crate::specs::Layout::stray))]
 fn stray_in(bytes: &[u8]) -> Option<usize>
-    requires { length bytes.now ≡ 96 }
+    requires { length bytes.now ≡ CAPABILITY_BYTES }
     ensures found { result ≡ stray bytes.now }
-    ensures bound { IfSome result (λ at. at < 96) }
+    ensures bound { IfSome result (λ at. at < CAPABILITY_BYTES) }
 {
     first_nonzero_in(bytes, 1, 2)
         .or(first_nonzero_in(bytes, 28, 32))
-        .or(first_nonzero_in(bytes, 64, 96))
+        .or(first_nonzero_in(bytes, FIELDS, CAPABILITY_BYTES))
 }
 
 // The capability, or the first refusal.
@@ -85,7 +94,7 @@ fn read(bytes: &[u8]) -> Result<Capability, CapErr>
     if bytes.len() != CAPABILITY_BYTES {
         return Err(CapErr::Length);
     }
-    if bytes[0] != 1 && bytes[0] != 2 {
+    if bytes[0] != FORMAT_SHA1 && bytes[0] != FORMAT_SHA256 {
         return Err(CapErr::Format);
     }
     if let Some(at) = stray_in(bytes) {
