@@ -1,5 +1,6 @@
 -- The actions, their numbers and their rights.
 use Rattle.std.specs.Prelude.{ℕ, Option, Some, None, if◌then◌else◌, nat_eq}
+use Rattle.osd_capability.specs.declared.rights.TheConstants.{RIGHT_CREATE, RIGHT_READ, RIGHT_WRITE, RIGHT_GET_ATTR, RIGHT_SET_ATTR, RIGHT_SET_TAG}
 use Rattle.osd_commands.specs.declared.actions.Action.{Action}
 use Rattle.osd_commands.specs.declared.actions.Action.TheVariants.{Create, Read, Write, GetAttr, SetAttr, SetTag}
 
@@ -22,9 +23,9 @@ action_of n =
     else None
 
 abbrev pub right_of : Action → ℕ
-right_of Create = 1
-right_of Read = 2
-right_of Write = 4
-right_of GetAttr = 8
-right_of SetAttr = 16
-right_of SetTag = 32
+right_of Create = RIGHT_CREATE
+right_of Read = RIGHT_READ
+right_of Write = RIGHT_WRITE
+right_of GetAttr = RIGHT_GET_ATTR
+right_of SetAttr = RIGHT_SET_ATTR
+right_of SetTag = RIGHT_SET_TAG

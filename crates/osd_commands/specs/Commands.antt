@@ -1,14 +1,17 @@
 -- The bytes of a command, both ways.
-use Rattle.std.specs.Prelude.{◌≡◌, ℕ, ◌-◌, ◌<◌, ◌^◌, List, ◌++◌, length, take, drop, slice_index, slice_range, replicate, Result, Ok, Err, Option, Some, None, Bool, ◌&&◌, IsTrue, if◌then◌else◌, nat_eq, nat_lt, not, ⊤}
+use Rattle.std.specs.Prelude.{◌≡◌, ℕ, ◌-◌, ◌<◌, ◌^◌, List, [], ◌++◌, length, take, drop, slice_index, slice_range, replicate, Result, Ok, Err, Option, Some, None, Bool, ◌&&◌, IsTrue, if◌then◌else◌, nat_eq, nat_lt, not, ⊤}
 use Rattle.std.specs.Option.{option_or}
 use Rattle.std.specs.Int.{w16, w32, w64, to_be_bytes, from_be_bytes}
 use Rattle.osd_bytes.specs.Blocks.{first_nonzero}
+use Rattle.osd_capability.specs.declared.layout.TheConstants.{FORMAT_SHA256}
+use Rattle.osd_capability.specs.declared.keys.TheConstants.{CHECK_BYTES, SHA1_TAG_BYTES}
 use Rattle.osd_capability.specs.declared.layout.Capability.{Capability}
 use Rattle.osd_capability.specs.declared.layout.CapErr.{CapErr}
 use Rattle.osd_capability.specs.Layout as Cap
 use Rattle.osd_capability.specs.Keys.{key_of, check_of}
 use Rattle.osd_commands.specs.declared.actions.Action.{Action}
 use Rattle.osd_commands.specs.declared.actions.Action.TheVariants.{Create, Read, Write, GetAttr, SetAttr, SetTag}
+use Rattle.osd_commands.specs.declared.commands.TheConstants.{MAGIC, BLOCK, FIELDS, CAPABILITY_END, TAIL}
 use Rattle.osd_commands.specs.declared.commands.Command.{Command}
 use Rattle.osd_commands.specs.declared.commands.CommandErr.{CommandErr}
 use Rattle.osd_commands.specs.declared.commands.CommandErr.TheVariants.{Short, Magic, BadAction, Reserved, BadCapability, Length, Memory}
@@ -16,23 +19,24 @@ use Rattle.osd_commands.specs.Actions.{number_of, action_of}
 
 -- `OSD2`
 abbrev pub magic : ℕ
-magic = 0x4f534432
+magic = MAGIC
 
 -- how many bytes a format's check value has
 abbrev pub check_len : ℕ → ℕ
-check_len format = if nat_eq format 2 then 32 else 20
+check_len format = if nat_eq format FORMAT_SHA256 then CHECK_BYTES else SHA1_TAG_BYTES
 
 -- ---- what is written
 
--- bytes 0 to 63
+-- the bytes before the capability
 unfoldable pub fields : Command → List ℕ
 fields c =
-    to_be_bytes w32 magic ++ (to_be_bytes w16 (number_of c.action) ++ (replicate 2 0 ++ (to_be_bytes w64 c.partition ++ (to_be_bytes w64 c.object ++ (to_be_bytes w64 c.offset ++ (to_be_bytes w64 c.length
-    ++ (to_be_bytes w64 c.nonce ++ (to_be_bytes w32 c.attribute ++ (replicate 4 0 ++ (to_be_bytes w32 (length c.payload) ++ replicate 4 0))))))))))
+    to_be_bytes w32 magic ++ (to_be_bytes w16 (number_of c.action) ++ (replicate 2 0 ++ (to_be_bytes w64 c.partition
+    ++ (to_be_bytes w64 c.object ++ (to_be_bytes w64 c.offset ++ (to_be_bytes w64 c.length ++ (to_be_bytes w64 c.nonce
+    ++ (to_be_bytes w32 c.attribute ++ (replicate 4 0 ++ (to_be_bytes w32 (length c.payload) ++ replicate 4 0))))))))))
 
 -- the bytes before the check value: the fields, the capability and zeros
 unfoldable pub head : Command → List ℕ
-head c = fields c ++ (Cap.spelling c.capability ++ replicate (96 - check_len c.capability.format) 0)
+head c = fields c ++ (Cap.spelling c.capability ++ replicate (TAIL - check_len c.capability.format) 0)
 
 unfoldable pub spelling : Command → List ℕ
 spelling c = head c ++ (take (check_len c.capability.format) c.check ++ c.payload)
@@ -42,10 +46,11 @@ spelling c = head c ++ (take (check_len c.capability.format) c.check ++ c.payloa
 -- the first place that must be 0 and isn't
 unfoldable pub stray : List ℕ → Option ℕ
 stray bytes =
-    option_or (option_or (option_or (first_nonzero bytes 6 8) (first_nonzero bytes 52 56)) (first_nonzero bytes 60 64))
-    (first_nonzero bytes 160 (256 - check_len (slice_index bytes 64)))
+    option_or (option_or (option_or (first_nonzero bytes 6 8) (first_nonzero bytes 52 56)) (first_nonzero bytes 60 FIELDS))
+    (first_nonzero bytes CAPABILITY_END (BLOCK - check_len (slice_index bytes FIELDS)))
 
--- the length that a payload may have: that of a WRITE is the command's, CREATE and SET ATTR have any and no other length, the others have none
+-- the length that a payload may have: that of a WRITE is the command's, CREATE and SET ATTR have any and no other
+-- length, the others have none
 abbrev pub allows : Action → ℕ → ℕ → Bool
 allows Create len payload = nat_eq len 0
 allows Read len payload = nat_eq payload 0
@@ -53,6 +58,14 @@ allows Write len payload = nat_eq payload len
 allows GetAttr len payload = nat_eq payload 0
 allows SetAttr len payload = nat_eq len 0
 allows SetTag len payload = nat_eq payload 0
+
+-- a payload is as long as is stated and the action allows
+abbrev pub is_sized : List ℕ → Action → ℕ → ℕ → Bool
+is_sized bytes action len payload = nat_eq (from_be_bytes w32 (slice_range bytes 56 60)) payload && allows action len payload
+
+-- the check value of a format, filled with zeros
+abbrev pub check_at : List ℕ → ℕ → List ℕ
+check_at bytes format = slice_range bytes (BLOCK - check_len format) BLOCK ++ replicate (CHECK_BYTES - check_len format) 0
 
 -- the numbers at their places, the check value filled with zeros, and what follows the block
 unfoldable pub command_at : Action → Capability → List ℕ → Command
@@ -65,14 +78,14 @@ command_at action capability bytes = record {
   nonce = from_be_bytes w64 (slice_range bytes 40 48);
   attribute = from_be_bytes w32 (slice_range bytes 48 52);
   capability = capability;
-  payload = drop 256 bytes;
-  check = slice_range bytes (256 - check_len capability.format) 256 ++ replicate (32 - check_len capability.format) 0;
+  payload = drop BLOCK bytes;
+  check = check_at bytes capability.format;
 }
 
 -- the last refusal
 abbrev pub sized : List ℕ → Command → Result Command CommandErr
 sized bytes c =
-    if nat_eq (from_be_bytes w32 (slice_range bytes 56 60)) (length c.payload) && allows c.action c.length (length c.payload) then Ok c
+    if is_sized bytes c.action c.length (length c.payload) then Ok c
     else Err (Length (length c.payload))
 
 abbrev pub with_capability : List ℕ → Action → Result Capability CapErr → Result Command CommandErr
@@ -80,7 +93,7 @@ with_capability bytes action (Ok capability) = sized bytes (command_at action ca
 with_capability bytes action (Err e) = Err (BadCapability e)
 
 abbrev pub unless_reserved : List ℕ → Action → Option ℕ → Result Command CommandErr
-unless_reserved bytes action None = with_capability bytes action (Cap.reading (slice_range bytes 64 160))
+unless_reserved bytes action None = with_capability bytes action (Cap.reading (slice_range bytes FIELDS CAPABILITY_END))
 unless_reserved bytes action (Some at) = Err (Reserved at)
 
 abbrev pub with_action : List ℕ → Option Action → Result Command CommandErr
@@ -90,7 +103,7 @@ with_action bytes None = Err (BadAction (from_be_bytes w16 (slice_range bytes 4 
 -- the command that bytes spell, or the first refusal
 unfoldable pub reading : List ℕ → Result Command CommandErr
 reading bytes =
-    if nat_lt (length bytes) 256 then Err Short
+    if nat_lt (length bytes) BLOCK then Err Short
     else if not (nat_eq (from_be_bytes w32 (slice_range bytes 0 4)) magic) then Err Magic
     else with_action bytes (action_of (from_be_bytes w16 (slice_range bytes 4 6)))
 
@@ -107,10 +120,10 @@ ReadsAs (Err Memory) whole = ⊤
 
 -- ---- what has a spelling that is read
 
--- a check value of 32 bytes, those past the format's own 0
+-- a check value in its place, the bytes past the format's own 0
 pub record IsCheck (format : ℕ) (check : List ℕ) : Type 0 where
-  pub long : length check ≡ 32
-  pub zeros : drop (check_len format) check ≡ replicate (32 - check_len format) 0
+  pub long : length check ≡ CHECK_BYTES
+  pub zeros : drop (check_len format) check ≡ replicate (CHECK_BYTES - check_len format) 0
 
 -- what the types of a command don't keep
 pub record IsWhole (c : Command) : Type 0 where
@@ -133,8 +146,13 @@ pub record Fits (c : Command) : Type 0 where
   pub numbers : NumbersFit c
   pub capability : Cap.Fits c.capability
 
+-- no command's bytes begin with other bytes than all of its own: whatever stands behind these is none
+abbrev pub BeginsNoOther : List ℕ → Type 0
+BeginsNoOther bytes = (d : Command) (rest : List ℕ) → Fits d → spelling d ≡ bytes ++ rest → rest ≡ []
+
 -- ---- check values
 
--- The check value is the one that the drive's key gives: the HMAC, under the capability's key, of the bytes before the check value and then the payload.
+-- The check value is the one that the drive's key gives: the HMAC, under the capability's key, of the bytes before the
+-- check value and then the payload.
 abbrev pub Holds : List ℕ → Command → Type 0
 Holds key c = c.check ≡ check_of (key_of key c.capability) (head c ++ c.payload)

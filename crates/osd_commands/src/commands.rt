@@ -1,14 +1,14 @@
-ghost use Rattle.std.specs.Prelude.{◌≡◌, ℕ, List, [], ◌≤◌, ◌<◌, ◌^◌, ◌-◌, ◌++◌, length, slice_range, replicate, nat_eq, ◌&&◌, IsTrue, IfOk, IfSome, Ok};
-ghost use Rattle.std.specs.Int.{w32, w64, from_be_bytes};
-ghost use Rattle.osd_capability.specs.Layout.{spelling as capability_bytes, is_format};
+ghost use Rattle.std.specs.Prelude.{◌≡◌, ◌≤◌, ◌<◌, ◌++◌, length, slice_range, replicate, IfOk, IfSome, Ok};
+ghost use Rattle.std.specs.Int.{w64, from_be_bytes};
+ghost use Rattle.osd_capability.specs.Layout.{spelling as capability_bytes};
 ghost use Rattle.osd_commands.specs.declared.commands.Command.{Command as Cmd};
-ghost use Rattle.osd_commands.specs.Commands.{fields, spelling, reading, stray, allows, sized, command_at, check_len, NumbersFit, Fits, IsWhole, ReadsAs};
+ghost use Rattle.osd_commands.specs.Commands.{fields, spelling, reading, stray, allows, is_sized, sized, command_at, check_at, check_len, NumbersFit, Fits, IsWhole, ReadsAs, BeginsNoOther};
 
 use crate::actions::Action;
 use osd_bytes::{
     Bytes, Memory, first_nonzero_in, put_at, put_u16, put_u32, put_u64, u16_at, u32_at, u64_at,
 };
-use osd_capability::{CAPABILITY_BYTES, CapErr, Capability};
+use osd_capability::{CHECK_BYTES, CapErr, Capability, FORMAT_SHA256, SHA1_TAG_BYTES};
 use std::alloc::Global;
 use thiserror::Error;
 
@@ -17,6 +17,15 @@ const MAGIC: u32 = 0x4f53_4432;
 
 /// The bytes of a command before its payload.
 pub const BLOCK: usize = 256;
+
+// The bytes before the capability.
+const FIELDS: usize = 64;
+
+// Where the capability ends.
+const CAPABILITY_END: usize = 160;
+
+// The bytes from there on: zeros, and the check value.
+const TAIL: usize = 96;
 
 // The most bytes before the check value: those of format 1.
 const HEAD: usize = 236;
@@ -59,7 +68,7 @@ pub struct Command {
     /// The bytes to write, the value of the attribute, or the label of a new object.
     pub payload: Bytes,
     /// The check value. In format 1 it has 20 bytes, and the last 12 of the 32 are 0.
-    pub check: [u8; 32],
+    pub check: [u8; CHECK_BYTES],
 }
 
 /// Why bytes spell no command, or no reply. The first that applies is given, in this order.
@@ -112,16 +121,20 @@ impl From<Memory> for CommandErr {
 pub fn check_len(format: u8) -> usize
     ensures { result ≡ check_len format }
 {
-    if format == 2 { 32 } else { 20 }
+    if format == FORMAT_SHA256 {
+        CHECK_BYTES
+    } else {
+        SHA1_TAG_BYTES
+    }
 }
 
 // The block before the capability.
 #[tactic(auto, unfolding(crate::specs::Commands::fields))]
-fn fields_of(c: &Command) -> [u8; 64]
+fn fields_of(c: &Command) -> [u8; FIELDS]
     ensures written { result ≡ fields c.now }
     ensures fits { NumbersFit c.now }
 {
-    let mut out = [0u8; 64];
+    let mut out = [0u8; FIELDS];
     put_u32(&mut out, 0, MAGIC);
     put_u16(&mut out, 4, c.action.number());
     put_u64(&mut out, 8, c.partition);
@@ -142,7 +155,7 @@ pub fn head_of(c: &Command) -> [u8; HEAD]
 {
     let mut out = [0u8; HEAD];
     put_at(&mut out, 0, &fields_of(c));
-    put_at(&mut out, 64, &c.capability.to_bytes());
+    put_at(&mut out, FIELDS, &c.capability.to_bytes());
     out
 }
 
@@ -168,14 +181,14 @@ pub fn write_command(alloc: Global, c: &Command) -> Result<Bytes, Memory>
 // The first place that must be 0 and isn't.
 #[tactic(auto, unfolding(crate::specs::Commands::stray))]
 fn stray_in(bytes: &[u8]) -> Option<usize>
-    requires { 256 ≤ length bytes.now }
+    requires { BLOCK ≤ length bytes.now }
     ensures found { result ≡ stray bytes.now }
-    ensures bound { IfSome result (λ at. at < 256) }
+    ensures bound { IfSome result (λ at. at < BLOCK) }
 {
     first_nonzero_in(bytes, 6, 8)
         .or(first_nonzero_in(bytes, 52, 56))
-        .or(first_nonzero_in(bytes, 60, 64))
-        .or(first_nonzero_in(bytes, 160, BLOCK - check_len(bytes[64])))
+        .or(first_nonzero_in(bytes, 60, FIELDS))
+        .or(first_nonzero_in(bytes, CAPABILITY_END, BLOCK - check_len(bytes[FIELDS])))
 }
 
 // Whether an action may have a payload of this length.
@@ -191,19 +204,19 @@ fn allows_payload(action: Action, length: u64, payload: u64) -> bool
 
 // Whether a payload is as long as is stated and the action allows.
 fn is_sized(bytes: &[u8], action: Action, payload: u64) -> bool
-    requires { 256 ≤ length bytes.now }
-    ensures { result ≡ (nat_eq (from_be_bytes w32 (slice_range bytes.now 56 60)) payload && allows action (from_be_bytes w64 (slice_range bytes.now 32 40)) payload) }
+    requires { BLOCK ≤ length bytes.now }
+    ensures { result ≡ is_sized bytes.now action (from_be_bytes w64 (slice_range bytes.now 32 40)) payload }
 {
     u64::from(u32_at(bytes, 56)) == payload && allows_payload(action, u64_at(bytes, 32), payload)
 }
 
 // The check value of a block, with zeros to 32 bytes.
-fn check_at(bytes: &[u8], format: u8) -> [u8; 32]
-    requires { 256 ≤ length bytes.now }
-    ensures { result ≡ slice_range bytes.now (256 - check_len format) 256 ++ replicate (32 - check_len format) 0 }
+fn check_at(bytes: &[u8], format: u8) -> [u8; CHECK_BYTES]
+    requires { BLOCK ≤ length bytes.now }
+    ensures { result ≡ check_at bytes.now format }
 {
     let size = check_len(format);
-    let mut check = [0u8; 32];
+    let mut check = [0u8; CHECK_BYTES];
     check[..size].copy_from_slice(&bytes[BLOCK - size..BLOCK]);
     check
 }
@@ -216,7 +229,7 @@ fn sized_command(
     action: Action,
     capability: Capability,
 ) -> Result<Command, CommandErr>
-    requires { 256 ≤ length bytes.now }
+    requires { BLOCK ≤ length bytes.now }
     ensures { ReadsAs result (sized bytes.now (command_at action capability bytes.now)) }
 {
     let (_, payload) = bytes.split_at(BLOCK);
@@ -256,7 +269,7 @@ fn read(alloc: Global, bytes: &[u8]) -> Result<Command, CommandErr>
     if let Some(at) = stray_in(bytes) {
         return Err(CommandErr::Reserved { at: at as u32 });
     }
-    let capability = Capability::from_bytes(&bytes[64..160])?;
+    let capability = Capability::from_bytes(&bytes[FIELDS..CAPABILITY_END])?;
     sized_command(alloc, bytes, action, capability)
 }
 
@@ -272,7 +285,7 @@ pub fn read_command(alloc: Global, bytes: &[u8]) -> Result<Command, CommandErr>
     // What is spelled so is read.
     ensures only { (c : Cmd) → Fits c → bytes.now ≡ spelling c → ReadsAs result (Ok c) }
     // No command's bytes begin another's.
-    ensures alone { IfOk result (λ _. (d : Cmd) (rest : List ℕ) → Fits d → spelling d ≡ bytes.now ++ rest → rest ≡ []) }
+    ensures alone { IfOk result (λ _. BeginsNoOther bytes.now) }
     // Which refusal it is.
     ensures exact { ReadsAs result (reading bytes.now) }
 {

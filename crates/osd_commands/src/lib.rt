@@ -15,6 +15,3 @@ pub use actions::Action;
 pub use commands::{Command, CommandErr, read_command, write_command};
 pub use replies::{Reply, read_reply, write_reply};
 pub use seals::{holds, seal};
-
-#[cfg(test)]
-mod tests;

@@ -1,9 +1,9 @@
-ghost use Rattle.std.specs.Prelude.{◌≡◌, ℕ, List, [], ◌≤◌, ◌<◌, ◌^◌, ◌++◌, ◌&&◌, length, slice_range, nat_eq, IfOk, Ok};
-ghost use Rattle.std.specs.Int.{w32, from_be_bytes};
+ghost use Rattle.std.specs.Prelude.{◌≡◌, ◌≤◌, length, IfOk, Ok};
 ghost use Rattle.osd_commands.specs.declared.replies.Reply.{Reply as Rep};
 ghost use Rattle.osd_commands.specs.Commands.{ReadsAs};
-ghost use Rattle.osd_commands.specs.Replies.{fields, spelling, reading, sized, reply_at, allows, is_verdict, Fits, NumbersFit, IsWhole};
+ghost use Rattle.osd_commands.specs.Replies.{fields, spelling, reading, sized, reply_at, allows, is_sized, is_verdict, Fits, NumbersFit, IsWhole, BeginsNoOther};
 
+use crate::actions::Action;
 use crate::commands::CommandErr;
 use osd_bytes::{
     Bytes, Memory, first_nonzero_in, put_at, put_u16, put_u32, put_u64, u16_at, u32_at, u64_at,
@@ -15,6 +15,15 @@ const MAGIC: u32 = 0x4f53_4472;
 
 /// The bytes of a reply before its payload.
 const BLOCK: usize = 40;
+
+// The highest number of an action.
+const LAST_ACTION: u16 = 6;
+
+// The highest number of a verdict.
+const LAST_VERDICT: u16 = 17;
+
+// The verdict of a command that was performed before, which no reply has.
+const PERFORMED_BEFORE: u16 = 15;
 
 /// What a drive answers to a command.
 ///
@@ -85,20 +94,21 @@ pub fn write_reply(alloc: Global, r: &Reply) -> Result<Bytes, Memory>
 fn is_verdict_of(verdict: u16) -> bool
     ensures { result ≡ is_verdict verdict }
 {
-    verdict <= 17 && verdict != 15
+    verdict <= LAST_VERDICT && verdict != PERFORMED_BEFORE
 }
 
 // Whether a reply may have a payload of this length.
 fn allows_payload(action: u16, verdict: u16, payload: u64) -> bool
     ensures { result ≡ allows action verdict payload }
 {
-    payload == 0 || (verdict == 0 && (action == 2 || action == 4))
+    payload == 0
+        || (verdict == 0 && (action == Action::Read.number() || action == Action::GetAttr.number()))
 }
 
 // Whether a payload is as long as is stated and the reply allows.
 fn is_sized(bytes: &[u8], action: u16, verdict: u16, payload: u64) -> bool
-    requires { 40 ≤ length bytes.now }
-    ensures { result ≡ (nat_eq (from_be_bytes w32 (slice_range bytes.now 32 36)) payload && allows action verdict payload) }
+    requires { BLOCK ≤ length bytes.now }
+    ensures { result ≡ is_sized bytes.now action verdict payload }
 {
     u64::from(u32_at(bytes, 32)) == payload && allows_payload(action, verdict, payload)
 }
@@ -106,7 +116,7 @@ fn is_sized(bytes: &[u8], action: u16, verdict: u16, payload: u64) -> bool
 // The last test, and the reply.
 #[tactic(auto, unfolding(crate::specs::Replies::reply_at))]
 fn sized_reply(alloc: Global, bytes: &[u8]) -> Result<Reply, CommandErr>
-    requires { 40 ≤ length bytes.now }
+    requires { BLOCK ≤ length bytes.now }
     ensures { ReadsAs result (sized bytes.now (reply_at bytes.now)) }
 {
     let (_, payload) = bytes.split_at(BLOCK);
@@ -138,14 +148,14 @@ fn read(alloc: Global, bytes: &[u8]) -> Result<Reply, CommandErr>
         return Err(CommandErr::Magic);
     }
     let action = u16_at(bytes, 4);
-    if action > 6 {
+    if action > LAST_ACTION {
         return Err(CommandErr::BadAction { value: action });
     }
     let verdict = u16_at(bytes, 6);
     if !is_verdict_of(verdict) {
         return Err(CommandErr::BadAction { value: verdict });
     }
-    if let Some(at) = first_nonzero_in(bytes, 36, 40) {
+    if let Some(at) = first_nonzero_in(bytes, 36, BLOCK) {
         return Err(CommandErr::Reserved { at: at as u32 });
     }
     sized_reply(alloc, bytes)
@@ -163,7 +173,7 @@ pub fn read_reply(alloc: Global, bytes: &[u8]) -> Result<Reply, CommandErr>
     // What is spelled so is read.
     ensures only { (r : Rep) → Fits r → bytes.now ≡ spelling r → ReadsAs result (Ok r) }
     // No reply's bytes begin another's.
-    ensures alone { IfOk result (λ _. (d : Rep) (rest : List ℕ) → Fits d → spelling d ≡ bytes.now ++ rest → rest ≡ []) }
+    ensures alone { IfOk result (λ _. BeginsNoOther bytes.now) }
     // Which refusal it is.
     ensures exact { ReadsAs result (reading bytes.now) }
 {

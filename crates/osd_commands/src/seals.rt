@@ -3,10 +3,10 @@ ghost use Rattle.osd_capability.specs.Keys.{check_of, format_of, key_of};
 ghost use Rattle.osd_commands.specs.Commands.{head, Holds, IsCheck};
 
 use crate::commands::{BLOCK, Command, check_len, head_of};
-use osd_capability::{CapKey, capability_key, check_value};
+use osd_capability::{CHECK_BYTES, CapKey, DRIVE_KEY_BYTES, capability_key, check_value};
 
 // The check value of a command under a key.
-fn check_under(cap_key: &CapKey, c: &Command) -> [u8; 32]
+fn check_under(cap_key: &CapKey, c: &Command) -> [u8; CHECK_BYTES]
     ensures { result ≡ check_of cap_key.now (head c.now ++ c.now.payload) }
 {
     let size = check_len(c.capability.format);
@@ -27,7 +27,7 @@ pub fn seal(c: &mut Command, cap_key: &CapKey)
 }
 
 /// Whether the check value of a command is the one that the drive's key gives.
-pub fn holds(key: &[u8; 20], c: &Command) -> bool
+pub fn holds(key: &[u8; DRIVE_KEY_BYTES], c: &Command) -> bool
     ensures { IsTrue result ↔ Holds key.now c.now }
 {
     let check = check_under(&capability_key(key, &c.capability), c);
