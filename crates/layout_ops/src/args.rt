@@ -4,7 +4,9 @@ ghost use Rattle.layout_ops.specs.Spelling.{IsBody, get_args_item, GetArgsFits, 
 ghost use Rattle.layout_ops.specs.Reading.{get_args_in, commit_args_in, return_args_in, args_in};
 
 use crate::err::OpErr;
-use crate::items::{StateId, Time, put_optional_time, put_optional_u64, put_stateid};
+use crate::items::{
+    StateId, Time, put_content, put_optional_time, put_optional_u64, put_range, put_stateid,
+};
 use crate::operation::Operation;
 use crate::parts::{
     read_body, read_bool, read_file_kind, read_layout_type, read_optional_time, read_optional_u64,
@@ -121,8 +123,7 @@ fn put_get_args(writer: &mut Writer, args: &LayoutGetArgs) -> Result<(), Memory>
     writer.bool(args.signal_layout_avail)?;
     writer.u32(LAYOUT4_OSD2_OBJECTS)?;
     writer.u32(args.iomode)?;
-    writer.u64(args.offset)?;
-    writer.u64(args.length)?;
+    put_range(writer, args.offset, args.length)?;
     writer.u64(args.minlength)?;
     put_stateid(writer, &args.stateid)?;
     writer.u32(args.maxcount)
@@ -155,14 +156,12 @@ fn put_commit_args(writer: &mut Writer, args: &LayoutCommitArgs) -> Result<(), M
     ensures written { OnOk result (writer.new ≡ writer.old ++ commit_args_item args.now) }
     ensures fits { OnOk result (CommitArgsFits args.now) }
 {
-    writer.u64(args.offset)?;
-    writer.u64(args.length)?;
+    put_range(writer, args.offset, args.length)?;
     writer.bool(args.reclaim)?;
     put_stateid(writer, &args.stateid)?;
     put_optional_u64(writer, args.last_write_offset)?;
     put_optional_time(writer, &args.time)?;
-    writer.u32(LAYOUT4_OSD2_OBJECTS)?;
-    writer.opaque(args.body.as_slice())
+    put_content(writer, &args.body)
 }
 
 #[tactic(auto, unfolding(crate::specs::Reading::return_args_in))]
@@ -192,8 +191,7 @@ fn put_return_args(writer: &mut Writer, args: &LayoutReturnArgs) -> Result<(), M
     writer.u32(LAYOUT4_OSD2_OBJECTS)?;
     writer.u32(args.iomode)?;
     writer.u32(LAYOUT4_RET_REC_FILE)?;
-    writer.u64(args.offset)?;
-    writer.u64(args.length)?;
+    put_range(writer, args.offset, args.length)?;
     put_stateid(writer, &args.stateid)?;
     writer.opaque(args.body.as_slice())
 }

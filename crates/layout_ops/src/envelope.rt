@@ -5,7 +5,9 @@ ghost use Rattle.layout_ops.specs.Reading.{envelope_in, envelope_of};
 
 use crate::err::OpErr;
 use crate::messages::{Answer, Request, put_answer, put_request, read_answer, read_request};
-use crate::orders::{Order, OrderAnswer, put_order, put_order_answer, read_order, read_order_answer};
+use crate::orders::{
+    Order, OrderAnswer, put_order, put_order_answer, read_order, read_order_answer,
+};
 use crate::parts::read_u32;
 use crate::recalls::{
     Recall, RecallAnswer, put_recall, put_recall_answer, read_recall, read_recall_answer,
@@ -93,6 +95,16 @@ fn read_whole(alloc: Global, bytes: &[u8]) -> Result<Envelope, OpErr>
     Ok(envelope)
 }
 
+fn write_whole(alloc: Global, envelope: &Envelope) -> Result<Bytes, Memory>
+    requires { EnvelopeWritable envelope.now }
+    ensures spelled { IfOk result (λ b. b ≡ envelope_item envelope.now) }
+    ensures fits { OnOk result (EnvelopeFits envelope.now) }
+{
+    let mut writer = Writer::new(alloc);
+    put_message(&mut writer, envelope)?;
+    Ok(writer.into_bytes())
+}
+
 /// The message that the bytes spell, all of them.
 ///
 /// # Errors
@@ -106,6 +118,8 @@ fn read_whole(alloc: Global, bytes: &[u8]) -> Result<Envelope, OpErr>
 pub fn read_envelope(alloc: Global, bytes: &[u8]) -> Result<Envelope, OpErr>
     // What is read is spelled so.
     ensures found { IfOk result (λ v. EnvelopeFits v × (bytes.now ≡ envelope_item v)) }
+    // What is read may be written again.
+    ensures writable { IfOk result EnvelopeWritable }
     // What is spelled so is read.
     ensures only { (v : Envelope) → EnvelopeFits v → bytes.now ≡ envelope_item v → GivesOrMemory (Ok v) result }
     // No spelling begins another.
@@ -128,7 +142,5 @@ pub fn write_envelope(alloc: Global, envelope: &Envelope) -> Result<Bytes, Memor
     // What is written is read back.
     ensures read_back { IfOk result (λ b. envelope_of b ≡ Ok envelope.now) }
 {
-    let mut writer = Writer::new(alloc);
-    put_message(&mut writer, envelope)?;
-    Ok(writer.into_bytes())
+    write_whole(alloc, envelope)
 }

@@ -1,12 +1,13 @@
 ghost use Rattle.std.specs.Prelude.{◌≡◌, ◌++◌, ◌<◌, ◌^◌, length, OnOk, FitsSigned};
 ghost use Rattle.std.specs.Int.{w64};
-ghost use Rattle.xdr_codec.specs.Items.{u64_item, fixed_item};
+ghost use Rattle.xdr_codec.specs.Items.{u64_item, fixed_item, opaque_item};
 ghost use Rattle.layout_types.specs.Grammar.{Gives as GivesPart, u64_part, optional_part, optional_item, OptionalFits};
-ghost use Rattle.layout_ops.specs.Spelling.{stateid_item, StateIdFits, time_item, TimeFits};
+ghost use Rattle.layout_ops.specs.Spelling.{IsBody, layout_type_item, stateid_item, StateIdFits, time_item, TimeFits};
 ghost use Rattle.layout_ops.specs.Reading.{stateid_part, time_part};
 
+use crate::statuses::LAYOUT4_OSD2_OBJECTS;
 use layout_types::LayoutErr;
-use osd_bytes::Memory;
+use osd_bytes::{Bytes, Memory};
 use xdr_codec::{Reader, Writer};
 
 /// What names a layout's state at the server (`stateid4`, RFC 5661 3.3.12).
@@ -43,6 +44,24 @@ pub(crate) fn put_stateid(writer: &mut Writer, stateid: &StateId) -> Result<(), 
 {
     writer.u32(stateid.seqid)?;
     put_12(writer, &stateid.other)
+}
+
+// The first byte of a range, and how many bytes it has.
+pub(crate) fn put_range(writer: &mut Writer, offset: u64, length: u64) -> Result<(), Memory>
+    ensures written { OnOk result (writer.new ≡ writer.old ++ (u64_item offset ++ u64_item length)) }
+    ensures fits { (offset < 2 ^ 64) × (length < 2 ^ 64) }
+{
+    writer.u64(offset)?;
+    writer.u64(length)
+}
+
+// The layout type, and a body of that type.
+pub(crate) fn put_content(writer: &mut Writer, body: &Bytes) -> Result<(), Memory>
+    requires { IsBody body.now }
+    ensures { OnOk result (writer.new ≡ writer.old ++ (layout_type_item ++ opaque_item body.now)) }
+{
+    writer.u32(LAYOUT4_OSD2_OBJECTS)?;
+    writer.opaque(body.as_slice())
 }
 
 fn put_12(writer: &mut Writer, field: &[u8; 12]) -> Result<(), Memory>

@@ -4,7 +4,7 @@ ghost use Rattle.layout_ops.specs.Spelling.{IsFileHandle, recall_args_item, Reca
 ghost use Rattle.layout_ops.specs.Reading.{recall_args_in, recall_in, recall_answer_in};
 
 use crate::err::OpErr;
-use crate::items::{StateId, put_stateid};
+use crate::items::{StateId, put_range, put_stateid};
 use crate::parts::{
     read_bool, read_file_handle, read_file_kind, read_layout_type, read_recall_op, read_stateid,
     read_u32, read_u64,
@@ -87,8 +87,7 @@ fn put_recall_args(writer: &mut Writer, args: &LayoutRecallArgs) -> Result<(), M
     writer.bool(args.changed)?;
     writer.u32(LAYOUT4_RET_REC_FILE)?;
     writer.opaque(args.file.as_slice())?;
-    writer.u64(args.offset)?;
-    writer.u64(args.length)?;
+    put_range(writer, args.offset, args.length)?;
     put_stateid(writer, &args.stateid)
 }
 

@@ -7,13 +7,15 @@ ghost use Rattle.layout_ops.specs.Spelling.{segment_item, SegmentFits, SegmentWr
 ghost use Rattle.layout_ops.specs.Reading.{segment_in, get_ok_in, get_result_in, commit_result_in, return_result_in, results_in};
 
 use crate::err::OpErr;
-use crate::items::{StateId, put_optional_stateid, put_optional_u64, put_stateid};
+use crate::items::{
+    StateId, put_content, put_optional_stateid, put_optional_u64, put_range, put_stateid,
+};
 use crate::operation::Operation;
 use crate::parts::{
     read_body, read_bool, read_count, read_layout_type, read_optional_stateid, read_optional_u64,
     read_stateid, read_u32, read_u64,
 };
-use crate::statuses::{LAYOUT4_OSD2_OBJECTS, NFS4_OK, NFS4ERR_LAYOUTTRYLATER};
+use crate::statuses::{NFS4_OK, NFS4ERR_LAYOUTTRYLATER};
 use osd_bytes::{Bytes, Memory, Sequence};
 use std::alloc::Global;
 use xdr_codec::{Reader, Writer};
@@ -117,11 +119,9 @@ fn put_segment(writer: &mut Writer, segment: &LayoutSegment) -> Result<(), Memor
     ensures written { OnOk result (writer.new ≡ writer.old ++ segment_item segment.now) }
     ensures fits { OnOk result (SegmentFits segment.now) }
 {
-    writer.u64(segment.offset)?;
-    writer.u64(segment.length)?;
+    put_range(writer, segment.offset, segment.length)?;
     writer.u32(segment.iomode)?;
-    writer.u32(LAYOUT4_OSD2_OBJECTS)?;
-    writer.opaque(segment.body.as_slice())
+    put_content(writer, &segment.body)
 }
 
 fn read_segments(
@@ -139,10 +139,7 @@ fn read_segments(
 }
 
 #[tactic(auto, unfolding(crate::specs::Grammar::list_in))]
-fn read_layouts(
-    alloc: Global,
-    reader: &mut Reader<'_>,
-) -> Result<Sequence<LayoutSegment>, OpErr>
+fn read_layouts(alloc: Global, reader: &mut Reader<'_>) -> Result<Sequence<LayoutSegment>, OpErr>
     ensures { Gives (list_in segment_in reader.old) result reader.new }
 {
     let count = read_count(reader)?;
