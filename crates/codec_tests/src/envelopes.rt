@@ -13,184 +13,208 @@ use xdr_codec::XdrErr;
 
 // The bytes were made apart from the crate, by a script over the field lists of RFC 5661 and of
 // docs/MESSAGES.md.
-const COMMIT: &str = "00000001000000010000000200000003000000310000000000001000000000000000200000000001\
+const COMMIT: &str =
+    "00000001000000010000000200000003000000310000000000001000000000000000200000000001\
     00000001000102030405060708090a0b000000010000000000002fff00000001fffffffffffffffb\
     3b9ac9ff00000002000000050102030405000000";
+
 const GET: &str = "00000001000000010000000200000003000000320000000100000002000000020000000000000003\
     000000000000000a000000000000000400000001000102030405060708090a0b00010000";
-const RETURN: &str = "00000001000000010000000200000003000000330000000100000002000000030000000100000000\
+
+const RETURN: &str =
+    "00000001000000010000000200000003000000330000000100000002000000030000000100000000\
     00000000ffffffffffffffff00000001000102030405060708090a0b00000003aabbcc00";
-const COMMITTED: &str = "00000002000000010000000200000003000000310000000000000000000000290000000000000001\
+
+const COMMITTED: &str =
+    "00000002000000010000000200000003000000310000000000000000000000290000000000000001\
     000000000000002a";
-const GRANTED: &str = "00000002000000010000000200000003000000320000000000000000000000290000000000000001\
+
+const GRANTED: &str =
+    "00000002000000010000000200000003000000320000000000000000000000290000000000000001\
     00000001000102030405060708090a0b000000020000000000000000000000000001000000000001\
     0000000200000002aabb000000000000000100000000000000010000000000020000000200000001\
     cc000000";
-const TRY_LATER: &str = "00000002000000010000000200000003000000320000000400000000000000290000274a00000001";
+
+const TRY_LATER: &str =
+    "00000002000000010000000200000003000000320000000400000000000000290000274a00000001";
+
 const CONFLICT: &str = "00000002000000010000000200000003000000320000000500000000000000290000274d";
-const RETURNED: &str = "00000002000000010000000200000003000000330000000000000000000000290000000000000001\
+
+const RETURNED: &str =
+    "00000002000000010000000200000003000000330000000000000000000000290000000000000001\
     00000001000102030405060708090a0b";
-const RECALL: &str = "00000003000000010000000600000003000000050000000200000003000000010000000100000005\
+
+const RECALL: &str =
+    "00000003000000010000000600000003000000050000000200000003000000010000000100000005\
     00000003090000000000000000000000ffffffffffffffff00000001000102030405060708090a0b";
+
 const RECALL_ANSWER: &str = "00000004000000010000000600000003000000050000274c";
+
 const ORDER: &str = "000000050000000400000003";
+
 const ORDER_ANSWER: &str = "000000060000000500000002";
 
-// The bytes of a message in hexadecimal, and the places at which its items begin, and those of its
-// padding bytes, enumerations, bools, lengths or counts, layout types, kinds of returns and recalls,
-// and operations.
+// A number that a reader checks.
+#[derive(Clone, Copy)]
+enum Checked {
+    Enumeration,
+    Bool,
+    Length,
+    LayoutType,
+    FileKind,
+    Operation,
+}
+
+// The bytes of a message in hexadecimal, the places at which its items begin, those of its padding
+// bytes, and those of the numbers that a reader checks.
 #[derive(Drop)]
 struct Case {
     digits: &'static str,
     items: &'static [u64],
     padding: &'static [usize],
-    enumerations: &'static [usize],
-    bools: &'static [usize],
-    lengths: &'static [usize],
-    layout_types: &'static [usize],
-    file_kinds: &'static [usize],
-    operations: &'static [usize],
+    checked: &'static [(usize, Checked)],
 }
 
 fn cases() -> [Case; 12] {
     [
         Case {
             digits: COMMIT,
-            items: &[0, 4, 8, 12, 16, 20, 28, 36, 40, 44, 56, 60, 68, 72, 80, 84, 88],
+            items: &[
+                0, 4, 8, 12, 16, 20, 28, 36, 40, 44, 56, 60, 68, 72, 80, 84, 88,
+            ],
             padding: &[97, 98, 99],
-            enumerations: &[0],
-            bools: &[36, 56, 68],
-            lengths: &[88],
-            layout_types: &[84],
-            file_kinds: &[],
-            operations: &[16],
+            checked: &[
+                (0, Checked::Enumeration),
+                (16, Checked::Operation),
+                (36, Checked::Bool),
+                (56, Checked::Bool),
+                (68, Checked::Bool),
+                (84, Checked::LayoutType),
+                (88, Checked::Length),
+            ],
         },
         Case {
             digits: GET,
             items: &[0, 4, 8, 12, 16, 20, 24, 28, 32, 40, 48, 56, 60, 72],
             padding: &[],
-            enumerations: &[0],
-            bools: &[20],
-            lengths: &[],
-            layout_types: &[24],
-            file_kinds: &[],
-            operations: &[16],
+            checked: &[
+                (0, Checked::Enumeration),
+                (16, Checked::Operation),
+                (20, Checked::Bool),
+                (24, Checked::LayoutType),
+            ],
         },
         Case {
             digits: RETURN,
             items: &[0, 4, 8, 12, 16, 20, 24, 28, 32, 36, 44, 52, 56, 68],
             padding: &[75],
-            enumerations: &[0],
-            bools: &[20],
-            lengths: &[68],
-            layout_types: &[24],
-            file_kinds: &[32],
-            operations: &[16],
+            checked: &[
+                (0, Checked::Enumeration),
+                (16, Checked::Operation),
+                (20, Checked::Bool),
+                (24, Checked::LayoutType),
+                (32, Checked::FileKind),
+                (68, Checked::Length),
+            ],
         },
         Case {
             digits: COMMITTED,
             items: &[0, 4, 8, 12, 16, 20, 24, 32, 36, 40],
             padding: &[],
-            enumerations: &[0],
-            bools: &[36],
-            lengths: &[],
-            layout_types: &[],
-            file_kinds: &[],
-            operations: &[16],
+            checked: &[
+                (0, Checked::Enumeration),
+                (16, Checked::Operation),
+                (36, Checked::Bool),
+            ],
         },
         Case {
             digits: GRANTED,
-            items: &[0, 4, 8, 12, 16, 20, 24, 32, 36, 40, 44, 56, 60, 68, 76, 80, 84, 92, 100, 108, 112, 116],
+            items: &[
+                0, 4, 8, 12, 16, 20, 24, 32, 36, 40, 44, 56, 60, 68, 76, 80, 84, 92, 100, 108, 112,
+                116,
+            ],
             padding: &[90, 91, 121, 122, 123],
-            enumerations: &[0],
-            bools: &[36],
-            lengths: &[56, 84, 116],
-            layout_types: &[80, 112],
-            file_kinds: &[],
-            operations: &[16],
+            checked: &[
+                (0, Checked::Enumeration),
+                (16, Checked::Operation),
+                (36, Checked::Bool),
+                (56, Checked::Length),
+                (80, Checked::LayoutType),
+                (84, Checked::Length),
+                (112, Checked::LayoutType),
+                (116, Checked::Length),
+            ],
         },
         Case {
             digits: TRY_LATER,
             items: &[0, 4, 8, 12, 16, 20, 24, 32, 36],
             padding: &[],
-            enumerations: &[0],
-            bools: &[36],
-            lengths: &[],
-            layout_types: &[],
-            file_kinds: &[],
-            operations: &[16],
+            checked: &[
+                (0, Checked::Enumeration),
+                (16, Checked::Operation),
+                (36, Checked::Bool),
+            ],
         },
         Case {
             digits: CONFLICT,
             items: &[0, 4, 8, 12, 16, 20, 24, 32],
             padding: &[],
-            enumerations: &[0],
-            bools: &[],
-            lengths: &[],
-            layout_types: &[],
-            file_kinds: &[],
-            operations: &[16],
+            checked: &[(0, Checked::Enumeration), (16, Checked::Operation)],
         },
         Case {
             digits: RETURNED,
             items: &[0, 4, 8, 12, 16, 20, 24, 32, 36, 40, 44],
             padding: &[],
-            enumerations: &[0],
-            bools: &[36],
-            lengths: &[],
-            layout_types: &[],
-            file_kinds: &[],
-            operations: &[16],
+            checked: &[
+                (0, Checked::Enumeration),
+                (16, Checked::Operation),
+                (36, Checked::Bool),
+            ],
         },
         Case {
             digits: RECALL,
             items: &[0, 4, 8, 12, 16, 20, 24, 28, 32, 36, 48, 56, 64, 68],
             padding: &[45, 46, 47],
-            enumerations: &[0],
-            bools: &[28],
-            lengths: &[36],
-            layout_types: &[20],
-            file_kinds: &[32],
-            operations: &[16],
+            checked: &[
+                (0, Checked::Enumeration),
+                (16, Checked::Operation),
+                (20, Checked::LayoutType),
+                (28, Checked::Bool),
+                (32, Checked::FileKind),
+                (36, Checked::Length),
+            ],
         },
         Case {
             digits: RECALL_ANSWER,
             items: &[0, 4, 8, 12, 16, 20],
             padding: &[],
-            enumerations: &[0],
-            bools: &[],
-            lengths: &[],
-            layout_types: &[],
-            file_kinds: &[],
-            operations: &[16],
+            checked: &[(0, Checked::Enumeration), (16, Checked::Operation)],
         },
         Case {
             digits: ORDER,
             items: &[0, 4, 8],
             padding: &[],
-            enumerations: &[0, 4],
-            bools: &[],
-            lengths: &[],
-            layout_types: &[],
-            file_kinds: &[],
-            operations: &[],
+            checked: &[(0, Checked::Enumeration), (4, Checked::Enumeration)],
         },
         Case {
             digits: ORDER_ANSWER,
             items: &[0, 4, 8],
             padding: &[],
-            enumerations: &[0, 4, 8],
-            bools: &[],
-            lengths: &[],
-            layout_types: &[],
-            file_kinds: &[],
-            operations: &[],
+            checked: &[
+                (0, Checked::Enumeration),
+                (4, Checked::Enumeration),
+                (8, Checked::Enumeration),
+            ],
         },
     ]
 }
 
-// The bytes with another number at a place.
-fn with_number(alloc: Global, bytes: &[u8], at: usize, value: u32) -> Result<Vec<u8>, Fail> {
+fn refusal(alloc: Global, bytes: &[u8]) -> Option<OpErr> {
+    read_envelope(alloc, bytes).err()
+}
+
+// What the bytes are refused for with another number at a place.
+fn refusal_with(alloc: Global, bytes: &[u8], at: usize, value: u32) -> Result<Option<OpErr>, Fail> {
     let mut changed = Vec::from_slice(alloc, bytes)?;
     let mut place = at;
     for digit in value.to_be_bytes() {
@@ -199,11 +223,7 @@ fn with_number(alloc: Global, bytes: &[u8], at: usize, value: u32) -> Result<Vec
         }
         place = place.saturating_add(1);
     }
-    Ok(changed)
-}
-
-fn refusal(alloc: Global, bytes: &[u8]) -> Option<OpErr> {
-    read_envelope(alloc, bytes).err()
+    Ok(refusal(alloc, &changed))
 }
 
 fn read(alloc: Global, digits: &str) -> Result<Envelope, Fail> {
@@ -246,11 +266,8 @@ fn a_request_for_a_layout_is_written_again_the_same(rt: HostRuntime) -> Result<(
             })
         })
     );
-    let changed = with_number(rt.alloc(), &bytes, 16, 99)?;
-    assert_eq!(rt;
-        refusal(rt.alloc(), &changed),
-        Some(OpErr::UnknownOp { op: 99 })
-    );
+    let refused = OpErr::UnknownOp { op: 99 };
+    assert_eq!(rt; refusal_with(rt.alloc(), &bytes, 16, 99)?, Some(refused));
     Ok(())
 }
 
@@ -443,50 +460,31 @@ fn each_padding_byte_must_be_zero(rt: HostRuntime) -> Result<(), Fail> {
     Ok(())
 }
 
-#[test]
-fn numbers_outside_their_ranges(rt: HostRuntime) -> Result<(), Fail> {
-    for case in cases().iter() {
-        let bytes = hex::decode(rt.alloc(), case.digits)?;
-        for at in case.enumerations {
-            let changed = with_number(rt.alloc(), &bytes, *at, 9)?;
-            let refused = LayoutErr::BadEnum {
-                at: *at as u64,
-                value: 9,
-            };
-            assert_eq!(rt; refusal(rt.alloc(), &changed), Some(OpErr::Layout(refused)));
-        }
-        for at in case.bools {
-            let changed = with_number(rt.alloc(), &bytes, *at, 2)?;
-            let refused = LayoutErr::Xdr(XdrErr::BadBool { at: *at as u64 });
-            assert_eq!(rt; refusal(rt.alloc(), &changed), Some(OpErr::Layout(refused)));
-        }
-        for at in case.lengths {
-            let changed = with_number(rt.alloc(), &bytes, *at, 65_537)?;
-            let refused = LayoutErr::Xdr(XdrErr::TooMany { at: *at as u64 });
-            assert_eq!(rt; refusal(rt.alloc(), &changed), Some(OpErr::Layout(refused)));
-        }
+// A number that can't stand at a place, and why.
+fn wrong(checked: Checked, at: u64) -> (u32, OpErr) {
+    match checked {
+        Checked::Enumeration => (9, OpErr::Layout(LayoutErr::BadEnum { at, value: 9 })),
+        Checked::Bool => (2, OpErr::Layout(LayoutErr::Xdr(XdrErr::BadBool { at }))),
+        Checked::Length => (
+            65_537,
+            OpErr::Layout(LayoutErr::Xdr(XdrErr::TooMany { at })),
+        ),
+        Checked::LayoutType => (1, OpErr::WrongLayoutType { value: 1 }),
+        Checked::FileKind => (2, OpErr::WrongReturn { value: 2 }),
+        Checked::Operation => (52, OpErr::UnknownOp { op: 52 }),
     }
-    Ok(())
 }
 
 #[test]
-fn other_layout_types_kinds_and_operations(rt: HostRuntime) -> Result<(), Fail> {
+fn each_number_that_is_checked(rt: HostRuntime) -> Result<(), Fail> {
     for case in cases().iter() {
         let bytes = hex::decode(rt.alloc(), case.digits)?;
-        for at in case.layout_types {
-            let changed = with_number(rt.alloc(), &bytes, *at, 1)?;
-            let refused = OpErr::WrongLayoutType { value: 1 };
-            assert_eq!(rt; refusal(rt.alloc(), &changed), Some(refused));
-        }
-        for at in case.file_kinds {
-            let changed = with_number(rt.alloc(), &bytes, *at, 2)?;
-            let refused = OpErr::WrongReturn { value: 2 };
-            assert_eq!(rt; refusal(rt.alloc(), &changed), Some(refused));
-        }
-        for at in case.operations {
-            let changed = with_number(rt.alloc(), &bytes, *at, 52)?;
-            let refused = OpErr::UnknownOp { op: 52 };
-            assert_eq!(rt; refusal(rt.alloc(), &changed), Some(refused));
+        for (place, checked) in case.checked {
+            let (value, refused) = wrong(*checked, *place as u64);
+            assert_eq!(rt;
+                refusal_with(rt.alloc(), &bytes, *place, value)?,
+                Some(refused)
+            );
         }
     }
     Ok(())
