@@ -153,6 +153,14 @@ impl DataMap {
         u64::from(self.data_units()) * self.raw.unit
     }
 
+    /// The replicas of a position: one more than the map has mirrors.
+    pub fn replicas(&self) -> u32
+        ensures value { result ≡ replicas self.now }
+        ensures bound { (0 < result) × (result ≤ MAX_COMPONENTS) }
+    {
+        self.raw.mirrors + 1
+    }
+
     /// The component that holds replica `i` of a position; a position has one replica more than the
     /// map has mirrors.
     pub fn replica(&self, position: u32, i: u32) -> u32

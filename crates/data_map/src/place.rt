@@ -17,8 +17,8 @@ pub struct Place {
 }
 
 impl DataMap {
-    // The group in which a stripe stands.
-    fn group(&self, stripe: u64) -> u32
+    /// The group in which a stripe stands, from 0.
+    pub fn group(&self, stripe: u64) -> u32
         ensures value { result ≡ group_of self.now stripe }
         ensures inside { result * group_width self.now + group_width self.now ≤ positions self.now }
         ensures few { positions self.now ≤ MAX_COMPONENTS }
@@ -30,8 +30,8 @@ impl DataMap {
         (stripe / u64::from(raw.depth) % u64::from(self.groups())) as u32
     }
 
-    // The row of a stripe in its group.
-    fn row(&self, stripe: u64) -> u64
+    /// The row of a stripe in its group: its units begin there in their components, at this many stripe units.
+    pub fn row(&self, stripe: u64) -> u64
         ensures value { result ≡ row_of self.now stripe }
         ensures bound { result ≤ stripe }
     {
@@ -58,8 +58,8 @@ impl DataMap {
         (unit + width - turns) % width
     }
 
-    // The position of unit `unit` of a stripe.
-    fn position(&self, stripe: u64, unit: u32) -> u32
+    /// The position of a unit of a stripe. Its units are those of data, then P, then Q, counted from 0.
+    pub fn position(&self, stripe: u64, unit: u32) -> u32
         requires { unit < group_width self.now }
         ensures value { result ≡ position_of self.now stripe unit }
         ensures inside { result < positions self.now }
@@ -102,8 +102,9 @@ impl DataMap {
         }
     }
 
-    // The unit of a stripe that lies at a place inside the group.
-    fn unit_in(&self, stripe: u64, place: u32) -> u32
+    /// The unit of a stripe that lies at a place inside the group, counted from 0: what
+    /// [`DataMap::position`] takes to that place.
+    pub fn unit_in(&self, stripe: u64, place: u32) -> u32
         requires { place < group_width self.now }
         ensures value { result ≡ unit_in self.now stripe place }
         ensures bound { result < group_width self.now }
