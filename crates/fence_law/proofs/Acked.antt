@@ -1,12 +1,13 @@
 -- Kept: what a client knows to be done was performed; an acknowledged write is performed whole, on what isn't gone; a dead entry has no part in the bytes.
 -- A reply comes only from a drive that performed, and drives refuse a dead entry's tag.
-use Rattle.std.proofs.Common.{◌≡◌, ℕ, ◌+◌, ◌<◌, ◌≤◌, Bool, true, false, Option, Some, None, refl, sym, ap, ◌∙◌, inl, inr, arith}
+use Rattle.std.proofs.Common.{◌≡◌, ℕ, ◌<◌, ◌≤◌, Bool, true, false, Option, Some, None, refl, sym, ap, ◌∙◌, inl, inr, arith}
 use Rattle.std.proofs.lemmas.Bool.{and_right, eq-eqb, cases_eq, true≢false}
 use Rattle.fence_law.specs.Words.{updated, In}
-use Rattle.fence_law.specs.Machine.{State, Event, Allowed, after, Grant, Write, WriteReply, Call, PartState, Start, written_start, read_start, repair_start, rebuilt_start, ended, performed}
-use Rattle.fence_law.specs.Machine.Call.{Idle, Writes, Reads, Broken}
-use Rattle.fence_law.specs.Machine.PartState.{NotSent, Sent, Done}
-use Rattle.fence_law.specs.Machine.Event.{Reports, Forgets, Fenced, Refenced, Sends, StartsWrite, StartsRead, Performs, Learns, Acknowledges, Breaks, Answers, EndsRead, Repairs, Repaired, Rebuilds, TakesRefusal}
+use Rattle.fence_law.specs.State.{State, Event, Grant, Write, WriteReply, Call, PartState, Start}
+use Rattle.fence_law.specs.Machine.{Allowed, after, written_start, read_start, repair_start, rebuilt_start, ended, performed}
+use Rattle.fence_law.specs.State.Call.{Idle, Writes, Reads, Broken}
+use Rattle.fence_law.specs.State.PartState.{NotSent, Sent, Done}
+use Rattle.fence_law.specs.State.Event.{Reports, Forgets, Fenced, Refenced, Sends, StartsWrite, StartsRead, Performs, Learns, Acknowledges, Breaks, Answers, EndsRead, Repairs, Repaired, Rebuilds, TakesRefusal}
 use Rattle.fence_law.specs.Law.{IsCode}
 use Rattle.fence_law.proofs.Words.{updated_other, updated_read, updated_same}
 use Rattle.fence_law.proofs.Parts.{pf_row, pf_hit, pf_grows}

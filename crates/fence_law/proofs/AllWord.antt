@@ -1,12 +1,13 @@
 -- Kept: where a write under way was performed whole its columns are words of its data; what a layout left out is gone.
 -- Every cell that a write doesn't hit keeps its word, and each that it hits gets the new one.
 use Rattle.std.proofs.Common.{◌≡◌, ℕ, ◌≤◌, Bool, true, false, ◌||◌, ◌&&◌, ◌==◌, Option, Some, None, ◌⊎◌, refl, sym, ap, ◌∙◌, inl, inr, arith}
-use Rattle.std.proofs.lemmas.Bool.{cases_Bool, and_right, false_from_ne_true, eqb-true, eq-eqb, ne_eqb, cases_eq, true≢false}
+use Rattle.std.proofs.lemmas.Bool.{cases_Bool, and_right, false_from_ne_true, eqb-true, eq-eqb, cases_eq, true≢false}
 use Rattle.std.proofs.lemmas.Option.{same_Some}
 use Rattle.fence_law.specs.Words.{updated, over}
-use Rattle.fence_law.specs.Machine.{State, Event, Allowed, after, Grant, Write, Start, granted, written_start, read_start, repair_start, rebuilt_start, performed, overlaid, only}
-use Rattle.fence_law.specs.Machine.Call.{Idle, Reads}
-use Rattle.fence_law.specs.Machine.Event.{Grants, Frees, Fenced, Refenced, StartsWrite, StartsRead, Performs, Acknowledges, Repairs, Repaired, Rebuilds, Loses, Leaves}
+use Rattle.fence_law.specs.State.{State, Event, Grant, Write, Start}
+use Rattle.fence_law.specs.Machine.{Allowed, after, granted, written_start, read_start, repair_start, rebuilt_start, performed, overlaid, only}
+use Rattle.fence_law.specs.State.Call.{Idle, Reads}
+use Rattle.fence_law.specs.State.Event.{Grants, Frees, Fenced, Refenced, StartsWrite, StartsRead, Performs, Acknowledges, Repairs, Repaired, Rebuilds, Loses, Leaves}
 use Rattle.fence_law.specs.Law.{chain, byte_before, cell_before, IsCode}
 use Rattle.fence_law.proofs.Words.{up_off, up_on, updated_at, updated_other, updated_read, updated_same}
 use Rattle.fence_law.proofs.Parts.{pf_row}
@@ -16,9 +17,9 @@ use Rattle.fence_law.proofs.Commands.{Calls}
 use Rattle.fence_law.proofs.Chains.{over_none}
 use Rattle.fence_law.proofs.Formed.{Gone_lost, not_gone, or_off, or_on, added, Mending, Formed, FormedOne, Running}
 use Rattle.fence_law.proofs.Open.{Dead, Known, Unacked, Open, fresh_open, now_fresh}
-use Rattle.fence_law.proofs.Live.{Eras}
+use Rattle.fence_law.proofs.Live.{Open_granted}
 use Rattle.fence_law.proofs.Acked.{FullHere, Known_done, option_cases}
-use Rattle.fence_law.proofs.Later.{Unsettled, open_unsettled, none_open, unsettled_added, unsettled_acks, unsettled_fenced, unsettled_mended, unsettled_none, Later, Unserved, gathered_covers, before_unsettled, pay_or_touch, unsettled_refenced, refenced_unsettled}
+use Rattle.fence_law.proofs.Later.{Unsettled, open_unsettled, none_open, unsettled_added, unsettled_acks, unsettled_fenced, unsettled_mended, unsettled_none, Later, Unserved, gathered_covers, before_unsettled, pay_or_touch, unsettled_refenced}
 use Rattle.fence_law.proofs.Chosen.{Late_ack, at_acks}
 use Rattle.fence_law.proofs.Held.{at_added, ct_new, ct_performs, ct_open, Cells}
 use Rattle.fence_law.proofs.Before.{WholeAt, Before_whole}
@@ -49,7 +50,7 @@ lg_added b s row new h = record {
   ];
 }
 
-pub keep_left_gone : (b : State) (e : Event) → Allowed b e → Holds b → Formed b → Mending b → Eras b → Gone_lost b → Left_gone b → Left_gone (after b e)
+pub keep_left_gone : (b : State) (e : Event) → Allowed b e → Holds b → Formed b → Mending b → Open_granted b → Gone_lost b → Left_gone b → Left_gone (after b e)
 keep_left_gone b (Grants c number rw range extending) a o f m q gl h = record {
   outstanding = λ d k g e l. elim (updated_read b.outstanding c (Some (granted b c number rw range extending)) d).1 [
     | inl w ↦ let same : b.missing ≡ g.left = ap (λ y. y.left) (same_Some (granted b c number rw range extending) g (sym w.1 ∙ e)) in or_new (b.gone k) (b.missing k) (ap (λ y. y k) same ∙ l)
@@ -103,7 +104,7 @@ aw_again : (b : State) (j k z : ℕ) → b.repairing ≡ false → Unsettled b j
 aw_again b j k z m u full t is l code f dead lt us bw sound lg =
     aw_open b (λ i. b.applied i k z) j k z (u.0, u.1, u.2, u.3, elim u.4 [ inl e ↦ e | inr y ↦ absurd (true≢false (sym y.0 ∙ m)) ]) full (λ i ne. refl) t is l code f dead lt us bw sound lg
 
-aw_performs : (b : State) (m : Write) → Allowed b (Performs m) → Open b m.entry → IsCode b.layout → Formed b → Mending b → Eras b → Dead b → Later b → Unserved b → Before_whole b → Sound b → Left_gone b → All_word b → All_word (after b (Performs m))
+aw_performs : (b : State) (m : Write) → Allowed b (Performs m) → Open b m.entry → IsCode b.layout → Formed b → Mending b → Open_granted b → Dead b → Later b → Unserved b → Before_whole b → Sound b → Left_gone b → All_word b → All_word (after b (Performs m))
 aw_performs b m a o code f md q dead lt us bw sound lg h j k z u full t is l = elim (cases_eq j m.entry) [
   | inl e ↦ let oj : Open b j = (u.0, u.1, u.2, u.3, elim u.4 [ inl y ↦ y | inr y ↦ absurd (none_open b m.entry y.0 md q o) ]) in
       aw_open b (λ i. performed b m i k z) j k z oj (λ v content. full k z v l content)
@@ -155,7 +156,7 @@ aw_acks b c i a code r run f kd dead late lt h j k z u full t is l = let x = uns
     h j k z x.1 full t is l ∙ word_moves b (after b (Acknowledges c i)) j j k z code (λ q here. at_acks b c i j q a code r run f kd dead late
     (λ v ti. before_unsettled b i j (b.layout.col q) v lt x.1.0 x.1.2 ((f j x.1.0).reaches _ (ap (b.start j).touch here ∙ t)) ((f j x.1.0).own x.1.1) ti))
 
-pub keep_all_word : (b : State) (e : Event) → Allowed b e → IsCode b.layout → Tags b → Formed b → Formed (after b e) → Holds b → Calls b → Running b → Known b → Unacked b → Known_done b → Dead b → Late_ack b → Mending b → Eras b → Later b → Unserved b → Cells b → Before_whole b → Sound b →
+pub keep_all_word : (b : State) (e : Event) → Allowed b e → IsCode b.layout → Tags b → Formed b → Formed (after b e) → Holds b → Calls b → Running b → Known b → Unacked b → Known_done b → Dead b → Late_ack b → Mending b → Open_granted b → Later b → Unserved b → Cells b → Before_whole b → Sound b →
     ((c : ℕ) (g : Grant) → b.held c ≡ Some g → (b.call c ≡ Idle) ⊎ ((i : ℕ) × (b.call c ≡ Reads i)) → (g.tag == b.tag) ≡ true → (x : ℕ) → g.covers x ≡ true → WholeAt b b.count x) →
     Gone_lost b → Left_gone b → All_word b → All_word (after b e)
 keep_all_word b (StartsWrite c g i d touch hit seen e1 pt) a code t f f2 o r run n u kd dead late m q lt us cells bw sound now gl lg h =

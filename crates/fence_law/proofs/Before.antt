@@ -3,9 +3,10 @@
 use Rattle.std.proofs.Common.{◌≡◌, ℕ, ◌<◌, Bool, true, false, ◌==◌, Some, ◌⊎◌, refl, sym, ap, ◌∙◌, inl, inr, arith}
 use Rattle.std.proofs.lemmas.Bool.{cases_eq, true≢false}
 use Rattle.fence_law.specs.Words.{updated, In}
-use Rattle.fence_law.specs.Machine.{State, Event, Allowed, after, Grant, Write, ReadReply, Call, Start, written_start, read_start, repair_start, rebuilt_start}
-use Rattle.fence_law.specs.Machine.Call.{Idle, Writes, Reads, Broken}
-use Rattle.fence_law.specs.Machine.Event.{Grants, Reports, Forgets, Fenced, Refenced, StartsWrite, StartsRead, Performs, Acknowledges, Breaks, Answers, EndsRead, Repairs, Repaired, Rebuilds, TakesRefusal, Loses}
+use Rattle.fence_law.specs.State.{State, Event, Grant, Write, ReadReply, Call, Start}
+use Rattle.fence_law.specs.Machine.{Allowed, after, written_start, read_start, repair_start, rebuilt_start}
+use Rattle.fence_law.specs.State.Call.{Idle, Writes, Reads, Broken}
+use Rattle.fence_law.specs.State.Event.{Grants, Reports, Forgets, Fenced, Refenced, StartsWrite, StartsRead, Performs, Acknowledges, Breaks, Answers, EndsRead, Repairs, Repaired, Rebuilds, TakesRefusal, Loses}
 use Rattle.fence_law.specs.Law.{byte_before, cell_before, IsCode}
 use Rattle.fence_law.proofs.Words.{up_off, updated_at, updated_other, updated_read}
 use Rattle.fence_law.proofs.Tags.{Tags}
@@ -13,9 +14,9 @@ use Rattle.fence_law.proofs.Holds.{Holds}
 use Rattle.fence_law.proofs.Commands.{Calls}
 use Rattle.fence_law.proofs.Formed.{Gone_lost, not_gone, or_off, added, Mending, Formed, Running}
 use Rattle.fence_law.proofs.Open.{Dead, Known, Unacked, Open, fresh_open, now_fresh}
-use Rattle.fence_law.proofs.Live.{Eras}
+use Rattle.fence_law.proofs.Live.{Open_granted}
 use Rattle.fence_law.proofs.Acked.{Known_done}
-use Rattle.fence_law.proofs.Later.{Unsettled, open_unsettled, unsettled_added, unsettled_acks, unsettled_fenced, unsettled_mended, unsettled_none, Later, gathered_covers, before_unsettled, pay_or_touch, unsettled_refenced, refenced_unsettled}
+use Rattle.fence_law.proofs.Later.{Unsettled, open_unsettled, unsettled_added, unsettled_acks, unsettled_fenced, unsettled_mended, unsettled_none, Later, gathered_covers, before_unsettled, pay_or_touch, unsettled_refenced}
 use Rattle.fence_law.proofs.Chosen.{Late_ack, at_acks}
 use Rattle.fence_law.proofs.Held.{read_over, at_added, ct_added, ct_performs}
 
@@ -75,7 +76,7 @@ bw_acks b c j a code u run f kd dead late lt h i x low al r sv cur =
       | inr w ↦ inr (w.0, grind (arith, updated_read b.call c Idle w.0, w.1), w.2)
     ]))
 
-pub keep_before_whole : (b : State) (e : Event) → Allowed b e → IsCode b.layout → Tags b → Formed b → Holds b → Calls b → Running b → Known b → Unacked b → Known_done b → Dead b → Late_ack b → Mending b → Eras b → Later b →
+pub keep_before_whole : (b : State) (e : Event) → Allowed b e → IsCode b.layout → Tags b → Formed b → Holds b → Calls b → Running b → Known b → Unacked b → Known_done b → Dead b → Late_ack b → Mending b → Open_granted b → Later b →
     ((c : ℕ) (g : Grant) → b.held c ≡ Some g → (b.call c ≡ Idle) ⊎ ((i : ℕ) × (b.call c ≡ Reads i)) → (g.tag == b.tag) ≡ true → (x : ℕ) → g.covers x ≡ true → WholeAt b b.count x) →
     Gone_lost b → Before_whole b → Before_whole (after b e)
 keep_before_whole b (Reports c g) a code t f o r run n u kd dead late m q lt now gl h = bw_call b c Idle (λ j e. cc) h

@@ -1,19 +1,20 @@
 -- Kept: an acknowledged write's bytes count, an unsettled one's don't yet, and a settled one's that was performed whole do.
 -- Which bytes count changes at an acknowledgement and at a repair's end alone.
-use Rattle.std.proofs.Common.{◌≡◌, ℕ, ◌+◌, ◌<◌, ◌≤◌, Bool, true, false, not, Some, None, ◌⊎◌, refl, sym, ap, ◌∙◌, inl, inr, arith}
+use Rattle.std.proofs.Common.{◌≡◌, ℕ, ◌<◌, ◌≤◌, Bool, true, false, not, Some, None, ◌⊎◌, refl, sym, ap, ◌∙◌, inl, inr, arith}
 use Rattle.std.proofs.lemmas.Bool.{and_right, and_parts, not-true, cases_Bool, eqb-true, cases_eq, true≢false}
 use Rattle.fence_law.specs.Words.{updated, over}
-use Rattle.fence_law.specs.Machine.{State, Event, Allowed, after, Start, written_start, read_start, repair_start, rebuilt_start, ended}
-use Rattle.fence_law.specs.Machine.Event.{Fenced, Refenced, StartsWrite, StartsRead, Acknowledges, Repairs, Repaired, Rebuilds}
+use Rattle.fence_law.specs.State.{State, Event, Start}
+use Rattle.fence_law.specs.Machine.{Allowed, after, written_start, read_start, repair_start, rebuilt_start, ended}
+use Rattle.fence_law.specs.State.Event.{Fenced, Refenced, StartsWrite, StartsRead, Acknowledges, Repairs, Repaired, Rebuilds}
 use Rattle.fence_law.specs.Law.{byte_before, IsCode}
 use Rattle.fence_law.proofs.Words.{updated_at, updated_other, updated_read}
 use Rattle.fence_law.proofs.Commands.{Calls}
 use Rattle.fence_law.proofs.Chains.{chain_cares}
 use Rattle.fence_law.proofs.Formed.{added, Mending, Formed, Running}
 use Rattle.fence_law.proofs.Open.{Dead}
-use Rattle.fence_law.proofs.Live.{Eras}
+use Rattle.fence_law.proofs.Live.{Open_granted}
 use Rattle.fence_law.proofs.Acked.{Full, Known_done, acks_full, option_cases}
-use Rattle.fence_law.proofs.Later.{Unsettled, unsettled_added, unsettled_acks, unsettled_fenced, unsettled_mended, byte_or_touch, unsettled_refenced, refenced_unsettled}
+use Rattle.fence_law.proofs.Later.{Unsettled, unsettled_added, unsettled_acks, unsettled_fenced, unsettled_mended, byte_or_touch, unsettled_refenced}
 
 -- a write that was settled by the end of an earlier repair
 abbrev pub Old : State → ℕ → Type 0
@@ -75,7 +76,7 @@ co_added b s row h j p o = elim (unsettled_added b s row j o) [
   | inr w ↦ rw (updated_other b.chosen b.count (λ q. false) j w.0) (h j p w.1)
 ]
 
-pub keep_chosen_open : (b : State) (e : Event) → Allowed b e → Formed b → Mending b → Eras b → Chosen_open b → Chosen_open (after b e)
+pub keep_chosen_open : (b : State) (e : Event) → Allowed b e → Formed b → Mending b → Open_granted b → Chosen_open b → Chosen_open (after b e)
 keep_chosen_open b (StartsWrite c g i d touch hit seen e1 pt) a f n q h = co_added b (written_start b c g d touch hit seen e1 pt) (λ k z. false) h
 keep_chosen_open b (StartsRead c g lo hi reach) a f n q h = co_added b (read_start b c g lo hi reach) (λ k z. false) h
 keep_chosen_open b (Repairs k which e0) a f n q h = co_added b (repair_start b k which e0) (λ f y. updated (λ w. false) k true f) h

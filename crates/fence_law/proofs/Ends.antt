@@ -1,9 +1,10 @@
 -- The repair's end: what it found is what the log leaves from then on, in columns that are done and in those that are left. Calm is used for the latter.
-use Rattle.std.proofs.Common.{◌≡◌, ℕ, ◌+◌, ◌<◌, Bool, true, false, not, cond, ◌&&◌, ◌==◌, Some, ◌⊎◌, refl, sym, ap, ◌∙◌, inl, inr, arith}
-use Rattle.std.proofs.lemmas.Bool.{and_parts, and_from, false_from_ne_true, cases_Bool, eqb-true, eq-eqb, cases_eq, true≢false}
+use Rattle.std.proofs.Common.{◌≡◌, ℕ, ◌<◌, Bool, true, false, not, cond, ◌&&◌, ◌==◌, Some, ◌⊎◌, refl, sym, ap, ◌∙◌, inl, inr, arith}
+use Rattle.std.proofs.lemmas.Bool.{and_parts, and_from, cases_Bool, eqb-true, eq-eqb, cases_eq, true≢false}
 use Rattle.fence_law.specs.Words.{updated, over}
-use Rattle.fence_law.specs.Machine.{State, Event, Allowed, after, Start, written_start, read_start, repair_start, rebuilt_start, is_byte, ended, overlaid, IsCalm}
-use Rattle.fence_law.specs.Machine.Event.{Grants, Fenced, Refenced, StartsWrite, StartsRead, Performs, Acknowledges, Repairs, Repaired, Rebuilds, Loses}
+use Rattle.fence_law.specs.State.{State, Event, Start}
+use Rattle.fence_law.specs.Machine.{Allowed, after, written_start, read_start, repair_start, rebuilt_start, is_byte, ended, overlaid, IsCalm}
+use Rattle.fence_law.specs.State.Event.{Grants, Fenced, Refenced, StartsWrite, StartsRead, Performs, Acknowledges, Repairs, Repaired, Rebuilds, Loses}
 use Rattle.fence_law.specs.Law.{byte_before, cell_before, IsCode}
 use Rattle.fence_law.proofs.Words.{up_off, updated_at, updated_other}
 use Rattle.fence_law.proofs.Parts.{pf_row}
@@ -12,9 +13,9 @@ use Rattle.fence_law.proofs.Commands.{Calls}
 use Rattle.fence_law.proofs.Chains.{chain_same}
 use Rattle.fence_law.proofs.Formed.{Gone_lost, not_gone, or_off, added, Mending, Formed, Running}
 use Rattle.fence_law.proofs.Open.{Dead, Known, Unacked, fresh_open, now_fresh}
-use Rattle.fence_law.proofs.Live.{Eras}
+use Rattle.fence_law.proofs.Live.{Open_granted}
 use Rattle.fence_law.proofs.Acked.{Known_done}
-use Rattle.fence_law.proofs.Later.{Unsettled, none_open, Later, Unserved, unsettled_refenced, refenced_unsettled}
+use Rattle.fence_law.proofs.Later.{Unsettled, none_open, Later, Unserved, refenced_unsettled}
 use Rattle.fence_law.proofs.Chosen.{Old, Chosen_open, Late_ack, ended_unsettled}
 use Rattle.fence_law.proofs.Held.{ct_new, Cells}
 use Rattle.fence_law.proofs.Sound.{Sound}
@@ -29,7 +30,7 @@ cond_not : (w : Bool) (x y : Bool) → w ≡ false → cond w x y ≡ y
 cond_not w x y e = rw e refl
 
 -- of a column that was repaired the log leaves what the repair found
-pub end_done : (b : State) (done : ℕ → Bool) (e0 : ℕ → ℕ) (q : ℕ) → Allowed b (Repaired done e0) → done (b.layout.col q) ≡ true → Gone_lost b → IsCode b.layout → Formed b → Dead b → Later b → Mending b → Eras b → Chosen_open b → Cells b → Mixed b →
+pub end_done : (b : State) (done : ℕ → Bool) (e0 : ℕ → ℕ) (q : ℕ) → Allowed b (Repaired done e0) → done (b.layout.col q) ≡ true → Gone_lost b → IsCode b.layout → Formed b → Dead b → Later b → Mending b → Open_granted b → Chosen_open b → Cells b → Mixed b →
     byte_before (after b (Repaired done e0)) b.count q ≡ e0 q
 end_done b done e0 q a d gl code f dead lt md eras co cells mixed =
     let c = a.copies q d in let law = code.copies c.0 c.1 q c.2 in
@@ -76,14 +77,14 @@ end_left b done e0 i q d c = chain_same _ _ _ _ i (λ j l. (
 ))
 
 -- where calm holds nothing of an unsettled write was performed in a column with parity that is left
-pub left_calm : (b : State) (done : ℕ → Bool) (e0 : ℕ → ℕ) (j k z v x : ℕ) → Allowed b (Repaired done e0) → IsCalm b → Mended_low b → Mending b → Eras b → Unsettled b j →
+pub left_calm : (b : State) (done : ℕ → Bool) (e0 : ℕ → ℕ) (j k z v x : ℕ) → Allowed b (Repaired done e0) → IsCalm b → Mended_low b → Mending b → Open_granted b → Unsettled b j →
     (b.start j).content k z ≡ Some v → b.layout.cell_col k z ≡ x → b.layout.is_cell k z ≡ true → b.applied j k z ≡ true → done x ≡ false → b.layout.coded x ≡ true → ⊥
 left_calm b done e0 j k z v x a calm ml m q u content here is on d coded = elim u.4 [
   | inl same ↦ none_open b j a.runs m q (u.0, u.1, u.2, u.3, same)
   | inr old ↦ calm x coded (j, k, z, v, ml.opened j x u, u.0, u.1, u.3, content, here, is, on, grind (arith, old.1, m.low a.runs)) (a.left x d)
 ]
 
-mixed_mended : (b : State) (done : ℕ → Bool) (e0 : ℕ → ℕ) → Allowed b (Repaired done e0) → IsCalm b → Gone_lost b → IsCode b.layout → Formed b → Dead b → Later b → Mending b → Eras b → Chosen_open b → Cells b → Mended_low b → Mixed b → Mixed (after b (Repaired done e0))
+mixed_mended : (b : State) (done : ℕ → Bool) (e0 : ℕ → ℕ) → Allowed b (Repaired done e0) → IsCalm b → Gone_lost b → IsCode b.layout → Formed b → Dead b → Later b → Mending b → Open_granted b → Chosen_open b → Cells b → Mended_low b → Mixed b → Mixed (after b (Repaired done e0))
 mixed_mended b done e0 a calm gl code f dead lt m q co cells ml h k z p c l = let law = code.copies k z p c in elim (cases_Bool (done (b.layout.col p))) [
   | inl d ↦ inl (sym (cells k z (not_gone b k gl l)) ∙ a.right (b.layout.col p) d k z law.0 law.1 l ∙ law.2 e0 ∙ sym (end_done b done e0 p a d gl code f dead lt m q co cells h))
   | inr d ↦ elim (cases_Bool (b.layout.coded (b.layout.col p))) [
@@ -95,7 +96,7 @@ mixed_mended b done e0 a calm gl code f dead lt m q co cells ml h k z p c l = le
   ]
 ]
 
-pub keep_mixed : (b : State) (e : Event) → Allowed b e → IsCalm b → IsCode b.layout → Tags b → Formed b → Calls b → Running b → Known b → Unacked b → Known_done b → Dead b → Late_ack b → Mending b → Eras b → Later b → Unserved b → Chosen_open b → Cells b → Sound b → All_word b → Mended_low b →
+pub keep_mixed : (b : State) (e : Event) → Allowed b e → IsCalm b → IsCode b.layout → Tags b → Formed b → Calls b → Running b → Known b → Unacked b → Known_done b → Dead b → Late_ack b → Mending b → Open_granted b → Later b → Unserved b → Chosen_open b → Cells b → Sound b → All_word b → Mended_low b →
     ((k : ℕ) (cells : ℕ → ℕ) → Allowed b (Rebuilds k cells) → (z : ℕ) → b.layout.is_cell k z ≡ true → cells z ≡ b.layout.word k z (byte_before b b.count)) → Gone_lost b → Mixed b → Mixed (after b e)
 keep_mixed b (StartsWrite c g i d touch hit seen e1 pt) a calm code t f r run n u kd dead late m q lt us co cells sound aw ml re gl h = λ k z p c2 l. mixed_added b (written_start b c g d touch hit seen e1 pt) (λ k z. false) k z p (ct_new b (written_start b c g d touch hit seen e1 pt) (λ k z. false) k z) (h k z p c2 l)
 keep_mixed b (StartsRead c g lo hi reach) a calm code t f r run n u kd dead late m q lt us co cells sound aw ml re gl h = λ k z p c2 l. mixed_added b (read_start b c g lo hi reach) (λ k z. false) k z p (ct_new b (read_start b c g lo hi reach) (λ k z. false) k z) (h k z p c2 l)
@@ -124,7 +125,7 @@ late_added b s row new h j p v o full byte1 = elim (cases_eq j b.count) [
       (λ x y u content. sym (ap (λ w. w x y) (updated_other b.applied b.count row j ne)) ∙ full x y u (rw st content)) (rw st at byte1))
 ]
 
-late_mended : (b : State) (done : ℕ → Bool) (e0 : ℕ → ℕ) → Allowed b (Repaired done e0) → IsCalm b → Gone_lost b → IsCode b.layout → Formed b → Mending b → Eras b → Cells b → Mended_low b → All_word b → Late_ack b → Late_ack (after b (Repaired done e0))
+late_mended : (b : State) (done : ℕ → Bool) (e0 : ℕ → ℕ) → Allowed b (Repaired done e0) → IsCalm b → Gone_lost b → IsCode b.layout → Formed b → Mending b → Open_granted b → Cells b → Mended_low b → All_word b → Late_ack b → Late_ack (after b (Repaired done e0))
 late_mended b done e0 a calm gl code f m q cells ml aw h j p v o full byte1 = elim (cases_Bool (ended b j)) [
   | inr no_ ↦ cond_not (ended b j) _ _ no_ ∙ h j p v (o.0, o.1, o.2, o.3, o.4, inr (not_ended no_)) full byte1
   | inl yes_ ↦ let u = ended_unsettled b j o.0 a.runs yes_ in let t = (f j o.0).touches p v byte1 in cond_done (ended b j) _ _ yes_ ∙ elim (cases_Bool (done (b.layout.col p))) [
@@ -146,7 +147,7 @@ late_mended b done e0 a calm gl code f m q cells ml aw h j p v o full byte1 = el
       | inr ne ↦ ne
     ]
 
-pub keep_late : (b : State) (e : Event) → Allowed b e → IsCalm b → IsCode b.layout → Tags b → Formed b → Known b → Unacked b → Dead b → Mending b → Eras b → Cells b → Mended_low b → All_word b → Gone_lost b → Late_ack b → Late_ack (after b e)
+pub keep_late : (b : State) (e : Event) → Allowed b e → IsCalm b → IsCode b.layout → Tags b → Formed b → Known b → Unacked b → Dead b → Mending b → Open_granted b → Cells b → Mended_low b → All_word b → Gone_lost b → Late_ack b → Late_ack (after b e)
 keep_late b (StartsWrite c g i d touch hit seen e1 pt) a calm code t f n u dead m q cells ml aw gl h = late_added b (written_start b c g d touch hit seen e1 pt) (λ k z. false) (λ w al. eqb-true g.tag b.tag al) h
 keep_late b (StartsRead c g lo hi reach) a calm code t f n u dead m q cells ml aw gl h = late_added b (read_start b c g lo hi reach) (λ k z. false) (λ w. absurd (true≢false (sym w))) h
 keep_late b (Repairs k which e0) a calm code t f n u dead m q cells ml aw gl h = late_added b (repair_start b k which e0) (λ f y. updated (λ w. false) k true f) (λ w. absurd (true≢false (sym w))) h

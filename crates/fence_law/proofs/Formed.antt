@@ -1,11 +1,12 @@
--- Kept: what is fixed of an entry at its start agrees with the layout and the tags; what is gone is lost; no grant is outstanding while a repair runs.
+-- Kept: what is fixed of an entry at its start agrees with the layout and the tags; what is gone is lost; no grant is outstanding while a repair runs, and the tag that it settles is old.
 -- The guards of the starts say it, and later events change no entry's start.
 use Rattle.std.proofs.Common.{◌≡◌, ℕ, ◌+◌, ◌<◌, ◌≤◌, Bool, true, false, ◌||◌, ◌==◌, Some, None, ◌⊎◌, refl, sym, ◌∙◌, inl, inr, arith}
 use Rattle.std.proofs.lemmas.Bool.{false_from_ne_true, eqb-false, true≢false}
 use Rattle.fence_law.specs.Words.{updated}
-use Rattle.fence_law.specs.Machine.{State, Event, Allowed, after, Grant, Call, Start, granted, written_start, read_start, repair_start, rebuilt_start, spans, overlaid, only}
-use Rattle.fence_law.specs.Machine.Call.{Idle, Writes, Reads, Broken}
-use Rattle.fence_law.specs.Machine.Event.{Grants, Reports, Forgets, Frees, Fences, Fenced, Refenced, StartsWrite, StartsRead, Acknowledges, Breaks, Answers, EndsRead, Fails, Drops, Declares, Repairs, Repaired, Rebuilds, TakesRefusal, Loses, Leaves}
+use Rattle.fence_law.specs.State.{State, Event, Grant, Call, Start}
+use Rattle.fence_law.specs.Machine.{Allowed, after, granted, written_start, read_start, repair_start, rebuilt_start, spans, overlaid, only}
+use Rattle.fence_law.specs.State.Call.{Idle, Writes, Reads, Broken}
+use Rattle.fence_law.specs.State.Event.{Grants, Reports, Forgets, Frees, Fenced, Refenced, StartsWrite, StartsRead, Acknowledges, Breaks, Answers, EndsRead, Fails, Drops, Declares, Repairs, Repaired, Rebuilds, TakesRefusal, Loses, Leaves}
 use Rattle.fence_law.specs.Log.{gives}
 use Rattle.fence_law.specs.Law.{byte_before}
 use Rattle.fence_law.specs.Machine.{AreBytes}
@@ -29,7 +30,7 @@ added b s row = record b {
 pub old_low : (b : State) (g : Grant) (c : ℕ) → b.held c ≡ Some g → Holds b → (g.tag == b.tag) ≡ false → g.tag < b.tag
 old_low b g c has o e = grind (arith, o.has c g has, eqb-false g.tag b.tag e)
 
--- no grant is outstanding while a repair runs
+-- no grant is outstanding while a repair runs, and the writes that it settles have a tag below the file's
 abbrev pub Mending : State → Type 0
 Mending b = record { outstanding : (c : ℕ) → b.repairing ≡ true → b.outstanding c ≡ None; low : b.repairing ≡ true → b.ended_tag < b.tag }
 

@@ -1,12 +1,13 @@
 -- Kept: a component that isn't gone holds what the performed writes leave, in order of their start; beside a running read nothing changes what it reaches.
 -- Two writes of one column are never at work together.
 use Rattle.std.proofs.Common.{◌≡◌, ℕ, ◌+◌, ◌<◌, ◌≤◌, Bool, true, false, Some, None, ◌⊎◌, refl, sym, ap, ◌∙◌, inl, inr, arith, ◌==◌}
-use Rattle.std.proofs.lemmas.Bool.{cases_Bool, false_from_ne_true, eq-eqb, ne_eqb, cases_eq, true≢false}
+use Rattle.std.proofs.lemmas.Bool.{cases_Bool, false_from_ne_true, eq-eqb, cases_eq, true≢false}
 use Rattle.fence_law.specs.Words.{updated, over}
 use Rattle.std.proofs.Common.{cond}
-use Rattle.fence_law.specs.Machine.{State, Event, Allowed, after, Write, Call, Start, written_start, read_start, repair_start, rebuilt_start, performed}
-use Rattle.fence_law.specs.Machine.Call.{Idle, Writes, Reads, Broken}
-use Rattle.fence_law.specs.Machine.Event.{Grants, Reports, Forgets, Fenced, Refenced, StartsWrite, StartsRead, Performs, Acknowledges, Breaks, Answers, EndsRead, Repairs, Repaired, Rebuilds, TakesRefusal, Loses, PerformsLost}
+use Rattle.fence_law.specs.State.{State, Event, Write, Call, Start}
+use Rattle.fence_law.specs.Machine.{Allowed, after, written_start, read_start, repair_start, rebuilt_start, performed}
+use Rattle.fence_law.specs.State.Call.{Idle, Writes, Reads, Broken}
+use Rattle.fence_law.specs.State.Event.{Grants, Reports, Forgets, Fenced, Refenced, StartsWrite, StartsRead, Performs, Acknowledges, Breaks, Answers, EndsRead, Repairs, Repaired, Rebuilds, TakesRefusal, Loses, PerformsLost}
 use Rattle.fence_law.specs.Law.{chain, byte_before, cell_before, IsCode}
 use Rattle.fence_law.proofs.Words.{up_off, updated_at, updated_other, updated_read, updated_same}
 use Rattle.fence_law.proofs.Parts.{pf_row, pf_hit, hit_case}
@@ -16,13 +17,13 @@ use Rattle.fence_law.proofs.Commands.{Calls}
 use Rattle.fence_law.proofs.Chains.{chain-next, chain_same, chain_cares, chain_quiet, over_none, over_twice}
 use Rattle.fence_law.proofs.Formed.{Gone_lost, not_gone, or_off, added, Mending, Formed, Running}
 use Rattle.fence_law.proofs.Open.{Dead, Known, Unacked, Open, fresh_open, now_fresh}
-use Rattle.fence_law.proofs.Live.{Eras, Busy}
+use Rattle.fence_law.proofs.Live.{Open_granted, Open_at_work}
 use Rattle.fence_law.proofs.Acked.{Known_done}
-use Rattle.fence_law.proofs.Later.{Unsettled, Later, Unserved, pay_or_touch, cells_end, unsettled_refenced, refenced_unsettled}
+use Rattle.fence_law.proofs.Later.{Unsettled, Later, Unserved, pay_or_touch, cells_end}
 use Rattle.fence_law.proofs.Chosen.{Late_ack, acks_same}
 
 -- no writer is at work beside a read under an outstanding grant
-no_writer : (b : State) (i c j z : ℕ) → Open b i → b.call c ≡ Reads j → (b.start j).tag ≡ b.tag → (b.start i).touch z ≡ true → (b.start j).reach z ≡ true → Holds b → Calls b → Eras b → Busy b → ⊥
+no_writer : (b : State) (i c j z : ℕ) → Open b i → b.call c ≡ Reads j → (b.start j).tag ≡ b.tag → (b.start i).touch z ≡ true → (b.start j).reach z ≡ true → Holds b → Calls b → Open_granted b → Open_at_work b → ⊥
 no_writer b i c j z x run tag t rz o r q y = let u = r.reads c j run in let e = q i x in
     let outstanding : b.outstanding c ≡ Some u.under.0 = grind (arith, o.has c u.under.0 u.under.1, u.under.2, tag) in
     elim (cases_eq (b.start i).client c) [
@@ -38,13 +39,13 @@ abbrev pub Silent : State → ℕ → Type 0
 Silent b i = ((k z : ℕ) → b.applied i k z ≡ false) × ((p : ℕ) → (b.chosen i p ≡ false) ⊎ ((b.start i).data_at p ≡ None))
 
 -- since a read under an outstanding grant nothing counts that started after it and touches what it reaches
-abbrev pub Quiet : State → Type 0
-Quiet b = (c j : ℕ) → b.call c ≡ Reads j → (b.start j).tag ≡ b.tag → (i x : ℕ) → j ≤ i → i < b.count → (b.start j).reach x ≡ true → (b.start i).touch x ≡ true → Silent b i
+abbrev pub Beside_reads : State → Type 0
+Beside_reads b = (c j : ℕ) → b.call c ≡ Reads j → (b.start j).tag ≡ b.tag → (i x : ℕ) → j ≤ i → i < b.count → (b.start j).reach x ≡ true → (b.start i).touch x ≡ true → Silent b i
 
-quiet_call : (b : State) (c : ℕ) (x : Call) → ((j : ℕ) → x ≡ Reads j → ⊥) → Quiet b → Quiet (record b { call = updated b.call c x })
+quiet_call : (b : State) (c : ℕ) (x : Call) → ((j : ℕ) → x ≡ Reads j → ⊥) → Beside_reads b → Beside_reads (record b { call = updated b.call c x })
 quiet_call b c x none h d j run = h d j (grind (arith, updated_read b.call c x d, none j, run))
 
-quiet_old : (b : State) (s : Start) → Calls b → Quiet b → (c j : ℕ) → b.call c ≡ Reads j → (updated b.start b.count s j).tag ≡ b.tag → (i x : ℕ) → j ≤ i → i < b.count + 1 →
+quiet_old : (b : State) (s : Start) → Calls b → Beside_reads b → (c j : ℕ) → b.call c ≡ Reads j → (updated b.start b.count s j).tag ≡ b.tag → (i x : ℕ) → j ≤ i → i < b.count + 1 →
     (updated b.start b.count s j).reach x ≡ true → (updated b.start b.count s i).touch x ≡ true → Silent (added b s (λ k z. false)) i
 quiet_old b s r h c j run tag i x low high rx tx = let u = r.reads c j run in
     let e : updated b.start b.count s j ≡ b.start j = grind (arith, updated_read b.start b.count s j, u.below) in
@@ -55,13 +56,13 @@ quiet_old b s r h c j run tag i x low high rx tx = let u = r.reads c j run in
           (h c j run tag2 i x low (grind (arith, ne, high)) (rw e at rx) (rw (updated_other b.start b.count s i ne) at tx))
     ]
 
-quiet_performs : (b : State) (w : Write) → Open b w.entry → Holds b → Calls b → Eras b → Busy b → Quiet b → Quiet (after b (Performs w))
+quiet_performs : (b : State) (w : Write) → Open b w.entry → Holds b → Calls b → Open_granted b → Open_at_work b → Beside_reads b → Beside_reads (after b (Performs w))
 quiet_performs b w z o r q y h c j run tag i x low high rx tx = elim (cases_eq i w.entry) [
   | inl e ↦ absurd (no_writer b w.entry c j x z run tag (rw e at tx) rx o r q y)
   | inr ne ↦ rw (pf_row b w i ne) (h c j run tag i x low high rx tx)
 ]
 
-quiet_acks : (b : State) (c0 j0 : ℕ) → Allowed b (Acknowledges c0 j0) → IsCode b.layout → Calls b → Running b → Formed b → Known_done b → Dead b → Late_ack b → Holds b → Mending b → Eras b → Busy b → Quiet b → Quiet (record b { acknowledged = updated b.acknowledged j0 true; chosen = updated b.chosen j0 (λ p. true) })
+quiet_acks : (b : State) (c0 j0 : ℕ) → Allowed b (Acknowledges c0 j0) → IsCode b.layout → Calls b → Running b → Formed b → Known_done b → Dead b → Late_ack b → Holds b → Mending b → Open_granted b → Open_at_work b → Beside_reads b → Beside_reads (record b { acknowledged = updated b.acknowledged j0 true; chosen = updated b.chosen j0 (λ p. true) })
 quiet_acks b c0 j0 a code r run f kd dead late o m q y h c j go tag i x low high rx tx = let old = h c j go tag i x low high rx tx in
     elim (cases_eq i j0) [
       | inr ne ↦ rw (updated_other b.chosen j0 (λ p. true) i ne) old
@@ -75,36 +76,36 @@ quiet_acks b c0 j0 a code r run f kd dead late o m q y h c j go tag i x low high
           )
     ]
 
-pub keep_quiet : (b : State) (e : Event) → Allowed b e → IsCode b.layout → Tags b → Formed b → Holds b → Calls b → Running b → Known b → Known_done b → Dead b → Unacked b → Mending b → Eras b → Busy b → Late_ack b → Quiet b → Quiet (after b e)
-keep_quiet b (Reports c g) a code t f o r run n kd d u m q y late h = quiet_call b c Idle (λ j e. cc) h
-keep_quiet b (Forgets c) a code t f o r run n kd d u m q y late h = quiet_call b c Idle (λ j e. cc) h
-keep_quiet b (TakesRefusal c j0) a code t f o r run n kd d u m q y late h = quiet_call b c Idle (λ j e. cc) h
-keep_quiet b (StartsWrite c g i0 d0 touch hit seen e1 pt) a code t f o r run n kd d u m q y late h = λ e j go tag i x low high rx tx.
+pub keep_beside_reads : (b : State) (e : Event) → Allowed b e → IsCode b.layout → Tags b → Formed b → Holds b → Calls b → Running b → Known b → Known_done b → Dead b → Unacked b → Mending b → Open_granted b → Open_at_work b → Late_ack b → Beside_reads b → Beside_reads (after b e)
+keep_beside_reads b (Reports c g) a code t f o r run n kd d u m q y late h = quiet_call b c Idle (λ j e. cc) h
+keep_beside_reads b (Forgets c) a code t f o r run n kd d u m q y late h = quiet_call b c Idle (λ j e. cc) h
+keep_beside_reads b (TakesRefusal c j0) a code t f o r run n kd d u m q y late h = quiet_call b c Idle (λ j e. cc) h
+keep_beside_reads b (StartsWrite c g i0 d0 touch hit seen e1 pt) a code t f o r run n kd d u m q y late h = λ e j go tag i x low high rx tx.
     elim (updated_read b.call c (Writes b.count) e).1 [
       | inl w ↦ let z : Writes b.count ≡ Reads j = sym w.1 ∙ go in absurd (cc z)
       | inr w ↦ quiet_old b (written_start b c g d0 touch hit seen e1 pt) r h e j (sym w.1 ∙ go) tag i x low high rx tx
     ]
-keep_quiet b (StartsRead c g lo hi reach) a code t f o r run n kd d u m q y late h = λ e j go tag i x low high rx tx.
+keep_beside_reads b (StartsRead c g lo hi reach) a code t f o r run n kd d u m q y late h = λ e j go tag i x low high rx tx.
     elim (updated_read b.call c (Reads b.count) e).1 [
       | inl w ↦ let z : Reads b.count ≡ Reads j = sym w.1 ∙ go in let same : i ≡ b.count = grind (arith, z, low, high) in
           (λ k z. ap (λ y. y k z) (updated_at b.applied b.count (λ k z. false) i same), λ p. inl (ap (λ y. y p) (updated_at b.chosen b.count (λ p. false) i same)))
       | inr w ↦ quiet_old b (read_start b c g lo hi reach) r h e j (sym w.1 ∙ go) tag i x low high rx tx
     ]
-keep_quiet b (Repairs k which e0) a code t f o r run n kd d u m q y late h = λ c j go tag i x low high rx tx. let v = r.reads c j go in
+keep_beside_reads b (Repairs k which e0) a code t f o r run n kd d u m q y late h = λ c j go tag i x low high rx tx. let v = r.reads c j go in
     let e : updated b.start b.count (repair_start b k which e0) j ≡ b.start j = grind (arith, updated_read b.start b.count (repair_start b k which e0) j, v.below) in
     absurd (true≢false (sym a.at_work ∙ read_over b c j go (rw e at tag) o r m))
-keep_quiet b (Rebuilds k cells) a code t f o r run n kd d u m q y late h = λ c j go tag i x low high rx tx. let v = r.reads c j go in
+keep_beside_reads b (Rebuilds k cells) a code t f o r run n kd d u m q y late h = λ c j go tag i x low high rx tx. let v = r.reads c j go in
     let e : updated b.start b.count (rebuilt_start b k cells) j ≡ b.start j = grind (arith, updated_read b.start b.count (rebuilt_start b k cells) j, v.below) in
     let tag2 : (b.start j).tag ≡ b.tag = rw e at tag in absurd (grind (arith, o.has c v.under.0 v.under.1, v.under.2, tag2, a.none c))
-keep_quiet b (Acknowledges c j) a code t f o r run n kd d u m q y late h = quiet_call (record b { acknowledged = updated b.acknowledged j true; chosen = updated b.chosen j (λ p. true) }) c Idle (λ j e. cc) (quiet_acks b c j a code r run f kd d late o m q y h)
-keep_quiet b (Breaks c j) a code t f o r run n kd d u m q y late h = quiet_call b c Broken (λ j e. cc) h
-keep_quiet b (Answers c j f2) a code t f o r run n kd d u m q y late h = quiet_call b c Idle (λ j e. cc) h
-keep_quiet b (EndsRead c j) a code t f o r run n kd d u m q y late h = quiet_call b c Idle (λ j e. cc) h
-keep_quiet b (Performs w) a code t f o r run n kd d u m q y late h = quiet_performs b w (fresh_open b w a.comes (now_fresh b w a t f n) n d u) o r q y h
-keep_quiet b (Repaired done e0) a code t f o r run n kd d u m q y late h = λ c j go tag i x low high rx tx. absurd (true≢false (sym a.runs ∙ read_over b c j go tag o r m))
-keep_quiet b Fenced a code t f o r run n kd d u m q y late h = λ c j go tag i x low high rx tx. let v = r.reads c j go in absurd (grind (arith, o.has c v.under.0 v.under.1, v.under.2, tag))
-keep_quiet b Refenced a code t f o r run n kd d u m q y late h = λ c j go tag i x low high rx tx. let v = r.reads c j go in absurd (grind (arith, o.has c v.under.0 v.under.1, v.under.2, tag))
-keep_quiet b e a code t f o r run n kd d u m q y late h = h
+keep_beside_reads b (Acknowledges c j) a code t f o r run n kd d u m q y late h = quiet_call (record b { acknowledged = updated b.acknowledged j true; chosen = updated b.chosen j (λ p. true) }) c Idle (λ j e. cc) (quiet_acks b c j a code r run f kd d late o m q y h)
+keep_beside_reads b (Breaks c j) a code t f o r run n kd d u m q y late h = quiet_call b c Broken (λ j e. cc) h
+keep_beside_reads b (Answers c j f2) a code t f o r run n kd d u m q y late h = quiet_call b c Idle (λ j e. cc) h
+keep_beside_reads b (EndsRead c j) a code t f o r run n kd d u m q y late h = quiet_call b c Idle (λ j e. cc) h
+keep_beside_reads b (Performs w) a code t f o r run n kd d u m q y late h = quiet_performs b w (fresh_open b w a.comes (now_fresh b w a t f n) n d u) o r q y h
+keep_beside_reads b (Repaired done e0) a code t f o r run n kd d u m q y late h = λ c j go tag i x low high rx tx. absurd (true≢false (sym a.runs ∙ read_over b c j go tag o r m))
+keep_beside_reads b Fenced a code t f o r run n kd d u m q y late h = λ c j go tag i x low high rx tx. let v = r.reads c j go in absurd (grind (arith, o.has c v.under.0 v.under.1, v.under.2, tag))
+keep_beside_reads b Refenced a code t f o r run n kd d u m q y late h = λ c j go tag i x low high rx tx. let v = r.reads c j go in absurd (grind (arith, o.has c v.under.0 v.under.1, v.under.2, tag))
+keep_beside_reads b e a code t f o r run n kd d u m q y late h = h
 
 -- a new entry changes nothing before it
 pub at_added : (b : State) (s : Start) (row : ℕ → ℕ → Bool) (i q : ℕ) → i ≤ b.count → byte_before (added b s row) i q ≡ byte_before b i q

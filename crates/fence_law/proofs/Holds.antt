@@ -2,9 +2,10 @@
 -- The server grants only where that client has none and nothing conflicts; a fence lifts the tag as it empties the table.
 use Rattle.std.proofs.Common.{◌≡◌, ℕ, ◌+◌, ◌<◌, Bool, true, false, ◌||◌, Option, Some, None, ◌⊎◌, arith}
 use Rattle.fence_law.specs.Words.{updated, In}
-use Rattle.fence_law.specs.Machine.{State, Event, Allowed, after, RequestKind, Grant, granted}
-use Rattle.fence_law.specs.Machine.RequestKind.{Get, Return}
-use Rattle.fence_law.specs.Machine.Event.{Asks, Grants, Refuses, Takes, AsksOther, ServesOther, GivesBack, Reports, Forgets, Frees, Fenced, Refenced, TakesRefusal, Leaves}
+use Rattle.fence_law.specs.State.{State, Event, RequestKind, Grant}
+use Rattle.fence_law.specs.Machine.{Allowed, after, granted}
+use Rattle.fence_law.specs.State.RequestKind.{Get, Return}
+use Rattle.fence_law.specs.State.Event.{Asks, Grants, Refuses, Takes, AsksOther, ServesOther, GivesBack, Reports, Forgets, Frees, Fenced, Refenced, TakesRefusal, Leaves}
 use Rattle.fence_law.proofs.Words.{updated_read}
 use Rattle.fence_law.proofs.Slots.{Slots}
 
@@ -17,7 +18,7 @@ Holds b = record {
   waits : (c : ℕ) → b.waiting c ≡ true → b.held c ≡ None;
   has : (c : ℕ) (g : Grant) → b.held c ≡ Some g → Good b.tag b.next b.outstanding c g;
   comes : (c : ℕ) (g : Grant) → b.waiting c ≡ true → b.slot c ≡ b.sequence c → b.kept_grant c ≡ Some g → Good b.tag b.next b.outstanding c g;
-  eras : (c : ℕ) (g : Grant) → b.outstanding c ≡ Some g → (g.tag ≡ b.tag) × (g.number < b.next);
+  stands : (c : ℕ) (g : Grant) → b.outstanding c ≡ Some g → (g.tag ≡ b.tag) × (g.number < b.next);
   apart : (c d : ℕ) (g h : Grant) → (c ≡ d → ⊥) → b.outstanding c ≡ Some g → b.outstanding d ≡ Some h → (x : ℕ) → g.covers x ≡ true → h.covers x ≡ true → (g.rw || h.rw) ≡ false;
 }
 
@@ -38,7 +39,7 @@ keep_asks b c rw a s h = record {
   waits = λ d w. grind (arith, updated_read b.waiting c true d, h.waits d, a.none);
   has = h.has;
   comes = λ d g w e k. grind (arith, updated_read b.waiting c true d, updated_read b.sequence c (b.sequence c + 1) d, s.near d, h.comes d g);
-  eras = h.eras;
+  stands = h.stands;
   apart = h.apart;
 }
 
@@ -47,7 +48,7 @@ keep_grants b c number rw range extending a s h = let now = served_now b c (Get 
   waits = h.waits;
   has = λ d g e. grind (arith, updated_read b.outstanding c (Some (granted b c number rw range extending)) d, h.has d g, h.waits c, now);
   comes = λ d g w e k. grind (arith, updated_read b.slot c (b.slot c + 1) d, updated_read b.kept_grant c (Some (granted b c number rw range extending)) d, updated_read b.outstanding c (Some (granted b c number rw range extending)) d, h.comes d g);
-  eras = λ d g e. grind (arith, updated_read b.outstanding c (Some (granted b c number rw range extending)) d, h.eras d g);
+  stands = λ d g e. grind (arith, updated_read b.outstanding c (Some (granted b c number rw range extending)) d, h.stands d g);
   apart = λ d f g k ne x y z p q. grind (arith, updated_read b.outstanding c (Some (granted b c number rw range extending)) d, updated_read b.outstanding c (Some (granted b c number rw range extending)) f, λ (u : b.outstanding d ≡ Some g) (v : b.outstanding f ≡ Some k). h.apart d f g k ne u v z p q, λ (u : b.outstanding d ≡ Some g). a.apart d g u z, λ (u : b.outstanding f ≡ Some k). a.apart f k u z);
 }
 
@@ -56,7 +57,7 @@ keep_refuses b c kind a s h = record {
   waits = h.waits;
   has = h.has;
   comes = λ d g w e k. grind (arith, updated_read b.slot c (b.slot c + 1) d, updated_read b.kept_grant c None d, h.comes d g);
-  eras = h.eras;
+  stands = h.stands;
   apart = h.apart;
 }
 
@@ -65,7 +66,7 @@ keep_frees b c a s h = let now = served_now b c (Return true) a s in record {
   waits = h.waits;
   has = λ d g e. grind (arith, updated_read b.outstanding c None d, h.has d g, h.waits c, now);
   comes = λ d g w e k. grind (arith, updated_read b.slot c (b.slot c + 1) d, updated_read b.kept_grant c None d, updated_read b.outstanding c None d, h.comes d g);
-  eras = λ d g e. grind (arith, updated_read b.outstanding c None d, h.eras d g);
+  stands = λ d g e. grind (arith, updated_read b.outstanding c None d, h.stands d g);
   apart = λ d f g k ne x y z p q. h.apart d f g k ne (grind (arith, updated_read b.outstanding c None d, x)) (grind (arith, updated_read b.outstanding c None f, y)) z p q;
 }
 
@@ -74,7 +75,7 @@ keep_takes b c o s0 a s h = let now = taken_now b c o s0 a.comes s a.waits in re
   waits = λ d w. grind (arith, updated_read b.waiting c false d, updated_read b.held c o d, h.waits d);
   has = λ d g e. grind (arith, updated_read b.held c o d, h.has d g, h.comes d g, now, a.waits);
   comes = λ d g w e k. grind (arith, updated_read b.waiting c false d, h.comes d g);
-  eras = h.eras;
+  stands = h.stands;
   apart = h.apart;
 }
 
@@ -85,7 +86,7 @@ keep_leaves b c kind free s h = record {
   waits = λ d w. grind (arith, updated_read b.waiting c true d, updated_read b.held c None d, h.waits d);
   has = λ d g e. grind (arith, updated_read b.held c None d, h.has d g);
   comes = λ d g w e k. grind (arith, updated_read b.waiting c true d, updated_read b.sequence c (b.sequence c + 1) d, s.near d, h.comes d g);
-  eras = h.eras;
+  stands = h.stands;
   apart = h.apart;
 }
 
@@ -94,7 +95,7 @@ keep_forgets b c s h = record {
   waits = λ d w. grind (arith, updated_read b.held c None d, h.waits d);
   has = λ d g e. grind (arith, updated_read b.held c None d, h.has d g);
   comes = h.comes;
-  eras = h.eras;
+  stands = h.stands;
   apart = h.apart;
 }
 
@@ -103,16 +104,16 @@ keep_fenced b s h = record {
   waits = h.waits;
   has = λ d g e. grind (arith, h.has d g e);
   comes = λ d g w e k. grind (arith, h.comes d g w e k);
-  eras = λ d g e. grind arith;
+  stands = λ d g e. grind arith;
   apart = λ d f g k ne x y. absurd (cc x);
 }
 
 -- what happens in other files doesn't matter to a client that doesn't wait here
 keep_asks_other : (b : State) (c : ℕ) → Allowed b (AsksOther c) → Holds b → Holds (after b (AsksOther c))
-keep_asks_other b c a h = record { waits = h.waits; has = h.has; comes = λ d g w e k. grind (arith, updated_read b.sequence c (b.sequence c + 1) d, h.comes d g, w, a.free); eras = h.eras; apart = h.apart }
+keep_asks_other b c a h = record { waits = h.waits; has = h.has; comes = λ d g w e k. grind (arith, updated_read b.sequence c (b.sequence c + 1) d, h.comes d g, w, a.free); stands = h.stands; apart = h.apart }
 
 keep_serves_other : (b : State) (c : ℕ) → Allowed b (ServesOther c) → Holds b → Holds (after b (ServesOther c))
-keep_serves_other b c a h = record { waits = h.waits; has = h.has; comes = λ d g w e k. grind (arith, updated_read b.slot c (b.slot c + 1) d, h.comes d g, w, a.free); eras = h.eras; apart = h.apart }
+keep_serves_other b c a h = record { waits = h.waits; has = h.has; comes = λ d g w e k. grind (arith, updated_read b.slot c (b.slot c + 1) d, h.comes d g, w, a.free); stands = h.stands; apart = h.apart }
 
 pub keep_holds : (b : State) (e : Event) → Allowed b e → Slots b → Holds b → Holds (after b e)
 keep_holds b (Asks c rw) a s h = keep_asks b c rw a s h
@@ -128,7 +129,7 @@ keep_holds b (Leaves c g) a s h = record {
   waits = λ d w. grind (arith, updated_read b.held c None d, h.waits d);
   has = λ d f e. grind (arith, updated_read b.held c None d, updated_read b.outstanding c None d, h.has d f, e);
   comes = λ d f w e k. grind (arith, updated_read b.outstanding c None d, h.comes d f w e k, h.waits c, a.has, w);
-  eras = λ d f e. h.eras d f (grind (arith, updated_read b.outstanding c None d, e));
+  stands = λ d f e. h.stands d f (grind (arith, updated_read b.outstanding c None d, e));
   apart = λ d f g2 k ne x y z p q. h.apart d f g2 k ne (grind (arith, updated_read b.outstanding c None d, x)) (grind (arith, updated_read b.outstanding c None f, y)) z p q;
 }
 keep_holds b (AsksOther c) a s h = keep_asks_other b c a h

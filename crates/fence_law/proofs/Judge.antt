@@ -9,9 +9,10 @@ use Rattle.file_log.specs.declared.entry.Entry.{Entry}
 use Rattle.file_log.specs.declared.entry.Entry.TheVariants.{Write, Read}
 use Rattle.file_log.specs.Judge.{Candidates, new_file, byte_for, settled, taken_byte, given, sizes_after, after_entry, Fits, AcceptsFrom, candidates_from, candidates}
 use Rattle.fence_law.specs.Words.{updated, In, over}
-use Rattle.fence_law.specs.Machine.{State, Layout, Event, Allowed, Lawful, after, after_all, new_file_state, Start, written_start, read_start, repair_start, rebuilt_start, Agrees, spans}
-use Rattle.fence_law.specs.Machine.Call.{Reads}
-use Rattle.fence_law.specs.Machine.Event.{StartsWrite, StartsRead, Acknowledges, Answers, Repairs, Repaired, Rebuilds}
+use Rattle.fence_law.specs.State.{State, Layout, Event, Start}
+use Rattle.fence_law.specs.Machine.{Allowed, Lawful, after, after_all, new_file_state, written_start, read_start, repair_start, rebuilt_start, Agrees, spans}
+use Rattle.fence_law.specs.State.Call.{Reads}
+use Rattle.fence_law.specs.State.Event.{StartsWrite, StartsRead, Acknowledges, Answers, Repairs, Repaired, Rebuilds}
 use Rattle.fence_law.specs.Log.{gives, SameAnswer, IsEntry, IsLog}
 use Rattle.fence_law.specs.Law.{byte_before, size_before, IsCode, Calms, IsAudited, IsJudged, IsWhole, reached}
 use Rattle.fence_law.proofs.Words.{updated_at, updated_other, updated_read}
@@ -265,4 +266,4 @@ is_whole m es code l c = let b : State = reached m es in let r = right_end m es 
 
 -- with no repair and no outstanding grant nothing is unsettled
 pub is_audited : IsAudited
-is_audited m es x code l c over none = (is_whole m es code l c).settled x (λ j u t. unsettled_none (reached m es) j over (right_end m es code l c).sure.safe.eras none u)
+is_audited m es x code l c over none = (is_whole m es code l c).settled x (λ j u t. unsettled_none (reached m es) j over (right_end m es code l c).sure.safe.open_granted none u)

@@ -1,19 +1,20 @@
 -- Kept: after an unsettled write no living entry reaches its columns, nor does the server write while its grant is outstanding.
 -- Its grant conflicts with any other on these columns, and a repair runs when no grant is outstanding.
-use Rattle.std.proofs.Common.{◌≡◌, ℕ, ◌+◌, ◌<◌, ◌≤◌, Bool, true, false, ◌==◌, Option, Some, None, ◌⊎◌, refl, sym, ◌∙◌, inl, inr, arith}
+use Rattle.std.proofs.Common.{◌≡◌, ℕ, ◌<◌, ◌≤◌, Bool, true, false, ◌==◌, Option, Some, None, ◌⊎◌, refl, sym, ◌∙◌, inl, inr, arith}
 use Rattle.std.proofs.lemmas.Bool.{false_from_ne_true, cases_Bool, eqb-true, cases_lt, true≢false}
 use Rattle.std.proofs.lemmas.Option.{same_Some}
 use Rattle.fence_law.specs.Words.{updated}
-use Rattle.fence_law.specs.Machine.{State, Event, Allowed, after, Grant, Start, written_start, read_start, repair_start, rebuilt_start}
-use Rattle.fence_law.specs.Machine.Call.{Idle, Reads}
-use Rattle.fence_law.specs.Machine.Event.{Fenced, Refenced, StartsWrite, StartsRead, Acknowledges, Repairs, Repaired, Rebuilds}
+use Rattle.fence_law.specs.State.{State, Event, Grant, Start}
+use Rattle.fence_law.specs.Machine.{Allowed, after, written_start, read_start, repair_start, rebuilt_start}
+use Rattle.fence_law.specs.State.Call.{Idle, Reads}
+use Rattle.fence_law.specs.State.Event.{Fenced, Refenced, StartsWrite, StartsRead, Acknowledges, Repairs, Repaired, Rebuilds}
 use Rattle.fence_law.specs.Law.{IsUnsettled}
 use Rattle.fence_law.proofs.Words.{updated_other, updated_read}
 use Rattle.fence_law.proofs.Holds.{Holds}
 use Rattle.fence_law.proofs.Commands.{Calls}
 use Rattle.fence_law.proofs.Formed.{added, Mending, Formed}
 use Rattle.fence_law.proofs.Open.{Dead, Open, open_added, open_acks, open_fenced}
-use Rattle.fence_law.proofs.Live.{Eras, Busy, busy_free}
+use Rattle.fence_law.proofs.Live.{Open_granted, Open_at_work, busy_free}
 use Rattle.fence_law.proofs.Acked.{option_cases}
 
 abbrev pub Unsettled : State → ℕ → Type 0
@@ -22,10 +23,10 @@ Unsettled b j = IsUnsettled b j
 pub open_unsettled : (b : State) (j : ℕ) → Open b j → Unsettled b j
 open_unsettled b j o = (o.0, o.1, o.2, o.3, inl o.4)
 
-pub none_open : (b : State) (j : ℕ) → b.repairing ≡ true → Mending b → Eras b → Open b j → ⊥
+pub none_open : (b : State) (j : ℕ) → b.repairing ≡ true → Mending b → Open_granted b → Open b j → ⊥
 none_open b j m n q o = let e = q j o in grind (arith, n.outstanding (b.start j).client m, e.1)
 
-pub nobody : (b : State) → Eras b → ((c : ℕ) → b.outstanding c ≡ None) → (j : ℕ) → Open b j → ⊥
+pub nobody : (b : State) → Open_granted b → ((c : ℕ) → b.outstanding c ≡ None) → (j : ℕ) → Open b j → ⊥
 nobody b q none j o = grind (arith, (q j o).1, none (b.start j).client)
 
 pub unsettled_added : (b : State) (s : Start) (row : ℕ → ℕ → Bool) (j : ℕ) → Unsettled (added b s row) j →
@@ -41,20 +42,22 @@ unsettled_acks b i j o = elim (updated_read b.acknowledged i true j).1 [
   | inr w ↦ (w.0, (o.0, o.1, o.2, sym w.1 ∙ o.3, o.4))
 ]
 
+-- a fence that is over unsettles nothing: the writes of the grants that it ends were unsettled before
 pub unsettled_fenced : (b : State) (j : ℕ) → Formed b → Unsettled (after b Fenced) j → Unsettled b j
 unsettled_fenced b j f o = (o.0, o.1, o.2, o.3, inl (grind (arith, (f j o.0).low, o.4)))
 
+-- nor does one that ran again, and it settles nothing: no grant was outstanding, and the tag to be settled stays
 pub unsettled_refenced : (b : State) (j : ℕ) → Formed b → Unsettled (after b Refenced) j → Unsettled b j
 unsettled_refenced b j f o = (o.0, o.1, o.2, o.3, elim o.4 [ inl e ↦ absurd (let l = (f j o.0).low in omega (arith, l, e)) | inr e ↦ inr e ])
 
-pub refenced_unsettled : (b : State) (j : ℕ) → b.repairing ≡ true → Mending b → Eras b → Unsettled b j → Unsettled (after b Refenced) j
+pub refenced_unsettled : (b : State) (j : ℕ) → b.repairing ≡ true → Mending b → Open_granted b → Unsettled b j → Unsettled (after b Refenced) j
 refenced_unsettled b j m n q o = (o.0, o.1, o.2, o.3, elim o.4 [ inl e ↦ absurd (none_open b j m n q (o.0, o.1, o.2, o.3, e)) | inr e ↦ inr e ])
 
-pub unsettled_mended : (b : State) (j : ℕ) → b.repairing ≡ true → Mending b → Eras b → Unsettled (record b { repairing = false }) j → ⊥
+pub unsettled_mended : (b : State) (j : ℕ) → b.repairing ≡ true → Mending b → Open_granted b → Unsettled (record b { repairing = false }) j → ⊥
 unsettled_mended b j m n q o = none_open b j m n q (o.0, o.1, o.2, o.3, grind (arith, o.4))
 
 -- while no grant is outstanding and no repair runs nothing is unsettled
-pub unsettled_none : (b : State) (j : ℕ) → b.repairing ≡ false → Eras b → ((c : ℕ) → b.outstanding c ≡ None) → Unsettled b j → ⊥
+pub unsettled_none : (b : State) (j : ℕ) → b.repairing ≡ false → Open_granted b → ((c : ℕ) → b.outstanding c ≡ None) → Unsettled b j → ⊥
 unsettled_none b j m q none o = nobody b q none j (o.0, o.1, o.2, o.3, grind (arith, o.4, m))
 
 -- after an unsettled write no living entry of a client reaches a column that it touches
@@ -72,7 +75,7 @@ starts_dead b c d g f x has o ne outstanding may fx gx = elim (cases_Bool (g.tag
 ]
 
 -- a client that starts meets no other unsettled write
-pub later_starts : (b : State) (c : ℕ) (g : Grant) → b.held c ≡ Some g → (b.call c ≡ Idle) ⊎ ((i : ℕ) × (b.call c ≡ Reads i)) → Holds b → Mending b → Eras b → Busy b → (j x : ℕ) → Unsettled b j → (b.start j).touch x ≡ true → g.covers x ≡ true → (g.tag == b.tag) ≡ false
+pub later_starts : (b : State) (c : ℕ) (g : Grant) → b.held c ≡ Some g → (b.call c ≡ Idle) ⊎ ((i : ℕ) × (b.call c ≡ Reads i)) → Holds b → Mending b → Open_granted b → Open_at_work b → (j x : ℕ) → Unsettled b j → (b.start j).touch x ≡ true → g.covers x ≡ true → (g.tag == b.tag) ≡ false
 later_starts b c g has free o m q y j x z t gx = elim z.4 [
   | inl e ↦ let op : Open b j = (z.0, z.1, z.2, z.3, e) in let outstanding = q j op in starts_dead b (b.start j).client c g outstanding.0 x has o (busy_free b c j g has free y op) outstanding.1 outstanding.3 (outstanding.4 x t) gx
   | inr e ↦ false_from_ne_true (g.tag == b.tag) (λ on. grind (arith, o.has c g has, eqb-true g.tag b.tag on, m.outstanding c e.0))
@@ -90,7 +93,7 @@ later_added b s row new h j o i x low high t r sv = elim (unsettled_added b s ro
 pub gathered_covers : (b : State) (c : ℕ) (g : Grant) (i : ℕ) (d : ℕ → Option ℕ) (touch : ℕ → Bool) (hit : ℕ → ℕ → Bool) (seen : ℕ → ℕ) (e1 : ℕ) (pt : ℕ → ℕ → ℕ) → Allowed b (StartsWrite c g i d touch hit seen e1 pt) → Calls b → (x : ℕ) → touch x ≡ true → g.covers x ≡ true
 gathered_covers b c g i d touch hit seen e1 pt a r x t = let u = r.reads c i a.gathers in let same : Some u.under.0 ≡ Some g = sym u.under.1 ∙ a.has in rw (same_Some u.under.0 g same) at (u.under.3 x (a.gathered x t))
 
-pub keep_later : (b : State) (e : Event) → Allowed b e → Calls b → Holds b → Formed b → Mending b → Eras b → Busy b → Later b → Later (after b e)
+pub keep_later : (b : State) (e : Event) → Allowed b e → Calls b → Holds b → Formed b → Mending b → Open_granted b → Open_at_work b → Later b → Later (after b e)
 keep_later b (StartsWrite c g i d touch hit seen e1 pt) a r o f n q y h = later_added b (written_start b c g d touch hit seen e1 pt) (λ k z. false) (λ j x z t u sv. later_starts b c g a.has (inr (i, a.gathers)) o n q y j x z t (gathered_covers b c g i d touch hit seen e1 pt a r x u)) h
 keep_later b (StartsRead c g lo hi reach) a r o f n q y h = later_added b (read_start b c g lo hi reach) (λ k z. false) (λ j x z t u sv. later_starts b c g a.has (inl a.idle) o n q y j x z t (a.within x u)) h
 keep_later b (Repairs k which e0) a r o f n q y h = later_added b (repair_start b k which e0) (λ f y. updated (λ w. false) k true f) (λ j x u t r2 sv. absurd (true≢false sv)) h
@@ -110,7 +113,7 @@ unserved_added b s row new h j o i low high = elim (open_added b s row j o) [
   ]
 ]
 
-pub keep_unserved : (b : State) (e : Event) → Allowed b e → Formed b → Mending b → Eras b → Unserved b → Unserved (after b e)
+pub keep_unserved : (b : State) (e : Event) → Allowed b e → Formed b → Mending b → Open_granted b → Unserved b → Unserved (after b e)
 keep_unserved b (StartsWrite c g i d touch hit seen e1 pt) a f n q h = unserved_added b (written_start b c g d touch hit seen e1 pt) (λ k z. false) (inl refl) h
 keep_unserved b (StartsRead c g lo hi reach) a f n q h = unserved_added b (read_start b c g lo hi reach) (λ k z. false) (inl refl) h
 keep_unserved b (Repairs k which e0) a f n q h = unserved_added b (repair_start b k which e0) (λ f y. updated (λ w. false) k true f) (inr (λ j o. none_open b j a.at_work n q o)) h

@@ -4,10 +4,11 @@ use Rattle.std.proofs.Common.{◌≡◌, ℕ, ◌+◌, ◌<◌, ◌≤◌, Bool,
 use Rattle.std.proofs.lemmas.Bool.{cases_eq, true≢false}
 use Rattle.std.proofs.lemmas.Option.{same_Some}
 use Rattle.fence_law.specs.Words.{updated, In}
-use Rattle.fence_law.specs.Machine.{State, Event, Allowed, after, RequestKind, Grant, Call, Start, granted, written_start, read_start, repair_start, rebuilt_start}
-use Rattle.fence_law.specs.Machine.RequestKind.{Get, Return}
-use Rattle.fence_law.specs.Machine.Call.{Idle, Writes, Reads, Broken}
-use Rattle.fence_law.specs.Machine.Event.{Asks, Grants, Refuses, Takes, AsksOther, ServesOther, GivesBack, Reports, Forgets, Frees, Fenced, Refenced, StartsWrite, StartsRead, Acknowledges, Breaks, Answers, EndsRead, Repairs, Rebuilds, TakesRefusal, Leaves}
+use Rattle.fence_law.specs.State.{State, Event, RequestKind, Grant, Call, Start}
+use Rattle.fence_law.specs.Machine.{Allowed, after, granted, written_start, read_start, repair_start, rebuilt_start}
+use Rattle.fence_law.specs.State.RequestKind.{Get, Return}
+use Rattle.fence_law.specs.State.Call.{Idle, Writes, Reads, Broken}
+use Rattle.fence_law.specs.State.Event.{Asks, Grants, Refuses, Takes, AsksOther, ServesOther, GivesBack, Reports, Forgets, Frees, Fenced, Refenced, StartsWrite, StartsRead, Acknowledges, Breaks, Answers, EndsRead, Repairs, Rebuilds, TakesRefusal, Leaves}
 use Rattle.fence_law.proofs.Words.{updated_other, updated_read, updated_same}
 use Rattle.fence_law.proofs.Slots.{Slots}
 use Rattle.fence_law.proofs.Holds.{Holds, taken_now, served_now}
@@ -57,100 +58,100 @@ keep_unused b (Rebuilds k cells) a s r f h = unused_added b (rebuilt_start b k c
 keep_unused b e a s r f h = h
 
 -- the grant of an open write is outstanding, and for writing
-abbrev pub Eras : State → Type 0
-Eras b = (j : ℕ) → Open b j → (g : Grant) × (b.outstanding (b.start j).client ≡ Some g) × (g.number ≡ (b.start j).grant) × (g.rw ≡ true) × ((x : ℕ) → (b.start j).touch x ≡ true → g.covers x ≡ true)
+abbrev pub Open_granted : State → Type 0
+Open_granted b = (j : ℕ) → Open b j → (g : Grant) × (b.outstanding (b.start j).client ≡ Some g) × (g.number ≡ (b.start j).grant) × (g.rw ≡ true) × ((x : ℕ) → (b.start j).touch x ≡ true → g.covers x ≡ true)
 
 -- its client is at it, or has given it up
-abbrev pub Busy : State → Type 0
-Busy b = (j : ℕ) → Open b j → (b.held (b.start j).client ≡ None) ⊎ ((b.call (b.start j).client ≡ Writes j) ⊎ (b.call (b.start j).client ≡ Broken))
+abbrev pub Open_at_work : State → Type 0
+Open_at_work b = (j : ℕ) → Open b j → (b.held (b.start j).client ≡ None) ⊎ ((b.call (b.start j).client ≡ Writes j) ⊎ (b.call (b.start j).client ≡ Broken))
 
 -- and sends no clean return
 abbrev pub Unclean : State → Type 0
 Unclean b = (j : ℕ) → Open b j → b.waiting (b.start j).client ≡ true → b.asked (b.start j).client ≡ Return true → b.slot (b.start j).client ≡ b.sequence (b.start j).client
 
-eras_grants : (b : State) (c number : ℕ) (rw : Bool) (range : ℕ → Bool) (extending : Bool) → Allowed b (Grants c number rw range extending) → Eras b → Eras (after b (Grants c number rw range extending))
+eras_grants : (b : State) (c number : ℕ) (rw : Bool) (range : ℕ → Bool) (extending : Bool) → Allowed b (Grants c number rw range extending) → Open_granted b → Open_granted (after b (Grants c number rw range extending))
 eras_grants b c number rw range extending a h j o = let x = h j o in (x.0, grind (arith, x.1, a.none, updated_read b.outstanding c (Some (granted b c number rw range extending)) (b.start j).client), x.2, x.3, x.4)
 
-eras_frees : (b : State) (c : ℕ) → Allowed b (Frees c) → Slots b → Unclean b → Eras b → Eras (after b (Frees c))
+eras_frees : (b : State) (c : ℕ) → Allowed b (Frees c) → Slots b → Unclean b → Open_granted b → Open_granted (after b (Frees c))
 eras_frees b c a s u h j o = let x = h j o in (x.0, grind (arith, x.1, updated_read b.outstanding c None (b.start j).client, u j o, served_now b c (Return true) a s), x.2, x.3, x.4)
 
-eras_added : (b : State) (s : Start) (row : ℕ → ℕ → Bool) → (s.is_write ≡ true → s.tag ≡ b.tag → (g : Grant) × (b.outstanding s.client ≡ Some g) × (g.number ≡ s.grant) × (g.rw ≡ true) × ((x : ℕ) → s.touch x ≡ true → g.covers x ≡ true)) → Eras b → Eras (added b s row)
+eras_added : (b : State) (s : Start) (row : ℕ → ℕ → Bool) → (s.is_write ≡ true → s.tag ≡ b.tag → (g : Grant) × (b.outstanding s.client ≡ Some g) × (g.number ≡ s.grant) × (g.rw ≡ true) × ((x : ℕ) → s.touch x ≡ true → g.covers x ≡ true)) → Open_granted b → Open_granted (added b s row)
 eras_added b s row new h j o = elim (open_added b s row j o) [
   | inl w ↦ rw (w.0, updated_same b.start b.count s) (new w.1 w.3)
   | inr w ↦ rw (updated_other b.start b.count s j w.0) (h j w.1)
 ]
 
 -- a client that holds a grant and is at no write has no open write
-pub busy_free : (b : State) (c j : ℕ) (g : Grant) → b.held c ≡ Some g → (b.call c ≡ Idle) ⊎ ((i : ℕ) × (b.call c ≡ Reads i)) → Busy b → Open b j → (b.start j).client ≡ c → ⊥
+pub busy_free : (b : State) (c j : ℕ) (g : Grant) → b.held c ≡ Some g → (b.call c ≡ Idle) ⊎ ((i : ℕ) × (b.call c ≡ Reads i)) → Open_at_work b → Open b j → (b.start j).client ≡ c → ⊥
 busy_free b c j g has free h o by = elim free [
   | inl e ↦ grind (arith, h j o, e, has, by)
   | inr e ↦ grind (arith, h j o, e.1, has, by)
 ]
 
-pub keep_eras : (b : State) (e : Event) → Allowed b e → Calls b → Slots b → Holds b → Formed b → Unclean b → Busy b → Eras b → Eras (after b e)
-keep_eras b (Grants c number rw range extending) a r s o f u y h = eras_grants b c number rw range extending a h
-keep_eras b (Leaves c g) a r s o f u y h = λ j op. let x = h j op in (x.0, updated_other b.outstanding c None (b.start j).client (λ e. busy_free b c j g a.has (inl a.idle) y op e) ∙ x.1, x.2, x.3, x.4)
-keep_eras b (Frees c) a r s o f u y h = eras_frees b c a s u h
-keep_eras b Fenced a r s o f u y h = λ j x. absurd (open_fenced b j f x)
-keep_eras b Refenced a r s o f u y h = λ j x. absurd (open_fenced b j f x)
-keep_eras b (StartsWrite c g i d touch hit seen e1 pt) a r s o f u y h = eras_added b (written_start b c g d touch hit seen e1 pt) (λ k z. false)
+pub keep_open_granted : (b : State) (e : Event) → Allowed b e → Calls b → Slots b → Holds b → Formed b → Unclean b → Open_at_work b → Open_granted b → Open_granted (after b e)
+keep_open_granted b (Grants c number rw range extending) a r s o f u y h = eras_grants b c number rw range extending a h
+keep_open_granted b (Leaves c g) a r s o f u y h = λ j op. let x = h j op in (x.0, updated_other b.outstanding c None (b.start j).client (λ e. busy_free b c j g a.has (inl a.idle) y op e) ∙ x.1, x.2, x.3, x.4)
+keep_open_granted b (Frees c) a r s o f u y h = eras_frees b c a s u h
+keep_open_granted b Fenced a r s o f u y h = λ j x. absurd (open_fenced b j f x)
+keep_open_granted b Refenced a r s o f u y h = λ j x. absurd (open_fenced b j f x)
+keep_open_granted b (StartsWrite c g i d touch hit seen e1 pt) a r s o f u y h = eras_added b (written_start b c g d touch hit seen e1 pt) (λ k z. false)
     (λ w t. (g, grind (arith, o.has c g a.has, t), refl, a.may, λ x z. let u2 = r.reads c i a.gathers in let same : Some u2.under.0 ≡ Some g = sym u2.under.1 ∙ a.has in rw (same_Some u2.under.0 g same) at (u2.under.3 x (a.gathered x z)))) h
-keep_eras b (StartsRead c g lo hi reach) a r s o f u y h = eras_added b (read_start b c g lo hi reach) (λ k z. false) (λ w. absurd (true≢false (sym w))) h
-keep_eras b (Repairs k which e0) a r s o f u y h = eras_added b (repair_start b k which e0) (λ f y. updated (λ w. false) k true f) (λ w. absurd (true≢false (sym w))) h
-keep_eras b (Rebuilds k cells) a r s o f u y h = eras_added b (rebuilt_start b k cells) (λ f y. updated (λ w. false) k true f) (λ w. absurd (true≢false (sym w))) h
-keep_eras b (Acknowledges c j) a r s o f u y h = λ i x. h i (open_acks b j i x).1
-keep_eras b e a r s o f u y h = h
+keep_open_granted b (StartsRead c g lo hi reach) a r s o f u y h = eras_added b (read_start b c g lo hi reach) (λ k z. false) (λ w. absurd (true≢false (sym w))) h
+keep_open_granted b (Repairs k which e0) a r s o f u y h = eras_added b (repair_start b k which e0) (λ f y. updated (λ w. false) k true f) (λ w. absurd (true≢false (sym w))) h
+keep_open_granted b (Rebuilds k cells) a r s o f u y h = eras_added b (rebuilt_start b k cells) (λ f y. updated (λ w. false) k true f) (λ w. absurd (true≢false (sym w))) h
+keep_open_granted b (Acknowledges c j) a r s o f u y h = λ i x. h i (open_acks b j i x).1
+keep_open_granted b e a r s o f u y h = h
 
 busy_added_idle : (b : State) (s : Start) (row : ℕ → ℕ → Bool) (c : ℕ) (x : Call) → (s.is_write ≡ true → (s.client ≡ c) × (x ≡ Writes b.count)) →
-    ((j : ℕ) → Open b j → (b.start j).client ≡ c → ⊥) → Busy b → Busy (record (added b s row) { call = updated b.call c x })
+    ((j : ℕ) → Open b j → (b.start j).client ≡ c → ⊥) → Open_at_work b → Open_at_work (record (added b s row) { call = updated b.call c x })
 busy_added_idle b s row c x new free h j o = elim (open_added b s row j o) [
   | inl w ↦ rw (w.0, updated_same b.start b.count s) (inr (inl (rw ((new w.1).0, updated_same b.call c x) ((new w.1).1))))
   | inr w ↦ rw (updated_other b.start b.count s j w.0, updated_other b.call c x (b.start j).client (free j w.1)) (h j w.1)
 ]
 
-busy_added : (b : State) (s : Start) (row : ℕ → ℕ → Bool) → s.is_write ≡ false → Busy b → Busy (added b s row)
+busy_added : (b : State) (s : Start) (row : ℕ → ℕ → Bool) → s.is_write ≡ false → Open_at_work b → Open_at_work (added b s row)
 busy_added b s row no_write h j o = elim (open_added b s row j o) [
   | inl w ↦ absurd (true≢false (sym w.1 ∙ no_write))
   | inr w ↦ rw (updated_other b.start b.count s j w.0) (h j w.1)
 ]
 
-busy_drops : (b : State) (c : ℕ) → Busy b → Busy (record b { held = updated b.held c None })
+busy_drops : (b : State) (c : ℕ) → Open_at_work b → Open_at_work (record b { held = updated b.held c None })
 busy_drops b c h j o = grind (arith, updated_read b.held c None (b.start j).client, h j o)
 
-busy_leaves : (b : State) (c : ℕ) → Busy b → Busy (record b { held = updated b.held c None; call = updated b.call c Idle })
+busy_leaves : (b : State) (c : ℕ) → Open_at_work b → Open_at_work (record b { held = updated b.held c None; call = updated b.call c Idle })
 busy_leaves b c h j o = grind (arith, updated_read b.held c None (b.start j).client, updated_read b.call c Idle (b.start j).client, h j o)
 
-busy_breaks : (b : State) (c : ℕ) → Busy b → Busy (record b { call = updated b.call c Broken })
+busy_breaks : (b : State) (c : ℕ) → Open_at_work b → Open_at_work (record b { call = updated b.call c Broken })
 busy_breaks b c h j o = grind (arith, updated_read b.call c Broken (b.start j).client, h j o)
 
-busy_takes : (b : State) (c : ℕ) (o : Option Grant) (s0 : ℕ) → Allowed b (Takes c o s0) → Slots b → Holds b → Unused b → Eras b → Busy b → Busy (after b (Takes c o s0))
+busy_takes : (b : State) (c : ℕ) (o : Option Grant) (s0 : ℕ) → Allowed b (Takes c o s0) → Slots b → Holds b → Unused b → Open_granted b → Open_at_work b → Open_at_work (after b (Takes c o s0))
 busy_takes b c o s0 a s r u q h j x = let y = q j x in let d : ℕ = (b.start j).client in
     grind (arith, updated_read b.held c o d, h j x, taken_now b c o s0 a.comes s a.waits, r.comes d y.0, u j x.0 x.1 y.0, y, a.waits, r.comes c, u j x.0 x.1)
 
-busy_acks : (b : State) (c i : ℕ) → Allowed b (Acknowledges c i) → Busy b → Busy (after b (Acknowledges c i))
+busy_acks : (b : State) (c i : ℕ) → Allowed b (Acknowledges c i) → Open_at_work b → Open_at_work (after b (Acknowledges c i))
 busy_acks b c i a h j o = let x = open_acks b i j o in grind (arith, updated_read b.call c Idle (b.start j).client, h j x.1, x.0, a.runs)
 
-busy_reads : (b : State) (c i : ℕ) → b.call c ≡ Reads i → Busy b → Busy (record b { call = updated b.call c Idle })
+busy_reads : (b : State) (c i : ℕ) → b.call c ≡ Reads i → Open_at_work b → Open_at_work (record b { call = updated b.call c Idle })
 busy_reads b c i run h j o = grind (arith, updated_read b.call c Idle (b.start j).client, h j o, run)
 
-pub keep_busy : (b : State) (e : Event) → Allowed b e → Slots b → Holds b → Formed b → Unused b → Eras b → Busy b → Busy (after b e)
-keep_busy b (Takes c o s0) a s r f u q h = busy_takes b c o s0 a s r u q h
-keep_busy b (Leaves c g) a s r f u q h = busy_drops b c h
-keep_busy b (GivesBack c g) a s r f u q h = busy_drops b c h
-keep_busy b (Reports c g) a s r f u q h = busy_leaves b c h
-keep_busy b (Forgets c) a s r f u q h = busy_leaves b c h
-keep_busy b (TakesRefusal c j0) a s r f u q h = busy_leaves b c h
-keep_busy b (StartsWrite c g i d touch hit seen e1 pt) a s r f u q h = busy_added_idle b (written_start b c g d touch hit seen e1 pt) (λ k z. false) c (Writes b.count) (λ w. (refl, refl)) (λ j o by. busy_free b c j g a.has (inr (i, a.gathers)) h o by) h
-keep_busy b (StartsRead c g lo hi reach) a s r f u q h = busy_added_idle b (read_start b c g lo hi reach) (λ k z. false) c (Reads b.count) (λ w. absurd (true≢false (sym w))) (λ j o by. busy_free b c j g a.has (inl a.idle) h o by) h
-keep_busy b (Repairs k which e0) a s r f u q h = busy_added b (repair_start b k which e0) (λ f y. updated (λ w. false) k true f) refl h
-keep_busy b (Rebuilds k cells) a s r f u q h = busy_added b (rebuilt_start b k cells) (λ f y. updated (λ w. false) k true f) refl h
-keep_busy b (Acknowledges c j) a s r f u q h = busy_acks b c j a h
-keep_busy b (Breaks c j) a s r f u q h = busy_breaks b c h
-keep_busy b (Answers c j f2) a s r f u q h = busy_reads b c j a.runs h
-keep_busy b (EndsRead c j) a s r f u q h = busy_reads b c j a h
-keep_busy b Fenced a s r f u q h = λ j x. absurd (open_fenced b j f x)
-keep_busy b Refenced a s r f u q h = λ j x. absurd (open_fenced b j f x)
-keep_busy b e a s r f u q h = h
+pub keep_open_at_work : (b : State) (e : Event) → Allowed b e → Slots b → Holds b → Formed b → Unused b → Open_granted b → Open_at_work b → Open_at_work (after b e)
+keep_open_at_work b (Takes c o s0) a s r f u q h = busy_takes b c o s0 a s r u q h
+keep_open_at_work b (Leaves c g) a s r f u q h = busy_drops b c h
+keep_open_at_work b (GivesBack c g) a s r f u q h = busy_drops b c h
+keep_open_at_work b (Reports c g) a s r f u q h = busy_leaves b c h
+keep_open_at_work b (Forgets c) a s r f u q h = busy_leaves b c h
+keep_open_at_work b (TakesRefusal c j0) a s r f u q h = busy_leaves b c h
+keep_open_at_work b (StartsWrite c g i d touch hit seen e1 pt) a s r f u q h = busy_added_idle b (written_start b c g d touch hit seen e1 pt) (λ k z. false) c (Writes b.count) (λ w. (refl, refl)) (λ j o by. busy_free b c j g a.has (inr (i, a.gathers)) h o by) h
+keep_open_at_work b (StartsRead c g lo hi reach) a s r f u q h = busy_added_idle b (read_start b c g lo hi reach) (λ k z. false) c (Reads b.count) (λ w. absurd (true≢false (sym w))) (λ j o by. busy_free b c j g a.has (inl a.idle) h o by) h
+keep_open_at_work b (Repairs k which e0) a s r f u q h = busy_added b (repair_start b k which e0) (λ f y. updated (λ w. false) k true f) refl h
+keep_open_at_work b (Rebuilds k cells) a s r f u q h = busy_added b (rebuilt_start b k cells) (λ f y. updated (λ w. false) k true f) refl h
+keep_open_at_work b (Acknowledges c j) a s r f u q h = busy_acks b c j a h
+keep_open_at_work b (Breaks c j) a s r f u q h = busy_breaks b c h
+keep_open_at_work b (Answers c j f2) a s r f u q h = busy_reads b c j a.runs h
+keep_open_at_work b (EndsRead c j) a s r f u q h = busy_reads b c j a h
+keep_open_at_work b Fenced a s r f u q h = λ j x. absurd (open_fenced b j f x)
+keep_open_at_work b Refenced a s r f u q h = λ j x. absurd (open_fenced b j f x)
+keep_open_at_work b e a s r f u q h = h
 
 unclean_asks : (b : State) (c : ℕ) (kind : RequestKind) → ((kind ≡ Return true) → (j : ℕ) → Open b j → (b.start j).client ≡ c → ⊥) → b.waiting c ≡ false → Unclean b →
     Unclean (record b { sequence = updated b.sequence c (b.sequence c + 1); waiting = updated b.waiting c true; asked = updated b.asked c kind })
@@ -172,7 +173,7 @@ unclean_added b s row free h j o w e = elim (open_added b s row j o) [
   | inr y ↦ rw (updated_other b.start b.count s j y.0) (h j y.1 (rw (updated_other b.start b.count s j y.0) at w) (rw (updated_other b.start b.count s j y.0) at e))
 ]
 
-pub keep_unclean : (b : State) (e : Event) → Allowed b e → Slots b → Holds b → Formed b → Busy b → Unclean b → Unclean (after b e)
+pub keep_unclean : (b : State) (e : Event) → Allowed b e → Slots b → Holds b → Formed b → Open_at_work b → Unclean b → Unclean (after b e)
 keep_unclean b (Asks c rw) a s r f y h = unclean_asks b c (Get rw) (λ e. absurd (cc e)) a.free h
 keep_unclean b (GivesBack c g) a s r f y h = unclean_asks b c (Return true) (λ e j o by. busy_free b c j g a.has (inl a.idle) y o by) a.free h
 keep_unclean b (Reports c g) a s r f y h = unclean_asks b c (Return false) (λ e. absurd (cc e)) a.free h

@@ -1,10 +1,11 @@
 -- Kept: a replica that isn't gone holds what the log leaves, or the byte of an unsettled write.
 -- A repair takes each byte from a replica, so it is old or new, whatever the mixture.
 use Rattle.std.proofs.Common.{◌≡◌, ℕ, ◌+◌, Bool, true, false, ◌&&◌, ◌==◌, Option, Some, None, ◌⊎◌, refl, sym, ap, ◌∙◌, inl, inr, arith}
-use Rattle.std.proofs.lemmas.Bool.{cases_Bool, and_right, eq-eqb, ne_eqb, cases_eq, true≢false}
+use Rattle.std.proofs.lemmas.Bool.{cases_Bool, and_right, eq-eqb, cases_eq, true≢false}
 use Rattle.fence_law.specs.Words.{updated, over}
-use Rattle.fence_law.specs.Machine.{State, Allowed, after, Write, Start, repair_start, rebuilt_start, performed, overlaid, only}
-use Rattle.fence_law.specs.Machine.Event.{Performs, Acknowledges, Repairs, Rebuilds}
+use Rattle.fence_law.specs.State.{State, Write, Start}
+use Rattle.fence_law.specs.Machine.{Allowed, after, repair_start, rebuilt_start, performed, overlaid, only}
+use Rattle.fence_law.specs.State.Event.{Performs, Acknowledges, Repairs, Rebuilds}
 use Rattle.fence_law.specs.Law.{byte_before, cell_before, IsCode}
 use Rattle.fence_law.proofs.Words.{updated_at, updated_other, updated_same}
 use Rattle.fence_law.proofs.Parts.{pf_row, pf_hit, hit_case, pf_grows}
@@ -13,7 +14,7 @@ use Rattle.fence_law.proofs.Chains.{chain-next, chain_cares, chain_quiet, over_n
 use Rattle.fence_law.proofs.Formed.{added, Formed, Running}
 use Rattle.fence_law.proofs.Open.{Dead, Open}
 use Rattle.fence_law.proofs.Acked.{Known_done, acks_here, option_cases}
-use Rattle.fence_law.proofs.Later.{Unsettled, open_unsettled, Later, Unserved, pay_or_touch, bytes_end, unsettled_refenced, refenced_unsettled}
+use Rattle.fence_law.proofs.Later.{Unsettled, open_unsettled, Later, Unserved, pay_or_touch, bytes_end}
 use Rattle.fence_law.proofs.Chosen.{old_apart, three, Chosen_open, Late_ack, acks_same}
 use Rattle.fence_law.proofs.Held.{at_new, ct_new, ct_performs, ct_open, Cells}
 use Rattle.fence_law.proofs.Sound.{Sound}

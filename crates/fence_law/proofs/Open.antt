@@ -1,12 +1,13 @@
 -- Kept: a WRITE on the wire is of its holder's entry and part; one that a drive may still perform (fresh) is awaited, and its entry isn't acknowledged.
 -- A nonce is used once, a drive performs only nonces above the last, and a write is acknowledged only when nothing is awaited.
-use Rattle.std.proofs.Common.{◌≡◌, ℕ, ◌+◌, ◌<◌, ◌≤◌, Bool, true, false, Some, None, ◌⊎◌, sym, ap, ◌∙◌, inl, inr, arith, refl}
+use Rattle.std.proofs.Common.{◌≡◌, ℕ, ◌<◌, ◌≤◌, Bool, true, false, Some, None, ◌⊎◌, sym, ap, ◌∙◌, inl, inr, arith, refl}
 use Rattle.std.proofs.lemmas.Bool.{true_from_ne_false, cases_eq, true≢false}
 use Rattle.fence_law.specs.Words.{updated, In}
-use Rattle.fence_law.specs.Machine.{State, Event, Allowed, after, Grant, Write, WriteReply, Call, PartState, Start, written_start, read_start, repair_start, rebuilt_start}
-use Rattle.fence_law.specs.Machine.Call.{Idle, Writes, Reads, Broken}
-use Rattle.fence_law.specs.Machine.PartState.{NotSent, Sent, Done}
-use Rattle.fence_law.specs.Machine.Event.{Reports, Forgets, Fenced, Refenced, Sends, StartsWrite, StartsRead, Performs, Learns, Acknowledges, Breaks, Answers, EndsRead, Repairs, Rebuilds, TakesRefusal, Loses, Leaves, PerformsLost, Grants, Repaired, Frees}
+use Rattle.fence_law.specs.State.{State, Event, Grant, Write, WriteReply, Call, PartState, Start}
+use Rattle.fence_law.specs.Machine.{Allowed, after, written_start, read_start, repair_start, rebuilt_start}
+use Rattle.fence_law.specs.State.Call.{Idle, Writes, Reads, Broken}
+use Rattle.fence_law.specs.State.PartState.{NotSent, Sent, Done}
+use Rattle.fence_law.specs.State.Event.{Reports, Forgets, Fenced, Refenced, Sends, StartsWrite, StartsRead, Performs, Learns, Acknowledges, Breaks, Answers, EndsRead, Repairs, Rebuilds, TakesRefusal, Loses, Leaves, PerformsLost, Grants, Repaired, Frees}
 use Rattle.fence_law.proofs.Words.{up_off, updated_other, updated_read}
 use Rattle.fence_law.proofs.Tags.{Tags}
 use Rattle.fence_law.proofs.Commands.{Calls}

@@ -1,17 +1,12 @@
 -- The example runs of the file with parity are lawful by computation.
-use Rattle.std.proofs.Common.{◌≡◌, ℕ, zero, suc, ◌+◌, ◌<◌, Bool, true, false, ◌==◌, ◌&&◌, ◌||◌, List, [], ◌∷◌, ◌++◌, Some, None, ◌⊎◌, refl, sym, ap, ◌∙◌, inl, inr, arith}
-use Rattle.std.proofs.lemmas.Bool.Decides.{nat_tests}
-use Rattle.std.proofs.lemmas.Bool.{and_parts, eq-eqb, eqb-true, true≢false}
-use Rattle.std.proofs.lemmas.Option.{same_Some}
-use Rattle.fence_law.specs.Words.{updated, over}
-use Rattle.fence_law.specs.Machine.{State, Event, spans, Lawful, after, after_all, new_file_state, Short, Grant}
-use Rattle.fence_law.specs.Machine.Event.{Fences, SetsTag, Fenced, Refenced, StartsWrite, Sends, Performs, StartsRead, Fails, Drops, Repairs, Rebuilds, Loses}
-use Rattle.fence_law.specs.Machine.{PartState, only}
-use Rattle.fence_law.specs.Machine.PartState.{NotSent, Sent, Done}
-use Rattle.fence_law.specs.Law.{IsCode, Calms}
-use Rattle.fence_law.specs.Runs.{reported, lease, message, always, among, at_first, byte, file, nothing, one_part, first_cells, doubles, doubled, tripled, written_41, stopped, late, cut_off, copied_on, CalmsNow, IsMeantThen, never}
-use Rattle.fence_law.proofs.Words.{updated_at, updated_other, updated_read}
-use Rattle.fence_law.proofs.SmallFiles.{Keeps, AllKeep, keeps_lost, calm_unlost, calms_unlost, lawful_more, doubled_code, two_cases, three_cases, byte_place, lands_first, hits_first, misses_double, at_first_zero, byte_low, sees_double, sees_triple, outs, outs_told, outs_all, four_cells, shown_first, all_keep, tripled_code, misses_plain, same_map, calms_plain, calms_uncoded}
+use Rattle.std.proofs.Common.{ℕ, true, [], ◌∷◌, ◌++◌, refl, ◌∙◌, inl, inr, arith}
+use Rattle.std.proofs.lemmas.Bool.{eq-eqb, true≢false}
+use Rattle.fence_law.specs.Words.{updated}
+use Rattle.fence_law.specs.State.{State}
+use Rattle.fence_law.specs.Machine.{Lawful, after, after_all, new_file_state}
+use Rattle.fence_law.specs.State.Event.{Fences, SetsTag, Fenced, StartsWrite, Sends, Performs, StartsRead, Repairs}
+use Rattle.fence_law.specs.Runs.{lease, message, always, at_first, byte, file, nothing, one_part, first_cells, doubled, written_41, stopped, late, cut_off}
+use Rattle.fence_law.proofs.SmallFiles.{Keeps, AllKeep, two_cases, byte_place, lands_first, hits_first, misses_double, at_first_zero, byte_low, sees_double, outs_told, outs_all, four_cells, shown_first}
 
 pub lawful_41 : Lawful (new_file_state doubled) written_41
 unfolding updated
@@ -382,6 +377,7 @@ lawful_late = (
   ),
 )
 
+-- none of their events loses a component
 pub keep_41 : AllKeep written_41
 unfolding Keeps
 keep_41 = (tt, (tt, (tt, (tt, (tt, (tt, (tt, (tt, (tt, (tt, (tt, (tt, (tt, (tt, (tt, (tt, (tt, (tt, (tt, tt)))))))))))))))))))

@@ -3,8 +3,9 @@
 use Rattle.std.proofs.Common.{◌≡◌, ℕ, zero, suc, ◌+◌, ◌<◌, ◌≤◌, Bool, true, false, cond, Option, Some, None, ◌⊎◌, refl, sym, ap, ◌∙◌, inl, inr, arith}
 use Rattle.std.proofs.lemmas.Bool.{false_from_ne_true, cases_Bool, eqb-true, eq-eqb, cases_eq, true≢false}
 use Rattle.fence_law.specs.Words.{updated, over}
-use Rattle.fence_law.specs.Machine.{State, Event, Allowed, after, Write, Start, written_start, read_start, repair_start, rebuilt_start, is_byte, ended, settled, Stood, Untouched, Short, Gone, IsCalm}
-use Rattle.fence_law.specs.Machine.Event.{Grants, Fenced, Refenced, StartsWrite, StartsRead, Performs, Acknowledges, Repairs, Repaired, Rebuilds, Loses}
+use Rattle.fence_law.specs.State.{State, Event, Write, Start}
+use Rattle.fence_law.specs.Machine.{Allowed, after, written_start, read_start, repair_start, rebuilt_start, is_byte, ended, settled, Stood, Untouched, Short, Gone, IsCalm}
+use Rattle.fence_law.specs.State.Event.{Grants, Fenced, Refenced, StartsWrite, StartsRead, Performs, Acknowledges, Repairs, Repaired, Rebuilds, Loses}
 use Rattle.fence_law.specs.Law.{byte_before, IsCode}
 use Rattle.fence_law.proofs.Words.{up_on, updated_at, updated_other}
 use Rattle.fence_law.proofs.Parts.{pf_row}
@@ -13,7 +14,7 @@ use Rattle.fence_law.proofs.Holds.{Holds}
 use Rattle.fence_law.proofs.Chains.{chain-next, chain_quiet}
 use Rattle.fence_law.proofs.Formed.{Gone_lost, or_on, added, Mending, Formed}
 use Rattle.fence_law.proofs.Open.{Dead, Known, Unacked, Open, fresh_open, now_fresh}
-use Rattle.fence_law.proofs.Live.{Eras}
+use Rattle.fence_law.proofs.Live.{Open_granted}
 use Rattle.fence_law.proofs.Later.{Unsettled, none_open, unsettled_added, unsettled_acks, unsettled_fenced, unsettled_mended, Later, byte_or_touch, pay_or_touch, bytes_end, unsettled_refenced, refenced_unsettled}
 use Rattle.fence_law.proofs.Chosen.{ended_unsettled}
 use Rattle.fence_law.proofs.AllWord.{one_writer}
@@ -32,7 +33,7 @@ cond_low : (w : Bool) (a b n : ℕ) → a ≤ n → b ≤ n → cond w a b ≤ n
 cond_low true a b n h k = h
 cond_low false a b n h k = k
 
-pub keep_mended_low : (b : State) (e : Event) → Allowed b e → Formed b → Mending b → Eras b → Mended_low b → Mended_low (after b e)
+pub keep_mended_low : (b : State) (e : Event) → Allowed b e → Formed b → Mending b → Open_granted b → Mended_low b → Mended_low (after b e)
 keep_mended_low b (StartsWrite c g i d touch hit seen e1 pt) a f m q h = ml_added b (written_start b c g d touch hit seen e1 pt) (λ k z. false) h
 keep_mended_low b (StartsRead c g lo hi reach) a f m q h = ml_added b (read_start b c g lo hi reach) (λ k z. false) h
 keep_mended_low b (Repairs k which e0) a f m q h = ml_added b (repair_start b k which e0) (λ f y. updated (λ w. false) k true f) h
@@ -77,7 +78,7 @@ settled_starts b s row new h j k z v low w a content is l = elim (cases_eq j b.c
       ]
 ]
 
-settled_mended : (b : State) (done : ℕ → Bool) (e0 : ℕ → ℕ) → Allowed b (Repaired done e0) → IsCode b.layout → IsCalm b → Gone_lost b → Mending b → Eras b → Settled b → Settled (after b (Repaired done e0))
+settled_mended : (b : State) (done : ℕ → Bool) (e0 : ℕ → ℕ) → Allowed b (Repaired done e0) → IsCode b.layout → IsCalm b → Gone_lost b → Mending b → Open_granted b → Settled b → Settled (after b (Repaired done e0))
 settled_mended b done e0 a code calm gl m q h j k z v low w ack content is l = let x : ℕ = b.layout.cell_col k z in elim (cases_Bool (done x)) [
   | inl d ↦ absurd (grind (arith, rw d at l, low))
   | inr d ↦ let l2 : b.repaired_at x ≤ j = rw d at l in elim (h j k z v low w ack content is l2) [
@@ -122,7 +123,7 @@ settled_rebuilds b k0 cells a code f h j k z v low w ack content is l = let x : 
     none_some : {o : Option ℕ} (y : ℕ) → o ≡ None → o ≡ Some y → ⊥
     none_some y n s = let e : None ≡ Some y = sym n ∙ s in cc e
 
-pub keep_settled : (b : State) (e : Event) → Allowed b e → IsCalm b → IsCode b.layout → Tags b → Formed b → Holds b → Known b → Unacked b → Dead b → Mending b → Eras b → Gone_lost b → Settled b → Settled (after b e)
+pub keep_settled : (b : State) (e : Event) → Allowed b e → IsCalm b → IsCode b.layout → Tags b → Formed b → Holds b → Known b → Unacked b → Dead b → Mending b → Open_granted b → Gone_lost b → Settled b → Settled (after b e)
 keep_settled b (StartsWrite c g i d touch hit seen e1 pt) a calm code t f o n u dead m q gl h = settled_starts b (written_start b c g d touch hit seen e1 pt) (λ k z. false) (λ w. (λ al. eqb-true g.tag b.tag al, λ k z. refl)) h
 keep_settled b (StartsRead c g lo hi reach) a calm code t f o n u dead m q gl h = settled_starts b (read_start b c g lo hi reach) (λ k z. false) (λ w. absurd (true≢false (sym w))) h
 keep_settled b (Repairs k which e0) a calm code t f o n u dead m q gl h = settled_starts b (repair_start b k which e0) (λ f y. updated (λ w. false) k true f) (λ w. absurd (true≢false (sym w))) h

@@ -3,10 +3,11 @@
 use Rattle.std.proofs.Common.{max, ◌≡◌, ℕ, zero, suc, ◌+◌, ◌<◌, ◌≤◌, Bool, true, false, cond, ◌||◌, ◌==◌, ◌∷◌, Option, Some, None, ◌⊎◌, refl, sym, ap, ◌∙◌, inl, inr, arith, add-one}
 use Rattle.std.proofs.lemmas.Bool.{true_from_ne_false, false_from_ne_true, cases_Bool, eqb-true, cases_eq, cases_lt, true≢false}
 use Rattle.fence_law.specs.Words.{updated, In}
-use Rattle.fence_law.specs.Machine.{Commit, State, Event, Allowed, after, Answer, Grant, Call, Start, granted, written_start, read_start, repair_start, rebuilt_start}
-use Rattle.fence_law.specs.Machine.Commit.{NoCommit, CommitAsked, CommitDone, CommitRefused}
-use Rattle.fence_law.specs.Machine.Call.{Idle, Writes, Reads, Broken}
-use Rattle.fence_law.specs.Machine.Event.{Asks, Grants, Refuses, Takes, AsksOther, ServesOther, GivesBack, Reports, Forgets, Frees, Fenced, Refenced, StartsWrite, StartsRead, Acknowledges, Breaks, Answers, EndsRead, Repairs, Rebuilds, AsksCommit, Commits, RefusesCommit, TakesCommit, TakesRefusal, Leaves, Tells}
+use Rattle.fence_law.specs.State.{Commit, State, Event, Answer, Grant, Call, Start}
+use Rattle.fence_law.specs.Machine.{Allowed, after, granted, written_start, read_start, repair_start, rebuilt_start}
+use Rattle.fence_law.specs.State.Commit.{NoCommit, CommitAsked, CommitDone, CommitRefused}
+use Rattle.fence_law.specs.State.Call.{Idle, Writes, Reads, Broken}
+use Rattle.fence_law.specs.State.Event.{Asks, Grants, Refuses, Takes, AsksOther, ServesOther, GivesBack, Reports, Forgets, Frees, Fenced, Refenced, StartsWrite, StartsRead, Acknowledges, Breaks, Answers, EndsRead, Repairs, Rebuilds, AsksCommit, Commits, RefusesCommit, TakesCommit, TakesRefusal, Leaves, Tells}
 use Rattle.fence_law.specs.Law.{IsCode, grow, size_before}
 use Rattle.fence_law.proofs.Words.{up_on, updated_at, updated_other, updated_read, updated_same}
 use Rattle.fence_law.proofs.Slots.{Slots}
@@ -14,7 +15,7 @@ use Rattle.fence_law.proofs.Holds.{Holds, taken_now}
 use Rattle.fence_law.proofs.Commands.{Calls}
 use Rattle.fence_law.proofs.Formed.{added, Formed, Running}
 use Rattle.fence_law.proofs.Open.{Dead, Open, open_added, open_acks, open_fenced}
-use Rattle.fence_law.proofs.Live.{Eras, Busy, busy_free}
+use Rattle.fence_law.proofs.Live.{Open_granted, Open_at_work, busy_free}
 use Rattle.fence_law.proofs.Acked.{Known_done, acks_full}
 
 -- a commit is of the call that runs
@@ -205,11 +206,11 @@ last_added b s row new h j o g e x i low high sv = elim (open_added b s row j o)
   ]
 ]
 
-last_starts : (b : State) (c : ℕ) (f : Grant) → b.held c ≡ Some f → (b.call c ≡ Idle) ⊎ ((i : ℕ) × (b.call c ≡ Reads i)) → Holds b → Busy b → Alone b → (j : ℕ) → Open b j → (g : Grant) → b.outstanding (b.start j).client ≡ Some g → g.extending ≡ true → (f.tag == b.tag) ≡ false
+last_starts : (b : State) (c : ℕ) (f : Grant) → b.held c ≡ Some f → (b.call c ≡ Idle) ⊎ ((i : ℕ) × (b.call c ≡ Reads i)) → Holds b → Open_at_work b → Alone b → (j : ℕ) → Open b j → (g : Grant) → b.outstanding (b.start j).client ≡ Some g → g.extending ≡ true → (f.tag == b.tag) ≡ false
 last_starts b c f has free o y al j op g e x = false_from_ne_true (f.tag == b.tag) (λ on.
     grind (arith, o.has c f has, eqb-true f.tag b.tag on, al (b.start j).client c g f (busy_free b c j f has free y op) e, x))
 
-pub keep_last : (b : State) (e : Event) → Allowed b e → Formed b → Holds b → Eras b → Busy b → Alone b → Last b → Last (after b e)
+pub keep_last : (b : State) (e : Event) → Allowed b e → Formed b → Holds b → Open_granted b → Open_at_work b → Alone b → Last b → Last (after b e)
 keep_last b (StartsWrite c g i d touch hit seen e1 pt) a f o q y al h = last_added b (written_start b c g d touch hit seen e1 pt) (λ k z. false) (λ sv. last_starts b c g a.has (inr (i, a.gathers)) o y al) h
 keep_last b (StartsRead c g lo hi reach) a f o q y al h = last_added b (read_start b c g lo hi reach) (λ k z. false) (λ sv. last_starts b c g a.has (inl a.idle) o y al) h
 keep_last b (Repairs k which e0) a f o q y al h = last_added b (repair_start b k which e0) (λ f y. updated (λ w. false) k true f) (λ sv. absurd (true≢false sv)) h

@@ -2,9 +2,10 @@
 -- Each request takes the next number, and the server carries out the number after its slot alone.
 use Rattle.std.proofs.Common.{◌≡◌, ℕ, ◌+◌, ◌<◌, ◌≤◌, Bool, true, false, List, ◌∷◌, Option, Some, None, ◌⊎◌, inl, inr, arith}
 use Rattle.fence_law.specs.Words.{updated, In}
-use Rattle.fence_law.specs.Machine.{State, Event, Allowed, after, RequestKind, Request, Answer, Grant, granted}
-use Rattle.fence_law.specs.Machine.RequestKind.{Get, Return}
-use Rattle.fence_law.specs.Machine.Event.{Asks, Grants, Refuses, Takes, AsksOther, ServesOther, TakesOther, GivesBack, Reports, Frees}
+use Rattle.fence_law.specs.State.{State, Event, RequestKind, Request, Answer, Grant}
+use Rattle.fence_law.specs.Machine.{Allowed, after, granted}
+use Rattle.fence_law.specs.State.RequestKind.{Get, Return}
+use Rattle.fence_law.specs.State.Event.{Asks, Grants, Refuses, Takes, AsksOther, ServesOther, TakesOther, GivesBack, Reports, Frees}
 use Rattle.fence_law.proofs.Words.{updated_read}
 
 -- A client's requests are carried out in turn, and it waits for the last.

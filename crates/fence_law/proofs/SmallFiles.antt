@@ -1,16 +1,18 @@
 -- The two small files of the example runs: their codes, and what the steps of their runs need.
-use Rattle.std.proofs.Common.{◌≡◌, ℕ, zero, suc, ◌+◌, ◌<◌, Bool, true, false, ◌==◌, ◌&&◌, ◌||◌, List, [], ◌∷◌, ◌++◌, Some, None, ◌⊎◌, refl, sym, ap, ◌∙◌, inl, inr, arith}
+use Rattle.std.proofs.Common.{◌≡◌, ℕ, zero, suc, ◌+◌, ◌<◌, true, false, ◌==◌, ◌&&◌, List, [], ◌∷◌, ◌++◌, Some, ◌⊎◌, refl, sym, ap, ◌∙◌, inl, inr, arith}
 use Rattle.std.proofs.lemmas.Bool.Decides.{nat_tests}
 use Rattle.std.proofs.lemmas.Bool.{and_parts, eq-eqb, eqb-true, true≢false}
 use Rattle.std.proofs.lemmas.Option.{same_Some}
 use Rattle.fence_law.specs.Words.{updated, over}
-use Rattle.fence_law.specs.Machine.{State, Event, spans, Lawful, after, after_all, new_file_state, Short, Grant}
-use Rattle.fence_law.specs.Machine.Event.{Fences, SetsTag, Fenced, Refenced, StartsWrite, Sends, Performs, StartsRead, Fails, Drops, Repairs, Rebuilds, Loses}
-use Rattle.fence_law.specs.Machine.{PartState, only}
-use Rattle.fence_law.specs.Machine.PartState.{NotSent, Sent, Done}
+use Rattle.fence_law.specs.State.{State, Event}
+use Rattle.fence_law.specs.Machine.{spans, Lawful, after, after_all, Short}
+use Rattle.fence_law.specs.State.Event.{Fenced, Fails, Drops, Rebuilds, Loses}
+use Rattle.fence_law.specs.State.{PartState}
+use Rattle.fence_law.specs.Machine.{only}
+use Rattle.fence_law.specs.State.PartState.{NotSent, Sent, Done}
 use Rattle.fence_law.specs.Law.{IsCode, Calms}
-use Rattle.fence_law.specs.Runs.{reported, lease, message, always, among, at_first, byte, file, nothing, one_part, first_cells, doubles, doubled, tripled, written_41, stopped, late, copied_on, CalmsNow, IsMeantThen, never}
-use Rattle.fence_law.proofs.Words.{updated_at, updated_other, updated_read}
+use Rattle.fence_law.specs.Runs.{among, at_first, byte, file, nothing, first_cells, doubles, doubled, tripled, CalmsNow}
+use Rattle.fence_law.proofs.Words.{updated_other, updated_read}
 
 -- runs without losses are calm
 unfoldable pub Keeps : Event → Type 0

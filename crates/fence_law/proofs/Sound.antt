@@ -4,9 +4,10 @@ use Rattle.std.proofs.Common.{◌≡◌, ℕ, ◌<◌, Bool, true, false, ◌==�
 use Rattle.std.proofs.lemmas.Bool.{true_from_ne_false, eqb-true, cases_eq, true≢false}
 use Rattle.std.proofs.lemmas.Option.{same_Some}
 use Rattle.fence_law.specs.Words.{updated, over}
-use Rattle.fence_law.specs.Machine.{State, Event, Allowed, after, Grant, ReadReply, Call, Start, written_start, read_start, repair_start, rebuilt_start, overlaid, only, payload, Agrees}
-use Rattle.fence_law.specs.Machine.Call.{Idle, Writes, Reads, Broken}
-use Rattle.fence_law.specs.Machine.Event.{Reports, Forgets, StartsWrite, StartsRead, Acknowledges, Breaks, Answers, EndsRead, Shows, Repairs, Repaired, Rebuilds, TakesRefusal}
+use Rattle.fence_law.specs.State.{State, Event, Grant, ReadReply, Call, Start}
+use Rattle.fence_law.specs.Machine.{Allowed, after, written_start, read_start, repair_start, rebuilt_start, overlaid, only, payload, Agrees}
+use Rattle.fence_law.specs.State.Call.{Idle, Writes, Reads, Broken}
+use Rattle.fence_law.specs.State.Event.{Reports, Forgets, StartsWrite, StartsRead, Acknowledges, Breaks, Answers, EndsRead, Shows, Repairs, Repaired, Rebuilds, TakesRefusal}
 use Rattle.fence_law.specs.Law.{byte_before, IsCode}
 use Rattle.fence_law.proofs.Words.{updated_at, updated_other, updated_read}
 use Rattle.fence_law.proofs.Tags.{Tags}
@@ -16,9 +17,9 @@ use Rattle.fence_law.proofs.Chains.{chain_quiet}
 use Rattle.fence_law.proofs.Formed.{Gone_lost, not_gone, added, Mending, Formed, Running, bytes_before}
 use Rattle.fence_law.proofs.Open.{Dead}
 use Rattle.fence_law.proofs.Acked.{Known_done}
-use Rattle.fence_law.proofs.Later.{Later, before_unsettled, byte_or_touch, pay_or_touch, unsettled_refenced, refenced_unsettled}
+use Rattle.fence_law.proofs.Later.{Later, before_unsettled, byte_or_touch, pay_or_touch}
 use Rattle.fence_law.proofs.Chosen.{Late_ack, at_acks, at_mended}
-use Rattle.fence_law.proofs.Held.{Quiet, at_added, Cells}
+use Rattle.fence_law.proofs.Held.{Beside_reads, at_added, Cells}
 use Rattle.fence_law.proofs.Before.{Before_whole, Shows_right}
 
 shows_call : (b : State) (c : ℕ) (x : Call) → ((j : ℕ) → x ≡ Reads j → ⊥) → Shows_right b → Shows_right (record b { call = updated b.call c x })
@@ -69,7 +70,7 @@ shows_mended b done e0 m code f lt h r i = let w = h r i in record {
   cells = λ d z go is rx. w.cells d z go is rx ∙ shows_moves b (after b (Repaired done e0)) code r (λ q y. at_mended b done e0 r.entry q m (omega (arith, w.below)) f (λ j v t. before_unsettled b j r.entry (b.layout.col q) v lt w.below w.alive y w.client t)) z rx;
 }
 
-shows_new : (b : State) (j k : ℕ) → Allowed b (Shows j k) → Gone_lost b → IsCode b.layout → Tags b → Formed b → Holds b → Calls b → Running b → Dead b → Mending b → Quiet b → Cells b → Before_whole b → Shows_right b → Shows_right (after b (Shows j k))
+shows_new : (b : State) (j k : ℕ) → Allowed b (Shows j k) → Gone_lost b → IsCode b.layout → Tags b → Formed b → Holds b → Calls b → Running b → Dead b → Mending b → Beside_reads b → Cells b → Before_whole b → Shows_right b → Shows_right (after b (Shows j k))
 shows_new b j k a gl code t f o r run dead m quiet con bw h w i = elim i [
   | inr old ↦ h w old
   | inl e ↦
@@ -87,7 +88,7 @@ shows_new b j k a gl code t f o r run dead m quiet con bw h w i = elim i [
       })
 ]
 
-pub keep_shows : (b : State) (e : Event) → Allowed b e → Gone_lost b → IsCode b.layout → Tags b → Formed b → Holds b → Calls b → Running b → Known_done b → Dead b → Late_ack b → Mending b → Later b → Quiet b → Cells b → Before_whole b → Shows_right b → Shows_right (after b e)
+pub keep_shows : (b : State) (e : Event) → Allowed b e → Gone_lost b → IsCode b.layout → Tags b → Formed b → Holds b → Calls b → Running b → Known_done b → Dead b → Late_ack b → Mending b → Later b → Beside_reads b → Cells b → Before_whole b → Shows_right b → Shows_right (after b e)
 keep_shows b (Reports c g) a gl code t f o r run kd dead late m lt q con bw h = shows_call b c Idle (λ j e. cc) h
 keep_shows b (Forgets c) a gl code t f o r run kd dead late m lt q con bw h = shows_call b c Idle (λ j e. cc) h
 keep_shows b (TakesRefusal c j0) a gl code t f o r run kd dead late m lt q con bw h = shows_call b c Idle (λ j e. cc) h
@@ -126,7 +127,7 @@ only_some true u v e = (refl, sym (same_Some u v e))
 only_some false u v e = absurd (cc e)
 
 sound_write : (b : State) (c : ℕ) (g : Grant) (i : ℕ) (d : ℕ → Option ℕ) (touch : ℕ → Bool) (hit : ℕ → ℕ → Bool) (seen : ℕ → ℕ) (e1 : ℕ) (pt : ℕ → ℕ → ℕ) → Allowed b (StartsWrite c g i d touch hit seen e1 pt) →
-    IsCode b.layout → Formed b → Calls b → Quiet b → Shows_right b →
+    IsCode b.layout → Formed b → Calls b → Beside_reads b → Shows_right b →
     (g.tag == b.tag) ≡ true → (k z v : ℕ) → payload b.layout hit d seen k z ≡ Some v → v ≡ b.layout.word k z (overlaid d (byte_before b b.count))
 sound_write b c g i d touch hit seen e1 pt a code f r quiet s alive k z v content =
     let p = only_some (hit k z) _ v content in let u = r.reads c i a.gathers in
@@ -149,7 +150,7 @@ sound_stays b b2 j k z code f low v content at = word_moves b b2 j j k z code (�
     none_some : (b.start j).content k z ≡ None → ⊥
     none_some n = let e : None ≡ Some v = sym n ∙ content in cc e
 
-pub keep_sound : (b : State) (e : Event) → Allowed b e → IsCode b.layout → Formed b → Calls b → Running b → Known_done b → Dead b → Late_ack b → Later b → Quiet b → Shows_right b → Sound b → Sound (after b e)
+pub keep_sound : (b : State) (e : Event) → Allowed b e → IsCode b.layout → Formed b → Calls b → Running b → Known_done b → Dead b → Late_ack b → Later b → Beside_reads b → Shows_right b → Sound b → Sound (after b e)
 keep_sound b (StartsWrite c g i d touch hit seen e1 pt) a code f r run kd dead late lt q s h = sound_added b (written_start b c g d touch hit seen e1 pt) (λ k z. false) code (λ w al. sound_write b c g i d touch hit seen e1 pt a code f r q s al) h
 keep_sound b (StartsRead c g lo hi reach) a code f r run kd dead late lt q s h = sound_added b (read_start b c g lo hi reach) (λ k z. false) code (λ w. absurd (true≢false (sym w))) h
 keep_sound b (Repairs k which e0) a code f r run kd dead late lt q s h = sound_added b (repair_start b k which e0) (λ f y. updated (λ w. false) k true f) code (λ w. absurd (true≢false (sym w))) h

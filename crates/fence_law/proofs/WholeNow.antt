@@ -1,11 +1,12 @@
 -- Kept: a column that isn't disturbed is a codeword, in the components that aren't lost.
 -- A performed part of a write that isn't acknowledged disturbs; the acknowledgement or the repair ends that with whole words.
 use Rattle.std.proofs.Common.{◌≡◌, ℕ, ◌+◌, ◌≤◌, Bool, true, false, ◌&&◌, ◌==◌, Option, Some, None, ◌⊎◌, refl, sym, ap, ◌∙◌, inl, inr, arith}
-use Rattle.std.proofs.lemmas.Bool.{cases_Bool, eq-eqb, ne_eqb, cases_eq, true≢false}
+use Rattle.std.proofs.lemmas.Bool.{cases_Bool, eq-eqb, cases_eq, true≢false}
 use Rattle.fence_law.specs.Words.{updated, over}
-use Rattle.fence_law.specs.Machine.{State, Event, Allowed, after, Grant, Write, Start, written_start, read_start, repair_start, rebuilt_start, performed, only, Untouched, Disturbed}
-use Rattle.fence_law.specs.Machine.Call.{Idle, Reads}
-use Rattle.fence_law.specs.Machine.Event.{Grants, Fenced, Refenced, StartsWrite, StartsRead, Performs, Acknowledges, Repairs, Repaired, Rebuilds, Loses}
+use Rattle.fence_law.specs.State.{State, Event, Grant, Write, Start}
+use Rattle.fence_law.specs.Machine.{Allowed, after, written_start, read_start, repair_start, rebuilt_start, performed, only, Untouched, Disturbed}
+use Rattle.fence_law.specs.State.Call.{Idle, Reads}
+use Rattle.fence_law.specs.State.Event.{Grants, Fenced, StartsWrite, StartsRead, Performs, Acknowledges, Repairs, Repaired, Rebuilds, Loses}
 use Rattle.fence_law.specs.Law.{byte_before, cell_before, IsCode}
 use Rattle.fence_law.proofs.Words.{up_off, updated_at, updated_other}
 use Rattle.fence_law.proofs.Parts.{pf_hit, hit_case, pf_grows}
@@ -15,9 +16,9 @@ use Rattle.fence_law.proofs.Commands.{Calls}
 use Rattle.fence_law.proofs.Chains.{chain-none, chain_cares, chain_quiet, over_none}
 use Rattle.fence_law.proofs.Formed.{Gone_lost, not_gone, or_off, added, Mending, Formed, Running, bytes_before}
 use Rattle.fence_law.proofs.Open.{Dead, Known, Unacked, Open, fresh_open, now_fresh}
-use Rattle.fence_law.proofs.Live.{Eras, Busy}
+use Rattle.fence_law.proofs.Live.{Open_granted, Open_at_work}
 use Rattle.fence_law.proofs.Acked.{Known_done, acks_here, option_cases}
-use Rattle.fence_law.proofs.Later.{Unsettled, open_unsettled, unsettled_none, Later, later_starts, byte_or_touch, pay_or_touch, bytes_end, unsettled_refenced, refenced_unsettled}
+use Rattle.fence_law.proofs.Later.{Unsettled, open_unsettled, unsettled_none, Later, later_starts, byte_or_touch, pay_or_touch, bytes_end}
 use Rattle.fence_law.proofs.Chosen.{old_apart, three, Chosen_open, Late_ack, acks_same, at_acks}
 use Rattle.fence_law.proofs.Held.{at_new, ct_new, ct_performs, Cells}
 use Rattle.fence_law.proofs.Before.{WholeAt}
@@ -141,7 +142,7 @@ wn_acks b c i a code r run f kd dead late lt aw st h k z is l none = let low = (
     option_two None = inl refl
     option_two (Some v) = inr (v, refl)
 
-wn_mended : (b : State) (done : ℕ → Bool) (e0 : ℕ → ℕ) → Allowed b (Repaired done e0) → Gone_lost b → IsCode b.layout → Formed b → Dead b → Later b → Mending b → Eras b → Chosen_open b → Cells b → Mixed b → Whole_now b → Whole_now (after b (Repaired done e0))
+wn_mended : (b : State) (done : ℕ → Bool) (e0 : ℕ → ℕ) → Allowed b (Repaired done e0) → Gone_lost b → IsCode b.layout → Formed b → Dead b → Later b → Mending b → Open_granted b → Chosen_open b → Cells b → Mixed b → Whole_now b → Whole_now (after b (Repaired done e0))
 wn_mended b done e0 a gl code f dead lt m q co cells mixed h k z is l none = elim (cases_Bool (done (b.layout.cell_col k z))) [
   | inl d ↦ sym (cells k z (not_gone b k gl l)) ∙ a.right (b.layout.cell_col k z) d k z is refl l ∙ code.local k z _ _ (λ y here. sym (end_done b done e0 y a (ap done here ∙ d) gl code f dead lt m q co cells mixed))
   | inr d ↦ elim (cases_Bool (b.layout.coded (b.layout.cell_col k z))) [
@@ -150,7 +151,7 @@ wn_mended b done e0 a gl code f dead lt m q co cells mixed h k z is l none = eli
   ]
 ]
 
-pub keep_whole_now : (b : State) (e : Event) → Allowed b e → IsCode b.layout → Tags b → Formed b → Calls b → Running b → Known b → Unacked b → Known_done b → Dead b → Late_ack b → Mending b → Eras b → Later b → Chosen_open b → Cells b → All_word b → Mended_low b → Mixed b → Settled b →
+pub keep_whole_now : (b : State) (e : Event) → Allowed b e → IsCode b.layout → Tags b → Formed b → Calls b → Running b → Known b → Unacked b → Known_done b → Dead b → Late_ack b → Mending b → Open_granted b → Later b → Chosen_open b → Cells b → All_word b → Mended_low b → Mixed b → Settled b →
     ((k : ℕ) (cells : ℕ → ℕ) → Allowed b (Rebuilds k cells) → (z : ℕ) → b.layout.is_cell k z ≡ true → cells z ≡ b.layout.word k z (byte_before b b.count)) → Gone_lost b → Whole_now b → Whole_now (after b e)
 keep_whole_now b (StartsWrite c g i d touch hit seen e1 pt) a code t f r run n u kd dead late m q lt co cells aw ml mixed st re gl h = λ k z is l none. wn_added b (written_start b c g d touch hit seen e1 pt) (λ k z. false) k z code (ct_new b (written_start b c g d touch hit seen e1 pt) (λ k z. false) k z) none (h k z is l)
 keep_whole_now b (StartsRead c g lo hi reach) a code t f r run n u kd dead late m q lt co cells aw ml mixed st re gl h = λ k z is l none. wn_added b (read_start b c g lo hi reach) (λ k z. false) k z code (ct_new b (read_start b c g lo hi reach) (λ k z. false) k z) none (h k z is l)
@@ -173,7 +174,7 @@ calm_whole b x f st h none k z is here l = h k z is l (λ d. let t : (b.start d.
     ])
 
 -- at the start of a call under an outstanding grant
-pub start_whole : (b : State) → Formed b → Holds b → Mending b → Eras b → Busy b → Settled b → Whole_now b →
+pub start_whole : (b : State) → Formed b → Holds b → Mending b → Open_granted b → Open_at_work b → Settled b → Whole_now b →
     (c : ℕ) (g : Grant) → b.held c ≡ Some g → (b.call c ≡ Idle) ⊎ ((i : ℕ) × (b.call c ≡ Reads i)) → (g.tag == b.tag) ≡ true → (x : ℕ) → g.covers x ≡ true → WholeAt b b.count x
 start_whole b f o m q y st h c g has free on x range = calm_whole b x f st h (λ j u t. true≢false (sym on ∙ later_starts b c g has free o m q y j x u t range))
 
@@ -184,7 +185,7 @@ untouched_zero b q f un = chain_quiet (λ i. b.chosen i q) (λ i. (b.start i).da
   | inl w ↦ elim (byte_or_touch b i q high f) [ inl n ↦ inr n | inr t ↦ absurd (true≢false (sym t ∙ un i high w)) ]
 ]) ∙ chain-none _ _
 
-pub rebuilt_word : (b : State) → IsCode b.layout → Formed b → Cells b → Eras b → Settled b → Whole_now b → (k : ℕ) (cells : ℕ → ℕ) → Allowed b (Rebuilds k cells) → (z : ℕ) → b.layout.is_cell k z ≡ true → cells z ≡ b.layout.word k z (byte_before b b.count)
+pub rebuilt_word : (b : State) → IsCode b.layout → Formed b → Cells b → Open_granted b → Settled b → Whole_now b → (k : ℕ) (cells : ℕ → ℕ) → Allowed b (Rebuilds k cells) → (z : ℕ) → b.layout.is_cell k z ≡ true → cells z ≡ b.layout.word k z (byte_before b b.count)
 rebuilt_word b code formed held q st h k cells a z is = elim (a.right z is) [
   | inl all ↦ all (byte_before b b.count) (bytes_before b b.count (omega arith) formed) (λ f y isf here l. held f y l ∙ calm_whole b (b.layout.cell_col k z) formed st h (λ j u t. unsettled_none b j a.repaired q a.none u) f y isf here l)
   | inr w ↦ w.1 ∙ sym (code.zeros k z) ∙ code.local k z _ _ (λ p here. sym (untouched_zero b p formed (rw (← here) at w.0)))

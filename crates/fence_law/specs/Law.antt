@@ -3,10 +3,11 @@ use Rattle.std.specs.Prelude.{cond, max, ◌≡◌, ℕ, zero, suc, ◌<◌, Boo
 use Rattle.file_log.specs.declared.entry.Entry.{Entry}
 use Rattle.file_log.specs.Judge.{Accepts, candidates}
 use Rattle.fence_law.specs.Words.{In, over}
-use Rattle.fence_law.specs.Machine.{State, Layout, Event, Write, Lawful, after, after_all, new_file_state, IsCalm, Disturbed, Short, Grant, Allowed, Agrees, AreBytes, Stood}
-use Rattle.fence_law.specs.Machine.Call.{Reads}
-use Rattle.fence_law.specs.Machine.Commit.{CommitDone}
-use Rattle.fence_law.specs.Machine.Event.{Performs, Shows, Fenced, Repaired}
+use Rattle.fence_law.specs.State.{State, Layout, Event, Write, Grant}
+use Rattle.fence_law.specs.Machine.{Lawful, after, after_all, new_file_state, IsCalm, Disturbed, Short, Allowed, Agrees, AreBytes, Stood}
+use Rattle.fence_law.specs.State.Call.{Reads}
+use Rattle.fence_law.specs.State.Commit.{CommitDone}
+use Rattle.fence_law.specs.State.Event.{Performs, Shows, Fenced, Refenced, Repaired}
 use Rattle.fence_law.specs.Log.{IsLog, IsPieces}
 
 -- the byte that the performed ones of some writes leave
@@ -133,14 +134,13 @@ IsGranted =
     (w.tag ≡ (reached m events).tag) ×
     ((g : Grant) × ((reached m events).outstanding w.holder ≡ Some g) × (g.number ≡ ((reached m events).start w.entry).grant) × (g.tag ≡ (reached m events).tag) × (g.rw ≡ true))
 
--- From the end of a fence on no WRITE and no READ is performed of a grant that stood then: each has a tag above theirs.
+-- From the end of a fence on, of one that ran again too, no WRITE and no READ is performed of a grant that stood then: each has a tag above theirs.
 abbrev pub IsFenced : Type 0
 IsFenced =
-    (m : Layout) (events later : List Event) → IsCode m → Lawful (new_file_state m) events → Allowed (reached m events) Fenced → Lawful (after (reached m events) Fenced) later →
+    (m : Layout) (events later : List Event) (e : Event) → (e ≡ Fenced) ⊎ (e ≡ Refenced) → IsCode m → Lawful (new_file_state m) events → Allowed (reached m events) e → Lawful (after (reached m events) e) later →
     ((c : ℕ) (g : Grant) → (reached m events).outstanding c ≡ Some g → g.tag ≡ (reached m events).tag) ×
-    ((w : Write) → Allowed (after_all (after (reached m events) Fenced) later) (Performs w) → (reached m events).tag < w.tag) ×
-    ((j k : ℕ) → Allowed (after_all (after (reached m events) Fenced) later) (Shows j k) →
-    (reached m events).tag < ((after_all (after (reached m events) Fenced) later).start j).tag)
+    ((w : Write) → Allowed (after_all (after (reached m events) e) later) (Performs w) → (reached m events).tag < w.tag) ×
+    ((j k : ℕ) → Allowed (after_all (after (reached m events) e) later) (Shows j k) → (reached m events).tag < ((after_all (after (reached m events) e) later).start j).tag)
 
 -- Right after a repair a column that it counts as repaired isn't disturbed; if nothing is short, none is.
 abbrev pub IsRestored : Type 0
