@@ -69,51 +69,52 @@ struct Case {
     answer: Result<u8, XdrErr>,
 }
 
+const OPAQUES: [Case; 8] = [
+    Case {
+        bytes: [0, 0, 0, 1, 0xaa, 0, 0, 0, AFTER, 0, 0, 0],
+        length: 9,
+        answer: Ok(0xaa),
+    },
+    Case {
+        bytes: [0, 0, 0, 1, 0xaa, 0, 0, 1, AFTER, 0, 0, 0],
+        length: 8,
+        answer: Err(XdrErr::Padding { at: 7 }),
+    },
+    Case {
+        bytes: [0, 0, 0, 1, 0xaa, 2, 0, 1, AFTER, 0, 0, 0],
+        length: 8,
+        answer: Err(XdrErr::Padding { at: 5 }),
+    },
+    Case {
+        bytes: [0, 0, 0, 1, 0xaa, 0, 1, 0, AFTER, 0, 0, 0],
+        length: 7,
+        answer: Err(XdrErr::Short { at: 0 }),
+    },
+    Case {
+        bytes: [0, 0, 0, 9, 0, 0, 0, 0, 0, 0, 0, 0],
+        length: 4,
+        answer: Err(XdrErr::TooMany { at: 0 }),
+    },
+    Case {
+        bytes: [0, 0, 0, 8, 1, 2, 3, 4, 5, 6, 7, 8],
+        length: 11,
+        answer: Err(XdrErr::Short { at: 0 }),
+    },
+    Case {
+        bytes: [0, 0, 0, 8, 1, 2, 3, 4, 5, 6, 7, 8],
+        length: 12,
+        answer: Ok(1),
+    },
+    Case {
+        bytes: [0, 0, 0, 8, 1, 2, 3, 4, 5, 6, 7, 8],
+        length: 3,
+        answer: Err(XdrErr::Short { at: 0 }),
+    },
+];
+
 #[test]
 fn opaques_of_at_most_eight_bytes(rt: HostRuntime) {
-    let cases = [
-        Case {
-            bytes: [0, 0, 0, 1, 0xaa, 0, 0, 0, AFTER, 0, 0, 0],
-            length: 9,
-            answer: Ok(0xaa),
-        },
-        Case {
-            bytes: [0, 0, 0, 1, 0xaa, 0, 0, 1, AFTER, 0, 0, 0],
-            length: 8,
-            answer: Err(XdrErr::Padding { at: 7 }),
-        },
-        Case {
-            bytes: [0, 0, 0, 1, 0xaa, 2, 0, 1, AFTER, 0, 0, 0],
-            length: 8,
-            answer: Err(XdrErr::Padding { at: 5 }),
-        },
-        Case {
-            bytes: [0, 0, 0, 1, 0xaa, 0, 1, 0, AFTER, 0, 0, 0],
-            length: 7,
-            answer: Err(XdrErr::Short { at: 0 }),
-        },
-        Case {
-            bytes: [0, 0, 0, 9, 0, 0, 0, 0, 0, 0, 0, 0],
-            length: 4,
-            answer: Err(XdrErr::TooMany { at: 0 }),
-        },
-        Case {
-            bytes: [0, 0, 0, 8, 1, 2, 3, 4, 5, 6, 7, 8],
-            length: 11,
-            answer: Err(XdrErr::Short { at: 0 }),
-        },
-        Case {
-            bytes: [0, 0, 0, 8, 1, 2, 3, 4, 5, 6, 7, 8],
-            length: 12,
-            answer: Ok(1),
-        },
-        Case {
-            bytes: [0, 0, 0, 8, 1, 2, 3, 4, 5, 6, 7, 8],
-            length: 3,
-            answer: Err(XdrErr::Short { at: 0 }),
-        },
-    ];
-    for case in cases.iter() {
+    for case in OPAQUES.iter() {
         let mut reader = Reader::new(&case.bytes[..case.length]);
         let answer = match reader.opaque(rt.alloc(), 8) {
             Ok(bytes) => Ok(bytes.as_slice().first().copied().unwrap_or(0)),
