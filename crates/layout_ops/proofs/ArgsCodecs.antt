@@ -3,7 +3,8 @@ use Rattle.std.proofs.Common.{◌≡◌, ℕ, List, [], ◌∷◌, ◌++◌, Ok,
 use Rattle.std.specs.Prelude.{⊤}
 use Rattle.osd_bytes.specs.Blocks.{IsBytes}
 use Rattle.xdr_codec.specs.Items.{u32_item, u64_item, bool_item, opaque_item}
-use Rattle.xdr_codec.specs.Reading.{Rest, IsCodec}
+use Rattle.xdr_codec.specs.Reading.{Rest}
+use Rattle.xdr_codec.proofs.Codec.{IsCodec}
 use Rattle.xdr_codec.proofs.ItemLaws.{ok_is}
 use Rattle.layout_types.specs.Grammar.{optional_item}
 use Rattle.layout_types.proofs.Steps.{gathered, after}

@@ -4,7 +4,8 @@ use Rattle.std.specs.Prelude.{⊤}
 use Rattle.std.proofs.lemmas.Bool.{eqb-true}
 use Rattle.osd_bytes.specs.Blocks.{IsBytes}
 use Rattle.xdr_codec.specs.Items.{u32_item, u64_item}
-use Rattle.xdr_codec.specs.Reading.{Rest, ◌>>=◌, IsCodec}
+use Rattle.xdr_codec.specs.Reading.{Rest, ◌>>=◌}
+use Rattle.xdr_codec.proofs.Codec.{IsCodec}
 use Rattle.xdr_codec.proofs.ItemLaws.{ok_is, err_is_not, chosen}
 use Rattle.layout_types.proofs.Steps.{gathered, after}
 use Rattle.layout_ops.specs.declared.err.OpErr.{OpErr}

@@ -6,7 +6,8 @@ use Rattle.std.proofs.lemmas.Bool.Decides.{nat_tests}
 use Rattle.osd_bytes.specs.Blocks.{IsBytes}
 use Rattle.xdr_codec.specs.declared.err.XdrErr.{XdrErr}
 use Rattle.xdr_codec.specs.Items.{u32_item, u64_item, i64_item, bool_item, fixed_item, opaque_item}
-use Rattle.xdr_codec.specs.Reading.{Rest, ◌>>=◌, IsCodec, opaque_in}
+use Rattle.xdr_codec.specs.Reading.{Rest, ◌>>=◌, opaque_in}
+use Rattle.xdr_codec.proofs.Codec.{IsCodec}
 use Rattle.xdr_codec.proofs.ItemLaws.{ok_is, err_is_not, chosen, opaque_codec}
 use Rattle.layout_types.specs.declared.err.LayoutErr.{LayoutErr}
 use Rattle.layout_types.specs.Grammar.{lifted, u32_part, u64_part, bool_part, count_part, enum_part, optional_item, OptionalFits}

@@ -5,7 +5,8 @@ use Rattle.std.proofs.lemmas.List.Concat.{flat_map-cons}
 use Rattle.std.proofs.lemmas.List.{append-nil}
 use Rattle.osd_bytes.specs.Blocks.{IsBytes}
 use Rattle.xdr_codec.specs.Items.{u32_item}
-use Rattle.xdr_codec.specs.Reading.{Rest, ◌>>=◌, IsCodec}
+use Rattle.xdr_codec.specs.Reading.{Rest, ◌>>=◌}
+use Rattle.xdr_codec.proofs.Codec.{IsCodec}
 use Rattle.xdr_codec.proofs.ItemLaws.{bind_ok, ok_is}
 use Rattle.layout_types.specs.Grammar.{list_item}
 use Rattle.layout_types.specs.Spelling.{ListFits}

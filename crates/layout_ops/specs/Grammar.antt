@@ -6,6 +6,7 @@ use Rattle.layout_types.specs.Grammar.{lifted, u32_part, u64_part, bool_part, co
 use Rattle.layout_ops.specs.declared.err.OpErr.{OpErr}
 use Rattle.layout_ops.specs.declared.err.OpErr.TheVariants.{UnknownOp, WrongLayoutType, WrongReturn, Memory}
 use Rattle.layout_ops.specs.declared.operation.Operation.{Operation}
+use Rattle.layout_ops.specs.declared.statuses.TheConstants.{LAYOUT4_OSD2_OBJECTS, LAYOUT4_RET_REC_FILE, OP_CB_LAYOUTRECALL}
 use Rattle.layout_ops.specs.Refusals.{of_layout}
 use Rattle.layout_ops.specs.Enumerations.{operation_of}
 
@@ -28,7 +29,7 @@ bool_field i = carried (bool_part i)
 unfoldable pub opaque_field : ℕ → Rest → Result (List ℕ × Rest) OpErr
 opaque_field most i = carried (lifted (opaque_in most i))
 
--- the count of a list, at most 1,024
+-- the count of a list, which is within the largest length
 unfoldable pub count_field : Rest → Result (ℕ × Rest) OpErr
 count_field i = carried (count_part i)
 
@@ -39,15 +40,15 @@ as_expected expected refusal n = if nat_eq n.0 expected then Ok (tt, n.1) else E
 
 -- the layout type of object-based storage
 unfoldable pub layout_type_in : Rest → Result (Unit {0} × Rest) OpErr
-layout_type_in i = u32_field i >>= as_expected 2 WrongLayoutType
+layout_type_in i = u32_field i >>= as_expected LAYOUT4_OSD2_OBJECTS WrongLayoutType
 
 -- a return or a recall of a file's layouts
 unfoldable pub file_kind_in : Rest → Result (Unit {0} × Rest) OpErr
-file_kind_in i = u32_field i >>= as_expected 1 WrongReturn
+file_kind_in i = u32_field i >>= as_expected LAYOUT4_RET_REC_FILE WrongReturn
 
 -- CB_LAYOUTRECALL
 unfoldable pub recall_op_in : Rest → Result (Unit {0} × Rest) OpErr
-recall_op_in i = u32_field i >>= as_expected 5 UnknownOp
+recall_op_in i = u32_field i >>= as_expected OP_CB_LAYOUTRECALL UnknownOp
 
 abbrev pub known : ℕ × Rest → Option Operation → Result (Operation × Rest) OpErr
 known n None = Err (UnknownOp n.0)

@@ -6,6 +6,9 @@ use Rattle.layout_types.specs.declared.err.LayoutErr.TheVariants.{BadEnum}
 use Rattle.layout_types.specs.Grammar.{u32_part, u64_part, i64_part, fixed_part, enum_part, optional_part}
 use Rattle.layout_ops.specs.declared.err.OpErr.{OpErr}
 use Rattle.layout_ops.specs.declared.err.OpErr.TheVariants.{Layout}
+use Rattle.layout_ops.specs.declared.statuses.TheConstants.{NFS4_OK, NFS4ERR_LAYOUTTRYLATER}
+use Rattle.layout_ops.specs.declared.parts.TheConstants.{MAX_BODY, MAX_FILE_HANDLE}
+use Rattle.layout_ops.specs.declared.items.TheConstants.{STATEID_OTHER_BYTES}
 use Rattle.layout_ops.specs.declared.items.StateId.{StateId}
 use Rattle.layout_ops.specs.declared.items.Time.{Time}
 use Rattle.layout_ops.specs.declared.operation.Operation.{Operation}
@@ -44,7 +47,7 @@ use Rattle.layout_ops.specs.Grammar.{carried, u32_field, u64_field, bool_field, 
 unfoldable pub stateid_part : Rest → Result (StateId × Rest) LayoutErr
 stateid_part i = do
   seqid ← u32_part i
-  other ← fixed_part 12 seqid.1
+  other ← fixed_part STATEID_OTHER_BYTES seqid.1
   Ok (record { seqid = seqid.0; other = other.0 }, other.1)
 
 unfoldable pub time_part : Rest → Result (Time × Rest) LayoutErr
@@ -77,7 +80,18 @@ get_args_in i = do
   least ← u64_field size.1
   stateid ← stateid_field least.1
   maxcount ← u32_field stateid.1
-  Ok (record { signal_layout_avail = signal.0; iomode = iomode.0; offset = offset.0; length = size.0; minlength = least.0; stateid = stateid.0; maxcount = maxcount.0 }, maxcount.1)
+  Ok (
+    record {
+      signal_layout_avail = signal.0;
+      iomode = iomode.0;
+      offset = offset.0;
+      length = size.0;
+      minlength = least.0;
+      stateid = stateid.0;
+      maxcount = maxcount.0;
+    },
+    maxcount.1,
+  )
 
 unfoldable pub commit_args_in : Rest → Result (LayoutCommitArgs × Rest) OpErr
 commit_args_in i = do
@@ -88,8 +102,19 @@ commit_args_in i = do
   last ← optional_u64_field stateid.1
   time ← optional_time_field last.1
   objects ← layout_type_in time.1
-  body ← opaque_field 65536 objects.1
-  Ok (record { offset = offset.0; length = size.0; reclaim = reclaim.0; stateid = stateid.0; last_write_offset = last.0; time = time.0; body = body.0 }, body.1)
+  body ← opaque_field MAX_BODY objects.1
+  Ok (
+    record {
+      offset = offset.0;
+      length = size.0;
+      reclaim = reclaim.0;
+      stateid = stateid.0;
+      last_write_offset = last.0;
+      time = time.0;
+      body = body.0;
+    },
+    body.1,
+  )
 
 unfoldable pub return_args_in : Rest → Result (LayoutReturnArgs × Rest) OpErr
 return_args_in i = do
@@ -100,8 +125,18 @@ return_args_in i = do
   offset ← u64_field of_file.1
   size ← u64_field offset.1
   stateid ← stateid_field size.1
-  body ← opaque_field 65536 stateid.1
-  Ok (record { reclaim = reclaim.0; iomode = iomode.0; offset = offset.0; length = size.0; stateid = stateid.0; body = body.0 }, body.1)
+  body ← opaque_field MAX_BODY stateid.1
+  Ok (
+    record {
+      reclaim = reclaim.0;
+      iomode = iomode.0;
+      offset = offset.0;
+      length = size.0;
+      stateid = stateid.0;
+      body = body.0;
+    },
+    body.1,
+  )
 
 abbrev pub args_in : Operation → Rest → Result (Args × Rest) OpErr
 args_in operation.LayoutCommit i = commit_args_in i >>= λ v. Ok (args.LayoutCommit v.0, v.1)
@@ -116,7 +151,7 @@ segment_in i = do
   size ← u64_field offset.1
   iomode ← u32_field size.1
   objects ← layout_type_in iomode.1
-  body ← opaque_field 65536 objects.1
+  body ← opaque_field MAX_BODY objects.1
   Ok (record { offset = offset.0; length = size.0; iomode = iomode.0; body = body.0 }, body.1)
 
 unfoldable pub get_ok_in : Rest → Result (LayoutGetOk × Rest) OpErr
@@ -128,8 +163,8 @@ get_ok_in i = do
 
 abbrev pub get_behind : ℕ × Rest → Result (LayoutGetResult × Rest) OpErr
 get_behind status =
-    if nat_eq status.0 0 then (get_ok_in status.1 >>= λ v. Ok (get.Granted v.0, v.1))
-    else if nat_eq status.0 10058 then (bool_field status.1 >>= λ v. Ok (get.TryLater v.0, v.1))
+    if nat_eq status.0 NFS4_OK then (get_ok_in status.1 >>= λ v. Ok (get.Granted v.0, v.1))
+    else if nat_eq status.0 NFS4ERR_LAYOUTTRYLATER then (bool_field status.1 >>= λ v. Ok (get.TryLater v.0, v.1))
     else Ok (get.Refused status.0, status.1)
 
 unfoldable pub get_result_in : Rest → Result (LayoutGetResult × Rest) OpErr
@@ -137,7 +172,7 @@ get_result_in i = u32_field i >>= get_behind
 
 abbrev pub commit_behind : ℕ × Rest → Result (LayoutCommitResult × Rest) OpErr
 commit_behind status =
-    if nat_eq status.0 0 then (optional_u64_field status.1 >>= λ v. Ok (commit.Committed v.0, v.1))
+    if nat_eq status.0 NFS4_OK then (optional_u64_field status.1 >>= λ v. Ok (commit.Committed v.0, v.1))
     else Ok (commit.Refused status.0, status.1)
 
 unfoldable pub commit_result_in : Rest → Result (LayoutCommitResult × Rest) OpErr
@@ -145,7 +180,7 @@ commit_result_in i = u32_field i >>= commit_behind
 
 abbrev pub return_behind : ℕ × Rest → Result (LayoutReturnResult × Rest) OpErr
 return_behind status =
-    if nat_eq status.0 0 then (optional_stateid_field status.1 >>= λ v. Ok (return.Returned v.0, v.1))
+    if nat_eq status.0 NFS4_OK then (optional_stateid_field status.1 >>= λ v. Ok (return.Returned v.0, v.1))
     else Ok (return.Refused status.0, status.1)
 
 unfoldable pub return_result_in : Rest → Result (LayoutReturnResult × Rest) OpErr
@@ -176,7 +211,17 @@ answer_in i = do
   detail ← u32_field op.1
   size ← u64_field detail.1
   answered ← results_in op.0 size.1
-  Ok (record { client = client.0; sequence = sequence.0; file = file.0; detail = detail.0; size = size.0; results = answered.0 }, answered.1)
+  Ok (
+    record {
+      client = client.0;
+      sequence = sequence.0;
+      file = file.0;
+      detail = detail.0;
+      size = size.0;
+      results = answered.0;
+    },
+    answered.1,
+  )
 
 -- ---- recalls
 
@@ -186,11 +231,21 @@ recall_args_in i = do
   iomode ← u32_field objects.1
   changed ← bool_field iomode.1
   of_file ← file_kind_in changed.1
-  file ← opaque_field 128 of_file.1
+  file ← opaque_field MAX_FILE_HANDLE of_file.1
   offset ← u64_field file.1
   size ← u64_field offset.1
   stateid ← stateid_field size.1
-  Ok (record { iomode = iomode.0; changed = changed.0; file = file.0; offset = offset.0; length = size.0; stateid = stateid.0 }, stateid.1)
+  Ok (
+    record {
+      iomode = iomode.0;
+      changed = changed.0;
+      file = file.0;
+      offset = offset.0;
+      length = size.0;
+      stateid = stateid.0;
+    },
+    stateid.1,
+  )
 
 unfoldable pub recall_in : Rest → Result (Recall × Rest) OpErr
 recall_in i = do

@@ -4,6 +4,9 @@ use Rattle.std.specs.Int.{w64}
 use Rattle.xdr_codec.specs.Items.{u32_item, u64_item, i64_item, bool_item, fixed_item, opaque_item}
 use Rattle.layout_types.specs.Grammar.{optional_item, OptionalFits, list_item}
 use Rattle.layout_types.specs.Spelling.{ListFits}
+use Rattle.layout_ops.specs.declared.statuses.TheConstants.{LAYOUT4_OSD2_OBJECTS, LAYOUT4_RET_REC_FILE, OP_CB_LAYOUTRECALL, NFS4_OK, NFS4ERR_LAYOUTTRYLATER}
+use Rattle.layout_ops.specs.declared.parts.TheConstants.{MAX_BODY, MAX_FILE_HANDLE}
+use Rattle.layout_ops.specs.declared.items.TheConstants.{STATEID_OTHER_BYTES}
 use Rattle.layout_ops.specs.declared.items.StateId.{StateId}
 use Rattle.layout_ops.specs.declared.items.Time.{Time}
 use Rattle.layout_ops.specs.declared.operation.Operation.{Operation}
@@ -34,25 +37,25 @@ use Rattle.layout_ops.specs.declared.envelope.Envelope.{Envelope}
 use Rattle.layout_ops.specs.declared.envelope.Envelope.TheVariants as envelope
 use Rattle.layout_ops.specs.Enumerations.{operation_number, order_number, order_result_number}
 
--- the body of a layout, a commit or a return has at most 65,536 bytes
+-- the body of a layout, a commit or a return
 abbrev pub IsBody : List ℕ → Type 0
-IsBody bytes = length bytes ≤ 65536
+IsBody bytes = length bytes ≤ MAX_BODY
 
--- what names a file in a recall has at most 128 bytes
+-- what names a file in a recall
 abbrev pub IsFileHandle : List ℕ → Type 0
-IsFileHandle bytes = length bytes ≤ 128
+IsFileHandle bytes = length bytes ≤ MAX_FILE_HANDLE
 
 -- the layout type of object-based storage
 abbrev pub layout_type_item : List ℕ
-layout_type_item = u32_item 2
+layout_type_item = u32_item LAYOUT4_OSD2_OBJECTS
 
 -- a return or a recall of a file's layouts
 abbrev pub file_kind_item : List ℕ
-file_kind_item = u32_item 1
+file_kind_item = u32_item LAYOUT4_RET_REC_FILE
 
 -- CB_LAYOUTRECALL
 abbrev pub recall_op_item : List ℕ
-recall_op_item = u32_item 5
+recall_op_item = u32_item OP_CB_LAYOUTRECALL
 
 -- ---- states and times
 
@@ -60,7 +63,7 @@ abbrev pub stateid_item : StateId → List ℕ
 stateid_item v = u32_item v.seqid ++ fixed_item v.other
 
 abbrev pub StateIdFits : StateId → Type 0
-StateIdFits v = record { seqid : v.seqid < 2 ^ 32; other : length v.other ≡ 12 }
+StateIdFits v = record { seqid : v.seqid < 2 ^ 32; other : length v.other ≡ STATEID_OTHER_BYTES }
 
 abbrev pub time_item : Time → List ℕ
 time_item v = i64_item v.seconds ++ u32_item v.nanoseconds
@@ -148,32 +151,32 @@ get_ok_item v = bool_item v.return_on_close ++ (stateid_item v.stateid ++ list_i
 abbrev pub GetOkFits : LayoutGetOk → Type 0
 GetOkFits v = record { stateid : StateIdFits v.stateid; layouts : ListFits SegmentFits v.layouts }
 
--- NFS4_OK is 0, NFS4ERR_LAYOUTTRYLATER 10058
+-- the status, and what it announces
 abbrev pub get_result_item : LayoutGetResult → List ℕ
-get_result_item (get.Granted v) = u32_item 0 ++ get_ok_item v
-get_result_item (get.TryLater will_signal) = u32_item 10058 ++ bool_item will_signal
+get_result_item (get.Granted v) = u32_item NFS4_OK ++ get_ok_item v
+get_result_item (get.TryLater will_signal) = u32_item NFS4ERR_LAYOUTTRYLATER ++ bool_item will_signal
 get_result_item (get.Refused status) = u32_item status
 
 abbrev pub GetResultFits : LayoutGetResult → Type 0
 GetResultFits (get.Granted v) = GetOkFits v
 GetResultFits (get.TryLater will_signal) = ⊤
-GetResultFits (get.Refused status) = (status < 2 ^ 32) × (status ≢ 0) × (status ≢ 10058)
+GetResultFits (get.Refused status) = (status < 2 ^ 32) × (status ≢ NFS4_OK) × (status ≢ NFS4ERR_LAYOUTTRYLATER)
 
 abbrev pub commit_result_item : LayoutCommitResult → List ℕ
-commit_result_item (commit.Committed new_size) = u32_item 0 ++ optional_item u64_item new_size
+commit_result_item (commit.Committed new_size) = u32_item NFS4_OK ++ optional_item u64_item new_size
 commit_result_item (commit.Refused status) = u32_item status
 
 abbrev pub CommitResultFits : LayoutCommitResult → Type 0
 CommitResultFits (commit.Committed new_size) = OptionalFits (λ n. n < 2 ^ 64) new_size
-CommitResultFits (commit.Refused status) = (status < 2 ^ 32) × (status ≢ 0)
+CommitResultFits (commit.Refused status) = (status < 2 ^ 32) × (status ≢ NFS4_OK)
 
 abbrev pub return_result_item : LayoutReturnResult → List ℕ
-return_result_item (return.Returned stateid) = u32_item 0 ++ optional_item stateid_item stateid
+return_result_item (return.Returned stateid) = u32_item NFS4_OK ++ optional_item stateid_item stateid
 return_result_item (return.Refused status) = u32_item status
 
 abbrev pub ReturnResultFits : LayoutReturnResult → Type 0
 ReturnResultFits (return.Returned stateid) = OptionalFits StateIdFits stateid
-ReturnResultFits (return.Refused status) = (status < 2 ^ 32) × (status ≢ 0)
+ReturnResultFits (return.Refused status) = (status < 2 ^ 32) × (status ≢ NFS4_OK)
 
 abbrev pub operation_of_results : Results → Operation
 operation_of_results (results.LayoutCommit v) = operation.LayoutCommit
@@ -299,15 +302,15 @@ GetOkWritable v = ListFits SegmentWritable v.layouts
 abbrev pub GetResultWritable : LayoutGetResult → Type 0
 GetResultWritable (get.Granted v) = GetOkWritable v
 GetResultWritable (get.TryLater will_signal) = ⊤
-GetResultWritable (get.Refused status) = (status ≢ 0) × (status ≢ 10058)
+GetResultWritable (get.Refused status) = (status ≢ NFS4_OK) × (status ≢ NFS4ERR_LAYOUTTRYLATER)
 
 abbrev pub CommitResultWritable : LayoutCommitResult → Type 0
 CommitResultWritable (commit.Committed new_size) = ⊤
-CommitResultWritable (commit.Refused status) = status ≢ 0
+CommitResultWritable (commit.Refused status) = status ≢ NFS4_OK
 
 abbrev pub ReturnResultWritable : LayoutReturnResult → Type 0
 ReturnResultWritable (return.Returned stateid) = ⊤
-ReturnResultWritable (return.Refused status) = status ≢ 0
+ReturnResultWritable (return.Refused status) = status ≢ NFS4_OK
 
 abbrev pub ArgsWritable : Args → Type 0
 ArgsWritable (args.LayoutCommit v) = IsBody v.body

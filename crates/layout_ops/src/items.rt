@@ -10,13 +10,16 @@ use layout_types::LayoutErr;
 use osd_bytes::{Bytes, Memory};
 use xdr_codec::{Reader, Writer};
 
+/// The bytes of a state id behind its number (RFC 5661 3.3.12).
+pub const STATEID_OTHER_BYTES: usize = 12;
+
 /// What names a layout's state at the server (`stateid4`, RFC 5661 3.3.12).
 #[derive(Clone, Copy, Debug, PartialEq, Eq)]
 pub struct StateId {
     /// How often the state changed.
     pub seqid: u32,
     /// Which state it is.
-    pub other: [u8; 12],
+    pub other: [u8; STATEID_OTHER_BYTES],
 }
 
 /// A time (`nfstime4`, RFC 5661 3.3.1).
@@ -33,7 +36,7 @@ pub(crate) fn stateid_from(reader: &mut Reader<'_>) -> Result<StateId, LayoutErr
     ensures { GivesPart (stateid_part reader.old) result reader.new }
 {
     let seqid = reader.u32()?;
-    let mut other = [0; 12];
+    let mut other = [0; STATEID_OTHER_BYTES];
     reader.fixed(&mut other)?;
     Ok(StateId { seqid, other })
 }
@@ -43,7 +46,7 @@ pub(crate) fn put_stateid(writer: &mut Writer, stateid: &StateId) -> Result<(), 
     ensures fits { OnOk result (StateIdFits stateid.now) }
 {
     writer.u32(stateid.seqid)?;
-    put_12(writer, &stateid.other)
+    put_other(writer, &stateid.other)
 }
 
 // The first byte of a range, and how many bytes it has.
@@ -64,9 +67,9 @@ pub(crate) fn put_content(writer: &mut Writer, body: &Bytes) -> Result<(), Memor
     writer.opaque(body.as_slice())
 }
 
-fn put_12(writer: &mut Writer, field: &[u8; 12]) -> Result<(), Memory>
+fn put_other(writer: &mut Writer, field: &[u8; STATEID_OTHER_BYTES]) -> Result<(), Memory>
     ensures written { OnOk result (writer.new ≡ writer.old ++ fixed_item field.now) }
-    ensures fits { length field.now ≡ 12 }
+    ensures fits { length field.now ≡ STATEID_OTHER_BYTES }
 {
     writer.fixed(field)
 }

@@ -20,7 +20,7 @@ mod statuses;
 pub use args::{Args, LayoutCommitArgs, LayoutGetArgs, LayoutReturnArgs};
 pub use envelope::{Envelope, read_envelope, write_envelope};
 pub use err::OpErr;
-pub use items::{StateId, Time};
+pub use items::{STATEID_OTHER_BYTES, StateId, Time};
 pub use messages::{Answer, Request};
 pub use operation::Operation;
 pub use orders::{Order, OrderAnswer, OrderKind, OrderResult};

@@ -42,14 +42,14 @@ pub(crate) fn read_bool(reader: &mut Reader<'_>) -> Result<bool, OpErr>
 
 #[tactic(auto, unfolding(crate::specs::Grammar::opaque_field))]
 pub(crate) fn read_body(alloc: Global, reader: &mut Reader<'_>) -> Result<Bytes, OpErr>
-    ensures { Gives (opaque_field 65536 reader.old) result reader.new }
+    ensures { Gives (opaque_field MAX_BODY reader.old) result reader.new }
 {
     Ok(reader.opaque(alloc, MAX_BODY)?)
 }
 
 #[tactic(auto, unfolding(crate::specs::Grammar::opaque_field))]
 pub(crate) fn read_file_handle(alloc: Global, reader: &mut Reader<'_>) -> Result<Bytes, OpErr>
-    ensures { Gives (opaque_field 128 reader.old) result reader.new }
+    ensures { Gives (opaque_field MAX_FILE_HANDLE reader.old) result reader.new }
 {
     Ok(reader.opaque(alloc, MAX_FILE_HANDLE)?)
 }
