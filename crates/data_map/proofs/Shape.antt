@@ -1,5 +1,5 @@
 -- What a checked map's shape has: positions, groups and data units.
-use Rattle.std.proofs.Common.{◌≡◌, ◌*◌, ◌<◌, ◌≤◌, refl, sym, ap, ◌∙◌, arith, inl, inr}
+use Rattle.std.proofs.Common.{◌≡◌, ℕ, ◌+◌, ◌*◌, ◌<◌, ◌≤◌, refl, sym, ap, ◌∙◌, arith, inl, inr}
 use Rattle.std.proofs.lemmas.Bool.{cases_eq, eq-eqb, ne_eqb}
 use Rattle.std.proofs.lemmas.Nat.{div-add-mod', mul-le}
 use Rattle.std.proofs.Math.Nat.{div-le_self, mul-le-mul_right, one-le-mul}
@@ -9,6 +9,12 @@ use Rattle.data_map.specs.Striping.{replicas, positions, group_width, groups, pa
 
 pub whole_positions : (m : RawMap) → IsChecked m → positions m * replicas m ≡ m.comps
 whole_positions m c = omega (arith, div-add-mod' m.comps (replicas m), c.whole_positions)
+
+-- all replicas of a position are components
+pub replicas_inside : (m : RawMap) (p : ℕ) → IsChecked m → p < positions m → p * replicas m + replicas m ≤ m.comps
+replicas_inside m p c lt =
+    let next : (p + 1) * replicas m ≡ p * replicas m + replicas m = omega arith in
+    omega (arith, next, mul-le-mul_right (replicas m) lt, whole_positions m c)
 
 pub some_positions : (m : RawMap) → IsChecked m → 0 < positions m
 some_positions m c = elim (cases_eq (positions m) 0) [

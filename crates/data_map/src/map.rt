@@ -1,4 +1,4 @@
-ghost use Rattle.std.specs.Prelude.{◌≡◌, ◌<◌, ◌≤◌, ◌*◌, IfOk, Ok};
+ghost use Rattle.std.specs.Prelude.{◌≡◌, ◌<◌, ◌≤◌, ◌+◌, ◌*◌, IfOk, Ok};
 ghost use Rattle.data_map.specs.Check.{bad_depth, checked, HasAlgorithm, IsChecked};
 ghost use Rattle.data_map.specs.Striping.{positions, replicas, group_width, groups, parities, data_units, stripe_length, replica_of};
 
@@ -166,7 +166,9 @@ impl DataMap {
     pub fn replica(&self, position: u32, i: u32) -> u32
         requires position { position < positions self.now }
         requires replica { i < replicas self.now }
-        ensures { result ≡ replica_of self.now position i }
+        ensures value { result ≡ replica_of self.now position i }
+        ensures inside { position * replicas self.now + replicas self.now ≤ self.now.comps }
+        ensures few { self.now.comps ≤ MAX_COMPONENTS }
     {
         position * (self.raw.mirrors + 1) + i
     }

@@ -40,7 +40,7 @@ without [] p i = if nat_lt i.first i.end then i ∷ [] else []
 without (t ∷ ts) p i =
     if t.position == p
     then without ts p (record { first = i.first; end = min i.end t.first })
-      ++ without ts p (record { first = max i.first t.end; end = i.end })
+    ++ without ts p (record { first = max i.first t.end; end = i.end })
     else without ts p i
 
 -- of each of these bytes

@@ -36,6 +36,10 @@ positions_out m out group = out_from m out (group * group_width m) (group_width 
 unfoldable pub is_short : RawMap → List ℕ → (s : ℕ) → Bool
 is_short m out s = nat_lt (parities m) (length (positions_out m out (group_of m s)))
 
+-- something where a test holds
+abbrev pub when : {X : Type 0} → Bool → X → Option X
+when t x = if t then Some x else None
+
 -- some position of the stripe's group is out
 unfoldable pub is_degraded : RawMap → List ℕ → (s : ℕ) → Bool
 is_degraded m out s = nat_lt 0 (length (positions_out m out (group_of m s)))

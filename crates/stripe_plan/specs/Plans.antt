@@ -58,7 +58,7 @@ written_stripe m r bytes got out s i zero = []
 written_stripe m r bytes got out s i (suc n) =
     (if is_out m out (group_of m s * group_width m + i) then []
     else written_columns m r bytes got out s (unit_in m s i) (group_of m s * group_width m + i)
-      (changed m r s (unit_in m s i)))
+    (changed m r s (unit_in m s i)))
     ++ written_stripe m r bytes got out s (i + 1) n
 
 -- of the stripes

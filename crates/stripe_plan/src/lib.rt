@@ -6,9 +6,13 @@
 //! specs/, over the formulas of `data_map` and the codewords of `parity_code`; nothing here sends anything.
 #![tactic(auto)]
 
+mod lost;
 mod plan;
+mod touched;
 
+pub use lost::{check_readable, check_writable, is_out, positions_out, source};
 pub use plan::{
-    Aim, Ask, Asks, Column, Columns, Fetched, Interval, Intervals, Out, Part, Piece, Pieces, PlanErr, Span, Store,
-    Stretch, Writes,
+    Aim, Ask, Asks, Column, Columns, Fetched, Interval, Intervals, Out, Part, Piece, Pieces,
+    PlanErr, Span, Store, Stretch, Writes,
 };
+pub use touched::{holds_whole, own_columns, touched_columns, touched_stripes};

@@ -1,0 +1,73 @@
+-- One step of each definition that goes up to an end.
+use Rattle.std.proofs.Common.{◌≡◌, ℕ, suc, ◌+◌, ◌-◌, ◌*◌, ◌<◌, ◌≤◌, Bool, true, false, List, [], ◌∷◌, refl, sym, ap, ◌∙◌, arith}
+use Rattle.std.specs.Prelude.{◌&&◌, ◌||◌, if◌then◌else◌, Option, Some, None}
+use Rattle.std.specs.List.{range_with_len}
+use Rattle.data_map.specs.declared.check.RawMap.{RawMap}
+use Rattle.data_map.specs.Striping.{replicas, group_of, position_of}
+use Rattle.stripe_plan.specs.declared.plan.Span.{Span}
+use Rattle.stripe_plan.specs.Touched.{touches}
+use Rattle.stripe_plan.specs.Lost.{among, source_from, source, is_out, out_from, positions_out, is_short, hit_from, is_hit, when, unreadable, unwritable}
+
+left : (i e : ℕ) → i < e → e - i ≡ suc (e - (i + 1))
+left i e lt = omega (arith, lt)
+
+pub none : (i e : ℕ) → e ≤ i → e - i ≡ 0
+none i e le = omega (arith, le)
+
+pub source_from_first : (m : RawMap) (out : List ℕ) (p k : ℕ) → k ≡ p * replicas m → source_from out k (k + replicas m - k) ≡ source m out p
+unfolding source
+source_from_first m out p k first = let n : k + replicas m - k ≡ replicas m = omega arith in rw (n, first) refl
+
+pub source_step : (out : List ℕ) (k e : ℕ) → k < e → source_from out k (e - k) ≡ (if among k out then source_from out (k + 1) (e - (k + 1)) else Some k)
+unfolding source_from
+source_step out k e lt = rw (left k e lt) refl
+
+pub source_end : (out : List ℕ) (k e : ℕ) → e ≤ k → source_from out k (e - k) ≡ None
+unfolding source_from
+source_end out k e le = rw (none k e le) refl
+
+pub out_step : (m : RawMap) (out : List ℕ) (p e : ℕ) → p < e →
+    out_from m out p (e - p) ≡ (if is_out m out p then p ∷ out_from m out (p + 1) (e - (p + 1)) else out_from m out (p + 1) (e - (p + 1)))
+unfolding out_from
+out_step m out p e lt = rw (left p e lt) refl
+
+pub out_end : (m : RawMap) (out : List ℕ) (p e : ℕ) → e ≤ p → out_from m out p (e - p) ≡ []
+unfolding out_from
+out_end m out p e le = rw (none p e le) refl
+
+pub hit_step : (m : RawMap) (r : Span) (out : List ℕ) (s c e : ℕ) → c < e →
+    hit_from m r out s c (e - c) ≡ ((touches m r s c && is_out m out (position_of m s c)) || hit_from m r out s (c + 1) (e - (c + 1)))
+unfolding hit_from
+hit_step m r out s c e lt = rw (left c e lt) refl
+
+pub hit_end : (m : RawMap) (r : Span) (out : List ℕ) (s c e : ℕ) → e ≤ c → hit_from m r out s c (e - c) ≡ false
+unfolding hit_from
+hit_end m r out s c e le = rw (none c e le) refl
+
+pub writable_step : (m : RawMap) (out : List ℕ) (s e : ℕ) → s < e →
+    unwritable m out (range_with_len s (e - s)) ≡ (if is_short m out s then Some (positions_out m out (group_of m s)) else unwritable m out (range_with_len (s + 1) (e - (s + 1))))
+unfolding unwritable
+writable_step m out s e lt = rw (left s e lt) refl
+
+pub writable_end : (m : RawMap) (out : List ℕ) (s e : ℕ) → e ≤ s → unwritable m out (range_with_len s (e - s)) ≡ None
+unfolding unwritable
+writable_end m out s e le = rw (none s e le) refl
+
+pub readable_step : (m : RawMap) (r : Span) (out : List ℕ) (s e : ℕ) → s < e →
+    unreadable m r out (range_with_len s (e - s))
+    ≡ (if is_hit m r out s && is_short m out s then Some (positions_out m out (group_of m s)) else unreadable m r out (range_with_len (s + 1) (e - (s + 1))))
+unfolding unreadable
+readable_step m r out s e lt = rw (left s e lt) refl
+
+pub readable_end : (m : RawMap) (r : Span) (out : List ℕ) (s e : ℕ) → e ≤ s → unreadable m r out (range_with_len s (e - s)) ≡ None
+unfolding unreadable
+readable_end m r out s e le = rw (none s e le) refl
+
+-- the first that is found, or the rest
+pub found_when : {X : Type 0} (t : Bool) (x y : X) (rest : Option X) → Some y ≡ when t x → (if t then Some x else rest) ≡ Some y
+found_when true x y rest e = sym e
+found_when false x y rest e = absurd (cc e)
+
+pub rest_when : {X : Type 0} (t : Bool) (x : X) (rest : Option X) → None ≡ when t x → (if t then Some x else rest) ≡ rest
+rest_when true x rest e = absurd (cc e)
+rest_when false x rest e = refl
