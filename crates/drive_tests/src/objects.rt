@@ -159,12 +159,20 @@ fn four_thousand_sparse_objects(rt: HostRuntime) -> Result<(), Fail> {
     Ok(())
 }
 
+// So many zeros.
+fn zeros(rt: &HostRuntime, count: usize) -> Result<Bytes, Fail>
+    requires { count < 2 ^ 63 }
+{
+    let mut bytes = Bytes::new(rt.alloc());
+    bytes.grow(count)?;
+    Ok(bytes)
+}
+
 #[test]
 fn a_long_write_takes_each_page_in_turn(rt: HostRuntime) -> Result<(), Fail> {
     let mut store = Store::new(rt.alloc(), 100_000_000);
     create(&rt, rt.alloc(), &mut store, 7)?;
-    let mut bytes = Bytes::new(rt.alloc());
-    bytes.grow(LONG)?;
+    let bytes = zeros(&rt, LONG)?;
     write(&rt, rt.alloc(), &mut store, 7, 1, bytes.as_slice())?;
     assert_eq!(rt;
         (store.pages(7), length_of(&store, 7)),
