@@ -1,5 +1,5 @@
 -- What is known of links and their connections.
-use Rattle.std.specs.Prelude.{◌≡◌, ℕ, ◌-◌, ◌<◌, ◌≤◌, Bool, List, [], ◌∷◌, ◌++◌, length, take, drop, slice_get, slice_set, unwrap_or, Option, None, Some, Result, Ok, Err}
+use Rattle.std.specs.Prelude.{◌≡◌, ℕ, ◌-◌, ◌<◌, ◌≤◌, Bool, List, [], ◌∷◌, ◌++◌, length, take, drop, slice_get, slice_set, unwrap_or, option_map, Option, None, Some, Result, Ok, Err}
 use Rattle.osd_bytes.specs.declared.node.Node.{Node}
 use Rattle.osd_bytes.specs.declared.source.Fault.{Fault}
 use Rattle.osd_bytes.specs.declared.links.Peer.{Peer}
@@ -94,3 +94,17 @@ abbrev pub Sends : Option Traffic → Option Traffic → Result ℕ Fault → Li
 Sends None new result bytes = new ≡ None
 Sends (Some a) new (Ok n) bytes = (0 < length a.asked) × (new ≡ Some (record a { asked = after_putting (take n bytes) a.asked }))
 Sends (Some a) new (Err e) bytes = new ≡ Some a
+
+-- ---- one end of a connection, where the links tell it
+
+abbrev pub accepted_left : Option Traffic → Option (List ℕ)
+accepted_left told = option_map (λ a. (newest a.accepted).left) told
+
+abbrev pub accepted_put : Option Traffic → Option (List ℕ)
+accepted_put told = option_map (λ a. (newest a.accepted).put) told
+
+abbrev pub asked_left : Option Traffic → Option (List ℕ)
+asked_left told = option_map (λ a. (newest a.asked).left) told
+
+abbrev pub asked_put : Option Traffic → Option (List ℕ)
+asked_put told = option_map (λ a. (newest a.asked).put) told

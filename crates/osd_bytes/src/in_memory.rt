@@ -44,14 +44,14 @@ impl MemSource {
     }
 }
 
-fn is_listed(fails: &[u32], call: u64) -> bool
+pub fn is_listed(fails: &[u32], call: u64) -> bool
     ensures { IsTrue result ↔ Contains fails.now call }
 {
     fails.iter().any(|n| u64::from(*n) == call)
 }
 
 // Copies as many bytes as both have room for.
-fn copy_front(rest: &[u8], buf: &mut [u8]) -> usize
+pub fn copy_front(rest: &[u8], buf: &mut [u8]) -> usize
     ensures count { result ≡ min (length rest.now) (length buf.old) }
     ensures bytes { take result buf.new ≡ take result rest.now }
 {

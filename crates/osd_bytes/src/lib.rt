@@ -7,11 +7,14 @@
 
 mod asking;
 mod clock;
+mod conversation;
+mod ends;
 mod header;
 mod in_memory;
 mod lines;
 mod links;
 mod lists;
+mod mem_links;
 mod memory;
 mod node;
 mod overwrite;
@@ -24,10 +27,12 @@ mod source;
 
 pub use asking::{ExchangeErr, exchange};
 pub use clock::{Clock, MemClock};
+pub use ends::{Accepted, Asking};
 pub use in_memory::{MemSink, MemSource};
 pub use lines::{LineErr, LineReader, MAX_INPUT, MAX_LINE};
 pub use links::{Links, Peer, Peers};
 pub use lists::{ByteLists, Bytes, Numbers, Rows, Times};
+pub use mem_links::MemLinks;
 pub use memory::Memory;
 pub use node::Node;
 pub use places::{first_nonzero_in, put_at, put_u16, put_u32, put_u64, u16_at, u32_at, u64_at};
