@@ -1,4 +1,8 @@
-use osd_bytes::{Bytes, LineErr, LineReader, MemSink, MemSource, Numbers, PutErr, Rows, put_all};
+use osd_bytes::{
+    Accepted, ByteLists, Bytes, Clock, ExchangeErr, LineErr, LineReader, Links, MemClock, MemLinks,
+    MemSink, MemSource, Node, Numbers, PutErr, RecordErr, Records, Rows, Times, exchange, frame,
+    put_all,
+};
 use std::test::Fail;
 
 fn source(rt: &HostRuntime, text: &[u8], fails: &[u32]) -> Result<MemSource, Fail> {
@@ -89,5 +93,248 @@ fn members_are_written_in_place(rt: HostRuntime) -> Result<(), Fail> {
     rows.push(Bytes::copied(rt.alloc(), b"abc")?)?;
     rows.get_mut(0).as_mut_slice().fill(b'd');
     assert_eq!(rt; rows.get(0).as_slice(), b"ddd".as_slice());
+    Ok(())
+}
+
+fn bytes(rt: &HostRuntime, hexadecimal: &str) -> Result<Bytes, Fail> {
+    Ok(Bytes::from_vec(hex::decode(rt.alloc(), hexadecimal)?))
+}
+
+fn lists(rt: &HostRuntime, members: &[&str]) -> Result<ByteLists, Fail> {
+    let mut lists = ByteLists::new(rt.alloc());
+    for member in members.iter() {
+        lists.push(bytes(rt, member)?)?;
+    }
+    Ok(lists)
+}
+
+#[test]
+fn a_frame_is_one_last_fragment(rt: HostRuntime) -> Result<(), Fail> {
+    let table = [("6162", "800000026162"), ("", "80000000")];
+    for (message, framed) in table {
+        let message = bytes(&rt, message)?;
+        assert!(rt; frame(rt.alloc(), message.as_slice())? == bytes(&rt, framed)?);
+    }
+    Ok(())
+}
+
+// The records of a stream that is fed in pieces of one length, joined by commas.
+fn fed(rt: &HostRuntime, stream: &[u8], length: usize) -> Result<Result<Vec<u8>, RecordErr>, Fail> {
+    let mut records = Records::new(rt.alloc());
+    let mut found = Vec::new(rt.alloc());
+    for piece in stream.chunks(length) {
+        match records.feed(piece) {
+            Ok(given) => {
+                for i in 0..given.len() {
+                    found.extend_from_slice(given.get(i).as_slice())?;
+                    found.push(b',')?;
+                }
+            }
+            Err(refused) => return Ok(Err(refused)),
+        }
+    }
+    Ok(Ok(found))
+}
+
+#[test]
+fn records_are_those_of_the_stream_however_cut(rt: HostRuntime) -> Result<(), Fail> {
+    // "ab" in two fragments, an empty record, "cde" in four fragments of which two are empty, and
+    // a record that isn't whole.
+    let stream = bytes(
+        &rt,
+        "0000000161800000016280000000000000026364000000000000000165800000008000000266",
+    )?;
+    for length in 1..40 {
+        let found = fed(&rt, stream.as_slice(), length)?;
+        assert!(rt; matches!(found, Ok(records) if records.as_slice() == b"ab,,cde,".as_slice()));
+    }
+    let mut records = Records::new(rt.alloc());
+    assert_eq!(rt;
+        records
+            .feed(bytes(&rt, "000000016180000001")?.as_slice())?
+            .len(),
+        0
+    );
+    let given = records.feed(b"b")?;
+    assert_eq!(rt; given.len(), 1);
+    assert_eq!(rt; given.get(0).as_slice(), b"ab".as_slice());
+    Ok(())
+}
+
+// A record of so many fragments of one byte, of which the last may be missing.
+fn fragments(rt: &HostRuntime, count: usize) -> Result<Bytes, Fail> {
+    let mut stream = Bytes::new(rt.alloc());
+    for _ in 1..count {
+        stream.extend_from_slice(&[0, 0, 0, 1, b'x'])?;
+    }
+    stream.extend_from_slice(&[128, 0, 0, 1, b'y'])?;
+    Ok(stream)
+}
+
+#[test]
+fn a_record_has_at_most_4096_fragments(rt: HostRuntime) -> Result<(), Fail> {
+    let whole = fed(&rt, fragments(&rt, 4096)?.as_slice(), 1000)?;
+    assert!(rt; matches!(whole, Ok(records) if records.len() == 4097));
+    let more = fed(&rt, fragments(&rt, 4097)?.as_slice(), 1000)?;
+    assert!(rt; matches!(more, Err(RecordErr::TooLong)));
+    Ok(())
+}
+
+#[test]
+fn a_record_has_at_most_300000_bytes(rt: HostRuntime) -> Result<(), Fail> {
+    let header = bytes(&rt, "800493e1")?;
+    assert!(rt; matches!(fed(&rt, header.as_slice(), 4)?, Err(RecordErr::TooLong)));
+    // One byte and then 300,000.
+    let two = bytes(&rt, "0000000161800493e0")?;
+    assert!(rt; matches!(fed(&rt, two.as_slice(), 9)?, Err(RecordErr::TooLong)));
+    let mut longest = Bytes::new(rt.alloc());
+    longest.grow(300_000)?;
+    let framed = frame(rt.alloc(), longest.as_slice())?;
+    assert!(rt; matches!(fed(&rt, framed.as_slice(), 1)?, Ok(records) if records.len() == 300_001));
+    Ok(())
+}
+
+#[test]
+fn a_refused_piece_changes_nothing(rt: HostRuntime) -> Result<(), Fail> {
+    let mut records = Records::new(rt.alloc());
+    records.feed(bytes(&rt, "0000000161")?.as_slice())?;
+    let piece = bytes(&rt, "8000000162800493e1")?;
+    assert!(rt; matches!(records.feed(piece.as_slice()), Err(RecordErr::TooLong)));
+    let (first, _) = piece.as_slice().split_at(5);
+    let given = records.feed(first)?;
+    assert_eq!(rt; given.get(0).as_slice(), b"ab".as_slice());
+    Ok(())
+}
+
+// An exchange of "m" with drive 0 over one connection on which a stream comes.
+fn exchanged(
+    rt: &HostRuntime,
+    stream: &str,
+    fails: &[u32],
+) -> Result<(MemLinks, Result<Bytes, ExchangeErr>), Fail> {
+    let mut links = MemLinks::new(
+        rt.alloc(),
+        lists(rt, &[])?,
+        lists(rt, &[stream])?,
+        Numbers::copied(rt.alloc(), fails)?,
+    );
+    let answer = exchange(rt.alloc(), &mut links, Node::Drive(0), b"m");
+    Ok((links, answer))
+}
+
+#[test]
+fn an_exchange_gives_the_first_record(rt: HostRuntime) -> Result<(), Fail> {
+    // What follows the first record isn't looked at, even a record that is too long.
+    let table = [
+        "8000000161",
+        "00000001618000000080000001",
+        "8000000161800493e1",
+    ];
+    for stream in table {
+        let (mut links, answer) = exchanged(&rt, stream, &[])?;
+        assert!(rt; matches!(answer, Ok(record) if record.as_slice() == b"a".as_slice()));
+        assert_eq!(rt; links.asked_count(), 1);
+        assert_eq!(rt; links.sent_on(0), [128, 0, 0, 1, b'm'].as_slice());
+        assert!(rt; links.send(b"x").is_err());
+    }
+    Ok(())
+}
+
+#[test]
+fn an_exchange_is_refused_by_its_cause(rt: HostRuntime) -> Result<(), Fail> {
+    let table: [(&str, &[u32], ExchangeErr); 9] = [
+        ("", &[], ExchangeErr::Ended),
+        ("80000001", &[], ExchangeErr::Ended),
+        ("0000000161", &[], ExchangeErr::Ended),
+        ("800493e1", &[], ExchangeErr::TooLong),
+        ("0000000161800493e0", &[], ExchangeErr::TooLong),
+        ("8000000161", &[0], ExchangeErr::LinkFault),
+        ("8000000161", &[1], ExchangeErr::LinkFault),
+        ("8000000161", &[2], ExchangeErr::LinkFault),
+        ("80000001", &[3], ExchangeErr::LinkFault),
+    ];
+    for (stream, fails, cause) in table {
+        let (mut links, answer) = exchanged(&rt, stream, fails)?;
+        assert!(rt; matches!(answer, Err(refused) if refused == cause));
+        // The connection is closed.
+        assert!(rt; links.send(b"x").is_err());
+    }
+    Ok(())
+}
+
+#[test]
+fn a_failed_exchange_takes_nothing_of_the_next(rt: HostRuntime) -> Result<(), Fail> {
+    for failing in 0..3 {
+        let mut links = MemLinks::new(
+            rt.alloc(),
+            lists(&rt, &[])?,
+            lists(&rt, &["8000000161", "8000000162"])?,
+            Numbers::copied(rt.alloc(), &[failing])?,
+        );
+        let first = exchange(rt.alloc(), &mut links, Node::Server, b"m");
+        assert!(rt; matches!(first, Err(ExchangeErr::LinkFault)));
+        let second = exchange(rt.alloc(), &mut links, Node::Server, b"m");
+        assert!(rt; matches!(second, Ok(record) if record.as_slice() == b"b".as_slice()));
+    }
+    Ok(())
+}
+
+#[test]
+fn accepted_connections_come_in_order(rt: HostRuntime) -> Result<(), Fail> {
+    let mut links = MemLinks::new(
+        rt.alloc(),
+        lists(&rt, &["6162", "63"])?,
+        lists(&rt, &[])?,
+        Numbers::copied(rt.alloc(), &[3])?,
+    );
+    let mut buf = [0u8; 8];
+    assert!(rt; links.take(&mut buf).is_err());
+    assert!(rt; links.accept().is_ok());
+    assert!(rt; matches!(links.take(&mut buf), Ok(2)));
+    assert!(rt; links.put(b"x").is_err());
+    assert!(rt; matches!(links.put(b"xy"), Ok(2)));
+    assert!(rt; matches!(links.take(&mut buf), Ok(0)));
+    assert!(rt; links.accept().is_ok());
+    assert!(rt; matches!(links.take(&mut buf), Ok(1)));
+    assert!(rt; links.accept().is_ok());
+    assert!(rt; matches!(links.take(&mut buf), Ok(0)));
+    assert_eq!(rt; links.accepts(), 3);
+    assert_eq!(rt; links.put_on(0), b"xy".as_slice());
+    assert_eq!(rt; links.put_on(1), b"".as_slice());
+    Ok(())
+}
+
+#[test]
+fn an_accepted_connection_is_a_source_and_a_sink(rt: HostRuntime) -> Result<(), Fail> {
+    let mut links = MemLinks::new(
+        rt.alloc(),
+        lists(&rt, &["610a62"])?,
+        lists(&rt, &[])?,
+        Numbers::new(rt.alloc()),
+    );
+    assert!(rt; links.accept().is_ok());
+    let mut end = Accepted { links: &mut links };
+    let mut reader = LineReader::new(rt.alloc());
+    assert!(rt;
+        matches!(reader.next_line(&mut end), Ok(Some(line)) if line.as_slice() == b"a".as_slice())
+    );
+    assert!(rt; put_all(&mut end, b"xyz").is_ok());
+    assert_eq!(rt; links.put_on(0), b"xyz".as_slice());
+    Ok(())
+}
+
+#[test]
+fn the_last_time_is_told_again(rt: HostRuntime) -> Result<(), Fail> {
+    let table: [(&[u64], [u64; 4]); 3] = [
+        (&[], [0, 0, 0, 0]),
+        (&[7], [7, 7, 7, 7]),
+        (&[5, 3, 9], [5, 3, 9, 9]),
+    ];
+    for (times, told) in table {
+        let mut clock = MemClock::new(Times::copied(rt.alloc(), times)?);
+        for expected in told {
+            assert_eq!(rt; clock.now(), expected);
+        }
+    }
     Ok(())
 }

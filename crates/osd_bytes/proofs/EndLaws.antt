@@ -1,9 +1,9 @@
 -- The ends of connections as sources and sinks.
-use Rattle.std.proofs.Common.{◌≡◌, ℕ, zero, suc, ◌+◌, ◌-◌, ◌<◌, List, [], ◌∷◌, ◌++◌, length, take, drop, Option, None, Some, Result, Ok, Err, refl, sym, ap, ◌∙◌, subst, arith}
-use Rattle.std.specs.Prelude.{slice_get, slice_set, unwrap_or}
-use Rattle.std.specs.Io.KnownBytes.{ReadConsumes, WriteAppends, Consumes, Appends, IsAtEnd}
+use Rattle.std.proofs.Common.{◌≡◌, ℕ, zero, suc, ◌+◌, ◌-◌, ◌<◌, List, [], ◌∷◌, ◌++◌, length, take, drop, Option, None, Some, Result, Ok, Err, refl, sym, ap, ◌∙◌, arith}
+use Rattle.std.specs.Prelude.{slice_get, slice_set}
+use Rattle.std.specs.Io.KnownBytes.{ReadConsumes, WriteAppends}
 use Rattle.std.proofs.lemmas.List.{take-append-drop, length-set, drop-drop}
-use Rattle.osd_bytes.specs.Connections.{Talk, Traffic, Comes, begin, newest, with_newest, after_taking, after_putting, Takes, Puts, Receives, Sends, accepted_left, accepted_put, asked_left, asked_put}
+use Rattle.osd_bytes.specs.Connections.{Talk, Traffic, Comes, newest, with_newest, after_taking, after_putting, Takes, Puts, Receives, Sends, accepted_left, accepted_put, asked_left, asked_put}
 use Rattle.osd_bytes.specs.declared.source.Fault.{Fault}
 
 get-set : (xs : List Talk) (i : ℕ) (t : Talk) → i < length xs → slice_get (slice_set xs i t) i ≡ Some t

@@ -1,14 +1,13 @@
 -- Exchanges over connections whose bytes are told.
-use Rattle.std.proofs.Common.{◌≡◌, ℕ, ◌+◌, ◌-◌, ◌<◌, ◌≤◌, List, [], ◌∷◌, ◌++◌, length, take, drop, Option, None, Some, Ok, Err, Result, refl, sym, ap, subst, inl, inr, ◌∙◌, append_assoc, arith}
-use Rattle.std.specs.Prelude.{slice_get, slice_set, unwrap_or}
+use Rattle.std.proofs.Common.{◌≡◌, ℕ, ◌-◌, ◌<◌, List, [], ◌∷◌, ◌++◌, length, take, drop, Option, None, Some, Ok, Err, Result, refl, sym, ap, subst, inl, inr, ◌∙◌, append_assoc, arith}
+use Rattle.std.specs.Prelude.{slice_get}
 use Rattle.std.proofs.lemmas.List.{append-nil, length-append, take-append-drop}
 use Rattle.std.proofs.Math.Seq.{set-append_seam}
 use Rattle.osd_bytes.specs.Connections.{Talk, Traffic, begin, newest, with_newest, with_asked, next_stream, Sends, Receives}
 use Rattle.osd_bytes.specs.Connections.{Comes, Connects, after_taking, after_putting}
 use Rattle.osd_bytes.specs.Exchanges.{Exchanges, WasSent, WasReceived, ReceivesFirst, IsFirst, LeftOf, first_or, first_record}
-use Rattle.osd_bytes.specs.Records.{Begun, Split, FindsFirst, HasRead, fresh, split, framed}
+use Rattle.osd_bytes.specs.Records.{Begun, Split, HasRead, fresh, split, framed}
 use Rattle.osd_bytes.specs.declared.source.Fault.{Fault}
-use Rattle.osd_bytes.specs.declared.records.RecordErr.{RecordErr}
 use Rattle.osd_bytes.specs.declared.asking.ExchangeErr.{ExchangeErr}
 use Rattle.osd_bytes.specs.declared.asking.ExchangeErr.TheVariants.{LinkFault, Ended, TooLong, Memory}
 use Rattle.osd_bytes.proofs.RecordLaws.{carried, split-append}

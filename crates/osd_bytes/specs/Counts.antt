@@ -1,5 +1,5 @@
 -- The four counts of faults of links.
-use Rattle.std.specs.Prelude.{◌≡◌, ℕ, ◌≤◌, Option, None, Some, Result, OnOk, OnErr}
+use Rattle.std.specs.Prelude.{◌≡◌, ℕ, ◌≤◌, Option, Some, Result, OnOk, OnErr}
 use Rattle.osd_bytes.specs.Causes.{Rose}
 use Rattle.osd_bytes.specs.declared.node.Node.{Node}
 use Rattle.osd_bytes.specs.declared.node.Node.TheVariants.{Server}

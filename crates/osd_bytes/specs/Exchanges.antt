@@ -2,8 +2,8 @@
 use Rattle.std.specs.Prelude.{◌≡◌, ◌⊎◌, ℕ, List, [], ◌∷◌, ◌++◌, ⊤, Option, None, Some, Result, Ok, Err}
 use Rattle.osd_bytes.specs.Causes.{Rose}
 use Rattle.osd_bytes.specs.Connections.{Talk, Traffic, next_stream, with_asked, without_stream}
-use Rattle.osd_bytes.specs.Counts.{Faults, NoFewer, asking_count}
-use Rattle.osd_bytes.specs.Records.{Begun, Split, fresh, split, framed}
+use Rattle.osd_bytes.specs.Counts.{Faults, NoFewer}
+use Rattle.osd_bytes.specs.Records.{Begun, fresh, split, framed}
 use Rattle.osd_bytes.specs.declared.node.Node.{Node}
 use Rattle.osd_bytes.specs.declared.asking.ExchangeErr.{ExchangeErr}
 use Rattle.osd_bytes.specs.declared.asking.ExchangeErr.TheVariants.{LinkFault, Ended, TooLong, Memory}

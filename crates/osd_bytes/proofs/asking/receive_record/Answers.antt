@@ -1,5 +1,4 @@
-use Rattle.std.proofs.Common.{rules, ◌≡◌, ◌<◌, ◌++◌, [], length, take, refl, ◌∙◌, arith}
-use Rattle.osd_bytes.specs.Records.{split}
+use Rattle.std.proofs.Common.{rules, ◌++◌, [], take, refl, ◌∙◌}
 use Rattle.osd_bytes.proofs.RecordLaws.{split-nil, read_on}
 use Rattle.osd_bytes.proofs.ExchangeLaws.{received-nil, received-then, receives-first, receives-long, receives-none, receives-end}
 use Rattle.osd_bytes.proofs.asking.receive_record.Goals as goal
