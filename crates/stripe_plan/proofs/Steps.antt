@@ -1,11 +1,15 @@
 -- One step of each definition that goes up to an end.
-use Rattle.std.proofs.Common.{◌≡◌, ℕ, suc, ◌+◌, ◌-◌, ◌*◌, ◌<◌, ◌≤◌, Bool, true, false, List, [], ◌∷◌, refl, sym, ap, ◌∙◌, arith}
+use Rattle.std.proofs.Common.{◌≡◌, ℕ, suc, ◌+◌, ◌-◌, ◌*◌, ◌<◌, ◌≤◌, Bool, true, false, List, [], ◌∷◌, ◌++◌, refl, sym, ap, ◌∙◌, arith, append_assoc, append-nil}
 use Rattle.std.specs.Prelude.{◌&&◌, ◌||◌, if◌then◌else◌, Option, Some, None}
 use Rattle.std.specs.List.{range_with_len}
 use Rattle.data_map.specs.declared.check.RawMap.{RawMap}
-use Rattle.data_map.specs.Striping.{replicas, group_of, position_of}
+use Rattle.data_map.specs.Striping.{replicas, group_width, group_of, position_of}
 use Rattle.stripe_plan.specs.declared.plan.Span.{Span}
+use Rattle.stripe_plan.specs.declared.plan.Interval.{Interval}
+use Rattle.stripe_plan.specs.declared.plan.Stretch.{Stretch}
+use Rattle.stripe_plan.specs.declared.plan.Aim.{Aim}
 use Rattle.stripe_plan.specs.Touched.{touches}
+use Rattle.stripe_plan.specs.Asks.{asks_of, asks_each, asks_place, asks_stripe, asks}
 use Rattle.stripe_plan.specs.Lost.{among, source_from, source, is_out, out_from, positions_out, is_short, hit_from, is_hit, when, unreadable, unwritable}
 
 left : (i e : ℕ) → i < e → e - i ≡ suc (e - (i + 1))
@@ -62,6 +66,44 @@ readable_step m r out s e lt = rw (left s e lt) refl
 pub readable_end : (m : RawMap) (r : Span) (out : List ℕ) (s e : ℕ) → e ≤ s → unreadable m r out (range_with_len s (e - s)) ≡ None
 unfolding unreadable
 readable_end m r out s e le = rw (none s e le) refl
+
+pub each_first : (out : List ℕ) (s p k n : ℕ) (is : List Interval) → asks_each out s p k (k + n - k) is ≡ asks_each out s p k n is
+each_first out s p k n is = let e : k + n - k ≡ n = omega arith in rw e refl
+
+pub each_step : (out : List ℕ) (s p k e : ℕ) (is : List Interval) → k < e →
+    asks_each out s p k (e - k) is ≡ (if among k out then asks_each out s p (k + 1) (e - (k + 1)) is else asks_of s p k is ++ asks_each out s p (k + 1) (e - (k + 1)) is)
+unfolding asks_each
+each_step out s p k e is lt = rw (left k e lt) refl
+
+pub each_end : (out : List ℕ) (s p k e : ℕ) (is : List Interval) → e ≤ k → asks_each out s p k (e - k) is ≡ []
+unfolding asks_each
+each_end out s p k e is le = rw (none k e le) refl
+
+pub place_step : (aim : Aim) (m : RawMap) (r : Span) (out : List ℕ) (had : List Stretch) (s i e : ℕ) → i < e →
+    asks_stripe aim m r out had s i (e - i) ≡ asks_place aim m r out had s i ++ asks_stripe aim m r out had s (i + 1) (e - (i + 1))
+unfolding asks_stripe
+place_step aim m r out had s i e lt = rw (left i e lt) refl
+
+pub place_end : (aim : Aim) (m : RawMap) (r : Span) (out : List ℕ) (had : List Stretch) (s i e : ℕ) → e ≤ i → asks_stripe aim m r out had s i (e - i) ≡ []
+unfolding asks_stripe
+place_end aim m r out had s i e le = rw (none i e le) refl
+
+pub stripe_step : (aim : Aim) (m : RawMap) (r : Span) (out : List ℕ) (had : List Stretch) (s e : ℕ) → s < e →
+    asks aim m r out had (range_with_len s (e - s)) ≡ asks_stripe aim m r out had s 0 (group_width m) ++ asks aim m r out had (range_with_len (s + 1) (e - (s + 1)))
+unfolding asks
+stripe_step aim m r out had s e lt = rw (left s e lt) refl
+
+pub stripe_end : (aim : Aim) (m : RawMap) (r : Span) (out : List ℕ) (had : List Stretch) (s e : ℕ) → e ≤ s → asks aim m r out had (range_with_len s (e - s)) ≡ []
+unfolding asks
+stripe_end aim m r out had s e le = rw (none s e le) refl
+
+-- what is made and one more, and the rest
+pub one_more : {A : Type 0} (made next rest all new : List A) → new ≡ made ++ next → made ++ (next ++ rest) ≡ all → new ++ rest ≡ all
+one_more made next rest all new e i = ap (λ xs. xs ++ rest) e ∙ append_assoc made next rest ∙ i
+
+-- all is made
+pub no_more : {A : Type 0} (made rest all : List A) → rest ≡ [] → made ++ rest ≡ all → made ≡ all
+no_more made rest all e i = sym (append-nil made) ∙ ap (λ xs. made ++ xs) (sym e) ∙ i
 
 -- the first that is found, or the rest
 pub found_when : {X : Type 0} (t : Bool) (x y : X) (rest : Option X) → Some y ≡ when t x → (if t then Some x else rest) ≡ Some y

@@ -34,14 +34,27 @@ needed Scatters m r out s c = changed m r s c
 abbrev pub at_row : RawMap → (s : ℕ) → Interval → Interval
 at_row m s i = record { first = offset_of m s i.first; end = offset_of m s i.end }
 
+abbrev pub at_rows : RawMap → (s : ℕ) → List Interval → List Interval
+at_rows m s is = map (at_row m s) is
+
+-- an interval, if it has bytes
+abbrev pub some_of : Interval → List Interval
+some_of i = if nat_lt i.first i.end then i ∷ [] else []
+
+-- the bytes of an interval before a stretch and behind it
+abbrev pub before : Stretch → Interval → Interval
+before t i = record { first = i.first; end = min i.end t.first }
+
+abbrev pub behind : Stretch → Interval → Interval
+behind t i = record { first = max i.first t.end; end = i.end }
+
+abbrev pub cut : Stretch → Interval → List Interval
+cut t i = some_of (before t i) ++ some_of (behind t i)
+
 -- the bytes of a position that aren't had yet
 unfoldable pub without : List Stretch → (p : ℕ) → Interval → List Interval
-without [] p i = if nat_lt i.first i.end then i ∷ [] else []
-without (t ∷ ts) p i =
-    if t.position == p
-    then without ts p (record { first = i.first; end = min i.end t.first })
-    ++ without ts p (record { first = max i.first t.end; end = i.end })
-    else without ts p i
+without [] p i = some_of i
+without (t ∷ ts) p i = if t.position == p then without ts p (before t i) ++ without ts p (behind t i) else without ts p i
 
 -- of each of these bytes
 unfoldable pub without_each : List Stretch → (p : ℕ) → List Interval → List Interval
@@ -73,7 +86,7 @@ asks_position Scatters m out s p is = asks_each out s p (p * replicas m) (replic
 unfoldable pub asks_place : Aim → RawMap → Span → List ℕ → List Stretch → (s i : ℕ) → List Ask
 asks_place aim m r out had s i =
     asks_position aim m out s (group_of m s * group_width m + i)
-    (without_each had (group_of m s * group_width m + i) (map (at_row m s) (needed aim m r out s (unit_in m s i))))
+    (without_each had (group_of m s * group_width m + i) (at_rows m s (needed aim m r out s (unit_in m s i))))
 
 -- of n places from i on
 unfoldable pub asks_stripe : Aim → RawMap → Span → List ℕ → List Stretch → (s i n : ℕ) → List Ask

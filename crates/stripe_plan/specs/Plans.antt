@@ -37,6 +37,9 @@ writes m r out = asks Scatters m r out [] (stripes m r)
 abbrev pub piece_of : Ask → Piece
 piece_of a = record { component = a.component; offset = a.offset; length = a.length }
 
+abbrev pub pieces_of : List Ask → List Piece
+pieces_of xs = map piece_of xs
+
 -- what came of components, by their positions
 abbrev pub columns_of : RawMap → List Part → List Column
 columns_of m got = map (λ (t : Part). record { position = t.component / replicas m; offset = t.offset; bytes = t.bytes }) got
@@ -95,11 +98,11 @@ unless_lost (Some ps) x = Err (TooManyLost ps)
 
 -- the pieces of a read
 unfoldable pub plan_read : RawMap → Span → List ℕ → Result (List Piece) PlanErr
-plan_read m r out = unless_lost (unreadable m r out (stripes m r)) (map piece_of (reads m r out))
+plan_read m r out = unless_lost (unreadable m r out (stripes m r)) (pieces_of (reads m r out))
 
 -- the pieces of a gather
 unfoldable pub plan_gather : RawMap → Span → List ℕ → Result (List Piece) PlanErr
-plan_gather m r out = unless_lost (unwritable m out (stripes m r)) (map piece_of (gathers m r out))
+plan_gather m r out = unless_lost (unwritable m out (stripes m r)) (pieces_of (gathers m r out))
 
 -- the new columns of a write, by what was fetched
 unfoldable pub apply_and_encode : RawMap → Span → List ℕ → List Part → List ℕ → Result (List Column) PlanErr

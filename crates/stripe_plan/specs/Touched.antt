@@ -2,6 +2,7 @@
 use Rattle.std.specs.Prelude.{ℕ, ◌+◌, ◌-◌, ◌*◌, ◌%◌, ◌==◌, ◌≤◌, ◌<◌, ◌&&◌, Bool, nat_le, nat_lt, min, max, if◌then◌else◌, List, [], ◌∷◌}
 use Rattle.std.specs.List.{range_with_len}
 use Rattle.data_map.specs.declared.check.RawMap.{RawMap}
+use Rattle.data_map.specs.declared.ranges.TheConstants.{MAX_FILE_SIZE}
 use Rattle.data_map.specs.Striping.{stripe_of, stripe_length, data_units}
 use Rattle.stripe_plan.specs.declared.plan.Span.{Span}
 use Rattle.stripe_plan.specs.declared.plan.Interval.{Interval}
@@ -26,6 +27,10 @@ own m r s c = record {
   first = max r.offset (unit_start m s c) - unit_start m s c;
   end = min (end_of r) (unit_start m s c + m.unit) - unit_start m s c;
 }
+
+-- no further than a file is long
+abbrev pub IsLow : Interval → Type 0
+IsLow i = (i.first ≤ MAX_FILE_SIZE) × (i.end ≤ MAX_FILE_SIZE)
 
 -- whether the range has bytes in data unit c of stripe s
 unfoldable pub touches : RawMap → Span → (s c : ℕ) → Bool

@@ -6,13 +6,20 @@
 //! specs/, over the formulas of `data_map` and the codewords of `parity_code`; nothing here sends anything.
 #![tactic(auto)]
 
+mod asking;
+mod left;
 mod lost;
+mod needed;
 mod plan;
+mod plans;
 mod touched;
 
+pub use asking::asks;
 pub use lost::{check_readable, check_writable, is_out, positions_out, source};
+pub use needed::is_degraded;
 pub use plan::{
     Aim, Ask, Asks, Column, Columns, Fetched, Interval, Intervals, Out, Part, Piece, Pieces,
     PlanErr, Span, Store, Stretch, Writes,
 };
+pub use plans::{plan_gather, plan_read};
 pub use touched::{holds_whole, own_columns, touched_columns, touched_stripes};

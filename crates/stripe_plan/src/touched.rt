@@ -1,8 +1,8 @@
 // The stripes and columns that a range of a file touches.
 ghost use Rattle.std.specs.Prelude.{◌≡◌, ◌+◌, ◌-◌, ◌*◌, ◌<◌, ◌≤◌, IfOk};
-ghost use Rattle.std.specs.List.{range_with_len};
+ghost use Rattle.std.specs.List.{All, range_with_len};
 ghost use Rattle.data_map.specs.Striping.{stripe_length, group_width};
-ghost use Rattle.stripe_plan.specs.Touched.{stripes, unit_start, own, touches, low, high, columns_between, columns, whole};
+ghost use Rattle.stripe_plan.specs.Touched.{stripes, unit_start, own, IsLow, low, high, columns_between, columns, whole};
 
 use crate::plan::{Interval, Intervals, Span};
 use data_map::{DataMap, MAX_FILE_SIZE, MAX_STRIPE_UNIT, MAX_WIDTH};
@@ -50,7 +50,8 @@ pub fn own_columns(map: &DataMap, range: Span, stripe: u64, unit: u32) -> Interv
     requires inside { range.offset + range.length ≤ MAX_FILE_SIZE }
     requires stripe { stripe ≤ MAX_FILE_SIZE }
     requires unit { unit < group_width map.now }
-    ensures { result ≡ own map.now range stripe unit }
+    ensures value { result ≡ own map.now range stripe unit }
+    ensures low { IsLow result }
 {
     let start = unit_start(map, stripe, unit);
     let length = map.raw().unit;
@@ -72,7 +73,8 @@ pub fn touched_columns(
 ) -> Result<Intervals, Memory>
     requires inside { range.offset + range.length ≤ MAX_FILE_SIZE }
     requires stripe { stripe ≤ MAX_FILE_SIZE }
-    ensures { IfOk result (λ is. is ≡ columns map.now range stripe) }
+    ensures value { IfOk result (λ is. is ≡ columns map.now range stripe) }
+    ensures low { IfOk result (λ is. All IsLow is) }
 {
     let start = stripe_start(map, stripe);
     let next = stripe_start(map, stripe + 1);
@@ -87,7 +89,8 @@ pub fn touched_columns(
 #[tactic(auto, unfolding(crate::specs::Touched::columns_between))]
 fn columns_between(alloc: Global, unit: u64, low: u64, high: u64) -> Result<Intervals, Memory>
     requires { (0 < unit) × (unit ≤ MAX_STRIPE_UNIT) }
-    ensures { IfOk result (λ is. is ≡ columns_between unit low high) }
+    ensures value { IfOk result (λ is. is ≡ columns_between unit low high) }
+    ensures low { IfOk result (λ is. All IsLow is) }
 {
     let mut intervals = Intervals::new(alloc);
     if high.saturating_sub(low) >= unit {

@@ -1,0 +1,147 @@
+// What a plan asks of which components.
+ghost use Rattle.std.specs.Prelude.{◌≡◌, ◌+◌, ◌<◌, ◌≤◌, ◌++◌, IfOk, OnOk};
+ghost use Rattle.data_map.specs.Striping.{group_width, positions};
+ghost use Rattle.stripe_plan.specs.declared.plan.Aim.TheVariants.{Reads, Scatters};
+ghost use Rattle.stripe_plan.specs.Touched.{stripes};
+ghost use Rattle.stripe_plan.specs.Asks.{asks_of, asks_position, asks_place, asks_stripe, asks};
+
+use crate::left::left_of_each;
+use crate::lost::{is_among, source};
+use crate::needed::needed;
+use crate::plan::{Aim, Ask, Asks, Interval, Out, Span, Stretch};
+use crate::touched::touched_stripes;
+use data_map::{DataMap, MAX_FILE_SIZE};
+use osd_bytes::Memory;
+use std::alloc::Global;
+
+// These bytes of a component.
+fn push_component(
+    asks: &mut Asks,
+    stripe: u64,
+    position: u32,
+    component: u32,
+    bytes: &[Interval],
+) -> Result<(), Memory>
+    ensures { OnOk result (asks.new ≡ asks.old ++ asks_of stripe position component bytes.now) }
+{
+    for interval in bytes {
+        asks.push(Ask {
+            stripe,
+            position,
+            component,
+            offset: interval.first,
+            length: interval.end.saturating_sub(interval.first),
+        })?;
+    }
+    Ok(())
+}
+
+// These bytes of the component of a position that is read.
+fn push_source(
+    asks: &mut Asks,
+    map: &DataMap,
+    out: &Out,
+    stripe: u64,
+    position: u32,
+    bytes: &[Interval],
+) -> Result<(), Memory>
+    requires { position < positions map.now }
+    ensures { OnOk result (asks.new ≡ asks.old ++ asks_position Reads map.now out.now.components stripe position bytes.now) }
+{
+    match source(map, out, position) {
+        Some(component) => push_component(asks, stripe, position, component, bytes),
+        None => Ok(()),
+    }
+}
+
+// These bytes of each component of a position that isn't out.
+fn push_each(
+    asks: &mut Asks,
+    map: &DataMap,
+    out: &Out,
+    stripe: u64,
+    position: u32,
+    bytes: &[Interval],
+) -> Result<(), Memory>
+    requires { position < positions map.now }
+    ensures { OnOk result (asks.new ≡ asks.old ++ asks_position Scatters map.now out.now.components stripe position bytes.now) }
+{
+    let first = map.replica(position, 0);
+    for component in first..first + map.replicas() {
+        if !is_among(component, out) {
+            push_component(asks, stripe, position, component, bytes)?;
+        }
+    }
+    Ok(())
+}
+
+// What a plan needs and hasn't of one place of a stripe's group.
+#[tactic(auto, unfolding(crate::specs::Asks::asks_place))]
+fn push_place(
+    asks: &mut Asks,
+    alloc: Global,
+    aim: Aim,
+    map: &DataMap,
+    range: Span,
+    out: &Out,
+    had: &[Stretch],
+    stripe: u64,
+    place: u32,
+) -> Result<(), Memory>
+    requires inside { range.offset + range.length ≤ MAX_FILE_SIZE }
+    requires stripe { stripe ≤ MAX_FILE_SIZE }
+    requires place { place < group_width map.now }
+    ensures { OnOk result (asks.new ≡ asks.old ++ asks_place aim map.now range out.now.components had.now stripe place) }
+{
+    let unit = map.unit_in(stripe, place);
+    let position = map.group(stripe) * map.group_width() + place;
+    let columns = needed(alloc, aim, map, range, out, stripe, unit)?;
+    let left = left_of_each(alloc, map, had, stripe, position, columns.as_slice())?;
+    match aim {
+        Aim::Reads | Aim::Gathers => push_source(asks, map, out, stripe, position, left.as_slice()),
+        Aim::Scatters => push_each(asks, map, out, stripe, position, left.as_slice()),
+    }
+}
+
+// What a plan needs and hasn't of a stripe.
+fn push_stripe(
+    asks: &mut Asks,
+    alloc: Global,
+    aim: Aim,
+    map: &DataMap,
+    range: Span,
+    out: &Out,
+    had: &[Stretch],
+    stripe: u64,
+) -> Result<(), Memory>
+    requires inside { range.offset + range.length ≤ MAX_FILE_SIZE }
+    requires stripe { stripe ≤ MAX_FILE_SIZE }
+    ensures { OnOk result (asks.new ≡ asks.old ++ asks_stripe aim map.now range out.now.components had.now stripe 0 (group_width map.now)) }
+{
+    for place in 0..map.group_width() {
+        push_place(asks, alloc, aim, map, range, out, had, stripe, place)?;
+    }
+    Ok(())
+}
+
+/// What a plan asks of which components, where these stretches of positions are had already: by stripe, component and
+/// offset. A plan that reads asks a position's first component that isn't out, one that writes all that aren't. The
+/// range ends at most at [`MAX_FILE_SIZE`].
+pub fn asks(
+    alloc: Global,
+    aim: Aim,
+    map: &DataMap,
+    range: Span,
+    out: &Out,
+    had: &[Stretch],
+) -> Result<Asks, Memory>
+    requires { range.offset + range.length ≤ MAX_FILE_SIZE }
+    ensures { IfOk result (λ xs. xs ≡ asks aim map.now range out.now.components had.now (stripes map.now range)) }
+{
+    let (first, end) = touched_stripes(map, range);
+    let mut all = Asks::new(alloc);
+    for stripe in first..end {
+        push_stripe(&mut all, alloc, aim, map, range, out, had, stripe)?;
+    }
+    Ok(all)
+}

@@ -1,0 +1,87 @@
+// The plans of reads and writes.
+ghost use Rattle.std.specs.Prelude.{◌≡◌, ◌+◌, ◌≤◌, ◌++◌, IfOk};
+ghost use Rattle.stripe_plan.specs.Plans.{gathers, pieces_of, plan_gather, plan_read, span, Gives};
+
+use crate::asking::asks;
+use crate::lost::{check_readable, check_writable};
+use crate::plan::{Aim, Asks, Out, Piece, Pieces, PlanErr, Span};
+use data_map::{DataMap, MAX_FILE_SIZE};
+use osd_bytes::Memory;
+use std::alloc::Global;
+
+// The ranges of components that are asked.
+fn pieces(alloc: Global, asks: &Asks) -> Result<Pieces, Memory>
+    ensures { IfOk result (λ ps. ps ≡ pieces_of asks.now) }
+{
+    let mut pieces = Pieces::new(alloc);
+    for ask in asks.as_slice() {
+        pieces.push(Piece {
+            component: ask.component,
+            offset: ask.offset,
+            length: ask.length,
+        })?;
+    }
+    Ok(pieces)
+}
+
+/// What a read of a range reads: its own columns of each data position, from the first component that isn't out, or,
+/// in a stripe where such a position is out, the touched columns of every other position. By stripe, component and
+/// offset.
+///
+/// The range ends at most at [`MAX_FILE_SIZE`]. `TooManyLost` comes exactly where a touched stripe has a touched data
+/// position out and more positions out than it has parity, with those of the first such stripe.
+#[tactic(auto, unfolding(crate::specs::Plans::plan_read))]
+pub fn plan_read(
+    alloc: Global,
+    map: &DataMap,
+    off: u64,
+    len: u64,
+    out: &Out,
+) -> Result<Pieces, PlanErr>
+    requires { off + len ≤ MAX_FILE_SIZE }
+    ensures { Gives (plan_read map.now (span off len) out.now.components) result }
+{
+    let range = Span {
+        offset: off,
+        length: len,
+    };
+    check_readable(alloc, map, range, out)?;
+    Ok(pieces(alloc, &asks(alloc, Aim::Reads, map, range, out, &[])?)?)
+}
+
+// What a write asks for before it writes.
+fn gathers(alloc: Global, map: &DataMap, range: Span, out: &Out) -> Result<Asks, Memory>
+    requires { range.offset + range.length ≤ MAX_FILE_SIZE }
+    ensures { IfOk result (λ xs. xs ≡ gathers map.now range out.now.components) }
+{
+    if map.parities() == 0 {
+        return Ok(Asks::new(alloc));
+    }
+    asks(alloc, Aim::Gathers, map, range, out, &[])
+}
+
+/// What a write of a range reads first, nothing in a file without parity. In a stripe that the range holds whole it
+/// reads nothing; in another, where no position is out, its own columns of each data position and the touched columns
+/// of each parity position; and where one is out, the touched columns of every position that isn't. Each is read from
+/// the first component that isn't out. By stripe, component and offset.
+///
+/// The range ends at most at [`MAX_FILE_SIZE`]. `TooManyLost` comes exactly where a touched stripe's group has more
+/// positions out than it has parity, with those of the first such stripe.
+#[tactic(auto, unfolding(crate::specs::Plans::plan_gather))]
+pub fn plan_gather(
+    alloc: Global,
+    map: &DataMap,
+    off: u64,
+    len: u64,
+    out: &Out,
+) -> Result<Pieces, PlanErr>
+    requires { off + len ≤ MAX_FILE_SIZE }
+    ensures { Gives (plan_gather map.now (span off len) out.now.components) result }
+{
+    let range = Span {
+        offset: off,
+        length: len,
+    };
+    check_writable(alloc, map, range, out)?;
+    Ok(pieces(alloc, &gathers(alloc, map, range, out)?)?)
+}
