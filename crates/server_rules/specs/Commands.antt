@@ -2,6 +2,8 @@
 use Rattle.std.specs.Prelude.{ℕ, Bool, true, false, List, [], ◌∷◌, ◌++◌, Option, Some, None, ◌+◌, ◌/◌, ◌==◌, ◌&&◌, not, length, replicate, if◌then◌else◌, find}
 use Rattle.std.specs.Int.{w32, w64, to_be_bytes}
 use Rattle.data_map.specs.Striping.{replicas}
+use Rattle.osd_capability.specs.declared.layout.TheConstants.{FORMAT_SHA256}
+use Rattle.osd_capability.specs.declared.keys.TheConstants.{CHECK_BYTES}
 use Rattle.osd_capability.specs.Keys.{key_of, check_of}
 use Rattle.osd_commands.specs.Commands.{head}
 use Rattle.osd_commands.specs.declared.actions.Action.{Action}
@@ -41,7 +43,7 @@ command f drive object nonce action offset len attribute payload = record {
   attribute = attribute;
   capability = own_capability f drive object;
   payload = payload;
-  check = replicate 32 0;
+  check = replicate CHECK_BYTES 0;
 }
 
 -- what a job asks of an object
@@ -106,7 +108,7 @@ to_all f which ask nonce = to_each f which ask f.components 0 nonce
 
 -- the same command in format 2, with a new nonce
 abbrev pub again_in_2 : Awaited → (nonce : ℕ) → Awaited
-again_in_2 a nonce = record a { command = record a.command { nonce = nonce; capability = record a.command.capability { format = 2 } } }
+again_in_2 a nonce = record a { command = record a.command { nonce = nonce; capability = record a.command.capability { format = FORMAT_SHA256 } } }
 
 -- the key of a drive that there is
 abbrev pub key_in : Option Drive → List ℕ

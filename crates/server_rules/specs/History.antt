@@ -10,13 +10,21 @@ use Rattle.server_rules.specs.Openings.{crash, reopen}
 
 -- what comes to a server
 pub data Input : Type 0 where
+  -- a message of a node, at a time of the server's clock
   Hears : (now : ℕ) → Node → Message → Input
+  -- a file is to be made, with this tag
   Makes : (file : ℕ) → RawMap → (tag : ℕ) → Input
+  -- an order that is given at the server
   Obeys : OrderKind → (target : ℕ) → Input
+  -- there is a further drive
   Adds : Drive → Input
+  -- fences are to leave files with this format at least
   Formats : (format : ℕ) → Input
+  -- what jobs wait for is sent once more
   Resends : Input
+  -- the server stops, and keeps all but its jobs
   Crashes : Input
+  -- a server that stopped goes on
   Opens : Input
 
 -- the server changes, and sends nothing

@@ -4,6 +4,7 @@ use Rattle.data_map.specs.Check.{bad_unit, checked}
 use Rattle.data_map.specs.declared.check.MapErr.{MapErr}
 use Rattle.data_map.specs.declared.check.MapErr.TheVariants.{Unit as BadUnit, TooMany}
 use Rattle.server_rules.specs.declared.limits.TheConstants.{MAX_FILE_COMPONENTS, FIRST_OBJECT}
+use Rattle.osd_capability.specs.declared.layout.TheConstants.{FORMAT_SHA1}
 use Rattle.server_rules.specs.State.{Server, File, RawMap, Component, Drive, Still, Refusal, FileExists, BadMap, TooFewDrives}
 use Rattle.server_rules.specs.Numbers.{among}
 use Rattle.server_rules.specs.Files.{Step, file_at, add_file, at_file, step_at}
@@ -11,7 +12,7 @@ use Rattle.server_rules.specs.Jobs.{making}
 
 -- a server without files
 abbrev pub new_server : List Drive → Server
-new_server ds = record { files = []; slots = []; drives = ds; next_grant = 1; next_object = FIRST_OBJECT; next_nonce = 1; next_recall = 1; format = 1 }
+new_server ds = record { files = []; slots = []; drives = ds; next_grant = 1; next_object = FIRST_OBJECT; next_nonce = 1; next_recall = 1; format = FORMAT_SHA1 }
 
 -- a new drive, before those with greater numbers
 unfoldable pub add_drive : List Drive → Drive → List Drive

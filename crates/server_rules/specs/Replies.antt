@@ -1,6 +1,8 @@
 -- A drive's reply at the file whose job awaits it.
-use Rattle.std.specs.Prelude.{ℕ, Bool, false, List, [], ◌∷◌, ◌++◌, Option, Some, None, ◌+◌, ◌==◌, ◌&&◌, ◌||◌, not, if◌then◌else◌, find, filter, map}
-use Rattle.osd_commands.specs.Actions.{number_of}
+use Rattle.std.specs.Prelude.{ℕ, Bool, true, false, List, [], ◌∷◌, ◌++◌, Option, Some, None, ◌+◌, ◌==◌, ◌&&◌, ◌||◌, not, if◌then◌else◌, find, filter, map}
+use Rattle.osd_capability.specs.declared.layout.TheConstants.{FORMAT_SHA256}
+use Rattle.osd_commands.specs.declared.actions.Action.{Action}
+use Rattle.osd_commands.specs.declared.actions.Action.TheVariants.{Create, Write, SetTag}
 use Rattle.server_rules.specs.declared.limits.TheConstants.{PERFORMED, EXISTS, OTHER_TAG, NO_SPACE, OLD_FORMAT}
 use Rattle.server_rules.specs.State.{Kept, Heard, Awaited, Job, Work, Targets, Gathers, Fills, NoSpace, Reply}
 use Rattle.server_rules.specs.Standing.{lose_from}
@@ -18,22 +20,31 @@ pub data Hearing : Type 0 where
   Done : Hearing
   Nothing : Hearing
 
--- the command is a WRITE
-abbrev pub is_write : Awaited → Bool
-is_write a = number_of a.command.action == 3
+-- what the command is
+abbrev pub is_create : Action → Bool
+is_create Create = true
+is_create action = false
+
+abbrev pub is_write : Action → Bool
+is_write Write = true
+is_write action = false
+
+abbrev pub is_set_tag : Action → Bool
+is_set_tag SetTag = true
+is_set_tag action = false
 
 -- Perform, at CREATE also Exists, and at SET TAG also the next tag
 unfoldable pub is_done : Kept → Awaited → Reply → Bool
 is_done f a r =
     (r.verdict == PERFORMED)
-    || (((number_of a.command.action == 1) && (r.verdict == EXISTS))
-    || ((number_of a.command.action == 6) && ((r.verdict == OTHER_TAG) && (r.detail == f.tag + 1))))
+    || ((is_create a.command.action && (r.verdict == EXISTS))
+    || (is_set_tag a.command.action && ((r.verdict == OTHER_TAG) && (r.detail == f.tag + 1))))
 
 -- the first of these that it is
 unfoldable pub hearing : Kept → Awaited → Reply → Hearing
 hearing f a r =
     if r.verdict == OLD_FORMAT then Older
-    else if is_write a && (r.verdict == NO_SPACE) then Full
+    else if is_write a.command.action && (r.verdict == NO_SPACE) then Full
     else if is_done f a r then Done
     else Nothing
 
@@ -51,7 +62,7 @@ renewed a b c = if c.command.nonce == a.command.nonce then b else c
 abbrev pub renews : Going → Job → Awaited → Going
 renews g j a =
     let b : Awaited = again_in_2 a g.moved.nonce
-    in record (sending g (b ∷ [])) { file = record g.file { kept = record g.file.kept { format = 2 }; job = Some (record j { awaited = map (renewed a b) j.awaited }) } }
+    in record (sending g (b ∷ [])) { file = record g.file { kept = record g.file.kept { format = FORMAT_SHA256 }; job = Some (record j { awaited = map (renewed a b) j.awaited }) } }
 
 -- the target's drive has no space, or the component becomes missing
 abbrev pub fills_up : Going → Job → Awaited → Work → Going

@@ -4,8 +4,11 @@ use osd_commands::Command;
 /// Columns of one stripe.
 #[derive(Clone, Copy, Debug, PartialEq, Eq)]
 pub struct Piece {
+    /// The number of the stripe in the file.
     pub stripe: u64,
+    /// The first column.
     pub column: u64,
+    /// How many columns from there on, at most [`MAX_PIECE`](crate::MAX_PIECE).
     pub count: u64,
 }
 
@@ -15,17 +18,24 @@ pub type Todo = Sequence<Piece>;
 /// What a job is for.
 #[derive(Clone, Copy, Debug, PartialEq, Eq)]
 pub enum JobKind {
+    /// Makes the components of a new file.
     Making,
+    /// Fences and repairs.
     Revoking,
+    /// Fences, repairs, and makes the missing components anew.
     Rebuilding,
+    /// Fences, repairs, and reads everything.
     Auditing,
 }
 
 /// Where a missing component is made anew.
 #[derive(Clone, Copy, Debug, PartialEq, Eq)]
 pub struct Target {
+    /// The number of the component.
     pub component: u32,
+    /// The drive that it is made on.
     pub drive: u32,
+    /// The object that it is made in.
     pub object: u64,
 }
 

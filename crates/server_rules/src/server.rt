@@ -11,6 +11,7 @@ use osd_commands::Command;
 pub struct Drive {
     pub number: u32,
     pub key: [u8; 20],
+    /// In bytes.
     pub capacity: u64,
     /// It wasn't declared.
     pub online: bool,
@@ -20,7 +21,9 @@ pub struct Drive {
 #[derive(Debug, Drop)]
 pub struct Slot {
     pub client: u32,
+    /// The number of its last request.
     pub last: u32,
+    /// The answer to that.
     pub kept: Answer,
 }
 
@@ -33,9 +36,13 @@ pub struct Server {
     pub slots: Sequence<Slot>,
     /// In order of their numbers.
     pub drives: Sequence<Drive>,
+    /// The number of the next grant, above [`GREATEST_GRANT`](crate::GREATEST_GRANT) where none is left.
     pub next_grant: u64,
+    /// The number of the next object.
     pub next_object: u64,
+    /// The nonce of the next command.
     pub next_nonce: u64,
+    /// The count of the next recall.
     pub next_recall: u64,
     /// The least format that a fence leaves a file with.
     pub format: u8,
@@ -54,16 +61,23 @@ pub struct Moved {
 /// Why a file isn't made.
 #[derive(Clone, Copy, Debug, PartialEq, Eq)]
 pub enum Refusal {
+    /// There is a file of that number.
     FileExists,
+    /// The map can't be used.
     BadMap(MapErr),
+    /// There are fewer drives online than the map has components.
     TooFewDrives { online: u32 },
 }
 
 /// A message that the server sends.
 #[derive(Debug, Drop)]
 pub enum Outgoing {
+    /// A command to a drive, sealed.
     ToDrive { drive: u32, command: Command },
+    /// A recall to the client that it names.
     Recalls { recall: Recall },
+    /// An answer to the client that it names.
     Answers { answer: Answer },
+    /// An answer to who gave the order.
     AnswersOrder { answer: OrderAnswer },
 }
