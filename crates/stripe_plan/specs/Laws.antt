@@ -1,10 +1,8 @@
 -- What the plans promise, for all data that agree with what was fetched.
-use Rattle.std.specs.Prelude.{◌≡◌, ◌⊎◌, ℕ, ◌+◌, ◌-◌, ◌<◌, ◌≤◌, ◌==◌, nat_le, nat_lt, ◌&&◌, false, if◌then◌else◌, List, [], ◌∷◌, length, map, slice_index, IsTrue}
+use Rattle.std.specs.Prelude.{◌≡◌, ◌⊎◌, ℕ, ◌+◌, ◌-◌, ◌<◌, ◌≤◌, nat_le, nat_lt, ◌&&◌, false, if◌then◌else◌, List, [], ◌∷◌, length, map, slice_index, IsTrue}
 use Rattle.std.specs.List.{All, range_with_len}
 use Rattle.data_map.specs.declared.check.RawMap.{RawMap}
 use Rattle.data_map.specs.Striping.{group_width, parities, data_units, stripe_of, position_of, offset_of}
-use Rattle.parity_code.specs.declared.code.Code.{Code}
-use Rattle.parity_code.specs.declared.code.Code.TheVariants.{Plain, Xor, PandQ}
 use Rattle.parity_code.specs.Codeword.{codeword}
 use Rattle.stripe_plan.specs.declared.plan.Span.{Span}
 use Rattle.stripe_plan.specs.declared.plan.Interval.{Interval}

@@ -17,7 +17,7 @@ use Rattle.stripe_plan.specs.declared.plan.PlanErr.TheVariants.{TooManyLost, Mem
 use Rattle.stripe_plan.specs.Touched.{stripes}
 use Rattle.stripe_plan.specs.Lost.{is_out, unreadable, unwritable}
 use Rattle.stripe_plan.specs.Asks.{asks, changed}
-use Rattle.stripe_plan.specs.Words.{byte_at, word_at, answered}
+use Rattle.stripe_plan.specs.Words.{bytes_at, word_at, answered}
 
 -- ---- asks
 
@@ -69,10 +69,6 @@ unfoldable pub written : RawMap → Span → List ℕ → List Column → List �
 written m r bytes got out [] = []
 written m r bytes got out (s ∷ ss) = written_stripe m r bytes got out s 0 (group_width m) ++ written m r bytes got out ss
 
--- the bytes of a position from an offset on
-abbrev pub bytes_at : List Column → (p o n : ℕ) → List ℕ
-bytes_at cols p o n = map (byte_at cols p) (range_with_len o n)
-
 -- a write with its bytes
 abbrev pub filled : List Column → Ask → Store
 filled cols a = record { ask = a; bytes = bytes_at cols a.position a.offset a.length }
@@ -113,10 +109,13 @@ apply_and_encode m r bytes got out =
 abbrev pub part_of : Store → Part
 part_of w = record { component = w.ask.component; offset = w.ask.offset; bytes = w.bytes }
 
+abbrev pub writes_of : List Column → List Ask → List Part
+writes_of cols xs = map (λ (a : Ask). part_of (filled cols a)) xs
+
 -- the writes of a scatter
 unfoldable pub plan_scatter : RawMap → Span → List Column → List ℕ → Result (List Part) PlanErr
 plan_scatter m r cols out =
-    unless_lost (unwritable m out (stripes m r)) (map (λ (a : Ask). part_of (filled cols a)) (writes m r out))
+    unless_lost (unwritable m out (stripes m r)) (writes_of cols (writes m r out))
 
 -- the bytes of a read, by what was fetched
 unfoldable pub assemble : RawMap → Span → List Part → List ℕ → Result (List ℕ) PlanErr

@@ -1,5 +1,5 @@
 -- The bytes that a call has of a stripe, and those that it writes there.
-use Rattle.std.specs.Prelude.{ℕ, zero, suc, ◌+◌, ◌-◌, ◌==◌, nat_le, nat_lt, Bool, ◌&&◌, if◌then◌else◌, List, [], ◌∷◌, length, map, take, slice_index, replicate, Option, Some, None, unwrap_or}
+use Rattle.std.specs.Prelude.{◌≡◌, ℕ, ◌<◌, zero, suc, ◌+◌, ◌-◌, ◌==◌, nat_le, nat_lt, Bool, ◌&&◌, if◌then◌else◌, List, [], ◌∷◌, length, map, take, slice_index, replicate, Option, Some, None, unwrap_or}
 use Rattle.std.specs.List.{range_with_len}
 use Rattle.data_map.specs.declared.check.RawMap.{RawMap}
 use Rattle.data_map.specs.Striping.{stripe_of, data_unit_of, column_of, group_width, data_units, position_of, offset_of}
@@ -20,10 +20,32 @@ code_of m = if m.algorithm == 1 then Plain else if m.algorithm == 4 then PandQ e
 abbrev pub has_byte : Column → (p o : ℕ) → Bool
 has_byte c p o = (c.position == p) && (nat_le c.offset o && nat_lt o (c.offset + length c.bytes))
 
--- the byte of position p at offset o, 0 where no piece has it
+-- the byte of position p at offset o, where it was another before
+abbrev pub byte_over : Column → (p o old : ℕ) → ℕ
+byte_over c p o old = if has_byte c p o then slice_index c.bytes (o - c.offset) else old
+
+-- the byte of position p at offset o, of the first piece that has it, 0 where no piece has it no piece has it
 unfoldable pub byte_at : List Column → (p o : ℕ) → ℕ
 byte_at [] p o = 0
-byte_at (c ∷ cs) p o = if has_byte c p o then slice_index c.bytes (o - c.offset) else byte_at cs p o
+byte_at (c ∷ cs) p o = byte_over c p o (byte_at cs p o)
+
+-- the bytes of a position from an offset on
+abbrev pub bytes_at : List Column → (p o n : ℕ) → List ℕ
+bytes_at cols p o n = map (byte_at cols p) (range_with_len o n)
+
+-- the byte at o after bytes that begin at from were laid over what was there
+unfoldable pub laid_at : (from : ℕ) → List ℕ → (o old : ℕ) → ℕ
+laid_at from bytes o old = if nat_le from o && nat_lt o (from + length bytes) then slice_index bytes (o - from) else old
+
+-- a buffer, which begins at an offset, over which they were laid
+pub record Laid (offset from : ℕ) (bytes old new : List ℕ) : Type 0 where
+  pub long : length new ≡ length old
+  pub each : (k : ℕ) → k < length old → slice_index new k ≡ laid_at from bytes (offset + k) (slice_index old k)
+
+-- the same of a buffer of position p, over which a column was laid
+pub record LaidColumn (p offset : ℕ) (c : Column) (old new : List ℕ) : Type 0 where
+  pub long : length new ≡ length old
+  pub each : (k : ℕ) → k < length old → slice_index new k ≡ byte_over c p (offset + k) (slice_index old k)
 
 -- what was got of unit c in column b of stripe s
 abbrev pub got_at : RawMap → List Column → (s b c : ℕ) → ℕ

@@ -7,6 +7,7 @@
 #![tactic(auto)]
 
 mod asking;
+mod laying;
 mod left;
 mod lost;
 mod needed;
@@ -21,5 +22,5 @@ pub use plan::{
     Aim, Ask, Asks, Column, Columns, Fetched, Interval, Intervals, Out, Part, Piece, Pieces,
     PlanErr, Span, Store, Stretch, Writes,
 };
-pub use plans::{plan_gather, plan_read};
+pub use plans::{plan_gather, plan_read, plan_scatter};
 pub use touched::{holds_whole, own_columns, touched_columns, touched_stripes};

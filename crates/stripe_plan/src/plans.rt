@@ -1,10 +1,11 @@
 // The plans of reads and writes.
 ghost use Rattle.std.specs.Prelude.{◌≡◌, ◌+◌, ◌≤◌, ◌++◌, IfOk};
-ghost use Rattle.stripe_plan.specs.Plans.{gathers, pieces_of, plan_gather, plan_read, span, Gives};
+ghost use Rattle.stripe_plan.specs.Plans.{gathers, pieces_of, plan_gather, plan_read, plan_scatter, span, writes_of, Gives};
 
 use crate::asking::asks;
+use crate::laying::bytes_of;
 use crate::lost::{check_readable, check_writable};
-use crate::plan::{Aim, Asks, Out, Piece, Pieces, PlanErr, Span};
+use crate::plan::{Aim, Asks, Columns, Out, Part, Piece, Pieces, PlanErr, Span, Writes};
 use data_map::{DataMap, MAX_FILE_SIZE};
 use osd_bytes::Memory;
 use std::alloc::Global;
@@ -84,4 +85,55 @@ pub fn plan_gather(
     };
     check_writable(alloc, map, range, out)?;
     Ok(pieces(alloc, &gathers(alloc, map, range, out)?)?)
+}
+
+// The bytes that each write has of these columns.
+fn filled(alloc: Global, asks: &Asks, columns: &Columns) -> Result<Writes, Memory>
+    ensures { IfOk result (λ ws. ws ≡ writes_of columns.now asks.now) }
+{
+    let mut writes = Writes::new(alloc);
+    for ask in asks.as_slice() {
+        let bytes = bytes_of(
+            alloc,
+            columns.as_slice(),
+            ask.position,
+            ask.offset,
+            ask.length,
+        )?;
+        writes.push(Part {
+            component: ask.component,
+            offset: ask.offset,
+            bytes,
+        })?;
+    }
+    Ok(writes)
+}
+
+/// What a write of a range writes: its own bytes and the touched columns of each parity position, out of these columns
+/// of positions, to every component that isn't out. By stripe, component and offset.
+///
+/// The range ends at most at [`MAX_FILE_SIZE`]. `TooManyLost` comes exactly where a touched stripe's group has more
+/// positions out than it has parity, with those of the first such stripe. A byte that no column has is written as 0.
+#[tactic(auto, unfolding(crate::specs::Plans::plan_scatter))]
+pub fn plan_scatter(
+    alloc: Global,
+    map: &DataMap,
+    off: u64,
+    len: u64,
+    columns: &Columns,
+    out: &Out,
+) -> Result<Writes, PlanErr>
+    requires { off + len ≤ MAX_FILE_SIZE }
+    ensures { Gives (plan_scatter map.now (span off len) columns.now out.now.components) result }
+{
+    let range = Span {
+        offset: off,
+        length: len,
+    };
+    check_writable(alloc, map, range, out)?;
+    Ok(filled(
+        alloc,
+        &asks(alloc, Aim::Scatters, map, range, out, &[])?,
+        columns,
+    )?)
 }

@@ -1,4 +1,4 @@
-use Rattle.std.proofs.Common.{◌≡◌, ◌∙◌, ◌++◌, ap, sym, arith}
+use Rattle.std.proofs.Common.{◌∙◌, ◌++◌, ap, sym, arith}
 use Rattle.stripe_plan.proofs.Steps.{stripe_step, stripe_end, one_more, no_more}
 use Rattle.stripe_plan.proofs.asking.asks.Goals as goal
 

@@ -1,4 +1,4 @@
-use Rattle.std.proofs.Common.{◌≡◌, ◌∙◌, ℕ, ◌+◌, ◌-◌, ◌++◌, ap, sym, arith, refl}
+use Rattle.std.proofs.Common.{◌∙◌, ℕ, ◌+◌, ◌-◌, ◌++◌, ap, sym, arith}
 use Rattle.data_map.specs.Striping.{replicas}
 use Rattle.stripe_plan.specs.Asks.{asks_of, asks_each}
 use Rattle.stripe_plan.proofs.Steps.{each_first, each_step, each_end, one_more, no_more}

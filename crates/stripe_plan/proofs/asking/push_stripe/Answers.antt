@@ -1,4 +1,4 @@
-use Rattle.std.proofs.Common.{◌≡◌, ◌∙◌, ◌++◌, ap, sym, arith}
+use Rattle.std.proofs.Common.{◌∙◌, ◌++◌, ap, sym, arith}
 use Rattle.data_map.specs.Striping.{group_width}
 use Rattle.stripe_plan.proofs.Steps.{place_step, place_end, one_more, no_more}
 use Rattle.stripe_plan.proofs.asking.push_stripe.Goals as goal

@@ -1,7 +1,5 @@
 use Rattle.std.proofs.Common.{◌≡◌, drop}
 use Rattle.std.specs.Prelude.{flat_map}
-use Rattle.std.specs.List.{All}
-use Rattle.stripe_plan.specs.declared.plan.Interval.{Interval}
 use Rattle.stripe_plan.specs.Asks.{some_of, without}
 use Rattle.stripe_plan.proofs.left.left_of.Given as goal
 

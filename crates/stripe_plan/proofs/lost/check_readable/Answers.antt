@@ -1,4 +1,4 @@
-use Rattle.std.proofs.Common.{◌≡◌, ◌∙◌, sym, arith, refl, inr}
+use Rattle.std.proofs.Common.{◌∙◌, sym, arith, refl, inr}
 use Rattle.stripe_plan.proofs.Steps.{readable_step, readable_end, found_when, rest_when}
 use Rattle.stripe_plan.proofs.lost.check_readable.Goals as goal
 

@@ -1,4 +1,4 @@
-use Rattle.std.proofs.Common.{◌≡◌, ◌∙◌, sym, arith, refl}
+use Rattle.std.proofs.Common.{◌∙◌, sym, arith, refl}
 use Rattle.data_map.specs.Striping.{data_units}
 use Rattle.stripe_plan.proofs.Steps.{hit_step, hit_end}
 use Rattle.stripe_plan.proofs.lost.is_hit.Goals as goal

@@ -1,6 +1,6 @@
-use Rattle.std.proofs.Common.{◌≡◌, ◌∙◌, ◌+◌, ◌-◌, ◌*◌, ◌++◌, ◌∷◌, [], ap, sym, arith, refl, append_assoc, append-nil}
-use Rattle.data_map.specs.Striping.{group_width, group_of}
-use Rattle.stripe_plan.specs.Lost.{out_from, is_out}
+use Rattle.std.proofs.Common.{◌∙◌, ◌+◌, ◌-◌, ◌*◌, ◌++◌, ◌∷◌, [], ap, sym, arith, append_assoc, append-nil}
+use Rattle.data_map.specs.Striping.{group_width}
+use Rattle.stripe_plan.specs.Lost.{out_from}
 use Rattle.stripe_plan.proofs.Steps.{out_step, out_end}
 use Rattle.stripe_plan.proofs.lost.positions_out.Goals as goal
 use Rattle.stripe_plan.proofs.lost.positions_out.Goals.{then-is_out+in_ok-push, else-is_out}

@@ -1,4 +1,4 @@
-use Rattle.std.proofs.Common.{◌≡◌, ◌∙◌, ◌+◌, ◌-◌, ap, sym, arith, refl}
+use Rattle.std.proofs.Common.{◌∙◌, ◌+◌, sym, arith, refl}
 use Rattle.data_map.specs.Striping.{replicas}
 use Rattle.stripe_plan.proofs.Steps.{source_from_first, source_step, source_end}
 use Rattle.stripe_plan.proofs.lost.source.Goals as goal
