@@ -184,7 +184,7 @@ Allowed b (Rebuilds k cells) = record {
 abbrev pub performed : State → Write → ℕ → ℕ → ℕ → Bool
 performed b m = updated b.applied m.entry (updated (b.applied m.entry) m.at (λ z. b.applied m.entry m.at z || ((b.start m.entry).part m.at z == m.part)))
 
--- the grant that is issued: of the next number, with the file's tag
+-- the grant that is issued, with the file's tag
 abbrev pub granted : State → ℕ → ℕ → Bool → (ℕ → Bool) → Bool → Grant
 granted b c number rw range extending = record { number = number; tag = b.tag; rw = rw; covers = range; extending = extending; left = b.missing }
 

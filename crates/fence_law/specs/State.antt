@@ -138,7 +138,7 @@ pub record State : Type 0 where
   pub cell : ℕ → ℕ → ℕ
   -- a component that failed, or is missing from the layout
   pub lost : ℕ → Bool
-  -- one that was lost when the last fence or repair ended, or was missing when a grant was issued since, or was reported as lost: no claim is made of its cells
+  -- one that was lost when the last fence or repair ended (a fence that ran again in the repair leaves this), or was missing when a grant was issued since, or was reported as lost: no claim is made of its cells
   pub gone : ℕ → Bool
   -- one that is missing though its drive lives
   pub dropped : ℕ → Bool
@@ -155,7 +155,7 @@ pub record State : Type 0 where
   pub tag : ℕ
   -- a client's grant that is live, or that the running fence ends
   pub outstanding : ℕ → Option Grant
-  -- the number of the next grant
+  -- the least number that the next grant may have
   pub next : ℕ
   -- whether a grant was issued since the last fence
   pub granted_since : Bool
@@ -208,7 +208,7 @@ pub record State : Type 0 where
 
 -- what can happen
 pub data Event : Type 0 where
-  -- a client asks for a layout; the server grants it, or refuses a request; the client takes the answer
+  -- a client asks for a layout; the server grants it under a number, or refuses a request; the client takes the answer
   Asks : (c : ℕ) (rw : Bool) → Event
   Grants : (c number : ℕ) (rw : Bool) (range : ℕ → Bool) (extending : Bool) → Event
   Refuses : (c : ℕ) (kind : RequestKind) → Event
@@ -227,11 +227,11 @@ pub data Event : Type 0 where
   Fences : Event
   SetsTag : (k : ℕ) → Event
   Fenced : Event
-  -- a fence is over that began while the repair after an earlier one had not ended, since the server had stopped
+  -- a fence is over that ran again, since the server had stopped before the repair after the first was over
   Refenced : Event
   -- a client starts a write: under grant g, after gather i, of bytes d that end at e1; the cells that are hit, what was seen where d has nothing, the part of each cell
   StartsWrite : (c : ℕ) (g : Grant) (i : ℕ) (d : ℕ → Option ℕ) (touch : ℕ → Bool) (hit : ℕ → ℕ → Bool) (seen : ℕ → ℕ) (e1 : ℕ) (part : ℕ → ℕ → ℕ) → Event
-  -- it sends part i to component k; the drive performs it; the client learns that
+  -- it sends part i to component k under nonce v; the drive performs it; the client learns that
   Sends : (c k : ℕ) (g : Grant) (j i v : ℕ) → Event
   Performs : (m : Write) → Event
   Learns : (c k j v i : ℕ) → Event
