@@ -131,19 +131,24 @@ one_place m a b c p o =
 grouped : (m : RawMap) (s k b : ℕ) → s * stripe_length m + k * m.unit + b ≡ s * stripe_length m + (k * m.unit + b)
 grouped m s k b = omega arith
 
-byte_stripe : (m : RawMap) (s k b : ℕ) → k < data_units m → b < m.unit → stripe_of m (s * stripe_length m + k * m.unit + b) ≡ s
+pub byte_stripe : (m : RawMap) (s k b : ℕ) → k < data_units m → b < m.unit → stripe_of m (s * stripe_length m + k * m.unit + b) ≡ s
 byte_stripe m s k b low inside = ap (λ x. x / stripe_length m) (grouped m s k b) ∙ div-mul-add s (stripe_length m) (k * m.unit + b) (two_digits m.unit (data_units m) k b low inside)
 
 byte_rest : (m : RawMap) (s k b : ℕ) → k < data_units m → b < m.unit → (s * stripe_length m + k * m.unit + b) % stripe_length m ≡ k * m.unit + b
 byte_rest m s k b low inside = ap (λ x. x % stripe_length m) (grouped m s k b) ∙ mod-mul-add s (stripe_length m) (k * m.unit + b) (two_digits m.unit (data_units m) k b low inside)
 
+pub byte_unit : (m : RawMap) (s k b : ℕ) → k < data_units m → b < m.unit → data_unit_of m (s * stripe_length m + k * m.unit + b) ≡ k
+byte_unit m s k b low inside = ap (λ x. x / m.unit) (byte_rest m s k b low inside) ∙ div-mul-add k m.unit b inside
+
+pub byte_column : (m : RawMap) (s k b : ℕ) → k < data_units m → b < m.unit → column_of m (s * stripe_length m + k * m.unit + b) ≡ b
+byte_column m s k b low inside = ap (λ x. x % m.unit) (byte_rest m s k b low inside) ∙ mod-mul-add k m.unit b inside
+
 -- the place of the byte with these digits
 pub placed : (m : RawMap) (s k b : ℕ) → k < data_units m → b < m.unit → LiesAt m (s * stripe_length m + k * m.unit + b) (position_of m s k) (offset_of m s b)
 placed m s k b low inside =
     let stripe = byte_stripe m s k b low inside in
-    let rest = byte_rest m s k b low inside in
-    let unit : data_unit_of m (s * stripe_length m + k * m.unit + b) ≡ k = ap (λ x. x / m.unit) rest ∙ div-mul-add k m.unit b inside in
-    let column : column_of m (s * stripe_length m + k * m.unit + b) ≡ b = ap (λ x. x % m.unit) rest ∙ mod-mul-add k m.unit b inside in (
+    let unit = byte_unit m s k b low inside in
+    let column = byte_column m s k b low inside in (
       ap (λ x. position_of m x (data_unit_of m (s * stripe_length m + k * m.unit + b))) stripe ∙ ap (λ x. position_of m s x) unit,
       ap (λ x. offset_of m x (column_of m (s * stripe_length m + k * m.unit + b))) stripe ∙ ap (λ x. offset_of m s x) column,
     )

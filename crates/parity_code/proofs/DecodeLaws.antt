@@ -27,7 +27,7 @@ length_codeword PandQ ds = length-append ds (p_of ds ∷ (q_of ds ∷ []))
 at_seam : (ds xs : List ℕ) → get_or (ds ++ xs) (length ds) 0 ≡ get_or xs 0 0
 at_seam ds xs = let e : length ds + 0 ≡ length ds = omega arith in rw e at (get_or-append-add ds xs 0 0)
 
-codeword_whole : (code : Code) (ds : List ℕ) → 0 < count_of code → AreBytes ds → IsWhole (length ds) (codeword code ds)
+pub codeword_whole : (code : Code) (ds : List ℕ) → 0 < count_of code → AreBytes ds → IsWhole (length ds) (codeword code ds)
 codeword_whole Plain ds some bytes = absurd (omega arith)
 codeword_whole Xor ds some bytes = record {
   bytes = All-push (λ (d : ℕ). d < 256) ds (p_of ds) bytes (p_of_lt ds bytes);

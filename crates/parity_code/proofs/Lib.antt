@@ -7,3 +7,4 @@ pub mod RestoreLaws
 pub mod StripeLaws
 pub mod DecodeLaws
 pub mod DeltaLaws
+pub mod BackLaws

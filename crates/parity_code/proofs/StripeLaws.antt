@@ -59,7 +59,7 @@ neither : (x y j : ℕ) → j ≢ x → j ≢ y → ¬ Contains (x ∷ (y ∷ []
 neither x y j nx ny w = elim (two_contain x y j w.0 w.1 w.2) [ inl e ↦ nx e | inr e ↦ ny e ]
 
 -- columns that agree outside x are the same without x
-same_without_one : (x : ℕ) (xs ys : List ℕ) → AgreeOutside (x ∷ []) xs ys → x < length xs → set ys x 0 ≡ set xs x 0
+pub same_without_one : (x : ℕ) (xs ys : List ℕ) → AgreeOutside (x ∷ []) xs ys → x < length xs → set ys x 0 ≡ set xs x 0
 same_without_one x xs ys agree lt =
     same_number_lists (set ys x 0) (set xs x 0) (length-set ys x 0 ∙ sym agree.long ∙ sym (length-set xs x 0)) (λ k k_lt.
     elim (cases_eq k x) [
@@ -67,7 +67,7 @@ same_without_one x xs ys agree lt =
       | inr other ↦ other_byte k x 0 ys other ∙ sym (agree.same k (λ w. other (one_contains x k w.0 w.1 w.2))) ∙ sym (other_byte k x 0 xs other)
     ])
 
-same_without_two : (x y : ℕ) (xs ys : List ℕ) → AgreeOutside (x ∷ (y ∷ [])) xs ys → x < length xs → y < length xs → set (set ys x 0) y 0 ≡ set (set xs x 0) y 0
+pub same_without_two : (x y : ℕ) (xs ys : List ℕ) → AgreeOutside (x ∷ (y ∷ [])) xs ys → x < length xs → y < length xs → set (set ys x 0) y 0 ≡ set (set xs x 0) y 0
 same_without_two x y xs ys agree x_lt y_lt =
     let yl : length (set ys x 0) ≡ length xs = length-set ys x 0 ∙ sym agree.long in
     let xl : length (set xs x 0) ≡ length xs = length-set xs x 0 in
