@@ -1,16 +1,19 @@
 //! Tests of the language of scenarios and of transcripts.
 
-use scenario_text::{EventErr, Line, read_event, read_line, write_line};
+use scenario_text::{
+    EventErr, Line, read_event, read_line, write_event_line, write_line, write_lines,
+};
 use std::test::Fail;
 
 // Whether a line is read, and its event's line written as `= ` and that text.
 fn reads_as(rt: &HostRuntime, line: &[u8], text: &[u8]) -> Result<bool, Fail> {
     match read_event(rt.alloc(), line) {
         Ok(Some(event)) => {
+            let echoed = write_event_line(rt.alloc(), &event)?;
             let copy = event.copied(rt.alloc())?;
-            let same = copy == event;
             let written = write_line(rt.alloc(), &Line::Event { event: copy })?;
             let (head, rest) = written.as_slice().split_at(written.len().min(2));
+            let same = echoed.as_slice() == written.as_slice();
             Ok(same && head == b"= ".as_slice() && rest == text)
         }
         _ => Ok(false),
@@ -192,6 +195,17 @@ fn each_line_is_read_and_written_again(rt: HostRuntime) -> Result<(), Fail> {
         let written = write_line(rt.alloc(), &line)?;
         assert!(rt; written.as_slice() == text);
     }
+    Ok(())
+}
+
+#[test]
+fn a_history_has_a_newline_behind_each_line(rt: HostRuntime) -> Result<(), Fail> {
+    let first = read_line(rt.alloc(), b"t c0 3").ok().ok_or("no line")?;
+    let last = read_line(rt.alloc(), b"calm yes unguessed no")
+        .ok()
+        .ok_or("no line")?;
+    let written = write_lines(rt.alloc(), &[first, last])?;
+    assert!(rt; written.as_slice() == b"t c0 3\ncalm yes unguessed no\n".as_slice());
     Ok(())
 }
 

@@ -1,255 +1,143 @@
 -- The texts of events and of lines have the words that they were made of.
-use Rattle.std.proofs.Common.{◌≡◌, ℕ, ◌^◌, ◌<◌, Bool, false, ◌||◌, List, [], ◌∷◌, ◌++◌, map, codes, refl, sym, ◌∙◌, arith}
-use Rattle.std.specs.Prelude.{◌==◌}
-use Rattle.std.specs.Fmt.{decimal}
-use Rattle.std.specs.List.{list_any}
-use Rattle.std.proofs.lemmas.Bool.{false_from_ne_true, eqb-true}
-use Rattle.hex.specs.Hex.{IsBytes, encode_lower}
+use Rattle.std.proofs.Common.{◌≡◌, ℕ, false, List, [], ◌∷◌, ◌++◌, map, inl, inr, Result, Ok, Err, codes, refl, sym, ap, subst, ◌∙◌}
+use Rattle.std.specs.Prelude.{IfOk, IfErr}
+use Rattle.std.proofs.lemmas.List.Splits.{join_with_byte-slice_split}
 use Rattle.hex.proofs.HexLemmas.{decode_of-encode_lower, decode_sized-encode_lower}
 use Rattle.scenario_text.specs.declared.event.Event.{Event}
-use Rattle.scenario_text.specs.declared.event.Event.TheVariants as event
-use Rattle.scenario_text.specs.declared.event.Call.{Call}
-use Rattle.scenario_text.specs.declared.event.Call.TheVariants as call
-use Rattle.scenario_text.specs.declared.event.Sender.{Sender}
-use Rattle.scenario_text.specs.declared.event.Sender.TheVariants as sender
-use Rattle.scenario_text.specs.declared.event.Machine.{Machine}
-use Rattle.scenario_text.specs.declared.event.Machine.TheVariants as machine
-use Rattle.scenario_text.specs.declared.event.FileMap.{FileMap}
+use Rattle.scenario_text.specs.declared.event.EventErr.{EventErr}
+use Rattle.scenario_text.specs.declared.event.EventErr.TheVariants.{Memory}
 use Rattle.scenario_text.specs.declared.line.Line.{Line}
 use Rattle.scenario_text.specs.declared.line.Line.TheVariants as line
-use Rattle.scenario_text.specs.Words.{words_of, behind, sender_word, machine_word, hex_word, SpellsBytes}
-use Rattle.scenario_text.specs.Reading.{any_upper}
-use Rattle.scenario_text.specs.Spelling.{Fits, MapFits, CallFits, SenderFits, MachineFits, map_words, call_words, event_words, call_hex, event_hex, event_text, SpellsCallBytes, SpellsEventBytes, Spells}
-use Rattle.scenario_text.specs.LineSpelling.{head_word, tail_words, line_text, SpellsItsEvent}
-use Rattle.scenario_text.proofs.Without.{none_any, or_false, split_joined, SparesDigits, decimal_without, encode_without}
+use Rattle.scenario_text.specs.declared.hexadecimal.Digits.TheVariants.{Either, Lower}
+use Rattle.scenario_text.specs.Words.{words_of, spaced, behind}
+use Rattle.scenario_text.specs.Parts.{Part, Fixed, Number, Name, Key, Hex, Positions, word_of, PartFits, AllFit}
+use Rattle.scenario_text.specs.Spells.{SpellsPart, SpellAll}
+use Rattle.scenario_text.specs.Spelling.{event_parts, Fits, Spells, event_text}
+use Rattle.scenario_text.specs.LineSpelling.{head_word, tail_parts, line_parts, LineFits, line_text, EchoesEvent, SpellsItsEvent}
+use Rattle.scenario_text.specs.Reading.{GivesOrMemory}
+use Rattle.scenario_text.specs.Form.{reads_line}
+use Rattle.scenario_text.specs.EventForms.{event_by, event_form}
+use Rattle.scenario_text.specs.LineForms.{line_form}
+use Rattle.scenario_text.specs.LineRefusals.{GivesLine, IsLineRefusal}
+use Rattle.scenario_text.proofs.Without.{none_any, split_joined}
 use Rattle.scenario_text.proofs.Behind.{joined_is}
+use Rattle.scenario_text.proofs.Forms.{is_space, line_found, line_again, line_clear, first_part}
+use Rattle.scenario_text.proofs.EventLaws.{event_exact, event_path}
+use Rattle.scenario_text.proofs.LineLaws.{line_exact, line_path}
+use Rattle.scenario_text.proofs.ReadLaws.{ok_is_read, err_is_memory}
 
--- ---- the words have no space
+-- ---- words with lower-case digits
 
-abbrev pub is_space : ℕ → Bool
-is_space b = b == 32
+either_says : (p : Part) → PartFits p → SpellsPart p Either (word_of p)
+either_says (Fixed word) fit = refl
+either_says (Number least most n) fit = refl
+either_says (Name letter count n) fit = refl
+either_says (Key key) fit = decode_sized-encode_lower key 20 fit.0 fit.1
+either_says (Hex []) fit = refl
+either_says (Hex (b ∷ bytes)) fit = decode_of-encode_lower (b ∷ bytes) fit
+either_says (Positions ps) fit = refl
 
-spares : SparesDigits is_space
-spares c low high = false_from_ne_true (is_space c) (λ t. let is = eqb-true c 32 t in omega arith)
+either_all : (ps : List Part) → AllFit ps → SpellAll Either ps (map word_of ps)
+either_all [] fit = tt
+either_all (p ∷ ps) fit = (either_says p fit.0, either_all ps fit.1)
 
-pub number : (n : ℕ) → n < 2 ^ 64 → list_any is_space (decimal n) ≡ false
-number n lt = decimal_without is_space n spares lt
+lower_says : (p : Part) → SpellsPart p Lower (word_of p)
+lower_says (Fixed word) = refl
+lower_says (Number least most n) = refl
+lower_says (Name letter count n) = refl
+lower_says (Key key) = refl
+lower_says (Hex bytes) = refl
+lower_says (Positions ps) = refl
 
-encoded : (bytes : List ℕ) → list_any is_space (encode_lower bytes) ≡ false
-encoded bytes = encode_without is_space bytes refl refl
+lower_all : (ps : List Part) → SpellAll Lower ps (map word_of ps)
+lower_all [] = tt
+lower_all (p ∷ ps) = (lower_says p, lower_all ps)
 
-pub hexed : (bytes : List ℕ) → list_any is_space (hex_word bytes) ≡ false
-hexed [] = refl
-hexed (b ∷ bytes) = encoded (b ∷ bytes)
+lower_is : (p : Part) (word : List ℕ) → SpellsPart p Lower word → word ≡ word_of p
+lower_is (Fixed w) word h = h
+lower_is (Number least most n) word h = h
+lower_is (Name letter count n) word h = h
+lower_is (Key key) word h = h
+lower_is (Hex bytes) word h = h
+lower_is (Positions ps) word h = h
 
-pub also : (a b : Bool) → a ≡ false → b ≡ false → (a || b) ≡ false
-also a b p q = or_false a b p q
-
-sender_clear : (who : Sender) → SenderFits who → list_any is_space (sender_word who) ≡ false
-sender_clear (sender.Client c) fits = number c (omega arith)
-sender_clear sender.Server fits = refl
-
-machine_clear : (who : Machine) → MachineFits who → list_any is_space (machine_word who) ≡ false
-machine_clear (machine.Drive d) fits = number d (omega arith)
-machine_clear machine.Server fits = refl
-
-call_clear : (c : Call) → CallFits c → none_any is_space (call_words c (call_hex c)) ≡ false
-call_clear (call.Write f offset bytes) fits =
-    also _ _ (number f (omega arith)) (also _ _ (number offset fits.1) (also _ false (hexed bytes) refl))
-call_clear (call.Read f offset len) fits =
-    also _ _ (number f (omega arith)) (also _ _ (number offset fits.1) (also _ false (number len fits.2) refl))
-
-file_clear : (map : FileMap) (tag : ℕ) → MapFits map → tag < 2 ^ 64 → none_any is_space (map_words map ++ (decimal tag ∷ [])) ≡ false
-file_clear map tag fits lt =
-    also _ _ (number map.components (omega (arith, fits.components)))
-    (also _ _ (number map.unit fits.unit)
-    (also _ _ (number map.width (omega (arith, fits.width)))
-    (also _ _ (number map.depth (omega (arith, fits.depth)))
-    (also _ _ (number map.mirrors (omega (arith, fits.mirrors)))
-    (also _ _ (number map.algorithm (omega (arith, fits.algorithm_to)))
-    (also _ false (number tag lt) refl))))))
-
-pub event_clear : (e : Event) → Fits e → none_any is_space (event_words e (event_hex e)) ≡ false
-event_clear (event.Drive d key capacity) fits = also _ _ (number d (omega arith)) (also _ _ (encoded key) (also _ false (number capacity fits.3) refl))
-event_clear (event.Disk d key capacity) fits = also _ _ (number d (omega arith)) (also _ _ (encoded key) (also _ false (number capacity fits.3) refl))
-event_clear (event.Client c) fits = also _ false (number c (omega arith)) refl
-event_clear (event.File f map tag) fits = also _ _ (number f (omega arith)) (file_clear map tag fits.1 (omega arith))
-event_clear (event.ZonedFile f map tag) fits = also _ _ (number f (omega arith)) (file_clear map tag fits.1 (omega arith))
-event_clear (event.Zone d z) fits = also _ _ (number d (omega arith)) (also _ false (number z (omega arith)) refl)
-event_clear (event.Least d n) fits = also _ _ (number d (omega arith)) (also _ false (number n (omega arith)) refl)
-event_clear (event.Format n) fits = also _ false (number n (omega arith)) refl
-event_clear (event.Do c call) fits = also _ _ (number c (omega arith)) (call_clear call fits.1)
-event_clear (event.Call c call) fits = also _ _ (number c (omega arith)) (call_clear call fits.1)
-event_clear (event.Deliver n) fits = also _ false (number n fits) refl
-event_clear (event.Exclude n) fits = also _ false (number n fits) refl
-event_clear event.Settle fits = refl
-event_clear (event.Resend who) fits = also _ false (sender_clear who fits) refl
-event_clear (event.Timeout c k) fits = also _ _ (number c (omega arith)) (also _ false (number k (omega arith)) refl)
-event_clear (event.Leave c) fits = also _ false (number c (omega arith)) refl
-event_clear (event.Inject d bytes) fits = also _ _ (number d (omega arith)) (also _ false (hexed bytes) refl)
-event_clear (event.Clock who time) fits = also _ _ (machine_clear who fits.0) (also _ false (number time fits.1) refl)
-event_clear (event.Recall f) fits = also _ false (number f (omega arith)) refl
-event_clear (event.Revoke f) fits = also _ false (number f (omega arith)) refl
-event_clear (event.Rebuild f) fits = also _ false (number f (omega arith)) refl
-event_clear (event.Audit f) fits = also _ false (number f (omega arith)) refl
-event_clear (event.Declare d) fits = also _ false (number d (omega arith)) refl
-event_clear (event.Stop c) fits = also _ false (number c (omega arith)) refl
-event_clear (event.Fail d) fits = also _ false (number d (omega arith)) refl
-event_clear (event.Crash who) fits = also _ false (machine_clear who fits) refl
-event_clear (event.Reopen who) fits = also _ false (machine_clear who fits) refl
-
--- ---- the bytes of an event in lower case
-
-pub hex_spells : (bytes : List ℕ) → IsBytes bytes → SpellsBytes bytes (hex_word bytes)
-hex_spells [] h = refl
-hex_spells (b ∷ bytes) h = decode_of-encode_lower (b ∷ bytes) h
-
-call_hex_spells : (c : Call) → CallFits c → SpellsCallBytes c (call_hex c)
-call_hex_spells (call.Write f offset bytes) fits = hex_spells bytes fits.2
-call_hex_spells (call.Read f offset len) fits = tt
-
-pub event_hex_spells : (e : Event) → Fits e → SpellsEventBytes e (event_hex e)
-event_hex_spells (event.Drive d key capacity) fits = decode_sized-encode_lower key 20 fits.1 fits.2
-event_hex_spells (event.Disk d key capacity) fits = decode_sized-encode_lower key 20 fits.1 fits.2
-event_hex_spells (event.Client c) fits = tt
-event_hex_spells (event.File f map tag) fits = tt
-event_hex_spells (event.ZonedFile f map tag) fits = tt
-event_hex_spells (event.Zone d z) fits = tt
-event_hex_spells (event.Least d n) fits = tt
-event_hex_spells (event.Format n) fits = tt
-event_hex_spells (event.Do c call) fits = call_hex_spells call fits.1
-event_hex_spells (event.Call c call) fits = call_hex_spells call fits.1
-event_hex_spells (event.Deliver n) fits = tt
-event_hex_spells (event.Exclude n) fits = tt
-event_hex_spells event.Settle fits = tt
-event_hex_spells (event.Resend who) fits = tt
-event_hex_spells (event.Timeout c k) fits = tt
-event_hex_spells (event.Leave c) fits = tt
-event_hex_spells (event.Inject d bytes) fits = hex_spells bytes fits.1
-event_hex_spells (event.Clock who time) fits = tt
-event_hex_spells (event.Recall f) fits = tt
-event_hex_spells (event.Revoke f) fits = tt
-event_hex_spells (event.Rebuild f) fits = tt
-event_hex_spells (event.Audit f) fits = tt
-event_hex_spells (event.Declare d) fits = tt
-event_hex_spells (event.Stop c) fits = tt
-event_hex_spells (event.Fail d) fits = tt
-event_hex_spells (event.Crash who) fits = tt
-event_hex_spells (event.Reopen who) fits = tt
-
-pub hex_is_lower : (bytes : List ℕ) → any_upper (hex_word bytes) ≡ false
-hex_is_lower [] = refl
-hex_is_lower (b ∷ bytes) = encode_without _ (b ∷ bytes) refl refl
-
-call_hex_is_lower : (c : Call) → any_upper (call_hex c) ≡ false
-call_hex_is_lower (call.Write f offset bytes) = hex_is_lower bytes
-call_hex_is_lower (call.Read f offset len) = refl
-
-pub event_hex_is_lower : (e : Event) → any_upper (event_hex e) ≡ false
-event_hex_is_lower (event.Drive d key capacity) = encode_without _ key refl refl
-event_hex_is_lower (event.Disk d key capacity) = encode_without _ key refl refl
-event_hex_is_lower (event.Client c) = refl
-event_hex_is_lower (event.File f map tag) = refl
-event_hex_is_lower (event.ZonedFile f map tag) = refl
-event_hex_is_lower (event.Zone d z) = refl
-event_hex_is_lower (event.Least d n) = refl
-event_hex_is_lower (event.Format n) = refl
-event_hex_is_lower (event.Do c call) = call_hex_is_lower call
-event_hex_is_lower (event.Call c call) = call_hex_is_lower call
-event_hex_is_lower (event.Deliver n) = refl
-event_hex_is_lower (event.Exclude n) = refl
-event_hex_is_lower event.Settle = refl
-event_hex_is_lower (event.Resend who) = refl
-event_hex_is_lower (event.Timeout c k) = refl
-event_hex_is_lower (event.Leave c) = refl
-event_hex_is_lower (event.Inject d bytes) = hex_is_lower bytes
-event_hex_is_lower (event.Clock who time) = refl
-event_hex_is_lower (event.Recall f) = refl
-event_hex_is_lower (event.Revoke f) = refl
-event_hex_is_lower (event.Rebuild f) = refl
-event_hex_is_lower (event.Audit f) = refl
-event_hex_is_lower (event.Declare d) = refl
-event_hex_is_lower (event.Stop c) = refl
-event_hex_is_lower (event.Fail d) = refl
-event_hex_is_lower (event.Crash who) = refl
-event_hex_is_lower (event.Reopen who) = refl
+lower_are : (ps : List Part) (words : List (List ℕ)) → SpellAll Lower ps words → words ≡ map word_of ps
+lower_are [] [] h = refl
+lower_are [] (word ∷ words) h = absurd h
+lower_are (p ∷ ps) [] h = absurd h
+lower_are (p ∷ ps) (word ∷ words) h = cc (lower_is p word h.0, lower_are ps words h.1)
 
 -- ---- the text of an event
 
-words_again : (e : Event) → Fits e → words_of (event_text e) ≡ event_words e (event_hex e)
-words_again (event.Drive d key capacity) fits = split_joined 32 _ _ (event_clear (event.Drive d key capacity) fits)
-words_again (event.Disk d key capacity) fits = split_joined 32 _ _ (event_clear (event.Disk d key capacity) fits)
-words_again (event.Client c) fits = split_joined 32 _ _ (event_clear (event.Client c) fits)
-words_again (event.File f map tag) fits = split_joined 32 _ _ (event_clear (event.File f map tag) fits)
-words_again (event.ZonedFile f map tag) fits = split_joined 32 _ _ (event_clear (event.ZonedFile f map tag) fits)
-words_again (event.Zone d z) fits = split_joined 32 _ _ (event_clear (event.Zone d z) fits)
-words_again (event.Least d n) fits = split_joined 32 _ _ (event_clear (event.Least d n) fits)
-words_again (event.Format n) fits = split_joined 32 _ _ (event_clear (event.Format n) fits)
-words_again (event.Do c call) fits = split_joined 32 _ _ (event_clear (event.Do c call) fits)
-words_again (event.Call c call) fits = split_joined 32 _ _ (event_clear (event.Call c call) fits)
-words_again (event.Deliver n) fits = split_joined 32 _ _ (event_clear (event.Deliver n) fits)
-words_again (event.Exclude n) fits = split_joined 32 _ _ (event_clear (event.Exclude n) fits)
-words_again event.Settle fits = split_joined 32 _ _ (event_clear event.Settle fits)
-words_again (event.Resend who) fits = split_joined 32 _ _ (event_clear (event.Resend who) fits)
-words_again (event.Timeout c k) fits = split_joined 32 _ _ (event_clear (event.Timeout c k) fits)
-words_again (event.Leave c) fits = split_joined 32 _ _ (event_clear (event.Leave c) fits)
-words_again (event.Inject d bytes) fits = split_joined 32 _ _ (event_clear (event.Inject d bytes) fits)
-words_again (event.Clock who time) fits = split_joined 32 _ _ (event_clear (event.Clock who time) fits)
-words_again (event.Recall f) fits = split_joined 32 _ _ (event_clear (event.Recall f) fits)
-words_again (event.Revoke f) fits = split_joined 32 _ _ (event_clear (event.Revoke f) fits)
-words_again (event.Rebuild f) fits = split_joined 32 _ _ (event_clear (event.Rebuild f) fits)
-words_again (event.Audit f) fits = split_joined 32 _ _ (event_clear (event.Audit f) fits)
-words_again (event.Declare d) fits = split_joined 32 _ _ (event_clear (event.Declare d) fits)
-words_again (event.Stop c) fits = split_joined 32 _ _ (event_clear (event.Stop c) fits)
-words_again (event.Fail d) fits = split_joined 32 _ _ (event_clear (event.Fail d) fits)
-words_again (event.Crash who) fits = split_joined 32 _ _ (event_clear (event.Crash who) fits)
-words_again (event.Reopen who) fits = split_joined 32 _ _ (event_clear (event.Reopen who) fits)
+joined_again : (ps : List Part) (p : Part) (qs : List Part) → ps ≡ p ∷ qs → none_any is_space (map word_of ps) ≡ false
+    → words_of (spaced (map word_of ps)) ≡ map word_of ps
+joined_again ps p qs is clear =
+    let c : none_any is_space (map word_of (p ∷ qs)) ≡ false = subst (λ (rs : List Part). none_any is_space (map word_of rs) ≡ false) is clear in
+    subst (λ (rs : List Part). words_of (spaced (map word_of rs)) ≡ map word_of rs) (sym is) (split_joined 32 (word_of p) (map word_of qs) c)
 
 -- the spelling with lower-case digits is a spelling
 pub event_text_spells : (e : Event) → Fits e → Spells e (event_text e)
-event_text_spells e fits = (event_hex e, event_hex_spells e fits, words_again e fits)
+event_text_spells e fits =
+    let f = first_part Either (event_by Either) event_parts (event_exact Either) e (event_path Either e) in
+    let clear = line_clear Either (event_form Either) event_parts (event_exact Either) e (event_path Either e) fits in
+    subst (λ (ws : List (List ℕ)). SpellAll Either (event_parts e) ws) (sym (joined_again (event_parts e) f.0 f.1 f.2 clear)) (either_all (event_parts e) fits)
 
-event_line : (e : Event) → line_text (line.Event e) ≡ codes "= " ++ event_text e
-event_line (event.Drive d key capacity) = refl
-event_line (event.Disk d key capacity) = refl
-event_line (event.Client c) = refl
-event_line (event.File f map tag) = refl
-event_line (event.ZonedFile f map tag) = refl
-event_line (event.Zone d z) = refl
-event_line (event.Least d n) = refl
-event_line (event.Format n) = refl
-event_line (event.Do c call) = refl
-event_line (event.Call c call) = refl
-event_line (event.Deliver n) = refl
-event_line (event.Exclude n) = refl
-event_line event.Settle = refl
-event_line (event.Resend who) = refl
-event_line (event.Timeout c k) = refl
-event_line (event.Leave c) = refl
-event_line (event.Inject d bytes) = refl
-event_line (event.Clock who time) = refl
-event_line (event.Recall f) = refl
-event_line (event.Revoke f) = refl
-event_line (event.Rebuild f) = refl
-event_line (event.Audit f) = refl
-event_line (event.Declare d) = refl
-event_line (event.Stop c) = refl
-event_line (event.Fail d) = refl
-event_line (event.Crash who) = refl
-event_line (event.Reopen who) = refl
+echoed : (ps : List Part) (p : Part) (qs : List Part) → ps ≡ p ∷ qs
+    → codes "=" ++ behind 32 (map word_of ps) ≡ codes "= " ++ spaced (map word_of ps)
+echoed ps p qs is =
+    subst (λ (rs : List Part). codes "=" ++ behind 32 (map word_of rs) ≡ codes "= " ++ spaced (map word_of rs)) (sym is)
+    (ap (λ (x : List ℕ). codes "= " ++ x) (sym (joined_is 32 (word_of p) (map word_of qs))))
 
-pub line_spells : (l : Line) (text : List ℕ) → text ≡ line_text l → SpellsItsEvent l text
-line_spells (line.Event e) text h = λ fits. (event_text e, h ∙ event_line e, event_text_spells e fits)
-line_spells (line.Message n from to bytes) text h = tt
-line_spells (line.Delivered n what) text h = tt
-line_spells (line.Judged d v) text h = tt
-line_spells (line.TimedOut c k) text h = tt
-line_spells (line.Ended c how) text h = tt
-line_spells (line.Refused c why) text h = tt
-line_spells (line.Note f what) text h = tt
-line_spells (line.Last calm unguessed) text h = tt
+pub event_echoes : (e : Event) (text : List ℕ) → text ≡ codes "=" ++ behind 32 (map word_of (event_parts e)) → EchoesEvent e text
+event_echoes e text h = λ fits.
+    let f = first_part Either (event_by Either) event_parts (event_exact Either) e (event_path Either e) in
+    (event_text e, h ∙ echoed (event_parts e) f.0 f.1 f.2, event_text_spells e fits)
 
--- ---- the words that were written
+-- ---- the text of a line
 
-pub text_is : (l : Line) (text : List ℕ) → text ≡ head_word l ++ behind 32 (tail_words l) → text ≡ line_text l
-text_is l text h = h ∙ sym (joined_is 32 (head_word l) (tail_words l))
+pub text_is : (l : Line) (text : List ℕ) → text ≡ head_word l ++ behind 32 (map word_of (tail_parts l)) → text ≡ line_text l
+text_is l text h = h ∙ sym (joined_is 32 (head_word l) (map word_of (tail_parts l)))
+
+pub line_spells : (l : Line) (text : List ℕ) → text ≡ head_word l ++ behind 32 (map word_of (tail_parts l)) → SpellsItsEvent l text
+line_spells (line.Event e) text h = event_echoes e text h
+line_spells l text h = tt
+
+text_found : (text : List ℕ) (l : Line) → reads_line line_form (words_of text) ≡ Ok l → LineFits l × (text ≡ line_text l)
+text_found text l h =
+    let f = line_found Lower line_form line_parts line_exact (words_of text) l h in
+    (f.0, sym (join_with_byte-slice_split 32 text) ∙ ap spaced (lower_are (line_parts l) (words_of text) f.1))
+
+text_again : (text : List ℕ) (l : Line) → LineFits l → text ≡ line_text l → reads_line line_form (words_of text) ≡ Ok l
+text_again text l fits h =
+    let clear = line_clear Lower line_form line_parts line_exact l (line_path l) fits in
+    let words : words_of text ≡ map word_of (line_parts l) =
+    ap words_of h ∙ split_joined 32 (head_word l) (map word_of (tail_parts l)) clear in
+    let says = subst (λ (ws : List (List ℕ)). SpellAll Lower (line_parts l) ws) (sym words) (lower_all (line_parts l)) in
+    line_again Lower line_form line_parts line_exact (words_of text) l (line_path l) fits says
+
+-- ---- the answers of `read_line`
+
+pub found : (text : List ℕ) (r : Result Line EventErr) → GivesOrMemory (reads_line line_form (words_of text)) r
+    → IfOk r (λ l. LineFits l × (text ≡ line_text l))
+found text (Ok l) h = text_found text l (ok_is_read _ l h)
+found text (Err e) h = tt
+
+only_of : (expected : Result Line EventErr) (r : Result Line EventErr) (l : Line) → GivesOrMemory expected r → expected ≡ Ok l → GivesLine l r
+only_of expected (Ok x) l h is = let read = ok_is_read expected x h in cc (read, is)
+only_of expected (Err w) l h is = subst (λ (v : EventErr). GivesLine l (Err v)) (sym (err_is_memory expected w l h is)) tt
+
+pub only : (text : List ℕ) (r : Result Line EventErr) → GivesOrMemory (reads_line line_form (words_of text)) r → (l : Line) → LineFits l → text ≡ line_text l
+    → GivesLine l r
+only text r h l fits is = only_of (reads_line line_form (words_of text)) r l h (text_again text l fits is)
+
+refusal : (text : List ℕ) (w : EventErr) → reads_line line_form (words_of text) ≡ Err w → IsLineRefusal text w
+refusal text Memory h = tt
+refusal text w h = h
+
+memory_or : (text : List ℕ) (w : EventErr) → GivesOrMemory (reads_line line_form (words_of text)) (Err w) → IsLineRefusal text w
+memory_or text w (inl none) = let is : w ≡ Memory = cc none in subst (λ (v : EventErr). IsLineRefusal text v) (sym is) tt
+memory_or text w (inr h) = refusal text w (sym h)
+
+pub refused : (text : List ℕ) (r : Result Line EventErr) → GivesOrMemory (reads_line line_form (words_of text)) r → IfErr r (IsLineRefusal text)
+refused text (Ok l) h = tt
+refused text (Err w) h = memory_or text w h

@@ -1,6 +1,6 @@
 -- The kinds of events.
 use Rattle.scenario_text.specs.declared.event.Event.{Event}
-use Rattle.scenario_text.specs.declared.event.Event.TheVariants.{Drive, Disk, Client, File, ZonedFile, Zone, Least, Format, Do, Call, Deliver, Exclude, Settle, Resend, Timeout, Leave, Inject}
+use Rattle.scenario_text.specs.declared.event.Event.TheVariants.{Drive, Disk, Client, File, ZonedFile, Zone, Least, Format, Do, Call, Deliver, DropMessage, Settle, Resend, Timeout, Leave, Inject}
 use Rattle.scenario_text.specs.declared.group.Group.{Group}
 use Rattle.scenario_text.specs.declared.group.Group.TheVariants.{Setup, Traffic, Upkeep}
 
@@ -17,7 +17,7 @@ group_of (Format format) = Setup
 group_of (Do c call) = Traffic
 group_of (Call c call) = Traffic
 group_of (Deliver n) = Traffic
-group_of (Exclude n) = Traffic
+group_of (DropMessage n) = Traffic
 group_of Settle = Traffic
 group_of (Resend who) = Traffic
 group_of (Timeout c k) = Traffic

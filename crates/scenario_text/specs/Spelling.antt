@@ -1,8 +1,9 @@
 -- What a line of a scenario spells.
-use Rattle.std.specs.Prelude.{◌≡◌, ℕ, ◌^◌, ◌<◌, ◌≤◌, ⊤, List, [], ◌∷◌, ◌++◌, length, codes, Option, Some, None, Result, Ok, Err}
-use Rattle.std.specs.Fmt.{decimal}
-use Rattle.hex.specs.Hex.{IsBytes, encode_lower}
-use Rattle.scenario_text.specs.Words.{words_of, spaced, drive_word, client_word, file_word, sender_word, machine_word, SpellsBytes, SpellsKey, hex_word}
+use Rattle.std.specs.Prelude.{◌≡◌, ℕ, ⊤, List, [], ◌∷◌, ◌++◌, map, codes, Option, Some, None, Result, Ok, Err}
+use Rattle.scenario_text.specs.Words.{words_of, spaced}
+use Rattle.scenario_text.specs.Parts.{Part, Fixed, Number, Key, Hex, u32, u64, drive, client, file, server, word_of, AllFit}
+use Rattle.scenario_text.specs.Spells.{SpellAll}
+use Rattle.scenario_text.specs.declared.hexadecimal.Digits.TheVariants.{Either}
 use Rattle.scenario_text.specs.declared.event.Event.{Event}
 use Rattle.scenario_text.specs.declared.event.Event.TheVariants as event
 use Rattle.scenario_text.specs.declared.event.EventErr.{EventErr}
@@ -15,120 +16,67 @@ use Rattle.scenario_text.specs.declared.event.Machine.{Machine}
 use Rattle.scenario_text.specs.declared.event.Machine.TheVariants as machine
 use Rattle.scenario_text.specs.declared.event.FileMap.{FileMap}
 
--- ---- values that a line can spell
+-- ---- the parts of an event
 
--- an algorithm from 1 to 4, and numbers in the ranges of their types
-pub record MapFits (map : FileMap) : Type 0 where
-  pub components : map.components < 2 ^ 32
-  pub unit : map.unit < 2 ^ 64
-  pub width : map.width < 2 ^ 32
-  pub depth : map.depth < 2 ^ 32
-  pub mirrors : map.mirrors < 2 ^ 32
-  pub algorithm_from : 1 ≤ map.algorithm
-  pub algorithm_to : map.algorithm ≤ 4
+abbrev pub call_parts : Call → List Part
+call_parts (call.Write f offset bytes) = Fixed (codes "write") ∷ file f ∷ u64 offset ∷ Hex bytes ∷ []
+call_parts (call.Read f offset len) = Fixed (codes "read") ∷ file f ∷ u64 offset ∷ u64 len ∷ []
 
-abbrev pub CallFits : Call → Type 0
-CallFits (call.Write f offset bytes) = (f < 64) × (offset < 2 ^ 64) × IsBytes bytes
-CallFits (call.Read f offset len) = (f < 64) × (offset < 2 ^ 64) × (len < 2 ^ 64)
+abbrev pub map_parts : FileMap → List Part
+map_parts m = u32 m.components ∷ u64 m.unit ∷ u32 m.width ∷ u32 m.depth ∷ u32 m.mirrors ∷ Number 1 4 m.algorithm ∷ []
 
-abbrev pub SenderFits : Sender → Type 0
-SenderFits (sender.Client c) = c < 16
-SenderFits sender.Server = ⊤
+-- a policy access tag, from 1
+abbrev pub tag : ℕ → Part
+tag n = Number 1 4294967295 n
 
-abbrev pub MachineFits : Machine → Type 0
-MachineFits (machine.Drive d) = d < 64
-MachineFits machine.Server = ⊤
+-- a capability format
+abbrev pub format : ℕ → Part
+format n = Number 1 2 n
 
--- names below 64, 64 and 16, a key of 20 bytes, a tag from 1, a format of 1 or 2, and numbers in the ranges of
--- their types
+abbrev pub sender_part : Sender → Part
+sender_part (sender.Client c) = client c
+sender_part sender.Server = server
+
+abbrev pub machine_part : Machine → Part
+machine_part (machine.Drive d) = drive d
+machine_part machine.Server = server
+
+abbrev pub event_parts : Event → List Part
+event_parts (event.Drive d key capacity) = Fixed (codes "drive") ∷ drive d ∷ Key key ∷ u64 capacity ∷ []
+event_parts (event.Disk d key capacity) = Fixed (codes "disk") ∷ drive d ∷ Key key ∷ u64 capacity ∷ []
+event_parts (event.Client c) = Fixed (codes "client") ∷ client c ∷ []
+event_parts (event.File f m t) = Fixed (codes "file") ∷ file f ∷ (map_parts m ++ tag t ∷ [])
+event_parts (event.ZonedFile f m t) = Fixed (codes "zfile") ∷ file f ∷ (map_parts m ++ tag t ∷ [])
+event_parts (event.Zone d z) = Fixed (codes "zone") ∷ drive d ∷ u32 z ∷ []
+event_parts (event.Least d n) = Fixed (codes "least") ∷ drive d ∷ format n ∷ []
+event_parts (event.Format n) = Fixed (codes "format") ∷ server ∷ format n ∷ []
+event_parts (event.Do c what) = Fixed (codes "do") ∷ client c ∷ call_parts what
+event_parts (event.Call c what) = Fixed (codes "call") ∷ client c ∷ call_parts what
+event_parts (event.Deliver n) = Fixed (codes "deliver") ∷ u64 n ∷ []
+event_parts (event.DropMessage n) = Fixed (codes "drop") ∷ u64 n ∷ []
+event_parts event.Settle = Fixed (codes "settle") ∷ []
+event_parts (event.Resend who) = Fixed (codes "resend") ∷ sender_part who ∷ []
+event_parts (event.Timeout c k) = Fixed (codes "timeout") ∷ client c ∷ u32 k ∷ []
+event_parts (event.Leave c) = Fixed (codes "leave") ∷ client c ∷ []
+event_parts (event.Inject d bytes) = Fixed (codes "inject") ∷ drive d ∷ Hex bytes ∷ []
+event_parts (event.Clock who time) = Fixed (codes "clock") ∷ machine_part who ∷ u64 time ∷ []
+event_parts (event.Recall f) = Fixed (codes "recall") ∷ file f ∷ []
+event_parts (event.Revoke f) = Fixed (codes "revoke") ∷ file f ∷ []
+event_parts (event.Rebuild f) = Fixed (codes "rebuild") ∷ file f ∷ []
+event_parts (event.Audit f) = Fixed (codes "audit") ∷ file f ∷ []
+event_parts (event.Declare d) = Fixed (codes "declare") ∷ drive d ∷ []
+event_parts (event.Stop c) = Fixed (codes "stop") ∷ client c ∷ []
+event_parts (event.Fail d) = Fixed (codes "fail") ∷ drive d ∷ []
+event_parts (event.Crash who) = Fixed (codes "crash") ∷ machine_part who ∷ []
+event_parts (event.Reopen who) = Fixed (codes "reopen") ∷ machine_part who ∷ []
+
+-- an event that a line can spell: each part is in the range of its place
 abbrev pub Fits : Event → Type 0
-Fits (event.Drive d key capacity) = (d < 64) × (length key ≡ 20) × IsBytes key × (capacity < 2 ^ 64)
-Fits (event.Disk d key capacity) = (d < 64) × (length key ≡ 20) × IsBytes key × (capacity < 2 ^ 64)
-Fits (event.Client c) = c < 16
-Fits (event.File f map tag) = (f < 64) × MapFits map × (1 ≤ tag) × (tag < 2 ^ 32)
-Fits (event.ZonedFile f map tag) = (f < 64) × MapFits map × (1 ≤ tag) × (tag < 2 ^ 32)
-Fits (event.Zone d z) = (d < 64) × (z < 2 ^ 32)
-Fits (event.Least d n) = (d < 64) × (1 ≤ n) × (n ≤ 2)
-Fits (event.Format n) = (1 ≤ n) × (n ≤ 2)
-Fits (event.Do c call) = (c < 16) × CallFits call
-Fits (event.Call c call) = (c < 16) × CallFits call
-Fits (event.Deliver n) = n < 2 ^ 64
-Fits (event.Exclude n) = n < 2 ^ 64
-Fits event.Settle = ⊤
-Fits (event.Resend who) = SenderFits who
-Fits (event.Timeout c k) = (c < 16) × (k < 2 ^ 32)
-Fits (event.Leave c) = c < 16
-Fits (event.Inject d bytes) = (d < 64) × IsBytes bytes
-Fits (event.Clock who time) = MachineFits who × (time < 2 ^ 64)
-Fits (event.Recall f) = f < 64
-Fits (event.Revoke f) = f < 64
-Fits (event.Rebuild f) = f < 64
-Fits (event.Audit f) = f < 64
-Fits (event.Declare d) = d < 64
-Fits (event.Stop c) = c < 16
-Fits (event.Fail d) = d < 64
-Fits (event.Crash who) = MachineFits who
-Fits (event.Reopen who) = MachineFits who
+Fits e = AllFit (event_parts e)
 
--- ---- events
-
--- the words of a call, with `hex` in the place of its bytes
-abbrev pub call_words : Call → List ℕ → List (List ℕ)
-call_words (call.Write f offset bytes) hex = codes "write" ∷ file_word f ∷ decimal offset ∷ hex ∷ []
-call_words (call.Read f offset len) hex = codes "read" ∷ file_word f ∷ decimal offset ∷ decimal len ∷ []
-
-abbrev pub map_words : FileMap → List (List ℕ)
-map_words map =
-    decimal map.components ∷ decimal map.unit ∷ decimal map.width ∷ decimal map.depth ∷ decimal map.mirrors
-    ∷ decimal map.algorithm ∷ []
-
--- the words of an event, with `hex` in the place of its bytes
-abbrev pub event_words : Event → List ℕ → List (List ℕ)
-event_words (event.Drive d key capacity) hex = codes "drive" ∷ drive_word d ∷ hex ∷ decimal capacity ∷ []
-event_words (event.Disk d key capacity) hex = codes "disk" ∷ drive_word d ∷ hex ∷ decimal capacity ∷ []
-event_words (event.Client c) hex = codes "client" ∷ client_word c ∷ []
-event_words (event.File f map tag) hex = codes "file" ∷ file_word f ∷ (map_words map ++ (decimal tag ∷ []))
-event_words (event.ZonedFile f map tag) hex = codes "zfile" ∷ file_word f ∷ (map_words map ++ (decimal tag ∷ []))
-event_words (event.Zone d z) hex = codes "zone" ∷ drive_word d ∷ decimal z ∷ []
-event_words (event.Least d n) hex = codes "least" ∷ drive_word d ∷ decimal n ∷ []
-event_words (event.Format n) hex = codes "format" ∷ codes "s" ∷ decimal n ∷ []
-event_words (event.Do c call) hex = codes "do" ∷ client_word c ∷ call_words call hex
-event_words (event.Call c call) hex = codes "call" ∷ client_word c ∷ call_words call hex
-event_words (event.Deliver n) hex = codes "deliver" ∷ decimal n ∷ []
-event_words (event.Exclude n) hex = codes "drop" ∷ decimal n ∷ []
-event_words event.Settle hex = codes "settle" ∷ []
-event_words (event.Resend who) hex = codes "resend" ∷ sender_word who ∷ []
-event_words (event.Timeout c k) hex = codes "timeout" ∷ client_word c ∷ decimal k ∷ []
-event_words (event.Leave c) hex = codes "leave" ∷ client_word c ∷ []
-event_words (event.Inject d bytes) hex = codes "inject" ∷ drive_word d ∷ hex ∷ []
-event_words (event.Clock who time) hex = codes "clock" ∷ machine_word who ∷ decimal time ∷ []
-event_words (event.Recall f) hex = codes "recall" ∷ file_word f ∷ []
-event_words (event.Revoke f) hex = codes "revoke" ∷ file_word f ∷ []
-event_words (event.Rebuild f) hex = codes "rebuild" ∷ file_word f ∷ []
-event_words (event.Audit f) hex = codes "audit" ∷ file_word f ∷ []
-event_words (event.Declare d) hex = codes "declare" ∷ drive_word d ∷ []
-event_words (event.Stop c) hex = codes "stop" ∷ client_word c ∷ []
-event_words (event.Fail d) hex = codes "fail" ∷ drive_word d ∷ []
-event_words (event.Crash who) hex = codes "crash" ∷ machine_word who ∷ []
-event_words (event.Reopen who) hex = codes "reopen" ∷ machine_word who ∷ []
-
--- whether a word spells the bytes of a call; where it has none there is nothing to spell
-abbrev pub SpellsCallBytes : Call → List ℕ → Type 0
-SpellsCallBytes (call.Write f offset bytes) hex = SpellsBytes bytes hex
-SpellsCallBytes (call.Read f offset len) hex = ⊤
-
--- the same of an event
-abbrev pub SpellsEventBytes : Event → List ℕ → Type 0
-SpellsEventBytes (event.Drive d key capacity) hex = SpellsKey key hex
-SpellsEventBytes (event.Disk d key capacity) hex = SpellsKey key hex
-SpellsEventBytes (event.Do c call) hex = SpellsCallBytes call hex
-SpellsEventBytes (event.Call c call) hex = SpellsCallBytes call hex
-SpellsEventBytes (event.Inject d bytes) hex = SpellsBytes bytes hex
-SpellsEventBytes e hex = ⊤
-
--- a line of a scenario spells an event: its words are the event's, with the bytes in digits of either case
+-- a line of a scenario spells an event: its words say the event's parts, with bytes in digits of either case
 abbrev pub Spells : Event → List ℕ → Type 0
-Spells e line = (hex : List ℕ) × SpellsEventBytes e hex × (words_of line ≡ event_words e hex)
+Spells e line = SpellAll Either (event_parts e) (words_of line)
 
 -- a line without an event: it is empty, or begins with `#`
 abbrev pub IsSkipped : List ℕ → Type 0
@@ -142,19 +90,6 @@ GivesEvent e (Ok (Some x)) = x ≡ e
 GivesEvent e (Err Memory) = ⊤
 GivesEvent e (Err other) = ⊥
 
-abbrev pub call_hex : Call → List ℕ
-call_hex (call.Write f offset bytes) = hex_word bytes
-call_hex (call.Read f offset len) = []
-
--- the bytes of an event with lower-case digits
-abbrev pub event_hex : Event → List ℕ
-event_hex (event.Drive d key capacity) = encode_lower key
-event_hex (event.Disk d key capacity) = encode_lower key
-event_hex (event.Do c call) = call_hex call
-event_hex (event.Call c call) = call_hex call
-event_hex (event.Inject d bytes) = hex_word bytes
-event_hex e = []
-
 -- the spelling of an event with lower-case digits
 abbrev pub event_text : Event → List ℕ
-event_text e = spaced (event_words e (event_hex e))
+event_text e = spaced (map word_of (event_parts e))

@@ -89,7 +89,7 @@ pub(crate) fn copied_traffic(alloc: Global, event: &Event) -> Result<Event, Memo
             call: call.copied(alloc)?,
         }),
         Event::Deliver { message } => Ok(Event::Deliver { message: *message }),
-        Event::Exclude { message } => Ok(Event::Exclude { message: *message }),
+        Event::DropMessage { message } => Ok(Event::DropMessage { message: *message }),
         Event::Settle => Ok(Event::Settle),
         Event::Resend { sender } => Ok(Event::Resend { sender: *sender }),
         Event::Timeout { client, component } => Ok(Event::Timeout {

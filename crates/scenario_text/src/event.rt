@@ -116,8 +116,8 @@ pub enum Event {
     Deliver {
         message: u64,
     },
-    /// Leaves a message out when messages are settled.
-    Exclude {
+    /// Drops a message: it is left out when messages are settled.
+    DropMessage {
         message: u64,
     },
     /// Delivers every message that was never delivered and not left out.

@@ -26,7 +26,7 @@ pub(crate) fn event_group(event: &Event) -> Group
         Event::Do { .. }
         | Event::Call { .. }
         | Event::Deliver { .. }
-        | Event::Exclude { .. }
+        | Event::DropMessage { .. }
         | Event::Settle
         | Event::Resend { .. }
         | Event::Timeout { .. }

@@ -1,28 +1,31 @@
 //! The language of scenarios and of their transcripts.
 //!
-//! A scenario has one [`Event`] a line, a transcript one [`Line`]. What a line spells is one relation,
-//! in `specs/Spelling.antt`, which stands apart from reading and from writing.
+//! A scenario has one [`Event`] a line, a transcript one [`Line`]. What the words of a line say is one
+//! table, in `specs/Spelling.antt` and `specs/LineSpelling.antt`, which stands apart from reading and
+//! from writing.
 #![tactic(auto)]
 
+mod by_table;
 mod copies;
 mod event;
+mod event_reading;
+mod event_writing;
 mod group;
 mod hexadecimal;
-mod keyword;
 mod line;
-mod line_keyword;
 mod line_reading;
 mod line_writing;
 mod names;
-mod read;
+mod note_reading;
+mod outcome_reading;
 mod words;
 mod write;
 
 pub use event::{Call, Event, EventErr, FileMap, Machine, Sender};
+pub use event_reading::read_event;
 pub use line::{
     CallKind, Delivery, Ending, LayoutFault, Line, MapFault, Note, Outcome, Party, Refusal, Verdict,
 };
 pub use line_reading::read_line;
-pub use line_writing::write_line;
-pub use names::{CLIENTS, ClientName, DRIVES, DriveName, FILES, FileName};
-pub use read::read_event;
+pub use line_writing::{write_event_line, write_line, write_lines};
+pub use names::{CLIENTS, ClientName, DRIVES, DriveName, FILES, FileName, Name};

@@ -91,8 +91,8 @@ pub enum Outcome {
     WriteOk { length: u64 },
     /// A read gave these bytes.
     ReadOk { bytes: Bytes },
-    /// The call ended otherwise.
-    Otherwise { call: CallKind, ending: Ending },
+    /// The call failed, or still waits.
+    Failed { call: CallKind, ending: Ending },
 }
 
 /// Why a call was refused.

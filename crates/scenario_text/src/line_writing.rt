@@ -1,237 +1,210 @@
-ghost use Rattle.std.specs.Prelude.{◌≡◌, ◌++◌, ◌∷◌, [], codes, ℕ, List, map, IfOk, OnOk, decimal};
-ghost use Rattle.scenario_text.specs.Words.{spaced_after, behind, yes_or_no};
-ghost use Rattle.scenario_text.specs.LineSpelling.{line_text, head_word, tail_words, SpellsItsEvent, party_word, kind_word, layout_fault_word, map_fault_word, refusal_word, positions_word, verdict_words, delivery_words, ending_words, outcome_words, note_words};
+ghost use Rattle.std.specs.Prelude.{◌≡◌, ◌++◌, ◌∷◌, [], map, codes, IfOk, OnOk};
+ghost use Rattle.scenario_text.specs.Words.{behind};
+ghost use Rattle.scenario_text.specs.Parts.{word_of};
+ghost use Rattle.scenario_text.specs.Written.{written};
+ghost use Rattle.scenario_text.specs.Spelling.{event_parts};
+ghost use Rattle.scenario_text.specs.LineSpelling.{party_part, kind_word, layout_fault_word, map_fault_word, refusal_word, yes_or_no, verdict_parts, delivery_parts, ending_parts, outcome_parts, note_parts, head_word, tail_parts, line_text, lines_text, EchoesEvent, SpellsItsEvent};
 
+use crate::event::Event;
+use crate::event_writing::put_event;
 use crate::line::{
     CallKind, Delivery, Ending, LayoutFault, Line, MapFault, Note, Outcome, Party, Refusal, Verdict,
 };
-use crate::write::{put_bytes, put_event, put_name, put_number, put_word};
-use itoa::Buffer;
+use crate::write::{Word, named, put_words, small};
 use osd_bytes::{Bytes, Memory};
 use std::alloc::Global;
 
-fn put_party(out: &mut Bytes, party: &Party) -> Result<(), Memory>
-    ensures { OnOk result (out.new ≡ out.old ++ (32 ∷ party_word party.now)) }
+fn party_word<'a>(party: &Party) -> Word<'a>
+    ensures { written result ≡ word_of (party_part party.now) }
 {
     match party {
-        Party::Drive { drive } => put_name(out, b'd', drive.number()),
-        Party::Client { client } => put_name(out, b'c', client.number()),
-        Party::Server => put_word(out, b"s"),
+        Party::Drive { drive } => named(drive),
+        Party::Client { client } => named(client),
+        Party::Server => Word::Fixed(b"s"),
     }
 }
 
-fn put_kind(out: &mut Bytes, kind: CallKind) -> Result<(), Memory>
-    ensures { OnOk result (out.new ≡ out.old ++ (32 ∷ kind_word kind)) }
+fn kind_text(kind: CallKind) -> &'static [u8]
+    ensures { result.now ≡ kind_word kind }
 {
     match kind {
-        CallKind::Write => put_word(out, b"write"),
-        CallKind::Read => put_word(out, b"read"),
+        CallKind::Write => b"write",
+        CallKind::Read => b"read",
     }
 }
 
-fn put_layout_fault(out: &mut Bytes, layout_fault: LayoutFault) -> Result<(), Memory>
-    ensures { OnOk result (out.new ≡ out.old ++ (32 ∷ layout_fault_word layout_fault)) }
+fn layout_fault_text(why: LayoutFault) -> &'static [u8]
+    ensures { result.now ≡ layout_fault_word why }
 {
-    match layout_fault {
-        LayoutFault::Unreadable => put_word(out, b"Unreadable"),
-        LayoutFault::Index => put_word(out, b"Index"),
-        LayoutFault::Partial => put_word(out, b"Partial"),
-        LayoutFault::Ssv => put_word(out, b"Ssv"),
-        LayoutFault::Map => put_word(out, b"Map"),
-        LayoutFault::Credential => put_word(out, b"Credential"),
+    match why {
+        LayoutFault::Unreadable => b"Unreadable",
+        LayoutFault::Index => b"Index",
+        LayoutFault::Partial => b"Partial",
+        LayoutFault::Ssv => b"Ssv",
+        LayoutFault::Map => b"Map",
+        LayoutFault::Credential => b"Credential",
     }
 }
 
-fn put_map_fault(out: &mut Bytes, map_fault: MapFault) -> Result<(), Memory>
-    ensures { OnOk result (out.new ≡ out.old ++ (32 ∷ map_fault_word map_fault)) }
+fn map_fault_text(why: MapFault) -> &'static [u8]
+    ensures { result.now ≡ map_fault_word why }
 {
-    match map_fault {
-        MapFault::Unit => put_word(out, b"Unit"),
-        MapFault::TooMany => put_word(out, b"TooMany"),
-        MapFault::TooFew => put_word(out, b"TooFew"),
-        MapFault::Multiple => put_word(out, b"Multiple"),
-        MapFault::Width => put_word(out, b"Width"),
-        MapFault::Depth => put_word(out, b"Depth"),
+    match why {
+        MapFault::Unit => b"Unit",
+        MapFault::TooMany => b"TooMany",
+        MapFault::TooFew => b"TooFew",
+        MapFault::Multiple => b"Multiple",
+        MapFault::Width => b"Width",
+        MapFault::Depth => b"Depth",
     }
 }
 
-fn put_refusal(out: &mut Bytes, refusal: Refusal) -> Result<(), Memory>
-    ensures { OnOk result (out.new ≡ out.old ++ (32 ∷ refusal_word refusal)) }
+fn refusal_text(why: Refusal) -> &'static [u8]
+    ensures { result.now ≡ refusal_word why }
 {
-    match refusal {
-        Refusal::Busy => put_word(out, b"busy"),
-        Refusal::BadRange => put_word(out, b"badrange"),
-        Refusal::SlotSpent => put_word(out, b"slotspent"),
+    match why {
+        Refusal::Busy => b"busy",
+        Refusal::BadRange => b"badrange",
+        Refusal::SlotSpent => b"slotspent",
     }
 }
 
-fn put_verdict(out: &mut Bytes, verdict: Verdict) -> Result<(), Memory>
-    ensures { OnOk result (out.new ≡ out.old ++ spaced_after (verdict_words verdict)) }
+fn yes_or_no_text(yes: bool) -> &'static [u8]
+    ensures { result.now ≡ yes_or_no yes }
+{
+    if yes { b"yes" } else { b"no" }
+}
+
+fn put_verdict(alloc: Global, out: &mut Bytes, verdict: Verdict) -> Result<(), Memory>
+    ensures { OnOk result (out.new ≡ out.old ++ behind 32 (map word_of (verdict_parts verdict))) }
 {
     match verdict {
-        Verdict::Perform => put_word(out, b"perform"),
-        Verdict::Again => put_word(out, b"again"),
-        Verdict::NoKey => put_word(out, b"nokey"),
-        Verdict::CheckValue => put_word(out, b"checkvalue"),
-        Verdict::Expired => put_word(out, b"expired"),
-        Verdict::Rights => put_word(out, b"rights"),
-        Verdict::WrongObject => put_word(out, b"wrongobject"),
-        Verdict::Range => put_word(out, b"range"),
-        Verdict::NoObject => put_word(out, b"noobject"),
-        Verdict::Exists => put_word(out, b"exists"),
-        Verdict::Limit => put_word(out, b"limit"),
-        Verdict::LaneFull => put_word(out, b"lanefull"),
-        Verdict::AttrFull => put_word(out, b"attrfull"),
-        Verdict::Format => put_word(out, b"format"),
-        Verdict::OldFormat => put_word(out, b"oldformat"),
-        Verdict::Tag { current } => {
-            put_word(out, b"tag")?;
-            put_number(out, u64::from(current))
-        }
+        Verdict::Perform => put_words(alloc, out, &[Word::Fixed(b"perform")]),
+        Verdict::Again => put_words(alloc, out, &[Word::Fixed(b"again")]),
+        Verdict::NoKey => put_words(alloc, out, &[Word::Fixed(b"nokey")]),
+        Verdict::CheckValue => put_words(alloc, out, &[Word::Fixed(b"checkvalue")]),
+        Verdict::Expired => put_words(alloc, out, &[Word::Fixed(b"expired")]),
+        Verdict::Rights => put_words(alloc, out, &[Word::Fixed(b"rights")]),
+        Verdict::WrongObject => put_words(alloc, out, &[Word::Fixed(b"wrongobject")]),
+        Verdict::Range => put_words(alloc, out, &[Word::Fixed(b"range")]),
+        Verdict::NoObject => put_words(alloc, out, &[Word::Fixed(b"noobject")]),
+        Verdict::Exists => put_words(alloc, out, &[Word::Fixed(b"exists")]),
+        Verdict::Tag { current } => put_words(alloc, out, &[Word::Fixed(b"tag"), small(current)]),
+        Verdict::Limit => put_words(alloc, out, &[Word::Fixed(b"limit")]),
         Verdict::NoSpace { free } => {
-            put_word(out, b"nospace")?;
-            put_number(out, free)
+            put_words(alloc, out, &[Word::Fixed(b"nospace"), Word::Number(free)])
         }
+        Verdict::LaneFull => put_words(alloc, out, &[Word::Fixed(b"lanefull")]),
         Verdict::Stale { last } => {
-            put_word(out, b"stale")?;
-            put_number(out, last)
+            put_words(alloc, out, &[Word::Fixed(b"stale"), Word::Number(last)])
         }
+        Verdict::AttrFull => put_words(alloc, out, &[Word::Fixed(b"attrfull")]),
+        Verdict::Format => put_words(alloc, out, &[Word::Fixed(b"format")]),
+        Verdict::OldFormat => put_words(alloc, out, &[Word::Fixed(b"oldformat")]),
     }
 }
 
-fn put_delivery(out: &mut Bytes, delivery: &Delivery) -> Result<(), Memory>
-    ensures { OnOk result (out.new ≡ out.old ++ spaced_after (delivery_words delivery.now)) }
+fn put_delivery(alloc: Global, out: &mut Bytes, delivery: &Delivery) -> Result<(), Memory>
+    ensures { OnOk result (out.new ≡ out.old ++ behind 32 (map word_of (delivery_parts delivery.now))) }
 {
     match delivery {
-        Delivery::Deaf => put_word(out, b"deaf"),
-        Delivery::Taken => put_word(out, b"taken"),
-        Delivery::Judged { verdict } => put_verdict(out, *verdict),
+        Delivery::Deaf => put_words(alloc, out, &[Word::Fixed(b"deaf")]),
+        Delivery::Taken => put_words(alloc, out, &[Word::Fixed(b"taken")]),
+        Delivery::Judged { verdict } => put_verdict(alloc, out, *verdict),
     }
 }
 
-// Adds the positions behind the first one, each behind a comma.
-fn put_further(out: &mut Bytes, positions: &[u32]) -> Result<(), Memory>
-    ensures { OnOk result (out.new ≡ out.old ++ behind 44 (map decimal positions.now)) }
-{
-    for position in positions {
-        out.push(b',')?;
-        out.extend_from_slice(Buffer::new().format(*position).as_bytes())?;
-    }
-    Ok(())
-}
-
-fn put_positions(out: &mut Bytes, positions: &[u32]) -> Result<(), Memory>
-    ensures { OnOk result (out.new ≡ out.old ++ (32 ∷ positions_word positions.now)) }
-{
-    match positions {
-        [] => put_word(out, b""),
-        [first, further @ ..] => {
-            put_number(out, u64::from(*first))?;
-            put_further(out, further)?;
-            Ok(())
-        }
-    }
-}
-
-fn put_ending(out: &mut Bytes, ending: &Ending) -> Result<(), Memory>
-    ensures { OnOk result (out.new ≡ out.old ++ spaced_after (ending_words ending.now)) }
+fn put_ending(alloc: Global, out: &mut Bytes, ending: &Ending) -> Result<(), Memory>
+    ensures { OnOk result (out.new ≡ out.old ++ behind 32 (map word_of (ending_parts ending.now))) }
 {
     match ending {
-        Ending::NoFile => put_word(out, b"nofile"),
-        Ending::Held { client } => {
-            put_word(out, b"held")?;
-            put_name(out, b'c', client.number())
-        }
+        Ending::NoFile => put_words(alloc, out, &[Word::Fixed(b"nofile")]),
+        Ending::Held { client } => put_words(alloc, out, &[Word::Fixed(b"held"), named(client)]),
         Ending::Fencing { component } => {
-            put_word(out, b"fencing")?;
-            put_number(out, u64::from(*component))
+            put_words(alloc, out, &[Word::Fixed(b"fencing"), small(*component)])
         }
         Ending::Degraded { component } => {
-            put_word(out, b"degraded")?;
-            put_number(out, u64::from(*component))
+            put_words(alloc, out, &[Word::Fixed(b"degraded"), small(*component)])
         }
-        Ending::Spent => put_word(out, b"spent"),
+        Ending::Spent => put_words(alloc, out, &[Word::Fixed(b"spent")]),
         Ending::Status { status, detail } => {
-            put_word(out, b"status")?;
-            put_number(out, u64::from(*status))?;
-            put_number(out, u64::from(*detail))
+            put_words(
+                alloc,
+                out,
+                &[Word::Fixed(b"status"), small(*status), small(*detail)],
+            )
         }
         Ending::Refused { drive, verdict } => {
-            put_word(out, b"refused")?;
-            put_name(out, b'd', drive.number())?;
-            put_verdict(out, *verdict)
+            put_words(alloc, out, &[Word::Fixed(b"refused"), named(drive)])?;
+            put_verdict(alloc, out, *verdict)
         }
         Ending::Silent { component } => {
-            put_word(out, b"silent")?;
-            put_number(out, u64::from(*component))
+            put_words(alloc, out, &[Word::Fixed(b"silent"), small(*component)])
         }
         Ending::Lost { positions } => {
-            put_word(out, b"lost")?;
-            put_positions(out, positions.as_slice())
+            let lost = Word::Positions(positions.as_slice());
+            put_words(alloc, out, &[Word::Fixed(b"lost"), lost])
         }
         Ending::BadLayout { why } => {
-            put_word(out, b"badlayout")?;
-            put_layout_fault(out, *why)
+            let why = Word::Fixed(layout_fault_text(*why));
+            put_words(alloc, out, &[Word::Fixed(b"badlayout"), why])
         }
-        Ending::Pending => put_word(out, b"pending"),
+        Ending::Pending => put_words(alloc, out, &[Word::Fixed(b"pending")]),
     }
 }
 
 fn put_outcome(alloc: Global, out: &mut Bytes, outcome: &Outcome) -> Result<(), Memory>
-    ensures { OnOk result (out.new ≡ out.old ++ spaced_after (outcome_words outcome.now)) }
+    ensures { OnOk result (out.new ≡ out.old ++ behind 32 (map word_of (outcome_parts outcome.now))) }
 {
     match outcome {
         Outcome::WriteOk { length } => {
-            put_word(out, b"write")?;
-            put_word(out, b"ok")?;
-            put_number(out, *length)
+            let count = Word::Number(*length);
+            put_words(
+                alloc,
+                out,
+                &[Word::Fixed(b"write"), Word::Fixed(b"ok"), count],
+            )
         }
         Outcome::ReadOk { bytes } => {
-            put_word(out, b"read")?;
-            put_word(out, b"ok")?;
-            put_bytes(alloc, out, bytes.as_slice())
+            let hex = Word::Hex(bytes.as_slice());
+            put_words(alloc, out, &[Word::Fixed(b"read"), Word::Fixed(b"ok"), hex])
         }
-        Outcome::Otherwise { call, ending } => {
-            put_kind(out, *call)?;
-            put_ending(out, ending)
+        Outcome::Failed { call, ending } => {
+            put_words(alloc, out, &[Word::Fixed(kind_text(*call))])?;
+            put_ending(alloc, out, ending)
         }
     }
 }
 
-fn put_note(out: &mut Bytes, note: &Note) -> Result<(), Memory>
-    ensures { OnOk result (out.new ≡ out.old ++ spaced_after (note_words note.now)) }
+fn put_note(alloc: Global, out: &mut Bytes, note: &Note) -> Result<(), Memory>
+    ensures { OnOk result (out.new ≡ out.old ++ behind 32 (map word_of (note_parts note.now))) }
 {
     match note {
-        Note::Ready => put_word(out, b"ready"),
-        Note::Fenced { tag } => {
-            put_word(out, b"fenced")?;
-            put_number(out, u64::from(*tag))
-        }
+        Note::Ready => put_words(alloc, out, &[Word::Fixed(b"ready")]),
+        Note::Fenced { tag } => put_words(alloc, out, &[Word::Fixed(b"fenced"), small(*tag)]),
         Note::Repaired { stripes, short } => {
-            put_word(out, b"repaired")?;
-            put_number(out, *stripes)?;
-            put_number(out, *short)
+            let (stripes, short) = (Word::Number(*stripes), Word::Number(*short));
+            put_words(alloc, out, &[Word::Fixed(b"repaired"), stripes, short])
         }
         Note::Rebuilt { component, drive } => {
-            put_word(out, b"rebuilt")?;
-            put_number(out, u64::from(*component))?;
-            put_name(out, b'd', drive.number())
+            put_words(
+                alloc,
+                out,
+                &[Word::Fixed(b"rebuilt"), small(*component), named(drive)],
+            )
         }
         Note::NoDrive { component } => {
-            put_word(out, b"nodrive")?;
-            put_number(out, u64::from(*component))
+            put_words(alloc, out, &[Word::Fixed(b"nodrive"), small(*component)])
         }
         Note::Lost {
             component,
             positions,
         } => {
-            put_word(out, b"lost")?;
-            put_number(out, u64::from(*component))?;
-            put_positions(out, positions.as_slice())
+            let lost = Word::Positions(positions.as_slice());
+            put_words(alloc, out, &[Word::Fixed(b"lost"), small(*component), lost])
         }
         Note::NoSpace { component } => {
-            put_word(out, b"nospace")?;
-            put_number(out, u64::from(*component))
+            put_words(alloc, out, &[Word::Fixed(b"nospace"), small(*component)])
         }
         Note::Audited {
             stripes,
@@ -239,68 +212,70 @@ fn put_note(out: &mut Bytes, note: &Note) -> Result<(), Memory>
             bad,
             bytes,
         } => {
-            put_word(out, b"audit")?;
-            put_number(out, *stripes)?;
-            put_number(out, *short)?;
-            put_number(out, *bad)?;
-            put_number(out, *bytes)
+            let (stripes, short) = (Word::Number(*stripes), Word::Number(*short));
+            let (bad, bytes) = (Word::Number(*bad), Word::Number(*bytes));
+            put_words(
+                alloc,
+                out,
+                &[Word::Fixed(b"audit"), stripes, short, bad, bytes],
+            )
         }
         Note::Busy { component } => {
-            put_word(out, b"busy")?;
-            put_number(out, u64::from(*component))
+            put_words(alloc, out, &[Word::Fixed(b"busy"), small(*component)])
         }
-        Note::Spent => put_word(out, b"spent"),
+        Note::Spent => put_words(alloc, out, &[Word::Fixed(b"spent")]),
         Note::Reported { component } => {
-            put_word(out, b"reported")?;
-            put_number(out, u64::from(*component))
+            put_words(alloc, out, &[Word::Fixed(b"reported"), small(*component)])
         }
-        Note::Exists => {
-            put_word(out, b"refused")?;
-            put_word(out, b"exists")
-        }
+        Note::Exists => put_words(
+            alloc,
+            out,
+            &[Word::Fixed(b"refused"), Word::Fixed(b"exists")],
+        ),
         Note::BadMap { why } => {
-            put_word(out, b"refused")?;
-            put_word(out, b"badmap")?;
-            put_map_fault(out, *why)
+            let why = Word::Fixed(map_fault_text(*why));
+            put_words(
+                alloc,
+                out,
+                &[Word::Fixed(b"refused"), Word::Fixed(b"badmap"), why],
+            )
         }
         Note::TooFew { online } => {
-            put_word(out, b"refused")?;
-            put_word(out, b"toofew")?;
-            put_number(out, u64::from(*online))
+            put_words(
+                alloc,
+                out,
+                &[
+                    Word::Fixed(b"refused"),
+                    Word::Fixed(b"toofew"),
+                    small(*online),
+                ],
+            )
         }
         Note::NoSpread { online } => {
-            put_word(out, b"refused")?;
-            put_word(out, b"nospread")?;
-            put_number(out, u64::from(*online))
+            put_words(
+                alloc,
+                out,
+                &[
+                    Word::Fixed(b"refused"),
+                    Word::Fixed(b"nospread"),
+                    small(*online),
+                ],
+            )
         }
     }
 }
 
-fn put_yes_or_no(out: &mut Bytes, yes: bool) -> Result<(), Memory>
-    ensures { OnOk result (out.new ≡ out.old ++ (32 ∷ yes_or_no yes)) }
+fn put_last(alloc: Global, out: &mut Bytes, calm: bool, unguessed: bool) -> Result<(), Memory>
+    ensures { OnOk result (out.new ≡ out.old ++ behind 32 (yes_or_no calm ∷ codes "unguessed" ∷ yes_or_no unguessed ∷ [])) }
 {
-    put_word(
-        out,
-        if yes {
-            b"yes".as_slice()
-        } else {
-            b"no".as_slice()
-        },
-    )
-}
-
-fn put_last(out: &mut Bytes, calm: bool, unguessed: bool) -> Result<(), Memory>
-    ensures { OnOk result (out.new ≡ out.old ++ spaced_after (yes_or_no calm ∷ codes "unguessed" ∷ yes_or_no unguessed ∷ [])) }
-{
-    put_yes_or_no(out, calm)?;
-    put_word(out, b"unguessed")?;
-    put_yes_or_no(out, unguessed)?;
-    Ok(())
+    let calm = Word::Fixed(yes_or_no_text(calm));
+    let unguessed = Word::Fixed(yes_or_no_text(unguessed));
+    put_words(alloc, out, &[calm, Word::Fixed(b"unguessed"), unguessed])
 }
 
 // Adds the words behind the first one.
 fn put_line(alloc: Global, out: &mut Bytes, line: &Line) -> Result<(), Memory>
-    ensures { OnOk result (out.new ≡ out.old ++ spaced_after (tail_words line.now)) }
+    ensures { OnOk result (out.new ≡ out.old ++ behind 32 (map word_of (tail_parts line.now))) }
 {
     match line {
         Line::Event { event } => put_event(alloc, out, event),
@@ -310,36 +285,34 @@ fn put_line(alloc: Global, out: &mut Bytes, line: &Line) -> Result<(), Memory>
             to,
             bytes,
         } => {
-            put_number(out, *message)?;
-            put_party(out, from)?;
-            put_party(out, to)?;
-            put_bytes(alloc, out, bytes.as_slice())
+            let (from, to) = (party_word(from), party_word(to));
+            let hex = Word::Hex(bytes.as_slice());
+            put_words(alloc, out, &[Word::Number(*message), from, to, hex])
         }
         Line::Delivered { message, delivery } => {
-            put_number(out, *message)?;
-            put_delivery(out, delivery)
+            put_words(alloc, out, &[Word::Number(*message)])?;
+            put_delivery(alloc, out, delivery)
         }
         Line::Judged { drive, verdict } => {
-            put_name(out, b'd', drive.number())?;
-            put_verdict(out, *verdict)
+            put_words(alloc, out, &[named(drive)])?;
+            put_verdict(alloc, out, *verdict)
         }
         Line::TimedOut { client, component } => {
-            put_name(out, b'c', client.number())?;
-            put_number(out, u64::from(*component))
+            put_words(alloc, out, &[named(client), small(*component)])
         }
         Line::Ended { client, outcome } => {
-            put_name(out, b'c', client.number())?;
+            put_words(alloc, out, &[named(client)])?;
             put_outcome(alloc, out, outcome)
         }
         Line::Refused { client, refusal } => {
-            put_name(out, b'c', client.number())?;
-            put_refusal(out, *refusal)
+            let why = Word::Fixed(refusal_text(*refusal));
+            put_words(alloc, out, &[named(client), why])
         }
         Line::Note { file, note } => {
-            put_name(out, b'f', file.number())?;
-            put_note(out, note)
+            put_words(alloc, out, &[named(file)])?;
+            put_note(alloc, out, note)
         }
-        Line::Last { calm, unguessed } => put_last(out, *calm, *unguessed),
+        Line::Last { calm, unguessed } => put_last(alloc, out, *calm, *unguessed),
     }
 }
 
@@ -359,11 +332,19 @@ fn head(line: &Line) -> &'static [u8]
     }
 }
 
-fn text_of(alloc: Global, line: &Line) -> Result<Bytes, Memory>
-    ensures { IfOk result (λ text. text ≡ head_word line.now ++ spaced_after (tail_words line.now)) }
+fn line_bytes(alloc: Global, line: &Line) -> Result<Bytes, Memory>
+    ensures { IfOk result (λ text. text ≡ head_word line.now ++ behind 32 (map word_of (tail_parts line.now))) }
 {
     let mut out = Bytes::copied(alloc, head(line))?;
     put_line(alloc, &mut out, line)?;
+    Ok(out)
+}
+
+fn event_bytes(alloc: Global, event: &Event) -> Result<Bytes, Memory>
+    ensures { IfOk result (λ text. text ≡ codes "=" ++ behind 32 (map word_of (event_parts event.now))) }
+{
+    let mut out = Bytes::copied(alloc, b"=")?;
+    put_event(alloc, &mut out, event)?;
     Ok(out)
 }
 
@@ -374,5 +355,27 @@ pub fn write_line(alloc: Global, line: &Line) -> Result<Bytes, Memory>
     ensures text { IfOk result (λ text. text ≡ line_text line.now) }
     ensures spells { IfOk result (SpellsItsEvent line.now) }
 {
-    text_of(alloc, line)
+    line_bytes(alloc, line)
+}
+
+/// The text of the line of an event, as [`write_line`] gives it for a [`Line::Event`], with no copy of
+/// the event.
+pub fn write_event_line(alloc: Global, event: &Event) -> Result<Bytes, Memory>
+    ensures text { IfOk result (λ text. text ≡ line_text (Line.Event event.now)) }
+    ensures spells { IfOk result (EchoesEvent event.now) }
+{
+    event_bytes(alloc, event)
+}
+
+/// The text of the lines of a history, each with its newline.
+pub fn write_lines(alloc: Global, lines: &[Line]) -> Result<Bytes, Memory>
+    ensures { IfOk result (λ text. text ≡ lines_text lines.now) }
+{
+    let mut text = Bytes::new(alloc);
+    for line in lines {
+        let one = write_line(alloc, line)?;
+        text.extend_from_slice(one.as_slice())?;
+        text.push(b'\n')?;
+    }
+    Ok(text)
 }

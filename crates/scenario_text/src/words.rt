@@ -1,15 +1,13 @@
-ghost use Rattle.std.specs.Prelude.{◌≡◌, ◌<◌, ◌≤◌, ◌^◌, ◌-◌, ◌==◌, ◌∷◌, [], position, IsTrue, ◌↔◌, MatchResult, IfOk};
-ghost use Rattle.scenario_text.specs.EventReading.{call_kind_at};
+ghost use Rattle.std.specs.Prelude.{◌≡◌, ◌<◌, ◌≤◌, ◌^◌, ◌-◌, ◌==◌, ◌∷◌, [], position, IsTrue, ◌↔◌, IfOk, MatchResult};
 ghost use Rattle.scenario_text.specs.Words.{parts_left};
 ghost use Rattle.std.specs.List.{slice_split};
-ghost use Rattle.scenario_text.specs.Reading.{first, after, end_at, name_at, number_at, key_at, bytes_at, sender_at, machine_at, server_at, sender_of, machine_of, last_name, last_number, last_bytes, GivesOrMemory, decimal_of, IsPlain, name_of, number_of};
+ghost use Rattle.scenario_text.specs.Reading.{first, after, nothing, next_as, positions_of, decimal_of, IsPlain, name_of, number_of, u32_of, u64_of, bytes_of, key_of, is_server, server_of, sender_of, machine_of, party_of, GivesOrMemory};
 
 use crate::event::{EventErr, Machine, Sender};
 use crate::hexadecimal::{Digits, bytes, key};
-use crate::keyword::call_word;
-use crate::line::CallKind;
-use crate::names::{ClientName, DriveName, FileName};
-use osd_bytes::Bytes;
+use crate::line::Party;
+use crate::names::{ClientName, DriveName, Name};
+use osd_bytes::{Bytes, Numbers};
 use std::alloc::Global;
 use std::marker::Model;
 
@@ -48,45 +46,43 @@ fn number(word: &[u8], least: u64, most: u64) -> Result<u64, EventErr>
 }
 
 #[tactic(auto, unfolding(crate::specs::Reading::name_of))]
-fn name(word: &[u8], letter: u8, most: u32) -> Result<u32, EventErr>
-    ensures value { result ≡ name_of letter most word.now }
-    ensures range { IfOk result (λ n. n ≤ most) }
+fn name<const LETTER: u8, const COUNT: u32>(word: &[u8]) -> Result<Name<LETTER, COUNT>, EventErr>
+    ensures { result ≡ name_of LETTER COUNT word.now }
 {
     match word {
-        [first, digits @ ..] if *first == letter => match decimal(digits) {
-            Some(n) if n <= u64::from(most) => Ok(n as u32),
+        [first, digits @ ..] if *first == LETTER => match decimal(digits) {
+            Some(n) if n < u64::from(COUNT) => Name::new(n as u32).ok_or(EventErr::BadName),
             _ => Err(EventErr::BadName),
         },
         _ => Err(EventErr::BadName),
     }
 }
 
-pub(crate) fn drive_name(word: &[u8]) -> Result<DriveName, EventErr>
-    ensures { result ≡ name_of 100 63 word.now }
+fn is_server(word: &[u8]) -> bool
+    ensures { result ≡ is_server word.now }
 {
-    DriveName::new(name(word, b'd', 63)?).ok_or(EventErr::BadName)
+    word == b"s".as_slice()
 }
 
-pub(crate) fn client_name(word: &[u8]) -> Result<ClientName, EventErr>
-    ensures { result ≡ name_of 99 15 word.now }
+#[tactic(auto, unfolding(crate::specs::Reading::server_of))]
+fn server(word: &[u8]) -> Result<(), EventErr>
+    ensures { result ≡ server_of word.now }
 {
-    ClientName::new(name(word, b'c', 15)?).ok_or(EventErr::BadName)
-}
-
-fn file_name(word: &[u8]) -> Result<FileName, EventErr>
-    ensures { result ≡ name_of 102 63 word.now }
-{
-    FileName::new(name(word, b'f', 63)?).ok_or(EventErr::BadName)
+    if is_server(word) {
+        Ok(())
+    } else {
+        Err(EventErr::BadName)
+    }
 }
 
 #[tactic(auto, unfolding(crate::specs::Reading::sender_of))]
 fn sender(word: &[u8]) -> Result<Sender, EventErr>
     ensures { result ≡ sender_of word.now }
 {
-    if word == b"s".as_slice() {
+    if is_server(word) {
         return Ok(Sender::Server);
     }
-    let client = client_name(word)?;
+    let client: ClientName = name(word)?;
     Ok(Sender::Client { client })
 }
 
@@ -94,11 +90,25 @@ fn sender(word: &[u8]) -> Result<Sender, EventErr>
 fn machine(word: &[u8]) -> Result<Machine, EventErr>
     ensures { result ≡ machine_of word.now }
 {
-    if word == b"s".as_slice() {
+    if is_server(word) {
         return Ok(Machine::Server);
     }
-    let drive = drive_name(word)?;
+    let drive: DriveName = name(word)?;
     Ok(Machine::Drive { drive })
+}
+
+#[tactic(auto, unfolding(crate::specs::Reading::party_of))]
+fn party(word: &[u8]) -> Result<Party, EventErr>
+    ensures { result ≡ party_of word.now }
+{
+    if is_server(word) {
+        return Ok(Party::Server);
+    }
+    if let Ok(drive) = name(word) {
+        return Ok(Party::Drive { drive });
+    }
+    let client: ClientName = name(word)?;
+    Ok(Party::Client { client })
 }
 
 fn first_place(line: &[u8], separator: u8) -> Option<usize>
@@ -126,7 +136,6 @@ pub(crate) struct Words<'a> {
 
 impl<'a> Model for Words<'a> {
     ghost use Rattle.std.specs.Prelude.{List, ℕ};
-    ghost use Rattle.scenario_text.specs.EventReading.{call_kind_at};
     ghost use Rattle.scenario_text.specs.Words.{parts_left};
 
     ghost Value = { List (List ℕ) };
@@ -144,7 +153,7 @@ impl<'a> Words<'a> {
         }
     }
 
-    pub(crate) fn next_word(&mut self) -> Result<&'a [u8], EventErr>
+    pub(crate) fn word(&mut self) -> Result<&'a [u8], EventErr>
         ensures value { MatchResult result (λ word. first self.old ≡ Ok word.now) (λ e. first self.old ≡ Err e) }
         ensures rest { self.new ≡ after self.old }
     {
@@ -159,7 +168,7 @@ impl<'a> Words<'a> {
     }
 
     pub(crate) fn end(&self) -> Result<(), EventErr>
-        ensures { result ≡ end_at 0 self.now }
+        ensures { result ≡ nothing self.now }
     {
         match self.rest {
             Some(_) => Err(EventErr::Extra),
@@ -167,97 +176,104 @@ impl<'a> Words<'a> {
         }
     }
 
-    pub(crate) fn drive(&mut self) -> Result<DriveName, EventErr>
-        ensures value { result ≡ name_at 100 63 0 self.old }
+    pub(crate) fn name<const LETTER: u8, const COUNT: u32>(
+        &mut self,
+    ) -> Result<Name<LETTER, COUNT>, EventErr>
+        ensures value { result ≡ next_as (name_of LETTER COUNT) self.old }
         ensures rest { self.new ≡ after self.old }
     {
-        drive_name(self.next_word()?)
+        name(self.word()?)
     }
 
-    pub(crate) fn client(&mut self) -> Result<ClientName, EventErr>
-        ensures value { result ≡ name_at 99 15 0 self.old }
+    // A number of that range.
+    pub(crate) fn u32_in(&mut self, least: u32, most: u32) -> Result<u32, EventErr>
+        ensures value { result ≡ next_as (number_of least most) self.old }
         ensures rest { self.new ≡ after self.old }
     {
-        client_name(self.next_word()?)
+        let n = number(self.word()?, u64::from(least), u64::from(most))?;
+        Ok(n as u32)
     }
 
-    pub(crate) fn file(&mut self) -> Result<FileName, EventErr>
-        ensures value { result ≡ name_at 102 63 0 self.old }
+    pub(crate) fn u32(&mut self) -> Result<u32, EventErr>
+        ensures value { result ≡ next_as u32_of self.old }
         ensures rest { self.new ≡ after self.old }
     {
-        file_name(self.next_word()?)
-    }
-
-    pub(crate) fn sender(&mut self) -> Result<Sender, EventErr>
-        ensures value { result ≡ sender_at 0 self.old }
-        ensures rest { self.new ≡ after self.old }
-    {
-        sender(self.next_word()?)
-    }
-
-    pub(crate) fn machine(&mut self) -> Result<Machine, EventErr>
-        ensures value { result ≡ machine_at 0 self.old }
-        ensures rest { self.new ≡ after self.old }
-    {
-        machine(self.next_word()?)
-    }
-
-    // The word `s`, which names the server.
-    #[tactic(auto, unfolding(crate::specs::Reading::server_of))]
-    pub(crate) fn server(&mut self) -> Result<(), EventErr>
-        ensures value { result ≡ server_at 0 self.old }
-        ensures rest { self.new ≡ after self.old }
-    {
-        if self.next_word()? == b"s".as_slice() {
-            Ok(())
-        } else {
-            Err(EventErr::BadName)
-        }
-    }
-
-    pub(crate) fn call_kind(&mut self) -> Result<CallKind, EventErr>
-        ensures value { result ≡ call_kind_at 0 self.old }
-        ensures rest { self.new ≡ after self.old }
-    {
-        call_word(self.next_word()?).ok_or(EventErr::UnknownWord)
+        self.u32_in(0, u32::MAX)
     }
 
     pub(crate) fn u64(&mut self) -> Result<u64, EventErr>
-        ensures value { result ≡ number_at 0 (2 ^ 64 - 1) 0 self.old }
+        ensures value { result ≡ next_as u64_of self.old }
         ensures rest { self.new ≡ after self.old }
     {
-        number(self.next_word()?, 0, u64::MAX)
+        number(self.word()?, 0, u64::MAX)
     }
 
-    pub(crate) fn u32(&mut self, least: u32, most: u32) -> Result<u32, EventErr>
-        ensures value { result ≡ number_at least most 0 self.old }
+    // A capability format, 1 or 2.
+    pub(crate) fn format(&mut self) -> Result<u8, EventErr>
+        ensures value { result ≡ next_as (number_of 1 2) self.old }
         ensures rest { self.new ≡ after self.old }
     {
-        let n = number(self.next_word()?, u64::from(least), u64::from(most))?;
-        Ok(n as u32)
+        let n = number(self.word()?, 1, 2)?;
+        Ok(n as u8)
     }
 
     pub(crate) fn key(&mut self, digits: Digits) -> Result<[u8; 20], EventErr>
-        ensures value { result ≡ key_at digits 0 self.old }
+        ensures value { result ≡ next_as (key_of digits) self.old }
         ensures rest { self.new ≡ after self.old }
     {
-        key(digits, self.next_word()?)
+        key(digits, self.word()?)
     }
 
     pub(crate) fn bytes(&mut self, alloc: Global, digits: Digits) -> Result<Bytes, EventErr>
-        ensures value { GivesOrMemory (bytes_at digits 0 self.old) result }
+        ensures value { GivesOrMemory (next_as (bytes_of digits) self.old) result }
         ensures rest { self.new ≡ after self.old }
     {
-        bytes(alloc, digits, self.next_word()?)
+        bytes(alloc, digits, self.word()?)
+    }
+
+    // The word `s`, which names the server.
+    pub(crate) fn server(&mut self) -> Result<(), EventErr>
+        ensures value { result ≡ next_as server_of self.old }
+        ensures rest { self.new ≡ after self.old }
+    {
+        server(self.word()?)
+    }
+
+    pub(crate) fn sender(&mut self) -> Result<Sender, EventErr>
+        ensures value { result ≡ next_as sender_of self.old }
+        ensures rest { self.new ≡ after self.old }
+    {
+        sender(self.word()?)
+    }
+
+    pub(crate) fn machine(&mut self) -> Result<Machine, EventErr>
+        ensures value { result ≡ next_as machine_of self.old }
+        ensures rest { self.new ≡ after self.old }
+    {
+        machine(self.word()?)
+    }
+
+    pub(crate) fn party(&mut self) -> Result<Party, EventErr>
+        ensures value { result ≡ next_as party_of self.old }
+        ensures rest { self.new ≡ after self.old }
+    {
+        party(self.word()?)
     }
 
     // A position of at least `least`.
-    pub(crate) fn position(&mut self, least: u64) -> Result<u32, EventErr>
-        ensures value { result ≡ number_at least 4294967295 0 self.old }
+    fn position(&mut self, least: u64) -> Result<u32, EventErr>
+        ensures value { result ≡ next_as (number_of least 4294967295) self.old }
         ensures rest { self.new ≡ after self.old }
     {
-        let n = number(self.next_word()?, least, u64::from(u32::MAX))?;
+        let n = number(self.word()?, least, u64::from(u32::MAX))?;
         Ok(n as u32)
+    }
+
+    pub(crate) fn positions(&mut self, alloc: Global) -> Result<Numbers, EventErr>
+        ensures value { GivesOrMemory (next_as positions_of self.old) result }
+        ensures rest { self.new ≡ after self.old }
+    {
+        positions(alloc, self.word()?)
     }
 
     pub(crate) fn is_done(&self) -> bool
@@ -268,68 +284,19 @@ impl<'a> Words<'a> {
             Err(_) => false,
         }
     }
+}
 
-    #[tactic(auto, unfolding(crate::specs::Reading::last_name))]
-    pub(crate) fn last_drive(&mut self) -> Result<DriveName, EventErr>
-        ensures { result ≡ last_name 100 63 self.old }
-    {
-        let drive = self.drive()?;
-        self.end()?;
-        Ok(drive)
+#[tactic(auto, unfolding(crate::specs::Reading::positions_of))]
+fn positions(alloc: Global, word: &[u8]) -> Result<Numbers, EventErr>
+    ensures { GivesOrMemory (positions_of word.now) result }
+{
+    let mut parts = Words::new(word, b',');
+    let mut positions = Numbers::new(alloc);
+    let mut least = 0;
+    while !parts.is_done() {
+        let position = parts.position(least)?;
+        positions.push(position)?;
+        least = u64::from(position) + 1;
     }
-
-    #[tactic(auto, unfolding(crate::specs::Reading::last_name))]
-    pub(crate) fn last_client(&mut self) -> Result<ClientName, EventErr>
-        ensures { result ≡ last_name 99 15 self.old }
-    {
-        let client = self.client()?;
-        self.end()?;
-        Ok(client)
-    }
-
-    #[tactic(auto, unfolding(crate::specs::Reading::last_name))]
-    pub(crate) fn last_file(&mut self) -> Result<FileName, EventErr>
-        ensures { result ≡ last_name 102 63 self.old }
-    {
-        let file = self.file()?;
-        self.end()?;
-        Ok(file)
-    }
-
-    #[tactic(auto, unfolding(crate::specs::Reading::last_number))]
-    pub(crate) fn last_u64(&mut self) -> Result<u64, EventErr>
-        ensures { result ≡ last_number 0 (2 ^ 64 - 1) self.old }
-    {
-        let n = self.u64()?;
-        self.end()?;
-        Ok(n)
-    }
-
-    #[tactic(auto, unfolding(crate::specs::Reading::last_number))]
-    pub(crate) fn last_u32(&mut self, least: u32, most: u32) -> Result<u32, EventErr>
-        ensures { result ≡ last_number least most self.old }
-    {
-        let n = self.u32(least, most)?;
-        self.end()?;
-        Ok(n)
-    }
-
-    // A capability format, 1 or 2.
-    #[tactic(auto, unfolding(crate::specs::Reading::last_number))]
-    pub(crate) fn last_format(&mut self) -> Result<u8, EventErr>
-        ensures { result ≡ last_number 1 2 self.old }
-    {
-        let n = number(self.next_word()?, 1, 2)?;
-        self.end()?;
-        Ok(n as u8)
-    }
-
-    #[tactic(auto, unfolding(crate::specs::Reading::last_bytes))]
-    pub(crate) fn last_bytes(&mut self, alloc: Global, digits: Digits) -> Result<Bytes, EventErr>
-        ensures { GivesOrMemory (last_bytes digits self.old) result }
-    {
-        let bytes = self.bytes(alloc, digits)?;
-        self.end()?;
-        Ok(bytes)
-    }
+    Ok(positions)
 }

@@ -1,4 +1,4 @@
-use Rattle.scenario_text.proofs.LineAnswers.{found, only, refused}
+use Rattle.scenario_text.proofs.TextLaws.{found, only, refused}
 use Rattle.scenario_text.proofs.line_reading.read_line.Goals as goal
 
 pub returns : goal.returns

@@ -1,6 +1,6 @@
 use Rattle.std.proofs.Common.{refl, sym}
 use Rattle.std.proofs.lemmas.Bool.{false≢true}
-use Rattle.scenario_text.proofs.Fields.{end_ok}
+use Rattle.scenario_text.proofs.Results.{end_ok}
 use Rattle.scenario_text.proofs.Positions.{not_empty}
 use Rattle.scenario_text.proofs.words.Words.is_done.Goals as goal
 
