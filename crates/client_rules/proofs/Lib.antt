@@ -1,0 +1,5 @@
+pub mod WaitingMoves
+pub mod Waiting
+pub mod Numbering
+pub mod Asked
+pub mod Answered

@@ -1,5 +1,5 @@
 -- The grants that a client holds, and which calls they cover.
-use Rattle.std.specs.Prelude.{ℕ, Bool, false, not, List, [], ◌∷◌, Option, Some, None, ◌+◌, ◌-◌, ◌==◌, ◌&&◌, ◌||◌, nat_lt, nat_le, min, find, filter, is_some, if◌then◌else◌}
+use Rattle.std.specs.Prelude.{ℕ, Bool, false, not, List, [], ◌∷◌, Option, ◌+◌, ◌-◌, ◌==◌, ◌&&◌, ◌||◌, nat_lt, nat_le, min, find, filter, is_some, if◌then◌else◌}
 use Rattle.client_rules.specs.declared.limits.TheConstants.{MAX_COUNT}
 use Rattle.client_rules.specs.State.{CallOp, Listed, Reach, Held, Span}
 use Rattle.client_rules.specs.Calls.{span_of, is_write}

@@ -16,3 +16,4 @@ pub mod Messages
 pub mod Steps
 pub mod History
 pub mod Envelopes
+pub mod Laws

@@ -6,7 +6,6 @@ use Rattle.layout_types.specs.declared.objid.TheConstants.{DEVICE_ID_BYTES}
 use Rattle.layout_types.specs.declared.objid.ObjId.{ObjId}
 use Rattle.layout_types.specs.declared.ioerrs.Errno.{Errno}
 use Rattle.layout_types.specs.declared.ioerrs.Errno.TheVariants.{Eio, NotFound, NoSpace, BadCred, NoAccess, Unreachable, Resource}
-use Rattle.layout_types.specs.declared.ioerrs.IoErrs.{IoErrs}
 use Rattle.layout_types.specs.declared.update.LayoutUpdate.{LayoutUpdate}
 use Rattle.layout_types.specs.Spelling.{update_item, ioerrs_item}
 use Rattle.layout_ops.specs.declared.items.TheConstants.{STATEID_OTHER_BYTES}

@@ -2,7 +2,7 @@
 use Rattle.std.specs.Prelude.{ℕ, Bool, List, [], ◌∷◌, ◌++◌, Option, Some, None, Result, Ok, Err, ◌+◌, ◌-◌, ◌==◌, ◌&&◌, ◌||◌, nat_lt, map, find, option_map, is_some, if◌then◌else◌}
 use Rattle.data_map.specs.declared.ranges.TheConstants.{MAX_FILE_SIZE}
 use Rattle.client_rules.specs.declared.limits.TheConstants.{MAX_CALL, GREATEST_SEQUENCE, SPARE_REQUESTS}
-use Rattle.client_rules.specs.State.{Client, Call, CallOp, Held, Due, Awaited, Starts, Outcome, WriteOk, CallErr, Busy, BadRange, SlotSpent, Awaits, Nothing, TheServer, ADrive, Outgoing, Asks, Request, Span}
+use Rattle.client_rules.specs.State.{Client, Call, CallOp, Held, Due, Awaited, Starts, WriteOk, CallErr, Busy, BadRange, SlotSpent, Awaits, Nothing, TheServer, ADrive, Outgoing, Asks, Request, Span}
 use Rattle.client_rules.specs.Calls.{file_of, span_of, is_write}
 use Rattle.client_rules.specs.Grants.{held_of}
 use Rattle.client_rules.specs.Commands.{of_component, in_order}

@@ -1,0 +1,5 @@
+use Rattle.client_rules.proofs.Answered.{reads_took_replies}
+use Rattle.client_rules.proofs.laws.reads_took_replies.Goals as goal
+
+pub returns : goal.returns
+returns c = reads_took_replies

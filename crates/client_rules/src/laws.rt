@@ -1,0 +1,17 @@
+// What holds of every step, for the crates above.
+ghost use Rattle.client_rules.specs.Laws.{EachRestAwaitsSomething, NoncesRise, ReadsTookReplies};
+
+/// A call that waits for drives awaits a reply, whatever came to the client since it was new.
+pub fn each_rest_awaits_something()
+    ensures { EachRestAwaitsSomething }
+{}
+
+/// The nonces of a grant count its commands, so they rise and differ.
+pub fn nonces_rise()
+    ensures { NoncesRise }
+{}
+
+/// A read is answered only once a performed reply was taken.
+pub fn reads_took_replies()
+    ensures { ReadsTookReplies }
+{}
