@@ -3,3 +3,26 @@ pub mod Waiting
 pub mod Numbering
 pub mod Asked
 pub mod Answered
+mod Opened
+mod RowsGather
+mod RowsIntervals
+mod RowsDegraded
+mod RowsTakenLate
+mod RowsTooMany
+mod RowsSilentAfter
+mod RowsSilentBefore
+mod RowsPlain
+mod RowsOneOut
+mod RowsTwoOut
+mod RowsReplicas
+mod RowsLaterOut
+mod RowsNothingLeft
+mod RowsTag
+mod RowsNoRoom
+mod RowsRecallIdle
+mod RowsAgain
+mod RowsRecallInCall
+mod RowsConflict
+mod RowsBadCommit
+mod RowsFirst
+mod RowsLimits

@@ -16,4 +16,5 @@ pub mod Messages
 pub mod Steps
 pub mod History
 pub mod Envelopes
+pub mod Rows
 pub mod Laws
