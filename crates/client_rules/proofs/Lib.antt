@@ -26,3 +26,6 @@ mod RowsConflict
 mod RowsBadCommit
 mod RowsFirst
 mod RowsLimits
+mod RowsShort
+mod RowsStatuses
+mod RowsBadLayout

@@ -137,13 +137,17 @@ abbrev pub answers : (sequence file detail size : ℕ) → Results → Input
 answers sequence file detail size r =
     Hears FromServer (Answers (record { client = 0; sequence = sequence; file = file; detail = detail; size = size; results = r }))
 
--- one layout under a grant
-abbrev pub gives : Given → Layout → Results
-gives g l = results.LayoutGet (get.Granted (record {
+-- layouts with these bodies under a grant
+abbrev pub gives_bodies : Given → List (List ℕ) → Results
+gives_bodies g bodies = results.LayoutGet (get.Granted (record {
   return_on_close = false;
   stateid = stateid_of g.number;
-  layouts = record { offset = g.offset; length = g.len; iomode = if g.writes then 2 else 1; body = layout_item l } ∷ [];
+  layouts = map (λ (body : List ℕ). record { offset = g.offset; length = g.len; iomode = if g.writes then 2 else 1; body = body }) bodies;
 }))
+
+-- one layout
+abbrev pub gives : Given → Layout → Results
+gives g l = gives_bodies g (layout_item l ∷ [])
 
 -- the layout of a grant
 abbrev pub gives_layout : Given → Results
