@@ -5,5 +5,6 @@ pub mod Placed
 pub mod Calls
 pub mod Logs
 pub mod Entries
+pub mod Free
 pub mod WellKept
 pub mod LawfulKept

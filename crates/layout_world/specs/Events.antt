@@ -10,6 +10,9 @@ use Rattle.scenario_text.specs.declared.line.Line.{Line}
 use Rattle.scenario_text.specs.declared.line.Line.TheVariants.{Event as EventLine, Ended, Note as NoteLine}
 use Rattle.scenario_text.specs.declared.line.Outcome.TheVariants.{WriteOk, ReadOk}
 use Rattle.scenario_text.specs.declared.line.Note.TheVariants.{Ready}
+use Rattle.layout_world.specs.declared.err.WorldErr.{WorldErr}
+use Rattle.layout_world.specs.declared.err.WorldErr.TheVariants.{NoName, Taken, NotYet, Memory}
+use Rattle.layout_world.specs.Names.{IsNamed, IsTaken}
 use Rattle.layout_world.specs.State.{ClusterState, CanAddDrive, AddsDrive, IsClient, AddsClient, CanAddFile, AddsFile, CanWrite, DoesWrite, CanRead, Answers}
 
 -- the map of a `file` event
@@ -36,10 +39,28 @@ IsAllowed c (File f map tag) = CanAddFile c f (raw_of map)
 IsAllowed c (Do k call) = IsClient c k × CanCall c call
 IsAllowed c other = ⊥
 
+-- a call of the state that doesn't allow it; it changes nothing, but where there is no memory
+abbrev pub Denies : Type 0 → WorldErr → Type 0
+Denies Can NotYet = Can → ⊥
+Denies Can Memory = Unit {0}
+Denies Can other = ⊥
+
+abbrev pub IsKept : {A : Type 0} → A → A → WorldErr → Type 0
+IsKept before after Memory = Unit {0}
+IsKept before after other = after ≡ before
+
+-- Why an event isn't carried out: the first of these reasons that applies.
+abbrev pub Refuses : ClusterState → Event → WorldErr → Type 0
+Refuses c e NoName = IsNamed c e → ⊥
+Refuses c e Taken = IsNamed c e × IsTaken c e
+Refuses c e NotYet = IsNamed c e × (IsTaken c e → ⊥) × (IsAllowed c e → ⊥)
+Refuses c e Memory = Unit {0}
+
 -- how a call is answered, and the state that it leaves
 abbrev pub Calls : ClusterState → ℕ → Call → List Line → ClusterState → Type 0
 Calls c k (Write f offset bytes) lines after = (lines ≡ Ended k (WriteOk (length bytes)) ∷ []) × DoesWrite c f offset bytes after
-Calls c k (Read f offset len) lines after = (answer : List ℕ) × (lines ≡ Ended k (ReadOk answer) ∷ []) × Answers c f offset len answer × (after ≡ c)
+Calls c k (Read f offset len) lines after =
+    (answer : List ℕ) × (lines ≡ Ended k (ReadOk answer) ∷ []) × Answers c f offset len answer × (after ≡ c)
 
 -- the lines behind the event's own line, and the state that the event leaves
 abbrev pub Leads : ClusterState → Event → List Line → ClusterState → Type 0

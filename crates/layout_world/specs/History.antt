@@ -101,7 +101,8 @@ events_of_steps steps = map (λ s. s.event) steps
 -- the steps from a state on, after the lines so far: each is carried out, and each leaves a lawful history
 abbrev pub IsRunFrom : ClusterState → List Line → List Step → Type 0
 IsRunFrom c before [] = Unit {0}
-IsRunFrom c before (s ∷ steps) = Carries c s.event s.lines s.after × IsLawful s.after (before ++ s.lines) × IsRunFrom s.after (before ++ s.lines) steps
+IsRunFrom c before (s ∷ steps) =
+    Carries c s.event s.lines s.after × IsLawful s.after (before ++ s.lines) × IsRunFrom s.after (before ++ s.lines) steps
 
 -- a run of a new world
 abbrev pub IsRun : List Step → Type 0
@@ -117,9 +118,10 @@ pub record WorldState : Type 0 where
   pub state : ClusterState
   pub over : Bool
 
--- An event was carried out and its lines appended. Whatever history the state stood for, the new state stands for that history and the lines.
+-- An event was carried out, and the lines behind its own line appended. Whatever history the state stood for,
+-- the new state stands for that history, the event's line and these.
 pub record Steps (before : ClusterState) (e : Event) (lines_before lines_after : List Line) (after : ClusterState) : Type 0 where
-  pub lines : List Line
-  pub appended : lines_after ≡ lines_before ++ lines
-  pub carries : Carries before e lines after
-  pub stands : (h : List Line) → StandsFor before h → StandsFor after (h ++ lines)
+  pub rest : List Line
+  pub appended : lines_after ≡ lines_before ++ rest
+  pub carries : Carries before e (EventLine e ∷ rest) after
+  pub stands : (h : List Line) → StandsFor before h → StandsFor after (h ++ EventLine e ∷ rest)

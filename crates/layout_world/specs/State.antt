@@ -1,17 +1,18 @@
 -- The state of a world, and what its calls need and do.
-use Rattle.std.specs.Prelude.{◌≡◌, ℕ, ◌+◌, ◌*◌, ◌<◌, ◌≤◌, ◌==◌, max, Bool, true, false, List, [], ◌∷◌, length, replicate, slice_get, slice_set, Option, Some, None, IsNone, IsSome, Ok, if◌then◌else◌}
+use Rattle.std.specs.Prelude.{◌≡◌, ℕ, ◌+◌, ◌*◌, ◌<◌, ◌≤◌, ◌==◌, max, Bool, true, false, List, [], ◌∷◌, length, replicate, slice_get, slice_set, Option, Some, None, IsNone, IsSome, IfSome, Ok, if◌then◌else◌}
 use Rattle.std.specs.Ordering.{nat_cmp}
 use Rattle.std.specs.BTreeMap.{is_at, insert_entry}
 use Rattle.std.specs.Map.{lookup}
 use Rattle.data_map.specs.declared.check.RawMap.{RawMap}
 use Rattle.data_map.specs.Check.{checked}
 use Rattle.file_log.specs.Judge.{given}
+use Rattle.scenario_text.specs.declared.names.TheConstants.{CLIENTS, FILES}
 use Rattle.layout_world.specs.Cluster.{Drives, new_drive, drive_at, object_at}
 use Rattle.layout_world.specs.Placing.{Chosen, Made}
 use Rattle.layout_world.specs.Striped.{IsPlain, IsFormed, Stands, HasRoom, Stored, Loaded}
 use Rattle.layout_world.specs.declared.file.StripedFile.{StripedFile}
 use Rattle.data_map.specs.declared.ranges.TheConstants.{MAX_FILE_SIZE}
-use Rattle.layout_world.specs.declared.file.TheConstants.{MAX_CALL}
+use Rattle.layout_world.specs.declared.file.TheConstants.{FIRST_OBJECT, MAX_CALL, OBJECTS_OF_A_FILE}
 
 -- the drives and files by number, and of each client number whether there is that client
 pub record ClusterState : Type 0 where
@@ -20,14 +21,14 @@ pub record ClusterState : Type 0 where
   pub files : List (ℕ × StripedFile)
 
 abbrev pub new_cluster : ClusterState
-new_cluster = record { drives = []; clients = replicate 16 false; files = [] }
+new_cluster = record { drives = []; clients = replicate CLIENTS false; files = [] }
 
 abbrev pub file_at : ClusterState → ℕ → Option StripedFile
 file_at c f = lookup (is_at (nat_cmp f)) c.files
 
--- the objects of file f are numbered from here on, 64 numbers for each file
+-- the objects of file f are numbered from here on
 abbrev pub first_of : ℕ → ℕ
-first_of f = 65536 + 64 * f
+first_of f = FIRST_OBJECT + OBJECTS_OF_A_FILE * f
 
 -- ---- what holds between calls
 
@@ -39,8 +40,8 @@ pub record IsWellPlaced (drives : Drives) (f : ℕ) (file : StripedFile) : Type 
 
 pub record IsWell (c : ClusterState) : Type 0 where
   pub files : (f : ℕ) (file : StripedFile) → file_at c f ≡ Some file → IsWellPlaced c.drives f file
-  pub unused : (f d o : ℕ) → file_at c f ≡ None → first_of f ≤ o → o < first_of f + 64 → object_at c.drives d o ≡ None
-  pub clients : length c.clients ≡ 16
+  pub unused : (f d o : ℕ) → file_at c f ≡ None → first_of f ≤ o → o < first_of f + OBJECTS_OF_A_FILE → object_at c.drives d o ≡ None
+  pub clients : length c.clients ≡ CLIENTS
 
 -- ---- drives and clients
 
@@ -58,9 +59,10 @@ AddsClient c k after = after ≡ record c { clients = slice_set c.clients k true
 
 -- ---- files
 
--- a file can be made where its number is free, its map is of plain striping and can be used, and there are drives enough
+-- a file can be made where its number is free, its map is of plain striping and can be used, and there are
+-- drives enough
 pub record CanAddFile (c : ClusterState) (f : ℕ) (map : RawMap) : Type 0 where
-  pub named : f < 64
+  pub named : f < FILES
   pub free : IsNone (file_at c f)
   pub plain : IsPlain map
   pub usable : checked map ≡ Ok map
@@ -85,6 +87,12 @@ Takes c f offset len = (file : StripedFile) × (file_at c f ≡ Some file) × Ha
 abbrev pub CanWrite : ClusterState → ℕ → ℕ → List ℕ → Type 0
 CanWrite c f offset [] = InRange offset 0
 CanWrite c f offset (b ∷ bytes) = InRange offset (length (b ∷ bytes)) × Takes c f offset (length (b ∷ bytes))
+
+-- the size of a file reaches at least an end, and no other file changes
+abbrev pub RaisesSize : List (ℕ × StripedFile) → ℕ → ℕ → List (ℕ × StripedFile) → Type 0
+RaisesSize before f end after =
+    IfSome (lookup (is_at (nat_cmp f)) before) (λ old.
+    (g : ℕ) → lookup (is_at (nat_cmp g)) after ≡ (if g == f then Some (record old { size = max old.size end }) else lookup (is_at (nat_cmp g)) before))
 
 pub record StoresAt (c : ClusterState) (f : ℕ) (file : StripedFile) (offset : ℕ) (bytes : List ℕ) (after : ClusterState) : Type 0 where
   pub stored : Stored c.drives file offset bytes after.drives

@@ -1,18 +1,23 @@
-ghost use Rattle.std.specs.Prelude.{◌≡◌, ◌<◌, ◌↔◌, ◌==◌, ℕ, max, if◌then◌else◌, IsTrue, IsErrOf, OnOk, IfOk, IfSome};
+ghost use Rattle.std.specs.Prelude.{◌≡◌, ◌<◌, ◌↔◌, ◌==◌, ℕ, max, if◌then◌else◌, IsTrue, OnOk, IfOk, IfErr};
 ghost use Rattle.std.specs.Ordering.{nat_cmp};
 ghost use Rattle.std.specs.BTreeMap.{is_at};
 ghost use Rattle.std.specs.Map.{lookup};
+ghost use Rattle.scenario_text.specs.declared.names.TheConstants.{CLIENTS, FILES};
 ghost use Rattle.layout_world.specs.Striped.{IsPlain};
-ghost use Rattle.layout_world.specs.State.{new_cluster, IsWell, CanAddDrive, AddsDrive, IsClient, AddsClient, CanAddFile, AddsFile, InRange, CanWrite, DoesWrite, CanRead, Answers};
+ghost use Rattle.layout_world.specs.State.{new_cluster, IsWell, CanAddDrive, AddsDrive, AddsClient, CanAddFile, AddsFile, InRange, CanWrite, DoesWrite, CanRead, Answers, RaisesSize};
+ghost use Rattle.layout_world.specs.Names.{Exists};
+ghost use Rattle.layout_world.specs.Events.{Denies, IsKept};
 
 use crate::drives::Drives;
 use crate::err::WorldErr;
-use crate::file::{MAX_CALL, StripedFile};
+use crate::file::{FIRST_OBJECT, MAX_CALL, OBJECTS_OF_A_FILE, StripedFile};
 use crate::making::make_objects;
+use crate::names::Name;
 use crate::placing::choose;
 use crate::striped::{has_room, load, store};
 use data_map::{DataMap, MAX_FILE_SIZE, RawMap};
-use osd_bytes::Bytes;
+use osd_bytes::{Bytes, Memory};
+use scenario_text::CLIENTS;
 use std::alloc::Global;
 use std::collections::BTreeMap;
 use std::marker::Model;
@@ -22,7 +27,7 @@ use std::marker::Model;
 pub struct Cluster {
     alloc: Global,
     pub(crate) drives: Drives,
-    clients: [bool; 16],
+    clients: [bool; CLIENTS as usize],
     files: BTreeMap<u32, StripedFile>,
 }
 
@@ -50,7 +55,7 @@ fn is_plain(map: &RawMap) -> bool
 
 // Raises the size of a file to an end.
 fn raise_size(files: &mut BTreeMap<u32, StripedFile>, file: u32, end: u64)
-    ensures { IfSome (lookup (is_at (nat_cmp file)) files.old.entries) (λ old. (g : ℕ) → lookup (is_at (nat_cmp g)) files.new.entries ≡ (if g == file then Some (record old { size = max old.size end }) else lookup (is_at (nat_cmp g)) files.old.entries)) }
+    ensures { RaisesSize files.old.entries file end files.new.entries }
 {
     if let Some(found) = files.get_mut(&file) {
         found.size = found.size.max(end);
@@ -65,50 +70,46 @@ impl Cluster {
         Cluster {
             alloc,
             drives: Drives::new(alloc),
-            clients: [false; 16],
+            clients: [false; CLIENTS as usize],
             files: BTreeMap::new(alloc),
         }
     }
 
-    /// Adds a drive.
-    pub fn add_drive(&mut self, drive: u32, capacity: u64) -> Result<(), WorldErr>
-        ensures ok { OnOk result (CanAddDrive self.old drive × AddsDrive self.old drive capacity self.new) }
-        ensures refused { IsErrOf result WorldErr.NotYet → (CanAddDrive self.old drive → ⊥) × (self.new ≡ self.old) }
+    /// Whether there is this drive, client or file.
+    pub fn exists(&self, name: Name) -> bool
+        requires { IsWell self.now }
+        ensures { IsTrue result ↔ Exists self.now name }
     {
-        if self.drives.contains(drive) {
-            return Err(WorldErr::NotYet);
+        match name {
+            Name::Drive { drive } => self.drives.contains(drive.number()),
+            Name::Client { client } => self.clients[client.number() as usize],
+            Name::File { file } => self.files.contains_key(&file.number()),
         }
-        self.drives.add(self.alloc, drive, capacity)?;
-        Ok(())
     }
 
-    /// Whether there is this client.
-    pub fn has_client(&self, client: u32) -> bool
-        requires well { IsWell self.now }
-        requires named { client < 16 }
-        ensures { IsTrue result ↔ IsClient self.now client }
+    /// Adds a drive, whose number must be free.
+    pub fn add_drive(&mut self, drive: u32, capacity: u64) -> Result<(), Memory>
+        requires { CanAddDrive self.old drive }
+        ensures { OnOk result (AddsDrive self.old drive capacity self.new) }
     {
-        self.clients[client as usize]
+        self.drives.add(self.alloc, drive, capacity)
     }
 
     /// Adds a client.
-    pub fn add_client(&mut self, client: u32) -> Result<(), WorldErr>
-        requires named { client < 16 }
-        ensures ok { OnOk result ((IsClient self.old client → ⊥) × AddsClient self.old client self.new) }
-        ensures refused { IsErrOf result WorldErr.NotYet → IsClient self.old client × (self.new ≡ self.old) }
+    pub fn add_client(&mut self, client: u32)
+        requires { client < CLIENTS }
+        ensures { AddsClient self.old client self.new }
     {
-        if self.clients[client as usize] {
-            return Err(WorldErr::NotYet);
-        }
         self.clients[client as usize] = true;
-        Ok(())
     }
+
     /// Makes a file, its components on the drives with the fewest objects.
     pub fn add_file(&mut self, file: u32, raw: RawMap) -> Result<(), WorldErr>
         requires well { IsWell self.old }
-        requires named { file < 64 }
+        requires named { file < FILES }
         ensures ok { OnOk result (CanAddFile self.old file raw × AddsFile self.old file raw self.new) }
-        ensures refused { IsErrOf result WorldErr.NotYet → (CanAddFile self.old file raw → ⊥) × (self.new ≡ self.old) }
+        ensures refused { IfErr result (Denies (CanAddFile self.old file raw)) }
+        ensures kept { IfErr result (IsKept self.old self.new) }
     {
         if self.files.contains_key(&file) || !is_plain(&raw) {
             return Err(WorldErr::NotYet);
@@ -121,7 +122,7 @@ impl Cluster {
             Some(chosen) => chosen,
             None => return Err(WorldErr::NotYet),
         };
-        let first = 65_536 + 64 * u64::from(file);
+        let first = FIRST_OBJECT + OBJECTS_OF_A_FILE * u64::from(file);
         make_objects(self.alloc, &mut self.drives, first, chosen.as_slice())?;
         let made = StripedFile {
             map,
@@ -140,7 +141,8 @@ impl Cluster {
     pub fn write(&mut self, file: u32, offset: u64, bytes: &[u8]) -> Result<(), WorldErr>
         requires well { IsWell self.old }
         ensures ok { OnOk result (CanWrite self.old file offset bytes.now × DoesWrite self.old file offset bytes.now self.new) }
-        ensures refused { IsErrOf result WorldErr.NotYet → (CanWrite self.old file offset bytes.now → ⊥) × (self.new ≡ self.old) }
+        ensures refused { IfErr result (Denies (CanWrite self.old file offset bytes.now)) }
+        ensures kept { IfErr result (IsKept self.old self.new) }
     {
         let length = bytes.len() as u64;
         if !in_range(offset, length) {
@@ -165,7 +167,7 @@ impl Cluster {
     pub fn read(&self, file: u32, offset: u64, length: u64) -> Result<Bytes, WorldErr>
         requires well { IsWell self.now }
         ensures ok { IfOk result (λ answer. CanRead self.now file offset length × Answers self.now file offset length answer) }
-        ensures refused { IsErrOf result WorldErr.NotYet → CanRead self.now file offset length → ⊥ }
+        ensures refused { IfErr result (Denies (CanRead self.now file offset length)) }
     {
         if !in_range(offset, length) {
             return Err(WorldErr::NotYet);

@@ -4,7 +4,7 @@ ghost use Rattle.std.specs.BTreeMap.{is_at};
 ghost use Rattle.std.specs.Map.{lookup};
 ghost use Rattle.std.specs.Option.{option_copied};
 ghost use Rattle.osd_bytes.specs.Overwrite.{overwritten};
-ghost use Rattle.layout_world.specs.Cluster.{new_drive, free_of};
+ghost use Rattle.layout_world.specs.Cluster.{new_drive, left_by, free_of, HasCreated, HasWritten};
 
 use osd_bytes::{Bytes, Memory};
 use std::alloc::Global;
@@ -15,15 +15,28 @@ use std::marker::Model;
 #[derive(Drop)]
 pub struct PlainDrive {
     capacity: u64,
+    free: u64,
     objects: BTreeMap<u64, Bytes>,
 }
 
 impl Model for PlainDrive {
-    ghost use Rattle.layout_world.specs.Cluster.{DriveState};
+    ghost use Rattle.std.specs.Prelude.{◌≡◌};
+    ghost use Rattle.layout_world.specs.Cluster.{DriveState, left_by};
 
     ghost Value = { DriveState };
 
     ghost view = { λ d. record { capacity = d.capacity; objects = d.objects.entries } };
+
+    ghost invariant = { λ d. d.free ≡ left_by d.capacity d.objects.entries };
+}
+
+// The part of a capacity that objects leave.
+fn left_by(capacity: u64, objects: &BTreeMap<u64, Bytes>) -> u64
+    ensures { result ≡ left_by capacity objects.now.entries }
+{
+    objects.values().fold(capacity, |free, bytes| {
+        free.saturating_sub(bytes.len() as u64)
+    })
 }
 
 impl PlainDrive {
@@ -33,6 +46,7 @@ impl PlainDrive {
     {
         PlainDrive {
             capacity,
+            free: capacity,
             objects: BTreeMap::new(alloc),
         }
     }
@@ -46,10 +60,11 @@ impl PlainDrive {
 
     /// Makes an empty object.
     pub fn create(&mut self, alloc: Global, object: u64) -> Result<(), Memory>
-        ensures objects { OnOk result ((q : ℕ) → lookup (is_at (nat_cmp q)) self.new.objects ≡ (if q == object then Some [] else lookup (is_at (nat_cmp q)) self.old.objects)) }
+        ensures objects { OnOk result (HasCreated self.old.objects object self.new.objects) }
         ensures capacity { self.new.capacity ≡ self.old.capacity }
     {
         self.objects.insert(object, Bytes::new(alloc))?;
+        self.free = left_by(self.capacity, &self.objects);
         Ok(())
     }
 
@@ -57,11 +72,13 @@ impl PlainDrive {
     pub fn write(&mut self, object: u64, offset: u64, bytes: &[u8]) -> Result<(), Memory>
         requires exists { IsSome (lookup (is_at (nat_cmp object)) self.old.objects) }
         requires end { offset + length bytes.now < 2 ^ 63 }
-        ensures objects { OnOk result (IfSome (lookup (is_at (nat_cmp object)) self.old.objects) (λ old. (q : ℕ) → lookup (is_at (nat_cmp q)) self.new.objects ≡ (if q == object then Some (overwritten old offset bytes.now) else lookup (is_at (nat_cmp q)) self.old.objects))) }
+        ensures objects { OnOk result (HasWritten self.old.objects object offset bytes.now self.new.objects) }
         ensures capacity { self.new.capacity ≡ self.old.capacity }
     {
         if let Some(old) = self.objects.get_mut(&object) {
+            let before = old.len();
             old.overwrite(offset as usize, bytes)?;
+            self.free = self.free.saturating_sub((old.len() - before) as u64);
         }
         Ok(())
     }
@@ -77,8 +94,6 @@ impl PlainDrive {
     pub fn free(&self) -> u64
         ensures { result ≡ free_of self.now }
     {
-        self.objects.values().fold(self.capacity, |free, bytes| {
-            free.saturating_sub(bytes.len() as u64)
-        })
+        self.free
     }
 }

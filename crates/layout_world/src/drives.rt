@@ -3,7 +3,7 @@ ghost use Rattle.std.specs.Ordering.{nat_cmp};
 ghost use Rattle.std.specs.BTreeMap.{insert_entry};
 ghost use Rattle.std.specs.Option.{option_copied};
 ghost use Rattle.osd_bytes.specs.Overwrite.{overwritten};
-ghost use Rattle.layout_world.specs.Cluster.{new_drive, drive_at, object_at, bytes_at, capacity_at, free_at, bytes_or_none, window};
+ghost use Rattle.layout_world.specs.Cluster.{new_drive, drive_at, object_at, bytes_at, capacity_at, free_at, bytes_or_none, window, Creates, Writes};
 ghost use Rattle.layout_world.specs.Placing.{loads_of};
 
 use crate::drive::PlainDrive;
@@ -69,7 +69,7 @@ impl Drives {
     /// Makes an empty object on a drive.
     pub fn create(&mut self, alloc: Global, drive: u32, object: u64) -> Result<(), Memory>
         requires { IsSome (drive_at self.old drive) }
-        ensures objects { OnOk result ((d o : ℕ) → object_at self.new d o ≡ (if d == drive && o == object then Some [] else object_at self.old d o)) }
+        ensures objects { OnOk result (Creates self.old drive object self.new) }
         ensures capacity { OnOk result ((d : ℕ) → capacity_at self.new d ≡ capacity_at self.old d) }
     {
         if let Some(found) = self.by_number.get_mut(&drive) {
@@ -88,7 +88,7 @@ impl Drives {
     ) -> Result<(), Memory>
         requires exists { IsSome (object_at self.old drive object) }
         requires end { offset + length bytes.now < 2 ^ 63 }
-        ensures objects { OnOk result ((d o : ℕ) → object_at self.new d o ≡ (if d == drive && o == object then Some (overwritten (bytes_at self.old drive object) offset bytes.now) else object_at self.old d o)) }
+        ensures objects { OnOk result (Writes self.old drive object offset bytes.now self.new) }
         ensures capacity { OnOk result ((d : ℕ) → capacity_at self.new d ≡ capacity_at self.old d) }
     {
         if let Some(found) = self.by_number.get_mut(&drive) {

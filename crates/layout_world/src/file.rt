@@ -7,6 +7,12 @@ use osd_bytes::Numbers;
 /// The most bytes that one call reads or writes.
 pub const MAX_CALL: u64 = 262_144;
 
+/// The number of the first object of file 0.
+pub const FIRST_OBJECT: u64 = 65_536;
+
+/// How many numbers of objects each file has.
+pub const OBJECTS_OF_A_FILE: u64 = 64;
+
 /// A file: its map, its size, and where its components stand.
 #[derive(Drop)]
 pub struct StripedFile {

@@ -7,12 +7,10 @@ mod drives;
 mod err;
 mod file;
 mod making;
+mod names;
 mod placing;
 mod striped;
 mod world;
 
 pub use err::WorldErr;
 pub use world::{Lines, World};
-
-#[cfg(test)]
-mod tests;

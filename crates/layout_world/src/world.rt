@@ -1,11 +1,13 @@
-ghost use Rattle.std.specs.Prelude.{◌≡◌, ◌++◌, ◌∷◌, ◌↔◌, ◌⊎◌, [], true, false, IsErrOf, IsTrue, IfOk, OnOk};
+ghost use Rattle.std.specs.Prelude.{◌≡◌, ◌++◌, ◌∷◌, ◌↔◌, ◌⊎◌, [], true, false, IsErrOf, IsTrue, IfOk, IfErr, OnOk};
 ghost use Rattle.std.specs.Option.{option_to_list};
-ghost use Rattle.layout_world.specs.State.{new_cluster, IsWell, IsClient};
-ghost use Rattle.layout_world.specs.Events.{raw_of, CanCall, Calls, IsAllowed, Leads};
+ghost use Rattle.layout_world.specs.State.{new_cluster, IsWell};
+ghost use Rattle.layout_world.specs.Events.{raw_of, CanCall, Calls, IsAllowed, Denies, IsKept, Refuses, Leads};
+ghost use Rattle.layout_world.specs.Names.{IsNamed, IsTaken};
 ghost use Rattle.layout_world.specs.History.{StandsFor, Steps};
 
 use crate::cluster::Cluster;
 use crate::err::WorldErr;
+use crate::names::{made, named};
 use data_map::RawMap;
 use osd_bytes::{Memory, Sequence};
 use scenario_text::{Call, ClientName, Event, FileMap, Line, Note, Outcome};
@@ -18,8 +20,7 @@ pub type Lines = Sequence<Line>;
 /// All parties of a scenario: what its events make of them, and the lines that this writes.
 #[derive(Drop)]
 pub struct World {
-    alloc: Global,
-    pub(crate) cluster: Cluster,
+    cluster: Cluster,
     over: bool,
 }
 
@@ -49,15 +50,35 @@ fn raw_map(map: &FileMap) -> RawMap
     }
 }
 
+// Whether what an event names exists.
+fn is_named(cluster: &Cluster, event: &Event) -> bool
+    requires { IsWell cluster.now }
+    ensures { IsTrue result ↔ IsNamed cluster.now event.now }
+{
+    match named(event) {
+        Some(name) => cluster.exists(name),
+        None => true,
+    }
+}
+
+// Whether what an event makes exists.
+fn is_taken(cluster: &Cluster, event: &Event) -> bool
+    requires { IsWell cluster.now }
+    ensures { IsTrue result ↔ IsTaken cluster.now event.now }
+{
+    match made(event) {
+        Some(name) => cluster.exists(name),
+        None => false,
+    }
+}
+
 // Carries out a call, and tells how it ended.
 fn carry_out_call(cluster: &mut Cluster, client: &ClientName, call: &Call) -> Result<Line, WorldErr>
     requires { IsWell cluster.old }
-    ensures ok { IfOk result (λ line. IsClient cluster.old client.now × CanCall cluster.old call.now × Calls cluster.old client.now call.now (line ∷ []) cluster.new) }
-    ensures refused { IsErrOf result WorldErr.NotYet → (IsClient cluster.old client.now × CanCall cluster.old call.now → ⊥) × (cluster.new ≡ cluster.old) }
+    ensures ok { IfOk result (λ line. CanCall cluster.old call.now × Calls cluster.old client.now call.now (line ∷ []) cluster.new) }
+    ensures refused { IfErr result (Denies (CanCall cluster.old call.now)) }
+    ensures kept { IfErr result (IsKept cluster.old cluster.new) }
 {
-    if !cluster.has_client(client.number()) {
-        return Err(WorldErr::NotYet);
-    }
     let outcome = match call {
         Call::Write {
             file,
@@ -83,11 +104,14 @@ fn carry_out_call(cluster: &mut Cluster, client: &ClientName, call: &Call) -> Re
     })
 }
 
-// Carries out an event, and gives the line that follows its own, if there is one.
-fn carry_out(cluster: &mut Cluster, event: &Event) -> Result<Option<Line>, WorldErr>
-    requires { IsWell cluster.old }
+// Carries out an event whose names are right, and gives the line that follows its own, if there is one.
+fn carry_out_named(cluster: &mut Cluster, event: &Event) -> Result<Option<Line>, WorldErr>
+    requires well { IsWell cluster.old }
+    requires named { IsNamed cluster.old event.now }
+    requires free { IsTaken cluster.old event.now → ⊥ }
     ensures ok { IfOk result (λ rest. IsAllowed cluster.old event.now × Leads cluster.old event.now (option_to_list rest) cluster.new) }
-    ensures refused { IsErrOf result WorldErr.NotYet → (IsAllowed cluster.old event.now → ⊥) × (cluster.new ≡ cluster.old) }
+    ensures refused { IfErr result (Denies (IsAllowed cluster.old event.now)) }
+    ensures kept { IfErr result (IsKept cluster.old cluster.new) }
 {
     match event {
         Event::Drive {
@@ -99,7 +123,7 @@ fn carry_out(cluster: &mut Cluster, event: &Event) -> Result<Option<Line>, World
             Ok(None)
         }
         Event::Client { client } => {
-            cluster.add_client(client.number())?;
+            cluster.add_client(client.number());
             Ok(None)
         }
         Event::File { file, map, .. } => {
@@ -114,21 +138,34 @@ fn carry_out(cluster: &mut Cluster, event: &Event) -> Result<Option<Line>, World
     }
 }
 
-// Appends the line of an event and the one that follows it.
-fn append(alloc: Global, event: &Event, rest: Option<Line>, lines: &mut Lines) -> Result<(), Memory>
-    ensures { OnOk result (lines.new ≡ lines.old ++ Line.Event event.now ∷ option_to_list rest) }
+// Carries out an event, and gives the line that follows its own, if there is one.
+fn carry_out(cluster: &mut Cluster, event: &Event) -> Result<Option<Line>, WorldErr>
+    requires { IsWell cluster.old }
+    ensures ok { IfOk result (λ rest. IsAllowed cluster.old event.now × Leads cluster.old event.now (option_to_list rest) cluster.new) }
+    ensures refused { IfErr result (Refuses cluster.old event.now) }
+    ensures kept { IfErr result (IsKept cluster.old cluster.new) }
 {
-    let event = event.copied(alloc)?;
-    lines.push(Line::Event { event })?;
-    if let Some(line) = rest {
-        lines.push(line)?;
+    if !is_named(cluster, event) {
+        return Err(WorldErr::NoName);
     }
-    Ok(())
+    if is_taken(cluster, event) {
+        return Err(WorldErr::Taken);
+    }
+    carry_out_named(cluster, event)
 }
 
-// Carries out an event, and appends its lines.
+// Appends the line that follows an event's own.
+fn append(rest: Option<Line>, lines: &mut Lines) -> Result<(), Memory>
+    ensures { OnOk result (lines.new ≡ lines.old ++ option_to_list rest) }
+{
+    match rest {
+        Some(line) => lines.push(line),
+        None => Ok(()),
+    }
+}
+
+// Carries out an event, and appends the lines behind its own.
 fn carry_out_and_tell(
-    alloc: Global,
     cluster: &mut Cluster,
     event: &Event,
     lines: &mut Lines,
@@ -136,10 +173,12 @@ fn carry_out_and_tell(
     requires { IsWell cluster.old }
     ensures ok { OnOk result (Steps cluster.old event.now lines.old lines.new cluster.new) }
     ensures well { IsErrOf result WorldErr.Memory ⊎ IsWell cluster.new }
-    ensures refused { IsErrOf result WorldErr.NotYet → (IsAllowed cluster.old event.now → ⊥) × (cluster.new ≡ cluster.old) × (lines.new ≡ lines.old) }
+    ensures refused { IfErr result (Refuses cluster.old event.now) }
+    ensures kept { IfErr result (IsKept cluster.old cluster.new) }
+    ensures lines { IfErr result (IsKept lines.old lines.new) }
 {
     let rest = carry_out(cluster, event)?;
-    append(alloc, event, rest, lines)?;
+    append(rest, lines)?;
     Ok(())
 }
 
@@ -157,7 +196,6 @@ impl World {
         ensures stands { StandsFor result.state [] }
     {
         World {
-            alloc,
             cluster: Cluster::new(alloc),
             over: false,
         }
@@ -170,16 +208,24 @@ impl World {
         self.over
     }
 
-    /// Carries out an event, and appends its lines. The world must not be over.
+    /// Carries out an event, and appends the lines behind the event's own line, which is the caller's
+    /// to write. The world must not be over.
     ///
-    /// An event that can't be carried out yet changes nothing. Want of memory ends the world.
+    /// # Errors
+    ///
+    /// The first of these that applies: `NoName` where a named drive, client or file doesn't exist, but
+    /// for what the event is to make and for the files of calls; `Taken` where the drive or client to be
+    /// made exists; `NotYet` where the event can't be carried out yet. They change nothing. `Memory` ends
+    /// the world.
     pub fn step(&mut self, event: &Event, lines: &mut Lines) -> Result<(), WorldErr>
         requires { self.old.over ≡ false }
         ensures ok { OnOk result (Steps self.old.state event.now lines.old lines.new self.new.state) }
-        ensures refused { IsErrOf result WorldErr.NotYet → (IsAllowed self.old.state event.now → ⊥) × (self.new ≡ self.old) × (lines.new ≡ lines.old) }
+        ensures refused { IfErr result (Refuses self.old.state event.now) }
+        ensures kept { IfErr result (IsKept self.old self.new) }
+        ensures lines { IfErr result (IsKept lines.old lines.new) }
         ensures over { IsTrue self.new.over ↔ IsErrOf result WorldErr.Memory }
     {
-        let outcome = carry_out_and_tell(self.alloc, &mut self.cluster, event, lines);
+        let outcome = carry_out_and_tell(&mut self.cluster, event, lines);
         self.over = wants_memory(&outcome);
         outcome
     }

@@ -14,7 +14,7 @@ use Rattle.scenario_text.specs.declared.event.EventErr.TheVariants.{NotYet}
 use Rattle.pnfs_osd.specs.Errors.{error_line, kind_name}
 use Rattle.pnfs_osd.specs.Puts.{Puts}
 use Rattle.pnfs_osd.specs.Stops.{error_of, status_of, stop_of_line}
-use Rattle.pnfs_osd.specs.Replay.{Ends}
+use Rattle.pnfs_osd.specs.Ends.{Ends}
 use Rattle.pnfs_osd.specs.Inspect.{Answers, HasAnswers, Inspected, IsNoLine, RefusesLine, StopsInspection, Stops, Promises}
 use Rattle.pnfs_osd.specs.declared.command.Inspection.{Inspection}
 use Rattle.pnfs_osd.specs.declared.status.ScenarioKind.{ScenarioKind}

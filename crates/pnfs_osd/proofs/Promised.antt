@@ -20,7 +20,8 @@ use Rattle.pnfs_osd.specs.Puts.{Puts}
 use Rattle.pnfs_osd.specs.Finish.{Finishes, last_text}
 use Rattle.pnfs_osd.specs.Stops.{error_of, status_of, stop_of_line}
 use Rattle.pnfs_osd.specs.LineCarried.{CarriesLine, StopsLine}
-use Rattle.pnfs_osd.specs.Replay.{Ends, Begins, IsAll, Runs, Tells, IsRefused, RefusesNext, final_text, Promises, Stops}
+use Rattle.pnfs_osd.specs.Ends.{Ends, Begins, IsAll, Tells}
+use Rattle.pnfs_osd.specs.Replay.{Runs, IsRefused, RefusesNext, final_text, Promises, Stops}
 use Rattle.pnfs_osd.specs.declared.status.ScenarioKind.{ScenarioKind}
 use Rattle.pnfs_osd.specs.declared.status.ScenarioKind.TheVariants.{Event as EventKind}
 use Rattle.pnfs_osd.specs.declared.status.Status.{Status}

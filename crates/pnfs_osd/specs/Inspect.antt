@@ -13,13 +13,13 @@ use Rattle.layout_types.specs.declared.err.LayoutErr.TheVariants.{Xdr, BadEnum, 
 use Rattle.layout_types.specs.declared.kind.Kind.{Kind}
 use Rattle.layout_types.specs.Leaves.{leaves_of}
 use Rattle.layout_types.specs.Again.{written_of}
-use Rattle.scenario_text.specs.declared.event.EventErr.TheVariants.{NotYet, BadHex}
+use Rattle.scenario_text.specs.declared.event.EventErr.TheVariants.{NotYet}
 use Rattle.pnfs_osd.specs.Errors.{error_line, kind_name}
-use Rattle.pnfs_osd.specs.Replay.{Ends, Begins, IsAll, Tells}
+use Rattle.pnfs_osd.specs.Ends.{Ends, Begins, IsAll, Tells}
 use Rattle.pnfs_osd.specs.declared.command.Inspection.{Inspection}
 use Rattle.pnfs_osd.specs.declared.command.Inspection.TheVariants.{Show, Check}
 use Rattle.pnfs_osd.specs.declared.status.ScenarioKind.{ScenarioKind}
-use Rattle.pnfs_osd.specs.declared.status.ScenarioKind.TheVariants.{Event}
+use Rattle.pnfs_osd.specs.declared.status.ScenarioKind.TheVariants.{Event, BadHex}
 use Rattle.pnfs_osd.specs.declared.stop.Stop.{Stop}
 use Rattle.pnfs_osd.specs.declared.stop.Stop.TheVariants.{Refused, Read, Memory as WantsMemory}
 use Rattle.pnfs_osd.specs.declared.status.Status.{Status}
@@ -61,7 +61,7 @@ Answers inspection kind line text = (bytes : List ℕ) × (decode_of line ≡ Ok
 
 -- why a line has no answer
 abbrev pub StopsInspection : List ℕ → Stop → Type 0
-StopsInspection line (Refused kind) = (kind ≡ Event BadHex) × IsErr (decode_of line)
+StopsInspection line (Refused kind) = (kind ≡ BadHex) × IsErr (decode_of line)
 StopsInspection line Read = ⊥
 StopsInspection line WantsMemory = ⊤
 
@@ -70,7 +70,8 @@ StopsInspection line WantsMemory = ⊤
 -- each line is of hexadecimal digits, and has its answer
 abbrev pub HasAnswers : Inspection → Kind → List (List ℕ) → List ℕ → Type 0
 HasAnswers inspection kind [] out = out ≡ []
-HasAnswers inspection kind (line ∷ lines) out = (text later : List ℕ) × Answers inspection kind line text × (out ≡ text ++ later) × HasAnswers inspection kind lines later
+HasAnswers inspection kind (line ∷ lines) out =
+    (text later : List ℕ) × Answers inspection kind line text × (out ≡ text ++ later) × HasAnswers inspection kind lines later
 
 -- Why an answer of the line reader isn't inspected. A line that passes a limit isn't read yet.
 abbrev pub IsNoLine : ScenarioKind → Result (Option (List ℕ)) LineErr → Type 0
@@ -79,12 +80,13 @@ IsNoLine kind (Err InputFull) = kind ≡ Event NotYet
 IsNoLine kind (Err LineFault) = ⊥
 IsNoLine kind (Err LineMemory) = ⊥
 IsNoLine kind (Ok None) = ⊥
-IsNoLine kind (Ok (Some line)) = (kind ≡ Event BadHex) × IsErr (decode_of line)
+IsNoLine kind (Ok (Some line)) = (kind ≡ BadHex) × IsErr (decode_of line)
 
 -- the line behind these lines of the input is refused
 abbrev pub RefusesLine : Option (List ℕ) → List (List ℕ) → ScenarioKind → Type 0
 RefusesLine None lines kind = ⊤
-RefusesLine (Some input) lines kind = (front rest : List ℕ) × (input ≡ front ++ rest) × (lines_of input ≡ lines ++ lines_of rest) × IsNoLine kind (next_of (length front) rest)
+RefusesLine (Some input) lines kind =
+    (front rest : List ℕ) × (input ≡ front ++ rest) × (lines_of input ≡ lines ++ lines_of rest) × IsNoLine kind (next_of (length front) rest)
 
 -- the input's first lines and their answers
 pub record Inspected (inspection : Inspection) (kind : Kind) (input : Option (List ℕ)) (lines : List (List ℕ)) (out : List ℕ) : Type 0 where

@@ -2,6 +2,7 @@ pub mod Errors
 pub mod Exit
 pub mod Puts
 pub mod Stops
+pub mod Ends
 pub mod Replay
 pub mod LineCarried
 pub mod Finish

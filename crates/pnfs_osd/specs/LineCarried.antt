@@ -1,12 +1,13 @@
 -- What carrying out one line of a scenario gives.
-use Rattle.std.specs.Prelude.{◌≡◌, ◌⊎◌, ◌++◌, ℕ, List, [], Ok, Some}
+use Rattle.std.specs.Prelude.{◌≡◌, ◌≢◌, ◌⊎◌, ◌++◌, ℕ, List, [], Ok, Some}
 use Rattle.scenario_text.specs.declared.event.Event.{Event}
 use Rattle.scenario_text.specs.declared.line.Line.{Line}
 use Rattle.scenario_text.specs.Spelling.{Fits, Spells, IsSkipped}
 use Rattle.layout_world.specs.State.{ClusterState}
-use Rattle.layout_world.specs.Events.{IsAllowed, Carries}
+use Rattle.layout_world.specs.Events.{Refuses, Carries}
 use Rattle.layout_world.specs.History.{StandsFor, text}
-use Rattle.layout_world.specs.declared.err.WorldErr.TheVariants.{NotYet as WorldNotYet}
+use Rattle.layout_world.specs.declared.err.WorldErr.{WorldErr}
+use Rattle.layout_world.specs.declared.err.WorldErr.TheVariants.{Memory as WorldMemory}
 use Rattle.pnfs_osd.specs.Replay.{IsRefused}
 use Rattle.pnfs_osd.specs.declared.status.ScenarioKind.TheVariants.{World as WorldKind}
 use Rattle.pnfs_osd.specs.declared.stop.Stop.{Stop}
@@ -21,7 +22,7 @@ pub record CarriesSpelled (before : ClusterState) (event : Event) (bytes : List 
 
 -- why an event wasn't carried out
 abbrev pub StopsEvent : ClusterState → Event → Stop → Type 0
-StopsEvent before event (Refused kind) = (kind ≡ WorldKind WorldNotYet) × (IsAllowed before event → ⊥)
+StopsEvent before event (Refused kind) = (why : WorldErr) × (kind ≡ WorldKind why) × (why ≢ WorldMemory) × Refuses before event why
 StopsEvent before event Read = ⊥
 StopsEvent before event Memory = Unit {0}
 
@@ -34,7 +35,8 @@ pub record CarriesEvent (before : ClusterState) (line bytes : List ℕ) (after :
 
 -- a line was skipped, or its event carried out
 abbrev pub CarriesLine : ClusterState → List ℕ → List ℕ → ClusterState → Type 0
-CarriesLine before line bytes after = (IsSkipped line × (bytes ≡ []) × (after ≡ before)) ⊎ CarriesEvent before line bytes after
+CarriesLine before line bytes after =
+    (IsSkipped line × (bytes ≡ []) × (after ≡ before)) ⊎ CarriesEvent before line bytes after
 
 -- why a line wasn't carried out
 abbrev pub StopsLine : ClusterState → List ℕ → Stop → Type 0

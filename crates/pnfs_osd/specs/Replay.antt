@@ -9,24 +9,19 @@ use Rattle.scenario_text.specs.declared.event.Event.{Event}
 use Rattle.scenario_text.specs.declared.line.Line.TheVariants.{Last}
 use Rattle.scenario_text.specs.Spelling.{Fits, Spells, IsSkipped}
 use Rattle.layout_world.specs.State.{ClusterState, new_cluster}
-use Rattle.layout_world.specs.Events.{IsAllowed}
+use Rattle.layout_world.specs.Events.{Refuses}
 use Rattle.layout_world.specs.History.{Step, IsRun, lines_of_steps, events_of_steps, state_from, text}
 use Rattle.scenario_text.specs.declared.event.EventErr.{EventErr}
 use Rattle.scenario_text.specs.declared.event.EventErr.TheVariants.{NotYet, Memory as EventMemory}
 use Rattle.scenario_text.specs.Refusals.{IsRefusal}
-use Rattle.layout_world.specs.declared.err.WorldErr.TheVariants.{NotYet as WorldNotYet}
+use Rattle.layout_world.specs.declared.err.WorldErr.{WorldErr}
+use Rattle.layout_world.specs.declared.err.WorldErr.TheVariants.{Memory as WorldMemory}
+use Rattle.pnfs_osd.specs.Ends.{Ends, Begins, IsAll, Tells}
 use Rattle.pnfs_osd.specs.Errors.{error_line, kind_name}
 use Rattle.pnfs_osd.specs.declared.status.ScenarioKind.{ScenarioKind}
 use Rattle.pnfs_osd.specs.declared.status.ScenarioKind.TheVariants.{Event as EventKind, World as WorldKind}
 use Rattle.pnfs_osd.specs.declared.status.Status.{Status}
 use Rattle.pnfs_osd.specs.declared.status.Status.TheVariants.{Done, BadWords, BadScenario, ReadFault, WriteFault, Memory}
-
--- the bytes that the source has left and that the sink has taken, where they tell them, and the counts of their faults
-pub record Ends : Type 0 where
-  pub left : Option (List ℕ)
-  pub taken : Option (List ℕ)
-  pub reads_failed : ℕ
-  pub writes_failed : ℕ
 
 -- these lines have these events: a line that isn't skipped spells one
 abbrev pub HasEvents : List (List ℕ) → List Event → Type 0
@@ -35,30 +30,15 @@ HasEvents (line ∷ lines) events =
     (IsSkipped line × HasEvents lines events)
     ⊎ ((e : Event) × (rest : List Event) × (events ≡ e ∷ rest) × Fits e × Spells e line × HasEvents lines rest)
 
--- these are the first lines of the input, where it is known
-abbrev pub Begins : Option (List ℕ) → List (List ℕ) → Type 0
-Begins None lines = ⊤
-Begins (Some input) lines = (later : List (List ℕ)) × (lines_of input ≡ lines ++ later)
-
--- these are all lines of the input, where it is known
-abbrev pub IsAll : Option (List ℕ) → List (List ℕ) → Type 0
-IsAll None lines = ⊤
-IsAll (Some input) lines = lines_of input ≡ lines
-
 -- A run over the input's first lines: their events are carried out one after another, from a new world on.
 pub record Runs (input : Option (List ℕ)) (lines : List (List ℕ)) (steps : List Step) : Type 0 where
   pub begins : Begins input lines
   pub events : HasEvents lines (events_of_steps steps)
   pub run : IsRun steps
 
--- the bytes went out, and then an error line, cut only where the sink failed
-pub record Tells (before after : Ends) (bytes error : List ℕ) : Type 0 where
-  pub upto : ℕ
-  pub out : Appends before.taken after.taken (bytes ++ take upto error)
-  pub cut : (upto ≡ length error) ⊎ Rose before.writes_failed after.writes_failed
-
--- Why an answer of the line reader isn't carried out. A line that passes a limit isn't read yet. A line that spells no event is refused for its first
--- wrong word. The event that a line spells isn't carried out where the state doesn't allow it.
+-- Why an answer of the line reader isn't carried out. A line that passes a limit isn't read yet. A line that
+-- spells no event is refused for its first wrong word. The event that a line spells isn't carried out where
+-- the state refuses it.
 abbrev pub IsRefused : ClusterState → ScenarioKind → Result (Option (List ℕ)) LineErr → Type 0
 IsRefused c kind (Err TooLong) = kind ≡ EventKind NotYet
 IsRefused c kind (Err InputFull) = kind ≡ EventKind NotYet
@@ -67,7 +47,7 @@ IsRefused c kind (Err LineMemory) = ⊥
 IsRefused c kind (Ok None) = ⊥
 IsRefused c kind (Ok (Some line)) =
     ((e : EventErr) × (kind ≡ EventKind e) × (e ≢ EventMemory) × IsRefusal line e)
-    ⊎ ((kind ≡ WorldKind WorldNotYet) × (e : Event) × Fits e × Spells e line × (IsAllowed c e → ⊥))
+    ⊎ ((why : WorldErr) × (kind ≡ WorldKind why) × (why ≢ WorldMemory) × (e : Event) × Fits e × Spells e line × Refuses c e why)
 
 -- the line behind these lines of the input is refused in a state
 abbrev pub RefusesNext : Option (List ℕ) → List (List ℕ) → ClusterState → ScenarioKind → Type 0

@@ -1,7 +1,8 @@
 -- What a run of the program promises, by its words.
 use Rattle.std.specs.Prelude.{◌≡◌, [], Option, Some, None}
 use Rattle.pnfs_osd.specs.Errors.{words_error}
-use Rattle.pnfs_osd.specs.Replay.{Ends, Tells, Promises as ReplayPromises}
+use Rattle.pnfs_osd.specs.Ends.{Ends, Tells}
+use Rattle.pnfs_osd.specs.Replay.{Promises as ReplayPromises}
 use Rattle.pnfs_osd.specs.Inspect.{Promises as InspectPromises}
 use Rattle.pnfs_osd.specs.declared.command.Command.{Command}
 use Rattle.pnfs_osd.specs.declared.command.Command.TheVariants.{Replay, Inspect}

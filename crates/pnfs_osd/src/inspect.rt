@@ -1,6 +1,7 @@
 // Structures of RFC 5664, shown or checked line by line.
 ghost use Rattle.std.specs.Prelude.{◌≡◌, ◌≢◌, ℕ, List, Ok, IfOk, IfErr};
 ghost use Rattle.hex.specs.Hex.{decode_of};
+ghost use Rattle.pnfs_osd.specs.Ends.{ends};
 ghost use Rattle.pnfs_osd.specs.Inspect.{refusal, checked, answer_of, Answers, StopsInspection, Promises};
 
 use crate::command::Inspection;
@@ -9,7 +10,6 @@ use crate::stop::{Stop, stop_of, stopped};
 use hex::FromHexError;
 use layout_types::{Kind, LayoutErr, leaves, written_again};
 use osd_bytes::{Bytes, LineReader, Memory, Sink, Source, put_all};
-use scenario_text::EventErr;
 use std::alloc::Global;
 use xdr_codec::XdrErr;
 
@@ -77,7 +77,7 @@ fn decoded(alloc: Global, line: Bytes) -> Result<Bytes, Stop>
     match hex::decode(alloc, line.as_slice()) {
         Ok(bytes) => Ok(Bytes::from_vec(bytes)),
         Err(FromHexError::OutOfMemory) => Err(Stop::Memory),
-        Err(_) => Err(Stop::Refused(ScenarioKind::Event(EventErr::BadHex))),
+        Err(_) => Err(Stop::Refused(ScenarioKind::BadHex)),
     }
 }
 
@@ -105,7 +105,7 @@ pub fn inspect<S: Source, K: Sink>(
     source: &mut S,
     sink: &mut K,
 ) -> Status
-    ensures { Promises inspection kind (record { left = S.left source.old; taken = K.taken sink.old; reads_failed = S.faults source.old; writes_failed = K.faults sink.old }) (record { left = S.left source.new; taken = K.taken sink.new; reads_failed = S.faults source.new; writes_failed = K.faults sink.new }) result }
+    ensures { Promises inspection kind (ends (S.left source.old) (S.faults source.old) (K.taken sink.old) (K.faults sink.old)) (ends (S.left source.new) (S.faults source.new) (K.taken sink.new) (K.faults sink.new)) result }
 {
     let mut reader = LineReader::new(alloc);
     let mut number = 0;

@@ -1,5 +1,6 @@
 // A scenario replayed line by line.
 ghost use Rattle.std.specs.Prelude.{◌≡◌, false};
+ghost use Rattle.pnfs_osd.specs.Ends.{ends};
 ghost use Rattle.pnfs_osd.specs.Finish.{Finishes};
 ghost use Rattle.pnfs_osd.specs.Replay.{Promises};
 
@@ -27,7 +28,7 @@ fn finish<K: Sink>(alloc: Global, world: &World, sink: &mut K) -> Status
 
 /// Replays the scenario that the source gives, and puts its transcript.
 pub fn replay<S: Source, K: Sink>(alloc: Global, source: &mut S, sink: &mut K) -> Status
-    ensures { Promises (record { left = S.left source.old; taken = K.taken sink.old; reads_failed = S.faults source.old; writes_failed = K.faults sink.old }) (record { left = S.left source.new; taken = K.taken sink.new; reads_failed = S.faults source.new; writes_failed = K.faults sink.new }) result }
+    ensures { Promises (ends (S.left source.old) (S.faults source.old) (K.taken sink.old) (K.faults sink.old)) (ends (S.left source.new) (S.faults source.new) (K.taken sink.new) (K.faults sink.new)) result }
 {
     let mut reader = LineReader::new(alloc);
     let mut world = World::new(alloc);

@@ -1,5 +1,6 @@
 // The top call.
 ghost use Rattle.std.specs.Prelude.{◌≡◌, ◌↔◌, IsNone, map, string_bytes};
+ghost use Rattle.pnfs_osd.specs.Ends.{ends};
 ghost use Rattle.pnfs_osd.specs.Commands.{command_of};
 ghost use Rattle.pnfs_osd.specs.Run.{Promises};
 
@@ -23,7 +24,7 @@ pub fn run<S: Source, K: Sink>(
     source: &mut S,
     sink: &mut K,
 ) -> Status
-    ensures promise { Promises (command_of (map string_bytes words.now)) (record { left = S.left source.old; taken = K.taken sink.old; reads_failed = S.faults source.old; writes_failed = K.faults sink.old }) (record { left = S.left source.new; taken = K.taken sink.new; reads_failed = S.faults source.new; writes_failed = K.faults sink.new }) result }
+    ensures promise { Promises (command_of (map string_bytes words.now)) (ends (S.left source.old) (S.faults source.old) (K.taken sink.old) (K.faults sink.old)) (ends (S.left source.new) (S.faults source.new) (K.taken sink.new) (K.faults sink.new)) result }
     ensures words { (result ≡ Status.BadWords) ↔ IsNone (command_of (map string_bytes words.now)) }
 {
     match command_named(words) {

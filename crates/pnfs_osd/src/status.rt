@@ -11,6 +11,8 @@ pub enum ScenarioKind {
     Event(EventErr),
     /// The event can't be carried out.
     World(WorldErr),
+    /// The line has to spell a structure, and isn't pairs of hexadecimal digits.
+    BadHex,
 }
 
 /// How a run ended.

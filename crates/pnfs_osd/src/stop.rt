@@ -1,11 +1,10 @@
 ghost use Rattle.std.specs.Prelude.{◌≡◌, Bool};
 ghost use Rattle.pnfs_osd.specs.Stops.{error_of, status_of, stop_of_line};
-ghost use Rattle.pnfs_osd.specs.Errors.{kind_name};
+ghost use Rattle.pnfs_osd.specs.Errors.{event_error_name, kind_name};
 ghost use Rattle.pnfs_osd.specs.Puts.{Puts};
 
 use crate::put_line::put_error;
 use crate::status::{ScenarioKind, Status};
-use layout_world::WorldErr;
 use osd_bytes::{LineErr, Memory, Sink};
 use scenario_text::EventErr;
 
@@ -43,21 +42,30 @@ pub fn stop_of(e: LineErr) -> Stop
     }
 }
 
+// The name of why a line spells no event.
+fn event_error_name(e: EventErr) -> &'static str
+    ensures { result.now ≡ event_error_name e }
+{
+    match e {
+        EventErr::NotYet => "NotYet",
+        EventErr::UnknownWord => "UnknownWord",
+        EventErr::BadName => "BadName",
+        EventErr::BadNumber => "BadNumber",
+        EventErr::BadHex => "BadHex",
+        EventErr::Missing => "Missing",
+        EventErr::Extra => "Extra",
+        EventErr::Memory => "Memory",
+    }
+}
+
 // The name of what refused a line.
 fn name_of(kind: ScenarioKind) -> &'static str
     ensures { result.now ≡ kind_name kind }
 {
     match kind {
-        ScenarioKind::Event(EventErr::NotYet) => "NotYet",
-        ScenarioKind::Event(EventErr::UnknownWord) => "UnknownWord",
-        ScenarioKind::Event(EventErr::BadName) => "BadName",
-        ScenarioKind::Event(EventErr::BadNumber) => "BadNumber",
-        ScenarioKind::Event(EventErr::BadHex) => "BadHex",
-        ScenarioKind::Event(EventErr::Missing) => "Missing",
-        ScenarioKind::Event(EventErr::Extra) => "Extra",
-        ScenarioKind::Event(EventErr::Memory) => "Memory",
-        ScenarioKind::World(WorldErr::NotYet) => "NotYet",
-        ScenarioKind::World(WorldErr::Memory) => "Memory",
+        ScenarioKind::Event(e) => event_error_name(e),
+        ScenarioKind::World(e) => e.name(),
+        ScenarioKind::BadHex => "BadHex",
     }
 }
 

@@ -53,8 +53,8 @@ fn scenarios_and_their_transcripts(rt: HostRuntime) -> Result<(), Fail> {
         ),
         (
             b"client c0\nclient c0\n",
-            refused(2, world),
-            b"= client c0\nerror 2 NotYet\n",
+            refused(2, ScenarioKind::World(WorldErr::Taken)),
+            b"= client c0\nerror 2 Taken\n",
         ),
         (b"client c16 d0\n", refused(1, name), b"error 1 BadName\n"),
         (
@@ -64,8 +64,8 @@ fn scenarios_and_their_transcripts(rt: HostRuntime) -> Result<(), Fail> {
         ),
         (
             b"do c0 read f0 0 1\n",
-            refused(1, world),
-            b"error 1 NotYet\n",
+            refused(1, ScenarioKind::World(WorldErr::NoName)),
+            b"error 1 NoName\n",
         ),
         (
             b"drive d0 0b0b0b0b0b0b0b0b0b0b0b0b0b0b0b0b0b0b0b0B 9\nclient c0\nfile f0 1 4 0 0 0 1 1\ndo c0 write f0 1 aBcD\ndo c0 read f0 0 9\n",
@@ -104,7 +104,7 @@ fn words_that_name_no_command(rt: HostRuntime) -> Result<(), Fail> {
 
 #[test]
 fn structures_checked_and_shown(rt: HostRuntime) -> Result<(), Fail> {
-    let hex = ScenarioKind::Event(EventErr::BadHex);
+    let hex = ScenarioKind::BadHex;
     let table: [(&[&str], &[u8], Status, &[u8]); 11] = [
         (&["check", "map"], b"", Status::Done, b""),
         (

@@ -13,7 +13,7 @@ returns-clause-ok c =
     let carried : Carries c.args.cluster.now c.args.event.now (EventLine c.args.event.now ∷ rest) c.carry_out.new.cluster =
     record { allowed = c.in_ok-rest.ensures.ok.0; rest = rest; whole = refl; leads = c.in_ok-rest.ensures.ok.1 } in
     record {
-      lines = EventLine c.args.event.now ∷ rest;
+      rest = rest;
       appended = c.in_ok-append.ensures;
       carries = carried;
       stands = λ h s. stands_after c.args.cluster.now c.carry_out.new.cluster c.args.event.now h (EventLine c.args.event.now ∷ rest) s carried;

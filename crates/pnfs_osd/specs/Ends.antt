@@ -1,0 +1,36 @@
+-- The ends of a run, what is read of its input, and what goes out before an error line.
+use Rattle.std.specs.Prelude.{◌≡◌, ℕ, ◌⊎◌, List, ◌++◌, length, take, ⊤, Option, Some, None}
+use Rattle.std.specs.Io.KnownBytes.{Appends}
+use Rattle.osd_bytes.specs.Causes.{Rose}
+use Rattle.osd_bytes.specs.Lines.{lines_of}
+
+-- the bytes that the source has left and that the sink has taken, where they tell them, and the counts of their faults
+pub record Ends : Type 0 where
+  pub left : Option (List ℕ)
+  pub taken : Option (List ℕ)
+  pub reads_failed : ℕ
+  pub writes_failed : ℕ
+
+abbrev pub ends : Option (List ℕ) → ℕ → Option (List ℕ) → ℕ → Ends
+ends left reads_failed taken writes_failed = record {
+  left = left;
+  taken = taken;
+  reads_failed = reads_failed;
+  writes_failed = writes_failed;
+}
+
+-- these are the first lines of the input, where it is known
+abbrev pub Begins : Option (List ℕ) → List (List ℕ) → Type 0
+Begins None lines = ⊤
+Begins (Some input) lines = (later : List (List ℕ)) × (lines_of input ≡ lines ++ later)
+
+-- these are all lines of the input, where it is known
+abbrev pub IsAll : Option (List ℕ) → List (List ℕ) → Type 0
+IsAll None lines = ⊤
+IsAll (Some input) lines = lines_of input ≡ lines
+
+-- the bytes went out, and then an error line, cut only where the sink failed
+pub record Tells (before after : Ends) (bytes error : List ℕ) : Type 0 where
+  pub upto : ℕ
+  pub out : Appends before.taken after.taken (bytes ++ take upto error)
+  pub cut : (upto ≡ length error) ⊎ Rose before.writes_failed after.writes_failed
