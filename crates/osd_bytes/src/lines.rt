@@ -9,6 +9,7 @@ use crate::lists::Bytes;
 use crate::source::{Fault, Source};
 use std::alloc::Global;
 use std::marker::Model;
+use thiserror::Error;
 
 /// The most bytes of a line.
 pub const MAX_LINE: u32 = 600_000;
@@ -17,11 +18,19 @@ pub const MAX_LINE: u32 = 600_000;
 pub const MAX_INPUT: u64 = 67_108_864;
 
 /// Why no line came.
-#[derive(Clone, Copy, Debug, PartialEq, Eq)]
+#[derive(Clone, Copy, Debug, PartialEq, Eq, Error)]
 pub enum LineErr {
+    /// A line passes [`MAX_LINE`] bytes.
+    #[error("a line is too long")]
     TooLong,
+    /// The input passes [`MAX_INPUT`] bytes. At the same byte this goes before `TooLong`.
+    #[error("the input is too long")]
     InputFull,
+    /// The source failed: its count of faults rose.
+    #[error("a read failed")]
     ReadFault,
+    /// There was no memory.
+    #[error("out of memory")]
     Memory,
 }
 

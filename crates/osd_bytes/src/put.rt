@@ -4,11 +4,13 @@ ghost use Rattle.osd_bytes.specs.Causes.{HasCause};
 ghost use Rattle.osd_bytes.specs.Put.{written_of};
 
 use crate::sink::Sink;
+use thiserror::Error;
 
 /// Why not all bytes went out.
-#[derive(Clone, Copy, Debug, PartialEq, Eq)]
+#[derive(Clone, Copy, Debug, PartialEq, Eq, Error)]
 pub enum PutErr {
     /// The sink failed after exactly this many bytes.
+    #[error("a write failed after {written} bytes")]
     WriteFault { written: u64 },
 }
 
