@@ -272,7 +272,7 @@ fn a_request_for_a_layout_is_written_again_the_same(rt: HostRuntime) -> Result<(
 }
 
 #[test]
-fn the_fields_of_requests(rt: HostRuntime) -> Result<(), Fail> {
+fn the_fields_of_a_commit(rt: HostRuntime) -> Result<(), Fail> {
     let commit = Args::LayoutCommit(LayoutCommitArgs {
         offset: 4_096,
         length: 8_192,
@@ -285,6 +285,12 @@ fn the_fields_of_requests(rt: HostRuntime) -> Result<(), Fail> {
         }),
         body: Bytes::copied(rt.alloc(), &[1, 2, 3, 4, 5])?,
     });
+    assert_eq!(rt; read(rt.alloc(), COMMIT)?, request(commit));
+    Ok(())
+}
+
+#[test]
+fn the_fields_of_other_requests(rt: HostRuntime) -> Result<(), Fail> {
     let get = Args::LayoutGet(LayoutGetArgs {
         signal_layout_avail: true,
         iomode: 2,
@@ -294,6 +300,7 @@ fn the_fields_of_requests(rt: HostRuntime) -> Result<(), Fail> {
         stateid: STATEID,
         maxcount: 65_536,
     });
+    assert_eq!(rt; read(rt.alloc(), GET)?, request(get));
     let give_back = Args::LayoutReturn(LayoutReturnArgs {
         reclaim: true,
         iomode: 3,
@@ -302,8 +309,6 @@ fn the_fields_of_requests(rt: HostRuntime) -> Result<(), Fail> {
         stateid: STATEID,
         body: Bytes::copied(rt.alloc(), &[0xaa, 0xbb, 0xcc])?,
     });
-    assert_eq!(rt; read(rt.alloc(), COMMIT)?, request(commit));
-    assert_eq!(rt; read(rt.alloc(), GET)?, request(get));
     assert_eq!(rt; read(rt.alloc(), RETURN)?, request(give_back));
     Ok(())
 }

@@ -1,5 +1,6 @@
-ghost use Rattle.std.specs.Prelude.{◌≡◌, ◌++◌, ℕ, List, [], Ok, IfOk, OnOk};
-ghost use Rattle.layout_ops.specs.Grammar.{Gives, GivesOrMemory, whole};
+ghost use Rattle.std.specs.Prelude.{◌≡◌, ◌++◌, Ok, IfOk, OnOk};
+ghost use Rattle.layout_types.specs.Grammar.{BeginsNoOther};
+ghost use Rattle.layout_ops.specs.Grammar.{Gives, GivesOrMemory};
 ghost use Rattle.layout_ops.specs.Spelling.{envelope_item, EnvelopeFits, EnvelopeWritable};
 ghost use Rattle.layout_ops.specs.Reading.{envelope_in, envelope_of};
 
@@ -123,7 +124,7 @@ pub fn read_envelope(alloc: Global, bytes: &[u8]) -> Result<Envelope, OpErr>
     // What is spelled so is read.
     ensures only { (v : Envelope) → EnvelopeFits v → bytes.now ≡ envelope_item v → GivesOrMemory (Ok v) result }
     // No spelling begins another.
-    ensures alone { IfOk result (λ v. (w : Envelope) (more : List ℕ) → EnvelopeFits w → envelope_item w ≡ bytes.now ++ more → more ≡ []) }
+    ensures alone { IfOk result (λ v. BeginsNoOther EnvelopeFits envelope_item bytes.now) }
     // Which refusal it is.
     ensures exact { GivesOrMemory (envelope_of bytes.now) result }
 {
