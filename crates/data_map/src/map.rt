@@ -106,6 +106,13 @@ impl DataMap {
         self.raw
     }
 
+    /// What is known of a checked map. Nothing runs.
+    pub fn known(&self)
+        ensures { IsChecked self.now }
+    {
+        let _ = self.raw();
+    }
+
     /// The positions, each a component and its mirrors.
     pub fn positions(&self) -> u32
         ensures value { result ≡ positions self.now }

@@ -1,10 +1,9 @@
 -- What was got of a column agrees with its codeword, but at the lost rows.
-use Rattle.std.proofs.Common.{◌≡◌, ℕ, zero, suc, ◌+◌, ◌<◌, ◌≤◌, Bool, true, false, List, [], ◌∷◌, length, get_or, set, refl, sym, ap, ◌∙◌, arith, inl, inr, eq-eqb, ne_eqb}
+use Rattle.std.proofs.Common.{◌≡◌, ℕ, zero, suc, ◌+◌, ◌<◌, ◌≤◌, false, List, [], ◌∷◌, length, get_or, refl, sym, ap, ◌∙◌, arith, inl, inr, eq-eqb, ne_eqb}
 use Rattle.std.specs.Prelude.{if◌then◌else◌, map}
 use Rattle.std.specs.List.{All, range_with_len}
 use Rattle.std.proofs.lemmas.Bool.{cases_Bool, cases_eq, cases_lt}
 use Rattle.std.proofs.lemmas.List.{get_or_append_left, get_or_past}
-use Rattle.std.proofs.lemmas.Grind.{same_number_lists}
 use Rattle.data_map.specs.declared.check.RawMap.{RawMap}
 use Rattle.data_map.specs.Check.{IsChecked}
 use Rattle.data_map.specs.Striping.{group_width, data_units, parities, position_of}
@@ -15,7 +14,7 @@ use Rattle.parity_code.specs.Codeword.{count_of, codeword, AgreeOutside}
 use Rattle.parity_code.proofs.DecodeLaws.{length_codeword, count_most}
 use Rattle.stripe_plan.specs.declared.plan.Column.{Column}
 use Rattle.stripe_plan.specs.Touched.{unit_start}
-use Rattle.stripe_plan.specs.Lost.{among, is_out}
+use Rattle.stripe_plan.specs.Lost.{is_out}
 use Rattle.parity_code.specs.Decoding.{decoded}
 use Rattle.stripe_plan.specs.Words.{code_of, got_at, known_from, lost_from, decoded_at}
 use Rattle.stripe_plan.specs.Laws.{data_at, word_of, AreBytes}

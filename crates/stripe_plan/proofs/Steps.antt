@@ -1,6 +1,6 @@
 -- One step of each definition that goes up to an end.
 use Rattle.std.proofs.Common.{◌≡◌, ℕ, suc, ◌+◌, ◌-◌, ◌*◌, ◌<◌, ◌≤◌, Bool, true, false, List, [], ◌∷◌, ◌++◌, refl, sym, ap, ◌∙◌, arith, append_assoc, append-nil}
-use Rattle.std.specs.Prelude.{◌&&◌, ◌||◌, if◌then◌else◌, Option, Some, None}
+use Rattle.std.specs.Prelude.{◌&&◌, ◌||◌, if◌then◌else◌, Option, Some, None, map}
 use Rattle.std.specs.List.{range_with_len}
 use Rattle.data_map.specs.declared.check.RawMap.{RawMap}
 use Rattle.data_map.specs.Striping.{replicas, group_width, group_of, position_of}
@@ -9,6 +9,7 @@ use Rattle.stripe_plan.specs.declared.plan.Interval.{Interval}
 use Rattle.stripe_plan.specs.declared.plan.Stretch.{Stretch}
 use Rattle.stripe_plan.specs.declared.plan.Aim.{Aim}
 use Rattle.stripe_plan.specs.Touched.{touches}
+use Rattle.stripe_plan.specs.Words.{lost_from}
 use Rattle.stripe_plan.specs.Asks.{asks_of, asks_each, asks_place, asks_stripe, asks}
 use Rattle.stripe_plan.specs.Lost.{among, source_from, source, is_out, out_from, positions_out, is_short, hit_from, is_hit, when, unreadable, unwritable}
 
@@ -96,6 +97,21 @@ stripe_step aim m r out had s e lt = rw (left s e lt) refl
 pub stripe_end : (aim : Aim) (m : RawMap) (r : Span) (out : List ℕ) (had : List Stretch) (s e : ℕ) → e ≤ s → asks aim m r out had (range_with_len s (e - s)) ≡ []
 unfolding asks
 stripe_end aim m r out had s e le = rw (none s e le) refl
+
+pub lost_step : (m : RawMap) (out : List ℕ) (s c e : ℕ) → c < e →
+    lost_from m out s c (e - c) ≡ (if is_out m out (position_of m s c) then c ∷ lost_from m out s (c + 1) (e - (c + 1)) else lost_from m out s (c + 1) (e - (c + 1)))
+unfolding lost_from
+lost_step m out s c e lt = rw (left c e lt) refl
+
+pub lost_end : (m : RawMap) (out : List ℕ) (s c e : ℕ) → e ≤ c → lost_from m out s c (e - c) ≡ []
+unfolding lost_from
+lost_end m out s c e le = rw (none c e le) refl
+
+pub range_step : {A : Type 0} (f : ℕ → A) (i e : ℕ) → i < e → map f (range_with_len i (e - i)) ≡ f i ∷ map f (range_with_len (i + 1) (e - (i + 1)))
+range_step f i e lt = rw (left i e lt) refl
+
+pub range_end : {A : Type 0} (f : ℕ → A) (i e : ℕ) → e ≤ i → map f (range_with_len i (e - i)) ≡ []
+range_end f i e le = rw (none i e le) refl
 
 -- what is made and one more, and the rest
 pub one_more : {A : Type 0} (made next rest all new : List A) → new ≡ made ++ next → made ++ (next ++ rest) ≡ all → new ++ rest ≡ all

@@ -2,14 +2,14 @@
 use Rattle.std.specs.Prelude.{◌≡◌, ◌⊎◌, ℕ, ◌+◌, ◌-◌, ◌<◌, ◌≤◌, nat_le, nat_lt, ◌&&◌, false, if◌then◌else◌, List, [], ◌∷◌, length, map, slice_index, IsTrue}
 use Rattle.std.specs.List.{All, range_with_len}
 use Rattle.data_map.specs.declared.check.RawMap.{RawMap}
-use Rattle.data_map.specs.Striping.{group_width, parities, data_units, stripe_of, position_of, offset_of}
+use Rattle.data_map.specs.Striping.{group_width, parities, data_units, position_of, offset_of}
 use Rattle.parity_code.specs.Codeword.{codeword}
 use Rattle.stripe_plan.specs.declared.plan.Span.{Span}
 use Rattle.stripe_plan.specs.declared.plan.Interval.{Interval}
 use Rattle.stripe_plan.specs.declared.plan.Column.{Column}
 use Rattle.stripe_plan.specs.declared.plan.Aim.{Aim}
 use Rattle.stripe_plan.specs.declared.plan.Aim.TheVariants.{Reads, Gathers}
-use Rattle.stripe_plan.specs.Touched.{end_of, unit_start}
+use Rattle.stripe_plan.specs.Touched.{end_of, unit_start, IsTouchedStripe}
 use Rattle.stripe_plan.specs.Lost.{is_out}
 use Rattle.stripe_plan.specs.Asks.{needed}
 use Rattle.stripe_plan.specs.Words.{has_byte, got_at, code_of}
@@ -44,10 +44,6 @@ abbrev pub IsWithin : (b : ℕ) → List Interval → Type 0
 IsWithin b [] = ⊥
 IsWithin b (i ∷ is) = ((i.first ≤ b) × (b < i.end)) ⊎ IsWithin b is
 
--- the range touches the stripe
-abbrev pub IsTouchedStripe : RawMap → Span → (s : ℕ) → Type 0
-IsTouchedStripe m r s = (stripe_of m r.offset ≤ s) × (s ≤ stripe_of m (end_of r - 1))
-
 -- all that a plan needs of positions that aren't out
 abbrev pub IsFetched : Aim → RawMap → Span → List Column → List ℕ → Type 0
 IsFetched aim m r got out =
@@ -62,8 +58,8 @@ Agrees m got d =
 -- ---- the laws
 
 -- a read gives each byte of all data that agree with what it fetched
-abbrev pub ReadFollows : RawMap → Span → List Column → List ℕ → List ℕ → Type 0
-ReadFollows m r got out bytes =
+abbrev pub FollowsRead : RawMap → Span → List Column → List ℕ → List ℕ → Type 0
+FollowsRead m r got out bytes =
     (d : ℕ → ℕ) → AreBytes d → IsFetched Reads m r got out → Agrees m got d → bytes ≡ map d (range_with_len r.offset r.length)
 
 -- these bytes are what a unit of some stripe holds of those data
@@ -79,7 +75,7 @@ pub record HoldsWords (m : RawMap) (d : ℕ → ℕ) (x : Column) : Type 0 where
 
 -- a write puts what the units hold of the data with the new bytes, for all data that agree with what it gathered,
 -- which is nothing without parity
-abbrev pub WriteFollows : RawMap → Span → List ℕ → List Column → List ℕ → List Column → Type 0
-WriteFollows m r bytes got out cols =
+abbrev pub FollowsWrite : RawMap → Span → List ℕ → List Column → List ℕ → List Column → Type 0
+FollowsWrite m r bytes got out cols =
     (d : ℕ → ℕ) → AreBytes d → (0 < parities m → IsFetched Gathers m r got out) → Agrees m got d
     → All (HoldsWords m (over r bytes d)) cols

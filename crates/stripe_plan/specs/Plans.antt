@@ -40,9 +40,13 @@ piece_of a = record { component = a.component; offset = a.offset; length = a.len
 abbrev pub pieces_of : List Ask → List Piece
 pieces_of xs = map piece_of xs
 
+-- what came of a component, by its position
+abbrev pub part_column : RawMap → Part → Column
+part_column m t = record { position = t.component / replicas m; offset = t.offset; bytes = t.bytes }
+
 -- what came of components, by their positions
 abbrev pub columns_of : RawMap → List Part → List Column
-columns_of m got = map (λ (t : Part). record { position = t.component / replicas m; offset = t.offset; bytes = t.bytes }) got
+columns_of m got = map (part_column m) got
 
 -- ---- what is written
 

@@ -17,6 +17,14 @@ stripes m r =
     if r.length == 0 then []
     else range_with_len (stripe_of m r.offset) (stripe_of m (end_of r - 1) + 1 - stripe_of m r.offset)
 
+-- the range touches the stripe
+abbrev pub IsTouchedStripe : RawMap → Span → (s : ℕ) → Type 0
+IsTouchedStripe m r s = (stripe_of m r.offset ≤ s) × (s ≤ stripe_of m (end_of r - 1))
+
+-- the byte of the range that is next to byte l
+abbrev pub clamped : Span → (l : ℕ) → ℕ
+clamped r l = min (end_of r) (max r.offset l)
+
 -- the file's byte at which unit c of stripe s begins
 abbrev pub unit_start : RawMap → (s c : ℕ) → ℕ
 unit_start m s c = s * stripe_length m + c * m.unit

@@ -1,14 +1,16 @@
 -- The bytes that a call has of a stripe, and those that it writes there.
-use Rattle.std.specs.Prelude.{◌≡◌, ℕ, ◌<◌, zero, suc, ◌+◌, ◌-◌, ◌==◌, nat_le, nat_lt, Bool, ◌&&◌, if◌then◌else◌, List, [], ◌∷◌, length, map, take, slice_index, replicate, Option, Some, None, unwrap_or}
-use Rattle.std.specs.List.{range_with_len}
+use Rattle.std.specs.Prelude.{◌≡◌, ℕ, ◌<◌, ◌≤◌, zero, suc, ◌+◌, ◌-◌, ◌==◌, nat_le, nat_lt, Bool, true, ◌&&◌, if◌then◌else◌, List, [], ◌∷◌, length, map, take, slice_index, replicate, Option, Some, None, unwrap_or}
+use Rattle.std.specs.List.{All, range_with_len}
 use Rattle.data_map.specs.declared.check.RawMap.{RawMap}
-use Rattle.data_map.specs.Striping.{stripe_of, data_unit_of, column_of, group_width, data_units, position_of, offset_of}
+use Rattle.data_map.specs.Striping.{stripe_of, data_unit_of, column_of, group_width, parities, data_units, position_of, offset_of}
 use Rattle.stripe_plan.specs.declared.plan.Span.{Span}
+use Rattle.stripe_plan.specs.declared.plan.Interval.{Interval}
 use Rattle.stripe_plan.specs.declared.plan.Column.{Column}
 use Rattle.stripe_plan.specs.Touched.{own, unit_start, whole}
 use Rattle.stripe_plan.specs.Lost.{is_out, is_degraded}
 use Rattle.parity_code.specs.declared.code.Code.{Code}
 use Rattle.parity_code.specs.declared.code.Code.TheVariants.{Plain, Xor, PandQ}
+use Rattle.parity_code.specs.Parity.{column}
 use Rattle.parity_code.specs.Decoding.{decoded}
 use Rattle.stripe_plan.specs.Parity.{overlaid, parity_of, parity_changed}
 
@@ -68,14 +70,43 @@ unfoldable pub decoded_at : RawMap → List Column → List ℕ → (s b : ℕ) 
 decoded_at m got out s b =
     decoded (data_units m) (lost_from m out s 0 (group_width m)) (known_from m got out s b 0 (group_width m))
 
+-- rows that have these columns, of n units
+pub record HasColumns (n : ℕ) (i : Interval) (f : ℕ → List ℕ) (rows : List (List ℕ)) : Type 0 where
+  pub long : length rows ≡ n
+  pub even : All (λ row. length row ≡ i.end - i.first) rows
+  pub each : (k : ℕ) → k < i.end - i.first → column rows k ≡ f (i.first + k)
+
+-- what was got of unit c in some columns, or 0 where its position is out
+abbrev pub got_in : RawMap → List Column → (s c : ℕ) → Interval → List ℕ
+got_in m got s c i = bytes_at got (position_of m s c) (offset_of m s i.first) (i.end - i.first)
+
+abbrev pub known_in : RawMap → List Column → List ℕ → (s : ℕ) → Interval → (c : ℕ) → List ℕ
+known_in m got out s i c = if is_out m out (position_of m s c) then replicate (i.end - i.first) 0 else got_in m got s c i
+
+abbrev pub known_rows : RawMap → List Column → List ℕ → (s : ℕ) → Interval → List (List ℕ)
+known_rows m got out s i = map (known_in m got out s i) (range_with_len 0 (group_width m))
+
+-- a stripe of which not more positions are out than it has parity, if this one is
+abbrev pub IsDecodable : RawMap → List ℕ → (s c : ℕ) → Type 0
+IsDecodable m out s c = is_out m out (position_of m s c) ≡ true → length (lost_from m out s 0 (group_width m)) ≤ parities m
+
 -- ---- reads
 
--- the byte that a read gives for byte l of the file
-unfoldable pub answer_at : RawMap → List Column → List ℕ → (l : ℕ) → ℕ
-answer_at m got out l =
-    if is_out m out (position_of m (stripe_of m l) (data_unit_of m l))
-    then slice_index (decoded_at m got out (stripe_of m l) (column_of m l)) (data_unit_of m l)
-    else got_at m got (stripe_of m l) (column_of m l) (data_unit_of m l)
+-- the byte that a read gives for column b of data unit c of stripe s
+unfoldable pub answer_in : RawMap → List Column → List ℕ → (s c b : ℕ) → ℕ
+answer_in m got out s c b =
+    if is_out m out (position_of m s c) then slice_index (decoded_at m got out s b) c else got_at m got s b c
+
+-- and those for some columns
+abbrev pub answered_in : RawMap → List Column → List ℕ → (s c : ℕ) → Interval → List ℕ
+answered_in m got out s c i = map (answer_in m got out s c) (range_with_len i.first (i.end - i.first))
+
+-- the byte that a read gives for byte l of the file, and those from byte a on up to e
+abbrev pub answer_at : RawMap → List Column → List ℕ → (l : ℕ) → ℕ
+answer_at m got out l = answer_in m got out (stripe_of m l) (data_unit_of m l) (column_of m l)
+
+abbrev pub answered_between : RawMap → List Column → List ℕ → (a e : ℕ) → List ℕ
+answered_between m got out a e = map (answer_at m got out) (range_with_len a (e - a))
 
 -- the bytes that a read gives
 unfoldable pub answered : RawMap → Span → List Column → List ℕ → List ℕ

@@ -1,8 +1,10 @@
 // Bytes of positions, taken out of the parts that have them.
 ghost use Rattle.std.specs.Prelude.{◌≡◌, replicate, IfOk};
+ghost use Rattle.stripe_plan.specs.Plans.{part_column, columns_of};
 ghost use Rattle.stripe_plan.specs.Words.{bytes_at, Laid, LaidColumn};
 
-use crate::plan::Column;
+use crate::plan::{Column, Part};
+use data_map::DataMap;
 use osd_bytes::{Bytes, Memory, put_at};
 use std::alloc::Global;
 
@@ -27,6 +29,15 @@ fn lay_column(buffer: &mut [u8], offset: u64, position: u32, column: &Column)
 {
     if column.position == position {
         lay(buffer, offset, column.offset, column.bytes.as_slice());
+    }
+}
+
+// Writes the bytes of a part over those of a buffer of that position that lies from `offset` on.
+fn lay_part(buffer: &mut [u8], map: &DataMap, offset: u64, position: u32, part: &Part)
+    ensures { LaidColumn position offset (part_column map.now part.now) buffer.old buffer.new }
+{
+    if part.component / map.replicas() == position {
+        lay(buffer, offset, part.offset, part.bytes.as_slice());
     }
 }
 
@@ -55,6 +66,24 @@ pub(crate) fn bytes_of(
     let mut bytes = zeros(alloc, len)?;
     for i in (0..columns.len()).rev() {
         lay_column(bytes.as_mut_slice(), offset, position, &columns[i]);
+    }
+    Ok(bytes)
+}
+
+// The same out of what was fetched of components.
+pub(crate) fn fetched_bytes(
+    alloc: Global,
+    map: &DataMap,
+    parts: &[Part],
+    position: u32,
+    offset: u64,
+    len: u64,
+) -> Result<Bytes, Memory>
+    ensures { IfOk result (λ bytes. bytes ≡ bytes_at (columns_of map.now parts.now) position offset len) }
+{
+    let mut bytes = zeros(alloc, len)?;
+    for i in (0..parts.len()).rev() {
+        lay_part(bytes.as_mut_slice(), map, offset, position, &parts[i]);
     }
     Ok(bytes)
 }

@@ -13,6 +13,8 @@ mod lost;
 mod needed;
 mod plan;
 mod plans;
+mod reading;
+mod rows;
 mod touched;
 
 pub use asking::asks;
@@ -23,4 +25,6 @@ pub use plan::{
     PlanErr, Span, Store, Stretch, Writes,
 };
 pub use plans::{plan_gather, plan_read, plan_scatter};
+pub use reading::assemble;
+pub use rows::code_of;
 pub use touched::{holds_whole, own_columns, touched_columns, touched_stripes};

@@ -13,11 +13,11 @@ use Rattle.data_map.proofs.Shape.{some_stripe}
 use Rattle.stripe_plan.specs.declared.plan.Span.{Span}
 use Rattle.stripe_plan.specs.declared.plan.Column.{Column}
 use Rattle.stripe_plan.specs.declared.plan.Aim.TheVariants.{Reads}
-use Rattle.stripe_plan.specs.Touched.{end_of, stripes, touches}
+use Rattle.stripe_plan.specs.Touched.{end_of, stripes, touches, IsTouchedStripe}
 use Rattle.stripe_plan.specs.Lost.{is_out, positions_out, is_short, hit_from, is_hit, unreadable}
 use Rattle.stripe_plan.specs.Asks.{own_columns, needed}
-use Rattle.stripe_plan.specs.Words.{got_at, lost_from, decoded_at, answer_at, answered}
-use Rattle.stripe_plan.specs.Laws.{word_of, IsWithin, AreBytes, IsTouchedStripe, IsFetched, Agrees, ReadFollows}
+use Rattle.stripe_plan.specs.Words.{got_at, lost_from, answer_in, answer_at, answered}
+use Rattle.stripe_plan.specs.Laws.{word_of, IsWithin, AreBytes, IsFetched, Agrees, FollowsRead}
 use Rattle.stripe_plan.proofs.Covering.{column_touched, own_touched}
 use Rattle.stripe_plan.proofs.Counting.{counted}
 use Rattle.stripe_plan.proofs.Columning.{word_is, decoded_is}
@@ -73,7 +73,7 @@ few_lost m r out s ch some can touched hit =
 -- a read gives each byte of all data that agree with what it fetched
 pub read_right : (m : RawMap) (r : Span) (got : List Column) (out : List ℕ) (d : ℕ → ℕ) → IsChecked m → AreBytes d → unreadable m r out (stripes m r) ≡ None → IsFetched Reads m r got out → Agrees m got d
     → (l : ℕ) → r.offset ≤ l → l < end_of r → answer_at m got out l ≡ d l
-unfolding answer_at own_columns touches
+unfolding answer_in own_columns touches
 read_right m r got out d ch bytes can fetched agrees l from to =
     let s : ℕ = stripe_of m l in
     let c : ℕ = data_unit_of m l in
@@ -98,7 +98,7 @@ read_right m r got out d ch bytes can fetched agrees l from to =
           rw there (agrees s b c wide (fetched s b c stripe wide there within) ∙ is)
     ]
 
-pub read_follows : (m : RawMap) (r : Span) (got : List Column) (out : List ℕ) → IsChecked m → unreadable m r out (stripes m r) ≡ None → ReadFollows m r got out (answered m r got out)
+pub read_follows : (m : RawMap) (r : Span) (got : List Column) (out : List ℕ) → IsChecked m → unreadable m r out (stripes m r) ≡ None → FollowsRead m r got out (answered m r got out)
 unfolding answered
 read_follows m r got out ch can = λ d bytes fetched agrees. same r.offset r.length d (λ l from to. read_right m r got out d ch bytes can fetched agrees l from to)
   where
