@@ -3,6 +3,7 @@ pub mod Waiting
 pub mod Numbering
 pub mod Asked
 pub mod Answered
+pub mod KnownMaps
 mod Opened
 mod RowsGather
 mod RowsIntervals
