@@ -1,0 +1,4 @@
+pub mod Refusals
+pub mod Numbered
+pub mod Tables
+pub mod Admitting
