@@ -4,10 +4,19 @@ use std::alloc::Global;
 use std::process::Abort;
 use std::test::Fail;
 use stripe_plan::{
-    Columns, Interval, Out, Piece, Pieces, PlanErr, Span, plan_gather, plan_read, touched_columns,
+    Column, Columns, Fetched, Interval, Out, Part, Pieces, PlanErr, Span, Writes, assemble,
+    plan_gather, plan_read, plan_scatter, touched_columns,
 };
 
-fn map(rt: &impl Abort, comps: u32, unit: u64, width: u32, mirrors: u32, algorithm: u32) -> DataMap {
+// Groups of `width` positions take turns stripe by stripe.
+fn map(
+    rt: &impl Abort,
+    comps: u32,
+    unit: u64,
+    width: u32,
+    mirrors: u32,
+    algorithm: u32,
+) -> DataMap {
     assert!(rt; algorithm >= 1 && algorithm <= 4);
     let raw = RawMap {
         comps,
@@ -26,65 +35,249 @@ fn out(alloc: Global, components: &[u32]) -> Result<Out, Memory> {
     })
 }
 
+// What was read of components: their first byte and the bytes.
+fn fetched(alloc: Global, parts: &[(u32, u64, &[u8])]) -> Result<Fetched, Memory> {
+    let mut got = Fetched::new(alloc);
+    for (component, offset, bytes) in parts {
+        got.push(Part {
+            component: *component,
+            offset: *offset,
+            bytes: Bytes::copied(alloc, bytes)?,
+        })?;
+    }
+    Ok(got)
+}
+
 // Component, offset and length of each piece.
 fn are(plan: Result<Pieces, PlanErr>, wanted: &[(u32, u64, u64)]) -> bool {
     let Ok(pieces) = plan else {
         return false;
     };
-    pieces.len() == wanted.len()
-        && pieces
-            .as_slice()
-            .iter()
-            .zip(wanted.iter())
-            .all(|(p, (component, offset, length))| {
-                p.component == *component && p.offset == *offset && p.length == *length
-            })
+    if pieces.len() != wanted.len() {
+        return false;
+    }
+    for (piece, (component, offset, length)) in pieces.as_slice().iter().zip(wanted.iter()) {
+        if piece.component != *component || piece.offset != *offset || piece.length != *length {
+            return false;
+        }
+    }
+    true
+}
+
+// Component, offset and bytes of each write.
+fn write(plan: Result<Writes, PlanErr>, wanted: &[(u32, u64, &[u8])]) -> bool {
+    let Ok(writes) = plan else {
+        return false;
+    };
+    if writes.len() != wanted.len() {
+        return false;
+    }
+    for (part, (component, offset, bytes)) in writes.as_slice().iter().zip(wanted.iter()) {
+        if part.component != *component
+            || part.offset != *offset
+            || part.bytes.as_slice() != *bytes
+        {
+            return false;
+        }
+    }
+    true
 }
 
 fn lacks(plan: Result<Pieces, PlanErr>, wanted: &[u32]) -> bool {
-    let Err(PlanErr::TooManyLost { positions }) = plan else {
-        return false;
-    };
-    positions.as_slice() == wanted
-}
-
-type Row<'a> = (u64, u64, &'a [u32], &'a [(u32, u64, u64)]);
-
-fn reads(rt: &impl Abort, alloc: Global, map: &DataMap, table: &[Row]) -> Result<(), Fail> {
-    for (off, len, components, wanted) in table {
-        assert!(rt; *off <= 1_000 && *len <= 1_000);
-        let lost = out(alloc, components)?;
-        assert!(rt; are(plan_read(alloc, map, *off, *len, &lost), wanted));
+    match plan {
+        Err(PlanErr::TooManyLost { positions }) => positions.as_slice() == wanted,
+        _ => false,
     }
-    Ok(())
 }
 
-fn gathers(rt: &impl Abort, alloc: Global, map: &DataMap, table: &[Row]) -> Result<(), Fail> {
-    for (off, len, components, wanted) in table {
-        assert!(rt; *off <= 1_000 && *len <= 1_000);
-        let lost = out(alloc, components)?;
-        assert!(rt; are(plan_gather(alloc, map, *off, *len, &lost), wanted));
-    }
-    Ok(())
-}
-
-// Stripe 0 of three components has its parity in component 2, stripe 1 in component 1.
+// RAID 5 of three components: stripe 0 has its parity in component 2, stripe 1 in component 1.
 #[test]
-fn raid_5(rt: HostRuntime) -> Result<(), Fail> {
+fn reads_ask_for_their_own_columns_and_for_those_of_a_lost_position(
+    rt: HostRuntime,
+) -> Result<(), Fail> {
     let five = map(&rt, 3, 4, 0, 0, RAID_5);
-    reads(&rt, rt.alloc(), &five, &[
-        (3, 3, &[], &[(0, 3, 1), (1, 0, 2)]),
-        (3, 3, &[1], &[(0, 0, 2), (0, 3, 1), (2, 0, 2), (2, 3, 1)]),
-        (3, 1, &[1, 2], &[(0, 3, 1)]),
-    ])?;
-    gathers(&rt, rt.alloc(), &five, &[
-        (0, 1, &[], &[(0, 0, 1), (2, 0, 1)]),
-        (0, 1, &[1], &[(0, 0, 1), (2, 0, 1)]),
-        (8, 8, &[], &[]),
-        (7, 9, &[], &[(1, 3, 1), (2, 3, 1)]),
-    ])?;
-    let lost = out(rt.alloc(), &[1, 2])?;
-    assert!(rt; lacks(plan_read(rt.alloc(), &five, 3, 3, &lost), &[1, 2]));
-    assert!(rt; lacks(plan_gather(rt.alloc(), &five, 3, 1, &lost), &[1, 2]));
+    let alloc = rt.alloc();
+    let whole = out(alloc, &[])?;
+    let short = out(alloc, &[1])?;
+    let lost = out(alloc, &[1, 2])?;
+    assert!(rt;
+        are(
+            plan_read(alloc, &five, 3, 3, &whole),
+            &[(0, 3, 1), (1, 0, 2)]
+        )
+    );
+    assert!(rt;
+        are(
+            plan_read(alloc, &five, 3, 3, &short),
+            &[(0, 0, 2), (0, 3, 1), (2, 0, 2), (2, 3, 1)]
+        )
+    );
+    assert!(rt; are(plan_read(alloc, &five, 3, 1, &lost), &[(0, 3, 1)]));
+    assert!(rt; lacks(plan_read(alloc, &five, 3, 3, &lost), &[1, 2]));
+    Ok(())
+}
+
+#[test]
+fn gathers_read_the_old_bytes_and_parity_and_leave_whole_stripes(
+    rt: HostRuntime,
+) -> Result<(), Fail> {
+    let five = map(&rt, 3, 4, 0, 0, RAID_5);
+    let alloc = rt.alloc();
+    let whole = out(alloc, &[])?;
+    let short = out(alloc, &[1])?;
+    let lost = out(alloc, &[1, 2])?;
+    assert!(rt;
+        are(
+            plan_gather(alloc, &five, 0, 1, &whole),
+            &[(0, 0, 1), (2, 0, 1)]
+        )
+    );
+    assert!(rt;
+        are(
+            plan_gather(alloc, &five, 4, 1, &short),
+            &[(0, 0, 1), (2, 0, 1)]
+        )
+    );
+    assert!(rt; are(plan_gather(alloc, &five, 8, 8, &whole), &[]));
+    assert!(rt;
+        are(
+            plan_gather(alloc, &five, 7, 9, &whole),
+            &[(1, 3, 1), (2, 3, 1)]
+        )
+    );
+    assert!(rt; lacks(plan_gather(alloc, &five, 3, 1, &lost), &[1, 2]));
+    Ok(())
+}
+
+// P+Q over six components with units of four bytes: columns that meet are one interval, others two.
+#[test]
+fn two_intervals_that_meet_are_one(rt: HostRuntime) -> Result<(), Fail> {
+    let six = map(&rt, 6, 4, 0, 0, RAID_PQ);
+    let alloc = rt.alloc();
+    let whole = out(alloc, &[])?;
+    let apart = touched_columns(
+        alloc,
+        &six,
+        Span {
+            offset: 3,
+            length: 2,
+        },
+        0,
+    )?;
+    let once = touched_columns(
+        alloc,
+        &six,
+        Span {
+            offset: 2,
+            length: 4,
+        },
+        0,
+    )?;
+    let first = Interval { first: 0, end: 1 };
+    let last = Interval { first: 3, end: 4 };
+    let all = Interval { first: 0, end: 4 };
+    assert_eq!(rt; apart.as_slice(), [first, last].as_slice());
+    assert_eq!(rt; once.as_slice(), [all].as_slice());
+    assert!(rt;
+        are(
+            plan_gather(alloc, &six, 3, 2, &whole),
+            &[
+                (0, 3, 1),
+                (1, 0, 1),
+                (4, 0, 1),
+                (4, 3, 1),
+                (5, 0, 1),
+                (5, 3, 1)
+            ]
+        )
+    );
+    assert!(rt;
+        are(
+            plan_gather(alloc, &six, 2, 4, &whole),
+            &[(0, 2, 2), (1, 0, 2), (4, 0, 4), (5, 0, 4)]
+        )
+    );
+    Ok(())
+}
+
+// Two groups of one position each, in turn, with two replicas: stripe 0 is in components 0 and 1, stripe 1 in 2 and 3.
+#[test]
+fn replicas_stand_in_and_groups_take_turns(rt: HostRuntime) -> Result<(), Fail> {
+    let grouped = map(&rt, 4, 2, 1, 1, RAID_0);
+    let alloc = rt.alloc();
+    let whole = out(alloc, &[])?;
+    let short = out(alloc, &[0])?;
+    let lost = out(alloc, &[2, 3])?;
+    assert!(rt;
+        are(
+            plan_read(alloc, &grouped, 0, 4, &whole),
+            &[(0, 0, 2), (2, 0, 2)]
+        )
+    );
+    assert!(rt;
+        are(
+            plan_read(alloc, &grouped, 0, 4, &short),
+            &[(1, 0, 2), (2, 0, 2)]
+        )
+    );
+    assert!(rt;
+        are(
+            plan_read(alloc, &grouped, 3, 4, &short),
+            &[(2, 1, 1), (1, 2, 2), (2, 2, 1)]
+        )
+    );
+    assert!(rt; are(plan_gather(alloc, &grouped, 0, 4, &whole), &[]));
+    assert!(rt; lacks(plan_read(alloc, &grouped, 0, 4, &lost), &[1]));
+    assert!(rt; are(plan_read(alloc, &grouped, 0, 2, &lost), &[(0, 0, 2)]));
+    Ok(())
+}
+
+#[test]
+fn scatters_write_every_replica_that_is_left(rt: HostRuntime) -> Result<(), Fail> {
+    let grouped = map(&rt, 4, 2, 1, 1, RAID_0);
+    let alloc = rt.alloc();
+    let short = out(alloc, &[0])?;
+    let mut columns = Columns::new(alloc);
+    columns.push(Column {
+        position: 0,
+        offset: 1,
+        bytes: Bytes::copied(alloc, &[7])?,
+    })?;
+    columns.push(Column {
+        position: 1,
+        offset: 0,
+        bytes: Bytes::copied(alloc, &[8, 9])?,
+    })?;
+    assert!(rt;
+        write(
+            plan_scatter(alloc, &grouped, 1, 3, &columns, &short),
+            &[(1, 1, &[7]), (2, 0, &[8, 9]), (3, 0, &[8, 9])]
+        )
+    );
+    Ok(())
+}
+
+#[test]
+fn answers_decode_what_is_lost(rt: HostRuntime) -> Result<(), Fail> {
+    let five = map(&rt, 3, 4, 0, 0, RAID_5);
+    let alloc = rt.alloc();
+    let short = out(alloc, &[1])?;
+    let got = fetched(alloc, &[(0, 0, &[1, 2, 3, 4]), (2, 0, &[4, 4, 4, 12])])?;
+    let answer = assemble(alloc, &five, 0, 8, &got, &short);
+    assert!(rt; answer.is_ok_and(|bytes| bytes.as_slice() == [1, 2, 3, 4, 5, 6, 7, 8].as_slice()));
+    let answer = assemble(alloc, &five, 3, 3, &got, &short);
+    assert!(rt; answer.is_ok_and(|bytes| bytes.as_slice() == [4, 5, 6].as_slice()));
+    Ok(())
+}
+
+// Of two parts that have a byte the first counts.
+#[test]
+fn the_first_byte_that_was_read_counts(rt: HostRuntime) -> Result<(), Fail> {
+    let plain = map(&rt, 2, 4, 0, 0, RAID_0);
+    let alloc = rt.alloc();
+    let whole = out(alloc, &[])?;
+    let got = fetched(alloc, &[(0, 1, &[7, 7]), (0, 0, &[1, 2, 3, 4])])?;
+    let answer = assemble(alloc, &plain, 0, 4, &got, &whole);
+    assert!(rt; answer.is_ok_and(|bytes| bytes.as_slice() == [1, 7, 7, 4].as_slice()));
     Ok(())
 }
