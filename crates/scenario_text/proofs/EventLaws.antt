@@ -6,19 +6,12 @@ use Rattle.scenario_text.specs.declared.event.Call.{Call}
 use Rattle.scenario_text.specs.declared.event.Call.TheVariants as call
 use Rattle.scenario_text.specs.declared.event.FileMap.{FileMap}
 use Rattle.scenario_text.specs.declared.hexadecimal.Digits.{Digits}
-use Rattle.scenario_text.specs.Parts.{Part, Fixed, Number, Key, Hex, u32, u64, drive, client, file, server}
+use Rattle.scenario_text.specs.Parts.{Fixed, Number, Key, Hex, u32, u64, drive, client, file, server}
 use Rattle.scenario_text.specs.Spelling.{call_parts, map_parts, tag, format, sender_part, machine_part, event_parts}
-use Rattle.scenario_text.specs.EventForms.{call_form, map_form, file_form, drive_form, upkeep_rows, upkeep_by, traffic_rows, traffic_by, setup_rows, event_by, event_form}
-use Rattle.scenario_text.specs.Form.{Form, Word, Done, Unknown}
-use Rattle.scenario_text.specs.Reading.{u64_of, file_of, bytes_of}
+use Rattle.scenario_text.specs.EventForms.{call_rows, call_form, map_form, file_form, drive_form, upkeep_rows, upkeep_by, traffic_rows, traffic_by, setup_rows, event_by, event_form}
 use Rattle.scenario_text.proofs.Forms.{Exact, Path, rows, rows_or}
 use Rattle.scenario_text.proofs.PlaceLaws.{u32_law, u64_law, tag_law, few_law, drive_law, client_law, file_law, server_law, sender_law, machine_law}
 use Rattle.scenario_text.proofs.HexLaws.{key_law, bytes_law}
-
-abbrev call_rows : Digits → List (List ℕ × Form Call)
-call_rows digits =
-    (codes "write", Word file_of (λ f. Word u64_of (λ offset. Word (bytes_of digits) (λ bytes. Done (call.Write f offset bytes)))))
-    ∷ (codes "read", Word file_of (λ f. Word u64_of (λ offset. Word u64_of (λ len. Done (call.Read f offset len))))) ∷ []
 
 call_exact : (digits : Digits) → Exact digits (call_form digits) call_parts []
 unfolding call_form

@@ -1,5 +1,5 @@
 -- The law of forms: a value that is read is what the words spell, and what is spelled reads back.
-use Rattle.std.proofs.Common.{◌≡◌, ℕ, Bool, true, false, ◌||◌, List, [], ◌∷◌, ◌++◌, map, Result, Ok, Err, refl, sym, ap, subst, ◌∙◌, append_assoc}
+use Rattle.std.proofs.Common.{◌≡◌, ℕ, Bool, true, false, List, [], ◌∷◌, ◌++◌, map, Result, Ok, refl, sym, ap, subst, ◌∙◌, append_assoc}
 use Rattle.std.specs.Prelude.{◌==◌, ⊤}
 use Rattle.std.specs.List.{list_any}
 use Rattle.std.specs.Str.{bytes_eq}
@@ -9,7 +9,7 @@ use Rattle.scenario_text.specs.declared.event.EventErr.{EventErr}
 use Rattle.scenario_text.specs.declared.hexadecimal.Digits.{Digits}
 use Rattle.scenario_text.specs.Parts.{Part, Fixed, word_of, PartFits, AllFit}
 use Rattle.scenario_text.specs.Spells.{SpellsPart, SpellAll}
-use Rattle.scenario_text.specs.Reading.{◌>>=◌, first, after, nothing, next_as}
+use Rattle.scenario_text.specs.Reading.{first, after, nothing, next_as}
 use Rattle.scenario_text.specs.Form.{Form, Done, Word, Choose, Then, Unknown, reads, reads_line, pick, chosen}
 use Rattle.scenario_text.proofs.Results.{bind_ok, first_ok, good_same, end_ok}
 use Rattle.scenario_text.proofs.Without.{none_any, or_parts, or_false}

@@ -1,5 +1,5 @@
 -- The laws of keys and of bytes.
-use Rattle.std.proofs.Common.{◌≡◌, ℕ, zero, suc, ◌+◌, ◌*◌, ◌/◌, ◌%◌, ◌<◌, Bool, true, false, ◌&&◌, ◌||◌, ◌⊎◌, inl, inr, List, [], ◌∷◌, length, slice_index, Option, Some, None, Result, Ok, Err, codes, refl, sym, ap, subst, ◌∙◌, arith}
+use Rattle.std.proofs.Common.{◌≡◌, ℕ, zero, suc, ◌+◌, ◌*◌, ◌/◌, ◌%◌, ◌<◌, Bool, true, false, ◌&&◌, ◌||◌, ◌⊎◌, inl, inr, List, [], ◌∷◌, length, slice_index, Option, Some, None, Result, Ok, Err, codes, refl, sym, ap, ◌∙◌, arith}
 use Rattle.std.specs.Prelude.{◌==◌, nat_le, nat_lt, if◌then◌else◌}
 use Rattle.std.specs.Str.{bytes_eq}
 use Rattle.std.specs.List.{list_any}
@@ -12,7 +12,7 @@ use Rattle.scenario_text.specs.declared.hexadecimal.Digits.{Digits}
 use Rattle.scenario_text.specs.declared.hexadecimal.Digits.TheVariants.{Either, Lower}
 use Rattle.scenario_text.specs.declared.event.EventErr.{EventErr}
 use Rattle.scenario_text.specs.declared.event.EventErr.TheVariants.{BadHex}
-use Rattle.scenario_text.specs.Parts.{Part, Key, Hex, hex_word}
+use Rattle.scenario_text.specs.Parts.{Key, Hex, hex_word}
 use Rattle.scenario_text.specs.Spells.{SpellsKey, SpellsBytes}
 use Rattle.scenario_text.specs.Reading.{or_bad_hex, any_upper, refuses, key_of, bytes_of}
 use Rattle.scenario_text.proofs.Without.{or_parts, encode_without}

@@ -1,5 +1,5 @@
 -- The law of lines: each is read by its form, and has its parts.
-use Rattle.std.proofs.Common.{◌≡◌, ℕ, Bool, true, false, List, [], ◌∷◌, ◌++◌, codes, refl, arith}
+use Rattle.std.proofs.Common.{ℕ, Bool, true, false, List, [], ◌∷◌, codes, refl}
 use Rattle.scenario_text.specs.declared.line.Line.{Line}
 use Rattle.scenario_text.specs.declared.line.Line.TheVariants as line
 use Rattle.scenario_text.specs.declared.line.Verdict.{Verdict}
@@ -20,15 +20,12 @@ use Rattle.scenario_text.specs.declared.line.MapFault.{MapFault}
 use Rattle.scenario_text.specs.declared.line.MapFault.TheVariants as map_fault
 use Rattle.scenario_text.specs.declared.line.Note.{Note}
 use Rattle.scenario_text.specs.declared.line.Note.TheVariants as note
-use Rattle.scenario_text.specs.declared.hexadecimal.Digits.{Digits}
 use Rattle.scenario_text.specs.declared.hexadecimal.Digits.TheVariants.{Lower}
-use Rattle.scenario_text.specs.Parts.{Part, Fixed, Hex, Positions, u32, u64, drive, client, file}
+use Rattle.scenario_text.specs.Parts.{Fixed, Hex, Positions, u32, u64, drive, client, file}
 use Rattle.scenario_text.specs.Spelling.{event_parts}
 use Rattle.scenario_text.specs.LineSpelling.{party_part, kind_word, layout_fault_word, map_fault_word, refusal_word, yes_or_no, verdict_parts, delivery_parts, ending_parts, outcome_parts, note_parts, line_parts}
-use Rattle.scenario_text.specs.Form.{Form, Choose, Unknown, Then, Done, Word}
-use Rattle.scenario_text.specs.Reading.{u32_of, u64_of, drive_of, client_of, file_of, positions_of}
-use Rattle.scenario_text.specs.EventForms.{event_form}
-use Rattle.scenario_text.specs.LineForms.{kind_form, yes_or_no_form, layout_fault_form, map_fault_form, refusal_form, verdict_rows, verdict_by, verdict_form, delivery_by, ending_rows, ending_by, done_form, outcome_by, outcome_form, refused_form, note_form, message_form, last_form, line_form}
+use Rattle.scenario_text.specs.Form.{Choose}
+use Rattle.scenario_text.specs.LineForms.{kind_rows, yes_or_no_rows, layout_fault_rows, map_fault_rows, refusal_rows, delivery_rows, judged_by, outcome_rows, failed_by, refused_rows, note_rows, unguessed_rows, line_rows, kind_form, yes_or_no_form, layout_fault_form, map_fault_form, refusal_form, verdict_rows, verdict_by, verdict_form, delivery_by, ending_rows, ending_by, done_form, outcome_by, outcome_form, refused_form, note_form, last_form, line_form}
 use Rattle.scenario_text.proofs.Forms.{Exact, Path, rows, rows_or, past}
 use Rattle.scenario_text.proofs.PartLaws.{positions_law}
 use Rattle.scenario_text.proofs.PlaceLaws.{u32_law, u64_law, drive_law, client_law, file_law, party_law}
@@ -36,9 +33,6 @@ use Rattle.scenario_text.proofs.HexLaws.{bytes_law}
 use Rattle.scenario_text.proofs.EventLaws.{event_exact, event_path}
 
 -- ---- single words
-
-abbrev kind_rows : List (List ℕ × Form CallKind)
-kind_rows = (codes "write", Done kind.Write) ∷ (codes "read", Done kind.Read) ∷ []
 
 kind_exact : Exact Lower kind_form (λ k. Fixed (kind_word k) ∷ []) []
 unfolding kind_form
@@ -49,9 +43,6 @@ unfolding kind_form
 kind_path kind.Write = (codes "write", refl, refl)
 kind_path kind.Read = (codes "read", refl, refl)
 
-abbrev yes_or_no_rows : List (List ℕ × Form Bool)
-yes_or_no_rows = (codes "yes", Done true) ∷ (codes "no", Done false) ∷ []
-
 yes_or_no_exact : Exact Lower yes_or_no_form (λ b. Fixed (yes_or_no b) ∷ []) []
 unfolding yes_or_no_form
 yes_or_no_exact = rows Lower yes_or_no_rows (λ b. Fixed (yes_or_no b) ∷ []) [] (refl, (refl, tt))
@@ -60,15 +51,6 @@ yes_or_no_path : (x : Bool) → Path yes_or_no_form x
 unfolding yes_or_no_form
 yes_or_no_path true = (codes "yes", refl, refl)
 yes_or_no_path false = (codes "no", refl, refl)
-
-abbrev layout_fault_rows : List (List ℕ × Form LayoutFault)
-layout_fault_rows =
-    (codes "Unreadable", Done layout.Unreadable)
-    ∷ (codes "Index", Done layout.Index)
-    ∷ (codes "Partial", Done layout.Partial)
-    ∷ (codes "Ssv", Done layout.Ssv)
-    ∷ (codes "Map", Done layout.Map)
-    ∷ (codes "Credential", Done layout.Credential) ∷ []
 
 layout_fault_exact : Exact Lower layout_fault_form (λ why. Fixed (layout_fault_word why) ∷ []) []
 unfolding layout_fault_form
@@ -83,15 +65,6 @@ layout_fault_path layout.Ssv = (codes "Ssv", refl, refl)
 layout_fault_path layout.Map = (codes "Map", refl, refl)
 layout_fault_path layout.Credential = (codes "Credential", refl, refl)
 
-abbrev map_fault_rows : List (List ℕ × Form MapFault)
-map_fault_rows =
-    (codes "Unit", Done map_fault.Unit)
-    ∷ (codes "TooMany", Done map_fault.TooMany)
-    ∷ (codes "TooFew", Done map_fault.TooFew)
-    ∷ (codes "Multiple", Done map_fault.Multiple)
-    ∷ (codes "Width", Done map_fault.Width)
-    ∷ (codes "Depth", Done map_fault.Depth) ∷ []
-
 map_fault_exact : Exact Lower map_fault_form (λ why. Fixed (map_fault_word why) ∷ []) []
 unfolding map_fault_form
 map_fault_exact = rows Lower map_fault_rows (λ why. Fixed (map_fault_word why) ∷ []) [] (refl, (refl, (refl, (refl, (refl, (refl, tt))))))
@@ -104,12 +77,6 @@ map_fault_path map_fault.TooFew = (codes "TooFew", refl, refl)
 map_fault_path map_fault.Multiple = (codes "Multiple", refl, refl)
 map_fault_path map_fault.Width = (codes "Width", refl, refl)
 map_fault_path map_fault.Depth = (codes "Depth", refl, refl)
-
-abbrev refusal_rows : List (List ℕ × Form Refusal)
-refusal_rows =
-    (codes "busy", Done refusal.Busy)
-    ∷ (codes "badrange", Done refusal.BadRange)
-    ∷ (codes "slotspent", Done refusal.SlotSpent) ∷ []
 
 refusal_exact : Exact Lower refusal_form (λ why. Fixed (refusal_word why) ∷ []) []
 unfolding refusal_form
@@ -177,12 +144,6 @@ verdict_path (verdict.Stale n) = (codes "stale", refl, (n, refl))
 verdict_path verdict.AttrFull = (codes "attrfull", refl, refl)
 verdict_path verdict.Format = (codes "format", refl, refl)
 verdict_path verdict.OldFormat = (codes "oldformat", refl, refl)
-
-abbrev delivery_rows : List (List ℕ × Form Delivery)
-delivery_rows = (codes "deaf", Done delivery.Deaf) ∷ (codes "taken", Done delivery.Taken) ∷ []
-
-abbrev judged_by : List ℕ → Form Delivery
-judged_by word = Then (verdict_by word) (λ v. Done (delivery.Judged v))
 
 delivery_exact : Exact Lower (Choose delivery_by) delivery_parts []
 unfolding delivery_by
@@ -263,12 +224,6 @@ done_exact : (call : CallKind) → Exact Lower (done_form call) outcome_parts (F
 done_exact kind.Write = (u64, u64_law Lower, λ len. refl)
 done_exact kind.Read = (Hex, bytes_law Lower, λ bytes. refl)
 
-abbrev outcome_rows : CallKind → List (List ℕ × Form Outcome)
-outcome_rows call = (codes "ok", done_form call) ∷ []
-
-abbrev failed_by : CallKind → List ℕ → Form Outcome
-failed_by call word = Then (ending_by word) (λ how. Done (outcome.Failed call how))
-
 outcome_exact : Exact Lower outcome_form outcome_parts []
 unfolding outcome_by
 outcome_exact = (
@@ -291,13 +246,6 @@ outcome_path (outcome.Failed call how) =
 
 -- ---- notes
 
-abbrev refused_rows : List (List ℕ × Form Note)
-refused_rows =
-    (codes "exists", Done note.Exists)
-    ∷ (codes "badmap", Then map_fault_form (λ why. Done (note.BadMap why)))
-    ∷ (codes "toofew", Word u32_of (λ n. Done (note.TooFew n)))
-    ∷ (codes "nospread", Word u32_of (λ n. Done (note.NoSpread n))) ∷ []
-
 refused_exact : Exact Lower refused_form note_parts (Fixed (codes "refused") ∷ [])
 unfolding refused_form
 refused_exact = rows Lower refused_rows note_parts (Fixed (codes "refused") ∷ []) (
@@ -310,21 +258,6 @@ refused_exact = rows Lower refused_rows note_parts (Fixed (codes "refused") ∷ 
     ),
   ),
 )
-
-abbrev note_rows : List (List ℕ × Form Note)
-note_rows =
-    (codes "ready", Done note.Ready)
-    ∷ (codes "fenced", Word u32_of (λ tag. Done (note.Fenced tag)))
-    ∷ (codes "repaired", Word u64_of (λ n. Word u64_of (λ s. Done (note.Repaired n s))))
-    ∷ (codes "rebuilt", Word u32_of (λ k. Word drive_of (λ d. Done (note.Rebuilt k d))))
-    ∷ (codes "nodrive", Word u32_of (λ k. Done (note.NoDrive k)))
-    ∷ (codes "lost", Word u32_of (λ k. Word positions_of (λ ps. Done (note.Lost k ps))))
-    ∷ (codes "nospace", Word u32_of (λ k. Done (note.NoSpace k)))
-    ∷ (codes "audit", Word u64_of (λ n. Word u64_of (λ s. Word u64_of (λ b. Word u64_of (λ bytes. Done (note.Audited n s b bytes))))))
-    ∷ (codes "busy", Word u32_of (λ k. Done (note.Busy k)))
-    ∷ (codes "spent", Done note.Spent)
-    ∷ (codes "reported", Word u32_of (λ k. Done (note.Reported k)))
-    ∷ (codes "refused", refused_form) ∷ []
 
 note_exact : Exact Lower note_form note_parts []
 unfolding note_form
@@ -383,9 +316,6 @@ note_path (note.NoSpread n) = (codes "refused", refl, (codes "nospread", refl, (
 
 -- ---- lines
 
-abbrev unguessed_rows : Bool → List (List ℕ × Form Line)
-unguessed_rows calm = (codes "unguessed", Then yes_or_no_form (λ unguessed. Done (line.Last calm unguessed))) ∷ []
-
 last_exact : Exact Lower last_form line_parts (Fixed (codes "calm") ∷ [])
 last_exact = (
   (λ b. Fixed (yes_or_no b) ∷ []),
@@ -399,18 +329,6 @@ last_exact = (
         tt,
       ),
 )
-
-abbrev line_rows : List (List ℕ × Form Line)
-line_rows =
-    (codes "=", Then (event_form Lower) (λ e. Done (line.Event e)))
-    ∷ (codes "m", message_form)
-    ∷ (codes "d", Word u64_of (λ n. Then (Choose delivery_by) (λ what. Done (line.Delivered n what))))
-    ∷ (codes "j", Word drive_of (λ d. Then verdict_form (λ v. Done (line.Judged d v))))
-    ∷ (codes "t", Word client_of (λ c. Word u32_of (λ k. Done (line.TimedOut c k))))
-    ∷ (codes "o", Word client_of (λ c. Then outcome_form (λ how. Done (line.Ended c how))))
-    ∷ (codes "x", Word client_of (λ c. Then refusal_form (λ why. Done (line.Refused c why))))
-    ∷ (codes "f", Word file_of (λ f. Then note_form (λ what. Done (line.Note f what))))
-    ∷ (codes "calm", last_form) ∷ []
 
 pub line_exact : Exact Lower line_form line_parts []
 unfolding line_form

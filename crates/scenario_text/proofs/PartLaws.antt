@@ -1,5 +1,5 @@
 -- The laws of numbers, names and positions.
-use Rattle.std.proofs.Common.{◌≡◌, ℕ, ◌+◌, ◌^◌, ◌<◌, ◌≤◌, Bool, true, false, ◌&&◌, ◌||◌, List, [], ◌∷◌, ◌++◌, length, map, Option, Some, None, Result, Ok, Err, refl, sym, ap, subst, ◌∙◌, arith}
+use Rattle.std.proofs.Common.{◌≡◌, ℕ, ◌+◌, ◌^◌, ◌<◌, ◌≤◌, Bool, true, false, ◌&&◌, List, [], ◌∷◌, ◌++◌, length, map, Option, Some, None, Result, Ok, Err, refl, sym, ap, subst, ◌∙◌, arith}
 use Rattle.std.specs.Prelude.{◌==◌, nat_eq, nat_le, nat_lt, if◌then◌else◌}
 use Rattle.std.specs.Fmt.{decimal}
 use Rattle.std.specs.List.{list_any, slice_split, join_with_byte}
@@ -8,7 +8,7 @@ use Rattle.std.proofs.lemmas.List.Splits.{length-slice_split, join_with_byte-sli
 use Rattle.scenario_text.specs.declared.event.EventErr.{EventErr}
 use Rattle.scenario_text.specs.declared.event.EventErr.TheVariants.{BadNumber, BadName}
 use Rattle.scenario_text.specs.declared.hexadecimal.Digits.{Digits}
-use Rattle.scenario_text.specs.Parts.{Part, Number, Name, Positions, positions_word, Rising, PositionsFit}
+use Rattle.scenario_text.specs.Parts.{Number, Name, Positions, positions_word, Rising, PositionsFit}
 use Rattle.scenario_text.specs.Reading.{in_range, below, number_of, name_of, decimal_of, rising_of, positions_of}
 use Rattle.scenario_text.proofs.Results.{bind_ok, good_same}
 use Rattle.scenario_text.proofs.Numbers.{decimal_of-some, decimal_of-decimal}

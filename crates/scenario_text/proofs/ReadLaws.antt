@@ -1,7 +1,6 @@
 -- The reading of a line of a scenario against what it spells, both ways.
-use Rattle.std.proofs.Common.{◌≡◌, ℕ, inl, inr, List, [], ◌∷◌, Option, Some, None, Result, Ok, Err, refl, sym, subst, ◌∙◌}
+use Rattle.std.proofs.Common.{◌≡◌, ℕ, inl, inr, List, [], ◌∷◌, Result, Ok, Err, refl, sym, subst}
 use Rattle.std.specs.List.{onto_first}
-use Rattle.scenario_text.specs.declared.hexadecimal.Digits.{Digits}
 use Rattle.scenario_text.specs.declared.hexadecimal.Digits.TheVariants.{Either}
 use Rattle.scenario_text.specs.declared.event.EventErr.{EventErr}
 use Rattle.scenario_text.specs.declared.event.EventErr.TheVariants.{UnknownWord, Memory}

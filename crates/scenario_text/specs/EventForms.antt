@@ -9,11 +9,13 @@ use Rattle.scenario_text.specs.declared.event.Call.{Call}
 use Rattle.scenario_text.specs.declared.event.Call.TheVariants as call
 use Rattle.scenario_text.specs.declared.event.FileMap.{FileMap}
 
-unfoldable pub call_form : Digits → Form Call
-call_form digits = by_word (
+abbrev pub call_rows : Digits → List (List ℕ × Form Call)
+call_rows digits =
     (codes "write", Word file_of (λ f. Word u64_of (λ offset. Word (bytes_of digits) (λ bytes. Done (call.Write f offset bytes)))))
     ∷ (codes "read", Word file_of (λ f. Word u64_of (λ offset. Word u64_of (λ len. Done (call.Read f offset len))))) ∷ []
-    )
+
+unfoldable pub call_form : Digits → Form Call
+call_form digits = by_word (call_rows digits)
 
 unfoldable pub map_form : Form FileMap
 map_form =

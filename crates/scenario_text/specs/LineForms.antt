@@ -27,38 +27,50 @@ use Rattle.scenario_text.specs.declared.line.Note.TheVariants as note
 
 -- ---- single words
 
+abbrev pub kind_rows : List (List ℕ × Form CallKind)
+kind_rows = (codes "write", Done kind.Write) ∷ (codes "read", Done kind.Read) ∷ []
+
 unfoldable pub kind_form : Form CallKind
-kind_form = by_word ((codes "write", Done kind.Write) ∷ (codes "read", Done kind.Read) ∷ [])
+kind_form = by_word kind_rows
+
+abbrev pub yes_or_no_rows : List (List ℕ × Form Bool)
+yes_or_no_rows = (codes "yes", Done true) ∷ (codes "no", Done false) ∷ []
 
 unfoldable pub yes_or_no_form : Form Bool
-yes_or_no_form = by_word ((codes "yes", Done true) ∷ (codes "no", Done false) ∷ [])
+yes_or_no_form = by_word yes_or_no_rows
 
-unfoldable pub layout_fault_form : Form LayoutFault
-layout_fault_form = by_word (
+abbrev pub layout_fault_rows : List (List ℕ × Form LayoutFault)
+layout_fault_rows =
     (codes "Unreadable", Done layout.Unreadable)
     ∷ (codes "Index", Done layout.Index)
     ∷ (codes "Partial", Done layout.Partial)
     ∷ (codes "Ssv", Done layout.Ssv)
     ∷ (codes "Map", Done layout.Map)
     ∷ (codes "Credential", Done layout.Credential) ∷ []
-    )
 
-unfoldable pub map_fault_form : Form MapFault
-map_fault_form = by_word (
+unfoldable pub layout_fault_form : Form LayoutFault
+layout_fault_form = by_word layout_fault_rows
+
+abbrev pub map_fault_rows : List (List ℕ × Form MapFault)
+map_fault_rows =
     (codes "Unit", Done map_fault.Unit)
     ∷ (codes "TooMany", Done map_fault.TooMany)
     ∷ (codes "TooFew", Done map_fault.TooFew)
     ∷ (codes "Multiple", Done map_fault.Multiple)
     ∷ (codes "Width", Done map_fault.Width)
     ∷ (codes "Depth", Done map_fault.Depth) ∷ []
-    )
 
-unfoldable pub refusal_form : Form Refusal
-refusal_form = by_word (
+unfoldable pub map_fault_form : Form MapFault
+map_fault_form = by_word map_fault_rows
+
+abbrev pub refusal_rows : List (List ℕ × Form Refusal)
+refusal_rows =
     (codes "busy", Done refusal.Busy)
     ∷ (codes "badrange", Done refusal.BadRange)
     ∷ (codes "slotspent", Done refusal.SlotSpent) ∷ []
-    )
+
+unfoldable pub refusal_form : Form Refusal
+refusal_form = by_word refusal_rows
 
 -- ---- verdicts and deliveries
 
@@ -90,9 +102,14 @@ verdict_by word = chosen verdict_rows (λ w. Unknown) word
 abbrev pub verdict_form : Form Verdict
 verdict_form = Choose verdict_by
 
+abbrev pub delivery_rows : List (List ℕ × Form Delivery)
+delivery_rows = (codes "deaf", Done delivery.Deaf) ∷ (codes "taken", Done delivery.Taken) ∷ []
+
+abbrev pub judged_by : List ℕ → Form Delivery
+judged_by word = Then (verdict_by word) (λ v. Done (delivery.Judged v))
+
 unfoldable pub delivery_by : List ℕ → Form Delivery
-delivery_by word =
-    chosen ((codes "deaf", Done delivery.Deaf) ∷ (codes "taken", Done delivery.Taken) ∷ []) (λ w. Then (verdict_by w) (λ v. Done (delivery.Judged v))) word
+delivery_by word = chosen delivery_rows judged_by word
 
 -- ---- endings and outcomes
 
@@ -117,24 +134,32 @@ abbrev pub done_form : CallKind → Form Outcome
 done_form kind.Write = Word u64_of (λ len. Done (outcome.WriteOk len))
 done_form kind.Read = Word (bytes_of Lower) (λ bytes. Done (outcome.ReadOk bytes))
 
+abbrev pub outcome_rows : CallKind → List (List ℕ × Form Outcome)
+outcome_rows call = (codes "ok", done_form call) ∷ []
+
+abbrev pub failed_by : CallKind → List ℕ → Form Outcome
+failed_by call word = Then (ending_by word) (λ how. Done (outcome.Failed call how))
+
 unfoldable pub outcome_by : CallKind → List ℕ → Form Outcome
-outcome_by call word = chosen ((codes "ok", done_form call) ∷ []) (λ w. Then (ending_by w) (λ how. Done (outcome.Failed call how))) word
+outcome_by call word = chosen (outcome_rows call) (failed_by call) word
 
 abbrev pub outcome_form : Form Outcome
 outcome_form = Then kind_form (λ call. Choose (outcome_by call))
 
 -- ---- notes
 
-unfoldable pub refused_form : Form Note
-refused_form = by_word (
+abbrev pub refused_rows : List (List ℕ × Form Note)
+refused_rows =
     (codes "exists", Done note.Exists)
     ∷ (codes "badmap", Then map_fault_form (λ why. Done (note.BadMap why)))
     ∷ (codes "toofew", Word u32_of (λ n. Done (note.TooFew n)))
     ∷ (codes "nospread", Word u32_of (λ n. Done (note.NoSpread n))) ∷ []
-    )
 
-unfoldable pub note_form : Form Note
-note_form = by_word (
+unfoldable pub refused_form : Form Note
+refused_form = by_word refused_rows
+
+abbrev pub note_rows : List (List ℕ × Form Note)
+note_rows =
     (codes "ready", Done note.Ready)
     ∷ (codes "fenced", Word u32_of (λ tag. Done (note.Fenced tag)))
     ∷ (codes "repaired", Word u64_of (λ n. Word u64_of (λ s. Done (note.Repaired n s))))
@@ -147,18 +172,23 @@ note_form = by_word (
     ∷ (codes "spent", Done note.Spent)
     ∷ (codes "reported", Word u32_of (λ k. Done (note.Reported k)))
     ∷ (codes "refused", refused_form) ∷ []
-    )
+
+unfoldable pub note_form : Form Note
+note_form = by_word note_rows
 
 -- ---- lines
 
 abbrev pub message_form : Form Line
 message_form = Word u64_of (λ n. Word party_of (λ from. Word party_of (λ to. Word (bytes_of Lower) (λ bytes. Done (line.Message n from to bytes)))))
 
-abbrev pub last_form : Form Line
-last_form = Then yes_or_no_form (λ calm. by_word ((codes "unguessed", Then yes_or_no_form (λ unguessed. Done (line.Last calm unguessed))) ∷ []))
+abbrev pub unguessed_rows : Bool → List (List ℕ × Form Line)
+unguessed_rows calm = (codes "unguessed", Then yes_or_no_form (λ unguessed. Done (line.Last calm unguessed))) ∷ []
 
-unfoldable pub line_form : Form Line
-line_form = by_word (
+abbrev pub last_form : Form Line
+last_form = Then yes_or_no_form (λ calm. by_word (unguessed_rows calm))
+
+abbrev pub line_rows : List (List ℕ × Form Line)
+line_rows =
     (codes "=", Then (event_form Lower) (λ e. Done (line.Event e)))
     ∷ (codes "m", message_form)
     ∷ (codes "d", Word u64_of (λ n. Then (Choose delivery_by) (λ what. Done (line.Delivered n what))))
@@ -168,4 +198,6 @@ line_form = by_word (
     ∷ (codes "x", Word client_of (λ c. Then refusal_form (λ why. Done (line.Refused c why))))
     ∷ (codes "f", Word file_of (λ f. Then note_form (λ what. Done (line.Note f what))))
     ∷ (codes "calm", last_form) ∷ []
-    )
+
+unfoldable pub line_form : Form Line
+line_form = by_word line_rows

@@ -3,7 +3,7 @@ use Rattle.std.specs.Prelude.{◌≡◌, ℕ, Bool, true, false, ⊤, List, [], 
 use Rattle.std.specs.List.{flat_map}
 use Rattle.scenario_text.specs.Words.{spaced}
 use Rattle.scenario_text.specs.Parts.{Part, Fixed, Hex, Positions, u32, u64, drive, client, file, server, word_of, AllFit}
-use Rattle.scenario_text.specs.Spelling.{Fits, Spells, event_parts, event_text}
+use Rattle.scenario_text.specs.Spelling.{Fits, Spells, event_parts}
 use Rattle.scenario_text.specs.declared.event.Event.{Event}
 use Rattle.scenario_text.specs.declared.line.Line.{Line}
 use Rattle.scenario_text.specs.declared.line.Line.TheVariants as line

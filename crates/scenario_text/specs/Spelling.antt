@@ -41,12 +41,18 @@ abbrev pub machine_part : Machine → Part
 machine_part (machine.Drive d) = drive d
 machine_part machine.Server = server
 
+abbrev pub drive_parts : ℕ → List ℕ → ℕ → List Part
+drive_parts d key capacity = drive d ∷ Key key ∷ u64 capacity ∷ []
+
+abbrev pub file_parts : ℕ → FileMap → ℕ → List Part
+file_parts f m t = file f ∷ (map_parts m ++ tag t ∷ [])
+
 abbrev pub event_parts : Event → List Part
-event_parts (event.Drive d key capacity) = Fixed (codes "drive") ∷ drive d ∷ Key key ∷ u64 capacity ∷ []
-event_parts (event.Disk d key capacity) = Fixed (codes "disk") ∷ drive d ∷ Key key ∷ u64 capacity ∷ []
+event_parts (event.Drive d key capacity) = Fixed (codes "drive") ∷ drive_parts d key capacity
+event_parts (event.Disk d key capacity) = Fixed (codes "disk") ∷ drive_parts d key capacity
 event_parts (event.Client c) = Fixed (codes "client") ∷ client c ∷ []
-event_parts (event.File f m t) = Fixed (codes "file") ∷ file f ∷ (map_parts m ++ tag t ∷ [])
-event_parts (event.ZonedFile f m t) = Fixed (codes "zfile") ∷ file f ∷ (map_parts m ++ tag t ∷ [])
+event_parts (event.File f m t) = Fixed (codes "file") ∷ file_parts f m t
+event_parts (event.ZonedFile f m t) = Fixed (codes "zfile") ∷ file_parts f m t
 event_parts (event.Zone d z) = Fixed (codes "zone") ∷ drive d ∷ u32 z ∷ []
 event_parts (event.Least d n) = Fixed (codes "least") ∷ drive d ∷ format n ∷ []
 event_parts (event.Format n) = Fixed (codes "format") ∷ server ∷ format n ∷ []

@@ -58,7 +58,7 @@ pub enum Machine {
 }
 
 /// An event of a scenario.
-#[derive(Debug, Drop, PartialEq)]
+#[derive(Debug, Drop)]
 pub enum Event {
     /// Makes a drive with that key and that capacity in bytes.
     Drive {

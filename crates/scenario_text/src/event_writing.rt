@@ -1,14 +1,16 @@
-ghost use Rattle.std.specs.Prelude.{◌≡◌, ◌++◌, OnOk, map};
+ghost use Rattle.std.specs.Prelude.{◌≡◌, ◌++◌, ◌∷◌, [], OnOk, map};
 ghost use Rattle.scenario_text.specs.Words.{behind};
 ghost use Rattle.scenario_text.specs.Parts.{word_of};
-ghost use Rattle.scenario_text.specs.Spelling.{call_parts, map_parts, sender_part, machine_part, event_parts};
+ghost use Rattle.scenario_text.specs.Spelling.{call_parts, map_parts, sender_part, machine_part, drive_parts, tag as tag_part, event_parts};
 ghost use Rattle.scenario_text.specs.Written.{written};
 ghost use Rattle.scenario_text.specs.Groups.{group_of};
 ghost use Rattle.scenario_text.specs.declared.group.Group.TheVariants.{Setup, Traffic, Upkeep};
 
 use crate::event::{Call, Event, FileMap, Machine, Sender};
 use crate::group::{Group, event_group};
-use crate::write::{Word, named, put_words, small};
+use crate::names::DriveName;
+use crate::write::Word::{Fixed, Hex, Key, Number};
+use crate::write::{Word, named, put, small};
 use osd_bytes::{Bytes, Memory};
 use std::alloc::Global;
 
@@ -21,34 +23,18 @@ fn put_call(alloc: Global, out: &mut Bytes, call: &Call) -> Result<(), Memory>
             offset,
             bytes,
         } => {
-            let hex = Word::Hex(bytes.as_slice());
-            put_words(
-                alloc,
-                out,
-                &[
-                    Word::Fixed(b"write"),
-                    named(file),
-                    Word::Number(*offset),
-                    hex,
-                ],
-            )
+            let hex = Hex(bytes.as_slice());
+            let words = [Fixed(b"write"), named(file), Number(*offset), hex];
+            put(alloc, out, &words)
         }
         Call::Read {
             file,
             offset,
             length,
         } => {
-            let count = Word::Number(*length);
-            put_words(
-                alloc,
-                out,
-                &[
-                    Word::Fixed(b"read"),
-                    named(file),
-                    Word::Number(*offset),
-                    count,
-                ],
-            )
+            let count = Number(*length);
+            let words = [Fixed(b"read"), named(file), Number(*offset), count];
+            put(alloc, out, &words)
         }
     }
 }
@@ -58,13 +44,13 @@ fn put_map(alloc: Global, out: &mut Bytes, file_map: &FileMap) -> Result<(), Mem
 {
     let words = [
         small(file_map.components),
-        Word::Number(file_map.unit),
+        Number(file_map.unit),
         small(file_map.width),
         small(file_map.depth),
         small(file_map.mirrors),
         small(file_map.algorithm),
     ];
-    put_words(alloc, out, &words)
+    put(alloc, out, &words)
 }
 
 fn sender_word<'a>(sender: &Sender) -> Word<'a>
@@ -72,7 +58,7 @@ fn sender_word<'a>(sender: &Sender) -> Word<'a>
 {
     match sender {
         Sender::Client { client } => named(client),
-        Sender::Server => Word::Fixed(b"s"),
+        Sender::Server => Fixed(b"s"),
     }
 }
 
@@ -81,8 +67,39 @@ fn machine_word<'a>(machine: &Machine) -> Word<'a>
 {
     match machine {
         Machine::Drive { drive } => named(drive),
-        Machine::Server => Word::Fixed(b"s"),
+        Machine::Server => Fixed(b"s"),
     }
+}
+
+// Adds a word and what a drive is made with.
+fn put_drive<'x>(
+    alloc: Global,
+    out: &mut Bytes,
+    word: &'x [u8],
+    drive: &DriveName,
+    key: &'x [u8; 20],
+    capacity: u64,
+) -> Result<(), Memory>
+    ensures { OnOk result (out.new ≡ out.old ++ behind 32 (word.now ∷ map word_of (drive_parts drive.now key.now capacity))) }
+{
+    put(
+        alloc,
+        out,
+        &[Fixed(word), named(drive), Key(key), Number(capacity)],
+    )
+}
+
+// Adds the data map and the tag of a file.
+fn put_map_and_tag(
+    alloc: Global,
+    out: &mut Bytes,
+    file_map: &FileMap,
+    tag: u32,
+) -> Result<(), Memory>
+    ensures { OnOk result (out.new ≡ out.old ++ behind 32 (map word_of (map_parts file_map.now ++ tag_part tag ∷ []))) }
+{
+    put_map(alloc, out, file_map)?;
+    put(alloc, out, &[small(tag)])
 }
 
 fn put_setup(alloc: Global, out: &mut Bytes, event: &Event) -> Result<(), Memory>
@@ -94,55 +111,31 @@ fn put_setup(alloc: Global, out: &mut Bytes, event: &Event) -> Result<(), Memory
             drive,
             key,
             capacity,
-        } => {
-            let bytes = Word::Number(*capacity);
-            put_words(
-                alloc,
-                out,
-                &[Word::Fixed(b"drive"), named(drive), Word::Key(key), bytes],
-            )
-        }
+        } => put_drive(alloc, out, b"drive", drive, key, *capacity),
         Event::Disk {
             drive,
             key,
             capacity,
-        } => {
-            let bytes = Word::Number(*capacity);
-            put_words(
-                alloc,
-                out,
-                &[Word::Fixed(b"disk"), named(drive), Word::Key(key), bytes],
-            )
-        }
-        Event::Client { client } => put_words(alloc, out, &[Word::Fixed(b"client"), named(client)]),
+        } => put_drive(alloc, out, b"disk", drive, key, *capacity),
+        Event::Client { client } => put(alloc, out, &[Fixed(b"client"), named(client)]),
         Event::File { file, map, tag } => {
-            put_words(alloc, out, &[Word::Fixed(b"file"), named(file)])?;
-            put_map(alloc, out, map)?;
-            put_words(alloc, out, &[small(*tag)])
+            put(alloc, out, &[Fixed(b"file"), named(file)])?;
+            put_map_and_tag(alloc, out, map, *tag)
         }
         Event::ZonedFile { file, map, tag } => {
-            put_words(alloc, out, &[Word::Fixed(b"zfile"), named(file)])?;
-            put_map(alloc, out, map)?;
-            put_words(alloc, out, &[small(*tag)])
+            put(alloc, out, &[Fixed(b"zfile"), named(file)])?;
+            put_map_and_tag(alloc, out, map, *tag)
         }
         Event::Zone { drive, zone } => {
-            put_words(
-                alloc,
-                out,
-                &[Word::Fixed(b"zone"), named(drive), small(*zone)],
-            )
+            put(alloc, out, &[Fixed(b"zone"), named(drive), small(*zone)])
         }
         Event::Least { drive, format } => {
-            let format = Word::Number(u64::from(*format));
-            put_words(alloc, out, &[Word::Fixed(b"least"), named(drive), format])
+            let format = Number(u64::from(*format));
+            put(alloc, out, &[Fixed(b"least"), named(drive), format])
         }
         Event::Format { format } => {
-            let format = Word::Number(u64::from(*format));
-            put_words(
-                alloc,
-                out,
-                &[Word::Fixed(b"format"), Word::Fixed(b"s"), format],
-            )
+            let format = Number(u64::from(*format));
+            put(alloc, out, &[Fixed(b"format"), Fixed(b"s"), format])
         }
         _ => unreachable!(),
     }
@@ -154,38 +147,25 @@ fn put_traffic(alloc: Global, out: &mut Bytes, event: &Event) -> Result<(), Memo
 {
     match event {
         Event::Do { client, call } => {
-            put_words(alloc, out, &[Word::Fixed(b"do"), named(client)])?;
+            put(alloc, out, &[Fixed(b"do"), named(client)])?;
             put_call(alloc, out, call)
         }
         Event::Call { client, call } => {
-            put_words(alloc, out, &[Word::Fixed(b"call"), named(client)])?;
+            put(alloc, out, &[Fixed(b"call"), named(client)])?;
             put_call(alloc, out, call)
         }
-        Event::Deliver { message } => {
-            put_words(
-                alloc,
-                out,
-                &[Word::Fixed(b"deliver"), Word::Number(*message)],
-            )
-        }
-        Event::DropMessage { message } => {
-            put_words(alloc, out, &[Word::Fixed(b"drop"), Word::Number(*message)])
-        }
-        Event::Settle => put_words(alloc, out, &[Word::Fixed(b"settle")]),
-        Event::Resend { sender } => {
-            put_words(alloc, out, &[Word::Fixed(b"resend"), sender_word(sender)])
-        }
+        Event::Deliver { message } => { put(alloc, out, &[Fixed(b"deliver"), Number(*message)]) }
+        Event::DropMessage { message } => put(alloc, out, &[Fixed(b"drop"), Number(*message)]),
+        Event::Settle => put(alloc, out, &[Fixed(b"settle")]),
+        Event::Resend { sender } => put(alloc, out, &[Fixed(b"resend"), sender_word(sender)]),
         Event::Timeout { client, component } => {
-            put_words(
-                alloc,
-                out,
-                &[Word::Fixed(b"timeout"), named(client), small(*component)],
-            )
+            let words = [Fixed(b"timeout"), named(client), small(*component)];
+            put(alloc, out, &words)
         }
-        Event::Leave { client } => put_words(alloc, out, &[Word::Fixed(b"leave"), named(client)]),
+        Event::Leave { client } => put(alloc, out, &[Fixed(b"leave"), named(client)]),
         Event::Inject { drive, bytes } => {
-            let hex = Word::Hex(bytes.as_slice());
-            put_words(alloc, out, &[Word::Fixed(b"inject"), named(drive), hex])
+            let hex = Hex(bytes.as_slice());
+            put(alloc, out, &[Fixed(b"inject"), named(drive), hex])
         }
         _ => unreachable!(),
     }
@@ -197,26 +177,18 @@ fn put_upkeep(alloc: Global, out: &mut Bytes, event: &Event) -> Result<(), Memor
 {
     match event {
         Event::Clock { machine, time } => {
-            let time = Word::Number(*time);
-            put_words(
-                alloc,
-                out,
-                &[Word::Fixed(b"clock"), machine_word(machine), time],
-            )
+            let time = Number(*time);
+            put(alloc, out, &[Fixed(b"clock"), machine_word(machine), time])
         }
-        Event::Recall { file } => put_words(alloc, out, &[Word::Fixed(b"recall"), named(file)]),
-        Event::Revoke { file } => put_words(alloc, out, &[Word::Fixed(b"revoke"), named(file)]),
-        Event::Rebuild { file } => put_words(alloc, out, &[Word::Fixed(b"rebuild"), named(file)]),
-        Event::Audit { file } => put_words(alloc, out, &[Word::Fixed(b"audit"), named(file)]),
-        Event::Declare { drive } => put_words(alloc, out, &[Word::Fixed(b"declare"), named(drive)]),
-        Event::Stop { client } => put_words(alloc, out, &[Word::Fixed(b"stop"), named(client)]),
-        Event::Fail { drive } => put_words(alloc, out, &[Word::Fixed(b"fail"), named(drive)]),
-        Event::Crash { machine } => {
-            put_words(alloc, out, &[Word::Fixed(b"crash"), machine_word(machine)])
-        }
-        Event::Reopen { machine } => {
-            put_words(alloc, out, &[Word::Fixed(b"reopen"), machine_word(machine)])
-        }
+        Event::Recall { file } => put(alloc, out, &[Fixed(b"recall"), named(file)]),
+        Event::Revoke { file } => put(alloc, out, &[Fixed(b"revoke"), named(file)]),
+        Event::Rebuild { file } => put(alloc, out, &[Fixed(b"rebuild"), named(file)]),
+        Event::Audit { file } => put(alloc, out, &[Fixed(b"audit"), named(file)]),
+        Event::Declare { drive } => put(alloc, out, &[Fixed(b"declare"), named(drive)]),
+        Event::Stop { client } => put(alloc, out, &[Fixed(b"stop"), named(client)]),
+        Event::Fail { drive } => put(alloc, out, &[Fixed(b"fail"), named(drive)]),
+        Event::Crash { machine } => put(alloc, out, &[Fixed(b"crash"), machine_word(machine)]),
+        Event::Reopen { machine } => put(alloc, out, &[Fixed(b"reopen"), machine_word(machine)]),
         _ => unreachable!(),
     }
 }

@@ -180,7 +180,7 @@ pub enum Note {
 }
 
 /// A line of a transcript.
-#[derive(Debug, Drop, PartialEq)]
+#[derive(Debug, Drop)]
 pub enum Line {
     /// The event whose lines follow.
     Event {

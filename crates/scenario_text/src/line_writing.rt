@@ -1,4 +1,4 @@
-ghost use Rattle.std.specs.Prelude.{◌≡◌, ◌++◌, ◌∷◌, [], map, codes, IfOk, OnOk};
+ghost use Rattle.std.specs.Prelude.{◌≡◌, ◌++◌, ◌∷◌, [], map, codes, decimal, IfOk, OnOk};
 ghost use Rattle.scenario_text.specs.Words.{behind};
 ghost use Rattle.scenario_text.specs.Parts.{word_of};
 ghost use Rattle.scenario_text.specs.Written.{written};
@@ -10,7 +10,8 @@ use crate::event_writing::put_event;
 use crate::line::{
     CallKind, Delivery, Ending, LayoutFault, Line, MapFault, Note, Outcome, Party, Refusal, Verdict,
 };
-use crate::write::{Word, named, put_words, small};
+use crate::write::Word::{Fixed, Hex, Number, Positions};
+use crate::write::{Word, named, put, small};
 use osd_bytes::{Bytes, Memory};
 use std::alloc::Global;
 
@@ -20,7 +21,7 @@ fn party_word<'a>(party: &Party) -> Word<'a>
     match party {
         Party::Drive { drive } => named(drive),
         Party::Client { client } => named(client),
-        Party::Server => Word::Fixed(b"s"),
+        Party::Server => Fixed(b"s"),
     }
 }
 
@@ -79,28 +80,24 @@ fn put_verdict(alloc: Global, out: &mut Bytes, verdict: Verdict) -> Result<(), M
     ensures { OnOk result (out.new ≡ out.old ++ behind 32 (map word_of (verdict_parts verdict))) }
 {
     match verdict {
-        Verdict::Perform => put_words(alloc, out, &[Word::Fixed(b"perform")]),
-        Verdict::Again => put_words(alloc, out, &[Word::Fixed(b"again")]),
-        Verdict::NoKey => put_words(alloc, out, &[Word::Fixed(b"nokey")]),
-        Verdict::CheckValue => put_words(alloc, out, &[Word::Fixed(b"checkvalue")]),
-        Verdict::Expired => put_words(alloc, out, &[Word::Fixed(b"expired")]),
-        Verdict::Rights => put_words(alloc, out, &[Word::Fixed(b"rights")]),
-        Verdict::WrongObject => put_words(alloc, out, &[Word::Fixed(b"wrongobject")]),
-        Verdict::Range => put_words(alloc, out, &[Word::Fixed(b"range")]),
-        Verdict::NoObject => put_words(alloc, out, &[Word::Fixed(b"noobject")]),
-        Verdict::Exists => put_words(alloc, out, &[Word::Fixed(b"exists")]),
-        Verdict::Tag { current } => put_words(alloc, out, &[Word::Fixed(b"tag"), small(current)]),
-        Verdict::Limit => put_words(alloc, out, &[Word::Fixed(b"limit")]),
-        Verdict::NoSpace { free } => {
-            put_words(alloc, out, &[Word::Fixed(b"nospace"), Word::Number(free)])
-        }
-        Verdict::LaneFull => put_words(alloc, out, &[Word::Fixed(b"lanefull")]),
-        Verdict::Stale { last } => {
-            put_words(alloc, out, &[Word::Fixed(b"stale"), Word::Number(last)])
-        }
-        Verdict::AttrFull => put_words(alloc, out, &[Word::Fixed(b"attrfull")]),
-        Verdict::Format => put_words(alloc, out, &[Word::Fixed(b"format")]),
-        Verdict::OldFormat => put_words(alloc, out, &[Word::Fixed(b"oldformat")]),
+        Verdict::Perform => put(alloc, out, &[Fixed(b"perform")]),
+        Verdict::Again => put(alloc, out, &[Fixed(b"again")]),
+        Verdict::NoKey => put(alloc, out, &[Fixed(b"nokey")]),
+        Verdict::CheckValue => put(alloc, out, &[Fixed(b"checkvalue")]),
+        Verdict::Expired => put(alloc, out, &[Fixed(b"expired")]),
+        Verdict::Rights => put(alloc, out, &[Fixed(b"rights")]),
+        Verdict::WrongObject => put(alloc, out, &[Fixed(b"wrongobject")]),
+        Verdict::Range => put(alloc, out, &[Fixed(b"range")]),
+        Verdict::NoObject => put(alloc, out, &[Fixed(b"noobject")]),
+        Verdict::Exists => put(alloc, out, &[Fixed(b"exists")]),
+        Verdict::Tag { current } => put(alloc, out, &[Fixed(b"tag"), small(current)]),
+        Verdict::Limit => put(alloc, out, &[Fixed(b"limit")]),
+        Verdict::NoSpace { free } => put(alloc, out, &[Fixed(b"nospace"), Number(free)]),
+        Verdict::LaneFull => put(alloc, out, &[Fixed(b"lanefull")]),
+        Verdict::Stale { last } => put(alloc, out, &[Fixed(b"stale"), Number(last)]),
+        Verdict::AttrFull => put(alloc, out, &[Fixed(b"attrfull")]),
+        Verdict::Format => put(alloc, out, &[Fixed(b"format")]),
+        Verdict::OldFormat => put(alloc, out, &[Fixed(b"oldformat")]),
     }
 }
 
@@ -108,8 +105,8 @@ fn put_delivery(alloc: Global, out: &mut Bytes, delivery: &Delivery) -> Result<(
     ensures { OnOk result (out.new ≡ out.old ++ behind 32 (map word_of (delivery_parts delivery.now))) }
 {
     match delivery {
-        Delivery::Deaf => put_words(alloc, out, &[Word::Fixed(b"deaf")]),
-        Delivery::Taken => put_words(alloc, out, &[Word::Fixed(b"taken")]),
+        Delivery::Deaf => put(alloc, out, &[Fixed(b"deaf")]),
+        Delivery::Taken => put(alloc, out, &[Fixed(b"taken")]),
         Delivery::Judged { verdict } => put_verdict(alloc, out, *verdict),
     }
 }
@@ -118,38 +115,29 @@ fn put_ending(alloc: Global, out: &mut Bytes, ending: &Ending) -> Result<(), Mem
     ensures { OnOk result (out.new ≡ out.old ++ behind 32 (map word_of (ending_parts ending.now))) }
 {
     match ending {
-        Ending::NoFile => put_words(alloc, out, &[Word::Fixed(b"nofile")]),
-        Ending::Held { client } => put_words(alloc, out, &[Word::Fixed(b"held"), named(client)]),
-        Ending::Fencing { component } => {
-            put_words(alloc, out, &[Word::Fixed(b"fencing"), small(*component)])
-        }
-        Ending::Degraded { component } => {
-            put_words(alloc, out, &[Word::Fixed(b"degraded"), small(*component)])
-        }
-        Ending::Spent => put_words(alloc, out, &[Word::Fixed(b"spent")]),
+        Ending::NoFile => put(alloc, out, &[Fixed(b"nofile")]),
+        Ending::Held { client } => put(alloc, out, &[Fixed(b"held"), named(client)]),
+        Ending::Fencing { component } => put_count(alloc, out, b"fencing", *component),
+        Ending::Degraded { component } => put_count(alloc, out, b"degraded", *component),
+        Ending::Spent => put(alloc, out, &[Fixed(b"spent")]),
         Ending::Status { status, detail } => {
-            put_words(
-                alloc,
-                out,
-                &[Word::Fixed(b"status"), small(*status), small(*detail)],
-            )
+            let words = [Fixed(b"status"), small(*status), small(*detail)];
+            put(alloc, out, &words)
         }
         Ending::Refused { drive, verdict } => {
-            put_words(alloc, out, &[Word::Fixed(b"refused"), named(drive)])?;
+            put(alloc, out, &[Fixed(b"refused"), named(drive)])?;
             put_verdict(alloc, out, *verdict)
         }
-        Ending::Silent { component } => {
-            put_words(alloc, out, &[Word::Fixed(b"silent"), small(*component)])
-        }
+        Ending::Silent { component } => put_count(alloc, out, b"silent", *component),
         Ending::Lost { positions } => {
-            let lost = Word::Positions(positions.as_slice());
-            put_words(alloc, out, &[Word::Fixed(b"lost"), lost])
+            let lost = Positions(positions.as_slice());
+            put(alloc, out, &[Fixed(b"lost"), lost])
         }
         Ending::BadLayout { why } => {
-            let why = Word::Fixed(layout_fault_text(*why));
-            put_words(alloc, out, &[Word::Fixed(b"badlayout"), why])
+            let why = Fixed(layout_fault_text(*why));
+            put(alloc, out, &[Fixed(b"badlayout"), why])
         }
-        Ending::Pending => put_words(alloc, out, &[Word::Fixed(b"pending")]),
+        Ending::Pending => put(alloc, out, &[Fixed(b"pending")]),
     }
 }
 
@@ -158,119 +146,97 @@ fn put_outcome(alloc: Global, out: &mut Bytes, outcome: &Outcome) -> Result<(), 
 {
     match outcome {
         Outcome::WriteOk { length } => {
-            let count = Word::Number(*length);
-            put_words(
-                alloc,
-                out,
-                &[Word::Fixed(b"write"), Word::Fixed(b"ok"), count],
-            )
+            let count = Number(*length);
+            put(alloc, out, &[Fixed(b"write"), Fixed(b"ok"), count])
         }
         Outcome::ReadOk { bytes } => {
-            let hex = Word::Hex(bytes.as_slice());
-            put_words(alloc, out, &[Word::Fixed(b"read"), Word::Fixed(b"ok"), hex])
+            let hex = Hex(bytes.as_slice());
+            put(alloc, out, &[Fixed(b"read"), Fixed(b"ok"), hex])
         }
         Outcome::Failed { call, ending } => {
-            put_words(alloc, out, &[Word::Fixed(kind_text(*call))])?;
+            put(alloc, out, &[Fixed(kind_text(*call))])?;
             put_ending(alloc, out, ending)
         }
     }
+}
+
+// Adds a word and a number.
+fn put_count(alloc: Global, out: &mut Bytes, word: &[u8], n: u32) -> Result<(), Memory>
+    ensures { OnOk result (out.new ≡ out.old ++ behind 32 (word.now ∷ decimal n ∷ [])) }
+{
+    put(alloc, out, &[Fixed(word), small(n)])
+}
+
+// Adds a word and two numbers.
+fn put_sums(alloc: Global, out: &mut Bytes, word: &[u8], m: u64, n: u64) -> Result<(), Memory>
+    ensures { OnOk result (out.new ≡ out.old ++ behind 32 (word.now ∷ decimal m ∷ decimal n ∷ [])) }
+{
+    put(alloc, out, &[Fixed(word), Number(m), Number(n)])
+}
+
+// Adds why a file wasn't made.
+fn put_refused(alloc: Global, out: &mut Bytes, why: &[u8]) -> Result<(), Memory>
+    ensures { OnOk result (out.new ≡ out.old ++ behind 32 (codes "refused" ∷ why.now ∷ [])) }
+{
+    put(alloc, out, &[Fixed(b"refused"), Fixed(why)])
+}
+
+// Adds why a file wasn't made, and how many drives there are.
+fn put_few(alloc: Global, out: &mut Bytes, why: &[u8], online: u32) -> Result<(), Memory>
+    ensures { OnOk result (out.new ≡ out.old ++ behind 32 (codes "refused" ∷ why.now ∷ decimal online ∷ [])) }
+{
+    put_refused(alloc, out, why)?;
+    put(alloc, out, &[small(online)])
 }
 
 fn put_note(alloc: Global, out: &mut Bytes, note: &Note) -> Result<(), Memory>
     ensures { OnOk result (out.new ≡ out.old ++ behind 32 (map word_of (note_parts note.now))) }
 {
     match note {
-        Note::Ready => put_words(alloc, out, &[Word::Fixed(b"ready")]),
-        Note::Fenced { tag } => put_words(alloc, out, &[Word::Fixed(b"fenced"), small(*tag)]),
-        Note::Repaired { stripes, short } => {
-            let (stripes, short) = (Word::Number(*stripes), Word::Number(*short));
-            put_words(alloc, out, &[Word::Fixed(b"repaired"), stripes, short])
-        }
+        Note::Ready => put(alloc, out, &[Fixed(b"ready")]),
+        Note::Fenced { tag } => put_count(alloc, out, b"fenced", *tag),
+        Note::Repaired { stripes, short } => put_sums(alloc, out, b"repaired", *stripes, *short),
         Note::Rebuilt { component, drive } => {
-            put_words(
-                alloc,
-                out,
-                &[Word::Fixed(b"rebuilt"), small(*component), named(drive)],
-            )
+            put_count(alloc, out, b"rebuilt", *component)?;
+            put(alloc, out, &[named(drive)])
         }
-        Note::NoDrive { component } => {
-            put_words(alloc, out, &[Word::Fixed(b"nodrive"), small(*component)])
-        }
+        Note::NoDrive { component } => put_count(alloc, out, b"nodrive", *component),
         Note::Lost {
             component,
             positions,
         } => {
-            let lost = Word::Positions(positions.as_slice());
-            put_words(alloc, out, &[Word::Fixed(b"lost"), small(*component), lost])
+            put_count(alloc, out, b"lost", *component)?;
+            put(alloc, out, &[Positions(positions.as_slice())])
         }
-        Note::NoSpace { component } => {
-            put_words(alloc, out, &[Word::Fixed(b"nospace"), small(*component)])
-        }
+        Note::NoSpace { component } => put_count(alloc, out, b"nospace", *component),
         Note::Audited {
             stripes,
             short,
             bad,
             bytes,
         } => {
-            let (stripes, short) = (Word::Number(*stripes), Word::Number(*short));
-            let (bad, bytes) = (Word::Number(*bad), Word::Number(*bytes));
-            put_words(
-                alloc,
-                out,
-                &[Word::Fixed(b"audit"), stripes, short, bad, bytes],
-            )
+            put_sums(alloc, out, b"audit", *stripes, *short)?;
+            put(alloc, out, &[Number(*bad), Number(*bytes)])
         }
-        Note::Busy { component } => {
-            put_words(alloc, out, &[Word::Fixed(b"busy"), small(*component)])
-        }
-        Note::Spent => put_words(alloc, out, &[Word::Fixed(b"spent")]),
-        Note::Reported { component } => {
-            put_words(alloc, out, &[Word::Fixed(b"reported"), small(*component)])
-        }
-        Note::Exists => put_words(
-            alloc,
-            out,
-            &[Word::Fixed(b"refused"), Word::Fixed(b"exists")],
-        ),
+        Note::Busy { component } => put_count(alloc, out, b"busy", *component),
+        Note::Spent => put(alloc, out, &[Fixed(b"spent")]),
+        Note::Reported { component } => put_count(alloc, out, b"reported", *component),
+        Note::Exists => put_refused(alloc, out, b"exists"),
         Note::BadMap { why } => {
-            let why = Word::Fixed(map_fault_text(*why));
-            put_words(
-                alloc,
-                out,
-                &[Word::Fixed(b"refused"), Word::Fixed(b"badmap"), why],
-            )
+            put_refused(alloc, out, b"badmap")?;
+            put(alloc, out, &[Fixed(map_fault_text(*why))])
         }
-        Note::TooFew { online } => {
-            put_words(
-                alloc,
-                out,
-                &[
-                    Word::Fixed(b"refused"),
-                    Word::Fixed(b"toofew"),
-                    small(*online),
-                ],
-            )
-        }
-        Note::NoSpread { online } => {
-            put_words(
-                alloc,
-                out,
-                &[
-                    Word::Fixed(b"refused"),
-                    Word::Fixed(b"nospread"),
-                    small(*online),
-                ],
-            )
-        }
+        Note::TooFew { online } => put_few(alloc, out, b"toofew", *online),
+        Note::NoSpread { online } => put_few(alloc, out, b"nospread", *online),
     }
 }
 
 fn put_last(alloc: Global, out: &mut Bytes, calm: bool, unguessed: bool) -> Result<(), Memory>
     ensures { OnOk result (out.new ≡ out.old ++ behind 32 (yes_or_no calm ∷ codes "unguessed" ∷ yes_or_no unguessed ∷ [])) }
 {
-    let calm = Word::Fixed(yes_or_no_text(calm));
-    let unguessed = Word::Fixed(yes_or_no_text(unguessed));
-    put_words(alloc, out, &[calm, Word::Fixed(b"unguessed"), unguessed])
+    let calm = Fixed(yes_or_no_text(calm));
+    let unguessed = Fixed(yes_or_no_text(unguessed));
+    put(alloc, out, &[calm, Fixed(b"unguessed"), unguessed])
 }
 
 // Adds the words behind the first one.
@@ -286,30 +252,32 @@ fn put_line(alloc: Global, out: &mut Bytes, line: &Line) -> Result<(), Memory>
             bytes,
         } => {
             let (from, to) = (party_word(from), party_word(to));
-            let hex = Word::Hex(bytes.as_slice());
-            put_words(alloc, out, &[Word::Number(*message), from, to, hex])
+            let hex = Hex(bytes.as_slice());
+            put(alloc, out, &[Number(*message), from, to, hex])
         }
         Line::Delivered { message, delivery } => {
-            put_words(alloc, out, &[Word::Number(*message)])?;
+            put(alloc, out, &[Number(*message)])?;
             put_delivery(alloc, out, delivery)
         }
         Line::Judged { drive, verdict } => {
-            put_words(alloc, out, &[named(drive)])?;
+            put(alloc, out, &[named(drive)])?;
             put_verdict(alloc, out, *verdict)
         }
-        Line::TimedOut { client, component } => {
-            put_words(alloc, out, &[named(client), small(*component)])
-        }
+        Line::TimedOut { client, component } => put(
+            alloc,
+            out,
+            &[named(client), small(*component)],
+        ),
         Line::Ended { client, outcome } => {
-            put_words(alloc, out, &[named(client)])?;
+            put(alloc, out, &[named(client)])?;
             put_outcome(alloc, out, outcome)
         }
         Line::Refused { client, refusal } => {
-            let why = Word::Fixed(refusal_text(*refusal));
-            put_words(alloc, out, &[named(client), why])
+            let why = Fixed(refusal_text(*refusal));
+            put(alloc, out, &[named(client), why])
         }
         Line::Note { file, note } => {
-            put_words(alloc, out, &[named(file)])?;
+            put(alloc, out, &[named(file)])?;
             put_note(alloc, out, note)
         }
         Line::Last { calm, unguessed } => put_last(alloc, out, *calm, *unguessed),

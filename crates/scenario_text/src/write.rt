@@ -90,7 +90,7 @@ fn put_word(alloc: Global, out: &mut Bytes, word: &Word) -> Result<(), Memory>
 }
 
 // Adds words, each behind a space.
-pub(crate) fn put_words(alloc: Global, out: &mut Bytes, words: &[Word]) -> Result<(), Memory>
+pub(crate) fn put(alloc: Global, out: &mut Bytes, words: &[Word]) -> Result<(), Memory>
     ensures { OnOk result (out.new ≡ out.old ++ behind 32 (map written words.now)) }
 {
     for word in words {

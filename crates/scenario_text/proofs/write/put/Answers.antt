@@ -1,7 +1,7 @@
 use Rattle.std.proofs.Common.{[]}
 use Rattle.scenario_text.specs.declared.write.Word.TheVariants.{Fixed}
 use Rattle.scenario_text.proofs.Behind.{word_out}
-use Rattle.scenario_text.proofs.write.put_words.Goals as goal
+use Rattle.scenario_text.proofs.write.put.Goals as goal
 
 pub loop-word-preserved : goal.loop-word-preserved
 loop-word-preserved c =
