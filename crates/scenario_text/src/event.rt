@@ -1,10 +1,6 @@
-ghost use Rattle.std.specs.Prelude.{◌≡◌, IfOk};
-
-use crate::copies::{copied_setup, copied_traffic, copied_upkeep};
-use crate::group::{Group, event_group};
 use crate::names::{ClientName, DriveName, FileName};
 use osd_bytes::{Bytes, Memory};
-use std::alloc::Global;
+use thiserror::Error;
 
 /// The numbers of a file's data map, as the scenario gives them (RFC 5664 3).
 ///
@@ -183,64 +179,32 @@ pub enum Event {
     },
 }
 
-impl Call {
-    /// The same call, with a copy of its bytes.
-    pub fn copied(&self, alloc: Global) -> Result<Self, Memory>
-        ensures { IfOk result (λ call. call ≡ self.now) }
-    {
-        match self {
-            Call::Write {
-                file,
-                offset,
-                bytes,
-            } => Ok(Call::Write {
-                file: *file,
-                offset: *offset,
-                bytes: Bytes::copied(alloc, bytes.as_slice())?,
-            }),
-            Call::Read {
-                file,
-                offset,
-                length,
-            } => Ok(Call::Read {
-                file: *file,
-                offset: *offset,
-                length: *length,
-            }),
-        }
-    }
-}
-
-impl Event {
-    /// The same event, with a copy of its bytes.
-    pub fn copied(&self, alloc: Global) -> Result<Self, Memory>
-        ensures { IfOk result (λ event. event ≡ self.now) }
-    {
-        match event_group(self) {
-            Group::Setup => Ok(copied_setup(self)),
-            Group::Traffic => copied_traffic(alloc, self),
-            Group::Upkeep => Ok(copied_upkeep(self)),
-        }
-    }
-}
-
 /// Why a line gave no event.
-#[derive(Clone, Copy, Debug, PartialEq, Eq)]
+#[derive(Clone, Copy, Debug, PartialEq, Eq, Error)]
 pub enum EventErr {
     /// The event isn't carried out yet.
+    #[error("the event isn't carried out yet")]
     NotYet,
     /// No event, call or line has this word in its place.
+    #[error("an unknown word")]
     UnknownWord,
     /// A word in the place of a name isn't one.
+    #[error("a word that is no name")]
     BadName,
     /// A word in the place of a number isn't one, or not one of the range of its place.
+    #[error("a word that is no number of its range")]
     BadNumber,
     /// A word in the place of bytes isn't pairs of hexadecimal digits or `-`, or doesn't have the bytes of its place.
+    #[error("a word that spells no bytes")]
     BadHex,
     /// A word is lacking.
+    #[error("a word is lacking")]
     Missing,
     /// A further word follows.
+    #[error("a word too many")]
     Extra,
+    /// There was no memory.
+    #[error("out of memory")]
     Memory,
 }
 

@@ -6,7 +6,6 @@
 #![tactic(auto)]
 
 mod by_table;
-mod copies;
 mod event;
 mod event_reading;
 mod event_writing;
