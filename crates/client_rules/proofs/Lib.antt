@@ -2,8 +2,11 @@ pub mod WaitingMoves
 pub mod Waiting
 pub mod Numbering
 pub mod Asked
-pub mod Answered
+pub mod Probed
 pub mod KnownMaps
+pub mod TakenMaps
+pub mod ReadMoves
+pub mod ReadSteps
 mod Opened
 mod RowsGather
 mod RowsIntervals

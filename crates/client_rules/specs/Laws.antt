@@ -1,16 +1,20 @@
 -- What holds of every step of a client.
-use Rattle.std.specs.Prelude.{◌≡◌, ◌≢◌, ◌<◌, ◌≤◌, ℕ, ◌+◌, List, [], ◌∷◌, length, map, slice_index, Option, Some, None}
+use Rattle.std.specs.Prelude.{◌≡◌, ◌≢◌, ◌<◌, ◌≤◌, ℕ, ◌+◌, ◌==◌, ◌&&◌, not, if◌then◌else◌, List, [], ◌∷◌, ◌++◌, length, map, slice_index, Option, Some, None}
 use Rattle.std.specs.List.{range_with_len}
 use Rattle.data_map.specs.Check.{IsChecked}
-use Rattle.client_rules.specs.State.{Client, Call, CallOp, Held, Awaited, TimedOut, Phase, Starts, Needs, Waits, Reads, Probes, Gathers, Scatters, ReadOk, Turn, Ends, Moved, Reply, Answer}
-use Rattle.client_rules.specs.Calls.{span_of}
-use Rattle.client_rules.specs.Grants.{clipped}
+use Rattle.stripe_plan.specs.Words.{answered}
+use Rattle.client_rules.specs.declared.limits.TheConstants.{PERFORMED}
+use Rattle.client_rules.specs.State.{Client, Call, CallOp, Held, Awaited, TimedOut, Phase, Starts, Needs, Waits, Reads, Probes, Gathers, Scatters, ReadOk, Moved, Reply, Answer, Column}
+use Rattle.client_rules.specs.Calls.{file_of, span_of}
+use Rattle.client_rules.specs.Grants.{clipped, held_of}
 use Rattle.client_rules.specs.Commands.{nonce_at}
+use Rattle.client_rules.specs.Io.{got_of}
 use Rattle.client_rules.specs.Replies.{replied, timed_out}
 use Rattle.client_rules.specs.Answers.{on_commit}
 use Rattle.client_rules.specs.Going.{begins}
+use Rattle.client_rules.specs.Messages.{Taken, TakesReply, takes}
 use Rattle.client_rules.specs.Steps.{new_client}
-use Rattle.client_rules.specs.History.{Input, step, state_after}
+use Rattle.client_rules.specs.History.{Input, Hears, step, state_after}
 
 -- ---- a phase that waits for drives awaits something
 
@@ -65,26 +69,43 @@ pub record NoncesRise : Type 0 where
   pub rising : (first n i j : ℕ) → i < j → j < n → slice_index (range_with_len first n) i < slice_index (range_with_len first n) j
   pub above : (first n i : ℕ) → i < n → first ≤ slice_index (range_with_len first n) i
 
--- ---- an answered read took a reply
+-- ---- a read is answered from performed READs
 
--- a turn answers a read
-abbrev pub AnswersRead : Turn → Type 0
-AnswersRead (Ends (ReadOk bytes)) = Unit {0}
-AnswersRead t = ⊥
+-- a READ that was performed gives its bytes
+abbrev pub with_reply : List Column → Option Taken → List Column
+with_reply got (Some (TakesReply a r)) = if (r.verdict == PERFORMED) && not a.write then got ++ got_of a r ∷ [] else got
+with_reply got t = got
 
--- something was read, which performed replies alone give
-abbrev pub HasGot : Phase → Type 0
-HasGot (Reads io) = io.got ≢ []
-HasGot (Probes io) = io.got ≢ []
-HasGot p = ⊥
+-- a new call has read nothing
+abbrev pub kept_by : Option Call → List Column → List Column
+kept_by None got = []
+kept_by (Some call) got = got
 
--- what reads has a byte below the size to read
-abbrev pub HasBytes : CallOp → Held → Phase → Type 0
-HasBytes op h (Reads io) = 0 < (clipped h.size (span_of op)).length
-HasBytes op h p = Unit {0}
+-- what the pending call has read once this came
+abbrev pub read_after : Client → List Column → Input → List Column
+read_after c got (Hears from m) = with_reply (kept_by c.call got) (takes c from m)
+read_after c got i = kept_by c.call got
 
--- a read is answered by a performed reply, or by a timeout once something was read, and never at its begin
-pub record ReadsTookReplies : Type 0 where
-  pub replied : (h : Held) (op : CallOp) (p : Phase) (a : Awaited) (r : Reply) → AnswersRead (replied h op p a r).turn → r.verdict ≡ 0
-  pub timed : (h : Held) (op : CallOp) (p : Phase) (k : ℕ) (a : Awaited) (xs : List Awaited) → IsChecked h.map → HasBytes op h p → AnswersRead (timed_out h op p k a xs).turn → HasGot p
-  pub begun : (h : Held) (op : CallOp) → IsChecked h.map → AnswersRead (begins h op).turn → ⊥
+-- and once all of these came
+abbrev pub read_by : Client → List Column → List Input → List Column
+read_by c got [] = got
+read_by c got (i ∷ is) = read_by (step c i).client (read_after c got i) is
+
+-- these bytes are what the pending call's range has by what was read, under the grant that is held, with some components out
+pub record IsAnswer (c : Client) (got : List Column) (bytes : List ℕ) : Type 0 where
+  pub call : Call
+  pub pending : c.call ≡ Some call
+  pub held : Held
+  pub holds : held_of c.held (file_of call.op) ≡ Some held
+  pub checked : IsChecked held.map
+  pub some : got ≢ []
+  pub out : List ℕ
+  pub answer : bytes ≡ answered held.map (clipped held.size (span_of call.op)) got out
+
+-- so a read is answered, after any list of inputs to a new client, by what the performed READs gave whose replies its call took
+abbrev pub ReadsTookReplies : Type 0
+ReadsTookReplies =
+    (number sequence : ℕ) (is : List Input) (i : Input) (bytes : List ℕ) →
+    (step (state_after (new_client number sequence) is) i).outcome ≡ Some (ReadOk bytes) →
+    IsAnswer (state_after (new_client number sequence) is)
+    (read_after (state_after (new_client number sequence) is) (read_by (new_client number sequence) [] is) i) bytes

@@ -11,7 +11,8 @@ pub fn nonces_rise()
     ensures { NoncesRise }
 {}
 
-/// A read is answered only once a performed reply was taken.
+/// Whatever came to the client since it was new, the answer of a read follows from the performed READs
+/// whose replies its call took, and there is at least one.
 pub fn reads_took_replies()
     ensures { ReadsTookReplies }
 {}
