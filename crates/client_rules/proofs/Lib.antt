@@ -7,6 +7,7 @@ pub mod KnownMaps
 pub mod TakenMaps
 pub mod ReadMoves
 pub mod ReadSteps
+pub mod Others
 mod Opened
 mod RowsGather
 mod RowsIntervals
@@ -33,3 +34,4 @@ mod RowsLimits
 mod RowsShort
 mod RowsStatuses
 mod RowsBadLayout
+mod RowsTables

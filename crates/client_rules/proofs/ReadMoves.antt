@@ -166,9 +166,9 @@ reads_unless_good h op got timed awaited (Some ps) ch some rs u = turned_good h 
 reads_unless_good h op got timed awaited None ch some rs u =
     reads_on_good h op got timed _ _ some
     (λ none. λ g.
-      let free : awaited ≡ [] = front_none awaited _ none in
-      let due = no_commands h _ (rest_none awaited _ none) in
-      some_asked h.map (clipped h.size (span_of op)) (outs h timed) ch some u (rw (g, free) at due))
+    let free : awaited ≡ [] = front_none awaited _ none in
+    let due = no_commands h _ (rest_none awaited _ none) in
+    some_asked h.map (clipped h.size (span_of op)) (outs h timed) ch some u (rw (g, free) at due))
     (all_reads awaited _ rs (commands_read h _))
 
 reads_good : (h : Held) (op : CallOp) (got : List Column) (timed : List TimedOut) (awaited : List Awaited) →
@@ -198,9 +198,9 @@ unfolding had_positions
 probes_sent_good h op got timed awaited p ch none rs kept =
     probes_on_good h op got timed _ _ none
     (λ empty. λ g.
-      let free : awaited ≡ [] = front_none awaited _ empty in
-      let due = no_commands h _ (rest_none awaited _ empty) in
-      due_some h (outs h timed) p ch kept (rw (g, free) at due))
+    let free : awaited ≡ [] = front_none awaited _ empty in
+    let due = no_commands h _ (rest_none awaited _ empty) in
+    due_some h (outs h timed) p ch kept (rw (g, free) at due))
     (all_reads awaited _ rs (commands_read h _))
 
 probes_by_good : (h : Held) (op : CallOp) (got : List Column) (timed : List TimedOut) (awaited : List Awaited) (o : Option ℕ) →

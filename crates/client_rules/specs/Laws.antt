@@ -1,20 +1,21 @@
 -- What holds of every step of a client.
-use Rattle.std.specs.Prelude.{◌≡◌, ◌≢◌, ◌<◌, ◌≤◌, ℕ, ◌+◌, ◌==◌, ◌&&◌, not, if◌then◌else◌, List, [], ◌∷◌, ◌++◌, length, map, slice_index, Option, Some, None}
+use Rattle.std.specs.Prelude.{◌≡◌, ◌≢◌, ◌<◌, ◌≤◌, ℕ, ◌+◌, ◌==◌, ◌&&◌, not, if◌then◌else◌, List, [], ◌∷◌, ◌++◌, length, map, slice_index, Option, Some, None, Err}
 use Rattle.std.specs.List.{range_with_len}
+use Rattle.osd_bytes.specs.declared.node.Node.{Node}
 use Rattle.data_map.specs.Check.{IsChecked}
 use Rattle.stripe_plan.specs.Words.{answered}
 use Rattle.client_rules.specs.declared.limits.TheConstants.{PERFORMED}
-use Rattle.client_rules.specs.State.{Client, Call, CallOp, Held, Awaited, TimedOut, Phase, Starts, Needs, Waits, Reads, Probes, Gathers, Scatters, ReadOk, Moved, Reply, Answer, Column}
+use Rattle.client_rules.specs.State.{Client, Call, CallOp, CallErr, Held, Awaited, TimedOut, Phase, Starts, Needs, Waits, Reads, Probes, Gathers, Scatters, ReadOk, Moved, Reply, Answer, Column}
 use Rattle.client_rules.specs.Calls.{file_of, span_of}
 use Rattle.client_rules.specs.Grants.{clipped, held_of}
-use Rattle.client_rules.specs.Commands.{nonce_at}
+use Rattle.client_rules.specs.Commands.{nonce_at, of_component}
 use Rattle.client_rules.specs.Io.{got_of}
 use Rattle.client_rules.specs.Replies.{replied, timed_out}
 use Rattle.client_rules.specs.Answers.{on_commit}
 use Rattle.client_rules.specs.Going.{begins}
-use Rattle.client_rules.specs.Messages.{Taken, TakesReply, takes}
-use Rattle.client_rules.specs.Steps.{new_client}
-use Rattle.client_rules.specs.History.{Input, Hears, step, state_after}
+use Rattle.client_rules.specs.Messages.{Message, Taken, TakesReply, takes, awaited_of, still}
+use Rattle.client_rules.specs.Steps.{calls, new_client}
+use Rattle.client_rules.specs.History.{Input, Calls, Hears, TimesOut, step, state_after}
 
 -- ---- a phase that waits for drives awaits something
 
@@ -109,3 +110,11 @@ ReadsTookReplies =
     (step (state_after (new_client number sequence) is) i).outcome ≡ Some (ReadOk bytes) →
     IsAnswer (state_after (new_client number sequence) is)
     (read_after (state_after (new_client number sequence) is) (read_by (new_client number sequence) [] is) i) bytes
+
+-- ---- what changes nothing
+
+-- a message that isn't taken, a timeout of a component of which nothing is awaited, and a call that is refused
+pub record OthersChangeNothing : Type 0 where
+  pub untaken : (c : Client) (from : Node) (m : Message) → takes c from m ≡ None → step c (Hears from m) ≡ still c
+  pub unawaited : (c : Client) (k : ℕ) → of_component k (awaited_of c.call) ≡ [] → step c (TimesOut k) ≡ still c
+  pub refused : (c : Client) (op : CallOp) (e : CallErr) → calls c op ≡ Err e → step c (Calls op) ≡ still c

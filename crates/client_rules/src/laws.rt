@@ -1,5 +1,5 @@
 // What holds of every step, for the crates above.
-ghost use Rattle.client_rules.specs.Laws.{EachRestAwaitsSomething, NoncesRise, ReadsTookReplies};
+ghost use Rattle.client_rules.specs.Laws.{EachRestAwaitsSomething, NoncesRise, OthersChangeNothing, ReadsTookReplies};
 
 /// A call that waits for drives awaits a reply, whatever came to the client since it was new.
 pub fn each_rest_awaits_something()
@@ -15,4 +15,10 @@ pub fn nonces_rise()
 /// whose replies its call took, and there is at least one.
 pub fn reads_took_replies()
     ensures { ReadsTookReplies }
+{}
+
+/// A message that isn't taken, a timeout where nothing is awaited of the component, and a call that is
+/// refused change nothing and send nothing.
+pub fn others_change_nothing()
+    ensures { OthersChangeNothing }
 {}

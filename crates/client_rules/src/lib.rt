@@ -16,7 +16,9 @@ mod steps;
 pub use calls::{Awaited, AwaitedCommands, Call, CallOp, Io, Need, Phase, TimedOut, TimedOuts};
 pub use client::{Client, Outgoing};
 pub use grants::{Credential, Due, Held, Listed, Reach};
-pub use laws::{each_rest_awaits_something, nonces_rise, reads_took_replies};
+pub use laws::{
+    each_rest_awaits_something, nonces_rise, others_change_nothing, reads_took_replies,
+};
 pub use limits::{
     BAD_CHECK_VALUE, EXPIRED, GREATEST_SEQUENCE, LANE_FULL, LOSS_TAKEN, MAX_CALL, MAX_CLIENT,
     MAX_COUNT, MAX_DRIVE, MAX_FILE_COMPONENTS, MAX_LAYOUT, MAX_TRIES, NO_COMPONENT, NO_KEY,
