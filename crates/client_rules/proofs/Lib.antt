@@ -5,6 +5,7 @@ pub mod Asked
 pub mod Probed
 pub mod KnownMaps
 pub mod TakenMaps
+pub mod Apart
 pub mod ReadMoves
 pub mod ReadSteps
 pub mod Others

@@ -1,5 +1,5 @@
 -- What a call does with the drives keeps what it has read, and answers a read from that.
-use Rattle.std.proofs.Common.{◌≡◌, ◌≢◌, ◌<◌, ℕ, ◌+◌, ◌/◌, ◌==◌, Bool, true, false, List, [], ◌∷◌, ◌++◌, refl, sym, ◌⊎◌, arith, inl, inr, eq-eqb, ne_eqb}
+use Rattle.std.proofs.Common.{◌≡◌, ◌≢◌, ◌<◌, ℕ, ◌+◌, ◌/◌, ◌==◌, Bool, true, false, List, [], ◌∷◌, ◌++◌, refl, sym, arith, inl, inr, eq-eqb, ne_eqb}
 use Rattle.std.specs.Prelude.{if◌then◌else◌, filter, find, Option, Some, None}
 use Rattle.std.proofs.lemmas.Bool.{cases_Bool, cases_eq}
 use Rattle.data_map.specs.Check.{IsChecked}
@@ -22,7 +22,8 @@ use Rattle.client_rules.specs.Replies.{refusal, refused_report, refused, perform
 use Rattle.client_rules.specs.Answers.{committed, not_committed, on_commit}
 use Rattle.client_rules.specs.Going.{begins}
 use Rattle.client_rules.specs.Messages.{TakesReply}
-use Rattle.client_rules.specs.Laws.{with_reply}
+use Rattle.client_rules.specs.Laws.{with_reply, NoneTo, AreApart}
+use Rattle.client_rules.proofs.Apart.{IsIn, others_apart, rest_apart, others_none, next_apart, firsts_apart}
 use Rattle.client_rules.proofs.Asked.{some_asked, front_none, rest_none}
 use Rattle.client_rules.proofs.Probed.{no_commands, due_some}
 
@@ -60,11 +61,6 @@ others_read xs nonce x = some_reads _ xs x
 rest_read : (xs : List Awaited) (k : ℕ) → AreReads xs → AreReads (not_of k xs)
 unfolding not_of
 rest_read xs k x = some_reads _ xs x
-
--- one of these
-abbrev pub IsIn : Awaited → List Awaited → Type 0
-IsIn a [] = ⊥
-IsIn a (x ∷ xs) = (a ≡ x) ⊎ IsIn a xs
 
 pub found_in : (p : Awaited → Bool) (xs : List Awaited) (a : Awaited) → find p xs ≡ Some a → IsIn a xs
 found_in p [] a e = absurd (cc e)
@@ -109,7 +105,7 @@ GoodPhase h op (Waits n) got = GoodNeed n got
 GoodPhase h op (Reads io) got = (0 < (clipped h.size (span_of op)).length) × (io.got ≡ got) × AreReads io.awaited
 GoodPhase h op (Probes io) got = ((clipped h.size (span_of op)).length ≡ 0) × (io.got ≡ got) × AreReads io.awaited
 GoodPhase h op (Gathers io) got = Unit {0}
-GoodPhase h op (Scatters io queue) got = Unit {0}
+GoodPhase h op (Scatters io queue) got = AreApart io.awaited
 
 -- bytes that follow from what was read, which is something
 abbrev pub Follows : Held → CallOp → List Column → List ℕ → Type 0
@@ -226,18 +222,18 @@ written_good : (h k l : Held) (op : CallOp) (timed : List TimedOut) (got : List 
 unfolding written
 written_good h k l op timed got = either_turn h k op got _ _ _ (goes _ _ _ _ _ tt) (accounted_good h k op timed got)
 
-scatters_on_good : (h : Held) (op : CallOp) (timed : List TimedOut) (queue : List Store) (sent awaited : List Awaited) (got : List Column) → GoodMoved h op (scatters_on h op timed queue sent awaited) got
+scatters_on_good : (h : Held) (op : CallOp) (timed : List TimedOut) (queue : List Store) (sent awaited : List Awaited) (got : List Column) → AreApart awaited → GoodMoved h op (scatters_on h op timed queue sent awaited) got
 unfolding scatters_on
-scatters_on_good h op timed queue sent [] got = record { file = refl; map = refl; turn = written_good _ _ h op timed got }
-scatters_on_good h op timed queue sent (a ∷ xs) got = record { file = refl; map = refl; turn = goes _ _ _ _ _ tt }
+scatters_on_good h op timed queue sent [] got x = record { file = refl; map = refl; turn = written_good _ _ h op timed got }
+scatters_on_good h op timed queue sent (a ∷ xs) got x = record { file = refl; map = refl; turn = goes _ _ _ _ _ x }
 
 scatters_good : (h : Held) (op : CallOp) (cols : List Column) (timed : List TimedOut) (got : List Column) → GoodMoved h op (scatters h op cols timed) got
 unfolding scatters
-scatters_good h op cols timed got = scatters_on_good h op timed _ _ _ got
+scatters_good h op cols timed got = scatters_on_good h op timed _ _ _ got (firsts_apart h _)
 
-scatters_next_good : (h : Held) (op : CallOp) (timed : List TimedOut) (queue : List Store) (k : ℕ) (awaited : List Awaited) (got : List Column) → GoodMoved h op (scatters_next h op timed queue k awaited) got
+scatters_next_good : (h : Held) (op : CallOp) (timed : List TimedOut) (queue : List Store) (k : ℕ) (awaited : List Awaited) (got : List Column) → AreApart awaited → NoneTo k awaited → GoodMoved h op (scatters_next h op timed queue k awaited) got
 unfolding scatters_next
-scatters_next_good h op timed queue k awaited got = scatters_on_good h op timed _ _ _ got
+scatters_next_good h op timed queue k awaited got x n = scatters_on_good h op timed _ _ _ got (next_apart h k queue awaited x n)
 
 gathers_on_good : (h : Held) (op : CallOp) (cols : List Column) (timed : List TimedOut) (sent awaited : List Awaited) (got : List Column) → GoodMoved h op (gathers_on h op cols timed sent awaited) got
 unfolding gathers_on
@@ -285,7 +281,7 @@ replied_good h op (Probes io) a r got g i =
       | inr other ↦ rw (ne_eqb r.verdict 0 other) (refused_good h op (Probes io) a r got)
     ]
 replied_good h op (Gathers io) a r got g i = either h op _ _ _ _ (gathers_on_good h op _ io.timed [] _ _) (refused_good h op (Gathers io) a r _)
-replied_good h op (Scatters io queue) a r got g i = either h op _ _ _ _ (scatters_next_good h op io.timed queue _ _ _) (refused_good h op (Scatters io queue) a r _)
+replied_good h op (Scatters io queue) a r got g i = either h op _ _ _ _ (scatters_next_good h op io.timed queue _ _ _ (others_apart io.awaited a.command.nonce g) (others_none io.awaited a g i)) (refused_good h op (Scatters io queue) a r _)
 replied_good h op Starts a r got g i = absurd i
 replied_good h op (Needs need) a r got g i = absurd i
 replied_good h op (Waits need) a r got g i = absurd i
@@ -297,18 +293,18 @@ unfolding gather_timed
 gather_timed_good h op io k timed got =
     either h op got (is_too_short h op timed) (ended h (Silent k)) (gathers h op io.got timed (not_of k io.awaited)) (turned_good h op _ got (ends _ _ _ _ _ tt)) (gathers_good h op io.got timed _ got)
 
-scatter_timed_good : (h : Held) (op : CallOp) (io : Io) (queue : List Store) (k : ℕ) (timed : List TimedOut) (got : List Column) → GoodMoved h op (scatter_timed h op io queue k timed) got
+scatter_timed_good : (h : Held) (op : CallOp) (io : Io) (queue : List Store) (k : ℕ) (timed : List TimedOut) (got : List Column) → AreApart io.awaited → GoodMoved h op (scatter_timed h op io queue k timed) got
 unfolding scatter_timed
-scatter_timed_good h op io queue k timed got =
+scatter_timed_good h op io queue k timed got x =
     either h op got (is_too_short h op timed) (turned h (closing (Silent k) (report_of h timed))) (scatters_on h op timed (without_component k queue) [] (not_of k io.awaited))
-    (turned_good h op _ got (goes _ _ _ _ _ tt)) (scatters_on_good h op timed _ [] _ got)
+    (turned_good h op _ got (goes _ _ _ _ _ tt)) (scatters_on_good h op timed _ [] _ got (rest_apart k io.awaited x))
 
 pub timed_good : (h : Held) (op : CallOp) (p : Phase) (k : ℕ) (a : Awaited) (xs : List Awaited) (got : List Column) → IsChecked h.map → GoodPhase h op p got →
     GoodMoved h op (timed_out h op p k a xs) got
 timed_good h op (Reads io) k a xs got ch g = rw (sym g.1) (reads_good h op io.got _ _ ch g.0 (rest_read io.awaited k g.2))
 timed_good h op (Probes io) k a xs got ch g = rw (sym g.1) (probes_good h op io.got _ _ ch g.0 (rest_read io.awaited k g.2))
 timed_good h op (Gathers io) k a xs got ch g = gather_timed_good h op io k _ got
-timed_good h op (Scatters io queue) k a xs got ch g = scatter_timed_good h op io queue k _ got
+timed_good h op (Scatters io queue) k a xs got ch g = scatter_timed_good h op io queue k _ got g
 timed_good h op Starts k a xs got ch g = turned_good h op _ got (goes _ _ _ _ _ g)
 timed_good h op (Needs need) k a xs got ch g = turned_good h op _ got (goes _ _ _ _ _ g)
 timed_good h op (Waits need) k a xs got ch g = turned_good h op _ got (goes _ _ _ _ _ g)

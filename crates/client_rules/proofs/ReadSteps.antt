@@ -23,9 +23,10 @@ use Rattle.client_rules.specs.Messages.{Message, Replies, Answers, Recalls, Step
 use Rattle.client_rules.specs.Steps.{timeout_under, timeout_call, times_out, is_bad_range, is_spent, writes_nothing, starts, calls, all_due, leaves, new_client}
 use Rattle.client_rules.specs.Writes.{lowest}
 use Rattle.client_rules.specs.History.{Input, Calls, Hears, TimesOut, Leaves, Resends, unless_refused, step, state_after}
-use Rattle.client_rules.specs.Laws.{with_reply, kept_by, read_after, read_by, IsAnswer, ReadsTookReplies}
+use Rattle.client_rules.specs.Laws.{with_reply, kept_by, read_after, read_by, IsAnswer, ReadsTookReplies, AreApart, WritesApart, CallApart, OneWriteEach}
 use Rattle.client_rules.proofs.TakenMaps.{taken_checked}
-use Rattle.client_rules.proofs.ReadMoves.{IsIn, found_in, FitsOutcome, AnswersNone, weaker, GoodNeed, GoodPhase, Follows, GoodTurn, GoodMoved, replied_good, timed_good, begins_good, on_commit_good}
+use Rattle.client_rules.proofs.Apart.{IsIn}
+use Rattle.client_rules.proofs.ReadMoves.{found_in, FitsOutcome, AnswersNone, weaker, GoodNeed, GoodPhase, Follows, GoodTurn, GoodMoved, replied_good, timed_good, begins_good, on_commit_good}
 
 -- ---- held grants
 
@@ -98,7 +99,7 @@ GoodAt hs op (Waits n) got = GoodNeed n got
 GoodAt hs op (Reads io) got = (h : Held) × (held_of hs (file_of op) ≡ Some h) × GoodPhase h op (Reads io) got
 GoodAt hs op (Probes io) got = (h : Held) × (held_of hs (file_of op) ≡ Some h) × GoodPhase h op (Probes io) got
 GoodAt hs op (Gathers io) got = Unit {0}
-GoodAt hs op (Scatters io queue) got = Unit {0}
+GoodAt hs op (Scatters io queue) got = AreApart io.awaited
 
 abbrev GoodCall : List Held → Option Call → List Column → Type 0
 GoodCall hs None got = Unit {0}
@@ -131,7 +132,7 @@ at_phase hs op (Waits n) got k e x = x
 at_phase hs op (Reads io) got k e x = (k, e, x)
 at_phase hs op (Probes io) got k e x = (k, e, x)
 at_phase hs op (Gathers io) got k e x = tt
-at_phase hs op (Scatters io queue) got k e x = tt
+at_phase hs op (Scatters io queue) got k e x = x
 
 -- the phase under the grant that is held
 in_phase : (hs : List Held) (op : CallOp) (p : Phase) (got : List Column) (h : Held) → held_of hs (file_of op) ≡ Some h → GoodAt hs op p got → GoodPhase h op p got
@@ -141,7 +142,7 @@ in_phase hs op (Waits n) got h e x = x
 in_phase hs op (Reads io) got h e x = let same : x.0 ≡ h = cc (sym x.1 ∙ e) in rw same at x.2
 in_phase hs op (Probes io) got h e x = let same : x.0 ≡ h = cc (sym x.1 ∙ e) in rw same at x.2
 in_phase hs op (Gathers io) got h e x = tt
-in_phase hs op (Scatters io queue) got h e x = tt
+in_phase hs op (Scatters io queue) got h e x = x
 
 by_turn_good : (Fit : List ℕ → Type 0) (d : Done) (op : CallOp) (h k : Held) (got : List Column) (t : Turn) → AreChecked d.client.held →
     held_of d.client.held (file_of op) ≡ Some k → GoodTurn h k op t got → ((bytes : List ℕ) → Follows h op got bytes → Fit bytes) → Fits Fit d.outcome → GoodDone Fit (by_turn d op t) got
@@ -337,7 +338,7 @@ without_grant hs op (Waits n) a got more e i x = absurd i
 without_grant hs op (Reads io) a got more e i x = let same : Some x.0 ≡ None = sym x.1 ∙ e in absurd (cc same)
 without_grant hs op (Probes io) a got more e i x = let same : Some x.0 ≡ None = sym x.1 ∙ e in absurd (cc same)
 without_grant hs op (Gathers io) a got more e i x = tt
-without_grant hs op (Scatters io queue) a got more e i x = tt
+without_grant hs op (Scatters io queue) a got more e i x = x
 
 -- the answer to the pending call's read
 answer_of : (c : Client) (call : Call) (h : Held) (got : List Column) (bytes : List ℕ) → c.call ≡ Some call → held_of c.held (file_of call.op) ≡ Some h → IsChecked h.map → Follows h call.op got bytes → IsAnswer c got bytes
@@ -465,3 +466,18 @@ reads_took_replies = λ number sequence is i bytes e.
     let got : List Column = read_by (new_client number sequence) [] is in
     let g : IsGood c got = all_good (new_client number sequence) [] is (record { checked = tt; call = tt }) in
     fits_answer (IsAnswer c (read_after c got i)) (step c i).outcome bytes e (step_good c got i g).outcome
+
+-- ---- one WRITE at a time
+
+phase_apart : (hs : List Held) (op : CallOp) (p : Phase) (got : List Column) → GoodAt hs op p got → WritesApart p
+phase_apart hs op (Scatters io queue) got x = x
+phase_apart hs op p got x = tt
+
+call_apart : (hs : List Held) (o : Option Call) (got : List Column) → GoodCall hs o got → CallApart o
+call_apart hs None got x = tt
+call_apart hs (Some call) got x = phase_apart hs call.op call.phase got x
+
+pub one_write_each : OneWriteEach
+one_write_each = λ number sequence is.
+    call_apart (state_after (new_client number sequence) is).held (state_after (new_client number sequence) is).call
+    (read_by (new_client number sequence) [] is) (all_good (new_client number sequence) [] is (record { checked = tt; call = tt })).call

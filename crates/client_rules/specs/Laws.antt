@@ -111,6 +111,32 @@ ReadsTookReplies =
     IsAnswer (state_after (new_client number sequence) is)
     (read_after (state_after (new_client number sequence) is) (read_by (new_client number sequence) [] is) i) bytes
 
+-- ---- a component is sent one WRITE at a time
+
+-- none of these commands is to component k
+abbrev pub NoneTo : (k : ℕ) → List Awaited → Type 0
+NoneTo k [] = Unit {0}
+NoneTo k (a ∷ xs) = (a.ask.component ≡ k → ⊥) × NoneTo k xs
+
+-- no two of them are to one component
+abbrev pub AreApart : List Awaited → Type 0
+AreApart [] = Unit {0}
+AreApart (a ∷ xs) = NoneTo a.ask.component xs × AreApart xs
+
+-- those that a scatter awaits
+abbrev pub WritesApart : Phase → Type 0
+WritesApart (Scatters io queue) = AreApart io.awaited
+WritesApart p = Unit {0}
+
+-- those of a call
+abbrev pub CallApart : Option Call → Type 0
+CallApart None = Unit {0}
+CallApart (Some call) = WritesApart call.phase
+
+-- so it is after any list of inputs to a new client
+abbrev pub OneWriteEach : Type 0
+OneWriteEach = (number sequence : ℕ) (is : List Input) → CallApart (state_after (new_client number sequence) is).call
+
 -- ---- what changes nothing
 
 -- a message that isn't taken, a timeout of a component of which nothing is awaited, and a call that is refused

@@ -1,5 +1,5 @@
 // What holds of every step, for the crates above.
-ghost use Rattle.client_rules.specs.Laws.{EachRestAwaitsSomething, NoncesRise, OthersChangeNothing, ReadsTookReplies};
+ghost use Rattle.client_rules.specs.Laws.{EachRestAwaitsSomething, NoncesRise, OneWriteEach, OthersChangeNothing, ReadsTookReplies};
 
 /// A call that waits for drives awaits a reply, whatever came to the client since it was new.
 pub fn each_rest_awaits_something()
@@ -21,4 +21,9 @@ pub fn reads_took_replies()
 /// refused change nothing and send nothing.
 pub fn others_change_nothing()
     ensures { OthersChangeNothing }
+{}
+
+/// A write awaits at most one WRITE of each component, whatever came to the client since it was new.
+pub fn one_write_each()
+    ensures { OneWriteEach }
 {}

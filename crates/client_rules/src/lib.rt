@@ -17,7 +17,8 @@ pub use calls::{Awaited, AwaitedCommands, Call, CallOp, Io, Need, Phase, TimedOu
 pub use client::{Client, Outgoing};
 pub use grants::{Credential, Due, Held, Listed, Reach};
 pub use laws::{
-    each_rest_awaits_something, nonces_rise, others_change_nothing, reads_took_replies,
+    each_rest_awaits_something, nonces_rise, one_write_each, others_change_nothing,
+    reads_took_replies,
 };
 pub use limits::{
     BAD_CHECK_VALUE, EXPIRED, GREATEST_SEQUENCE, LANE_FULL, LOSS_TAKEN, MAX_CALL, MAX_CLIENT,
