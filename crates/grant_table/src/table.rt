@@ -1,4 +1,4 @@
-ghost use Rattle.std.specs.Prelude.{◌≡◌, [], ◌∷◌, ◌++◌, ℕ, Err, find, MatchOption, IsSome, IfSome, IfNone, OnOk, OnErr, IfErr, IfOk};
+ghost use Rattle.std.specs.Prelude.{◌≡◌, [], ◌∷◌, ◌++◌, ℕ, Err, find, is_some, MatchOption, IsSome, IfSome, IfNone, OnOk, OnErr, IfErr, IfOk};
 ghost use Rattle.server_rules.specs.Laws.{Apart};
 ghost use Rattle.grant_table.specs.declared.file_grants.GrantErr.TheVariants.{Memory as NoMemory};
 ghost use Rattle.grant_table.specs.Refusals.{refusal};
@@ -25,6 +25,9 @@ pub struct NoGrant;
 pub struct Grants {
     alloc: Global,
     by_file: BTreeMap<u32, FileGrants>,
+    // The file of each grant by its number, so that one is found without looking through all files. Where
+    // it names none, or one without the grant, the files are looked through all the same.
+    file_by_number: BTreeMap<u32, u32>,
 }
 
 impl Model for Grants {
@@ -47,6 +50,46 @@ fn file_with(by_file: &BTreeMap<u32, FileGrants>, number: u32) -> Option<u32>
         }
     }
     None
+}
+
+// Whether the file has a grant of that number.
+fn holds(by_file: &BTreeMap<u32, FileGrants>, file: u32, number: u32) -> bool
+    ensures { result ≡ is_some (find (has_number number) (grants_of by_file.now.entries file)) }
+{
+    match by_file.get(&file) {
+        Some(grants) => grants.has(number),
+        None => false,
+    }
+}
+
+// A file that has a grant of that number: where this one has it, this one.
+fn locate(by_file: &BTreeMap<u32, FileGrants>, likely: Option<u32>, number: u32) -> Option<u32>
+    ensures some { IfSome result (λ file. IsSome (find (has_number number) (grants_of by_file.now.entries file))) }
+    ensures none { IfNone result (HasNone number by_file.now.entries) }
+{
+    match likely {
+        Some(file) if holds(by_file, file, number) => Some(file),
+        _ => file_with(by_file, number),
+    }
+}
+
+// Adds a grant to those of its file, as the newest.
+fn add_to(
+    by_file: &mut BTreeMap<u32, FileGrants>,
+    alloc: Global,
+    grant: Grant,
+) -> Result<(), GrantErr>
+    ensures refused { MatchOption (refusal (grants_of by_file.old.entries grant.file) grant) (IfErr result (λ e. e ≡ NoMemory)) (λ e. result ≡ Err e) }
+    ensures ok { OnOk result (Replaces by_file.old.entries grant.file (grants_of by_file.old.entries grant.file ++ grant ∷ []) by_file.new.entries) }
+    ensures err { OnErr result (Same by_file.old.entries by_file.new.entries) }
+{
+    if let Some(grants) = by_file.get_mut(&grant.file) {
+        return grants.add(grant);
+    }
+    let mut grants = FileGrants::new(alloc);
+    grants.add(grant)?;
+    by_file.insert(grant.file, grants)?;
+    Ok(())
 }
 
 // Takes out the file's first grant of that number.
@@ -81,6 +124,7 @@ impl Grants {
         Grants {
             alloc,
             by_file: BTreeMap::new(alloc),
+            file_by_number: BTreeMap::new(alloc),
         }
     }
 
@@ -94,16 +138,13 @@ impl Grants {
         ensures ok { OnOk result (Replaces self.old grant.file (grants_of self.old grant.file ++ grant ∷ []) self.new) }
         ensures err { OnErr result (Same self.old self.new) }
     {
-        if let Some(grants) = self.by_file.get_mut(&grant.file) {
-            return grants.add(grant);
-        }
-        let mut grants = FileGrants::new(self.alloc);
-        grants.add(grant)?;
-        self.by_file.insert(grant.file, grants)?;
+        add_to(&mut self.by_file, self.alloc, grant)?;
+        // Where there is no memory for it, the grant is found all the same.
+        let _ = self.file_by_number.insert(grant.number, grant.file);
         Ok(())
     }
 
-    /// Takes out the grant of that number; where several have it, the oldest of the first such file.
+    /// Takes out the grant of that number; where several have it, one that is the oldest such of its file.
     ///
     /// # Errors
     ///
@@ -112,7 +153,8 @@ impl Grants {
         ensures ok { IfOk result (λ g. (file : ℕ) × Removes self.old number file g self.new) }
         ensures err { OnErr result (HasNone number self.old × Same self.old self.new) }
     {
-        let file = match file_with(&self.by_file, number) {
+        let likely = self.file_by_number.remove(&number);
+        let file = match locate(&self.by_file, likely, number) {
             Some(file) => file,
             None => return Err(NoGrant),
         };

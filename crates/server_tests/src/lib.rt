@@ -1,0 +1,7 @@
+//! Tests of the metadata server's parts, over their public calls.
+#![tactic(auto)]
+
+#[cfg(test)]
+mod fences;
+#[cfg(test)]
+mod grants;
