@@ -1,4 +1,4 @@
--- Histories: the lines of a run, their text, the log of each file, and what the drives hold.
+-- Histories: the lines of a run, the log of each file, and what the drives hold.
 use Rattle.std.specs.Prelude.{◌≡◌, ℕ, ◌==◌, if◌then◌else◌, Bool, true, false, List, [], ◌∷◌, ◌++◌, length, IsSome, Option, Some, None, map}
 use Rattle.std.specs.List.{flat_map}
 use Rattle.scenario_text.specs.declared.event.Event.{Event}
@@ -9,7 +9,6 @@ use Rattle.scenario_text.specs.declared.line.Line.{Line}
 use Rattle.scenario_text.specs.declared.line.Line.TheVariants.{Event as EventLine, Ended}
 use Rattle.scenario_text.specs.declared.line.Outcome.{Outcome}
 use Rattle.scenario_text.specs.declared.line.Outcome.TheVariants.{WriteOk, ReadOk}
-use Rattle.scenario_text.specs.LineSpelling.{line_text}
 use Rattle.file_log.specs.declared.entry.Entry.{Entry}
 use Rattle.file_log.specs.declared.entry.Entry.TheVariants.{Write, Read}
 use Rattle.file_log.specs.Judge.{Accepts, candidates, IsSettled}
@@ -18,10 +17,6 @@ use Rattle.layout_world.specs.Striped.{Holds}
 use Rattle.layout_world.specs.State.{ClusterState, new_cluster, file_at, IsWell}
 use Rattle.layout_world.specs.Events.{Carries}
 use Rattle.layout_world.specs.declared.file.StripedFile.{StripedFile}
-
--- the transcript: each line and its newline
-abbrev pub text : List Line → List ℕ
-text lines = flat_map (λ line. line_text line ++ 10 ∷ []) lines
 
 -- ---- the log of a file
 

@@ -4,13 +4,13 @@ use Rattle.scenario_text.specs.declared.event.Event.{Event}
 use Rattle.scenario_text.specs.declared.event.Event.TheVariants.{Drive, Disk, Client, Zone, Least, Do, Call, Resend, Timeout, Leave, Inject, Clock, Recall, Revoke, Rebuild, Audit, Declare, Stop, Fail, Crash, Reopen}
 use Rattle.scenario_text.specs.declared.event.Machine.TheVariants.{Drive as DriveMachine}
 use Rattle.scenario_text.specs.declared.event.Sender.TheVariants.{Client as ClientSender}
-use Rattle.layout_world.specs.declared.names.Name.{Name}
-use Rattle.layout_world.specs.declared.names.Name.TheVariants.{Drive as DriveName, Client as ClientName, File as FileName}
+use Rattle.layout_world.specs.declared.names.Subject.{Subject}
+use Rattle.layout_world.specs.declared.names.Subject.TheVariants.{Drive as DriveName, Client as ClientName, File as FileName}
 use Rattle.layout_world.specs.Cluster.{drive_at}
 use Rattle.layout_world.specs.State.{ClusterState, file_at, IsClient}
 
 -- what an event names, but for what it makes and for the files of calls
-abbrev pub named_of : Event → Option Name
+abbrev pub named_of : Event → Option Subject
 named_of (Zone d zone) = Some (DriveName d)
 named_of (Least d format) = Some (DriveName d)
 named_of (Inject d bytes) = Some (DriveName d)
@@ -32,23 +32,23 @@ named_of (Audit f) = Some (FileName f)
 named_of other = None
 
 -- the drive or client that an event makes
-abbrev pub made_of : Event → Option Name
+abbrev pub made_of : Event → Option Subject
 made_of (Drive d key capacity) = Some (DriveName d)
 made_of (Disk d key capacity) = Some (DriveName d)
 made_of (Client k) = Some (ClientName k)
 made_of other = None
 
-abbrev pub Exists : ClusterState → Name → Type 0
+abbrev pub Exists : ClusterState → Subject → Type 0
 Exists c (DriveName d) = IsSome (drive_at c.drives d)
 Exists c (ClientName k) = IsClient c k
 Exists c (FileName f) = IsSome (file_at c f)
 
 -- a name that isn't there is no lack, and is never taken
-abbrev pub AreThere : ClusterState → Option Name → Type 0
+abbrev pub AreThere : ClusterState → Option Subject → Type 0
 AreThere c None = Unit {0}
 AreThere c (Some name) = Exists c name
 
-abbrev pub AreTaken : ClusterState → Option Name → Type 0
+abbrev pub AreTaken : ClusterState → Option Subject → Type 0
 AreTaken c None = ⊥
 AreTaken c (Some name) = Exists c name
 

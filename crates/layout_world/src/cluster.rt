@@ -12,7 +12,7 @@ use crate::drives::Drives;
 use crate::err::WorldErr;
 use crate::file::{FIRST_OBJECT, MAX_CALL, OBJECTS_OF_A_FILE, StripedFile};
 use crate::making::make_objects;
-use crate::names::Name;
+use crate::names::Subject;
 use crate::placing::choose;
 use crate::striped::{has_room, load, store};
 use data_map::{DataMap, MAX_FILE_SIZE, RawMap};
@@ -76,14 +76,14 @@ impl Cluster {
     }
 
     /// Whether there is this drive, client or file.
-    pub fn exists(&self, name: Name) -> bool
+    pub fn exists(&self, name: Subject) -> bool
         requires { IsWell self.now }
         ensures { IsTrue result ↔ Exists self.now name }
     {
         match name {
-            Name::Drive { drive } => self.drives.contains(drive.number()),
-            Name::Client { client } => self.clients[client.number() as usize],
-            Name::File { file } => self.files.contains_key(&file.number()),
+            Subject::Drive { drive } => self.drives.contains(drive.number()),
+            Subject::Client { client } => self.clients[client.number() as usize],
+            Subject::File { file } => self.files.contains_key(&file.number()),
         }
     }
 

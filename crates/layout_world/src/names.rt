@@ -4,16 +4,16 @@ ghost use Rattle.layout_world.specs.Names.{named_of, made_of};
 
 use scenario_text::{ClientName, DriveName, Event, FileName, Machine, Sender};
 
-/// A drive, a client or a file.
+/// A drive, a client or a file that an event is about.
 #[derive(Clone, Copy, Debug, PartialEq, Eq)]
-pub enum Name {
+pub enum Subject {
     Drive { drive: DriveName },
     Client { client: ClientName },
     File { file: FileName },
 }
 
 /// What an event names, but for what it makes and for the files of calls.
-pub fn named(event: &Event) -> Option<Name>
+pub fn named(event: &Event) -> Option<Subject>
     ensures { result ≡ named_of event.now }
 {
     match event {
@@ -31,7 +31,7 @@ pub fn named(event: &Event) -> Option<Name>
         }
         | Event::Reopen {
             machine: Machine::Drive { drive },
-        } => Some(Name::Drive { drive: *drive }),
+        } => Some(Subject::Drive { drive: *drive }),
         Event::Do { client, .. }
         | Event::Call { client, .. }
         | Event::Timeout { client, .. }
@@ -39,24 +39,24 @@ pub fn named(event: &Event) -> Option<Name>
         | Event::Stop { client }
         | Event::Resend {
             sender: Sender::Client { client },
-        } => Some(Name::Client { client: *client }),
+        } => Some(Subject::Client { client: *client }),
         Event::Recall { file }
         | Event::Revoke { file }
         | Event::Rebuild { file }
-        | Event::Audit { file } => Some(Name::File { file: *file }),
+        | Event::Audit { file } => Some(Subject::File { file: *file }),
         _ => None,
     }
 }
 
 /// The drive or client that an event makes.
-pub fn made(event: &Event) -> Option<Name>
+pub fn made(event: &Event) -> Option<Subject>
     ensures { result ≡ made_of event.now }
 {
     match event {
         Event::Drive { drive, .. } | Event::Disk { drive, .. } => {
-            Some(Name::Drive { drive: *drive })
+            Some(Subject::Drive { drive: *drive })
         }
-        Event::Client { client } => Some(Name::Client { client: *client }),
+        Event::Client { client } => Some(Subject::Client { client: *client }),
         _ => None,
     }
 }

@@ -3,3 +3,4 @@ pub mod SoFar
 pub mod Promised
 pub mod Words
 pub mod Inspecting
+pub mod Stopping

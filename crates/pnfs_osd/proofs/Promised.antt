@@ -14,7 +14,8 @@ use Rattle.osd_bytes.proofs.Known.{Appends-then}
 use Rattle.scenario_text.specs.declared.line.Line.TheVariants.{Last}
 use Rattle.scenario_text.specs.declared.event.EventErr.TheVariants.{NotYet}
 use Rattle.layout_world.specs.State.{ClusterState, new_cluster}
-use Rattle.layout_world.specs.History.{Step, lines_of_steps, state_from, text}
+use Rattle.layout_world.specs.History.{Step, lines_of_steps, state_from}
+use Rattle.scenario_text.specs.LineSpelling.{lines_text}
 use Rattle.pnfs_osd.specs.Errors.{error_line, kind_name}
 use Rattle.pnfs_osd.specs.Puts.{Puts}
 use Rattle.pnfs_osd.specs.Finish.{Finishes, last_text}
@@ -58,7 +59,7 @@ all_lines (Some input) lines taken (Some rest) (Some later) r y = r.3 ∙ ap (λ
 runs : (input now : Option (List ℕ)) (taken : ℕ) (before after : Option (List ℕ)) (state : ClusterState) (number : ℕ) → (s : SoFar input now taken before after state number) → Runs input s.lines s.steps
 runs input now taken before after state number s = record { begins = begins input s.lines taken now s.reached; events = s.events; run = s.run }
 
-final_text_is : (steps : List Step) → final_text steps ≡ text (lines_of_steps steps) ++ last_text
+final_text_is : (steps : List Step) → final_text steps ≡ lines_text (lines_of_steps steps) ++ last_text
 final_text_is steps = text_more (lines_of_steps steps) (Last true true ∷ [])
 
 -- the front of some bytes and those behind them
@@ -72,7 +73,7 @@ finished b a now next taken middle state number failed Done s y end reads writes
   steps = s.steps;
   runs = runs b.left now taken b.taken middle state number s;
   all = all_lines b.left s.lines taken now next s.reached y;
-  out = subst (Appends b.taken a.taken) (sym (final_text_is s.steps)) (Appends-then b.taken middle a.taken (text (lines_of_steps s.steps)) last_text s.out fin.0);
+  out = subst (Appends b.taken a.taken) (sym (final_text_is s.steps)) (Appends-then b.taken middle a.taken (lines_text (lines_of_steps s.steps)) last_text s.out fin.0);
   at_end = end;
   reads = reads;
   writes = fin.1 ∙ writes;
@@ -81,9 +82,9 @@ finished b a now next taken middle state number failed WriteFault s y end reads 
   lines = s.lines;
   steps = s.steps;
   runs = runs b.left now taken b.taken middle state number s;
-  upto = length (text (lines_of_steps s.steps)) + fin.0;
-  out = subst (Appends b.taken a.taken) (sym (front_and_more (text (lines_of_steps s.steps)) last_text (final_text s.steps) fin.0 (final_text_is s.steps)))
-      (Appends-then b.taken middle a.taken (text (lines_of_steps s.steps)) (take fin.0 last_text) s.out fin.2);
+  upto = length (lines_text (lines_of_steps s.steps)) + fin.0;
+  out = subst (Appends b.taken a.taken) (sym (front_and_more (lines_text (lines_of_steps s.steps)) last_text (final_text s.steps) fin.0 (final_text_is s.steps)))
+      (Appends-then b.taken middle a.taken (lines_text (lines_of_steps s.steps)) (take fin.0 last_text) s.out fin.2);
   rose = subst (λ x. Rose x a.writes_failed) writes fin.3;
 }
 finished b a now next taken middle state number failed Memory s y end reads writes fin = record {
@@ -92,7 +93,7 @@ finished b a now next taken middle state number failed Memory s y end reads writ
   runs = runs b.left now taken b.taken middle state number s;
   number = 0;
   number_is = inr (refl, all_lines b.left s.lines taken now next s.reached y);
-  tells = tells b a middle (text (lines_of_steps s.steps)) (error_line 0 (codes "memory")) failed fin.0 s.out fin.1 writes;
+  tells = tells b a middle (lines_text (lines_of_steps s.steps)) (error_line 0 (codes "memory")) failed fin.0 s.out fin.1 writes;
 }
 finished b a now next taken middle state number failed BadWords s y end reads writes fin = absurd fin
 finished b a now next taken middle state number failed ReadFault s y end reads writes fin = absurd fin
@@ -113,7 +114,7 @@ stops_at b a now taken middle state number failed reason whole s writes put = re
   steps = s.steps;
   runs = runs b.left now taken b.taken middle state number s;
   number_is = ap (λ n. n + 1) s.count;
-  tells = tells b a middle (text (lines_of_steps s.steps)) (error_line (number + 1) reason) failed whole s.out put writes;
+  tells = tells b a middle (lines_text (lines_of_steps s.steps)) (error_line (number + 1) reason) failed whole s.out put writes;
 }
 
 pub no_line : (b a : Ends) (now : Option (List ℕ)) (taken : ℕ) (middle : Option (List ℕ)) (state : ClusterState) (number failed : ℕ) (whole : Bool) (e : LineErr) → SoFar b.left now taken b.taken middle state number →
@@ -139,7 +140,7 @@ no_line b a now taken middle state number failed whole LineMemory s next fault w
   runs = runs b.left now taken b.taken middle state number s;
   number = number + 1;
   number_is = inl (ap (λ n. n + 1) s.count);
-  tells = tells b a middle (text (lines_of_steps s.steps)) (error_line (number + 1) (codes "memory")) failed whole s.out put writes;
+  tells = tells b a middle (lines_text (lines_of_steps s.steps)) (error_line (number + 1) (codes "memory")) failed whole s.out put writes;
 }
 
 pub line_stopped : (b a : Ends) (now : Option (List ℕ)) (taken : ℕ) (middle : Option (List ℕ)) (state : ClusterState) (number failed : ℕ) (whole : Bool) (line : List ℕ) (stop : Stop) → SoFar b.left now taken b.taken middle state number →
@@ -157,7 +158,7 @@ line_stopped b a now taken middle state number failed whole line WantsMemory s n
   runs = runs b.left now taken b.taken middle state number s;
   number = number + 1;
   number_is = inl (ap (λ n. n + 1) s.count);
-  tells = tells b a middle (text (lines_of_steps s.steps)) (error_line (number + 1) (codes "memory")) failed whole s.out put writes;
+  tells = tells b a middle (lines_text (lines_of_steps s.steps)) (error_line (number + 1) (codes "memory")) failed whole s.out put writes;
 }
 
 -- the sink fails in the lines of an event: they are a part of that event's text
@@ -165,17 +166,17 @@ pub part_put : (b a : Ends) (now next : Option (List ℕ)) (taken more : ℕ) (m
     Yields now next (Ok (Some line)) → TakesLine taken more now next (Ok (Some line)) → CarriesLine state line bytes new → upto < length bytes → Appends middle a.taken (take upto bytes) → Rose b.writes_failed a.writes_failed → Promises b a WriteFault
 part_put b a now next taken more middle state new number upto line bytes s y t carried short out rose =
     let o = one_more s.lines s.steps line bytes state new s.events s.run s.state_is s.stands carried in
-    let whole : final_text o.steps_after ≡ text (lines_of_steps s.steps) ++ (bytes ++ last_text) =
-    final_text_is o.steps_after ∙ ap (λ (x : List ℕ). x ++ last_text) o.text_is ∙ append_assoc (text (lines_of_steps s.steps)) bytes last_text in
-    let part : take (length (text (lines_of_steps s.steps)) + upto) (final_text o.steps_after) ≡ text (lines_of_steps s.steps) ++ take upto bytes =
-    front_and_more (text (lines_of_steps s.steps)) (bytes ++ last_text) (final_text o.steps_after) upto whole
-    ∙ ap (λ (x : List ℕ). text (lines_of_steps s.steps) ++ x) (take-append-le upto bytes last_text (omega (arith, short))) in
+    let whole : final_text o.steps_after ≡ lines_text (lines_of_steps s.steps) ++ (bytes ++ last_text) =
+    final_text_is o.steps_after ∙ ap (λ (x : List ℕ). x ++ last_text) o.text_is ∙ append_assoc (lines_text (lines_of_steps s.steps)) bytes last_text in
+    let part : take (length (lines_text (lines_of_steps s.steps)) + upto) (final_text o.steps_after) ≡ lines_text (lines_of_steps s.steps) ++ take upto bytes =
+    front_and_more (lines_text (lines_of_steps s.steps)) (bytes ++ last_text) (final_text o.steps_after) upto whole
+    ∙ ap (λ (x : List ℕ). lines_text (lines_of_steps s.steps) ++ x) (take-append-le upto bytes last_text (omega (arith, short))) in
     record {
       lines = s.lines ++ line ∷ [];
       steps = o.steps_after;
       runs = record { begins = begins b.left (s.lines ++ line ∷ []) more next (reached_more b.left now next s.lines line taken more s.reached y t); events = o.events; run = o.run };
-      upto = length (text (lines_of_steps s.steps)) + upto;
-      out = subst (Appends b.taken a.taken) (sym part) (Appends-then b.taken middle a.taken (text (lines_of_steps s.steps)) (take upto bytes) s.out out);
+      upto = length (lines_text (lines_of_steps s.steps)) + upto;
+      out = subst (Appends b.taken a.taken) (sym part) (Appends-then b.taken middle a.taken (lines_text (lines_of_steps s.steps)) (take upto bytes) s.out out);
       rose = rose;
     }
 

@@ -11,7 +11,8 @@ use Rattle.scenario_text.specs.declared.line.Line.{Line}
 use Rattle.scenario_text.specs.LineSpelling.{line_text}
 use Rattle.layout_world.specs.State.{ClusterState, new_cluster}
 use Rattle.layout_world.specs.Events.{Carries}
-use Rattle.layout_world.specs.History.{Step, IsRunFrom, IsRun, IsLawful, StandsFor, lines_of_steps, events_of_steps, state_from, text}
+use Rattle.layout_world.specs.History.{Step, IsRunFrom, IsRun, IsLawful, StandsFor, lines_of_steps, events_of_steps, state_from}
+use Rattle.scenario_text.specs.LineSpelling.{lines_text}
 use Rattle.pnfs_osd.specs.Replay.{HasEvents}
 use Rattle.pnfs_osd.specs.LineCarried.{CarriesLine}
 
@@ -30,7 +31,7 @@ pub record SoFar (input now : Option (List ℕ)) (taken : ℕ) (before after : O
   pub run : IsRun steps
   pub state_is : state_from new_cluster steps ≡ state
   pub stands : StandsFor state (lines_of_steps steps)
-  pub out : Appends before after (text (lines_of_steps steps))
+  pub out : Appends before after (lines_text (lines_of_steps steps))
 
 -- ---- lists that grow at their end
 
@@ -56,7 +57,7 @@ state_more c (t ∷ steps) s = state_more t.after steps s
 lines_more : (steps : List Step) (s : Step) → lines_of_steps (steps ++ s ∷ []) ≡ lines_of_steps steps ++ s.lines
 lines_more steps s = flat_map-append (λ (t : Step). t.lines) steps (s ∷ []) ∙ ap (λ (x : List Line). lines_of_steps steps ++ x) (flat_map-cons (λ (t : Step). t.lines) s [] ∙ append-nil s.lines)
 
-pub text_more : (xs ys : List Line) → text (xs ++ ys) ≡ text xs ++ text ys
+pub text_more : (xs ys : List Line) → lines_text (xs ++ ys) ≡ lines_text xs ++ lines_text ys
 text_more xs ys = flat_map-append (λ line. line_text line ++ 10 ∷ []) xs ys
 
 events_of_more : (steps : List Step) (s : Step) → events_of_steps (steps ++ s ∷ []) ≡ events_of_steps steps ++ s.event ∷ []
@@ -82,7 +83,7 @@ pub record OneMore (lines : List (List ℕ)) (steps : List Step) (line bytes : L
   pub run : IsRun steps_after
   pub state_is : state_from new_cluster steps_after ≡ state
   pub stands : StandsFor state (lines_of_steps steps_after)
-  pub text_is : text (lines_of_steps steps_after) ≡ text (lines_of_steps steps) ++ bytes
+  pub text_is : lines_text (lines_of_steps steps_after) ≡ lines_text (lines_of_steps steps) ++ bytes
 
 pub one_more : (lines : List (List ℕ)) (steps : List Step) (line bytes : List ℕ) (before after : ClusterState) → HasEvents lines (events_of_steps steps) → IsRun steps → state_from new_cluster steps ≡ before → StandsFor before (lines_of_steps steps) →
     CarriesLine before line bytes after → OneMore lines steps line bytes after
@@ -92,7 +93,7 @@ one_more lines steps line bytes before after events run state_is stands (inl ski
   run = run;
   state_is = state_is ∙ sym skipped.2;
   stands = subst (λ (x : ClusterState). StandsFor x (lines_of_steps steps)) (sym skipped.2) stands;
-  text_is = sym (append-nil (text (lines_of_steps steps))) ∙ ap (λ (x : List ℕ). text (lines_of_steps steps) ++ x) (sym skipped.1);
+  text_is = sym (append-nil (lines_text (lines_of_steps steps))) ∙ ap (λ (x : List ℕ). lines_text (lines_of_steps steps) ++ x) (sym skipped.1);
 }
 one_more lines steps line bytes before after events run state_is stands (inr carried) =
     let s : Step = record { event = carried.event; lines = carried.spelled.lines; after = after } in
@@ -104,7 +105,7 @@ one_more lines steps line bytes before after events run state_is stands (inr car
       run = run_more new_cluster [] steps s run (subst (λ (x : ClusterState). Carries x s.event s.lines after) (sym state_is) carried.spelled.carries) standing.lawful;
       state_is = state_more new_cluster steps s;
       stands = subst (StandsFor after) (sym longer) standing;
-      text_is = ap text longer ∙ text_more (lines_of_steps steps) s.lines ∙ ap (λ (x : List ℕ). text (lines_of_steps steps) ++ x) (sym carried.spelled.told);
+      text_is = ap lines_text longer ∙ text_more (lines_of_steps steps) s.lines ∙ ap (λ (x : List ℕ). lines_text (lines_of_steps steps) ++ x) (sym carried.spelled.told);
     }
 
 pub goes_on : (input now next : Option (List ℕ)) (taken more : ℕ) (before middle after : Option (List ℕ)) (state new : ClusterState) (number : ℕ) (line bytes : List ℕ) → SoFar input now taken before middle state number →
@@ -120,7 +121,7 @@ goes_on input now next taken more before middle after state new number line byte
       run = o.run;
       state_is = o.state_is;
       stands = o.stands;
-      out = subst (Appends before after) (sym o.text_is) (Appends-then before middle after (text (lines_of_steps s.steps)) bytes s.out out);
+      out = subst (Appends before after) (sym o.text_is) (Appends-then before middle after (lines_text (lines_of_steps s.steps)) bytes s.out out);
     }
 
 pub reached_none : (input : Option (List ℕ)) → Reached input [] 0 input

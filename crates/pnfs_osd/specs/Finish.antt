@@ -3,14 +3,14 @@ use Rattle.std.specs.Prelude.{◌≡◌, ℕ, ◌<◌, true, List, [], ◌∷◌
 use Rattle.std.specs.Io.KnownBytes.{Appends}
 use Rattle.osd_bytes.specs.Causes.{Rose}
 use Rattle.scenario_text.specs.declared.line.Line.TheVariants.{Last}
-use Rattle.layout_world.specs.History.{text}
+use Rattle.scenario_text.specs.LineSpelling.{lines_text}
 use Rattle.pnfs_osd.specs.Errors.{error_line}
 use Rattle.pnfs_osd.specs.Puts.{Puts}
 use Rattle.pnfs_osd.specs.declared.status.Status.{Status}
 use Rattle.pnfs_osd.specs.declared.status.Status.TheVariants.{Done, BadWords, BadScenario, ReadFault, WriteFault, Memory}
 
 abbrev pub last_text : List ℕ
-last_text = text (Last true true ∷ [])
+last_text = lines_text (Last true true ∷ [])
 
 abbrev pub Finishes : Option (List ℕ) → Option (List ℕ) → ℕ → ℕ → Status → Type 0
 Finishes before after failed_before failed Done = Appends before after last_text × (failed ≡ failed_before)

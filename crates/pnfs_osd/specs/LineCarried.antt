@@ -5,7 +5,8 @@ use Rattle.scenario_text.specs.declared.line.Line.{Line}
 use Rattle.scenario_text.specs.Spelling.{Fits, Spells, IsSkipped}
 use Rattle.layout_world.specs.State.{ClusterState}
 use Rattle.layout_world.specs.Events.{Refuses, Carries}
-use Rattle.layout_world.specs.History.{StandsFor, text}
+use Rattle.layout_world.specs.History.{StandsFor}
+use Rattle.scenario_text.specs.LineSpelling.{lines_text}
 use Rattle.layout_world.specs.declared.err.WorldErr.{WorldErr}
 use Rattle.layout_world.specs.declared.err.WorldErr.TheVariants.{Memory as WorldMemory}
 use Rattle.pnfs_osd.specs.Replay.{IsRefused}
@@ -18,7 +19,7 @@ pub record CarriesSpelled (before : ClusterState) (event : Event) (bytes : List 
   pub lines : List Line
   pub carries : Carries before event lines after
   pub stands : (h : List Line) → StandsFor before h → StandsFor after (h ++ lines)
-  pub told : bytes ≡ text lines
+  pub told : bytes ≡ lines_text lines
 
 -- why an event wasn't carried out
 abbrev pub StopsEvent : ClusterState → Event → Stop → Type 0

@@ -10,7 +10,8 @@ use Rattle.scenario_text.specs.declared.line.Line.TheVariants.{Last}
 use Rattle.scenario_text.specs.Spelling.{Fits, Spells, IsSkipped}
 use Rattle.layout_world.specs.State.{ClusterState, new_cluster}
 use Rattle.layout_world.specs.Events.{Refuses}
-use Rattle.layout_world.specs.History.{Step, IsRun, lines_of_steps, events_of_steps, state_from, text}
+use Rattle.layout_world.specs.History.{Step, IsRun, lines_of_steps, events_of_steps, state_from}
+use Rattle.scenario_text.specs.LineSpelling.{lines_text}
 use Rattle.scenario_text.specs.declared.event.EventErr.{EventErr}
 use Rattle.scenario_text.specs.declared.event.EventErr.TheVariants.{NotYet, Memory as EventMemory}
 use Rattle.scenario_text.specs.Refusals.{IsRefusal}
@@ -56,7 +57,7 @@ RefusesNext (Some input) lines c kind =
     (front rest : List ℕ) × (input ≡ front ++ rest) × (lines_of input ≡ lines ++ lines_of rest) × IsRefused c kind (next_of (length front) rest)
 
 abbrev pub final_text : List Step → List ℕ
-final_text steps = text (lines_of_steps steps ++ Last true true ∷ [])
+final_text steps = lines_text (lines_of_steps steps ++ Last true true ∷ [])
 
 -- every line of the input was carried out, and the whole transcript went out
 pub record IsDone (before after : Ends) : Type 0 where
@@ -75,7 +76,7 @@ pub record Stops (before after : Ends) (number : ℕ) (reason : List ℕ) : Type
   pub steps : List Step
   pub runs : Runs before.left lines steps
   pub number_is : number ≡ length lines + 1
-  pub tells : Tells before after (text (lines_of_steps steps)) (error_line number reason)
+  pub tells : Tells before after (lines_text (lines_of_steps steps)) (error_line number reason)
 
 -- the line of that number is the first that is refused, for that reason
 pub record IsBadScenario (before after : Ends) (number : ℕ) (kind : ScenarioKind) : Type 0 where
@@ -104,7 +105,7 @@ pub record IsMemory (before after : Ends) : Type 0 where
   pub runs : Runs before.left lines steps
   pub number : ℕ
   pub number_is : (number ≡ length lines + 1) ⊎ ((number ≡ 0) × IsAll before.left lines)
-  pub tells : Tells before after (text (lines_of_steps steps)) (error_line number (codes "memory"))
+  pub tells : Tells before after (lines_text (lines_of_steps steps)) (error_line number (codes "memory"))
 
 -- what each status promises
 abbrev pub Promises : Ends → Ends → Status → Type 0

@@ -1,55 +1,35 @@
 // One line of a scenario.
-ghost use Rattle.std.specs.Prelude.{◌≡◌, ◌++◌, ◌∷◌, false, IfOk, IfErr, OnOk};
-ghost use Rattle.layout_world.specs.History.{text};
+ghost use Rattle.std.specs.Prelude.{◌≡◌, ◌∷◌, false, IfOk, IfErr, OnOk};
+ghost use Rattle.scenario_text.specs.LineSpelling.{lines_text};
 ghost use Rattle.pnfs_osd.specs.LineCarried.{CarriesLine, CarriesSpelled, StopsEvent, StopsLine};
 
 use crate::status::ScenarioKind;
 use crate::stop::Stop;
 use layout_world::{Lines, World, WorldErr};
 use osd_bytes::{Bytes, Memory};
-use scenario_text::{Event, EventErr, Line, read_event, write_line};
+use scenario_text::{Event, EventErr, Line, read_event, write_event_line, write_lines};
 use std::alloc::Global;
 
-// Adds the text of lines, each with its newline.
-fn add_text(alloc: Global, lines: &[Line], into: &mut Bytes) -> Result<(), Memory>
-    ensures { OnOk result (into.new ≡ into.old ++ text lines.now) }
-{
-    for line in lines {
-        let one = write_line(alloc, line)?;
-        into.extend_from_slice(one.as_slice())?;
-        into.push(b'\n')?;
-    }
-    Ok(())
-}
-
-/// The text of lines, each with its newline.
-pub fn text_of(alloc: Global, lines: &[Line]) -> Result<Bytes, Memory>
-    ensures { IfOk result (λ bytes. bytes ≡ text lines.now) }
-{
-    let mut bytes = Bytes::new(alloc);
-    add_text(alloc, lines, &mut bytes)?;
-    Ok(bytes)
-}
-
 // The text of an event's own line and of those behind it. The event isn't copied.
-fn told(alloc: Global, event: Event, rest: &[Line]) -> Result<Bytes, Memory>
-    ensures { IfOk result (λ bytes. bytes ≡ text (Line.Event event ∷ rest.now)) }
+fn told(alloc: Global, event: &Event, rest: &[Line]) -> Result<Bytes, Memory>
+    ensures { IfOk result (λ bytes. bytes ≡ lines_text (Line.Event event.now ∷ rest.now)) }
 {
-    let mut bytes = write_line(alloc, &Line::Event { event })?;
+    let mut bytes = write_event_line(alloc, event)?;
     bytes.push(b'\n')?;
-    add_text(alloc, rest, &mut bytes)?;
+    let more = write_lines(alloc, rest)?;
+    bytes.extend_from_slice(more.as_slice())?;
     Ok(bytes)
 }
 
 // Carries out an event, and gives its lines.
-fn carry_out_event(alloc: Global, world: &mut World, event: Event) -> Result<Bytes, Stop>
+fn carry_out_event(alloc: Global, world: &mut World, event: &Event) -> Result<Bytes, Stop>
     requires { world.old.over ≡ false }
-    ensures ok { IfOk result (λ bytes. CarriesSpelled world.old.state event bytes world.new.state) }
+    ensures ok { IfOk result (λ bytes. CarriesSpelled world.old.state event.now bytes world.new.state) }
     ensures over { OnOk result (world.new.over ≡ false) }
-    ensures err { IfErr result (StopsEvent world.old.state event) }
+    ensures err { IfErr result (StopsEvent world.old.state event.now) }
 {
     let mut rest = Lines::new(alloc);
-    match world.step(&event, &mut rest) {
+    match world.step(event, &mut rest) {
         Ok(()) => {}
         Err(WorldErr::Memory) => return Err(Stop::Memory),
         Err(e) => return Err(Stop::Refused(ScenarioKind::World(e))),
@@ -66,7 +46,7 @@ pub fn carry_out(alloc: Global, world: &mut World, line: &[u8]) -> Result<Bytes,
     ensures err { IfErr result (StopsLine world.old.state line.now) }
 {
     match read_event(alloc, line) {
-        Ok(Some(event)) => carry_out_event(alloc, world, event),
+        Ok(Some(event)) => carry_out_event(alloc, world, &event),
         Ok(None) => Ok(Bytes::new(alloc)),
         Err(EventErr::Memory) => Err(Stop::Memory),
         Err(e) => Err(Stop::Refused(ScenarioKind::Event(e))),

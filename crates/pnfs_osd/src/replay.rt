@@ -4,11 +4,12 @@ ghost use Rattle.pnfs_osd.specs.Ends.{ends};
 ghost use Rattle.pnfs_osd.specs.Finish.{Finishes};
 ghost use Rattle.pnfs_osd.specs.Replay.{Promises};
 
-use crate::carry_out::{carry_out, text_of};
+use crate::carry_out::carry_out;
 use crate::status::Status;
 use crate::stop::{Stop, stop_of, stopped};
 use layout_world::World;
 use osd_bytes::{LineReader, Sink, Source, put_all};
+use scenario_text::write_lines;
 use std::alloc::Global;
 
 // Puts the last line.
@@ -16,7 +17,7 @@ fn finish<K: Sink>(alloc: Global, world: &World, sink: &mut K) -> Status
     ensures ends { Finishes (K.taken sink.old) (K.taken sink.new) (K.faults sink.old) (K.faults sink.new) result }
     ensures loan { K.loan sink.new ≡ K.loan sink.old }
 {
-    let text = match text_of(alloc, &[world.last_line()]) {
+    let text = match write_lines(alloc, &[world.last_line()]) {
         Ok(text) => text,
         Err(_) => return stopped(sink, Stop::Memory, 0),
     };

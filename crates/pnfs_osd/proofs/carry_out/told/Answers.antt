@@ -1,13 +1,13 @@
-use Rattle.std.proofs.Common.{◌++◌, ◌∷◌, [], ℕ, List, sym, ap, ◌∙◌}
+use Rattle.std.proofs.Common.{◌≡◌, ◌++◌, ◌∷◌, [], ℕ, List, sym, ap, ◌∙◌}
 use Rattle.std.proofs.lemmas.List.Concat.{flat_map-cons}
-use Rattle.scenario_text.specs.declared.line.Line.{Line}
 use Rattle.scenario_text.specs.declared.line.Line.TheVariants.{Event as EventLine}
 use Rattle.scenario_text.specs.LineSpelling.{line_text}
-use Rattle.layout_world.specs.History.{text}
 use Rattle.pnfs_osd.proofs.carry_out.told.Goals as goal
 
 pub returns : goal.returns
 returns c =
-    let rest : List Line = c.args.rest.now in
-    c.in_ok-add_text.ensures ∙ ap (λ (x : List ℕ). x ++ text rest) (c.in_ok-push.ensures.ok ∙ ap (λ (x : List ℕ). x ++ 10 ∷ []) c.in_ok-bytes.ensures.text)
-    ∙ sym (flat_map-cons (λ line. line_text line ++ 10 ∷ []) (EventLine c.args.event) rest)
+    let own : List ℕ = line_text (EventLine c.args.event.now) in
+    let echoed : c.push.new.self ≡ own ++ 10 ∷ [] = c.in_ok-push.ensures.ok ∙ ap (λ (x : List ℕ). x ++ 10 ∷ []) c.in_ok-bytes.ensures.text in
+    c.in_ok-extend_from_slice.ensures.ok ∙ ap (λ (x : List ℕ). x ++ c.as_slice.result.now) echoed
+    ∙ ap (λ (x : List ℕ). (own ++ 10 ∷ []) ++ x) (c.as_slice.ensures ∙ c.in_ok-more.ensures)
+    ∙ sym (flat_map-cons (λ l. line_text l ++ 10 ∷ []) (EventLine c.args.event.now) c.args.rest.now)
