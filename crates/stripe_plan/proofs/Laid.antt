@@ -9,16 +9,16 @@ use Rattle.stripe_plan.specs.declared.plan.Column.{Column}
 use Rattle.stripe_plan.specs.Words.{byte_over, byte_at, bytes_at, laid_at, Laid, LaidColumn}
 
 -- the bytes of a part that is written over the middle, of those before it and of those behind it
-put_before : (old part : List ℕ) (a k : ℕ) → a + length part ≤ length old → k < a → get_or (take a old ++ (part ++ drop (a + length part) old)) k 0 ≡ get_or old k 0
+pub put_before : (old part : List ℕ) (a k : ℕ) → a + length part ≤ length old → k < a → get_or (take a old ++ (part ++ drop (a + length part) old)) k 0 ≡ get_or old k 0
 put_before old part a k room lt =
     get_or_append_left (take a old) (part ++ drop (a + length part) old) 0 k (omega (arith, lt, length-take-le a old (omega (arith, room)))) ∙ get_or-take a old k 0 lt
 
-put_in : (old part : List ℕ) (a k : ℕ) → a + length part ≤ length old → a ≤ k → k < a + length part → get_or (take a old ++ (part ++ drop (a + length part) old)) k 0 ≡ get_or part (k - a) 0
+pub put_in : (old part : List ℕ) (a k : ℕ) → a + length part ≤ length old → a ≤ k → k < a + length part → get_or (take a old ++ (part ++ drop (a + length part) old)) k 0 ≡ get_or part (k - a) 0
 put_in old part a k room le lt =
     get_or-append_right (take a old) (part ++ drop (a + length part) old) a k 0 (length-take-le a old (omega (arith, room))) le
     ∙ get_or_append_left part (drop (a + length part) old) 0 (k - a) (omega (arith, le, lt))
 
-put_behind : (old part : List ℕ) (a k : ℕ) → a + length part ≤ length old → a + length part ≤ k → get_or (take a old ++ (part ++ drop (a + length part) old)) k 0 ≡ get_or old k 0
+pub put_behind : (old part : List ℕ) (a k : ℕ) → a + length part ≤ length old → a + length part ≤ k → get_or (take a old ++ (part ++ drop (a + length part) old)) k 0 ≡ get_or old k 0
 put_behind old part a k room le =
     let at : a + length part + (k - a - length part) ≡ k = omega (arith, le) in
     get_or-append_right (take a old) (part ++ drop (a + length part) old) a k 0 (length-take-le a old (omega (arith, room))) (omega (arith, le))

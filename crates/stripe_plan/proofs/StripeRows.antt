@@ -69,7 +69,7 @@ known_even m got out s i c n = λ k d lt.
     let low : k < n = omega (arith, lt, length-map-range_with_len (known_in m got out s i) c n) in
     ap length (get_or-map-range_with_len (known_in m got out s i) c n k (c + k) d low refl) ∙ known_long m got out s (c + k) i
 
-width_is : (w : ℕ) (rows : List (List ℕ)) → 0 < length rows → All (λ row. length row ≡ w) rows → width_of rows ≡ w
+pub width_is : (w : ℕ) (rows : List (List ℕ)) → 0 < length rows → All (λ row. length row ≡ w) rows → width_of rows ≡ w
 width_is w [] some even = absurd (omega (arith, some))
 width_is w (x ∷ xs) some even = even 0 [] (omega arith)
 

@@ -68,7 +68,7 @@ pub record HoldsWords (m : RawMap) (d : ℕ → ℕ) (x : Column) : Type 0 where
   pub unit : ℕ
   pub first : ℕ
   pub below : unit < group_width m
-  pub inside : first + length x.bytes ≤ m.unit
+  pub inside : 0 < length x.bytes → first + length x.bytes ≤ m.unit
   pub position : x.position ≡ position_of m stripe unit
   pub offset : x.offset ≡ offset_of m stripe first
   pub each : (k : ℕ) → k < length x.bytes → slice_index x.bytes k ≡ word_of m d stripe (first + k) unit

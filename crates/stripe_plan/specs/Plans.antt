@@ -59,14 +59,16 @@ written_columns m r bytes got out s c p is =
       bytes = map (λ (b : ℕ). word_at m r bytes got out s b c) (range_with_len i.first (i.end - i.first));
     }) is
 
--- of n places of the stripe's group from i on, but for positions that are out
+-- of place i of the stripe's group, but for a position that is out
+unfoldable pub written_place : RawMap → Span → List ℕ → List Column → List ℕ → (s i : ℕ) → List Column
+written_place m r bytes got out s i =
+    if is_out m out (group_of m s * group_width m + i) then []
+    else written_columns m r bytes got out s (unit_in m s i) (group_of m s * group_width m + i) (changed m r s (unit_in m s i))
+
+-- of n places from i on
 unfoldable pub written_stripe : RawMap → Span → List ℕ → List Column → List ℕ → (s i n : ℕ) → List Column
 written_stripe m r bytes got out s i zero = []
-written_stripe m r bytes got out s i (suc n) =
-    (if is_out m out (group_of m s * group_width m + i) then []
-    else written_columns m r bytes got out s (unit_in m s i) (group_of m s * group_width m + i)
-    (changed m r s (unit_in m s i)))
-    ++ written_stripe m r bytes got out s (i + 1) n
+written_stripe m r bytes got out s i (suc n) = written_place m r bytes got out s i ++ written_stripe m r bytes got out s (i + 1) n
 
 -- of the stripes
 unfoldable pub written : RawMap → Span → List ℕ → List Column → List ℕ → List ℕ → List Column

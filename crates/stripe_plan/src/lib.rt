@@ -7,6 +7,8 @@
 #![tactic(auto)]
 
 mod asking;
+mod changing;
+mod encoding;
 mod laying;
 mod left;
 mod lost;
@@ -16,6 +18,7 @@ mod plans;
 mod reading;
 mod rows;
 mod touched;
+mod writing;
 
 pub use asking::asks;
 pub use lost::{check_readable, check_writable, is_out, positions_out, source};
@@ -28,3 +31,4 @@ pub use plans::{plan_gather, plan_read, plan_scatter};
 pub use reading::assemble;
 pub use rows::code_of;
 pub use touched::{holds_whole, own_columns, touched_columns, touched_stripes};
+pub use writing::apply_and_encode;

@@ -77,6 +77,7 @@ pub fn touched_columns(
     requires stripe { stripe ≤ MAX_FILE_SIZE }
     ensures value { IfOk result (λ is. is ≡ columns map.now range stripe) }
     ensures low { IfOk result (λ is. All IsLow is) }
+    ensures unit { IfOk result (λ is. All (λ i. i.end ≤ map.now.unit) is) }
 {
     let start = stripe_start(map, stripe);
     let next = stripe_start(map, stripe + 1);
@@ -93,6 +94,7 @@ fn columns_between(alloc: Global, unit: u64, low: u64, high: u64) -> Result<Inte
     requires { (0 < unit) × (unit ≤ MAX_STRIPE_UNIT) }
     ensures value { IfOk result (λ is. is ≡ columns_between unit low high) }
     ensures low { IfOk result (λ is. All IsLow is) }
+    ensures unit { IfOk result (λ is. All (λ i. i.end ≤ unit) is) }
 {
     let mut intervals = Intervals::new(alloc);
     if high.saturating_sub(low) >= unit {

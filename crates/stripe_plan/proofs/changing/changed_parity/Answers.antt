@@ -1,0 +1,29 @@
+use Rattle.std.proofs.Common.{◌∙◌, ◌∷◌, ◌++◌, [], ap, arith}
+use Rattle.data_map.proofs.Shape.{few_parities}
+use Rattle.parity_code.proofs.ColumnLaws.{refill_same}
+use Rattle.stripe_plan.specs.Plans.{columns_of}
+use Rattle.stripe_plan.proofs.Exchanges.{delta_init, delta_step, one_row, two_rows}
+use Rattle.stripe_plan.proofs.changing.changed_parity.Goals as goal
+
+pub loop-unit-init : goal.loop-unit-init
+loop-unit-init c =
+    delta_init c.args.map.now c.args.range c.args.bytes.now (columns_of c.args.map.now c.args.got.now) c.args.stripe c.args.columns c.in_ok-p.p c.in_ok-q.q
+    (rw c.data_units-units.ensures.value at c.in_ok-p.ensures) c.in_ok-q.ensures.long (λ two. c.in_ok-q.ensures.got two)
+
+pub loop-unit-preserved : goal.loop-unit-preserved
+loop-unit-preserved c =
+    let changed = rw (c.as_mut_slice.ensures.value, c.as_mut_slice-in-loop-unit.ensures.value) at c.in_ok-change_unit.ensures in
+    rw (refill_same c.loop-unit.p c.change_unit.new.p changed.p_long, refill_same c.loop-unit.q c.change_unit.new.q changed.q_long)
+    (delta_step c.args.map.now c.args.range c.args.bytes.now (columns_of c.args.map.now c.args.got.now) c.args.stripe c.args.columns c.loop-unit.unit c.loop-unit.p c.loop-unit.q c.change_unit.new.p c.change_unit.new.q
+    (omega (arith, c.loop-unit-test.true, c.data_units-units.ensures.value)) c.loop-unit.invariant changed.p_long changed.q_long (changed.p c.requires.some) (λ two. changed.q two))
+
+pub returns-then-parities-eq1 : goal.returns-then-parities-eq1
+returns-then-parities-eq1 c =
+    one_row c.args.map.now c.args.range c.args.bytes.now (columns_of c.args.map.now c.args.got.now) c.args.stripe c.args.columns c.loop-unit.unit c.loop-unit.p c.loop-unit.q c.push.new.self
+    (omega (arith, c.loop-unit-test.false, c.data_units-units.ensures.value)) (omega (arith, c.parities.ensures, c.if-parities-eq1.true)) (rw c.new-rows.ensures at c.in_ok-push.ensures.ok) c.loop-unit.invariant
+
+pub returns : goal.returns
+returns c =
+    two_rows c.args.map.now c.args.range c.args.bytes.now (columns_of c.args.map.now c.args.got.now) c.args.stripe c.args.columns c.loop-unit.unit c.loop-unit.p c.loop-unit.q c.push-2.new.self
+    (omega (arith, c.loop-unit-test.false, c.data_units-units.ensures.value)) (omega (arith, c.parities.ensures, c.if-parities-eq1.false, few_parities c.args.map.now, c.requires.some))
+    (c.in_ok-push-2.ensures.ok ∙ ap (λ xs. xs ++ (c.loop-unit.q ∷ [])) (rw c.new-rows.ensures at c.in_ok-push.ensures.ok)) c.loop-unit.invariant

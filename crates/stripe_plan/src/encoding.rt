@@ -1,0 +1,81 @@
+// The parity of a stripe's columns from all their units, with the new bytes put in.
+ghost use Rattle.std.specs.Prelude.{◌≡◌, ℕ, ◌+◌, ◌-◌, ◌<◌, ◌≤◌, [], List, length, slice_index, slice_index_or, IfOk};
+ghost use Rattle.std.specs.List.{All};
+ghost use Rattle.data_map.specs.Striping.{data_units, group_width, parities};
+ghost use Rattle.parity_code.specs.Columns.{Stored};
+ghost use Rattle.stripe_plan.specs.Touched.{IsLow};
+ghost use Rattle.stripe_plan.specs.Words.{laid_at, HasColumns};
+ghost use Rattle.stripe_plan.specs.Encoded.{encoded_parity, no_bytes, HasParity, NewLaid};
+
+use crate::laying::{lay, zeros};
+use crate::plan::{Interval, Span};
+use crate::rows::code_of;
+use crate::touched::unit_start;
+use data_map::{DataMap, MAX_FILE_SIZE};
+use osd_bytes::{Memory, Rows};
+use parity_code::encode;
+use std::alloc::Global;
+
+// Writes the bytes that lie from `from` on over those of a row that lies from `offset` on.
+fn lay_row(rows: &mut Rows, row: usize, offset: u64, from: u64, bytes: &[u8])
+    requires { row < length rows.old }
+    ensures { Stored row 0 (length (slice_index_or rows.old row [])) (λ k. laid_at from bytes.now (offset + k) (slice_index (slice_index_or rows.old row []) k)) rows.old rows.new }
+{
+    lay(rows.get_mut(row).as_mut_slice(), offset, from, bytes);
+}
+
+// Puts the range's new bytes into the data units of a stripe's columns.
+fn lay_new(
+    map: &DataMap,
+    range: Span,
+    bytes: &[u8],
+    stripe: u64,
+    columns: Interval,
+    rows: &mut Rows,
+)
+    requires stripe { stripe ≤ MAX_FILE_SIZE }
+    requires low { IsLow columns }
+    requires inside { columns.end ≤ map.now.unit }
+    requires count { length rows.old ≡ group_width map.now }
+    requires even { All (λ row. length row ≡ columns.end - columns.first) rows.old }
+    ensures { NewLaid map.now range bytes.now stripe columns (data_units map.now) rows.old rows.new }
+{
+    for unit in 0..map.data_units() {
+        let start = unit_start(map, stripe, unit) + columns.first;
+        lay_row(rows, unit as usize, start, range.offset, bytes);
+    }
+}
+
+// Makes the parity of a stripe's columns from their units with the range's new bytes put in. P and Q are its last rows.
+pub(crate) fn encode_new(
+    map: &DataMap,
+    range: Span,
+    bytes: &[u8],
+    stripe: u64,
+    columns: Interval,
+    rows: &mut Rows,
+)
+    requires stripe { stripe ≤ MAX_FILE_SIZE }
+    requires low { IsLow columns }
+    requires inside { columns.end ≤ map.now.unit }
+    requires bytes { length bytes.now ≡ range.length }
+    requires count { length rows.old ≡ group_width map.now }
+    requires even { All (λ row. length row ≡ columns.end - columns.first) rows.old }
+    ensures { (f : ℕ → List ℕ) → HasColumns (group_width map.now) columns f rows.old
+        → HasParity (parities map.now) columns (encoded_parity map.now range bytes.now stripe f) rows.new }
+{
+    map.known();
+    lay_new(map, range, bytes, stripe, columns, rows);
+    encode(code_of(map), rows);
+}
+
+// The columns of units that hold nothing.
+pub(crate) fn zero_rows(alloc: Global, map: &DataMap, columns: Interval) -> Result<Rows, Memory>
+    ensures { IfOk result (HasColumns (group_width map.now) columns (no_bytes map.now)) }
+{
+    let mut rows = Rows::new(alloc);
+    for _ in 0..map.group_width() {
+        rows.push(zeros(alloc, columns.end.saturating_sub(columns.first))?)?;
+    }
+    Ok(rows)
+}
