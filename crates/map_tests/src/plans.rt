@@ -4,8 +4,8 @@ use std::alloc::Global;
 use std::process::Abort;
 use std::test::Fail;
 use stripe_plan::{
-    Column, Columns, Fetched, Interval, Out, Part, Pieces, PlanErr, Span, Writes, assemble,
-    plan_gather, plan_read, plan_scatter, touched_columns,
+    Column, Columns, Fetched, Interval, Out, Part, Pieces, PlanErr, Span, Writes, apply_and_encode,
+    assemble, plan_gather, plan_read, plan_scatter, touched_columns,
 };
 
 // Groups of `width` positions take turns stripe by stripe.
@@ -88,6 +88,25 @@ fn lacks(plan: Result<Pieces, PlanErr>, wanted: &[u32]) -> bool {
         Err(PlanErr::TooManyLost { positions }) => positions.as_slice() == wanted,
         _ => false,
     }
+}
+
+// Position, offset and bytes of each column.
+fn make(made: Result<Columns, PlanErr>, wanted: &[(u32, u64, &[u8])]) -> bool {
+    let Ok(columns) = made else {
+        return false;
+    };
+    if columns.len() != wanted.len() {
+        return false;
+    }
+    for (column, (position, offset, bytes)) in columns.as_slice().iter().zip(wanted.iter()) {
+        if column.position != *position
+            || column.offset != *offset
+            || column.bytes.as_slice() != *bytes
+        {
+            return false;
+        }
+    }
+    true
 }
 
 // RAID 5 of three components: stripe 0 has its parity in component 2, stripe 1 in component 1.
@@ -279,5 +298,104 @@ fn the_first_byte_that_was_read_counts(rt: HostRuntime) -> Result<(), Fail> {
     let got = fetched(alloc, &[(0, 1, &[7, 7]), (0, 0, &[1, 2, 3, 4])])?;
     let answer = assemble(alloc, &plain, 0, 4, &got, &whole);
     assert!(rt; answer.is_ok_and(|bytes| bytes.as_slice() == [1, 7, 7, 4].as_slice()));
+    Ok(())
+}
+
+#[test]
+fn writes_change_the_parity_that_was_gathered(rt: HostRuntime) -> Result<(), Fail> {
+    let five = map(&rt, 3, 4, 0, 0, RAID_5);
+    let alloc = rt.alloc();
+    let whole = out(alloc, &[])?;
+    let got = fetched(alloc, &[(0, 0, &[1]), (2, 0, &[4])])?;
+    assert!(rt;
+        make(
+            apply_and_encode(alloc, &five, 0, &[255], &got, &whole),
+            &[(0, 0, &[255]), (2, 0, &[250])]
+        )
+    );
+    Ok(())
+}
+
+#[test]
+fn writes_decode_where_a_position_is_out_and_leave_it(rt: HostRuntime) -> Result<(), Fail> {
+    let five = map(&rt, 3, 4, 0, 0, RAID_5);
+    let alloc = rt.alloc();
+    let short = out(alloc, &[1])?;
+    let lost = out(alloc, &[1, 2])?;
+    let got = fetched(alloc, &[(0, 0, &[1]), (2, 0, &[4])])?;
+    assert!(rt;
+        make(
+            apply_and_encode(alloc, &five, 4, &[255], &got, &short),
+            &[(2, 0, &[254])]
+        )
+    );
+    assert!(rt;
+        make(
+            apply_and_encode(alloc, &five, 0, &[255], &got, &short),
+            &[(0, 0, &[255]), (2, 0, &[250])]
+        )
+    );
+    assert!(rt; apply_and_encode(alloc, &five, 0, &[255], &got, &lost).is_err());
+    Ok(())
+}
+
+// Stripe 1 has its second unit in component 0, its first in 2 and its parity in 1.
+#[test]
+fn whole_stripes_need_nothing_gathered(rt: HostRuntime) -> Result<(), Fail> {
+    let five = map(&rt, 3, 4, 0, 0, RAID_5);
+    let alloc = rt.alloc();
+    let whole = out(alloc, &[])?;
+    let none = fetched(alloc, &[])?;
+    assert!(rt;
+        make(
+            apply_and_encode(alloc, &five, 8, &[1, 2, 3, 4, 5, 6, 7, 8], &none, &whole),
+            &[
+                (0, 4, &[5, 6, 7, 8]),
+                (1, 4, &[4, 4, 4, 12]),
+                (2, 4, &[1, 2, 3, 4])
+            ]
+        )
+    );
+    Ok(())
+}
+
+// What was made is what is read then; each position is one component.
+fn stored(alloc: Global, columns: &Columns, got: &mut Fetched) -> Result<(), Memory> {
+    for column in columns.as_slice() {
+        got.push(Part {
+            component: column.position,
+            offset: column.offset,
+            bytes: Bytes::copied(alloc, column.bytes.as_slice())?,
+        })?;
+    }
+    Ok(())
+}
+
+// P+Q: a stripe is written, two bytes of it are written over, and two positions are lost.
+#[test]
+fn two_bytes_over_two_units_come_back(rt: HostRuntime) -> Result<(), Fail> {
+    let six = map(&rt, 6, 4, 0, 0, RAID_PQ);
+    let alloc = rt.alloc();
+    let whole = out(alloc, &[])?;
+    let short = out(alloc, &[0, 1])?;
+    let none = fetched(alloc, &[])?;
+    let old = [0, 1, 2, 3, 4, 5, 6, 7, 8, 9, 10, 11, 12, 13, 14, 15];
+    let Ok(first) = apply_and_encode(alloc, &six, 0, &old, &none, &whole) else {
+        assert!(rt; false);
+        return Ok(());
+    };
+    let mut gathered = Fetched::new(alloc);
+    stored(alloc, &first, &mut gathered)?;
+    let Ok(second) = apply_and_encode(alloc, &six, 3, &[0xff, 0xee], &gathered, &whole) else {
+        assert!(rt; false);
+        return Ok(());
+    };
+    assert_eq!(rt; second.len(), 6);
+    let mut left = Fetched::new(alloc);
+    stored(alloc, &second, &mut left)?;
+    stored(alloc, &first, &mut left)?;
+    let answer = assemble(alloc, &six, 0, 16, &left, &short);
+    let new = [0, 1, 2, 0xff, 0xee, 5, 6, 7, 8, 9, 10, 11, 12, 13, 14, 15];
+    assert!(rt; answer.is_ok_and(|bytes| bytes.as_slice() == new.as_slice()));
     Ok(())
 }
