@@ -2,7 +2,7 @@
 
 use layout_world::{Lines, World};
 use osd_bytes::Bytes;
-use scenario_text::{Line, read_event, write_line};
+use scenario_text::{read_event, write_line};
 use std::test::Fail;
 
 // Carries out the event of a line, and gives the text of the last line behind its own, `-` where there
@@ -125,12 +125,7 @@ fn a_write_needs_room_on_each_drive(rt: HostRuntime) -> Result<(), Fail> {
 #[test]
 fn the_last_line(rt: HostRuntime) -> Result<(), Fail> {
     let world = World::new(rt.alloc());
-    assert_eq!(rt;
-        world.last_line(),
-        Line::Last {
-            calm: true,
-            unguessed: true
-        }
-    );
+    let text = write_line(rt.alloc(), &world.last_line())?;
+    assert_eq!(rt; text.as_slice(), b"calm yes unguessed yes".as_slice());
     Ok(())
 }
