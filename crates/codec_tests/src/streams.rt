@@ -1,7 +1,7 @@
 use osd_bytes::{
-    Accepted, ByteLists, Bytes, Clock, ExchangeErr, LineErr, LineReader, Links, MemClock, MemLinks,
-    MemSink, MemSource, Node, Numbers, PutErr, RecordErr, Records, Rows, Times, exchange, frame,
-    put_all,
+    Accepted, ByteLists, Bytes, Clock, ExchangeErr, LineErr, LineReader, Links, MAX_RECORD,
+    MemClock, MemLinks, MemSink, MemSource, Node, Numbers, PutErr, RecordErr, Records, Rows, Times,
+    exchange, frame, put_all,
 };
 use std::test::Fail;
 
@@ -108,21 +108,57 @@ fn lists(rt: &HostRuntime, members: &[&str]) -> Result<ByteLists, Fail> {
     Ok(lists)
 }
 
+// The frame of a message, of an empty one where it is too long for a record.
+fn framed(rt: &HostRuntime, message: &[u8]) -> Result<Bytes, Fail> {
+    if message.len() > MAX_RECORD {
+        return Ok(frame(rt.alloc(), b"")?);
+    }
+    Ok(frame(rt.alloc(), message)?)
+}
+
 #[test]
 fn a_frame_is_one_last_fragment(rt: HostRuntime) -> Result<(), Fail> {
     let table = [("6162", "800000026162"), ("", "80000000")];
-    for (message, framed) in table {
+    for (message, expected) in table {
         let message = bytes(&rt, message)?;
-        assert!(rt; frame(rt.alloc(), message.as_slice())? == bytes(&rt, framed)?);
+        assert!(rt; framed(&rt, message.as_slice())? == bytes(&rt, expected)?);
     }
     Ok(())
+}
+
+// The records that a piece completes, `None` where it is refused as too long.
+fn fed_once(records: &mut Records, piece: &[u8]) -> Result<Option<ByteLists>, Fail> {
+    match records.feed(piece) {
+        Ok(given) => Ok(Some(given)),
+        Err(RecordErr::TooLong) => Ok(None),
+        Err(refused) => Err(refused.into()),
+    }
+}
+
+// Whether a piece completes exactly this record.
+fn completes(records: &mut Records, piece: &[u8], expected: &[u8]) -> Result<bool, Fail> {
+    match fed_once(records, piece)? {
+        Some(given) => Ok(given.len() == 1 && given.get(0).as_slice() == expected),
+        None => Ok(false),
+    }
+}
+
+// Whether a piece is taken and completes no record.
+fn completes_none(records: &mut Records, piece: &[u8]) -> Result<bool, Fail> {
+    match fed_once(records, piece)? {
+        Some(given) => Ok(given.is_empty()),
+        None => Ok(false),
+    }
 }
 
 // The records of a stream that is fed in pieces of one length, joined by commas.
 fn fed(rt: &HostRuntime, stream: &[u8], length: usize) -> Result<Result<Vec<u8>, RecordErr>, Fail> {
     let mut records = Records::new(rt.alloc());
     let mut found = Vec::new(rt.alloc());
-    for piece in stream.chunks(length) {
+    let mut rest = stream;
+    for _ in 0..stream.len() {
+        let (piece, later) = rest.split_at(length.min(rest.len()));
+        rest = later;
         match records.feed(piece) {
             Ok(given) => {
                 for i in 0..given.len() {
@@ -136,6 +172,22 @@ fn fed(rt: &HostRuntime, stream: &[u8], length: usize) -> Result<Result<Vec<u8>,
     Ok(Ok(found))
 }
 
+// Whether these bytes were found.
+fn gives(found: &Result<Vec<u8>, RecordErr>, expected: &[u8]) -> bool {
+    match found {
+        Ok(bytes) => bytes.as_slice() == expected,
+        Err(_) => false,
+    }
+}
+
+// Whether so many bytes were found.
+fn gives_so_many(found: &Result<Vec<u8>, RecordErr>, expected: usize) -> bool {
+    match found {
+        Ok(bytes) => bytes.len() == expected,
+        Err(_) => false,
+    }
+}
+
 #[test]
 fn records_are_those_of_the_stream_however_cut(rt: HostRuntime) -> Result<(), Fail> {
     // "ab" in two fragments, an empty record, "cde" in four fragments of which two are empty, and
@@ -146,18 +198,12 @@ fn records_are_those_of_the_stream_however_cut(rt: HostRuntime) -> Result<(), Fa
     )?;
     for length in 1..40 {
         let found = fed(&rt, stream.as_slice(), length)?;
-        assert!(rt; matches!(found, Ok(records) if records.as_slice() == b"ab,,cde,".as_slice()));
+        assert!(rt; gives(&found, b"ab,,cde,"));
     }
     let mut records = Records::new(rt.alloc());
-    assert_eq!(rt;
-        records
-            .feed(bytes(&rt, "000000016180000001")?.as_slice())?
-            .len(),
-        0
-    );
-    let given = records.feed(b"b")?;
-    assert_eq!(rt; given.len(), 1);
-    assert_eq!(rt; given.get(0).as_slice(), b"ab".as_slice());
+    let begun = bytes(&rt, "000000016180000001")?;
+    assert!(rt; completes_none(&mut records, begun.as_slice())?);
+    assert!(rt; completes(&mut records, b"b", b"ab")?);
     Ok(())
 }
 
@@ -174,10 +220,19 @@ fn fragments(rt: &HostRuntime, count: usize) -> Result<Bytes, Fail> {
 #[test]
 fn a_record_has_at_most_4096_fragments(rt: HostRuntime) -> Result<(), Fail> {
     let whole = fed(&rt, fragments(&rt, 4096)?.as_slice(), 1000)?;
-    assert!(rt; matches!(whole, Ok(records) if records.len() == 4097));
+    assert!(rt; gives_so_many(&whole, 4097));
     let more = fed(&rt, fragments(&rt, 4097)?.as_slice(), 1000)?;
     assert!(rt; matches!(more, Err(RecordErr::TooLong)));
     Ok(())
+}
+
+// The frame of so many zeros, of none where they are too many for a record.
+fn framed_zeros(rt: &HostRuntime, count: usize) -> Result<Bytes, Fail> {
+    let mut zeros = Bytes::new(rt.alloc());
+    if count <= MAX_RECORD {
+        zeros.grow(count)?;
+    }
+    framed(rt, zeros.as_slice())
 }
 
 #[test]
@@ -187,22 +242,21 @@ fn a_record_has_at_most_300000_bytes(rt: HostRuntime) -> Result<(), Fail> {
     // One byte and then 300,000.
     let two = bytes(&rt, "0000000161800493e0")?;
     assert!(rt; matches!(fed(&rt, two.as_slice(), 9)?, Err(RecordErr::TooLong)));
-    let mut longest = Bytes::new(rt.alloc());
-    longest.grow(300_000)?;
-    let framed = frame(rt.alloc(), longest.as_slice())?;
-    assert!(rt; matches!(fed(&rt, framed.as_slice(), 1)?, Ok(records) if records.len() == 300_001));
+    let framed = framed_zeros(&rt, 300_000)?;
+    let found = fed(&rt, framed.as_slice(), 1)?;
+    assert!(rt; gives_so_many(&found, 300_001));
     Ok(())
 }
 
 #[test]
 fn a_refused_piece_changes_nothing(rt: HostRuntime) -> Result<(), Fail> {
     let mut records = Records::new(rt.alloc());
-    records.feed(bytes(&rt, "0000000161")?.as_slice())?;
-    let piece = bytes(&rt, "8000000162800493e1")?;
-    assert!(rt; matches!(records.feed(piece.as_slice()), Err(RecordErr::TooLong)));
-    let (first, _) = piece.as_slice().split_at(5);
-    let given = records.feed(first)?;
-    assert_eq!(rt; given.get(0).as_slice(), b"ab".as_slice());
+    let begun = bytes(&rt, "0000000161")?;
+    assert!(rt; fed_once(&mut records, begun.as_slice())?.is_some());
+    let refused = bytes(&rt, "8000000162800493e1")?;
+    assert!(rt; fed_once(&mut records, refused.as_slice())?.is_none());
+    let first = bytes(&rt, "8000000162")?;
+    assert!(rt; completes(&mut records, first.as_slice(), b"ab")?);
     Ok(())
 }
 
@@ -222,6 +276,14 @@ fn exchanged(
     Ok((links, answer))
 }
 
+// Whether the answer is this record.
+fn is_record(answer: &Result<Bytes, ExchangeErr>, expected: &[u8]) -> bool {
+    match answer {
+        Ok(record) => record.as_slice() == expected,
+        Err(_) => false,
+    }
+}
+
 #[test]
 fn an_exchange_gives_the_first_record(rt: HostRuntime) -> Result<(), Fail> {
     // What follows the first record isn't looked at, even a record that is too long.
@@ -232,7 +294,7 @@ fn an_exchange_gives_the_first_record(rt: HostRuntime) -> Result<(), Fail> {
     ];
     for stream in table {
         let (mut links, answer) = exchanged(&rt, stream, &[])?;
-        assert!(rt; matches!(answer, Ok(record) if record.as_slice() == b"a".as_slice()));
+        assert!(rt; is_record(&answer, b"a"));
         assert_eq!(rt; links.asked_count(), 1);
         assert_eq!(rt; links.sent_on(0), [128, 0, 0, 1, b'm'].as_slice());
         assert!(rt; links.send(b"x").is_err());
@@ -274,9 +336,24 @@ fn a_failed_exchange_takes_nothing_of_the_next(rt: HostRuntime) -> Result<(), Fa
         let first = exchange(rt.alloc(), &mut links, Node::Server, b"m");
         assert!(rt; matches!(first, Err(ExchangeErr::LinkFault)));
         let second = exchange(rt.alloc(), &mut links, Node::Server, b"m");
-        assert!(rt; matches!(second, Ok(record) if record.as_slice() == b"b".as_slice()));
+        assert!(rt; is_record(&second, b"b"));
     }
     Ok(())
+}
+
+// How many bytes come on the accepted connection, `None` where the call fails.
+fn taken(links: &mut MemLinks) -> Option<usize> {
+    let mut buf = [0u8; 8];
+    links.take(&mut buf).ok()
+}
+
+// How many of the bytes go out on the accepted connection, `None` where the call fails.
+fn put(links: &mut MemLinks, bytes: &[u8]) -> Option<usize> {
+    links.put(bytes).ok()
+}
+
+fn accepted(links: &mut MemLinks) -> bool {
+    links.accept().is_ok()
 }
 
 #[test]
@@ -287,21 +364,32 @@ fn accepted_connections_come_in_order(rt: HostRuntime) -> Result<(), Fail> {
         lists(&rt, &[])?,
         Numbers::copied(rt.alloc(), &[3])?,
     );
-    let mut buf = [0u8; 8];
-    assert!(rt; links.take(&mut buf).is_err());
-    assert!(rt; links.accept().is_ok());
-    assert!(rt; matches!(links.take(&mut buf), Ok(2)));
-    assert!(rt; links.put(b"x").is_err());
-    assert!(rt; matches!(links.put(b"xy"), Ok(2)));
-    assert!(rt; matches!(links.take(&mut buf), Ok(0)));
-    assert!(rt; links.accept().is_ok());
-    assert!(rt; matches!(links.take(&mut buf), Ok(1)));
-    assert!(rt; links.accept().is_ok());
-    assert!(rt; matches!(links.take(&mut buf), Ok(0)));
+    assert!(rt; taken(&mut links).is_none());
+    assert!(rt; accepted(&mut links));
+    assert_eq!(rt; taken(&mut links), Some(2));
+    assert!(rt; put(&mut links, b"x").is_none());
+    assert_eq!(rt; put(&mut links, b"xy"), Some(2));
+    assert_eq!(rt; taken(&mut links), Some(0));
+    assert!(rt; accepted(&mut links));
+    assert_eq!(rt; taken(&mut links), Some(1));
+    assert!(rt; accepted(&mut links));
+    assert_eq!(rt; taken(&mut links), Some(0));
     assert_eq!(rt; links.accepts(), 3);
-    assert_eq!(rt; links.put_on(0), b"xy".as_slice());
-    assert_eq!(rt; links.put_on(1), b"".as_slice());
+    assert!(rt; puts_are(&links, &[b"xy", b""]));
     Ok(())
+}
+
+// Whether these bytes were put on the first connections.
+fn puts_are(links: &MemLinks, expected: &[&[u8]]) -> bool {
+    if links.accepts() < expected.len() {
+        return false;
+    }
+    for i in 0..expected.len() {
+        if links.put_on(i) != expected[i] {
+            return false;
+        }
+    }
+    true
 }
 
 #[test]
@@ -319,7 +407,7 @@ fn an_accepted_connection_is_a_source_and_a_sink(rt: HostRuntime) -> Result<(), 
         matches!(reader.next_line(&mut end), Ok(Some(line)) if line.as_slice() == b"a".as_slice())
     );
     assert!(rt; put_all(&mut end, b"xyz").is_ok());
-    assert_eq!(rt; links.put_on(0), b"xyz".as_slice());
+    assert!(rt; puts_are(&links, &[b"xyz"]));
     Ok(())
 }
 
