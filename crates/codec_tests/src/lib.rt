@@ -1,4 +1,4 @@
-//! Tests of the codecs and of what moves bytes, over their public calls.
+//! Tests of HMAC, capabilities and commands, over their public calls.
 #![tactic(auto)]
 
 #[cfg(test)]
@@ -6,12 +6,4 @@ mod capabilities;
 #[cfg(test)]
 mod commands;
 #[cfg(test)]
-mod envelopes;
-#[cfg(test)]
 mod hmac;
-#[cfg(test)]
-mod streams;
-#[cfg(test)]
-mod structures;
-#[cfg(test)]
-mod xdr;

@@ -1,0 +1,5 @@
+//! Tests of the messages between clients and server, over their public calls.
+#![tactic(auto)]
+
+#[cfg(test)]
+mod envelopes;

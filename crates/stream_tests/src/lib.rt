@@ -1,0 +1,5 @@
+//! Tests of lines, records, links and exchanges, over their public calls.
+#![tactic(auto)]
+
+#[cfg(test)]
+mod streams;

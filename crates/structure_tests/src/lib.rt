@@ -1,0 +1,7 @@
+//! Tests of XDR and of the structures of RFC 5664, over their public calls.
+#![tactic(auto)]
+
+#[cfg(test)]
+mod structures;
+#[cfg(test)]
+mod xdr;
