@@ -5,3 +5,5 @@
 mod fences;
 #[cfg(test)]
 mod grants;
+#[cfg(test)]
+mod repairs;

@@ -1,0 +1,123 @@
+ghost use Rattle.std.specs.Prelude.{◌≡◌, ◌<◌, ◌∷◌, List, drop, slice_get};
+ghost use Rattle.server_rules.specs.Maps.{pieces};
+ghost use Rattle.server_rules.specs.declared.grants.Stripes.{Stripes as AStripes};
+ghost use Rattle.stripe_repair.specs.Cursor.{rest_at, piece_at, IsSettled};
+
+use osd_bytes::Sequence;
+use server_rules::{MAX_PIECE, Piece, Stripes};
+use std::marker::Model;
+
+/// Where a cursor stands: in a stripe of a range, before further ranges.
+#[derive(Clone, Copy, Debug, PartialEq, Eq)]
+pub struct Spot {
+    /// The stripe in work.
+    pub stripe: u64,
+    /// Its first column that isn't worked yet.
+    pub column: u64,
+    /// The stripe behind the range in work.
+    pub end: u64,
+    /// The number of the next range.
+    pub next: usize,
+}
+
+/// The pieces of some ranges of stripes, in order, from one on. Contracts see it as their list; it takes
+/// no memory but for the ranges.
+#[derive(Drop)]
+pub struct PieceCursor {
+    unit: u64,
+    ranges: Sequence<Stripes>,
+    spot: Spot,
+}
+
+impl Model for PieceCursor {
+    ghost use Rattle.std.specs.Prelude.{List};
+    ghost use Rattle.server_rules.specs.declared.jobs.Piece.{Piece as RulesPiece};
+    ghost use Rattle.stripe_repair.specs.Cursor.{rest_at, IsSettled};
+
+    ghost Value = { List RulesPiece };
+
+    ghost view = { λ s. rest_at s.unit s.ranges s.spot };
+
+    ghost invariant = { λ s. IsSettled s.unit s.ranges s.spot };
+}
+
+// The same spot, or the first of the next range that has a stripe.
+fn settled(unit: u64, ranges: &[Stripes], spot: Spot) -> Spot
+    requires unit { 0 < unit }
+    requires column { spot.column < unit }
+    ensures same { rest_at unit ranges.now result ≡ rest_at unit ranges.now spot }
+    ensures settled { IsSettled unit ranges.now result }
+{
+    let mut spot = spot;
+    while spot.stripe >= spot.end && spot.next < ranges.len() {
+        let range = ranges[spot.next];
+        spot = Spot {
+            stripe: range.first,
+            column: 0,
+            end: range.end,
+            next: spot.next + 1,
+        };
+    }
+    spot
+}
+
+// The spot behind the piece at this one.
+fn behind(unit: u64, spot: Spot) -> Spot
+    requires column { spot.column < unit }
+    requires inside { spot.stripe < spot.end }
+    ensures column { result.column < unit }
+    ensures rest { (ranges : List AStripes) → rest_at unit ranges spot ≡ piece_at unit spot ∷ rest_at unit ranges result }
+{
+    if unit - spot.column > MAX_PIECE {
+        return Spot {
+            column: spot.column + MAX_PIECE,
+            ..spot
+        };
+    }
+    Spot {
+        stripe: spot.stripe + 1,
+        column: 0,
+        ..spot
+    }
+}
+
+impl PieceCursor {
+    /// All pieces of these ranges of stripes, in a file whose stripe unit is `unit` bytes.
+    pub fn new(unit: u64, ranges: Sequence<Stripes>) -> Self
+        requires { 0 < unit }
+        ensures { result ≡ pieces unit ranges }
+    {
+        let start = Spot {
+            stripe: 0,
+            column: 0,
+            end: 0,
+            next: 0,
+        };
+        let spot = settled(unit, ranges.as_slice(), start);
+        PieceCursor { unit, ranges, spot }
+    }
+
+    /// The first piece, `None` exactly where none is left.
+    pub fn first(&self) -> Option<Piece>
+        ensures { result ≡ slice_get self.now 0 }
+    {
+        if self.spot.stripe < self.spot.end {
+            return Some(Piece {
+                stripe: self.spot.stripe,
+                column: self.spot.column,
+                count: MAX_PIECE.min(self.unit - self.spot.column),
+            });
+        }
+        None
+    }
+
+    /// Goes past the first piece, if any is left.
+    pub fn advance(&mut self)
+        ensures { self.new ≡ drop 1 self.old }
+    {
+        if self.spot.stripe < self.spot.end {
+            let next = behind(self.unit, self.spot);
+            self.spot = settled(self.unit, self.ranges.as_slice(), next);
+        }
+    }
+}

@@ -1,0 +1,50 @@
+ghost use Rattle.std.specs.Prelude.{◌≡◌};
+ghost use Rattle.std.specs.Result.{ForOk};
+ghost use Rattle.stripe_repair.specs.Placing.{CanPlace, Places, IsPlacer};
+
+use crate::loads::DriveLoad;
+use osd_bytes::{Memory, Numbers};
+use std::marker::Model;
+
+/// A rule that chooses drives. Contracts see it as the closure.
+///
+/// The closure must be a placer: for at most 64 different drives of which at least as many are online as
+/// are asked, it may be called, and its list has as many different online drives of these. A closure that
+/// doesn't keep that can't be stored.
+#[derive(Drop)]
+pub struct Placer<F> {
+    rule: F,
+}
+
+impl<F> Model for Placer<F> {
+    ghost Value = { F };
+
+    ghost view = { λ p. p.rule };
+}
+
+impl<F> Placer<F>
+where
+    F: Fn(u32, &[DriveLoad]) -> Result<Numbers, Memory>,
+{
+    /// Keeps a closure that is a placer.
+    pub fn new(rule: F) -> Self
+        requires { IsPlacer F.Fn rule }
+        ensures { result ≡ rule }
+    {
+        Placer { rule }
+    }
+
+    /// So many different online drives of these. That the closure is a placer is asked again, since a type
+    /// can't keep a fact about a closure.
+    ///
+    /// # Errors
+    ///
+    /// Want of memory alone.
+    pub fn place(&self, count: u32, loads: &[DriveLoad]) -> Result<Numbers, Memory>
+        requires rule { IsPlacer F.Fn self.now }
+        requires asked { CanPlace count loads.now }
+        ensures { ForOk result (Places count loads.now) }
+    {
+        (self.rule)(count, loads)
+    }
+}
