@@ -39,7 +39,8 @@ committed h op a timed = turned (record h { size = a.size }) (accounted op timed
 
 -- BADLAYOUT says that the grant is over
 unfoldable pub not_committed : (status detail : ℕ) → Turn
-not_committed status detail = if status == NFS4ERR_BADLAYOUT then Forgets (Status status detail) else Ends (Status status detail)
+not_committed status detail =
+    if status == NFS4ERR_BADLAYOUT then Forgets (Status status detail) else Ends (Status status detail)
 
 -- any answer
 unfoldable pub on_commit : Held → CallOp → Answer → List TimedOut → Moved

@@ -131,7 +131,8 @@ not_of k xs = filter (λ (a : Awaited). not (is_of k a)) xs
 unfoldable pub before : Ask → Ask → Bool
 before a b =
     nat_lt a.stripe b.stripe
-    || ((a.stripe == b.stripe) && (nat_lt a.component b.component || ((a.component == b.component) && nat_lt a.offset b.offset)))
+    || ((a.stripe == b.stripe) && (nat_lt a.component b.component
+    || ((a.component == b.component) && nat_lt a.offset b.offset)))
 
 -- a command at its place in that order
 unfoldable pub placed : Awaited → List Awaited → List Awaited

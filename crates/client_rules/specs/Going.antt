@@ -64,7 +64,8 @@ starts_with d op n (Some r) = d
 -- under a grant that covers it it begins; without a grant it asks for one; another grant goes back first
 abbrev pub starts_under : Done → CallOp → Option Held → Done
 starts_under d op None = starts_with d op (Get 0) d.client.outstanding
-starts_under d op (Some h) = if covers h op then moved d op (begins h op) else starts_with d op First d.client.outstanding
+starts_under d op (Some h) =
+    if covers h op then moved d op (begins h op) else starts_with d op First d.client.outstanding
 
 -- a call that has begun goes on
 abbrev pub starts_at : Done → CallOp → Phase → Done
@@ -135,7 +136,8 @@ due_behind hs (u ∷ us) = if is_held hs u then us else due_behind hs us
 -- it goes back clean
 abbrev pub returns : Done → Option Due → Done
 returns d None = d
-returns d (Some u) = requests (record d { client = record d.client { due = due_behind d.client.held d.client.due } }) u.file (return_args u.number [])
+returns d (Some u) = requests (record d { client = record d.client { due = due_behind d.client.held d.client.due } })
+    u.file (return_args u.number [])
 
 -- the first grant that is due and still held, where a sequence number is left
 unfoldable pub returns_due : Done → Done

@@ -64,10 +64,12 @@ pub record IsNumbered (h : Held) (m : Moved) : Type 0 where
 pub record NoncesRise : Type 0 where
   pub begun : (h : Held) (op : CallOp) → IsNumbered h (begins h op)
   pub replied : (h : Held) (op : CallOp) (p : Phase) (a : Awaited) (r : Reply) → IsNumbered h (replied h op p a r)
-  pub timed : (h : Held) (op : CallOp) (p : Phase) (k : ℕ) (a : Awaited) (xs : List Awaited) → IsNumbered h (timed_out h op p k a xs)
+  pub timed : (h : Held) (op : CallOp) (p : Phase) (k : ℕ) (a : Awaited) (xs : List Awaited) →
+      IsNumbered h (timed_out h op p k a xs)
   pub committed : (h : Held) (op : CallOp) (a : Answer) (timed : List TimedOut) → IsNumbered h (on_commit h op a timed)
   -- nonces one after another rise, and none is below the first
-  pub rising : (first n i j : ℕ) → i < j → j < n → slice_index (range_with_len first n) i < slice_index (range_with_len first n) j
+  pub rising : (first n i j : ℕ) → i < j → j < n →
+      slice_index (range_with_len first n) i < slice_index (range_with_len first n) j
   pub above : (first n i : ℕ) → i < n → first ≤ slice_index (range_with_len first n) i
 
 -- ---- a read is answered from performed READs
@@ -92,7 +94,8 @@ abbrev pub read_by : Client → List Column → List Input → List Column
 read_by c got [] = got
 read_by c got (i ∷ is) = read_by (step c i).client (read_after c got i) is
 
--- these bytes are what the pending call's range has by what was read, under the grant that is held, with some components out
+-- these bytes are what the pending call's range has by what was read, under the grant that is held, with some
+-- components out
 pub record IsAnswer (c : Client) (got : List Column) (bytes : List ℕ) : Type 0 where
   pub call : Call
   pub pending : c.call ≡ Some call
@@ -103,7 +106,8 @@ pub record IsAnswer (c : Client) (got : List Column) (bytes : List ℕ) : Type 0
   pub out : List ℕ
   pub answer : bytes ≡ answered held.map (clipped held.size (span_of call.op)) got out
 
--- so a read is answered, after any list of inputs to a new client, by what the performed READs gave whose replies its call took
+-- so a read is answered, after any list of inputs to a new client, by what the performed READs gave whose replies its
+-- call took
 abbrev pub ReadsTookReplies : Type 0
 ReadsTookReplies =
     (number sequence : ℕ) (is : List Input) (i : Input) (bytes : List ℕ) →

@@ -118,7 +118,15 @@ reach_of size op g = record {
 
 -- under which no command was sent yet
 abbrev pub fresh : (file number size : ℕ) → Reach → RawMap → List Listed → Held
-fresh file number size g m ls = record { file = file; number = number; reach = g; size = size; map = m; components = ls; count = 0 }
+fresh file number size g m ls = record {
+  file = file;
+  number = number;
+  reach = g;
+  size = size;
+  map = m;
+  components = ls;
+  count = 0;
+}
 
 -- its bytes
 abbrev pub granted_span : Reach → Span

@@ -53,7 +53,8 @@ answered_get d op (Ok h) = phased (with_held d h) op Starts
 
 -- the answer to a LAYOUTGET
 abbrev pub on_get : Done → CallOp → (tries : ℕ) → Answer → Done
-on_get d op tries a = if status_of a.results == NFS4_OK then answered_get d op (taken a op) else by_turn d op (not_granted a tries)
+on_get d op tries a =
+    if status_of a.results == NFS4_OK then answered_get d op (taken a op) else by_turn d op (not_granted a tries)
 
 -- the answer to a LAYOUTCOMMIT, under the call's grant
 abbrev pub commit_under : Done → CallOp → Answer → Need → Option Held → Done
@@ -111,7 +112,11 @@ no_match c r = record (quiet c) { recalls = recall_answer r NFS4ERR_NOMATCHING_L
 
 -- the grant will be returned
 abbrev pub obeys : Client → Recall → Done
-obeys c r = record (quiet (record c { due = due_with c.due r.file (grant_in r.args.stateid) })) { recalls = recall_answer r NFS4_OK ∷ [] }
+obeys c r =
+    record (quiet (record c { due = due_with c.due r.file (grant_in r.args.stateid) })) {
+      recalls = recall_answer r
+          NFS4_OK ∷ [];
+    }
 
 -- the held grant is meant where the recall names it
 abbrev pub recalled : Client → Recall → Option Held → Done

@@ -16,8 +16,16 @@ use Rattle.client_rules.specs.Commands.{credential_of, read_commands, counted}
 
 -- it goes on while a reply is awaited; then its bytes are put together
 unfoldable pub reads_on : Held → Span → List Column → List TimedOut → (sent awaited : List Awaited) → Moved
-reads_on h r got timed sent [] = record { held = counted h sent; turn = Ends (ReadOk (answered h.map r got (outs h timed))); sent = sent }
-reads_on h r got timed sent (a ∷ xs) = record { held = counted h sent; turn = Goes (Reads (record { awaited = a ∷ xs; got = got; timed = timed })); sent = sent }
+reads_on h r got timed sent [] = record {
+  held = counted h sent;
+  turn = Ends (ReadOk (answered h.map r got (outs h timed)));
+  sent = sent;
+}
+reads_on h r got timed sent (a ∷ xs) = record {
+  held = counted h sent;
+  turn = Goes (Reads (record { awaited = a ∷ xs; got = got; timed = timed }));
+  sent = sent;
+}
 
 -- what the plan asks and isn't had
 abbrev pub reads_due : Held → Span → List Column → List TimedOut → List Awaited → List Ask
@@ -46,17 +54,28 @@ first_present (l ∷ ls) k = if is_some l.credential then Some k else first_pres
 -- a READ of no byte, where the range of the component's capability begins
 abbrev pub probe_of : Held → (p : ℕ) → Option ℕ → List Ask
 probe_of h p None = []
-probe_of h p (Some k) = record { stripe = 0; position = p; component = k; offset = (credential_of h k).capability.range_start; length = 0 } ∷ []
+probe_of h p (Some k) = record {
+  stripe = 0;
+  position = p;
+  component = k;
+  offset = (credential_of h k).capability.range_start;
+  length = 0;
+} ∷ []
 
 -- to n positions from p on, but for those that are had
 unfoldable pub probe_each : Held → (out have : List ℕ) → (p n : ℕ) → List Ask
 probe_each h out have p zero = []
-probe_each h out have p (suc n) = (if among p have then [] else probe_of h p (source h.map out p)) ++ probe_each h out have (p + 1) n
+probe_each h out have p (suc n) =
+    (if among p have then [] else probe_of h p (source h.map out p)) ++ probe_each h out have (p + 1) n
 
 -- it goes on while a reply is awaited
 unfoldable pub probes_on : Held → List Column → List TimedOut → (sent awaited : List Awaited) → Moved
 probes_on h got timed sent [] = record { held = counted h sent; turn = Ends (ReadOk []); sent = sent }
-probes_on h got timed sent (a ∷ xs) = record { held = counted h sent; turn = Goes (Probes (record { awaited = a ∷ xs; got = got; timed = timed })); sent = sent }
+probes_on h got timed sent (a ∷ xs) = record {
+  held = counted h sent;
+  turn = Goes (Probes (record { awaited = a ∷ xs; got = got; timed = timed }));
+  sent = sent;
+}
 
 -- position p is asked, or where it is out each other position of its group
 unfoldable pub probes_due : Held → (out have : List ℕ) → (p : ℕ) → List Ask
@@ -70,16 +89,19 @@ probes_asked h got timed awaited due = probes_on h got timed (read_commands h du
 
 -- what is due is sent
 abbrev pub probes_sent : Held → List Column → List TimedOut → List Awaited → (p : ℕ) → Moved
-probes_sent h got timed awaited p = probes_asked h got timed awaited (probes_due h (outs h timed) (had_positions got awaited) p)
+probes_sent h got timed awaited p =
+    probes_asked h got timed awaited (probes_due h (outs h timed) (had_positions got awaited) p)
 
 -- position p is out, and with it more of its group than there is parity
 unfoldable pub is_probe_lost : RawMap → (out : List ℕ) → (p : ℕ) → Bool
-is_probe_lost m out p = if is_out m out p then nat_lt (parities m) (length (positions_out m out (p / group_width m))) else false
+is_probe_lost m out p =
+    if is_out m out p then nat_lt (parities m) (length (positions_out m out (p / group_width m))) else false
 
 -- the position of the first present component is meant
 abbrev pub probes_at : Held → List Column → List TimedOut → List Awaited → (p : ℕ) → Moved
 probes_at h got timed awaited p =
-    if is_probe_lost h.map (outs h timed) p then ended h (Lost (positions_out h.map (outs h timed) (p / group_width h.map)))
+    if is_probe_lost h.map (outs h timed) p
+    then ended h (Lost (positions_out h.map (outs h timed) (p / group_width h.map)))
     else probes_sent h got timed awaited p
 
 -- where no component is present, every position is lost

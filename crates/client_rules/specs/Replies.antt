@@ -34,10 +34,13 @@ refused h phase a r =
 
 -- the phase goes on, with what was read
 abbrev pub performed : Held → CallOp → Phase → Awaited → Reply → Moved
-performed h op (Reads io) a r = reads_on h (clipped h.size (span_of op)) (io.got ++ got_of a r ∷ []) io.timed [] (others io.awaited a.command.nonce)
+performed h op (Reads io) a r =
+    reads_on h (clipped h.size (span_of op)) (io.got ++ got_of a r ∷ []) io.timed [] (others io.awaited a.command.nonce)
 performed h op (Probes io) a r = probes_on h (io.got ++ got_of a r ∷ []) io.timed [] (others io.awaited a.command.nonce)
-performed h op (Gathers io) a r = gathers_on h op (io.got ++ got_of a r ∷ []) io.timed [] (others io.awaited a.command.nonce)
-performed h op (Scatters io queue) a r = scatters_next h op io.timed queue a.ask.component (others io.awaited a.command.nonce)
+performed h op (Gathers io) a r =
+    gathers_on h op (io.got ++ got_of a r ∷ []) io.timed [] (others io.awaited a.command.nonce)
+performed h op (Scatters io queue) a r =
+    scatters_next h op io.timed queue a.ask.component (others io.awaited a.command.nonce)
 performed h op Starts a r = turned h (Goes Starts)
 performed h op (Needs need) a r = turned h (Goes (Needs need))
 performed h op (Waits need) a r = turned h (Goes (Waits need))
@@ -54,7 +57,8 @@ timed_after timed a xs = timed_with (first_of a xs) timed
 
 -- before the first WRITE: where too much is out the call ends, and the grant stays
 unfoldable pub gather_timed : Held → CallOp → Io → (k : ℕ) → List TimedOut → Moved
-gather_timed h op io k timed = if is_too_short h op timed then ended h (Silent k) else gathers h op io.got timed (not_of k io.awaited)
+gather_timed h op io k timed =
+    if is_too_short h op timed then ended h (Silent k) else gathers h op io.got timed (not_of k io.awaited)
 
 -- after it: where too much is out the grant is returned with a report
 unfoldable pub scatter_timed : Held → CallOp → Io → (queue : List Store) → (k : ℕ) → List TimedOut → Moved
@@ -64,7 +68,8 @@ scatter_timed h op io queue k timed =
 
 -- component k timed out, of which these commands are awaited
 abbrev pub timed_out : Held → CallOp → Phase → (k : ℕ) → Awaited → List Awaited → Moved
-timed_out h op (Reads io) k a xs = reads h (clipped h.size (span_of op)) io.got (timed_after io.timed a xs) (not_of k io.awaited)
+timed_out h op (Reads io) k a xs =
+    reads h (clipped h.size (span_of op)) io.got (timed_after io.timed a xs) (not_of k io.awaited)
 timed_out h op (Probes io) k a xs = probes h io.got (timed_after io.timed a xs) (not_of k io.awaited)
 timed_out h op (Gathers io) k a xs = gather_timed h op io k (timed_after io.timed a xs)
 timed_out h op (Scatters io queue) k a xs = scatter_timed h op io queue k (timed_after io.timed a xs)

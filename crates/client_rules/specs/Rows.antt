@@ -91,7 +91,11 @@ key_of drive = replicate 20 (drive + 1)
 
 -- the object of a component, on its drive
 abbrev pub object_at : (drive object : ℕ) → ObjId
-object_at drive object = record { oid_device_id = replicate 8 0 ++ to_be_bytes w64 drive; oid_partition_id = 65536 + drive; oid_object_id = object }
+object_at drive object = record {
+  oid_device_id = replicate 8 0 ++ to_be_bytes w64 drive;
+  oid_partition_id = 65536 + drive;
+  oid_object_id = object;
+}
 
 -- the capability of a component of client 0
 abbrev pub usable : Given → (drive object start len : ℕ) → Capability
@@ -135,14 +139,21 @@ layout_of g = record { olo_map = g.map; olo_comps_index = 0; olo_components = ma
 -- an answer to client 0
 abbrev pub answers : (sequence file detail size : ℕ) → Results → Input
 answers sequence file detail size r =
-    Hears FromServer (Answers (record { client = 0; sequence = sequence; file = file; detail = detail; size = size; results = r }))
+    Hears FromServer
+    (Answers (record { client = 0; sequence = sequence; file = file; detail = detail; size = size; results = r }))
 
 -- layouts with these bodies under a grant
 abbrev pub gives_bodies : Given → List (List ℕ) → Results
 gives_bodies g bodies = results.LayoutGet (get.Granted (record {
   return_on_close = false;
   stateid = stateid_of g.number;
-  layouts = map (λ (body : List ℕ). record { offset = g.offset; length = g.len; iomode = if g.writes then 2 else 1; body = body }) bodies;
+  layouts =
+      map (λ (body : List ℕ). record {
+        offset = g.offset;
+        length = g.len;
+        iomode = if g.writes then 2 else 1;
+        body = body;
+      }) bodies;
 }))
 
 -- one layout
@@ -189,7 +200,15 @@ recalls number file grant = Hears FromServer (Recalls (record {
 -- the reply to the command of this count under a grant
 abbrev pub replies : Given → (drive count : ℕ) → Action → (verdict detail : ℕ) → (payload : List ℕ) → Input
 replies g drive count action verdict detail payload =
-    Hears (FromDrive drive) (Replies (record { action = number_of action; verdict = verdict; object = 0; nonce = g.number * 4294967296 + count; detail = detail; payload = payload }))
+    Hears (FromDrive drive)
+    (Replies (record {
+      action = number_of action;
+      verdict = verdict;
+      object = 0;
+      nonce = g.number * 4294967296 + count;
+      detail = detail;
+      payload = payload;
+    }))
 
 -- a READ that was performed
 abbrev pub has_read : Given → (drive count : ℕ) → (bytes : List ℕ) → Input
@@ -262,7 +281,8 @@ to_part g (Missing drive object) count action offset len payload =
 
 -- to component k
 abbrev pub to_component : Given → (k count : ℕ) → Action → (offset len : ℕ) → (payload : List ℕ) → Outgoing
-to_component g k count action offset len payload = to_part g (unwrap_or (slice_get g.components k) (Missing 0 0)) count action offset len payload
+to_component g k count action offset len payload =
+    to_part g (unwrap_or (slice_get g.components k) (Missing 0 0)) count action offset len payload
 
 abbrev pub reads : Given → (k count offset len : ℕ) → Outgoing
 reads g k count offset len = to_component g k count ToRead offset len []

@@ -13,7 +13,14 @@ use Rattle.client_rules.specs.Messages.{Step, still, to_drive, finished, due_wit
 
 -- a client that has done nothing, whose first request has this number
 abbrev pub new_client : (number sequence : ℕ) → Client
-new_client number sequence = record { number = number; next = sequence; outstanding = None; held = []; due = []; call = None }
+new_client number sequence = record {
+  number = number;
+  next = sequence;
+  outstanding = None;
+  held = [];
+  due = [];
+  call = None;
+}
 
 -- ---- a call
 
@@ -54,7 +61,8 @@ timeout_under c call k (Some h) [] = still c
 -- without a call nothing is awaited
 abbrev pub timeout_call : Client → (k : ℕ) → Option Call → Step
 timeout_call c k None = still c
-timeout_call c k (Some call) = timeout_under c call k (held_of c.held (file_of call.op)) (of_component k (awaited_in call.phase))
+timeout_call c k (Some call) =
+    timeout_under c call k (held_of c.held (file_of call.op)) (of_component k (awaited_in call.phase))
 
 -- component k of the pending call's file doesn't answer
 unfoldable pub times_out : Client → (k : ℕ) → Step
@@ -99,7 +107,8 @@ awaits c = awaits_by (awaited_of c.call) c.outstanding
 
 -- the component of the awaited command with that nonce
 unfoldable pub awaited_component : Client → (nonce : ℕ) → Option ℕ
-awaited_component c nonce = option_map (λ (a : Awaited). a.ask.component) (find (λ (a : Awaited). a.command.nonce == nonce) (awaited_of c.call))
+awaited_component c nonce =
+    option_map (λ (a : Awaited). a.ask.component) (find (λ (a : Awaited). a.command.nonce == nonce) (awaited_of c.call))
 
 -- the number of its next request, or 0
 abbrev pub next_sequence : Client → ℕ

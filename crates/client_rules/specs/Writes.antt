@@ -40,13 +40,19 @@ laters seen [] = []
 laters seen (w ∷ ws) = if among w.ask.component seen then w ∷ laters seen ws else laters (w.ask.component ∷ seen) ws
 
 -- it goes on while a reply is awaited
-unfoldable pub scatters_on : Held → CallOp → List TimedOut → (queue : List Store) → (sent awaited : List Awaited) → Moved
+unfoldable pub scatters_on : Held → CallOp → List TimedOut → (queue : List Store) → (sent awaited : List Awaited) →
+    Moved
 scatters_on h op timed queue sent [] = record { held = counted h sent; turn = written h op timed; sent = sent }
-scatters_on h op timed queue sent (a ∷ xs) = record { held = counted h sent; turn = Goes (Scatters (record { awaited = a ∷ xs; got = []; timed = timed }) queue); sent = sent }
+scatters_on h op timed queue sent (a ∷ xs) = record {
+  held = counted h sent;
+  turn = Goes (Scatters (record { awaited = a ∷ xs; got = []; timed = timed }) queue);
+  sent = sent;
+}
 
 -- each component is sent its first of these writes
 abbrev pub scatters_all : Held → CallOp → List TimedOut → List Store → Moved
-scatters_all h op timed all = scatters_on h op timed (laters [] all) (write_commands h (firsts [] all)) (write_commands h (firsts [] all))
+scatters_all h op timed all =
+    scatters_on h op timed (laters [] all) (write_commands h (firsts [] all)) (write_commands h (firsts [] all))
 
 -- at its begin
 unfoldable pub scatters : Held → CallOp → List Column → List TimedOut → Moved
@@ -63,9 +69,11 @@ without_next k [] = []
 without_next k (w ∷ ws) = if w.ask.component == k then ws else w ∷ without_next k ws
 
 -- component k answered, and is sent its next write
-unfoldable pub scatters_next : Held → CallOp → List TimedOut → (queue : List Store) → (k : ℕ) → (awaited : List Awaited) → Moved
+unfoldable pub scatters_next : Held → CallOp → List TimedOut → (queue : List Store) → (k : ℕ) →
+    (awaited : List Awaited) → Moved
 scatters_next h op timed queue k awaited =
-    scatters_on h op timed (without_next k queue) (write_commands h (next_to k queue)) (awaited ++ write_commands h (next_to k queue))
+    scatters_on h op timed (without_next k queue) (write_commands h (next_to k queue))
+    (awaited ++ write_commands h (next_to k queue))
 
 -- the queue without any write to component k
 unfoldable pub without_component : (k : ℕ) → List Store → List Store
@@ -76,7 +84,11 @@ without_component k ws = filter (λ (w : Store). not (w.ask.component == k)) ws
 -- it goes on while a reply is awaited, and then scatters
 unfoldable pub gathers_on : Held → CallOp → List Column → List TimedOut → (sent awaited : List Awaited) → Moved
 gathers_on h op got timed sent [] = scatters h op got timed
-gathers_on h op got timed sent (a ∷ xs) = record { held = counted h sent; turn = Goes (Gathers (record { awaited = a ∷ xs; got = got; timed = timed })); sent = sent }
+gathers_on h op got timed sent (a ∷ xs) = record {
+  held = counted h sent;
+  turn = Goes (Gathers (record { awaited = a ∷ xs; got = got; timed = timed }));
+  sent = sent;
+}
 
 -- what the plan asks and isn't had; without parity it asks nothing
 unfoldable pub gathers_due : Held → Span → List Column → List TimedOut → List Awaited → List Ask
@@ -86,7 +98,8 @@ gathers_due h r got timed awaited =
 
 -- these are sent
 abbrev pub gathers_sent : Held → CallOp → List Column → List TimedOut → List Awaited → List Ask → Moved
-gathers_sent h op got timed awaited due = gathers_on h op got timed (read_commands h due) (awaited ++ read_commands h due)
+gathers_sent h op got timed awaited due =
+    gathers_on h op got timed (read_commands h due) (awaited ++ read_commands h due)
 
 -- at its begin, and where a component timed out
 unfoldable pub gathers : Held → CallOp → List Column → List TimedOut → List Awaited → Moved

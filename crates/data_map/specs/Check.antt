@@ -29,7 +29,8 @@ abbrev pub bad_multiple : RawMap → Bool
 bad_multiple m = not (nat_eq (m.comps % replicas m) 0)
 
 abbrev pub bad_width : RawMap → Bool
-bad_width m = nat_lt MAX_WIDTH (group_width m) || not (nat_eq (positions m % group_width m) 0) || nat_lt (group_width m) (parities m + 1)
+bad_width m = nat_lt MAX_WIDTH (group_width m) || not (nat_eq (positions m % group_width m) 0)
+    || nat_lt (group_width m) (parities m + 1)
 
 abbrev pub bad_depth : RawMap → Bool
 bad_depth m = if m.width == 0 then not (nat_eq m.depth 0) else (nat_eq m.depth 0 || nat_lt MAX_DEPTH m.depth)

@@ -9,7 +9,8 @@ LiesAt m l position offset = ((place_of m l).position ≡ position) × ((place_o
 
 -- a stripe's P or Q lies at this offset of this position
 abbrev pub HoldsParity : RawMap → ℕ → ℕ → Type 0
-HoldsParity m position offset = (s : ℕ) × (row_of m s ≡ offset / m.unit) × ((p_of m s ≡ Some position) ⊎ (q_of m s ≡ Some position))
+HoldsParity m position offset =
+    (s : ℕ) × (row_of m s ≡ offset / m.unit) × ((p_of m s ≡ Some position) ⊎ (q_of m s ≡ Some position))
 
 -- no byte of the file can lie there
 abbrev pub HasNoByte : RawMap → ℕ → ℕ → Type 0
@@ -19,7 +20,8 @@ HasNoByte m position offset = (positions m ≤ position) ⊎ HoldsParity m posit
 
 -- the stripe that has a row of a group
 abbrev pub stripe_in : RawMap → ℕ → ℕ → ℕ
-stripe_in m group row = if m.width == 0 then row else (row / m.depth) * (m.depth * groups m) + group * m.depth + row % m.depth
+stripe_in m group row =
+    if m.width == 0 then row else (row / m.depth) * (m.depth * groups m) + group * m.depth + row % m.depth
 
 -- the unit of stripe s that lies at a place inside the group
 abbrev pub unit_in : RawMap → ℕ → ℕ → ℕ
@@ -34,4 +36,5 @@ unit_at m position offset = unit_in m (stripe_at m position offset) (position % 
 
 -- the byte that lies there, where the unit is one of data
 abbrev pub byte_at : RawMap → ℕ → ℕ → ℕ
-byte_at m position offset = stripe_at m position offset * stripe_length m + unit_at m position offset * m.unit + offset % m.unit
+byte_at m position offset =
+    stripe_at m position offset * stripe_length m + unit_at m position offset * m.unit + offset % m.unit

@@ -29,7 +29,8 @@ impl Model for DataMap {
 
     ghost view = { λ m. m.raw };
 
-    ghost invariant = { λ m. IsChecked m.raw × (m.positions ≡ positions_of m.raw) × (m.group_width ≡ width_of m.raw) × (m.parities ≡ parities_of m.raw) };
+    ghost invariant = { λ m. IsChecked m.raw × (m.positions ≡ positions_of m.raw) × (m.group_width ≡ width_of m.raw) ×
+        (m.parities ≡ parities_of m.raw) };
 
     ghost inverse = { λ raw. record { raw = raw; positions = positions_of raw; group_width = width_of raw; parities = parities_of raw } };
 

@@ -1,4 +1,5 @@
--- The steps of the machine of one striped file: clients under layouts, a server that grants, fences and repairs, drives, the network between them, and the file's log.
+-- The steps of the machine of one striped file: clients under layouts, a server that grants, fences and repairs,
+-- drives, the network between them, and the file's log.
 use Rattle.std.specs.Prelude.{◌≡◌, ℕ, max, min, ◌-◌, nat_le, nat_lt, ◌+◌, ◌<◌, ◌≤◌, Bool, true, false, cond, ◌||◌, ◌&&◌, not, ◌==◌, List, [], ◌∷◌, Option, Some, None, ◌⊎◌}
 use Rattle.fence_law.specs.Words.{updated, In, over}
 use Rattle.fence_law.specs.State.{State, Layout, Event, Grant, RequestKind, Write, ReadReply, Start}
@@ -31,16 +32,19 @@ AreBytes d = (q : ℕ) → d q < 256
 
 -- data that agree with every reply of this call in this column
 abbrev pub Agrees : State → ℕ → ℕ → (ℕ → ℕ) → Type 0
-Agrees b j x d = (r : ReadReply) → In r b.shown → r.entry ≡ j → (z : ℕ) → b.layout.is_cell r.at z ≡ true → b.layout.cell_col r.at z ≡ x → r.cells z ≡ b.layout.word r.at z d
+Agrees b j x d = (r : ReadReply) → In r b.shown → r.entry ≡ j → (z : ℕ) → b.layout.is_cell r.at z ≡ true →
+    b.layout.cell_col r.at z ≡ x → r.cells z ≡ b.layout.word r.at z d
 
 -- data that agree with every component of this column that isn't lost
 abbrev pub Stands : State → ℕ → (ℕ → ℕ) → Type 0
-Stands b x d = (k z : ℕ) → b.layout.is_cell k z ≡ true → b.layout.cell_col k z ≡ x → b.lost k ≡ false → b.cell k z ≡ b.layout.word k z d
+Stands b x d = (k z : ℕ) → b.layout.is_cell k z ≡ true → b.layout.cell_col k z ≡ x → b.lost k ≡ false →
+    b.cell k z ≡ b.layout.word k z d
 
 -- a byte of which every copy is lost, or a parity of which every replica is
 abbrev pub Short : State → ℕ → Type 0
 Short b x = (k z : ℕ) × (b.layout.is_cell k z ≡ true) × (b.layout.cell_col k z ≡ x) ×
-    ((f y : ℕ) → b.layout.is_cell f y ≡ true → b.layout.cell_col f y ≡ x → b.layout.position f ≡ b.layout.position k → b.lost f ≡ true)
+    ((f y : ℕ) → b.layout.is_cell f y ≡ true → b.layout.cell_col f y ≡ x → b.layout.position f ≡ b.layout.position k →
+    b.lost f ≡ true)
 
 -- nothing was left of the column
 abbrev pub Gone : State → ℕ → Type 0
@@ -48,7 +52,8 @@ Gone b x = (k z : ℕ) → b.layout.is_cell k z ≡ true → b.layout.cell_col k
 
 -- data that agree with every component that there was in this column when this phase of the job began
 abbrev pub Stood : State → ℕ → (ℕ → ℕ) → Type 0
-Stood b x d = (k z : ℕ) → b.layout.is_cell k z ≡ true → b.layout.cell_col k z ≡ x → b.gone k ≡ false → b.cell k z ≡ b.layout.word k z d
+Stood b x d = (k z : ℕ) → b.layout.is_cell k z ≡ true → b.layout.cell_col k z ≡ x → b.gone k ≡ false →
+    b.cell k z ≡ b.layout.word k z d
 
 -- no write ever touched the column
 abbrev pub Untouched : State → ℕ → Type 0
@@ -56,13 +61,17 @@ Untouched b x = (j : ℕ) → j < b.count → (b.start j).is_write ≡ true → 
 
 -- a part of a write that isn't acknowledged was performed in this column since it was repaired
 abbrev pub Disturbed : State → ℕ → Type 0
-Disturbed b x = (j k z v : ℕ) × (b.repaired_at x ≤ j) × (j < b.count) × ((b.start j).is_write ≡ true) × (b.acknowledged j ≡ false) ×
-    ((b.start j).content k z ≡ Some v) × (b.layout.cell_col k z ≡ x) × (b.layout.is_cell k z ≡ true) × (b.applied j k z ≡ true)
+Disturbed b x =
+    (j k z v : ℕ) × (b.repaired_at x ≤ j) × (j < b.count) × ((b.start j).is_write ≡ true) × (b.acknowledged j ≡ false) ×
+    ((b.start j).content k z ≡ Some v) × (b.layout.cell_col k z ≡ x) × (b.layout.is_cell k z ≡ true) ×
+    (b.applied j k z ≡ true)
 
 -- and its grant is over
 abbrev pub Torn : State → ℕ → Type 0
-Torn b x = (j k z v : ℕ) × (b.repaired_at x ≤ j) × (j < b.count) × ((b.start j).is_write ≡ true) × (b.acknowledged j ≡ false) ×
-    ((b.start j).content k z ≡ Some v) × (b.layout.cell_col k z ≡ x) × (b.layout.is_cell k z ≡ true) × (b.applied j k z ≡ true) × ((b.start j).tag < b.tag)
+Torn b x =
+    (j k z v : ℕ) × (b.repaired_at x ≤ j) × (j < b.count) × ((b.start j).is_write ≡ true) × (b.acknowledged j ≡ false) ×
+    ((b.start j).content k z ≡ Some v) × (b.layout.cell_col k z ≡ x) × (b.layout.is_cell k z ≡ true) ×
+    (b.applied j k z ≡ true) × ((b.start j).tag < b.tag)
 
 -- no column with parity is both torn and short
 abbrev pub IsCalm : State → Type 0
@@ -74,16 +83,26 @@ NotClean (Get rw) = Unit {0}
 NotClean (Return true) = ⊥
 NotClean (Return false) = Unit {0}
 
+-- each component that isn't lost has replied that it has the next tag
+abbrev pub HaveNextTag : State → Type 0
+HaveNextTag b = (k : ℕ) → k < b.layout.components → (b.lost k ≡ true) ⊎ In (k, b.tag + 1) b.tag_replies
+
 -- when an event can happen: a name for each part of its guard
 abbrev pub Allowed : State → Event → Type 0
-Allowed b (Asks c rw) = record { free : b.waiting c ≡ false; home : b.away c ≡ false; none : b.held c ≡ None; idle : b.call c ≡ Idle }
+Allowed b (Asks c rw) = record {
+  free : b.waiting c ≡ false;
+  home : b.away c ≡ false;
+  none : b.held c ≡ None;
+  idle : b.call c ≡ Idle;
+}
 Allowed b (Grants c number rw range extending) = record {
   new : b.next ≤ number;
   asks : In (record { client = c; sequence = b.slot c + 1; kind = Get rw }) b.requests;
   over : b.fencing ≡ false;
   repaired : b.repairing ≡ false;
   none : b.outstanding c ≡ None;
-  apart : (d : ℕ) (g : Grant) → b.outstanding d ≡ Some g → (x : ℕ) → range x ≡ true → g.covers x ≡ true → (rw || g.rw) ≡ false;
+  apart : (d : ℕ) (g : Grant) → b.outstanding d ≡ Some g → (x : ℕ) → range x ≡ true → g.covers x ≡ true →
+      (rw || g.rw) ≡ false;
   apart_ext : (d : ℕ) (g : Grant) → b.outstanding d ≡ Some g → (extending || g.extending) ≡ false;
 }
 Allowed b (Refuses c kind) = record {
@@ -95,16 +114,38 @@ Allowed b (Takes c o s0) = record {
   comes : In (record { client = c; sequence = b.sequence c; grant = o; size = s0 }) b.answers;
 }
 Allowed b (AsksOther c) = record { free : b.waiting c ≡ false; home : b.away c ≡ false }
-Allowed b (ServesOther c) = record { free : b.waiting c ≡ false; out : b.away c ≡ true; next : b.slot c + 1 ≡ b.sequence c }
+Allowed b (ServesOther c) = record {
+  free : b.waiting c ≡ false;
+  out : b.away c ≡ true;
+  next : b.slot c + 1 ≡ b.sequence c;
+}
 Allowed b (TakesOther c) = record { out : b.away c ≡ true; served : b.slot c ≡ b.sequence c }
-Allowed b (GivesBack c g) = record { free : b.waiting c ≡ false; home : b.away c ≡ false; has : b.held c ≡ Some g; idle : b.call c ≡ Idle }
-Allowed b (Reports c g) = record { free : b.waiting c ≡ false; home : b.away c ≡ false; has : b.held c ≡ Some g; broken : b.call c ≡ Broken }
+Allowed b (GivesBack c g) = record {
+  free : b.waiting c ≡ false;
+  home : b.away c ≡ false;
+  has : b.held c ≡ Some g;
+  idle : b.call c ≡ Idle;
+}
+Allowed b (Reports c g) = record {
+  free : b.waiting c ≡ false;
+  home : b.away c ≡ false;
+  has : b.held c ≡ Some g;
+  broken : b.call c ≡ Broken;
+}
 Allowed b (Forgets c) = record { free : b.waiting c ≡ false; plain : b.commit c ≡ NoCommit }
 Allowed b (Frees c) = In (record { client = c; sequence = b.slot c + 1; kind = Return true }) b.requests
 Allowed b Fences = record { over : b.fencing ≡ false }
 Allowed b (SetsTag k) = In (b.object_tag k) b.set_tags
-Allowed b Fenced = record { runs : b.fencing ≡ true; first : b.repairing ≡ false; all : (k : ℕ) → k < b.layout.components → (b.lost k ≡ true) ⊎ In (k, b.tag + 1) b.tag_replies }
-Allowed b Refenced = record { runs : b.fencing ≡ true; again : b.repairing ≡ true; all : (k : ℕ) → k < b.layout.components → (b.lost k ≡ true) ⊎ In (k, b.tag + 1) b.tag_replies }
+Allowed b Fenced = record {
+  runs : b.fencing ≡ true;
+  first : b.repairing ≡ false;
+  all : HaveNextTag b;
+}
+Allowed b Refenced = record {
+  runs : b.fencing ≡ true;
+  again : b.repairing ≡ true;
+  all : HaveNextTag b;
+}
 Allowed b (StartsWrite c g i d touch hit seen e1 part) = record {
   some : (p v : ℕ) × (d p ≡ Some v) × (p + 1 ≡ e1);
   ends : (p v : ℕ) → d p ≡ Some v → p < e1;
@@ -116,12 +157,27 @@ Allowed b (StartsWrite c g i d touch hit seen e1 part) = record {
   touches : (p v : ℕ) → d p ≡ Some v → touch (b.layout.col p) ≡ true;
   hits : (k z : ℕ) → hit k z ≡ true → (b.layout.is_cell k z ≡ true) × (touch (b.layout.cell_col k z) ≡ true);
   lands : (p v : ℕ) → d p ≡ Some v → (k z : ℕ) × (hit k z ≡ true) × (b.layout.cell_col k z ≡ b.layout.col p);
-  misses : (k z : ℕ) → b.layout.is_cell k z ≡ true → g.left k ≡ false → hit k z ≡ false → (e : ℕ → ℕ) → b.layout.word k z (overlaid d e) ≡ b.layout.word k z e;
+  misses : (k z : ℕ) → b.layout.is_cell k z ≡ true → g.left k ≡ false → hit k z ≡ false → (e : ℕ → ℕ) →
+      b.layout.word k z (overlaid d e) ≡ b.layout.word k z e;
   bytes : (p v : ℕ) → d p ≡ Some v → v < 256;
-  sees : (k z : ℕ) → hit k z ≡ true → (e : ℕ → ℕ) → AreBytes e → Agrees b i (b.layout.cell_col k z) e → b.layout.word k z (overlaid d seen) ≡ b.layout.word k z (overlaid d e);
+  sees : (k z : ℕ) → hit k z ≡ true → (e : ℕ → ℕ) → AreBytes e → Agrees b i (b.layout.cell_col k z) e →
+      b.layout.word k z (overlaid d seen) ≡ b.layout.word k z (overlaid d e);
 }
-Allowed b (Sends c k g j i v) = record { new : b.nonce c < v; runs : b.call c ≡ Writes j; has : b.held c ≡ Some g; listed : (b.start j).left k ≡ false; first : b.out c k i ≡ NotSent }
-Allowed b (Performs m) = record { comes : In m b.writes; there : m.at < b.layout.components; stands : b.lost m.at ≡ false; here : b.gone m.at ≡ false; right : m.tag ≡ b.object_tag m.at; new : b.last_nonce m.at m.holder < m.nonce }
+Allowed b (Sends c k g j i v) = record {
+  new : b.nonce c < v;
+  runs : b.call c ≡ Writes j;
+  has : b.held c ≡ Some g;
+  listed : (b.start j).left k ≡ false;
+  first : b.out c k i ≡ NotSent;
+}
+Allowed b (Performs m) = record {
+  comes : In m b.writes;
+  there : m.at < b.layout.components;
+  stands : b.lost m.at ≡ false;
+  here : b.gone m.at ≡ false;
+  right : m.tag ≡ b.object_tag m.at;
+  new : b.last_nonce m.at m.holder < m.nonce;
+}
 Allowed b (Learns c k j v i) = record {
   runs : b.call c ≡ Writes j;
   sent : b.out c k i ≡ Sent v;
@@ -132,7 +188,8 @@ Allowed b (Acknowledges c j) = record {
   plain : b.commit c ≡ NoCommit;
   fits : ((b.start j).end_ ≤ (b.start j).clip) ⊎ (b.committed j ≡ true);
   told : (k i v : ℕ) → b.out c k i ≡ Sent v → b.gone k ≡ true;
-  all : (k z v : ℕ) → (b.start j).content k z ≡ Some v → (b.out c k ((b.start j).part k z) ≡ Done) ⊎ ((b.gone k ≡ true) × ((b.start j).tag ≡ b.tag));
+  all : (k z v : ℕ) → (b.start j).content k z ≡ Some v → (b.out c k ((b.start j).part k z) ≡ Done) ⊎
+      ((b.gone k ≡ true) × ((b.start j).tag ≡ b.tag));
 }
 Allowed b (Breaks c j) = record { runs : b.call c ≡ Writes j; plain : b.commit c ≡ NoCommit }
 Allowed b (StartsRead c g lo hi reach) = record {
@@ -141,7 +198,13 @@ Allowed b (StartsRead c g lo hi reach) = record {
   within : (x : ℕ) → reach x ≡ true → g.covers x ≡ true;
   reaches : (p : ℕ) → spans lo (min hi (b.known_size c) - lo) p ≡ true → reach (b.layout.col p) ≡ true;
 }
-Allowed b (Shows j k) = record { client : (b.start j).server ≡ false; in_log : j < b.count; right : (b.start j).tag ≡ b.object_tag k; there : k < b.layout.components; stands : b.lost k ≡ false }
+Allowed b (Shows j k) = record {
+  client : (b.start j).server ≡ false;
+  in_log : j < b.count;
+  right : (b.start j).tag ≡ b.object_tag k;
+  there : k < b.layout.components;
+  stands : b.lost k ≡ false;
+}
 Allowed b (Answers c j f) = record {
   runs : b.call c ≡ Reads j;
   told : (r : ReadReply) × In r b.shown × (r.entry ≡ j);
@@ -149,21 +212,43 @@ Allowed b (Answers c j f) = record {
 }
 Allowed b (EndsRead c j) = b.call c ≡ Reads j
 Allowed b (Fails k) = Unit {0}
-Allowed b (Loses c k) = record { over : b.fencing ≡ false; repaired : b.repairing ≡ false; has : (g : Grant) × (b.outstanding c ≡ Some g); only : (d : ℕ) → (d ≡ c → ⊥) → b.outstanding d ≡ None }
+Allowed b (Loses c k) = record {
+  over : b.fencing ≡ false;
+  repaired : b.repairing ≡ false;
+  has : (g : Grant) × (b.outstanding c ≡ Some g);
+  only : (d : ℕ) → (d ≡ c → ⊥) → b.outstanding d ≡ None;
+}
 Allowed b (Leaves c g) = record { has : b.held c ≡ Some g; idle : b.call c ≡ Idle }
 Allowed b (Tells j) = record { low : j < b.count; on : b.acknowledged j ≡ true }
-Allowed b (PerformsLost m) = record { comes : In m b.writes; there : m.at < b.layout.components; lost : b.gone m.at ≡ true; right : m.tag ≡ b.object_tag m.at; new : b.last_nonce m.at m.holder < m.nonce }
+Allowed b (PerformsLost m) = record {
+  comes : In m b.writes;
+  there : m.at < b.layout.components;
+  lost : b.gone m.at ≡ true;
+  right : m.tag ≡ b.object_tag m.at;
+  new : b.last_nonce m.at m.holder < m.nonce;
+}
 Allowed b (Declares k) = b.lost k ≡ true
-Allowed b (Drops k) = record { there : k < b.layout.components; stands : b.lost k ≡ false; over : b.fencing ≡ false; unused : b.granted_since ≡ false }
+Allowed b (Drops k) = record {
+  there : k < b.layout.components;
+  stands : b.lost k ≡ false;
+  over : b.fencing ≡ false;
+  unused : b.granted_since ≡ false;
+}
 Allowed b (AsksCommit c j) = record { runs : b.call c ≡ Writes j; plain : b.commit c ≡ NoCommit }
-Allowed b (Commits c j g) = record { asks : b.commit c ≡ CommitAsked j; live : b.outstanding c ≡ Some g; extending : g.extending ≡ true; over : b.fencing ≡ false }
+Allowed b (Commits c j g) = record {
+  asks : b.commit c ≡ CommitAsked j;
+  live : b.outstanding c ≡ Some g;
+  extending : g.extending ≡ true;
+  over : b.fencing ≡ false;
+}
 Allowed b (RefusesCommit c j) = b.commit c ≡ CommitAsked j
 Allowed b (TakesCommit c j) = b.commit c ≡ CommitDone j
 Allowed b (TakesRefusal c j) = b.commit c ≡ CommitRefused j
 Allowed b (Repairs k cells e) = record {
   at_work : b.repairing ≡ true;
   stands : b.lost k ≡ false;
-  all : (z q : ℕ) → cells z ≡ true → b.layout.col q ≡ b.layout.cell_col k z → (f y : ℕ) × (b.layout.copy f y q ≡ true) × (b.gone f ≡ false) × (e q ≡ b.cell f y);
+  all : (z q : ℕ) → cells z ≡ true → b.layout.col q ≡ b.layout.cell_col k z → (f y : ℕ) × (b.layout.copy f y q ≡ true) ×
+      (b.gone f ≡ false) × (e q ≡ b.cell f y);
 }
 Allowed b (Repaired done e) = record {
   runs : b.repairing ≡ true;
@@ -177,19 +262,30 @@ Allowed b (Rebuilds k cells) = record {
   repaired : b.repairing ≡ false;
   unused : b.granted_since ≡ false;
   none : (c : ℕ) → b.outstanding c ≡ None;
-  right : (z : ℕ) → b.layout.is_cell k z ≡ true → ((d : ℕ → ℕ) → AreBytes d → Stood b (b.layout.cell_col k z) d → cells z ≡ b.layout.word k z d) ⊎ (Untouched b (b.layout.cell_col k z) × (cells z ≡ 0));
+  right : (z : ℕ) → b.layout.is_cell k z ≡ true →
+      ((d : ℕ → ℕ) → AreBytes d → Stood b (b.layout.cell_col k z) d → cells z ≡ b.layout.word k z d) ⊎
+      (Untouched b (b.layout.cell_col k z) × (cells z ≡ 0));
 }
 
 -- the cells of which the writes were performed, after this WRITE
 abbrev pub performed : State → Write → ℕ → ℕ → ℕ → Bool
-performed b m = updated b.applied m.entry (updated (b.applied m.entry) m.at (λ z. b.applied m.entry m.at z || ((b.start m.entry).part m.at z == m.part)))
+performed b m = updated b.applied m.entry
+    (updated (b.applied m.entry) m.at (λ z. b.applied m.entry m.at z || ((b.start m.entry).part m.at z == m.part)))
 
 -- the grant that is issued, with the file's tag
 abbrev pub granted : State → ℕ → ℕ → Bool → (ℕ → Bool) → Bool → Grant
-granted b c number rw range extending = record { number = number; tag = b.tag; rw = rw; covers = range; extending = extending; left = b.missing }
+granted b c number rw range extending = record {
+  number = number;
+  tag = b.tag;
+  rw = rw;
+  covers = range;
+  extending = extending;
+  left = b.missing;
+}
 
 -- the entry of a write
-abbrev pub written_start : State → ℕ → Grant → (ℕ → Option ℕ) → (ℕ → Bool) → (ℕ → ℕ → Bool) → (ℕ → ℕ) → ℕ → (ℕ → ℕ → ℕ) → Start
+abbrev pub written_start : State → ℕ → Grant → (ℕ → Option ℕ) → (ℕ → Bool) → (ℕ → ℕ → Bool) → (ℕ → ℕ) → ℕ →
+    (ℕ → ℕ → ℕ) → Start
 written_start b c g d touch hit seen e1 part = record {
   part = part;
   end_ = e1;
@@ -289,9 +385,12 @@ is_byte (Some u) v = u == v
 abbrev pub ended : State → ℕ → Bool
 ended b j = (b.start j).is_write && ((b.start j).alive && (not (b.acknowledged j) && ((b.start j).tag == b.ended_tag)))
 
--- which bytes count from a repair's end on: of the writes that the fence ended those that the repair found; where a column without parity has nothing left, all
+-- which bytes count from a repair's end on: of the writes that the fence ended those that the repair found; where a
+-- column without parity has nothing left, all
 abbrev pub settled : State → (ℕ → Bool) → (ℕ → ℕ) → ℕ → ℕ → Bool
-settled b done e j p = cond (ended b j) (cond (done (b.layout.col p)) (is_byte ((b.start j).data_at p) (e p)) (cond (b.layout.coded (b.layout.col p)) (b.chosen j p) true)) (b.chosen j p)
+settled b done e j p =
+    cond (ended b j) (cond (done (b.layout.col p)) (is_byte ((b.start j).data_at p) (e p))
+    (cond (b.layout.coded (b.layout.col p)) (b.chosen j p) true)) (b.chosen j p)
 
 -- what an event changes: its guard has decided
 abbrev pub after : State → Event → State
@@ -309,7 +408,12 @@ after b (Grants c number rw range extending) = record b {
   next = number + 1;
   granted_since = true;
   gone = λ k. b.gone k || b.missing k;
-  answers = record { client = c; sequence = b.slot c + 1; grant = Some (granted b c number rw range extending); size = b.size } ∷ b.answers;
+  answers = record {
+    client = c;
+    sequence = b.slot c + 1;
+    grant = Some (granted b c number rw range extending);
+    size = b.size;
+  } ∷ b.answers;
 }
 after b (Refuses c kind) = record b {
   kept_size = updated b.kept_size c b.size;
@@ -317,7 +421,11 @@ after b (Refuses c kind) = record b {
   kept_grant = updated b.kept_grant c None;
   answers = record { client = c; sequence = b.slot c + 1; grant = None; size = b.size } ∷ b.answers;
 }
-after b (Takes c o s0) = record b { known_size = updated b.known_size c s0; waiting = updated b.waiting c false; held = updated b.held c o }
+after b (Takes c o s0) = record b {
+  known_size = updated b.known_size c s0;
+  waiting = updated b.waiting c false;
+  held = updated b.held c o;
+}
 after b (AsksOther c) = record b { sequence = updated b.sequence c (b.sequence c + 1); away = updated b.away c true }
 after b (ServesOther c) = record b { slot = updated b.slot c (b.slot c + 1) }
 after b (TakesOther c) = record b { away = updated b.away c false }
@@ -345,9 +453,20 @@ after b (Frees c) = record b {
   answers = record { client = c; sequence = b.slot c + 1; grant = None; size = b.size } ∷ b.answers;
 }
 after b Fences = record b { fencing = true; set_tags = b.tag ∷ b.set_tags }
-after b (SetsTag k) = record b { object_tag = updated b.object_tag k (b.object_tag k + 1); tag_replies = (k, b.object_tag k + 1) ∷ b.tag_replies }
+after b (SetsTag k) = record b {
+  object_tag = updated b.object_tag k (b.object_tag k + 1);
+  tag_replies = (k, b.object_tag k + 1) ∷ b.tag_replies;
+}
 after b Refenced = record b { tag = b.tag + 1; fencing = false; outstanding = λ c. None; granted_since = false }
-after b Fenced = record b { tag = b.tag + 1; ended_tag = b.tag; fencing = false; repairing = true; gone = b.lost; outstanding = λ c. None; granted_since = false }
+after b Fenced = record b {
+  tag = b.tag + 1;
+  ended_tag = b.tag;
+  fencing = false;
+  repairing = true;
+  gone = b.lost;
+  outstanding = λ c. None;
+  granted_since = false;
+}
 after b (StartsWrite c g i d touch hit seen e1 part) = record b {
   count = b.count + 1;
   start = updated b.start b.count (written_start b c g d touch hit seen e1 part);
@@ -365,13 +484,19 @@ after b (Sends c k g j i v) = record b {
   writes = record { holder = c; grant = g.number; tag = g.tag; nonce = v; at = k; entry = j; part = i } ∷ b.writes;
 }
 after b (Performs m) = record b {
-  cell = updated b.cell m.at (λ z. over ((b.start m.entry).part m.at z == m.part) ((b.start m.entry).content m.at z) (b.cell m.at z));
+  cell =
+      updated b.cell m.at (λ z. over ((b.start m.entry).part m.at z == m.part) ((b.start m.entry).content m.at z)
+      (b.cell m.at z));
   last_nonce = updated b.last_nonce m.at (updated (b.last_nonce m.at) m.holder m.nonce);
   replies = record { holder = m.holder; nonce = m.nonce; at = m.at } ∷ b.replies;
   applied = performed b m;
 }
 after b (Learns c k j v i) = record b { out = updated b.out c (updated (b.out c) k (updated (b.out c k) i Done)) }
-after b (Acknowledges c j) = record b { acknowledged = updated b.acknowledged j true; chosen = updated b.chosen j (λ p. true); call = updated b.call c Idle }
+after b (Acknowledges c j) = record b {
+  acknowledged = updated b.acknowledged j true;
+  chosen = updated b.chosen j (λ p. true);
+  call = updated b.call c Idle;
+}
 after b (Breaks c j) = record b { call = updated b.call c Broken }
 after b (StartsRead c g lo hi reach) = record b {
   count = b.count + 1;
@@ -387,20 +512,41 @@ after b (Shows j k) = record b { shown = record { entry = j; at = k; cells = b.c
 after b (Answers c j f) = record b { answer = updated b.answer j (Some f); call = updated b.call c Idle }
 after b (EndsRead c j) = record b { call = updated b.call c Idle }
 after b (Fails k) = record b { lost = updated b.lost k true }
-after b (Drops k) = record b { lost = updated b.lost k true; dropped = updated b.dropped k true; missing = updated b.missing k true }
-after b (Loses c k) = record b { lost = updated b.lost k true; missing = updated b.missing k true; gone = updated b.gone k true }
+after b (Drops k) = record b {
+  lost = updated b.lost k true;
+  dropped = updated b.dropped k true;
+  missing = updated b.missing k true;
+}
+after b (Loses c k) = record b {
+  lost = updated b.lost k true;
+  missing = updated b.missing k true;
+  gone = updated b.gone k true;
+}
 after b (Leaves c g) = record b { held = updated b.held c None; outstanding = updated b.outstanding c None }
 after b (Tells j) = record b { told_client = updated b.told_client j true }
 after b (PerformsLost m) = record b {
-  cell = updated b.cell m.at (λ z. over ((b.start m.entry).part m.at z == m.part) ((b.start m.entry).content m.at z) (b.cell m.at z));
+  cell =
+      updated b.cell m.at (λ z. over ((b.start m.entry).part m.at z == m.part) ((b.start m.entry).content m.at z)
+      (b.cell m.at z));
   last_nonce = updated b.last_nonce m.at (updated (b.last_nonce m.at) m.holder m.nonce);
 }
 after b (Declares k) = record b { missing = updated b.missing k true }
 after b (AsksCommit c j) = record b { commit = updated b.commit c (CommitAsked j) }
-after b (Commits c j g) = record b { commit = updated b.commit c (CommitDone j); size = max b.size (b.start j).end_; committed = updated b.committed j true }
+after b (Commits c j g) = record b {
+  commit = updated b.commit c (CommitDone j);
+  size = max b.size (b.start j).end_;
+  committed = updated b.committed j true;
+}
 after b (RefusesCommit c j) = record b { commit = updated b.commit c (CommitRefused j) }
-after b (TakesCommit c j) = record b { commit = updated b.commit c NoCommit; known_size = updated b.known_size c (max (b.known_size c) (b.start j).end_) }
-after b (TakesRefusal c j) = record b { commit = updated b.commit c NoCommit; held = updated b.held c None; call = updated b.call c Idle }
+after b (TakesCommit c j) = record b {
+  commit = updated b.commit c NoCommit;
+  known_size = updated b.known_size c (max (b.known_size c) (b.start j).end_);
+}
+after b (TakesRefusal c j) = record b {
+  commit = updated b.commit c NoCommit;
+  held = updated b.held c None;
+  call = updated b.call c Idle;
+}
 after b (Repairs k cells e) = record b {
   count = b.count + 1;
   start = updated b.start b.count (repair_start b k cells e);
@@ -411,7 +557,12 @@ after b (Repairs k cells e) = record b {
   answer = updated b.answer b.count None;
   cell = updated b.cell k (λ y. cond (cells y) (b.layout.word k y e) (b.cell k y));
 }
-after b (Repaired done e) = record b { repairing = false; gone = b.lost; repaired_at = λ x. cond (done x) b.count (b.repaired_at x); chosen = settled b done e }
+after b (Repaired done e) = record b {
+  repairing = false;
+  gone = b.lost;
+  repaired_at = λ x. cond (done x) b.count (b.repaired_at x);
+  chosen = settled b done e;
+}
 after b (Rebuilds k cells) = record b {
   count = b.count + 1;
   start = updated b.start b.count (rebuilt_start b k cells);
@@ -481,7 +632,26 @@ new_file_state m = record {
   set_tags = [];
   tag_replies = [];
   count = 0;
-  start = λ j. record { client = 0; grant = 0; tag = 0; alive = false; is_write = false; is_read = false; server = false; end_ = 0; clip = 0; from_ = 0; to_ = 0; left = λ k. false; part = λ k z. 0; data_at = λ p. None; touch = λ x. false; reach = λ x. false; content = λ k z. None; wanted = λ p. false };
+  start = λ j. record {
+    client = 0;
+    grant = 0;
+    tag = 0;
+    alive = false;
+    is_write = false;
+    is_read = false;
+    server = false;
+    end_ = 0;
+    clip = 0;
+    from_ = 0;
+    to_ = 0;
+    left = λ k. false;
+    part = λ k z. 0;
+    data_at = λ p. None;
+    touch = λ x. false;
+    reach = λ x. false;
+    content = λ k z. None;
+    wanted = λ p. false;
+  };
   applied = λ j k z. false;
   chosen = λ j p. false;
   acknowledged = λ j. false;

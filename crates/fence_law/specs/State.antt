@@ -1,6 +1,8 @@
 -- What there is in the machine of one striped file, and what can happen to it.
--- It is one flat record of functions. Numbers name what there is: c, d clients; k, f components; z, y cells of a component; p, q positions of bytes; x a column; j, i entries of the log; i a part too.
--- A column is the bytes of one stripe at one offset, with their parity; in a file without parity each byte is a column of its own.
+-- It is one flat record of functions. Numbers name what there is: c, d clients; k, f components; z, y cells of a
+-- component; p, q positions of bytes; x a column; j, i entries of the log; i a part too.
+-- A column is the bytes of one stripe at one offset, with their parity; in a file without parity each byte is a column
+-- of its own.
 use Rattle.std.specs.Prelude.{ℕ, Bool, List, Option}
 
 -- a layout that the server granted to a client
@@ -18,7 +20,8 @@ pub record Grant : Type 0 where
   -- the components that it leaves out, since they were missing
   pub left : ℕ → Bool
 
--- what a client asks of the server: a layout, for writing or not, or to take one back, cleanly or with a report of errors
+-- what a client asks of the server: a layout, for writing or not, or to take one back, cleanly or with a report of
+-- errors
 pub data RequestKind : Type 0 where
   Get : Bool → RequestKind
   Return : Bool → RequestKind
@@ -36,7 +39,8 @@ pub record Answer : Type 0 where
   pub grant : Option Grant
   pub size : ℕ
 
--- a WRITE on the wire: who sends it, under which grant and tag, its nonce, the component, the log's entry, and which part of what that entry writes there
+-- a WRITE on the wire: who sends it, under which grant and tag, its nonce, the component, the log's entry, and which
+-- part of what that entry writes there
 pub record Write : Type 0 where
   pub holder : ℕ
   pub grant : ℕ
@@ -78,7 +82,8 @@ pub data PartState : Type 0 where
   Sent : ℕ → PartState
   Done : PartState
 
--- an entry of the log, as it is fixed at its start: a client's write or read, the read before a write that gathers what parity needs, or a write of the server
+-- an entry of the log, as it is fixed at its start: a client's write or read, the read before a write that gathers what
+-- parity needs, or a write of the server
 pub record Start : Type 0 where
   pub client : ℕ
   -- the number and the tag of its grant
@@ -138,7 +143,8 @@ pub record State : Type 0 where
   pub cell : ℕ → ℕ → ℕ
   -- a component that failed, or is missing from the layout
   pub lost : ℕ → Bool
-  -- one that was lost when the last fence or repair ended (a fence that ran again in the repair leaves this), or was missing when a grant was issued since, or was reported as lost: no claim is made of its cells
+  -- one that was lost when the last fence or repair ended (a fence that ran again in the repair leaves this), or was
+  -- missing when a grant was issued since, or was reported as lost: no claim is made of its cells
   pub gone : ℕ → Bool
   -- one that is missing though its drive lives
   pub dropped : ℕ → Bool
@@ -229,8 +235,10 @@ pub data Event : Type 0 where
   Fenced : Event
   -- a fence is over that ran again, since the server had stopped before the repair after the first was over
   Refenced : Event
-  -- a client starts a write: under grant g, after gather i, of bytes d that end at e1; the cells that are hit, what was seen where d has nothing, the part of each cell
-  StartsWrite : (c : ℕ) (g : Grant) (i : ℕ) (d : ℕ → Option ℕ) (touch : ℕ → Bool) (hit : ℕ → ℕ → Bool) (seen : ℕ → ℕ) (e1 : ℕ) (part : ℕ → ℕ → ℕ) → Event
+  -- a client starts a write: under grant g, after gather i, of bytes d that end at e1; the cells that are hit, what was
+  -- seen where d has nothing, the part of each cell
+  StartsWrite : (c : ℕ) (g : Grant) (i : ℕ) (d : ℕ → Option ℕ) (touch : ℕ → Bool) (hit : ℕ → ℕ → Bool) (seen : ℕ → ℕ)
+      (e1 : ℕ) (part : ℕ → ℕ → ℕ) → Event
   -- it sends part i to component k under nonce v; the drive performs it; the client learns that
   Sends : (c k : ℕ) (g : Grant) (j i v : ℕ) → Event
   Performs : (m : Write) → Event
@@ -238,7 +246,8 @@ pub data Event : Type 0 where
   -- a write is acknowledged, or breaks off
   Acknowledges : (c j : ℕ) → Event
   Breaks : (c j : ℕ) → Event
-  -- a client starts a read of lo to hi, or a gather; a drive shows its cells; the read is answered, or ends without an answer
+  -- a client starts a read of lo to hi, or a gather; a drive shows its cells; the read is answered, or ends without an
+  -- answer
   StartsRead : (c : ℕ) (g : Grant) (lo hi : ℕ) (reach : ℕ → Bool) → Event
   Shows : (j k : ℕ) → Event
   Answers : (c j : ℕ) (f : ℕ → ℕ) → Event
@@ -248,7 +257,8 @@ pub data Event : Type 0 where
   -- a component whose drive lives is dropped, as for want of space; a lost one is declared missing
   Drops : (k : ℕ) → Event
   Declares : (k : ℕ) → Event
-  -- the server takes a client's report as a loss: each named component is lost, the write is acknowledged, the client leaves its grant; later it is told, and late WRITEs are performed on what is lost
+  -- the server takes a client's report as a loss: each named component is lost, the write is acknowledged, the client
+  -- leaves its grant; later it is told, and late WRITEs are performed on what is lost
   Loses : (c k : ℕ) → Event
   Leaves : (c : ℕ) (g : Grant) → Event
   Tells : (j : ℕ) → Event

@@ -22,7 +22,8 @@ pub record Kept : Type 0 where
 abbrev pub held_by : Kept → Candidates
 held_by k = record { values = λ p. values_in k.values p; sizes = k.sizes }
 
--- Candidates between which no judge can tell: the same values, and sizes of which the same are members, in any order and number.
+-- Candidates between which no judge can tell: the same values, and sizes of which the same are members, in any order
+-- and number.
 pub record AreSame (a b : Candidates) : Type 0 where
   pub values : (p : ℕ) → a.values p ≡ b.values p
   pub sizes : (n : ℕ) → Contains a.sizes n ↔ Contains b.sizes n

@@ -18,8 +18,10 @@ AllAcknowledged (Read offset len answer ∷ es) = AllAcknowledged es
 
 -- an accepted log of acknowledged writes leaves what the writes leave of the list that stood before
 abbrev pub IsPlain : Type 0
-IsPlain = (c : Candidates) (old : List ℕ) (log : List Entry) → IsSettled c old → AllAcknowledged log → AcceptsFrom c log → IsSettled (candidates_from c log) (written old log)
+IsPlain = (c : Candidates) (old : List ℕ) (log : List Entry) → IsSettled c old → AllAcknowledged log →
+    AcceptsFrom c log → IsSettled (candidates_from c log) (written old log)
 
 -- an answer that finds what it needs where one list of bytes is settled is a range of that list
 abbrev pub IsRangeFound : Type 0
-IsRangeFound = (c : Candidates) (bytes : List ℕ) (offset len : ℕ) (answer : List ℕ) → IsSettled c bytes → Finds c offset len answer → IsRange bytes offset len answer
+IsRangeFound = (c : Candidates) (bytes : List ℕ) (offset len : ℕ) (answer : List ℕ) → IsSettled c bytes →
+    Finds c offset len answer → IsRange bytes offset len answer

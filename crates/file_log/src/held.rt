@@ -35,7 +35,8 @@ fn finds(
     length: u64,
     answer: &[u8],
 ) -> bool
-    ensures { IsTrue result ↔ Finds (held_by record { values = values.now.entries; sizes = sizes.now }) offset length answer.now }
+    ensures { IsTrue result ↔ Finds (held_by record { values = values.now.entries; sizes = sizes.now }) offset length
+        answer.now }
 {
     has_size(sizes, offset, length, answer.len()) && has_bytes(values, offset, answer)
 }

@@ -31,7 +31,8 @@ fn keep_fitting(
     asked: u64,
     answer: &[u8],
 ) -> Result<(), Memory>
-    ensures { OnOk result (sizes.new.items ≡ filter (λ size. given offset asked size == length answer.now) sizes.old.items) }
+    ensures { OnOk result (sizes.new.items ≡
+        filter (λ size. given offset asked size == length answer.now) sizes.old.items) }
 {
     let count = answer.len() as u128;
     *sizes = sizes
@@ -67,7 +68,8 @@ fn is_among(sizes: &[u128], wanted: u128) -> bool
 // Adds each size, raised to an end: those at the end or above are there already, and the others all
 // become the end.
 fn add_raised(sizes: &mut Vec<u128>, end: u128) -> Result<(), Memory>
-    ensures { OnOk result ((n : ℕ) → Contains sizes.new.items n ↔ Contains (sizes.old.items ++ map (max end) sizes.old.items) n) }
+    ensures { OnOk result ((n : ℕ) → Contains sizes.new.items n ↔
+        Contains (sizes.old.items ++ map (max end) sizes.old.items) n) }
 {
     if has_below(sizes.as_slice(), end) && !is_among(sizes.as_slice(), end) {
         sizes.push(end)?;

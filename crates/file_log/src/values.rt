@@ -19,7 +19,8 @@ fn may_stand(values: &BTreeMap<u128, Bytes>, position: u128, byte: u8) -> bool
 
 /// Whether each byte of a piece is among the values of its position.
 pub fn has_bytes(values: &BTreeMap<u128, Bytes>, offset: u64, piece: &[u8]) -> bool
-    ensures { IsTrue result ↔ ((i : ℕ) → i < length piece.now → Contains (values_in values.now.entries (offset + i)) (slice_index piece.now i)) }
+    ensures { IsTrue result ↔ ((i : ℕ) → i < length piece.now →
+        Contains (values_in values.now.entries (offset + i)) (slice_index piece.now i)) }
 {
     for i in 0..piece.len() {
         if !may_stand(values, u128::from(offset) + i as u128, piece[i]) {
@@ -37,7 +38,9 @@ fn put_byte(
     byte: u8,
     settles: bool,
 ) -> Result<(), Memory>
-    ensures { OnOk result ((q : ℕ) → values_in values.new.entries q ≡ (if q == position then taken_byte settles (Some byte) (values_in values.old.entries q) else values_in values.old.entries q)) }
+    ensures { OnOk result ((q : ℕ) → values_in values.new.entries q ≡
+        (if q == position then taken_byte settles (Some byte) (values_in values.old.entries q)
+        else values_in values.old.entries q)) }
 {
     if settles {
         values.insert(position, Bytes::copied(alloc, &[byte])?)?;
@@ -58,7 +61,8 @@ fn put_piece(
     piece: &[u8],
     settles: bool,
 ) -> Result<(), Memory>
-    ensures { OnOk result ((p : ℕ) → values_in values.new.entries p ≡ taken_byte settles (byte_for offset piece.now p) (values_in values.old.entries p)) }
+    ensures { OnOk result ((p : ℕ) → values_in values.new.entries p ≡ taken_byte settles (byte_for offset piece.now p)
+        (values_in values.old.entries p)) }
 {
     for i in 0..piece.len() {
         put_byte(
@@ -78,7 +82,8 @@ pub fn next_values(
     values: &mut BTreeMap<u128, Bytes>,
     entry: &Entry,
 ) -> Result<(), Memory>
-    ensures { OnOk result ((p : ℕ) → values_in values.new.entries p ≡ values_after entry.now p (values_in values.old.entries p)) }
+    ensures { OnOk result ((p : ℕ) → values_in values.new.entries p ≡ values_after entry.now p
+        (values_in values.old.entries p)) }
 {
     match entry {
         Entry::Write {

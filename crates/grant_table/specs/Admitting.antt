@@ -22,7 +22,8 @@ without_answer (RulesMisordered expected) = Misordered expected
 
 -- what a request is; before the first one there is no last to come again
 unfoldable pub admitted : (last sequence : ℕ) → Admit
-admitted last sequence = if (sequence == last) && nat_lt 0 last then Again else without_answer (admit_after last sequence)
+admitted last sequence =
+    if (sequence == last) && nat_lt 0 last then Again else without_answer (admit_after last sequence)
 
 -- that is what the rules say of a client that made no request, and of one that did
 abbrev pub FollowTheRules : Type 0

@@ -123,7 +123,8 @@ impl FileGrants {
     ///
     /// As [`GrantErr`] says. Then the grants are as before.
     pub fn add(&mut self, grant: Grant) -> Result<(), GrantErr>
-        ensures refused { MatchOption (refusal self.old grant) (IfErr result (λ e. e ≡ NoMemory)) (λ e. result ≡ Err e) }
+        ensures refused { MatchOption (refusal self.old grant) (IfErr result (λ e. e ≡ NoMemory))
+            (λ e. result ≡ Err e) }
         ensures ok { OnOk result (self.new ≡ self.old ++ grant ∷ []) }
         ensures err { OnErr result (self.new ≡ self.old) }
     {

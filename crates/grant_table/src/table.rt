@@ -79,8 +79,10 @@ fn add_to(
     alloc: Global,
     grant: Grant,
 ) -> Result<(), GrantErr>
-    ensures refused { MatchOption (refusal (grants_of by_file.old.entries grant.file) grant) (IfErr result (λ e. e ≡ NoMemory)) (λ e. result ≡ Err e) }
-    ensures ok { OnOk result (Replaces by_file.old.entries grant.file (grants_of by_file.old.entries grant.file ++ grant ∷ []) by_file.new.entries) }
+    ensures refused { MatchOption (refusal (grants_of by_file.old.entries grant.file) grant)
+        (IfErr result (λ e. e ≡ NoMemory)) (λ e. result ≡ Err e) }
+    ensures ok { OnOk result (Replaces by_file.old.entries grant.file
+        (grants_of by_file.old.entries grant.file ++ grant ∷ []) by_file.new.entries) }
     ensures err { OnErr result (Same by_file.old.entries by_file.new.entries) }
 {
     if let Some(grants) = by_file.get_mut(&grant.file) {
@@ -95,7 +97,8 @@ fn add_to(
 // Takes out the file's first grant of that number.
 fn take_from(by_file: &mut BTreeMap<u32, FileGrants>, file: u32, number: u32) -> Option<Grant>
     ensures found { result ≡ find (has_number number) (grants_of by_file.old.entries file) }
-    ensures left { Replaces by_file.old.entries file (without_number number (grants_of by_file.old.entries file)) by_file.new.entries }
+    ensures left { Replaces by_file.old.entries file
+        (without_number number (grants_of by_file.old.entries file)) by_file.new.entries }
 {
     match by_file.get_mut(&file) {
         Some(grants) => grants.remove(number),
@@ -134,7 +137,8 @@ impl Grants {
     ///
     /// As [`GrantErr`] says. Then the grants of each file are as before.
     pub fn add(&mut self, grant: Grant) -> Result<(), GrantErr>
-        ensures refused { MatchOption (refusal (grants_of self.old grant.file) grant) (IfErr result (λ e. e ≡ NoMemory)) (λ e. result ≡ Err e) }
+        ensures refused { MatchOption (refusal (grants_of self.old grant.file) grant) (IfErr result (λ e. e ≡ NoMemory))
+            (λ e. result ≡ Err e) }
         ensures ok { OnOk result (Replaces self.old grant.file (grants_of self.old grant.file ++ grant ∷ []) self.new) }
         ensures err { OnErr result (Same self.old self.new) }
     {

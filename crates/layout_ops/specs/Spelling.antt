@@ -75,7 +75,8 @@ TimeFits v = record { seconds : FitsSigned w64 v.seconds; nanoseconds : v.nanose
 
 abbrev pub get_args_item : LayoutGetArgs → List ℕ
 get_args_item v =
-    bool_item v.signal_layout_avail ++ (layout_type_item ++ (u32_item v.iomode ++ (u64_item v.offset ++ (u64_item v.length
+    bool_item v.signal_layout_avail ++ (layout_type_item
+    ++ (u32_item v.iomode ++ (u64_item v.offset ++ (u64_item v.length
     ++ (u64_item v.minlength ++ (stateid_item v.stateid ++ u32_item v.maxcount))))))
 
 abbrev pub GetArgsFits : LayoutGetArgs → Type 0
@@ -90,7 +91,8 @@ GetArgsFits v = record {
 
 abbrev pub commit_args_item : LayoutCommitArgs → List ℕ
 commit_args_item v =
-    u64_item v.offset ++ (u64_item v.length ++ (bool_item v.reclaim ++ (stateid_item v.stateid ++ (optional_item u64_item v.last_write_offset
+    u64_item v.offset ++ (u64_item v.length
+    ++ (bool_item v.reclaim ++ (stateid_item v.stateid ++ (optional_item u64_item v.last_write_offset
     ++ (optional_item time_item v.time ++ (layout_type_item ++ opaque_item v.body))))))
 
 abbrev pub CommitArgsFits : LayoutCommitArgs → Type 0
@@ -105,7 +107,8 @@ CommitArgsFits v = record {
 
 abbrev pub return_args_item : LayoutReturnArgs → List ℕ
 return_args_item v =
-    bool_item v.reclaim ++ (layout_type_item ++ (u32_item v.iomode ++ (file_kind_item ++ (u64_item v.offset ++ (u64_item v.length
+    bool_item v.reclaim ++ (layout_type_item
+    ++ (u32_item v.iomode ++ (file_kind_item ++ (u64_item v.offset ++ (u64_item v.length
     ++ (stateid_item v.stateid ++ opaque_item v.body))))))
 
 abbrev pub ReturnArgsFits : LayoutReturnArgs → Type 0
@@ -135,7 +138,8 @@ ArgsFits (args.LayoutReturn v) = ReturnArgsFits v
 -- ---- results
 
 abbrev pub segment_item : LayoutSegment → List ℕ
-segment_item v = u64_item v.offset ++ (u64_item v.length ++ (u32_item v.iomode ++ (layout_type_item ++ opaque_item v.body)))
+segment_item v =
+    u64_item v.offset ++ (u64_item v.length ++ (u32_item v.iomode ++ (layout_type_item ++ opaque_item v.body)))
 
 abbrev pub SegmentFits : LayoutSegment → Type 0
 SegmentFits v = record {
@@ -211,7 +215,8 @@ RequestFits v = record {
 abbrev pub answer_item : Answer → List ℕ
 answer_item v =
     u32_item v.client ++ (u32_item v.sequence ++ (u32_item v.file
-    ++ (u32_item (operation_number (operation_of_results v.results)) ++ (u32_item v.detail ++ (u64_item v.size ++ results_item v.results)))))
+    ++ (u32_item (operation_number (operation_of_results v.results))
+    ++ (u32_item v.detail ++ (u64_item v.size ++ results_item v.results)))))
 
 abbrev pub AnswerFits : Answer → Type 0
 AnswerFits v = record {
@@ -227,7 +232,8 @@ AnswerFits v = record {
 
 abbrev pub recall_args_item : LayoutRecallArgs → List ℕ
 recall_args_item v =
-    layout_type_item ++ (u32_item v.iomode ++ (bool_item v.changed ++ (file_kind_item ++ (opaque_item v.file ++ (u64_item v.offset
+    layout_type_item ++ (u32_item v.iomode
+    ++ (bool_item v.changed ++ (file_kind_item ++ (opaque_item v.file ++ (u64_item v.offset
     ++ (u64_item v.length ++ stateid_item v.stateid))))))
 
 abbrev pub RecallArgsFits : LayoutRecallArgs → Type 0
@@ -240,7 +246,8 @@ RecallArgsFits v = record {
 }
 
 abbrev pub recall_item : Recall → List ℕ
-recall_item v = u32_item v.client ++ (u32_item v.number ++ (u32_item v.file ++ (recall_op_item ++ recall_args_item v.args)))
+recall_item v =
+    u32_item v.client ++ (u32_item v.number ++ (u32_item v.file ++ (recall_op_item ++ recall_args_item v.args)))
 
 abbrev pub RecallFits : Recall → Type 0
 RecallFits v = record {
@@ -251,7 +258,8 @@ RecallFits v = record {
 }
 
 abbrev pub recall_answer_item : RecallAnswer → List ℕ
-recall_answer_item v = u32_item v.client ++ (u32_item v.number ++ (u32_item v.file ++ (recall_op_item ++ u32_item v.status)))
+recall_answer_item v =
+    u32_item v.client ++ (u32_item v.number ++ (u32_item v.file ++ (recall_op_item ++ u32_item v.status)))
 
 abbrev pub RecallAnswerFits : RecallAnswer → Type 0
 RecallAnswerFits v = record {

@@ -9,7 +9,8 @@ use Rattle.layout_types.specs.Spelling.{cred_item, map_item, layout_item, device
 use Rattle.layout_types.specs.Reading.{cred_in, map_in, layout_in, deviceaddr_in, update_in, ioerrs_in, hint_in}
 
 -- the spelling of the value that bytes spell, or the refusal of reading it
-abbrev pub spelled_again : {V : Type 0} → (Rest → Result (V × Rest) LayoutErr) → (V → List ℕ) → List ℕ → Result (List ℕ) LayoutErr
+abbrev pub spelled_again : {V : Type 0} → (Rest → Result (V × Rest) LayoutErr) → (V → List ℕ) → List ℕ →
+    Result (List ℕ) LayoutErr
 spelled_again part spelling bytes = whole part bytes >>= λ v. Ok (spelling v)
 
 abbrev pub written_of : Kind → List ℕ → Result (List ℕ) LayoutErr

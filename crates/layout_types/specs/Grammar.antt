@@ -53,7 +53,8 @@ enum_part of i = do
 -- ---- optional parts and lists
 
 -- a bool, and where it is 1 the value
-unfoldable pub optional_part : {V : Type 0} → (Rest → Result (V × Rest) LayoutErr) → Rest → Result (Option V × Rest) LayoutErr
+unfoldable pub optional_part : {V : Type 0} → (Rest → Result (V × Rest) LayoutErr) → Rest →
+    Result (Option V × Rest) LayoutErr
 optional_part part i = do
   there ← bool_part i
   if there.0 then (part there.1 >>= λ v. Ok (Some v.0, v.1)) else Ok (None, there.1)
@@ -66,7 +67,8 @@ abbrev pub OptionalFits : {V : Type 0} → (V → Type 0) → Option V → Type 
 OptionalFits Fits None = ⊤
 OptionalFits Fits (Some v) = Fits v
 
-unfoldable pub members : {V : Type 0} → (Rest → Result (V × Rest) LayoutErr) → ℕ → Rest → Result (List V × Rest) LayoutErr
+unfoldable pub members : {V : Type 0} → (Rest → Result (V × Rest) LayoutErr) → ℕ → Rest →
+    Result (List V × Rest) LayoutErr
 members part zero i = Ok ([], i)
 members part (suc n) i = do
   v ← part i

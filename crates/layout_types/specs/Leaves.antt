@@ -14,7 +14,8 @@ abbrev pub text_of : {V : Type 0} → (List ℕ → V → List ℕ) → V → Li
 text_of lines v = lines [] v ++ codes ".\n"
 
 -- the text of the value that bytes spell, or the refusal of reading it
-abbrev pub text_read : {V : Type 0} → (Rest → Result (V × Rest) LayoutErr) → (List ℕ → V → List ℕ) → List ℕ → Result (List ℕ) LayoutErr
+abbrev pub text_read : {V : Type 0} → (Rest → Result (V × Rest) LayoutErr) → (List ℕ → V → List ℕ) → List ℕ →
+    Result (List ℕ) LayoutErr
 text_read part lines bytes = whole part bytes >>= λ v. Ok (text_of lines v)
 
 abbrev pub leaves_of : Kind → List ℕ → Result (List ℕ) LayoutErr

@@ -46,7 +46,10 @@ with_newest talks talk = slice_set talks (length talks - 1) talk
 -- ---- what each call does to the connections that are told
 
 abbrev pub with_accepted : Traffic → Traffic
-with_accepted a = record a { to_accept = drop 1 a.to_accept; accepted = a.accepted ++ begin (next_stream a.to_accept) ∷ [] }
+with_accepted a = record a {
+  to_accept = drop 1 a.to_accept;
+  accepted = a.accepted ++ begin (next_stream a.to_accept) ∷ [];
+}
 
 -- a connect, whether it fails or not, is the one for which the next stream was meant
 abbrev pub without_stream : Traffic → Traffic
@@ -77,22 +80,26 @@ after_putting bytes talks = with_newest talks (record (newest talks) { put = (ne
 
 abbrev pub Takes : Option Traffic → Option Traffic → Result ℕ Fault → List ℕ → Type 0
 Takes None new result buf = new ≡ None
-Takes (Some a) new (Ok n) buf = (0 < length a.accepted) × Comes (newest a.accepted) n buf × (new ≡ Some (record a { accepted = after_taking n a.accepted }))
+Takes (Some a) new (Ok n) buf = (0 < length a.accepted) × Comes (newest a.accepted) n buf ×
+    (new ≡ Some (record a { accepted = after_taking n a.accepted }))
 Takes (Some a) new (Err e) buf = new ≡ Some a
 
 abbrev pub Puts : Option Traffic → Option Traffic → Result ℕ Fault → List ℕ → Type 0
 Puts None new result bytes = new ≡ None
-Puts (Some a) new (Ok n) bytes = (0 < length a.accepted) × (new ≡ Some (record a { accepted = after_putting (take n bytes) a.accepted }))
+Puts (Some a) new (Ok n) bytes =
+    (0 < length a.accepted) × (new ≡ Some (record a { accepted = after_putting (take n bytes) a.accepted }))
 Puts (Some a) new (Err e) bytes = new ≡ Some a
 
 abbrev pub Receives : Option Traffic → Option Traffic → Result ℕ Fault → List ℕ → Type 0
 Receives None new result buf = new ≡ None
-Receives (Some a) new (Ok n) buf = (0 < length a.asked) × Comes (newest a.asked) n buf × (new ≡ Some (record a { asked = after_taking n a.asked }))
+Receives (Some a) new (Ok n) buf =
+    (0 < length a.asked) × Comes (newest a.asked) n buf × (new ≡ Some (record a { asked = after_taking n a.asked }))
 Receives (Some a) new (Err e) buf = new ≡ Some a
 
 abbrev pub Sends : Option Traffic → Option Traffic → Result ℕ Fault → List ℕ → Type 0
 Sends None new result bytes = new ≡ None
-Sends (Some a) new (Ok n) bytes = (0 < length a.asked) × (new ≡ Some (record a { asked = after_putting (take n bytes) a.asked }))
+Sends (Some a) new (Ok n) bytes =
+    (0 < length a.asked) × (new ≡ Some (record a { asked = after_putting (take n bytes) a.asked }))
 Sends (Some a) new (Err e) bytes = new ≡ Some a
 
 -- ---- one end of a connection, where the links tell it

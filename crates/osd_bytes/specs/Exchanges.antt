@@ -35,14 +35,17 @@ pub record Asks (to : Node) (sent : List ℕ) (before : Traffic) (now : Option T
 -- the exchange was cut off: before it connected, by that, or on the connection
 abbrev pub CutOff : Node → List ℕ → Traffic → Option Traffic → Type 0
 CutOff to message a now =
-    (now ≡ Some a) ⊎ (now ≡ Some (without_stream a)) ⊎ ((sent more : List ℕ) × (framed message ≡ sent ++ more) × Asks to sent a now)
+    (now ≡ Some a) ⊎ (now ≡ Some (without_stream a)) ⊎
+    ((sent more : List ℕ) × (framed message ≡ sent ++ more) × Asks to sent a now)
 
 -- the frame of the message went out, and the answer is the first record that came, or why there is none
 abbrev pub Exchanges : Node → List ℕ → Option Traffic → Option Traffic → Result (List ℕ) ExchangeErr → Type 0
 Exchanges to message None now result = now ≡ None
 Exchanges to message (Some a) now (Ok r) = Asks to (framed message) a now × (first_record (next_stream a.to_ask) ≡ Ok r)
-Exchanges to message (Some a) now (Err Ended) = Asks to (framed message) a now × (first_record (next_stream a.to_ask) ≡ Err Ended)
-Exchanges to message (Some a) now (Err TooLong) = Asks to (framed message) a now × (first_record (next_stream a.to_ask) ≡ Err TooLong)
+Exchanges to message (Some a) now (Err Ended) =
+    Asks to (framed message) a now × (first_record (next_stream a.to_ask) ≡ Err Ended)
+Exchanges to message (Some a) now (Err TooLong) =
+    Asks to (framed message) a now × (first_record (next_stream a.to_ask) ≡ Err TooLong)
 Exchanges to message (Some a) now (Err LinkFault) = CutOff to message a now
 Exchanges to message (Some a) now (Err Memory) = CutOff to message a now
 
@@ -59,11 +62,13 @@ HasExchangeCause count before now (Err Memory) = now ≡ before
 -- these bytes went out on it
 pub record WasSent (before now : Option Traffic) (sent : List ℕ) : Type 0 where
   pub none : before ≡ None → now ≡ None
-  pub some : (a : Traffic) (to : Node) (t : Talk) → before ≡ Some (with_asked to t a) → now ≡ Some (with_asked to (record t { put = t.put ++ sent }) a)
+  pub some : (a : Traffic) (to : Node) (t : Talk) → before ≡ Some (with_asked to t a) →
+      now ≡ Some (with_asked to (record t { put = t.put ++ sent }) a)
 
 -- these bytes came of it
 abbrev pub LeftOf : Traffic → Node → Talk → Option Traffic → List ℕ → Type 0
-LeftOf a to t now got = (left : List ℕ) × (t.left ≡ got ++ left) × (now ≡ Some (with_asked to (record t { left = left }) a))
+LeftOf a to t now got =
+    (left : List ℕ) × (t.left ≡ got ++ left) × (now ≡ Some (with_asked to (record t { left = left }) a))
 
 pub record WasReceived (before now : Option Traffic) (got : List ℕ) : Type 0 where
   pub none : before ≡ None → now ≡ None
@@ -72,4 +77,5 @@ pub record WasReceived (before now : Option Traffic) (got : List ℕ) : Type 0 w
 -- the first record came of it, or there is none
 pub record ReceivesFirst (before now : Option Traffic) (result : Result (List ℕ) ExchangeErr) : Type 0 where
   pub none : before ≡ None → now ≡ None
-  pub some : (a : Traffic) (to : Node) (t : Talk) → before ≡ Some (with_asked to t a) → ((got : List ℕ) × LeftOf a to t now got) × IsFirst t.left result
+  pub some : (a : Traffic) (to : Node) (t : Talk) → before ≡ Some (with_asked to t a) →
+      ((got : List ℕ) × LeftOf a to t now got) × IsFirst t.left result

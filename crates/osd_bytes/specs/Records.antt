@@ -40,11 +40,17 @@ closed b = if nat_eq b.left 0 then (if b.last then Gives b.payload else Goes b) 
 abbrev pub opened : Begun → ℕ → Step
 opened b number =
     if nat_le MAX_FRAGMENTS b.fragments || nat_lt MAX_RECORD (length b.payload + payload_length number) then Breaks
-    else closed (record b { fragments = b.fragments + 1; header = []; last = is_last number; left = payload_length number })
+    else closed (record b {
+      fragments = b.fragments + 1;
+      header = [];
+      last = is_last number;
+      left = payload_length number;
+    })
 
 abbrev pub after_header_byte : Begun → ℕ → Step
 after_header_byte b x =
-    if nat_lt (length b.header) 3 then Goes (record b { header = b.header ++ x ∷ [] }) else opened b (from_be_bytes w32 (b.header ++ x ∷ []))
+    if nat_lt (length b.header) 3 then Goes (record b { header = b.header ++ x ∷ [] })
+    else opened b (from_be_bytes w32 (b.header ++ x ∷ []))
 
 abbrev pub after_payload_byte : Begun → ℕ → Step
 after_payload_byte b x = closed (record b { payload = b.payload ++ x ∷ []; left = b.left - 1 })
@@ -123,7 +129,8 @@ joined ps = flat_map (λ p. p) ps
 -- a record within the limits is read as the payloads of its fragments, one behind the other
 abbrev pub JoinsFragments : Type 0
 JoinsFragments =
-    (p : List ℕ) (ps : List (List ℕ)) → length (p ∷ ps) ≤ MAX_FRAGMENTS → length (joined (p ∷ ps)) ≤ MAX_RECORD → HasRead (fragmented (p ∷ ps)) (joined (p ∷ ps) ∷ []) fresh
+    (p : List ℕ) (ps : List (List ℕ)) → length (p ∷ ps) ≤ MAX_FRAGMENTS → length (joined (p ∷ ps)) ≤ MAX_RECORD →
+    HasRead (fragmented (p ∷ ps)) (joined (p ∷ ps) ∷ []) fresh
 
 -- the payload of the record in work after a byte, also where that made it whole
 abbrev pub Grows : Result (Option (List ℕ)) RecordErr → Begun → Begun → List ℕ → Type 0

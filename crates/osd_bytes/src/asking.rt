@@ -56,9 +56,11 @@ const PIECE: usize = 4096;
 // Sends all of the bytes.
 fn send_all<L: Links>(links: &mut L, bytes: &[u8]) -> Result<(), Fault>
     ensures ok { OnOk result (WasSent (L.told links.old) (L.told links.new) bytes.now) }
-    ensures err { OnErr result ((sent more : List ℕ) × (bytes.now ≡ sent ++ more) × WasSent (L.told links.old) (L.told links.new) sent) }
+    ensures err { OnErr result ((sent more : List ℕ) × (bytes.now ≡ sent ++ more) ×
+        WasSent (L.told links.old) (L.told links.new) sent) }
     ensures standing { L.standing links.new ≡ L.standing links.old }
-    ensures cause { HasLinkCause (asking_count (L.standing links.old).asked) (L.faults links.old) (L.faults links.new) result }
+    ensures cause { HasLinkCause (asking_count (L.standing links.old).asked) (L.faults links.old)
+        (L.faults links.new) result }
 {
     let mut at = 0;
     while at < bytes.len() {
@@ -72,7 +74,8 @@ fn send_all<L: Links>(links: &mut L, bytes: &[u8]) -> Result<(), Fault>
 fn receive_record<L: Links>(alloc: Global, links: &mut L) -> Result<Bytes, ExchangeErr>
     ensures told { ReceivesFirst (L.told links.old) (L.told links.new) result }
     ensures standing { L.standing links.new ≡ L.standing links.old }
-    ensures cause { HasExchangeCause (asking_count (L.standing links.old).asked) (L.faults links.old) (L.faults links.new) result }
+    ensures cause { HasExchangeCause (asking_count (L.standing links.old).asked) (L.faults links.old)
+        (L.faults links.new) result }
 {
     let mut records = Records::new(alloc);
     let mut piece = [0; PIECE];

@@ -117,7 +117,9 @@ impl Conversations {
 
     /// Begins a connection on which the next stream comes. Where there is no memory nothing changes.
     pub fn begin(&mut self, alloc: Global) -> Result<(), Memory>
-        ensures ok { OnOk result (self.new ≡ record self.old { talks = self.old.talks ++ begin (next_stream self.old.coming) ∷ [] }) }
+        ensures ok { OnOk result (self.new ≡ record self.old {
+          talks = self.old.talks ++ begin (next_stream self.old.coming) ∷ [];
+        }) }
         ensures err { OnErr result (self.new ≡ self.old) }
     {
         let stream = self.next_stream(alloc)?;

@@ -116,7 +116,8 @@ impl Window {
 
 // The next byte, read ahead or from the source.
 fn next_byte<S: Source>(window: &mut Window, s: &mut S) -> Result<Option<u8>, Fault>
-    ensures bytes { IfOk result (λ b. Consumes (known_of window.old (S.left s.old)) (known_of window.new (S.left s.new)) (option_to_list b)) }
+    ensures bytes { IfOk result (λ b. Consumes (known_of window.old (S.left s.old)) (known_of window.new (S.left s.new))
+        (option_to_list b)) }
     ensures end { IfOk result (λ b. IfNone b (window.new ≡ record { bytes = []; ended = true })) }
     ensures at_end { OnOk result (SeesEnd window.old.ended (S.left s.old) window.new.ended (S.left s.new)) }
     ensures cause { HasCause (S.faults s.old) (S.faults s.new) result }
@@ -142,7 +143,8 @@ fn line_from<S: Source>(
     ensures answer { NextIs taken.old (known_of window.old (S.left s.old)) result }
     ensures rest { OnOk result (Leaves (known_of window.old (S.left s.old)) (known_of window.new (S.left s.new))) }
     ensures taken { taken.new ≤ MAX_INPUT }
-    ensures takes { TakesLine taken.old taken.new (known_of window.old (S.left s.old)) (known_of window.new (S.left s.new)) result }
+    ensures takes { TakesLine taken.old taken.new (known_of window.old (S.left s.old))
+        (known_of window.new (S.left s.new)) result }
     ensures counts { GivesLine result → taken.old < taken.new }
     ensures end { result ≡ Ok None → window.new.ended ≡ true }
     ensures at_end { OnOk result (SeesEnd window.old.ended (S.left s.old) window.new.ended (S.left s.new)) }
@@ -217,10 +219,13 @@ impl LineReader {
     pub fn next_line<S: Source>(&mut self, s: &mut S) -> Result<Option<Bytes>, LineErr>
         requires { self.old.over ≡ false }
         ensures answer { NextIs self.old.taken (known_of self.old.ahead (S.left s.old)) result }
-        ensures rest { OnOk result (Leaves (known_of self.old.ahead (S.left s.old)) (known_of self.new.ahead (S.left s.new))) }
-        ensures lines { Yields (known_of self.old.ahead (S.left s.old)) (known_of self.new.ahead (S.left s.new)) result }
+        ensures rest { OnOk result (Leaves (known_of self.old.ahead (S.left s.old))
+            (known_of self.new.ahead (S.left s.new))) }
+        ensures lines { Yields (known_of self.old.ahead (S.left s.old))
+            (known_of self.new.ahead (S.left s.new)) result }
         ensures over { (self.new.over ≡ false) ↔ GivesLine result }
-        ensures takes { TakesLine self.old.taken self.new.taken (known_of self.old.ahead (S.left s.old)) (known_of self.new.ahead (S.left s.new)) result }
+        ensures takes { TakesLine self.old.taken self.new.taken (known_of self.old.ahead (S.left s.old))
+            (known_of self.new.ahead (S.left s.new)) result }
         ensures counts { GivesLine result → self.old.taken < self.new.taken }
         ensures end { result ≡ Ok None → self.new.ahead.ended ≡ true }
         ensures at_end { OnOk result (SeesEnd self.old.ahead.ended (S.left s.old) self.new.ahead.ended (S.left s.new)) }

@@ -81,7 +81,8 @@ pub trait Links {
         ensures none { (standing self.old).asked ≡ None → IsErr result }
         ensures standing { standing self.new ≡ standing self.old }
         ensures told { Receives (told self.old) (told self.new) result buf.new }
-        ensures cause { HasLinkCause (asking_count (standing self.old).asked) (faults self.old) (faults self.new) result };
+        ensures cause { HasLinkCause (asking_count (standing self.old).asked) (faults self.old)
+            (faults self.new) result };
 
     /// Sends some of the bytes on the asking connection, at least one where there is one.
     fn send(&mut self, bytes: &[u8]) -> Result<usize, Fault>
@@ -90,7 +91,8 @@ pub trait Links {
         ensures none { (standing self.old).asked ≡ None → IsErr result }
         ensures standing { standing self.new ≡ standing self.old }
         ensures told { Sends (told self.old) (told self.new) result bytes.now }
-        ensures cause { HasLinkCause (asking_count (standing self.old).asked) (faults self.old) (faults self.new) result };
+        ensures cause { HasLinkCause (asking_count (standing self.old).asked) (faults self.old)
+            (faults self.new) result };
 
     /// Closes the asking connection. It never fails.
     fn hang_up(&mut self)

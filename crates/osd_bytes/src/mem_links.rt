@@ -54,7 +54,8 @@ impl Model for MemLinks {
       calls = m.calls;
     } };
 
-    ghost invariant = { λ m. (m.has_accepted ≡ true → 0 < length m.accepted.talks) × ((to : Node) → m.asks ≡ Some to → 0 < length m.asked.talks) };
+    ghost invariant = { λ m. (m.has_accepted ≡ true → 0 < length m.accepted.talks) ×
+        ((to : Node) → m.asks ≡ Some to → 0 < length m.asked.talks) };
 }
 
 impl MemLinks {
@@ -157,7 +158,12 @@ impl MemLinks {
 
     // One asking connection more. Where there is no memory nothing changes.
     fn begin_asking(&mut self, to: Node) -> Result<(), Memory>
-        ensures ok { OnOk result (self.new ≡ record self.old { traffic = record self.old.traffic { asked = self.old.traffic.asked ++ begin (next_stream self.old.traffic.to_ask) ∷ []; nodes = self.old.traffic.nodes ++ to ∷ [] } }) }
+        ensures ok { OnOk result (self.new ≡ record self.old {
+          traffic = record self.old.traffic {
+            asked = self.old.traffic.asked ++ begin (next_stream self.old.traffic.to_ask) ∷ [];
+            nodes = self.old.traffic.nodes ++ to ∷ [];
+          };
+        }) }
         ensures err { OnErr result (self.new ≡ self.old) }
     {
         let before = self.nodes.len();

@@ -78,7 +78,8 @@ impl Model for Records {
 
     ghost view = { λ r. record { payload = r.payload; fragments = r.fragments; header = r.header; last = r.last; left = r.left } };
 
-    ghost invariant = { λ r. (length r.payload + r.left ≤ MAX_RECORD) × (r.fragments ≤ MAX_FRAGMENTS) × (length r.header ≤ 3) };
+    ghost invariant = { λ r. (length r.payload + r.left ≤ MAX_RECORD) × (r.fragments ≤ MAX_FRAGMENTS) ×
+        (length r.header ≤ 3) };
 }
 
 // What a refused piece is taken back to: the payload's length, and the other parts of `Records`.
@@ -224,7 +225,8 @@ impl Records {
         requires { records.old ≡ [] }
         ensures ok { OnOk result (split self.old piece.now ≡ record { records = records.new; begun = Some self.new }) }
         ensures long { IsErrOf result TooLong → (split self.old piece.now).begun ≡ None }
-        ensures front { OnErr result ((rest : List ℕ) × (front records.new self.new.payload ≡ self.old.payload ++ rest)) }
+        ensures front { OnErr result ((rest : List ℕ) ×
+            (front records.new self.new.payload ≡ self.old.payload ++ rest)) }
     {
         for i in 0..piece.len() {
             let whole = self.advance(piece[i])?;
@@ -238,7 +240,13 @@ impl Records {
         requires size { before.payload + before.left ≤ MAX_RECORD }
         requires fragments { before.fragments ≤ MAX_FRAGMENTS }
         requires header { length before.header ≤ 3 }
-        ensures { self.new ≡ record { payload = take before.payload (front records self.old.payload); fragments = before.fragments; header = before.header; last = before.last; left = before.left } }
+        ensures { self.new ≡ record {
+          payload = take before.payload (front records self.old.payload);
+          fragments = before.fragments;
+          header = before.header;
+          last = before.last;
+          left = before.left;
+        } }
     {
         if !records.is_empty() {
             mem::swap(&mut self.payload, records.get_mut(0));
@@ -254,7 +262,8 @@ impl Records {
     /// fed again, whole or in smaller parts.
     pub fn feed(&mut self, piece: &[u8]) -> Result<ByteLists, RecordErr>
         ensures fed { Feeds (split self.old piece.now) result self.old self.new }
-        ensures read { IfOk result (λ records. (before : List ℕ) (given : List (List ℕ)) → HasRead before given self.old → HasRead (before ++ piece.now) (given ++ records) self.new) }
+        ensures read { IfOk result (λ records. (before : List ℕ) (given : List (List ℕ)) →
+            HasRead before given self.old → HasRead (before ++ piece.now) (given ++ records) self.new) }
     {
         let before = Before {
             payload: self.payload.len(),

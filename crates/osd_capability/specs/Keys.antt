@@ -10,7 +10,8 @@ use Rattle.osd_capability.specs.Layout.{spelling}
 
 -- HMAC of the bytes under the drive's key, over the hash of the format
 abbrev pub key_of : List ℕ → Capability → CapKey
-key_of key c = if nat_eq c.format FORMAT_SHA256 then Two (hmac_sha256 key (spelling c)) else One (hmac_sha1 key (spelling c))
+key_of key c =
+    if nat_eq c.format FORMAT_SHA256 then Two (hmac_sha256 key (spelling c)) else One (hmac_sha1 key (spelling c))
 
 -- the format of the capabilities that a key belongs to
 abbrev pub format_of : CapKey → ℕ

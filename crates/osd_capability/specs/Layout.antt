@@ -15,9 +15,12 @@ is_format n = nat_eq n FORMAT_SHA1 || nat_eq n FORMAT_SHA256
 -- the format, a zero, the numbers in order with four zeros after the tag, and zeros
 unfoldable pub spelling : Capability → List ℕ
 spelling c =
-    (c.format ∷ []) ++ (replicate 1 0 ++ (to_be_bytes w16 c.key_version ++ (to_be_bytes w32 c.rights ++ (to_be_bytes w64 c.expiry
+    (c.format ∷ [])
+    ++ (replicate 1 0 ++ (to_be_bytes w16 c.key_version ++ (to_be_bytes w32 c.rights ++ (to_be_bytes w64 c.expiry
     ++ (to_be_bytes w32 c.grant ++ (to_be_bytes w32 c.holder ++ (to_be_bytes w32 c.tag ++ (replicate 4 0
-    ++ (to_be_bytes w64 c.partition ++ (to_be_bytes w64 c.object ++ (to_be_bytes w64 c.range_start ++ (to_be_bytes w64 c.range_len ++ replicate (CAPABILITY_BYTES - FIELDS) 0))))))))))))
+    ++ (to_be_bytes w64 c.partition ++ (to_be_bytes w64 c.object
+    ++ (to_be_bytes w64 c.range_start ++
+    (to_be_bytes w64 c.range_len ++ replicate (CAPABILITY_BYTES - FIELDS) 0))))))))))))
 
 -- the numbers at their places
 unfoldable pub capability_at : List ℕ → Capability
@@ -37,7 +40,8 @@ capability_at bytes = record {
 
 -- the first place that must be 0 and isn't
 unfoldable pub stray : List ℕ → Option ℕ
-stray bytes = option_or (option_or (first_nonzero bytes 1 2) (first_nonzero bytes 28 32)) (first_nonzero bytes FIELDS CAPABILITY_BYTES)
+stray bytes = option_or (option_or (first_nonzero bytes 1 2) (first_nonzero bytes 28 32))
+    (first_nonzero bytes FIELDS CAPABILITY_BYTES)
 
 abbrev pub unless_reserved : Option ℕ → Capability → Result Capability CapErr
 unless_reserved None c = Ok c

@@ -46,7 +46,8 @@ spelling c = head c ++ (take (check_len c.capability.format) c.check ++ c.payloa
 -- the first place that must be 0 and isn't
 unfoldable pub stray : List ℕ → Option ℕ
 stray bytes =
-    option_or (option_or (option_or (first_nonzero bytes 6 8) (first_nonzero bytes 52 56)) (first_nonzero bytes 60 FIELDS))
+    option_or (option_or (option_or (first_nonzero bytes 6 8) (first_nonzero bytes 52 56))
+    (first_nonzero bytes 60 FIELDS))
     (first_nonzero bytes CAPABILITY_END (BLOCK - check_len (slice_index bytes FIELDS)))
 
 -- the length that a payload may have: that of a WRITE is the command's, CREATE and SET ATTR have any and no other
@@ -61,11 +62,13 @@ allows SetTag len payload = nat_eq payload 0
 
 -- a payload is as long as is stated and the action allows
 abbrev pub is_sized : List ℕ → Action → ℕ → ℕ → Bool
-is_sized bytes action len payload = nat_eq (from_be_bytes w32 (slice_range bytes 56 60)) payload && allows action len payload
+is_sized bytes action len payload =
+    nat_eq (from_be_bytes w32 (slice_range bytes 56 60)) payload && allows action len payload
 
 -- the check value of a format, filled with zeros
 abbrev pub check_at : List ℕ → ℕ → List ℕ
-check_at bytes format = slice_range bytes (BLOCK - check_len format) BLOCK ++ replicate (CHECK_BYTES - check_len format) 0
+check_at bytes format =
+    slice_range bytes (BLOCK - check_len format) BLOCK ++ replicate (CHECK_BYTES - check_len format) 0
 
 -- the numbers at their places, the check value filled with zeros, and what follows the block
 unfoldable pub command_at : Action → Capability → List ℕ → Command

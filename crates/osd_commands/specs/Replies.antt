@@ -19,7 +19,8 @@ magic = MAGIC
 unfoldable pub fields : Reply → List ℕ
 fields r =
     to_be_bytes w32 magic ++ (to_be_bytes w16 r.action ++ (to_be_bytes w16 r.verdict ++ (to_be_bytes w64 r.object
-    ++ (to_be_bytes w64 r.nonce ++ (to_be_bytes w64 r.detail ++ (to_be_bytes w32 (length r.payload) ++ replicate 4 0))))))
+    ++ (to_be_bytes w64 r.nonce ++ (to_be_bytes w64 r.detail
+    ++ (to_be_bytes w32 (length r.payload) ++ replicate 4 0))))))
 
 unfoldable pub spelling : Reply → List ℕ
 spelling r = fields r ++ r.payload
@@ -37,7 +38,8 @@ allows action verdict payload =
 
 -- a payload is as long as is stated and the reply allows
 abbrev pub is_sized : List ℕ → ℕ → ℕ → ℕ → Bool
-is_sized bytes action verdict payload = nat_eq (from_be_bytes w32 (slice_range bytes 32 36)) payload && allows action verdict payload
+is_sized bytes action verdict payload =
+    nat_eq (from_be_bytes w32 (slice_range bytes 32 36)) payload && allows action verdict payload
 
 abbrev pub action_at : List ℕ → ℕ
 action_at bytes = from_be_bytes w16 (slice_range bytes 4 6)

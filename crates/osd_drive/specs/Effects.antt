@@ -48,7 +48,12 @@ detail_of _ = 0
 
 -- the lane that a change leaves
 abbrev pub lane_for : Command → ℕ → LaneEntry
-lane_for c detail = record { holder = c.capability.holder; nonce = c.nonce; action = number_of c.action; detail = detail }
+lane_for c detail = record {
+  holder = c.capability.holder;
+  nonce = c.nonce;
+  action = number_of c.action;
+  detail = detail;
+}
 
 -- the tag after a SET TAG
 abbrev pub next_tag : Option StoredObject → ℕ
@@ -70,13 +75,21 @@ performed d c = record d { store = effect_of c.action d.store c }
 -- ---- replies
 
 abbrev pub reply_with : Command → ℕ → List ℕ → Reply
-reply_with c detail payload = record { action = number_of c.action; verdict = 0; object = c.object; nonce = c.nonce; detail = detail; payload = payload }
+reply_with c detail payload = record {
+  action = number_of c.action;
+  verdict = 0;
+  object = c.object;
+  nonce = c.nonce;
+  detail = detail;
+  payload = payload;
+}
 
 abbrev pub result_of : Action → StoreState → Command → Reply
 result_of Create s c = reply_with c 0 []
 result_of Read s c = reply_with c (length (bytes_at s c.object)) (take c.length (drop c.offset (bytes_at s c.object)))
 result_of Write s c = reply_with c 0 []
-result_of GetAttr s c = reply_with c (if is_some (attribute_at s c.object c.attribute) then 1 else 0) (attribute_bytes (attribute_at s c.object c.attribute))
+result_of GetAttr s c = reply_with c (if is_some (attribute_at s c.object c.attribute) then 1 else 0)
+    (attribute_bytes (attribute_at s c.object c.attribute))
 result_of SetAttr s c = reply_with c 0 []
 result_of SetTag s c = reply_with c (next_tag (object_at s c.object)) []
 
@@ -86,11 +99,25 @@ performed_reply d c = result_of c.action d.store c
 
 -- to one that wasn't
 abbrev pub refused_reply : Command → Verdict → Reply
-refused_reply c v = record { action = number_of c.action; verdict = verdict_number v; object = c.object; nonce = c.nonce; detail = detail_of v; payload = [] }
+refused_reply c v = record {
+  action = number_of c.action;
+  verdict = verdict_number v;
+  object = c.object;
+  nonce = c.nonce;
+  detail = detail_of v;
+  payload = [];
+}
 
 -- the reply that a lane keeps
 abbrev pub kept_reply : Command → Option LaneEntry → Reply
-kept_reply c (Some l) = record { action = l.action; verdict = 0; object = c.object; nonce = l.nonce; detail = l.detail; payload = [] }
+kept_reply c (Some l) = record {
+  action = l.action;
+  verdict = 0;
+  object = c.object;
+  nonce = l.nonce;
+  detail = l.detail;
+  payload = [];
+}
 kept_reply c None = refused_reply c verdict.Again
 
 -- to bytes that spell no command

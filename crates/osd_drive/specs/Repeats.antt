@@ -13,7 +13,10 @@ pub record IsAnsweredAlike (d : DriveState) (later : ℕ) (c : Command) : Type 0
   pub reply : reply_by Again (performed d c) c ≡ performed_reply d c
   pub state : state_by Again (performed d c) c ≡ performed d c
 
--- of every drive, and of every command of these two whose payload is as long as it says: where it was performed, it is answered alike until it expires
+-- of every drive, and of every command of these two whose payload is as long as it says: where it was performed, it is
+-- answered alike until it expires
 abbrev pub AnswersRepeats : Type 0
 AnswersRepeats =
-    (d : DriveState) (now later : ℕ) (c : Command) → first_fault d now c ≡ Perform → IsTrue (allows c.action c.length (length c.payload)) → IsTrue (is_write c.action || is_set_attr c.action) → is_expired later c ≡ false → IsAnsweredAlike d later c
+    (d : DriveState) (now later : ℕ) (c : Command) → first_fault d now c ≡ Perform →
+    IsTrue (allows c.action c.length (length c.payload)) → IsTrue (is_write c.action || is_set_attr c.action) →
+    is_expired later c ≡ false → IsAnsweredAlike d later c

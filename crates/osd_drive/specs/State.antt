@@ -16,7 +16,12 @@ pub record DriveState : Type 0 where
   pub store : StoreState
 
 abbrev pub new_drive : ℕ → List DriveKey → ℕ → DriveState
-new_drive number keys capacity = record { number = number; keys = keys; least = FIRST_FORMAT; store = empty_store capacity }
+new_drive number keys capacity = record {
+  number = number;
+  keys = keys;
+  least = FIRST_FORMAT;
+  store = empty_store capacity;
+}
 
 abbrev pub key_at_place : List DriveKey → Option ℕ → Option DriveKey
 key_at_place keys (Some i) = slice_get keys i

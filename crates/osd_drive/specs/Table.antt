@@ -93,15 +93,18 @@ is_expired now c = nat_lt c.capability.expiry now
 -- 4: the right is missing, or a SET ATTR names an attribute that is no user's
 abbrev pub has_no_right : Command → Bool
 has_no_right c =
-    nat_eq (bit_and c.capability.rights (right_of c.action)) 0 || (is_set_attr c.action && nat_lt c.attribute FIRST_USER_ATTRIBUTE)
+    nat_eq (bit_and c.capability.rights (right_of c.action)) 0
+    || (is_set_attr c.action && nat_lt c.attribute FIRST_USER_ATTRIBUTE)
 
 -- 5: the capability is for another object, or the partition is another drive's
 abbrev pub is_elsewhere : ℕ → Command → Bool
-is_elsewhere number c = not (nat_eq c.partition c.capability.partition && (nat_eq c.object c.capability.object && nat_eq c.partition (FIRST_PARTITION + number)))
+is_elsewhere number c = not (nat_eq c.partition c.capability.partition
+    && (nat_eq c.object c.capability.object && nat_eq c.partition (FIRST_PARTITION + number)))
 
 -- 6: the range isn't inside the capability's; an empty one may stand at either end
 abbrev pub is_out_of_range : Command → Bool
-is_out_of_range c = has_range c.action && not (nat_le c.capability.range_start c.offset && nat_le (c.offset + c.length) (c.capability.range_start + c.capability.range_len))
+is_out_of_range c = has_range c.action && not (nat_le c.capability.range_start c.offset
+    && nat_le (c.offset + c.length) (c.capability.range_start + c.capability.range_len))
 
 -- ---- the rows on the object
 
@@ -120,12 +123,15 @@ has_other_tag s c = not (is_create c.action) && of_object (λ o. not (nat_eq c.c
 -- 10: a length, the end of a range, a value, the tag or the number of objects would pass its limit
 abbrev pub passes_limit : StoreView → Command → Bool
 passes_limit s c =
-    nat_lt MAX_LENGTH c.length || ((has_range c.action && nat_lt MAX_END (c.offset + c.length)) || ((has_value c.action && nat_lt MAX_VALUE (length c.payload))
-    || ((is_set_tag c.action && of_object (λ o. nat_eq o.tag MAX_TAG) s.object) || (is_create c.action && nat_le MAX_OBJECTS s.objects))))
+    nat_lt MAX_LENGTH c.length || ((has_range c.action && nat_lt MAX_END (c.offset + c.length))
+    || ((has_value c.action && nat_lt MAX_VALUE (length c.payload))
+    || ((is_set_tag c.action && of_object (λ o. nat_eq o.tag MAX_TAG) s.object)
+    || (is_create c.action && nat_le MAX_OBJECTS s.objects))))
 
 -- 11: a WRITE of at least one byte makes the object longer by more than is free
 abbrev pub lacks_space : StoreView → Command → Bool
-lacks_space s c = is_write c.action && (nat_lt 0 c.length && of_object (λ o. nat_lt s.free ((c.offset + c.length) - o.length)) s.object)
+lacks_space s c = is_write c.action && (nat_lt 0 c.length
+    && of_object (λ o. nat_lt s.free ((c.offset + c.length) - o.length)) s.object)
 
 -- 12: a change for a holder without lane, where there are as many lanes as there may be
 abbrev pub lacks_lane : StoreView → Command → Bool
@@ -137,7 +143,8 @@ is_stale s c = is_mutating c.action && of_lane (λ l. nat_lt c.nonce l.nonce) s.
 
 -- 14: a new attribute, where there are as many as there may be
 abbrev pub lacks_attribute : StoreView → Command → Bool
-lacks_attribute s c = is_set_attr c.action && (not s.has_attribute && of_object (λ o. nat_le MAX_ATTRIBUTES o.user_attrs) s.object)
+lacks_attribute s c =
+    is_set_attr c.action && (not s.has_attribute && of_object (λ o. nat_le MAX_ATTRIBUTES o.user_attrs) s.object)
 
 -- 15: a change with the lane's nonce
 abbrev pub is_repeated : StoreView → Command → Bool
@@ -158,13 +165,18 @@ Row = Bool × Verdict
 
 abbrev pub early_rows : DriveState → ℕ → Command → List Row
 early_rows d now c =
-    (has_old_format d c, verdict.OldFormat) ∷ (has_no_key d c, verdict.NoKey) ∷ (has_wrong_check d c, verdict.CheckValue) ∷ (is_expired now c, verdict.Expired) ∷ (has_no_right c, verdict.Rights)
+    (has_old_format d c, verdict.OldFormat) ∷ (has_no_key d c, verdict.NoKey)
+    ∷ (has_wrong_check d c, verdict.CheckValue) ∷ (is_expired now c, verdict.Expired)
+    ∷ (has_no_right c, verdict.Rights)
     ∷ (is_elsewhere d.number c, verdict.WrongObject) ∷ (is_out_of_range c, verdict.Range) ∷ []
 
 abbrev pub late_rows : StoreView → Command → List Row
 late_rows s c =
-    (lacks_object s c, verdict.NoObject) ∷ (finds_object s c, verdict.Exists) ∷ (has_other_tag s c, verdict.Tag (tag_of s.object)) ∷ (passes_limit s c, verdict.Limit) ∷ (lacks_space s c, verdict.NoSpace s.free)
-    ∷ (lacks_lane s c, verdict.LaneFull) ∷ (is_stale s c, verdict.Stale (nonce_of s.lane)) ∷ (lacks_attribute s c, verdict.AttrFull) ∷ (is_repeated s c, verdict.Again) ∷ []
+    (lacks_object s c, verdict.NoObject) ∷ (finds_object s c, verdict.Exists)
+    ∷ (has_other_tag s c, verdict.Tag (tag_of s.object)) ∷ (passes_limit s c, verdict.Limit)
+    ∷ (lacks_space s c, verdict.NoSpace s.free)
+    ∷ (lacks_lane s c, verdict.LaneFull) ∷ (is_stale s c, verdict.Stale (nonce_of s.lane))
+    ∷ (lacks_attribute s c, verdict.AttrFull) ∷ (is_repeated s c, verdict.Again) ∷ []
 
 -- the first row that applies, and Perform where none does
 abbrev pub first_row : List Row → Verdict

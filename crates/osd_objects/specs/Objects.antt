@@ -45,7 +45,10 @@ abbrev pub after_set_tag : LaneEntry → StoredObject → StoredObject
 after_set_tag lane o = record o { tag = o.tag + 1; lanes = with_lane o.lanes lane }
 
 abbrev pub after_set_attr : ℕ → List ℕ → LaneEntry → StoredObject → StoredObject
-after_set_attr number value lane o = record o { attributes = insert_entry nat_cmp o.attributes number value; lanes = with_lane o.lanes lane }
+after_set_attr number value lane o = record o {
+  attributes = insert_entry nat_cmp o.attributes number value;
+  lanes = with_lane o.lanes lane;
+}
 
 -- the object has the attribute, or room for one more
 abbrev pub TakesAttribute : StoredObject → ℕ → Type 0

@@ -51,7 +51,8 @@ part_over (Some page) i part = take i page ++ (part ++ drop (i + length part) pa
 
 -- bytes written over those of the page of byte `at` from there on
 abbrev pub with_part : Pages → ℕ → List ℕ → Pages
-with_part pages at part = set_value (is_at (nat_cmp (at / PAGE_BYTES))) pages (part_over (page_at pages (at / PAGE_BYTES)) (at % PAGE_BYTES) part)
+with_part pages at part = set_value (is_at (nat_cmp (at / PAGE_BYTES))) pages
+    (part_over (page_at pages (at / PAGE_BYTES)) (at % PAGE_BYTES) part)
 
 -- the pages of `count` bytes from a place on are there
 abbrev pub HavePages : Pages → ℕ → ℕ → Type 0

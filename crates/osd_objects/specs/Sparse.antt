@@ -27,7 +27,8 @@ touch_from touched first (suc n) = touch_from (touch touched first) (first + 1) 
 
 -- the pages of a range of bytes that isn't empty, from that of its first byte to that of its last
 abbrev pub touch_range : List ℕ → ℕ → ℕ → List ℕ
-touch_range touched offset count = touch_from touched (offset / PAGE_BYTES) ((offset + count - 1) / PAGE_BYTES + 1 - offset / PAGE_BYTES)
+touch_range touched offset count =
+    touch_from touched (offset / PAGE_BYTES) ((offset + count - 1) / PAGE_BYTES + 1 - offset / PAGE_BYTES)
 
 -- bytes written over the old ones from an offset on, and past their end; a gap before the offset becomes
 -- zeros. No bytes change nothing.

@@ -65,7 +65,8 @@ with_object s object o = record s { objects = insert_entry nat_cmp s.objects obj
 
 abbrev pub changed_if_there : StoreState → ℕ → (StoredObject → StoredObject) → Option StoredObject → StoreState
 changed_if_there s object change None = s
-changed_if_there s object change (Some o) = record s { objects = set_value (is_at (nat_cmp object)) s.objects (change o) }
+changed_if_there s object change (Some o) =
+    record s { objects = set_value (is_at (nat_cmp object)) s.objects (change o) }
 
 -- one object changed, and no other
 abbrev pub changed : StoreState → ℕ → (StoredObject → StoredObject) → StoreState

@@ -84,7 +84,8 @@ pub fn left_in_page(at: u64) -> u64
 
 /// Writes bytes over those of a page, which has to be there and whole, from a place on.
 pub fn put_part(pages: &mut BTreeMap<u64, Bytes>, at: u64, part: &[u8])
-    requires there { (page : List ℕ) × (page_at pages.old.entries (at / PAGE_BYTES) ≡ Some page) × (length page ≡ PAGE_BYTES) }
+    requires there { (page : List ℕ) × (page_at pages.old.entries (at / PAGE_BYTES) ≡ Some page) ×
+        (length page ≡ PAGE_BYTES) }
     requires inside { at % PAGE_BYTES + length part.now ≤ PAGE_BYTES }
     ensures { pages.new.entries ≡ with_part pages.old.entries at part.now }
 {

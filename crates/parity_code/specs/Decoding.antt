@@ -18,7 +18,8 @@ cleared (x ∷ xs) col = cleared xs (slice_set col x 0)
 unfoldable pub decoded : (units : ℕ) → (lost col : List ℕ) → List ℕ
 decoded units [] col = col
 decoded units (x ∷ []) col = repaired_column units (repair_of units x) (repair_of units x) (cleared (x ∷ []) col)
-decoded units (x ∷ y ∷ ys) col = repaired_column units (first_repair units x y) (second_repair units x y) (cleared (x ∷ y ∷ []) col)
+decoded units (x ∷ y ∷ ys) col =
+    repaired_column units (first_repair units x y) (second_repair units x y) (cleared (x ∷ y ∷ []) col)
 
 -- rising positions below n
 pub record ArePositions (n : ℕ) (lost : List ℕ) : Type 0 where

@@ -13,7 +13,8 @@ repaired r p q = bit_xor (product r.by_p p) (product r.by_q q)
 -- a column after both repairs
 abbrev pub repaired_column : ℕ → Repair → Repair → List ℕ → List ℕ
 repaired_column units r s col =
-    slice_set (slice_set col r.row (repaired r (p_syndrome units col) (q_syndrome units col))) s.row (repaired s (p_syndrome units col) (q_syndrome units col))
+    slice_set (slice_set col r.row (repaired r (p_syndrome units col) (q_syndrome units col))) s.row
+    (repaired s (p_syndrome units col) (q_syndrome units col))
 
 -- how often the repair takes the byte at position j
 abbrev pub share : ℕ → Repair → ℕ → ℕ
@@ -41,7 +42,11 @@ first_repair units x y =
 -- and of the second
 unfoldable pub second_repair : (units x y : ℕ) → Repair
 second_repair units x y =
-    if nat_lt y units then record { row = y; by_p = bit_xor (first_repair units x y).by_p 1; by_q = (first_repair units x y).by_q }
+    if nat_lt y units then record {
+      row = y;
+      by_p = bit_xor (first_repair units x y).by_p 1;
+      by_q = (first_repair units x y).by_q;
+    }
     else if y == units then record { row = y; by_p = 1; by_q = inverse_of (two_to x) }
     else if nat_lt x units then record { row = y; by_p = two_to x; by_q = 1 }
     else record { row = y; by_p = 0; by_q = 1 }

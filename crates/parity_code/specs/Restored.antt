@@ -20,5 +20,6 @@ pub record Restored (units : ℕ) (lost : List ℕ) (old new : List (List ℕ)) 
   pub shape : map length new ≡ map length old
   pub exact : (k : ℕ) → k < width_of old → column new k ≡ decoded units lost (column old k)
   pub kept : (j : ℕ) → ¬ Contains lost j → slice_get new j ≡ slice_get old j
-  pub whole : (k : ℕ) (col : List ℕ) → k < width_of old → IsWhole units col → AgreeOutside lost col (column old k) → column new k ≡ col
+  pub whole : (k : ℕ) (col : List ℕ) → k < width_of old → IsWhole units col → AgreeOutside lost col (column old k) →
+      column new k ≡ col
   pub solved : length old ≡ units + length lost → (k : ℕ) → k < width_of old → HasNoSyndrome units (column new k)

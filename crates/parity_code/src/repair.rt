@@ -165,7 +165,8 @@ impl RepairTables {
     // The lost bytes.
     #[inline(always)]
     pub(crate) fn block(&self, p: u8x64, q: u8x64) -> u8x64
-        ensures { (r : Repair) → HasTables r self.now → HasLanes result (λ k. repaired r (slice_index p k) (slice_index q k)) }
+        ensures { (r : Repair) → HasTables r self.now →
+            HasLanes result (λ k. repaired r (slice_index p k) (slice_index q k)) }
     {
         lanes::sum(self.by_p.times(p), self.by_q.times(q))
     }

@@ -76,7 +76,8 @@ fn restore_block(
     requires some { 0 < units }
     requires units { units < length rows.old }
     requires room { All (λ row. at + 64 ≤ length row) rows.old }
-    ensures { (r s : Repair) → HasTables r first.now → HasTables s second.now → Become at 64 (repaired_column units r s) rows.old rows.new }
+    ensures { (r s : Repair) → HasTables r first.now → HasTables s second.now →
+        Become at 64 (repaired_column units r s) rows.old rows.new }
 {
     let (p, q) = block_syndromes(rows.as_slice(), units, at);
     store_block(rows, first.row, at, first.block(p, q));

@@ -106,7 +106,8 @@ impl Fence {
     /// a format that is 1 or 2. It is the one that the rules send to a component of a file with this tag.
     pub fn command(&self, component: u32, at: ObjectPlace, nonce: u64, format: u8) -> Command
         ensures value { result ≡ raise self.now.tag at nonce format }
-        ensures rules { (f : Kept) → IsOfFile f self.now.tag format at → result ≡ command_for f Raising component at.drive at.object nonce }
+        ensures rules { (f : Kept) → IsOfFile f self.now.tag format at →
+            result ≡ command_for f Raising component at.drive at.object nonce }
     {
         Command {
             action: Action::SetTag,
@@ -140,7 +141,8 @@ impl Fence {
     pub fn on_reply(&mut self, component: u32, reply: &Reply) -> bool
         ensures done { result ≡ counts_as_done self.old.tag reply.now }
         ensures left { self.new ≡ (if result then without_done self.old component else self.old) }
-        ensures rules { (f : Kept) (a : Awaited) → f.tag ≡ self.old.tag → a.command.action ≡ SetTag → result ≡ is_done f a reply.now }
+        ensures rules { (f : Kept) (a : Awaited) → f.tag ≡ self.old.tag → a.command.action ≡ SetTag →
+            result ≡ is_done f a reply.now }
     {
         let is_done = reply.verdict == PERFORMED
             || reply.verdict == OTHER_TAG && reply.detail == u64::from(self.tag) + 1;

@@ -44,7 +44,14 @@ result_with ds f args status (Some g) = results.LayoutGet (get.Granted (granted 
 
 -- to a request
 abbrev pub answer : ClientRequest → (detail size : ℕ) → Results → Answer
-answer q detail size r = record { client = q.client; sequence = q.sequence; file = q.file; detail = detail; size = size; results = r }
+answer q detail size r = record {
+  client = q.client;
+  sequence = q.sequence;
+  file = q.file;
+  detail = detail;
+  size = size;
+  results = r;
+}
 
 -- one without a layout
 abbrev pub plain_answer : ClientRequest → Told → (size : ℕ) → Answer

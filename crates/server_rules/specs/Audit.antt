@@ -15,7 +15,8 @@ use Rattle.server_rules.specs.Going.{Going, over, noting, rests_or}
 
 -- eight bytes with a length that an object may have, else 0
 unfoldable pub length_in : List ℕ → ℕ
-length_in bytes = if (length bytes == 8) && nat_le (from_be_bytes w64 bytes) MAX_OBJECT_LENGTH then from_be_bytes w64 bytes else 0
+length_in bytes =
+    if (length bytes == 8) && nat_le (from_be_bytes w64 bytes) MAX_OBJECT_LENGTH then from_be_bytes w64 bytes else 0
 
 -- the lengths that the replies carry
 abbrev pub lengths_of : List Heard → List Measured
@@ -25,13 +26,15 @@ lengths_of heard = map (λ h. record { component = h.component; length = length_
 unfoldable pub present_lengths : List Measured → List Component → (k : ℕ) → ℕ
 present_lengths ms [] k = 0
 present_lengths ms (at ∷ cs) k =
-    (if at.missing then 0 else sum_by (λ m. m.length) (filter (λ m. m.component == k) ms)) + present_lengths ms cs (k + 1)
+    (if at.missing then 0 else sum_by (λ m. m.length) (filter (λ m. m.component == k) ms)) + present_lengths ms cs
+    (k + 1)
 
 -- ---- the audit
 
 -- it is over: the stripes that were bad and aren't short are bad
 abbrev pub audited : Going → Tally → Going
-audited g t = over (noting g (Audit g.file.kept.high (length t.short) (length (filter (λ s. not (among s t.short)) t.bad))
+audited g t =
+    over (noting g (Audit g.file.kept.high (length t.short) (length (filter (λ s. not (among s t.short)) t.bad))
     (present_lengths t.lengths g.file.kept.components 0)))
 
 -- the tally with the stripe of this piece, where it is short
@@ -42,7 +45,8 @@ tallied f p t = record t { short = short_with f p t.short }
 unfoldable pub audits : Going → List Piece → Tally → Going
 audits g [] t = audited g t
 audits g (p ∷ ps) t =
-    rests_or (reads g.file.kept p g.moved.nonce) g Auditing (Checks (p ∷ ps) (tallied g.file.kept p t)) (audits g ps (tallied g.file.kept p t))
+    rests_or (reads g.file.kept p g.moved.nonce) g Auditing (Checks (p ∷ ps) (tallied g.file.kept p t))
+    (audits g ps (tallied g.file.kept p t))
 
 -- the rows of a piece are read
 unfoldable pub checked : Kept → Piece → List Heard → Tally → Tally
@@ -52,7 +56,8 @@ checked f p heard t =
 
 -- the lengths are read, and the stripes come
 abbrev pub audits_all : Going → List Heard → Going
-audits_all g heard = audits g (pieces_along g.file.kept.map.unit 0 g.file.kept.high) (record { lengths = lengths_of heard; short = []; bad = [] })
+audits_all g heard = audits g (pieces_along g.file.kept.map.unit 0 g.file.kept.high)
+    (record { lengths = lengths_of heard; short = []; bad = [] })
 
 -- it begins
 unfoldable pub audit_begins : Going → Going

@@ -57,7 +57,8 @@ pub data Ask : Type 0 where
 -- what a CREATE carries: the file, the component and the map
 unfoldable pub label : RawMap → (file component : ℕ) → List ℕ
 label m file component =
-    to_be_bytes w32 file ++ (to_be_bytes w32 component ++ (to_be_bytes w32 m.comps ++ (to_be_bytes w64 m.unit ++ (to_be_bytes w32 m.width
+    to_be_bytes w32 file ++ (to_be_bytes w32 component
+    ++ (to_be_bytes w32 m.comps ++ (to_be_bytes w64 m.unit ++ (to_be_bytes w32 m.width
     ++ (to_be_bytes w32 m.depth ++ (to_be_bytes w32 m.mirrors ++ to_be_bytes w32 m.algorithm))))))
 
 -- the command that asks it of component k's object
@@ -65,12 +66,17 @@ abbrev pub command_for : Kept → Ask → (component drive object nonce : ℕ) �
 command_for f Creating k drive object nonce = command f drive object nonce Create 0 0 0 (label f.map f.number k)
 command_for f Raising k drive object nonce = command f drive object nonce SetTag 0 0 0 []
 command_for f (Reading offset len) k drive object nonce = command f drive object nonce Read offset len 0 []
-command_for f (Writing offset bytes) k drive object nonce = command f drive object nonce Write offset (length bytes) 0 bytes
+command_for f (Writing offset bytes) k drive object nonce =
+    command f drive object nonce Write offset (length bytes) 0 bytes
 command_for f Measuring k drive object nonce = command f drive object nonce GetAttr 0 0 LENGTH_ATTRIBUTE []
 
 -- the same, as it is awaited
 abbrev pub sent_to : Kept → Ask → (component drive object nonce : ℕ) → Awaited
-sent_to f ask k drive object nonce = record { component = k; drive = drive; command = command_for f ask k drive object nonce }
+sent_to f ask k drive object nonce = record {
+  component = k;
+  drive = drive;
+  command = command_for f ask k drive object nonce;
+}
 
 -- ---- one to each of some components
 
@@ -91,13 +97,15 @@ unfoldable pub is_meant : Kept → Which → (k : ℕ) → Bool
 is_meant f All k = true
 is_meant f (Only j) k = k == j
 is_meant f (OfGroup group) k = group_with f.map k == group
-is_meant f (FirstsOf group) k = (group_with f.map k == group) && is_first f k (replica f.map f.components (k / replicas f.map))
+is_meant f (FirstsOf group) k =
+    (group_with f.map k == group) && is_first f k (replica f.map f.components (k / replicas f.map))
 
 -- the same to each present component that is meant, from number k on, with rising nonces
 unfoldable pub to_each : Kept → Which → Ask → List Component → (k nonce : ℕ) → List Awaited
 to_each f which ask [] k nonce = []
 to_each f which ask (at ∷ cs) k nonce =
-    if not at.missing && is_meant f which k then sent_to f ask k at.drive at.object nonce ∷ to_each f which ask cs (k + 1) (nonce + 1)
+    if not at.missing && is_meant f which k
+    then sent_to f ask k at.drive at.object nonce ∷ to_each f which ask cs (k + 1) (nonce + 1)
     else to_each f which ask cs (k + 1) nonce
 
 -- the same over all components of the file
@@ -108,7 +116,13 @@ to_all f which ask nonce = to_each f which ask f.components 0 nonce
 
 -- the same command in format 2, with a new nonce
 abbrev pub again_in_2 : Awaited → (nonce : ℕ) → Awaited
-again_in_2 a nonce = record a { command = record a.command { nonce = nonce; capability = record a.command.capability { format = FORMAT_SHA256 } } }
+again_in_2 a nonce =
+    record a {
+      command = record a.command {
+        nonce = nonce;
+        capability = record a.command.capability { format = FORMAT_SHA256 };
+      };
+    }
 
 -- the key of a drive that there is
 abbrev pub key_in : Option Drive → List ℕ

@@ -16,7 +16,8 @@ pub data Committed : Type 0 where
 
 -- the last offset may be committed under the grant
 unfoldable pub may_commit : (stripe : ℕ) → Grant → (last : ℕ) → Bool
-may_commit stripe g last = g.extending && (nat_le (g.first * stripe) last && (nat_lt last (g.end * stripe) && nat_lt last MAX_FILE_SIZE))
+may_commit stripe g last =
+    g.extending && (nat_le (g.first * stripe) last && (nat_lt last (g.end * stripe) && nat_lt last MAX_FILE_SIZE))
 
 -- the row that applies under the client's grant
 unfoldable pub commit_under : (stripe size : ℕ) → Option ℕ → Option Grant → Committed

@@ -43,7 +43,8 @@ asked_in (args.LayoutReturn a) = return_in (whole ioerrs_in a.body)
 -- the request with that
 abbrev pub request_with : Request → Option RequestArgs → Option Message
 request_with q None = None
-request_with q (Some asked) = Some (Asks (record { client = q.client; sequence = q.sequence; file = q.file; args = asked }))
+request_with q (Some asked) =
+    Some (Asks (record { client = q.client; sequence = q.sequence; file = q.file; args = asked }))
 
 -- requests and orders are for the server; it takes no other envelope
 abbrev pub in_envelope : Envelope → Option Message

@@ -52,8 +52,17 @@ to_drives ds cs = map (to_drive ds) cs
 
 -- the server after a step at a file
 abbrev pub after_going : Server → (number : ℕ) → Going → Server
-after_going s n g = record s { files = put_file s.files n g.file; next_nonce = g.moved.nonce; next_object = g.moved.object }
+after_going s n g = record s {
+  files = put_file s.files n g.file;
+  next_nonce = g.moved.nonce;
+  next_object = g.moved.object;
+}
 
 -- the step of a file that sends to drives alone
 abbrev pub step_at : Server → (number : ℕ) → Going → Step
-step_at s n g = record { state = after_going s n g; sends = to_drives s.drives g.moved.sent; notes = g.moved.notes; mended = g.moved.mended }
+step_at s n g = record {
+  state = after_going s n g;
+  sends = to_drives s.drives g.moved.sent;
+  notes = g.moved.notes;
+  mended = g.moved.mended;
+}

@@ -96,7 +96,11 @@ high_after high g = if g.rw then max high g.end else high
 -- the grant
 abbrev pub gives : Going → Grant → Served
 gives go g = record {
-  going = keeping go (record go.file.kept { grants = go.file.kept.grants ++ (g ∷ []); high = high_after go.file.kept.high g });
+  going =
+      keeping go (record go.file.kept {
+        grants = go.file.kept.grants ++ (g ∷ []);
+        high = high_after go.file.kept.high g;
+      });
   recalled = [];
   numbers = 1;
   told = record { status = NFS4_OK; detail = 0; grant = Some g };
@@ -104,7 +108,12 @@ gives go g = record {
 
 -- each holder that conflicts is recalled, and the first is named
 abbrev pub recalls_for : Going → Grant → (holder : ℕ) → Served
-recalls_for go g holder = record { going = go; recalled = against go.file.kept.grants g; numbers = 0; told = tells NFS4ERR_LAYOUTTRYLATER holder }
+recalls_for go g holder = record {
+  going = go;
+  recalled = against go.file.kept.grants g;
+  numbers = 0;
+  told = tells NFS4ERR_LAYOUTTRYLATER holder;
+}
 
 -- what the late row does
 abbrev pub by_late : Going → Grant → Late → Served
@@ -134,7 +143,8 @@ fence_first go next format g =
 
 -- the row of the fence and the late rows
 unfoldable pub on_grants : Going → (next format now : ℕ) → Grant → Served
-on_grants go next format now g = if must_fence now go.file.kept.grants g then fence_first go next format g else give_or_refuse go next g
+on_grants go next format now g =
+    if must_fence now go.file.kept.grants g then fence_first go next format g else give_or_refuse go next g
 
 -- what the early row does
 abbrev pub by_early : Going → (next format now : ℕ) → Grant → Early → Served
@@ -147,4 +157,5 @@ by_early go next format now g On = on_grants go next format now g
 -- a LAYOUTGET on a file
 unfoldable pub gets : Going → (next format now client : ℕ) → (iomode offset count : ℕ) → Served
 gets go next format now client iomode offset count =
-    by_early go next format now (asked go.file.kept next client now offset count (iomode == LAYOUTIOMODE4_RW)) (early go.file iomode offset count)
+    by_early go next format now (asked go.file.kept next client now offset count (iomode == LAYOUTIOMODE4_RW))
+    (early go.file iomode offset count)

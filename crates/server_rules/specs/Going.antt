@@ -27,7 +27,13 @@ over g = record g { file = record g.file { job = None } }
 
 -- a note on the file
 abbrev pub noting : Going → NoteKind → Going
-noting g n = record g { moved = record g.moved { notes = g.moved.notes ++ (record { file = g.file.kept.number; kind = n } ∷ []) } }
+noting g n =
+    record g {
+      moved = record g.moved {
+        notes = g.moved.notes
+            ++ (record { file = g.file.kept.number; kind = n } ∷ []);
+      };
+    }
 
 -- a note where the test holds
 abbrev pub noting_if : Bool → Going → NoteKind → Going
@@ -40,7 +46,11 @@ sending g cs = record g { moved = record g.moved { nonce = g.moved.nonce + lengt
 -- the job sends a command and others, and rests until they are answered
 abbrev pub rests : Going → JobKind → Work → Awaited → List Awaited → Going
 rests g kind work c cs =
-    record (sending g (c ∷ cs)) { file = record g.file { job = Some (record { kind = kind; work = work; awaited = c ∷ cs; heard = [] }) } }
+    record
+    (sending g (c ∷ cs)) {
+      file = record
+          g.file { job = Some (record { kind = kind; work = work; awaited = c ∷ cs; heard = [] }) };
+    }
 
 -- the job rests where it has something to send, else this is what comes
 abbrev pub rests_or : List Awaited → Going → JobKind → Work → Going → Going
@@ -50,4 +60,5 @@ rests_or (c ∷ cs) g kind work later = rests g kind work c cs
 -- the job waits on for a command and others
 abbrev pub waits_on : Going → Job → Work → Awaited → List Awaited → List Heard → Going
 waits_on g j work c cs heard =
-    record g { file = record g.file { job = Some (record { kind = j.kind; work = work; awaited = c ∷ cs; heard = heard }) } }
+    record
+    g { file = record g.file { job = Some (record { kind = j.kind; work = work; awaited = c ∷ cs; heard = heard }) } }

@@ -29,11 +29,18 @@ fencing FencingAgain = FencingAgain
 
 -- every grant ends, and the file takes the server's format where that is greater
 abbrev pub ending : Kept → (format : ℕ) → Kept
-ending f format = record f { format = max f.format format; phase = fencing f.phase; grants = []; ended = f.ended ++ f.grants }
+ending f format = record f {
+  format = max f.format format;
+  phase = fencing f.phase;
+  grants = [];
+  ended = f.ended ++ f.grants;
+}
 
 -- each present component has the next tag
 unfoldable pub fenced : JobKind → Going → Going
-fenced kind g = repair_begins kind (noting (keeping g (record g.file.kept { tag = g.file.kept.tag + 1; phase = Repairing })) (Fenced (g.file.kept.tag + 1)))
+fenced kind g =
+    repair_begins kind (noting (keeping g (record g.file.kept { tag = g.file.kept.tag + 1; phase = Repairing }))
+    (Fenced (g.file.kept.tag + 1)))
 
 -- the present components are sent the next tag
 abbrev pub fences : JobKind → Going → Going

@@ -30,13 +30,15 @@ pub record AreCompatible (a b : Grant) : Type 0 where
 -- so it is exactly with grants of different clients that don't conflict
 abbrev pub ConflictsAreExact : Type 0
 ConflictsAreExact =
-    (a b : Grant) → (a.client ≡ b.client → ⊥) → (conflicts a b ≡ false → AreCompatible a b) × (AreCompatible a b → conflicts a b ≡ false)
+    (a b : Grant) → (a.client ≡ b.client → ⊥) → (conflicts a b ≡ false → AreCompatible a b) ×
+    (AreCompatible a b → conflicts a b ≡ false)
 
 -- the stripes of the grant that a LAYOUTGET asks for hold each byte that it asks
 abbrev pub AskedGrantsHoldTheirBytes : Type 0
 AskedGrantsHoldTheirBytes =
     (f : Kept) (number client now offset count : ℕ) (rw : Bool) → 0 < stripe_length f.map →
-    HoldRange f.map offset count (asked f number client now offset count rw).first (asked f number client now offset count rw).end
+    HoldRange f.map offset count (asked f number client now offset count rw).first
+    (asked f number client now offset count rw).end
 
 -- ---- a file
 
@@ -113,7 +115,8 @@ goes_through_all i = false
 -- any other step changes one file at most
 abbrev pub EachStepChangesOneFile : Type 0
 EachStepChangesOneFile =
-    (s : Server) (chosen : List ℕ) (i : Input) → AreSafe s.files → goes_through_all i ≡ false → (m : ℕ) × OthersStay m s.files (step s chosen i).state.files
+    (s : Server) (chosen : List ℕ) (i : Input) → AreSafe s.files → goes_through_all i ≡ false → (m : ℕ) ×
+    OthersStay m s.files (step s chosen i).state.files
 
 -- ---- requests
 
@@ -134,7 +137,8 @@ is_taken_of s client from q = (from == client) && (counters_low s && ((q.client 
 
 -- the sequence number of the client's request that is carried out for this message, if any
 abbrev pub carried_for : Server → (client : ℕ) → Node → Message → List ℕ
-carried_for s client (FromClient c) (Asks q) = if is_taken_of s client c q then where_new (admit (slot_of s.slots client) q.sequence) q.sequence else []
+carried_for s client (FromClient c) (Asks q) =
+    if is_taken_of s client c q then where_new (admit (slot_of s.slots client) q.sequence) q.sequence else []
 carried_for s client from m = []
 
 -- the same of an input
@@ -154,17 +158,20 @@ CountOnFrom n (m ∷ ms) = (m ≡ n + 1) × CountOnFrom m ms
 
 -- whatever comes, a client's requests are carried out by the order of their numbers, each once, and none is left out
 abbrev pub RequestsAreCarriedOutInOrder : Type 0
-RequestsAreCarriedOutInOrder = (s : Server) (client : ℕ) (acts : List Act) → CountOnFrom (last_of (slot_of s.slots client)) (carried s client acts)
+RequestsAreCarriedOutInOrder =
+    (s : Server) (client : ℕ) (acts : List Act) → CountOnFrom (last_of (slot_of s.slots client)) (carried s client acts)
 
 -- a request that isn't carried out changes nothing
 abbrev pub OtherRequestsChangeNothing : Type 0
 OtherRequestsChangeNothing =
-    (s : Server) (now client : ℕ) (chosen : List ℕ) (q : ClientRequest) → carried_by s client (Hears now (FromClient client) (Asks q)) ≡ [] →
+    (s : Server) (now client : ℕ) (chosen : List ℕ) (q : ClientRequest) →
+    carried_by s client (Hears now (FromClient client) (Asks q)) ≡ [] →
     (step s chosen (Hears now (FromClient client) (Asks q))).state ≡ s
 
 -- the request, again, is answered as it was, and changes nothing
 abbrev pub IsAnsweredAgain : Server → ClientRequest → Answer → Type 0
-IsAnsweredAgain s q a = (now : ℕ) (chosen : List ℕ) (r : ClientRequest) → r.client ≡ q.client → r.sequence ≡ q.sequence → on_request s now chosen r ≡ only_answers s a
+IsAnsweredAgain s q a = (now : ℕ) (chosen : List ℕ) (r : ClientRequest) → r.client ≡ q.client →
+    r.sequence ≡ q.sequence → on_request s now chosen r ≡ only_answers s a
 
 -- a request that is carried out has an answer, its step's last message; and whatever comes behind, until a further
 -- request of the client is carried out, its repeat gets that answer and changes nothing
@@ -172,16 +179,19 @@ abbrev pub RepeatsAreAnsweredAlike : Type 0
 RepeatsAreAnsweredAlike =
     (s : Server) (now : ℕ) (chosen : List ℕ) (q : ClientRequest) → admit (slot_of s.slots q.client) q.sequence ≡ New →
     (a : Answer) × (front : List Outgoing) × ((on_request s now chosen q).sends ≡ front ++ (Answers a ∷ []))
-    × ((acts : List Act) → carried (on_request s now chosen q).state q.client acts ≡ [] → IsAnsweredAgain (state_after (on_request s now chosen q).state acts) q a)
+    × ((acts : List Act) → carried (on_request s now chosen q).state q.client acts ≡ [] →
+    IsAnsweredAgain (state_after (on_request s now chosen q).state acts) q a)
 
 -- ---- lists with numbers
 
 -- the file that is put back is found again, and every other is as it was
 abbrev pub FilesArePut : Type 0
 FilesArePut =
-    (fs : List File) (n : ℕ) (f g : File) → f.kept.number ≡ n → file_at fs n ≡ Some g → (file_at (put_file fs n f) n ≡ Some f) × OthersStay n fs (put_file fs n f)
+    (fs : List File) (n : ℕ) (f g : File) → f.kept.number ≡ n → file_at fs n ≡ Some g →
+    (file_at (put_file fs n f) n ≡ Some f) × OthersStay n fs (put_file fs n f)
 
 -- the slot that is kept is found again, and every other is as it was
 abbrev pub SlotsAreKept : Type 0
 SlotsAreKept =
-    (ss : List Slot) (s : Slot) → (slot_of (keep ss s) s.client ≡ Some s) × ((c : ℕ) → (s.client == c) ≡ false → slot_of (keep ss s) c ≡ slot_of ss c)
+    (ss : List Slot) (s : Slot) → (slot_of (keep ss s) s.client ≡ Some s) ×
+    ((c : ℕ) → (s.client == c) ≡ false → slot_of (keep ss s) c ≡ slot_of ss c)

@@ -51,7 +51,11 @@ device_of drive = replicate 8 0 ++ to_be_bytes w64 drive
 
 -- the object of a component, its last one where it is missing
 abbrev pub object_of : Component → ObjId
-object_of at = record { oid_device_id = device_of at.drive; oid_partition_id = FIRST_PARTITION + at.drive; oid_object_id = at.object }
+object_of at = record {
+  oid_device_id = device_of at.drive;
+  oid_partition_id = FIRST_PARTITION + at.drive;
+  oid_object_id = at.object;
+}
 
 -- the bytes of a key
 abbrev pub key_bytes : CapKey → List ℕ
@@ -70,22 +74,34 @@ credential_with at key c = record {
 
 -- no capability
 abbrev pub no_credential : Component → ObjectCred
-no_credential at = record { oc_object_id = object_of at; oc_osd_version = version.Missing; oc_cap_key_sec = security.None; oc_capability_key = []; oc_capability = [] }
+no_credential at = record {
+  oc_object_id = object_of at;
+  oc_osd_version = version.Missing;
+  oc_cap_key_sec = security.None;
+  oc_capability_key = [];
+  oc_capability = [];
+}
 
 -- the credential of component k, as if it were present
 unfoldable pub credential : List Drive → Kept → Grant → Component → (k : ℕ) → ObjectCred
-credential ds f g at k = credential_with at (key_of (key_at ds at.drive) (capability_for f g at k)) (capability_for f g at k)
+credential ds f g at k =
+    credential_with at (key_of (key_at ds at.drive) (capability_for f g at k)) (capability_for f g at k)
 
 -- those of the components from number k on; a missing one has no capability
 unfoldable pub credentials_from : List Drive → Kept → Grant → List Component → (k : ℕ) → List ObjectCred
 credentials_from ds f g [] k = []
-credentials_from ds f g (at ∷ cs) k = (if at.missing then no_credential at else credential ds f g at k) ∷ credentials_from ds f g cs (k + 1)
+credentials_from ds f g (at ∷ cs) k =
+    (if at.missing then no_credential at else credential ds f g at k) ∷ credentials_from ds f g cs (k + 1)
 
 -- ---- the layout
 
 -- every component
 abbrev pub layout_for : List Drive → Kept → Grant → Layout
-layout_for ds f g = record { olo_map = f.map; olo_comps_index = 0; olo_components = credentials_from ds f g f.components 0 }
+layout_for ds f g = record {
+  olo_map = f.map;
+  olo_comps_index = 0;
+  olo_components = credentials_from ds f g f.components 0;
+}
 
 -- as an answer carries it
 unfoldable pub body_of : Layout → List ℕ

@@ -12,7 +12,16 @@ use Rattle.server_rules.specs.Jobs.{making}
 
 -- a server without files
 abbrev pub new_server : List Drive → Server
-new_server ds = record { files = []; slots = []; drives = ds; next_grant = 1; next_object = FIRST_OBJECT; next_nonce = 1; next_recall = 1; format = FORMAT_SHA1 }
+new_server ds = record {
+  files = [];
+  slots = [];
+  drives = ds;
+  next_grant = 1;
+  next_object = FIRST_OBJECT;
+  next_nonce = 1;
+  next_recall = 1;
+  format = FORMAT_SHA1;
+}
 
 -- a new drive, before those with greater numbers
 unfoldable pub add_drive : List Drive → Drive → List Drive

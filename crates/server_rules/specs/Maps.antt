@@ -36,7 +36,8 @@ rows_in m group first end =
 unfoldable pub pieces_from : (unit stripe column : ℕ) → ℕ → List Piece
 pieces_from unit stripe column zero = []
 pieces_from unit stripe column (suc n) =
-    record { stripe = stripe; column = column; count = min MAX_PIECE (unit - column) } ∷ pieces_from unit stripe (column + MAX_PIECE) n
+    record { stripe = stripe; column = column; count = min MAX_PIECE (unit - column) }
+    ∷ pieces_from unit stripe (column + MAX_PIECE) n
 
 -- the pieces of a stripe
 abbrev pub pieces_of : (unit stripe : ℕ) → List Piece

@@ -46,7 +46,8 @@ pub data Message : Type 0 where
 
 -- a message, by who sent it
 abbrev pub handled : Server → (now : ℕ) → (chosen : List ℕ) → Node → Message → Step
-handled s now chosen (FromClient c) (Asks q) = if (q.client == c) && nat_le c MAX_CLIENT then on_request s now chosen q else still s
+handled s now chosen (FromClient c) (Asks q) =
+    if (q.client == c) && nat_le c MAX_CLIENT then on_request s now chosen q else still s
 handled s now chosen (FromDrive d) (Replies r) = on_drive_reply s chosen d r
 handled s now chosen FromServer (Orders o) = with_result o.order (ordered s chosen o.order o.target)
 handled s now chosen from message = still s

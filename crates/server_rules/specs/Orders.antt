@@ -32,10 +32,19 @@ recalls s f = record {
 
 -- busy where a job runs, spent where the tag is, else the fence starts
 abbrev pub begins_job : Server → (chosen : List ℕ) → JobKind → File → Option Job → Ordered
-begins_job s chosen kind f (Some j) = record { step = step_at s f.kept.number (noting (at_file s chosen f) (Busy (lowest j.awaited))); result = IsBusy }
+begins_job s chosen kind f (Some j) = record {
+  step = step_at s f.kept.number (noting (at_file s chosen f) (Busy (lowest j.awaited)));
+  result = IsBusy;
+}
 begins_job s chosen kind f None =
-    if f.kept.tag == GREATEST_TAG then record { step = step_at s f.kept.number (noting (at_file s chosen f) Spent); result = IsSpent }
-    else record { step = step_at s f.kept.number (fence_begins kind s.format (at_file s chosen f)); result = HasStarted }
+    if f.kept.tag == GREATEST_TAG then record {
+      step = step_at s f.kept.number (noting (at_file s chosen f) Spent);
+      result = IsSpent;
+    }
+    else record {
+      step = step_at s f.kept.number (fence_begins kind s.format (at_file s chosen f));
+      result = HasStarted;
+    }
 
 -- revoke, rebuild or audit
 abbrev pub starts : Server → (chosen : List ℕ) → JobKind → Option File → Ordered
@@ -67,7 +76,8 @@ with_offline s drive = record s { drives = offline s.drives drive }
 
 -- the step of a declaration
 unfoldable pub declare : Server → (chosen : List ℕ) → (drive : ℕ) → Step
-declare s chosen drive = step_round (with_offline s drive) (declares_each drive (offline s.drives drive) s.files (begins s) chosen)
+declare s chosen drive =
+    step_round (with_offline s drive) (declares_each drive (offline s.drives drive) s.files (begins s) chosen)
 
 -- ---- any order
 
@@ -86,4 +96,5 @@ ordered s chosen ToAudit n = starts s chosen Auditing (file_at s.files n)
 
 -- the order with its answer behind
 abbrev pub with_result : OrderKind → Ordered → Step
-with_result kind o = record o.step { sends = o.step.sends ++ (AnswersOrder (record { order = kind; result = o.result }) ∷ []) }
+with_result kind o =
+    record o.step { sends = o.step.sends ++ (AnswersOrder (record { order = kind; result = o.result }) ∷ []) }

@@ -28,11 +28,13 @@ target_on g k (Some drive) = Some (record { component = k; drive = drive; object
 
 -- where component k is made anew: None where it isn't missing, or where no drive can take it
 unfoldable pub target_for : Going → Component → (k : ℕ) → Option Target
-target_for g at k = if at.missing then target_on g k (picked g.chosen (free_drives g.drives g.file.kept.components)) else None
+target_for g at k =
+    if at.missing then target_on g k (picked g.chosen (free_drives g.drives g.file.kept.components)) else None
 
 -- its object is made; the number is used up, and so is the placer's answer
 abbrev pub makes : Going → Target → Going
-makes g t = rests (record g { moved = record g.moved { object = t.object + 1 }; chosen = drop 1 g.chosen }) Rebuilding (Targets t)
+makes g t = rests (record g { moved = record g.moved { object = t.object + 1 }; chosen = drop 1 g.chosen }) Rebuilding
+    (Targets t)
     (sent_to g.file.kept Creating t.component t.drive t.object g.moved.nonce) []
 
 -- the object is made where there is a place for it, else this is what comes
@@ -80,11 +82,14 @@ stands_at t = record { drive = t.drive; object = t.object; missing = false }
 
 -- the component stands on its new drive
 abbrev pub rebuilt : Going → Target → Going
-rebuilt g t = goes_past (noting (with_components g (slice_set g.file.kept.components t.component (stands_at t))) (Rebuilt t.component t.drive)) t
+rebuilt g t =
+    goes_past (noting (with_components g (slice_set g.file.kept.components t.component (stands_at t)))
+    (Rebuilt t.component t.drive)) t
 
 -- a piece can't be decoded
 abbrev pub lost : Going → Target → Going
-lost g t = goes_past (noting g (Lost t.component (lacking g.file.kept.map g.file.kept.components (group_for g.file.kept t)))) t
+lost g t =
+    goes_past (noting g (Lost t.component (lacking g.file.kept.map g.file.kept.components (group_for g.file.kept t)))) t
 
 -- it goes on with these pieces
 unfoldable pub fills : Going → Target → List Piece → Going
@@ -99,7 +104,8 @@ fills_all g t = fills g t (pieces_in g.file.kept.map (group_for g.file.kept t) g
 abbrev pub made_by : Kept → Target → Piece → List Heard → Option ℕ → List ℕ
 made_by f t p heard (Some j) = row_from heard j p.count
 made_by f t p heard None =
-    restored f.map (lost_units f.map f.components p.stripe) (unit_rows f.map f.components p.stripe heard p.count) (unit_with f.map p.stripe t.component) p.count
+    restored f.map (lost_units f.map f.components p.stripe) (unit_rows f.map f.components p.stripe heard p.count)
+    (unit_with f.map p.stripe t.component) p.count
 
 -- the bytes of a piece from its sources' rows
 unfoldable pub made : Kept → Target → Piece → List Heard → List ℕ
@@ -115,7 +121,8 @@ to_fill f t p bytes nonce =
 -- the piece is written from the first to the last byte that isn't 0; one of zeros isn't
 unfoldable pub filling : Going → Target → Piece → List Piece → List ℕ → Going
 filling g t p ps bytes =
-    if nat_lt 0 (end_of bytes (replicate p.count 0)) then rests g Rebuilding (Fills t (p ∷ ps)) (to_fill g.file.kept t p bytes g.moved.nonce) []
+    if nat_lt 0 (end_of bytes (replicate p.count 0))
+    then rests g Rebuilding (Fills t (p ∷ ps)) (to_fill g.file.kept t p bytes g.moved.nonce) []
     else fills g t ps
 
 -- ---- the end of its target

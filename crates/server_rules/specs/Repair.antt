@@ -20,8 +20,14 @@ after_repair Auditing g = audit_begins g
 -- the repair is over
 abbrev pub mended : Going → List ℕ → Going
 mended g short =
-    let h : Going = keeping (noting g (Repaired (count_stripes (merged g.file.kept.ended)) (length short))) (record g.file.kept { ended = []; phase = Still })
-    in record h { moved = record h.moved { mended = h.moved.mended ++ (record { file = g.file.kept.number; worked = merged g.file.kept.ended; short = short } ∷ []) } }
+    let h : Going = keeping (noting g (Repaired (count_stripes (merged g.file.kept.ended)) (length short)))
+    (record g.file.kept { ended = []; phase = Still })
+    in record h {
+      moved = record h.moved {
+        mended = h.moved.mended
+            ++ (record { file = g.file.kept.number; worked = merged g.file.kept.ended; short = short } ∷ []);
+      };
+    }
 
 -- nothing of the piece is read: its stripe has parity and is short, or the file has neither parity nor mirrors
 abbrev pub is_left : Kept → Piece → Bool

@@ -62,7 +62,12 @@ renewed a b c = if c.command.nonce == a.command.nonce then b else c
 abbrev pub renews : Going → Job → Awaited → Going
 renews g j a =
     let b : Awaited = again_in_2 a g.moved.nonce
-    in record (sending g (b ∷ [])) { file = record g.file { kept = record g.file.kept { format = FORMAT_SHA256 }; job = Some (record j { awaited = map (renewed a b) j.awaited }) } }
+    in record (sending g (b ∷ [])) {
+      file = record g.file {
+        kept = record g.file.kept { format = FORMAT_SHA256 };
+        job = Some (record j { awaited = map (renewed a b) j.awaited });
+      };
+    }
 
 -- the target's drive has no space, or the component becomes missing
 abbrev pub fills_up : Going → Job → Awaited → Work → Going
@@ -70,7 +75,8 @@ fills_up g j a (Targets t) = target_full g t
 fills_up g j a (Gathers t todo) = target_full g t
 fills_up g j a (Fills t todo) = target_full g t
 fills_up g j a work =
-    loses (noting (with_components g (lose_from (a.component ∷ []) g.file.kept.components 0)) (NoSpace a.component)) j work
+    loses (noting (with_components g (lose_from (a.component ∷ []) g.file.kept.components 0)) (NoSpace a.component)) j
+    work
     (others j.awaited a.command.nonce) false
 
 -- the replies heard, and this

@@ -23,7 +23,8 @@ is_device bytes drive = (from_be_bytes w64 (take 8 bytes) == 0) && (from_be_byte
 
 -- this is the component's object
 abbrev pub is_at : ObjId → Component → Bool
-is_at o at = is_device o.oid_device_id at.drive && ((o.oid_partition_id == FIRST_PARTITION + at.drive) && (o.oid_object_id == at.object))
+is_at o at = is_device o.oid_device_id at.drive
+    && ((o.oid_partition_id == FIRST_PARTITION + at.drive) && (o.oid_object_id == at.object))
 
 -- the component, from number k on, whose present or last object the entry names
 unfoldable pub named_from : IoErr → List Component → (k : ℕ) → Option ℕ
@@ -113,7 +114,8 @@ reports_from go ks (at ∷ cs) k = reports_from (noting_if (among k ks) go (Repo
 -- these become missing
 unfoldable pub takes_loss : Going → List ℕ → Going
 takes_loss go ks =
-    reports_from (keeping go (record go.file.kept { components = lose_from ks go.file.kept.components 0 })) ks go.file.kept.components 0
+    reports_from (keeping go (record go.file.kept { components = lose_from ks go.file.kept.components 0 })) ks
+    go.file.kept.components 0
 
 -- what the row does
 abbrev pub by_return : Going → (format client : ℕ) → Returned → Served

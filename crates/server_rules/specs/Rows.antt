@@ -43,17 +43,34 @@ note file kind = record { file = file; kind = kind }
 
 -- a request at a time of the server's clock
 abbrev pub asks_at : (now client sequence file : ℕ) → RequestArgs → Input
-asks_at now client sequence file args = Hears now (FromClient client) (Asks (record { client = client; sequence = sequence; file = file; args = args }))
+asks_at now client sequence file args =
+    Hears now (FromClient client) (Asks (record { client = client; sequence = sequence; file = file; args = args }))
 
 -- a drive's reply to a command that it performed
 abbrev pub performed : (drive : ℕ) → Action → (object nonce detail : ℕ) → (payload : List ℕ) → Input
 performed drive action object nonce detail payload =
-    Hears 0 (FromDrive drive) (Replies (record { action = number_of action; verdict = 0; object = object; nonce = nonce; detail = detail; payload = payload }))
+    Hears 0 (FromDrive drive)
+    (Replies (record {
+      action = number_of action;
+      verdict = 0;
+      object = object;
+      nonce = nonce;
+      detail = detail;
+      payload = payload;
+    }))
 
 -- a drive's reply to another
 abbrev pub replied : (drive : ℕ) → Action → (verdict object nonce detail : ℕ) → Input
 replied drive action verdict object nonce detail =
-    Hears 0 (FromDrive drive) (Replies (record { action = number_of action; verdict = verdict; object = object; nonce = nonce; detail = detail; payload = [] }))
+    Hears 0 (FromDrive drive)
+    (Replies (record {
+      action = number_of action;
+      verdict = verdict;
+      object = object;
+      nonce = nonce;
+      detail = detail;
+      payload = [];
+    }))
 
 -- an error at an object of a drive
 abbrev pub error_at : (drive partition object : ℕ) → Errno → IoErr
@@ -84,7 +101,8 @@ for_server drive object tag format = record {
 }
 
 -- a command that isn't sealed
-abbrev pub bare : (drive object tag format nonce : ℕ) → Action → (offset len attribute : ℕ) → (payload : List ℕ) → Command
+abbrev pub bare : (drive object tag format nonce : ℕ) → Action → (offset len attribute : ℕ) → (payload : List ℕ) →
+    Command
 bare drive object tag format nonce action offset len attribute payload = record {
   action = action;
   partition = 65536 + drive;
@@ -109,10 +127,12 @@ abbrev pub raises_tag : (drive object tag format nonce : ℕ) → Outgoing
 raises_tag drive object tag format nonce = seals drive (bare drive object tag format nonce SetTag 0 0 0 [])
 
 abbrev pub reads_from : (drive object tag format nonce offset len : ℕ) → Outgoing
-reads_from drive object tag format nonce offset len = seals drive (bare drive object tag format nonce Read offset len 0 [])
+reads_from drive object tag format nonce offset len =
+    seals drive (bare drive object tag format nonce Read offset len 0 [])
 
 abbrev pub writes_to : (drive object tag format nonce offset : ℕ) → (bytes : List ℕ) → Outgoing
-writes_to drive object tag format nonce offset bytes = seals drive (bare drive object tag format nonce Write offset (length bytes) 0 bytes)
+writes_to drive object tag format nonce offset bytes =
+    seals drive (bare drive object tag format nonce Write offset (length bytes) 0 bytes)
 
 abbrev pub asks_length : (drive object tag format nonce : ℕ) → Outgoing
 asks_length drive object tag format nonce = seals drive (bare drive object tag format nonce GetAttr 0 0 1 [])
@@ -121,7 +141,8 @@ asks_length drive object tag format nonce = seals drive (bare drive object tag f
 
 -- an answer
 abbrev pub answers : (client sequence file detail size : ℕ) → Results → Outgoing
-answers client sequence file detail size r = Answers (record { client = client; sequence = sequence; file = file; detail = detail; size = size; results = r })
+answers client sequence file detail size r =
+    Answers (record { client = client; sequence = sequence; file = file; detail = detail; size = size; results = r })
 
 -- results without a layout
 abbrev pub no_layout : (status : ℕ) → Results
@@ -178,7 +199,8 @@ usable g drive object start len = record {
 
 abbrev pub listed : Given → Listed → ObjectCred
 listed g (Usable drive object start len) =
-    credential_with (record { drive = drive; object = object; missing = false }) (key_of [] (usable g drive object start len)) (usable g drive object start len)
+    credential_with (record { drive = drive; object = object; missing = false })
+    (key_of [] (usable g drive object start len)) (usable g drive object start len)
 listed g (Missing drive object) = no_credential (record { drive = drive; object = object; missing = true })
 
 -- the result with its layout

@@ -16,7 +16,8 @@ slot_of ss client = find (λ s. s.client == client) ss
 -- a number that isn't the last one; before the first request that is 0
 unfoldable pub admit_after : (last sequence : ℕ) → Admit
 admit_after last sequence =
-    if (sequence == last + 1) && nat_lt last GREATEST_SEQUENCE then New else Misordered (min (last + 1) GREATEST_SEQUENCE)
+    if (sequence == last + 1) && nat_lt last GREATEST_SEQUENCE then New
+    else Misordered (min (last + 1) GREATEST_SEQUENCE)
 
 -- the same number again, or another
 unfoldable pub admit : Option Slot → (sequence : ℕ) → Admit

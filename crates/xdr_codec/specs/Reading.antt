@@ -84,7 +84,8 @@ Reads reading old (Ok v) new = reading old ≡ Ok (v, new)
 Reads reading old (Err e) new = (reading old ≡ Err e) × (new ≡ old)
 
 -- the same of bytes that are read into a place, which keeps what it had where they are refused
-abbrev pub ReadsInto : (Rest → Result (List ℕ × Rest) XdrErr) → Rest → List ℕ → Result (Unit {0}) XdrErr → Rest → List ℕ → Type 0
+abbrev pub ReadsInto : (Rest → Result (List ℕ × Rest) XdrErr) → Rest → List ℕ → Result (Unit {0}) XdrErr → Rest →
+    List ℕ → Type 0
 ReadsInto reading old before (Ok done) new out = reading old ≡ Ok (out, new)
 ReadsInto reading old before (Err e) new out = (reading old ≡ Err e) × (new ≡ old) × (out ≡ before)
 
@@ -94,7 +95,8 @@ IsTaken n old front new = (n ≤ length old.left) × (front ≡ take n old.left)
 
 -- a body's bytes and the number of bytes up to its end
 abbrev pub ReadsBody : Rest → ℕ → ℕ → Result (Bor (List ℕ) × ℕ) XdrErr → Type 0
-ReadsBody i start n (Ok x) = (body_in start n i ≡ Ok (x.0.now, behind x.1 i)) × (length x.0.now ≡ n) × (x.1 ≤ length i.left)
+ReadsBody i start n (Ok x) =
+    (body_in start n i ≡ Ok (x.0.now, behind x.1 i)) × (length x.0.now ≡ n) × (x.1 ≤ length i.left)
 ReadsBody i start n (Err e) = body_in start n i ≡ Err e
 
 -- the same, unless memory was wanting
@@ -113,9 +115,11 @@ TakesFront Fits spelling old result new =
 
 abbrev pub TakesFrontOrMemory : {V : Type 0} → (V → Type 0) → (V → List ℕ) → Rest → Result V XdrErr → Rest → Type 0
 TakesFrontOrMemory Fits spelling old result new =
-    (v : _) (more : List ℕ) → Fits v → old.left ≡ spelling v ++ more → (result ≡ Err Memory) ⊎ ((result ≡ Ok v) × (new.left ≡ more))
+    (v : _) (more : List ℕ) → Fits v → old.left ≡ spelling v ++ more → (result ≡ Err Memory) ⊎
+    ((result ≡ Ok v) × (new.left ≡ more))
 
 -- bytes of a length that is known, spelled so at the front, are read into the place
 abbrev pub TakesInto : ℕ → Rest → Result (Unit {0}) XdrErr → Rest → List ℕ → Type 0
 TakesInto n old result new out =
-    (v more : List ℕ) → length v ≡ n → old.left ≡ fixed_item v ++ more → (result ≡ Ok tt) × (out ≡ v) × (new.left ≡ more)
+    (v more : List ℕ) → length v ≡ n → old.left ≡ fixed_item v ++ more → (result ≡ Ok tt) × (out ≡ v) ×
+    (new.left ≡ more)
