@@ -1,5 +1,5 @@
 -- The records of a piece, byte by byte.
-use Rattle.std.proofs.Common.{◌≡◌, ℕ, suc, ◌+◌, ◌<◌, Bool, true, false, List, [], ◌∷◌, ◌++◌, length, take, drop, Option, None, Some, Result, Ok, Err, refl, sym, ap, subst, ◌∙◌, append_assoc}
+use Rattle.std.proofs.Common.{◌≡◌, ℕ, suc, ◌+◌, ◌<◌, Bool, true, false, List, [], ◌∷◌, ◌++◌, length, take, drop, Option, None, Some, Ok, Err, refl, sym, ap, subst, ◌∙◌, append_assoc}
 use Rattle.std.proofs.lemmas.List.{append-nil, take-append-drop}
 use Rattle.std.proofs.Math.Seq.{drop-cons}
 use Rattle.std.proofs.Math.Numerals.{add-one}
@@ -9,10 +9,9 @@ use Rattle.osd_bytes.specs.declared.source.Fault.{Fault}
 use Rattle.osd_bytes.proofs.ExchangeLaws.{newest-last, with_newest-last}
 use Rattle.osd_bytes.proofs.EndLaws.{newest-with}
 use Rattle.osd_serving.specs.Inboxes.{IsAtEnd, WasPut, WasTaken, begun_or_broken, with_newest_talk}
-use Rattle.osd_bytes.specs.Records.{Begun, Split, Step, FindsFirst, after, fresh, split, then_split, in_front}
+use Rattle.osd_bytes.specs.Records.{Begun, Split, Step, after, fresh, split, then_split}
 use Rattle.osd_bytes.specs.Records.Step.{Goes, Gives, Breaks}
-use Rattle.osd_bytes.specs.declared.records.RecordErr.TheVariants.{TooLong}
-use Rattle.osd_bytes.proofs.RecordLaws.{behind, carried, split-append, split-nil, piece-ends}
+use Rattle.osd_bytes.proofs.RecordLaws.{behind, carried, split-append, split-nil}
 
 -- the piece from a byte on: the byte, and what follows
 from_byte : (b : Begun) (piece : List ℕ) (i : ℕ) → i < length piece

@@ -1,1 +1,2 @@
 pub mod InboxLaws
+pub mod TalkLaws

@@ -1,6 +1,7 @@
 -- What came on an accepted connection, and what was put on it.
 use Rattle.std.specs.Prelude.{◌≡◌, ◌⊎◌, ℕ, Bool, true, false, List, [], ◌∷◌, ◌++◌, ⊤, Option, None, Some, if◌then◌else◌}
 use Rattle.osd_bytes.specs.Causes.{Rose}
+use Rattle.osd_bytes.specs.Clocks.{TellsTime}
 use Rattle.osd_bytes.specs.Counts.{Faults, NoFewer}
 use Rattle.osd_bytes.specs.Connections.{Talk, Traffic, newest}
 use Rattle.osd_bytes.specs.Records.{Begun, fresh, framed, split}
@@ -65,3 +66,17 @@ PutsFrame false message before now =
 abbrev pub HasPutCause : (is_whole : Bool) → (before now : Faults) → Type 0
 HasPutCause true before now = now ≡ before
 HasPutCause false before now = NoFewer before now × Rose before.accepted now.accepted
+
+-- ---- a whole connection
+
+-- these bytes were taken of the newest accepted connection, and those put on it, and nothing else happened
+pub record Talked (before now : Option Traffic) (taken put : List ℕ) : Type 0 where
+  pub none : before ≡ None → now ≡ None
+  pub some : (a : Traffic) (talks : List Talk) (t : Talk) → before ≡ Some (with_newest_talk a talks t) →
+      (left : List ℕ) × (t.left ≡ taken ++ left)
+      × (now ≡ Some (with_newest_talk a talks (record { left = left; put = t.put ++ put })))
+
+-- a clock told these times, one after the other
+abbrev pub Told : (before : Option (List ℕ)) → (times : List ℕ) → (now : Option (List ℕ)) → Type 0
+Told before [] now = now ≡ before
+Told before (t ∷ ts) now = (between : Option (List ℕ)) × TellsTime before between t × Told between ts now

@@ -5,7 +5,9 @@
 #![tactic(auto)]
 
 mod answers;
+mod errors;
 mod inbox;
 
 pub use answers::put_record;
+pub use errors::ServeErr;
 pub use inbox::{Inbox, MAX_TAKEN};

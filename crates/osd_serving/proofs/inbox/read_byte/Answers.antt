@@ -1,4 +1,4 @@
-use Rattle.std.proofs.Common.{rules, ◌≡◌, ◌∷◌, [], sym}
+use Rattle.std.proofs.Common.{rules, ◌∷◌, [], sym}
 use Rattle.std.proofs.lemmas.List.{append-nil}
 use Rattle.osd_serving.proofs.InboxLaws.{byte-none, byte-record}
 use Rattle.osd_serving.proofs.inbox.read_byte.Goals as goal

@@ -1,4 +1,4 @@
-use Rattle.std.proofs.Common.{rules, ◌≡◌, ◌∷◌, [], Ok, Err, Some, None}
+use Rattle.std.proofs.Common.{rules}
 use Rattle.osd_bytes.proofs.RecordLaws.{piece-ends}
 use Rattle.osd_serving.proofs.InboxLaws.{gives-more, gives-break}
 use Rattle.osd_serving.proofs.inbox.read_bytewise.Goals as goal

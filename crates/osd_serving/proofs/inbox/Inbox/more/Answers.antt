@@ -1,5 +1,5 @@
 use Rattle.std.proofs.Common.{rules, ◌<◌, length, [], take, inr, refl, sym, arith}
-use Rattle.osd_serving.proofs.InboxLaws.{taken-nil, taken-piece, taken-end}
+use Rattle.osd_serving.proofs.InboxLaws.{taken-piece, taken-end}
 use Rattle.osd_serving.proofs.inbox.Inbox.more.Goals as goal
 
 pub returns-in-Ok-eq0-clause-taken : goal.returns-in-Ok-eq0-clause-taken
