@@ -1,9 +1,10 @@
 -- What came on an accepted connection, and what was put on it.
-use Rattle.std.specs.Prelude.{◌≡◌, ◌⊎◌, ℕ, Bool, true, false, List, [], ◌∷◌, ◌++◌, ⊤, Option, None, Some, if◌then◌else◌}
+use Rattle.std.specs.Prelude.{◌≡◌, ◌⊎◌, ◌<◌, ℕ, Bool, true, false, List, [], ◌∷◌, ◌++◌, length, ⊤, Option, None, Some, if◌then◌else◌}
 use Rattle.osd_bytes.specs.Causes.{Rose}
 use Rattle.osd_bytes.specs.Clocks.{TellsTime}
 use Rattle.osd_bytes.specs.Counts.{Faults, NoFewer}
 use Rattle.osd_bytes.specs.Connections.{Talk, Traffic, newest}
+use Rattle.osd_bytes.specs.declared.records.TheConstants.{MAX_RECORD}
 use Rattle.osd_bytes.specs.Records.{Begun, fresh, framed, split}
 
 -- what came of the next record, unless one was too long, and how many bytes may still be taken
@@ -62,10 +63,11 @@ PutsFrame true message before now = WasPut before now (framed message)
 PutsFrame false message before now =
     (sent more : List ℕ) × (framed message ≡ sent ++ more) × WasPut before now sent
 
--- where a part is missing, a call failed
-abbrev pub HasPutCause : (is_whole : Bool) → (before now : Faults) → Type 0
-HasPutCause true before now = now ≡ before
-HasPutCause false before now = NoFewer before now × Rose before.accepted now.accepted
+-- where a part is missing, a call failed, or the message is longer than a record may be
+abbrev pub HasPutCause : (is_whole : Bool) → (message : List ℕ) → (before now : Faults) → Type 0
+HasPutCause true message before now = now ≡ before
+HasPutCause false message before now =
+    NoFewer before now × (Rose before.accepted now.accepted ⊎ (MAX_RECORD < length message))
 
 -- ---- a whole connection
 

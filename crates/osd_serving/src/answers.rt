@@ -1,9 +1,8 @@
-ghost use Rattle.std.specs.Prelude.{◌≡◌, ◌≤◌, ◌++◌, ℕ, List, length, IfOk, OnOk, OnErr};
+ghost use Rattle.std.specs.Prelude.{◌≡◌, ◌++◌, ℕ, List, length, IfOk, OnOk, OnErr};
 ghost use Rattle.osd_bytes.specs.Counts.{HasLinkCause};
-ghost use Rattle.osd_bytes.specs.declared.records.TheConstants.{MAX_RECORD};
 ghost use Rattle.osd_serving.specs.Inboxes.{HasPutCause, PutsFrame, WasPut};
 
-use osd_bytes::{Fault, Links, Memory, frame};
+use osd_bytes::{Fault, Links, MAX_RECORD, Memory, frame};
 use std::alloc::Global;
 
 // Puts all of the bytes on the accepted connection.
@@ -23,18 +22,20 @@ fn put_all<L: Links>(links: &mut L, bytes: &[u8]) -> Result<(), Fault>
 }
 
 /// Puts a message on the accepted connection, as one record, and tells whether all of it went out.
-/// Where it didn't, a call of the links failed.
+/// Where it didn't, a call of the links failed, or the message is longer than a record may be.
 ///
 /// # Errors
 ///
 /// Want of memory alone; then nothing went out.
 pub fn put_record<L: Links>(alloc: Global, links: &mut L, message: &[u8]) -> Result<bool, Memory>
-    requires { length message.now ≤ MAX_RECORD }
     ensures put { IfOk result (λ all. PutsFrame all message.now (L.told links.old) (L.told links.new)) }
-    ensures cause { IfOk result (λ all. HasPutCause all (L.faults links.old) (L.faults links.new)) }
+    ensures cause { IfOk result (λ all. HasPutCause all message.now (L.faults links.old) (L.faults links.new)) }
     ensures none { OnErr result ((L.told links.new ≡ L.told links.old) × (L.faults links.new ≡ L.faults links.old)) }
     ensures standing { L.standing links.new ≡ L.standing links.old }
 {
+    if message.len() > MAX_RECORD {
+        return Ok(false);
+    }
     let bytes = frame(alloc, message)?;
     Ok(put_all(links, bytes.as_slice()).is_ok())
 }
