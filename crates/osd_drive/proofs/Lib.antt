@@ -2,3 +2,4 @@ pub mod Clear
 pub mod Ready
 pub mod LaneLaws
 pub mod Repeated
+pub mod ServingLaws

@@ -2,3 +2,4 @@ pub mod State
 pub mod Table
 pub mod Effects
 pub mod Repeats
+pub mod Serving

@@ -1,4 +1,5 @@
-ghost use Rattle.std.specs.Prelude.{◌≡◌, ◌+◌, ◌++◌, ℕ, List, [], None, Some, length, IfOk, IfSome, IfNone, IsSome};
+ghost use Rattle.std.specs.Prelude.{◌≡◌, ◌<◌, ◌+◌, ◌++◌, ℕ, List, [], None, Some, length, IfOk, IfSome, IfNone, IsSome};
+ghost use Rattle.osd_bytes.specs.Counts.{NoFewer};
 ghost use Rattle.osd_bytes.specs.Records.{fresh, split};
 ghost use Rattle.osd_serving.specs.Inboxes.{IsOver, Reads, ReadsByte, WasTaken, begun_or_broken};
 ghost use Rattle.osd_serving.specs.declared.inbox.TheConstants.{MAX_TAKEN};
@@ -135,6 +136,9 @@ impl Inbox {
             IfOk result (λ more. IfSome more (λ records. Reads piece records self.old self.new)) }
         ensures over { IfOk result (λ more. IfNone more ((self.new ≡ self.old) ×
             IsOver self.old (L.told links.new) (L.faults links.old) (L.faults links.new))) }
+        ensures less { IfOk result (λ more. IfSome more (λ records. self.new.room < self.old.room)) }
+        ensures same { IfOk result (λ more. IfSome more (λ records. L.faults links.new ≡ L.faults links.old)) }
+        ensures later { NoFewer (L.faults links.old) (L.faults links.new) }
         ensures standing { L.standing links.new ≡ L.standing links.old }
     {
         if self.is_broken || self.room == 0 {

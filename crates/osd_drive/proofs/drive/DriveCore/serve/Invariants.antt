@@ -1,0 +1,14 @@
+use Rattle.std.proofs.Common.{◌≡◌, ◌≤◌, ◌-◌, List}
+use Rattle.osd_drive.specs.Serving.{Handled, ServesAll, after_all, ends_of}
+use Rattle.osd_drive.proofs.drive.DriveCore.serve.Given as goal
+
+abbrev pub invariant-loop-served : goal.invariant-loop-served
+invariant-loop-served g l =
+    ServesAll l.served l.initial.self l.self
+      (ends_of (g.L.Links.told l.initial.links) (g.L.Links.faults l.initial.links) (g.C.Clock.times l.initial.clock))
+      (ends_of (g.L.Links.told l.links) (g.L.Links.faults l.links) (g.C.Clock.times l.clock))
+    × (l.served ≤ l.connections)
+    × ((handled : List Handled) × (l.self ≡ after_all l.initial.self handled))
+
+abbrev pub decreases-loop-served : goal.decreases-loop-served
+decreases-loop-served g l = l.connections - l.served

@@ -1,0 +1,120 @@
+-- What a drive does with the records of its connections.
+use Rattle.std.specs.Prelude.{◌≡◌, ◌⊎◌, ◌<◌, ◌≤◌, ℕ, zero, suc, Bool, true, false, List, [], ◌∷◌, ◌++◌, length, map, Option, None, Ok}
+use Rattle.osd_bytes.specs.Clocks.{TellsTime}
+use Rattle.osd_bytes.specs.Causes.{Rose}
+use Rattle.osd_bytes.specs.Connections.{Traffic, Accepts}
+use Rattle.osd_bytes.specs.Counts.{Faults, NoFewer}
+use Rattle.osd_bytes.specs.Records.{framed, fresh, records_of, split}
+use Rattle.osd_bytes.specs.declared.records.TheConstants.{MAX_RECORD}
+use Rattle.osd_commands.specs.Replies.{spelling}
+use Rattle.osd_serving.specs.Inboxes.{HasPutCause, IsAtEnd, PutsFrame, Talked, Told}
+use Rattle.osd_serving.specs.declared.inbox.TheConstants.{MAX_TAKEN}
+use Rattle.osd_drive.specs.State.{DriveState}
+use Rattle.osd_drive.specs.Effects.{reply_to, drive_after}
+
+-- what is known of the links and the clock: what came and went, the calls that failed, and the times
+pub record Ends : Type 0 where
+  pub told : Option Traffic
+  pub faults : Faults
+  pub times : Option (List ℕ)
+
+abbrev pub ends_of : Option Traffic → Faults → Option (List ℕ) → Ends
+ends_of told faults times = record { told = told; faults = faults; times = times }
+
+-- a record, and when it was handled
+pub record Handled : Type 0 where
+  pub time : ℕ
+  pub message : List ℕ
+
+-- the drive after these
+abbrev pub after_all : DriveState → List Handled → DriveState
+after_all d [] = d
+after_all d (h ∷ hs) = after_all (drive_after d h.time h.message) hs
+
+-- the reply to a record, spelled
+abbrev pub reply_bytes : DriveState → (time : ℕ) → (message : List ℕ) → List ℕ
+reply_bytes d time message = spelling (reply_to d time message)
+
+-- the frames of the replies to these, in order
+abbrev pub frames : DriveState → List Handled → List ℕ
+frames d [] = []
+frames d (h ∷ hs) = framed (reply_bytes d h.time h.message) ++ frames (drive_after d h.time h.message) hs
+
+-- a reply that no record can carry
+abbrev pub HasLongReply : DriveState → List Handled → Type 0
+HasLongReply d [] = ⊥
+HasLongReply d (h ∷ hs) =
+    (MAX_RECORD < length (reply_bytes d h.time h.message)) ⊎ HasLongReply (drive_after d h.time h.message) hs
+
+-- ---- one record
+
+-- its reply is put, unless one before it wasn't
+abbrev pub PutsReply : (puts still : Bool) → (reply : List ℕ) → (before now : Ends) → Type 0
+PutsReply true still reply before now =
+    PutsFrame still reply before.told now.told × HasPutCause still reply before.faults now.faults
+PutsReply false still reply before now = (still ≡ false) × (now.told ≡ before.told) × (now.faults ≡ before.faults)
+
+-- it is handled at the next time of the clock
+pub record Answers (puts still : Bool) (old new : DriveState) (before now : Ends) (message : List ℕ) : Type 0 where
+  pub time : ℕ
+  pub told : TellsTime before.times now.times time
+  pub state : new ≡ drive_after old time message
+  pub reply : PutsReply puts still (reply_bytes old time message) before now
+
+-- ---- the records of a connection
+
+-- these bytes were taken, and these records handled; what of their replies was put, and what wasn't
+pub record Serves (puts : Bool) (old new : DriveState) (before now : Ends) (taken : List ℕ) (handled : List Handled) : Type 0 where
+  pub put : List ℕ
+  pub unput : List ℕ
+  pub talked : Talked before.told now.told taken put
+  pub state : new ≡ after_all old handled
+  pub replies : frames old handled ≡ put ++ unput
+  pub times : Told before.times (map (λ h. h.time) handled) now.times
+  pub faults : NoFewer before.faults now.faults
+  pub stands : puts ≡ true → unput ≡ []
+  pub broke : puts ≡ false → Rose before.faults.accepted now.faults.accepted ⊎ HasLongReply old handled
+
+-- these records are handled behind all that was before on the connection
+abbrev pub ServesMore : (puts still : Bool) → (old new : DriveState) → (before now : Ends) → List (List ℕ) → Type 0
+ServesMore puts still old new before now records =
+    (first : DriveState) (begin : Ends) (taken : List ℕ) (handled : List Handled) →
+    Serves puts first old begin before taken handled →
+    (more : List Handled) × (map (λ h. h.message) more ≡ records)
+    × Serves still first new begin now taken (handled ++ more)
+
+-- why no more records come
+abbrev pub IsOver : (taken : List ℕ) → (before now : Ends) → Type 0
+IsOver taken before now =
+    ((split fresh taken).begun ≡ None) ⊎ (length taken ≡ MAX_TAKEN)
+    ⊎ Rose before.faults.accepted now.faults.accepted ⊎ IsAtEnd now.told
+
+-- a connection that was accepted is served: each whole record is handled, up to the end, a call that fails, a record
+-- that is too long, or the limit of bytes
+pub record ServesConnection (old new : DriveState) (before now : Ends) : Type 0 where
+  pub taken : List ℕ
+  pub handled : List Handled
+  pub puts : Bool
+  pub serves : Serves puts old new before now taken handled
+  pub records : records_of taken ≡ map (λ h. h.message) handled
+  pub limit : length taken ≤ MAX_TAKEN
+  pub over : IsOver taken before now
+
+-- one more connection is accepted
+pub record AcceptsOne (before now : Ends) : Type 0 where
+  pub told : Accepts before.told now.told (Ok tt)
+  pub faults : now.faults ≡ before.faults
+  pub times : now.times ≡ before.times
+
+-- so many connections are accepted and served, one after the other
+abbrev pub ServesAll : (count : ℕ) → (old new : DriveState) → (before now : Ends) → Type 0
+ServesAll zero old new before now = (new ≡ old) × (now ≡ before)
+ServesAll (suc n) old new before now =
+    (d : DriveState) × (between : Ends) × ServesAll n old d before between
+    × (accepted : Ends) × AcceptsOne between accepted × ServesConnection d new accepted now
+
+-- fewer were, and then none could be accepted
+abbrev pub IsRefused : (count : ℕ) → (old new : DriveState) → (before now : Ends) → Type 0
+IsRefused count old new before now =
+    (n : ℕ) × (n < count) × (between : Ends) × ServesAll n old new before between
+    × Rose between.faults.listening now.faults.listening

@@ -1,0 +1,114 @@
+ghost use Rattle.std.specs.Prelude.{◌≡◌, List, IfOk, IsErrOf, OnOk};
+ghost use Rattle.osd_serving.specs.declared.errors.ServeErr.TheVariants.{LinkFault};
+ghost use Rattle.osd_drive.specs.Serving.{Answers, Handled, IsRefused, ServesAll, ServesConnection, ServesMore, after_all, ends_of};
+
+use crate::drive::DriveCore;
+use osd_bytes::{ByteLists, Clock, Links, Memory};
+use osd_commands::write_reply;
+use osd_serving::{Inbox, ServeErr, put_record};
+use std::alloc::Global;
+
+impl DriveCore {
+    // Handles a record at the next time, and puts its reply where the connection still stands. Tells
+    // whether it stands now.
+    fn answer_record<L: Links, C: Clock>(
+        &mut self,
+        alloc: Global,
+        links: &mut L,
+        clock: &mut C,
+        message: &[u8],
+        puts: bool,
+    ) -> Result<bool, Memory>
+        ensures answers { IfOk result (λ still. Answers puts still self.old self.new
+            (ends_of (L.told links.old) (L.faults links.old) (C.times clock.old))
+            (ends_of (L.told links.new) (L.faults links.new) (C.times clock.new)) message.now) }
+        ensures state { (handled : List Handled) × (self.new ≡ after_all self.old handled) }
+        ensures standing { L.standing links.new ≡ L.standing links.old }
+    {
+        let now = clock.now();
+        let reply = self.handle(alloc, now, message)?;
+        if !puts {
+            return Ok(false);
+        }
+        let bytes = write_reply(alloc, &reply)?;
+        put_record(alloc, links, bytes.as_slice())
+    }
+
+    // Handles these records in order. Tells whether the connection still stands.
+    fn answer_all<L: Links, C: Clock>(
+        &mut self,
+        alloc: Global,
+        links: &mut L,
+        clock: &mut C,
+        records: &ByteLists,
+        puts: bool,
+    ) -> Result<bool, Memory>
+        ensures serves { IfOk result (λ still. ServesMore puts still self.old self.new
+            (ends_of (L.told links.old) (L.faults links.old) (C.times clock.old))
+            (ends_of (L.told links.new) (L.faults links.new) (C.times clock.new)) records.now) }
+        ensures state { (handled : List Handled) × (self.new ≡ after_all self.old handled) }
+        ensures standing { L.standing links.new ≡ L.standing links.old }
+    {
+        let mut stands = puts;
+        for i in 0..records.len() {
+            stands = self.answer_record(alloc, links, clock, records.get(i).as_slice(), stands)?;
+        }
+        Ok(stands)
+    }
+
+    // Serves the connection that was accepted.
+    fn serve_connection<L: Links, C: Clock>(
+        &mut self,
+        alloc: Global,
+        links: &mut L,
+        clock: &mut C,
+    ) -> Result<(), Memory>
+        ensures serves { OnOk result (ServesConnection self.old self.new
+            (ends_of (L.told links.old) (L.faults links.old) (C.times clock.old))
+            (ends_of (L.told links.new) (L.faults links.new) (C.times clock.new))) }
+        ensures state { (handled : List Handled) × (self.new ≡ after_all self.old handled) }
+        ensures standing { L.standing links.new ≡ L.standing links.old }
+    {
+        let mut inbox = Inbox::new(alloc);
+        let mut stands = true;
+        loop {
+            match inbox.more(links)? {
+                None => return Ok(()),
+                Some(records) => stands = self.answer_all(alloc, links, clock, &records, stands)?,
+            }
+        }
+    }
+
+    /// Accepts so many connections, one after the other, and serves each: every whole record that
+    /// comes is handled at the next time of the clock and its reply put, up to the connection's end, a
+    /// call on it that fails, a record that is too long, or 67,108,864 bytes. Where a reply couldn't be
+    /// put whole, the records after it are handled without an answer.
+    ///
+    /// # Errors
+    ///
+    /// [`ServeErr::LinkFault`] where no further connection could be accepted, after those before it were
+    /// served whole; [`ServeErr::Memory`]. The drive then is as the handled records leave it.
+    pub fn serve<L: Links, C: Clock>(
+        &mut self,
+        alloc: Global,
+        links: &mut L,
+        clock: &mut C,
+        connections: u32,
+    ) -> Result<(), ServeErr>
+        ensures served { OnOk result (ServesAll connections self.old self.new
+            (ends_of (L.told links.old) (L.faults links.old) (C.times clock.old))
+            (ends_of (L.told links.new) (L.faults links.new) (C.times clock.new))) }
+        ensures refused { IsErrOf result LinkFault → IsRefused connections self.old self.new
+            (ends_of (L.told links.old) (L.faults links.old) (C.times clock.old))
+            (ends_of (L.told links.new) (L.faults links.new) (C.times clock.new)) }
+        ensures state { (handled : List Handled) × (self.new ≡ after_all self.old handled) }
+    {
+        let mut served = 0;
+        while served < connections {
+            links.accept()?;
+            self.serve_connection(alloc, links, clock)?;
+            served += 1;
+        }
+        Ok(())
+    }
+}
