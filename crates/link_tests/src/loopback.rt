@@ -4,6 +4,7 @@ use std::net::{OpenListener, TcpListener};
 use std::test::Fail;
 
 const SERVER: Node = Node::Server;
+
 const DRIVE: Node = Node::Drive(3);
 
 // An address of the loopback at which nobody listens.

@@ -77,7 +77,7 @@ more-of puts still first new begin before now taken handled time message put unp
   state = state ∙ sym (after-more first handled (handled_at time message));
   replies = frames-more first handled (handled_at time message) ∙ replies;
   times = subst (λ (ts : List ℕ). Told begin.times ts now.times) (sym (map-append (λ (h : Handled). h.time) handled (handled_at time message ∷ [])))
-    (told-then begin.times before.times now.times (map (λ h. h.time) handled) time told tells);
+      (told-then begin.times before.times now.times (map (λ h. h.time) handled) time told tells);
   faults = faults;
   stands = stands;
   broke = broke;
@@ -89,16 +89,16 @@ answered : (puts still : Bool) (first new : DriveState) (begin before now : Ends
 answered true true first new begin before now taken handled message s a =
     let reply = framed (reply_bytes (after_all first handled) a.time message) in
     more-of true true first new begin before now taken handled a.time message (s.put ++ reply) [] s.times a.told a.state
-      (talked-put _ _ _ taken s.put reply s.talked a.reply.0)
-      (ap (λ (x : List ℕ). x ++ reply) (s.replies ∙ ap (λ (x : List ℕ). s.put ++ x) (s.stands refl) ∙ append-nil s.put) ∙ sym (append-nil (s.put ++ reply)))
-      (fewer-same _ _ _ s.faults a.reply.1) (λ e. refl) (λ e. absurd (cc e))
+    (talked-put _ _ _ taken s.put reply s.talked a.reply.0)
+    (ap (λ (x : List ℕ). x ++ reply) (s.replies ∙ ap (λ (x : List ℕ). s.put ++ x) (s.stands refl) ∙ append-nil s.put) ∙ sym (append-nil (s.put ++ reply)))
+    (fewer-same _ _ _ s.faults a.reply.1) (λ e. refl) (λ e. absurd (cc e))
 answered true false first new begin before now taken handled message s a =
     let reply = framed (reply_bytes (after_all first handled) a.time message) in
     let went = a.reply.0 in
     more-of true false first new begin before now taken handled a.time message (s.put ++ went.0) went.1 s.times a.told a.state
-      (talked-put _ _ _ taken s.put went.0 s.talked went.3)
-      (ap (λ (x : List ℕ). x ++ reply) (s.replies ∙ ap (λ (x : List ℕ). s.put ++ x) (s.stands refl) ∙ append-nil s.put) ∙ ap (λ (x : List ℕ). s.put ++ x) went.2 ∙ sym (append_assoc s.put went.0 went.1))
-      (fewer-then _ _ _ s.faults a.reply.1.0) (λ e. absurd (cc e)) (λ e. cause a.reply.1.1)
+    (talked-put _ _ _ taken s.put went.0 s.talked went.3)
+    (ap (λ (x : List ℕ). x ++ reply) (s.replies ∙ ap (λ (x : List ℕ). s.put ++ x) (s.stands refl) ∙ append-nil s.put) ∙ ap (λ (x : List ℕ). s.put ++ x) went.2 ∙ sym (append_assoc s.put went.0 went.1))
+    (fewer-then _ _ _ s.faults a.reply.1.0) (λ e. absurd (cc e)) (λ e. cause a.reply.1.1)
   where
     cause : Rose before.faults.accepted now.faults.accepted ⊎ (MAX_RECORD < length (reply_bytes (after_all first handled) a.time message))
         → Rose begin.faults.accepted now.faults.accepted ⊎ HasLongReply first (handled ++ handled_at a.time message ∷ [])
@@ -107,9 +107,9 @@ answered true false first new begin before now taken handled message s a =
 answered false still first new begin before now taken handled message s a =
     let reply = framed (reply_bytes (after_all first handled) a.time message) in
     more-of false still first new begin before now taken handled a.time message s.put (s.unput ++ reply) s.times a.told a.state
-      (talked-same _ _ _ taken s.put s.talked a.reply.1)
-      (ap (λ (x : List ℕ). x ++ reply) s.replies ∙ append_assoc s.put s.unput reply)
-      (fewer-same _ _ _ s.faults a.reply.2) (λ e. absurd (cc (sym e ∙ a.reply.0))) (λ e. cause (s.broke refl))
+    (talked-same _ _ _ taken s.put s.talked a.reply.1)
+    (ap (λ (x : List ℕ). x ++ reply) s.replies ∙ append_assoc s.put s.unput reply)
+    (fewer-same _ _ _ s.faults a.reply.2) (λ e. absurd (cc (sym e ∙ a.reply.0))) (λ e. cause (s.broke refl))
   where
     cause : Rose begin.faults.accepted before.faults.accepted ⊎ HasLongReply first handled
         → Rose begin.faults.accepted now.faults.accepted ⊎ HasLongReply first (handled ++ handled_at a.time message ∷ [])
@@ -210,7 +210,7 @@ served-more puts still old mid new begin before taking now inbox left piece reco
       s.1 ++ done.0,
       done.2,
       reads s.0 (map (λ h. h.message) s.1) s.3
-      ∙ ap (λ (rs : List (List ℕ)). record { records = rs; begun = left.begun })
+          ∙ ap (λ (rs : List (List ℕ)). record { records = rs; begun = left.begun })
           (ap (λ (rs : List (List ℕ)). map (λ (h : Handled). h.message) s.1 ++ rs) (sym done.1) ∙ sym (map-append (λ (h : Handled). h.message) s.1 done.0)),
       omega (arith, s.4, rooms, length-append s.0 piece),
     )
@@ -228,8 +228,8 @@ served-over puts old new begin before now inbox left piece s w rooms same fewer 
   handled = s.1;
   puts = puts;
   serves = subst (λ (t : List ℕ). Serves puts old new begin now t s.1)
-    (ap (λ (p : List ℕ). s.0 ++ p) (nothing-taken piece inbox.room (ap (λ (i : Coming). length piece + i.room) (sym same) ∙ rooms)) ∙ append-nil s.0)
-    (serving-taken puts old new begin before now s.0 piece s.1 s.2 w fewer times);
+      (ap (λ (p : List ℕ). s.0 ++ p) (nothing-taken piece inbox.room (ap (λ (i : Coming). length piece + i.room) (sym same) ∙ rooms)) ∙ append-nil s.0)
+      (serving-taken puts old new begin before now s.0 piece s.1 s.2 w fewer times);
   records = ap (λ (x : Split). x.records) s.3;
   limit = omega (arith, s.4);
   over = why ends;

@@ -17,7 +17,7 @@ loop-i-preserved g c =
     let before = c.loop-i.invariant.1 in
     let now = c.answer_record.ensures.state in (
       rw (take-got c.args.records.now c.loop-i.i c.as_slice.result.now (search rules))
-      (more-answered c.args.puts c.loop-i.stands c.in_ok-stands.stands c.args.self.now c.loop-i.self c.answer_record.new.self _ _ _ _ c.as_slice.result.now c.loop-i.invariant.0 c.in_ok-stands.ensures.answers),
+          (more-answered c.args.puts c.loop-i.stands c.in_ok-stands.stands c.args.self.now c.loop-i.self c.answer_record.new.self _ _ _ _ c.as_slice.result.now c.loop-i.invariant.0 c.in_ok-stands.ensures.answers),
       all-then c.args.self.now c.loop-i.self c.answer_record.new.self before.0 now.0 before.1 now.1,
       search rules,
     )

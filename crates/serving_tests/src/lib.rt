@@ -1,0 +1,5 @@
+//! Tests of serving over links in memory.
+#![tactic(auto)]
+
+#[cfg(test)]
+mod drives;
