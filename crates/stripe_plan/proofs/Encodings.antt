@@ -46,13 +46,13 @@ new_laid m r bytes s b c x bl long = elim (cases_lt (unit_start m s c + b) r.off
   ]
 ]
 
-overlaid_long : (ns : List (Option ℕ)) (ds : List ℕ) → length ns ≡ length ds → length (overlaid ns ds) ≡ length ds
+pub overlaid_long : (ns : List (Option ℕ)) (ds : List ℕ) → length ns ≡ length ds → length (overlaid ns ds) ≡ length ds
 overlaid_long [] ds e = refl
 overlaid_long (n ∷ ns) [] e = refl
 overlaid_long (None ∷ ns) (d ∷ ds) e = ap suc (overlaid_long ns ds (omega (arith, e)))
 overlaid_long (Some v ∷ ns) (d ∷ ds) e = ap suc (overlaid_long ns ds (omega (arith, e)))
 
-overlaid_at : (m : RawMap) (r : Span) (bytes : List ℕ) (s b c n : ℕ) (ds : List ℕ) (k : ℕ) → k < n → length ds ≡ n →
+pub overlaid_at : (m : RawMap) (r : Span) (bytes : List ℕ) (s b c n : ℕ) (ds : List ℕ) (k : ℕ) → k < n → length ds ≡ n →
     get_or (overlaid (news_from m r bytes s b c n) ds) k 0 ≡ unwrap_or (new_at m r bytes s b (c + k)) (get_or ds k 0)
 unfolding news_from
 overlaid_at m r bytes s b c zero ds k lt long = absurd (omega (arith, lt))
@@ -117,15 +117,14 @@ data_laid m r bytes s i f old new k ch inside long had laid lt =
 
 -- ---- the parity of them
 
-pub parity_made : (m : RawMap) (r : Span) (bytes : List ℕ) (s : ℕ) (i : Interval) (f : ℕ → List ℕ) (old mid new : List (List ℕ)) → IsChecked m → i.end ≤ m.unit → length bytes ≡ r.length →
-    HasColumns (group_width m) i f old → NewLaid m r bytes s i (data_units m) old mid → map length new ≡ map length mid →
+-- of rows whose data are these
+pub parity_coded : (m : RawMap) (i : Interval) (ds : ℕ → List ℕ) (mid new : List (List ℕ)) → IsChecked m → length mid ≡ group_width m → All (λ row. length row ≡ i.end - i.first) mid →
+    ((k : ℕ) → k < i.end - i.first → take (data_units m) (column mid k) ≡ ds (i.first + k)) → map length new ≡ map length mid →
     ((k : ℕ) → k < width_of mid → column new k ≡ codeword (code_of m) (take (length mid - count_of (code_of m)) (column mid k))) →
-    HasParity (parities m) i (encoded_parity m r bytes s f) new
-parity_made m r bytes s i f old mid new ch inside long had laid shape coded =
-    let count_mid : length mid ≡ group_width m = same_count old mid laid.shape ∙ had.long in
+    HasParity (parities m) i (λ (b row : ℕ). parity_of row (ds b)) new
+parity_coded m i ds mid new ch count_mid even held shape coded =
     let count : length new ≡ group_width m = same_count mid new shape ∙ count_mid in
     let units : length mid - count_of (code_of m) ≡ data_units m = omega (arith, count_mid, code_count m) in
-    let even : All (λ row. length row ≡ i.end - i.first) mid = λ k d lt. same_row old mid k d laid.shape ∙ had.even k d (omega (arith, lt, count_mid, had.long)) in
     let wide : width_of mid ≡ i.end - i.first = width_is (i.end - i.first) mid (omega (arith, count_mid, ch.some_data)) even in
     record {
       enough = omega (arith, count, ch.some_data);
@@ -133,31 +132,27 @@ parity_made m r bytes s i f old mid new ch inside long had laid shape coded =
           let at : length new - parities m + row ≡ data_units m + row = omega (arith, count, ch.some_data) in
           let here : data_units m + row < length new = omega (arith, count, lt, ch.some_data) in
           let row_long : length (get_or new (data_units m + row) []) ≡ i.end - i.first = same_row mid new (data_units m + row) [] shape ∙ even (data_units m + row) [] (omega (arith, here, count, count_mid)) in
-          rw at (same_number_lists _ _ (row_long ∙ sym (length-map-range_with_len (λ (b : ℕ). encoded_parity m r bytes s f b row) i.first (i.end - i.first)))
+          rw at (same_number_lists _ _ (row_long ∙ sym (length-map-range_with_len (λ (b : ℕ). parity_of row (ds b)) i.first (i.end - i.first)))
           (λ k k_lt.
           let low : k < i.end - i.first = omega (arith, k_lt, row_long) in
-          let laid_data = data_laid m r bytes s i f old mid k ch inside long had laid low in
           let data_long : length (take (data_units m) (column mid k)) ≡ data_units m = length-take-le (data_units m) (column mid k) (omega (arith, length_column mid k, count_mid)) in
           sym (cell new (data_units m + row) k [] here) ∙ ap (λ (xs : List ℕ). get_or xs (data_units m + row) 0) (coded k (rw wide low) ∙ ap (λ (n : ℕ). codeword (code_of m) (take n (column mid k))) units)
           ∙ ap (λ (n : ℕ). get_or (codeword (code_of m) (take (data_units m) (column mid k))) (n + row) 0) (sym data_long)
-          ∙ parity_word (code_of m) (take (data_units m) (column mid k)) row (omega (arith, lt, code_count m)) ∙ ap (parity_of row) laid_data
-          ∙ sym (get_or-map-range_with_len (λ (b : ℕ). encoded_parity m r bytes s f b row) i.first (i.end - i.first) k (i.first + k) 0 low refl)));
+          ∙ parity_word (code_of m) (take (data_units m) (column mid k)) row (omega (arith, lt, code_count m)) ∙ ap (parity_of row) (held k low)
+          ∙ sym (get_or-map-range_with_len (λ (b : ℕ). parity_of row (ds b)) i.first (i.end - i.first) k (i.first + k) 0 low refl)));
     }
+
+pub parity_made : (m : RawMap) (r : Span) (bytes : List ℕ) (s : ℕ) (i : Interval) (f : ℕ → List ℕ) (old mid new : List (List ℕ)) → IsChecked m → i.end ≤ m.unit → length bytes ≡ r.length →
+    HasColumns (group_width m) i f old → NewLaid m r bytes s i (data_units m) old mid → map length new ≡ map length mid →
+    ((k : ℕ) → k < width_of mid → column new k ≡ codeword (code_of m) (take (length mid - count_of (code_of m)) (column mid k))) →
+    HasParity (parities m) i (encoded_parity m r bytes s f) new
+parity_made m r bytes s i f old mid new ch inside long had laid shape coded =
+    let count_mid : length mid ≡ group_width m = same_count old mid laid.shape ∙ had.long in
+    let even : All (λ row. length row ≡ i.end - i.first) mid = λ k d lt. same_row old mid k d laid.shape ∙ had.even k d (omega (arith, lt, count_mid, had.long)) in
+    parity_coded m i (λ (b : ℕ). overlaid (news_at m r bytes s b) (take (data_units m) (f b))) mid new ch count_mid even (λ k low. data_laid m r bytes s i f old mid k ch inside long had laid low) shape coded
 
 -- rows of that shape can be encoded
 pub can_encode : (m : RawMap) (i : Interval) (rows : List (List ℕ)) → IsChecked m → length rows ≡ group_width m → All (λ row. length row ≡ i.end - i.first) rows → AreRows (code_of m) rows
 can_encode m i rows ch count even =
     let wide : width_of rows ≡ i.end - i.first = width_is (i.end - i.first) rows (omega (arith, count, ch.some_data)) even in
     record { some = omega (arith, count, code_count m, ch.some_data); most = omega (arith, count, ch.narrow); even = λ k d lt. even k d lt ∙ sym wide }
-
--- rows of zeros have columns of zeros
-pub zero_columns : (n : ℕ) (i : Interval) (rows : List (List ℕ)) → length rows ≡ n → All (λ row. row ≡ replicate (i.end - i.first) 0) rows → HasColumns n i (λ (b : ℕ). replicate n 0) rows
-zero_columns n i rows long all = record {
-  long = long;
-  even = λ k d lt. ap length (all k d lt) ∙ length-replicate (i.end - i.first) 0;
-  each = λ k lt.
-      same_number_lists (column rows k) (replicate n 0) (length_column rows k ∙ long ∙ sym (length-replicate n 0))
-      (λ c c_lt.
-      let here : c < length rows = omega (arith, c_lt, length_column rows k) in
-      cell rows c k [] here ∙ ap (λ (xs : List ℕ). get_or xs k 0) (all c [] here) ∙ get_or-replicate (i.end - i.first) k 0 0 lt ∙ sym (get_or-replicate n c 0 0 (omega (arith, here, long))));
-}

@@ -18,21 +18,17 @@ use Rattle.stripe_plan.specs.Lost.{is_out, is_degraded, unwritable}
 use Rattle.stripe_plan.specs.Asks.{own_columns, changed}
 use Rattle.stripe_plan.specs.Parity.{parity_of, overlaid}
 use Rattle.stripe_plan.specs.Words.{news_at, decoded_at, parity_at, new_at, word_at}
-use Rattle.stripe_plan.specs.Encoded.{changed_parity, encoded_parity, no_bytes, HasParity, AreParities, parity_column, parity_columns, data_column, data_columns}
+use Rattle.stripe_plan.specs.Encoded.{changed_parity, encoded_parity, new_in, HasParity, AreParities, parity_column, parity_columns, data_column, data_columns}
 use Rattle.stripe_plan.specs.Plans.{columns_of, written_columns, written_place, written_stripe, written, apply_and_encode, Gives}
 use Rattle.stripe_plan.proofs.StripeRows.{same_range}
 use Rattle.stripe_plan.proofs.Exchanges.{own_first, own_end, new_inside}
 
 -- ---- the three ways to make it
 
-take_zeros : (n k : ℕ) → n ≤ k → ◌≡◌ {A = List ℕ} (take n (replicate k 0)) (replicate n 0)
-take_zeros zero k le = refl
-take_zeros (suc n) zero le = absurd (omega (arith, le))
-take_zeros (suc n) (suc k) le = ap (λ (xs : List ℕ). 0 ∷ xs) (take_zeros n k (omega (arith, le)))
-
-pub by_whole : (m : RawMap) (r : Span) (bytes : List ℕ) (got : List Column) (out : List ℕ) (s b row : ℕ) → whole m r s ≡ true → encoded_parity m r bytes s (no_bytes m) b row ≡ parity_at m r bytes got out s b row
+pub by_whole : (m : RawMap) (r : Span) (bytes : List ℕ) (got : List Column) (out : List ℕ) (s b row : ℕ) → whole m r s ≡ true →
+    parity_of row (overlaid (news_at m r bytes s b) (replicate (data_units m) 0)) ≡ parity_at m r bytes got out s b row
 unfolding parity_at
-by_whole m r bytes got out s b row all = rw all (ap (λ (xs : List ℕ). parity_of row (overlaid (news_at m r bytes s b) xs)) (take_zeros (data_units m) (group_width m) (omega arith)))
+by_whole m r bytes got out s b row all = rw all refl
 
 pub by_decoding : (m : RawMap) (r : Span) (bytes : List ℕ) (got : List Column) (out : List ℕ) (s b row : ℕ) → whole m r s ≡ false → is_degraded m out s ≡ true →
     encoded_parity m r bytes s (decoded_at m got out s) b row ≡ parity_at m r bytes got out s b row
@@ -81,19 +77,19 @@ parities_more n is f j all rows d lt h one =
 
 -- ---- as columns
 
-word_data : (m : RawMap) (r : Span) (bytes : List ℕ) (got : List Column) (out : List ℕ) (s b c : ℕ) → c < data_units m → word_at m r bytes got out s b c ≡ unwrap_or (new_at m r bytes s b c) 0
+pub word_data : (m : RawMap) (r : Span) (bytes : List ℕ) (got : List Column) (out : List ℕ) (s b c : ℕ) → c < data_units m → word_at m r bytes got out s b c ≡ unwrap_or (new_at m r bytes s b c) 0
 unfolding word_at
 word_data m r bytes got out s b c low = rw (lt-ltb c (data_units m) low) refl
 
-word_parity : (m : RawMap) (r : Span) (bytes : List ℕ) (got : List Column) (out : List ℕ) (s b c : ℕ) → data_units m ≤ c → word_at m r bytes got out s b c ≡ parity_at m r bytes got out s b (c - data_units m)
+pub word_parity : (m : RawMap) (r : Span) (bytes : List ℕ) (got : List Column) (out : List ℕ) (s b c : ℕ) → data_units m ≤ c → word_at m r bytes got out s b c ≡ parity_at m r bytes got out s b (c - data_units m)
 unfolding word_at
 word_parity m r bytes got out s b c past = rw (le-ltb c (data_units m) past) refl
 
-changed_data : (m : RawMap) (r : Span) (s c : ℕ) → c < data_units m → changed m r s c ≡ own_columns m r s c
+pub changed_data : (m : RawMap) (r : Span) (s c : ℕ) → c < data_units m → changed m r s c ≡ own_columns m r s c
 unfolding changed
 changed_data m r s c low = rw (lt-ltb c (data_units m) low) refl
 
-changed_all : (m : RawMap) (r : Span) (s c : ℕ) → data_units m ≤ c → changed m r s c ≡ columns m r s
+pub changed_all : (m : RawMap) (r : Span) (s c : ℕ) → data_units m ≤ c → changed m r s c ≡ columns m r s
 unfolding changed
 changed_all m r s c past = rw (le-ltb c (data_units m) past) refl
 
@@ -131,7 +127,7 @@ own_one m r s c i low is lt =
 
 -- the call's bytes for them
 pub own_bytes : (m : RawMap) (r : Span) (bytes : List ℕ) (s c : ℕ) (i : Interval) (part : List ℕ) → length bytes ≡ r.length → i ≡ own m r s c → i.first < i.end →
-    part ≡ take (i.end - i.first) (drop (unit_start m s c + i.first - r.offset) bytes) → part ≡ map (λ (b : ℕ). unwrap_or (new_at m r bytes s b c) 0) (range_with_len i.first (i.end - i.first))
+    part ≡ take (i.end - i.first) (drop (unit_start m s c + i.first - r.offset) bytes) → part ≡ new_in m r bytes s c i
 own_bytes m r bytes s c i part size is lt is_part =
     let first = own_first m r s c i is in
     let end = own_end m r s c i is in
@@ -145,12 +141,11 @@ own_bytes m r bytes s c i part size is lt is_part =
     ∙ ap (λ (z : ℕ). get_or bytes z 0) at ∙ sym (ap (λ (n : Option ℕ). unwrap_or n 0) (new_inside m r bytes s (i.first + k) c i is (omega arith) (omega (arith, low))))
     ∙ sym (get_or-map-range_with_len (λ (b : ℕ). unwrap_or (new_at m r bytes s b c) 0) i.first (i.end - i.first) k (i.first + k) 0 low refl))
 
-pub data_pushed : (m : RawMap) (r : Span) (bytes : List ℕ) (s c p o : ℕ) (i : Interval) (part : List ℕ) (made new : List Column) → c < data_units m → length bytes ≡ r.length → i ≡ own m r s c → i.first < i.end →
-    part ≡ take (i.end - i.first) (drop (unit_start m s c + i.first - r.offset) bytes) → o ≡ offset_of m s i.first → new ≡ made ++ (record { position = p; offset = o; bytes = part } ∷ []) → new ≡ made ++ data_columns m r bytes s c p
-data_pushed m r bytes s c p o i part made new low size is lt is_part at e =
+pub data_pushed : (m : RawMap) (r : Span) (bytes : List ℕ) (s c p o : ℕ) (i : Interval) (part : List ℕ) (made new : List Column) → c < data_units m → i ≡ own m r s c → i.first < i.end →
+    part ≡ new_in m r bytes s c i → o ≡ offset_of m s i.first → new ≡ made ++ (record { position = p; offset = o; bytes = part } ∷ []) → new ≡ made ++ data_columns m r bytes s c p
+data_pushed m r bytes s c p o i part made new low is lt is_part at e =
     e ∙ ap (λ (z : ℕ). made ++ (record { position = p; offset = z; bytes = part } ∷ [])) at
-    ∙ ap (λ (xs : List ℕ). made ++ (record { position = p; offset = offset_of m s i.first; bytes = xs } ∷ [])) (own_bytes m r bytes s c i part size is lt is_part)
-    ∙ ap (λ is. made ++ map (data_column m r bytes s c p) is) (sym (own_one m r s c i low is lt))
+    ∙ ap (λ (xs : List ℕ). made ++ (record { position = p; offset = offset_of m s i.first; bytes = xs } ∷ [])) is_part ∙ ap (λ is. made ++ map (data_column m r bytes s c p) is) (sym (own_one m r s c i low is lt))
 
 -- ---- one place
 

@@ -186,7 +186,7 @@ delta_is : (news : List (Option ℕ)) (olds ds : List ℕ) (row p : ℕ) → Are
 delta_is news olds ds zero p old e = ap (p_changed news olds) e ∙ (delta_follows news olds ds old).0
 delta_is news olds ds (suc i) p old e = ap (q_changed 0 news olds) e ∙ (delta_follows news olds ds old).1
 
-whole_means : (m : RawMap) (r : Span) (s : ℕ) → whole m r s ≡ true → (r.offset ≤ s * stripe_length m) × ((s + 1) * stripe_length m ≤ end_of r)
+pub whole_means : (m : RawMap) (r : Span) (s : ℕ) → whole m r s ≡ true → (r.offset ≤ s * stripe_length m) × ((s + 1) * stripe_length m ≤ end_of r)
 unfolding whole
 whole_means m r s e = elim (cases_lt (s * stripe_length m) r.offset) [
   | inl before ↦ absurd (cc (rw (lt-leb r.offset (s * stripe_length m) before) at e))

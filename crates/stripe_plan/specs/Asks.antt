@@ -1,5 +1,6 @@
 -- What a plan asks of which components: stripe by stripe, component by component, offsets rising.
-use Rattle.std.specs.Prelude.{ℕ, zero, suc, ◌+◌, ◌-◌, ◌*◌, ◌==◌, nat_lt, min, max, if◌then◌else◌, List, [], ◌∷◌, ◌++◌, map, Option, Some, None}
+use Rattle.std.specs.Prelude.{ℕ, zero, suc, ◌+◌, ◌-◌, ◌*◌, ◌==◌, nat_lt, min, max, if◌then◌else◌}
+use Rattle.std.specs.Prelude.{List, [], ◌∷◌, ◌++◌, map, Option, Some, None}
 use Rattle.data_map.specs.declared.check.RawMap.{RawMap}
 use Rattle.data_map.specs.Striping.{replicas, group_width, data_units, group_of, offset_of}
 use Rattle.data_map.specs.Inverse.{unit_in}
@@ -54,7 +55,8 @@ cut t i = some_of (before t i) ++ some_of (behind t i)
 -- the bytes of a position that aren't had yet
 unfoldable pub without : List Stretch → (p : ℕ) → Interval → List Interval
 without [] p i = some_of i
-without (t ∷ ts) p i = if t.position == p then without ts p (before t i) ++ without ts p (behind t i) else without ts p i
+without (t ∷ ts) p i =
+    if t.position == p then without ts p (before t i) ++ without ts p (behind t i) else without ts p i
 
 -- of each of these bytes
 unfoldable pub without_each : List Stretch → (p : ℕ) → List Interval → List Interval
@@ -63,7 +65,14 @@ without_each had p (i ∷ is) = without had p i ++ without_each had p is
 
 -- these bytes of component k, which stands at position p
 abbrev pub asks_of : (s p k : ℕ) → List Interval → List Ask
-asks_of s p k is = map (λ (i : Interval). record { stripe = s; position = p; component = k; offset = i.first; length = i.end - i.first }) is
+asks_of s p k is =
+    map (λ (i : Interval). record {
+      stripe = s;
+      position = p;
+      component = k;
+      offset = i.first;
+      length = i.end - i.first;
+    }) is
 
 -- and none of a position that is out
 abbrev pub asks_source : (s p : ℕ) → Option ℕ → List Interval → List Ask

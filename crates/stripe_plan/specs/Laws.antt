@@ -1,5 +1,6 @@
 -- What the plans promise, for all data that agree with what was fetched.
-use Rattle.std.specs.Prelude.{◌≡◌, ◌⊎◌, ℕ, ◌+◌, ◌-◌, ◌<◌, ◌≤◌, nat_le, nat_lt, ◌&&◌, false, if◌then◌else◌, List, [], ◌∷◌, length, map, slice_index, IsTrue}
+use Rattle.std.specs.Prelude.{◌≡◌, ◌⊎◌, ℕ, ◌+◌, ◌-◌, ◌<◌, ◌≤◌, nat_le, nat_lt, ◌&&◌, false, if◌then◌else◌}
+use Rattle.std.specs.Prelude.{List, [], ◌∷◌, length, map, slice_index, IsTrue}
 use Rattle.std.specs.List.{All, range_with_len}
 use Rattle.data_map.specs.declared.check.RawMap.{RawMap}
 use Rattle.data_map.specs.Striping.{group_width, parities, data_units, position_of, offset_of}
@@ -53,14 +54,16 @@ IsFetched aim m r got out =
 -- these data have the bytes that were fetched
 abbrev pub Agrees : RawMap → List Column → (ℕ → ℕ) → Type 0
 Agrees m got d =
-    (s b c : ℕ) → c < group_width m → IsGot got (position_of m s c) (offset_of m s b) → got_at m got s b c ≡ word_of m d s b c
+    (s b c : ℕ) → c < group_width m → IsGot got (position_of m s c) (offset_of m s b)
+    → got_at m got s b c ≡ word_of m d s b c
 
 -- ---- the laws
 
 -- a read gives each byte of all data that agree with what it fetched
 abbrev pub FollowsRead : RawMap → Span → List Column → List ℕ → List ℕ → Type 0
 FollowsRead m r got out bytes =
-    (d : ℕ → ℕ) → AreBytes d → IsFetched Reads m r got out → Agrees m got d → bytes ≡ map d (range_with_len r.offset r.length)
+    (d : ℕ → ℕ) → AreBytes d → IsFetched Reads m r got out → Agrees m got d
+    → bytes ≡ map d (range_with_len r.offset r.length)
 
 -- these bytes are what a unit of some stripe holds of those data
 pub record HoldsWords (m : RawMap) (d : ℕ → ℕ) (x : Column) : Type 0 where

@@ -1,5 +1,6 @@
 -- The plans: what a read, a gather and a scatter ask of the components, and what they make of the bytes.
-use Rattle.std.specs.Prelude.{◌≡◌, ◌⊎◌, ℕ, zero, suc, ◌+◌, ◌-◌, ◌*◌, ◌/◌, ◌==◌, if◌then◌else◌, List, [], ◌∷◌, ◌++◌, map, Option, Some, None, Result, Ok, Err}
+use Rattle.std.specs.Prelude.{◌≡◌, ◌⊎◌, ℕ, zero, suc, ◌+◌, ◌-◌, ◌*◌, ◌/◌, ◌==◌, if◌then◌else◌}
+use Rattle.std.specs.Prelude.{List, [], ◌∷◌, ◌++◌, map, Option, Some, None, Result, Ok, Err}
 use Rattle.std.specs.List.{range_with_len}
 use Rattle.data_map.specs.declared.check.RawMap.{RawMap}
 use Rattle.data_map.specs.Striping.{replicas, parities, group_width, group_of, offset_of}
@@ -63,17 +64,20 @@ written_columns m r bytes got out s c p is =
 unfoldable pub written_place : RawMap → Span → List ℕ → List Column → List ℕ → (s i : ℕ) → List Column
 written_place m r bytes got out s i =
     if is_out m out (group_of m s * group_width m + i) then []
-    else written_columns m r bytes got out s (unit_in m s i) (group_of m s * group_width m + i) (changed m r s (unit_in m s i))
+    else written_columns m r bytes got out s (unit_in m s i) (group_of m s * group_width m + i)
+    (changed m r s (unit_in m s i))
 
 -- of n places from i on
 unfoldable pub written_stripe : RawMap → Span → List ℕ → List Column → List ℕ → (s i n : ℕ) → List Column
 written_stripe m r bytes got out s i zero = []
-written_stripe m r bytes got out s i (suc n) = written_place m r bytes got out s i ++ written_stripe m r bytes got out s (i + 1) n
+written_stripe m r bytes got out s i (suc n) =
+    written_place m r bytes got out s i ++ written_stripe m r bytes got out s (i + 1) n
 
 -- of the stripes
 unfoldable pub written : RawMap → Span → List ℕ → List Column → List ℕ → List ℕ → List Column
 written m r bytes got out [] = []
-written m r bytes got out (s ∷ ss) = written_stripe m r bytes got out s 0 (group_width m) ++ written m r bytes got out ss
+written m r bytes got out (s ∷ ss) =
+    written_stripe m r bytes got out s 0 (group_width m) ++ written m r bytes got out ss
 
 -- a write with its bytes
 abbrev pub filled : List Column → Ask → Store

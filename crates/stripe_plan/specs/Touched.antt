@@ -1,5 +1,6 @@
 -- The stripes and columns that a range of a file touches.
-use Rattle.std.specs.Prelude.{ℕ, ◌+◌, ◌-◌, ◌*◌, ◌%◌, ◌==◌, ◌≤◌, ◌<◌, ◌&&◌, Bool, nat_le, nat_lt, min, max, if◌then◌else◌, List, [], ◌∷◌}
+use Rattle.std.specs.Prelude.{ℕ, ◌+◌, ◌-◌, ◌*◌, ◌%◌, ◌==◌, ◌≤◌, ◌<◌, ◌&&◌, Bool, nat_le, nat_lt, min, max}
+use Rattle.std.specs.Prelude.{if◌then◌else◌, List, [], ◌∷◌}
 use Rattle.std.specs.List.{range_with_len}
 use Rattle.data_map.specs.declared.check.RawMap.{RawMap}
 use Rattle.data_map.specs.declared.ranges.TheConstants.{MAX_FILE_SIZE}
@@ -56,7 +57,7 @@ low m r s = max r.offset (s * stripe_length m) - s * stripe_length m
 abbrev pub high : RawMap → Span → (s : ℕ) → ℕ
 high m r s = min (end_of r) ((s + 1) * stripe_length m) - s * stripe_length m
 
--- the columns of bytes a to b of a stripe's data as intervals: a unit or more touches all, less may go round a unit's end
+-- the columns of bytes a to b of a stripe's data as intervals: a unit or more touches all, less may go round its end
 unfoldable pub columns_between : (unit a b : ℕ) → List Interval
 columns_between unit a b =
     if nat_le unit (b - a) then record { first = 0; end = unit } ∷ []

@@ -1,8 +1,11 @@
 -- The bytes that a call has of a stripe, and those that it writes there.
-use Rattle.std.specs.Prelude.{◌≡◌, ℕ, ◌<◌, ◌≤◌, zero, suc, ◌+◌, ◌-◌, ◌==◌, nat_le, nat_lt, Bool, true, ◌&&◌, if◌then◌else◌, List, [], ◌∷◌, length, map, take, slice_index, replicate, Option, Some, None, unwrap_or}
+use Rattle.std.specs.Prelude.{◌≡◌, ℕ, ◌<◌, ◌≤◌, zero, suc, ◌+◌, ◌-◌, ◌==◌, nat_le, nat_lt, Bool, true, ◌&&◌}
+use Rattle.std.specs.Prelude.{if◌then◌else◌, List, [], ◌∷◌, length, map, take, slice_index, replicate}
+use Rattle.std.specs.Prelude.{Option, Some, None, unwrap_or}
 use Rattle.std.specs.List.{All, range_with_len}
 use Rattle.data_map.specs.declared.check.RawMap.{RawMap}
-use Rattle.data_map.specs.Striping.{stripe_of, data_unit_of, column_of, group_width, parities, data_units, position_of, offset_of}
+use Rattle.data_map.specs.Striping.{stripe_of, data_unit_of, column_of, group_width, parities, data_units}
+use Rattle.data_map.specs.Striping.{position_of, offset_of}
 use Rattle.stripe_plan.specs.declared.plan.Span.{Span}
 use Rattle.stripe_plan.specs.declared.plan.Interval.{Interval}
 use Rattle.stripe_plan.specs.declared.plan.Column.{Column}
@@ -81,14 +84,16 @@ abbrev pub got_in : RawMap → List Column → (s c : ℕ) → Interval → List
 got_in m got s c i = bytes_at got (position_of m s c) (offset_of m s i.first) (i.end - i.first)
 
 abbrev pub known_in : RawMap → List Column → List ℕ → (s : ℕ) → Interval → (c : ℕ) → List ℕ
-known_in m got out s i c = if is_out m out (position_of m s c) then replicate (i.end - i.first) 0 else got_in m got s c i
+known_in m got out s i c =
+    if is_out m out (position_of m s c) then replicate (i.end - i.first) 0 else got_in m got s c i
 
 abbrev pub known_rows : RawMap → List Column → List ℕ → (s : ℕ) → Interval → List (List ℕ)
 known_rows m got out s i = map (known_in m got out s i) (range_with_len 0 (group_width m))
 
 -- a stripe of which not more positions are out than it has parity, if this one is
 abbrev pub IsDecodable : RawMap → List ℕ → (s c : ℕ) → Type 0
-IsDecodable m out s c = is_out m out (position_of m s c) ≡ true → length (lost_from m out s 0 (group_width m)) ≤ parities m
+IsDecodable m out s c =
+    is_out m out (position_of m s c) ≡ true → length (lost_from m out s 0 (group_width m)) ≤ parities m
 
 -- ---- reads
 
@@ -134,10 +139,13 @@ news_at m r bytes s b = news_from m r bytes s b 0 (data_units m)
 unfoldable pub parity_at : RawMap → Span → List ℕ → List Column → List ℕ → (s b row : ℕ) → ℕ
 parity_at m r bytes got out s b row =
     if whole m r s then parity_of row (overlaid (news_at m r bytes s b) (replicate (data_units m) 0))
-    else if is_degraded m out s then parity_of row (overlaid (news_at m r bytes s b) (take (data_units m) (decoded_at m got out s b)))
-    else parity_changed row (news_at m r bytes s b) (known_from m got [] s b 0 (data_units m)) (got_at m got s b (data_units m + row))
+    else if is_degraded m out s
+    then parity_of row (overlaid (news_at m r bytes s b) (take (data_units m) (decoded_at m got out s b)))
+    else parity_changed row (news_at m r bytes s b) (known_from m got [] s b 0 (data_units m))
+    (got_at m got s b (data_units m + row))
 
 -- the byte that a write puts into unit c in column b of stripe s
 unfoldable pub word_at : RawMap → Span → List ℕ → List Column → List ℕ → (s b c : ℕ) → ℕ
 word_at m r bytes got out s b c =
-    if nat_lt c (data_units m) then unwrap_or (new_at m r bytes s b c) 0 else parity_at m r bytes got out s b (c - data_units m)
+    if nat_lt c (data_units m) then unwrap_or (new_at m r bytes s b c) 0
+    else parity_at m r bytes got out s b (c - data_units m)

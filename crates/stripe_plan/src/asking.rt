@@ -46,7 +46,8 @@ fn push_source(
     bytes: &[Interval],
 ) -> Result<(), Memory>
     requires { position < positions map.now }
-    ensures { OnOk result (asks.new ≡ asks.old ++ asks_position Reads map.now out.now.components stripe position bytes.now) }
+    ensures { OnOk result (asks.new ≡ asks.old
+        ++ asks_position Reads map.now out.now.components stripe position bytes.now) }
 {
     match source(map, out, position) {
         Some(component) => push_component(asks, stripe, position, component, bytes),
@@ -64,7 +65,8 @@ fn push_each(
     bytes: &[Interval],
 ) -> Result<(), Memory>
     requires { position < positions map.now }
-    ensures { OnOk result (asks.new ≡ asks.old ++ asks_position Scatters map.now out.now.components stripe position bytes.now) }
+    ensures { OnOk result (asks.new ≡ asks.old
+        ++ asks_position Scatters map.now out.now.components stripe position bytes.now) }
 {
     let first = map.replica(position, 0);
     for component in first..first + map.replicas() {
@@ -91,7 +93,8 @@ fn push_place(
     requires inside { range.offset + range.length ≤ MAX_FILE_SIZE }
     requires stripe { stripe ≤ MAX_FILE_SIZE }
     requires place { place < group_width map.now }
-    ensures { OnOk result (asks.new ≡ asks.old ++ asks_place aim map.now range out.now.components had.now stripe place) }
+    ensures { OnOk result (asks.new ≡ asks.old
+        ++ asks_place aim map.now range out.now.components had.now stripe place) }
 {
     let unit = map.unit_in(stripe, place);
     let position = map.group(stripe) * map.group_width() + place;
@@ -116,7 +119,8 @@ fn push_stripe(
 ) -> Result<(), Memory>
     requires inside { range.offset + range.length ≤ MAX_FILE_SIZE }
     requires stripe { stripe ≤ MAX_FILE_SIZE }
-    ensures { OnOk result (asks.new ≡ asks.old ++ asks_stripe aim map.now range out.now.components had.now stripe 0 (group_width map.now)) }
+    ensures { OnOk result (asks.new ≡ asks.old
+        ++ asks_stripe aim map.now range out.now.components had.now stripe 0 (group_width map.now)) }
 {
     for place in 0..map.group_width() {
         push_place(asks, alloc, aim, map, range, out, had, stripe, place)?;

@@ -51,8 +51,10 @@ fn change_unit(
     requires low { IsLow columns }
     requires p { length p.old ≡ columns.end - columns.first }
     requires q { length q.old ≡ columns.end - columns.first }
-    ensures p { 0 < parities map.now → OnOk result (UnitChanged map.now range bytes.now (columns_of map.now got.now) stripe unit 0 columns p.old p.new) }
-    ensures q { 1 < parities map.now → OnOk result (UnitChanged map.now range bytes.now (columns_of map.now got.now) stripe unit 1 columns q.old q.new) }
+    ensures p { 0 < parities map.now → OnOk result
+        (UnitChanged map.now range bytes.now (columns_of map.now got.now) stripe unit 0 columns p.old p.new) }
+    ensures q { 1 < parities map.now → OnOk result
+        (UnitChanged map.now range bytes.now (columns_of map.now got.now) stripe unit 1 columns q.old q.new) }
     ensures p_long { length p.new ≡ length p.old }
     ensures q_long { length q.new ≡ length q.old }
 {
@@ -87,7 +89,8 @@ pub(crate) fn changed_parity(
     requires stripe { stripe ≤ MAX_FILE_SIZE }
     requires low { IsLow columns }
     requires some { 0 < parities map.now }
-    ensures { IfOk result (HasParity (parities map.now) columns (changed_parity map.now range bytes.now (columns_of map.now got.now) stripe)) }
+    ensures { IfOk result (HasParity (parities map.now) columns
+        (changed_parity map.now range bytes.now (columns_of map.now got.now) stripe)) }
 {
     let units = map.data_units();
     let mut p = got_in(alloc, map, got, stripe, units, columns)?;
@@ -126,7 +129,8 @@ fn second_parity(
     requires stripe { stripe ≤ MAX_FILE_SIZE }
     requires low { IsLow columns }
     ensures long { IfOk result (λ q. length q ≡ columns.end - columns.first) }
-    ensures got { 1 < parities map.now → IfOk result (λ q. q ≡ got_in map.now (columns_of map.now got.now) stripe (data_units map.now + 1) columns) }
+    ensures got { 1 < parities map.now → IfOk result
+        (λ q. q ≡ got_in map.now (columns_of map.now got.now) stripe (data_units map.now + 1) columns) }
 {
     if map.parities() == 2 {
         let q = got_in(alloc, map, got, stripe, map.data_units() + 1, columns)?;

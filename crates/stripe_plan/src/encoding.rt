@@ -3,23 +3,24 @@ ghost use Rattle.std.specs.Prelude.{◌≡◌, ℕ, ◌+◌, ◌-◌, ◌<◌, �
 ghost use Rattle.std.specs.List.{All};
 ghost use Rattle.data_map.specs.Striping.{data_units, group_width, parities};
 ghost use Rattle.parity_code.specs.Columns.{Stored};
-ghost use Rattle.stripe_plan.specs.Touched.{IsLow};
+ghost use Rattle.stripe_plan.specs.Touched.{own, IsLow};
 ghost use Rattle.stripe_plan.specs.Words.{laid_at, HasColumns};
-ghost use Rattle.stripe_plan.specs.Encoded.{encoded_parity, no_bytes, HasParity, NewLaid};
+ghost use Rattle.stripe_plan.specs.Encoded.{encoded_parity, new_in, HasParity, NewLaid};
 
-use crate::laying::{lay, zeros};
+use crate::laying::lay;
 use crate::plan::{Interval, Span};
 use crate::rows::code_of;
 use crate::touched::unit_start;
 use data_map::{DataMap, MAX_FILE_SIZE};
-use osd_bytes::{Memory, Rows};
+use osd_bytes::{Bytes, Memory, Rows};
 use parity_code::encode;
 use std::alloc::Global;
 
 // Writes the bytes that lie from `from` on over those of a row that lies from `offset` on.
 fn lay_row(rows: &mut Rows, row: usize, offset: u64, from: u64, bytes: &[u8])
     requires { row < length rows.old }
-    ensures { Stored row 0 (length (slice_index_or rows.old row [])) (λ k. laid_at from bytes.now (offset + k) (slice_index (slice_index_or rows.old row []) k)) rows.old rows.new }
+    ensures { Stored row 0 (length (slice_index_or rows.old row []))
+        (λ k. laid_at from bytes.now (offset + k) (slice_index (slice_index_or rows.old row []) k)) rows.old rows.new }
 {
     lay(rows.get_mut(row).as_mut_slice(), offset, from, bytes);
 }
@@ -69,13 +70,27 @@ pub(crate) fn encode_new(
     encode(code_of(map), rows);
 }
 
-// The columns of units that hold nothing.
-pub(crate) fn zero_rows(alloc: Global, map: &DataMap, columns: Interval) -> Result<Rows, Memory>
-    ensures { IfOk result (HasColumns (group_width map.now) columns (no_bytes map.now)) }
+// The call's own bytes of a data unit, which are some.
+pub(crate) fn new_bytes(
+    alloc: Global,
+    map: &DataMap,
+    range: Span,
+    bytes: &[u8],
+    stripe: u64,
+    unit: u32,
+    columns: Interval,
+) -> Result<Bytes, Memory>
+    requires inside { range.offset + range.length ≤ MAX_FILE_SIZE }
+    requires bytes { length bytes.now ≡ range.length }
+    requires stripe { stripe ≤ MAX_FILE_SIZE }
+    requires unit { unit < group_width map.now }
+    requires own { columns ≡ own map.now range stripe unit }
+    requires some { columns.first < columns.end }
+    ensures { IfOk result (λ new. new ≡ new_in map.now range bytes.now stripe unit columns) }
 {
-    let mut rows = Rows::new(alloc);
-    for _ in 0..map.group_width() {
-        rows.push(zeros(alloc, columns.end.saturating_sub(columns.first))?)?;
-    }
-    Ok(rows)
+    let start = unit_start(map, stripe, unit) + columns.first - range.offset;
+    let (_, rest) = bytes.split_at(start as usize);
+    let (new, _) = rest.split_at((columns.end - columns.first) as usize);
+    let copied = Bytes::copied(alloc, new)?;
+    Ok(copied)
 }

@@ -18,6 +18,7 @@ mod plans;
 mod reading;
 mod rows;
 mod touched;
+mod whole;
 mod writing;
 
 pub use asking::asks;

@@ -3,7 +3,8 @@ ghost use Rattle.std.specs.Prelude.{◌≡◌, ◌+◌, ◌-◌, ◌*◌, ◌<�
 ghost use Rattle.std.specs.List.{range_with_len};
 ghost use Rattle.data_map.specs.Striping.{group_width, group_of, positions, position_of, data_units};
 ghost use Rattle.stripe_plan.specs.Touched.{stripes, touches};
-ghost use Rattle.stripe_plan.specs.Lost.{among, source, is_out, positions_out, when, is_short, is_hit, unreadable, unwritable};
+ghost use Rattle.stripe_plan.specs.Lost.{among, source, is_out, positions_out, when, is_short, is_hit};
+ghost use Rattle.stripe_plan.specs.Lost.{unreadable, unwritable};
 ghost use Rattle.stripe_plan.specs.Plans.{unless_lost, Gives};
 
 use crate::plan::{Out, PlanErr, Span};
@@ -74,7 +75,8 @@ fn hits_unit(map: &DataMap, range: Span, out: &Out, stripe: u64, unit: u32) -> b
     requires inside { range.offset + range.length ≤ MAX_FILE_SIZE }
     requires stripe { stripe ≤ MAX_FILE_SIZE }
     requires unit { unit < group_width map.now }
-    ensures { result ≡ (touches map.now range stripe unit && is_out map.now out.now.components (position_of map.now stripe unit)) }
+    ensures { result ≡ (touches map.now range stripe unit
+        && is_out map.now out.now.components (position_of map.now stripe unit)) }
 {
     let own = own_columns(map, range, stripe, unit);
     own.first < own.end && is_out(map, out, map.position(stripe, unit))
@@ -97,7 +99,8 @@ pub(crate) fn is_hit(map: &DataMap, range: Span, out: &Out, stripe: u64) -> bool
 // The positions of a stripe's group that are out, where they are more than its parity.
 #[tactic(auto, unfolding(crate::specs::Lost::is_short))]
 fn excess(alloc: Global, map: &DataMap, out: &Out, stripe: u64) -> Result<Option<Numbers>, Memory>
-    ensures { IfOk result (λ ps. ps ≡ when (is_short map.now out.now.components stripe) (positions_out map.now out.now.components (group_of map.now stripe))) }
+    ensures { IfOk result (λ ps. ps ≡ when (is_short map.now out.now.components stripe)
+        (positions_out map.now out.now.components (group_of map.now stripe))) }
 {
     let positions = positions_out(alloc, map, out, stripe)?;
     if positions.len() > map.parities() as usize {
@@ -116,7 +119,9 @@ fn excess_of_read(
 ) -> Result<Option<Numbers>, Memory>
     requires inside { range.offset + range.length ≤ MAX_FILE_SIZE }
     requires stripe { stripe ≤ MAX_FILE_SIZE }
-    ensures { IfOk result (λ ps. ps ≡ when (is_hit map.now range out.now.components stripe && is_short map.now out.now.components stripe) (positions_out map.now out.now.components (group_of map.now stripe))) }
+    ensures { IfOk result (λ ps. ps
+        ≡ when (is_hit map.now range out.now.components stripe && is_short map.now out.now.components stripe)
+        (positions_out map.now out.now.components (group_of map.now stripe))) }
 {
     if !is_hit(map, range, out, stripe) {
         return Ok(None);

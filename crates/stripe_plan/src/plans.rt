@@ -1,6 +1,7 @@
 // The plans of reads and writes.
 ghost use Rattle.std.specs.Prelude.{◌≡◌, ◌+◌, ◌≤◌, ◌++◌, IfOk};
-ghost use Rattle.stripe_plan.specs.Plans.{gathers, pieces_of, plan_gather, plan_read, plan_scatter, span, writes_of, Gives};
+ghost use Rattle.stripe_plan.specs.Plans.{gathers, pieces_of, plan_gather, plan_read, plan_scatter};
+ghost use Rattle.stripe_plan.specs.Plans.{span, writes_of, Gives};
 
 use crate::asking::asks;
 use crate::laying::bytes_of;

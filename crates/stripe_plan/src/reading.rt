@@ -29,7 +29,8 @@ fn answered_in(
     requires unit { unit < data_units map.now }
     requires low { IsLow columns }
     requires few { IsDecodable map.now out.now.components stripe unit }
-    ensures { IfOk result (λ bytes. bytes ≡ answered_in map.now (columns_of map.now got.now) out.now.components stripe unit columns) }
+    ensures { IfOk result (λ bytes. bytes
+        ≡ answered_in map.now (columns_of map.now got.now) out.now.components stripe unit columns) }
 {
     if is_out(map, out, map.position(stripe, unit)) {
         let rows = decoded_rows(alloc, map, got, out, stripe, columns)?;
@@ -54,7 +55,8 @@ fn append_stripe(
     requires touched { IsTouchedStripe map.now range stripe }
     requires readable { unreadable map.now range out.now.components (stripes map.now range) ≡ None }
     ensures { OnOk result (answer.new ≡ answer.old
-        ++ answered_between map.now (columns_of map.now got.now) out.now.components (clamped range (stripe * stripe_length map.now)) (clamped range ((stripe + 1) * stripe_length map.now))) }
+        ++ answered_between map.now (columns_of map.now got.now) out.now.components
+        (clamped range (stripe * stripe_length map.now)) (clamped range ((stripe + 1) * stripe_length map.now))) }
 {
     map.known();
     for unit in 0..map.data_units() {

@@ -63,7 +63,8 @@ fn known_in(
     requires stripe { stripe ≤ MAX_FILE_SIZE }
     requires unit { unit < group_width map.now }
     requires low { IsLow columns }
-    ensures { IfOk result (λ bytes. bytes ≡ known_in map.now (columns_of map.now got.now) out.now.components stripe columns unit) }
+    ensures { IfOk result (λ bytes. bytes
+        ≡ known_in map.now (columns_of map.now got.now) out.now.components stripe columns unit) }
 {
     if is_out(map, out, map.position(stripe, unit)) {
         return zeros(alloc, columns.end.saturating_sub(columns.first));
@@ -95,7 +96,8 @@ fn known_rows(
 ) -> Result<Rows, Memory>
     requires stripe { stripe ≤ MAX_FILE_SIZE }
     requires low { IsLow columns }
-    ensures { IfOk result (λ rows. rows ≡ known_rows map.now (columns_of map.now got.now) out.now.components stripe columns) }
+    ensures { IfOk result (λ rows. rows
+        ≡ known_rows map.now (columns_of map.now got.now) out.now.components stripe columns) }
 {
     let mut rows = Rows::new(alloc);
     for unit in 0..map.group_width() {
@@ -117,7 +119,8 @@ pub(crate) fn decoded_rows(
     requires stripe { stripe ≤ MAX_FILE_SIZE }
     requires low { IsLow columns }
     requires few { length (lost_from map.now out.now.components stripe 0 (group_width map.now)) ≤ parities map.now }
-    ensures { IfOk result (HasColumns (group_width map.now) columns (decoded_at map.now (columns_of map.now got.now) out.now.components stripe)) }
+    ensures { IfOk result (HasColumns (group_width map.now) columns
+        (decoded_at map.now (columns_of map.now got.now) out.now.components stripe)) }
 {
     let mut rows = known_rows(alloc, map, got, out, stripe, columns)?;
     let lost = lost_units(alloc, map, out, stripe)?;

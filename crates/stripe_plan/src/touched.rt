@@ -2,7 +2,8 @@
 ghost use Rattle.std.specs.Prelude.{◌≡◌, ◌+◌, ◌-◌, ◌*◌, ◌<◌, ◌≤◌, IfOk};
 ghost use Rattle.std.specs.List.{All, range_with_len};
 ghost use Rattle.data_map.specs.Striping.{stripe_of, stripe_length, group_width};
-ghost use Rattle.stripe_plan.specs.Touched.{end_of, stripes, unit_start, own, IsLow, low, high, columns_between, columns, whole};
+ghost use Rattle.stripe_plan.specs.Touched.{end_of, stripes, unit_start, own, IsLow, low, high, columns_between};
+ghost use Rattle.stripe_plan.specs.Touched.{columns, whole};
 
 use crate::plan::{Interval, Intervals, Span};
 use data_map::{DataMap, MAX_FILE_SIZE, MAX_STRIPE_UNIT, MAX_WIDTH};
@@ -15,7 +16,8 @@ use std::alloc::Global;
 pub fn touched_stripes(map: &DataMap, range: Span) -> (u64, u64)
     requires { range.offset + range.length ≤ MAX_FILE_SIZE }
     ensures value { stripes map.now range ≡ range_with_len result.0 (result.1 - result.0) }
-    ensures some { 0 < range.length → (result.0 ≡ stripe_of map.now range.offset) × (result.1 ≡ stripe_of map.now (end_of range - 1) + 1) }
+    ensures some { 0 < range.length → (result.0 ≡ stripe_of map.now range.offset)
+        × (result.1 ≡ stripe_of map.now (end_of range - 1) + 1) }
     ensures none { range.length ≡ 0 → result.1 ≡ 0 }
     ensures bound { result.1 ≤ MAX_FILE_SIZE }
 {

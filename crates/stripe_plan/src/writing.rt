@@ -1,26 +1,27 @@
 // What a write makes of its stripes.
-ghost use Rattle.std.specs.Prelude.{◌≡◌, ℕ, ◌+◌, ◌<◌, ◌≤◌, ◌++◌, List, length, IfOk, OnOk};
+ghost use Rattle.std.specs.Prelude.{◌≡◌, ℕ, false, ◌+◌, ◌<◌, ◌≤◌, ◌++◌, List, length, IfOk, OnOk};
 ghost use Rattle.std.specs.List.{All};
 ghost use Rattle.data_map.specs.Striping.{data_units, group_width, parities};
-ghost use Rattle.stripe_plan.specs.Touched.{columns, IsLow};
+ghost use Rattle.stripe_plan.specs.Touched.{columns, whole, IsLow};
 ghost use Rattle.stripe_plan.specs.Words.{lost_from, parity_at};
-ghost use Rattle.stripe_plan.specs.Encoded.{data_columns, parity_column, parity_columns, AreParities, HasParity, IsInUnit};
+ghost use Rattle.stripe_plan.specs.Encoded.{data_columns, parity_column, parity_columns};
+ghost use Rattle.stripe_plan.specs.Encoded.{AreParities, HasParity, IsInUnit};
 ghost use Rattle.stripe_plan.specs.Plans.{apply_and_encode, columns_of, span, written_place, written_stripe, Gives};
 ghost use Rattle.stripe_plan.specs.Laws.{FollowsWrite};
 
 use crate::changing::changed_parity;
-use crate::encoding::{encode_new, zero_rows};
+use crate::encoding::{encode_new, new_bytes};
 use crate::lost::{check_writable, is_out};
 use crate::needed::is_degraded;
 use crate::plan::{Column, Columns, Fetched, Interval, Intervals, Out, PlanErr, Span};
 use crate::rows::decoded_rows;
-use crate::touched::{holds_whole, own_columns, touched_columns, touched_stripes, unit_start};
+use crate::touched::{holds_whole, own_columns, touched_columns, touched_stripes};
+use crate::whole::push_whole;
 use data_map::{DataMap, MAX_FILE_SIZE};
 use osd_bytes::{Bytes, Memory, Rows, Sequence};
 use std::alloc::Global;
 
-// The parity of some columns after the write, as the last rows: of all new data, of decoded data with the new, or the
-// old parity changed.
+// The parity of some columns after the write, as the last rows: of decoded data with the new, or the old changed.
 fn parity_of(
     alloc: Global,
     map: &DataMap,
@@ -37,14 +38,11 @@ fn parity_of(
     requires low { IsLow columns }
     requires unit { IsInUnit map.now columns }
     requires some { 0 < parities map.now }
+    requires part { whole map.now range stripe ≡ false }
     requires few { length (lost_from map.now out.now.components stripe 0 (group_width map.now)) ≤ parities map.now }
-    ensures { IfOk result (HasParity (parities map.now) columns (parity_at map.now range bytes.now (columns_of map.now got.now) out.now.components stripe)) }
+    ensures { IfOk result (HasParity (parities map.now) columns
+        (parity_at map.now range bytes.now (columns_of map.now got.now) out.now.components stripe)) }
 {
-    if holds_whole(map, range, stripe) {
-        let mut rows = zero_rows(alloc, map, columns)?;
-        encode_new(map, range, bytes, stripe, columns, &mut rows);
-        return Ok(rows);
-    }
     if is_degraded(alloc, map, out, stripe)? {
         let mut rows = decoded_rows(alloc, map, got, out, stripe, columns)?;
         encode_new(map, range, bytes, stripe, columns, &mut rows);
@@ -70,8 +68,10 @@ fn parities_of(
     requires stripe { stripe ≤ MAX_FILE_SIZE }
     requires low { All IsLow intervals.now }
     requires unit { All (IsInUnit map.now) intervals.now }
+    requires part { whole map.now range stripe ≡ false }
     requires few { length (lost_from map.now out.now.components stripe 0 (group_width map.now)) ≤ parities map.now }
-    ensures value { 0 < parities map.now → IfOk result (AreParities (parities map.now) intervals.now (parity_at map.now range bytes.now (columns_of map.now got.now) out.now.components stripe)) }
+    ensures value { 0 < parities map.now → IfOk result (AreParities (parities map.now) intervals.now
+        (parity_at map.now range bytes.now (columns_of map.now got.now) out.now.components stripe)) }
     ensures enough { IfOk result (λ all. All (λ rows. parities map.now ≤ length rows) all) }
 {
     let mut all = Sequence::new(alloc);
@@ -106,13 +106,10 @@ fn push_data(
     if own.first >= own.end {
         return Ok(());
     }
-    let start = unit_start(map, stripe, unit) + own.first - range.offset;
-    let (_, rest) = bytes.split_at(start as usize);
-    let (new, _) = rest.split_at((own.end - own.first) as usize);
     let column = Column {
         position,
         offset: map.row(stripe) * map.raw().unit + own.first,
-        bytes: Bytes::copied(alloc, new)?,
+        bytes: new_bytes(alloc, map, range, bytes, stripe, unit, own)?,
     };
     made.push(column)?;
     Ok(())
@@ -132,7 +129,8 @@ fn parity_column(
     requires low { IsLow columns }
     requires row { row < parities map.now }
     requires enough { parities map.now ≤ length rows.now }
-    ensures { (f : ℕ → ℕ → ℕ) → HasParity (parities map.now) columns f rows.now → IfOk result (λ column. column ≡ parity_column map.now stripe position f row columns) }
+    ensures { (f : ℕ → ℕ → ℕ) → HasParity (parities map.now) columns f rows.now
+        → IfOk result (λ column. column ≡ parity_column map.now stripe position f row columns) }
 {
     let index = rows.len() - map.parities() as usize + row as usize;
     let bytes = Bytes::copied(alloc, rows.get(index).as_slice())?;
@@ -190,8 +188,11 @@ fn push_place(
     requires low { All IsLow intervals.now }
     requires same { 0 < parities map.now → length parity.now ≡ length intervals.now }
     requires enough { All (λ rows. parities map.now ≤ length rows) parity.now }
-    ensures { (got : List Column) → (0 < parities map.now → AreParities (parities map.now) intervals.now (parity_at map.now range bytes.now got out.now.components stripe) parity.now)
-        → OnOk result (made.new ≡ made.old ++ written_place map.now range bytes.now got out.now.components stripe place) }
+    ensures { (got : List Column)
+        → (0 < parities map.now → AreParities (parities map.now) intervals.now
+        (parity_at map.now range bytes.now got out.now.components stripe) parity.now)
+        → OnOk result (made.new ≡ made.old
+        ++ written_place map.now range bytes.now got out.now.components stripe place) }
 {
     let unit = map.unit_in(stripe, place);
     let position = map.group(stripe) * map.group_width() + place;
@@ -203,6 +204,37 @@ fn push_place(
     }
     let row = unit - map.data_units();
     push_parity(made, alloc, map, stripe, position, intervals, parity, row)
+}
+
+// What a write makes of a stripe that its range holds in part.
+fn push_part(
+    made: &mut Columns,
+    alloc: Global,
+    map: &DataMap,
+    range: Span,
+    bytes: &[u8],
+    got: &Fetched,
+    out: &Out,
+    stripe: u64,
+) -> Result<(), Memory>
+    requires inside { range.offset + range.length ≤ MAX_FILE_SIZE }
+    requires bytes { length bytes.now ≡ range.length }
+    requires stripe { stripe ≤ MAX_FILE_SIZE }
+    requires part { whole map.now range stripe ≡ false }
+    requires few { length (lost_from map.now out.now.components stripe 0 (group_width map.now)) ≤ parities map.now }
+    ensures { OnOk result (made.new ≡ made.old ++ written_stripe map.now range bytes.now
+        (columns_of map.now got.now) out.now.components stripe 0 (group_width map.now)) }
+{
+    let touched = touched_columns(alloc, map, range, stripe)?;
+    let columns = touched.as_slice();
+    let parity = parities_of(alloc, map, range, bytes, got, out, stripe, columns)?;
+    let rows = parity.as_slice();
+    for place in 0..map.group_width() {
+        push_place(
+            made, alloc, map, range, bytes, out, stripe, place, columns, rows,
+        )?;
+    }
+    Ok(())
 }
 
 // What a write makes of a stripe.
@@ -220,34 +252,13 @@ fn push_stripe(
     requires bytes { length bytes.now ≡ range.length }
     requires stripe { stripe ≤ MAX_FILE_SIZE }
     requires few { length (lost_from map.now out.now.components stripe 0 (group_width map.now)) ≤ parities map.now }
-    ensures { OnOk result (made.new ≡ made.old ++ written_stripe map.now range bytes.now (columns_of map.now got.now) out.now.components stripe 0 (group_width map.now)) }
+    ensures { OnOk result (made.new ≡ made.old ++ written_stripe map.now range bytes.now
+        (columns_of map.now got.now) out.now.components stripe 0 (group_width map.now)) }
 {
-    let intervals = touched_columns(alloc, map, range, stripe)?;
-    let parity = parities_of(
-        alloc,
-        map,
-        range,
-        bytes,
-        got,
-        out,
-        stripe,
-        intervals.as_slice(),
-    )?;
-    for place in 0..map.group_width() {
-        push_place(
-            made,
-            alloc,
-            map,
-            range,
-            bytes,
-            out,
-            stripe,
-            place,
-            intervals.as_slice(),
-            parity.as_slice(),
-        )?;
+    if holds_whole(map, range, stripe) {
+        return push_whole(made, alloc, map, range, bytes, out, stripe);
     }
-    Ok(())
+    push_part(made, alloc, map, range, bytes, got, out, stripe)
 }
 
 /// The bytes that a write of a range puts at each position that isn't out, out of what was gathered: its own new bytes,
@@ -268,8 +279,10 @@ pub fn apply_and_encode(
     out: &Out,
 ) -> Result<Columns, PlanErr>
     requires { off + length bytes.now ≤ MAX_FILE_SIZE }
-    ensures exact { Gives (apply_and_encode map.now (span off (length bytes.now)) bytes.now got.now out.now.components) result }
-    ensures follows { IfOk result (FollowsWrite map.now (span off (length bytes.now)) bytes.now (columns_of map.now got.now) out.now.components) }
+    ensures exact { Gives
+        (apply_and_encode map.now (span off (length bytes.now)) bytes.now got.now out.now.components) result }
+    ensures follows { IfOk result (FollowsWrite map.now (span off (length bytes.now)) bytes.now
+        (columns_of map.now got.now) out.now.components) }
 {
     let range = Span {
         offset: off,

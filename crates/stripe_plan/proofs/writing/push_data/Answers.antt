@@ -1,8 +1,7 @@
-use Rattle.std.proofs.Common.{◌∙◌, ℕ, ◌+◌, ◌-◌, ◌*◌, ◌++◌, ap, sym, take, drop, map, arith, append-nil}
+use Rattle.std.proofs.Common.{◌∙◌, ℕ, ◌+◌, ◌*◌, ◌++◌, ap, sym, map, append-nil}
 use Rattle.data_map.specs.declared.check.RawMap.{RawMap}
 use Rattle.data_map.specs.Striping.{row_of}
 use Rattle.stripe_plan.specs.Encoded.{data_column}
-use Rattle.stripe_plan.proofs.Exchanges.{own_first, own_end}
 use Rattle.stripe_plan.proofs.Parities.{own_none, data_pushed}
 use Rattle.stripe_plan.proofs.writing.push_data.Goals as goal
 
@@ -12,31 +11,10 @@ returns-then-own c =
     ∙ ap (λ is. c.args.made.now ++ map (data_column c.args.map.now c.args.range c.args.bytes.now c.args.stripe c.args.unit c.args.position) is)
     (sym (own_none c.args.map.now c.args.range c.args.stripe c.args.unit c.own_columns-own.result c.requires.unit c.own_columns-own.ensures.value c.if-own.true))
 
-pub overflow_sub-start : goal.overflow_sub-start
-overflow_sub-start c = omega (arith, own_first c.args.map.now c.args.range c.args.stripe c.args.unit c.own_columns-own.result c.own_columns-own.ensures.value, c.unit_start.ensures.value)
-
-pub split_at-requires : goal.split_at-requires
-split_at-requires c =
-    omega (arith, own_end c.args.map.now c.args.range c.args.stripe c.args.unit c.own_columns-own.result c.own_columns-own.ensures.value, c.if-own.false, c.unit_start.ensures.value, c.requires.bytes)
-
-pub split_at-requires-2 : goal.split_at-requires-2
-split_at-requires-2 c =
-    omega (
-      arith,
-      own_end c.args.map.now c.args.range c.args.stripe c.args.unit c.own_columns-own.result c.own_columns-own.ensures.value,
-      own_first c.args.map.now c.args.range c.args.stripe c.args.unit c.own_columns-own.result c.own_columns-own.ensures.value,
-      c.if-own.false,
-      c.unit_start.ensures.value,
-      c.requires.bytes,
-      c.split_at.ensures.back_len,
-    )
-
 pub returns : goal.returns
 returns c =
     let m = c.args.map.now in
     let first : ℕ = c.own_columns-own.result.first in
-    let from = ap (λ (z : ℕ). drop (z + first - c.args.range.offset) c.args.bytes.now) c.unit_start.ensures.value in
-    data_pushed m c.args.range c.args.bytes.now c.args.stripe c.args.unit c.args.position (c.row.result * c.raw.result.unit + first) c.own_columns-own.result c.in_ok-copied.field-0 c.args.made.now c.push.new.self
-    c.requires.unit c.requires.bytes c.own_columns-own.ensures.value c.if-own.false
-    (c.in_ok-copied.ensures ∙ c.split_at-2.ensures.front ∙ ap (take (c.own_columns-own.result.end - first)) (c.split_at.ensures.back ∙ from))
+    data_pushed m c.args.range c.args.bytes.now c.args.stripe c.args.unit c.args.position (c.row.result * c.raw.result.unit + first) c.own_columns-own.result c.in_ok-new_bytes.field-0 c.args.made.now c.push.new.self
+    c.requires.unit c.own_columns-own.ensures.value c.if-own.false c.in_ok-new_bytes.ensures
     (ap (λ (z : ℕ). z * c.raw.result.unit + first) c.row.ensures.value ∙ ap (λ (x : RawMap). row_of m c.args.stripe * x.unit + first) c.raw.ensures.value) c.in_ok-push.ensures.ok

@@ -3,7 +3,7 @@ use Rattle.data_map.specs.Striping.{group_width}
 use Rattle.stripe_plan.specs.Plans.{columns_of, written_place, written_stripe}
 use Rattle.stripe_plan.proofs.Steps.{one_more, no_more}
 use Rattle.stripe_plan.proofs.Parities.{written_step, written_end}
-use Rattle.stripe_plan.proofs.writing.push_stripe.Goals as goal
+use Rattle.stripe_plan.proofs.writing.push_part.Goals as goal
 
 pub loop-place-preserved : goal.loop-place-preserved
 loop-place-preserved c =
@@ -13,7 +13,7 @@ loop-place-preserved c =
     let i = c.loop-place.place in
     let e = group_width m in
     one_more c.loop-place.made (written_place m c.args.range c.args.bytes.now got out c.args.stripe i) (written_stripe m c.args.range c.args.bytes.now got out c.args.stripe (i + 1) (e - (i + 1))) _ c.push_place.new.made
-    (c.in_ok-push_place.ensures got (λ some. rw (c.as_slice-in-loop-place.ensures, c.as_slice-in-loop-place-2.ensures) (rw c.as_slice.ensures at (c.in_ok-parity.ensures.value some))))
+    (c.in_ok-push_place.ensures got (λ some. rw c.as_slice-rows.ensures (c.in_ok-parity.ensures.value some)))
     (ap (λ xs. c.loop-place.made ++ xs) (sym (written_step m c.args.range c.args.bytes.now got out c.args.stripe i e (omega (arith, c.loop-place-test.true, c.group_width-place-end.ensures.value)))) ∙ c.loop-place.invariant)
 
 pub returns : goal.returns

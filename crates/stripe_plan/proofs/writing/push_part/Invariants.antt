@@ -1,7 +1,7 @@
 use Rattle.std.proofs.Common.{◌≡◌, ◌-◌, ◌++◌}
 use Rattle.data_map.specs.Striping.{group_width}
 use Rattle.stripe_plan.specs.Plans.{columns_of, written_stripe}
-use Rattle.stripe_plan.proofs.writing.push_stripe.Given as goal
+use Rattle.stripe_plan.proofs.writing.push_part.Given as goal
 
 abbrev pub invariant-loop-place : goal.invariant-loop-place
 invariant-loop-place l =
