@@ -1,7 +1,7 @@
 -- A stripe that the range holds whole.
 use Rattle.std.proofs.Common.{◌≡◌, ℕ, ◌+◌, ◌-◌, ◌*◌, ◌<◌, ◌≤◌, true, List, [], ◌∷◌, ◌++◌, length, get_or, take, map, set, refl, sym, ap, ◌∙◌, arith, inl, inr}
-use Rattle.std.specs.Prelude.{min, max, replicate, slice_get, Option, unwrap_or, if◌then◌else◌}
-use Rattle.std.specs.List.{All, range_with_len}
+use Rattle.std.specs.Prelude.{min, max, replicate, slice_get, Option, unwrap_or}
+use Rattle.std.specs.List.{All}
 use Rattle.std.proofs.lemmas.Bool.{cases_eq, cases_lt, le-leb}
 use Rattle.std.proofs.lemmas.List.{length-append, get_or_append_left, get_or-append-add, get_or-take, get_or-set_other, length-take-le, get_or-replicate, length-replicate}
 use Rattle.std.proofs.lemmas.List.FromFn.{length-map-range_with_len, get_or-map-range_with_len}
@@ -10,9 +10,9 @@ use Rattle.std.proofs.lemmas.Option.{unwrap_or-slice_get}
 use Rattle.std.proofs.Math.Nat.{mul-le-mul_right}
 use Rattle.data_map.specs.declared.check.RawMap.{RawMap}
 use Rattle.data_map.specs.Check.{IsChecked}
-use Rattle.data_map.specs.Striping.{stripe_length, group_of, group_width, data_units, parities, turned}
+use Rattle.data_map.specs.Striping.{stripe_length, group_width, data_units, parities, turned}
 use Rattle.data_map.specs.Inverse.{unit_in}
-use Rattle.data_map.proofs.Striping.{turned_again, unit_below}
+use Rattle.data_map.proofs.Striping.{turned_again}
 use Rattle.parity_code.specs.Parity.{column}
 use Rattle.parity_code.specs.Codeword.{count_of, codeword, width_of}
 use Rattle.parity_code.proofs.ColumnLaws.{cell, length_column, same_count}
@@ -24,7 +24,7 @@ use Rattle.stripe_plan.specs.Asks.{changed}
 use Rattle.stripe_plan.specs.Parity.{overlaid, parity_of}
 use Rattle.stripe_plan.specs.Words.{code_of, new_at, news_at, parity_at, word_at}
 use Rattle.stripe_plan.specs.Encoded.{all_columns, new_in, words_in, place_column, HasParity, IsNewRow, NewRows, AreWords}
-use Rattle.stripe_plan.specs.Plans.{written_columns, written_place}
+use Rattle.stripe_plan.specs.Plans.{written_place}
 use Rattle.stripe_plan.proofs.StripeRows.{same_range}
 use Rattle.stripe_plan.proofs.Columning.{code_count}
 use Rattle.stripe_plan.proofs.WriteLaws.{whole_means, news_long}

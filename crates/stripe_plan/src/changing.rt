@@ -1,5 +1,5 @@
 // Parity that was read, changed as the data change.
-ghost use Rattle.std.specs.Prelude.{◌≡◌, ◌-◌, ◌+◌, ◌<◌, ◌≤◌, length, IfOk, OnOk};
+ghost use Rattle.std.specs.Prelude.{◌≡◌, ◌-◌, ◌+◌, ◌<◌, ◌≤◌, ◌∷◌, [], length, IfOk, OnOk};
 ghost use Rattle.data_map.specs.Striping.{data_units, parities};
 ghost use Rattle.parity_code.specs.Codeword.{count_of};
 ghost use Rattle.stripe_plan.specs.Touched.{IsLow};
@@ -8,10 +8,11 @@ ghost use Rattle.stripe_plan.specs.Words.{got_in};
 ghost use Rattle.stripe_plan.specs.Encoded.{changed_parity, Exchanged, HasParity, UnitChanged};
 ghost use Rattle.stripe_plan.specs.Plans.{columns_of};
 
+use crate::encoding::new_part;
 use crate::laying::zeros;
 use crate::plan::{Fetched, Interval, Span};
 use crate::rows::{code_of, got_in};
-use crate::touched::{own_columns, unit_start};
+use crate::touched::own_columns;
 use data_map::{DataMap, MAX_FILE_SIZE};
 use osd_bytes::{Bytes, Memory, Rows};
 use parity_code::{Code, parity_delta};
@@ -65,9 +66,7 @@ fn change_unit(
     };
     if both.first < both.end {
         let old = got_in(alloc, map, got, stripe, unit, both)?;
-        let start = unit_start(map, stripe, unit) + both.first - range.offset;
-        let (_, rest) = bytes.split_at(start as usize);
-        let (new, _) = rest.split_at((both.end - both.first) as usize);
+        let new = new_part(map, range, bytes, stripe, unit, both);
         let at = (both.first - columns.first) as usize;
         change_at(code_of(map), unit, old.as_slice(), new, p, q, at);
     }
@@ -109,12 +108,20 @@ pub(crate) fn changed_parity(
             q.as_mut_slice(),
         )?;
     }
+    let rows = parity_rows(alloc, map, p, q)?;
+    Ok(rows)
+}
+
+// The parity that a map has, as rows.
+fn parity_rows(alloc: Global, map: &DataMap, p: Bytes, q: Bytes) -> Result<Rows, Memory>
+    ensures one { parities map.now ≡ 1 → IfOk result (λ rows. rows ≡ p ∷ []) }
+    ensures two { parities map.now ≡ 2 → IfOk result (λ rows. rows ≡ p ∷ q ∷ []) }
+{
     let mut rows = Rows::new(alloc);
     rows.push(p)?;
-    if map.parities() == 1 {
-        return Ok(rows);
+    if map.parities() == 2 {
+        rows.push(q)?;
     }
-    rows.push(q)?;
     Ok(rows)
 }
 

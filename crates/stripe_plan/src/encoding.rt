@@ -1,9 +1,9 @@
 // The parity of a stripe's columns from all their units, with the new bytes put in.
-ghost use Rattle.std.specs.Prelude.{◌≡◌, ℕ, ◌+◌, ◌-◌, ◌<◌, ◌≤◌, [], List, length, slice_index, slice_index_or, IfOk};
+ghost use Rattle.std.specs.Prelude.{◌≡◌, ℕ, ◌+◌, ◌-◌, ◌<◌, ◌≤◌, [], List, length, take, drop, slice_index, slice_index_or, IfOk};
 ghost use Rattle.std.specs.List.{All};
 ghost use Rattle.data_map.specs.Striping.{data_units, group_width, parities};
 ghost use Rattle.parity_code.specs.Columns.{Stored};
-ghost use Rattle.stripe_plan.specs.Touched.{own, IsLow};
+ghost use Rattle.stripe_plan.specs.Touched.{unit_start, own, IsLow};
 ghost use Rattle.stripe_plan.specs.Words.{laid_at, HasColumns};
 ghost use Rattle.stripe_plan.specs.Encoded.{encoded_parity, new_in, HasParity, NewLaid};
 
@@ -70,7 +70,33 @@ pub(crate) fn encode_new(
     encode(code_of(map), rows);
 }
 
-// The call's own bytes of a data unit, which are some.
+// The call's bytes for some columns of a data unit, all of which are the range's.
+pub(crate) fn new_part<'a>(
+    map: &DataMap,
+    range: Span,
+    bytes: &'a [u8],
+    stripe: u64,
+    unit: u32,
+    columns: Interval,
+) -> &'a [u8]
+    requires inside { range.offset + range.length ≤ MAX_FILE_SIZE }
+    requires bytes { length bytes.now ≡ range.length }
+    requires stripe { stripe ≤ MAX_FILE_SIZE }
+    requires unit { unit < group_width map.now }
+    requires some { columns.first ≤ columns.end }
+    requires from { range.offset ≤ unit_start map.now stripe unit + columns.first }
+    requires to { unit_start map.now stripe unit + columns.end ≤ range.offset + range.length }
+    ensures long { length result.now ≡ columns.end - columns.first }
+    ensures value { result.now ≡ take (columns.end - columns.first)
+        (drop (unit_start map.now stripe unit + columns.first - range.offset) bytes.now) }
+{
+    let start = unit_start(map, stripe, unit) + columns.first - range.offset;
+    let (_, rest) = bytes.split_at(start as usize);
+    let (new, _) = rest.split_at((columns.end - columns.first) as usize);
+    new
+}
+
+// The same as bytes of their own, of all columns of the unit that are the range's.
 pub(crate) fn new_bytes(
     alloc: Global,
     map: &DataMap,
@@ -88,9 +114,6 @@ pub(crate) fn new_bytes(
     requires some { columns.first < columns.end }
     ensures { IfOk result (λ new. new ≡ new_in map.now range bytes.now stripe unit columns) }
 {
-    let start = unit_start(map, stripe, unit) + columns.first - range.offset;
-    let (_, rest) = bytes.split_at(start as usize);
-    let (new, _) = rest.split_at((columns.end - columns.first) as usize);
-    let copied = Bytes::copied(alloc, new)?;
+    let copied = Bytes::copied(alloc, new_part(map, range, bytes, stripe, unit, columns))?;
     Ok(copied)
 }

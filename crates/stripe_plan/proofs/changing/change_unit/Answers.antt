@@ -1,36 +1,20 @@
-use Rattle.std.proofs.Common.{◌∙◌, ℕ, ◌+◌, ◌-◌, ap, refl, length, take, drop, arith}
+use Rattle.std.proofs.Common.{◌∙◌, ap, refl, length, arith}
 use Rattle.stripe_plan.specs.Parity.{p_exchanged, q_exchanged}
 use Rattle.stripe_plan.specs.Plans.{columns_of}
 use Rattle.stripe_plan.proofs.Columning.{code_count}
 use Rattle.stripe_plan.proofs.Exchanges.{own_first, own_end, got_long, unit_changed, unit_same}
 use Rattle.stripe_plan.proofs.changing.change_unit.Goals as goal
 
-pub overflow_sub-start : goal.overflow_sub-start
-overflow_sub-start c =
-    omega (arith, own_first c.args.map.now c.args.range c.args.stripe c.args.unit c.own_columns-own.result c.own_columns-own.ensures.value, c.max.ensures, c.unit_start.ensures.value)
+pub new_part-new-requires-clause-from : goal.new_part-new-requires-clause-from
+new_part-new-requires-clause-from c = omega (arith, own_first c.args.map.now c.args.range c.args.stripe c.args.unit c.own_columns-own.result c.own_columns-own.ensures.value, c.max.ensures)
 
-pub split_at-requires : goal.split_at-requires
-split_at-requires c =
-    omega (arith, own_end c.args.map.now c.args.range c.args.stripe c.args.unit c.own_columns-own.result c.own_columns-own.ensures.value, c.min.ensures, c.if-both.true, c.unit_start.ensures.value, c.requires.bytes)
-
-pub split_at-requires-then-both : goal.split_at-requires-then-both
-split_at-requires-then-both c =
-    omega (
-      arith,
-      own_end c.args.map.now c.args.range c.args.stripe c.args.unit c.own_columns-own.result c.own_columns-own.ensures.value,
-      c.min.ensures,
-      c.if-both.true,
-      c.unit_start.ensures.value,
-      c.requires.bytes,
-      c.split_at.ensures.back_len,
-      own_first c.args.map.now c.args.range c.args.stripe c.args.unit c.own_columns-own.result c.own_columns-own.ensures.value,
-      c.max.ensures,
-    )
+pub new_part-new-requires-clause-to : goal.new_part-new-requires-clause-to
+new_part-new-requires-clause-to c = omega (arith, own_end c.args.map.now c.args.range c.args.stripe c.args.unit c.own_columns-own.result c.own_columns-own.ensures.value, c.min.ensures, c.if-both.true)
 
 pub change_at-requires-clause-same : goal.change_at-requires-clause-same
 change_at-requires-clause-same c =
     let old = ap length (c.as_slice.ensures ∙ c.in_ok-old.ensures) ∙ got_long c.args.map.now (columns_of c.args.map.now c.args.got.now) c.args.stripe c.args.unit (record { first = c.max.result; end = c.min.result }) in
-    omega (arith, old, c.split_at-then-both.ensures.front_len)
+    omega (arith, old, c.new_part-new.ensures.long)
 
 pub change_at-requires-clause-p : goal.change_at-requires-clause-p
 change_at-requires-clause-p c =
@@ -45,10 +29,9 @@ change_at-requires-clause-q c =
 pub returns-in_ok-old-clause-p : goal.returns-in_ok-old-clause-p
 returns-in_ok-old-clause-p c = λ some.
     let m = c.args.map.now in
-    let from = ap (λ (z : ℕ). drop (z + c.max.result - c.args.range.offset) c.args.bytes.now) c.unit_start.ensures.value in
     unit_changed m c.args.range c.args.bytes.now (columns_of m c.args.got.now) c.args.stripe c.args.unit 0 c.args.columns (record { first = c.max.result; end = c.min.result }) c.own_columns-own.result p_exchanged
-    c.as_slice.result.now c.split_at-then-both.result.0.now c.args.p.now c.change_at.new.p c.own_columns-own.ensures.value c.max.ensures c.min.ensures c.if-both.true (c.as_slice.ensures ∙ c.in_ok-old.ensures)
-    (c.split_at-then-both.ensures.front ∙ ap (take (c.min.result - c.max.result)) (c.split_at.ensures.back ∙ from)) (c.change_at.ensures.p (rw c.code_of.ensures (omega (arith, code_count m, some)))) (λ v o z. refl) (λ o z. refl)
+    c.as_slice.result.now c.new_part-new.result.now c.args.p.now c.change_at.new.p c.own_columns-own.ensures.value c.max.ensures c.min.ensures c.if-both.true (c.as_slice.ensures ∙ c.in_ok-old.ensures)
+    c.new_part-new.ensures.value (c.change_at.ensures.p (rw c.code_of.ensures (omega (arith, code_count m, some)))) (λ v o z. refl) (λ o z. refl)
 
 pub returns-else-both-clause-p : goal.returns-else-both-clause-p
 returns-else-both-clause-p c = λ some.
@@ -58,10 +41,9 @@ returns-else-both-clause-p c = λ some.
 pub returns-in_ok-old-clause-q : goal.returns-in_ok-old-clause-q
 returns-in_ok-old-clause-q c = λ some.
     let m = c.args.map.now in
-    let from = ap (λ (z : ℕ). drop (z + c.max.result - c.args.range.offset) c.args.bytes.now) c.unit_start.ensures.value in
     unit_changed m c.args.range c.args.bytes.now (columns_of m c.args.got.now) c.args.stripe c.args.unit 1 c.args.columns (record { first = c.max.result; end = c.min.result }) c.own_columns-own.result (q_exchanged c.args.unit)
-    c.as_slice.result.now c.split_at-then-both.result.0.now c.args.q.now c.change_at.new.q c.own_columns-own.ensures.value c.max.ensures c.min.ensures c.if-both.true (c.as_slice.ensures ∙ c.in_ok-old.ensures)
-    (c.split_at-then-both.ensures.front ∙ ap (take (c.min.result - c.max.result)) (c.split_at.ensures.back ∙ from)) (c.change_at.ensures.q (rw c.code_of.ensures (omega (arith, code_count m, some)))) (λ v o z. refl) (λ o z. refl)
+    c.as_slice.result.now c.new_part-new.result.now c.args.q.now c.change_at.new.q c.own_columns-own.ensures.value c.max.ensures c.min.ensures c.if-both.true (c.as_slice.ensures ∙ c.in_ok-old.ensures)
+    c.new_part-new.ensures.value (c.change_at.ensures.q (rw c.code_of.ensures (omega (arith, code_count m, some)))) (λ v o z. refl) (λ o z. refl)
 
 pub returns-else-both-clause-q : goal.returns-else-both-clause-q
 returns-else-both-clause-q c = λ some.

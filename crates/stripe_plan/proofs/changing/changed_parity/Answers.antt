@@ -1,4 +1,6 @@
-use Rattle.std.proofs.Common.{◌∙◌, ◌∷◌, ◌++◌, [], ap, arith}
+use Rattle.std.proofs.Common.{◌≡◌, ◌≤◌, arith, inl, inr}
+use Rattle.std.proofs.lemmas.Bool.{cases_eq}
+use Rattle.data_map.specs.Striping.{data_units, parities}
 use Rattle.data_map.proofs.Shape.{few_parities}
 use Rattle.parity_code.proofs.ColumnLaws.{refill_same}
 use Rattle.stripe_plan.specs.Plans.{columns_of}
@@ -17,13 +19,14 @@ loop-unit-preserved c =
     (delta_step c.args.map.now c.args.range c.args.bytes.now (columns_of c.args.map.now c.args.got.now) c.args.stripe c.args.columns c.loop-unit.unit c.loop-unit.p c.loop-unit.q c.change_unit.new.p c.change_unit.new.q
     (omega (arith, c.loop-unit-test.true, c.data_units-units.ensures.value)) c.loop-unit.invariant changed.p_long changed.q_long (changed.p c.requires.some) (λ two. changed.q two))
 
-pub returns-then-parities-eq1 : goal.returns-then-parities-eq1
-returns-then-parities-eq1 c =
-    one_row c.args.map.now c.args.range c.args.bytes.now (columns_of c.args.map.now c.args.got.now) c.args.stripe c.args.columns c.loop-unit.unit c.loop-unit.p c.loop-unit.q c.push.new.self
-    (omega (arith, c.loop-unit-test.false, c.data_units-units.ensures.value)) (omega (arith, c.parities.ensures, c.if-parities-eq1.true)) (rw c.new-rows.ensures at c.in_ok-push.ensures.ok) c.loop-unit.invariant
-
 pub returns : goal.returns
 returns c =
-    two_rows c.args.map.now c.args.range c.args.bytes.now (columns_of c.args.map.now c.args.got.now) c.args.stripe c.args.columns c.loop-unit.unit c.loop-unit.p c.loop-unit.q c.push-2.new.self
-    (omega (arith, c.loop-unit-test.false, c.data_units-units.ensures.value)) (omega (arith, c.parities.ensures, c.if-parities-eq1.false, few_parities c.args.map.now, c.requires.some))
-    (c.in_ok-push-2.ensures.ok ∙ ap (λ xs. xs ++ (c.loop-unit.q ∷ [])) (rw c.new-rows.ensures at c.in_ok-push.ensures.ok)) c.loop-unit.invariant
+    let m = c.args.map.now in
+    let got = columns_of m c.args.got.now in
+    let le : data_units m ≤ c.loop-unit.unit = omega (arith, c.loop-unit-test.false, c.data_units-units.ensures.value) in
+    elim (cases_eq (parities m) 1) [
+      | inl one ↦ one_row m c.args.range c.args.bytes.now got c.args.stripe c.args.columns c.loop-unit.unit c.loop-unit.p c.loop-unit.q c.in_ok-rows.rows le one (c.in_ok-rows.ensures.one one) c.loop-unit.invariant
+      | inr more ↦
+          let two : parities m ≡ 2 = omega (arith, more, few_parities m, c.requires.some) in
+          two_rows m c.args.range c.args.bytes.now got c.args.stripe c.args.columns c.loop-unit.unit c.loop-unit.p c.loop-unit.q c.in_ok-rows.rows le two (c.in_ok-rows.ensures.two two) c.loop-unit.invariant
+    ]

@@ -1,4 +1,4 @@
-use Rattle.std.proofs.Common.{◌≡◌, ◌∙◌, ◌<◌, arith}
+use Rattle.std.proofs.Common.{◌∙◌, ◌<◌, arith}
 use Rattle.data_map.specs.Striping.{data_units}
 use Rattle.stripe_plan.proofs.Wholes.{own_all, row_new}
 use Rattle.stripe_plan.proofs.whole.new_row.Goals as goal

@@ -1,4 +1,4 @@
-use Rattle.std.proofs.Common.{◌≡◌, ◌∙◌, ℕ, List, [], ◌+◌, ◌-◌, ◌<◌, ◌++◌, length, ap, sym, arith}
+use Rattle.std.proofs.Common.{◌≡◌, ◌∙◌, ℕ, [], ◌+◌, ◌-◌, ◌<◌, ◌++◌, length, ap, sym, arith}
 use Rattle.std.proofs.lemmas.List.{length-set}
 use Rattle.data_map.specs.Striping.{group_width}
 use Rattle.data_map.specs.Inverse.{unit_in}
