@@ -1,5 +1,6 @@
 // The parity of a stripe's columns from all their units, with the new bytes put in.
-ghost use Rattle.std.specs.Prelude.{◌≡◌, ℕ, ◌+◌, ◌-◌, ◌<◌, ◌≤◌, [], List, length, take, drop, slice_index, slice_index_or, IfOk};
+ghost use Rattle.std.specs.Prelude.{◌≡◌, ℕ, ◌+◌, ◌-◌, ◌<◌, ◌≤◌, [], List, length, take, drop, IfOk};
+ghost use Rattle.std.specs.Prelude.{slice_index, slice_index_or};
 ghost use Rattle.std.specs.List.{All};
 ghost use Rattle.data_map.specs.Striping.{data_units, group_width, parities};
 ghost use Rattle.parity_code.specs.Columns.{Stored};
