@@ -8,20 +8,21 @@ use Rattle.scenario_text.specs.declared.event.FileMap.{FileMap}
 use Rattle.scenario_text.specs.declared.hexadecimal.Digits.{Digits}
 use Rattle.scenario_text.specs.Parts.{Fixed, Number, Key, Hex, u32, u64, drive, client, file, server}
 use Rattle.scenario_text.specs.Spelling.{call_parts, map_parts, tag, format, sender_part, machine_part, event_parts}
-use Rattle.scenario_text.specs.EventForms.{call_rows, call_form, map_form, file_form, drive_form, upkeep_rows, upkeep_by, traffic_rows, traffic_by, setup_rows, event_by, event_form}
-use Rattle.scenario_text.proofs.Forms.{Exact, Path, rows, rows_or}
+use Rattle.scenario_text.specs.EventForms.{call_words, call_kind_of, call_form_of, call_by, call_form, map_form, file_form, drive_form, upkeep_words, upkeep_word_of, upkeep_form, upkeep_by, traffic_words, traffic_word_of, traffic_form, traffic_by, setup_words, setup_word_of, setup_form, event_by, event_form}
+use Rattle.scenario_text.specs.Form.{Unknown}
+use Rattle.scenario_text.proofs.Forms.{Exact, Path, keywords}
 use Rattle.scenario_text.proofs.PlaceLaws.{u32_law, u64_law, tag_law, few_law, drive_law, client_law, file_law, server_law, sender_law, machine_law}
 use Rattle.scenario_text.proofs.HexLaws.{key_law, bytes_law}
 
 call_exact : (digits : Digits) → Exact digits (call_form digits) call_parts []
-unfolding call_form
-call_exact digits = rows digits (call_rows digits) call_parts [] (
+unfolding call_by call_kind_of
+call_exact digits = keywords digits call_words (call_form_of digits) (λ w. Unknown) call_parts [] (
   (file, file_law digits, λ f. (u64, u64_law digits, λ offset. (Hex, bytes_law digits, λ bytes. refl))),
   ((file, file_law digits, λ f. (u64, u64_law digits, λ offset. (u64, u64_law digits, λ len. refl))), tt),
-)
+) (λ w. tt)
 
 call_path : (digits : Digits) (x : Call) → Path (call_form digits) x
-unfolding call_form
+unfolding call_by call_kind_of
 call_path digits (call.Write f offset bytes) = (codes "write", refl, (f, (offset, (bytes, refl))))
 call_path digits (call.Read f offset len) = (codes "read", refl, (f, (offset, (len, refl))))
 
@@ -55,8 +56,8 @@ unfolding map_form
 map_path x = (x.components, (x.unit, (x.width, (x.depth, (x.mirrors, (x.algorithm, refl))))))
 
 upkeep_exact : (digits : Digits) (word : List ℕ) → Exact digits (upkeep_by word) event_parts (Fixed word ∷ [])
-unfolding upkeep_by
-upkeep_exact digits word = rows digits upkeep_rows event_parts [] (
+unfolding upkeep_word_of
+upkeep_exact digits word = keywords digits upkeep_words upkeep_form (λ w. Unknown) event_parts [] (
   (machine_part, machine_law digits, λ who. (u64, u64_law digits, λ time. refl)),
   (
     (file, file_law digits, λ f. refl),
@@ -83,11 +84,11 @@ upkeep_exact digits word = rows digits upkeep_rows event_parts [] (
       ),
     ),
   ),
-) word
+) (λ w. tt) word
 
 traffic_exact : (digits : Digits) (word : List ℕ) → Exact digits (traffic_by digits word) event_parts (Fixed word ∷ [])
-unfolding traffic_by
-traffic_exact digits word = rows_or digits (traffic_rows digits) upkeep_by event_parts [] (
+unfolding traffic_word_of
+traffic_exact digits word = keywords digits traffic_words (traffic_form digits) upkeep_by event_parts [] (
   (client, client_law digits, λ c. (call_parts, Fixed (codes "do") ∷ client c ∷ [], [], refl, call_exact digits, λ what. refl)),
   (
     (client, client_law digits, λ c. (call_parts, Fixed (codes "call") ∷ client c ∷ [], [], refl, call_exact digits, λ what. refl)),
@@ -125,8 +126,8 @@ drive_exact : (digits : Digits) (make : ℕ → List ℕ → ℕ → Event) (wor
 drive_exact digits make word is = (drive, drive_law digits, λ d. (Key, key_law digits, λ key. (u64, u64_law digits, λ capacity. is d key capacity)))
 
 pub event_exact : (digits : Digits) → Exact digits (event_form digits) event_parts []
-unfolding event_by
-event_exact digits word = rows_or digits (setup_rows digits) (traffic_by digits) event_parts [] (
+unfolding event_by setup_word_of
+event_exact digits word = keywords digits setup_words (setup_form digits) (traffic_by digits) event_parts [] (
   drive_exact digits event.Drive (codes "drive") (λ d key capacity. refl),
   (
     drive_exact digits event.Disk (codes "disk") (λ d key capacity. refl),
@@ -150,7 +151,7 @@ event_exact digits word = rows_or digits (setup_rows digits) (traffic_by digits)
 ) (traffic_exact digits) word
 
 pub event_path : (digits : Digits) (x : Event) → Path (event_form digits) x
-unfolding event_by traffic_by upkeep_by
+unfolding event_by setup_word_of traffic_word_of upkeep_word_of
 event_path digits (event.Drive d key capacity) = (codes "drive", refl, (d, (key, (capacity, refl))))
 event_path digits (event.Disk d key capacity) = (codes "disk", refl, (d, (key, (capacity, refl))))
 event_path digits (event.Client c) = (codes "client", refl, (c, refl))

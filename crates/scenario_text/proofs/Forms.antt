@@ -1,6 +1,6 @@
 -- The law of forms: a value that is read is what the words spell, and what is spelled reads back.
 use Rattle.std.proofs.Common.{◌≡◌, ℕ, Bool, true, false, List, [], ◌∷◌, ◌++◌, map, Result, Ok, refl, sym, ap, subst, ◌∙◌, append_assoc}
-use Rattle.std.specs.Prelude.{◌==◌, ⊤}
+use Rattle.std.specs.Prelude.{◌==◌, ⊤, if◌then◌else◌, Option, Some, None}
 use Rattle.std.specs.List.{list_any}
 use Rattle.std.specs.Str.{bytes_eq}
 use Rattle.std.proofs.lemmas.List.{append-nil}
@@ -10,7 +10,8 @@ use Rattle.scenario_text.specs.declared.hexadecimal.Digits.{Digits}
 use Rattle.scenario_text.specs.Parts.{Part, Fixed, word_of, PartFits, AllFit}
 use Rattle.scenario_text.specs.Spells.{SpellsPart, SpellAll}
 use Rattle.scenario_text.specs.Reading.{first, after, nothing, next_as}
-use Rattle.scenario_text.specs.Form.{Form, Done, Word, Choose, Then, Unknown, reads, reads_line, pick, chosen}
+use Rattle.scenario_text.specs.Keywords.{word_in}
+use Rattle.scenario_text.specs.Form.{Form, Done, Word, Choose, Then, Unknown, reads, reads_line, pick, chosen, form_or}
 use Rattle.scenario_text.proofs.Results.{bind_ok, first_ok, good_same, end_ok}
 use Rattle.scenario_text.proofs.Without.{none_any, or_parts, or_false}
 
@@ -66,6 +67,29 @@ rows_or digits (row ∷ rows) other parts before h o word =
 pub rows : {A : Type 0} (digits : Digits) (table : List (List ℕ × Form A)) (parts : A → List Part) (before : List Part)
     → ExactRows digits table parts before → (word : List ℕ) → Exact digits (chosen table (λ w. Unknown) word) parts (before ++ Fixed word ∷ [])
 rows digits table parts before h word = rows_or digits table (λ w. Unknown) parts before h (λ w. tt) word
+
+-- a table of keywords as rows
+abbrev pub rows_of : {K A : Type 0} → List (List ℕ × K) → (K → Form A) → List (List ℕ × Form A)
+rows_of [] form = []
+rows_of (entry ∷ table) form = (entry.0, form entry.1) ∷ rows_of table form
+
+picked_keyword : {K A : Type 0} (digits : Digits) (b : Bool) (word text : List ℕ) (k : K) (rest : Option K) (form : K → Form A) (other : Form A)
+    (parts : A → List Part) (before : List Part) → (b ≡ true → word ≡ text) → Exact digits (form k) parts (before ++ Fixed text ∷ [])
+    → Exact digits (form_or form other rest) parts (before ++ Fixed word ∷ [])
+    → Exact digits (form_or form other (if b then Some k else rest)) parts (before ++ Fixed word ∷ [])
+picked_keyword digits true word text k rest form other parts before is h l =
+    subst (λ (w : List ℕ). Exact digits (form k) parts (before ++ Fixed w ∷ [])) (sym (is refl)) h
+picked_keyword digits false word text k rest form other parts before is h l = l
+
+-- the forms of keywords, or else another
+pub keywords : {K A : Type 0} (digits : Digits) (table : List (List ℕ × K)) (form : K → Form A) (other : List ℕ → Form A) (parts : A → List Part)
+    (before : List Part) → ExactRows digits (rows_of table form) parts before
+    → ((word : List ℕ) → Exact digits (other word) parts (before ++ Fixed word ∷ []))
+    → (word : List ℕ) → Exact digits (form_or form (other word) (word_in table word)) parts (before ++ Fixed word ∷ [])
+keywords digits [] form other parts before h o word = o word
+keywords digits (entry ∷ table) form other parts before h o word =
+    picked_keyword digits (bytes_eq word entry.0) word entry.0 entry.1 (word_in table word) form (other word) parts before
+    (bytes_eq-Decides word entry.0).0 h.0 (keywords digits table form other parts before h.1 o word)
 
 abbrev pub NoRow : {A : Type 0} → List (List ℕ × Form A) → (List ℕ → Form A) → A → Type 0
 NoRow [] other x = ⊤

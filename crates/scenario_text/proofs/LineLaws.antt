@@ -24,9 +24,10 @@ use Rattle.scenario_text.specs.declared.hexadecimal.Digits.TheVariants.{Lower}
 use Rattle.scenario_text.specs.Parts.{Fixed, Hex, Positions, u32, u64, drive, client, file}
 use Rattle.scenario_text.specs.Spelling.{event_parts}
 use Rattle.scenario_text.specs.LineSpelling.{party_part, kind_word, layout_fault_word, map_fault_word, refusal_word, yes_or_no, verdict_parts, delivery_parts, ending_parts, outcome_parts, note_parts, line_parts}
-use Rattle.scenario_text.specs.Form.{Choose}
-use Rattle.scenario_text.specs.LineForms.{kind_rows, yes_or_no_rows, layout_fault_rows, map_fault_rows, refusal_rows, delivery_rows, judged_by, outcome_rows, failed_by, refused_rows, note_rows, unguessed_rows, line_rows, kind_form, yes_or_no_form, layout_fault_form, map_fault_form, refusal_form, verdict_rows, verdict_by, verdict_form, delivery_by, ending_rows, ending_by, done_form, outcome_by, outcome_form, refused_form, note_form, last_form, line_form}
-use Rattle.scenario_text.proofs.Forms.{Exact, Path, rows, rows_or, past}
+use Rattle.scenario_text.specs.Form.{Done, Choose, Unknown}
+use Rattle.scenario_text.specs.EventForms.{call_words, call_kind_of}
+use Rattle.scenario_text.specs.LineForms.{yes_or_no_rows, layout_fault_words, layout_fault_of, map_fault_words, map_fault_of, refusal_rows, delivery_rows, judged_by, outcome_rows, failed_by, refused_rows, note_words, note_word_of, note_form_of, note_by, unguessed_rows, line_words, line_word_of, line_form_of, line_by, kind_form, yes_or_no_form, layout_fault_form, map_fault_form, refusal_form, plain_verdict_words, plain_verdict_of, numbered_verdict_rows, numbered_verdict_by, verdict_by, verdict_form, delivery_by, ending_words, ending_word_of, ending_form_of, ending_by, done_form, outcome_by, outcome_form, refused_form, note_form, last_form, line_form}
+use Rattle.scenario_text.proofs.Forms.{Exact, Path, rows, rows_or, keywords, past}
 use Rattle.scenario_text.proofs.PartLaws.{positions_law}
 use Rattle.scenario_text.proofs.PlaceLaws.{u32_law, u64_law, drive_law, client_law, file_law, party_law}
 use Rattle.scenario_text.proofs.HexLaws.{bytes_law}
@@ -35,11 +36,11 @@ use Rattle.scenario_text.proofs.EventLaws.{event_exact, event_path}
 -- ---- single words
 
 kind_exact : Exact Lower kind_form (λ k. Fixed (kind_word k) ∷ []) []
-unfolding kind_form
-kind_exact = rows Lower kind_rows (λ k. Fixed (kind_word k) ∷ []) [] (refl, (refl, tt))
+unfolding call_kind_of
+kind_exact = keywords Lower call_words Done (λ w. Unknown) (λ k. Fixed (kind_word k) ∷ []) [] (refl, (refl, tt)) (λ w. tt)
 
 kind_path : (x : CallKind) → Path kind_form x
-unfolding kind_form
+unfolding call_kind_of
 kind_path kind.Write = (codes "write", refl, refl)
 kind_path kind.Read = (codes "read", refl, refl)
 
@@ -53,11 +54,12 @@ yes_or_no_path true = (codes "yes", refl, refl)
 yes_or_no_path false = (codes "no", refl, refl)
 
 layout_fault_exact : Exact Lower layout_fault_form (λ why. Fixed (layout_fault_word why) ∷ []) []
-unfolding layout_fault_form
-layout_fault_exact = rows Lower layout_fault_rows (λ why. Fixed (layout_fault_word why) ∷ []) [] (refl, (refl, (refl, (refl, (refl, (refl, tt))))))
+unfolding layout_fault_of
+layout_fault_exact = keywords Lower layout_fault_words Done (λ w. Unknown) (λ why. Fixed (layout_fault_word why) ∷ []) []
+    (refl, (refl, (refl, (refl, (refl, (refl, tt)))))) (λ w. tt)
 
 layout_fault_path : (x : LayoutFault) → Path layout_fault_form x
-unfolding layout_fault_form
+unfolding layout_fault_of
 layout_fault_path layout.Unreadable = (codes "Unreadable", refl, refl)
 layout_fault_path layout.Index = (codes "Index", refl, refl)
 layout_fault_path layout.Partial = (codes "Partial", refl, refl)
@@ -66,11 +68,12 @@ layout_fault_path layout.Map = (codes "Map", refl, refl)
 layout_fault_path layout.Credential = (codes "Credential", refl, refl)
 
 map_fault_exact : Exact Lower map_fault_form (λ why. Fixed (map_fault_word why) ∷ []) []
-unfolding map_fault_form
-map_fault_exact = rows Lower map_fault_rows (λ why. Fixed (map_fault_word why) ∷ []) [] (refl, (refl, (refl, (refl, (refl, (refl, tt))))))
+unfolding map_fault_of
+map_fault_exact = keywords Lower map_fault_words Done (λ w. Unknown) (λ why. Fixed (map_fault_word why) ∷ []) []
+    (refl, (refl, (refl, (refl, (refl, (refl, tt)))))) (λ w. tt)
 
 map_fault_path : (x : MapFault) → Path map_fault_form x
-unfolding map_fault_form
+unfolding map_fault_of
 map_fault_path map_fault.Unit = (codes "Unit", refl, refl)
 map_fault_path map_fault.TooMany = (codes "TooMany", refl, refl)
 map_fault_path map_fault.TooFew = (codes "TooFew", refl, refl)
@@ -90,42 +93,18 @@ refusal_path refusal.SlotSpent = (codes "slotspent", refl, refl)
 
 -- ---- verdicts and deliveries
 
+numbered_verdict_exact : (word : List ℕ) → Exact Lower (numbered_verdict_by word) verdict_parts (Fixed word ∷ [])
+unfolding numbered_verdict_by
+numbered_verdict_exact word = rows Lower numbered_verdict_rows verdict_parts []
+    ((u32, u32_law Lower, λ n. refl), ((u64, u64_law Lower, λ n. refl), ((u64, u64_law Lower, λ n. refl), tt))) word
+
 verdict_exact : (word : List ℕ) → Exact Lower (verdict_by word) verdict_parts (Fixed word ∷ [])
-unfolding verdict_by
-verdict_exact word = rows Lower verdict_rows verdict_parts [] (
-  refl,
-  (
-    refl,
-    (
-      refl,
-      (
-        refl,
-        (
-          refl,
-          (
-            refl,
-            (
-              refl,
-              (
-                refl,
-                (
-                  refl,
-                  (
-                    refl,
-                    ((u32, u32_law Lower, λ n. refl), (refl, ((u64, u64_law Lower, λ n. refl), (refl, ((u64, u64_law Lower, λ n. refl), (refl, (refl, (refl, tt)))))))),
-                  ),
-                ),
-              ),
-            ),
-          ),
-        ),
-      ),
-    ),
-  ),
-) word
+unfolding verdict_by plain_verdict_of
+verdict_exact word = keywords Lower plain_verdict_words Done numbered_verdict_by verdict_parts []
+    (refl, (refl, (refl, (refl, (refl, (refl, (refl, (refl, (refl, (refl, (refl, (refl, (refl, (refl, (refl, tt))))))))))))))) numbered_verdict_exact word
 
 verdict_path : (x : Verdict) → Path verdict_form x
-unfolding verdict_by
+unfolding verdict_by plain_verdict_of numbered_verdict_by
 verdict_path verdict.Perform = (codes "perform", refl, refl)
 verdict_path verdict.Again = (codes "again", refl, refl)
 verdict_path verdict.NoKey = (codes "nokey", refl, refl)
@@ -151,11 +130,11 @@ delivery_exact word = rows_or Lower delivery_rows judged_by delivery_parts [] (r
     (λ w. (verdict_parts, [], Fixed w ∷ [], refl, verdict_exact w, λ v. refl)) word
 
 no_deaf : (v : Verdict) → Path (verdict_by (codes "deaf")) v → ⊥
-unfolding verdict_by
+unfolding verdict_by plain_verdict_of numbered_verdict_by
 no_deaf v h = h
 
 no_taken : (v : Verdict) → Path (verdict_by (codes "taken")) v → ⊥
-unfolding verdict_by
+unfolding verdict_by plain_verdict_of numbered_verdict_by
 no_taken v h = h
 
 delivery_path : (x : Delivery) → Path (Choose delivery_by) x
@@ -169,8 +148,8 @@ delivery_path (delivery.Judged v) =
 -- ---- endings and outcomes
 
 ending_exact : (word : List ℕ) → Exact Lower (ending_by word) ending_parts (Fixed word ∷ [])
-unfolding ending_by
-ending_exact word = rows Lower ending_rows ending_parts [] (
+unfolding ending_by ending_word_of
+ending_exact word = keywords Lower ending_words ending_form_of (λ w. Unknown) ending_parts [] (
   refl,
   (
     (client, client_law Lower, λ c. refl),
@@ -200,10 +179,10 @@ ending_exact word = rows Lower ending_rows ending_parts [] (
       ),
     ),
   ),
-) word
+) (λ w. tt) word
 
 ending_path : (x : Ending) → Path (Choose ending_by) x
-unfolding ending_by
+unfolding ending_by ending_word_of
 ending_path ending.NoFile = (codes "nofile", refl, refl)
 ending_path (ending.Held c) = (codes "held", refl, (c, refl))
 ending_path (ending.Fencing k) = (codes "fencing", refl, (k, refl))
@@ -217,7 +196,7 @@ ending_path (ending.BadLayout why) = (codes "badlayout", refl, (why, layout_faul
 ending_path ending.Pending = (codes "pending", refl, refl)
 
 no_ok : (how : Ending) → Path (ending_by (codes "ok")) how → ⊥
-unfolding ending_by
+unfolding ending_by ending_word_of
 no_ok how h = h
 
 done_exact : (call : CallKind) → Exact Lower (done_form call) outcome_parts (Fixed (kind_word call) ∷ Fixed (codes "ok") ∷ [])
@@ -260,8 +239,8 @@ refused_exact = rows Lower refused_rows note_parts (Fixed (codes "refused") ∷ 
 )
 
 note_exact : Exact Lower note_form note_parts []
-unfolding note_form
-note_exact = rows Lower note_rows note_parts [] (
+unfolding note_by note_word_of
+note_exact = keywords Lower note_words note_form_of (λ w. Unknown) note_parts [] (
   refl,
   (
     (u32, u32_law Lower, λ tag. refl),
@@ -294,10 +273,10 @@ note_exact = rows Lower note_rows note_parts [] (
       ),
     ),
   ),
-)
+) (λ w. tt)
 
 note_path : (x : Note) → Path note_form x
-unfolding note_form refused_form
+unfolding note_by note_word_of refused_form
 note_path note.Ready = (codes "ready", refl, refl)
 note_path (note.Fenced tag) = (codes "fenced", refl, (tag, refl))
 note_path (note.Repaired n s) = (codes "repaired", refl, (n, (s, refl)))
@@ -331,8 +310,8 @@ last_exact = (
 )
 
 pub line_exact : Exact Lower line_form line_parts []
-unfolding line_form
-line_exact = rows Lower line_rows line_parts [] (
+unfolding line_by line_word_of
+line_exact = keywords Lower line_words line_form_of (λ w. Unknown) line_parts [] (
   (event_parts, Fixed (codes "=") ∷ [], [], refl, event_exact Lower, λ e. refl),
   (
     (u64, u64_law Lower, λ n. (party_part, party_law Lower, λ from. (party_part, party_law Lower, λ to. (Hex, bytes_law Lower, λ bytes. refl)))),
@@ -356,10 +335,10 @@ line_exact = rows Lower line_rows line_parts [] (
       ),
     ),
   ),
-)
+) (λ w. tt)
 
 pub line_path : (x : Line) → Path line_form x
-unfolding line_form
+unfolding line_by line_word_of
 line_path (line.Event e) = (codes "=", refl, (e, event_path Lower e, refl))
 line_path (line.Message n from to bytes) = (codes "m", refl, (n, (from, (to, (bytes, refl)))))
 line_path (line.Delivered n what) = (codes "d", refl, (n, (what, delivery_path what, refl)))

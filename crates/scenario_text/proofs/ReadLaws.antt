@@ -9,7 +9,7 @@ use Rattle.scenario_text.specs.Words.{words_of}
 use Rattle.scenario_text.specs.Spelling.{event_parts, Fits, Spells, IsSkipped, GivesEvent}
 use Rattle.scenario_text.specs.Reading.{GivesOrMemory}
 use Rattle.scenario_text.specs.Form.{reads_line}
-use Rattle.scenario_text.specs.EventForms.{upkeep_by, traffic_by, event_by, event_form}
+use Rattle.scenario_text.specs.EventForms.{setup_word_of, traffic_word_of, upkeep_word_of, event_by, event_form}
 use Rattle.scenario_text.proofs.Forms.{line_found, line_again}
 use Rattle.scenario_text.proofs.EventLaws.{event_exact, event_path}
 
@@ -23,12 +23,12 @@ event_again line e fits spells = line_again Either (event_form Either) event_par
 
 -- a first word that begins with `#` is none
 hash_unknown : (words : List (List ℕ)) → reads_line (event_form Either) (onto_first 35 words) ≡ Err UnknownWord
-unfolding event_by traffic_by upkeep_by
+unfolding event_by setup_word_of traffic_word_of upkeep_word_of
 hash_unknown [] = refl
 hash_unknown (word ∷ words) = refl
 
 skipped_unknown : (line : List ℕ) → IsSkipped line → reads_line (event_form Either) (words_of line) ≡ Err UnknownWord
-unfolding event_by traffic_by upkeep_by
+unfolding event_by setup_word_of traffic_word_of upkeep_word_of
 skipped_unknown [] h = refl
 skipped_unknown (b ∷ rest) h = rw h (hash_unknown (words_of rest))
 

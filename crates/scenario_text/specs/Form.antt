@@ -1,12 +1,12 @@
 -- How a value is read, a word after another.
-use Rattle.std.specs.Prelude.{◌≡◌, ◌⊎◌, ℕ, Bool, true, false, List, [], ◌∷◌, Result, Ok, Err}
+use Rattle.std.specs.Prelude.{◌≡◌, ◌⊎◌, ℕ, Bool, true, false, List, [], ◌∷◌, Option, Some, None, Result, Ok, Err}
 use Rattle.std.specs.Str.{bytes_eq}
 use Rattle.scenario_text.specs.declared.event.EventErr.{EventErr}
 use Rattle.scenario_text.specs.declared.event.EventErr.TheVariants.{UnknownWord, Memory}
 use Rattle.scenario_text.specs.Reading.{◌>>=◌, first, after, nothing, next_as}
 
--- A value is there. Or the next word stands for a value, with which the reading goes on. Or the next word chooses how it goes on. Or another value is
--- read first. Or no value has the words so far.
+-- A value is there. Or the next word stands for a value, with which the reading goes on. Or the next word chooses how
+-- it goes on. Or another value is read first. Or no value has the words so far.
 pub data Form : Type 0 → Type 1 where
   Done : {A : Type 0} → A → Form A
   Word : {A B : Type 0} → (List ℕ → Result B EventErr) → (B → Form A) → Form A
@@ -52,3 +52,8 @@ chosen (row ∷ rows) other word = pick (bytes_eq word row.0) row.1 (chosen rows
 
 abbrev pub by_word : {A : Type 0} → List (List ℕ × Form A) → Form A
 by_word rows = Choose (chosen rows (λ word. Unknown))
+
+-- the form of a keyword, or else another
+abbrev pub form_or : {K A : Type 0} → (K → Form A) → Form A → Option K → Form A
+form_or form other None = other
+form_or form other (Some k) = form k

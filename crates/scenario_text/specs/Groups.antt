@@ -1,6 +1,8 @@
 -- The kinds of events.
 use Rattle.scenario_text.specs.declared.event.Event.{Event}
-use Rattle.scenario_text.specs.declared.event.Event.TheVariants.{Drive, Disk, Client, File, ZonedFile, Zone, Least, Format, Do, Call, Deliver, DropMessage, Settle, Resend, Timeout, Leave, Inject}
+use Rattle.scenario_text.specs.declared.event.Event.TheVariants.{Drive, Disk, Client, File, ZonedFile, Zone, Least}
+use Rattle.scenario_text.specs.declared.event.Event.TheVariants.{Format, Do, Call, Deliver, DropMessage, Settle}
+use Rattle.scenario_text.specs.declared.event.Event.TheVariants.{Resend, Timeout, Leave, Inject}
 use Rattle.scenario_text.specs.declared.group.Group.{Group}
 use Rattle.scenario_text.specs.declared.group.Group.TheVariants.{Setup, Traffic, Upkeep}
 

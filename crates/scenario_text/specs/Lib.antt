@@ -9,6 +9,7 @@ pub mod Written
 pub mod Spelling
 pub mod EventForms
 pub mod Refusals
+pub mod Errors
 pub mod LineSpelling
 pub mod LineForms
 pub mod LineRefusals

@@ -1,8 +1,10 @@
 -- How a line of a transcript is read, a word after another.
-use Rattle.std.specs.Prelude.{ℕ, Bool, true, false, List, [], ◌∷◌, codes}
-use Rattle.scenario_text.specs.Reading.{u32_of, u64_of, drive_of, client_of, file_of, party_of, bytes_of, positions_of}
-use Rattle.scenario_text.specs.Form.{Form, Done, Word, Choose, Then, Unknown, chosen, by_word}
-use Rattle.scenario_text.specs.EventForms.{event_form}
+use Rattle.std.specs.Prelude.{ℕ, Bool, true, false, List, [], ◌∷◌, Option, codes}
+use Rattle.scenario_text.specs.Reading.{u32_of, u64_of, drive_of, client_of, file_of, party_of, bytes_of}
+use Rattle.scenario_text.specs.Reading.{positions_of}
+use Rattle.scenario_text.specs.Keywords.{word_in}
+use Rattle.scenario_text.specs.Form.{Form, Done, Word, Choose, Then, Unknown, chosen, by_word, form_or}
+use Rattle.scenario_text.specs.EventForms.{call_kind_of, event_form}
 use Rattle.scenario_text.specs.declared.hexadecimal.Digits.TheVariants.{Lower}
 use Rattle.scenario_text.specs.declared.line.Line.{Line}
 use Rattle.scenario_text.specs.declared.line.Line.TheVariants as line
@@ -24,14 +26,20 @@ use Rattle.scenario_text.specs.declared.line.MapFault.{MapFault}
 use Rattle.scenario_text.specs.declared.line.MapFault.TheVariants as map_fault
 use Rattle.scenario_text.specs.declared.line.Note.{Note}
 use Rattle.scenario_text.specs.declared.line.Note.TheVariants as note
+use Rattle.scenario_text.specs.declared.line_keyword.EndingWord.{EndingWord}
+use Rattle.scenario_text.specs.declared.line_keyword.EndingWord.TheVariants as ending_word
+use Rattle.scenario_text.specs.declared.line_keyword.NoteWord.{NoteWord}
+use Rattle.scenario_text.specs.declared.line_keyword.NoteWord.TheVariants as note_word
+use Rattle.scenario_text.specs.declared.line_keyword.LineWord.{LineWord}
+use Rattle.scenario_text.specs.declared.line_keyword.LineWord.TheVariants as line_word
 
 -- ---- single words
 
-abbrev pub kind_rows : List (List ℕ × Form CallKind)
-kind_rows = (codes "write", Done kind.Write) ∷ (codes "read", Done kind.Read) ∷ []
+abbrev pub kind_by : List ℕ → Form CallKind
+kind_by word = form_or Done Unknown (call_kind_of word)
 
-unfoldable pub kind_form : Form CallKind
-kind_form = by_word kind_rows
+abbrev pub kind_form : Form CallKind
+kind_form = Choose kind_by
 
 abbrev pub yes_or_no_rows : List (List ℕ × Form Bool)
 yes_or_no_rows = (codes "yes", Done true) ∷ (codes "no", Done false) ∷ []
@@ -39,29 +47,41 @@ yes_or_no_rows = (codes "yes", Done true) ∷ (codes "no", Done false) ∷ []
 unfoldable pub yes_or_no_form : Form Bool
 yes_or_no_form = by_word yes_or_no_rows
 
-abbrev pub layout_fault_rows : List (List ℕ × Form LayoutFault)
-layout_fault_rows =
-    (codes "Unreadable", Done layout.Unreadable)
-    ∷ (codes "Index", Done layout.Index)
-    ∷ (codes "Partial", Done layout.Partial)
-    ∷ (codes "Ssv", Done layout.Ssv)
-    ∷ (codes "Map", Done layout.Map)
-    ∷ (codes "Credential", Done layout.Credential) ∷ []
+abbrev pub layout_fault_words : List (List ℕ × LayoutFault)
+layout_fault_words =
+    (codes "Unreadable", layout.Unreadable)
+    ∷ (codes "Index", layout.Index)
+    ∷ (codes "Partial", layout.Partial)
+    ∷ (codes "Ssv", layout.Ssv)
+    ∷ (codes "Map", layout.Map)
+    ∷ (codes "Credential", layout.Credential) ∷ []
 
-unfoldable pub layout_fault_form : Form LayoutFault
-layout_fault_form = by_word layout_fault_rows
+unfoldable pub layout_fault_of : List ℕ → Option LayoutFault
+layout_fault_of word = word_in layout_fault_words word
 
-abbrev pub map_fault_rows : List (List ℕ × Form MapFault)
-map_fault_rows =
-    (codes "Unit", Done map_fault.Unit)
-    ∷ (codes "TooMany", Done map_fault.TooMany)
-    ∷ (codes "TooFew", Done map_fault.TooFew)
-    ∷ (codes "Multiple", Done map_fault.Multiple)
-    ∷ (codes "Width", Done map_fault.Width)
-    ∷ (codes "Depth", Done map_fault.Depth) ∷ []
+abbrev pub layout_fault_by : List ℕ → Form LayoutFault
+layout_fault_by word = form_or Done Unknown (layout_fault_of word)
 
-unfoldable pub map_fault_form : Form MapFault
-map_fault_form = by_word map_fault_rows
+abbrev pub layout_fault_form : Form LayoutFault
+layout_fault_form = Choose layout_fault_by
+
+abbrev pub map_fault_words : List (List ℕ × MapFault)
+map_fault_words =
+    (codes "Unit", map_fault.Unit)
+    ∷ (codes "TooMany", map_fault.TooMany)
+    ∷ (codes "TooFew", map_fault.TooFew)
+    ∷ (codes "Multiple", map_fault.Multiple)
+    ∷ (codes "Width", map_fault.Width)
+    ∷ (codes "Depth", map_fault.Depth) ∷ []
+
+unfoldable pub map_fault_of : List ℕ → Option MapFault
+map_fault_of word = word_in map_fault_words word
+
+abbrev pub map_fault_by : List ℕ → Form MapFault
+map_fault_by word = form_or Done Unknown (map_fault_of word)
+
+abbrev pub map_fault_form : Form MapFault
+map_fault_form = Choose map_fault_by
 
 abbrev pub refusal_rows : List (List ℕ × Form Refusal)
 refusal_rows =
@@ -74,30 +94,40 @@ refusal_form = by_word refusal_rows
 
 -- ---- verdicts and deliveries
 
-abbrev pub verdict_rows : List (List ℕ × Form Verdict)
-verdict_rows =
-    (codes "perform", Done verdict.Perform)
-    ∷ (codes "again", Done verdict.Again)
-    ∷ (codes "nokey", Done verdict.NoKey)
-    ∷ (codes "checkvalue", Done verdict.CheckValue)
-    ∷ (codes "expired", Done verdict.Expired)
-    ∷ (codes "rights", Done verdict.Rights)
-    ∷ (codes "wrongobject", Done verdict.WrongObject)
-    ∷ (codes "range", Done verdict.Range)
-    ∷ (codes "noobject", Done verdict.NoObject)
-    ∷ (codes "exists", Done verdict.Exists)
-    ∷ (codes "tag", Word u32_of (λ n. Done (verdict.Tag n)))
-    ∷ (codes "limit", Done verdict.Limit)
+-- the verdicts without a number
+abbrev pub plain_verdict_words : List (List ℕ × Verdict)
+plain_verdict_words =
+    (codes "perform", verdict.Perform)
+    ∷ (codes "again", verdict.Again)
+    ∷ (codes "nokey", verdict.NoKey)
+    ∷ (codes "checkvalue", verdict.CheckValue)
+    ∷ (codes "expired", verdict.Expired)
+    ∷ (codes "rights", verdict.Rights)
+    ∷ (codes "wrongobject", verdict.WrongObject)
+    ∷ (codes "range", verdict.Range)
+    ∷ (codes "noobject", verdict.NoObject)
+    ∷ (codes "exists", verdict.Exists)
+    ∷ (codes "limit", verdict.Limit)
+    ∷ (codes "lanefull", verdict.LaneFull)
+    ∷ (codes "attrfull", verdict.AttrFull)
+    ∷ (codes "format", verdict.Format)
+    ∷ (codes "oldformat", verdict.OldFormat) ∷ []
+
+unfoldable pub plain_verdict_of : List ℕ → Option Verdict
+plain_verdict_of word = word_in plain_verdict_words word
+
+abbrev pub numbered_verdict_rows : List (List ℕ × Form Verdict)
+numbered_verdict_rows =
+    (codes "tag", Word u32_of (λ n. Done (verdict.Tag n)))
     ∷ (codes "nospace", Word u64_of (λ n. Done (verdict.NoSpace n)))
-    ∷ (codes "lanefull", Done verdict.LaneFull)
-    ∷ (codes "stale", Word u64_of (λ n. Done (verdict.Stale n)))
-    ∷ (codes "attrfull", Done verdict.AttrFull)
-    ∷ (codes "format", Done verdict.Format)
-    ∷ (codes "oldformat", Done verdict.OldFormat) ∷ []
+    ∷ (codes "stale", Word u64_of (λ n. Done (verdict.Stale n))) ∷ []
+
+unfoldable pub numbered_verdict_by : List ℕ → Form Verdict
+numbered_verdict_by word = chosen numbered_verdict_rows (λ w. Unknown) word
 
 -- a verdict behind its first word
 unfoldable pub verdict_by : List ℕ → Form Verdict
-verdict_by word = chosen verdict_rows (λ w. Unknown) word
+verdict_by word = form_or Done (numbered_verdict_by word) (plain_verdict_of word)
 
 abbrev pub verdict_form : Form Verdict
 verdict_form = Choose verdict_by
@@ -113,22 +143,38 @@ delivery_by word = chosen delivery_rows judged_by word
 
 -- ---- endings and outcomes
 
-abbrev pub ending_rows : List (List ℕ × Form Ending)
-ending_rows =
-    (codes "nofile", Done ending.NoFile)
-    ∷ (codes "held", Word client_of (λ c. Done (ending.Held c)))
-    ∷ (codes "fencing", Word u32_of (λ k. Done (ending.Fencing k)))
-    ∷ (codes "degraded", Word u32_of (λ k. Done (ending.Degraded k)))
-    ∷ (codes "spent", Done ending.Spent)
-    ∷ (codes "status", Word u32_of (λ status. Word u32_of (λ detail. Done (ending.Status status detail))))
-    ∷ (codes "refused", Word drive_of (λ d. Then verdict_form (λ v. Done (ending.Refused d v))))
-    ∷ (codes "silent", Word u32_of (λ k. Done (ending.Silent k)))
-    ∷ (codes "lost", Word positions_of (λ ps. Done (ending.Lost ps)))
-    ∷ (codes "badlayout", Then layout_fault_form (λ why. Done (ending.BadLayout why)))
-    ∷ (codes "pending", Done ending.Pending) ∷ []
+abbrev pub ending_words : List (List ℕ × EndingWord)
+ending_words =
+    (codes "nofile", ending_word.NoFile)
+    ∷ (codes "held", ending_word.Held)
+    ∷ (codes "fencing", ending_word.Fencing)
+    ∷ (codes "degraded", ending_word.Degraded)
+    ∷ (codes "spent", ending_word.Spent)
+    ∷ (codes "status", ending_word.Status)
+    ∷ (codes "refused", ending_word.Refused)
+    ∷ (codes "silent", ending_word.Silent)
+    ∷ (codes "lost", ending_word.Lost)
+    ∷ (codes "badlayout", ending_word.BadLayout)
+    ∷ (codes "pending", ending_word.Pending) ∷ []
+
+abbrev pub ending_form_of : EndingWord → Form Ending
+ending_form_of ending_word.NoFile = Done ending.NoFile
+ending_form_of ending_word.Held = Word client_of (λ c. Done (ending.Held c))
+ending_form_of ending_word.Fencing = Word u32_of (λ k. Done (ending.Fencing k))
+ending_form_of ending_word.Degraded = Word u32_of (λ k. Done (ending.Degraded k))
+ending_form_of ending_word.Spent = Done ending.Spent
+ending_form_of ending_word.Status = Word u32_of (λ status. Word u32_of (λ detail. Done (ending.Status status detail)))
+ending_form_of ending_word.Refused = Word drive_of (λ d. Then verdict_form (λ v. Done (ending.Refused d v)))
+ending_form_of ending_word.Silent = Word u32_of (λ k. Done (ending.Silent k))
+ending_form_of ending_word.Lost = Word positions_of (λ ps. Done (ending.Lost ps))
+ending_form_of ending_word.BadLayout = Then layout_fault_form (λ why. Done (ending.BadLayout why))
+ending_form_of ending_word.Pending = Done ending.Pending
+
+unfoldable pub ending_word_of : List ℕ → Option EndingWord
+ending_word_of word = word_in ending_words word
 
 unfoldable pub ending_by : List ℕ → Form Ending
-ending_by word = chosen ending_rows (λ w. Unknown) word
+ending_by word = form_or ending_form_of Unknown (ending_word_of word)
 
 abbrev pub done_form : CallKind → Form Outcome
 done_form kind.Write = Word u64_of (λ len. Done (outcome.WriteOk len))
@@ -158,28 +204,51 @@ refused_rows =
 unfoldable pub refused_form : Form Note
 refused_form = by_word refused_rows
 
-abbrev pub note_rows : List (List ℕ × Form Note)
-note_rows =
-    (codes "ready", Done note.Ready)
-    ∷ (codes "fenced", Word u32_of (λ tag. Done (note.Fenced tag)))
-    ∷ (codes "repaired", Word u64_of (λ n. Word u64_of (λ s. Done (note.Repaired n s))))
-    ∷ (codes "rebuilt", Word u32_of (λ k. Word drive_of (λ d. Done (note.Rebuilt k d))))
-    ∷ (codes "nodrive", Word u32_of (λ k. Done (note.NoDrive k)))
-    ∷ (codes "lost", Word u32_of (λ k. Word positions_of (λ ps. Done (note.Lost k ps))))
-    ∷ (codes "nospace", Word u32_of (λ k. Done (note.NoSpace k)))
-    ∷ (codes "audit", Word u64_of (λ n. Word u64_of (λ s. Word u64_of (λ b. Word u64_of (λ bytes. Done (note.Audited n s b bytes))))))
-    ∷ (codes "busy", Word u32_of (λ k. Done (note.Busy k)))
-    ∷ (codes "spent", Done note.Spent)
-    ∷ (codes "reported", Word u32_of (λ k. Done (note.Reported k)))
-    ∷ (codes "refused", refused_form) ∷ []
+abbrev pub note_words : List (List ℕ × NoteWord)
+note_words =
+    (codes "ready", note_word.Ready)
+    ∷ (codes "fenced", note_word.Fenced)
+    ∷ (codes "repaired", note_word.Repaired)
+    ∷ (codes "rebuilt", note_word.Rebuilt)
+    ∷ (codes "nodrive", note_word.NoDrive)
+    ∷ (codes "lost", note_word.Lost)
+    ∷ (codes "nospace", note_word.NoSpace)
+    ∷ (codes "audit", note_word.Audited)
+    ∷ (codes "busy", note_word.Busy)
+    ∷ (codes "spent", note_word.Spent)
+    ∷ (codes "reported", note_word.Reported)
+    ∷ (codes "refused", note_word.Refused) ∷ []
 
-unfoldable pub note_form : Form Note
-note_form = by_word note_rows
+abbrev pub note_form_of : NoteWord → Form Note
+note_form_of note_word.Ready = Done note.Ready
+note_form_of note_word.Fenced = Word u32_of (λ tag. Done (note.Fenced tag))
+note_form_of note_word.Repaired = Word u64_of (λ n. Word u64_of (λ s. Done (note.Repaired n s)))
+note_form_of note_word.Rebuilt = Word u32_of (λ k. Word drive_of (λ d. Done (note.Rebuilt k d)))
+note_form_of note_word.NoDrive = Word u32_of (λ k. Done (note.NoDrive k))
+note_form_of note_word.Lost = Word u32_of (λ k. Word positions_of (λ ps. Done (note.Lost k ps)))
+note_form_of note_word.NoSpace = Word u32_of (λ k. Done (note.NoSpace k))
+note_form_of note_word.Audited =
+    Word u64_of (λ n. Word u64_of (λ s. Word u64_of (λ b. Word u64_of (λ bytes. Done (note.Audited n s b bytes)))))
+note_form_of note_word.Busy = Word u32_of (λ k. Done (note.Busy k))
+note_form_of note_word.Spent = Done note.Spent
+note_form_of note_word.Reported = Word u32_of (λ k. Done (note.Reported k))
+note_form_of note_word.Refused = refused_form
+
+unfoldable pub note_word_of : List ℕ → Option NoteWord
+note_word_of word = word_in note_words word
+
+unfoldable pub note_by : List ℕ → Form Note
+note_by word = form_or note_form_of Unknown (note_word_of word)
+
+abbrev pub note_form : Form Note
+note_form = Choose note_by
 
 -- ---- lines
 
 abbrev pub message_form : Form Line
-message_form = Word u64_of (λ n. Word party_of (λ from. Word party_of (λ to. Word (bytes_of Lower) (λ bytes. Done (line.Message n from to bytes)))))
+message_form =
+    Word u64_of (λ n. Word party_of (λ from. Word party_of (λ to.
+    Word (bytes_of Lower) (λ bytes. Done (line.Message n from to bytes)))))
 
 abbrev pub unguessed_rows : Bool → List (List ℕ × Form Line)
 unguessed_rows calm = (codes "unguessed", Then yes_or_no_form (λ unguessed. Done (line.Last calm unguessed))) ∷ []
@@ -187,17 +256,34 @@ unguessed_rows calm = (codes "unguessed", Then yes_or_no_form (λ unguessed. Don
 abbrev pub last_form : Form Line
 last_form = Then yes_or_no_form (λ calm. by_word (unguessed_rows calm))
 
-abbrev pub line_rows : List (List ℕ × Form Line)
-line_rows =
-    (codes "=", Then (event_form Lower) (λ e. Done (line.Event e)))
-    ∷ (codes "m", message_form)
-    ∷ (codes "d", Word u64_of (λ n. Then (Choose delivery_by) (λ what. Done (line.Delivered n what))))
-    ∷ (codes "j", Word drive_of (λ d. Then verdict_form (λ v. Done (line.Judged d v))))
-    ∷ (codes "t", Word client_of (λ c. Word u32_of (λ k. Done (line.TimedOut c k))))
-    ∷ (codes "o", Word client_of (λ c. Then outcome_form (λ how. Done (line.Ended c how))))
-    ∷ (codes "x", Word client_of (λ c. Then refusal_form (λ why. Done (line.Refused c why))))
-    ∷ (codes "f", Word file_of (λ f. Then note_form (λ what. Done (line.Note f what))))
-    ∷ (codes "calm", last_form) ∷ []
+abbrev pub line_words : List (List ℕ × LineWord)
+line_words =
+    (codes "=", line_word.Event)
+    ∷ (codes "m", line_word.Message)
+    ∷ (codes "d", line_word.Delivered)
+    ∷ (codes "j", line_word.Judged)
+    ∷ (codes "t", line_word.TimedOut)
+    ∷ (codes "o", line_word.Ended)
+    ∷ (codes "x", line_word.Refused)
+    ∷ (codes "f", line_word.Note)
+    ∷ (codes "calm", line_word.Last) ∷ []
 
-unfoldable pub line_form : Form Line
-line_form = by_word line_rows
+abbrev pub line_form_of : LineWord → Form Line
+line_form_of line_word.Event = Then (event_form Lower) (λ e. Done (line.Event e))
+line_form_of line_word.Message = message_form
+line_form_of line_word.Delivered = Word u64_of (λ n. Then (Choose delivery_by) (λ what. Done (line.Delivered n what)))
+line_form_of line_word.Judged = Word drive_of (λ d. Then verdict_form (λ v. Done (line.Judged d v)))
+line_form_of line_word.TimedOut = Word client_of (λ c. Word u32_of (λ k. Done (line.TimedOut c k)))
+line_form_of line_word.Ended = Word client_of (λ c. Then outcome_form (λ how. Done (line.Ended c how)))
+line_form_of line_word.Refused = Word client_of (λ c. Then refusal_form (λ why. Done (line.Refused c why)))
+line_form_of line_word.Note = Word file_of (λ f. Then note_form (λ what. Done (line.Note f what)))
+line_form_of line_word.Last = last_form
+
+unfoldable pub line_word_of : List ℕ → Option LineWord
+line_word_of word = word_in line_words word
+
+unfoldable pub line_by : List ℕ → Form Line
+line_by word = form_or line_form_of Unknown (line_word_of word)
+
+abbrev pub line_form : Form Line
+line_form = Choose line_by

@@ -2,7 +2,8 @@
 use Rattle.std.specs.Prelude.{◌≡◌, ℕ, Bool, true, false, ⊤, List, [], ◌∷◌, ◌++◌, map, codes}
 use Rattle.std.specs.List.{flat_map}
 use Rattle.scenario_text.specs.Words.{spaced}
-use Rattle.scenario_text.specs.Parts.{Part, Fixed, Hex, Positions, u32, u64, drive, client, file, server, word_of, AllFit}
+use Rattle.scenario_text.specs.Parts.{Part, Fixed, Hex, Positions, u32, u64, drive, client, file, server, word_of}
+use Rattle.scenario_text.specs.Parts.{AllFit}
 use Rattle.scenario_text.specs.Spelling.{Fits, Spells, event_parts}
 use Rattle.scenario_text.specs.declared.event.Event.{Event}
 use Rattle.scenario_text.specs.declared.line.Line.{Line}
@@ -126,6 +127,10 @@ note_parts (note.BadMap why) = Fixed (codes "refused") ∷ Fixed (codes "badmap"
 note_parts (note.TooFew n) = Fixed (codes "refused") ∷ Fixed (codes "toofew") ∷ u32 n ∷ []
 note_parts (note.NoSpread n) = Fixed (codes "refused") ∷ Fixed (codes "nospread") ∷ u32 n ∷ []
 
+-- the words of the last line behind its first
+abbrev pub last_words : Bool → Bool → List (List ℕ)
+last_words calm unguessed = yes_or_no calm ∷ codes "unguessed" ∷ yes_or_no unguessed ∷ []
+
 -- ---- lines
 
 -- the first word of a line, and the parts of the others
@@ -149,7 +154,8 @@ tail_parts (line.TimedOut c k) = client c ∷ u32 k ∷ []
 tail_parts (line.Ended c how) = client c ∷ outcome_parts how
 tail_parts (line.Refused c why) = client c ∷ Fixed (refusal_word why) ∷ []
 tail_parts (line.Note f what) = file f ∷ note_parts what
-tail_parts (line.Last calm unguessed) = Fixed (yes_or_no calm) ∷ Fixed (codes "unguessed") ∷ Fixed (yes_or_no unguessed) ∷ []
+tail_parts (line.Last calm unguessed) =
+    Fixed (yes_or_no calm) ∷ Fixed (codes "unguessed") ∷ Fixed (yes_or_no unguessed) ∷ []
 
 abbrev pub line_parts : Line → List Part
 line_parts l = Fixed (head_word l) ∷ tail_parts l

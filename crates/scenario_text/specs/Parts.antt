@@ -2,10 +2,11 @@
 use Rattle.std.specs.Prelude.{◌≡◌, ℕ, ◌+◌, ◌-◌, ◌^◌, ◌<◌, ◌≤◌, ⊤, List, [], ◌∷◌, length, map, codes}
 use Rattle.std.specs.Fmt.{decimal}
 use Rattle.std.specs.List.{join_with_byte}
+use Rattle.scenario_text.specs.Words.{behind}
 use Rattle.hex.specs.Hex.{IsBytes, encode_lower}
 
--- What a word says: a fixed word, a number from `least` to `most`, the name of one of `count` things, a key of twenty bytes, bytes, or positions of a
--- stripe.
+-- What a word says: a fixed word, a number from `least` to `most`, the name of one of `count` things, a key of twenty
+-- bytes, bytes, or positions of a stripe.
 pub data Part : Type 0 where
   Fixed : (word : List ℕ) → Part
   Number : (least most n : ℕ) → Part
@@ -50,6 +51,10 @@ word_of (Name letter count n) = letter ∷ decimal n
 word_of (Key key) = encode_lower key
 word_of (Hex bytes) = hex_word bytes
 word_of (Positions ps) = positions_word ps
+
+-- the words of parts, each behind a space
+abbrev pub spelled : List Part → List ℕ
+spelled parts = behind 32 (map word_of parts)
 
 -- numbers of 32 bits that rise, from one on
 abbrev pub Rising : ℕ → List ℕ → Type 0

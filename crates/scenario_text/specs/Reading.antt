@@ -1,5 +1,7 @@
 -- How a word is read.
-use Rattle.std.specs.Prelude.{◌≡◌, ◌⊎◌, ◌≢◌, ◌<◌, ◌+◌, ◌-◌, ◌==◌, ◌||◌, Bool, false, codes, length, slice_index, ℕ, ◌^◌, nat_eq, nat_le, nat_lt, ◌&&◌, if◌then◌else◌, List, [], ◌∷◌, Option, Some, None, Result, Ok, Err}
+use Rattle.std.specs.Prelude.{◌≡◌, ◌⊎◌, ◌≢◌, ◌<◌, ◌+◌, ◌-◌, ◌==◌, ◌||◌, Bool, false, codes, length, slice_index, ℕ}
+use Rattle.std.specs.Prelude.{◌^◌, nat_eq, nat_le, nat_lt, ◌&&◌, if◌then◌else◌, List, [], ◌∷◌, Option, Some, None}
+use Rattle.std.specs.Prelude.{Result, Ok, Err}
 use Rattle.std.specs.Fmt.{decimal}
 use Rattle.std.specs.List.{list_any, slice_split}
 use Rattle.std.specs.Str.{bytes_eq}
@@ -7,7 +9,8 @@ use Rattle.std.specs.Str.Parse.{digits_value}
 use Rattle.hex.specs.Hex.{decode_of, decode_sized}
 use Rattle.hex.specs.declared.error.FromHexError.{FromHexError}
 use Rattle.scenario_text.specs.declared.event.EventErr.{EventErr}
-use Rattle.scenario_text.specs.declared.event.EventErr.TheVariants.{BadName, BadNumber, BadHex, Missing, Extra, Memory}
+use Rattle.scenario_text.specs.declared.event.EventErr.TheVariants.{BadName, BadNumber, BadHex, Missing, Extra}
+use Rattle.scenario_text.specs.declared.event.EventErr.TheVariants.{Memory}
 use Rattle.scenario_text.specs.declared.event.Sender.{Sender}
 use Rattle.scenario_text.specs.declared.event.Sender.TheVariants as sender
 use Rattle.scenario_text.specs.declared.event.Machine.{Machine}
@@ -108,7 +111,8 @@ drive_or (Ok d) other = Ok (party.Drive d)
 drive_or (Err e) other = other
 
 unfoldable pub party_of : List ℕ → Result Party EventErr
-party_of word = if is_server word then Ok party.Server else drive_or (drive_of word) (client_of word >>= (λ c. Ok (party.Client c)))
+party_of word =
+    if is_server word then Ok party.Server else drive_or (drive_of word) (client_of word >>= (λ c. Ok (party.Client c)))
 
 -- ---- bytes
 

@@ -1,7 +1,8 @@
 -- What a line of a scenario spells.
 use Rattle.std.specs.Prelude.{◌≡◌, ℕ, ⊤, List, [], ◌∷◌, ◌++◌, map, codes, Option, Some, None, Result, Ok, Err}
 use Rattle.scenario_text.specs.Words.{words_of, spaced}
-use Rattle.scenario_text.specs.Parts.{Part, Fixed, Number, Key, Hex, u32, u64, drive, client, file, server, word_of, AllFit}
+use Rattle.scenario_text.specs.Parts.{Part, Fixed, Number, Key, Hex, u32, u64, drive, client, file, server, word_of}
+use Rattle.scenario_text.specs.Parts.{AllFit}
 use Rattle.scenario_text.specs.Spells.{SpellAll}
 use Rattle.scenario_text.specs.declared.hexadecimal.Digits.TheVariants.{Either}
 use Rattle.scenario_text.specs.declared.event.Event.{Event}

@@ -9,4 +9,14 @@ macro_rules! by_table {
     }};
 }
 
+// The value of a keyword, by a row each.
+macro_rules! by_kind {
+    ($kind:expr; $($row:pat => $value:expr),* $(,)?) => {
+        match $kind {
+            $($row => Ok($value),)*
+        }
+    };
+}
+
+pub(crate) use by_kind;
 pub(crate) use by_table;

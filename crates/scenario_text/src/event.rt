@@ -1,3 +1,6 @@
+ghost use Rattle.std.specs.Prelude.{◌≡◌};
+ghost use Rattle.scenario_text.specs.Errors.{event_error_name};
+
 use crate::names::{ClientName, DriveName, FileName};
 use osd_bytes::{Bytes, Memory};
 use thiserror::Error;
@@ -23,7 +26,7 @@ pub struct FileMap {
 }
 
 /// What a client is called to do.
-#[derive(Debug, Drop, PartialEq)]
+#[derive(Drop, PartialEq)]
 pub enum Call {
     /// Writes `bytes` from `offset` on.
     Write {
@@ -54,7 +57,7 @@ pub enum Machine {
 }
 
 /// An event of a scenario.
-#[derive(Debug, Drop)]
+#[derive(Drop)]
 pub enum Event {
     /// Makes a drive with that key and that capacity in bytes.
     Drive {
@@ -206,6 +209,24 @@ pub enum EventErr {
     /// There was no memory.
     #[error("out of memory")]
     Memory,
+}
+
+impl EventErr {
+    /// The name of the cause, as an error line has it.
+    pub fn name(self) -> &'static str
+        ensures { result.now ≡ event_error_name self }
+    {
+        match self {
+            EventErr::NotYet => "NotYet",
+            EventErr::UnknownWord => "UnknownWord",
+            EventErr::BadName => "BadName",
+            EventErr::BadNumber => "BadNumber",
+            EventErr::BadHex => "BadHex",
+            EventErr::Missing => "Missing",
+            EventErr::Extra => "Extra",
+            EventErr::Memory => "Memory",
+        }
+    }
 }
 
 impl From<Memory> for EventErr {

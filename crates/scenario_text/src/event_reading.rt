@@ -1,36 +1,51 @@
 ghost use Rattle.std.specs.Prelude.{◌≡◌, ◌↔◌, Ok, Err, IfOk, IfErr, IfSome, IsTrue};
 ghost use Rattle.scenario_text.specs.Reading.{GivesOrMemory};
 ghost use Rattle.scenario_text.specs.Form.{reads, reads_line, Reads, Gives};
-ghost use Rattle.scenario_text.specs.EventForms.{call_form, map_form, upkeep_by, traffic_by, event_by, event_form};
+ghost use Rattle.scenario_text.specs.EventForms.{call_form_of, call_form, map_form, setup_form, traffic_form};
+ghost use Rattle.scenario_text.specs.EventForms.{upkeep_form, event_by, event_form};
 ghost use Rattle.scenario_text.specs.declared.event.Event.{Event};
 ghost use Rattle.scenario_text.specs.declared.hexadecimal.Digits.TheVariants.{Either};
 ghost use Rattle.scenario_text.specs.Words.{words_of};
 ghost use Rattle.scenario_text.specs.Spelling.{Fits, Spells, IsSkipped, GivesEvent};
 ghost use Rattle.scenario_text.specs.Refusals.{IsRefusal};
 
-use crate::by_table::by_table;
+use crate::by_table::by_kind;
 use crate::event::{Call, Event, EventErr, FileMap};
 use crate::hexadecimal::Digits;
+use crate::keyword::{
+    SetupWord, TrafficWord, UpkeepWord, call_kind, setup_word, traffic_word, upkeep_word,
+};
+use crate::line::CallKind;
 use crate::words::Words;
 use std::alloc::Global;
 
-#[tactic(auto, unfolding(crate::specs::EventForms::call_form))]
-fn call(alloc: Global, digits: Digits, words: &mut Words) -> Result<Call, EventErr>
-    ensures { Gives (reads (call_form digits) words.old) result words.new }
+// The call of that kind.
+fn call_of(
+    alloc: Global,
+    digits: Digits,
+    what: CallKind,
+    words: &mut Words,
+) -> Result<Call, EventErr>
+    ensures { Gives (reads (call_form_of digits what) words.old) result words.new }
 {
-    by_table!(words.word()?;
-        b"write" => Call::Write {
+    by_kind!(what;
+        CallKind::Write => Call::Write {
             file: words.name()?,
             offset: words.u64()?,
             bytes: words.bytes(alloc, digits)?,
         },
-        b"read" => Call::Read {
-            file: words.name()?,
-            offset: words.u64()?,
-            length: words.u64()?,
-        };
-        else Err(EventErr::UnknownWord)
+        CallKind::Read => Call::Read { file: words.name()?, offset: words.u64()?, length: words.u64()? },
     )
+}
+
+#[tactic(auto, unfolding(crate::specs::EventForms::call_by))]
+fn call(alloc: Global, digits: Digits, words: &mut Words) -> Result<Call, EventErr>
+    ensures { Gives (reads (call_form digits) words.old) result words.new }
+{
+    match call_kind(words.word()?) {
+        Some(what) => call_of(alloc, digits, what, words),
+        None => Err(EventErr::UnknownWord),
+    }
 }
 
 #[tactic(auto, unfolding(crate::specs::EventForms::map_form))]
@@ -47,42 +62,62 @@ fn map(words: &mut Words) -> Result<FileMap, EventErr>
     })
 }
 
-// An event of the server's work, of clocks or of faults.
-#[tactic(auto, unfolding(crate::specs::EventForms::upkeep_by))]
-fn upkeep(word: &[u8], words: &mut Words) -> Result<Event, EventErr>
-    ensures { Reads (reads (upkeep_by word.now) words.old) result words.new }
+// What makes parties or settings.
+fn setup(digits: Digits, what: SetupWord, words: &mut Words) -> Result<Event, EventErr>
+    ensures { Reads (reads (setup_form digits what) words.old) result words.new }
 {
-    by_table!(word;
-        b"clock" => Event::Clock { machine: words.machine()?, time: words.u64()? },
-        b"recall" => Event::Recall { file: words.name()? },
-        b"revoke" => Event::Revoke { file: words.name()? },
-        b"rebuild" => Event::Rebuild { file: words.name()? },
-        b"audit" => Event::Audit { file: words.name()? },
-        b"declare" => Event::Declare { drive: words.name()? },
-        b"stop" => Event::Stop { client: words.name()? },
-        b"fail" => Event::Fail { drive: words.name()? },
-        b"crash" => Event::Crash { machine: words.machine()? },
-        b"reopen" => Event::Reopen { machine: words.machine()? };
-        else Err(EventErr::UnknownWord)
+    by_kind!(what;
+        SetupWord::Drive => Event::Drive { drive: words.name()?, key: words.key(digits)?, capacity: words.u64()? },
+        SetupWord::Disk => Event::Disk { drive: words.name()?, key: words.key(digits)?, capacity: words.u64()? },
+        SetupWord::Client => Event::Client { client: words.name()? },
+        SetupWord::File => Event::File { file: words.name()?, map: map(words)?, tag: words.tag()? },
+        SetupWord::ZonedFile => Event::ZonedFile { file: words.name()?, map: map(words)?, tag: words.tag()? },
+        SetupWord::Zone => Event::Zone { drive: words.name()?, zone: words.u32()? },
+        SetupWord::Least => Event::Least { drive: words.name()?, format: words.format()? },
+        SetupWord::Format => {
+            words.server()?;
+            Event::Format { format: words.format()? }
+        },
     )
 }
 
-// An event of calls and messages, or one of the others.
-#[tactic(auto, unfolding(crate::specs::EventForms::traffic_by))]
-fn traffic(alloc: Global, digits: Digits, word: &[u8], words: &mut Words) -> Result<Event, EventErr>
-    ensures { Gives (reads (traffic_by digits word.now) words.old) result words.new }
+// An event of calls or messages.
+fn traffic(
+    alloc: Global,
+    digits: Digits,
+    what: TrafficWord,
+    words: &mut Words,
+) -> Result<Event, EventErr>
+    ensures { Gives (reads (traffic_form digits what) words.old) result words.new }
 {
-    by_table!(word;
-        b"do" => Event::Do { client: words.name()?, call: call(alloc, digits, words)? },
-        b"call" => Event::Call { client: words.name()?, call: call(alloc, digits, words)? },
-        b"deliver" => Event::Deliver { message: words.u64()? },
-        b"drop" => Event::DropMessage { message: words.u64()? },
-        b"settle" => Event::Settle,
-        b"resend" => Event::Resend { sender: words.sender()? },
-        b"timeout" => Event::Timeout { client: words.name()?, component: words.u32()? },
-        b"leave" => Event::Leave { client: words.name()? },
-        b"inject" => Event::Inject { drive: words.name()?, bytes: words.bytes(alloc, digits)? };
-        else upkeep(word, words)
+    by_kind!(what;
+        TrafficWord::Do => Event::Do { client: words.name()?, call: call(alloc, digits, words)? },
+        TrafficWord::Call => Event::Call { client: words.name()?, call: call(alloc, digits, words)? },
+        TrafficWord::Deliver => Event::Deliver { message: words.u64()? },
+        TrafficWord::Drop => Event::DropMessage { message: words.u64()? },
+        TrafficWord::Settle => Event::Settle,
+        TrafficWord::Resend => Event::Resend { sender: words.sender()? },
+        TrafficWord::Timeout => Event::Timeout { client: words.name()?, component: words.u32()? },
+        TrafficWord::Leave => Event::Leave { client: words.name()? },
+        TrafficWord::Inject => Event::Inject { drive: words.name()?, bytes: words.bytes(alloc, digits)? },
+    )
+}
+
+// An event of the server's work, of clocks or of faults.
+fn upkeep(what: UpkeepWord, words: &mut Words) -> Result<Event, EventErr>
+    ensures { Reads (reads (upkeep_form what) words.old) result words.new }
+{
+    by_kind!(what;
+        UpkeepWord::Clock => Event::Clock { machine: words.machine()?, time: words.u64()? },
+        UpkeepWord::Recall => Event::Recall { file: words.name()? },
+        UpkeepWord::Revoke => Event::Revoke { file: words.name()? },
+        UpkeepWord::Rebuild => Event::Rebuild { file: words.name()? },
+        UpkeepWord::Audit => Event::Audit { file: words.name()? },
+        UpkeepWord::Declare => Event::Declare { drive: words.name()? },
+        UpkeepWord::Stop => Event::Stop { client: words.name()? },
+        UpkeepWord::Fail => Event::Fail { drive: words.name()? },
+        UpkeepWord::Crash => Event::Crash { machine: words.machine()? },
+        UpkeepWord::Reopen => Event::Reopen { machine: words.machine()? },
     )
 }
 
@@ -96,20 +131,16 @@ fn event_of(
 ) -> Result<Event, EventErr>
     ensures { Gives (reads (event_by digits word.now) words.old) result words.new }
 {
-    by_table!(word;
-        b"drive" => Event::Drive { drive: words.name()?, key: words.key(digits)?, capacity: words.u64()? },
-        b"disk" => Event::Disk { drive: words.name()?, key: words.key(digits)?, capacity: words.u64()? },
-        b"client" => Event::Client { client: words.name()? },
-        b"file" => Event::File { file: words.name()?, map: map(words)?, tag: words.u32_in(1, u32::MAX)? },
-        b"zfile" => Event::ZonedFile { file: words.name()?, map: map(words)?, tag: words.u32_in(1, u32::MAX)? },
-        b"zone" => Event::Zone { drive: words.name()?, zone: words.u32()? },
-        b"least" => Event::Least { drive: words.name()?, format: words.format()? },
-        b"format" => {
-            words.server()?;
-            Event::Format { format: words.format()? }
-        };
-        else traffic(alloc, digits, word, words)
-    )
+    if let Some(what) = setup_word(word) {
+        return setup(digits, what, words);
+    }
+    if let Some(what) = traffic_word(word) {
+        return traffic(alloc, digits, what, words);
+    }
+    match upkeep_word(word) {
+        Some(what) => upkeep(what, words),
+        None => Err(EventErr::UnknownWord),
+    }
 }
 
 // The event of a line's words, or the refusal of the first wrong one.

@@ -1,7 +1,8 @@
 ghost use Rattle.std.specs.Prelude.{◌≡◌, ◌++◌, ◌∷◌, [], OnOk, map};
 ghost use Rattle.scenario_text.specs.Words.{behind};
-ghost use Rattle.scenario_text.specs.Parts.{word_of};
-ghost use Rattle.scenario_text.specs.Spelling.{call_parts, map_parts, sender_part, machine_part, drive_parts, tag as tag_part, event_parts};
+ghost use Rattle.scenario_text.specs.Parts.{word_of, spelled, Fixed as WordPart};
+ghost use Rattle.scenario_text.specs.Spelling.{call_parts, map_parts, sender_part, machine_part, drive_parts};
+ghost use Rattle.scenario_text.specs.Spelling.{tag as tag_part, event_parts};
 ghost use Rattle.scenario_text.specs.Written.{written};
 ghost use Rattle.scenario_text.specs.Groups.{group_of};
 ghost use Rattle.scenario_text.specs.declared.group.Group.TheVariants.{Setup, Traffic, Upkeep};
@@ -80,7 +81,7 @@ fn put_drive<'x>(
     key: &'x [u8; 20],
     capacity: u64,
 ) -> Result<(), Memory>
-    ensures { OnOk result (out.new ≡ out.old ++ behind 32 (word.now ∷ map word_of (drive_parts drive.now key.now capacity))) }
+    ensures { OnOk result (out.new ≡ out.old ++ spelled (WordPart word.now ∷ drive_parts drive.now key.now capacity)) }
 {
     put(
         alloc,

@@ -66,7 +66,7 @@ pub enum LayoutFault {
 }
 
 /// How a call ended that didn't do what it was called to do.
-#[derive(Debug, Drop, PartialEq)]
+#[derive(Drop, PartialEq)]
 pub enum Ending {
     NoFile,
     Held { client: ClientName },
@@ -85,7 +85,7 @@ pub enum Ending {
 }
 
 /// How a call ended.
-#[derive(Debug, Drop, PartialEq)]
+#[derive(Drop, PartialEq)]
 pub enum Outcome {
     /// A write of `length` bytes is done.
     WriteOk { length: u64 },
@@ -115,7 +115,7 @@ pub enum MapFault {
 }
 
 /// What the server notes on a file.
-#[derive(Debug, Drop, PartialEq)]
+#[derive(Drop, PartialEq)]
 pub enum Note {
     /// Each object of the file was made or its component is missing.
     Ready,
@@ -180,7 +180,7 @@ pub enum Note {
 }
 
 /// A line of a transcript.
-#[derive(Debug, Drop)]
+#[derive(Drop)]
 pub enum Line {
     /// The event whose lines follow.
     Event {

@@ -3,15 +3,16 @@ ghost use Rattle.scenario_text.specs.Reading.{GivesOrMemory};
 ghost use Rattle.scenario_text.specs.Form.{reads, reads_line, Reads, Gives};
 ghost use Rattle.scenario_text.specs.Words.{words_of};
 ghost use Rattle.scenario_text.specs.LineSpelling.{LineFits, line_text};
-ghost use Rattle.scenario_text.specs.LineForms.{refusal_form, yes_or_no_form, last_form, line_form};
+ghost use Rattle.scenario_text.specs.LineForms.{refusal_form, yes_or_no_form, last_form, line_form_of, line_form};
 ghost use Rattle.scenario_text.specs.LineRefusals.{GivesLine, IsLineRefusal};
 ghost use Rattle.scenario_text.specs.declared.line.Line.{Line};
 
-use crate::by_table::by_table;
+use crate::by_table::{by_kind, by_table};
 use crate::event::EventErr;
 use crate::event_reading::event;
 use crate::hexadecimal::Digits;
 use crate::line::{Line, Refusal};
+use crate::line_keyword::{LineWord, line_word};
 use crate::note_reading::note;
 use crate::outcome_reading::{delivery, outcome, verdict};
 use crate::words::Words;
@@ -50,28 +51,37 @@ fn last(words: &mut Words) -> Result<Line, EventErr>
     )
 }
 
-// The line of its words, or the refusal of the first wrong one.
-#[tactic(auto, unfolding(crate::specs::LineForms::line_form))]
-fn line(alloc: Global, words: &mut Words) -> Result<Line, EventErr>
-    ensures { Gives (reads line_form words.old) result words.new }
+// The line of its first word.
+fn line_of(alloc: Global, what: LineWord, words: &mut Words) -> Result<Line, EventErr>
+    ensures { Gives (reads (line_form_of what) words.old) result words.new }
 {
-    by_table!(words.word()?;
-        b"=" => Line::Event { event: event(alloc, Digits::Lower, words)? },
-        b"m" => Line::Message {
+    by_kind!(what;
+        LineWord::Event => Line::Event { event: event(alloc, Digits::Lower, words)? },
+        LineWord::Message => Line::Message {
             message: words.u64()?,
             from: words.party()?,
             to: words.party()?,
             bytes: words.bytes(alloc, Digits::Lower)?,
         },
-        b"d" => Line::Delivered { message: words.u64()?, delivery: delivery(words)? },
-        b"j" => Line::Judged { drive: words.name()?, verdict: verdict(words)? },
-        b"t" => Line::TimedOut { client: words.name()?, component: words.u32()? },
-        b"o" => Line::Ended { client: words.name()?, outcome: outcome(alloc, words)? },
-        b"x" => Line::Refused { client: words.name()?, refusal: refusal(words)? },
-        b"f" => Line::Note { file: words.name()?, note: note(alloc, words)? },
-        b"calm" => last(words)?;
-        else Err(EventErr::UnknownWord)
+        LineWord::Delivered => Line::Delivered { message: words.u64()?, delivery: delivery(words)? },
+        LineWord::Judged => Line::Judged { drive: words.name()?, verdict: verdict(words)? },
+        LineWord::TimedOut => Line::TimedOut { client: words.name()?, component: words.u32()? },
+        LineWord::Ended => Line::Ended { client: words.name()?, outcome: outcome(alloc, words)? },
+        LineWord::Refused => Line::Refused { client: words.name()?, refusal: refusal(words)? },
+        LineWord::Note => Line::Note { file: words.name()?, note: note(alloc, words)? },
+        LineWord::Last => last(words)?,
     )
+}
+
+// The line of its words, or the refusal of the first wrong one.
+#[tactic(auto, unfolding(crate::specs::LineForms::line_by))]
+fn line(alloc: Global, words: &mut Words) -> Result<Line, EventErr>
+    ensures { Gives (reads line_form words.old) result words.new }
+{
+    match line_word(words.word()?) {
+        Some(what) => line_of(alloc, what, words),
+        None => Err(EventErr::UnknownWord),
+    }
 }
 
 fn text_line(alloc: Global, text: &[u8]) -> Result<Line, EventErr>

@@ -3,7 +3,10 @@ ghost use Rattle.scenario_text.specs.Words.{behind};
 ghost use Rattle.scenario_text.specs.Parts.{word_of};
 ghost use Rattle.scenario_text.specs.Written.{written};
 ghost use Rattle.scenario_text.specs.Spelling.{event_parts};
-ghost use Rattle.scenario_text.specs.LineSpelling.{party_part, kind_word, layout_fault_word, map_fault_word, refusal_word, yes_or_no, verdict_parts, delivery_parts, ending_parts, outcome_parts, note_parts, head_word, tail_parts, line_text, lines_text, EchoesEvent, SpellsItsEvent};
+ghost use Rattle.scenario_text.specs.LineSpelling.{party_part, kind_word, layout_fault_word, map_fault_word};
+ghost use Rattle.scenario_text.specs.LineSpelling.{refusal_word, yes_or_no, verdict_parts, delivery_parts};
+ghost use Rattle.scenario_text.specs.LineSpelling.{ending_parts, outcome_parts, note_parts, head_word, tail_parts};
+ghost use Rattle.scenario_text.specs.LineSpelling.{last_words, line_text, lines_text, EchoesEvent, SpellsItsEvent};
 
 use crate::event::Event;
 use crate::event_writing::put_event;
@@ -232,7 +235,7 @@ fn put_note(alloc: Global, out: &mut Bytes, note: &Note) -> Result<(), Memory>
 }
 
 fn put_last(alloc: Global, out: &mut Bytes, calm: bool, unguessed: bool) -> Result<(), Memory>
-    ensures { OnOk result (out.new ≡ out.old ++ behind 32 (yes_or_no calm ∷ codes "unguessed" ∷ yes_or_no unguessed ∷ [])) }
+    ensures { OnOk result (out.new ≡ out.old ++ behind 32 (last_words calm unguessed)) }
 {
     let calm = Fixed(yes_or_no_text(calm));
     let unguessed = Fixed(yes_or_no_text(unguessed));

@@ -1,25 +1,20 @@
 ghost use Rattle.scenario_text.specs.Form.{reads, Reads, Gives};
-ghost use Rattle.scenario_text.specs.LineForms.{map_fault_form, refused_form, note_form};
+ghost use Rattle.scenario_text.specs.LineForms.{map_fault_form, refused_form, note_form_of, note_form};
 
-use crate::by_table::by_table;
+use crate::by_table::{by_kind, by_table};
 use crate::event::EventErr;
 use crate::line::{MapFault, Note};
+use crate::line_keyword::{NoteWord, map_fault as map_fault_named, note_word};
 use crate::words::Words;
 use std::alloc::Global;
 
-#[tactic(auto, unfolding(crate::specs::LineForms::map_fault_form))]
 fn map_fault(words: &mut Words) -> Result<MapFault, EventErr>
     ensures { Reads (reads map_fault_form words.old) result words.new }
 {
-    by_table!(words.word()?;
-        b"Unit" => MapFault::Unit,
-        b"TooMany" => MapFault::TooMany,
-        b"TooFew" => MapFault::TooFew,
-        b"Multiple" => MapFault::Multiple,
-        b"Width" => MapFault::Width,
-        b"Depth" => MapFault::Depth;
-        else Err(EventErr::UnknownWord)
-    )
+    match map_fault_named(words.word()?) {
+        Some(why) => Ok(why),
+        None => Err(EventErr::UnknownWord),
+    }
 }
 
 // Why a file wasn't made.
@@ -36,28 +31,37 @@ fn refused(words: &mut Words) -> Result<Note, EventErr>
     )
 }
 
-#[tactic(auto, unfolding(crate::specs::LineForms::note_form))]
-pub(crate) fn note(alloc: Global, words: &mut Words) -> Result<Note, EventErr>
-    ensures { Gives (reads note_form words.old) result words.new }
+// The note of its first word.
+fn note_of(alloc: Global, what: NoteWord, words: &mut Words) -> Result<Note, EventErr>
+    ensures { Gives (reads (note_form_of what) words.old) result words.new }
 {
-    by_table!(words.word()?;
-        b"ready" => Note::Ready,
-        b"fenced" => Note::Fenced { tag: words.u32()? },
-        b"repaired" => Note::Repaired { stripes: words.u64()?, short: words.u64()? },
-        b"rebuilt" => Note::Rebuilt { component: words.u32()?, drive: words.name()? },
-        b"nodrive" => Note::NoDrive { component: words.u32()? },
-        b"lost" => Note::Lost { component: words.u32()?, positions: words.positions(alloc)? },
-        b"nospace" => Note::NoSpace { component: words.u32()? },
-        b"audit" => Note::Audited {
+    by_kind!(what;
+        NoteWord::Ready => Note::Ready,
+        NoteWord::Fenced => Note::Fenced { tag: words.u32()? },
+        NoteWord::Repaired => Note::Repaired { stripes: words.u64()?, short: words.u64()? },
+        NoteWord::Rebuilt => Note::Rebuilt { component: words.u32()?, drive: words.name()? },
+        NoteWord::NoDrive => Note::NoDrive { component: words.u32()? },
+        NoteWord::Lost => Note::Lost { component: words.u32()?, positions: words.positions(alloc)? },
+        NoteWord::NoSpace => Note::NoSpace { component: words.u32()? },
+        NoteWord::Audited => Note::Audited {
             stripes: words.u64()?,
             short: words.u64()?,
             bad: words.u64()?,
             bytes: words.u64()?,
         },
-        b"busy" => Note::Busy { component: words.u32()? },
-        b"spent" => Note::Spent,
-        b"reported" => Note::Reported { component: words.u32()? },
-        b"refused" => refused(words)?;
-        else Err(EventErr::UnknownWord)
+        NoteWord::Busy => Note::Busy { component: words.u32()? },
+        NoteWord::Spent => Note::Spent,
+        NoteWord::Reported => Note::Reported { component: words.u32()? },
+        NoteWord::Refused => refused(words)?,
     )
+}
+
+#[tactic(auto, unfolding(crate::specs::LineForms::note_by))]
+pub(crate) fn note(alloc: Global, words: &mut Words) -> Result<Note, EventErr>
+    ensures { Gives (reads note_form words.old) result words.new }
+{
+    match note_word(words.word()?) {
+        Some(what) => note_of(alloc, what, words),
+        None => Err(EventErr::UnknownWord),
+    }
 }

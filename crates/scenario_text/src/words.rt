@@ -1,7 +1,9 @@
 ghost use Rattle.std.specs.Prelude.{◌≡◌, ◌<◌, ◌≤◌, ◌^◌, ◌-◌, ◌==◌, ◌∷◌, [], position, IsTrue, ◌↔◌, IfOk, MatchResult};
 ghost use Rattle.scenario_text.specs.Words.{parts_left};
 ghost use Rattle.std.specs.List.{slice_split};
-ghost use Rattle.scenario_text.specs.Reading.{first, after, nothing, next_as, positions_of, decimal_of, IsPlain, name_of, number_of, u32_of, u64_of, bytes_of, key_of, is_server, server_of, sender_of, machine_of, party_of, GivesOrMemory};
+ghost use Rattle.scenario_text.specs.Reading.{first, after, nothing, next_as, positions_of, decimal_of, IsPlain};
+ghost use Rattle.scenario_text.specs.Reading.{name_of, number_of, u32_of, u64_of, bytes_of, key_of, is_server};
+ghost use Rattle.scenario_text.specs.Reading.{server_of, sender_of, machine_of, party_of, GivesOrMemory};
 
 use crate::event::{EventErr, Machine, Sender};
 use crate::hexadecimal::{Digits, bytes, key};
@@ -206,6 +208,14 @@ impl<'a> Words<'a> {
         ensures rest { self.new ≡ after self.old }
     {
         number(self.word()?, 0, u64::MAX)
+    }
+
+    // A policy access tag, from 1.
+    pub(crate) fn tag(&mut self) -> Result<u32, EventErr>
+        ensures value { result ≡ next_as (number_of 1 4294967295) self.old }
+        ensures rest { self.new ≡ after self.old }
+    {
+        self.u32_in(1, u32::MAX)
     }
 
     // A capability format, 1 or 2.
