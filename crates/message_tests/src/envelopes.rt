@@ -1,3 +1,7 @@
+use crate::cases::{
+    COMMIT, COMMITTED, CONFLICT, Case, Checked, GET, GRANTED, ORDER, ORDER_ANSWER, RECALL,
+    RECALL_ANSWER, RETURN, RETURNED, TRY_LATER, cases,
+};
 use layout_ops::{
     Answer, Args, Envelope, LayoutCommitArgs, LayoutCommitResult, LayoutGetArgs, LayoutGetOk,
     LayoutGetResult, LayoutRecallArgs, LayoutReturnArgs, LayoutReturnResult, LayoutSegment,
@@ -11,210 +15,19 @@ use std::alloc::Global;
 use std::test::Fail;
 use xdr_codec::XdrErr;
 
-// The bytes were made apart from the crate, by a script over the field lists of RFC 5661 and of
-// docs/MESSAGES.md.
-const COMMIT: &str =
-    "00000001000000010000000200000003000000310000000000001000000000000000200000000001\
-    00000001000102030405060708090a0b000000010000000000002fff00000001fffffffffffffffb\
-    3b9ac9ff00000002000000050102030405000000";
-
-const GET: &str = "00000001000000010000000200000003000000320000000100000002000000020000000000000003\
-    000000000000000a000000000000000400000001000102030405060708090a0b00010000";
-
-const RETURN: &str =
-    "00000001000000010000000200000003000000330000000100000002000000030000000100000000\
-    00000000ffffffffffffffff00000001000102030405060708090a0b00000003aabbcc00";
-
-const COMMITTED: &str =
-    "00000002000000010000000200000003000000310000000000000000000000290000000000000001\
-    000000000000002a";
-
-const GRANTED: &str =
-    "00000002000000010000000200000003000000320000000000000000000000290000000000000001\
-    00000001000102030405060708090a0b000000020000000000000000000000000001000000000001\
-    0000000200000002aabb000000000000000100000000000000010000000000020000000200000001\
-    cc000000";
-
-const TRY_LATER: &str =
-    "00000002000000010000000200000003000000320000000400000000000000290000274a00000001";
-
-const CONFLICT: &str = "00000002000000010000000200000003000000320000000500000000000000290000274d";
-
-const RETURNED: &str =
-    "00000002000000010000000200000003000000330000000000000000000000290000000000000001\
-    00000001000102030405060708090a0b";
-
-const RECALL: &str =
-    "00000003000000010000000600000003000000050000000200000003000000010000000100000005\
-    00000003090000000000000000000000ffffffffffffffff00000001000102030405060708090a0b";
-
-const RECALL_ANSWER: &str = "00000004000000010000000600000003000000050000274c";
-
-const ORDER: &str = "000000050000000400000003";
-
-const ORDER_ANSWER: &str = "000000060000000500000002";
-
-// A number that a reader checks.
-#[derive(Clone, Copy)]
-enum Checked {
-    Enumeration,
-    Bool,
-    Length,
-    LayoutType,
-    FileKind,
-    Operation,
+fn is_refused(alloc: Global, bytes: &[u8], cause: OpErr) -> bool {
+    match read_envelope(alloc, bytes) {
+        Ok(_) => false,
+        Err(refused) => refused == cause,
+    }
 }
 
-// The bytes of a message in hexadecimal, the places at which its items begin, those of its padding
-// bytes, and those of the numbers that a reader checks.
-#[derive(Drop)]
-struct Case {
-    digits: &'static str,
-    items: &'static [u64],
-    padding: &'static [usize],
-    checked: &'static [(usize, Checked)],
+fn of_xdr(cause: XdrErr) -> OpErr {
+    OpErr::Layout(LayoutErr::Xdr(cause))
 }
 
-fn cases() -> [Case; 12] {
-    [
-        Case {
-            digits: COMMIT,
-            items: &[
-                0, 4, 8, 12, 16, 20, 28, 36, 40, 44, 56, 60, 68, 72, 80, 84, 88,
-            ],
-            padding: &[97, 98, 99],
-            checked: &[
-                (0, Checked::Enumeration),
-                (16, Checked::Operation),
-                (36, Checked::Bool),
-                (56, Checked::Bool),
-                (68, Checked::Bool),
-                (84, Checked::LayoutType),
-                (88, Checked::Length),
-            ],
-        },
-        Case {
-            digits: GET,
-            items: &[0, 4, 8, 12, 16, 20, 24, 28, 32, 40, 48, 56, 60, 72],
-            padding: &[],
-            checked: &[
-                (0, Checked::Enumeration),
-                (16, Checked::Operation),
-                (20, Checked::Bool),
-                (24, Checked::LayoutType),
-            ],
-        },
-        Case {
-            digits: RETURN,
-            items: &[0, 4, 8, 12, 16, 20, 24, 28, 32, 36, 44, 52, 56, 68],
-            padding: &[75],
-            checked: &[
-                (0, Checked::Enumeration),
-                (16, Checked::Operation),
-                (20, Checked::Bool),
-                (24, Checked::LayoutType),
-                (32, Checked::FileKind),
-                (68, Checked::Length),
-            ],
-        },
-        Case {
-            digits: COMMITTED,
-            items: &[0, 4, 8, 12, 16, 20, 24, 32, 36, 40],
-            padding: &[],
-            checked: &[
-                (0, Checked::Enumeration),
-                (16, Checked::Operation),
-                (36, Checked::Bool),
-            ],
-        },
-        Case {
-            digits: GRANTED,
-            items: &[
-                0, 4, 8, 12, 16, 20, 24, 32, 36, 40, 44, 56, 60, 68, 76, 80, 84, 92, 100, 108, 112,
-                116,
-            ],
-            padding: &[90, 91, 121, 122, 123],
-            checked: &[
-                (0, Checked::Enumeration),
-                (16, Checked::Operation),
-                (36, Checked::Bool),
-                (56, Checked::Length),
-                (80, Checked::LayoutType),
-                (84, Checked::Length),
-                (112, Checked::LayoutType),
-                (116, Checked::Length),
-            ],
-        },
-        Case {
-            digits: TRY_LATER,
-            items: &[0, 4, 8, 12, 16, 20, 24, 32, 36],
-            padding: &[],
-            checked: &[
-                (0, Checked::Enumeration),
-                (16, Checked::Operation),
-                (36, Checked::Bool),
-            ],
-        },
-        Case {
-            digits: CONFLICT,
-            items: &[0, 4, 8, 12, 16, 20, 24, 32],
-            padding: &[],
-            checked: &[(0, Checked::Enumeration), (16, Checked::Operation)],
-        },
-        Case {
-            digits: RETURNED,
-            items: &[0, 4, 8, 12, 16, 20, 24, 32, 36, 40, 44],
-            padding: &[],
-            checked: &[
-                (0, Checked::Enumeration),
-                (16, Checked::Operation),
-                (36, Checked::Bool),
-            ],
-        },
-        Case {
-            digits: RECALL,
-            items: &[0, 4, 8, 12, 16, 20, 24, 28, 32, 36, 48, 56, 64, 68],
-            padding: &[45, 46, 47],
-            checked: &[
-                (0, Checked::Enumeration),
-                (16, Checked::Operation),
-                (20, Checked::LayoutType),
-                (28, Checked::Bool),
-                (32, Checked::FileKind),
-                (36, Checked::Length),
-            ],
-        },
-        Case {
-            digits: RECALL_ANSWER,
-            items: &[0, 4, 8, 12, 16, 20],
-            padding: &[],
-            checked: &[(0, Checked::Enumeration), (16, Checked::Operation)],
-        },
-        Case {
-            digits: ORDER,
-            items: &[0, 4, 8],
-            padding: &[],
-            checked: &[(0, Checked::Enumeration), (4, Checked::Enumeration)],
-        },
-        Case {
-            digits: ORDER_ANSWER,
-            items: &[0, 4, 8],
-            padding: &[],
-            checked: &[
-                (0, Checked::Enumeration),
-                (4, Checked::Enumeration),
-                (8, Checked::Enumeration),
-            ],
-        },
-    ]
-}
-
-fn refusal(alloc: Global, bytes: &[u8]) -> Option<OpErr> {
-    read_envelope(alloc, bytes).err()
-}
-
-// What the bytes are refused for with another number at a place.
-fn refusal_with(alloc: Global, bytes: &[u8], at: usize, value: u32) -> Result<Option<OpErr>, Fail> {
+// The bytes with another number at a place.
+fn with_number(alloc: Global, bytes: &[u8], at: usize, value: u32) -> Result<Vec<u8>, Fail> {
     let mut changed = Vec::from_slice(alloc, bytes)?;
     let mut place = at;
     for digit in value.to_be_bytes() {
@@ -223,12 +36,29 @@ fn refusal_with(alloc: Global, bytes: &[u8], at: usize, value: u32) -> Result<Op
         }
         place = place.saturating_add(1);
     }
-    Ok(refusal(alloc, &changed))
+    Ok(changed)
+}
+
+fn decoded(alloc: Global, digits: &str) -> Result<Vec<u8>, Fail> {
+    Ok(hex::decode(alloc, digits)?)
 }
 
 fn read(alloc: Global, digits: &str) -> Result<Envelope, Fail> {
-    let bytes = hex::decode(alloc, digits)?;
+    let bytes = decoded(alloc, digits)?;
     Ok(read_envelope(alloc, &bytes)?)
+}
+
+// Whether a message is read as this envelope.
+fn is_read(alloc: Global, digits: &str, expected: Envelope) -> Result<bool, Fail> {
+    Ok(read(alloc, digits)? == expected)
+}
+
+// Whether the envelope of a message is written as the same message.
+fn is_written_again(alloc: Global, digits: &str) -> Result<bool, Fail> {
+    let bytes = decoded(alloc, digits)?;
+    let envelope = read_envelope(alloc, &bytes)?;
+    let written = write_envelope(alloc, &envelope)?;
+    Ok(written.as_slice() == bytes.as_slice())
 }
 
 const STATEID: StateId = StateId {
@@ -236,80 +66,37 @@ const STATEID: StateId = StateId {
     other: [0, 1, 2, 3, 4, 5, 6, 7, 8, 9, 10, 11],
 };
 
-#[test]
-fn a_request_for_a_layout_is_written_again_the_same(rt: HostRuntime) -> Result<(), Fail> {
-    let digits = "0000000100000000000000010000000000000032000000000000000200000002\
-        0000000000000003000000000000000a000000000000000a\
-        00000000000000000000000000000000\
-        00010000";
-    let bytes = hex::decode(rt.alloc(), digits)?;
-    let envelope = read_envelope(rt.alloc(), &bytes)?;
-    let written = write_envelope(rt.alloc(), &envelope)?;
-    assert_eq!(rt; written.as_slice(), bytes.as_slice());
-    assert_eq!(rt;
-        envelope,
-        Envelope::Request(Request {
-            client: 0,
-            sequence: 1,
-            file: 0,
-            args: Args::LayoutGet(LayoutGetArgs {
-                signal_layout_avail: false,
-                iomode: 2,
-                offset: 3,
-                length: 10,
-                minlength: 10,
-                stateid: StateId {
-                    seqid: 0,
-                    other: [0; 12]
-                },
-                maxcount: 65_536
-            })
-        })
-    );
-    let refused = OpErr::UnknownOp { op: 99 };
-    assert_eq!(rt; refusal_with(rt.alloc(), &bytes, 16, 99)?, Some(refused));
-    Ok(())
-}
+const PLAIN_GET: &str = "0000000100000000000000010000000000000032000000000000000200000002\
+    0000000000000003000000000000000a000000000000000a00000000000000000000000000000000\
+    00010000";
 
-#[test]
-fn the_fields_of_a_commit(rt: HostRuntime) -> Result<(), Fail> {
-    let commit = Args::LayoutCommit(LayoutCommitArgs {
-        offset: 4_096,
-        length: 8_192,
-        reclaim: true,
-        stateid: STATEID,
-        last_write_offset: Some(12_287),
-        time: Some(Time {
-            seconds: -5,
-            nanoseconds: 999_999_999,
+fn plain_get() -> Envelope {
+    Envelope::Request(Request {
+        client: 0,
+        sequence: 1,
+        file: 0,
+        args: Args::LayoutGet(LayoutGetArgs {
+            signal_layout_avail: false,
+            iomode: 2,
+            offset: 3,
+            length: 10,
+            minlength: 10,
+            stateid: StateId {
+                seqid: 0,
+                other: [0; 12],
+            },
+            maxcount: 65_536,
         }),
-        body: Bytes::copied(rt.alloc(), &[1, 2, 3, 4, 5])?,
-    });
-    assert_eq!(rt; read(rt.alloc(), COMMIT)?, request(commit));
-    Ok(())
+    })
 }
 
 #[test]
-fn the_fields_of_other_requests(rt: HostRuntime) -> Result<(), Fail> {
-    let get = Args::LayoutGet(LayoutGetArgs {
-        signal_layout_avail: true,
-        iomode: 2,
-        offset: 3,
-        length: 10,
-        minlength: 4,
-        stateid: STATEID,
-        maxcount: 65_536,
-    });
-    assert_eq!(rt; read(rt.alloc(), GET)?, request(get));
-    let give_back = Args::LayoutReturn(LayoutReturnArgs {
-        reclaim: true,
-        iomode: 3,
-        offset: 0,
-        length: u64::MAX,
-        stateid: STATEID,
-        body: Bytes::copied(rt.alloc(), &[0xaa, 0xbb, 0xcc])?,
-    });
-    assert_eq!(rt; read(rt.alloc(), RETURN)?, request(give_back));
+fn a_request_for_a_layout(rt: HostRuntime) -> Result<(), Fail> {
+    let alloc = rt.alloc();
+    assert!(rt; is_read(alloc, PLAIN_GET, plain_get())?);
+    assert!(rt; is_written_again(alloc, PLAIN_GET)?);
+    let changed = with_number(alloc, &decoded(alloc, PLAIN_GET)?, 16, 99)?;
+    assert!(rt; is_refused(alloc, &changed, OpErr::UnknownOp { op: 99 }));
     Ok(())
 }
 
@@ -322,22 +109,50 @@ fn request(args: Args) -> Envelope {
     })
 }
 
+fn commit(alloc: Global) -> Result<Envelope, Fail> {
+    Ok(request(Args::LayoutCommit(LayoutCommitArgs {
+        offset: 4_096,
+        length: 8_192,
+        reclaim: true,
+        stateid: STATEID,
+        last_write_offset: Some(12_287),
+        time: Some(Time {
+            seconds: -5,
+            nanoseconds: 999_999_999,
+        }),
+        body: Bytes::copied(alloc, &[1, 2, 3, 4, 5])?,
+    })))
+}
+
+fn get() -> Envelope {
+    request(Args::LayoutGet(LayoutGetArgs {
+        signal_layout_avail: true,
+        iomode: 2,
+        offset: 3,
+        length: 10,
+        minlength: 4,
+        stateid: STATEID,
+        maxcount: 65_536,
+    }))
+}
+
+fn give_back(alloc: Global) -> Result<Envelope, Fail> {
+    Ok(request(Args::LayoutReturn(LayoutReturnArgs {
+        reclaim: true,
+        iomode: 3,
+        offset: 0,
+        length: u64::MAX,
+        stateid: STATEID,
+        body: Bytes::copied(alloc, &[0xaa, 0xbb, 0xcc])?,
+    })))
+}
+
 #[test]
-fn the_fields_of_answers(rt: HostRuntime) -> Result<(), Fail> {
-    let committed = Results::LayoutCommit(LayoutCommitResult::Committed { new_size: Some(42) });
-    let later = Results::LayoutGet(LayoutGetResult::TryLater { will_signal: true });
-    let conflict = Results::LayoutGet(LayoutGetResult::Refused {
-        status: NFS4ERR_RECALLCONFLICT,
-    });
-    let returned = Results::LayoutReturn(LayoutReturnResult::Returned {
-        stateid: Some(STATEID),
-    });
-    assert_eq!(rt; read(rt.alloc(), COMMITTED)?, answer(0, committed));
-    assert_eq!(rt; read(rt.alloc(), TRY_LATER)?, answer(4, later));
-    assert_eq!(rt; read(rt.alloc(), CONFLICT)?, answer(5, conflict));
-    assert_eq!(rt; read(rt.alloc(), RETURNED)?, answer(0, returned));
-    let granted = Results::LayoutGet(LayoutGetResult::Granted(granted(rt.alloc())?));
-    assert_eq!(rt; read(rt.alloc(), GRANTED)?, answer(0, granted));
+fn the_fields_of_requests(rt: HostRuntime) -> Result<(), Fail> {
+    let alloc = rt.alloc();
+    assert!(rt; is_read(alloc, COMMIT, commit(alloc)?)?);
+    assert!(rt; is_read(alloc, GET, get())?);
+    assert!(rt; is_read(alloc, RETURN, give_back(alloc)?)?);
     Ok(())
 }
 
@@ -352,114 +167,164 @@ fn answer(detail: u32, results: Results) -> Envelope {
     })
 }
 
-fn granted(alloc: Global) -> Result<LayoutGetOk, Fail> {
-    let mut layouts = Sequence::new(alloc);
-    layouts.push(LayoutSegment {
-        offset: 0,
+fn committed() -> Envelope {
+    let result = LayoutCommitResult::Committed { new_size: Some(42) };
+    answer(0, Results::LayoutCommit(result))
+}
+
+fn later() -> Envelope {
+    let result = LayoutGetResult::TryLater { will_signal: true };
+    answer(4, Results::LayoutGet(result))
+}
+
+fn conflict() -> Envelope {
+    let status = NFS4ERR_RECALLCONFLICT;
+    answer(5, Results::LayoutGet(LayoutGetResult::Refused { status }))
+}
+
+fn returned() -> Envelope {
+    let stateid = Some(STATEID);
+    let result = LayoutReturnResult::Returned { stateid };
+    answer(0, Results::LayoutReturn(result))
+}
+
+fn segment(alloc: Global, offset: u64, iomode: u32, body: &[u8]) -> Result<LayoutSegment, Fail> {
+    Ok(LayoutSegment {
+        offset,
         length: 65_536,
-        iomode: 1,
-        body: Bytes::copied(alloc, &[0xaa, 0xbb])?,
-    })?;
-    layouts.push(LayoutSegment {
-        offset: 65_536,
-        length: 65_536,
-        iomode: 2,
-        body: Bytes::copied(alloc, &[0xcc])?,
-    })?;
-    Ok(LayoutGetOk {
-        return_on_close: true,
-        stateid: STATEID,
-        layouts,
+        iomode,
+        body: Bytes::copied(alloc, body)?,
     })
 }
 
+fn granted(alloc: Global) -> Result<Envelope, Fail> {
+    let mut layouts = Sequence::new(alloc);
+    layouts.push(segment(alloc, 0, 1, &[0xaa, 0xbb])?)?;
+    layouts.push(segment(alloc, 65_536, 2, &[0xcc])?)?;
+    let result = LayoutGetOk {
+        return_on_close: true,
+        stateid: STATEID,
+        layouts,
+    };
+    Ok(answer(0, Results::LayoutGet(LayoutGetResult::Granted(result))))
+}
+
 #[test]
-fn the_fields_of_recalls_and_orders(rt: HostRuntime) -> Result<(), Fail> {
-    let recall = Envelope::Recall(Recall {
+fn the_fields_of_answers(rt: HostRuntime) -> Result<(), Fail> {
+    let alloc = rt.alloc();
+    assert!(rt; is_read(alloc, COMMITTED, committed())?);
+    assert!(rt; is_read(alloc, TRY_LATER, later())?);
+    assert!(rt; is_read(alloc, CONFLICT, conflict())?);
+    assert!(rt; is_read(alloc, RETURNED, returned())?);
+    assert!(rt; is_read(alloc, GRANTED, granted(alloc)?)?);
+    Ok(())
+}
+
+fn recall(alloc: Global) -> Result<Envelope, Fail> {
+    Ok(Envelope::Recall(Recall {
         client: 1,
         number: 6,
         file: 3,
         args: LayoutRecallArgs {
             iomode: 3,
             changed: true,
-            file: Bytes::copied(rt.alloc(), &[0, 0, 0, 3, 9])?,
+            file: Bytes::copied(alloc, &[0, 0, 0, 3, 9])?,
             offset: 0,
             length: u64::MAX,
             stateid: STATEID,
         },
-    });
-    let recall_answer = Envelope::RecallAnswer(RecallAnswer {
+    }))
+}
+
+fn recall_answer() -> Envelope {
+    Envelope::RecallAnswer(RecallAnswer {
         client: 1,
         number: 6,
         file: 3,
         status: NFS4ERR_NOMATCHING_LAYOUT,
-    });
-    let order = Envelope::Order(Order {
+    })
+}
+
+fn order() -> Envelope {
+    Envelope::Order(Order {
         order: OrderKind::Rebuild,
         target: 3,
-    });
-    let order_answer = Envelope::OrderAnswer(OrderAnswer {
+    })
+}
+
+fn order_answer() -> Envelope {
+    Envelope::OrderAnswer(OrderAnswer {
         order: OrderKind::Audit,
         result: OrderResult::Spent,
-    });
-    assert_eq!(rt; read(rt.alloc(), RECALL)?, recall);
-    assert_eq!(rt; read(rt.alloc(), RECALL_ANSWER)?, recall_answer);
-    assert_eq!(rt; read(rt.alloc(), ORDER)?, order);
-    assert_eq!(rt; read(rt.alloc(), ORDER_ANSWER)?, order_answer);
+    })
+}
+
+#[test]
+fn the_fields_of_recalls_and_orders(rt: HostRuntime) -> Result<(), Fail> {
+    let alloc = rt.alloc();
+    assert!(rt; is_read(alloc, RECALL, recall(alloc)?)?);
+    assert!(rt; is_read(alloc, RECALL_ANSWER, recall_answer())?);
+    assert!(rt; is_read(alloc, ORDER, order())?);
+    assert!(rt; is_read(alloc, ORDER_ANSWER, order_answer())?);
     Ok(())
 }
 
 #[test]
 fn each_message_is_written_again_the_same(rt: HostRuntime) -> Result<(), Fail> {
     for case in cases().iter() {
-        let bytes = hex::decode(rt.alloc(), case.digits)?;
-        let envelope = read_envelope(rt.alloc(), &bytes)?;
-        let written = write_envelope(rt.alloc(), &envelope)?;
-        assert_eq!(rt; written.as_slice(), bytes.as_slice());
+        assert!(rt; is_written_again(rt.alloc(), case.digits)?);
     }
     Ok(())
+}
+
+// Where the last item begins that does so at `length` or before.
+fn last_item(items: &[u64], length: u64) -> u64 {
+    let mut at = 0;
+    for item in items {
+        if *item <= length {
+            at = *item;
+        }
+    }
+    at
+}
+
+// Whether each prefix is short at the item that is cut, and one more byte is one too many.
+fn has_its_length(alloc: Global, case: &Case) -> Result<bool, Fail> {
+    let mut bytes = decoded(alloc, case.digits)?;
+    for length in 0..bytes.len() {
+        let at = last_item(case.items, length as u64);
+        if !is_refused(alloc, &bytes[..length], of_xdr(XdrErr::Short { at })) {
+            return Ok(false);
+        }
+    }
+    let at = bytes.len() as u64;
+    bytes.push(0)?;
+    Ok(is_refused(alloc, &bytes, of_xdr(XdrErr::Trailing { at })))
 }
 
 #[test]
 fn each_prefix_is_short_at_the_item_that_is_cut(rt: HostRuntime) -> Result<(), Fail> {
     for case in cases().iter() {
-        let bytes = hex::decode(rt.alloc(), case.digits)?;
-        for length in 0..bytes.len() {
-            let mut at = 0;
-            for item in case.items {
-                if *item <= length as u64 {
-                    at = *item;
-                }
-            }
-            assert_eq!(rt;
-                refusal(rt.alloc(), &bytes[..length]),
-                Some(OpErr::Layout(LayoutErr::Xdr(XdrErr::Short { at })))
-            );
-        }
-        let mut longer = bytes;
-        let end = longer.len() as u64;
-        longer.push(0)?;
-        assert_eq!(rt;
-            refusal(rt.alloc(), &longer),
-            Some(OpErr::Layout(LayoutErr::Xdr(XdrErr::Trailing { at: end })))
-        );
+        assert!(rt; has_its_length(rt.alloc(), case)?);
     }
     Ok(())
+}
+
+// Whether a padding byte must be 0.
+fn is_padding(alloc: Global, digits: &str, place: usize) -> Result<bool, Fail> {
+    let mut bytes = decoded(alloc, digits)?;
+    if let Some(byte) = bytes.get_mut(place) {
+        *byte = 1;
+    }
+    let at = place as u64;
+    Ok(is_refused(alloc, &bytes, of_xdr(XdrErr::Padding { at })))
 }
 
 #[test]
 fn each_padding_byte_must_be_zero(rt: HostRuntime) -> Result<(), Fail> {
     for case in cases().iter() {
-        let bytes = hex::decode(rt.alloc(), case.digits)?;
-        for at in case.padding {
-            let mut changed = Vec::from_slice(rt.alloc(), &bytes)?;
-            if let Some(byte) = changed.get_mut(*at) {
-                *byte = 1;
-            }
-            assert_eq!(rt;
-                refusal(rt.alloc(), &changed),
-                Some(OpErr::Layout(LayoutErr::Xdr(XdrErr::Padding { at: *at as u64 })))
-            );
+        for place in case.padding {
+            assert!(rt; is_padding(rt.alloc(), case.digits, *place)?);
         }
     }
     Ok(())
@@ -469,27 +334,26 @@ fn each_padding_byte_must_be_zero(rt: HostRuntime) -> Result<(), Fail> {
 fn wrong(checked: Checked, at: u64) -> (u32, OpErr) {
     match checked {
         Checked::Enumeration => (9, OpErr::Layout(LayoutErr::BadEnum { at, value: 9 })),
-        Checked::Bool => (2, OpErr::Layout(LayoutErr::Xdr(XdrErr::BadBool { at }))),
-        Checked::Length => (
-            65_537,
-            OpErr::Layout(LayoutErr::Xdr(XdrErr::TooMany { at })),
-        ),
+        Checked::Bool => (2, of_xdr(XdrErr::BadBool { at })),
+        Checked::Length => (65_537, of_xdr(XdrErr::TooMany { at })),
         Checked::LayoutType => (1, OpErr::WrongLayoutType { value: 1 }),
         Checked::FileKind => (2, OpErr::WrongReturn { value: 2 }),
         Checked::Operation => (52, OpErr::UnknownOp { op: 52 }),
     }
 }
 
+// Whether a number that can't stand at a place is refused.
+fn is_checked(alloc: Global, digits: &str, place: usize, checked: Checked) -> Result<bool, Fail> {
+    let (value, refused) = wrong(checked, place as u64);
+    let changed = with_number(alloc, &decoded(alloc, digits)?, place, value)?;
+    Ok(is_refused(alloc, &changed, refused))
+}
+
 #[test]
 fn each_number_that_is_checked(rt: HostRuntime) -> Result<(), Fail> {
     for case in cases().iter() {
-        let bytes = hex::decode(rt.alloc(), case.digits)?;
         for (place, checked) in case.checked {
-            let (value, refused) = wrong(*checked, *place as u64);
-            assert_eq!(rt;
-                refusal_with(rt.alloc(), &bytes, *place, value)?,
-                Some(refused)
-            );
+            assert!(rt; is_checked(rt.alloc(), case.digits, *place, *checked)?);
         }
     }
     Ok(())
