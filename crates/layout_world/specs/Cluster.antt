@@ -1,5 +1,6 @@
 -- The drives, clients and files of a world, as lists.
-use Rattle.std.specs.Prelude.{◌≡◌, ℕ, ◌-◌, ◌==◌, ◌&&◌, if◌then◌else◌, IfSome, List, [], ◌++◌, length, take, drop, replicate, Option, Some, None}
+use Rattle.std.specs.Prelude.{◌≡◌, ℕ, ◌-◌, ◌==◌, ◌&&◌, if◌then◌else◌, IfSome, List, [], ◌++◌, length, take, drop}
+use Rattle.std.specs.Prelude.{replicate, Option, Some, None}
 use Rattle.std.specs.Ordering.{nat_cmp}
 use Rattle.std.specs.BTreeMap.{is_at}
 use Rattle.std.specs.List.{fold}
@@ -33,7 +34,8 @@ HasCreated before object after =
 abbrev pub HasWritten : Objects → ℕ → ℕ → List ℕ → Objects → Type 0
 HasWritten before object offset bytes after =
     IfSome (lookup (is_at (nat_cmp object)) before) (λ old.
-    (q : ℕ) → lookup (is_at (nat_cmp q)) after ≡ (if q == object then Some (overwritten old offset bytes) else lookup (is_at (nat_cmp q)) before))
+    (q : ℕ) → lookup (is_at (nat_cmp q)) after ≡
+        (if q == object then Some (overwritten old offset bytes) else lookup (is_at (nat_cmp q)) before))
 
 abbrev pub Drives : Type 0
 Drives = List (ℕ × DriveState)
@@ -58,12 +60,15 @@ bytes_at drives d object = bytes_or_none (object_at drives d object)
 
 -- an object of a drive is empty, and no other object of any drive changed
 abbrev pub Creates : Drives → ℕ → ℕ → Drives → Type 0
-Creates before drive object after = (d o : ℕ) → object_at after d o ≡ (if d == drive && o == object then Some [] else object_at before d o)
+Creates before drive object after =
+    (d o : ℕ) → object_at after d o ≡ (if d == drive && o == object then Some [] else object_at before d o)
 
 -- bytes were written over those of an object of a drive, and no other object of any drive changed
 abbrev pub Writes : Drives → ℕ → ℕ → ℕ → List ℕ → Drives → Type 0
 Writes before drive object offset bytes after =
-    (d o : ℕ) → object_at after d o ≡ (if d == drive && o == object then Some (overwritten (bytes_at before drive object) offset bytes) else object_at before d o)
+    (d o : ℕ) → object_at after d o ≡
+        (if d == drive && o == object then Some (overwritten (bytes_at before drive object) offset bytes)
+        else object_at before d o)
 
 abbrev pub capacity_or_none : Option DriveState → Option ℕ
 capacity_or_none None = None

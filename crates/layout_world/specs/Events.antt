@@ -13,7 +13,8 @@ use Rattle.scenario_text.specs.declared.line.Note.TheVariants.{Ready}
 use Rattle.layout_world.specs.declared.err.WorldErr.{WorldErr}
 use Rattle.layout_world.specs.declared.err.WorldErr.TheVariants.{NoName, Taken, NotYet, Memory}
 use Rattle.layout_world.specs.Names.{IsNamed, IsTaken}
-use Rattle.layout_world.specs.State.{ClusterState, CanAddDrive, AddsDrive, IsClient, AddsClient, CanAddFile, AddsFile, CanWrite, DoesWrite, CanRead, Answers}
+use Rattle.layout_world.specs.State.{ClusterState, CanAddDrive, AddsDrive, IsClient, AddsClient, CanAddFile, AddsFile}
+use Rattle.layout_world.specs.State.{CanWrite, DoesWrite, CanRead, Answers}
 
 -- the map of a `file` event
 abbrev pub raw_of : FileMap → RawMap
@@ -58,7 +59,8 @@ Refuses c e Memory = Unit {0}
 
 -- how a call is answered, and the state that it leaves
 abbrev pub Calls : ClusterState → ℕ → Call → List Line → ClusterState → Type 0
-Calls c k (Write f offset bytes) lines after = (lines ≡ Ended k (WriteOk (length bytes)) ∷ []) × DoesWrite c f offset bytes after
+Calls c k (Write f offset bytes) lines after =
+    (lines ≡ Ended k (WriteOk (length bytes)) ∷ []) × DoesWrite c f offset bytes after
 Calls c k (Read f offset len) lines after =
     (answer : List ℕ) × (lines ≡ Ended k (ReadOk answer) ∷ []) × Answers c f offset len answer × (after ≡ c)
 

@@ -1,5 +1,6 @@
 -- Histories: the lines of a run, the log of each file, and what the drives hold.
-use Rattle.std.specs.Prelude.{◌≡◌, ℕ, ◌==◌, if◌then◌else◌, Bool, true, false, List, [], ◌∷◌, ◌++◌, length, IsSome, Option, Some, None, map}
+use Rattle.std.specs.Prelude.{◌≡◌, ℕ, ◌==◌, if◌then◌else◌, Bool, true, false, List, [], ◌∷◌, ◌++◌, length, IsSome}
+use Rattle.std.specs.Prelude.{Option, Some, None, map}
 use Rattle.std.specs.List.{flat_map}
 use Rattle.scenario_text.specs.declared.event.Event.{Event}
 use Rattle.scenario_text.specs.declared.event.Event.TheVariants.{Do}
@@ -37,7 +38,8 @@ answer_of other = None
 -- what a call adds to the log of file f; a write without bytes adds nothing
 abbrev pub entries_of : ℕ → Call → Option Outcome → List Entry
 entries_of f (WriteCall g offset []) outcome = []
-entries_of f (WriteCall g offset (b ∷ bytes)) outcome = if g == f then Write offset (b ∷ bytes) (acknowledged outcome) ∷ [] else []
+entries_of f (WriteCall g offset (b ∷ bytes)) outcome =
+    if g == f then Write offset (b ∷ bytes) (acknowledged outcome) ∷ [] else []
 entries_of f (ReadCall g offset len) outcome = if g == f then Read offset len (answer_of outcome) ∷ [] else []
 
 abbrev pub event_entries : ℕ → Event → List Line → List Entry
@@ -97,7 +99,8 @@ events_of_steps steps = map (λ s. s.event) steps
 abbrev pub IsRunFrom : ClusterState → List Line → List Step → Type 0
 IsRunFrom c before [] = Unit {0}
 IsRunFrom c before (s ∷ steps) =
-    Carries c s.event s.lines s.after × IsLawful s.after (before ++ s.lines) × IsRunFrom s.after (before ++ s.lines) steps
+    Carries c s.event s.lines s.after × IsLawful s.after (before ++ s.lines)
+        × IsRunFrom s.after (before ++ s.lines) steps
 
 -- a run of a new world
 abbrev pub IsRun : List Step → Type 0
@@ -115,7 +118,8 @@ pub record WorldState : Type 0 where
 
 -- An event was carried out, and the lines behind its own line appended. Whatever history the state stood for,
 -- the new state stands for that history, the event's line and these.
-pub record Steps (before : ClusterState) (e : Event) (lines_before lines_after : List Line) (after : ClusterState) : Type 0 where
+pub record Steps (before : ClusterState) (e : Event) (lines_before lines_after : List Line)
+    (after : ClusterState) : Type 0 where
   pub rest : List Line
   pub appended : lines_after ≡ lines_before ++ rest
   pub carries : Carries before e (EventLine e ∷ rest) after

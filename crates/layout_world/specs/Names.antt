@@ -1,11 +1,14 @@
 -- What events name, and whether it exists.
 use Rattle.std.specs.Prelude.{Option, Some, None, IsSome}
 use Rattle.scenario_text.specs.declared.event.Event.{Event}
-use Rattle.scenario_text.specs.declared.event.Event.TheVariants.{Drive, Disk, Client, Zone, Least, Do, Call, Resend, Timeout, Leave, Inject, Clock, Recall, Revoke, Rebuild, Audit, Declare, Stop, Fail, Crash, Reopen}
+use Rattle.scenario_text.specs.declared.event.Event.TheVariants.{Drive, Disk, Client, Zone, Least, Do, Call, Resend}
+use Rattle.scenario_text.specs.declared.event.Event.TheVariants.{Timeout, Leave, Inject, Clock, Recall, Revoke}
+use Rattle.scenario_text.specs.declared.event.Event.TheVariants.{Rebuild, Audit, Declare, Stop, Fail, Crash, Reopen}
 use Rattle.scenario_text.specs.declared.event.Machine.TheVariants.{Drive as DriveMachine}
 use Rattle.scenario_text.specs.declared.event.Sender.TheVariants.{Client as ClientSender}
 use Rattle.layout_world.specs.declared.names.Subject.{Subject}
-use Rattle.layout_world.specs.declared.names.Subject.TheVariants.{Drive as DriveName, Client as ClientName, File as FileName}
+use Rattle.layout_world.specs.declared.names.Subject.TheVariants.{Drive as DriveName, Client as ClientName}
+use Rattle.layout_world.specs.declared.names.Subject.TheVariants.{File as FileName}
 use Rattle.layout_world.specs.Cluster.{drive_at}
 use Rattle.layout_world.specs.State.{ClusterState, file_at, IsClient}
 

@@ -24,5 +24,6 @@ pub record Chosen (drives : Drives) (count : ℕ) (chosen : List ℕ) : Type 0 w
 -- an empty object was made for each component, and nothing else changed
 pub record Made (before : Drives) (first : ℕ) (chosen : List ℕ) (after : Drives) : Type 0 where
   pub there : (k : ℕ) → k < length chosen → object_at after (slice_index chosen k) (first + k) ≡ Some []
-  pub others : (d o : ℕ) → ((k : ℕ) → k < length chosen → d ≡ slice_index chosen k → o ≡ first + k → ⊥) → object_at after d o ≡ object_at before d o
+  pub others : (d o : ℕ) → ((k : ℕ) → k < length chosen → d ≡ slice_index chosen k → o ≡ first + k → ⊥)
+      → object_at after d o ≡ object_at before d o
   pub drives : (d : ℕ) → capacity_at after d ≡ capacity_at before d

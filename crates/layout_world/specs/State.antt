@@ -1,5 +1,7 @@
 -- The state of a world, and what its calls need and do.
-use Rattle.std.specs.Prelude.{◌≡◌, ℕ, ◌+◌, ◌*◌, ◌<◌, ◌≤◌, ◌==◌, max, Bool, true, false, List, [], ◌∷◌, length, replicate, slice_get, slice_set, Option, Some, None, IsNone, IsSome, IfSome, Ok, if◌then◌else◌}
+use Rattle.std.specs.Prelude.{◌≡◌, ℕ, ◌+◌, ◌*◌, ◌<◌, ◌≤◌, ◌==◌, max, Bool, true, false, List, [], ◌∷◌, length}
+use Rattle.std.specs.Prelude.{replicate, slice_get, slice_set, Option, Some, None, IsNone, IsSome, IfSome, Ok}
+use Rattle.std.specs.Prelude.{if◌then◌else◌}
 use Rattle.std.specs.Ordering.{nat_cmp}
 use Rattle.std.specs.BTreeMap.{is_at, insert_entry}
 use Rattle.std.specs.Map.{lookup}
@@ -40,7 +42,8 @@ pub record IsWellPlaced (drives : Drives) (f : ℕ) (file : StripedFile) : Type 
 
 pub record IsWell (c : ClusterState) : Type 0 where
   pub files : (f : ℕ) (file : StripedFile) → file_at c f ≡ Some file → IsWellPlaced c.drives f file
-  pub unused : (f d o : ℕ) → file_at c f ≡ None → first_of f ≤ o → o < first_of f + OBJECTS_OF_A_FILE → object_at c.drives d o ≡ None
+  pub unused : (f d o : ℕ) → file_at c f ≡ None → first_of f ≤ o → o < first_of f + OBJECTS_OF_A_FILE
+      → object_at c.drives d o ≡ None
   pub clients : length c.clients ≡ CLIENTS
 
 -- ---- drives and clients
@@ -72,7 +75,8 @@ pub record AddsFile (c : ClusterState) (f : ℕ) (map : RawMap) (after : Cluster
   pub on : List ℕ
   pub chosen : Chosen c.drives map.comps on
   pub made : Made c.drives (first_of f) on after.drives
-  pub files : after.files ≡ insert_entry nat_cmp c.files f (record { map = map; size = 0; first = first_of f; drives = on })
+  pub files : after.files ≡
+      insert_entry nat_cmp c.files f (record { map = map; size = 0; first = first_of f; drives = on })
   pub clients : after.clients ≡ c.clients
 
 -- the longest call, and the end of the longest file
@@ -92,21 +96,26 @@ CanWrite c f offset (b ∷ bytes) = InRange offset (length (b ∷ bytes)) × Tak
 abbrev pub RaisesSize : List (ℕ × StripedFile) → ℕ → ℕ → List (ℕ × StripedFile) → Type 0
 RaisesSize before f end after =
     IfSome (lookup (is_at (nat_cmp f)) before) (λ old.
-    (g : ℕ) → lookup (is_at (nat_cmp g)) after ≡ (if g == f then Some (record old { size = max old.size end }) else lookup (is_at (nat_cmp g)) before))
+    (g : ℕ) → lookup (is_at (nat_cmp g)) after ≡
+        (if g == f then Some (record old { size = max old.size end }) else lookup (is_at (nat_cmp g)) before))
 
-pub record StoresAt (c : ClusterState) (f : ℕ) (file : StripedFile) (offset : ℕ) (bytes : List ℕ) (after : ClusterState) : Type 0 where
+pub record StoresAt (c : ClusterState) (f : ℕ) (file : StripedFile) (offset : ℕ) (bytes : List ℕ)
+    (after : ClusterState) : Type 0 where
   pub stored : Stored c.drives file offset bytes after.drives
-  pub files : (g : ℕ) → file_at after g ≡ (if g == f then Some (record file { size = max file.size (offset + length bytes) }) else file_at c g)
+  pub files : (g : ℕ) → file_at after g ≡
+      (if g == f then Some (record file { size = max file.size (offset + length bytes) }) else file_at c g)
   pub clients : after.clients ≡ c.clients
 
 -- a write puts its bytes at their places, and the file reaches at least their end
 abbrev pub DoesWrite : ClusterState → ℕ → ℕ → List ℕ → ClusterState → Type 0
 DoesWrite c f offset [] after = after ≡ c
-DoesWrite c f offset (b ∷ bytes) after = (file : StripedFile) × (file_at c f ≡ Some file) × StoresAt c f file offset (b ∷ bytes) after
+DoesWrite c f offset (b ∷ bytes) after =
+    (file : StripedFile) × (file_at c f ≡ Some file) × StoresAt c f file offset (b ∷ bytes) after
 
 abbrev pub CanRead : ClusterState → ℕ → ℕ → ℕ → Type 0
 CanRead c f offset len = InRange offset len × IsSome (file_at c f)
 
 -- a read gives the bytes of the range that lie below the file's size
 abbrev pub Answers : ClusterState → ℕ → ℕ → ℕ → List ℕ → Type 0
-Answers c f offset len answer = (file : StripedFile) × (file_at c f ≡ Some file) × Loaded c.drives file offset (given offset len file.size) answer
+Answers c f offset len answer =
+    (file : StripedFile) × (file_at c f ≡ Some file) × Loaded c.drives file offset (given offset len file.size) answer

@@ -14,7 +14,8 @@ component_bytes drives file k = bytes_at drives (slice_index file.drives k) (fil
 
 -- the byte at the place of byte l of the file
 abbrev pub byte_of : Drives → StripedFile → ℕ → ℕ
-byte_of drives file l = slice_index (component_bytes drives file (place_of file.map l).position) (place_of file.map l).offset
+byte_of drives file l =
+    slice_index (component_bytes drives file (place_of file.map l).position) (place_of file.map l).offset
 
 -- the drives hold these bytes of the file at their places, and zeros behind them
 abbrev pub Holds : Drives → StripedFile → List ℕ → Type 0
@@ -22,7 +23,8 @@ Holds drives file bytes = (l : ℕ) → byte_of drives file l ≡ slice_index by
 
 -- each component stands on a drive
 abbrev pub Stands : Drives → StripedFile → Type 0
-Stands drives file = (k : ℕ) → k < file.map.comps → IsSome (object_at drives (slice_index file.drives k) (file.first + k))
+Stands drives file =
+    (k : ℕ) → k < file.map.comps → IsSome (object_at drives (slice_index file.drives k) (file.first + k))
 
 -- plain striping: one group, no mirrors, RAID 0
 abbrev pub IsPlain : RawMap → Type 0
@@ -30,12 +32,15 @@ IsPlain m = (m.width ≡ 0) × (m.depth ≡ 0) × (m.mirrors ≡ 0) × (m.algori
 
 -- a file of a checked map of plain striping has a drive for each component
 abbrev pub IsFormed : StripedFile → Type 0
-IsFormed file = IsChecked file.map × (length file.drives ≡ file.map.comps) × (file.first < 9_223_372_036_854_775_808) × IsPlain file.map
+IsFormed file =
+    IsChecked file.map × (length file.drives ≡ file.map.comps) × (file.first < 9_223_372_036_854_775_808)
+    × IsPlain file.map
 
 -- each byte of the range lies inside its component and what the component's drive has free
 abbrev pub HasRoom : Drives → StripedFile → ℕ → ℕ → Type 0
 HasRoom drives file offset len = (l : ℕ) → offset ≤ l → l < offset + len →
-    (place_of file.map l).offset < length (component_bytes drives file (place_of file.map l).position) + free_at drives (slice_index file.drives (place_of file.map l).position)
+    (place_of file.map l).offset < length (component_bytes drives file (place_of file.map l).position)
+        + free_at drives (slice_index file.drives (place_of file.map l).position)
 
 -- an object that is no component of the file
 abbrev pub IsOther : StripedFile → ℕ → ℕ → Type 0
@@ -56,7 +61,9 @@ pub record Stored (before : Drives) (file : StripedFile) (offset : ℕ) (bytes :
   pub written : (old : List ℕ) → Holds before file old → Holds after file (overwritten old offset bytes)
   pub others : (d o : ℕ) → IsOther file d o → object_at after d o ≡ object_at before d o
   pub stands : Stands after file
-  pub reaches : (k : ℕ) → k < file.map.comps → Reaches file offset (length bytes) k (length (component_bytes before file k)) (length (component_bytes after file k))
+  pub reaches : (k : ℕ) → k < file.map.comps
+      → Reaches file offset (length bytes) k
+          (length (component_bytes before file k)) (length (component_bytes after file k))
   pub capacity : (d : ℕ) → capacity_at after d ≡ capacity_at before d
 
 -- the bytes of a range of the file, each from its place

@@ -4,7 +4,8 @@ ghost use Rattle.std.specs.BTreeMap.{is_at};
 ghost use Rattle.std.specs.Map.{lookup};
 ghost use Rattle.scenario_text.specs.declared.names.TheConstants.{CLIENTS, FILES};
 ghost use Rattle.layout_world.specs.Striped.{IsPlain};
-ghost use Rattle.layout_world.specs.State.{new_cluster, IsWell, CanAddDrive, AddsDrive, AddsClient, CanAddFile, AddsFile, InRange, CanWrite, DoesWrite, CanRead, Answers, RaisesSize};
+ghost use Rattle.layout_world.specs.State.{new_cluster, IsWell, CanAddDrive, AddsDrive, AddsClient, CanAddFile};
+ghost use Rattle.layout_world.specs.State.{AddsFile, InRange, CanWrite, DoesWrite, CanRead, Answers, RaisesSize};
 ghost use Rattle.layout_world.specs.Names.{Exists};
 ghost use Rattle.layout_world.specs.Events.{Denies, IsKept};
 

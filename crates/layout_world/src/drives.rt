@@ -1,9 +1,11 @@
-ghost use Rattle.std.specs.Prelude.{◌≡◌, ◌+◌, ◌<◌, ◌≤◌, ◌^◌, ◌++◌, ◌∷◌, ◌==◌, ◌&&◌, ◌↔◌, ℕ, [], length, take, drop, if◌then◌else◌, IfOk, OnOk, OnErr, IsSome, IsTrue, IfSome};
+ghost use Rattle.std.specs.Prelude.{◌≡◌, ◌+◌, ◌<◌, ◌≤◌, ◌^◌, ◌++◌, ◌∷◌, ◌==◌, ◌&&◌, ◌↔◌, ℕ, [], length, take, drop};
+ghost use Rattle.std.specs.Prelude.{if◌then◌else◌, IfOk, OnOk, OnErr, IsSome, IsTrue, IfSome};
 ghost use Rattle.std.specs.Ordering.{nat_cmp};
 ghost use Rattle.std.specs.BTreeMap.{insert_entry};
 ghost use Rattle.std.specs.Option.{option_copied};
 ghost use Rattle.osd_bytes.specs.Overwrite.{overwritten};
-ghost use Rattle.layout_world.specs.Cluster.{new_drive, drive_at, object_at, bytes_at, capacity_at, free_at, bytes_or_none, window, Creates, Writes};
+ghost use Rattle.layout_world.specs.Cluster.{new_drive, drive_at, object_at, bytes_at, capacity_at, free_at};
+ghost use Rattle.layout_world.specs.Cluster.{bytes_or_none, window, Creates, Writes};
 ghost use Rattle.layout_world.specs.Placing.{loads_of};
 
 use crate::drive::PlainDrive;
