@@ -54,6 +54,8 @@ all_told d now c = (none_applies (all_rows d now c) refl, performs_where_none (a
 -- what the rows on the object say, where none of them applies
 pub record IsClear (s : StoreView) (c : Command) : Type 0 where
   pub finds : finds_object s c ≡ false
+  pub size : nat_lt MAX_LENGTH c.length ≡ false
+  pub value : (has_value c.action && nat_lt MAX_VALUE (length c.payload)) ≡ false
   pub range : (has_range c.action && nat_lt MAX_END (c.offset + c.length)) ≡ false
   pub tag : (is_set_tag c.action && of_object (λ o. nat_eq o.tag MAX_TAG) s.object) ≡ false
   pub space : lacks_space s c ≡ false
@@ -68,13 +70,15 @@ clear_late s c e =
     let value = has_value c.action && nat_lt MAX_VALUE (length c.payload) in
     let tag = is_set_tag c.action && of_object (λ o. nat_eq o.tag MAX_TAG) s.object in
     let count = is_create c.action && nat_le MAX_OBJECTS s.objects in
-    let past_length = (neither (nat_lt MAX_LENGTH c.length) (range || (value || (tag || count))) rows.1.1.1.0).1 in
-    let past_range = neither range (value || (tag || count)) past_length in
-    let past_value = (neither value (tag || count) past_range.1).1 in
+    let past_length = neither (nat_lt MAX_LENGTH c.length) (range || (value || (tag || count))) rows.1.1.1.0 in
+    let past_range = neither range (value || (tag || count)) past_length.1 in
+    let past_value = neither value (tag || count) past_range.1 in
     record {
       finds = rows.1.0;
+      size = past_length.0;
+      value = past_value.0;
       range = past_range.0;
-      tag = (neither tag count past_value).0;
+      tag = (neither tag count past_value.1).0;
       space = rows.1.1.1.1.0;
       lane = rows.1.1.1.1.1.0;
       attribute = rows.1.1.1.1.1.1.1.0;

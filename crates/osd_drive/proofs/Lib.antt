@@ -2,4 +2,5 @@ pub mod Clear
 pub mod Ready
 pub mod LaneLaws
 pub mod Repeated
+pub mod ShortLaws
 pub mod ServingLaws

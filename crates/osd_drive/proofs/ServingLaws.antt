@@ -15,7 +15,7 @@ use Rattle.osd_serving.specs.declared.inbox.TheConstants.{MAX_TAKEN}
 use Rattle.osd_serving.proofs.TalkLaws.{talked-nil, talked-put, talked-same, talked-taken, told-then}
 use Rattle.osd_drive.specs.State.{DriveState}
 use Rattle.osd_drive.specs.Effects.{drive_after}
-use Rattle.osd_drive.specs.Serving.{AcceptsOne, Answers, Ends, Handled, HasLongReply, IsOver, Serves, ServesAll, ServesConnection, ServesMore, after_all, frames, reply_bytes}
+use Rattle.osd_drive.specs.Serving.{AcceptsOne, Answers, Ends, Handled, IsOver, Serves, ServesAll, ServesConnection, ServesMore, after_all, frames, reply_bytes}
 
 -- ---- one more record
 
@@ -32,15 +32,6 @@ frames-more d [] h = append-nil _
 frames-more d (g ∷ hs) h =
     ap (λ (x : List ℕ). framed (reply_bytes d g.time g.message) ++ x) (frames-more (drive_after d g.time g.message) hs h)
     ∙ sym (append_assoc (framed (reply_bytes d g.time g.message)) (frames (drive_after d g.time g.message) hs) _)
-
-long-more : (d : DriveState) (hs : List Handled) (h : Handled) → HasLongReply d hs → HasLongReply d (hs ++ h ∷ [])
-long-more d [] h l = absurd l
-long-more d (g ∷ hs) h (inl l) = inl l
-long-more d (g ∷ hs) h (inr r) = inr (long-more (drive_after d g.time g.message) hs h r)
-
-long-last : (d : DriveState) (hs : List Handled) (h : Handled) → MAX_RECORD < length (reply_bytes (after_all d hs) h.time h.message) → HasLongReply d (hs ++ h ∷ [])
-long-last d [] h l = inl l
-long-last d (g ∷ hs) h l = inr (long-last (drive_after d g.time g.message) hs h l)
 
 fewer-then : (a b c : Faults) → NoFewer a b → NoFewer b c → NoFewer a c
 fewer-then a b c p q = record {
@@ -68,7 +59,7 @@ more-of : (puts still : Bool) (first new : DriveState) (begin before now : Ends)
     → new ≡ drive_after (after_all first handled) time message
     → Talked begin.told now.told taken put → frames first handled ++ framed (reply_bytes (after_all first handled) time message) ≡ put ++ unput
     → NoFewer begin.faults now.faults → (still ≡ true → unput ≡ [])
-    → (still ≡ false → Rose begin.faults.accepted now.faults.accepted ⊎ HasLongReply first (handled ++ handled_at time message ∷ []))
+    → (still ≡ false → Rose begin.faults.accepted now.faults.accepted)
     → Serves still first new begin now taken (handled ++ handled_at time message ∷ [])
 more-of puts still first new begin before now taken handled time message put unput told tells state talked replies faults stands broke = record {
   put = put;
@@ -101,20 +92,15 @@ answered true false first new begin before now taken handled message s a =
     (fewer-then _ _ _ s.faults a.reply.1.0) (λ e. absurd (cc e)) (λ e. cause a.reply.1.1)
   where
     cause : Rose before.faults.accepted now.faults.accepted ⊎ (MAX_RECORD < length (reply_bytes (after_all first handled) a.time message))
-        → Rose begin.faults.accepted now.faults.accepted ⊎ HasLongReply first (handled ++ handled_at a.time message ∷ [])
-    cause (inl r) = inl (rose-later _ _ _ s.faults.accepted r)
-    cause (inr l) = inr (long-last first handled (handled_at a.time message) l)
+        → Rose begin.faults.accepted now.faults.accepted
+    cause (inl r) = rose-later _ _ _ s.faults.accepted r
+    cause (inr long) = absurd (omega (arith, long, a.short))
 answered false still first new begin before now taken handled message s a =
     let reply = framed (reply_bytes (after_all first handled) a.time message) in
     more-of false still first new begin before now taken handled a.time message s.put (s.unput ++ reply) s.times a.told a.state
     (talked-same _ _ _ taken s.put s.talked a.reply.1)
     (ap (λ (x : List ℕ). x ++ reply) s.replies ∙ append_assoc s.put s.unput reply)
-    (fewer-same _ _ _ s.faults a.reply.2) (λ e. absurd (cc (sym e ∙ a.reply.0))) (λ e. cause (s.broke refl))
-  where
-    cause : Rose begin.faults.accepted before.faults.accepted ⊎ HasLongReply first handled
-        → Rose begin.faults.accepted now.faults.accepted ⊎ HasLongReply first (handled ++ handled_at a.time message ∷ [])
-    cause (inl r) = inl (subst (λ (x : Faults). Rose begin.faults.accepted x.accepted) (sym a.reply.2) r)
-    cause (inr l) = inr (long-more first handled (handled_at a.time message) l)
+    (fewer-same _ _ _ s.faults a.reply.2) (λ e. absurd (cc (sym e ∙ a.reply.0))) (λ e. subst (λ (x : Faults). Rose begin.faults.accepted x.accepted) (sym a.reply.2) (s.broke refl))
 
 pub serves-answered : (puts still : Bool) (first old new : DriveState) (begin before now : Ends) (taken : List ℕ) (handled : List Handled) (message : List ℕ)
     → Serves puts first old begin before taken handled → Answers puts still old new before now message
@@ -169,13 +155,8 @@ serving-taken puts first new begin before now taken piece handled s w fewer same
   times = subst (λ (ts : Option (List ℕ)). Told begin.times (map (λ (h : Handled). h.time) handled) ts) (sym same) s.times;
   faults = fewer-then _ _ _ s.faults fewer;
   stands = s.stands;
-  broke = λ e. cause (s.broke e);
+  broke = λ e. rose-before _ _ _ (s.broke e) fewer.accepted;
 }
-  where
-    cause : Rose begin.faults.accepted before.faults.accepted ⊎ HasLongReply first handled
-        → Rose begin.faults.accepted now.faults.accepted ⊎ HasLongReply first handled
-    cause (inl r) = inl (rose-before _ _ _ r fewer.accepted)
-    cause (inr l) = inr l
 
 pub serving-none : (d : DriveState) (before : Ends) → Serves true d d before before [] []
 serving-none d before = record {

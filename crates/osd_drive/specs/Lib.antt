@@ -2,4 +2,5 @@ pub mod State
 pub mod Table
 pub mod Effects
 pub mod Repeats
+pub mod Short
 pub mod Serving

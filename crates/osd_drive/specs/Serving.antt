@@ -40,12 +40,6 @@ abbrev pub frames : DriveState → List Handled → List ℕ
 frames d [] = []
 frames d (h ∷ hs) = framed (reply_bytes d h.time h.message) ++ frames (drive_after d h.time h.message) hs
 
--- a reply that no record can carry
-abbrev pub HasLongReply : DriveState → List Handled → Type 0
-HasLongReply d [] = ⊥
-HasLongReply d (h ∷ hs) =
-    (MAX_RECORD < length (reply_bytes d h.time h.message)) ⊎ HasLongReply (drive_after d h.time h.message) hs
-
 -- ---- one record
 
 -- its reply is put, unless one before it wasn't
@@ -60,6 +54,7 @@ pub record Answers (puts still : Bool) (old new : DriveState) (before now : Ends
   pub told : TellsTime before.times now.times time
   pub state : new ≡ drive_after old time message
   pub reply : PutsReply puts still (reply_bytes old time message) before now
+  pub short : length (reply_bytes old time message) ≤ MAX_RECORD
 
 -- ---- the records of a connection
 
@@ -73,7 +68,7 @@ pub record Serves (puts : Bool) (old new : DriveState) (before now : Ends) (take
   pub times : Told before.times (map (λ h. h.time) handled) now.times
   pub faults : NoFewer before.faults now.faults
   pub stands : puts ≡ true → unput ≡ []
-  pub broke : puts ≡ false → Rose before.faults.accepted now.faults.accepted ⊎ HasLongReply old handled
+  pub broke : puts ≡ false → Rose before.faults.accepted now.faults.accepted
 
 -- these records are handled behind all that was before on the connection
 abbrev pub ServesMore : (puts still : Bool) → (old new : DriveState) → (before now : Ends) → List (List ℕ) → Type 0

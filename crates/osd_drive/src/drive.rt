@@ -2,6 +2,7 @@ ghost use Rattle.std.specs.Prelude.{◌≡◌, ◌≤◌, ◌↔◌, max, IfOk, 
 ghost use Rattle.osd_commands.specs.declared.actions.Action.TheVariants.{SetAttr, Write};
 ghost use Rattle.osd_commands.specs.Commands.{allows, Holds};
 ghost use Rattle.osd_objects.specs.declared.attributes.TheConstants.{FIRST_USER_ATTRIBUTE};
+ghost use Rattle.osd_drive.specs.declared.limits.TheConstants.{MAX_LENGTH};
 ghost use Rattle.osd_drive.specs.declared.verdict.Verdict.TheVariants.{Perform};
 ghost use Rattle.osd_drive.specs.State.{new_drive, key_of_version};
 ghost use Rattle.osd_drive.specs.Table.{is_mutating, has_old_format, has_no_key, has_wrong_check, is_checked, rows_on_object, late_fault, all_rows, first_fault, NoneApplies, IsReady};
@@ -31,10 +32,13 @@ pub struct DriveCore {
 
 impl Model for DriveCore {
     ghost use Rattle.osd_drive.specs.State.{DriveState};
+    ghost use Rattle.osd_drive.specs.Short.{HasShortValues};
 
     ghost Value = { DriveState };
 
     ghost view = { λ d. record { number = d.number; keys = d.keys; least = d.least; store = d.store } };
+
+    ghost invariant = { λ d. HasShortValues d.store };
 }
 
 impl DriveCore {
@@ -136,16 +140,21 @@ impl DriveCore {
         requires attribute { c.now.action ≡ SetAttr → FIRST_USER_ATTRIBUTE ≤ c.now.attribute }
         requires sized { c.now.action ≡ Write → length c.now.payload ≡ c.now.length }
         ensures reply { IfOk result (λ r. r ≡ performed_reply self.old c.now) }
+        ensures short { IfOk result (λ r. length r.payload ≤ MAX_LENGTH) }
         ensures state { OnOk result (self.new ≡ performed self.old c.now) }
         ensures err { OnErr result (self.new ≡ self.old) }
     {
-        perform_on(&mut self.store, alloc, c)
+        match perform_on(&mut self.store, alloc, c) {
+            Ok(reply) => Ok(reply),
+            Err(Memory) => Err(Memory),
+        }
     }
 
     // The reply to a command, which is performed where nothing stands against it.
     fn answer(&mut self, alloc: Global, now: u64, c: &Command) -> Result<Reply, Memory>
         requires sized { IsTrue (allows c.now.action c.now.length (length c.now.payload)) }
         ensures reply { IfOk result (λ r. r ≡ reply_by (first_fault self.old now c.now) self.old c.now) }
+        ensures short { IfOk result (λ r. length r.payload ≤ MAX_LENGTH) }
         ensures state { OnOk result (self.new ≡ state_by (first_fault self.old now c.now) self.old c.now) }
         ensures err { OnErr result (self.new ≡ self.old) }
     {
@@ -167,6 +176,7 @@ impl DriveCore {
     /// Want of memory alone. All memory is taken before anything changes, so then nothing changes.
     pub fn handle(&mut self, alloc: Global, now: u64, message: &[u8]) -> Result<Reply, Memory>
         ensures reply { IfOk result (λ r. r ≡ reply_to self.old now message.now) }
+        ensures short { IfOk result (λ r. length r.payload ≤ MAX_LENGTH) }
         ensures state { OnOk result (self.new ≡ drive_after self.old now message.now) }
         ensures err { OnErr result (self.new ≡ self.old) }
     {

@@ -31,7 +31,8 @@ impl DriveCore {
             return Ok(false);
         }
         let bytes = write_reply(alloc, &reply)?;
-        put_record(alloc, links, bytes.as_slice())
+        let stands = put_record(alloc, links, bytes.as_slice())?;
+        Ok(stands)
     }
 
     // Handles these records in order. Tells whether the connection still stands.

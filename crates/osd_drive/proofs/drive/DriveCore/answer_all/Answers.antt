@@ -1,4 +1,4 @@
-use Rattle.std.proofs.Common.{rules, [], ◌∷◌, ◌∙◌, refl}
+use Rattle.std.proofs.Common.{rules, [], refl}
 use Rattle.std.proofs.lemmas.List.{take_all}
 use Rattle.osd_drive.proofs.ServingLaws.{all-then, more-answered, more-none, take-got}
 use Rattle.osd_drive.proofs.drive.DriveCore.answer_all.Goals as goal

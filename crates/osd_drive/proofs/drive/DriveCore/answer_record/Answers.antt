@@ -1,5 +1,18 @@
-use Rattle.std.proofs.Common.{[], ◌∷◌}
+use Rattle.std.proofs.Common.{rules, ◌≡◌, true, [], ◌∷◌}
+use Rattle.osd_drive.specs.Serving.{reply_bytes}
+use Rattle.osd_drive.proofs.ShortLaws.{spelled-short}
 use Rattle.osd_drive.proofs.drive.DriveCore.answer_record.Goals as goal
+
+pub returns-then-not-puts-clause-answers : goal.returns-then-not-puts-clause-answers
+returns-then-not-puts-clause-answers g c =
+    let short = spelled-short c.in_ok-reply.reply c.in_ok-reply.ensures.short in
+    record {
+      time = c.now-now.result;
+      told = c.now-now.ensures;
+      state = c.in_ok-reply.ensures.state;
+      reply = search rules;
+      short = rw c.in_ok-reply.ensures.reply at short;
+    }
 
 pub returns-then-not-puts-clause-state : goal.returns-then-not-puts-clause-state
 returns-then-not-puts-clause-state g c = (record { time = c.now-now.result; message = c.args.message.now } ∷ [], c.in_ok-reply.ensures.state)
@@ -7,5 +20,21 @@ returns-then-not-puts-clause-state g c = (record { time = c.now-now.result; mess
 pub returns-in_err-bytes-clause-state : goal.returns-in_err-bytes-clause-state
 returns-in_err-bytes-clause-state g c = (record { time = c.now-now.result; message = c.args.message.now } ∷ [], c.in_ok-reply.ensures.state)
 
+pub returns-in_err-stands-clause-state : goal.returns-in_err-stands-clause-state
+returns-in_err-stands-clause-state g c = (record { time = c.now-now.result; message = c.args.message.now } ∷ [], c.in_ok-reply.ensures.state)
+
 pub returns-clause-state : goal.returns-clause-state
 returns-clause-state g c = (record { time = c.now-now.result; message = c.args.message.now } ∷ [], c.in_ok-reply.ensures.state)
+
+pub returns-clause-answers : goal.returns-clause-answers
+returns-clause-answers g c =
+    let short = spelled-short c.in_ok-reply.reply c.in_ok-reply.ensures.short in
+    let stood : c.args.puts ≡ true = search rules in
+    let same : c.as_slice.result.now ≡ reply_bytes c.args.self.now c.now-now.result c.args.message.now = search rules in
+    record {
+      time = c.now-now.result;
+      told = c.now-now.ensures;
+      state = c.in_ok-reply.ensures.state;
+      reply = rw stood (rw same at c.in_ok-stands.ensures.put, rw same at c.in_ok-stands.ensures.cause);
+      short = rw c.in_ok-reply.ensures.reply at short;
+    }
