@@ -1,114 +1,140 @@
-use osd_bytes::{ByteLists, Bytes, Clock, MAX_RECORD, MemClock, MemLinks, Numbers, Times, frame};
+use osd_bytes::{ByteLists, Bytes, Clock, MemClock, MemLinks, Numbers, Times, frame};
 use osd_commands::write_reply;
 use osd_drive::{DriveCore, KeyTable};
-use osd_serving::ServeErr;
 use std::test::Fail;
 
-// Three messages, none of which is a command.
-const MESSAGES: [&[u8]; 3] = [b"a", b"", b"no command"];
+// What comes on each connection, which calls of the links fail, how many answers go out whole on each
+// connection that is accepted, whether so many are served, and what the clock tells next.
+struct Case {
+    name: &'static str,
+    streams: &'static [&'static [u8]],
+    fails: &'static [u32],
+    connections: u32,
+    answers: &'static [usize],
+    served: bool,
+    next_time: u64,
+}
+
+// The streams are records of messages none of which is a command.
+const CASES: [Case; 5] = [
+    Case {
+        name: "each record of each connection is answered, at its own time",
+        streams: &[
+            b"\x80\0\0\x01a\x80\0\0\0",
+            b"\x80\0\0\x0ano command\x80\0\0\x02no",
+        ],
+        fails: &[],
+        connections: 2,
+        answers: &[2, 2],
+        served: true,
+        next_time: 9,
+    },
+    Case {
+        name: "a record that doesn't come whole is none",
+        streams: &[b"\x80\0\0\x01a\x80\0\0\x09part"],
+        fails: &[],
+        connections: 1,
+        answers: &[1],
+        served: true,
+        next_time: 6,
+    },
+    Case {
+        // Calls 0 and 1 accept and take, 2 puts the first answer, 3 would put the second.
+        name: "after an answer that failed records are handled without one",
+        streams: &[b"\x80\0\0\x01a\x80\0\0\0\x80\0\0\x0ano command"],
+        fails: &[3],
+        connections: 1,
+        answers: &[1],
+        served: true,
+        next_time: 8,
+    },
+    Case {
+        name: "records before one that is too long are answered, and none behind it",
+        streams: &[b"\x80\0\0\x01a\0\0\0\x01b\x80\0\0\x01c\x80\x04\x93\xe1\x80\0\0\x01a"],
+        fails: &[],
+        connections: 1,
+        answers: &[2],
+        served: true,
+        next_time: 7,
+    },
+    Case {
+        // Calls 0 and 1 serve the first connection, which is empty; 2 would accept the next.
+        name: "a drive that can accept no connection says so",
+        streams: &[b""],
+        fails: &[2],
+        connections: 2,
+        answers: &[0],
+        served: false,
+        next_time: 5,
+    },
+];
 
 fn drive(rt: &HostRuntime) -> DriveCore {
     DriveCore::new(rt.alloc(), 3, KeyTable::new(rt.alloc()), 1_000_000)
 }
 
-// The messages as records, one behind the other.
-fn records(rt: &HostRuntime, messages: &[&[u8]]) -> Result<Bytes, Fail> {
-    let mut bytes = Bytes::new(rt.alloc());
-    for message in messages.iter() {
-        if message.len() <= MAX_RECORD {
-            bytes.extend_from_slice(frame(rt.alloc(), message)?.as_slice())?;
-        }
+fn links(rt: &HostRuntime, case: &Case) -> Result<MemLinks, Fail> {
+    let mut coming = ByteLists::new(rt.alloc());
+    for stream in case.streams.iter() {
+        coming.push(Bytes::copied(rt.alloc(), stream)?)?;
     }
-    Ok(bytes)
+    let calls = Numbers::copied(rt.alloc(), case.fails)?;
+    Ok(MemLinks::new(rt.alloc(), coming, ByteLists::new(rt.alloc()), calls))
 }
 
-// The answers to so many messages that are no commands.
-fn answers(rt: &HostRuntime, count: usize) -> Result<Bytes, Fail> {
+// The frame of the answer to a message that is no command.
+fn answer(rt: &HostRuntime) -> Result<Bytes, Fail> {
     let reply = drive(rt).handle(rt.alloc(), 0, b"a")?;
     let bytes = write_reply(rt.alloc(), &reply)?;
-    let mut answers = Bytes::new(rt.alloc());
+    Ok(frame(rt.alloc(), bytes.as_slice().get(..40).unwrap_or(b""))?)
+}
+
+// Whether so many answers went out, and nothing else.
+fn are_answers(mut put: &[u8], answer: &Bytes, count: usize) -> bool {
     for _ in 0..count {
-        answers.extend_from_slice(records(rt, &[bytes.as_slice()])?.as_slice())?;
+        match put.strip_prefix(answer.as_slice()) {
+            Some(rest) => put = rest,
+            None => return false,
+        }
     }
-    Ok(answers)
+    put.is_empty()
 }
 
-// Links on whose connections these streams come, and of which these calls fail.
-fn links(rt: &HostRuntime, streams: &[Bytes], fails: &[u32]) -> Result<MemLinks, Fail> {
-    let mut coming = ByteLists::new(rt.alloc());
-    for stream in streams.iter() {
-        coming.push(Bytes::copied(rt.alloc(), stream.as_slice())?)?;
+// Whether on each connection that was accepted the answers went out.
+fn went_out(links: &MemLinks, answer: &Bytes, answers: &[usize]) -> bool {
+    if links.accepts() != answers.len() {
+        return false;
     }
-    let calls = Numbers::copied(rt.alloc(), fails)?;
-    let asked = ByteLists::new(rt.alloc());
-    Ok(MemLinks::new(rt.alloc(), coming, asked, calls))
+    for i in 0..answers.len() {
+        if !are_answers(links.put_on(i), answer, answers[i]) {
+            return false;
+        }
+    }
+    true
 }
 
-fn clock(rt: &HostRuntime) -> Result<MemClock, Fail> {
-    Ok(MemClock::new(Times::copied(rt.alloc(), &[5, 6, 7, 8])?))
+fn serves(rt: &HostRuntime, links: &mut MemLinks, clock: &mut MemClock, connections: u32) -> bool {
+    drive(rt)
+        .serve(rt.alloc(), links, clock, connections)
+        .is_ok()
 }
 
-fn serves(
-    rt: &HostRuntime,
-    links: &mut MemLinks,
-    clock: &mut MemClock,
-    connections: u32,
-) -> Result<(), ServeErr> {
-    drive(rt).serve(rt.alloc(), links, clock, connections)
-}
-
-// Whether exactly these bytes were put on the connection of that number.
-fn was_put(links: &MemLinks, connection: usize, expected: &Bytes) -> bool {
-    connection < links.accepts() && links.put_on(connection) == expected.as_slice()
-}
-
-#[test]
-fn each_record_of_each_connection_is_answered_at_its_own_time(rt: HostRuntime) -> Result<(), Fail> {
-    let first = records(&rt, &MESSAGES[..2])?;
-    let mut second = records(&rt, &MESSAGES[2..])?;
-    // A record that doesn't come whole is none.
-    second.extend_from_slice(&[128, 0, 0, 9, 1])?;
-    let mut ends = links(&rt, &[first, second], &[])?;
-    let mut times = clock(&rt)?;
-    assert_eq!(rt; serves(&rt, &mut ends, &mut times, 2), Ok(()));
-    assert!(rt; was_put(&ends, 0, &answers(&rt, 2)?));
-    assert!(rt; was_put(&ends, 1, &answers(&rt, 1)?));
-    assert_eq!(rt; times.now(), 8);
-    Ok(())
+fn goes_as_it_says(rt: &HostRuntime, case: &Case) -> Result<bool, Fail> {
+    let mut ends = links(rt, case)?;
+    let mut clock = MemClock::new(Times::copied(rt.alloc(), &[5, 6, 7, 8, 9])?);
+    let served = serves(rt, &mut ends, &mut clock, case.connections);
+    let answer = answer(rt)?;
+    Ok(
+        served == case.served
+            && went_out(&ends, &answer, case.answers)
+            && clock.now() == case.next_time,
+    )
 }
 
 #[test]
-fn records_after_an_answer_that_failed_are_handled_without_one(
-    rt: HostRuntime,
-) -> Result<(), Fail> {
-    // Calls 0 and 1 accept and take; the second answer fails.
-    let mut ends = links(&rt, &[records(&rt, &MESSAGES)?], &[3])?;
-    let mut times = clock(&rt)?;
-    assert_eq!(rt; serves(&rt, &mut ends, &mut times, 1), Ok(()));
-    assert!(rt; was_put(&ends, 0, &answers(&rt, 1)?));
-    assert_eq!(rt; times.now(), 8);
-    Ok(())
-}
-
-#[test]
-fn records_before_one_that_is_too_long_are_answered(rt: HostRuntime) -> Result<(), Fail> {
-    let mut stream = records(&rt, &MESSAGES[..2])?;
-    stream.extend_from_slice(&[128, 4, 147, 225])?;
-    stream.extend_from_slice(records(&rt, &MESSAGES)?.as_slice())?;
-    let mut ends = links(&rt, &[stream], &[])?;
-    assert_eq!(rt; serves(&rt, &mut ends, &mut clock(&rt)?, 1), Ok(()));
-    assert!(rt; was_put(&ends, 0, &answers(&rt, 2)?));
-    Ok(())
-}
-
-#[test]
-fn a_drive_that_accepts_no_connection_says_so(rt: HostRuntime) -> Result<(), Fail> {
-    // Calls 0 and 1 serve the first connection, which is empty; call 2 would accept the next.
-    let mut ends = links(&rt, &[Bytes::new(rt.alloc())], &[2])?;
-    assert_eq!(rt;
-        serves(&rt, &mut ends, &mut clock(&rt)?, 2),
-        Err(ServeErr::LinkFault)
-    );
-    assert_eq!(rt; ends.accepts(), 1);
+fn a_drive_serves_connections(rt: HostRuntime) -> Result<(), Fail> {
+    for case in CASES.iter() {
+        assert!(rt; goes_as_it_says(&rt, case)?, "{}", case.name);
+    }
     Ok(())
 }
