@@ -1,0 +1,4 @@
+pub mod State
+pub mod Having
+pub mod Pending
+pub mod Queue
