@@ -1,0 +1,6 @@
+use Rattle.std.proofs.Common.{◌≡◌, ◌++◌, drop}
+use Rattle.stripe_plan.specs.Plans.{columns_of}
+use Rattle.call_io.proofs.reading.fetched.Given as goal
+
+abbrev pub invariant-loop-i : goal.invariant-loop-i
+invariant-loop-i l = columns_of l.map l.parts ++ drop l.i l.fn.got ≡ l.fn.got

@@ -1,0 +1,21 @@
+use Rattle.std.proofs.Common.{rules, ◌∙◌, ◌≡◌, arith, false, true}
+use Rattle.std.specs.Prelude.{◌==◌}
+use Rattle.std.proofs.lemmas.Bool.Decides.{nat_tests}
+use Rattle.client_rules.specs.declared.limits.TheConstants.{PERFORMED}
+use Rattle.client_rules.specs.Commands.{others}
+use Rattle.client_rules.specs.Writes.{scatters_next}
+use Rattle.call_io.specs.State.{Scatters}
+use Rattle.call_io.specs.Phases.{io_of, turn_of}
+use Rattle.call_io.proofs.Ends.{refused_step, performed_step, ok_same}
+use Rattle.call_io.proofs.replies.on_scatter.Goals as goal
+
+pub returns-then-reply-ne-PERFORMED : goal.returns-then-reply-ne-PERFORMED
+returns-then-reply-ne-PERFORMED c =
+    let ne : (c.args.reply.verdict == PERFORMED) ≡ false = grind (arith, nat_tests, c.if-reply-ne-PERFORMED.true) in
+    refused_step c.args.held.now c.args.op.now (Scatters (io_of c.args.io) c.args.queue) c.in-Some.awaited c.args.reply _ c.push.new.self (turn_of c.refused.result.turn) c.refused.result.sent c.in-Some.ensures.found ne (search rules) c.refused.ensures.turn c.refused.ensures.sent
+
+pub returns : goal.returns
+returns c =
+    let y : (c.args.reply.verdict == PERFORMED) ≡ true = grind (arith, nat_tests, c.if-reply-ne-PERFORMED.false) in
+    let same : scatters_next c.args.held.now c.args.op.now c.args.io.timed c.args.queue c.in-Some.awaited.ask.component c.take.new.self ≡ scatters_next c.args.held.now c.args.op.now c.args.io.timed c.args.queue c.in-Some.awaited.ask.component (others c.args.io.pending c.in-Some.awaited.command.nonce) = search rules in
+    ok_same c.scatters_next.result c.args.held.now _ _ (same ∙ performed_step c.args.held.now c.args.op.now (Scatters (io_of c.args.io) c.args.queue) c.in-Some.awaited c.args.reply _ c.in-Some.ensures.found y) c.scatters_next.ensures

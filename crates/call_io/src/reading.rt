@@ -1,0 +1,108 @@
+// Reads: what a read asks of the drives, and how it ends.
+ghost use Rattle.std.specs.Prelude.{◌≡◌, ◌+◌, ◌≤◌, IfOk};
+ghost use Rattle.stripe_plan.specs.Plans.{columns_of};
+ghost use Rattle.client_rules.specs.Io.{outs};
+ghost use Rattle.client_rules.specs.Reads.{reads_on, reads_due, reads_sent, reads};
+ghost use Rattle.call_io.specs.Phases.{counted_move};
+
+use crate::moves::turned;
+use crate::phase::{CallIo, CallMove, CallPhase, CallTurn};
+use call_commands::{await_all, had, out_of, read_commands};
+use client_rules::{AwaitedCommands, Held, Outcome};
+use data_map::{DataMap, MAX_FILE_SIZE};
+use osd_bytes::{Bytes, Memory};
+use std::alloc::Global;
+use stripe_plan::{
+    Aim, Columns, Fetched, Out, Part, PlanErr, Span, asks, assemble, check_readable,
+};
+
+// What was read of positions, as if of their first components. There is no such position where a reply came.
+pub fn fetched(alloc: Global, map: &DataMap, got: &Columns) -> Result<Fetched, Memory>
+    ensures { IfOk result (λ parts. columns_of map.now parts ≡ got.now) }
+{
+    let mut parts = Fetched::new(alloc);
+    for i in 0..got.len() {
+        let column = got.get(i);
+        if column.position >= map.positions() {
+            return Err(Memory);
+        }
+        parts.push(Part {
+            component: map.replica(column.position, 0),
+            offset: column.offset,
+            bytes: Bytes::copied(alloc, column.bytes.as_slice())?,
+        })?;
+    }
+    Ok(parts)
+}
+
+// A read goes on while a reply is awaited; then its bytes are put together.
+pub fn reads_on(
+    alloc: Global,
+    held: &Held,
+    range: Span,
+    io: CallIo,
+    sent: AwaitedCommands,
+) -> Result<CallMove, Memory>
+    requires inside { range.offset + range.length ≤ MAX_FILE_SIZE }
+    ensures { IfOk result (λ m. counted_move held.now m ≡ reads_on held.now range io.got io.timed sent io.pending) }
+{
+    if !io.pending.is_empty() {
+        return Ok(CallMove {
+            turn: CallTurn::Goes {
+                phase: CallPhase::Reads { io },
+            },
+            sent,
+        });
+    }
+    let out = out_of(alloc, held, &io.timed)?;
+    let parts = fetched(alloc, &held.map, &io.got)?;
+    match assemble(alloc, &held.map, range.offset, range.length, &parts, &out) {
+        Ok(bytes) => Ok(CallMove {
+            turn: CallTurn::Ends {
+                outcome: Outcome::ReadOk { bytes },
+            },
+            sent,
+        }),
+        Err(_) => Err(Memory),
+    }
+}
+
+// What the plan asks and isn't had is sent.
+fn reads_sent(
+    alloc: Global,
+    held: &Held,
+    range: Span,
+    io: CallIo,
+    out: &Out,
+) -> Result<CallMove, Memory>
+    requires inside { range.offset + range.length ≤ MAX_FILE_SIZE }
+    requires out { out.now.components ≡ outs held.now io.timed }
+    ensures { IfOk result (λ m. counted_move held.now m
+        ≡ reads_sent held.now range io.got io.timed io.pending (reads_due held.now range io.got io.timed io.pending)) }
+{
+    let mut io = io;
+    let had = had(alloc, io.got.as_slice(), &io.pending)?;
+    let due = asks(alloc, Aim::Reads, &held.map, range, out, had.as_slice())?;
+    let sent = read_commands(alloc, held, due.as_slice())?;
+    await_all(alloc, &mut io.pending, &sent)?;
+    reads_on(alloc, held, range, io, sent)
+}
+
+// A read at its begin, and where a component timed out.
+#[tactic(auto, unfolding(client_rules::specs::Reads::reads))]
+pub fn reads(alloc: Global, held: &Held, range: Span, io: CallIo) -> Result<CallMove, Memory>
+    requires inside { range.offset + range.length ≤ MAX_FILE_SIZE }
+    ensures { IfOk result (λ m. counted_move held.now m ≡ reads held.now range io.got io.timed io.pending) }
+{
+    let out = out_of(alloc, held, &io.timed)?;
+    match check_readable(alloc, &held.map, range, &out) {
+        Ok(()) => reads_sent(alloc, held, range, io, &out),
+        Err(PlanErr::TooManyLost { positions }) => Ok(turned(
+            alloc,
+            CallTurn::Ends {
+                outcome: Outcome::Lost { positions },
+            },
+        )),
+        Err(PlanErr::Memory) => Err(Memory),
+    }
+}
