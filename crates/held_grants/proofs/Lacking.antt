@@ -1,0 +1,54 @@
+-- Stripes that lack nothing.
+use Rattle.std.specs.Prelude.{ℕ, zero, suc, false, List, [], ◌∷◌, Some, None, refl, ◌≡◌, ◌<◌, ◌≤◌, ◌+◌, ◌*◌, is_some}
+use Rattle.std.proofs.Common.{arith, eq-eqb}
+use Rattle.std.proofs.lemmas.Bool.Decides.{nat_tests}
+use Rattle.data_map.specs.declared.check.RawMap.{RawMap}
+use Rattle.data_map.specs.Striping.{replicas, group_width, group_of}
+use Rattle.stripe_plan.specs.declared.plan.Span.{Span}
+use Rattle.stripe_plan.specs.Touched.{stripes}
+use Rattle.stripe_plan.specs.Lost.{source_from, source, is_out, out_from, positions_out, is_short, unwritable}
+use Rattle.client_rules.specs.declared.calls.CallOp.{CallOp}
+use Rattle.client_rules.specs.declared.grants.Held.{Held}
+use Rattle.client_rules.specs.declared.grants.Reach.{Reach}
+use Rattle.client_rules.specs.Grants.{missing_from}
+use Rattle.client_rules.specs.Layouts.{granted_span, is_lacking}
+
+-- ---- no component is out
+
+first_there : (k n : ℕ) → 0 < n → source_from [] k n ≡ Some k
+unfolding source_from
+first_there k zero l = absurd (omega (arith, l))
+first_there k (suc n) l = refl
+
+none_out : (m : RawMap) (p : ℕ) → is_out m [] p ≡ false
+unfolding source
+none_out m p = rw (first_there (p * replicas m) (replicas m) (omega arith)) refl
+
+none_out_from : (m : RawMap) (p n : ℕ) → out_from m [] p n ≡ []
+unfolding out_from
+none_out_from m p zero = refl
+none_out_from m p (suc n) = rw (none_out m p) (none_out_from m (p + 1) n)
+
+none_short : (m : RawMap) (s : ℕ) → is_short m [] s ≡ false
+unfolding is_short positions_out
+none_short m s = rw (none_out_from m (group_of m s * group_width m) (group_width m)) (grind (arith, nat_tests))
+
+pub all_writable : (m : RawMap) (ss : List ℕ) → unwritable m [] ss ≡ None
+unfolding unwritable
+all_writable m [] = refl
+all_writable m (s ∷ ss) = rw (none_short m s) (all_writable m ss)
+
+pub none_lacking : (h : Held) (op : CallOp) → missing_from h.components 0 ≡ [] → is_lacking h op ≡ false
+unfolding is_lacking
+none_lacking h op e = rw e (rw (all_writable h.map _, all_writable h.map _) refl)
+
+-- ---- no byte was granted
+
+no_stripes : (m : RawMap) (r : Span) → r.length ≡ 0 → stripes m r ≡ []
+unfolding stripes
+no_stripes m r e = rw (eq-eqb r.length 0 e) refl
+
+pub none_granted : (m : RawMap) (out : List ℕ) (g : Reach) → g.end ≤ g.first →
+    is_some (unwritable m out (stripes m (granted_span g))) ≡ false
+unfolding unwritable
+none_granted m out g l = rw (no_stripes m (granted_span g) (omega (arith, l))) refl

@@ -1,0 +1,4 @@
+pub mod BodyLengths
+pub mod FileMaps
+pub mod DueLists
+pub mod Lacking
