@@ -1,0 +1,91 @@
+-- Which events are refused, and by which cause first.
+-- The world: drives 0 and 1 with drive 0 failed, clients 0 and 1 with client 1 stopped, file 0, one message.
+use Rattle.std.specs.Prelude.{List, [], ◌∷◌, Option, Some, None, refl, ◌≡◌, map}
+use Rattle.scenario_text.specs.declared.event.Event.{Event}
+use Rattle.scenario_text.specs.declared.event.Event.TheVariants as event
+use Rattle.scenario_text.specs.declared.event.Call.TheVariants as call
+use Rattle.scenario_text.specs.declared.event.Sender.TheVariants as sender
+use Rattle.scenario_text.specs.declared.event.Machine.TheVariants as machine
+use Rattle.world_history.specs.declared.err.WorldErr.{WorldErr}
+use Rattle.world_history.specs.declared.err.WorldErr.TheVariants.{NotYet, NoName, Taken, Dead, Alive, NoMessage}
+use Rattle.world_history.specs.State.{World, empty_world}
+use Rattle.world_history.specs.Refusals.{refusal}
+use Rattle.world_history.proofs.Played.{played_all, drive, file}
+use Rattle.world_history.proofs.Opened.{opened}
+use Rattle.world_history.proofs.OpenedServer.{opened_server}
+
+abbrev world : World
+world = (played_all empty_world (
+    drive 0 ∷
+    event.Client 0 ∷
+    event.Client 1 ∷
+    event.Fail 0 ∷
+    event.Stop 1 ∷
+    file 0 1 1 ∷
+    drive 1 ∷
+    [])).world
+
+abbrev refused : List Event → List (Option WorldErr)
+refused events = map (refusal world) events
+
+-- what is to be made, and files
+pub makes : refused (
+    drive 0 ∷
+    drive 2 ∷
+    event.Client 1 ∷
+    event.Client 2 ∷
+    file 0 1 1 ∷
+    event.Recall 0 ∷
+    event.Recall 1 ∷
+    event.Audit 1 ∷
+    [])
+    ≡ Some Taken ∷ None ∷ Some Taken ∷ None ∷ None ∷ None ∷ Some NoName ∷ Some NoName ∷ []
+unfolding opened opened_server
+makes = refl
+
+-- drives
+pub drives : refused (
+    event.Fail 0 ∷
+    event.Fail 1 ∷
+    event.Fail 2 ∷
+    event.Declare 0 ∷
+    event.Declare 1 ∷
+    event.Declare 2 ∷
+    event.Inject 0 [] ∷
+    event.Least 0 2 ∷
+    event.Clock (machine.Drive 0) 1 ∷
+    event.Clock machine.Server 1 ∷
+    [])
+    ≡ Some Dead ∷ None ∷ Some NoName ∷ None ∷ Some Alive ∷ Some NoName ∷ Some Dead ∷ Some Dead ∷ Some Dead ∷ None ∷ []
+unfolding opened opened_server
+drives = refl
+
+-- clients; the files of calls needn't exist
+pub clients : refused (
+    event.Do 0 (call.Read 9 0 1) ∷
+    event.Do 1 (call.Read 9 0 1) ∷
+    event.Call 2 (call.Read 0 0 1) ∷
+    event.Timeout 1 0 ∷
+    event.Leave 2 ∷
+    event.Stop 1 ∷
+    event.Resend (sender.Client 1) ∷
+    event.Resend sender.Server ∷
+    [])
+    ≡ None ∷ Some Dead ∷ Some NoName ∷ Some Dead ∷ Some NoName ∷ Some Dead ∷ Some Dead ∷ None ∷ []
+unfolding opened opened_server
+clients = refl
+
+-- messages, and events that aren't known yet
+pub others : refused (
+    event.Deliver 0 ∷
+    event.Deliver 1 ∷
+    event.DropMessage 1 ∷
+    event.Settle ∷
+    event.Format 2 ∷
+    event.Zone 9 1 ∷
+    event.Crash machine.Server ∷
+    event.Reopen (machine.Drive 9) ∷
+    [])
+    ≡ None ∷ Some (NoMessage 1) ∷ Some (NoMessage 1) ∷ None ∷ None ∷ Some NotYet ∷ Some NotYet ∷ Some NotYet ∷ []
+unfolding opened opened_server
+others = refl

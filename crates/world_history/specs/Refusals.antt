@@ -1,0 +1,85 @@
+-- When an event isn't carried out: the first cause that applies.
+use Rattle.std.specs.Prelude.{ℕ, Bool, nat_lt, length, Option, Some, None, is_some, is_none, if◌then◌else◌}
+use Rattle.server_rules.specs.Files.{file_at}
+use Rattle.scenario_text.specs.declared.event.Sender.TheVariants as sender
+use Rattle.scenario_text.specs.declared.event.Machine.TheVariants as machine
+use Rattle.scenario_text.specs.declared.event.Event.{Event}
+use Rattle.scenario_text.specs.declared.event.Event.TheVariants as event
+use Rattle.world_history.specs.declared.err.WorldErr.{WorldErr}
+use Rattle.world_history.specs.declared.err.WorldErr.TheVariants.{NotYet, NoName, Taken, Dead, Alive, NoMessage}
+use Rattle.world_history.specs.State.{DriveAt, ClientAt, World, at_number}
+
+-- ---- tests
+
+-- there is no such file
+abbrev pub lacks_file : World → (file : ℕ) → Bool
+lacks_file w f = is_none (file_at w.server.files f)
+
+-- a client that was stopped is dead
+abbrev pub unless_stopped : Option ClientAt → Option WorldErr
+unless_stopped None = Some NoName
+unless_stopped (Some a) = if a.stopped then Some Dead else None
+
+-- a drive that failed is dead
+abbrev pub unless_failed : Option DriveAt → Option WorldErr
+unless_failed None = Some NoName
+unless_failed (Some a) = if a.failed then Some Dead else None
+
+-- a drive that is declared has failed
+abbrev pub if_failed : Option DriveAt → Option WorldErr
+if_failed None = Some NoName
+if_failed (Some a) = if a.failed then None else Some Alive
+
+-- ---- causes
+
+-- an event of a living client
+abbrev pub of_client : World → (client : ℕ) → Option WorldErr
+of_client w c = unless_stopped (at_number w.clients c)
+
+-- of a drive that stands
+abbrev pub of_drive : World → (drive : ℕ) → Option WorldErr
+of_drive w d = unless_failed (at_number w.drives d)
+
+-- of a file
+abbrev pub of_file : World → (file : ℕ) → Option WorldErr
+of_file w f = if lacks_file w f then Some NoName else None
+
+-- of a message
+abbrev pub of_message : World → (number : ℕ) → Option WorldErr
+of_message w number = if nat_lt number (length w.network.messages) then None else Some (NoMessage number)
+
+-- what is made doesn't exist
+abbrev pub unless_there : Bool → Option WorldErr
+unless_there exists = if exists then Some Taken else None
+
+-- why an event isn't carried out; None where it is
+unfoldable pub refusal : World → Event → Option WorldErr
+refusal w (event.Drive d key capacity) = unless_there (is_some (at_number w.drives d))
+refusal w (event.Client c) = unless_there (is_some (at_number w.clients c))
+refusal w (event.File f m tag) = None
+refusal w (event.Least d format) = of_drive w d
+refusal w (event.Format format) = None
+refusal w (event.Do c x) = of_client w c
+refusal w (event.Call c x) = of_client w c
+refusal w (event.Deliver number) = of_message w number
+refusal w (event.DropMessage number) = of_message w number
+refusal w event.Settle = None
+refusal w (event.Resend (sender.Client c)) = of_client w c
+refusal w (event.Resend sender.Server) = None
+refusal w (event.Timeout c component) = of_client w c
+refusal w (event.Leave c) = of_client w c
+refusal w (event.Inject d bytes) = of_drive w d
+refusal w (event.Clock (machine.Drive d) time) = of_drive w d
+refusal w (event.Clock machine.Server time) = None
+refusal w (event.Recall f) = of_file w f
+refusal w (event.Revoke f) = of_file w f
+refusal w (event.Rebuild f) = of_file w f
+refusal w (event.Audit f) = of_file w f
+refusal w (event.Declare d) = if_failed (at_number w.drives d)
+refusal w (event.Stop c) = of_client w c
+refusal w (event.Fail d) = of_drive w d
+refusal w (event.Disk d key capacity) = Some NotYet
+refusal w (event.ZonedFile f m tag) = Some NotYet
+refusal w (event.Zone d zone) = Some NotYet
+refusal w (event.Crash which) = Some NotYet
+refusal w (event.Reopen which) = Some NotYet

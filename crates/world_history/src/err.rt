@@ -1,0 +1,45 @@
+use osd_bytes::Memory;
+use thiserror::Error;
+
+/// Why an event isn't carried out, or ended the world: the first that applies.
+///
+/// All but the last two change nothing. The last two end the world, and the lines appended stand.
+#[derive(Clone, Copy, Debug, PartialEq, Eq, Error)]
+pub enum WorldErr {
+    /// The world doesn't know yet how to carry this event out.
+    #[error("the event can't be carried out yet")]
+    NotYet,
+    /// A drive, client or file that the event names doesn't exist, but for what the event is to make
+    /// and for the files of calls.
+    #[error("a drive, client or file of that name doesn't exist")]
+    NoName,
+    /// The drive or client that the event is to make exists.
+    #[error("a drive or client of that name exists")]
+    Taken,
+    /// The named client was stopped, or the named drive has failed.
+    #[error("the client was stopped, or the drive has failed")]
+    Dead,
+    /// The drive that is to be declared hasn't failed.
+    #[error("the drive hasn't failed")]
+    Alive,
+    /// No message of that number was sent.
+    #[error("no message of that number was sent")]
+    NoMessage { index: u64 },
+    /// The next message, or the data of the write that it begins, would pass the limit of kept bytes.
+    #[error("the kept bytes would pass their limit")]
+    KeptFull,
+    /// There was no memory.
+    #[error("out of memory")]
+    Memory,
+}
+
+impl From<Memory> for WorldErr {
+    ghost use Rattle.std.specs.Prelude.{◌≡◌};
+    ghost use Rattle.world_history.specs.declared.err.WorldErr.TheVariants.{Memory};
+
+    ghost from_gives = { λ _ e. e ≡ Memory };
+
+    fn from(_: Memory) -> Self {
+        WorldErr::Memory
+    }
+}
