@@ -1,0 +1,184 @@
+ghost use Rattle.std.specs.Prelude.{◌≡◌, ◌<◌, ◌≤◌, [], length, slice_get, Some};
+ghost use Rattle.world_history.specs.declared.limits.TheConstants.{MAX_KEPT};
+ghost use Rattle.world_network.specs.Posting.{PostsAll};
+ghost use Rattle.world_network.specs.Network.{is_pending, Delivers, Drops, PendingIs, Posts, empty_network};
+
+use crate::posting::Posting;
+use osd_bytes::{Bytes, Sequence};
+use scenario_text::{Line, Party};
+use std::alloc::Global;
+use std::marker::Model;
+use world_history::{MAX_KEPT, Sent, WorldErr};
+
+/// Lines of a transcript.
+pub type Lines = Sequence<Line>;
+
+/// All messages that were ever sent, by number from 0, and the bytes that are kept: those of the messages,
+/// and the data of the writes of which the first WRITE was sent.
+#[derive(Drop)]
+pub struct Network {
+    messages: Sequence<Sent>,
+    kept: u64,
+}
+
+impl Model for Network {
+    ghost use Rattle.std.specs.Prelude.{◌≤◌};
+    ghost use Rattle.world_history.specs.declared.limits.TheConstants.{MAX_KEPT};
+    ghost use Rattle.world_network.specs.Network.{NetworkState};
+
+    ghost Value = { NetworkState };
+
+    ghost view = { λ n. record { messages = n.messages; kept = n.kept } };
+
+    ghost invariant = { λ n. n.kept ≤ MAX_KEPT };
+}
+
+// Whether a message was neither delivered nor dropped.
+fn is_pending(message: &Sent) -> bool
+    ensures { result ≡ is_pending message.now }
+{
+    !message.delivered && !message.dropped
+}
+
+impl Network {
+    /// A network in which nothing was sent.
+    pub fn new(alloc: Global) -> Self
+        ensures { result ≡ empty_network }
+    {
+        Network {
+            messages: Sequence::new(alloc),
+            kept: 0,
+        }
+    }
+
+    /// How many messages were sent.
+    pub fn len(&self) -> usize
+        ensures { result ≡ length self.now.messages }
+    {
+        self.messages.len()
+    }
+
+    /// The bytes that are kept, at most [`MAX_KEPT`].
+    pub fn kept(&self) -> u64
+        ensures kept { result ≡ self.now.kept }
+        ensures most { result ≤ MAX_KEPT }
+    {
+        self.kept
+    }
+
+    /// Message `number`, which must have been sent.
+    pub fn message(&self, number: usize) -> &Sent
+        requires { number < length self.now.messages }
+        ensures { slice_get self.now.messages number ≡ Some result.now }
+    {
+        self.messages.get(number)
+    }
+
+    /// Marks message `number`, which must have been sent, as delivered.
+    pub fn deliver(&mut self, number: usize)
+        requires { number < length self.old.messages }
+        ensures { Delivers self.old number self.new }
+    {
+        self.messages.get_mut(number).delivered = true;
+    }
+
+    /// Leaves message `number`, which must have been sent, out when messages are settled.
+    pub fn drop_message(&mut self, number: usize)
+        requires { number < length self.old.messages }
+        ensures { Drops self.old number self.new }
+    {
+        self.messages.get_mut(number).dropped = true;
+    }
+
+    /// The lowest number, from `first` on, of a message that was neither delivered nor dropped.
+    pub fn next_pending(&self, first: usize) -> Option<usize>
+        ensures { PendingIs first self.now.messages result }
+    {
+        let mut number = first;
+        while number < self.messages.len() {
+            if is_pending(self.messages.get(number)) {
+                return Some(number);
+            }
+            number += 1;
+        }
+        None
+    }
+
+    /// Sends a message and appends its line. `logged` is how many data bytes the log keeps of the write that
+    /// begins with it, 0 where none does.
+    ///
+    /// # Errors
+    ///
+    /// `KeptFull` exactly where the bytes that are kept would pass [`MAX_KEPT`]; nothing has changed then. `Memory`,
+    /// and no line was appended.
+    pub fn post(
+        &mut self,
+        alloc: Global,
+        from: Party,
+        to: Party,
+        bytes: Bytes,
+        logged: u64,
+        lines: &mut Lines,
+    ) -> Result<(), WorldErr>
+        ensures { Posts self.old from to bytes logged lines.old lines.new self.new result }
+    {
+        let cost = u128::from(logged) + bytes.len() as u128;
+        if u128::from(MAX_KEPT - self.kept) < cost {
+            return Err(WorldErr::KeptFull);
+        }
+        let number = self.messages.len() as u64;
+        self.messages.push(Sent {
+            from,
+            to,
+            bytes: Bytes::copied(alloc, bytes.as_slice())?,
+            delivered: false,
+            dropped: false,
+        })?;
+        self.kept += cost as u64;
+        lines.push(Line::Message {
+            message: number,
+            from,
+            to,
+            bytes,
+        })?;
+        Ok(())
+    }
+
+    /// Sends messages in order, each with its line.
+    ///
+    /// # Errors
+    ///
+    /// `KeptFull` exactly where a message would pass the limit of kept bytes: those before it were sent. `Memory`,
+    /// and the lines of some first ones were appended.
+    pub fn post_all(
+        &mut self,
+        alloc: Global,
+        postings: &[Posting],
+        lines: &mut Lines,
+    ) -> Result<(), WorldErr>
+        ensures { PostsAll self.old postings.now lines.old lines.new self.new result }
+    {
+        for posting in postings {
+            let cost = u128::from(posting.logged) + posting.bytes.len() as u128;
+            if cost > u128::from(MAX_KEPT - self.kept) {
+                return Err(WorldErr::KeptFull);
+            }
+            let number = self.messages.len() as u64;
+            self.messages.push(Sent {
+                from: posting.from,
+                to: posting.to,
+                bytes: Bytes::copied(alloc, posting.bytes.as_slice())?,
+                delivered: false,
+                dropped: false,
+            })?;
+            self.kept += cost as u64;
+            lines.push(Line::Message {
+                message: number,
+                from: posting.from,
+                to: posting.to,
+                bytes: Bytes::copied(alloc, posting.bytes.as_slice())?,
+            })?;
+        }
+        Ok(())
+    }
+}
