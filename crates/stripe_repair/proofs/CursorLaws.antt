@@ -1,6 +1,6 @@
 -- Pieces that are left, and how a cursor moves over them.
 use Rattle.std.specs.Prelude.{ℕ, suc, true, false, List, [], ◌∷◌, ◌++◌, refl, ◌≡◌, ◌+◌, ◌-◌, ◌/◌, ◌<◌, ◌≤◌, ◌⊎◌, min, nat_lt, length, drop}
-use Rattle.std.proofs.Common.{arith, inl, inr, sym, ap, ◌∙◌, get_or, drop-cons}
+use Rattle.std.proofs.Common.{arith, inl, inr, sym, ap, ◌∙◌, get_or, drop-cons, append-nil}
 use Rattle.std.proofs.lemmas.Bool.{cases_lt}
 use Rattle.std.proofs.lemmas.Bool.Decides.{nat_tests}
 use Rattle.std.proofs.Math.ListN.{drop_of_length-le}
@@ -55,7 +55,7 @@ along_none unit first end l =
     rw n refl
 
 -- the pieces of a range are those left at its begin
-begin_is : (unit first end next : ℕ) → rest_in unit (record { stripe = first; column = 0; end = end; next = next }) ≡ pieces_along unit first (end - first)
+pub begin_is : (unit first end next : ℕ) → rest_in unit (record { stripe = first; column = 0; end = end; next = next }) ≡ pieces_along unit first (end - first)
 begin_is unit first end next = elim (cases_lt first end) [
   | inl l ↦ rw (is_less first end l) (sym (along_more unit first end l))
   | inr l ↦ rw (not_less first end l) (sym (along_none unit first end l))
@@ -81,6 +81,28 @@ to_next unit ranges s r over l e =
     ∙ sym t
 
 -- ---- from piece to piece
+
+-- the next columns of the stripe, of one range
+pub within_range : (unit : ℕ) (s : Spot) → s.column < unit → s.stripe < s.end → rest_in unit s ≡ piece_at unit s ∷ rest_in unit (record s { column = s.column + MAX_PIECE })
+within_range unit s l m = rw (is_less s.stripe s.end m, rest_first unit s.stripe s.column l) refl
+
+-- the next stripe of the range
+pub past_range : (unit : ℕ) (s : Spot) → s.column < unit → s.stripe < s.end → unit ≤ s.column + MAX_PIECE →
+    rest_in unit s ≡ piece_at unit s ∷ rest_in unit (record s { stripe = s.stripe + 1; column = 0 })
+past_range unit s l m over =
+    within_range unit s l m
+    ∙ rw (is_less s.stripe s.end m, none_behind unit s.stripe (s.column + MAX_PIECE) over) (ap (λ (x : List Piece). piece_at unit s ∷ x) (sym (begin_is unit (s.stripe + 1) s.end s.next)))
+
+-- none is left of the range
+pub over_range : (unit : ℕ) (s : Spot) → s.end ≤ s.stripe → rest_in unit s ≡ []
+over_range unit s a = rw (not_less s.stripe s.end a) refl
+
+-- all stripes of one range
+pub whole_range : (unit high : ℕ) → rest_at unit [] (record { stripe = 0; column = 0; end = high; next = 0 }) ≡ pieces_along unit 0 high
+unfolding pieces
+whole_range unit high =
+    let all : high - 0 ≡ high = omega arith in
+    append-nil (rest_in unit (record { stripe = 0; column = 0; end = high; next = 0 })) ∙ begin_is unit 0 high 0 ∙ ap (λ (n : ℕ). pieces_along unit 0 n) all
 
 -- the next columns of the stripe
 pub within : (unit : ℕ) (ranges : List Stripes) (s : Spot) → s.column < unit → s.stripe < s.end →

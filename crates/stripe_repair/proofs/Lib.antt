@@ -1,2 +1,15 @@
 pub mod CursorLaws
 pub mod Ranges
+pub mod CodewordLaws
+pub mod UnlikeLaws
+pub mod StoreLaws
+pub mod PieceLaws
+pub mod RepairLaws
+pub mod RestoredLaws
+pub mod LostLaws
+pub mod RebuildLaws
+pub mod Turns
+pub mod GroupTurns
+pub mod GroupLaws
+pub mod MarkLaws
+pub mod AuditLaws

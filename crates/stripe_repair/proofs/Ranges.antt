@@ -1,7 +1,7 @@
 -- One more number of a range, in a filter.
 use Rattle.std.specs.Prelude.{ℕ, Bool, true, false, not, Option, Some, None, is_some, is_none, cond, filter, List, [], ◌∷◌, ◌++◌, refl, ◌≡◌, ◌+◌, map}
 use Rattle.std.specs.List.{range_with_len}
-use Rattle.std.proofs.Common.{ap, sym, append-nil, ◌∙◌}
+use Rattle.std.proofs.Common.{ap, arith, sym, append-nil, ◌∙◌}
 use Rattle.std.proofs.lemmas.List.FromFn.{filter_of_map_range_with_len_more}
 
 map_id : (l : List ℕ) → map (λ (i : ℕ). i) l ≡ l
@@ -26,3 +26,10 @@ none_of None true e = refl
 none_of None false e = absurd (cc e)
 none_of (Some k) true e = absurd (cc e)
 none_of (Some k) false e = refl
+
+-- the same from 0 on
+pub first_yes : (p : ℕ → Bool) (n : ℕ) → p n ≡ true → filter p (range_with_len 0 (n + 1)) ≡ filter p (range_with_len 0 n) ++ (n ∷ [])
+first_yes p n e = let z : 0 + n ≡ n = omega arith in rw z at (filter_yes p 0 n (rw z e))
+
+pub first_no : (p : ℕ → Bool) (n : ℕ) → p n ≡ false → filter p (range_with_len 0 (n + 1)) ≡ filter p (range_with_len 0 n)
+first_no p n e = let z : 0 + n ≡ n = omega arith in filter_no p 0 n (rw z e)

@@ -1,2 +1,10 @@
 pub mod Placing
 pub mod Cursor
+pub mod GroupCursor
+pub mod Asks
+pub mod Pieces
+pub mod Marks
+pub mod Repairing
+pub mod Restored
+pub mod Auditing
+pub mod Filling

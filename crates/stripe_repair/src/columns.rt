@@ -1,4 +1,4 @@
-ghost use Rattle.std.specs.Prelude.{◌≡◌, ◌<◌, ◌^◌, length, IfOk};
+ghost use Rattle.std.specs.Prelude.{◌≡◌, ◌<◌, ◌≤◌, ◌^◌, length, IfOk};
 ghost use Rattle.server_rules.specs.Columns.{first_unlike, end_of, filled};
 
 use osd_bytes::{Bytes, Memory};
@@ -22,7 +22,9 @@ pub fn first_unlike(xs: &[u8], ys: &[u8]) -> usize
 #[tactic(auto, unfolding(server_rules::specs::Columns::end_unlike))]
 pub fn end_unlike(xs: &[u8], ys: &[u8]) -> usize
     requires { length xs.now ≡ length ys.now }
-    ensures { result ≡ end_of xs.now ys.now }
+    ensures value { result ≡ end_of xs.now ys.now }
+    ensures inside { result ≤ length xs.now }
+    ensures behind { 0 < result → first_unlike xs.now ys.now < result }
 {
     let mut end = 0usize;
     for i in 0..xs.len() {

@@ -1,10 +1,11 @@
-ghost use Rattle.std.specs.Prelude.{◌≡◌, ◌<◌, ◌∷◌, List, drop, slice_get};
-ghost use Rattle.server_rules.specs.Maps.{pieces};
+ghost use Rattle.std.specs.Prelude.{◌≡◌, ◌<◌, ◌∷◌, ◌⊎◌, List, drop, slice_get};
+ghost use Rattle.server_rules.specs.Maps.{pieces, pieces_along};
 ghost use Rattle.server_rules.specs.declared.grants.Stripes.{Stripes as AStripes};
-ghost use Rattle.stripe_repair.specs.Cursor.{rest_at, piece_at, IsSettled};
+ghost use Rattle.stripe_repair.specs.Cursor.{rest_at, rest_in, piece_at, IsSettled};
 
 use osd_bytes::Sequence;
 use server_rules::{MAX_PIECE, Piece, Stripes};
+use std::alloc::Global;
 use std::marker::Model;
 
 /// Where a cursor stands: in a stripe of a range, before further ranges.
@@ -61,12 +62,28 @@ fn settled(unit: u64, ranges: &[Stripes], spot: Spot) -> Spot
     spot
 }
 
+// The piece at a spot.
+pub(crate) fn piece_at(unit: u64, spot: Spot) -> Piece
+    requires { spot.column < unit }
+    ensures { result ≡ piece_at unit spot }
+{
+    Piece {
+        stripe: spot.stripe,
+        column: spot.column,
+        count: MAX_PIECE.min(unit - spot.column),
+    }
+}
+
 // The spot behind the piece at this one.
-fn behind(unit: u64, spot: Spot) -> Spot
+pub(crate) fn behind(unit: u64, spot: Spot) -> Spot
     requires column { spot.column < unit }
     requires inside { spot.stripe < spot.end }
     ensures column { result.column < unit }
-    ensures rest { (ranges : List AStripes) → rest_at unit ranges spot ≡ piece_at unit spot ∷ rest_at unit ranges result }
+    ensures end { result.end ≡ spot.end }
+    ensures stripe { (result.column ≡ 0) ⊎ (result.stripe ≡ spot.stripe) }
+    ensures left { rest_in unit spot ≡ piece_at unit spot ∷ rest_in unit result }
+    ensures rest { (ranges : List AStripes)
+        → rest_at unit ranges spot ≡ piece_at unit spot ∷ rest_at unit ranges result }
 {
     if unit - spot.column > MAX_PIECE {
         return Spot {
@@ -97,16 +114,27 @@ impl PieceCursor {
         PieceCursor { unit, ranges, spot }
     }
 
+    /// All pieces of the stripes below `high`, in a file whose stripe unit is `unit` bytes.
+    pub fn below(alloc: Global, unit: u64, high: u64) -> Self
+        requires { 0 < unit }
+        ensures { result ≡ pieces_along unit 0 high }
+    {
+        let ranges = Sequence::new(alloc);
+        let spot = Spot {
+            stripe: 0,
+            column: 0,
+            end: high,
+            next: 0,
+        };
+        PieceCursor { unit, ranges, spot }
+    }
+
     /// The first piece, `None` exactly where none is left.
     pub fn first(&self) -> Option<Piece>
         ensures { result ≡ slice_get self.now 0 }
     {
         if self.spot.stripe < self.spot.end {
-            return Some(Piece {
-                stripe: self.spot.stripe,
-                column: self.spot.column,
-                count: MAX_PIECE.min(self.unit - self.spot.column),
-            });
+            return Some(piece_at(self.unit, self.spot));
         }
         None
     }

@@ -5,16 +5,40 @@
 //! `server_rules`. No list of pieces is ever made: a [`PieceCursor`] stands for it.
 #![tactic(auto)]
 
+mod audit;
+mod auditing;
+mod codewords;
 mod columns;
+mod commands;
 mod cursor;
+mod group_cursor;
 mod loads;
+mod marks;
+mod offsets;
 mod placer;
+mod reading;
+mod rebuild;
+mod repair;
+mod restored;
 mod rows;
 mod standing;
+mod writing;
 
+pub use audit::Audit;
+pub use auditing::{StripeState, judge};
+pub use codewords::{code_of, unit_with, wanted_rows};
 pub use columns::{end_unlike, filled, first_unlike};
+pub use commands::{Ask, Which, is_meant, sent_to, to_all, write_to};
 pub use cursor::PieceCursor;
+pub use group_cursor::GroupCursor;
 pub use loads::{DriveLoad, MAX_DRIVES, online_count};
+pub use marks::Marks;
+pub use offsets::offset_of;
 pub use placer::Placer;
+pub use reading::{has_short_stripe, is_left, mark_short, reads, repair_reads, sources};
+pub use rebuild::{FillStage, FillStep, Rebuild};
+pub use repair::{Repair, Stage};
+pub use restored::{fill, lost_units, made};
 pub use rows::{row_from, unit_rows};
 pub use standing::{group_with, is_beyond, is_short, lacking, replica};
+pub use writing::stores;

@@ -10,7 +10,7 @@ use server_rules::{Component, Heard};
 use std::alloc::Global;
 
 // A row of zeros.
-fn zeros(alloc: Global, count: usize) -> Result<Bytes, Memory>
+pub(crate) fn zeros(alloc: Global, count: usize) -> Result<Bytes, Memory>
     requires { count < 2 ^ 63 }
     ensures { IfOk result (λ row. row ≡ replicate count 0) }
 {

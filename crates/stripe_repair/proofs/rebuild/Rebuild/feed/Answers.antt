@@ -1,0 +1,36 @@
+use Rattle.std.proofs.Common.{sym, ◌∙◌, drop}
+use Rattle.std.proofs.lemmas.List.Elements.{All-drop}
+use Rattle.server_rules.specs.Jobs.{gathered}
+use Rattle.server_rules.specs.Rebuild.{fills}
+use Rattle.stripe_repair.specs.Filling.{IsPieceOf}
+use Rattle.stripe_repair.proofs.RepairLaws.{no_piece}
+use Rattle.stripe_repair.proofs.RebuildLaws.{gathered_stores, gathered_past, gathered_ends, same_fill, no_write}
+use Rattle.stripe_repair.proofs.rebuild.Rebuild.feed.Goals as goal
+use Rattle.stripe_repair.proofs.rebuild.Rebuild.feed.Goals.{in-Some+in_ok-bytes+in_ok-write+in_default-write, in_default}
+
+pub returns-in-Some-write-clause-rules : goal.returns-in-Some-write-clause-rules
+returns-in-Some-write-clause-rules c = λ g at.
+    let s = c.self.inside in
+    let write = rw (c.as_slice.ensures, c.in_ok-bytes.ensures.value) at c.in_ok-write.ensures in
+    rw (← c.self.view_is) (gathered_stores c.args.kept.now c.args.nonce g s.target s.todo c.args.heard.now c.in-Some.piece c.in-Some-write.write at (sym c.first.ensures ∙ c.in-Some.is) (sym write ∙ c.in-Some-write.is))
+
+pub invariant_of-self-in-Some : goal.invariant_of-self-in-Some
+invariant_of-self-in-Some c =
+    let s = c.self.inside in
+    (c.self.invariant.0, rw c.advance.ensures (All-drop (IsPieceOf s.map s.target) 1 s.todo c.self.invariant.1))
+
+pub returns-clause-rules : goal.returns-clause-rules
+returns-clause-rules c =
+    let s = c.self.inside in
+    let f = c.args.kept.now in
+    rw (← c.self.view_is) (elim c.match-first.branch [
+      | in-Some+in_ok-bytes+in_ok-write+in_default-write w ↦
+          let write = rw (w.as_slice.ensures, w.in_ok-bytes.ensures.value) at w.in_ok-write.ensures in
+          same_fill c.next.result f c.args.nonce (λ g. gathered g s.target s.todo c.args.heard.now) (λ g. fills g s.target (drop 1 s.todo)) c.next.new.self
+          (λ g at. gathered_past f c.args.nonce g s.target s.todo c.args.heard.now w.in-Some.piece at (sym c.first.ensures ∙ w.in-Some.is) (sym write ∙ no_write w.in_ok-write.write w.in_default-write.not-Some))
+          (rw (w.self-is, w.advance.ensures) at c.next.ensures.rules)
+      | in_default w ↦
+          same_fill c.next.result f c.args.nonce (λ g. gathered g s.target s.todo c.args.heard.now) (λ g. fills g s.target s.todo) c.next.new.self
+          (λ g at. gathered_ends g s.target s.todo c.args.heard.now (sym c.first.ensures ∙ no_piece c.first.result w.in_default.not-Some))
+          (rw (w.self-is, ← c.self.view_is) at c.next.ensures.rules)
+    ])

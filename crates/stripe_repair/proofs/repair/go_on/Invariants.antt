@@ -1,0 +1,18 @@
+use Rattle.std.proofs.Common.{◌≡◌, length, ℕ}
+use Rattle.std.specs.Prelude.{List}
+use Rattle.std.specs.List.{All}
+use Rattle.server_rules.specs.declared.files.Kept.{Kept}
+use Rattle.server_rules.specs.declared.jobs.Piece.{Piece}
+use Rattle.stripe_repair.specs.Pieces.{IsPiece}
+use Rattle.stripe_repair.specs.Repairing.{goes_to}
+use Rattle.stripe_repair.proofs.repair.go_on.Given as goal
+
+pub record Gone (f : Kept) (nonce : ℕ) (todo : List Piece) (short : List ℕ) (first : List Piece) (marked : List ℕ) : Type 0 where
+  pub same : goes_to f nonce todo short ≡ goes_to f nonce first marked
+  pub pieces : All IsPiece todo
+
+abbrev pub invariant-loop-piece : goal.invariant-loop-piece
+invariant-loop-piece l = Gone l.fn.kept l.nonce l.todo l.short l.fn.todo l.fn.short
+
+abbrev pub decreases-loop-piece : goal.decreases-loop-piece
+decreases-loop-piece l = length l.todo

@@ -1,0 +1,215 @@
+// An audit as it goes from message to message.
+ghost use Rattle.std.specs.Prelude.{◌≡◌, ◌<◌, ◌≤◌, ◌^◌, length, filter, not, IfOk, OnOk};
+ghost use Rattle.std.specs.List.{All};
+ghost use Rattle.data_map.specs.declared.check.TheConstants.{MAX_COMPONENTS};
+ghost use Rattle.data_map.specs.declared.ranges.TheConstants.{MAX_FILE_SIZE};
+ghost use Rattle.server_rules.specs.Audit.{audits, length_in, lengths_of};
+ghost use Rattle.server_rules.specs.Going.{Going};
+ghost use Rattle.server_rules.specs.Numbers.{among};
+ghost use Rattle.server_rules.specs.Jobs.{audited_on};
+ghost use Rattle.stripe_repair.specs.Auditing.{audit_of, bad_by, bad_whole, inspects, rests_auditing, state_of};
+ghost use Rattle.stripe_repair.specs.Pieces.{IsPiece};
+ghost use Rattle.stripe_repair.specs.Repairing.{IsAt};
+
+use crate::auditing::{StripeState, judge};
+use crate::cursor::PieceCursor;
+use crate::marks::Marks;
+use crate::reading::{mark_short, reads};
+use data_map::DataMap;
+use osd_bytes::{Memory, Sequence, u64_at};
+use server_rules::{AwaitedCommands, Heard, Kept, MAX_OBJECT_LENGTH, Measured, Piece};
+use std::alloc::Global;
+use std::marker::Model;
+
+/// An audit: the pieces that are left, the first of which is in work, and what was found so far. Contracts see
+/// the list of the pieces; a cursor stands for it.
+///
+/// It goes on with [`Audit::next`] where it begins or the piece in work begins again, and with [`Audit::feed`]
+/// when the last READ that it sent is answered. It is over where it sends none.
+#[derive(Drop)]
+pub struct Audit {
+    todo: PieceCursor,
+    lengths: Sequence<Measured>,
+    short: Marks,
+    bad: Marks,
+}
+
+impl Model for Audit {
+    ghost use Rattle.std.specs.List.{All};
+    ghost use Rattle.stripe_repair.specs.Pieces.{IsPiece};
+    ghost use Rattle.stripe_repair.specs.Auditing.{AuditState, tally_of};
+
+    ghost Value = { AuditState };
+
+    ghost view = { λ a. record { todo = a.todo; tally = tally_of a.lengths a.short a.bad } };
+
+    ghost invariant = { λ a. All IsPiece a.todo };
+}
+
+// Eight bytes with a length that an object may have, else 0.
+#[tactic(auto, unfolding(server_rules::specs::Audit::length_in))]
+fn length_in(bytes: &[u8]) -> u64
+    ensures { result ≡ length_in bytes.now }
+{
+    if bytes.len() == 8 && u64_at(bytes, 0) <= MAX_OBJECT_LENGTH {
+        return u64_at(bytes, 0);
+    }
+    0
+}
+
+// The lengths that the replies carry.
+fn lengths_of(alloc: Global, heard: &[Heard]) -> Result<Sequence<Measured>, Memory>
+    ensures { IfOk result (λ ms. ms ≡ lengths_of heard.now) }
+{
+    let mut lengths = Sequence::new(alloc);
+    for reply in heard {
+        lengths.push(Measured {
+            component: reply.component,
+            length: length_in(reply.payload.as_slice()),
+        })?;
+    }
+    Ok(lengths)
+}
+
+// Goes to the first piece of which there is something to read, and gives its READs. No piece is left where there
+// are none.
+fn inspect_on(
+    alloc: Global,
+    kept: &Kept,
+    todo: &mut PieceCursor,
+    short: &mut Marks,
+    nonce: u64,
+) -> Result<AwaitedCommands, Memory>
+    requires few { length kept.now.components ≤ MAX_COMPONENTS }
+    requires low { nonce < 2 ^ 63 }
+    requires pieces { All IsPiece todo.old }
+    ensures pieces { All IsPiece todo.new }
+    ensures exact { IfOk result (λ cs. record { todo = todo.new; short = short.new; reads = cs }
+        ≡ inspects kept.now nonce todo.old short.old) }
+{
+    while let Some(piece) = todo.first() {
+        let reads = reads(alloc, kept, piece, nonce)?;
+        mark_short(alloc, kept, piece, short)?;
+        if !reads.is_empty() {
+            return Ok(reads);
+        }
+        todo.advance();
+    }
+    Ok(AwaitedCommands::new(alloc))
+}
+
+// Marks the stripe of a piece where it is bad.
+fn mark_bad(
+    alloc: Global,
+    kept: &Kept,
+    piece: Piece,
+    heard: &[Heard],
+    bad: &mut Marks,
+) -> Result<(), Memory>
+    requires few { length kept.now.components ≤ MAX_COMPONENTS }
+    requires piece { IsPiece piece }
+    ensures { OnOk result (bad.new ≡ bad_by (state_of kept.now piece heard.now) piece.stripe bad.old) }
+{
+    match judge(alloc, kept, piece, heard)? {
+        StripeState::Bad => bad.mark(piece.stripe),
+        StripeState::Whole | StripeState::Short => Ok(()),
+    }
+}
+
+// How many of these numbers aren't marked.
+fn count_others(numbers: &[u64], marks: &Marks) -> u64
+    ensures { result ≡ length (filter (λ n. not (among n marks.now)) numbers.now) }
+{
+    let mut count = 0;
+    for number in numbers {
+        if !marks.contains(*number) {
+            count += 1;
+        }
+    }
+    count
+}
+
+impl Audit {
+    /// An audit of the stripes below `high`, where `heard` are the replies to the questions after the lengths
+    /// of the objects.
+    ///
+    /// # Errors
+    ///
+    /// Want of memory alone.
+    pub fn new(alloc: Global, map: &DataMap, high: u64, heard: &[Heard]) -> Result<Audit, Memory>
+        requires { high ≤ MAX_FILE_SIZE }
+        ensures { IfOk result (λ audit. audit ≡ audit_of map.now.unit high heard.now) }
+    {
+        map.known();
+        Ok(Audit {
+            todo: PieceCursor::below(alloc, map.raw().unit, high),
+            lengths: lengths_of(alloc, heard)?,
+            short: Marks::new(alloc),
+            bad: Marks::new(alloc),
+        })
+    }
+
+    /// The READs of the next piece. Where there are none the audit is over.
+    ///
+    /// # Errors
+    ///
+    /// Want of memory alone.
+    pub fn next(
+        &mut self,
+        alloc: Global,
+        kept: &Kept,
+        nonce: u64,
+    ) -> Result<AwaitedCommands, Memory>
+        requires few { length kept.now.components ≤ MAX_COMPONENTS }
+        requires low { nonce < 2 ^ 63 }
+        ensures { IfOk result (λ cs. (g : Going) → IsAt kept.now nonce g
+            → audits g self.old.todo self.old.tally ≡ rests_auditing cs g self.new) }
+    {
+        inspect_on(alloc, kept, &mut self.todo, &mut self.short, nonce)
+    }
+
+    /// Judges the first piece by what was read of it, and goes on with the next.
+    ///
+    /// # Errors
+    ///
+    /// Want of memory alone.
+    pub fn feed(
+        &mut self,
+        alloc: Global,
+        kept: &Kept,
+        heard: &[Heard],
+        nonce: u64,
+    ) -> Result<AwaitedCommands, Memory>
+        requires few { length kept.now.components ≤ MAX_COMPONENTS }
+        requires low { nonce < 2 ^ 63 }
+        ensures { IfOk result (λ cs. (g : Going) → IsAt kept.now nonce g
+            → audited_on g self.old.todo self.old.tally heard.now ≡ rests_auditing cs g self.new) }
+    {
+        if let Some(piece) = self.todo.first() {
+            mark_bad(alloc, kept, piece, heard, &mut self.bad)?;
+            self.todo.advance();
+        }
+        self.next(alloc, kept, nonce)
+    }
+
+    /// The lengths that the objects told.
+    pub fn lengths(&self) -> &[Measured]
+        ensures { result.now ≡ self.now.tally.lengths }
+    {
+        self.lengths.as_slice()
+    }
+
+    /// How many stripes are short.
+    pub fn short_count(&self) -> u64
+        ensures { result ≡ length self.now.tally.short }
+    {
+        self.short.len() as u64
+    }
+
+    /// How many stripes are bad and aren't short.
+    pub fn bad_count(&self) -> u64
+        ensures { result ≡ length (bad_whole self.now.tally) }
+    {
+        count_others(self.bad.as_slice(), &self.short)
+    }
+}
