@@ -1,0 +1,43 @@
+-- What a reply does to a job.
+use Rattle.std.specs.Prelude.{ℕ, List, [], ◌∷◌, Option, Some, None, ◌≡◌, ◌<◌, length, slice_get, find, refl}
+use Rattle.std.proofs.Common.{arith, ap, sym, ◌∙◌, get_or}
+use Rattle.std.proofs.lemmas.Option.{slice_get-get_or}
+use Rattle.osd_commands.specs.declared.replies.Reply.{Reply}
+use Rattle.server_rules.specs.declared.files.Kept.{Kept}
+use Rattle.server_rules.specs.declared.jobs.Awaited.{Awaited}
+use Rattle.server_rules.specs.declared.jobs.Job.{Job}
+use Rattle.server_rules.specs.declared.server.Moved.{Moved}
+use Rattle.server_rules.specs.Going.{Going}
+use Rattle.server_rules.specs.Replies.{Hearing, answers, heard_in, hearing, hears}
+use Rattle.file_jobs.specs.Heard.{FoundIn}
+use Rattle.file_jobs.specs.declared.job.Turn.TheVariants.{Rests}
+use Rattle.file_jobs.specs.Steps.{Around, going, turned}
+
+-- by what it is to the command at that place
+pub heard_is : (g : Going) (j : Job) (k : Kept) (r : Reply) (cs : List Awaited) (place : ℕ) (a x : Awaited) (kind : Hearing) → slice_get cs place ≡ Some x → slice_get cs place ≡ Some a → kind ≡ hearing k x r →
+    hears g j a r kind ≡ hears g j a r (hearing k a r)
+heard_is g j k r cs place a x kind u v e =
+    let same : x ≡ a = cc (u, v) in
+    ap (hears g j a r) (e ∙ ap (λ (y : Awaited). hearing k y r) same)
+
+-- the job waits on
+pub waits_on_still : (k : Kept) (m : Moved) (s : Around) (j : Job) → s.job ≡ Some j → turned (Rests j) k m s ≡ going k m s
+waits_on_still k m s j e = ap (λ (x : Option Job). going k m (record s { job = x })) (sym e)
+
+-- ---- the job that awaits it
+
+some_at : (xs : List Awaited) (i : ℕ) → i < length xs → (a : Awaited) × (slice_get xs i ≡ Some a)
+some_at [] i l = absurd (omega (arith, l))
+some_at (x ∷ xs) i l = (get_or (x ∷ xs) i x, slice_get-get_or (x ∷ xs) i x l)
+
+by_job : (g : Going) (drive : ℕ) (r : Reply) (o : Option Job) (j : Job) (a : Awaited) → o ≡ Some j → find (answers drive r) j.awaited ≡ Some a → heard_in g drive r o ≡ Some (hears g j a r (hearing g.file.kept a r))
+by_job g drive r o j a e f = rw e (rw f refl)
+
+pub is_heard : (g : Going) (drive : ℕ) (r : Reply) (o : Option Job) (j : Job) (place : ℕ) (x : Going) → o ≡ Some j → FoundIn drive r place o →
+    ((a : Awaited) → slice_get j.awaited place ≡ Some a → x ≡ hears g j a r (hearing g.file.kept a r)) → heard_in g drive r o ≡ Some x
+is_heard g drive r None j place x e f h = absurd f
+is_heard g drive r (Some i) j place x e f h =
+    let same : i ≡ j = cc e in
+    let at = some_at i.awaited place f.0 in
+    by_job g drive r (Some i) j at.0 e (ap (λ (y : Job). find (answers drive r) y.awaited) (sym same) ∙ f.1 ∙ at.1)
+    ∙ ap Some (sym (h at.0 (ap (λ (y : Job). slice_get y.awaited place) (sym same) ∙ at.1)))

@@ -1,0 +1,14 @@
+use Rattle.std.proofs.Common.{sym, ◌∙◌}
+use Rattle.file_jobs.specs.Steps.{Around}
+use Rattle.file_jobs.proofs.whole.revoke.Goals as goal
+
+pub returns-clause-steps : goal.returns-clause-steps
+returns-clause-steps c = λ ds chosen.
+    let a : Around = record { spent = c.args.file.now.spent; job = c.args.file.now.job; drives = ds; chosen = chosen } in
+    sym (c.job_after.ensures.value c.fence_begins.new.kept c.fence_begins.new.moved a) ∙ c.in_ok-turn.ensures.turn a
+
+pub returns-clause-sound : goal.returns-clause-sound
+returns-clause-sound c = record {
+  kept = c.in_ok-turn.ensures.keeps.sound c.requires.sound;
+  job = c.job_after.ensures.sound c.fence_begins.new.kept c.in_ok-turn.ensures.sound;
+}

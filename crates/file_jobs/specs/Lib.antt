@@ -1,0 +1,9 @@
+pub mod Works
+pub mod Ranges
+pub mod Sound
+pub mod Placing
+pub mod Steps
+pub mod Awaiting
+pub mod Hearing
+pub mod Losing
+pub mod Heard

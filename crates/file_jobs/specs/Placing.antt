@@ -1,0 +1,22 @@
+-- The drives among which a missing component is placed.
+use Rattle.std.specs.Prelude.{ℕ, Bool, true, List, [], Option, Some, None, ◌≡◌, ◌==◌, ◌&&◌, not, map, find, is_some}
+use Rattle.server_rules.specs.declared.files.Component.{Component}
+use Rattle.server_rules.specs.declared.server.Drive.{Drive}
+use Rattle.server_rules.specs.Standing.{free_drives, stood_on}
+use Rattle.stripe_repair.specs.declared.loads.DriveLoad.{DriveLoad}
+
+-- the loads of these drives, in their order
+abbrev pub AreLoadsOf : List DriveLoad → List Drive → Type 0
+AreLoadsOf loads ds = map {B = ℕ × Bool} (λ l. (l.drive, l.online)) loads ≡ map {B = ℕ × Bool} (λ d. (d.number, d.online)) ds
+
+-- online where it is free for the file
+abbrev pub free_load : List Component → DriveLoad → DriveLoad
+free_load cs l = record l { online = l.online && not (stood_on l.drive cs) }
+
+abbrev pub free_loads : List Component → List DriveLoad → List DriveLoad
+free_loads cs loads = map (free_load cs) loads
+
+-- a free drive, and none only where there is none
+abbrev pub IsPick : List Drive → List Component → Option ℕ → Type 0
+IsPick ds cs None = free_drives ds cs ≡ []
+IsPick ds cs (Some drive) = is_some (find (λ d. d.number == drive) (free_drives ds cs)) ≡ true

@@ -1,0 +1,25 @@
+-- What a job does, as the rules see it, and what a step did so far.
+use Rattle.std.specs.Prelude.{ℕ, List, [], ◌∷◌, ◌++◌, ◌+◌, length}
+use Rattle.server_rules.specs.declared.jobs.Work.{Work}
+use Rattle.server_rules.specs.declared.jobs.Work.TheVariants.{Creates, Fences, Targets}
+use Rattle.server_rules.specs.declared.jobs.Awaited.{Awaited}
+use Rattle.server_rules.specs.declared.notes.NoteKind.{NoteKind}
+use Rattle.server_rules.specs.declared.server.Moved.{Moved}
+use Rattle.stripe_repair.specs.Repairing.{work_of as repair_of}
+use Rattle.file_jobs.specs.declared.job.Work.{Work as RunningWork}
+use Rattle.file_jobs.specs.declared.job.Work.TheVariants.{Creates as Making, Fences as Fencing, Repairs as Repairing, Targets as Placing}
+
+-- cursors are the lists of their pieces
+abbrev pub work_of : RunningWork → Work
+work_of Making = Creates
+work_of Fencing = Fences
+work_of (Repairing r) = repair_of r
+work_of (Placing t) = Targets t
+
+-- these commands are sent
+abbrev pub sends : Moved → List Awaited → Moved
+sends m cs = record m { nonce = m.nonce + length cs; sent = m.sent ++ cs }
+
+-- a note on a file
+abbrev pub noted : Moved → (file : ℕ) → NoteKind → Moved
+noted m file kind = record m { notes = m.notes ++ (record { file = file; kind = kind } ∷ []) }

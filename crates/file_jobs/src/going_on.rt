@@ -1,0 +1,142 @@
+// What comes when nothing is awaited any more, and when a component is lost meanwhile.
+ghost use Rattle.std.specs.Prelude.{◌<◌, ◌^◌, false, IfOk, OnOk};
+ghost use Rattle.server_rules.specs.Jobs.{goes_on, loses, waits_or_on};
+ghost use Rattle.file_jobs.specs.Sound.{EndsAfterRepair, Fits, IsSound, IsSoundJob, Leaves, RestsSound};
+ghost use Rattle.file_jobs.specs.Steps.{GoesOnAs, Turns};
+ghost use Rattle.file_jobs.specs.Losing.{loses_in_repair};
+ghost use Rattle.file_jobs.specs.Works.{work_of};
+
+use crate::fencing::{fenced, is_made};
+use crate::job::{RunningJob, Turn, Work};
+use crate::mending::{answered, repairs};
+use osd_bytes::{Memory, Sequence};
+use server_rules::{AwaitedCommands, Heard, JobKind, Kept, Moved};
+use std::alloc::Global;
+use stripe_repair::{Repair, Stage};
+
+// The next part of the job.
+#[tactic(auto, unfolding(server_rules::specs::Jobs::goes_on))]
+fn goes_on(
+    alloc: Global,
+    kept: &mut Kept,
+    moved: &mut Moved,
+    kind: JobKind,
+    work: Work,
+    heard: &[Heard],
+) -> Result<Turn, Memory>
+    requires sound { IsSound kept.old }
+    requires low { moved.old.nonce < 2 ^ 63 }
+    requires kind { EndsAfterRepair kind }
+    requires fits { Fits kept.old (work_of work) }
+    ensures turn { IfOk result (λ turn. Turns (goes_on kind (work_of work) heard.now) kept.old moved.old turn kept.new moved.new) }
+    ensures kind { IfOk result (GoesOnAs kind) }
+    ensures sound { IfOk result (λ turn. RestsSound turn kept.new) }
+    ensures keeps { OnOk result (Leaves kept.old kept.new) }
+{
+    match work {
+        Work::Creates => is_made(kept, moved),
+        Work::Fences => fenced(alloc, kept, moved, kind),
+        Work::Repairs(repair) => answered(alloc, kept, moved, kind, repair, heard),
+        Work::Targets { .. } => Ok(Turn::Over),
+    }
+}
+
+// The job waits for these that are left, or goes on.
+pub fn waits_or_on(
+    alloc: Global,
+    kept: &mut Kept,
+    moved: &mut Moved,
+    job: RunningJob,
+) -> Result<Turn, Memory>
+    requires sound { IsSound kept.old }
+    requires low { moved.old.nonce < 2 ^ 63 }
+    requires job { IsSoundJob kept.old job }
+    ensures turn { IfOk result (λ turn. Turns (λ g. waits_or_on g job job.work job.awaited job.heard) kept.old moved.old turn kept.new moved.new) }
+    ensures kind { IfOk result (GoesOnAs job.kind) }
+    ensures sound { IfOk result (λ turn. RestsSound turn kept.new) }
+    ensures keeps { OnOk result (Leaves kept.old kept.new) }
+{
+    if !job.awaited.is_empty() {
+        return Ok(Turn::Rests(job));
+    }
+    let RunningJob {
+        kind,
+        work,
+        heard,
+        ..
+    } = job;
+    goes_on(alloc, kept, moved, kind, work, heard.as_slice())
+}
+
+// A repair of which a component became missing.
+fn loses_in_repair(
+    alloc: Global,
+    kept: &mut Kept,
+    moved: &mut Moved,
+    kind: JobKind,
+    repair: Repair,
+    awaited: AwaitedCommands,
+    heard: Sequence<Heard>,
+) -> Result<Turn, Memory>
+    requires sound { IsSound kept.old }
+    requires low { moved.old.nonce < 2 ^ 63 }
+    requires kind { EndsAfterRepair kind }
+    ensures turn { IfOk result (λ turn. Turns (λ g. loses_in_repair g kind repair awaited heard) kept.old moved.old turn kept.new moved.new) }
+    ensures kind { IfOk result (GoesOnAs kind) }
+    ensures sound { IfOk result (λ turn. RestsSound turn kept.new) }
+    ensures keeps { OnOk result (Leaves kept.old kept.new) }
+{
+    let mut repair = repair;
+    match repair.stage() {
+        Stage::Fetching => repairs(alloc, kept, moved, kind, repair),
+        Stage::Storing { .. } => {
+            repair.drop_component();
+            let work = Work::Repairs(repair);
+            let job = RunningJob {
+                kind,
+                work,
+                awaited,
+                heard,
+            };
+            waits_or_on(alloc, kept, moved, job)
+        }
+    }
+}
+
+// A component of the file became missing; the job awaits what others are to answer.
+#[tactic(auto, unfolding(server_rules::specs::Jobs::loses))]
+pub fn loses(
+    alloc: Global,
+    kept: &mut Kept,
+    moved: &mut Moved,
+    job: RunningJob,
+) -> Result<Turn, Memory>
+    requires sound { IsSound kept.old }
+    requires low { moved.old.nonce < 2 ^ 63 }
+    requires job { IsSoundJob kept.old job }
+    ensures turn { IfOk result (λ turn. Turns (λ g. loses g job job.work job.awaited false) kept.old moved.old turn kept.new moved.new) }
+    ensures kind { IfOk result (GoesOnAs job.kind) }
+    ensures sound { IfOk result (λ turn. RestsSound turn kept.new) }
+    ensures keeps { OnOk result (Leaves kept.old kept.new) }
+{
+    let RunningJob {
+        kind,
+        work,
+        awaited,
+        heard,
+    } = job;
+    match work {
+        Work::Repairs(repair) => loses_in_repair(alloc, kept, moved, kind, repair, awaited, heard),
+        work => waits_or_on(
+            alloc,
+            kept,
+            moved,
+            RunningJob {
+                kind,
+                work,
+                awaited,
+                heard,
+            },
+        ),
+    }
+}

@@ -1,0 +1,61 @@
+use osd_bytes::Sequence;
+use server_rules::{AwaitedCommands, Heard, JobKind, Kept, Target};
+use std::marker::Model;
+use stripe_repair::Repair;
+
+/// What a job waits for, and what it still has to do.
+#[derive(Drop)]
+pub enum Work {
+    /// The components are made.
+    Creates,
+    /// The present components are sent the next tag.
+    Fences,
+    /// Stripes are repaired.
+    Repairs(Repair),
+    /// Rebuild: an object for the component is made.
+    Targets { target: Target },
+}
+
+/// A job of a file. Contracts see the job of the rules.
+#[derive(Drop)]
+pub struct RunningJob {
+    pub kind: JobKind,
+    pub work: Work,
+    /// What it waits for.
+    pub awaited: AwaitedCommands,
+    /// The replies to the commands that were sent together with those awaited.
+    pub heard: Sequence<Heard>,
+}
+
+impl Model for RunningJob {
+    ghost use Rattle.server_rules.specs.declared.jobs.Job.{Job};
+
+    ghost Value = { Job };
+
+    ghost use Rattle.file_jobs.specs.Works.{work_of};
+
+    ghost view = { λ j. record { kind = j.kind; work = work_of j.work; awaited = j.awaited; heard = j.heard } };
+}
+
+/// A file as the server has it.
+#[derive(Drop)]
+pub struct FileState {
+    pub kept: Kept,
+    /// At the last opening of the server its fence was refused, since its tag is spent.
+    pub spent: bool,
+    /// What runs on it.
+    pub job: Option<RunningJob>,
+}
+
+/// What comes of a job in a step.
+#[derive(Drop)]
+pub enum Turn {
+    /// No job runs any more.
+    Over,
+    /// It waits for what it sent.
+    Rests(RunningJob),
+    /// Its repair is over: what the job is for comes.
+    Mended { kind: JobKind },
+    /// Drives are to be found for the missing components, from this number on.
+    Places { from: u32 },
+}
