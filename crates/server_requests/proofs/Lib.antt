@@ -1,0 +1,6 @@
+pub mod RowLaws
+pub mod ReturnLaws
+pub mod KeyLaws
+pub mod SealLaws
+pub mod SizeLaws
+pub mod RecallLaws

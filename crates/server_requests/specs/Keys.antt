@@ -1,0 +1,13 @@
+-- A drive's key, as it makes the keys of capabilities.
+use Rattle.std.specs.Prelude.{ℕ, Bool, List, ◌≡◌, ◌==◌}
+use Rattle.osd_capability.specs.Keys.{key_of}
+use Rattle.server_rules.specs.declared.server.Drive.{Drive}
+use Rattle.osd_capability.specs.declared.layout.Capability.{Capability}
+use Rattle.server_rules.specs.Commands.{key_at}
+
+abbrev pub with_number : (number : ℕ) → Drive → Bool
+with_number number d = d.number == number
+
+-- it makes the same keys of capabilities as that of the drive
+abbrev pub IsKeyAt : List Drive → (drive : ℕ) → (key : List ℕ) → Type 0
+IsKeyAt ds drive key = (c : Capability) → key_of key c ≡ key_of (key_at ds drive) c

@@ -1,0 +1,12 @@
+use osd_bytes::{Bytes, Node, Sequence};
+
+/// A message to be sent.
+#[derive(Debug, PartialEq, Drop)]
+pub struct Sent {
+    /// To whom.
+    pub to: Node,
+    pub bytes: Bytes,
+}
+
+/// Messages in the order in which they are sent.
+pub type Sends = Sequence<Sent>;
