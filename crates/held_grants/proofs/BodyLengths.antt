@@ -33,8 +33,14 @@ device_long xs e = length-append xs _ ∙ rw e refl
 object_long : (v : ObjId) → length v.oid_device_id ≡ 16 → length (objid_item v) ≡ 32
 object_long v e =
     length-append (fixed_item v.oid_device_id) _
-    ∙ omega (arith, device_long v.oid_device_id e, length-append (u64_item v.oid_partition_id)
-      (u64_item v.oid_object_id), u64_long v.oid_partition_id, u64_long v.oid_object_id)
+    ∙ omega (
+      arith,
+      device_long v.oid_device_id e,
+      length-append (u64_item v.oid_partition_id)
+          (u64_item v.oid_object_id),
+      u64_long v.oid_partition_id,
+      u64_long v.oid_object_id,
+    )
 
 error_long : (v : IoErr) → IoErrFits v → length (ioerr_item v) ≡ 56
 error_long v f =
@@ -43,7 +49,7 @@ error_long v f =
       arith,
       object_long v.oer_component f.component.device_id,
       length-append (u64_item v.oer_comp_offset)
-        (u64_item v.oer_comp_length ++ (bool_item v.oer_iswrite ++ u32_item (errno_number v.oer_errno))),
+          (u64_item v.oer_comp_length ++ (bool_item v.oer_iswrite ++ u32_item (errno_number v.oer_errno))),
       length-append (u64_item v.oer_comp_length) (bool_item v.oer_iswrite ++ u32_item (errno_number v.oer_errno)),
       length-append (bool_item v.oer_iswrite) (u32_item (errno_number v.oer_errno)),
       u64_long v.oer_comp_offset,
@@ -61,8 +67,14 @@ report_long : (report : List IoErr) → IoErrsFits (record { olr_ioerr_report = 
     length (report_item report) ≤ 65536
 unfolding list_item
 report_long report f =
-    omega (arith, length-append (u32_item (length report)) (flat_map ioerr_item report), u32_long
-      (length report), errors_long report f.1, f.0)
+    omega (
+      arith,
+      length-append (u32_item (length report)) (flat_map ioerr_item report),
+      u32_long
+          (length report),
+      errors_long report f.1,
+      f.0,
+    )
 
 -- a report of which the errors have spellings is a body
 pub short_report : (report : List IoErr) (r : Result (List ℕ) Memory) →

@@ -112,8 +112,13 @@ put_back h (e ∷ es) o = elim (cases_eq e.1.file h.file) [
   | inl s ↦ rw (eq-eqb e.1.file h.file s)
       (rw (none_without h.file es o.2 (rw (o.0 ∙ s) at o.1)) (first_behind h es o.2 (rw (o.0 ∙ s) at o.1)))
   | inr d ↦ rw (ne_eqb e.1.file h.file d) (rw (ne_eqb e.1.file h.file d) (elim (cases_lt h.file e.1.file) [
-    | inl l ↦ grind (arith, nat_tests, l, none_without h.file es o.2
-      (behind_more h.file e.0 es (omega (arith, l, o.0)) o.1))
+    | inl l ↦ grind (
+      arith,
+      nat_tests,
+      l,
+      none_without h.file es o.2
+          (behind_more h.file e.0 es (omega (arith, l, o.0)) o.1),
+    )
     | inr n ↦ grind (arith, nat_tests, n, put_back h es o.2)
   ]))
 ]

@@ -35,7 +35,7 @@ abbrev pub HasWritten : Objects → ℕ → ℕ → List ℕ → Objects → Typ
 HasWritten before object offset bytes after =
     IfSome (lookup (is_at (nat_cmp object)) before) (λ old.
     (q : ℕ) → lookup (is_at (nat_cmp q)) after ≡
-        (if q == object then Some (overwritten old offset bytes) else lookup (is_at (nat_cmp q)) before))
+    (if q == object then Some (overwritten old offset bytes) else lookup (is_at (nat_cmp q)) before))
 
 abbrev pub Drives : Type 0
 Drives = List (ℕ × DriveState)
@@ -67,8 +67,8 @@ Creates before drive object after =
 abbrev pub Writes : Drives → ℕ → ℕ → ℕ → List ℕ → Drives → Type 0
 Writes before drive object offset bytes after =
     (d o : ℕ) → object_at after d o ≡
-        (if d == drive && o == object then Some (overwritten (bytes_at before drive object) offset bytes)
-        else object_at before d o)
+    (if d == drive && o == object then Some (overwritten (bytes_at before drive object) offset bytes)
+    else object_at before d o)
 
 abbrev pub capacity_or_none : Option DriveState → Option ℕ
 capacity_or_none None = None

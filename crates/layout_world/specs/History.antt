@@ -100,7 +100,7 @@ abbrev pub IsRunFrom : ClusterState → List Line → List Step → Type 0
 IsRunFrom c before [] = Unit {0}
 IsRunFrom c before (s ∷ steps) =
     Carries c s.event s.lines s.after × IsLawful s.after (before ++ s.lines)
-        × IsRunFrom s.after (before ++ s.lines) steps
+    × IsRunFrom s.after (before ++ s.lines) steps
 
 -- a run of a new world
 abbrev pub IsRun : List Step → Type 0

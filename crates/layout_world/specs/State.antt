@@ -97,7 +97,7 @@ abbrev pub RaisesSize : List (ℕ × StripedFile) → ℕ → ℕ → List (ℕ 
 RaisesSize before f end after =
     IfSome (lookup (is_at (nat_cmp f)) before) (λ old.
     (g : ℕ) → lookup (is_at (nat_cmp g)) after ≡
-        (if g == f then Some (record old { size = max old.size end }) else lookup (is_at (nat_cmp g)) before))
+    (if g == f then Some (record old { size = max old.size end }) else lookup (is_at (nat_cmp g)) before))
 
 pub record StoresAt (c : ClusterState) (f : ℕ) (file : StripedFile) (offset : ℕ) (bytes : List ℕ)
     (after : ClusterState) : Type 0 where

@@ -40,7 +40,7 @@ IsFormed file =
 abbrev pub HasRoom : Drives → StripedFile → ℕ → ℕ → Type 0
 HasRoom drives file offset len = (l : ℕ) → offset ≤ l → l < offset + len →
     (place_of file.map l).offset < length (component_bytes drives file (place_of file.map l).position)
-        + free_at drives (slice_index file.drives (place_of file.map l).position)
+    + free_at drives (slice_index file.drives (place_of file.map l).position)
 
 -- an object that is no component of the file
 abbrev pub IsOther : StripedFile → ℕ → ℕ → Type 0
@@ -63,7 +63,7 @@ pub record Stored (before : Drives) (file : StripedFile) (offset : ℕ) (bytes :
   pub stands : Stands after file
   pub reaches : (k : ℕ) → k < file.map.comps
       → Reaches file offset (length bytes) k
-          (length (component_bytes before file k)) (length (component_bytes after file k))
+      (length (component_bytes before file k)) (length (component_bytes after file k))
   pub capacity : (d : ℕ) → capacity_at after d ≡ capacity_at before d
 
 -- the bytes of a range of the file, each from its place
