@@ -5,3 +5,5 @@
 mod drives;
 #[cfg(test)]
 mod objects;
+#[cfg(test)]
+mod serving;

@@ -1,5 +1,0 @@
-//! Tests of serving over links in memory.
-#![tactic(auto)]
-
-#[cfg(test)]
-mod drives;
