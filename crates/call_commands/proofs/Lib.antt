@@ -1,3 +1,4 @@
 pub mod Lists
 pub mod Pendings
 pub mod Queues
+pub mod Orders

@@ -2,3 +2,4 @@ pub mod State
 pub mod Having
 pub mod Pending
 pub mod Queue
+pub mod Ordering

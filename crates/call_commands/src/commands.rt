@@ -5,7 +5,7 @@ ghost use Rattle.osd_capability.specs.Keys.{format_of};
 ghost use Rattle.client_rules.specs.Requests.{object_of};
 ghost use Rattle.client_rules.specs.Commands.{no_capability, no_credential, credential_of, action_of, sealed, bare, awaited_for, nonce_at, numbered, read_commands, write_commands, counted};
 
-use crate::pending::PendingCommands;
+use crate::pending::{PendingCommands, copied};
 use client_rules::{Awaited, AwaitedCommands, Credential, Held, NONCES};
 use layout_types::{DEVICE_ID_BYTES, ObjId};
 use osd_bytes::{Bytes, Memory};
@@ -185,30 +185,6 @@ pub fn write_commands(
         count += 1;
     }
     Ok(sent)
-}
-
-// A command once more.
-fn copied(alloc: Global, awaited: &Awaited) -> Result<Awaited, Memory>
-    ensures { IfOk result (λ copy. copy ≡ awaited.now) }
-{
-    let command = &awaited.command;
-    Ok(Awaited {
-        write: awaited.write,
-        ask: awaited.ask,
-        drive: awaited.drive,
-        command: Command {
-            action: command.action,
-            partition: command.partition,
-            object: command.object,
-            offset: command.offset,
-            length: command.length,
-            nonce: command.nonce,
-            attribute: command.attribute,
-            capability: command.capability,
-            payload: Bytes::copied(alloc, command.payload.as_slice())?,
-            check: command.check,
-        },
-    })
 }
 
 /// Awaits the replies of these commands too, which are sent behind all others: copies of them are kept.

@@ -7,6 +7,7 @@
 
 mod commands;
 mod having;
+mod ordering;
 mod pending;
 mod queue;
 
@@ -14,5 +15,6 @@ pub use commands::{
     await_all, count_sent, credential_of, object_of, read_commands, write_commands,
 };
 pub use having::{before, had, had_positions, missing_of, out_of, timed_with};
+pub use ordering::in_order;
 pub use pending::PendingCommands;
 pub use queue::WriteQueue;

@@ -1,14 +1,15 @@
 ghost use Rattle.std.specs.Prelude.{◌≡◌, ℕ, [], ◌∷◌, ◌++◌, ◌↔◌, find, is_some, map, option_map, Some, ◌==◌, IsTrue, IfOk, OnOk};
 ghost use Rattle.std.specs.BTreeMap.{insert_entry, IsOrdered};
 ghost use Rattle.std.specs.Ordering.{nat_cmp};
-ghost use Rattle.call_commands.specs.State.{Awaited as Command};
+ghost use Rattle.call_commands.specs.State.{Awaited as Kept};
 ghost use Rattle.client_rules.specs.Commands.{not_of, of_component};
 ghost use Rattle.client_rules.specs.Io.{awaited_stretch};
 ghost use Rattle.call_commands.specs.Pending.{answering, left_by, nearer, first_among, lower, lowest_among};
 
 use crate::having::{before, stretch};
 use client_rules::{Awaited, TimedOut};
-use osd_bytes::{Memory, Numbers, Sequence};
+use osd_bytes::{Bytes, Memory, Numbers, Sequence};
+use osd_commands::Command;
 use std::alloc::Global;
 use std::collections::BTreeMap;
 use std::marker::Model;
@@ -35,9 +36,33 @@ impl Model for PendingCommands {
     ghost invariant = { λ s. AreKeyed s.by_nonce.entries };
 }
 
+// A command once more.
+pub(crate) fn copied(alloc: Global, awaited: &Awaited) -> Result<Awaited, Memory>
+    ensures { IfOk result (λ copy. copy ≡ awaited.now) }
+{
+    let command = &awaited.command;
+    Ok(Awaited {
+        write: awaited.write,
+        ask: awaited.ask,
+        drive: awaited.drive,
+        command: Command {
+            action: command.action,
+            partition: command.partition,
+            object: command.object,
+            offset: command.offset,
+            length: command.length,
+            nonce: command.nonce,
+            attribute: command.attribute,
+            capability: command.capability,
+            payload: Bytes::copied(alloc, command.payload.as_slice())?,
+            check: command.check,
+        },
+    })
+}
+
 // Whether a nonce is above those of all these commands, so that a command with it comes last.
 fn is_above_all(by_nonce: &BTreeMap<u64, Awaited>, nonce: u64) -> bool
-    ensures { (a : Command) → IsTrue result → insert_entry nat_cmp by_nonce.now.entries nonce a ≡ by_nonce.now.entries ++ (nonce, a) ∷ [] }
+    ensures { (a : Kept) → IsTrue result → insert_entry nat_cmp by_nonce.now.entries nonce a ≡ by_nonce.now.entries ++ (nonce, a) ∷ [] }
 {
     match by_nonce.last_key_value() {
         Some((last, _)) => *last < nonce,
@@ -118,7 +143,7 @@ impl PendingCommands {
 
     /// The component of the command with that nonce.
     pub fn component_of(&self, nonce: u64) -> Option<u32>
-        ensures { result ≡ option_map (λ (a : Command). a.ask.component) (find (λ (a : Command). a.command.nonce == nonce) self.now) }
+        ensures { result ≡ option_map (λ (a : Kept). a.ask.component) (find (λ (a : Kept). a.command.nonce == nonce) self.now) }
     {
         match self.by_nonce.get(&nonce) {
             Some(awaited) => Some(awaited.ask.component),
@@ -148,6 +173,21 @@ impl PendingCommands {
         first
     }
 
+    /// Copies of them all, in order.
+    ///
+    /// # Errors
+    ///
+    /// Want of memory alone.
+    pub fn copies(&self, alloc: Global) -> Result<Vec<Awaited>, Memory>
+        ensures { IfOk result (λ copies. copies.items ≡ self.now) }
+    {
+        let mut copies = Vec::new(alloc);
+        for awaited in self.by_nonce.values() {
+            copies.push(copied(alloc, awaited)?)?;
+        }
+        Ok(copies)
+    }
+
     /// Adds the bytes that they read or write to those of positions.
     pub fn add_stretches(&self, had: &mut Sequence<Stretch>) -> Result<(), Memory>
         ensures { OnOk result (had.new ≡ had.old ++ map awaited_stretch self.now) }
@@ -161,7 +201,7 @@ impl PendingCommands {
 
     /// Adds their positions.
     pub fn add_positions(&self, positions: &mut Numbers) -> Result<(), Memory>
-        ensures { OnOk result (positions.new ≡ positions.old ++ map (λ (a : Command). a.ask.position) self.now) }
+        ensures { OnOk result (positions.new ≡ positions.old ++ map (λ (a : Kept). a.ask.position) self.now) }
     {
         for awaited in self.by_nonce.values() {
             positions.push(awaited.ask.position)?;
