@@ -1,13 +1,16 @@
 // What a call waits for.
-ghost use Rattle.std.specs.Prelude.{◌≡◌, [], ◌==◌, find, is_some, option_map, MatchOption};
+ghost use Rattle.std.specs.Prelude.{◌≡◌, [], ◌==◌, find, is_some, option_map, IfOk, MatchOption};
 ghost use Rattle.call_io.specs.State.{Awaited as Command};
-ghost use Rattle.client_rules.specs.Commands.{of_component};
+ghost use Rattle.client_rules.specs.Commands.{in_order, of_component};
 ghost use Rattle.client_rules.specs.Io.{awaited_in};
 ghost use Rattle.call_io.specs.Phases.{phase_of};
 ghost use Rattle.call_commands.specs.Pending.{answering, first_among, lowest_among};
 
 use crate::phase::CallPhase;
-use call_commands::PendingCommands;
+use call_commands::{PendingCommands, in_order};
+use client_rules::AwaitedCommands;
+use osd_bytes::Memory;
+use std::alloc::Global;
 
 impl CallPhase {
     /// The commands of which the replies are awaited, `None` where the call doesn't wait for drives.
@@ -60,6 +63,21 @@ impl CallPhase {
         match self.pending() {
             Some(pending) => pending.lowest(),
             None => None,
+        }
+    }
+
+    /// Copies of the commands of which the replies are awaited, by stripe, component and offset.
+    ///
+    /// # Errors
+    ///
+    /// Want of memory alone.
+    #[tactic(auto, unfolding(client_rules::specs::Commands::in_order))]
+    pub fn in_order(&self, alloc: Global) -> Result<AwaitedCommands, Memory>
+        ensures { IfOk result (λ commands. commands ≡ in_order (awaited_in (phase_of self.now))) }
+    {
+        match self.pending() {
+            Some(pending) => in_order(alloc, pending),
+            None => Ok(AwaitedCommands::new(alloc)),
         }
     }
 }
