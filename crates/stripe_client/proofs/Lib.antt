@@ -1,0 +1,5 @@
+pub mod SameFile
+pub mod Taking
+pub mod Moves
+pub mod Resending
+pub mod Hearings

@@ -1,0 +1,5 @@
+pub mod Starting
+pub mod Answering
+pub mod Hearing
+pub mod Driving
+pub mod Calling

@@ -1,0 +1,199 @@
+ghost use Rattle.std.specs.Prelude.{◌≡◌, ◌≤◌, ◌<◌, None, IfOk, OnOk};
+ghost use Rattle.client_rules.specs.declared.limits.TheConstants.{MAX_CLIENT};
+ghost use Rattle.client_rules.specs.Envelopes.{in_envelope, on_message_in, on_bytes};
+ghost use Rattle.osd_bytes.specs.declared.node.Node.TheVariants as node;
+ghost use Rattle.client_state.specs.States.{client_of};
+ghost use Rattle.client_state.specs.Inside.{IsInside};
+ghost use Rattle.client_rules.specs.Steps.{new_client, calls, times_out, leaves, resent, awaits, awaited_component, next_sequence};
+ghost use Rattle.stripe_client.specs.Calling.{Gives};
+ghost use Rattle.client_state.specs.Sending.{IsStep, spelled};
+
+use crate::calling;
+use crate::driving::{hear_nothing, hear_reply};
+use crate::stepping::{hear_answer, hear_recall, still};
+use client_rules::{Awaits, CallErr, CallOp};
+use client_state::{CStep, Outstanding, Sends, State};
+use held_grants::{Dues, HeldGrants};
+use layout_ops::{Envelope, OpErr, read_envelope};
+use osd_bytes::{Memory, Node};
+use osd_commands::{CommandErr, read_reply};
+use std::alloc::Global;
+use std::marker::Model;
+
+/// A client of striped files. It asks the metadata server for layouts, and reads and writes the drives directly.
+///
+/// Contracts see it as the rules' `Client`. Each call says with the rules' function of its step which state follows,
+/// what is sent, and how the pending call ended.
+#[derive(Drop)]
+pub struct ClientCore {
+    alloc: Global,
+    state: State,
+}
+
+impl Model for ClientCore {
+    ghost use Rattle.client_rules.specs.declared.client.Client.{Client};
+    ghost use Rattle.client_state.specs.States.{client_of};
+    ghost use Rattle.client_state.specs.Inside.{IsInside};
+
+    ghost Value = { Client };
+
+    ghost view = { λ s. client_of s.state };
+
+    ghost invariant = { λ s. IsInside s.state };
+}
+
+// What the server sends.
+fn on_envelope(state: &mut State, alloc: Global, envelope: Envelope) -> Result<CStep, Memory>
+    requires { IsInside state.old }
+    ensures step { IfOk result (λ s. IsStep (on_message_in (client_of state.old) node.Server (in_envelope envelope))
+        (client_of state.new) s) }
+    ensures inside { IsInside state.new }
+{
+    match envelope {
+        Envelope::Answer(answer) => hear_answer(state, alloc, &answer),
+        Envelope::Recall(recall) => hear_recall(state, alloc, &recall),
+        _ => Ok(still(alloc)),
+    }
+}
+
+// Bytes from the server.
+#[tactic(auto, unfolding(client_rules::specs::Envelopes::message_in))]
+fn from_server(state: &mut State, alloc: Global, bytes: &[u8]) -> Result<CStep, Memory>
+    requires { IsInside state.old }
+    ensures step { IfOk result (λ s. IsStep (on_bytes (client_of state.old) node.Server bytes.now)
+        (client_of state.new) s) }
+    ensures inside { IsInside state.new }
+{
+    match read_envelope(alloc, bytes) {
+        Ok(envelope) => on_envelope(state, alloc, envelope),
+        Err(OpErr::Memory) => Err(Memory),
+        Err(_) => Ok(still(alloc)),
+    }
+}
+
+// Bytes from a drive.
+#[tactic(auto, unfolding(client_rules::specs::Envelopes::message_in))]
+fn from_drive(state: &mut State, alloc: Global, drive: u32, bytes: &[u8]) -> Result<CStep, Memory>
+    requires { IsInside state.old }
+    ensures step { IfOk result (λ s. IsStep (on_bytes (client_of state.old) (node.Drive drive) bytes.now)
+        (client_of state.new) s) }
+    ensures inside { IsInside state.new }
+{
+    match read_reply(alloc, bytes) {
+        Ok(reply) => hear_reply(state, alloc, drive, reply),
+        Err(CommandErr::Memory) => Err(Memory),
+        Err(_) => Ok(still(alloc)),
+    }
+}
+
+impl ClientCore {
+    /// A client that has done nothing, with its number, and the number of its first request, at least 1. It takes
+    /// no memory.
+    pub fn new(alloc: Global, number: u32, sequence: u32) -> Self
+        requires number { number ≤ MAX_CLIENT }
+        requires sequence { 0 < sequence }
+        ensures { result ≡ new_client number sequence }
+    {
+        ClientCore {
+            alloc,
+            state: State {
+                number,
+                next: sequence,
+                outstanding: Outstanding::none(),
+                held: HeldGrants::new(alloc),
+                due: Dues::new(alloc),
+                call: None,
+            },
+        }
+    }
+
+    /// Begins a call.
+    ///
+    /// # Errors
+    ///
+    /// As [`CallErr`] says, the first that holds; nothing has changed then. Want of memory may come in the middle.
+    #[tactic(auto, unfolding(client_rules::specs::Steps::calls))]
+    pub fn call(&mut self, op: CallOp) -> Result<CStep, CallErr>
+        ensures { Gives (calls self.old op) self.old self.new result }
+    {
+        if let Some(refusal) = calling::refusal(&self.state, &op) {
+            return Err(refusal);
+        }
+        Ok(calling::start(&mut self.state, self.alloc, op)?)
+    }
+
+    /// Takes bytes from a party. Bytes in which there is no message for this client change nothing.
+    ///
+    /// # Errors
+    ///
+    /// Want of memory alone, which may come in the middle.
+    #[tactic(auto, unfolding(client_rules::specs::Envelopes::message_in))]
+    pub fn on_message(&mut self, from: Node, bytes: &[u8]) -> Result<CStep, Memory>
+        ensures { IfOk result (λ s. IsStep (on_bytes self.old from bytes.now) self.new s) }
+    {
+        match from {
+            Node::Server => from_server(&mut self.state, self.alloc, bytes),
+            Node::Drive(drive) => from_drive(&mut self.state, self.alloc, drive, bytes),
+            Node::Client(_) => Ok(still(self.alloc)),
+        }
+    }
+
+    /// Goes on without component `component` of the pending call's file. Where no command to it is awaited nothing
+    /// changes.
+    ///
+    /// # Errors
+    ///
+    /// Want of memory alone, which may come in the middle.
+    pub fn timeout(&mut self, component: u32) -> Result<CStep, Memory>
+        ensures { IfOk result (λ s. IsStep (times_out self.old component) self.new s) }
+    {
+        hear_nothing(&mut self.state, self.alloc, component)
+    }
+
+    /// The messages whose answers are awaited, once more: the outstanding request, then the commands by stripe,
+    /// component and offset.
+    ///
+    /// # Errors
+    ///
+    /// Want of memory alone.
+    pub fn resend(&self) -> Result<Sends, Memory>
+        ensures { IfOk result (λ sends. sends ≡ spelled (resent self.now)) }
+    {
+        calling::resend(&self.state, self.alloc)
+    }
+
+    /// Returns each held grant clean, one request after the other. No call may be pending.
+    ///
+    /// # Errors
+    ///
+    /// Want of memory alone, which may come in the middle.
+    pub fn leave(&mut self) -> Result<Sends, Memory>
+        requires { self.old.call ≡ None }
+        ensures client { OnOk result (self.new ≡ (leaves self.old).client) }
+        ensures sends { IfOk result (λ sends. sends ≡ spelled (leaves self.old).sends) }
+    {
+        let step = calling::leave(&mut self.state, self.alloc)?;
+        Ok(step.sends)
+    }
+
+    /// Whose answer is awaited.
+    pub fn awaits(&self) -> Awaits
+        ensures { result ≡ awaits self.now }
+    {
+        calling::awaits(&self.state)
+    }
+
+    /// The component of the awaited command with that nonce, `None` exactly where no such command is awaited.
+    pub fn awaited(&self, nonce: u64) -> Option<u32>
+        ensures { result ≡ awaited_component self.now nonce }
+    {
+        calling::awaited(&self.state, nonce)
+    }
+
+    /// The number of the next request, or 0 where no sequence number is left.
+    pub fn next_sequence(&self) -> u32
+        ensures { result ≡ next_sequence self.now }
+    {
+        self.state.next
+    }
+}
