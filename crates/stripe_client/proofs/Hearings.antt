@@ -1,12 +1,11 @@
 -- A call that was taken up for a reply or a timeout, and its client.
-use Rattle.std.specs.Prelude.{ℕ, Bool, true, false, List, [], ◌∷◌, Option, Some, None, refl, ◌≡◌}
-use Rattle.std.proofs.Common.{sym, ap, ◌∙◌}
+use Rattle.std.specs.Prelude.{ℕ, true, false, List, [], ◌∷◌, Option, Some, None, refl, ◌≡◌}
+use Rattle.std.proofs.Common.{sym, ap}
 use Rattle.client_rules.specs.declared.client.Client.{Client}
 use Rattle.client_rules.specs.declared.calls.Call.{Call}
 use Rattle.client_rules.specs.declared.calls.Awaited.{Awaited}
 use Rattle.client_rules.specs.declared.grants.Held.{Held}
 use Rattle.client_rules.specs.declared.steps.Moved.{Moved}
-use Rattle.client_rules.specs.declared.steps.Done.{Done}
 use Rattle.osd_commands.specs.declared.replies.Reply.{Reply}
 use Rattle.client_rules.specs.Grants.{put_held}
 use Rattle.client_rules.specs.Replies.{replied, timed_out}

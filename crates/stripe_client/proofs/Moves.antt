@@ -1,33 +1,29 @@
 -- Moves under a grant that is taken out and put back.
-use Rattle.std.specs.Prelude.{ℕ, Bool, true, false, List, [], ◌∷◌, Option, Some, None, Result, Ok, Err, OnOk, refl, ◌≡◌, find, if◌then◌else◌}
-use Rattle.std.proofs.Common.{arith, inl, inr, rules, sym, ap, ◌∙◌}
-use Rattle.std.proofs.lemmas.Bool.{cases_Bool}
+use Rattle.std.specs.Prelude.{ℕ, List, Some, None, Result, Ok, Err, OnOk, ◌≡◌, find}
+use Rattle.std.proofs.Common.{sym, ap, ◌∙◌}
 use Rattle.call_io.specs.Steps.{on_reply, on_timeout}
 use Rattle.client_rules.specs.declared.calls.CallOp.{CallOp}
 use Rattle.client_rules.specs.declared.calls.Call.{Call}
-use Rattle.client_rules.specs.declared.calls.Awaited.{Awaited}
 use Rattle.client_rules.specs.declared.calls.TimedOut.{TimedOut}
-use Rattle.client_rules.specs.declared.calls.Need.TheVariants.{First, Get, Commit}
-use Rattle.client_rules.specs.declared.calls.Phase.{Phase}
-use Rattle.client_rules.specs.declared.calls.Phase.TheVariants.{Starts, Waits}
+use Rattle.client_rules.specs.declared.calls.Need.TheVariants.{Commit}
+use Rattle.client_rules.specs.declared.calls.Phase.TheVariants.{Waits}
 use Rattle.client_rules.specs.declared.grants.Held.{Held}
 use Rattle.client_rules.specs.declared.steps.Moved.{Moved}
 use Rattle.client_rules.specs.declared.steps.Done.{Done}
 use Rattle.layout_ops.specs.declared.messages.Answer.{Answer}
 use Rattle.osd_commands.specs.declared.replies.Reply.{Reply}
 use Rattle.client_rules.specs.Calls.{file_of}
-use Rattle.client_rules.specs.Grants.{held_of, put_held, covers}
+use Rattle.client_rules.specs.Grants.{held_of, put_held}
 use Rattle.client_rules.specs.Commands.{of_component}
 use Rattle.client_rules.specs.Io.{awaited_in}
 use Rattle.client_rules.specs.Replies.{answers}
 use Rattle.client_rules.specs.Answers.{on_commit}
-use Rattle.client_rules.specs.Going.{by_turn, moved, phased, begins, starts_with, starts_under}
-use Rattle.stripe_client.specs.declared.begin.Cover.TheVariants as cover
-use Rattle.stripe_client.specs.Starting.{cover_of, Deals, starts}
+use Rattle.client_rules.specs.Going.{moved, phased, begins}
+use Rattle.stripe_client.specs.Starting.{Deals}
 use Rattle.stripe_client.specs.Answering.{commits}
 use Rattle.stripe_client.specs.Driving.{replied_call, timed_call}
 use Rattle.stripe_client.proofs.SameFile.{begins_stays, on_commit_stays, on_reply_stays, on_timeout_stays}
-use Rattle.stripe_client.proofs.Taking.{of_file, taken_up, turned_alike, moved_alike}
+use Rattle.stripe_client.proofs.Taking.{of_file, turned_alike, moved_alike}
 
 -- what is put back stands where it stood
 abbrev pub PutsBack : (f : ℕ) → (hs all : List Held) → Type 0

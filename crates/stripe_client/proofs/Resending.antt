@@ -1,5 +1,5 @@
 -- What is sent once more, as bytes.
-use Rattle.std.specs.Prelude.{List, [], ◌∷◌, ◌++◌, Option, Some, None, map, refl, ◌≡◌}
+use Rattle.std.specs.Prelude.{List, [], ◌++◌, Option, Some, None, map, refl, ◌≡◌}
 use Rattle.client_rules.specs.declared.calls.Awaited.{Awaited}
 use Rattle.client_rules.specs.declared.client.Outgoing.TheVariants.{Asks}
 use Rattle.layout_ops.specs.declared.messages.Request.{Request}

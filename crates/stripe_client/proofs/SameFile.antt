@@ -1,5 +1,5 @@
 -- Whatever a call does with the drives, its grant stays that of its file.
-use Rattle.std.proofs.Common.{◌≡◌, ℕ, ◌+◌, ◌==◌, Bool, true, false, List, [], ◌∷◌, ◌++◌, refl}
+use Rattle.std.proofs.Common.{◌≡◌, ℕ, ◌==◌, Bool, true, false, List, [], ◌∷◌, refl}
 use Rattle.std.specs.Prelude.{if◌then◌else◌, Option, Some, None}
 use Rattle.client_rules.specs.declared.calls.CallOp.{CallOp}
 use Rattle.client_rules.specs.declared.grants.Held.{Held}
@@ -8,12 +8,10 @@ use Rattle.client_rules.specs.declared.calls.TimedOut.{TimedOut}
 use Rattle.client_rules.specs.declared.calls.Io.{Io}
 use Rattle.client_rules.specs.declared.calls.Phase.{Phase}
 use Rattle.client_rules.specs.declared.calls.Phase.TheVariants.{Starts, Needs, Waits, Reads, Probes, Gathers, Scatters}
-use Rattle.client_rules.specs.declared.steps.Turn.{Turn}
 use Rattle.client_rules.specs.declared.steps.Moved.{Moved}
 use Rattle.layout_ops.specs.declared.messages.Answer.{Answer}
 use Rattle.osd_commands.specs.declared.replies.Reply.{Reply}
 use Rattle.stripe_plan.specs.declared.plan.Span.{Span}
-use Rattle.stripe_plan.specs.declared.plan.Ask.{Ask}
 use Rattle.stripe_plan.specs.declared.plan.Column.{Column}
 use Rattle.stripe_plan.specs.declared.plan.Store.{Store}
 use Rattle.layout_ops.specs.declared.statuses.TheConstants.{NFS4_OK}

@@ -1,9 +1,8 @@
 -- A grant that was taken out for a move, and put back by it.
-use Rattle.std.specs.Prelude.{ℕ, Bool, true, false, List, [], ◌∷◌, Option, Some, None, refl, ◌≡◌, ◌==◌, find}
-use Rattle.std.proofs.Common.{arith, inl, inr, rules, sym, ap, ◌∙◌}
+use Rattle.std.specs.Prelude.{ℕ, List, [], ◌∷◌, Option, Some, None, refl, ◌≡◌, ◌==◌}
+use Rattle.std.proofs.Common.{arith, inl, inr, ap}
 use Rattle.std.proofs.lemmas.Bool.{cases_Bool}
 use Rattle.std.proofs.lemmas.Bool.Decides.{nat_tests}
-use Rattle.client_rules.specs.declared.client.Client.{Client}
 use Rattle.client_rules.specs.declared.calls.Call.{Call}
 use Rattle.client_rules.specs.declared.calls.CallOp.{CallOp}
 use Rattle.client_rules.specs.declared.grants.Held.{Held}

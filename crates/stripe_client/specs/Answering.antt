@@ -1,12 +1,10 @@
 -- The answer to a call's request.
-use Rattle.std.specs.Prelude.{ℕ, List, Option, Some, None}
+use Rattle.std.specs.Prelude.{List}
 use Rattle.client_rules.specs.declared.calls.CallOp.{CallOp}
 use Rattle.client_rules.specs.declared.calls.Call.{Call}
-use Rattle.client_rules.specs.declared.grants.Held.{Held}
 use Rattle.client_rules.specs.declared.calls.TimedOut.{TimedOut}
 use Rattle.client_rules.specs.declared.calls.Need.{Need}
 use Rattle.client_rules.specs.declared.calls.Need.TheVariants.{Commit}
-use Rattle.client_rules.specs.declared.calls.Phase.{Phase}
 use Rattle.client_rules.specs.declared.calls.Phase.TheVariants.{Waits}
 use Rattle.client_rules.specs.declared.steps.Done.{Done}
 use Rattle.layout_ops.specs.declared.messages.Answer.{Answer}

@@ -1,5 +1,5 @@
 -- A call that begins.
-use Rattle.std.specs.Prelude.{ℕ, Bool, Option, Some, None, ◌≡◌, is_none, if◌then◌else◌}
+use Rattle.std.specs.Prelude.{Option, Some, None, ◌≡◌, is_none, if◌then◌else◌}
 use Rattle.call_io.specs.declared.phase.CallPhase.TheVariants as phase
 use Rattle.client_rules.specs.declared.calls.CallOp.{CallOp}
 use Rattle.client_rules.specs.declared.grants.Held.{Held}

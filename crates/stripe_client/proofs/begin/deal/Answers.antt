@@ -1,4 +1,4 @@
-use Rattle.std.proofs.Common.{sym, ap, ◌∙◌}
+use Rattle.std.proofs.Common.{sym, ◌∙◌}
 use Rattle.call_io.specs.Phases.{moved_of}
 use Rattle.client_state.specs.States.{done_of}
 use Rattle.stripe_client.proofs.Taking.{none_left}
