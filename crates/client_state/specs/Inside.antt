@@ -1,5 +1,5 @@
 -- States whose pending call has a range inside the greatest file.
-use Rattle.std.specs.Prelude.{Option, Some, None, ⊤, ◌≡◌, Bool, false}
+use Rattle.std.specs.Prelude.{Option, Some, None, ⊤, ◌≡◌, false}
 use Rattle.held_grants.specs.Ranges.{AsksInFile}
 use Rattle.client_state.specs.declared.state.PendingCall.{PendingCall}
 use Rattle.client_state.specs.declared.state.State.{State}

@@ -1,5 +1,5 @@
 -- The request whose answer is awaited, as the message that it was sent in.
-use Rattle.std.specs.Prelude.{ℕ, List, Option, Some, None, ⊤, option_map}
+use Rattle.std.specs.Prelude.{ℕ, List, Option, Some, None, ⊤}
 use Rattle.layout_ops.specs.declared.messages.Request.{Request}
 use Rattle.layout_ops.specs.declared.envelope.Envelope.{Envelope}
 use Rattle.layout_ops.specs.declared.envelope.Envelope.TheVariants as envelope

@@ -1,5 +1,5 @@
 -- The state of a client in the code, and what a step has made so far, as the rules have them.
-use Rattle.std.specs.Prelude.{Bool, List, [], ◌∷◌, Option, Some, None, option_map, if◌then◌else◌}
+use Rattle.std.specs.Prelude.{List, [], ◌∷◌, Option, Some, None, option_map, if◌then◌else◌}
 use Rattle.call_io.specs.Phases.{phase_of}
 use Rattle.client_rules.specs.declared.client.Client.{Client}
 use Rattle.client_rules.specs.declared.calls.Call.{Call}
