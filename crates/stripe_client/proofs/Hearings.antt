@@ -22,7 +22,7 @@ idle c = record c { call = None }
 moved_idle : (c : Client) (call : Call) (m : Moved) → moved (quiet (idle c)) call.op m ≡ moved (quiet c) call.op m
 moved_idle c call m =
     turned_alike (record (quiet c) { client = record c { held = put_held c.held m.held }; commands = m.sent }) call.op
-      m.turn None
+    m.turn None
 
 pub reply_heard : (c : Client) (call : Call) (a : Awaited) (r : Reply) (h : Option Held) → c.call ≡ Some call →
     replied_under (quiet (idle c)) call r (Some a) h ≡ reply_under c call a r h

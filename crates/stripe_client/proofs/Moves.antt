@@ -42,10 +42,10 @@ put_back d hs op h m found back stays =
 pub dealt : (d : Done) (hs : List Held) (op : CallOp) (h : Held) (m : Moved) (new : Done) →
     held_of d.client.held (file_of op) ≡ Some h →
     PutsBack (file_of op) hs d.client.held → m ≡ begins h op → new ≡ moved (without d hs) op m →
-      Deals d op (held_of d.client.held (file_of op)) new
+    Deals d op (held_of d.client.held (file_of op)) new
 dealt d hs op h m new found back made done =
     rw found (done ∙ ap (λ (x : Moved). moved (without d hs) op x) made ∙ put_back d hs op h (begins h op) found back
-      (begins_stays h op))
+    (begins_stays h op))
 
 pub committed : (d : Done) (hs : List Held) (op : CallOp) (a : Answer) (timed : List TimedOut) (h : Held) (m : Moved)
     (new : Done) →
@@ -53,12 +53,14 @@ pub committed : (d : Done) (hs : List Held) (op : CallOp) (a : Answer) (timed : 
     new ≡ moved (without d hs) op m → new ≡ commits d op a timed
 committed d hs op a timed h m new found back made done =
     rw found (done ∙ ap (λ (x : Moved). moved (without d hs) op x) made ∙ put_back d hs op h
-      (on_commit h op a timed) found back (on_commit_stays h op a timed)
+    (on_commit h op a timed) found back (on_commit_stays h op a timed)
     ∙ sym
-      (turned_alike
-        (record d { client = record d.client { held = put_held d.client.held (on_commit h op a timed).held };
-          commands = (on_commit h op a timed).sent }) op (on_commit h op a timed).turn
-            (Some (record { op = op; phase = Waits (Commit timed) }))))
+    (turned_alike
+    (record d {
+      client = record d.client { held = put_held d.client.held (on_commit h op a timed).held };
+      commands = (on_commit h op a timed).sent;
+    }) op (on_commit h op a timed).turn
+    (Some (record { op = op; phase = Waits (Commit timed) }))))
 
 pub replied_to : (d : Done) (hs : List Held) (call : Call) (drive : ℕ) (r : Reply) (h : Held) (m : Moved) (new : Done) →
     held_of d.client.held (file_of call.op) ≡ Some h → PutsBack (file_of call.op) hs d.client.held →
@@ -67,7 +69,7 @@ pub replied_to : (d : Done) (hs : List Held) (call : Call) (drive : ℕ) (r : Re
 replied_to d hs call drive r h m new found back made done =
     rw found (done ∙ ap (λ (x : Moved). moved (without d hs) call.op x) made
     ∙ put_back d hs call.op h _ found back
-      (on_reply_stays h call.op call.phase r (find (answers drive r) (awaited_in call.phase))))
+    (on_reply_stays h call.op call.phase r (find (answers drive r) (awaited_in call.phase))))
 
 pub timed_of : (d : Done) (hs : List Held) (call : Call) (k : ℕ) (h : Held) (m : Moved) (new : Done) →
     held_of d.client.held (file_of call.op) ≡ Some h → PutsBack (file_of call.op) hs d.client.held →
@@ -76,7 +78,7 @@ pub timed_of : (d : Done) (hs : List Held) (call : Call) (k : ℕ) (h : Held) (m
 timed_of d hs call k h m new found back made done =
     rw found (done ∙ ap (λ (x : Moved). moved (without d hs) call.op x) made
     ∙ put_back d hs call.op h _ found back
-      (on_timeout_stays h call.op call.phase k (of_component k (awaited_in call.phase))))
+    (on_timeout_stays h call.op call.phase k (of_component k (awaited_in call.phase))))
 
 -- ---- no grant is held
 
@@ -87,19 +89,19 @@ dealt_none d hs op found same = rw found (ap (λ (x : List Held). without d x) s
 
 pub committed_none : (d : Done) (hs : List Held) (op : CallOp) (a : Answer) (timed : List TimedOut) (new : Done) →
     held_of d.client.held (file_of op) ≡ None → hs ≡ d.client.held →
-      new ≡ phased (without d hs) op (Waits (Commit timed)) → new ≡ commits d op a timed
+    new ≡ phased (without d hs) op (Waits (Commit timed)) → new ≡ commits d op a timed
 committed_none d hs op a timed new found same done =
     rw found (done ∙ ap (λ (x : List Held). phased (without d x) op (Waits (Commit timed))) same)
 
 pub replied_none : (d : Done) (hs : List Held) (call : Call) (drive : ℕ) (r : Reply) (new : Done) →
     held_of d.client.held (file_of call.op) ≡ None → hs ≡ d.client.held →
-      new ≡ phased (without d hs) call.op call.phase → new ≡ replied_call d call drive r
+    new ≡ phased (without d hs) call.op call.phase → new ≡ replied_call d call drive r
 replied_none d hs call drive r new found same done =
     rw found (done ∙ ap (λ (x : List Held). phased (without d x) call.op call.phase) same)
 
 pub timed_none : (d : Done) (hs : List Held) (call : Call) (k : ℕ) (new : Done) →
     held_of d.client.held (file_of call.op) ≡ None → hs ≡ d.client.held →
-      new ≡ phased (without d hs) call.op call.phase → new ≡ timed_call d call k
+    new ≡ phased (without d hs) call.op call.phase → new ≡ timed_call d call k
 timed_none d hs call k new found same done =
     rw found (done ∙ ap (λ (x : List Held). phased (without d x) call.op call.phase) same)
 

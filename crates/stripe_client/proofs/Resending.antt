@@ -10,6 +10,6 @@ use Rattle.client_state.specs.Sending.{sent_of, spelled}
 
 pub resent_bytes : (o : Option Request) (xs : List Awaited) →
     spelled (outstanding_sends o ++ map to_drive xs) ≡ ([] ++ map sent_of (map Asks (list_of o)))
-      ++ map sent_of (map to_drive xs)
+    ++ map sent_of (map to_drive xs)
 resent_bytes None xs = refl
 resent_bytes (Some r) xs = refl

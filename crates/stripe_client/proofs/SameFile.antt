@@ -139,7 +139,7 @@ pub on_commit_stays : (h : Held) (op : CallOp) (a : Answer) (timed : List TimedO
 unfolding on_commit
 on_commit_stays h op a timed =
     either h (status_of a.results == NFS4_OK) (committed h op a timed)
-      (turned h (not_committed (status_of a.results) a.detail)) refl refl
+    (turned h (not_committed (status_of a.results) a.detail)) refl refl
 
 pub on_reply_stays : (h : Held) (op : CallOp) (p : Phase) (r : Reply) (a : Option Awaited) →
     Stays h (on_reply h op p r a)

@@ -46,5 +46,5 @@ pub moved_alike : (d : Done) (hs : List Held) (call : Option Call) (op : CallOp)
     put_held hs m.held ≡ put_held d.client.held m.held → moved (taken_up d hs call) op m ≡ moved d op m
 moved_alike d hs call op m e =
     rw e
-      (turned_alike (record d { client = record d.client { held = put_held d.client.held m.held }; commands = m.sent })
-        op m.turn call)
+    (turned_alike (record d { client = record d.client { held = put_held d.client.held m.held }; commands = m.sent })
+    op m.turn call)
