@@ -6,4 +6,6 @@ mod fences;
 #[cfg(test)]
 mod grants;
 #[cfg(test)]
+mod rebuilds;
+#[cfg(test)]
 mod repairs;
