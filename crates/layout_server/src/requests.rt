@@ -1,0 +1,95 @@
+ghost use Rattle.std.specs.Prelude.{◌≡◌, ◌<◌, ◌^◌, ◌+◌, ◌≤◌, [], List, ℕ, None, IfOk, OnOk, length};
+ghost use Rattle.server_rules.specs.declared.limits.TheConstants.{GREATEST_GRANT};
+ghost use Rattle.layout_ops.specs.Spelling.{ResultsWritable};
+ghost use Rattle.server_rules.specs.Requests.{no_file, carries_out};
+ghost use Rattle.server_requests.specs.Telling.{IsAnswer};
+ghost use Rattle.layout_server.specs.States.{server_of, Did, Finishes};
+
+use crate::answering::answer_to;
+use crate::serving::Served;
+use crate::state::State;
+use crate::step::{Notes, Step};
+use layout_ops::{NFS4_OK, NFS4ERR_BADLAYOUT, NFS4ERR_NOENT};
+use osd_bytes::{Memory, Sequence};
+use server_requests::{Sends, plain_answer, send_recalls, send_to_drives};
+use server_rules::{ClientRequest, Moved, RequestArgs};
+use std::alloc::Global;
+
+/// A step begins, and nothing is sent yet.
+pub fn begins(alloc: Global, nonce: u64, object: u64) -> Moved
+    ensures { result ≡ record { nonce = nonce; object = object; sent = []; notes = []; mended = [] } }
+{
+    Moved {
+        nonce,
+        object,
+        sent: Sequence::new(alloc),
+        notes: Notes::new(alloc),
+        mended: Sequence::new(alloc),
+    }
+}
+
+// The status of a request on a file that there isn't.
+fn no_file(args: &RequestArgs) -> u32
+    ensures value { result ≡ no_file args.now }
+    ensures answer { IsAnswer args.now result }
+{
+    match args {
+        RequestArgs::Get { .. } => NFS4ERR_NOENT,
+        RequestArgs::Commit { .. } => NFS4ERR_BADLAYOUT,
+        RequestArgs::Return { .. } => NFS4_OK,
+    }
+}
+
+/// The step of a new request on a file that there isn't.
+///
+/// # Errors
+///
+/// Want of memory alone.
+pub fn refuse(alloc: Global, state: &mut State, request: &ClientRequest) -> Result<Step, Memory>
+    ensures did { IfOk result (λ out. (now : ℕ) (chosen : List ℕ) → Did out state.new (carries_out (server_of state.old) now chosen request.now None)) }
+    ensures files { OnOk result (state.new.files ≡ state.old.files) }
+    ensures grants { OnOk result (state.new.next_grant ≡ state.old.next_grant) }
+{
+    let answer = plain_answer(request, no_file(&request.args), 0, 0);
+    let mut sends = Sends::new(alloc);
+    answer_to(alloc, &mut state.slots, &mut sends, answer)?;
+    let notes = Notes::new(alloc);
+    Ok(Step { sends, notes })
+}
+
+/// What is left of the step of a request behind its file: it sends and counts.
+///
+/// # Errors
+///
+/// Want of memory alone.
+pub fn finish(
+    alloc: Global,
+    state: &mut State,
+    moved: Moved,
+    served: Served,
+) -> Result<Step, Memory>
+    requires writable { ResultsWritable served.answer.results }
+    requires numbers { state.old.next_grant + served.outcome.numbers ≤ GREATEST_GRANT + 1 }
+    requires room { state.old.next_recall < 2 ^ 63 }
+    ensures { IfOk result (Finishes state.old moved served state.new) }
+{
+    let Served { outcome, answer } = served;
+    let recalls = outcome.recalled.as_slice();
+    let mut sends = Sends::new(alloc);
+    send_to_drives(
+        alloc,
+        &mut sends,
+        state.drives.as_slice(),
+        moved.sent.as_slice(),
+    )?;
+    send_recalls(alloc, &mut sends, recalls, state.next_recall)?;
+    answer_to(alloc, &mut state.slots, &mut sends, answer)?;
+    state.next_grant += outcome.numbers;
+    state.next_recall += recalls.len() as u64;
+    state.next_nonce = moved.nonce;
+    state.next_object = moved.object;
+    Ok(Step {
+        sends,
+        notes: moved.notes,
+    })
+}
