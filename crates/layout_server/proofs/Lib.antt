@@ -1,3 +1,4 @@
 pub mod TableLaws
 pub mod SlotLaws
 pub mod StepLaws
+pub mod DriveLaws

@@ -1,5 +1,5 @@
 -- Files by number, in the code's map and in the rules' list.
-use Rattle.std.specs.Prelude.{ℕ, true, [], ◌∷◌, Some, refl, ◌≡◌, ◌==◌}
+use Rattle.std.specs.Prelude.{ℕ, true, [], ◌∷◌, None, Some, refl, ◌≡◌, ◌==◌}
 use Rattle.std.specs.Option.{option_map}
 use Rattle.std.specs.Ordering.{nat_cmp}
 use Rattle.std.specs.BTreeMap.{is_at}
@@ -8,6 +8,9 @@ use Rattle.std.proofs.Common.{arith, inl, inr, ap, sym, subst, ◌∙◌}
 use Rattle.std.proofs.lemmas.Bool.{cases_Bool}
 use Rattle.std.proofs.lemmas.Bool.Decides.{nat_tests}
 use Rattle.server_rules.specs.Files.{file_at, put_file}
+use Rattle.server_rules.specs.Requests.{size_in}
+use Rattle.file_requests.specs.Serving.{LeavesFile, waited}
+use Rattle.layout_server.specs.Resending.{waited_of}
 use Rattle.file_jobs.specs.declared.job.FileState.{FileState}
 use Rattle.file_jobs.specs.Steps.{file_of}
 use Rattle.file_jobs.specs.Sound.{IsSoundFile}
@@ -64,3 +67,26 @@ entry_found (x ∷ xs) n f a e = elim (cases_Bool (is_at (nat_cmp n) x.0)) [
     found_here n x f i t e =
         let same : x.1 ≡ f = cc e in
         record { number = ap (λ (y : FileState). y.kept.number) (sym same) ∙ i.number ∙ sym (same_key n x.0 t); sound = subst (λ y. IsSoundFile y) same i.sound }
+
+-- it stays at its number
+pub entries_left : (t : Table) (n : ℕ) (f g : FileState) → AreEntries t → entry_at t n ≡ Some f → LeavesFile f g → AreEntries (set_value (is_at (nat_cmp n)) t g)
+entries_left t n f g a e l = entries_put t n g a (record { number = l.number ∙ (entry_found t n f a e).number; sound = l.sound })
+
+-- the file that there is, and the one that there isn't
+pub file_there : (t : Table) (n : ℕ) (f : FileState) → AreEntries t → entry_at t n ≡ Some f → file_at (files_in t) n ≡ Some (file_of f)
+file_there t n f a e = file_at-files t n a ∙ ap (option_map file_of) e
+
+pub no_file_there : (t : Table) (n : ℕ) → AreEntries t → entry_at t n ≡ None → file_at (files_in t) n ≡ None
+no_file_there t n a e = file_at-files t n a ∙ ap (option_map file_of) e
+
+pub size_there : (t : Table) (n : ℕ) (f : FileState) → AreEntries t → entry_at t n ≡ Some f → f.kept.size ≡ size_in (file_at (files_in t) n)
+size_there t n f a e = ap size_in (sym (file_there t n f a e))
+
+pub no_size_there : (t : Table) (n : ℕ) → AreEntries t → entry_at t n ≡ None → 0 ≡ size_in (file_at (files_in t) n)
+no_size_there t n a e = ap size_in (sym (no_file_there t n a e))
+
+pub waited_there : (t : Table) (n : ℕ) (f : FileState) → AreEntries t → entry_at t n ≡ Some f → waited f.job ≡ waited_of (file_at (files_in t) n)
+waited_there t n f a e = ap waited_of (sym (file_there t n f a e))
+
+pub none_waited : (t : Table) (n : ℕ) → AreEntries t → entry_at t n ≡ None → None ≡ waited_of (file_at (files_in t) n)
+none_waited t n a e = ap waited_of (sym (no_file_there t n a e))

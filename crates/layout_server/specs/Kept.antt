@@ -23,9 +23,10 @@ answer_of r = no_answer
 abbrev pub answer_in : List ℕ → Answer
 answer_in bytes = answer_of (envelope_of bytes)
 
--- they spell it
-abbrev pub IsSpelled : List ℕ → Type 0
-IsSpelled bytes = bytes ≡ bytes_of (Answers (answer_in bytes))
+-- they spell it, and it is the client's
+pub record IsKept (holder : ℕ) (bytes : List ℕ) : Type 0 where
+  pub spelled : bytes ≡ bytes_of (Answers (answer_in bytes))
+  pub client : (answer_in bytes).client ≡ holder
 
 -- the number of the client's slot, or of all slots where it has none
 unfoldable pub place_in : List Slot → (client : ℕ) → ℕ

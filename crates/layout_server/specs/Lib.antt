@@ -1,4 +1,6 @@
 pub mod Kept
 pub mod Tables
+pub mod Drives
 pub mod States
 pub mod AtFile
+pub mod Resending

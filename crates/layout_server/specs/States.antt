@@ -1,5 +1,5 @@
 -- What the code has, as the rules' server.
-use Rattle.std.specs.Prelude.{ℕ, List, ◌≡◌, ◌≤◌, ◌+◌, ◌<◌, ◌^◌, [], ◌∷◌, ◌++◌, length}
+use Rattle.std.specs.Prelude.{ℕ, List, Option, Some, None, ◌≡◌, ◌≤◌, ◌+◌, ◌<◌, ◌^◌, [], ◌∷◌, ◌++◌, length}
 use Rattle.server_rules.specs.declared.limits.TheConstants.{GREATEST_GRANT}
 use Rattle.server_rules.specs.declared.server.Server.{Server}
 use Rattle.server_rules.specs.declared.server.Moved.{Moved}
@@ -14,6 +14,7 @@ use Rattle.layout_server.specs.declared.state.State.{State}
 use Rattle.layout_server.specs.declared.step.Step.{Step}
 use Rattle.layout_server.specs.declared.serving.Served.{Served}
 use Rattle.layout_server.specs.Tables.{files_in, AreEntries}
+use Rattle.layout_server.specs.Drives.{AreDrives}
 
 abbrev pub server_of : State → Server
 server_of s = record {
@@ -31,18 +32,20 @@ server_of s = record {
 pub record IsGood (s : State) : Type 0 where
   pub files : AreEntries s.files.entries
   pub grants : s.next_grant ≤ GREATEST_GRANT + 1
+  pub drives : AreDrives s.drives
 
 -- the counters of 64 bits have room
-pub record HasRoom (s : State) : Type 0 where
+pub record HasRoom (s : Server) : Type 0 where
   pub nonce : s.next_nonce < 2 ^ 63
   pub object : s.next_object < 2 ^ 63
   pub recall : s.next_recall < 2 ^ 63
 
 -- the step did what the rules say
-pub record Did (out : Step) (new : State) (s : RulesStep) : Type 0 where
-  pub state : server_of new ≡ s.state
+pub record Did (out : Step) (new : Server) (s : RulesStep) : Type 0 where
+  pub state : new ≡ s.state
   pub sends : out.sends ≡ all_sent s.sends
   pub notes : out.notes ≡ s.notes
+  pub mended : out.mended ≡ s.mended
 
 -- the rest of a request's step behind its file: it sends and counts, and keeps the answer
 pub record Finishes (old : State) (m : Moved) (v : Served) (new : State) (out : Step) : Type 0 where
@@ -55,6 +58,14 @@ pub record Finishes (old : State) (m : Moved) (v : Served) (new : State) (out : 
   }
   pub sends : out.sends ≡ all_sent (to_drives old.drives m.sent ++ (recalls_from old.next_recall v.outcome.recalled ++ (Answers v.answer ∷ [])))
   pub notes : out.notes ≡ m.notes
+  pub mended : out.mended ≡ m.mended
+
+-- the rest of a step that sends to drives alone
+pub record Settles (old : State) (m : Moved) (new : State) (out : Step) : Type 0 where
+  pub state : new ≡ record old { next_nonce = m.nonce; next_object = m.object }
+  pub sends : out.sends ≡ all_sent (to_drives old.drives m.sent)
+  pub notes : out.notes ≡ m.notes
+  pub mended : out.mended ≡ m.mended
 
 -- a new request, carried out at the file of its number
 abbrev pub carried_in : Server → (now : ℕ) → (chosen : List ℕ) → ClientRequest → RulesStep

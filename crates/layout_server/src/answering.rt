@@ -10,6 +10,20 @@ use osd_bytes::{Bytes, Memory, Node};
 use server_requests::{Sends, Sent, answer_bytes};
 use std::alloc::Global;
 
+/// Sends an answer to its client, which no slot keeps.
+///
+/// # Errors
+///
+/// Want of memory alone.
+pub fn send_answer(alloc: Global, sends: &mut Sends, answer: Answer) -> Result<(), Memory>
+    requires { ResultsWritable answer.results }
+    ensures { OnOk result (sends.new ≡ sends.old ++ sent_as (Answers answer) ∷ []) }
+{
+    let to = Node::Client(answer.client);
+    let bytes = answer_bytes(alloc, answer)?;
+    sends.push(Sent { to, bytes })
+}
+
 /// Sends an answer to its client, and keeps it as the last one in the client's slot.
 ///
 /// # Errors

@@ -1,16 +1,20 @@
-//! The metadata server: its files by number, its slots of clients, and the parts of a request's step.
+//! The metadata server: its files by number, its slots of clients, and the parts of a step.
 #![tactic(auto)]
 
 mod answering;
 mod requests;
+mod resending;
 mod serving;
+mod settling;
 mod slots;
 mod state;
 mod step;
 
-pub use answering::answer_to;
-pub use requests::{begins, finish, refuse};
+pub use answering::{answer_to, send_answer};
+pub use requests::{finish, refuse};
+pub use resending::{resend_all, waits};
 pub use serving::{Served, serve_in};
+pub use settling::{begins, only_sends, settle};
 pub use slots::{KeptAnswer, Slots, keep, slot_of};
 pub use state::{Drives, Files, State};
-pub use step::{Notes, Step};
+pub use step::{Notes, Repairs, Step};

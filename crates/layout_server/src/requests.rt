@@ -1,4 +1,4 @@
-ghost use Rattle.std.specs.Prelude.{◌≡◌, ◌<◌, ◌^◌, ◌+◌, ◌≤◌, [], List, ℕ, None, IfOk, OnOk, length};
+ghost use Rattle.std.specs.Prelude.{◌≡◌, ◌<◌, ◌^◌, ◌+◌, ◌≤◌, List, ℕ, None, IfOk, OnOk};
 ghost use Rattle.server_rules.specs.declared.limits.TheConstants.{GREATEST_GRANT};
 ghost use Rattle.layout_ops.specs.Spelling.{ResultsWritable};
 ghost use Rattle.server_rules.specs.Requests.{no_file, carries_out};
@@ -7,26 +7,14 @@ ghost use Rattle.layout_server.specs.States.{server_of, Did, Finishes};
 
 use crate::answering::answer_to;
 use crate::serving::Served;
+use crate::settling::only_sends;
 use crate::state::State;
-use crate::step::{Notes, Step};
+use crate::step::Step;
 use layout_ops::{NFS4_OK, NFS4ERR_BADLAYOUT, NFS4ERR_NOENT};
-use osd_bytes::{Memory, Sequence};
+use osd_bytes::Memory;
 use server_requests::{Sends, plain_answer, send_recalls, send_to_drives};
 use server_rules::{ClientRequest, Moved, RequestArgs};
 use std::alloc::Global;
-
-/// A step begins, and nothing is sent yet.
-pub fn begins(alloc: Global, nonce: u64, object: u64) -> Moved
-    ensures { result ≡ record { nonce = nonce; object = object; sent = []; notes = []; mended = [] } }
-{
-    Moved {
-        nonce,
-        object,
-        sent: Sequence::new(alloc),
-        notes: Notes::new(alloc),
-        mended: Sequence::new(alloc),
-    }
-}
 
 // The status of a request on a file that there isn't.
 fn no_file(args: &RequestArgs) -> u32
@@ -46,15 +34,15 @@ fn no_file(args: &RequestArgs) -> u32
 ///
 /// Want of memory alone.
 pub fn refuse(alloc: Global, state: &mut State, request: &ClientRequest) -> Result<Step, Memory>
-    ensures did { IfOk result (λ out. (now : ℕ) (chosen : List ℕ) → Did out state.new (carries_out (server_of state.old) now chosen request.now None)) }
+    ensures did { IfOk result (λ out. (now : ℕ) (chosen : List ℕ) → Did out (server_of state.new) (carries_out (server_of state.old) now chosen request.now None)) }
     ensures files { OnOk result (state.new.files ≡ state.old.files) }
     ensures grants { OnOk result (state.new.next_grant ≡ state.old.next_grant) }
+    ensures drives { OnOk result (state.new.drives ≡ state.old.drives) }
 {
     let answer = plain_answer(request, no_file(&request.args), 0, 0);
     let mut sends = Sends::new(alloc);
     answer_to(alloc, &mut state.slots, &mut sends, answer)?;
-    let notes = Notes::new(alloc);
-    Ok(Step { sends, notes })
+    Ok(only_sends(alloc, sends))
 }
 
 /// What is left of the step of a request behind its file: it sends and counts.
@@ -76,12 +64,7 @@ pub fn finish(
     let Served { outcome, answer } = served;
     let recalls = outcome.recalled.as_slice();
     let mut sends = Sends::new(alloc);
-    send_to_drives(
-        alloc,
-        &mut sends,
-        state.drives.as_slice(),
-        moved.sent.as_slice(),
-    )?;
+    send_to_drives(alloc, &mut sends, state.drives.as_slice(), moved.sent.as_slice())?;
     send_recalls(alloc, &mut sends, recalls, state.next_recall)?;
     answer_to(alloc, &mut state.slots, &mut sends, answer)?;
     state.next_grant += outcome.numbers;
@@ -91,5 +74,6 @@ pub fn finish(
     Ok(Step {
         sends,
         notes: moved.notes,
+        mended: moved.mended,
     })
 }

@@ -1,11 +1,13 @@
-ghost use Rattle.std.specs.Prelude.{◌≡◌, OnOk};
+ghost use Rattle.std.specs.Prelude.{◌≡◌, IfOk, OnOk};
 ghost use Rattle.std.specs.Option.{option_copied};
 ghost use Rattle.server_rules.specs.declared.server.Outgoing.TheVariants.{Answers};
-ghost use Rattle.server_rules.specs.Envelopes.{bytes_of};
+ghost use Rattle.server_requests.specs.Sending.{sent_as};
 ghost use Rattle.server_rules.specs.Slots.{slot_of, keep};
-ghost use Rattle.layout_server.specs.Kept.{answer_in, IsSpelled, place_in};
+ghost use Rattle.layout_server.specs.Kept.{answer_in, IsKept, place_in};
 
-use osd_bytes::{Bytes, Memory, Sequence};
+use osd_bytes::{Bytes, Memory, Node, Sequence};
+use server_requests::Sent;
+use std::alloc::Global;
 use std::marker::Model;
 
 /// The last request of a client, and the bytes of the answer to it. Contracts see the answer.
@@ -19,19 +21,19 @@ pub struct KeptAnswer {
 impl Model for KeptAnswer {
     ghost use Rattle.std.specs.Prelude.{◌≡◌};
     ghost use Rattle.server_rules.specs.declared.server.Slot.{Slot};
-    ghost use Rattle.layout_server.specs.Kept.{answer_in, IsSpelled, place_in};
+    ghost use Rattle.layout_server.specs.Kept.{answer_in, IsKept, place_in};
 
     ghost Value = { Slot };
 
     ghost view = { λ s. record { client = s.client; last = s.last; kept = answer_in s.bytes } };
 
-    ghost invariant = { λ s. IsSpelled s.bytes };
+    ghost invariant = { λ s. IsKept s.client s.bytes };
 }
 
 impl KeptAnswer {
     /// The answer with these bytes to a client's request of that number.
     pub fn new(client: u32, last: u32, bytes: Bytes) -> Self
-        requires { IsSpelled bytes }
+        requires { IsKept client bytes }
         ensures { result ≡ record { client = client; last = last; kept = answer_in bytes } }
     {
         KeptAnswer {
@@ -55,11 +57,17 @@ impl KeptAnswer {
         self.last
     }
 
-    /// The bytes of the answer.
-    pub fn bytes(&self) -> &[u8]
-        ensures { result.now ≡ bytes_of (Answers self.now.kept) }
+    /// The answer again.
+    ///
+    /// # Errors
+    ///
+    /// Want of memory alone.
+    pub fn again(&self, alloc: Global) -> Result<Sent, Memory>
+        ensures { IfOk result (λ sent. sent ≡ sent_as (Answers self.now.kept)) }
     {
-        self.bytes.as_slice()
+        let to = Node::Client(self.client);
+        let bytes = Bytes::copied(alloc, self.bytes.as_slice())?;
+        Ok(Sent { to, bytes })
     }
 }
 

@@ -1,0 +1,22 @@
+-- The server's drives: at most one for each number below 64, in order of their numbers.
+use Rattle.std.specs.Prelude.{ℕ, List, [], ◌∷◌, ◌≡◌, ◌<◌, ◌≤◌, ◌+◌, true, suc, nat_lt, if◌then◌else◌}
+use Rattle.server_rules.specs.declared.server.Drive.{Drive}
+use Rattle.stripe_repair.specs.declared.loads.TheConstants.{MAX_DRIVES}
+
+-- their numbers rise from this one on, and are below 64
+abbrev pub RiseFrom : (least : ℕ) → List Drive → Type 0
+RiseFrom least [] = Unit {0}
+RiseFrom least (d ∷ ds) = (least ≤ d.number) × (d.number < MAX_DRIVES) × RiseFrom (d.number + 1) ds
+
+abbrev pub AreDrives : List Drive → Type 0
+AreDrives ds = RiseFrom 0 ds
+
+-- there is none of that number
+abbrev pub IsNew : (number : ℕ) → List Drive → Type 0
+IsNew number [] = Unit {0}
+IsNew number (d ∷ ds) = (d.number ≡ number → ⊥) × IsNew number ds
+
+-- the place of a new drive: before the first with a number that isn't less
+unfoldable pub rank_in : List Drive → (number : ℕ) → ℕ
+rank_in [] number = 0
+rank_in (d ∷ ds) number = if nat_lt d.number number then suc (rank_in ds number) else 0
