@@ -1,5 +1,5 @@
 -- The step of a request, put together.
-use Rattle.std.specs.Prelude.{ℕ, List, [], ◌∷◌, ◌++◌, ◌+◌, ◌≡◌, ◌≤◌, Option, Some, Result, Ok, Err, IfOk, OnOk, length, map, refl}
+use Rattle.std.specs.Prelude.{ℕ, List, [], ◌∷◌, ◌++◌, ◌+◌, ◌≡◌, ◌≤◌, Option, Some, None, Result, Ok, Err, IfOk, OnOk, length, map, refl}
 use Rattle.std.specs.Option.{option_map}
 use Rattle.std.specs.Ordering.{nat_cmp}
 use Rattle.std.specs.BTreeMap.{BTreeMap, is_at}
@@ -30,10 +30,10 @@ use Rattle.file_requests.specs.Serving.{served_by, serves_for}
 use Rattle.layout_server.specs.declared.serving.Served.{Served}
 use Rattle.layout_server.specs.declared.state.State.{State}
 use Rattle.layout_server.specs.declared.step.Step.{Step}
-use Rattle.layout_server.specs.Tables.{files_in, entry_at, AreEntries}
+use Rattle.layout_server.specs.Tables.{Table, files_in, entry_at, AreEntries}
 use Rattle.layout_server.specs.AtFile.{ServedAt}
 use Rattle.layout_server.specs.States.{server_of, Did, Finishes, Settles, IsGood, carried_in}
-use Rattle.layout_server.proofs.TableLaws.{file_at-files, put_file-files}
+use Rattle.layout_server.proofs.TableLaws.{file_at-files, put_file-files, no_file_there}
 
 -- the server with these files and this answer, once the request's step is over
 abbrev after_all : State → List File → Moved → Served → Answer → Server
@@ -113,3 +113,11 @@ pub good_finished : (old : State) (files : BTreeMap ℕ FileState) (new : State)
     Finishes (record old { files = files }) m v new out → IsGood new
 good_finished old files new m v out good entries numbers fin =
     subst (λ (z : State). IsGood z) (sym fin.state) (record { files = entries; grants = numbers; drives = good.drives })
+
+-- what comes of a request on a file that there isn't
+pub refused_at : (old : State) (files : BTreeMap ℕ FileState) (new : State) (r : ClientRequest) (now : ℕ) (chosen : List ℕ) (out : Step) →
+    AreEntries old.files.entries → entry_at old.files.entries r.file ≡ None → files.entries ≡ old.files.entries →
+    Did out (server_of new) (carries_out (server_of (record old { files = files })) now chosen r None) → Did out (server_of new) (carried_in (server_of old) now chosen r)
+refused_at old files new r now chosen out good none same did =
+    subst (λ (x : Option File). Did out (server_of new) (carries_out (server_of old) now chosen r x)) (sym (no_file_there old.files.entries r.file good none))
+    (subst (λ (t : Table). Did out (server_of new) (carries_out (record (server_of old) { files = files_in t }) now chosen r None)) same did)

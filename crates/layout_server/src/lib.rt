@@ -1,6 +1,7 @@
 //! The metadata server: its files by number, its slots of clients, and the parts of a step.
 #![tactic(auto)]
 
+mod admitting;
 mod answering;
 mod requests;
 mod resending;
@@ -10,8 +11,9 @@ mod slots;
 mod state;
 mod step;
 
+pub use admitting::on_request;
 pub use answering::{answer_to, send_answer};
-pub use requests::{finish, refuse};
+pub use requests::carry_out;
 pub use resending::{resend_all, waits};
 pub use serving::{Served, serve_in};
 pub use settling::{begins, only_sends, settle};

@@ -3,13 +3,14 @@ ghost use Rattle.server_rules.specs.declared.limits.TheConstants.{GREATEST_GRANT
 ghost use Rattle.layout_ops.specs.Spelling.{ResultsWritable};
 ghost use Rattle.server_rules.specs.Requests.{no_file, carries_out};
 ghost use Rattle.server_requests.specs.Telling.{IsAnswer};
-ghost use Rattle.layout_server.specs.States.{server_of, Did, Finishes};
+ghost use Rattle.layout_server.specs.States.{server_of, IsGood, HasRoom, Did, Finishes, carried_in};
 
 use crate::answering::answer_to;
-use crate::serving::Served;
-use crate::settling::only_sends;
+use crate::serving::{Served, serve_in};
+use crate::settling::{begins, only_sends};
 use crate::state::State;
 use crate::step::Step;
+use file_requests::Asking;
 use layout_ops::{NFS4_OK, NFS4ERR_BADLAYOUT, NFS4ERR_NOENT};
 use osd_bytes::Memory;
 use server_requests::{Sends, plain_answer, send_recalls, send_to_drives};
@@ -28,12 +29,8 @@ fn no_file(args: &RequestArgs) -> u32
     }
 }
 
-/// The step of a new request on a file that there isn't.
-///
-/// # Errors
-///
-/// Want of memory alone.
-pub fn refuse(alloc: Global, state: &mut State, request: &ClientRequest) -> Result<Step, Memory>
+// The step of a new request on a file that there isn't.
+fn refuse(alloc: Global, state: &mut State, request: &ClientRequest) -> Result<Step, Memory>
     ensures did { IfOk result (λ out. (now : ℕ) (chosen : List ℕ) → Did out (server_of state.new) (carries_out (server_of state.old) now chosen request.now None)) }
     ensures files { OnOk result (state.new.files ≡ state.old.files) }
     ensures grants { OnOk result (state.new.next_grant ≡ state.old.next_grant) }
@@ -45,12 +42,8 @@ pub fn refuse(alloc: Global, state: &mut State, request: &ClientRequest) -> Resu
     Ok(only_sends(alloc, sends))
 }
 
-/// What is left of the step of a request behind its file: it sends and counts.
-///
-/// # Errors
-///
-/// Want of memory alone.
-pub fn finish(
+// What is left of the step of a request behind its file: it sends and counts.
+fn finish(
     alloc: Global,
     state: &mut State,
     moved: Moved,
@@ -76,4 +69,34 @@ pub fn finish(
         notes: moved.notes,
         mended: moved.mended,
     })
+}
+
+/// The step of a new request.
+///
+/// # Errors
+///
+/// Want of memory alone.
+pub fn carry_out(
+    alloc: Global,
+    state: &mut State,
+    now: u64,
+    request: &ClientRequest,
+) -> Result<Step, Memory>
+    requires good { IsGood state.old }
+    requires room { HasRoom (server_of state.old) }
+    ensures did { IfOk result (λ out. (chosen : List ℕ) → Did out (server_of state.new) (carried_in (server_of state.old) now chosen request.now)) }
+    ensures good { OnOk result (IsGood state.new) }
+{
+    let asking = Asking {
+        client: request.client,
+        time: now,
+        next_grant: state.next_grant,
+        format: state.format,
+    };
+    let mut moved = begins(alloc, state.next_nonce, state.next_object);
+    let drives = state.drives.as_slice();
+    match serve_in(alloc, &mut state.files, &mut moved, drives, &asking, request)? {
+        Some(served) => finish(alloc, state, moved, served),
+        None => refuse(alloc, state, request),
+    }
 }
