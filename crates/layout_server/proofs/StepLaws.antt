@@ -1,5 +1,5 @@
 -- The step of a request, put together.
-use Rattle.std.specs.Prelude.{ℕ, List, [], ◌∷◌, ◌++◌, ◌+◌, ◌≡◌, ◌≤◌, Option, Some, None, Result, Ok, Err, IfOk, OnOk, length, map, refl}
+use Rattle.std.specs.Prelude.{ℕ, List, [], ◌∷◌, ◌++◌, ◌+◌, ◌≡◌, ◌≤◌, Option, Some, None, Result, Ok, Err, IfOk, OnOk, length, refl}
 use Rattle.std.specs.Option.{option_map}
 use Rattle.std.specs.Ordering.{nat_cmp}
 use Rattle.std.specs.BTreeMap.{BTreeMap, is_at}
@@ -74,7 +74,7 @@ done_at old files new m q r now chosen v f g out e good put_in found served fin 
     let there : file_at (files_in old.files.entries) r.file ≡ Some (file_of f) = file_at-files old.files.entries r.file good ∙ ap (option_map file_of) found in
     let put : files_in files.entries ≡ put_file (files_in old.files.entries) r.file (file_of g) = ap files_in put_in ∙ sym (put_file-files old.files.entries r.file g good) in
     let rule : served_by v.outcome (at g m old.drives chosen) ≡ serves (at_file s chosen (file_of f)) old.next_grant old.format now r.client r.args =
-      served.rule old.drives chosen ∙ ap (λ (z : Asking). serves_for z r.args (at f (begins s) old.drives chosen)) e in
+    served.rule old.drives chosen ∙ ap (λ (z : Asking). serves_for z r.args (at f (begins s) old.drives chosen)) e in
     subst (λ (x : Option File). Did out (server_of new) (carries_out s now chosen r x)) (sym there)
     (subst (λ (w : RulesServed). Did out (server_of new) (carried_out s r w)) rule (record {
       state = ap server_of fin.state ∙ ap (λ (fs : List File). after_all old fs m v v.answer) put ∙ ap (λ (a : Answer). after_all old (put_file (files_in old.files.entries) r.file (file_of g)) m v a) served.answer;

@@ -1,5 +1,5 @@
 -- The server's drives: at most one for each number below 64, in order of their numbers.
-use Rattle.std.specs.Prelude.{ℕ, List, [], ◌∷◌, ◌≡◌, ◌<◌, ◌≤◌, ◌+◌, true, suc, nat_lt, if◌then◌else◌}
+use Rattle.std.specs.Prelude.{ℕ, List, [], ◌∷◌, ◌≡◌, ◌<◌, ◌≤◌, ◌+◌, suc, nat_lt, if◌then◌else◌}
 use Rattle.server_rules.specs.declared.server.Drive.{Drive}
 use Rattle.stripe_repair.specs.declared.loads.TheConstants.{MAX_DRIVES}
 

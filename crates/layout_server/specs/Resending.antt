@@ -6,7 +6,6 @@ use Rattle.server_rules.specs.declared.server.Outgoing.{Outgoing}
 use Rattle.server_rules.specs.Files.{to_drives}
 use Rattle.server_rules.specs.Messages.{awaited_by}
 use Rattle.file_requests.specs.Serving.{waited}
-use Rattle.layout_server.specs.Tables.{Table}
 
 -- of these files
 abbrev pub resent : List Drive → List File → List Outgoing

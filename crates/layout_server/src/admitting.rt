@@ -42,7 +42,7 @@ fn misordered(
     requires { AreEntries state.now.files.entries }
     ensures { IfOk result (λ out. Did out (server_of state.now) (only_answers (server_of state.now)
         (plain_answer request.now (tells NFS4ERR_SEQ_MISORDERED expected)
-            (size_in (file_at (files_in state.now.files.entries) request.now.file))))) }
+        (size_in (file_at (files_in state.now.files.entries) request.now.file))))) }
 {
     let size = size_of(&state.files, request.file);
     let answer = plain_answer(request, NFS4ERR_SEQ_MISORDERED, expected, size);

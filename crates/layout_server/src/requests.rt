@@ -43,12 +43,7 @@ fn refuse(alloc: Global, state: &mut State, request: &ClientRequest) -> Result<S
 }
 
 // What is left of the step of a request behind its file: it sends and counts.
-fn finish(
-    alloc: Global,
-    state: &mut State,
-    moved: Moved,
-    served: Served,
-) -> Result<Step, Memory>
+fn finish(alloc: Global, state: &mut State, moved: Moved, served: Served) -> Result<Step, Memory>
     requires writable { ResultsWritable served.answer.results }
     requires numbers { state.old.next_grant + served.outcome.numbers ≤ GREATEST_GRANT + 1 }
     requires room { state.old.next_recall < 2 ^ 63 }
@@ -57,7 +52,12 @@ fn finish(
     let Served { outcome, answer } = served;
     let recalls = outcome.recalled.as_slice();
     let mut sends = Sends::new(alloc);
-    send_to_drives(alloc, &mut sends, state.drives.as_slice(), moved.sent.as_slice())?;
+    send_to_drives(
+        alloc,
+        &mut sends,
+        state.drives.as_slice(),
+        moved.sent.as_slice(),
+    )?;
     send_recalls(alloc, &mut sends, recalls, state.next_recall)?;
     answer_to(alloc, &mut state.slots, &mut sends, answer)?;
     state.next_grant += outcome.numbers;
@@ -95,7 +95,14 @@ pub fn carry_out(
     };
     let mut moved = begins(alloc, state.next_nonce, state.next_object);
     let drives = state.drives.as_slice();
-    match serve_in(alloc, &mut state.files, &mut moved, drives, &asking, request)? {
+    match serve_in(
+        alloc,
+        &mut state.files,
+        &mut moved,
+        drives,
+        &asking,
+        request,
+    )? {
         Some(served) => finish(alloc, state, moved, served),
         None => refuse(alloc, state, request),
     }
