@@ -1,0 +1,5 @@
+pub mod Rising
+pub mod Kept
+pub mod Given
+pub mod Keeping
+pub mod Numbers
