@@ -5,7 +5,9 @@ ghost use Rattle.osd_bytes.specs.declared.node.Node.TheVariants as node;
 ghost use Rattle.client_state.specs.States.{client_of};
 ghost use Rattle.client_state.specs.Inside.{IsInside};
 ghost use Rattle.client_rules.specs.Steps.{new_client, calls, times_out, leaves, resent, awaits, awaited_component, next_sequence};
-ghost use Rattle.stripe_client.specs.Calling.{Gives};
+ghost use Rattle.std.specs.Option.{option_copied, option_map};
+ghost use Rattle.client_rules.specs.declared.calls.Call.{Call};
+ghost use Rattle.stripe_client.specs.Calling.{Gives, refusal};
 ghost use Rattle.client_state.specs.Sending.{IsStep, spelled};
 
 use crate::calling;
@@ -188,6 +190,23 @@ impl ClientCore {
         ensures { result ≡ awaited_component self.now nonce }
     {
         calling::awaited(&self.state, nonce)
+    }
+
+    /// The pending call, `None` exactly where none is.
+    pub fn pending(&self) -> Option<&CallOp>
+        ensures { option_copied result ≡ option_map (λ (call : Call). call.op) self.now.call }
+    {
+        match &self.state.call {
+            Some(call) => Some(&call.op),
+            None => None,
+        }
+    }
+
+    /// Why a call wouldn't be taken now, the first that holds; `None` exactly where it would.
+    pub fn refusal(&self, op: &CallOp) -> Option<CallErr>
+        ensures { result ≡ refusal self.now op.now }
+    {
+        calling::refusal(&self.state, op)
     }
 
     /// The number of the next request, or 0 where no sequence number is left.
