@@ -1,24 +1,12 @@
 //! Replays scenarios of files striped over object drives, and shows and checks the structures of their
-//! layouts (RFC 5664), as proved in `run`.
+//! layouts (RFC 5664), as proved in `osd_replay`.
 #![tactic(auto)]
 
-mod carry_out;
-mod command;
-mod inspect;
-mod put_line;
-mod replay;
-mod run;
-mod status;
-mod stop;
-#[cfg(test)]
-mod tests;
-
 use osd_links::{StdSink, StdSource};
-use run::run;
+use osd_replay::{Stop, run, stopped};
 use std::io::ErrorKind;
 use std::process::ExitCode;
 use std::{env, io};
-use stop::{Stop, stopped};
 
 // The program's name and its words.
 fn all_words(rt: HostRuntime) -> io::Result<Vec<String>> {

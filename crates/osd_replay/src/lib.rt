@@ -1,0 +1,16 @@
+//! Runs the commands of the program over any source and sink: scenarios of files striped over object
+//! drives are replayed, and the structures of their layouts (RFC 5664) shown and checked.
+#![tactic(auto)]
+
+mod carry_out;
+mod command;
+mod inspect;
+mod put_line;
+mod replay;
+mod run;
+mod status;
+mod stop;
+
+pub use run::run;
+pub use status::{ScenarioKind, Status};
+pub use stop::{Stop, stopped};
