@@ -10,20 +10,19 @@ use Rattle.osd_bytes.specs.declared.lines.LineErr.{LineErr}
 use Rattle.osd_bytes.specs.declared.lines.LineErr.TheVariants.{TooLong, InputFull, ReadFault as LineFault, Memory as LineMemory}
 use Rattle.osd_bytes.proofs.Known.{Appends-then}
 use Rattle.layout_types.specs.declared.kind.Kind.{Kind}
-use Rattle.scenario_text.specs.declared.event.EventErr.TheVariants.{NotYet}
-use Rattle.osd_replay.specs.Errors.{error_line, kind_name}
+use Rattle.osd_replay.specs.Errors.{error_line, full_name, kind_name}
 use Rattle.osd_replay.specs.Puts.{Puts}
 use Rattle.osd_replay.specs.Stops.{error_of, status_of, stop_of_line}
 use Rattle.osd_replay.specs.Ends.{Ends}
 use Rattle.osd_replay.specs.Inspect.{Answers, HasAnswers, Inspected, IsNoLine, RefusesLine, StopsInspection, Stops, Promises}
 use Rattle.osd_replay.specs.declared.command.Inspection.{Inspection}
+use Rattle.osd_replay.specs.declared.status.Quantity.TheVariants.{Input, Line as LineQuantity}
 use Rattle.osd_replay.specs.declared.status.ScenarioKind.{ScenarioKind}
-use Rattle.osd_replay.specs.declared.status.ScenarioKind.TheVariants.{Event}
 use Rattle.osd_replay.specs.declared.status.Status.TheVariants.{Done, WriteFault}
 use Rattle.osd_replay.specs.declared.stop.Stop.{Stop}
-use Rattle.osd_replay.specs.declared.stop.Stop.TheVariants.{Refused, Read, Memory as WantsMemory}
+use Rattle.osd_replay.specs.declared.stop.Stop.TheVariants.{Refused, Read, Memory as WantsMemory, Full as StopsFull}
 use Rattle.osd_replay.proofs.SoFar.{Reached, reached_none, reached_more, appends_none}
-use Rattle.osd_replay.proofs.Promised.{tells, begins, all_lines}
+use Rattle.osd_replay.proofs.Promised.{tells, begins, all_lines, passes_next}
 
 pub record Inspecting (inspection : Inspection) (kind : Kind) (input now : Option (List ℕ)) (taken : ℕ) (before after : Option (List ℕ)) (number : ℕ) : Type 0 where
   pub lines : List (List ℕ)
@@ -93,12 +92,14 @@ pub no_line_inspected : (inspection : Inspection) (kind : Kind) (b a : Ends) (no
     Promises inspection kind b a (status_of (stop_of_line e) (number + 1))
 unfolding stops_at
 no_line_inspected inspection kind b a now taken middle number failed whole TooLong s next fault writes put = record {
-  stops = stops_at inspection kind b a now taken middle number failed (codes "NotYet") whole s writes put;
-  refused = refuses b.left now taken s.lines (Event NotYet) (Err TooLong) s.reached next (λ rest h. rw h refl);
+  number = number + 1;
+  stops = stops_at inspection kind b a now taken middle number failed (full_name LineQuantity) whole s writes put;
+  passes = passes_next b.left now taken s.lines LineQuantity s.reached next;
 }
 no_line_inspected inspection kind b a now taken middle number failed whole InputFull s next fault writes put = record {
-  stops = stops_at inspection kind b a now taken middle number failed (codes "NotYet") whole s writes put;
-  refused = refuses b.left now taken s.lines (Event NotYet) (Err InputFull) s.reached next (λ rest h. rw h refl);
+  number = number + 1;
+  stops = stops_at inspection kind b a now taken middle number failed (full_name Input) whole s writes put;
+  passes = passes_next b.left now taken s.lines Input s.reached next;
 }
 no_line_inspected inspection kind b a now taken middle number failed whole LineFault s next fault writes put = record {
   number = number + 1;
@@ -118,6 +119,7 @@ inspection_stopped inspection kind b a now taken middle number failed whole line
   refused = refuses b.left now taken s.lines why (Ok (Some line)) s.reached next (λ rest h. rw h stopped);
 }
 inspection_stopped inspection kind b a now taken middle number failed whole line Read s next stopped writes put = absurd stopped
+inspection_stopped inspection kind b a now taken middle number failed whole line (StopsFull quantity) s next stopped writes put = absurd stopped
 inspection_stopped inspection kind b a now taken middle number failed whole line WantsMemory s next stopped writes put = record {
   number = number + 1;
   stops = stops_at inspection kind b a now taken middle number failed (codes "memory") whole s writes put;

@@ -12,23 +12,23 @@ use Rattle.osd_bytes.specs.declared.lines.LineErr.{LineErr}
 use Rattle.osd_bytes.specs.declared.lines.LineErr.TheVariants.{TooLong, InputFull, ReadFault as LineFault, Memory as LineMemory}
 use Rattle.osd_bytes.proofs.Known.{Appends-then}
 use Rattle.scenario_text.specs.declared.line.Line.TheVariants.{Last}
-use Rattle.scenario_text.specs.declared.event.EventErr.TheVariants.{NotYet}
 use Rattle.layout_world.specs.State.{ClusterState, new_cluster}
 use Rattle.layout_world.specs.History.{Step, lines_of_steps, state_from}
 use Rattle.scenario_text.specs.LineSpelling.{lines_text}
-use Rattle.osd_replay.specs.Errors.{error_line, kind_name}
+use Rattle.osd_replay.specs.Errors.{error_line, full_name, kind_name}
 use Rattle.osd_replay.specs.Puts.{Puts}
 use Rattle.osd_replay.specs.Finish.{Finishes, last_text}
 use Rattle.osd_replay.specs.Stops.{error_of, status_of, stop_of_line}
 use Rattle.osd_replay.specs.LineCarried.{CarriesLine, StopsLine}
-use Rattle.osd_replay.specs.Ends.{Ends, Begins, IsAll, Tells}
+use Rattle.osd_replay.specs.Ends.{Ends, Begins, IsAll, PassesNext, Tells, limit_passed}
 use Rattle.osd_replay.specs.Replay.{Runs, IsRefused, RefusesNext, final_text, Promises, Stops}
+use Rattle.osd_replay.specs.declared.status.Quantity.{Quantity}
+use Rattle.osd_replay.specs.declared.status.Quantity.TheVariants.{Input, Line as LineQuantity}
 use Rattle.osd_replay.specs.declared.status.ScenarioKind.{ScenarioKind}
-use Rattle.osd_replay.specs.declared.status.ScenarioKind.TheVariants.{Event as EventKind}
 use Rattle.osd_replay.specs.declared.status.Status.{Status}
-use Rattle.osd_replay.specs.declared.status.Status.TheVariants.{Done, BadWords, BadScenario, ReadFault, WriteFault, Memory}
+use Rattle.osd_replay.specs.declared.status.Status.TheVariants.{Done, BadWords, BadScenario, ReadFault, WriteFault, Memory, Full as IsFull}
 use Rattle.osd_replay.specs.declared.stop.Stop.{Stop}
-use Rattle.osd_replay.specs.declared.stop.Stop.TheVariants.{Refused, Read, Memory as WantsMemory}
+use Rattle.osd_replay.specs.declared.stop.Stop.TheVariants.{Refused, Read, Memory as WantsMemory, Full as StopsFull}
 use Rattle.osd_replay.proofs.SoFar.{SoFar, Reached, one_more, text_more, reached_more}
 
 -- what went out before an error line, and that line
@@ -98,6 +98,14 @@ finished b a now next taken middle state number failed Memory s y end reads writ
 finished b a now next taken middle state number failed BadWords s y end reads writes fin = absurd fin
 finished b a now next taken middle state number failed ReadFault s y end reads writes fin = absurd fin
 finished b a now next taken middle state number failed (BadScenario line kind) s y end reads writes fin = absurd fin
+finished b a now next taken middle state number failed (IsFull quantity) s y end reads writes fin = absurd fin
+
+-- the line reader answers that a quantity passes its limit
+pub passes_next : (input now : Option (List ℕ)) (taken : ℕ) (lines : List (List ℕ)) (quantity : Quantity) → Reached input lines taken now → NextIs taken now (Err (limit_passed quantity)) → PassesNext input lines quantity
+passes_next None now taken lines quantity r next = tt
+passes_next (Some input) None taken lines quantity r next = absurd r
+passes_next (Some input) (Some rest) taken lines Input r next = (r.0, rest, r.1, r.3, ap (λ n. next_of n rest) r.2 ∙ next)
+passes_next (Some input) (Some rest) taken lines LineQuantity r next = (r.0, rest, r.1, r.3, ap (λ n. next_of n rest) r.2 ∙ next)
 
 -- the line that comes next is refused
 refuses : (input now : Option (List ℕ)) (taken : ℕ) (lines : List (List ℕ)) (c : ClusterState) (kind : ScenarioKind) (answer : Result (Option (List ℕ)) LineErr) → Reached input lines taken now → NextIs taken now answer →
@@ -122,12 +130,14 @@ pub no_line : (b a : Ends) (now : Option (List ℕ)) (taken : ℕ) (middle : Opt
     Promises b a (status_of (stop_of_line e) (number + 1))
 unfolding stops_at
 no_line b a now taken middle state number failed whole TooLong s next fault writes put = record {
-  stops = stops_at b a now taken middle state number failed (codes "NotYet") whole s writes put;
-  refused = refuses b.left now taken s.lines (state_from new_cluster s.steps) (EventKind NotYet) (Err TooLong) s.reached next (λ rest h. rw h refl);
+  number = number + 1;
+  stops = stops_at b a now taken middle state number failed (full_name LineQuantity) whole s writes put;
+  passes = passes_next b.left now taken s.lines LineQuantity s.reached next;
 }
 no_line b a now taken middle state number failed whole InputFull s next fault writes put = record {
-  stops = stops_at b a now taken middle state number failed (codes "NotYet") whole s writes put;
-  refused = refuses b.left now taken s.lines (state_from new_cluster s.steps) (EventKind NotYet) (Err InputFull) s.reached next (λ rest h. rw h refl);
+  number = number + 1;
+  stops = stops_at b a now taken middle state number failed (full_name Input) whole s writes put;
+  passes = passes_next b.left now taken s.lines Input s.reached next;
 }
 no_line b a now taken middle state number failed whole LineFault s next fault writes put = record {
   number = number + 1;
@@ -152,6 +162,7 @@ line_stopped b a now taken middle state number failed whole line (Refused kind) 
   refused = refuses b.left now taken s.lines (state_from new_cluster s.steps) kind (Ok (Some line)) s.reached next (λ rest h. rw h (subst (λ (x : ClusterState). IsRefused x kind (Ok (Some line))) (sym s.state_is) stopped));
 }
 line_stopped b a now taken middle state number failed whole line Read s next stopped writes put = absurd stopped
+line_stopped b a now taken middle state number failed whole line (StopsFull quantity) s next stopped writes put = absurd stopped
 line_stopped b a now taken middle state number failed whole line WantsMemory s next stopped writes put = record {
   lines = s.lines;
   steps = s.steps;

@@ -1,8 +1,12 @@
 -- The ends of a run, what is read of its input, and what goes out before an error line.
-use Rattle.std.specs.Prelude.{◌≡◌, ℕ, ◌⊎◌, List, ◌++◌, length, take, ⊤, Option, Some, None}
+use Rattle.std.specs.Prelude.{◌≡◌, ℕ, ◌⊎◌, List, ◌++◌, length, take, ⊤, Option, Some, None, Err}
 use Rattle.std.specs.Io.KnownBytes.{Appends}
 use Rattle.osd_bytes.specs.Causes.{Rose}
-use Rattle.osd_bytes.specs.Lines.{lines_of}
+use Rattle.osd_bytes.specs.Lines.{lines_of, next_of}
+use Rattle.osd_bytes.specs.declared.lines.LineErr.{LineErr}
+use Rattle.osd_bytes.specs.declared.lines.LineErr.TheVariants.{TooLong, InputFull}
+use Rattle.osd_replay.specs.declared.status.Quantity.{Quantity}
+use Rattle.osd_replay.specs.declared.status.Quantity.TheVariants.{Input, Line}
 
 -- the bytes that the source has left and that the sink has taken, where they tell them, and the counts of their faults
 pub record Ends : Type 0 where
@@ -28,6 +32,18 @@ Begins (Some input) lines = (later : List (List ℕ)) × (lines_of input ≡ lin
 abbrev pub IsAll : Option (List ℕ) → List (List ℕ) → Type 0
 IsAll None lines = ⊤
 IsAll (Some input) lines = lines_of input ≡ lines
+
+-- what the line reader answers where a quantity passes its limit
+abbrev pub limit_passed : Quantity → LineErr
+limit_passed Input = InputFull
+limit_passed Line = TooLong
+
+-- behind these lines of the input the quantity passes its limit, where the input is known
+abbrev pub PassesNext : Option (List ℕ) → List (List ℕ) → Quantity → Type 0
+PassesNext None lines quantity = ⊤
+PassesNext (Some input) lines quantity =
+    (front rest : List ℕ) × (input ≡ front ++ rest) × (lines_of input ≡ lines ++ lines_of rest)
+    × (next_of (length front) rest ≡ Err (limit_passed quantity))
 
 -- the bytes went out, and then an error line, cut only where the sink failed
 pub record Tells (before after : Ends) (bytes error : List ℕ) : Type 0 where

@@ -8,7 +8,7 @@ use Rattle.osd_replay.specs.Errors.{error_line}
 use Rattle.osd_replay.specs.Puts.{Puts}
 use Rattle.osd_replay.specs.declared.status.Status.{Status}
 use Rattle.osd_replay.specs.declared.status.Status.TheVariants.{Done, BadWords, BadScenario, ReadFault, WriteFault}
-use Rattle.osd_replay.specs.declared.status.Status.TheVariants.{Memory}
+use Rattle.osd_replay.specs.declared.status.Status.TheVariants.{Memory, Full}
 
 abbrev pub last_text : List ℕ
 last_text = lines_text (Last true true ∷ [])
@@ -22,3 +22,4 @@ Finishes before after failed_before failed Memory =
 Finishes before after failed_before failed BadWords = ⊥
 Finishes before after failed_before failed ReadFault = ⊥
 Finishes before after failed_before failed (BadScenario number kind) = ⊥
+Finishes before after failed_before failed (Full quantity) = ⊥

@@ -17,17 +17,18 @@ use Rattle.layout_types.specs.declared.kind.Kind.{Kind}
 use Rattle.layout_types.specs.Leaves.{leaves_of}
 use Rattle.layout_types.specs.Again.{written_of}
 use Rattle.scenario_text.specs.declared.event.EventErr.TheVariants.{NotYet}
-use Rattle.osd_replay.specs.Errors.{error_line, kind_name}
-use Rattle.osd_replay.specs.Ends.{Ends, Begins, IsAll, Tells}
+use Rattle.osd_replay.specs.Errors.{error_line, full_name, kind_name}
+use Rattle.osd_replay.specs.Ends.{Ends, Begins, IsAll, PassesNext, Tells}
 use Rattle.osd_replay.specs.declared.command.Inspection.{Inspection}
 use Rattle.osd_replay.specs.declared.command.Inspection.TheVariants.{Show, Check}
+use Rattle.osd_replay.specs.declared.status.Quantity.{Quantity}
 use Rattle.osd_replay.specs.declared.status.ScenarioKind.{ScenarioKind}
 use Rattle.osd_replay.specs.declared.status.ScenarioKind.TheVariants.{Event, BadHex}
 use Rattle.osd_replay.specs.declared.stop.Stop.{Stop}
-use Rattle.osd_replay.specs.declared.stop.Stop.TheVariants.{Refused, Read, Memory as WantsMemory}
+use Rattle.osd_replay.specs.declared.stop.Stop.TheVariants.{Refused, Read, Memory as WantsMemory, Full as StopsFull}
 use Rattle.osd_replay.specs.declared.status.Status.{Status}
 use Rattle.osd_replay.specs.declared.status.Status.TheVariants.{Done, BadWords, BadScenario, ReadFault, WriteFault}
-use Rattle.osd_replay.specs.declared.status.Status.TheVariants.{Memory}
+use Rattle.osd_replay.specs.declared.status.Status.TheVariants.{Memory, Full}
 
 -- ---- the answer to the bytes of a line
 
@@ -69,6 +70,7 @@ abbrev pub StopsInspection : List ℕ → Stop → Type 0
 StopsInspection line (Refused kind) = (kind ≡ BadHex) × IsErr (decode_of line)
 StopsInspection line Read = ⊥
 StopsInspection line WantsMemory = ⊤
+StopsInspection line (StopsFull quantity) = ⊥
 
 -- ---- the answers to the input's lines
 
@@ -77,12 +79,12 @@ abbrev pub HasAnswers : Inspection → Kind → List (List ℕ) → List ℕ →
 HasAnswers inspection kind [] out = out ≡ []
 HasAnswers inspection kind (line ∷ lines) out =
     (text later : List ℕ) × Answers inspection kind line text × (out ≡ text ++ later)
-        × HasAnswers inspection kind lines later
+    × HasAnswers inspection kind lines later
 
--- Why an answer of the line reader isn't inspected. A line that passes a limit isn't read yet.
+-- Why an answer of the line reader isn't inspected. A line that passes a limit is another end.
 abbrev pub IsNoLine : ScenarioKind → Result (Option (List ℕ)) LineErr → Type 0
-IsNoLine kind (Err TooLong) = kind ≡ Event NotYet
-IsNoLine kind (Err InputFull) = kind ≡ Event NotYet
+IsNoLine kind (Err TooLong) = ⊥
+IsNoLine kind (Err InputFull) = ⊥
 IsNoLine kind (Err LineFault) = ⊥
 IsNoLine kind (Err LineMemory) = ⊥
 IsNoLine kind (Ok None) = ⊥
@@ -93,7 +95,7 @@ abbrev pub RefusesLine : Option (List ℕ) → List (List ℕ) → ScenarioKind 
 RefusesLine None lines kind = ⊤
 RefusesLine (Some input) lines kind =
     (front rest : List ℕ) × (input ≡ front ++ rest) × (lines_of input ≡ lines ++ lines_of rest)
-        × IsNoLine kind (next_of (length front) rest)
+    × IsNoLine kind (next_of (length front) rest)
 
 -- the input's first lines and their answers
 pub record Inspected (inspection : Inspection) (kind : Kind) (input : Option (List ℕ)) (lines : List (List ℕ))
@@ -149,6 +151,12 @@ pub record IsMemory (inspection : Inspection) (kind : Kind) (before after : Ends
   pub number : ℕ
   pub stops : Stops inspection kind before after number (codes "memory")
 
+-- behind the lines that were answered a quantity passes its limit
+pub record IsFull (inspection : Inspection) (kind : Kind) (before after : Ends) (quantity : Quantity) : Type 0 where
+  pub number : ℕ
+  pub stops : Stops inspection kind before after number (full_name quantity)
+  pub passes : PassesNext before.left stops.lines quantity
+
 abbrev pub Promises : Inspection → Kind → Ends → Ends → Status → Type 0
 Promises inspection kind before after Done = IsDone inspection kind before after
 Promises inspection kind before after BadWords = ⊥
@@ -156,3 +164,4 @@ Promises inspection kind before after (BadScenario number why) = IsBadLine inspe
 Promises inspection kind before after ReadFault = IsReadFault inspection kind before after
 Promises inspection kind before after WriteFault = IsWriteFault inspection kind before after
 Promises inspection kind before after Memory = IsMemory inspection kind before after
+Promises inspection kind before after (Full quantity) = IsFull inspection kind before after quantity

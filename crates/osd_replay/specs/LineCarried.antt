@@ -12,7 +12,7 @@ use Rattle.layout_world.specs.declared.err.WorldErr.TheVariants.{Memory as World
 use Rattle.osd_replay.specs.Replay.{IsRefused}
 use Rattle.osd_replay.specs.declared.status.ScenarioKind.TheVariants.{World as WorldKind}
 use Rattle.osd_replay.specs.declared.stop.Stop.{Stop}
-use Rattle.osd_replay.specs.declared.stop.Stop.TheVariants.{Refused, Read, Memory}
+use Rattle.osd_replay.specs.declared.stop.Stop.TheVariants.{Refused, Read, Memory, Full}
 
 -- an event was carried out, and these bytes are its lines
 pub record CarriesSpelled (before : ClusterState) (event : Event) (bytes : List ℕ) (after : ClusterState) : Type 0 where
@@ -27,6 +27,7 @@ StopsEvent before event (Refused kind) =
     (why : WorldErr) × (kind ≡ WorldKind why) × (why ≢ WorldMemory) × Refuses before event why
 StopsEvent before event Read = ⊥
 StopsEvent before event Memory = Unit {0}
+StopsEvent before event (Full quantity) = ⊥
 
 -- the event that a line spells was carried out
 pub record CarriesEvent (before : ClusterState) (line bytes : List ℕ) (after : ClusterState) : Type 0 where
@@ -45,3 +46,4 @@ abbrev pub StopsLine : ClusterState → List ℕ → Stop → Type 0
 StopsLine before line (Refused kind) = IsRefused before kind (Ok (Some line))
 StopsLine before line Read = ⊥
 StopsLine before line Memory = Unit {0}
+StopsLine before line (Full quantity) = ⊥

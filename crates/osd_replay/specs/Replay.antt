@@ -19,13 +19,14 @@ use Rattle.scenario_text.specs.declared.event.EventErr.TheVariants.{NotYet, Memo
 use Rattle.scenario_text.specs.Refusals.{IsRefusal}
 use Rattle.layout_world.specs.declared.err.WorldErr.{WorldErr}
 use Rattle.layout_world.specs.declared.err.WorldErr.TheVariants.{Memory as WorldMemory}
-use Rattle.osd_replay.specs.Ends.{Ends, Begins, IsAll, Tells}
-use Rattle.osd_replay.specs.Errors.{error_line, kind_name}
+use Rattle.osd_replay.specs.Ends.{Ends, Begins, IsAll, PassesNext, Tells}
+use Rattle.osd_replay.specs.Errors.{error_line, full_name, kind_name}
+use Rattle.osd_replay.specs.declared.status.Quantity.{Quantity}
 use Rattle.osd_replay.specs.declared.status.ScenarioKind.{ScenarioKind}
 use Rattle.osd_replay.specs.declared.status.ScenarioKind.TheVariants.{Event as EventKind, World as WorldKind}
 use Rattle.osd_replay.specs.declared.status.Status.{Status}
 use Rattle.osd_replay.specs.declared.status.Status.TheVariants.{Done, BadWords, BadScenario, ReadFault, WriteFault}
-use Rattle.osd_replay.specs.declared.status.Status.TheVariants.{Memory}
+use Rattle.osd_replay.specs.declared.status.Status.TheVariants.{Memory, Full}
 
 -- these lines have these events: a line that isn't skipped spells one
 abbrev pub HasEvents : List (List ℕ) → List Event → Type 0
@@ -40,26 +41,26 @@ pub record Runs (input : Option (List ℕ)) (lines : List (List ℕ)) (steps : L
   pub events : HasEvents lines (events_of_steps steps)
   pub run : IsRun steps
 
--- Why an answer of the line reader isn't carried out. A line that passes a limit isn't read yet. A line that
+-- Why an answer of the line reader isn't carried out. A line that passes a limit is another end. A line that
 -- spells no event is refused for its first wrong word. The event that a line spells isn't carried out where
 -- the state refuses it.
 abbrev pub IsRefused : ClusterState → ScenarioKind → Result (Option (List ℕ)) LineErr → Type 0
-IsRefused c kind (Err TooLong) = kind ≡ EventKind NotYet
-IsRefused c kind (Err InputFull) = kind ≡ EventKind NotYet
+IsRefused c kind (Err TooLong) = ⊥
+IsRefused c kind (Err InputFull) = ⊥
 IsRefused c kind (Err LineFault) = ⊥
 IsRefused c kind (Err LineMemory) = ⊥
 IsRefused c kind (Ok None) = ⊥
 IsRefused c kind (Ok (Some line)) =
     ((e : EventErr) × (kind ≡ EventKind e) × (e ≢ EventMemory) × IsRefusal line e)
     ⊎ ((why : WorldErr) × (kind ≡ WorldKind why) × (why ≢ WorldMemory) × (e : Event) × Fits e × Spells e line
-        × Refuses c e why)
+    × Refuses c e why)
 
 -- the line behind these lines of the input is refused in a state
 abbrev pub RefusesNext : Option (List ℕ) → List (List ℕ) → ClusterState → ScenarioKind → Type 0
 RefusesNext None lines c kind = ⊤
 RefusesNext (Some input) lines c kind =
     (front rest : List ℕ) × (input ≡ front ++ rest) × (lines_of input ≡ lines ++ lines_of rest)
-        × IsRefused c kind (next_of (length front) rest)
+    × IsRefused c kind (next_of (length front) rest)
 
 abbrev pub final_text : List Step → List ℕ
 final_text steps = lines_text (lines_of_steps steps ++ Last true true ∷ [])
@@ -112,6 +113,12 @@ pub record IsMemory (before after : Ends) : Type 0 where
   pub number_is : (number ≡ length lines + 1) ⊎ ((number ≡ 0) × IsAll before.left lines)
   pub tells : Tells before after (lines_text (lines_of_steps steps)) (error_line number (codes "memory"))
 
+-- behind the lines that were carried out a quantity passes its limit
+pub record IsFull (before after : Ends) (quantity : Quantity) : Type 0 where
+  pub number : ℕ
+  pub stops : Stops before after number (full_name quantity)
+  pub passes : PassesNext before.left stops.lines quantity
+
 -- what each status promises
 abbrev pub Promises : Ends → Ends → Status → Type 0
 Promises before after Done = IsDone before after
@@ -120,3 +127,4 @@ Promises before after (BadScenario number kind) = IsBadScenario before after num
 Promises before after ReadFault = IsReadFault before after
 Promises before after WriteFault = IsWriteFault before after
 Promises before after Memory = IsMemory before after
+Promises before after (Full quantity) = IsFull before after quantity

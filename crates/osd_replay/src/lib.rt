@@ -7,10 +7,10 @@ mod command;
 mod inspect;
 mod put_line;
 mod replay;
-mod run;
 mod status;
 mod stop;
+mod top_call;
 
-pub use run::run;
-pub use status::{ScenarioKind, Status};
+pub use status::{Quantity, ScenarioKind, Status};
 pub use stop::{Stop, stopped};
+pub use top_call::run;

@@ -7,12 +7,21 @@ use scenario_text::EventErr;
 /// Why a line of a scenario was refused.
 #[derive(Clone, Copy, Debug, PartialEq, Eq)]
 pub enum ScenarioKind {
-    /// The line spells no event, or passes a limit.
+    /// The line spells no event.
     Event(EventErr),
     /// The event can't be carried out.
     World(WorldErr),
     /// The line has to spell a structure, and isn't pairs of hexadecimal digits.
     BadHex,
+}
+
+/// What has a limit in a run.
+#[derive(Clone, Copy, Debug, PartialEq, Eq)]
+pub enum Quantity {
+    /// The input, of at most 67,108,864 bytes.
+    Input,
+    /// A line of it, of at most 600,000 bytes.
+    Line,
 }
 
 /// How a run ended.
@@ -30,6 +39,8 @@ pub enum Status {
     WriteFault,
     /// Want of memory.
     Memory,
+    /// A quantity passes its limit.
+    Full { quantity: Quantity },
 }
 
 impl Status {
@@ -44,6 +55,7 @@ impl Status {
             Status::ReadFault => 4,
             Status::WriteFault => 5,
             Status::Memory => 6,
+            Status::Full { .. } => 7,
         }
     }
 }

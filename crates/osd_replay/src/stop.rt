@@ -1,12 +1,11 @@
 ghost use Rattle.std.specs.Prelude.{◌≡◌, Bool};
 ghost use Rattle.osd_replay.specs.Stops.{error_of, status_of, stop_of_line};
-ghost use Rattle.osd_replay.specs.Errors.{kind_name};
+ghost use Rattle.osd_replay.specs.Errors.{full_name, kind_name};
 ghost use Rattle.osd_replay.specs.Puts.{Puts};
 
 use crate::put_line::put_error;
-use crate::status::{ScenarioKind, Status};
+use crate::status::{Quantity, ScenarioKind, Status};
 use osd_bytes::{LineErr, Memory, Sink};
-use scenario_text::EventErr;
 
 /// Why a replay stops before its input ends.
 #[derive(Clone, Copy, Debug, PartialEq, Eq)]
@@ -17,6 +16,8 @@ pub enum Stop {
     Read,
     /// Want of memory.
     Memory,
+    /// A quantity passes its limit.
+    Full(Quantity),
 }
 
 impl From<Memory> for Stop {
@@ -34,9 +35,8 @@ pub fn stop_of(e: LineErr) -> Stop
     ensures { result ≡ stop_of_line e }
 {
     match e {
-        LineErr::TooLong | LineErr::InputFull => {
-            Stop::Refused(ScenarioKind::Event(EventErr::NotYet))
-        }
+        LineErr::TooLong => Stop::Full(Quantity::Line),
+        LineErr::InputFull => Stop::Full(Quantity::Input),
         LineErr::ReadFault => Stop::Read,
         LineErr::Memory => Stop::Memory,
     }
@@ -50,6 +50,16 @@ fn name_of(kind: ScenarioKind) -> &'static str
         ScenarioKind::Event(e) => e.name(),
         ScenarioKind::World(e) => e.name(),
         ScenarioKind::BadHex => "BadHex",
+    }
+}
+
+// What an error line says of a quantity that passes its limit.
+fn full_name(quantity: Quantity) -> &'static str
+    ensures { result.now ≡ full_name quantity }
+{
+    match quantity {
+        Quantity::Input => "full input",
+        Quantity::Line => "full line",
     }
 }
 
@@ -71,6 +81,10 @@ pub fn stopped<K: Sink>(sink: &mut K, stop: Stop, number: u64) -> Status
         Stop::Memory => {
             let _told = put_error(sink, number, "memory");
             Status::Memory
+        }
+        Stop::Full(quantity) => {
+            let _told = put_error(sink, number, full_name(quantity));
+            Status::Full { quantity }
         }
     }
 }

@@ -1,6 +1,6 @@
 use layout_world::WorldErr;
 use osd_bytes::{Bytes, MemSink, MemSource, Numbers};
-use osd_replay::{ScenarioKind, Status, run};
+use osd_replay::{Quantity, ScenarioKind, Status, run};
 use scenario_text::EventErr;
 use std::alloc::Global;
 use std::test::Fail;
@@ -92,7 +92,17 @@ fn scenarios_and_their_transcripts(rt: HostRuntime) -> Result<(), Fail> {
         ),
     ];
     for (scenario, status, transcript) in table {
-        assert!(rt; ends(rt.alloc(), &["replay"], scenario, &[], &[], status, transcript)?);
+        assert!(rt;
+            ends(
+                rt.alloc(),
+                &["replay"],
+                scenario,
+                &[],
+                &[],
+                status,
+                transcript
+            )?
+        );
     }
     Ok(())
 }
@@ -113,7 +123,17 @@ const NO_COMMANDS: [&[&str]; 9] = [
 fn words_that_name_no_command(rt: HostRuntime) -> Result<(), Fail> {
     for words in NO_COMMANDS {
         let output = b"error words\n";
-        assert!(rt; ends(rt.alloc(), words, b"client c0\n", &[], &[], Status::BadWords, output)?);
+        assert!(rt;
+            ends(
+                rt.alloc(),
+                words,
+                b"client c0\n",
+                &[],
+                &[],
+                Status::BadWords,
+                output
+            )?
+        );
     }
     Ok(())
 }
@@ -209,7 +229,17 @@ fn a_source_or_a_sink_that_fails(rt: HostRuntime) -> Result<(), Fail> {
     ];
     for (reads, writes, status, transcript) in replayed {
         let words: &[&str] = &["replay"];
-        assert!(rt; ends(rt.alloc(), words, b"client c0\n", reads, writes, status, transcript)?);
+        assert!(rt;
+            ends(
+                rt.alloc(),
+                words,
+                b"client c0\n",
+                reads,
+                writes,
+                status,
+                transcript
+            )?
+        );
     }
     let checked: [(&[u32], &[u32], Status, &[u8]); 3] = [
         (&[0], &[], Status::ReadFault, b"error 1 read\n"),
@@ -235,5 +265,46 @@ fn exit_statuses(rt: HostRuntime) -> Result<(), Fail> {
     assert!(rt; Status::ReadFault.exit_code() == 4);
     assert!(rt; Status::WriteFault.exit_code() == 5);
     assert!(rt; Status::Memory.exit_code() == 6);
+    Ok(())
+}
+
+// Whether an input of one line, of so many bytes, ends with this status and has written this.
+fn ends_long(
+    alloc: Global,
+    words: &[&str],
+    length: usize,
+    status: Status,
+    output: &[u8],
+) -> Result<bool, Fail> {
+    let mut line = Bytes::new(alloc);
+    for _ in 0..length {
+        line.push(b'#')?;
+    }
+    ends(alloc, words, line.as_slice(), &[], &[], status, output)
+}
+
+#[test]
+fn a_line_that_passes_its_limit(rt: HostRuntime) -> Result<(), Fail> {
+    let full = Status::Full {
+        quantity: Quantity::Line,
+    };
+    let replayed: [(usize, Status, &[u8]); 2] = [
+        (600_000, Status::Done, b"calm yes unguessed yes\n"),
+        (600_001, full, b"error 1 full line\n"),
+    ];
+    for (length, status, output) in replayed {
+        assert!(rt; ends_long(rt.alloc(), &["replay"], length, status, output)?);
+    }
+    let checked: [(usize, Status, &[u8]); 2] = [
+        (
+            600_000,
+            refused(1, ScenarioKind::BadHex),
+            b"error 1 BadHex\n",
+        ),
+        (600_001, full, b"error 1 full line\n"),
+    ];
+    for (length, status, output) in checked {
+        assert!(rt; ends_long(rt.alloc(), &["check", "map"], length, status, output)?);
+    }
     Ok(())
 }

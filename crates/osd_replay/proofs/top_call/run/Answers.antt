@@ -2,7 +2,7 @@ use Rattle.std.proofs.Common.{refl, []}
 use Rattle.osd_replay.specs.Errors.{words_error}
 use Rattle.osd_replay.proofs.SoFar.{appends_none}
 use Rattle.osd_replay.proofs.Promised.{tells}
-use Rattle.osd_replay.proofs.run.run.Goals as goal
+use Rattle.osd_replay.proofs.top_call.run.Goals as goal
 
 pub returns-in-None-clause-promise : goal.returns-in-None-clause-promise
 returns-in-None-clause-promise g c = rw (← c.in-None.ensures)
