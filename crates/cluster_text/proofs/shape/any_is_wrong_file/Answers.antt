@@ -1,0 +1,13 @@
+use Rattle.std.proofs.Common.{◌∙◌, rules, tests}
+use Rattle.std.proofs.lemmas.Iterator.{YieldsList-from_slice}
+use Rattle.std.proofs.lemmas.Iterator.Search.{any_from_yields_List}
+use Rattle.toml.specs.View.{table_view}
+use Rattle.cluster_text.specs.Shape.{is_wrong_file}
+use Rattle.cluster_text.proofs.Lists.{any_map}
+use Rattle.cluster_text.proofs.shape.any_is_wrong_file.Goals as goal
+
+pub returns : goal.returns
+returns c =
+    any_from_yields_List (λ t. is_wrong_file (table_view t.now)) _ _ _ c.any.ensures.ran
+    (YieldsList-from_slice c.args.tables.now cc) (λ x b q k. search (rules, tests))
+    ∙ any_map (is_wrong_file) (λ t. table_view t.now) c.args.tables.now

@@ -1,0 +1,5 @@
+pub mod Kinds
+pub mod Tables
+pub mod Shape
+pub mod Fields
+pub mod Reading
