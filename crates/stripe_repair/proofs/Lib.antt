@@ -13,3 +13,4 @@ pub mod GroupTurns
 pub mod GroupLaws
 pub mod MarkLaws
 pub mod AuditLaws
+pub mod LengthLaws

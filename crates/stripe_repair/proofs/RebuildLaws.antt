@@ -1,6 +1,6 @@
 -- How a rebuild goes on from piece to piece.
 use Rattle.std.proofs.Common.{◌≡◌, ℕ, true, ◌<◌, ◌≤◌, List, [], ◌∷◌, Option, Some, None, length, drop, refl, sym, ap, ◌∙◌, arith, inl, inr}
-use Rattle.std.specs.Prelude.{Result, Ok, Err, IfOk, filter, slice_get, nat_lt, replicate, ◌==◌}
+use Rattle.std.specs.Prelude.{Result, Ok, Err, IfOk, IfSome, filter, slice_get, nat_lt, replicate, ◌==◌}
 use Rattle.std.specs.List.{All}
 use Rattle.std.proofs.lemmas.Bool.{cases_Bool, cases_lt}
 use Rattle.std.proofs.lemmas.Bool.Decides.{eqb_tells, nat_tests}
@@ -47,6 +47,11 @@ pub pieces_of_target : (m : RawMap) (t : Target) (high : ℕ) → IsChecked m �
 unfolding pieces_in
 pieces_of_target m t high ch low = in_group m t (pieces_along m.unit 0 high) (along_are m.unit 0 high ch.short_unit (λ some. omega (arith, low)))
 
+-- the first of them
+pub first_is : (m : RawMap) (t : Target) (todo : List Piece) (o : Option Piece) → o ≡ slice_get todo 0 → All (IsPieceOf m t) todo → IfSome o (IsPieceOf m t)
+first_is m t [] o e all = rw e tt
+first_is m t (p ∷ ps) o e all = rw e (all 0 p (omega arith))
+
 -- ---- what can be made
 
 -- a piece that has sources
@@ -65,25 +70,25 @@ with_sources f t p nonce cs ch same is some none =
 
 -- ---- the rules
 
-by_list : (cs : List Awaited) (f : Kept) (g : Going) (m : RawMap) (t : Target) (todo : List Piece) → g.file.kept ≡ f →
-    rests_or cs g Rebuilding (Gathers t todo) (lost g t) ≡ comes_to (by_sources f t cs) g (record { map = m; target = t; todo = todo; stage = Gathering })
-by_list [] f g m t todo e = ap (λ (k : Kept). goes_past (noting g (Lost t.component (lacking k.map k.components (group_for k t)))) t) e
-by_list (c ∷ cs) f g m t todo e = refl
+by_list : (cs : List Awaited) (f : Kept) (g : Going) (t : Target) (todo : List Piece) → g.file.kept ≡ f →
+    rests_or cs g Rebuilding (Gathers t todo) (lost g t) ≡ comes_to (by_sources f t cs) g (record { target = t; todo = todo; stage = Gathering })
+by_list [] f g t todo e = ap (λ (k : Kept). goes_past (noting g (Lost t.component (lacking k.map k.components (group_for k t)))) t) e
+by_list (c ∷ cs) f g t todo e = refl
 
-fills_by : (f : Kept) (nonce : ℕ) (g : Going) (m : RawMap) (t : Target) (todo : List Piece) → IsAt f nonce g →
-    fills g t todo ≡ comes_to (sourced f t (slice_get todo 0) nonce) g (record { map = m; target = t; todo = todo; stage = Gathering })
+fills_by : (f : Kept) (nonce : ℕ) (g : Going) (t : Target) (todo : List Piece) → IsAt f nonce g →
+    fills g t todo ≡ comes_to (sourced f t (slice_get todo 0) nonce) g (record { target = t; todo = todo; stage = Gathering })
 unfolding fills
-fills_by f nonce g m t [] at = refl
-fills_by f nonce g m t (p ∷ ps) at =
+fills_by f nonce g t [] at = refl
+fills_by f nonce g t (p ∷ ps) at =
     let here : sources g.file.kept t p g.moved.nonce ≡ sources f t p nonce = rw (at.kept, at.nonce) refl in
-    ap (λ (cs : List Awaited). rests_or cs g Rebuilding (Gathers t (p ∷ ps)) (lost g t)) here ∙ by_list (sources f t p nonce) f g m t (p ∷ ps) at.kept
+    ap (λ (cs : List Awaited). rests_or cs g Rebuilding (Gathers t (p ∷ ps)) (lost g t)) here ∙ by_list (sources f t p nonce) f g t (p ∷ ps) at.kept
 
-pub next_fills : (r : Result FillStep Memory) (f : Kept) (nonce : ℕ) (m : RawMap) (t : Target) (todo : List Piece) (o : Option Piece) → o ≡ slice_get todo 0 →
+pub next_fills : (r : Result FillStep Memory) (f : Kept) (nonce : ℕ) (t : Target) (todo : List Piece) (o : Option Piece) → o ≡ slice_get todo 0 →
     IfOk r (λ step. step ≡ sourced f t o nonce) →
-    IfOk r (λ step. (g : Going) → IsAt f nonce g → fills g t todo ≡ comes_to step g (record { map = m; target = t; todo = todo; stage = Gathering }))
-next_fills (Ok step) f nonce m t todo o first e = λ g at.
-    fills_by f nonce g m t todo at ∙ ap (λ (s : FillStep). comes_to s g (record { map = m; target = t; todo = todo; stage = Gathering })) (ap (λ (x : Option Piece). sourced f t x nonce) (sym first) ∙ sym e)
-next_fills (Err x) f nonce m t todo o first e = tt
+    IfOk r (λ step. (g : Going) → IsAt f nonce g → fills g t todo ≡ comes_to step g (record { target = t; todo = todo; stage = Gathering }))
+next_fills (Ok step) f nonce t todo o first e = λ g at.
+    fills_by f nonce g t todo at ∙ ap (λ (s : FillStep). comes_to s g (record { target = t; todo = todo; stage = Gathering })) (ap (λ (x : Option Piece). sourced f t x nonce) (sym first) ∙ sym e)
+next_fills (Err x) f nonce t todo o first e = tt
 
 -- ---- its sources are read, or its WRITE is answered
 

@@ -1,5 +1,6 @@
 -- A rebuild between its messages: its target, the pieces that are left, and what is awaited.
-use Rattle.std.specs.Prelude.{ℕ, List, [], ◌∷◌, Option, Some, None, ◌≡◌, slice_get, IfSome}
+use Rattle.std.specs.Prelude.{ℕ, List, [], ◌∷◌, Option, Some, None, ◌≡◌, ◌≢◌, slice_get, IfSome}
+use Rattle.std.specs.List.{All}
 use Rattle.data_map.specs.declared.check.RawMap.{RawMap}
 use Rattle.data_map.specs.Striping.{group_of}
 use Rattle.server_rules.specs.declared.files.Kept.{Kept}
@@ -23,14 +24,13 @@ use Rattle.stripe_repair.specs.Restored.{CanBeMade}
 
 -- the component that is made anew, the pieces that are left, the first of which is in work, and what is awaited
 pub record RebuildState : Type 0 where
-  pub map : RawMap
   pub target : Target
   pub todo : List Piece
   pub stage : FillStage
 
 -- it begins: all pieces of the component's group below high
 abbrev pub begins : RawMap → Target → (high : ℕ) → RebuildState
-begins m t high = record { map = m; target = t; todo = pieces_in m (group_with m t.component) high; stage = Gathering }
+begins m t high = record { target = t; todo = pieces_in m (group_with m t.component) high; stage = Gathering }
 
 -- the same as the rules have it
 abbrev pub fill_work_at : FillStage → Target → List Piece → Work
@@ -44,6 +44,10 @@ fill_work_of s = fill_work_at s.stage s.target s.todo
 pub record IsPieceOf (m : RawMap) (t : Target) (p : Piece) : Type 0 where
   pub piece : IsPiece p
   pub group : group_of m p.stripe ≡ group_with m t.component
+
+-- the pieces that are left are of the component's group by this map
+abbrev pub ArePiecesOf : RawMap → RebuildState → Type 0
+ArePiecesOf m s = All (IsPieceOf m s.target) s.todo
 
 -- the first piece can be made
 abbrev pub IsReadable : Kept → RebuildState → Type 0
@@ -62,6 +66,17 @@ comes_to (LostPiece positions) g s = goes_past (noting g (Lost s.target.componen
 abbrev pub IsFetch : FillStep → Type 0
 IsFetch (Fetch cs) = Unit {0}
 IsFetch step = ⊥
+
+-- where it reads, there is something to read
+abbrev pub ReadsSome : FillStep → Type 0
+ReadsSome (Fetch cs) = cs ≢ []
+ReadsSome step = Unit {0}
+
+-- what is awaited where it reads or writes
+abbrev pub StagesAs : FillStep → FillStage → Type 0
+StagesAs (Fetch cs) stage = stage ≡ Gathering
+StagesAs (Store a) stage = stage ≡ Filling
+StagesAs step stage = Unit {0}
 
 -- the READs of a piece's sources, or that it is lost
 abbrev pub by_sources : Kept → Target → List Awaited → FillStep

@@ -6,5 +6,6 @@ pub mod Pieces
 pub mod Marks
 pub mod Repairing
 pub mod Restored
+pub mod Lengths
 pub mod Auditing
 pub mod Filling

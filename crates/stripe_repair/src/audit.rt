@@ -3,7 +3,7 @@ ghost use Rattle.std.specs.Prelude.{◌≡◌, ◌<◌, ◌≤◌, ◌^◌, leng
 ghost use Rattle.std.specs.List.{All};
 ghost use Rattle.data_map.specs.declared.check.TheConstants.{MAX_COMPONENTS};
 ghost use Rattle.data_map.specs.declared.ranges.TheConstants.{MAX_FILE_SIZE};
-ghost use Rattle.server_rules.specs.Audit.{audits, length_in, lengths_of};
+ghost use Rattle.server_rules.specs.Audit.{audits, present_lengths};
 ghost use Rattle.server_rules.specs.Going.{Going};
 ghost use Rattle.server_rules.specs.Numbers.{among};
 ghost use Rattle.server_rules.specs.Jobs.{audited_on};
@@ -13,11 +13,12 @@ ghost use Rattle.stripe_repair.specs.Repairing.{IsAt};
 
 use crate::auditing::{StripeState, judge};
 use crate::cursor::PieceCursor;
+use crate::lengths::{lengths_of, present_lengths};
 use crate::marks::Marks;
 use crate::reading::{mark_short, reads};
 use data_map::DataMap;
-use osd_bytes::{Memory, Sequence, u64_at};
-use server_rules::{AwaitedCommands, Heard, Kept, MAX_OBJECT_LENGTH, Measured, Piece};
+use osd_bytes::{Memory, Sequence};
+use server_rules::{AwaitedCommands, Component, Heard, Kept, Measured, Piece};
 use std::alloc::Global;
 use std::marker::Model;
 
@@ -38,37 +39,13 @@ impl Model for Audit {
     ghost use Rattle.std.specs.List.{All};
     ghost use Rattle.stripe_repair.specs.Pieces.{IsPiece};
     ghost use Rattle.stripe_repair.specs.Auditing.{AuditState, tally_of};
+    ghost use Rattle.stripe_repair.specs.Lengths.{AreLengths};
 
     ghost Value = { AuditState };
 
     ghost view = { λ a. record { todo = a.todo; tally = tally_of a.lengths a.short a.bad } };
 
-    ghost invariant = { λ a. All IsPiece a.todo };
-}
-
-// Eight bytes with a length that an object may have, else 0.
-#[tactic(auto, unfolding(server_rules::specs::Audit::length_in))]
-fn length_in(bytes: &[u8]) -> u64
-    ensures { result ≡ length_in bytes.now }
-{
-    if bytes.len() == 8 && u64_at(bytes, 0) <= MAX_OBJECT_LENGTH {
-        return u64_at(bytes, 0);
-    }
-    0
-}
-
-// The lengths that the replies carry.
-fn lengths_of(alloc: Global, heard: &[Heard]) -> Result<Sequence<Measured>, Memory>
-    ensures { IfOk result (λ ms. ms ≡ lengths_of heard.now) }
-{
-    let mut lengths = Sequence::new(alloc);
-    for reply in heard {
-        lengths.push(Measured {
-            component: reply.component,
-            length: length_in(reply.payload.as_slice()),
-        })?;
-    }
-    Ok(lengths)
+    ghost invariant = { λ a. All IsPiece a.todo × AreLengths a.lengths };
 }
 
 // Goes to the first piece of which there is something to read, and gives its READs. No piece is left where there
@@ -137,7 +114,8 @@ impl Audit {
     ///
     /// Want of memory alone.
     pub fn new(alloc: Global, map: &DataMap, high: u64, heard: &[Heard]) -> Result<Audit, Memory>
-        requires { high ≤ MAX_FILE_SIZE }
+        requires high { high ≤ MAX_FILE_SIZE }
+        requires few { length heard.now ≤ MAX_COMPONENTS }
         ensures { IfOk result (λ audit. audit ≡ audit_of map.now.unit high heard.now) }
     {
         map.known();
@@ -192,11 +170,12 @@ impl Audit {
         self.next(alloc, kept, nonce)
     }
 
-    /// The lengths that the objects told.
-    pub fn lengths(&self) -> &[Measured]
-        ensures { result.now ≡ self.now.tally.lengths }
+    /// The sum of the lengths that the objects of the components told that are still present, in bytes.
+    pub fn present_lengths(&self, components: &[Component]) -> u64
+        requires { length components.now ≤ MAX_COMPONENTS }
+        ensures { result ≡ present_lengths self.now.tally.lengths components.now 0 }
     {
-        self.lengths.as_slice()
+        present_lengths(self.lengths.as_slice(), components)
     }
 
     /// How many stripes are short.

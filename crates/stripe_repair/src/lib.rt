@@ -12,6 +12,7 @@ mod columns;
 mod commands;
 mod cursor;
 mod group_cursor;
+mod lengths;
 mod loads;
 mod marks;
 mod offsets;

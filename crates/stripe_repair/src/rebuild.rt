@@ -8,7 +8,8 @@ ghost use Rattle.server_rules.specs.Jobs.{filled_in, gathered};
 ghost use Rattle.server_rules.specs.Maps.{group_with};
 ghost use Rattle.server_rules.specs.Rebuild.{fills, filling, made};
 ghost use Rattle.stripe_repair.specs.Restored.{CanBeMade};
-ghost use Rattle.stripe_repair.specs.Filling.{begins, comes_to, sourced, IsFetch, IsPieceOf, IsReadable};
+ghost use Rattle.stripe_repair.specs.Filling.{begins, comes_to, sourced};
+ghost use Rattle.stripe_repair.specs.Filling.{ArePiecesOf, IsFetch, IsPieceOf, IsReadable, ReadsSome, StagesAs};
 ghost use Rattle.stripe_repair.specs.declared.rebuild.FillStage.TheVariants.{Gathering};
 ghost use Rattle.stripe_repair.specs.Repairing.{IsAt};
 
@@ -52,7 +53,6 @@ pub enum FillStep {
 /// when the last READ that it sent is answered, and with [`Rebuild::stored`] when its WRITE is.
 #[derive(Drop)]
 pub struct Rebuild {
-    map: DataMap,
     target: Target,
     todo: GroupCursor,
     stage: FillStage,
@@ -60,15 +60,14 @@ pub struct Rebuild {
 
 impl Model for Rebuild {
     ghost use Rattle.std.specs.Prelude.{◌<◌};
-    ghost use Rattle.std.specs.List.{All};
     ghost use Rattle.data_map.specs.declared.check.TheConstants.{MAX_COMPONENTS};
-    ghost use Rattle.stripe_repair.specs.Filling.{RebuildState, IsPieceOf};
+    ghost use Rattle.stripe_repair.specs.Filling.{RebuildState};
 
     ghost Value = { RebuildState };
 
-    ghost view = { λ r. record { map = r.map; target = r.target; todo = r.todo; stage = r.stage } };
+    ghost view = { λ r. record { target = r.target; todo = r.todo; stage = r.stage } };
 
-    ghost invariant = { λ r. (r.target.component < MAX_COMPONENTS) × All (IsPieceOf r.map r.target) r.todo };
+    ghost invariant = { λ r. r.target.component < MAX_COMPONENTS };
 }
 
 // The READs of the sources of a piece, or that it is lost, or that there is none.
@@ -84,6 +83,8 @@ fn sourced(
     requires low { nonce < 2 ^ 63 }
     requires piece { IfSome piece (IsPieceOf kept.now.map target) }
     ensures step { IfOk result (λ step. step ≡ sourced kept.now target piece nonce) }
+    ensures some { IfOk result ReadsSome }
+    ensures stage { IfOk result (λ step. StagesAs step Gathering) }
     ensures readable { IfOk result (λ step. IsFetch step → IfSome piece (CanBeMade kept.now target)) }
 {
     let Some(piece) = piece else {
@@ -105,12 +106,12 @@ impl Rebuild {
     pub fn new(map: DataMap, target: Target, high: u64) -> Self
         requires component { target.component < map.comps }
         requires high { high ≤ MAX_FILE_SIZE }
-        ensures { result ≡ begins map target high }
+        ensures value { result ≡ begins map target high }
+        ensures pieces { ArePiecesOf map result }
     {
         map.known();
         let group = group_with(&map, target.component);
         Rebuild {
-            map,
             target,
             todo: GroupCursor::new(map, group, high),
             stage: FillStage::Gathering,
@@ -125,11 +126,13 @@ impl Rebuild {
     pub fn next(&mut self, alloc: Global, kept: &Kept, nonce: u64) -> Result<FillStep, Memory>
         requires few { length kept.now.components ≤ MAX_COMPONENTS }
         requires low { nonce < 2 ^ 63 }
-        requires map { kept.now.map ≡ self.old.map }
+        requires pieces { ArePiecesOf kept.now.map self.old }
         ensures rules { IfOk result (λ step. (g : Going) → IsAt kept.now nonce g
             → fills g self.old.target self.old.todo ≡ comes_to step g self.new) }
         ensures readable { IfOk result (λ step. IsFetch step → IsReadable kept.now self.new) }
-        ensures map { self.new.map ≡ self.old.map }
+        ensures some { IfOk result ReadsSome }
+        ensures stage { IfOk result (λ step. StagesAs step self.new.stage) }
+        ensures pieces { ArePiecesOf kept.now.map self.new }
         ensures target { self.new.target ≡ self.old.target }
     {
         self.stage = FillStage::Gathering;
@@ -151,12 +154,14 @@ impl Rebuild {
     ) -> Result<FillStep, Memory>
         requires few { length kept.now.components ≤ MAX_COMPONENTS }
         requires low { nonce < 2 ^ 63 }
-        requires map { kept.now.map ≡ self.old.map }
+        requires pieces { ArePiecesOf kept.now.map self.old }
         requires readable { IsReadable kept.now self.old }
         ensures rules { IfOk result (λ step. (g : Going) → IsAt kept.now nonce g
             → gathered g self.old.target self.old.todo heard.now ≡ comes_to step g self.new) }
         ensures readable { IfOk result (λ step. IsFetch step → IsReadable kept.now self.new) }
-        ensures map { self.new.map ≡ self.old.map }
+        ensures some { IfOk result ReadsSome }
+        ensures stage { IfOk result (λ step. StagesAs step self.new.stage) }
+        ensures pieces { ArePiecesOf kept.now.map self.new }
         ensures target { self.new.target ≡ self.old.target }
     {
         if let Some(piece) = self.todo.first() {
@@ -179,11 +184,13 @@ impl Rebuild {
     pub fn stored(&mut self, alloc: Global, kept: &Kept, nonce: u64) -> Result<FillStep, Memory>
         requires few { length kept.now.components ≤ MAX_COMPONENTS }
         requires low { nonce < 2 ^ 63 }
-        requires map { kept.now.map ≡ self.old.map }
+        requires pieces { ArePiecesOf kept.now.map self.old }
         ensures rules { IfOk result (λ step. (g : Going) → IsAt kept.now nonce g
             → filled_in g self.old.target self.old.todo ≡ comes_to step g self.new) }
         ensures readable { IfOk result (λ step. IsFetch step → IsReadable kept.now self.new) }
-        ensures map { self.new.map ≡ self.old.map }
+        ensures some { IfOk result ReadsSome }
+        ensures stage { IfOk result (λ step. StagesAs step self.new.stage) }
+        ensures pieces { ArePiecesOf kept.now.map self.new }
         ensures target { self.new.target ≡ self.old.target }
     {
         self.todo.advance();

@@ -14,10 +14,14 @@ returns-in-Some-write-clause-rules c = λ g at.
     let write = rw (c.as_slice.ensures, c.in_ok-bytes.ensures.value) at c.in_ok-write.ensures in
     rw (← c.self.view_is) (gathered_stores c.args.kept.now c.args.nonce g s.target s.todo c.args.heard.now c.in-Some.piece c.in-Some-write.write at (sym c.first.ensures ∙ c.in-Some.is) (sym write ∙ c.in-Some-write.is))
 
-pub invariant_of-self-in-Some : goal.invariant_of-self-in-Some
-invariant_of-self-in-Some c =
+pub next-requires-clause-pieces : goal.next-requires-clause-pieces
+next-requires-clause-pieces c =
     let s = c.self.inside in
-    (c.self.invariant.0, rw c.advance.ensures (All-drop (IsPieceOf s.map s.target) 1 s.todo c.self.invariant.1))
+    elim c.match-first.branch [
+      | in-Some+in_ok-bytes+in_ok-write+in_default-write w ↦
+          rw (w.self-is, w.advance.ensures) (All-drop (IsPieceOf c.args.kept.now.map s.target) 1 s.todo (rw (← c.self.view_is) at c.requires.pieces))
+      | in_default w ↦ rw w.self-is c.requires.pieces
+    ]
 
 pub returns-clause-rules : goal.returns-clause-rules
 returns-clause-rules c =
