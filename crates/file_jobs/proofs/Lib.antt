@@ -6,3 +6,7 @@ pub mod Placements
 pub mod Mends
 pub mod Losses
 pub mod HeardLaws
+pub mod Settled
+pub mod Rebuilds
+pub mod Audits
+pub mod FitsLaws

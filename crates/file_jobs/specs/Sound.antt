@@ -1,13 +1,17 @@
 -- What holds of a file and its job, so that its numbers fit their types.
-use Rattle.std.specs.Prelude.{Option, Some, None, ◌≡◌, ◌≤◌, ◌<◌, length}
+use Rattle.std.specs.Prelude.{ℕ, List, [], Option, Some, None, ◌≡◌, ◌≤◌, ◌<◌, ◌+◌, ◌^◌, length, slice_get, IfSome}
+use Rattle.std.specs.List.{All}
 use Rattle.data_map.specs.declared.ranges.TheConstants.{MAX_FILE_SIZE}
 use Rattle.server_rules.specs.declared.limits.TheConstants.{GREATEST_TAG, MAX_FILE_COMPONENTS}
 use Rattle.server_rules.specs.declared.files.Kept.{Kept}
 use Rattle.server_rules.specs.declared.jobs.Job.{Job}
-use Rattle.server_rules.specs.declared.jobs.JobKind.{JobKind}
-use Rattle.server_rules.specs.declared.jobs.JobKind.TheVariants.{Making, Revoking, Rebuilding, Auditing}
+use Rattle.server_rules.specs.declared.jobs.Piece.{Piece}
+use Rattle.server_rules.specs.declared.jobs.Target.{Target}
 use Rattle.server_rules.specs.declared.jobs.Work.{Work}
-use Rattle.server_rules.specs.declared.jobs.Work.TheVariants.{Creates, Fences, Fetches, Stores}
+use Rattle.server_rules.specs.declared.jobs.Work.TheVariants.{Creates, Fences, Fetches, Stores, Targets, Gathers, Fills, Lengths, Checks}
+use Rattle.server_rules.specs.declared.server.Moved.{Moved}
+use Rattle.stripe_repair.specs.Filling.{IsPieceOf}
+use Rattle.stripe_repair.specs.Restored.{CanBeMade}
 use Rattle.file_jobs.specs.declared.job.FileState.{FileState}
 use Rattle.file_jobs.specs.declared.job.Turn.{Turn}
 use Rattle.file_jobs.specs.declared.job.Turn.TheVariants.{Over, Rests, Mended, Places}
@@ -18,6 +22,7 @@ use Rattle.file_jobs.specs.Ranges.{EndInside}
 -- what holds of each file
 pub record IsSound (k : Kept) : Type 0 where
   pub few : length k.components ≤ MAX_FILE_COMPONENTS
+  pub whole : length k.components ≡ k.map.comps
   pub high : k.high ≤ MAX_FILE_SIZE
   pub live : EndInside k.grants
   pub ended : EndInside k.ended
@@ -26,55 +31,72 @@ pub record IsSound (k : Kept) : Type 0 where
 pub record Leaves (old new : Kept) : Type 0 where
   pub number : new.number ≡ old.number
   pub sound : IsSound old → IsSound new
+  pub grants : old.grants ≡ [] → new.grants ≡ []
 
 -- ---- a job
 
--- nothing comes behind the repair of such a job
-abbrev pub EndsAfterRepair : JobKind → Type 0
-EndsAfterRepair Making = Unit {0}
-EndsAfterRepair Revoking = Unit {0}
-EndsAfterRepair Rebuilding = ⊥
-EndsAfterRepair Auditing = ⊥
+-- a rebuild's component is one of the file's, and its pieces are of its group
+pub record CanFill (k : Kept) (t : Target) (todo : List Piece) : Type 0 where
+  pub component : t.component < length k.components
+  pub pieces : All (IsPieceOf k.map t) todo
 
--- what a part of such a job needs
-abbrev pub Fits : Kept → Work → Type 0
-Fits k Creates = Unit {0}
-Fits k Fences = k.tag < GREATEST_TAG
-Fits k (Fetches todo short) = Unit {0}
-Fits k (Stores todo short broken) = Unit {0}
-Fits k work = ⊥
+-- what a part of a job needs, of which so many commands are awaited or answered
+abbrev pub Fits : Kept → (sent : ℕ) → Work → Type 0
+Fits k sent Creates = Unit {0}
+Fits k sent Fences = k.tag < GREATEST_TAG
+Fits k sent (Fetches todo short) = Unit {0}
+Fits k sent (Stores todo short broken) = Unit {0}
+Fits k sent (Targets t) = t.component < length k.components
+Fits k sent (Gathers t todo) = CanFill k t todo × IfSome (slice_get todo 0) (CanBeMade k t)
+Fits k sent (Fills t todo) = CanFill k t todo
+Fits k sent Lengths = sent ≤ MAX_FILE_COMPONENTS
+Fits k sent (Checks todo tally) = Unit {0}
 
--- it ends with its repair, and its part may go on
-pub record IsSoundJob (k : Kept) (j : Job) : Type 0 where
-  pub kind : EndsAfterRepair j.kind
-  pub work : Fits k j.work
+-- the same where a component became missing meanwhile, so that it may be that the first piece can't be made any more
+abbrev pub FitsAfterLoss : Kept → (sent : ℕ) → Work → Type 0
+FitsAfterLoss k sent (Gathers t todo) = CanFill k t todo
+FitsAfterLoss k sent work = Fits k sent work
+
+-- its part may go on
+abbrev pub IsSoundJob : Kept → Job → Type 0
+IsSoundJob k j = Fits k (length j.awaited + length j.heard) j.work
 
 abbrev pub HasSoundJob : Kept → Option Job → Type 0
 HasSoundJob k None = Unit {0}
 HasSoundJob k (Some j) = IsSoundJob k j
 
+-- where a job runs there is no grant
+abbrev pub IsAlone : Kept → Option Job → Type 0
+IsAlone k None = Unit {0}
+IsAlone k (Some j) = k.grants ≡ []
+
 -- what holds of a file between steps
 pub record IsSoundFile (f : FileState) : Type 0 where
   pub kept : IsSound f.kept
+  pub alone : IsAlone f.kept f.job
   pub job : HasSoundJob f.kept f.job
 
--- a job that rests is such a job
-abbrev pub RestsSound : Turn → Kept → Type 0
-RestsSound Over k = Unit {0}
-RestsSound (Rests j) k = IsSoundJob k j
-RestsSound (Mended kind) k = Unit {0}
-RestsSound (Places from) k = Unit {0}
+-- nothing was sent, and no object number is used up
+abbrev pub Stays : Moved → Moved → Type 0
+Stays was is = (is.nonce ≡ was.nonce) × (is.object ≡ was.object)
 
--- the job that rests is of this kind, and in this part
-abbrev pub RestsWith : JobKind → Work → Turn → Type 0
-RestsWith kind work Over = ⊥
-RestsWith kind work (Rests j) = (j.kind ≡ kind) × (j.work ≡ work)
-RestsWith kind work (Mended k) = ⊥
-RestsWith kind work (Places from) = ⊥
+-- a job that rests may go on, and where more is to be sent nothing was sent yet
+abbrev pub RestsSound : Turn → Moved → Kept → Moved → Type 0
+RestsSound Over was k is = Unit {0}
+RestsSound (Rests j) was k is = IsSoundJob k j
+RestsSound (Mended kind) was k is = Stays was is
+RestsSound (Places from) was k is = Stays was is
 
--- nothing comes behind what it is
-abbrev pub Ends : Turn → Type 0
-Ends Over = Unit {0}
-Ends (Rests j) = Unit {0}
-Ends (Mended kind) = EndsAfterRepair kind
-Ends (Places from) = ⊥
+-- the same, where the numbers of what is to be sent fit their types
+abbrev pub RestsLow : Turn → Kept → Moved → Type 0
+RestsLow Over k is = Unit {0}
+RestsLow (Rests j) k is = IsSoundJob k j
+RestsLow (Mended kind) k is = (is.nonce < 2 ^ 63) × (is.object < 2 ^ 63)
+RestsLow (Places from) k is = (is.nonce < 2 ^ 63) × (is.object < 2 ^ 63)
+
+-- this job rests
+abbrev pub RestsAs : Job → Turn → Type 0
+RestsAs job Over = ⊥
+RestsAs job (Rests j) = j ≡ job
+RestsAs job (Mended k) = ⊥
+RestsAs job (Places from) = ⊥

@@ -98,6 +98,11 @@ abbrev pub Chooses : (Going → Going) → List DriveLoad → Kept → Moved →
 Chooses f loads old was turn new is =
     (chosen : List ℕ) × ((a : Around) → AreLoadsOf loads a.drives → turned turn new is a ≡ f (going old was (record a { chosen = chosen ++ a.chosen })))
 
+-- for some answers of the placer, the file with this job is what came of its job
+abbrev pub Settles : Turn → List DriveLoad → Kept → Moved → Option Job → Moved → Type 0
+Settles turn loads k was job is =
+    (chosen : List ℕ) × ((a : Around) → AreLoadsOf loads a.drives → going k is (record a { job = job }) ≡ turned turn k was (record a { chosen = chosen ++ a.chosen }))
+
 -- ---- at a whole file
 
 -- what came of the file is what this function makes
@@ -107,3 +112,7 @@ Steps f old was new is = (ds : List Drive) (chosen : List ℕ) → at new is ds 
 -- the same for some answers of the placer
 abbrev pub Asks : (Going → Going) → List Drive → FileState → Moved → FileState → Moved → Type 0
 Asks f ds old was new is = (chosen : List ℕ) × ((rest : List ℕ) → at new is ds rest ≡ f (at old was ds (chosen ++ rest)))
+
+-- the same wherever these are the loads of the drives
+abbrev pub StepsOn : (Going → Going) → List DriveLoad → FileState → Moved → FileState → Moved → Type 0
+StepsOn f loads old was new is = (ds : List Drive) → AreLoadsOf loads ds → Asks f ds old was new is

@@ -1,13 +1,14 @@
 -- What a job does, as the rules see it, and what a step did so far.
 use Rattle.std.specs.Prelude.{ℕ, List, [], ◌∷◌, ◌++◌, ◌+◌, length}
 use Rattle.server_rules.specs.declared.jobs.Work.{Work}
-use Rattle.server_rules.specs.declared.jobs.Work.TheVariants.{Creates, Fences, Targets}
+use Rattle.server_rules.specs.declared.jobs.Work.TheVariants.{Creates, Fences, Targets, Lengths, Checks}
 use Rattle.server_rules.specs.declared.jobs.Awaited.{Awaited}
 use Rattle.server_rules.specs.declared.notes.NoteKind.{NoteKind}
 use Rattle.server_rules.specs.declared.server.Moved.{Moved}
 use Rattle.stripe_repair.specs.Repairing.{work_of as repair_of}
+use Rattle.stripe_repair.specs.Filling.{fill_work_of}
 use Rattle.file_jobs.specs.declared.job.Work.{Work as RunningWork}
-use Rattle.file_jobs.specs.declared.job.Work.TheVariants.{Creates as Making, Fences as Fencing, Repairs as Repairing, Targets as Placing}
+use Rattle.file_jobs.specs.declared.job.Work.TheVariants.{Creates as Making, Fences as Fencing, Repairs as Repairing, Targets as Placing, Rebuilds as Filling, Lengths as Measuring, Checks as Checking}
 
 -- cursors are the lists of their pieces
 abbrev pub work_of : RunningWork → Work
@@ -15,6 +16,9 @@ work_of Making = Creates
 work_of Fencing = Fences
 work_of (Repairing r) = repair_of r
 work_of (Placing t) = Targets t
+work_of (Filling r) = fill_work_of r
+work_of Measuring = Lengths
+work_of (Checking a) = Checks a.todo a.tally
 
 -- these commands are sent
 abbrev pub sends : Moved → List Awaited → Moved

@@ -1,17 +1,22 @@
 // A drive is declared, at a whole file.
-ghost use Rattle.std.specs.Prelude.{◌<◌, ◌^◌, false, IfOk, OnOk};
-ghost use Rattle.server_rules.specs.Jobs.{declares, loses, others_than};
-ghost use Rattle.file_jobs.specs.Sound.{Ends, IsSound, IsSoundFile, IsSoundJob, Leaves, RestsSound};
-ghost use Rattle.file_jobs.specs.Steps.{GoesOnAs, Steps, Turns};
+ghost use Rattle.std.specs.Prelude.{◌≡◌, ◌<◌, ◌≤◌, ◌+◌, ◌^◌, Some, length, IfOk, OnOk};
+ghost use Rattle.server_rules.specs.Jobs.{declares, is_target, loses, others_than, targets};
+ghost use Rattle.stripe_repair.specs.Placing.{AreDifferent, IsPlacer, drives_of};
+ghost use Rattle.stripe_repair.specs.declared.loads.TheConstants.{MAX_DRIVES};
+ghost use Rattle.file_jobs.specs.Losing.{TurnsIn, target_in};
+ghost use Rattle.file_jobs.specs.Sound.{FitsAfterLoss, IsSound, IsSoundFile, Leaves, RestsSound};
+ghost use Rattle.file_jobs.specs.Steps.{StepsOn};
 
 use crate::awaited::{Gone, without};
 use crate::going_on::loses;
-use crate::job::{FileState, RunningJob, Turn};
+use crate::job::{FileState, RunningJob, Turn, Work};
+use crate::rebuilding::{ends, fills, target_of};
+use crate::settling::settle;
 use crate::standing::{any_on, lose_on};
-use crate::whole::job_ended;
-use osd_bytes::Memory;
-use server_rules::{Kept, Moved};
+use osd_bytes::{Memory, Numbers};
+use server_rules::{Kept, Moved, NoteKind, Target};
 use std::alloc::Global;
+use stripe_repair::{DriveLoad, Placer};
 
 // The job goes on without what stood on the drive.
 fn declared(
@@ -23,12 +28,14 @@ fn declared(
 ) -> Result<Turn, Memory>
     requires sound { IsSound kept.old }
     requires low { moved.old.nonce < 2 ^ 63 }
-    requires job { IsSoundJob kept.old job }
-    ensures turn { IfOk result (λ turn. Turns (λ g. loses g job job.work (others_than drive job.awaited) false) kept.old moved.old turn kept.new moved.new) }
-    ensures kind { IfOk result (GoesOnAs job.kind) }
-    ensures sound { IfOk result (λ turn. RestsSound turn kept.new) }
+    requires job { FitsAfterLoss kept.old (length job.awaited + length job.heard) job.work }
+    ensures turn { IfOk result (λ turn. TurnsIn job (λ g. loses g job job.work (others_than drive job.awaited) (is_target job.work drive)) kept.old moved.old turn kept.new moved.new) }
+    ensures sound { IfOk result (λ turn. RestsSound turn moved.old kept.new moved.new) }
     ensures keeps { OnOk result (Leaves kept.old kept.new) }
 {
+    if let Some(target) = target_of(&job.work) {
+        return redirects(alloc, kept, moved, job, target, drive);
+    }
     let RunningJob {
         kind,
         work,
@@ -45,25 +52,72 @@ fn declared(
     loses(alloc, kept, moved, job)
 }
 
-/// A drive is declared: each component of the file on it becomes missing, and the job goes on without them.
+// A rebuild goes on: its target is gone, or its piece begins again.
+fn redirects(
+    alloc: Global,
+    kept: &mut Kept,
+    moved: &mut Moved,
+    job: RunningJob,
+    target: Target,
+    drive: u32,
+) -> Result<Turn, Memory>
+    requires target { target_in job.work ≡ Some target }
+    requires sound { IsSound kept.old }
+    requires low { moved.old.nonce < 2 ^ 63 }
+    requires job { FitsAfterLoss kept.old (length job.awaited + length job.heard) job.work }
+    ensures turn { IfOk result (λ turn. TurnsIn job (λ g. loses g job job.work (others_than drive job.awaited) (is_target job.work drive)) kept.old moved.old turn kept.new moved.new) }
+    ensures sound { IfOk result (λ turn. RestsSound turn moved.old kept.new moved.new) }
+    ensures keeps { OnOk result (Leaves kept.old kept.new) }
+{
+    if target.drive == drive {
+        let component = target.component;
+        return ends(kept, moved, target, NoteKind::NoDrive { component });
+    }
+    let RunningJob {
+        kind,
+        work,
+        awaited,
+        heard,
+    } = job;
+    match work {
+        Work::Rebuilds(rebuild) => fills(alloc, kept, moved, rebuild),
+        work => Ok(Turn::Rests(RunningJob {
+            kind,
+            work,
+            awaited,
+            heard,
+        })),
+    }
+}
+
+/// A drive is declared: each component of the file on it becomes missing, and the job goes on without them. The
+/// drive isn't online any more among `loads`.
 ///
 /// # Errors
 ///
 /// Want of memory alone.
 #[tactic(auto, unfolding(server_rules::specs::Jobs::declares))]
-pub fn declare(
+pub fn declare<F>(
     alloc: Global,
     file: &mut FileState,
     moved: &mut Moved,
     drive: u32,
+    loads: &[DriveLoad],
+    placer: &Placer<F>,
 ) -> Result<(), Memory>
+where
+    F: Fn(u32, &[DriveLoad]) -> Result<Numbers, Memory>,
+    requires few { length loads.now ≤ MAX_DRIVES }
+    requires different { AreDifferent (drives_of loads.now) }
+    requires placer { IsPlacer F.Fn placer.now }
     requires sound { IsSoundFile file.old }
     requires low { moved.old.nonce < 2 ^ 63 }
-    ensures steps { OnOk result (Steps (λ g. declares g drive) file.old moved.old file.new moved.new) }
+    requires objects { moved.old.object < 2 ^ 63 }
+    ensures steps { OnOk result (StepsOn (λ g. declares g drive) loads.now file.old moved.old file.new moved.new) }
     ensures keeps { OnOk result (Leaves file.old.kept file.new.kept) }
     ensures sound { OnOk result (IsSoundFile file.new) }
 {
-    if !any_on(drive, file.kept.components.as_slice()) {
+    if !any_on(drive, file.kept.components.as_slice()) && !has_target(&file.job, drive) {
         return Ok(());
     }
     file.kept.components = lose_on(alloc, file.kept.components.as_slice(), drive)?;
@@ -71,6 +125,19 @@ pub fn declare(
         return Ok(());
     };
     let turn = declared(alloc, &mut file.kept, moved, job, drive)?;
-    file.job = job_ended(turn);
+    file.job = settle(alloc, &file.kept, moved, turn, loads, placer)?;
     Ok(())
+}
+
+// The job makes a component on the drive.
+fn has_target(job: &Option<RunningJob>, drive: u32) -> bool
+    ensures { result ≡ targets job.now drive }
+{
+    match job {
+        Some(job) => match target_of(&job.work) {
+            Some(target) => target.drive == drive,
+            None => false,
+        },
+        None => false,
+    }
 }

@@ -1,8 +1,8 @@
 // A file is made, and a fence raises its tag.
-ghost use Rattle.std.specs.Prelude.{◌<◌, ◌^◌, IfOk, OnOk};
+ghost use Rattle.std.specs.Prelude.{[], ◌≡◌, ◌<◌, ◌^◌, IfOk, OnOk};
 ghost use Rattle.server_rules.specs.declared.limits.TheConstants.{GREATEST_TAG};
 ghost use Rattle.server_rules.specs.Jobs.{fence_begins, fenced, fences, is_made, making};
-ghost use Rattle.file_jobs.specs.Sound.{EndsAfterRepair, IsSound, Leaves, RestsSound};
+ghost use Rattle.file_jobs.specs.Sound.{IsSound, Leaves, RestsSound};
 ghost use Rattle.file_jobs.specs.Steps.{GoesOnAs, IsSettled, Turns};
 
 use crate::ending::end_grants;
@@ -18,7 +18,7 @@ use stripe_repair::{Ask, Which, to_all};
 pub fn is_made(kept: &mut Kept, moved: &mut Moved) -> Result<Turn, Memory>
     ensures turn { IfOk result (λ turn. Turns is_made kept.old moved.old turn kept.new moved.new) }
     ensures settled { IfOk result IsSettled }
-    ensures sound { IfOk result (λ turn. RestsSound turn kept.new) }
+    ensures sound { IfOk result (λ turn. RestsSound turn moved.old kept.new moved.new) }
     ensures keeps { OnOk result (Leaves kept.old kept.new) }
 {
     kept.ready = true;
@@ -33,7 +33,7 @@ pub fn making(alloc: Global, kept: &mut Kept, moved: &mut Moved) -> Result<Turn,
     requires low { moved.old.nonce < 2 ^ 63 }
     ensures turn { IfOk result (λ turn. Turns making kept.old moved.old turn kept.new moved.new) }
     ensures settled { IfOk result IsSettled }
-    ensures sound { IfOk result (λ turn. RestsSound turn kept.new) }
+    ensures sound { IfOk result (λ turn. RestsSound turn moved.old kept.new moved.new) }
     ensures keeps { OnOk result (Leaves kept.old kept.new) }
 {
     let creates = to_all(alloc, kept, Which::Every, Ask::Create, moved.nonce)?;
@@ -51,13 +51,12 @@ pub fn fenced(
     moved: &mut Moved,
     kind: JobKind,
 ) -> Result<Turn, Memory>
-    requires kind { EndsAfterRepair kind }
     requires sound { IsSound kept.old }
     requires low { moved.old.nonce < 2 ^ 63 }
     requires next { kept.old.tag < GREATEST_TAG }
     ensures turn { IfOk result (λ turn. Turns (fenced kind) kept.old moved.old turn kept.new moved.new) }
     ensures kind { IfOk result (GoesOnAs kind) }
-    ensures sound { IfOk result (λ turn. RestsSound turn kept.new) }
+    ensures sound { IfOk result (λ turn. RestsSound turn moved.old kept.new moved.new) }
     ensures keeps { OnOk result (Leaves kept.old kept.new) }
 {
     kept.tag += 1;
@@ -68,13 +67,12 @@ pub fn fenced(
 
 // The present components are sent the next tag.
 fn fences(alloc: Global, kept: &mut Kept, moved: &mut Moved, kind: JobKind) -> Result<Turn, Memory>
-    requires kind { EndsAfterRepair kind }
     requires sound { IsSound kept.old }
     requires low { moved.old.nonce < 2 ^ 63 }
     requires next { kept.old.tag < GREATEST_TAG }
     ensures turn { IfOk result (λ turn. Turns (fences kind) kept.old moved.old turn kept.new moved.new) }
     ensures kind { IfOk result (GoesOnAs kind) }
-    ensures sound { IfOk result (λ turn. RestsSound turn kept.new) }
+    ensures sound { IfOk result (λ turn. RestsSound turn moved.old kept.new moved.new) }
     ensures keeps { OnOk result (Leaves kept.old kept.new) }
 {
     let raises = to_all(alloc, kept, Which::Every, Ask::Raise, moved.nonce)?;
@@ -93,13 +91,13 @@ pub fn fence_begins(
     kind: JobKind,
     format: u8,
 ) -> Result<Turn, Memory>
-    requires kind { EndsAfterRepair kind }
     requires sound { IsSound kept.old }
     requires low { moved.old.nonce < 2 ^ 63 }
     requires next { kept.old.tag < GREATEST_TAG }
     ensures turn { IfOk result (λ turn. Turns (fence_begins kind format) kept.old moved.old turn kept.new moved.new) }
+    ensures alone { OnOk result (kept.new.grants ≡ []) }
     ensures kind { IfOk result (GoesOnAs kind) }
-    ensures sound { IfOk result (λ turn. RestsSound turn kept.new) }
+    ensures sound { IfOk result (λ turn. RestsSound turn moved.old kept.new moved.new) }
     ensures keeps { OnOk result (Leaves kept.old kept.new) }
 {
     end_grants(alloc, kept, format)?;

@@ -1,14 +1,16 @@
 // What comes when nothing is awaited any more, and when a component is lost meanwhile.
-ghost use Rattle.std.specs.Prelude.{◌<◌, ◌^◌, false, IfOk, OnOk};
+ghost use Rattle.std.specs.Prelude.{◌≡◌, ◌<◌, ◌^◌, false, None, length, IfOk, OnOk};
 ghost use Rattle.server_rules.specs.Jobs.{goes_on, loses, waits_or_on};
-ghost use Rattle.file_jobs.specs.Sound.{EndsAfterRepair, Fits, IsSound, IsSoundJob, Leaves, RestsSound};
-ghost use Rattle.file_jobs.specs.Steps.{GoesOnAs, Turns};
-ghost use Rattle.file_jobs.specs.Losing.{loses_in_repair};
+ghost use Rattle.file_jobs.specs.Sound.{Fits, IsSound, IsSoundJob, Leaves, RestsSound};
+ghost use Rattle.file_jobs.specs.Steps.{Turns};
+ghost use Rattle.file_jobs.specs.Losing.{loses_in_repair, target_in};
 ghost use Rattle.file_jobs.specs.Works.{work_of};
 
+use crate::auditing::{audited_on, audits, audits_all};
 use crate::fencing::{fenced, is_made};
 use crate::job::{RunningJob, Turn, Work};
 use crate::mending::{answered, repairs};
+use crate::rebuilding::{self, fills_all};
 use osd_bytes::{Memory, Sequence};
 use server_rules::{AwaitedCommands, Heard, JobKind, Kept, Moved};
 use std::alloc::Global;
@@ -26,18 +28,19 @@ fn goes_on(
 ) -> Result<Turn, Memory>
     requires sound { IsSound kept.old }
     requires low { moved.old.nonce < 2 ^ 63 }
-    requires kind { EndsAfterRepair kind }
-    requires fits { Fits kept.old (work_of work) }
+    requires fits { Fits kept.old (length heard.now) (work_of work) }
     ensures turn { IfOk result (λ turn. Turns (goes_on kind (work_of work) heard.now) kept.old moved.old turn kept.new moved.new) }
-    ensures kind { IfOk result (GoesOnAs kind) }
-    ensures sound { IfOk result (λ turn. RestsSound turn kept.new) }
+    ensures sound { IfOk result (λ turn. RestsSound turn moved.old kept.new moved.new) }
     ensures keeps { OnOk result (Leaves kept.old kept.new) }
 {
     match work {
         Work::Creates => is_made(kept, moved),
         Work::Fences => fenced(alloc, kept, moved, kind),
         Work::Repairs(repair) => answered(alloc, kept, moved, kind, repair, heard),
-        Work::Targets { .. } => Ok(Turn::Over),
+        Work::Targets { target } => fills_all(alloc, kept, moved, target),
+        Work::Rebuilds(rebuild) => rebuilding::answered(alloc, kept, moved, rebuild, heard),
+        Work::Lengths => audits_all(alloc, kept, moved, heard),
+        Work::Checks(audit) => audited_on(alloc, kept, moved, audit, heard),
     }
 }
 
@@ -52,8 +55,7 @@ pub fn waits_or_on(
     requires low { moved.old.nonce < 2 ^ 63 }
     requires job { IsSoundJob kept.old job }
     ensures turn { IfOk result (λ turn. Turns (λ g. waits_or_on g job job.work job.awaited job.heard) kept.old moved.old turn kept.new moved.new) }
-    ensures kind { IfOk result (GoesOnAs job.kind) }
-    ensures sound { IfOk result (λ turn. RestsSound turn kept.new) }
+    ensures sound { IfOk result (λ turn. RestsSound turn moved.old kept.new moved.new) }
     ensures keeps { OnOk result (Leaves kept.old kept.new) }
 {
     if !job.awaited.is_empty() {
@@ -80,10 +82,8 @@ fn loses_in_repair(
 ) -> Result<Turn, Memory>
     requires sound { IsSound kept.old }
     requires low { moved.old.nonce < 2 ^ 63 }
-    requires kind { EndsAfterRepair kind }
     ensures turn { IfOk result (λ turn. Turns (λ g. loses_in_repair g kind repair awaited heard) kept.old moved.old turn kept.new moved.new) }
-    ensures kind { IfOk result (GoesOnAs kind) }
-    ensures sound { IfOk result (λ turn. RestsSound turn kept.new) }
+    ensures sound { IfOk result (λ turn. RestsSound turn moved.old kept.new moved.new) }
     ensures keeps { OnOk result (Leaves kept.old kept.new) }
 {
     let mut repair = repair;
@@ -103,7 +103,7 @@ fn loses_in_repair(
     }
 }
 
-// A component of the file became missing; the job awaits what others are to answer.
+// A component of the file became missing, of a job that isn't a rebuild; it awaits what others are to answer.
 #[tactic(auto, unfolding(server_rules::specs::Jobs::loses))]
 pub fn loses(
     alloc: Global,
@@ -114,9 +114,9 @@ pub fn loses(
     requires sound { IsSound kept.old }
     requires low { moved.old.nonce < 2 ^ 63 }
     requires job { IsSoundJob kept.old job }
+    requires target { target_in job.work ≡ None }
     ensures turn { IfOk result (λ turn. Turns (λ g. loses g job job.work job.awaited false) kept.old moved.old turn kept.new moved.new) }
-    ensures kind { IfOk result (GoesOnAs job.kind) }
-    ensures sound { IfOk result (λ turn. RestsSound turn kept.new) }
+    ensures sound { IfOk result (λ turn. RestsSound turn moved.old kept.new moved.new) }
     ensures keeps { OnOk result (Leaves kept.old kept.new) }
 {
     let RunningJob {
@@ -127,6 +127,7 @@ pub fn loses(
     } = job;
     match work {
         Work::Repairs(repair) => loses_in_repair(alloc, kept, moved, kind, repair, awaited, heard),
+        Work::Checks(audit) => audits(alloc, kept, moved, audit),
         work => waits_or_on(
             alloc,
             kept,

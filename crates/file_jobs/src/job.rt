@@ -1,7 +1,7 @@
 use osd_bytes::Sequence;
 use server_rules::{AwaitedCommands, Heard, JobKind, Kept, Target};
 use std::marker::Model;
-use stripe_repair::Repair;
+use stripe_repair::{Audit, Rebuild, Repair};
 
 /// What a job waits for, and what it still has to do.
 #[derive(Drop)]
@@ -14,6 +14,12 @@ pub enum Work {
     Repairs(Repair),
     /// Rebuild: an object for the component is made.
     Targets { target: Target },
+    /// Rebuild: the pieces of the component are made.
+    Rebuilds(Rebuild),
+    /// Audit: the lengths of the objects are read.
+    Lengths,
+    /// Audit: stripes are read.
+    Checks(Audit),
 }
 
 /// A job of a file. Contracts see the job of the rules.

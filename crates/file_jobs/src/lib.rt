@@ -5,6 +5,7 @@
 //! a step sends and notes goes into [`Moved`](server_rules::Moved).
 #![tactic(auto)]
 
+mod auditing;
 mod awaited;
 mod declaring;
 mod ending;
@@ -16,7 +17,9 @@ mod mending;
 mod moved;
 mod placing;
 mod ranges;
+mod rebuilding;
 mod replies;
+mod settling;
 mod standing;
 mod whole;
 
@@ -28,4 +31,4 @@ pub use moved::{copy_of, note, rests};
 pub use placing::{pick, places};
 pub use ranges::{count_stripes, merged};
 pub use standing::{any_on, lose, lose_on};
-pub use whole::{make, revoke};
+pub use whole::{begin, make, revoke};

@@ -3,7 +3,7 @@ ghost use Rattle.std.specs.Prelude.{◌≡◌, ◌<◌, ◌^◌, IfOk, OnOk};
 ghost use Rattle.server_rules.specs.Jobs.{goes_on};
 ghost use Rattle.server_rules.specs.Repair.{mended, repair_begins, repairs};
 ghost use Rattle.stripe_repair.specs.Repairing.{rests_repairing, work_of};
-ghost use Rattle.file_jobs.specs.Sound.{EndsAfterRepair, IsSound, Leaves, RestsSound};
+ghost use Rattle.file_jobs.specs.Sound.{IsSound, Leaves, RestsSound};
 ghost use Rattle.file_jobs.specs.Steps.{GoesOnAs, Makes, Turns};
 
 use crate::job::{Turn, Work};
@@ -44,12 +44,11 @@ fn rests_repairing(
     repair: Repair,
     sends: AwaitedCommands,
 ) -> Result<Turn, Memory>
-    requires kind { EndsAfterRepair kind }
     requires sound { IsSound kept.old }
     requires low { moved.old.nonce < 2 ^ 63 }
     ensures turn { IfOk result (λ turn. Turns (λ g. rests_repairing sends g kind repair) kept.old moved.old turn kept.new moved.new) }
     ensures kind { IfOk result (GoesOnAs kind) }
-    ensures sound { IfOk result (λ turn. RestsSound turn kept.new) }
+    ensures sound { IfOk result (λ turn. RestsSound turn moved.old kept.new moved.new) }
     ensures keeps { OnOk result (Leaves kept.old kept.new) }
 {
     if sends.is_empty() {
@@ -67,12 +66,11 @@ pub fn repairs(
     kind: JobKind,
     repair: Repair,
 ) -> Result<Turn, Memory>
-    requires kind { EndsAfterRepair kind }
     requires sound { IsSound kept.old }
     requires low { moved.old.nonce < 2 ^ 63 }
     ensures turn { IfOk result (λ turn. Turns (λ g. repairs kind g repair.todo repair.short) kept.old moved.old turn kept.new moved.new) }
     ensures kind { IfOk result (GoesOnAs kind) }
-    ensures sound { IfOk result (λ turn. RestsSound turn kept.new) }
+    ensures sound { IfOk result (λ turn. RestsSound turn moved.old kept.new moved.new) }
     ensures keeps { OnOk result (Leaves kept.old kept.new) }
 {
     let mut repair = repair;
@@ -89,12 +87,11 @@ pub fn answered(
     repair: Repair,
     heard: &[Heard],
 ) -> Result<Turn, Memory>
-    requires kind { EndsAfterRepair kind }
     requires sound { IsSound kept.old }
     requires low { moved.old.nonce < 2 ^ 63 }
     ensures turn { IfOk result (λ turn. Turns (goes_on kind (work_of repair) heard.now) kept.old moved.old turn kept.new moved.new) }
     ensures kind { IfOk result (GoesOnAs kind) }
-    ensures sound { IfOk result (λ turn. RestsSound turn kept.new) }
+    ensures sound { IfOk result (λ turn. RestsSound turn moved.old kept.new moved.new) }
     ensures keeps { OnOk result (Leaves kept.old kept.new) }
 {
     let mut repair = repair;
@@ -110,12 +107,11 @@ pub fn repair_begins(
     moved: &mut Moved,
     kind: JobKind,
 ) -> Result<Turn, Memory>
-    requires kind { EndsAfterRepair kind }
     requires sound { IsSound kept.old }
     requires low { moved.old.nonce < 2 ^ 63 }
     ensures turn { IfOk result (λ turn. Turns (repair_begins kind) kept.old moved.old turn kept.new moved.new) }
     ensures kind { IfOk result (GoesOnAs kind) }
-    ensures sound { IfOk result (λ turn. RestsSound turn kept.new) }
+    ensures sound { IfOk result (λ turn. RestsSound turn moved.old kept.new moved.new) }
     ensures keeps { OnOk result (Leaves kept.old kept.new) }
 {
     let ranges = merged(alloc, kept.ended.as_slice())?;

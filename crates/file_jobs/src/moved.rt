@@ -1,5 +1,5 @@
 ghost use Rattle.std.specs.Prelude.{◌≡◌, ◌≢◌, ◌≤◌, ◌<◌, ◌+◌, ◌^◌, ◌++◌, ◌∷◌, [], length, IfOk, OnOk};
-ghost use Rattle.file_jobs.specs.Sound.{RestsWith};
+ghost use Rattle.file_jobs.specs.Sound.{RestsAs};
 ghost use Rattle.file_jobs.specs.Works.{noted, sends, work_of};
 ghost use Rattle.file_jobs.specs.Steps.{GoesOnAs, IsSettled, RestsOr};
 
@@ -75,7 +75,7 @@ pub fn rests(
     ensures turn { IfOk result (λ turn. RestsOr awaited kind work moved.old turn moved.new) }
     ensures settled { IfOk result IsSettled }
     ensures kind { IfOk result (GoesOnAs kind) }
-    ensures job { IfOk result (RestsWith kind (work_of work)) }
+    ensures job { IfOk result (RestsAs (record { kind = kind; work = work_of work; awaited = awaited; heard = [] })) }
 {
     send_all(alloc, moved, awaited.as_slice())?;
     Ok(Turn::Rests(RunningJob {

@@ -4,7 +4,7 @@ ghost use Rattle.server_rules.specs.declared.server.Drive.{Drive as ADrive};
 ghost use Rattle.stripe_repair.specs.Placing.{AreDifferent, FitsLoad, IsPlacer, drives_of};
 ghost use Rattle.stripe_repair.specs.declared.loads.TheConstants.{MAX_DRIVES};
 ghost use Rattle.server_rules.specs.Rebuild.{rebuilds};
-ghost use Rattle.file_jobs.specs.Sound.{IsSound};
+ghost use Rattle.file_jobs.specs.Sound.{IsSound, RestsSound};
 ghost use Rattle.file_jobs.specs.Steps.{Chooses, IsSettled, MakesOn};
 ghost use Rattle.file_jobs.specs.Placing.{AreLoadsOf, IsPick, free_loads};
 
@@ -78,8 +78,10 @@ fn makes(
 ) -> Result<Turn, Memory>
     requires low { moved.old.nonce < 2 ^ 63 }
     requires objects { moved.old.object < 2 ^ 63 }
+    requires component { component < length kept.now.components }
     ensures turn { IfOk result (λ turn. MakesOn component drive kept.now moved.old turn moved.new) }
     ensures settled { IfOk result IsSettled }
+    ensures sound { IfOk result (λ turn. RestsSound turn moved.old kept.now moved.new) }
 {
     let target = Target {
         component,
@@ -118,6 +120,7 @@ where
     requires objects { moved.old.object < 2 ^ 63 }
     ensures turn { IfOk result (λ turn. Chooses (λ g. rebuilds g (drop from kept.now.components) from) loads.now kept.now moved.old turn kept.now moved.new) }
     ensures settled { IfOk result IsSettled }
+    ensures sound { IfOk result (λ turn. RestsSound turn moved.old kept.now moved.new) }
 {
     let mut k = from;
     while (k as usize) < kept.components.len() {

@@ -4,12 +4,13 @@ ghost use Rattle.server_rules.specs.declared.jobs.Awaited.{Awaited as AnAwaited}
 ghost use Rattle.server_rules.specs.Replies.{fills_up, hearing, hears, is_done, renews, Done as IsDone};
 ghost use Rattle.file_jobs.specs.Hearing.{heard_as};
 ghost use Rattle.file_jobs.specs.Sound.{IsSound, IsSoundJob, Leaves, RestsSound};
-ghost use Rattle.file_jobs.specs.Steps.{GoesOnAs, Hears, TurnsAt};
+ghost use Rattle.file_jobs.specs.Steps.{Hears, TurnsAt};
 
 use crate::awaited::{Gone, again_in_2, renew, without};
 use crate::going_on::{loses, waits_or_on};
 use crate::job::{RunningJob, Turn};
 use crate::moved::{note, send};
+use crate::rebuilding::{ends, target_of};
 use crate::standing::lose;
 use osd_bytes::{Bytes, Memory};
 use osd_capability::FORMAT_SHA256;
@@ -75,8 +76,7 @@ fn renews(
     requires low { moved.old.nonce < 2 ^ 63 }
     requires job { IsSoundJob kept.old job }
     ensures turn { IfOk result (λ turn. TurnsAt (λ g a. renews g job a) job.awaited place kept.old moved.old turn kept.new moved.new) }
-    ensures kind { IfOk result (GoesOnAs job.kind) }
-    ensures sound { IfOk result (λ turn. RestsSound turn kept.new) }
+    ensures sound { IfOk result (λ turn. RestsSound turn moved.old kept.new moved.new) }
     ensures keeps { OnOk result (Leaves kept.old kept.new) }
 {
     let RunningJob {
@@ -98,7 +98,7 @@ fn renews(
     }))
 }
 
-// The drive of a component has no space, so it becomes missing.
+// The drive of a component has no space: a rebuild's target ends, any other component becomes missing.
 fn fills_up(
     alloc: Global,
     kept: &mut Kept,
@@ -111,10 +111,13 @@ fn fills_up(
     requires low { moved.old.nonce < 2 ^ 63 }
     requires job { IsSoundJob kept.old job }
     ensures turn { IfOk result (λ turn. TurnsAt (λ g a. fills_up g job a job.work) job.awaited place kept.old moved.old turn kept.new moved.new) }
-    ensures kind { IfOk result (GoesOnAs job.kind) }
-    ensures sound { IfOk result (λ turn. RestsSound turn kept.new) }
+    ensures sound { IfOk result (λ turn. RestsSound turn moved.old kept.new moved.new) }
     ensures keeps { OnOk result (Leaves kept.old kept.new) }
 {
+    if let Some(target) = target_of(&job.work) {
+        let component = target.component;
+        return ends(kept, moved, target, NoteKind::NoSpace { component });
+    }
     let RunningJob {
         kind,
         work,
@@ -149,8 +152,7 @@ fn answers(
     requires low { moved.old.nonce < 2 ^ 63 }
     requires job { IsSoundJob kept.old job }
     ensures turn { IfOk result (λ turn. TurnsAt (λ g a. hears g job a reply.now IsDone) job.awaited place kept.old moved.old turn kept.new moved.new) }
-    ensures kind { IfOk result (GoesOnAs job.kind) }
-    ensures sound { IfOk result (λ turn. RestsSound turn kept.new) }
+    ensures sound { IfOk result (λ turn. RestsSound turn moved.old kept.new moved.new) }
     ensures keeps { OnOk result (Leaves kept.old kept.new) }
 {
     let RunningJob {
@@ -187,8 +189,7 @@ pub fn hears(
     requires low { moved.old.nonce < 2 ^ 63 }
     requires job { IsSoundJob kept.old job }
     ensures turn { IfOk result (λ turn. Hears job reply.now place kept.old moved.old turn kept.new moved.new) }
-    ensures kind { IfOk result (GoesOnAs job.kind) }
-    ensures sound { IfOk result (λ turn. RestsSound turn kept.new) }
+    ensures sound { IfOk result (λ turn. RestsSound turn moved.old kept.new moved.new) }
     ensures keeps { OnOk result (Leaves kept.old kept.new) }
 {
     match hearing(kept, job.awaited.get(place), reply) {

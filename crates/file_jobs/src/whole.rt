@@ -1,23 +1,28 @@
 // Steps at a whole file.
-ghost use Rattle.std.specs.Prelude.{◌≡◌, ◌<◌, ◌^◌, IfOk, OnOk};
+ghost use Rattle.std.specs.Prelude.{[], ◌≡◌, ◌<◌, ◌≤◌, ◌^◌, length, IfOk, OnOk};
 ghost use Rattle.server_rules.specs.declared.files.Kept.{Kept};
 ghost use Rattle.server_rules.specs.declared.jobs.JobKind.TheVariants.{Revoking};
 ghost use Rattle.server_rules.specs.declared.limits.TheConstants.{GREATEST_TAG};
+ghost use Rattle.server_rules.specs.declared.server.Moved.{Moved as AMoved};
 ghost use Rattle.server_rules.specs.Jobs.{fence_begins, making};
-ghost use Rattle.file_jobs.specs.Sound.{Ends, HasSoundJob, IsSound, IsSoundFile, Leaves, RestsSound};
-ghost use Rattle.file_jobs.specs.Steps.{GoesOnAs, IsSettled, Steps, SetsJob};
+ghost use Rattle.stripe_repair.specs.Placing.{AreDifferent, IsPlacer, drives_of};
+ghost use Rattle.stripe_repair.specs.declared.loads.TheConstants.{MAX_DRIVES};
+ghost use Rattle.file_jobs.specs.Sound.{HasSoundJob, IsSound, IsSoundFile, Leaves, RestsSound};
+ghost use Rattle.file_jobs.specs.Steps.{GoesOnAs, IsSettled, SetsJob, Steps, StepsOn};
 
 use crate::fencing::{fence_begins, making};
 use crate::job::{FileState, RunningJob, Turn};
-use osd_bytes::Memory;
+use crate::settling::settle;
+use osd_bytes::{Memory, Numbers};
 use server_rules::{JobKind, Moved};
 use std::alloc::Global;
+use stripe_repair::{DriveLoad, Placer};
 
 // The job that rests, `None` where it is over.
-fn job_of(turn: Turn) -> Option<RunningJob>
+pub fn job_of(turn: Turn) -> Option<RunningJob>
     requires { IsSettled turn }
     ensures value { SetsJob turn result }
-    ensures sound { (k : Kept) → RestsSound turn k → HasSoundJob k result }
+    ensures sound { (k : Kept) (was is : AMoved) → RestsSound turn was k is → HasSoundJob k result }
 {
     match turn {
         Turn::Rests(job) => Some(job),
@@ -29,19 +34,7 @@ fn job_of(turn: Turn) -> Option<RunningJob>
 fn job_after(turn: Turn) -> Option<RunningJob>
     requires { GoesOnAs Revoking turn }
     ensures value { SetsJob turn result }
-    ensures sound { (k : Kept) → RestsSound turn k → HasSoundJob k result }
-{
-    match turn {
-        Turn::Rests(job) => Some(job),
-        Turn::Over | Turn::Mended { .. } | Turn::Places { .. } => None,
-    }
-}
-
-// The job that rests, `None` where it is over, of any that ends with its repair.
-pub fn job_ended(turn: Turn) -> Option<RunningJob>
-    requires { Ends turn }
-    ensures value { SetsJob turn result }
-    ensures sound { (k : Kept) → RestsSound turn k → HasSoundJob k result }
+    ensures sound { (k : Kept) (was is : AMoved) → RestsSound turn was k is → HasSoundJob k result }
 {
     match turn {
         Turn::Rests(job) => Some(job),
@@ -56,6 +49,7 @@ pub fn job_ended(turn: Turn) -> Option<RunningJob>
 /// Want of memory alone.
 pub fn make(alloc: Global, file: &mut FileState, moved: &mut Moved) -> Result<(), Memory>
     requires sound { IsSound file.old.kept }
+    requires alone { file.old.kept.grants ≡ [] }
     requires low { moved.old.nonce < 2 ^ 63 }
     ensures steps { OnOk result (Steps making file.old moved.old file.new moved.new) }
     ensures keeps { OnOk result (Leaves file.old.kept file.new.kept) }
@@ -87,5 +81,38 @@ pub fn revoke(
 {
     let turn = fence_begins(alloc, &mut file.kept, moved, JobKind::Revoking, format)?;
     file.job = job_after(turn);
+    Ok(())
+}
+
+/// A fence begins for a job of any kind, with the repair behind it and what the job is for. The server's format
+/// is taken where it is above the file's.
+///
+/// # Errors
+///
+/// Want of memory alone.
+pub fn begin<F>(
+    alloc: Global,
+    file: &mut FileState,
+    moved: &mut Moved,
+    kind: JobKind,
+    format: u8,
+    loads: &[DriveLoad],
+    placer: &Placer<F>,
+) -> Result<(), Memory>
+where
+    F: Fn(u32, &[DriveLoad]) -> Result<Numbers, Memory>,
+    requires few { length loads.now ≤ MAX_DRIVES }
+    requires different { AreDifferent (drives_of loads.now) }
+    requires placer { IsPlacer F.Fn placer.now }
+    requires sound { IsSound file.old.kept }
+    requires low { moved.old.nonce < 2 ^ 63 }
+    requires objects { moved.old.object < 2 ^ 63 }
+    requires next { file.old.kept.tag < GREATEST_TAG }
+    ensures steps { OnOk result (StepsOn (fence_begins kind format) loads.now file.old moved.old file.new moved.new) }
+    ensures keeps { OnOk result (Leaves file.old.kept file.new.kept) }
+    ensures sound { OnOk result (IsSoundFile file.new) }
+{
+    let turn = fence_begins(alloc, &mut file.kept, moved, kind, format)?;
+    file.job = settle(alloc, &file.kept, moved, turn, loads, placer)?;
     Ok(())
 }

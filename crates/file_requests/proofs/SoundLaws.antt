@@ -1,6 +1,6 @@
 -- A file stays sound where a request changes it.
-use Rattle.std.specs.Prelude.{ℕ, List, [], ◌∷◌, ◌++◌, Option, Some, None, ◌≡◌, ◌≤◌, ◌==◌, ◌+◌, not, length, suc, refl}
-use Rattle.std.proofs.Common.{arith, inl, inr, ap, sym}
+use Rattle.std.specs.Prelude.{ℕ, Bool, true, false, List, [], ◌∷◌, ◌++◌, Option, Some, None, ◌≡◌, ◌≤◌, ◌==◌, ◌||◌, ◌+◌, not, nat_lt, length, suc, refl, if◌then◌else◌}
+use Rattle.std.proofs.Common.{arith, inl, inr, ap}
 use Rattle.std.proofs.lemmas.Bool.{cases_Bool}
 use Rattle.data_map.specs.declared.ranges.TheConstants.{MAX_FILE_SIZE}
 use Rattle.server_rules.specs.declared.grants.Grant.{Grant}
@@ -8,14 +8,18 @@ use Rattle.server_rules.specs.declared.files.Component.{Component}
 use Rattle.server_rules.specs.declared.files.Kept.{Kept}
 use Rattle.server_rules.specs.declared.jobs.Job.{Job}
 use Rattle.server_rules.specs.Grants.{without}
-use Rattle.server_rules.specs.Get.{high_after}
+use Rattle.layout_types.specs.declared.ioerrs.IoErr.{IoErr}
+use Rattle.server_rules.specs.Return.{Taken, return_row}
+use Rattle.layout_ops.specs.declared.statuses.TheConstants.{LAYOUTIOMODE4_READ, LAYOUTIOMODE4_RW}
+use Rattle.server_rules.specs.Get.{Early, BadMode, Invalid, Unable, On, high_after}
+use Rattle.server_requests.specs.Rows.{by_waits, early_of}
 use Rattle.server_rules.specs.Standing.{lose_from}
 use Rattle.file_jobs.specs.declared.job.FileState.{FileState}
-use Rattle.server_rules.specs.declared.jobs.Work.{Work}
-use Rattle.server_rules.specs.declared.jobs.Work.TheVariants.{Creates, Fences, Fetches, Stores}
 use Rattle.file_jobs.specs.Ranges.{EndInside}
-use Rattle.file_jobs.specs.Sound.{Fits, HasSoundJob, IsSoundFile}
-use Rattle.file_requests.specs.Serving.{LeavesFile}
+use Rattle.file_jobs.specs.Sound.{HasSoundJob, IsAlone, IsSoundFile}
+use Rattle.file_jobs.proofs.FitsLaws.{fits_same}
+use Rattle.file_jobs.proofs.Mends.{alone_idle, job_idle}
+use Rattle.file_requests.specs.Serving.{LeavesFile, waited}
 
 -- ---- lists
 
@@ -37,17 +41,20 @@ length-lost ks (c ∷ cs) k = ap (λ n. suc n) (length-lost ks cs (k + 1))
 
 -- ---- jobs
 
-fits_work : (k l : Kept) (w : Work) → k.tag ≡ l.tag → Fits k w → Fits l w
-fits_work k l Creates e f = f
-fits_work k l Fences e f = omega (arith, e, f)
-fits_work k l (Fetches todo short) e f = f
-fits_work k l (Stores todo short broken) e f = f
-fits_work k l w e f = f
+-- a job stays sound where all that it looks at stays
+job_same : (k l : Kept) (j : Option Job) → l.tag ≡ k.tag → l.map ≡ k.map → l.components ≡ k.components → HasSoundJob k j → HasSoundJob l j
+job_same k l None t m c f = tt
+job_same k l (Some j) t m c f = fits_same k l (length j.awaited + length j.heard) (length j.awaited + length j.heard) j.work t m c (omega arith) f
 
--- a job stays sound where the tag stays
-fits : (k l : Kept) (j : Option Job) → k.tag ≡ l.tag → HasSoundJob k j → HasSoundJob l j
-fits k l None e f = tt
-fits k l (Some j) e f = record { kind = f.kind; work = fits_work k l j.work e f.work }
+-- where a grant ends and a job runs there is none still
+alone_without : (k : Kept) (client : ℕ) (j : Option Job) → IsAlone k j → IsAlone (record k { grants = without k.grants client }) j
+alone_without k client None a = tt
+alone_without k client (Some j) a = rw a refl
+
+-- nothing is waited for exactly where none runs
+pub not_waiting : (j : Option Job) → waited j ≡ None → j ≡ None
+not_waiting None e = refl
+not_waiting (Some j) e = absurd (cc e)
 
 -- ---- files
 
@@ -55,30 +62,34 @@ high_low : (high : ℕ) (g : Grant) → high ≤ MAX_FILE_SIZE → g.end ≤ MAX
 high_low high g l e = elim (cases_Bool g.rw) [ inl t ↦ rw t (omega (arith, l, e)) | inr z ↦ rw z l ]
 
 -- a grant is given
-pub sound_given : (f : FileState) (g : Grant) (k : Kept) → g.first ≤ g.end → g.end ≤ MAX_FILE_SIZE → IsSoundFile f →
+pub sound_given : (f : FileState) (g : Grant) (k : Kept) → g.first ≤ g.end → g.end ≤ MAX_FILE_SIZE → f.job ≡ None → IsSoundFile f →
     k ≡ record f.kept { grants = f.kept.grants ++ (g ∷ []); high = high_after f.kept.high g } → IsSoundFile (record f { kept = k })
-sound_given f g k r l s e = record {
+sound_given f g k r l i s e = record {
   kept = rw e (record {
     few = s.kept.few;
+    whole = s.kept.whole;
     high = high_low f.kept.high g s.kept.high l;
     live = ends_more f.kept.grants g r l s.kept.live;
     ended = s.kept.ended;
   });
-  job = fits f.kept k f.job (ap (λ (y : Kept). y.tag) (sym e)) s.job;
+  alone = alone_idle k f.job i;
+  job = job_idle k f.job i;
 }
 
 -- a client's grant goes
 pub sound_without : (f : FileState) (client : ℕ) → IsSoundFile f → IsSoundFile (record f { kept = record f.kept { grants = without f.kept.grants client } })
 sound_without f client s = record {
-  kept = record { few = s.kept.few; high = s.kept.high; live = ends_without f.kept.grants client s.kept.live; ended = s.kept.ended };
-  job = fits f.kept (record f.kept { grants = without f.kept.grants client }) f.job refl s.job;
+  kept = record { few = s.kept.few; whole = s.kept.whole; high = s.kept.high; live = ends_without f.kept.grants client s.kept.live; ended = s.kept.ended };
+  alone = alone_without f.kept client f.job s.alone;
+  job = job_same f.kept (record f.kept { grants = without f.kept.grants client }) f.job refl refl refl s.job;
 }
 
 -- components become missing
-pub sound_lost : (f : FileState) (ks : List ℕ) → IsSoundFile f → IsSoundFile (record f { kept = record f.kept { components = lose_from ks f.kept.components 0 } })
-sound_lost f ks s = record {
-  kept = record { few = rw (length-lost ks f.kept.components 0) s.kept.few; high = s.kept.high; live = s.kept.live; ended = s.kept.ended };
-  job = fits f.kept (record f.kept { components = lose_from ks f.kept.components 0 }) f.job refl s.job;
+pub sound_lost : (f : FileState) (ks : List ℕ) → f.job ≡ None → IsSoundFile f → IsSoundFile (record f { kept = record f.kept { components = lose_from ks f.kept.components 0 } })
+sound_lost f ks i s = record {
+  kept = record { few = rw (length-lost ks f.kept.components 0) s.kept.few; whole = rw (length-lost ks f.kept.components 0) s.kept.whole; high = s.kept.high; live = s.kept.live; ended = s.kept.ended };
+  alone = alone_idle (record f.kept { components = lose_from ks f.kept.components 0 }) f.job i;
+  job = job_idle (record f.kept { components = lose_from ks f.kept.components 0 }) f.job i;
 }
 
 -- ---- a step
@@ -93,6 +104,35 @@ pub still_leaves : (f : FileState) → IsSoundFile f → LeavesFile f f
 still_leaves f s = record { number = refl; sound = s }
 
 -- components become missing by a report
-pub loss_leaves : (f new : FileState) (ks : List ℕ) → IsSoundFile f →
+pub loss_leaves : (f new : FileState) (ks : List ℕ) → f.job ≡ None → IsSoundFile f →
     new ≡ record f { kept = record f.kept { components = lose_from ks f.kept.components 0 } } → LeavesFile f new
-loss_leaves f new ks s e = rw e (record { number = refl; sound = sound_lost f ks s })
+loss_leaves f new ks i s e = rw e (record { number = refl; sound = sound_lost f ks i s })
+
+-- ---- a report that is taken
+
+none_has : (f : Kept) (client : ℕ) (report : List IoErr) (ks : List ℕ) → f.grants ≡ [] → return_row f client report ≡ Taken ks → ⊥
+unfolding return_row
+none_has f client report ks e t = absurd (cc (rw e at t))
+
+-- a loss is taken only where the client has a grant, and so where no job runs
+pub taken_idle : (f : Kept) (j : Option Job) (client : ℕ) (report : List IoErr) (ks : List ℕ) → IsAlone f j → return_row f client report ≡ Taken ks → j ≡ None
+taken_idle f None client report ks a t = refl
+taken_idle f (Some j) client report ks a t = absurd (none_has f client report ks a t)
+
+-- ---- a LAYOUTGET of which grants decide
+
+behind_all : (a b c : Bool) (row : Early) → On ≡ (if a then BadMode else if b then Invalid else if c then Unable else row) → On ≡ row
+behind_all true b c row e = absurd (cc e)
+behind_all false true c row e = absurd (cc e)
+behind_all false false true row e = absurd (cc e)
+behind_all false false false row e = e
+
+on_waits : (j : Option Job) → On ≡ by_waits (waited j) → j ≡ None
+on_waits None e = refl
+on_waits (Some j) e = absurd (cc e)
+
+-- the rows of grants come only where no job runs
+pub on_idle : (spent : Bool) (j : Option Job) (iomode offset count : ℕ) → On ≡ early_of spent (waited j) iomode offset count → j ≡ None
+unfolding early_of
+on_idle spent j iomode offset count e =
+    on_waits j (behind_all (not ((iomode == LAYOUTIOMODE4_READ) || (iomode == LAYOUTIOMODE4_RW))) ((count == 0) || nat_lt MAX_FILE_SIZE (offset + count)) spent (by_waits (waited j)) e)

@@ -1,4 +1,4 @@
-ghost use Rattle.std.specs.Prelude.{◌≡◌, ◌≤◌, ◌<◌, ◌^◌, ◌++◌, ◌∷◌, [], length, IfOk, OnOk};
+ghost use Rattle.std.specs.Prelude.{◌≡◌, ◌≤◌, ◌<◌, ◌^◌, ◌++◌, ◌∷◌, [], None, length, IfOk, OnOk};
 ghost use Rattle.server_rules.specs.declared.server.Moved.{Moved as AMoved};
 ghost use Rattle.server_rules.specs.Get.{on_grants, fence_first, fence_then, give_or_refuse, high_after};
 ghost use Rattle.server_requests.specs.Bounds.{IsLow};
@@ -38,6 +38,7 @@ fn give_or_refuse(
 ) -> Result<Outcome, Memory>
     requires low { IsLow grant }
     requires sound { IsSoundFile file.old }
+    requires idle { file.old.job ≡ None }
     ensures rule { IfOk result (λ o. (m : AMoved) → Serves (λ go. give_or_refuse go next_grant grant) file.old m o file.new m) }
     ensures told { IfOk result (λ o. IsLayoutTold o.told) }
     ensures numbers { IfOk result (λ o. Counts next_grant o) }
@@ -119,6 +120,7 @@ fn on_grants(
 ) -> Result<Outcome, Memory>
     requires low { IsLow grant }
     requires sound { IsSoundFile file.old }
+    requires idle { file.old.job ≡ None }
     requires nonce { moved.old.nonce < 2 ^ 63 }
     ensures rule { IfOk result (λ o. Serves (λ go. on_grants go asking.now.next_grant asking.now.format asking.now.time grant) file.old moved.old o file.new moved.new) }
     ensures told { IfOk result (λ o. IsLayoutTold o.told) }

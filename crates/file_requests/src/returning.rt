@@ -1,7 +1,7 @@
-ghost use Rattle.std.specs.Prelude.{◌≡◌, ◌≤◌, ◌<◌, ◌^◌, None, if◌then◌else◌, length, IfOk, OnOk};
+ghost use Rattle.std.specs.Prelude.{ℕ, List, ◌≡◌, ◌≤◌, ◌<◌, ◌^◌, None, if◌then◌else◌, length, IfOk, OnOk};
 ghost use Rattle.server_rules.specs.Grants.{without};
 ghost use Rattle.server_rules.specs.declared.limits.TheConstants.{GREATEST_TAG};
-ghost use Rattle.server_rules.specs.Return.{Fencing, takes_loss, by_return, returns_on};
+ghost use Rattle.server_rules.specs.Return.{Fencing, Taken, takes_loss, by_return, returns_on};
 ghost use Rattle.server_requests.specs.Rows.{returned_rule};
 ghost use Rattle.file_jobs.specs.Sound.{IsSoundFile};
 ghost use Rattle.file_jobs.specs.Steps.{Steps};
@@ -63,7 +63,8 @@ fn take_loss(
     moved: &mut Moved,
     numbers: &Numbers,
 ) -> Result<(), Memory>
-    requires { IsSoundFile file.old }
+    requires sound { IsSoundFile file.old }
+    requires idle { file.old.job ≡ None }
     ensures rule { OnOk result (Steps (λ go. takes_loss go numbers.now) file.old moved.old file.new moved.new) }
     ensures leaves { OnOk result (LeavesFile file.old file.new) }
 {
@@ -85,6 +86,7 @@ fn by_row(
     row: &Returned,
 ) -> Result<Outcome, Memory>
     requires sound { IsSoundFile file.old }
+    requires idle { (ks : List ℕ) → returned_rule row.now ≡ Taken ks → file.old.job ≡ None }
     requires next { returned_rule row.now ≡ Fencing → file.old.kept.tag < GREATEST_TAG }
     requires low { moved.old.nonce < 2 ^ 63 }
     ensures rule { IfOk result (λ o. Serves (λ go. by_return go asking.now.format asking.now.client (returned_rule row.now)) file.old moved.old o file.new moved.new) }

@@ -3,4 +3,4 @@ use Rattle.file_jobs.proofs.Mends.{sound_from}
 use Rattle.file_jobs.proofs.fencing.making.Goals as goal
 
 pub returns-clause-sound : goal.returns-clause-sound
-returns-clause-sound c = IfOk-weaker c.rests.result _ _ (λ turn h. sound_from turn _ _ _ tt tt h) c.rests.ensures.job
+returns-clause-sound c = IfOk-weaker c.rests.result _ _ (λ turn h. sound_from turn _ _ _ _ tt h) c.rests.ensures.job

@@ -1,5 +1,6 @@
 use Rattle.std.proofs.Common.{sym, ◌∙◌}
 use Rattle.file_jobs.specs.Steps.{Around}
+use Rattle.file_jobs.proofs.Mends.{alone_with}
 use Rattle.file_jobs.proofs.whole.revoke.Goals as goal
 
 pub returns-clause-steps : goal.returns-clause-steps
@@ -10,5 +11,6 @@ returns-clause-steps c = λ ds chosen.
 pub returns-clause-sound : goal.returns-clause-sound
 returns-clause-sound c = record {
   kept = c.in_ok-turn.ensures.keeps.sound c.requires.sound;
-  job = c.job_after.ensures.sound c.fence_begins.new.kept c.in_ok-turn.ensures.sound;
+  alone = alone_with c.fence_begins.new.kept c.job_after.result c.in_ok-turn.ensures.alone;
+  job = c.job_after.ensures.sound c.fence_begins.new.kept c.args.moved.now c.fence_begins.new.moved c.in_ok-turn.ensures.sound;
 }

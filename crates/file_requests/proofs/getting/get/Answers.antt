@@ -1,6 +1,7 @@
 use Rattle.server_rules.specs.Get.{BadMode, Invalid, Unable, Waits, On, on_grants}
 use Rattle.file_requests.specs.Serving.{gets_for}
 use Rattle.file_requests.proofs.ServingLaws.{serves_as, gets_by}
+use Rattle.file_requests.proofs.SoundLaws.{on_idle}
 use Rattle.file_requests.proofs.getting.get.Goals as goal
 
 pub returns-in-BadMode-clause-rule : goal.returns-in-BadMode-clause-rule
@@ -29,3 +30,6 @@ returns-in-On-clause-rule c =
     let row = rw c.waits.ensures at c.in-On.ensures.row in
     serves_as (λ go. on_grants go q.next_grant q.format q.time c.asked-grant.result) (gets_for q c.args.wanted.now) _ c.args.file.now _ c.args.moved.now _
     (λ ds chosen. rw c.asked-grant.ensures.value (gets_by c.args.file.now c.args.moved.now q c.args.wanted.now On row ds chosen)) c.on_grants.ensures.rule
+
+pub on_grants-requires-clause-idle : goal.on_grants-requires-clause-idle
+on_grants-requires-clause-idle c = on_idle c.args.file.now.spent c.args.file.now.job c.args.wanted.now.iomode c.args.wanted.now.offset c.args.wanted.now.length (rw c.waits.ensures at c.in-On.ensures.row)

@@ -15,4 +15,4 @@ pub returns-clause-leaves : goal.returns-clause-leaves
 returns-clause-leaves c =
     let f = c.args.file.now in
     let v = rw (c.as_slice-2.ensures, c.as_slice-3.ensures) at c.in_ok-file.ensures.value in
-    loss_leaves f _ c.args.numbers.now c.requires (ap (λ (cs : List Component). record f { kept = record f.kept { components = cs } }) v)
+    loss_leaves f _ c.args.numbers.now c.requires.idle c.requires.sound (ap (λ (cs : List Component). record f { kept = record f.kept { components = cs } }) v)
