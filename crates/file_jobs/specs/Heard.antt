@@ -13,7 +13,8 @@ use Rattle.file_jobs.specs.Steps.{at}
 -- it answers the command at that place
 abbrev pub FoundIn : (drive : ℕ) → Reply → (place : ℕ) → Option Job → Type 0
 FoundIn drive r place None = ⊥
-FoundIn drive r place (Some j) = (place < length j.awaited) × (find (answers drive r) j.awaited ≡ slice_get j.awaited place)
+FoundIn drive r place (Some j) = (place < length j.awaited) ×
+    (find (answers drive r) j.awaited ≡ slice_get j.awaited place)
 
 -- it answers none of its commands
 abbrev pub FoundNowhere : (drive : ℕ) → Reply → Option Job → Type 0
@@ -23,6 +24,7 @@ FoundNowhere drive r (Some j) = find (answers drive r) j.awaited ≡ None
 -- the file's job heard it for some answers of the placer, or doesn't await it and nothing changes
 abbrev pub HearsReply : Bool → List DriveLoad → (drive : ℕ) → Reply → FileState → Moved → FileState → Moved → Type 0
 HearsReply true loads drive r old was new is =
-    (ds : List Drive) → AreLoadsOf loads ds → (chosen : List ℕ) × ((rest : List ℕ) → on_reply (at old was ds (chosen ++ rest)) drive r ≡ Some (at new is ds rest))
+    (ds : List Drive) → AreLoadsOf loads ds → (chosen : List ℕ) × ((rest : List ℕ) →
+    on_reply (at old was ds (chosen ++ rest)) drive r ≡ Some (at new is ds rest))
 HearsReply false loads drive r old was new is =
     ((ds : List Drive) (chosen : List ℕ) → on_reply (at old was ds chosen) drive r ≡ None) × (new ≡ old) × (is ≡ was)

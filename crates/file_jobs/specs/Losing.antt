@@ -24,7 +24,8 @@ target_in work = None
 
 -- what the job awaits are the others' answers
 abbrev pub loses_in_repair : Going → JobKind → RepairState → List Awaited → List Heard → Going
-loses_in_repair g kind r rest heard = loses g (record { kind = kind; work = work_of r; awaited = rest; heard = heard }) (work_of r) rest false
+loses_in_repair g kind r rest heard = loses g (record { kind = kind; work = work_of r; awaited = rest; heard = heard })
+    (work_of r) rest false
 
 -- where this job runs, what came of it is what this function makes
 abbrev pub TurnsIn : Job → (Going → Going) → Kept → Moved → Turn → Kept → Moved → Type 0

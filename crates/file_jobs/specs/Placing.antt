@@ -7,7 +7,8 @@ use Rattle.stripe_repair.specs.declared.loads.DriveLoad.{DriveLoad}
 
 -- the loads of these drives, in their order
 abbrev pub AreLoadsOf : List DriveLoad → List Drive → Type 0
-AreLoadsOf loads ds = map {B = ℕ × Bool} (λ l. (l.drive, l.online)) loads ≡ map {B = ℕ × Bool} (λ d. (d.number, d.online)) ds
+AreLoadsOf loads ds =
+    map {B = ℕ × Bool} (λ l. (l.drive, l.online)) loads ≡ map {B = ℕ × Bool} (λ d. (d.number, d.online)) ds
 
 -- online where it is free for the file
 abbrev pub free_load : List Component → DriveLoad → DriveLoad

@@ -17,7 +17,8 @@ use stripe_repair::{Ask, Audit, Which, to_all};
 // The audit is over.
 fn audited(kept: &Kept, moved: &mut Moved, audit: &Audit) -> Result<Turn, Memory>
     requires sound { IsSound kept.now }
-    ensures turn { IfOk result (λ turn. Turns (λ g. audited g audit.now.tally) kept.now moved.old turn kept.now moved.new) }
+    ensures turn { IfOk result (λ turn. Turns (λ g. audited g audit.now.tally)
+        kept.now moved.old turn kept.now moved.new) }
     ensures settled { IfOk result IsSettled }
     ensures sound { IfOk result (λ turn. RestsSound turn moved.old kept.now moved.new) }
 {
@@ -41,7 +42,8 @@ fn rests_auditing(
 ) -> Result<Turn, Memory>
     requires sound { IsSound kept.now }
     requires low { moved.old.nonce < 2 ^ 63 }
-    ensures turn { IfOk result (λ turn. Turns (λ g. rests_auditing reads g audit) kept.now moved.old turn kept.now moved.new) }
+    ensures turn { IfOk result (λ turn. Turns (λ g. rests_auditing reads g audit)
+        kept.now moved.old turn kept.now moved.new) }
     ensures settled { IfOk result IsSettled }
     ensures sound { IfOk result (λ turn. RestsSound turn moved.old kept.now moved.new) }
 {
@@ -55,7 +57,8 @@ fn rests_auditing(
 pub fn audits(alloc: Global, kept: &Kept, moved: &mut Moved, audit: Audit) -> Result<Turn, Memory>
     requires sound { IsSound kept.now }
     requires low { moved.old.nonce < 2 ^ 63 }
-    ensures turn { IfOk result (λ turn. Turns (λ g. audits g audit.todo audit.tally) kept.now moved.old turn kept.now moved.new) }
+    ensures turn { IfOk result (λ turn. Turns (λ g. audits g audit.todo audit.tally)
+        kept.now moved.old turn kept.now moved.new) }
     ensures settled { IfOk result IsSettled }
     ensures sound { IfOk result (λ turn. RestsSound turn moved.old kept.now moved.new) }
 {
@@ -74,7 +77,8 @@ pub fn audited_on(
 ) -> Result<Turn, Memory>
     requires sound { IsSound kept.now }
     requires low { moved.old.nonce < 2 ^ 63 }
-    ensures turn { IfOk result (λ turn. Turns (λ g. audited_on g audit.todo audit.tally heard.now) kept.now moved.old turn kept.now moved.new) }
+    ensures turn { IfOk result (λ turn. Turns (λ g. audited_on g audit.todo audit.tally heard.now)
+        kept.now moved.old turn kept.now moved.new) }
     ensures settled { IfOk result IsSettled }
     ensures sound { IfOk result (λ turn. RestsSound turn moved.old kept.now moved.new) }
 {
@@ -93,7 +97,8 @@ pub fn audits_all(
     requires sound { IsSound kept.now }
     requires low { moved.old.nonce < 2 ^ 63 }
     requires few { length heard.now ≤ MAX_FILE_COMPONENTS }
-    ensures turn { IfOk result (λ turn. Turns (λ g. audits_all g heard.now) kept.now moved.old turn kept.now moved.new) }
+    ensures turn { IfOk result (λ turn. Turns (λ g. audits_all g heard.now)
+        kept.now moved.old turn kept.now moved.new) }
     ensures settled { IfOk result IsSettled }
     ensures sound { IfOk result (λ turn. RestsSound turn moved.old kept.now moved.new) }
 {

@@ -14,7 +14,8 @@ use std::alloc::Global;
 
 // The place of the command that a reply of this drive answers, `None` where there is none.
 pub fn answered_by(awaited: &[Awaited], drive: u32, reply: &Reply) -> Option<usize>
-    ensures found { IfSome result (λ i. (i < length awaited.now) × (find (answers drive reply.now) awaited.now ≡ slice_get awaited.now i)) }
+    ensures found { IfSome result (λ i. (i < length awaited.now)
+        × (find (answers drive reply.now) awaited.now ≡ slice_get awaited.now i)) }
     ensures none { IfNone result (find (answers drive reply.now) awaited.now ≡ None) }
 {
     for i in 0..awaited.len() {

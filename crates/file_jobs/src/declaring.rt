@@ -29,7 +29,8 @@ fn declared(
     requires sound { IsSound kept.old }
     requires low { moved.old.nonce < 2 ^ 63 }
     requires job { FitsAfterLoss kept.old (length job.awaited + length job.heard) job.work }
-    ensures turn { IfOk result (λ turn. TurnsIn job (λ g. loses g job job.work (others_than drive job.awaited) (is_target job.work drive)) kept.old moved.old turn kept.new moved.new) }
+    ensures turn { IfOk result (λ turn. TurnsIn job (λ g. loses g job job.work (others_than drive job.awaited)
+        (is_target job.work drive)) kept.old moved.old turn kept.new moved.new) }
     ensures sound { IfOk result (λ turn. RestsSound turn moved.old kept.new moved.new) }
     ensures keeps { OnOk result (Leaves kept.old kept.new) }
 {
@@ -65,7 +66,8 @@ fn redirects(
     requires sound { IsSound kept.old }
     requires low { moved.old.nonce < 2 ^ 63 }
     requires job { FitsAfterLoss kept.old (length job.awaited + length job.heard) job.work }
-    ensures turn { IfOk result (λ turn. TurnsIn job (λ g. loses g job job.work (others_than drive job.awaited) (is_target job.work drive)) kept.old moved.old turn kept.new moved.new) }
+    ensures turn { IfOk result (λ turn. TurnsIn job (λ g. loses g job job.work (others_than drive job.awaited)
+        (is_target job.work drive)) kept.old moved.old turn kept.new moved.new) }
     ensures sound { IfOk result (λ turn. RestsSound turn moved.old kept.new moved.new) }
     ensures keeps { OnOk result (Leaves kept.old kept.new) }
 {

@@ -29,7 +29,8 @@ fn goes_on(
     requires sound { IsSound kept.old }
     requires low { moved.old.nonce < 2 ^ 63 }
     requires fits { Fits kept.old (length heard.now) (work_of work) }
-    ensures turn { IfOk result (λ turn. Turns (goes_on kind (work_of work) heard.now) kept.old moved.old turn kept.new moved.new) }
+    ensures turn { IfOk result (λ turn. Turns (goes_on kind (work_of work) heard.now)
+        kept.old moved.old turn kept.new moved.new) }
     ensures sound { IfOk result (λ turn. RestsSound turn moved.old kept.new moved.new) }
     ensures keeps { OnOk result (Leaves kept.old kept.new) }
 {
@@ -54,7 +55,8 @@ pub fn waits_or_on(
     requires sound { IsSound kept.old }
     requires low { moved.old.nonce < 2 ^ 63 }
     requires job { IsSoundJob kept.old job }
-    ensures turn { IfOk result (λ turn. Turns (λ g. waits_or_on g job job.work job.awaited job.heard) kept.old moved.old turn kept.new moved.new) }
+    ensures turn { IfOk result (λ turn. Turns (λ g. waits_or_on g job job.work job.awaited job.heard)
+        kept.old moved.old turn kept.new moved.new) }
     ensures sound { IfOk result (λ turn. RestsSound turn moved.old kept.new moved.new) }
     ensures keeps { OnOk result (Leaves kept.old kept.new) }
 {
@@ -82,7 +84,8 @@ fn loses_in_repair(
 ) -> Result<Turn, Memory>
     requires sound { IsSound kept.old }
     requires low { moved.old.nonce < 2 ^ 63 }
-    ensures turn { IfOk result (λ turn. Turns (λ g. loses_in_repair g kind repair awaited heard) kept.old moved.old turn kept.new moved.new) }
+    ensures turn { IfOk result (λ turn. Turns (λ g. loses_in_repair g kind repair awaited heard)
+        kept.old moved.old turn kept.new moved.new) }
     ensures sound { IfOk result (λ turn. RestsSound turn moved.old kept.new moved.new) }
     ensures keeps { OnOk result (Leaves kept.old kept.new) }
 {
@@ -115,7 +118,8 @@ pub fn loses(
     requires low { moved.old.nonce < 2 ^ 63 }
     requires job { IsSoundJob kept.old job }
     requires target { target_in job.work ≡ None }
-    ensures turn { IfOk result (λ turn. Turns (λ g. loses g job job.work job.awaited false) kept.old moved.old turn kept.new moved.new) }
+    ensures turn { IfOk result (λ turn. Turns (λ g. loses g job job.work job.awaited false)
+        kept.old moved.old turn kept.new moved.new) }
     ensures sound { IfOk result (λ turn. RestsSound turn moved.old kept.new moved.new) }
     ensures keeps { OnOk result (Leaves kept.old kept.new) }
 {

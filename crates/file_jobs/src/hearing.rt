@@ -49,7 +49,8 @@ where
     requires sound { IsSoundFile file.old }
     requires low { moved.old.nonce < 2 ^ 63 }
     requires objects { moved.old.object < 2 ^ 63 }
-    ensures heard { IfOk result (λ heard. HearsReply heard loads.now drive reply.now file.old moved.old file.new moved.new) }
+    ensures heard { IfOk result (λ heard. HearsReply heard loads.now drive reply.now
+        file.old moved.old file.new moved.new) }
     ensures keeps { OnOk result (Leaves file.old.kept file.new.kept) }
     ensures sound { OnOk result (IsSoundFile file.new) }
 {

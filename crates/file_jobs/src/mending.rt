@@ -46,7 +46,8 @@ fn rests_repairing(
 ) -> Result<Turn, Memory>
     requires sound { IsSound kept.old }
     requires low { moved.old.nonce < 2 ^ 63 }
-    ensures turn { IfOk result (λ turn. Turns (λ g. rests_repairing sends g kind repair) kept.old moved.old turn kept.new moved.new) }
+    ensures turn { IfOk result (λ turn. Turns (λ g. rests_repairing sends g kind repair)
+        kept.old moved.old turn kept.new moved.new) }
     ensures kind { IfOk result (GoesOnAs kind) }
     ensures sound { IfOk result (λ turn. RestsSound turn moved.old kept.new moved.new) }
     ensures keeps { OnOk result (Leaves kept.old kept.new) }
@@ -68,7 +69,8 @@ pub fn repairs(
 ) -> Result<Turn, Memory>
     requires sound { IsSound kept.old }
     requires low { moved.old.nonce < 2 ^ 63 }
-    ensures turn { IfOk result (λ turn. Turns (λ g. repairs kind g repair.todo repair.short) kept.old moved.old turn kept.new moved.new) }
+    ensures turn { IfOk result (λ turn. Turns (λ g. repairs kind g repair.todo repair.short)
+        kept.old moved.old turn kept.new moved.new) }
     ensures kind { IfOk result (GoesOnAs kind) }
     ensures sound { IfOk result (λ turn. RestsSound turn moved.old kept.new moved.new) }
     ensures keeps { OnOk result (Leaves kept.old kept.new) }
@@ -89,7 +91,8 @@ pub fn answered(
 ) -> Result<Turn, Memory>
     requires sound { IsSound kept.old }
     requires low { moved.old.nonce < 2 ^ 63 }
-    ensures turn { IfOk result (λ turn. Turns (goes_on kind (work_of repair) heard.now) kept.old moved.old turn kept.new moved.new) }
+    ensures turn { IfOk result (λ turn. Turns (goes_on kind (work_of repair) heard.now)
+        kept.old moved.old turn kept.new moved.new) }
     ensures kind { IfOk result (GoesOnAs kind) }
     ensures sound { IfOk result (λ turn. RestsSound turn moved.old kept.new moved.new) }
     ensures keeps { OnOk result (Leaves kept.old kept.new) }

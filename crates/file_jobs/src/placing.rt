@@ -118,7 +118,8 @@ where
     requires sound { IsSound kept.now }
     requires low { moved.old.nonce < 2 ^ 63 }
     requires objects { moved.old.object < 2 ^ 63 }
-    ensures turn { IfOk result (λ turn. Chooses (λ g. rebuilds g (drop from kept.now.components) from) loads.now kept.now moved.old turn kept.now moved.new) }
+    ensures turn { IfOk result (λ turn. Chooses (λ g. rebuilds g (drop from kept.now.components) from) loads.now
+        kept.now moved.old turn kept.now moved.new) }
     ensures settled { IfOk result IsSettled }
     ensures sound { IfOk result (λ turn. RestsSound turn moved.old kept.now moved.new) }
 {

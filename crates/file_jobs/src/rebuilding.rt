@@ -32,7 +32,8 @@ pub fn target_of(work: &Work) -> Option<Target>
 pub fn ends(kept: &Kept, moved: &mut Moved, target: Target, kind: NoteKind) -> Result<Turn, Memory>
     requires sound { IsSound kept.now }
     requires target { target.component < length kept.now.components }
-    ensures turn { IfOk result (λ turn. Turns (λ g. goes_past (noting g kind) target) kept.now moved.old turn kept.now moved.new) }
+    ensures turn { IfOk result (λ turn. Turns (λ g. goes_past (noting g kind) target)
+        kept.now moved.old turn kept.now moved.new) }
     ensures sound { IfOk result (λ turn. RestsSound turn moved.old kept.now moved.new) }
 {
     note(moved, kept.number, kind)?;
@@ -76,7 +77,8 @@ fn comes_to(
     requires some { ReadsSome step }
     requires stage { StagesAs step rebuild.stage }
     requires readable { IsFetch step → IsReadable kept.old rebuild }
-    ensures turn { IfOk result (λ turn. Turns (λ g. comes_to step g rebuild) kept.old moved.old turn kept.new moved.new) }
+    ensures turn { IfOk result (λ turn. Turns (λ g. comes_to step g rebuild)
+        kept.old moved.old turn kept.new moved.new) }
     ensures sound { IfOk result (λ turn. RestsSound turn moved.old kept.new moved.new) }
     ensures keeps { OnOk result (Leaves kept.old kept.new) }
 {
@@ -114,7 +116,8 @@ pub fn fills(
     requires sound { IsSound kept.old }
     requires low { moved.old.nonce < 2 ^ 63 }
     requires fill { CanFill kept.old rebuild.target rebuild.todo }
-    ensures turn { IfOk result (λ turn. Turns (λ g. fills g rebuild.target rebuild.todo) kept.old moved.old turn kept.new moved.new) }
+    ensures turn { IfOk result (λ turn. Turns (λ g. fills g rebuild.target rebuild.todo)
+        kept.old moved.old turn kept.new moved.new) }
     ensures sound { IfOk result (λ turn. RestsSound turn moved.old kept.new moved.new) }
     ensures keeps { OnOk result (Leaves kept.old kept.new) }
 {
@@ -153,7 +156,8 @@ fn gathered(
     requires low { moved.old.nonce < 2 ^ 63 }
     requires fill { CanFill kept.old rebuild.target rebuild.todo }
     requires readable { IsReadable kept.old rebuild }
-    ensures turn { IfOk result (λ turn. Turns (λ g. gathered g rebuild.target rebuild.todo heard.now) kept.old moved.old turn kept.new moved.new) }
+    ensures turn { IfOk result (λ turn. Turns (λ g. gathered g rebuild.target rebuild.todo heard.now)
+        kept.old moved.old turn kept.new moved.new) }
     ensures sound { IfOk result (λ turn. RestsSound turn moved.old kept.new moved.new) }
     ensures keeps { OnOk result (Leaves kept.old kept.new) }
 {
@@ -172,7 +176,8 @@ fn filled_in(
     requires sound { IsSound kept.old }
     requires low { moved.old.nonce < 2 ^ 63 }
     requires fill { CanFill kept.old rebuild.target rebuild.todo }
-    ensures turn { IfOk result (λ turn. Turns (λ g. filled_in g rebuild.target rebuild.todo) kept.old moved.old turn kept.new moved.new) }
+    ensures turn { IfOk result (λ turn. Turns (λ g. filled_in g rebuild.target rebuild.todo)
+        kept.old moved.old turn kept.new moved.new) }
     ensures sound { IfOk result (λ turn. RestsSound turn moved.old kept.new moved.new) }
     ensures keeps { OnOk result (Leaves kept.old kept.new) }
 {
@@ -192,7 +197,8 @@ pub fn answered(
     requires sound { IsSound kept.old }
     requires low { moved.old.nonce < 2 ^ 63 }
     requires fits { Fits kept.old (length heard.now) (fill_work_of rebuild) }
-    ensures turn { IfOk result (λ turn. (kind : AJobKind) → Turns (goes_on kind (fill_work_of rebuild) heard.now) kept.old moved.old turn kept.new moved.new) }
+    ensures turn { IfOk result (λ turn. (kind : AJobKind) → Turns (goes_on kind (fill_work_of rebuild) heard.now)
+        kept.old moved.old turn kept.new moved.new) }
     ensures sound { IfOk result (λ turn. RestsSound turn moved.old kept.new moved.new) }
     ensures keeps { OnOk result (Leaves kept.old kept.new) }
 {

@@ -75,7 +75,8 @@ fn renews(
     requires place { place < length job.awaited }
     requires low { moved.old.nonce < 2 ^ 63 }
     requires job { IsSoundJob kept.old job }
-    ensures turn { IfOk result (λ turn. TurnsAt (λ g a. renews g job a) job.awaited place kept.old moved.old turn kept.new moved.new) }
+    ensures turn { IfOk result (λ turn. TurnsAt (λ g a. renews g job a) job.awaited place
+        kept.old moved.old turn kept.new moved.new) }
     ensures sound { IfOk result (λ turn. RestsSound turn moved.old kept.new moved.new) }
     ensures keeps { OnOk result (Leaves kept.old kept.new) }
 {
@@ -110,7 +111,8 @@ fn fills_up(
     requires place { place < length job.awaited }
     requires low { moved.old.nonce < 2 ^ 63 }
     requires job { IsSoundJob kept.old job }
-    ensures turn { IfOk result (λ turn. TurnsAt (λ g a. fills_up g job a job.work) job.awaited place kept.old moved.old turn kept.new moved.new) }
+    ensures turn { IfOk result (λ turn. TurnsAt (λ g a. fills_up g job a job.work) job.awaited place
+        kept.old moved.old turn kept.new moved.new) }
     ensures sound { IfOk result (λ turn. RestsSound turn moved.old kept.new moved.new) }
     ensures keeps { OnOk result (Leaves kept.old kept.new) }
 {
@@ -151,7 +153,8 @@ fn answers(
     requires place { place < length job.awaited }
     requires low { moved.old.nonce < 2 ^ 63 }
     requires job { IsSoundJob kept.old job }
-    ensures turn { IfOk result (λ turn. TurnsAt (λ g a. hears g job a reply.now IsDone) job.awaited place kept.old moved.old turn kept.new moved.new) }
+    ensures turn { IfOk result (λ turn. TurnsAt (λ g a. hears g job a reply.now IsDone) job.awaited place
+        kept.old moved.old turn kept.new moved.new) }
     ensures sound { IfOk result (λ turn. RestsSound turn moved.old kept.new moved.new) }
     ensures keeps { OnOk result (Leaves kept.old kept.new) }
 {

@@ -30,7 +30,8 @@ waited (Some j) = Some (lowest j.awaited)
 
 -- an answer and nothing else
 abbrev pub said : (status detail : ℕ) → Outcome
-said status detail = record { recalled = []; numbers = 0; told = record { status = status; detail = detail; grant = None } }
+said status detail =
+    record { recalled = []; numbers = 0; told = record { status = status; detail = detail; grant = None } }
 
 -- the file as the step left it, and what was done besides
 abbrev pub served_by : Outcome → Going → Served
@@ -38,7 +39,8 @@ served_by o g = record { going = g; recalled = o.recalled; numbers = o.numbers; 
 
 -- whatever drives there are and the placer names, what was done at the file is what this function says
 abbrev pub Serves : (Going → Served) → FileState → Moved → Outcome → FileState → Moved → Type 0
-Serves f old was o new is = (ds : List Drive) (chosen : List ℕ) → served_by o (at new is ds chosen) ≡ f (at old was ds chosen)
+Serves f old was o new is = (ds : List Drive) (chosen : List ℕ) →
+    served_by o (at new is ds chosen) ≡ f (at old was ds chosen)
 
 -- a LAYOUTGET for these bytes
 abbrev pub gets_for : Asking → Wanted → Going → Served

@@ -19,7 +19,8 @@ use std::alloc::Global;
 
 // The file has the grant.
 fn give(kept: &mut Kept, grant: Grant) -> Result<(), Memory>
-    ensures { OnOk result (kept.new ≡ record kept.old { grants = kept.old.grants ++ (grant ∷ []); high = high_after kept.old.high grant }) }
+    ensures { OnOk result (kept.new
+        ≡ record kept.old { grants = kept.old.grants ++ (grant ∷ []); high = high_after kept.old.high grant }) }
 {
     kept.grants.push(grant)?;
     if grant.rw {
@@ -39,7 +40,8 @@ fn give_or_refuse(
     requires low { IsLow grant }
     requires sound { IsSoundFile file.old }
     requires idle { file.old.job ≡ None }
-    ensures rule { IfOk result (λ o. (m : AMoved) → Serves (λ go. give_or_refuse go next_grant grant) file.old m o file.new m) }
+    ensures rule { IfOk result (λ o. (m : AMoved)
+        → Serves (λ go. give_or_refuse go next_grant grant) file.old m o file.new m) }
     ensures told { IfOk result (λ o. IsLayoutTold o.told) }
     ensures numbers { IfOk result (λ o. Counts next_grant o) }
     ensures sound { OnOk result (IsSoundFile file.new) }
@@ -72,7 +74,8 @@ fn fence_then(
 ) -> Result<Outcome, Memory>
     requires low { IsLow grant }
     requires sound { IsSoundFile file.old }
-    ensures rule { IfOk result (λ o. (m : AMoved) → Serves (λ go. fence_then go next_grant grant) file.old m o file.new m) }
+    ensures rule { IfOk result (λ o. (m : AMoved)
+        → Serves (λ go. fence_then go next_grant grant) file.old m o file.new m) }
     ensures told { IfOk result (λ o. IsLayoutTold o.told) }
     ensures numbers { IfOk result (λ o. Counts next_grant o) }
     ensures sound { OnOk result (IsSoundFile file.new) }
@@ -96,7 +99,8 @@ fn fence_first(
     requires low { IsLow grant }
     requires sound { IsSoundFile file.old }
     requires nonce { moved.old.nonce < 2 ^ 63 }
-    ensures rule { IfOk result (λ o. Serves (λ go. fence_first go asking.now.next_grant asking.now.format grant) file.old moved.old o file.new moved.new) }
+    ensures rule { IfOk result (λ o. Serves (λ go. fence_first go asking.now.next_grant asking.now.format grant)
+        file.old moved.old o file.new moved.new) }
     ensures told { IfOk result (λ o. IsLayoutTold o.told) }
     ensures numbers { IfOk result (λ o. Counts asking.now.next_grant o) }
     ensures leaves { OnOk result (LeavesFile file.old file.new) }
@@ -122,7 +126,8 @@ fn on_grants(
     requires sound { IsSoundFile file.old }
     requires idle { file.old.job ≡ None }
     requires nonce { moved.old.nonce < 2 ^ 63 }
-    ensures rule { IfOk result (λ o. Serves (λ go. on_grants go asking.now.next_grant asking.now.format asking.now.time grant) file.old moved.old o file.new moved.new) }
+    ensures rule { IfOk result (λ o. Serves
+        (λ go. on_grants go asking.now.next_grant asking.now.format asking.now.time grant) file.old moved.old o file.new moved.new) }
     ensures told { IfOk result (λ o. IsLayoutTold o.told) }
     ensures numbers { IfOk result (λ o. Counts asking.now.next_grant o) }
     ensures leaves { OnOk result (LeavesFile file.old file.new) }

@@ -21,7 +21,8 @@ use std::alloc::Global;
 
 // The client's grant goes.
 fn end_grant(alloc: Global, file: &mut FileState, client: u32) -> Result<(), Memory>
-    ensures { OnOk result (file.new ≡ record file.old { kept = record file.old.kept { grants = without file.old.kept.grants client } }) }
+    ensures { OnOk result (file.new
+        ≡ record file.old { kept = record file.old.kept { grants = without file.old.kept.grants client } }) }
 {
     file.kept.grants = without(alloc, file.kept.grants.as_slice(), client)?;
     Ok(())
@@ -34,7 +35,9 @@ fn report_one(
     numbers: &[u32],
     component: u32,
 ) -> Result<(), Memory>
-    ensures { OnOk result (moved.new ≡ (if among component numbers.now then noted moved.old file.now.kept.number (Reported component) else moved.old)) }
+    ensures { OnOk result (moved.new
+        ≡ (if among component numbers.now
+        then noted moved.old file.now.kept.number (Reported component) else moved.old)) }
 {
     if is_among(component, numbers) {
         note(moved, file.kept.number, NoteKind::Reported { component })?;
@@ -46,7 +49,8 @@ fn report_one(
 #[tactic(auto, unfolding(crate::specs::Serving::reported))]
 fn report(file: &FileState, moved: &mut Moved, numbers: &[u32]) -> Result<(), Memory>
     requires { length file.now.kept.components ≤ 64 }
-    ensures rule { OnOk result (moved.new ≡ reported numbers.now file.now.kept.components 0 file.now.kept.number moved.old) }
+    ensures rule { OnOk result (moved.new
+        ≡ reported numbers.now file.now.kept.components 0 file.now.kept.number moved.old) }
 {
     let mut component = 0u32;
     for _ in file.kept.components.as_slice() {
@@ -89,7 +93,8 @@ fn by_row(
     requires idle { (ks : List ℕ) → returned_rule row.now ≡ Taken ks → file.old.job ≡ None }
     requires next { returned_rule row.now ≡ Fencing → file.old.kept.tag < GREATEST_TAG }
     requires low { moved.old.nonce < 2 ^ 63 }
-    ensures rule { IfOk result (λ o. Serves (λ go. by_return go asking.now.format asking.now.client (returned_rule row.now)) file.old moved.old o file.new moved.new) }
+    ensures rule { IfOk result (λ o. Serves
+        (λ go. by_return go asking.now.format asking.now.client (returned_rule row.now)) file.old moved.old o file.new moved.new) }
     ensures told { IfOk result (λ o. o.told.grant ≡ None) }
     ensures numbers { IfOk result (λ o. o.numbers ≡ 0) }
     ensures leaves { OnOk result (LeavesFile file.old file.new) }
@@ -139,7 +144,8 @@ pub fn give_back(
 ) -> Result<Outcome, Memory>
     requires sound { IsSoundFile file.old }
     requires low { moved.old.nonce < 2 ^ 63 }
-    ensures rule { IfOk result (λ o. Serves (λ go. returns_on go asking.now.format asking.now.client report.now) file.old moved.old o file.new moved.new) }
+    ensures rule { IfOk result (λ o. Serves (λ go. returns_on go asking.now.format asking.now.client report.now)
+        file.old moved.old o file.new moved.new) }
     ensures told { IfOk result (λ o. o.told.grant ≡ None) }
     ensures numbers { IfOk result (λ o. o.numbers ≡ 0) }
     ensures leaves { OnOk result (LeavesFile file.old file.new) }
