@@ -1,0 +1,3 @@
+pub mod Sighted
+pub mod Guessing
+pub mod Tied
