@@ -1,4 +1,0 @@
-pub mod TableLaws
-pub mod SlotLaws
-pub mod StepLaws
-pub mod DriveLaws

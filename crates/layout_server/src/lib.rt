@@ -1,22 +1,14 @@
-//! The metadata server: its files by number, its slots of clients, and the parts of a step.
+//! The metadata server, without a network: messages, orders and calls in, and what goes out of each step.
+//!
+//! [`ServerCore`] is a server that is given messages and calls; each public call says with the rules of
+//! `server_rules` which state follows, what is sent and what is told.
 #![tactic(auto)]
 
-mod admitting;
-mod answering;
-mod requests;
-mod resending;
-mod serving;
-mod settling;
-mod slots;
-mod state;
-mod step;
+mod looking;
+mod messages;
+mod server;
 
-pub use admitting::on_request;
-pub use answering::{answer_to, send_answer};
-pub use requests::carry_out;
-pub use resending::{resend_all, waits};
-pub use serving::{Served, serve_in};
-pub use settling::{begins, only_sends, settle};
-pub use slots::{KeptAnswer, Slots, keep, slot_of};
-pub use state::{Drives, Files, State};
-pub use step::{Notes, Repairs, Step};
+pub use server::ServerCore;
+pub use server_orders::{DriveInfo, DriveTable, FileErr};
+pub use server_requests::{Sends, Sent};
+pub use server_state::{Notes, Repairs, Step};

@@ -1,0 +1,22 @@
+-- What a call did to the server.
+use Rattle.std.specs.Prelude.{ℕ, List, Some, Ok, ◌≡◌, ◌≢◌}
+use Rattle.data_map.specs.declared.check.RawMap.{RawMap}
+use Rattle.server_rules.specs.declared.server.Server.{Server}
+use Rattle.server_rules.specs.Files.{Step as RulesStep}
+use Rattle.server_rules.specs.declared.server.Refusal.{Refusal}
+use Rattle.server_rules.specs.Making.{create_file, refusal}
+use Rattle.server_state.specs.declared.step.Step.{Step}
+use Rattle.server_state.specs.States.{Did}
+use Rattle.server_orders.specs.declared.creating.FileErr.{FileErr}
+use Rattle.server_orders.specs.declared.creating.FileErr.TheVariants.{Memory}
+use Rattle.server_orders.specs.Creating.{cause_of}
+
+-- a file was made, on some drives
+abbrev pub Makes : (number : ℕ) → RawMap → (tag : ℕ) → Server → Server → Step → Type 0
+Makes number raw tag old new out =
+    (chosen : List ℕ) × (s : RulesStep) × (create_file old number raw tag chosen ≡ Ok s) × Did out new s
+
+-- it is refused as the rules say, and nothing changed; that there is no memory says nothing
+abbrev pub IsRefused : (number : ℕ) → RawMap → Server → Server → FileErr → Type 0
+IsRefused number raw old new e =
+    e ≢ Memory → (r : Refusal) × (refusal old number raw ≡ Some r) × (e ≡ cause_of r) × (new ≡ old)

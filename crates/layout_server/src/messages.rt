@@ -1,0 +1,135 @@
+ghost use Rattle.std.specs.Prelude.{◌≡◌, ◌↔◌, ℕ, List, IsTrue, IfOk, OnOk};
+ghost use Rattle.stripe_repair.specs.Placing.{IsPlacer};
+ghost use Rattle.server_rules.specs.Messages.{counters_low, handled};
+ghost use Rattle.server_rules.specs.Envelopes.{on_bytes};
+ghost use Rattle.server_rules.specs.Orders.{ordered, with_result};
+ghost use Rattle.server_requests.specs.Reading.{message_rule};
+ghost use Rattle.server_state.specs.States.{server_of, Did, HasRoom, IsGood};
+ghost use Rattle.server_orders.specs.Orders.{Obeys};
+
+use layout_ops::{Order, OrderAnswer, OrderKind};
+use osd_bytes::{Memory, Node, Numbers};
+use server_orders::{Obeyed, on_drive_reply, order_declare, order_job, order_recall};
+use server_requests::{Message, Sends, message_in, send_order_answer};
+use server_rules::{JobKind, MAX_CLIENT};
+use server_state::{State, Step, on_request, only_sends};
+use std::alloc::Global;
+use stripe_repair::{DriveLoad, Placer};
+
+// An order, by its kind.
+#[tactic(auto, unfolding(server_rules::specs::Orders::ordered))]
+fn obey<F>(
+    alloc: Global,
+    state: &mut State,
+    order: Order,
+    placer: &Placer<F>,
+) -> Result<Obeyed, Memory>
+where
+    F: Fn(u32, &[DriveLoad]) -> Result<Numbers, Memory>,
+    requires good { IsGood state.old }
+    requires room { HasRoom (server_of state.old) }
+    requires placer { IsPlacer F.Fn placer.now }
+    ensures obeys { IfOk result (λ o. (chosen : List ℕ)
+        × Obeys o (server_of state.new) (ordered (server_of state.old) chosen order.order order.target)) }
+    ensures good { OnOk result (IsGood state.new) }
+{
+    let target = order.target;
+    match order.order {
+        OrderKind::Recall => order_recall(alloc, state, target),
+        OrderKind::Revoke => order_job(alloc, state, target, JobKind::Revoking, placer),
+        OrderKind::Declare => order_declare(alloc, state, target, placer),
+        OrderKind::Rebuild => order_job(alloc, state, target, JobKind::Rebuilding, placer),
+        OrderKind::Audit => order_job(alloc, state, target, JobKind::Auditing, placer),
+    }
+}
+
+// An order, and the answer to who gave it.
+fn obey_and_answer<F>(
+    alloc: Global,
+    state: &mut State,
+    order: Order,
+    placer: &Placer<F>,
+) -> Result<Step, Memory>
+where
+    F: Fn(u32, &[DriveLoad]) -> Result<Numbers, Memory>,
+    requires good { IsGood state.old }
+    requires room { HasRoom (server_of state.old) }
+    requires placer { IsPlacer F.Fn placer.now }
+    ensures did { IfOk result (λ out. (chosen : List ℕ) × Did out (server_of state.new)
+        (with_result order.order (ordered (server_of state.old) chosen order.order order.target))) }
+    ensures good { OnOk result (IsGood state.new) }
+{
+    let Obeyed { mut step, result } = obey(alloc, state, order, placer)?;
+    let answer = OrderAnswer {
+        order: order.order,
+        result,
+    };
+    send_order_answer(alloc, &mut step.sends, answer)?;
+    Ok(step)
+}
+
+// The step of a message, by who sent it. One that its sender doesn't send changes nothing.
+fn handle<F>(
+    alloc: Global,
+    state: &mut State,
+    now: u64,
+    from: Node,
+    message: &Message,
+    placer: &Placer<F>,
+) -> Result<Step, Memory>
+where
+    F: Fn(u32, &[DriveLoad]) -> Result<Numbers, Memory>,
+    requires good { IsGood state.old }
+    requires room { HasRoom (server_of state.old) }
+    requires placer { IsPlacer F.Fn placer.now }
+    ensures did { IfOk result (λ out. (chosen : List ℕ) × Did out (server_of state.new)
+        (handled (server_of state.old) now chosen from (message_rule message.now))) }
+    ensures good { OnOk result (IsGood state.new) }
+{
+    match (from, message) {
+        (Node::Client(client), Message::Asks(request))
+            if request.client == client && client <= MAX_CLIENT => {
+            on_request(alloc, state, now, request)
+        }
+        (Node::Drive(drive), Message::Replies(reply)) => {
+            on_drive_reply(alloc, state, drive, reply, placer)
+        }
+        (Node::Server, Message::Orders(order)) => obey_and_answer(alloc, state, *order, placer),
+        _ => Ok(only_sends(alloc, Sends::new(alloc))),
+    }
+}
+
+/// The step of bytes from a node. Nothing changes where there is no message in them, or where the counters have no
+/// room: `low` says whether they have.
+///
+/// # Errors
+///
+/// Want of memory alone.
+#[tactic(auto, unfolding(server_rules::specs::Messages::on_message))]
+pub fn hear<F>(
+    alloc: Global,
+    state: &mut State,
+    now: u64,
+    from: Node,
+    bytes: &[u8],
+    placer: &Placer<F>,
+    low: bool,
+) -> Result<Step, Memory>
+where
+    F: Fn(u32, &[DriveLoad]) -> Result<Numbers, Memory>,
+    requires good { IsGood state.old }
+    requires low { low ≡ counters_low (server_of state.old) }
+    requires room { IsTrue low ↔ HasRoom (server_of state.old) }
+    requires placer { IsPlacer F.Fn placer.now }
+    ensures did { IfOk result (λ out. (chosen : List ℕ) × Did out (server_of state.new)
+        (on_bytes (server_of state.old) now chosen from bytes.now)) }
+    ensures good { OnOk result (IsGood state.new) }
+{
+    if !low {
+        return Ok(only_sends(alloc, Sends::new(alloc)));
+    }
+    match message_in(alloc, from, bytes)? {
+        Some(message) => handle(alloc, state, now, from, &message, placer),
+        None => Ok(only_sends(alloc, Sends::new(alloc))),
+    }
+}

@@ -1,0 +1,331 @@
+ghost use Rattle.std.specs.Prelude.{◌≡◌, ◌↔◌, ◌<◌, [], List, ℕ, IsTrue, map, option_map, IfOk, IfErr, OnOk};
+ghost use Rattle.std.specs.Option.{option_copied};
+ghost use Rattle.layout_ops.specs.declared.orders.OrderKind.TheVariants as order;
+ghost use Rattle.data_map.specs.Check.{HasAlgorithm};
+ghost use Rattle.stripe_repair.specs.declared.loads.TheConstants.{MAX_DRIVES};
+ghost use Rattle.stripe_repair.specs.Placing.{IsPlacer};
+ghost use Rattle.server_rules.specs.Envelopes.{on_bytes};
+ghost use Rattle.server_rules.specs.Files.{file_at};
+ghost use Rattle.server_rules.specs.Making.{add_drive, new_server, set_format};
+ghost use Rattle.server_rules.specs.Messages.{counters_low, resend};
+ghost use Rattle.server_rules.specs.Orders.{ordered};
+ghost use Rattle.server_requests.specs.Sending.{all_sent};
+ghost use Rattle.server_state.specs.States.{server_of, Did, HasRoom, IsGood};
+ghost use Rattle.server_orders.specs.Adding.{IsNew, CanAdd, and_drives, drive_of};
+ghost use Rattle.server_orders.specs.Resending.{waited_of};
+ghost use Rattle.layout_server.specs.Calls.{Makes, IsRefused};
+
+use crate::looking::{kept_of, numbers_of};
+use crate::messages::hear;
+use data_map::RawMap;
+use osd_bytes::{Memory, Node, Numbers};
+use server_orders::{
+    DriveInfo, DriveTable, FileErr, add_drive, add_drives, create_file, order_declare, order_job,
+    order_recall, resend, waits,
+};
+use server_requests::Sends;
+use server_rules::{COUNTERS_END, Drive, JobKind, Kept};
+use server_state::{State, Step};
+use std::alloc::Global;
+use std::marker::Model;
+use std::mem;
+use stripe_repair::{DriveLoad, Placer};
+
+/// The metadata server. Contracts see the server of the rules.
+///
+/// A call that finds no memory in the middle of its step ends the server: nothing is left of its state, and each
+/// further call that can answer so answers that there is no memory.
+#[derive(Drop)]
+pub struct ServerCore {
+    alloc: Global,
+    state: State,
+    // A call began and isn't done, or found no memory.
+    is_over: bool,
+}
+
+impl Model for ServerCore {
+    ghost use Rattle.server_rules.specs.declared.server.Server.{Server};
+    ghost use Rattle.server_state.specs.States.{server_of, IsGood};
+
+    ghost Value = { Server };
+
+    ghost view = { λ s. server_of s.state };
+
+    ghost invariant = { λ s. IsGood s.state };
+}
+
+impl ServerCore {
+    /// A server without files, with these drives.
+    ///
+    /// # Errors
+    ///
+    /// Want of memory alone.
+    pub fn new(alloc: Global, drives: DriveTable) -> Result<Self, Memory>
+        requires { CanAdd [] drives }
+        ensures { IfOk result (λ server. server ≡ new_server (and_drives [] drives)) }
+    {
+        let mut state = State::new(alloc);
+        add_drives(alloc, &mut state.drives, drives.as_slice())?;
+        let is_over = false;
+        Ok(ServerCore {
+            alloc,
+            state,
+            is_over,
+        })
+    }
+
+    // The state, in whose place a new one stands until the call is done.
+    fn begin(&mut self) -> Result<State, Memory>
+        ensures value { IfOk result (λ state. server_of state ≡ self.old) }
+        ensures good { IfOk result IsGood }
+    {
+        if self.is_over {
+            return Err(Memory);
+        }
+        self.is_over = true;
+        Ok(mem::replace(&mut self.state, State::new(self.alloc)))
+    }
+
+    // The call is done, and leaves this state.
+    fn keep(&mut self, state: State)
+        requires { IsGood state }
+        ensures { self.new ≡ server_of state }
+    {
+        self.state = state;
+        self.is_over = false;
+    }
+
+    /// The server knows a further drive, of a new number below 64.
+    ///
+    /// # Errors
+    ///
+    /// Want of memory alone.
+    pub fn add_drive(&mut self, info: DriveInfo) -> Result<(), Memory>
+        requires new { IsNew info.number self.old.drives }
+        requires low { info.number < MAX_DRIVES }
+        ensures { OnOk result (self.new ≡ record self.old { drives = add_drive self.old.drives (drive_of info) }) }
+    {
+        if self.is_over {
+            return Err(Memory);
+        }
+        add_drive(self.alloc, &mut self.state.drives, info)
+    }
+
+    /// A file is made on drives that the placer names, and its components are sent CREATE.
+    ///
+    /// # Errors
+    ///
+    /// As [`FileErr`] says. Then nothing is changed, want of memory excepted.
+    pub fn create_file<F>(
+        &mut self,
+        file: u32,
+        raw: RawMap,
+        tag: u32,
+        placer: &Placer<F>,
+    ) -> Result<Step, FileErr>
+    where
+        F: Fn(u32, &[DriveLoad]) -> Result<Numbers, Memory>,
+        requires room { HasRoom self.old }
+        requires placer { IsPlacer F.Fn placer.now }
+        requires algorithm { HasAlgorithm raw }
+        ensures refused { IfErr result (IsRefused file raw self.old self.new) }
+        ensures made { IfOk result (λ out. Makes file raw tag self.old self.new out) }
+    {
+        let mut state = self.begin()?;
+        let made = create_file(self.alloc, &mut state, file, raw, tag, placer);
+        if let Err(FileErr::Memory) = made {
+            return Err(FileErr::Memory);
+        }
+        self.keep(state);
+        made
+    }
+
+    /// Fences leave files with this format at least, 1 or 2: the server's format becomes the greater of
+    /// itself and this.
+    pub fn set_format(&mut self, format: u8)
+        ensures { self.new ≡ set_format self.old format }
+    {
+        self.state.format = self.state.format.max(format);
+    }
+
+    /// Bytes come from a node, at a time of the server's clock in seconds. Nothing changes where they can't be read,
+    /// where their sender may not send such a message, or where the counters have no room.
+    ///
+    /// # Errors
+    ///
+    /// Want of memory alone.
+    pub fn on_message<F>(
+        &mut self,
+        now: u64,
+        from: Node,
+        bytes: &[u8],
+        placer: &Placer<F>,
+    ) -> Result<Step, Memory>
+    where
+        F: Fn(u32, &[DriveLoad]) -> Result<Numbers, Memory>,
+        requires placer { IsPlacer F.Fn placer.now }
+        ensures { IfOk result (λ out. (chosen : List ℕ)
+            × Did out self.new (on_bytes self.old now chosen from bytes.now)) }
+    {
+        let low = self.counters_low();
+        let mut state = self.begin()?;
+        let step = hear(self.alloc, &mut state, now, from, bytes, placer, low)?;
+        self.keep(state);
+        Ok(step)
+    }
+
+    /// A recall goes to each holder of a grant on a file.
+    ///
+    /// # Errors
+    ///
+    /// Want of memory alone.
+    pub fn recall(&mut self, file: u32) -> Result<Step, Memory>
+        requires room { HasRoom self.old }
+        ensures { IfOk result (λ out. (chosen : List ℕ)
+            → Did out self.new (ordered self.old chosen order.Recall file).step) }
+    {
+        let mut state = self.begin()?;
+        let obeyed = order_recall(self.alloc, &mut state, file)?;
+        self.keep(state);
+        Ok(obeyed.step)
+    }
+
+    /// A fence of a file begins, with the repair behind it, unless a job runs or the file's tag is spent.
+    ///
+    /// # Errors
+    ///
+    /// Want of memory alone.
+    #[tactic(auto, unfolding(server_rules::specs::Orders::ordered))]
+    pub fn revoke<F>(&mut self, file: u32, placer: &Placer<F>) -> Result<Step, Memory>
+    where
+        F: Fn(u32, &[DriveLoad]) -> Result<Numbers, Memory>,
+        requires room { HasRoom self.old }
+        requires placer { IsPlacer F.Fn placer.now }
+        ensures { IfOk result (λ out. (chosen : List ℕ)
+            × Did out self.new (ordered self.old chosen order.Revoke file).step) }
+    {
+        let mut state = self.begin()?;
+        let obeyed = order_job(self.alloc, &mut state, file, JobKind::Revoking, placer)?;
+        self.keep(state);
+        Ok(obeyed.step)
+    }
+
+    /// The missing components of a file are made anew on other drives, behind a fence and its repair; unless a job
+    /// runs or the file's tag is spent.
+    ///
+    /// # Errors
+    ///
+    /// Want of memory alone.
+    #[tactic(auto, unfolding(server_rules::specs::Orders::ordered))]
+    pub fn rebuild<F>(&mut self, file: u32, placer: &Placer<F>) -> Result<Step, Memory>
+    where
+        F: Fn(u32, &[DriveLoad]) -> Result<Numbers, Memory>,
+        requires room { HasRoom self.old }
+        requires placer { IsPlacer F.Fn placer.now }
+        ensures { IfOk result (λ out. (chosen : List ℕ)
+            × Did out self.new (ordered self.old chosen order.Rebuild file).step) }
+    {
+        let mut state = self.begin()?;
+        let obeyed = order_job(self.alloc, &mut state, file, JobKind::Rebuilding, placer)?;
+        self.keep(state);
+        Ok(obeyed.step)
+    }
+
+    /// The stripes of a file are read and compared, behind a fence and its repair; unless a job runs or the file's
+    /// tag is spent.
+    ///
+    /// # Errors
+    ///
+    /// Want of memory alone.
+    #[tactic(auto, unfolding(server_rules::specs::Orders::ordered))]
+    pub fn audit<F>(&mut self, file: u32, placer: &Placer<F>) -> Result<Step, Memory>
+    where
+        F: Fn(u32, &[DriveLoad]) -> Result<Numbers, Memory>,
+        requires room { HasRoom self.old }
+        requires placer { IsPlacer F.Fn placer.now }
+        ensures { IfOk result (λ out. (chosen : List ℕ)
+            × Did out self.new (ordered self.old chosen order.Audit file).step) }
+    {
+        let mut state = self.begin()?;
+        let obeyed = order_job(self.alloc, &mut state, file, JobKind::Auditing, placer)?;
+        self.keep(state);
+        Ok(obeyed.step)
+    }
+
+    /// A drive has failed: it is offline from now on, and each component on it missing.
+    ///
+    /// # Errors
+    ///
+    /// Want of memory; and, in place of it, a counter of 64 bits without room in the middle of the step.
+    pub fn declare<F>(&mut self, drive: u32, placer: &Placer<F>) -> Result<Step, Memory>
+    where
+        F: Fn(u32, &[DriveLoad]) -> Result<Numbers, Memory>,
+        requires placer { IsPlacer F.Fn placer.now }
+        ensures { IfOk result (λ out. (chosen : List ℕ)
+            × Did out self.new (ordered self.old chosen order.Declare drive).step) }
+    {
+        let mut state = self.begin()?;
+        let obeyed = order_declare(self.alloc, &mut state, drive, placer)?;
+        self.keep(state);
+        Ok(obeyed.step)
+    }
+
+    /// Every command that a job waits for, once more.
+    ///
+    /// # Errors
+    ///
+    /// Want of memory alone.
+    pub fn resend(&self) -> Result<Sends, Memory>
+        ensures { IfOk result (λ sends. sends ≡ all_sent (resend self.now)) }
+    {
+        if self.is_over {
+            return Err(Memory);
+        }
+        resend(self.alloc, &self.state)
+    }
+
+    /// The lowest component that a file's job waits for, `None` exactly where no job of it runs.
+    pub fn waits(&self, file: u32) -> Option<u32>
+        ensures { result ≡ waited_of (file_at self.now.files file) }
+    {
+        waits(&self.state.files, file)
+    }
+
+    /// Whether the counters of 64 bits have room: each is below 9,223,372,036,854,775,808.
+    #[tactic(auto, unfolding(server_rules::specs::Messages::counters_low))]
+    pub fn counters_low(&self) -> bool
+        ensures value { result ≡ counters_low self.now }
+        ensures room { IsTrue result ↔ HasRoom self.now }
+    {
+        let state = &self.state;
+        state.next_nonce < COUNTERS_END
+            && state.next_object < COUNTERS_END
+            && state.next_recall < COUNTERS_END
+    }
+
+    /// What is kept of a file: its map, components, live grants, size and phase among others. `None` exactly where
+    /// there is no such file.
+    pub fn file(&self, number: u32) -> Option<&Kept>
+        ensures { option_copied result ≡ option_map (λ f. f.kept) (file_at self.now.files number) }
+    {
+        kept_of(&self.state.files, number)
+    }
+
+    /// The numbers of the files, in rising order.
+    ///
+    /// # Errors
+    ///
+    /// Want of memory alone.
+    pub fn file_numbers(&self) -> Result<Numbers, Memory>
+        ensures { IfOk result (λ numbers. numbers ≡ map (λ f. f.kept.number) self.now.files) }
+    {
+        numbers_of(self.alloc, &self.state.files)
+    }
+
+    /// The drives, in order of their numbers.
+    pub fn drives(&self) -> &[Drive]
+        ensures { result.now ≡ self.now.drives }
+    {
+        self.state.drives.as_slice()
+    }
+}

@@ -1,0 +1,6 @@
+pub mod Adding
+pub mod Orders
+pub mod Hearing
+pub mod Declaring
+pub mod Creating
+pub mod Resending

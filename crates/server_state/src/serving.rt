@@ -1,0 +1,61 @@
+ghost use Rattle.std.specs.Prelude.{◌≡◌, ◌<◌, ◌^◌, IfOk};
+ghost use Rattle.file_jobs.specs.Sound.{IsSoundFile};
+ghost use Rattle.server_state.specs.Tables.{AreEntries};
+ghost use Rattle.server_state.specs.AtFile.{ServedAt, ServedIn};
+
+use crate::state::Files;
+use file_jobs::FileState;
+use file_requests::{Asking, Outcome, serve};
+use layout_ops::Answer;
+use osd_bytes::Memory;
+use server_requests::file_answer;
+use server_rules::{ClientRequest, Drive, Moved};
+use std::alloc::Global;
+
+/// What a request did besides its file, and the answer to it.
+#[derive(Debug, Drop)]
+pub struct Served {
+    pub outcome: Outcome,
+    pub answer: Answer,
+}
+
+// A request at its file.
+fn serve_at(
+    alloc: Global,
+    file: &mut FileState,
+    moved: &mut Moved,
+    drives: &[Drive],
+    asking: &Asking,
+    request: &ClientRequest,
+) -> Result<Served, Memory>
+    requires sound { IsSoundFile file.old }
+    requires low { moved.old.nonce < 2 ^ 63 }
+    ensures { IfOk result (λ v. ServedAt asking.now request.now drives.now file.old moved.old v file.new moved.new) }
+{
+    let outcome = serve(alloc, file, moved, asking, &request.args)?;
+    let answer = file_answer(alloc, drives, &file.kept, request, &outcome.told)?;
+    Ok(Served { outcome, answer })
+}
+
+/// A request at the file of its number, `None` exactly where there is none.
+///
+/// # Errors
+///
+/// Want of memory alone.
+pub fn serve_in(
+    alloc: Global,
+    files: &mut Files,
+    moved: &mut Moved,
+    drives: &[Drive],
+    asking: &Asking,
+    request: &ClientRequest,
+) -> Result<Option<Served>, Memory>
+    requires files { AreEntries files.old.entries }
+    requires low { moved.old.nonce < 2 ^ 63 }
+    ensures { IfOk result (λ v. ServedIn asking.now request.now drives.now files.old.entries moved.old v files.new.entries moved.new) }
+{
+    match files.get_mut(&request.file) {
+        Some(file) => Ok(Some(serve_at(alloc, file, moved, drives, asking, request)?)),
+        None => Ok(None),
+    }
+}
