@@ -3,3 +3,8 @@ pub mod Kept
 pub mod Given
 pub mod Keeping
 pub mod Numbers
+pub mod Asking
+pub mod Covers
+pub mod Had
+pub mod RightMoves
+pub mod RightSteps

@@ -69,7 +69,7 @@ behind_range : (x a n : ℕ) → x < a → AreBehind x (range_with_len a n)
 behind_range x a zero l = tt
 behind_range x a (suc n) l = (λ e. l, behind_range x (a + 1) n (omega (arith, l)))
 
-range_rises : (a n : ℕ) → RiseInGrants (range_with_len a n)
+pub range_rises : (a n : ℕ) → RiseInGrants (range_with_len a n)
 range_rises a zero = tt
 range_rises a (suc n) = (behind_range a (a + 1) n (omega arith), range_rises (a + 1) n)
 

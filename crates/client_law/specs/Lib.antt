@@ -1,2 +1,4 @@
 pub mod State
 pub mod Nonces
+pub mod Requests
+pub mod Answers

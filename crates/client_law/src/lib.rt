@@ -6,4 +6,4 @@
 
 mod laws;
 
-pub use laws::nonces_differ;
+pub use laws::{nonces_differ, one_request, reads_are_right};
