@@ -1,22 +1,21 @@
 -- A client sends a request only where none is outstanding.
-use Rattle.std.proofs.Common.{◌≡◌, ◌⊎◌, ℕ, ◌+◌, ◌==◌, Bool, true, false, List, [], ◌∷◌, ◌++◌, refl, sym, ap, ◌∙◌, inl, inr}
+use Rattle.std.proofs.Common.{◌≡◌, ◌⊎◌, ℕ, ◌==◌, Bool, true, false, List, [], ◌∷◌, ◌++◌, refl, sym, ap, ◌∙◌, inl, inr}
 use Rattle.std.specs.Prelude.{if◌then◌else◌, map, is_some, Option, Some, None, Result, Ok, Err}
-use Rattle.osd_bytes.specs.declared.node.Node.{Node}
 use Rattle.layout_ops.specs.declared.args.Args.{Args}
 use Rattle.layout_ops.specs.declared.statuses.TheConstants.{NFS4_OK}
-use Rattle.client_law.specs.State.{Client, Call, CallOp, CallErr, Busy, BadRange, SlotSpent, Held, Due, Awaited, TimedOut, Need, First, Get, Commit, Report, Close, Phase, Starts, Needs, Waits, Reads, Probes, Gathers, Scatters, Outcome, WriteOk, Why, Turn, Goes, Ends, Forgets, Moved, Done, Outgoing, AnswersRecall, Asks, Request, Answer, Recall, RecallAnswer, Reply}
+use Rattle.client_law.specs.State.{Client, Call, CallOp, CallErr, Busy, BadRange, SlotSpent, Held, Due, Awaited, TimedOut, Need, First, Get, Commit, Report, Close, Phase, Starts, Needs, Waits, Reads, Probes, Gathers, Scatters, Outcome, WriteOk, Why, Turn, Goes, Ends, Forgets, Moved, Done, AnswersRecall, Asks, Request, Answer, Recall, RecallAnswer, Reply}
 use Rattle.client_rules.specs.Calls.{file_of, span_of}
-use Rattle.client_rules.specs.Grants.{covers, held_of}
+use Rattle.client_rules.specs.Grants.{covers}
 use Rattle.client_rules.specs.Requests.{grant_in, get_args, args_of, return_args}
 use Rattle.client_rules.specs.Results.{status_of}
 use Rattle.client_rules.specs.Layouts.{taken}
 use Rattle.client_rules.specs.Replies.{replied, timed_out}
 use Rattle.client_rules.specs.Answers.{not_granted, on_commit}
 use Rattle.client_rules.specs.Going.{quiet, phased, over, with_held, by_turn, moved, begins, starts_with, starts_under, starts_at, starts_call, begun, request_of, requests, asks_under, returns, returns_due, progress_phase, progress_call, progress_free, progressed}
-use Rattle.client_rules.specs.Messages.{Message, Step, still, to_drive, sends_of, closed, finished, answered_get, commit_under, on_need, on_phase, on_call, no_match, obeys, recalled, reply_under, reply_call, Taken, TakesAnswer, TakesReply, TakesRecall, takes, on_taken, by_taken, hears}
+use Rattle.client_rules.specs.Messages.{Step, still, to_drive, closed, finished, answered_get, commit_under, on_need, on_phase, on_call, no_match, obeys, recalled, reply_under, reply_call, Taken, TakesAnswer, TakesReply, TakesRecall, takes, on_taken, by_taken, hears}
 use Rattle.client_rules.specs.Steps.{timeout_under, timeout_call, times_out, is_bad_range, is_spent, writes_nothing, starts, calls, all_due, leaves}
-use Rattle.client_rules.specs.History.{Input, Calls, Hears, TimesOut, Leaves, Resends, unless_refused, step}
-use Rattle.client_law.specs.Requests.{requests_in, requests_at, left_by, outstanding_at, IsAsked, OneRequest}
+use Rattle.client_rules.specs.History.{Calls, Hears, TimesOut, Leaves, Resends, unless_refused}
+use Rattle.client_law.specs.Requests.{requests_in, left_by, IsAsked, OneRequest}
 
 -- no request was sent yet in this step
 record IsQuiet (n : ℕ) (o : Option Request) (d : Done) : Type 0 where

@@ -1,6 +1,6 @@
 -- What a read asks covers all that it needs and that it hasn't.
-use Rattle.std.proofs.Common.{◌≡◌, ◌≢◌, ◌<◌, ◌≤◌, ◌⊎◌, ℕ, zero, suc, ◌+◌, ◌-◌, ◌*◌, ◌==◌, false, List, [], ◌∷◌, ◌++◌, refl, sym, ◌∙◌, inl, inr, arith, eq-eqb, ne_eqb}
-use Rattle.std.specs.Prelude.{if◌then◌else◌, map, Option, Some, None, is_none}
+use Rattle.std.proofs.Common.{◌≡◌, ◌<◌, ◌≤◌, ◌⊎◌, ℕ, zero, suc, ◌+◌, ◌-◌, ◌*◌, false, List, [], ◌∷◌, ◌++◌, refl, sym, inl, inr, arith, eq-eqb, ne_eqb}
+use Rattle.std.specs.Prelude.{Option, Some, None, is_none}
 use Rattle.std.specs.List.{range_with_len}
 use Rattle.std.proofs.lemmas.Bool.{cases_eq, cases_lt, lt-ltb}
 use Rattle.data_map.specs.declared.check.RawMap.{RawMap}
@@ -14,7 +14,7 @@ use Rattle.stripe_plan.specs.declared.plan.Ask.{Ask}
 use Rattle.stripe_plan.specs.declared.plan.Aim.TheVariants.{Reads as ToRead}
 use Rattle.stripe_plan.specs.Touched.{end_of, stripes, IsTouchedStripe}
 use Rattle.stripe_plan.specs.Lost.{source, is_out}
-use Rattle.stripe_plan.specs.Asks.{needed, at_row, at_rows, before, behind, without, without_each, asks_of, asks_source, asks_position, asks_place, asks_stripe, asks}
+use Rattle.stripe_plan.specs.Asks.{needed, at_rows, before, behind, without, without_each, asks_of, asks_source, asks_place, asks_stripe, asks}
 use Rattle.stripe_plan.specs.Laws.{IsWithin}
 use Rattle.client_law.proofs.Rising.{IsAmong}
 

@@ -1,13 +1,12 @@
 -- What a call has of the positions, as commands are sent and replies come.
 use Rattle.std.proofs.Common.{◌≡◌, ◌≢◌, ◌<◌, ◌≤◌, ◌⊎◌, ℕ, zero, suc, ◌+◌, ◌-◌, ◌==◌, Bool, false, List, [], ◌∷◌, ◌++◌, length, take, refl, sym, ap, ◌∙◌, inl, inr, arith, eq-eqb, ne_eqb}
-use Rattle.std.specs.Prelude.{if◌then◌else◌, not, map, filter, replicate}
+use Rattle.std.specs.Prelude.{not, map, filter, replicate}
 use Rattle.std.specs.List.{range_with_len}
 use Rattle.std.proofs.lemmas.Bool.{cases_Bool, cases_eq, lt-ltb, le-leb}
 use Rattle.std.proofs.lemmas.List.{length-append, length-replicate, length-take, map-append}
 use Rattle.stripe_plan.specs.declared.plan.Column.{Column}
 use Rattle.stripe_plan.specs.declared.plan.Stretch.{Stretch}
 use Rattle.stripe_plan.specs.declared.plan.Ask.{Ask}
-use Rattle.stripe_plan.specs.Words.{has_byte}
 use Rattle.stripe_plan.specs.Laws.{IsGot}
 use Rattle.client_rules.specs.Commands.{command, sealed, numbered, nonce_at, carrying_none, read_commands, others, not_of}
 use Rattle.client_rules.specs.Io.{carried, got_of, got_stretch, awaited_stretch, had}

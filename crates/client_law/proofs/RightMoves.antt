@@ -1,25 +1,23 @@
 -- What a call does with the drives keeps all that a read needs had or awaited, so that its answer is right.
 use Rattle.std.proofs.Common.{◌≡◌, ◌≢◌, ◌<◌, ℕ, ◌+◌, ◌/◌, ◌==◌, Bool, true, false, List, [], ◌∷◌, ◌++◌, refl, sym, arith, inl, inr, eq-eqb, ne_eqb}
-use Rattle.std.specs.Prelude.{if◌then◌else◌, filter, find, Option, Some, None}
+use Rattle.std.specs.Prelude.{if◌then◌else◌, filter, Option, Some, None}
 use Rattle.std.proofs.lemmas.Bool.{cases_Bool, cases_eq}
 use Rattle.data_map.specs.Check.{IsChecked}
 use Rattle.data_map.specs.Striping.{replicas, group_width}
 use Rattle.stripe_plan.specs.Touched.{stripes}
 use Rattle.stripe_plan.specs.Lost.{positions_out, unreadable}
-use Rattle.stripe_plan.specs.Words.{answered}
 use Rattle.std.specs.List.{range_with_len}
 use Rattle.std.specs.Prelude.{map, length}
 use Rattle.data_map.specs.Striping.{position_of, offset_of}
 use Rattle.stripe_plan.specs.declared.plan.Aim.TheVariants.{Reads as ToRead}
 use Rattle.stripe_plan.specs.Touched.{IsTouchedStripe}
 use Rattle.stripe_plan.specs.Lost.{is_out}
-use Rattle.stripe_plan.specs.Asks.{needed, asks}
+use Rattle.stripe_plan.specs.Asks.{needed}
 use Rattle.stripe_plan.specs.Laws.{IsWithin, IsFetched, AreBytes, Agrees}
 use Rattle.stripe_plan.proofs.ReadLaws.{read_follows}
-use Rattle.client_law.proofs.Rising.{each_map}
 use Rattle.client_law.proofs.Covers.{HasStretch, asks_cover}
 use Rattle.client_law.proofs.Had.{AreBelow, had_sent, had_got, had_replied, others_below, rest_below, sent_below}
-use Rattle.client_law.specs.State.{CallOp, Held, Awaited, TimedOut, Io, Need, First, Get, Commit, Report, Close, Phase, Starts, Needs, Waits, Reads, Probes, Gathers, Scatters, Outcome, ReadOk, Lost, Silent, Turn, Goes, Ends, Forgets, Moved, Answer, Reply, Span, Ask, Column, Store, RawMap}
+use Rattle.client_law.specs.State.{CallOp, Held, Awaited, TimedOut, Io, Phase, Starts, Needs, Waits, Reads, Probes, Gathers, Scatters, Outcome, Lost, Silent, Turn, Goes, Ends, Forgets, Moved, Answer, Reply, Span, Ask, Column, Store, RawMap}
 use Rattle.layout_ops.specs.declared.statuses.TheConstants.{NFS4_OK}
 use Rattle.client_rules.specs.Results.{status_of}
 use Rattle.client_rules.specs.Calls.{span_of, is_write}
@@ -38,7 +36,7 @@ use Rattle.client_rules.specs.Messages.{TakesReply}
 use Rattle.client_rules.specs.Laws.{with_reply, NoneTo, AreApart}
 use Rattle.client_rules.proofs.Apart.{IsIn, others_apart, rest_apart, others_none, next_apart, firsts_apart}
 use Rattle.client_rules.proofs.Asked.{some_asked, front_none, rest_none}
-use Rattle.client_rules.proofs.ReadMoves.{AreReads, found_in, FitsOutcome, AnswersNone, weaker, GoodNeed}
+use Rattle.client_rules.proofs.ReadMoves.{AreReads, FitsOutcome, AnswersNone, GoodNeed}
 use Rattle.client_rules.proofs.Probed.{no_commands, due_some}
 
 -- ---- READs

@@ -1,5 +1,5 @@
 -- What an answered read is, for all data that agree with what was read.
-use Rattle.std.specs.Prelude.{◌≡◌, ℕ, List, [], map, Option, Some}
+use Rattle.std.specs.Prelude.{◌≡◌, ℕ, List, [], map, Some}
 use Rattle.std.specs.List.{range_with_len}
 use Rattle.stripe_plan.specs.Laws.{AreBytes, Agrees}
 use Rattle.client_rules.specs.Calls.{file_of, span_of}
@@ -17,7 +17,8 @@ pub record IsRight (c : Client) (got : List Column) (bytes : List ℕ) : Type 0 
   pub held : Held
   pub holds : held_of c.held (file_of call.op) ≡ Some held
   pub right : (d : ℕ → ℕ) → AreBytes d → Agrees held.map got d →
-      bytes ≡ map d (range_with_len (clipped held.size (span_of call.op)).offset (clipped held.size (span_of call.op)).length)
+      bytes
+      ≡ map d (range_with_len (clipped held.size (span_of call.op)).offset (clipped held.size (span_of call.op)).length)
 
 -- so is every read that is answered, after any list of inputs to a new client, by the performed READs whose replies its
 -- call took
