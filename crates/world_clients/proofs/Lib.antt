@@ -1,0 +1,3 @@
+mod Writes
+pub mod Refused
+mod Worlds
