@@ -1,8 +1,0 @@
-//! What a world keeps beside its parties to end a transcript: whether the run is calm and unguessed, and what it
-//! comes to in numbers.
-#![tactic(auto)]
-
-mod watch;
-
-pub use watch::Watch;
-pub use world_calm::KeptFiles;
