@@ -5,7 +5,9 @@ use Rattle.std.proofs.lemmas.Bool.{cases_Bool, and_right, false_from_ne_true, eq
 use Rattle.std.proofs.lemmas.Option.{same_Some}
 use Rattle.fence_law.specs.Words.{updated, over}
 use Rattle.fence_law.specs.State.{State, Event, Grant, Write, Start}
-use Rattle.fence_law.specs.Machine.{Allowed, after, granted, written_start, read_start, repair_start, rebuilt_start, performed, overlaid, only}
+use Rattle.fence_law.specs.Columns.{overlaid, only}
+use Rattle.fence_law.specs.Starts.{granted, written_start, read_start, repair_start, rebuilt_start, performed}
+use Rattle.fence_law.specs.Machine.{Allowed, after}
 use Rattle.fence_law.specs.State.Call.{Idle, Reads}
 use Rattle.fence_law.specs.State.Event.{Grants, Frees, Fenced, Refenced, StartsWrite, StartsRead, Performs, Acknowledges, Repairs, Repaired, Rebuilds, Loses, Leaves}
 use Rattle.fence_law.specs.Law.{chain, byte_before, cell_before, IsCode}

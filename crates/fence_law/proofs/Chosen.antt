@@ -4,7 +4,8 @@ use Rattle.std.proofs.Common.{◌≡◌, ℕ, ◌<◌, ◌≤◌, Bool, true, fa
 use Rattle.std.proofs.lemmas.Bool.{and_right, and_parts, not-true, cases_Bool, eqb-true, cases_eq, true≢false}
 use Rattle.fence_law.specs.Words.{updated, over}
 use Rattle.fence_law.specs.State.{State, Event, Start}
-use Rattle.fence_law.specs.Machine.{Allowed, after, written_start, read_start, repair_start, rebuilt_start, ended}
+use Rattle.fence_law.specs.Starts.{written_start, read_start, repair_start, rebuilt_start, ended}
+use Rattle.fence_law.specs.Machine.{Allowed, after}
 use Rattle.fence_law.specs.State.Event.{Fenced, Refenced, StartsWrite, StartsRead, Acknowledges, Repairs, Repaired, Rebuilds}
 use Rattle.fence_law.specs.Law.{byte_before, IsCode}
 use Rattle.fence_law.proofs.Words.{updated_at, updated_other, updated_read}

@@ -5,7 +5,7 @@ use Rattle.fence_law.specs.Words.{updated}
 use Rattle.fence_law.specs.State.{Grant}
 use Rattle.fence_law.specs.Machine.{Lawful, after_all, new_file_state}
 use Rattle.fence_law.specs.State.{PartState}
-use Rattle.fence_law.specs.Machine.{only}
+use Rattle.fence_law.specs.Columns.{only}
 use Rattle.fence_law.specs.State.PartState.{NotSent, Sent, Done}
 use Rattle.fence_law.specs.Runs.{reported, lease, first_cells, tripled, copied_on, IsMeantThen, never}
 use Rattle.fence_law.proofs.Words.{updated_at, updated_other, updated_read}

@@ -5,7 +5,8 @@ use Rattle.std.proofs.lemmas.Bool.{cases_eq, true≢false}
 use Rattle.std.proofs.lemmas.Option.{same_Some}
 use Rattle.fence_law.specs.Words.{updated, In}
 use Rattle.fence_law.specs.State.{State, Event, Grant, Write, Start}
-use Rattle.fence_law.specs.Machine.{Allowed, after, granted, written_start, read_start, repair_start, rebuilt_start}
+use Rattle.fence_law.specs.Starts.{granted, written_start, read_start, repair_start, rebuilt_start}
+use Rattle.fence_law.specs.Machine.{Allowed, after}
 use Rattle.fence_law.specs.State.Event.{Asks, Grants, Refuses, Takes, AsksOther, ServesOther, GivesBack, Reports, Forgets, Frees, SetsTag, Sends, StartsWrite, StartsRead, Drops, Repairs, Rebuilds, TakesRefusal, Leaves}
 use Rattle.fence_law.proofs.Words.{updated_at, updated_other, updated_read}
 use Rattle.fence_law.proofs.Tags.{Tags}

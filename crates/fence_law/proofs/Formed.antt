@@ -4,12 +4,14 @@ use Rattle.std.proofs.Common.{◌≡◌, ℕ, ◌+◌, ◌<◌, ◌≤◌, Bool,
 use Rattle.std.proofs.lemmas.Bool.{false_from_ne_true, eqb-false, true≢false}
 use Rattle.fence_law.specs.Words.{updated}
 use Rattle.fence_law.specs.State.{State, Event, Grant, Call, Start}
-use Rattle.fence_law.specs.Machine.{Allowed, after, granted, written_start, read_start, repair_start, rebuilt_start, spans, overlaid, only}
+use Rattle.fence_law.specs.Columns.{spans, overlaid, only}
+use Rattle.fence_law.specs.Starts.{granted, written_start, read_start, repair_start, rebuilt_start}
+use Rattle.fence_law.specs.Machine.{Allowed, after}
 use Rattle.fence_law.specs.State.Call.{Idle, Writes, Reads, Broken}
 use Rattle.fence_law.specs.State.Event.{Grants, Reports, Forgets, Frees, Fenced, Refenced, StartsWrite, StartsRead, Acknowledges, Breaks, Answers, EndsRead, Fails, Drops, Declares, Repairs, Repaired, Rebuilds, TakesRefusal, Loses, Leaves}
 use Rattle.fence_law.specs.Log.{gives}
 use Rattle.fence_law.specs.Law.{byte_before}
-use Rattle.fence_law.specs.Machine.{AreBytes}
+use Rattle.fence_law.specs.Columns.{AreBytes}
 use Rattle.fence_law.proofs.Chains.{chain_low}
 use Rattle.fence_law.proofs.Words.{up_on, updated_other, updated_read, updated_same}
 use Rattle.fence_law.proofs.Holds.{Holds}

@@ -5,7 +5,8 @@ use Rattle.std.proofs.lemmas.Bool.{cases_Bool, false_from_ne_true, eq-eqb, cases
 use Rattle.fence_law.specs.Words.{updated, over}
 use Rattle.std.proofs.Common.{cond}
 use Rattle.fence_law.specs.State.{State, Event, Write, Call, Start}
-use Rattle.fence_law.specs.Machine.{Allowed, after, written_start, read_start, repair_start, rebuilt_start, performed}
+use Rattle.fence_law.specs.Starts.{written_start, read_start, repair_start, rebuilt_start, performed}
+use Rattle.fence_law.specs.Machine.{Allowed, after}
 use Rattle.fence_law.specs.State.Call.{Idle, Writes, Reads, Broken}
 use Rattle.fence_law.specs.State.Event.{Grants, Reports, Forgets, Fenced, Refenced, StartsWrite, StartsRead, Performs, Acknowledges, Breaks, Answers, EndsRead, Repairs, Repaired, Rebuilds, TakesRefusal, Loses, PerformsLost}
 use Rattle.fence_law.specs.Law.{chain, byte_before, cell_before, IsCode}

@@ -10,7 +10,9 @@ use Rattle.file_log.specs.declared.entry.Entry.TheVariants.{Write, Read}
 use Rattle.file_log.specs.Judge.{Candidates, new_file, byte_for, settled, taken_byte, given, sizes_after, after_entry, Fits, AcceptsFrom, candidates_from, candidates}
 use Rattle.fence_law.specs.Words.{updated, In, over}
 use Rattle.fence_law.specs.State.{State, Layout, Event, Start}
-use Rattle.fence_law.specs.Machine.{Allowed, Lawful, after, after_all, new_file_state, written_start, read_start, repair_start, rebuilt_start, Agrees, spans}
+use Rattle.fence_law.specs.Columns.{Agrees, spans}
+use Rattle.fence_law.specs.Starts.{written_start, read_start, repair_start, rebuilt_start}
+use Rattle.fence_law.specs.Machine.{Allowed, Lawful, after, after_all, new_file_state}
 use Rattle.fence_law.specs.State.Call.{Reads}
 use Rattle.fence_law.specs.State.Event.{StartsWrite, StartsRead, Acknowledges, Answers, Repairs, Repaired, Rebuilds}
 use Rattle.fence_law.specs.Log.{gives, SameAnswer, IsEntry, IsLog}

@@ -5,7 +5,8 @@ use Rattle.std.proofs.lemmas.Bool.{false_from_ne_true, cases_Bool, eqb-true, cas
 use Rattle.std.proofs.lemmas.Option.{same_Some}
 use Rattle.fence_law.specs.Words.{updated}
 use Rattle.fence_law.specs.State.{State, Event, Grant, Start}
-use Rattle.fence_law.specs.Machine.{Allowed, after, written_start, read_start, repair_start, rebuilt_start}
+use Rattle.fence_law.specs.Starts.{written_start, read_start, repair_start, rebuilt_start}
+use Rattle.fence_law.specs.Machine.{Allowed, after}
 use Rattle.fence_law.specs.State.Call.{Idle, Reads}
 use Rattle.fence_law.specs.State.Event.{Fenced, Refenced, StartsWrite, StartsRead, Acknowledges, Repairs, Repaired, Rebuilds}
 use Rattle.fence_law.specs.Law.{IsUnsettled}

@@ -5,7 +5,8 @@ use Rattle.std.proofs.lemmas.Bool.{cases_eq, true≢false}
 use Rattle.std.proofs.lemmas.Option.{same_Some}
 use Rattle.fence_law.specs.Words.{updated, In}
 use Rattle.fence_law.specs.State.{State, Event, RequestKind, Grant, Call, Start}
-use Rattle.fence_law.specs.Machine.{Allowed, after, granted, written_start, read_start, repair_start, rebuilt_start}
+use Rattle.fence_law.specs.Starts.{granted, written_start, read_start, repair_start, rebuilt_start}
+use Rattle.fence_law.specs.Machine.{Allowed, after}
 use Rattle.fence_law.specs.State.RequestKind.{Get, Return}
 use Rattle.fence_law.specs.State.Call.{Idle, Writes, Reads, Broken}
 use Rattle.fence_law.specs.State.Event.{Asks, Grants, Refuses, Takes, AsksOther, ServesOther, GivesBack, Reports, Forgets, Frees, Fenced, Refenced, StartsWrite, StartsRead, Acknowledges, Breaks, Answers, EndsRead, Repairs, Rebuilds, TakesRefusal, Leaves}

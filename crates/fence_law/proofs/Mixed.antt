@@ -4,7 +4,9 @@ use Rattle.std.proofs.Common.{◌≡◌, ℕ, ◌+◌, Bool, true, false, ◌&&�
 use Rattle.std.proofs.lemmas.Bool.{cases_Bool, and_right, eq-eqb, cases_eq, true≢false}
 use Rattle.fence_law.specs.Words.{updated, over}
 use Rattle.fence_law.specs.State.{State, Write, Start}
-use Rattle.fence_law.specs.Machine.{Allowed, after, repair_start, rebuilt_start, performed, overlaid, only}
+use Rattle.fence_law.specs.Columns.{overlaid, only}
+use Rattle.fence_law.specs.Starts.{repair_start, rebuilt_start, performed}
+use Rattle.fence_law.specs.Machine.{Allowed, after}
 use Rattle.fence_law.specs.State.Event.{Performs, Acknowledges, Repairs, Rebuilds}
 use Rattle.fence_law.specs.Law.{byte_before, cell_before, IsCode}
 use Rattle.fence_law.proofs.Words.{updated_at, updated_other, updated_same}

@@ -4,7 +4,8 @@ use Rattle.std.proofs.Common.{◌≡◌, ℕ, ◌<◌, ◌≤◌, Bool, true, fa
 use Rattle.std.proofs.lemmas.Bool.{true_from_ne_false, cases_eq, true≢false}
 use Rattle.fence_law.specs.Words.{updated, In}
 use Rattle.fence_law.specs.State.{State, Event, Grant, Write, WriteReply, Call, PartState, Start}
-use Rattle.fence_law.specs.Machine.{Allowed, after, written_start, read_start, repair_start, rebuilt_start}
+use Rattle.fence_law.specs.Starts.{written_start, read_start, repair_start, rebuilt_start}
+use Rattle.fence_law.specs.Machine.{Allowed, after}
 use Rattle.fence_law.specs.State.Call.{Idle, Writes, Reads, Broken}
 use Rattle.fence_law.specs.State.PartState.{NotSent, Sent, Done}
 use Rattle.fence_law.specs.State.Event.{Reports, Forgets, Fenced, Refenced, Sends, StartsWrite, StartsRead, Performs, Learns, Acknowledges, Breaks, Answers, EndsRead, Repairs, Rebuilds, TakesRefusal, Loses, Leaves, PerformsLost, Grants, Repaired, Frees}

@@ -5,10 +5,11 @@ use Rattle.std.proofs.lemmas.Bool.{and_parts, eq-eqb, eqb-true, true≢false}
 use Rattle.std.proofs.lemmas.Option.{same_Some}
 use Rattle.fence_law.specs.Words.{updated, over}
 use Rattle.fence_law.specs.State.{State, Event}
-use Rattle.fence_law.specs.Machine.{spans, Lawful, after, after_all, Short}
+use Rattle.fence_law.specs.Columns.{spans, Short}
+use Rattle.fence_law.specs.Machine.{Lawful, after, after_all}
 use Rattle.fence_law.specs.State.Event.{Fenced, Fails, Drops, Rebuilds, Loses}
 use Rattle.fence_law.specs.State.{PartState}
-use Rattle.fence_law.specs.Machine.{only}
+use Rattle.fence_law.specs.Columns.{only}
 use Rattle.fence_law.specs.State.PartState.{NotSent, Sent, Done}
 use Rattle.fence_law.specs.Law.{IsCode, Calms}
 use Rattle.fence_law.specs.Runs.{among, at_first, byte, file, nothing, first_cells, doubles, doubled, tripled, CalmsNow}

@@ -5,7 +5,9 @@ use Rattle.std.proofs.lemmas.Bool.{true_from_ne_false, eqb-true, cases_eq, trueâ
 use Rattle.std.proofs.lemmas.Option.{same_Some}
 use Rattle.fence_law.specs.Words.{updated, over}
 use Rattle.fence_law.specs.State.{State, Event, Grant, ReadReply, Call, Start}
-use Rattle.fence_law.specs.Machine.{Allowed, after, written_start, read_start, repair_start, rebuilt_start, overlaid, only, payload, Agrees}
+use Rattle.fence_law.specs.Columns.{overlaid, only, payload, Agrees}
+use Rattle.fence_law.specs.Starts.{written_start, read_start, repair_start, rebuilt_start}
+use Rattle.fence_law.specs.Machine.{Allowed, after}
 use Rattle.fence_law.specs.State.Call.{Idle, Writes, Reads, Broken}
 use Rattle.fence_law.specs.State.Event.{Reports, Forgets, StartsWrite, StartsRead, Acknowledges, Breaks, Answers, EndsRead, Shows, Repairs, Repaired, Rebuilds, TakesRefusal}
 use Rattle.fence_law.specs.Law.{byte_before, IsCode}

@@ -4,7 +4,9 @@ use Rattle.std.proofs.Common.{◌≡◌, ℕ, ◌+◌, ◌≤◌, Bool, true, fa
 use Rattle.std.proofs.lemmas.Bool.{cases_Bool, eq-eqb, cases_eq, true≢false}
 use Rattle.fence_law.specs.Words.{updated, over}
 use Rattle.fence_law.specs.State.{State, Event, Grant, Write, Start}
-use Rattle.fence_law.specs.Machine.{Allowed, after, written_start, read_start, repair_start, rebuilt_start, performed, only, Untouched, Disturbed}
+use Rattle.fence_law.specs.Columns.{only, Untouched, Disturbed}
+use Rattle.fence_law.specs.Starts.{written_start, read_start, repair_start, rebuilt_start, performed}
+use Rattle.fence_law.specs.Machine.{Allowed, after}
 use Rattle.fence_law.specs.State.Call.{Idle, Reads}
 use Rattle.fence_law.specs.State.Event.{Grants, Fenced, StartsWrite, StartsRead, Performs, Acknowledges, Repairs, Repaired, Rebuilds, Loses}
 use Rattle.fence_law.specs.Law.{byte_before, cell_before, IsCode}

@@ -4,7 +4,8 @@ use Rattle.file_log.specs.declared.entry.Entry.{Entry}
 use Rattle.file_log.specs.Judge.{Accepts, candidates}
 use Rattle.fence_law.specs.Words.{In, over}
 use Rattle.fence_law.specs.State.{State, Layout, Event, Write, Grant}
-use Rattle.fence_law.specs.Machine.{Lawful, after, after_all, new_file_state, IsCalm, Disturbed, Short, Allowed, Agrees, AreBytes, Stood}
+use Rattle.fence_law.specs.Columns.{IsCalm, Disturbed, Short, Agrees, AreBytes, Stood}
+use Rattle.fence_law.specs.Machine.{Lawful, after, after_all, new_file_state, Allowed}
 use Rattle.fence_law.specs.State.Call.{Reads}
 use Rattle.fence_law.specs.State.Commit.{CommitDone}
 use Rattle.fence_law.specs.State.Event.{Performs, Shows, Fenced, Refenced, Repaired}

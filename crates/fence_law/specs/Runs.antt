@@ -1,7 +1,8 @@
 -- Short runs of two small files.
 use Rattle.std.specs.Prelude.{◌≡◌, ℕ, zero, suc, ◌+◌, ◌<◌, ◌≤◌, Bool, true, false, ◌==◌, ◌&&◌, List, [], ◌∷◌, Option, Some, None}
 use Rattle.fence_law.specs.State.{State, Layout, Event, Grant, Write}
-use Rattle.fence_law.specs.Machine.{Lawful, after, after_all, new_file_state, Stands, Short}
+use Rattle.fence_law.specs.Columns.{Stands, Short}
+use Rattle.fence_law.specs.Machine.{Lawful, after, after_all, new_file_state}
 use Rattle.fence_law.specs.State.Event.{Asks, Grants, Takes, AsksOther, ServesOther, TakesOther, Fences, SetsTag, Fenced, Refenced, StartsWrite, Sends, Performs, Learns, Acknowledges, StartsRead, Shows, Answers, Fails, AsksCommit, Commits, TakesCommit, Repairs, Repaired, Tells, Loses, Leaves, PerformsLost}
 use Rattle.fence_law.specs.Law.{IsCode}
 use Rattle.fence_law.specs.Words.{updated}
