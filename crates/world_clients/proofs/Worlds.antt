@@ -1,5 +1,5 @@
 -- The clients by number are those of the world.
-use Rattle.std.proofs.Common.{◌≡◌, ℕ, Bool, true, false, ◌||◌, ◌&&◌, not, List, [], ◌∷◌, ◌++◌, map, Option, Some, None, refl, sym, ap, ◌∙◌}
+use Rattle.std.proofs.Common.{◌≡◌, ℕ, Bool, true, false, ◌||◌, ◌&&◌, not, List, [], ◌∷◌, ◌++◌, map, filter, Option, Some, None, refl, sym, ap, ◌∙◌}
 use Rattle.std.specs.Prelude.{Result, Ok, Err, is_some, if◌then◌else◌}
 use Rattle.std.specs.List.{list_any}
 use Rattle.std.specs.Option.{option_map}
@@ -24,15 +24,15 @@ use Rattle.world_history.specs.declared.messages.Message.{Message}
 use Rattle.world_history.specs.State.{ClientAt, World, at_number, with_number}
 use Rattle.world_history.specs.Spelled.{spelled, party_of}
 use Rattle.world_history.specs.Told.{kind_of, told_outcome}
-use Rattle.world_history.specs.Handed.{Post, Handed, quiet, client_hears, client_takes, for_client, client_goes, client_did, client_body, client_post, client_posts, is_write_out, ended_by, op_in, wrote_in, data_in, pending_op}
+use Rattle.world_history.specs.Handed.{Post, Handed, is_addressed, quiet, client_hears, client_takes, for_client, client_goes, client_did, client_body, client_post, client_posts, is_write_out, ended_by, op_in, wrote_in, data_in, pending_op}
 use Rattle.world_history.specs.Moves.{Act as Move, acted as acts_as, behind as behind_there, tells, by_client, called as called_there, calls_at, times_out as times_out_at, resends as resends_at, leaves as leaves_at, pends as pends_at, pends_as, stops}
 use Rattle.world_words.specs.declared.acts.Act.{Act}
-use Rattle.world_words.specs.Acts.{IsAct, IsHanded, nothing}
-use Rattle.world_words.specs.Names.{is_named, is_tellable, named_party, known_outcome}
-use Rattle.world_clients.specs.Posting.{is_write, logged_with, posting, posting_to, postings}
+use Rattle.world_words.specs.Acts.{IsAct, IsDone, IsHanded, nothing}
+use Rattle.world_history.specs.Names.{where_known, is_named}
+use Rattle.world_clients.specs.Posting.{logged_with, posting, posting_to, postings}
 use Rattle.world_clients.specs.Client.{data_of_call, ended, Acted, acted, goes_on, behind, only_tells, called_by, called, heard, timed_out, resends, returned, left, pending_told}
 use Rattle.world_clients.specs.Clients.{Table, Did, did_at, did_by, is_deaf, takes, heard_one, heard_at, heard_by, pends_in, stopped_if}
-use Rattle.world_clients.specs.Laws.{with_clients, AreNamed, IsTellable, CanTell, IsDone, IsDid, ClientsHear, ClientsCall, ClientsTimeOut, ClientsResend, ClientsLeave, ClientsPend, ClientsStop}
+use Rattle.world_clients.specs.Laws.{with_clients, IsDid, ClientsHear, ClientsCall, ClientsTimeOut, ClientsResend, ClientsLeave, ClientsPend, ClientsStop}
 use Rattle.world_clients.proofs.Writes.{written, any_written}
 
 -- ---- what is sent
@@ -42,37 +42,57 @@ body_spelled (AnswersRecall a) = refl
 body_spelled (Asks r) = refl
 body_spelled (ToDrive d c) = refl
 
-one_named : (c logged : ℕ) (o : Outgoing) → is_named (receiver o) ≡ true
-    → posting c logged (sent_of o) ≡ posting_of (client_post c logged o) ∷ []
-one_named c logged o n = rw (n, body_spelled o) refl
+one_if : (named : Bool) (c logged : ℕ) (o : Outgoing) → spelled (client_body o) ≡ bytes_of o
+    → posting_to c logged (bytes_of o) (where_known named (party_of (receiver o)))
+    ≡ map posting_of (if named then client_post c logged o ∷ [] else [])
+one_if true c logged o e = rw e refl
+one_if false c logged o e = refl
+
+one_posted : (c logged : ℕ) (o : Outgoing)
+    → posting c logged (sent_of o) ≡ map posting_of (filter is_addressed (client_post c logged o ∷ []))
+one_posted c logged o = one_if (is_named (receiver o)) c logged o (body_spelled o)
 
 same_logged : (x y wrote : Bool) (logged : ℕ) → x ≡ y
     → logged_with x wrote logged ≡ (if y && not wrote then logged else 0)
 same_logged x y wrote logged e = rw e refl
 
-pub posts_named : (c : ℕ) (wrote : Bool) (logged : ℕ) (os : List Outgoing) → AreNamed os
-    → postings c wrote logged (sents os) ≡ map posting_of (client_posts c wrote logged os)
-posts_named c wrote logged [] n = refl
-posts_named c wrote logged (o ∷ os) n =
-    let here : posting c (logged_with (is_write_out o) wrote logged) (sent_of o) ≡ posting_of (client_post c (logged_with (is_write_out o) wrote logged) o) ∷ [] = one_named c (logged_with (is_write_out o) wrote logged) o n.0 in
-    rw (written o, here, posts_named c (wrote || is_write_out o) logged os n.1) refl
+posted_if : (sent : Bool) (p : Post) (ps : List Post)
+    → map posting_of (if sent then p ∷ [] else []) ++ map posting_of ps ≡ map posting_of (if sent then p ∷ ps else ps)
+posted_if true p ps = refl
+posted_if false p ps = refl
+
+-- the messages that are sent in front of others
+posted_on : (p : Post) (ps : List Post) (xs ys : List Posting) → xs ≡ map posting_of (filter is_addressed (p ∷ []))
+    → ys ≡ map posting_of (filter is_addressed ps) → xs ++ ys ≡ map posting_of (filter is_addressed (p ∷ ps))
+posted_on p ps xs ys e f = rw (e, f) (posted_if (is_addressed p) p (filter is_addressed ps))
+
+pub posts_sent : (c : ℕ) (wrote : Bool) (logged : ℕ) (os : List Outgoing)
+    → postings c wrote logged (sents os) ≡ map posting_of (filter is_addressed (client_posts c wrote logged os))
+posts_sent c wrote logged [] = refl
+posts_sent c wrote logged (o ∷ os) =
+    rw (written o) (posted_on (client_post c (logged_with (is_write_out o) wrote logged) o)
+    (client_posts c (wrote || is_write_out o) logged os)
+    (posting c (logged_with (is_write_out o) wrote logged) (sent_of o))
+    (postings c (wrote || is_write_out o) logged (sents os))
+    (one_posted c (logged_with (is_write_out o) wrote logged) o)
+    (posts_sent c (wrote || is_write_out o) logged os))
 
 -- ---- what is told
 
-end_told : (c : ℕ) (op : Option CallOp) (o : Option Outcome) → IsTellable o
+end_told : (c : ℕ) (op : Option CallOp) (o : Option Outcome)
     → ended c (option_map data_of_call op) o ≡ ended_by c op o
-end_told c None None t = refl
-end_told c None (Some o) t = refl
-end_told c (Some op) None t = refl
-end_told c (Some op) (Some o) t = rw t refl
+end_told c None None = refl
+end_told c None (Some o) = refl
+end_told c (Some op) None = refl
+end_told c (Some op) (Some o) = refl
 
 -- ---- a step
 
-did_act : (w : World) (c : ℕ) (a : ClientAt) (i : Input) (s : Step) → CanTell s
+did_act : (w : World) (c : ℕ) (a : ClientAt) (i : Input) (s : Step)
     → IsAct (client_did w c a i s).told (client_did w c a i s).posts (acted c a (op_in a.state i) (wrote_in a i) s).act
-did_act w c a i s t = record {
-  lines = end_told c (op_in a.state i) s.outcome t.tellable;
-  sends = posts_named c (wrote_in a i) (data_in (op_in a.state i)) s.sends t.named;
+did_act w c a i s = record {
+  lines = end_told c (op_in a.state i) s.outcome;
+  sends = posts_sent c (wrote_in a i) (data_in (op_in a.state i)) s.sends;
 }
 
 did_world : (w : World) (c : ℕ) (a : ClientAt) (i : Input) (s : Step)
@@ -99,80 +119,73 @@ nothing_ended c (Some op) = refl
 -- ---- a message
 
 takes_by : (w : World) (c : ℕ) (m : Message) (a : ClientAt) (o : Option ClientMessage) → at_number w.clients c ≡ Some a
-    → CanTell (on_message_in a.state m.from o)
     → IsHanded (client_takes w c a m.from o)
     (with_clients w (heard_at w.clients c (takes (goes_on c a (on_message_in a.state m.from o)))).clients)
     (takes (goes_on c a (on_message_in a.state m.from o))).handed
-takes_by w c m a None f t = record {
+takes_by w c m a None f = record {
   world = stays w c a (goes_on c a (still a.state)).client (still_same c a) f;
   receipt = refl;
   act = record { lines = nothing_ended c (pending_op a.state); sends = refl };
 }
-takes_by w c m a (Some x) f t = record {
+takes_by w c m a (Some x) f = record {
   world = did_world w c a (Hears m.from x) (hears a.state m.from x);
   receipt = refl;
-  act = did_act w c a (Hears m.from x) (hears a.state m.from x) t;
+  act = did_act w c a (Hears m.from x) (hears a.state m.from x);
 }
 
 hears_if : (b : Bool) (w : World) (c : ℕ) (m : Message) (a : ClientAt) (o : Option ClientMessage)
-    → at_number w.clients c ≡ Some a → CanTell (on_message_in a.state m.from o)
+    → at_number w.clients c ≡ Some a
     → IsHanded (if b then quiet w delivery.Deaf else client_takes w c a m.from o)
     (with_clients w (heard_at w.clients c (if b then record { client = a; handed = is_deaf } else takes (goes_on c a (on_message_in a.state m.from o)))).clients)
     (if b then record { client = a; handed = is_deaf } else takes (goes_on c a (on_message_in a.state m.from o))).handed
-hears_if true w c m a o f t = record {
+hears_if true w c m a o f = record {
   world = stays w c a a refl f;
   receipt = refl;
   act = record { lines = refl; sends = refl };
 }
-hears_if false w c m a o f t = takes_by w c m a o f t
+hears_if false w c m a o f = takes_by w c m a o f
 
 hears_by : (w : World) (c : ℕ) (m : Message) (o : Option ClientAt) → at_number w.clients c ≡ o
-    → message_in m.from (spelled m.body) ≡ for_client m.body
-    → ((a : ClientAt) → o ≡ Some a → CanTell (on_bytes a.state m.from (spelled m.body)))
     → IsHanded (client_hears w c m o) (with_clients w (heard_by w.clients c m.from (spelled m.body) o).clients)
     (heard_by w.clients c m.from (spelled m.body) o).handed
-hears_by w c m None f e t = record { world = refl; receipt = refl; act = record { lines = refl; sends = refl } }
-hears_by w c m (Some a) f e t =
-    rw e (hears_if a.stopped w c m a (for_client m.body) f (rw e at t a refl))
+hears_by w c m None f = record { world = refl; receipt = refl; act = record { lines = refl; sends = refl } }
+hears_by w c m (Some a) f = hears_if a.stopped w c m a (for_client m) f
 
 pub clients_hear : ClientsHear
-clients_hear w c m e t = hears_by w c m (at_number w.clients c) refl e t
+clients_hear w c m = hears_by w c m (at_number w.clients c) refl
 
 -- ---- calls, timeouts, and what else comes
 
-goes_done : (w : World) (c : ℕ) (a : ClientAt) (i : Input) (s : Step) → CanTell s
+goes_done : (w : World) (c : ℕ) (a : ClientAt) (i : Input) (s : Step)
     → IsDone (record { world = (client_did w c a i s).world; told = (client_did w c a i s).told; posts = (client_did w c a i s).posts })
     (with_clients w (with_number w.clients c (acted c a (op_in a.state i) (wrote_in a i) s).client))
     (acted c a (op_in a.state i) (wrote_in a i) s).act
-goes_done w c a i s t = record { world = did_world w c a i s; act = did_act w c a i s t }
+goes_done w c a i s = record { world = did_world w c a i s; act = did_act w c a i s }
 
 only_told : (w : World) (c : ℕ) (a : ClientAt) (l : Line) → at_number w.clients c ≡ Some a
     → IsDid w (record { world = w; told = l ∷ []; posts = [] }) (did_at w.clients c (only_tells a l))
 only_told w c a l f = record { world = stays w c a a refl f; act = record { lines = refl; sends = refl } }
 
 calls_with : (w : World) (c : ℕ) (op : CallOp) (a : ClientAt) (r : Result Step CallErr) → at_number w.clients c ≡ Some a
-    → ((s : Step) → r ≡ Ok s → CanTell s)
     → IsDid w (called_there w c a op r) (did_at w.clients c (called_by c a op r))
-calls_with w c op a (Err e) f t = only_told w c a _ f
-calls_with w c op a (Ok s) f t = goes_done w c a (Calls op) s (t s refl)
+calls_with w c op a (Err e) f = only_told w c a _ f
+calls_with w c op a (Ok s) f = goes_done w c a (Calls op) s
 
 calls_by : (w : World) (c : ℕ) (op : CallOp) (o : Option ClientAt) → at_number w.clients c ≡ o
-    → ((a : ClientAt) (s : Step) → o ≡ Some a → calls a.state op ≡ Ok s → CanTell s)
     → IsDid w (by_client w (λ a. called_there w c a op (calls a.state op)) o) (did_by w.clients c (called c op) o)
-calls_by w c op None f t = record { world = refl; act = record { lines = refl; sends = refl } }
-calls_by w c op (Some a) f t = calls_with w c op a (calls a.state op) f (λ s e. t a s refl e)
+calls_by w c op None f = record { world = refl; act = record { lines = refl; sends = refl } }
+calls_by w c op (Some a) f = calls_with w c op a (calls a.state op) f
 
 pub clients_call : ClientsCall
 unfolding calls_at
-clients_call w c op t = calls_by w c op (at_number w.clients c) refl t
+clients_call w c op = calls_by w c op (at_number w.clients c) refl
 
 times_by : (w : World) (c k : ℕ) (o : Option ClientAt) → at_number w.clients c ≡ o
-    → ((a : ClientAt) → o ≡ Some a → CanTell (times_out a.state k))
     → IsDid w (by_client w (λ a. behind_there (line.TimedOut c k) (client_goes w c a (TimesOut k))) o)
     (did_by w.clients c (timed_out c k) o)
-times_by w c k None f t = record { world = refl; act = record { lines = refl; sends = refl } }
-times_by w c k (Some a) f t =
-    let step = did_act w c a (TimesOut k) (times_out a.state k) (t a refl) in
+times_by w c k None f = record { world = refl; act = record { lines = refl; sends = refl } }
+times_by w c k (Some a) f =
+    let step = did_act w c a (TimesOut k) (times_out a.state k) in
     record {
       world = did_world w c a (TimesOut k) (times_out a.state k);
       act = record {
@@ -183,51 +196,48 @@ times_by w c k (Some a) f t =
 
 pub clients_time_out : ClientsTimeOut
 unfolding times_out_at
-clients_time_out w c k t = times_by w c k (at_number w.clients c) refl t
+clients_time_out w c k = times_by w c k (at_number w.clients c) refl
 
 resends_by : (w : World) (c : ℕ) (o : Option ClientAt) → at_number w.clients c ≡ o
-    → ((a : ClientAt) → o ≡ Some a → CanTell (record (still a.state) { sends = resent a.state }))
     → IsDid w (by_client w (λ a. acts_as (client_goes w c a Resends)) o) (did_by w.clients c (resends c) o)
-resends_by w c None f t = record { world = refl; act = record { lines = refl; sends = refl } }
-resends_by w c (Some a) f t = goes_done w c a Resends (record (still a.state) { sends = resent a.state }) (t a refl)
+resends_by w c None f = record { world = refl; act = record { lines = refl; sends = refl } }
+resends_by w c (Some a) f = goes_done w c a Resends (record (still a.state) { sends = resent a.state })
 
 pub clients_resend : ClientsResend
 unfolding resends_at
-clients_resend w c t = resends_by w c (at_number w.clients c) refl t
+clients_resend w c = resends_by w c (at_number w.clients c) refl
 
 none_pending : (o : Option Call) → is_some o ≡ false → option_map (λ (call : Call). call.op) o ≡ None
 none_pending None e = refl
 none_pending (Some call) e = absurd (cc e)
 
-returns_done : (w : World) (c : ℕ) (a : ClientAt) → is_some a.state.call ≡ false → CanTell (leaves a.state)
+returns_done : (w : World) (c : ℕ) (a : ClientAt) → is_some a.state.call ≡ false
     → IsDid w (acts_as (client_goes w c a Leaves)) (did_at w.clients c (returned c a))
-returns_done w c a e t =
+returns_done w c a e =
     let none : pending_op a.state ≡ None = none_pending a.state.call e in
     record {
       world = did_world w c a Leaves (leaves a.state);
       act = record {
         lines = rw none refl;
-        sends = rw none (posts_named c a.wrote 0 (leaves a.state).sends t.named);
+        sends = rw none (posts_sent c a.wrote 0 (leaves a.state).sends);
       };
     }
 
 leaves_if : (b : Bool) (w : World) (c : ℕ) (a : ClientAt) → is_some a.state.call ≡ b → at_number w.clients c ≡ Some a
-    → CanTell (leaves a.state)
     → IsDid w (if b then tells w (line.Refused c refusal.Busy) else acts_as (client_goes w c a Leaves))
     (did_at w.clients c (if b then only_tells a (line.Refused c refusal.Busy) else returned c a))
-leaves_if true w c a e f t = only_told w c a (line.Refused c refusal.Busy) f
-leaves_if false w c a e f t = returns_done w c a e t
+leaves_if true w c a e f = only_told w c a (line.Refused c refusal.Busy) f
+leaves_if false w c a e f = returns_done w c a e
 
 leaves_by : (w : World) (c : ℕ) (o : Option ClientAt) → at_number w.clients c ≡ o
-    → ((a : ClientAt) → o ≡ Some a → CanTell (leaves a.state))
     → IsDid w (by_client w (λ a. if is_some a.state.call then tells w (line.Refused c refusal.Busy)
     else acts_as (client_goes w c a Leaves)) o) (did_by w.clients c (left c) o)
-leaves_by w c None f t = record { world = refl; act = record { lines = refl; sends = refl } }
-leaves_by w c (Some a) f t = leaves_if (is_some a.state.call) w c a refl f (t a refl)
+leaves_by w c None f = record { world = refl; act = record { lines = refl; sends = refl } }
+leaves_by w c (Some a) f = leaves_if (is_some a.state.call) w c a refl f
 
 pub clients_leave : ClientsLeave
 unfolding leaves_at
-clients_leave w c t = leaves_by w c (at_number w.clients c) refl t
+clients_leave w c = leaves_by w c (at_number w.clients c) refl
 
 pends_op : (w : World) (c : ℕ) (op : Option CallOp) → IsDone (pends_as w c op) w (pending_told c op)
 pends_op w c None = record { world = refl; act = record { lines = refl; sends = refl } }

@@ -11,17 +11,16 @@ use Rattle.client_state.specs.Sending.{spelled}
 use Rattle.scenario_text.specs.declared.line.CallKind.{CallKind}
 use Rattle.scenario_text.specs.declared.line.Line.{Line}
 use Rattle.scenario_text.specs.declared.line.Line.TheVariants as line
-use Rattle.scenario_text.specs.declared.line.Outcome.{Outcome as ToldOutcome}
 use Rattle.scenario_text.specs.declared.line.Outcome.TheVariants as outcome
 use Rattle.scenario_text.specs.declared.line.Ending.TheVariants as ending
 use Rattle.scenario_text.specs.declared.line.Refusal.TheVariants as refusal
 use Rattle.world_history.specs.ClientNames.{CallOp, CallErr, Outcome}
 use Rattle.world_history.specs.State.{ClientAt}
 use Rattle.world_history.specs.Told.{kind_of, told_refusal}
-use Rattle.world_history.specs.Handed.{pending_op, data_in}
+use Rattle.world_history.specs.Handed.{end_line, pending_op, data_in}
 use Rattle.world_words.specs.declared.acts.Act.{Act}
 use Rattle.world_words.specs.Acts.{nothing, line_alone}
-use Rattle.world_words.specs.Names.{known_outcome}
+use Rattle.world_history.specs.Names.{known_outcome}
 use Rattle.world_clients.specs.declared.client.CallData.{CallData}
 use Rattle.world_clients.specs.Posting.{is_write, postings}
 
@@ -35,11 +34,6 @@ data_of_call op = record { kind = kind_of op; bytes = data_in (Some op) }
 abbrev pub bytes_in : Option CallData → ℕ
 bytes_in None = 0
 bytes_in (Some d) = d.bytes
-
--- the line of an end that can be told
-abbrev pub end_line : (client : ℕ) → Option ToldOutcome → List Line
-end_line c None = []
-end_line c (Some o) = line.Ended c o ∷ []
 
 -- how a call of that kind ended, as a line, where it did
 abbrev pub ended : (client : ℕ) → Option CallData → Option Outcome → List Line

@@ -9,7 +9,7 @@ use Rattle.scenario_text.specs.declared.line.Party.{Party}
 use Rattle.scenario_text.specs.declared.line.Party.TheVariants as party
 use Rattle.client_state.specs.declared.sending.Sent.{Sent}
 use Rattle.world_network.specs.declared.posting.Posting.{Posting}
-use Rattle.world_words.specs.Names.{named_party}
+use Rattle.world_history.specs.Names.{named_party}
 use Rattle.world_clients.specs.declared.posting.TheConstants.{ACTION_AT, ACTION_END}
 
 -- bytes have the number of a WRITE where a command has that of its action

@@ -1,8 +1,7 @@
 // What the clients do is what the world does, for the crates above.
 ghost use Rattle.world_clients.specs.Laws.{ClientsHear, ClientsCall, ClientsTimeOut, ClientsResend, ClientsLeave, ClientsPend, ClientsStop};
 
-/// A client does what the client of the world does: with a message, where its bytes are read as what it says, and at a
-/// call, a timeout and each other input; where a line can name all to whom it sends, and can tell how its call ended.
+/// A client does what the client of the world does: with a message, and at a call, a timeout and each other input.
 pub fn clients_are_the_worlds()
     ensures hear { ClientsHear }
     ensures call { ClientsCall }

@@ -1,14 +1,11 @@
 -- What the drives of the code do is what the world does.
-use Rattle.std.specs.Prelude.{ℕ, List, ◌≡◌, Option, Some, None, Result, Ok, Err}
-use Rattle.osd_commands.specs.declared.commands.Command.{Command}
-use Rattle.osd_commands.specs.declared.commands.CommandErr.{CommandErr}
+use Rattle.std.specs.Prelude.{ℕ, List, ◌≡◌, Option, Some, None}
 use Rattle.osd_commands.specs.Commands as commands
 use Rattle.scenario_text.specs.declared.line.Verdict.{Verdict}
 use Rattle.scenario_text.specs.declared.line.Line.TheVariants as line
 use Rattle.world_history.specs.declared.messages.Message.{Message}
 use Rattle.world_history.specs.State.{DriveAt, World, at_number}
 use Rattle.world_history.specs.Spelled.{spelled, party_of}
-use Rattle.world_history.specs.Drives.{command_in}
 use Rattle.world_history.specs.Handed.{drive_hears}
 use Rattle.world_history.specs.Moves.{Act, changed as only_changed, tells, at_drive, injects}
 use Rattle.world_words.specs.Acts.{IsHanded}
@@ -18,21 +15,12 @@ use Rattle.world_drives.specs.Drives.{Table, changed, Heard, heard, Injected, in
 abbrev pub with_drives : World → Table → World
 with_drives w t = record w { drives = t }
 
--- the command that was read; nothing hangs on why there is none
-abbrev pub command_of : Result Command CommandErr → Option Command
-command_of (Ok c) = Some c
-command_of (Err e) = None
-
--- a message that a drive reads as what it says
-abbrev pub IsRead : Message → Type 0
-IsRead m = command_of (commands.reading (spelled m.body)) ≡ command_of (command_in m.body)
-
 -- what a drive did with the bytes of a message is what the world's does with the message
 abbrev pub IsHeard : World → (drive : ℕ) → Message → Heard → Type 0
 IsHeard w d m h = IsHanded (drive_hears w d m (at_number w.drives d)) (with_drives w h.drives) h.handed
 
 abbrev pub DrivesHear : Type 0
-DrivesHear = (w : World) (d : ℕ) (m : Message) → IsRead m
+DrivesHear = (w : World) (d : ℕ) (m : Message)
     → IsHeard w d m (heard w.drives d (party_of m.from) (commands.reading (spelled m.body)))
 
 -- the verdict on injected bytes has its line, where there is such a drive

@@ -1,5 +1,6 @@
 -- The messages that are read off a history are those of the world that stands for it.
-use Rattle.std.proofs.Common.{◌≡◌, ℕ, zero, suc, ◌+◌, ◌++◌, ◌∷◌, [], List, Bool, true, false, Option, Some, None, is_some, Result, Ok, Err, length, map, fold, slice_get, slice_set, refl, sym, ap, ◌∙◌, append_assoc, if◌then◌else◌}
+use Rattle.std.specs.List.{cons_option, filter_map}
+use Rattle.std.proofs.Common.{nat_lt, ◌&&◌, ◌≡◌, ℕ, zero, suc, ◌+◌, ◌++◌, ◌∷◌, [], List, Bool, true, false, Option, Some, None, is_some, Result, Ok, Err, length, map, fold, slice_get, slice_set, refl, sym, ap, ◌∙◌, append_assoc, if◌then◌else◌}
 use Rattle.std.proofs.lemmas.List.{append-nil}
 use Rattle.std.proofs.lemmas.List.Sums.{fold-append}
 use Rattle.osd_bytes.specs.declared.node.Node.{Node}
@@ -22,10 +23,14 @@ use Rattle.scenario_text.specs.declared.line.Line.TheVariants as line
 use Rattle.world_history.specs.ServerNames as server_rules
 use Rattle.world_history.specs.ClientNames as client_rules
 use Rattle.world_history.specs.State.{Message, Posted, DriveAt, ClientAt, Network, World, at_number, and_drive, Sent}
-use Rattle.world_history.specs.Handed.{Post, Handed, note_line, ended_by, server_takes, drive_hears, client_hears, client_takes, for_client, for_server, handed_to, handed, client_goes, op_in, pending_op}
-use Rattle.world_history.specs.Moves.{Act, Action, Opens, Delivers, TimesOut, Pends, by_client, by_drive, at_drive, called, pends_as, made_file, injects_at, delivers_found, delivers, drops_found, marked, op_of, raw_of, calls_at, times_out, leaves, resends, pends, makes, gives, injects, stops, begins, acts, known_drive}
+use Rattle.world_history.specs.Handed.{Post, Handed, end_line, ended_by, server_takes, drive_hears, client_hears, client_takes, for_client, for_server, handed_to, handed, client_goes, op_in, pending_op}
+use Rattle.world_history.specs.Moves.{Act, Action, Opens, Delivers, TimesOut, Pends, by_client, by_drive, at_drive, called, pends_as, made_file, injects_at, delivers_found, delivers, drops_found, marked, op_of, raw_of, calls_at, times_out, leaves, resends, pends, makes, gives, injects, stops, begins, acts, known_drive, has_algorithm, knows_drive, adds_drive}
 use Rattle.world_history.specs.Sending.{move, fresh, sent_lines, sends_all}
 use Rattle.world_history.specs.Plans.{Rule, Alone, Prompt, when_quiet, quiet_at, due_pending, next_pending, due_by}
+use Rattle.scenario_text.specs.declared.line.Outcome.{Outcome}
+use Rattle.scenario_text.specs.declared.names.TheConstants.{FILES}
+use Rattle.world_history.specs.Told.{kind_of}
+use Rattle.world_history.specs.Names.{where_known, note_line, is_tellable_note, known_note_line, known_outcome}
 use Rattle.world_history.specs.Drives.{made_drive, raised, at_time, fallen}
 use Rattle.world_history.specs.Reading.{arrived, left_out, changed_by, changed_at, sent_after, sent_in}
 use Rattle.world_history.specs.Laws.{shown, MessagesAreRead}
@@ -68,14 +73,25 @@ sent_more ss n (p ∷ ps) = sent_more (ss ++ shown (fresh p) ∷ []) (n + 1) ps
 abbrev Quiet : List Line → Type 0
 Quiet ls = (ss : List Sent) → fold sent_after ss ls ≡ ss
 
-quiet_notes : (ns : List server_rules.Note) → Quiet (map note_line ns)
+-- a note in front of quiet lines, where a line can tell it
+quiet_note : (known : Bool) (n : server_rules.Note) (ls : List Line) → Quiet ls
+    → Quiet (cons_option (where_known known (note_line n)) ls)
+quiet_note true n ls q ss = q ss
+quiet_note false n ls q ss = q ss
+
+quiet_notes : (ns : List server_rules.Note) → Quiet (filter_map known_note_line ns)
 quiet_notes [] ss = refl
-quiet_notes (n ∷ ns) ss = quiet_notes ns ss
+quiet_notes (n ∷ ns) ss =
+    quiet_note (nat_lt n.file FILES && is_tellable_note n.kind) n (filter_map known_note_line ns) (quiet_notes ns) ss
+
+quiet_end : (c : ℕ) (o : Option Outcome) → Quiet (end_line c o)
+quiet_end c None ss = refl
+quiet_end c (Some o) ss = refl
 
 quiet_ended : (c : ℕ) (op : Option client_rules.CallOp) (o : Option client_rules.Outcome) → Quiet (ended_by c op o)
 quiet_ended c None o ss = refl
 quiet_ended c (Some op) None ss = refl
-quiet_ended c (Some op) (Some o) ss = refl
+quiet_ended c (Some op) (Some o) ss = quiet_end c (known_outcome (kind_of op) o) ss
 
 -- ---- what a party does
 
@@ -108,7 +124,7 @@ server_hand w chosen from (Some m) = record {
 client_hand : (w : World) (c : ℕ) (a : ClientAt) (from : Node) (m : Option ClientMessage)
     → IsQuietHand w (client_takes w c a from m)
 client_hand w c a from None = record { network = refl; told = λ ss. refl }
-client_hand w c a from (Some m) = record { network = refl; told = quiet_ended c _ _ }
+client_hand w c a from (Some m) = record { network = refl; told = quiet_ended c (pending_op a.state) (client_step a.state (client_input.Hears from m)).outcome }
 
 client_heard : (w : World) (c : ℕ) (m : Message) (a : Option ClientAt) → IsQuietHand w (client_hears w c m a)
 client_heard w c m None = record { network = refl; told = λ ss. refl }
@@ -116,10 +132,10 @@ client_heard w c m (Some a) = either_hand w a.stopped _ _ (record {
   network = refl;
   told =
       λ ss. refl;
-}) (client_hand w c a m.from (for_client m.body))
+}) (client_hand w c a m.from (for_client m))
 
 hand_to : (w : World) (chosen : List ℕ) (m : Message) (to : Node) → IsQuietHand w (handed_to w chosen m to)
-hand_to w chosen m node.Server = server_hand w chosen m.from (for_server m.body)
+hand_to w chosen m node.Server = server_hand w chosen m.from (for_server m)
 hand_to w chosen m (node.Drive d) = drive_hand w d m (at_number w.drives d)
 hand_to w chosen m (node.Client c) = client_heard w c m (at_number w.clients c)
 
@@ -228,7 +244,12 @@ gives_read w chosen i = quiet_notes (server_step w.server chosen i).notes (view 
 makes_read : (w : World) (chosen : List ℕ) (f : ℕ) (m : server_rules.RawMap) (tag : ℕ)
     → Reads w (makes w chosen f m tag)
 unfolding makes
-makes_read w chosen f m tag = made_reads w f (create_file w.server f m tag chosen)
+makes_read w chosen f m tag =
+    either_reads w (has_algorithm m) _ _ (made_reads w f (create_file w.server f m tag chosen)) refl
+
+adds_read : (w : World) (d : ℕ) (key : List ℕ) (capacity : ℕ) → Reads w (adds_drive w d key capacity)
+adds_read w d key capacity =
+    either_reads w (knows_drive w.server d) _ _ refl (gives_read (and_drive w d (made_drive d key capacity)) [] (server_input.Adds (known_drive d key capacity)))
 
 inject_reads : (w : World) (d : ℕ) (bytes : List ℕ) → Reads w (injects w d bytes)
 unfolding injects
@@ -241,8 +262,7 @@ same_network w v e = sym (ap (λ (t : Network). map shown t.messages) e)
 begins_reads : (w : World) (chosen : List ℕ) (e : Event)
     → fold sent_after (sent_after (view w) (line.Event e)) (begins w chosen e).told ≡ view (begins w chosen e).world
 unfolding begins
-begins_reads w chosen (event.Drive d key capacity) =
-    gives_read (and_drive w d (made_drive d key capacity)) [] (server_input.Adds (known_drive d key capacity))
+begins_reads w chosen (event.Drive d key capacity) = adds_read w d key capacity
 begins_reads w chosen (event.Client c) = refl
 begins_reads w chosen (event.File f m tag) = makes_read w chosen f (raw_of m) tag
 begins_reads w chosen (event.Least d format) =

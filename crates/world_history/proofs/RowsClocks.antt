@@ -23,6 +23,7 @@ use Rattle.scenario_text.specs.declared.line.Refusal.TheVariants as refusal
 use Rattle.scenario_text.specs.declared.line.Verdict.TheVariants as verdict
 use Rattle.world_history.proofs.Played.{shown, sent, taken, fails, drive}
 use Rattle.world_history.proofs.Opened.{opened}
+use Rattle.world_history.proofs.OpenedText.{opened_text}
 use Rattle.world_history.proofs.OpenedServer.{opened_server}
 use Rattle.world_history.proofs.OpenedClient.{opened_client}
 
@@ -60,5 +61,5 @@ lines =
     []
 
 pub plays : shown events ≡ lines
-unfolding opened opened_server opened_client
+unfolding opened opened_server opened_client opened_text
 plays = refl

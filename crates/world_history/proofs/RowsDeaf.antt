@@ -22,6 +22,7 @@ use Rattle.scenario_text.specs.declared.line.Note.TheVariants as note
 use Rattle.scenario_text.specs.declared.line.Party.TheVariants as party
 use Rattle.world_history.proofs.Played.{shown, sent, taken, deaf, fails, drive, file}
 use Rattle.world_history.proofs.Opened.{opened}
+use Rattle.world_history.proofs.OpenedText.{opened_text}
 use Rattle.world_history.proofs.OpenedServer.{opened_server}
 use Rattle.world_history.proofs.OpenedClient.{opened_client}
 
@@ -75,5 +76,5 @@ lines =
     []
 
 pub plays : shown events ≡ lines
-unfolding opened opened_server opened_client
+unfolding opened opened_server opened_client opened_text
 plays = refl

@@ -27,6 +27,7 @@ use Rattle.scenario_text.specs.declared.line.Note.TheVariants as note
 use Rattle.scenario_text.specs.declared.line.Party.TheVariants as party
 use Rattle.world_history.proofs.Played.{shown, sent, deaf, drive, file}
 use Rattle.world_history.proofs.Opened.{opened}
+use Rattle.world_history.proofs.OpenedText.{opened_text}
 use Rattle.world_history.proofs.OpenedServer.{opened_server}
 use Rattle.world_history.proofs.OpenedClient.{opened_client}
 
@@ -88,5 +89,5 @@ lines =
     []
 
 pub plays : shown events ≡ lines
-unfolding opened opened_server opened_client
+unfolding opened opened_server opened_client opened_text
 plays = refl

@@ -2,7 +2,7 @@
 use Rattle.std.specs.Prelude.{ℕ, false, true, List, [], ◌∷◌, max, Result, Ok, Err}
 use Rattle.osd_commands.specs.declared.commands.Command.{Command}
 use Rattle.osd_commands.specs.declared.commands.CommandErr.{CommandErr}
-use Rattle.osd_commands.specs.declared.commands.CommandErr.TheVariants.{Magic}
+use Rattle.osd_commands.specs.Commands as commands
 use Rattle.osd_commands.specs.declared.replies.Reply.{Reply}
 use Rattle.osd_objects.specs.Store.{empty_store}
 use Rattle.osd_drive.specs.State.{DriveState, new_drive}
@@ -12,15 +12,15 @@ use Rattle.osd_drive.specs.declared.keys.DriveKey.{DriveKey}
 use Rattle.server_rules.specs.declared.limits.TheConstants.{KEY_VERSION}
 use Rattle.scenario_text.specs.declared.line.Verdict.{Verdict}
 use Rattle.scenario_text.specs.declared.line.Verdict.TheVariants as verdict
-use Rattle.world_history.specs.State.{Body, OfCommand, DriveAt}
+use Rattle.world_history.specs.State.{Body, DriveAt}
+use Rattle.world_history.specs.Spelled.{spelled}
 use Rattle.world_history.specs.Told.{told_verdict}
 
 -- ---- what is read
 
--- the command of a message; no other message is one
+-- what a drive reads in the bytes of a message
 abbrev pub command_in : Body → Result Command CommandErr
-command_in (OfCommand c) = Ok c
-command_in body = Err Magic
+command_in body = commands.reading (spelled body)
 
 -- ---- what a drive makes of it
 

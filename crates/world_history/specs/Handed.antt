@@ -1,18 +1,18 @@
 -- What a party does in a move: the world then, what it tells, and what it sends.
-use Rattle.std.specs.Prelude.{ℕ, Bool, false, ◌||◌, ◌&&◌, not, List, [], ◌∷◌, length, map, Option, Some, None, option_map, if◌then◌else◌}
-use Rattle.std.specs.List.{list_any}
+use Rattle.std.specs.Prelude.{ℕ, Bool, false, ◌||◌, ◌&&◌, not, List, [], ◌∷◌, length, map, filter, Option, Some, None, option_map, if◌then◌else◌}
+use Rattle.std.specs.List.{list_any, filter_map}
 use Rattle.osd_bytes.specs.declared.node.Node.{Node}
 use Rattle.osd_bytes.specs.declared.node.Node.TheVariants as node
 use Rattle.layout_ops.specs.declared.envelope.Envelope.TheVariants as envelope
 use Rattle.osd_drive.specs.Table.{is_write}
 use Rattle.world_history.specs.ServerNames as server_rules
 use Rattle.server_rules.specs.Files.{Step as ServerStep}
-use Rattle.server_rules.specs.Messages.{Message as ServerMessage, Replies as RepliesToServer}
+use Rattle.server_rules.specs.Messages.{Message as ServerMessage}
 use Rattle.server_rules.specs.Envelopes as server_bytes
 use Rattle.server_rules.specs.History.{Input as ServerInput, Hears as ServerHears, step as server_step}
 use Rattle.world_history.specs.ClientNames as client_rules
 use Rattle.client_rules.specs.Calls.{bytes_of}
-use Rattle.client_rules.specs.Messages.{Message as ClientMessage, Replies as RepliesToClient, Step as ClientStep}
+use Rattle.client_rules.specs.Messages.{Message as ClientMessage, Step as ClientStep}
 use Rattle.client_rules.specs.Envelopes as client_bytes
 use Rattle.client_rules.specs.History.{Input as ClientInput, Calls, Hears, step as client_step}
 use Rattle.scenario_text.specs.declared.line.Delivery.{Delivery}
@@ -20,7 +20,10 @@ use Rattle.scenario_text.specs.declared.line.Delivery.TheVariants as delivery
 use Rattle.scenario_text.specs.declared.line.Line.{Line}
 use Rattle.scenario_text.specs.declared.line.Line.TheVariants as line
 use Rattle.world_history.specs.State.{Body, OfCommand, OfReply, OfEnvelope, Message, DriveAt, ClientAt, World, at_number, with_drive, with_client, with_server}
-use Rattle.world_history.specs.Told.{kind_of, told_outcome, told_note}
+use Rattle.scenario_text.specs.declared.line.Outcome.{Outcome}
+use Rattle.world_history.specs.Spelled.{spelled}
+use Rattle.world_history.specs.Told.{kind_of}
+use Rattle.world_history.specs.Names.{is_named, known_outcome, known_note_line}
 use Rattle.world_history.specs.Drives.{Judged, command_in, judges}
 
 -- ---- what is sent
@@ -29,6 +32,10 @@ use Rattle.world_history.specs.Drives.{Judged, command_in, judges}
 pub record Post : Type 0 where
   pub message : Message
   pub logged : ℕ
+
+-- a line can name who it is for; no other message is sent
+abbrev pub is_addressed : Post → Bool
+is_addressed p = is_named p.message.to
 
 -- a message that begins no write
 abbrev pub plain : (from to : Node) → Body → Post
@@ -77,28 +84,22 @@ server_body (server_rules.AnswersOrder a) = OfEnvelope (envelope.OrderAnswer a)
 abbrev pub server_post : server_rules.Outgoing → Post
 server_post o = plain node.Server (server_bytes.receiver o) (server_body o)
 
--- a note as a line
-abbrev pub note_line : server_rules.Note → Line
-note_line n = line.Note n.file (told_note n.kind)
-
 -- a step of the server
 abbrev pub server_did : World → ServerStep → Handed
 server_did w s = record {
   world = with_server w s.state;
   receipt = delivery.Taken;
-  told = map note_line s.notes;
-  posts = map server_post s.sends;
+  told = filter_map known_note_line s.notes;
+  posts = filter is_addressed (map server_post s.sends);
 }
 
 -- what comes to it, with the drives that the placer names
 abbrev pub serves : World → (chosen : List ℕ) → ServerInput → Handed
 serves w chosen i = server_did w (server_step w.server chosen i)
 
--- what it takes of a message
-abbrev pub for_server : Body → Option ServerMessage
-for_server (OfCommand c) = None
-for_server (OfReply r) = Some (RepliesToServer r)
-for_server (OfEnvelope e) = server_bytes.in_envelope e
+-- what it reads in the bytes of a message
+abbrev pub for_server : Message → Option ServerMessage
+for_server m = server_bytes.message_in m.from (spelled m.body)
 
 -- what isn't for it changes nothing
 abbrev pub server_takes : World → (chosen : List ℕ) → (from : Node) → Option ServerMessage → Handed
@@ -148,9 +149,14 @@ abbrev pub data_in : Option client_rules.CallOp → ℕ
 data_in None = 0
 data_in (Some op) = length (bytes_of op)
 
+-- the line of an end that can be told
+abbrev pub end_line : (client : ℕ) → Option Outcome → List Line
+end_line c None = []
+end_line c (Some o) = line.Ended c o ∷ []
+
 -- how the call ended, as a line
 abbrev pub ended_by : (client : ℕ) → Option client_rules.CallOp → Option client_rules.Outcome → List Line
-ended_by c (Some op) (Some o) = line.Ended c (told_outcome (kind_of op) o) ∷ []
+ended_by c (Some op) (Some o) = end_line c (known_outcome (kind_of op) o)
 ended_by c op o = []
 
 -- a step of a client
@@ -159,18 +165,16 @@ client_did w c a i s = record {
   world = with_client w c (record a { state = s.client; wrote = wrote_in a i || list_any is_write_out s.sends });
   receipt = delivery.Taken;
   told = ended_by c (op_in a.state i) s.outcome;
-  posts = client_posts c (wrote_in a i) (data_in (op_in a.state i)) s.sends;
+  posts = filter is_addressed (client_posts c (wrote_in a i) (data_in (op_in a.state i)) s.sends);
 }
 
 -- what comes to it
 abbrev pub client_goes : World → (client : ℕ) → ClientAt → ClientInput → Handed
 client_goes w c a i = client_did w c a i (client_step a.state i)
 
--- what it reads in a message
-abbrev pub for_client : Body → Option ClientMessage
-for_client (OfCommand c) = None
-for_client (OfReply r) = Some (RepliesToClient r)
-for_client (OfEnvelope e) = client_bytes.in_envelope e
+-- what it reads in the bytes of a message
+abbrev pub for_client : Message → Option ClientMessage
+for_client m = client_bytes.message_in m.from (spelled m.body)
 
 -- what isn't for it changes nothing
 abbrev pub client_takes : World → (client : ℕ) → ClientAt → (from : Node) → Option ClientMessage → Handed
@@ -180,12 +184,12 @@ client_takes w c a from (Some m) = client_goes w c a (Hears from m)
 -- a client that was stopped is deaf
 abbrev pub client_hears : World → (client : ℕ) → Message → Option ClientAt → Handed
 client_hears w c m None = quiet w delivery.Deaf
-client_hears w c m (Some a) = if a.stopped then quiet w delivery.Deaf else client_takes w c a m.from (for_client m.body)
+client_hears w c m (Some a) = if a.stopped then quiet w delivery.Deaf else client_takes w c a m.from (for_client m)
 
 -- ---- whoever it is for
 
 abbrev pub handed_to : World → (chosen : List ℕ) → Message → Node → Handed
-handed_to w chosen m node.Server = server_takes w chosen m.from (for_server m.body)
+handed_to w chosen m node.Server = server_takes w chosen m.from (for_server m)
 handed_to w chosen m (node.Drive d) = drive_hears w d m (at_number w.drives d)
 handed_to w chosen m (node.Client c) = client_hears w c m (at_number w.clients c)
 

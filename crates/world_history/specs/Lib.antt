@@ -3,6 +3,7 @@ pub mod ClientNames
 pub mod State
 pub mod Spelled
 pub mod Told
+pub mod Names
 pub mod Drives
 pub mod Handed
 pub mod Moves

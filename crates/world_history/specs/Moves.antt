@@ -1,6 +1,8 @@
 -- The moves of a world: each is one action of one party.
-use Rattle.std.specs.Prelude.{ℕ, false, true, List, [], ◌∷◌, Option, Some, None, Result, Ok, Err, is_some, slice_get, slice_set, if◌then◌else◌}
+use Rattle.std.specs.Prelude.{ℕ, Bool, false, true, nat_eq, nat_le, ◌&&◌, List, [], ◌∷◌, Option, Some, None, Result, Ok, Err, is_some, slice_get, slice_set, if◌then◌else◌}
+use Rattle.std.specs.List.{list_any}
 use Rattle.data_map.specs.declared.check.RawMap.{RawMap}
+use Rattle.data_map.specs.declared.check.TheConstants.{RAID_0, RAID_PQ}
 use Rattle.osd_commands.specs.Commands as commands
 use Rattle.world_history.specs.ServerNames as server_rules
 use Rattle.server_rules.specs.Files.{Step as ServerStep}
@@ -20,6 +22,8 @@ use Rattle.scenario_text.specs.declared.event.Event.TheVariants as event
 use Rattle.scenario_text.specs.declared.line.Outcome.TheVariants as outcome
 use Rattle.scenario_text.specs.declared.line.Ending.TheVariants as ending
 use Rattle.scenario_text.specs.declared.line.Refusal.TheVariants as refusal
+use Rattle.scenario_text.specs.declared.line.Note.TheVariants as note
+use Rattle.scenario_text.specs.declared.line.MapFault.TheVariants as map_fault
 use Rattle.scenario_text.specs.declared.line.Line.{Line}
 use Rattle.scenario_text.specs.declared.line.Line.TheVariants as line
 use Rattle.world_history.specs.State.{Posted, DriveAt, ClientAt, World, at_number, with_drive, and_drive, and_client, with_client}
@@ -143,9 +147,16 @@ abbrev pub made_file : World → (file : ℕ) → Result ServerStep server_rules
 made_file w f (Err e) = tells w (line.Note f (told_file_refusal e))
 made_file w f (Ok s) = acted (server_did w s)
 
--- a file is made, on the drives that the placer names
+-- a map names a parity algorithm
+abbrev pub has_algorithm : RawMap → Bool
+has_algorithm m = nat_le RAID_0 m.algorithm && nat_le m.algorithm RAID_PQ
+
+-- a file is made, on the drives that the placer names. The text of a scenario has no map without a parity algorithm; one
+-- that had none would be told as one whose groups have no width
 unfoldable pub makes : World → (chosen : List ℕ) → (file : ℕ) → RawMap → (tag : ℕ) → Act
-makes w chosen f m tag = made_file w f (create_file w.server f m tag chosen)
+makes w chosen f m tag =
+    if has_algorithm m then made_file w f (create_file w.server f m tag chosen)
+    else tells w (line.Note f (note.BadMap map_fault.Width))
 
 -- the server is given something to do
 unfoldable pub gives : World → (chosen : List ℕ) → server_input.Input → Act
@@ -176,10 +187,15 @@ injects w d bytes = injects_at w d bytes (at_number w.drives d)
 abbrev pub known_drive : (drive : ℕ) → (key : List ℕ) → (capacity : ℕ) → server_rules.Drive
 known_drive d key capacity = record { number = d; key = key; capacity = capacity; online = true }
 
--- a drive is made, and the server knows it
+-- the server knows a drive of that number
+abbrev pub knows_drive : server_rules.Server → (drive : ℕ) → Bool
+knows_drive s d = list_any (λ x. nat_eq x.number d) s.drives
+
+-- a drive is made, and the server knows it from then on
 abbrev pub adds_drive : World → (drive : ℕ) → (key : List ℕ) → (capacity : ℕ) → Act
 adds_drive w d key capacity =
-    gives (and_drive w d (made_drive d key capacity)) [] (server_input.Adds (known_drive d key capacity))
+    if knows_drive w.server d then changed (and_drive w d (made_drive d key capacity))
+    else gives (and_drive w d (made_drive d key capacity)) [] (server_input.Adds (known_drive d key capacity))
 
 -- a client is deaf from now on
 abbrev pub stops : World → (client : ℕ) → Option ClientAt → World

@@ -5,6 +5,7 @@ use Rattle.world_network.specs.declared.posting.Posting.{Posting}
 use Rattle.world_network.specs.Shows.{posting_of}
 use Rattle.world_history.specs.State.{World}
 use Rattle.world_history.specs.Handed.{Post, Handed as WorldHanded}
+use Rattle.world_history.specs.Moves.{Act as WorldAct}
 use Rattle.world_words.specs.declared.acts.Act.{Act}
 use Rattle.world_words.specs.declared.acts.Handed.{Handed}
 
@@ -32,3 +33,8 @@ pub record IsHanded (h : WorldHanded) (w : World) (is : Handed) : Type 0 where
   pub world : h.world ≡ w
   pub receipt : is.receipt ≡ h.receipt
   pub act : IsAct h.told h.posts is.act
+
+-- that is what the world did, and it is this one then
+pub record IsDone (m : WorldAct) (w : World) (is : Act) : Type 0 where
+  pub world : m.world ≡ w
+  pub act : IsAct m.told m.posts is

@@ -1,6 +1,6 @@
 ghost use Rattle.std.specs.Prelude.{◌≡◌};
 ghost use Rattle.world_history.specs.Told.{told_map_err, told_file_refusal};
-ghost use Rattle.world_words.specs.Names.{known_note, known_note_line};
+ghost use Rattle.world_history.specs.Names.{known_note, known_note_line};
 
 use data_map::MapErr;
 use scenario_text::{DriveName, FileName, Line, MapFault, Note};

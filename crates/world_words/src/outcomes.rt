@@ -1,6 +1,6 @@
 ghost use Rattle.std.specs.Prelude.{◌≡◌};
 ghost use Rattle.world_history.specs.Told.{kind_of, told_why, told_refusal};
-ghost use Rattle.world_words.specs.Names.{known_refusal, known_outcome};
+ghost use Rattle.world_history.specs.Names.{known_refusal, known_outcome};
 
 use crate::verdicts::verdict_with;
 use client_rules::{CallErr, CallOp, Outcome as RulesOutcome, Why};

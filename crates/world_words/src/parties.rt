@@ -1,6 +1,6 @@
 ghost use Rattle.std.specs.Prelude.{◌≡◌};
 ghost use Rattle.world_history.specs.Spelled.{node_of};
-ghost use Rattle.world_words.specs.Names.{named_party};
+ghost use Rattle.world_history.specs.Names.{named_party};
 
 use osd_bytes::Node;
 use scenario_text::{ClientName, DriveName, Party};

@@ -1,6 +1,6 @@
 ghost use Rattle.std.specs.Prelude.{◌≡◌};
 ghost use Rattle.world_history.specs.Told.{told_verdict};
-ghost use Rattle.world_words.specs.Names.{known_verdict};
+ghost use Rattle.world_history.specs.Names.{known_verdict};
 
 use osd_drive::Verdict as DriveVerdict;
 use scenario_text::Verdict;

@@ -11,11 +11,11 @@ use Rattle.scenario_text.specs.declared.line.Ending.TheVariants as ending
 use Rattle.scenario_text.specs.declared.line.Outcome.{Outcome as ToldOutcome}
 use Rattle.scenario_text.specs.declared.line.Note.{Note as ToldNote}
 use Rattle.scenario_text.specs.declared.line.Line.{Line}
+use Rattle.scenario_text.specs.declared.line.Line.TheVariants as line
 use Rattle.world_history.specs.ClientNames.{Outcome, HeldBy, Refused}
 use Rattle.world_history.specs.ServerNames.{Note, NoteKind, Rebuilt}
 use Rattle.world_history.specs.Spelled.{party_of}
 use Rattle.world_history.specs.Told.{verdict_with, told_outcome, told_note}
-use Rattle.world_history.specs.Handed.{note_line}
 
 -- there is a word only where the test holds
 abbrev pub where_known : {X : Type 0} → Bool → X → Option X
@@ -64,6 +64,10 @@ is_tellable_note n = true
 
 abbrev pub known_note : NoteKind → Option ToldNote
 known_note n = where_known (is_tellable_note n) (told_note n)
+
+-- a note as a line
+abbrev pub note_line : Note → Line
+note_line n = line.Note n.file (told_note n.kind)
 
 abbrev pub known_note_line : Note → Option Line
 known_note_line n = where_known (nat_lt n.file FILES && is_tellable_note n.kind) (note_line n)
