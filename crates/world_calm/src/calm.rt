@@ -1,0 +1,474 @@
+ghost use Rattle.std.specs.Prelude.{◌≡◌, ◌∷◌, slice_get, OnOk};
+ghost use Rattle.std.specs.List.{fold};
+ghost use Rattle.world_calm.specs.Seeing.{acknowledged, all_finished, begins, begun, calls, calm_at_first, ended, follows, loses, looked, logs, marks_all, marks_for, marks_one, mended_by, noted, notes, opened, performs, performs_command, refused, sees, sent, shows, shows_all, shows_changed, takes, taken_under};
+
+use crate::calls::{StartedWrite, WriteLog, finish_all as finish_writes};
+use crate::files::{FileStripes, SeenFiles};
+use crate::looking::{mark_of, mended_of, returned_at, sent_at, writes};
+use crate::marks::{Marks, NewMark, finish_all as unmark_writes};
+use crate::reading::{command_in, is_told_taken};
+use crate::view::KeptFiles;
+use osd_bytes::{Memory, Numbers};
+use osd_commands::{Action, Command};
+use scenario_text::{Call, DriveName, Ending, Event, Line, Note, Outcome, Party, Refusal};
+use server_rules::Mended;
+use std::alloc::Global;
+use std::marker::Model;
+use world_network::Network;
+
+/// A message whose bytes a drive performed, also where they were injected.
+#[derive(Clone, Copy)]
+pub struct Performed {
+    pub drive: DriveName,
+    pub message: usize,
+}
+
+/// What is kept of a run to see whether it is calm.
+#[derive(Drop)]
+pub struct Calm {
+    alloc: Global,
+    log: WriteLog,
+    files: SeenFiles,
+    stopped: Numbers,
+    marks: Marks,
+    calm: bool,
+}
+
+impl Model for Calm {
+    ghost use Rattle.world_calm.specs.Seeing.{CalmState};
+
+    ghost Value = { CalmState };
+
+    ghost view = { λ c. record { log = c.log; files = c.files; stopped = c.stopped; marks = c.marks; calm = c.calm } };
+}
+
+impl Calm {
+    /// Of a run that has no line yet.
+    pub fn new(alloc: Global) -> Self
+        ensures { result ≡ calm_at_first }
+    {
+        Calm {
+            alloc,
+            log: WriteLog::new(alloc),
+            files: SeenFiles::new(alloc),
+            stopped: Numbers::new(alloc),
+            marks: Marks::new(alloc),
+            calm: true,
+        }
+    }
+
+    /// Whether at no moment so far a stripe with parity was torn and short.
+    pub fn calm(&self) -> bool
+        ensures { result ≡ self.now.calm }
+    {
+        self.calm
+    }
+
+    // ---- a report that is taken as a loss
+
+    // The writes under a grant are taken.
+    fn take_under(&mut self, grant: u32)
+        ensures { self.new ≡ taken_under self.old grant }
+    {
+        match self.log.take_under(grant) {
+            Some(numbers) => {
+                finish_writes(&mut self.log, numbers.as_slice());
+                unmark_writes(&mut self.marks, numbers.as_slice());
+            }
+            None => {}
+        }
+    }
+
+    // The same where the step returns the grant and says so.
+    fn take(&mut self, network: &Network, head: &Line, rest: &[Line]) -> Result<(), Memory>
+        ensures { OnOk result (self.new ≡ takes self.old network.now.messages head.now rest.now) }
+    {
+        match returned_at(self.alloc, network, head)? {
+            Some(grant) => {
+                if is_told_taken(self.alloc, rest)? {
+                    self.take_under(grant);
+                }
+                Ok(())
+            }
+            None => Ok(()),
+        }
+    }
+
+    // ---- what an event changes before the first moment of its step
+
+    // The stripes of writes that were left are looked at again, since a component is lost.
+    fn look(&mut self)
+        ensures { self.new ≡ looked self.old }
+    {
+        let harmed = self.marks.any_harmed(&self.files);
+        self.calm = self.calm && !harmed;
+    }
+
+    fn open(&mut self, head: &Line) -> Result<(), Memory>
+        ensures { OnOk result (self.new ≡ opened self.old head.now) }
+    {
+        match head {
+            Line::Event {
+                event: Event::Fail { drive },
+            } => {
+                self.files.fail(drive.number())?;
+                self.look();
+                Ok(())
+            }
+            Line::Event {
+                event: Event::Stop { client },
+            } => self.stopped.push(client.number()),
+            _ => Ok(()),
+        }
+    }
+
+    // ---- a WRITE is performed
+
+    // It marks a stripe.
+    fn mark_one(&mut self, mark: NewMark) -> Result<(), Memory>
+        ensures { OnOk result (self.new ≡ marks_one self.old mark) }
+    {
+        let harmed = self.marks.was_left(mark.write, mark.file)
+            && self.files.is_short(mark.file, mark.stripe);
+        self.marks.mark(mark)?;
+        self.calm = self.calm && !harmed;
+        Ok(())
+    }
+
+    // It marks these.
+    fn mark_all(
+        &mut self,
+        write: usize,
+        started: StartedWrite,
+        stripes: &FileStripes,
+    ) -> Result<(), Memory>
+        ensures { OnOk result (self.new ≡ marks_all self.old write started stripes.now) }
+    {
+        for stripe in stripes.as_slice() {
+            self.mark_one(mark_of(write, started, *stripe))?;
+        }
+        Ok(())
+    }
+
+    // A WRITE for a write was performed: it marks its stripes, unless the write is finished.
+    fn mark_for(&mut self, drive: u32, command: &Command, write: usize) -> Result<(), Memory>
+        ensures { OnOk result (self.new ≡ marks_for self.old drive command.now write (slice_get self.old.log.writes write)) }
+    {
+        match self.log.write(write) {
+            Some(started) => {
+                if started.finished {
+                    return Ok(());
+                }
+                let stripes = self
+                    .files
+                    .stripes_at(drive, command.object, command.offset)?;
+                self.mark_all(write, started, &stripes)
+            }
+            None => Ok(()),
+        }
+    }
+
+    // A drive performed the bytes of a message.
+    fn perform(&mut self, network: &Network, performed: Option<Performed>) -> Result<(), Memory>
+        ensures { OnOk result (self.new ≡ performs self.old network.now.messages performed) }
+    {
+        let performed = match performed {
+            Some(performed) => performed,
+            None => return Ok(()),
+        };
+        let write = match self.log.write_of(performed.message) {
+            Some(write) => write,
+            None => return Ok(()),
+        };
+        let sent = match sent_at(network, performed.message) {
+            Some(sent) => sent,
+            None => return Ok(()),
+        };
+        match command_in(self.alloc, sent.bytes.as_slice())? {
+            Some(command) => {
+                if command.action == Action::Write {
+                    self.mark_for(performed.drive.number(), &command, write)
+                } else {
+                    Ok(())
+                }
+            }
+            None => Ok(()),
+        }
+    }
+
+    // ---- moments
+
+    // The moment at which a step begins: grants end first.
+    fn begin<S: KeptFiles>(&mut self, server: &S)
+        ensures { self.new ≡ begun (S.kept_of server.now) self.old }
+    {
+        let harmed = self
+            .marks
+            .any_newly_harmed(&self.files, self.stopped.as_slice(), server);
+        self.marks.leave(self.stopped.as_slice(), server);
+        self.calm = self.calm && !harmed;
+    }
+
+    // A component is lost.
+    fn lose(&mut self, file: u32, component: u32)
+        ensures { self.new ≡ loses self.old file component }
+    {
+        self.files.lose(file, component);
+        self.look();
+    }
+
+    // A note, which is a moment.
+    fn note(&mut self, file: u32, note: &Note, mended: &[Mended]) -> Result<(), Memory>
+        ensures { OnOk result (self.new ≡ noted mended.now self.old file note.now) }
+    {
+        match note {
+            Note::NoSpace { component } => self.lose(file, *component),
+            Note::Reported { component } => self.lose(file, *component),
+            Note::Rebuilt { component, drive } => {
+                self.files.stand(file, *component, drive.number());
+            }
+            Note::Repaired { .. } => match mended_of(mended, file) {
+                Some(repair) => self.marks.mend(repair)?,
+                None => {}
+            },
+            _ => {}
+        }
+        Ok(())
+    }
+
+    // Those among some lines.
+    fn note_all(&mut self, rest: &[Line], mended: &[Mended]) -> Result<(), Memory>
+        ensures { OnOk result (self.new ≡ fold (notes mended.now) self.old rest.now) }
+    {
+        for line in rest {
+            match line {
+                Line::Note { file, note } => self.note(file.number(), note, mended)?,
+                _ => {}
+            }
+        }
+        Ok(())
+    }
+
+    // ---- the log behind the moments of a step
+
+    // A client is called.
+    fn log_call(&mut self, client: u32, call: &Call) -> Result<(), Memory>
+        ensures { OnOk result (self.new ≡ calls self.old client call.now) }
+    {
+        self.log.call(client, writes(call))
+    }
+
+    // A call is refused.
+    fn refuse(&mut self, client: u32, refusal: Refusal)
+        ensures { self.new ≡ refused self.old client refusal }
+    {
+        match refusal {
+            Refusal::Busy => {}
+            _ => self.log.forget(client),
+        }
+    }
+
+    // The write of a call was acknowledged.
+    fn acknowledge(&mut self, write: Option<usize>)
+        ensures { self.new ≡ acknowledged self.old write }
+    {
+        match write {
+            Some(number) => {
+                self.log.finish(number);
+                self.marks.finish(number);
+            }
+            None => {}
+        }
+    }
+
+    // A call ended, or is left pending.
+    fn end(&mut self, client: u32, outcome: &Outcome)
+        ensures { self.new ≡ ended self.old client outcome.now }
+    {
+        match outcome {
+            Outcome::Failed {
+                ending: Ending::Pending,
+                ..
+            } => {}
+            Outcome::WriteOk { .. } => {
+                let write = self.log.started_by(client);
+                self.acknowledge(write);
+                self.log.forget(client);
+            }
+            _ => self.log.forget(client),
+        }
+    }
+
+    // A message is sent: a write may begin.
+    fn send(&mut self, message: usize, from: Party, to: Party, bytes: &[u8]) -> Result<(), Memory>
+        ensures { OnOk result (self.new ≡ sent self.old message from to bytes.now) }
+    {
+        let client = match from {
+            Party::Client { client } => client,
+            _ => return Ok(()),
+        };
+        match to {
+            Party::Drive { .. } => {}
+            _ => return Ok(()),
+        }
+        match command_in(self.alloc, bytes)? {
+            Some(command) => {
+                if command.action == Action::Write {
+                    self.log
+                        .send(client.number(), message, command.capability.grant)
+                } else {
+                    Ok(())
+                }
+            }
+            None => Ok(()),
+        }
+    }
+
+    // A line.
+    fn log_line(&mut self, line: &Line) -> Result<(), Memory>
+        ensures { OnOk result (self.new ≡ logs self.old line.now) }
+    {
+        match line {
+            Line::Event {
+                event: Event::Do { client, call },
+            } => self.log_call(client.number(), call),
+            Line::Event {
+                event: Event::Call { client, call },
+            } => self.log_call(client.number(), call),
+            Line::Refused { client, refusal } => {
+                self.refuse(client.number(), *refusal);
+                Ok(())
+            }
+            Line::Ended { client, outcome } => {
+                self.end(client.number(), outcome);
+                Ok(())
+            }
+            Line::Message {
+                message,
+                from,
+                to,
+                bytes,
+            } => self.send(*message as usize, *from, *to, bytes.as_slice()),
+            _ => Ok(()),
+        }
+    }
+
+    // ---- files behind a step
+
+    // A file is shown as the server keeps it.
+    fn show<S: KeptFiles>(&mut self, server: &S, file: u32) -> Result<(), Memory>
+        ensures { OnOk result (self.new ≡ shows (S.kept_of server.now) self.old file) }
+    {
+        match server.kept(file) {
+            Some(kept) => self.files.show(kept),
+            None => Ok(()),
+        }
+    }
+
+    // These files are.
+    fn show_all<S: KeptFiles>(&mut self, server: &S, files: &[u32]) -> Result<(), Memory>
+        ensures { OnOk result (self.new ≡ shows_all (S.kept_of server.now) self.old files.now) }
+    {
+        for file in files {
+            self.show(server, *file)?;
+        }
+        Ok(())
+    }
+
+    // Those whose components change are.
+    fn show_changed<S: KeptFiles>(&mut self, server: &S, line: &Line) -> Result<(), Memory>
+        ensures { OnOk result (self.new ≡ shows_changed (S.kept_of server.now) self.old line.now) }
+    {
+        match line {
+            Line::Event {
+                event: Event::File { file, .. },
+            } => self.show(server, file.number()),
+            Line::Event {
+                event: Event::Declare { .. },
+            } => {
+                let numbers = self.files.numbers()?;
+                self.show_all(server, numbers.as_slice())
+            }
+            Line::Note {
+                file,
+                note: Note::Rebuilt { .. },
+            } => self.show(server, file.number()),
+            _ => Ok(()),
+        }
+    }
+
+    // ---- a step
+
+    // A line behind its moments.
+    fn follow<S: KeptFiles>(&mut self, server: &S, line: &Line) -> Result<(), Memory>
+        ensures { OnOk result (self.new ≡ follows (S.kept_of server.now) self.old line.now) }
+    {
+        self.log_line(line)?;
+        self.show_changed(server, line)
+    }
+
+    // Some lines.
+    fn follow_all<S: KeptFiles>(&mut self, server: &S, lines: &[Line]) -> Result<(), Memory>
+        ensures { OnOk result (self.new ≡ fold (follows (S.kept_of server.now)) self.old lines.now) }
+    {
+        for line in lines {
+            self.follow(server, line)?;
+        }
+        Ok(())
+    }
+
+    // Up to its first moment.
+    fn begin_step<S: KeptFiles>(
+        &mut self,
+        network: &Network,
+        head: &Line,
+        rest: &[Line],
+        performed: Option<Performed>,
+        server: &S,
+    ) -> Result<(), Memory>
+        ensures { OnOk result (self.new ≡ begins (S.kept_of server.now) self.old network.now.messages head.now rest.now performed) }
+    {
+        self.take(network, head, rest)?;
+        self.open(head)?;
+        self.perform(network, performed)?;
+        self.begin(server);
+        Ok(())
+    }
+
+    // Behind its last moment.
+    fn end_step<S: KeptFiles>(
+        &mut self,
+        server: &S,
+        head: &Line,
+        rest: &[Line],
+    ) -> Result<(), Memory>
+        ensures { OnOk result (self.new ≡ fold (follows (S.kept_of server.now)) self.old (head.now ∷ rest.now)) }
+    {
+        self.follow(server, head)?;
+        self.follow_all(server, rest)
+    }
+
+    /// Sees a step: the line with which it begins, and those behind it up to the next such line. `performed` is
+    /// the message whose bytes a drive performed in it; `server` is as the step leaves it, and `mended` are the
+    /// repairs that it ended.
+    ///
+    /// # Errors
+    ///
+    /// Want of memory.
+    pub fn see<S: KeptFiles>(
+        &mut self,
+        network: &Network,
+        head: &Line,
+        rest: &[Line],
+        performed: Option<Performed>,
+        server: &S,
+        mended: &[Mended],
+    ) -> Result<(), Memory>
+        ensures { OnOk result (self.new ≡ sees (S.kept_of server.now) mended.now self.old network.now.messages head.now rest.now performed) }
+    {
+        self.begin_step(network, head, rest, performed, server)?;
+        self.note_all(rest, mended)?;
+        self.end_step(server, head, rest)?;
+        Ok(())
+    }
+}

@@ -1,0 +1,4 @@
+pub mod State
+pub mod Watching
+pub mod Steps
+pub mod Laws
