@@ -1,0 +1,5 @@
+pub mod Acted
+pub mod Knowing
+pub mod Noted
+pub mod Posted
+pub mod Refused

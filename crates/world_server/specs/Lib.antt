@@ -1,0 +1,5 @@
+pub mod Acting
+pub mod Making
+pub mod Posting
+pub mod State
+pub mod Telling
