@@ -1,0 +1,10 @@
+mod Settling
+mod Shown
+mod Performing
+mod Acted
+mod Delivered
+mod Moved
+mod Going
+mod Finishing
+mod Began
+mod Opened

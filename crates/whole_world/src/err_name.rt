@@ -1,0 +1,15 @@
+use world_history::WorldErr;
+
+/// The name of the cause, as an error line has it.
+pub fn error_name(e: WorldErr) -> &'static str {
+    match e {
+        WorldErr::NotYet => "NotYet",
+        WorldErr::NoName => "NoName",
+        WorldErr::Taken => "Taken",
+        WorldErr::Dead => "Dead",
+        WorldErr::Alive => "Alive",
+        WorldErr::NoMessage { .. } => "NoMessage",
+        WorldErr::KeptFull => "KeptFull",
+        WorldErr::Memory => "Memory",
+    }
+}

@@ -1,0 +1,221 @@
+ghost use Rattle.std.specs.Prelude.{◌≡◌, ◌≤◌, None, false, length, Err, IfOk, IfErr, OnOk, OnErr};
+ghost use Rattle.stripe_repair.specs.Placing.{IsPlacer};
+ghost use Rattle.scenario_text.specs.declared.line.Line.TheVariants as line;
+ghost use Rattle.world_history.specs.Plans.{rule_of};
+ghost use Rattle.world_history.specs.Refusals.{refusal};
+ghost use Rattle.world_history.specs.State.{World as TheWorld, empty_world};
+ghost use Rattle.world_history.specs.Summing.{no_summary};
+ghost use Rattle.whole_world.specs.State.{Shows};
+ghost use Rattle.whole_world.specs.Going.{Comes, Finishes, behind};
+ghost use Rattle.whole_world.specs.Refusing.{IsEnd};
+ghost use Rattle.whole_world.specs.Steps.{StepsAs, Ends};
+
+use crate::acts::perform;
+use crate::beginning::begin;
+use crate::following::follow;
+use crate::parties::Parties;
+use crate::refusing::refusal;
+use crate::rules::rule_of;
+use osd_bytes::{Memory, Numbers};
+use scenario_text::{Event, Line};
+use std::alloc::Global;
+use std::marker::Model;
+use stripe_repair::{DriveLoad, Placer};
+use world_history::{Summary, WorldErr, full_is_cut, one_event_more};
+use world_network::Lines;
+use world_watch::Watch;
+
+/// The world of a scenario: all parties, what was sent between them, and whether its history is calm and unguessed.
+#[derive(Drop)]
+pub struct World {
+    alloc: Global,
+    parties: Parties,
+    watch: Watch,
+    over: bool,
+}
+
+impl Model for World {
+    ghost use Rattle.whole_world.specs.State.{WorldState};
+
+    ghost Value = { WorldState };
+
+    ghost view = { λ w. record { parties = w.parties; watch = w.watch; over = w.over } };
+}
+
+// The line of an event that isn't refused, and what it begins with.
+fn open<F>(
+    parties: &mut Parties,
+    watch: &mut Watch,
+    alloc: Global,
+    event: Event,
+    placer: &Placer<F>,
+    lines: &mut Lines,
+) -> Result<(), WorldErr>
+where
+    F: Fn(u32, &[DriveLoad]) -> Result<Numbers, Memory>,
+    requires placer { IsPlacer F.Fn placer.now }
+    ensures comes { (w : TheWorld) → Shows parties.old w → refusal w event ≡ None
+        → Comes w event lines.old (behind (rule_of w event)) parties.new lines.new result }
+    ensures sent { OnOk result ((w : TheWorld) → Shows parties.old w
+        → length parties.old.network.messages ≤ length parties.new.network.messages) }
+    ensures halts { IfErr result IsEnd }
+{
+    let before = lines.len();
+    match begin(parties, alloc, &event, placer) {
+        Ok(act) => match lines.push(Line::Event { event }) {
+            Ok(()) => perform(parties, watch, alloc, act, before, lines),
+            Err(_) => Err(WorldErr::Memory),
+        },
+        Err(Memory) => Err(WorldErr::Memory),
+    }
+}
+
+// The line of an event that isn't refused, and its moves to the end.
+fn carry_moves<F>(
+    parties: &mut Parties,
+    watch: &mut Watch,
+    alloc: Global,
+    event: Event,
+    placer: &Placer<F>,
+    lines: &mut Lines,
+) -> Result<(), WorldErr>
+where
+    F: Fn(u32, &[DriveLoad]) -> Result<Numbers, Memory>,
+    requires placer { IsPlacer F.Fn placer.now }
+    ensures finishes { (w : TheWorld) → Shows parties.old w → refusal w event ≡ None
+        → Finishes w event lines.old parties.new lines.new result }
+    ensures halts { IfErr result IsEnd }
+{
+    match rule_of(parties, alloc, &event) {
+        Ok(rule) => match open(parties, watch, alloc, event, placer, lines) {
+            Ok(()) => follow(parties, watch, alloc, rule, placer, lines),
+            Err(error) => Err(error),
+        },
+        Err(Memory) => Err(WorldErr::Memory),
+    }
+}
+
+// The watch sees all lines of an event, which begin at `before`.
+fn see_event(
+    parties: &Parties,
+    watch: &mut Watch,
+    before: usize,
+    lines: &Lines,
+) -> Result<(), WorldErr>
+    ensures { OnErr result (result ≡ Err WorldErr.Memory) }
+{
+    if let Some((_, own)) = lines.as_slice().split_at_checked(before) {
+        watch.see_event(&parties.network, own)?;
+    }
+    Ok(())
+}
+
+// Carries out an event that isn't refused.
+fn carry_out<F>(
+    parties: &mut Parties,
+    watch: &mut Watch,
+    alloc: Global,
+    event: Event,
+    placer: &Placer<F>,
+    lines: &mut Lines,
+) -> Result<(), WorldErr>
+where
+    F: Fn(u32, &[DriveLoad]) -> Result<Numbers, Memory>,
+    requires placer { IsPlacer F.Fn placer.now }
+    ensures finishes { (w : TheWorld) → Shows parties.old w → refusal w event ≡ None
+        → Finishes w event lines.old parties.new lines.new result }
+    ensures halts { IfErr result IsEnd }
+{
+    let before = lines.len();
+    match carry_moves(parties, watch, alloc, event, placer, lines) {
+        Ok(()) => see_event(parties, watch, before, lines),
+        Err(error) => Err(error),
+    }
+}
+
+impl World {
+    /// The world of a scenario that hasn't begun.
+    ///
+    /// # Errors
+    ///
+    /// Want of memory alone.
+    pub fn new(alloc: Global) -> Result<Self, Memory>
+        ensures parties { IfOk result (λ world. Shows world.parties empty_world) }
+        ensures summary { IfOk result (λ world. world.watch.summary ≡ no_summary) }
+        ensures over { IfOk result (λ world. world.over ≡ false) }
+    {
+        Ok(World {
+            alloc,
+            parties: Parties::new(alloc)?,
+            watch: Watch::new(alloc),
+            over: false,
+        })
+    }
+
+    /// Whether the world has ended, so that no event may follow.
+    pub fn is_over(&self) -> bool
+        ensures { result ≡ self.now.over }
+    {
+        self.over
+    }
+
+    /// Carries out an event, and appends its lines, of which its own is the first. The world must not be over.
+    ///
+    /// # Errors
+    ///
+    /// The first of these that applies: `NotYet` where the event can't be carried out yet; `NoName` where a named drive,
+    /// client or file doesn't exist, but for what the event is to make and for the files of calls; `Taken` where the drive
+    /// or client to be made exists; `Dead` where the named client was stopped or the named drive failed, but for a
+    /// declared one; `Alive` where a drive that is declared hasn't failed; `NoMessage` where the message wasn't sent. They
+    /// change nothing. `KeptFull`, where a message would pass the limit of kept bytes, and `Memory` end the world; the lines
+    /// appended stand.
+    pub fn step<F>(
+        &mut self,
+        event: Event,
+        placer: &Placer<F>,
+        lines: &mut Lines,
+    ) -> Result<(), WorldErr>
+    where
+        F: Fn(u32, &[DriveLoad]) -> Result<Numbers, Memory>,
+        requires placer { IsPlacer F.Fn placer.now }
+        ensures steps { StepsAs event lines.old lines.new self.old self.new result }
+        ensures over { Ends self.old self.new result }
+    {
+        one_event_more();
+        full_is_cut();
+        if let Some(cause) = refusal(&self.parties, &event) {
+            return Err(cause);
+        }
+        match carry_out(
+            &mut self.parties,
+            &mut self.watch,
+            self.alloc,
+            event,
+            placer,
+            lines,
+        ) {
+            Ok(()) => {
+                self.parties.fit();
+                Ok(())
+            }
+            Err(error) => {
+                self.over = true;
+                Err(error)
+            }
+        }
+    }
+
+    /// The last line of the transcript: whether the history is calm and unguessed.
+    pub fn last_line(&self) -> Line
+        ensures { result ≡ line.Last self.now.watch.calm self.now.watch.guesses.unguessed }
+    {
+        self.watch.last_line()
+    }
+
+    /// What the history comes to, in numbers.
+    pub fn summary(&self) -> Summary
+        ensures { result ≡ self.now.watch.summary }
+    {
+        self.watch.summary()
+    }
+}
