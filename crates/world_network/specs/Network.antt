@@ -1,11 +1,8 @@
 -- The messages that were ever sent, as their lines have them.
-use Rattle.std.specs.Prelude.{◌≡◌, ℕ, ◌+◌, ◌<◌, ◌≤◌, ◌++◌, ◌&&◌, not, Bool, true, false, List, [], ◌∷◌, length, Option, None, Some, Result, Ok, Err, slice_get, slice_set}
+use Rattle.std.specs.Prelude.{◌≡◌, ℕ, ◌+◌, ◌<◌, ◌≤◌, ◌++◌, ◌&&◌, not, Bool, true, false, List, [], ◌∷◌, length, Option, None, Some, slice_get, slice_set}
 use Rattle.scenario_text.specs.declared.line.Party.{Party}
 use Rattle.scenario_text.specs.declared.line.Line.{Line}
 use Rattle.scenario_text.specs.declared.line.Line.TheVariants as line
-use Rattle.world_history.specs.declared.limits.TheConstants.{MAX_KEPT}
-use Rattle.world_history.specs.declared.err.WorldErr.{WorldErr}
-use Rattle.world_history.specs.declared.err.WorldErr.TheVariants.{KeptFull, Memory}
 use Rattle.world_history.specs.declared.messages.Sent.{Sent}
 use Rattle.world_history.specs.Reading.{arrived, left_out}
 
@@ -65,16 +62,3 @@ posted n s logged = record { messages = n.messages ++ s ∷ []; kept = n.kept + 
 -- its line
 abbrev pub line_of : NetworkState → Sent → Line
 line_of n s = line.Message (length n.messages) s.from s.to s.bytes
-
--- what sending gives, by its result
-abbrev pub PostsSent : NetworkState → Sent → ℕ → List Line → List Line → NetworkState
-    → Result (Unit {0}) WorldErr → Type 0
-PostsSent n s logged before after n' (Ok u) = (n' ≡ posted n s logged) × (after ≡ before ++ line_of n s ∷ [])
-PostsSent n s logged before after n' (Err KeptFull) = (MAX_KEPT < n.kept + (logged + length s.bytes)) × (n' ≡ n)
-    × (after ≡ before)
-PostsSent n s logged before after n' (Err Memory) = after ≡ before
-PostsSent n s logged before after n' (Err other) = ⊥
-
-abbrev pub Posts : NetworkState → Party → Party → List ℕ → ℕ → List Line → List Line → NetworkState
-    → Result (Unit {0}) WorldErr → Type 0
-Posts n from to bytes logged before after n' r = PostsSent n (fresh from to bytes) logged before after n' r

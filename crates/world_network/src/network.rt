@@ -1,7 +1,7 @@
 ghost use Rattle.std.specs.Prelude.{◌≡◌, ◌<◌, ◌≤◌, [], length, slice_get, Some};
 ghost use Rattle.world_history.specs.declared.limits.TheConstants.{MAX_KEPT};
 ghost use Rattle.world_network.specs.Posting.{PostsAll};
-ghost use Rattle.world_network.specs.Network.{is_pending, Delivers, Drops, PendingIs, Posts, empty_network};
+ghost use Rattle.world_network.specs.Network.{is_pending, Delivers, Drops, PendingIs, empty_network};
 
 use crate::posting::Posting;
 use osd_bytes::{Bytes, Sequence};
@@ -102,46 +102,6 @@ impl Network {
             number += 1;
         }
         None
-    }
-
-    /// Sends a message and appends its line. `logged` is how many data bytes the log keeps of the write that
-    /// begins with it, 0 where none does.
-    ///
-    /// # Errors
-    ///
-    /// `KeptFull` exactly where the bytes that are kept would pass [`MAX_KEPT`]; nothing has changed then. `Memory`,
-    /// and no line was appended.
-    pub fn post(
-        &mut self,
-        alloc: Global,
-        from: Party,
-        to: Party,
-        bytes: Bytes,
-        logged: u64,
-        lines: &mut Lines,
-    ) -> Result<(), WorldErr>
-        ensures { Posts self.old from to bytes logged lines.old lines.new self.new result }
-    {
-        let cost = u128::from(logged) + bytes.len() as u128;
-        if u128::from(MAX_KEPT - self.kept) < cost {
-            return Err(WorldErr::KeptFull);
-        }
-        let number = self.messages.len() as u64;
-        self.messages.push(Sent {
-            from,
-            to,
-            bytes: Bytes::copied(alloc, bytes.as_slice())?,
-            delivered: false,
-            dropped: false,
-        })?;
-        self.kept += cost as u64;
-        lines.push(Line::Message {
-            message: number,
-            from,
-            to,
-            bytes,
-        })?;
-        Ok(())
     }
 
     /// Sends messages in order, each with its line.

@@ -29,7 +29,7 @@ use world_words::{Act, Handed};
 /// The metadata server as a party of a world.
 ///
 /// Where a counter of 64 bits has no room, a call that gives the server something to do answers that there is no
-/// memory. Each number is used by a message, so no replay comes to that.
+/// memory.
 #[derive(Drop)]
 pub struct WorldServer {
     core: ServerCore,

@@ -1,12 +1,12 @@
 -- Steps as the code sees them.
-use Rattle.std.proofs.Common.{◌≡◌, [], List, true, Option, None, ap, ◌∙◌}
+use Rattle.std.proofs.Common.{◌≡◌, List, true, Option, ap, ◌∙◌}
 use Rattle.scenario_text.specs.declared.line.Line.{Line}
 use Rattle.world_history.specs.declared.messages.Sent.{Sent}
 use Rattle.world_history.specs.ServerNames.{Mended}
 use Rattle.world_history.specs.Reading.{is_head}
 use Rattle.world_calm.specs.declared.calm.Performed.{Performed}
 use Rattle.world_calm.specs.Seeing.{CalmState, KeptOf, sees}
-use Rattle.world_watch.specs.Steps.{performed_at, sees_headed, sees_event}
+use Rattle.world_watch.specs.Steps.{performed_at, sees_headed}
 
 pub headed : (kept : KeptOf) (rs : List Mended) (ms : List Sent) (c : CalmState) (injected : Option Performed)
     (head : Line) (rest : List Line) (p : Option Performed) (x : CalmState) → is_head head ≡ true
@@ -15,8 +15,3 @@ pub headed : (kept : KeptOf) (rs : List Mended) (ms : List Sent) (c : CalmState)
 unfolding sees_headed
 headed kept rs ms c injected head rest p x t e q =
     rw t (q ∙ ap (λ (o : Option Performed). sees kept rs c ms head rest o) e)
-
-pub alone : (kept : KeptOf) (ms : List Sent) (c : CalmState) (event : Line) (x : CalmState)
-    → x ≡ sees kept [] c ms event [] None → x ≡ sees_event kept ms c event
-unfolding sees_event
-alone kept ms c event x q = q

@@ -53,20 +53,18 @@ unfoldable pub sees_step : KeptOf → List Mended → List Sent → CalmState �
 sees_step kept rs ms c injected [] = c
 sees_step kept rs ms c injected (head ∷ rest) = sees_headed kept rs ms c injected head rest
 
--- an event alone is a step
-unfoldable pub sees_event : KeptOf → List Sent → CalmState → (event : Line) → CalmState
-sees_event kept ms c event = sees_step_of kept [] c ms event [] None
-
 abbrev pub is_headed : List Line → Bool
 is_headed [] = false
 is_headed (l ∷ ls) = is_head l
 
--- the lines of a move: an event that is followed by another line that begins a step is a step of its own
+-- the lines of a move: an event that is followed by another line that begins a step (a delivery, a timeout, an injection)
+-- is a step of its own, which changes nothing that is kept. It isn't seen: what the server keeps is as the whole move
+-- leaves it, and with that a grant would have ended before the delivery that ends it.
 unfoldable pub sees_from : KeptOf → List Mended → Table → List Sent → CalmState → (event : Line) → (step : List Line)
     → CalmState
 sees_from kept rs t ms c event step =
     if is_headed step
-    then sees_step kept rs ms (sees_event kept ms c event) (injected_at t ms event) step
+    then sees_step kept rs ms c (injected_at t ms event) step
     else sees_headed kept rs ms c None event step
 
 abbrev pub sees_move : KeptOf → List Mended → Table → List Sent → CalmState → List Line → CalmState

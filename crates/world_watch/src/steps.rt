@@ -1,7 +1,7 @@
 // The lines of a move, step by step.
 ghost use Rattle.std.specs.Prelude.{◌≡◌, slice_get, OnOk};
 ghost use Rattle.world_history.specs.Reading.{is_head};
-ghost use Rattle.world_watch.specs.Steps.{injected_at, is_headed, performed_at, performed_sent, sees_event, sees_from, sees_headed, sees_move, sees_step};
+ghost use Rattle.world_watch.specs.Steps.{injected_at, is_headed, performed_at, performed_sent, sees_from, sees_headed, sees_move, sees_step};
 
 use osd_bytes::Memory;
 use scenario_text::{Delivery, Event, Line, Party, Verdict};
@@ -122,20 +122,8 @@ fn see_step<S: KeptFiles>(
     }
 }
 
-// Sees an event alone.
-fn see_event<S: KeptFiles>(
-    calm: &mut Calm,
-    network: &Network,
-    event: &Line,
-    server: &S,
-) -> Result<(), Memory>
-    ensures { OnOk result (calm.new ≡ sees_event (S.kept_of server.now) network.now.messages calm.old event.now) }
-{
-    calm.see(network, event, &[], None, server, &[])?;
-    Ok(())
-}
-
-// Sees the lines of a move. An event that is followed by another line that begins a step is a step of its own.
+// Sees the lines of a move. An event that is followed by another line that begins a step changes no moment: `server` is
+// as that step leaves it, so the event isn't seen with it.
 #[tactic(auto, unfolding(crate::specs::Steps::sees_from))]
 fn see_from<S: KeptFiles>(
     calm: &mut Calm,
@@ -149,7 +137,6 @@ fn see_from<S: KeptFiles>(
     ensures { OnOk result (calm.new ≡ sees_from (S.kept_of server.now) mended.now sightings.now network.now.messages calm.old event.now step.now) }
 {
     if is_headed(step) {
-        see_event(calm, network, event, server)?;
         let injected = injected_at(sightings, network, event);
         see_step(calm, network, injected, step, server, mended)
     } else {
