@@ -1,10 +1,11 @@
-pub mod Plain
-pub mod Storing
-pub mod Loading
-pub mod Placed
-pub mod Calls
-pub mod Logs
-pub mod Entries
-pub mod Free
-pub mod WellKept
-pub mod LawfulKept
+mod Settling
+mod Shown
+mod Performing
+mod Acted
+mod Delivered
+mod Moved
+mod Going
+mod Finishing
+mod Began
+mod Opened
+mod Watched

@@ -1,8 +1,8 @@
-pub mod Cluster
-pub mod Placing
-pub mod Striped
 pub mod State
-pub mod Names
-pub mod Errors
-pub mod Events
-pub mod History
+pub mod Acting
+pub mod Going
+pub mod Groups
+pub mod Rules
+pub mod Refusing
+pub mod Steps
+pub mod Watching

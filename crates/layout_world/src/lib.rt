@@ -1,16 +1,24 @@
-//! All parties of a scenario: its drives, clients and files, and what its events do to them.
+//! The world of a scenario: drives, clients, the metadata server, and the network between them.
+//!
+//! [`World`] carries out the events of a scenario one after another and appends the lines of each. An event is one move
+//! after another, each the action of one party; `world_history` defines them all, and what a lawful history is.
 #![tactic(auto)]
 
-mod cluster;
-mod drive;
-mod drives;
-mod err;
-mod file;
-mod making;
-mod names;
-mod placing;
-mod striped;
+mod acts;
+mod beginning;
+mod by_client;
+mod by_server;
+mod changing;
+mod delivering;
+mod err_name;
+mod following;
+mod moving;
+mod parties;
+mod refusing;
+mod rules;
 mod world;
 
-pub use err::WorldErr;
-pub use world::{Lines, World};
+pub use err_name::error_name;
+pub use world::World;
+pub use world_history::{Summary, WorldErr};
+pub use world_network::Lines;

@@ -1,243 +1,233 @@
-ghost use Rattle.std.specs.Prelude.{◌≡◌, ◌++◌, ◌∷◌, ◌↔◌, ◌⊎◌, [], true, false, IsErrOf, IsTrue, IfOk, IfErr, OnOk};
-ghost use Rattle.std.specs.Option.{option_to_list};
-ghost use Rattle.layout_world.specs.State.{new_cluster, IsWell};
-ghost use Rattle.layout_world.specs.Events.{raw_of, CanCall, Calls, IsAllowed, Denies, IsKept, Refuses, Leads};
-ghost use Rattle.layout_world.specs.Names.{IsNamed, IsTaken};
-ghost use Rattle.layout_world.specs.History.{StandsFor, Steps};
+ghost use Rattle.std.specs.Prelude.{◌≡◌, ◌≤◌, None, false, length, drop, [], Err, IfOk, IfErr, OnOk, OnErr};
+ghost use Rattle.stripe_repair.specs.Placing.{IsPlacer};
+ghost use Rattle.scenario_text.specs.declared.line.Line.TheVariants as line;
+ghost use Rattle.world_history.specs.Plans.{rule_of};
+ghost use Rattle.world_history.specs.Refusals.{refusal};
+ghost use Rattle.world_history.specs.State.{World as TheWorld, empty_world};
+ghost use Rattle.world_history.specs.Summing.{no_summary};
+ghost use Rattle.world_watch.specs.Watching.{HasSeen, Watches};
+ghost use Rattle.layout_world.specs.State.{Shows};
+ghost use Rattle.layout_world.specs.Going.{Comes, Finishes, behind};
+ghost use Rattle.layout_world.specs.Refusing.{IsEnd};
+ghost use Rattle.layout_world.specs.Steps.{StepsAs, Ends};
+ghost use Rattle.layout_world.specs.Watching.{LeavesTold, WatchesOn};
 
-use crate::cluster::Cluster;
-use crate::err::WorldErr;
-use crate::names::{made, named};
-use data_map::RawMap;
-use osd_bytes::{Memory, Sequence};
-use scenario_text::{Call, ClientName, Event, FileMap, Line, Note, Outcome};
+use crate::acts::perform;
+use crate::beginning::begin;
+use crate::following::follow;
+use crate::parties::Parties;
+use crate::refusing::refusal;
+use crate::rules::rule_of;
+use osd_bytes::{Memory, Numbers};
+use scenario_text::{Event, Line};
 use std::alloc::Global;
 use std::marker::Model;
+use stripe_repair::{DriveLoad, Placer};
+use world_history::{Summary, WorldErr, full_is_cut, one_event_more};
+use world_network::Lines;
+use world_watch::{Watch, watch_is_read};
 
-/// Lines of a transcript.
-pub type Lines = Sequence<Line>;
-
-/// All parties of a scenario: what its events make of them, and the lines that this writes.
+/// The world of a scenario: all parties, what was sent between them, and whether its history is calm and unguessed.
 #[derive(Drop)]
 pub struct World {
-    cluster: Cluster,
+    alloc: Global,
+    parties: Parties,
+    watch: Watch,
     over: bool,
 }
 
 impl Model for World {
-    ghost use Rattle.std.specs.Prelude.{◌≡◌, false};
-    ghost use Rattle.layout_world.specs.State.{IsWell};
-    ghost use Rattle.layout_world.specs.History.{WorldState};
+    ghost use Rattle.layout_world.specs.State.{WorldState};
 
     ghost Value = { WorldState };
 
-    ghost view = { λ w. record { state = w.cluster; over = w.over } };
-
-    ghost invariant = { λ w. w.over ≡ false → IsWell w.cluster };
+    ghost view = { λ w. record { parties = w.parties; watch = w.watch; over = w.over } };
 }
 
-// The map of a `file` event.
-fn raw_map(map: &FileMap) -> RawMap
-    ensures { result ≡ raw_of map.now }
-{
-    RawMap {
-        comps: map.components,
-        unit: map.unit,
-        width: map.width,
-        depth: map.depth,
-        mirrors: map.mirrors,
-        algorithm: map.algorithm,
-    }
-}
-
-// Whether what an event names exists.
-fn is_named(cluster: &Cluster, event: &Event) -> bool
-    requires { IsWell cluster.now }
-    ensures { IsTrue result ↔ IsNamed cluster.now event.now }
-{
-    match named(event) {
-        Some(name) => cluster.exists(name),
-        None => true,
-    }
-}
-
-// Whether what an event makes exists.
-fn is_taken(cluster: &Cluster, event: &Event) -> bool
-    requires { IsWell cluster.now }
-    ensures { IsTrue result ↔ IsTaken cluster.now event.now }
-{
-    match made(event) {
-        Some(name) => cluster.exists(name),
-        None => false,
-    }
-}
-
-// Carries out a call, and tells how it ended.
-fn carry_out_call(cluster: &mut Cluster, client: &ClientName, call: &Call) -> Result<Line, WorldErr>
-    requires { IsWell cluster.old }
-    ensures ok { IfOk result (λ line. CanCall cluster.old call.now × Calls cluster.old client.now call.now (line ∷ []) cluster.new) }
-    ensures refused { IfErr result (Denies (CanCall cluster.old call.now)) }
-    ensures kept { IfErr result (IsKept cluster.old cluster.new) }
-{
-    let outcome = match call {
-        Call::Write {
-            file,
-            offset,
-            bytes,
-        } => {
-            cluster.write(file.number(), *offset, bytes.as_slice())?;
-            Outcome::WriteOk {
-                length: bytes.len() as u64,
-            }
-        }
-        Call::Read {
-            file,
-            offset,
-            length,
-        } => Outcome::ReadOk {
-            bytes: cluster.read(file.number(), *offset, *length)?,
-        },
-    };
-    Ok(Line::Ended {
-        client: *client,
-        outcome,
-    })
-}
-
-// Carries out an event whose names are right, and gives the line that follows its own, if there is one.
-fn carry_out_named(cluster: &mut Cluster, event: &Event) -> Result<Option<Line>, WorldErr>
-    requires well { IsWell cluster.old }
-    requires named { IsNamed cluster.old event.now }
-    requires free { IsTaken cluster.old event.now → ⊥ }
-    ensures ok { IfOk result (λ rest. IsAllowed cluster.old event.now × Leads cluster.old event.now (option_to_list rest) cluster.new) }
-    ensures refused { IfErr result (Denies (IsAllowed cluster.old event.now)) }
-    ensures kept { IfErr result (IsKept cluster.old cluster.new) }
-{
-    match event {
-        Event::Drive {
-            drive,
-            capacity,
-            ..
-        } => {
-            cluster.add_drive(drive.number(), *capacity)?;
-            Ok(None)
-        }
-        Event::Client { client } => {
-            cluster.add_client(client.number());
-            Ok(None)
-        }
-        Event::File { file, map, .. } => {
-            cluster.add_file(file.number(), raw_map(map))?;
-            Ok(Some(Line::Note {
-                file: *file,
-                note: Note::Ready,
-            }))
-        }
-        Event::Do { client, call } => Ok(Some(carry_out_call(cluster, client, call)?)),
-        _ => Err(WorldErr::NotYet),
-    }
-}
-
-// Carries out an event, and gives the line that follows its own, if there is one.
-fn carry_out(cluster: &mut Cluster, event: &Event) -> Result<Option<Line>, WorldErr>
-    requires { IsWell cluster.old }
-    ensures ok { IfOk result (λ rest. IsAllowed cluster.old event.now × Leads cluster.old event.now (option_to_list rest) cluster.new) }
-    ensures refused { IfErr result (Refuses cluster.old event.now) }
-    ensures kept { IfErr result (IsKept cluster.old cluster.new) }
-{
-    if !is_named(cluster, event) {
-        return Err(WorldErr::NoName);
-    }
-    if is_taken(cluster, event) {
-        return Err(WorldErr::Taken);
-    }
-    carry_out_named(cluster, event)
-}
-
-// Appends the line that follows an event's own.
-fn append(rest: Option<Line>, lines: &mut Lines) -> Result<(), Memory>
-    ensures { OnOk result (lines.new ≡ lines.old ++ option_to_list rest) }
-{
-    match rest {
-        Some(line) => lines.push(line),
-        None => Ok(()),
-    }
-}
-
-// Carries out an event, and appends the lines behind its own.
-fn carry_out_and_tell(
-    cluster: &mut Cluster,
-    event: &Event,
+// The line of an event that isn't refused, and what it begins with.
+fn open<F>(
+    parties: &mut Parties,
+    watch: &mut Watch,
+    alloc: Global,
+    event: Event,
+    placer: &Placer<F>,
     lines: &mut Lines,
 ) -> Result<(), WorldErr>
-    requires { IsWell cluster.old }
-    ensures ok { OnOk result (Steps cluster.old event.now lines.old lines.new cluster.new) }
-    ensures well { IsErrOf result WorldErr.Memory ⊎ IsWell cluster.new }
-    ensures refused { IfErr result (Refuses cluster.old event.now) }
-    ensures kept { IfErr result (IsKept cluster.old cluster.new) }
-    ensures lines { IfErr result (IsKept lines.old lines.new) }
+where
+    F: Fn(u32, &[DriveLoad]) -> Result<Numbers, Memory>,
+    requires placer { IsPlacer F.Fn placer.now }
+    ensures comes { (w : TheWorld) → Shows parties.old w → refusal w event ≡ None
+        → Comes w event lines.old (behind (rule_of w event)) parties.new lines.new result }
+    ensures sent { OnOk result ((w : TheWorld) → Shows parties.old w
+        → length parties.old.network.messages ≤ length parties.new.network.messages) }
+    ensures told { LeavesTold watch.old watch.new }
+    ensures halts { IfErr result IsEnd }
 {
-    let rest = carry_out(cluster, event)?;
-    append(rest, lines)?;
+    let before = lines.len();
+    match begin(parties, alloc, &event, placer) {
+        Ok(act) => match lines.push(Line::Event { event }) {
+            Ok(()) => perform(parties, watch, alloc, act, before, lines),
+            Err(_) => Err(WorldErr::Memory),
+        },
+        Err(Memory) => Err(WorldErr::Memory),
+    }
+}
+
+// The line of an event that isn't refused, and its moves to the end.
+fn carry_moves<F>(
+    parties: &mut Parties,
+    watch: &mut Watch,
+    alloc: Global,
+    event: Event,
+    placer: &Placer<F>,
+    lines: &mut Lines,
+) -> Result<(), WorldErr>
+where
+    F: Fn(u32, &[DriveLoad]) -> Result<Numbers, Memory>,
+    requires placer { IsPlacer F.Fn placer.now }
+    ensures finishes { (w : TheWorld) → Shows parties.old w → refusal w event ≡ None
+        → Finishes w event lines.old parties.new lines.new result }
+    ensures told { LeavesTold watch.old watch.new }
+    ensures halts { IfErr result IsEnd }
+{
+    match rule_of(parties, alloc, &event) {
+        Ok(rule) => match open(parties, watch, alloc, event, placer, lines) {
+            Ok(()) => follow(parties, watch, alloc, rule, placer, lines),
+            Err(error) => Err(error),
+        },
+        Err(Memory) => Err(WorldErr::Memory),
+    }
+}
+
+// The watch sees all lines of an event, which begin at `before`.
+fn see_event(
+    parties: &Parties,
+    watch: &mut Watch,
+    before: usize,
+    lines: &Lines,
+) -> Result<(), WorldErr>
+    ensures cause { OnErr result (result ≡ Err WorldErr.Memory) }
+    ensures seen { OnOk result (before ≤ length lines.now
+        → HasSeen parties.now.network.messages (drop before lines.now) watch.old watch.new) }
+{
+    if let Some((_, own)) = lines.as_slice().split_at_checked(before) {
+        watch.see_event(&parties.network, own)?;
+    }
     Ok(())
 }
 
-// Whether want of memory was the answer.
-fn wants_memory(outcome: &Result<(), WorldErr>) -> bool
-    ensures { IsTrue result ↔ IsErrOf outcome.now WorldErr.Memory }
+// Carries out an event that isn't refused.
+fn carry_out<F>(
+    parties: &mut Parties,
+    watch: &mut Watch,
+    alloc: Global,
+    event: Event,
+    placer: &Placer<F>,
+    lines: &mut Lines,
+) -> Result<(), WorldErr>
+where
+    F: Fn(u32, &[DriveLoad]) -> Result<Numbers, Memory>,
+    requires placer { IsPlacer F.Fn placer.now }
+    ensures finishes { (w : TheWorld) → Shows parties.old w → refusal w event ≡ None
+        → Finishes w event lines.old parties.new lines.new result }
+    ensures seen { OnOk result (length lines.old ≤ length lines.new
+        → HasSeen parties.new.network.messages (drop (length lines.old) lines.new) watch.old watch.new) }
+    ensures halts { IfErr result IsEnd }
 {
-    matches!(outcome, Err(WorldErr::Memory))
+    let before = lines.len();
+    match carry_moves(parties, watch, alloc, event, placer, lines) {
+        Ok(()) => see_event(parties, watch, before, lines),
+        Err(error) => Err(error),
+    }
 }
 
 impl World {
-    /// A world without drives, clients and files.
-    pub fn new(alloc: Global) -> Self
-        ensures state { result ≡ record { state = new_cluster; over = false } }
-        ensures stands { StandsFor result.state [] }
+    /// The world of a scenario that hasn't begun.
+    ///
+    /// # Errors
+    ///
+    /// Want of memory alone.
+    pub fn new(alloc: Global) -> Result<Self, Memory>
+        ensures shows { IfOk result (λ world. Shows world.parties empty_world) }
+        ensures watches { IfOk result (λ world. Watches [] world.watch) }
+        ensures summary { IfOk result (λ world. world.watch.summary ≡ no_summary) }
+        ensures over { IfOk result (λ world. world.over ≡ false) }
     {
-        World {
-            cluster: Cluster::new(alloc),
+        watch_is_read();
+        Ok(World {
+            alloc,
+            parties: Parties::new(alloc)?,
+            watch: Watch::new(alloc),
             over: false,
-        }
+        })
     }
 
-    /// Whether want of memory ended the world, so that no event may follow.
+    /// Whether the world has ended, so that no event may follow.
     pub fn is_over(&self) -> bool
         ensures { result ≡ self.now.over }
     {
         self.over
     }
 
-    /// Carries out an event, and appends the lines behind the event's own line, which is the caller's
-    /// to write. The world must not be over.
+    /// Carries out an event, and appends its lines, of which its own is the first. The world must not be over.
     ///
     /// # Errors
     ///
-    /// The first of these that applies: `NoName` where a named drive, client or file doesn't exist, but
-    /// for what the event is to make and for the files of calls; `Taken` where the drive or client to be
-    /// made exists; `NotYet` where the event can't be carried out yet. They change nothing. `Memory` ends
-    /// the world.
-    pub fn step(&mut self, event: &Event, lines: &mut Lines) -> Result<(), WorldErr>
-        requires { self.old.over ≡ false }
-        ensures ok { OnOk result (Steps self.old.state event.now lines.old lines.new self.new.state) }
-        ensures refused { IfErr result (Refuses self.old.state event.now) }
-        ensures kept { IfErr result (IsKept self.old self.new) }
-        ensures lines { IfErr result (IsKept lines.old lines.new) }
-        ensures over { IsTrue self.new.over ↔ IsErrOf result WorldErr.Memory }
+    /// The first of these that applies: `NotYet` where the event can't be carried out yet; `NoName` where a named drive,
+    /// client or file doesn't exist, but for what the event is to make and for the files of calls; `Taken` where the drive
+    /// or client to be made exists; `Dead` where the named client was stopped or the named drive failed, but for a
+    /// declared one; `Alive` where a drive that is declared hasn't failed; `NoMessage` where the message wasn't sent. They
+    /// change nothing. `KeptFull`, where a message would pass the limit of kept bytes, and `Memory` end the world; the lines
+    /// appended stand.
+    pub fn step<F>(
+        &mut self,
+        event: Event,
+        placer: &Placer<F>,
+        lines: &mut Lines,
+    ) -> Result<(), WorldErr>
+    where
+        F: Fn(u32, &[DriveLoad]) -> Result<Numbers, Memory>,
+        requires placer { IsPlacer F.Fn placer.now }
+        ensures steps { StepsAs event lines.old lines.new self.old self.new result }
+        ensures watches { OnOk result (WatchesOn lines.old lines.new self.old self.new) }
+        ensures over { Ends self.old self.new result }
     {
-        let outcome = carry_out_and_tell(&mut self.cluster, event, lines);
-        self.over = wants_memory(&outcome);
-        outcome
+        watch_is_read();
+        one_event_more();
+        full_is_cut();
+        if let Some(cause) = refusal(&self.parties, &event) {
+            return Err(cause);
+        }
+        match carry_out(
+            &mut self.parties,
+            &mut self.watch,
+            self.alloc,
+            event,
+            placer,
+            lines,
+        ) {
+            Ok(()) => {
+                self.parties.fit();
+                Ok(())
+            }
+            Err(error) => {
+                self.over = true;
+                Err(error)
+            }
+        }
     }
 
-    /// The last line of the transcript. No stripe of plain striping has parity, and no message is
-    /// injected, so every history is calm and unguessed.
+    /// The last line of the transcript: whether the history is calm and unguessed.
     pub fn last_line(&self) -> Line
-        ensures { result ≡ Line.Last true true }
+        ensures { result ≡ line.Last self.now.watch.calm self.now.watch.guesses.unguessed }
     {
-        Line::Last {
-            calm: true,
-            unguessed: true,
-        }
+        self.watch.last_line()
+    }
+
+    /// What the history comes to, in numbers.
+    pub fn summary(&self) -> Summary
+        ensures { result ≡ self.now.watch.summary }
+    {
+        self.watch.summary()
     }
 }

@@ -94,12 +94,12 @@ unfolding stops_at
 no_line_inspected inspection kind b a now taken middle number failed whole TooLong s next fault writes put = record {
   number = number + 1;
   stops = stops_at inspection kind b a now taken middle number failed (full_name LineQuantity) whole s writes put;
-  passes = passes_next b.left now taken s.lines LineQuantity s.reached next;
+  passes = passes_next b.left now taken s.lines LineQuantity TooLong s.reached refl next;
 }
 no_line_inspected inspection kind b a now taken middle number failed whole InputFull s next fault writes put = record {
   number = number + 1;
   stops = stops_at inspection kind b a now taken middle number failed (full_name Input) whole s writes put;
-  passes = passes_next b.left now taken s.lines Input s.reached next;
+  passes = passes_next b.left now taken s.lines Input InputFull s.reached refl next;
 }
 no_line_inspected inspection kind b a now taken middle number failed whole LineFault s next fault writes put = record {
   number = number + 1;

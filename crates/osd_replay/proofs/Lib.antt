@@ -1,6 +1,10 @@
 pub mod Pieces
+pub mod Telling
 pub mod SoFar
 pub mod Promised
 pub mod Words
 pub mod Inspecting
 pub mod Stopping
+pub mod Generated
+pub mod Making
+pub mod Placed

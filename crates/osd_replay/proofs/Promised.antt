@@ -1,38 +1,42 @@
 -- Each way to end keeps its promise.
-use Rattle.std.proofs.Common.{◌≡◌, ℕ, ◌+◌, ◌<◌, Bool, true, false, List, [], ◌∷◌, ◌++◌, length, take, Option, Some, None, Result, Ok, Err, refl, sym, ap, subst, ◌∙◌, append_assoc, arith, inl, inr}
+use Rattle.std.proofs.Common.{◌≡◌, ℕ, ◌+◌, ◌<◌, Bool, true, false, List, [], ◌∷◌, ◌++◌, length, take, Option, Some, None, Result, Ok, Err, refl, sym, ap, subst, ◌∙◌, arith, inl, inr}
 use Rattle.std.specs.Prelude.{codes}
-use Rattle.std.specs.Io.KnownBytes.{Appends, IsAtEnd}
+use Rattle.std.specs.Io.KnownBytes.{Appends, IsAtEnd, prepend_known}
 use Rattle.std.proofs.Math.Seq.{take-append-add}
-use Rattle.std.proofs.lemmas.List.{append-nil, take_all, take-append-le}
-use Rattle.std.specs.Io.KnownBytes.{prepend_known}
+use Rattle.std.proofs.lemmas.List.{append-nil, length-append, take_all}
 use Rattle.osd_bytes.specs.Reading.{SeesEnd}
 use Rattle.osd_bytes.specs.Causes.{Rose}
 use Rattle.osd_bytes.specs.Lines.{NextIs, Yields, TakesLine, lines_of, next_of}
 use Rattle.osd_bytes.specs.declared.lines.LineErr.{LineErr}
 use Rattle.osd_bytes.specs.declared.lines.LineErr.TheVariants.{TooLong, InputFull, ReadFault as LineFault, Memory as LineMemory}
 use Rattle.osd_bytes.proofs.Known.{Appends-then}
-use Rattle.scenario_text.specs.declared.line.Line.TheVariants.{Last}
-use Rattle.layout_world.specs.State.{ClusterState, new_cluster}
-use Rattle.layout_world.specs.History.{Step, lines_of_steps, state_from}
+use Rattle.scenario_text.specs.declared.line.Line.{Line}
 use Rattle.scenario_text.specs.LineSpelling.{lines_text}
+use Rattle.world_history.specs.State.{World, empty_world}
+use Rattle.world_watch.specs.Watching.{Watches}
+use Rattle.layout_world.specs.State.{WorldState, Shows}
+use Rattle.osd_replay.specs.Transcript.{EndsWith}
 use Rattle.osd_replay.specs.Errors.{error_line, full_name, kind_name}
 use Rattle.osd_replay.specs.Puts.{Puts}
-use Rattle.osd_replay.specs.Finish.{Finishes, last_text}
+use Rattle.osd_replay.specs.Finish.{Finishes}
 use Rattle.osd_replay.specs.Stops.{error_of, status_of, stop_of_line}
-use Rattle.osd_replay.specs.LineCarried.{CarriesLine, StopsLine}
-use Rattle.osd_replay.specs.Ends.{Ends, Begins, IsAll, PassesNext, Tells, limit_passed}
-use Rattle.osd_replay.specs.Replay.{Runs, IsRefused, RefusesNext, final_text, Promises, Stops}
+use Rattle.osd_replay.specs.LineCarried.{CarriesLine, CarriesSpelled, CarriesBy, CarriesCut, StopsLine, StopsLineIn}
+use Rattle.osd_replay.specs.Ends.{Ends, Begins, IsAll, PassesNext, PutsError, IsLimitPassed}
+use Rattle.osd_replay.specs.Replay.{Runs, IsRefused, RefusesNext, CutsNext, IsTranscript, IsWriteFault, Promises, Stops}
+use Rattle.osd_replay.specs.Replay.IsTranscript.{Whole, Cut, Ended}
+use Rattle.osd_replay.specs.declared.carry_out.Carried.{Carried}
 use Rattle.osd_replay.specs.declared.status.Quantity.{Quantity}
-use Rattle.osd_replay.specs.declared.status.Quantity.TheVariants.{Input, Line as LineQuantity}
+use Rattle.osd_replay.specs.declared.status.Quantity.TheVariants.{Input, Line as LineQuantity, Kept}
 use Rattle.osd_replay.specs.declared.status.ScenarioKind.{ScenarioKind}
 use Rattle.osd_replay.specs.declared.status.Status.{Status}
 use Rattle.osd_replay.specs.declared.status.Status.TheVariants.{Done, BadWords, BadScenario, ReadFault, WriteFault, Memory, Full as IsFull}
 use Rattle.osd_replay.specs.declared.stop.Stop.{Stop}
 use Rattle.osd_replay.specs.declared.stop.Stop.TheVariants.{Refused, Read, Memory as WantsMemory, Full as StopsFull}
-use Rattle.osd_replay.proofs.SoFar.{SoFar, Reached, one_more, text_more, reached_more}
+use Rattle.osd_replay.proofs.Telling.{tells_none, tells_more}
+use Rattle.osd_replay.proofs.SoFar.{SoFar, Reached, events_more, text_more, reached_more, reached_none, appends_none}
 
 -- what went out before an error line, and that line
-pub tells : (b a : Ends) (middle : Option (List ℕ)) (bytes error : List ℕ) (failed : ℕ) (whole : Bool) → Appends b.taken middle bytes → Puts middle a.taken failed a.writes_failed error whole → failed ≡ b.writes_failed → Tells b a bytes error
+pub tells : (b a : Ends) (middle : Option (List ℕ)) (bytes error : List ℕ) (failed : ℕ) (whole : Bool) → Appends b.taken middle bytes → Puts middle a.taken failed a.writes_failed error whole → failed ≡ b.writes_failed → PutsError b a bytes error
 tells b a middle bytes error failed true out put same = record {
   upto = length error;
   out = Appends-then b.taken middle a.taken bytes (take (length error) error) out (subst (Appends middle a.taken) (sym (take_all (length error) error (omega arith))) put.0);
@@ -56,140 +60,225 @@ all_lines (Some input) lines taken None next r y = absurd r
 all_lines (Some input) lines taken (Some rest) None r y = absurd y
 all_lines (Some input) lines taken (Some rest) (Some later) r y = r.3 ∙ ap (λ (x : List ℕ). lines ++ lines_of x) y ∙ append-nil lines
 
-runs : (input now : Option (List ℕ)) (taken : ℕ) (before after : Option (List ℕ)) (state : ClusterState) (number : ℕ) → (s : SoFar input now taken before after state number) → Runs input s.lines s.steps
-runs input now taken before after state number s = record { begins = begins input s.lines taken now s.reached; events = s.events; run = s.run }
-
-final_text_is : (steps : List Step) → final_text steps ≡ lines_text (lines_of_steps steps) ++ last_text
-final_text_is steps = text_more (lines_of_steps steps) (Last true true ∷ [])
+runs : (input now : Option (List ℕ)) (taken : ℕ) (before after : Option (List ℕ)) (number : ℕ) (state : WorldState) → (s : SoFar input now taken before after number state) → Runs input s.lines s.world s.history
+runs input now taken before after number state s = record { begins = begins input s.lines taken now s.reached; events = s.events; spelled = s.spelled; tells = s.tells }
 
 -- the front of some bytes and those behind them
 front_and_more : (xs ys zs : List ℕ) (n : ℕ) → zs ≡ xs ++ ys → take (length xs + n) zs ≡ xs ++ take n ys
 front_and_more xs ys zs n same = ap (take (length xs + n)) same ∙ take-append-add xs ys n
 
-pub finished : (b a : Ends) (now next : Option (List ℕ)) (taken : ℕ) (middle : Option (List ℕ)) (state : ClusterState) (number failed : ℕ) (status : Status) → SoFar b.left now taken b.taken middle state number →
-    Yields now next (Ok None) → IsAtEnd a.left → a.reads_failed ≡ b.reads_failed → failed ≡ b.writes_failed → Finishes middle a.taken failed a.writes_failed status → Promises b a status
-finished b a now next taken middle state number failed Done s y end reads writes fin = record {
+-- a part of these lines went out: all of a front of them, and a part of the rest
+part_of : (b a : Ends) (middle : Option (List ℕ)) (text front more : List Line) (upto : ℕ) → IsTranscript b.left text → text ≡ front ++ more → upto < length (lines_text more) →
+    Appends b.taken middle (lines_text front) → Appends middle a.taken (take upto (lines_text more)) → Rose b.writes_failed a.writes_failed → IsWriteFault b a
+part_of b a middle text front more upto is split short out part rose =
+    let whole : lines_text text ≡ lines_text front ++ lines_text more = ap lines_text split ∙ text_more front more in
+    record {
+      text = text;
+      transcript = is;
+      upto = length (lines_text front) + upto;
+      short = rw whole (omega (arith, short, length-append (lines_text front) (lines_text more)));
+      out = subst (Appends b.taken a.taken) (sym (front_and_more (lines_text front) (lines_text more) (lines_text text) upto whole))
+          (Appends-then b.taken middle a.taken (lines_text front) (take upto (lines_text more)) out part);
+      rose = rose;
+    }
+
+pub finished : (b a : Ends) (now next : Option (List ℕ)) (taken : ℕ) (middle : Option (List ℕ)) (number failed : ℕ) (state : WorldState) (last : Line) (status : Status) → SoFar b.left now taken b.taken middle number state →
+    Yields now next (Ok None) → IsAtEnd a.left → a.reads_failed ≡ b.reads_failed → failed ≡ b.writes_failed → ((w : World) (h : List Line) → Shows state.parties w → Watches h state.watch → EndsWith w h last) → Finishes last middle a.taken failed a.writes_failed status → Promises b a status
+finished b a now next taken middle number failed state last Done s y end reads writes ends fin = record {
   lines = s.lines;
-  steps = s.steps;
-  runs = runs b.left now taken b.taken middle state number s;
+  world = s.world;
+  history = s.history;
+  runs = runs b.left now taken b.taken middle number state s;
   all = all_lines b.left s.lines taken now next s.reached y;
-  out = subst (Appends b.taken a.taken) (sym (final_text_is s.steps)) (Appends-then b.taken middle a.taken (lines_text (lines_of_steps s.steps)) last_text s.out fin.0);
+  last = last;
+  ends = ends s.world s.history s.shows s.watches;
+  out = subst (Appends b.taken a.taken) (sym (text_more s.history (last ∷ []))) (Appends-then b.taken middle a.taken (lines_text s.history) (lines_text (last ∷ [])) s.out fin.0);
   at_end = end;
   reads = reads;
   writes = fin.1 ∙ writes;
 }
-finished b a now next taken middle state number failed WriteFault s y end reads writes fin = record {
+finished b a now next taken middle number failed state last WriteFault s y end reads writes ends fin =
+    part_of b a middle (s.history ++ last ∷ []) s.history (last ∷ []) fin.0
+    (Ended s.lines s.world s.history last (runs b.left now taken b.taken middle number state s) (all_lines b.left s.lines taken now next s.reached y) (ends s.world s.history s.shows s.watches) refl)
+    refl fin.1 s.out fin.2 (subst (λ x. Rose x a.writes_failed) writes fin.3)
+finished b a now next taken middle number failed state last Memory s y end reads writes ends fin = record {
   lines = s.lines;
-  steps = s.steps;
-  runs = runs b.left now taken b.taken middle state number s;
-  upto = length (lines_text (lines_of_steps s.steps)) + fin.0;
-  out = subst (Appends b.taken a.taken) (sym (front_and_more (lines_text (lines_of_steps s.steps)) last_text (final_text s.steps) fin.0 (final_text_is s.steps)))
-      (Appends-then b.taken middle a.taken (lines_text (lines_of_steps s.steps)) (take fin.0 last_text) s.out fin.2);
-  rose = subst (λ x. Rose x a.writes_failed) writes fin.3;
-}
-finished b a now next taken middle state number failed Memory s y end reads writes fin = record {
-  lines = s.lines;
-  steps = s.steps;
-  runs = runs b.left now taken b.taken middle state number s;
+  world = s.world;
+  history = s.history;
+  runs = runs b.left now taken b.taken middle number state s;
   number = 0;
-  number_is = inr (refl, all_lines b.left s.lines taken now next s.reached y);
-  tells = tells b a middle (lines_text (lines_of_steps s.steps)) (error_line 0 (codes "memory")) failed fin.0 s.out fin.1 writes;
+  number_is = inr (refl, inr (all_lines b.left s.lines taken now next s.reached y));
+  puts = tells b a middle (lines_text s.history) (error_line 0 (codes "memory")) failed fin.0 s.out fin.1 writes;
 }
-finished b a now next taken middle state number failed BadWords s y end reads writes fin = absurd fin
-finished b a now next taken middle state number failed ReadFault s y end reads writes fin = absurd fin
-finished b a now next taken middle state number failed (BadScenario line kind) s y end reads writes fin = absurd fin
-finished b a now next taken middle state number failed (IsFull quantity) s y end reads writes fin = absurd fin
+finished b a now next taken middle number failed state last BadWords s y end reads writes ends fin = absurd fin
+finished b a now next taken middle number failed state last ReadFault s y end reads writes ends fin = absurd fin
+finished b a now next taken middle number failed state last (BadScenario line kind) s y end reads writes ends fin = absurd fin
+finished b a now next taken middle number failed state last (IsFull quantity) s y end reads writes ends fin = absurd fin
 
 -- the line reader answers that a quantity passes its limit
-pub passes_next : (input now : Option (List ℕ)) (taken : ℕ) (lines : List (List ℕ)) (quantity : Quantity) → Reached input lines taken now → NextIs taken now (Err (limit_passed quantity)) → PassesNext input lines quantity
-passes_next None now taken lines quantity r next = tt
-passes_next (Some input) None taken lines quantity r next = absurd r
-passes_next (Some input) (Some rest) taken lines Input r next = (r.0, rest, r.1, r.3, ap (λ n. next_of n rest) r.2 ∙ next)
-passes_next (Some input) (Some rest) taken lines LineQuantity r next = (r.0, rest, r.1, r.3, ap (λ n. next_of n rest) r.2 ∙ next)
+pub passes_next : (input now : Option (List ℕ)) (taken : ℕ) (lines : List (List ℕ)) (quantity : Quantity) (e : LineErr) → Reached input lines taken now → IsLimitPassed quantity e → NextIs taken now (Err e) → PassesNext input lines quantity
+passes_next None now taken lines quantity e r limit next = tt
+passes_next (Some input) None taken lines quantity e r limit next = absurd r
+passes_next (Some input) (Some rest) taken lines Input InputFull r limit next = (r.0, rest, r.1, r.3, InputFull, limit, ap (λ n. next_of n rest) r.2 ∙ next)
+passes_next (Some input) (Some rest) taken lines LineQuantity TooLong r limit next = (r.0, rest, r.1, r.3, TooLong, limit, ap (λ n. next_of n rest) r.2 ∙ next)
+passes_next (Some input) (Some rest) taken lines Input TooLong r limit next = absurd (cc limit)
+passes_next (Some input) (Some rest) taken lines Input LineFault r limit next = absurd (cc limit)
+passes_next (Some input) (Some rest) taken lines Input LineMemory r limit next = absurd (cc limit)
+passes_next (Some input) (Some rest) taken lines LineQuantity InputFull r limit next = absurd (cc limit)
+passes_next (Some input) (Some rest) taken lines LineQuantity LineFault r limit next = absurd (cc limit)
+passes_next (Some input) (Some rest) taken lines LineQuantity LineMemory r limit next = absurd (cc limit)
+passes_next (Some input) (Some rest) taken lines Kept e r limit next = absurd limit
 
 -- the line that comes next is refused
-refuses : (input now : Option (List ℕ)) (taken : ℕ) (lines : List (List ℕ)) (c : ClusterState) (kind : ScenarioKind) (answer : Result (Option (List ℕ)) LineErr) → Reached input lines taken now → NextIs taken now answer →
-    ((rest : List ℕ) → NextIs taken (Some rest) answer → IsRefused c kind (next_of taken rest)) → RefusesNext input lines c kind
-refuses None now taken lines c kind answer r next refused = tt
-refuses (Some input) None taken lines c kind answer r next refused = absurd r
-refuses (Some input) (Some rest) taken lines c kind answer r next refused =
-    (r.0, rest, r.1, r.3, subst (λ n. IsRefused c kind (next_of n rest)) (sym r.2) (refused rest next))
+refuses : (input now : Option (List ℕ)) (taken : ℕ) (lines : List (List ℕ)) (w : World) (kind : ScenarioKind) (answer : Result (Option (List ℕ)) LineErr) → Reached input lines taken now → NextIs taken now answer →
+    ((rest : List ℕ) → NextIs taken (Some rest) answer → IsRefused w kind (next_of taken rest)) → RefusesNext input lines w kind
+refuses None now taken lines w kind answer r next refused = tt
+refuses (Some input) None taken lines w kind answer r next refused = absurd r
+refuses (Some input) (Some rest) taken lines w kind answer r next refused =
+    (r.0, rest, r.1, r.3, subst (λ n. IsRefused w kind (next_of n rest)) (sym r.2) (refused rest next))
 
-stops_at : (b a : Ends) (now : Option (List ℕ)) (taken : ℕ) (middle : Option (List ℕ)) (state : ClusterState) (number failed : ℕ) (reason : List ℕ) (whole : Bool) → (s : SoFar b.left now taken b.taken middle state number) → failed ≡ b.writes_failed →
+stops_at : (b a : Ends) (now : Option (List ℕ)) (taken : ℕ) (middle : Option (List ℕ)) (number failed : ℕ) (state : WorldState) (reason : List ℕ) (whole : Bool) → (s : SoFar b.left now taken b.taken middle number state) → failed ≡ b.writes_failed →
     Puts middle a.taken failed a.writes_failed (error_line (number + 1) reason) whole → Stops b a (number + 1) reason
-stops_at b a now taken middle state number failed reason whole s writes put = record {
+stops_at b a now taken middle number failed state reason whole s writes put = record {
   lines = s.lines;
-  steps = s.steps;
-  runs = runs b.left now taken b.taken middle state number s;
+  world = s.world;
+  history = s.history;
+  runs = runs b.left now taken b.taken middle number state s;
   number_is = ap (λ n. n + 1) s.count;
-  tells = tells b a middle (lines_text (lines_of_steps s.steps)) (error_line (number + 1) reason) failed whole s.out put writes;
+  puts = tells b a middle (lines_text s.history) (error_line (number + 1) reason) failed whole s.out put writes;
 }
 
-pub no_line : (b a : Ends) (now : Option (List ℕ)) (taken : ℕ) (middle : Option (List ℕ)) (state : ClusterState) (number failed : ℕ) (whole : Bool) (e : LineErr) → SoFar b.left now taken b.taken middle state number →
+-- there is no memory for the next line
+no_memory : (b a : Ends) (now : Option (List ℕ)) (taken : ℕ) (middle : Option (List ℕ)) (number failed : ℕ) (state : WorldState) (whole : Bool) → SoFar b.left now taken b.taken middle number state → failed ≡ b.writes_failed →
+    Puts middle a.taken failed a.writes_failed (error_line (number + 1) (codes "memory")) whole → Promises b a Memory
+no_memory b a now taken middle number failed state whole s writes put = record {
+  lines = s.lines;
+  world = s.world;
+  history = s.history;
+  runs = runs b.left now taken b.taken middle number state s;
+  number = number + 1;
+  number_is = inl (ap (λ n. n + 1) s.count);
+  puts = tells b a middle (lines_text s.history) (error_line (number + 1) (codes "memory")) failed whole s.out put writes;
+}
+
+pub no_line : (b a : Ends) (now : Option (List ℕ)) (taken : ℕ) (middle : Option (List ℕ)) (number failed : ℕ) (state : WorldState) (whole : Bool) (e : LineErr) → SoFar b.left now taken b.taken middle number state →
     NextIs taken now (Err e) → (e ≡ LineFault → Rose b.reads_failed a.reads_failed) → failed ≡ b.writes_failed → Puts middle a.taken failed a.writes_failed (error_of (stop_of_line e) (number + 1)) whole →
     Promises b a (status_of (stop_of_line e) (number + 1))
 unfolding stops_at
-no_line b a now taken middle state number failed whole TooLong s next fault writes put = record {
+no_line b a now taken middle number failed state whole TooLong s next fault writes put = record {
   number = number + 1;
-  stops = stops_at b a now taken middle state number failed (full_name LineQuantity) whole s writes put;
-  passes = passes_next b.left now taken s.lines LineQuantity s.reached next;
+  stops = stops_at b a now taken middle number failed state (full_name LineQuantity) whole s writes put;
+  passes = passes_next b.left now taken s.lines LineQuantity TooLong s.reached refl next;
 }
-no_line b a now taken middle state number failed whole InputFull s next fault writes put = record {
+no_line b a now taken middle number failed state whole InputFull s next fault writes put = record {
   number = number + 1;
-  stops = stops_at b a now taken middle state number failed (full_name Input) whole s writes put;
-  passes = passes_next b.left now taken s.lines Input s.reached next;
+  stops = stops_at b a now taken middle number failed state (full_name Input) whole s writes put;
+  passes = passes_next b.left now taken s.lines Input InputFull s.reached refl next;
 }
-no_line b a now taken middle state number failed whole LineFault s next fault writes put = record {
+no_line b a now taken middle number failed state whole LineFault s next fault writes put = record {
   number = number + 1;
-  stops = stops_at b a now taken middle state number failed (codes "read") whole s writes put;
+  stops = stops_at b a now taken middle number failed state (codes "read") whole s writes put;
   rose = fault refl;
 }
-no_line b a now taken middle state number failed whole LineMemory s next fault writes put = record {
-  lines = s.lines;
-  steps = s.steps;
-  runs = runs b.left now taken b.taken middle state number s;
-  number = number + 1;
-  number_is = inl (ap (λ n. n + 1) s.count);
-  tells = tells b a middle (lines_text (lines_of_steps s.steps)) (error_line (number + 1) (codes "memory")) failed whole s.out put writes;
-}
+no_line b a now taken middle number failed state whole LineMemory s next fault writes put = no_memory b a now taken middle number failed state whole s writes put
 
-pub line_stopped : (b a : Ends) (now : Option (List ℕ)) (taken : ℕ) (middle : Option (List ℕ)) (state : ClusterState) (number failed : ℕ) (whole : Bool) (line : List ℕ) (stop : Stop) → SoFar b.left now taken b.taken middle state number →
-    NextIs taken now (Ok (Some line)) → StopsLine state line stop → failed ≡ b.writes_failed → Puts middle a.taken failed a.writes_failed (error_of stop (number + 1)) whole →
+stopped_in : (b a : Ends) (now : Option (List ℕ)) (taken : ℕ) (middle : Option (List ℕ)) (number failed : ℕ) (state : WorldState) (whole : Bool) (line : List ℕ) (stop : Stop) → (s : SoFar b.left now taken b.taken middle number state) →
+    NextIs taken now (Ok (Some line)) → StopsLineIn s.world line stop → failed ≡ b.writes_failed → Puts middle a.taken failed a.writes_failed (error_of stop (number + 1)) whole →
     Promises b a (status_of stop (number + 1))
 unfolding stops_at
-line_stopped b a now taken middle state number failed whole line (Refused kind) s next stopped writes put = record {
-  stops = stops_at b a now taken middle state number failed (kind_name kind) whole s writes put;
-  refused = refuses b.left now taken s.lines (state_from new_cluster s.steps) kind (Ok (Some line)) s.reached next (λ rest h. rw h (subst (λ (x : ClusterState). IsRefused x kind (Ok (Some line))) (sym s.state_is) stopped));
+stopped_in b a now taken middle number failed state whole line (Refused kind) s next stopped writes put = record {
+  stops = stops_at b a now taken middle number failed state (kind_name kind) whole s writes put;
+  refused = refuses b.left now taken s.lines s.world kind (Ok (Some line)) s.reached next (λ rest h. rw h stopped);
 }
-line_stopped b a now taken middle state number failed whole line Read s next stopped writes put = absurd stopped
-line_stopped b a now taken middle state number failed whole line (StopsFull quantity) s next stopped writes put = absurd stopped
-line_stopped b a now taken middle state number failed whole line WantsMemory s next stopped writes put = record {
-  lines = s.lines;
-  steps = s.steps;
-  runs = runs b.left now taken b.taken middle state number s;
-  number = number + 1;
-  number_is = inl (ap (λ n. n + 1) s.count);
-  tells = tells b a middle (lines_text (lines_of_steps s.steps)) (error_line (number + 1) (codes "memory")) failed whole s.out put writes;
+stopped_in b a now taken middle number failed state whole line Read s next stopped writes put = absurd stopped
+stopped_in b a now taken middle number failed state whole line (StopsFull quantity) s next stopped writes put = absurd stopped
+stopped_in b a now taken middle number failed state whole line WantsMemory s next stopped writes put = no_memory b a now taken middle number failed state whole s writes put
+
+pub line_stopped : (b a : Ends) (now : Option (List ℕ)) (taken : ℕ) (middle : Option (List ℕ)) (number failed : ℕ) (state : WorldState) (whole : Bool) (line : List ℕ) (stop : Stop) → SoFar b.left now taken b.taken middle number state →
+    NextIs taken now (Ok (Some line)) → StopsLine line state stop → failed ≡ b.writes_failed → Puts middle a.taken failed a.writes_failed (error_of stop (number + 1)) whole →
+    Promises b a (status_of stop (number + 1))
+line_stopped b a now taken middle number failed state whole line stop s next stopped writes put =
+    stopped_in b a now taken middle number failed state whole line stop s next (stopped s.world s.shows) writes put
+
+-- ---- an event that stops at the limit of kept bytes
+
+cuts_next : (b : Ends) (now next : Option (List ℕ)) (taken more : ℕ) (middle : Option (List ℕ)) (number : ℕ) (old new : WorldState) (line : List ℕ) (carried : Carried) → (s : SoFar b.left now taken b.taken middle number old) →
+    Yields now next (Ok (Some line)) → TakesLine taken more now next (Ok (Some line)) → (c : CarriesSpelled line old new carried) → (cut : CarriesCut s.world c.event carried.text) → CutsNext b.left s.lines s.world s.history cut.lines
+cuts_next b now next taken more middle number old new line carried s y t c cut = record {
+  line = line;
+  begins = begins b.left (s.lines ++ line ∷ []) more next (reached_more b.left now next s.lines line taken more s.reached y t);
+  event = c.event;
+  fits = c.fits;
+  spells = c.spells;
+  fills = cut.fills;
+  lawful = cut.lawful s.history s.tells.stands;
 }
 
--- the sink fails in the lines of an event: they are a part of that event's text
-pub part_put : (b a : Ends) (now next : Option (List ℕ)) (taken more : ℕ) (middle : Option (List ℕ)) (state new : ClusterState) (number upto : ℕ) (line bytes : List ℕ) → SoFar b.left now taken b.taken middle state number →
-    Yields now next (Ok (Some line)) → TakesLine taken more now next (Ok (Some line)) → CarriesLine state line bytes new → upto < length bytes → Appends middle a.taken (take upto bytes) → Rose b.writes_failed a.writes_failed → Promises b a WriteFault
-part_put b a now next taken more middle state new number upto line bytes s y t carried short out rose =
-    let o = one_more s.lines s.steps line bytes state new s.events s.run s.state_is s.stands carried in
-    let whole : final_text o.steps_after ≡ lines_text (lines_of_steps s.steps) ++ (bytes ++ last_text) =
-    final_text_is o.steps_after ∙ ap (λ (x : List ℕ). x ++ last_text) o.text_is ∙ append_assoc (lines_text (lines_of_steps s.steps)) bytes last_text in
-    let part : take (length (lines_text (lines_of_steps s.steps)) + upto) (final_text o.steps_after) ≡ lines_text (lines_of_steps s.steps) ++ take upto bytes =
-    front_and_more (lines_text (lines_of_steps s.steps)) (bytes ++ last_text) (final_text o.steps_after) upto whole
-    ∙ ap (λ (x : List ℕ). lines_text (lines_of_steps s.steps) ++ x) (take-append-le upto bytes last_text (omega (arith, short))) in
+-- the sink fails in the lines of an event
+part_by : (b a : Ends) (now next : Option (List ℕ)) (taken more : ℕ) (middle : Option (List ℕ)) (number upto : ℕ) (old new : WorldState) (line : List ℕ) (carried : Carried) (is_full : Bool) → (s : SoFar b.left now taken b.taken middle number old) →
+    Yields now next (Ok (Some line)) → TakesLine taken more now next (Ok (Some line)) → (c : CarriesSpelled line old new carried) → CarriesBy s.world c.event old new carried.text is_full → upto < length carried.text → Appends middle a.taken (take upto carried.text) → Rose b.writes_failed a.writes_failed → Promises b a WriteFault
+part_by b a now next taken more middle number upto old new line carried true s y t c cut short out rose =
+    part_of b a middle (s.history ++ cut.lines) s.history cut.lines upto
+    (Cut s.lines s.world s.history cut.lines (runs b.left now taken b.taken middle number old s) (cuts_next b now next taken more middle number old new line carried s y t c cut) refl)
+    refl (rw cut.text_is at short) s.out (rw cut.text_is at out) rose
+part_by b a now next taken more middle number upto old new line carried false s y t c by short out rose =
+    let go : Runs b.left (s.lines ++ line ∷ []) by.world (s.history ++ by.lines) = record {
+      begins = begins b.left (s.lines ++ line ∷ []) more next (reached_more b.left now next s.lines line taken more s.reached y t);
+      events = s.events ++ c.event ∷ [];
+      spelled = events_more s.lines s.events line (c.event ∷ []) s.spelled (inr (c.event, [], refl, c.fits, c.spells, refl));
+      tells = tells_more s.events s.world by.world s.history by.lines c.event s.tells by.carries;
+    } in
+    part_of b a middle (s.history ++ by.lines) s.history by.lines upto (Whole (s.lines ++ line ∷ []) by.world go) refl
+    (rw by.text_is at short) s.out (rw by.text_is at out) rose
+
+pub part_put : (b a : Ends) (now next : Option (List ℕ)) (taken more : ℕ) (middle : Option (List ℕ)) (number upto : ℕ) (old new : WorldState) (line : List ℕ) (carried : Carried) → SoFar b.left now taken b.taken middle number old →
+    Yields now next (Ok (Some line)) → TakesLine taken more now next (Ok (Some line)) → CarriesLine line old new carried → upto < length carried.text → Appends middle a.taken (take upto carried.text) → Rose b.writes_failed a.writes_failed → Promises b a WriteFault
+part_put b a now next taken more middle number upto old new line carried s y t (inl skips) short out rose = absurd (none (rw skips.text at short))
+  where
+    none : upto < 0 → ⊥
+    none l = omega (arith, l)
+part_put b a now next taken more middle number upto old new line carried s y t (inr c) short out rose =
+    part_by b a now next taken more middle number upto old new line carried carried.is_full s y t c (c.carries s.world s.shows) short out rose
+
+cut_by : (b a : Ends) (now next : Option (List ℕ)) (taken more : ℕ) (middle told : Option (List ℕ)) (number failed : ℕ) (whole : Bool) (old new : WorldState) (line : List ℕ) (carried : Carried) (is_full : Bool) → is_full ≡ true → (s : SoFar b.left now taken b.taken middle number old) →
+    Yields now next (Ok (Some line)) → TakesLine taken more now next (Ok (Some line)) → (c : CarriesSpelled line old new carried) → CarriesBy s.world c.event old new carried.text is_full → Appends middle told carried.text → failed ≡ b.writes_failed →
+    Puts told a.taken failed a.writes_failed (error_line (number + 1) (full_name Kept)) whole → Promises b a (IsFull Kept)
+cut_by b a now next taken more middle told number failed whole old new line carried false full s y t c by out same put = absurd (cc full)
+cut_by b a now next taken more middle told number failed whole old new line carried true full s y t c cut out same put =
+    let text : lines_text (s.history ++ cut.lines) ≡ lines_text s.history ++ carried.text =
+    text_more s.history cut.lines ∙ ap (λ (x : List ℕ). lines_text s.history ++ x) (sym cut.text_is) in
     record {
-      lines = s.lines ++ line ∷ [];
-      steps = o.steps_after;
-      runs = record { begins = begins b.left (s.lines ++ line ∷ []) more next (reached_more b.left now next s.lines line taken more s.reached y t); events = o.events; run = o.run };
-      upto = length (lines_text (lines_of_steps s.steps)) + upto;
-      out = subst (Appends b.taken a.taken) (sym part) (Appends-then b.taken middle a.taken (lines_text (lines_of_steps s.steps)) (take upto bytes) s.out out);
-      rose = rose;
+      lines = s.lines;
+      world = s.world;
+      history = s.history;
+      runs = runs b.left now taken b.taken middle number old s;
+      part = cut.lines;
+      cuts = cuts_next b now next taken more middle number old new line carried s y t c cut;
+      number = number + 1;
+      number_is = ap (λ n. n + 1) s.count;
+      puts = subst (λ (x : List ℕ). PutsError b a x (error_line (number + 1) (full_name Kept))) (sym text)
+          (tells b a told (lines_text s.history ++ carried.text) (error_line (number + 1) (full_name Kept)) failed whole (Appends-then b.taken middle told (lines_text s.history) carried.text s.out out) put same);
     }
+
+-- the lines of a cut event went out, and then the error line
+pub cut_put : (b a : Ends) (now next : Option (List ℕ)) (taken more : ℕ) (middle told : Option (List ℕ)) (number failed : ℕ) (whole : Bool) (old new : WorldState) (line : List ℕ) (carried : Carried) → SoFar b.left now taken b.taken middle number old →
+    Yields now next (Ok (Some line)) → TakesLine taken more now next (Ok (Some line)) → CarriesLine line old new carried → carried.is_full ≡ true → Appends middle told carried.text → failed ≡ b.writes_failed →
+    Puts told a.taken failed a.writes_failed (error_line (number + 1) (full_name Kept)) whole → Promises b a (IsFull Kept)
+cut_put b a now next taken more middle told number failed whole old new line carried s y t (inl skips) full out same put = absurd (cc (full, skips.whole))
+cut_put b a now next taken more middle told number failed whole old new line carried s y t (inr c) full out same put =
+    cut_by b a now next taken more middle told number failed whole old new line carried carried.is_full full s y t c (c.carries s.world s.shows) out same put
+
+-- there is no memory for the world: nothing was read
+pub no_world : (b a : Ends) (whole : Bool) → Puts b.taken a.taken b.writes_failed a.writes_failed (error_of WantsMemory 0) whole → Promises b a Memory
+no_world b a whole put = record {
+  lines = [];
+  world = empty_world;
+  history = [];
+  runs = record { begins = begins b.left [] 0 b.left (reached_none b.left); events = []; spelled = refl; tells = tells_none };
+  number = 0;
+  number_is = inr (refl, inl refl);
+  puts = tells b a b.taken [] (error_line 0 (codes "memory")) b.writes_failed whole (appends_none b.taken) put refl;
+}
 
 pub nothing_ahead : (left : Option (List ℕ)) → prepend_known [] left ≡ left
 nothing_ahead None = refl

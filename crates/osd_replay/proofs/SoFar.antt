@@ -1,20 +1,21 @@
 -- A replay so far: the lines that were carried out, and what went out for them.
-use Rattle.std.proofs.Common.{◌≡◌, ℕ, ◌+◌, List, [], ◌∷◌, ◌++◌, length, Option, Some, None, Ok, refl, sym, ap, subst, ◌∙◌, append_assoc, arith, inl, inr}
+use Rattle.std.proofs.Common.{◌≡◌, ℕ, ◌+◌, Bool, true, false, List, [], ◌∷◌, ◌++◌, length, Option, Some, None, Ok, refl, sym, ap, subst, ◌∙◌, append_assoc, arith, inl, inr}
 use Rattle.std.specs.Io.KnownBytes.{Appends}
-use Rattle.std.proofs.lemmas.List.{append-nil, length-append, map-append}
+use Rattle.std.proofs.lemmas.List.{append-nil, length-append}
 use Rattle.std.proofs.lemmas.Grind.{flat_map-append}
-use Rattle.std.proofs.lemmas.List.Concat.{flat_map-cons}
 use Rattle.osd_bytes.specs.Lines.{Yields, TakesLine, lines_of}
 use Rattle.osd_bytes.proofs.Known.{Appends-then}
 use Rattle.scenario_text.specs.declared.event.Event.{Event}
 use Rattle.scenario_text.specs.declared.line.Line.{Line}
-use Rattle.scenario_text.specs.LineSpelling.{line_text}
-use Rattle.layout_world.specs.State.{ClusterState, new_cluster}
-use Rattle.layout_world.specs.Events.{Carries}
-use Rattle.layout_world.specs.History.{Step, IsRunFrom, IsRun, IsLawful, StandsFor, lines_of_steps, events_of_steps, state_from}
-use Rattle.scenario_text.specs.LineSpelling.{lines_text}
+use Rattle.scenario_text.specs.LineSpelling.{line_text, lines_text}
+use Rattle.world_history.specs.State.{World, empty_world}
+use Rattle.world_watch.specs.Watching.{Watches}
+use Rattle.layout_world.specs.State.{WorldState, Shows}
+use Rattle.osd_replay.specs.Transcript.{Tells}
 use Rattle.osd_replay.specs.Replay.{HasEvents}
-use Rattle.osd_replay.specs.LineCarried.{CarriesLine}
+use Rattle.osd_replay.specs.LineCarried.{CarriesLine, CarriesSpelled, CarriesBy}
+use Rattle.osd_replay.specs.declared.carry_out.Carried.{Carried}
+use Rattle.osd_replay.proofs.Telling.{tells_none, tells_more}
 
 -- the input's bytes up to those that are still to come, and their lines
 abbrev pub Reached : Option (List ℕ) → List (List ℕ) → ℕ → Option (List ℕ) → Type 0
@@ -22,16 +23,18 @@ Reached None lines taken now = Unit {0}
 Reached (Some input) lines taken None = ⊥
 Reached (Some input) lines taken (Some rest) = (front : List ℕ) × (input ≡ front ++ rest) × (length front ≡ taken) × (lines_of input ≡ lines ++ lines_of rest)
 
-pub record SoFar (input now : Option (List ℕ)) (taken : ℕ) (before after : Option (List ℕ)) (state : ClusterState) (number : ℕ) : Type 0 where
+pub record SoFar (input now : Option (List ℕ)) (taken : ℕ) (before after : Option (List ℕ)) (number : ℕ) (state : WorldState) : Type 0 where
   pub lines : List (List ℕ)
-  pub steps : List Step
+  pub events : List Event
+  pub world : World
+  pub history : List Line
   pub count : number ≡ length lines
   pub reached : Reached input lines taken now
-  pub events : HasEvents lines (events_of_steps steps)
-  pub run : IsRun steps
-  pub state_is : state_from new_cluster steps ≡ state
-  pub stands : StandsFor state (lines_of_steps steps)
-  pub out : Appends before after (lines_text (lines_of_steps steps))
+  pub spelled : HasEvents lines events
+  pub tells : Tells events world history
+  pub shows : Shows state.parties world
+  pub watches : Watches history state.watch
+  pub out : Appends before after (lines_text history)
 
 -- ---- lists that grow at their end
 
@@ -40,28 +43,8 @@ events_more [] events line more h g = subst (λ (es : List Event). HasEvents (li
 events_more (l ∷ lines) events line more (inl h) g = inl (h.0, events_more lines events line more h.1 g)
 events_more (l ∷ lines) events line more (inr h) g = inr (h.0, h.1 ++ more, ap (λ (es : List Event). es ++ more) h.2, h.3, h.4, events_more lines h.1 line more h.5 g)
 
-pub run_more : (c : ClusterState) (before : List Line) (steps : List Step) (s : Step) → IsRunFrom c before steps → Carries (state_from c steps) s.event s.lines s.after →
-    IsLawful s.after ((before ++ lines_of_steps steps) ++ s.lines) → IsRunFrom c before (steps ++ s ∷ [])
-run_more c before [] s r carries lawful = (carries, subst (λ (x : List Line). IsLawful s.after (x ++ s.lines)) (append-nil before) lawful, tt)
-run_more c before (t ∷ steps) s r carries lawful =
-    let lines : before ++ lines_of_steps (t ∷ steps) ≡ (before ++ t.lines) ++ lines_of_steps steps =
-    ap (λ (x : List Line). before ++ x) (flat_map-cons (λ (s : Step). s.lines) t steps) ∙ sym (append_assoc before t.lines (lines_of_steps steps)) in
-    (r.0, r.1, run_more t.after (before ++ t.lines) steps s r.2 carries (subst (λ (x : List Line). IsLawful s.after (x ++ s.lines)) lines lawful))
-
-pub state_more : (c : ClusterState) (steps : List Step) (s : Step) → state_from c (steps ++ s ∷ []) ≡ s.after
-state_more c [] s = refl
-state_more c (t ∷ steps) s = state_more t.after steps s
-
--- ---- one line more
-
-lines_more : (steps : List Step) (s : Step) → lines_of_steps (steps ++ s ∷ []) ≡ lines_of_steps steps ++ s.lines
-lines_more steps s = flat_map-append (λ (t : Step). t.lines) steps (s ∷ []) ∙ ap (λ (x : List Line). lines_of_steps steps ++ x) (flat_map-cons (λ (t : Step). t.lines) s [] ∙ append-nil s.lines)
-
 pub text_more : (xs ys : List Line) → lines_text (xs ++ ys) ≡ lines_text xs ++ lines_text ys
 text_more xs ys = flat_map-append (λ line. line_text line ++ 10 ∷ []) xs ys
-
-events_of_more : (steps : List Step) (s : Step) → events_of_steps (steps ++ s ∷ []) ≡ events_of_steps steps ++ s.event ∷ []
-events_of_more steps s = map-append (λ (t : Step). t.event) steps (s ∷ [])
 
 pub reached_more : (input now next : Option (List ℕ)) (lines : List (List ℕ)) (line : List ℕ) (taken more : ℕ) → Reached input lines taken now → Yields now next (Ok (Some line)) → TakesLine taken more now next (Ok (Some line)) →
     Reached input (lines ++ line ∷ []) more next
@@ -76,52 +59,64 @@ reached_more (Some input) (Some rest) (Some later) lines line taken more r y t =
       r.3 ∙ ap (λ (x : List (List ℕ)). lines ++ x) y ∙ sym (append_assoc lines (line ∷ []) (lines_of later)),
     )
 
--- the steps after a line, which adds one where it has an event
-pub record OneMore (lines : List (List ℕ)) (steps : List Step) (line bytes : List ℕ) (state : ClusterState) : Type 0 where
-  pub steps_after : List Step
-  pub events : HasEvents (lines ++ line ∷ []) (events_of_steps steps_after)
-  pub run : IsRun steps_after
-  pub state_is : state_from new_cluster steps_after ≡ state
-  pub stands : StandsFor state (lines_of_steps steps_after)
-  pub text_is : lines_text (lines_of_steps steps_after) ≡ lines_text (lines_of_steps steps) ++ bytes
+-- ---- one line more
 
-pub one_more : (lines : List (List ℕ)) (steps : List Step) (line bytes : List ℕ) (before after : ClusterState) → HasEvents lines (events_of_steps steps) → IsRun steps → state_from new_cluster steps ≡ before → StandsFor before (lines_of_steps steps) →
-    CarriesLine before line bytes after → OneMore lines steps line bytes after
-one_more lines steps line bytes before after events run state_is stands (inl skipped) = record {
-  steps_after = steps;
-  events = subst (HasEvents (lines ++ line ∷ [])) (append-nil (events_of_steps steps)) (events_more lines (events_of_steps steps) line [] events (inl (skipped.0, refl)));
-  run = run;
-  state_is = state_is ∙ sym skipped.2;
-  stands = subst (λ (x : ClusterState). StandsFor x (lines_of_steps steps)) (sym skipped.2) stands;
-  text_is = sym (append-nil (lines_text (lines_of_steps steps))) ∙ ap (λ (x : List ℕ). lines_text (lines_of_steps steps) ++ x) (sym skipped.1);
+-- the history after a line, which adds an event where it spells one
+pub record OneMore (lines : List (List ℕ)) (history : List Line) (line text : List ℕ) (new : WorldState) : Type 0 where
+  pub events_after : List Event
+  pub world_after : World
+  pub history_after : List Line
+  pub spelled : HasEvents (lines ++ line ∷ []) events_after
+  pub tells : Tells events_after world_after history_after
+  pub shows : Shows new.parties world_after
+  pub watches : Watches history_after new.watch
+  pub text_is : lines_text history_after ≡ lines_text history ++ text
+
+spells_more : (lines : List (List ℕ)) (events : List Event) (w : World) (h : List Line) (line : List ℕ) (old new : WorldState) (carried : Carried) (is_full : Bool) → is_full ≡ false → HasEvents lines events → Tells events w h → Watches h old.watch →
+    (c : CarriesSpelled line old new carried) → CarriesBy w c.event old new carried.text is_full → OneMore lines h line carried.text new
+spells_more lines events w h line old new carried true whole spelled tells watches c by = absurd (cc whole)
+spells_more lines events w h line old new carried false whole spelled tells watches c by = record {
+  events_after = events ++ c.event ∷ [];
+  world_after = by.world;
+  history_after = h ++ by.lines;
+  spelled = events_more lines events line (c.event ∷ []) spelled (inr (c.event, [], refl, c.fits, c.spells, refl));
+  tells = tells_more events w by.world h by.lines c.event tells by.carries;
+  shows = by.shows;
+  watches = by.watches h tells.stands watches;
+  text_is = text_more h by.lines ∙ ap (λ (x : List ℕ). lines_text h ++ x) (sym by.text_is);
 }
-one_more lines steps line bytes before after events run state_is stands (inr carried) =
-    let s : Step = record { event = carried.event; lines = carried.spelled.lines; after = after } in
-    let longer : lines_of_steps (steps ++ s ∷ []) ≡ lines_of_steps steps ++ s.lines = lines_more steps s in
-    let standing : StandsFor after (lines_of_steps steps ++ s.lines) = carried.spelled.stands (lines_of_steps steps) stands in
-    record {
-      steps_after = steps ++ s ∷ [];
-      events = subst (HasEvents (lines ++ line ∷ [])) (sym (events_of_more steps s)) (events_more lines (events_of_steps steps) line (s.event ∷ []) events (inr (s.event, [], refl, carried.fits, carried.spells, refl)));
-      run = run_more new_cluster [] steps s run (subst (λ (x : ClusterState). Carries x s.event s.lines after) (sym state_is) carried.spelled.carries) standing.lawful;
-      state_is = state_more new_cluster steps s;
-      stands = subst (StandsFor after) (sym longer) standing;
-      text_is = ap lines_text longer ∙ text_more (lines_of_steps steps) s.lines ∙ ap (λ (x : List ℕ). lines_text (lines_of_steps steps) ++ x) (sym carried.spelled.told);
-    }
 
-pub goes_on : (input now next : Option (List ℕ)) (taken more : ℕ) (before middle after : Option (List ℕ)) (state new : ClusterState) (number : ℕ) (line bytes : List ℕ) → SoFar input now taken before middle state number →
-    Yields now next (Ok (Some line)) → TakesLine taken more now next (Ok (Some line)) → CarriesLine state line bytes new → Appends middle after bytes → SoFar input next more before after new (number + 1)
-goes_on input now next taken more before middle after state new number line bytes s y t carried out =
-    let o = one_more s.lines s.steps line bytes state new s.events s.run s.state_is s.stands carried in
+pub one_more : (lines : List (List ℕ)) (events : List Event) (w : World) (h : List Line) (line : List ℕ) (old new : WorldState) (carried : Carried) → carried.is_full ≡ false → HasEvents lines events → Tells events w h →
+    Shows old.parties w → Watches h old.watch → CarriesLine line old new carried → OneMore lines h line carried.text new
+one_more lines events w h line old new carried whole spelled tells shows watches (inl skips) = record {
+  events_after = events;
+  world_after = w;
+  history_after = h;
+  spelled = subst (HasEvents (lines ++ line ∷ [])) (append-nil events) (events_more lines events line [] spelled (inl (skips.skipped, refl)));
+  tells = tells;
+  shows = subst (λ (s : WorldState). Shows s.parties w) (sym skips.state) shows;
+  watches = subst (λ (s : WorldState). Watches h s.watch) (sym skips.state) watches;
+  text_is = sym (append-nil (lines_text h)) ∙ ap (λ (x : List ℕ). lines_text h ++ x) (sym skips.text);
+}
+one_more lines events w h line old new carried whole spelled tells shows watches (inr c) =
+    spells_more lines events w h line old new carried carried.is_full whole spelled tells watches c (c.carries w shows)
+
+pub goes_on : (input now next : Option (List ℕ)) (taken more : ℕ) (before middle after : Option (List ℕ)) (number : ℕ) (old new : WorldState) (line : List ℕ) (carried : Carried) → SoFar input now taken before middle number old →
+    Yields now next (Ok (Some line)) → TakesLine taken more now next (Ok (Some line)) → CarriesLine line old new carried → carried.is_full ≡ false → Appends middle after carried.text → SoFar input next more before after (number + 1) new
+goes_on input now next taken more before middle after number old new line carried s y t c whole out =
+    let o = one_more s.lines s.events s.world s.history line old new carried whole s.spelled s.tells s.shows s.watches c in
     record {
       lines = s.lines ++ line ∷ [];
-      steps = o.steps_after;
+      events = o.events_after;
+      world = o.world_after;
+      history = o.history_after;
       count = omega (arith, s.count, length-append s.lines (line ∷ []));
       reached = reached_more input now next s.lines line taken more s.reached y t;
-      events = o.events;
-      run = o.run;
-      state_is = o.state_is;
-      stands = o.stands;
-      out = subst (Appends before after) (sym o.text_is) (Appends-then before middle after (lines_text (lines_of_steps s.steps)) bytes s.out out);
+      spelled = o.spelled;
+      tells = o.tells;
+      shows = o.shows;
+      watches = o.watches;
+      out = subst (Appends before after) (sym o.text_is) (Appends-then before middle after (lines_text s.history) carried.text s.out out);
     }
 
 pub reached_none : (input : Option (List ℕ)) → Reached input [] 0 input
@@ -132,15 +127,17 @@ pub appends_none : (taken : Option (List ℕ)) → Appends taken taken []
 appends_none None = tt
 appends_none (Some bytes) = sym (append-nil bytes)
 
-pub nothing_yet : (input : Option (List ℕ)) (taken : Option (List ℕ)) → StandsFor new_cluster [] → SoFar input input 0 taken taken new_cluster 0
-nothing_yet input taken stands = record {
+pub nothing_yet : (input : Option (List ℕ)) (taken : Option (List ℕ)) (state : WorldState) → Shows state.parties empty_world → Watches [] state.watch → SoFar input input 0 taken taken 0 state
+nothing_yet input taken state shows watches = record {
   lines = [];
-  steps = [];
+  events = [];
+  world = empty_world;
+  history = [];
   count = refl;
   reached = reached_none input;
-  events = refl;
-  run = tt;
-  state_is = refl;
-  stands = stands;
+  spelled = refl;
+  tells = tells_none;
+  shows = shows;
+  watches = watches;
   out = appends_none taken;
 }

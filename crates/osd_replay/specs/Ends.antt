@@ -6,7 +6,7 @@ use Rattle.osd_bytes.specs.Lines.{lines_of, next_of}
 use Rattle.osd_bytes.specs.declared.lines.LineErr.{LineErr}
 use Rattle.osd_bytes.specs.declared.lines.LineErr.TheVariants.{TooLong, InputFull}
 use Rattle.osd_replay.specs.declared.status.Quantity.{Quantity}
-use Rattle.osd_replay.specs.declared.status.Quantity.TheVariants.{Input, Line}
+use Rattle.osd_replay.specs.declared.status.Quantity.TheVariants.{Input, Line, Kept}
 
 -- the bytes that the source has left and that the sink has taken, where they tell them, and the counts of their faults
 pub record Ends : Type 0 where
@@ -33,20 +33,21 @@ abbrev pub IsAll : Option (List ℕ) → List (List ℕ) → Type 0
 IsAll None lines = ⊤
 IsAll (Some input) lines = lines_of input ≡ lines
 
--- what the line reader answers where a quantity passes its limit
-abbrev pub limit_passed : Quantity → LineErr
-limit_passed Input = InputFull
-limit_passed Line = TooLong
+-- the line reader answers so where a quantity passes its limit; of kept bytes it knows nothing
+abbrev pub IsLimitPassed : Quantity → LineErr → Type 0
+IsLimitPassed Input e = e ≡ InputFull
+IsLimitPassed Line e = e ≡ TooLong
+IsLimitPassed Kept e = ⊥
 
 -- behind these lines of the input the quantity passes its limit, where the input is known
 abbrev pub PassesNext : Option (List ℕ) → List (List ℕ) → Quantity → Type 0
 PassesNext None lines quantity = ⊤
 PassesNext (Some input) lines quantity =
     (front rest : List ℕ) × (input ≡ front ++ rest) × (lines_of input ≡ lines ++ lines_of rest)
-    × (next_of (length front) rest ≡ Err (limit_passed quantity))
+    × (e : LineErr) × IsLimitPassed quantity e × (next_of (length front) rest ≡ Err e)
 
 -- the bytes went out, and then an error line, cut only where the sink failed
-pub record Tells (before after : Ends) (bytes error : List ℕ) : Type 0 where
+pub record PutsError (before after : Ends) (bytes error : List ℕ) : Type 0 where
   pub upto : ℕ
   pub out : Appends before.taken after.taken (bytes ++ take upto error)
   pub cut : (upto ≡ length error) ⊎ Rose before.writes_failed after.writes_failed

@@ -16,14 +16,14 @@ use Rattle.layout_types.specs.declared.err.LayoutErr.TheVariants.{Xdr, BadEnum, 
 use Rattle.layout_types.specs.declared.kind.Kind.{Kind}
 use Rattle.layout_types.specs.Leaves.{leaves_of}
 use Rattle.layout_types.specs.Again.{written_of}
-use Rattle.scenario_text.specs.declared.event.EventErr.TheVariants.{NotYet}
 use Rattle.osd_replay.specs.Errors.{error_line, full_name, kind_name}
-use Rattle.osd_replay.specs.Ends.{Ends, Begins, IsAll, PassesNext, Tells}
+use Rattle.osd_replay.specs.Ends.{Ends, Begins, IsAll, PassesNext, PutsError}
 use Rattle.osd_replay.specs.declared.command.Inspection.{Inspection}
 use Rattle.osd_replay.specs.declared.command.Inspection.TheVariants.{Show, Check}
 use Rattle.osd_replay.specs.declared.status.Quantity.{Quantity}
+use Rattle.osd_replay.specs.declared.status.Quantity.TheVariants.{Input, Line, Kept}
 use Rattle.osd_replay.specs.declared.status.ScenarioKind.{ScenarioKind}
-use Rattle.osd_replay.specs.declared.status.ScenarioKind.TheVariants.{Event, BadHex}
+use Rattle.osd_replay.specs.declared.status.ScenarioKind.TheVariants.{BadHex}
 use Rattle.osd_replay.specs.declared.stop.Stop.{Stop}
 use Rattle.osd_replay.specs.declared.stop.Stop.TheVariants.{Refused, Read, Memory as WantsMemory, Full as StopsFull}
 use Rattle.osd_replay.specs.declared.status.Status.{Status}
@@ -123,7 +123,7 @@ pub record Stops (inspection : Inspection) (kind : Kind) (before after : Ends) (
   pub out : List ℕ
   pub inspected : Inspected inspection kind before.left lines out
   pub number_is : number ≡ length lines + 1
-  pub tells : Tells before after out (error_line number reason)
+  pub tells : PutsError before after out (error_line number reason)
 
 -- the line of that number is the first that is refused
 pub record IsBadLine (inspection : Inspection) (kind : Kind) (before after : Ends) (number : ℕ)
@@ -151,7 +151,7 @@ pub record IsMemory (inspection : Inspection) (kind : Kind) (before after : Ends
   pub number : ℕ
   pub stops : Stops inspection kind before after number (codes "memory")
 
--- behind the lines that were answered a quantity passes its limit
+-- behind the lines that were answered a quantity of the input passes its limit
 pub record IsFull (inspection : Inspection) (kind : Kind) (before after : Ends) (quantity : Quantity) : Type 0 where
   pub number : ℕ
   pub stops : Stops inspection kind before after number (full_name quantity)
@@ -164,4 +164,6 @@ Promises inspection kind before after (BadScenario number why) = IsBadLine inspe
 Promises inspection kind before after ReadFault = IsReadFault inspection kind before after
 Promises inspection kind before after WriteFault = IsWriteFault inspection kind before after
 Promises inspection kind before after Memory = IsMemory inspection kind before after
-Promises inspection kind before after (Full quantity) = IsFull inspection kind before after quantity
+Promises inspection kind before after (Full Input) = IsFull inspection kind before after Input
+Promises inspection kind before after (Full Line) = IsFull inspection kind before after Line
+Promises inspection kind before after (Full Kept) = ⊥

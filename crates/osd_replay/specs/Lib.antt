@@ -3,9 +3,13 @@ pub mod Exit
 pub mod Puts
 pub mod Stops
 pub mod Ends
+pub mod Transcript
 pub mod Replay
 pub mod LineCarried
 pub mod Finish
 pub mod Commands
 pub mod Inspect
+pub mod Placing
+pub mod Generator
+pub mod Generate
 pub mod Run

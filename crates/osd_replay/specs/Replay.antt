@@ -1,29 +1,24 @@
 -- What a replay promises.
-use Rattle.std.specs.Prelude.{◌≡◌, ◌≢◌, ℕ, ◌+◌, ◌⊎◌, true, List, [], ◌∷◌, ◌++◌, length, take, codes, ⊤, Option, Some}
+use Rattle.std.specs.Prelude.{◌≡◌, ℕ, ◌+◌, ◌<◌, ◌⊎◌, List, [], ◌∷◌, ◌++◌, length, take, codes, ⊤, Option, Some}
 use Rattle.std.specs.Prelude.{None, Ok, Err, Result}
 use Rattle.std.specs.Io.KnownBytes.{Appends, IsAtEnd}
 use Rattle.osd_bytes.specs.Causes.{Rose}
 use Rattle.osd_bytes.specs.Lines.{lines_of, next_of}
 use Rattle.osd_bytes.specs.declared.lines.LineErr.{LineErr}
-use Rattle.osd_bytes.specs.declared.lines.LineErr.TheVariants.{TooLong, InputFull, ReadFault as LineFault}
-use Rattle.osd_bytes.specs.declared.lines.LineErr.TheVariants.{Memory as LineMemory}
 use Rattle.scenario_text.specs.declared.event.Event.{Event}
-use Rattle.scenario_text.specs.declared.line.Line.TheVariants.{Last}
+use Rattle.scenario_text.specs.declared.line.Line.{Line}
 use Rattle.scenario_text.specs.Spelling.{Fits, Spells, IsSkipped}
-use Rattle.layout_world.specs.State.{ClusterState, new_cluster}
-use Rattle.layout_world.specs.Events.{Refuses}
-use Rattle.layout_world.specs.History.{Step, IsRun, lines_of_steps, events_of_steps, state_from}
 use Rattle.scenario_text.specs.LineSpelling.{lines_text}
-use Rattle.scenario_text.specs.declared.event.EventErr.{EventErr}
-use Rattle.scenario_text.specs.declared.event.EventErr.TheVariants.{NotYet, Memory as EventMemory}
-use Rattle.scenario_text.specs.Refusals.{IsRefusal}
-use Rattle.layout_world.specs.declared.err.WorldErr.{WorldErr}
-use Rattle.layout_world.specs.declared.err.WorldErr.TheVariants.{Memory as WorldMemory}
-use Rattle.osd_replay.specs.Ends.{Ends, Begins, IsAll, PassesNext, Tells}
+use Rattle.world_history.specs.State.{World}
+use Rattle.world_history.specs.Runs.{FillsUp}
+use Rattle.world_history.specs.History.{Lawful}
+use Rattle.osd_replay.specs.Ends.{Ends, Begins, IsAll, PassesNext, PutsError}
 use Rattle.osd_replay.specs.Errors.{error_line, full_name, kind_name}
+use Rattle.osd_replay.specs.LineCarried.{IsRefusedIn}
+use Rattle.osd_replay.specs.Transcript.{Tells, EndsWith, final_text}
 use Rattle.osd_replay.specs.declared.status.Quantity.{Quantity}
+use Rattle.osd_replay.specs.declared.status.Quantity.TheVariants.{Input, Line as LineQuantity, Kept}
 use Rattle.osd_replay.specs.declared.status.ScenarioKind.{ScenarioKind}
-use Rattle.osd_replay.specs.declared.status.ScenarioKind.TheVariants.{Event as EventKind, World as WorldKind}
 use Rattle.osd_replay.specs.declared.status.Status.{Status}
 use Rattle.osd_replay.specs.declared.status.Status.TheVariants.{Done, BadWords, BadScenario, ReadFault, WriteFault}
 use Rattle.osd_replay.specs.declared.status.Status.TheVariants.{Memory, Full}
@@ -35,43 +30,51 @@ HasEvents (line ∷ lines) events =
     (IsSkipped line × HasEvents lines events)
     ⊎ ((e : Event) × (rest : List Event) × (events ≡ e ∷ rest) × Fits e × Spells e line × HasEvents lines rest)
 
--- A run over the input's first lines: their events are carried out one after another, from a new world on.
-pub record Runs (input : Option (List ℕ)) (lines : List (List ℕ)) (steps : List Step) : Type 0 where
+-- The first lines of the input were carried out: a world stands for a history whose events are exactly theirs.
+pub record Runs (input : Option (List ℕ)) (lines : List (List ℕ)) (w : World) (h : List Line) : Type 0 where
   pub begins : Begins input lines
-  pub events : HasEvents lines (events_of_steps steps)
-  pub run : IsRun steps
+  pub events : List Event
+  pub spelled : HasEvents lines events
+  pub tells : Tells events w h
 
--- Why an answer of the line reader isn't carried out. A line that passes a limit is another end. A line that
--- spells no event is refused for its first wrong word. The event that a line spells isn't carried out where
--- the state refuses it.
-abbrev pub IsRefused : ClusterState → ScenarioKind → Result (Option (List ℕ)) LineErr → Type 0
-IsRefused c kind (Err TooLong) = ⊥
-IsRefused c kind (Err InputFull) = ⊥
-IsRefused c kind (Err LineFault) = ⊥
-IsRefused c kind (Err LineMemory) = ⊥
-IsRefused c kind (Ok None) = ⊥
-IsRefused c kind (Ok (Some line)) =
-    ((e : EventErr) × (kind ≡ EventKind e) × (e ≢ EventMemory) × IsRefusal line e)
-    ⊎ ((why : WorldErr) × (kind ≡ WorldKind why) × (why ≢ WorldMemory) × (e : Event) × Fits e × Spells e line
-    × Refuses c e why)
+-- ---- the line behind those that were carried out
 
--- the line behind these lines of the input is refused in a state
-abbrev pub RefusesNext : Option (List ℕ) → List (List ℕ) → ClusterState → ScenarioKind → Type 0
-RefusesNext None lines c kind = ⊤
-RefusesNext (Some input) lines c kind =
+-- why an answer of the line reader is refused; a line that passes a limit is another end
+abbrev pub IsRefused : World → ScenarioKind → Result (Option (List ℕ)) LineErr → Type 0
+IsRefused w kind (Err e) = ⊥
+IsRefused w kind (Ok None) = ⊥
+IsRefused w kind (Ok (Some line)) = IsRefusedIn w kind line
+
+-- the line behind these lines of the input is refused
+abbrev pub RefusesNext : Option (List ℕ) → List (List ℕ) → World → ScenarioKind → Type 0
+RefusesNext None lines w kind = ⊤
+RefusesNext (Some input) lines w kind =
     (front rest : List ℕ) × (input ≡ front ++ rest) × (lines_of input ≡ lines ++ lines_of rest)
-    × IsRefused c kind (next_of (length front) rest)
+    × IsRefused w kind (next_of (length front) rest)
 
-abbrev pub final_text : List Step → List ℕ
-final_text steps = lines_text (lines_of_steps steps ++ Last true true ∷ [])
+-- The event of the line behind these lines stops just before what would pass the limit of kept bytes. Its lines up to
+-- there are lawful behind the history.
+pub record CutsNext (input : Option (List ℕ)) (lines : List (List ℕ)) (w : World) (h cut : List Line) : Type 0 where
+  pub line : List ℕ
+  pub begins : Begins input (lines ++ line ∷ [])
+  pub event : Event
+  pub fits : Fits event
+  pub spells : Spells event line
+  pub fills : FillsUp w event cut
+  pub lawful : Lawful (h ++ cut)
+
+-- ---- what each status promises
 
 -- every line of the input was carried out, and the whole transcript went out
 pub record IsDone (before after : Ends) : Type 0 where
   pub lines : List (List ℕ)
-  pub steps : List Step
-  pub runs : Runs before.left lines steps
+  pub world : World
+  pub history : List Line
+  pub runs : Runs before.left lines world history
   pub all : IsAll before.left lines
-  pub out : Appends before.taken after.taken (final_text steps)
+  pub last : Line
+  pub ends : EndsWith world history last
+  pub out : Appends before.taken after.taken (final_text history last)
   pub at_end : IsAtEnd after.left
   pub reads : after.reads_failed ≡ before.reads_failed
   pub writes : after.writes_failed ≡ before.writes_failed
@@ -79,15 +82,16 @@ pub record IsDone (before after : Ends) : Type 0 where
 -- the lines before a line were carried out and told, and then an error line
 pub record Stops (before after : Ends) (number : ℕ) (reason : List ℕ) : Type 0 where
   pub lines : List (List ℕ)
-  pub steps : List Step
-  pub runs : Runs before.left lines steps
+  pub world : World
+  pub history : List Line
+  pub runs : Runs before.left lines world history
   pub number_is : number ≡ length lines + 1
-  pub tells : Tells before after (lines_text (lines_of_steps steps)) (error_line number reason)
+  pub puts : PutsError before after (lines_text history) (error_line number reason)
 
 -- the line of that number is the first that is refused, for that reason
 pub record IsBadScenario (before after : Ends) (number : ℕ) (kind : ScenarioKind) : Type 0 where
   pub stops : Stops before after number (kind_name kind)
-  pub refused : RefusesNext before.left stops.lines (state_from new_cluster stops.steps) kind
+  pub refused : RefusesNext before.left stops.lines stops.world kind
 
 -- the source failed at the line of that number
 pub record IsReadFault (before after : Ends) : Type 0 where
@@ -95,29 +99,58 @@ pub record IsReadFault (before after : Ends) : Type 0 where
   pub stops : Stops before after number (codes "read")
   pub rose : Rose before.reads_failed after.reads_failed
 
+-- A transcript of the input's first lines: a history whose events are theirs; such a history and the lines of a
+-- further event that stops at the limit of kept bytes; or the history of all lines and the last line.
+pub data IsTranscript (input : Option (List ℕ)) (text : List Line) : Type 0 where
+  Whole : (lines : List (List ℕ)) → (w : World) → Runs input lines w text → IsTranscript input text
+  Cut : (lines : List (List ℕ)) → (w : World) → (h cut : List Line) → Runs input lines w h → CutsNext input lines w h cut
+      → text ≡ h ++ cut → IsTranscript input text
+  Ended : (lines : List (List ℕ)) → (w : World) → (h : List Line) → (last : Line) → Runs input lines w h
+      → IsAll input lines → EndsWith w h last → text ≡ h ++ last ∷ [] → IsTranscript input text
+
 -- the sink failed: what went out is a part of a transcript of the input's first lines
 pub record IsWriteFault (before after : Ends) : Type 0 where
-  pub lines : List (List ℕ)
-  pub steps : List Step
-  pub runs : Runs before.left lines steps
+  pub text : List Line
+  pub transcript : IsTranscript before.left text
   pub upto : ℕ
-  pub out : Appends before.taken after.taken (take upto (final_text steps))
+  pub short : upto < length (lines_text text)
+  pub out : Appends before.taken after.taken (take upto (lines_text text))
   pub rose : Rose before.writes_failed after.writes_failed
 
--- there was no memory: for the line of that number, or where all lines were carried out
+-- there was no memory: for the line of that number, or, with number 0, before the first line or behind the last
 pub record IsMemory (before after : Ends) : Type 0 where
   pub lines : List (List ℕ)
-  pub steps : List Step
-  pub runs : Runs before.left lines steps
+  pub world : World
+  pub history : List Line
+  pub runs : Runs before.left lines world history
   pub number : ℕ
-  pub number_is : (number ≡ length lines + 1) ⊎ ((number ≡ 0) × IsAll before.left lines)
-  pub tells : Tells before after (lines_text (lines_of_steps steps)) (error_line number (codes "memory"))
+  pub number_is : (number ≡ length lines + 1) ⊎ ((number ≡ 0) × ((lines ≡ []) ⊎ IsAll before.left lines))
+  pub puts : PutsError before after (lines_text history) (error_line number (codes "memory"))
 
 -- behind the lines that were carried out a quantity passes its limit
-pub record IsFull (before after : Ends) (quantity : Quantity) : Type 0 where
+pub record IsInputFull (before after : Ends) (quantity : Quantity) : Type 0 where
   pub number : ℕ
   pub stops : Stops before after number (full_name quantity)
   pub passes : PassesNext before.left stops.lines quantity
+
+-- At the event of the line of that number something would have passed the limit of kept bytes: the lines of that
+-- event up to there stand behind those of the events before, and then comes an error line.
+pub record IsKeptFull (before after : Ends) : Type 0 where
+  pub lines : List (List ℕ)
+  pub world : World
+  pub history : List Line
+  pub runs : Runs before.left lines world history
+  pub part : List Line
+  pub cuts : CutsNext before.left lines world history part
+  pub number : ℕ
+  pub number_is : number ≡ length lines + 1
+  pub puts : PutsError before after (lines_text (history ++ part)) (error_line number (full_name Kept))
+
+-- what the end of a full quantity promises
+abbrev pub IsFull : Ends → Ends → Quantity → Type 0
+IsFull before after Input = IsInputFull before after Input
+IsFull before after LineQuantity = IsInputFull before after LineQuantity
+IsFull before after Kept = IsKeptFull before after
 
 -- what each status promises
 abbrev pub Promises : Ends → Ends → Status → Type 0

@@ -1,53 +1,86 @@
 // One line of a scenario.
-ghost use Rattle.std.specs.Prelude.{◌≡◌, ◌∷◌, false, IfOk, IfErr, OnOk};
-ghost use Rattle.scenario_text.specs.LineSpelling.{lines_text};
-ghost use Rattle.osd_replay.specs.LineCarried.{CarriesLine, CarriesSpelled, StopsEvent, StopsLine};
+ghost use Rattle.std.specs.Prelude.{◌≡◌, IfOk, IfErr};
+ghost use Rattle.stripe_repair.specs.Placing.{IsPlacer};
+ghost use Rattle.osd_replay.specs.LineCarried.{CarriesEvent, CarriesLine, StopsEvent, StopsLine, step_gives};
 
 use crate::status::ScenarioKind;
 use crate::stop::Stop;
 use layout_world::{Lines, World, WorldErr};
-use osd_bytes::{Bytes, Memory};
-use scenario_text::{Event, EventErr, Line, read_event, write_event_line, write_lines};
+use osd_bytes::{Bytes, Memory, Numbers};
+use scenario_text::{Event, EventErr, read_event, write_lines};
 use std::alloc::Global;
+use stripe_repair::{DriveLoad, Placer};
 
-// The text of an event's own line and of those behind it. The event isn't copied.
-fn told(alloc: Global, event: &Event, rest: &[Line]) -> Result<Bytes, Memory>
-    ensures { IfOk result (λ bytes. bytes ≡ lines_text (Line.Event event.now ∷ rest.now)) }
-{
-    let mut bytes = write_event_line(alloc, event)?;
-    bytes.push(b'\n')?;
-    let more = write_lines(alloc, rest)?;
-    bytes.extend_from_slice(more.as_slice())?;
-    Ok(bytes)
+/// The lines of an event that was carried out.
+#[derive(Drop)]
+pub struct Carried {
+    /// Their text.
+    pub text: Bytes,
+    /// Whether the event stopped behind them, just before what would pass the limit of kept bytes.
+    pub is_full: bool,
 }
 
-// Carries out an event, and gives its lines.
-fn carry_out_event(alloc: Global, world: &mut World, event: &Event) -> Result<Bytes, Stop>
-    requires { world.old.over ≡ false }
-    ensures ok { IfOk result (λ bytes. CarriesSpelled world.old.state event.now bytes world.new.state) }
-    ensures over { OnOk result (world.new.over ≡ false) }
-    ensures err { IfErr result (StopsEvent world.old.state event.now) }
+// Whether a step of the world stopped at the limit of kept bytes; of all else but success, why none goes on.
+fn is_cut(step: Result<(), WorldErr>) -> Result<bool, Stop>
+    ensures { result ≡ step_gives step }
 {
-    let mut rest = Lines::new(alloc);
-    match world.step(event, &mut rest) {
-        Ok(()) => {}
-        Err(WorldErr::Memory) => return Err(Stop::Memory),
-        Err(e) => return Err(Stop::Refused(ScenarioKind::World(e))),
+    match step {
+        Ok(()) => Ok(false),
+        Err(WorldErr::KeptFull) => Ok(true),
+        Err(WorldErr::Memory) => Err(Stop::Memory),
+        Err(cause) => Err(Stop::Refused(ScenarioKind::World(cause))),
     }
-    let bytes = told(alloc, event, rest.as_slice())?;
-    Ok(bytes)
+}
+
+/// Carries out an event, and gives its lines.
+///
+/// # Errors
+///
+/// `Refused` where the world refuses the event, and `Memory`.
+pub fn carry_out_event<F>(
+    alloc: Global,
+    world: &mut World,
+    event: Event,
+    placer: &Placer<F>,
+) -> Result<Carried, Stop>
+where
+    F: Fn(u32, &[DriveLoad]) -> Result<Numbers, Memory>,
+    requires { IsPlacer F.Fn placer.now }
+    ensures ok { IfOk result (CarriesEvent event world.old world.new) }
+    ensures err { IfErr result (StopsEvent event world.old) }
+{
+    let mut lines = Lines::new(alloc);
+    let is_full = match is_cut(world.step(event, placer, &mut lines)) {
+        Ok(is_full) => is_full,
+        Err(stop) => return Err(stop),
+    };
+    let text = write_lines(alloc, lines.as_slice())?;
+    Ok(Carried { text, is_full })
 }
 
 /// Carries out a line of a scenario, and gives the lines of its event.
-pub fn carry_out(alloc: Global, world: &mut World, line: &[u8]) -> Result<Bytes, Stop>
-    requires { world.old.over ≡ false }
-    ensures ok { IfOk result (λ bytes. CarriesLine world.old.state line.now bytes world.new.state) }
-    ensures over { OnOk result (world.new.over ≡ false) }
-    ensures err { IfErr result (StopsLine world.old.state line.now) }
+///
+/// # Errors
+///
+/// As [`carry_out_event`] has them; `Refused` also where the line spells no event.
+pub fn carry_out<F>(
+    alloc: Global,
+    world: &mut World,
+    line: &[u8],
+    placer: &Placer<F>,
+) -> Result<Carried, Stop>
+where
+    F: Fn(u32, &[DriveLoad]) -> Result<Numbers, Memory>,
+    requires { IsPlacer F.Fn placer.now }
+    ensures ok { IfOk result (CarriesLine line.now world.old world.new) }
+    ensures err { IfErr result (StopsLine line.now world.old) }
 {
     match read_event(alloc, line) {
-        Ok(Some(event)) => carry_out_event(alloc, world, &event),
-        Ok(None) => Ok(Bytes::new(alloc)),
+        Ok(Some(event)) => carry_out_event(alloc, world, event, placer),
+        Ok(None) => Ok(Carried {
+            text: Bytes::new(alloc),
+            is_full: false,
+        }),
         Err(EventErr::Memory) => Err(Stop::Memory),
         Err(e) => Err(Stop::Refused(ScenarioKind::Event(e))),
     }

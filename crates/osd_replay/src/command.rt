@@ -1,8 +1,12 @@
 // The words of the program's commands.
-ghost use Rattle.std.specs.Prelude.{◌≡◌, map, string_bytes};
-ghost use Rattle.osd_replay.specs.Commands.{command_of, kind_of, inspection_of};
+ghost use Rattle.std.specs.Prelude.{◌≡◌, ◌↔◌, IsTrue, map, string_bytes};
+ghost use Rattle.scenario_text.specs.Reading.{decimal_of, IsPlain};
+ghost use Rattle.osd_replay.specs.Commands.{command_of, generates, kind_of, inspection_of};
 
 use layout_types::Kind;
+
+/// The most calls that `generate` makes.
+pub const MAX_CALLS: u64 = 1000;
 
 /// What is done with the spelling of a structure.
 #[derive(Clone, Copy, Debug, PartialEq, Eq)]
@@ -18,6 +22,8 @@ pub enum Inspection {
 pub enum Command {
     /// `replay`: a scenario is replayed.
     Replay,
+    /// `generate N K`: a scenario of `calls` calls is made from a seed and replayed.
+    Generate { seed: u64, calls: u64 },
     /// `show KIND` or `check KIND`: structures of that kind are inspected.
     Inspect(Inspection, Kind),
 }
@@ -49,12 +55,48 @@ fn inspection_named(word: &str) -> Option<Inspection>
     }
 }
 
+// Whether a word may spell a number: it has no sign and no leading zero.
+fn is_plain(word: &[u8]) -> bool
+    ensures { IsTrue result ↔ IsPlain word.now }
+{
+    match word {
+        [] | [b'+', ..] => false,
+        [b'0', digits @ ..] => digits.is_empty(),
+        _ => true,
+    }
+}
+
+// The number of 64 bits that a word spells in decimal digits, without leading zeros.
+fn number_named(word: &str) -> Option<u64>
+    ensures { result ≡ decimal_of word.now }
+{
+    if !is_plain(word.as_bytes()) {
+        return None;
+    }
+    word.parse().ok()
+}
+
+// `generate N K`, where K is at most 1,000.
+fn generation(seed: &str, calls: &str) -> Option<Command>
+    ensures { result ≡ generates (decimal_of seed.now) (decimal_of calls.now) }
+{
+    let seed = number_named(seed)?;
+    let calls = number_named(calls)?;
+    if calls > MAX_CALLS {
+        return None;
+    }
+    Some(Command::Generate { seed, calls })
+}
+
 /// The command that the words name.
 pub fn command_named(words: &[String]) -> Option<Command>
     ensures { result ≡ command_of (map string_bytes words.now) }
 {
     if words.len() == 1 && words[0].as_str() == "replay" {
         return Some(Command::Replay);
+    }
+    if words.len() == 3 && words[0].as_str() == "generate" {
+        return generation(words[1].as_str(), words[2].as_str());
     }
     if words.len() != 2 {
         return None;

@@ -105,7 +105,9 @@ pub fn inspect<S: Source, K: Sink>(
     source: &mut S,
     sink: &mut K,
 ) -> Status
-    ensures { Promises inspection kind (ends (S.left source.old) (S.faults source.old) (K.taken sink.old) (K.faults sink.old)) (ends (S.left source.new) (S.faults source.new) (K.taken sink.new) (K.faults sink.new)) result }
+    ensures { Promises inspection kind
+        (ends (S.left source.old) (S.faults source.old) (K.taken sink.old) (K.faults sink.old))
+        (ends (S.left source.new) (S.faults source.new) (K.taken sink.new) (K.faults sink.new)) result }
 {
     let mut reader = LineReader::new(alloc);
     let mut number = 0;

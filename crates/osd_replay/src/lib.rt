@@ -4,13 +4,17 @@
 
 mod carry_out;
 mod command;
+mod generate;
+mod generator;
 mod inspect;
+mod placing;
 mod put_line;
 mod replay;
 mod status;
 mod stop;
 mod top_call;
 
+pub use placing::fewest_first;
 pub use status::{Quantity, ScenarioKind, Status};
 pub use stop::{Stop, stopped};
 pub use top_call::run;

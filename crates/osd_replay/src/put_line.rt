@@ -9,7 +9,8 @@ use osd_bytes::{Sink, put_all};
 
 /// Puts all of some pieces, one behind the other, and tells whether they went out.
 pub fn put_pieces<K: Sink>(sink: &mut K, pieces: &[&[u8]]) -> bool
-    ensures puts { Puts (K.taken sink.old) (K.taken sink.new) (K.faults sink.old) (K.faults sink.new) (flat_map (λ piece. piece.now) pieces.now) result }
+    ensures puts { Puts (K.taken sink.old) (K.taken sink.new) (K.faults sink.old) (K.faults sink.new)
+        (flat_map (λ piece. piece.now) pieces.now) result }
     ensures loan { K.loan sink.new ≡ K.loan sink.old }
 {
     for piece in pieces {
@@ -23,7 +24,8 @@ pub fn put_pieces<K: Sink>(sink: &mut K, pieces: &[&[u8]]) -> bool
 
 /// Puts the line `error NUMBER REASON`, and tells whether it went out.
 pub fn put_error<K: Sink>(sink: &mut K, number: u64, reason: &str) -> bool
-    ensures puts { Puts (K.taken sink.old) (K.taken sink.new) (K.faults sink.old) (K.faults sink.new) (error_line number reason.now) result }
+    ensures puts { Puts (K.taken sink.old) (K.taken sink.new) (K.faults sink.old) (K.faults sink.new)
+        (error_line number reason.now) result }
     ensures loan { K.loan sink.new ≡ K.loan sink.old }
 {
     let mut buffer = Buffer::new();

@@ -1,20 +1,27 @@
 // A scenario replayed line by line.
-ghost use Rattle.std.specs.Prelude.{◌≡◌, false};
+ghost use Rattle.std.specs.Prelude.{◌≡◌, []};
+ghost use Rattle.stripe_repair.specs.Placing.{IsPlacer};
+ghost use Rattle.scenario_text.specs.declared.line.Line.TheVariants.{Last};
+ghost use Rattle.world_history.specs.State.{empty_world};
+ghost use Rattle.world_watch.specs.Watching.{Watches};
+ghost use Rattle.layout_world.specs.State.{Shows};
 ghost use Rattle.osd_replay.specs.Ends.{ends};
 ghost use Rattle.osd_replay.specs.Finish.{Finishes};
 ghost use Rattle.osd_replay.specs.Replay.{Promises};
 
 use crate::carry_out::carry_out;
-use crate::status::Status;
+use crate::status::{Quantity, Status};
 use crate::stop::{Stop, stop_of, stopped};
 use layout_world::World;
-use osd_bytes::{LineReader, Sink, Source, put_all};
+use osd_bytes::{LineReader, Memory, Numbers, Sink, Source, put_all};
 use scenario_text::write_lines;
 use std::alloc::Global;
+use stripe_repair::{DriveLoad, Placer};
 
 // Puts the last line.
 fn finish<K: Sink>(alloc: Global, world: &World, sink: &mut K) -> Status
-    ensures ends { Finishes (K.taken sink.old) (K.taken sink.new) (K.faults sink.old) (K.faults sink.new) result }
+    ensures ends { Finishes (Last world.now.watch.calm world.now.watch.guesses.unguessed)
+        (K.taken sink.old) (K.taken sink.new) (K.faults sink.old) (K.faults sink.new) result }
     ensures loan { K.loan sink.new ≡ K.loan sink.old }
 {
     let text = match write_lines(alloc, &[world.last_line()]) {
@@ -27,26 +34,63 @@ fn finish<K: Sink>(alloc: Global, world: &World, sink: &mut K) -> Status
     }
 }
 
-/// Replays the scenario that the source gives, and puts its transcript.
-pub fn replay<S: Source, K: Sink>(alloc: Global, source: &mut S, sink: &mut K) -> Status
-    ensures { Promises (ends (S.left source.old) (S.faults source.old) (K.taken sink.old) (K.faults sink.old)) (ends (S.left source.new) (S.faults source.new) (K.taken sink.new) (K.faults sink.new)) result }
+// Carries out the lines that the source gives in a new world, and puts their transcript.
+fn carry_out_lines<S: Source, K: Sink, F>(
+    alloc: Global,
+    world: &mut World,
+    source: &mut S,
+    sink: &mut K,
+    placer: &Placer<F>,
+) -> Status
+where
+    F: Fn(u32, &[DriveLoad]) -> Result<Numbers, Memory>,
+    requires places { IsPlacer F.Fn placer.now }
+    requires is_new { Shows world.now.parties empty_world }
+    requires watches { Watches [] world.now.watch }
+    ensures { Promises
+        (ends (S.left source.old) (S.faults source.old) (K.taken sink.old) (K.faults sink.old))
+        (ends (S.left source.new) (S.faults source.new) (K.taken sink.new) (K.faults sink.new)) result }
 {
     let mut reader = LineReader::new(alloc);
-    let mut world = World::new(alloc);
     let mut number = 0;
     'lines: loop {
         let line = match reader.next_line(source) {
             Ok(Some(line)) => line,
-            Ok(None) => return finish(alloc, &world, sink),
+            Ok(None) => return finish(alloc, world, sink),
             Err(e) => return stopped(sink, stop_of(e), number + 1),
         };
-        let text = match carry_out(alloc, &mut world, line.as_slice()) {
-            Ok(text) => text,
+        let carried = match carry_out(alloc, world, line.as_slice(), placer) {
+            Ok(carried) => carried,
             Err(stop) => return stopped(sink, stop, number + 1),
         };
-        match put_all(sink, text.as_slice()) {
+        match put_all(sink, carried.text.as_slice()) {
             Ok(()) => number += 1,
             Err(_) => return Status::WriteFault,
         }
+        if carried.is_full {
+            return stopped(sink, Stop::Full(Quantity::Kept), number);
+        }
     }
+}
+
+/// Replays the scenario that the source gives, and puts its transcript.
+pub fn replay<S: Source, K: Sink, F>(
+    alloc: Global,
+    source: &mut S,
+    sink: &mut K,
+    placer: &Placer<F>,
+) -> Status
+where
+    F: Fn(u32, &[DriveLoad]) -> Result<Numbers, Memory>,
+    requires { IsPlacer F.Fn placer.now }
+    ensures { Promises
+        (ends (S.left source.old) (S.faults source.old) (K.taken sink.old) (K.faults sink.old))
+        (ends (S.left source.new) (S.faults source.new) (K.taken sink.new) (K.faults sink.new)) result }
+{
+    let mut world = match World::new(alloc) {
+        Ok(world) => world,
+        Err(_) => return stopped(sink, Stop::Memory, 0),
+    };
+    let status = carry_out_lines(alloc, &mut world, source, sink, placer);
+    status
 }

@@ -22,6 +22,8 @@ pub enum Quantity {
     Input,
     /// A line of it, of at most 600,000 bytes.
     Line,
+    /// The bytes that a world keeps, at most 268,435,456.
+    Kept,
 }
 
 /// How a run ended.
@@ -39,7 +41,7 @@ pub enum Status {
     WriteFault,
     /// Want of memory.
     Memory,
-    /// A quantity passes its limit.
+    /// A quantity would have passed its limit.
     Full { quantity: Quantity },
 }
 

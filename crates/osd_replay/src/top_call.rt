@@ -1,34 +1,45 @@
 // The top call.
 ghost use Rattle.std.specs.Prelude.{◌≡◌, ◌↔◌, IsNone, map, string_bytes};
+ghost use Rattle.stripe_repair.specs.Placing.{IsPlacer};
 ghost use Rattle.osd_replay.specs.Ends.{ends};
 ghost use Rattle.osd_replay.specs.Commands.{command_of};
 ghost use Rattle.osd_replay.specs.Run.{Promises};
 
 use crate::command::{Command, command_named};
+use crate::generate::generate;
 use crate::inspect::inspect;
 use crate::put_line::put_pieces;
 use crate::replay::replay;
 use crate::status::Status;
-use osd_bytes::{Sink, Source};
+use osd_bytes::{Memory, Numbers, Sink, Source};
 use std::alloc::Global;
+use stripe_repair::{DriveLoad, Placer};
 
 /// Runs the command that the words name over a source and a sink, and tells how it ended.
 ///
-/// `replay` reads a scenario, carries out its events and writes their transcript. `show KIND` and
+/// `replay` reads a scenario, carries out its events and writes their transcript. `generate N K` makes a
+/// scenario of K calls from the seed N, carries it out and writes what it came to. `show KIND` and
 /// `check KIND` read a structure of RFC 5664 from each line, in hexadecimal digits: the first writes its
 /// fields, the second tells whether it is well formed. Where a command stops before the end of the
 /// input, an error line says why.
-pub fn run<S: Source, K: Sink>(
+pub fn run<S: Source, K: Sink, F>(
     alloc: Global,
     words: &[String],
     source: &mut S,
     sink: &mut K,
+    placer: &Placer<F>,
 ) -> Status
-    ensures promise { Promises (command_of (map string_bytes words.now)) (ends (S.left source.old) (S.faults source.old) (K.taken sink.old) (K.faults sink.old)) (ends (S.left source.new) (S.faults source.new) (K.taken sink.new) (K.faults sink.new)) result }
+where
+    F: Fn(u32, &[DriveLoad]) -> Result<Numbers, Memory>,
+    requires { IsPlacer F.Fn placer.now }
+    ensures promise { Promises (command_of (map string_bytes words.now))
+        (ends (S.left source.old) (S.faults source.old) (K.taken sink.old) (K.faults sink.old))
+        (ends (S.left source.new) (S.faults source.new) (K.taken sink.new) (K.faults sink.new)) result }
     ensures words { (result ≡ Status.BadWords) ↔ IsNone (command_of (map string_bytes words.now)) }
 {
     match command_named(words) {
-        Some(Command::Replay) => replay(alloc, source, sink),
+        Some(Command::Replay) => replay(alloc, source, sink, placer),
+        Some(Command::Generate { seed, calls }) => generate(alloc, seed, calls, sink, placer),
         Some(Command::Inspect(inspection, kind)) => {
             inspect(alloc, inspection, kind, source, sink)
         }

@@ -2,11 +2,16 @@
 //! layouts (RFC 5664), as proved in `osd_replay`.
 #![tactic(auto)]
 
+ghost use Rattle.std.specs.Result.{ForOk};
+ghost use Rattle.stripe_repair.specs.Placing.{CanPlace, Places};
+
+use osd_bytes::{Memory, Numbers};
 use osd_links::{StdSink, StdSource};
-use osd_replay::{Stop, run, stopped};
+use osd_replay::{Stop, fewest_first, run, stopped};
 use std::io::ErrorKind;
 use std::process::ExitCode;
 use std::{env, io};
+use stripe_repair::{DriveLoad, Placer};
 
 // The program's name and its words.
 fn all_words(rt: HostRuntime) -> io::Result<Vec<String>> {
@@ -27,6 +32,13 @@ fn main(rt: HostRuntime) -> ExitCode {
         Err(_) => Vec::new(rt.alloc()),
     };
     let (_, words) = words.split_at(words.len().min(1));
-    let status = run(rt.alloc(), words, &mut source, &mut sink);
+    let alloc = rt.alloc();
+    let placer = Placer::new(
+        |count: u32, loads: &[DriveLoad]| -> Result<Numbers, Memory>
+            requires { CanPlace count loads.now }
+            ensures { ForOk result (Places count loads.now) }
+        { fewest_first(alloc, count, loads) },
+    );
+    let status = run(alloc, words, &mut source, &mut sink, &placer);
     ExitCode::from(status.exit_code())
 }

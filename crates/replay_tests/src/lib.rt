@@ -1,9 +1,7 @@
-//! Tests of the language, the judge and the replay, over their public calls.
+//! Tests of the language of scenarios and of the judge, over their public calls.
 #![tactic(auto)]
 
 #[cfg(test)]
 mod judge;
 #[cfg(test)]
 mod language;
-#[cfg(test)]
-mod replay;

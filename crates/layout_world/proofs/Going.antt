@@ -1,0 +1,138 @@
+-- An event that goes on by a move.
+use Rattle.std.proofs.Common.{◌≡◌, ◌++◌, ◌∷◌, [], List, Some, None, Result, Ok, Err, refl, sym, ap, subst, ◌∙◌, append_assoc}
+use Rattle.std.proofs.lemmas.List.{append-nil}
+use Rattle.scenario_text.specs.declared.event.Event.{Event}
+use Rattle.scenario_text.specs.declared.line.Line.{Line}
+use Rattle.scenario_text.specs.declared.line.Line.TheVariants as line
+use Rattle.world_history.specs.declared.err.WorldErr.{WorldErr}
+use Rattle.world_history.specs.declared.err.WorldErr.TheVariants.{NotYet, NoName, Taken, Dead, Alive, NoMessage, KeptFull, Memory}
+use Rattle.world_history.specs.State.{World}
+use Rattle.world_history.specs.Moves.{Action, acts}
+use Rattle.world_history.specs.Sending.{Move, move, cut_lines}
+use Rattle.world_history.specs.Plans.{Plan, due, went_on, plan_of}
+use Rattle.world_history.specs.Refusals.{refusal}
+use Rattle.world_history.specs.Runs.{world_after, lines_of, AreDue, plan_after}
+use Rattle.world_history.specs.History.Begins.{Part}
+use Rattle.layout_world.specs.declared.parties.Parties.{Parties}
+use Rattle.layout_world.specs.State.{Shows}
+use Rattle.layout_world.specs.Going.{MovesBy, Far, Broken, Comes}
+
+-- ---- one more move
+
+due_more : (p : Plan) (w : World) (ms : List Move) (m : Move) → AreDue p w ms
+    → due (plan_after p ms) (world_after w ms) ≡ Some m.action → AreDue p w (ms ++ m ∷ [])
+due_more p w [] m b n = (n, tt)
+due_more p w (x ∷ ms) m b n = (b.0, due_more (went_on p x.action) (move w x).world ms m b.1 n)
+
+plan_more : (p : Plan) (ms : List Move) (m : Move) → plan_after p (ms ++ m ∷ []) ≡ went_on (plan_after p ms) m.action
+plan_more p [] m = refl
+plan_more p (x ∷ ms) m = plan_more (went_on p x.action) ms m
+
+world_more : (w : World) (ms : List Move) (m : Move)
+    → world_after w (ms ++ m ∷ []) ≡ (move (world_after w ms) m).world
+world_more w [] m = refl
+world_more w (x ∷ ms) m = world_more (move w x).world ms m
+
+lines_more : (w : World) (ms : List Move) (m : Move)
+    → lines_of w (ms ++ m ∷ []) ≡ lines_of w ms ++ (move (world_after w ms) m).lines
+lines_more w [] m = append-nil (move w m).lines
+lines_more w (x ∷ ms) m =
+    ap (λ (l : List Line). (move w x).lines ++ l) (lines_more (move w x).world ms m)
+    ∙ sym (append_assoc (move w x).lines (lines_of (move w x).world ms) _)
+
+-- ---- an event
+
+-- before its first move
+pub far_first : (w : World) (e : Event) (before : List Line) (p : Parties) → refusal w e ≡ None → Shows p w
+    → Far w e before (plan_of w e) p (before ++ line.Event e ∷ [])
+far_first w e before p a s = record {
+  allowed = a;
+  moves = [];
+  are_due = tt;
+  plan_is = refl;
+  lines_are = refl;
+  shows = s;
+}
+
+-- what is appended behind the lines of an event
+behind_lines : (w : World) (e : Event) (before lines after more : List Line) (ms : List Move) → after ≡ lines ++ more
+    → lines ≡ before ++ line.Event e ∷ lines_of w ms → after ≡ before ++ line.Event e ∷ (lines_of w ms ++ more)
+behind_lines w e before lines after more ms a l =
+    a ∙ ap (λ (x : List Line). x ++ more) l ∙ append_assoc before (line.Event e ∷ lines_of w ms) more
+
+-- the lines end here
+pub broken_here : (w : World) (e : Event) (before : List Line) (plan : Plan) (p : Parties) (lines : List Line)
+    → Far w e before plan p lines → Broken w e before lines
+broken_here w e before plan p lines f =
+    let own : List Line = line.Event e ∷ lines_of w f.moves in
+    record {
+      lines = own;
+      appended = f.lines_are;
+      begins = Part e (record {
+        allowed = f.allowed;
+        moves = f.moves;
+        are_due = f.are_due;
+        part = ([], sym (append-nil own));
+      });
+    }
+
+-- a move that was due
+pub comes : (w : World) (e : Event) (before : List Line) (plan : Plan) (p : Parties) (lines : List Line)
+    (f : Far w e before plan p lines) (action : Action) (new : Parties) (after : List Line)
+    (r : Result (Unit {0}) WorldErr) → due plan (world_after w f.moves) ≡ Some action
+    → MovesBy (world_after w f.moves) action new lines after r → Comes w e before (went_on plan action) new after r
+comes w e before plan p lines f action new after (Ok u) d b =
+    let m : Move = record { action = action; chosen = b.chosen } in
+    let now : World = world_after w f.moves in
+    let due_now : due (plan_after (plan_of w e) f.moves) now ≡ Some action = ap (λ (x : Plan). due x now) f.plan_is ∙ d in
+    record {
+      allowed = f.allowed;
+      moves = f.moves ++ m ∷ [];
+      are_due = due_more (plan_of w e) w f.moves m f.are_due due_now;
+      plan_is = plan_more (plan_of w e) f.moves m ∙ ap (λ (x : Plan). went_on x action) f.plan_is;
+      lines_are = behind_lines w e before lines after (move now m).lines f.moves b.performed.1 f.lines_are
+          ∙ ap (λ (x : List Line). before ++ line.Event e ∷ x) (sym (lines_more w f.moves m));
+      shows = subst (λ (x : World). Shows new x) (sym (world_more w f.moves m)) b.performed.0;
+    }
+comes w e before plan p lines f action new after (Err KeptFull) d b =
+    let now : World = world_after w f.moves in
+    record {
+      lines = line.Event e ∷ (lines_of w f.moves ++ cut_lines (acts now b.chosen action));
+      appended = behind_lines w e before lines after (cut_lines (acts now b.chosen action)) f.moves b.performed.1 f.lines_are;
+      fills = record {
+        allowed = f.allowed;
+        moves = f.moves;
+        are_due = f.are_due;
+        last = record { action = action; chosen = b.chosen };
+        last_is_due = ap (λ (x : Plan). due x now) f.plan_is ∙ d;
+        passes = b.performed.0;
+        lines_are = refl;
+      };
+    }
+comes w e before plan p lines f action new after (Err Memory) d b =
+    let m : Move = record { action = action; chosen = b.chosen } in
+    let now : World = world_after w f.moves in
+    let front : List Line = b.performed.0 in
+    let rest : List Line = b.performed.2.0 in
+    let due_now : due (plan_after (plan_of w e) f.moves) now ≡ Some action = ap (λ (x : Plan). due x now) f.plan_is ∙ d in
+    record {
+      lines = line.Event e ∷ (lines_of w f.moves ++ front);
+      appended = behind_lines w e before lines after front f.moves b.performed.1 f.lines_are;
+      begins = Part e (record {
+        allowed = f.allowed;
+        moves = f.moves ++ m ∷ [];
+        are_due = due_more (plan_of w e) w f.moves m f.are_due due_now;
+        part = (
+          rest,
+          ap (λ (x : List Line). line.Event e ∷ x) (lines_more w f.moves m
+              ∙ ap (λ (x : List Line). lines_of w f.moves ++ x) b.performed.2.1
+              ∙ sym (append_assoc (lines_of w f.moves) front rest)),
+        );
+      });
+    }
+comes w e before plan p lines f action new after (Err NotYet) d b = absurd b.performed
+comes w e before plan p lines f action new after (Err NoName) d b = absurd b.performed
+comes w e before plan p lines f action new after (Err Taken) d b = absurd b.performed
+comes w e before plan p lines f action new after (Err Dead) d b = absurd b.performed
+comes w e before plan p lines f action new after (Err Alive) d b = absurd b.performed
+comes w e before plan p lines f action new after (Err (NoMessage k)) d b = absurd b.performed

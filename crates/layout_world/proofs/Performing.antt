@@ -1,0 +1,92 @@
+-- Performing an act of the world is its move, for all parties.
+use Rattle.std.proofs.Common.{◌≡◌, ℕ, [], List, map, Result, Ok, Err, refl, sym, ap, subst, ◌∙◌}
+use Rattle.std.specs.Prelude.{OnErr}
+use Rattle.std.proofs.lemmas.List.{append-nil}
+use Rattle.scenario_text.specs.declared.line.Line.{Line}
+use Rattle.world_history.specs.declared.err.WorldErr.{WorldErr}
+use Rattle.world_history.specs.declared.err.WorldErr.TheVariants.{NotYet, NoName, Taken, Dead, Alive, NoMessage, KeptFull, Memory}
+use Rattle.world_history.specs.declared.messages.Sent.{Sent}
+use Rattle.world_history.specs.State.{World}
+use Rattle.world_history.specs.Moves.{Act as WorldAct}
+use Rattle.world_history.specs.Sending.{sends_all}
+use Rattle.world_network.specs.declared.posting.Posting.{Posting}
+use Rattle.world_network.specs.Network.{NetworkState}
+use Rattle.world_network.specs.Posting.{sent}
+use Rattle.world_network.specs.Shows.{posting_of}
+use Rattle.world_words.specs.declared.acts.Act.{Act}
+use Rattle.world_words.specs.Acts.{IsAct}
+use Rattle.world_moves.specs.Moving.{act_of, Performs, ActsAreMoves}
+use Rattle.layout_world.specs.declared.parties.Parties.{Parties}
+use Rattle.layout_world.specs.State.{Settled, Shows}
+use Rattle.layout_world.specs.Acting.{Grows}
+use Rattle.layout_world.specs.Going.{Performed}
+use Rattle.layout_world.proofs.Settling.{settled_more}
+
+-- an act is the world's
+the_act : (a : WorldAct) (act : Act) → IsAct a.told a.posts act → act ≡ act_of a
+the_act a act i =
+    let posts : List Posting = map posting_of a.posts in
+    let lines : act ≡ record { told = a.told; posts = act.posts } =
+    ap (λ (l : List Line). record { told = l; posts = act.posts }) i.lines in
+    let sends : record { told = a.told; posts = act.posts } ≡ act_of a =
+    ap (λ (l : List Posting). record { told = a.told; posts = l }) i.sends in
+    lines ∙ sends
+
+-- messages that are sent come behind the others
+pub performed_grows : (n n' : NetworkState) (act : Act) (before after : List Line)
+    → Performs n act before after n' (Ok tt) → Grows n.messages n'.messages
+performed_grows n n' act before after h = (map sent act.posts, ap (λ (x : NetworkState). x.messages) h.0)
+
+settled_grown : (first end : ℕ) (ms ns : List Sent) → Grows ms ns → Settled first end ms → Settled first end ns
+settled_grown first end ms ns g s =
+    subst (λ (l : List Sent). Settled first end l) (sym g.1) (settled_more first end ms g.0 s)
+
+pub performed : (p : Parties) (n' : NetworkState) (a : WorldAct) (act : Act) (before after : List Line)
+    (r : Result (Unit {0}) WorldErr) → ActsAreMoves → IsAct a.told a.posts act → Shows p a.world
+    → Performs p.network act before after n' r → Performed a (record p { network = n' }) before after r
+performed p n' a act before after (Ok u) moves i s h =
+    let same : act ≡ act_of a = the_act a act i in
+    let m = moves p.network n' a before after (Ok u) s.network (subst (λ
+    (x : Act). Performs p.network x before after n' (Ok u)) same h) in (
+      record {
+        drives = s.drives;
+        clients = s.clients;
+        server = s.server;
+        clock = s.clock;
+        network = m.0;
+        settled = settled_grown 0 p.settled p.network.messages n'.messages (performed_grows p.network n' act before after h)
+            s.settled;
+      },
+      m.1,
+    )
+performed p n' a act before after (Err KeptFull) moves i s h =
+    moves p.network n' a before after (Err KeptFull) s.network (subst (λ
+    (x : Act). Performs p.network x before after n' (Err KeptFull)) (the_act a act i) h)
+performed p n' a act before after (Err Memory) moves i s h =
+    moves p.network n' a before after (Err Memory) s.network (subst (λ
+    (x : Act). Performs p.network x before after n' (Err Memory)) (the_act a act i) h)
+performed p n' a act before after (Err NotYet) moves i s h = absurd h
+performed p n' a act before after (Err NoName) moves i s h = absurd h
+performed p n' a act before after (Err Taken) moves i s h = absurd h
+performed p n' a act before after (Err Dead) moves i s h = absurd h
+performed p n' a act before after (Err Alive) moves i s h = absurd h
+performed p n' a act before after (Err (NoMessage k)) moves i s h = absurd h
+
+-- the watch changes nothing of that; where it has no memory, the lines stand
+pub watched : (p q : Parties) (a : WorldAct) (before after : List Line) (r : Result (Unit {0}) WorldErr)
+    → ((w : World) → Shows p w → Shows q w) → OnErr r (r ≡ Err Memory) → Performed a p before after (Ok tt)
+    → Performed a q before after r
+watched p q a before after (Ok u) keeps only h = (keeps (sends_all a).world h.0, h.1)
+watched p q a before after (Err Memory) keeps only h =
+    ((sends_all a).lines, h.1, ([], sym (append-nil (sends_all a).lines)))
+watched p q a before after (Err KeptFull) keeps only h = absurd (cc only)
+watched p q a before after (Err NotYet) keeps only h = absurd (cc only)
+watched p q a before after (Err NoName) keeps only h = absurd (cc only)
+watched p q a before after (Err Taken) keeps only h = absurd (cc only)
+watched p q a before after (Err Dead) keeps only h = absurd (cc only)
+watched p q a before after (Err Alive) keeps only h = absurd (cc only)
+watched p q a before after (Err (NoMessage k)) keeps only h = absurd (cc only)
+
+-- for want of memory before the first line
+pub nothing_performed : (p : Parties) (a : WorldAct) (lines : List Line) → Performed a p lines lines (Err Memory)
+nothing_performed p a lines = ([], sym (append-nil lines), ((sends_all a).lines, refl))

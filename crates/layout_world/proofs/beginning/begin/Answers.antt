@@ -1,0 +1,30 @@
+use Rattle.world_history.specs.Moves.{begins}
+use Rattle.layout_world.proofs.beginning.begin.Goals as goal
+
+pub returns-in-Deliver : goal.returns-in-Deliver
+unfolding begins
+returns-in-Deliver g c = rw c.in-Deliver.is c.deliver.ensures.acts
+
+pub returns-in-File : goal.returns-in-File
+unfolding begins
+returns-in-File g c = rw c.in-File.is c.make_file.ensures
+
+pub returns-in-Recall : goal.returns-in-Recall
+unfolding begins
+returns-in-Recall g c = rw c.in-Recall.is c.recall.ensures
+
+pub returns-in-Revoke : goal.returns-in-Revoke
+unfolding begins
+returns-in-Revoke g c = rw c.in-Revoke.is c.revoke.ensures
+
+pub returns-in-Rebuild : goal.returns-in-Rebuild
+unfolding begins
+returns-in-Rebuild g c = rw c.in-Rebuild.is c.rebuild.ensures
+
+pub returns-in-Audit : goal.returns-in-Audit
+unfolding begins
+returns-in-Audit g c = rw c.in-Audit.is c.audit.ensures
+
+pub returns-in-Declare : goal.returns-in-Declare
+unfolding begins
+returns-in-Declare g c = rw c.in-Declare.is c.declare.ensures

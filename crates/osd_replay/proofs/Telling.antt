@@ -1,0 +1,60 @@
+-- Histories that go on by one event.
+use Rattle.std.proofs.Common.{Bool, ◌≡◌, List, [], ◌∷◌, ◌++◌, refl, sym, ap, subst, ◌∙◌, append_assoc}
+use Rattle.std.proofs.lemmas.List.{append-nil, map-append}
+use Rattle.scenario_text.specs.declared.event.Event.{Event}
+use Rattle.scenario_text.specs.declared.line.Line.{Line}
+use Rattle.scenario_text.specs.declared.line.Line.TheVariants.{Last}
+use Rattle.world_history.specs.State.{World, empty_world}
+use Rattle.world_history.specs.Runs.{Carries}
+use Rattle.world_history.specs.History.{Step, AreCarried, end_of, lines_of_steps}
+use Rattle.world_history.specs.Guesses.{unguessed}
+use Rattle.world_watch.specs.Watching.{Watches}
+use Rattle.layout_world.specs.State.{WorldState}
+use Rattle.osd_replay.specs.Transcript.{Tells}
+
+carried_more : (w : World) (steps : List Step) (s : Step) → AreCarried w steps
+    → Carries (end_of w steps) s.event s.lines s.after → AreCarried w (steps ++ s ∷ [])
+carried_more w [] s r c = (c, tt)
+carried_more w (x ∷ steps) s r c = (r.0, carried_more x.after steps s r.1 c)
+
+end_more : (w : World) (steps : List Step) (s : Step) → end_of w (steps ++ s ∷ []) ≡ s.after
+end_more w [] s = refl
+end_more w (x ∷ steps) s = end_more x.after steps s
+
+lines_more : (steps : List Step) (s : Step) → lines_of_steps (steps ++ s ∷ []) ≡ lines_of_steps steps ++ s.lines
+lines_more [] s = append-nil s.lines
+lines_more (x ∷ steps) s =
+    ap (λ (l : List Line). x.lines ++ l) (lines_more steps s)
+    ∙ sym (append_assoc x.lines (lines_of_steps steps) s.lines)
+
+-- the flag that is kept is the history's
+pub last_said : (s : WorldState) (h : List Line) → Watches h s.watch
+    → Last s.watch.calm s.watch.guesses.unguessed ≡ Last s.watch.calm (unguessed h)
+last_said s h k = ap (λ (b : Bool). Last s.watch.calm b) k.guesses.unguessed
+
+-- nothing was carried out
+pub tells_none : Tells [] empty_world []
+tells_none = record {
+  stands = record { steps = []; carried = tt; world_is = refl; lines_are = refl };
+  events_are = refl;
+}
+
+-- one event more
+pub tells_more : (events : List Event) (w w' : World) (h lines : List Line) (e : Event) → Tells events w h
+    → Carries w e lines w' → Tells (events ++ e ∷ []) w' (h ++ lines)
+tells_more events w w' h lines e t c =
+    let step : Step = record { event = e; lines = lines; after = w' } in
+    let s : List Step = t.stands.steps in
+    record {
+      stands = record {
+        steps = s ++ step ∷ [];
+        carried =
+            carried_more empty_world s step t.stands.carried
+            (subst (λ (x : World). Carries x e lines w') t.stands.world_is c);
+        world_is = sym (end_more empty_world s step);
+        lines_are = ap (λ (l : List Line). l ++ lines) t.stands.lines_are ∙ sym (lines_more s step);
+      };
+      events_are =
+          map-append (λ (x : Step). x.event) s (step ∷ [])
+          ∙ ap (λ (es : List Event). es ++ e ∷ []) t.events_are;
+    }

@@ -1,0 +1,78 @@
+use Rattle.std.proofs.Common.{arith, refl, ap, Err, ◌≡◌, ◌∙◌}
+use Rattle.osd_bytes.specs.Put.{written_of}
+use Rattle.osd_replay.specs.LineCarried.{CarriesLine, StopsLine}
+use Rattle.osd_replay.proofs.SoFar.{nothing_yet, goes_on}
+use Rattle.osd_replay.proofs.Telling.{last_said}
+use Rattle.osd_replay.proofs.Promised.{finished, cut_put, no_line, line_stopped, part_put, nothing_ahead, at_end}
+use Rattle.osd_replay.proofs.replay.carry_out_lines.Goals as goal
+
+pub lines-init : goal.lines-init
+lines-init g c =
+    rw c.new-reader.ensures record {
+      reader = refl;
+      within = omega arith;
+      number = omega arith;
+      ended = λ h. absurd (cc h);
+      reads = refl;
+      writes = refl;
+      so_far = rw (nothing_ahead (g.S.Source.left c.args.source.now)) (nothing_yet (g.S.Source.left c.args.source.now) (g.K.Sink.taken c.args.sink.now) c.args.world.now c.requires.is_new c.requires.watches);
+    }
+
+pub returns-in-Ok-None : goal.returns-in-Ok-None
+returns-in-Ok-None g c =
+    let here = rw c.in-Ok-None.field-0-is at c.in-Ok-None.ensures in
+    let inv = c.lines.invariant in
+    finished _ _ _ _ c.lines.reader.taken (g.K.Sink.taken c.lines.sink) c.lines.number (g.K.Sink.faults c.lines.sink) c.lines.world _ c.finish.result inv.so_far here.lines
+    (at_end _ _ _ _ here.at_end inv.ended (here.end refl)) (here.cause.same ∙ inv.reads) inv.writes (λ w h shows watches. record { state = c.lines.world; shows = shows; last_is = last_said c.lines.world h watches }) c.finish.ensures.ends
+
+pub returns-in-Err : goal.returns-in-Err
+returns-in-Err g c =
+    let inv = c.lines.invariant in
+    rw (c.stopped.ensures.status, c.stop_of.ensures)
+    (no_line _ _ _ c.lines.reader.taken (g.K.Sink.taken c.lines.sink) c.lines.number (g.K.Sink.faults c.lines.sink) c.lines.world c.stopped.ensures.puts.0 c.in-Err.e inv.so_far c.in-Err.ensures.answer
+    (λ h. rw inv.reads at (c.in-Err.ensures.cause.fault (ap (λ x. Err x) h))) inv.writes (rw c.stop_of.ensures at c.stopped.ensures.puts.1))
+
+pub returns-in-Err-carry_out : goal.returns-in-Err-carry_out
+returns-in-Err-carry_out g c =
+    let here = rw c.in-Ok-Some.field-0-is at c.in-Ok-Some.ensures in
+    let inv = c.lines.invariant in
+    let stops : StopsLine c.in-Ok-Some.line c.lines.world c.in-Err-carry_out.stop = rw c.as_slice.ensures at c.in-Err-carry_out.ensures.err in
+    rw c.stopped-in-Err-carry_out.ensures.status
+    (line_stopped _ _ _ c.lines.reader.taken (g.K.Sink.taken c.lines.sink) c.lines.number (g.K.Sink.faults c.lines.sink) c.lines.world c.stopped-in-Err-carry_out.ensures.puts.0 c.in-Ok-Some.line c.in-Err-carry_out.stop
+    inv.so_far here.answer stops inv.writes c.stopped-in-Err-carry_out.ensures.puts.1)
+
+pub returns-in-Err-put_all : goal.returns-in-Err-put_all
+returns-in-Err-put_all g c =
+    let here = rw c.in-Ok-Some.field-0-is at c.in-Ok-Some.ensures in
+    let inv = c.lines.invariant in
+    let carried : CarriesLine c.in-Ok-Some.line c.lines.world c.carry_out.new.world c.in-Ok.carried = rw c.as_slice.ensures at c.in-Ok.ensures.ok in
+    let bytes : c.as_slice-in-lines.result.now ≡ c.in-Ok.carried.text = c.as_slice-in-lines.ensures in
+    part_put _ _ _ _ c.lines.reader.taken c.next_line.new.self.taken (g.K.Sink.taken c.lines.sink) c.lines.number (written_of c.in-Err-put_all.field-0) c.lines.world c.carry_out.new.world c.in-Ok-Some.line c.in-Ok.carried
+    inv.so_far here.lines here.takes carried (rw bytes at c.in-Err-put_all.ensures.part) (rw bytes at c.in-Err-put_all.ensures.err) (rw inv.writes at c.in-Err-put_all.ensures.cause.failed)
+
+pub lines-preserved : goal.lines-preserved
+lines-preserved g c =
+    let here = rw c.in-Ok-Some.field-0-is at c.in-Ok-Some.ensures in
+    let inv = c.lines.invariant in
+    let carried : CarriesLine c.in-Ok-Some.line c.lines.world c.carry_out.new.world c.in-Ok.carried = rw c.as_slice.ensures at c.in-Ok.ensures.ok in
+    let bytes : c.as_slice-in-lines.result.now ≡ c.in-Ok.carried.text = c.as_slice-in-lines.ensures in
+    record {
+      reader = here.over.1 tt;
+      within = here.within;
+      number = omega (arith, inv.number, here.counts tt);
+      ended = at_end _ _ _ _ here.at_end inv.ended;
+      reads = here.cause.same ∙ inv.reads;
+      writes = c.in-Ok-put_all.ensures.cause.same ∙ inv.writes;
+      so_far = goes_on _ _ _ c.lines.reader.taken c.next_line.new.self.taken _ (g.K.Sink.taken c.lines.sink) _ c.lines.number c.lines.world c.carry_out.new.world c.in-Ok-Some.line c.in-Ok.carried
+          inv.so_far here.lines here.takes carried c.if-carried.false (rw bytes at c.in-Ok-put_all.ensures.ok);
+    }
+
+pub returns-then-carried : goal.returns-then-carried
+returns-then-carried g c =
+    let here = rw c.in-Ok-Some.field-0-is at c.in-Ok-Some.ensures in
+    let inv = c.lines.invariant in
+    let carried : CarriesLine c.in-Ok-Some.line c.lines.world c.carry_out.new.world c.in-Ok.carried = rw c.as_slice.ensures at c.in-Ok.ensures.ok in
+    let bytes : c.as_slice-in-lines.result.now ≡ c.in-Ok.carried.text = c.as_slice-in-lines.ensures in
+    rw c.stopped-then-carried.ensures.status
+    (cut_put _ _ _ _ c.lines.reader.taken c.next_line.new.self.taken (g.K.Sink.taken c.lines.sink) _ c.lines.number _ c.stopped-then-carried.ensures.puts.0 c.lines.world c.carry_out.new.world c.in-Ok-Some.line c.in-Ok.carried
+    inv.so_far here.lines here.takes carried c.if-carried.true (rw bytes at c.in-Ok-put_all.ensures.ok) (c.in-Ok-put_all.ensures.cause.same ∙ inv.writes) c.stopped-then-carried.ensures.puts.1)

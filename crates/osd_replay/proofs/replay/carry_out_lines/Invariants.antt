@@ -1,0 +1,20 @@
+use Rattle.std.proofs.Common.{◌≡◌, ◌≤◌, ◌-◌, ◌+◌, true, false}
+use Rattle.std.specs.Io.KnownBytes.{IsAtEnd}
+use Rattle.osd_bytes.specs.declared.lines.TheConstants.{MAX_INPUT}
+use Rattle.osd_bytes.specs.Reading.{known_of}
+use Rattle.osd_replay.proofs.SoFar.{SoFar}
+use Rattle.osd_replay.proofs.replay.carry_out_lines.Given as goal
+
+abbrev pub invariant-lines : goal.invariant-lines
+invariant-lines g l = record {
+  reader : l.reader.over ≡ false;
+  within : l.reader.taken ≤ MAX_INPUT;
+  number : l.number ≤ l.reader.taken;
+  ended : l.reader.ahead.ended ≡ true → IsAtEnd (g.S.Source.left l.source);
+  reads : g.S.Source.faults l.source ≡ g.S.Source.faults l.fn.source;
+  writes : g.K.Sink.faults l.sink ≡ g.K.Sink.faults l.fn.sink;
+  so_far : SoFar (g.S.Source.left l.fn.source) (known_of l.reader.ahead (g.S.Source.left l.source)) l.reader.taken (g.K.Sink.taken l.fn.sink) (g.K.Sink.taken l.sink) l.number l.world;
+}
+
+abbrev pub decreases-lines : goal.decreases-lines
+decreases-lines g l = MAX_INPUT + 1 - l.reader.taken

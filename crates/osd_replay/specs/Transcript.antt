@@ -1,0 +1,29 @@
+-- The transcript of a run: the lines of a history, and the last line.
+use Rattle.std.specs.Prelude.{◌≡◌, ℕ, List, [], ◌∷◌, ◌++◌, map}
+use Rattle.scenario_text.specs.declared.event.Event.{Event}
+use Rattle.scenario_text.specs.declared.line.Line.{Line}
+use Rattle.scenario_text.specs.declared.line.Line.TheVariants.{Last}
+use Rattle.scenario_text.specs.LineSpelling.{lines_text}
+use Rattle.world_history.specs.State.{World}
+use Rattle.world_history.specs.Guesses.{unguessed}
+use Rattle.world_history.specs.History.{Step, StandsFor}
+use Rattle.layout_world.specs.State.{WorldState, Shows}
+
+-- the events of steps
+abbrev pub events_of : List Step → List Event
+events_of steps = map (λ (s : Step). s.event) steps
+
+-- A world stands for a history, and these are its events. So the history is lawful.
+pub record Tells (events : List Event) (w : World) (h : List Line) : Type 0 where
+  pub stands : StandsFor w h
+  pub events_are : events_of stands.steps ≡ events
+
+-- The last line of a history says whether it is unguessed, and of calm what is kept by the code that shows this world.
+pub record EndsWith (w : World) (h : List Line) (last : Line) : Type 0 where
+  pub state : WorldState
+  pub shows : Shows state.parties w
+  pub last_is : last ≡ Last state.watch.calm (unguessed h)
+
+-- the text of a history and its last line
+abbrev pub final_text : List Line → Line → List ℕ
+final_text h last = lines_text (h ++ last ∷ [])
