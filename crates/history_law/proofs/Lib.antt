@@ -1,0 +1,4 @@
+mod Moments
+mod Going
+mod Running
+mod Touching

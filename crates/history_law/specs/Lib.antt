@@ -1,0 +1,4 @@
+pub mod Moments
+pub mod Parties
+pub mod Grants
+pub mod Touching

@@ -1,0 +1,9 @@
+//! Laws of every history of a world, whatever a scenario names.
+//!
+//! The world, its moves and its histories are those of `world_history`, and what a party does is its rules'. Here is
+//! what follows from them at each moment.
+#![tactic(auto)]
+
+mod laws;
+
+pub use laws::{grants_are_safe, parties_run, performed_touches_its_own};
