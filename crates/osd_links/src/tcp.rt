@@ -4,7 +4,7 @@ ghost use Rattle.osd_links.specs.Linked.{Faulted};
 
 use osd_bytes::{Bytes, Fault, Links, Node, Peers};
 use std::alloc::Global;
-use std::io::{Read, Write};
+use std::io::{ErrorKind, Read, Write};
 use std::marker::Model;
 use std::net::{Net, OpenListener, OpenStream, TcpListener, TcpStream, ToSocketAddrs};
 use std::str;
@@ -32,7 +32,7 @@ struct Asking<S> {
 /// Connections over TCP. Addresses are a host and a port, as in `127.0.0.1:7000`.
 ///
 /// A call on a peer that keeps silent for [`PATIENCE_SECONDS`] fails. `accept` waits for a
-/// connection as long as it takes.
+/// connection as long as it takes, and passes over one that its peer gave up while it waited.
 #[derive(Drop)]
 pub struct TcpLinks<R: Net> {
     runtime: R,
@@ -72,6 +72,33 @@ fn with_patience<S: OpenStream + Drop>(stream: S) -> Option<S> {
     stream.set_read_timeout(patience).ok()?;
     stream.set_write_timeout(patience).ok()?;
     Some(stream)
+}
+
+// The next connection. One that its peer gave up while it waited is passed over.
+fn next_stream<L: OpenListener>(listener: &L) -> Option<L::Stream>
+where
+    L::Stream: OpenStream + Drop,
+{
+    for _ in 0..u64::MAX {
+        match listener.accept() {
+            Ok((stream, _)) => {
+                if let Some(stream) = with_patience(stream) {
+                    return Some(stream);
+                }
+            }
+            Err(e) if is_passed_over(e.kind()) => {}
+            Err(_) => return None,
+        }
+    }
+    None
+}
+
+// Whether a call of accept tells of the connection that it was to give alone, and not of the listener.
+fn is_passed_over(kind: ErrorKind) -> bool {
+    matches!(
+        kind,
+        ErrorKind::ConnectionAborted | ErrorKind::ConnectionReset | ErrorKind::Interrupted
+    )
 }
 
 impl<R: Net + Drop> TcpLinks<R> {
@@ -173,12 +200,8 @@ impl<R: Net + Drop> Links for TcpLinks<R> {
 
     fn accept(&mut self) -> Result<(), Fault> {
         self.accepted = None;
-        let accepted = match &self.listener {
-            Some(listener) => listener.accept().ok(),
-            None => None,
-        };
-        let stream = match accepted {
-            Some((stream, _)) => with_patience(stream),
+        let stream = match &self.listener {
+            Some(listener) => next_stream(listener),
             None => None,
         };
         if stream.is_none() {
