@@ -1,0 +1,53 @@
+// The simple commands that read the options.
+ghost use Rattle.std.specs.Prelude.{◌≡◌, false, IfOk};
+ghost use Rattle.clap.specs.Words.{app_of, rule_of, with_rule};
+ghost use Rattle.command_words.specs.Options.{client_options, drive_options, option_rule, server_options};
+
+use clap::{Arg, ArgAction, Command};
+use std::alloc::{AllocError, Global};
+
+// A required option that takes a text.
+fn option<'a>(alloc: Global, id: &'a str) -> Arg<'a>
+    ensures rule { rule_of result ≡ option_rule id.entry.now }
+    ensures local { result.global ≡ false }
+{
+    Arg::new(alloc, id)
+        .long(id)
+        .required(true)
+        .action(ArgAction::Set)
+}
+
+// The command with one more option.
+fn with_option<'a>(
+    alloc: Global,
+    command: Command<'a>,
+    id: &'a str,
+) -> Result<Command<'a>, AllocError>
+    ensures { IfOk result (λ c. app_of c ≡ with_rule (app_of command.entry) (option_rule id.entry.now)) }
+{
+    command.arg(option(alloc, id))
+}
+
+// `drive --number N --connections K`
+pub(crate) fn drive_options<'a>(alloc: Global) -> Result<Command<'a>, AllocError>
+    ensures { IfOk result (λ c. app_of c ≡ drive_options) }
+{
+    let command = with_option(alloc, Command::new(alloc, "drive"), "number")?;
+    with_option(alloc, command, "connections")
+}
+
+// `server --connections K`
+pub(crate) fn server_options<'a>(alloc: Global) -> Result<Command<'a>, AllocError>
+    ensures { IfOk result (λ c. app_of c ≡ server_options) }
+{
+    with_option(alloc, Command::new(alloc, "server"), "connections")
+}
+
+// `client --number N --sequence Q --call TEXT`
+pub(crate) fn client_options<'a>(alloc: Global) -> Result<Command<'a>, AllocError>
+    ensures { IfOk result (λ c. app_of c ≡ client_options) }
+{
+    let command = with_option(alloc, Command::new(alloc, "client"), "number")?;
+    let command = with_option(alloc, command, "sequence")?;
+    with_option(alloc, command, "call")
+}
