@@ -1,0 +1,3 @@
+pub mod NonceLaws
+pub mod WorkLaws
+pub mod ConnectionLaws

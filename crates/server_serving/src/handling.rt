@@ -1,0 +1,102 @@
+// A record of a node, handed to the server.
+ghost use Rattle.std.specs.Prelude.{◌≡◌, ◌++◌, ℕ, Bool, List, Option, is_some, IfOk, OnOk};
+ghost use Rattle.stripe_repair.specs.Placing.{IsPlacer};
+ghost use Rattle.osd_bytes.specs.Connections.{Traffic};
+ghost use Rattle.osd_bytes.specs.Counts.{Faults};
+ghost use Rattle.osd_asking.specs.Asking.{ends_of};
+ghost use Rattle.server_requests.specs.declared.sending.Sent.{Sent};
+ghost use Rattle.server_serving.specs.Work.{AsksDrive, Handles, sender_of, serving};
+
+use layout_ops::{Envelope, OpErr, read_envelope};
+use layout_server::{Sends, Sent, ServerCore};
+use osd_asking::asked;
+use osd_bytes::{Bytes, Clock, Links, Memory, Node, Numbers};
+use std::alloc::Global;
+use stripe_repair::{DriveLoad, Placer};
+
+/// Who sent a record of an accepted connection: the client that a request or a recall's answer names, else the program
+/// that gives orders, which stands for the server.
+///
+/// # Errors
+///
+/// Want of memory alone.
+pub fn sender_of(alloc: Global, message: &[u8]) -> Result<Node, Memory>
+    ensures { IfOk result (λ sender. sender ≡ sender_of message.now) }
+{
+    match read_envelope(alloc, message) {
+        Ok(Envelope::Request(request)) => Ok(Node::Client(request.client)),
+        Ok(Envelope::RecallAnswer(answer)) => Ok(Node::Client(answer.client)),
+        Ok(_) => Ok(Node::Server),
+        Err(OpErr::Memory) => Err(Memory),
+        Err(_) => Ok(Node::Server),
+    }
+}
+
+/// Hands a record of a node to the server at the next time of the clock, and gives what is to be sent then.
+///
+/// # Errors
+///
+/// Want of memory alone. Then nothing is left of the server.
+pub fn handle<C: Clock, F>(
+    core: &mut ServerCore,
+    clock: &mut C,
+    placer: &Placer<F>,
+    from: Node,
+    message: &[u8],
+) -> Result<Sends, Memory>
+where
+    F: Fn(u32, &[DriveLoad]) -> Result<Numbers, Memory>,
+    requires placer { IsPlacer F.Fn placer.now }
+    ensures { IfOk result (λ sends. (waiting : List Sent) (stands : Bool) (told : Option Traffic) (faults : Faults) →
+        Handles from message.now (serving core.old waiting stands (ends_of told faults (C.times clock.old)))
+        (serving core.new (waiting ++ sends) stands (ends_of told faults (C.times clock.new)))) }
+{
+    let now = clock.now();
+    let step = core.on_message(now, from, message, placer)?;
+    Ok(step.sends)
+}
+
+// Adds messages behind those that wait.
+fn push_all(alloc: Global, waiting: &mut Sends, more: &[Sent]) -> Result<(), Memory>
+    ensures { OnOk result (waiting.new ≡ waiting.old ++ more.now) }
+{
+    for sent in more {
+        let bytes = Bytes::copied(alloc, sent.bytes.as_slice())?;
+        waiting.push(Sent { to: sent.to, bytes })?;
+    }
+    Ok(())
+}
+
+/// Sends a message to a drive in an exchange, and hands the record that comes to the server. What that gives to send
+/// waits behind all others. Tells whether a record came.
+///
+/// # Errors
+///
+/// Want of memory alone.
+pub fn ask_drive<L: Links, C: Clock, F>(
+    alloc: Global,
+    core: &mut ServerCore,
+    links: &mut L,
+    clock: &mut C,
+    placer: &Placer<F>,
+    drive: u32,
+    message: &[u8],
+    waiting: &mut Sends,
+) -> Result<bool, Memory>
+where
+    F: Fn(u32, &[DriveLoad]) -> Result<Numbers, Memory>,
+    requires placer { IsPlacer F.Fn placer.now }
+    ensures { IfOk result (λ came. (stands : Bool) → (a : AsksDrive drive message.now
+        (serving core.old waiting.old stands (ends_of (L.told links.old) (L.faults links.old) (C.times clock.old)))
+        (serving core.new waiting.new stands (ends_of (L.told links.new) (L.faults links.new) (C.times clock.new))))
+        × (is_some a.came ≡ came)) }
+{
+    match asked(alloc, links, Node::Drive(drive), message)? {
+        Some(reply) => {
+            let sends = handle(core, clock, placer, Node::Drive(drive), reply.as_slice())?;
+            push_all(alloc, waiting, sends.as_slice())?;
+            Ok(true)
+        }
+        None => Ok(false),
+    }
+}

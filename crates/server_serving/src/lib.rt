@@ -1,0 +1,12 @@
+//! Serving the connections that a metadata server accepts, over links and a clock.
+//!
+//! Each record that comes is handled at a time of its own, and what that gives to send is worked at once: a command
+//! goes to its drive in an exchange, whose record is handled too; what is for who sent the record is put on the
+//! accepted connection; a message to any other client is lost.
+#![tactic(auto)]
+
+mod handling;
+mod serving;
+mod working;
+
+pub use serving::serve;
