@@ -9,4 +9,5 @@ mod handling;
 mod serving;
 mod working;
 
+pub use handling::ask_drive;
 pub use serving::serve;
