@@ -1,64 +1,276 @@
 use osd_bytes::Bytes;
 use osd_capability::{Capability, capability_key};
-use osd_commands::{Action, Command, Reply, read_command, seal, write_command};
+use osd_commands::{Action, Command, read_command, seal, write_command};
 use osd_drive::{DriveCore, DriveKey, KeyTable, Verdict};
+use std::alloc::Global;
 use std::test::Fail;
 
 const KEY: [u8; 20] = [0x0b; 20];
 
 const OBJECT: u64 = 65_536;
 
-const SERVER: u32 = u32::MAX;
-
 // The capability of the server for the object, at tag 2.
-fn server() -> Capability {
-    Capability {
-        format: 1,
-        key_version: 1,
-        rights: 63,
-        expiry: u64::MAX,
-        grant: 0,
-        holder: SERVER,
-        tag: 2,
-        partition: 65_536,
-        object: OBJECT,
-        range_start: 0,
-        range_len: u64::MAX,
-    }
-}
+const SERVER: Capability = Capability {
+    format: 1,
+    key_version: 1,
+    rights: 63,
+    expiry: u64::MAX,
+    grant: 0,
+    holder: u32::MAX,
+    tag: 2,
+    partition: 65_536,
+    object: OBJECT,
+    range_start: 0,
+    range_len: u64::MAX,
+};
 
 // A client's for 8 bytes, from 8 on.
-fn client() -> Capability {
-    Capability {
-        format: 1,
-        key_version: 1,
-        rights: 6,
-        expiry: 100,
-        grant: 1,
-        holder: 0,
-        tag: 2,
-        partition: 65_536,
-        object: OBJECT,
-        range_start: 8,
-        range_len: 8,
-    }
+const CLIENT: Capability = Capability {
+    format: 1,
+    key_version: 1,
+    rights: 6,
+    expiry: 100,
+    grant: 1,
+    holder: 0,
+    tag: 2,
+    partition: 65_536,
+    object: OBJECT,
+    range_start: 8,
+    range_len: 8,
+};
+
+// Whose capability a command bears: the server's, also at another tag or as another holder's, or the
+// client's, also with one number changed.
+#[derive(Clone, Copy)]
+enum Who {
+    Server,
+    Tag(u32),
+    Holder(u32),
+    Client,
+    Version(u16),
+    Partition(u64),
+    Object(u64),
+    Format(u8),
 }
 
 // What a command says beside its capability: its action, nonce, offset, length, attribute, and how
 // many bytes its payload has.
 type Asked = (Action, u64, u64, u64, u32, usize);
 
-// The payload of so many bytes: `abcdefgh` and so on.
-fn payload_of(rt: &HostRuntime, count: usize) -> Result<Bytes, Fail> {
-    let mut payload = Bytes::new(rt.alloc());
-    for i in 0..count {
-        payload.push(b'a' + (i % 26) as u8)?;
+// The action, verdict, object, nonce and detail of a reply, and its payload.
+type Answer = (u16, u16, u64, u64, u64, &'static [u8]);
+
+// What the drive does with a command, and what has to come of it.
+#[derive(Clone, Copy)]
+enum Deed {
+    // The verdict at this time.
+    Judge(u64, Verdict),
+    // The same where a bit of the check value is another.
+    Spoilt(u64, Verdict),
+    // The verdict at time 0, once the drive was asked for this least format.
+    Least(u8, Verdict),
+    // The verdict without the rows on the capability.
+    Late(Verdict),
+    // The reply to the message, at time 100.
+    Answer(Answer),
+    // The verdict and the nonce of the reply, where it is performed without a look at its capability.
+    Perform(u16, u64),
+    // The verdict of the reply to 255 zeros in place of the message.
+    Zeros(u16),
+}
+
+type Step = (Who, Asked, Deed);
+
+// An empty drive, one that has the object, and one whose object has 16 attributes and 32 lanes.
+#[derive(Clone, Copy)]
+enum Start {
+    Empty,
+    Object,
+    Full,
+}
+
+// The steps that a drive with so many bytes goes through, each on what those before leave.
+struct History {
+    name: &'static str,
+    start: Start,
+    capacity: u64,
+    steps: &'static [Step],
+}
+
+#[rattlefmt::skip]
+const HISTORIES: [History; 10] = [
+    History {
+        name: "the order of the rows",
+        start: Start::Object,
+        capacity: 1_000,
+        steps: &[
+            (Who::Client, (Action::Read, 1, 7, 1, 0, 0), Deed::Judge(101, Verdict::Expired)),
+            (Who::Client, (Action::Read, 1, 7, 1, 0, 0), Deed::Judge(100, Verdict::Range)),
+            (Who::Client, (Action::Read, 1, 8, 8, 0, 0), Deed::Judge(100, Verdict::Perform)),
+            (Who::Client, (Action::Read, 1, 16, 0, 0, 0), Deed::Judge(100, Verdict::Perform)),
+            (Who::Client, (Action::Read, 1, 8, 0, 0, 0), Deed::Judge(100, Verdict::Perform)),
+            (Who::Client, (Action::Read, 1, 16, 1, 0, 0), Deed::Judge(100, Verdict::Range)),
+            (Who::Server, (Action::SetTag, 2, 0, 0, 0, 0), Deed::Answer((6, 0, OBJECT, 2, 3, b""))),
+            (Who::Client, (Action::Read, 1, 7, 1, 0, 0), Deed::Judge(101, Verdict::Expired)),
+            (Who::Client, (Action::Read, 1, 7, 1, 0, 0), Deed::Judge(100, Verdict::Range)),
+            (Who::Client, (Action::Read, 1, 8, 8, 0, 0), Deed::Judge(100, Verdict::Tag { current: 3 })),
+        ],
+    },
+    History {
+        name: "keys and objects",
+        start: Start::Object,
+        capacity: 1_000,
+        steps: &[
+            (Who::Client, (Action::Read, 1, 8, 8, 0, 0), Deed::Judge(0, Verdict::Perform)),
+            (Who::Version(2), (Action::Read, 1, 8, 8, 0, 0), Deed::Judge(0, Verdict::NoKey)),
+            (Who::Partition(65_537), (Action::Read, 1, 8, 8, 0, 0), Deed::Judge(0, Verdict::WrongObject)),
+            (Who::Object(65_537), (Action::Read, 1, 8, 8, 0, 0), Deed::Judge(0, Verdict::WrongObject)),
+        ],
+    },
+    History {
+        name: "check values",
+        start: Start::Empty,
+        capacity: 1_000,
+        steps: &[
+            (Who::Client, (Action::Read, 1, 8, 8, 0, 0), Deed::Judge(0, Verdict::NoObject)),
+            (Who::Client, (Action::Read, 1, 8, 8, 0, 0), Deed::Spoilt(0, Verdict::CheckValue)),
+        ],
+    },
+    History {
+        name: "rights",
+        start: Start::Object,
+        capacity: 1_000,
+        steps: &[
+            (Who::Client, (Action::Create, 1, 0, 0, 0, 0), Deed::Judge(0, Verdict::Rights)),
+            (Who::Client, (Action::GetAttr, 1, 0, 0, 1, 0), Deed::Judge(0, Verdict::Rights)),
+            (Who::Server, (Action::SetAttr, 2, 0, 0, 65_535, 0), Deed::Judge(0, Verdict::Rights)),
+            (Who::Server, (Action::SetAttr, 2, 0, 0, 65_536, 0), Deed::Judge(0, Verdict::Perform)),
+            (Who::Server, (Action::Create, 2, 0, 0, 0, 0), Deed::Judge(0, Verdict::Exists)),
+        ],
+    },
+    History {
+        name: "limits and space",
+        start: Start::Object,
+        capacity: 10,
+        steps: &[
+            (Who::Server, (Action::GetAttr, 9, 0, 262_145, 1, 0), Deed::Judge(0, Verdict::Limit)),
+            (Who::Server, (Action::GetAttr, 9, 17_825_792, 1, 1, 0), Deed::Judge(0, Verdict::Perform)),
+            (Who::Server, (Action::Read, 9, 17_825_792, 1, 0, 0), Deed::Judge(0, Verdict::Limit)),
+            (Who::Server, (Action::Read, 9, 17_825_791, 1, 0, 0), Deed::Judge(0, Verdict::Perform)),
+            (Who::Server, (Action::SetAttr, 9, 0, 0, 65_537, 257), Deed::Judge(0, Verdict::Limit)),
+            (Who::Server, (Action::Write, 9, 0, 10, 0, 10), Deed::Judge(0, Verdict::Perform)),
+            (Who::Server, (Action::Write, 9, 1, 10, 0, 10), Deed::Judge(0, Verdict::NoSpace { free: 10 })),
+            (Who::Server, (Action::Write, 9, 11, 0, 0, 0), Deed::Judge(0, Verdict::Perform)),
+        ],
+    },
+    History {
+        name: "a full object takes what it has",
+        start: Start::Full,
+        capacity: 10,
+        steps: &[
+            (Who::Server, (Action::SetAttr, 99, 0, 0, 65_552, 0), Deed::Judge(0, Verdict::AttrFull)),
+            (Who::Server, (Action::SetAttr, 99, 0, 0, 65_551, 0), Deed::Judge(0, Verdict::Perform)),
+            (Who::Holder(31), (Action::Write, 99, 0, 1, 0, 1), Deed::Judge(0, Verdict::LaneFull)),
+            (Who::Holder(31), (Action::Read, 99, 0, 1, 0, 0), Deed::Judge(0, Verdict::Perform)),
+            (Who::Holder(30), (Action::Write, 10, 0, 1, 0, 1), Deed::Judge(0, Verdict::Perform)),
+            (Who::Holder(30), (Action::Write, 9, 0, 1, 0, 1), Deed::Judge(0, Verdict::Again)),
+            (Who::Holder(30), (Action::Write, 8, 0, 1, 0, 1), Deed::Judge(0, Verdict::Stale { last: 9 })),
+            (Who::Holder(30), (Action::Read, 8, 0, 1, 0, 0), Deed::Judge(0, Verdict::Perform)),
+        ],
+    },
+    History {
+        // A READ of format 2, and one of format 1 with an unknown key.
+        name: "the least format is never lowered",
+        start: Start::Object,
+        capacity: 10,
+        steps: &[
+            (Who::Format(2), (Action::Read, 1, 8, 8, 0, 0), Deed::Least(1, Verdict::Perform)),
+            (Who::Version(2), (Action::Read, 1, 8, 8, 0, 0), Deed::Least(1, Verdict::NoKey)),
+            (Who::Format(2), (Action::Read, 1, 8, 8, 0, 0), Deed::Least(2, Verdict::Perform)),
+            (Who::Version(2), (Action::Read, 1, 8, 8, 0, 0), Deed::Least(2, Verdict::OldFormat)),
+            (Who::Format(2), (Action::Read, 1, 8, 8, 0, 0), Deed::Least(1, Verdict::Perform)),
+            (Who::Version(2), (Action::Read, 1, 8, 8, 0, 0), Deed::Least(1, Verdict::OldFormat)),
+            (Who::Version(2), (Action::Read, 1, 8, 8, 0, 0), Deed::Answer((2, 17, OBJECT, 1, 0, b""))),
+        ],
+    },
+    History {
+        name: "bytes that spell no command",
+        start: Start::Object,
+        capacity: 10,
+        steps: &[
+            (Who::Format(3), (Action::Read, 1, 8, 8, 0, 0), Deed::Answer((0, 16, 0, 0, 0, b""))),
+            (Who::Client, (Action::Read, 1, 8, 8, 0, 0), Deed::Zeros(16)),
+        ],
+    },
+    History {
+        name: "replies and repeats",
+        start: Start::Object,
+        capacity: 10,
+        steps: &[
+            (Who::Server, (Action::Create, 1, 0, 0, 0, 5), Deed::Answer((1, 8, OBJECT, 1, 0, b""))),
+            (Who::Server, (Action::GetAttr, 0, 0, 0, 65_536, 0), Deed::Answer((4, 0, OBJECT, 0, 1, b"abcde"))),
+            (Who::Server, (Action::GetAttr, 0, 0, 0, 3, 0), Deed::Answer((4, 0, OBJECT, 0, 0, b""))),
+            (Who::Server, (Action::Write, 5, 2, 2, 0, 2), Deed::Answer((3, 0, OBJECT, 5, 0, b""))),
+            (Who::Server, (Action::Write, 5, 2, 2, 0, 2), Deed::Answer((3, 0, OBJECT, 5, 0, b""))),
+            // Another change with the nonce of the last gets the reply to the last.
+            (Who::Server, (Action::SetAttr, 5, 0, 0, 65_536, 1), Deed::Answer((3, 0, OBJECT, 5, 0, b""))),
+            (Who::Server, (Action::Read, 6, 1, 9, 0, 0), Deed::Answer((2, 0, OBJECT, 6, 4, b"\0ab"))),
+            (Who::Server, (Action::Write, 4, 0, 1, 0, 1), Deed::Answer((3, 13, OBJECT, 4, 5, b""))),
+            (Who::Server, (Action::Write, 7, 0, 11, 0, 11), Deed::Answer((3, 11, OBJECT, 7, 6, b""))),
+            (Who::Server, (Action::SetTag, 8, 0, 0, 0, 0), Deed::Answer((6, 0, OBJECT, 8, 3, b""))),
+            (Who::Server, (Action::SetTag, 8, 0, 0, 0, 0), Deed::Answer((6, 9, OBJECT, 8, 3, b""))),
+            (Who::Tag(3), (Action::Write, 8, 0, 1, 0, 1), Deed::Answer((6, 0, OBJECT, 8, 3, b""))),
+            (Who::Tag(3), (Action::GetAttr, 0, 0, 0, 2, 0), Deed::Answer((4, 0, OBJECT, 0, 1, b"\0\0\0\x03"))),
+            (Who::Tag(3), (Action::GetAttr, 0, 0, 0, 1, 0), Deed::Answer((4, 0, OBJECT, 0, 1, b"\0\0\0\0\0\0\0\x04"))),
+        ],
+    },
+    History {
+        name: "a change that is performed without its capability is known again",
+        start: Start::Object,
+        capacity: 10,
+        steps: &[
+            (Who::Server, (Action::Write, 5, 0, 2, 65_536, 2), Deed::Late(Verdict::Perform)),
+            (Who::Server, (Action::Write, 5, 0, 2, 65_536, 2), Deed::Perform(0, 5)),
+            (Who::Server, (Action::Write, 5, 0, 2, 65_536, 2), Deed::Late(Verdict::Again)),
+        ],
+    },
+];
+
+fn capability(who: Who) -> Capability {
+    let mut client = CLIENT;
+    let mut server = SERVER;
+    match who {
+        Who::Server => return server,
+        Who::Tag(tag) => {
+            server.tag = tag;
+            return server;
+        }
+        Who::Holder(holder) => {
+            server.holder = holder;
+            return server;
+        }
+        Who::Client => {}
+        Who::Version(version) => client.key_version = version,
+        Who::Partition(partition) => client.partition = partition,
+        Who::Object(object) => client.object = object,
+        Who::Format(format) => client.format = format,
     }
-    Ok(payload)
+    client
+}
+
+// The payload of so many bytes: `abcdefgh` and so on, none where memory is short.
+fn payload_of(alloc: Global, count: usize) -> Bytes {
+    let mut payload = Bytes::new(alloc);
+    for i in 0..count {
+        if payload.push(b'a' + (i % 26) as u8).is_err() {
+            break;
+        }
+    }
+    payload
 }
 
 // A sealed command.
-fn command(rt: &HostRuntime, capability: Capability, asked: Asked) -> Result<Command, Fail> {
+fn command(alloc: Global, capability: Capability, asked: Asked) -> Command {
     let (action, nonce, offset, length, attribute, payload) = asked;
     let mut command = Command {
         action,
@@ -69,302 +281,181 @@ fn command(rt: &HostRuntime, capability: Capability, asked: Asked) -> Result<Com
         nonce,
         attribute,
         capability,
-        payload: payload_of(rt, payload)?,
+        payload: payload_of(alloc, payload),
         check: [0; 32],
     };
     if matches!(command.capability.format, 1 | 2) {
         let key = capability_key(&KEY, &command.capability);
         seal(&mut command, &key);
     }
-    Ok(command)
+    command
 }
 
-fn handled(rt: &HostRuntime, drive: &mut DriveCore, command: &Command) -> Result<Reply, Fail> {
-    let message = write_command(rt.alloc(), command)?;
-    Ok(drive.handle(rt.alloc(), 100, message.as_slice())?)
+// Whether the message gets the reply.
+fn answers(alloc: Global, drive: &mut DriveCore, message: &[u8], answer: Answer) -> bool {
+    let (action, verdict, object, nonce, detail, payload) = answer;
+    match drive.handle(alloc, 100, message) {
+        Ok(reply) => {
+            reply.action == action
+                && reply.verdict == verdict
+                && reply.object == object
+                && reply.nonce == nonce
+                && reply.detail == detail
+                && reply.payload.as_slice() == payload
+        }
+        Err(_) => false,
+    }
 }
 
-fn empty_drive(rt: &HostRuntime, capacity: u64) -> Result<DriveCore, Fail> {
-    let mut keys = KeyTable::new(rt.alloc());
-    keys.push(DriveKey {
+fn answers_command(alloc: Global, drive: &mut DriveCore, c: &Command, answer: Answer) -> bool {
+    match write_command(alloc, c) {
+        Ok(message) => answers(alloc, drive, message.as_slice(), answer),
+        Err(_) => false,
+    }
+}
+
+fn verdict_of(alloc: Global, drive: &mut DriveCore, message: &[u8]) -> Option<u16> {
+    match drive.handle(alloc, 100, message) {
+        Ok(reply) => Some(reply.verdict),
+        Err(_) => None,
+    }
+}
+
+// Whether the command that the bytes spell is performed without a look at its capability.
+fn performs(
+    alloc: Global,
+    drive: &mut DriveCore,
+    message: &[u8],
+    verdict: u16,
+    nonce: u64,
+) -> bool {
+    match read_command(alloc, message) {
+        Ok(c) => match drive.late(&c) {
+            Verdict::Perform if c.attribute >= 65_536 => match drive.perform(alloc, &c) {
+                Ok(reply) => reply.verdict == verdict && reply.nonce == nonce,
+                Err(_) => false,
+            },
+            _ => false,
+        },
+        Err(_) => false,
+    }
+}
+
+fn performs_command(
+    alloc: Global,
+    drive: &mut DriveCore,
+    c: &Command,
+    verdict: u16,
+    nonce: u64,
+) -> bool {
+    match write_command(alloc, c) {
+        Ok(message) => performs(alloc, drive, message.as_slice(), verdict, nonce),
+        Err(_) => false,
+    }
+}
+
+fn does(alloc: Global, drive: &mut DriveCore, c: &mut Command, deed: Deed) -> bool {
+    match deed {
+        Deed::Judge(now, verdict) => drive.verdict(now, c) == verdict,
+        Deed::Spoilt(now, verdict) => {
+            c.check[19] ^= 1;
+            drive.verdict(now, c) == verdict
+        }
+        Deed::Least(format, verdict) => {
+            drive.raise_least(format);
+            drive.verdict(0, c) == verdict
+        }
+        Deed::Late(verdict) => drive.late(c) == verdict,
+        Deed::Answer(answer) => answers_command(alloc, drive, c, answer),
+        Deed::Perform(verdict, nonce) => performs_command(alloc, drive, c, verdict, nonce),
+        Deed::Zeros(verdict) => verdict_of(alloc, drive, &[0; 255]) == Some(verdict),
+    }
+}
+
+fn goes(alloc: Global, drive: &mut DriveCore, step: Step) -> bool {
+    let (who, asked, deed) = step;
+    let mut c = command(alloc, capability(who), asked);
+    does(alloc, drive, &mut c, deed)
+}
+
+// Makes the object, at tag 2.
+fn creates(alloc: Global, drive: &mut DriveCore) -> bool {
+    let asked = (Action::Create, 1, 0, 0, 0, 5);
+    goes(
+        alloc,
+        drive,
+        (Who::Server, asked, Deed::Answer((1, 0, OBJECT, 1, 0, b""))),
+    )
+}
+
+// Sets the second attribute to the sixteenth, and writes as 31 holders beside the server.
+fn fills(alloc: Global, drive: &mut DriveCore) -> bool {
+    for k in 1..16u32 {
+        let nonce = u64::from(k) + 1;
+        let asked = (Action::SetAttr, nonce, 0, 0, 65_536 + k, 1);
+        let step = (
+            Who::Server,
+            asked,
+            Deed::Answer((5, 0, OBJECT, nonce, 0, b"")),
+        );
+        if !goes(alloc, drive, step) {
+            return false;
+        }
+    }
+    for holder in 0..31u32 {
+        let asked = (Action::Write, 9, 0, 1, 0, 1);
+        let step = (
+            Who::Holder(holder),
+            asked,
+            Deed::Answer((3, 0, OBJECT, 9, 0, b"")),
+        );
+        if !goes(alloc, drive, step) {
+            return false;
+        }
+    }
+    true
+}
+
+fn starts(alloc: Global, drive: &mut DriveCore, start: Start) -> bool {
+    match start {
+        Start::Empty => true,
+        Start::Object => creates(alloc, drive),
+        Start::Full => creates(alloc, drive) && fills(alloc, drive),
+    }
+}
+
+// The first step that goes otherwise: 0 where the drive doesn't start so, and nothing where all go as they say.
+fn first_fault(alloc: Global, drive: &mut DriveCore, history: &History) -> Option<usize> {
+    if !starts(alloc, drive, history.start) {
+        return Some(0);
+    }
+    for i in 0..history.steps.len() {
+        if !goes(alloc, drive, history.steps[i]) {
+            return Some(i + 1);
+        }
+    }
+    None
+}
+
+fn keys(alloc: Global) -> KeyTable {
+    let mut keys = KeyTable::new(alloc);
+    let key = DriveKey {
         version: 1,
         key: KEY,
-    })?;
-    Ok(DriveCore::new(rt.alloc(), 0, keys, capacity))
-}
-
-// A drive with the object, at tag 2.
-fn drive(rt: &HostRuntime, capacity: u64) -> Result<DriveCore, Fail> {
-    let mut drive = empty_drive(rt, capacity)?;
-    let create = command(rt, server(), (Action::Create, 1, 0, 0, 0, 5))?;
-    handled(rt, &mut drive, &create)?;
-    Ok(drive)
-}
-
-// The verdicts of a drive on READs of a client: the clock, offset and length.
-const READS: [(u64, u64, u64, Verdict); 6] = [
-    (101, 7, 1, Verdict::Expired),
-    (100, 7, 1, Verdict::Range),
-    (100, 8, 8, Verdict::Perform),
-    (100, 16, 0, Verdict::Perform),
-    (100, 8, 0, Verdict::Perform),
-    (100, 16, 1, Verdict::Range),
-];
-
-// The same where the object has another tag.
-const TAGGED_READS: [(u64, u64, u64, Verdict); 3] = [
-    (101, 7, 1, Verdict::Expired),
-    (100, 7, 1, Verdict::Range),
-    (100, 8, 8, Verdict::Tag { current: 3 }),
-];
-
-#[test]
-fn the_order_of_the_rows(rt: HostRuntime) -> Result<(), Fail> {
-    let mut drive = drive(&rt, 1_000)?;
-    for (now, offset, length, expected) in READS {
-        let read = command(&rt, client(), (Action::Read, 1, offset, length, 0, 0))?;
-        assert_eq!(rt; drive.verdict(now, &read), expected);
-    }
-    let set_tag = command(&rt, server(), (Action::SetTag, 2, 0, 0, 0, 0))?;
-    handled(&rt, &mut drive, &set_tag)?;
-    for (now, offset, length, expected) in TAGGED_READS {
-        let read = command(&rt, client(), (Action::Read, 1, offset, length, 0, 0))?;
-        assert_eq!(rt; drive.verdict(now, &read), expected);
-    }
-    Ok(())
-}
-
-// Of a client's capability the key version, the partition and the object, with the verdict.
-const ELSEWHERE: [(u16, u64, u64, Verdict); 4] = [
-    (1, 65_536, 65_536, Verdict::Perform),
-    (2, 65_536, 65_536, Verdict::NoKey),
-    (1, 65_537, 65_536, Verdict::WrongObject),
-    (1, 65_536, 65_537, Verdict::WrongObject),
-];
-
-#[test]
-fn keys_and_objects(rt: HostRuntime) -> Result<(), Fail> {
-    let drive = drive(&rt, 1_000)?;
-    let mut capability = client();
-    for (version, partition, object, expected) in ELSEWHERE {
-        capability.key_version = version;
-        capability.partition = partition;
-        capability.object = object;
-        let read = command(&rt, capability, (Action::Read, 1, 8, 8, 0, 0))?;
-        assert_eq!(rt; drive.verdict(0, &read), expected);
-    }
-    Ok(())
-}
-
-#[test]
-fn check_values(rt: HostRuntime) -> Result<(), Fail> {
-    let drive = empty_drive(&rt, 1_000)?;
-    let mut read = command(&rt, client(), (Action::Read, 1, 8, 8, 0, 0))?;
-    assert_eq!(rt; drive.verdict(0, &read), Verdict::NoObject);
-    read.check[19] ^= 1;
-    assert_eq!(rt; drive.verdict(0, &read), Verdict::CheckValue);
-    Ok(())
-}
-
-// Of a client whether it is the server.
-const RIGHTS: [(bool, Asked, Verdict); 5] = [
-    (false, (Action::Create, 1, 0, 0, 0, 0), Verdict::Rights),
-    (false, (Action::GetAttr, 1, 0, 0, 1, 0), Verdict::Rights),
-    (true, (Action::SetAttr, 2, 0, 0, 65_535, 0), Verdict::Rights),
-    (
-        true,
-        (Action::SetAttr, 2, 0, 0, 65_536, 0),
-        Verdict::Perform,
-    ),
-    (true, (Action::Create, 2, 0, 0, 0, 0), Verdict::Exists),
-];
-
-#[test]
-fn rights(rt: HostRuntime) -> Result<(), Fail> {
-    let drive = drive(&rt, 1_000)?;
-    for (is_server, asked, expected) in RIGHTS {
-        let capability = if is_server { server() } else { client() };
-        let asked = command(&rt, capability, asked)?;
-        assert_eq!(rt; drive.verdict(0, &asked), expected);
-    }
-    Ok(())
-}
-
-const LIMITS: [(Asked, Verdict); 8] = [
-    ((Action::GetAttr, 9, 0, 262_145, 1, 0), Verdict::Limit),
-    ((Action::GetAttr, 9, 17_825_792, 1, 1, 0), Verdict::Perform),
-    ((Action::Read, 9, 17_825_792, 1, 0, 0), Verdict::Limit),
-    ((Action::Read, 9, 17_825_791, 1, 0, 0), Verdict::Perform),
-    ((Action::SetAttr, 9, 0, 0, 65_537, 257), Verdict::Limit),
-    ((Action::Write, 9, 0, 10, 0, 10), Verdict::Perform),
-    (
-        (Action::Write, 9, 1, 10, 0, 10),
-        Verdict::NoSpace { free: 10 },
-    ),
-    ((Action::Write, 9, 11, 0, 0, 0), Verdict::Perform),
-];
-
-#[test]
-fn limits_and_space(rt: HostRuntime) -> Result<(), Fail> {
-    let drive = drive(&rt, 10)?;
-    for (asked, expected) in LIMITS {
-        let asked = command(&rt, server(), asked)?;
-        assert_eq!(rt; drive.verdict(0, &asked), expected);
-    }
-    Ok(())
-}
-
-// The holder, and what it asks.
-const FULL: [(u32, Asked, Verdict); 8] = [
-    (
-        SERVER,
-        (Action::SetAttr, 99, 0, 0, 65_552, 0),
-        Verdict::AttrFull,
-    ),
-    (
-        SERVER,
-        (Action::SetAttr, 99, 0, 0, 65_551, 0),
-        Verdict::Perform,
-    ),
-    (31, (Action::Write, 99, 0, 1, 0, 1), Verdict::LaneFull),
-    (31, (Action::Read, 99, 0, 1, 0, 0), Verdict::Perform),
-    (30, (Action::Write, 10, 0, 1, 0, 1), Verdict::Perform),
-    (30, (Action::Write, 9, 0, 1, 0, 1), Verdict::Again),
-    (
-        30,
-        (Action::Write, 8, 0, 1, 0, 1),
-        Verdict::Stale { last: 9 },
-    ),
-    (30, (Action::Read, 8, 0, 1, 0, 0), Verdict::Perform),
-];
-
-#[test]
-fn a_full_object_takes_what_it_has(rt: HostRuntime) -> Result<(), Fail> {
-    let mut drive = drive(&rt, 10)?;
-    for k in 1..16u32 {
-        let asked = (Action::SetAttr, u64::from(k) + 1, 0, 0, 65_536 + k, 1);
-        let set = command(&rt, server(), asked)?;
-        assert_eq!(rt; handled(&rt, &mut drive, &set)?.verdict, 0);
-    }
-    let mut other = server();
-    for holder in 0..31u32 {
-        other.holder = holder;
-        let write = command(&rt, other, (Action::Write, 9, 0, 1, 0, 1))?;
-        assert_eq!(rt; handled(&rt, &mut drive, &write)?.verdict, 0);
-    }
-    for (holder, asked, expected) in FULL {
-        other.holder = holder;
-        let asked = command(&rt, other, asked)?;
-        assert_eq!(rt; drive.verdict(0, &asked), expected);
-    }
-    Ok(())
-}
-
-// The least format asked for, and the verdicts on a READ of format 2 and on one of format 1 with an
-// unknown key.
-const FORMATS: [(u8, Verdict, Verdict); 3] = [
-    (1, Verdict::Perform, Verdict::NoKey),
-    (2, Verdict::Perform, Verdict::OldFormat),
-    (1, Verdict::Perform, Verdict::OldFormat),
-];
-
-#[test]
-fn the_least_format(rt: HostRuntime) -> Result<(), Fail> {
-    let mut drive = drive(&rt, 10)?;
-    let mut long = client();
-    long.format = 2;
-    let mut strange = client();
-    strange.key_version = 2;
-    let of_two = command(&rt, long, (Action::Read, 1, 8, 8, 0, 0))?;
-    let of_one = command(&rt, strange, (Action::Read, 1, 8, 8, 0, 0))?;
-    for (least, two, one) in FORMATS {
-        drive.raise_least(least);
-        assert_eq!(rt; drive.verdict(0, &of_two), two);
-        assert_eq!(rt; drive.verdict(0, &of_one), one);
-    }
-    assert_eq!(rt; handled(&rt, &mut drive, &of_one)?.verdict, 17);
-    Ok(())
-}
-
-#[test]
-fn bytes_that_spell_no_command(rt: HostRuntime) -> Result<(), Fail> {
-    let mut drive = drive(&rt, 10)?;
-    let mut strange = client();
-    strange.format = 3;
-    let of_three = command(&rt, strange, (Action::Read, 1, 8, 8, 0, 0))?;
-    let message = write_command(rt.alloc(), &of_three)?;
-    let format = Reply {
-        action: 0,
-        verdict: 16,
-        object: 0,
-        nonce: 0,
-        detail: 0,
-        payload: Bytes::new(rt.alloc()),
     };
-    assert_eq!(rt; drive.handle(rt.alloc(), 0, message.as_slice()), Ok(format));
-    let short = drive.handle(rt.alloc(), 0, &[0; 255])?;
-    assert_eq!(rt; short.verdict, 16);
-    Ok(())
+    let _ = keys.push(key);
+    keys
 }
 
-// The tag of the server's capability and what it asks; the action, verdict, nonce and detail of the
-// reply, and the sum of its payload, each on the object that those before leave.
-const REPLIES: [(u32, Asked, (u16, u16, u64, u64), u64); 14] = [
-    (2, (Action::Create, 1, 0, 0, 0, 5), (1, 8, 1, 0), 0),
-    (2, (Action::GetAttr, 0, 0, 0, 65_536, 0), (4, 0, 0, 1), 495),
-    (2, (Action::GetAttr, 0, 0, 0, 3, 0), (4, 0, 0, 0), 0),
-    (2, (Action::Write, 5, 2, 2, 0, 2), (3, 0, 5, 0), 0),
-    (2, (Action::Write, 5, 2, 2, 0, 2), (3, 0, 5, 0), 0),
-    // Another change with the nonce of the last gets the reply to the last.
-    (2, (Action::SetAttr, 5, 0, 0, 65_536, 1), (3, 0, 5, 0), 0),
-    (2, (Action::Read, 6, 1, 9, 0, 0), (2, 0, 6, 4), 195),
-    (2, (Action::Write, 4, 0, 1, 0, 1), (3, 13, 4, 5), 0),
-    (2, (Action::Write, 7, 0, 11, 0, 11), (3, 11, 7, 6), 0),
-    (2, (Action::SetTag, 8, 0, 0, 0, 0), (6, 0, 8, 3), 0),
-    (2, (Action::SetTag, 8, 0, 0, 0, 0), (6, 9, 8, 3), 0),
-    (3, (Action::Write, 8, 0, 1, 0, 1), (6, 0, 8, 3), 0),
-    (3, (Action::GetAttr, 0, 0, 0, 2, 0), (4, 0, 0, 1), 3),
-    (3, (Action::GetAttr, 0, 0, 0, 1, 0), (4, 0, 0, 1), 4),
-];
-
-#[test]
-fn replies_and_repeats(rt: HostRuntime) -> Result<(), Fail> {
-    let mut drive = drive(&rt, 10)?;
-    let mut capability = server();
-    for (tag, asked, expected, sum) in REPLIES {
-        capability.tag = tag;
-        let command = command(&rt, capability, asked)?;
-        let reply = handled(&rt, &mut drive, &command)?;
-        assert_eq!(rt;
-            (reply.action, reply.verdict, reply.nonce, reply.detail),
-            expected
-        );
-        assert_eq!(rt; reply.object, OBJECT);
-        let mut total = 0u64;
-        for byte in reply.payload.as_slice() {
-            total = total.wrapping_add(u64::from(*byte));
-        }
-        assert_eq!(rt; total, sum);
-    }
-    Ok(())
+fn fault_of(alloc: Global, history: &History) -> Option<usize> {
+    let mut drive = DriveCore::new(alloc, 0, keys(alloc), history.capacity);
+    first_fault(alloc, &mut drive, history)
 }
 
 #[test]
-fn a_change_performed_without_its_capability(rt: HostRuntime) -> Result<(), Fail> {
-    let mut drive = drive(&rt, 10)?;
-    let write = command(&rt, server(), (Action::Write, 5, 0, 2, 65_536, 2))?;
-    let message = write_command(rt.alloc(), &write)?;
-    match read_command(rt.alloc(), message.as_slice()) {
-        Ok(c) => match drive.late(&c) {
-            Verdict::Perform => {
-                assert!(rt; c.attribute >= 65_536);
-                let reply = drive.perform(rt.alloc(), &c)?;
-                assert_eq!(rt; (reply.verdict, reply.nonce), (0, 5));
-            }
-            _ => assert!(rt; false),
-        },
-        Err(_) => assert!(rt; false),
+fn drives_judge_perform_and_answer(rt: HostRuntime) {
+    for history in HISTORIES.iter() {
+        let fault = fault_of(rt.alloc(), history).unwrap_or(usize::MAX);
+        assert!(rt; fault == usize::MAX, "{}: step {fault}", history.name);
     }
-    assert_eq!(rt; drive.late(&write), Verdict::Again);
-    Ok(())
 }

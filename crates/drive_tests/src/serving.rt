@@ -1,7 +1,6 @@
-use osd_bytes::{ByteLists, Bytes, Clock, MemClock, MemLinks, Numbers, Times, frame};
-use osd_commands::write_reply;
+use osd_bytes::{ByteLists, Bytes, Clock, Links, MemClock, MemLinks, Numbers, Times};
 use osd_drive::{DriveCore, KeyTable};
-use std::test::Fail;
+use std::alloc::Global;
 
 // What comes on each connection, which calls of the links fail, how many answers go out whole on each
 // connection that is accepted, whether so many are served, and what the clock tells next.
@@ -69,30 +68,52 @@ const CASES: [Case; 5] = [
     },
 ];
 
-fn drive(rt: &HostRuntime) -> DriveCore {
-    DriveCore::new(rt.alloc(), 3, KeyTable::new(rt.alloc()), 1_000_000)
-}
+// The frame of the reply to a message that is no command: verdict 16, and zeros.
+const ANSWER: &[u8] = b"\x80\0\0\x28OSDr\0\0\0\x10\
+    \0\0\0\0\0\0\0\0\0\0\0\0\0\0\0\0\
+    \0\0\0\0\0\0\0\0\0\0\0\0\0\0\0\0";
 
-fn links(rt: &HostRuntime, case: &Case) -> Result<MemLinks, Fail> {
-    let mut coming = ByteLists::new(rt.alloc());
-    for stream in case.streams.iter() {
-        coming.push(Bytes::copied(rt.alloc(), stream)?)?;
+fn coming(alloc: Global, streams: &[&[u8]]) -> ByteLists {
+    let mut coming = ByteLists::new(alloc);
+    for stream in streams {
+        match Bytes::copied(alloc, stream) {
+            Ok(bytes) => {
+                let _ = coming.push(bytes);
+            }
+            Err(_) => {}
+        }
     }
-    let calls = Numbers::copied(rt.alloc(), case.fails)?;
-    Ok(MemLinks::new(rt.alloc(), coming, ByteLists::new(rt.alloc()), calls))
+    coming
 }
 
-// The frame of the answer to a message that is no command.
-fn answer(rt: &HostRuntime) -> Result<Bytes, Fail> {
-    let reply = drive(rt).handle(rt.alloc(), 0, b"a")?;
-    let bytes = write_reply(rt.alloc(), &reply)?;
-    Ok(frame(rt.alloc(), bytes.as_slice().get(..40).unwrap_or(b""))?)
+fn calls(alloc: Global, fails: &[u32]) -> Numbers {
+    match Numbers::copied(alloc, fails) {
+        Ok(calls) => calls,
+        Err(_) => Numbers::new(alloc),
+    }
+}
+
+fn links(alloc: Global, case: &Case) -> MemLinks {
+    MemLinks::new(
+        alloc,
+        coming(alloc, case.streams),
+        ByteLists::new(alloc),
+        calls(alloc, case.fails),
+    )
+}
+
+// A clock that tells 5 to 9.
+fn clock(alloc: Global) -> MemClock {
+    match Times::copied(alloc, &[5, 6, 7, 8, 9]) {
+        Ok(times) => MemClock::new(times),
+        Err(_) => MemClock::new(Times::new(alloc)),
+    }
 }
 
 // Whether so many answers went out, and nothing else.
-fn are_answers(mut put: &[u8], answer: &Bytes, count: usize) -> bool {
+fn are_answers(mut put: &[u8], count: usize) -> bool {
     for _ in 0..count {
-        match put.strip_prefix(answer.as_slice()) {
+        match put.strip_prefix(ANSWER) {
             Some(rest) => put = rest,
             None => return false,
         }
@@ -101,40 +122,44 @@ fn are_answers(mut put: &[u8], answer: &Bytes, count: usize) -> bool {
 }
 
 // Whether on each connection that was accepted the answers went out.
-fn went_out(links: &MemLinks, answer: &Bytes, answers: &[usize]) -> bool {
+fn went_out(links: &MemLinks, answers: &[usize]) -> bool {
     if links.accepts() != answers.len() {
         return false;
     }
     for i in 0..answers.len() {
-        if !are_answers(links.put_on(i), answer, answers[i]) {
+        if !are_answers(links.put_on(i), answers[i]) {
             return false;
         }
     }
     true
 }
 
-fn serves(rt: &HostRuntime, links: &mut MemLinks, clock: &mut MemClock, connections: u32) -> bool {
-    drive(rt)
-        .serve(rt.alloc(), links, clock, connections)
-        .is_ok()
+// Generic, since what the call promises is dear to write out of links and a clock that are known.
+fn serves<L: Links, C: Clock>(
+    alloc: Global,
+    drive: &mut DriveCore,
+    links: &mut L,
+    clock: &mut C,
+    connections: u32,
+) -> bool {
+    drive.serve(alloc, links, clock, connections).is_ok()
 }
 
-fn goes_as_it_says(rt: &HostRuntime, case: &Case) -> Result<bool, Fail> {
-    let mut ends = links(rt, case)?;
-    let mut clock = MemClock::new(Times::copied(rt.alloc(), &[5, 6, 7, 8, 9])?);
-    let served = serves(rt, &mut ends, &mut clock, case.connections);
-    let answer = answer(rt)?;
-    Ok(
-        served == case.served
-            && went_out(&ends, &answer, case.answers)
-            && clock.now() == case.next_time,
-    )
+fn goes(alloc: Global, drive: &mut DriveCore, case: &Case) -> bool {
+    let mut links = links(alloc, case);
+    let mut clock = clock(alloc);
+    let served = serves(alloc, drive, &mut links, &mut clock, case.connections);
+    served == case.served && went_out(&links, case.answers) && clock.now() == case.next_time
+}
+
+fn goes_as_it_says(alloc: Global, case: &Case) -> bool {
+    let mut drive = DriveCore::new(alloc, 3, KeyTable::new(alloc), 1_000_000);
+    goes(alloc, &mut drive, case)
 }
 
 #[test]
-fn a_drive_serves_connections(rt: HostRuntime) -> Result<(), Fail> {
+fn a_drive_serves_connections(rt: HostRuntime) {
     for case in CASES.iter() {
-        assert!(rt; goes_as_it_says(&rt, case)?, "{}", case.name);
+        assert!(rt; goes_as_it_says(rt.alloc(), case), "{}", case.name);
     }
-    Ok(())
 }
