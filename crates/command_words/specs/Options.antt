@@ -12,15 +12,16 @@ abbrev pub option_rule : Text → Rule
 option_rule id = record (new_rule id) { long = Some id; action = Some Set; required = true }
 
 abbrev pub drive_options : App
-drive_options = with_rule (with_rule (new_app (codes "drive")) (option_rule (codes "number"))) (option_rule (codes "connections"))
+drive_options =
+    with_rule (with_rule (new_app (codes "drive")) (option_rule (codes "number"))) (option_rule (codes "connections"))
 
 abbrev pub server_options : App
 server_options = with_rule (new_app (codes "server")) (option_rule (codes "connections"))
 
 abbrev pub client_options : App
 client_options =
-    with_rule (with_rule (with_rule (new_app (codes "client")) (option_rule (codes "number"))) (option_rule (codes "sequence")))
-    (option_rule (codes "call"))
+    with_rule (with_rule (with_rule (new_app (codes "client"))
+    (option_rule (codes "number"))) (option_rule (codes "sequence"))) (option_rule (codes "call"))
 
 -- what is wrong with the words
 unfoldable pub faults_of : App → List Text → Kinds

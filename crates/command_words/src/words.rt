@@ -123,8 +123,8 @@ fn client_from(
     sequence: Option<&str>,
     text: Option<&str>,
 ) -> Result<Option<ClientWords>, Memory>
-    ensures { IfOk result (Gives (AsksClient (option_map (λ w. w.now) client.entry) (option_map (λ w. w.now) sequence.entry)
-        (option_map (λ w. w.now) text.entry))) }
+    ensures { IfOk result (Gives (AsksClient (option_map (λ w. w.now) client.entry)
+        (option_map (λ w. w.now) sequence.entry) (option_map (λ w. w.now) text.entry))) }
 {
     let Some(number) = number_in(client, 0, MAX_CLIENT) else {
         return Ok(None);
