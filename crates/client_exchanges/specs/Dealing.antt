@@ -64,7 +64,8 @@ heard s from (Some bytes) = stepped s (on_bytes s.client from bytes)
 -- the component of a command, where its reply is awaited
 abbrev pub late : Client → (command : List ℕ) → Option ℕ
 late c command =
-    if nat_le NONCE_END (length command) then awaited_component c (from_be_bytes w64 (slice_range command NONCE_AT NONCE_END))
+    if nat_le NONCE_END (length command)
+    then awaited_component c (from_be_bytes w64 (slice_range command NONCE_AT NONCE_END))
     else None
 
 -- it times out, which is told first
@@ -74,7 +75,8 @@ timed_out s (Some k) = stepped (record s { notices = s.notices ++ TimedOut k ∷
 
 -- the record of a drive comes, where one does, and the command times out where its reply is awaited still
 abbrev pub answered : Dealing → (drive : ℕ) → (command : List ℕ) → Option (List ℕ) → Dealing
-answered s drive command came = timed_out (heard s (Drive drive) came) (late (heard s (Drive drive) came).client command)
+answered s drive command came =
+    timed_out (heard s (Drive drive) came) (late (heard s (Drive drive) came).client command)
 
 -- the answer to a request is awaited still
 abbrev pub AwaitsStill : Client → (message : List ℕ) → Type 0

@@ -18,14 +18,16 @@ abbrev pub ends_of : Option Traffic → Faults → Option (List ℕ) → Ends
 ends_of told faults times = record { told = told; faults = faults; times = times }
 
 -- the exchange was refused for another cause than memory, or the message is longer than a record may be
-abbrev pub IsUnanswered : Node → (message : List ℕ) → (before now : Option Traffic) → (failed_before failed : Faults) → Type 0
+abbrev pub IsUnanswered : Node → (message : List ℕ) → (before now : Option Traffic) → (failed_before failed : Faults)
+    → Type 0
 IsUnanswered to message before now failed_before failed =
     ((e : ExchangeErr) × (e ≢ Memory) × Exchanges to message before now (Err e)
     × HasExchangeCause (asking_count (Some to)) failed_before failed (Err e))
     ⊎ ((MAX_RECORD < length message) × (now ≡ before) × (failed ≡ failed_before))
 
 -- the record that came of an exchange, none where there was none
-abbrev pub Answered : Node → (message : List ℕ) → (before now : Option Traffic) → (failed_before failed : Faults) → Option (List ℕ) → Type 0
+abbrev pub Answered : Node → (message : List ℕ) → (before now : Option Traffic) → (failed_before failed : Faults)
+    → Option (List ℕ) → Type 0
 Answered to message before now failed_before failed (Some bytes) =
     Exchanges to message before now (Ok bytes) × (failed ≡ failed_before)
 Answered to message before now failed_before failed None = IsUnanswered to message before now failed_before failed

@@ -52,7 +52,7 @@ pub record ServesStream (s : Serving) (new : Server) (now : Ends) : Type 0 where
   pub ends : Takes [] last.ends now
   pub over : IsOver taken last.ends now
 
--- a connection that was accepted is served: what jobs wait for is worked, and then each whole record that comes is served
+-- a connection that was accepted is served: what jobs wait for is worked, and then each whole record that comes
 abbrev pub ServesConnection : (old new : Server) → (before now : Ends) → Type 0
 ServesConnection old new before now =
     (resent : Serving) × WorksAll None (begins old before) resent × ServesStream resent new now
