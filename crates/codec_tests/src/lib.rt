@@ -6,4 +6,6 @@ mod capabilities;
 #[cfg(test)]
 mod commands;
 #[cfg(test)]
+mod hexadecimal;
+#[cfg(test)]
 mod hmac;
