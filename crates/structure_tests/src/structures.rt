@@ -1,411 +1,313 @@
+ghost use Rattle.data_map.specs.Check.{HasAlgorithm};
+
+use crate::cases::{CASES, Case, LAYOUT};
 use data_map::{DataMap, RawMap};
 use layout_types::{
     IoErrs, Kind, Layout, LayoutErr, LayoutHint, LayoutUpdate, Structure, leaves, written_again,
 };
 use std::alloc::Global;
-use std::test::Fail;
 use xdr_codec::XdrErr;
 
-// A full value of a kind: its bytes in hexadecimal; the places at which its items begin, and those
-// of its padding bytes, enumerations, bools, and lengths or counts; and the lines that show it.
-#[derive(Drop)]
-struct Case {
-    kind: Kind,
-    digits: &'static str,
-    items: &'static [u64],
-    padding: &'static [usize],
-    enumerations: &'static [usize],
-    bools: &'static [usize],
-    lengths: &'static [usize],
-    lines: &'static str,
-}
-
-// The bytes and lines were made apart from the project, by a script over the field lists of RFC 5664.
-fn map_case() -> Case {
-    Case {
-        kind: Kind::Map,
-        digits: "00000004000000000001000000000002000000030000000100000003",
-        items: &[0, 4, 12, 16, 20, 24],
-        padding: &[],
-        enumerations: &[24],
-        bools: &[],
-        lengths: &[],
-        lines: "odm_num_comps 4\n\
-        odm_stripe_unit 65536\n\
-        odm_group_width 2\n\
-        odm_group_depth 3\n\
-        odm_mirror_cnt 1\n\
-        odm_raid_algorithm 3\n\
-        .\n",
+fn decoded(alloc: Global, digits: &str) -> Vec<u8> {
+    match hex::decode(alloc, digits) {
+        Ok(bytes) => bytes,
+        Err(_) => Vec::new(alloc),
     }
 }
 
-fn cred_case() -> Case {
-    Case {
-        kind: Kind::Cred,
-        digits: "000102030405060708090a0b0c0d0e0f000000000001000200000000000100030000000200000001\
-            00000003aabbcc00000000051122334455000000",
-        items: &[0, 16, 24, 32, 36, 40, 48],
-        padding: &[47, 57, 58, 59],
-        enumerations: &[32, 36],
-        bools: &[],
-        lengths: &[40, 48],
-        lines: "oc_object_id.oid_device_id 000102030405060708090a0b0c0d0e0f\n\
-        oc_object_id.oid_partition_id 65538\n\
-        oc_object_id.oid_object_id 65539\n\
-        oc_osd_version 2\n\
-        oc_cap_key_sec 1\n\
-        oc_capability_key aabbcc\n\
-        oc_capability 1122334455\n\
-        .\n",
+fn copied(alloc: Global, bytes: &[u8]) -> Vec<u8> {
+    match Vec::from_slice(alloc, bytes) {
+        Ok(bytes) => bytes,
+        Err(_) => Vec::new(alloc),
     }
 }
 
-const LAYOUT_LINES: &str = "olo_map.odm_num_comps 4\n\
-    olo_map.odm_stripe_unit 65536\n\
-    olo_map.odm_group_width 2\n\
-    olo_map.odm_group_depth 3\n\
-    olo_map.odm_mirror_cnt 1\n\
-    olo_map.odm_raid_algorithm 3\n\
-    olo_comps_index 1\n\
-    olo_components 2\n\
-    olo_components.0.oc_object_id.oid_device_id 000102030405060708090a0b0c0d0e0f\n\
-    olo_components.0.oc_object_id.oid_partition_id 65538\n\
-    olo_components.0.oc_object_id.oid_object_id 65539\n\
-    olo_components.0.oc_osd_version 2\n\
-    olo_components.0.oc_cap_key_sec 1\n\
-    olo_components.0.oc_capability_key aabbcc\n\
-    olo_components.0.oc_capability 1122334455\n\
-    olo_components.1.oc_object_id.oid_device_id 000102030405060708090a0b0c0d0e0f\n\
-    olo_components.1.oc_object_id.oid_partition_id 65538\n\
-    olo_components.1.oc_object_id.oid_object_id 65539\n\
-    olo_components.1.oc_osd_version 0\n\
-    olo_components.1.oc_cap_key_sec 0\n\
-    olo_components.1.oc_capability_key -\n\
-    olo_components.1.oc_capability -\n\
-    .\n";
+// The bytes with this one replaced.
+fn with_byte(alloc: Global, bytes: &[u8], at: usize, value: u8) -> Vec<u8> {
+    let mut changed = copied(alloc, bytes);
+    if at < changed.len() {
+        changed[at] = value;
+    }
+    changed
+}
 
-fn layout_case() -> Case {
-    Case {
-        kind: Kind::Layout,
-        digits: "00000004000000000001000000000002000000030000000100000003000000010000000200010203\
-            0405060708090a0b0c0d0e0f00000000000100020000000000010003000000020000000100000003\
-            aabbcc00000000051122334455000000000102030405060708090a0b0c0d0e0f0000000000010002\
-            000000000001000300000000000000000000000000000000",
-        items: &[
-            0, 4, 12, 16, 20, 24, 28, 32, 36, 52, 60, 68, 72, 76, 84, 96, 112, 120, 128, 132, 136,
-            140,
-        ],
-        padding: &[83, 93, 94, 95],
-        enumerations: &[24, 68, 72, 128, 132],
-        bools: &[],
-        lengths: &[32, 76, 84, 136, 140],
-        lines: LAYOUT_LINES,
+// The bytes with the last two of the number at a place replaced.
+fn with_number(alloc: Global, bytes: &[u8], at: usize, high: u8, low: u8) -> Vec<u8> {
+    let changed = with_byte(alloc, bytes, at.saturating_add(2), high);
+    with_byte(alloc, changed.as_slice(), at.saturating_add(3), low)
+}
+
+fn is_refused(alloc: Global, kind: Kind, bytes: &[u8], cause: LayoutErr) -> bool {
+    match leaves(alloc, kind, bytes) {
+        Ok(_) => false,
+        Err(e) => e == cause,
     }
 }
 
-const DEVICE_ADDR_LINES: &str = "oda_targetid.oti_type 2\n\
-    oda_targetid.oti_value 69716e2e78\n\
-    oda_targetaddr.ota_available 1\n\
-    oda_targetaddr.na_r_netid 746370\n\
-    oda_targetaddr.na_r_addr 31302e302e302e31\n\
-    oda_lun 0001020304050607\n\
-    oda_systemid 7379\n\
-    oda_root_obj_cred.oc_object_id.oid_device_id 000102030405060708090a0b0c0d0e0f\n\
-    oda_root_obj_cred.oc_object_id.oid_partition_id 65538\n\
-    oda_root_obj_cred.oc_object_id.oid_object_id 65539\n\
-    oda_root_obj_cred.oc_osd_version 2\n\
-    oda_root_obj_cred.oc_cap_key_sec 1\n\
-    oda_root_obj_cred.oc_capability_key aabbcc\n\
-    oda_root_obj_cred.oc_capability 1122334455\n\
-    oda_osdname 6e616d6531\n\
-    .\n";
-
-fn device_addr_case() -> Case {
-    Case {
-        kind: Kind::DeviceAddr,
-        digits: "000000020000000569716e2e780000000000000100000003746370000000000831302e302e302e31\
-            00010203040506070000000273790000000102030405060708090a0b0c0d0e0f0000000000010002\
-            0000000000010003000000020000000100000003aabbcc0000000005112233445500000000000005\
-            6e616d6531000000",
-        items: &[0, 4, 16, 20, 28, 40, 48, 56, 72, 80, 88, 92, 96, 104, 116],
-        padding: &[13, 14, 15, 27, 54, 55, 103, 113, 114, 115, 125, 126, 127],
-        enumerations: &[0, 88, 92],
-        bools: &[16],
-        lengths: &[4, 20, 28, 48, 96, 104, 116],
-        lines: DEVICE_ADDR_LINES,
+fn has_lines(alloc: Global, kind: Kind, bytes: &[u8], lines: &[u8]) -> bool {
+    match leaves(alloc, kind, bytes) {
+        Ok(text) => text.as_slice() == lines,
+        Err(_) => false,
     }
 }
 
-fn update_case() -> Case {
-    Case {
-        kind: Kind::Update,
-        digits: "00000001fffffffffffffffb00000001",
-        items: &[0, 4, 12],
-        padding: &[],
-        enumerations: &[],
-        bools: &[0, 12],
-        lengths: &[],
-        lines: "dsu_valid 1\n\
-        dsu_delta -5\n\
-        olu_ioerr_flag 1\n\
-        .\n",
+fn is_written_again(alloc: Global, kind: Kind, bytes: &[u8]) -> bool {
+    match written_again(alloc, kind, bytes) {
+        Ok(written) => written.as_slice() == bytes,
+        Err(_) => false,
     }
 }
 
-fn io_errs_case() -> Case {
-    Case {
-        kind: Kind::IoErrs,
-        digits: "00000001000102030405060708090a0b0c0d0e0f0000000000010002000000000001000300000000\
-            0000000700000000000000080000000100000005",
-        items: &[0, 4, 20, 28, 36, 44, 52, 56],
-        padding: &[],
-        enumerations: &[56],
-        bools: &[52],
-        lengths: &[0],
-        lines: "olr_ioerr_report 1\n\
-        olr_ioerr_report.0.oer_component.oid_device_id 000102030405060708090a0b0c0d0e0f\n\
-        olr_ioerr_report.0.oer_component.oid_partition_id 65538\n\
-        olr_ioerr_report.0.oer_component.oid_object_id 65539\n\
-        olr_ioerr_report.0.oer_comp_offset 7\n\
-        olr_ioerr_report.0.oer_comp_length 8\n\
-        olr_ioerr_report.0.oer_iswrite 1\n\
-        olr_ioerr_report.0.oer_errno 5\n\
-        .\n",
+// The place of the last item that begins before so many bytes.
+fn cut_item(items: &[u64], length: usize) -> u64 {
+    let mut at = 0;
+    for item in items {
+        if *item <= length as u64 {
+            at = *item;
+        }
     }
+    at
 }
 
-fn hint_case() -> Case {
-    Case {
-        kind: Kind::Hint,
-        digits: "00000001000000090000000100000000000010000000000100000002000000010000000300000001\
-            000000010000000100000004",
-        items: &[0, 4, 8, 12, 20, 24, 28, 32, 36, 40, 44, 48],
-        padding: &[],
-        enumerations: &[48],
-        bools: &[0, 8, 20, 28, 36, 44],
-        lengths: &[],
-        lines: "max_comps_set 1\n\
-        max_comps 9\n\
-        stripe_unit_set 1\n\
-        stripe_unit 4096\n\
-        group_width_set 1\n\
-        group_width 2\n\
-        group_depth_set 1\n\
-        group_depth 3\n\
-        mirror_cnt_set 1\n\
-        mirror_cnt 1\n\
-        raid_algorithm_set 1\n\
-        raid_algorithm 4\n\
-        .\n",
+fn prefixes_are_short(alloc: Global, kind: Kind, items: &[u64], bytes: &[u8]) -> bool {
+    for length in 0..bytes.len() {
+        let at = cut_item(items, length);
+        if !is_refused(
+            alloc,
+            kind,
+            &bytes[..length],
+            LayoutErr::Xdr(XdrErr::Short { at }),
+        ) {
+            return false;
+        }
     }
+    true
 }
 
-fn cases() -> [Case; 7] {
-    [
-        map_case(),
-        cred_case(),
-        layout_case(),
-        device_addr_case(),
-        update_case(),
-        io_errs_case(),
-        hint_case(),
-    ]
+fn one_more_is_trailing(alloc: Global, kind: Kind, bytes: &[u8]) -> bool {
+    let at = bytes.len() as u64;
+    let mut longer = copied(alloc, bytes);
+    longer.push(0).is_ok()
+        && is_refused(
+            alloc,
+            kind,
+            longer.as_slice(),
+            LayoutErr::Xdr(XdrErr::Trailing { at }),
+        )
 }
 
-// The bytes with the last byte of the number at a place replaced.
-fn with_number(bytes: &[u8], alloc: Global, at: usize, high: u8, low: u8) -> Result<Vec<u8>, Fail> {
-    let mut changed = Vec::from_slice(alloc, bytes)?;
-    if let Some(byte) = changed.get_mut(at.saturating_add(2)) {
-        *byte = high;
+fn padding_is_refused(alloc: Global, kind: Kind, bytes: &[u8], places: &[usize]) -> bool {
+    for place in places {
+        let changed = with_byte(alloc, bytes, *place, 1);
+        let at = *place as u64;
+        if !is_refused(
+            alloc,
+            kind,
+            changed.as_slice(),
+            LayoutErr::Xdr(XdrErr::Padding { at }),
+        ) {
+            return false;
+        }
     }
-    if let Some(byte) = changed.get_mut(at.saturating_add(3)) {
-        *byte = low;
-    }
-    Ok(changed)
+    true
 }
 
-fn refusal(alloc: Global, kind: Kind, bytes: &[u8]) -> Option<LayoutErr> {
-    leaves(alloc, kind, bytes).err()
+fn enumerations_are_refused(alloc: Global, kind: Kind, bytes: &[u8], places: &[usize]) -> bool {
+    for place in places {
+        let changed = with_number(alloc, bytes, *place, 0, 8);
+        let at = *place as u64;
+        if !is_refused(
+            alloc,
+            kind,
+            changed.as_slice(),
+            LayoutErr::BadEnum { at, value: 8 },
+        ) {
+            return false;
+        }
+    }
+    true
+}
+
+fn bools_are_refused(alloc: Global, kind: Kind, bytes: &[u8], places: &[usize]) -> bool {
+    for place in places {
+        let changed = with_number(alloc, bytes, *place, 0, 2);
+        let at = *place as u64;
+        if !is_refused(
+            alloc,
+            kind,
+            changed.as_slice(),
+            LayoutErr::Xdr(XdrErr::BadBool { at }),
+        ) {
+            return false;
+        }
+    }
+    true
+}
+
+fn lengths_are_refused(alloc: Global, kind: Kind, bytes: &[u8], places: &[usize]) -> bool {
+    for place in places {
+        let changed = with_number(alloc, bytes, *place, 16, 1);
+        let at = *place as u64;
+        if !is_refused(
+            alloc,
+            kind,
+            changed.as_slice(),
+            LayoutErr::Xdr(XdrErr::TooMany { at }),
+        ) {
+            return false;
+        }
+    }
+    true
+}
+
+// Whether the bytes of a case have its lines, are written again, and are refused where they are cut or changed.
+fn fits(alloc: Global, case: &Case, bytes: &[u8]) -> bool {
+    let kind = case.kind;
+    !bytes.is_empty()
+        && has_lines(alloc, kind, bytes, case.lines.as_bytes())
+        && is_written_again(alloc, kind, bytes)
+        && prefixes_are_short(alloc, kind, case.items, bytes)
+        && one_more_is_trailing(alloc, kind, bytes)
+        && padding_is_refused(alloc, kind, bytes, case.padding)
+        && enumerations_are_refused(alloc, kind, bytes, case.enumerations)
+        && bools_are_refused(alloc, kind, bytes, case.bools)
+        && lengths_are_refused(alloc, kind, bytes, case.lengths)
+}
+
+fn case_fits(alloc: Global, case: &Case) -> bool {
+    fits(alloc, case, decoded(alloc, case.digits).as_slice())
 }
 
 #[test]
-fn the_lines_of_each_kind(rt: HostRuntime) -> Result<(), Fail> {
-    for case in cases().iter() {
-        let bytes = hex::decode(rt.alloc(), case.digits)?;
-        let text = leaves(rt.alloc(), case.kind, &bytes)?;
-        assert_eq!(rt; text.as_slice(), case.lines.as_bytes());
+fn each_kind_is_read_shown_written_and_refused_at_its_place(rt: HostRuntime) {
+    for case in CASES.iter() {
+        assert!(rt; case_fits(rt.alloc(), case), "{}", case.digits);
     }
-    Ok(())
 }
 
-#[test]
-fn each_prefix_is_short_at_the_item_that_is_cut(rt: HostRuntime) -> Result<(), Fail> {
-    for case in cases().iter() {
-        let bytes = hex::decode(rt.alloc(), case.digits)?;
-        for length in 0..bytes.len() {
-            let mut at = 0;
-            for item in case.items {
-                if *item <= length as u64 {
-                    at = *item;
-                }
-            }
-            assert_eq!(rt;
-                refusal(rt.alloc(), case.kind, &bytes[..length]),
-                Some(LayoutErr::Xdr(XdrErr::Short { at }))
-            );
-        }
-        let mut longer = bytes;
-        let end = longer.len() as u64;
-        longer.push(0)?;
-        assert_eq!(rt;
-            refusal(rt.alloc(), case.kind, &longer),
-            Some(LayoutErr::Xdr(XdrErr::Trailing { at: end }))
-        );
-    }
-    Ok(())
-}
-
-#[test]
-fn each_padding_byte_must_be_zero(rt: HostRuntime) -> Result<(), Fail> {
-    for case in cases().iter() {
-        let bytes = hex::decode(rt.alloc(), case.digits)?;
-        for at in case.padding {
-            let mut changed = Vec::from_slice(rt.alloc(), &bytes)?;
-            if let Some(byte) = changed.get_mut(*at) {
-                *byte = 1;
-            }
-            assert_eq!(rt;
-                refusal(rt.alloc(), case.kind, &changed),
-                Some(LayoutErr::Xdr(XdrErr::Padding { at: *at as u64 }))
-            );
-        }
-    }
-    Ok(())
-}
-
-#[test]
-fn numbers_outside_their_ranges(rt: HostRuntime) -> Result<(), Fail> {
-    for case in cases().iter() {
-        let bytes = hex::decode(rt.alloc(), case.digits)?;
-        for at in case.enumerations {
-            let changed = with_number(&bytes, rt.alloc(), *at, 0, 8)?;
-            assert_eq!(rt;
-                refusal(rt.alloc(), case.kind, &changed),
-                Some(LayoutErr::BadEnum {
-                    at: *at as u64,
-                    value: 8
-                })
-            );
-        }
-        for at in case.bools {
-            let changed = with_number(&bytes, rt.alloc(), *at, 0, 2)?;
-            assert_eq!(rt;
-                refusal(rt.alloc(), case.kind, &changed),
-                Some(LayoutErr::Xdr(XdrErr::BadBool { at: *at as u64 }))
-            );
-        }
-        for at in case.lengths {
-            let changed = with_number(&bytes, rt.alloc(), *at, 16, 1)?;
-            assert_eq!(rt;
-                refusal(rt.alloc(), case.kind, &changed),
-                Some(LayoutErr::Xdr(XdrErr::TooMany { at: *at as u64 }))
-            );
-        }
-    }
-    Ok(())
-}
-
-#[test]
-fn each_kind_written_again(rt: HostRuntime) -> Result<(), Fail> {
-    for case in cases().iter() {
-        let bytes = hex::decode(rt.alloc(), case.digits)?;
-        let written = written_again(rt.alloc(), case.kind, &bytes)?;
-        assert_eq!(rt; written.as_slice(), bytes.as_slice());
-    }
-    Ok(())
-}
-
-const PLAIN_MAP: &str = "00000004000000000001000000000000000000000000000000000003";
+const PLAIN_MAP: &[u8] = b"\0\0\0\x04\0\0\0\0\0\x01\0\0\0\0\0\0\0\0\0\0\0\0\0\0\0\0\0\x03";
 
 // The same without its last byte.
-const CUT_MAP: &str = "000000040000000000010000000000000000000000000000000000";
+const CUT_MAP: &[u8] = b"\0\0\0\x04\0\0\0\0\0\x01\0\0\0\0\0\0\0\0\0\0\0\0\0\0\0\0\0";
+
+fn is_map(alloc: Global, bytes: &[u8], wanted: RawMap) -> bool {
+    match RawMap::read(alloc, bytes) {
+        Ok(map) => map == wanted,
+        Err(_) => false,
+    }
+}
+
+fn is_no_map(alloc: Global, bytes: &[u8], cause: LayoutErr) -> bool {
+    match RawMap::read(alloc, bytes) {
+        Ok(_) => false,
+        Err(e) => e == cause,
+    }
+}
+
+fn has_bad_algorithm(alloc: Global) -> bool {
+    let changed = with_number(alloc, PLAIN_MAP, 24, 0, 5);
+    is_no_map(
+        alloc,
+        changed.as_slice(),
+        LayoutErr::BadEnum { at: 24, value: 5 },
+    )
+}
 
 #[test]
-fn a_plain_map(rt: HostRuntime) -> Result<(), Fail> {
-    let bytes = hex::decode(rt.alloc(), PLAIN_MAP)?;
-    let map = RawMap::read(rt.alloc(), &bytes)?;
-    assert_eq!(rt;
-        map,
-        RawMap {
-            comps: 4,
-            unit: 65_536,
-            width: 0,
-            depth: 0,
-            mirrors: 0,
-            algorithm: 3
-        }
-    );
-    let cut = hex::decode(rt.alloc(), CUT_MAP)?;
-    let text = leaves(rt.alloc(), Kind::Map, &bytes)?;
-    assert_eq!(rt;
-        text.as_slice(),
-        b"odm_num_comps 4\nodm_stripe_unit 65536\nodm_group_width 0\nodm_group_depth 0\n\
-          odm_mirror_cnt 0\nodm_raid_algorithm 3\n.\n"
-            .as_slice()
-    );
-    assert_eq!(rt;
-        RawMap::read(rt.alloc(), &cut),
-        Err(LayoutErr::Xdr(XdrErr::Short { at: 24 }))
-    );
-    let changed = with_number(&bytes, rt.alloc(), 24, 0, 5)?;
-    assert_eq!(rt;
-        RawMap::read(rt.alloc(), &changed),
-        Err(LayoutErr::BadEnum { at: 24, value: 5 })
-    );
-    Ok(())
+fn a_plain_map(rt: HostRuntime) {
+    let map = RawMap {
+        comps: 4,
+        unit: 65_536,
+        width: 0,
+        depth: 0,
+        mirrors: 0,
+        algorithm: 3,
+    };
+    let lines = b"odm_num_comps 4\nodm_stripe_unit 65536\nodm_group_width 0\nodm_group_depth 0\n\
+        odm_mirror_cnt 0\nodm_raid_algorithm 3\n.\n";
+    assert!(rt; is_map(rt.alloc(), PLAIN_MAP, map));
+    assert!(rt; has_lines(rt.alloc(), Kind::Map, PLAIN_MAP, lines));
+    let cut = LayoutErr::Xdr(XdrErr::Short { at: 24 });
+    assert!(rt; is_no_map(rt.alloc(), CUT_MAP, cut));
+    assert!(rt; has_bad_algorithm(rt.alloc()));
+}
+
+fn is_empty_update(alloc: Global) -> bool {
+    match LayoutUpdate::read(alloc, &[0; 8]) {
+        Ok(update) => update.dsu_delta.is_none() && !update.olu_ioerr_flag,
+        Err(_) => false,
+    }
+}
+
+fn is_empty_report(alloc: Global) -> bool {
+    match IoErrs::read(alloc, &[0; 4]) {
+        Ok(report) => report.olr_ioerr_report.len() == 0,
+        Err(_) => false,
+    }
+}
+
+fn is_empty_hint(alloc: Global) -> bool {
+    match LayoutHint::read(alloc, &[0; 24]) {
+        Ok(hint) => match hint.write(alloc) {
+            Ok(written) => {
+                hint.max_comps.is_none()
+                    && hint.raid_algorithm.is_none()
+                    && written.as_slice() == [0; 24].as_slice()
+            }
+            Err(_) => false,
+        },
+        Err(_) => false,
+    }
 }
 
 // Values without their optional parts, and empty lists.
 #[test]
-fn optional_parts_that_are_absent(rt: HostRuntime) -> Result<(), Fail> {
-    let update = LayoutUpdate::read(rt.alloc(), &[0; 8])?;
-    assert_eq!(rt;
-        update,
-        LayoutUpdate {
-            dsu_delta: None,
-            olu_ioerr_flag: false
-        }
+fn optional_parts_that_are_absent(rt: HostRuntime) {
+    let alloc = rt.alloc();
+    assert!(rt; is_empty_update(alloc));
+    assert!(rt;
+        has_lines(
+            alloc,
+            Kind::Update,
+            &[0; 8],
+            b"dsu_valid 0\nolu_ioerr_flag 0\n.\n"
+        )
     );
-    let text = leaves(rt.alloc(), Kind::Update, &[0; 8])?;
-    assert_eq!(rt;
-        text.as_slice(),
-        b"dsu_valid 0\nolu_ioerr_flag 0\n.\n".as_slice()
+    assert!(rt; is_empty_report(alloc));
+    assert!(rt; has_lines(alloc, Kind::IoErrs, &[0; 4], b"olr_ioerr_report 0\n.\n"));
+    assert!(rt; is_empty_hint(alloc));
+    assert!(rt;
+        is_refused(
+            alloc,
+            Kind::Map,
+            b"",
+            LayoutErr::Xdr(XdrErr::Short { at: 0 })
+        )
     );
-    let report = IoErrs::read(rt.alloc(), &[0; 4])?;
-    assert_eq!(rt; report.olr_ioerr_report.len(), 0);
-    let text = leaves(rt.alloc(), Kind::IoErrs, &[0; 4])?;
-    assert_eq!(rt; text.as_slice(), b"olr_ioerr_report 0\n.\n".as_slice());
-    let hint = LayoutHint::read(rt.alloc(), &[0; 24])?;
-    assert_eq!(rt; hint.max_comps, None);
-    assert_eq!(rt; hint.raid_algorithm, None);
-    let written = hint.write(rt.alloc())?;
-    assert_eq!(rt; written.as_slice(), [0; 24].as_slice());
-    assert_eq!(rt;
-        leaves(rt.alloc(), Kind::Map, b"").err(),
-        Some(LayoutErr::Xdr(XdrErr::Short { at: 0 }))
-    );
-    Ok(())
+}
+
+fn is_checked(raw: RawMap) -> bool
+    requires { HasAlgorithm raw }
+{
+    match DataMap::check(raw) {
+        Ok(map) => map.raw() == raw,
+        Err(_) => false,
+    }
+}
+
+fn gives_its_map(alloc: Global, bytes: &[u8]) -> bool {
+    match Layout::read(alloc, bytes) {
+        Ok(layout) => is_checked(layout.olo_map),
+        Err(_) => false,
+    }
+}
+
+fn layout_gives_its_map(alloc: Global) -> bool {
+    gives_its_map(alloc, decoded(alloc, LAYOUT.digits).as_slice())
 }
 
 // What is read may be checked as a map at once, whose caller has to know the algorithm.
 #[test]
-fn the_map_of_a_layout_is_checked(rt: HostRuntime) -> Result<(), Fail> {
-    let bytes = hex::decode(rt.alloc(), layout_case().digits)?;
-    let layout = Layout::read(rt.alloc(), &bytes)?;
-    match DataMap::check(layout.olo_map) {
-        Ok(map) => assert_eq!(rt; map.raw(), layout.olo_map),
-        Err(_) => assert!(rt; false),
-    }
-    Ok(())
+fn the_map_of_a_layout_is_checked(rt: HostRuntime) {
+    assert!(rt; layout_gives_its_map(rt.alloc()));
 }
