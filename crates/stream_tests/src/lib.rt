@@ -2,4 +2,8 @@
 #![tactic(auto)]
 
 #[cfg(test)]
-mod streams;
+mod lines;
+#[cfg(test)]
+mod links;
+#[cfg(test)]
+mod records;
