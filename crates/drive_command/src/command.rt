@@ -1,0 +1,116 @@
+ghost use Rattle.std.specs.Prelude.{◌≡◌, IfErr, OnOk};
+ghost use Rattle.osd_drive.specs.Serving.{ends_of};
+ghost use Rattle.drive_command.specs.Ends.{EndsDrive, ServesAs, ServesIn, StopsDrive, StopsIn, streams};
+
+use crate::own::{new_core, own_drive};
+use crate::serving::serve_core;
+use cluster_input::{CommandStop, cluster_from, put_stop, settle_at};
+use cluster_text::{Cluster, ClusterKind, Reader};
+use osd_bytes::{Clock, Links, Sink, Source};
+use std::alloc::Global;
+
+// Serves so many connections as the drive of a number of a cluster.
+fn serve_in<K: Sink, L: Links, C: Clock>(
+    alloc: Global,
+    cluster: &Cluster,
+    number: u32,
+    connections: u32,
+    sink: &mut K,
+    links: &mut L,
+    clock: &mut C,
+) -> Result<(), CommandStop>
+    ensures serves { OnOk result (ServesIn number connections cluster.now
+        (ends_of (L.told links.old) (L.faults links.old) (C.times clock.old))
+        (ends_of (L.told links.new) (L.faults links.new) (C.times clock.new))
+        (K.taken sink.old) (K.taken sink.new)) }
+    ensures stops { IfErr result (StopsIn number connections cluster.now
+        (ends_of (L.told links.old) (L.faults links.old) (C.times clock.old))
+        (ends_of (L.told links.new) (L.faults links.new) (C.times clock.new))
+        (K.taken sink.old) (K.taken sink.new) (K.faults sink.old) (K.faults sink.new)) }
+{
+    let Some(drive) = own_drive(cluster.drives.as_slice(), number) else {
+        return Err(CommandStop::BadCluster(ClusterKind::Missing));
+    };
+    let Some(key) = drive.key else {
+        return Err(CommandStop::BadCluster(ClusterKind::Missing));
+    };
+    match settle_at(alloc, links, cluster, drive.address.as_slice()) {
+        Ok(()) => {}
+        Err(stop) => return Err(stop),
+    }
+    let mut core = new_core(alloc, number, key, drive.capacity)?;
+    match serve_core(alloc, &mut core, connections, sink, links, clock) {
+        Ok(()) => Ok(()),
+        Err(stop) => Err(stop),
+    }
+}
+
+// The command without the line that tells why it stopped.
+fn serve_cluster<S: Source, K: Sink, L: Links, C: Clock>(
+    alloc: Global,
+    number: u32,
+    connections: u32,
+    source: &mut S,
+    sink: &mut K,
+    links: &mut L,
+    clock: &mut C,
+) -> Result<(), CommandStop>
+    ensures serves { OnOk result (ServesAs number connections
+        (streams (S.left source.old) (S.faults source.old) (K.taken sink.old) (K.faults sink.old))
+        (streams (S.left source.new) (S.faults source.new) (K.taken sink.new) (K.faults sink.new))
+        (ends_of (L.told links.old) (L.faults links.old) (C.times clock.old))
+        (ends_of (L.told links.new) (L.faults links.new) (C.times clock.new))) }
+    ensures stops { IfErr result (StopsDrive number connections
+        (streams (S.left source.old) (S.faults source.old) (K.taken sink.old) (K.faults sink.old))
+        (streams (S.left source.new) (S.faults source.new) (K.taken sink.new) (K.faults sink.new))
+        (ends_of (L.told links.old) (L.faults links.old) (C.times clock.old))
+        (ends_of (L.told links.new) (L.faults links.new) (C.times clock.new))) }
+{
+    let cluster = match cluster_from(alloc, Reader::Drive(number), source) {
+        Ok(cluster) => cluster,
+        Err(stop) => return Err(stop),
+    };
+    match serve_in(alloc, &cluster, number, connections, sink, links, clock) {
+        Ok(()) => Ok(()),
+        Err(stop) => Err(stop),
+    }
+}
+
+/// Serves so many connections as the drive of a number of the cluster that the source describes. The sink
+/// is told `listening` once the drive listens at its own address, and `served` with the number of
+/// connections at the end; or else, in a line of its own, why the drive stopped before.
+///
+/// # Errors
+///
+/// [`CommandStop::BadCluster`] exactly where the text is refused; [`CommandStop::ReadFault`];
+/// [`CommandStop::Full`] exactly where the text passes 67,108,864 bytes; [`CommandStop::LinkFault`] where the
+/// links couldn't be settled or no further connection accepted; [`CommandStop::WriteFault`];
+/// [`CommandStop::Memory`].
+pub fn drive_command<S: Source, K: Sink, L: Links, C: Clock>(
+    alloc: Global,
+    number: u32,
+    connections: u32,
+    source: &mut S,
+    sink: &mut K,
+    links: &mut L,
+    clock: &mut C,
+) -> Result<(), CommandStop>
+    ensures serves { OnOk result (ServesAs number connections
+        (streams (S.left source.old) (S.faults source.old) (K.taken sink.old) (K.faults sink.old))
+        (streams (S.left source.new) (S.faults source.new) (K.taken sink.new) (K.faults sink.new))
+        (ends_of (L.told links.old) (L.faults links.old) (C.times clock.old))
+        (ends_of (L.told links.new) (L.faults links.new) (C.times clock.new))) }
+    ensures stops { IfErr result (EndsDrive number connections
+        (streams (S.left source.old) (S.faults source.old) (K.taken sink.old) (K.faults sink.old))
+        (streams (S.left source.new) (S.faults source.new) (K.taken sink.new) (K.faults sink.new))
+        (ends_of (L.told links.old) (L.faults links.old) (C.times clock.old))
+        (ends_of (L.told links.new) (L.faults links.new) (C.times clock.new))) }
+{
+    match serve_cluster(alloc, number, connections, source, sink, links, clock) {
+        Ok(()) => Ok(()),
+        Err(stop) => {
+            put_stop(sink, stop);
+            Err(stop)
+        }
+    }
+}

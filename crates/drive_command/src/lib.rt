@@ -1,0 +1,10 @@
+//! The command of a drive over a network: it reads the cluster text, listens at its own address, and serves
+//! connections.
+#![tactic(auto)]
+
+mod command;
+mod own;
+mod serving;
+
+pub use command::drive_command;
+pub use own::KEY_VERSION;

@@ -1,0 +1,80 @@
+// The lines of the command, and the serving between them.
+ghost use Rattle.std.specs.Prelude.{◌≡◌, IfErr, IfOk, OnOk, string_bytes};
+ghost use Rattle.osd_drive.specs.Serving.{ServesAll, ends_of};
+ghost use Rattle.drive_command.specs.Ends.{Serves, StopsAccepting, StopsServing, served_line, stop_of_serving};
+
+use cluster_input::CommandStop;
+use osd_bytes::{Clock, Links, Memory, Sink, put_all};
+use osd_drive::DriveCore;
+use osd_serving::ServeErr;
+use std::alloc::Global;
+
+// The line that tells how many connections were served.
+fn served_line(alloc: Global, connections: u32) -> Result<String, Memory>
+    ensures { IfOk result (λ line. string_bytes line ≡ served_line connections) }
+{
+    Ok(format!(in alloc; "served {connections}\n")?)
+}
+
+fn stop_of(e: ServeErr) -> CommandStop
+    ensures { result ≡ stop_of_serving e }
+{
+    match e {
+        ServeErr::LinkFault => CommandStop::LinkFault,
+        ServeErr::Memory => CommandStop::Memory,
+    }
+}
+
+// Serves so many connections over links that listen.
+fn serve_all<L: Links, C: Clock>(
+    alloc: Global,
+    core: &mut DriveCore,
+    connections: u32,
+    links: &mut L,
+    clock: &mut C,
+) -> Result<(), CommandStop>
+    ensures served { OnOk result (ServesAll connections core.old core.new
+        (ends_of (L.told links.old) (L.faults links.old) (C.times clock.old))
+        (ends_of (L.told links.new) (L.faults links.new) (C.times clock.new))) }
+    ensures stops { IfErr result (StopsAccepting
+        (ends_of (L.told links.old) (L.faults links.old) (C.times clock.old))
+        (ends_of (L.told links.new) (L.faults links.new) (C.times clock.new))) }
+{
+    match core.serve(alloc, links, clock, connections) {
+        Ok(()) => Ok(()),
+        Err(e) => Err(stop_of(e)),
+    }
+}
+
+// Serves so many connections over links that listen, and tells when that begins and when it is over.
+pub(crate) fn serve_core<K: Sink, L: Links, C: Clock>(
+    alloc: Global,
+    core: &mut DriveCore,
+    connections: u32,
+    sink: &mut K,
+    links: &mut L,
+    clock: &mut C,
+) -> Result<(), CommandStop>
+    ensures serves { OnOk result (Serves connections core.old core.new
+        (ends_of (L.told links.old) (L.faults links.old) (C.times clock.old))
+        (ends_of (L.told links.new) (L.faults links.new) (C.times clock.new))
+        (K.taken sink.old) (K.taken sink.new)) }
+    ensures stops { IfErr result (StopsServing connections
+        (ends_of (L.told links.old) (L.faults links.old) (C.times clock.old))
+        (ends_of (L.told links.new) (L.faults links.new) (C.times clock.new))
+        (K.taken sink.old) (K.taken sink.new) (K.faults sink.old) (K.faults sink.new)) }
+{
+    let served = served_line(alloc, connections)?;
+    match put_all(sink, b"listening\n") {
+        Ok(()) => {}
+        Err(_) => return Err(CommandStop::WriteFault),
+    }
+    match serve_all(alloc, core, connections, links, clock) {
+        Ok(()) => {}
+        Err(stop) => return Err(stop),
+    }
+    match put_all(sink, served.as_bytes()) {
+        Ok(()) => Ok(()),
+        Err(_) => Err(CommandStop::WriteFault),
+    }
+}
