@@ -1,5 +1,6 @@
 use osd_bytes::{Bytes, Clock, Links, Node, Peer, Peers};
 use osd_links::{SystemClock, TcpLinks};
+use std::alloc::Global;
 use std::net::{OpenListener, TcpListener};
 use std::test::Fail;
 
@@ -14,39 +15,48 @@ fn free_address(rt: &HostRuntime) -> Result<Bytes, Fail> {
     Ok(Bytes::copied(rt.alloc(), address.as_bytes())?)
 }
 
-// Whether the links listen at the address now, and know that the drive is there too.
-fn settles(
-    rt: &HostRuntime,
-    links: &mut TcpLinks<&HostRuntime>,
-    address: &Bytes,
-) -> Result<bool, Fail> {
-    let mut peers = Peers::new(rt.alloc());
-    peers.push(Peer {
-        node: DRIVE,
-        address: Bytes::copied(rt.alloc(), address.as_slice())?,
-    })?;
-    let listen = Bytes::copied(rt.alloc(), address.as_slice())?;
-    Ok(links.settle(listen, peers).is_ok())
+fn copied(alloc: Global, bytes: &[u8]) -> Bytes {
+    match Bytes::copied(alloc, bytes) {
+        Ok(bytes) => bytes,
+        Err(_) => Bytes::new(alloc),
+    }
 }
 
-fn accepts(links: &mut TcpLinks<&HostRuntime>) -> bool {
+// The drive, at this address.
+fn peers(alloc: Global, address: &[u8]) -> Peers {
+    let mut peers = Peers::new(alloc);
+    let _ = peers.push(Peer {
+        node: DRIVE,
+        address: copied(alloc, address),
+    });
+    peers
+}
+
+// Whether the links listen at one address now, and know that the drive is at another.
+fn settles<L: Links>(alloc: Global, links: &mut L, listen: &[u8], drive: &[u8]) -> bool {
+    links
+        .settle(copied(alloc, listen), peers(alloc, drive))
+        .is_ok()
+}
+
+fn accepts<L: Links>(links: &mut L) -> bool {
     links.accept().is_ok()
 }
 
-fn connects(links: &mut TcpLinks<&HostRuntime>, to: Node) -> bool {
+fn connects<L: Links>(links: &mut L, to: Node) -> bool {
     links.connect(to).is_ok()
 }
 
-fn sends(links: &mut TcpLinks<&HostRuntime>, bytes: &[u8]) -> bool {
+fn sends<L: Links>(links: &mut L, bytes: &[u8]) -> bool {
     links.send(bytes) == Ok(bytes.len())
 }
 
-fn puts(links: &mut TcpLinks<&HostRuntime>, bytes: &[u8]) -> bool {
+fn puts<L: Links>(links: &mut L, bytes: &[u8]) -> bool {
     links.put(bytes) == Ok(bytes.len())
 }
 
 // Whether exactly these bytes come next on the accepted connection.
-fn takes(links: &mut TcpLinks<&HostRuntime>, expected: &[u8]) -> bool {
+fn takes<L: Links>(links: &mut L, expected: &[u8]) -> bool {
     let mut buffer = [0; 8];
     match links.take(&mut buffer) {
         Ok(count) => buffer.get(..count) == Some(expected),
@@ -55,7 +65,7 @@ fn takes(links: &mut TcpLinks<&HostRuntime>, expected: &[u8]) -> bool {
 }
 
 // The same on the asking one.
-fn receives(links: &mut TcpLinks<&HostRuntime>, expected: &[u8]) -> bool {
+fn receives<L: Links>(links: &mut L, expected: &[u8]) -> bool {
     let mut buffer = [0; 8];
     match links.receive(&mut buffer) {
         Ok(count) => buffer.get(..count) == Some(expected),
@@ -63,61 +73,82 @@ fn receives(links: &mut TcpLinks<&HostRuntime>, expected: &[u8]) -> bool {
     }
 }
 
+fn hand_on<L: Links>(alloc: Global, links: &mut L, address: &[u8]) -> bool {
+    settles(alloc, links, address, address)
+        && connects(links, DRIVE)
+        && accepts(links)
+        && sends(links, b"command")
+        && takes(links, b"command")
+        && puts(links, b"reply")
+        && receives(links, b"reply")
+}
+
+// No bytes are the end of a connection, and without one the calls fail.
+fn are_hung_up<L: Links>(links: &mut L) -> bool {
+    links.hang_up();
+    takes(links, b"") && !receives(links, b"") && !sends(links, b"command")
+}
+
+fn new_links_hand_on(rt: &HostRuntime, address: &[u8]) -> bool {
+    let mut links = TcpLinks::new(rt, rt.alloc());
+    hand_on(rt.alloc(), &mut links, address) && are_hung_up(&mut links)
+}
+
 #[test]
 fn tcp_links_hand_on_what_is_sent(rt: HostRuntime) -> Result<(), Fail> {
     let address = free_address(&rt)?;
-    let mut links = TcpLinks::new(&rt, rt.alloc());
-    assert!(rt; settles(&rt, &mut links, &address)?);
-    assert!(rt; connects(&mut links, DRIVE));
-    assert!(rt; accepts(&mut links));
-    assert!(rt; sends(&mut links, b"command"));
-    assert!(rt; takes(&mut links, b"command"));
-    assert!(rt; puts(&mut links, b"reply"));
-    assert!(rt; receives(&mut links, b"reply"));
-    links.hang_up();
-    // No bytes are the end of a connection, and without one the calls fail.
-    assert!(rt; takes(&mut links, b""));
-    assert!(rt; !receives(&mut links, b""));
-    assert!(rt; !sends(&mut links, b"command"));
+    assert!(rt; new_links_hand_on(&rt, address.as_slice()));
     Ok(())
+}
+
+// Nobody listens at the drive's address, and of the server no address is known.
+fn fail<L: Links>(alloc: Global, links: &mut L, address: &[u8]) -> bool {
+    !accepts(links)
+        && !takes(links, b"")
+        && !puts(links, b"reply")
+        && settles(alloc, links, b"", address)
+        && !connects(links, DRIVE)
+        && !connects(links, SERVER)
+}
+
+fn new_links_fail(rt: &HostRuntime, address: &[u8]) -> bool {
+    let mut links = TcpLinks::new(rt, rt.alloc());
+    fail(rt.alloc(), &mut links, address)
 }
 
 #[test]
 fn tcp_links_fail_without_a_peer(rt: HostRuntime) -> Result<(), Fail> {
     let address = free_address(&rt)?;
-    let mut links = TcpLinks::new(&rt, rt.alloc());
-    assert!(rt; !accepts(&mut links));
-    assert!(rt; !takes(&mut links, b""));
-    assert!(rt; !puts(&mut links, b"reply"));
-    let mut peers = Peers::new(rt.alloc());
-    peers.push(Peer {
-        node: DRIVE,
-        address,
-    })?;
-    assert!(rt; links.settle(Bytes::new(rt.alloc()), peers).is_ok());
-    // Nobody listens there, and of the server no address is known.
-    assert!(rt; !connects(&mut links, DRIVE));
-    assert!(rt; !connects(&mut links, SERVER));
+    assert!(rt; new_links_fail(&rt, address.as_slice()));
     Ok(())
+}
+
+// Whether links don't settle at a taken address, nor at one that is none.
+fn second_settle_nowhere(rt: &HostRuntime, address: &[u8]) -> bool {
+    let mut links = TcpLinks::new(rt, rt.alloc());
+    !settles(rt.alloc(), &mut links, address, address)
+        && !settles(rt.alloc(), &mut links, b"no address", b"no address")
+}
+
+fn first_settle_alone(rt: &HostRuntime, address: &[u8]) -> bool {
+    let mut links = TcpLinks::new(rt, rt.alloc());
+    settles(rt.alloc(), &mut links, address, address) && second_settle_nowhere(rt, address)
 }
 
 #[test]
 fn links_settle_at_an_address_that_is_free(rt: HostRuntime) -> Result<(), Fail> {
     let address = free_address(&rt)?;
-    let mut first = TcpLinks::new(&rt, rt.alloc());
-    let mut second = TcpLinks::new(&rt, rt.alloc());
-    assert!(rt; settles(&rt, &mut first, &address)?);
-    assert!(rt; !settles(&rt, &mut second, &address)?);
-    let unknown = Bytes::copied(rt.alloc(), b"no address")?;
-    assert!(rt; !settles(&rt, &mut second, &unknown)?);
+    assert!(rt; first_settle_alone(&rt, address.as_slice()));
     Ok(())
 }
 
-#[test]
-fn the_clock_tells_seconds_that_do_not_fall(rt: HostRuntime) -> Result<(), Fail> {
-    let mut clock = SystemClock::new(&rt);
+fn does_not_fall<C: Clock>(clock: &mut C) -> bool {
     let first = clock.now();
-    assert!(rt; first > 1_700_000_000);
-    assert!(rt; clock.now() >= first);
-    Ok(())
+    first > 1_700_000_000 && clock.now() >= first
+}
+
+#[test]
+fn the_clock_tells_seconds_that_do_not_fall(rt: HostRuntime) {
+    let mut clock = SystemClock::new(&rt);
+    assert!(rt; does_not_fall(&mut clock));
 }

@@ -8,4 +8,6 @@ mod field;
 #[cfg(test)]
 mod maps;
 #[cfg(test)]
+mod plan_cases;
+#[cfg(test)]
 mod plans;
