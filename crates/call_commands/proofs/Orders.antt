@@ -1,54 +1,56 @@
 -- Commands that are placed one after the other.
-use Rattle.std.proofs.Common.{◌≡◌, ◌≤◌, ℕ, suc, ◌+◌, ◌++◌, List, [], ◌∷◌, length, take, drop, refl, ap, ◌∙◌, arith, inl, inr, true, false}
-use Rattle.std.proofs.lemmas.Bool.{cases_Bool}
-use Rattle.stripe_plan.specs.declared.plan.Ask.{Ask}
+use Rattle.std.proofs.Common.{◌≡◌, ◌≤◌, ◌<◌, ℕ, ◌+◌, ◌-◌, ◌++◌, List, [], ◌∷◌, length, get_or, take, drop, refl, sym, ap, ◌∙◌, arith, inl, inr, true, false, append-nil, append_assoc}
+use Rattle.std.specs.Prelude.{reverse}
+use Rattle.std.specs.List.{All}
+use Rattle.std.proofs.lemmas.Bool.{cases_lt}
+use Rattle.std.proofs.lemmas.List.{reverse-append, take_more, take-append-drop}
+use Rattle.std.proofs.lemmas.List.Elements.{All-nil, All-head, All-tail, All-append, All-cons}
 use Rattle.client_rules.specs.Commands.{before, placed, in_order}
 use Rattle.call_commands.specs.State.{Awaited}
-use Rattle.call_commands.specs.Ordering.{place_at, placed_all}
+use Rattle.call_commands.specs.Ordering.{placed_all}
 
-pub placed_there : (a : Awaited) (xs : List Awaited) →
-    take (place_at a.ask xs) xs ++ a ∷ drop (place_at a.ask xs) xs ≡ placed a xs
-unfolding place_at placed
-placed_there a [] = refl
-placed_there a (b ∷ bs) = elim (cases_Bool (before a.ask b.ask)) [
-  | inl t ↦ rw t refl
-  | inr f ↦ rw f (ap (λ zs. b ∷ zs) (placed_there a bs))
+all_reversed : {X : Type 0} (P : X → Type 0) (xs : List X) → All P xs → All P (reverse xs)
+all_reversed P [] all = All-nil P
+all_reversed P (x ∷ xs) all =
+    rw (reverse-append (x ∷ []) xs) (All-append P (reverse xs) (x ∷ []) (all_reversed P xs (All-tail P x xs all)) (All-cons P x [] (All-head P x xs all) (All-nil P)))
+
+-- those that it doesn't come before stay before it
+passes : (a : Awaited) (ys zs : List Awaited) → All (λ (b : Awaited). before a.ask b.ask ≡ false) ys → placed a (ys ++ zs) ≡ ys ++ placed a zs
+unfolding placed
+passes a [] zs all = refl
+passes a (y ∷ ys) zs all =
+    let rest : placed a (ys ++ zs) ≡ ys ++ placed a zs = passes a ys zs (All-tail (λ (b : Awaited). before a.ask b.ask ≡ false) y ys all) in
+    rw (All-head (λ (b : Awaited). before a.ask b.ask ≡ false) y ys all) (ap (λ xs. y ∷ xs) rest)
+
+stays : (a x : Awaited) (xs : List Awaited) → before a.ask x.ask ≡ true → placed a (x ∷ xs) ≡ a ∷ x ∷ xs
+unfolding placed
+stays a x xs t = rw t refl
+
+nothing : (a : Awaited) → placed a [] ≡ a ∷ []
+unfolding placed
+nothing a = refl
+
+-- before the first that it comes before
+first_there : (a : Awaited) (xs : List Awaited) (r : ℕ) → r ≤ length xs → ((d : Awaited) → 0 < r → before a.ask (get_or xs (r - 1) d).ask ≡ true) → placed a (reverse (take r xs)) ≡ a ∷ reverse (take r xs)
+first_there a xs r le here = elim (cases_lt 0 r) [
+  | inl some ↦
+      let next : r - 1 + 1 ≡ r = omega (arith, some) in
+      let split : take r xs ≡ take (r - 1) xs ++ get_or xs (r - 1) a ∷ [] = ap (λ (z : ℕ). take z xs) (sym next) ∙ take_more xs (r - 1) a (omega (arith, some, le)) in
+      let turned : reverse (take r xs) ≡ get_or xs (r - 1) a ∷ reverse (take (r - 1) xs) = ap reverse split ∙ reverse-append (take (r - 1) xs) (get_or xs (r - 1) a ∷ []) in
+      rw turned (stays a (get_or xs (r - 1) a) (reverse (take (r - 1) xs)) (here a some))
+  | inr none ↦ let zero_of : r ≡ 0 = omega (arith, none) in rw zero_of (nothing a)
 ]
 
-pub place_inside : (k : Ask) (xs : List Awaited) → place_at k xs ≤ length xs
-unfolding place_at
-place_inside k [] = omega arith
-place_inside k (b ∷ bs) = elim (cases_Bool (before k b.ask)) [
-  | inl t ↦ rw t (omega arith)
-  | inr f ↦ rw f (omega (arith, place_inside k bs))
-]
-
-here : (k : Ask) (b : Awaited) (bs : List Awaited) → before k b.ask ≡ true → place_at k (b ∷ bs) ≡ 0
-unfolding place_at
-here k b bs t = rw t refl
-
-behind : (k : Ask) (b : Awaited) (bs : List Awaited) → before k b.ask ≡ false →
-    place_at k (b ∷ bs) ≡ suc (place_at k bs)
-unfolding place_at
-behind k b bs f = rw f refl
-
--- what stays before it was passed, and here it comes
-pub found_here : (k : Ask) (xs rest : List Awaited) (i : ℕ) (b : Awaited) (bs : List Awaited) →
-    i + place_at k rest ≡ place_at k xs → rest ≡ b ∷ bs → before k b.ask ≡ true → i ≡ place_at k xs
-found_here k xs rest i b bs passed e t =
-    let zero_left : place_at k rest ≡ 0 = ap (place_at k) e ∙ here k b bs t in
-    omega (arith, passed, zero_left)
-
-pub passed_more : (k : Ask) (xs rest : List Awaited) (i : ℕ) (b : Awaited) (bs : List Awaited) →
-    i + place_at k rest ≡ place_at k xs → rest ≡ b ∷ bs → before k b.ask ≡ false →
-    (i + 1) + place_at k bs ≡ place_at k xs
-passed_more k xs rest i b bs passed e f =
-    let one_less : place_at k rest ≡ suc (place_at k bs) = ap (place_at k) e ∙ behind k b bs f in
-    omega (arith, passed, one_less)
-
-pub passed_all : (k : Ask) (xs rest : List Awaited) (i : ℕ) → i + place_at k rest ≡ place_at k xs →
-    length xs ≤ i → length xs ≡ place_at k xs
-passed_all k xs rest i passed l = omega (arith, passed, l, place_inside k xs)
+pub placed_falling : (a : Awaited) (xs : List Awaited) (r : ℕ) → r ≤ length xs → All (λ (b : Awaited). before a.ask b.ask ≡ false) (drop r xs) → ((d : Awaited) → 0 < r → before a.ask (get_or xs (r - 1) d).ask ≡ true) →
+    reverse (take r xs ++ a ∷ drop r xs) ≡ placed a (reverse xs)
+placed_falling a xs r le passed here =
+    let P : Awaited → Type 0 = λ (b : Awaited). before a.ask b.ask ≡ false in
+    reverse-append (take r xs) (a ∷ drop r xs)
+    ∙ ap (λ ys. ys ++ reverse (take r xs)) (reverse-append (a ∷ []) (drop r xs))
+    ∙ append_assoc (reverse (drop r xs)) (a ∷ []) (reverse (take r xs))
+    ∙ ap (λ ys. reverse (drop r xs) ++ ys) (sym (first_there a xs r le here))
+    ∙ sym (passes a (reverse (drop r xs)) (reverse (take r xs)) (all_reversed P (drop r xs) passed))
+    ∙ ap (placed a) (sym (reverse-append (take r xs) (drop r xs)) ∙ ap reverse (take-append-drop r xs))
 
 pub last_placed : (xs : List Awaited) (a : Awaited) (ys : List Awaited) →
     placed_all (xs ++ a ∷ []) ys ≡ placed_all xs (placed a ys)
@@ -64,3 +66,10 @@ pub placed_each : (xs : List Awaited) → placed_all xs [] ≡ in_order xs
 unfolding placed_all in_order
 placed_each [] = refl
 placed_each (x ∷ xs) = ap (placed x) (placed_each xs)
+
+-- one that was the last comes next
+pub turned_more : (made rest : List Awaited) (a : Awaited) → (made ++ a ∷ []) ++ reverse rest ≡ made ++ reverse (rest ++ a ∷ [])
+turned_more made rest a = append_assoc made (a ∷ []) (reverse rest) ∙ ap (λ ys. made ++ ys) (sym (reverse-append rest (a ∷ [])))
+
+pub all_turned : (made rest : List Awaited) → rest ≡ [] → made ≡ made ++ reverse rest
+all_turned made rest e = rw e (sym (append-nil made))

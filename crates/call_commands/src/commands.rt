@@ -170,18 +170,14 @@ pub fn read_commands(alloc: Global, held: &Held, asks: &[Ask]) -> Result<Awaited
 pub fn write_commands(
     alloc: Global,
     held: &Held,
-    stores: &[Store],
+    stores: Vec<Store>,
 ) -> Result<AwaitedCommands, Memory>
-    ensures { IfOk result (λ sent. sent ≡ write_commands held.now stores.now) }
+    ensures { IfOk result (λ sent. sent ≡ write_commands held.now stores.items) }
 {
     let mut sent = AwaitedCommands::new(alloc);
     let mut count = held.count;
     for store in stores {
-        let copy = Store {
-            ask: store.ask,
-            bytes: Bytes::copied(alloc, store.bytes.as_slice())?,
-        };
-        sent.push(awaited_for(held, true, copy, count)?)?;
+        sent.push(awaited_for(held, true, store, count)?)?;
         count += 1;
     }
     Ok(sent)

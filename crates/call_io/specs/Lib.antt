@@ -4,3 +4,4 @@ pub mod Probes
 pub mod Phases
 pub mod Steps
 pub mod Splits
+pub mod Emptied

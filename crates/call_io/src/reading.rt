@@ -1,9 +1,10 @@
 // Reads: what a read asks of the drives, and how it ends.
-ghost use Rattle.std.specs.Prelude.{◌≡◌, ◌+◌, ◌≤◌, IfOk};
+ghost use Rattle.std.specs.Prelude.{◌≡◌, ◌+◌, ◌<◌, ◌≤◌, length, slice_get, slice_set, Some, IfOk};
 ghost use Rattle.stripe_plan.specs.Plans.{columns_of};
 ghost use Rattle.client_rules.specs.Io.{outs};
 ghost use Rattle.client_rules.specs.Reads.{reads_on, reads_due, reads_sent, reads};
 ghost use Rattle.call_io.specs.Phases.{counted_move};
+ghost use Rattle.call_io.specs.Emptied.{no_column};
 
 use crate::moves::turned;
 use crate::phase::{CallIo, CallMove, CallPhase, CallTurn};
@@ -12,24 +13,46 @@ use client_rules::{AwaitedCommands, Held, Outcome};
 use data_map::{DataMap, MAX_FILE_SIZE};
 use osd_bytes::{Bytes, Memory};
 use std::alloc::Global;
+use std::mem;
 use stripe_plan::{
-    Aim, Columns, Fetched, Out, Part, PlanErr, Span, asks, assemble, check_readable,
+    Aim, Column, Columns, Fetched, Out, Part, PlanErr, Span, asks, assemble, check_readable,
 };
 
-// What was read of positions, as if of their first components. There is no such position where a reply came.
-pub fn fetched(alloc: Global, map: &DataMap, got: &Columns) -> Result<Fetched, Memory>
-    ensures { IfOk result (λ parts. columns_of map.now parts ≡ got.now) }
+// Nothing that was read.
+fn no_column(alloc: Global) -> Column
+    ensures { result ≡ no_column }
 {
+    Column {
+        position: 0,
+        offset: 0,
+        bytes: Bytes::new(alloc),
+    }
+}
+
+// What was read by one command, for which nothing is left.
+fn take_column(alloc: Global, got: &mut Columns, i: usize) -> Column
+    requires { i < length got.old }
+    ensures taken { slice_get got.old i ≡ Some result }
+    ensures left { got.new ≡ slice_set got.old i no_column }
+{
+    mem::replace(got.get_mut(i), no_column(alloc))
+}
+
+// What was read of positions, as if of their first components. There is no such position where a reply came.
+pub fn fetched(alloc: Global, map: &DataMap, got: Columns) -> Result<Fetched, Memory>
+    ensures { IfOk result (λ parts. columns_of map.now parts ≡ got) }
+{
+    let mut left = got;
     let mut parts = Fetched::new(alloc);
-    for i in 0..got.len() {
-        let column = got.get(i);
+    for i in 0..left.len() {
+        let column = take_column(alloc, &mut left, i);
         if column.position >= map.positions() {
             return Err(Memory);
         }
         parts.push(Part {
             component: map.replica(column.position, 0),
             offset: column.offset,
-            bytes: Bytes::copied(alloc, column.bytes.as_slice())?,
+            bytes: column.bytes,
         })?;
     }
     Ok(parts)
@@ -54,8 +77,9 @@ pub fn reads_on(
             sent,
         });
     }
-    let out = out_of(alloc, held, &io.timed)?;
-    let parts = fetched(alloc, &held.map, &io.got)?;
+    let CallIo { got, timed, .. } = io;
+    let out = out_of(alloc, held, &timed)?;
+    let parts = fetched(alloc, &held.map, got)?;
     match assemble(alloc, &held.map, range.offset, range.length, &parts, &out) {
         Ok(bytes) => Ok(CallMove {
             turn: CallTurn::Ends {

@@ -1,5 +1,5 @@
 // Writes: the gather, the scatter, and what follows the last WRITE.
-ghost use Rattle.std.specs.Prelude.{◌≡◌, [], ◌++◌, length, map, option_to_list, List, IfOk, OnOk};
+ghost use Rattle.std.specs.Prelude.{◌≡◌, ◌<◌, [], ◌++◌, length, map, option_to_list, slice_get, slice_set, List, Some, IfOk, OnOk};
 ghost use Rattle.stripe_plan.specs.Plans.{filled, stores, writes_of};
 ghost use Rattle.call_io.specs.State.{Column as AColumn};
 ghost use Rattle.client_rules.specs.Calls.{span_of, bytes_of};
@@ -7,6 +7,7 @@ ghost use Rattle.client_rules.specs.Io.{outs};
 ghost use Rattle.client_rules.specs.Writes.{firsts, laters, scatters_on, scatters, scatters_next, gathers_on, gathers_due, gathers, is_too_short};
 ghost use Rattle.call_io.specs.Phases.{counted_move};
 ghost use Rattle.call_io.specs.Inside.{IsInside};
+ghost use Rattle.call_io.specs.Emptied.{no_part};
 ghost use Rattle.call_io.specs.Splits.{seen_with, new_first, new_later};
 
 use crate::moves::{span_of, written};
@@ -17,24 +18,46 @@ use call_commands::{
     PendingCommands, WriteQueue, await_all, had, out_of, read_commands, write_commands,
 };
 use client_rules::{AwaitedCommands, CallOp, Held, TimedOuts};
-use osd_bytes::{Bytes, Memory, Numbers, Sequence};
+use osd_bytes::{Bytes, Memory, Numbers};
 use std::alloc::Global;
+use std::mem;
 use stripe_plan::{
-    Aim, Asks, Columns, Out, PlanErr, Span, Store, Writes, apply_and_encode, asks, check_writable,
-    plan_scatter,
+    Aim, Asks, Columns, Out, Part, PlanErr, Span, Store, Writes, apply_and_encode, asks,
+    check_writable, plan_scatter,
 };
 
-// The writes of a plan with their stripes and positions.
-fn joined(alloc: Global, asks: &Asks, writes: &Writes) -> Result<Vec<Store>, Memory>
-    requires { length writes.now ≡ length asks.now }
-    ensures { (cols : List AColumn) → writes.now ≡ writes_of cols asks.now → IfOk result (λ ws. ws.items ≡ map (filled cols) asks.now) }
+// A write without bytes.
+fn no_part(alloc: Global) -> Part
+    ensures { result ≡ no_part }
 {
+    Part {
+        component: 0,
+        offset: 0,
+        bytes: Bytes::new(alloc),
+    }
+}
+
+// A write of a plan, for which one without bytes is left.
+fn take_part(alloc: Global, writes: &mut Writes, i: usize) -> Part
+    requires { i < length writes.old }
+    ensures taken { slice_get writes.old i ≡ Some result }
+    ensures left { writes.new ≡ slice_set writes.old i no_part }
+{
+    mem::replace(writes.get_mut(i), no_part(alloc))
+}
+
+// The writes of a plan with their stripes and positions.
+fn joined(alloc: Global, asks: &Asks, writes: Writes) -> Result<Vec<Store>, Memory>
+    requires { length writes ≡ length asks.now }
+    ensures { (cols : List AColumn) → writes ≡ writes_of cols asks.now → IfOk result (λ ws. ws.items ≡ map (filled cols) asks.now) }
+{
+    let mut left = writes;
     let mut stores = Vec::new(alloc);
     for i in 0..asks.len() {
-        let bytes = Bytes::copied(alloc, writes.get(i).bytes.as_slice())?;
+        let part = take_part(alloc, &mut left, i);
         stores.push(Store {
             ask: *asks.get(i),
-            bytes,
+            bytes: part.bytes,
         })?;
     }
     Ok(stores)
@@ -46,11 +69,11 @@ fn stores(
     alloc: Global,
     held: &Held,
     op: &CallOp,
-    got: &Columns,
+    got: Columns,
     out: &Out,
 ) -> Result<Vec<Store>, Memory>
     requires inside { IsInside op.now }
-    ensures { IfOk result (λ ws. ws.items ≡ stores held.now.map (span_of op.now) (bytes_of op.now) got.now out.now.components) }
+    ensures { IfOk result (λ ws. ws.items ≡ stores held.now.map (span_of op.now) (bytes_of op.now) got out.now.components) }
 {
     let CallOp::Write { offset, bytes, .. } = op else {
         return Err(Memory);
@@ -68,18 +91,18 @@ fn stores(
         return Err(Memory);
     };
     let asks = asks(alloc, Aim::Scatters, map, range, out, &[])?;
-    joined(alloc, &asks, &writes)
+    joined(alloc, &asks, writes)
 }
 
 // A write to a component that has none is one of the first; any other is queued.
 fn place(
     store: Store,
     seen: &mut Numbers,
-    firsts: &mut Sequence<Store>,
+    firsts: &mut Vec<Store>,
     queue: &mut WriteQueue,
 ) -> Result<(), Memory>
     ensures seen { OnOk result (seen.new ≡ seen_with seen.old store.ask.component) }
-    ensures firsts { OnOk result (firsts.new ≡ firsts.old ++ new_first seen.old store) }
+    ensures firsts { OnOk result (firsts.new.items ≡ firsts.old.items ++ new_first seen.old store) }
     ensures queue { OnOk result (queue.new ≡ queue.old ++ new_later seen.old store) }
 {
     let component = store.ask.component;
@@ -87,16 +110,17 @@ fn place(
         return queue.push(store);
     }
     seen.push(component)?;
-    firsts.push(store)
+    firsts.push(store)?;
+    Ok(())
 }
 
 // The first write to each component, and a queue of the others.
-fn split(alloc: Global, stores: Vec<Store>) -> Result<(Sequence<Store>, WriteQueue), Memory>
-    ensures firsts { IfOk result (λ r. r.0 ≡ firsts [] stores.items) }
+fn split(alloc: Global, stores: Vec<Store>) -> Result<(Vec<Store>, WriteQueue), Memory>
+    ensures firsts { IfOk result (λ r. r.0.items ≡ firsts [] stores.items) }
     ensures laters { IfOk result (λ r. r.1 ≡ laters [] stores.items) }
 {
     let mut seen = Numbers::new(alloc);
-    let mut firsts = Sequence::new(alloc);
+    let mut firsts = Vec::new(alloc);
     let mut queue = WriteQueue::new(alloc);
     for store in stores {
         place(store, &mut seen, &mut firsts, &mut queue)?;
@@ -150,18 +174,18 @@ fn scatters(
     ensures { IfOk result (λ m. counted_move held.now m ≡ scatters held.now op.now got timed) }
 {
     let out = out_of(alloc, held, &timed)?;
-    let (firsts, queue) = split(alloc, stores(alloc, held, op, &got, &out)?)?;
-    let sent = write_commands(alloc, held, firsts.as_slice())?;
+    let (firsts, queue) = split(alloc, stores(alloc, held, op, got, &out)?)?;
+    let sent = write_commands(alloc, held, firsts)?;
     let mut pending = PendingCommands::new(alloc);
     await_all(alloc, &mut pending, &sent)?;
     Ok(scatters_on(alloc, held, op, timed, queue, sent, pending))
 }
 
 // The list of a write, or of none.
-fn one_or_none(alloc: Global, write: Option<Store>) -> Result<Sequence<Store>, Memory>
-    ensures { IfOk result (λ ws. ws ≡ option_to_list write) }
+fn one_or_none(alloc: Global, write: Option<Store>) -> Result<Vec<Store>, Memory>
+    ensures { IfOk result (λ ws. ws.items ≡ option_to_list write) }
 {
-    let mut writes = Sequence::new(alloc);
+    let mut writes = Vec::new(alloc);
     if let Some(one) = write {
         writes.push(one)?;
     }
@@ -185,7 +209,7 @@ pub fn scatters_next(
     let CallIo { pending, timed, .. } = io;
     let mut pending = pending;
     let next = one_or_none(alloc, queue.take_next(component))?;
-    let sent = write_commands(alloc, held, next.as_slice())?;
+    let sent = write_commands(alloc, held, next)?;
     await_all(alloc, &mut pending, &sent)?;
     Ok(scatters_on(alloc, held, op, timed, queue, sent, pending))
 }

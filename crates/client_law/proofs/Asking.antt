@@ -90,7 +90,7 @@ asks_under_asked n o d op need None e q = requests_asked n o (phased d op (Waits
 asks_under_asked n o d op need (Some h) e q = requests_asked n o (phased d op (Waits need)) (file_of op) (args_of h op need) e (phased_quiet n o d op (Waits need) q)
 
 returns_asked : (n : ℕ) (o : Option Request) (d : Done) (u : Option Due) → o ≡ None → IsQuiet n o d → AskedBy n o (returns d u)
-returns_asked n o d None e q = inl q
+returns_asked n o d None e q = inl (record { requests = q.requests; outstanding = q.outstanding; next = q.next })
 returns_asked n o d (Some u) e q = requests_asked n o _ u.file (return_args u.number []) e (record { requests = q.requests; outstanding = q.outstanding; next = q.next })
 
 returns_due_asked : (n : ℕ) (o : Option Request) (d : Done) → o ≡ None → IsQuiet n o d → AskedBy n o (returns_due d)

@@ -137,7 +137,7 @@ asks_under_counts before xs d op n None k = requests_counts before xs (phased d 
 asks_under_counts before xs d op n (Some h) k = requests_counts before xs (phased d op (Waits n)) (file_of op) (args_of h op n) (phased_counts before xs d op (Waits n) tt k)
 
 returns_counts : (before xs : List ℕ) (d : Done) (o : Option Due) → IsCounting before xs d → IsCounting before xs (returns d o)
-returns_counts before xs d None k = k
+returns_counts before xs d None k = record { holds = k.holds; fair = k.fair }
 returns_counts before xs d (Some u) k = requests_counts before xs _ u.file (return_args u.number []) (record { holds = k.holds; fair = k.fair })
 
 returns_due_counts : (before xs : List ℕ) (d : Done) → IsCounting before xs d → IsCounting before xs (returns_due d)

@@ -198,7 +198,7 @@ asks_under_good Fit d op n (Some h) got w g = record { checked = after_checked d
 
 returns_good : (Fit : List ℕ → Type 0) (d : Done) (o : Option Due) (got : List Column) → d.client.call ≡ None → GoodDone Fit d got → GoodDone Fit (returns d o) got
 unfolding requests
-returns_good Fit d None got e g = g
+returns_good Fit d None got e g = record { checked = g.checked; call = g.call; outcome = g.outcome }
 returns_good Fit d (Some u) got e g = record { checked = after_checked d.client.held u.file (return_args u.number []) g.checked; call = rw e tt; outcome = g.outcome }
 
 returns_due_good : (Fit : List ℕ → Type 0) (d : Done) (got : List Column) → d.client.call ≡ None → GoodDone Fit d got → GoodDone Fit (returns_due d) got

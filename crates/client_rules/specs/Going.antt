@@ -133,9 +133,9 @@ unfoldable pub due_behind : List Held → List Due → List Due
 due_behind hs [] = []
 due_behind hs (u ∷ us) = if is_held hs u then us else due_behind hs us
 
--- it goes back clean
+-- it goes back clean; where none is held the entries count for nothing, and none is kept
 abbrev pub returns : Done → Option Due → Done
-returns d None = d
+returns d None = record d { client = record d.client { due = [] } }
 returns d (Some u) = requests (record d { client = record d.client { due = due_behind d.client.held d.client.due } })
     u.file (return_args u.number [])
 

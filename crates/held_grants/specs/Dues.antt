@@ -1,12 +1,12 @@
 -- The first grant that is due and still held.
-use Rattle.std.specs.Prelude.{ℕ, List, Option, Some, None, ◌≡◌, ◌<◌, ◌+◌, drop, find, length, slice_get}
+use Rattle.std.specs.Prelude.{ℕ, List, [], Option, Some, None, ◌≡◌, ◌<◌, ◌+◌, drop, find, length, slice_get}
 use Rattle.client_rules.specs.declared.grants.Held.{Held}
 use Rattle.client_rules.specs.declared.grants.Due.{Due}
 use Rattle.client_rules.specs.Going.{is_held, due_behind}
 
 -- what is due once it is taken
 abbrev pub dues_left : List Held → List Due → Option Due → List Due
-dues_left hs us None = us
+dues_left hs us None = []
 dues_left hs us (Some u) = due_behind hs us
 
 -- it stands at this index

@@ -50,8 +50,8 @@ fn first_held(dues: &[Due], held: &HeldGrants) -> Option<usize>
     None
 }
 
-/// Takes out the first grant that is due and still held, and those before it, which count for nothing. Where there is
-/// none nothing changes.
+/// Takes out the first grant that is due and still held, and those before it, which count for nothing; where there is
+/// none, all of them.
 pub fn take_due(alloc: Global, dues: &mut Dues, held: &HeldGrants) -> Result<Option<Due>, Memory>
     ensures found { IfOk result (λ due. due ≡ find (is_held held.now) dues.old) }
     ensures left { IfOk result (λ due. dues.new ≡ dues_left held.now dues.old due) }
@@ -64,6 +64,9 @@ pub fn take_due(alloc: Global, dues: &mut Dues, held: &HeldGrants) -> Result<Opt
             *dues = Dues::copied(alloc, behind)?;
             Ok(Some(due))
         }
-        None => Ok(None),
+        None => {
+            *dues = Dues::new(alloc);
+            Ok(None)
+        }
     }
 }

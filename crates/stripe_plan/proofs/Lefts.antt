@@ -8,7 +8,7 @@ use Rattle.stripe_plan.specs.declared.plan.Stretch.{Stretch}
 use Rattle.stripe_plan.specs.Asks.{some_of, before, behind, cut, without}
 
 -- of no bytes none is left
-empty : (ts : List Stretch) (p : ℕ) (i : Interval) → i.end ≤ i.first → without ts p i ≡ []
+pub empty : (ts : List Stretch) (p : ℕ) (i : Interval) → i.end ≤ i.first → without ts p i ≡ []
 unfolding without
 empty [] p i le = rw (le-ltb i.first i.end le) refl
 empty (t ∷ ts) p i le = elim (cases_eq t.position p) [

@@ -6,3 +6,4 @@ pub mod Words
 pub mod Encoded
 pub mod Plans
 pub mod Laws
+pub mod Indexed

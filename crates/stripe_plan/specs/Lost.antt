@@ -1,5 +1,5 @@
 -- Components that are out, and the positions that are out with them.
-use Rattle.std.specs.Prelude.{ℕ, zero, suc, ◌+◌, ◌*◌, ◌==◌, nat_lt, Bool, false, ◌&&◌, ◌||◌, if◌then◌else◌}
+use Rattle.std.specs.Prelude.{ℕ, zero, suc, ◌+◌, ◌*◌, ◌/◌, ◌==◌, nat_lt, Bool, false, ◌&&◌, ◌||◌, if◌then◌else◌}
 use Rattle.std.specs.Prelude.{List, [], ◌∷◌, length, Option, Some, None, is_none}
 use Rattle.std.specs.List.{list_any}
 use Rattle.data_map.specs.declared.check.RawMap.{RawMap}
@@ -65,3 +65,7 @@ unfoldable pub unwritable : RawMap → List ℕ → List ℕ → Option (List �
 unwritable m out [] = None
 unwritable m out (s ∷ ss) =
     if is_short m out s then Some (positions_out m out (group_of m s)) else unwritable m out ss
+
+-- how many turns of groups were before that of a stripe
+abbrev pub turn_of : RawMap → (s : ℕ) → ℕ
+turn_of m s = if m.width == 0 then 0 else s / m.depth

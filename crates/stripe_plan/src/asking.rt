@@ -3,12 +3,14 @@ ghost use Rattle.std.specs.Prelude.{◌≡◌, ◌+◌, ◌<◌, ◌≤◌, ◌+
 ghost use Rattle.data_map.specs.Striping.{group_width, positions};
 ghost use Rattle.stripe_plan.specs.declared.plan.Aim.TheVariants.{Reads, Scatters};
 ghost use Rattle.stripe_plan.specs.Touched.{stripes};
+ghost use Rattle.stripe_plan.specs.Indexed.{Indexes};
 ghost use Rattle.stripe_plan.specs.Asks.{asks_of, asks_position, asks_place, asks_stripe, asks};
 
-use crate::left::left_of_each;
+use crate::left::{index_stretches, left_of_each};
 use crate::lost::{is_among, source};
 use crate::needed::needed;
 use crate::plan::{Aim, Ask, Asks, Interval, Out, Span, Stretch};
+use crate::row_index::RowIndex;
 use crate::touched::touched_stripes;
 use data_map::{DataMap, MAX_FILE_SIZE};
 use osd_bytes::Memory;
@@ -87,19 +89,21 @@ fn push_place(
     range: Span,
     out: &Out,
     had: &[Stretch],
+    index: &RowIndex,
     stripe: u64,
     place: u32,
 ) -> Result<(), Memory>
     requires inside { range.offset + range.length ≤ MAX_FILE_SIZE }
     requires stripe { stripe ≤ MAX_FILE_SIZE }
     requires place { place < group_width map.now }
+    requires index { Indexes had.now index.now }
     ensures { OnOk result (asks.new ≡ asks.old
         ++ asks_place aim map.now range out.now.components had.now stripe place) }
 {
     let unit = map.unit_in(stripe, place);
     let position = map.group(stripe) * map.group_width() + place;
     let columns = needed(alloc, aim, map, range, out, stripe, unit)?;
-    let left = left_of_each(alloc, map, had, stripe, position, columns.as_slice())?;
+    let left = left_of_each(alloc, map, had, index, stripe, position, columns.as_slice())?;
     match aim {
         Aim::Reads | Aim::Gathers => push_source(asks, map, out, stripe, position, left.as_slice()),
         Aim::Scatters => push_each(asks, map, out, stripe, position, left.as_slice()),
@@ -115,15 +119,17 @@ fn push_stripe(
     range: Span,
     out: &Out,
     had: &[Stretch],
+    index: &RowIndex,
     stripe: u64,
 ) -> Result<(), Memory>
     requires inside { range.offset + range.length ≤ MAX_FILE_SIZE }
     requires stripe { stripe ≤ MAX_FILE_SIZE }
+    requires index { Indexes had.now index.now }
     ensures { OnOk result (asks.new ≡ asks.old
         ++ asks_stripe aim map.now range out.now.components had.now stripe 0 (group_width map.now)) }
 {
     for place in 0..map.group_width() {
-        push_place(asks, alloc, aim, map, range, out, had, stripe, place)?;
+        push_place(asks, alloc, aim, map, range, out, had, index, stripe, place)?;
     }
     Ok(())
 }
@@ -142,10 +148,11 @@ pub fn asks(
     requires { range.offset + range.length ≤ MAX_FILE_SIZE }
     ensures { IfOk result (λ xs. xs ≡ asks aim map.now range out.now.components had.now (stripes map.now range)) }
 {
+    let index = index_stretches(alloc, map, had)?;
     let (first, end) = touched_stripes(map, range);
     let mut all = Asks::new(alloc);
     for stripe in first..end {
-        push_stripe(&mut all, alloc, aim, map, range, out, had, stripe)?;
+        push_stripe(&mut all, alloc, aim, map, range, out, had, &index, stripe)?;
     }
     Ok(all)
 }

@@ -7,10 +7,12 @@ ghost use Rattle.stripe_plan.specs.Parity.{p_exchanged, q_exchanged};
 ghost use Rattle.stripe_plan.specs.Words.{got_in};
 ghost use Rattle.stripe_plan.specs.Encoded.{changed_parity, Exchanged, HasParity, UnitChanged};
 ghost use Rattle.stripe_plan.specs.Plans.{columns_of};
+ghost use Rattle.stripe_plan.specs.Indexed.{stretches_of, Indexes};
 
 use crate::encoding::new_part;
 use crate::laying::zeros;
 use crate::plan::{Fetched, Interval, Span};
+use crate::row_index::RowIndex;
 use crate::rows::{code_of, got_in};
 use crate::touched::own_columns;
 use data_map::{DataMap, MAX_FILE_SIZE};
@@ -39,6 +41,7 @@ fn change_unit(
     range: Span,
     bytes: &[u8],
     got: &Fetched,
+    index: &RowIndex,
     stripe: u64,
     unit: u32,
     columns: Interval,
@@ -52,6 +55,7 @@ fn change_unit(
     requires low { IsLow columns }
     requires p { length p.old ≡ columns.end - columns.first }
     requires q { length q.old ≡ columns.end - columns.first }
+    requires index { Indexes (stretches_of (columns_of map.now got.now)) index.now }
     ensures p { 0 < parities map.now → OnOk result
         (UnitChanged map.now range bytes.now (columns_of map.now got.now) stripe unit 0 columns p.old p.new) }
     ensures q { 1 < parities map.now → OnOk result
@@ -65,7 +69,7 @@ fn change_unit(
         end: own.end.min(columns.end),
     };
     if both.first < both.end {
-        let old = got_in(alloc, map, got, stripe, unit, both)?;
+        let old = got_in(alloc, map, got, index, stripe, unit, both)?;
         let new = new_part(map, range, bytes, stripe, unit, both);
         let at = (both.first - columns.first) as usize;
         change_at(code_of(map), unit, old.as_slice(), new, p, q, at);
@@ -80,6 +84,7 @@ pub(crate) fn changed_parity(
     range: Span,
     bytes: &[u8],
     got: &Fetched,
+    index: &RowIndex,
     stripe: u64,
     columns: Interval,
 ) -> Result<Rows, Memory>
@@ -88,12 +93,13 @@ pub(crate) fn changed_parity(
     requires stripe { stripe ≤ MAX_FILE_SIZE }
     requires low { IsLow columns }
     requires some { 0 < parities map.now }
+    requires index { Indexes (stretches_of (columns_of map.now got.now)) index.now }
     ensures { IfOk result (HasParity (parities map.now) columns
         (changed_parity map.now range bytes.now (columns_of map.now got.now) stripe)) }
 {
     let units = map.data_units();
-    let mut p = got_in(alloc, map, got, stripe, units, columns)?;
-    let mut q = second_parity(alloc, map, got, stripe, columns)?;
+    let mut p = got_in(alloc, map, got, index, stripe, units, columns)?;
+    let mut q = second_parity(alloc, map, got, index, stripe, columns)?;
     for unit in 0..units {
         change_unit(
             alloc,
@@ -101,6 +107,7 @@ pub(crate) fn changed_parity(
             range,
             bytes,
             got,
+            index,
             stripe,
             unit,
             columns,
@@ -130,17 +137,27 @@ fn second_parity(
     alloc: Global,
     map: &DataMap,
     got: &Fetched,
+    index: &RowIndex,
     stripe: u64,
     columns: Interval,
 ) -> Result<Bytes, Memory>
     requires stripe { stripe ≤ MAX_FILE_SIZE }
     requires low { IsLow columns }
+    requires index { Indexes (stretches_of (columns_of map.now got.now)) index.now }
     ensures long { IfOk result (λ q. length q ≡ columns.end - columns.first) }
     ensures got { 1 < parities map.now → IfOk result
         (λ q. q ≡ got_in map.now (columns_of map.now got.now) stripe (data_units map.now + 1) columns) }
 {
     if map.parities() == 2 {
-        let q = got_in(alloc, map, got, stripe, map.data_units() + 1, columns)?;
+        let q = got_in(
+            alloc,
+            map,
+            got,
+            index,
+            stripe,
+            map.data_units() + 1,
+            columns,
+        )?;
         return Ok(q);
     }
     zeros(alloc, columns.end.saturating_sub(columns.first))

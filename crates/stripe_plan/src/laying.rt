@@ -1,9 +1,11 @@
 // Bytes of positions, taken out of the parts that have them.
-ghost use Rattle.std.specs.Prelude.{◌≡◌, replicate, IfOk};
+ghost use Rattle.std.specs.Prelude.{◌≡◌, ◌+◌, ◌<◌, replicate, IfOk};
 ghost use Rattle.stripe_plan.specs.Plans.{part_column, columns_of};
 ghost use Rattle.stripe_plan.specs.Words.{bytes_at, Laid, LaidColumn};
+ghost use Rattle.stripe_plan.specs.Indexed.{stretches_of, Indexes, Sifts};
 
 use crate::plan::{Column, Part};
+use crate::row_index::RowIndex;
 use data_map::DataMap;
 use osd_bytes::{Bytes, Memory, put_at};
 use std::alloc::Global;
@@ -53,37 +55,112 @@ pub(crate) fn zeros(alloc: Global, len: u64) -> Result<Bytes, Memory>
     Ok(bytes)
 }
 
-// The bytes of a position from an offset on; of those that no column has, 0.
-pub(crate) fn bytes_of(
+// Columns by the row that they lie in.
+pub(crate) fn index_columns(
+    alloc: Global,
+    unit: u64,
+    columns: &[Column],
+) -> Result<RowIndex, Memory>
+    requires { 0 < unit }
+    ensures { IfOk result (Indexes (stretches_of columns.now)) }
+{
+    let mut index = RowIndex::new(alloc, unit, columns.len())?;
+    for column in columns {
+        let end = u128::from(column.offset) + column.bytes.len() as u128;
+        index.push(column.position, column.offset, end)?;
+    }
+    Ok(index)
+}
+
+// What was fetched of components, by position and row.
+pub(crate) fn index_parts(alloc: Global, map: &DataMap, parts: &[Part]) -> Result<RowIndex, Memory>
+    ensures { IfOk result (Indexes (stretches_of (columns_of map.now parts.now))) }
+{
+    map.known();
+    let mut index = RowIndex::new(alloc, map.raw().unit, parts.len())?;
+    for part in parts {
+        let end = u128::from(part.offset) + part.bytes.len() as u128;
+        index.push(part.component / map.replicas(), part.offset, end)?;
+    }
+    Ok(index)
+}
+
+// The bytes of a position from an offset on, out of the columns of these numbers, among which are all that have any; of
+// those that no column has, 0.
+#[tactic(auto, using(crate::proofs::Picking::picked_below))]
+fn laid_columns(
     alloc: Global,
     columns: &[Column],
+    numbers: &[usize],
     position: u32,
     offset: u64,
     len: u64,
 ) -> Result<Bytes, Memory>
+    requires { Sifts position (record { first = offset; end = offset + len }) (stretches_of columns.now) 0 numbers.now }
     ensures { IfOk result (λ bytes. bytes ≡ bytes_at columns.now position offset len) }
 {
     let mut bytes = zeros(alloc, len)?;
-    for i in (0..columns.len()).rev() {
-        lay_column(bytes.as_mut_slice(), offset, position, &columns[i]);
+    for i in (0..numbers.len()).rev() {
+        let number = numbers[i];
+        lay_column(bytes.as_mut_slice(), offset, position, &columns[number]);
     }
     Ok(bytes)
 }
 
-// The same out of what was fetched of components.
-pub(crate) fn fetched_bytes(
+// The bytes of a position from an offset on; of those that no column has, 0.
+pub(crate) fn bytes_of(
     alloc: Global,
-    map: &DataMap,
-    parts: &[Part],
+    columns: &[Column],
+    index: &RowIndex,
     position: u32,
     offset: u64,
     len: u64,
 ) -> Result<Bytes, Memory>
+    requires { Indexes (stretches_of columns.now) index.now }
+    ensures { IfOk result (λ bytes. bytes ≡ bytes_at columns.now position offset len) }
+{
+    let numbers = index.find(position, offset, u128::from(offset) + u128::from(len));
+    let bytes = laid_columns(alloc, columns, numbers, position, offset, len)?;
+    Ok(bytes)
+}
+
+// The same out of what was fetched of components, of these numbers.
+#[tactic(auto, using(crate::proofs::Picking::part_below))]
+fn laid_parts(
+    alloc: Global,
+    map: &DataMap,
+    parts: &[Part],
+    numbers: &[usize],
+    position: u32,
+    offset: u64,
+    len: u64,
+) -> Result<Bytes, Memory>
+    requires { Sifts position (record { first = offset; end = offset + len })
+        (stretches_of (columns_of map.now parts.now)) 0 numbers.now }
     ensures { IfOk result (λ bytes. bytes ≡ bytes_at (columns_of map.now parts.now) position offset len) }
 {
     let mut bytes = zeros(alloc, len)?;
-    for i in (0..parts.len()).rev() {
-        lay_part(bytes.as_mut_slice(), map, offset, position, &parts[i]);
+    for i in (0..numbers.len()).rev() {
+        let number = numbers[i];
+        lay_part(bytes.as_mut_slice(), map, offset, position, &parts[number]);
     }
+    Ok(bytes)
+}
+
+// The same out of all that was fetched of components.
+pub(crate) fn fetched_bytes(
+    alloc: Global,
+    map: &DataMap,
+    parts: &[Part],
+    index: &RowIndex,
+    position: u32,
+    offset: u64,
+    len: u64,
+) -> Result<Bytes, Memory>
+    requires { Indexes (stretches_of (columns_of map.now parts.now)) index.now }
+    ensures { IfOk result (λ bytes. bytes ≡ bytes_at (columns_of map.now parts.now) position offset len) }
+{
+    let numbers = index.find(position, offset, u128::from(offset) + u128::from(len));
+    let bytes = laid_parts(alloc, map, parts, numbers, position, offset, len)?;
     Ok(bytes)
 }

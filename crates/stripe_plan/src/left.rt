@@ -4,8 +4,10 @@ ghost use Rattle.std.specs.List.{All};
 ghost use Rattle.data_map.specs.Striping.{row_of};
 ghost use Rattle.stripe_plan.specs.Touched.{IsLow};
 ghost use Rattle.stripe_plan.specs.Asks.{at_row, at_rows, without, without_each, cut, some_of};
+ghost use Rattle.stripe_plan.specs.Indexed.{Indexes, Sifts};
 
 use crate::plan::{Interval, Intervals, Stretch};
+use crate::row_index::RowIndex;
 use data_map::{DataMap, MAX_FILE_SIZE, MAX_STRIPE_UNIT};
 use osd_bytes::Memory;
 use std::alloc::Global;
@@ -53,22 +55,59 @@ fn cut(alloc: Global, stretch: Stretch, intervals: &[Interval]) -> Result<Interv
     Ok(left)
 }
 
-// The bytes of an interval of a position that aren't had.
-fn left_of(
+// The stretches that are had, by the row that they lie in.
+pub(crate) fn index_stretches(
+    alloc: Global,
+    map: &DataMap,
+    had: &[Stretch],
+) -> Result<RowIndex, Memory>
+    ensures { IfOk result (Indexes had.now) }
+{
+    map.known();
+    let mut index = RowIndex::new(alloc, map.raw().unit, had.len())?;
+    for stretch in had {
+        index.push(stretch.position, stretch.first, u128::from(stretch.end))?;
+    }
+    Ok(index)
+}
+
+// The bytes of an interval of a position that aren't had, by the stretches of these numbers, among which are all that
+// have any of them.
+#[tactic(auto, using(crate::proofs::Picking::chosen_below))]
+fn left_among(
     alloc: Global,
     had: &[Stretch],
+    numbers: &[usize],
     position: u32,
     interval: Interval,
 ) -> Result<Intervals, Memory>
+    requires { Sifts position interval had.now 0 numbers.now }
     ensures { IfOk result (λ is. is ≡ without had.now position interval) }
 {
     let mut left = Intervals::new(alloc);
     push_some(&mut left, interval)?;
-    for stretch in had {
+    for number in numbers {
+        let stretch = had[*number];
         if stretch.position == position {
-            left = cut(alloc, *stretch, left.as_slice())?;
+            left = cut(alloc, stretch, left.as_slice())?;
         }
     }
+    Ok(left)
+}
+
+// The bytes of an interval of a position that aren't had.
+fn left_of(
+    alloc: Global,
+    had: &[Stretch],
+    index: &RowIndex,
+    position: u32,
+    interval: Interval,
+) -> Result<Intervals, Memory>
+    requires { Indexes had.now index.now }
+    ensures { IfOk result (λ is. is ≡ without had.now position interval) }
+{
+    let numbers = index.find(position, interval.first, u128::from(interval.end));
+    let left = left_among(alloc, had, numbers, position, interval)?;
     Ok(left)
 }
 
@@ -78,17 +117,19 @@ pub(crate) fn left_of_each(
     alloc: Global,
     map: &DataMap,
     had: &[Stretch],
+    index: &RowIndex,
     stripe: u64,
     position: u32,
     columns: &[Interval],
 ) -> Result<Intervals, Memory>
     requires stripe { stripe ≤ MAX_FILE_SIZE }
     requires low { All IsLow columns.now }
+    requires index { Indexes had.now index.now }
     ensures { IfOk result (λ is. is ≡ without_each had.now position (at_rows map.now stripe columns.now)) }
 {
     let mut all = Intervals::new(alloc);
     for interval in columns {
-        let left = left_of(alloc, had, position, at_row(map, stripe, *interval))?;
+        let left = left_of(alloc, had, index, position, at_row(map, stripe, *interval))?;
         all.extend_from_slice(left.as_slice())?;
     }
     Ok(all)

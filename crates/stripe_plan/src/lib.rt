@@ -16,6 +16,7 @@ mod needed;
 mod plan;
 mod plans;
 mod reading;
+mod row_index;
 mod rows;
 mod touched;
 mod whole;

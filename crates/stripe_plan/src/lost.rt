@@ -1,9 +1,9 @@
 // The positions that are out, and the stripes that lack too many.
-ghost use Rattle.std.specs.Prelude.{◌≡◌, ◌+◌, ◌-◌, ◌*◌, ◌<◌, ◌≤◌, ◌&&◌, IfOk, IfSome};
+ghost use Rattle.std.specs.Prelude.{◌≡◌, ℕ, ◌+◌, ◌-◌, ◌*◌, ◌<◌, ◌≤◌, ◌&&◌, IfOk, IfSome};
 ghost use Rattle.std.specs.List.{range_with_len};
 ghost use Rattle.data_map.specs.Striping.{group_width, group_of, positions, position_of, data_units};
 ghost use Rattle.stripe_plan.specs.Touched.{stripes, touches};
-ghost use Rattle.stripe_plan.specs.Lost.{among, source, is_out, positions_out, when, is_short, is_hit};
+ghost use Rattle.stripe_plan.specs.Lost.{among, source, is_out, positions_out, when, is_short, is_hit, turn_of};
 ghost use Rattle.stripe_plan.specs.Lost.{unreadable, unwritable};
 ghost use Rattle.stripe_plan.specs.Plans.{unless_lost, Gives};
 
@@ -144,17 +144,40 @@ pub fn check_readable(alloc: Global, map: &DataMap, range: Span, out: &Out) -> R
     Ok(())
 }
 
+// The first stripe behind a stripe at which the next group has its turn, or `end` where none has before.
+fn next_turn(map: &DataMap, stripe: u64, end: u64) -> u64
+    requires { (stripe < end) × (end ≤ MAX_FILE_SIZE) }
+    ensures above { (stripe < result) × (result ≤ end) }
+    ensures same { (s : ℕ) → stripe ≤ s → s < result → turn_of map.now s ≡ turn_of map.now stripe }
+    ensures turn { result < end → turn_of map.now result ≡ turn_of map.now stripe + 1 }
+{
+    map.known();
+    let raw = map.raw();
+    if raw.width == 0 {
+        return end;
+    }
+    let depth = u64::from(raw.depth);
+    end.min((stripe / depth + 1) * depth)
+}
+
 /// Whether a range can be written: that no touched stripe has more positions out than it has parity, else
-/// `TooManyLost` of the first that has.
+/// `TooManyLost` of the first that has. It looks at one stripe of each group at most.
 pub fn check_writable(alloc: Global, map: &DataMap, range: Span, out: &Out) -> Result<(), PlanErr>
     requires { range.offset + range.length ≤ MAX_FILE_SIZE }
     ensures { Gives (unless_lost (unwritable map.now out.now.components (stripes map.now range)) tt) result }
 {
+    map.known();
+    let groups = map.groups();
     let (first, end) = touched_stripes(map, range);
-    for stripe in first..end {
+    let mut stripe = first;
+    for _ in 0..groups {
+        if stripe >= end {
+            return Ok(());
+        }
         if let Some(positions) = excess(alloc, map, out, stripe)? {
             return Err(PlanErr::TooManyLost { positions });
         }
+        stripe = next_turn(map, stripe, end);
     }
     Ok(())
 }

@@ -4,7 +4,7 @@ ghost use Rattle.stripe_plan.specs.Plans.{gathers, pieces_of, plan_gather, plan_
 ghost use Rattle.stripe_plan.specs.Plans.{span, writes_of, Gives};
 
 use crate::asking::asks;
-use crate::laying::bytes_of;
+use crate::laying::{bytes_of, index_columns};
 use crate::lost::{check_readable, check_writable};
 use crate::plan::{Aim, Asks, Columns, Out, Part, Piece, Pieces, PlanErr, Span, Writes};
 use data_map::{DataMap, MAX_FILE_SIZE};
@@ -89,14 +89,17 @@ pub fn plan_gather(
 }
 
 // The bytes that each write has of these columns.
-fn filled(alloc: Global, asks: &Asks, columns: &Columns) -> Result<Writes, Memory>
+fn filled(alloc: Global, map: &DataMap, asks: &Asks, columns: &Columns) -> Result<Writes, Memory>
     ensures { IfOk result (λ ws. ws ≡ writes_of columns.now asks.now) }
 {
+    map.known();
+    let index = index_columns(alloc, map.raw().unit, columns.as_slice())?;
     let mut writes = Writes::new(alloc);
     for ask in asks.as_slice() {
         let bytes = bytes_of(
             alloc,
             columns.as_slice(),
+            &index,
             ask.position,
             ask.offset,
             ask.length,
@@ -134,6 +137,7 @@ pub fn plan_scatter(
     check_writable(alloc, map, range, out)?;
     Ok(filled(
         alloc,
+        map,
         &asks(alloc, Aim::Scatters, map, range, out, &[])?,
         columns,
     )?)

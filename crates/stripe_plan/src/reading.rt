@@ -6,9 +6,12 @@ ghost use Rattle.stripe_plan.specs.Lost.{unreadable};
 ghost use Rattle.stripe_plan.specs.Words.{answered_between, answered_in, lost_from, IsDecodable};
 ghost use Rattle.stripe_plan.specs.Plans.{assemble, columns_of, span, Gives};
 ghost use Rattle.stripe_plan.specs.Laws.{FollowsRead};
+ghost use Rattle.stripe_plan.specs.Indexed.{stretches_of, Indexes};
 
+use crate::laying::index_parts;
 use crate::lost::{check_readable, is_out};
 use crate::plan::{Fetched, Interval, Out, PlanErr, Span};
+use crate::row_index::RowIndex;
 use crate::rows::{decoded_rows, got_in};
 use crate::touched::{own_columns, touched_stripes};
 use data_map::{DataMap, MAX_FILE_SIZE};
@@ -20,6 +23,7 @@ fn answered_in(
     alloc: Global,
     map: &DataMap,
     got: &Fetched,
+    index: &RowIndex,
     out: &Out,
     stripe: u64,
     unit: u32,
@@ -29,14 +33,15 @@ fn answered_in(
     requires unit { unit < data_units map.now }
     requires low { IsLow columns }
     requires few { IsDecodable map.now out.now.components stripe unit }
+    requires index { Indexes (stretches_of (columns_of map.now got.now)) index.now }
     ensures { IfOk result (λ bytes. bytes
         ≡ answered_in map.now (columns_of map.now got.now) out.now.components stripe unit columns) }
 {
     if is_out(map, out, map.position(stripe, unit)) {
-        let rows = decoded_rows(alloc, map, got, out, stripe, columns)?;
+        let rows = decoded_rows(alloc, map, got, index, out, stripe, columns)?;
         return Bytes::copied(alloc, rows.get(unit as usize).as_slice());
     }
-    got_in(alloc, map, got, stripe, unit, columns)
+    got_in(alloc, map, got, index, stripe, unit, columns)
 }
 
 // The bytes of a stripe that are in the range.
@@ -46,6 +51,7 @@ fn append_stripe(
     map: &DataMap,
     range: Span,
     got: &Fetched,
+    index: &RowIndex,
     out: &Out,
     stripe: u64,
 ) -> Result<(), Memory>
@@ -54,6 +60,7 @@ fn append_stripe(
     requires stripe { stripe ≤ MAX_FILE_SIZE }
     requires touched { IsTouchedStripe map.now range stripe }
     requires readable { unreadable map.now range out.now.components (stripes map.now range) ≡ None }
+    requires index { Indexes (stretches_of (columns_of map.now got.now)) index.now }
     ensures { OnOk result (answer.new ≡ answer.old
         ++ answered_between map.now (columns_of map.now got.now) out.now.components
         (clamped range (stripe * stripe_length map.now)) (clamped range ((stripe + 1) * stripe_length map.now))) }
@@ -62,7 +69,7 @@ fn append_stripe(
     for unit in 0..map.data_units() {
         let own = own_columns(map, range, stripe, unit);
         if own.first < own.end {
-            let bytes = answered_in(alloc, map, got, out, stripe, unit, own)?;
+            let bytes = answered_in(alloc, map, got, index, out, stripe, unit, own)?;
             answer.extend_from_slice(bytes.as_slice())?;
         }
     }
@@ -93,10 +100,11 @@ pub fn assemble(
     };
     map.known();
     check_readable(alloc, map, range, out)?;
+    let index = index_parts(alloc, map, got.as_slice())?;
     let (first, end) = touched_stripes(map, range);
     let mut answer = Bytes::new(alloc);
     for stripe in first..end {
-        append_stripe(&mut answer, alloc, map, range, got, out, stripe)?;
+        append_stripe(&mut answer, alloc, map, range, got, &index, out, stripe)?;
     }
     Ok(answer)
 }

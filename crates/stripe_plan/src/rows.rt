@@ -4,10 +4,12 @@ ghost use Rattle.data_map.specs.Striping.{group_width, parities};
 ghost use Rattle.stripe_plan.specs.Touched.{IsLow};
 ghost use Rattle.stripe_plan.specs.Words.{code_of, got_in, known_in, known_rows, lost_from, decoded_at, HasColumns};
 ghost use Rattle.stripe_plan.specs.Plans.{columns_of};
+ghost use Rattle.stripe_plan.specs.Indexed.{stretches_of, Indexes};
 
 use crate::laying::{fetched_bytes, zeros};
 use crate::lost::is_out;
 use crate::plan::{Fetched, Interval, Out};
+use crate::row_index::RowIndex;
 use data_map::{DataMap, MAX_FILE_SIZE, RAID_0, RAID_PQ};
 use osd_bytes::{Bytes, Memory, Numbers, Rows};
 use parity_code::{Code, decode};
@@ -29,6 +31,7 @@ pub(crate) fn got_in(
     alloc: Global,
     map: &DataMap,
     got: &Fetched,
+    index: &RowIndex,
     stripe: u64,
     unit: u32,
     columns: Interval,
@@ -36,6 +39,7 @@ pub(crate) fn got_in(
     requires stripe { stripe ≤ MAX_FILE_SIZE }
     requires unit { unit < group_width map.now }
     requires low { IsLow columns }
+    requires index { Indexes (stretches_of (columns_of map.now got.now)) index.now }
     ensures { IfOk result (λ bytes. bytes ≡ got_in map.now (columns_of map.now got.now) stripe unit columns) }
 {
     let offset = map.row(stripe) * map.raw().unit + columns.first;
@@ -44,6 +48,7 @@ pub(crate) fn got_in(
         alloc,
         map,
         got.as_slice(),
+        index,
         map.position(stripe, unit),
         offset,
         len,
@@ -55,6 +60,7 @@ fn known_in(
     alloc: Global,
     map: &DataMap,
     got: &Fetched,
+    index: &RowIndex,
     out: &Out,
     stripe: u64,
     unit: u32,
@@ -63,13 +69,14 @@ fn known_in(
     requires stripe { stripe ≤ MAX_FILE_SIZE }
     requires unit { unit < group_width map.now }
     requires low { IsLow columns }
+    requires index { Indexes (stretches_of (columns_of map.now got.now)) index.now }
     ensures { IfOk result (λ bytes. bytes
         ≡ known_in map.now (columns_of map.now got.now) out.now.components stripe columns unit) }
 {
     if is_out(map, out, map.position(stripe, unit)) {
         return zeros(alloc, columns.end.saturating_sub(columns.first));
     }
-    got_in(alloc, map, got, stripe, unit, columns)
+    got_in(alloc, map, got, index, stripe, unit, columns)
 }
 
 // The units of a stripe whose positions are out, rising.
@@ -90,18 +97,20 @@ fn known_rows(
     alloc: Global,
     map: &DataMap,
     got: &Fetched,
+    index: &RowIndex,
     out: &Out,
     stripe: u64,
     columns: Interval,
 ) -> Result<Rows, Memory>
     requires stripe { stripe ≤ MAX_FILE_SIZE }
     requires low { IsLow columns }
+    requires index { Indexes (stretches_of (columns_of map.now got.now)) index.now }
     ensures { IfOk result (λ rows. rows
         ≡ known_rows map.now (columns_of map.now got.now) out.now.components stripe columns) }
 {
     let mut rows = Rows::new(alloc);
     for unit in 0..map.group_width() {
-        let row = known_in(alloc, map, got, out, stripe, unit, columns)?;
+        let row = known_in(alloc, map, got, index, out, stripe, unit, columns)?;
         rows.push(row)?;
     }
     Ok(rows)
@@ -112,6 +121,7 @@ pub(crate) fn decoded_rows(
     alloc: Global,
     map: &DataMap,
     got: &Fetched,
+    index: &RowIndex,
     out: &Out,
     stripe: u64,
     columns: Interval,
@@ -119,10 +129,11 @@ pub(crate) fn decoded_rows(
     requires stripe { stripe ≤ MAX_FILE_SIZE }
     requires low { IsLow columns }
     requires few { length (lost_from map.now out.now.components stripe 0 (group_width map.now)) ≤ parities map.now }
+    requires index { Indexes (stretches_of (columns_of map.now got.now)) index.now }
     ensures { IfOk result (HasColumns (group_width map.now) columns
         (decoded_at map.now (columns_of map.now got.now) out.now.components stripe)) }
 {
-    let mut rows = known_rows(alloc, map, got, out, stripe, columns)?;
+    let mut rows = known_rows(alloc, map, got, index, out, stripe, columns)?;
     let lost = lost_units(alloc, map, out, stripe)?;
     map.known();
     let decoded = decode(code_of(map), &mut rows, lost.as_slice());

@@ -8,12 +8,15 @@ ghost use Rattle.stripe_plan.specs.Encoded.{data_columns, parity_column, parity_
 ghost use Rattle.stripe_plan.specs.Encoded.{AreParities, HasParity, IsInUnit};
 ghost use Rattle.stripe_plan.specs.Plans.{apply_and_encode, columns_of, span, written_place, written_stripe, Gives};
 ghost use Rattle.stripe_plan.specs.Laws.{FollowsWrite};
+ghost use Rattle.stripe_plan.specs.Indexed.{stretches_of, Indexes};
 
 use crate::changing::changed_parity;
 use crate::encoding::{encode_new, new_bytes};
+use crate::laying::index_parts;
 use crate::lost::{check_writable, is_out};
 use crate::needed::is_degraded;
 use crate::plan::{Column, Columns, Fetched, Interval, Intervals, Out, PlanErr, Span};
+use crate::row_index::RowIndex;
 use crate::rows::decoded_rows;
 use crate::touched::{holds_whole, own_columns, touched_columns, touched_stripes};
 use crate::whole::push_whole;
@@ -28,6 +31,7 @@ fn parity_of(
     range: Span,
     bytes: &[u8],
     got: &Fetched,
+    index: &RowIndex,
     out: &Out,
     stripe: u64,
     columns: Interval,
@@ -40,15 +44,16 @@ fn parity_of(
     requires some { 0 < parities map.now }
     requires part { whole map.now range stripe ≡ false }
     requires few { length (lost_from map.now out.now.components stripe 0 (group_width map.now)) ≤ parities map.now }
+    requires index { Indexes (stretches_of (columns_of map.now got.now)) index.now }
     ensures { IfOk result (HasParity (parities map.now) columns
         (parity_at map.now range bytes.now (columns_of map.now got.now) out.now.components stripe)) }
 {
     if is_degraded(alloc, map, out, stripe)? {
-        let mut rows = decoded_rows(alloc, map, got, out, stripe, columns)?;
+        let mut rows = decoded_rows(alloc, map, got, index, out, stripe, columns)?;
         encode_new(map, range, bytes, stripe, columns, &mut rows);
         return Ok(rows);
     }
-    let rows = changed_parity(alloc, map, range, bytes, got, stripe, columns)?;
+    let rows = changed_parity(alloc, map, range, bytes, got, index, stripe, columns)?;
     Ok(rows)
 }
 
@@ -59,6 +64,7 @@ fn parities_of(
     range: Span,
     bytes: &[u8],
     got: &Fetched,
+    index: &RowIndex,
     out: &Out,
     stripe: u64,
     intervals: &[Interval],
@@ -70,6 +76,7 @@ fn parities_of(
     requires unit { All (IsInUnit map.now) intervals.now }
     requires part { whole map.now range stripe ≡ false }
     requires few { length (lost_from map.now out.now.components stripe 0 (group_width map.now)) ≤ parities map.now }
+    requires index { Indexes (stretches_of (columns_of map.now got.now)) index.now }
     ensures value { 0 < parities map.now → IfOk result (AreParities (parities map.now) intervals.now
         (parity_at map.now range bytes.now (columns_of map.now got.now) out.now.components stripe)) }
     ensures enough { IfOk result (λ all. All (λ rows. parities map.now ≤ length rows) all) }
@@ -79,7 +86,7 @@ fn parities_of(
         return Ok(all);
     }
     for columns in intervals {
-        let rows = parity_of(alloc, map, range, bytes, got, out, stripe, *columns)?;
+        let rows = parity_of(alloc, map, range, bytes, got, index, out, stripe, *columns)?;
         all.push(rows)?;
     }
     Ok(all)
@@ -214,6 +221,7 @@ fn push_part(
     range: Span,
     bytes: &[u8],
     got: &Fetched,
+    index: &RowIndex,
     out: &Out,
     stripe: u64,
 ) -> Result<(), Memory>
@@ -222,12 +230,13 @@ fn push_part(
     requires stripe { stripe ≤ MAX_FILE_SIZE }
     requires part { whole map.now range stripe ≡ false }
     requires few { length (lost_from map.now out.now.components stripe 0 (group_width map.now)) ≤ parities map.now }
+    requires index { Indexes (stretches_of (columns_of map.now got.now)) index.now }
     ensures { OnOk result (made.new ≡ made.old ++ written_stripe map.now range bytes.now
         (columns_of map.now got.now) out.now.components stripe 0 (group_width map.now)) }
 {
     let touched = touched_columns(alloc, map, range, stripe)?;
     let columns = touched.as_slice();
-    let parity = parities_of(alloc, map, range, bytes, got, out, stripe, columns)?;
+    let parity = parities_of(alloc, map, range, bytes, got, index, out, stripe, columns)?;
     let rows = parity.as_slice();
     for place in 0..map.group_width() {
         push_place(
@@ -245,6 +254,7 @@ fn push_stripe(
     range: Span,
     bytes: &[u8],
     got: &Fetched,
+    index: &RowIndex,
     out: &Out,
     stripe: u64,
 ) -> Result<(), Memory>
@@ -252,13 +262,14 @@ fn push_stripe(
     requires bytes { length bytes.now ≡ range.length }
     requires stripe { stripe ≤ MAX_FILE_SIZE }
     requires few { length (lost_from map.now out.now.components stripe 0 (group_width map.now)) ≤ parities map.now }
+    requires index { Indexes (stretches_of (columns_of map.now got.now)) index.now }
     ensures { OnOk result (made.new ≡ made.old ++ written_stripe map.now range bytes.now
         (columns_of map.now got.now) out.now.components stripe 0 (group_width map.now)) }
 {
     if holds_whole(map, range, stripe) {
         return push_whole(made, alloc, map, range, bytes, out, stripe);
     }
-    push_part(made, alloc, map, range, bytes, got, out, stripe)
+    push_part(made, alloc, map, range, bytes, got, index, out, stripe)
 }
 
 /// The bytes that a write of a range puts at each position that isn't out, out of what was gathered: its own new bytes,
@@ -290,10 +301,13 @@ pub fn apply_and_encode(
     };
     map.known();
     check_writable(alloc, map, range, out)?;
+    let index = index_parts(alloc, map, got.as_slice())?;
     let (first, end) = touched_stripes(map, range);
     let mut made = Columns::new(alloc);
     for stripe in first..end {
-        push_stripe(&mut made, alloc, map, range, bytes, got, out, stripe)?;
+        push_stripe(
+            &mut made, alloc, map, range, bytes, got, &index, out, stripe,
+        )?;
     }
     Ok(made)
 }

@@ -1,4 +1,5 @@
 use Rattle.std.proofs.Common.{◌≡◌, ◌∙◌, ◌-◌, ◌++◌, List, [], take, sym, ap}
+use Rattle.std.specs.Prelude.{reverse}
 use Rattle.call_commands.specs.State.{Awaited}
 use Rattle.call_commands.specs.Ordering.{placed_all}
 use Rattle.call_commands.proofs.Orders.{last_placed, none_placed, placed_each}
@@ -7,8 +8,8 @@ use Rattle.call_commands.proofs.ordering.in_order.Goals as goal
 pub loop-awaited-preserved : goal.loop-awaited-preserved
 loop-awaited-preserved c =
     ap (placed_all c.pop.new.self.items) c.in_ok-place.ensures
-    ∙ sym (last_placed c.pop.new.self.items c.in-Some.awaited c.loop-awaited.ordered.items)
-    ∙ ap (λ (xs : List Awaited). placed_all xs c.loop-awaited.ordered.items) (sym c.in-Some.ensures.items)
+    ∙ sym (last_placed c.pop.new.self.items c.in-Some.awaited (reverse c.loop-awaited.falling.items))
+    ∙ ap (λ (xs : List Awaited). placed_all xs (reverse c.loop-awaited.falling.items)) (sym c.in-Some.ensures.items)
     ∙ c.loop-awaited.invariant
 
 pub returns : goal.returns
@@ -18,7 +19,7 @@ returns c =
     c.in_default.ensures.items
     ∙ ap (λ (xs : List Awaited). xs ++ [])
     (c.in_default.ensures.rest ∙ ap (λ n. take (n - 1) items) c.in_default.ensures.cases.0) in
-    c.from_vec.ensures
-    ∙ sym (none_placed items c.loop-awaited.ordered.items none)
+    c.in_ok-commands.ensures
+    ∙ sym (none_placed items (reverse c.loop-awaited.falling.items) none)
     ∙ c.loop-awaited.invariant
     ∙ placed_each c.args.pending.now

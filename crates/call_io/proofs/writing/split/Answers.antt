@@ -12,10 +12,10 @@ loop-store-preserved c =
     record {
       firsts =
           ap (λ (xs : List Store). xs ++ firsts c.place.new.seen (into_iter_items c.next.new.self)) c.in_ok-place.ensures.firsts
-          ∙ append_assoc c.loop-store.firsts (new_first c.loop-store.seen c.in-Some.store) (firsts c.place.new.seen (into_iter_items c.next.new.self))
-          ∙ ap (λ (s : List ℕ). c.loop-store.firsts ++ (new_first c.loop-store.seen c.in-Some.store ++ firsts s (into_iter_items c.next.new.self))) c.in_ok-place.ensures.seen
-          ∙ ap (λ (xs : List Store). c.loop-store.firsts ++ xs) (first_turn c.loop-store.seen c.in-Some.store (into_iter_items c.next.new.self))
-          ∙ ap (λ (ws : List Store). c.loop-store.firsts ++ firsts c.loop-store.seen ws) (sym c.in-Some.ensures.steps.0)
+          ∙ append_assoc c.loop-store.firsts.items (new_first c.loop-store.seen c.in-Some.store) (firsts c.place.new.seen (into_iter_items c.next.new.self))
+          ∙ ap (λ (s : List ℕ). c.loop-store.firsts.items ++ (new_first c.loop-store.seen c.in-Some.store ++ firsts s (into_iter_items c.next.new.self))) c.in_ok-place.ensures.seen
+          ∙ ap (λ (xs : List Store). c.loop-store.firsts.items ++ xs) (first_turn c.loop-store.seen c.in-Some.store (into_iter_items c.next.new.self))
+          ∙ ap (λ (ws : List Store). c.loop-store.firsts.items ++ firsts c.loop-store.seen ws) (sym c.in-Some.ensures.steps.0)
           ∙ c.loop-store.invariant.firsts;
       long = omega (arith, c.in-Some.ensures.steps.1, ap (λ (ws : List Store). length ws) c.in-Some.ensures.steps.0, c.loop-store.invariant.long);
       laters =
@@ -30,9 +30,9 @@ loop-store-preserved c =
 pub returns-clause-firsts : goal.returns-clause-firsts
 returns-clause-firsts c =
     let none : into_iter_items c.loop-store.store-iterator ≡ [] = nil_from_length _ (omega (arith, c.in-None.ensures.steps.0, c.loop-store.invariant.long)) in
-    sym (append-nil c.loop-store.firsts)
-    ∙ ap (λ (xs : List Store). c.loop-store.firsts ++ xs) (sym (first_end c.loop-store.seen))
-    ∙ ap (λ (ws : List Store). c.loop-store.firsts ++ firsts c.loop-store.seen ws) (sym none)
+    sym (append-nil c.loop-store.firsts.items)
+    ∙ ap (λ (xs : List Store). c.loop-store.firsts.items ++ xs) (sym (first_end c.loop-store.seen))
+    ∙ ap (λ (ws : List Store). c.loop-store.firsts.items ++ firsts c.loop-store.seen ws) (sym none)
     ∙ c.loop-store.invariant.firsts
 
 pub returns-clause-laters : goal.returns-clause-laters

@@ -19,7 +19,7 @@ returns c =
     let out = c.args.out.now.components in
     let o = c.in-Write.offset in
     let s = c.as_slice.result.now in
-    let made : c.in-Ok.columns ≡ written c.args.held.now.map (span c.in-Write.offset (length c.in-Write.bytes)) c.in-Write.bytes c.args.got.now c.args.out.now.components (stripes c.args.held.now.map (span c.in-Write.offset (length c.in-Write.bytes))) =
+    let made : c.in-Ok.columns ≡ written c.args.held.now.map (span c.in-Write.offset (length c.in-Write.bytes)) c.in-Write.bytes c.args.got c.args.out.now.components (stripes c.args.held.now.map (span c.in-Write.offset (length c.in-Write.bytes))) =
     columns_told m (span o (length s)) s c.in_ok-parts.parts out c.in-Ok.columns c.in-Ok.ensures.exact
     ∙ ap (λ (z : List ℕ). written m (span o (length z)) z (columns_of m c.in_ok-parts.parts) out (stripes m (span o (length z)))) c.as_slice.ensures
     ∙ ap (λ (g : List Column). written m (span o (length c.in-Write.bytes)) c.in-Write.bytes g out (stripes m (span o (length c.in-Write.bytes)))) c.in_ok-parts.ensures
@@ -27,9 +27,9 @@ returns c =
     let asked : c.in_ok-asks.asks ≡ writes c.args.held.now.map (span c.in-Write.offset (length c.in-Write.bytes)) c.args.out.now.components =
     c.in_ok-asks.ensures ∙ ap (λ (k : ℕ). writes m (span o k) out) c.len.ensures
     in
-    let all : stores c.args.held.now.map (span_of c.args.op.now) (bytes_of c.args.op.now) c.args.got.now c.args.out.now.components ≡ map (filled c.in-Ok.columns) c.in_ok-asks.asks =
-    ap (λ (x : CallOp). stores m (span_of x) (bytes_of x) c.args.got.now out) c.in-Write.is
-    ∙ stores_eq m (span o (length c.in-Write.bytes)) c.in-Write.bytes c.args.got.now out c.in-Ok.columns c.in_ok-asks.asks made asked
+    let all : stores c.args.held.now.map (span_of c.args.op.now) (bytes_of c.args.op.now) c.args.got c.args.out.now.components ≡ map (filled c.in-Ok.columns) c.in_ok-asks.asks =
+    ap (λ (x : CallOp). stores m (span_of x) (bytes_of x) c.args.got out) c.in-Write.is
+    ∙ stores_eq m (span o (length c.in-Write.bytes)) c.in-Write.bytes c.args.got out c.in-Ok.columns c.in_ok-asks.asks made asked
     in
     rw all
     (c.joined.ensures c.in-Ok.columns
