@@ -25,10 +25,13 @@ use Rattle.file_jobs.specs.Steps.{at, file_of, Steps}
 use Rattle.server_state.specs.declared.state.State.{State}
 use Rattle.server_state.specs.declared.step.Step.{Step}
 use Rattle.server_state.specs.Tables.{Table, files_in, entry_at, IsEntry, AreEntries}
-use Rattle.server_state.specs.States.{server_of, Did, Settles}
+use Rattle.server_state.specs.States.{server_of, Did, IsGood, IsGoodBut, Settles}
+use Rattle.server_state.specs.Replies.{file_awaits, AreListed, AreListedBut, OthersStay}
+use Rattle.reply_index.specs.Index.{Keys}
 use Rattle.server_orders.specs.declared.creating.FileErr.{FileErr}
 use Rattle.server_orders.specs.Creating.{Creates, cause_of, map_unless}
 use Rattle.server_state.proofs.TableLaws.{at_number, file_at-files}
+use Rattle.server_state.proofs.ReplyLaws.{not_at, same_number}
 use Rattle.server_state.proofs.StepLaws.{after_settling}
 
 -- the code's order of keys is the rules' order of numbers
@@ -185,3 +188,38 @@ entries_inserted (e ∷ es) n f a i = elim (cases_Bool (is_at (nat_cmp n) e.0)) 
     | inr more ↦ rw (before_it n e.0 more not_here) (i, a)
   ]
 ]
+
+-- no other file than the new one changes
+not_there : (n m : ℕ) → (n == m) ≡ false → is_at (nat_cmp m) n ≡ false
+not_there n m e = grind (arith, nat_tests, at_number m n, e)
+
+pub others_inserted : (t : Table) (n : ℕ) (g : FileState) → OthersStay n t (insert_entry nat_cmp t n g)
+others_inserted [] n g m other = rw (not_there n m other) refl
+others_inserted (e ∷ es) n g m other = elim (cases_Bool (is_at (nat_cmp n) e.0)) [
+  | inl here ↦ rw (same_it n e.0 here, not_at n m e.0 here other) refl
+  | inr not_here ↦ elim (cases_Bool (nat_lt e.0 n)) [
+    | inl less ↦ rw (behind_it n e.0 less) (elim (cases_Bool (is_at (nat_cmp m) e.0)) [
+      | inl found ↦ rw found refl
+      | inr not_found ↦ rw not_found (others_inserted es n g m other)
+    ])
+    | inr more ↦ rw (before_it n e.0 more not_here, not_there n m other) refl
+  ]
+]
+
+-- none awaits anything at a number that no file has
+unlisted : (t : Table) (ks : Keys) (n : ℕ) → entry_at t n ≡ None → AreListed ks t → AreListedBut n ks t
+unlisted t ks n none a = λ x d m. elim (cases_Bool (n == m)) [
+  | inl here ↦ a x d m ∙ rw here (ap (λ (k : ℕ). file_awaits (entry_at t k) x d) (sym (same_number n m here)) ∙ ap (λ (o : Option FileState). file_awaits o x d) none)
+  | inr there ↦ a x d m ∙ rw there refl
+]
+
+pub good_before : (old : State) (n : ℕ) (raw : RawMap) → IsGood old → refusal (server_of old) n raw ≡ None → IsGoodBut n old
+good_before old n raw good none = record {
+  files = good.files;
+  grants = good.grants;
+  drives = good.drives;
+  replies = unlisted old.files.entries old.replies n (no_entry old.files.entries n good.files (none_there (server_of old) n raw none)) good.replies;
+}
+
+pub created_too : (n : ℕ) (raw : RawMap) (tag : ℕ) (old is new : State) (out : Step) → server_of new ≡ server_of is → Creates n raw tag old is out → Creates n raw tag old new out
+created_too n raw tag old is new out e h = (h.0, h.1, h.2, subst (λ (s : Server). Did out s h.1) (sym e) h.3)

@@ -27,7 +27,7 @@ use Rattle.server_state.specs.declared.state.State.{State}
 use Rattle.server_state.specs.declared.step.Step.{Step}
 use Rattle.server_state.specs.Drives.{RiseFrom, AreDrives}
 use Rattle.server_state.specs.Tables.{Table, files_in, IsEntry, AreEntries}
-use Rattle.server_state.specs.States.{server_of, Did, IsGood, Settles}
+use Rattle.server_state.specs.States.{server_of, Did, IsGood, IsReady, Settles}
 use Rattle.server_orders.specs.Declaring.{Declares}
 
 -- ---- files put behind each other
@@ -155,7 +155,7 @@ still_drives ds drive r = offline_rises 0 ds drive r
 pub declared_at : (old : State) (drives : List Drive) (files : BTreeMap ℕ FileState) (new : State) (m : Moved) (loads : List DriveLoad) (drive : ℕ) (out : Step) →
     IsGood old → drives ≡ offline old.drives drive → AreLoadsOf loads drives → Declares drive loads old.files.entries (begins (server_of old)) files.entries m →
     Settles (record old { drives = drives; files = files }) m new out →
-    ((chosen : List ℕ) × Did out (server_of new) (declare (server_of old) chosen drive)) × IsGood new
+    ((chosen : List ℕ) × Did out (server_of new) (declare (server_of old) chosen drive)) × IsReady new
 unfolding declare
 declared_at old drives files new m loads drive out good off loaded did fin =
     let s : Server = server_of old in
@@ -169,6 +169,6 @@ declared_at old drives files new m loads drive out good off loaded did fin =
             (subst (λ (ds : List Drive). Did out (server_of new) (step_round (record s { drives = ds }) (record { files = files_in files.entries; moved = m; chosen = [] }))) off
             (record { state = ap server_of fin.state; sends = fin.sends; notes = fin.notes; mended = fin.mended })),
       ),
-      subst (λ (z : State). IsGood z) (sym fin.state)
+      subst (λ (z : State). IsReady z) (sym fin.state)
           (record { files = did.entries; grants = good.grants; drives = subst (λ (ds : List Drive). AreDrives ds) (sym off) (still_drives old.drives drive good.drives) }),
     )

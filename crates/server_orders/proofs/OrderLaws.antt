@@ -76,6 +76,11 @@ unstarted_at old files n kind o good none same did = (
       (subst (λ (t : Table). Obeys o (record (server_of old) { files = files_in t }) (unknown (server_of old))) (sym same) (did old)),
 )
 
+-- what was done is the order of the same server
+pub obeys_between : (o : Obeyed) (f : Server → Ordered) (was old is new : Server) → old ≡ was → new ≡ is → Obeys o is (f old) → Obeys o new (f was)
+obeys_between o f was old is new e h did =
+    subst (λ (s : Server). Obeys o s (f was)) (sym h) (subst (λ (s : Server). Obeys o is (f s)) e did)
+
 -- ---- a recall
 
 pub recalled_at : (old : State) (n : ℕ) (f : FileState) (o : Obeyed) (new : Server) → AreEntries old.files.entries → entry_at old.files.entries n ≡ Some f →

@@ -18,7 +18,7 @@ use data_map::{DataMap, MAX_STRIPE_UNIT, MapErr, RawMap};
 use file_jobs::{FileState, make};
 use osd_bytes::{Memory, Numbers, Sequence};
 use server_rules::{Component, Components, Drive, Grants, Kept, MAX_FILE_COMPONENTS, Phase};
-use server_state::{Files, State, Step, begins, settle};
+use server_state::{Files, State, Step, begins, list, settle};
 use std::alloc::Global;
 use stripe_repair::{DriveLoad, Placer};
 use thiserror::Error;
@@ -214,7 +214,9 @@ where
     let mut moved = begins(alloc, state.next_nonce, object);
     make(alloc, &mut made, &mut moved)?;
     put(&mut state.files, file.number, made)?;
-    settle(alloc, state, moved)
+    let step = settle(alloc, state, moved)?;
+    list(state, file.number)?;
+    Ok(step)
 }
 
 /// A file is made on drives that the placer names, and its components are sent CREATE.

@@ -16,7 +16,7 @@ use file_jobs::{FileState, declare as declare_at};
 use layout_ops::OrderResult;
 use osd_bytes::{Memory, Numbers};
 use server_rules::{COUNTERS_END, Drive, Moved};
-use server_state::{Drives, Files, State, Step, begins, settle};
+use server_state::{Drives, Files, State, Step, begins, list_all, settle};
 use std::alloc::Global;
 use std::mem;
 use stripe_repair::{DriveLoad, Placer};
@@ -102,7 +102,9 @@ where
     let loads = loads.as_slice();
     let mut moved = begins(alloc, state.next_nonce, state.next_object);
     declare_each(alloc, &mut state.files, &mut moved, drive, loads, placer)?;
-    settle(alloc, state, moved)
+    let step = settle(alloc, state, moved)?;
+    list_all(alloc, state)?;
+    Ok(step)
 }
 
 /// A drive is offline from now on, and each component on it missing.

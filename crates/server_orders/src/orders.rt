@@ -10,7 +10,7 @@ ghost use Rattle.server_state.specs.declared.state.State.{State as AState};
 ghost use Rattle.file_jobs.specs.Sound.{IsSoundFile};
 ghost use Rattle.file_requests.specs.Serving.{LeavesFile};
 ghost use Rattle.server_state.specs.Tables.{AreEntries};
-ghost use Rattle.server_state.specs.States.{server_of, HasRoom, IsGood};
+ghost use Rattle.server_state.specs.States.{server_of, HasRoom, IsGood, IsGoodBut};
 ghost use Rattle.server_orders.specs.Orders.{begun, Begins, BegunIn, Obeys};
 
 use crate::loads::loads_of;
@@ -20,7 +20,7 @@ use layout_ops::OrderResult;
 use osd_bytes::{Memory, Numbers};
 use server_requests::{Sends, send_recalls};
 use server_rules::{GREATEST_TAG, Grant, JobKind, Moved, NoteKind};
-use server_state::{Files, State, Step, begins, only_sends, settle};
+use server_state::{Files, State, Step, begins, list, only_sends, settle, unlist};
 use std::alloc::Global;
 use stripe_repair::{DriveLoad, Placer};
 
@@ -141,6 +141,41 @@ where
     }
 }
 
+// The step of an order for a job at its file, of which no replies are listed.
+fn order_job_at<F>(
+    alloc: Global,
+    state: &mut State,
+    number: u32,
+    kind: JobKind,
+    placer: &Placer<F>,
+) -> Result<Obeyed, Memory>
+where
+    F: Fn(u32, &[DriveLoad]) -> Result<Numbers, Memory>,
+    requires good { IsGoodBut number state.old }
+    requires room { HasRoom (server_of state.old) }
+    requires placer { IsPlacer F.Fn placer.now }
+    ensures obeys { IfOk result (λ o. (chosen : List ℕ) × Obeys o (server_of state.new)
+        (starts (server_of state.old) chosen kind (file_at (server_of state.old).files number))) }
+    ensures good { OnOk result (IsGoodBut number state.new) }
+{
+    let counted = matches!(kind, JobKind::Rebuilding);
+    let loads = loads_of(alloc, state.drives.as_slice(), &state.files, counted)?;
+    let loads = loads.as_slice();
+    let mut moved = begins(alloc, state.next_nonce, state.next_object);
+    let format = state.format;
+    let files = &mut state.files;
+    let begun = begin_in(
+        alloc, files, &mut moved, number, kind, format, loads, placer,
+    )?;
+    match begun {
+        Some(result) => {
+            let step = settle(alloc, state, moved)?;
+            Ok(Obeyed { step, result })
+        }
+        None => Ok(unknown(alloc)),
+    }
+}
+
 /// A job of that kind begins at a file with its fence, unless one runs or the file's tag is spent.
 ///
 /// # Errors
@@ -162,20 +197,8 @@ where
         (starts (server_of state.old) chosen kind (file_at (server_of state.old).files number))) }
     ensures good { OnOk result (IsGood state.new) }
 {
-    let counted = matches!(kind, JobKind::Rebuilding);
-    let loads = loads_of(alloc, state.drives.as_slice(), &state.files, counted)?;
-    let loads = loads.as_slice();
-    let mut moved = begins(alloc, state.next_nonce, state.next_object);
-    let format = state.format;
-    let files = &mut state.files;
-    let begun = begin_in(
-        alloc, files, &mut moved, number, kind, format, loads, placer,
-    )?;
-    match begun {
-        Some(result) => {
-            let step = settle(alloc, state, moved)?;
-            Ok(Obeyed { step, result })
-        }
-        None => Ok(unknown(alloc)),
-    }
+    unlist(state, number);
+    let obeyed = order_job_at(alloc, state, number, kind, placer)?;
+    list(state, number)?;
+    Ok(obeyed)
 }

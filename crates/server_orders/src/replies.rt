@@ -1,42 +1,39 @@
 ghost use Rattle.std.specs.Prelude.{◌≡◌, ◌<◌, ◌≤◌, ◌^◌, ℕ, List, length, IfSome, IfNone, IfOk, OnOk};
+ghost use Rattle.std.specs.Ordering.{nat_cmp};
+ghost use Rattle.std.specs.List.Sorted.{IsStrictlySortedBy};
+ghost use Rattle.std.specs.Map.{keys_of};
 ghost use Rattle.server_rules.specs.Messages.{on_drive_reply};
 ghost use Rattle.stripe_repair.specs.Placing.{AreDifferent, IsPlacer, drives_of};
 ghost use Rattle.stripe_repair.specs.declared.loads.TheConstants.{MAX_DRIVES};
 ghost use Rattle.server_state.specs.Tables.{AreEntries};
-ghost use Rattle.server_state.specs.States.{server_of, Did, HasRoom, IsGood};
-ghost use Rattle.server_orders.specs.Hearing.{awaits, AwaitedAt, AwaitedNowhere, HeardIn};
+ghost use Rattle.server_state.specs.States.{server_of, Did, HasRoom, IsGood, IsGoodBut};
+ghost use Rattle.server_orders.specs.Hearing.{AwaitedAt, AwaitedNowhere, HeardIn};
 
 use crate::loads::loads_of;
-use file_jobs::{FileState, answered_by, on_reply};
+use file_jobs::on_reply;
 use osd_bytes::{Memory, Numbers};
 use osd_commands::Reply;
 use server_requests::Sends;
 use server_rules::{JobKind, Moved};
-use server_state::{Files, State, Step, begins, only_sends, settle};
+use server_state::{Files, State, Step, begins, list, only_sends, settle, unlist};
 use std::alloc::Global;
 use stripe_repair::{DriveLoad, Placer};
 
-// Whether the file's job awaits a reply of this drive.
-fn awaits(file: &FileState, drive: u32, reply: &Reply) -> bool
-    ensures { result ≡ awaits drive reply.now file.now.job }
+// That files stand in the order of their numbers. Nothing runs.
+fn in_order(files: &Files)
+    ensures { IsStrictlySortedBy nat_cmp (keys_of files.now.entries) }
 {
-    match &file.job {
-        Some(job) => answered_by(job.awaited.as_slice(), drive, reply).is_some(),
-        None => false,
-    }
+    let _ = files.len();
 }
 
 // The number of the first file whose job awaits it.
-fn awaiting(files: &Files, drive: u32, reply: &Reply) -> Option<u32>
-    ensures some { IfSome result (λ number. AwaitedAt drive reply.now number files.now.entries) }
-    ensures none { IfNone result (AwaitedNowhere drive reply.now files.now.entries) }
+fn awaiting(state: &State, drive: u32, reply: &Reply) -> Option<u32>
+    requires { IsGood state.now }
+    ensures some { IfSome result (λ number. AwaitedAt drive reply.now number state.now.files.entries) }
+    ensures none { IfNone result (AwaitedNowhere drive reply.now state.now.files.entries) }
 {
-    for (number, file) in files.iter() {
-        if awaits(file, drive, reply) {
-            return Some(*number);
-        }
-    }
-    None
+    in_order(&state.files);
+    state.replies.first(reply.nonce, drive)
 }
 
 // The file's job is a rebuild, the one kind that asks the placer.
@@ -78,8 +75,38 @@ where
     Ok(())
 }
 
-// The step of a reply that the job of that file awaits.
+// The step of a reply that the job of that file awaits, of which no replies are listed.
 fn hear_at<F>(
+    alloc: Global,
+    state: &mut State,
+    number: u32,
+    drive: u32,
+    reply: &Reply,
+    placer: &Placer<F>,
+) -> Result<Step, Memory>
+where
+    F: Fn(u32, &[DriveLoad]) -> Result<Numbers, Memory>,
+    requires good { IsGoodBut number state.old }
+    requires room { HasRoom (server_of state.old) }
+    requires placer { IsPlacer F.Fn placer.now }
+    requires awaited { AwaitedAt drive reply.now number state.old.files.entries }
+    ensures did { IfOk result (λ out. (chosen : List ℕ) × Did out (server_of state.new)
+        (on_drive_reply (server_of state.old) chosen drive reply.now)) }
+    ensures good { OnOk result (IsGoodBut number state.new) }
+{
+    let counted = is_rebuilt(&state.files, number);
+    let loads = loads_of(alloc, state.drives.as_slice(), &state.files, counted)?;
+    let loads = loads.as_slice();
+    let mut moved = begins(alloc, state.next_nonce, state.next_object);
+    let files = &mut state.files;
+    hear_in(
+        alloc, files, &mut moved, number, drive, reply, loads, placer,
+    )?;
+    settle(alloc, state, moved)
+}
+
+// The same with what its job awaits from then on.
+fn hear<F>(
     alloc: Global,
     state: &mut State,
     number: u32,
@@ -97,15 +124,10 @@ where
         (on_drive_reply (server_of state.old) chosen drive reply.now)) }
     ensures good { OnOk result (IsGood state.new) }
 {
-    let counted = is_rebuilt(&state.files, number);
-    let loads = loads_of(alloc, state.drives.as_slice(), &state.files, counted)?;
-    let loads = loads.as_slice();
-    let mut moved = begins(alloc, state.next_nonce, state.next_object);
-    let files = &mut state.files;
-    hear_in(
-        alloc, files, &mut moved, number, drive, reply, loads, placer,
-    )?;
-    settle(alloc, state, moved)
+    unlist(state, number);
+    let step = hear_at(alloc, state, number, drive, reply, placer)?;
+    list(state, number)?;
+    Ok(step)
 }
 
 /// The step of a drive's reply, at the first file whose job awaits it. One that no job awaits changes nothing.
@@ -129,8 +151,8 @@ where
         (on_drive_reply (server_of state.old) chosen drive reply.now)) }
     ensures good { OnOk result (IsGood state.new) }
 {
-    match awaiting(&state.files, drive, reply) {
-        Some(number) => hear_at(alloc, state, number, drive, reply, placer),
+    match awaiting(state, drive, reply) {
+        Some(number) => hear(alloc, state, number, drive, reply, placer),
         None => Ok(only_sends(alloc, Sends::new(alloc))),
     }
 }

@@ -1,3 +1,4 @@
 pub mod TableLaws
 pub mod SlotLaws
+pub mod ReplyLaws
 pub mod StepLaws

@@ -30,9 +30,14 @@ use Rattle.file_requests.specs.Serving.{served_by, serves_for}
 use Rattle.server_state.specs.declared.serving.Served.{Served}
 use Rattle.server_state.specs.declared.state.State.{State}
 use Rattle.server_state.specs.declared.step.Step.{Step}
+use Rattle.reply_index.specs.Index.{Keys}
+use Rattle.server_rules.specs.declared.server.Drive.{Drive}
+use Rattle.server_state.specs.Drives.{AreDrives}
+use Rattle.server_state.specs.Replies.{AreListedBut, OthersStay}
 use Rattle.server_state.specs.Tables.{Table, files_in, entry_at, AreEntries}
 use Rattle.server_state.specs.AtFile.{ServedAt}
-use Rattle.server_state.specs.States.{server_of, Did, Finishes, Settles, IsGood, carried_in}
+use Rattle.server_state.specs.States.{server_of, Did, Finishes, Settles, IsGoodBut, carried_in}
+use Rattle.server_state.proofs.ReplyLaws.{still_listed}
 use Rattle.server_state.proofs.TableLaws.{file_at-files, put_file-files, no_file_there}
 
 -- the server with these files and this answer, once the request's step is over
@@ -102,17 +107,39 @@ settled_at old files new m n g chosen go out good put_in e fin =
       mended = fin.mended;
     })
 
--- between steps all is good again
-pub good_settled : (old : State) (files : BTreeMap ℕ FileState) (new : State) (m : Moved) (out : Step) →
-    IsGood old → AreEntries files.entries → Settles (record old { files = files }) m new out → IsGood new
-good_settled old files new m out good entries fin =
-    subst (λ (z : State). IsGood z) (sym fin.state) (record { files = entries; grants = good.grants; drives = good.drives })
+-- behind its file all is ready again
+pub good_settled : (n : ℕ) (old : State) (files : BTreeMap ℕ FileState) (new : State) (m : Moved) (out : Step) →
+    IsGoodBut n old → AreEntries files.entries → OthersStay n old.files.entries files.entries → Settles (record old { files = files }) m new out → IsGoodBut n new
+good_settled n old files new m out good entries others fin =
+    subst (λ (z : State). IsGoodBut n z) (sym fin.state) (record {
+      files = entries;
+      grants = good.grants;
+      drives = good.drives;
+      replies = still_listed n old.replies old.files.entries files.entries others good.replies;
+    })
 
-pub good_finished : (old : State) (files : BTreeMap ℕ FileState) (new : State) (m : Moved) (v : Served) (out : Step) →
-    IsGood old → AreEntries files.entries → old.next_grant + v.outcome.numbers ≤ GREATEST_GRANT + 1 →
-    Finishes (record old { files = files }) m v new out → IsGood new
-good_finished old files new m v out good entries numbers fin =
-    subst (λ (z : State). IsGood z) (sym fin.state) (record { files = entries; grants = numbers; drives = good.drives })
+pub good_finished : (n : ℕ) (old : State) (files : BTreeMap ℕ FileState) (new : State) (m : Moved) (v : Served) (out : Step) →
+    IsGoodBut n old → AreEntries files.entries → OthersStay n old.files.entries files.entries → old.next_grant + v.outcome.numbers ≤ GREATEST_GRANT + 1 →
+    Finishes (record old { files = files }) m v new out → IsGoodBut n new
+good_finished n old files new m v out good entries others numbers fin =
+    subst (λ (z : State). IsGoodBut n z) (sym fin.state) (record {
+      files = entries;
+      grants = numbers;
+      drives = good.drives;
+      replies = still_listed n old.replies old.files.entries files.entries others good.replies;
+    })
+
+-- nothing of it changed
+pub good_still : (n : ℕ) (old : State) (files : BTreeMap ℕ FileState) (new : State) → IsGoodBut n old → files.entries ≡ old.files.entries →
+    new.files ≡ files → new.next_grant ≡ old.next_grant → new.drives ≡ old.drives → new.replies ≡ old.replies → IsGoodBut n new
+good_still n old files new good same f g d r =
+    let t : new.files.entries ≡ old.files.entries = ap (λ (z : BTreeMap ℕ FileState). z.entries) f ∙ same in
+    record {
+      files = subst (λ (z : Table). AreEntries z) (sym t) good.files;
+      grants = subst (λ (k : ℕ). k ≤ GREATEST_GRANT + 1) (sym g) good.grants;
+      drives = subst (λ (z : List Drive). AreDrives z) (sym d) good.drives;
+      replies = subst (λ (z : Table). AreListedBut n new.replies z) (sym t) (subst (λ (z : Keys). AreListedBut n z old.files.entries) (sym r) good.replies);
+    }
 
 -- what comes of a request on a file that there isn't
 pub refused_at : (old : State) (files : BTreeMap ℕ FileState) (new : State) (r : ClientRequest) (now : ℕ) (chosen : List ℕ) (out : Step) →

@@ -14,6 +14,7 @@ use Rattle.server_state.specs.declared.state.State.{State}
 use Rattle.server_state.specs.declared.step.Step.{Step}
 use Rattle.server_state.specs.declared.serving.Served.{Served}
 use Rattle.server_state.specs.Tables.{files_in, AreEntries}
+use Rattle.server_state.specs.Replies.{AreListed, AreListedBut}
 use Rattle.server_state.specs.Drives.{AreDrives}
 
 abbrev pub server_of : State → Server
@@ -30,6 +31,20 @@ server_of s = record {
 
 -- what holds between steps
 pub record IsGood (s : State) : Type 0 where
+  pub files : AreEntries s.files.entries
+  pub grants : s.next_grant ≤ GREATEST_GRANT + 1
+  pub drives : AreDrives s.drives
+  pub replies : AreListed s.replies s.files.entries
+
+-- what holds in the middle of a step at file n
+pub record IsGoodBut (n : ℕ) (s : State) : Type 0 where
+  pub files : AreEntries s.files.entries
+  pub grants : s.next_grant ≤ GREATEST_GRANT + 1
+  pub drives : AreDrives s.drives
+  pub replies : AreListedBut n s.replies s.files.entries
+
+-- what holds in the middle of a step at all files
+pub record IsReady (s : State) : Type 0 where
   pub files : AreEntries s.files.entries
   pub grants : s.next_grant ≤ GREATEST_GRANT + 1
   pub drives : AreDrives s.drives

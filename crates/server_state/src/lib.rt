@@ -3,6 +3,7 @@
 
 mod admitting;
 mod answering;
+mod listing;
 mod requests;
 mod serving;
 mod settling;
@@ -12,6 +13,7 @@ mod step;
 
 pub use admitting::on_request;
 pub use answering::{answer_to, send_answer};
+pub use listing::{list, list_all, unlist};
 pub use requests::carry_out;
 pub use serving::{Served, serve_in};
 pub use settling::{begins, only_sends, settle};

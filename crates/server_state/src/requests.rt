@@ -3,9 +3,10 @@ ghost use Rattle.server_rules.specs.declared.limits.TheConstants.{GREATEST_GRANT
 ghost use Rattle.layout_ops.specs.Spelling.{ResultsWritable};
 ghost use Rattle.server_rules.specs.Requests.{no_file, carries_out};
 ghost use Rattle.server_requests.specs.Telling.{IsAnswer};
-ghost use Rattle.server_state.specs.States.{server_of, IsGood, HasRoom, Did, Finishes, carried_in};
+ghost use Rattle.server_state.specs.States.{server_of, IsGood, IsGoodBut, HasRoom, Did, Finishes, carried_in};
 
 use crate::answering::answer_to;
+use crate::listing::{list, unlist};
 use crate::serving::{Served, serve_in};
 use crate::settling::{begins, only_sends};
 use crate::state::State;
@@ -35,6 +36,7 @@ fn refuse(alloc: Global, state: &mut State, request: &ClientRequest) -> Result<S
     ensures files { OnOk result (state.new.files ≡ state.old.files) }
     ensures grants { OnOk result (state.new.next_grant ≡ state.old.next_grant) }
     ensures drives { OnOk result (state.new.drives ≡ state.old.drives) }
+    ensures replies { OnOk result (state.new.replies ≡ state.old.replies) }
 {
     let answer = plain_answer(request, no_file(&request.args), 0, 0);
     let mut sends = Sends::new(alloc);
@@ -71,21 +73,18 @@ fn finish(alloc: Global, state: &mut State, moved: Moved, served: Served) -> Res
     })
 }
 
-/// The step of a new request.
-///
-/// # Errors
-///
-/// Want of memory alone.
-pub fn carry_out(
+// The step of a new request at its file, of which no replies are listed.
+fn carry_out_at(
     alloc: Global,
     state: &mut State,
     now: u64,
     request: &ClientRequest,
 ) -> Result<Step, Memory>
-    requires good { IsGood state.old }
+    requires good { IsGoodBut request.now.file state.old }
     requires room { HasRoom (server_of state.old) }
-    ensures did { IfOk result (λ out. (chosen : List ℕ) → Did out (server_of state.new) (carried_in (server_of state.old) now chosen request.now)) }
-    ensures good { OnOk result (IsGood state.new) }
+    ensures did { IfOk result (λ out. (chosen : List ℕ) →
+        Did out (server_of state.new) (carried_in (server_of state.old) now chosen request.now)) }
+    ensures good { OnOk result (IsGoodBut request.now.file state.new) }
 {
     let asking = Asking {
         client: request.client,
@@ -106,4 +105,27 @@ pub fn carry_out(
         Some(served) => finish(alloc, state, moved, served),
         None => refuse(alloc, state, request),
     }
+}
+
+/// The step of a new request.
+///
+/// # Errors
+///
+/// Want of memory alone.
+pub fn carry_out(
+    alloc: Global,
+    state: &mut State,
+    now: u64,
+    request: &ClientRequest,
+) -> Result<Step, Memory>
+    requires good { IsGood state.old }
+    requires room { HasRoom (server_of state.old) }
+    ensures did { IfOk result (λ out. (chosen : List ℕ) →
+        Did out (server_of state.new) (carried_in (server_of state.old) now chosen request.now)) }
+    ensures good { OnOk result (IsGood state.new) }
+{
+    unlist(state, request.file);
+    let step = carry_out_at(alloc, state, now, request)?;
+    list(state, request.file)?;
+    Ok(step)
 }

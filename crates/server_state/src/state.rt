@@ -6,6 +6,7 @@ use crate::slots::Slots;
 use file_jobs::FileState;
 use osd_bytes::Sequence;
 use osd_capability::FORMAT_SHA1;
+use reply_index::ReplyIndex;
 use server_rules::{Drive, FIRST_OBJECT};
 use std::alloc::Global;
 use std::collections::BTreeMap;
@@ -20,6 +21,8 @@ pub type Drives = Sequence<Drive>;
 #[derive(Drop)]
 pub struct State {
     pub files: Files,
+    /// Which file awaits which reply.
+    pub replies: ReplyIndex,
     pub slots: Slots,
     pub drives: Drives,
     /// The number of the next grant, above 4,294,967,295 where none is left.
@@ -42,6 +45,7 @@ impl State {
     {
         State {
             files: Files::new(alloc),
+            replies: ReplyIndex::new(alloc),
             slots: Slots::new(alloc),
             drives: Drives::new(alloc),
             next_grant: 1,

@@ -1,23 +1,18 @@
 use Rattle.std.proofs.Common.{sym, subst}
-use Rattle.server_state.specs.Tables.{Table, AreEntries}
-use Rattle.server_state.proofs.TableLaws.{entries_left}
-use Rattle.server_state.proofs.StepLaws.{good_settled}
-use Rattle.server_orders.proofs.OrderLaws.{started_at, unstarted_at}
+use Rattle.server_rules.specs.declared.server.Server.{Server}
+use Rattle.server_rules.specs.Files.{file_at}
+use Rattle.server_rules.specs.Orders.{starts}
+use Rattle.server_state.specs.States.{server_of, HasRoom}
+use Rattle.server_orders.proofs.OrderLaws.{obeys_between}
 use Rattle.server_orders.proofs.orders.order_job.Goals as goal
 
-pub returns-in-Some-clause-obeys : goal.returns-in-Some-clause-obeys
-returns-in-Some-clause-obeys g c =
-    let v = rw (c.in-Some.is, c.begins-moved.ensures, c.as_slice-loads.ensures) at c.in_ok-begun.ensures in
-    started_at c.args.state.now c.begin_in.new.files c.settle.new.state c.begin_in.new.moved c.args.number c.args.kind _ c.in-Some.result v.0 v.1 c.in_ok-step-in-Some.step
-    c.requires.good.files v.3 v.2 (rw c.as_slice.ensures at c.in_ok-loads.ensures.drives) v.4 c.in_ok-step-in-Some.ensures
-
-pub returns-in-Some-clause-good : goal.returns-in-Some-clause-good
-returns-in-Some-clause-good g c =
-    let v = rw (c.in-Some.is, c.begins-moved.ensures, c.as_slice-loads.ensures) at c.in_ok-begun.ensures in
-    good_settled c.args.state.now c.begin_in.new.files c.settle.new.state c.begin_in.new.moved c.in_ok-step-in-Some.step c.requires.good
-    (subst (λ (t : Table). AreEntries t) (sym v.3) (entries_left c.args.state.now.files.entries c.args.number v.0 v.1 c.requires.good.files v.2 v.5)) c.in_ok-step-in-Some.ensures
+pub order_job_at-requires-clause-room : goal.order_job_at-requires-clause-room
+order_job_at-requires-clause-room g c = subst (λ (s : Server). HasRoom s) (sym c.unlist.ensures.server) c.requires.room
 
 pub returns-clause-obeys : goal.returns-clause-obeys
 returns-clause-obeys g c =
-    let v = rw c.in-None.is at c.in_ok-begun.ensures in
-    unstarted_at c.args.state.now c.begin_in.new.files c.args.number c.args.kind c.unknown.result c.requires.good.files v.0 v.1 c.unknown.ensures
+    let did = c.in_ok-obeyed.ensures.obeys in (
+      did.0,
+      obeys_between c.in_ok-obeyed.obeyed (λ (s : Server). starts s did.0 c.args.kind (file_at s.files c.args.number)) (server_of c.args.state.now) (server_of c.unlist.new.state)
+          (server_of c.order_job_at.new.state) (server_of c.list.new.state) c.unlist.ensures.server c.in_ok-list.ensures.server did.1,
+    )

@@ -1,23 +1,13 @@
-use Rattle.std.proofs.Common.{refl, sym, subst}
-use Rattle.server_state.specs.Tables.{Table, AreEntries}
-use Rattle.server_state.proofs.TableLaws.{entries_left}
-use Rattle.server_state.proofs.StepLaws.{mapped_ok, on_ok, done_at, good_finished, refused_at}
+use Rattle.std.proofs.Common.{sym, subst}
+use Rattle.server_rules.specs.declared.server.Server.{Server}
+use Rattle.server_state.specs.States.{server_of, HasRoom, carried_in}
+use Rattle.server_state.proofs.ReplyLaws.{did_between}
 use Rattle.server_state.proofs.requests.carry_out.Goals as goal
 
-pub returns-in-Some-clause-did : goal.returns-in-Some-clause-did
-returns-in-Some-clause-did c =
-    let v = rw (c.in-Some.is, c.begins-moved.ensures, c.as_slice-drives.ensures) at c.in_ok-served.ensures in
-    mapped_ok c.finish.result (λ out fin chosen. done_at c.args.state.now c.serve_in.new.files c.finish.new.state c.serve_in.new.moved _ c.args.request.now c.args.now chosen c.in-Some.served
-    v.0 v.1 out refl c.requires.good.files v.3 v.2 v.4 fin) c.finish.ensures
+pub carry_out_at-requires-clause-room : goal.carry_out_at-requires-clause-room
+carry_out_at-requires-clause-room c = subst (λ (s : Server). HasRoom s) (sym c.unlist.ensures.server) c.requires.room
 
-pub returns-in-Some-clause-good : goal.returns-in-Some-clause-good
-returns-in-Some-clause-good c =
-    let v = rw c.in-Some.is at c.in_ok-served.ensures in
-    on_ok c.finish.result (λ out fin. good_finished c.args.state.now c.serve_in.new.files c.finish.new.state c.serve_in.new.moved c.in-Some.served out c.requires.good
-    (subst (λ (t : Table). AreEntries t) (sym v.3) (entries_left c.args.state.now.files.entries c.args.request.now.file v.0 v.1 c.requires.good.files v.2 v.4.leaves))
-    (v.4.numbers c.requires.good.grants) fin) c.finish.ensures
-
-pub returns-in-None-clause-did : goal.returns-in-None-clause-did
-returns-in-None-clause-did c =
-    let v = rw c.in-None.is at c.in_ok-served.ensures in
-    mapped_ok c.refuse.result (λ out did chosen. refused_at c.args.state.now c.serve_in.new.files c.refuse.new.state c.args.request.now c.args.now chosen out c.requires.good.files v.0 v.1 (did c.args.now chosen)) c.refuse.ensures.did
+pub returns-clause-did : goal.returns-clause-did
+returns-clause-did c = λ chosen.
+    did_between c.in_ok-step.step (λ (s : Server). carried_in s c.args.now chosen c.args.request.now) (server_of c.args.state.now) (server_of c.unlist.new.state)
+    (server_of c.carry_out_at.new.state) (server_of c.list.new.state) c.unlist.ensures.server c.in_ok-list.ensures.server (c.in_ok-step.ensures.did chosen)
