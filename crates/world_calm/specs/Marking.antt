@@ -47,18 +47,6 @@ marked_at ms k (Some i) = marked_with ms k i (slice_get ms i)
 abbrev pub marked : List Marked → NewMark → List Marked
 marked ms k = marked_at ms k (position (is_of k.write k.file) ms)
 
--- the write was left before
-abbrev pub is_left_with : Option Marked → Bool
-is_left_with None = false
-is_left_with (Some m) = m.left
-
-abbrev pub was_left_at : List Marked → Option ℕ → Bool
-was_left_at ms None = false
-was_left_at ms (Some i) = is_left_with (slice_get ms i)
-
-abbrev pub was_left : List Marked → (write file : ℕ) → Bool
-was_left ms w f = was_left_at ms (position (is_of w f) ms)
-
 -- ---- marks go
 
 -- a write is finished
@@ -89,19 +77,23 @@ abbrev pub is_live_in : (grant : ℕ) → Option Kept → Bool
 is_live_in g None = false
 is_live_in g (Some k) = list_any (λ (x : Grant). x.number == g) k.grants
 
--- the grant of the write has ended, or its client was stopped
+-- the grant of a client's write has ended, or the client was stopped
+abbrev pub is_left_by : (stopped : List ℕ) → (ℕ → Option Kept) → (client grant file : ℕ) → Bool
+is_left_by stopped kept client grant file = among client stopped || not (is_live_in grant (kept file))
+
 abbrev pub is_left : (stopped : List ℕ) → (ℕ → Option Kept) → Marked → Bool
-is_left stopped kept m = among m.client stopped || not (is_live_in m.grant (kept m.file))
+is_left stopped kept m = is_left_by stopped kept m.client m.grant m.file
 
 -- it is left now, and wasn't before
 abbrev pub leaves : (stopped : List ℕ) → (ℕ → Option Kept) → Marked → Bool
 leaves stopped kept m = not m.left && is_left stopped kept m
 
-abbrev pub left_by : (stopped : List ℕ) → (ℕ → Option Kept) → Marked → Marked
-left_by stopped kept m = if leaves stopped kept m then record m { left = true } else m
+-- which are left now
+abbrev pub left_as : (stopped : List ℕ) → (ℕ → Option Kept) → Marked → Marked
+left_as stopped kept m = record m { left = is_left stopped kept m }
 
 abbrev pub left : (stopped : List ℕ) → (ℕ → Option Kept) → List Marked → List Marked
-left stopped kept ms = map (left_by stopped kept) ms
+left stopped kept ms = map (left_as stopped kept) ms
 
 -- ---- a stripe of a write that was left is short
 

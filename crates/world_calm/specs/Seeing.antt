@@ -21,13 +21,13 @@ use Rattle.scenario_text.specs.declared.line.Line.{Line}
 use Rattle.scenario_text.specs.declared.line.Line.TheVariants as line
 use Rattle.world_history.specs.ServerNames.{Kept, Mended}
 use Rattle.world_history.specs.declared.messages.Sent.{Sent}
-use Rattle.world_history.specs.State.{at_number}
+use Rattle.world_history.specs.State.{at_number, without_number}
 use Rattle.world_history.specs.Calm.{returned_at, is_told_taken}
 use Rattle.world_calm.specs.declared.calm.Performed.{Performed}
 use Rattle.world_calm.specs.Read.{command_of}
-use Rattle.world_calm.specs.Log.{LogState, StartedWrite, no_log, called, forgot, started_by, finished, sends, without_number}
+use Rattle.world_calm.specs.Log.{LogState, LogEntry, no_log, called, forgot, write_by, finished, sent_as}
 use Rattle.world_calm.specs.Files.{FilesState, StripeOf, no_files, shown, file_as, component_as, missing, standing_on, is_short_at, stripes_at}
-use Rattle.world_calm.specs.Marking.{Marked, NewMark, marked, was_left, unmarked, all_mended, left, any_harmed, any_newly_harmed}
+use Rattle.world_calm.specs.Marking.{Marked, NewMark, marked, unmarked, all_mended, is_left_by, left, any_harmed, any_newly_harmed}
 
 -- the log, the files as the moment shows them, the clients that were stopped, the stripes in which WRITEs of unfinished
 -- writes were performed, and whether all moments so far were calm
@@ -76,12 +76,8 @@ takes c ms head rest = taken_by c rest (returned_at ms head)
 
 -- ---- what an event changes before the first moment of its step
 
--- stripes of writes that were left are looked at again, since a component was lost
-abbrev pub looked : CalmState → CalmState
-looked c = record c { calm = c.calm && not (any_harmed c.files c.marks) }
-
 abbrev pub fails : CalmState → (drive : ℕ) → CalmState
-fails c d = looked (record c { files = record c.files { failed = c.files.failed ++ d ∷ [] } })
+fails c d = record c { files = record c.files { failed = c.files.failed ++ d ∷ [] } }
 
 abbrev pub opened_by : CalmState → Event → CalmState
 opened_by c (event.Fail d) = fails c d
@@ -94,39 +90,42 @@ opened c l = c
 
 -- ---- a WRITE is performed
 
-abbrev pub mark_of : (write : ℕ) → StartedWrite → StripeOf → NewMark
+abbrev pub mark_of : (write : ℕ) → LogEntry → StripeOf → NewMark
 mark_of n w s = record { write = n; client = w.client; grant = w.grant; file = s.file; stripe = s.stripe }
 
--- it marks a stripe; where the write was left before, and the stripe is short, that is a harm
-abbrev pub marks_one : CalmState → NewMark → CalmState
-marks_one c k = record c {
-  marks = marked c.marks k;
-  calm = c.calm && not (was_left c.marks k.write k.file && is_short_at c.files k.file k.stripe);
-}
+-- the stripe is short, and the write is left
+abbrev pub harms : KeptOf → CalmState → NewMark → Bool
+harms kept c k = is_left_by c.stopped kept k.client k.grant k.file && is_short_at c.files k.file k.stripe
 
-abbrev pub marks_all : CalmState → (write : ℕ) → StartedWrite → List StripeOf → CalmState
-marks_all c n w ss = fold (λ (x : CalmState) (s : StripeOf). marks_one x (mark_of n w s)) c ss
+-- it marks a stripe
+abbrev pub marks_one : KeptOf → CalmState → NewMark → CalmState
+marks_one kept c k = record c { marks = marked c.marks k; calm = c.calm && not (harms kept c k) }
+
+abbrev pub marks_all : KeptOf → CalmState → (write : ℕ) → LogEntry → List StripeOf → CalmState
+marks_all kept c n w ss = fold (λ (x : CalmState) (s : StripeOf). marks_one kept x (mark_of n w s)) c ss
 
 -- for a write that isn't finished
-abbrev pub marks_for : CalmState → (drive : ℕ) → Command → (write : ℕ) → Option StartedWrite → CalmState
-marks_for c d x n None = c
-marks_for c d x n (Some w) = if w.finished then c else marks_all c n w (stripes_at c.files d x.object x.offset)
+abbrev pub marks_for : KeptOf → CalmState → (drive : ℕ) → Command → (write : ℕ) → Option LogEntry → CalmState
+marks_for kept c d x n None = c
+marks_for kept c d x n (Some w) =
+    if w.finished then c else marks_all kept c n w (stripes_at c.files d x.object x.offset)
 
-abbrev pub performs_command : CalmState → (drive write : ℕ) → Option Command → CalmState
-performs_command c d n None = c
-performs_command c d n (Some x) = if is_write x.action then marks_for c d x n (slice_get c.log.writes n) else c
+abbrev pub performs_command : KeptOf → CalmState → (drive write : ℕ) → Option Command → CalmState
+performs_command kept c d n None = c
+performs_command kept c d n (Some x) =
+    if is_write x.action then marks_for kept c d x n (slice_get c.log.entries n) else c
 
-abbrev pub performs_sent : CalmState → (drive write : ℕ) → Option Sent → CalmState
-performs_sent c d n None = c
-performs_sent c d n (Some s) = performs_command c d n (command_of (reading s.bytes))
+abbrev pub performs_sent : KeptOf → CalmState → (drive write : ℕ) → Option Sent → CalmState
+performs_sent kept c d n None = c
+performs_sent kept c d n (Some s) = performs_command kept c d n (command_of (reading s.bytes))
 
-abbrev pub performs_for : CalmState → List Sent → Performed → Option ℕ → CalmState
-performs_for c ms p None = c
-performs_for c ms p (Some n) = performs_sent c p.drive n (slice_get ms p.message)
+abbrev pub performs_for : KeptOf → CalmState → List Sent → Performed → Option ℕ → CalmState
+performs_for kept c ms p None = c
+performs_for kept c ms p (Some n) = performs_sent kept c p.drive n (slice_get ms p.message)
 
-abbrev pub performs : CalmState → List Sent → Option Performed → CalmState
-performs c ms None = c
-performs c ms (Some p) = performs_for c ms p (at_number c.log.sent_for p.message)
+abbrev pub performs : KeptOf → CalmState → List Sent → Option Performed → CalmState
+performs kept c ms None = c
+performs kept c ms (Some p) = performs_for kept c ms p (at_number c.log.sent_for p.message)
 
 -- ---- the first moment of a step: grants end
 
@@ -136,10 +135,23 @@ begun kept c = record c {
   calm = c.calm && not (any_newly_harmed c.stopped kept c.files c.marks);
 }
 
+-- ---- a moment at which components may have been lost: all stripes of writes that are left are looked at
+
+abbrev pub looked : CalmState → CalmState
+looked c = record c { calm = c.calm && not (any_harmed c.files c.marks) }
+
+-- a drive fails
+abbrev pub is_fail : (head : Line) → Bool
+is_fail (line.Event (event.Fail d)) = true
+is_fail l = false
+
+abbrev pub looked_at : CalmState → (head : Line) → CalmState
+looked_at c head = if is_fail head then looked c else c
+
 -- ---- notes, each a moment
 
 abbrev pub loses : CalmState → (file component : ℕ) → CalmState
-loses c f k = looked (record c { files = file_as c.files f (component_as k missing) })
+loses c f k = record c { files = file_as c.files f (component_as k missing) }
 
 abbrev pub mended_by : CalmState → Option Mended → CalmState
 mended_by c None = c
@@ -153,7 +165,7 @@ noted rs c f (note.Repaired stripes short) = mended_by c (find (λ (r : Mended).
 noted rs c f n = c
 
 abbrev pub notes : List Mended → CalmState → Line → CalmState
-notes rs c (line.Note f n) = noted rs c f n
+notes rs c (line.Note f n) = looked (noted rs c f n)
 notes rs c l = c
 
 -- ---- the log behind the moments of a step
@@ -184,13 +196,12 @@ acknowledged c (Some n) = record c { log = finished c.log n; marks = unmarked c.
 
 abbrev pub ended : CalmState → (client : ℕ) → Outcome → CalmState
 ended c k (outcome.Failed kind ending.Pending) = c
-ended c k (outcome.WriteOk count) = forgets (acknowledged c (started_by c.log k)) k
+ended c k (outcome.WriteOk count) = forgets (acknowledged c (write_by c.log k)) k
 ended c k o = forgets c k
 
 abbrev pub sent_by : CalmState → (client message : ℕ) → Option Command → CalmState
 sent_by c k n None = c
-sent_by c k n (Some x) =
-    if is_write x.action then record c { log = sends c.log k n x.capability.grant } else c
+sent_by c k n (Some x) = record c { log = sent_as c.log k n x x.action }
 
 abbrev pub sent : CalmState → (message : ℕ) → Party → Party → (bytes : List ℕ) → CalmState
 sent c n (party.Client k) (party.Drive d) bytes = sent_by c k n (command_of (reading bytes))
@@ -229,7 +240,7 @@ follows kept c l = shows_changed kept (logs c l) l
 
 -- up to its first moment
 abbrev pub begins : KeptOf → CalmState → List Sent → (head : Line) → (rest : List Line) → Option Performed → CalmState
-begins kept c ms head rest p = begun kept (performs (opened (takes c ms head rest) head) ms p)
+begins kept c ms head rest p = looked_at (begun kept (performs kept (opened (takes c ms head rest) head) ms p)) head
 
 -- the line with which it begins, and those behind it
 abbrev pub sees : KeptOf → List Mended → CalmState → List Sent → (head : Line) → (rest : List Line) → Option Performed

@@ -1,46 +1,46 @@
 ghost use Rattle.std.specs.Prelude.{◌≡◌, length, slice_get, OnOk, IfOk};
 ghost use Rattle.std.specs.List.{fold};
-ghost use Rattle.world_history.specs.State.{at_number};
-ghost use Rattle.world_calm.specs.Log.{called, forgot, finished, no_log, sends, started, started_by, under_with, without_number};
-ghost use Rattle.world_calm.specs.Log.{begun_for, number_for};
+ghost use Rattle.world_history.specs.State.{at_number, without_number};
+ghost use Rattle.world_calm.specs.Log.{begun_for, called, finished, forgot, is_for, no_log, number_for, reads, sends, sent_as, started, under_with, write_by};
 
 use osd_bytes::{Memory, Sequence};
+use osd_commands::{Action, Command};
 use std::alloc::Global;
 use std::collections::BTreeMap;
 use std::marker::Model;
 
-/// Numbers of writes.
-pub type WriteNumbers = Sequence<usize>;
+/// Numbers of entries of the log.
+pub type EntryNumbers = Sequence<usize>;
 
 /// A call that is pending.
 #[derive(Clone, Copy)]
 pub struct PendingCall {
-    /// It writes.
+    /// It writes, else it reads.
     pub writes: bool,
-    /// The write that it started.
+    /// The entry that it started.
     pub started: Option<usize>,
 }
 
-/// A write that was started.
+/// A write or a read that was started.
 #[derive(Clone, Copy)]
-pub struct StartedWrite {
+pub struct LogEntry {
     pub client: u32,
     /// The grant under which it is.
     pub grant: u32,
-    /// It was acknowledged, or taken as a loss.
+    /// It is a write that was acknowledged, or was taken as a loss.
     pub finished: bool,
 }
 
-/// The pending calls by client, and the writes that were started, by number from 0.
+/// The pending calls by client, and the entries that were started, by number from 0.
 #[derive(Drop)]
 pub struct WriteLog {
     alloc: Global,
     pending: BTreeMap<u32, PendingCall>,
-    writes: Sequence<StartedWrite>,
-    // Of each message that is a WRITE in a call, the write for which it was sent.
+    entries: Sequence<LogEntry>,
+    // Of each message that is a WRITE in a call, the entry for which it was sent.
     sent_for: BTreeMap<usize, usize>,
-    // The writes under a grant, none of which was taken as a loss.
-    by_grant: BTreeMap<u32, WriteNumbers>,
+    // The entries under a grant, none of which was taken as a loss.
+    by_grant: BTreeMap<u32, EntryNumbers>,
 }
 
 impl Model for WriteLog {
@@ -48,12 +48,12 @@ impl Model for WriteLog {
 
     ghost Value = { LogState };
 
-    ghost view = { λ w. record { pending = w.pending.entries; writes = w.writes; sent_for = w.sent_for.entries; by_grant = w.by_grant.entries } };
+    ghost view = { λ w. record { pending = w.pending.entries; entries = w.entries; sent_for = w.sent_for.entries; by_grant = w.by_grant.entries } };
 }
 
-// A write more under a grant.
+// An entry more under a grant.
 fn add_under(
-    by_grant: &mut BTreeMap<u32, WriteNumbers>,
+    by_grant: &mut BTreeMap<u32, EntryNumbers>,
     alloc: Global,
     grant: u32,
     number: usize,
@@ -63,7 +63,7 @@ fn add_under(
     match by_grant.get_mut(&grant) {
         Some(numbers) => numbers.push(number)?,
         None => {
-            let mut numbers = WriteNumbers::new(alloc);
+            let mut numbers = EntryNumbers::new(alloc);
             numbers.push(number)?;
             by_grant.insert(grant, numbers)?;
         }
@@ -71,22 +71,29 @@ fn add_under(
     Ok(())
 }
 
+// Whether a call is one that writes, or one that reads.
+fn is_for(call: PendingCall, writes: bool) -> bool
+    ensures { result ≡ is_for writes call }
+{
+    if writes { call.writes } else { !call.writes }
+}
+
 impl WriteLog {
-    /// No call and no write.
+    /// No call and no entry.
     pub fn new(alloc: Global) -> Self
         ensures { result ≡ no_log }
     {
         WriteLog {
             alloc,
             pending: BTreeMap::new(alloc),
-            writes: Sequence::new(alloc),
+            entries: Sequence::new(alloc),
             sent_for: BTreeMap::new(alloc),
             by_grant: BTreeMap::new(alloc),
         }
     }
 
-    /// The write for which a message was sent.
-    pub fn write_of(&self, message: usize) -> Option<usize>
+    /// The entry for which a message was sent as a WRITE.
+    pub fn entry_of(&self, message: usize) -> Option<usize>
         ensures { result ≡ at_number self.now.sent_for message }
     {
         match self.sent_for.get(&message) {
@@ -95,12 +102,12 @@ impl WriteLog {
         }
     }
 
-    /// A write that was started.
-    pub fn write(&self, number: usize) -> Option<StartedWrite>
-        ensures { result ≡ slice_get self.now.writes number }
+    /// An entry that was started.
+    pub fn entry(&self, number: usize) -> Option<LogEntry>
+        ensures { result ≡ slice_get self.now.entries number }
     {
-        if number < self.writes.len() {
-            Some(*self.writes.get(number))
+        if number < self.entries.len() {
+            Some(*self.entries.get(number))
         } else {
             None
         }
@@ -135,82 +142,86 @@ impl WriteLog {
     }
 
     /// The write that the pending call of a client started.
-    pub fn started_by(&self, client: u32) -> Option<usize>
-        ensures { result ≡ started_by self.now client }
+    pub fn write_by(&self, client: u32) -> Option<usize>
+        ensures { result ≡ write_by self.now client }
     {
         match self.pending.get(&client) {
-            Some(call) => call.started,
+            Some(call) => { if call.writes { call.started } else { None } }
             None => None,
         }
     }
 
-    /// A write was acknowledged, or taken as a loss.
+    /// A write was acknowledged, or an entry was taken as a loss.
     pub fn finish(&mut self, number: usize)
         ensures { self.new ≡ finished self.old number }
     {
-        if number < self.writes.len() {
-            self.writes.get_mut(number).finished = true;
+        if number < self.entries.len() {
+            self.entries.get_mut(number).finished = true;
         }
     }
 
-    /// Takes out the writes under a grant.
-    pub fn take_under(&mut self, grant: u32) -> Option<WriteNumbers>
+    /// Takes out the entries under a grant.
+    pub fn take_under(&mut self, grant: u32) -> Option<EntryNumbers>
         ensures taken { result ≡ at_number self.old.by_grant grant }
         ensures left { self.new ≡ record self.old { by_grant = without_number self.old.by_grant grant } }
     {
         self.by_grant.remove(&grant)
     }
 
-    // The client's pending call starts its write.
-    fn start(&mut self, client: u32, grant: u32) -> Result<usize, Memory>
-        ensures number { IfOk result (λ n. n ≡ length self.old.writes) }
-        ensures log { OnOk result (self.new ≡ started self.old client grant) }
+    // The client's pending call starts its entry.
+    fn start(&mut self, client: u32, grant: u32, writes: bool) -> Result<usize, Memory>
+        ensures number { IfOk result (λ n. n ≡ length self.old.entries) }
+        ensures log { OnOk result (self.new ≡ started self.old client grant writes) }
     {
-        let number = self.writes.len();
-        self.writes.push(StartedWrite {
+        let number = self.entries.len();
+        self.entries.push(LogEntry {
             client,
             grant,
             finished: false,
         })?;
         add_under(&mut self.by_grant, self.alloc, grant, number)?;
         let call = PendingCall {
-            writes: true,
+            writes,
             started: Some(number),
         };
         self.pending.insert(client, call)?;
         Ok(number)
     }
 
-    // The write for which a client sends a WRITE: it starts with the first one of its call.
-    fn write_for(&mut self, client: u32, grant: u32) -> Result<Option<usize>, Memory>
-        ensures number { IfOk result (λ n. n ≡ number_for self.old (at_number self.old.pending client)) }
-        ensures log { OnOk result (self.new ≡ begun_for self.old client grant (at_number self.old.pending client)) }
+    // The entry for which a client sends a command: it starts with the first one of its call.
+    fn entry_for(&mut self, client: u32, grant: u32, writes: bool) -> Result<Option<usize>, Memory>
+        ensures number { IfOk result (λ n. n ≡ number_for self.old writes (at_number self.old.pending client)) }
+        ensures log { OnOk result (self.new ≡ begun_for self.old client grant writes (at_number self.old.pending client)) }
     {
         let call = match self.pending.get(&client) {
             Some(call) => *call,
             None => return Ok(None),
         };
-        if !call.writes {
+        if !is_for(call, writes) {
             return Ok(None);
         }
         match call.started {
             Some(number) => Ok(Some(number)),
             None => {
-                let number = self.start(client, grant)?;
+                let number = self.start(client, grant, writes)?;
                 Ok(Some(number))
             }
         }
     }
 
-    /// A client sends a WRITE to a drive: a write starts with its call's first one.
-    ///
-    /// # Errors
-    ///
-    /// Want of memory.
-    pub fn send(&mut self, client: u32, message: usize, grant: u32) -> Result<(), Memory>
+    // A client sends a READ to a drive: a read starts with its call's first one.
+    fn read(&mut self, client: u32, grant: u32) -> Result<(), Memory>
+        ensures { OnOk result (self.new ≡ reads self.old client grant) }
+    {
+        self.entry_for(client, grant, false)?;
+        Ok(())
+    }
+
+    // A client sends a WRITE to a drive: a write starts with its call's first one.
+    fn write(&mut self, client: u32, message: usize, grant: u32) -> Result<(), Memory>
         ensures { OnOk result (self.new ≡ sends self.old client message grant) }
     {
-        match self.write_for(client, grant)? {
+        match self.entry_for(client, grant, true)? {
             Some(number) => {
                 self.sent_for.insert(message, number)?;
                 Ok(())
@@ -218,9 +229,24 @@ impl WriteLog {
             None => Ok(()),
         }
     }
+
+    /// A client sends a command to a drive: its call's entry starts with the first WRITE or READ.
+    ///
+    /// # Errors
+    ///
+    /// Want of memory.
+    pub fn send(&mut self, client: u32, message: usize, command: &Command) -> Result<(), Memory>
+        ensures { OnOk result (self.new ≡ sent_as self.old client message command.now command.now.action) }
+    {
+        match command.action {
+            Action::Write => self.write(client, message, command.capability.grant),
+            Action::Read => self.read(client, command.capability.grant),
+            _ => Ok(()),
+        }
+    }
 }
 
-/// Writes were acknowledged, or taken as a loss.
+/// Entries were acknowledged, or taken as a loss.
 pub fn finish_all(log: &mut WriteLog, numbers: &[usize])
     ensures { log.new ≡ fold finished log.old numbers.now }
 {

@@ -1,11 +1,11 @@
 ghost use Rattle.std.specs.Prelude.{◌≡◌, ◌∷◌, slice_get, OnOk};
 ghost use Rattle.std.specs.List.{fold};
-ghost use Rattle.world_calm.specs.Seeing.{acknowledged, all_finished, begins, begun, calls, calm_at_first, ended, follows, loses, looked, logs, marks_all, marks_for, marks_one, mended_by, noted, notes, opened, performs, performs_command, refused, sees, sent, shows, shows_all, shows_changed, takes, taken_under};
+ghost use Rattle.world_calm.specs.Seeing.{acknowledged, all_finished, begins, begun, calm_at_first, ended, follows, harms, loses, looked, looked_at, logs, marks_all, marks_for, marks_one, mended_by, noted, notes, opened, performs, performs_command, refused, sees, sent, shows, shows_all, shows_changed, takes, taken_under};
 
-use crate::calls::{StartedWrite, WriteLog, finish_all as finish_writes};
+use crate::calls::{LogEntry, WriteLog, finish_all as finish_writes};
 use crate::files::{FileStripes, SeenFiles};
-use crate::looking::{mark_of, mended_of, returned_at, sent_at, writes};
-use crate::marks::{Marks, NewMark, finish_all as unmark_writes};
+use crate::looking::{is_fail, mark_of, mended_of, returned_at, sent_at, writes};
+use crate::marks::{Marks, NewMark, finish_all as unmark_writes, is_of_left};
 use crate::reading::{command_in, is_told_taken};
 use crate::view::KeptFiles;
 use osd_bytes::{Memory, Numbers};
@@ -96,25 +96,13 @@ impl Calm {
 
     // ---- what an event changes before the first moment of its step
 
-    // The stripes of writes that were left are looked at again, since a component is lost.
-    fn look(&mut self)
-        ensures { self.new ≡ looked self.old }
-    {
-        let harmed = self.marks.any_harmed(&self.files);
-        self.calm = self.calm && !harmed;
-    }
-
     fn open(&mut self, head: &Line) -> Result<(), Memory>
         ensures { OnOk result (self.new ≡ opened self.old head.now) }
     {
         match head {
             Line::Event {
                 event: Event::Fail { drive },
-            } => {
-                self.files.fail(drive.number())?;
-                self.look();
-                Ok(())
-            }
+            } => self.files.fail(drive.number()),
             Line::Event {
                 event: Event::Stop { client },
             } => self.stopped.push(client.number()),
@@ -124,59 +112,78 @@ impl Calm {
 
     // ---- a WRITE is performed
 
-    // It marks a stripe.
-    fn mark_one(&mut self, mark: NewMark) -> Result<(), Memory>
-        ensures { OnOk result (self.new ≡ marks_one self.old mark) }
+    // Whether its stripe is short, and its write is left.
+    fn harms<S: KeptFiles>(&self, server: &S, mark: NewMark) -> bool
+        ensures { result ≡ harms (S.kept_of server.now) self.now mark }
     {
-        let harmed = self.marks.was_left(mark.write, mark.file)
-            && self.files.is_short(mark.file, mark.stripe);
+        is_of_left(self.stopped.as_slice(), server, mark)
+            && self.files.is_short(mark.file, mark.stripe)
+    }
+
+    // It marks a stripe.
+    fn mark_one<S: KeptFiles>(&mut self, server: &S, mark: NewMark) -> Result<(), Memory>
+        ensures { OnOk result (self.new ≡ marks_one (S.kept_of server.now) self.old mark) }
+    {
+        let harmed = self.harms(server, mark);
         self.marks.mark(mark)?;
         self.calm = self.calm && !harmed;
         Ok(())
     }
 
     // It marks these.
-    fn mark_all(
+    fn mark_all<S: KeptFiles>(
         &mut self,
+        server: &S,
         write: usize,
-        started: StartedWrite,
+        entry: LogEntry,
         stripes: &FileStripes,
     ) -> Result<(), Memory>
-        ensures { OnOk result (self.new ≡ marks_all self.old write started stripes.now) }
+        ensures { OnOk result (self.new ≡ marks_all (S.kept_of server.now) self.old write entry stripes.now) }
     {
         for stripe in stripes.as_slice() {
-            self.mark_one(mark_of(write, started, *stripe))?;
+            self.mark_one(server, mark_of(write, entry, *stripe))?;
         }
         Ok(())
     }
 
     // A WRITE for a write was performed: it marks its stripes, unless the write is finished.
-    fn mark_for(&mut self, drive: u32, command: &Command, write: usize) -> Result<(), Memory>
-        ensures { OnOk result (self.new ≡ marks_for self.old drive command.now write (slice_get self.old.log.writes write)) }
+    fn mark_for<S: KeptFiles>(
+        &mut self,
+        server: &S,
+        drive: u32,
+        command: &Command,
+        write: usize,
+    ) -> Result<(), Memory>
+        ensures { OnOk result (self.new ≡ marks_for (S.kept_of server.now) self.old drive command.now write (slice_get self.old.log.entries write)) }
     {
-        match self.log.write(write) {
-            Some(started) => {
-                if started.finished {
+        match self.log.entry(write) {
+            Some(entry) => {
+                if entry.finished {
                     return Ok(());
                 }
                 let stripes = self
                     .files
                     .stripes_at(drive, command.object, command.offset)?;
-                self.mark_all(write, started, &stripes)
+                self.mark_all(server, write, entry, &stripes)
             }
             None => Ok(()),
         }
     }
 
     // A drive performed the bytes of a message.
-    fn perform(&mut self, network: &Network, performed: Option<Performed>) -> Result<(), Memory>
-        ensures { OnOk result (self.new ≡ performs self.old network.now.messages performed) }
+    fn perform<S: KeptFiles>(
+        &mut self,
+        server: &S,
+        network: &Network,
+        performed: Option<Performed>,
+    ) -> Result<(), Memory>
+        ensures { OnOk result (self.new ≡ performs (S.kept_of server.now) self.old network.now.messages performed) }
     {
         let performed = match performed {
             Some(performed) => performed,
             None => return Ok(()),
         };
-        let write = match self.log.write_of(performed.message) {
+        let write = match self.log.entry_of(performed.message) {
             Some(write) => write,
             None => return Ok(()),
         };
@@ -187,7 +194,7 @@ impl Calm {
         match command_in(self.alloc, sent.bytes.as_slice())? {
             Some(command) => {
                 if command.action == Action::Write {
-                    self.mark_for(performed.drive.number(), &command, write)
+                    self.mark_for(server, performed.drive.number(), &command, write)
                 } else {
                     Ok(())
                 }
@@ -209,15 +216,31 @@ impl Calm {
         self.calm = self.calm && !harmed;
     }
 
+    // All stripes of writes that are left are looked at, since components may have been lost.
+    fn look(&mut self)
+        ensures { self.new ≡ looked self.old }
+    {
+        let harmed = self.marks.any_harmed(&self.files);
+        self.calm = self.calm && !harmed;
+    }
+
+    // They are where a drive fails.
+    fn look_at(&mut self, head: &Line)
+        ensures { self.new ≡ looked_at self.old head.now }
+    {
+        if is_fail(head) {
+            self.look();
+        }
+    }
+
     // A component is lost.
     fn lose(&mut self, file: u32, component: u32)
         ensures { self.new ≡ loses self.old file component }
     {
         self.files.lose(file, component);
-        self.look();
     }
 
-    // A note, which is a moment.
+    // What a note tells.
     fn note(&mut self, file: u32, note: &Note, mended: &[Mended]) -> Result<(), Memory>
         ensures { OnOk result (self.new ≡ noted mended.now self.old file note.now) }
     {
@@ -236,27 +259,31 @@ impl Calm {
         Ok(())
     }
 
-    // Those among some lines.
+    // A line; a note is a moment.
+    fn note_line(&mut self, line: &Line, mended: &[Mended]) -> Result<(), Memory>
+        ensures { OnOk result (self.new ≡ notes mended.now self.old line.now) }
+    {
+        match line {
+            Line::Note { file, note } => {
+                self.note(file.number(), note, mended)?;
+                self.look();
+                Ok(())
+            }
+            _ => Ok(()),
+        }
+    }
+
+    // Some lines.
     fn note_all(&mut self, rest: &[Line], mended: &[Mended]) -> Result<(), Memory>
         ensures { OnOk result (self.new ≡ fold (notes mended.now) self.old rest.now) }
     {
         for line in rest {
-            match line {
-                Line::Note { file, note } => self.note(file.number(), note, mended)?,
-                _ => {}
-            }
+            self.note_line(line, mended)?;
         }
         Ok(())
     }
 
     // ---- the log behind the moments of a step
-
-    // A client is called.
-    fn log_call(&mut self, client: u32, call: &Call) -> Result<(), Memory>
-        ensures { OnOk result (self.new ≡ calls self.old client call.now) }
-    {
-        self.log.call(client, writes(call))
-    }
 
     // A call is refused.
     fn refuse(&mut self, client: u32, refusal: Refusal)
@@ -291,7 +318,7 @@ impl Calm {
                 ..
             } => {}
             Outcome::WriteOk { .. } => {
-                let write = self.log.started_by(client);
+                let write = self.log.write_by(client);
                 self.acknowledge(write);
                 self.log.forget(client);
             }
@@ -299,7 +326,7 @@ impl Calm {
         }
     }
 
-    // A message is sent: a write may begin.
+    // A message is sent.
     fn send(&mut self, message: usize, from: Party, to: Party, bytes: &[u8]) -> Result<(), Memory>
         ensures { OnOk result (self.new ≡ sent self.old message from to bytes.now) }
     {
@@ -312,14 +339,7 @@ impl Calm {
             _ => return Ok(()),
         }
         match command_in(self.alloc, bytes)? {
-            Some(command) => {
-                if command.action == Action::Write {
-                    self.log
-                        .send(client.number(), message, command.capability.grant)
-                } else {
-                    Ok(())
-                }
-            }
+            Some(command) => self.log.send(client.number(), message, &command),
             None => Ok(()),
         }
     }
@@ -331,10 +351,10 @@ impl Calm {
         match line {
             Line::Event {
                 event: Event::Do { client, call },
-            } => self.log_call(client.number(), call),
+            } => self.log.call(client.number(), writes(call)),
             Line::Event {
                 event: Event::Call { client, call },
-            } => self.log_call(client.number(), call),
+            } => self.log.call(client.number(), writes(call)),
             Line::Refused { client, refusal } => {
                 self.refuse(client.number(), *refusal);
                 Ok(())
@@ -430,8 +450,9 @@ impl Calm {
     {
         self.take(network, head, rest)?;
         self.open(head)?;
-        self.perform(network, performed)?;
+        self.perform(server, network, performed)?;
         self.begin(server);
+        self.look_at(head);
         Ok(())
     }
 

@@ -1,14 +1,14 @@
 ghost use Rattle.std.specs.Prelude.{◌≡◌, ◌==◌, find, slice_get, IfOk};
 ghost use Rattle.std.specs.Option.{option_copied};
 ghost use Rattle.world_history.specs.Calm.{returned_at};
-ghost use Rattle.world_calm.specs.Seeing.{mark_of, writes};
+ghost use Rattle.world_calm.specs.Seeing.{is_fail, mark_of, writes};
 
-use crate::calls::StartedWrite;
+use crate::calls::LogEntry;
 use crate::files::StripeOf;
 use crate::marks::NewMark;
 use crate::reading::returned_by;
 use osd_bytes::Memory;
-use scenario_text::{Call, Line, Party};
+use scenario_text::{Call, Event, Line, Party};
 use server_rules::Mended;
 use std::alloc::Global;
 use world_history::Sent;
@@ -68,14 +68,26 @@ pub fn writes(call: &Call) -> bool
     }
 }
 
+/// Whether a drive fails at a line.
+pub fn is_fail(head: &Line) -> bool
+    ensures { result ≡ is_fail head.now }
+{
+    match head {
+        Line::Event {
+            event: Event::Fail { .. },
+        } => true,
+        _ => false,
+    }
+}
+
 /// The mark of a WRITE of a write in a stripe.
-pub fn mark_of(write: usize, started: StartedWrite, stripe: StripeOf) -> NewMark
-    ensures { result ≡ mark_of write started stripe }
+pub fn mark_of(write: usize, entry: LogEntry, stripe: StripeOf) -> NewMark
+    ensures { result ≡ mark_of write entry stripe }
 {
     NewMark {
         write,
-        client: started.client,
-        grant: started.grant,
+        client: entry.client,
+        grant: entry.grant,
         file: stripe.file,
         stripe: stripe.stripe,
     }

@@ -2,7 +2,7 @@ ghost use Rattle.std.specs.Prelude.{◌≡◌, [], map, position, OnOk, IfOk};
 ghost use Rattle.server_rules.specs.Numbers.{among as among_numbers};
 ghost use Rattle.std.specs.List.{fold};
 ghost use Rattle.world_history.specs.Stripes.{is_worked};
-ghost use Rattle.world_calm.specs.Marking.{and_stripe, any_harmed, any_newly_harmed, any_short, first_mark, has_stripes, is_left, is_of, is_repaired, last_is, leaves, left, left_by, marked, all_mended, mended_by, stripes_left, unmarked, was_left};
+ghost use Rattle.world_calm.specs.Marking.{and_stripe, any_harmed, any_newly_harmed, any_short, first_mark, has_stripes, is_left, is_left_by, is_of, is_repaired, last_is, leaves, left, left_as, marked, all_mended, mended_by, stripes_left, unmarked};
 
 use crate::files::{SeenFiles, among};
 use crate::view::{KeptFiles, is_live};
@@ -152,11 +152,25 @@ fn mend_one(alloc: Global, mended: &Mended, marked: &mut Marked) -> Result<(), M
     Ok(())
 }
 
-// Whether the grant of a write has ended, or its client was stopped.
+// Whether the grant of a client's write has ended, or the client was stopped.
+fn is_left_by<S: KeptFiles>(stopped: &[u32], server: &S, client: u32, grant: u32, file: u32) -> bool
+    ensures { result ≡ is_left_by stopped.now (S.kept_of server.now) client grant file }
+{
+    among(client, stopped) || !is_live(server, file, grant)
+}
+
+// The same of a write that has marks.
 fn is_left<S: KeptFiles>(stopped: &[u32], server: &S, marked: &Marked) -> bool
     ensures { result ≡ is_left stopped.now (S.kept_of server.now) marked.now }
 {
-    among(marked.client, stopped) || !is_live(server, marked.file, marked.grant)
+    is_left_by(stopped, server, marked.client, marked.grant, marked.file)
+}
+
+/// Whether a mark is of a write that is left.
+pub fn is_of_left<S: KeptFiles>(stopped: &[u32], server: &S, mark: NewMark) -> bool
+    ensures { result ≡ is_left_by stopped.now (S.kept_of server.now) mark.client mark.grant mark.file }
+{
+    is_left_by(stopped, server, mark.client, mark.grant, mark.file)
 }
 
 // Whether that is so now and wasn't before.
@@ -166,13 +180,11 @@ fn leaves<S: KeptFiles>(stopped: &[u32], server: &S, marked: &Marked) -> bool
     !marked.left && is_left(stopped, server, marked)
 }
 
-// It is left from now on, if so.
+// Whether it is left is kept.
 fn leave_one<S: KeptFiles>(stopped: &[u32], server: &S, marked: &mut Marked)
-    ensures { marked.new ≡ left_by stopped.now (S.kept_of server.now) marked.old }
+    ensures { marked.new ≡ left_as stopped.now (S.kept_of server.now) marked.old }
 {
-    if leaves(stopped, server, marked) {
-        marked.left = true;
-    }
+    marked.left = is_left(stopped, server, marked);
 }
 
 // Whether one of these stripes of a file with parity is short.
@@ -252,16 +264,6 @@ impl Marks {
                 self.marked.push(first)?;
                 Ok(())
             }
-        }
-    }
-
-    /// Whether a write that has marks in a file was left before.
-    pub fn was_left(&self, write: usize, file: u32) -> bool
-        ensures { result ≡ was_left self.now write file }
-    {
-        match place_of(self.marked.as_slice(), write, file) {
-            Some(place) => self.marked[place].left,
-            None => false,
         }
     }
 

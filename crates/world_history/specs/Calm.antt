@@ -27,8 +27,8 @@ use Rattle.scenario_text.specs.declared.line.Party.{Party}
 use Rattle.scenario_text.specs.declared.line.Party.TheVariants as party
 use Rattle.scenario_text.specs.declared.line.Line.{Line}
 use Rattle.scenario_text.specs.declared.line.Line.TheVariants as line
-use Rattle.world_history.specs.State.{Sent}
-use Rattle.world_history.specs.Reading.{Step, steps_of}
+use Rattle.world_history.specs.State.{Sent, at_number}
+use Rattle.world_history.specs.Reading.{Step, steps_of, is_drive}
 use Rattle.world_history.specs.ReadDrives.{injected_after}
 use Rattle.world_history.specs.Book.{ServerSeen, server_step, sees_server, server_at_first}
 use Rattle.world_history.specs.ReadLog.{Logged, Log, log_after, empty_log}
@@ -164,37 +164,58 @@ watches rs w l = w
 
 -- ---- a WRITE that a drive performs
 
--- the entry of the log for which these bytes were sent
-abbrev pub entry_with : List Logged → (bytes : List ℕ) → Option ℕ
-entry_with es bytes = position (λ (e : Logged). list_any (λ b. pointwise nat_eq b bytes) e.writes) es
+-- the message whose bytes a drive performed
+pub record Performed : Type 0 where
+  pub drive : ℕ
+  pub message : ℕ
 
--- the marks of a WRITE, where it was sent for an entry
-abbrev pub marks_for : List File → (drive : ℕ) → Command → Option ℕ → List Mark
-marks_for fs d c None = []
-marks_for fs d c (Some e) = if is_write c.action then marks_of fs d c.object c.offset e else []
+-- a message that was delivered to one
+abbrev pub performed_by : (number : ℕ) → Party → Option Performed
+performed_by number (party.Drive d) = Some (record { drive = d; message = number })
+performed_by number to = None
 
-abbrev pub marks_read : Moment → (drive : ℕ) → (bytes : List ℕ) → Result Command CommandErr → List Mark
-marks_read m d bytes (Ok c) = marks_for m.server.files d c (entry_with m.log.entries bytes)
-marks_read m d bytes (Err e) = []
+abbrev pub performed_sent : (number : ℕ) → Option Sent → Option Performed
+performed_sent number None = None
+performed_sent number (Some s) = performed_by number s.to
 
--- bytes that a drive performs
-abbrev pub performs : Moment → (drive : ℕ) → (bytes : List ℕ) → List Mark
-performs m d bytes = marks_read m d bytes (commands.reading bytes)
+-- a message to that drive with these bytes
+abbrev pub is_sent_as : (drive : ℕ) → (bytes : List ℕ) → Sent → Bool
+is_sent_as d bytes s = is_drive d s.to && pointwise nat_eq s.bytes bytes
 
-abbrev pub performs_for : Moment → Sent → Party → List Mark
-performs_for m s (party.Drive d) = performs m d s.bytes
-performs_for m s to = []
+-- bytes that were injected stand for the first such message
+abbrev pub performed_first : (drive : ℕ) → Option ℕ → Option Performed
+performed_first d None = None
+performed_first d (Some number) = Some (record { drive = d; message = number })
 
-abbrev pub performs_sent : Moment → Option Sent → List Mark
-performs_sent m None = []
-performs_sent m (Some s) = performs_for m s s.to
+-- at a line
+abbrev pub performed_at : List Sent → (injected : List ℕ) → Line → Option Performed
+performed_at ss injected (line.Delivered number (delivery.Judged verdict.Perform)) =
+    performed_sent number (slice_get ss number)
+performed_at ss injected (line.Judged d verdict.Perform) =
+    performed_first d (position (is_sent_as d injected) ss)
+performed_at ss injected l = None
+
+-- the marks of a WRITE for an entry of the log
+abbrev pub marks_read : List File → (drive entry : ℕ) → Result Command CommandErr → List Mark
+marks_read fs d e (Ok c) = if is_write c.action then marks_of fs d c.object c.offset e else []
+marks_read fs d e (Err cause) = []
+
+abbrev pub marks_sent : List File → (drive entry : ℕ) → Option Sent → List Mark
+marks_sent fs d e None = []
+marks_sent fs d e (Some s) = marks_read fs d e (commands.reading s.bytes)
+
+-- of a message that was sent for one
+abbrev pub marks_for : Moment → List Sent → Performed → Option ℕ → List Mark
+marks_for m ss p None = []
+marks_for m ss p (Some e) = marks_sent m.server.files p.drive e (slice_get ss p.message)
+
+abbrev pub marks_by : Moment → List Sent → Option Performed → List Mark
+marks_by m ss None = []
+marks_by m ss (Some p) = marks_for m ss p (at_number m.log.writes p.message)
 
 -- the marks that a line adds
 abbrev pub marks_at : Seen → Line → List Mark
-marks_at s (line.Delivered number (delivery.Judged verdict.Perform)) =
-    performs_sent s.moment (slice_get s.server.sent number)
-marks_at s (line.Judged d verdict.Perform) = performs s.moment d s.injected
-marks_at s l = []
+marks_at s l = marks_by s.moment s.server.sent (performed_at s.server.sent s.injected l)
 
 -- ---- a step
 

@@ -2,7 +2,7 @@
 use Rattle.std.specs.Prelude.{ℕ, Bool, List, [], Option}
 use Rattle.std.specs.Ordering.{nat_cmp}
 use Rattle.std.specs.BTreeMap.{is_at, insert_entry}
-use Rattle.std.specs.Map.{lookup, set_value}
+use Rattle.std.specs.Map.{lookup, set_value, remove_entry}
 use Rattle.osd_drive.specs.State.{DriveState}
 use Rattle.world_history.specs.ServerNames.{Server}
 use Rattle.server_rules.specs.Making.{new_server}
@@ -38,6 +38,10 @@ with_number xs number x = set_value (is_at (nat_cmp number)) xs x
 -- the same list, and this under a new number
 abbrev pub and_number : {X : Type 0} → List (ℕ × X) → (number : ℕ) → X → List (ℕ × X)
 and_number xs number x = insert_entry nat_cmp xs number x
+
+-- what stands under a number is taken out
+abbrev pub without_number : {X : Type 0} → List (ℕ × X) → (number : ℕ) → List (ℕ × X)
+without_number xs number = remove_entry (is_at (nat_cmp number)) xs
 
 -- ---- the world
 

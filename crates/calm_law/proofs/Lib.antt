@@ -1,0 +1,17 @@
+mod Lists
+mod Tables
+mod Noting
+mod Showing
+mod Logging
+mod Taking
+mod Marking
+mod Mending
+mod Harming
+mod Performing
+mod Flagging
+mod Beginning
+mod Telling
+mod Ending
+mod Following
+mod Opening
+mod Pending
