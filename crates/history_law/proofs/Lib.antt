@@ -1,4 +1,17 @@
 mod Moments
 mod Going
 mod Running
+mod Counted
+mod Counting
 mod Touching
+mod Histories
+mod Each
+mod Replying
+mod DriveLines
+mod DriveMoves
+mod DriveEvents
+mod Lanes
+mod Spending
+mod Telling
+mod Coming
+mod Safe

@@ -99,7 +99,7 @@ pub record IsAtHome (d : DriveState) (c : Command) : Type 0 where
   pub range : is_out_of_range c ≡ false
   pub absent : c.action ≡ Create → object_at d.store c.object ≡ None
 
-home : (d : DriveState) (now : ℕ) (c : Command) → first_fault d now c ≡ Perform → IsAtHome d c
+pub home : (d : DriveState) (now : ℕ) (c : Command) → first_fault d now c ≡ Perform → IsAtHome d c
 home d now c e =
     let all = (all_told d now c).0 e in
     let here = not_false _ all.1.1.1.1.1.0 in

@@ -1,4 +1,12 @@
 pub mod Moments
 pub mod Parties
 pub mod Grants
+pub mod Counters
 pub mod Touching
+pub mod Judging
+pub mod Sources
+pub mod Spent
+pub mod Tags
+pub mod Replied
+pub mod Safe
+pub mod Drives

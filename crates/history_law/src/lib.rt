@@ -6,4 +6,7 @@
 
 mod laws;
 
-pub use laws::{grants_are_safe, parties_run, performed_touches_its_own};
+pub use laws::{
+    drives_are_read, grants_are_counted, grants_are_safe, histories_are_safe, parties_run,
+    performed_touches_its_own, replies_tell,
+};

@@ -1,7 +1,7 @@
 -- An event that isn't refused, from its line to the end of its first move.
 use Rattle.std.specs.Prelude.{OnOk, OnErr}
 use Rattle.std.proofs.Common.{arith, ◌≡◌, ◌≤◌, ◌+◌, ◌++◌, ◌∷◌, [], List, length, None, Result, Ok, Err, refl, sym, ap, subst, ◌∙◌}
-use Rattle.std.proofs.lemmas.List.{append-nil, length-append, length-map}
+use Rattle.std.proofs.lemmas.List.{length-append, length-map}
 use Rattle.scenario_text.specs.declared.event.Event.{Event}
 use Rattle.scenario_text.specs.declared.line.Line.{Line}
 use Rattle.scenario_text.specs.declared.line.Line.TheVariants as line
@@ -9,9 +9,8 @@ use Rattle.world_history.specs.declared.err.WorldErr.{WorldErr}
 use Rattle.world_history.specs.declared.err.WorldErr.TheVariants.{Memory}
 use Rattle.world_history.specs.State.{World}
 use Rattle.world_history.specs.Moves.{Opens, begins}
-use Rattle.world_history.specs.Plans.{Rule, rule_of, plan_of}
+use Rattle.world_history.specs.Plans.{rule_of, plan_of}
 use Rattle.world_history.specs.Refusals.{refusal}
-use Rattle.world_history.specs.History.Begins.{Nothing}
 use Rattle.world_words.specs.declared.acts.Act.{Act}
 use Rattle.world_words.specs.Acts.{IsAct}
 use Rattle.world_history.specs.Moves.{Act as WorldAct}
@@ -19,19 +18,9 @@ use Rattle.layout_world.specs.declared.parties.Parties.{Parties}
 use Rattle.layout_world.specs.State.{Shows}
 use Rattle.world_history.specs.Laws.{shown}
 use Rattle.layout_world.specs.Acting.{Acts, Grows}
-use Rattle.layout_world.specs.Going.{Performed, MovesBy, Far, Broken, Comes, Finishes, FinishesAll, Ended, behind}
-use Rattle.layout_world.proofs.Going.{far_first, comes, broken_here}
+use Rattle.layout_world.specs.Going.{Performed, MovesBy, Far, Broken, Comes, Finishes, Ended, behind}
+use Rattle.layout_world.proofs.Going.{comes, broken_here}
 use Rattle.layout_world.proofs.Began.{began}
-
--- nothing stands there yet
-pub broken_before : (w : World) (e : Event) (lines : List Line) → Broken w e lines lines
-broken_before w e lines = record { lines = []; appended = sym (append-nil lines); begins = Nothing refl }
-
--- its own line alone
-pub broken_told : (w : World) (e : Event) (lines : List Line) (p : Parties) → refusal w e ≡ None → Shows p w
-    → Broken w e lines (lines ++ line.Event e ∷ [])
-broken_told w e lines p a s =
-    broken_here w e lines (plan_of w e) p (lines ++ line.Event e ∷ []) (far_first w e lines p a s)
 
 -- its first move
 pub opens : (w : World) (e : Event) (old mid new : Parties) (act : Act) (before told after : List Line)
@@ -54,13 +43,6 @@ opens w e old mid new act before told after r t does performs s a =
     } in
     comes w e before (plan_of w e) old (before ++ line.Event e ∷ []) first (Opens e) new after r refl
     (subst (λ (x : List Line). MovesBy w (Opens e) new x after r) t moved)
-
--- what is still to do then comes to its end
-pub finishes_then : (w : World) (e : Event) (rule : Rule) (old new : Parties) (before told after : List Line)
-    (r : Result (Unit {0}) WorldErr) → rule ≡ rule_of w e → FinishesAll (behind rule) old new told after r
-    → Far w e before (behind (rule_of w e)) old told → Finishes w e before new after r
-finishes_then w e rule old new before told after r same all f =
-    all w e before (subst (λ (x : Rule). Far w e before (behind x) old told) (sym same) f)
 
 -- an event that came to its end breaks off there
 pub broken_behind : (w : World) (e : Event) (before : List Line) (p : Parties) (lines : List Line)

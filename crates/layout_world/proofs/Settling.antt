@@ -108,18 +108,6 @@ settled_end first next ms s h = record {
   ];
 }
 
--- two stretches that meet
-pub settled_all : (first end : ℕ) (ms : List Sent) → first ≤ end → Settled 0 end ms → Settled first (length ms) ms
-    → Settled 0 (length ms) ms
-settled_all first end ms m low high = record {
-  from = omega arith;
-  sent = omega arith;
-  none = λ k p f l e. elim (cases_lt k end) [
-    | inl b ↦ low.none k p f b e
-    | inr b ↦ high.none k p (omega (arith, m, b)) l e
-  ];
-}
-
 -- where delivery starts
 pub settled_start : (first end next : ℕ) (ms : List Sent) → Settled 0 end ms → first ≤ length ms → first ≤ next
     → (next ≡ first) ⊎ (next ≡ end) → Settled first next ms

@@ -3,7 +3,7 @@ use Rattle.std.proofs.Common.{◌≡◌, ℕ, List, refl, ◌∙◌}
 use Rattle.world_history.specs.State.{DriveAt, ClientAt, World, with_server}
 use Rattle.world_server.specs.State.{WorldServerState}
 use Rattle.layout_world.specs.declared.parties.Parties.{Parties}
-use Rattle.layout_world.specs.State.{Settled, Shows}
+use Rattle.layout_world.specs.State.{Shows}
 
 pub shows_drives : (p : Parties) (t u : List (ℕ × DriveAt)) (w : World) → t ≡ u → Shows p w
     → Shows (record p { drives = t }) (record w { drives = u })
@@ -47,28 +47,4 @@ shows_clock p time w s = record {
   clock = refl;
   network = s.network;
   settled = s.settled;
-}
-
--- where the server of the rules is the same
-pub shows_same : (p : Parties) (x : WorldServerState) (w : World) → x.state ≡ p.server.state → Shows p w
-    → Shows (record p { server = x }) w
-shows_same p x w e s = record {
-  drives = s.drives;
-  clients = s.clients;
-  server = e ∙ s.server;
-  clock = s.clock;
-  network = s.network;
-  settled = s.settled;
-}
-
--- where another place is settled
-pub shows_settled : (p : Parties) (end : ℕ) (w : World) → Settled 0 end p.network.messages → Shows p w
-    → Shows (record p { settled = end }) w
-shows_settled p end w h s = record {
-  drives = s.drives;
-  clients = s.clients;
-  server = s.server;
-  clock = s.clock;
-  network = s.network;
-  settled = h;
 }

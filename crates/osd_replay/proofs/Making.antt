@@ -11,6 +11,7 @@ use Rattle.world_history.specs.State.{empty_world}
 use Rattle.world_history.specs.declared.summary.Summary.{Summary}
 use Rattle.world_watch.specs.Watching.{Watches}
 use Rattle.layout_world.specs.State.{WorldState, Shows}
+use Rattle.history_law.specs.Safe.{HistoriesAreSafe}
 use Rattle.osd_replay.specs.Ends.{Ends, PutsError}
 use Rattle.osd_replay.specs.Puts.{Puts}
 use Rattle.osd_replay.specs.Stops.{error_of, status_of}
@@ -21,7 +22,7 @@ use Rattle.osd_replay.specs.declared.carry_out.Carried.{Carried}
 use Rattle.osd_replay.specs.declared.generate.Digested.{Digested}
 use Rattle.osd_replay.specs.declared.stop.Stop.{Stop}
 use Rattle.osd_replay.specs.declared.stop.Stop.TheVariants.{Refused, Read, Memory, Full}
-use Rattle.osd_replay.proofs.Telling.{tells_none, tells_more, last_said}
+use Rattle.osd_replay.proofs.Telling.{told_safe, tells_none, tells_more, last_said}
 use Rattle.osd_replay.proofs.SoFar.{text_more, appends_none}
 use Rattle.osd_replay.proofs.Promised.{tells}
 
@@ -71,15 +72,16 @@ stops_among all front rest e (Full quantity) is h = record { events = front; nex
 pub made_none : (d : Digested) → Shows d.world.parties empty_world → Watches [] d.world.watch → Holds d.digest [] → Made [] d
 made_none d shows watches holds = record { world = empty_world; history = []; shows = shows; tells = tells_none; watches = watches; holds = holds }
 
-pub comes_to : (seed calls : ℕ) (events : List Event) (d : Digested) (text : List ℕ) → events ≡ scenario_of seed calls → Made events d
+pub comes_to : HistoriesAreSafe → (seed calls : ℕ) (events : List Event) (d : Digested) (text : List ℕ) → events ≡ scenario_of seed calls → Made events d
     → ((h : List Line) → Holds d.digest (lines_text h) → text ≡ result_text d.world.watch.summary h (Last d.world.watch.calm d.world.watch.guesses.unguessed)) → ComesTo seed calls text
-comes_to seed calls events d text is m told =
+comes_to law seed calls events d text is m told =
     let here : Made (scenario_of seed calls) d = subst (λ (es : List Event). Made es d) is m in
     record {
       outcome = record {
         world = here.world;
         history = here.history;
         tells = here.tells;
+        safe = told_safe law (scenario_of seed calls) here.world here.history here.tells;
         last = Last d.world.watch.calm d.world.watch.guesses.unguessed;
         ends = record { state = d.world; shows = here.shows; last_is = last_said d.world here.history here.watches };
       };

@@ -15,7 +15,8 @@ use Rattle.scenario_text.specs.LineSpelling.{lines_text}
 use Rattle.world_history.specs.State.{World, empty_world}
 use Rattle.world_watch.specs.Watching.{Watches}
 use Rattle.layout_world.specs.State.{WorldState, Shows}
-use Rattle.osd_replay.specs.Transcript.{EndsWith}
+use Rattle.history_law.specs.Safe.{HistoriesAreSafe}
+use Rattle.osd_replay.specs.Transcript.{Tells, EndsWith}
 use Rattle.osd_replay.specs.Errors.{error_line, full_name, kind_name}
 use Rattle.osd_replay.specs.Puts.{Puts}
 use Rattle.osd_replay.specs.Finish.{Finishes}
@@ -32,7 +33,7 @@ use Rattle.osd_replay.specs.declared.status.Status.{Status}
 use Rattle.osd_replay.specs.declared.status.Status.TheVariants.{Done, BadWords, BadScenario, ReadFault, WriteFault, Memory, Full as IsFull}
 use Rattle.osd_replay.specs.declared.stop.Stop.{Stop}
 use Rattle.osd_replay.specs.declared.stop.Stop.TheVariants.{Refused, Read, Memory as WantsMemory, Full as StopsFull}
-use Rattle.osd_replay.proofs.Telling.{tells_none, tells_more}
+use Rattle.osd_replay.proofs.Telling.{told_safe, tells_none, tells_more}
 use Rattle.osd_replay.proofs.SoFar.{SoFar, Reached, events_more, text_more, reached_more, reached_none, appends_none}
 
 -- what went out before an error line, and that line
@@ -61,7 +62,7 @@ all_lines (Some input) lines taken (Some rest) None r y = absurd y
 all_lines (Some input) lines taken (Some rest) (Some later) r y = r.3 ∙ ap (λ (x : List ℕ). lines ++ lines_of x) y ∙ append-nil lines
 
 runs : (input now : Option (List ℕ)) (taken : ℕ) (before after : Option (List ℕ)) (number : ℕ) (state : WorldState) → (s : SoFar input now taken before after number state) → Runs input s.lines s.world s.history
-runs input now taken before after number state s = record { begins = begins input s.lines taken now s.reached; events = s.events; spelled = s.spelled; tells = s.tells }
+runs input now taken before after number state s = record { begins = begins input s.lines taken now s.reached; events = s.events; spelled = s.spelled; tells = s.tells; safe = told_safe s.law s.events s.world s.history s.tells }
 
 -- the front of some bytes and those behind them
 front_and_more : (xs ys zs : List ℕ) (n : ℕ) → zs ≡ xs ++ ys → take (length xs + n) zs ≡ xs ++ take n ys
@@ -212,6 +213,7 @@ cuts_next b now next taken more middle number old new line carried s y t c cut =
   spells = c.spells;
   fills = cut.fills;
   lawful = cut.lawful s.history s.tells.stands;
+  safe = s.law (s.history ++ cut.lines) (cut.lawful s.history s.tells.stands);
 }
 
 -- the sink fails in the lines of an event
@@ -222,11 +224,13 @@ part_by b a now next taken more middle number upto old new line carried true s y
     (Cut s.lines s.world s.history cut.lines (runs b.left now taken b.taken middle number old s) (cuts_next b now next taken more middle number old new line carried s y t c cut) refl)
     refl (rw cut.text_is at short) s.out (rw cut.text_is at out) rose
 part_by b a now next taken more middle number upto old new line carried false s y t c by short out rose =
+    let told : Tells (s.events ++ c.event ∷ []) by.world (s.history ++ by.lines) = tells_more s.events s.world by.world s.history by.lines c.event s.tells by.carries in
     let go : Runs b.left (s.lines ++ line ∷ []) by.world (s.history ++ by.lines) = record {
       begins = begins b.left (s.lines ++ line ∷ []) more next (reached_more b.left now next s.lines line taken more s.reached y t);
       events = s.events ++ c.event ∷ [];
       spelled = events_more s.lines s.events line (c.event ∷ []) s.spelled (inr (c.event, [], refl, c.fits, c.spells, refl));
-      tells = tells_more s.events s.world by.world s.history by.lines c.event s.tells by.carries;
+      tells = told;
+      safe = told_safe s.law (s.events ++ c.event ∷ []) by.world (s.history ++ by.lines) told;
     } in
     part_of b a middle (s.history ++ by.lines) s.history by.lines upto (Whole (s.lines ++ line ∷ []) by.world go) refl
     (rw by.text_is at short) s.out (rw by.text_is at out) rose
@@ -269,12 +273,12 @@ cut_put b a now next taken more middle told number failed whole old new line car
     cut_by b a now next taken more middle told number failed whole old new line carried carried.is_full full s y t c (c.carries s.world s.shows) out same put
 
 -- there is no memory for the world: nothing was read
-pub no_world : (b a : Ends) (whole : Bool) → Puts b.taken a.taken b.writes_failed a.writes_failed (error_of WantsMemory 0) whole → Promises b a Memory
-no_world b a whole put = record {
+pub no_world : HistoriesAreSafe → (b a : Ends) (whole : Bool) → Puts b.taken a.taken b.writes_failed a.writes_failed (error_of WantsMemory 0) whole → Promises b a Memory
+no_world law b a whole put = record {
   lines = [];
   world = empty_world;
   history = [];
-  runs = record { begins = begins b.left [] 0 b.left (reached_none b.left); events = []; spelled = refl; tells = tells_none };
+  runs = record { begins = begins b.left [] 0 b.left (reached_none b.left); events = []; spelled = refl; tells = tells_none; safe = told_safe law [] empty_world [] tells_none };
   number = 0;
   number_is = inr (refl, inl refl);
   puts = tells b a b.taken [] (error_line 0 (codes "memory")) b.writes_failed whole (appends_none b.taken) put refl;

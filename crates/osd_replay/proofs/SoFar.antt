@@ -11,6 +11,7 @@ use Rattle.scenario_text.specs.LineSpelling.{line_text, lines_text}
 use Rattle.world_history.specs.State.{World, empty_world}
 use Rattle.world_watch.specs.Watching.{Watches}
 use Rattle.layout_world.specs.State.{WorldState, Shows}
+use Rattle.history_law.specs.Safe.{HistoriesAreSafe}
 use Rattle.osd_replay.specs.Transcript.{Tells}
 use Rattle.osd_replay.specs.Replay.{HasEvents}
 use Rattle.osd_replay.specs.LineCarried.{CarriesLine, CarriesSpelled, CarriesBy}
@@ -35,6 +36,7 @@ pub record SoFar (input now : Option (List ℕ)) (taken : ℕ) (before after : O
   pub shows : Shows state.parties world
   pub watches : Watches history state.watch
   pub out : Appends before after (lines_text history)
+  pub law : HistoriesAreSafe
 
 -- ---- lists that grow at their end
 
@@ -117,6 +119,7 @@ goes_on input now next taken more before middle after number old new line carrie
       shows = o.shows;
       watches = o.watches;
       out = subst (Appends before after) (sym o.text_is) (Appends-then before middle after (lines_text s.history) carried.text s.out out);
+      law = s.law;
     }
 
 pub reached_none : (input : Option (List ℕ)) → Reached input [] 0 input
@@ -127,8 +130,8 @@ pub appends_none : (taken : Option (List ℕ)) → Appends taken taken []
 appends_none None = tt
 appends_none (Some bytes) = sym (append-nil bytes)
 
-pub nothing_yet : (input : Option (List ℕ)) (taken : Option (List ℕ)) (state : WorldState) → Shows state.parties empty_world → Watches [] state.watch → SoFar input input 0 taken taken 0 state
-nothing_yet input taken state shows watches = record {
+pub nothing_yet : (input : Option (List ℕ)) (taken : Option (List ℕ)) (state : WorldState) → Shows state.parties empty_world → Watches [] state.watch → HistoriesAreSafe → SoFar input input 0 taken taken 0 state
+nothing_yet input taken state shows watches law = record {
   lines = [];
   events = [];
   world = empty_world;
@@ -140,4 +143,5 @@ nothing_yet input taken state shows watches = record {
   shows = shows;
   watches = watches;
   out = appends_none taken;
+  law = law;
 }

@@ -7,9 +7,11 @@ use Rattle.scenario_text.specs.declared.line.Line.TheVariants.{Last}
 use Rattle.world_history.specs.State.{World, empty_world}
 use Rattle.world_history.specs.Runs.{Carries}
 use Rattle.world_history.specs.History.{Step, AreCarried, end_of, lines_of_steps}
+use Rattle.world_history.specs.History.Begins.{Nothing}
 use Rattle.world_history.specs.Guesses.{unguessed}
 use Rattle.world_watch.specs.Watching.{Watches}
 use Rattle.layout_world.specs.State.{WorldState}
+use Rattle.history_law.specs.Safe.{IsSafe, HistoriesAreSafe}
 use Rattle.osd_replay.specs.Transcript.{Tells}
 
 carried_more : (w : World) (steps : List Step) (s : Step) → AreCarried w steps
@@ -31,6 +33,19 @@ lines_more (x ∷ steps) s =
 pub last_said : (s : WorldState) (h : List Line) → Watches h s.watch
     → Last s.watch.calm s.watch.guesses.unguessed ≡ Last s.watch.calm (unguessed h)
 last_said s h k = ap (λ (b : Bool). Last s.watch.calm b) k.guesses.unguessed
+
+-- a history for which a world stands is safe, as each lawful one
+pub told_safe : HistoriesAreSafe → (events : List Event) (w : World) (h : List Line) → Tells events w h → IsSafe h
+told_safe law events w h t =
+    law h
+    (record {
+      world = w;
+      whole = h;
+      stands = t.stands;
+      last = [];
+      begins = Nothing refl;
+      lines_are = sym (append-nil h);
+    })
 
 -- nothing was carried out
 pub tells_none : Tells [] empty_world []

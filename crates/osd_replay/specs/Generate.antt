@@ -18,6 +18,7 @@ use Rattle.world_history.specs.Summing.{summary_of}
 use Rattle.world_tally.specs.Capping.{capped_summary}
 use Rattle.world_watch.specs.Watching.{Watches}
 use Rattle.layout_world.specs.State.{Shows}
+use Rattle.history_law.specs.Safe.{IsSafe}
 use Rattle.osd_replay.specs.Ends.{Ends, PutsError}
 use Rattle.osd_replay.specs.Errors.{error_line, full_name, kind_name}
 use Rattle.osd_replay.specs.Generator.{scenario_of}
@@ -124,11 +125,13 @@ IsToldOf d text =
     (h : List Line) → Holds d.digest (lines_text h)
     → text ≡ result_text d.world.watch.summary h (Last d.world.watch.calm d.world.watch.guesses.unguessed)
 
--- All events of the scenario were carried out: this is their history, and the last line of it.
+-- All events of the scenario were carried out: this is their history, of which holds what holds of every one, and the
+-- last line of it.
 pub record Outcome (seed calls : ℕ) : Type 0 where
   pub world : World
   pub history : List Line
   pub tells : Tells (scenario_of seed calls) world history
+  pub safe : IsSafe history
   pub last : Line
   pub ends : EndsWith world history last
 

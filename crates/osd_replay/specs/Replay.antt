@@ -12,6 +12,7 @@ use Rattle.scenario_text.specs.LineSpelling.{lines_text}
 use Rattle.world_history.specs.State.{World}
 use Rattle.world_history.specs.Runs.{FillsUp}
 use Rattle.world_history.specs.History.{Lawful}
+use Rattle.history_law.specs.Safe.{IsSafe}
 use Rattle.osd_replay.specs.Ends.{Ends, Begins, IsAll, PassesNext, PutsError}
 use Rattle.osd_replay.specs.Errors.{error_line, full_name, kind_name}
 use Rattle.osd_replay.specs.LineCarried.{IsRefusedIn}
@@ -30,12 +31,14 @@ HasEvents (line ∷ lines) events =
     (IsSkipped line × HasEvents lines events)
     ⊎ ((e : Event) × (rest : List Event) × (events ≡ e ∷ rest) × Fits e × Spells e line × HasEvents lines rest)
 
--- The first lines of the input were carried out: a world stands for a history whose events are exactly theirs.
+-- The first lines of the input were carried out: a world stands for a history whose events are exactly theirs. What holds
+-- of every history in the words of its lines holds of it.
 pub record Runs (input : Option (List ℕ)) (lines : List (List ℕ)) (w : World) (h : List Line) : Type 0 where
   pub begins : Begins input lines
   pub events : List Event
   pub spelled : HasEvents lines events
   pub tells : Tells events w h
+  pub safe : IsSafe h
 
 -- ---- the line behind those that were carried out
 
@@ -53,7 +56,7 @@ RefusesNext (Some input) lines w kind =
     × IsRefused w kind (next_of (length front) rest)
 
 -- The event of the line behind these lines stops just before what would pass the limit of kept bytes. Its lines up to
--- there are lawful behind the history.
+-- there are lawful behind the history, so what holds of every history holds of all these lines.
 pub record CutsNext (input : Option (List ℕ)) (lines : List (List ℕ)) (w : World) (h cut : List Line) : Type 0 where
   pub line : List ℕ
   pub begins : Begins input (lines ++ line ∷ [])
@@ -62,6 +65,7 @@ pub record CutsNext (input : Option (List ℕ)) (lines : List (List ℕ)) (w : W
   pub spells : Spells event line
   pub fills : FillsUp w event cut
   pub lawful : Lawful (h ++ cut)
+  pub safe : IsSafe (h ++ cut)
 
 -- ---- what each status promises
 

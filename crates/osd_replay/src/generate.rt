@@ -11,6 +11,7 @@ use crate::carry_out::carry_out_event;
 use crate::generator::scenario;
 use crate::status::{Quantity, Status};
 use crate::stop::{Stop, stopped};
+use history_law::histories_are_safe;
 use layout_world::{Summary, World};
 use osd_bytes::{Bytes, Memory, Numbers, Sink, put_all};
 use scenario_text::{Event, write_lines};
@@ -130,6 +131,7 @@ impl Digested {
         ensures ok { IfOk result (ComesTo seed calls) }
         ensures err { IfErr result (StopsAmong (scenario_of seed calls)) }
     {
+        histories_are_safe();
         let events = scenario(alloc, seed, calls)?;
         match self.carry_out_all(alloc, events, placer) {
             Ok(()) => {}

@@ -12,6 +12,7 @@ ghost use Rattle.osd_replay.specs.Replay.{Promises};
 use crate::carry_out::carry_out;
 use crate::status::{Quantity, Status};
 use crate::stop::{Stop, stop_of, stopped};
+use history_law::histories_are_safe;
 use layout_world::World;
 use osd_bytes::{LineReader, Memory, Numbers, Sink, Source, put_all};
 use scenario_text::write_lines;
@@ -51,6 +52,7 @@ where
         (ends (S.left source.old) (S.faults source.old) (K.taken sink.old) (K.faults sink.old))
         (ends (S.left source.new) (S.faults source.new) (K.taken sink.new) (K.faults sink.new)) result }
 {
+    histories_are_safe();
     let mut reader = LineReader::new(alloc);
     let mut number = 0;
     'lines: loop {
@@ -87,6 +89,7 @@ where
         (ends (S.left source.old) (S.faults source.old) (K.taken sink.old) (K.faults sink.old))
         (ends (S.left source.new) (S.faults source.new) (K.taken sink.new) (K.faults sink.new)) result }
 {
+    histories_are_safe();
     let mut world = match World::new(alloc) {
         Ok(world) => world,
         Err(_) => return stopped(sink, Stop::Memory, 0),

@@ -15,7 +15,7 @@ lines-init g c =
       ended = λ h. absurd (cc h);
       reads = refl;
       writes = refl;
-      so_far = rw (nothing_ahead (g.S.Source.left c.args.source.now)) (nothing_yet (g.S.Source.left c.args.source.now) (g.K.Sink.taken c.args.sink.now) c.args.world.now c.requires.is_new c.requires.watches);
+      so_far = rw (nothing_ahead (g.S.Source.left c.args.source.now)) (nothing_yet (g.S.Source.left c.args.source.now) (g.K.Sink.taken c.args.sink.now) c.args.world.now c.requires.is_new c.requires.watches c.histories_are_safe.ensures);
     }
 
 pub returns-in-Ok-None : goal.returns-in-Ok-None

@@ -11,6 +11,6 @@ returns-in-Err-clause-err g c =
 
 pub returns-clause-ok : goal.returns-clause-ok
 returns-clause-ok g c =
-    comes_to c.args.seed c.args.calls c.in_ok-events.events.items c.carry_out_all.new.self c.in_ok-text.text c.in_ok-events.ensures
+    comes_to c.histories_are_safe.ensures c.args.seed c.args.calls c.in_ok-events.events.items c.carry_out_all.new.self c.in_ok-text.text c.in_ok-events.ensures
     (c.in-Ok.ensures.ok c.requires.begins)
     c.in_ok-text.ensures

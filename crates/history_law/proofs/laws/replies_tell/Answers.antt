@@ -1,0 +1,5 @@
+use Rattle.history_law.proofs.Telling.{replies_tell}
+use Rattle.history_law.proofs.laws.replies_tell.Goals as goal
+
+pub returns : goal.returns
+returns c = replies_tell
