@@ -1,0 +1,41 @@
+-- The report of a call, by how its dealings ended.
+use Rattle.std.proofs.Common.{◌≡◌, ◌++◌, ℕ, List, [], None, Ok, Err, inl, inr}
+use Rattle.std.specs.Prelude.{IfOk, IsSome, Result}
+use Rattle.osd_bytes.specs.declared.memory.Memory.{Memory}
+use Rattle.scenario_text.specs.declared.line.CallKind.{CallKind}
+use Rattle.scenario_text.specs.LineSpelling.{lines_text}
+use Rattle.world_history.specs.Told.{kind_of}
+use Rattle.client_rules.specs.declared.calls.CallOp.{CallOp}
+use Rattle.client_rules.specs.declared.client.Client.{Client}
+use Rattle.client_rules.specs.Steps.{new_client}
+use Rattle.client_exchanges.specs.declared.notices.Notice.{Notice}
+use Rattle.client_exchanges.specs.Dealing.{dealing}
+use Rattle.client_command.specs.declared.calling.CallStop.TheVariants.{Lost}
+use Rattle.client_command.specs.declared.ending.Report.{Report}
+use Rattle.client_command.specs.Calling.{Calls, StopsCall}
+use Rattle.client_command.specs.Endings.{end_of}
+use Rattle.client_command.specs.Telling.{call_lines, next_line}
+use Rattle.client_command.specs.Reports.{IsReport, OnLinks, ReportsCall}
+
+module _ (number n sequence : ℕ) (op o : CallOp) (kind : CallKind) (first notices told : List Notice) (before now : OnLinks)
+    (same_number : n ≡ number) (same_op : o ≡ op) (its_kind : kind ≡ kind_of o) (none : first ≡ []) (same : told ≡ notices) where
+  pub is_ended : (next : ℕ) (r : Result Report Memory)
+      → ((client : Client) × Calls o (dealing (new_client n sequence) [] first before.told before.faults) (dealing client [] notices now.told now.faults)
+      × (next ≡ client.next))
+      → IfOk r (λ report. IsSome (end_of told) × IsReport (lines_text (call_lines number kind told) ++ next_line next) (end_of told) report)
+      → IfOk r (ReportsCall number sequence op before now)
+  is_ended next (Err e) c report = tt
+  is_ended next (Ok r) c report =
+      let ended = rw (same, its_kind, same_op, c.2) at report in
+      let done = rw (same_number, same_op, none) at c.1 in
+      inr (inl (record { client = c.0; notices = notices; calls = done; ended = ended.0; told = ended.1 }))
+
+  pub is_lost : (r : Result Report Memory)
+      → ((client : Client) × StopsCall o (dealing (new_client n sequence) [] first before.told before.faults) client notices now.told now.faults Lost)
+      → IfOk r (IsReport (lines_text (call_lines number kind told)) None)
+      → IfOk r (ReportsCall number sequence op before now)
+  is_lost (Err e) c report = tt
+  is_lost (Ok r) c report =
+      let lines = rw (same, its_kind, same_op) at report in
+      let lost = rw (same_number, same_op, none) at c.1 in
+      inr (inr (record { client = c.0; notices = notices; loses = lost; told = lines }))

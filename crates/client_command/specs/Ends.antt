@@ -1,0 +1,103 @@
+-- What the command of a client leaves, and why it stops.
+use Rattle.std.specs.Prelude.{◌≡◌, ◌⊎◌, ◌<◌, ℕ, List, length, take, ⊤, Option, Some, None}
+use Rattle.std.specs.Io.KnownBytes.{Appends}
+use Rattle.osd_bytes.specs.Causes.{Rose}
+use Rattle.cluster_text.specs.declared.cluster.Cluster.{Cluster}
+use Rattle.cluster_text.specs.declared.cluster.Reader.TheVariants.{Client}
+use Rattle.cluster_input.specs.Inputs.{GivesCluster, RefusesCluster, IsTooLong}
+use Rattle.cluster_input.specs.Lines.{PutsLine, stop_line}
+use Rattle.cluster_input.specs.declared.stop.CommandStop.{CommandStop}
+use Rattle.cluster_input.specs.declared.stop.CommandStop.TheVariants.{BadCluster, ReadFault, WriteFault, Memory}
+use Rattle.cluster_input.specs.declared.stop.CommandStop.TheVariants.{Full, LinkFault}
+use Rattle.command_words.specs.declared.words.ClientWords.{ClientWords}
+use Rattle.drive_command.specs.Ends.{Streams}
+use Rattle.client_command.specs.declared.ending.ClientEnd.{ClientEnd}
+use Rattle.client_command.specs.declared.ending.Report.{Report}
+use Rattle.client_command.specs.Reports.{OnLinks, Reports}
+
+-- ---- a report that is told
+
+-- all of its text went out, and it ended so
+pub record ToldAll (report : Report) (before now : Option (List ℕ)) (end : ClientEnd) : Type 0 where
+  pub told : Appends before now report.text
+  pub how : report.end ≡ Some end
+
+-- all of its text went out, and the server's answer hadn't come
+pub record ToldLoss (report : Report) (before now : Option (List ℕ)) : Type 0 where
+  pub told : Appends before now report.text
+  pub lost : report.end ≡ None
+
+-- a part of its text went out, from the front, before the sink failed
+pub record ToldPart (report : Report) (before now : Option (List ℕ)) : Type 0 where
+  pub upto : ℕ
+  pub part : upto < length report.text
+  pub told : Appends before now (take upto report.text)
+
+abbrev pub StopsTelling : Report → (before now : Option (List ℕ)) → (failed_before failed : ℕ) → CommandStop → Type 0
+StopsTelling report before now failed_before failed LinkFault = ToldLoss report before now
+StopsTelling report before now failed_before failed WriteFault = ToldPart report before now × Rose failed_before failed
+StopsTelling report before now failed_before failed other = ⊥
+
+-- ---- the work, over links that know the cluster
+
+abbrev pub ReportsFor : ClientWords → (before now : OnLinks) → Report → Type 0
+ReportsFor words before now report = Reports words.number words.sequence words.work before now report
+
+-- the work ended so, and all that tells of it went out
+abbrev pub Tells : ClientWords → (before now : OnLinks) → (taken_before taken : Option (List ℕ)) → ClientEnd → Type 0
+Tells words before now taken_before taken end =
+    (report : Report) × ReportsFor words before now report × ToldAll report taken_before taken end
+
+-- the links weren't settled, and nothing came or went
+pub record IsUnsettled (before now : OnLinks) : Type 0 where
+  pub rose : Rose before.faults.listening now.faults.listening
+  pub told : now.told ≡ before.told
+
+-- why it wasn't done and told: the links don't take the addresses, the server's answer doesn't come, or the sink fails
+abbrev pub StopsWork : ClientWords → (before now : OnLinks) → (taken_before taken : Option (List ℕ))
+    → (failed_before failed : ℕ) → CommandStop → Type 0
+StopsWork words before now taken_before taken failed_before failed LinkFault =
+    (IsUnsettled before now × (taken ≡ taken_before))
+    ⊎ ((report : Report) × ReportsFor words before now report × ToldLoss report taken_before taken)
+StopsWork words before now taken_before taken failed_before failed WriteFault =
+    (report : Report) × ReportsFor words before now report × ToldPart report taken_before taken
+    × Rose failed_before failed
+StopsWork words before now taken_before taken failed_before failed Memory = ⊤
+StopsWork words before now taken_before taken failed_before failed other = ⊥
+
+-- ---- the command
+
+-- the text describes a cluster, and the client's work in it ended so
+pub record WorksAs (words : ClientWords) (in_before in_now : Streams) (before now : OnLinks) (end : ClientEnd)
+    : Type 0 where
+  pub cluster : Cluster
+  pub gives : GivesCluster Client in_before.left in_now.left cluster
+  pub tells : Tells words before now in_before.taken in_now.taken end
+
+-- the text describes a cluster
+abbrev pub HasCluster : (before now : Streams) → Type 0
+HasCluster before now = (c : Cluster) × GivesCluster Client before.left now.left c
+
+-- why the client's work wasn't done and told, and what it told till then; without a cluster nothing is sent
+abbrev pub StopsClient : ClientWords → (in_before in_now : Streams) → (before now : OnLinks) → CommandStop → Type 0
+StopsClient words in_before in_now before now (BadCluster kind) =
+    RefusesCluster Client in_before.left in_now.left kind × (in_now.taken ≡ in_before.taken) × (now ≡ before)
+StopsClient words in_before in_now before now ReadFault =
+    Rose in_before.reads_failed in_now.reads_failed × (in_now.taken ≡ in_before.taken) × (now ≡ before)
+StopsClient words in_before in_now before now Full =
+    IsTooLong in_before.left in_now.left × (in_now.taken ≡ in_before.taken) × (now ≡ before)
+StopsClient words in_before in_now before now Memory = ⊤
+StopsClient words in_before in_now before now LinkFault =
+    HasCluster in_before in_now
+    × StopsWork words before now in_before.taken in_now.taken in_before.writes_failed in_now.writes_failed LinkFault
+StopsClient words in_before in_now before now WriteFault =
+    HasCluster in_before in_now
+    × StopsWork words before now in_before.taken in_now.taken in_before.writes_failed in_now.writes_failed WriteFault
+
+-- the same, and then the line that tells why
+pub record EndsClient (words : ClientWords) (in_before in_now : Streams) (before now : OnLinks) (stop : CommandStop)
+    : Type 0 where
+  pub told : Streams
+  pub why : StopsClient words in_before told before now stop
+  pub left : (in_now.left ≡ told.left) × (in_now.reads_failed ≡ told.reads_failed)
+  pub line : PutsLine told.taken in_now.taken told.writes_failed in_now.writes_failed (stop_line stop)

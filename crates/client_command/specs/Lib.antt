@@ -1,0 +1,6 @@
+pub mod Endings
+pub mod Telling
+pub mod Calling
+pub mod Ordering
+pub mod Reports
+pub mod Ends

@@ -1,0 +1,94 @@
+-- What a client tells of its work, and how that ends.
+use Rattle.std.specs.Prelude.{◌≡◌, ◌⊎◌, ℕ, List, [], ◌++◌, Option, Some, None, IsSome, Err}
+use Rattle.std.specs.Option.{option_map}
+use Rattle.osd_bytes.specs.Connections.{Traffic}
+use Rattle.osd_bytes.specs.Counts.{Faults}
+use Rattle.layout_ops.specs.declared.orders.OrderResult.{OrderResult}
+use Rattle.layout_ops.specs.Enumerations.{order_result_number}
+use Rattle.scenario_text.specs.LineSpelling.{lines_text}
+use Rattle.world_history.specs.Told.{kind_of}
+use Rattle.world_history.specs.Moves.{op_of}
+use Rattle.client_rules.specs.declared.calls.CallOp.{CallOp}
+use Rattle.client_rules.specs.declared.client.Client.{Client}
+use Rattle.client_rules.specs.declared.outcomes.CallErr.{CallErr}
+use Rattle.client_rules.specs.Steps.{calls, new_client}
+use Rattle.client_exchanges.specs.declared.notices.Notice.{Notice}
+use Rattle.client_exchanges.specs.Dealing.{Dealing, dealing}
+use Rattle.command_words.specs.declared.work.ClientWork.{ClientWork}
+use Rattle.command_words.specs.declared.work.ClientWork.TheVariants as work
+use Rattle.command_words.specs.declared.work.Order.{Order}
+use Rattle.client_command.specs.declared.ending.ClientEnd.{ClientEnd}
+use Rattle.client_command.specs.declared.ending.ClientEnd.TheVariants.{Refused}
+use Rattle.client_command.specs.declared.ending.Refusal.TheVariants.{Call}
+use Rattle.client_command.specs.declared.ending.Report.{Report}
+use Rattle.client_command.specs.Endings.{end_of, end_by_result}
+use Rattle.client_command.specs.Telling.{call_lines, next_line, order_line, refusal_lines}
+use Rattle.client_command.specs.declared.calling.CallStop.TheVariants.{Lost}
+use Rattle.client_command.specs.Calling.{Calls, StopsCall}
+use Rattle.client_command.specs.Ordering.{Answers, sent_order}
+
+-- what is known of the links: what came and went, and the counts of the calls that failed
+pub record OnLinks : Type 0 where
+  pub told : Option Traffic
+  pub faults : Faults
+
+abbrev pub on_links : Option Traffic → Faults → OnLinks
+on_links told faults = record { told = told; faults = faults }
+
+-- a client that has done nothing, whose first request has this number
+abbrev pub fresh : (number sequence : ℕ) → OnLinks → Dealing
+fresh number sequence on = dealing (new_client number sequence) [] [] on.told on.faults
+
+-- the report has this text and this end
+pub record IsReport (text : List ℕ) (end : Option ClientEnd) (report : Report) : Type 0 where
+  pub text_is : report.text ≡ text
+  pub end_is : report.end ≡ end
+
+-- ---- a call
+
+-- it isn't taken, and nothing is sent
+pub record RefusesCall (number sequence : ℕ) (op : CallOp) (before now : OnLinks) (report : Report) : Type 0 where
+  pub why : CallErr
+  pub refused : calls (new_client number sequence) op ≡ Err why
+  pub same : now ≡ before
+  pub told : IsReport (lines_text (refusal_lines number why) ++ next_line sequence) (Some (Refused (Call why))) report
+
+-- it is carried out to its end, and the grants are returned; behind its lines stands the number of the next request
+pub record EndsCall (number sequence : ℕ) (op : CallOp) (before now : OnLinks) (report : Report) : Type 0 where
+  pub client : Client
+  pub notices : List Notice
+  pub calls : Calls op (fresh number sequence before) (dealing client [] notices now.told now.faults)
+  pub ended : IsSome (end_of notices)
+  pub told : IsReport (lines_text (call_lines number (kind_of op) notices) ++ next_line client.next) (end_of notices) report
+
+-- the server's answer to a request didn't come
+pub record LosesServer (number sequence : ℕ) (op : CallOp) (before now : OnLinks) (report : Report) : Type 0 where
+  pub client : Client
+  pub notices : List Notice
+  pub loses : StopsCall op (fresh number sequence before) client notices now.told now.faults Lost
+  pub told : IsReport (lines_text (call_lines number (kind_of op) notices)) None report
+
+abbrev pub ReportsCall : (number sequence : ℕ) → CallOp → (before now : OnLinks) → Report → Type 0
+ReportsCall number sequence op before now report =
+    RefusesCall number sequence op before now report
+    ⊎ EndsCall number sequence op before now report
+    ⊎ LosesServer number sequence op before now report
+
+-- ---- an order
+
+-- what is told of it; no request of the client is used up
+abbrev pub answer_text : (sequence : ℕ) → Option OrderResult → List ℕ
+answer_text sequence None = []
+answer_text sequence (Some answer) = order_line (order_result_number answer) ++ next_line sequence
+
+-- it is one exchange with the server, whose answer comes or doesn't
+pub record ReportsOrder (sequence : ℕ) (o : Order) (before now : OnLinks) (report : Report) : Type 0 where
+  pub answer : Option OrderResult
+  pub exchange : Answers (sent_order o) before.told now.told before.faults now.faults answer
+  pub told : IsReport (answer_text sequence answer) (option_map end_by_result answer) report
+
+-- ---- the work
+
+abbrev pub Reports : (number sequence : ℕ) → ClientWork → (before now : OnLinks) → Report → Type 0
+Reports number sequence (work.Call what) before now report = ReportsCall number sequence (op_of what) before now report
+Reports number sequence (work.Order o) before now report = ReportsOrder sequence o before now report

@@ -1,0 +1,125 @@
+ghost use Rattle.std.specs.Prelude.{◌≡◌, ◌≤◌, ◌<◌, IfErr, IfOk};
+ghost use Rattle.client_rules.specs.declared.limits.TheConstants.{MAX_CLIENT};
+ghost use Rattle.drive_command.specs.Ends.{streams};
+ghost use Rattle.client_command.specs.Reports.{on_links};
+ghost use Rattle.client_command.specs.Ends.{EndsClient, StopsClient, StopsTelling, StopsWork, Tells, ToldAll, WorksAs};
+
+use crate::ending::{ClientEnd, Report};
+use crate::reporting::report;
+use cluster_input::{CommandStop, cluster_from, put_stop, settle_at};
+use cluster_text::{Cluster, Reader};
+use command_words::ClientWords;
+use osd_bytes::{Links, Sink, Source, put_all};
+use std::alloc::Global;
+
+// Puts what a report tells.
+fn tell<K: Sink>(report: Report, sink: &mut K) -> Result<ClientEnd, CommandStop>
+    ensures told { IfOk result (ToldAll report (K.taken sink.old) (K.taken sink.new)) }
+    ensures stops { IfErr result (StopsTelling report (K.taken sink.old) (K.taken sink.new)
+        (K.faults sink.old) (K.faults sink.new)) }
+{
+    let Report { text, end } = report;
+    match put_all(sink, text.as_slice()) {
+        Ok(()) => {}
+        Err(_) => return Err(CommandStop::WriteFault),
+    }
+    match end {
+        Some(end) => Ok(end),
+        None => Err(CommandStop::LinkFault),
+    }
+}
+
+// Does the work of a client in a cluster, and tells of it.
+fn work_in<K: Sink, L: Links>(
+    alloc: Global,
+    cluster: &Cluster,
+    words: ClientWords,
+    sink: &mut K,
+    links: &mut L,
+) -> Result<ClientEnd, CommandStop>
+    requires number { words.number ≤ MAX_CLIENT }
+    requires sequence { 0 < words.sequence }
+    ensures tells { IfOk result (Tells words
+        (on_links (L.told links.old) (L.faults links.old)) (on_links (L.told links.new) (L.faults links.new))
+        (K.taken sink.old) (K.taken sink.new)) }
+    ensures stops { IfErr result (StopsWork words
+        (on_links (L.told links.old) (L.faults links.old)) (on_links (L.told links.new) (L.faults links.new))
+        (K.taken sink.old) (K.taken sink.new) (K.faults sink.old) (K.faults sink.new)) }
+{
+    match settle_at(alloc, links, cluster, &[]) {
+        Ok(()) => {}
+        Err(stop) => return Err(stop),
+    }
+    let report = report(alloc, words, links)?;
+    match tell(report, sink) {
+        Ok(end) => Ok(end),
+        Err(stop) => Err(stop),
+    }
+}
+
+// The command without the line that tells why it stopped.
+fn work<S: Source, K: Sink, L: Links>(
+    alloc: Global,
+    words: ClientWords,
+    source: &mut S,
+    sink: &mut K,
+    links: &mut L,
+) -> Result<ClientEnd, CommandStop>
+    requires number { words.number ≤ MAX_CLIENT }
+    requires sequence { 0 < words.sequence }
+    ensures works { IfOk result (WorksAs words
+        (streams (S.left source.old) (S.faults source.old) (K.taken sink.old) (K.faults sink.old))
+        (streams (S.left source.new) (S.faults source.new) (K.taken sink.new) (K.faults sink.new))
+        (on_links (L.told links.old) (L.faults links.old)) (on_links (L.told links.new) (L.faults links.new))) }
+    ensures stops { IfErr result (StopsClient words
+        (streams (S.left source.old) (S.faults source.old) (K.taken sink.old) (K.faults sink.old))
+        (streams (S.left source.new) (S.faults source.new) (K.taken sink.new) (K.faults sink.new))
+        (on_links (L.told links.old) (L.faults links.old)) (on_links (L.told links.new) (L.faults links.new))) }
+{
+    let cluster = match cluster_from(alloc, Reader::Client, source) {
+        Ok(cluster) => cluster,
+        Err(stop) => return Err(stop),
+    };
+    match work_in(alloc, &cluster, words, sink, links) {
+        Ok(end) => Ok(end),
+        Err(stop) => Err(stop),
+    }
+}
+
+/// Carries out one call of a client in the cluster that the source describes, or hands its server one order. The
+/// sink is told the timeouts and the end of the call, or what the server answers to the order, and then `next` with
+/// the number of the client's next request; or else, in a line of its own, why the client stopped before. Behind a
+/// call every grant is returned before anything is told.
+///
+/// # Errors
+///
+/// [`CommandStop::BadCluster`] exactly where the text is refused; [`CommandStop::ReadFault`];
+/// [`CommandStop::Full`] exactly where the text passes 67,108,864 bytes; [`CommandStop::LinkFault`] where the links
+/// couldn't be settled, and exactly where an exchange with the server gave no record or one that isn't the awaited
+/// answer; [`CommandStop::WriteFault`]; [`CommandStop::Memory`].
+pub fn client_command<S: Source, K: Sink, L: Links>(
+    alloc: Global,
+    words: ClientWords,
+    source: &mut S,
+    sink: &mut K,
+    links: &mut L,
+) -> Result<ClientEnd, CommandStop>
+    requires number { words.number ≤ MAX_CLIENT }
+    requires sequence { 0 < words.sequence }
+    ensures works { IfOk result (WorksAs words
+        (streams (S.left source.old) (S.faults source.old) (K.taken sink.old) (K.faults sink.old))
+        (streams (S.left source.new) (S.faults source.new) (K.taken sink.new) (K.faults sink.new))
+        (on_links (L.told links.old) (L.faults links.old)) (on_links (L.told links.new) (L.faults links.new))) }
+    ensures stops { IfErr result (EndsClient words
+        (streams (S.left source.old) (S.faults source.old) (K.taken sink.old) (K.faults sink.old))
+        (streams (S.left source.new) (S.faults source.new) (K.taken sink.new) (K.faults sink.new))
+        (on_links (L.told links.old) (L.faults links.old)) (on_links (L.told links.new) (L.faults links.new))) }
+{
+    match work(alloc, words, source, sink, links) {
+        Ok(end) => Ok(end),
+        Err(stop) => {
+            put_stop(sink, stop);
+            Err(stop)
+        }
+    }
+}

@@ -1,0 +1,4 @@
+pub mod Described
+pub mod Refusing
+pub mod Rising
+pub mod Stopping

@@ -1,0 +1,65 @@
+-- Why the command stops.
+use Rattle.std.proofs.Common.{◌≡◌, ℕ, List, Option, Ok, true, [], subst, inr}
+use Rattle.cluster_text.specs.declared.cluster.Cluster.{Cluster}
+use Rattle.cluster_text.specs.declared.cluster.ClusterFile.{ClusterFile}
+use Rattle.cluster_text.specs.declared.cluster.Reader.TheVariants.{Server as ServerReads}
+use Rattle.cluster_input.specs.Inputs.{GivesCluster}
+use Rattle.cluster_input.specs.declared.stop.CommandStop.{CommandStop}
+use Rattle.cluster_input.specs.declared.stop.CommandStop.TheVariants.{BadCluster, ReadFault, WriteFault, Memory, Full, LinkFault}
+use Rattle.osd_asking.specs.Asking.{Ends}
+use Rattle.server_rules.specs.declared.server.Server.{Server}
+use Rattle.server_serving.specs.Work.{serving}
+use Rattle.server_files.specs.Knowing.{server_in}
+use Rattle.server_files.specs.Making.{MakesFiles}
+use Rattle.drive_command.specs.Ends.{Streams}
+use Rattle.server_command.specs.Ends.{HasMade, StopsIn, StopsServer, StopsServing}
+use Rattle.server_command.proofs.Described.{sound}
+use Rattle.server_command.proofs.Refusing.{is_served}
+use Rattle.server_command.proofs.Rising.{makes_files, rises}
+
+-- ---- as the server of a cluster
+
+pub has_made : (cluster : Cluster) (before settled between : Ends) (first made : Server) (files : List ClusterFile) → settled ≡ before
+    → files ≡ cluster.files → server_in cluster ≡ Ok first → MakesFiles files (serving first [] true settled) (serving made [] true between)
+    → HasMade cluster before made between
+has_made cluster before settled between first made files e f is makes = record {
+  first = first;
+  is = is;
+  makes = subst (λ (x : Ends). MakesFiles cluster.files (serving first [] true x) (serving made [] true between)) e
+      (subst (λ (fs : List ClusterFile). MakesFiles fs (serving first [] true settled) (serving made [] true between)) f makes);
+}
+
+module _ (connections : ℕ) (cluster : Cluster) (before now : Ends) (taken_before taken : Option (List ℕ)) (failed_before failed : ℕ) where
+  pub serving_in : (stop : CommandStop) (made last : Server) (between : Ends) → HasMade cluster before made between
+      → StopsServing connections made last between now taken_before taken failed_before failed stop
+      → StopsIn connections cluster before now taken_before taken failed_before failed stop
+  serving_in WriteFault made last between has s = (record { made = made; between = between; has_made = has; last = last; cuts = s.0 }, s.1)
+  serving_in LinkFault made last between has s =
+      inr (inr (
+        record {
+          made = made;
+          between = between;
+          has_made = has;
+          last = last;
+          refused = s.1;
+          rose = rises connections made last before between now (makes_files cluster.files (serving has.first [] true before) (serving made [] true between) has.makes) s.1;
+        },
+        s.0,
+      ))
+  serving_in Memory made last between has s = tt
+  serving_in (BadCluster kind) made last between has s = absurd s
+  serving_in ReadFault made last between has s = absurd s
+  serving_in Full made last between has s = absurd s
+
+-- ---- the command
+
+module _ (connections : ℕ) (in_before in_now : Streams) (before now : Ends) where
+  pub acting : (stop : CommandStop) (c : Cluster) → GivesCluster ServerReads in_before.left in_now.left c
+      → StopsIn connections c before now in_before.taken in_now.taken in_before.writes_failed in_now.writes_failed stop
+      → StopsServer connections in_before in_now before now stop
+  acting (BadCluster kind) c gives s = absurd (is_served c before kind (sound gives.text c gives.is) s)
+  acting LinkFault c gives s = (c, gives, s)
+  acting WriteFault c gives s = (c, gives, s.0, s.1)
+  acting Memory c gives s = tt
+  acting ReadFault c gives s = absurd s
+  acting Full c gives s = absurd s

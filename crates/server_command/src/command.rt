@@ -1,0 +1,136 @@
+ghost use Rattle.std.specs.Prelude.{◌≡◌, IfErr, OnOk};
+ghost use Rattle.osd_asking.specs.Asking.{ends_of};
+ghost use Rattle.stripe_repair.specs.Placing.{IsPlacer};
+ghost use Rattle.drive_command.specs.Ends.{streams};
+ghost use Rattle.server_command.specs.Ends.{EndsServer, ServesAs, ServesIn, StopsIn, StopsServer};
+
+use crate::serving::serve_core;
+use cluster_input::{CommandStop, cluster_from, put_stop, settle_at};
+use cluster_text::{Cluster, Reader};
+use osd_bytes::{Clock, Links, Memory, Numbers, Sink, Source};
+use server_files::{make_files, server_of};
+use std::alloc::Global;
+use stripe_repair::{DriveLoad, Placer};
+
+// Makes the files of a cluster, and serves so many connections as its server.
+fn serve_in<K: Sink, L: Links, C: Clock, F>(
+    alloc: Global,
+    cluster: &Cluster,
+    connections: u32,
+    sink: &mut K,
+    links: &mut L,
+    clock: &mut C,
+    placer: &Placer<F>,
+) -> Result<(), CommandStop>
+where
+    F: Fn(u32, &[DriveLoad]) -> Result<Numbers, Memory>,
+    requires placer { IsPlacer F.Fn placer.now }
+    ensures serves { OnOk result (ServesIn connections cluster.now
+        (ends_of (L.told links.old) (L.faults links.old) (C.times clock.old))
+        (ends_of (L.told links.new) (L.faults links.new) (C.times clock.new))
+        (K.taken sink.old) (K.taken sink.new)) }
+    ensures stops { IfErr result (StopsIn connections cluster.now
+        (ends_of (L.told links.old) (L.faults links.old) (C.times clock.old))
+        (ends_of (L.told links.new) (L.faults links.new) (C.times clock.new))
+        (K.taken sink.old) (K.taken sink.new) (K.faults sink.old) (K.faults sink.new)) }
+{
+    match settle_at(alloc, links, cluster, cluster.server.as_slice()) {
+        Ok(()) => {}
+        Err(stop) => return Err(stop),
+    }
+    let mut core = match server_of(alloc, cluster) {
+        Ok(core) => core,
+        Err(stop) => return Err(stop),
+    };
+    match make_files(
+        alloc,
+        &mut core,
+        links,
+        clock,
+        placer,
+        cluster.files.as_slice(),
+    ) {
+        Ok(()) => {}
+        Err(stop) => return Err(stop),
+    }
+    match serve_core(alloc, &mut core, connections, sink, links, clock, placer) {
+        Ok(()) => Ok(()),
+        Err(stop) => Err(stop),
+    }
+}
+
+// The command without the line that tells why it stopped.
+fn serve_cluster<S: Source, K: Sink, L: Links, C: Clock, F>(
+    alloc: Global,
+    connections: u32,
+    source: &mut S,
+    sink: &mut K,
+    links: &mut L,
+    clock: &mut C,
+    placer: &Placer<F>,
+) -> Result<(), CommandStop>
+where
+    F: Fn(u32, &[DriveLoad]) -> Result<Numbers, Memory>,
+    requires placer { IsPlacer F.Fn placer.now }
+    ensures serves { OnOk result (ServesAs connections
+        (streams (S.left source.old) (S.faults source.old) (K.taken sink.old) (K.faults sink.old))
+        (streams (S.left source.new) (S.faults source.new) (K.taken sink.new) (K.faults sink.new))
+        (ends_of (L.told links.old) (L.faults links.old) (C.times clock.old))
+        (ends_of (L.told links.new) (L.faults links.new) (C.times clock.new))) }
+    ensures stops { IfErr result (StopsServer connections
+        (streams (S.left source.old) (S.faults source.old) (K.taken sink.old) (K.faults sink.old))
+        (streams (S.left source.new) (S.faults source.new) (K.taken sink.new) (K.faults sink.new))
+        (ends_of (L.told links.old) (L.faults links.old) (C.times clock.old))
+        (ends_of (L.told links.new) (L.faults links.new) (C.times clock.new))) }
+{
+    let cluster = match cluster_from(alloc, Reader::Server, source) {
+        Ok(cluster) => cluster,
+        Err(stop) => return Err(stop),
+    };
+    match serve_in(alloc, &cluster, connections, sink, links, clock, placer) {
+        Ok(()) => Ok(()),
+        Err(stop) => Err(stop),
+    }
+}
+
+/// Makes the files of the cluster that the source describes, and serves so many connections as its server. The sink is
+/// told `listening` once the server listens at its own address and has had one exchange for each CREATE of its files,
+/// and `served` with the number of connections at the end; or else, in a line of its own, why the server stopped before.
+///
+/// # Errors
+///
+/// [`CommandStop::BadCluster`] exactly where the text is refused; [`CommandStop::ReadFault`]; [`CommandStop::Full`]
+/// exactly where the text passes 67,108,864 bytes; [`CommandStop::LinkFault`] where the links couldn't be settled or no
+/// further connection accepted, or an exchange with a drive gave no record while the files were made;
+/// [`CommandStop::WriteFault`]; [`CommandStop::Memory`].
+pub fn server_command<S: Source, K: Sink, L: Links, C: Clock, F>(
+    alloc: Global,
+    connections: u32,
+    source: &mut S,
+    sink: &mut K,
+    links: &mut L,
+    clock: &mut C,
+    placer: &Placer<F>,
+) -> Result<(), CommandStop>
+where
+    F: Fn(u32, &[DriveLoad]) -> Result<Numbers, Memory>,
+    requires placer { IsPlacer F.Fn placer.now }
+    ensures serves { OnOk result (ServesAs connections
+        (streams (S.left source.old) (S.faults source.old) (K.taken sink.old) (K.faults sink.old))
+        (streams (S.left source.new) (S.faults source.new) (K.taken sink.new) (K.faults sink.new))
+        (ends_of (L.told links.old) (L.faults links.old) (C.times clock.old))
+        (ends_of (L.told links.new) (L.faults links.new) (C.times clock.new))) }
+    ensures stops { IfErr result (EndsServer connections
+        (streams (S.left source.old) (S.faults source.old) (K.taken sink.old) (K.faults sink.old))
+        (streams (S.left source.new) (S.faults source.new) (K.taken sink.new) (K.faults sink.new))
+        (ends_of (L.told links.old) (L.faults links.old) (C.times clock.old))
+        (ends_of (L.told links.new) (L.faults links.new) (C.times clock.new))) }
+{
+    match serve_cluster(alloc, connections, source, sink, links, clock, placer) {
+        Ok(()) => Ok(()),
+        Err(stop) => {
+            put_stop(sink, stop);
+            Err(stop)
+        }
+    }
+}

@@ -1,0 +1,110 @@
+// The commands by which files are made, one after the other.
+ghost use Rattle.std.specs.Prelude.{[], true, IfErr, OnOk};
+ghost use Rattle.osd_asking.specs.Asking.{ends_of};
+ghost use Rattle.stripe_repair.specs.Placing.{IsPlacer};
+ghost use Rattle.server_serving.specs.Work.{InTurn, UntilNone, serving};
+ghost use Rattle.server_files.specs.Making.{Loses, LosesAll, LosesIn, Makes, StopsBy};
+
+use cluster_input::CommandStop;
+use layout_server::{Sends, Sent, ServerCore};
+use osd_bytes::{Clock, Links, Memory, Node, Numbers};
+use server_serving::ask_drive;
+use std::alloc::Global;
+use std::mem;
+use stripe_repair::{DriveLoad, Placer};
+
+// A command goes to its drive, whose record is handled. Without a record the file isn't made.
+fn make_one<L: Links, C: Clock, F>(
+    alloc: Global,
+    core: &mut ServerCore,
+    links: &mut L,
+    clock: &mut C,
+    placer: &Placer<F>,
+    sent: &Sent,
+    waiting: &mut Sends,
+) -> Result<(), CommandStop>
+where
+    F: Fn(u32, &[DriveLoad]) -> Result<Numbers, Memory>,
+    requires placer { IsPlacer F.Fn placer.now }
+    ensures makes { OnOk result (Makes sent.now
+        (serving core.old waiting.old true (ends_of (L.told links.old) (L.faults links.old) (C.times clock.old)))
+        (serving core.new waiting.new true (ends_of (L.told links.new) (L.faults links.new) (C.times clock.new)))) }
+    ensures stops { IfErr result (StopsBy (Loses sent.now
+        (serving core.old waiting.old true (ends_of (L.told links.old) (L.faults links.old) (C.times clock.old)))
+        (serving core.new waiting.new true (ends_of (L.told links.new) (L.faults links.new) (C.times clock.new)))) ⊥) }
+{
+    let message = sent.bytes.as_slice();
+    match sent.to {
+        Node::Drive(drive) => {
+            if ask_drive(alloc, core, links, clock, placer, drive, message, waiting)? {
+                return Ok(());
+            }
+            Err(CommandStop::LinkFault)
+        }
+        Node::Server | Node::Client(_) => Ok(()),
+    }
+}
+
+// These commands go to their drives in order. What they bring waits then.
+fn make_round<L: Links, C: Clock, F>(
+    alloc: Global,
+    core: &mut ServerCore,
+    links: &mut L,
+    clock: &mut C,
+    placer: &Placer<F>,
+    round: &Sends,
+    waiting: &mut Sends,
+) -> Result<(), CommandStop>
+where
+    F: Fn(u32, &[DriveLoad]) -> Result<Numbers, Memory>,
+    requires placer { IsPlacer F.Fn placer.now }
+    ensures makes { OnOk result (InTurn Makes round.now
+        (serving core.old waiting.old true (ends_of (L.told links.old) (L.faults links.old) (C.times clock.old)))
+        (serving core.new waiting.new true (ends_of (L.told links.new) (L.faults links.new) (C.times clock.new)))) }
+    ensures stops { IfErr result (StopsBy (LosesIn round.now
+        (serving core.old waiting.old true (ends_of (L.told links.old) (L.faults links.old) (C.times clock.old)))
+        (serving core.new waiting.new true (ends_of (L.told links.new) (L.faults links.new) (C.times clock.new)))) ⊥) }
+{
+    for i in 0..round.len() {
+        match make_one(alloc, core, links, clock, placer, round.get(i), waiting) {
+            Ok(()) => {}
+            Err(stop) => return Err(stop),
+        }
+    }
+    Ok(())
+}
+
+/// These commands go to their drives in order, and then what they bring, until none waits.
+///
+/// # Errors
+///
+/// [`CommandStop::LinkFault`] exactly where an exchange gave no record; [`CommandStop::Memory`].
+pub fn make_all<L: Links, C: Clock, F>(
+    alloc: Global,
+    core: &mut ServerCore,
+    links: &mut L,
+    clock: &mut C,
+    placer: &Placer<F>,
+    sends: Sends,
+) -> Result<(), CommandStop>
+where
+    F: Fn(u32, &[DriveLoad]) -> Result<Numbers, Memory>,
+    requires placer { IsPlacer F.Fn placer.now }
+    ensures makes { OnOk result (UntilNone Makes
+        (serving core.old sends true (ends_of (L.told links.old) (L.faults links.old) (C.times clock.old)))
+        (serving core.new [] true (ends_of (L.told links.new) (L.faults links.new) (C.times clock.new)))) }
+    ensures stops { IfErr result (StopsBy (LosesAll
+        (serving core.old sends true (ends_of (L.told links.old) (L.faults links.old) (C.times clock.old)))
+        core.new (ends_of (L.told links.new) (L.faults links.new) (C.times clock.new))) ⊥) }
+{
+    let mut waiting = sends;
+    // Each round that brings commands raises the server's nonce, so a drive that answers for ever is left at last.
+    'rounds: while !waiting.is_empty() {
+        let round = mem::replace(&mut waiting, Sends::new(alloc));
+        match make_round(alloc, core, links, clock, placer, &round, &mut waiting) {
+            Ok(()) => {}
+            Err(stop) => return Err(stop),
+        }
+    }
+    Ok(())
+}
