@@ -1,0 +1,218 @@
+// The command of the server of a cluster of one drive.
+ghost use Rattle.std.specs.Result.{ForOk};
+ghost use Rattle.stripe_repair.specs.Placing.{CanPlace, Places};
+
+use crate::messages::{Came, Told, framed, stream, went_out};
+use cluster_input::CommandStop;
+use cluster_text::ClusterKind;
+use osd_bytes::{ByteLists, Bytes, MemClock, MemLinks, MemSink, MemSource, Memory, Numbers, Times};
+use osd_commands::{Reply, write_reply};
+use server_command::server_command;
+use std::alloc::Global;
+use std::test::Fail;
+use stripe_repair::{DriveLoad, Placer};
+
+// What the text of the cluster says, what comes on each connection to the drive and on each that is accepted, which
+// calls of the links fail, what the command tells and why it stops, how often the drive is asked and in which format
+// first, and what goes out on each connection that is accepted.
+struct Case {
+    name: &'static str,
+    text: &'static str,
+    performs: &'static [u64],
+    comes: &'static [&'static [Came]],
+    fails: &'static [u32],
+    connections: u32,
+    told: &'static str,
+    stop: Option<CommandStop>,
+    asked: usize,
+    format: Option<u8>,
+    put: &'static [&'static [Told]],
+}
+
+const ONE_FILE: &str = "server = \"127.0.0.1:7100\"\n\
+    [[drive]]\nnumber = 0\naddress = \"127.0.0.1:7000\"\ncapacity = 20000000\n\
+    key = \"0b0b0b0b0b0b0b0b0b0b0b0b0b0b0b0b0b0b0b0b\"\n\
+    [[file]]\nnumber = 0\ncomponents = 1\nunit = 4\nwidth = 0\ndepth = 0\nmirrors = 0\nalgorithm = 1\n";
+
+const TWO_FILES: &str = "server = \"127.0.0.1:7100\"\nformat = 2\n\
+    [[drive]]\nnumber = 0\naddress = \"127.0.0.1:7000\"\ncapacity = 20000000\n\
+    key = \"0b0b0b0b0b0b0b0b0b0b0b0b0b0b0b0b0b0b0b0b\"\n\
+    [[file]]\nnumber = 9\ncomponents = 1\nunit = 4\nwidth = 0\ndepth = 0\nmirrors = 0\nalgorithm = 1\n\
+    [[file]]\nnumber = 3\ncomponents = 1\nunit = 4\nwidth = 0\ndepth = 0\nmirrors = 0\nalgorithm = 1\n";
+
+const NO_KEY: &str = "server = \"127.0.0.1:7100\"\n\
+    [[drive]]\nnumber = 0\naddress = \"127.0.0.1:7000\"\ncapacity = 20000000\n";
+
+const CASES: &[Case] = &[
+    Case {
+        name: "the file is made before the server listens, and a client gets a layout of it",
+        text: ONE_FILE,
+        performs: &[1],
+        comes: &[&[Came::Asks(0, 1)]],
+        fails: &[],
+        connections: 1,
+        told: "listening\nserved 1\n",
+        stop: None,
+        asked: 1,
+        format: Some(1),
+        put: &[&[(0, 1, 0)]],
+    },
+    Case {
+        name: "each file has a command of its own, in the format of the cluster",
+        text: TWO_FILES,
+        performs: &[1, 2],
+        comes: &[],
+        fails: &[],
+        connections: 0,
+        told: "listening\nserved 0\n",
+        stop: None,
+        asked: 2,
+        format: Some(2),
+        put: &[],
+    },
+    Case {
+        name: "the drive gives no record for the second file",
+        text: TWO_FILES,
+        performs: &[1],
+        comes: &[],
+        fails: &[],
+        connections: 0,
+        told: "error link\n",
+        stop: Some(CommandStop::LinkFault),
+        asked: 2,
+        format: Some(2),
+        put: &[],
+    },
+    Case {
+        name: "the links can't be settled",
+        text: ONE_FILE,
+        performs: &[1],
+        comes: &[],
+        fails: &[0],
+        connections: 0,
+        told: "error link\n",
+        stop: Some(CommandStop::LinkFault),
+        asked: 0,
+        format: None,
+        put: &[],
+    },
+    Case {
+        // Call 0 settles, 1 to 3 are the exchange with the drive, and 4 would accept a connection.
+        name: "no connection can be accepted",
+        text: ONE_FILE,
+        performs: &[1],
+        comes: &[],
+        fails: &[4],
+        connections: 1,
+        told: "listening\nerror link\n",
+        stop: Some(CommandStop::LinkFault),
+        asked: 1,
+        format: Some(1),
+        put: &[],
+    },
+    Case {
+        name: "a server needs the key of each drive",
+        text: NO_KEY,
+        performs: &[],
+        comes: &[],
+        fails: &[],
+        connections: 0,
+        told: "error cluster missing\n",
+        stop: Some(CommandStop::BadCluster(ClusterKind::Missing)),
+        asked: 0,
+        format: None,
+        put: &[],
+    },
+];
+
+// The frame of the reply to a CREATE that was performed.
+fn performed(alloc: Global, nonce: u64) -> Result<Bytes, Memory> {
+    let reply = Reply {
+        action: 1,
+        verdict: 0,
+        object: 65_536,
+        nonce,
+        detail: 0,
+        payload: Bytes::new(alloc),
+    };
+    framed(alloc, write_reply(alloc, &reply)?.as_slice())
+}
+
+fn links(alloc: Global, case: &Case) -> Result<MemLinks, Memory> {
+    let mut accepted = ByteLists::new(alloc);
+    for comes in case.comes {
+        accepted.push(stream(alloc, comes)?)?;
+    }
+    let mut asked = ByteLists::new(alloc);
+    for nonce in case.performs {
+        asked.push(performed(alloc, *nonce)?)?;
+    }
+    let fails = Numbers::copied(alloc, case.fails)?;
+    Ok(MemLinks::new(alloc, accepted, asked, fails))
+}
+
+// The one drive, where one is asked for.
+fn only_drive(alloc: Global, count: u32, loads: &[DriveLoad]) -> Result<Numbers, Memory>
+    ensures { ForOk result (Places count loads.now) }
+{
+    match loads {
+        [load] if load.online && count == 1 => Numbers::copied(alloc, &[load.drive]),
+        _ => Err(Memory),
+    }
+}
+
+// Runs the command, and gives what it told and why it stopped.
+fn run(
+    alloc: Global,
+    case: &Case,
+    links: &mut MemLinks,
+) -> Result<(Bytes, Option<CommandStop>), Memory> {
+    let text = Bytes::copied(alloc, case.text.as_bytes())?;
+    let mut source = MemSource::new(text, Numbers::new(alloc));
+    let mut sink = MemSink::new(alloc, Numbers::new(alloc));
+    let mut clock = MemClock::new(Times::copied(alloc, &[5])?);
+    let placer = Placer::new(
+        |count: u32, loads: &[DriveLoad]| -> Result<Numbers, Memory>
+            requires { CanPlace count loads.now }
+            ensures { ForOk result (Places count loads.now) }
+        { only_drive(alloc, count, loads) },
+    );
+    let served = server_command(
+        alloc,
+        case.connections,
+        &mut source,
+        &mut sink,
+        links,
+        &mut clock,
+        &placer,
+    );
+    Ok((Bytes::copied(alloc, sink.bytes())?, served.err()))
+}
+
+// The format of the capability in the first command that went out, behind four bytes of a frame and 64 of the command.
+fn first_format(links: &MemLinks) -> Option<u8> {
+    if links.asked_count() == 0 {
+        return None;
+    }
+    links.sent_on(0).get(68).copied()
+}
+
+fn goes_as_it_says(alloc: Global, case: &Case) -> Result<bool, Memory> {
+    let mut ends = links(alloc, case)?;
+    let (told, stop) = run(alloc, case, &mut ends)?;
+    Ok(
+        told.as_slice() == case.told.as_bytes()
+            && stop == case.stop
+            && ends.asked_count() == case.asked
+            && first_format(&ends) == case.format
+            && went_out(alloc, &ends, case.put),
+    )
+}
+
+#[test]
+fn a_server_makes_its_files_and_serves(rt: HostRuntime) -> Result<(), Fail> {
+    for case in CASES.iter() {
+        assert!(rt; goes_as_it_says(rt.alloc(), case)?, "{}", case.name);
+    }
+    Ok(())
+}

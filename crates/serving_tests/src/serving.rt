@@ -1,0 +1,111 @@
+use crate::messages::{Came, ORDER, Told, stream, went_out};
+use layout_server::{DriveTable, ServerCore};
+use osd_bytes::{ByteLists, Clock, MemClock, MemLinks, Memory, Numbers, Times};
+use server_serving::serve;
+use std::alloc::Global;
+use std::test::Fail;
+use stripe_repair::{DriveLoad, Placer};
+
+// What comes on each connection, which calls of the links fail, what goes out whole on each connection that is
+// accepted, whether so many are served, and what the clock tells next.
+struct Case {
+    name: &'static str,
+    comes: &'static [&'static [Came]],
+    fails: &'static [u32],
+    connections: u32,
+    told: &'static [&'static [Told]],
+    served: bool,
+    next_time: u64,
+}
+
+// The server has no files: each LAYOUTGET is answered, and each order is one for a file that it doesn't know.
+const CASES: &[Case] = &[
+    Case {
+        name: "each record of each connection is answered in order, at its own time",
+        comes: &[
+            &[Came::Asks(0, 1), Came::Asks(1, 1)],
+            &[Came::Revokes(5), Came::Asks(0, 2)],
+        ],
+        fails: &[],
+        connections: 2,
+        told: &[&[(0, 1, 0), (1, 1, 0)], &[(ORDER, 0, 3), (0, 2, 0)]],
+        served: true,
+        next_time: 9,
+    },
+    Case {
+        name: "a record that spells nothing takes a time and no answer",
+        comes: &[&[Came::Noise, Came::Asks(0, 1)]],
+        fails: &[],
+        connections: 1,
+        told: &[&[(0, 1, 0)]],
+        served: true,
+        next_time: 7,
+    },
+    Case {
+        name: "a request that comes again is answered again, and one out of order is told the next number",
+        comes: &[&[Came::Asks(0, 1), Came::Asks(0, 1), Came::Asks(0, 7)]],
+        fails: &[],
+        connections: 1,
+        told: &[&[(0, 1, 0), (0, 1, 0), (0, 7, 2)]],
+        served: true,
+        next_time: 8,
+    },
+    Case {
+        // Calls 0 and 1 accept and take, 2 puts the first answer, 3 would put the second.
+        name: "after an answer that failed records are handled without one",
+        comes: &[
+            &[Came::Asks(0, 1), Came::Asks(0, 2), Came::Asks(0, 3)],
+            &[Came::Asks(0, 4)],
+        ],
+        fails: &[3],
+        connections: 2,
+        told: &[&[(0, 1, 0)], &[(0, 4, 0)]],
+        served: true,
+        next_time: 9,
+    },
+    Case {
+        // Calls 0 and 1 serve the first connection, which is empty; 2 would accept the next.
+        name: "a server that can accept no connection says so",
+        comes: &[&[]],
+        fails: &[2],
+        connections: 2,
+        told: &[&[]],
+        served: false,
+        next_time: 5,
+    },
+];
+
+fn links(alloc: Global, case: &Case) -> Result<MemLinks, Memory> {
+    let mut coming = ByteLists::new(alloc);
+    for comes in case.comes {
+        coming.push(stream(alloc, comes)?)?;
+    }
+    let calls = Numbers::copied(alloc, case.fails)?;
+    Ok(MemLinks::new(alloc, coming, ByteLists::new(alloc), calls))
+}
+
+fn goes_as_it_says(rt: &HostRuntime, case: &Case) -> Result<bool, Fail> {
+    let alloc = rt.alloc();
+    let mut ends = links(alloc, case)?;
+    let mut clock = MemClock::new(Times::copied(alloc, &[5, 6, 7, 8, 9])?);
+    let mut core = ServerCore::new(alloc, DriveTable::new(alloc))?;
+    let placer = Placer::new(|_: u32, _: &[DriveLoad]| Err::<Numbers, Memory>(Memory));
+    let served = serve(
+        alloc,
+        &mut core,
+        &mut ends,
+        &mut clock,
+        &placer,
+        case.connections,
+    )
+    .is_ok();
+    Ok(served == case.served && went_out(alloc, &ends, case.told) && clock.now() == case.next_time)
+}
+
+#[test]
+fn a_server_serves_connections(rt: HostRuntime) -> Result<(), Fail> {
+    for case in CASES.iter() {
+        assert!(rt; goes_as_it_says(&rt, case)?, "{}", case.name);
+    }
+    Ok(())
+}
