@@ -1,17 +1,21 @@
-//! Replays scenarios of files striped over object drives, and shows and checks the structures of their
-//! layouts (RFC 5664), as proved in `osd_replay`.
+//! Replays scenarios of files striped over object drives, shows and checks the structures of their layouts
+//! (RFC 5664), and serves and asks over a network, as proved in `pnfs_run`.
 #![tactic(auto)]
+
+mod usage;
 
 ghost use Rattle.std.specs.Result.{ForOk};
 ghost use Rattle.stripe_repair.specs.Placing.{CanPlace, Places};
 
-use osd_bytes::{Memory, Numbers};
-use osd_links::{StdSink, StdSource};
-use osd_replay::{Stop, fewest_first, run, stopped};
+use osd_bytes::{Memory, Numbers, put_all};
+use osd_links::{StdSink, StdSource, SystemClock, TcpLinks};
+use osd_replay::{Stop, fewest_first, stopped};
+use pnfs_run::{Status, run};
 use std::io::ErrorKind;
 use std::process::ExitCode;
 use std::{env, io};
 use stripe_repair::{DriveLoad, Placer};
+use usage::text_asked;
 
 // The program's name and its words.
 fn all_words(rt: HostRuntime) -> io::Result<Vec<String>> {
@@ -32,6 +36,13 @@ fn main(rt: HostRuntime) -> ExitCode {
         Err(_) => Vec::new(rt.alloc()),
     };
     let (_, words) = words.split_at(words.len().min(1));
+    if let Some(text) = text_asked(words) {
+        let status = match put_all(&mut sink, text.as_bytes()) {
+            Ok(()) => Status::Done,
+            Err(_) => Status::WriteFault,
+        };
+        return ExitCode::from(status.exit_code());
+    }
     let alloc = rt.alloc();
     let placer = Placer::new(
         |count: u32, loads: &[DriveLoad]| -> Result<Numbers, Memory>
@@ -39,6 +50,16 @@ fn main(rt: HostRuntime) -> ExitCode {
             ensures { ForOk result (Places count loads.now) }
         { fewest_first(alloc, count, loads) },
     );
-    let status = run(alloc, words, &mut source, &mut sink, &placer);
+    let mut links = TcpLinks::new(rt, alloc);
+    let mut clock = SystemClock::new(rt);
+    let status = run(
+        alloc,
+        words,
+        &mut source,
+        &mut sink,
+        &mut links,
+        &mut clock,
+        &placer,
+    );
     ExitCode::from(status.exit_code())
 }

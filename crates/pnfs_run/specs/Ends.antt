@@ -1,0 +1,61 @@
+-- The ends of a run: its input and its output, the links and the clock.
+use Rattle.std.specs.Prelude.{◌≡◌, ℕ, List, Option}
+use Rattle.osd_bytes.specs.Connections.{Traffic}
+use Rattle.osd_bytes.specs.Counts.{Faults}
+use Rattle.osd_asking.specs.Asking as asking
+use Rattle.osd_drive.specs.Serving as drive
+use Rattle.osd_replay.specs.Ends as replay
+use Rattle.drive_command.specs.Ends.{Streams, streams}
+use Rattle.client_command.specs.Reports.{OnLinks, on_links}
+
+-- the bytes that the source has left and that the sink has taken, what came and went on the links, and the times of the
+-- clock, where they tell them; and the counts of the calls that failed
+pub record Ends : Type 0 where
+  pub left : Option (List ℕ)
+  pub reads_failed : ℕ
+  pub taken : Option (List ℕ)
+  pub writes_failed : ℕ
+  pub told : Option Traffic
+  pub faults : Faults
+  pub times : Option (List ℕ)
+
+abbrev pub ends : Option (List ℕ) → ℕ → Option (List ℕ) → ℕ → Option Traffic → Faults → Option (List ℕ) → Ends
+ends left reads_failed taken writes_failed told faults times = record {
+  left = left;
+  reads_failed = reads_failed;
+  taken = taken;
+  writes_failed = writes_failed;
+  told = told;
+  faults = faults;
+  times = times;
+}
+
+-- ---- what each command sees of them
+
+abbrev pub replay_ends : Ends → replay.Ends
+replay_ends e = replay.ends e.left e.reads_failed e.taken e.writes_failed
+
+abbrev pub streams_of : Ends → Streams
+streams_of e = streams e.left e.reads_failed e.taken e.writes_failed
+
+abbrev pub drive_ends : Ends → drive.Ends
+drive_ends e = drive.ends_of e.told e.faults e.times
+
+abbrev pub server_ends : Ends → asking.Ends
+server_ends e = asking.ends_of e.told e.faults e.times
+
+abbrev pub links_of : Ends → OnLinks
+links_of e = on_links e.told e.faults
+
+-- ---- what is left alone
+
+-- neither the links nor the clock were asked anything
+pub record AsksNobody (before now : Ends) : Type 0 where
+  pub told : now.told ≡ before.told
+  pub faults : now.faults ≡ before.faults
+  pub times : now.times ≡ before.times
+
+-- nothing was read, and the clock wasn't asked
+pub record LeavesInput (before now : Ends) : Type 0 where
+  pub left : now.left ≡ before.left
+  pub reads_failed : now.reads_failed ≡ before.reads_failed

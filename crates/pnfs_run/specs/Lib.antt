@@ -1,0 +1,5 @@
+pub mod Party
+pub mod Exit
+pub mod Ends
+pub mod Network
+pub mod Run

@@ -1,0 +1,70 @@
+-- What the commands over a network do.
+use Rattle.std.specs.Prelude.{◌≡◌, ◌⊎◌, ℕ, List, ⊤, Option}
+use Rattle.clap.specs.Walk.{Text}
+use Rattle.clap.specs.Simple.{App}
+use Rattle.cluster_input.specs.Lines.{PutsLine}
+use Rattle.cluster_input.specs.declared.stop.CommandStop.{CommandStop}
+use Rattle.command_words.specs.declared.words.ClientWords.{ClientWords}
+use Rattle.command_words.specs.declared.words.DriveWords.{DriveWords}
+use Rattle.command_words.specs.declared.words.ServerWords.{ServerWords}
+use Rattle.command_words.specs.declared.words.WordsErr.{WordsErr}
+use Rattle.command_words.specs.declared.words.WordsErr.TheVariants.{Bad, Memory as NoMemory}
+use Rattle.command_words.specs.Asked.{Asks, Refuses}
+use Rattle.client_command.specs.declared.ending.ClientEnd.{ClientEnd}
+use Rattle.client_command.specs.Ends.{EndsClient, WorksAs}
+use Rattle.drive_command.specs.Ends as drive
+use Rattle.server_command.specs.Ends as server
+use Rattle.osd_replay.specs.Errors.{words_error}
+use Rattle.pnfs_run.specs.declared.status.Status.{Status}
+use Rattle.pnfs_run.specs.declared.status.Status.TheVariants.{Done, BadWords, Memory}
+use Rattle.pnfs_run.specs.Exit.{by_client, by_stop}
+use Rattle.pnfs_run.specs.Ends.{AsksNobody, Ends, LeavesInput, drive_ends, links_of, server_ends, streams_of}
+
+-- ---- what the words ask for
+
+-- a drive serves all connections, or stops
+abbrev pub DriveEnds : DriveWords → (before now : Ends) → Status → Type 0
+DriveEnds w before now status =
+    ((status ≡ Done)
+    × drive.ServesAs w.number w.connections (streams_of before) (streams_of now) (drive_ends before) (drive_ends now))
+    ⊎ ((why : CommandStop) × (status ≡ by_stop why)
+    × drive.EndsDrive w.number w.connections (streams_of before) (streams_of now) (drive_ends before) (drive_ends now) why)
+
+-- a server serves all connections, or stops
+abbrev pub ServerEnds : ServerWords → (before now : Ends) → Status → Type 0
+ServerEnds w before now status =
+    ((status ≡ Done)
+    × server.ServesAs w.connections (streams_of before) (streams_of now) (server_ends before) (server_ends now))
+    ⊎ ((why : CommandStop) × (status ≡ by_stop why)
+    × server.EndsServer w.connections (streams_of before) (streams_of now) (server_ends before) (server_ends now) why)
+
+-- a client's work is done or refused, or it stops; it asks for no time
+abbrev pub ClientEnds : ClientWords → (before now : Ends) → Status → Type 0
+ClientEnds w before now status =
+    (now.times ≡ before.times)
+    × (((end : ClientEnd) × (status ≡ by_client end)
+    × WorksAs w (streams_of before) (streams_of now) (links_of before) (links_of now) end)
+    ⊎ ((why : CommandStop) × (status ≡ by_stop why)
+    × EndsClient w (streams_of before) (streams_of now) (links_of before) (links_of now) why))
+
+-- ---- words
+
+-- nothing happens but the line that says so
+pub record RefusesWords (before now : Ends) : Type 0 where
+  pub line : PutsLine before.taken now.taken before.writes_failed now.writes_failed words_error
+  pub input : LeavesInput before now
+  pub nobody : AsksNobody before now
+
+-- what is told of words that weren't read
+abbrev pub TellsWords : WordsErr → (before now : Option (List ℕ)) → (failed_before failed : ℕ) → Status → Type 0
+TellsWords Bad before now failed_before failed status =
+    (status ≡ BadWords) × PutsLine before now failed_before failed words_error
+TellsWords NoMemory before now failed_before failed status = status ≡ Memory
+
+-- the words are refused, or what they ask for is done; there may be no memory to read them
+abbrev pub Runs : {W : Type 0} → App → (List Text → Option W → Type 0) → (W → (before now : Ends) → Status → Type 0)
+    → List Text → (before now : Ends) → Status → Type 0
+Runs options gives Does words before now BadWords = Refuses options gives words Bad × RefusesWords before now
+Runs options gives Does words before now Memory = ⊤
+Runs {W} options gives Does words before now status =
+    (asked : W) × Asks options gives words asked × Does asked before now status
