@@ -1,0 +1,5 @@
+//! Tests of cluster texts, over the public call.
+#![tactic(auto)]
+
+#[cfg(test)]
+mod texts;
