@@ -70,11 +70,11 @@ pub const RETURN_READ: &[u8] = b"\x80\0\0L\0\0\0\x01\0\0\0\0\0\0\0\x05\0\0\0\0\0
 #[rattlefmt::skip]
 pub const RETURNED_READ: &[u8] = b"\x80\0\0(\0\0\0\x02\0\0\0\0\0\0\0\x05\0\0\0\0\0\0\03\0\0\0\0\0\0\0\0\0\0\0\x02\0\0\0\0\0\0\0\0";
 
-/// The same is asked for with request 9.
+/// The same is asked for under sequence number 9.
 #[rattlefmt::skip]
 pub const GET_MISORDERED: &[u8] = b"\x80\0\0L\0\0\0\x01\0\0\0\0\0\0\0\x09\0\0\0\0\0\0\02\0\0\0\0\0\0\0\x02\0\0\0\x01\0\0\0\0\0\0\0\0\0\0\0\0\0\0\0\x02\0\0\0\0\0\0\0\x02\0\0\0\0\0\0\0\0\0\0\0\0\0\0\0\0\0\x01\0\0";
 
-/// The server wanted request 6.
+/// The server awaited sequence number 6.
 #[rattlefmt::skip]
 pub const MISORDERED: &[u8] = b"\x80\0\0$\0\0\0\x02\0\0\0\0\0\0\0\x09\0\0\0\0\0\0\02\0\0\0\x06\0\0\0\0\0\0\0\x02\0\0'O";
 
