@@ -53,7 +53,7 @@ fair_sender (party.Client c) to d fair is = tt
 fair_sender (party.Drive k) to d fair is = subst (IsFair (party.Drive k)) is fair
 
 -- what stands in a longer list
-found_more : (ss : List Sent) (s : Sent) (n : ℕ) (m : Sent) → slice_get (ss ++ s ∷ []) n ≡ Some m
+pub found_more : (ss : List Sent) (s : Sent) (n : ℕ) (m : Sent) → slice_get (ss ++ s ∷ []) n ≡ Some m
     → (slice_get ss n ≡ Some m) ⊎ (s ≡ m)
 found_more [] s zero m is = inr (cc is)
 found_more [] s (suc n) m is = absurd (cc is)
@@ -61,7 +61,7 @@ found_more (x ∷ ss) s zero m is = inl is
 found_more (x ∷ ss) s (suc n) m is = found_more ss s n m is
 
 -- what stands in a list in which something was put in place of another
-found_set : (ss : List Sent) (k : ℕ) (s : Sent) (n : ℕ) (m : Sent) → slice_get (slice_set ss k s) n ≡ Some m
+pub found_set : (ss : List Sent) (k : ℕ) (s : Sent) (n : ℕ) (m : Sent) → slice_get (slice_set ss k s) n ≡ Some m
     → (slice_get ss n ≡ Some m) ⊎ ((n ≡ k) × (s ≡ m))
 found_set [] k s n m is = inl is
 found_set (x ∷ ss) zero s zero m is = inr (refl, cc is)
@@ -112,7 +112,7 @@ found_arrived ss k m there =
     set_there (y ∷ xs) (suc n) s x is = set_there xs n s x is
 
 -- what is read behind one line more
-sent_behind : (before : List Line) (l : Line) → sent_in (before ++ l ∷ []) ≡ sent_after (sent_in before) l
+pub sent_behind : (before : List Line) (l : Line) → sent_in (before ++ l ∷ []) ≡ sent_after (sent_in before) l
 unfolding sent_in
 sent_behind before l = fold-append sent_after [] before (l ∷ [])
 
@@ -244,7 +244,7 @@ any_at : (f : Sent → Bool) (xs : List Sent) → list_any f xs ≡ true → IsF
 any_at f [] e = absurd (cc e)
 any_at f (x ∷ xs) e = found_here f x xs (f x) refl e (λ r. any_at f xs r)
 
-same_drive : (d : ℕ) (p : Party) → is_drive d p ≡ true → p ≡ party.Drive d
+pub same_drive : (d : ℕ) (p : Party) → is_drive d p ≡ true → p ≡ party.Drive d
 same_drive d party.Server e = absurd (cc e)
 same_drive d (party.Client c) e = absurd (cc e)
 same_drive d (party.Drive k) e = elim (cases_eq k d) [

@@ -293,7 +293,7 @@ pending_opens w c e (Some n) s = cc s
 pending_opens w None e None s = cc s
 pending_opens w (Some c) e None s = quiet_at_opens c e (at_number w.clients c) s
 
-never_opens : (w : World) (r : Rule) (e : Event) → due_by w r ≡ Some (Opens e) → ⊥
+pub never_opens : (w : World) (r : Rule) (e : Event) → due_by w r ≡ Some (Opens e) → ⊥
 never_opens w Alone e s = cc s
 never_opens w (Prompt first c) e s = pending_opens w c e (next_pending w first) s
 

@@ -41,7 +41,7 @@ pub reads_on : (h ls : List Line) (d : ℕ) (s : DriveSeen) → drive_seen d h �
 reads_on h ls d s is = fold-append (sees_drive d) _ h ls ∙ ap (λ (x : DriveSeen). fold (sees_drive d) x ls) is
 
 -- what is read of the messages is the same for each drive
-sent_same : (d : ℕ) (s : DriveSeen) (h : List Line) → (fold (sees_drive d) s h).sent ≡ fold sent_after s.sent h
+pub sent_same : (d : ℕ) (s : DriveSeen) (h : List Line) → (fold (sees_drive d) s h).sent ≡ fold sent_after s.sent h
 sent_same d s [] = refl
 sent_same d s (l ∷ h) = sent_same d (sees_drive d s l) h
 

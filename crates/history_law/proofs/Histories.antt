@@ -47,7 +47,7 @@ module _ (P : World → List Line → Type 0) (k : IsKept P) where
       (k.opens w h e m.chosen x allowed)
 
   -- an event up to one of its moves
-  kept_part : (w : World) (h : List Line) (e : Event) (m : Move) (ms : List Move) → AreDue (plan_of w e) w (m ∷ ms)
+  pub kept_part : (w : World) (h : List Line) (e : Event) (m : Move) (ms : List Move) → AreDue (plan_of w e) w (m ∷ ms)
       → refusal w e ≡ None → P w h → P (world_after w (m ∷ ms)) (h ++ line.Event e ∷ lines_of w (m ∷ ms))
   kept_part w h e m ms due allowed x =
       subst (P (world_after (move w m).world ms))

@@ -76,7 +76,7 @@ first_beside (x ∷ xs) l q other = elim (cases_eq x.holder l.holder) [
       (ap (λ (o : Option LaneEntry). cond (nat_eq x.holder q) (Some x) o) (first_beside xs l q other))
 ]
 
-lane_beside : (xs : List LaneEntry) (l : LaneEntry) (q : ℕ) → (l.holder ≡ q → ⊥)
+pub lane_beside : (xs : List LaneEntry) (l : LaneEntry) (q : ℕ) → (l.holder ≡ q → ⊥)
     → lane_of (with_lane xs l) q ≡ lane_of xs q
 lane_beside xs l q other =
     ap (λ (ys : List LaneEntry). lane_of ys q) (put_first xs l) ∙ found_first (first_put xs l) q

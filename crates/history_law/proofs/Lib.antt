@@ -1,17 +1,17 @@
-mod Moments
-mod Going
-mod Running
-mod Counted
-mod Counting
-mod Touching
-mod Histories
-mod Each
-mod Replying
-mod DriveLines
-mod DriveMoves
-mod DriveEvents
-mod Lanes
-mod Spending
-mod Telling
-mod Coming
-mod Safe
+pub mod Moments
+pub mod Going
+pub mod Running
+pub mod Counted
+pub mod Counting
+pub mod Touching
+pub mod Histories
+pub mod Each
+pub mod Replying
+pub mod DriveLines
+pub mod DriveMoves
+pub mod DriveEvents
+pub mod Lanes
+pub mod Spending
+pub mod Telling
+pub mod Coming
+pub mod Safe

@@ -61,7 +61,7 @@ abbrev is_tag : ℕ → Verdict → Bool
 is_tag t (verdict.Tag current) = nat_eq current t
 is_tag t v = false
 
-again_row : (d : DriveState) (now : ℕ) (c : Command) → first_fault d now c ≡ verdict.Again
+pub again_row : (d : DriveState) (now : ℕ) (c : Command) → first_fault d now c ≡ verdict.Again
     → (is_mutating c.action && of_lane (λ l. nat_eq l.nonce c.nonce)
     (lane_or_none (object_at d.store c.object) c.capability.holder)) ≡ true
 unfolding first_fault
@@ -119,7 +119,7 @@ result_done action.SetAttr s c = refl
 result_done action.SetTag s c = refl
 
 -- a reply of another verdict tells nothing of these
-tells_by : (a : DriveAt) (c : Command) (v : Verdict) → first_fault a.state a.clock c ≡ v
+pub tells_by : (a : DriveAt) (c : Command) (v : Verdict) → first_fault a.state a.clock c ≡ v
     → TellsOf (Some (record a { state = state_by v a.state c })) c (reply_by v a.state c)
 tells_by a c verdict.Perform e = record {
   performed = λ same changes. inr (inr (effect_spent c.action a.state c refl changes (free a.state a.clock c e)));

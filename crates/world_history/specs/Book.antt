@@ -1,6 +1,7 @@
 -- The server and the book of a file, read off the lines: its part of the state to which the steps of the lines lead.
 use Rattle.std.specs.Prelude.{ℕ, List, [], ◌∷◌, Option, Some, None, Result, Ok, Err, slice_get, flat_map, if◌then◌else◌}
 use Rattle.std.specs.List.{fold}
+use Rattle.data_map.specs.declared.check.RawMap.{RawMap}
 use Rattle.osd_commands.specs.declared.commands.Command.{Command}
 use Rattle.osd_commands.specs.declared.commands.CommandErr.{CommandErr}
 use Rattle.osd_commands.specs.Commands as commands
@@ -19,7 +20,7 @@ use Rattle.scenario_text.specs.declared.line.Party.TheVariants as party
 use Rattle.scenario_text.specs.declared.line.Line.{Line}
 use Rattle.scenario_text.specs.declared.line.Line.TheVariants as line
 use Rattle.world_history.specs.Spelled.{node_of}
-use Rattle.world_history.specs.Moves.{raw_of, known_drive}
+use Rattle.world_history.specs.Moves.{raw_of, has_algorithm, known_drive}
 use Rattle.world_history.specs.State.{Sent}
 use Rattle.world_history.specs.Reading.{Step, sent_after, steps_of}
 
@@ -64,10 +65,14 @@ abbrev pub heard : (now : ℕ) → Option Sent → Option Input
 heard now None = None
 heard now (Some s) = heard_for now s s.to
 
+-- a file whose map has no parity algorithm isn't made
+abbrev pub made_of : (file : ℕ) → RawMap → (tag : ℕ) → Option Input
+made_of f m tag = if has_algorithm m then Some (Makes f m tag) else None
+
 -- an event that gives it something to do
 abbrev pub input_of : Event → Option Input
 input_of (event.Drive d key capacity) = Some (Adds (known_drive d key capacity))
-input_of (event.File f m tag) = Some (Makes f (raw_of m) tag)
+input_of (event.File f m tag) = made_of f (raw_of m) tag
 input_of (event.Format format) = Some (Formats format)
 input_of (event.Recall f) = Some (Obeys ToRecall f)
 input_of (event.Revoke f) = Some (Obeys ToRevoke f)
