@@ -24,14 +24,15 @@ use Rattle.file_jobs.specs.declared.job.FileState.{FileState}
 use Rattle.file_jobs.specs.Steps.{at, file_of, Steps}
 use Rattle.server_state.specs.declared.state.State.{State}
 use Rattle.server_state.specs.declared.step.Step.{Step}
-use Rattle.server_state.specs.Tables.{Table, files_in, entry_at, IsEntry, AreEntries}
+use Rattle.server_state.specs.Tables.{Table, files_in, entry_at, without, IsEntry, AreEntries}
 use Rattle.server_state.specs.States.{server_of, Did, IsGood, IsGoodBut, Settles}
 use Rattle.server_state.specs.Replies.{file_awaits, AreListed, AreListedBut, OthersStay}
 use Rattle.reply_index.specs.Index.{Keys}
 use Rattle.server_orders.specs.declared.creating.FileErr.{FileErr}
 use Rattle.server_orders.specs.Creating.{Creates, cause_of, map_unless}
 use Rattle.server_state.proofs.TableLaws.{at_number, file_at-files}
-use Rattle.server_state.proofs.ReplyLaws.{not_at, same_number}
+use Rattle.server_state.proofs.ReplyLaws.{same_number}
+use Rattle.server_state.proofs.CountLaws.{none_off}
 use Rattle.server_state.proofs.StepLaws.{after_settling}
 
 -- the code's order of keys is the rules' order of numbers
@@ -189,22 +190,36 @@ entries_inserted (e ∷ es) n f a i = elim (cases_Bool (is_at (nat_cmp n) e.0)) 
   ]
 ]
 
--- no other file than the new one changes
-not_there : (n m : ℕ) → (n == m) ≡ false → is_at (nat_cmp m) n ≡ false
-not_there n m e = grind (arith, nat_tests, at_number m n, e)
+-- a number that no file has
+none_without : (t : Table) (n : ℕ) → entry_at t n ≡ None → without n t ≡ t
+none_without [] n none = refl
+none_without (e ∷ es) n none = elim (cases_Bool (is_at (nat_cmp n) e.0)) [
+  | inl here ↦ absurd (some_none (rw here at none))
+  | inr not_here ↦ rw not_here (ap (λ (xs : Table). e ∷ xs) (none_without es n (rw not_here at none)))
+]
+  where
+    some_none : {f : FileState} → Some f ≡ None → ⊥
+    some_none e = absurd (cc e)
 
-pub others_inserted : (t : Table) (n : ℕ) (g : FileState) → OthersStay n t (insert_entry nat_cmp t n g)
-others_inserted [] n g m other = rw (not_there n m other) refl
-others_inserted (e ∷ es) n g m other = elim (cases_Bool (is_at (nat_cmp n) e.0)) [
-  | inl here ↦ rw (same_it n e.0 here, not_at n m e.0 here other) refl
+at_itself : (n : ℕ) → is_at (nat_cmp n) n ≡ true
+at_itself n = grind (arith, nat_tests, at_number n n)
+
+inserted_out : (t : Table) (n : ℕ) (g : FileState) → entry_at t n ≡ None → without n (insert_entry nat_cmp t n g) ≡ t
+inserted_out [] n g none = rw (at_itself n) refl
+inserted_out (e ∷ es) n g none = elim (cases_Bool (is_at (nat_cmp n) e.0)) [
+  | inl here ↦ absurd (some_none (rw here at none))
   | inr not_here ↦ elim (cases_Bool (nat_lt e.0 n)) [
-    | inl less ↦ rw (behind_it n e.0 less) (elim (cases_Bool (is_at (nat_cmp m) e.0)) [
-      | inl found ↦ rw found refl
-      | inr not_found ↦ rw not_found (others_inserted es n g m other)
-    ])
-    | inr more ↦ rw (before_it n e.0 more not_here, not_there n m other) refl
+    | inl less ↦ rw (behind_it n e.0 less) (rw not_here (ap (λ (xs : Table). e ∷ xs) (inserted_out es n g (rw not_here at none))))
+    | inr more ↦ rw (before_it n e.0 more not_here) (rw (at_itself n) refl)
   ]
 ]
+  where
+    some_none : {f : FileState} → Some f ≡ None → ⊥
+    some_none e = absurd (cc e)
+
+-- no other file than the new one changes
+pub others_inserted : (t : Table) (n : ℕ) (g : FileState) → entry_at t n ≡ None → OthersStay n t (insert_entry nat_cmp t n g)
+others_inserted t n g none = inserted_out t n g none ∙ sym (none_without t n none)
 
 -- none awaits anything at a number that no file has
 unlisted : (t : Table) (ks : Keys) (n : ℕ) → entry_at t n ≡ None → AreListed ks t → AreListedBut n ks t
@@ -213,12 +228,16 @@ unlisted t ks n none a = λ x d m. elim (cases_Bool (n == m)) [
   | inr there ↦ a x d m ∙ rw there refl
 ]
 
+pub none_before : (old : State) (n : ℕ) (raw : RawMap) → IsGood old → refusal (server_of old) n raw ≡ None → entry_at old.files.entries n ≡ None
+none_before old n raw good none = no_entry old.files.entries n good.files (none_there (server_of old) n raw none)
+
 pub good_before : (old : State) (n : ℕ) (raw : RawMap) → IsGood old → refusal (server_of old) n raw ≡ None → IsGoodBut n old
 good_before old n raw good none = record {
   files = good.files;
   grants = good.grants;
   drives = good.drives;
-  replies = unlisted old.files.entries old.replies n (no_entry old.files.entries n good.files (none_there (server_of old) n raw none)) good.replies;
+  replies = unlisted old.files.entries old.replies n (none_before old n raw good none) good.replies;
+  counts = none_off old.files.entries old.counts n (none_before old n raw good none) good.counts;
 }
 
 pub created_too : (n : ℕ) (raw : RawMap) (tag : ℕ) (old is new : State) (out : Step) → server_of new ≡ server_of is → Creates n raw tag old is out → Creates n raw tag old new out

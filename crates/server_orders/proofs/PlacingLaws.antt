@@ -1,5 +1,5 @@
 -- Drives for a new file's components, by their loads and by the drives.
-use Rattle.std.specs.Prelude.{ℕ, Bool, true, false, List, [], ◌∷◌, ◌≡◌, ◌≢◌, ◌+◌, ◌≤◌, ◌<◌, ◌==◌, ◌&&◌, ◌||◌, nat_eq, cond, suc, zero, find, is_some, map, length, count_by, slice_index, All, Result, Ok, Err, IfOk, refl}
+use Rattle.std.specs.Prelude.{ℕ, Bool, true, false, List, [], ◌∷◌, ◌≡◌, ◌≢◌, ◌+◌, ◌≤◌, ◌<◌, ◌==◌, ◌&&◌, ◌||◌, nat_eq, cond, suc, zero, find, is_some, map, length, count_by, slice_index, slice_index_or, All, min, ◌^◌, ◌-◌, Result, Ok, Err, IfOk, refl}
 use Rattle.std.specs.List.{list_all}
 use Rattle.std.specs.Result.{ForOk}
 use Rattle.std.proofs.Common.{arith, inl, inr, ap, sym, subst, ◌∙◌}
@@ -16,6 +16,10 @@ use Rattle.stripe_repair.specs.declared.loads.TheConstants.{MAX_DRIVES}
 use Rattle.stripe_repair.specs.Placing.{AreDifferent, CanPlace, FitsLoad, Places, drives_of, is_online}
 use Rattle.file_jobs.specs.Placing.{AreLoadsOf}
 use Rattle.server_state.specs.Drives.{RiseFrom, AreDrives}
+use Rattle.server_state.specs.Standing.{AreCounted}
+use Rattle.server_state.specs.Tables.{Table}
+use Rattle.drive_counts.specs.Counts.{Counts, told}
+use Rattle.server_orders.specs.Loads.{Tells}
 use Rattle.server_orders.proofs.DriveLaws.{few_drives}
 
 -- ---- the loads of drives
@@ -155,6 +159,27 @@ placed_if (Err m) ls ds count e p = tt
 pub many_if : (r : Result (List ℕ) Memory) (ls : List DriveLoad) (count : ℕ) → ForOk r (Places count ls) → IfOk r (λ chosen. length chosen ≡ count)
 many_if (Ok chosen) ls count p = (p chosen refl).many
 many_if (Err m) ls count p = tt
+
+-- ---- what the loads tell
+
+-- each is of a drive with a low number
+low_drive : (least : ℕ) (ls : List DriveLoad) (ds : List Drive) → AreLoadsOf ls ds → RiseFrom least ds → (k : ℕ) (x : DriveLoad) → k < length ls →
+    (slice_index_or ls k x).drive < MAX_DRIVES
+low_drive least [] ds e r k x l = absurd (omega (arith, l))
+low_drive least (y ∷ ls) [] e r k x l = absurd (cc e)
+low_drive least (y ∷ ls) (d ∷ ds) e r zero x l = subst (λ (n : ℕ). n < MAX_DRIVES) (sym (tail_of y ls d ds e).0) r.1
+low_drive least (y ∷ ls) (d ∷ ds) e r (suc k) x l = low_drive (d.number + 1) ls ds (tail_of y ls d ds e).2 r.2 k x (omega (arith, l))
+
+-- each tells what stands on its drive
+pub all_tell : (ls : List DriveLoad) (ds : List Drive) (cs : Counts) (t : Table) → AreLoadsOf ls ds → AreDrives ds → AreCounted cs t →
+    All (λ l. l.objects ≡ told cs l.drive) ls → All (Tells t) ls
+all_tell ls ds cs t e r a h = λ k x l.
+    h k x l ∙ ap (λ (n : ℕ). min n (2 ^ 32 - 1)) (a (slice_index_or ls k x).drive (low_drive 0 ls ds e r k x l))
+
+-- what follows of the value, if there is one, of two facts
+pub both_ok : {A : Type 0} {P Q R : A → Type 0} (r : Result A Memory) → ((a : A) → P a → Q a → R a) → IfOk r P → IfOk r Q → IfOk r R
+both_ok (Ok a) f p q = f a p q
+both_ok (Err e) f p q = tt
 
 -- there are few loads
 pub few_loads : (ls : List DriveLoad) (ds : List Drive) → AreLoadsOf ls ds → AreDrives ds → length ls ≤ MAX_DRIVES

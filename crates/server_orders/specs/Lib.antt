@@ -1,4 +1,5 @@
 pub mod Adding
+pub mod Loads
 pub mod Orders
 pub mod Hearing
 pub mod Declaring

@@ -186,7 +186,7 @@ where
     ensures placed { IfOk result (λ chosen. places state.now.drives count chosen ≡ chosen) }
     ensures many { IfOk result (λ chosen. length chosen ≡ count) }
 {
-    let loads = loads_of(alloc, state.drives.as_slice(), &state.files, true)?;
+    let loads = loads_of(alloc, state)?;
     placer.place(count, loads.as_slice())
 }
 

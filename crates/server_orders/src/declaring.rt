@@ -98,7 +98,7 @@ where
     ensures good { OnOk result (IsGood state.new) }
 {
     state.drives = offline(alloc, state.drives.as_slice(), drive)?;
-    let loads = loads_of(alloc, state.drives.as_slice(), &state.files, true)?;
+    let loads = loads_of(alloc, state)?;
     let loads = loads.as_slice();
     let mut moved = begins(alloc, state.next_nonce, state.next_object);
     declare_each(alloc, &mut state.files, &mut moved, drive, loads, placer)?;

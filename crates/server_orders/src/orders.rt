@@ -7,6 +7,7 @@ ghost use Rattle.server_rules.specs.Orders.{ordered, starts, unknown};
 ghost use Rattle.stripe_repair.specs.Placing.{AreDifferent, IsPlacer, drives_of};
 ghost use Rattle.stripe_repair.specs.declared.loads.TheConstants.{MAX_DRIVES};
 ghost use Rattle.server_state.specs.declared.state.State.{State as AState};
+ghost use Rattle.file_jobs.specs.Placing.{AreLoadsOf};
 ghost use Rattle.file_jobs.specs.Sound.{IsSoundFile};
 ghost use Rattle.file_requests.specs.Serving.{LeavesFile};
 ghost use Rattle.server_state.specs.Tables.{AreEntries};
@@ -141,26 +142,27 @@ where
     }
 }
 
-// The step of an order for a job at its file, of which no replies are listed.
+// The step of an order for a job at its file, which is unlisted.
 fn order_job_at<F>(
     alloc: Global,
     state: &mut State,
     number: u32,
     kind: JobKind,
+    loads: &[DriveLoad],
     placer: &Placer<F>,
 ) -> Result<Obeyed, Memory>
 where
     F: Fn(u32, &[DriveLoad]) -> Result<Numbers, Memory>,
     requires good { IsGoodBut number state.old }
     requires room { HasRoom (server_of state.old) }
+    requires few { length loads.now ≤ MAX_DRIVES }
+    requires different { AreDifferent (drives_of loads.now) }
+    requires loads { AreLoadsOf loads.now state.old.drives }
     requires placer { IsPlacer F.Fn placer.now }
     ensures obeys { IfOk result (λ o. (chosen : List ℕ) × Obeys o (server_of state.new)
         (starts (server_of state.old) chosen kind (file_at (server_of state.old).files number))) }
     ensures good { OnOk result (IsGoodBut number state.new) }
 {
-    let counted = matches!(kind, JobKind::Rebuilding);
-    let loads = loads_of(alloc, state.drives.as_slice(), &state.files, counted)?;
-    let loads = loads.as_slice();
     let mut moved = begins(alloc, state.next_nonce, state.next_object);
     let format = state.format;
     let files = &mut state.files;
@@ -197,8 +199,10 @@ where
         (starts (server_of state.old) chosen kind (file_at (server_of state.old).files number))) }
     ensures good { OnOk result (IsGood state.new) }
 {
+    let loads = loads_of(alloc, state)?;
+    let loads = loads.as_slice();
     unlist(state, number);
-    let obeyed = order_job_at(alloc, state, number, kind, placer)?;
+    let obeyed = order_job_at(alloc, state, number, kind, loads, placer)?;
     list(state, number)?;
     Ok(obeyed)
 }

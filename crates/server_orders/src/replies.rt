@@ -5,6 +5,7 @@ ghost use Rattle.std.specs.Map.{keys_of};
 ghost use Rattle.server_rules.specs.Messages.{on_drive_reply};
 ghost use Rattle.stripe_repair.specs.Placing.{AreDifferent, IsPlacer, drives_of};
 ghost use Rattle.stripe_repair.specs.declared.loads.TheConstants.{MAX_DRIVES};
+ghost use Rattle.file_jobs.specs.Placing.{AreLoadsOf};
 ghost use Rattle.server_state.specs.Tables.{AreEntries};
 ghost use Rattle.server_state.specs.States.{server_of, Did, HasRoom, IsGood, IsGoodBut};
 ghost use Rattle.server_orders.specs.Hearing.{AwaitedAt, AwaitedNowhere, HeardIn};
@@ -14,7 +15,7 @@ use file_jobs::on_reply;
 use osd_bytes::{Memory, Numbers};
 use osd_commands::Reply;
 use server_requests::Sends;
-use server_rules::{JobKind, Moved};
+use server_rules::Moved;
 use server_state::{Files, State, Step, begins, list, only_sends, settle, unlist};
 use std::alloc::Global;
 use stripe_repair::{DriveLoad, Placer};
@@ -34,17 +35,6 @@ fn awaiting(state: &State, drive: u32, reply: &Reply) -> Option<u32>
 {
     in_order(&state.files);
     state.replies.first(reply.nonce, drive)
-}
-
-// The file's job is a rebuild, the one kind that asks the placer.
-fn is_rebuilt(files: &Files, number: u32) -> bool {
-    match files.get(&number) {
-        Some(file) => match &file.job {
-            Some(job) => matches!(job.kind, JobKind::Rebuilding),
-            None => false,
-        },
-        None => false,
-    }
 }
 
 // The file of that number hears it.
@@ -75,28 +65,29 @@ where
     Ok(())
 }
 
-// The step of a reply that the job of that file awaits, of which no replies are listed.
+// The step of a reply that the job of that file awaits, which is unlisted.
 fn hear_at<F>(
     alloc: Global,
     state: &mut State,
     number: u32,
     drive: u32,
     reply: &Reply,
+    loads: &[DriveLoad],
     placer: &Placer<F>,
 ) -> Result<Step, Memory>
 where
     F: Fn(u32, &[DriveLoad]) -> Result<Numbers, Memory>,
     requires good { IsGoodBut number state.old }
     requires room { HasRoom (server_of state.old) }
+    requires few { length loads.now ≤ MAX_DRIVES }
+    requires different { AreDifferent (drives_of loads.now) }
+    requires loads { AreLoadsOf loads.now state.old.drives }
     requires placer { IsPlacer F.Fn placer.now }
     requires awaited { AwaitedAt drive reply.now number state.old.files.entries }
     ensures did { IfOk result (λ out. (chosen : List ℕ) × Did out (server_of state.new)
         (on_drive_reply (server_of state.old) chosen drive reply.now)) }
     ensures good { OnOk result (IsGoodBut number state.new) }
 {
-    let counted = is_rebuilt(&state.files, number);
-    let loads = loads_of(alloc, state.drives.as_slice(), &state.files, counted)?;
-    let loads = loads.as_slice();
     let mut moved = begins(alloc, state.next_nonce, state.next_object);
     let files = &mut state.files;
     hear_in(
@@ -105,7 +96,7 @@ where
     settle(alloc, state, moved)
 }
 
-// The same with what its job awaits from then on.
+// The same, with what its job awaits and where its components stand from then on.
 fn hear<F>(
     alloc: Global,
     state: &mut State,
@@ -124,8 +115,10 @@ where
         (on_drive_reply (server_of state.old) chosen drive reply.now)) }
     ensures good { OnOk result (IsGood state.new) }
 {
+    let loads = loads_of(alloc, state)?;
+    let loads = loads.as_slice();
     unlist(state, number);
-    let step = hear_at(alloc, state, number, drive, reply, placer)?;
+    let step = hear_at(alloc, state, number, drive, reply, loads, placer)?;
     list(state, number)?;
     Ok(step)
 }

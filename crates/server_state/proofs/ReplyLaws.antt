@@ -1,5 +1,5 @@
 -- The list of the replies that files await, over a step.
-use Rattle.std.specs.Prelude.{ℕ, Bool, true, false, List, [], ◌∷◌, Option, Some, None, ◌≡◌, ◌==◌, ◌&&◌, ◌||◌, not, refl, Result, Ok, Err, OnOk}
+use Rattle.std.specs.Prelude.{ℕ, Bool, true, false, List, [], ◌∷◌, Option, None, ◌≡◌, ◌==◌, ◌&&◌, ◌||◌, not, refl, Result, Ok, Err, OnOk}
 use Rattle.std.specs.Ordering.{nat_cmp}
 use Rattle.std.specs.List.{AllByRecursion}
 use Rattle.std.specs.List.Sorted.{IsStrictlySortedBy}
@@ -16,7 +16,7 @@ use Rattle.file_jobs.specs.declared.job.FileState.{FileState}
 use Rattle.reply_index.specs.Index.{Keys, has}
 use Rattle.server_state.specs.declared.step.Step.{Step}
 use Rattle.server_state.specs.States.{Did}
-use Rattle.server_state.specs.Tables.{Table, entry_at}
+use Rattle.server_state.specs.Tables.{Table, entry_at, without}
 use Rattle.server_state.specs.Replies.{file_awaits, job_awaits, AreListed, AreListedBut, OthersStay}
 use Rattle.server_state.proofs.TableLaws.{at_number}
 
@@ -70,20 +70,31 @@ put_on t old new n o e a h = λ x d m.
 
 -- ---- meanwhile that file changes and no other
 
+not_at : (n m k : ℕ) → is_at (nat_cmp n) k ≡ true → (n == m) ≡ false → is_at (nat_cmp m) k ≡ false
+not_at n m k here other = grind (arith, nat_tests, at_number n k, at_number m k, here, other)
+
+-- another file is found among the others
+found_without : (t : Table) (n m : ℕ) → (n == m) ≡ false → entry_at (without n t) m ≡ entry_at t m
+found_without [] n m other = refl
+found_without (e ∷ es) n m other = elim (cases_Bool (is_at (nat_cmp n) e.0)) [
+  | inl here ↦ rw (here, not_at n m e.0 here other) refl
+  | inr there ↦ rw there (elim (cases_Bool (is_at (nat_cmp m) e.0)) [ inl found ↦ rw found refl | inr not_found ↦ rw not_found (found_without es n m other) ])
+]
+
+stays_at : (n m : ℕ) (old new : Table) → OthersStay n old new → (n == m) ≡ false → entry_at new m ≡ entry_at old m
+stays_at n m old new others other = sym (found_without new n m other) ∙ ap (λ (t : Table). entry_at t m) others ∙ found_without old n m other
+
 pub still_listed : (n : ℕ) (ks : Keys) (old new : Table) → OthersStay n old new → AreListedBut n ks old → AreListedBut n ks new
 still_listed n ks old new others a = λ x d m. elim (cases_Bool (n == m)) [
   | inl here ↦ a x d m ∙ rw here refl
-  | inr there ↦ a x d m ∙ ap (λ (o : Option FileState). not (n == m) && file_awaits o x d) (sym (others m there))
+  | inr there ↦ a x d m ∙ ap (λ (o : Option FileState). not (n == m) && file_awaits o x d) (sym (stays_at n m old new others there))
 ]
 
-pub not_at : (n m k : ℕ) → is_at (nat_cmp n) k ≡ true → (n == m) ≡ false → is_at (nat_cmp m) k ≡ false
-not_at n m k here other = grind (arith, nat_tests, at_number n k, at_number m k, here, other)
-
 pub others_set : (t : Table) (n : ℕ) (g : FileState) → OthersStay n t (set_value (is_at (nat_cmp n)) t g)
-others_set [] n g m other = refl
-others_set (e ∷ es) n g m other = elim (cases_Bool (is_at (nat_cmp n) e.0)) [
-  | inl here ↦ rw (here, not_at n m e.0 here other) refl
-  | inr there ↦ rw there (elim (cases_Bool (is_at (nat_cmp m) e.0)) [ inl found ↦ rw found refl | inr not_found ↦ rw not_found (others_set es n g m other) ])
+others_set [] n g = refl
+others_set (e ∷ es) n g = elim (cases_Bool (is_at (nat_cmp n) e.0)) [
+  | inl here ↦ rw (here, here) refl
+  | inr there ↦ rw (there, there) (ap (λ (t : Table). e ∷ t) (others_set es n g))
 ]
 
 -- ---- all files, in order
@@ -159,9 +170,9 @@ pub did_between : (out : Step) (f : Server → RulesStep) (was old is new : Serv
 did_between out f was old is new e h did =
     subst (λ (s : Server). Did out s (f was)) (sym h) (subst (λ (s : Server). Did out is (f s)) e did)
 
-pub on_each : {A P Q R S T : Type 0} (r : Result A Memory) → (P → Q → R → S → T) → OnOk r P → OnOk r Q → OnOk r R → OnOk r S → OnOk r T
-on_each (Ok a) f p q u s = f p q u s
-on_each (Err e) f p q u s = tt
+pub on_each : {A P Q R S T U : Type 0} (r : Result A Memory) → (P → Q → R → S → T → U) → OnOk r P → OnOk r Q → OnOk r R → OnOk r S → OnOk r T → OnOk r U
+on_each (Ok a) f p q u s v = f p q u s v
+on_each (Err e) f p q u s v = tt
 
 pub on_that : {A P T : Type 0} (r : Result A Memory) → (P → T) → OnOk r P → OnOk r T
 on_that (Ok a) f p = f p

@@ -34,10 +34,13 @@ use Rattle.reply_index.specs.Index.{Keys}
 use Rattle.server_rules.specs.declared.server.Drive.{Drive}
 use Rattle.server_state.specs.Drives.{AreDrives}
 use Rattle.server_state.specs.Replies.{AreListedBut, OthersStay}
-use Rattle.server_state.specs.Tables.{Table, files_in, entry_at, AreEntries}
+use Rattle.drive_counts.specs.Counts.{Counts}
+use Rattle.server_state.specs.Standing.{AreCounted}
+use Rattle.server_state.specs.Tables.{Table, files_in, entry_at, without, AreEntries}
 use Rattle.server_state.specs.AtFile.{ServedAt}
 use Rattle.server_state.specs.States.{server_of, Did, Finishes, Settles, IsGoodBut, carried_in}
 use Rattle.server_state.proofs.ReplyLaws.{still_listed}
+use Rattle.server_state.proofs.CountLaws.{still_counted}
 use Rattle.server_state.proofs.TableLaws.{file_at-files, put_file-files, no_file_there}
 
 -- the server with these files and this answer, once the request's step is over
@@ -116,6 +119,7 @@ good_settled n old files new m out good entries others fin =
       grants = good.grants;
       drives = good.drives;
       replies = still_listed n old.replies old.files.entries files.entries others good.replies;
+      counts = still_counted n old.counts old.files.entries files.entries others good.counts;
     })
 
 pub good_finished : (n : ℕ) (old : State) (files : BTreeMap ℕ FileState) (new : State) (m : Moved) (v : Served) (out : Step) →
@@ -127,18 +131,20 @@ good_finished n old files new m v out good entries others numbers fin =
       grants = numbers;
       drives = good.drives;
       replies = still_listed n old.replies old.files.entries files.entries others good.replies;
+      counts = still_counted n old.counts old.files.entries files.entries others good.counts;
     })
 
 -- nothing of it changed
 pub good_still : (n : ℕ) (old : State) (files : BTreeMap ℕ FileState) (new : State) → IsGoodBut n old → files.entries ≡ old.files.entries →
-    new.files ≡ files → new.next_grant ≡ old.next_grant → new.drives ≡ old.drives → new.replies ≡ old.replies → IsGoodBut n new
-good_still n old files new good same f g d r =
+    new.files ≡ files → new.next_grant ≡ old.next_grant → new.drives ≡ old.drives → new.replies ≡ old.replies → new.counts ≡ old.counts → IsGoodBut n new
+good_still n old files new good same f g d r h =
     let t : new.files.entries ≡ old.files.entries = ap (λ (z : BTreeMap ℕ FileState). z.entries) f ∙ same in
     record {
       files = subst (λ (z : Table). AreEntries z) (sym t) good.files;
       grants = subst (λ (k : ℕ). k ≤ GREATEST_GRANT + 1) (sym g) good.grants;
       drives = subst (λ (z : List Drive). AreDrives z) (sym d) good.drives;
       replies = subst (λ (z : Table). AreListedBut n new.replies z) (sym t) (subst (λ (z : Keys). AreListedBut n z old.files.entries) (sym r) good.replies);
+      counts = subst (λ (z : Table). AreCounted new.counts (without n z)) (sym t) (subst (λ (z : Counts). AreCounted z (without n old.files.entries)) (sym h) good.counts);
     }
 
 -- what comes of a request on a file that there isn't

@@ -3,7 +3,7 @@ use Rattle.std.specs.Prelude.{ℕ, Bool, false, Option, Some, None, ◌≡◌, �
 use Rattle.server_rules.specs.declared.jobs.Job.{Job}
 use Rattle.file_jobs.specs.declared.job.FileState.{FileState}
 use Rattle.reply_index.specs.Index.{Keys, has, are_to}
-use Rattle.server_state.specs.Tables.{Table, entry_at}
+use Rattle.server_state.specs.Tables.{Table, entry_at, without}
 
 -- the job, if one runs, awaits a reply of nonce x from drive d
 abbrev pub job_awaits : Option Job → (x d : ℕ) → Bool
@@ -25,4 +25,4 @@ AreListedBut n ks t = (x d m : ℕ) → has ks x d m ≡ (not (n == m) && file_a
 
 -- no file but number n changed
 abbrev pub OthersStay : (n : ℕ) → Table → Table → Type 0
-OthersStay n old new = (m : ℕ) → (n == m) ≡ false → entry_at new m ≡ entry_at old m
+OthersStay n old new = without n new ≡ without n old

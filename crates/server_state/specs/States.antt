@@ -13,8 +13,9 @@ use Rattle.server_requests.specs.Sending.{all_sent}
 use Rattle.server_state.specs.declared.state.State.{State}
 use Rattle.server_state.specs.declared.step.Step.{Step}
 use Rattle.server_state.specs.declared.serving.Served.{Served}
-use Rattle.server_state.specs.Tables.{files_in, AreEntries}
+use Rattle.server_state.specs.Tables.{files_in, without, AreEntries}
 use Rattle.server_state.specs.Replies.{AreListed, AreListedBut}
+use Rattle.server_state.specs.Standing.{AreCounted}
 use Rattle.server_state.specs.Drives.{AreDrives}
 
 abbrev pub server_of : State → Server
@@ -35,6 +36,7 @@ pub record IsGood (s : State) : Type 0 where
   pub grants : s.next_grant ≤ GREATEST_GRANT + 1
   pub drives : AreDrives s.drives
   pub replies : AreListed s.replies s.files.entries
+  pub counts : AreCounted s.counts s.files.entries
 
 -- what holds in the middle of a step at file n
 pub record IsGoodBut (n : ℕ) (s : State) : Type 0 where
@@ -42,6 +44,7 @@ pub record IsGoodBut (n : ℕ) (s : State) : Type 0 where
   pub grants : s.next_grant ≤ GREATEST_GRANT + 1
   pub drives : AreDrives s.drives
   pub replies : AreListedBut n s.replies s.files.entries
+  pub counts : AreCounted s.counts (without n s.files.entries)
 
 -- what holds in the middle of a step at all files
 pub record IsReady (s : State) : Type 0 where

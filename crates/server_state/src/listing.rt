@@ -1,10 +1,12 @@
-// Which replies the files await.
+// Which replies the files await, and how many components stand on each drive.
 ghost use Rattle.std.specs.Prelude.{◌≡◌, ◌==◌, ◌&&◌, ◌||◌, ℕ, not, IfOk, OnOk};
 ghost use Rattle.reply_index.specs.Index.{has};
 ghost use Rattle.server_state.specs.Replies.{job_awaits, AreListed};
+ghost use Rattle.server_state.specs.Standing.{AreCounted};
 ghost use Rattle.server_state.specs.States.{server_of, IsGood, IsGoodBut, IsReady};
 
 use crate::state::{Files, State};
+use drive_counts::DriveCounts;
 use file_jobs::FileState;
 use osd_bytes::Memory;
 use reply_index::ReplyIndex;
@@ -32,7 +34,8 @@ fn add_of(replies: &mut ReplyIndex, number: u32, file: &FileState) -> Result<(),
     }
 }
 
-/// A step at the file of that number begins: what its job awaits isn't listed until the step is over.
+/// A step at the file of that number begins: what its job awaits isn't listed until the step is over, and its
+/// components aren't counted.
 pub fn unlist(state: &mut State, number: u32)
     requires { IsGood state.old }
     ensures good { IsGoodBut number state.new }
@@ -40,23 +43,29 @@ pub fn unlist(state: &mut State, number: u32)
     ensures files { state.new.files ≡ state.old.files }
 {
     match state.files.get(&number) {
-        Some(file) => remove_of(&mut state.replies, number, file),
+        Some(file) => {
+            remove_of(&mut state.replies, number, file);
+            state.counts.remove(file.kept.components.as_slice());
+        }
         None => {}
     }
 }
 
-/// The step at the file of that number is over: what its job awaits is listed.
+/// The step at the file of that number is over: what its job awaits is listed, and its components are counted.
 ///
 /// # Errors
 ///
-/// Want of memory alone.
+/// Want of memory; and, in place of it, a count of components without room in 64 bits.
 pub fn list(state: &mut State, number: u32) -> Result<(), Memory>
     requires { IsGoodBut number state.old }
     ensures good { OnOk result (IsGood state.new) }
     ensures server { OnOk result (server_of state.new ≡ server_of state.old) }
 {
     match state.files.get(&number) {
-        Some(file) => add_of(&mut state.replies, number, file),
+        Some(file) => {
+            add_of(&mut state.replies, number, file)?;
+            state.counts.add(file.kept.components.as_slice())
+        }
         None => Ok(()),
     }
 }
@@ -72,16 +81,28 @@ fn list_of(alloc: Global, files: &Files) -> Result<ReplyIndex, Memory>
     Ok(replies)
 }
 
-/// A step at all files is over: what they await is listed anew.
+// The counts of the components of all files.
+fn counts_of(files: &Files) -> Result<DriveCounts, Memory>
+    ensures { IfOk result (λ counts. AreCounted counts files.now.entries) }
+{
+    let mut counts = DriveCounts::new();
+    for (_, file) in files.iter() {
+        counts.add(file.kept.components.as_slice())?;
+    }
+    Ok(counts)
+}
+
+/// A step at all files is over: what they await is listed anew, and their components are counted anew.
 ///
 /// # Errors
 ///
-/// Want of memory alone.
+/// Want of memory; and, in place of it, a count of components without room in 64 bits.
 pub fn list_all(alloc: Global, state: &mut State) -> Result<(), Memory>
     requires { IsReady state.old }
     ensures good { OnOk result (IsGood state.new) }
     ensures server { OnOk result (server_of state.new ≡ server_of state.old) }
 {
     state.replies = list_of(alloc, &state.files)?;
+    state.counts = counts_of(&state.files)?;
     Ok(())
 }

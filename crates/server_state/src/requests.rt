@@ -37,6 +37,7 @@ fn refuse(alloc: Global, state: &mut State, request: &ClientRequest) -> Result<S
     ensures grants { OnOk result (state.new.next_grant ≡ state.old.next_grant) }
     ensures drives { OnOk result (state.new.drives ≡ state.old.drives) }
     ensures replies { OnOk result (state.new.replies ≡ state.old.replies) }
+    ensures counts { OnOk result (state.new.counts ≡ state.old.counts) }
 {
     let answer = plain_answer(request, no_file(&request.args), 0, 0);
     let mut sends = Sends::new(alloc);
@@ -73,7 +74,7 @@ fn finish(alloc: Global, state: &mut State, moved: Moved, served: Served) -> Res
     })
 }
 
-// The step of a new request at its file, of which no replies are listed.
+// The step of a new request at its file, which is unlisted.
 fn carry_out_at(
     alloc: Global,
     state: &mut State,

@@ -3,6 +3,7 @@ ghost use Rattle.server_rules.specs.Making.{new_server};
 ghost use Rattle.server_state.specs.States.{server_of, IsGood};
 
 use crate::slots::Slots;
+use drive_counts::DriveCounts;
 use file_jobs::FileState;
 use osd_bytes::Sequence;
 use osd_capability::FORMAT_SHA1;
@@ -23,6 +24,8 @@ pub struct State {
     pub files: Files,
     /// Which file awaits which reply.
     pub replies: ReplyIndex,
+    /// How many present components of the files stand on each drive.
+    pub counts: DriveCounts,
     pub slots: Slots,
     pub drives: Drives,
     /// The number of the next grant, above 4,294,967,295 where none is left.
@@ -46,6 +49,7 @@ impl State {
         State {
             files: Files::new(alloc),
             replies: ReplyIndex::new(alloc),
+            counts: DriveCounts::new(),
             slots: Slots::new(alloc),
             drives: Drives::new(alloc),
             next_grant: 1,

@@ -3,7 +3,7 @@ use Rattle.server_rules.specs.declared.files.File.{File}
 use Rattle.server_state.specs.Tables.{Table, AreEntries}
 use Rattle.server_state.specs.Replies.{OthersStay}
 use Rattle.server_state.proofs.StepLaws.{good_settled}
-use Rattle.server_orders.proofs.CreateLaws.{created_too, entries_inserted, good_before, made_at, others_inserted}
+use Rattle.server_orders.proofs.CreateLaws.{created_too, entries_inserted, good_before, made_at, none_before, others_inserted}
 use Rattle.server_orders.proofs.creating.create.Goals as goal
 
 pub list-requires : goal.list-requires
@@ -14,7 +14,8 @@ list-requires g c =
     (good_before c.args.state.now c.args.file.number c.args.file.map c.requires.good c.requires.usable)
     (subst (λ (t : Table). AreEntries t) (sym c.in_ok-put.ensures) (entries_inserted old c.args.file.number c.make.new.file c.requires.good.files
     (record { number = c.in_ok-make.ensures.keeps.number ∙ ap (λ (f : File). f.kept.number) same; sound = c.in_ok-make.ensures.sound })))
-    (subst (λ (t : Table). OthersStay c.args.file.number old t) (sym c.in_ok-put.ensures) (others_inserted old c.args.file.number c.make.new.file)) c.in_ok-step.ensures
+    (subst (λ (t : Table). OthersStay c.args.file.number old t) (sym c.in_ok-put.ensures) (others_inserted old c.args.file.number c.make.new.file
+    (none_before c.args.state.now c.args.file.number c.args.file.map c.requires.good c.requires.usable))) c.in_ok-step.ensures
 
 pub returns-clause-made : goal.returns-clause-made
 returns-clause-made g c =

@@ -5,13 +5,13 @@ use Rattle.server_state.specs.States.{server_of, Did}
 use Rattle.server_orders.proofs.DeclareLaws.{declared_at, still_drives}
 use Rattle.server_orders.proofs.declaring.declare_all.Goals as goal
 
-pub loads_of-requires : goal.loads_of-requires
-loads_of-requires g c = rw (c.as_slice-2.ensures, c.in_ok-state.ensures, c.as_slice.ensures) (still_drives c.args.state.now.drives c.args.drive c.requires.good.drives)
+pub loads_of-requires-clause-drives : goal.loads_of-requires-clause-drives
+loads_of-requires-clause-drives g c = rw (c.in_ok-state.ensures, c.as_slice.ensures) (still_drives c.args.state.now.drives c.args.drive c.requires.good.drives)
 
 pub list_all-requires : goal.list_all-requires
 list_all-requires g c =
     let off = rw c.as_slice.ensures at c.in_ok-state.ensures in
-    let loaded = rw c.as_slice-2.ensures at c.in_ok-loads.ensures.drives in
+    let loaded = c.in_ok-loads.ensures.drives in
     let did = rw (c.begins-moved.ensures, c.as_slice-loads.ensures) at c.in_ok-declare_each.ensures in
     (declared_at c.args.state.now c.in_ok-state.field-0 c.declare_each.new.files c.settle.new.state c.declare_each.new.moved _ c.args.drive c.in_ok-step.step
     c.requires.good off loaded did c.in_ok-step.ensures).1
@@ -19,7 +19,7 @@ list_all-requires g c =
 pub returns-clause-did : goal.returns-clause-did
 returns-clause-did g c =
     let off = rw c.as_slice.ensures at c.in_ok-state.ensures in
-    let loaded = rw c.as_slice-2.ensures at c.in_ok-loads.ensures.drives in
+    let loaded = c.in_ok-loads.ensures.drives in
     let did = rw (c.begins-moved.ensures, c.as_slice-loads.ensures) at c.in_ok-declare_each.ensures in
     let d = (declared_at c.args.state.now c.in_ok-state.field-0 c.declare_each.new.files c.settle.new.state c.declare_each.new.moved _ c.args.drive c.in_ok-step.step
     c.requires.good off loaded did c.in_ok-step.ensures).0 in

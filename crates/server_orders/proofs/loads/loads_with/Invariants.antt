@@ -3,6 +3,7 @@ use Rattle.std.specs.Prelude.{ℕ, Bool, List, All, map}
 use Rattle.server_rules.specs.declared.server.Drive.{Drive}
 use Rattle.stripe_repair.specs.declared.loads.DriveLoad.{DriveLoad}
 use Rattle.stripe_repair.specs.Placing.{FitsLoad}
+use Rattle.drive_counts.specs.Counts.{Counts, told}
 use Rattle.server_orders.proofs.loads.loads_with.Given as goal
 
 abbrev pub in_load : DriveLoad → ℕ × Bool
@@ -11,9 +12,10 @@ in_load l = (l.drive, l.online)
 abbrev pub in_drive : Drive → ℕ × Bool
 in_drive d = (d.number, d.online)
 
-pub record Loaded (loads : List DriveLoad) (rest all : List Drive) : Type 0 where
+pub record Loaded (counts : Counts) (loads : List DriveLoad) (rest all : List Drive) : Type 0 where
   pub value : map in_load loads ++ map in_drive rest ≡ map in_drive all
   pub fits : All FitsLoad loads
+  pub tells : All (λ l. l.objects ≡ told counts l.drive) loads
 
 abbrev pub invariant-loop-drive : goal.invariant-loop-drive
-invariant-loop-drive l = Loaded l.loads (drop l.drive-index l.fn.drives) l.fn.drives
+invariant-loop-drive l = Loaded l.fn.counts l.loads (drop l.drive-index l.fn.drives) l.fn.drives

@@ -29,4 +29,4 @@ pub returns-in-None-clause-good : goal.returns-in-None-clause-good
 returns-in-None-clause-good c =
     let v = rw c.in-None.is at c.in_ok-served.ensures in
     on_each c.refuse.result (good_still c.args.request.now.file c.args.state.now c.serve_in.new.files c.refuse.new.state c.requires.good v.1)
-    c.refuse.ensures.files c.refuse.ensures.grants c.refuse.ensures.drives c.refuse.ensures.replies
+    c.refuse.ensures.files c.refuse.ensures.grants c.refuse.ensures.drives c.refuse.ensures.replies c.refuse.ensures.counts

@@ -1,0 +1,6 @@
+//! How many present components of files stand on each drive.
+#![tactic(auto)]
+
+mod counts;
+
+pub use counts::DriveCounts;
