@@ -67,11 +67,10 @@ fn is_of(marked: &Marked, write: usize, file: u32) -> bool
 fn last_is(stripes: &[u64], stripe: u64) -> bool
     ensures { result ≡ last_is stripe stripes.now }
 {
-    let mut last = false;
-    for one in stripes {
-        last = *one == stripe;
+    match stripes.last() {
+        Some(last) => *last == stripe,
+        None => false,
     }
-    last
 }
 
 // A stripe more, unless it was marked last.

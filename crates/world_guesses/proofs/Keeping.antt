@@ -28,7 +28,7 @@ use Rattle.world_guesses.proofs.Sighting.{sighted_begins, none_sent, of_changed,
 pub keeps_first : KeepsFirst
 keeps_first = record {
   keys = λ d. refl;
-  sightings = record { below = λ nonce ns e. absurd (cc e); found = λ k d bytes e. absurd (cc e) };
+  sightings = record { below = λ nonce ns e. absurd (cc e); first = λ d bytes. refl };
   unguessed = refl;
 }
 

@@ -1,8 +1,8 @@
 -- Sightings of messages, as further messages are sent.
-use Rattle.std.proofs.Common.{◌≡◌, ℕ, ◌+◌, ◌++◌, ◌∷◌, ◌&&◌, [], List, Bool, true, false, not, Option, Some, None, is_some, is_none, length, slice_get, refl, sym, ap, subst, ◌∙◌, arith, inl, inr}
+use Rattle.std.proofs.Common.{◌≡◌, ℕ, ◌+◌, ◌++◌, ◌∷◌, ◌&&◌, [], List, Bool, true, false, not, Option, Some, None, is_some, is_none, length, position, slice_get, refl, sym, ap, subst, ◌∙◌, arith, inl, inr}
 use Rattle.std.specs.Prelude.{nat_eq}
 use Rattle.std.specs.Cmp.Lexicographic.{same_text}
-use Rattle.std.proofs.lemmas.Bool.{cases_Bool, cases_eq}
+use Rattle.std.proofs.lemmas.Bool.{cases_eq}
 use Rattle.std.proofs.lemmas.Bool.Decides.{nat_tests}
 use Rattle.std.proofs.lemmas.List.{length-append}
 use Rattle.osd_objects.proofs.Entries.{lookup_inserted, lookup_beside, lookup_set, lookup_set_beside}
@@ -11,7 +11,7 @@ use Rattle.world_history.specs.declared.messages.Sent.{Sent}
 use Rattle.world_history.specs.Guesses.{was_sent}
 use Rattle.world_guesses.specs.Sighted.{Table, nonce_in, of_nonce, is_same, is_same_at, first_same, first_in, sighted, with_number, with_sighting, sees_message}
 use Rattle.world_guesses.specs.Tied.{AreBelow, AreOf, BeginWith}
-use Rattle.world_guesses.proofs.Finding.{below_more, below_push, get_front, get_end, found_before, sent_at, place_of_sent, first_begins, first_is, first_pushed, first_stays}
+use Rattle.world_guesses.proofs.Finding.{below_more, below_push, get_front, get_end, first_begins, first_pushed, or_end, place_pushed, place_sent, place_alike}
 
 -- ---- in other messages that begin alike
 
@@ -27,24 +27,9 @@ sighted_begins ms sent t d bytes w a =
 
 -- ---- what is sighted was sent
 
-is_sighted : (sent : List Sent) (d : ℕ) (bytes : List ℕ) (o : Option (List ℕ)) (k : ℕ)
-    → first_in sent d bytes o ≡ Some k → is_same_at d bytes (slice_get sent k) ≡ true
-is_sighted sent d bytes None k e = absurd (cc e)
-is_sighted sent d bytes (Some ns) k e = first_is sent d bytes ns k e
-
-none_by : (sent : List Sent) (t : Table) (d : ℕ) (bytes : List ℕ) → AreOf sent t → (o : Option ℕ)
-    → sighted t sent d bytes ≡ o → is_none o ≡ not (was_sent sent d bytes)
-none_by sent t d bytes a None e = elim (cases_Bool (was_sent sent d bytes)) [
-  | inl s ↦ let p : (k : ℕ) × (is_same_at d bytes (slice_get sent k) ≡ true) = place_of_sent sent d bytes s in
-      absurd (cc (ap (λ o. is_some o) (sym e) ∙ a.found p.0 d bytes p.1))
-  | inr f ↦ rw f refl
-]
-none_by sent t d bytes a (Some k) e =
-    rw (sent_at sent k d bytes (is_sighted sent d bytes (of_nonce t (nonce_in bytes)) k e)) refl
-
 pub none_sent : (sent : List Sent) (t : Table) (d : ℕ) (bytes : List ℕ) → AreOf sent t
     → is_none (sighted t sent d bytes) ≡ not (was_sent sent d bytes)
-none_sent sent t d bytes a = none_by sent t d bytes a (sighted t sent d bytes) refl
+none_sent sent t d bytes a = ap (λ (o : Option ℕ). is_none o) (a.first d bytes) ∙ place_sent sent d bytes
 
 -- ---- messages that change, but for their receiver and bytes
 
@@ -53,9 +38,9 @@ pub of_changed : (sent sent' : List Sent) (t : Table) → length sent' ≡ lengt
     → AreOf sent t → AreOf sent' t
 of_changed sent sent' t n same a = record {
   below = λ nonce ns e. subst (λ k. AreBelow k ns) (sym n) (a.below nonce ns e);
-  found = λ k d bytes e.
-      ap (λ o. is_some o) (sighted_begins sent' sent t d bytes (λ j l x bs. same j x bs) a)
-      ∙ a.found k d bytes (sym (same k d bytes) ∙ e);
+  first = λ d bytes.
+      sighted_begins sent' sent t d bytes (λ j l x bs. same j x bs) a ∙ a.first d bytes
+      ∙ sym (place_alike sent sent' d bytes n (λ k. same k d bytes));
 }
 
 -- ---- a message more
@@ -71,18 +56,23 @@ more_below : (sent : List Sent) (m : Sent) (ns : List ℕ) → AreBelow (length 
 more_below sent m ns b =
     below_more (length sent) (length (sent ++ m ∷ [])) (omega (arith, more_length sent m)) ns b
 
--- which is found, or needn't be
+-- the first stays where there is one
+or_end_stays : (o : Option ℕ) (b : Bool) (end : ℕ) → (b ≡ true → is_some o ≡ true) → o ≡ or_end o b end
+or_end_stays None true end h = absurd (cc (h refl))
+or_end_stays None false end h = refl
+or_end_stays (Some k) b end h = refl
+
+-- which isn't the first of its like, or is for no drive
 pub of_more : (sent : List Sent) (m : Sent) (t : Table) → AreOf sent t
     → ((d : ℕ) (bytes : List ℕ) → is_same d bytes m ≡ true → is_some (sighted t sent d bytes) ≡ true)
     → AreOf (sent ++ m ∷ []) t
 of_more sent m t a h = record {
   below = λ nonce ns e. more_below sent m ns (a.below nonce ns e);
-  found = λ k d bytes e.
-      ap (λ o. is_some o) (sighted_begins (sent ++ m ∷ []) sent t d bytes (front sent m) a)
-      ∙ elim (found_before sent m k d bytes e) [
-        | inl old ↦ a.found k d bytes old
-        | inr new ↦ h d bytes new
-      ];
+  first = λ d bytes.
+      sighted_begins (sent ++ m ∷ []) sent t d bytes (front sent m) a
+      ∙ or_end_stays (sighted t sent d bytes) (is_same d bytes m) (length sent) (h d bytes)
+      ∙ ap (λ (o : Option ℕ). or_end o (is_same d bytes m) (length sent)) (a.first d bytes)
+      ∙ sym (place_pushed (is_same d bytes) sent m);
 }
 
 -- ---- or is sighted now
@@ -112,10 +102,11 @@ numbers_below : (n : ℕ) (o : Option (List ℕ)) → ((ns : List ℕ) → o ≡
 numbers_below n None h = tt
 numbers_below n (Some ns) h = h ns refl
 
-numbers_found : (sent : List Sent) (d : ℕ) (bytes : List ℕ) (o : Option (List ℕ))
-    → is_some (first_in sent d bytes o) ≡ true → is_some (first_same sent d bytes (numbers_in o)) ≡ true
-numbers_found sent d bytes None e = absurd (cc e)
-numbers_found sent d bytes (Some ns) e = e
+numbers_first : (ms : List Sent) (d : ℕ) (bytes : List ℕ) (o : Option (List ℕ))
+    → first_same ms d bytes (numbers_in o) ≡ first_in ms d bytes o
+unfolding first_same
+numbers_first ms d bytes None = refl
+numbers_first ms d bytes (Some ns) = refl
 
 grown_below : (sent : List Sent) (m : Sent) (t t' : Table) (nonce : ℕ) → AreOf sent t
     → Grown t (length sent) nonce t' → (q : ℕ) (ns : List ℕ) → of_nonce t' q ≡ Some ns
@@ -132,26 +123,6 @@ grown_below sent m t t' nonce a g q ns e = elim (cases_eq q nonce) [
   | inr ne ↦ more_below sent m ns (a.below q ns (sym (g.beside q ne) ∙ e))
 ]
 
-grown_old : (sent : List Sent) (m : Sent) (t t' : Table) (nonce : ℕ) → AreOf sent t
-    → Grown t (length sent) nonce t' → (d : ℕ) (bytes : List ℕ) → is_some (sighted t sent d bytes) ≡ true
-    → is_some (sighted t' (sent ++ m ∷ []) d bytes) ≡ true
-grown_old sent m t t' nonce a g d bytes e = elim (cases_eq (nonce_in bytes) nonce) [
-  | inl same ↦
-      let o : Option (List ℕ) = of_nonce t nonce in
-      let at : is_some (first_in sent d bytes (of_nonce t nonce)) ≡ true =
-      ap (λ x. is_some (first_in sent d bytes (of_nonce t x))) (sym same) ∙ e in
-      let old : is_some (first_same (sent ++ m ∷ []) d bytes (numbers_in (of_nonce t nonce))) ≡ true =
-      ap (λ x. is_some x) (first_begins (sent ++ m ∷ []) sent d bytes (numbers_in (of_nonce t nonce)) (front sent m)
-      (numbers_below (length sent) (of_nonce t nonce) (λ ks h. a.below nonce ks h)))
-      ∙ numbers_found sent d bytes (of_nonce t nonce) at in
-      ap (λ x. is_some (first_in (sent ++ m ∷ []) d bytes (of_nonce t' x))) same
-      ∙ ap (λ x. is_some (first_in (sent ++ m ∷ []) d bytes x)) g.here
-      ∙ first_stays (sent ++ m ∷ []) d bytes (numbers_in (of_nonce t nonce)) (length sent) old
-  | inr ne ↦
-      ap (λ x. is_some (first_in (sent ++ m ∷ []) d bytes x)) (g.beside (nonce_in bytes) ne)
-      ∙ ap (λ x. is_some x) (sighted_begins (sent ++ m ∷ []) sent t d bytes (front sent m) a) ∙ e
-]
-
 both : (a b : Bool) → (a && b) ≡ true → (a ≡ true) × (b ≡ true)
 both true true e = (refl, refl)
 both true false e = absurd (cc e)
@@ -161,22 +132,44 @@ both false b e = absurd (cc e)
 same_bytes : (d : ℕ) (bytes : List ℕ) (m : Sent) → is_same d bytes m ≡ true → m.bytes ≡ bytes
 same_bytes d bytes m e = same_text m.bytes bytes (sym (both _ _ e).1)
 
-grown_new : (sent : List Sent) (m : Sent) (t t' : Table) (d : ℕ) (bytes : List ℕ)
-    → Grown t (length sent) (nonce_in m.bytes) t' → is_same d bytes m ≡ true
-    → is_some (sighted t' (sent ++ m ∷ []) d bytes) ≡ true
-grown_new sent m t t' d bytes g e =
-    ap (λ x. is_some (first_in (sent ++ m ∷ []) d bytes (of_nonce t' (nonce_in x)))) (sym (same_bytes d bytes m e))
-    ∙ ap (λ x. is_some (first_in (sent ++ m ∷ []) d bytes x)) g.here
-    ∙ first_pushed (sent ++ m ∷ []) d bytes (numbers_in (of_nonce t (nonce_in m.bytes))) (length sent)
-    (ap (λ o. is_same_at d bytes o) (get_end sent m) ∙ e)
+-- of bytes with its nonce
+grown_here : (sent : List Sent) (m : Sent) (t t' : Table) (d : ℕ) (bytes : List ℕ) → AreOf sent t
+    → Grown t (length sent) (nonce_in bytes) t'
+    → sighted t' (sent ++ m ∷ []) d bytes
+    ≡ or_end (position (is_same d bytes) sent) (is_same d bytes m) (length sent)
+grown_here sent m t t' d bytes a g =
+    let ns : List ℕ = numbers_in (of_nonce t (nonce_in bytes)) in
+    let below : AreBelow (length sent) ns =
+    numbers_below (length sent) (of_nonce t (nonce_in bytes)) (λ ks e. a.below (nonce_in bytes) ks e) in
+    let old : first_same (sent ++ m ∷ []) d bytes ns ≡ position (is_same d bytes) sent =
+    first_begins (sent ++ m ∷ []) sent d bytes ns (front sent m) below
+    ∙ numbers_first sent d bytes (of_nonce t (nonce_in bytes)) ∙ a.first d bytes in
+    ap (λ (o : Option (List ℕ)). first_in (sent ++ m ∷ []) d bytes o) g.here
+    ∙ first_pushed (sent ++ m ∷ []) d bytes ns (length sent)
+    ∙ ap (λ (o : Option ℕ). or_end o (is_same_at d bytes (slice_get (sent ++ m ∷ []) (length sent))) (length sent)) old
+    ∙ ap (λ (o : Option Sent). or_end (position (is_same d bytes) sent) (is_same_at d bytes o) (length sent))
+    (get_end sent m)
+
+-- of bytes with another one
+grown_beside : (sent : List Sent) (m : Sent) (t t' : Table) (d : ℕ) (bytes : List ℕ) → AreOf sent t
+    → Grown t (length sent) (nonce_in m.bytes) t' → (nonce_in bytes ≡ nonce_in m.bytes → ⊥)
+    → sighted t' (sent ++ m ∷ []) d bytes
+    ≡ or_end (position (is_same d bytes) sent) (is_same d bytes m) (length sent)
+grown_beside sent m t t' d bytes a g ne =
+    ap (λ (o : Option (List ℕ)). first_in (sent ++ m ∷ []) d bytes o) (g.beside (nonce_in bytes) ne)
+    ∙ sighted_begins (sent ++ m ∷ []) sent t d bytes (front sent m) a ∙ a.first d bytes
+    ∙ or_end_stays (position (is_same d bytes) sent) (is_same d bytes m) (length sent)
+    (λ e. absurd (ne (ap (λ (b : List ℕ). nonce_in b) (sym (same_bytes d bytes m e)))))
 
 of_grown : (sent : List Sent) (m : Sent) (t t' : Table) → AreOf sent t
     → Grown t (length sent) (nonce_in m.bytes) t' → AreOf (sent ++ m ∷ []) t'
 of_grown sent m t t' a g = record {
   below = λ q ns e. grown_below sent m t t' (nonce_in m.bytes) a g q ns e;
-  found = λ k d bytes e. elim (found_before sent m k d bytes e) [
-    | inl old ↦ grown_old sent m t t' (nonce_in m.bytes) a g d bytes (a.found k d bytes old)
-    | inr new ↦ grown_new sent m t t' d bytes g new
+  first = λ d bytes. elim (cases_eq (nonce_in bytes) (nonce_in m.bytes)) [
+    | inl same ↦
+        grown_here sent m t t' d bytes a (subst (λ n. Grown t (length sent) n t') (sym same) g)
+        ∙ sym (place_pushed (is_same d bytes) sent m)
+    | inr ne ↦ grown_beside sent m t t' d bytes a g ne ∙ sym (place_pushed (is_same d bytes) sent m)
   ];
 }
 

@@ -1,5 +1,5 @@
 -- What is kept stands for what `world_history` reads off the lines.
-use Rattle.std.specs.Prelude.{◌≡◌, ℕ, ◌<◌, true, List, [], ◌∷◌, length, slice_get, Option, Some, None, is_some}
+use Rattle.std.specs.Prelude.{◌≡◌, ℕ, ◌<◌, true, List, [], ◌∷◌, length, position, slice_get, Option, Some, None}
 use Rattle.osd_drive.specs.declared.keys.DriveKey.{DriveKey}
 use Rattle.scenario_text.specs.declared.line.Line.{Line}
 use Rattle.scenario_text.specs.declared.line.Line.TheVariants as line
@@ -7,7 +7,7 @@ use Rattle.world_history.specs.declared.messages.Sent.{Sent}
 use Rattle.world_history.specs.State.{at_number}
 use Rattle.world_history.specs.Drives.{first_key}
 use Rattle.world_history.specs.Guesses.{Guarded, guards}
-use Rattle.world_guesses.specs.Sighted.{Table, of_nonce, sighted, is_same_at}
+use Rattle.world_guesses.specs.Sighted.{Table, of_nonce, sighted, is_same, is_same_at}
 use Rattle.world_guesses.specs.Guessing.{GuessState, no_guess, sees}
 
 -- all of these numbers are below another
@@ -15,11 +15,10 @@ abbrev pub AreBelow : ℕ → List ℕ → Type 0
 AreBelow n [] = Unit {0}
 AreBelow n (k ∷ ks) = (k < n) × AreBelow n ks
 
--- the sightings are of these messages, and each message to a drive among them is found
+-- the sightings are of these messages, and of those to a drive with some bytes they find the first
 pub record AreOf (sent : List Sent) (t : Table) : Type 0 where
   pub below : (nonce : ℕ) (ns : List ℕ) → of_nonce t nonce ≡ Some ns → AreBelow (length sent) ns
-  pub found : (k d : ℕ) (bytes : List ℕ) → is_same_at d bytes (slice_get sent k) ≡ true
-      → is_some (sighted t sent d bytes) ≡ true
+  pub first : (d : ℕ) (bytes : List ℕ) → sighted t sent d bytes ≡ position (is_same d bytes) sent
 
 -- these messages begin with those, whatever became of them
 abbrev pub BeginWith : List Sent → List Sent → Type 0
