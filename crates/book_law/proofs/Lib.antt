@@ -1,0 +1,16 @@
+pub mod Checks
+pub mod Creating
+pub mod Placing
+pub mod Rebuilding
+pub mod Going
+pub mod Served
+pub mod Stepping
+pub mod Steps
+pub mod Made
+pub mod Inputs
+pub mod Doing
+pub mod Leading
+pub mod Lines
+pub mod Staying
+pub mod Following
+pub mod Moments

@@ -1,0 +1,4 @@
+pub mod Moments
+pub mod Doing
+pub mod Placed
+pub mod Read

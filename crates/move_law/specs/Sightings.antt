@@ -1,0 +1,25 @@
+-- What is kept of the messages to drives finds the messages of the world.
+use Rattle.std.specs.Prelude.{◌≡◌, List, map}
+use Rattle.scenario_text.specs.declared.line.Line.{Line}
+use Rattle.world_history.specs.declared.messages.Sent.{Sent}
+use Rattle.world_history.specs.State.{World}
+use Rattle.world_history.specs.History.{StandsFor}
+use Rattle.world_history.specs.Laws.{shown}
+use Rattle.world_history.specs.Reading.{sent_in}
+use Rattle.world_history.specs.Guesses.{guarded}
+use Rattle.world_guesses.specs.Guessing.{GuessState}
+use Rattle.world_guesses.specs.Tied.{AreOf, Keeps}
+
+-- the messages of a world, as lines show them
+abbrev pub messages_of : World → List Sent
+messages_of w = map shown w.network.messages
+
+-- the messages by which guesses are told are those that are read off the lines
+abbrev pub GuardsMessages : Type 0
+GuardsMessages = (h : List Line) → (guarded h).sent ≡ sent_in h
+
+-- what is kept of a history finds the messages of each world that stands for it
+abbrev pub SightsTheWorld : Type 0
+SightsTheWorld =
+    (w : World) (h : List Line) (g : GuessState) → StandsFor w h → Keeps (guarded h) g
+    → AreOf (messages_of w) g.sightings
