@@ -1,12 +1,24 @@
 -- What the parties of the code do in an action is what the world does.
-use Rattle.std.proofs.Common.{◌≡◌, ℕ, List, [], Option, Some, None, Result, Ok, Err, IfOk, refl, sym, ap, subst, ◌∙◌}
+use Rattle.std.proofs.Common.{◌≡◌, ℕ, Bool, true, false, true≢false, List, [], Option, Some, None, Result, Ok, Err, IfOk, refl, sym, ap, subst, ◌∙◌, if◌then◌else◌}
+use Rattle.data_map.specs.declared.check.RawMap.{RawMap}
+use Rattle.server_rules.specs.declared.server.Server.{Server}
+use Rattle.server_rules.specs.declared.server.Refusal.{Refusal}
+use Rattle.server_rules.specs.Files.{Step}
+use Rattle.server_rules.specs.Making.{create_file}
+use Rattle.server_rules.specs.History.{Input, Makes, Adds, step, unless_made}
+use Rattle.scenario_text.specs.declared.event.FileMap.{FileMap}
+use Rattle.scenario_text.specs.declared.event.Event.{Event}
+use Rattle.scenario_text.specs.declared.event.Event.TheVariants as event
 use Rattle.scenario_text.specs.declared.line.Verdict.{Verdict}
 use Rattle.scenario_text.specs.declared.line.Line.TheVariants as line
 use Rattle.osd_bytes.specs.declared.memory.Memory.{Memory}
 use Rattle.osd_commands.specs.Commands as commands
+use Rattle.world_history.specs.ServerNames.{Mended}
 use Rattle.world_history.specs.State.{DriveAt, ClientAt, World, at_number, with_server, and_drive, and_number}
+use Rattle.world_history.specs.Book.{step_by}
+use Rattle.world_history.specs.Calm.{mended_in}
 use Rattle.world_history.specs.Drives.{made_drive}
-use Rattle.world_history.specs.Moves.{Act as WorldAct, changed as only_changed, at_drive, injects, adds_drive, stops, pends}
+use Rattle.world_history.specs.Moves.{Act as WorldAct, Opens, changed as only_changed, at_drive, injects, adds_drive, stops, pends, makes, gives, begins, raw_of, has_algorithm, knows_drive, known_drive}
 use Rattle.world_words.specs.declared.acts.Act.{Act}
 use Rattle.world_words.specs.Acts.{IsAct, IsDone, nothing, line_alone}
 use Rattle.world_drives.specs.Drives.{Injects, injected, changed}
@@ -16,16 +28,17 @@ use Rattle.world_clients.specs.Laws.{with_clients, IsDid, ClientsPend, ClientsSt
 use Rattle.world_server.specs.State.{WorldServerState}
 use Rattle.world_server.specs.Acting as server
 use Rattle.layout_world.specs.declared.parties.Parties.{Parties}
-use Rattle.layout_world.specs.State.{Shows}
-use Rattle.layout_world.specs.Acting.{Doing, Acts}
+use Rattle.layout_world.specs.State.{ShowsWith, Shows}
+use Rattle.layout_world.specs.Groups.{is_plain}
+use Rattle.layout_world.specs.Acting.{Doing, Acts, ActsWith, ends_in}
 use Rattle.layout_world.proofs.Shown.{shows_drives, shows_clients, shows_server}
 
 -- what is done, with the world that the parties show then
-pub doing : (does : List ℕ → WorldAct) (chosen : List ℕ) (then : World) (new : Parties) (act : Act)
-    → IsDone (does chosen) then act → Shows new then → Doing does new act
-doing does chosen then new act d s = record {
+pub doing : (does : List ℕ → WorldAct) (ends : List ℕ → List Mended) (chosen : List ℕ) (after : World) (new : Parties)
+    (act : Act) → IsDone (does chosen) after act → ShowsWith (ends chosen) new after → Doing does ends new act
+doing does ends chosen after new act d s = record {
   chosen = chosen;
-  shows = subst (λ (x : World). Shows new x) (sym d.world) s;
+  shows = subst (λ (x : World). ShowsWith (ends chosen) new x) (sym d.world) s;
   is = d.act;
 }
 
@@ -49,7 +62,7 @@ pub drive_changes : DrivesChange → (old : Parties) (t : List (ℕ × DriveAt))
 drive_changes law old t d becomes e =
     changes old (record old { drives = t }) (λ w. at_drive w d becomes) (λ w s. subst (λ
     (x : World). Shows (record old { drives = t }) x) (sym (law w d becomes))
-    (shows_drives old t (changed w.drives d becomes) w (e ∙ ap (λ (x : List (ℕ × DriveAt)). changed x d becomes) s.drives)
+    (shows_drives [] old t (changed w.drives d becomes) w (e ∙ ap (λ (x : List (ℕ × DriveAt)). changed x d becomes) s.drives)
     s))
 
 pub client_stops : ClientsStop → (old : Parties) (t : Table) (c : ℕ) → t ≡ stopped old.clients c
@@ -57,14 +70,14 @@ pub client_stops : ClientsStop → (old : Parties) (t : Table) (c : ℕ) → t �
 client_stops law old t c e =
     changes old (record old { clients = t }) (λ w. stops w c (at_number w.clients c)) (λ w s. subst (λ
     (x : World). Shows (record old { clients = t }) x) (sym (law w c))
-    (shows_clients old t (stopped w.clients c) w (e ∙ ap (λ (x : Table). stopped x c) s.clients) s))
+    (shows_clients [] old t (stopped w.clients c) w (e ∙ ap (λ (x : Table). stopped x c) s.clients) s))
 
 pub client_added : (old : Parties) (t : Table) (c : ℕ) (a : ClientAt) → t ≡ and_number old.clients c a
     → Acts (λ w chosen. only_changed (record w { clients = and_number w.clients c a })) old (record old { clients = t })
     nothing
 client_added old t c a e =
     changes old (record old { clients = t }) (λ w. record w { clients = and_number w.clients c a })
-    (λ w s. shows_clients old t (and_number w.clients c a) w (e ∙ ap (λ (x : Table). and_number x c a) s.clients) s)
+    (λ w s. shows_clients [] old t (and_number w.clients c a) w (e ∙ ap (λ (x : Table). and_number x c a) s.clients) s)
 
 -- ---- a client
 
@@ -73,15 +86,15 @@ pub client_does : (old : Parties) (t : Table) (act : Act) (does : World → Worl
     → Acts (λ w chosen. does w) old (record old { clients = t }) act
 client_does old t act does d law h = λ w s.
     let same : act ≡ (d w.clients).act = h.act_is ∙ ap (λ (x : Table). (d x).act) s.clients in
-    doing (λ chosen. does w) [] (with_clients w (d w.clients).clients) (record old { clients = t }) act
+    doing (λ chosen. does w) (λ chosen. []) [] (with_clients w (d w.clients).clients) (record old { clients = t }) act
     (subst (λ (x : Act). IsDone (does w) (with_clients w (d w.clients).clients) x) (sym same) (law w))
-    (shows_clients old t (d w.clients).clients w (h.clients ∙ ap (λ (x : Table). (d x).clients) s.clients) s)
+    (shows_clients [] old t (d w.clients).clients w (h.clients ∙ ap (λ (x : Table). (d x).clients) s.clients) s)
 
 pub client_pends : ClientsPend → (p : Parties) (c : ℕ) (act : Act) → act ≡ pends_in c (at_number p.clients c)
     → Acts (λ w chosen. pends w c) p p act
 client_pends law p c act e = λ w s.
     let same : act ≡ pends_in c (at_number w.clients c) = e ∙ ap (λ (x : Table). pends_in c (at_number x c)) s.clients in
-    doing (λ chosen. pends w c) [] w p act (subst (λ (x : Act). IsDone (pends w c) w x) (sym same) (law w c)) s
+    doing (λ chosen. pends w c) (λ chosen. []) [] w p act (subst (λ (x : Act). IsDone (pends w c) w x) (sym same) (law w c)) s
 
 -- ---- injected bytes
 
@@ -106,27 +119,108 @@ drive_injects law old t d bytes v act h e = λ w s.
     let done : IsDone (injects w d bytes) (with_drives w i.drives) (told_verdict d i.verdict) =
     subst (λ (x : WorldAct). IsDone x (with_drives w i.drives) (told_verdict d i.verdict)) (sym (law w d bytes))
     (injects_told w d i.drives i.verdict) in
-    doing (λ chosen. injects w d bytes) [] (with_drives w i.drives) (record old { drives = t }) act
+    doing (λ chosen. injects w d bytes) (λ chosen. []) [] (with_drives w i.drives) (record old { drives = t }) act
     (subst (λ (x : Act). IsDone (injects w d bytes) (with_drives w i.drives) x) (sym told) done)
-    (shows_drives old t i.drives w (h.drives ∙ ap (λ (x : List (ℕ × DriveAt)). (injected x d (commands.reading bytes)).drives)
+    (shows_drives [] old t i.drives w (h.drives ∙ ap (λ (x : List (ℕ × DriveAt)). (injected x d (commands.reading bytes)).drives)
     s.drives) s)
 
 -- ---- the server
 
-pub server_does : (old : Parties) (x : WorldServerState) (act : Act) (does : World → List ℕ → WorldAct) (chosen : List ℕ)
+-- a step that ends these repairs
+pub server_does : (old : Parties) (x : WorldServerState) (act : Act) (does : World → List ℕ → WorldAct)
+    (ends : World → List ℕ → List Mended) (chosen : List ℕ)
     → server.Does old.server.state (λ w. does w chosen) x.state act
-    → Acts does old (record old { server = x }) act
-server_does old x act does chosen h = λ w s.
-    doing (does w) chosen (with_server w x.state) (record old { server = x }) act (h w (sym s.server)) (shows_server old x w s)
+    → ((w : World) → Shows old w → x.mended ≡ ends w chosen) → ActsWith does ends old (record old { server = x }) act
+server_does old x act does ends chosen h mended = λ w s.
+    doing (does w) (ends w) chosen (with_server w x.state) (record old { server = x }) act (h w (sym s.server))
+    (subst (λ (rs : List Mended). ShowsWith rs (record old { server = x }) (with_server w x.state)) (mended w s)
+    (shows_server old x w s))
 
+-- one that ends none
+pub server_keeps : (old : Parties) (x : WorldServerState) (act : Act) (does : World → List ℕ → WorldAct) (chosen : List ℕ)
+    → server.Does old.server.state (λ w. does w chosen) x.state act → x.mended ≡ old.server.mended
+    → Acts does old (record old { server = x }) act
+server_keeps old x act does chosen h same =
+    server_does old x act does (λ w chosen. []) chosen h (λ w s. same ∙ s.mended)
+
+-- an event gives it something to do
+pub server_gives : (old : Parties) (x : WorldServerState) (act : Act) (i : Input) (e : Event)
+    → ((w : World) (chosen : List ℕ) → ends_in (Opens e) w chosen ≡ (step w.server chosen i).mended)
+    → server.Gives old.server.state i x act
+    → ActsWith (λ w chosen. gives w chosen i) (ends_in (Opens e)) old (record old { server = x }) act
+server_gives old x act i e same h =
+    server_does old x act (λ w chosen. gives w chosen i) (ends_in (Opens e)) h.chosen h.done
+    (λ w s. h.mended ∙ ap (λ (v : Server). (step v h.chosen i).mended) s.server ∙ sym (same w h.chosen))
+
+-- a file is made
+made_mended : (s : Server) (chosen : List ℕ) (n : ℕ) (m : RawMap) (tag : ℕ) (known : Bool) (r : Result Step Refusal)
+    → create_file s n m tag chosen ≡ r
+    → server.mended_then [] known r ≡ mended_in (step_by s chosen (if known then Some (Makes n m tag) else None))
+made_mended s chosen n m tag true (Ok x) e = ap (λ (r : Result Step Refusal). (unless_made s r).mended) (sym e)
+made_mended s chosen n m tag true (Err x) e = ap (λ (r : Result Step Refusal). (unless_made s r).mended) (sym e)
+made_mended s chosen n m tag false r e = refl
+
+pub server_makes : (old : Parties) (x : WorldServerState) (act : Act) (f : ℕ) (m : FileMap) (tag : ℕ)
+    → server.Makes old.server f (raw_of m) tag x act
+    → ActsWith (λ w chosen. makes w chosen f (raw_of m) tag) (ends_in (Opens (event.File f m tag))) old
+    (record old { server = x }) act
+server_makes old x act f m tag h =
+    server_does old x act (λ w chosen. makes w chosen f (raw_of m) tag) (ends_in (Opens (event.File f m tag))) h.chosen h.done
+    (λ w s. h.mended
+    ∙ ap (λ (rs : List Mended). server.mended_then rs (has_algorithm (raw_of m))
+    (create_file old.server.state f (raw_of m) tag h.chosen)) s.mended
+    ∙ ap (λ (v : Server). server.mended_then [] (has_algorithm (raw_of m)) (create_file v f (raw_of m) tag h.chosen)) s.server
+    ∙ made_mended w.server h.chosen f (raw_of m) tag (has_algorithm (raw_of m))
+    (create_file w.server f (raw_of m) tag h.chosen) refl)
+
+-- a drive is made
 pub server_adds : (old : Parties) (t : List (ℕ × DriveAt)) (x : WorldServerState) (act : Act) (d : ℕ) (key : List ℕ)
     (capacity : ℕ) → t ≡ and_number old.drives d (made_drive d key capacity)
-    → server.Adds old.server.state d key capacity x.state act
+    → server.Adds old.server.state d key capacity x.state act → x.mended ≡ old.server.mended
     → Acts (λ w chosen. adds_drive w d key capacity) old (record old { drives = t; server = x }) act
-server_adds old t x act d key capacity e h = λ w s.
+server_adds old t x act d key capacity e h same = λ w s.
     let made : List (ℕ × DriveAt) = and_number w.drives d (made_drive d key capacity) in
     let there : t ≡ made = e ∙ ap (λ (y : List (ℕ × DriveAt)). and_number y d (made_drive d key capacity)) s.drives in
-    doing (λ chosen. adds_drive w d key capacity) []
+    doing (λ chosen. adds_drive w d key capacity) (λ chosen. []) []
     (with_server (and_drive w d (made_drive d key capacity)) x.state) (record old { drives = t; server = x }) act
     (h w (sym s.server))
-    (shows_server (record old { drives = t }) x (and_drive w d (made_drive d key capacity)) (shows_drives old t made w there s))
+    (subst (λ (rs : List Mended). ShowsWith rs (record old { drives = t; server = x })
+    (with_server (and_drive w d (made_drive d key capacity)) x.state)) (same ∙ s.mended)
+    (shows_server (record old { drives = t }) x (and_drive w d (made_drive d key capacity))
+    (shows_drives [] old t made w there s)))
+
+-- ---- an event that needs no placer ends no repair
+
+plain_ends : (w : World) (chosen : List ℕ) (e : Event) → is_plain e ≡ true → ends_in (Opens e) w chosen ≡ []
+plain_ends w chosen (event.Deliver n) p = absurd (true≢false (sym p))
+plain_ends w chosen (event.File f m tag) p = absurd (true≢false (sym p))
+plain_ends w chosen (event.Recall f) p = absurd (true≢false (sym p))
+plain_ends w chosen (event.Revoke f) p = absurd (true≢false (sym p))
+plain_ends w chosen (event.Rebuild f) p = absurd (true≢false (sym p))
+plain_ends w chosen (event.Audit f) p = absurd (true≢false (sym p))
+plain_ends w chosen (event.Declare d) p = absurd (true≢false (sym p))
+plain_ends w chosen (event.Drive d key capacity) p = either (knows_drive w.server d)
+  where
+    either : (b : Bool)
+        → mended_in (step_by w.server chosen (if b then None else Some (Adds (known_drive d key capacity)))) ≡ []
+    either true = refl
+    either false = refl
+plain_ends w chosen e p = refl
+
+pub plain_acts : (e : Event) (old new : Parties) (act : Act) → is_plain e ≡ true
+    → Acts (λ w chosen. begins w chosen e) old new act
+    → ActsWith (λ w chosen. begins w chosen e) (ends_in (Opens e)) old new act
+plain_acts e old new act p h = λ w s.
+    let d = h w s in
+    record {
+      chosen = d.chosen;
+      shows = subst (λ (rs : List Mended). ShowsWith rs new (begins w d.chosen e).world) (sym (plain_ends w d.chosen e p))
+          d.shows;
+      is = d.is;
+    }
+
+pub plain_ok : (r : Result Act Memory) (e : Event) (old new : Parties) → is_plain e ≡ true
+    → IfOk r (λ act. is_plain e ≡ true → Acts (λ w chosen. begins w chosen e) old new act)
+    → IfOk r (λ act. ActsWith (λ w chosen. begins w chosen e) (ends_in (Opens e)) old new act)
+plain_ok (Ok act) e old new p h = plain_acts e old new act p (h p)
+plain_ok (Err x) e old new p h = tt

@@ -4,6 +4,9 @@ use Rattle.osd_bytes.specs.declared.node.Node.{Node}
 use Rattle.osd_bytes.specs.declared.node.Node.TheVariants as node
 use Rattle.osd_bytes.specs.declared.memory.Memory.{Memory}
 use Rattle.osd_commands.specs.Commands as commands
+use Rattle.server_rules.specs.declared.server.Server.{Server}
+use Rattle.server_rules.specs.Messages.{Message as ServerMessage}
+use Rattle.server_rules.specs.Envelopes.{message_in, on_message_in, on_bytes}
 use Rattle.scenario_text.specs.declared.line.Party.{Party}
 use Rattle.scenario_text.specs.declared.line.Party.TheVariants as party
 use Rattle.scenario_text.specs.declared.line.Line.{Line}
@@ -12,10 +15,13 @@ use Rattle.scenario_text.specs.declared.line.Delivery.{Delivery}
 use Rattle.world_history.specs.declared.messages.Message.{Message}
 use Rattle.world_history.specs.declared.messages.Posted.{Posted}
 use Rattle.world_history.specs.declared.messages.Sent.{Sent}
+use Rattle.world_history.specs.ServerNames.{Mended}
 use Rattle.world_history.specs.State.{DriveAt, World, with_server}
 use Rattle.world_history.specs.Spelled.{spelled, party_of, node_of}
 use Rattle.world_history.specs.Handed.{Handed as WorldHanded, handed, handed_to}
-use Rattle.world_history.specs.Moves.{Act as WorldAct, changed, delivers, delivers_found, marked, drops_found, with_message}
+use Rattle.world_history.specs.Book.{step_by}
+use Rattle.world_history.specs.Calm.{mended_in}
+use Rattle.world_history.specs.Moves.{Act as WorldAct, Delivers as DeliversAt, changed, delivers, delivers_found, marked, drops_found, with_message}
 use Rattle.world_history.specs.Reading.{arrived, left_out}
 use Rattle.world_history.specs.Laws.{shown}
 use Rattle.world_network.specs.Network.{NetworkState, is_pending, Delivers, Drops}
@@ -30,8 +36,9 @@ use Rattle.world_clients.specs.Laws.{with_clients, ClientsHear}
 use Rattle.world_server.specs.State.{WorldServerState}
 use Rattle.world_server.specs.Acting.{Hears as ServerHears}
 use Rattle.layout_world.specs.declared.parties.Parties.{Parties}
-use Rattle.layout_world.specs.State.{Settled, Shows}
-use Rattle.layout_world.specs.Acting.{Doing, Acts, IsOf, Handing, Hands, HandsAt, HandsTo}
+use Rattle.book_law.specs.Doing.{heard_of, brought}
+use Rattle.layout_world.specs.State.{Settled, ShowsWith, Shows}
+use Rattle.layout_world.specs.Acting.{Doing, Acts, ActsWith, ends_in, ends_at, IsOf, Handing, Hands, HandsAt, HandsTo}
 use Rattle.layout_world.proofs.Settling.{settled_set, set_get}
 use Rattle.layout_world.proofs.Shown.{shows_drives, shows_clients, shows_server}
 use Rattle.layout_world.proofs.Acted.{nothing_told}
@@ -53,13 +60,14 @@ sender s m i = ap (λ (p : Party). node_of p) i.from ∙ node_back m.from
 -- ---- a receiver
 
 handing : (w : World) (m : Message) (chosen : List ℕ) (to : Node) (then : World) (new : Parties) (h : Handed) → m.to ≡ to
-    → IsHanded (handed_to w chosen m to) then h → Shows new then → Handing w m new h
+    → IsHanded (handed_to w chosen m to) then h → ShowsWith (ends_at w chosen m to) new then → Handing w m new h
 handing w m chosen to then new h e i s =
     let is : IsHanded (handed w chosen m) then h =
     subst (λ (n : Node). IsHanded (handed_to w chosen m n) then h) (sym e) i in
     record {
       chosen = chosen;
-      shows = subst (λ (x : World). Shows new x) (sym is.world) s;
+      shows = subst (λ (n : Node). ShowsWith (ends_at w chosen m n) new (handed w chosen m).world) (sym e)
+          (subst (λ (x : World). ShowsWith (ends_at w chosen m to) new x) (sym is.world) s);
       receipt = is.receipt;
       act = is.act;
     }
@@ -77,7 +85,7 @@ drive_handed law old t s d h to hears = λ w m sh i.
     handing w m [] (node.Drive d) (with_drives w there.drives) (record old { drives = t }) h
     (receiver s m (party.Drive d) i to)
     (subst (λ (x : Handed). IsHanded (handed_to w [] m (node.Drive d)) (with_drives w there.drives) x) (sym is) (law w d m))
-    (shows_drives old t there.drives w (hears.drives ∙ ap (λ (x : DrivesHeard). x.drives) same) sh)
+    (shows_drives [] old t there.drives w (hears.drives ∙ ap (λ (x : DrivesHeard). x.drives) same) sh)
 
 pub client_handed : ClientsHear → (old : Parties) (t : Table) (s : Sent) (c : ℕ) (from : Node) (h : Handed)
     → s.to ≡ party.Client c → from ≡ node_of s.from → ClientHears (heard_in old.clients c from s.bytes) t h
@@ -92,15 +100,29 @@ client_handed law old t s c from h to by hears = λ w m sh i.
     handing w m [] (node.Client c) (with_clients w there.clients) (record old { clients = t }) h
     (receiver s m (party.Client c) i to)
     (subst (λ (x : Handed). IsHanded (handed_to w [] m (node.Client c)) (with_clients w there.clients) x) (sym is) (law w c m))
-    (shows_clients old t there.clients w (hears.clients ∙ ap (λ (x : ClientsHeard). x.clients) same) sh)
+    (shows_clients [] old t there.clients w (hears.clients ∙ ap (λ (x : ClientsHeard). x.clients) same) sh)
+
+-- the repairs that end where the server hears bytes
+heard_mended : (s : Server) (now : ℕ) (chosen : List ℕ) (from : Node) (o : Option ServerMessage)
+    → (on_message_in s now chosen from o).mended ≡ mended_in (step_by s chosen (heard_of now from o))
+heard_mended s now chosen from None = refl
+heard_mended s now chosen from (Some m) = refl
 
 pub server_handed : (old : Parties) (x : WorldServerState) (s : Sent) (from : Node) (h : Handed)
     → s.to ≡ party.Server → from ≡ node_of s.from → ServerHears old.server.state old.clock from s.bytes x h
     → Hands s old (record old { server = x }) h
 server_handed old x s from h to by hears = λ w m sh i.
+    let ended : x.mended ≡ ends_at w hears.chosen m node.Server =
+    hears.mended ∙ ap (λ (v : Server). (on_bytes v old.clock hears.chosen from s.bytes).mended) sh.server
+    ∙ ap (λ (n : ℕ). (on_bytes w.server n hears.chosen from s.bytes).mended) sh.clock
+    ∙ ap (λ (n : Node). (on_bytes w.server w.clock hears.chosen n s.bytes).mended) (by ∙ sender s m i)
+    ∙ ap (λ (b : List ℕ). (on_bytes w.server w.clock hears.chosen m.from b).mended) i.bytes
+    ∙ heard_mended w.server w.clock hears.chosen m.from (message_in m.from (spelled m.body)) in
     handing w m hears.chosen node.Server (with_server w x.state) (record old { server = x }) h
     (receiver s m party.Server i to)
-    (hears.heard w m (sym sh.server) (sym sh.clock) (sym (by ∙ sender s m i)) (sym i.bytes)) (shows_server old x w sh)
+    (hears.heard w m (sym sh.server) (sym sh.clock) (sym (by ∙ sender s m i)) (sym i.bytes))
+    (subst (λ (rs : List Mended). ShowsWith rs (record old { server = x }) (with_server w x.state)) ended
+    (shows_server old x w sh))
 
 -- whoever it is for
 pub hands_at : (number : ℕ) (to : Party) (r : Sent) (old new : Parties) (h : Handed)
@@ -146,11 +168,12 @@ marked_shows old n' number w q law s f d = record {
   network = (law old.network n' w number q s.network f).delivers d;
   settled = subst (λ (x : NetworkState). Settled 0 old.settled x.messages) (sym d.state)
       (settled_set 0 old.settled number old.network.messages (arrived d.message) refl s.settled);
+  mended = s.mended;
 }
 
 -- none in that place is nobody's
 pub delivers_none : (p : Parties) (number : ℕ) → length p.network.messages ≤ number
-    → Acts (λ w chosen. delivers w chosen number) p p nothing
+    → ActsWith (λ w chosen. delivers w chosen number) (ends_in (DeliversAt number)) p p nothing
 unfolding delivers
 delivers_none p number l = λ w s.
     let none : slice_get w.network.messages number ≡ None =
@@ -158,7 +181,8 @@ delivers_none p number l = λ w s.
     let is : delivers w [] number ≡ changed w = ap (λ (x : Option Posted). delivers_found w [] number x) none in
     record {
       chosen = [];
-      shows = subst (λ (a : WorldAct). Shows p a.world) (sym is) s;
+      shows = subst (λ (o : Option Posted). ShowsWith (mended_in (step_by w.server [] (brought w.clock o))) p
+          (delivers w [] number).world) (sym none) (subst (λ (a : WorldAct). Shows p a.world) (sym is) s);
       is = subst (λ (a : WorldAct). IsAct a.told a.posts nothing) (sym is) (nothing_told w);
     }
 
@@ -166,7 +190,7 @@ delivers_none p number l = λ w s.
 told_first : (w : World) (number : ℕ) (new : Parties) (q : Posted) (h : Handed) (act : Act)
     → Handing (marked w number q) q.message new h → slice_get w.network.messages number ≡ Some q
     → act ≡ record { told = line.Delivered number h.receipt ∷ h.act.told; posts = h.act.posts }
-    → Doing (λ chosen. delivers w chosen number) new act
+    → Doing (λ chosen. delivers w chosen number) (ends_in (DeliversAt number) w) new act
 unfolding delivers
 told_first w number new q h act a f e =
     let then : WorldHanded = handed (marked w number q) a.chosen q.message in
@@ -174,7 +198,9 @@ told_first w number new q h act a f e =
     ap (λ (x : Option Posted). delivers_found w a.chosen number x) (sym f) in
     record {
       chosen = a.chosen;
-      shows = subst (λ (x : WorldAct). Shows new x.world) is a.shows;
+      shows = subst (λ (o : Option Posted). ShowsWith (mended_in (step_by w.server a.chosen (brought w.clock o))) new
+          (delivers w a.chosen number).world) (sym f)
+          (subst (λ (x : WorldAct). ShowsWith (ends_at w a.chosen q.message q.message.to) new x.world) is a.shows);
       is = subst (λ (x : WorldAct). IsAct x.told x.posts act) is (record {
         lines = ap (λ (x : Act). x.told) e
             ∙ ap (λ (x : Delivery). line.Delivered number x ∷ h.act.told) a.receipt
@@ -187,7 +213,7 @@ pub delivered : AllMarksAreShown → (old new : Parties) (n' : NetworkState) (nu
     → Delivers old.network number n' → number < length old.network.messages
     → HandsAt number (record old { network = n' }) new h
     → act ≡ record { told = line.Delivered number h.receipt ∷ h.act.told; posts = h.act.posts }
-    → Acts (λ w chosen. delivers w chosen number) old new act
+    → ActsWith (λ w chosen. delivers w chosen number) (ends_in (DeliversAt number)) old new act
 delivered law old new n' number h act d inside hands e = λ w s.
     let there : slice_get (map shown w.network.messages) number ≡ Some d.message =
     subst (λ (x : List Sent). slice_get x number ≡ Some d.message) s.network.messages d.found in
@@ -233,6 +259,7 @@ drops law old n' number d = λ w s.
       settled = subst (λ (x : NetworkState). Settled 0 old.settled x.messages) (sym d.state)
           (settled_set 0 old.settled number old.network.messages (left_out d.message)
           (stays_out d.message) s.settled);
+      mended = s.mended;
     } in
     record {
       chosen = [];

@@ -16,9 +16,10 @@ use Rattle.world_history.specs.History.Begins.{Part}
 use Rattle.world_history.specs.declared.limits.TheConstants.{MAX_KEPT}
 use Rattle.world_network.specs.Network.{NetworkState, PendingIs, NonePending}
 use Rattle.world_network.specs.Shows.{PendingIsShown}
+use Rattle.world_watch.specs.State.{WatchState}
 use Rattle.layout_world.specs.declared.parties.Parties.{Parties}
 use Rattle.layout_world.specs.State.{WorldState, Settled, Shows}
-use Rattle.layout_world.specs.Going.{Moves, MovesIf, Ended, Filled, Broken, Comes, Finishes, Delivering, Quiets, behind}
+use Rattle.layout_world.specs.Going.{Moves, MovesIf, Ended, Filled, Broken, Comes, Finishes, FinishesSeen, Delivering, Quiets, behind}
 use Rattle.layout_world.specs.Acting.{Grows}
 use Rattle.layout_world.specs.Refusing.{IsRefusal}
 use Rattle.layout_world.specs.Steps.{Steps}
@@ -27,81 +28,81 @@ use Rattle.layout_world.proofs.Going.{comes}
 
 -- ---- by the result
 
-pub quiets_err : (w : World) (e : Event) (before : List Line) (first : ℕ) (client : Option ℕ) (plan : Plan) (p : Parties)
-    (after : List Line) (x : WorldErr) → Comes w e before plan p after (Err x) → Quiets w e before first client p after (Err x)
-quiets_err w e before first client plan p after KeptFull c = c
-quiets_err w e before first client plan p after Memory c = c
-quiets_err w e before first client plan p after NotYet c = absurd c
-quiets_err w e before first client plan p after NoName c = absurd c
-quiets_err w e before first client plan p after Taken c = absurd c
-quiets_err w e before first client plan p after Dead c = absurd c
-quiets_err w e before first client plan p after Alive c = absurd c
-quiets_err w e before first client plan p after (NoMessage k) c = absurd c
+pub quiets_err : (w : World) (e : Event) (before : List Line) (watch : WatchState) (first : ℕ) (client : Option ℕ) (plan : Plan) (p : Parties) (now : WatchState)
+    (after : List Line) (x : WorldErr) → Comes w e before watch plan p now after (Err x) → Quiets w e before watch first client p now after (Err x)
+quiets_err w e before watch first client plan p now after KeptFull c = c
+quiets_err w e before watch first client plan p now after Memory c = c
+quiets_err w e before watch first client plan p now after NotYet c = absurd c
+quiets_err w e before watch first client plan p now after NoName c = absurd c
+quiets_err w e before watch first client plan p now after Taken c = absurd c
+quiets_err w e before watch first client plan p now after Dead c = absurd c
+quiets_err w e before watch first client plan p now after Alive c = absurd c
+quiets_err w e before watch first client plan p now after (NoMessage k) c = absurd c
 
-pub finishes_err : (w : World) (e : Event) (before : List Line) (plan : Plan) (p : Parties) (after : List Line)
-    (x : WorldErr) → Comes w e before plan p after (Err x) → Finishes w e before p after (Err x)
-finishes_err w e before plan p after KeptFull c = c
-finishes_err w e before plan p after Memory c = c
-finishes_err w e before plan p after NotYet c = absurd c
-finishes_err w e before plan p after NoName c = absurd c
-finishes_err w e before plan p after Taken c = absurd c
-finishes_err w e before plan p after Dead c = absurd c
-finishes_err w e before plan p after Alive c = absurd c
-finishes_err w e before plan p after (NoMessage k) c = absurd c
+pub finishes_err : (w : World) (e : Event) (before : List Line) (watch : WatchState) (plan : Plan) (p : Parties) (now : WatchState) (after : List Line)
+    (x : WorldErr) → Comes w e before watch plan p now after (Err x) → Finishes w e before watch p now after (Err x)
+finishes_err w e before watch plan p now after KeptFull c = c
+finishes_err w e before watch plan p now after Memory c = c
+finishes_err w e before watch plan p now after NotYet c = absurd c
+finishes_err w e before watch plan p now after NoName c = absurd c
+finishes_err w e before watch plan p now after Taken c = absurd c
+finishes_err w e before watch plan p now after Dead c = absurd c
+finishes_err w e before watch plan p now after Alive c = absurd c
+finishes_err w e before watch plan p now after (NoMessage k) c = absurd c
 
-pub finishes_quiet : (w : World) (e : Event) (before : List Line) (first : ℕ) (client : Option ℕ) (p : Parties)
-    (after : List Line) (x : WorldErr) → Quiets w e before first client p after (Err x) → Finishes w e before p after (Err x)
-finishes_quiet w e before first client p after KeptFull c = c
-finishes_quiet w e before first client p after Memory c = c
-finishes_quiet w e before first client p after NotYet c = absurd c
-finishes_quiet w e before first client p after NoName c = absurd c
-finishes_quiet w e before first client p after Taken c = absurd c
-finishes_quiet w e before first client p after Dead c = absurd c
-finishes_quiet w e before first client p after Alive c = absurd c
-finishes_quiet w e before first client p after (NoMessage k) c = absurd c
+pub finishes_quiet : (w : World) (e : Event) (before : List Line) (watch : WatchState) (first : ℕ) (client : Option ℕ) (p : Parties) (now : WatchState)
+    (after : List Line) (x : WorldErr) → Quiets w e before watch first client p now after (Err x) → Finishes w e before watch p now after (Err x)
+finishes_quiet w e before watch first client p now after KeptFull c = c
+finishes_quiet w e before watch first client p now after Memory c = c
+finishes_quiet w e before watch first client p now after NotYet c = absurd c
+finishes_quiet w e before watch first client p now after NoName c = absurd c
+finishes_quiet w e before watch first client p now after Taken c = absurd c
+finishes_quiet w e before watch first client p now after Dead c = absurd c
+finishes_quiet w e before watch first client p now after Alive c = absurd c
+finishes_quiet w e before watch first client p now after (NoMessage k) c = absurd c
 
 -- where nothing is due behind a move in any world
-pub finishes_over : (w : World) (e : Event) (before : List Line) (plan : Plan) (p : Parties) (after : List Line)
-    (r : Result (Unit {0}) WorldErr) → ((v : World) → IsOver plan v) → Comes w e before plan p after r
-    → Finishes w e before p after r
-finishes_over w e before plan p after (Ok u) over c = record { plan = plan; far = c; over = over (world_after w c.moves) }
-finishes_over w e before plan p after (Err x) over c = finishes_err w e before plan p after x c
+pub finishes_over : (w : World) (e : Event) (before : List Line) (watch : WatchState) (plan : Plan) (p : Parties) (now : WatchState) (after : List Line)
+    (r : Result (Unit {0}) WorldErr) → ((v : World) → IsOver plan v) → Comes w e before watch plan p now after r
+    → Finishes w e before watch p now after r
+finishes_over w e before watch plan p now after (Ok u) over c = record { plan = plan; far = c; over = over (world_after w c.moves) }
+finishes_over w e before watch plan p now after (Err x) over c = finishes_err w e before watch plan p now after x c
 
 -- ---- what is due
 
-pub due_first : PendingIsShown → (w : World) (e : Event) (before : List Line) (first : ℕ) (client : Option ℕ) (p : Parties)
-    (next : ℕ) (lines : List Line) (d : Delivering w e before first client p next lines) (number : ℕ)
+pub due_first : PendingIsShown → (w : World) (e : Event) (before : List Line) (watch : WatchState) (first : ℕ) (client : Option ℕ) (p : Parties) (now : WatchState)
+    (next : ℕ) (lines : List Line) (d : Delivering w e before watch first client p now next lines) (number : ℕ)
     → PendingIs next p.network.messages (Some number)
     → due (behind (Prompt first client)) (world_after w d.far.moves) ≡ Some (Delivers number)
-due_first law w e before first client p next lines d number h =
+due_first law w e before watch first client p now next lines d number h =
     let now : World = world_after w d.far.moves in
     ap (λ (r : Option ℕ). due_pending now client r) (law p.network now first (Some number) d.far.shows.network
     (lowest_from first next p.network.messages (Some number) d.settled h))
 
-pub due_quiet : PendingIsShown → (w : World) (e : Event) (before : List Line) (first : ℕ) (client : Option ℕ) (p : Parties)
-    (lines : List Line) (d : Delivering w e before first client p (length p.network.messages) lines)
+pub due_quiet : PendingIsShown → (w : World) (e : Event) (before : List Line) (watch : WatchState) (first : ℕ) (client : Option ℕ) (p : Parties) (now : WatchState)
+    (lines : List Line) (d : Delivering w e before watch first client p now (length p.network.messages) lines)
     → due (behind (Prompt first client)) (world_after w d.far.moves) ≡ quiet_of (world_after w d.far.moves) client
-due_quiet law w e before first client p lines d =
+due_quiet law w e before watch first client p now lines d =
     let now : World = world_after w d.far.moves in
     ap (λ (r : Option ℕ). due_pending now client r)
     (law p.network now first None d.far.shows.network d.settled.none)
 
-pub delivered_all : (w : World) (e : Event) (before : List Line) (first : ℕ) (client : Option ℕ) (p : Parties) (next : ℕ)
-    (lines : List Line) → Delivering w e before first client p next lines
+pub delivered_all : (w : World) (e : Event) (before : List Line) (watch : WatchState) (first : ℕ) (client : Option ℕ) (p : Parties) (now : WatchState) (next : ℕ)
+    (lines : List Line) → Delivering w e before watch first client p now next lines
     → NonePending next (length p.network.messages) p.network.messages
-    → Delivering w e before first client p (length p.network.messages) lines
-delivered_all w e before first client p next lines d h = record {
+    → Delivering w e before watch first client p now (length p.network.messages) lines
+delivered_all w e before watch first client p now next lines d h = record {
   far = d.far;
   settled = settled_end first next p.network.messages d.settled h;
 }
 
 -- the parties remember what is settled
-pub remembered : (w : World) (e : Event) (before : List Line) (first : ℕ) (client : Option ℕ) (p q : Parties)
-    (lines : List Line) → Delivering w e before first client p (length p.network.messages) lines
+pub remembered : (w : World) (e : Event) (before : List Line) (watch : WatchState) (first : ℕ) (client : Option ℕ) (p q : Parties) (now : WatchState)
+    (lines : List Line) → Delivering w e before watch first client p now (length p.network.messages) lines
     → q.network ≡ p.network
     → ((v : World) → Settled first (length p.network.messages) p.network.messages → Shows p v → Shows q v)
-    → Delivering w e before first client q (length q.network.messages) lines
-remembered w e before first client p q lines d n keeps = record {
+    → Delivering w e before watch first client q now (length q.network.messages) lines
+remembered w e before watch first client p q now lines d n keeps = record {
   far = record {
     allowed = d.far.allowed;
     moves = d.far.moves;
@@ -109,55 +110,57 @@ remembered w e before first client p q lines d n keeps = record {
     plan_is = d.far.plan_is;
     lines_are = d.far.lines_are;
     shows = keeps (world_after w d.far.moves) d.settled d.far.shows;
+    sees = d.far.sees;
   };
   settled = subst (λ (x : NetworkState). Settled first (length x.messages) x.messages) (sym n) d.settled;
 }
 
 -- what is due of a call was done
-quiet_comes : (w : World) (e : Event) (before : List Line) (first : ℕ) (client : Option ℕ) (p q : Parties)
+quiet_comes : (w : World) (e : Event) (before : List Line) (watch : WatchState) (first : ℕ) (client : Option ℕ) (p q : Parties) (now next : WatchState)
     (lines after : List Line) (r : Result (Unit {0}) WorldErr)
-    (d : Delivering w e before first client p (length p.network.messages) lines) (action : Action)
+    (d : Delivering w e before watch first client p now (length p.network.messages) lines) (action : Action)
     → due (behind (Prompt first client)) (world_after w d.far.moves) ≡ Some action
-    → Moves action p q lines after r → Comes w e before (went_on (behind (Prompt first client)) action) q after r
-quiet_comes w e before first client p q lines after r d action n m =
-    comes w e before (behind (Prompt first client)) p lines d.far action q after r n
+    → Moves action p q now next lines after r → Comes w e before watch (went_on (behind (Prompt first client)) action) q next after r
+quiet_comes w e before watch first client p q now next lines after r d action n m =
+    comes w e before watch (behind (Prompt first client)) p now lines d.far action q next after r n
     (m (world_after w d.far.moves) d.far.shows)
 
-pub quiet_err : (w : World) (e : Event) (before : List Line) (first : ℕ) (client : Option ℕ) (p q : Parties)
+pub quiet_err : (w : World) (e : Event) (before : List Line) (watch : WatchState) (first : ℕ) (client : Option ℕ) (p q : Parties) (now next : WatchState)
     (lines after : List Line) (x : WorldErr)
-    (d : Delivering w e before first client p (length p.network.messages) lines) (o : Option Action)
+    (d : Delivering w e before watch first client p now (length p.network.messages) lines) (o : Option Action)
     → due (behind (Prompt first client)) (world_after w d.far.moves) ≡ o
-    → MovesIf o p q lines after (Err x) → Finishes w e before q after (Err x)
-quiet_err w e before first client p q lines after x d None n m = absurd (cc m.2)
-quiet_err w e before first client p q lines after x d (Some action) n m =
-    finishes_err w e before (went_on (behind (Prompt first client)) action) q after x
-    (quiet_comes w e before first client p q lines after (Err x) d action n m)
+    → MovesIf o p q now next lines after (Err x) → Finishes w e before watch q next after (Err x)
+quiet_err w e before watch first client p q now next lines after x d None n m = absurd (cc m.3)
+quiet_err w e before watch first client p q now next lines after x d (Some action) n m =
+    finishes_err w e before watch (went_on (behind (Prompt first client)) action) q next after x
+    (quiet_comes w e before watch first client p q now next lines after (Err x) d action n m)
 
-pub quiet_over : (w : World) (e : Event) (before : List Line) (first : ℕ) (client : Option ℕ) (p q : Parties)
-    (lines after : List Line) (d : Delivering w e before first client p (length p.network.messages) lines)
+pub quiet_over : (w : World) (e : Event) (before : List Line) (watch : WatchState) (first : ℕ) (client : Option ℕ) (p q : Parties) (now next : WatchState)
+    (lines after : List Line) (d : Delivering w e before watch first client p now (length p.network.messages) lines)
     → due (behind (Prompt first client)) (world_after w d.far.moves) ≡ None
-    → MovesIf None p q lines after (Ok tt) → Finishes w e before q after (Ok tt)
-quiet_over w e before first client p q lines after d n m =
-    let here : Finishes w e before p lines (Ok tt) =
+    → MovesIf None p q now next lines after (Ok tt) → Finishes w e before watch q next after (Ok tt)
+quiet_over w e before watch first client p q now next lines after d n m =
+    let here : Finishes w e before watch p now lines (Ok tt) =
     record { plan = behind (Prompt first client); far = d.far; over = n } in
-    subst (λ (x : Parties). Finishes w e before x after (Ok tt)) (sym m.0)
-    (subst (λ (x : List Line). Finishes w e before p x (Ok tt)) (sym m.1) here)
+    subst (λ (x : Parties). Finishes w e before watch x next after (Ok tt)) (sym m.0)
+    (subst (λ (x : WatchState). Finishes w e before watch p x after (Ok tt)) (sym m.1)
+    (subst (λ (x : List Line). Finishes w e before watch p now x (Ok tt)) (sym m.2) here))
 
-pub quiet_pends : (w : World) (e : Event) (before : List Line) (first : ℕ) (client : Option ℕ) (p q : Parties)
-    (lines after : List Line) (d : Delivering w e before first client p (length p.network.messages) lines) (c : ℕ)
+pub quiet_pends : (w : World) (e : Event) (before : List Line) (watch : WatchState) (first : ℕ) (client : Option ℕ) (p q : Parties) (now next : WatchState)
+    (lines after : List Line) (d : Delivering w e before watch first client p now (length p.network.messages) lines) (c : ℕ)
     → due (behind (Prompt first client)) (world_after w d.far.moves) ≡ Some (Pends c)
-    → Moves (Pends c) p q lines after (Ok tt) → Finishes w e before q after (Ok tt)
-quiet_pends w e before first client p q lines after d c n m =
-    finishes_over w e before (went_on (behind (Prompt first client)) (Pends c)) q after (Ok tt) (λ v. refl)
-    (quiet_comes w e before first client p q lines after (Ok tt) d (Pends c) n m)
+    → Moves (Pends c) p q now next lines after (Ok tt) → Finishes w e before watch q next after (Ok tt)
+quiet_pends w e before watch first client p q now next lines after d c n m =
+    finishes_over w e before watch (went_on (behind (Prompt first client)) (Pends c)) q next after (Ok tt) (λ v. refl)
+    (quiet_comes w e before watch first client p q now next lines after (Ok tt) d (Pends c) n m)
 
-pub quiet_next : (w : World) (e : Event) (before : List Line) (first : ℕ) (client : Option ℕ) (p q : Parties)
-    (lines after : List Line) (d : Delivering w e before first client p (length p.network.messages) lines) (c k : ℕ)
+pub quiet_next : (w : World) (e : Event) (before : List Line) (watch : WatchState) (first : ℕ) (client : Option ℕ) (p q : Parties) (now next : WatchState)
+    (lines after : List Line) (d : Delivering w e before watch first client p now (length p.network.messages) lines) (c k : ℕ)
     → due (behind (Prompt first client)) (world_after w d.far.moves) ≡ Some (TimesOut c k)
-    → Moves (TimesOut c k) p q lines after (Ok tt) → Grows p.network.messages q.network.messages
-    → Delivering w e before first client q (length p.network.messages) after
-quiet_next w e before first client p q lines after d c k n m g = record {
-  far = quiet_comes w e before first client p q lines after (Ok tt) d (TimesOut c k) n m;
+    → Moves (TimesOut c k) p q now next lines after (Ok tt) → Grows p.network.messages q.network.messages
+    → Delivering w e before watch first client q next (length p.network.messages) after
+quiet_next w e before watch first client p q now next lines after d c k n m g = record {
+  far = quiet_comes w e before watch first client p q now next lines after (Ok tt) d (TimesOut c k) n m;
   settled = subst (λ (x : List Sent). Settled first (length p.network.messages) x) (sym g.1)
       (settled_more first (length p.network.messages) p.network.messages g.0 d.settled);
 }
@@ -194,9 +197,10 @@ stops cut w e before after f = record {
   };
 }
 
-goes : OneEventMore → (w : World) (e : Event) (before after : List Line) (p : Parties) → p.network.kept ≤ MAX_KEPT
-    → (d : Ended w e before p after) → Goes w e before after (world_after w d.far.moves)
-goes more w e before after p fits d =
+goes : OneEventMore → (w : World) (e : Event) (before : List Line) (watch : WatchState) (p : Parties) (now : WatchState)
+    (after : List Line) → p.network.kept ≤ MAX_KEPT → (d : Ended w e before watch p now after)
+    → Goes w e before after (world_after w d.far.moves)
+goes more w e before watch p now after fits d =
     let own : List Line = line.Event e ∷ lines_of w d.far.moves in
     let carries : Carries w e own (world_after w d.far.moves) = record {
       allowed = d.far.allowed;
@@ -215,25 +219,28 @@ goes more w e before after p fits d =
     }
 
 pub steps_err : FullIsCut → (w : World) (e : Event) (before after : List Line) (old new : WorldState) (x : WorldErr)
-    → Finishes w e before new.parties after (Err x) → Steps w e before after old new (Err x)
-steps_err cut w e before after old new KeptFull h = stops cut w e before after h
-steps_err cut w e before after old new Memory h = breaks_off w e before after h
-steps_err cut w e before after old new NotYet h = absurd h
-steps_err cut w e before after old new NoName h = absurd h
-steps_err cut w e before after old new Taken h = absurd h
-steps_err cut w e before after old new Dead h = absurd h
-steps_err cut w e before after old new Alive h = absurd h
-steps_err cut w e before after old new (NoMessage k) h = absurd h
+    (watch middle : WatchState) → Finishes w e before watch new.parties middle after (Err x)
+    → Steps w e before after old new (Err x)
+steps_err cut w e before after old new KeptFull watch middle h = stops cut w e before after h
+steps_err cut w e before after old new Memory watch middle h = breaks_off w e before after h
+steps_err cut w e before after old new NotYet watch middle h = absurd h
+steps_err cut w e before after old new NoName watch middle h = absurd h
+steps_err cut w e before after old new Taken watch middle h = absurd h
+steps_err cut w e before after old new Dead watch middle h = absurd h
+steps_err cut w e before after old new Alive watch middle h = absurd h
+steps_err cut w e before after old new (NoMessage k) watch middle h = absurd h
 
 pub steps : OneEventMore → FullIsCut → (w : World) (e : Event) (before after : List Line) (old new : WorldState)
     (r : Result (Unit {0}) WorldErr) → new.parties.network.kept ≤ MAX_KEPT
-    → Finishes w e before new.parties after r → Steps w e before after old new r
+    → FinishesSeen w e before old.watch new.parties new.watch after r → Steps w e before after old new r
+unfolding goes
 steps more cut w e before after old new (Ok u) fits h = record {
-  world = world_after w h.far.moves;
-  shows = h.far.shows;
-  goes = goes more w e before after new.parties fits h;
+  world = world_after w h.1.far.moves;
+  shows = h.1.far.shows;
+  goes = goes more w e before old.watch new.parties h.0 after fits h.1;
+  moments = h.2 ∙ h.1.far.sees.1;
 }
-steps more cut w e before after old new (Err x) fits h = steps_err cut w e before after old new x h
+steps more cut w e before after old new (Err x) fits h = steps_err cut w e before after old new x old.watch h.0 h.1
 
 -- a refusal changes nothing
 pub refuses : (w : World) (e : Event) (lines : List Line) (s : WorldState) (x : WorldErr) → IsRefusal x

@@ -1,34 +1,37 @@
 -- Parties of which one thing changed show the world of which it changed.
-use Rattle.std.proofs.Common.{◌≡◌, ℕ, List, refl, ◌∙◌}
+use Rattle.std.proofs.Common.{◌≡◌, ℕ, List, refl}
+use Rattle.world_history.specs.ServerNames.{Mended}
 use Rattle.world_history.specs.State.{DriveAt, ClientAt, World, with_server}
 use Rattle.world_server.specs.State.{WorldServerState}
 use Rattle.layout_world.specs.declared.parties.Parties.{Parties}
-use Rattle.layout_world.specs.State.{Shows}
+use Rattle.layout_world.specs.State.{ShowsWith, Shows}
 
-pub shows_drives : (p : Parties) (t u : List (ℕ × DriveAt)) (w : World) → t ≡ u → Shows p w
-    → Shows (record p { drives = t }) (record w { drives = u })
-shows_drives p t u w e s = record {
+pub shows_drives : (ended : List Mended) (p : Parties) (t u : List (ℕ × DriveAt)) (w : World) → t ≡ u
+    → ShowsWith ended p w → ShowsWith ended (record p { drives = t }) (record w { drives = u })
+shows_drives ended p t u w e s = record {
   drives = e;
   clients = s.clients;
   server = s.server;
   clock = s.clock;
   network = s.network;
   settled = s.settled;
+  mended = s.mended;
 }
 
-pub shows_clients : (p : Parties) (t u : List (ℕ × ClientAt)) (w : World) → t ≡ u → Shows p w
-    → Shows (record p { clients = t }) (record w { clients = u })
-shows_clients p t u w e s = record {
+pub shows_clients : (ended : List Mended) (p : Parties) (t u : List (ℕ × ClientAt)) (w : World) → t ≡ u
+    → ShowsWith ended p w → ShowsWith ended (record p { clients = t }) (record w { clients = u })
+shows_clients ended p t u w e s = record {
   drives = s.drives;
   clients = e;
   server = s.server;
   clock = s.clock;
   network = s.network;
   settled = s.settled;
+  mended = s.mended;
 }
 
 pub shows_server : (p : Parties) (x : WorldServerState) (w : World) → Shows p w
-    → Shows (record p { server = x }) (with_server w x.state)
+    → ShowsWith x.mended (record p { server = x }) (with_server w x.state)
 shows_server p x w s = record {
   drives = s.drives;
   clients = s.clients;
@@ -36,6 +39,7 @@ shows_server p x w s = record {
   clock = s.clock;
   network = s.network;
   settled = s.settled;
+  mended = refl;
 }
 
 pub shows_clock : (p : Parties) (time : ℕ) (w : World) → Shows p w
@@ -47,4 +51,5 @@ shows_clock p time w s = record {
   clock = refl;
   network = s.network;
   settled = s.settled;
+  mended = s.mended;
 }

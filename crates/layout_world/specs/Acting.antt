@@ -1,30 +1,45 @@
 -- What the code does in an action is what the world does.
-use Rattle.std.specs.Prelude.{◌≡◌, ◌<◌, ◌++◌, ℕ, List, Some, length, slice_get}
+use Rattle.std.specs.Prelude.{◌≡◌, ◌<◌, ◌++◌, ℕ, List, [], Some, length, slice_get}
+use Rattle.osd_bytes.specs.declared.node.Node.{Node}
 use Rattle.scenario_text.specs.declared.line.Party.{Party}
 use Rattle.world_history.specs.declared.messages.Message.{Message}
 use Rattle.world_history.specs.declared.messages.Sent.{Sent}
+use Rattle.world_history.specs.ServerNames.{Mended}
 use Rattle.world_history.specs.State.{World}
 use Rattle.world_history.specs.Spelled.{spelled, party_of}
 use Rattle.world_history.specs.Handed.{handed}
-use Rattle.world_history.specs.Moves.{Act as WorldAct}
+use Rattle.world_history.specs.Moves.{Act as WorldAct, Action}
+use Rattle.world_history.specs.Book.{step_by}
+use Rattle.world_history.specs.Calm.{mended_in}
 use Rattle.world_network.specs.Network.{NetworkState, Delivers}
 use Rattle.world_words.specs.declared.acts.Act.{Act}
 use Rattle.world_words.specs.declared.acts.Handed.{Handed}
 use Rattle.world_words.specs.Acts.{IsAct}
 use Rattle.layout_world.specs.declared.parties.Parties.{Parties}
-use Rattle.layout_world.specs.State.{Shows}
+use Rattle.book_law.specs.Doing.{brought_to, did_in}
+use Rattle.layout_world.specs.State.{ShowsWith, Shows}
 
 -- ---- an action
 
--- the world does this with some drives that the placer names: the parties show it then, and the act is the code's
-pub record Doing (does : List ℕ → WorldAct) (new : Parties) (act : Act) : Type 0 where
+-- the repairs that the server ends in a move
+abbrev pub ends_in : Action → World → (chosen : List ℕ) → List Mended
+ends_in action w chosen = mended_in (did_in w (record { action = action; chosen = chosen }))
+
+-- The world does this and ends these repairs, with some drives that the placer names: the parties show it then, and the
+-- act is the code's.
+pub record Doing (does : List ℕ → WorldAct) (ends : List ℕ → List Mended) (new : Parties) (act : Act) : Type 0 where
   pub chosen : List ℕ
-  pub shows : Shows new (does chosen).world
+  pub shows : ShowsWith (ends chosen) new (does chosen).world
   pub is : IsAct (does chosen).told (does chosen).posts act
 
 -- so does each world that the parties showed
+abbrev pub ActsWith : (does : World → List ℕ → WorldAct) → (ends : World → List ℕ → List Mended) → (old new : Parties)
+    → Act → Type 0
+ActsWith does ends old new act = (w : World) → Shows old w → Doing (does w) (ends w) new act
+
+-- and no repair ends
 abbrev pub Acts : (does : World → List ℕ → WorldAct) → (old new : Parties) → Act → Type 0
-Acts does old new act = (w : World) → Shows old w → Doing (does w) new act
+Acts does old new act = ActsWith does (λ w chosen. []) old new act
 
 -- ---- a message
 
@@ -34,10 +49,14 @@ pub record IsOf (s : Sent) (m : Message) : Type 0 where
   pub to : s.to ≡ party_of m.to
   pub bytes : s.bytes ≡ spelled m.body
 
+-- the repairs that the server ends where a message comes to this party
+abbrev pub ends_at : World → (chosen : List ℕ) → Message → Node → List Mended
+ends_at w chosen m to = mended_in (step_by w.server chosen (brought_to w.clock m to))
+
 -- it comes to its receiver in the world, with some drives that the placer names
 pub record Handing (w : World) (m : Message) (new : Parties) (h : Handed) : Type 0 where
   pub chosen : List ℕ
-  pub shows : Shows new (handed w chosen m).world
+  pub shows : ShowsWith (ends_at w chosen m m.to) new (handed w chosen m).world
   pub receipt : h.receipt ≡ (handed w chosen m).receipt
   pub act : IsAct (handed w chosen m).told (handed w chosen m).posts h.act
 

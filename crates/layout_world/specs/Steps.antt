@@ -7,14 +7,17 @@ use Rattle.world_history.specs.declared.err.WorldErr.TheVariants.{KeptFull, Memo
 use Rattle.world_history.specs.State.{World}
 use Rattle.world_history.specs.Refusals.{refusal}
 use Rattle.world_history.specs.History.{Goes, Stops, BreaksOff}
+use Rattle.calm_moves.specs.Moving.{sees_moves}
 use Rattle.layout_world.specs.State.{WorldState, Shows}
 
 -- An event was carried out: the code shows the world behind it. Whatever history the old world stands for, the new
--- one stands for it and the lines that were appended.
-pub record CarriesOut (w : World) (e : Event) (before after : List Line) (new : WorldState) : Type 0 where
+-- one stands for it and the lines that were appended. What is kept of the moments went on with its moves.
+pub record CarriesOut (w : World) (e : Event) (before after : List Line) (old new : WorldState) : Type 0 where
   pub world : World
   pub shows : Shows new.parties world
   pub goes : Goes w e before after world
+  pub moments : new.watch.moments
+      ≡ sees_moves old.watch.guesses.sightings old.watch.moments w goes.carries.moves
 
 -- a refused event has this cause, and leaves all as it was
 pub record Refuses (w : World) (e : Event) (before after : List Line) (old new : WorldState) (cause : WorldErr)
@@ -26,7 +29,7 @@ pub record Refuses (w : World) (e : Event) (before after : List Line) (old new :
 -- what a step leaves, by its result
 abbrev pub Steps : World → Event → (before after : List Line) → (old new : WorldState) → Result (Unit {0}) WorldErr
     → Type 0
-Steps w e before after old new (Ok u) = CarriesOut w e before after new
+Steps w e before after old new (Ok u) = CarriesOut w e before after old new
 Steps w e before after old new (Err KeptFull) = Stops w e before after
 Steps w e before after old new (Err Memory) = BreaksOff w e before after
 Steps w e before after old new (Err cause) = Refuses w e before after old new cause

@@ -1,12 +1,13 @@
 // What is told and sent, as a move.
-ghost use Rattle.std.specs.Prelude.{◌≡◌, OnOk, OnErr, IfErr, Err};
+ghost use Rattle.std.specs.Prelude.{◌≡◌, ◌≤◌, List, length, drop, OnOk, OnErr, IfErr, Err};
 ghost use Rattle.world_history.specs.declared.err.WorldErr.TheVariants.{Memory};
+ghost use Rattle.world_history.specs.ServerNames.{Mended};
 ghost use Rattle.world_history.specs.State.{World};
 ghost use Rattle.world_history.specs.Moves.{Act as WorldAct};
 ghost use Rattle.world_words.specs.Acts.{IsAct};
-ghost use Rattle.layout_world.specs.State.{Shows};
+ghost use Rattle.layout_world.specs.State.{ShowsWith, Shows};
 ghost use Rattle.layout_world.specs.Acting.{Grows};
-ghost use Rattle.layout_world.specs.Going.{Performed};
+ghost use Rattle.layout_world.specs.Going.{Performed, SeesAct, SeesBehind};
 ghost use Rattle.layout_world.specs.Refusing.{IsEnd};
 ghost use Rattle.layout_world.specs.Watching.{LeavesTold};
 
@@ -27,9 +28,11 @@ fn watch_lines(
     lines: &Lines,
 ) -> Result<(), WorldErr>
     ensures cause { OnErr result (result ≡ Err Memory) }
-    ensures shows { (w : World) → Shows parties.old w → Shows parties.new w }
+    ensures shows { (w : World) (ended : List Mended) → ShowsWith ended parties.old w → Shows parties.new w }
     ensures network { parties.new.network ≡ parties.old.network }
     ensures told { LeavesTold watch.old watch.new }
+    ensures sees { OnOk result (before ≤ length lines.now
+        → SeesBehind parties.old (drop before lines.now) watch.old watch.new) }
 {
     let mended = parties.server.take_mended(alloc);
     if let Some((_, own)) = lines.as_slice().split_at_checked(before) {
@@ -51,8 +54,11 @@ pub fn perform(
     before: usize,
     lines: &mut Lines,
 ) -> Result<(), WorldErr>
-    ensures performed { (a : WorldAct) → IsAct a.told a.posts act → Shows parties.old a.world
-        → Performed a parties.new lines.old lines.new result }
+    ensures performed { (a : WorldAct) (ended : List Mended) → IsAct a.told a.posts act
+        → ShowsWith ended parties.old a.world → Performed a parties.new lines.old lines.new result }
+    ensures sees { OnOk result ((a : WorldAct) (ended : List Mended) → IsAct a.told a.posts act
+        → ShowsWith ended parties.old a.world → before ≤ length lines.new
+        → SeesAct a ended (drop before lines.new) watch.old watch.new) }
     ensures grows { OnOk result (Grows parties.old.network.messages parties.new.network.messages) }
     ensures told { LeavesTold watch.old watch.new }
     ensures halts { IfErr result IsEnd }

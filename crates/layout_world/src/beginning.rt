@@ -1,8 +1,8 @@
 // What an event begins with.
 ghost use Rattle.std.specs.Prelude.{◌≡◌, true, IfOk};
 ghost use Rattle.stripe_repair.specs.Placing.{IsPlacer};
-ghost use Rattle.world_history.specs.Moves.{begins, injects};
-ghost use Rattle.layout_world.specs.Acting.{Acts};
+ghost use Rattle.world_history.specs.Moves.{Opens, begins, injects};
+ghost use Rattle.layout_world.specs.Acting.{Acts, ActsWith, ends_in};
 ghost use Rattle.layout_world.specs.Groups.{is_plain};
 
 use crate::changing::change;
@@ -81,7 +81,7 @@ pub fn begin<F>(
 where
     F: Fn(u32, &[DriveLoad]) -> Result<Numbers, Memory>,
     requires placer { IsPlacer F.Fn placer.now }
-    ensures { IfOk result (λ act. Acts (λ w chosen. begins w chosen event.now) parties.old parties.new act) }
+    ensures { IfOk result (λ act. ActsWith (λ w chosen. begins w chosen event.now) (ends_in (Opens event.now)) parties.old parties.new act) }
 {
     match event {
         Event::Deliver { message } => deliver(parties, alloc, *message as usize, placer),

@@ -1,10 +1,11 @@
 // What the server does in an event.
 ghost use Rattle.std.specs.Prelude.{IfOk};
+ghost use Rattle.scenario_text.specs.declared.event.Event.TheVariants as event;
 ghost use Rattle.stripe_repair.specs.Placing.{IsPlacer};
 ghost use Rattle.server_rules.specs.History.{Obeys, Resends as ResendsAt, Formats as FormatsAt};
 ghost use Rattle.world_history.specs.ServerNames.{ToRecall, ToRevoke, ToRebuild, ToAudit, ToDeclare};
-ghost use Rattle.world_history.specs.Moves.{adds_drive, makes, raw_of, gives};
-ghost use Rattle.layout_world.specs.Acting.{Acts};
+ghost use Rattle.world_history.specs.Moves.{Opens, adds_drive, makes, raw_of, gives};
+ghost use Rattle.layout_world.specs.Acting.{Acts, ActsWith, ends_in};
 
 use crate::parties::Parties;
 use osd_bytes::{Memory, Numbers};
@@ -48,7 +49,7 @@ pub fn make_file<F>(
 where
     F: Fn(u32, &[DriveLoad]) -> Result<Numbers, Memory>,
     requires placer { IsPlacer F.Fn placer.now }
-    ensures { IfOk result (λ act. Acts (λ w chosen. makes w chosen file (raw_of map.now) tag) parties.old parties.new act) }
+    ensures { IfOk result (λ act. ActsWith (λ w chosen. makes w chosen file (raw_of map.now) tag) (ends_in (Opens (event.File file map.now tag))) parties.old parties.new act) }
 {
     let act = parties.server.make_file(alloc, file, map, tag, placer)?;
     Ok(act)
@@ -60,7 +61,7 @@ where
 ///
 /// Want of memory alone.
 pub fn recall(parties: &mut Parties, alloc: Global, file: FileName) -> Result<Act, Memory>
-    ensures { IfOk result (λ act. Acts (λ w chosen. gives w chosen (Obeys ToRecall file)) parties.old parties.new act) }
+    ensures { IfOk result (λ act. ActsWith (λ w chosen. gives w chosen (Obeys ToRecall file)) (ends_in (Opens (event.Recall file))) parties.old parties.new act) }
 {
     let act = parties.server.recall(alloc, file)?;
     Ok(act)
@@ -80,7 +81,7 @@ pub fn revoke<F>(
 where
     F: Fn(u32, &[DriveLoad]) -> Result<Numbers, Memory>,
     requires placer { IsPlacer F.Fn placer.now }
-    ensures { IfOk result (λ act. Acts (λ w chosen. gives w chosen (Obeys ToRevoke file)) parties.old parties.new act) }
+    ensures { IfOk result (λ act. ActsWith (λ w chosen. gives w chosen (Obeys ToRevoke file)) (ends_in (Opens (event.Revoke file))) parties.old parties.new act) }
 {
     let act = parties.server.revoke(alloc, file, placer)?;
     Ok(act)
@@ -100,7 +101,7 @@ pub fn rebuild<F>(
 where
     F: Fn(u32, &[DriveLoad]) -> Result<Numbers, Memory>,
     requires placer { IsPlacer F.Fn placer.now }
-    ensures { IfOk result (λ act. Acts (λ w chosen. gives w chosen (Obeys ToRebuild file)) parties.old parties.new act) }
+    ensures { IfOk result (λ act. ActsWith (λ w chosen. gives w chosen (Obeys ToRebuild file)) (ends_in (Opens (event.Rebuild file))) parties.old parties.new act) }
 {
     let act = parties.server.rebuild(alloc, file, placer)?;
     Ok(act)
@@ -120,7 +121,7 @@ pub fn audit<F>(
 where
     F: Fn(u32, &[DriveLoad]) -> Result<Numbers, Memory>,
     requires placer { IsPlacer F.Fn placer.now }
-    ensures { IfOk result (λ act. Acts (λ w chosen. gives w chosen (Obeys ToAudit file)) parties.old parties.new act) }
+    ensures { IfOk result (λ act. ActsWith (λ w chosen. gives w chosen (Obeys ToAudit file)) (ends_in (Opens (event.Audit file))) parties.old parties.new act) }
 {
     let act = parties.server.audit(alloc, file, placer)?;
     Ok(act)
@@ -140,7 +141,7 @@ pub fn declare<F>(
 where
     F: Fn(u32, &[DriveLoad]) -> Result<Numbers, Memory>,
     requires placer { IsPlacer F.Fn placer.now }
-    ensures { IfOk result (λ act. Acts (λ w chosen. gives w chosen (Obeys ToDeclare drive)) parties.old parties.new act) }
+    ensures { IfOk result (λ act. ActsWith (λ w chosen. gives w chosen (Obeys ToDeclare drive)) (ends_in (Opens (event.Declare drive))) parties.old parties.new act) }
 {
     let act = parties.server.declare(alloc, drive, placer)?;
     Ok(act)

@@ -2,8 +2,8 @@
 ghost use Rattle.std.specs.Prelude.{◌≡◌, ◌<◌, length, IfOk, OnOk};
 ghost use Rattle.stripe_repair.specs.Placing.{IsPlacer};
 ghost use Rattle.scenario_text.specs.declared.line.Party.TheVariants as party;
-ghost use Rattle.world_history.specs.Moves.{delivers};
-ghost use Rattle.layout_world.specs.Acting.{Acts, HandsAt, HandsTo, Marked};
+ghost use Rattle.world_history.specs.Moves.{Delivers, delivers};
+ghost use Rattle.layout_world.specs.Acting.{ActsWith, ends_in, HandsAt, HandsTo, Marked};
 
 use crate::parties::Parties;
 use osd_bytes::{Memory, Numbers};
@@ -113,7 +113,7 @@ pub fn deliver<F>(
 where
     F: Fn(u32, &[DriveLoad]) -> Result<Numbers, Memory>,
     requires placer { IsPlacer F.Fn placer.now }
-    ensures acts { IfOk result (λ act. Acts (λ w chosen. delivers w chosen number) parties.old parties.new act) }
+    ensures acts { IfOk result (λ act. ActsWith (λ w chosen. delivers w chosen number) (ends_in (Delivers number)) parties.old parties.new act) }
     ensures marked { OnOk result (Marked number parties.old.network parties.new.network) }
 {
     network_shows();

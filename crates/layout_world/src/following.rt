@@ -32,7 +32,7 @@ fn settle<F>(
 where
     F: Fn(u32, &[DriveLoad]) -> Result<Numbers, Memory>,
     requires placer { IsPlacer F.Fn placer.now }
-    ensures quiets { QuietsAll start parties.old parties.new lines.old lines.new result }
+    ensures quiets { QuietsAll start parties.old parties.new watch.old watch.new lines.old lines.new result }
     ensures told { LeavesTold watch.old watch.new }
     ensures halts { IfErr result IsEnd }
 {
@@ -69,7 +69,7 @@ fn quieten(
     due: &Quiet,
     lines: &mut Lines,
 ) -> Result<(), WorldErr>
-    ensures moves { MovesIf (action_of due.now) parties.old parties.new lines.old lines.new result }
+    ensures moves { MovesIf (action_of due.now) parties.old parties.new watch.old watch.new lines.old lines.new result }
     ensures grows { OnOk result (Grows parties.old.network.messages parties.new.network.messages) }
     ensures told { LeavesTold watch.old watch.new }
     ensures halts { IfErr result IsEnd }
@@ -99,7 +99,7 @@ where
     F: Fn(u32, &[DriveLoad]) -> Result<Numbers, Memory>,
     requires placer { IsPlacer F.Fn placer.now }
     ensures finishes { first ≤ length parties.old.network.messages
-        → FinishesAll (behind (Promptly first client)) parties.old parties.new lines.old lines.new result }
+        → FinishesAll (behind (Promptly first client)) parties.old parties.new watch.old watch.new lines.old lines.new result }
     ensures told { LeavesTold watch.old watch.new }
     ensures halts { IfErr result IsEnd }
 {
@@ -145,7 +145,7 @@ where
     F: Fn(u32, &[DriveLoad]) -> Result<Numbers, Memory>,
     requires placer { IsPlacer F.Fn placer.now }
     ensures finishes { IsWithin rule (length parties.old.network.messages)
-        → FinishesAll (behind (rule_in rule)) parties.old parties.new lines.old lines.new result }
+        → FinishesAll (behind (rule_in rule)) parties.old parties.new watch.old watch.new lines.old lines.new result }
     ensures told { LeavesTold watch.old watch.new }
     ensures halts { IfErr result IsEnd }
 {

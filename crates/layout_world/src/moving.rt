@@ -35,7 +35,7 @@ pub fn deliver_move<F>(
 where
     F: Fn(u32, &[DriveLoad]) -> Result<Numbers, Memory>,
     requires placer { IsPlacer F.Fn placer.now }
-    ensures moves { Moves (DeliversAt number) parties.old parties.new lines.old lines.new result }
+    ensures moves { Moves (DeliversAt number) parties.old parties.new watch.old watch.new lines.old lines.new result }
     ensures settles { OnOk result (SettlesOne number parties.old.network.messages parties.new.network.messages) }
     ensures told { LeavesTold watch.old watch.new }
     ensures halts { IfErr result IsEnd }
@@ -59,7 +59,7 @@ pub fn time_out_move(
     component: u32,
     lines: &mut Lines,
 ) -> Result<(), WorldErr>
-    ensures moves { Moves (TimesOut client component) parties.old parties.new lines.old lines.new result }
+    ensures moves { Moves (TimesOut client component) parties.old parties.new watch.old watch.new lines.old lines.new result }
     ensures grows { OnOk result (Grows parties.old.network.messages parties.new.network.messages) }
     ensures told { LeavesTold watch.old watch.new }
     ensures halts { IfErr result IsEnd }
@@ -82,7 +82,7 @@ pub fn pend_move(
     client: ClientName,
     lines: &mut Lines,
 ) -> Result<(), WorldErr>
-    ensures moves { Moves (Pends client) parties.old parties.new lines.old lines.new result }
+    ensures moves { Moves (Pends client) parties.old parties.new watch.old watch.new lines.old lines.new result }
     ensures grows { OnOk result (Grows parties.old.network.messages parties.new.network.messages) }
     ensures told { LeavesTold watch.old watch.new }
     ensures halts { IfErr result IsEnd }

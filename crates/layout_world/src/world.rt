@@ -5,9 +5,10 @@ ghost use Rattle.world_history.specs.Plans.{rule_of};
 ghost use Rattle.world_history.specs.Refusals.{refusal};
 ghost use Rattle.world_history.specs.State.{World as TheWorld, empty_world};
 ghost use Rattle.world_history.specs.Summing.{no_summary};
-ghost use Rattle.world_watch.specs.Watching.{HasSeen, Watches};
+ghost use Rattle.world_watch.specs.Watching.{HasSeen};
+ghost use Rattle.calm_moves.specs.Watching.{WatchesAll};
 ghost use Rattle.layout_world.specs.State.{Shows};
-ghost use Rattle.layout_world.specs.Going.{Comes, Finishes, behind};
+ghost use Rattle.layout_world.specs.Going.{Comes, Finishes, FinishesSeen, behind};
 ghost use Rattle.layout_world.specs.Refusing.{IsEnd};
 ghost use Rattle.layout_world.specs.Steps.{StepsAs, Ends};
 ghost use Rattle.layout_world.specs.Watching.{LeavesTold, WatchesOn};
@@ -18,6 +19,7 @@ use crate::following::follow;
 use crate::parties::Parties;
 use crate::refusing::refusal;
 use crate::rules::rule_of;
+use calm_moves::{moves_follow, watch_begins};
 use osd_bytes::{Memory, Numbers};
 use scenario_text::{Event, Line};
 use std::alloc::Global;
@@ -57,7 +59,7 @@ where
     F: Fn(u32, &[DriveLoad]) -> Result<Numbers, Memory>,
     requires placer { IsPlacer F.Fn placer.now }
     ensures comes { (w : TheWorld) → Shows parties.old w → refusal w event ≡ None
-        → Comes w event lines.old (behind (rule_of w event)) parties.new lines.new result }
+        → Comes w event lines.old watch.old (behind (rule_of w event)) parties.new watch.new lines.new result }
     ensures sent { OnOk result ((w : TheWorld) → Shows parties.old w
         → length parties.old.network.messages ≤ length parties.new.network.messages) }
     ensures told { LeavesTold watch.old watch.new }
@@ -86,7 +88,7 @@ where
     F: Fn(u32, &[DriveLoad]) -> Result<Numbers, Memory>,
     requires placer { IsPlacer F.Fn placer.now }
     ensures finishes { (w : TheWorld) → Shows parties.old w → refusal w event ≡ None
-        → Finishes w event lines.old parties.new lines.new result }
+        → Finishes w event lines.old watch.old parties.new watch.new lines.new result }
     ensures told { LeavesTold watch.old watch.new }
     ensures halts { IfErr result IsEnd }
 {
@@ -109,6 +111,7 @@ fn see_event(
     ensures cause { OnErr result (result ≡ Err WorldErr.Memory) }
     ensures seen { OnOk result (before ≤ length lines.now
         → HasSeen parties.now.network.messages (drop before lines.now) watch.old watch.new) }
+    ensures moments { watch.new.moments ≡ watch.old.moments }
 {
     if let Some((_, own)) = lines.as_slice().split_at_checked(before) {
         watch.see_event(&parties.network, own)?;
@@ -129,7 +132,7 @@ where
     F: Fn(u32, &[DriveLoad]) -> Result<Numbers, Memory>,
     requires placer { IsPlacer F.Fn placer.now }
     ensures finishes { (w : TheWorld) → Shows parties.old w → refusal w event ≡ None
-        → Finishes w event lines.old parties.new lines.new result }
+        → FinishesSeen w event lines.old watch.old parties.new watch.new lines.new result }
     ensures seen { OnOk result (length lines.old ≤ length lines.new
         → HasSeen parties.new.network.messages (drop (length lines.old) lines.new) watch.old watch.new) }
     ensures halts { IfErr result IsEnd }
@@ -149,11 +152,11 @@ impl World {
     /// Want of memory alone.
     pub fn new(alloc: Global) -> Result<Self, Memory>
         ensures shows { IfOk result (λ world. Shows world.parties empty_world) }
-        ensures watches { IfOk result (λ world. Watches [] world.watch) }
+        ensures watches { IfOk result (λ world. WatchesAll [] world.watch) }
         ensures summary { IfOk result (λ world. world.watch.summary ≡ no_summary) }
         ensures over { IfOk result (λ world. world.over ≡ false) }
     {
-        watch_is_read();
+        watch_begins();
         Ok(World {
             alloc,
             parties: Parties::new(alloc)?,
@@ -189,10 +192,11 @@ impl World {
         F: Fn(u32, &[DriveLoad]) -> Result<Numbers, Memory>,
         requires placer { IsPlacer F.Fn placer.now }
         ensures steps { StepsAs event lines.old lines.new self.old self.new result }
-        ensures watches { OnOk result (WatchesOn lines.old lines.new self.old self.new) }
+        ensures watches { OnOk result (WatchesOn event lines.old lines.new self.old self.new) }
         ensures over { Ends self.old self.new result }
     {
         watch_is_read();
+        moves_follow();
         one_event_more();
         full_is_cut();
         if let Some(cause) = refusal(&self.parties, &event) {
@@ -219,7 +223,7 @@ impl World {
 
     /// The last line of the transcript: whether the history is calm and unguessed.
     pub fn last_line(&self) -> Line
-        ensures { result ≡ line.Last self.now.watch.calm self.now.watch.guesses.unguessed }
+        ensures { result ≡ line.Last self.now.watch.moments.calm self.now.watch.guesses.unguessed }
     {
         self.watch.last_line()
     }

@@ -31,7 +31,7 @@ impl Model for Watch {
 
     ghost Value = { WatchState };
 
-    ghost view = { λ w. record { calm = w.calm.calm; guesses = w.guesses; summary = w.tally; moments = w.calm } };
+    ghost view = { λ w. record { guesses = w.guesses; summary = w.tally; moments = w.calm } };
 }
 
 impl Watch {
@@ -49,7 +49,7 @@ impl Watch {
 
     /// The last line of a transcript that ends here.
     pub fn last_line(&self) -> Line
-        ensures { result ≡ Last self.now.calm self.now.guesses.unguessed }
+        ensures { result ≡ Last self.now.moments.calm self.now.guesses.unguessed }
     {
         Line::Last {
             calm: self.calm.calm(),
@@ -80,7 +80,6 @@ impl Watch {
         ensures guesses { self.new.guesses ≡ self.old.guesses }
         ensures summary { self.new.summary ≡ self.old.summary }
         ensures moments { OnOk result (self.new.moments ≡ sees_move (S.kept_of server.now) mended.now self.old.guesses.sightings network.now.messages self.old.moments lines.now) }
-        ensures calm { self.new.calm ≡ self.new.moments.calm }
     {
         see_steps(
             &mut self.calm,
@@ -100,7 +99,6 @@ impl Watch {
     pub fn see_event(&mut self, network: &Network, lines: &[Line]) -> Result<(), Memory>
         ensures seen { OnOk result (HasSeen network.now.messages lines.now self.old self.new) }
         ensures moments { self.new.moments ≡ self.old.moments }
-        ensures calm { self.new.calm ≡ self.old.calm }
     {
         count_all(&mut self.tally, lines);
         see_all(&mut self.guesses, self.alloc, network, lines)

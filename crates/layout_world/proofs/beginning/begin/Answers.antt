@@ -1,4 +1,7 @@
+use Rattle.std.proofs.Common.{rules, ◌≡◌, true}
 use Rattle.world_history.specs.Moves.{begins}
+use Rattle.layout_world.specs.Groups.{is_plain}
+use Rattle.layout_world.proofs.Acted.{plain_ok}
 use Rattle.layout_world.proofs.beginning.begin.Goals as goal
 
 pub returns-in-Deliver : goal.returns-in-Deliver
@@ -28,3 +31,8 @@ returns-in-Audit g c = rw c.in-Audit.is c.audit.ensures
 pub returns-in-Declare : goal.returns-in-Declare
 unfolding begins
 returns-in-Declare g c = rw c.in-Declare.is c.declare.ensures
+
+pub returns-in_default : goal.returns-in_default
+returns-in_default g c =
+    let plain : is_plain c.args.event.now ≡ true = search rules in
+    plain_ok c.begin_plain.result c.args.event.now c.args.parties.now c.begin_plain.new.parties plain c.begin_plain.ensures

@@ -1,0 +1,9 @@
+mod Shapes
+mod Opening
+mod Stepping
+mod Following
+mod Events
+mod Watching
+mod Notes
+mod Facts
+mod Giving
