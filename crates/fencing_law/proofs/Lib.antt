@@ -1,0 +1,12 @@
+pub mod Spelled
+pub mod Raising
+pub mod LaneLines
+pub mod Moves
+pub mod Numbers
+pub mod Reaching
+pub mod Telling
+pub mod Letters
+pub mod Heard
+pub mod Holding
+pub mod Ending
+pub mod InLines

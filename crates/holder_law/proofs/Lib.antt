@@ -1,0 +1,9 @@
+mod Fronts
+mod Parts
+mod Layouts
+mod Given
+mod Holders
+mod Addressed
+mod Named
+mod HolderLaw
+mod Fences

@@ -1,0 +1,371 @@
+-- What each part of a job leaves: which commands it sends anew, and what a fence still waits for.
+use Rattle.std.proofs.Common.{◌≡◌, ◌⊎◌, ◌&&◌, ℕ, ◌+◌, Bool, true, false, not, List, [], ◌∷◌, ◌++◌, length, refl, sym, ap, subst, ◌∙◌, arith, inl, inr, if◌then◌else◌}
+use Rattle.std.proofs.lemmas.List.{append-nil}
+use Rattle.job_law.specs.Names.{Kept, File, Component, Awaited, Job, JobKind, Work, Heard, Note, Repairing, Creates, Fences, Fetches, Stores, Targets, Gathers, Fills, Lengths, Checks, Ready, Fenced}
+use Rattle.server_rules.specs.Commands.{Raising, All, is_meant, to_each, to_all}
+use Rattle.server_rules.specs.Going.{Going, keeping, noting, rests_or}
+use Rattle.server_rules.specs.Messages.{awaited_by}
+use Rattle.server_rules.specs.Jobs.{is_made, making, ending, fenced, fence_begins, goes_on, waits_or_on, refills, remakes, loses}
+use Rattle.job_law.specs.Names.{Target, Piece}
+use Rattle.server_rules.specs.Laws.{In}
+use Rattle.job_law.specs.Numbered.{Numbered}
+use Rattle.job_law.specs.Fencing.{Reached, is_fences, is_fencing, Raises, IsAsked, IsFencing, AllRaised}
+use Rattle.job_law.proofs.Lists.{in_either}
+use Rattle.job_law.proofs.Quiet.{each_numbered, is_fenced, Quiet, From, noted, quiet_over, quiet_rests_or, IsMended, IsPlaced, quiet_repair, quiet_repairs, quiet_fetched, quiet_written, quiet_fills, quiet_gathered, quiet_filled, quiet_gone, quiet_audits, quiet_audits_all, quiet_audited}
+
+-- ---- what is left
+
+-- It sends some commands anew, numbered from the next nonce on; what it awaits was awaited or is new.
+pub record Goes (number nonce : ℕ) (sent old : List Awaited) (g : Going) : Type 0 where
+  pub number_is : g.file.kept.number ≡ number
+  pub fresh : List Awaited
+  pub sent_is : g.moved.sent ≡ sent ++ fresh
+  pub rises : g.moved.nonce ≡ nonce + length fresh
+  pub numbered : Numbered nonce fresh
+  pub waits : (a : Awaited) → In a (awaited_by g.file.job) → In a old ⊎ In a fresh
+
+abbrev pub GoesFrom : Going → Going → Type 0
+GoesFrom g h = Goes g.file.kept.number g.moved.nonce g.moved.sent (awaited_by g.file.job) h
+
+-- the note is of this file, which has that tag, and each component that isn't missing reached it
+abbrev pub Ended : Reached → Note → (tag : ℕ) → File → Type 0
+Ended R x tag f = (x.file ≡ f.kept.number) × (f.kept.tag ≡ tag) × AllRaised R f tag
+
+-- a fence still waits for what isn't raised, and further notes say that one is over only where all are
+pub record Fencing (R : Reached) (notes : List Note) (g : Going) : Type 0 where
+  pub fencing : is_fencing g.file.job ≡ true → IsFencing R g.file
+  pub ended : (x : Note) (tag : ℕ) → In x g.moved.notes → x.kind ≡ Fenced tag → In x notes ⊎ Ended R x tag g.file
+
+-- both, the second where it was so before
+abbrev pub WasFencing : Reached → File → Type 0
+WasFencing R f = is_fencing f.job ≡ true → IsFencing R f
+
+pub record Handled (R : Reached) (g h : Going) : Type 0 where
+  pub goes : GoesFrom g h
+  pub fences : WasFencing R g.file → Fencing R g.moved.notes h
+
+-- ---- from a run that ends no fence
+
+abbrev pub IsNumber : ℕ → Kept → Type 0
+IsNumber n k = k.number ≡ n
+
+pub number_mended : (n : ℕ) → IsMended (IsNumber n)
+number_mended n = record { mends = λ k is. is }
+
+pub number_placed : (n : ℕ) → IsPlaced (IsNumber n)
+number_placed n = record { places = λ k cs is. is }
+
+pub quiet_goes : (n nonce : ℕ) (sent old : List Awaited) (notes : List Note) (g : Going)
+    → Quiet (IsNumber n) nonce sent notes g
+    → Goes n nonce sent old g
+quiet_goes n nonce sent old notes g q = record {
+  number_is = q.kept;
+  fresh = awaited_by g.file.job;
+  sent_is = q.sent_is;
+  rises = q.rises;
+  numbered = q.numbered;
+  waits = λ a i. inr i;
+}
+
+pub fenced_kind : (x : Note) (tag : ℕ) → x.kind ≡ Fenced tag → is_fenced x.kind ≡ true
+fenced_kind x tag e = ap is_fenced e
+
+pub quiet_fencing : (R : Reached) (K : Kept → Type 0) (nonce : ℕ) (sent : List Awaited) (notes : List Note) (g : Going)
+    → Quiet K nonce sent notes g → Fencing R notes g
+quiet_fencing R K nonce sent notes g q = record {
+  fencing = λ e. absurd (cc (sym e ∙ q.waits));
+  ended = λ x tag i e. inl (q.ends x i (fenced_kind x tag e));
+}
+
+pub quiet_handled : (R : Reached) (g h : Going) → From (IsNumber g.file.kept.number) g h → Handled R g h
+quiet_handled R g h q = record {
+  goes = quiet_goes g.file.kept.number g.moved.nonce g.moved.sent (awaited_by g.file.job) g.moved.notes h q;
+  fences = λ was. quiet_fencing R _ g.moved.nonce g.moved.sent g.moved.notes h q;
+}
+
+-- ---- nothing new
+
+pub goes_here : (g : Going) → GoesFrom g g
+goes_here g = record {
+  number_is = refl;
+  fresh = [];
+  sent_is = sym (append-nil g.moved.sent);
+  rises = omega arith;
+  numbered = tt;
+  waits = λ a i. inl i;
+}
+
+pub fencing_here : (R : Reached) (g : Going) → WasFencing R g.file → Fencing R g.moved.notes g
+fencing_here R g was = record { fencing = was; ended = λ x tag i e. inl i }
+
+pub handled_here : (R : Reached) (g : Going) → Handled R g g
+handled_here R g = record { goes = goes_here g; fences = fencing_here R g }
+
+-- ---- the end of a fence
+
+-- the components, the tag and the number stay
+pub record IsAt (cs : List Component) (t n : ℕ) (k : Kept) : Type 0 where
+  pub components : k.components ≡ cs
+  pub tag : k.tag ≡ t
+  pub number : k.number ≡ n
+
+at_mended : (cs : List Component) (tag number : ℕ) → IsMended (IsAt cs tag number)
+at_mended cs tag number = record {
+  mends = λ k is. record { components = is.components; tag = is.tag; number = is.number };
+}
+
+-- the file with its new tag, and the note
+abbrev raised : Going → Going
+raised g =
+    noting (keeping g (record g.file.kept { tag = g.file.kept.tag + 1; phase = Repairing }))
+    (Fenced (g.file.kept.tag + 1))
+
+quiet_raised : (kind : JobKind) (g : Going)
+    → From (IsAt g.file.kept.components (g.file.kept.tag + 1) g.file.kept.number) (raised g) (fenced kind g)
+unfolding fenced
+quiet_raised kind g =
+    quiet_repair _ (at_mended _ _ _) kind (raised g) (record { components = refl; tag = refl; number = refl })
+
+pub goes_fenced : (kind : JobKind) (g : Going) (old : List Awaited)
+    → Goes g.file.kept.number g.moved.nonce g.moved.sent old (fenced kind g)
+goes_fenced kind g old =
+    let q = quiet_raised kind g in
+    record {
+      number_is = q.kept.number;
+      fresh = awaited_by (fenced kind g).file.job;
+      sent_is = q.sent_is;
+      rises = q.rises;
+      numbered = q.numbered;
+      waits = λ a i. inr i;
+    }
+
+pub ends_fenced : (R : Reached) (kind : JobKind) (g : Going) → AllRaised R g.file (g.file.kept.tag + 1)
+    → Fencing R g.moved.notes (fenced kind g)
+ends_fenced R kind g all =
+    let q = quiet_raised kind g in
+    let here : AllRaised R (fenced kind g).file (g.file.kept.tag + 1) =
+    λ at i there. all at (subst (In at) q.kept.components i) there in
+    record {
+      fencing = λ e. absurd (cc (sym e ∙ q.waits));
+      ended = λ x tag i e. elim (in_either x g.moved.notes _ (q.ends x i (fenced_kind x tag e))) [
+        | inl there ↦ inl there
+        | inr (inl same) ↦ inr (own x tag same e here)
+        | inr (inr nothing) ↦ absurd nothing
+      ];
+    }
+  where
+    same_tag : (s t : ℕ) → Fenced s ≡ Fenced t → s ≡ t
+    same_tag s t e = cc e
+
+    own : (x : Note) (tag : ℕ) → x ≡ record { file = g.file.kept.number; kind = Fenced (g.file.kept.tag + 1) }
+        → x.kind ≡ Fenced tag → AllRaised R (fenced kind g).file (g.file.kept.tag + 1)
+        → Ended R x tag (fenced kind g).file
+    own x tag same e here =
+        let is : g.file.kept.tag + 1 ≡ tag = same_tag _ tag (sym (ap (λ (y : Note). y.kind) same) ∙ e) in (
+          ap (λ (y : Note). y.file) same ∙ sym (quiet_raised kind g).kept.number,
+          (quiet_raised kind g).kept.tag ∙ is,
+          subst (AllRaised R (fenced kind g).file) is here,
+        )
+
+-- ---- its beginning
+
+raises_or : (b : Bool) (tag : ℕ) (x : Awaited) (ws bs : List Awaited) → Raises tag x
+    → ((a : Awaited) → In a ws → Raises tag a) → ((a : Awaited) → In a bs → Raises tag a)
+    → (a : Awaited) → In a (if b then x ∷ ws else bs) → Raises tag a
+raises_or true tag x ws bs own more less a (inl e) = subst (Raises tag) (sym e) own
+raises_or true tag x ws bs own more less a (inr i) = more a i
+raises_or false tag x ws bs own more less a i = less a i
+
+raises_each : (f : Kept) (cs : List Component) (k nonce : ℕ) (a : Awaited) → In a (to_each f All Raising cs k nonce)
+    → Raises f.tag a
+unfolding to_each is_meant
+raises_each f [] k nonce a i = absurd i
+raises_each f (at ∷ cs) k nonce a i =
+    raises_or (not at.missing && true) f.tag _ _ _ (record { action = refl; tagged = refl; holder = refl })
+    (raises_each f cs (k + 1) (nonce + 1)) (raises_each f cs (k + 1) nonce) a i
+
+first_asked : (b : Bool) (x : Awaited) (ws bs : List Awaited) (at : Component) → b ≡ true → x.drive ≡ at.drive
+    → x.command.object ≡ at.object → IsAsked (if b then x ∷ ws else bs) at
+first_asked true x ws bs at e drive object = (x, inl refl, drive, object)
+first_asked false x ws bs at e drive object = absurd (cc e)
+
+later_asked : (b : Bool) (x : Awaited) (ws bs : List Awaited) (at : Component) → IsAsked ws at → IsAsked bs at
+    → IsAsked (if b then x ∷ ws else bs) at
+later_asked true x ws bs at (a, i, drive, object) less = (a, inr i, drive, object)
+later_asked false x ws bs at more less = less
+
+asked_each : (f : Kept) (cs : List Component) (k nonce : ℕ) (at : Component) → In at cs → at.missing ≡ false
+    → IsAsked (to_each f All Raising cs k nonce) at
+unfolding to_each is_meant
+asked_each f [] k nonce at i there = absurd i
+asked_each f (x ∷ cs) k nonce at (inl same) there =
+    first_asked (not x.missing && true) _ _ _ at
+    (ap (λ (b : Bool). not b && true) (ap (λ (y : Component). y.missing) (sym same) ∙ there))
+    (ap (λ (y : Component). y.drive) (sym same)) (ap (λ (y : Component). y.object) (sym same))
+asked_each f (x ∷ cs) k nonce at (inr i) there =
+    later_asked (not x.missing && true) _ _ _ at (asked_each f cs (k + 1) (nonce + 1) at i there)
+    (asked_each f cs (k + 1) nonce at i there)
+
+-- where all are asked, or none is there to be asked
+fencing_or : (R : Reached) (ws : List Awaited) (kind : JobKind) (g : Going)
+    → ((a : Awaited) → In a ws → Raises g.file.kept.tag a)
+    → ((at : Component) → In at g.file.kept.components → at.missing ≡ false → IsAsked ws at)
+    → Fencing R g.moved.notes (rests_or ws g kind Fences (fenced kind g))
+fencing_or R [] kind g raises asked =
+    ends_fenced R kind g (λ at i there. absurd (asked at i there).1)
+fencing_or R (c ∷ cs) kind g raises asked = record {
+  fencing = λ e. record { raises = raises; each = λ at i there. inl (asked at i there) };
+  ended = λ x tag i e. inl i;
+}
+
+goes_or : (ws : List Awaited) (kind : JobKind) (g : Going) (old : List Awaited) → Numbered g.moved.nonce ws
+    → Goes g.file.kept.number g.moved.nonce g.moved.sent old (rests_or ws g kind Fences (fenced kind g))
+goes_or [] kind g old n = goes_fenced kind g old
+goes_or (c ∷ cs) kind g old n = record {
+  number_is = refl;
+  fresh = c ∷ cs;
+  sent_is = refl;
+  rises = refl;
+  numbered = n;
+  waits = λ a i. inr i;
+}
+
+pub handled_fence : (R : Reached) (kind : JobKind) (format : ℕ) (g : Going) → Handled R g (fence_begins kind format g)
+unfolding fence_begins
+handled_fence R kind format g =
+    let h : Going = keeping g (ending g.file.kept format) in
+    let k : Kept = ending g.file.kept format in
+    record {
+      goes = goes_or (to_all k All Raising g.moved.nonce) kind h (awaited_by g.file.job)
+          (each_numbered k All Raising k.components 0 g.moved.nonce);
+      fences = λ was. fencing_or R (to_all k All Raising g.moved.nonce) kind h
+          (raises_each k k.components 0 g.moved.nonce)
+          (asked_each k k.components 0 g.moved.nonce);
+    }
+
+-- ---- a file that is made
+
+pub quiet_is_made : (n : ℕ) (g : Going) → g.file.kept.number ≡ n → From (IsNumber n) g (is_made g)
+quiet_is_made n g is =
+    noted (IsNumber n) (keeping g (record g.file.kept { ready = true })) (is_made g) Ready refl
+    (quiet_over (IsNumber n) (noting (keeping g (record g.file.kept { ready = true })) Ready) is)
+
+pub handled_making : (R : Reached) (g : Going) → Handled R g (making g)
+unfolding making
+handled_making R g =
+    quiet_handled R g _
+    (quiet_rests_or (IsNumber g.file.kept.number) _ g _ _ _ refl
+    (each_numbered g.file.kept _ _ g.file.kept.components 0 g.moved.nonce) refl
+    (quiet_is_made g.file.kept.number g refl))
+
+-- ---- the job goes on
+
+-- the next part of a job that isn't a fence
+quiet_on : (kind : JobKind) (work : Work) (heard : List Heard) (g : Going) → is_fences work ≡ false
+    → From (IsNumber g.file.kept.number) g (goes_on kind work heard g)
+unfolding goes_on
+quiet_on kind Creates heard g e = quiet_is_made g.file.kept.number g refl
+quiet_on kind Fences heard g e = absurd (cc e)
+quiet_on kind (Fetches ps short) heard g e = quiet_fetched _ (number_mended _) kind g ps short heard refl
+quiet_on kind (Stores ps short broken) heard g e = quiet_written _ (number_mended _) kind g ps short broken refl
+quiet_on kind (Targets t) heard g e = quiet_fills _ (number_placed _) g t _ refl
+quiet_on kind (Gathers t ps) heard g e = quiet_gathered _ (number_placed _) g t ps heard refl
+quiet_on kind (Fills t ps) heard g e = quiet_filled _ (number_placed _) g t ps refl
+quiet_on kind Lengths heard g e = quiet_audits_all _ g heard refl
+quiet_on kind (Checks ps t) heard g e = quiet_audited _ g ps t heard refl
+
+-- it waits for what is left, or goes on
+pub goes_waits : (g : Going) (j : Job) (work : Work) (rest : List Awaited) (heard : List Heard) (old : List Awaited)
+    → ((a : Awaited) → In a rest → In a old)
+    → Goes g.file.kept.number g.moved.nonce g.moved.sent old (waits_or_on g j work rest heard)
+unfolding goes_on
+goes_waits g j Fences [] heard old left = goes_fenced j.kind g old
+goes_waits g j work [] heard old left =
+    quiet_goes g.file.kept.number g.moved.nonce g.moved.sent old g.moved.notes _ (quiet_on j.kind work heard g refl)
+goes_waits g j work (c ∷ cs) heard old left = record {
+  number_is = refl;
+  fresh = [];
+  sent_is = sym (append-nil g.moved.sent);
+  rises = omega arith;
+  numbered = tt;
+  waits = λ a i. inl (left a i);
+}
+
+-- a fence goes on where what is left is awaited of each component that isn't missing
+pub fencing_waits : (R : Reached) (g : Going) (j : Job) (rest : List Awaited) (heard : List Heard)
+    → ((a : Awaited) → In a rest → Raises g.file.kept.tag a)
+    → ((at : Component) → In at g.file.kept.components → at.missing ≡ false →
+    IsAsked rest at ⊎ (R at.drive at.object (g.file.kept.tag + 1) ≡ true))
+    → Fencing R g.moved.notes (waits_or_on g j Fences rest heard)
+unfolding goes_on
+fencing_waits R g j [] heard raises each =
+    ends_fenced R j.kind g (λ at i there. elim (each at i there) [
+      | inl (a, none, drive, object) ↦ absurd none
+      | inr r
+          ↦ r
+    ])
+fencing_waits R g j (c ∷ cs) heard raises each = record {
+  fencing = λ e. record { raises = raises; each = each };
+  ended = λ x tag i e. inl i;
+}
+
+-- any other job ends no fence, and begins none
+pub other_waits : (R : Reached) (g : Going) (j : Job) (work : Work) (rest : List Awaited) (heard : List Heard)
+    → is_fences work ≡ false → Fencing R g.moved.notes (waits_or_on g j work rest heard)
+other_waits R g j work [] heard e =
+    quiet_fencing R _ g.moved.nonce g.moved.sent g.moved.notes _ (quiet_on j.kind work heard g e)
+other_waits R g j work (c ∷ cs) heard e = record {
+  fencing = λ t. absurd (cc (sym t ∙ e));
+  ended = λ x tag i t. inl i;
+}
+
+-- ---- a component becomes missing
+
+quiet_refills : (K : Kept → Type 0) → IsPlaced K → (g : Going) (t : Target) (ps : List Piece) (gone : Bool)
+    → K g.file.kept
+    → From K g (refills g t ps gone)
+quiet_refills K c g t ps true k = quiet_gone K g t k
+quiet_refills K c g t ps false k = quiet_fills K c g t ps k
+
+goes_remakes : (g : Going) (t : Target) (gone : Bool) → GoesFrom g (remakes g t gone)
+goes_remakes g t true =
+    quiet_goes g.file.kept.number g.moved.nonce g.moved.sent (awaited_by g.file.job) g.moved.notes _
+    (quiet_gone (IsNumber g.file.kept.number) g t refl)
+goes_remakes g t false = goes_here g
+
+other_remakes : (R : Reached) (g : Going) (t : Target) (gone : Bool) → is_fencing g.file.job ≡ false
+    → Fencing R g.moved.notes (remakes g t gone)
+other_remakes R g t true none =
+    quiet_fencing R _ g.moved.nonce g.moved.sent g.moved.notes _ (quiet_gone (IsNumber g.file.kept.number) g t refl)
+other_remakes R g t false none = fencing_here R g (λ e. absurd (cc (sym e ∙ none)))
+
+pub goes_loses : (g : Going) (j : Job) (work : Work) (rest : List Awaited) (gone : Bool)
+    → ((a : Awaited) → In a rest → In a (awaited_by g.file.job)) → GoesFrom g (loses g j work rest gone)
+unfolding loses
+goes_loses g j (Fetches ps short) rest gone left =
+    quiet_goes _ _ _ _ _ _ (quiet_repairs (IsNumber g.file.kept.number) (number_mended _) j.kind g ps short refl)
+goes_loses g j (Stores ps short broken) rest gone left = goes_waits g j _ rest _ _ left
+goes_loses g j (Targets t) rest gone left = goes_remakes g t gone
+goes_loses g j (Gathers t ps) rest gone left =
+    quiet_goes _ _ _ _ _ _ (quiet_refills (IsNumber g.file.kept.number) (number_placed _) g t ps gone refl)
+goes_loses g j (Fills t ps) rest gone left =
+    quiet_goes _ _ _ _ _ _ (quiet_refills (IsNumber g.file.kept.number) (number_placed _) g t ps gone refl)
+goes_loses g j (Checks ps t) rest gone left =
+    quiet_goes _ _ _ _ _ _ (quiet_audits (IsNumber g.file.kept.number) g ps t refl)
+goes_loses g j work rest gone left = goes_waits g j work rest j.heard _ left
+
+pub other_loses : (R : Reached) (g : Going) (j : Job) (work : Work) (rest : List Awaited) (gone : Bool)
+    → is_fences work ≡ false → is_fencing g.file.job ≡ false → Fencing R g.moved.notes (loses g j work rest gone)
+unfolding loses
+other_loses R g j Fences rest gone e none = absurd (cc e)
+other_loses R g j (Fetches ps short) rest gone e none =
+    quiet_fencing R _ _ _ _ _ (quiet_repairs (IsNumber g.file.kept.number) (number_mended _) j.kind g ps short refl)
+other_loses R g j (Stores ps short broken) rest gone e none = other_waits R g j _ rest _ refl
+other_loses R g j (Targets t) rest gone e none = other_remakes R g t gone none
+other_loses R g j (Gathers t ps) rest gone e none =
+    quiet_fencing R _ _ _ _ _ (quiet_refills (IsNumber g.file.kept.number) (number_placed _) g t ps gone refl)
+other_loses R g j (Fills t ps) rest gone e none =
+    quiet_fencing R _ _ _ _ _ (quiet_refills (IsNumber g.file.kept.number) (number_placed _) g t ps gone refl)
+other_loses R g j (Checks ps t) rest gone e none =
+    quiet_fencing R _ _ _ _ _ (quiet_audits (IsNumber g.file.kept.number) g ps t refl)
+other_loses R g j work rest gone e none = other_waits R g j work rest j.heard e

@@ -1,0 +1,4 @@
+pub mod Names
+pub mod Numbered
+pub mod Fencing
+pub mod Recalled
