@@ -1,5 +1,6 @@
 pub mod Pieces
 pub mod Telling
+pub mod Written
 pub mod SoFar
 pub mod Promised
 pub mod Words

@@ -9,9 +9,10 @@ use Rattle.scenario_text.specs.declared.line.Line.TheVariants.{Last}
 use Rattle.scenario_text.specs.LineSpelling.{lines_text}
 use Rattle.world_history.specs.State.{empty_world}
 use Rattle.world_history.specs.declared.summary.Summary.{Summary}
-use Rattle.world_watch.specs.Watching.{Watches}
+use Rattle.book_law.specs.Read.{is_written}
+use Rattle.calm_moves.specs.Watching.{WatchesAll}
 use Rattle.layout_world.specs.State.{WorldState, Shows}
-use Rattle.history_law.specs.Safe.{HistoriesAreSafe}
+use Rattle.history_claims.specs.Sound.{HistoriesAreSound}
 use Rattle.osd_replay.specs.Ends.{Ends, PutsError}
 use Rattle.osd_replay.specs.Puts.{Puts}
 use Rattle.osd_replay.specs.Stops.{error_of, status_of}
@@ -22,27 +23,27 @@ use Rattle.osd_replay.specs.declared.carry_out.Carried.{Carried}
 use Rattle.osd_replay.specs.declared.generate.Digested.{Digested}
 use Rattle.osd_replay.specs.declared.stop.Stop.{Stop}
 use Rattle.osd_replay.specs.declared.stop.Stop.TheVariants.{Refused, Read, Memory, Full}
-use Rattle.osd_replay.proofs.Telling.{told_safe, tells_none, tells_more, last_said}
+use Rattle.osd_replay.proofs.Telling.{told_sound, tells_none, tells_more, last_said}
 use Rattle.osd_replay.proofs.SoFar.{text_more, appends_none}
 use Rattle.osd_replay.proofs.Promised.{tells}
 
 -- ---- one event more
 
-made_by : (front : List Event) (e : Event) (old new : Digested) (text : List ℕ) (is_full : Bool) → is_full ≡ false → (m : Made front old) → CarriesBy m.world e old.world new.world text is_full
+made_by : (front : List Event) (e : Event) (old new : Digested) (text : List ℕ) (is_full : Bool) → is_full ≡ false → is_written e ≡ true → (m : Made front old) → CarriesBy m.world e old.world new.world text is_full
     → ((m : List ℕ) → Holds old.digest m → Holds new.digest (m ++ text)) → Made (front ++ e ∷ []) new
-made_by front e old new text true whole m by holds = absurd (cc whole)
-made_by front e old new text false whole m by holds = record {
+made_by front e old new text true whole may m by holds = absurd (cc whole)
+made_by front e old new text false whole may m by holds = record {
   world = by.world;
   history = m.history ++ by.lines;
   shows = by.shows;
   tells = tells_more front m.world by.world m.history by.lines e m.tells by.carries;
-  watches = by.watches m.history m.tells.stands m.watches;
+  watches = by.watches m.history m.tells.stands may m.watches;
   holds = subst (λ (x : List ℕ). Holds new.digest x) (sym (text_more m.history by.lines ∙ ap (λ (x : List ℕ). lines_text m.history ++ x) (sym by.text_is))) (holds (lines_text m.history) m.holds);
 }
 
-pub made_more : (front : List Event) (e : Event) (old new : Digested) (carried : Carried) → carried.is_full ≡ false → Made front old → CarriesEvent e old.world new.world carried
+pub made_more : (front : List Event) (e : Event) (old new : Digested) (carried : Carried) → carried.is_full ≡ false → is_written e ≡ true → Made front old → CarriesEvent e old.world new.world carried
     → ((m : List ℕ) → Holds old.digest m → Holds new.digest (m ++ carried.text)) → Made (front ++ e ∷ []) new
-made_more front e old new carried whole m carries holds = made_by front e old new carried.text carried.is_full whole m (carries m.world m.shows) holds
+made_more front e old new carried whole may m carries holds = made_by front e old new carried.text carried.is_full whole may m (carries m.world m.shows) holds
 
 fills_by : (front : List Event) (e : Event) (old : Digested) (new : WorldState) (text : List ℕ) (is_full : Bool) → is_full ≡ true → (m : Made front old) → CarriesBy m.world e old.world new text is_full → FillsBehind front e
 fills_by front e old new text false full m by = absurd (cc full)
@@ -69,11 +70,11 @@ stops_among all front rest e (Full quantity) is h = record { events = front; nex
 -- ---- the whole scenario
 
 -- nothing was made yet
-pub made_none : (d : Digested) → Shows d.world.parties empty_world → Watches [] d.world.watch → Holds d.digest [] → Made [] d
+pub made_none : (d : Digested) → Shows d.world.parties empty_world → WatchesAll [] d.world.watch → Holds d.digest [] → Made [] d
 made_none d shows watches holds = record { world = empty_world; history = []; shows = shows; tells = tells_none; watches = watches; holds = holds }
 
-pub comes_to : HistoriesAreSafe → (seed calls : ℕ) (events : List Event) (d : Digested) (text : List ℕ) → events ≡ scenario_of seed calls → Made events d
-    → ((h : List Line) → Holds d.digest (lines_text h) → text ≡ result_text d.world.watch.summary h (Last d.world.watch.calm d.world.watch.guesses.unguessed)) → ComesTo seed calls text
+pub comes_to : HistoriesAreSound → (seed calls : ℕ) (events : List Event) (d : Digested) (text : List ℕ) → events ≡ scenario_of seed calls → Made events d
+    → ((h : List Line) → Holds d.digest (lines_text h) → text ≡ result_text d.world.watch.summary h (Last d.world.watch.moments.calm d.world.watch.guesses.unguessed)) → ComesTo seed calls text
 comes_to law seed calls events d text is m told =
     let here : Made (scenario_of seed calls) d = subst (λ (es : List Event). Made es d) is m in
     record {
@@ -81,13 +82,13 @@ comes_to law seed calls events d text is m told =
         world = here.world;
         history = here.history;
         tells = here.tells;
-        safe = told_safe law (scenario_of seed calls) here.world here.history here.tells;
-        last = Last d.world.watch.calm d.world.watch.guesses.unguessed;
-        ends = record { state = d.world; shows = here.shows; last_is = last_said d.world here.history here.watches };
+        sound = told_sound law (scenario_of seed calls) here.world here.history here.tells;
+        last = Last d.world.watch.moments.calm d.world.watch.guesses.unguessed;
+        ends = last_said d.world here.history here.watches;
       };
       text_is =
           told here.history here.holds
-          ∙ ap (λ (s : Summary). result_text s here.history (Last d.world.watch.calm d.world.watch.guesses.unguessed)) here.watches.summary;
+          ∙ ap (λ (s : Summary). result_text s here.history (Last d.world.watch.moments.calm d.world.watch.guesses.unguessed)) here.watches.told.summary;
     }
 
 pub all_told : (seed calls : ℕ) (b a : Ends) (text : List ℕ) → ComesTo seed calls text → Appends b.taken a.taken text → a.writes_failed ≡ b.writes_failed → IsDone seed calls b a

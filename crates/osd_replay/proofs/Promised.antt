@@ -13,9 +13,9 @@ use Rattle.osd_bytes.proofs.Known.{Appends-then}
 use Rattle.scenario_text.specs.declared.line.Line.{Line}
 use Rattle.scenario_text.specs.LineSpelling.{lines_text}
 use Rattle.world_history.specs.State.{World, empty_world}
-use Rattle.world_watch.specs.Watching.{Watches}
-use Rattle.layout_world.specs.State.{WorldState, Shows}
-use Rattle.history_law.specs.Safe.{HistoriesAreSafe}
+use Rattle.calm_moves.specs.Watching.{WatchesAll}
+use Rattle.layout_world.specs.State.{WorldState}
+use Rattle.history_claims.specs.Sound.{HistoriesAreSound}
 use Rattle.osd_replay.specs.Transcript.{Tells, EndsWith}
 use Rattle.osd_replay.specs.Errors.{error_line, full_name, kind_name}
 use Rattle.osd_replay.specs.Puts.{Puts}
@@ -33,7 +33,7 @@ use Rattle.osd_replay.specs.declared.status.Status.{Status}
 use Rattle.osd_replay.specs.declared.status.Status.TheVariants.{Done, BadWords, BadScenario, ReadFault, WriteFault, Memory, Full as IsFull}
 use Rattle.osd_replay.specs.declared.stop.Stop.{Stop}
 use Rattle.osd_replay.specs.declared.stop.Stop.TheVariants.{Refused, Read, Memory as WantsMemory, Full as StopsFull}
-use Rattle.osd_replay.proofs.Telling.{told_safe, tells_none, tells_more}
+use Rattle.osd_replay.proofs.Telling.{told_sound, tells_none, tells_more}
 use Rattle.osd_replay.proofs.SoFar.{SoFar, Reached, events_more, text_more, reached_more, reached_none, appends_none}
 
 -- what went out before an error line, and that line
@@ -62,7 +62,7 @@ all_lines (Some input) lines taken (Some rest) None r y = absurd y
 all_lines (Some input) lines taken (Some rest) (Some later) r y = r.3 ∙ ap (λ (x : List ℕ). lines ++ lines_of x) y ∙ append-nil lines
 
 runs : (input now : Option (List ℕ)) (taken : ℕ) (before after : Option (List ℕ)) (number : ℕ) (state : WorldState) → (s : SoFar input now taken before after number state) → Runs input s.lines s.world s.history
-runs input now taken before after number state s = record { begins = begins input s.lines taken now s.reached; events = s.events; spelled = s.spelled; tells = s.tells; safe = told_safe s.law s.events s.world s.history s.tells }
+runs input now taken before after number state s = record { begins = begins input s.lines taken now s.reached; events = s.events; spelled = s.spelled; tells = s.tells; sound = told_sound s.law s.events s.world s.history s.tells }
 
 -- the front of some bytes and those behind them
 front_and_more : (xs ys zs : List ℕ) (n : ℕ) → zs ≡ xs ++ ys → take (length xs + n) zs ≡ xs ++ take n ys
@@ -84,7 +84,7 @@ part_of b a middle text front more upto is split short out part rose =
     }
 
 pub finished : (b a : Ends) (now next : Option (List ℕ)) (taken : ℕ) (middle : Option (List ℕ)) (number failed : ℕ) (state : WorldState) (last : Line) (status : Status) → SoFar b.left now taken b.taken middle number state →
-    Yields now next (Ok None) → IsAtEnd a.left → a.reads_failed ≡ b.reads_failed → failed ≡ b.writes_failed → ((w : World) (h : List Line) → Shows state.parties w → Watches h state.watch → EndsWith w h last) → Finishes last middle a.taken failed a.writes_failed status → Promises b a status
+    Yields now next (Ok None) → IsAtEnd a.left → a.reads_failed ≡ b.reads_failed → failed ≡ b.writes_failed → ((h : List Line) → WatchesAll h state.watch → EndsWith h last) → Finishes last middle a.taken failed a.writes_failed status → Promises b a status
 finished b a now next taken middle number failed state last Done s y end reads writes ends fin = record {
   lines = s.lines;
   world = s.world;
@@ -92,7 +92,7 @@ finished b a now next taken middle number failed state last Done s y end reads w
   runs = runs b.left now taken b.taken middle number state s;
   all = all_lines b.left s.lines taken now next s.reached y;
   last = last;
-  ends = ends s.world s.history s.shows s.watches;
+  ends = ends s.history s.watches;
   out = subst (Appends b.taken a.taken) (sym (text_more s.history (last ∷ []))) (Appends-then b.taken middle a.taken (lines_text s.history) (lines_text (last ∷ [])) s.out fin.0);
   at_end = end;
   reads = reads;
@@ -100,7 +100,7 @@ finished b a now next taken middle number failed state last Done s y end reads w
 }
 finished b a now next taken middle number failed state last WriteFault s y end reads writes ends fin =
     part_of b a middle (s.history ++ last ∷ []) s.history (last ∷ []) fin.0
-    (Ended s.lines s.world s.history last (runs b.left now taken b.taken middle number state s) (all_lines b.left s.lines taken now next s.reached y) (ends s.world s.history s.shows s.watches) refl)
+    (Ended s.lines s.world s.history last (runs b.left now taken b.taken middle number state s) (all_lines b.left s.lines taken now next s.reached y) (ends s.history s.watches) refl)
     refl fin.1 s.out fin.2 (subst (λ x. Rose x a.writes_failed) writes fin.3)
 finished b a now next taken middle number failed state last Memory s y end reads writes ends fin = record {
   lines = s.lines;
@@ -213,7 +213,7 @@ cuts_next b now next taken more middle number old new line carried s y t c cut =
   spells = c.spells;
   fills = cut.fills;
   lawful = cut.lawful s.history s.tells.stands;
-  safe = s.law (s.history ++ cut.lines) (cut.lawful s.history s.tells.stands);
+  sound = s.law (s.history ++ cut.lines) (cut.lawful s.history s.tells.stands);
 }
 
 -- the sink fails in the lines of an event
@@ -230,7 +230,7 @@ part_by b a now next taken more middle number upto old new line carried false s 
       events = s.events ++ c.event ∷ [];
       spelled = events_more s.lines s.events line (c.event ∷ []) s.spelled (inr (c.event, [], refl, c.fits, c.spells, refl));
       tells = told;
-      safe = told_safe s.law (s.events ++ c.event ∷ []) by.world (s.history ++ by.lines) told;
+      sound = told_sound s.law (s.events ++ c.event ∷ []) by.world (s.history ++ by.lines) told;
     } in
     part_of b a middle (s.history ++ by.lines) s.history by.lines upto (Whole (s.lines ++ line ∷ []) by.world go) refl
     (rw by.text_is at short) s.out (rw by.text_is at out) rose
@@ -273,12 +273,12 @@ cut_put b a now next taken more middle told number failed whole old new line car
     cut_by b a now next taken more middle told number failed whole old new line carried carried.is_full full s y t c (c.carries s.world s.shows) out same put
 
 -- there is no memory for the world: nothing was read
-pub no_world : HistoriesAreSafe → (b a : Ends) (whole : Bool) → Puts b.taken a.taken b.writes_failed a.writes_failed (error_of WantsMemory 0) whole → Promises b a Memory
+pub no_world : HistoriesAreSound → (b a : Ends) (whole : Bool) → Puts b.taken a.taken b.writes_failed a.writes_failed (error_of WantsMemory 0) whole → Promises b a Memory
 no_world law b a whole put = record {
   lines = [];
   world = empty_world;
   history = [];
-  runs = record { begins = begins b.left [] 0 b.left (reached_none b.left); events = []; spelled = refl; tells = tells_none; safe = told_safe law [] empty_world [] tells_none };
+  runs = record { begins = begins b.left [] 0 b.left (reached_none b.left); events = []; spelled = refl; tells = tells_none; sound = told_sound law [] empty_world [] tells_none };
   number = 0;
   number_is = inr (refl, inl refl);
   puts = tells b a b.taken [] (error_line 0 (codes "memory")) b.writes_failed whole (appends_none b.taken) put refl;

@@ -9,14 +9,15 @@ use Rattle.scenario_text.specs.declared.event.Event.{Event}
 use Rattle.scenario_text.specs.declared.line.Line.{Line}
 use Rattle.scenario_text.specs.LineSpelling.{line_text, lines_text}
 use Rattle.world_history.specs.State.{World, empty_world}
-use Rattle.world_watch.specs.Watching.{Watches}
+use Rattle.calm_moves.specs.Watching.{WatchesAll}
 use Rattle.layout_world.specs.State.{WorldState, Shows}
-use Rattle.history_law.specs.Safe.{HistoriesAreSafe}
+use Rattle.history_claims.specs.Sound.{HistoriesAreSound}
 use Rattle.osd_replay.specs.Transcript.{Tells}
 use Rattle.osd_replay.specs.Replay.{HasEvents}
 use Rattle.osd_replay.specs.LineCarried.{CarriesLine, CarriesSpelled, CarriesBy}
 use Rattle.osd_replay.specs.declared.carry_out.Carried.{Carried}
 use Rattle.osd_replay.proofs.Telling.{tells_none, tells_more}
+use Rattle.osd_replay.proofs.Written.{fits_written}
 
 -- the input's bytes up to those that are still to come, and their lines
 abbrev pub Reached : Option (List ℕ) → List (List ℕ) → ℕ → Option (List ℕ) → Type 0
@@ -34,9 +35,9 @@ pub record SoFar (input now : Option (List ℕ)) (taken : ℕ) (before after : O
   pub spelled : HasEvents lines events
   pub tells : Tells events world history
   pub shows : Shows state.parties world
-  pub watches : Watches history state.watch
+  pub watches : WatchesAll history state.watch
   pub out : Appends before after (lines_text history)
-  pub law : HistoriesAreSafe
+  pub law : HistoriesAreSound
 
 -- ---- lists that grow at their end
 
@@ -71,10 +72,10 @@ pub record OneMore (lines : List (List ℕ)) (history : List Line) (line text : 
   pub spelled : HasEvents (lines ++ line ∷ []) events_after
   pub tells : Tells events_after world_after history_after
   pub shows : Shows new.parties world_after
-  pub watches : Watches history_after new.watch
+  pub watches : WatchesAll history_after new.watch
   pub text_is : lines_text history_after ≡ lines_text history ++ text
 
-spells_more : (lines : List (List ℕ)) (events : List Event) (w : World) (h : List Line) (line : List ℕ) (old new : WorldState) (carried : Carried) (is_full : Bool) → is_full ≡ false → HasEvents lines events → Tells events w h → Watches h old.watch →
+spells_more : (lines : List (List ℕ)) (events : List Event) (w : World) (h : List Line) (line : List ℕ) (old new : WorldState) (carried : Carried) (is_full : Bool) → is_full ≡ false → HasEvents lines events → Tells events w h → WatchesAll h old.watch →
     (c : CarriesSpelled line old new carried) → CarriesBy w c.event old new carried.text is_full → OneMore lines h line carried.text new
 spells_more lines events w h line old new carried true whole spelled tells watches c by = absurd (cc whole)
 spells_more lines events w h line old new carried false whole spelled tells watches c by = record {
@@ -84,12 +85,12 @@ spells_more lines events w h line old new carried false whole spelled tells watc
   spelled = events_more lines events line (c.event ∷ []) spelled (inr (c.event, [], refl, c.fits, c.spells, refl));
   tells = tells_more events w by.world h by.lines c.event tells by.carries;
   shows = by.shows;
-  watches = by.watches h tells.stands watches;
+  watches = by.watches h tells.stands (fits_written c.event c.fits) watches;
   text_is = text_more h by.lines ∙ ap (λ (x : List ℕ). lines_text h ++ x) (sym by.text_is);
 }
 
 pub one_more : (lines : List (List ℕ)) (events : List Event) (w : World) (h : List Line) (line : List ℕ) (old new : WorldState) (carried : Carried) → carried.is_full ≡ false → HasEvents lines events → Tells events w h →
-    Shows old.parties w → Watches h old.watch → CarriesLine line old new carried → OneMore lines h line carried.text new
+    Shows old.parties w → WatchesAll h old.watch → CarriesLine line old new carried → OneMore lines h line carried.text new
 one_more lines events w h line old new carried whole spelled tells shows watches (inl skips) = record {
   events_after = events;
   world_after = w;
@@ -97,7 +98,7 @@ one_more lines events w h line old new carried whole spelled tells shows watches
   spelled = subst (HasEvents (lines ++ line ∷ [])) (append-nil events) (events_more lines events line [] spelled (inl (skips.skipped, refl)));
   tells = tells;
   shows = subst (λ (s : WorldState). Shows s.parties w) (sym skips.state) shows;
-  watches = subst (λ (s : WorldState). Watches h s.watch) (sym skips.state) watches;
+  watches = subst (λ (s : WorldState). WatchesAll h s.watch) (sym skips.state) watches;
   text_is = sym (append-nil (lines_text h)) ∙ ap (λ (x : List ℕ). lines_text h ++ x) (sym skips.text);
 }
 one_more lines events w h line old new carried whole spelled tells shows watches (inr c) =
@@ -130,7 +131,7 @@ pub appends_none : (taken : Option (List ℕ)) → Appends taken taken []
 appends_none None = tt
 appends_none (Some bytes) = sym (append-nil bytes)
 
-pub nothing_yet : (input : Option (List ℕ)) (taken : Option (List ℕ)) (state : WorldState) → Shows state.parties empty_world → Watches [] state.watch → HistoriesAreSafe → SoFar input input 0 taken taken 0 state
+pub nothing_yet : (input : Option (List ℕ)) (taken : Option (List ℕ)) (state : WorldState) → Shows state.parties empty_world → WatchesAll [] state.watch → HistoriesAreSound → SoFar input input 0 taken taken 0 state
 nothing_yet input taken state shows watches law = record {
   lines = [];
   events = [];

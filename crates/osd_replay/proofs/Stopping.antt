@@ -19,12 +19,12 @@ use Rattle.osd_replay.specs.declared.stop.Stop.TheVariants.{Refused, Read, Memor
 
 -- ---- a step of the world
 
-pub carried_by : (e : Event) (lines : List Line) (old new : WorldState) (r : Result (Unit {0}) WorldErr) (is_full : Bool) (text : List ℕ) (w : World) → StepsAs e [] lines old new r → OnOk r (WatchesOn [] lines old new) → step_gives r ≡ Ok is_full → text ≡ lines_text lines
+pub carried_by : (e : Event) (lines : List Line) (old new : WorldState) (r : Result (Unit {0}) WorldErr) (is_full : Bool) (text : List ℕ) (w : World) → StepsAs e [] lines old new r → OnOk r (WatchesOn e [] lines old new) → step_gives r ≡ Ok is_full → text ≡ lines_text lines
     → Shows old.parties w → CarriesBy w e old new text is_full
 carried_by e lines old new (Ok u) true text w steps on full is shows = absurd (cc full)
 carried_by e lines old new (Ok u) false text w steps on full is shows =
     let s = steps w shows in
-    record { lines = s.goes.lines; world = s.world; shows = s.shows; carries = s.goes.carries; watches = λ h st k. on w h s.goes.lines shows st s.goes.appended k; text_is = is ∙ ap lines_text s.goes.appended }
+    record { lines = s.goes.lines; world = s.world; shows = s.shows; carries = s.goes.carries; watches = λ h st may k. on w h s.goes.lines shows st s.goes.appended may k; text_is = is ∙ ap lines_text s.goes.appended }
 carried_by e lines old new (Err why.KeptFull) false text w steps on full is shows = absurd (cc full)
 carried_by e lines old new (Err why.KeptFull) true text w steps on full is shows =
     let s = steps w shows in

@@ -8,11 +8,11 @@ use Rattle.world_history.specs.State.{World, empty_world}
 use Rattle.world_history.specs.Runs.{Carries}
 use Rattle.world_history.specs.History.{Step, AreCarried, end_of, lines_of_steps}
 use Rattle.world_history.specs.History.Begins.{Nothing}
-use Rattle.world_history.specs.Guesses.{unguessed}
-use Rattle.world_watch.specs.Watching.{Watches}
+use Rattle.world_history.specs.Calm.{calm}
+use Rattle.calm_moves.specs.Watching.{WatchesAll}
 use Rattle.layout_world.specs.State.{WorldState}
-use Rattle.history_law.specs.Safe.{IsSafe, HistoriesAreSafe}
-use Rattle.osd_replay.specs.Transcript.{Tells}
+use Rattle.history_claims.specs.Sound.{IsSound, HistoriesAreSound}
+use Rattle.osd_replay.specs.Transcript.{Tells, EndsWith}
 
 carried_more : (w : World) (steps : List Step) (s : Step) → AreCarried w steps
     → Carries (end_of w steps) s.event s.lines s.after → AreCarried w (steps ++ s ∷ [])
@@ -29,14 +29,16 @@ lines_more (x ∷ steps) s =
     ap (λ (l : List Line). x.lines ++ l) (lines_more steps s)
     ∙ sym (append_assoc x.lines (lines_of_steps steps) s.lines)
 
--- the flag that is kept is the history's
-pub last_said : (s : WorldState) (h : List Line) → Watches h s.watch
-    → Last s.watch.calm s.watch.guesses.unguessed ≡ Last s.watch.calm (unguessed h)
-last_said s h k = ap (λ (b : Bool). Last s.watch.calm b) k.guesses.unguessed
+-- the flags that are kept are the history's
+pub last_said : (s : WorldState) (h : List Line) → WatchesAll h s.watch
+    → EndsWith h (Last s.watch.moments.calm s.watch.guesses.unguessed)
+last_said s h k =
+    ap (λ (b : Bool). Last b s.watch.guesses.unguessed) k.moments.calm
+    ∙ ap (λ (b : Bool). Last (calm h) b) k.told.guesses.unguessed
 
--- a history for which a world stands is safe, as each lawful one
-pub told_safe : HistoriesAreSafe → (events : List Event) (w : World) (h : List Line) → Tells events w h → IsSafe h
-told_safe law events w h t =
+-- a history for which a world stands is sound, as each lawful one
+pub told_sound : HistoriesAreSound → (events : List Event) (w : World) (h : List Line) → Tells events w h → IsSound h
+told_sound law events w h t =
     law h
     (record {
       world = w;

@@ -1,5 +1,5 @@
 -- What is promised of a scenario that is made from a seed.
-use Rattle.std.specs.Prelude.{◌≡◌, ℕ, ◌<◌, List, [], ◌∷◌, ◌++◌, length, take, codes, ⊤, Some}
+use Rattle.std.specs.Prelude.{◌≡◌, ℕ, ◌<◌, true, List, [], ◌∷◌, ◌++◌, length, take, codes, ⊤, Some}
 use Rattle.std.specs.Io.KnownBytes.{Appends}
 use Rattle.std.specs.Fmt.{decimal}
 use Rattle.hex.specs.Hex.{encode_lower}
@@ -16,9 +16,10 @@ use Rattle.world_history.specs.Refusals.{refusal}
 use Rattle.world_history.specs.Runs.{FillsUp}
 use Rattle.world_history.specs.Summing.{summary_of}
 use Rattle.world_tally.specs.Capping.{capped_summary}
-use Rattle.world_watch.specs.Watching.{Watches}
+use Rattle.book_law.specs.Read.{is_written}
+use Rattle.calm_moves.specs.Watching.{WatchesAll}
 use Rattle.layout_world.specs.State.{Shows}
-use Rattle.history_law.specs.Safe.{IsSafe}
+use Rattle.history_claims.specs.Sound.{IsSound}
 use Rattle.osd_replay.specs.Ends.{Ends, PutsError}
 use Rattle.osd_replay.specs.Errors.{error_line, full_name, kind_name}
 use Rattle.osd_replay.specs.Generator.{scenario_of}
@@ -65,7 +66,7 @@ pub record Made (events : List Event) (d : Digested) : Type 0 where
   pub history : List Line
   pub shows : Shows d.world.parties world
   pub tells : Tells events world history
-  pub watches : Watches history d.world.watch
+  pub watches : WatchesAll history d.world.watch
   pub holds : Holds d.digest (lines_text history)
 
 -- behind these events the next one is refused, for that cause
@@ -97,9 +98,14 @@ StopsBehind events e Read = ⊥
 StopsBehind events e WantsMemory = ⊤
 StopsBehind events e (StopsFull quantity) = FullBehind events e quantity
 
--- one event more was carried out
+-- one event more was carried out, which a text may have
 abbrev pub MakesMore : Event → (old new : Digested) → Type 0
-MakesMore e old new = (front : List Event) → Made front old → Made (front ++ e ∷ []) new
+MakesMore e old new = is_written e ≡ true → (front : List Event) → Made front old → Made (front ++ e ∷ []) new
+
+-- a text may have each of these
+abbrev pub MayBeWritten : List Event → Type 0
+MayBeWritten [] = ⊤
+MayBeWritten (e ∷ es) = (is_written e ≡ true) × MayBeWritten es
 
 abbrev pub StopsMaking : Event → Digested → Stop → Type 0
 StopsMaking e old stop = (front : List Event) → Made front old → StopsBehind front e stop
@@ -123,7 +129,7 @@ StopsAmong all stop = StopsAt all stop
 abbrev pub IsToldOf : Digested → List ℕ → Type 0
 IsToldOf d text =
     (h : List Line) → Holds d.digest (lines_text h)
-    → text ≡ result_text d.world.watch.summary h (Last d.world.watch.calm d.world.watch.guesses.unguessed)
+    → text ≡ result_text d.world.watch.summary h (Last d.world.watch.moments.calm d.world.watch.guesses.unguessed)
 
 -- All events of the scenario were carried out: this is their history, of which holds what holds of every one, and the
 -- last line of it.
@@ -131,9 +137,9 @@ pub record Outcome (seed calls : ℕ) : Type 0 where
   pub world : World
   pub history : List Line
   pub tells : Tells (scenario_of seed calls) world history
-  pub safe : IsSafe history
+  pub sound : IsSound history
   pub last : Line
-  pub ends : EndsWith world history last
+  pub ends : EndsWith history last
 
 -- what is told of it
 abbrev pub outcome_text : (seed calls : ℕ) → Outcome seed calls → List ℕ

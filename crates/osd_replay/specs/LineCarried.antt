@@ -13,7 +13,8 @@ use Rattle.world_history.specs.State.{World}
 use Rattle.world_history.specs.Refusals.{refusal}
 use Rattle.world_history.specs.Runs.{Carries, FillsUp}
 use Rattle.world_history.specs.History.{StandsFor, Lawful}
-use Rattle.world_watch.specs.Watching.{Watches}
+use Rattle.book_law.specs.Read.{is_written}
+use Rattle.calm_moves.specs.Watching.{WatchesAll}
 use Rattle.layout_world.specs.State.{WorldState, Shows}
 use Rattle.osd_replay.specs.declared.carry_out.Carried.{Carried}
 use Rattle.osd_replay.specs.declared.status.ScenarioKind.{ScenarioKind}
@@ -29,13 +30,14 @@ step_gives (Err WorldMemory) = Err Memory
 step_gives (Err cause) = Err (Refused (WorldKind cause))
 
 -- An event was carried out to its end: these are its lines and the world after it, which the code shows. What is kept for
--- the last line goes on with them, behind any history for which the world stands.
+-- the last line goes on with them, behind any history for which the world stands, as long as a text may have the event.
 pub record CarriesWhole (w : World) (e : Event) (old new : WorldState) (text : List ℕ) : Type 0 where
   pub lines : List Line
   pub world : World
   pub shows : Shows new.parties world
   pub carries : Carries w e lines world
-  pub watches : (h : List Line) → StandsFor w h → Watches h old.watch → Watches (h ++ lines) new.watch
+  pub watches : (h : List Line) → StandsFor w h → is_written e ≡ true → WatchesAll h old.watch
+      → WatchesAll (h ++ lines) new.watch
   pub text_is : text ≡ lines_text lines
 
 -- An event stops just before what would pass the limit of kept bytes. These are its lines up to there; behind any

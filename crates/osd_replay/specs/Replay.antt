@@ -12,7 +12,7 @@ use Rattle.scenario_text.specs.LineSpelling.{lines_text}
 use Rattle.world_history.specs.State.{World}
 use Rattle.world_history.specs.Runs.{FillsUp}
 use Rattle.world_history.specs.History.{Lawful}
-use Rattle.history_law.specs.Safe.{IsSafe}
+use Rattle.history_claims.specs.Sound.{IsSound}
 use Rattle.osd_replay.specs.Ends.{Ends, Begins, IsAll, PassesNext, PutsError}
 use Rattle.osd_replay.specs.Errors.{error_line, full_name, kind_name}
 use Rattle.osd_replay.specs.LineCarried.{IsRefusedIn}
@@ -38,7 +38,7 @@ pub record Runs (input : Option (List ℕ)) (lines : List (List ℕ)) (w : World
   pub events : List Event
   pub spelled : HasEvents lines events
   pub tells : Tells events w h
-  pub safe : IsSafe h
+  pub sound : IsSound h
 
 -- ---- the line behind those that were carried out
 
@@ -65,7 +65,7 @@ pub record CutsNext (input : Option (List ℕ)) (lines : List (List ℕ)) (w : W
   pub spells : Spells event line
   pub fills : FillsUp w event cut
   pub lawful : Lawful (h ++ cut)
-  pub safe : IsSafe (h ++ cut)
+  pub sound : IsSound (h ++ cut)
 
 -- ---- what each status promises
 
@@ -77,7 +77,7 @@ pub record IsDone (before after : Ends) : Type 0 where
   pub runs : Runs before.left lines world history
   pub all : IsAll before.left lines
   pub last : Line
-  pub ends : EndsWith world history last
+  pub ends : EndsWith history last
   pub out : Appends before.taken after.taken (final_text history last)
   pub at_end : IsAtEnd after.left
   pub reads : after.reads_failed ≡ before.reads_failed
@@ -110,7 +110,7 @@ pub data IsTranscript (input : Option (List ℕ)) (text : List Line) : Type 0 wh
   Cut : (lines : List (List ℕ)) → (w : World) → (h cut : List Line) → Runs input lines w h → CutsNext input lines w h cut
       → text ≡ h ++ cut → IsTranscript input text
   Ended : (lines : List (List ℕ)) → (w : World) → (h : List Line) → (last : Line) → Runs input lines w h
-      → IsAll input lines → EndsWith w h last → text ≡ h ++ last ∷ [] → IsTranscript input text
+      → IsAll input lines → EndsWith h last → text ≡ h ++ last ∷ [] → IsTranscript input text
 
 -- the sink failed: what went out is a part of a transcript of the input's first lines
 pub record IsWriteFault (before after : Ends) : Type 0 where

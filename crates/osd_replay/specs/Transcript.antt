@@ -2,12 +2,10 @@
 use Rattle.std.specs.Prelude.{◌≡◌, ℕ, List, [], ◌∷◌, ◌++◌, map}
 use Rattle.scenario_text.specs.declared.event.Event.{Event}
 use Rattle.scenario_text.specs.declared.line.Line.{Line}
-use Rattle.scenario_text.specs.declared.line.Line.TheVariants.{Last}
 use Rattle.scenario_text.specs.LineSpelling.{lines_text}
 use Rattle.world_history.specs.State.{World}
-use Rattle.world_history.specs.Guesses.{unguessed}
+use Rattle.world_history.specs.Guesses.{last_line}
 use Rattle.world_history.specs.History.{Step, StandsFor}
-use Rattle.layout_world.specs.State.{WorldState, Shows}
 
 -- the events of steps
 abbrev pub events_of : List Step → List Event
@@ -18,11 +16,9 @@ pub record Tells (events : List Event) (w : World) (h : List Line) : Type 0 wher
   pub stands : StandsFor w h
   pub events_are : events_of stands.steps ≡ events
 
--- The last line of a history says whether it is unguessed, and of calm what is kept by the code that shows this world.
-pub record EndsWith (w : World) (h : List Line) (last : Line) : Type 0 where
-  pub state : WorldState
-  pub shows : Shows state.parties w
-  pub last_is : last ≡ Last state.watch.calm (unguessed h)
+-- the last line of a history says whether it is calm and whether it is unguessed
+abbrev pub EndsWith : List Line → Line → Type 0
+EndsWith h last = last ≡ last_line h
 
 -- the text of a history and its last line
 abbrev pub final_text : List Line → Line → List ℕ

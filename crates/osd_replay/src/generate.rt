@@ -4,14 +4,14 @@ ghost use Rattle.sha1.specs.Sha1.{Holds};
 ghost use Rattle.stripe_repair.specs.Placing.{IsPlacer};
 ghost use Rattle.osd_replay.specs.Ends.{ends};
 ghost use Rattle.osd_replay.specs.Generate.{count_line, counts_text, digest_line, IsToldOf};
-ghost use Rattle.osd_replay.specs.Generate.{Made, MakesMore, StopsMaking, StopsAmong, ComesTo, Promises};
+ghost use Rattle.osd_replay.specs.Generate.{Made, MakesMore, MayBeWritten, StopsMaking, StopsAmong, ComesTo, Promises};
 ghost use Rattle.osd_replay.specs.Generator.{scenario_of};
 
 use crate::carry_out::carry_out_event;
 use crate::generator::scenario;
 use crate::status::{Quantity, Status};
 use crate::stop::{Stop, stopped};
-use history_law::histories_are_safe;
+use history_claims::histories_are_sound;
 use layout_world::{Summary, World};
 use osd_bytes::{Bytes, Memory, Numbers, Sink, put_all};
 use scenario_text::{Event, write_lines};
@@ -91,8 +91,8 @@ impl Digested {
     where
         F: Fn(u32, &[DriveLoad]) -> Result<Numbers, Memory>,
         requires { IsPlacer F.Fn placer.now }
-        ensures ok { OnOk result (Made [] self.old → Made events.items self.new) }
-        ensures err { IfErr result (λ stop. Made [] self.old → StopsAmong events.items stop) }
+        ensures ok { OnOk result (Made [] self.old → MayBeWritten events.items → Made events.items self.new) }
+        ensures err { IfErr result (λ stop. Made [] self.old → MayBeWritten events.items → StopsAmong events.items stop) }
     {
         for event in events {
             match self.step(alloc, event, placer) {
@@ -131,7 +131,7 @@ impl Digested {
         ensures ok { IfOk result (ComesTo seed calls) }
         ensures err { IfErr result (StopsAmong (scenario_of seed calls)) }
     {
-        histories_are_safe();
+        histories_are_sound();
         let events = scenario(alloc, seed, calls)?;
         match self.carry_out_all(alloc, events, placer) {
             Ok(()) => {}

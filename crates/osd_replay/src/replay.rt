@@ -3,7 +3,7 @@ ghost use Rattle.std.specs.Prelude.{◌≡◌, []};
 ghost use Rattle.stripe_repair.specs.Placing.{IsPlacer};
 ghost use Rattle.scenario_text.specs.declared.line.Line.TheVariants.{Last};
 ghost use Rattle.world_history.specs.State.{empty_world};
-ghost use Rattle.world_watch.specs.Watching.{Watches};
+ghost use Rattle.calm_moves.specs.Watching.{WatchesAll};
 ghost use Rattle.layout_world.specs.State.{Shows};
 ghost use Rattle.osd_replay.specs.Ends.{ends};
 ghost use Rattle.osd_replay.specs.Finish.{Finishes};
@@ -12,7 +12,7 @@ ghost use Rattle.osd_replay.specs.Replay.{Promises};
 use crate::carry_out::carry_out;
 use crate::status::{Quantity, Status};
 use crate::stop::{Stop, stop_of, stopped};
-use history_law::histories_are_safe;
+use history_claims::histories_are_sound;
 use layout_world::World;
 use osd_bytes::{LineReader, Memory, Numbers, Sink, Source, put_all};
 use scenario_text::write_lines;
@@ -21,7 +21,7 @@ use stripe_repair::{DriveLoad, Placer};
 
 // Puts the last line.
 fn finish<K: Sink>(alloc: Global, world: &World, sink: &mut K) -> Status
-    ensures ends { Finishes (Last world.now.watch.calm world.now.watch.guesses.unguessed)
+    ensures ends { Finishes (Last world.now.watch.moments.calm world.now.watch.guesses.unguessed)
         (K.taken sink.old) (K.taken sink.new) (K.faults sink.old) (K.faults sink.new) result }
     ensures loan { K.loan sink.new ≡ K.loan sink.old }
 {
@@ -47,12 +47,12 @@ where
     F: Fn(u32, &[DriveLoad]) -> Result<Numbers, Memory>,
     requires places { IsPlacer F.Fn placer.now }
     requires is_new { Shows world.now.parties empty_world }
-    requires watches { Watches [] world.now.watch }
+    requires watches { WatchesAll [] world.now.watch }
     ensures { Promises
         (ends (S.left source.old) (S.faults source.old) (K.taken sink.old) (K.faults sink.old))
         (ends (S.left source.new) (S.faults source.new) (K.taken sink.new) (K.faults sink.new)) result }
 {
-    histories_are_safe();
+    histories_are_sound();
     let mut reader = LineReader::new(alloc);
     let mut number = 0;
     'lines: loop {
@@ -89,7 +89,7 @@ where
         (ends (S.left source.old) (S.faults source.old) (K.taken sink.old) (K.faults sink.old))
         (ends (S.left source.new) (S.faults source.new) (K.taken sink.new) (K.faults sink.new)) result }
 {
-    histories_are_safe();
+    histories_are_sound();
     let mut world = match World::new(alloc) {
         Ok(world) => world,
         Err(_) => return stopped(sink, Stop::Memory, 0),

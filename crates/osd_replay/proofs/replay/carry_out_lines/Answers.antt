@@ -15,7 +15,7 @@ lines-init g c =
       ended = λ h. absurd (cc h);
       reads = refl;
       writes = refl;
-      so_far = rw (nothing_ahead (g.S.Source.left c.args.source.now)) (nothing_yet (g.S.Source.left c.args.source.now) (g.K.Sink.taken c.args.sink.now) c.args.world.now c.requires.is_new c.requires.watches c.histories_are_safe.ensures);
+      so_far = rw (nothing_ahead (g.S.Source.left c.args.source.now)) (nothing_yet (g.S.Source.left c.args.source.now) (g.K.Sink.taken c.args.sink.now) c.args.world.now c.requires.is_new c.requires.watches c.histories_are_sound.ensures);
     }
 
 pub returns-in-Ok-None : goal.returns-in-Ok-None
@@ -23,7 +23,7 @@ returns-in-Ok-None g c =
     let here = rw c.in-Ok-None.field-0-is at c.in-Ok-None.ensures in
     let inv = c.lines.invariant in
     finished _ _ _ _ c.lines.reader.taken (g.K.Sink.taken c.lines.sink) c.lines.number (g.K.Sink.faults c.lines.sink) c.lines.world _ c.finish.result inv.so_far here.lines
-    (at_end _ _ _ _ here.at_end inv.ended (here.end refl)) (here.cause.same ∙ inv.reads) inv.writes (λ w h shows watches. record { state = c.lines.world; shows = shows; last_is = last_said c.lines.world h watches }) c.finish.ensures.ends
+    (at_end _ _ _ _ here.at_end inv.ended (here.end refl)) (here.cause.same ∙ inv.reads) inv.writes (λ h watches. last_said c.lines.world h watches) c.finish.ensures.ends
 
 pub returns-in-Err : goal.returns-in-Err
 returns-in-Err g c =

@@ -9,7 +9,7 @@ use Rattle.osd_replay.proofs.generate.Digested.outcome.Goals as goal
 
 pub returns : goal.returns
 returns c = λ h holds.
-    let last : Line = Last c.args.self.now.world.watch.calm c.args.self.now.world.watch.guesses.unguessed in
+    let last : Line = Last c.args.self.now.world.watch.moments.calm c.args.self.now.world.watch.guesses.unguessed in
     let bytes : c.as_slice.result.now ≡ lines_text (last ∷ []) = search rules in
     let again : c.as_slice-2.result.now ≡ lines_text (last ∷ []) = search rules in
     let all : lines_text h ++ c.as_slice.result.now ≡ lines_text (h ++ last ∷ []) = ap (λ (x : List ℕ). lines_text h ++ x) bytes ∙ sym (text_more h (last ∷ [])) in

@@ -9,6 +9,6 @@ returns-then-carried-clause-err g c = λ front m.
     fills_behind front c.args.event c.args.self.now c.carry_out_event.new.world c.in-Ok.carried c.if-carried.true m c.in-Ok.ensures.ok
 
 pub returns-clause-ok : goal.returns-clause-ok
-returns-clause-ok g c = λ front m.
-    made_more front c.args.event c.args.self.now (record { world = c.carry_out_event.new.world; digest = c.update.new.self }) c.in-Ok.carried c.if-carried.false m c.in-Ok.ensures.ok
+returns-clause-ok g c = λ may front m.
+    made_more front c.args.event c.args.self.now (record { world = c.carry_out_event.new.world; digest = c.update.new.self }) c.in-Ok.carried c.if-carried.false may m c.in-Ok.ensures.ok
     (rw c.as_slice.ensures at c.update.ensures)

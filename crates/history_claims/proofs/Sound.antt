@@ -1,0 +1,21 @@
+-- Each lawful history is sound.
+use Rattle.std.proofs.Common.{subst}
+use Rattle.world_history.specs.History.{Lawful, FrontsAreLawful}
+use Rattle.history_law.specs.Safe.{HistoriesAreSafe}
+use Rattle.issue_law.specs.Issued.{CommandsAreIssued}
+use Rattle.issue_law.specs.Ranges.{RangesAreApart}
+use Rattle.holder_law.specs.Holder.{EachHolderIsOwn}
+use Rattle.holder_law.specs.Fences.{UnguessedAreFenced, UnguessedNothingOlder}
+use Rattle.history_claims.specs.Components.{ComponentsStandApart}
+use Rattle.history_claims.specs.Sound.{HistoriesAreSound}
+
+pub histories_are_sound : HistoriesAreSafe → CommandsAreIssued → RangesAreApart → FrontsAreLawful → ComponentsStandApart
+    → EachHolderIsOwn → UnguessedAreFenced → UnguessedNothingOlder → HistoriesAreSound
+histories_are_sound safe issued ranges fronts apart own fenced older h l = record {
+  safe = safe h l;
+  issued = issued h l;
+  ranges = λ before after is. ranges before (fronts before after (subst Lawful is l));
+  apart = apart h l;
+  holders = own h l;
+  fenced = λ w s a u. (fenced w h s a u, older w h s a u);
+}

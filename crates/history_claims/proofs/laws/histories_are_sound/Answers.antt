@@ -1,0 +1,8 @@
+use Rattle.history_claims.proofs.Sound.{histories_are_sound}
+use Rattle.history_claims.proofs.laws.histories_are_sound.Goals as goal
+
+pub returns : goal.returns
+returns c =
+    histories_are_sound c.histories_are_safe.ensures c.commands_are_issued.ensures c.ranges_are_apart.ensures
+    c.fronts_are_lawful.ensures c.components_stand_apart.ensures c.holders_are_own.ensures
+    c.unguessed_are_fenced.ensures c.unguessed_nothing_older.ensures

@@ -1,0 +1,34 @@
+-- What holds of every lawful history, as one record.
+use Rattle.std.specs.Prelude.{◌≡◌, true, List}
+use Rattle.scenario_text.specs.declared.line.Line.{Line}
+use Rattle.world_history.specs.State.{World}
+use Rattle.world_history.specs.Guesses.{unguessed}
+use Rattle.world_history.specs.History.{StandsFor, Lawful}
+use Rattle.history_law.specs.Safe.{AtEachMoment, AtEachLine, IsSafe}
+use Rattle.issue_law.specs.Issued.{IssuedAt}
+use Rattle.issue_law.specs.Ranges.{AreRangesApart}
+use Rattle.book_law.specs.Read.{AreWritten}
+use Rattle.file_law.specs.Naming.{AreNamed}
+use Rattle.fencing_law.specs.Fenced.{AreFenced, FencesLast}
+use Rattle.holder_law.specs.Holder.{OwnUnlessGuessed}
+use Rattle.history_claims.specs.Components.{AreComponentsApart}
+
+-- A history is safe. What a drive performs was sent to it by the server, or is a command of a client under a credential
+-- that an answer of the server gave this client before: so it is of each message that is delivered and, as far as
+-- nothing was guessed, of injected bytes. At each moment, of two live grants of a file of which one is for writing, no
+-- byte of a component is inside the capabilities of both. And where lines can name the drives and files that events
+-- make, the components of each file stand on different drives, and one that is made anew comes onto a further drive. What
+-- is performed under the server's holder the server sent, as far as nothing was guessed; so in a whole history in which
+-- nothing was, and whose events a text may have, from each note that a fence is over on the objects of the file's
+-- components have the new tag, and no command of an earlier one is performed on them.
+pub record IsSound (h : List Line) : Type 0 where
+  pub safe : IsSafe h
+  pub issued : AtEachLine IssuedAt h
+  pub ranges : AtEachMoment AreRangesApart h
+  pub apart : AreNamed h → AtEachMoment AreComponentsApart h
+  pub holders : AtEachLine OwnUnlessGuessed h
+  pub fenced : (w : World) → StandsFor w h → AreWritten h → unguessed h ≡ true → AreFenced h × FencesLast h
+
+-- so is each lawful history, whatever its events name
+abbrev pub HistoriesAreSound : Type 0
+HistoriesAreSound = (h : List Line) → Lawful h → IsSound h
