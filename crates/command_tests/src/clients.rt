@@ -7,8 +7,9 @@ use crate::messages::{
 use crate::runs::{Case, NOTHING, first_wrong};
 use std::test::Fail;
 
+/// The words of a client that writes AB.
 #[rattlefmt::skip]
-const WRITES: &[&str] = &["client", "--number", "0", "--sequence", "1", "--call", "write f0 0 4142"];
+pub const WRITES: &[&str] = &["client", "--number", "0", "--sequence", "1", "--call", "write f0 0 4142"];
 
 #[rattlefmt::skip]
 const AUDITS: &[&str] = &["client", "--number", "3", "--sequence", "7", "--call", "audit f0"];

@@ -72,7 +72,8 @@ pub const NOTHING: Case = Case {
     output: "",
 };
 
-fn lists(alloc: Global, members: &[&[u8]]) -> Result<ByteLists, Memory> {
+/// The lists of these members.
+pub fn lists(alloc: Global, members: &[&[u8]]) -> Result<ByteLists, Memory> {
     let mut lists = ByteLists::new(alloc);
     for member in members {
         lists.push(Bytes::copied(alloc, member)?)?;

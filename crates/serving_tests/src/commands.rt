@@ -29,7 +29,8 @@ struct Case {
     put: &'static [&'static [Told]],
 }
 
-const ONE_FILE: &str = "server = \"127.0.0.1:7100\"\n\
+/// A cluster of drive 0 and file 0 on it.
+pub const ONE_FILE: &str = "server = \"127.0.0.1:7100\"\n\
     [[drive]]\nnumber = 0\naddress = \"127.0.0.1:7000\"\ncapacity = 20000000\n\
     key = \"0b0b0b0b0b0b0b0b0b0b0b0b0b0b0b0b0b0b0b0b\"\n\
     [[file]]\nnumber = 0\ncomponents = 1\nunit = 4\nwidth = 0\ndepth = 0\nmirrors = 0\nalgorithm = 1\n";
