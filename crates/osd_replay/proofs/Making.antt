@@ -83,6 +83,7 @@ comes_to law seed calls events d text is m told =
         history = here.history;
         tells = here.tells;
         sound = told_sound law (scenario_of seed calls) here.world here.history here.tells;
+        written = here.watches.written;
         last = Last d.world.watch.moments.calm d.world.watch.guesses.unguessed;
         ends = last_said d.world here.history here.watches;
       };

@@ -34,6 +34,7 @@ use Rattle.osd_replay.specs.declared.status.Status.TheVariants.{Done, BadWords, 
 use Rattle.osd_replay.specs.declared.stop.Stop.{Stop}
 use Rattle.osd_replay.specs.declared.stop.Stop.TheVariants.{Refused, Read, Memory as WantsMemory, Full as StopsFull}
 use Rattle.osd_replay.proofs.Telling.{told_sound, tells_none, tells_more}
+use Rattle.osd_replay.proofs.Written.{fits_written}
 use Rattle.osd_replay.proofs.SoFar.{SoFar, Reached, events_more, text_more, reached_more, reached_none, appends_none}
 
 -- what went out before an error line, and that line
@@ -62,7 +63,7 @@ all_lines (Some input) lines taken (Some rest) None r y = absurd y
 all_lines (Some input) lines taken (Some rest) (Some later) r y = r.3 ∙ ap (λ (x : List ℕ). lines ++ lines_of x) y ∙ append-nil lines
 
 runs : (input now : Option (List ℕ)) (taken : ℕ) (before after : Option (List ℕ)) (number : ℕ) (state : WorldState) → (s : SoFar input now taken before after number state) → Runs input s.lines s.world s.history
-runs input now taken before after number state s = record { begins = begins input s.lines taken now s.reached; events = s.events; spelled = s.spelled; tells = s.tells; sound = told_sound s.law s.events s.world s.history s.tells }
+runs input now taken before after number state s = record { begins = begins input s.lines taken now s.reached; events = s.events; spelled = s.spelled; tells = s.tells; sound = told_sound s.law s.events s.world s.history s.tells; written = s.watches.written }
 
 -- the front of some bytes and those behind them
 front_and_more : (xs ys zs : List ℕ) (n : ℕ) → zs ≡ xs ++ ys → take (length xs + n) zs ≡ xs ++ take n ys
@@ -231,6 +232,7 @@ part_by b a now next taken more middle number upto old new line carried false s 
       spelled = events_more s.lines s.events line (c.event ∷ []) s.spelled (inr (c.event, [], refl, c.fits, c.spells, refl));
       tells = told;
       sound = told_sound s.law (s.events ++ c.event ∷ []) by.world (s.history ++ by.lines) told;
+      written = (by.watches s.history s.tells.stands (fits_written c.event c.fits) s.watches).written;
     } in
     part_of b a middle (s.history ++ by.lines) s.history by.lines upto (Whole (s.lines ++ line ∷ []) by.world go) refl
     (rw by.text_is at short) s.out (rw by.text_is at out) rose
@@ -278,7 +280,7 @@ no_world law b a whole put = record {
   lines = [];
   world = empty_world;
   history = [];
-  runs = record { begins = begins b.left [] 0 b.left (reached_none b.left); events = []; spelled = refl; tells = tells_none; sound = told_sound law [] empty_world [] tells_none };
+  runs = record { begins = begins b.left [] 0 b.left (reached_none b.left); events = []; spelled = refl; tells = tells_none; sound = told_sound law [] empty_world [] tells_none; written = tt };
   number = 0;
   number_is = inr (refl, inl refl);
   puts = tells b a b.taken [] (error_line 0 (codes "memory")) b.writes_failed whole (appends_none b.taken) put refl;

@@ -16,7 +16,7 @@ use Rattle.world_history.specs.Refusals.{refusal}
 use Rattle.world_history.specs.Runs.{FillsUp}
 use Rattle.world_history.specs.Summing.{summary_of}
 use Rattle.world_tally.specs.Capping.{capped_summary}
-use Rattle.book_law.specs.Read.{is_written}
+use Rattle.book_law.specs.Read.{is_written, AreWritten}
 use Rattle.calm_moves.specs.Watching.{WatchesAll}
 use Rattle.layout_world.specs.State.{Shows}
 use Rattle.history_claims.specs.Sound.{IsSound}
@@ -138,6 +138,7 @@ pub record Outcome (seed calls : ℕ) : Type 0 where
   pub history : List Line
   pub tells : Tells (scenario_of seed calls) world history
   pub sound : IsSound history
+  pub written : AreWritten history
   pub last : Line
   pub ends : EndsWith history last
 

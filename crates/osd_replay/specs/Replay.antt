@@ -12,6 +12,7 @@ use Rattle.scenario_text.specs.LineSpelling.{lines_text}
 use Rattle.world_history.specs.State.{World}
 use Rattle.world_history.specs.Runs.{FillsUp}
 use Rattle.world_history.specs.History.{Lawful}
+use Rattle.book_law.specs.Read.{AreWritten}
 use Rattle.history_claims.specs.Sound.{IsSound}
 use Rattle.osd_replay.specs.Ends.{Ends, Begins, IsAll, PassesNext, PutsError}
 use Rattle.osd_replay.specs.Errors.{error_line, full_name, kind_name}
@@ -32,13 +33,14 @@ HasEvents (line ∷ lines) events =
     ⊎ ((e : Event) × (rest : List Event) × (events ≡ e ∷ rest) × Fits e × Spells e line × HasEvents lines rest)
 
 -- The first lines of the input were carried out: a world stands for a history whose events are exactly theirs. What holds
--- of every history in the words of its lines holds of it.
+-- of every history in the words of its lines holds of it, also what holds where its events are such as a text has them.
 pub record Runs (input : Option (List ℕ)) (lines : List (List ℕ)) (w : World) (h : List Line) : Type 0 where
   pub begins : Begins input lines
   pub events : List Event
   pub spelled : HasEvents lines events
   pub tells : Tells events w h
   pub sound : IsSound h
+  pub written : AreWritten h
 
 -- ---- the line behind those that were carried out
 
