@@ -25,7 +25,7 @@ placed_is_chosen s chosen Opens n r = refl
 
 -- ---- what each input leaves can be told and read
 
-added_named : (ds : List Drive) (d : Drive) → AreNamed ds → d.number < DRIVES → AreNamed (add_drive ds d)
+pub added_named : (ds : List Drive) (d : Drive) → AreNamed ds → d.number < DRIVES → AreNamed (add_drive ds d)
 unfolding add_drive
 added_named [] d a h = (h, tt)
 added_named (e ∷ ds) d a h = either (nat_lt e.number d.number) (added_named ds d a.1 h)

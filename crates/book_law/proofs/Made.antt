@@ -20,7 +20,7 @@ use Rattle.book_law.proofs.Stepping.{IsPlaced, placed_always, placed_sent, forma
 -- ---- the drives
 
 -- lines can name each of these
-abbrev AllNamed : List ℕ → Type 0
+abbrev pub AllNamed : List ℕ → Type 0
 AllNamed [] = Unit {0}
 AllNamed (n ∷ ns) = (n < DRIVES) × AllNamed ns
 
@@ -45,7 +45,7 @@ first_named zero ds a = tt
 first_named (suc n) [] a = tt
 first_named (suc n) (d ∷ ds) a = (a.0, first_named n ds a.1)
 
-places_named : (ds : List Drive) (count : ℕ) (chosen : List ℕ) → AreNamed ds → AllNamed (places ds count chosen)
+pub places_named : (ds : List Drive) (count : ℕ) (chosen : List ℕ) → AreNamed ds → AllNamed (places ds count chosen)
 unfolding places
 places_named ds count chosen a = either ((length chosen == count) && are_of (online ds) chosen) refl
   where

@@ -41,7 +41,7 @@ pub found_named : (n : ℕ) (ds : List Drive) → AreNamed ds → is_some (find 
 found_named n [] a e = absurd (cc e)
 found_named n (d ∷ ds) a e = grind (arith, e, a.0, found_named n ds a.1)
 
-first_named : (chosen : List ℕ) (d : Drive) (ds : List Drive) → AreNamed (d ∷ ds) → or_first chosen d ds < DRIVES
+pub first_named : (chosen : List ℕ) (d : Drive) (ds : List Drive) → AreNamed (d ∷ ds) → or_first chosen d ds < DRIVES
 first_named [] d ds a = a.0
 first_named (c ∷ cs) d ds a = either (is_some (find (λ e. e.number == c) (d ∷ ds))) (found_named c (d ∷ ds) a)
   where
@@ -68,7 +68,7 @@ first_again (c ∷ cs) d ds rest = either (is_some (find (λ e. e.number == c) (
     either true is = chosen_again c d ds rest is
     either false is = either_same _ d.number
 
-free_named : (ds : List Drive) (cs : List Component) → AreNamed ds → AreNamed (free_drives ds cs)
+pub free_named : (ds : List Drive) (cs : List Component) → AreNamed ds → AreNamed (free_drives ds cs)
 free_named [] cs a = tt
 free_named (d ∷ ds) cs a = either _ (free_named ds cs a.1)
   where

@@ -160,7 +160,7 @@ recalls_placed s (Some f) r =
 
 -- ---- a drive is declared
 
-offline_named : (ds : List Drive) (drive : ℕ) → AreNamed ds → AreNamed (offline ds drive)
+pub offline_named : (ds : List Drive) (drive : ℕ) → AreNamed ds → AreNamed (offline ds drive)
 unfolding offline
 offline_named [] drive a = tt
 offline_named (d ∷ ds) drive a = (either (d.number == drive), offline_named ds drive a.1)

@@ -19,7 +19,7 @@ use Rattle.client_law.proofs.Given.{IsFresh}
 
 -- ---- the grants that are held
 
-put_found : (hs : List Held) (k : Held) → held_of (put_held hs k) k.file ≡ Some k
+pub put_found : (hs : List Held) (k : Held) → held_of (put_held hs k) k.file ≡ Some k
 unfolding held_of put_held
 put_found [] k = rw (eq-eqb k.file k.file refl) refl
 put_found (g ∷ gs) k = elim (cases_eq g.file k.file) [
@@ -30,7 +30,7 @@ put_found (g ∷ gs) k = elim (cases_eq g.file k.file) [
   ]
 ]
 
-put_other : (hs : List Held) (k : Held) (f : ℕ) → k.file ≢ f → held_of (put_held hs k) f ≡ held_of hs f
+pub put_other : (hs : List Held) (k : Held) (f : ℕ) → k.file ≢ f → held_of (put_held hs k) f ≡ held_of hs f
 unfolding held_of put_held
 put_other [] k f n = rw (ne_eqb k.file f n) refl
 put_other (g ∷ gs) k f n = elim (cases_eq g.file k.file) [
@@ -45,13 +45,13 @@ put_other (g ∷ gs) k f n = elim (cases_eq g.file k.file) [
 ]
 
 -- the new grant, or one that was held
-put_read : (hs : List Held) (k : Held) (f : ℕ) (j : Held) → held_of (put_held hs k) f ≡ Some j → ((k.file ≡ f) × (k ≡ j)) ⊎ ((k.file ≢ f) × (held_of hs f ≡ Some j))
+pub put_read : (hs : List Held) (k : Held) (f : ℕ) (j : Held) → held_of (put_held hs k) f ≡ Some j → ((k.file ≡ f) × (k ≡ j)) ⊎ ((k.file ≢ f) × (held_of hs f ≡ Some j))
 put_read hs k f j e = elim (cases_eq k.file f) [
   | inl s ↦ let there : held_of (put_held hs k) f ≡ Some k = ap (λ (g : ℕ). held_of (put_held hs k) g) (sym s) ∙ put_found hs k in inl (s, cc (sym there ∙ e))
   | inr t ↦ inr (t, sym (put_other hs k f t) ∙ e)
 ]
 
-none_left : (hs : List Held) (f : ℕ) → held_of (without_held hs f) f ≡ None
+pub none_left : (hs : List Held) (f : ℕ) → held_of (without_held hs f) f ≡ None
 unfolding held_of without_held
 none_left [] f = refl
 none_left (g ∷ gs) f = elim (cases_eq g.file f) [
@@ -59,7 +59,7 @@ none_left (g ∷ gs) f = elim (cases_eq g.file f) [
   | inr t ↦ rw (ne_eqb g.file f t, ne_eqb g.file f t) (none_left gs f)
 ]
 
-without_read : (hs : List Held) (f h : ℕ) (j : Held) → held_of (without_held hs f) h ≡ Some j → held_of hs h ≡ Some j
+pub without_read : (hs : List Held) (f h : ℕ) (j : Held) → held_of (without_held hs f) h ≡ Some j → held_of hs h ≡ Some j
 unfolding held_of without_held
 without_read [] f h j e = e
 without_read (g ∷ gs) f h j e = elim (cases_eq g.file f) [

@@ -77,7 +77,7 @@ turn_counts before xs d op (Goes p) f k = record { holds = k; fair = f }
 turn_counts before xs d op (Ends o) f k = record { holds = k; fair = tt }
 turn_counts before xs d op (Forgets o) f k = record { holds = λ b. without_keeping d.client.held (file_of op) before (all_of xs d) (k b); fair = tt }
 
-held_file : (hs : List Held) (file : ℕ) (h : Held) → held_of hs file ≡ Some h → h.file ≡ file
+pub held_file : (hs : List Held) (file : ℕ) (h : Held) → held_of hs file ≡ Some h → h.file ≡ file
 unfolding held_of
 held_file [] file h e = absurd (cc e)
 held_file (g ∷ gs) file h e = elim (cases_eq g.file file) [
@@ -308,10 +308,10 @@ calls_counts before xs c op x =
 -- ---- any step
 
 -- what a step leaves once its grants are given and its commands sent
-abbrev StepKept : List ℕ → List ℕ → Client → Input → Type 0
+abbrev pub StepKept : List ℕ → List ℕ → Client → Input → Type 0
 StepKept before xs c i = length (xs ++ nonces_at c i) < NONCES → IsKeeping (step c i).client.held (before ++ grants_at c i) (xs ++ nonces_at c i)
 
-step_counts : (before xs : List ℕ) (c : Client) (i : Input) → AllDiffer (before ++ grants_at c i) → (length xs < NONCES → IsKeeping c.held before xs) → StepKept before xs c i
+pub step_counts : (before xs : List ℕ) (c : Client) (i : Input) → AllDiffer (before ++ grants_at c i) → (length xs < NONCES → IsKeeping c.held before xs) → StepKept before xs c i
 unfolding hears times_out leaves
 step_counts before xs c (Calls op) differ k = calls_counts (before ++ []) xs c op (none_more before xs c.held k)
 step_counts before xs c (Hears from m) differ k = by_taken_counts before xs c (takes c from m) differ k
@@ -332,7 +332,7 @@ all_rise c (i ∷ is) before xs differ b k =
     rw (sym nonces) (all_rise (step c i).client is (before ++ grants_at c i) (xs ++ nonces_at c i) apart (rw nonces b)
     (step_counts before xs c i (differ_before (before ++ grants_at c i) (grants_by (step c i).client is) apart) k))
 
-new_keeping : IsKeeping [] [] []
+pub new_keeping : IsKeeping [] [] []
 unfolding held_of
 new_keeping = record { rises = tt; known = tt; under = λ f h e. absurd (cc e); apart = λ f g h k e d s. absurd (cc e) }
 

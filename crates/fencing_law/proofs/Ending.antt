@@ -42,12 +42,12 @@ no_event w r (TimesOut c component) ls d = refl
 no_event w r (Pends c) ls d = refl
 no_event w r (Opens e) ls d = absurd (never_opens w r e d)
 
-due_more : (p : Plan) (w : World) (ms : List Move) (m : Move) → AreDue p w ms
+pub due_more : (p : Plan) (w : World) (ms : List Move) (m : Move) → AreDue p w ms
     → due (plan_after p ms) (world_after w ms) ≡ Some m.action → AreDue p w (ms ++ m ∷ [])
 due_more p w [] m d e = (e, tt)
 due_more p w (x ∷ ms) m d e = (d.0, due_more (went_on p x.action) (move w x).world ms m d.1 e)
 
-world_more : (w : World) (ms : List Move) (m : Move)
+pub world_more : (w : World) (ms : List Move) (m : Move)
     → world_after w (ms ++ m ∷ []) ≡ (move (world_after w ms) m).world
 world_more w [] m = refl
 world_more w (x ∷ ms) m = world_more (move w x).world ms m

@@ -217,7 +217,7 @@ handed_acts w chosen m (node.Client c) n p there same to = client_heard w c m (a
 
 -- ---- a mark
 
-messages_set : (ps : List Posted) (n : ℕ) (p q : Posted) → slice_get ps n ≡ Some p → q.message ≡ p.message
+pub messages_set : (ps : List Posted) (n : ℕ) (p q : Posted) → slice_get ps n ≡ Some p → q.message ≡ p.message
     → map (λ (x : Posted). x.message) (slice_set ps n q) ≡ map (λ (x : Posted). x.message) ps
 messages_set [] n p q there same = refl
 messages_set (x ∷ ps) zero p q there same =

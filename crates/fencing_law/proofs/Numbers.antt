@@ -51,7 +51,7 @@ commands_only (Recalls r) d b e = absurd (cc (ap (λ (m : Message). m.to) e))
 commands_only (Answers a) d b e = absurd (cc (ap (λ (m : Message). m.to) e))
 commands_only (AnswersOrder a) d b e = absurd (cc (ap (λ (m : Message). m.to) e))
 
-sent_anew : (os : List Outgoing) (d : ℕ) (b : Body) → In (to_drive d b) (map (λ (p : Post). p.message) (posts_of os))
+pub sent_anew : (os : List Outgoing) (d : ℕ) (b : Body) → In (to_drive d b) (map (λ (p : Post). p.message) (posts_of os))
     → (c : Command) × In (ToDrive d c) os × (b ≡ OfCommand c)
 sent_anew os d b i =
     let p = in_mapped (λ (p : Post). p.message) (to_drive d b) (posts_of os) i in
@@ -59,7 +59,7 @@ sent_anew os d b i =
     let r = commands_only o.0 d b (p.2 ∙ ap (λ (x : Post). x.message) o.2) in
     (r.0, subst (λ (x : Outgoing). In x os) r.1 o.1, r.2)
 
-none_anew : (ps : List Post) (d : ℕ) (b : Body) → NoneOfServer ps
+pub none_anew : (ps : List Post) (d : ℕ) (b : Body) → NoneOfServer ps
     → In (to_drive d b) (map (λ (p : Post). p.message) ps) → ⊥
 none_anew ps d b none i =
     let p = in_mapped (λ (p : Post). p.message) (to_drive d b) ps i in
@@ -110,7 +110,7 @@ module _ (w : World) (n : Numbers w) (t : ServerStep) (s : NumbersOn w.server t)
 
 -- ---- a move
 
-messages_sent : (ms : List Posted) (ps : List Post)
+pub messages_sent : (ms : List Posted) (ps : List Post)
     → map (λ (x : Posted). x.message) (ms ++ map fresh ps)
     ≡ map (λ (x : Posted). x.message) ms ++ map (λ (p : Post). p.message) ps
 messages_sent [] [] = refl

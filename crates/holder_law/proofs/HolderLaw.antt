@@ -3,8 +3,9 @@ use Rattle.std.proofs.Common.{◌≡◌, ℕ, ◌<◌, ◌^◌, ◌++◌, ◌∷
 use Rattle.std.proofs.lemmas.Bool.Decides.{nat_tests}
 use Rattle.std.proofs.lemmas.List.Sums.{fold-append}
 use Rattle.osd_commands.specs.declared.commands.Command.{Command}
-use Rattle.osd_commands.specs.Commands.{reading}
+use Rattle.osd_commands.specs.Commands.{reading, spelling}
 use Rattle.osd_commands.proofs.Passing.{both_true}
+use Rattle.layout_types.specs.declared.cred.ObjectCred.{ObjectCred}
 use Rattle.layout_ops.specs.declared.results.LayoutSegment.{LayoutSegment}
 use Rattle.layout_ops.specs.declared.results.LayoutGetOk.{LayoutGetOk}
 use Rattle.layout_ops.specs.declared.results.LayoutGetResult.TheVariants as get
@@ -26,11 +27,13 @@ use Rattle.scenario_text.specs.declared.line.Party.{Party}
 use Rattle.scenario_text.specs.declared.line.Party.TheVariants as party
 use Rattle.scenario_text.specs.declared.line.Line.{Line}
 use Rattle.scenario_text.specs.declared.line.Line.TheVariants as line
+use Rattle.world_history.specs.declared.messages.Sent.{Sent}
 use Rattle.world_history.specs.Reading.{sent_in}
 use Rattle.world_history.specs.Guesses.{Guarded, guessed_at, guards, guarded, unguessed}
 use Rattle.history_law.specs.Judging.{injected_in}
 use Rattle.history_law.proofs.Each.{EachBehind, each_front}
-use Rattle.issue_law.specs.Granted.{GivesOwn, OwnIn}
+use Rattle.issue_law.specs.Listed.{WasGiven, IsUnder}
+use Rattle.issue_law.specs.Granted.{GivesOwn, OwnIn, SpellsOwn}
 use Rattle.issue_law.specs.Issued.{IsIssued, HasSource, IssuedAt, CommandsAreIssued}
 use Rattle.issue_law.proofs.Carried.{read_spelled}
 use Rattle.fencing_law.specs.Reaching.{ServerSent, OwnAt}
@@ -83,29 +86,37 @@ own_body client (envelope.OrderAnswer v) given s own by one = absurd by
 below : (c : ℕ) → nat_lt c CLIENTS ≡ true → c < 16
 below c e = grind (arith, e, nat_tests)
 
--- the client's number
-issued_holder : (before : List Line) (c d : ℕ) (bytes : List ℕ) (i : IsIssued before c d bytes) (y : Command)
-    → nat_lt c CLIENTS ≡ true → reading bytes ≡ Ok y → y.capability.holder ≡ c
-issued_holder before c d bytes i y named read =
-    let l = i.given.lists in
-    let by = given_read i.source.message i.given.message.bytes l.answer l.given i.source.bytes_are l.read l.gives in
-    let own = own_body c i.source.message l.given l.segment i.source.own by l.one in
-    let bears = layout_bears own.drives own.file own.grant l.segment.body l.layout own.body_is l.body
-    i.given.component i.credential l.found in
+-- a command under a credential that an answer gave a client has the client's number
+pub given_holder : (ss : List Sent) (c d : ℕ) (o : ObjectCred) (w : WasGiven ss c o) (s : SpellsOwn c w.message.bytes)
+    (x y : Command) → IsUnder o d x → nat_lt c CLIENTS ≡ true → reading (spelling x) ≡ Ok y → y.capability.holder ≡ c
+given_holder ss c d o w s x y under named read =
+    let l = w.lists in
+    let by = given_read s.message w.message.bytes l.answer l.given s.bytes_are l.read l.gives in
+    let own = own_body c s.message l.given l.segment s.own by l.one in
+    let bears = layout_bears own.drives own.file own.grant l.segment.body l.layout own.body_is l.body w.component o
+    l.found in
     let few : c < 2 ^ 32 = omega (arith, below c named) in
     let small : own.grant.client < 2 ^ 32 = subst (λ (n : ℕ). n < 2 ^ 32) (sym own.client_is) few in
-    let carried : i.command.capability.holder ≡ c =
-    bears_holder own.grant.client i.credential i.command.capability small bears i.under.capability ∙ own.client_is in
-    holder_read i.command.capability y.capability (subst (λ (n : ℕ). n < 2 ^ 32) (sym carried) few)
-    (read_spelled i.command y (ap reading (sym i.spells) ∙ read)) ∙ carried
+    let carried : x.capability.holder ≡ c =
+    bears_holder own.grant.client o x.capability small bears under.capability ∙ own.client_is in
+    holder_read x.capability y.capability (subst (λ (n : ℕ). n < 2 ^ 32) (sym carried) few) (read_spelled x y read)
+    ∙ carried
+
+pub issued_holder : (before : List Line) (c d : ℕ) (bytes : List ℕ) (i : IsIssued before c d bytes) (y : Command)
+    → nat_lt c CLIENTS ≡ true → reading bytes ≡ Ok y → y.capability.holder ≡ c
+issued_holder before c d bytes i y named read =
+    given_holder (sent_in before) c d i.credential i.given i.source i.command y i.under named
+    (ap reading (sym i.spells) ∙ read)
 
 -- the answer that gave the credential went to a client that a line can name
-client_named : (before : List Line) (c d : ℕ) (bytes : List ℕ) → AllNamed (sent_in before) → IsIssued before c d bytes
-    → nat_lt c CLIENTS ≡ true
-client_named before c d bytes all i =
-    subst (λ (p : Party). IsNamedTo p (party.Client c)) i.given.sender
-    (subst (λ (p : Party). IsNamedTo i.given.message.from p) i.given.receiver
-    (all i.given.number i.given.message i.given.there))
+pub given_named : (ss : List Sent) (c : ℕ) (o : ObjectCred) → AllNamed ss → WasGiven ss c o → nat_lt c CLIENTS ≡ true
+given_named ss c o all w =
+    subst (λ (p : Party). IsNamedTo p (party.Client c)) w.sender
+    (subst (λ (p : Party). IsNamedTo w.message.from p) w.receiver (all w.number w.message w.there))
+
+pub client_named : (before : List Line) (c d : ℕ) (bytes : List ℕ) → AllNamed (sent_in before)
+    → IsIssued before c d bytes → nat_lt c CLIENTS ≡ true
+client_named before c d bytes all i = given_named (sent_in before) c i.credential all i.given
 
 not_servers : (c holder : ℕ) → nat_lt c CLIENTS ≡ true → holder ≡ c → holder ≡ SERVER_HOLDER → ⊥
 not_servers c holder named is too = omega (arith, below c named, is, too)
@@ -141,7 +152,7 @@ clean_before : (g : Guarded) (ls : List Line) → (fold guards g ls).unguessed �
 clean_before g [] e = e
 clean_before g (l ∷ ls) e = (both_true g.unguessed (not (guessed_at g l)) (clean_before (guards g l) ls e)).0
 
-clean_front : (before after : List Line) → unguessed (before ++ after) ≡ true → unguessed before ≡ true
+pub clean_front : (before after : List Line) → unguessed (before ++ after) ≡ true → unguessed before ≡ true
 clean_front before after e =
     clean_before (guarded before) after
     (ap (λ (g : Guarded). g.unguessed) (sym (fold-append guards _ before after)) ∙ e)

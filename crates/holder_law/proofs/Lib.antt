@@ -1,9 +1,9 @@
-mod Fronts
-mod Parts
-mod Layouts
-mod Given
-mod Holders
-mod Addressed
-mod Named
-mod HolderLaw
-mod Fences
+pub mod Fronts
+pub mod Parts
+pub mod Layouts
+pub mod Given
+pub mod Holders
+pub mod Addressed
+pub mod Named
+pub mod HolderLaw
+pub mod Fences

@@ -61,12 +61,12 @@ grant_read client bytes k o s l fits =
 
 -- ---- its layout
 
-body_read : (ds : List Drive) (f : Kept) (g : Grant) → LayoutFits (layout_for ds f g)
+pub body_read : (ds : List Drive) (f : Kept) (g : Grant) → LayoutFits (layout_for ds f g)
     → whole layout_in (body_of (layout_for ds f g)) ≡ Ok (layout_for ds f g)
 unfolding body_of
 body_read ds f g fits = layout_again layout_in layout_item LayoutFits layout_codec (layout_for ds f g) fits
 
-one_of : (a b : LayoutSegment) (xs : List LayoutSegment) → xs ≡ a ∷ [] → xs ≡ b ∷ [] → a ≡ b
+pub one_of : (a b : LayoutSegment) (xs : List LayoutSegment) → xs ≡ a ∷ [] → xs ≡ b ∷ [] → a ≡ b
 one_of a b xs is too = cc (sym is ∙ too)
 
 layout_read : (client : ℕ) (bytes : List ℕ) (k : ℕ) (o : ObjectCred) (l : Lists bytes k o)
@@ -105,7 +105,7 @@ credential_at ds f g (at ∷ cs) j (suc k) o found =
     )
 
 -- among all components
-first_credential : (ds : List Drive) (f : Kept) (g : Grant) (cs : List Component) (k : ℕ) (o : ObjectCred)
+pub first_credential : (ds : List Drive) (f : Kept) (g : Grant) (cs : List Component) (k : ℕ) (o : ObjectCred)
     → slice_get (credentials_from ds f g cs 0) k ≡ Some o
     → (at : Component) × (slice_get cs k ≡ Some at)
     × (o ≡ (if at.missing then no_credential at else credential ds f g at k))
@@ -118,7 +118,7 @@ first_credential ds f g cs k o found =
     )
 
 -- a capability that is read in it
-read_in : (ds : List Drive) (f : Kept) (g : Grant) (at : Component) (k : ℕ) (b : Bool) (o : ObjectCred) (x : Capability)
+pub read_in : (ds : List Drive) (f : Kept) (g : Grant) (at : Component) (k : ℕ) (b : Bool) (o : ObjectCred) (x : Capability)
     → o ≡ (if b then no_credential at else credential ds f g at k) → cap.reading o.oc_capability ≡ Ok x
     → (b ≡ false) × (cap.reading (cap.spelling (capability_for f g at k)) ≡ Ok x)
 unfolding credential cap.reading

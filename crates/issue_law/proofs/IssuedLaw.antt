@@ -67,12 +67,12 @@ none_performed d now c none clear =
 -- ---- what is performed of a client
 
 -- an answer of the server gives a client its own
-answered : (ss : List Sent) (c : ℕ) (o : ObjectCred) → AllCarry ss → (w : WasGiven ss c o) → SpellsOwn c w.message.bytes
+pub answered : (ss : List Sent) (c : ℕ) (o : ObjectCred) → AllCarry ss → (w : WasGiven ss c o) → SpellsOwn c w.message.bytes
 answered ss c o all w =
     subst (λ (p : Party). SentCarries ss p (party.Client c) w.message.bytes) w.sender
     (subst (λ (p : Party). SentCarries ss w.message.from p w.message.bytes) w.receiver (all w.number w.message w.there))
 
-issued : (before : List Line) (l : Line) (c d : ℕ) (bytes : List ℕ) → AllCarry (sent_in before)
+pub issued : (before : List Line) (l : Line) (c d : ℕ) (bytes : List ℕ) → AllCarry (sent_in before)
     → Carries (sent_in before) c d bytes → Judges before l d bytes Perform → IsIssued before c d bytes
 issued before l c d bytes all (x, spells, inl (o, given, under)) p =
     let source = answered (sent_in before) c o all given in

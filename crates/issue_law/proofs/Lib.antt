@@ -1,17 +1,17 @@
-mod Known
-mod KnownGoing
-mod KnownSteps
-mod Taking
-mod Telling
-mod Granting
-mod Growing
+pub mod Known
+pub mod KnownGoing
+pub mod KnownSteps
+pub mod Taking
+pub mod Telling
+pub mod Granting
+pub mod Growing
 pub mod Issuing
 pub mod IssuingMoves
 pub mod Carried
-mod Exact
-mod BytesRead
+pub mod Exact
+pub mod BytesRead
 pub mod Lines
-mod Messages
-mod IssuedLaw
-mod Ranges
-mod Unforged
+pub mod Messages
+pub mod IssuedLaw
+pub mod Ranges
+pub mod Unforged

@@ -37,13 +37,13 @@ wider_sent ss ts g (party.Drive d) to bytes k = tt
 -- ---- one line more
 
 -- a message with these parties and bytes was sent
-record WasIn (ss : List Sent) (m : Sent) : Type 0 where
-  number : ℕ
-  old : Sent
-  there : slice_get ss number ≡ Some old
-  from_is : old.from ≡ m.from
-  to_is : old.to ≡ m.to
-  bytes_are : old.bytes ≡ m.bytes
+pub record WasIn (ss : List Sent) (m : Sent) : Type 0 where
+  pub number : ℕ
+  pub old : Sent
+  pub there : slice_get ss number ≡ Some old
+  pub from_is : old.from ≡ m.from
+  pub to_is : old.to ≡ m.to
+  pub bytes_are : old.bytes ≡ m.bytes
 
 old_carries : (ss ts : List Sent) → Grows ss ts → AllCarry ss → (m : Sent) → WasIn ss m
     → SentCarries ts m.from m.to m.bytes
@@ -53,7 +53,7 @@ old_carries ss ts g all m w =
     (subst (λ (p : Party). SentCarries ss w.old.from p m.bytes) w.to_is
     (subst (λ (bytes : List ℕ). SentCarries ss w.old.from w.old.to bytes) w.bytes_are (all w.number w.old w.there))))
 
-was_itself : (ss : List Sent) (n : ℕ) (m : Sent) → slice_get ss n ≡ Some m → WasIn ss m
+pub was_itself : (ss : List Sent) (n : ℕ) (m : Sent) → slice_get ss n ≡ Some m → WasIn ss m
 was_itself ss n m found = record {
   number = n;
   old = m;
@@ -63,14 +63,14 @@ was_itself ss n m found = record {
   bytes_are = refl;
 }
 
-found_more : (ss : List Sent) (s : Sent) (n : ℕ) (m : Sent) → slice_get (ss ++ s ∷ []) n ≡ Some m
+pub found_more : (ss : List Sent) (s : Sent) (n : ℕ) (m : Sent) → slice_get (ss ++ s ∷ []) n ≡ Some m
     → (slice_get ss n ≡ Some m) ⊎ (s ≡ m)
 found_more [] s zero m is = inr (cc is)
 found_more [] s (suc n) m is = absurd (cc is)
 found_more (x ∷ ss) s zero m is = inl is
 found_more (x ∷ ss) s (suc n) m is = found_more ss s n m is
 
-found_set : (ss : List Sent) (k : ℕ) (s : Sent) (n : ℕ) (m : Sent) → slice_get (slice_set ss k s) n ≡ Some m
+pub found_set : (ss : List Sent) (k : ℕ) (s : Sent) (n : ℕ) (m : Sent) → slice_get (slice_set ss k s) n ≡ Some m
     → (slice_get ss n ≡ Some m) ⊎ (s ≡ m)
 found_set [] k s n m is = inl is
 found_set (x ∷ ss) zero s zero m is = inr (cc is)
@@ -93,7 +93,7 @@ marked_was ss k s t n m there from to bytes found = elim (found_set ss k t n m f
   }
 ]
 
-arrived_was : (ss : List Sent) (k : ℕ) (o : Option Sent) (n : ℕ) (m : Sent) → slice_get ss k ≡ o
+pub arrived_was : (ss : List Sent) (k : ℕ) (o : Option Sent) (n : ℕ) (m : Sent) → slice_get ss k ≡ o
     → slice_get (changed_by ss k arrived o) n ≡ Some m → WasIn ss m
 arrived_was ss k None n m there found = was_itself ss n m found
 arrived_was ss k (Some s) n m there found = marked_was ss k s (arrived s) n m there refl refl refl found
@@ -103,7 +103,7 @@ left_was : (ss : List Sent) (k : ℕ) (o : Option Sent) (n : ℕ) (m : Sent) →
 left_was ss k None n m there found = was_itself ss n m found
 left_was ss k (Some s) n m there found = marked_was ss k s (left_out s) n m there refl refl refl found
 
-event_was : (ss : List Sent) (e : Event) (n : ℕ) (m : Sent) → slice_get (sent_after_event ss e) n ≡ Some m → WasIn ss m
+pub event_was : (ss : List Sent) (e : Event) (n : ℕ) (m : Sent) → slice_get (sent_after_event ss e) n ≡ Some m → WasIn ss m
 event_was ss (event.DropMessage k) n m found = left_was ss k (slice_get ss k) n m refl found
 event_was ss e n m found = was_itself ss n m found
 

@@ -66,7 +66,7 @@ block_mono p d c s t l = elim (cases_lt (s / p) (t / p)) [
     within : (a x b y : ℕ) → b ≡ a → x ≤ y → a + x ≤ b + y
     within a x b y e l = omega (arith, e, l)
 
-rows_mono : (m : RawMap) (g s t : ℕ) → s ≤ t → rows_below m g s ≤ rows_below m g t
+pub rows_mono : (m : RawMap) (g s t : ℕ) → s ≤ t → rows_below m g s ≤ rows_below m g t
 unfolding rows_below
 rows_mono m g s t l =
     either_mono (m.width == 0) s t _ _ l (block_mono (m.depth * groups m) m.depth (g * m.depth) s t l)

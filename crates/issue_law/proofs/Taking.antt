@@ -32,11 +32,11 @@ IsUnderOne P drive c = ((o : ObjectCred) × P o × IsUnder o drive c) ⊎ (c.cap
 
 -- ---- a credential that is listed
 
-record IsListedAs (o : ObjectCred) (l : Listed) (cr : Credential) : Type 0 where
-  id : l.id ≡ o.oc_object_id
-  drive : cr.drive ≡ drive_of o.oc_object_id.oid_device_id
-  capability : capabilities.reading o.oc_capability ≡ Ok cr.capability
-  key : key_of cr.capability.format o.oc_capability_key ≡ Some cr.key
+pub record IsListedAs (o : ObjectCred) (l : Listed) (cr : Credential) : Type 0 where
+  pub id : l.id ≡ o.oc_object_id
+  pub drive : cr.drive ≡ drive_of o.oc_object_id.oid_device_id
+  pub capability : capabilities.reading o.oc_capability ≡ Ok cr.capability
+  pub key : key_of cr.capability.format o.oc_capability_key ≡ Some cr.key
 
 by_key : (o : ObjectCred) (c : Capability) (k : Option CapKey) (l : Listed) (cr : Credential)
     → capabilities.reading o.oc_capability ≡ Ok c → key_of c.format o.oc_capability_key ≡ k → with_key o c k ≡ Some l
@@ -78,21 +78,21 @@ by_version o Version2 l cr e f =
     by_capability o (capabilities.reading o.oc_capability) l cr refl
     (unless_far (nat_lt MAX_DRIVE (drive_of o.oc_object_id.oid_device_id)) _ l e) f
 
-is_listed : (o : ObjectCred) (l : Listed) (cr : Credential) → listed o ≡ Some l → l.credential ≡ Some cr
+pub is_listed : (o : ObjectCred) (l : Listed) (cr : Credential) → listed o ≡ Some l → l.credential ≡ Some cr
     → IsListedAs o l cr
 unfolding listed
 is_listed o l cr e f = by_version o o.oc_osd_version l cr e f
 
 -- ---- all that are listed
 
-both_listed : (x : Option Listed) (r : Option (List Listed)) (ls : List Listed) → and_listed x r ≡ Some ls
+pub both_listed : (x : Option Listed) (r : Option (List Listed)) (ls : List Listed) → and_listed x r ≡ Some ls
     → (l : Listed) × (rest : List Listed) × (x ≡ Some l) × (r ≡ Some rest) × (l ∷ rest ≡ ls)
 both_listed None r ls e = absurd (cc e)
 both_listed (Some l) None ls e = absurd (cc e)
 both_listed (Some l) (Some rest) ls e = (l, rest, refl, refl, cc e)
 
 -- the component with that number is one of them
-abbrev IsAt : List ObjectCred → (k : ℕ) → Listed → Type 0
+abbrev pub IsAt : List ObjectCred → (k : ℕ) → Listed → Type 0
 IsAt os k l = (o : ObjectCred) × (slice_get os k ≡ Some o) × (listed o ≡ Some l)
 
 at_place : (o : ObjectCred) (os : List ObjectCred) (l : Listed) (rest : List Listed) (k : ℕ) (m : Listed)
@@ -101,7 +101,7 @@ at_place : (o : ObjectCred) (os : List ObjectCred) (l : Listed) (rest : List Lis
 at_place o os l rest zero m is found later = (o, refl, is ∙ found)
 at_place o os l rest (suc k) m is found later = later k found
 
-listed_at : (os : List ObjectCred) (ls : List Listed) (k : ℕ) (l : Listed) → all_listed os ≡ Some ls
+pub listed_at : (os : List ObjectCred) (ls : List Listed) (k : ℕ) (l : Listed) → all_listed os ≡ Some ls
     → slice_get ls k ≡ Some l → IsAt os k l
 unfolding all_listed
 listed_at [] ls k l e found =
@@ -237,7 +237,7 @@ in_results : (a : Answer) (op : CallOp) (o : Option LayoutGetOk) (h : Held) → 
 in_results a op None h gives e = absurd (cc e)
 in_results a op (Some given) h gives e = in_segments a given op given.layouts h gives refl e
 
-is_taken : (a : Answer) (op : CallOp) (h : Held) → taken a op ≡ Ok h → IsTaken a h
+pub is_taken : (a : Answer) (op : CallOp) (h : Held) → taken a op ≡ Ok h → IsTaken a h
 unfolding taken
 is_taken a op h e = in_results a op (layouts_in a.results) h refl e
 

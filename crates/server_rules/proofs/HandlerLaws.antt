@@ -24,25 +24,25 @@ use Rattle.server_rules.proofs.GrantLaws.{apart_none, apart_same, apart_more, ap
 
 -- ---- from the job machine
 
-alone_by : (j : Option Job) (gs : List Grant) → gs ≡ [] → NoneBeside j gs
+pub alone_by : (j : Option Job) (gs : List Grant) → gs ≡ [] → NoneBeside j gs
 alone_by None gs e = tt
 alone_by (Some j) gs e = e
 
-no_job_beside : (j : Option Job) (gs : List Grant) → j ≡ None → NoneBeside j gs
+pub no_job_beside : (j : Option Job) (gs : List Grant) → j ≡ None → NoneBeside j gs
 no_job_beside None gs e = tt
 no_job_beside (Some j) gs e = absurd (cc e)
 
 -- no job begins, and the grants stay
-alone_from : (j i : Option Job) (gs hs : List Grant) → (j ≡ None → i ≡ None) → hs ≡ gs → NoneBeside j gs → NoneBeside i hs
+pub alone_from : (j i : Option Job) (gs hs : List Grant) → (j ≡ None → i ≡ None) → hs ≡ gs → NoneBeside j gs → NoneBeside i hs
 alone_from None i gs hs n e a = no_job_beside i hs (n refl)
 alone_from (Some j) i gs hs n e a = alone_by i hs (e ∙ a)
 
-alone_without : (j : Option Job) (gs : List Grant) (client : ℕ) → NoneBeside j gs → NoneBeside j (without gs client)
+pub alone_without : (j : Option Job) (gs : List Grant) (client : ℕ) → NoneBeside j gs → NoneBeside j (without gs client)
 alone_without None gs client a = tt
 alone_without (Some j) gs client a = rw a refl
 
 -- a job that ran on beside no grant
-left_by : (k : Kept) (g : Going) → Ran k g → k.grants ≡ [] → Leaves k g
+pub left_by : (k : Kept) (g : Going) → Ran k g → k.grants ≡ [] → Leaves k g
 left_by k g r e = record {
   number = r.number;
   safe = record {
@@ -52,7 +52,7 @@ left_by k g r e = record {
   };
 }
 
-leaves_here : (g : Going) → IsSafe g.file → Leaves g.file.kept g
+pub leaves_here : (g : Going) → IsSafe g.file → Leaves g.file.kept g
 leaves_here g s = record { number = refl; safe = s }
 
 pub leaves_fence : (kind : JobKind) (format : ℕ) (g : Going) → Leaves g.file.kept (fence_begins kind format g)
@@ -60,12 +60,12 @@ unfolding fence_begins
 leaves_fence kind format g =
     left_by (ending g.file.kept format) (fences kind (keeping g (ending g.file.kept format))) (ran_fences kind (keeping g (ending g.file.kept format))) refl
 
-none_in : (g : Going) (drive : ℕ) (j : Option Job) → j ≡ None → g.file.job ≡ None → (declared_in g drive j).file.job ≡ None
+pub none_in : (g : Going) (drive : ℕ) (j : Option Job) → j ≡ None → g.file.job ≡ None → (declared_in g drive j).file.job ≡ None
 none_in g drive None e n = n
 none_in g drive (Some j) e n = absurd (cc e)
 
 -- where no job runs, none begins
-none_declared : (g : Going) (drive : ℕ) → g.file.job ≡ None → (declares g drive).file.job ≡ None
+pub none_declared : (g : Going) (drive : ℕ) → g.file.job ≡ None → (declares g drive).file.job ≡ None
 unfolding declares
 none_declared g drive n = elim (cases_Bool (any_on drive g.file.kept.components || targets g.file.job drive)) [
   | inl t ↦ rw t (none_in (with_components g (lose_on drive g.file.kept.components)) drive g.file.job n n)
@@ -83,18 +83,18 @@ leaves_declared g drive s = record {
   };
 }
 
-leaves_made : (g : Going) (ready : Bool) → g.file.kept.grants ≡ [] → IsSafe g.file → Leaves g.file.kept (opens_made g ready)
+pub leaves_made : (g : Going) (ready : Bool) → g.file.kept.grants ≡ [] → IsSafe g.file → Leaves g.file.kept (opens_made g ready)
 leaves_made g true e s = record { number = refl; safe = record { rests = tt; apart = s.apart; alone = tt } }
 leaves_made g false e s = left_by g.file.kept (making g) (ran_making g) e
 
 pub leaves_new : (g : Going) → g.file.kept.grants ≡ [] → Leaves g.file.kept (making g)
 leaves_new g e = left_by g.file.kept (making g) (ran_making g) e
 
-none_there : (gs : List Grant) (b : Bool) → (nat_lt 0 (length gs) || b) ≡ false → gs ≡ []
+pub none_there : (gs : List Grant) (b : Bool) → (nat_lt 0 (length gs) || b) ≡ false → gs ≡ []
 none_there [] b e = refl
 none_there (g ∷ gs) b e = absurd (grind (arith, nat_tests, e))
 
-leaves_reopened : (format : ℕ) (g : Going) → IsSafe g.file → Leaves g.file.kept (opens_fenced format g)
+pub leaves_reopened : (format : ℕ) (g : Going) → IsSafe g.file → Leaves g.file.kept (opens_fenced format g)
 unfolding opens_fenced
 leaves_reopened format g s = elim (cases_Bool (g.file.kept.tag == GREATEST_TAG)) [
   | inl t ↦ rw t (record { number = refl; safe = s })
@@ -110,16 +110,16 @@ leaves_opened format g s = elim (cases_Bool (is_unsettled g.file.kept)) [
 
 -- ---- a reply
 
-some_renewed : (a b c : Awaited) (cs js : List Awaited) → js ≡ c ∷ cs → map (renewed a b) js ≡ renewed a b c ∷ map (renewed a b) cs
+pub some_renewed : (a b c : Awaited) (cs js : List Awaited) → js ≡ c ∷ cs → map (renewed a b) js ≡ renewed a b c ∷ map (renewed a b) cs
 some_renewed a b c cs js e = rw e refl
 
-ran_full_up : (g : Going) (j : Job) (a : Awaited) (work : Work) → Rests g.file.job → Ran g.file.kept (fills_up g j a work)
+pub ran_full_up : (g : Going) (j : Job) (a : Awaited) (work : Work) → Rests g.file.job → Ran g.file.kept (fills_up g j a work)
 ran_full_up g j a (Targets t) h = ran_full g t
 ran_full_up g j a (Gathers t todo) h = ran_full g t
 ran_full_up g j a (Fills t todo) h = ran_full g t
 ran_full_up g j a work h = ran_loses _ j work _ false h
 
-ran_hears : (g : Going) (j : Job) (a : Awaited) (r : Reply) (as_ : Hearing) → Rests (Some j) → Rests g.file.job → Ran g.file.kept (hears g j a r as_)
+pub ran_hears : (g : Going) (j : Job) (a : Awaited) (r : Reply) (as_ : Hearing) → Rests (Some j) → Rests g.file.job → Ran g.file.kept (hears g j a r as_)
 ran_hears g j a r Older w h = record {
   number = refl;
   map = refl;
@@ -136,11 +136,11 @@ abbrev pub Heard_out : Kept → Option Going → Type 0
 Heard_out k None = Unit {0}
 Heard_out k (Some g) = Leaves k g
 
-out_by : (g : Going) (r : Reply) (j : Job) (o : Option Awaited) → Rests (Some j) → g.file.kept.grants ≡ [] → IsSafe g.file → Heard_out g.file.kept (heard_by g r j o)
+pub out_by : (g : Going) (r : Reply) (j : Job) (o : Option Awaited) → Rests (Some j) → g.file.kept.grants ≡ [] → IsSafe g.file → Heard_out g.file.kept (heard_by g r j o)
 out_by g r j None w e s = tt
 out_by g r j (Some a) w e s = left_by g.file.kept (hears g j a r (hearing g.file.kept a r)) (ran_hears g j a r (hearing g.file.kept a r) w s.rests) e
 
-out_in : (g : Going) (drive : ℕ) (r : Reply) (j : Option Job) → g.file.job ≡ j → IsSafe g.file → Heard_out g.file.kept (heard_in g drive r j)
+pub out_in : (g : Going) (drive : ℕ) (r : Reply) (j : Option Job) → g.file.job ≡ j → IsSafe g.file → Heard_out g.file.kept (heard_in g drive r j)
 out_in g drive r None e s = tt
 out_in g drive r (Some j) e s = out_by g r j (find (answers drive r) j.awaited) (rw e at s.rests) (rw e at s.alone) s
 
@@ -150,7 +150,7 @@ leaves_reply g drive r s = out_in g drive r g.file.job refl s
 
 -- ---- LAYOUTGET
 
-by_lacked_gives : (l : Option ℕ) (o : Option Grant) → by_lacked l o ≡ Gives → o ≡ None
+pub by_lacked_gives : (l : Option ℕ) (o : Option Grant) → by_lacked l o ≡ Gives → o ≡ None
 by_lacked_gives (Some k) o e = absurd (cc e)
 by_lacked_gives None None e = refl
 by_lacked_gives None (Some d) e = absurd (cc e)
@@ -163,7 +163,7 @@ given f next g e = elim (cases_Bool (nat_lt GREATEST_GRANT next)) [
   | inr z ↦ by_lacked_gives (lacked f g) _ (rw z at e)
 ]
 
-leaves_late : (go : Going) (next : ℕ) (g : Grant) (l : Late) → late go.file.kept next g ≡ l → go.file.job ≡ None → grant_of go.file.kept.grants g.client ≡ None → IsSafe go.file →
+pub leaves_late : (go : Going) (next : ℕ) (g : Grant) (l : Late) → late go.file.kept next g ≡ l → go.file.job ≡ None → grant_of go.file.kept.grants g.client ≡ None → IsSafe go.file →
     Leaves go.file.kept (by_late go g l).going
 leaves_late go next g NoNumber e n own s = leaves_here go s
 leaves_late go next g (Lacks k) e n own s = leaves_here go s
@@ -177,34 +177,34 @@ leaves_late go next g Gives e n own s = record {
   };
 }
 
-leaves_given : (go : Going) (next : ℕ) (g : Grant) → go.file.job ≡ None → grant_of go.file.kept.grants g.client ≡ None → IsSafe go.file →
+pub leaves_given : (go : Going) (next : ℕ) (g : Grant) → go.file.job ≡ None → grant_of go.file.kept.grants g.client ≡ None → IsSafe go.file →
     Leaves go.file.kept (give_or_refuse go next g).going
 unfolding give_or_refuse
 leaves_given go next g n own s = leaves_late go next g (late go.file.kept next g) refl n own s
 
-leaves_after : (go : Going) (next : ℕ) (g : Grant) (j : Option Job) → go.file.job ≡ j → grant_of go.file.kept.grants g.client ≡ None → IsSafe go.file →
+pub leaves_after : (go : Going) (next : ℕ) (g : Grant) (j : Option Job) → go.file.job ≡ j → grant_of go.file.kept.grants g.client ≡ None → IsSafe go.file →
     Leaves go.file.kept (after_fence go next g j).going
 leaves_after go next g None n own s = leaves_given go next g n own s
 leaves_after go next g (Some j) n own s = leaves_here go s
 
 -- one after the other
-then_leaves : (k : Kept) (g h : Going) → Leaves k g → Leaves g.file.kept h → Leaves k h
+pub then_leaves : (k : Kept) (g h : Going) → Leaves k g → Leaves g.file.kept h → Leaves k h
 then_leaves k g h a b = record { number = b.number ∙ a.number; safe = b.safe }
 
 -- a fence leaves no grant
-fence_leaves_none : (kind : JobKind) (format : ℕ) (g : Going) → (fence_begins kind format g).file.kept.grants ≡ []
+pub fence_leaves_none : (kind : JobKind) (format : ℕ) (g : Going) → (fence_begins kind format g).file.kept.grants ≡ []
 unfolding fence_begins
 fence_leaves_none kind format g = (ran_fences kind (keeping g (ending g.file.kept format))).grants
 
-nobody_left : (gs : List Grant) (client : ℕ) → gs ≡ [] → grant_of gs client ≡ None
+pub nobody_left : (gs : List Grant) (client : ℕ) → gs ≡ [] → grant_of gs client ≡ None
 nobody_left gs client e = rw e refl
 
 -- the asking client has no grant where no fence must come first
-no_fence : (now : ℕ) (gs : List Grant) (g : Grant) → must_fence now gs g ≡ false → grant_of gs g.client ≡ None
+pub no_fence : (now : ℕ) (gs : List Grant) (g : Grant) → must_fence now gs g ≡ false → grant_of gs g.client ≡ None
 unfolding must_fence
 no_fence now gs g e = grind (arith, e)
 
-leaves_first : (go : Going) (next format : ℕ) (g : Grant) → IsSafe go.file → Leaves go.file.kept (fence_first go next format g).going
+pub leaves_first : (go : Going) (next format : ℕ) (g : Grant) → IsSafe go.file → Leaves go.file.kept (fence_first go next format g).going
 unfolding fence_first
 leaves_first go next format g s = elim (cases_Bool (go.file.kept.tag == GREATEST_TAG)) [
   | inl t ↦ rw t (record { number = refl; safe = s })
@@ -213,7 +213,7 @@ leaves_first go next format g s = elim (cases_Bool (go.file.kept.tag == GREATEST
       (nobody_left (fence_begins Revoking format go).file.kept.grants g.client (fence_leaves_none Revoking format go)) (leaves_fence Revoking format go).safe))
 ]
 
-leaves_grants : (go : Going) (next format now : ℕ) (g : Grant) → go.file.job ≡ None → IsSafe go.file → Leaves go.file.kept (on_grants go next format now g).going
+pub leaves_grants : (go : Going) (next format now : ℕ) (g : Grant) → go.file.job ≡ None → IsSafe go.file → Leaves go.file.kept (on_grants go next format now g).going
 unfolding on_grants
 leaves_grants go next format now g n s = elim (cases_Bool (must_fence now go.file.kept.grants g)) [
   | inl t ↦ rw t (leaves_first go next format g s)
@@ -221,11 +221,11 @@ leaves_grants go next format now g n s = elim (cases_Bool (must_fence now go.fil
 ]
 
 -- no job runs where none of the first rows applies
-no_job_on : (j : Option Job) → by_job j ≡ On → j ≡ None
+pub no_job_on : (j : Option Job) → by_job j ≡ On → j ≡ None
 no_job_on None e = refl
 no_job_on (Some j) e = absurd (cc e)
 
-idle : (f : File) (iomode offset count : ℕ) → early f iomode offset count ≡ On → f.job ≡ None
+pub idle : (f : File) (iomode offset count : ℕ) → early f iomode offset count ≡ On → f.job ≡ None
 unfolding early
 idle f iomode offset count e = elim (cases_Bool (not ((iomode == 1) || (iomode == 2)))) [
   | inl t ↦ absurd (cc (rw t at e))
@@ -235,44 +235,44 @@ idle f iomode offset count e = elim (cases_Bool (not ((iomode == 1) || (iomode =
   ]
 ]
 
-leaves_early : (go : Going) (next format now : ℕ) (g : Grant) (e : Early) → (e ≡ On → go.file.job ≡ None) → IsSafe go.file → Leaves go.file.kept (by_early go next format now g e).going
+pub leaves_early : (go : Going) (next format now : ℕ) (g : Grant) (e : Early) → (e ≡ On → go.file.job ≡ None) → IsSafe go.file → Leaves go.file.kept (by_early go next format now g e).going
 leaves_early go next format now g BadMode n s = leaves_here go s
 leaves_early go next format now g Invalid n s = leaves_here go s
 leaves_early go next format now g Unable n s = leaves_here go s
 leaves_early go next format now g (Waits k) n s = leaves_here go s
 leaves_early go next format now g On n s = leaves_grants go next format now g (n refl) s
 
-leaves_gets : (go : Going) (next format now client iomode offset count : ℕ) → IsSafe go.file → Leaves go.file.kept (gets go next format now client iomode offset count).going
+pub leaves_gets : (go : Going) (next format now client iomode offset count : ℕ) → IsSafe go.file → Leaves go.file.kept (gets go next format now client iomode offset count).going
 unfolding gets
 leaves_gets go next format now client iomode offset count s = leaves_early go next format now _ (early go.file iomode offset count) (idle go.file iomode offset count) s
 
 -- ---- LAYOUTCOMMIT and LAYOUTRETURN
 
-leaves_commit : (go : Going) (c : Committed) → IsSafe go.file → Leaves go.file.kept (by_commit go c).going
+pub leaves_commit : (go : Going) (c : Committed) → IsSafe go.file → Leaves go.file.kept (by_commit go c).going
 leaves_commit go NoCommit s = leaves_here go s
 leaves_commit go Wrong s = leaves_here go s
 leaves_commit go (Sizes size) s = record { number = refl; safe = s }
 
-leaves_commits : (go : Going) (client : ℕ) (last : Option ℕ) → IsSafe go.file → Leaves go.file.kept (commits go client last).going
+pub leaves_commits : (go : Going) (client : ℕ) (last : Option ℕ) → IsSafe go.file → Leaves go.file.kept (commits go client last).going
 unfolding commits
 leaves_commits go client last s = leaves_commit go (commit_row go.file.kept client last) s
 
-leaves_reports : (go : Going) (ks : List ℕ) (cs : List Component) (k : ℕ) → IsSafe go.file → Leaves go.file.kept (reports_from go ks cs k)
+pub leaves_reports : (go : Going) (ks : List ℕ) (cs : List Component) (k : ℕ) → IsSafe go.file → Leaves go.file.kept (reports_from go ks cs k)
 unfolding reports_from
 leaves_reports go ks [] k s = leaves_here go s
 leaves_reports go ks (at ∷ cs) k s = leaves_reports (noting_if (among k ks) go (Reported k)) ks cs (k + 1) s
 
-leaves_loss : (go : Going) (ks : List ℕ) → IsSafe go.file → Leaves go.file.kept (takes_loss go ks)
+pub leaves_loss : (go : Going) (ks : List ℕ) → IsSafe go.file → Leaves go.file.kept (takes_loss go ks)
 unfolding takes_loss
 leaves_loss go ks s = leaves_reports (keeping go (record go.file.kept { components = lose_from ks go.file.kept.components 0 })) ks go.file.kept.components 0 s
 
-leaves_ended : (go : Going) (client : ℕ) → IsSafe go.file → Leaves go.file.kept (ends_grant go client)
+pub leaves_ended : (go : Going) (client : ℕ) → IsSafe go.file → Leaves go.file.kept (ends_grant go client)
 leaves_ended go client s = record {
   number = refl;
   safe = record { rests = s.rests; apart = apart_without go.file.kept.grants client s.apart; alone = alone_without go.file.job go.file.kept.grants client s.alone };
 }
 
-leaves_return : (go : Going) (format client : ℕ) (r : Returned) → IsSafe go.file → Leaves go.file.kept (by_return go format client r).going
+pub leaves_return : (go : Going) (format client : ℕ) (r : Returned) → IsSafe go.file → Leaves go.file.kept (by_return go format client r).going
 leaves_return go format client NoGrant s = leaves_here go s
 leaves_return go format client Clean s = leaves_ended go client s
 leaves_return go format client (Taken ks) s =
@@ -280,7 +280,7 @@ leaves_return go format client (Taken ks) s =
 leaves_return go format client TooMany s = leaves_here (noting go Spent) s
 leaves_return go format client Fencing s = leaves_fence Revoking format go
 
-leaves_returns : (go : Going) (format client : ℕ) (report : List IoErr) → IsSafe go.file → Leaves go.file.kept (returns_on go format client report).going
+pub leaves_returns : (go : Going) (format client : ℕ) (report : List IoErr) → IsSafe go.file → Leaves go.file.kept (returns_on go format client report).going
 unfolding returns_on
 leaves_returns go format client report s = leaves_return go format client (return_row go.file.kept client report) s
 

@@ -1,9 +1,9 @@
-mod Runs
-mod GrantLaws
-mod FileLaws
-mod HandlerLaws
-mod StepLaws
-mod SlotLaws
+pub mod Runs
+pub mod GrantLaws
+pub mod FileLaws
+pub mod HandlerLaws
+pub mod StepLaws
+pub mod SlotLaws
 mod Opened
 mod RowsOrders
 mod RowsRequests

@@ -14,48 +14,48 @@ use Rattle.server_rules.specs.Laws.{Rests, Ran}
 
 -- ---- the ends
 
-ran_over : (g : Going) → Ran g.file.kept (over g)
+pub ran_over : (g : Going) → Ran g.file.kept (over g)
 ran_over g = record { number = refl; map = refl; size = refl; high = refl; grants = refl; rests = tt }
 
-ran_rests_or : (cs : List Awaited) (g : Going) (kind : JobKind) (work : Work) (later : Going) → Ran g.file.kept later → Ran g.file.kept (rests_or cs g kind work later)
+pub ran_rests_or : (cs : List Awaited) (g : Going) (kind : JobKind) (work : Work) (later : Going) → Ran g.file.kept later → Ran g.file.kept (rests_or cs g kind work later)
 ran_rests_or [] g kind work later h = h
 ran_rests_or (c ∷ cs) g kind work later h = record { number = refl; map = refl; size = refl; high = refl; grants = refl; rests = (c, cs, refl) }
 
 -- ---- audit
 
-ran_audits : (g : Going) (ps : List Piece) (t : Tally) → Ran g.file.kept (audits g ps t)
+pub ran_audits : (g : Going) (ps : List Piece) (t : Tally) → Ran g.file.kept (audits g ps t)
 unfolding audits
 ran_audits g [] t = record { number = refl; map = refl; size = refl; high = refl; grants = refl; rests = tt }
 ran_audits g (p ∷ ps) t = ran_rests_or _ g _ _ _ (ran_audits g ps _)
 
-ran_audit : (g : Going) → Ran g.file.kept (audit_begins g)
+pub ran_audit : (g : Going) → Ran g.file.kept (audit_begins g)
 unfolding audit_begins
 ran_audit g = ran_rests_or _ g _ _ _ (ran_audits g _ _)
 
 -- ---- rebuild
 
-ran_makes_or : (g : Going) (t : Option Target) (later : Going) → Ran g.file.kept later → Ran g.file.kept (makes_or g t later)
+pub ran_makes_or : (g : Going) (t : Option Target) (later : Going) → Ran g.file.kept later → Ran g.file.kept (makes_or g t later)
 ran_makes_or g None later h = h
 ran_makes_or g (Some t) later h = record { number = refl; map = refl; size = refl; high = refl; grants = refl; rests = (_, _, refl) }
 
-ran_rebuilds : (g : Going) (cs : List Component) (k : ℕ) → Ran g.file.kept (rebuilds g cs k)
+pub ran_rebuilds : (g : Going) (cs : List Component) (k : ℕ) → Ran g.file.kept (rebuilds g cs k)
 unfolding rebuilds
 ran_rebuilds g [] k = ran_over g
 ran_rebuilds g (at ∷ cs) k = ran_makes_or g _ _ (ran_rebuilds (noting_if at.missing g (NoDrive k)) cs (k + 1))
 
-ran_fills : (g : Going) (t : Target) (ps : List Piece) → Ran g.file.kept (fills g t ps)
+pub ran_fills : (g : Going) (t : Target) (ps : List Piece) → Ran g.file.kept (fills g t ps)
 unfolding fills
 ran_fills g t [] = ran_rebuilds _ _ _
 ran_fills g t (p ∷ ps) = ran_rests_or _ g _ _ _ (ran_rebuilds _ _ _)
 
-ran_filling : (g : Going) (t : Target) (p : Piece) (ps : List Piece) (bytes : List ℕ) → Ran g.file.kept (filling g t p ps bytes)
+pub ran_filling : (g : Going) (t : Target) (p : Piece) (ps : List Piece) (bytes : List ℕ) → Ran g.file.kept (filling g t p ps bytes)
 unfolding filling
 ran_filling g t p ps bytes = elim (cases_Bool (nat_lt 0 (end_of bytes (replicate p.count 0)))) [
   | inl e ↦ rw e (record { number = refl; map = refl; size = refl; high = refl; grants = refl; rests = (_, _, refl) })
   | inr e ↦ rw e (ran_fills g t ps)
 ]
 
-ran_gone : (g : Going) (t : Target) → Ran g.file.kept (target_gone g t)
+pub ran_gone : (g : Going) (t : Target) → Ran g.file.kept (target_gone g t)
 ran_gone g t = ran_rebuilds _ _ _
 
 pub ran_full : (g : Going) (t : Target) → Ran g.file.kept (target_full g t)
@@ -63,26 +63,26 @@ ran_full g t = ran_rebuilds _ _ _
 
 -- ---- repair
 
-ran_after : (kind : JobKind) (g : Going) → Ran g.file.kept (after_repair kind g)
+pub ran_after : (kind : JobKind) (g : Going) → Ran g.file.kept (after_repair kind g)
 ran_after Making g = ran_over g
 ran_after Revoking g = ran_over g
 ran_after Rebuilding g = ran_rebuilds g _ _
 ran_after Auditing g = ran_audit g
 
-ran_repairs : (kind : JobKind) (g : Going) (ps : List Piece) (short : List ℕ) → Ran g.file.kept (repairs kind g ps short)
+pub ran_repairs : (kind : JobKind) (g : Going) (ps : List Piece) (short : List ℕ) → Ran g.file.kept (repairs kind g ps short)
 unfolding repairs
 ran_repairs kind g [] short = ran_after kind (mended g short)
 ran_repairs kind g (p ∷ ps) short = ran_rests_or _ g _ _ _ (ran_repairs kind g ps _)
 
-ran_storing : (kind : JobKind) (g : Going) (p : Piece) (ps : List Piece) (short : List ℕ) (heard : List Heard) → Ran g.file.kept (storing kind g p ps short heard)
+pub ran_storing : (kind : JobKind) (g : Going) (p : Piece) (ps : List Piece) (short : List ℕ) (heard : List Heard) → Ran g.file.kept (storing kind g p ps short heard)
 unfolding storing
 ran_storing kind g p ps short heard = ran_rests_or _ g _ _ _ (ran_repairs kind g ps short)
 
-ran_stored : (kind : JobKind) (g : Going) (p : Piece) (ps : List Piece) (short : List ℕ) (broken : Bool) → Ran g.file.kept (stored kind g p ps short broken)
+pub ran_stored : (kind : JobKind) (g : Going) (p : Piece) (ps : List Piece) (short : List ℕ) (broken : Bool) → Ran g.file.kept (stored kind g p ps short broken)
 ran_stored kind g p ps short true = ran_repairs kind g (p ∷ ps) short
 ran_stored kind g p ps short false = ran_repairs kind g ps short
 
-ran_repair : (kind : JobKind) (g : Going) → Ran g.file.kept (repair_begins kind g)
+pub ran_repair : (kind : JobKind) (g : Going) → Ran g.file.kept (repair_begins kind g)
 unfolding repair_begins
 ran_repair kind g = ran_repairs kind g _ _
 
@@ -92,34 +92,34 @@ pub ran_making : (g : Going) → Ran g.file.kept (making g)
 unfolding making
 ran_making g = ran_rests_or _ g _ _ _ (record { number = refl; map = refl; size = refl; high = refl; grants = refl; rests = tt })
 
-ran_fenced : (kind : JobKind) (g : Going) → Ran g.file.kept (fenced kind g)
+pub ran_fenced : (kind : JobKind) (g : Going) → Ran g.file.kept (fenced kind g)
 unfolding fenced
 ran_fenced kind g = ran_repair kind _
 
 pub ran_fences : (kind : JobKind) (g : Going) → Ran g.file.kept (fences kind g)
 ran_fences kind g = ran_rests_or _ g _ _ _ (ran_fenced kind g)
 
-ran_fetched : (kind : JobKind) (g : Going) (ps : List Piece) (short : List ℕ) (heard : List Heard) → Ran g.file.kept (fetched kind g ps short heard)
+pub ran_fetched : (kind : JobKind) (g : Going) (ps : List Piece) (short : List ℕ) (heard : List Heard) → Ran g.file.kept (fetched kind g ps short heard)
 ran_fetched kind g [] short heard = ran_repairs kind g [] short
 ran_fetched kind g (p ∷ ps) short heard = ran_storing kind g p ps short heard
 
-ran_written : (kind : JobKind) (g : Going) (ps : List Piece) (short : List ℕ) (broken : Bool) → Ran g.file.kept (written kind g ps short broken)
+pub ran_written : (kind : JobKind) (g : Going) (ps : List Piece) (short : List ℕ) (broken : Bool) → Ran g.file.kept (written kind g ps short broken)
 ran_written kind g [] short broken = ran_repairs kind g [] short
 ran_written kind g (p ∷ ps) short broken = ran_stored kind g p ps short broken
 
-ran_gathered : (g : Going) (t : Target) (ps : List Piece) (heard : List Heard) → Ran g.file.kept (gathered g t ps heard)
+pub ran_gathered : (g : Going) (t : Target) (ps : List Piece) (heard : List Heard) → Ran g.file.kept (gathered g t ps heard)
 ran_gathered g t [] heard = ran_fills g t []
 ran_gathered g t (p ∷ ps) heard = ran_filling g t p ps _
 
-ran_filled : (g : Going) (t : Target) (ps : List Piece) → Ran g.file.kept (filled_in g t ps)
+pub ran_filled : (g : Going) (t : Target) (ps : List Piece) → Ran g.file.kept (filled_in g t ps)
 ran_filled g t [] = ran_fills g t []
 ran_filled g t (p ∷ ps) = ran_fills g t ps
 
-ran_checked : (g : Going) (ps : List Piece) (t : Tally) (heard : List Heard) → Ran g.file.kept (audited_on g ps t heard)
+pub ran_checked : (g : Going) (ps : List Piece) (t : Tally) (heard : List Heard) → Ran g.file.kept (audited_on g ps t heard)
 ran_checked g [] t heard = ran_audits g [] t
 ran_checked g (p ∷ ps) t heard = ran_audits g ps _
 
-ran_on : (kind : JobKind) (work : Work) (heard : List Heard) (g : Going) → Ran g.file.kept (goes_on kind work heard g)
+pub ran_on : (kind : JobKind) (work : Work) (heard : List Heard) (g : Going) → Ran g.file.kept (goes_on kind work heard g)
 unfolding goes_on
 ran_on kind Creates heard g = record { number = refl; map = refl; size = refl; high = refl; grants = refl; rests = tt }
 ran_on kind Fences heard g = ran_fenced kind g
@@ -137,14 +137,14 @@ ran_waits_or_on g j work (c ∷ cs) heard = record { number = refl; map = refl; 
 
 -- ---- a component is lost meanwhile
 
-ran_refills : (g : Going) (t : Target) (ps : List Piece) (gone : Bool) → Ran g.file.kept (refills g t ps gone)
+pub ran_refills : (g : Going) (t : Target) (ps : List Piece) (gone : Bool) → Ran g.file.kept (refills g t ps gone)
 ran_refills g t ps true = ran_gone g t
 ran_refills g t ps false = ran_fills g t ps
 
 pub ran_here : (g : Going) → Rests g.file.job → Ran g.file.kept g
 ran_here g h = record { number = refl; map = refl; size = refl; high = refl; grants = refl; rests = h }
 
-ran_remakes : (g : Going) (t : Target) (gone : Bool) → Rests g.file.job → Ran g.file.kept (remakes g t gone)
+pub ran_remakes : (g : Going) (t : Target) (gone : Bool) → Rests g.file.job → Ran g.file.kept (remakes g t gone)
 ran_remakes g t true h = ran_gone g t
 ran_remakes g t false h = ran_here g h
 
@@ -158,7 +158,7 @@ ran_loses g j (Fills t ps) rest gone h = ran_refills g t ps gone
 ran_loses g j (Checks ps t) rest gone h = ran_audits g ps t
 ran_loses g j work rest gone h = ran_waits_or_on g j work rest j.heard
 
-ran_declared : (g : Going) (drive : ℕ) (j : Option Job) → Rests g.file.job → Ran g.file.kept (declared_in g drive j)
+pub ran_declared : (g : Going) (drive : ℕ) (j : Option Job) → Rests g.file.job → Ran g.file.kept (declared_in g drive j)
 ran_declared g drive None h = ran_here g h
 ran_declared g drive (Some j) h = ran_loses g j j.work _ _ h
 

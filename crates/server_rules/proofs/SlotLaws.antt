@@ -24,32 +24,32 @@ use Rattle.server_rules.proofs.FileLaws.{keep_same, keep_other}
 
 -- ---- steps that leave the slots alone
 
-same_heard : (s : Server) (o : Option Going) → (by_heard s o).state.slots ≡ s.slots
+pub same_heard : (s : Server) (o : Option Going) → (by_heard s o).state.slots ≡ s.slots
 same_heard s None = refl
 same_heard s (Some g) = refl
 
-same_reply : (s : Server) (chosen : List ℕ) (drive : ℕ) (r : Reply) → (on_drive_reply s chosen drive r).state.slots ≡ s.slots
+pub same_reply : (s : Server) (chosen : List ℕ) (drive : ℕ) (r : Reply) → (on_drive_reply s chosen drive r).state.slots ≡ s.slots
 unfolding on_drive_reply
 same_reply s chosen drive r = same_heard s (heard_at s chosen drive r s.files)
 
-same_job : (s : Server) (chosen : List ℕ) (kind : JobKind) (f : File) (j : Option Job) → (begins_job s chosen kind f j).step.state.slots ≡ s.slots
+pub same_job : (s : Server) (chosen : List ℕ) (kind : JobKind) (f : File) (j : Option Job) → (begins_job s chosen kind f j).step.state.slots ≡ s.slots
 same_job s chosen kind f (Some j) = refl
 same_job s chosen kind f None = elim (cases_Bool (f.kept.tag == GREATEST_TAG)) [ inl t ↦ rw t refl | inr z ↦ rw z refl ]
 
-same_start : (s : Server) (chosen : List ℕ) (kind : JobKind) (o : Option File) → (starts s chosen kind o).step.state.slots ≡ s.slots
+pub same_start : (s : Server) (chosen : List ℕ) (kind : JobKind) (o : Option File) → (starts s chosen kind o).step.state.slots ≡ s.slots
 same_start s chosen kind None = refl
 same_start s chosen kind (Some f) = same_job s chosen kind f f.job
 
-same_recall : (s : Server) (o : Option File) → (recalls_on s o).step.state.slots ≡ s.slots
+pub same_recall : (s : Server) (o : Option File) → (recalls_on s o).step.state.slots ≡ s.slots
 same_recall s None = refl
 same_recall s (Some f) = refl
 
-same_declared : (s : Server) (chosen : List ℕ) (drive : ℕ) (b : Bool) → (declares_known s chosen drive b).step.state.slots ≡ s.slots
+pub same_declared : (s : Server) (chosen : List ℕ) (drive : ℕ) (b : Bool) → (declares_known s chosen drive b).step.state.slots ≡ s.slots
 unfolding declare
 same_declared s chosen drive true = refl
 same_declared s chosen drive false = refl
 
-same_ordered : (s : Server) (chosen : List ℕ) (kind : OrderKind) (n : ℕ) → (ordered s chosen kind n).step.state.slots ≡ s.slots
+pub same_ordered : (s : Server) (chosen : List ℕ) (kind : OrderKind) (n : ℕ) → (ordered s chosen kind n).step.state.slots ≡ s.slots
 unfolding ordered
 same_ordered s chosen ToRecall n = same_recall s (file_at s.files n)
 same_ordered s chosen ToRevoke n = same_start s chosen Revoking (file_at s.files n)
@@ -57,23 +57,23 @@ same_ordered s chosen ToDeclare n = same_declared s chosen n (is_some (find (λ 
 same_ordered s chosen ToRebuild n = same_start s chosen Rebuilding (file_at s.files n)
 same_ordered s chosen ToAudit n = same_start s chosen Auditing (file_at s.files n)
 
-same_made : (s : Server) (n : ℕ) (m : RawMap) (tag : ℕ) (ds : List ℕ) (o : Option Refusal) →
+pub same_made : (s : Server) (n : ℕ) (m : RawMap) (tag : ℕ) (ds : List ℕ) (o : Option Refusal) →
     (unless_made s (unless_refused o (makes_file s (unmade s n m tag ds)))).state.slots ≡ s.slots
 same_made s n m tag ds None = refl
 same_made s n m tag ds (Some r) = refl
 
-same_created : (s : Server) (n : ℕ) (m : RawMap) (tag : ℕ) (chosen : List ℕ) → (unless_made s (create_file s n m tag chosen)).state.slots ≡ s.slots
+pub same_created : (s : Server) (n : ℕ) (m : RawMap) (tag : ℕ) (chosen : List ℕ) → (unless_made s (create_file s n m tag chosen)).state.slots ≡ s.slots
 unfolding create_file
 same_created s n m tag chosen = same_made s n m tag (places s.drives m.comps chosen) (refusal s n m)
 
-same_reopened : (s : Server) → (reopen s).state.slots ≡ s.slots
+pub same_reopened : (s : Server) → (reopen s).state.slots ≡ s.slots
 unfolding reopen
 same_reopened s = elim (cases_Bool (counters_low s)) [ inl t ↦ rw t refl | inr z ↦ rw z refl ]
 
 -- ---- a request
 
 -- the number behind the last
-admit_new : (o : Option Slot) (n : ℕ) → admit o n ≡ New → n ≡ last_of o + 1
+pub admit_new : (o : Option Slot) (n : ℕ) → admit o n ≡ New → n ≡ last_of o + 1
 unfolding admit admit_after
 admit_new None n e = elim (cases_Bool ((n == 0 + 1) && nat_lt 0 GREATEST_SEQUENCE)) [ inl t ↦ grind (arith, nat_tests, t) | inr z ↦ absurd (cc (rw z at e)) ]
 admit_new (Some t) n e = elim (cases_Bool (n == t.last)) [
@@ -82,17 +82,17 @@ admit_new (Some t) n e = elim (cases_Bool (n == t.last)) [
 ]
 
 -- the last number again
-admit_again : (o : Option Slot) (t : Slot) (n : ℕ) → o ≡ Some t → n ≡ t.last → admit o n ≡ Again t.kept
+pub admit_again : (o : Option Slot) (t : Slot) (n : ℕ) → o ≡ Some t → n ≡ t.last → admit o n ≡ Again t.kept
 unfolding admit
 admit_again o t n e m = rw e (rw (eq-eqb n t.last m) refl)
 
 -- a request that is carried out leaves its answer in the slot, and answers it last
-abbrev IsCarriedOut : Server → ClientRequest → Step → Type 0
+abbrev pub IsCarriedOut : Server → ClientRequest → Step → Type 0
 IsCarriedOut s q t =
     (a : Answer) × (front : List Outgoing) × (t.sends ≡ front ++ (Answers a ∷ []))
     × (slot_of t.state.slots q.client ≡ Some (record { client = q.client; last = q.sequence; kept = a }))
 
-leaves_answer : (s : Server) (now : ℕ) (chosen : List ℕ) (q : ClientRequest) (o : Option File) → IsCarriedOut s q (carries_out s now chosen q o)
+pub leaves_answer : (s : Server) (now : ℕ) (chosen : List ℕ) (q : ClientRequest) (o : Option File) → IsCarriedOut s q (carries_out s now chosen q o)
 leaves_answer s now chosen q None =
     let a : Answer = answer_without q
     in (a, [], refl, keep_same s.slots (record { client = q.client; last = q.sequence; kept = a }))
@@ -105,39 +105,39 @@ leaves_answer s now chosen q (Some f) =
       keep_same s.slots (record { client = q.client; last = q.sequence; kept = answer_with s q v }),
     )
 
-by_new : (s : Server) (now : ℕ) (chosen : List ℕ) (q : ClientRequest) (a : Admit) → a ≡ New → IsCarriedOut s q (by_admit s now chosen q a)
+pub by_new : (s : Server) (now : ℕ) (chosen : List ℕ) (q : ClientRequest) (a : Admit) → a ≡ New → IsCarriedOut s q (by_admit s now chosen q a)
 by_new s now chosen q New e = leaves_answer s now chosen q (file_at s.files q.file)
 by_new s now chosen q (Again kept) e = absurd (cc e)
 by_new s now chosen q (Misordered expected) e = absurd (cc e)
 
-carried_out : (s : Server) (now : ℕ) (chosen : List ℕ) (q : ClientRequest) → admit (slot_of s.slots q.client) q.sequence ≡ New → IsCarriedOut s q (on_request s now chosen q)
+pub carried_out : (s : Server) (now : ℕ) (chosen : List ℕ) (q : ClientRequest) → admit (slot_of s.slots q.client) q.sequence ≡ New → IsCarriedOut s q (on_request s now chosen q)
 unfolding on_request
 carried_out s now chosen q e = by_new s now chosen q (admit (slot_of s.slots q.client) q.sequence) e
 
 -- one that isn't carried out changes nothing
-by_old : (s : Server) (now : ℕ) (chosen : List ℕ) (q : ClientRequest) (a : Admit) → where_new a q.sequence ≡ [] → (by_admit s now chosen q a).state ≡ s
+pub by_old : (s : Server) (now : ℕ) (chosen : List ℕ) (q : ClientRequest) (a : Admit) → where_new a q.sequence ≡ [] → (by_admit s now chosen q a).state ≡ s
 by_old s now chosen q New e = absurd (cc e)
 by_old s now chosen q (Again kept) e = refl
 by_old s now chosen q (Misordered expected) e = refl
 
-not_carried : (s : Server) (now : ℕ) (chosen : List ℕ) (q : ClientRequest) → where_new (admit (slot_of s.slots q.client) q.sequence) q.sequence ≡ [] → (on_request s now chosen q).state ≡ s
+pub not_carried : (s : Server) (now : ℕ) (chosen : List ℕ) (q : ClientRequest) → where_new (admit (slot_of s.slots q.client) q.sequence) q.sequence ≡ [] → (on_request s now chosen q).state ≡ s
 unfolding on_request
 not_carried s now chosen q e = by_old s now chosen q (admit (slot_of s.slots q.client) q.sequence) e
 
 -- the slot of another client stays
-other_kept : (s : Server) (now : ℕ) (chosen : List ℕ) (q : ClientRequest) (client : ℕ) (o : Option File) → (q.client == client) ≡ false →
+pub other_kept : (s : Server) (now : ℕ) (chosen : List ℕ) (q : ClientRequest) (client : ℕ) (o : Option File) → (q.client == client) ≡ false →
     slot_of (carries_out s now chosen q o).state.slots client ≡ slot_of s.slots client
 other_kept s now chosen q client None z = keep_other s.slots (record { client = q.client; last = q.sequence; kept = answer_without q }) client z
 other_kept s now chosen q client (Some f) z =
     keep_other s.slots (record { client = q.client; last = q.sequence; kept = answer_with s q (serves (at_file s chosen f) s.next_grant s.format now q.client q.args) }) client z
 
-other_admitted : (s : Server) (now : ℕ) (chosen : List ℕ) (q : ClientRequest) (client : ℕ) (a : Admit) → (q.client == client) ≡ false →
+pub other_admitted : (s : Server) (now : ℕ) (chosen : List ℕ) (q : ClientRequest) (client : ℕ) (a : Admit) → (q.client == client) ≡ false →
     slot_of (by_admit s now chosen q a).state.slots client ≡ slot_of s.slots client
 other_admitted s now chosen q client New z = other_kept s now chosen q client (file_at s.files q.file) z
 other_admitted s now chosen q client (Again kept) z = refl
 other_admitted s now chosen q client (Misordered expected) z = refl
 
-other_slot : (s : Server) (now : ℕ) (chosen : List ℕ) (q : ClientRequest) (client : ℕ) → (q.client == client) ≡ false →
+pub other_slot : (s : Server) (now : ℕ) (chosen : List ℕ) (q : ClientRequest) (client : ℕ) → (q.client == client) ≡ false →
     slot_of (on_request s now chosen q).state.slots client ≡ slot_of s.slots client
 unfolding on_request
 other_slot s now chosen q client z = other_admitted s now chosen q client (admit (slot_of s.slots q.client) q.sequence) z
@@ -145,19 +145,19 @@ other_slot s now chosen q client z = other_admitted s now chosen q client (admit
 -- ---- any step
 
 -- either none of the client's requests is carried out and its slot stays, or one is, with the number behind the last
-abbrev Counts : Server → (client : ℕ) → (now_carried : List ℕ) → Server → Type 0
+abbrev pub Counts : Server → (client : ℕ) → (now_carried : List ℕ) → Server → Type 0
 Counts s client ns t =
     ((ns ≡ []) × (slot_of t.slots client ≡ slot_of s.slots client))
     ⊎ ((n : ℕ) × (ns ≡ n ∷ []) × (n ≡ last_of (slot_of s.slots client) + 1) × (last_of (slot_of t.slots client) ≡ n))
 
-none_counts : (s : Server) (client : ℕ) (t : Server) → t.slots ≡ s.slots → Counts s client [] t
+pub none_counts : (s : Server) (client : ℕ) (t : Server) → t.slots ≡ s.slots → Counts s client [] t
 none_counts s client t e = inl (refl, ap (λ ss. slot_of ss client) e)
 
-slot_last : (o : Option Slot) (t : Slot) → o ≡ Some t → last_of o ≡ t.last
+pub slot_last : (o : Option Slot) (t : Slot) → o ≡ Some t → last_of o ≡ t.last
 slot_last o t e = rw e refl
 
 -- of its own requests
-own_counts : (s : Server) (now : ℕ) (chosen : List ℕ) (q : ClientRequest) (a : Admit) → admit (slot_of s.slots q.client) q.sequence ≡ a →
+pub own_counts : (s : Server) (now : ℕ) (chosen : List ℕ) (q : ClientRequest) (a : Admit) → admit (slot_of s.slots q.client) q.sequence ≡ a →
     Counts s q.client (where_new a q.sequence) (on_request s now chosen q).state
 own_counts s now chosen q New e =
     let w : IsCarriedOut s q (on_request s now chosen q) = carried_out s now chosen q e
@@ -166,7 +166,7 @@ own_counts s now chosen q (Again kept) e = inl (refl, ap (λ t. slot_of t.slots 
 own_counts s now chosen q (Misordered expected) e = inl (refl, ap (λ t. slot_of t.slots q.client) (not_carried s now chosen q (rw e refl)))
 
 -- of a request that is taken, the client's or another's
-request_counts : (s : Server) (now client : ℕ) (chosen : List ℕ) (q : ClientRequest) → (b : Bool) → (q.client == client) ≡ b →
+pub request_counts : (s : Server) (now client : ℕ) (chosen : List ℕ) (q : ClientRequest) → (b : Bool) → (q.client == client) ≡ b →
     Counts s client (if b then where_new (admit (slot_of s.slots client) q.sequence) q.sequence else []) (on_request s now chosen q).state
 request_counts s now client chosen q true e =
     subst (λ c. Counts s c (where_new (admit (slot_of s.slots c) q.sequence) q.sequence) (on_request s now chosen q).state) (eqb-true q.client client e)
@@ -174,7 +174,7 @@ request_counts s now client chosen q true e =
 request_counts s now client chosen q false e = inl (refl, other_slot s now chosen q client e)
 
 -- a request from client c, once the counters have room
-taken_counts : (s : Server) (now client c : ℕ) (chosen : List ℕ) (q : ClientRequest) →
+pub taken_counts : (s : Server) (now client c : ℕ) (chosen : List ℕ) (q : ClientRequest) →
     Counts s client (if (c == client) && ((q.client == c) && nat_le c MAX_CLIENT) then where_new (admit (slot_of s.slots client) q.sequence) q.sequence else [])
     (handled s now chosen (FromClient c) (Asks q)).state
 taken_counts s now client c chosen q = elim (cases_Bool ((q.client == c) && nat_le c MAX_CLIENT)) [
@@ -185,7 +185,7 @@ taken_counts s now client c chosen q = elim (cases_Bool ((q.client == c) && nat_
   | inr y ↦ elim (cases_Bool (c == client)) [ inl x ↦ rw (x, y) (none_counts s client s refl) | inr x ↦ rw (x, y) (none_counts s client s refl) ]
 ]
 
-message_counts : (s : Server) (now client : ℕ) (chosen : List ℕ) (from : Node) (m : Message) → Counts s client (carried_for s client from m) (on_message s now chosen from m).state
+pub message_counts : (s : Server) (now client : ℕ) (chosen : List ℕ) (from : Node) (m : Message) → Counts s client (carried_for s client from m) (on_message s now chosen from m).state
 unfolding on_message
 message_counts s now client chosen (FromClient c) (Asks q) = elim (cases_Bool (counters_low s)) [
   | inl l ↦ rw l (taken_counts s now client c chosen q)
@@ -200,7 +200,7 @@ message_counts s now client chosen FromServer (Orders o) =
 message_counts s now client chosen from m =
     none_counts s client (on_message s now chosen from m).state (elim (cases_Bool (counters_low s)) [ inl t ↦ rw t refl | inr z ↦ rw z refl ])
 
-step_counts : (s : Server) (client : ℕ) (chosen : List ℕ) (i : Input) → Counts s client (carried_by s client i) (step s chosen i).state
+pub step_counts : (s : Server) (client : ℕ) (chosen : List ℕ) (i : Input) → Counts s client (carried_by s client i) (step s chosen i).state
 step_counts s client chosen (Hears now from m) = message_counts s now client chosen from m
 step_counts s client chosen (Makes n m tag) = none_counts s client (step s chosen (Makes n m tag)).state (same_created s n m tag chosen)
 step_counts s client chosen (Obeys kind n) = none_counts s client (step s chosen (Obeys kind n)).state (same_ordered s chosen kind n)
@@ -212,7 +212,7 @@ step_counts s client chosen Opens = none_counts s client (step s chosen Opens).s
 
 -- ---- any steps
 
-add_counts : (s t : Server) (client : ℕ) (ns rest : List ℕ) → Counts s client ns t → CountOnFrom (last_of (slot_of t.slots client)) rest →
+pub add_counts : (s t : Server) (client : ℕ) (ns rest : List ℕ) → Counts s client ns t → CountOnFrom (last_of (slot_of t.slots client)) rest →
     CountOnFrom (last_of (slot_of s.slots client)) (ns ++ rest)
 add_counts s t client ns rest (inl w) h = rw w.0 (subst (λ o. CountOnFrom (last_of o) rest) w.1 h)
 add_counts s t client ns rest (inr w) h = rw w.1 (w.2, subst (λ k. CountOnFrom k rest) w.3 h)
@@ -238,26 +238,26 @@ others_change_nothing s now client chosen q e = elim (cases_Bool (counters_low s
     is_client : ((q.client == client) && nat_le client MAX_CLIENT) ≡ true → q.client ≡ client
     is_client y = grind (arith, nat_tests, y)
 
-both_empty : (xs ys : List ℕ) → xs ++ ys ≡ [] → (xs ≡ []) × (ys ≡ [])
+pub both_empty : (xs ys : List ℕ) → xs ++ ys ≡ [] → (xs ≡ []) × (ys ≡ [])
 both_empty [] ys e = (refl, e)
 both_empty (x ∷ xs) ys e = absurd (cc e)
 
-none_and_one : (ns : List ℕ) (n : ℕ) → ns ≡ [] → ns ≡ n ∷ [] → ⊥
+pub none_and_one : (ns : List ℕ) (n : ℕ) → ns ≡ [] → ns ≡ n ∷ [] → ⊥
 none_and_one ns n e f = cc (sym e ∙ f)
 
-stays_by : (s t : Server) (client : ℕ) (ns : List ℕ) → ns ≡ [] → Counts s client ns t → slot_of t.slots client ≡ slot_of s.slots client
+pub stays_by : (s t : Server) (client : ℕ) (ns : List ℕ) → ns ≡ [] → Counts s client ns t → slot_of t.slots client ≡ slot_of s.slots client
 stays_by s t client ns e (inl w) = w.1
 stays_by s t client ns e (inr w) = absurd (none_and_one ns w.0 e w.1)
 
 -- the slot stays until a request of its client is carried out
-slot_after : (s : Server) (client : ℕ) (acts : List Act) → carried s client acts ≡ [] → slot_of (state_after s acts).slots client ≡ slot_of s.slots client
+pub slot_after : (s : Server) (client : ℕ) (acts : List Act) → carried s client acts ≡ [] → slot_of (state_after s acts).slots client ≡ slot_of s.slots client
 unfolding carried
 slot_after s client [] e = refl
 slot_after s client (a ∷ acts) e =
     slot_after (step s a.chosen a.input).state client acts (both_empty (carried_by s client a.input) _ e).1
     ∙ stays_by s (step s a.chosen a.input).state client (carried_by s client a.input) (both_empty (carried_by s client a.input) _ e).0 (step_counts s client a.chosen a.input)
 
-answers_again : (s : Server) (q : ClientRequest) (a : Answer) → slot_of s.slots q.client ≡ Some (record { client = q.client; last = q.sequence; kept = a }) → IsAnsweredAgain s q a
+pub answers_again : (s : Server) (q : ClientRequest) (a : Answer) → slot_of s.slots q.client ≡ Some (record { client = q.client; last = q.sequence; kept = a }) → IsAnsweredAgain s q a
 unfolding on_request
 answers_again s q a e = λ now chosen r c n.
     ap (by_admit s now chosen r) (admit_again (slot_of s.slots r.client) (record { client = q.client; last = q.sequence; kept = a }) r.sequence (ap (slot_of s.slots) c ∙ e) n)

@@ -24,13 +24,13 @@ use Rattle.server_rules.proofs.HandlerLaws.{Heard_out, leaves_fence, leaves_decl
 
 -- ---- a request
 
-safe_carried : (s : Server) (now : ℕ) (chosen : List ℕ) (q : ClientRequest) (o : Option File) → file_at s.files q.file ≡ o → AreSafe s.files →
+pub safe_carried : (s : Server) (now : ℕ) (chosen : List ℕ) (q : ClientRequest) (o : Option File) → file_at s.files q.file ≡ o → AreSafe s.files →
     AreSafe (carries_out s now chosen q o).state.files
 safe_carried s now chosen q None e h = h
 safe_carried s now chosen q (Some f) e h =
     safe_put s.files q.file _ h (leaves_served (at_file s chosen f) s.next_grant s.format now q.client q.args (safe_at s.files q.file f h e)).safe
 
-safe_admitted : (s : Server) (now : ℕ) (chosen : List ℕ) (q : ClientRequest) (a : Admit) → AreSafe s.files → AreSafe (by_admit s now chosen q a).state.files
+pub safe_admitted : (s : Server) (now : ℕ) (chosen : List ℕ) (q : ClientRequest) (a : Admit) → AreSafe s.files → AreSafe (by_admit s now chosen q a).state.files
 safe_admitted s now chosen q New h = safe_carried s now chosen q (file_at s.files q.file) refl h
 safe_admitted s now chosen q (Again kept) h = h
 safe_admitted s now chosen q (Misordered expected) h = h
@@ -39,14 +39,14 @@ pub safe_request : (s : Server) (now : ℕ) (chosen : List ℕ) (q : ClientReque
 unfolding on_request
 safe_request s now chosen q h = safe_admitted s now chosen q (admit (slot_of s.slots q.client) q.sequence) h
 
-others_carried : (s : Server) (now : ℕ) (chosen : List ℕ) (q : ClientRequest) (o : Option File) → file_at s.files q.file ≡ o → AreSafe s.files →
+pub others_carried : (s : Server) (now : ℕ) (chosen : List ℕ) (q : ClientRequest) (o : Option File) → file_at s.files q.file ≡ o → AreSafe s.files →
     OthersStay q.file s.files (carries_out s now chosen q o).state.files
 others_carried s now chosen q None e h = λ n z. refl
 others_carried s now chosen q (Some f) e h =
     put_other s.files q.file (serves (at_file s chosen f) s.next_grant s.format now q.client q.args).going.file
     ((leaves_served (at_file s chosen f) s.next_grant s.format now q.client q.args (safe_at s.files q.file f h e)).number ∙ number_at s.files q.file f e)
 
-others_admitted : (s : Server) (now : ℕ) (chosen : List ℕ) (q : ClientRequest) (a : Admit) → AreSafe s.files → OthersStay q.file s.files (by_admit s now chosen q a).state.files
+pub others_admitted : (s : Server) (now : ℕ) (chosen : List ℕ) (q : ClientRequest) (a : Admit) → AreSafe s.files → OthersStay q.file s.files (by_admit s now chosen q a).state.files
 others_admitted s now chosen q New h = others_carried s now chosen q (file_at s.files q.file) refl h
 others_admitted s now chosen q (Again kept) h = λ n z. refl
 others_admitted s now chosen q (Misordered expected) h = λ n z. refl
@@ -58,25 +58,25 @@ others_request s now chosen q h = others_admitted s now chosen q (admit (slot_of
 
 -- ---- a reply
 
-abbrev Safe_out : Option Going → Type 0
+abbrev pub Safe_out : Option Going → Type 0
 Safe_out None = Unit {0}
 Safe_out (Some g) = IsSafe g.file
 
-safe_from : (k : Kept) (o : Option Going) → Heard_out k o → Safe_out o
+pub safe_from : (k : Kept) (o : Option Going) → Heard_out k o → Safe_out o
 safe_from k None h = tt
 safe_from k (Some g) h = h.safe
 
-safe_either : (a b : Option Going) → Safe_out a → Safe_out b → Safe_out (or_else a b)
+pub safe_either : (a b : Option Going) → Safe_out a → Safe_out b → Safe_out (or_else a b)
 safe_either None b h i = i
 safe_either (Some g) b h i = h
 
-safe_heard : (s : Server) (chosen : List ℕ) (drive : ℕ) (r : Reply) (fs : List File) → AreSafe fs → Safe_out (heard_at s chosen drive r fs)
+pub safe_heard : (s : Server) (chosen : List ℕ) (drive : ℕ) (r : Reply) (fs : List File) → AreSafe fs → Safe_out (heard_at s chosen drive r fs)
 unfolding heard_at
 safe_heard s chosen drive r [] h = tt
 safe_heard s chosen drive r (f ∷ fs) h =
     safe_either (on_reply (at_file s chosen f) drive r) _ (safe_from f.kept (on_reply (at_file s chosen f) drive r) (leaves_reply (at_file s chosen f) drive r h.0)) (safe_heard s chosen drive r fs h.1)
 
-safe_by_heard : (s : Server) (o : Option Going) → AreSafe s.files → Safe_out o → AreSafe (by_heard s o).state.files
+pub safe_by_heard : (s : Server) (o : Option Going) → AreSafe s.files → Safe_out o → AreSafe (by_heard s o).state.files
 safe_by_heard s None h i = h
 safe_by_heard s (Some g) h i = safe_put s.files g.file.kept.number g.file h i
 
@@ -84,7 +84,7 @@ pub safe_reply : (s : Server) (chosen : List ℕ) (drive : ℕ) (r : Reply) → 
 unfolding on_drive_reply
 safe_reply s chosen drive r h = safe_by_heard s (heard_at s chosen drive r s.files) h (safe_heard s chosen drive r s.files h)
 
-others_by_heard : (s : Server) (o : Option Going) → (m : ℕ) × OthersStay m s.files (by_heard s o).state.files
+pub others_by_heard : (s : Server) (o : Option Going) → (m : ℕ) × OthersStay m s.files (by_heard s o).state.files
 others_by_heard s None = (0, λ n z. refl)
 others_by_heard s (Some g) = (g.file.kept.number, put_other s.files g.file.kept.number g.file refl)
 
@@ -95,29 +95,29 @@ others_reply s chosen drive r = others_by_heard s (heard_at s chosen drive r s.f
 
 -- ---- orders
 
-safe_job : (s : Server) (chosen : List ℕ) (kind : JobKind) (f : File) (j : Option Job) → AreSafe s.files → IsSafe f → AreSafe (begins_job s chosen kind f j).step.state.files
+pub safe_job : (s : Server) (chosen : List ℕ) (kind : JobKind) (f : File) (j : Option Job) → AreSafe s.files → IsSafe f → AreSafe (begins_job s chosen kind f j).step.state.files
 safe_job s chosen kind f (Some j) h i = safe_put s.files f.kept.number f h i
 safe_job s chosen kind f None h i = elim (cases_Bool (f.kept.tag == GREATEST_TAG)) [
   | inl t ↦ rw t (safe_put s.files f.kept.number f h i)
   | inr z ↦ rw z (safe_put s.files f.kept.number _ h (leaves_fence kind s.format (at_file s chosen f)).safe)
 ]
 
-safe_starts : (s : Server) (chosen : List ℕ) (kind : JobKind) (n : ℕ) (o : Option File) → file_at s.files n ≡ o → AreSafe s.files → AreSafe (starts s chosen kind o).step.state.files
+pub safe_starts : (s : Server) (chosen : List ℕ) (kind : JobKind) (n : ℕ) (o : Option File) → file_at s.files n ≡ o → AreSafe s.files → AreSafe (starts s chosen kind o).step.state.files
 safe_starts s chosen kind n None e h = h
 safe_starts s chosen kind n (Some f) e h = safe_job s chosen kind f f.job h (safe_at s.files n f h e)
 
-safe_recalls : (s : Server) (o : Option File) → AreSafe s.files → AreSafe (recalls_on s o).step.state.files
+pub safe_recalls : (s : Server) (o : Option File) → AreSafe s.files → AreSafe (recalls_on s o).step.state.files
 safe_recalls s None h = h
 safe_recalls s (Some f) h = h
 
-safe_each : (drive : ℕ) (ds : List Drive) (fs : List File) (m : Moved) (chosen : List ℕ) → AreSafe fs → AreSafe (declares_each drive ds fs m chosen).files
+pub safe_each : (drive : ℕ) (ds : List Drive) (fs : List File) (m : Moved) (chosen : List ℕ) → AreSafe fs → AreSafe (declares_each drive ds fs m chosen).files
 unfolding declares_each
 safe_each drive ds [] m chosen h = tt
 safe_each drive ds (f ∷ fs) m chosen h =
     let g : Going = declares (record { file = f; moved = m; drives = ds; chosen = chosen }) drive
     in ((leaves_declared (record { file = f; moved = m; drives = ds; chosen = chosen }) drive h.0).safe, safe_each drive ds fs g.moved g.chosen h.1)
 
-safe_declared : (s : Server) (chosen : List ℕ) (drive : ℕ) (b : Bool) → AreSafe s.files → AreSafe (declares_known s chosen drive b).step.state.files
+pub safe_declared : (s : Server) (chosen : List ℕ) (drive : ℕ) (b : Bool) → AreSafe s.files → AreSafe (declares_known s chosen drive b).step.state.files
 unfolding declare
 safe_declared s chosen drive true h = safe_each drive _ s.files _ chosen h
 safe_declared s chosen drive false h = h
@@ -132,7 +132,7 @@ safe_ordered s chosen ToAudit n h = safe_starts s chosen Auditing n (file_at s.f
 
 -- ---- messages
 
-safe_handled : (s : Server) (now : ℕ) (chosen : List ℕ) (from : Node) (m : Message) → AreSafe s.files → AreSafe (handled s now chosen from m).state.files
+pub safe_handled : (s : Server) (now : ℕ) (chosen : List ℕ) (from : Node) (m : Message) → AreSafe s.files → AreSafe (handled s now chosen from m).state.files
 safe_handled s now chosen (FromClient c) (Asks q) h = elim (cases_Bool ((q.client == c) && nat_le c MAX_CLIENT)) [
   | inl t ↦ rw t (safe_request s now chosen q h)
   | inr z ↦ rw z h
@@ -141,7 +141,7 @@ safe_handled s now chosen (FromDrive d) (Replies r) h = safe_reply s chosen d r 
 safe_handled s now chosen FromServer (Orders o) h = safe_ordered s chosen o.order o.target h
 safe_handled s now chosen from m h = h
 
-safe_message : (s : Server) (now : ℕ) (chosen : List ℕ) (from : Node) (m : Message) → AreSafe s.files → AreSafe (on_message s now chosen from m).state.files
+pub safe_message : (s : Server) (now : ℕ) (chosen : List ℕ) (from : Node) (m : Message) → AreSafe s.files → AreSafe (on_message s now chosen from m).state.files
 unfolding on_message
 safe_message s now chosen from m h = elim (cases_Bool (counters_low s)) [
   | inl t ↦ rw t (safe_handled s now chosen from m h)
@@ -150,28 +150,28 @@ safe_message s now chosen from m h = elim (cases_Bool (counters_low s)) [
 
 -- ---- making and opening
 
-safe_made : (s : Server) (n : ℕ) (m : RawMap) (tag : ℕ) (ds : List ℕ) (o : Option Refusal) → AreSafe s.files →
+pub safe_made : (s : Server) (n : ℕ) (m : RawMap) (tag : ℕ) (ds : List ℕ) (o : Option Refusal) → AreSafe s.files →
     AreSafe (unless_made s (unless_refused o (makes_file s (unmade s n m tag ds)))).state.files
 safe_made s n m tag ds (Some r) h = h
 safe_made s n m tag ds None h =
     safe_put _ n _ (safe_add s.files _ h (record { rests = tt; apart = apart_none; alone = tt })) (leaves_new (at_file (with_file s (unmade s n m tag ds)) [] (unmade s n m tag ds)) refl).safe
 
-safe_create : (s : Server) (n : ℕ) (m : RawMap) (tag : ℕ) (chosen : List ℕ) → AreSafe s.files → AreSafe (unless_made s (create_file s n m tag chosen)).state.files
+pub safe_create : (s : Server) (n : ℕ) (m : RawMap) (tag : ℕ) (chosen : List ℕ) → AreSafe s.files → AreSafe (unless_made s (create_file s n m tag chosen)).state.files
 unfolding create_file
 safe_create s n m tag chosen h = safe_made s n m tag _ (refusal s n m) h
 
-safe_crashed : (fs : List File) → AreSafe fs → AreSafe (map crashed_file fs)
+pub safe_crashed : (fs : List File) → AreSafe fs → AreSafe (map crashed_file fs)
 safe_crashed [] h = tt
 safe_crashed (f ∷ fs) h = (record { rests = tt; apart = h.0.apart; alone = tt }, safe_crashed fs h.1)
 
-safe_opened : (format : ℕ) (ds : List Drive) (fs : List File) (m : Moved) → AreSafe fs → AreSafe (opens_each format ds fs m).files
+pub safe_opened : (format : ℕ) (ds : List Drive) (fs : List File) (m : Moved) → AreSafe fs → AreSafe (opens_each format ds fs m).files
 unfolding opens_each
 safe_opened format ds [] m h = tt
 safe_opened format ds (f ∷ fs) m h =
     let g : Going = opens format (record { file = f; moved = m; drives = ds; chosen = [] })
     in ((leaves_opened format (record { file = f; moved = m; drives = ds; chosen = [] }) h.0).safe, safe_opened format ds fs g.moved h.1)
 
-safe_reopened : (s : Server) → AreSafe s.files → AreSafe (reopen s).state.files
+pub safe_reopened : (s : Server) → AreSafe s.files → AreSafe (reopen s).state.files
 unfolding reopen
 safe_reopened s h = elim (cases_Bool (counters_low s)) [ inl t ↦ rw t (safe_opened s.format s.drives s.files _ h) | inr z ↦ rw z h ]
 
@@ -187,7 +187,7 @@ safe_step s chosen Resends h = h
 safe_step s chosen Crashes h = safe_crashed s.files h
 safe_step s chosen Opens h = safe_reopened s h
 
-safe_after : (s : Server) (acts : List Act) → AreSafe s.files → AreSafe (state_after s acts).files
+pub safe_after : (s : Server) (acts : List Act) → AreSafe s.files → AreSafe (state_after s acts).files
 safe_after s [] h = h
 safe_after s (a ∷ acts) h = safe_after (step s a.chosen a.input).state acts (safe_step s a.chosen a.input h)
 
@@ -196,14 +196,14 @@ safe_run ds acts = safe_after (new_server ds) acts tt
 
 -- ---- an order on a file
 
-others_job : (s : Server) (chosen : List ℕ) (kind : JobKind) (n : ℕ) (f : File) (j : Option Job) → f.kept.number ≡ n → OthersStay n s.files (begins_job s chosen kind f j).step.state.files
+pub others_job : (s : Server) (chosen : List ℕ) (kind : JobKind) (n : ℕ) (f : File) (j : Option Job) → f.kept.number ≡ n → OthersStay n s.files (begins_job s chosen kind f j).step.state.files
 others_job s chosen kind n f (Some j) e = rw (← e) (put_other s.files f.kept.number f refl)
 others_job s chosen kind n f None e = rw (← e) (elim (cases_Bool (f.kept.tag == GREATEST_TAG)) [
   | inl t ↦ rw t (put_other s.files f.kept.number f refl)
   | inr z ↦ rw z (put_other s.files f.kept.number (fence_begins kind s.format (at_file s chosen f)).file (leaves_fence kind s.format (at_file s chosen f)).number)
 ])
 
-others_starts : (s : Server) (chosen : List ℕ) (kind : JobKind) (n : ℕ) (o : Option File) → file_at s.files n ≡ o → OthersStay n s.files (starts s chosen kind o).step.state.files
+pub others_starts : (s : Server) (chosen : List ℕ) (kind : JobKind) (n : ℕ) (o : Option File) → file_at s.files n ≡ o → OthersStay n s.files (starts s chosen kind o).step.state.files
 others_starts s chosen kind n None e = λ m z. refl
 others_starts s chosen kind n (Some f) e = others_job s chosen kind n f f.job (number_at s.files n f e)
 
@@ -216,14 +216,14 @@ others_ordered s chosen kind n = others_starts s chosen kind n (file_at s.files 
 abbrev pub One : List File → List File → Type 0
 One fs gs = (m : ℕ) × OthersStay m fs gs
 
-one_of_none : (fs : List File) → One fs fs
+pub one_of_none : (fs : List File) → One fs fs
 one_of_none fs = (0, λ n z. refl)
 
-one_recalled : (s : Server) (o : Option File) → One s.files (recalls_on s o).step.state.files
+pub one_recalled : (s : Server) (o : Option File) → One s.files (recalls_on s o).step.state.files
 one_recalled s None = one_of_none s.files
 one_recalled s (Some f) = one_of_none s.files
 
-one_ordered : (s : Server) (chosen : List ℕ) (kind : OrderKind) (n : ℕ) → declares_one kind ≡ false → One s.files (ordered s chosen kind n).step.state.files
+pub one_ordered : (s : Server) (chosen : List ℕ) (kind : OrderKind) (n : ℕ) → declares_one kind ≡ false → One s.files (ordered s chosen kind n).step.state.files
 unfolding ordered
 one_ordered s chosen ToRecall n d = one_recalled s (file_at s.files n)
 one_ordered s chosen ToRevoke n d = (n, others_ordered s chosen Revoking n)
@@ -231,7 +231,7 @@ one_ordered s chosen ToDeclare n d = absurd (cc d)
 one_ordered s chosen ToRebuild n d = (n, others_ordered s chosen Rebuilding n)
 one_ordered s chosen ToAudit n d = (n, others_ordered s chosen Auditing n)
 
-one_handled : (s : Server) (now : ℕ) (chosen : List ℕ) (from : Node) (m : Message) → AreSafe s.files → tells_to_declare m ≡ false → One s.files (handled s now chosen from m).state.files
+pub one_handled : (s : Server) (now : ℕ) (chosen : List ℕ) (from : Node) (m : Message) → AreSafe s.files → tells_to_declare m ≡ false → One s.files (handled s now chosen from m).state.files
 one_handled s now chosen (FromClient c) (Asks q) h d = elim (cases_Bool ((q.client == c) && nat_le c MAX_CLIENT)) [
   | inl t ↦ rw t (q.file, others_request s now chosen q h)
   | inr z ↦ rw z (one_of_none s.files)
@@ -240,21 +240,21 @@ one_handled s now chosen (FromDrive drive) (Replies r) h d = others_reply s chos
 one_handled s now chosen FromServer (Orders o) h d = one_ordered s chosen o.order o.target d
 one_handled s now chosen from m h d = one_of_none s.files
 
-one_message : (s : Server) (now : ℕ) (chosen : List ℕ) (from : Node) (m : Message) → AreSafe s.files → tells_to_declare m ≡ false → One s.files (on_message s now chosen from m).state.files
+pub one_message : (s : Server) (now : ℕ) (chosen : List ℕ) (from : Node) (m : Message) → AreSafe s.files → tells_to_declare m ≡ false → One s.files (on_message s now chosen from m).state.files
 unfolding on_message
 one_message s now chosen from m h d = elim (cases_Bool (counters_low s)) [
   | inl t ↦ rw t (one_handled s now chosen from m h d)
   | inr z ↦ rw z (one_of_none s.files)
 ]
 
-one_made : (s : Server) (n : ℕ) (m : RawMap) (tag : ℕ) (ds : List ℕ) (o : Option Refusal) → One s.files (unless_made s (unless_refused o (makes_file s (unmade s n m tag ds)))).state.files
+pub one_made : (s : Server) (n : ℕ) (m : RawMap) (tag : ℕ) (ds : List ℕ) (o : Option Refusal) → One s.files (unless_made s (unless_refused o (makes_file s (unmade s n m tag ds)))).state.files
 one_made s n m tag ds (Some r) = one_of_none s.files
 one_made s n m tag ds None =
     let f : File = unmade s n m tag ds
     in let made : Leaves f.kept (making (at_file (with_file s f) [] f)) = leaves_new (at_file (with_file s f) [] f) refl
     in (n, λ k z. put_other (with_file s f).files n (making (at_file (with_file s f) [] f)).file made.number k z ∙ add_other s.files f k z)
 
-one_created : (s : Server) (n : ℕ) (m : RawMap) (tag : ℕ) (chosen : List ℕ) → One s.files (unless_made s (create_file s n m tag chosen)).state.files
+pub one_created : (s : Server) (n : ℕ) (m : RawMap) (tag : ℕ) (chosen : List ℕ) → One s.files (unless_made s (create_file s n m tag chosen)).state.files
 unfolding create_file
 one_created s n m tag chosen = one_made s n m tag (places s.drives m.comps chosen) (refusal s n m)
 
