@@ -53,6 +53,7 @@ handled_stays R g h k d s = record {
     sent_is = s.sent ∙ d.goes.sent_is;
     rises = s.nonce ∙ d.goes.rises;
     numbered = d.goes.numbered;
+    owned = d.goes.owned;
     waits = λ a i. d.goes.waits a (subst (λ (o : Option Job). In a (awaited_by o)) s.job i);
   };
   fences = λ was. let f = d.fences was in record {

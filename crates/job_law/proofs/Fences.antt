@@ -11,17 +11,20 @@ use Rattle.server_rules.specs.Laws.{In}
 use Rattle.job_law.specs.Numbered.{Numbered}
 use Rattle.job_law.specs.Fencing.{Reached, is_fences, is_fencing, Raises, IsAsked, IsFencing, AllRaised}
 use Rattle.job_law.proofs.Lists.{in_either}
+use Rattle.job_law.proofs.Owned.{AllOwned, none_owned, each_owned}
 use Rattle.job_law.proofs.Quiet.{each_numbered, is_fenced, Quiet, From, noted, quiet_over, quiet_rests_or, IsMended, IsPlaced, quiet_repair, quiet_repairs, quiet_fetched, quiet_written, quiet_fills, quiet_gathered, quiet_filled, quiet_gone, quiet_audits, quiet_audits_all, quiet_audited}
 
 -- ---- what is left
 
--- It sends some commands anew, numbered from the next nonce on; what it awaits was awaited or is new.
+-- It sends some commands anew, numbered from the next nonce on, under the server's holder if what it awaited was so;
+-- what it awaits was awaited or is new.
 pub record Goes (number nonce : ℕ) (sent old : List Awaited) (g : Going) : Type 0 where
   pub number_is : g.file.kept.number ≡ number
   pub fresh : List Awaited
   pub sent_is : g.moved.sent ≡ sent ++ fresh
   pub rises : g.moved.nonce ≡ nonce + length fresh
   pub numbered : Numbered nonce fresh
+  pub owned : AllOwned old → AllOwned fresh
   pub waits : (a : Awaited) → In a (awaited_by g.file.job) → In a old ⊎ In a fresh
 
 abbrev pub GoesFrom : Going → Going → Type 0
@@ -64,6 +67,7 @@ quiet_goes n nonce sent old notes g q = record {
   sent_is = q.sent_is;
   rises = q.rises;
   numbered = q.numbered;
+  owned = λ was. q.owned;
   waits = λ a i. inr i;
 }
 
@@ -92,6 +96,7 @@ goes_here g = record {
   sent_is = sym (append-nil g.moved.sent);
   rises = omega arith;
   numbered = tt;
+  owned = λ was. none_owned;
   waits = λ a i. inl i;
 }
 
@@ -136,6 +141,7 @@ goes_fenced kind g old =
       sent_is = q.sent_is;
       rises = q.rises;
       numbered = q.numbered;
+      owned = λ was. q.owned;
       waits = λ a i. inr i;
     }
 
@@ -219,14 +225,16 @@ fencing_or R (c ∷ cs) kind g raises asked = record {
 }
 
 goes_or : (ws : List Awaited) (kind : JobKind) (g : Going) (old : List Awaited) → Numbered g.moved.nonce ws
+    → AllOwned ws
     → Goes g.file.kept.number g.moved.nonce g.moved.sent old (rests_or ws g kind Fences (fenced kind g))
-goes_or [] kind g old n = goes_fenced kind g old
-goes_or (c ∷ cs) kind g old n = record {
+goes_or [] kind g old n o = goes_fenced kind g old
+goes_or (c ∷ cs) kind g old n o = record {
   number_is = refl;
   fresh = c ∷ cs;
   sent_is = refl;
   rises = refl;
   numbered = n;
+  owned = λ was. o;
   waits = λ a i. inr i;
 }
 
@@ -237,7 +245,8 @@ handled_fence R kind format g =
     let k : Kept = ending g.file.kept format in
     record {
       goes = goes_or (to_all k All Raising g.moved.nonce) kind h (awaited_by g.file.job)
-          (each_numbered k All Raising k.components 0 g.moved.nonce);
+          (each_numbered k All Raising k.components 0 g.moved.nonce)
+          (each_owned k All Raising k.components 0 g.moved.nonce);
       fences = λ was. fencing_or R (to_all k All Raising g.moved.nonce) kind h
           (raises_each k k.components 0 g.moved.nonce)
           (asked_each k k.components 0 g.moved.nonce);
@@ -255,7 +264,8 @@ unfolding making
 handled_making R g =
     quiet_handled R g _
     (quiet_rests_or (IsNumber g.file.kept.number) _ g _ _ _ refl
-    (each_numbered g.file.kept _ _ g.file.kept.components 0 g.moved.nonce) refl
+    (each_numbered g.file.kept _ _ g.file.kept.components 0 g.moved.nonce)
+    (each_owned g.file.kept _ _ g.file.kept.components 0 g.moved.nonce) refl
     (quiet_is_made g.file.kept.number g refl))
 
 -- ---- the job goes on
@@ -288,6 +298,7 @@ goes_waits g j work (c ∷ cs) heard old left = record {
   sent_is = sym (append-nil g.moved.sent);
   rises = omega arith;
   numbered = tt;
+  owned = λ was. none_owned;
   waits = λ a i. inl (left a i);
 }
 

@@ -15,7 +15,9 @@ use Rattle.server_rules.specs.Rounds.{Round, step_round}
 use Rattle.server_rules.specs.Laws.{In}
 use Rattle.job_law.specs.Numbered.{Numbered, Awaits, IsOf, NumbersOn}
 use Rattle.job_law.specs.Fencing.{Reached, is_fencing, IsFencing, AreFencing, FencesHold}
-use Rattle.job_law.proofs.Lists.{in_front, in_behind, in_mapped, numbered_at, numbered_more}
+use Rattle.job_law.specs.Owned.{AreOwned, Owns}
+use Rattle.job_law.proofs.Lists.{in_front, in_behind, in_either, in_mapped, numbered_at, numbered_more}
+use Rattle.job_law.proofs.Owned.{AllOwned, none_owned, sent_owned}
 use Rattle.job_law.proofs.Fences.{Goes, Ended, Fencing, Handled}
 use Rattle.job_law.proofs.Asking.{handled_declares, handled_opened}
 
@@ -145,6 +147,22 @@ module _ (s : Server) (f : File) (h : Going) (t : Step) (is : IsStepAt s f h t) 
         (r.0, r.1, inr (subst (In r.0) g.sent_is r.2));
   }
 
+  pub owns_at : (number : ℕ) → Goes number s.next_nonce [] (awaited_by f.job) h → Owns s t
+  owns_at number g = record {
+    waits = λ were a w. let x = w.0 in elim (is.files x w.1) [
+      | inl same ↦ elim (g.waits a (subst (λ (y : File). In a (awaited_by y.job)) same w.2)) [
+        | inl old ↦ were a (is.awaits a old)
+        | inr new ↦ g.owned (λ b i. were b (is.awaits b i)) a new
+      ]
+      | inr (inl i) ↦ were a (x, i, w.2)
+      | inr (inr none) ↦ absurd (none_awaited x.job a none w.2)
+    ];
+    sends = λ were drive c i.
+        let r = in_drives s.drives h.moved.sent drive c (is.sends drive c i) in
+        sent_owned drive c r.0 r.1
+        (g.owned (λ b j. were b (is.awaits b j)) r.0 (subst (In r.0) g.sent_is r.2));
+  }
+
   pub fences_at : (R : Reached) → AreFencing R s.files → Fencing R [] h → FencesHold R t
   fences_at R were g = record {
     fencing = λ x i e. elim (is.files x i) [
@@ -165,6 +183,7 @@ pub record GoesAll (nonce : ℕ) (sent : List Awaited) (fs : List File) (r : Rou
   pub sent_is : r.moved.sent ≡ sent ++ fresh
   pub rises : r.moved.nonce ≡ nonce + length fresh
   pub numbered : Numbered nonce fresh
+  pub owned : AreOwned fs → AllOwned fresh
   pub waits : (a : Awaited) → Awaits r.files a → Awaits fs a ⊎ In a fresh
 
 pub record FencingAll (R : Reached) (notes : List Note) (r : Round) : Type 0 where
@@ -185,6 +204,7 @@ no_files R m chosen = record {
     sent_is = sym (append-nil m.sent);
     rises = omega arith;
     numbered = tt;
+    owned = λ were. none_owned;
     waits = λ a w. absurd w.1;
   };
   fences = λ were. record { fencing = λ f i e. absurd i; ended = λ x tag i e. inl i };
@@ -204,6 +224,10 @@ then_all R g h fs r one all = record {
         numbered_more g.moved.nonce one.goes.fresh all.goes.fresh one.goes.numbered
         (numbered_at h.moved.nonce (g.moved.nonce + length one.goes.fresh) all.goes.fresh one.goes.rises
         all.goes.numbered);
+    owned = λ were a i. elim (in_either a one.goes.fresh all.goes.fresh i) [
+      | inl new ↦ one.goes.owned (λ b j. were b (g.file, inl refl, j)) a new
+      | inr new ↦ all.goes.owned (λ b w. were b (w.0, inr w.1, w.2)) a new
+    ];
     waits = waits;
   };
   fences = λ were.
@@ -262,6 +286,17 @@ numbers_round s t r same g = record {
   waits = g.waits;
   sends = λ drive c i.
       let x = in_drives t.drives r.moved.sent drive c i in (x.0, x.1, inr (subst (In x.0) g.sent_is x.2));
+}
+
+pub owns_round : (s t : Server) (r : Round) → GoesAll s.next_nonce [] s.files r → Owns s (step_round t r)
+owns_round s t r g = record {
+  waits = λ were a w. elim (g.waits a w) [
+    | inl old ↦ were a old
+    | inr new ↦ g.owned were a new
+  ];
+  sends = λ were drive c i.
+      let x = in_drives t.drives r.moved.sent drive c i in
+      sent_owned drive c x.0 x.1 (g.owned were x.0 (subst (In x.0) g.sent_is x.2));
 }
 
 pub fences_round : (R : Reached) (t : Server) (r : Round) → FencingAll R [] r → FencesHold R (step_round t r)

@@ -13,6 +13,7 @@ use Rattle.server_rules.specs.Replies.{Hearing, Older, Full, Done, Nothing, is_w
 use Rattle.server_rules.specs.Laws.{In}
 use Rattle.job_law.specs.Fencing.{Reached, is_fences, is_fencing, Raises, IsAsked, IsFencing, TellsRaised}
 use Rattle.job_law.proofs.Lists.{in_mapped, in_map, in_filtered, in_filter}
+use Rattle.job_law.proofs.Owned.{one_owned}
 use Rattle.job_law.proofs.Quiet.{is_fenced, no_end_behind, quiet_full}
 use Rattle.job_law.proofs.Fences.{GoesFrom, Fencing, WasFencing, IsNumber, quiet_goes, quiet_fencing, fenced_kind, goes_here, fencing_here, goes_waits, fencing_waits, other_waits, goes_loses, other_loses}
 
@@ -94,14 +95,15 @@ module _ (a b : Awaited) where
         | inr new ↦ inr (r.2 ∙ new)
       ]
 
-goes_renews : (g : Going) (j : Job) (a : Awaited) → ((x : Awaited) → In x j.awaited → In x (awaited_by g.file.job))
-    → GoesFrom g (renews g j a)
-goes_renews g j a there = record {
+goes_renews : (g : Going) (j : Job) (a : Awaited) → In a j.awaited
+    → ((x : Awaited) → In x j.awaited → In x (awaited_by g.file.job)) → GoesFrom g (renews g j a)
+goes_renews g j a here there = record {
   number_is = refl;
   fresh = again_in_2 a g.moved.nonce ∷ [];
   sent_is = refl;
   rises = refl;
   numbered = (refl, tt);
+  owned = λ was. one_owned (again_in_2 a g.moved.nonce) (was a (there a here));
   waits = λ x i. elim (in_renewed a (again_in_2 a g.moved.nonce) j.awaited x i) [
     | inl old ↦ inl (there x old)
     | inr new ↦ inr (inl new)
@@ -222,14 +224,14 @@ other_full R g j a work e none =
     fencing_noted R h _ (NoSpace a.component) refl
     (other_loses R (noting h (NoSpace a.component)) j work (others j.awaited a.command.nonce) false e none)
 
-goes_hears : (g : Going) (j : Job) (a : Awaited) (r : Reply) (x : Hearing)
+goes_hears : (g : Going) (j : Job) (a : Awaited) (r : Reply) (x : Hearing) → In a j.awaited
     → ((y : Awaited) → In y j.awaited → In y (awaited_by g.file.job)) → GoesFrom g (hears g j a r x)
-goes_hears g j a r Older there = goes_renews g j a there
-goes_hears g j a r Full there = goes_full g j a j.work there
-goes_hears g j a r Done there =
+goes_hears g j a r Older here there = goes_renews g j a here there
+goes_hears g j a r Full here there = goes_full g j a j.work there
+goes_hears g j a r Done here there =
     goes_waits g j j.work (others j.awaited a.command.nonce) (heard_with j a r) (awaited_by g.file.job)
     (λ y i. there y (in_filtered _ y j.awaited i).0)
-goes_hears g j a r Nothing there = goes_here g
+goes_hears g j a r Nothing here there = goes_here g
 
 -- a job that is no fence
 other_hears : (R : Reached) (g : Going) (j : Job) (a : Awaited) (r : Reply) (x : Hearing) → is_fences j.work ≡ false
@@ -295,7 +297,7 @@ heard_by_job R g drive r j None job e = Unheard
 heard_by_job R g drive r j (Some a) job e =
     let found = found_in (answers drive r) j.awaited a e in
     IsHeard (hears g j a r (hearing g.file.kept a r))
-    (goes_hears g j a r (hearing g.file.kept a r)
+    (goes_hears g j a r (hearing g.file.kept a r) found.0
     (λ y i. subst (λ (o : Option Job). In y (awaited_by o)) (sym job) i))
     (λ was truth. by_work (is_fences j.work) refl found was truth)
   where

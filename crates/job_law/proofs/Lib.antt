@@ -1,4 +1,5 @@
 pub mod Lists
+pub mod Owned
 pub mod Quiet
 pub mod Fences
 pub mod Hearing

@@ -18,6 +18,7 @@ use Rattle.server_rules.specs.Laws.{In}
 use Rattle.job_law.specs.Numbered.{Numbered}
 use Rattle.job_law.specs.Fencing.{is_fences, is_fencing}
 use Rattle.job_law.proofs.Lists.{in_either}
+use Rattle.job_law.proofs.Owned.{AllOwned, none_owned, one_owned, each_owned, stores_owned, repair_owned, sources_owned}
 
 -- ---- what is sent is numbered
 
@@ -86,13 +87,15 @@ no_end_behind ns file kind none x i e = elim (in_either x ns _ i) [
 
 -- ---- a run
 
--- It awaits just what it sent, numbered from the next nonce on; it awaits no fence's SET TAGs, and ended no fence.
+-- It awaits just what it sent, numbered from the next nonce on, under the server's holder; it awaits no fence's SET
+-- TAGs, and ended no fence.
 -- What is kept of the file is as `K` says.
 pub record Quiet (K : Kept → Type 0) (nonce : ℕ) (sent : List Awaited) (notes : List Note) (g : Going) : Type 0 where
   pub kept : K g.file.kept
   pub sent_is : g.moved.sent ≡ sent ++ awaited_by g.file.job
   pub rises : g.moved.nonce ≡ nonce + length (awaited_by g.file.job)
   pub numbered : Numbered nonce (awaited_by g.file.job)
+  pub owned : AllOwned (awaited_by g.file.job)
   pub waits : is_fencing g.file.job ≡ false
   pub ends : NoEnd notes g.moved.notes
 
@@ -107,6 +110,7 @@ noted K g h kind none q = record {
   sent_is = q.sent_is;
   rises = q.rises;
   numbered = q.numbered;
+  owned = q.owned;
   waits = q.waits;
   ends = λ x i e. no_end_behind g.moved.notes g.file.kept.number kind none x (q.ends x i e) e;
 }
@@ -125,19 +129,21 @@ quiet_over K g k = record {
   sent_is = nothing_sent g;
   rises = omega arith;
   numbered = tt;
+  owned = none_owned;
   waits = refl;
   ends = λ x i e. i;
 }
 
 pub quiet_rests_or : (K : Kept → Type 0) (cs : List Awaited) (g : Going) (kind : JobKind) (work : Work) (later : Going)
-    → K g.file.kept → Numbered g.moved.nonce cs → is_fences work ≡ false → From K g later
+    → K g.file.kept → Numbered g.moved.nonce cs → AllOwned cs → is_fences work ≡ false → From K g later
     → From K g (rests_or cs g kind work later)
-quiet_rests_or K [] g kind work later k n w q = q
-quiet_rests_or K (c ∷ cs) g kind work later k n w q = record {
+quiet_rests_or K [] g kind work later k n o w q = q
+quiet_rests_or K (c ∷ cs) g kind work later k n o w q = record {
   kept = k;
   sent_is = refl;
   rises = refl;
   numbered = n;
+  owned = o;
   waits = w;
   ends = λ x i e. i;
 }
@@ -149,7 +155,8 @@ pub quiet_audits : (K : Kept → Type 0) (g : Going) (ps : List Piece) (t : Tall
 unfolding audits
 quiet_audits K g [] t k = noted K g _ _ refl (quiet_over K (noting g _) k)
 quiet_audits K g (p ∷ ps) t k =
-    quiet_rests_or K _ g _ _ _ k (each_numbered g.file.kept _ _ g.file.kept.components 0 g.moved.nonce) refl
+    quiet_rests_or K _ g _ _ _ k (each_numbered g.file.kept _ _ g.file.kept.components 0 g.moved.nonce)
+    (each_owned g.file.kept _ _ g.file.kept.components 0 g.moved.nonce) refl
     (quiet_audits K g ps _ k)
 
 pub quiet_audits_all : (K : Kept → Type 0) (g : Going) (heard : List Heard) → K g.file.kept
@@ -159,7 +166,8 @@ quiet_audits_all K g heard k = quiet_audits K g _ _ k
 quiet_audit : (K : Kept → Type 0) (g : Going) → K g.file.kept → From K g (audit_begins g)
 unfolding audit_begins
 quiet_audit K g k =
-    quiet_rests_or K _ g _ _ _ k (each_numbered g.file.kept _ _ g.file.kept.components 0 g.moved.nonce) refl
+    quiet_rests_or K _ g _ _ _ k (each_numbered g.file.kept _ _ g.file.kept.components 0 g.moved.nonce)
+    (each_owned g.file.kept _ _ g.file.kept.components 0 g.moved.nonce) refl
     (quiet_audits_all K g [] k)
 
 pub quiet_audited : (K : Kept → Type 0) (g : Going) (ps : List Piece) (t : Tally) (heard : List Heard) → K g.file.kept
@@ -181,6 +189,7 @@ quiet_makes_or K g (Some t) later k q = record {
   sent_is = refl;
   rises = refl;
   numbered = (refl, tt);
+  owned = one_owned _ refl;
   waits = refl;
   ends = λ x i e. i;
 }
@@ -211,6 +220,7 @@ from_mended K g h short q = record {
   sent_is = q.sent_is;
   rises = q.rises;
   numbered = q.numbered;
+  owned = q.owned;
   waits = q.waits;
   ends = λ x i e. no_end_behind g.moved.notes g.file.kept.number _ refl x (q.ends x i e) e;
 }
@@ -221,13 +231,15 @@ unfolding repairs
 quiet_repairs K m kind g [] short k =
     from_mended K g _ short (quiet_after K kind (mended g short) (m.mends g.file.kept k))
 quiet_repairs K m kind g (p ∷ ps) short k =
-    quiet_rests_or K _ g _ _ _ k (repair_numbered g.file.kept p g.moved.nonce) refl (quiet_repairs K m kind g ps _ k)
+    quiet_rests_or K _ g _ _ _ k (repair_numbered g.file.kept p g.moved.nonce)
+    (repair_owned g.file.kept p g.moved.nonce) refl (quiet_repairs K m kind g ps _ k)
 
 quiet_storing : (K : Kept → Type 0) → IsMended K → (kind : JobKind) (g : Going) (p : Piece) (ps : List Piece)
     (short : List ℕ) (heard : List Heard) → K g.file.kept → From K g (storing kind g p ps short heard)
 unfolding storing
 quiet_storing K m kind g p ps short heard k =
-    quiet_rests_or K _ g _ _ _ k (stores_numbered g.file.kept p _ heard g.file.kept.components 0 g.moved.nonce) refl
+    quiet_rests_or K _ g _ _ _ k (stores_numbered g.file.kept p _ heard g.file.kept.components 0 g.moved.nonce)
+    (stores_owned g.file.kept p _ heard g.file.kept.components 0 g.moved.nonce) refl
     (quiet_repairs K m kind g ps short k)
 
 quiet_stored : (K : Kept → Type 0) → IsMended K → (kind : JobKind) (g : Going) (p : Piece) (ps : List Piece)
@@ -262,7 +274,8 @@ unfolding fills sources
 quiet_fills K c g t [] k =
     noted K g _ (Rebuilt t.component t.drive) refl (quiet_rebuilds K _ _ _ (c.places g.file.kept _ k))
 quiet_fills K c g t (p ∷ ps) k =
-    quiet_rests_or K _ g _ _ _ k (sources_numbered g.file.kept t p g.moved.nonce _) refl
+    quiet_rests_or K _ g _ _ _ k (sources_numbered g.file.kept t p g.moved.nonce _)
+    (sources_owned g.file.kept t p g.moved.nonce _) refl
     (noted K g _ (Lost t.component _) refl (quiet_rebuilds K _ _ _ k))
 
 pub quiet_filling : (K : Kept → Type 0) → IsPlaced K → (g : Going) (t : Target) (p : Piece) (ps : List Piece)
@@ -274,6 +287,7 @@ quiet_filling K c g t p ps bytes k = elim (cases_Bool (nat_lt 0 (end_of bytes (r
     sent_is = refl;
     rises = refl;
     numbered = (refl, tt);
+    owned = one_owned _ refl;
     waits = refl;
     ends = λ x i f. i;
   })

@@ -26,13 +26,16 @@ use Rattle.job_law.proofs.Lists.{in_front, in_behind, in_either, in_mapped, numb
 use Rattle.job_law.proofs.Fences.{GoesFrom, Fencing, WasFencing, Handled, handled_fence, handled_making}
 use Rattle.job_law.proofs.Hearing.{IsTruth, Heard, Unheard, IsHeard, heard_reply}
 use Rattle.job_law.proofs.Asking.{handled_noted, handled_served}
-use Rattle.job_law.proofs.Files.{found_file, in_put, put_there, in_add, add_there, in_drives, IsStepAt, numbers_at, fences_at, handled_each, opened_each, numbers_round, fences_round}
+use Rattle.job_law.proofs.Files.{found_file, in_put, put_there, in_add, add_there, in_drives, IsStepAt, numbers_at, owns_at, fences_at, handled_each, opened_each, numbers_round, owns_round, fences_round}
+use Rattle.job_law.proofs.Owned.{sent_owned}
+use Rattle.job_law.specs.Owned.{Owns, EachStepOwns}
 
 -- ---- a step
 
--- it numbers what it sends anew; and keeps what fences wait for, given this
+-- it numbers what it sends anew, under the server's holder; and keeps what fences wait for, given this
 record Both (R : Reached) (given : Type 0) (s : Server) (t : Step) : Type 0 where
   numbers : NumbersOn s t
+  owns : Owns s t
   fences : AreFencing R s.files → given → FencesHold R t
 
 -- ---- a step that begins no job
@@ -58,6 +61,13 @@ both_idle R given s t i = record {
       | inr none ↦ absurd (no_job_awaits w.0.job a none w.2)
     ];
     sends = λ drive c j. absurd (i.sends drive c j);
+  };
+  owns = record {
+    waits = λ were a w. elim (i.files w.0 w.1) [
+      | inl j ↦ were a (w.0, j, w.2)
+      | inr none ↦ absurd (no_job_awaits w.0.job a none w.2)
+    ];
+    sends = λ were drive c j. absurd (i.sends drive c j);
   };
   fences = λ were g. record {
     fencing = λ f j e. elim (i.files f j) [
@@ -108,6 +118,7 @@ both_at R given s chosen n f h i e d =
     let is = at_put s chosen n f h i e in
     record {
       numbers = numbers_at s f h (step_at s n h) is f.kept.number d.goes;
+      owns = owns_at s f h (step_at s n h) is f.kept.number d.goes;
       fences = λ were g. fences_at s f h (step_at s n h) is R were (d.fences (were f i));
     }
 
@@ -119,6 +130,7 @@ carried : (R : Reached) (given : Type 0) (s : Server) (q : ClientRequest) (chose
 carried R given s q chosen f v i e d =
     record {
       numbers = numbers_at s f v.going (carried_out s q v) is f.kept.number d.goes;
+      owns = owns_at s f v.going (carried_out s q v) is f.kept.number d.goes;
       fences = λ were g. fences_at s f v.going (carried_out s q v) is R were (d.fences (were f i));
     }
   where
@@ -198,6 +210,7 @@ heard_both R s chosen drive r o (Somebody f h i goes fences) =
     let is = at_put s chosen h.file.kept.number f h i (sym goes.number_is) in
     record {
       numbers = numbers_at s f h (step_at s h.file.kept.number h) is f.kept.number goes;
+      owns = owns_at s f h (step_at s h.file.kept.number h) is f.kept.number goes;
       fences = λ were g. fences_at s f h (step_at s h.file.kept.number h) is R were (fences (were f i) (g f i));
     }
 
@@ -244,6 +257,7 @@ declared R given s chosen n true =
     let d = handled_each R n (offline s.drives n) s.files _ chosen in
     record {
       numbers = numbers_round s (with_offline s n) _ refl d.goes;
+      owns = owns_round s (with_offline s n) _ d.goes;
       fences = λ were g. fences_round R (with_offline s n) _ (d.fences were);
     }
 
@@ -271,6 +285,14 @@ answered R given s kind o b = record {
       | inr (inr none) ↦ absurd none
     ];
   };
+  owns = record {
+    waits = b.owns.waits;
+    sends = λ were drive c i. elim (in_either (ToDrive drive c) o.step.sends _ i) [
+      | inl j ↦ b.owns.sends were drive c j
+      | inr (inl e) ↦ absurd (cc e)
+      | inr (inr none) ↦ absurd none
+    ];
+  };
   fences = λ were g. let h = b.fences were g in record { fencing = h.fencing; fenced = h.fenced };
 }
 
@@ -279,7 +301,7 @@ answered R given s kind o b = record {
 -- what is needed of a reply
 weaken : (R : Reached) (given more : Type 0) (s : Server) (t : Step) → (more → given) → Both R given s t
     → Both R more s t
-weaken R given more s t by b = record { numbers = b.numbers; fences = λ were g. b.fences were (by g) }
+weaken R given more s t by b = record { numbers = b.numbers; owns = b.owns; fences = λ were g. b.fences were (by g) }
 
 heard_message : (R : Reached) (s : Server) (now : ℕ) (chosen : List ℕ) (from : Node) (m : Message)
     → counters_low s ≡ true
@@ -314,6 +336,7 @@ made R given s f None none =
     let d = handled_making R (at_file (with_file s f) [] f) in
     record {
       numbers = numbers_at s f h (makes_file s f) is f.kept.number d.goes;
+      owns = owns_at s f h (makes_file s f) is f.kept.number d.goes;
       fences = λ were g. fences_at s f h (makes_file s f) is R were
           (d.fences (λ e. absurd (cc (sym e ∙ ap is_fencing none))));
     }
@@ -361,6 +384,11 @@ resent R given s = record {
     waits = λ a w. inl w;
     sends = λ drive c i. let r = in_flat s.drives s.files drive c i in (r.0, r.1, inl r.2);
   };
+  owns = record {
+    waits = λ were. were;
+    sends = λ were drive c i.
+        let r = in_flat s.drives s.files drive c i in sent_owned drive c r.0 r.1 (were r.0 r.2);
+  };
   fences = λ were g. record { fencing = were; fenced = λ n tag i e. absurd i };
 }
 
@@ -373,6 +401,7 @@ opened R given s =
     let d = opened_each R s.format s.drives s.files _ in
     either_step R given s (counters_low s) _ _ (record {
       numbers = numbers_round s s _ refl d.goes;
+      owns = owns_round s s _ d.goes;
       fences = λ were g. fences_round R s _ (d.fences were);
     }) (both_still R given s)
 
@@ -398,6 +427,9 @@ both_step R s chosen Opens = opened R _ s
 
 pub step_numbers : EachStepNumbers
 step_numbers s chosen i = (both_step (λ drive object tag. true) s chosen i).numbers
+
+pub step_owns : EachStepOwns
+step_owns s chosen i = (both_step (λ drive object tag. true) s chosen i).owns
 
 pub fences_wait : FencesWait
 fences_wait R s chosen i were heard = (both_step R s chosen i).fences were heard

@@ -1,6 +1,7 @@
 // What holds of the server's jobs, for the crates above.
 ghost use Rattle.job_law.specs.Fencing.{FencesWait};
 ghost use Rattle.job_law.specs.Numbered.{EachRunNumbers, EachStepNumbers};
+ghost use Rattle.job_law.specs.Owned.{EachStepOwns};
 ghost use Rattle.job_law.specs.Recalled.{EachStepCounts};
 
 /// A step numbers the commands that it sends anew from the server's next nonce on. What a job awaits was sent, and what
@@ -22,4 +23,9 @@ pub fn fences_wait()
 /// A step counts the recalls that it sends from the server's next count on, so none has the count of another.
 pub fn each_step_counts()
     ensures { EachStepCounts }
+{}
+
+/// What the server sends to drives is under its own holder, in each step, where what its jobs awaited was so.
+pub fn each_step_owns()
+    ensures { EachStepOwns }
 {}

@@ -3,4 +3,6 @@
 
 mod laws;
 
-pub use laws::{each_run_numbers, each_step_counts, each_step_numbers, fences_wait};
+pub use laws::{
+    each_run_numbers, each_step_counts, each_step_numbers, each_step_owns, fences_wait,
+};
