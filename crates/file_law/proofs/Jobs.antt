@@ -14,7 +14,7 @@ use Rattle.world_history.specs.ServerNames.{Component, Kept, Note, Piece, Heard,
 use Rattle.file_law.specs.Components.{is_lacking}
 use Rattle.file_law.specs.Sound.{target_in, IsAim}
 use Rattle.file_law.proofs.Components.{drop_next, drop_lacks}
-use Rattle.file_law.proofs.Notes.{Tells, Ends, tells_plain, tells_if, tells_full, tells_made}
+use Rattle.file_law.proofs.Notes.{Tells, Ends, tells_plain, tells_if, tells_full, tells_made, tells_fenced}
 use Rattle.file_law.proofs.Targets.{AreKnown, aim_for}
 
 -- ---- the job rests, or goes on
@@ -30,7 +30,7 @@ ends_rests_or k before (c ∷ cs) g kind work later h a l = (h, a)
 pub ends_audits : (k : Kept) (before : List Note) (g : Going) (ps : List Piece) (t : Tally) → Tells k before g
     → Ends k before (audits g ps t)
 unfolding audits
-ends_audits k before g [] t h = (tells_plain k before g _ (λ cs. refl) refl refl h, tt)
+ends_audits k before g [] t h = (tells_plain k before g _ (λ cs. refl) refl refl refl h, tt)
 ends_audits k before g (p ∷ ps) t h = ends_rests_or k before _ g _ _ _ h tt (ends_audits k before g ps _ h)
 
 ends_audit : (k : Kept) (before : List Note) (g : Going) → Tells k before g → Ends k before (audit_begins g)
@@ -63,7 +63,7 @@ ends_rebuilds k before g (at ∷ cs) j h known from =
     ends_makes_or k before g at cs j (target_for g at j) (rebuilds (noting_if at.missing g (NoDrive j)) cs (j + 1)) h known
     from refl
     (ends_rebuilds k before (noting_if at.missing g (NoDrive j)) cs (j + 1)
-    (tells_if at.missing k before g (NoDrive j) (λ cs. refl) refl refl h) known
+    (tells_if at.missing k before g (NoDrive j) (λ cs. refl) refl refl refl h) known
     (rw add-one (drop_next g.file.kept.components j at cs from)))
 
 -- the component of a target, until it is made anew
@@ -86,7 +86,7 @@ unfolding fills
 ends_fills k before g t [] h known a = ends_rebuilt k before g t h known a
 ends_fills k before g t (p ∷ ps) h known a =
     ends_rests_or k before _ g _ _ _ h a
-    (ends_rebuilds k before (noting g _) _ _ (tells_plain k before g _ (λ cs. refl) refl refl h) known refl)
+    (ends_rebuilds k before (noting g _) _ _ (tells_plain k before g _ (λ cs. refl) refl refl refl h) known refl)
 
 ends_filling : (k : Kept) (before : List Note) (g : Going) (t : Target) (p : Piece) (ps : List Piece) (bytes : List ℕ)
     → Tells k before g → AreKnown g.drives → Aims g t → Ends k before (filling g t p ps bytes)
@@ -99,7 +99,7 @@ ends_filling k before g t p ps bytes h known a = elim (cases_Bool (nat_lt 0 (end
 ends_gone : (k : Kept) (before : List Note) (g : Going) (t : Target) → Tells k before g → AreKnown g.drives
     → Ends k before (target_gone g t)
 ends_gone k before g t h known =
-    ends_rebuilds k before (noting g (NoDrive t.component)) _ _ (tells_plain k before g (NoDrive t.component) (λ cs. refl) refl refl h) known refl
+    ends_rebuilds k before (noting g (NoDrive t.component)) _ _ (tells_plain k before g (NoDrive t.component) (λ cs. refl) refl refl refl h) known refl
 
 pub ends_full : (k : Kept) (before : List Note) (g : Going) (t : Target) → Tells k before g → AreKnown g.drives
     → Aims g t → Ends k before (target_full g t)
@@ -119,7 +119,7 @@ pub ends_repairs : (k : Kept) (before : List Note) (kind : JobKind) (g : Going) 
     → Tells k before g → AreKnown g.drives → Ends k before (repairs kind g ps short)
 unfolding repairs
 ends_repairs k before kind g [] short h known =
-    ends_after k before kind (mended g short) (tells_plain k before g _ (λ cs. refl) refl refl h) known
+    ends_after k before kind (mended g short) (tells_plain k before g _ (λ cs. refl) refl refl refl h) known
 ends_repairs k before kind g (p ∷ ps) short h known =
     ends_rests_or k before _ g _ _ _ h tt (ends_repairs k before kind g ps _ h known)
 
@@ -139,13 +139,13 @@ ends_stored k before kind g p ps short false h known = ends_repairs k before kin
 pub ends_making : (k : Kept) (before : List Note) (g : Going) → Tells k before g → Ends k before (making g)
 unfolding making
 ends_making k before g h =
-    ends_rests_or k before _ g _ _ _ h tt (tells_plain k before g _ (λ cs. refl) refl refl h, tt)
+    ends_rests_or k before _ g _ _ _ h tt (tells_plain k before g _ (λ cs. refl) refl refl refl h, tt)
 
 ends_fenced : (k : Kept) (before : List Note) (kind : JobKind) (g : Going) → Tells k before g → AreKnown g.drives
     → Ends k before (fenced kind g)
 unfolding fenced repair_begins
 ends_fenced k before kind g h known =
-    ends_repairs k before kind _ _ [] (tells_plain k before g _ (λ cs. refl) refl refl h) known
+    ends_repairs k before kind _ _ [] (tells_fenced k before g h) known
 
 ends_fences : (k : Kept) (before : List Note) (kind : JobKind) (g : Going) → Tells k before g → AreKnown g.drives
     → Ends k before (fences kind g)
@@ -185,7 +185,7 @@ ends_on : (k : Kept) (before : List Note) (kind : JobKind) (work : Work) (heard 
     → Tells k before g → AreKnown g.drives → IsAim g.file.kept.components (target_in work)
     → Ends k before (goes_on kind work heard g)
 unfolding goes_on
-ends_on k before kind Creates heard g h known a = (tells_plain k before g Ready (λ cs. refl) refl refl h, tt)
+ends_on k before kind Creates heard g h known a = (tells_plain k before g Ready (λ cs. refl) refl refl refl h, tt)
 ends_on k before kind Fences heard g h known a = ends_fenced k before kind g h known
 ends_on k before kind (Fetches ps short) heard g h known a = ends_fetched k before kind g ps short heard h known
 ends_on k before kind (Stores ps short broken) heard g h known a = ends_written k before kind g ps short broken h known

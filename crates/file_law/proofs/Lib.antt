@@ -9,6 +9,7 @@ mod Lines
 mod Steps
 mod Finding
 mod Making
+mod Tags
 mod Short
 mod Through
 pub mod Facts

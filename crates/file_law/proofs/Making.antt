@@ -40,7 +40,7 @@ none_there (f ∷ fs) n e = elim (cases_eq f.kept.number n) [
   | inr o ↦ (o, none_there fs n (rw (ne_eqb f.kept.number n o) at e))
 ]
 
-distinct_added : (fs : List File) (f : File) → AreDistinct fs → NoneHas f.kept.number fs → AreDistinct (add_file fs f)
+pub distinct_added : (fs : List File) (f : File) → AreDistinct fs → NoneHas f.kept.number fs → AreDistinct (add_file fs f)
 unfolding add_file
 distinct_added [] f d h = (tt, tt)
 distinct_added (g ∷ fs) f d h = elim (cases_Bool (nat_lt g.kept.number f.kept.number)) [
@@ -56,7 +56,7 @@ there (g ∷ fs) f h = elim (cases_Bool (nat_lt g.kept.number f.kept.number)) [
   | inr z ↦ rw z (rw (eq-eqb f.kept.number f.kept.number refl) refl)
 ]
 
-beside : (fs : List File) (f : File) (n : ℕ) → (f.kept.number == n) ≡ false → file_at (add_file fs f) n ≡ file_at fs n
+pub beside : (fs : List File) (f : File) (n : ℕ) → (f.kept.number == n) ≡ false → file_at (add_file fs f) n ≡ file_at fs n
 unfolding file_at add_file
 beside [] f n e = rw e refl
 beside (g ∷ fs) f n e = elim (cases_Bool (nat_lt g.kept.number f.kept.number)) [

@@ -1,10 +1,10 @@
 -- Notes of a file in a step, and what they make of its components.
-use Rattle.std.proofs.Common.{◌≡◌, ℕ, ◌<◌, ◌||◌, ◌++◌, ◌∷◌, [], List, Bool, true, false, slice_set, refl, sym, ap, ◌∙◌}
+use Rattle.std.proofs.Common.{◌≡◌, ℕ, ◌<◌, ◌+◌, ◌||◌, ◌++◌, ◌∷◌, [], List, Bool, true, false, slice_set, refl, sym, ap, ◌∙◌, arith}
 use Rattle.std.proofs.lemmas.Bool.{lt-ltb}
 use Rattle.scenario_text.specs.declared.names.TheConstants.{DRIVES}
-use Rattle.server_rules.specs.Going.{Going, with_components, noting, noting_if}
+use Rattle.server_rules.specs.Going.{Going, keeping, with_components, noting, noting_if}
 use Rattle.server_rules.specs.Standing.{lose_from, stood_on}
-use Rattle.world_history.specs.ServerNames.{Component, Kept, Note, NoteKind, Rebuilt, NoSpace}
+use Rattle.world_history.specs.ServerNames.{Component, Kept, Note, NoteKind, Repairing, Fenced, Rebuilt, NoSpace}
 use Rattle.world_history.specs.Told.{told_note}
 use Rattle.world_history.specs.Names.{is_tellable_note}
 use Rattle.world_history.specs.Calm.{noted}
@@ -39,6 +39,34 @@ any_rebuilt (k ∷ ks) = is_rebuilt k || any_rebuilt ks
 abbrev pub AreTellable : List NoteKind → Type 0
 AreTellable ks = Each (λ (k : NoteKind). is_tellable_note k ≡ true) ks
 
+-- ---- the tag behind notes
+
+-- the note tells that a fence is over
+abbrev pub is_fenced : NoteKind → Bool
+is_fenced (Fenced tag) = true
+is_fenced k = false
+
+-- it tells the tag from then on
+abbrev pub tag_behind : (tag : ℕ) → List NoteKind → ℕ
+tag_behind t [] = t
+tag_behind t (Fenced u ∷ ks) = u
+tag_behind t (k ∷ ks) = tag_behind t ks
+
+-- which is a later one
+abbrev pub AreLater : (tag : ℕ) → List NoteKind → Type 0
+AreLater t [] = Unit {0}
+AreLater t (Fenced u ∷ ks) = (tag_behind t ks < u) × AreLater t ks
+AreLater t (k ∷ ks) = AreLater t ks
+
+-- a file that had the one tag has the other behind them
+abbrev pub Tagged : (tag : ℕ) → List NoteKind → (then : ℕ) → Type 0
+Tagged t ks u = (u ≡ tag_behind t ks) × AreLater t ks
+
+tagged_plain : (t : ℕ) (k : NoteKind) (ks : List NoteKind) (u : ℕ) → is_fenced k ≡ false → Tagged t ks u
+    → Tagged t (k ∷ ks) u
+tagged_plain t (Fenced v) ks u e h = absurd (cc e)
+tagged_plain t k ks u e h = h
+
 -- ---- a file in the middle of a step
 
 -- The file that was k, before which these notes stood: it is the same file still, and its components are as its own notes
@@ -50,6 +78,7 @@ Tells k before g = record {
   kinds : List NoteKind;
   notes : g.moved.notes ≡ noted_with before k.number kinds;
   tellable : AreTellable kinds;
+  tags : Tagged k.tag kinds g.file.kept.tag;
   alike : Paired StandAlike (behind k.components kinds) g.file.kept.components;
   exact : any_rebuilt kinds ≡ false → g.file.kept.components ≡ behind k.components kinds;
   apart : AreApart k.components → AreApart g.file.kept.components;
@@ -71,13 +100,15 @@ note_more k before g n ks same notes =
 -- one that tells of no component
 pub tells_plain : (k : Kept) (before : List Note) (g : Going) (n : NoteKind)
     → ((cs : List Component) → noted cs (told_note n) ≡ cs) → is_rebuilt n ≡ false → is_tellable_note n ≡ true
+    → is_fenced n ≡ false
     → Tells k before g → Tells k before (noting g n)
-tells_plain k before g n plain whole known h = record {
+tells_plain k before g n plain whole known on h = record {
   number = h.number;
   map = h.map;
   kinds = n ∷ h.kinds;
   notes = note_more k before g n h.kinds h.number h.notes;
   tellable = (known, h.tellable);
+  tags = tagged_plain k.tag n h.kinds g.file.kept.tag on h.tags;
   alike = rw (plain (behind k.components h.kinds)) h.alike;
   exact = λ e. h.exact (rw whole at e) ∙ sym (plain (behind k.components h.kinds));
   apart = h.apart;
@@ -86,9 +117,10 @@ tells_plain k before g n plain whole known h = record {
 -- one that tells of no component, perhaps
 pub tells_if : (b : Bool) (k : Kept) (before : List Note) (g : Going) (n : NoteKind)
     → ((cs : List Component) → noted cs (told_note n) ≡ cs) → is_rebuilt n ≡ false → is_tellable_note n ≡ true
+    → is_fenced n ≡ false
     → Tells k before g → Tells k before (noting_if b g n)
-tells_if true k before g n plain whole known h = tells_plain k before g n plain whole known h
-tells_if false k before g n plain whole known h = h
+tells_if true k before g n plain whole known on h = tells_plain k before g n plain whole known on h
+tells_if false k before g n plain whole known on h = h
 
 lost_alike : (a b : Component) → StandAlike a b → StandAlike (lost a) (lost b)
 lost_alike a b h = (h.0, refl)
@@ -104,6 +136,7 @@ tells_lost k before g c h = record {
       note_more k before (with_components g (lose_from (c ∷ []) g.file.kept.components 0)) (NoSpace c) h.kinds h.number
       h.notes;
   tellable = (refl, h.tellable);
+  tags = h.tags;
   alike =
       paired_lost StandAlike lost_alike (c ∷ []) (behind k.components h.kinds) g.file.kept.components 0 h.alike;
   exact = λ e. ap (λ (cs : List Component). lose_from (c ∷ []) cs 0) (h.exact e);
@@ -119,6 +152,7 @@ tells_full k before g c l h = record {
   kinds = NoSpace c ∷ h.kinds;
   notes = note_more k before g (NoSpace c) h.kinds h.number h.notes;
   tellable = (refl, h.tellable);
+  tags = h.tags;
   alike =
       rw (lacking_stays g.file.kept.components c l)
       at (paired_lost StandAlike lost_alike (c ∷ []) (behind k.components h.kinds) g.file.kept.components 0 h.alike);
@@ -139,11 +173,31 @@ tells_made k before g c at there known free h = record {
       note_more k before (with_components g (slice_set g.file.kept.components c at)) (Rebuilt c at.drive) h.kinds h.number
       h.notes;
   tellable = (lt-ltb at.drive DRIVES known, h.tellable);
+  tags = h.tags;
   alike =
       rw (stands_is (behind k.components h.kinds) c at.drive)
       (alike_made (behind k.components h.kinds) g.file.kept.components c at there h.alike);
   exact = λ e. absurd (cc e);
   apart = λ x. apart_set g.file.kept.components c at free (h.apart x);
+}
+
+-- a fence is over
+pub tells_fenced : (k : Kept) (before : List Note) (g : Going) → Tells k before g
+    → Tells k before
+    (noting (keeping g (record g.file.kept { tag = g.file.kept.tag + 1; phase = Repairing }))
+    (Fenced (g.file.kept.tag + 1)))
+tells_fenced k before g h = record {
+  number = h.number;
+  map = h.map;
+  kinds = Fenced (g.file.kept.tag + 1) ∷ h.kinds;
+  notes =
+      note_more k before (keeping g (record g.file.kept { tag = g.file.kept.tag + 1; phase = Repairing }))
+      (Fenced (g.file.kept.tag + 1)) h.kinds h.number h.notes;
+  tellable = (refl, h.tellable);
+  tags = (refl, (omega (arith, h.tags.0), h.tags.1));
+  alike = h.alike;
+  exact = h.exact;
+  apart = h.apart;
 }
 
 -- ---- a step begins
@@ -155,6 +209,7 @@ tells_first g = record {
   kinds = [];
   notes = refl;
   tellable = tt;
+  tags = (refl, tt);
   alike = alike_same g.file.kept.components;
   exact = λ e. refl;
   apart = λ x. x;

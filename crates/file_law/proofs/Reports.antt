@@ -12,7 +12,7 @@ use Rattle.file_law.specs.Sound.{IsAimed, target_of}
 use Rattle.file_law.specs.Apart.{AreApart}
 use Rattle.file_law.proofs.Drives.{apart_lost}
 use Rattle.file_law.proofs.Components.{lost, alike_same}
-use Rattle.file_law.proofs.Notes.{Ends, AreTellable, noted_with, behind, any_rebuilt}
+use Rattle.file_law.proofs.Notes.{Ends, AreTellable, tag_behind, AreLater, Tagged, noted_with, behind, any_rebuilt}
 use Rattle.file_law.proofs.Targets.{aim_lost}
 
 -- ---- components that are lost one by one
@@ -99,6 +99,18 @@ none_rebuilt : (ns : List ℕ) → any_rebuilt (kinds_of ns) ≡ false
 none_rebuilt [] = refl
 none_rebuilt (n ∷ ns) = none_rebuilt ns
 
+-- they leave the tag
+tag_stays : (tag : ℕ) (ns : List ℕ) → tag ≡ tag_behind tag (kinds_of ns)
+tag_stays tag [] = refl
+tag_stays tag (n ∷ ns) = tag_stays tag ns
+
+none_later : (tag : ℕ) (ns : List ℕ) → AreLater tag (kinds_of ns)
+none_later tag [] = tt
+none_later tag (n ∷ ns) = none_later tag ns
+
+still_tagged : (tag : ℕ) (ns : List ℕ) → Tagged tag (kinds_of ns) tag
+still_tagged tag ns = (tag_stays tag ns, none_later tag ns)
+
 -- the file stays, and has these notes more
 abbrev Reports : (before : List Note) → (ns : List ℕ) → (g h : Going) → Type 0
 Reports before ns g h = record {
@@ -139,6 +151,7 @@ told_of go h ks r a =
         kinds = kinds_of ns;
         notes = r.notes;
         tellable = all_told ns;
+        tags = subst (λ (f : File). Tagged go.file.kept.tag (kinds_of ns) f.kept.tag) (sym r.file) (still_tagged go.file.kept.tag ns);
         alike = subst (λ (x : List Component). Paired StandAlike (behind cs (kinds_of ns)) x) (sym same)
             (alike_same (behind cs (kinds_of ns)));
         exact = λ e. same;

@@ -17,7 +17,7 @@ use Rattle.file_law.specs.Sound.{IsAimed}
 use Rattle.file_law.specs.Apart.{AreApart}
 use Rattle.file_law.proofs.Drives.{apart_on}
 use Rattle.file_law.proofs.Components.{paired_length, stands_is, stood, alike_same}
-use Rattle.file_law.proofs.Notes.{Ends, AreTellable, noted_with, behind, any_rebuilt}
+use Rattle.file_law.proofs.Notes.{Ends, AreTellable, Tagged, noted_with, behind, any_rebuilt}
 use Rattle.file_law.proofs.Serving.{without}
 
 -- ---- what becomes of files
@@ -30,6 +30,7 @@ WentAs out f before g after = record {
   kinds : List NoteKind;
   notes : after ≡ noted_with before f.kept.number kinds;
   tellable : AreTellable kinds;
+  tags : Tagged f.kept.tag kinds g.kept.tag;
   alike : Paired StandAlike (behind (without_drive out f.kept.components) kinds) g.kept.components;
   exact : any_rebuilt kinds ≡ false → g.kept.components ≡ behind (without_drive out f.kept.components) kinds;
   aimed : IsAimed g;
@@ -51,6 +52,7 @@ went_plain f before h e = record {
   kinds = e.0.kinds;
   notes = e.0.notes;
   tellable = e.0.tellable;
+  tags = e.0.tags;
   alike = e.0.alike;
   exact = e.0.exact;
   aimed = e.1;
@@ -65,6 +67,7 @@ went_out d f before h e = record {
   kinds = e.0.kinds;
   notes = e.0.notes;
   tellable = e.0.tellable;
+  tags = e.0.tags;
   alike = e.0.alike;
   exact = e.0.exact;
   aimed = e.1;
@@ -78,6 +81,7 @@ stays f before a = record {
   kinds = [];
   notes = refl;
   tellable = tt;
+  tags = (refl, tt);
   alike = alike_same f.kept.components;
   exact = λ e. refl;
   aimed = a;

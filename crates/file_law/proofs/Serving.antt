@@ -83,6 +83,7 @@ untouched g drive e = record {
   kinds = [];
   notes = refl;
   tellable = tt;
+  tags = (refl, tt);
   alike = rw (none_lost_on drive g.file.kept.components e) (alike_same g.file.kept.components);
   exact = λ q. sym (none_lost_on drive g.file.kept.components e);
   apart = λ x. apart_again drive g.file.kept.components x;
@@ -114,7 +115,7 @@ ends_reopened : (format : ℕ) (g : Going) → AreKnown g.drives → IsAimed g.f
     → Ends g.file.kept g.moved.notes (opens_fenced format g)
 unfolding opens_fenced
 ends_reopened format g known a = elim (cases_Bool (g.file.kept.tag == GREATEST_TAG)) [
-  | inl t ↦ rw t (tells_plain g.file.kept g.moved.notes g Spent (λ cs. refl) refl refl (tells_first g), a)
+  | inl t ↦ rw t (tells_plain g.file.kept g.moved.notes g Spent (λ cs. refl) refl refl refl (tells_first g), a)
   | inr z ↦ rw z (ends_fence g.file.kept g.moved.notes Revoking format g (tells_first g) known)
 ]
 
@@ -149,7 +150,7 @@ ends_first : (go : Going) (next format : ℕ) (g : Grant) → AreKnown go.drives
     → Ends go.file.kept go.moved.notes (fence_first go next format g).going
 unfolding fence_first
 ends_first go next format g known a = elim (cases_Bool (go.file.kept.tag == GREATEST_TAG)) [
-  | inl t ↦ rw t (tells_plain go.file.kept go.moved.notes go Spent (λ cs. refl) refl refl (tells_first go), a)
+  | inl t ↦ rw t (tells_plain go.file.kept go.moved.notes go Spent (λ cs. refl) refl refl refl (tells_first go), a)
   | inr z ↦ rw z (ends_after go.file.kept go.moved.notes (fence_begins Revoking format go) next g
       (fence_begins Revoking format go).file.job
       (ends_fence go.file.kept go.moved.notes Revoking format go (tells_first go) known))
@@ -195,7 +196,7 @@ ends_return go format client NoGrant known a = (tells_first go, a)
 ends_return go format client Clean known a = (tells_first go, a)
 ends_return go format client (Taken ks) known a = ends_loss go ks a
 ends_return go format client TooMany known a =
-    (tells_plain go.file.kept go.moved.notes go Spent (λ cs. refl) refl refl (tells_first go), a)
+    (tells_plain go.file.kept go.moved.notes go Spent (λ cs. refl) refl refl refl (tells_first go), a)
 ends_return go format client Fencing known a =
     ends_fence go.file.kept go.moved.notes Revoking format go (tells_first go) known
 

@@ -142,7 +142,7 @@ went_job o s chosen kind n f (Some j) h e = record {
   takes = tt;
   each = went_one o s f.kept.number f _ _ h (ap (λ (x : ℕ). file_at s.files x) (number_at s.files n f e) ∙ e)
       (went_plain f [] (noting (at_file s chosen f) (Busy (lowest j.awaited))) (
-        tells_plain f.kept [] (at_file s chosen f) (Busy (lowest j.awaited)) (λ cs. refl) refl refl (tells_first (at_file s chosen f)),
+        tells_plain f.kept [] (at_file s chosen f) (Busy (lowest j.awaited)) (λ cs. refl) refl refl refl (tells_first (at_file s chosen f)),
         aimed_at s n f h e,
       ));
   known = h.drives;
@@ -153,7 +153,7 @@ went_job o s chosen kind n f None h e = elim (cases_Bool (f.kept.tag == GREATEST
     takes = tt;
     each = went_one o s f.kept.number f _ _ h (ap (λ (x : ℕ). file_at s.files x) (number_at s.files n f e) ∙ e)
         (went_plain f [] (noting (at_file s chosen f) Spent) (
-          tells_plain f.kept [] (at_file s chosen f) Spent (λ cs. refl) refl refl (tells_first (at_file s chosen f)),
+          tells_plain f.kept [] (at_file s chosen f) Spent (λ cs. refl) refl refl refl (tells_first (at_file s chosen f)),
           aimed_at s n f h e,
         ));
     known = h.drives;
@@ -258,6 +258,7 @@ went_crashes (f ∷ fs) = (
     kinds = [];
     notes = refl;
     tellable = tt;
+    tags = (refl, tt);
     alike = alike_same f.kept.components;
     exact = λ e. refl;
     aimed = tt;

@@ -5,3 +5,4 @@ pub mod Apart
 pub mod Going
 pub mod Seeing
 pub mod Moments
+pub mod Tags

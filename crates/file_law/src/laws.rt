@@ -1,6 +1,7 @@
 // What holds of files at each step, for the crates above.
 ghost use Rattle.file_law.specs.Sound.{EachStepIsSound};
 ghost use Rattle.file_law.specs.Going.{EachStepTells};
+ghost use Rattle.file_law.specs.Tags.{EachStepRaisesTags};
 ghost use Rattle.file_law.specs.Apart.{EachStepIsApart, ComponentsApart};
 ghost use Rattle.file_law.specs.Moments.{DeclaredHaveFailed, ServerWritesToOthers};
 ghost use Rattle.file_law.specs.Seeing.{SeenIsSound, MovesShowFiles};
@@ -17,6 +18,12 @@ pub fn each_step_is_sound()
 /// those that were rebuilt, and for a drive that was declared.
 pub fn each_step_tells()
     ensures { EachStepTells }
+{}
+
+/// In each step the tag of a file doesn't fall, and a note that a fence of it is over tells a later tag than it had
+/// before.
+pub fn each_step_raises_tags()
+    ensures { EachStepRaisesTags }
 {}
 
 /// The server that is read off the lines of a history is sound, where lines can name the files and drives of its

@@ -9,5 +9,6 @@ mod laws;
 
 pub use laws::{
     components_apart, declared_have_failed, each_step_is_apart, each_step_is_sound,
-    each_step_tells, moves_show_files, seen_is_sound, server_writes_to_others,
+    each_step_raises_tags, each_step_tells, moves_show_files, seen_is_sound,
+    server_writes_to_others,
 };
