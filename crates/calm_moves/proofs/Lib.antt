@@ -1,9 +1,10 @@
-mod Shapes
+pub mod Shapes
 mod Opening
 mod Stepping
 mod Following
 mod Events
+pub mod Inside
 mod Watching
 mod Notes
-mod Facts
+pub mod Facts
 mod Giving
