@@ -1,0 +1,181 @@
+-- In each world, what the server answered gives grants of files that are there still, whose tags haven't fallen since.
+use Rattle.std.proofs.Common.{◌≡◌, ◌⊎◌, ℕ, ◌≤◌, List, map, Some, refl, sym, ap, subst, ◌∙◌, arith, inl, inr}
+use Rattle.osd_bytes.specs.declared.node.Node.TheVariants as node
+use Rattle.layout_ops.specs.declared.envelope.Envelope.{Envelope}
+use Rattle.layout_ops.specs.declared.envelope.Envelope.TheVariants as envelope
+use Rattle.layout_ops.specs.declared.results.LayoutGetResult.TheVariants as get
+use Rattle.layout_ops.specs.declared.results.Results.{Results}
+use Rattle.layout_ops.specs.declared.results.Results.TheVariants as results
+use Rattle.server_rules.specs.Files.{Step, file_at}
+use Rattle.server_rules.specs.History.{Input, step}
+use Rattle.server_rules.specs.Laws.{In, FilesArePut}
+use Rattle.world_history.specs.ServerNames.{Server, File, Answer, Outgoing, ToDrive, Recalls, Answers, AnswersOrder}
+use Rattle.job_law.specs.Names.{Slot}
+use Rattle.world_history.specs.declared.messages.Message.{Message}
+use Rattle.world_history.specs.declared.messages.Body.{Body}
+use Rattle.world_history.specs.declared.messages.Body.TheVariants.{Envelope as OfEnvelope}
+use Rattle.world_history.specs.State.{World, empty_world}
+use Rattle.world_history.specs.Handed.{Post, is_addressed, server_post}
+use Rattle.world_history.specs.Moves.{Act}
+use Rattle.world_history.specs.Sending.{sends_all}
+use Rattle.file_law.specs.Sound.{IsSound}
+use Rattle.file_law.specs.Tags.{EachStepRaisesTags}
+use Rattle.job_law.proofs.Lists.{in_either, in_mapped, in_filtered}
+use Rattle.fencing_law.proofs.Moves.{messages_in, posts_of, NoneOfServer, Acts, Others, Serves}
+use Rattle.fencing_law.proofs.Numbers.{messages_sent}
+use Rattle.tag_law.proofs.Saying.{GivesUpTo, UpTo, Says, says_step}
+
+-- ---- what is known
+
+-- a message of the server to a client
+abbrev pub to_client : (client : ℕ) → Body → Message
+to_client c b = record { from = node.Server; to = node.Client c; body = b }
+
+abbrev pub EnvelopeUpTo : List File → Envelope → Type 0
+EnvelopeUpTo fs (envelope.Answer a) = UpTo fs a
+EnvelopeUpTo fs e = Unit {0}
+
+-- of what slots keep, and of what was sent
+pub record Aged (w : World) : Type 0 where
+  pub slots : (x : Slot) → In x w.server.slots → UpTo w.server.files x.kept
+  pub sent : (c : ℕ) (b : Body) → In (to_client c b) (messages_in w) →
+      (e : Envelope) × (b ≡ OfEnvelope e) × EnvelopeUpTo w.server.files e
+
+-- ---- tags rise
+
+-- each file is there still, and its tag hasn't fallen
+abbrev pub Rises : List File → List File → Type 0
+Rises fs gs = (n : ℕ) (f : File) → file_at fs n ≡ Some f
+    → (g : File) × (file_at gs n ≡ Some g) × (f.kept.tag ≤ g.kept.tag)
+
+gives_on : (fs gs : List File) (n : ℕ) (r : Results) → Rises fs gs → GivesUpTo fs n r → GivesUpTo gs n r
+gives_on fs gs n (results.LayoutGet (get.Granted ok)) rise up =
+    let on = rise n up.now up.there in
+    record {
+      drives = up.drives;
+      old = up.old;
+      grant = up.grant;
+      is = up.is;
+      now = on.0;
+      there = on.1;
+      rises = omega (arith, up.rises, on.2);
+    }
+gives_on fs gs n (results.LayoutGet (get.TryLater b)) rise up = tt
+gives_on fs gs n (results.LayoutGet (get.Refused s)) rise up = tt
+gives_on fs gs n (results.LayoutCommit r) rise up = tt
+gives_on fs gs n (results.LayoutReturn r) rise up = tt
+
+envelope_on : (fs gs : List File) (e : Envelope) → Rises fs gs → EnvelopeUpTo fs e → EnvelopeUpTo gs e
+envelope_on fs gs (envelope.Answer a) rise up = gives_on fs gs a.file a.results rise up
+envelope_on fs gs (envelope.Recall r) rise up = tt
+envelope_on fs gs (envelope.Request r) rise up = tt
+envelope_on fs gs (envelope.RecallAnswer r) rise up = tt
+envelope_on fs gs (envelope.Order r) rise up = tt
+envelope_on fs gs (envelope.OrderAnswer r) rise up = tt
+
+-- ---- what is sent
+
+envelopes_only : (o : Outgoing) (c : ℕ) (b : Body) → to_client c b ≡ (server_post o).message
+    → (e : Envelope) × (b ≡ OfEnvelope e) × ((a : Answer) → e ≡ envelope.Answer a → o ≡ Answers a)
+envelopes_only (ToDrive d x) c b e = absurd (cc (ap (λ (m : Message). m.to) e))
+envelopes_only (Recalls r) c b e = (envelope.Recall r, ap (λ (m : Message). m.body) e, λ a is. absurd (cc is))
+envelopes_only (Answers x) c b e = (
+  envelope.Answer x,
+  ap (λ (m : Message). m.body) e,
+  λ a is. ap (λ (y : Answer). Answers y) (same x a is),
+)
+  where
+    same : (x a : Answer) → envelope.Answer x ≡ envelope.Answer a → x ≡ a
+    same x a is = cc is
+envelopes_only (AnswersOrder x) c b e =
+    (envelope.OrderAnswer x, ap (λ (m : Message). m.body) e, λ a is. absurd (cc is))
+
+sent_anew : (os : List Outgoing) (c : ℕ) (b : Body) → In (to_client c b) (map (λ (p : Post). p.message) (posts_of os))
+    → (e : Envelope) × (b ≡ OfEnvelope e) × ((a : Answer) → e ≡ envelope.Answer a → In (Answers a) os)
+sent_anew os c b i =
+    let p = in_mapped (λ (p : Post). p.message) (to_client c b) (posts_of os) i in
+    let o = in_mapped server_post p.0 os (in_filtered is_addressed p.0 (map server_post os) p.1).0 in
+    let r = envelopes_only o.0 c b (p.2 ∙ ap (λ (x : Post). x.message) o.2) in
+    (r.0, r.1, λ a is. subst (λ (x : Outgoing). In x os) (r.2 a is) o.1)
+
+none_anew : (ps : List Post) (c : ℕ) (b : Body) → NoneOfServer ps
+    → In (to_client c b) (map (λ (p : Post). p.message) ps) → ⊥
+none_anew ps c b none i =
+    let p = in_mapped (λ (p : Post). p.message) (to_client c b) ps i in
+    none p.0 p.1 (ap (λ (m : Message). m.from) (sym p.2))
+
+by_answer : (fs : List File) (e : Envelope) → ((a : Answer) → e ≡ envelope.Answer a → UpTo fs a) → EnvelopeUpTo fs e
+by_answer fs (envelope.Answer a) up = up a refl
+by_answer fs (envelope.Recall r) up = tt
+by_answer fs (envelope.Request r) up = tt
+by_answer fs (envelope.RecallAnswer r) up = tt
+by_answer fs (envelope.Order r) up = tt
+by_answer fs (envelope.OrderAnswer r) up = tt
+
+-- ---- a move
+
+split : (w : World) (a : Act) (c : ℕ) (b : Body) → messages_in a.world ≡ messages_in w
+    → In (to_client c b) (messages_in (sends_all a).world)
+    → In (to_client c b) (messages_in w) ⊎ In (to_client c b) (map (λ (p : Post). p.message) a.posts)
+split w a c b messages i =
+    elim (in_either (to_client c b) (messages_in a.world) (map (λ (p : Post). p.message) a.posts)
+    (subst (In (to_client c b)) (messages_sent a.world.network.messages a.posts) i)) [
+      | inl j ↦ inl (subst (In (to_client c b)) messages j)
+      | inr j ↦ inr j
+    ]
+
+module _ (raise : EachStepRaisesTags) (put : FilesArePut) where
+  rises_step : (s : Server) (chosen : List ℕ) (i : Input) → IsSound s → Rises s.files (step s chosen i).state.files
+  rises_step s chosen i sound n f e =
+      let r = raise s chosen i sound n f e in (r.behind, r.there, r.rises)
+
+  known_up : (s : Server) (t : Step) (a : Answer) → ((x : Slot) → In x s.slots → UpTo s.files x.kept)
+      → Rises s.files t.state.files
+      → ((x : Slot) × In x s.slots × (a ≡ x.kept)) ⊎ UpTo t.state.files a → UpTo t.state.files a
+  known_up s t a slots rise (inl (x, i, e)) =
+      subst (UpTo t.state.files) (sym e) (gives_on s.files t.state.files x.kept.file x.kept.results rise (slots x i))
+  known_up s t a slots rise (inr up) = up
+
+  pub aged_by : (w : World) (a : Act) → Aged w → IsSound w.server → Acts w a.world a.told a.posts → Aged (sends_all a).world
+  aged_by w a k sound (Others server messages told others) = record {
+    slots = λ x i.
+        subst (λ (s : Server). UpTo s.files x.kept) (sym server)
+        (k.slots x (subst (λ (s : Server). In x s.slots) server i));
+    sent = λ c b i. elim (split w a c b messages i) [
+      | inl j ↦
+          let r = k.sent c b j in
+          (r.0, r.1, subst (λ (s : Server). EnvelopeUpTo s.files r.0) (sym server) r.2)
+      | inr j ↦ absurd (none_anew a.posts c b others j)
+    ];
+  }
+  aged_by w a k sound (Serves chosen i sent server messages told posts) =
+      let t : Step = step w.server chosen i in
+      let says : Says w.server t = says_step put w.server chosen i in
+      let rise : Rises w.server.files t.state.files = rises_step w.server chosen i sound in
+      record {
+        slots = λ x j.
+            subst (λ (s : Server). UpTo s.files x.kept) (sym server)
+            (known_up w.server t x.kept k.slots rise
+            (says.slots x (subst (λ (s : Server). In x s.slots) server j)));
+        sent = λ c b j. elim (split w a c b messages j) [
+          | inl old ↦
+              let r = k.sent c b old in (
+                r.0,
+                r.1,
+                subst (λ (s : Server). EnvelopeUpTo s.files r.0) (sym server)
+                    (envelope_on w.server.files t.state.files r.0 rise r.2),
+              )
+          | inr new ↦
+              let r = sent_anew t.sends c b
+              (subst (λ (ps : List Post). In (to_client c b) (map (λ (p : Post). p.message) ps)) posts new) in (
+                r.0,
+                r.1,
+                subst (λ (s : Server). EnvelopeUpTo s.files r.0) (sym server)
+                    (by_answer t.state.files r.0 (λ x is.
+                    known_up w.server t x k.slots rise (says.sends x (r.2 x is)))),
+              )
+        ];
+      }
+
+pub aged_first : Aged empty_world
+aged_first = record { slots = λ x i. absurd i; sent = λ c b i. absurd i }

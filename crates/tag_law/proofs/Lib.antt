@@ -1,0 +1,3 @@
+mod Saying
+mod Aging
+mod Holding
