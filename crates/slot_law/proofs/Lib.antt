@@ -1,0 +1,17 @@
+pub mod Doing
+pub mod Few
+pub mod Asking
+pub mod Granted
+pub mod Stepping
+pub mod Serving
+pub mod Admitting
+pub mod Reading
+pub mod Moments
+pub mod Lists
+pub mod Standing
+pub mod Answered
+pub mod Taken
+pub mod Keeping
+pub mod Each
+pub mod InOrder
+pub mod Own
