@@ -1,0 +1,41 @@
+-- What holds of each member of a list.
+use Rattle.std.proofs.Common.{ℕ, zero, suc, ◌+◌, ◌≤◌, ◌<◌, Bool, true, false, List, [], ◌∷◌, ◌++◌, filter, map, arith, if◌then◌else◌}
+use Rattle.std.specs.List.{AllByRecursion, range_with_len}
+
+pub all_more : {A : Type 0} (P : A → Type 0) (xs ys : List A) → AllByRecursion P xs → AllByRecursion P ys
+    → AllByRecursion P (xs ++ ys)
+all_more P [] ys k l = l
+all_more P (x ∷ xs) ys k l = (k.0, all_more P xs ys k.1 l)
+
+pub all_wider : {A : Type 0} (P Q : A → Type 0) → ((x : A) → P x → Q x) → (xs : List A) → AllByRecursion P xs
+    → AllByRecursion Q xs
+all_wider P Q w [] k = tt
+all_wider P Q w (x ∷ xs) k = (w x k.0, all_wider P Q w xs k.1)
+
+pub all_map : {A B : Type 0} (f : A → B) (P : A → Type 0) (Q : B → Type 0) → ((x : A) → P x → Q (f x)) → (xs : List A)
+    → AllByRecursion P xs → AllByRecursion Q (map f xs)
+all_map f P Q w [] k = tt
+all_map f P Q w (x ∷ xs) k = (w x k.0, all_map f P Q w xs k.1)
+
+pub either_all : {A : Type 0} (P : A → Type 0) (b : Bool) (xs ys : List A) → AllByRecursion P xs → AllByRecursion P ys
+    → AllByRecursion P (if b then xs else ys)
+either_all P true xs ys k l = k
+either_all P false xs ys k l = l
+
+one_all : {A : Type 0} (P : A → Type 0) (b : Bool) (x : A) (xs : List A) → P x → AllByRecursion P xs
+    → AllByRecursion P (if b then x ∷ xs else xs)
+one_all P true x xs k l = (k, l)
+one_all P false x xs k l = l
+
+pub all_filter : {A : Type 0} (P : A → Type 0) (p : A → Bool) (xs : List A) → AllByRecursion P xs
+    → AllByRecursion P (filter p xs)
+all_filter P p [] k = tt
+all_filter P p (x ∷ xs) k = one_all P (p x) x (filter p xs) k.0 (all_filter P p xs k.1)
+
+-- numbers one after another
+pub all_between : (a n : ℕ) → AllByRecursion (λ (s : ℕ). (a ≤ s) × (s < a + n)) (range_with_len a n)
+all_between a zero = tt
+all_between a (suc n) = (
+  (omega arith, omega arith),
+  all_wider _ _ (λ s k. (omega (arith, k.0), omega (arith, k.1))) (range_with_len (a + 1) n) (all_between (a + 1) n),
+)
