@@ -1,0 +1,16 @@
+pub mod Moves
+pub mod Growing
+pub mod Fine
+pub mod Going
+pub mod Steps
+pub mod Dealing
+pub mod Moments
+pub mod LatestLaw
+pub mod LaneLists
+pub mod Sources
+pub mod Servers
+pub mod LaneLines
+pub mod LanesLaw
+pub mod Rows
+pub mod Knowing
+pub mod TakenLaw

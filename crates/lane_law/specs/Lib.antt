@@ -1,0 +1,5 @@
+pub mod Sent
+pub mod Lanes
+pub mod Given
+pub mod Latest
+pub mod Taken
