@@ -1,0 +1,11 @@
+pub mod Answers
+pub mod Files
+pub mod Moves
+pub mod Asking
+pub mod Steps
+pub mod Requests
+pub mod Through
+pub mod Objects
+pub mod Nonces
+pub mod NonceSteps
+pub mod NonceWorlds
