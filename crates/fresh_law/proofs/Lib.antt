@@ -1,0 +1,4 @@
+mod Listed
+mod Made
+mod Moments
+mod Fresh
