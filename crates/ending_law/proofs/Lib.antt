@@ -1,0 +1,3 @@
+mod Endings
+mod Texts
+pub mod Calls
