@@ -1,3 +1,4 @@
 pub mod Making
 pub mod Standing
+pub mod Texts
 pub mod Sound

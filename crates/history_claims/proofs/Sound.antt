@@ -8,14 +8,27 @@ use Rattle.holder_law.specs.Holder.{EachHolderIsOwn}
 use Rattle.holder_law.specs.Fences.{UnguessedAreFenced, UnguessedNothingOlder}
 use Rattle.history_claims.specs.Components.{ComponentsStandApart}
 use Rattle.history_claims.specs.Sound.{HistoriesAreSound}
+use Rattle.tag_law.specs.Given.{GrantsAreOlder}
+use Rattle.count_law.specs.Text.{WithinTheLimitAreFew}
+use Rattle.count_law.specs.Exact.{CommandsAreIssuedExactly}
+use Rattle.ending_law.specs.Calls.{CallsEndSo}
+use Rattle.history_claims.proofs.Texts.{events_make_text}
 
 pub histories_are_sound : HistoriesAreSafe → CommandsAreIssued → RangesAreApart → FrontsAreLawful → ComponentsStandApart
-    → EachHolderIsOwn → UnguessedAreFenced → UnguessedNothingOlder → HistoriesAreSound
-histories_are_sound safe issued ranges fronts apart own fenced older h l = record {
-  safe = safe h l;
-  issued = issued h l;
-  ranges = λ before after is. ranges before (fronts before after (subst Lawful is l));
-  apart = apart h l;
-  holders = own h l;
-  fenced = λ w s a u. (fenced w h s a u, older w h s a u);
+    → EachHolderIsOwn → UnguessedAreFenced → UnguessedNothingOlder → GrantsAreOlder → CommandsAreIssuedExactly
+    → CallsEndSo → WithinTheLimitAreFew → HistoriesAreSound
+histories_are_sound safe issued ranges fronts apart own fenced last older exact ends few = record {
+  sound = λ h l. record {
+    safe = safe h l;
+    issued = issued h l;
+    ranges = λ before after is. ranges before (fronts before after (subst Lawful is l));
+    apart = apart h l;
+    holders = own h l;
+    fenced = λ w s a u. (fenced w h s a u, last w h s a u);
+    older = λ w s a. older w h s a;
+    exact = exact h l;
+    ends = ends h l;
+  };
+  text = events_make_text;
+  few = few;
 }

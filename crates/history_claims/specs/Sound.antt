@@ -12,6 +12,11 @@ use Rattle.file_law.specs.Naming.{AreNamed}
 use Rattle.fencing_law.specs.Fenced.{AreFenced, FencesLast}
 use Rattle.holder_law.specs.Holder.{OwnUnlessGuessed}
 use Rattle.history_claims.specs.Components.{AreComponentsApart}
+use Rattle.tag_law.specs.Given.{GivenBefore}
+use Rattle.count_law.specs.Text.{AreOfText, AreFew, WithinTheLimitAreFew}
+use Rattle.count_law.specs.Exact.{IssuedExactlyAt}
+use Rattle.ending_law.specs.Calls.{EndsAt}
+use Rattle.history_claims.specs.Texts.{EventsMakeText}
 
 -- A history is safe. What a drive performs was sent to it by the server, or is a command of a client under a credential
 -- that an answer of the server gave this client before: so it is of each message that is delivered and, as far as
@@ -28,7 +33,13 @@ pub record IsSound (h : List Line) : Type 0 where
   pub apart : AreNamed h → AtEachMoment AreComponentsApart h
   pub holders : AtEachLine OwnUnlessGuessed h
   pub fenced : (w : World) → StandsFor w h → AreWritten h → unguessed h ≡ true → AreFenced h × FencesLast h
+  pub older : (w : World) → StandsFor w h → AreWritten h → GivenBefore h
+  pub exact : AreOfText h → AreFew h → AtEachLine IssuedExactlyAt h
+  pub ends : AreOfText h → AreFew h → AtEachLine EndsAt h
 
--- so is each lawful history, whatever its events name
-abbrev pub HistoriesAreSound : Type 0
-HistoriesAreSound = (h : List Line) → Lawful h → IsSound h
+-- Each lawful history is sound, whatever its events name. Where a text may have the events, it is one of a scenario's text;
+-- and where a world that stands for it is within the limit of kept bytes, it has few messages.
+pub record HistoriesAreSound : Type 0 where
+  pub sound : (h : List Line) → Lawful h → IsSound h
+  pub text : EventsMakeText
+  pub few : WithinTheLimitAreFew

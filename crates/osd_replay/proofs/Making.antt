@@ -9,7 +9,7 @@ use Rattle.scenario_text.specs.declared.line.Line.TheVariants.{Last}
 use Rattle.scenario_text.specs.LineSpelling.{lines_text}
 use Rattle.world_history.specs.State.{empty_world}
 use Rattle.world_history.specs.declared.summary.Summary.{Summary}
-use Rattle.book_law.specs.Read.{is_written}
+use Rattle.scenario_text.specs.Spelling.{Fits}
 use Rattle.calm_moves.specs.Watching.{WatchesAll}
 use Rattle.layout_world.specs.State.{WorldState, Shows}
 use Rattle.history_claims.specs.Sound.{HistoriesAreSound}
@@ -23,25 +23,26 @@ use Rattle.osd_replay.specs.declared.carry_out.Carried.{Carried}
 use Rattle.osd_replay.specs.declared.generate.Digested.{Digested}
 use Rattle.osd_replay.specs.declared.stop.Stop.{Stop}
 use Rattle.osd_replay.specs.declared.stop.Stop.TheVariants.{Refused, Read, Memory, Full}
-use Rattle.osd_replay.proofs.Telling.{told_sound, tells_none, tells_more, last_said}
+use Rattle.osd_replay.proofs.Telling.{told_sound, told_text, told_few, tells_none, tells_more, last_said}
 use Rattle.osd_replay.proofs.SoFar.{text_more, appends_none}
 use Rattle.osd_replay.proofs.Promised.{tells}
+use Rattle.osd_replay.proofs.Written.{fits_written, scenario_fits}
 
 -- ---- one event more
 
-made_by : (front : List Event) (e : Event) (old new : Digested) (text : List ℕ) (is_full : Bool) → is_full ≡ false → is_written e ≡ true → (m : Made front old) → CarriesBy m.world e old.world new.world text is_full
+made_by : (front : List Event) (e : Event) (old new : Digested) (text : List ℕ) (is_full : Bool) → is_full ≡ false → Fits e → (m : Made front old) → CarriesBy m.world e old.world new.world text is_full
     → ((m : List ℕ) → Holds old.digest m → Holds new.digest (m ++ text)) → Made (front ++ e ∷ []) new
 made_by front e old new text true whole may m by holds = absurd (cc whole)
 made_by front e old new text false whole may m by holds = record {
   world = by.world;
   history = m.history ++ by.lines;
   shows = by.shows;
-  tells = tells_more front m.world by.world m.history by.lines e m.tells by.carries;
-  watches = by.watches m.history m.tells.stands may m.watches;
+  tells = tells_more front m.world by.world m.history by.lines e m.tells by.carries by.fits;
+  watches = by.watches m.history m.tells.stands (fits_written e may) m.watches;
   holds = subst (λ (x : List ℕ). Holds new.digest x) (sym (text_more m.history by.lines ∙ ap (λ (x : List ℕ). lines_text m.history ++ x) (sym by.text_is))) (holds (lines_text m.history) m.holds);
 }
 
-pub made_more : (front : List Event) (e : Event) (old new : Digested) (carried : Carried) → carried.is_full ≡ false → is_written e ≡ true → Made front old → CarriesEvent e old.world new.world carried
+pub made_more : (front : List Event) (e : Event) (old new : Digested) (carried : Carried) → carried.is_full ≡ false → Fits e → Made front old → CarriesEvent e old.world new.world carried
     → ((m : List ℕ) → Holds old.digest m → Holds new.digest (m ++ carried.text)) → Made (front ++ e ∷ []) new
 made_more front e old new carried whole may m carries holds = made_by front e old new carried.text carried.is_full whole may m (carries m.world m.shows) holds
 
@@ -84,6 +85,8 @@ comes_to law seed calls events d text is m told =
         tells = here.tells;
         sound = told_sound law (scenario_of seed calls) here.world here.history here.tells;
         written = here.watches.written;
+        text = told_text law (scenario_of seed calls) here.world here.history here.tells (scenario_fits seed calls);
+        few = told_few law (scenario_of seed calls) here.world here.history here.tells;
         last = Last d.world.watch.moments.calm d.world.watch.guesses.unguessed;
         ends = last_said d.world here.history here.watches;
       };

@@ -33,8 +33,8 @@ use Rattle.osd_replay.specs.declared.status.Status.{Status}
 use Rattle.osd_replay.specs.declared.status.Status.TheVariants.{Done, BadWords, BadScenario, ReadFault, WriteFault, Memory, Full as IsFull}
 use Rattle.osd_replay.specs.declared.stop.Stop.{Stop}
 use Rattle.osd_replay.specs.declared.stop.Stop.TheVariants.{Refused, Read, Memory as WantsMemory, Full as StopsFull}
-use Rattle.osd_replay.proofs.Telling.{told_sound, tells_none, tells_more}
-use Rattle.osd_replay.proofs.Written.{fits_written}
+use Rattle.osd_replay.proofs.Telling.{told_sound, told_text, told_few, tells_none, tells_more}
+use Rattle.osd_replay.proofs.Written.{fits_written, fit_more, events_fit}
 use Rattle.osd_replay.proofs.SoFar.{SoFar, Reached, events_more, text_more, reached_more, reached_none, appends_none}
 
 -- what went out before an error line, and that line
@@ -63,7 +63,7 @@ all_lines (Some input) lines taken (Some rest) None r y = absurd y
 all_lines (Some input) lines taken (Some rest) (Some later) r y = r.3 ∙ ap (λ (x : List ℕ). lines ++ lines_of x) y ∙ append-nil lines
 
 runs : (input now : Option (List ℕ)) (taken : ℕ) (before after : Option (List ℕ)) (number : ℕ) (state : WorldState) → (s : SoFar input now taken before after number state) → Runs input s.lines s.world s.history
-runs input now taken before after number state s = record { begins = begins input s.lines taken now s.reached; events = s.events; spelled = s.spelled; tells = s.tells; sound = told_sound s.law s.events s.world s.history s.tells; written = s.watches.written }
+runs input now taken before after number state s = record { begins = begins input s.lines taken now s.reached; events = s.events; spelled = s.spelled; tells = s.tells; sound = told_sound s.law s.events s.world s.history s.tells; written = s.watches.written; text = told_text s.law s.events s.world s.history s.tells (events_fit s.lines s.events s.spelled); few = told_few s.law s.events s.world s.history s.tells }
 
 -- the front of some bytes and those behind them
 front_and_more : (xs ys zs : List ℕ) (n : ℕ) → zs ≡ xs ++ ys → take (length xs + n) zs ≡ xs ++ take n ys
@@ -214,7 +214,7 @@ cuts_next b now next taken more middle number old new line carried s y t c cut =
   spells = c.spells;
   fills = cut.fills;
   lawful = cut.lawful s.history s.tells.stands;
-  sound = s.law (s.history ++ cut.lines) (cut.lawful s.history s.tells.stands);
+  sound = s.law.sound (s.history ++ cut.lines) (cut.lawful s.history s.tells.stands);
 }
 
 -- the sink fails in the lines of an event
@@ -225,7 +225,7 @@ part_by b a now next taken more middle number upto old new line carried true s y
     (Cut s.lines s.world s.history cut.lines (runs b.left now taken b.taken middle number old s) (cuts_next b now next taken more middle number old new line carried s y t c cut) refl)
     refl (rw cut.text_is at short) s.out (rw cut.text_is at out) rose
 part_by b a now next taken more middle number upto old new line carried false s y t c by short out rose =
-    let told : Tells (s.events ++ c.event ∷ []) by.world (s.history ++ by.lines) = tells_more s.events s.world by.world s.history by.lines c.event s.tells by.carries in
+    let told : Tells (s.events ++ c.event ∷ []) by.world (s.history ++ by.lines) = tells_more s.events s.world by.world s.history by.lines c.event s.tells by.carries by.fits in
     let go : Runs b.left (s.lines ++ line ∷ []) by.world (s.history ++ by.lines) = record {
       begins = begins b.left (s.lines ++ line ∷ []) more next (reached_more b.left now next s.lines line taken more s.reached y t);
       events = s.events ++ c.event ∷ [];
@@ -233,6 +233,8 @@ part_by b a now next taken more middle number upto old new line carried false s 
       tells = told;
       sound = told_sound s.law (s.events ++ c.event ∷ []) by.world (s.history ++ by.lines) told;
       written = (by.watches s.history s.tells.stands (fits_written c.event c.fits) s.watches).written;
+      text = told_text s.law (s.events ++ c.event ∷ []) by.world (s.history ++ by.lines) told (fit_more s.events (c.event ∷ []) (events_fit s.lines s.events s.spelled) (c.fits, tt));
+      few = told_few s.law (s.events ++ c.event ∷ []) by.world (s.history ++ by.lines) told;
     } in
     part_of b a middle (s.history ++ by.lines) s.history by.lines upto (Whole (s.lines ++ line ∷ []) by.world go) refl
     (rw by.text_is at short) s.out (rw by.text_is at out) rose
@@ -280,7 +282,7 @@ no_world law b a whole put = record {
   lines = [];
   world = empty_world;
   history = [];
-  runs = record { begins = begins b.left [] 0 b.left (reached_none b.left); events = []; spelled = refl; tells = tells_none; sound = told_sound law [] empty_world [] tells_none; written = tt };
+  runs = record { begins = begins b.left [] 0 b.left (reached_none b.left); events = []; spelled = refl; tells = tells_none; sound = told_sound law [] empty_world [] tells_none; written = tt; text = tt; few = told_few law [] empty_world [] tells_none };
   number = 0;
   number_is = inr (refl, inl refl);
   puts = tells b a b.taken [] (error_line 0 (codes "memory")) b.writes_failed whole (appends_none b.taken) put refl;

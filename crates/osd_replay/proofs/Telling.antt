@@ -1,5 +1,5 @@
 -- Histories that go on by one event.
-use Rattle.std.proofs.Common.{Bool, ◌≡◌, List, [], ◌∷◌, ◌++◌, refl, sym, ap, subst, ◌∙◌, append_assoc}
+use Rattle.std.proofs.Common.{Bool, ◌≡◌, ◌≤◌, List, [], ◌∷◌, ◌++◌, refl, sym, ap, subst, ◌∙◌, append_assoc, arith}
 use Rattle.std.proofs.lemmas.List.{append-nil, map-append}
 use Rattle.scenario_text.specs.declared.event.Event.{Event}
 use Rattle.scenario_text.specs.declared.line.Line.{Line}
@@ -13,6 +13,9 @@ use Rattle.calm_moves.specs.Watching.{WatchesAll}
 use Rattle.layout_world.specs.State.{WorldState}
 use Rattle.history_claims.specs.Sound.{IsSound, HistoriesAreSound}
 use Rattle.osd_replay.specs.Transcript.{Tells, EndsWith}
+use Rattle.count_law.specs.Text.{AreOfText, AreFew}
+use Rattle.history_claims.specs.Texts.{EventsFit}
+use Rattle.world_history.specs.declared.limits.TheConstants.{MAX_KEPT}
 
 carried_more : (w : World) (steps : List Step) (s : Step) → AreCarried w steps
     → Carries (end_of w steps) s.event s.lines s.after → AreCarried w (steps ++ s ∷ [])
@@ -39,7 +42,7 @@ last_said s h k =
 -- a history for which a world stands is sound, as each lawful one
 pub told_sound : HistoriesAreSound → (events : List Event) (w : World) (h : List Line) → Tells events w h → IsSound h
 told_sound law events w h t =
-    law h
+    law.sound h
     (record {
       world = w;
       whole = h;
@@ -49,17 +52,27 @@ told_sound law events w h t =
       lines_are = sym (append-nil h);
     })
 
+-- it is of a scenario's text, where a text may have these events
+pub told_text : HistoriesAreSound → (events : List Event) (w : World) (h : List Line) → Tells events w h
+    → EventsFit events → AreOfText h
+told_text law events w h t fit = law.text w h t.stands (subst EventsFit (sym t.events_are) fit)
+
+-- and has few messages
+pub told_few : HistoriesAreSound → (events : List Event) (w : World) (h : List Line) → Tells events w h → AreFew h
+told_few law events w h t = law.few w h t.stands t.fits
+
 -- nothing was carried out
 pub tells_none : Tells [] empty_world []
 tells_none = record {
   stands = record { steps = []; carried = tt; world_is = refl; lines_are = refl };
+  fits = omega arith;
   events_are = refl;
 }
 
 -- one event more
 pub tells_more : (events : List Event) (w w' : World) (h lines : List Line) (e : Event) → Tells events w h
-    → Carries w e lines w' → Tells (events ++ e ∷ []) w' (h ++ lines)
-tells_more events w w' h lines e t c =
+    → Carries w e lines w' → w'.network.kept ≤ MAX_KEPT → Tells (events ++ e ∷ []) w' (h ++ lines)
+tells_more events w w' h lines e t c kept =
     let step : Step = record { event = e; lines = lines; after = w' } in
     let s : List Step = t.stands.steps in
     record {
@@ -71,6 +84,7 @@ tells_more events w w' h lines e t c =
         world_is = sym (end_more empty_world s step);
         lines_are = ap (λ (l : List Line). l ++ lines) t.stands.lines_are ∙ sym (lines_more s step);
       };
+      fits = kept;
       events_are =
           map-append (λ (x : Step). x.event) s (step ∷ [])
           ∙ ap (λ (es : List Event). es ++ e ∷ []) t.events_are;

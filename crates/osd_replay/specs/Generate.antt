@@ -16,7 +16,9 @@ use Rattle.world_history.specs.Refusals.{refusal}
 use Rattle.world_history.specs.Runs.{FillsUp}
 use Rattle.world_history.specs.Summing.{summary_of}
 use Rattle.world_tally.specs.Capping.{capped_summary}
-use Rattle.book_law.specs.Read.{is_written, AreWritten}
+use Rattle.scenario_text.specs.Spelling.{Fits}
+use Rattle.book_law.specs.Read.{AreWritten}
+use Rattle.count_law.specs.Text.{AreOfText, AreFew}
 use Rattle.calm_moves.specs.Watching.{WatchesAll}
 use Rattle.layout_world.specs.State.{Shows}
 use Rattle.history_claims.specs.Sound.{IsSound}
@@ -100,12 +102,7 @@ StopsBehind events e (StopsFull quantity) = FullBehind events e quantity
 
 -- one event more was carried out, which a text may have
 abbrev pub MakesMore : Event → (old new : Digested) → Type 0
-MakesMore e old new = is_written e ≡ true → (front : List Event) → Made front old → Made (front ++ e ∷ []) new
-
--- a text may have each of these
-abbrev pub MayBeWritten : List Event → Type 0
-MayBeWritten [] = ⊤
-MayBeWritten (e ∷ es) = (is_written e ≡ true) × MayBeWritten es
+MakesMore e old new = Fits e → (front : List Event) → Made front old → Made (front ++ e ∷ []) new
 
 abbrev pub StopsMaking : Event → Digested → Stop → Type 0
 StopsMaking e old stop = (front : List Event) → Made front old → StopsBehind front e stop
@@ -139,6 +136,8 @@ pub record Outcome (seed calls : ℕ) : Type 0 where
   pub tells : Tells (scenario_of seed calls) world history
   pub sound : IsSound history
   pub written : AreWritten history
+  pub text : AreOfText history
+  pub few : AreFew history
   pub last : Line
   pub ends : EndsWith history last
 

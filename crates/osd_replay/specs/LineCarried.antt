@@ -1,5 +1,5 @@
 -- What carrying out one line of a scenario gives.
-use Rattle.std.specs.Prelude.{◌≡◌, ◌≢◌, ◌⊎◌, ℕ, Bool, true, false, List, [], ◌++◌, ⊤, Some, Result, Ok, Err}
+use Rattle.std.specs.Prelude.{◌≡◌, ◌≢◌, ◌⊎◌, ◌≤◌, ℕ, Bool, true, false, List, [], ◌++◌, ⊤, Some, Result, Ok, Err}
 use Rattle.scenario_text.specs.declared.event.Event.{Event}
 use Rattle.scenario_text.specs.declared.event.EventErr.{EventErr}
 use Rattle.scenario_text.specs.declared.event.EventErr.TheVariants.{Memory as EventMemory}
@@ -9,6 +9,7 @@ use Rattle.scenario_text.specs.Refusals.{IsRefusal}
 use Rattle.scenario_text.specs.Spelling.{Fits, Spells, IsSkipped}
 use Rattle.world_history.specs.declared.err.WorldErr.{WorldErr}
 use Rattle.world_history.specs.declared.err.WorldErr.TheVariants.{KeptFull, Memory as WorldMemory}
+use Rattle.world_history.specs.declared.limits.TheConstants.{MAX_KEPT}
 use Rattle.world_history.specs.State.{World}
 use Rattle.world_history.specs.Refusals.{refusal}
 use Rattle.world_history.specs.Runs.{Carries, FillsUp}
@@ -36,6 +37,7 @@ pub record CarriesWhole (w : World) (e : Event) (old new : WorldState) (text : L
   pub world : World
   pub shows : Shows new.parties world
   pub carries : Carries w e lines world
+  pub fits : world.network.kept ≤ MAX_KEPT
   pub watches : (h : List Line) → StandsFor w h → is_written e ≡ true → WatchesAll h old.watch
       → WatchesAll (h ++ lines) new.watch
   pub text_is : text ≡ lines_text lines

@@ -13,6 +13,7 @@ use Rattle.world_history.specs.State.{World}
 use Rattle.world_history.specs.Runs.{FillsUp}
 use Rattle.world_history.specs.History.{Lawful}
 use Rattle.book_law.specs.Read.{AreWritten}
+use Rattle.count_law.specs.Text.{AreOfText, AreFew}
 use Rattle.history_claims.specs.Sound.{IsSound}
 use Rattle.osd_replay.specs.Ends.{Ends, Begins, IsAll, PassesNext, PutsError}
 use Rattle.osd_replay.specs.Errors.{error_line, full_name, kind_name}
@@ -41,6 +42,8 @@ pub record Runs (input : Option (List ℕ)) (lines : List (List ℕ)) (w : World
   pub tells : Tells events w h
   pub sound : IsSound h
   pub written : AreWritten h
+  pub text : AreOfText h
+  pub few : AreFew h
 
 -- ---- the line behind those that were carried out
 

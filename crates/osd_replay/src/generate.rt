@@ -4,7 +4,8 @@ ghost use Rattle.sha1.specs.Sha1.{Holds};
 ghost use Rattle.stripe_repair.specs.Placing.{IsPlacer};
 ghost use Rattle.osd_replay.specs.Ends.{ends};
 ghost use Rattle.osd_replay.specs.Generate.{count_line, counts_text, digest_line, IsToldOf};
-ghost use Rattle.osd_replay.specs.Generate.{Made, MakesMore, MayBeWritten, StopsMaking, StopsAmong, ComesTo, Promises};
+ghost use Rattle.history_claims.specs.Texts.{EventsFit};
+ghost use Rattle.osd_replay.specs.Generate.{Made, MakesMore, StopsMaking, StopsAmong, ComesTo, Promises};
 ghost use Rattle.osd_replay.specs.Generator.{scenario_of};
 
 use crate::carry_out::carry_out_event;
@@ -91,8 +92,8 @@ impl Digested {
     where
         F: Fn(u32, &[DriveLoad]) -> Result<Numbers, Memory>,
         requires { IsPlacer F.Fn placer.now }
-        ensures ok { OnOk result (Made [] self.old → MayBeWritten events.items → Made events.items self.new) }
-        ensures err { IfErr result (λ stop. Made [] self.old → MayBeWritten events.items → StopsAmong events.items stop) }
+        ensures ok { OnOk result (Made [] self.old → EventsFit events.items → Made events.items self.new) }
+        ensures err { IfErr result (λ stop. Made [] self.old → EventsFit events.items → StopsAmong events.items stop) }
     {
         for event in events {
             match self.step(alloc, event, placer) {
