@@ -50,17 +50,17 @@ module _ {A B : Type 0} (f : A → Option B) where
   all-map g [] = refl
   all-map g (x ∷ xs) = ap (λ o. f (g x) >>= (λ y. o >>= (λ ys. Some (y ∷ ys)))) (all-map g xs)
 
-  pub all-begin : (o : Option (List B)) → o ≡ (o >>= (λ more. Some ([] ++ more)))
+  pub all-begin : (o : Option (List B)) → option_map (λ more. [] ++ more) o ≡ o
   all-begin None = refl
   all-begin (Some ys) = refl
 
-  behind : (ds : List B) (y : B) (o : Option (List B)) → ((o >>= (λ ys. Some (y ∷ ys))) >>= (λ more. Some (ds ++ more))) ≡ (o >>= (λ more. Some ((ds ++ y ∷ []) ++ more)))
+  behind : (ds : List B) (y : B) (o : Option (List B)) → option_map (λ more. ds ++ more) (o >>= (λ ys. Some (y ∷ ys))) ≡ option_map (λ more. (ds ++ y ∷ []) ++ more) o
   behind ds y None = refl
   behind ds y (Some ys) = ap Some (sym (append_assoc ds (y ∷ []) ys))
 
-  pub all-next : (ds : List B) (x : A) (xs : List A) (y : B) → f x ≡ Some y
-      → (all_in f (x ∷ xs) >>= (λ more. Some (ds ++ more))) ≡ (all_in f xs >>= (λ more. Some ((ds ++ y ∷ []) ++ more)))
-  all-next ds x xs y is = rw is (behind ds y (all_in f xs))
+  pub all-next : (ds : List B) (x : A) (xs : List A) (y : B) → Some y ≡ f x
+      → option_map (λ more. ds ++ more) (all_in f (x ∷ xs)) ≡ option_map (λ more. (ds ++ y ∷ []) ++ more) (all_in f xs)
+  all-next ds x xs y is = rw (← is) (behind ds y (all_in f xs))
 
-  pub all-none : (ds : List B) (x : A) (xs : List A) → f x ≡ None → (all_in f (x ∷ xs) >>= (λ more. Some (ds ++ more))) ≡ None
-  all-none ds x xs is = rw is refl
+  pub all-none : (ds : List B) (x : A) (xs : List A) → None ≡ f x → option_map (λ more. ds ++ more) (all_in f (x ∷ xs)) ≡ None
+  all-none ds x xs is = rw (← is) refl

@@ -1,5 +1,5 @@
 // The whole text.
-ghost use Rattle.std.specs.Prelude.{◌≡◌, ◌⊎◌, Err, None, Some, map, nat_eq, IfErr, IfOk};
+ghost use Rattle.std.specs.Prelude.{◌≡◌, ◌⊎◌, ◌++◌, Err, None, Some, if◌then◌else◌, map, nat_eq, option_map, IfErr, IfOk};
 ghost use Rattle.std.specs.List.{list_any};
 ghost use Rattle.toml.specs.View.{table_view};
 ghost use Rattle.cluster_text.specs.declared.errors.ClusterErr.TheVariants.{Memory as NoMemory, Refused};
@@ -32,18 +32,52 @@ fn document(alloc: Global, text: &[u8]) -> Result<Table, ClusterErr>
     }
 }
 
+// The drives of these tables come behind those that are there, where all their values are in their ranges.
+fn add_drives(
+    alloc: Global,
+    tables: &[&Table],
+    drives: &mut Sequence<ClusterDrive>,
+) -> Result<bool, Memory>
+    ensures { IfOk result (λ whole. option_map (λ more. drives.old ++ more)
+        (all_in (λ t. drive_in (table_view t.now)) tables.now) ≡ (if whole then Some drives.new else None)) }
+{
+    for table in tables {
+        match drive_in(alloc, table)? {
+            Some(drive) => drives.push(drive)?,
+            None => return Ok(false),
+        }
+    }
+    Ok(true)
+}
+
 // The drives of these tables, where all their values are in their ranges.
 fn drives_in(alloc: Global, tables: &[&Table]) -> Result<Option<Sequence<ClusterDrive>>, Memory>
     ensures { IfOk result (λ drives. drives ≡ all_in (λ t. drive_in (table_view t.now)) tables.now) }
 {
     let mut drives = Sequence::new(alloc);
+    if add_drives(alloc, tables, &mut drives)? {
+        Ok(Some(drives))
+    } else {
+        Ok(None)
+    }
+}
+
+// The files of these tables come behind those that are there, where all their values are in their ranges.
+fn add_files(
+    tables: &[&Table],
+    drives: u64,
+    files: &mut Sequence<ClusterFile>,
+) -> Result<bool, Memory>
+    ensures { IfOk result (λ whole. option_map (λ more. files.old ++ more)
+        (all_in (λ t. file_in drives (table_view t.now)) tables.now) ≡ (if whole then Some files.new else None)) }
+{
     for table in tables {
-        match drive_in(alloc, table)? {
-            Some(drive) => drives.push(drive)?,
-            None => return Ok(None),
+        match file_in(table, drives) {
+            Some(file) => files.push(file)?,
+            None => return Ok(false),
         }
     }
-    Ok(Some(drives))
+    Ok(true)
 }
 
 // The files of these tables, where all their values are in their ranges.
@@ -55,13 +89,11 @@ fn files_in(
     ensures { IfOk result (λ files. files ≡ all_in (λ t. file_in drives (table_view t.now)) tables.now) }
 {
     let mut files = Sequence::new(alloc);
-    for table in tables {
-        match file_in(table, drives) {
-            Some(file) => files.push(file)?,
-            None => return Ok(None),
-        }
+    if add_files(tables, drives, &mut files)? {
+        Ok(Some(files))
+    } else {
+        Ok(None)
     }
-    Ok(Some(files))
 }
 
 // The cluster, where all values are in their ranges.

@@ -1,5 +1,5 @@
 -- What a reply does to a job.
-use Rattle.std.specs.Prelude.{ℕ, List, [], ◌∷◌, Option, Some, None, ◌≡◌, ◌<◌, length, slice_get, find, refl}
+use Rattle.std.specs.Prelude.{ℕ, List, [], ◌∷◌, ◌++◌, Option, Some, None, ◌≡◌, ◌<◌, length, slice_get, find, refl}
 use Rattle.std.proofs.Common.{arith, ap, sym, ◌∙◌, get_or}
 use Rattle.std.proofs.lemmas.Option.{slice_get-get_or}
 use Rattle.osd_commands.specs.declared.replies.Reply.{Reply}
@@ -8,7 +8,9 @@ use Rattle.server_rules.specs.declared.jobs.Awaited.{Awaited}
 use Rattle.server_rules.specs.declared.jobs.Job.{Job}
 use Rattle.server_rules.specs.declared.server.Moved.{Moved}
 use Rattle.server_rules.specs.Going.{Going}
-use Rattle.server_rules.specs.Replies.{Hearing, answers, heard_in, hearing, hears}
+use Rattle.server_rules.specs.declared.jobs.Heard.{Heard}
+use Rattle.server_rules.specs.Jobs.{waits_or_on}
+use Rattle.server_rules.specs.Replies.{Hearing, Done, answers, heard_in, hearing, hears, others}
 use Rattle.file_jobs.specs.Heard.{FoundIn}
 use Rattle.file_jobs.specs.declared.job.Turn.TheVariants.{Rests}
 use Rattle.file_jobs.specs.Steps.{Around, going, turned}
@@ -41,3 +43,9 @@ is_heard g drive r (Some i) j place x e f h =
     let at = some_at i.awaited place f.0 in
     by_job g drive r (Some i) j at.0 e (ap (λ (y : Job). find (answers drive r) y.awaited) (sym same) ∙ f.1 ∙ at.1)
     ∙ ap Some (sym (h at.0 (ap (λ (y : Job). slice_get y.awaited place) (sym same) ∙ at.1)))
+
+-- the command is answered, and the job goes on without it
+pub answered_is : (g : Going) (j : Job) (a x y : Awaited) (r : Reply) (rest : List Awaited) (heard : List Heard) → x ≡ a → y ≡ a → rest ≡ others j.awaited y.command.nonce →
+    heard ≡ j.heard ++ (record { component = x.component; payload = r.payload } ∷ []) →
+    waits_or_on g (record { kind = j.kind; work = j.work; awaited = rest; heard = heard }) j.work rest heard ≡ hears g j a r Done
+answered_is g j a x y r rest heard ex ey er eh = rw (er, eh, ex, ey) refl

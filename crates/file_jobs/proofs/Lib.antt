@@ -1,4 +1,5 @@
 pub mod Turns
+pub mod Missing
 pub mod Rising
 pub mod Finding
 pub mod Placed
