@@ -1,6 +1,6 @@
 ghost use Rattle.data_map.specs.Check.{HasAlgorithm};
 
-use crate::cases::{CASES, Case, LAYOUT};
+use crate::structure_cases::{CASES, Case, LAYOUT_DIGITS};
 use data_map::{DataMap, RawMap};
 use layout_types::{
     IoErrs, Kind, Layout, LayoutErr, LayoutHint, LayoutUpdate, Structure, leaves, written_again,
@@ -303,7 +303,7 @@ fn gives_its_map(alloc: Global, bytes: &[u8]) -> bool {
 }
 
 fn layout_gives_its_map(alloc: Global) -> bool {
-    gives_its_map(alloc, decoded(alloc, LAYOUT.digits).as_slice())
+    gives_its_map(alloc, decoded(alloc, LAYOUT_DIGITS).as_slice())
 }
 
 // What is read may be checked as a map at once, whose caller has to know the algorithm.

@@ -2,6 +2,7 @@ ghost use Rattle.std.specs.Prelude.{IsTrue};
 ghost use Rattle.osd_capability.specs.Layout.{is_format};
 
 use crate::hexadecimal::is_hex;
+use crate::lines::copied;
 use osd_bytes::Bytes;
 use osd_capability::{CapErr, Capability, capability_key};
 use osd_commands::{
@@ -61,14 +62,6 @@ fn capability(long: bool) -> Capability
         object: 65_537,
         range_start: 8,
         range_len: 8,
-    }
-}
-
-// The bytes, or none where memory is short.
-fn copied(alloc: Global, bytes: &[u8]) -> Bytes {
-    match Bytes::copied(alloc, bytes) {
-        Ok(bytes) => bytes,
-        Err(_) => Bytes::new(alloc),
     }
 }
 
