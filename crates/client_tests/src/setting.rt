@@ -226,32 +226,33 @@ fn put_component(
     }
 }
 
-/// The layout of a grant on a file (RFC 5664 5.2).
-pub fn layout(alloc: Global, setting: &Setting<'_>, grant: &Grant) -> Result<Bytes, Memory> {
-    let mut bytes = Bytes::new(alloc);
+fn put_components(bytes: &mut Bytes, setting: &Setting<'_>, grant: &Grant) -> Result<(), Memory> {
+    let mut component = 0u32;
+    for letter in setting.letters.as_bytes() {
+        put_component(bytes, component, *letter, grant, setting.start)?;
+        component = component.wrapping_add(1);
+    }
+    Ok(())
+}
+
+#[rattlefmt::skip]
+fn put_layout(bytes: &mut Bytes, setting: &Setting<'_>, grant: &Grant) -> Result<(), Memory> {
     let [comps, unit, width, depth, mirrors, algorithm] = setting.map;
     let count = size_of(setting.letters.len());
     put_numbers(
-        &mut bytes,
-        &[
-            comps,
-            0,
-            unit,
-            width,
-            depth,
-            mirrors,
-            algorithm,
-            setting.index,
-            count,
-        ],
+        bytes,
+        &[comps, 0, unit, width, depth, mirrors, algorithm, setting.index, count],
     )?;
-    let mut component = 0u32;
-    for letter in setting.letters.as_bytes() {
-        put_component(&mut bytes, component, *letter, grant, setting.start)?;
-        component = component.wrapping_add(1);
-    }
+    put_components(bytes, setting, grant)?;
     for _ in 0..setting.behind {
-        put_numbers(&mut bytes, &[0])?;
+        put_numbers(bytes, &[0])?;
     }
+    Ok(())
+}
+
+/// The layout of a grant on a file (RFC 5664 5.2).
+pub fn layout(alloc: Global, setting: &Setting<'_>, grant: &Grant) -> Result<Bytes, Memory> {
+    let mut bytes = Bytes::new(alloc);
+    put_layout(&mut bytes, setting, grant)?;
     Ok(bytes)
 }

@@ -1,7 +1,6 @@
 // The bytes were made apart from the crate, by a script over the field lists of RFC 5661, RFC 5664 and
 // docs/MESSAGES.md.
-use crate::talk::first_wrong;
-use std::test::Fail;
+use crate::talk::play;
 
 // Cases, each behind what it shows.
 const CASES: &str = "\
@@ -73,8 +72,6 @@ ffffffff000000010000000000000000000000070000003c00000001000000000000000000000000
 ";
 
 #[test]
-fn messages_have_these_bytes(rt: HostRuntime) -> Result<(), Fail> {
-    let wrong = first_wrong(rt.alloc(), 1, CASES)?;
-    assert!(rt; wrong.is_none(), "{wrong:?}");
-    Ok(())
+fn messages_have_these_bytes(rt: HostRuntime) {
+    play(&rt, rt.alloc(), 1, CASES);
 }

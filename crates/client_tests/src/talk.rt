@@ -6,6 +6,7 @@ use crate::wire::{self, CLIENT, COMMIT, GET, Head, RETURN};
 use client_rules::{CallErr, CallOp};
 use osd_bytes::{Bytes, Memory, Node};
 use std::alloc::Global;
+use std::process::Abort;
 use stripe_client::{CStep, ClientCore, Sends};
 
 // What comes of a line with any other word: no line of a case, so that a word that is misspelled fails.
@@ -278,13 +279,13 @@ fn agreeing(
     client: &mut ClientCore,
     alloc: Global,
     first: u32,
+    came: &mut Bytes,
     text: &str,
 ) -> Result<usize, Memory> {
     let mut setting = STRIPED;
-    let mut came = Bytes::new(alloc);
     let mut count = 0usize;
     for line in text.lines() {
-        if !agrees(client, alloc, first, &mut setting, &mut came, line)? {
+        if !agrees(client, alloc, first, &mut setting, came, line)? {
             return Ok(count);
         }
         count = count.wrapping_add(1);
@@ -302,24 +303,28 @@ fn first_wrong_of(
     client: &mut ClientCore,
     alloc: Global,
     first: u32,
+    came: &mut Bytes,
     text: &str,
-) -> Result<Option<usize>, Memory> {
-    let count = agreeing(client, alloc, first, text)?;
-    if count < text.lines().count() {
-        return Ok(Some(count));
+) -> Option<usize> {
+    match agreeing(client, alloc, first, came, text) {
+        Ok(count) if count >= text.lines().count() => None,
+        Ok(count) => Some(count),
+        Err(_) => Some(usize::MAX),
     }
-    Ok(None)
 }
 
-/// The first line, from 0 on, of a text at which a client does something else, or `None`.
+// The first line, from 0 on, of a text at which a client does something else, or `None`.
+fn first_wrong(alloc: Global, first: u32, text: &str) -> Option<usize> {
+    let mut client = ClientCore::new(alloc, CLIENT, first.max(1));
+    let mut came = Bytes::new(alloc);
+    first_wrong_of(&mut client, alloc, first, &mut came, text)
+}
+
+/// Ends the test at the first line, from 0 on, at which a client does something else.
 ///
 /// A line that begins with `#` begins a case, with a new client. Its first request has the number `first`, or 1 where
 /// that is 0. Below any other line stands, behind two blanks, what the client then sends and says, if it does anything.
-///
-/// # Errors
-///
-/// Want of memory alone.
-pub fn first_wrong(alloc: Global, first: u32, text: &str) -> Result<Option<usize>, Memory> {
-    let mut client = ClientCore::new(alloc, CLIENT, first.max(1));
-    first_wrong_of(&mut client, alloc, first, text)
+pub fn play(rt: &impl Abort, alloc: Global, first: u32, text: &str) {
+    let wrong = first_wrong(alloc, first, text);
+    assert!(rt; wrong.is_none(), "line {}", wrong.unwrap_or(0));
 }

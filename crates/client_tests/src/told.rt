@@ -88,14 +88,18 @@ fn put_form(text: &mut Bytes, bytes: &[u8], form: Form) -> Result<(), Memory> {
     Ok(())
 }
 
+fn put_behind_blank(text: &mut Bytes, bytes: &[u8]) -> Result<(), Memory> {
+    text.push(b' ')?;
+    text.extend_from_slice(bytes)
+}
+
 // Hexadecimal digits, or a dash for no byte.
 fn put_digits(text: &mut Bytes, alloc: Global, bytes: &[u8]) -> Result<(), Memory> {
     if bytes.is_empty() {
         return put_word(text, " -");
     }
     let digits = hex::encode(alloc, bytes)?;
-    text.push(b' ')?;
-    text.extend_from_slice(digits.as_bytes())
+    put_behind_blank(text, digits.as_bytes())
 }
 
 // The bytes from a place on.
@@ -170,19 +174,35 @@ fn tell_bytes(text: &mut Bytes, alloc: Global, sent: &Sent) -> Result<(), Memory
     put_digits(text, alloc, sent.bytes.as_slice())
 }
 
+// What stands between what is told.
+fn part(text: &mut Bytes) -> Result<(), Memory> {
+    if text.is_empty() {
+        Ok(())
+    } else {
+        put_word(text, ", ")
+    }
+}
+
+fn tell_sent(text: &mut Bytes, alloc: Global, sent: &Sent, digits: bool) -> Result<(), Memory> {
+    part(text)?;
+    if digits {
+        tell_bytes(text, alloc, sent)
+    } else {
+        tell_message(text, alloc, sent)
+    }
+}
+
+fn tell_sends(text: &mut Bytes, alloc: Global, sends: &[Sent], digits: bool) -> Result<(), Memory> {
+    for sent in sends {
+        tell_sent(text, alloc, sent, digits)?;
+    }
+    Ok(())
+}
+
 /// What is sent, in order.
 pub fn told_sends(alloc: Global, sends: &[Sent], digits: bool) -> Result<Bytes, Memory> {
     let mut text = Bytes::new(alloc);
-    for sent in sends {
-        if !text.is_empty() {
-            put_word(&mut text, ", ")?;
-        }
-        if digits {
-            tell_bytes(&mut text, alloc, sent)?;
-        } else {
-            tell_message(&mut text, alloc, sent)?;
-        }
-    }
+    tell_sends(&mut text, alloc, sends, digits)?;
     Ok(text)
 }
 
@@ -247,15 +267,21 @@ fn tell_outcome(text: &mut Bytes, alloc: Global, outcome: &Outcome) -> Result<()
     }
 }
 
+fn tell_step(text: &mut Bytes, alloc: Global, step: &CStep, digits: bool) -> Result<(), Memory> {
+    tell_sends(text, alloc, step.sends.as_slice(), digits)?;
+    match &step.outcome {
+        Some(outcome) => {
+            part(text)?;
+            tell_outcome(text, alloc, outcome)
+        }
+        None => Ok(()),
+    }
+}
+
 /// What is sent, in order, and how a call ended.
 pub fn told(alloc: Global, step: &CStep, digits: bool) -> Result<Bytes, Memory> {
-    let mut text = told_sends(alloc, step.sends.as_slice(), digits)?;
-    if let Some(outcome) = &step.outcome {
-        if !text.is_empty() {
-            put_word(&mut text, ", ")?;
-        }
-        tell_outcome(&mut text, alloc, outcome)?;
-    }
+    let mut text = Bytes::new(alloc);
+    tell_step(&mut text, alloc, step, digits)?;
     Ok(text)
 }
 
@@ -270,14 +296,18 @@ pub fn told_refusal(alloc: Global, refusal: CallErr) -> Result<Bytes, Memory> {
     Bytes::copied(alloc, word.as_bytes())
 }
 
+fn tell_awaits(text: &mut Bytes, awaits: Awaits) -> Result<(), Memory> {
+    match awaits {
+        Awaits::Nothing => put_word(text, "nothing"),
+        Awaits::Server => put_word(text, "server"),
+        Awaits::Drive { component } => put(text, "component ", u64::from(component)),
+    }
+}
+
 /// Whose answer is awaited.
 pub fn told_awaits(alloc: Global, awaits: Awaits) -> Result<Bytes, Memory> {
     let mut text = Bytes::new(alloc);
-    match awaits {
-        Awaits::Nothing => put_word(&mut text, "nothing")?,
-        Awaits::Server => put_word(&mut text, "server")?,
-        Awaits::Drive { component } => put(&mut text, "component ", u64::from(component))?,
-    }
+    tell_awaits(&mut text, awaits)?;
     Ok(text)
 }
 

@@ -70,17 +70,14 @@ fn head_of(file: u32, head: &Head) -> [u32; 9] {
     ]
 }
 
-/// A LAYOUTGET that is answered with a grant.
-pub fn granted(
-    alloc: Global,
+// Behind the head: no return on close, the stateid, and so many layouts with this body.
+fn put_layouts(
+    bytes: &mut Bytes,
     setting: &Setting<'_>,
-    head: &Head,
     grant: &Grant,
-) -> Result<Bytes, Memory> {
-    let body = layout(alloc, setting, grant)?;
-    let mut bytes = Bytes::new(alloc);
-    put_numbers(&mut bytes, &head_of(setting.file, head))?;
-    put_numbers(&mut bytes, &[0, 1, 0, 0, grant.number, setting.layouts])?;
+    body: &[u8],
+) -> Result<(), Memory> {
+    put_numbers(bytes, &[0, 1, 0, 0, grant.number, setting.layouts])?;
     let iomode = if grant.rw {
         LAYOUTIOMODE4_RW
     } else {
@@ -89,7 +86,7 @@ pub fn granted(
     let size = size_of(body.len());
     for _ in 0..setting.layouts {
         put_numbers(
-            &mut bytes,
+            bytes,
             &[
                 0,
                 grant.first,
@@ -100,9 +97,43 @@ pub fn granted(
                 size,
             ],
         )?;
-        bytes.extend_from_slice(body.as_slice())?;
+        bytes.extend_from_slice(body)?;
     }
+    Ok(())
+}
+
+fn put_granted(
+    bytes: &mut Bytes,
+    setting: &Setting<'_>,
+    head: &Head,
+    grant: &Grant,
+    body: &[u8],
+) -> Result<(), Memory> {
+    put_numbers(bytes, &head_of(setting.file, head))?;
+    put_layouts(bytes, setting, grant, body)
+}
+
+fn granted_with(
+    alloc: Global,
+    setting: &Setting<'_>,
+    head: &Head,
+    grant: &Grant,
+    body: &[u8],
+) -> Result<Bytes, Memory> {
+    let mut bytes = Bytes::new(alloc);
+    put_granted(&mut bytes, setting, head, grant, body)?;
     Ok(bytes)
+}
+
+/// A LAYOUTGET that is answered with a grant.
+pub fn granted(
+    alloc: Global,
+    setting: &Setting<'_>,
+    head: &Head,
+    grant: &Grant,
+) -> Result<Bytes, Memory> {
+    let body = layout(alloc, setting, grant)?;
+    granted_with(alloc, setting, head, grant, body.as_slice())
 }
 
 /// Any other answer. A number follows the status where the operation was carried out, or a layout may be given later:

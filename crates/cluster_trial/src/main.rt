@@ -7,14 +7,15 @@ mod row;
 mod rows;
 
 ghost use Rattle.std.specs.Result.{ForOk};
-ghost use Rattle.stripe_repair.specs.Placing.{CanPlace, Places};
+ghost use Rattle.stripe_repair.specs.Placing.{CanPlace, IsPlacer, Places};
 
-use osd_bytes::{Memory, Numbers};
+use osd_bytes::{Clock, Links, Memory, Numbers, Sink, Source};
 use osd_links::{StdSink, StdSource, SystemClock, TcpLinks};
 use osd_replay::fewest_first;
-use pnfs_run::run;
+use pnfs_run::{Status, run};
 use processes::Starter;
 use rows::{LOST_DRIVE, ONE_DRIVE};
+use std::alloc::Global;
 use std::process::ExitCode;
 use std::{env, io};
 use stripe_repair::{DriveLoad, Placer};
@@ -47,33 +48,64 @@ fn played(rt: HostRuntime) -> ExitCode {
     }
 }
 
-fn main(rt: HostRuntime) -> ExitCode {
-    let Ok(words) = all_words(rt) else {
-        return ExitCode::FAILURE;
-    };
-    let (_, words) = words.split_at(words.len().min(1));
-    if words.is_empty() {
-        return played(rt);
-    }
-    let alloc = rt.alloc();
+// How the command of these words ends.
+fn status_of<S: Source, K: Sink, L: Links, C: Clock, F>(
+    alloc: Global,
+    words: &[String],
+    source: &mut S,
+    sink: &mut K,
+    links: &mut L,
+    clock: &mut C,
+    placer: &Placer<F>,
+) -> Status
+where
+    F: Fn(u32, &[DriveLoad]) -> Result<Numbers, Memory>,
+    requires { IsPlacer F.Fn placer.now }
+{
+    run(alloc, words, source, sink, links, clock, placer)
+}
+
+// The same by the placing of the program.
+fn exit_code<S: Source, K: Sink, L: Links, C: Clock>(
+    alloc: Global,
+    words: &[String],
+    source: &mut S,
+    sink: &mut K,
+    links: &mut L,
+    clock: &mut C,
+) -> u8 {
     let placer = Placer::new(
         |count: u32, loads: &[DriveLoad]| -> Result<Numbers, Memory>
             requires { CanPlace count loads.now }
             ensures { ForOk result (Places count loads.now) }
         { fewest_first(alloc, count, loads) },
     );
+    status_of(alloc, words, source, sink, links, clock, &placer).exit_code()
+}
+
+// The same over the streams, the network and the clock of this process.
+fn ran(rt: HostRuntime, words: &[String]) -> ExitCode {
+    let alloc = rt.alloc();
     let mut source = StdSource::new(rt);
     let mut sink = StdSink::new(rt);
     let mut links = TcpLinks::new(rt, alloc);
     let mut clock = SystemClock::new(rt);
-    let status = run(
-        alloc,
-        words,
-        &mut source,
-        &mut sink,
-        &mut links,
-        &mut clock,
-        &placer,
-    );
-    ExitCode::from(status.exit_code())
+    ExitCode::from(exit_code(alloc, words, &mut source, &mut sink, &mut links, &mut clock))
+}
+
+// Behind the program's name no words ask for the rows.
+fn ended(rt: HostRuntime, all: &[String]) -> ExitCode {
+    let (_, words) = all.split_at(all.len().min(1));
+    if words.is_empty() {
+        played(rt)
+    } else {
+        ran(rt, words)
+    }
+}
+
+fn main(rt: HostRuntime) -> ExitCode {
+    match all_words(rt) {
+        Ok(words) => ended(rt, words.as_slice()),
+        Err(_) => ExitCode::FAILURE,
+    }
 }

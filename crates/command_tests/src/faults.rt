@@ -4,10 +4,9 @@ use crate::clients::WRITES;
 use crate::messages::{
     COMMIT, COMMITTED, GET_WRITE, GRANTED_WRITE, REPORT, REPORTED, RETURN, RETURNED, WRITE, WRITTEN,
 };
-use crate::runs::{KEYLESS, exit_code_of, lists};
-use osd_bytes::{ByteLists, MemLinks, MemSink, Memory, Numbers};
+use crate::runs::{KEYLESS, exit_code_of, lists, numbers};
+use osd_bytes::{MemLinks, MemSink};
 use std::alloc::Global;
-use std::test::Fail;
 
 // The calls from `first` below `end`: what comes on each connection, also on one that fails, what goes out on those that
 // were made, and what comes of the run.
@@ -95,40 +94,33 @@ fn sends_whole(links: &MemLinks, sent: &[&[u8]]) -> bool {
     true
 }
 
-// Whether the run comes to that where this call fails.
-fn goes(alloc: Global, fault: &Fault, call: u32) -> Result<bool, Memory> {
-    let asked = lists(alloc, fault.asked)?;
-    let calls = Numbers::copied(alloc, &[call])?;
-    let mut links = MemLinks::new(alloc, ByteLists::new(alloc), asked, calls);
-    let mut sink = MemSink::new(alloc, Numbers::new(alloc));
-    let exit_code = exit_code_of(alloc, WRITES, KEYLESS, &[], &mut sink, &mut links)?;
-    Ok(
-        exit_code == fault.exit_code
-            && sink.bytes() == fault.output.as_bytes()
-            && sends_whole(&links, fault.sent),
-    )
+fn goes_over(alloc: Global, fault: &Fault, sink: &mut MemSink, links: &mut MemLinks) -> bool {
+    exit_code_of(alloc, WRITES, KEYLESS, &[], sink, links) == fault.exit_code
+        && sink.bytes() == fault.output.as_bytes()
+        && sends_whole(links, fault.sent)
 }
 
-// The first call at which a run comes to something else.
-fn first_wrong(alloc: Global, fault: &Fault) -> Result<Option<u32>, Memory> {
-    for call in fault.first..fault.end {
-        if !goes(alloc, fault, call)? {
-            return Ok(Some(call));
-        }
-    }
-    Ok(None)
+// Whether the run comes to that where this call fails.
+fn goes(alloc: Global, fault: &Fault, call: u32) -> bool {
+    let mut links = MemLinks::new(
+        alloc,
+        lists(alloc, &[]),
+        lists(alloc, fault.asked),
+        numbers(alloc, &[call]),
+    );
+    let mut sink = MemSink::new(alloc, numbers(alloc, &[]));
+    goes_over(alloc, fault, &mut sink, &mut links)
 }
 
 #[test]
-fn each_call_of_a_write_fails_in_turn(rt: HostRuntime) -> Result<(), Fail> {
+fn each_call_of_a_write_fails_in_turn(rt: HostRuntime) {
     for fault in FAULTS {
-        let wrong = first_wrong(rt.alloc(), fault)?;
-        assert!(rt;
-            wrong.is_none(),
-            "{}, call {}",
-            fault.name,
-            wrong.unwrap_or(0)
-        );
+        for call in fault.first..fault.end {
+            assert!(rt;
+                goes(rt.alloc(), fault, call),
+                "{}, call {call}",
+                fault.name
+            );
+        }
     }
-    Ok(())
 }

@@ -2,10 +2,14 @@
 ghost use Rattle.std.specs.Result.{ForOk};
 ghost use Rattle.stripe_repair.specs.Placing.{CanPlace, IsPlacer, Places};
 
-use osd_bytes::{ByteLists, Bytes, MemClock, MemLinks, MemSink, MemSource, Memory, Numbers, Times};
+use osd_bytes::{
+    ByteLists, Bytes, Clock, Links, MemClock, MemLinks, MemSink, MemSource, Memory, Numbers, Sink,
+    Source, Times,
+};
 use osd_replay::fewest_first;
 use pnfs_run::{Status, run};
 use std::alloc::Global;
+use std::process::Abort;
 use stripe_repair::{DriveLoad, Placer};
 
 /// What a run is given, and what has to come of it.
@@ -72,68 +76,109 @@ pub const NOTHING: Case = Case {
     output: "",
 };
 
+/// The bytes, or none where memory is short.
+pub fn copied(alloc: Global, bytes: &[u8]) -> Bytes {
+    match Bytes::copied(alloc, bytes) {
+        Ok(bytes) => bytes,
+        Err(_) => Bytes::new(alloc),
+    }
+}
+
+/// The numbers, or none where memory is short.
+pub fn numbers(alloc: Global, numbers: &[u32]) -> Numbers {
+    match Numbers::copied(alloc, numbers) {
+        Ok(numbers) => numbers,
+        Err(_) => Numbers::new(alloc),
+    }
+}
+
 /// The lists of these members.
-pub fn lists(alloc: Global, members: &[&[u8]]) -> Result<ByteLists, Memory> {
+pub fn lists(alloc: Global, members: &[&[u8]]) -> ByteLists {
     let mut lists = ByteLists::new(alloc);
     for member in members {
-        lists.push(Bytes::copied(alloc, member)?)?;
+        let _ = lists.push(copied(alloc, member));
     }
-    Ok(lists)
+    lists
 }
 
-fn links_of(alloc: Global, case: &Case) -> Result<MemLinks, Memory> {
-    let accepted = lists(alloc, case.accepted)?;
-    let asked = lists(alloc, case.asked)?;
-    let fails = Numbers::copied(alloc, case.fails)?;
-    Ok(MemLinks::new(alloc, accepted, asked, fails))
-}
-
-fn strings(alloc: Global, words: &[&str]) -> Result<Vec<String>, Memory> {
+// The words that memory is left for.
+fn strings(alloc: Global, words: &[&str]) -> Vec<String> {
     let mut strings = Vec::new(alloc);
     for word in words {
-        strings.push(String::from_str(alloc, word)?)?;
+        add_string(alloc, &mut strings, word);
     }
-    Ok(strings)
+    strings
+}
+
+fn add_string(alloc: Global, strings: &mut Vec<String>, word: &str) {
+    match String::from_str(alloc, word) {
+        Ok(string) => {
+            let _ = strings.push(string);
+        }
+        Err(_) => {}
+    }
 }
 
 // How a run of these words ends.
-fn status_with<F>(
+fn status_of<S: Source, K: Sink, L: Links, C: Clock, F>(
     alloc: Global,
     words: &[String],
-    source: &mut MemSource,
-    sink: &mut MemSink,
-    links: &mut MemLinks,
+    source: &mut S,
+    sink: &mut K,
+    links: &mut L,
+    clock: &mut C,
     placer: &Placer<F>,
 ) -> Status
 where
     F: Fn(u32, &[DriveLoad]) -> Result<Numbers, Memory>,
     requires { IsPlacer F.Fn placer.now }
 {
-    let mut clock = MemClock::new(Times::new(alloc));
-    run(alloc, words, source, sink, links, &mut clock, placer)
+    run(alloc, words, source, sink, links, clock, placer)
 }
 
-/// Runs the command of these words over an input, whose source fails at the calls of the numbers `reads`, into a sink,
-/// and gives the exit status of the program. Components are placed as the program places them.
-pub fn exit_code_of(
+// Components are placed as the program places them.
+fn exit_code<S: Source, K: Sink, L: Links, C: Clock>(
     alloc: Global,
-    words: &[&str],
-    input: &str,
-    reads: &[u32],
-    sink: &mut MemSink,
-    links: &mut MemLinks,
-) -> Result<u8, Memory> {
-    let words = strings(alloc, words)?;
-    let bytes = Bytes::copied(alloc, input.as_bytes())?;
-    let mut source = MemSource::new(bytes, Numbers::copied(alloc, reads)?);
+    words: &[String],
+    source: &mut S,
+    sink: &mut K,
+    links: &mut L,
+    clock: &mut C,
+) -> u8 {
     let placer = Placer::new(
         |count: u32, loads: &[DriveLoad]| -> Result<Numbers, Memory>
             requires { CanPlace count loads.now }
             ensures { ForOk result (Places count loads.now) }
         { fewest_first(alloc, count, loads) },
     );
-    let status = status_with(alloc, words.as_slice(), &mut source, sink, links, &placer);
-    Ok(status.exit_code())
+    status_of(alloc, words, source, sink, links, clock, &placer).exit_code()
+}
+
+// The same with a clock that stands still.
+fn exit_code_over<S: Source, K: Sink, L: Links>(
+    alloc: Global,
+    words: &[String],
+    source: &mut S,
+    sink: &mut K,
+    links: &mut L,
+) -> u8 {
+    let mut clock = MemClock::new(Times::new(alloc));
+    exit_code(alloc, words, source, sink, links, &mut clock)
+}
+
+/// Runs the command of these words over an input, whose source fails at the calls of the numbers `reads`, into a sink,
+/// and gives the exit status of the program. Components are placed as the program places them.
+pub fn exit_code_of<K: Sink, L: Links>(
+    alloc: Global,
+    words: &[&str],
+    input: &str,
+    reads: &[u32],
+    sink: &mut K,
+    links: &mut L,
+) -> u8 {
+    let words = strings(alloc, words);
+    let mut source = MemSource::new(copied(alloc, input.as_bytes()), numbers(alloc, reads));
+    exit_code_over(alloc, words.as_slice(), &mut source, sink, links)
 }
 
 // Whether exactly this went out on the connections that asked.
@@ -149,33 +194,28 @@ fn sent_is(links: &MemLinks, sent: &[&[u8]]) -> bool {
     true
 }
 
-fn goes_over(
-    alloc: Global,
-    case: &Case,
-    sink: &mut MemSink,
-    links: &mut MemLinks,
-) -> Result<bool, Memory> {
-    let exit_code = exit_code_of(alloc, case.words, case.input, &[], sink, links)?;
-    Ok(
-        exit_code == case.exit_code
-            && sink.bytes() == case.output.as_bytes()
-            && sent_is(links, case.sent),
-    )
+// Whether a case comes to what it says over a sink and links.
+fn goes_over(alloc: Global, case: &Case, sink: &mut MemSink, links: &mut MemLinks) -> bool {
+    exit_code_of(alloc, case.words, case.input, &[], sink, links) == case.exit_code
+        && sink.bytes() == case.output.as_bytes()
+        && sent_is(links, case.sent)
 }
 
 // Whether a case comes to what it says.
-fn goes(alloc: Global, case: &Case) -> Result<bool, Memory> {
-    let mut links = links_of(alloc, case)?;
+fn goes(alloc: Global, case: &Case) -> bool {
+    let mut links = MemLinks::new(
+        alloc,
+        lists(alloc, case.accepted),
+        lists(alloc, case.asked),
+        numbers(alloc, case.fails),
+    );
     let mut sink = MemSink::new(alloc, Numbers::new(alloc));
     goes_over(alloc, case, &mut sink, &mut links)
 }
 
-/// The name of the first case that goes otherwise.
-pub fn first_wrong(alloc: Global, cases: &[Case]) -> Result<Option<&'static str>, Memory> {
+/// Ends the test at the first case that goes otherwise, which it names.
+pub fn play(rt: &impl Abort, alloc: Global, cases: &[Case]) {
     for case in cases {
-        if !goes(alloc, case)? {
-            return Ok(Some(case.name));
-        }
+        assert!(rt; goes(alloc, case), "{}", case.name);
     }
-    Ok(None)
 }

@@ -1,6 +1,5 @@
 // The commands of a drive and of the metadata server.
-use crate::runs::{CLUSTER, Case, KEYLESS, NOTHING, first_wrong};
-use std::test::Fail;
+use crate::runs::{CLUSTER, Case, KEYLESS, NOTHING, play};
 
 const DRIVES: &[Case] = &[
     Case {
@@ -67,15 +66,11 @@ capacity = 20000000
 ];
 
 #[test]
-fn drives(rt: HostRuntime) -> Result<(), Fail> {
-    let wrong = first_wrong(rt.alloc(), DRIVES)?;
-    assert!(rt; wrong.is_none(), "{}", wrong.unwrap_or(""));
-    Ok(())
+fn drives(rt: HostRuntime) {
+    play(&rt, rt.alloc(), DRIVES);
 }
 
 #[test]
-fn servers(rt: HostRuntime) -> Result<(), Fail> {
-    let wrong = first_wrong(rt.alloc(), SERVERS)?;
-    assert!(rt; wrong.is_none(), "{}", wrong.unwrap_or(""));
-    Ok(())
+fn servers(rt: HostRuntime) {
+    play(&rt, rt.alloc(), SERVERS);
 }

@@ -1,8 +1,7 @@
 // Words, the cluster text, and streams that fail.
-use crate::runs::{Case, KEYLESS, NOTHING, exit_code_of, first_wrong};
-use osd_bytes::{ByteLists, MemLinks, MemSink, Memory, Numbers};
+use crate::runs::{Case, KEYLESS, NOTHING, exit_code_of, lists, numbers, play};
+use osd_bytes::{MemLinks, MemSink};
 use std::alloc::Global;
-use std::test::Fail;
 
 const WORDS: &[&[&str]] = &[
     &[],
@@ -116,33 +115,33 @@ fn ends(
     writes: &[u32],
     exit_code: u8,
     output: &[u8],
-) -> Result<bool, Memory> {
-    let none = ByteLists::new(alloc);
-    let mut links = MemLinks::new(alloc, none, ByteLists::new(alloc), Numbers::new(alloc));
-    let mut sink = MemSink::new(alloc, Numbers::copied(alloc, writes)?);
-    let came = exit_code_of(alloc, words, KEYLESS, reads, &mut sink, &mut links)?;
-    Ok(came == exit_code && sink.bytes() == output)
+) -> bool {
+    let mut links = MemLinks::new(
+        alloc,
+        lists(alloc, &[]),
+        lists(alloc, &[]),
+        numbers(alloc, &[]),
+    );
+    let mut sink = MemSink::new(alloc, numbers(alloc, writes));
+    exit_code_of(alloc, words, KEYLESS, reads, &mut sink, &mut links) == exit_code
+        && sink.bytes() == output
 }
 
 #[test]
-fn words_of_no_command(rt: HostRuntime) -> Result<(), Fail> {
+fn words_of_no_command(rt: HostRuntime) {
     for words in WORDS {
-        assert!(rt; ends(rt.alloc(), words, &[], &[], 2, b"error words\n")?);
+        assert!(rt; ends(rt.alloc(), words, &[], &[], 2, b"error words\n"));
     }
-    Ok(())
 }
 
 #[test]
-fn texts(rt: HostRuntime) -> Result<(), Fail> {
-    let wrong = first_wrong(rt.alloc(), TEXTS)?;
-    assert!(rt; wrong.is_none(), "{}", wrong.unwrap_or(""));
-    Ok(())
+fn texts(rt: HostRuntime) {
+    play(&rt, rt.alloc(), TEXTS);
 }
 
 #[test]
-fn streams_that_fail(rt: HostRuntime) -> Result<(), Fail> {
-    assert!(rt; ends(rt.alloc(), READS, &[0], &[], 4, b"error 0 read\n")?);
-    assert!(rt; ends(rt.alloc(), READS, &[], &[0], 5, b"")?);
-    assert!(rt; ends(rt.alloc(), &["server"], &[], &[0], 2, b"")?);
-    Ok(())
+fn streams_that_fail(rt: HostRuntime) {
+    assert!(rt; ends(rt.alloc(), READS, &[0], &[], 4, b"error 0 read\n"));
+    assert!(rt; ends(rt.alloc(), READS, &[], &[0], 5, b""));
+    assert!(rt; ends(rt.alloc(), &["server"], &[], &[0], 2, b""));
 }

@@ -6,73 +6,66 @@ ghost use Rattle.stripe_repair.specs.Placing.{CanPlace, IsPlacer, Places};
 
 use crate::moves::{Move, Questions, bytes_of, sender};
 use crate::placing::first_online;
+use crate::starts::{Start, moves_of};
 use crate::words::{put_note, put_sent};
 use data_map::RawMap;
 use layout_server::{DriveInfo, DriveTable, ServerCore, Step};
-use osd_bytes::{Bytes, Memory, Numbers};
+use osd_bytes::{Bytes, Memory, Node, Numbers};
 use std::alloc::Global;
+use std::process::Abort;
 use stripe_repair::{DriveLoad, Placer};
 
-/// The file of a case, whose number is 0, on a server with drives 0 to 5.
+/// The file of a case, whose number is 0, on a server with drives 0 to 5, and units of four bytes.
 #[derive(Clone, Copy)]
-pub struct Setup {
-    pub comps: u32,
-    /// From RAID_0 (1) to RAID_PQ (4).
-    pub algorithm: u32,
-    pub mirrors: u32,
-    pub tag: u32,
-    /// Each CREATE is answered before the first move.
-    pub is_made: bool,
+pub enum File {
+    /// Three components with a rotating parity.
+    Raid5,
+    /// The same, with the greatest tag.
+    Spent,
+    /// The same, of which no object is made yet.
+    Unmade,
+    /// Two positions with two replicas each.
+    Mirrors,
+    /// Two data units and two parities.
+    RaidPq,
 }
 
-/// Units of four bytes on three components with a rotating parity.
-pub const RAID_5: Setup = Setup {
-    comps: 3,
-    algorithm: 3,
-    mirrors: 0,
-    tag: 1,
-    is_made: true,
-};
+#[derive(Clone, Copy)]
+struct Setup {
+    comps: u32,
+    // From RAID_0 (1) to RAID_PQ (4).
+    algorithm: u32,
+    mirrors: u32,
+    tag: u32,
+    // Each CREATE is answered before the first move.
+    is_made: bool,
+}
 
-/// The same, with the greatest tag.
-pub const SPENT: Setup = Setup {
-    tag: u32::MAX,
-    ..RAID_5
-};
+fn setup_with(comps: u32, algorithm: u32, mirrors: u32, tag: u32, is_made: bool) -> Setup {
+    Setup {
+        comps,
+        algorithm,
+        mirrors,
+        tag,
+        is_made,
+    }
+}
 
-/// The same, of which no object is made yet.
-pub const UNMADE: Setup = Setup {
-    is_made: false,
-    ..RAID_5
-};
-
-/// Two positions with two replicas each.
-pub const MIRRORS: Setup = Setup {
-    comps: 4,
-    algorithm: 1,
-    mirrors: 1,
-    ..RAID_5
-};
-
-/// Two data units and two parities.
-pub const RAID_PQ: Setup = Setup {
-    comps: 4,
-    algorithm: 4,
-    ..RAID_5
-};
+fn setup_of(file: File) -> Setup {
+    match file {
+        File::Raid5 => setup_with(3, 3, 0, 1, true),
+        File::Spent => setup_with(3, 3, 0, u32::MAX, true),
+        File::Unmade => setup_with(3, 3, 0, 1, false),
+        File::Mirrors => setup_with(4, 1, 1, 1, true),
+        File::RaidPq => setup_with(4, 4, 0, 1, true),
+    }
+}
 
 /// Moves, each beside what the server then notes and sends.
 pub type Steps = &'static [(Move, &'static str)];
 
-/// What is shown, the file, and the moves, in parts that follow each other.
-pub type Case = (&'static str, Setup, &'static [Steps]);
-
-/// What the server noted and sent where something else was wanted.
-#[derive(Debug, Drop)]
-pub struct Other {
-    pub wanted: &'static str,
-    pub came: Bytes,
-}
+/// What is shown, the file, what the case begins with, and its own moves.
+pub type Case = (&'static str, File, &'static [Start], Steps);
 
 // A server, the time of its clock, and what drives are to answer.
 #[derive(Drop)]
@@ -122,16 +115,44 @@ fn drives(alloc: Global) -> Result<DriveTable, Memory>
     Ok(table)
 }
 
+fn puts(
+    alloc: Global,
+    text: &mut Bytes,
+    questions: &mut Questions,
+    step: &Step,
+) -> Result<(), Memory> {
+    for note in step.notes.as_slice() {
+        put_note(text, note)?;
+    }
+    for sent in step.sends.as_slice() {
+        put_sent(alloc, text, questions, sent)?;
+    }
+    Ok(())
+}
+
 // What a step notes and sends, in words.
 fn told(alloc: Global, questions: &mut Questions, step: &Step) -> Result<Bytes, Memory> {
     let mut text = Bytes::new(alloc);
-    for note in step.notes.as_slice() {
-        put_note(&mut text, note)?;
-    }
-    for sent in step.sends.as_slice() {
-        put_sent(alloc, &mut text, questions, sent)?;
-    }
+    puts(alloc, &mut text, questions, step)?;
     Ok(text)
+}
+
+// The words of what comes of a message.
+fn reacts<F>(
+    alloc: Global,
+    bench: &mut Bench,
+    from: Node,
+    bytes: &[u8],
+    placer: &Placer<F>,
+) -> Result<Bytes, Memory>
+where
+    F: Fn(u32, &[DriveLoad]) -> Result<Numbers, Memory>,
+    requires { IsPlacer F.Fn placer.now }
+{
+    match bench.core.on_message(bench.now, from, bytes, placer) {
+        Ok(step) => told(alloc, &mut bench.questions, &step),
+        Err(e) => Err(e),
+    }
 }
 
 // The words of a move.
@@ -148,23 +169,36 @@ where
     if let Move::Waits(now) = next {
         bench.now = *now;
     }
-    let bytes = bytes_of(alloc, next, &bench.questions)?;
-    let step = bench
-        .core
-        .on_message(bench.now, sender(next), bytes.as_slice(), placer)?;
-    told(alloc, &mut bench.questions, &step)
+    match bytes_of(alloc, next, &bench.questions) {
+        Ok(bytes) => reacts(alloc, bench, sender(next), bytes.as_slice(), placer),
+        Err(e) => Err(e),
+    }
+}
+
+// Whether the words of a move are these.
+fn says<F>(alloc: Global, bench: &mut Bench, next: &Move, wanted: &str, placer: &Placer<F>) -> bool
+where
+    F: Fn(u32, &[DriveLoad]) -> Result<Numbers, Memory>,
+    requires { IsPlacer F.Fn placer.now }
+{
+    match plays(alloc, bench, next, placer) {
+        Ok(came) => came.as_slice() == wanted.as_bytes(),
+        Err(_) => false,
+    }
 }
 
 // The CREATE of each component is performed.
-fn makes<F>(alloc: Global, bench: &mut Bench, comps: u32, placer: &Placer<F>) -> Result<(), Memory>
+fn makes<F>(alloc: Global, bench: &mut Bench, comps: u32, placer: &Placer<F>) -> bool
 where
     F: Fn(u32, &[DriveLoad]) -> Result<Numbers, Memory>,
     requires { IsPlacer F.Fn placer.now }
 {
     for drive in 0..comps {
-        plays(alloc, bench, &Move::Performs(drive, b""), placer)?;
+        if plays(alloc, bench, &Move::Performs(drive, b""), placer).is_err() {
+            return false;
+        }
     }
-    Ok(())
+    true
 }
 
 fn raw_map(setup: Setup) -> RawMap
@@ -180,84 +214,129 @@ fn raw_map(setup: Setup) -> RawMap
     }
 }
 
-// The server of a case.
-fn begins<F>(alloc: Global, setup: Setup, placer: &Placer<F>) -> Result<Bench, Memory>
+// A server without files.
+fn new_bench(alloc: Global) -> Result<Bench, Memory> {
+    let core = ServerCore::new(alloc, drives(alloc)?)?;
+    Ok(Bench {
+        core,
+        now: 0,
+        questions: Questions::new(alloc),
+    })
+}
+
+// Whether the server takes the file of a case.
+fn takes<F>(alloc: Global, bench: &mut Bench, setup: Setup, placer: &Placer<F>) -> bool
 where
     F: Fn(u32, &[DriveLoad]) -> Result<Numbers, Memory>,
     requires { IsPlacer F.Fn placer.now }
 {
-    let mut core = ServerCore::new(alloc, drives(alloc)?)?;
-    if !core.counters_low() || setup.algorithm == 0 || setup.algorithm > 4 {
-        return Err(Memory);
+    if !bench.core.counters_low() || setup.algorithm == 0 || setup.algorithm > 4 {
+        return false;
     }
-    let Ok(step) = core.create_file(0, raw_map(setup), setup.tag, placer) else {
-        return Err(Memory);
-    };
-    let mut questions = Questions::new(alloc);
-    told(alloc, &mut questions, &step)?;
-    let mut bench = Bench {
-        core,
-        now: 0,
-        questions,
-    };
-    if setup.is_made {
-        makes(alloc, &mut bench, setup.comps, placer)?;
+    match bench.core.create_file(0, raw_map(setup), setup.tag, placer) {
+        Ok(step) => told(alloc, &mut bench.questions, &step).is_ok(),
+        Err(_) => false,
     }
-    Ok(bench)
 }
 
-// The words that came where others were wanted, at the first such move.
+// Whether the server takes the file of a case, and its objects are made where they are to be.
+fn begins<F>(alloc: Global, bench: &mut Bench, setup: Setup, placer: &Placer<F>) -> bool
+where
+    F: Fn(u32, &[DriveLoad]) -> Result<Numbers, Memory>,
+    requires { IsPlacer F.Fn placer.now }
+{
+    takes(alloc, bench, setup, placer)
+        && (!setup.is_made || makes(alloc, bench, setup.comps, placer))
+}
+
+// The words that were wanted at the first move at which others came.
 fn first_other<F>(
     alloc: Global,
     bench: &mut Bench,
     steps: Steps,
     placer: &Placer<F>,
-) -> Result<Option<Other>, Memory>
+) -> Option<&'static str>
 where
     F: Fn(u32, &[DriveLoad]) -> Result<Numbers, Memory>,
     requires { IsPlacer F.Fn placer.now }
 {
     for (next, wanted) in steps {
-        let came = plays(alloc, bench, next, placer)?;
-        if came.as_slice() != wanted.as_bytes() {
-            return Ok(Some(Other { wanted, came }));
+        if !says(alloc, bench, next, wanted, placer) {
+            return Some(wanted);
         }
     }
-    Ok(None)
+    None
 }
 
-// The same of a whole case.
-fn other_in<F>(
+// The same of what a case begins with.
+fn first_other_start<F>(
     alloc: Global,
-    setup: Setup,
-    parts: &[Steps],
+    bench: &mut Bench,
+    starts: &[Start],
     placer: &Placer<F>,
-) -> Result<Option<Other>, Memory>
+) -> Option<&'static str>
 where
     F: Fn(u32, &[DriveLoad]) -> Result<Numbers, Memory>,
     requires { IsPlacer F.Fn placer.now }
 {
-    let mut bench = begins(alloc, setup, placer)?;
-    for steps in parts {
-        if let Some(other) = first_other(alloc, &mut bench, steps, placer)? {
-            return Ok(Some(other));
+    for start in starts {
+        let other = first_other(alloc, bench, moves_of(*start), placer);
+        if other.is_some() {
+            return other;
         }
     }
-    Ok(None)
+    None
 }
 
-/// The name of the first case that goes otherwise, with the words that were wanted and those that came.
-pub fn first_wrong(alloc: Global, cases: &[Case]) -> Result<Option<(&'static str, Other)>, Memory> {
+// The same of a whole case.
+fn other_of<F>(
+    alloc: Global,
+    bench: &mut Bench,
+    case: &Case,
+    placer: &Placer<F>,
+) -> Option<&'static str>
+where
+    F: Fn(u32, &[DriveLoad]) -> Result<Numbers, Memory>,
+    requires { IsPlacer F.Fn placer.now }
+{
+    let (_, file, starts, steps) = *case;
+    if !begins(alloc, bench, setup_of(file), placer) {
+        return Some("a file");
+    }
+    let other = first_other_start(alloc, bench, starts, placer);
+    if other.is_some() {
+        return other;
+    }
+    first_other(alloc, bench, steps, placer)
+}
+
+// The same on a server of its own.
+fn other_in<F>(alloc: Global, case: &Case, placer: &Placer<F>) -> Option<&'static str>
+where
+    F: Fn(u32, &[DriveLoad]) -> Result<Numbers, Memory>,
+    requires { IsPlacer F.Fn placer.now }
+{
+    match new_bench(alloc) {
+        Ok(mut bench) => other_of(alloc, &mut bench, case, placer),
+        Err(_) => Some("a server"),
+    }
+}
+
+// The same with the rule by which the tests place components.
+fn other_of_case(alloc: Global, case: &Case) -> Option<&'static str> {
     let placer = Placer::new(
         |count: u32, loads: &[DriveLoad]| -> Result<Numbers, Memory>
             requires { CanPlace count loads.now }
             ensures { ForOk result (Places count loads.now) }
         { first_online(alloc, count, loads) },
     );
-    for (name, setup, parts) in cases {
-        if let Some(other) = other_in(alloc, *setup, parts, &placer)? {
-            return Ok(Some((name, other)));
-        }
+    other_in(alloc, case, &placer)
+}
+
+/// Ends the test at the first case that goes otherwise, with its name and the words that were wanted.
+pub fn play(rt: &impl Abort, alloc: Global, cases: &[Case]) {
+    for case in cases {
+        let other = other_of_case(alloc, case);
+        assert!(rt; other.is_none(), "{}: {}", case.0, other.unwrap_or(""));
     }
-    Ok(None)
 }

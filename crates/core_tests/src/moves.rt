@@ -86,18 +86,25 @@ fn error_at(trouble: Trouble) -> IoErr {
     }
 }
 
-// A report of errors as the body of a LAYOUTRETURN.
-fn report(alloc: Global, troubles: &[Trouble]) -> Result<Bytes, Memory> {
-    let mut errors = IoErrs {
-        olr_ioerr_report: Sequence::new(alloc),
-    };
+// A report of errors.
+fn errors_of(alloc: Global, troubles: &[Trouble]) -> IoErrs {
+    let mut errors = Sequence::new(alloc);
     for trouble in troubles {
-        errors.olr_ioerr_report.push(error_at(*trouble))?;
+        let _ = errors.push(error_at(*trouble));
     }
-    if errors.olr_ioerr_report.len() > MAX_MEMBERS as usize {
-        return Err(Memory);
+    IoErrs {
+        olr_ioerr_report: errors,
     }
-    errors.write(alloc)
+}
+
+// The same as the body of a LAYOUTRETURN.
+fn report(alloc: Global, troubles: &[Trouble]) -> Result<Bytes, Memory> {
+    let errors = errors_of(alloc, troubles);
+    if errors.olr_ioerr_report.len() <= MAX_MEMBERS as usize {
+        errors.write(alloc)
+    } else {
+        Err(Memory)
+    }
 }
 
 fn get_args(iomode: u32, offset: u64, length: u64) -> Args {

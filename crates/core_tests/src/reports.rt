@@ -1,14 +1,14 @@
-use crate::bench::{Case, RAID_5, first_wrong};
+use crate::bench::{Case, File, play};
 use crate::moves::{Ask, Move, READ, RW};
 use layout_types::Errno;
-use std::test::Fail;
 
 // What each shows, the file, and the moves.
 const CASES: &[Case] = &[
     (
         "a writer alone tells that a drive is lost",
-        RAID_5,
-        &[&[
+        File::Raid5,
+        &[],
+        &[
             (
                 Move::Asks(0, 1, Ask::Get(0, RW, 0, 8)),
                 "answer c0 1 0 0 0 layout",
@@ -33,12 +33,13 @@ const CASES: &[Case] = &[
                 Move::Asks(0, 6, Ask::Return(&[(2, 65538, Errno::Unreachable)])),
                 "settag d0; settag d2; answer c0 6 0 0 0",
             ),
-        ]],
+        ],
     ),
     (
         "of another error, or of two that are too many, no loss is taken",
-        RAID_5,
-        &[&[
+        File::Raid5,
+        &[],
+        &[
             (
                 Move::Asks(0, 1, Ask::Get(0, RW, 0, 8)),
                 "answer c0 1 0 0 0 layout",
@@ -51,12 +52,13 @@ const CASES: &[Case] = &[
                 ),
                 "settag d0; settag d1; settag d2; answer c0 2 0 0 0",
             ),
-        ]],
+        ],
     ),
     (
         "nor where the code brings fewer back",
-        RAID_5,
-        &[&[
+        File::Raid5,
+        &[],
+        &[
             (
                 Move::Asks(0, 1, Ask::Get(0, RW, 0, 8)),
                 "answer c0 1 0 0 0 layout",
@@ -72,12 +74,13 @@ const CASES: &[Case] = &[
                 ),
                 "settag d0; settag d1; settag d2; answer c0 2 0 0 0",
             ),
-        ]],
+        ],
     ),
     (
         "nor of an object that the file never had there",
-        RAID_5,
-        &[&[
+        File::Raid5,
+        &[],
+        &[
             (
                 Move::Asks(0, 1, Ask::Get(0, RW, 0, 8)),
                 "answer c0 1 0 0 0 layout",
@@ -86,12 +89,13 @@ const CASES: &[Case] = &[
                 Move::Asks(0, 2, Ask::Return(&[(1, 65536, Errno::Unreachable)])),
                 "settag d0; settag d1; settag d2; answer c0 2 0 0 0",
             ),
-        ]],
+        ],
     ),
     (
         "nor from a reader",
-        RAID_5,
-        &[&[
+        File::Raid5,
+        &[],
+        &[
             (
                 Move::Asks(0, 1, Ask::Get(0, READ, 0, 8)),
                 "answer c0 1 0 0 0 layout",
@@ -100,12 +104,13 @@ const CASES: &[Case] = &[
                 Move::Asks(0, 2, Ask::Return(&[(1, 65537, Errno::Unreachable)])),
                 "settag d0; settag d1; settag d2; answer c0 2 0 0 0",
             ),
-        ]],
+        ],
     ),
     (
         "nor beside another grant",
-        RAID_5,
-        &[&[
+        File::Raid5,
+        &[],
+        &[
             (
                 Move::Asks(0, 1, Ask::Get(0, RW, 0, 8)),
                 "answer c0 1 0 0 0 layout",
@@ -124,12 +129,13 @@ const CASES: &[Case] = &[
                 Move::Asks(0, 5, Ask::Return(&[(1, 65537, Errno::Unreachable)])),
                 "settag d0; settag d1; settag d2; answer c0 5 0 0 8",
             ),
-        ]],
+        ],
     ),
     (
         "of a client without a grant nothing is taken",
-        RAID_5,
-        &[&[
+        File::Raid5,
+        &[],
+        &[
             (
                 Move::Asks(0, 1, Ask::Return(&[(1, 65537, Errno::Unreachable)])),
                 "answer c0 1 0 0 0",
@@ -138,13 +144,11 @@ const CASES: &[Case] = &[
                 Move::Asks(0, 2, Ask::Get(0, RW, 0, 8)),
                 "answer c0 2 0 0 0 layout",
             ),
-        ]],
+        ],
     ),
 ];
 
 #[test]
-fn a_report_is_a_loss_or_starts_a_fence(rt: HostRuntime) -> Result<(), Fail> {
-    let wrong = first_wrong(rt.alloc(), CASES)?;
-    assert!(rt; wrong.is_none(), "{wrong:?}");
-    Ok(())
+fn a_report_is_a_loss_or_starts_a_fence(rt: HostRuntime) {
+    play(&rt, rt.alloc(), CASES);
 }

@@ -1,15 +1,15 @@
-use crate::bench::{Case, RAID_5, SPENT, first_wrong};
+use crate::bench::{Case, File, play};
 use crate::moves::{ANY, Ask, Move, READ, RW};
 use layout_ops::OrderKind;
 use layout_types::Errno;
-use std::test::Fail;
 
 // What each shows, the file, and the moves.
 const CASES: &[Case] = &[
     (
         "no file, then a bad iomode, then a bad range",
-        RAID_5,
-        &[&[
+        File::Raid5,
+        &[],
+        &[
             (
                 Move::Asks(0, 1, Ask::Get(9, ANY, 0, 0)),
                 "answer c0 1 2 0 0",
@@ -30,12 +30,13 @@ const CASES: &[Case] = &[
                 Move::Asks(0, 5, Ask::Get(0, RW, 16_777_215, 1)),
                 "answer c0 5 0 0 0 layout",
             ),
-        ]],
+        ],
     ),
     (
         "these come before a job that waits",
-        RAID_5,
-        &[&[
+        File::Raid5,
+        &[],
+        &[
             (
                 Move::Orders(OrderKind::Revoke, 0),
                 "settag d0; settag d1; settag d2; order 0",
@@ -63,12 +64,13 @@ const CASES: &[Case] = &[
                 Move::Asks(0, 5, Ask::Get(0, RW, 0, 8)),
                 "answer c0 5 0 0 0 layout",
             ),
-        ]],
+        ],
     ),
     (
         "a client that asks again is fenced first",
-        RAID_5,
-        &[&[
+        File::Raid5,
+        &[],
+        &[
             (
                 Move::Asks(0, 1, Ask::Get(0, READ, 0, 8)),
                 "answer c0 1 0 0 0 layout",
@@ -77,12 +79,13 @@ const CASES: &[Case] = &[
                 Move::Asks(0, 2, Ask::Get(0, READ, 0, 8)),
                 "settag d0; settag d1; settag d2; answer c0 2 10061 0 0",
             ),
-        ]],
+        ],
     ),
     (
         "a holder is recalled until its grant has expired, and then fenced",
-        RAID_5,
-        &[&[
+        File::Raid5,
+        &[],
+        &[
             (
                 Move::Asks(0, 1, Ask::Get(0, RW, 0, 8)),
                 "answer c0 1 0 0 0 layout",
@@ -97,12 +100,13 @@ const CASES: &[Case] = &[
                 Move::Asks(1, 2, Ask::Get(0, READ, 0, 8)),
                 "settag d0; settag d1; settag d2; answer c1 2 10061 0 0",
             ),
-        ]],
+        ],
     ),
     (
         "the oldest holder is named, and each is recalled",
-        RAID_5,
-        &[&[
+        File::Raid5,
+        &[],
+        &[
             (
                 Move::Asks(2, 1, Ask::Get(0, READ, 0, 8)),
                 "answer c2 1 0 0 0 layout",
@@ -115,12 +119,13 @@ const CASES: &[Case] = &[
                 Move::Asks(0, 1, Ask::Get(0, RW, 0, 8)),
                 "recall c2; recall c1; answer c0 1 10058 2 0",
             ),
-        ]],
+        ],
     ),
     (
         "a writer needs what the code brings back, whoever holds a grant",
-        RAID_5,
-        &[&[
+        File::Raid5,
+        &[],
+        &[
             (Move::Orders(OrderKind::Declare, 0), "order 0"),
             (
                 Move::Asks(0, 1, Ask::Get(0, RW, 0, 8)),
@@ -140,12 +145,13 @@ const CASES: &[Case] = &[
                 Move::Asks(1, 1, Ask::Get(0, RW, 0, 8)),
                 "answer c1 1 10059 0 0",
             ),
-        ]],
+        ],
     ),
     (
         "a fence that waits for nobody is over at once, and the later rows answer",
-        RAID_5,
-        &[&[
+        File::Raid5,
+        &[],
+        &[
             (
                 Move::Asks(0, 1, Ask::Get(0, RW, 0, 8)),
                 "answer c0 1 0 0 0 layout",
@@ -161,12 +167,13 @@ const CASES: &[Case] = &[
                 Move::Asks(0, 3, Ask::Get(0, RW, 0, 8)),
                 "fenced 3; repaired 0 0; answer c0 3 10059 0 0",
             ),
-        ]],
+        ],
     ),
     (
         "with the greatest tag nobody is fenced",
-        SPENT,
-        &[&[
+        File::Spent,
+        &[],
+        &[
             (
                 Move::Asks(0, 1, Ask::Get(0, RW, 0, 8)),
                 "answer c0 1 0 0 0 layout",
@@ -198,13 +205,11 @@ const CASES: &[Case] = &[
                 Move::Asks(1, 3, Ask::Get(0, RW, 0, 8)),
                 "answer c1 3 0 0 0 layout",
             ),
-        ]],
+        ],
     ),
 ];
 
 #[test]
-fn the_first_row_of_layoutget_that_applies_answers(rt: HostRuntime) -> Result<(), Fail> {
-    let wrong = first_wrong(rt.alloc(), CASES)?;
-    assert!(rt; wrong.is_none(), "{wrong:?}");
-    Ok(())
+fn the_first_row_of_layoutget_that_applies_answers(rt: HostRuntime) {
+    play(&rt, rt.alloc(), CASES);
 }

@@ -1,13 +1,13 @@
-use crate::bench::{Case, RAID_5, first_wrong};
+use crate::bench::{Case, File, play};
 use crate::moves::{Ask, Move, READ, RW};
-use std::test::Fail;
 
 // What each shows, the file, and the moves.
 const CASES: &[Case] = &[
     (
         "a request has the number behind the last one",
-        RAID_5,
-        &[&[
+        File::Raid5,
+        &[],
+        &[
             (
                 Move::Asks(0, 2, Ask::Get(0, READ, 0, 8)),
                 "answer c0 2 10063 1 0",
@@ -25,12 +25,13 @@ const CASES: &[Case] = &[
                 Move::Asks(1, 1, Ask::Get(0, RW, 0, 8)),
                 "recall c0; answer c1 1 10058 0 0",
             ),
-        ]],
+        ],
     ),
     (
         "one with the last number gets the kept answer and does nothing",
-        RAID_5,
-        &[&[
+        File::Raid5,
+        &[],
+        &[
             (
                 Move::Asks(0, 1, Ask::Get(0, RW, 0, 8)),
                 "answer c0 1 0 0 0 layout",
@@ -56,23 +57,25 @@ const CASES: &[Case] = &[
                 Move::Asks(1, 2, Ask::Get(0, RW, 0, 8)),
                 "answer c1 2 0 0 0 layout",
             ),
-        ]],
+        ],
     ),
     (
         "there are sixteen clients",
-        RAID_5,
-        &[&[
+        File::Raid5,
+        &[],
+        &[
             (Move::Asks(16, 1, Ask::Get(0, RW, 0, 8)), ""),
             (
                 Move::Asks(15, 1, Ask::Get(0, RW, 0, 8)),
                 "answer c15 1 0 0 0 layout",
             ),
-        ]],
+        ],
     ),
     (
         "a commit makes a file longer, never shorter, and inside its grant",
-        RAID_5,
-        &[&[
+        File::Raid5,
+        &[],
+        &[
             (
                 Move::Asks(0, 1, Ask::Commit(Some(3))),
                 "answer c0 1 10050 0 0",
@@ -91,13 +94,11 @@ const CASES: &[Case] = &[
                 "answer c0 8 0 0 8 layout",
             ),
             (Move::Asks(0, 9, Ask::Commit(Some(3))), "answer c0 9 22 0 8"),
-        ]],
+        ],
     ),
 ];
 
 #[test]
-fn requests_are_carried_out_once_and_in_order(rt: HostRuntime) -> Result<(), Fail> {
-    let wrong = first_wrong(rt.alloc(), CASES)?;
-    assert!(rt; wrong.is_none(), "{wrong:?}");
-    Ok(())
+fn requests_are_carried_out_once_and_in_order(rt: HostRuntime) {
+    play(&rt, rt.alloc(), CASES);
 }

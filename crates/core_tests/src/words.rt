@@ -141,20 +141,38 @@ fn put_result(text: &mut Bytes, answer: OrderAnswer) -> Result<(), Memory> {
     put(text, "order", &[u64::from(answer.result.number())])
 }
 
+fn put_recall(text: &mut Bytes, client: u32) -> Result<(), Memory> {
+    begin(text, "recall")?;
+    put_number(text, "c", u64::from(client))
+}
+
 // A message to a client or an operator.
 fn put_envelope(alloc: Global, text: &mut Bytes, bytes: &[u8]) -> Result<(), Memory> {
     match read_envelope(alloc, bytes) {
         Ok(Envelope::Answer(answer)) => put_answer(text, &answer),
-        Ok(Envelope::Recall(recall)) => {
-            begin(text, "recall")?;
-            put_number(text, "c", u64::from(recall.client))
-        }
+        Ok(Envelope::Recall(recall)) => put_recall(text, recall.client),
         Ok(Envelope::OrderAnswer(answer)) => put_result(text, answer),
         _ => begin(text, "unreadable"),
     }
 }
 
-/// A message that the server sends. A command is one more that a drive is to answer.
+// A command is one more that a drive is to answer.
+fn put_question(
+    text: &mut Bytes,
+    questions: &mut Questions,
+    drive: u32,
+    command: &Command,
+) -> Result<(), Memory> {
+    questions.push(Question {
+        drive,
+        action: command.action.number(),
+        object: command.object,
+        nonce: command.nonce,
+    })?;
+    put_command(text, drive, command)
+}
+
+/// A message that the server sends.
 pub fn put_sent(
     alloc: Global,
     text: &mut Bytes,
@@ -164,14 +182,8 @@ pub fn put_sent(
     let Node::Drive(drive) = sent.to else {
         return put_envelope(alloc, text, sent.bytes.as_slice());
     };
-    let Ok(command) = read_command(alloc, sent.bytes.as_slice()) else {
-        return begin(text, "unreadable");
-    };
-    questions.push(Question {
-        drive,
-        action: command.action.number(),
-        object: command.object,
-        nonce: command.nonce,
-    })?;
-    put_command(text, drive, &command)
+    match read_command(alloc, sent.bytes.as_slice()) {
+        Ok(command) => put_question(text, questions, drive, &command),
+        Err(_) => begin(text, "unreadable"),
+    }
 }

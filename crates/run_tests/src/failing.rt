@@ -1,8 +1,7 @@
-use crate::runs::{ended, ends};
-use osd_bytes::{Bytes, Memory};
+use crate::runs::{copied, ended, ends, is_end};
+use osd_bytes::Bytes;
 use osd_replay::{Quantity, ScenarioKind, Status};
 use std::alloc::Global;
-use std::test::Fail;
 
 // The calls of the source and of the sink that fail, how the run ends, and what it has written.
 type Failure = (&'static [u32], &'static [u32], Status, &'static [u8]);
@@ -26,82 +25,88 @@ const OF_CHECK: &[Failure] = &[
     (&[], &[0], Status::WriteFault, b""),
 ];
 
-fn failure_is(alloc: Global, words: &[&str], input: &[u8], case: &Failure) -> Result<bool, Memory> {
+const OF_GENERATE: &Failure = &(&[], &[0], Status::WriteFault, b"");
+
+fn failure_is(alloc: Global, words: &[&str], input: &[u8], case: &Failure) -> bool {
     let (reads, writes, status, output) = *case;
-    let came = ended(alloc, words, Bytes::copied(alloc, input)?, reads, writes)?;
-    Ok(came.status == status && came.sink.bytes() == output)
+    let came = ended(alloc, words, copied(alloc, input), reads, writes);
+    is_end(came, status, output)
 }
 
 #[test]
-fn a_source_or_a_sink_that_fails(rt: HostRuntime) -> Result<(), Fail> {
+fn a_source_or_a_sink_that_fails(rt: HostRuntime) {
     for case in OF_REPLAY {
-        assert!(rt; failure_is(rt.alloc(), &["replay"], b"client c0\n", case)?);
+        assert!(rt; failure_is(rt.alloc(), &["replay"], b"client c0\n", case));
     }
     for case in OF_CHECK {
-        assert!(rt; failure_is(rt.alloc(), &["check", "map"], b"00\n", case)?);
+        assert!(rt; failure_is(rt.alloc(), &["check", "map"], b"00\n", case));
     }
-    let generate = ["generate", "0", "0"];
-    let case: Failure = (&[], &[0], Status::WriteFault, b"");
-    assert!(rt; failure_is(rt.alloc(), &generate, b"", &case)?);
-    Ok(())
+    assert!(rt; failure_is(rt.alloc(), &["generate", "0", "0"], b"", OF_GENERATE));
 }
 
+const EXIT_CODES: &[(Status, u8)] = &[
+    (Status::Done, 0),
+    (Status::BadWords, 2),
+    (BAD_FIRST, 3),
+    (Status::ReadFault, 4),
+    (Status::WriteFault, 5),
+    (Status::Memory, 6),
+    (
+        Status::Full {
+            quantity: Quantity::Kept,
+        },
+        7,
+    ),
+];
+
 #[test]
-fn exit_statuses(rt: HostRuntime) -> Result<(), Fail> {
-    let line = 1;
-    let kind = ScenarioKind::BadHex;
-    let quantity = Quantity::Kept;
-    assert!(rt; Status::Done.exit_code() == 0);
-    assert!(rt; Status::BadWords.exit_code() == 2);
-    assert!(rt; Status::BadScenario { line, kind }.exit_code() == 3);
-    assert!(rt; Status::ReadFault.exit_code() == 4);
-    assert!(rt; Status::WriteFault.exit_code() == 5);
-    assert!(rt; Status::Memory.exit_code() == 6);
-    assert!(rt; Status::Full { quantity }.exit_code() == 7);
-    Ok(())
+fn exit_statuses(rt: HostRuntime) {
+    for (status, code) in EXIT_CODES {
+        assert!(rt; status.exit_code() == *code);
+    }
 }
 
 /// A comment of so many bytes.
-pub fn comment(alloc: Global, length: u32) -> Result<Bytes, Memory> {
+pub fn comment(alloc: Global, length: u32) -> Bytes {
     let mut line = Bytes::new(alloc);
-    for _ in 0..length {
-        line.push(b'#')?;
-    }
-    Ok(line)
+    let _ = line.grow(length as usize);
+    line.as_mut_slice().fill(b'#');
+    line
 }
 
-// Whether an input of one line of so many bytes ends with this status and has written this.
-fn ends_long(
-    alloc: Global,
-    words: &[&str],
-    length: u32,
-    status: Status,
-    output: &[u8],
-) -> Result<bool, Memory> {
-    let came = ended(alloc, words, comment(alloc, length)?, &[], &[])?;
-    Ok(came.status == status && came.sink.bytes() == output)
+// The words, how many bytes the one line of the input has, how the run ends, and what it has written.
+type Long = (&'static [&'static str], u32, Status, &'static [u8]);
+
+const BAD_FIRST: Status = Status::BadScenario {
+    line: 1,
+    kind: ScenarioKind::BadHex,
+};
+
+const FULL: Status = Status::Full {
+    quantity: Quantity::Line,
+};
+
+const LONG: &[Long] = &[
+    (
+        &["replay"],
+        600_000,
+        Status::Done,
+        b"calm yes unguessed yes\n",
+    ),
+    (&["replay"], 600_001, FULL, b"error 1 full line\n"),
+    (&["check", "map"], 600_000, BAD_FIRST, b"error 1 BadHex\n"),
+    (&["check", "map"], 600_001, FULL, b"error 1 full line\n"),
+];
+
+fn ends_long(alloc: Global, case: &Long) -> bool {
+    let (words, length, status, output) = *case;
+    let came = ended(alloc, words, comment(alloc, length), &[], &[]);
+    is_end(came, status, output)
 }
 
 #[test]
-fn a_line_that_passes_its_limit(rt: HostRuntime) -> Result<(), Fail> {
-    let quantity = Quantity::Line;
-    let full = Status::Full { quantity };
-    let replayed: [(u32, Status, &[u8]); 2] = [
-        (600_000, Status::Done, b"calm yes unguessed yes\n"),
-        (600_001, full, b"error 1 full line\n"),
-    ];
-    for (length, status, output) in replayed {
-        assert!(rt; ends_long(rt.alloc(), &["replay"], length, status, output)?);
+fn a_line_that_passes_its_limit(rt: HostRuntime) {
+    for case in LONG {
+        assert!(rt; ends_long(rt.alloc(), case));
     }
-    let line = 1;
-    let kind = ScenarioKind::BadHex;
-    let refused = Status::BadScenario { line, kind };
-    let checked: [(u32, Status, &[u8]); 2] = [
-        (600_000, refused, b"error 1 BadHex\n"),
-        (600_001, full, b"error 1 full line\n"),
-    ];
-    for (length, status, output) in checked {
-        assert!(rt; ends_long(rt.alloc(), &["check", "map"], length, status, output)?);
-    }
-    Ok(())
 }

@@ -1,6 +1,5 @@
-use crate::runs::{Case, first_wrong};
+use crate::runs::{Case, play};
 use crate::settings::{ONE_DRIVE, RAID_5, SINGLE, STRIPED, THREE_DRIVES};
-use std::test::Fail;
 
 // A write over the first unit that reached one of its two drives when its writer stopped.
 const HALF_WRITTEN: &str = "call c0 write f0 0 ff\n\
@@ -193,15 +192,11 @@ const ENDED: &[Case] = &[
 ];
 
 #[test]
-fn unfinished_writes(rt: HostRuntime) -> Result<(), Fail> {
-    let wrong = first_wrong(rt.alloc(), TORN)?;
-    assert!(rt; wrong.is_none(), "{wrong:?}");
-    Ok(())
+fn unfinished_writes(rt: HostRuntime) {
+    play(&rt, rt.alloc(), TORN);
 }
 
 #[test]
-fn grants_that_end(rt: HostRuntime) -> Result<(), Fail> {
-    let wrong = first_wrong(rt.alloc(), ENDED)?;
-    assert!(rt; wrong.is_none(), "{wrong:?}");
-    Ok(())
+fn grants_that_end(rt: HostRuntime) {
+    play(&rt, rt.alloc(), ENDED);
 }

@@ -1,6 +1,5 @@
-use crate::runs::{Case, first_wrong};
+use crate::runs::{Case, play};
 use crate::settings::{ONE_DRIVE, SINGLE};
-use std::test::Fail;
 
 const CASES: &[Case] = &[
     (
@@ -48,8 +47,6 @@ const CASES: &[Case] = &[
 ];
 
 #[test]
-fn files_move_to_the_second_format(rt: HostRuntime) -> Result<(), Fail> {
-    let wrong = first_wrong(rt.alloc(), CASES)?;
-    assert!(rt; wrong.is_none(), "{wrong:?}");
-    Ok(())
+fn files_move_to_the_second_format(rt: HostRuntime) {
+    play(&rt, rt.alloc(), CASES);
 }

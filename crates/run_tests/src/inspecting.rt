@@ -1,6 +1,5 @@
 use crate::runs::ends;
 use osd_replay::{ScenarioKind, Status};
-use std::test::Fail;
 
 // The words, the input, how the run ends, and the output.
 type Inspected = (
@@ -88,9 +87,8 @@ const CASES: &[Inspected] = &[
 ];
 
 #[test]
-fn structures_checked_and_shown(rt: HostRuntime) -> Result<(), Fail> {
+fn structures_checked_and_shown(rt: HostRuntime) {
     for (words, input, status, output) in CASES {
-        assert!(rt; ends(rt.alloc(), words, input, *status, output)?);
+        assert!(rt; ends(rt.alloc(), words, input, *status, output));
     }
-    Ok(())
 }

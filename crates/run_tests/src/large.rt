@@ -1,10 +1,9 @@
 // Calls of 262,144 bytes, the most that one has.
 use crate::runs::{Outcome, ended, ended_by_number, put_text, shows};
 use crate::settings::{THREE_DRIVES, TWO_MORE};
-use osd_bytes::{Bytes, Memory};
+use osd_bytes::Bytes;
 use osd_replay::Status;
 use std::alloc::Global;
-use std::test::Fail;
 
 // A part of a scenario or of what it shows.
 enum Part {
@@ -17,37 +16,35 @@ enum Part {
 const MOST: u32 = 262_144;
 
 // Puts the text so many times.
-fn put_times(bytes: &mut Bytes, text: &str, count: u32) -> Result<(), Memory> {
+fn put_times(bytes: &mut Bytes, text: &str, count: u32) {
     for _ in 0..count {
-        put_text(bytes, text)?;
+        put_text(bytes, text);
     }
-    Ok(())
 }
 
-fn put_part(bytes: &mut Bytes, part: &Part) -> Result<(), Memory> {
+fn put_part(bytes: &mut Bytes, part: &Part) {
     match part {
         Part::Text(text) => put_text(bytes, text),
         Part::Times(text, count) => put_times(bytes, text, *count),
     }
 }
 
-fn put_parts(bytes: &mut Bytes, parts: &[Part]) -> Result<(), Memory> {
+fn put_parts(bytes: &mut Bytes, parts: &[Part]) {
     for part in parts {
-        put_part(bytes, part)?;
+        put_part(bytes, part);
     }
-    Ok(())
 }
 
-fn text_of(alloc: Global, parts: &[Part]) -> Result<Bytes, Memory> {
+fn text_of(alloc: Global, parts: &[Part]) -> Bytes {
     let mut bytes = Bytes::new(alloc);
-    put_parts(&mut bytes, parts)?;
-    Ok(bytes)
+    put_parts(&mut bytes, parts);
+    bytes
 }
 
 // Whether a run is done, and its transcript shows these lines.
-fn is_shown(alloc: Global, came: &Outcome, shown: &[Part]) -> Result<bool, Memory> {
-    let wanted = text_of(alloc, shown)?;
-    Ok(came.status == Status::Done && shows(came.sink.bytes(), wanted.as_slice()))
+fn is_shown(alloc: Global, came: &Outcome, shown: &[Part]) -> bool {
+    let wanted = text_of(alloc, shown);
+    came.status == Status::Done && shows(came.sink.bytes(), wanted.as_slice())
 }
 
 const LIMITS: &[Part] = &[
@@ -68,15 +65,14 @@ const LIMITS_SHOWN: &[Part] = &[Part::Text(
      calm yes unguessed yes\n",
 )];
 
-fn limits_hold(alloc: Global) -> Result<bool, Memory> {
-    let came = ended(alloc, &["replay"], text_of(alloc, LIMITS)?, &[], &[])?;
+fn limits_hold(alloc: Global) -> bool {
+    let came = ended(alloc, &["replay"], text_of(alloc, LIMITS), &[], &[]);
     is_shown(alloc, &came, LIMITS_SHOWN)
 }
 
 #[test]
-fn the_limits_of_a_call(rt: HostRuntime) -> Result<(), Fail> {
-    assert!(rt; limits_hold(rt.alloc())?);
-    Ok(())
+fn the_limits_of_a_call(rt: HostRuntime) {
+    assert!(rt; limits_hold(rt.alloc()));
 }
 
 // Four stripes are written and read, a drive is lost, and its component is made anew on another one.
@@ -137,13 +133,13 @@ const REBUILT_SHOWN: &[Part] = &[
 ];
 
 // The drives and clients, these events, and then the others.
-fn rebuilding(alloc: Global, first: &str) -> Result<Bytes, Memory> {
+fn rebuilding(alloc: Global, first: &str) -> Bytes {
     let mut input = Bytes::new(alloc);
-    put_text(&mut input, THREE_DRIVES)?;
-    put_text(&mut input, TWO_MORE)?;
-    put_text(&mut input, first)?;
-    put_parts(&mut input, REBUILT)?;
-    Ok(input)
+    put_text(&mut input, THREE_DRIVES);
+    put_text(&mut input, TWO_MORE);
+    put_text(&mut input, first);
+    put_parts(&mut input, REBUILT);
+    input
 }
 
 // Whether a line is that of a READ that c0 sends to a drive.
@@ -164,30 +160,27 @@ fn reads_nothing(transcript: &[u8]) -> bool {
 }
 
 // Whole stripes are written without a READ.
-fn rebuilds(alloc: Global, first: &str) -> Result<bool, Memory> {
-    let came = ended(alloc, &["replay"], rebuilding(alloc, first)?, &[], &[])?;
-    Ok(is_shown(alloc, &came, REBUILT_SHOWN)? && reads_nothing(came.sink.bytes()))
+fn rebuilds(alloc: Global, first: &str) -> bool {
+    let came = ended(alloc, &["replay"], rebuilding(alloc, first), &[], &[]);
+    is_shown(alloc, &came, REBUILT_SHOWN) && reads_nothing(came.sink.bytes())
 }
 
-fn rebuilds_by_number(alloc: Global) -> Result<bool, Memory> {
-    let came = ended_by_number(alloc, rebuilding(alloc, "")?)?;
+fn rebuilds_by_number(alloc: Global) -> bool {
+    let came = ended_by_number(alloc, rebuilding(alloc, ""));
     is_shown(alloc, &came, REBUILT_SHOWN)
 }
 
 #[test]
-fn a_lost_component_is_made_anew(rt: HostRuntime) -> Result<(), Fail> {
-    assert!(rt; rebuilds(rt.alloc(), "")?);
-    Ok(())
+fn a_lost_component_is_made_anew(rt: HostRuntime) {
+    assert!(rt; rebuilds(rt.alloc(), ""));
 }
 
 #[test]
-fn the_same_in_the_second_format(rt: HostRuntime) -> Result<(), Fail> {
-    assert!(rt; rebuilds(rt.alloc(), "format s 2\n")?);
-    Ok(())
+fn the_same_in_the_second_format(rt: HostRuntime) {
+    assert!(rt; rebuilds(rt.alloc(), "format s 2\n"));
 }
 
 #[test]
-fn the_same_by_another_rule_of_placing(rt: HostRuntime) -> Result<(), Fail> {
-    assert!(rt; rebuilds_by_number(rt.alloc())?);
-    Ok(())
+fn the_same_by_another_rule_of_placing(rt: HostRuntime) {
+    assert!(rt; rebuilds_by_number(rt.alloc()));
 }

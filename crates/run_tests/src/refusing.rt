@@ -1,10 +1,8 @@
 use crate::runs::ends;
 use layout_world::WorldErr;
-use osd_bytes::Memory;
 use osd_replay::{ScenarioKind, Status};
 use scenario_text::EventErr;
 use std::alloc::Global;
-use std::test::Fail;
 
 // An input, the line that is refused, why, and the output.
 type Refusal = (&'static [u8], u64, ScenarioKind, &'static [u8]);
@@ -99,7 +97,7 @@ const OF_STATES: &[Refusal] = &[
     ),
 ];
 
-fn refusal_is(alloc: Global, case: &Refusal) -> Result<bool, Memory> {
+fn refusal_is(alloc: Global, case: &Refusal) -> bool {
     let (input, line, kind, output) = *case;
     ends(
         alloc,
@@ -111,39 +109,37 @@ fn refusal_is(alloc: Global, case: &Refusal) -> Result<bool, Memory> {
 }
 
 #[test]
-fn lines_without_an_event(rt: HostRuntime) -> Result<(), Fail> {
+fn lines_without_an_event(rt: HostRuntime) {
     for case in OF_WORDS {
-        assert!(rt; refusal_is(rt.alloc(), case)?);
+        assert!(rt; refusal_is(rt.alloc(), case));
     }
-    Ok(())
 }
 
 #[test]
-fn events_that_the_state_does_not_allow(rt: HostRuntime) -> Result<(), Fail> {
+fn events_that_the_state_does_not_allow(rt: HostRuntime) {
     for case in OF_STATES {
-        assert!(rt; refusal_is(rt.alloc(), case)?);
+        assert!(rt; refusal_is(rt.alloc(), case));
     }
-    Ok(())
 }
 
+const SHORT: &[(&[u8], &[u8])] = &[
+    (b"", b"calm yes unguessed yes\n"),
+    (b"client c0", b"= client c0\ncalm yes unguessed yes\n"),
+    (
+        b"# a comment\n\nclient c0\n",
+        b"= client c0\ncalm yes unguessed yes\n",
+    ),
+    (
+        b"client c0\nsettle\n",
+        b"= client c0\n= settle\ncalm yes unguessed yes\n",
+    ),
+];
+
 #[test]
-fn short_scenarios(rt: HostRuntime) -> Result<(), Fail> {
-    let table: [(&[u8], &[u8]); 4] = [
-        (b"", b"calm yes unguessed yes\n"),
-        (b"client c0", b"= client c0\ncalm yes unguessed yes\n"),
-        (
-            b"# a comment\n\nclient c0\n",
-            b"= client c0\ncalm yes unguessed yes\n",
-        ),
-        (
-            b"client c0\nsettle\n",
-            b"= client c0\n= settle\ncalm yes unguessed yes\n",
-        ),
-    ];
-    for (scenario, transcript) in table {
-        assert!(rt; ends(rt.alloc(), &["replay"], scenario, Status::Done, transcript)?);
+fn short_scenarios(rt: HostRuntime) {
+    for (scenario, transcript) in SHORT {
+        assert!(rt; ends(rt.alloc(), &["replay"], scenario, Status::Done, transcript));
     }
-    Ok(())
 }
 
 const NO_COMMANDS: &[&[&str]] = &[
@@ -165,10 +161,9 @@ const NO_COMMANDS: &[&[&str]] = &[
 ];
 
 #[test]
-fn words_that_name_no_command(rt: HostRuntime) -> Result<(), Fail> {
+fn words_that_name_no_command(rt: HostRuntime) {
     for words in NO_COMMANDS {
         let output = b"error words\n";
-        assert!(rt; ends(rt.alloc(), words, b"client c0\n", Status::BadWords, output)?);
+        assert!(rt; ends(rt.alloc(), words, b"client c0\n", Status::BadWords, output));
     }
-    Ok(())
 }

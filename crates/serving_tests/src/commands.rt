@@ -2,14 +2,16 @@
 ghost use Rattle.std.specs.Result.{ForOk};
 ghost use Rattle.stripe_repair.specs.Placing.{CanPlace, Places};
 
-use crate::messages::{Came, Told, framed, stream, went_out};
+use crate::messages::{Came, Told, copied, framed, numbers, streams, went_out};
 use cluster_input::CommandStop;
 use cluster_text::ClusterKind;
-use osd_bytes::{ByteLists, Bytes, MemClock, MemLinks, MemSink, MemSource, Memory, Numbers, Times};
+use osd_bytes::{
+    ByteLists, Bytes, Clock, Links, MemClock, MemLinks, MemSink, MemSource, Memory, Numbers, Sink,
+    Source, Times,
+};
 use osd_commands::{Reply, write_reply};
 use server_command::server_command;
 use std::alloc::Global;
-use std::test::Fail;
 use stripe_repair::{DriveLoad, Placer};
 
 // What the text of the cluster says, what comes on each connection to the drive and on each that is accepted, which
@@ -126,8 +128,15 @@ const CASES: &[Case] = &[
     },
 ];
 
-// The frame of the reply to a CREATE that was performed.
-fn performed(alloc: Global, nonce: u64) -> Result<Bytes, Memory> {
+fn reply_bytes(alloc: Global, reply: &Reply) -> Bytes {
+    match write_reply(alloc, reply) {
+        Ok(bytes) => bytes,
+        Err(_) => Bytes::new(alloc),
+    }
+}
+
+// The reply to a CREATE that was performed.
+fn reply(alloc: Global, nonce: u64) -> Bytes {
     let reply = Reply {
         action: 1,
         verdict: 0,
@@ -136,20 +145,21 @@ fn performed(alloc: Global, nonce: u64) -> Result<Bytes, Memory> {
         detail: 0,
         payload: Bytes::new(alloc),
     };
-    framed(alloc, write_reply(alloc, &reply)?.as_slice())
+    reply_bytes(alloc, &reply)
 }
 
-fn links(alloc: Global, case: &Case) -> Result<MemLinks, Memory> {
-    let mut accepted = ByteLists::new(alloc);
-    for comes in case.comes {
-        accepted.push(stream(alloc, comes)?)?;
+// Its frame.
+fn performed(alloc: Global, nonce: u64) -> Bytes {
+    let reply = reply(alloc, nonce);
+    framed(alloc, reply.as_slice())
+}
+
+fn all_performed(alloc: Global, nonces: &[u64]) -> ByteLists {
+    let mut replies = ByteLists::new(alloc);
+    for nonce in nonces {
+        let _ = replies.push(performed(alloc, *nonce));
     }
-    let mut asked = ByteLists::new(alloc);
-    for nonce in case.performs {
-        asked.push(performed(alloc, *nonce)?)?;
-    }
-    let fails = Numbers::copied(alloc, case.fails)?;
-    Ok(MemLinks::new(alloc, accepted, asked, fails))
+    replies
 }
 
 // The one drive, where one is asked for.
@@ -162,32 +172,49 @@ fn only_drive(alloc: Global, count: u32, loads: &[DriveLoad]) -> Result<Numbers,
     }
 }
 
-// Runs the command, and gives what it told and why it stopped.
-fn run(
+// Why the command stops, if it does.
+fn stop_of<S: Source, K: Sink, L: Links, C: Clock>(
     alloc: Global,
-    case: &Case,
-    links: &mut MemLinks,
-) -> Result<(Bytes, Option<CommandStop>), Memory> {
-    let text = Bytes::copied(alloc, case.text.as_bytes())?;
-    let mut source = MemSource::new(text, Numbers::new(alloc));
-    let mut sink = MemSink::new(alloc, Numbers::new(alloc));
-    let mut clock = MemClock::new(Times::copied(alloc, &[5])?);
+    connections: u32,
+    source: &mut S,
+    sink: &mut K,
+    links: &mut L,
+    clock: &mut C,
+) -> Option<CommandStop> {
     let placer = Placer::new(
         |count: u32, loads: &[DriveLoad]| -> Result<Numbers, Memory>
             requires { CanPlace count loads.now }
             ensures { ForOk result (Places count loads.now) }
         { only_drive(alloc, count, loads) },
     );
-    let served = server_command(
+    server_command(alloc, connections, source, sink, links, clock, &placer).err()
+}
+
+// The same of a case, with a clock that tells 5.
+fn stop<K: Sink, L: Links>(
+    alloc: Global,
+    case: &Case,
+    sink: &mut K,
+    links: &mut L,
+) -> Option<CommandStop> {
+    let text = copied(alloc, case.text.as_bytes());
+    let mut source = MemSource::new(text, Numbers::new(alloc));
+    let mut clock = MemClock::new(times(alloc));
+    stop_of(
         alloc,
         case.connections,
         &mut source,
-        &mut sink,
+        sink,
         links,
         &mut clock,
-        &placer,
-    );
-    Ok((Bytes::copied(alloc, sink.bytes())?, served.err()))
+    )
+}
+
+fn times(alloc: Global) -> Times {
+    match Times::copied(alloc, &[5]) {
+        Ok(times) => times,
+        Err(_) => Times::new(alloc),
+    }
 }
 
 // The format of the capability in the first command that went out, behind four bytes of a frame and 64 of the command.
@@ -198,22 +225,28 @@ fn first_format(links: &MemLinks) -> Option<u8> {
     links.sent_on(0).get(68).copied()
 }
 
-fn goes_as_it_says(alloc: Global, case: &Case) -> Result<bool, Memory> {
-    let mut ends = links(alloc, case)?;
-    let (told, stop) = run(alloc, case, &mut ends)?;
-    Ok(
-        told.as_slice() == case.told.as_bytes()
-            && stop == case.stop
-            && ends.asked_count() == case.asked
-            && first_format(&ends) == case.format
-            && went_out(alloc, &ends, case.put),
-    )
+fn goes_over(alloc: Global, case: &Case, sink: &mut MemSink, links: &mut MemLinks) -> bool {
+    stop(alloc, case, sink, links) == case.stop
+        && sink.bytes() == case.told.as_bytes()
+        && links.asked_count() == case.asked
+        && first_format(links) == case.format
+        && went_out(alloc, links, case.put)
+}
+
+fn goes_as_it_says(alloc: Global, case: &Case) -> bool {
+    let mut links = MemLinks::new(
+        alloc,
+        streams(alloc, case.comes),
+        all_performed(alloc, case.performs),
+        numbers(alloc, case.fails),
+    );
+    let mut sink = MemSink::new(alloc, Numbers::new(alloc));
+    goes_over(alloc, case, &mut sink, &mut links)
 }
 
 #[test]
-fn a_server_makes_its_files_and_serves(rt: HostRuntime) -> Result<(), Fail> {
+fn a_server_makes_its_files_and_serves(rt: HostRuntime) {
     for case in CASES.iter() {
-        assert!(rt; goes_as_it_says(rt.alloc(), case)?, "{}", case.name);
+        assert!(rt; goes_as_it_says(rt.alloc(), case), "{}", case.name);
     }
-    Ok(())
 }

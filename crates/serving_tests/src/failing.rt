@@ -1,10 +1,10 @@
 // A row of calls of two clients of a server and a drive, in which each call of links, of whichever party, fails in turn.
 use crate::live::LiveLinks;
-use crate::parties::server_with_a_file;
+use crate::messages::copied;
+use crate::parties::{ServerEnd, server_with_a_file};
 use client_exchanges::{DealErr, Notice, Notices, deal};
 use osd_bytes::{Bytes, Links};
 use std::alloc::Global;
-use std::test::Fail;
 use stripe_client::{CStep, CallOp, ClientCore, Outcome, Sends};
 
 // The row writes AB, reads it, writes CD and reads that. A call is an exchange with the server for its grant, one with the
@@ -18,73 +18,79 @@ const CALLS_OF_EXCHANGE: u32 = 7;
 // Which exchanges are those with the drive.
 const WITH_DRIVE: [u32; 4] = [1, 5, 8, 11];
 
-// How a call ended.
-#[derive(Drop)]
-enum End {
-    Wrote,
-    Read(Bytes),
-    /// A command to the drive wasn't answered.
-    Unanswered,
-}
-
 // What the file may have now, and how many calls the drive didn't answer.
-#[derive(Drop)]
+#[derive(Clone, Copy, Drop)]
 struct Content {
     old: &'static [u8],
     new: &'static [u8],
     unanswered: u32,
 }
 
-impl Content {
-    // Whether a call may end so: an unanswered write leaves the old bytes or the new ones, and a read decides.
-    fn takes(&mut self, writes: Option<&'static [u8]>, end: &End) -> bool {
-        match (writes, end) {
-            (Some(bytes), End::Wrote) => {
-                self.old = bytes;
-                self.new = bytes;
-                true
-            }
-            (Some(bytes), End::Unanswered) => {
-                self.new = bytes;
-                self.unanswered = self.unanswered.saturating_add(1);
-                true
-            }
-            (None, End::Read(bytes)) if bytes.as_slice() == self.new => {
-                self.old = self.new;
-                true
-            }
-            (None, End::Read(bytes)) => {
-                self.new = self.old;
-                bytes.as_slice() == self.old
-            }
-            (None, End::Unanswered) => {
-                self.unanswered = self.unanswered.saturating_add(1);
-                true
-            }
-            _ => false,
-        }
+// Whether a command to the drive wasn't answered.
+fn is_unanswered(outcome: &Outcome) -> bool {
+    match outcome {
+        Outcome::Silent { component: 0 } => true,
+        Outcome::Lost { positions } => positions.as_slice() == [0].as_slice(),
+        _ => false,
     }
 }
 
-// How the call ended that these notices tell of, `None` where in no way that a fault of links permits.
-fn end_of(alloc: Global, notices: &Notices) -> Option<End> {
-    let mut end = None;
-    for notice in notices.as_slice() {
-        if let Notice::Ended { outcome } = notice {
-            end = match outcome {
-                Outcome::WriteOk { length: 2 } => Some(End::Wrote),
-                Outcome::ReadOk { bytes } => {
-                    Some(End::Read(Bytes::copied(alloc, bytes.as_slice()).ok()?))
-                }
-                Outcome::Silent { component: 0 } => Some(End::Unanswered),
-                Outcome::Lost { positions } if positions.as_slice() == [0].as_slice() => Some(
-                    End::Unanswered,
-                ),
-                _ => return None,
-            };
+impl Content {
+    fn counts_unanswered(&mut self, outcome: &Outcome) -> bool {
+        self.unanswered = self.unanswered.saturating_add(1);
+        is_unanswered(outcome)
+    }
+
+    // An unanswered write leaves the old bytes or the new ones.
+    fn takes_write(&mut self, bytes: &'static [u8], outcome: &Outcome) -> bool {
+        self.new = bytes;
+        match outcome {
+            Outcome::WriteOk { length: 2 } => {
+                self.old = bytes;
+                true
+            }
+            _ => self.counts_unanswered(outcome),
         }
     }
-    end
+
+    // A read decides which.
+    fn decides(&mut self, bytes: &[u8]) -> bool {
+        if bytes == self.new {
+            self.old = self.new;
+        } else {
+            self.new = self.old;
+        }
+        bytes == self.new
+    }
+
+    fn takes_read(&mut self, outcome: &Outcome) -> bool {
+        match outcome {
+            Outcome::ReadOk { bytes } => self.decides(bytes.as_slice()),
+            _ => self.counts_unanswered(outcome),
+        }
+    }
+
+    // Whether a call may end so.
+    fn takes(&mut self, writes: Option<&'static [u8]>, outcome: &Outcome) -> bool {
+        match writes {
+            Some(bytes) => self.takes_write(bytes, outcome),
+            None => self.takes_read(outcome),
+        }
+    }
+
+    // Whether these notices tell of one call that ended so.
+    fn follows(&mut self, writes: Option<&'static [u8]>, notices: &[Notice]) -> bool {
+        let mut has_ended = false;
+        for notice in notices {
+            if let Notice::Ended { outcome } = notice {
+                if has_ended || !self.takes(writes, outcome) {
+                    return false;
+                }
+                has_ended = true;
+            }
+        }
+        has_ended
+    }
 }
 
 // Sends these messages of a client and what they bring, and once more what the server didn't answer. Whether all were
@@ -106,18 +112,16 @@ fn is_dealt<L: Links>(
     }
 }
 
-fn call<L: Links>(
+fn is_called<L: Links>(
     alloc: Global,
     client: &mut ClientCore,
     links: &mut L,
     op: CallOp,
-) -> Option<End> {
-    let mut notices = Notices::new(alloc);
-    let CStep { sends, .. } = client.call(op).ok()?;
-    if is_dealt(alloc, client, links, sends, &mut notices) {
-        end_of(alloc, &notices)
-    } else {
-        None
+    notices: &mut Notices,
+) -> bool {
+    match client.call(op) {
+        Ok(CStep { sends, .. }) => is_dealt(alloc, client, links, sends, notices),
+        Err(_) => false,
     }
 }
 
@@ -134,18 +138,18 @@ fn leaves<L: Links>(alloc: Global, client: &mut ClientCore, links: &mut L) -> bo
 }
 
 // The call that writes these bytes at 0, or reads the file.
-fn op_of(alloc: Global, writes: Option<&[u8]>) -> Option<CallOp> {
+fn op_of(alloc: Global, writes: Option<&[u8]>) -> CallOp {
     match writes {
-        Some(bytes) => Some(CallOp::Write {
+        Some(bytes) => CallOp::Write {
             file: 0,
             offset: 0,
-            bytes: Bytes::copied(alloc, bytes).ok()?,
-        }),
-        None => Some(CallOp::Read {
+            bytes: copied(alloc, bytes),
+        },
+        None => CallOp::Read {
             file: 0,
             offset: 0,
             length: 9,
-        }),
+        },
     }
 }
 
@@ -157,13 +161,24 @@ fn goes<L: Links>(
     writes: Option<&'static [u8]>,
     content: &mut Content,
 ) -> bool {
-    let Some(op) = op_of(alloc, writes) else {
-        return false;
-    };
-    match call(alloc, client, links, op) {
-        Some(end) => content.takes(writes, &end) && leaves(alloc, client, links),
-        None => false,
-    }
+    let mut notices = Notices::new(alloc);
+    is_called(alloc, client, links, op_of(alloc, writes), &mut notices)
+        && content.follows(writes, notices.as_slice())
+        && leaves(alloc, client, links)
+}
+
+// Whether the row goes as it may.
+fn row_goes<L: Links>(
+    alloc: Global,
+    writer: &mut ClientCore,
+    reader: &mut ClientCore,
+    links: &mut L,
+    content: &mut Content,
+) -> bool {
+    goes(alloc, writer, links, Some(b"AB"), content)
+        && goes(alloc, reader, links, None, content)
+        && goes(alloc, writer, links, Some(b"CD"), content)
+        && goes(alloc, reader, links, None, content)
 }
 
 // How many calls of the row the drive didn't answer, `None` where one went as it may not.
@@ -175,20 +190,23 @@ fn unanswered_calls<L: Links>(alloc: Global, links: &mut L) -> Option<u32> {
         new: b"",
         unanswered: 0,
     };
-    let went = goes(alloc, &mut writer, links, Some(b"AB"), &mut content)
-        && goes(alloc, &mut reader, links, None, &mut content)
-        && goes(alloc, &mut writer, links, Some(b"CD"), &mut content)
-        && goes(alloc, &mut reader, links, None, &mut content);
-    went.then_some(content.unanswered)
+    let went = row_goes(alloc, &mut writer, &mut reader, links, &mut content);
+    if went { Some(content.unanswered) } else { None }
 }
 
-// How many calls of the row the drive didn't answer, and how many calls of links it made, where the one of that number
-// fails.
-fn played(alloc: Global, failing: u32) -> Option<(u32, u32)> {
-    let server = server_with_a_file(alloc, failing)?;
+// The same over the links of a server, with how many calls of links were made.
+fn played_with(alloc: Global, server: ServerEnd) -> (Option<u32>, u32) {
     let mut links = LiveLinks::new(alloc, server, Bytes::new(alloc));
-    let unanswered = unanswered_calls(alloc, &mut links)?;
-    Some((unanswered, links.peer().calls()))
+    let unanswered = unanswered_calls(alloc, &mut links);
+    (unanswered, links.peer().calls())
+}
+
+// The same where the call of links of that number fails.
+fn played(alloc: Global, failing: u32) -> (Option<u32>, u32) {
+    match server_with_a_file(alloc, failing) {
+        Some(server) => played_with(alloc, server),
+        None => (None, 0),
+    }
 }
 
 // Whether the drive doesn't answer where that call of links fails: one of an exchange with it, but for the last, by which
@@ -199,17 +217,13 @@ fn keeps_answer(failing: u32) -> bool {
 }
 
 #[test]
-fn each_call_of_links_fails_in_turn(rt: HostRuntime) -> Result<(), Fail> {
-    assert!(rt; played(rt.alloc(), u32::MAX) == Some((0, CALLS)));
+fn each_call_of_links_fails_in_turn(rt: HostRuntime) {
+    assert!(rt; played(rt.alloc(), u32::MAX) == (Some(0), CALLS));
     for failing in 0..CALLS {
-        let unanswered = match played(rt.alloc(), failing) {
-            Some((unanswered, _)) => Some(unanswered),
-            None => None,
-        };
+        let (unanswered, _) = played(rt.alloc(), failing);
         assert!(rt;
             unanswered == Some(u32::from(keeps_answer(failing))),
             "call {failing}"
         );
     }
-    Ok(())
 }

@@ -1,11 +1,11 @@
 // What comes to the server on a connection, and what goes out on one.
-ghost use Rattle.layout_ops.specs.Spelling.{ArgsWritable};
+ghost use Rattle.layout_ops.specs.Spelling.{ArgsWritable, EnvelopeWritable};
 
 use layout_ops::{
     Args, Envelope, LayoutGetArgs, Order, OrderKind, Request, StateId, read_envelope,
     write_envelope,
 };
-use osd_bytes::{Bytes, MAX_RECORD, MemLinks, Memory, Records, frame};
+use osd_bytes::{ByteLists, Bytes, MAX_RECORD, MemLinks, Numbers, Records, frame};
 use std::alloc::Global;
 
 /// What comes to the server.
@@ -39,41 +39,89 @@ fn get_args() -> Args
     })
 }
 
-fn bytes_of(alloc: Global, came: Came) -> Result<Bytes, Memory> {
-    match came {
-        Came::Asks(client, sequence) => {
-            let request = Request {
-                client,
-                sequence,
-                file: 0,
-                args: get_args(),
-            };
-            write_envelope(alloc, &Envelope::Request(request))
-        }
-        Came::Revokes(target) => {
-            let order = OrderKind::Revoke;
-            write_envelope(alloc, &Envelope::Order(Order { order, target }))
-        }
-        Came::Noise => Bytes::copied(alloc, b"no message"),
+/// The bytes, or none where memory is short.
+pub fn copied(alloc: Global, bytes: &[u8]) -> Bytes {
+    match Bytes::copied(alloc, bytes) {
+        Ok(bytes) => bytes,
+        Err(_) => Bytes::new(alloc),
     }
 }
 
-/// The frame of a message, of one that isn't longer than a record may be.
-pub fn framed(alloc: Global, message: &[u8]) -> Result<Bytes, Memory> {
-    if message.len() > MAX_RECORD {
-        return Err(Memory);
+/// The numbers, or none where memory is short.
+pub fn numbers(alloc: Global, numbers: &[u32]) -> Numbers {
+    match Numbers::copied(alloc, numbers) {
+        Ok(numbers) => numbers,
+        Err(_) => Numbers::new(alloc),
     }
-    frame(alloc, message)
+}
+
+fn spelled(alloc: Global, envelope: &Envelope) -> Bytes
+    requires { EnvelopeWritable envelope.now }
+{
+    match write_envelope(alloc, envelope) {
+        Ok(bytes) => bytes,
+        Err(_) => Bytes::new(alloc),
+    }
+}
+
+fn request(alloc: Global, client: u32, sequence: u32) -> Bytes {
+    let request = Request {
+        client,
+        sequence,
+        file: 0,
+        args: get_args(),
+    };
+    spelled(alloc, &Envelope::Request(request))
+}
+
+fn bytes_of(alloc: Global, came: Came) -> Bytes {
+    match came {
+        Came::Asks(client, sequence) => request(alloc, client, sequence),
+        Came::Revokes(target) => {
+            let order = OrderKind::Revoke;
+            spelled(alloc, &Envelope::Order(Order { order, target }))
+        }
+        Came::Noise => copied(alloc, b"no message"),
+    }
+}
+
+/// The frame of a message, and nothing where it is longer than a record may be.
+pub fn framed(alloc: Global, message: &[u8]) -> Bytes {
+    if message.len() > MAX_RECORD {
+        return Bytes::new(alloc);
+    }
+    match frame(alloc, message) {
+        Ok(framed) => framed,
+        Err(_) => Bytes::new(alloc),
+    }
+}
+
+fn add_frame(alloc: Global, bytes: &mut Bytes, message: &[u8]) {
+    let framed = framed(alloc, message);
+    let _ = bytes.extend_from_slice(framed.as_slice());
+}
+
+fn add(alloc: Global, bytes: &mut Bytes, came: Came) {
+    let message = bytes_of(alloc, came);
+    add_frame(alloc, bytes, message.as_slice());
 }
 
 /// The frames of all that comes on a connection.
-pub fn stream(alloc: Global, comes: &[Came]) -> Result<Bytes, Memory> {
+pub fn stream(alloc: Global, comes: &[Came]) -> Bytes {
     let mut bytes = Bytes::new(alloc);
     for came in comes {
-        let message = bytes_of(alloc, *came)?;
-        bytes.extend_from_slice(framed(alloc, message.as_slice())?.as_slice())?;
+        add(alloc, &mut bytes, *came);
     }
-    Ok(bytes)
+    bytes
+}
+
+/// What comes on each connection.
+pub fn streams(alloc: Global, connections: &[&[Came]]) -> ByteLists {
+    let mut streams = ByteLists::new(alloc);
+    for comes in connections {
+        let _ = streams.push(stream(alloc, comes));
+    }
+    streams
 }
 
 /// What went out: a client, the sequence number and the detail; or [`ORDER`], 0 and the order's result.
@@ -88,30 +136,42 @@ fn told_in(alloc: Global, record: &[u8]) -> Option<Told> {
     }
 }
 
-// Whether these bytes are the frames of answers that tell this, and nothing else.
-fn tells(alloc: Global, put: &[u8], told: &[Told]) -> bool {
-    let mut stream = Records::new(alloc);
-    let Ok(records) = stream.feed(put) else {
-        return false;
-    };
+// What stands behind the frame of a record.
+fn behind<'a>(alloc: Global, record: &[u8], put: &'a [u8]) -> Option<&'a [u8]> {
+    let bytes = framed(alloc, record);
+    put.strip_prefix(bytes.as_slice())
+}
+
+// What stands behind the frame of an answer that tells this, `None` where there is another.
+fn behind_told<'a>(alloc: Global, record: &[u8], put: &'a [u8], told: Told) -> Option<&'a [u8]> {
+    if told_in(alloc, record) == Some(told) {
+        behind(alloc, record, put)
+    } else {
+        None
+    }
+}
+
+fn are_told(alloc: Global, records: &ByteLists, put: &[u8], told: &[Told]) -> bool {
     if records.len() != told.len() {
         return false;
     }
     let mut rest = put;
     for i in 0..records.len() {
-        let record = records.get(i).as_slice();
-        if told_in(alloc, record) != Some(told[i]) || record.len() > MAX_RECORD {
-            return false;
-        }
-        let Ok(bytes) = frame(alloc, record) else {
-            return false;
-        };
-        match rest.strip_prefix(bytes.as_slice()) {
+        match behind_told(alloc, records.get(i).as_slice(), rest, told[i]) {
             Some(more) => rest = more,
             None => return false,
         }
     }
     rest.is_empty()
+}
+
+// Whether these bytes are the frames of answers that tell this, and nothing else.
+fn tells(alloc: Global, put: &[u8], told: &[Told]) -> bool {
+    let mut stream = Records::new(alloc);
+    match stream.feed(put) {
+        Ok(records) => are_told(alloc, &records, put, told),
+        Err(_) => false,
+    }
 }
 
 /// Whether on each connection that was accepted the frames of answers that tell this went out, and nothing else.

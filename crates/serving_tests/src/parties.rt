@@ -5,6 +5,7 @@ ghost use Rattle.stripe_repair.specs.Placing.{CanPlace, IsPlacer, Places};
 
 use crate::commands::ONE_FILE;
 use crate::live::{LiveLinks, Peer};
+use crate::messages::copied;
 use cluster_text::{Cluster, ClusterFile, Reader, read_cluster};
 use layout_server::ServerCore;
 use osd_bytes::{Bytes, Clock, Links, MemClock, Memory, Node, Numbers, Times};
@@ -52,13 +53,6 @@ pub struct ServerEnd {
     alloc: Global,
     server: ServerCore,
     drive: Option<DriveEnd>,
-}
-
-fn copied(alloc: Global, bytes: &[u8]) -> Bytes {
-    match Bytes::copied(alloc, bytes) {
-        Ok(bytes) => bytes,
-        Err(_) => Bytes::new(alloc),
-    }
 }
 
 // What a drive does with a connection.
@@ -180,19 +174,25 @@ impl Peer for ServerEnd {
     }
 }
 
-fn new_drive(alloc: Global) -> Result<DriveEnd, Memory> {
+fn keys(alloc: Global) -> KeyTable {
     let mut keys = KeyTable::new(alloc);
-    keys.push(DriveKey {
+    let _ = keys.push(DriveKey {
         version: 1,
         key: KEY,
-    })?;
+    });
+    keys
+}
+
+fn new_drive(alloc: Global) -> DriveEnd {
     let calls = Calls {
         alloc,
         made: 0,
         failing: u32::MAX,
     };
-    let drive = DriveCore::new(alloc, 0, keys, CAPACITY);
-    Ok(DriveEnd { calls, drive })
+    DriveEnd {
+        calls,
+        drive: DriveCore::new(alloc, 0, keys(alloc), CAPACITY),
+    }
 }
 
 // The drive after the server made its files on it, `None` where it didn't.
@@ -212,24 +212,40 @@ fn with_files(
     );
     let makes = server_makes(alloc, server, &mut links, &mut clock, &placer, files);
     let (drive, _) = links.into_parts();
-    makes.then_some(drive)
+    if makes { Some(drive) } else { None }
+}
+
+fn with_server(
+    alloc: Global,
+    mut server: ServerCore,
+    files: &[ClusterFile],
+    failing: u32,
+) -> Option<ServerEnd> {
+    match with_files(alloc, &mut server, new_drive(alloc), files) {
+        Some(mut drive) => {
+            drive.calls.made = 0;
+            drive.calls.failing = failing;
+            Some(ServerEnd {
+                alloc,
+                server,
+                drive: Some(drive),
+            })
+        }
+        None => None,
+    }
 }
 
 fn with_cluster(alloc: Global, cluster: &Cluster, failing: u32) -> Option<ServerEnd> {
-    let mut server = server_of(alloc, cluster).ok()?;
-    let drive = new_drive(alloc).ok()?;
-    let mut drive = with_files(alloc, &mut server, drive, cluster.files.as_slice())?;
-    drive.calls.made = 0;
-    drive.calls.failing = failing;
-    Some(ServerEnd {
-        alloc,
-        server,
-        drive: Some(drive),
-    })
+    match server_of(alloc, cluster) {
+        Ok(server) => with_server(alloc, server, cluster.files.as_slice(), failing),
+        Err(_) => None,
+    }
 }
 
 /// A server that has made file 0 on drive 0. Of the calls of links from now on the one of that number, from 0, fails.
 pub fn server_with_a_file(alloc: Global, failing: u32) -> Option<ServerEnd> {
-    let cluster = read_cluster(alloc, Reader::Server, ONE_FILE.as_bytes()).ok()?;
-    with_cluster(alloc, &cluster, failing)
+    match read_cluster(alloc, Reader::Server, ONE_FILE.as_bytes()) {
+        Ok(cluster) => with_cluster(alloc, &cluster, failing),
+        Err(_) => None,
+    }
 }
