@@ -1,0 +1,4 @@
+pub mod Layouts
+pub mod Rights
+pub mod TagLines
+pub mod TagsLaw

@@ -1,0 +1,142 @@
+-- At each moment one run of the server sent what the server sent to drives.
+use Rattle.std.proofs.Common.{◌≡◌, ℕ, ◌++◌, ◌∷◌, [], List, inl, inr, refl, sym, ap, subst, ◌∙◌}
+use Rattle.scenario_text.specs.declared.line.Line.{Line}
+use Rattle.server_rules.specs.History.{Act as ServerAct, state_after, step}
+use Rattle.server_rules.specs.Laws.{In}
+use Rattle.server_rules.specs.Making.{new_server}
+use Rattle.job_law.specs.Names.{Server, Command, Outgoing, ToDrive}
+use Rattle.job_law.proofs.Lists.{in_either}
+use Rattle.calm_law.specs.Words.{Each}
+use Rattle.world_history.specs.History.{OneEventMore}
+use Rattle.world_history.specs.declared.messages.Message.{Message}
+use Rattle.world_history.specs.State.{World, empty_world}
+use Rattle.world_history.specs.Moves.{Act, Action, Opens, Delivers, TimesOut, Pends, acts}
+use Rattle.world_history.specs.Sending.{Move, move}
+use Rattle.book_law.specs.Moments.{with_event, lines_in}
+use Rattle.slot_law.specs.Doing.{said, posted}
+use Rattle.slot_law.proofs.Doing.{moves_are_steps}
+use Rattle.slot_law.proofs.Lists.{said_more}
+use Rattle.slot_law.proofs.Moments.{always}
+use Rattle.file_law.specs.Naming.{IsNamed, IsNamedInput, AreNamed}
+use Rattle.phase_law.specs.Tagged.{sent_over}
+use Rattle.sent_law.specs.Sent.{commanded, IsSentByRun, ServerSentItsRun}
+use Rattle.sent_law.proofs.Doing.{Tells, Does, Rests, Serves, IsNamedAction, does}
+
+-- ---- lists
+
+in_first : {A : Type 0} (x : A) (xs ys : List A) → In x xs → In x (xs ++ ys)
+in_first x [] ys i = absurd i
+in_first x (y ∷ xs) ys (inl e) = inl e
+in_first x (y ∷ xs) ys (inr i) = inr (in_first x xs ys i)
+
+in_second : {A : Type 0} (x : A) (xs ys : List A) → In x ys → In x (xs ++ ys)
+in_second x [] ys i = i
+in_second x (y ∷ xs) ys i = inr (in_second x xs ys i)
+
+each_first : {A : Type 0} (P : A → Type 0) (xs ys : List A) → Each P (xs ++ ys) → Each P xs
+each_first P [] ys k = tt
+each_first P (x ∷ xs) ys k = (k.0, each_first P xs ys k.1)
+
+each_second : {A : Type 0} (P : A → Type 0) (xs ys : List A) → Each P (xs ++ ys) → Each P ys
+each_second P [] ys k = k
+each_second P (x ∷ xs) ys k = each_second P xs ys k.1
+
+each_more : {A : Type 0} (P : A → Type 0) (xs : List A) (y : A) → Each P xs → P y → Each P (xs ++ y ∷ [])
+each_more P [] y k p = (p, tt)
+each_more P (x ∷ xs) y k p = (k.0, each_more P xs y k.1 p)
+
+-- ---- a run with one act more
+
+server_more : (s : Server) (run : List ServerAct) (a : ServerAct)
+    → state_after s (run ++ a ∷ []) ≡ (step (state_after s run) a.chosen a.input).state
+server_more s [] a = refl
+server_more s (b ∷ run) a = server_more (step s b.chosen b.input).state run a
+
+sent_before : (s : Server) (run : List ServerAct) (a : ServerAct) (o : Outgoing) → In o (sent_over s run)
+    → In o (sent_over s (run ++ a ∷ []))
+unfolding sent_over
+sent_before s [] a o i = absurd i
+sent_before s (b ∷ run) a o i = elim (in_either o (step s b.chosen b.input).sends _ i) [
+  | inl j ↦ in_first o (step s b.chosen b.input).sends _ j
+  | inr j ↦ in_second o (step s b.chosen b.input).sends _ (sent_before (step s b.chosen b.input).state run a o j)
+]
+
+sent_last : (s : Server) (run : List ServerAct) (a : ServerAct) (o : Outgoing)
+    → In o (step (state_after s run) a.chosen a.input).sends → In o (sent_over s (run ++ a ∷ []))
+unfolding sent_over
+sent_last s [] a o i = in_first o (step s a.chosen a.input).sends [] i
+sent_last s (b ∷ run) a o i =
+    in_second o (step s b.chosen b.input).sends _ (sent_last (step s b.chosen b.input).state run a o i)
+
+-- ---- a move
+
+abbrev Stand : World → List Line → Type 0
+Stand w h = AreNamed h → IsSentByRun w
+
+named_action : (action : Action) (ls : List Line) → AreNamed (with_event action ls) → IsNamedAction action
+named_action (Opens e) ls named = named.0
+named_action (Delivers number) ls named = tt
+named_action (TimesOut c component) ls named = tt
+named_action (Pends c) ls named = tt
+
+module _ (w : World) (m : Move) (s : IsSentByRun w) where
+  abbrev a : Act
+  a = acts w m.chosen m.action
+
+  abbrev v : World
+  v = (move w m).world
+
+  all_said : said v.network.messages ≡ said w.network.messages ++ posted a.posts
+  all_said =
+      said_more a.world.network.messages a.posts
+      ∙ ap (λ (ms : List Message). ms ++ posted a.posts) (moves_are_steps w m.chosen m.action).said
+
+  told : (d : ℕ) (c : Command) (run : List ServerAct) (os : List Outgoing) → Tells a.posts os
+      → (In (ToDrive d c) (sent_over (new_server []) s.acts) → In (ToDrive d c) (sent_over (new_server []) run))
+      → (In (ToDrive d c) os → In (ToDrive d c) (sent_over (new_server []) run))
+      → In (commanded d c) (said v.network.messages) → In (ToDrive d c) (sent_over (new_server []) run)
+  told d c run os tells old new i =
+      elim (in_either (commanded d c) (said w.network.messages) (posted a.posts)
+      (subst (λ (ms : List Message). In (commanded d c) ms) all_said i)) [
+        | inl j ↦ old (s.sends d c j)
+        | inr j ↦ new (tells d c j)
+      ]
+
+  by_does : Does w m.chosen a → IsSentByRun v
+  by_does (Rests same tells) = record {
+    acts = s.acts;
+    server = same ∙ s.server;
+    named = s.named;
+    sends = λ d c i. told d c s.acts [] tells (λ j. j) (λ j. absurd j) i;
+  }
+  by_does (Serves i named goes tells) =
+      let act : ServerAct = record { input = i; chosen = m.chosen } in
+      record {
+        acts = s.acts ++ act ∷ [];
+        server =
+            goes ∙ ap (λ (x : Server). (step x m.chosen i).state) s.server
+            ∙ sym (server_more (new_server []) s.acts act);
+        named = each_more (λ (x : ServerAct). IsNamedInput x.input) s.acts act s.named named;
+        sends = λ d c j. told d c (s.acts ++ act ∷ []) (step w.server m.chosen i).sends tells
+            (λ k. sent_before (new_server []) s.acts act (ToDrive d c) k)
+            (λ k. sent_last (new_server []) s.acts act (ToDrive d c)
+            (subst (λ (x : Server). In (ToDrive d c) (step x m.chosen i).sends) s.server k)) j;
+      }
+
+moved : (w : World) (h : List Line) (m : Move) → Stand w h → Stand (move w m).world (h ++ lines_in w m)
+moved w h m before named =
+    by_does w m (before (each_first IsNamed h (lines_in w m) named))
+    (does w m.chosen m.action
+    (named_action m.action (move w m).lines (each_second IsNamed h (lines_in w m) named)))
+
+first : Stand empty_world []
+first named = record {
+  acts = [];
+  server = refl;
+  named = tt;
+  sends = λ d c i. absurd i;
+}
+
+pub server_sent_its_run : OneEventMore → ServerSentItsRun
+server_sent_its_run more w h k =
+    always Stand (record { starts = first; moves = λ u g j m d p. moved u g m p }) more w h k
