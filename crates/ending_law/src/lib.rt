@@ -2,7 +2,8 @@
 //!
 //! A history is that of `world_history`. No call ends with a drive's verdict on where its command lay, whatever was
 //! guessed: such a verdict would have been given on a message of the client, and each of these spells a command that
-//! lies where its capability allows.
+//! lies where its capability allows. With few messages no call ends since its layout can't be used either, and none is
+//! refused since its client has no sequence number left.
 #![tactic(auto)]
 
 mod laws;

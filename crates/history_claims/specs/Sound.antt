@@ -18,23 +18,30 @@ use Rattle.count_law.specs.Exact.{IssuedExactlyAt}
 use Rattle.ending_law.specs.Calls.{EndsAt}
 use Rattle.history_claims.specs.Texts.{EventsMakeText}
 
--- A history is safe. What a drive performs was sent to it by the server, or is a command of a client under a credential
--- that an answer of the server gave this client before: so it is of each message that is delivered and, as far as
--- nothing was guessed, of injected bytes. At each moment, of two live grants of a file of which one is for writing, no
--- byte of a component is inside the capabilities of both. And where lines can name the drives and files that events
--- make, the components of each file stand on different drives, and one that is made anew comes onto a further drive. What
--- is performed under the server's holder the server sent, as far as nothing was guessed; so in a whole history in which
--- nothing was, and whose events a text may have, from each note that a fence is over on the objects of the file's
--- components have the new tag, and no command of an earlier one is performed on them.
+-- What the lines of a sound history say.
 pub record IsSound (h : List Line) : Type 0 where
+  -- grants of one file never conflict, and what is performed touches its own object and range alone
   pub safe : IsSafe h
+  -- what a drive performs was sent to it by the server, or is a command of a client under a credential that an answer of
+  -- the server gave this client before: of each message that is delivered and, as far as nothing was guessed, of injected
+  -- bytes
   pub issued : AtEachLine IssuedAt h
+  -- of two live grants of a file of which one is for writing, no byte of a component is inside the capabilities of both
   pub ranges : AtEachMoment AreRangesApart h
+  -- where lines can name the drives and files that events make, the components of each file stand on different drives, and
+  -- one that is made anew comes onto a further drive
   pub apart : AreNamed h → AtEachMoment AreComponentsApart h
+  -- what is performed under the server's holder the server sent, as far as nothing was guessed
   pub holders : AtEachLine OwnUnlessGuessed h
+  -- so in a whole history in which nothing was guessed, from each note that a fence is over on, the objects of the file's
+  -- components have the new tag, and no command of an earlier one is performed on them
   pub fenced : (w : World) → StandsFor w h → AreWritten h → unguessed h ≡ true → AreFenced h × FencesLast h
+  -- and whatever grants of the file the server gave before that note are of an earlier tag
   pub older : (w : World) → StandsFor w h → AreWritten h → GivenBefore h
+  -- in a history of a scenario's text with few messages, what is performed of a client is for a present component under a
+  -- grant of this client
   pub exact : AreOfText h → AreFew h → AtEachLine IssuedExactlyAt h
+  -- and each call ends in one of the ways that are left to it
   pub ends : AreOfText h → AreFew h → AtEachLine EndsAt h
 
 -- Each lawful history is sound, whatever its events name. Where a text may have the events, it is one of a scenario's text;

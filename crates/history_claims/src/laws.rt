@@ -24,8 +24,9 @@ pub fn components_stand_apart()
 /// issued to the client whose command it is; no byte of a component is inside the capabilities of two live grants of
 /// which one is for writing; the components of a file stand on different drives; what is performed under the server's
 /// holder is its own; and where nothing was guessed, a fence that is over lasts. In a history of a scenario's text with
-/// few messages each performed command of a client is for a component under a grant of this client, and no call ends by
-/// a fault of a layout, of a number or of where a command lies.
+/// few messages each performed command of a client is for a component under a grant of this client; no call ends since its
+/// layout can't be used or since a command lies outside its capability, and none is refused since its client has no
+/// sequence number left.
 pub fn histories_are_sound()
     ensures { HistoriesAreSound }
 {
