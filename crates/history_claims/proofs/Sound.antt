@@ -12,12 +12,13 @@ use Rattle.tag_law.specs.Given.{GrantsAreOlder}
 use Rattle.count_law.specs.Text.{WithinTheLimitAreFew}
 use Rattle.count_law.specs.Exact.{CommandsAreIssuedExactly}
 use Rattle.ending_law.specs.Calls.{CallsEndSo}
+use Rattle.least_law.specs.Tags.{EachTagIsItsFiles}
 use Rattle.history_claims.proofs.Texts.{events_make_text}
 
 pub histories_are_sound : HistoriesAreSafe → CommandsAreIssued → RangesAreApart → FrontsAreLawful → ComponentsStandApart
     → EachHolderIsOwn → UnguessedAreFenced → UnguessedNothingOlder → GrantsAreOlder → CommandsAreIssuedExactly
-    → CallsEndSo → WithinTheLimitAreFew → HistoriesAreSound
-histories_are_sound safe issued ranges fronts apart own fenced last older exact ends few = record {
+    → CallsEndSo → EachTagIsItsFiles → WithinTheLimitAreFew → HistoriesAreSound
+histories_are_sound safe issued ranges fronts apart own fenced last older exact ends tags few = record {
   sound = λ h l. record {
     safe = safe h l;
     issued = issued h l;
@@ -27,6 +28,7 @@ histories_are_sound safe issued ranges fronts apart own fenced last older exact 
     fenced = λ w s a u. (fenced w h s a u, last w h s a u);
     older = λ w s a. older w h s a;
     exact = exact h l;
+    tags = λ before after is. tags before;
     ends = ends h l;
   };
   text = events_make_text;

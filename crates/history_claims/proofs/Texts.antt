@@ -1,5 +1,5 @@
 -- The lines of events that a text may have are those of a text.
-use Rattle.std.proofs.Common.{◌≡◌, ◌++◌, ◌∷◌, [], List, false, true≢false, refl, sym, ap, subst, ◌∙◌, map}
+use Rattle.std.proofs.Common.{◌≡◌, ◌∷◌, [], List, false, true≢false, refl, sym, ap, subst, ◌∙◌, map}
 use Rattle.scenario_text.specs.declared.event.Event.{Event}
 use Rattle.scenario_text.specs.declared.line.Line.{Line}
 use Rattle.scenario_text.specs.declared.line.Line.TheVariants as line
@@ -8,7 +8,7 @@ use Rattle.world_history.specs.State.{World, empty_world}
 use Rattle.world_history.specs.Plans.{plan_of}
 use Rattle.world_history.specs.Sending.{Move}
 use Rattle.world_history.specs.Runs.{lines_of, AreDue, IsOver, plan_after, Carries}
-use Rattle.world_history.specs.History.{Step, AreCarried, lines_of_steps, StandsFor}
+use Rattle.world_history.specs.History.{Step, AreCarried, lines_of_steps}
 use Rattle.calm_law.specs.Words.{Each}
 use Rattle.count_law.specs.Text.{IsOfText, AreOfText}
 use Rattle.calm_moves.proofs.Shapes.{is_event}

@@ -16,6 +16,7 @@ use Rattle.tag_law.specs.Given.{GivenBefore}
 use Rattle.count_law.specs.Text.{AreOfText, AreFew, WithinTheLimitAreFew}
 use Rattle.count_law.specs.Exact.{IssuedExactlyAt}
 use Rattle.ending_law.specs.Calls.{EndsAt}
+use Rattle.least_law.specs.Tags.{HaveTagsAt}
 use Rattle.history_claims.specs.Texts.{EventsMakeText}
 
 -- What the lines of a sound history say.
@@ -41,6 +42,10 @@ pub record IsSound (h : List Line) : Type 0 where
   -- in a history of a scenario's text with few messages, what is performed of a client is for a present component under a
   -- grant of this client
   pub exact : AreOfText h → AreFew h → AtEachLine IssuedExactlyAt h
+  -- between two moves of such a history, as far as nothing was guessed so far, each component that isn't missing has an
+  -- object with its file's tag, or with the next one while a fence of the file is open, unless its CREATE is awaited or its
+  -- drive has failed
+  pub tags : AtEachMoment HaveTagsAt h
   -- and each call ends in one of the ways that are left to it
   pub ends : AreOfText h → AreFew h → AtEachLine EndsAt h
 

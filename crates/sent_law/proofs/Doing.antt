@@ -22,7 +22,7 @@ use Rattle.client_rules.specs.declared.calls.CallOp.{CallOp}
 use Rattle.client_rules.specs.declared.outcomes.CallErr.{CallErr}
 use Rattle.client_rules.specs.Steps.{calls}
 use Rattle.client_rules.specs.History as client
-use Rattle.job_law.specs.Names.{Command, Outgoing, ToDrive, Recalls, Answers, AnswersOrder}
+use Rattle.job_law.specs.Names.{Command, Outgoing, ToDrive, Recalls, Answers, AnswersOrder, OrderKind}
 use Rattle.world_history.specs.ClientNames as client_rules
 use Rattle.world_history.specs.ServerNames.{ToRecall, ToRevoke, ToRebuild, ToAudit, ToDeclare}
 use Rattle.world_history.specs.declared.messages.Body.TheVariants.{Command as OfCommand, Reply as OfReply}
@@ -34,6 +34,8 @@ use Rattle.world_history.specs.Moves as world
 use Rattle.world_history.specs.Moves.{Act, Action, Opens, Delivers, TimesOut, Pends, acts}
 use Rattle.slot_law.specs.Doing.{posted}
 use Rattle.file_law.specs.Naming.{IsNamed, IsNamedInput}
+use Rattle.create_law.specs.Standing.{is_running}
+use Rattle.fencing_law.proofs.Moves.{IsSent}
 use Rattle.sent_law.specs.Sent.{commanded}
 
 -- ---- commands to drives
@@ -98,9 +100,15 @@ reply_tells n to r d c (inr i) = absurd i
 
 -- ---- what is done
 
+-- what comes to the server in a move: lines can name it, it doesn't stop the server, and what is heard was sent
+pub record Comes (w : World) (i : Input) : Type 0 where
+  pub named : IsNamedInput i
+  pub runs : is_running i ≡ true
+  pub sent : IsSent w i
+
 pub data Does (w : World) (chosen : List ℕ) (a : Act) : Type 0 where
   Rests : a.world.server ≡ w.server → Tells a.posts [] → Does w chosen a
-  Serves : (i : Input) → IsNamedInput i → a.world.server ≡ (step w.server chosen i).state
+  Serves : (i : Input) → Comes w i → a.world.server ≡ (step w.server chosen i).state
       → Tells a.posts (step w.server chosen i).sends → Does w chosen a
 
 module _ (w : World) (chosen : List ℕ) where
@@ -110,10 +118,10 @@ module _ (w : World) (chosen : List ℕ) where
   idle : (a : Act) → a.world.server ≡ w.server → a.posts ≡ [] → It a
   idle a s p = Rests s (subst (λ (ps : List Post). Tells ps []) (sym p) tells_none)
 
-  served : (a : Act) (i : Input) → IsNamedInput i → a.world.server ≡ (step w.server chosen i).state
+  served : (a : Act) (i : Input) → Comes w i → a.world.server ≡ (step w.server chosen i).state
       → a.posts ≡ filter is_addressed (map server_post (step w.server chosen i).sends) → It a
-  served a i named s p =
-      Serves i named s
+  served a i comes s p =
+      Serves i comes s
       (subst (λ (ps : List Post). Tells ps (step w.server chosen i).sends) (sym p)
       (server_tells (step w.server chosen i).sends))
 
@@ -123,7 +131,7 @@ module _ (w : World) (chosen : List ℕ) where
 
   -- ---- a message comes to its receiver
 
-  module _ (n : ℕ) (p : Posted) where
+  module _ (n : ℕ) (p : Posted) (there : slice_get w.network.messages n ≡ Some p) where
     abbrev v : World
     v = world.marked w n p
 
@@ -134,9 +142,12 @@ module _ (w : World) (chosen : List ℕ) where
     either_hand true x y g h = g
     either_hand false x y g h = h
 
-    server_hears : (m : Option ServerMessage) → Hand (server_takes v chosen p.message.from m)
-    server_hears None = idle _ refl refl
-    server_hears (Some m) = served _ (Hears w.clock p.message.from m) tt refl refl
+    server_hears : p.message.to ≡ node.Server → (m : Option ServerMessage) → for_server p.message ≡ m
+        → Hand (server_takes v chosen p.message.from m)
+    server_hears to None read = idle _ refl refl
+    server_hears to (Some m) read =
+        served _ (Hears w.clock p.message.from m)
+        (record { named = tt; runs = refl; sent = (n, p, there, to, refl, read) }) refl refl
 
     drive_told : (d : ℕ) (a : Option DriveAt) → Hand (drive_hears v d p.message a)
     drive_told d None = idle _ refl refl
@@ -153,14 +164,15 @@ module _ (w : World) (chosen : List ℕ) where
     client_heard c (Some a) =
         either_hand a.stopped _ _ (idle _ refl refl) (client_told c a (for_client p.message))
 
-    handed_on : (to : Node) → Hand (handed_to v chosen p.message to)
-    handed_on node.Server = server_hears (for_server p.message)
-    handed_on (node.Drive d) = drive_told d (at_number w.drives d)
-    handed_on (node.Client c) = client_heard c (at_number w.clients c)
+    handed_on : (to : Node) → p.message.to ≡ to → Hand (handed_to v chosen p.message to)
+    handed_on node.Server to = server_hears to (for_server p.message) refl
+    handed_on (node.Drive d) to = drive_told d (at_number w.drives d)
+    handed_on (node.Client c) to = client_heard c (at_number w.clients c)
 
-  delivered : (n : ℕ) (o : Option Posted) → It (world.delivers_found w chosen n o)
-  delivered n None = idle _ refl refl
-  delivered n (Some p) = handed_on n p p.message.to
+  delivered : (n : ℕ) (o : Option Posted) → slice_get w.network.messages n ≡ o
+      → It (world.delivers_found w chosen n o)
+  delivered n None there = idle _ refl refl
+  delivered n (Some p) there = handed_on n p there p.message.to refl
 
   dropped : (n : ℕ) (o : Option Posted) → It (world.changed (world.drops_found w n o))
   dropped n None = idle _ refl refl
@@ -218,7 +230,7 @@ module _ (w : World) (chosen : List ℕ) where
       → create_file w.server f m tag chosen ≡ r → It (world.made_file w f r)
   made_file f m tag (Err e) named is = idle _ refl refl
   made_file f m tag (Ok s) named is =
-      served _ (Makes f m tag) named
+      served _ (Makes f m tag) (record { named = named; runs = refl; sent = tt })
       (sym (ap (λ (r : Result Step Refusal). (unless_made w.server r).state) is))
       (sym (ap (λ (r : Result Step Refusal). filter is_addressed (map server_post (unless_made w.server r).sends)) is))
 
@@ -228,9 +240,12 @@ module _ (w : World) (chosen : List ℕ) where
       either (world.has_algorithm m) (world.made_file w f (create_file w.server f m tag chosen)) _
       (made_file f m tag (create_file w.server f m tag chosen) named refl) (idle _ refl refl)
 
-  gives : (i : Input) → IsNamedInput i → It (world.gives w chosen i)
+  gives : (i : Input) → Comes w i → It (world.gives w chosen i)
   unfolding world.gives
-  gives i named = served _ i named refl refl
+  gives i comes = served _ i comes refl refl
+
+  obeys : (kind : OrderKind) (number : ℕ) → It (world.gives w chosen (Obeys kind number))
+  obeys kind number = gives (Obeys kind number) (record { named = tt; runs = refl; sent = tt })
 
   -- a drive that is added places nothing
   adds : (d : ℕ) (key : List ℕ) (capacity : ℕ) → IsNamedInput (Adds (world.known_drive d key capacity))
@@ -238,7 +253,7 @@ module _ (w : World) (chosen : List ℕ) where
   unfolding world.gives
   adds d key capacity named =
       either (world.knows_drive w.server d) _ _ (idle _ refl refl)
-      (served _ (Adds (world.known_drive d key capacity)) named refl refl)
+      (served _ (Adds (world.known_drive d key capacity)) (record { named = named; runs = refl; sent = tt }) refl refl)
 
   -- ---- drives
 
@@ -263,23 +278,23 @@ module _ (w : World) (chosen : List ℕ) where
   begins (event.Client c) named = idle _ refl refl
   begins (event.File f m tag) named = makes f (world.raw_of m) tag named
   begins (event.Least d format) named = at_drive d _ (at_number w.drives d)
-  begins (event.Format format) named = gives (Formats format) tt
+  begins (event.Format format) named = gives (Formats format) (record { named = tt; runs = refl; sent = tt })
   begins (event.Do c x) named = calls_at c (world.op_of x)
   begins (event.Call c x) named = calls_at c (world.op_of x)
-  begins (event.Deliver number) named = delivered number (slice_get w.network.messages number)
+  begins (event.Deliver number) named = delivered number (slice_get w.network.messages number) refl
   begins (event.DropMessage number) named = dropped number (slice_get w.network.messages number)
   begins (event.Resend (sender.Client c)) named = resends c
-  begins (event.Resend sender.Server) named = gives Resends tt
+  begins (event.Resend sender.Server) named = gives Resends (record { named = tt; runs = refl; sent = tt })
   begins (event.Timeout c component) named = times_out c component
   begins (event.Leave c) named = leaves c
   begins (event.Inject d bytes) named = injects d bytes
   begins (event.Clock (machine.Drive d) time) named = at_drive d _ (at_number w.drives d)
   begins (event.Clock machine.Server time) named = idle _ refl refl
-  begins (event.Recall f) named = gives (Obeys ToRecall f) tt
-  begins (event.Revoke f) named = gives (Obeys ToRevoke f) tt
-  begins (event.Rebuild f) named = gives (Obeys ToRebuild f) tt
-  begins (event.Audit f) named = gives (Obeys ToAudit f) tt
-  begins (event.Declare d) named = gives (Obeys ToDeclare d) tt
+  begins (event.Recall f) named = obeys ToRecall f
+  begins (event.Revoke f) named = obeys ToRevoke f
+  begins (event.Rebuild f) named = obeys ToRebuild f
+  begins (event.Audit f) named = obeys ToAudit f
+  begins (event.Declare d) named = obeys ToDeclare d
   begins (event.Stop c) named = stops c (at_number w.clients c)
   begins (event.Fail d) named = at_drive d _ (at_number w.drives d)
   begins e named = idle _ refl refl
@@ -292,6 +307,6 @@ IsNamedAction action = Unit {0}
 pub does : (w : World) (chosen : List ℕ) (action : Action) → IsNamedAction action → Does w chosen (acts w chosen action)
 unfolding world.delivers
 does w chosen (Opens e) named = begins w chosen e named
-does w chosen (Delivers number) named = delivered w chosen number (slice_get w.network.messages number)
+does w chosen (Delivers number) named = delivered w chosen number (slice_get w.network.messages number) refl
 does w chosen (TimesOut c component) named = times_out w chosen c component
 does w chosen (Pends c) named = pends w chosen c

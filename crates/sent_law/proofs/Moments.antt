@@ -1,5 +1,5 @@
 -- At each moment one run of the server sent what the server sent to drives.
-use Rattle.std.proofs.Common.{◌≡◌, ℕ, ◌++◌, ◌∷◌, [], List, inl, inr, refl, sym, ap, subst, ◌∙◌}
+use Rattle.std.proofs.Common.{◌≡◌, ℕ, true, ◌++◌, ◌∷◌, [], List, inl, inr, refl, sym, ap, subst, ◌∙◌}
 use Rattle.scenario_text.specs.declared.line.Line.{Line}
 use Rattle.server_rules.specs.History.{Act as ServerAct, state_after, step}
 use Rattle.server_rules.specs.Laws.{In}
@@ -19,6 +19,7 @@ use Rattle.slot_law.proofs.Lists.{said_more}
 use Rattle.slot_law.proofs.Moments.{always}
 use Rattle.file_law.specs.Naming.{IsNamed, IsNamedInput, AreNamed}
 use Rattle.phase_law.specs.Tagged.{sent_over}
+use Rattle.create_law.specs.Standing.{is_running}
 use Rattle.sent_law.specs.Sent.{commanded, IsSentByRun, ServerSentItsRun}
 use Rattle.sent_law.proofs.Doing.{Tells, Does, Rests, Serves, IsNamedAction, does}
 
@@ -33,11 +34,11 @@ in_second : {A : Type 0} (x : A) (xs ys : List A) → In x ys → In x (xs ++ ys
 in_second x [] ys i = i
 in_second x (y ∷ xs) ys i = inr (in_second x xs ys i)
 
-each_first : {A : Type 0} (P : A → Type 0) (xs ys : List A) → Each P (xs ++ ys) → Each P xs
+pub each_first : {A : Type 0} (P : A → Type 0) (xs ys : List A) → Each P (xs ++ ys) → Each P xs
 each_first P [] ys k = tt
 each_first P (x ∷ xs) ys k = (k.0, each_first P xs ys k.1)
 
-each_second : {A : Type 0} (P : A → Type 0) (xs ys : List A) → Each P (xs ++ ys) → Each P ys
+pub each_second : {A : Type 0} (P : A → Type 0) (xs ys : List A) → Each P (xs ++ ys) → Each P ys
 each_second P [] ys k = k
 each_second P (x ∷ xs) ys k = each_second P xs ys k.1
 
@@ -73,7 +74,7 @@ sent_last s (b ∷ run) a o i =
 abbrev Stand : World → List Line → Type 0
 Stand w h = AreNamed h → IsSentByRun w
 
-named_action : (action : Action) (ls : List Line) → AreNamed (with_event action ls) → IsNamedAction action
+pub named_action : (action : Action) (ls : List Line) → AreNamed (with_event action ls) → IsNamedAction action
 named_action (Opens e) ls named = named.0
 named_action (Delivers number) ls named = tt
 named_action (TimesOut c component) ls named = tt
@@ -107,16 +108,18 @@ module _ (w : World) (m : Move) (s : IsSentByRun w) where
     acts = s.acts;
     server = same ∙ s.server;
     named = s.named;
+    running = s.running;
     sends = λ d c i. told d c s.acts [] tells (λ j. j) (λ j. absurd j) i;
   }
-  by_does (Serves i named goes tells) =
+  by_does (Serves i comes goes tells) =
       let act : ServerAct = record { input = i; chosen = m.chosen } in
       record {
         acts = s.acts ++ act ∷ [];
         server =
             goes ∙ ap (λ (x : Server). (step x m.chosen i).state) s.server
             ∙ sym (server_more (new_server []) s.acts act);
-        named = each_more (λ (x : ServerAct). IsNamedInput x.input) s.acts act s.named named;
+        named = each_more (λ (x : ServerAct). IsNamedInput x.input) s.acts act s.named comes.named;
+        running = each_more (λ (x : ServerAct). is_running x.input ≡ true) s.acts act s.running comes.runs;
         sends = λ d c j. told d c (s.acts ++ act ∷ []) (step w.server m.chosen i).sends tells
             (λ k. sent_before (new_server []) s.acts act (ToDrive d c) k)
             (λ k. sent_last (new_server []) s.acts act (ToDrive d c)
@@ -134,6 +137,7 @@ first named = record {
   acts = [];
   server = refl;
   named = tt;
+  running = tt;
   sends = λ d c i. absurd i;
 }
 

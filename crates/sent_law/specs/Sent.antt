@@ -13,17 +13,19 @@ use Rattle.book_law.specs.Moments.{IsMoment}
 use Rattle.slot_law.specs.Doing.{said}
 use Rattle.file_law.specs.Naming.{AreNamed}
 use Rattle.phase_law.specs.Tagged.{sent_over, AreNamedActs}
+use Rattle.create_law.specs.First.{AreRunning}
 
 -- the message of a command to a drive
 abbrev pub commanded : (drive : ℕ) → Command → Message
 commanded d c = record { from = node.Server; to = node.Drive d; body = OfCommand c }
 
 -- One run of a new server ends in the world's server, and sends each command that was sent to a drive. Lines can name
--- what comes to the server.
+-- what comes to the server, and the server never stops.
 pub record IsSentByRun (w : World) : Type 0 where
   pub acts : List Act
   pub server : w.server ≡ state_after (new_server []) acts
   pub named : AreNamedActs acts
+  pub running : AreRunning acts
   pub sends : (d : ℕ) (c : Command) → In (commanded d c) (said w.network.messages)
       → In (ToDrive d c) (sent_over (new_server []) acts)
 

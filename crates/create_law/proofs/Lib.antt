@@ -1,0 +1,13 @@
+pub mod BirthSent
+pub mod BirthEnds
+pub mod BirthJobs
+pub mod BirthServing
+pub mod BirthGoing
+pub mod BirthSteps
+pub mod BirthEvery
+pub mod BirthRuns
+pub mod StandAwaited
+pub mod StandHeld
+pub mod StandJobs
+pub mod StandServing
+pub mod StandSteps

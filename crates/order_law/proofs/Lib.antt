@@ -1,0 +1,5 @@
+pub mod Lists
+pub mod Jobs
+pub mod Serving
+pub mod Steps
+pub mod Histories
