@@ -182,22 +182,41 @@ fn row_goes<L: Links>(
 }
 
 // How many calls of the row the drive didn't answer, `None` where one went as it may not.
-fn unanswered_calls<L: Links>(alloc: Global, links: &mut L) -> Option<u32> {
-    let mut writer = ClientCore::new(alloc, 0, 1);
-    let mut reader = ClientCore::new(alloc, 1, 1);
+fn unanswered_calls<L: Links>(
+    alloc: Global,
+    writer: &mut ClientCore,
+    reader: &mut ClientCore,
+    links: &mut L,
+) -> Option<u32> {
     let mut content = Content {
         old: b"",
         new: b"",
         unanswered: 0,
     };
-    let went = row_goes(alloc, &mut writer, &mut reader, links, &mut content);
+    let went = row_goes(alloc, writer, reader, links, &mut content);
     if went { Some(content.unanswered) } else { None }
+}
+
+// The same with its reader. Two clients of one function would be dear to prove.
+fn unanswered_with_reader<L: Links>(
+    alloc: Global,
+    writer: &mut ClientCore,
+    links: &mut L,
+) -> Option<u32> {
+    let mut reader = ClientCore::new(alloc, 1, 1);
+    unanswered_calls(alloc, writer, &mut reader, links)
+}
+
+// The same with its writer.
+fn unanswered_in_all<L: Links>(alloc: Global, links: &mut L) -> Option<u32> {
+    let mut writer = ClientCore::new(alloc, 0, 1);
+    unanswered_with_reader(alloc, &mut writer, links)
 }
 
 // The same over the links of a server, with how many calls of links were made.
 fn played_with(alloc: Global, server: ServerEnd) -> (Option<u32>, u32) {
     let mut links = LiveLinks::new(alloc, server, Bytes::new(alloc));
-    let unanswered = unanswered_calls(alloc, &mut links);
+    let unanswered = unanswered_in_all(alloc, &mut links);
     (unanswered, links.peer().calls())
 }
 
