@@ -1,28 +1,67 @@
-//! Tests of the metadata server as a whole, over its public calls alone: messages in, messages and notes out.
+//! Tests of the metadata server, its parts and the client, over their public calls alone.
 //!
-//! A case is a table of moves, each beside all that the server then notes and sends, in words. What is expected
-//! was worked out by hand from the tables of `docs/SERVER.md`.
+//! Of the server as a whole a case is a table of moves, each beside all that the server then notes and sends, in words
+//! (`bench`). Of a client it is a table of lines, each beside the text of all that the client then sends, in order, and how
+//! its call ended (`talk`). What comes to a client is spelled from the fields of RFC 5661, RFC 5664 and `docs/MESSAGES.md`,
+//! apart from the codecs; what goes out is told by its fields, or by all its bytes. What is expected was worked out by hand
+//! from the tables of `docs/SERVER.md` and `docs/CLIENT.md`.
 #![tactic(auto)]
 
 #[cfg(test)]
 mod bench;
 #[cfg(test)]
+mod client_layouts;
+#[cfg(test)]
 mod declared;
+#[cfg(test)]
+mod fences;
 #[cfg(test)]
 mod formats;
 #[cfg(test)]
+mod grant_layouts;
+#[cfg(test)]
+mod grants;
+#[cfg(test)]
 mod jobs;
+#[cfg(test)]
+mod line;
 #[cfg(test)]
 mod moves;
 #[cfg(test)]
 mod placing;
 #[cfg(test)]
+mod reads;
+#[cfg(test)]
+mod rebuilds;
+#[cfg(test)]
+mod recalls;
+#[cfg(test)]
+mod refusals;
+#[cfg(test)]
+mod refused;
+#[cfg(test)]
+mod repairs;
+#[cfg(test)]
 mod reports;
 #[cfg(test)]
 mod rows;
 #[cfg(test)]
+mod setting;
+#[cfg(test)]
 mod slots;
+#[cfg(test)]
+mod spelled;
 #[cfg(test)]
 mod starts;
 #[cfg(test)]
+mod talk;
+#[cfg(test)]
+mod timeouts;
+#[cfg(test)]
+mod told;
+#[cfg(test)]
+mod wire;
+#[cfg(test)]
 mod words;
+#[cfg(test)]
+mod writes;

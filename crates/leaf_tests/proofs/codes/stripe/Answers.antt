@@ -1,6 +1,6 @@
 use Rattle.std.proofs.Common.{arith}
 use Rattle.parity_code.proofs.StripeLaws.{rows_of_width}
-use Rattle.map_tests.proofs.codes.stripe.Goals as goal
+use Rattle.leaf_tests.proofs.codes.stripe.Goals as goal
 
 pub returns-clause-rows : goal.returns-clause-rows
 returns-clause-rows c = record {
