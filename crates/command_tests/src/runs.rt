@@ -110,7 +110,8 @@ fn strings(alloc: Global, words: &[&str]) -> Vec<String> {
     strings
 }
 
-fn add_string(alloc: Global, strings: &mut Vec<String>, word: &str) {
+/// Adds a word, if memory is left for it.
+pub fn add_string(alloc: Global, strings: &mut Vec<String>, word: &str) {
     match String::from_str(alloc, word) {
         Ok(string) => {
             let _ = strings.push(string);
@@ -136,8 +137,8 @@ where
     run(alloc, words, source, sink, links, clock, placer)
 }
 
-// Components are placed as the program places them.
-fn exit_code<S: Source, K: Sink, L: Links, C: Clock>(
+/// The exit status of the program for these words. Components are placed as the program places them.
+pub fn exit_code<S: Source, K: Sink, L: Links, C: Clock>(
     alloc: Global,
     words: &[String],
     source: &mut S,
@@ -167,7 +168,7 @@ fn exit_code_over<S: Source, K: Sink, L: Links>(
 }
 
 /// Runs the command of these words over an input, whose source fails at the calls of the numbers `reads`, into a sink,
-/// and gives the exit status of the program. Components are placed as the program places them.
+/// and gives the exit status of the program.
 pub fn exit_code_of<K: Sink, L: Links>(
     alloc: Global,
     words: &[&str],

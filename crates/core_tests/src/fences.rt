@@ -9,7 +9,7 @@ use std::alloc::Global;
 type Step = (u32, u16, u64, bool, Option<u32>);
 
 // Replies to a fence at tag 7 that waits for components 0, 2 and 3.
-const STEPS: [Step; 7] = [
+const STEPS: &[Step] = &[
     // Another tag, and a verdict that isn't named.
     (0, OTHER_TAG, 7, false, Some(0)),
     (0, OTHER_TAG, 9, false, Some(0)),

@@ -21,7 +21,7 @@ fn grant(file: u32, row: Row) -> Grant {
 }
 
 // Two grants, and whether they conflict.
-const PAIRS: [(Row, Row, bool); 7] = [
+const PAIRS: &[(Row, Row, bool)] = &[
     // Two writers on one stripe, on neighbours, and apart.
     ((1, 0, true, false, 0, 1), (2, 1, true, false, 0, 1), true),
     ((1, 0, true, false, 0, 1), (2, 1, true, false, 1, 2), false),
@@ -54,11 +54,11 @@ fn are_pairs(pairs: &[(Row, Row, bool)]) -> bool {
 
 #[test]
 fn grants_conflict_by_whole_stripes(rt: HostRuntime) {
-    assert!(rt; are_pairs(&PAIRS));
+    assert!(rt; are_pairs(PAIRS));
 }
 
 // The file of a grant that is added, the grant, and why it is refused.
-const ADDED: [(u32, Row, Option<GrantErr>); 7] = [
+const ADDED: &[(u32, Row, Option<GrantErr>)] = &[
     (0, (1, 0, false, false, 0, 4), None),
     (0, (2, 1, false, false, 2, 6), None),
     (
@@ -77,14 +77,14 @@ const ADDED: [(u32, Row, Option<GrantErr>); 7] = [
 ];
 
 // The number of a grant that is taken out, and the grant.
-const REMOVED: [(u32, Option<Row>); 3] = [
+const REMOVED: &[(u32, Option<Row>)] = &[
     (5, None),
     (2, Some((2, 1, false, false, 2, 6))),
     (2, None),
 ];
 
 // Files, and the grants that are left on them.
-const LEFT: [(u32, &[Row]); 3] = [
+const LEFT: &[(u32, &[Row])] = &[
     (0, &[(1, 0, false, false, 0, 4), (3, 2, true, false, 6, 7)]),
     (7, &[(4, 2, true, true, 0, 9)]),
     (1, &[]),
@@ -154,7 +154,7 @@ fn a_table_takes_grants_that_fit(rt: HostRuntime) {
 }
 
 // Requests by their numbers, and what the slot says of each.
-const REQUESTS: [(u32, Admit); 9] = [
+const REQUESTS: &[(u32, Admit)] = &[
     (0, Admit::Misordered { expected: 1 }),
     (2, Admit::Misordered { expected: 1 }),
     (1, Admit::New),

@@ -46,7 +46,7 @@ type Case = (
 );
 
 #[rattlefmt::skip]
-const DIFFERING: [Case; 7] = [
+const DIFFERING: &[Case] = &[
     // The parity of a stripe that is whole, and of some that are torn.
     (RAID_5, 0, &[false; 3], &[(0, b"ab"), (1, b"cd"), (2, &[2, 6])], Wanted::Writes(&[])),
     (RAID_5, 0, &[false; 3], &[(0, b"ab"), (1, b"cd"), (2, &[9, 6])], Wanted::Writes(&[(2, 0, &[2])])),
@@ -59,7 +59,7 @@ const DIFFERING: [Case; 7] = [
 ];
 
 #[rattlefmt::skip]
-const REPAIRED: [Case; 6] = [
+const REPAIRED: &[Case] = &[
     (RAID_5, 0, &[false; 3], &[(0, b"ab"), (1, b"cd"), (2, &[2, 6])], Wanted::Repair(false, (3, 0, 0, 0))),
     (RAID_5, 0, &[false; 3], &[(0, b"ab"), (1, b"cd"), (2, &[9, 6])], Wanted::Repair(false, (3, 1, 0, 0))),
     (RAID_5, 0, &[false; 3], &[(0, b"ab"), (1, b"cd"), (2, &[9, 6])], Wanted::Repair(true, (3, 1, 3, 0))),
@@ -69,7 +69,7 @@ const REPAIRED: [Case; 6] = [
 ];
 
 #[rattlefmt::skip]
-const REBUILT: [Case; 8] = [
+const REBUILT: &[Case] = &[
     (RAID_0, 1, &[true, false, false, false], &[(1, b"ab")], Wanted::Rebuild(0, (1, 0, b"ab", &[]))),
     (RAID_0, 1, &[true, false, false, false], &[(1, &[0, 7])], Wanted::Rebuild(0, (1, 1, &[7], &[]))),
     (RAID_0, 1, &[true, false, false, false], &[(1, &[0, 0])], Wanted::Rebuild(0, (1, 0, &[], &[]))),
@@ -81,7 +81,7 @@ const REBUILT: [Case; 8] = [
 ];
 
 #[rattlefmt::skip]
-const AUDITED: [Case; 3] = [
+const AUDITED: &[Case] = &[
     (RAID_5, 0, &[false; 3], &[(0, b"ab"), (1, b"cd"), (2, &[2, 6])], Wanted::Audit(StripeState::Whole)),
     (RAID_5, 0, &[false; 3], &[(0, b"ab"), (1, b"cd"), (2, &[2, 7])], Wanted::Audit(StripeState::Bad)),
     (RAID_5, 0, &[false, true, false], &[(0, b"ab"), (2, &[2, 7])], Wanted::Audit(StripeState::Short)),
@@ -318,20 +318,20 @@ fn all_are(alloc: Global, cases: &[Case]) -> bool {
 
 #[test]
 fn rows_that_differ_are_written_where_they_do(rt: HostRuntime) {
-    assert!(rt; all_are(rt.alloc(), &DIFFERING));
+    assert!(rt; all_are(rt.alloc(), DIFFERING));
 }
 
 #[test]
 fn a_repair_reads_writes_and_leaves_what_is_short(rt: HostRuntime) {
-    assert!(rt; all_are(rt.alloc(), &REPAIRED));
+    assert!(rt; all_are(rt.alloc(), REPAIRED));
 }
 
 #[test]
 fn a_component_is_made_of_a_replica_or_of_the_others_or_is_lost(rt: HostRuntime) {
-    assert!(rt; all_are(rt.alloc(), &REBUILT));
+    assert!(rt; all_are(rt.alloc(), REBUILT));
 }
 
 #[test]
 fn an_audit_finds_stripes_whole_short_or_bad(rt: HostRuntime) {
-    assert!(rt; all_are(rt.alloc(), &AUDITED));
+    assert!(rt; all_are(rt.alloc(), AUDITED));
 }

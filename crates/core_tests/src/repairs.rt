@@ -47,7 +47,7 @@ fn component(drive: u32, missing: bool) -> Component {
 // Which components are missing, the positions that lack one, whether the group is short, and beyond repair.
 type Group = (bool, bool, bool, &'static [u32], bool, bool);
 
-const GROUPS: [Group; 3] = [
+const GROUPS: &[Group] = &[
     (false, false, false, &[], false, false),
     (false, true, false, &[1], true, false),
     (true, false, true, &[0, 2], true, true),
@@ -90,7 +90,7 @@ fn are_groups(alloc: Global, groups: &[Group]) -> bool {
 
 #[test]
 fn a_group_is_short_where_a_position_lacks_and_beyond_where_two_do(rt: HostRuntime) {
-    assert!(rt; are_groups(rt.alloc(), &GROUPS));
+    assert!(rt; are_groups(rt.alloc(), GROUPS));
 }
 
 // What two components answered: the first all of two columns, the third one of them.
@@ -155,7 +155,7 @@ fn rows_are_filled_with_zeros(rt: HostRuntime) {
 }
 
 // Two rows, the first column in which they differ, and the one behind the last.
-const ROWS: [([u8; 4], [u8; 4], usize, usize); 3] = [
+const ROWS: &[([u8; 4], [u8; 4], usize, usize)] = &[
     (*b"abcd", *b"abcd", 4, 0),
     (*b"abcd", *b"xbcd", 0, 1),
     (*b"abcd", *b"axcx", 1, 4),
@@ -169,7 +169,7 @@ fn rows_differ_between_their_first_and_last_unlike_columns(rt: HostRuntime) {
 }
 
 // The stripe and columns of each piece of two stripes of 300,000 columns.
-const PIECES: [(u64, u64, u64); 4] = [
+const PIECES: &[(u64, u64, u64)] = &[
     (0, 0, 262_144),
     (0, 262_144, 37_856),
     (2, 0, 262_144),
@@ -199,7 +199,7 @@ fn cursor_goes_through(alloc: Global) -> bool {
     match Sequence::copied(alloc, &ranges) {
         Ok(ranges) => {
             let mut cursor = PieceCursor::new(300_000, ranges);
-            goes_through(&mut cursor, &PIECES)
+            goes_through(&mut cursor, PIECES)
         }
         Err(_) => false,
     }

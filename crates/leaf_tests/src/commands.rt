@@ -38,7 +38,7 @@ const WRITE_2: &str = "4f5344320003000000000000000100000000000000010001000000000
 const READ_REPLY: &str = "4f53447200020000000000000001000100000001000000010000000000000010\
     0000000300000000616263";
 
-const ACTIONS: [Action; 6] = [
+const ACTIONS: &[Action] = &[
     Action::Create,
     Action::Read,
     Action::Write,
@@ -217,7 +217,7 @@ fn prefixes_and_reserved_bytes(rt: HostRuntime) {
 
 // Of a sealed WRITE of format 1 a byte that is changed, its value, and another that is reserved; and what it
 // reads as. The place 300 is behind the bytes.
-const CHANGES: [(usize, u8, usize, CommandErr); 10] = [
+const CHANGES: &[(usize, u8, usize, CommandErr)] = &[
     (0, 0, 7, CommandErr::Magic),
     (5, 0, 7, CommandErr::BadAction { value: 0 }),
     (4, 1, 7, CommandErr::BadAction { value: 259 }),
@@ -312,7 +312,7 @@ fn the_bytes_of_a_reply(rt: HostRuntime) {
 }
 
 // An action, a verdict, a payload, and the refusal.
-const REPLIES: [(u16, u16, &[u8], Option<CommandErr>); 9] = [
+const REPLIES: &[(u16, u16, &[u8], Option<CommandErr>)] = &[
     (2, 0, b"abc", None),
     (4, 0, b"", None),
     (0, 16, b"", None),

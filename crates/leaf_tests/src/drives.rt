@@ -98,7 +98,7 @@ struct History {
 }
 
 #[rattlefmt::skip]
-const HISTORIES: [History; 10] = [
+const HISTORIES: &[History] = &[
     History {
         name: "the order of the rows",
         start: Start::Object,

@@ -22,7 +22,7 @@ fn is_long_tag(alloc: Global, key: &[u8], text: &[u8], tag: &str) -> bool {
 
 // A key, a text and both tags. Cases 1 to 3 of RFC 2202, section 3, and of RFC 4231, sections 4.2 to 4.4, which
 // have the same keys and texts.
-const SHORT_KEYS: [(&[u8], &[u8], &str, &str); 3] = [
+const SHORT_KEYS: &[(&[u8], &[u8], &str, &str)] = &[
     (
         &[0x0b; 20],
         b"Hi There",

@@ -49,7 +49,7 @@ fn reads_as(alloc: Global, line: &[u8], text: &[u8]) -> bool {
     }
 }
 
-const EVENTS: [&[u8]; 31] = [
+const EVENTS: &[&[u8]] = &[
     b"drive d0 000102030405060708090a0b0c0d0e0f10111213 18446744073709551615",
     b"disk d63 000102030405060708090a0b0c0d0e0f10111213 0",
     b"client c15",
@@ -106,7 +106,7 @@ fn lines_without_an_event(rt: HostRuntime) {
     assert!(rt; is_no_event(rt.alloc(), b"# drive d0", None));
 }
 
-const REFUSED: [(&[u8], EventErr); 32] = [
+const REFUSED: &[(&[u8], EventErr)] = &[
     (b"Client c0", EventErr::UnknownWord),
     (b" client c0", EventErr::UnknownWord),
     (b"settled", EventErr::UnknownWord),
@@ -165,7 +165,7 @@ fn is_read_again(alloc: Global, text: &[u8]) -> bool {
     }
 }
 
-const LINES: [&[u8]; 60] = [
+const LINES: &[&[u8]] = &[
     b"= do c0 write f0 0 0aff",
     b"m 0 s d63 00ff",
     b"m 18446744073709551615 c15 s -",
@@ -273,7 +273,7 @@ fn is_no_line(alloc: Global, text: &[u8], kind: EventErr) -> bool {
     }
 }
 
-const WRONG: [(&[u8], EventErr); 16] = [
+const WRONG: &[(&[u8], EventErr)] = &[
     (b"", EventErr::UnknownWord),
     (b"# note", EventErr::UnknownWord),
     (b"= do c0 write f0 0 0aFf", EventErr::BadHex),

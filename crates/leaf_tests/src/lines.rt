@@ -47,7 +47,7 @@ fn come(reader: &mut LineReader, input: &mut MemSource, lengths: &[u64]) -> bool
 // A text, the calls to its source that fail, the lengths of its lines, and then its end or a refusal.
 type Lines = (&'static [u8], &'static [u32], &'static [u64]);
 
-const LINES: [Lines; 5] = [
+const LINES: &[Lines] = &[
     (b"", &[], &[100]),
     (b"\n", &[], &[0, 100]),
     (b"ab\n\nc", &[], &[2, 0, 1, 100]),
@@ -55,7 +55,7 @@ const LINES: [Lines; 5] = [
     (b"a", &[], &[1, 100]),
 ];
 
-const FAILING: [Lines; 3] = [
+const FAILING: &[Lines] = &[
     (b"ab\n", &[0], &[101]),
     (b"ab\nc", &[1], &[2, 101]),
     // A source that has come to its end is asked no more.
@@ -80,12 +80,12 @@ fn have_lines(alloc: Global, texts: &[Lines]) -> bool {
 
 #[test]
 fn lines_end_at_newlines_or_at_the_end(rt: HostRuntime) {
-    assert!(rt; have_lines(rt.alloc(), &LINES));
+    assert!(rt; have_lines(rt.alloc(), LINES));
 }
 
 #[test]
 fn a_source_that_fails_ends_the_lines(rt: HostRuntime) {
-    assert!(rt; have_lines(rt.alloc(), &FAILING));
+    assert!(rt; have_lines(rt.alloc(), FAILING));
 }
 
 fn puts<S: Sink>(sink: &mut S, bytes: &[u8], fault: Option<PutErr>) -> bool {

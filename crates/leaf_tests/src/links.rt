@@ -63,7 +63,7 @@ fn an_exchange_gives_the_first_record(rt: HostRuntime) {
     assert!(rt; stream_gives_first(rt.alloc(), b"\x80\0\0\x01a\x80\x04\x93\xe1"));
 }
 
-const REFUSED_STREAMS: [(&[u8], &[u32], ExchangeErr); 9] = [
+const REFUSED_STREAMS: &[(&[u8], &[u32], ExchangeErr)] = &[
     (b"", &[], ExchangeErr::Ended),
     (b"\x80\0\0\x01", &[], ExchangeErr::Ended),
     (b"\0\0\0\x01a", &[], ExchangeErr::Ended),

@@ -23,7 +23,7 @@ fn checked(raw: RawMap) -> Option<Result<DataMap, MapErr>> {
     Some(DataMap::check(raw))
 }
 
-const REFUSED: [(Shape, MapErr); 13] = [
+const REFUSED: &[(Shape, MapErr)] = &[
     ((0, 0, 0, 0, 0, 1), MapErr::Unit),
     ((3, 1_048_577, 0, 0, 0, 1), MapErr::Unit),
     ((1_025, 1, 0, 0, 0, 1), MapErr::TooMany),
@@ -100,16 +100,16 @@ enum Asked {
     Left(u64, u64),
 }
 
-const GROUPS: [Asked; 1] = [Asked::Place(7_232 * 1_048_576, (42, 73 * 1_048_576, 723))];
+const GROUPS: &[Asked] = &[Asked::Place(7_232 * 1_048_576, (42, 73 * 1_048_576, 723))];
 
-const PARITY_IN_GROUPS: [Asked; 3] = [
+const PARITY_IN_GROUPS: &[Asked] = &[
     Asked::Place(9, (5, 1, 3)),
     Asked::Parity(3, (Some(4), None)),
     Asked::Logical(5, 1, Some(9)),
 ];
 
 // RAID 5 over four positions: what stands in each stripe at each of them.
-const GOING_ROUND: [Asked; 33] = [
+const GOING_ROUND: &[Asked] = &[
     Asked::Logical(0, 0, Some(0)),
     Asked::Logical(1, 0, Some(1)),
     Asked::Logical(2, 0, Some(2)),
@@ -145,7 +145,7 @@ const GOING_ROUND: [Asked; 33] = [
     Asked::Parity(3, (Some(0), None)),
 ];
 
-const STANDING_STILL: [Asked; 9] = [
+const STANDING_STILL: &[Asked] = &[
     Asked::Shape(6, 4, 16, 1),
     Asked::Parity(0, (Some(4), Some(5))),
     Asked::Parity(1, (Some(4), Some(5))),
@@ -157,12 +157,12 @@ const STANDING_STILL: [Asked; 9] = [
     Asked::Logical(5, 7, None),
 ];
 
-const RANGES_WITH_PARITY: [Asked; 2] = [
+const RANGES_WITH_PARITY: &[Asked] = &[
     Asked::Extents(3, 2, &[(3, 1, 1), (0, 1, 1)]),
     Asked::Stripes(3, 2, (1, 2)),
 ];
 
-const PLAIN_RANGES: [Asked; 4] = [
+const PLAIN_RANGES: &[Asked] = &[
     Asked::Extents(5, 0, &[]),
     Asked::Extents(5, 8, &[(1, 1, 3), (2, 0, 4), (0, 4, 1)]),
     Asked::Stripes(11, 2, (0, 2)),
@@ -260,22 +260,22 @@ fn answers_all(alloc: Global, shape: Shape, asked: &[Asked]) -> bool {
 
 #[test]
 fn groups_take_turns_by_their_depth(rt: HostRuntime) {
-    assert!(rt; answers_all(rt.alloc(), (100, 1_048_576, 10, 50, 0, 1), &GROUPS));
-    assert!(rt; answers_all(rt.alloc(), (8, 1, 4, 2, 0, 3), &PARITY_IN_GROUPS));
+    assert!(rt; answers_all(rt.alloc(), (100, 1_048_576, 10, 50, 0, 1), GROUPS));
+    assert!(rt; answers_all(rt.alloc(), (8, 1, 4, 2, 0, 3), PARITY_IN_GROUPS));
 }
 
 #[test]
 fn parity_goes_round_the_positions(rt: HostRuntime) {
-    assert!(rt; answers_all(rt.alloc(), (4, 1, 0, 0, 0, 3), &GOING_ROUND));
+    assert!(rt; answers_all(rt.alloc(), (4, 1, 0, 0, 0, 3), GOING_ROUND));
 }
 
 #[test]
 fn two_parities_stand_still(rt: HostRuntime) {
-    assert!(rt; answers_all(rt.alloc(), (12, 4, 0, 0, 1, 4), &STANDING_STILL));
+    assert!(rt; answers_all(rt.alloc(), (12, 4, 0, 0, 1, 4), STANDING_STILL));
 }
 
 #[test]
 fn ranges_fall_into_units_and_stripes(rt: HostRuntime) {
-    assert!(rt; answers_all(rt.alloc(), (4, 1, 0, 0, 0, 3), &RANGES_WITH_PARITY));
-    assert!(rt; answers_all(rt.alloc(), (3, 4, 0, 0, 0, 1), &PLAIN_RANGES));
+    assert!(rt; answers_all(rt.alloc(), (4, 1, 0, 0, 0, 3), RANGES_WITH_PARITY));
+    assert!(rt; answers_all(rt.alloc(), (3, 4, 0, 0, 0, 1), PLAIN_RANGES));
 }

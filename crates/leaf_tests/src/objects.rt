@@ -55,7 +55,7 @@ struct History {
     steps: &'static [Step],
 }
 
-const HISTORIES: [History; 6] = [
+const HISTORIES: &[History] = &[
     History {
         name: "holes take no pages and read as zeros",
         capacity: 20_000_000,

@@ -43,7 +43,7 @@ pub enum Deed {
 pub type Case = (Shape, &'static [u32], Deed);
 
 #[rattlefmt::skip]
-pub const READS: [Case; 4] = [
+pub const READS: &[Case] = &[
     (FIVE, &[], Deed::Read(3, 3, Plan::Pieces(&[(0, 3, 1), (1, 0, 2)]))),
     (FIVE, &[1], Deed::Read(3, 3, Plan::Pieces(&[(0, 0, 2), (0, 3, 1), (2, 0, 2), (2, 3, 1)]))),
     (FIVE, &[1, 2], Deed::Read(3, 1, Plan::Pieces(&[(0, 3, 1)]))),
@@ -51,7 +51,7 @@ pub const READS: [Case; 4] = [
 ];
 
 #[rattlefmt::skip]
-pub const GATHERS: [Case; 5] = [
+pub const GATHERS: &[Case] = &[
     (FIVE, &[], Deed::Gather(0, 1, Plan::Pieces(&[(0, 0, 1), (2, 0, 1)]))),
     (FIVE, &[1], Deed::Gather(4, 1, Plan::Pieces(&[(0, 0, 1), (2, 0, 1)]))),
     (FIVE, &[], Deed::Gather(8, 8, Plan::Pieces(&[]))),
@@ -61,7 +61,7 @@ pub const GATHERS: [Case; 5] = [
 
 // Columns that meet are one interval, others two.
 #[rattlefmt::skip]
-pub const INTERVALS: [Case; 4] = [
+pub const INTERVALS: &[Case] = &[
     (SIX, &[], Deed::Touch(3, 2, &[(0, 1), (3, 4)])),
     (SIX, &[], Deed::Touch(2, 4, &[(0, 4)])),
     (
@@ -77,7 +77,7 @@ pub const INTERVALS: [Case; 4] = [
 ];
 
 #[rattlefmt::skip]
-pub const REPLICAS: [Case; 6] = [
+pub const REPLICAS: &[Case] = &[
     (GROUPED, &[], Deed::Read(0, 4, Plan::Pieces(&[(0, 0, 2), (2, 0, 2)]))),
     (GROUPED, &[0], Deed::Read(0, 4, Plan::Pieces(&[(1, 0, 2), (2, 0, 2)]))),
     (GROUPED, &[0], Deed::Read(3, 4, Plan::Pieces(&[(2, 1, 1), (1, 2, 2), (2, 2, 1)]))),
@@ -87,7 +87,7 @@ pub const REPLICAS: [Case; 6] = [
 ];
 
 #[rattlefmt::skip]
-pub const SCATTERS: [Case; 1] = [(
+pub const SCATTERS: &[Case] = &[(
     GROUPED,
     &[0],
     Deed::Scatter(
@@ -99,7 +99,7 @@ pub const SCATTERS: [Case; 1] = [(
 )];
 
 #[rattlefmt::skip]
-pub const ANSWERS: [Case; 2] = [
+pub const ANSWERS: &[Case] = &[
     (
         FIVE,
         &[1],
@@ -114,21 +114,21 @@ pub const ANSWERS: [Case; 2] = [
 
 // Of two parts that have a byte the first counts.
 #[rattlefmt::skip]
-pub const TWICE: [Case; 1] = [(
+pub const TWICE: &[Case] = &[(
     PLAIN,
     &[],
     Deed::Assemble(0, 4, &[(0, 1, &[7, 7]), (0, 0, &[1, 2, 3, 4])], &[1, 7, 7, 4]),
 )];
 
 #[rattlefmt::skip]
-pub const CHANGES: [Case; 1] = [(
+pub const CHANGES: &[Case] = &[(
     FIVE,
     &[],
     Deed::Apply(0, &[255], &[(0, 0, &[1]), (2, 0, &[4])], Some(&[(0, 0, &[255]), (2, 0, &[250])])),
 )];
 
 #[rattlefmt::skip]
-pub const CHANGES_WITHOUT_A_POSITION: [Case; 3] = [
+pub const CHANGES_WITHOUT_A_POSITION: &[Case] = &[
     (
         FIVE,
         &[1],
@@ -144,7 +144,7 @@ pub const CHANGES_WITHOUT_A_POSITION: [Case; 3] = [
 
 // Stripe 1 has its second unit in component 0, its first in 2 and its parity in 1.
 #[rattlefmt::skip]
-pub const WHOLE_STRIPES: [Case; 1] = [(
+pub const WHOLE_STRIPES: &[Case] = &[(
     FIVE,
     &[],
     Deed::Apply(

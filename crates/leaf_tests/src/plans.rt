@@ -83,13 +83,17 @@ fn columns(alloc: Global, rows: &[Row]) -> Columns {
     columns
 }
 
+fn is_piece(piece: Piece, wanted: (u32, u64, u64)) -> bool {
+    let (component, offset, length) = wanted;
+    piece.component == component && piece.offset == offset && piece.length == length
+}
+
 fn are_pieces(pieces: &[Piece], wanted: &[(u32, u64, u64)]) -> bool {
     if pieces.len() != wanted.len() {
         return false;
     }
     for i in 0..wanted.len() {
-        let piece = pieces[i];
-        if (piece.component, piece.offset, piece.length) != wanted[i] {
+        if !is_piece(pieces[i], wanted[i]) {
             return false;
         }
     }
@@ -173,8 +177,8 @@ fn are_intervals(intervals: &[Interval], wanted: &[(u64, u64)]) -> bool {
         return false;
     }
     for i in 0..wanted.len() {
-        let interval = intervals[i];
-        if (interval.first, interval.end) != wanted[i] {
+        let (first, end) = wanted[i];
+        if intervals[i].first != first || intervals[i].end != end {
             return false;
         }
     }
@@ -289,52 +293,52 @@ fn are_so(alloc: Global, cases: &[Case]) -> bool {
 
 #[test]
 fn reads_ask_for_their_own_columns_and_for_those_of_a_lost_position(rt: HostRuntime) {
-    assert!(rt; are_so(rt.alloc(), &READS));
+    assert!(rt; are_so(rt.alloc(), READS));
 }
 
 #[test]
 fn gathers_read_the_old_bytes_and_parity_and_leave_whole_stripes(rt: HostRuntime) {
-    assert!(rt; are_so(rt.alloc(), &GATHERS));
+    assert!(rt; are_so(rt.alloc(), GATHERS));
 }
 
 #[test]
 fn two_intervals_that_meet_are_one(rt: HostRuntime) {
-    assert!(rt; are_so(rt.alloc(), &INTERVALS));
+    assert!(rt; are_so(rt.alloc(), INTERVALS));
 }
 
 #[test]
 fn replicas_stand_in_and_groups_take_turns(rt: HostRuntime) {
-    assert!(rt; are_so(rt.alloc(), &REPLICAS));
+    assert!(rt; are_so(rt.alloc(), REPLICAS));
 }
 
 #[test]
 fn scatters_write_every_replica_that_is_left(rt: HostRuntime) {
-    assert!(rt; are_so(rt.alloc(), &SCATTERS));
+    assert!(rt; are_so(rt.alloc(), SCATTERS));
 }
 
 #[test]
 fn answers_decode_what_is_lost(rt: HostRuntime) {
-    assert!(rt; are_so(rt.alloc(), &ANSWERS));
+    assert!(rt; are_so(rt.alloc(), ANSWERS));
 }
 
 #[test]
 fn the_first_byte_that_was_read_counts(rt: HostRuntime) {
-    assert!(rt; are_so(rt.alloc(), &TWICE));
+    assert!(rt; are_so(rt.alloc(), TWICE));
 }
 
 #[test]
 fn writes_change_the_parity_that_was_gathered(rt: HostRuntime) {
-    assert!(rt; are_so(rt.alloc(), &CHANGES));
+    assert!(rt; are_so(rt.alloc(), CHANGES));
 }
 
 #[test]
 fn writes_decode_where_a_position_is_out_and_leave_it(rt: HostRuntime) {
-    assert!(rt; are_so(rt.alloc(), &CHANGES_WITHOUT_A_POSITION));
+    assert!(rt; are_so(rt.alloc(), CHANGES_WITHOUT_A_POSITION));
 }
 
 #[test]
 fn whole_stripes_need_nothing_gathered(rt: HostRuntime) {
-    assert!(rt; are_so(rt.alloc(), &WHOLE_STRIPES));
+    assert!(rt; are_so(rt.alloc(), WHOLE_STRIPES));
 }
 
 // What was made is what is read then; each position is one component.

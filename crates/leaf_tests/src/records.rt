@@ -173,7 +173,7 @@ fn gives_bytes(alloc: Global, stream: &[u8], length: usize, count: Option<usize>
 const STREAM: &[u8] =
     b"\0\0\0\x01a\x80\0\0\x01b\x80\0\0\0\0\0\0\x02cd\0\0\0\0\0\0\0\x01e\x80\0\0\0\x80\0\0\x02f";
 
-const CUT: [(&[u8], Gives); 2] = [
+const CUT: &[(&[u8], Gives)] = &[
     (b"\0\0\0\x01a\x80\0\0\x01", Gives::None),
     (b"b", Gives::One(b"ab")),
 ];
@@ -183,7 +183,7 @@ fn records_are_those_of_the_stream_however_cut(rt: HostRuntime) {
     for length in 1..40 {
         assert!(rt; finds(rt.alloc(), STREAM, length, b"ab,,cde,"));
     }
-    assert!(rt; feeds_all(rt.alloc(), &CUT));
+    assert!(rt; feeds_all(rt.alloc(), CUT));
 }
 
 // A record of so many fragments of one byte; it is cut short where memory is.
@@ -233,7 +233,7 @@ fn a_record_has_at_most_300000_bytes(rt: HostRuntime) {
     assert!(rt; takes_the_longest(rt.alloc()));
 }
 
-const REFUSED: [(&[u8], Gives); 3] = [
+const REFUSED: &[(&[u8], Gives)] = &[
     (b"\0\0\0\x01a", Gives::None),
     (b"\x80\0\0\x01b\x80\x04\x93\xe1", Gives::TooLong),
     (b"\x80\0\0\x01b", Gives::One(b"ab")),
@@ -241,5 +241,5 @@ const REFUSED: [(&[u8], Gives); 3] = [
 
 #[test]
 fn a_refused_piece_changes_nothing(rt: HostRuntime) {
-    assert!(rt; feeds_all(rt.alloc(), &REFUSED));
+    assert!(rt; feeds_all(rt.alloc(), REFUSED));
 }

@@ -15,7 +15,7 @@ struct Case {
 }
 
 // The streams are records of messages none of which is a command.
-const CASES: [Case; 5] = [
+const CASES: &[Case] = &[
     Case {
         name: "each record of each connection is answered, at its own time",
         streams: &[

@@ -80,7 +80,7 @@ fn bools_and_counts_that_are_refused(rt: HostRuntime) {
 // An opaque's bytes, how many of them there are, and what a reader with a largest length of 8 answers: its first
 // byte, or the refusal, behind which the length is read again where it has come.
 #[rattlefmt::skip]
-const OPAQUES: [([u8; 12], usize, Result<u8, XdrErr>); 8] = [
+const OPAQUES: &[([u8; 12], usize, Result<u8, XdrErr>)] = &[
     ([0, 0, 0, 1, 0xaa, 0, 0, 0, AFTER, 0, 0, 0], 9, Ok(0xaa)),
     ([0, 0, 0, 1, 0xaa, 0, 0, 1, AFTER, 0, 0, 0], 8, Err(XdrErr::Padding { at: 7 })),
     ([0, 0, 0, 1, 0xaa, 2, 0, 1, AFTER, 0, 0, 0], 8, Err(XdrErr::Padding { at: 5 })),
