@@ -1,3 +1,4 @@
+use crate::lines::copied;
 use osd_bytes::{Bytes, Clock, Links, Node, Peer, Peers};
 use osd_links::{SystemClock, TcpLinks};
 use std::alloc::Global;
@@ -13,13 +14,6 @@ fn free_address(rt: &HostRuntime) -> Result<Bytes, Fail> {
     let listener = TcpListener::bind(rt, "127.0.0.1:0")?;
     let address = format!(in rt.alloc(); "{}", listener.local_addr()?)?;
     Ok(Bytes::copied(rt.alloc(), address.as_bytes())?)
-}
-
-fn copied(alloc: Global, bytes: &[u8]) -> Bytes {
-    match Bytes::copied(alloc, bytes) {
-        Ok(bytes) => bytes,
-        Err(_) => Bytes::new(alloc),
-    }
 }
 
 // The drive, at this address.
