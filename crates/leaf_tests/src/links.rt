@@ -1,6 +1,6 @@
 use crate::lines::{copied, numbers};
 use osd_bytes::{
-    Accepted, ByteLists, ExchangeErr, LineReader, Links, MemLinks, Node, exchange, put_all,
+    Accepted, ByteLists, ExchangeErr, LineReader, Links, MemLinks, Node, Source, exchange, put_all,
 };
 use std::alloc::Global;
 
@@ -75,9 +75,13 @@ const REFUSED_STREAMS: &[(&[u8], &[u32], ExchangeErr)] = &[
     (b"\x80\0\0\x01", &[3], ExchangeErr::LinkFault),
 ];
 
+fn are_refused(alloc: Global, links: &mut MemLinks, cause: ExchangeErr) -> bool {
+    is_refused(alloc, links, Node::Drive(0), cause) && is_closed(links)
+}
+
 fn stream_is_refused(alloc: Global, stream: &[u8], fails: &[u32], cause: ExchangeErr) -> bool {
     let mut links = links(alloc, &[], &[stream], fails);
-    is_refused(alloc, &mut links, Node::Drive(0), cause) && is_closed(&mut links)
+    are_refused(alloc, &mut links, cause)
 }
 
 #[test]
@@ -87,6 +91,11 @@ fn an_exchange_is_refused_by_its_cause(rt: HostRuntime) {
     }
 }
 
+fn go_on(alloc: Global, links: &mut MemLinks) -> bool {
+    is_refused(alloc, links, Node::Server, ExchangeErr::LinkFault)
+        && gives_record(alloc, links, Node::Server, b"b")
+}
+
 fn goes_on(alloc: Global, failing: u32) -> bool {
     let mut links = links(
         alloc,
@@ -94,8 +103,7 @@ fn goes_on(alloc: Global, failing: u32) -> bool {
         &[b"\x80\0\0\x01a", b"\x80\0\0\x01b"],
         &[failing],
     );
-    is_refused(alloc, &mut links, Node::Server, ExchangeErr::LinkFault)
-        && gives_record(alloc, &mut links, Node::Server, b"b")
+    go_on(alloc, &mut links)
 }
 
 #[test]
@@ -164,20 +172,34 @@ fn accepted_connections_come_in_order(rt: HostRuntime) {
     assert!(rt; connections_come_in_order(rt.alloc()));
 }
 
-// Whether a line comes on the accepted connection, and the bytes go out there.
-fn is_both<L: Links>(alloc: Global, links: &mut L, line: &[u8], bytes: &[u8]) -> bool {
-    let mut end = Accepted { links };
-    let mut reader = LineReader::new(alloc);
-    let came = match reader.next_line(&mut end) {
+fn gives_line<S: Source>(reader: &mut LineReader, source: &mut S, line: &[u8]) -> bool {
+    match reader.next_line(source) {
         Ok(Some(found)) => found.as_slice() == line,
         _ => false,
-    };
-    came && put_all(&mut end, bytes).is_ok()
+    }
+}
+
+// Whether a line comes on the accepted connection.
+fn is_source<L: Links>(alloc: Global, links: &mut L, line: &[u8]) -> bool {
+    let mut reader = LineReader::new(alloc);
+    gives_line(&mut reader, &mut Accepted { links }, line)
+}
+
+// Whether bytes go out there.
+fn is_sink<L: Links>(links: &mut L, bytes: &[u8]) -> bool {
+    put_all(&mut Accepted { links }, bytes).is_ok()
+}
+
+fn are_both(alloc: Global, links: &mut MemLinks) -> bool {
+    accepts(links)
+        && is_source(alloc, links, b"a")
+        && is_sink(links, b"xyz")
+        && puts_are(links, &[b"xyz"])
 }
 
 fn connection_is_both(alloc: Global) -> bool {
     let mut links = links(alloc, &[b"a\nb"], &[], &[]);
-    accepts(&mut links) && is_both(alloc, &mut links, b"a", b"xyz") && puts_are(&links, &[b"xyz"])
+    are_both(alloc, &mut links)
 }
 
 #[test]

@@ -2,23 +2,23 @@ use crate::lines::copied;
 use osd_bytes::{ByteLists, Bytes, MAX_RECORD, Memory, RecordErr, Records, Rows, frame};
 use std::alloc::Global;
 
-fn written_over(alloc: Global) -> Result<Bytes, Memory> {
-    let mut bytes = Bytes::new(alloc);
+fn write_over(bytes: &mut Bytes) -> Result<(), Memory> {
     bytes.overwrite(2, b"ab")?;
     bytes.overwrite(1, b"x")?;
     bytes.grow(6)?;
     bytes.push(b'!')?;
-    bytes.extend_from_slice(b"?")?;
-    Ok(bytes)
+    bytes.extend_from_slice(b"?")
+}
+
+fn are_written_over(bytes: &mut Bytes, expected: &Bytes) -> bool {
+    write_over(bytes).is_ok()
+        && bytes.as_slice() == b"\0xab\0\0!?".as_slice()
+        && *bytes == *expected
 }
 
 fn is_written_over(alloc: Global) -> bool {
-    match written_over(alloc) {
-        Ok(bytes) => {
-            bytes.as_slice() == b"\0xab\0\0!?".as_slice() && bytes == copied(alloc, b"\0xab\0\0!?")
-        }
-        Err(_) => false,
-    }
+    let mut bytes = Bytes::new(alloc);
+    are_written_over(&mut bytes, &copied(alloc, b"\0xab\0\0!?"))
 }
 
 #[test]
@@ -100,10 +100,14 @@ fn feeds_all(alloc: Global, pieces: &[(&'static [u8], Gives)]) -> bool {
     true
 }
 
+fn adds_list(out: &mut Bytes, list: &[u8]) -> bool {
+    out.extend_from_slice(list).is_ok() && out.push(b',').is_ok()
+}
+
 // Adds lists, each with a comma.
 fn adds(out: &mut Bytes, lists: &ByteLists) -> bool {
     for list in lists.as_slice() {
-        if out.extend_from_slice(list.as_slice()).is_err() || out.push(b',').is_err() {
+        if !adds_list(out, list.as_slice()) {
             return false;
         }
     }
