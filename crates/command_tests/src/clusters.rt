@@ -209,16 +209,11 @@ where
         parties: &mut [Party<R::Started>],
         said: &mut String,
     ) -> io::Result<()> {
-        match step {
-            Step::Client(words, expected) => {
-                let passed = self.client_ends(words, text, said)?;
-                self.compare(passed, said.as_str(), expected);
-            }
-            Step::End(place, expected) => {
-                let passed = party_ends(parties, *place, said)?;
-                self.compare(passed, said.as_str(), expected);
-            }
-        }
+        let (passed, expected) = match step {
+            Step::Client(words, expected) => (self.client_ends(words, text, said)?, *expected),
+            Step::End(place, expected) => (party_ends(parties, *place, said)?, *expected),
+        };
+        self.compare(passed, said.as_str(), expected);
         Ok(())
     }
 

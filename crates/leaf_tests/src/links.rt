@@ -173,6 +173,9 @@ fn accepted_connections_come_in_order(rt: HostRuntime) {
 }
 
 fn gives_line<S: Source>(reader: &mut LineReader, source: &mut S, line: &[u8]) -> bool {
+    if reader.is_over() {
+        return false;
+    }
     match reader.next_line(source) {
         Ok(Some(found)) => found.as_slice() == line,
         _ => false,
