@@ -1,4 +1,6 @@
-use cluster_text::{ClusterErr, ClusterKind, Reader, read_cluster};
+use cluster_text::{
+    Cluster, ClusterDrive, ClusterErr, ClusterFile, ClusterKind, Reader, read_cluster,
+};
 use data_map::RawMap;
 use std::alloc::Global;
 use std::test::Fail;
@@ -95,17 +97,15 @@ fn the_first_kind_of_fault_is_told(rt: HostRuntime) -> Result<(), Fail> {
     Ok(())
 }
 
-#[test]
-fn a_text_is_read(rt: HostRuntime) -> Result<(), Fail> {
-    let text = format!(in rt.alloc(); "{SERVER}{DRIVES}{FILE}")?;
-    let cluster = read_cluster(rt.alloc(), Server, text.as_bytes())?;
-    assert!(rt; cluster.server.as_slice() == b"localhost:6999".as_slice());
-    assert_eq!(rt; cluster.format, 1);
-    let drives = cluster.drives.as_slice();
-    assert!(rt; drives.len() == 2 && drives[1].number == 63);
-    assert!(rt; drives[1].address.as_slice() == b"localhost:7063".as_slice());
-    assert!(rt; drives[0].key == Some([0x0b; 20]) && drives[0].capacity == 20_000_000);
-    let files = cluster.files.as_slice();
+fn are_drives(drives: &[ClusterDrive]) -> bool {
+    drives.len() == 2
+        && drives[1].number == 63
+        && drives[1].address.as_slice() == b"localhost:7063".as_slice()
+        && drives[0].key == Some([0x0b; 20])
+        && drives[0].capacity == 20_000_000
+}
+
+fn are_files(files: &[ClusterFile]) -> bool {
     let map = RawMap {
         comps: 2,
         unit: 4,
@@ -114,6 +114,26 @@ fn a_text_is_read(rt: HostRuntime) -> Result<(), Fail> {
         mirrors: 1,
         algorithm: 1,
     };
-    assert!(rt; files.len() == 1 && files[0].number == 0 && files[0].map == map);
+    files.len() == 1 && files[0].number == 0 && files[0].map == map
+}
+
+fn is_so(cluster: &Cluster) -> bool {
+    cluster.server.as_slice() == b"localhost:6999".as_slice()
+        && cluster.format == 1
+        && are_drives(cluster.drives.as_slice())
+        && are_files(cluster.files.as_slice())
+}
+
+fn is_read(alloc: Global, text: &[u8]) -> bool {
+    match read_cluster(alloc, Server, text) {
+        Ok(cluster) => is_so(&cluster),
+        Err(_) => false,
+    }
+}
+
+#[test]
+fn a_text_is_read(rt: HostRuntime) -> Result<(), Fail> {
+    let text = format!(in rt.alloc(); "{SERVER}{DRIVES}{FILE}")?;
+    assert!(rt; is_read(rt.alloc(), text.as_bytes()));
     Ok(())
 }

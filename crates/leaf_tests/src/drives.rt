@@ -1,6 +1,6 @@
-use osd_bytes::Bytes;
+use osd_bytes::{Bytes, Memory};
 use osd_capability::{Capability, capability_key};
-use osd_commands::{Action, Command, read_command, seal, write_command};
+use osd_commands::{Action, Command, Reply, read_command, seal, write_command};
 use osd_drive::{DriveCore, DriveKey, KeyTable, Verdict};
 use std::alloc::Global;
 use std::test::Fail;
@@ -321,6 +321,13 @@ fn verdict_of(alloc: Global, drive: &mut DriveCore, message: &[u8]) -> Option<u1
     }
 }
 
+fn is_reply(reply: Result<Reply, Memory>, verdict: u16, nonce: u64) -> bool {
+    match reply {
+        Ok(reply) => reply.verdict == verdict && reply.nonce == nonce,
+        Err(_) => false,
+    }
+}
+
 // Whether the command that the bytes spell is performed without a look at its capability.
 fn performs(
     alloc: Global,
@@ -331,10 +338,9 @@ fn performs(
 ) -> bool {
     match read_command(alloc, message) {
         Ok(c) => match drive.late(&c) {
-            Verdict::Perform if c.attribute >= 65_536 => match drive.perform(alloc, &c) {
-                Ok(reply) => reply.verdict == verdict && reply.nonce == nonce,
-                Err(_) => false,
-            },
+            Verdict::Perform if c.attribute >= 65_536 => {
+                is_reply(drive.perform(alloc, &c), verdict, nonce)
+            }
             _ => false,
         },
         Err(_) => false,

@@ -12,8 +12,8 @@ fn lists(alloc: Global, members: &[&[u8]]) -> ByteLists {
     lists
 }
 
-// Links with streams that come over accepted and over asking connections, and the calls that fail.
-fn links(alloc: Global, accepted: &[&[u8]], asked: &[&[u8]], fails: &[u32]) -> MemLinks {
+/// Links with streams that come over accepted and over asking connections, and the calls that fail.
+pub fn links(alloc: Global, accepted: &[&[u8]], asked: &[&[u8]], fails: &[u32]) -> MemLinks {
     MemLinks::new(
         alloc,
         lists(alloc, accepted),

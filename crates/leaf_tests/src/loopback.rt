@@ -83,9 +83,13 @@ fn are_hung_up<L: Links>(links: &mut L) -> bool {
     takes(links, b"") && !receives(links, b"") && !sends(links, b"command")
 }
 
+fn hand_on_and_hang_up<L: Links>(alloc: Global, links: &mut L, address: &[u8]) -> bool {
+    hand_on(alloc, links, address) && are_hung_up(links)
+}
+
 fn new_links_hand_on(rt: &HostRuntime, address: &[u8]) -> bool {
     let mut links = TcpLinks::new(rt, rt.alloc());
-    hand_on(rt.alloc(), &mut links, address) && are_hung_up(&mut links)
+    hand_on_and_hang_up(rt.alloc(), &mut links, address)
 }
 
 #[test]

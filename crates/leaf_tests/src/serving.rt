@@ -1,4 +1,5 @@
-use osd_bytes::{ByteLists, Bytes, Clock, Links, MemClock, MemLinks, Numbers, Times};
+use crate::links::links;
+use osd_bytes::{Clock, Links, MemClock, MemLinks, Times};
 use osd_drive::{DriveCore, KeyTable};
 use std::alloc::Global;
 
@@ -73,35 +74,6 @@ const ANSWER: &[u8] = b"\x80\0\0\x28OSDr\0\0\0\x10\
     \0\0\0\0\0\0\0\0\0\0\0\0\0\0\0\0\
     \0\0\0\0\0\0\0\0\0\0\0\0\0\0\0\0";
 
-fn coming(alloc: Global, streams: &[&[u8]]) -> ByteLists {
-    let mut coming = ByteLists::new(alloc);
-    for stream in streams {
-        match Bytes::copied(alloc, stream) {
-            Ok(bytes) => {
-                let _ = coming.push(bytes);
-            }
-            Err(_) => {}
-        }
-    }
-    coming
-}
-
-fn calls(alloc: Global, fails: &[u32]) -> Numbers {
-    match Numbers::copied(alloc, fails) {
-        Ok(calls) => calls,
-        Err(_) => Numbers::new(alloc),
-    }
-}
-
-fn links(alloc: Global, case: &Case) -> MemLinks {
-    MemLinks::new(
-        alloc,
-        coming(alloc, case.streams),
-        ByteLists::new(alloc),
-        calls(alloc, case.fails),
-    )
-}
-
 // A clock that tells 5 to 9.
 fn clock(alloc: Global) -> MemClock {
     match Times::copied(alloc, &[5, 6, 7, 8, 9]) {
@@ -145,11 +117,22 @@ fn serves<L: Links, C: Clock>(
     drive.serve(alloc, links, clock, connections).is_ok()
 }
 
+fn goes_over(
+    alloc: Global,
+    drive: &mut DriveCore,
+    links: &mut MemLinks,
+    clock: &mut MemClock,
+    case: &Case,
+) -> bool {
+    serves(alloc, drive, links, clock, case.connections) == case.served
+        && went_out(links, case.answers)
+        && clock.now() == case.next_time
+}
+
 fn goes(alloc: Global, drive: &mut DriveCore, case: &Case) -> bool {
-    let mut links = links(alloc, case);
+    let mut links = links(alloc, case.streams, &[], case.fails);
     let mut clock = clock(alloc);
-    let served = serves(alloc, drive, &mut links, &mut clock, case.connections);
-    served == case.served && went_out(&links, case.answers) && clock.now() == case.next_time
+    goes_over(alloc, drive, &mut links, &mut clock, case)
 }
 
 fn goes_as_it_says(alloc: Global, case: &Case) -> bool {
