@@ -1,14 +1,14 @@
 -- Whether a read goes on or ends.
-use Rattle.std.proofs.Common.{◌≡◌, ◌++◌, ◌+◌, ℕ, zero, suc, length, true, false, List, [], ◌∷◌, refl, sym, ap, ◌∙◌, inl, inr, arith}
-use Rattle.std.specs.Prelude.{map, drop, slice_get, ◌==◌, Option, Some, None, Result, Ok, Err, IfOk}
-use Rattle.std.proofs.lemmas.Bool.{cases_Bool}
+use Rattle.std.proofs.Common.{◌≡◌, ◌++◌, ◌+◌, ℕ, zero, suc, length, List, [], ◌∷◌, refl, sym, ap, ◌∙◌, inl, inr, arith}
+use Rattle.std.specs.Prelude.{map, drop, slice_get, Option, Some, None, Result, Ok, Err, IfOk}
 use Rattle.call_commands.proofs.Lists.{drop_at, snoc}
-use Rattle.client_rules.specs.declared.limits.TheConstants.{PERFORMED, OTHER_TAG}
+use Rattle.client_rules.specs.Turns.{turned}
 use Rattle.client_rules.specs.Writes.{gathers_on, scatters}
-use Rattle.client_rules.specs.Replies.{refused_report, refused, performed, replied}
+use Rattle.call_io.specs.declared.phase.CallPhase.{CallPhase}
+use Rattle.call_io.specs.declared.phase.CallTurn.{CallTurn}
+use Rattle.call_io.specs.declared.phase.CallTurn.TheVariants.{Goes as IsGoing}
 use Rattle.call_io.specs.declared.phase.CallMove.{CallMove}
-use Rattle.call_io.specs.Phases.{counted_move}
-use Rattle.call_io.specs.Steps.{on_reply, refused_turn}
+use Rattle.call_io.specs.Phases.{counted_move, phase_of, turn_of}
 use Rattle.stripe_plan.specs.Touched.{stripes}
 use Rattle.stripe_plan.specs.Plans.{unless_lost, Gives, assemble, apply_and_encode, plan_scatter, stores, written, writes}
 use Rattle.stripe_plan.specs.declared.plan.Part.{Part}
@@ -17,7 +17,7 @@ use Rattle.stripe_plan.specs.Words.{answered}
 use Rattle.client_rules.specs.Commands.{counted}
 use Rattle.client_rules.specs.Io.{outs}
 use Rattle.client_rules.specs.Reads.{reads_on}
-use Rattle.call_io.specs.State.{Held, Awaited, TimedOut, Span, Column, Reads, ReadOk, Goes, Ends, Moved, RawMap, Ask, Store, CallOp, Gathers, Phase, Turn, Reply, IoErr}
+use Rattle.call_io.specs.State.{Held, Awaited, TimedOut, Span, Column, Reads, ReadOk, Goes, Ends, Moved, RawMap, Ask, Store, CallOp, Gathers}
 
 -- what a plan gives where it is one
 pub told : {X : Type 0} (o : Option (List ℕ)) (x y : X) → Gives (unless_lost o x) (Ok y) → y ≡ x
@@ -90,23 +90,15 @@ pub ok_same : {E : Type 0} (res : Result CallMove E) (h : Held) (x y : Moved) �
 ok_same (Ok m) h x y e k = k ∙ e
 ok_same (Err z) h x y e k = k
 
--- ---- replies
+-- ---- it goes on as it was
 
 none_counted : (h : Held) → counted h [] ≡ h
 none_counted h = ap (λ (n : ℕ). record h { count = n }) (omega arith)
 
-pub refused_step : (h : Held) (op : CallOp) (p : Phase) (a : Awaited) (r : Reply) (o : Option Awaited) (report : List IoErr) (t : Turn) (sent : List Awaited) → Some a ≡ o → (r.verdict == PERFORMED) ≡ false → report ≡ refused_report h p a r → t ≡ refused_turn a r report → sent ≡ []
-    → record { held = counted h sent; turn = t; sent = sent } ≡ on_reply h op p r o
-unfolding replied refused
-refused_step h op p a r o report t sent e ne rep te se =
-    elim (cases_Bool (r.verdict == OTHER_TAG)) [
-      | inl y ↦ rw (sym e, ne, y, se, te ∙ ap (refused_turn a r) rep, y, none_counted h) refl
-      | inr n ↦ rw (sym e, ne, n, se, te ∙ ap (refused_turn a r) rep, n, none_counted h) refl
-    ]
-
-pub performed_step : (h : Held) (op : CallOp) (p : Phase) (a : Awaited) (r : Reply) (o : Option Awaited) → Some a ≡ o → (r.verdict == PERFORMED) ≡ true → performed h op p a r ≡ on_reply h op p r o
-unfolding replied
-performed_step h op p a r o e y = rw (sym e, y) refl
+pub stays_in : (h : Held) (p : CallPhase) (m : CallMove) → m.turn ≡ IsGoing p → m.sent ≡ [] → counted_move h m ≡ turned h (Goes (phase_of p))
+stays_in h p m e f = ap (λ (t : CallTurn). record { held = counted h m.sent; turn = turn_of t; sent = m.sent }) e
+    ∙ ap (λ (xs : List Awaited). record { held = counted h xs; turn = Goes (phase_of p); sent = xs }) f
+    ∙ ap (λ (g : Held). turned g (Goes (phase_of p))) (none_counted h)
 
 pub stores_eq : (m : RawMap) (r : Span) (bytes : List ℕ) (got : List Column) (out : List ℕ) (cols : List Column) (asks : List Ask) → cols ≡ written m r bytes got out (stripes m r) → asks ≡ writes m r out → stores m r bytes got out ≡ map (filled cols) asks
 unfolding stores

@@ -1,4 +1,5 @@
 mod Ends
+mod Heard
 mod Places
 mod Splits
 mod Taking

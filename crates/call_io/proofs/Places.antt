@@ -1,6 +1,6 @@
 -- Positions and groups of a map.
 use Rattle.std.proofs.Common.{◌≡◌, ◌<◌, ◌≤◌, ℕ, suc, ◌+◌, ◌-◌, ◌*◌, ◌/◌, ◌++◌, List, [], ◌∷◌, refl, sym, ap, ◌∙◌, arith, false}
-use Rattle.std.specs.Prelude.{drop, slice_get, is_some, Some}
+use Rattle.std.specs.Prelude.{drop, slice_get, is_some, Some, None}
 use Rattle.std.specs.List.{range_with_len}
 use Rattle.std.proofs.lemmas.Nat.{div_below, div-mul-add}
 use Rattle.std.proofs.Math.Nat.{add-mul, mul-le-mul_right}
@@ -54,6 +54,10 @@ probe_end h out have p e l = ap (probe_each h out have p) (done p e l)
 pub none_of : (k : ℕ) → is_some (first_among (of_component k [])) ≡ false
 unfolding of_component
 none_of k = refl
+
+pub none_first : (k : ℕ) → first_among (of_component k []) ≡ None
+unfolding of_component
+none_first k = refl
 
 -- ---- what was read, as of first components
 

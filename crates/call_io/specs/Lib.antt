@@ -3,5 +3,7 @@ pub mod Inside
 pub mod Probes
 pub mod Phases
 pub mod Steps
+pub mod Heard
+pub mod Silence
 pub mod Splits
 pub mod Emptied

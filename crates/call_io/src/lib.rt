@@ -11,6 +11,7 @@ mod phase;
 mod probing;
 mod reading;
 mod replies;
+mod sending;
 mod timeouts;
 mod waiting;
 mod writing;

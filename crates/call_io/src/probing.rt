@@ -4,14 +4,15 @@ ghost use Rattle.std.specs.List.{range_with_len};
 ghost use Rattle.data_map.specs.declared.check.TheConstants.{MAX_COMPONENTS};
 ghost use Rattle.data_map.specs.Striping.{group_width, positions};
 ghost use Rattle.stripe_plan.specs.Lost.{among, positions_out};
-ghost use Rattle.client_rules.specs.Io.{outs};
+ghost use Rattle.client_rules.specs.Io.{had_positions, outs};
 ghost use Rattle.client_rules.specs.Reads.{first_present, probe_each, probes_on, probes_due, probes_sent, is_probe_lost, probes_at, probes_by, probes};
 ghost use Rattle.call_io.specs.Phases.{counted_move};
 ghost use Rattle.call_io.specs.Probes.{probe_unless};
 
 use crate::moves::turned;
 use crate::phase::{CallIo, CallMove, CallPhase, CallTurn};
-use call_commands::{await_all, credential_of, had_positions, out_of, read_commands};
+use crate::sending::send_reads;
+use call_commands::{credential_of, had_positions, out_of};
 use client_rules::{AwaitedCommands, Held, Outcome};
 use data_map::DataMap;
 use osd_bytes::{Bytes, Memory, Numbers};
@@ -176,7 +177,16 @@ pub fn probes_on(alloc: Global, held: &Held, io: CallIo, sent: AwaitedCommands) 
     }
 }
 
-// What is due is sent.
+// What is due, and isn't had.
+fn due(alloc: Global, held: &Held, io: &CallIo, out: &Out, position: u32) -> Result<Asks, Memory>
+    requires { position < positions held.now.map }
+    ensures { IfOk result (λ xs. xs ≡ probes_due held.now out.now.components (had_positions io.now.got io.now.pending) position) }
+{
+    let have = had_positions(alloc, io.got.as_slice(), &io.pending)?;
+    probes_due(alloc, held, out, &have, position)
+}
+
+// It is sent.
 fn probes_sent(
     alloc: Global,
     held: &Held,
@@ -189,10 +199,8 @@ fn probes_sent(
     ensures { IfOk result (λ m. counted_move held.now m ≡ probes_sent held.now io.got io.timed io.pending position) }
 {
     let mut io = io;
-    let have = had_positions(alloc, io.got.as_slice(), &io.pending)?;
-    let due = probes_due(alloc, held, out, &have, position)?;
-    let sent = read_commands(alloc, held, due.as_slice())?;
-    await_all(alloc, &mut io.pending, &sent)?;
+    let due = due(alloc, held, &io, out, position)?;
+    let sent = send_reads(alloc, held, &mut io.pending, due)?;
     Ok(probes_on(alloc, held, io, sent))
 }
 

@@ -1,6 +1,7 @@
 // Reads: what a read asks of the drives, and how it ends.
 ghost use Rattle.std.specs.Prelude.{◌≡◌, ◌+◌, ◌<◌, ◌≤◌, length, slice_get, slice_set, Some, IfOk};
 ghost use Rattle.stripe_plan.specs.Plans.{columns_of};
+ghost use Rattle.stripe_plan.specs.Words.{answered};
 ghost use Rattle.client_rules.specs.Io.{outs};
 ghost use Rattle.client_rules.specs.Reads.{reads_on, reads_due, reads_sent, reads};
 ghost use Rattle.call_io.specs.Phases.{counted_move};
@@ -8,14 +9,15 @@ ghost use Rattle.call_io.specs.Emptied.{no_column};
 
 use crate::moves::turned;
 use crate::phase::{CallIo, CallMove, CallPhase, CallTurn};
-use call_commands::{await_all, had, out_of, read_commands};
-use client_rules::{AwaitedCommands, Held, Outcome};
+use crate::sending::send_reads;
+use call_commands::{had, out_of};
+use client_rules::{AwaitedCommands, Held, Outcome, TimedOuts};
 use data_map::{DataMap, MAX_FILE_SIZE};
 use osd_bytes::{Bytes, Memory};
 use std::alloc::Global;
 use std::mem;
 use stripe_plan::{
-    Aim, Column, Columns, Fetched, Out, Part, PlanErr, Span, asks, assemble, check_readable,
+    Aim, Asks, Column, Columns, Fetched, Out, Part, PlanErr, Span, asks, assemble, check_readable,
 };
 
 // Nothing that was read.
@@ -58,6 +60,25 @@ pub fn fetched(alloc: Global, map: &DataMap, got: Columns) -> Result<Fetched, Me
     Ok(parts)
 }
 
+// The bytes of a range, of which all that it needs was read.
+fn assembled(
+    alloc: Global,
+    held: &Held,
+    range: Span,
+    got: Columns,
+    timed: &TimedOuts,
+) -> Result<Bytes, Memory>
+    requires inside { range.offset + range.length ≤ MAX_FILE_SIZE }
+    ensures { IfOk result (λ bytes. bytes ≡ answered held.now.map range got (outs held.now timed.now)) }
+{
+    let out = out_of(alloc, held, timed)?;
+    let parts = fetched(alloc, &held.map, got)?;
+    match assemble(alloc, &held.map, range.offset, range.length, &parts, &out) {
+        Ok(bytes) => Ok(bytes),
+        Err(_) => Err(Memory),
+    }
+}
+
 // A read goes on while a reply is awaited; then its bytes are put together.
 pub fn reads_on(
     alloc: Global,
@@ -78,20 +99,26 @@ pub fn reads_on(
         });
     }
     let CallIo { got, timed, .. } = io;
-    let out = out_of(alloc, held, &timed)?;
-    let parts = fetched(alloc, &held.map, got)?;
-    match assemble(alloc, &held.map, range.offset, range.length, &parts, &out) {
-        Ok(bytes) => Ok(CallMove {
-            turn: CallTurn::Ends {
-                outcome: Outcome::ReadOk { bytes },
-            },
-            sent,
-        }),
-        Err(_) => Err(Memory),
-    }
+    let bytes = assembled(alloc, held, range, got, &timed)?;
+    Ok(CallMove {
+        turn: CallTurn::Ends {
+            outcome: Outcome::ReadOk { bytes },
+        },
+        sent,
+    })
 }
 
-// What the plan asks and isn't had is sent.
+// What the plan asks and isn't had.
+fn due(alloc: Global, held: &Held, range: Span, io: &CallIo, out: &Out) -> Result<Asks, Memory>
+    requires inside { range.offset + range.length ≤ MAX_FILE_SIZE }
+    requires out { out.now.components ≡ outs held.now io.now.timed }
+    ensures { IfOk result (λ xs. xs ≡ reads_due held.now range io.now.got io.now.timed io.now.pending) }
+{
+    let had = had(alloc, io.got.as_slice(), &io.pending)?;
+    asks(alloc, Aim::Reads, &held.map, range, out, had.as_slice())
+}
+
+// It is sent.
 fn reads_sent(
     alloc: Global,
     held: &Held,
@@ -105,10 +132,8 @@ fn reads_sent(
         ≡ reads_sent held.now range io.got io.timed io.pending (reads_due held.now range io.got io.timed io.pending)) }
 {
     let mut io = io;
-    let had = had(alloc, io.got.as_slice(), &io.pending)?;
-    let due = asks(alloc, Aim::Reads, &held.map, range, out, had.as_slice())?;
-    let sent = read_commands(alloc, held, due.as_slice())?;
-    await_all(alloc, &mut io.pending, &sent)?;
+    let due = due(alloc, held, range, &io, out)?;
+    let sent = send_reads(alloc, held, &mut io.pending, due)?;
     reads_on(alloc, held, range, io, sent)
 }
 

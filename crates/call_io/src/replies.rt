@@ -1,21 +1,20 @@
 // Replies of the drives.
-ghost use Rattle.std.specs.Prelude.{◌≡◌, ◌==◌, [], if◌then◌else◌, find, IfOk};
-ghost use Rattle.call_io.specs.State.{Reads as IsReads, Probes as IsProbes, Gathers as IsGathers, Scatters as IsScatters, Forgets as IsForgets};
-ghost use Rattle.client_rules.specs.Turns.{closing};
+ghost use Rattle.std.specs.Prelude.{◌≡◌, find, IfOk, OnOk};
 ghost use Rattle.client_rules.specs.Requests.{error_at, errno_of};
-ghost use Rattle.client_rules.specs.Io.{got_of};
-ghost use Rattle.client_rules.specs.Replies.{answers, refusal};
-ghost use Rattle.call_io.specs.Phases.{io_of, phase_of, turn_of, counted_move, moved_of};
+ghost use Rattle.client_rules.specs.Io.{awaited_in, got_of};
+ghost use Rattle.client_rules.specs.Replies.{answers, refused, refused_report};
+ghost use Rattle.call_commands.specs.Pending.{answering};
+ghost use Rattle.call_io.specs.Phases.{phase_of, turn_of, counted_move, moved_of};
 ghost use Rattle.call_io.specs.Inside.{IsInside};
 ghost use Rattle.call_io.specs.Steps.{on_reply, refused_turn};
-ghost use Rattle.client_rules.specs.Io.{awaited_in};
+ghost use Rattle.call_io.specs.Heard.{answered, goes_on, heard_in, kept_in};
 
 use crate::moves::{clipped_span, closing, turned};
-use crate::phase::{CallIo, CallMove, CallPhase, CallTurn};
+use crate::phase::{CallMove, CallPhase, CallTurn};
 use crate::probing::probes_on;
 use crate::reading::reads_on;
 use crate::writing::{gathers_on, scatters_next};
-use call_commands::{WriteQueue, count_sent, object_of};
+use call_commands::{count_sent, object_of};
 use client_rules::{
     Awaited, AwaitedCommands, BAD_CHECK_VALUE, CallOp, EXPIRED, Held, LANE_FULL, NO_KEY, NO_OBJECT,
     NO_RIGHT, NO_SPACE, OTHER_OBJECT, OTHER_TAG, OUT_OF_RANGE, OVER_LIMIT, Outcome, PERFORMED,
@@ -73,10 +72,9 @@ pub fn error_at(held: &Held, write: bool, ask: &Ask, errno: Errno) -> IoErr
     }
 }
 
-// A refused command ends the call: an object with another tag means that the grant is over, else it is returned.
-fn refused(alloc: Global, awaited: &Awaited, reply: &Reply, report: Sequence<IoErr>) -> CallMove
-    ensures turn { turn_of result.turn ≡ refused_turn awaited.now reply.now report }
-    ensures sent { result.sent ≡ [] }
+// How a refused command ends the call: an object with another tag means that the grant is over, else it is returned.
+fn refused_turn(awaited: &Awaited, reply: &Reply, report: Sequence<IoErr>) -> CallTurn
+    ensures { turn_of result ≡ refused_turn awaited.now reply.now report }
 {
     let outcome = Outcome::Refused {
         drive: awaited.drive,
@@ -84,112 +82,112 @@ fn refused(alloc: Global, awaited: &Awaited, reply: &Reply, report: Sequence<IoE
         detail: reply.detail,
     };
     if reply.verdict == OTHER_TAG {
-        return turned(alloc, CallTurn::Forgets { outcome });
+        return CallTurn::Forgets { outcome };
     }
-    turned(alloc, closing(outcome, report))
+    closing(outcome, report)
 }
 
-// A reply in a read.
-fn on_read(
+// The refused command is reported where a WRITE was sent.
+fn refused_report(
     alloc: Global,
     held: &Held,
-    op: &CallOp,
-    io: CallIo,
-    drive: u32,
-    reply: Reply,
-) -> Result<CallMove, Memory>
-    requires { IsInside op.now }
-    ensures { IfOk result (λ m. counted_move held.now m ≡ on_reply held.now op.now (IsReads (io_of io)) reply (find (answers drive reply) io.pending)) }
+    phase: &CallPhase,
+    awaited: &Awaited,
+    reply: &Reply,
+) -> Result<Sequence<IoErr>, Memory>
+    ensures { IfOk result (λ report. report ≡ refused_report held.now (phase_of phase.now) awaited.now reply.now) }
 {
-    let mut io = io;
-    let Some(awaited) = io.pending.take(drive, reply.nonce) else {
-        let phase = CallPhase::Reads { io };
-        return Ok(turned(alloc, CallTurn::Goes { phase }));
-    };
-    if reply.verdict != PERFORMED {
-        return Ok(refused(alloc, &awaited, &reply, Sequence::new(alloc)));
-    }
-    io.got.push(column_of(&awaited, reply)?)?;
-    let range = clipped_span(held, op);
-    reads_on(alloc, held, range, io, AwaitedCommands::new(alloc))
-}
-
-// A reply in a read of no bytes.
-fn on_probe(
-    alloc: Global,
-    held: &Held,
-    op: &CallOp,
-    io: CallIo,
-    drive: u32,
-    reply: Reply,
-) -> Result<CallMove, Memory>
-    ensures { IfOk result (λ m. counted_move held.now m ≡ on_reply held.now op.now (IsProbes (io_of io)) reply (find (answers drive reply) io.pending)) }
-{
-    let _ = op;
-    let mut io = io;
-    let Some(awaited) = io.pending.take(drive, reply.nonce) else {
-        let phase = CallPhase::Probes { io };
-        return Ok(turned(alloc, CallTurn::Goes { phase }));
-    };
-    if reply.verdict != PERFORMED {
-        return Ok(refused(alloc, &awaited, &reply, Sequence::new(alloc)));
-    }
-    io.got.push(column_of(&awaited, reply)?)?;
-    Ok(probes_on(alloc, held, io, AwaitedCommands::new(alloc)))
-}
-
-// A reply in a gather.
-fn on_gather(
-    alloc: Global,
-    held: &Held,
-    op: &CallOp,
-    io: CallIo,
-    drive: u32,
-    reply: Reply,
-) -> Result<CallMove, Memory>
-    requires { IsInside op.now }
-    ensures { IfOk result (λ m. counted_move held.now m ≡ on_reply held.now op.now (IsGathers (io_of io)) reply (find (answers drive reply) io.pending)) }
-{
-    let mut io = io;
-    let Some(awaited) = io.pending.take(drive, reply.nonce) else {
-        let phase = CallPhase::Gathers { io };
-        return Ok(turned(alloc, CallTurn::Goes { phase }));
-    };
-    if reply.verdict != PERFORMED {
-        return Ok(refused(alloc, &awaited, &reply, Sequence::new(alloc)));
-    }
-    io.got.push(column_of(&awaited, reply)?)?;
-    gathers_on(alloc, held, op, io, AwaitedCommands::new(alloc))
-}
-
-// A reply in a scatter. A refused command is reported.
-fn on_scatter(
-    alloc: Global,
-    held: &Held,
-    op: &CallOp,
-    io: CallIo,
-    queue: WriteQueue,
-    drive: u32,
-    reply: Reply,
-) -> Result<CallMove, Memory>
-    requires { IsInside op.now }
-    ensures { IfOk result (λ m. counted_move held.now m ≡ on_reply held.now op.now (IsScatters (io_of io) queue) reply (find (answers drive reply) io.pending)) }
-{
-    let mut io = io;
-    let Some(awaited) = io.pending.take(drive, reply.nonce) else {
-        let phase = CallPhase::Scatters { io, queue };
-        return Ok(turned(alloc, CallTurn::Goes { phase }));
-    };
-    if reply.verdict != PERFORMED {
-        let mut report = Sequence::new(alloc);
+    let mut report = Sequence::new(alloc);
+    if let CallPhase::Scatters { .. } = phase {
         let errno = errno_of(reply.verdict);
         report.push(error_at(held, awaited.write, &awaited.ask, errno))?;
-        return Ok(refused(alloc, &awaited, &reply, report));
     }
-    scatters_next(alloc, held, op, io, queue, awaited.ask.component)
+    Ok(report)
 }
 
-// By the phase.
+// A refused command ends the call.
+#[tactic(auto, unfolding(client_rules::specs::Replies::refused))]
+fn refused(
+    alloc: Global,
+    held: &Held,
+    phase: &CallPhase,
+    awaited: &Awaited,
+    reply: &Reply,
+) -> Result<CallMove, Memory>
+    ensures { IfOk result (λ m. counted_move held.now m ≡ refused held.now (phase_of phase.now) awaited.now reply.now) }
+{
+    let report = refused_report(alloc, held, phase, awaited, reply)?;
+    Ok(turned(alloc, refused_turn(awaited, reply, report)))
+}
+
+// Takes out the command that a reply with that nonce from that drive answers.
+fn take(phase: &mut CallPhase, drive: u32, nonce: u64) -> Option<Awaited>
+    ensures found { result ≡ find (answering drive nonce) (awaited_in (phase_of phase.old)) }
+    ensures left { phase_of phase.new ≡ heard_in (phase_of phase.old) result }
+{
+    match phase {
+        CallPhase::Reads { io } => io.pending.take(drive, nonce),
+        CallPhase::Probes { io } => io.pending.take(drive, nonce),
+        CallPhase::Gathers { io } => io.pending.take(drive, nonce),
+        CallPhase::Scatters { io, .. } => io.pending.take(drive, nonce),
+        _ => None,
+    }
+}
+
+// Keeps what the reply to a READ gives.
+fn keep(phase: &mut CallPhase, awaited: &Awaited, reply: Reply) -> Result<(), Memory>
+    ensures { OnOk result (phase_of phase.new ≡ kept_in (phase_of phase.old) awaited.now reply) }
+{
+    match phase {
+        CallPhase::Reads { io } => io.got.push(column_of(awaited, reply)?),
+        CallPhase::Probes { io } => io.got.push(column_of(awaited, reply)?),
+        CallPhase::Gathers { io } => io.got.push(column_of(awaited, reply)?),
+        _ => Ok(()),
+    }
+}
+
+// It goes on, where that component answered.
+fn goes_on(
+    alloc: Global,
+    held: &Held,
+    op: &CallOp,
+    phase: CallPhase,
+    component: u32,
+) -> Result<CallMove, Memory>
+    requires { IsInside op.now }
+    ensures { IfOk result (λ m. counted_move held.now m ≡ goes_on held.now op.now (phase_of phase) component) }
+{
+    let sent = AwaitedCommands::new(alloc);
+    match phase {
+        CallPhase::Reads { io } => reads_on(alloc, held, clipped_span(held, op), io, sent),
+        CallPhase::Probes { io } => Ok(probes_on(alloc, held, io, sent)),
+        CallPhase::Gathers { io } => gathers_on(alloc, held, op, io, sent),
+        CallPhase::Scatters { io, queue } => scatters_next(alloc, held, op, io, queue, component),
+        phase => Ok(turned(alloc, CallTurn::Goes { phase })),
+    }
+}
+
+// The reply to a command that isn't awaited any more.
+fn answered(
+    alloc: Global,
+    held: &Held,
+    op: &CallOp,
+    phase: CallPhase,
+    awaited: &Awaited,
+    reply: Reply,
+) -> Result<CallMove, Memory>
+    requires { IsInside op.now }
+    ensures { IfOk result (λ m. counted_move held.now m ≡ answered held.now op.now (phase_of phase) awaited.now reply) }
+{
+    if reply.verdict != PERFORMED {
+        return refused(alloc, held, &phase, awaited, &reply);
+    }
+    let mut phase = phase;
+    keep(&mut phase, awaited, reply)?;
+    goes_on(alloc, held, op, phase, awaited.ask.component)
+}
+
+// A reply, whether or not it is awaited.
 fn reply_in(
     alloc: Global,
     held: &Held,
@@ -202,12 +200,10 @@ fn reply_in(
     ensures { IfOk result (λ m. counted_move held.now m
         ≡ on_reply held.now op.now (phase_of phase) reply (find (answers drive reply) (awaited_in (phase_of phase)))) }
 {
-    match phase {
-        CallPhase::Reads { io } => on_read(alloc, held, op, io, drive, reply),
-        CallPhase::Probes { io } => on_probe(alloc, held, op, io, drive, reply),
-        CallPhase::Gathers { io } => on_gather(alloc, held, op, io, drive, reply),
-        CallPhase::Scatters { io, queue } => on_scatter(alloc, held, op, io, queue, drive, reply),
-        phase => Ok(turned(alloc, CallTurn::Goes { phase })),
+    let mut phase = phase;
+    match take(&mut phase, drive, reply.nonce) {
+        Some(awaited) => answered(alloc, held, op, phase, &awaited, reply),
+        None => Ok(turned(alloc, CallTurn::Goes { phase })),
     }
 }
 

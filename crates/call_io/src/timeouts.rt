@@ -1,13 +1,16 @@
 // Drives that don't reply.
-ghost use Rattle.std.specs.Prelude.{◌≡◌, IfOk};
-ghost use Rattle.call_io.specs.State.{Reads as IsReads, Probes as IsProbes, Gathers as IsGathers, Scatters as IsScatters};
+ghost use Rattle.std.specs.Prelude.{◌≡◌, IfOk, OnOk};
+ghost use Rattle.call_io.specs.State.{Gathers as IsGathers, Scatters as IsScatters};
+ghost use Rattle.client_rules.specs.declared.outcomes.Outcome.TheVariants.{Silent as IsSilent};
+ghost use Rattle.client_rules.specs.Turns.{closing, turned};
 ghost use Rattle.client_rules.specs.Requests.{report_of};
-ghost use Rattle.client_rules.specs.Commands.{of_component};
-ghost use Rattle.client_rules.specs.Io.{awaited_in};
-ghost use Rattle.client_rules.specs.Replies.{gather_timed, scatter_timed};
+ghost use Rattle.client_rules.specs.Commands.{not_of, of_component};
+ghost use Rattle.client_rules.specs.Io.{awaited_in, timed_with};
+ghost use Rattle.call_commands.specs.Pending.{first_among};
 ghost use Rattle.call_io.specs.Phases.{io_of, phase_of, counted_move, moved_of};
 ghost use Rattle.call_io.specs.Inside.{IsInside};
 ghost use Rattle.call_io.specs.Steps.{on_timeout};
+ghost use Rattle.call_io.specs.Silence.{goes_without, out_in};
 
 use crate::moves::{clipped_span, closing, turned};
 use crate::phase::{CallIo, CallMove, CallPhase, CallTurn};
@@ -16,7 +19,7 @@ use crate::reading::reads;
 use crate::replies::error_at;
 use crate::writing::{gathers, is_too_short, scatters_on};
 use call_commands::{WriteQueue, count_sent, timed_with};
-use client_rules::{AwaitedCommands, CallOp, Held, Outcome, TimedOuts};
+use client_rules::{AwaitedCommands, CallOp, Held, Outcome, TimedOut, TimedOuts};
 use layout_types::{Errno, IoErr};
 use osd_bytes::{Memory, Sequence};
 use std::alloc::Global;
@@ -37,51 +40,47 @@ pub fn report_of(alloc: Global, held: &Held, timed: &TimedOuts) -> Result<Sequen
     Ok(report)
 }
 
-// A timeout in a read.
-fn on_read(
-    alloc: Global,
-    held: &Held,
-    op: &CallOp,
-    io: CallIo,
-    component: u32,
-) -> Result<CallMove, Memory>
-    requires { IsInside op.now }
-    ensures { IfOk result (λ m. counted_move held.now m ≡ on_timeout held.now op.now (IsReads (io_of io)) component (of_component component io.pending)) }
+// The first command to that component, of those that are awaited.
+fn first_to(phase: &CallPhase, component: u32) -> Option<TimedOut>
+    ensures { result ≡ first_among (of_component component (awaited_in (phase_of phase.now))) }
 {
-    let mut io = io;
-    let Some(first) = io.pending.first_to(component) else {
-        let phase = CallPhase::Reads { io };
-        return Ok(turned(alloc, CallTurn::Goes { phase }));
-    };
-    io.timed = timed_with(alloc, first, &io.timed)?;
-    io.pending.drop_component(component);
-    reads(alloc, held, clipped_span(held, op), io)
+    match phase.pending() {
+        Some(pending) => pending.first_to(component),
+        None => None,
+    }
 }
 
-// A timeout in a read of no bytes.
-fn on_probe(
-    alloc: Global,
-    held: &Held,
-    op: &CallOp,
-    io: CallIo,
-    component: u32,
-) -> Result<CallMove, Memory>
-    ensures { IfOk result (λ m. counted_move held.now m ≡ on_timeout held.now op.now (IsProbes (io_of io)) component (of_component component io.pending)) }
+// Its commands aren't awaited any more, and it is one of those that timed out.
+fn put_out(alloc: Global, io: &mut CallIo, component: u32, first: TimedOut) -> Result<(), Memory>
+    ensures pending { OnOk result (io.new.pending ≡ not_of component io.old.pending) }
+    ensures got { OnOk result (io.new.got ≡ io.old.got) }
+    ensures timed { OnOk result (io.new.timed ≡ timed_with first io.old.timed) }
 {
-    let _ = op;
-    let mut io = io;
-    let Some(first) = io.pending.first_to(component) else {
-        let phase = CallPhase::Probes { io };
-        return Ok(turned(alloc, CallTurn::Goes { phase }));
-    };
     io.timed = timed_with(alloc, first, &io.timed)?;
     io.pending.drop_component(component);
-    probes(alloc, held, io)
+    Ok(())
+}
+
+// The same by the phase.
+fn put_out_in(
+    alloc: Global,
+    phase: &mut CallPhase,
+    component: u32,
+    first: TimedOut,
+) -> Result<(), Memory>
+    ensures { OnOk result (phase_of phase.new ≡ out_in (phase_of phase.old) component first) }
+{
+    match phase {
+        CallPhase::Reads { io } => put_out(alloc, io, component, first),
+        CallPhase::Probes { io } => put_out(alloc, io, component, first),
+        CallPhase::Gathers { io } => put_out(alloc, io, component, first),
+        CallPhase::Scatters { io, .. } => put_out(alloc, io, component, first),
+        _ => Ok(()),
+    }
 }
 
 // Before the first WRITE: where too much is out the call ends, and the grant stays.
-#[tactic(auto, unfolding(client_rules::specs::Replies::gather_timed))]
-fn on_gather(
+fn gathers_without(
     alloc: Global,
     held: &Held,
     op: &CallOp,
@@ -89,25 +88,30 @@ fn on_gather(
     component: u32,
 ) -> Result<CallMove, Memory>
     requires { IsInside op.now }
-    ensures { IfOk result (λ m. counted_move held.now m ≡ on_timeout held.now op.now (IsGathers (io_of io)) component (of_component component io.pending)) }
+    ensures { IfOk result (λ m. counted_move held.now m ≡ goes_without held.now op.now (IsGathers (io_of io)) component) }
 {
-    let mut io = io;
-    let Some(first) = io.pending.first_to(component) else {
-        let phase = CallPhase::Gathers { io };
-        return Ok(turned(alloc, CallTurn::Goes { phase }));
-    };
-    io.timed = timed_with(alloc, first, &io.timed)?;
     if is_too_short(alloc, held, op, &io.timed)? {
         let outcome = Outcome::Silent { component };
         return Ok(turned(alloc, CallTurn::Ends { outcome }));
     }
-    io.pending.drop_component(component);
     gathers(alloc, held, op, io)
 }
 
+// The grant is returned with a report.
+fn reported(
+    alloc: Global,
+    held: &Held,
+    timed: &TimedOuts,
+    component: u32,
+) -> Result<CallMove, Memory>
+    ensures { IfOk result (λ m. counted_move held.now m ≡ turned held.now (closing (IsSilent component) (report_of held.now timed.now))) }
+{
+    let report = report_of(alloc, held, timed)?;
+    Ok(turned(alloc, closing(Outcome::Silent { component }, report)))
+}
+
 // After it: where too much is out the grant is returned with a report.
-#[tactic(auto, unfolding(client_rules::specs::Replies::scatter_timed))]
-fn on_scatter(
+fn scatters_without(
     alloc: Global,
     held: &Held,
     op: &CallOp,
@@ -116,27 +120,41 @@ fn on_scatter(
     component: u32,
 ) -> Result<CallMove, Memory>
     requires { IsInside op.now }
-    ensures { IfOk result (λ m. counted_move held.now m ≡ on_timeout held.now op.now (IsScatters (io_of io) queue) component (of_component component io.pending)) }
+    ensures { IfOk result (λ m. counted_move held.now m ≡ goes_without held.now op.now (IsScatters (io_of io) queue) component) }
 {
-    let mut queue = queue;
-    let Some(first) = io.pending.first_to(component) else {
-        let phase = CallPhase::Scatters { io, queue };
-        return Ok(turned(alloc, CallTurn::Goes { phase }));
-    };
-    let CallIo { pending, timed, .. } = io;
-    let timed = timed_with(alloc, first, &timed)?;
-    if is_too_short(alloc, held, op, &timed)? {
-        let report = report_of(alloc, held, &timed)?;
-        return Ok(turned(alloc, closing(Outcome::Silent { component }, report)));
+    if is_too_short(alloc, held, op, &io.timed)? {
+        return reported(alloc, held, &io.timed, component);
     }
-    let mut pending = pending;
-    pending.drop_component(component);
+    let mut queue = queue;
     queue.drop_component(component);
+    let CallIo { pending, timed, .. } = io;
     let sent = AwaitedCommands::new(alloc);
     Ok(scatters_on(alloc, held, op, timed, queue, sent, pending))
 }
 
-// By the phase.
+// It goes on without that component, by the phase.
+fn goes_without(
+    alloc: Global,
+    held: &Held,
+    op: &CallOp,
+    phase: CallPhase,
+    component: u32,
+) -> Result<CallMove, Memory>
+    requires { IsInside op.now }
+    ensures { IfOk result (λ m. counted_move held.now m ≡ goes_without held.now op.now (phase_of phase) component) }
+{
+    match phase {
+        CallPhase::Reads { io } => reads(alloc, held, clipped_span(held, op), io),
+        CallPhase::Probes { io } => probes(alloc, held, io),
+        CallPhase::Gathers { io } => gathers_without(alloc, held, op, io, component),
+        CallPhase::Scatters { io, queue } => {
+            scatters_without(alloc, held, op, io, queue, component)
+        }
+        phase => Ok(turned(alloc, CallTurn::Goes { phase })),
+    }
+}
+
+// A timeout, whether or not the component is awaited.
 fn timeout_in(
     alloc: Global,
     held: &Held,
@@ -148,12 +166,13 @@ fn timeout_in(
     ensures { IfOk result (λ m. counted_move held.now m
         ≡ on_timeout held.now op.now (phase_of phase) component (of_component component (awaited_in (phase_of phase)))) }
 {
-    match phase {
-        CallPhase::Reads { io } => on_read(alloc, held, op, io, component),
-        CallPhase::Probes { io } => on_probe(alloc, held, op, io, component),
-        CallPhase::Gathers { io } => on_gather(alloc, held, op, io, component),
-        CallPhase::Scatters { io, queue } => on_scatter(alloc, held, op, io, queue, component),
-        phase => Ok(turned(alloc, CallTurn::Goes { phase })),
+    let mut phase = phase;
+    match first_to(&phase, component) {
+        Some(first) => {
+            put_out_in(alloc, &mut phase, component, first)?;
+            goes_without(alloc, held, op, phase, component)
+        }
+        None => Ok(turned(alloc, CallTurn::Goes { phase })),
     }
 }
 

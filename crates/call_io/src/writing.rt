@@ -4,7 +4,8 @@ ghost use Rattle.stripe_plan.specs.Plans.{filled, stores, writes_of};
 ghost use Rattle.call_io.specs.State.{Column as AColumn};
 ghost use Rattle.client_rules.specs.Calls.{span_of, bytes_of};
 ghost use Rattle.client_rules.specs.Io.{outs};
-ghost use Rattle.client_rules.specs.Writes.{firsts, laters, scatters_on, scatters, scatters_next, gathers_on, gathers_due, gathers, is_too_short};
+ghost use Rattle.client_rules.specs.Commands.{write_commands};
+ghost use Rattle.client_rules.specs.Writes.{firsts, laters, next_to, without_next, scatters_on, scatters, scatters_next, gathers_on, gathers_due, gathers, is_too_short};
 ghost use Rattle.call_io.specs.Phases.{counted_move};
 ghost use Rattle.call_io.specs.Inside.{IsInside};
 ghost use Rattle.call_io.specs.Emptied.{no_part};
@@ -14,9 +15,8 @@ use crate::moves::{span_of, written};
 use crate::phase::{CallIo, CallMove, CallPhase, CallTurn};
 use crate::probing::is_among;
 use crate::reading::fetched;
-use call_commands::{
-    PendingCommands, WriteQueue, await_all, had, out_of, read_commands, write_commands,
-};
+use crate::sending::{send_reads, send_writes};
+use call_commands::{PendingCommands, WriteQueue, had, out_of};
 use client_rules::{AwaitedCommands, CallOp, Held, TimedOuts};
 use osd_bytes::{Bytes, Memory, Numbers};
 use std::alloc::Global;
@@ -161,6 +161,23 @@ pub fn scatters_on(
     }
 }
 
+// The first write to each component, out of what was gathered, and a queue of the others.
+fn planned(
+    alloc: Global,
+    held: &Held,
+    op: &CallOp,
+    got: Columns,
+    timed: &TimedOuts,
+) -> Result<(Vec<Store>, WriteQueue), Memory>
+    requires { IsInside op.now }
+    ensures firsts { IfOk result (λ r. r.0.items ≡ firsts [] (stores held.now.map (span_of op.now) (bytes_of op.now) got (outs held.now timed.now))) }
+    ensures laters { IfOk result (λ r. r.1 ≡ laters [] (stores held.now.map (span_of op.now) (bytes_of op.now) got (outs held.now timed.now))) }
+{
+    let out = out_of(alloc, held, timed)?;
+    let stores = stores(alloc, held, op, got, &out)?;
+    split(alloc, stores)
+}
+
 // The begin of a scatter, out of what was gathered.
 #[tactic(auto, unfolding(client_rules::specs::Writes::scatters))]
 fn scatters(
@@ -173,11 +190,9 @@ fn scatters(
     requires { IsInside op.now }
     ensures { IfOk result (λ m. counted_move held.now m ≡ scatters held.now op.now got timed) }
 {
-    let out = out_of(alloc, held, &timed)?;
-    let (firsts, queue) = split(alloc, stores(alloc, held, op, got, &out)?)?;
-    let sent = write_commands(alloc, held, firsts)?;
+    let (firsts, queue) = planned(alloc, held, op, got, &timed)?;
     let mut pending = PendingCommands::new(alloc);
-    await_all(alloc, &mut pending, &sent)?;
+    let sent = send_writes(alloc, held, &mut pending, firsts)?;
     Ok(scatters_on(alloc, held, op, timed, queue, sent, pending))
 }
 
@@ -190,6 +205,22 @@ fn one_or_none(alloc: Global, write: Option<Store>) -> Result<Vec<Store>, Memory
         writes.push(one)?;
     }
     Ok(writes)
+}
+
+// The next write to a component is sent.
+fn send_next(
+    alloc: Global,
+    held: &Held,
+    pending: &mut PendingCommands,
+    queue: &mut WriteQueue,
+    component: u32,
+) -> Result<AwaitedCommands, Memory>
+    ensures sent { IfOk result (λ sent. sent ≡ write_commands held.now (next_to component queue.old)) }
+    ensures pending { IfOk result (λ sent. pending.new ≡ pending.old ++ sent) }
+    ensures queue { OnOk result (queue.new ≡ without_next component queue.old) }
+{
+    let next = one_or_none(alloc, queue.take_next(component))?;
+    send_writes(alloc, held, pending, next)
 }
 
 // A component answered, and is sent its next write.
@@ -208,9 +239,7 @@ pub fn scatters_next(
     let mut queue = queue;
     let CallIo { pending, timed, .. } = io;
     let mut pending = pending;
-    let next = one_or_none(alloc, queue.take_next(component))?;
-    let sent = write_commands(alloc, held, next)?;
-    await_all(alloc, &mut pending, &sent)?;
+    let sent = send_next(alloc, held, &mut pending, &mut queue, component)?;
     Ok(scatters_on(alloc, held, op, timed, queue, sent, pending))
 }
 
@@ -266,8 +295,7 @@ pub fn gathers(alloc: Global, held: &Held, op: &CallOp, io: CallIo) -> Result<Ca
 {
     let due = gathers_due(alloc, held, op, &io)?;
     let mut io = io;
-    let sent = read_commands(alloc, held, due.as_slice())?;
-    await_all(alloc, &mut io.pending, &sent)?;
+    let sent = send_reads(alloc, held, &mut io.pending, due)?;
     gathers_on(alloc, held, op, io, sent)
 }
 
