@@ -1,19 +1,22 @@
 -- What a reply does to a job.
-use Rattle.std.specs.Prelude.{ℕ, List, [], ◌∷◌, ◌++◌, Option, Some, None, ◌≡◌, ◌<◌, length, slice_get, find, refl}
+use Rattle.std.specs.Prelude.{ℕ, List, [], ◌∷◌, ◌++◌, Option, Some, None, ◌≡◌, ◌<◌, length, map, slice_get, find, refl}
 use Rattle.std.proofs.Common.{arith, ap, sym, ◌∙◌, get_or}
 use Rattle.std.proofs.lemmas.Option.{slice_get-get_or}
 use Rattle.osd_commands.specs.declared.replies.Reply.{Reply}
 use Rattle.server_rules.specs.declared.files.Kept.{Kept}
 use Rattle.server_rules.specs.declared.jobs.Awaited.{Awaited}
+use Rattle.server_rules.specs.declared.jobs.Heard.{Heard}
 use Rattle.server_rules.specs.declared.jobs.Job.{Job}
 use Rattle.server_rules.specs.declared.server.Moved.{Moved}
 use Rattle.server_rules.specs.Going.{Going}
-use Rattle.server_rules.specs.declared.jobs.Heard.{Heard}
 use Rattle.server_rules.specs.Jobs.{waits_or_on}
-use Rattle.server_rules.specs.Replies.{Hearing, Done, answers, heard_in, hearing, hears, others}
+use Rattle.osd_capability.specs.declared.layout.TheConstants.{FORMAT_SHA256}
+use Rattle.server_rules.specs.Commands.{again_in_2}
+use Rattle.server_rules.specs.Replies.{Hearing, Done, answers, heard_in, heard_with, hearing, hears, others, renewed, renews}
 use Rattle.file_jobs.specs.Heard.{FoundIn}
 use Rattle.file_jobs.specs.declared.job.Turn.TheVariants.{Rests}
 use Rattle.file_jobs.specs.Steps.{Around, going, turned}
+use Rattle.file_jobs.specs.Works.{sends}
 
 -- by what it is to the command at that place
 pub heard_is : (g : Going) (j : Job) (k : Kept) (r : Reply) (cs : List Awaited) (place : ℕ) (a x : Awaited) (kind : Hearing) → slice_get cs place ≡ Some x → slice_get cs place ≡ Some a → kind ≡ hearing k x r →
@@ -28,7 +31,7 @@ waits_on_still k m s j e = ap (λ (x : Option Job). going k m (record s { job = 
 
 -- ---- the job that awaits it
 
-some_at : (xs : List Awaited) (i : ℕ) → i < length xs → (a : Awaited) × (slice_get xs i ≡ Some a)
+pub some_at : (xs : List Awaited) (i : ℕ) → i < length xs → (a : Awaited) × (slice_get xs i ≡ Some a)
 some_at [] i l = absurd (omega (arith, l))
 some_at (x ∷ xs) i l = (get_or (x ∷ xs) i x, slice_get-get_or (x ∷ xs) i x l)
 
@@ -44,8 +47,17 @@ is_heard g drive r (Some i) j place x e f h =
     by_job g drive r (Some i) j at.0 e (ap (λ (y : Job). find (answers drive r) y.awaited) (sym same) ∙ f.1 ∙ at.1)
     ∙ ap Some (sym (h at.0 (ap (λ (y : Job). slice_get y.awaited place) (sym same) ∙ at.1)))
 
+-- the reply is heard, and its command isn't awaited any more
+pub heard_job : (j i : Job) (a x y : Awaited) (r : Reply) (rest : List Awaited) (heard : List Heard) → i ≡ record { kind = j.kind; work = j.work; awaited = rest; heard = heard } → x ≡ a → y ≡ a → rest ≡ others j.awaited y.command.nonce →
+    heard ≡ j.heard ++ (record { component = x.component; payload = r.payload } ∷ []) → i ≡ record j { awaited = others j.awaited a.command.nonce; heard = heard_with j a r }
+heard_job j i a x y r rest heard e ex ey er eh = e ∙ rw (er, eh, ex, ey) refl
+
 -- the command is answered, and the job goes on without it
-pub answered_is : (g : Going) (j : Job) (a x y : Awaited) (r : Reply) (rest : List Awaited) (heard : List Heard) → x ≡ a → y ≡ a → rest ≡ others j.awaited y.command.nonce →
-    heard ≡ j.heard ++ (record { component = x.component; payload = r.payload } ∷ []) →
-    waits_or_on g (record { kind = j.kind; work = j.work; awaited = rest; heard = heard }) j.work rest heard ≡ hears g j a r Done
-answered_is g j a x y r rest heard ex ey er eh = rw (er, eh, ex, ey) refl
+pub answered_job : (g : Going) (j i : Job) (a : Awaited) (r : Reply) → i ≡ record j { awaited = others j.awaited a.command.nonce; heard = heard_with j a r } →
+    waits_or_on g i i.work i.awaited i.heard ≡ hears g j a r Done
+answered_job g j i a r e = rw e refl
+
+-- the command goes again, and the job waits for it
+pub renewed_job : (k : Kept) (m is : Moved) (s : Around) (j : Job) (a : Awaited) (cs : List Awaited) → is ≡ sends m (again_in_2 a m.nonce ∷ []) → cs ≡ map (renewed a (again_in_2 a m.nonce)) j.awaited →
+    turned (Rests (record { kind = j.kind; work = j.work; awaited = cs; heard = j.heard })) (record k { format = FORMAT_SHA256 }) is s ≡ renews (going k m s) j a
+renewed_job k m is s j a cs e f = rw (e, f) refl

@@ -61,12 +61,19 @@ fn shift(items: &mut [Awaited], gone: Gone) -> usize
 }
 
 // Waits no more for some commands.
+pub fn forget(awaited: &mut AwaitedCommands, gone: Gone)
+    ensures { awaited.new ≡ filter (stays gone) awaited.old }
+{
+    let left = shift(awaited.as_mut_slice(), gone);
+    awaited.truncate(left);
+}
+
+// Those that are still waited for.
 pub fn without(awaited: AwaitedCommands, gone: Gone) -> AwaitedCommands
     ensures { result ≡ filter (stays gone) awaited }
 {
     let mut awaited = awaited;
-    let left = shift(awaited.as_mut_slice(), gone);
-    awaited.truncate(left);
+    forget(&mut awaited, gone);
     awaited
 }
 

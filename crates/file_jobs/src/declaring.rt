@@ -7,7 +7,7 @@ ghost use Rattle.file_jobs.specs.Losing.{TurnsIn, target_in};
 ghost use Rattle.file_jobs.specs.Sound.{FitsAfterLoss, IsSound, IsSoundFile, Leaves, RestsSound};
 ghost use Rattle.file_jobs.specs.Steps.{StepsOn};
 
-use crate::awaited::{Gone, without};
+use crate::awaited::{Gone, forget};
 use crate::going_on::loses;
 use crate::job::{FileState, RunningJob, Turn, Work};
 use crate::rebuilding::{ends, fills, target_of};
@@ -34,23 +34,14 @@ fn declared(
     ensures sound { IfOk result (λ turn. RestsSound turn moved.old kept.new moved.new) }
     ensures keeps { OnOk result (Leaves kept.old kept.new) }
 {
-    if let Some(target) = target_of(&job.work) {
-        return redirects(alloc, kept, moved, job, target, drive);
+    match target_of(&job.work) {
+        Some(target) => redirects(alloc, kept, moved, job, target, drive),
+        None => {
+            let mut job = job;
+            forget(&mut job.awaited, Gone::Drive { drive });
+            loses(alloc, kept, moved, job)
+        }
     }
-    let RunningJob {
-        kind,
-        work,
-        awaited,
-        heard,
-    } = job;
-    let awaited = without(awaited, Gone::Drive { drive });
-    let job = RunningJob {
-        kind,
-        work,
-        awaited,
-        heard,
-    };
-    loses(alloc, kept, moved, job)
 }
 
 // A rebuild goes on: its target is gone, or its piece begins again.

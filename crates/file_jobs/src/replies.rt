@@ -1,12 +1,15 @@
 // A drive's reply to a command that a job waits for.
-ghost use Rattle.std.specs.Prelude.{◌≡◌, ◌<◌, ◌^◌, Some, slice_get, length, IfOk, OnOk};
+ghost use Rattle.std.specs.Prelude.{◌≡◌, ◌<◌, ◌^◌, ◌∷◌, [], Some, None, slice_get, length, map, IfOk, OnOk};
 ghost use Rattle.server_rules.specs.declared.jobs.Awaited.{Awaited as AnAwaited};
-ghost use Rattle.server_rules.specs.Replies.{fills_up, hearing, hears, is_done, renews, Done as IsDone};
+ghost use Rattle.server_rules.specs.Commands.{again_in_2};
+ghost use Rattle.server_rules.specs.Replies.{fills_up, heard_with, hearing, hears, is_done, others, renewed, renews, Done as IsDone};
 ghost use Rattle.file_jobs.specs.Hearing.{heard_as};
 ghost use Rattle.file_jobs.specs.Sound.{IsSound, IsSoundJob, Leaves, RestsSound};
+ghost use Rattle.file_jobs.specs.Losing.{target_in};
 ghost use Rattle.file_jobs.specs.Steps.{Hears, TurnsAt};
+ghost use Rattle.file_jobs.specs.Works.{sends};
 
-use crate::awaited::{Gone, again_in_2, renew, without};
+use crate::awaited::{Gone, again_in_2, forget, renew};
 use crate::going_on::{loses, waits_or_on};
 use crate::job::{RunningJob, Turn};
 use crate::moved::{note, send};
@@ -16,7 +19,8 @@ use osd_bytes::{Bytes, Memory};
 use osd_capability::FORMAT_SHA256;
 use osd_commands::{Action, Reply};
 use server_rules::{
-    Awaited, EXISTS, Heard, Kept, Moved, NO_SPACE, NoteKind, OLD_FORMAT, OTHER_TAG, PERFORMED,
+    Awaited, AwaitedCommands, EXISTS, Heard, Kept, Moved, NO_SPACE, NoteKind, OLD_FORMAT,
+    OTHER_TAG, PERFORMED,
 };
 use std::alloc::Global;
 
@@ -64,6 +68,25 @@ fn hearing(kept: &Kept, awaited: &Awaited, reply: &Reply) -> ReplyKind
     ReplyKind::Nothing
 }
 
+// The command at that place goes again in format 2, and stands in the place of the former.
+fn goes_again(
+    alloc: Global,
+    moved: &mut Moved,
+    awaited: &mut AwaitedCommands,
+    place: usize,
+) -> Result<(), Memory>
+    requires place { place < length awaited.old }
+    requires low { moved.old.nonce < 2 ^ 63 }
+    ensures many { OnOk result (length awaited.new ≡ length awaited.old) }
+    ensures sent { OnOk result ((a : AnAwaited) → slice_get awaited.old place ≡ Some a → moved.new ≡ sends moved.old (again_in_2 a moved.old.nonce ∷ [])) }
+    ensures left { OnOk result ((a : AnAwaited) → slice_get awaited.old place ≡ Some a → awaited.new ≡ map (renewed a (again_in_2 a moved.old.nonce)) awaited.old) }
+{
+    let former = awaited.get(place).command.nonce;
+    let again = again_in_2(alloc, awaited.get(place), moved.nonce)?;
+    renew(alloc, awaited, former, &again)?;
+    send(alloc, moved, &again)
+}
+
 // Format 2 from now on, and the command again.
 fn renews(
     alloc: Global,
@@ -80,23 +103,37 @@ fn renews(
     ensures sound { IfOk result (λ turn. RestsSound turn moved.old kept.new moved.new) }
     ensures keeps { OnOk result (Leaves kept.old kept.new) }
 {
-    let RunningJob {
-        kind,
-        work,
-        mut awaited,
-        heard,
-    } = job;
-    let former = awaited.get(place).command.nonce;
-    let again = again_in_2(alloc, awaited.get(place), moved.nonce)?;
-    renew(alloc, &mut awaited, former, &again)?;
-    send(alloc, moved, &again)?;
+    let mut job = job;
+    goes_again(alloc, moved, &mut job.awaited, place)?;
     kept.format = FORMAT_SHA256;
-    Ok(Turn::Rests(RunningJob {
-        kind,
-        work,
-        awaited,
-        heard,
-    }))
+    Ok(Turn::Rests(job))
+}
+
+// The component becomes missing, at a job that isn't a rebuild.
+fn goes_without(
+    alloc: Global,
+    kept: &mut Kept,
+    moved: &mut Moved,
+    job: RunningJob,
+    place: usize,
+) -> Result<Turn, Memory>
+    requires sound { IsSound kept.old }
+    requires place { place < length job.awaited }
+    requires low { moved.old.nonce < 2 ^ 63 }
+    requires job { IsSoundJob kept.old job }
+    requires target { target_in job.work ≡ None }
+    ensures turn { IfOk result (λ turn. TurnsAt (λ g a. fills_up g job a job.work) job.awaited place
+        kept.old moved.old turn kept.new moved.new) }
+    ensures sound { IfOk result (λ turn. RestsSound turn moved.old kept.new moved.new) }
+    ensures keeps { OnOk result (Leaves kept.old kept.new) }
+{
+    let mut job = job;
+    let component = job.awaited.get(place).component;
+    let nonce = job.awaited.get(place).command.nonce;
+    kept.components = lose(alloc, kept.components.as_slice(), component)?;
+    note(moved, kept.number, NoteKind::NoSpace { component })?;
+    forget(&mut job.awaited, Gone::Nonce { nonce });
+    loses(alloc, kept, moved, job)
 }
 
 // The drive of a component has no space: a rebuild's target ends, any other component becomes missing.
@@ -116,28 +153,27 @@ fn fills_up(
     ensures sound { IfOk result (λ turn. RestsSound turn moved.old kept.new moved.new) }
     ensures keeps { OnOk result (Leaves kept.old kept.new) }
 {
-    if let Some(target) = target_of(&job.work) {
-        let component = target.component;
-        return ends(kept, moved, target, NoteKind::NoSpace { component });
+    match target_of(&job.work) {
+        Some(target) => {
+            let component = target.component;
+            ends(kept, moved, target, NoteKind::NoSpace { component })
+        }
+        None => goes_without(alloc, kept, moved, job, place),
     }
-    let RunningJob {
-        kind,
-        work,
-        awaited,
-        heard,
-    } = job;
-    let component = awaited.get(place).component;
-    let nonce = awaited.get(place).command.nonce;
-    kept.components = lose(alloc, kept.components.as_slice(), component)?;
-    note(moved, kept.number, NoteKind::NoSpace { component })?;
-    let awaited = without(awaited, Gone::Nonce { nonce });
-    let job = RunningJob {
-        kind,
-        work,
-        awaited,
-        heard,
-    };
-    loses(alloc, kept, moved, job)
+}
+
+// The reply is heard, and its command isn't awaited any more.
+fn hear(alloc: Global, job: &mut RunningJob, place: usize, reply: &Reply) -> Result<(), Memory>
+    requires { place < length job.old.awaited }
+    ensures { OnOk result ((a : AnAwaited) → slice_get job.old.awaited place ≡ Some a → job.new
+        ≡ record job.old { awaited = others job.old.awaited a.command.nonce; heard = heard_with job.old a reply.now }) }
+{
+    let component = job.awaited.get(place).component;
+    let nonce = job.awaited.get(place).command.nonce;
+    let payload = Bytes::copied(alloc, reply.payload.as_slice())?;
+    job.heard.push(Heard { component, payload })?;
+    forget(&mut job.awaited, Gone::Nonce { nonce });
+    Ok(())
 }
 
 // The command is answered, and the job goes on where it was the last.
@@ -158,23 +194,8 @@ fn answers(
     ensures sound { IfOk result (λ turn. RestsSound turn moved.old kept.new moved.new) }
     ensures keeps { OnOk result (Leaves kept.old kept.new) }
 {
-    let RunningJob {
-        kind,
-        work,
-        awaited,
-        mut heard,
-    } = job;
-    let component = awaited.get(place).component;
-    let nonce = awaited.get(place).command.nonce;
-    let payload = Bytes::copied(alloc, reply.payload.as_slice())?;
-    heard.push(Heard { component, payload })?;
-    let awaited = without(awaited, Gone::Nonce { nonce });
-    let job = RunningJob {
-        kind,
-        work,
-        awaited,
-        heard,
-    };
+    let mut job = job;
+    hear(alloc, &mut job, place, reply)?;
     waits_or_on(alloc, kept, moved, job)
 }
 

@@ -7,7 +7,7 @@ use Rattle.server_rules.specs.Jobs.{is_target, loses, others_than}
 use Rattle.file_jobs.specs.Losing.{target_in}
 use Rattle.file_jobs.specs.Steps.{going}
 use Rattle.file_jobs.specs.Works.{work_of}
-use Rattle.file_jobs.proofs.FitsLaws.{few_left, fits_again, fits_others, no_target}
+use Rattle.file_jobs.proofs.FitsLaws.{few_left, fits_again, fits_others}
 use Rattle.file_jobs.proofs.Losses.{declared_is}
 use Rattle.file_jobs.proofs.declaring.declared.Goals as goal
 
@@ -15,20 +15,20 @@ pub redirects-requires-clause-target : goal.redirects-requires-clause-target
 redirects-requires-clause-target c = ap (λ (x : Job). target_in x.work) (sym c.job.view_is) ∙ sym c.target_of.ensures ∙ c.in-Some.is
 
 pub loses-requires-clause-target : goal.loses-requires-clause-target
-loses-requires-clause-target c = sym c.target_of.ensures ∙ no_target c.target_of.result c.in_default.not-Some
+loses-requires-clause-target c = ap (λ (x : Job). target_in x.work) (c.job-in-None.view_is ∙ sym c.job.view_is) ∙ sym c.target_of.ensures ∙ c.in-None.is
 
 pub loses-requires-clause-job : goal.loses-requires-clause-job
 loses-requires-clause-job c =
-    let none : target_in (work_of c.job.inside.work) ≡ None = sym c.target_of.ensures ∙ no_target c.target_of.result c.in_default.not-Some in
-    fits_others c.args.kept.now _ (length c.job.inside.awaited + length c.job.inside.heard) _ (work_of c.job.inside.work) none refl
-    (rw c.without-awaited.ensures (omega (arith, few_left (λ (a : Awaited). not (a.drive == c.args.drive)) c.job.inside.awaited)))
-    (fits_again c.args.kept.now _ (work_of c.job.inside.work) none (rw (← c.job.view_is) at c.requires.job))
+    let none : target_in (work_of c.job-in-None.inside.work) ≡ None = ap (λ (x : Job). target_in x.work) (c.job-in-None.view_is ∙ sym c.job.view_is) ∙ sym c.target_of.ensures ∙ c.in-None.is in
+    fits_others c.args.kept.now _ (length c.job-in-None.inside.awaited + length c.job-in-None.inside.heard) _ (work_of c.job-in-None.inside.work) none refl
+    (rw c.forget.ensures (omega (arith, few_left (λ (a : Awaited). not (a.drive == c.args.drive)) c.job-in-None.inside.awaited)))
+    (fits_again c.args.kept.now _ (work_of c.job-in-None.inside.work) none (rw (← c.job-in-None.view_is) at c.requires.job))
 
-pub returns-clause-turn : goal.returns-clause-turn
-returns-clause-turn c =
-    let j : Job = record { kind = c.job.inside.kind; work = work_of c.job.inside.work; awaited = c.job.inside.awaited; heard = c.job.inside.heard } in
+pub returns-in-None-clause-turn : goal.returns-in-None-clause-turn
+returns-in-None-clause-turn c =
+    let j : Job = record { kind = c.job-in-None.inside.kind; work = work_of c.job-in-None.inside.work; awaited = c.job-in-None.inside.awaited; heard = c.job-in-None.inside.heard } in
     IfOk-weaker c.loses.result _ _ (λ turn h s e.
-    h s ∙ declared_is (going c.args.kept.now c.args.moved.now s) j c.without-awaited.result (others_than c.args.drive c.job.inside.awaited) c.args.drive
-    (sym c.target_of.ensures ∙ no_target c.target_of.result c.in_default.not-Some) c.without-awaited.ensures
-    ∙ ap (λ (x : Job). loses (going c.args.kept.now c.args.moved.now s) x x.work (others_than c.args.drive x.awaited) (is_target x.work c.args.drive)) c.job.view_is)
+    h s ∙ declared_is (going c.args.kept.now c.args.moved.now s) j c.forget.new.awaited (others_than c.args.drive c.job-in-None.inside.awaited) c.args.drive
+    (ap (λ (x : Job). target_in x.work) (c.job-in-None.view_is ∙ sym c.job.view_is) ∙ sym c.target_of.ensures ∙ c.in-None.is) c.forget.ensures
+    ∙ ap (λ (x : Job). loses (going c.args.kept.now c.args.moved.now s) x x.work (others_than c.args.drive x.awaited) (is_target x.work c.args.drive)) c.job-in-None.view_is)
     c.loses.ensures.turn

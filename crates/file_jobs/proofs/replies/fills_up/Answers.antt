@@ -1,14 +1,10 @@
-use Rattle.std.specs.Prelude.{Some, ◌≡◌, ◌+◌, ◌==◌, not, length, refl, slice_get}
-use Rattle.std.proofs.Common.{arith, ap, sym, ◌∙◌}
+use Rattle.std.proofs.Common.{ap, sym, ◌∙◌}
 use Rattle.std.proofs.lemmas.Result.{IfOk-weaker}
-use Rattle.server_rules.specs.declared.jobs.Awaited.{Awaited}
 use Rattle.server_rules.specs.declared.jobs.Job.{Job}
-use Rattle.server_rules.specs.Replies.{fills_up}
-use Rattle.file_jobs.specs.Steps.{going}
-use Rattle.file_jobs.specs.Works.{work_of}
 use Rattle.file_jobs.specs.Losing.{target_in}
-use Rattle.file_jobs.proofs.FitsLaws.{few_left, fits_others, no_target, target_fits}
-use Rattle.file_jobs.proofs.Losses.{fills_is, full_is, sound_lost}
+use Rattle.file_jobs.specs.Steps.{going}
+use Rattle.file_jobs.proofs.FitsLaws.{target_fits}
+use Rattle.file_jobs.proofs.Losses.{full_is}
 use Rattle.file_jobs.proofs.replies.fills_up.Goals as goal
 
 pub ends-requires-clause-target : goal.ends-requires-clause-target
@@ -19,25 +15,5 @@ returns-in-Some-clause-turn c = IfOk-weaker c.ends.result _ _ (λ turn h a e s.
     h s ∙ full_is (going c.args.kept.now c.args.moved.now s) c.args.job a c.args.job.work c.in-Some.target (ap (λ (x : Job). target_in x.work) (sym c.job.view_is) ∙ sym c.target_of.ensures ∙ c.in-Some.is))
     c.ends.ensures.turn
 
-pub loses-requires-clause-target : goal.loses-requires-clause-target
-loses-requires-clause-target c = sym c.target_of.ensures ∙ no_target c.target_of.result c.in_default.not-Some
-
-pub loses-requires-clause-job : goal.loses-requires-clause-job
-loses-requires-clause-job c = fits_others c.args.kept.now _ (length c.job.inside.awaited + length c.job.inside.heard) _ (work_of c.job.inside.work) (sym c.target_of.ensures ∙ no_target c.target_of.result c.in_default.not-Some) refl
-    (rw c.without-awaited.ensures (omega (arith, few_left (λ (a : Awaited). not (a.command.nonce == c.get-2.result.now.command.nonce)) c.job.inside.awaited))) (rw (← c.job.view_is) at c.requires.job)
-
-pub loses-requires-clause-sound : goal.loses-requires-clause-sound
-loses-requires-clause-sound c = sound_lost c.args.kept.now c.in_ok-kept.field-0 _ (rw c.as_slice.ensures at c.in_ok-kept.ensures) c.requires.sound
-
-pub returns-clause-turn : goal.returns-clause-turn
-returns-clause-turn c =
-    let j : Job = record { kind = c.job.inside.kind; work = work_of c.job.inside.work; awaited = c.job.inside.awaited; heard = c.job.inside.heard } in
-    IfOk-weaker c.loses.result _ _ (λ turn h a e s.
-    let at : slice_get c.job.inside.awaited c.args.place ≡ Some a = ap (λ (x : Job). slice_get x.awaited c.args.place) c.job.view_is ∙ e in
-    h s ∙ fills_is c.args.kept.now c.args.moved.now _ s j a c.get.result.now c.get-2.result.now c.in_ok-kept.field-0 c.without-awaited.result (sym c.target_of.ensures ∙ no_target c.target_of.result c.in_default.not-Some)
-    (let x = c.get.ensures in cc (x, at)) (let y = c.get-2.ensures in cc (y, at)) (rw c.as_slice.ensures at c.in_ok-kept.ensures) c.without-awaited.ensures c.in_ok-note.ensures
-    ∙ ap (λ (x : Job). fills_up (going c.args.kept.now c.args.moved.now s) x a x.work) c.job.view_is)
-    c.loses.ensures.turn
-
-pub returns-clause-keeps : goal.returns-clause-keeps
-returns-clause-keeps c = IfOk-weaker c.loses.result _ _ (λ x l. record { number = l.number; grants = λ e. l.grants e; sound = λ s. l.sound (sound_lost c.args.kept.now c.in_ok-kept.field-0 _ (rw c.as_slice.ensures at c.in_ok-kept.ensures) s) }) c.loses.ensures.keeps
+pub goes_without-requires-clause-target : goal.goes_without-requires-clause-target
+goes_without-requires-clause-target c = ap (λ (x : Job). target_in x.work) (sym c.job.view_is) ∙ sym c.target_of.ensures ∙ c.in-None.is
