@@ -20,10 +20,6 @@ use Rattle.file_jobs.specs.Works.{work_of}
 use Rattle.file_jobs.proofs.Mends.{fits_repair}
 use Rattle.file_jobs.specs.Sound.{CanFill, Fits, FitsAfterLoss, HasSoundJob, IsSoundJob}
 
-pub no_target : (o : Option Target) → ((t : Target) → o ≡ Some t → ⊥) → o ≡ None
-no_target None none = refl
-no_target (Some t) none = absurd (none t refl)
-
 some_is : (t u : Target) → Some u ≡ Some t → t ≡ u
 some_is t u e = cc e
 

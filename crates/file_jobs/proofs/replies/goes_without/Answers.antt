@@ -1,5 +1,5 @@
 use Rattle.std.specs.Prelude.{Some, ◌≡◌, ◌+◌, ◌==◌, not, length, refl, slice_get}
-use Rattle.std.proofs.Common.{arith, ap, sym, ◌∙◌}
+use Rattle.std.proofs.Common.{arith, ap, ◌∙◌}
 use Rattle.std.proofs.lemmas.Result.{IfOk-weaker}
 use Rattle.server_rules.specs.declared.jobs.Awaited.{Awaited}
 use Rattle.server_rules.specs.declared.jobs.Job.{Job}
