@@ -1,5 +1,5 @@
 // Replies of the drives.
-ghost use Rattle.std.specs.Prelude.{◌≡◌, find, IfOk, OnOk};
+ghost use Rattle.std.specs.Prelude.{◌≡◌, ◌++◌, ◌∷◌, [], find, IfOk, OnOk};
 ghost use Rattle.client_rules.specs.Requests.{error_at, errno_of};
 ghost use Rattle.client_rules.specs.Io.{awaited_in, got_of};
 ghost use Rattle.client_rules.specs.Replies.{answers, refused, refused_report};
@@ -23,7 +23,7 @@ use layout_types::{Errno, IoErr};
 use osd_bytes::{Memory, Sequence};
 use osd_commands::Reply;
 use std::alloc::Global;
-use stripe_plan::{Ask, Column};
+use stripe_plan::{Ask, Column, Columns};
 
 // What the reply to a READ gives; the bytes that it doesn't carry are 0.
 fn column_of(awaited: &Awaited, reply: Reply) -> Result<Column, Memory>
@@ -135,13 +135,20 @@ fn take(phase: &mut CallPhase, drive: u32, nonce: u64) -> Option<Awaited>
 }
 
 // Keeps what the reply to a READ gives.
+fn keep_in(got: &mut Columns, awaited: &Awaited, reply: Reply) -> Result<(), Memory>
+    ensures { OnOk result (got.new ≡ got.old ++ got_of awaited.now reply ∷ []) }
+{
+    got.push(column_of(awaited, reply)?)
+}
+
+// The same by the phase.
 fn keep(phase: &mut CallPhase, awaited: &Awaited, reply: Reply) -> Result<(), Memory>
     ensures { OnOk result (phase_of phase.new ≡ kept_in (phase_of phase.old) awaited.now reply) }
 {
     match phase {
-        CallPhase::Reads { io } => io.got.push(column_of(awaited, reply)?),
-        CallPhase::Probes { io } => io.got.push(column_of(awaited, reply)?),
-        CallPhase::Gathers { io } => io.got.push(column_of(awaited, reply)?),
+        CallPhase::Reads { io } => keep_in(&mut io.got, awaited, reply),
+        CallPhase::Probes { io } => keep_in(&mut io.got, awaited, reply),
+        CallPhase::Gathers { io } => keep_in(&mut io.got, awaited, reply),
         _ => Ok(()),
     }
 }
