@@ -1,7 +1,7 @@
 mod Lists
 mod Tables
 mod Noting
-mod Showing
+mod CalmShowing
 mod Logging
 mod Taking
 mod Marking
@@ -10,8 +10,47 @@ mod Harming
 mod Performing
 mod Flagging
 mod Beginning
-mod Telling
+mod CalmTelling
 mod Ending
-mod Following
-mod Opening
+mod CalmFollowing
+mod CalmOpening
 mod Pending
+mod Components
+mod FileNotes
+mod Targets
+mod Jobs
+mod Reports
+mod Serving
+mod Rounds
+mod Lines
+mod Steps
+mod Finding
+mod Making
+mod Tags
+mod Short
+mod Through
+pub mod FileFacts
+mod FileShowing
+mod Failed
+mod Outgoing
+mod Others
+pub mod Drives
+pub mod Placing
+pub mod Numbers
+pub mod Answering
+pub mod Trimming
+pub mod StepTelling
+pub mod Standing
+pub mod Heads
+pub mod Sighting
+pub mod Stepping
+pub mod Shapes
+mod MoveOpening
+mod MoveStepping
+mod MoveFollowing
+mod Events
+pub mod Inside
+mod Watching
+mod MoveNotes
+pub mod MoveFacts
+mod Giving

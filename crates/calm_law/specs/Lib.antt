@@ -6,3 +6,16 @@ pub mod Harms
 pub mod Performing
 pub mod Flagging
 pub mod Following
+pub mod Components
+pub mod Naming
+pub mod Sound
+pub mod Apart
+pub mod Going
+pub mod Seeing
+pub mod Moments
+pub mod Tags
+pub mod Told
+pub mod Sightings
+pub mod Steps
+pub mod Moving
+pub mod Watching

@@ -8,15 +8,15 @@ use Rattle.scenario_text.specs.declared.line.Outcome.TheVariants.{Failed}
 use Rattle.scenario_text.specs.declared.line.Refusal.TheVariants.{SlotSpent}
 use Rattle.world_history.specs.Guesses.{Guarded, guards, guarded, unguessed}
 use Rattle.world_history.specs.History.{Lawful, FrontsAreLawful}
-use Rattle.held_law.specs.Ends.{CallsEndFair}
-use Rattle.held_law.specs.Ends as held
-use Rattle.room_law.specs.Rooms.{HasRoom, NoLaneIsWanting}
-use Rattle.readable_law.specs.Readable.{FilesAndAnswersAreReadable, PlacesAreEnough}
-use Rattle.fresh_law.specs.Fresh.{GrantsAreFresh}
-use Rattle.count_law.specs.Text.{AreOfText, AreFew}
-use Rattle.count_law.specs.Refused.{HasSlot, NoSlotIsSpent}
-use Rattle.count_law.proofs.Growing.{fewer, text_front}
-use Rattle.refusal_law.specs.Awaited as refusal
+use Rattle.exchange_law.specs.Ends.{CallsEndFair}
+use Rattle.exchange_law.specs.Ends as held
+use Rattle.ending_law.specs.Rooms.{HasRoom, NoLaneIsWanting}
+use Rattle.ending_law.specs.Readable.{FilesAndAnswersAreReadable, PlacesAreEnough}
+use Rattle.ending_law.specs.Fresh.{GrantsAreFresh}
+use Rattle.exchange_law.specs.Text.{AreOfText, AreFew}
+use Rattle.exchange_law.specs.Refused.{HasSlot, NoSlotIsSpent}
+use Rattle.exchange_law.proofs.CountGrowing.{fewer, text_front}
+use Rattle.exchange_law.specs.Awaited as refusal
 use Rattle.ending_law.specs.Endings.{EndsRightlyAt}
 use Rattle.ending_law.specs.Texts.{NoCallOfTextEndsMisplaced}
 use Rattle.ending_law.specs.Calls.{EndsAt, CallsEndSo}

@@ -9,11 +9,11 @@ use Rattle.scenario_text.specs.declared.line.Line.{Line}
 use Rattle.scenario_text.specs.declared.line.Line.TheVariants as line
 use Rattle.world_history.specs.Reading.{sent_in}
 use Rattle.world_history.specs.History.{Lawful}
-use Rattle.issue_law.proofs.Growing.{history_grows}
-use Rattle.place_law.specs.Answers.{AnswersFit}
-use Rattle.place_law.specs.Histories.{IsMisplaced, CommandsArePlaced}
-use Rattle.place_law.proofs.Lines.{fits_before}
-use Rattle.refusal_law.specs.Judged.{carried, WasJudged, JudgedAt, RefusalsWereJudged}
+use Rattle.history_law.proofs.Growing.{history_grows}
+use Rattle.exchange_law.specs.PlaceAnswers.{AnswersFit}
+use Rattle.exchange_law.specs.Histories.{IsMisplaced, CommandsArePlaced}
+use Rattle.exchange_law.proofs.PlaceLines.{fits_before}
+use Rattle.exchange_law.specs.Judged.{carried, WasJudged, JudgedAt, RefusalsWereJudged}
 use Rattle.ending_law.specs.Endings.{EndsRightlyAt, NoCallEndsMisplaced}
 
 -- what a reply carries of a verdict says no more of where a command lies

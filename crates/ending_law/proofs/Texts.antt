@@ -11,12 +11,12 @@ use Rattle.scenario_text.specs.declared.line.Line.{Line}
 use Rattle.world_history.specs.declared.messages.Sent.{Sent}
 use Rattle.world_history.specs.Reading.{sent_in}
 use Rattle.world_history.specs.History.{Lawful}
-use Rattle.issue_law.proofs.Growing.{history_grows}
-use Rattle.count_law.specs.Text.{AreOfText, AreFew}
-use Rattle.count_law.specs.Fitting.{ResultsGive, GivesFit, SpellsFit, FitsBetween, AllFit, MessagesFit}
-use Rattle.place_law.specs.Answers.{ResultsFit, AnswerFits, SpellsFitting, AnswersFit}
-use Rattle.place_law.specs.Histories.{CommandsArePlaced}
-use Rattle.place_law.proofs.Lines.{fits_before}
+use Rattle.history_law.proofs.Growing.{history_grows}
+use Rattle.exchange_law.specs.Text.{AreOfText, AreFew}
+use Rattle.exchange_law.specs.Fitting.{ResultsGive, GivesFit, SpellsFit, FitsBetween, AllFit, MessagesFit}
+use Rattle.exchange_law.specs.PlaceAnswers.{ResultsFit, AnswerFits, SpellsFitting, AnswersFit}
+use Rattle.exchange_law.specs.Histories.{CommandsArePlaced}
+use Rattle.exchange_law.proofs.PlaceLines.{fits_before}
 use Rattle.ending_law.specs.Endings.{NoCallEndsMisplaced}
 use Rattle.ending_law.specs.Texts.{CommandsOfTextArePlaced, NoCallOfTextEndsMisplaced}
 

@@ -10,9 +10,9 @@ use Rattle.scenario_text.specs.declared.line.Refusal.TheVariants.{SlotSpent}
 use Rattle.world_history.specs.Guesses.{unguessed}
 use Rattle.world_history.specs.History.{Lawful}
 use Rattle.history_law.specs.Safe.{AtEachLine}
-use Rattle.place_law.specs.Histories.{IsMisplaced}
-use Rattle.lane_law.specs.Taken.{is_of_lanes}
-use Rattle.count_law.specs.Text.{AreOfText, AreFew}
+use Rattle.exchange_law.specs.Histories.{IsMisplaced}
+use Rattle.exchange_law.specs.LaneTaken.{is_of_lanes}
+use Rattle.exchange_law.specs.Text.{AreOfText, AreFew}
 
 -- No call ends since its layout can't be used, and with no status but that the grant of its commit is over. None is
 -- refused by a drive since its command lies outside its capability, nor, as far as nothing was guessed, since an object

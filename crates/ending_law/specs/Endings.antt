@@ -7,8 +7,8 @@ use Rattle.scenario_text.specs.declared.line.Line.TheVariants as line
 use Rattle.world_history.specs.Reading.{sent_in}
 use Rattle.world_history.specs.History.{Lawful}
 use Rattle.history_law.specs.Safe.{AtEachLine}
-use Rattle.place_law.specs.Answers.{AnswersFit}
-use Rattle.place_law.specs.Histories.{IsMisplaced}
+use Rattle.exchange_law.specs.PlaceAnswers.{AnswersFit}
+use Rattle.exchange_law.specs.Histories.{IsMisplaced}
 
 -- not with a drive's verdict on where a command lies
 abbrev pub EndsRightlyAt : List Line → Line → Type 0

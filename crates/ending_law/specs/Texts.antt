@@ -3,8 +3,8 @@ use Rattle.std.specs.Prelude.{List}
 use Rattle.scenario_text.specs.declared.line.Line.{Line}
 use Rattle.world_history.specs.History.{Lawful}
 use Rattle.history_law.specs.Safe.{AtEachLine}
-use Rattle.count_law.specs.Text.{AreOfText, AreFew}
-use Rattle.place_law.specs.Histories.{PlacedAt}
+use Rattle.exchange_law.specs.Text.{AreOfText, AreFew}
+use Rattle.exchange_law.specs.Histories.{PlacedAt}
 use Rattle.ending_law.specs.Endings.{EndsRightlyAt}
 
 -- each command of a client is placed, and no drive gives a verdict on where it lies

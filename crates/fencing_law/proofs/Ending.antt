@@ -20,7 +20,7 @@ use Rattle.history_law.proofs.Each.{EachBehind, HoldsAt, each_front}
 use Rattle.history_law.proofs.Histories.{stands, kept_part, lawful}
 use Rattle.history_law.proofs.DriveEvents.{IsRead, kept, never_opens}
 use Rattle.history_law.proofs.Spending.{all_spend}
-use Rattle.book_law.specs.Moments.{IsMoment, with_event, lines_so_far, lines_in, plan_at}
+use Rattle.history_law.specs.BookMoments.{IsMoment, with_event, lines_so_far, lines_in, plan_at}
 use Rattle.job_law.proofs.Lists.{in_either}
 use Rattle.fencing_law.specs.Reaching.{is_spellable, OwnAt}
 use Rattle.fencing_law.specs.Fenced.{FencesEnd, ReachedRefuses}

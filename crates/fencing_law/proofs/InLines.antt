@@ -15,8 +15,8 @@ use Rattle.world_history.specs.Refusals.{refusal}
 use Rattle.world_history.specs.Book.{ServerSeen, server_after}
 use Rattle.world_history.specs.History.{Step, AreCarried, lines_of_steps, StandsFor, OneEventMore, Lawful}
 use Rattle.world_history.specs.History.Begins.{Nothing}
-use Rattle.book_law.specs.Moments.{IsMoment, lines_so_far, lines_in}
-use Rattle.book_law.specs.Read.{AreWritten, BookIsRead}
+use Rattle.history_law.specs.BookMoments.{IsMoment, lines_so_far, lines_in}
+use Rattle.history_law.specs.Read.{AreWritten, BookIsRead}
 use Rattle.job_law.proofs.Lists.{in_behind}
 use Rattle.fencing_law.specs.Reaching.{HolderIsServer}
 use Rattle.fencing_law.specs.Fenced.{IsFenced, noted, FencedIsFenced, NothingOlder}

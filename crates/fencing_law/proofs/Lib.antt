@@ -10,3 +10,13 @@ pub mod Heard
 pub mod Holding
 pub mod Ending
 pub mod InLines
+pub mod Fronts
+pub mod Parts
+pub mod Layouts
+pub mod Given
+pub mod Bodies
+pub mod Holders
+pub mod Addressed
+pub mod Named
+pub mod HolderLaw
+pub mod Fences

@@ -19,7 +19,7 @@ use Rattle.server_rules.specs.Replies.{is_create, is_set_tag, is_done}
 use Rattle.world_history.specs.State.{DriveAt}
 use Rattle.history_law.specs.Tags.{tag_in}
 use Rattle.history_law.proofs.Spending.{free}
-use Rattle.history_law.proofs.Telling.{again_row, tells_by}
+use Rattle.history_law.proofs.HistoryTelling.{again_row, tells_by}
 use Rattle.fencing_law.specs.Reaching.{has_tag, has_reached}
 use Rattle.fencing_law.proofs.Raising.{set_tag_raises}
 

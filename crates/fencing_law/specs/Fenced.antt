@@ -16,8 +16,8 @@ use Rattle.world_history.specs.Book.{server_after}
 use Rattle.world_history.specs.History.{StandsFor, Lawful}
 use Rattle.history_law.specs.Judging.{Judges}
 use Rattle.job_law.specs.Fencing.{AllRaised}
-use Rattle.book_law.specs.Moments.{IsMoment, plan_at, lines_in}
-use Rattle.book_law.specs.Read.{AreWritten}
+use Rattle.history_law.specs.BookMoments.{IsMoment, plan_at, lines_in}
+use Rattle.history_law.specs.Read.{AreWritten}
 use Rattle.fencing_law.specs.Reaching.{reached_in, HolderIsServer}
 
 -- ---- the end of a fence

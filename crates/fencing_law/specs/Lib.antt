@@ -1,2 +1,4 @@
 pub mod Reaching
 pub mod Fenced
+pub mod Holder
+pub mod Fences

@@ -27,7 +27,7 @@ pub fn answered_by(awaited: &[Awaited], drive: u32, reply: &Reply) -> Option<usi
 }
 
 /// Which commands a job doesn't wait for any more.
-#[derive(Clone, Copy, Debug)]
+#[derive(Clone, Copy)]
 pub enum Gone {
     /// That with this nonce, which is answered.
     Nonce { nonce: u64 },
@@ -60,21 +60,12 @@ fn shift(items: &mut [Awaited], gone: Gone) -> usize
     left
 }
 
-// Waits no more for some commands.
+/// Waits no more for some commands; those that are left keep their order.
 pub fn forget(awaited: &mut AwaitedCommands, gone: Gone)
     ensures { awaited.new ≡ filter (stays gone) awaited.old }
 {
     let left = shift(awaited.as_mut_slice(), gone);
     awaited.truncate(left);
-}
-
-// Those that are still waited for.
-pub fn without(awaited: AwaitedCommands, gone: Gone) -> AwaitedCommands
-    ensures { result ≡ filter (stays gone) awaited }
-{
-    let mut awaited = awaited;
-    forget(&mut awaited, gone);
-    awaited
 }
 
 // The same command in format 2, with a new nonce.

@@ -23,7 +23,7 @@ mod settling;
 mod standing;
 mod whole;
 
-pub use awaited::{Gone, answered_by, renew, without};
+pub use awaited::{Gone, answered_by, forget, renew};
 pub use declaring::declare;
 pub use hearing::on_reply;
 pub use job::{FileState, RunningJob, Turn, Work};

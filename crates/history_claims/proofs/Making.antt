@@ -9,8 +9,8 @@ use Rattle.world_history.specs.Reading.{is_head, Step, Grouped, grouped_with, gr
 use Rattle.world_history.specs.ReadDrives.{DriveSeen, drive_seen, drive_after}
 use Rattle.history_law.proofs.Each.{EachBehind, ArisesAt, HoldsAt, arises_of}
 use Rattle.history_law.proofs.DriveLines.{reads_on}
-use Rattle.book_law.proofs.Staying.{drive_stays}
-use Rattle.file_law.specs.Naming.{IsNamed, AreNamed}
+use Rattle.history_law.proofs.Staying.{drive_stays}
+use Rattle.calm_law.specs.Naming.{IsNamed, AreNamed}
 
 -- ---- lines
 

@@ -2,32 +2,37 @@
 use Rattle.std.proofs.Common.{subst}
 use Rattle.world_history.specs.History.{Lawful, FrontsAreLawful}
 use Rattle.history_law.specs.Safe.{HistoriesAreSafe}
-use Rattle.issue_law.specs.Issued.{CommandsAreIssued}
-use Rattle.issue_law.specs.Ranges.{RangesAreApart}
-use Rattle.holder_law.specs.Holder.{EachHolderIsOwn}
-use Rattle.holder_law.specs.Fences.{UnguessedAreFenced, UnguessedNothingOlder}
+use Rattle.history_law.specs.Issued.{CommandsAreIssued}
+use Rattle.history_law.specs.Unforged.{UnforgedAreIssued, UnguessedAreUnforged}
+use Rattle.history_law.specs.Ranges.{RangesAreApart}
+use Rattle.fencing_law.specs.Holder.{EachHolderIsOwn}
+use Rattle.fencing_law.specs.Fences.{UnforgedAreFenced}
 use Rattle.history_claims.specs.Components.{ComponentsStandApart}
 use Rattle.history_claims.specs.Sound.{HistoriesAreSound}
 use Rattle.tag_law.specs.Given.{GrantsAreOlder}
-use Rattle.count_law.specs.Text.{WithinTheLimitAreFew}
-use Rattle.count_law.specs.Exact.{CommandsAreIssuedExactly}
+use Rattle.exchange_law.specs.Text.{WithinTheLimitAreFew}
+use Rattle.exchange_law.specs.Exact.{CommandsAreIssuedExactly, UnforgedAreIssuedExactly}
 use Rattle.ending_law.specs.Calls.{CallsEndSo}
-use Rattle.least_law.specs.Tags.{EachTagIsItsFiles}
+use Rattle.tag_law.specs.Tags.{EachTagIsItsFiles}
 use Rattle.history_claims.proofs.Texts.{events_make_text}
 
-pub histories_are_sound : HistoriesAreSafe → CommandsAreIssued → RangesAreApart → FrontsAreLawful → ComponentsStandApart
-    → EachHolderIsOwn → UnguessedAreFenced → UnguessedNothingOlder → GrantsAreOlder → CommandsAreIssuedExactly
-    → CallsEndSo → EachTagIsItsFiles → WithinTheLimitAreFew → HistoriesAreSound
-histories_are_sound safe issued ranges fronts apart own fenced last older exact ends tags few = record {
+pub histories_are_sound : HistoriesAreSafe → CommandsAreIssued → UnforgedAreIssued → UnguessedAreUnforged
+    → RangesAreApart → FrontsAreLawful → ComponentsStandApart → EachHolderIsOwn → UnforgedAreFenced → GrantsAreOlder
+    → CommandsAreIssuedExactly → UnforgedAreIssuedExactly → CallsEndSo → EachTagIsItsFiles → WithinTheLimitAreFew
+    → HistoriesAreSound
+histories_are_sound safe issued listed fair ranges fronts apart own fenced older exact allowed ends tags few = record {
   sound = λ h l. record {
     safe = safe h l;
     issued = issued h l;
     ranges = λ before after is. ranges before (fronts before after (subst Lawful is l));
     apart = apart h l;
+    listed = listed h l;
+    fair = fair h l;
     holders = own h l;
-    fenced = λ w s a u. (fenced w h s a u, last w h s a u);
+    fenced = λ w s a u. fenced w h s a u;
     older = λ w s a. older w h s a;
     exact = exact h l;
+    allowed = allowed h l;
     tags = λ before after is. tags before;
     ends = ends h l;
   };

@@ -22,12 +22,12 @@ use Rattle.history_law.proofs.Histories.{lawful}
 use Rattle.history_law.proofs.Each.{EachBehind, HoldsAt, each_front}
 use Rattle.history_law.proofs.DriveEvents.{IsRead, kept}
 use Rattle.calm_law.specs.Words.{Each}
-use Rattle.file_law.specs.Naming.{IsNamed, AreNamed}
-use Rattle.file_law.specs.Sound.{IsAimed, IsSound, EachStepIsSound}
-use Rattle.file_law.specs.Apart.{AreApart, IsApart, IsFresh, EachStepIsApart}
-use Rattle.file_law.proofs.Drives.{not_first}
-use Rattle.file_law.proofs.Facts.{named_input}
-use Rattle.file_law.proofs.Placing.{numbers, not_known}
+use Rattle.calm_law.specs.Naming.{IsNamed, AreNamed}
+use Rattle.calm_law.specs.Sound.{IsAimed, IsSound, EachStepIsSound}
+use Rattle.calm_law.specs.Apart.{AreApart, IsApart, IsFresh, EachStepIsApart}
+use Rattle.calm_law.proofs.Drives.{not_first}
+use Rattle.calm_law.proofs.FileFacts.{named_input}
+use Rattle.calm_law.proofs.Placing.{numbers, not_known}
 use Rattle.history_claims.specs.Components.{StandApart, AreComponentsApart, ComponentsStandApart}
 use Rattle.history_claims.proofs.Making.{IsNew, made_by, AreFit, heads, none_there, lines_fit, heads_fit}
 

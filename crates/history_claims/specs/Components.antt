@@ -5,9 +5,9 @@ use Rattle.world_history.specs.ServerNames.{File}
 use Rattle.world_history.specs.Book.{book_of}
 use Rattle.world_history.specs.History.{Lawful}
 use Rattle.history_law.specs.Safe.{AtEachMoment}
-use Rattle.file_law.specs.Naming.{AreNamed}
-use Rattle.file_law.specs.Sound.{IsAimed}
-use Rattle.file_law.specs.Apart.{AreApart}
+use Rattle.calm_law.specs.Naming.{AreNamed}
+use Rattle.calm_law.specs.Sound.{IsAimed}
+use Rattle.calm_law.specs.Apart.{AreApart}
 
 -- The components of a file, present or missing, stand on different drives. Where a rebuild makes a missing one anew, it
 -- does so on a drive on which none of them stands or last stood.

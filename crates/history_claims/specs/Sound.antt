@@ -5,18 +5,19 @@ use Rattle.world_history.specs.State.{World}
 use Rattle.world_history.specs.Guesses.{unguessed}
 use Rattle.world_history.specs.History.{StandsFor, Lawful}
 use Rattle.history_law.specs.Safe.{AtEachMoment, AtEachLine, IsSafe}
-use Rattle.issue_law.specs.Issued.{IssuedAt}
-use Rattle.issue_law.specs.Ranges.{AreRangesApart}
-use Rattle.book_law.specs.Read.{AreWritten}
-use Rattle.file_law.specs.Naming.{AreNamed}
+use Rattle.history_law.specs.Issued.{IssuedAt}
+use Rattle.history_law.specs.Unforged.{AreUnforged, InjectedAt}
+use Rattle.history_law.specs.Ranges.{AreRangesApart}
+use Rattle.history_law.specs.Read.{AreWritten}
+use Rattle.calm_law.specs.Naming.{AreNamed}
 use Rattle.fencing_law.specs.Fenced.{AreFenced, FencesLast}
-use Rattle.holder_law.specs.Holder.{OwnUnlessGuessed}
+use Rattle.fencing_law.specs.Holder.{OwnUnlessForged}
 use Rattle.history_claims.specs.Components.{AreComponentsApart}
 use Rattle.tag_law.specs.Given.{GivenBefore}
-use Rattle.count_law.specs.Text.{AreOfText, AreFew, WithinTheLimitAreFew}
-use Rattle.count_law.specs.Exact.{IssuedExactlyAt}
+use Rattle.exchange_law.specs.Text.{AreOfText, AreFew, WithinTheLimitAreFew}
+use Rattle.exchange_law.specs.Exact.{IssuedExactlyAt, InjectedExactlyAt}
 use Rattle.ending_law.specs.Calls.{EndsAt}
-use Rattle.least_law.specs.Tags.{HaveTagsAt}
+use Rattle.tag_law.specs.Tags.{HaveTagsAt}
 use Rattle.history_claims.specs.Texts.{EventsMakeText}
 
 -- What the lines of a sound history say.
@@ -32,17 +33,24 @@ pub record IsSound (h : List Line) : Type 0 where
   -- where lines can name the drives and files that events make, the components of each file stand on different drives, and
   -- one that is made anew comes onto a further drive
   pub apart : AreNamed h → AtEachMoment AreComponentsApart h
-  -- what is performed under the server's holder the server sent, as far as nothing was guessed
-  pub holders : AtEachLine OwnUnlessGuessed h
-  -- so in a whole history in which nothing was guessed, from each note that a fence is over on, the objects of the file's
+  -- what a drive performs of injected bytes is the server's, or was issued to a client, or carries a capability that the
+  -- server gave a client, as far as nothing is forged
+  pub listed : AtEachLine InjectedAt h
+  -- nothing is forged where nothing was guessed
+  pub fair : unguessed h ≡ true → AreUnforged h
+  -- what is performed under the server's holder the server sent, as far as nothing is forged
+  pub holders : AtEachLine OwnUnlessForged h
+  -- so in a whole history in which nothing is forged, from each note that a fence is over on, the objects of the file's
   -- components have the new tag, and no command of an earlier one is performed on them
-  pub fenced : (w : World) → StandsFor w h → AreWritten h → unguessed h ≡ true → AreFenced h × FencesLast h
+  pub fenced : (w : World) → StandsFor w h → AreWritten h → AreUnforged h → AreFenced h × FencesLast h
   -- and whatever grants of the file the server gave before that note are of an earlier tag
   pub older : (w : World) → StandsFor w h → AreWritten h → GivenBefore h
   -- in a history of a scenario's text with few messages, what is performed of a client is for a present component under a
   -- grant of this client
   pub exact : AreOfText h → AreFew h → AtEachLine IssuedExactlyAt h
-  -- between two moves of such a history, as far as nothing was guessed so far, each component that isn't missing has an
+  -- and so is what is performed of injected bytes, unless the server sent it, as far as nothing is forged
+  pub allowed : AreOfText h → AreFew h → AtEachLine InjectedExactlyAt h
+  -- between two moves of such a history, as far as nothing is forged, each component that isn't missing has an
   -- object with its file's tag, or with the next one while a fence of the file is open, unless its CREATE is awaited or its
   -- drive has failed
   pub tags : AtEachMoment HaveTagsAt h

@@ -5,7 +5,7 @@ use Rattle.scenario_text.specs.declared.line.Line.{Line}
 use Rattle.scenario_text.specs.Spelling.{Fits}
 use Rattle.world_history.specs.State.{World}
 use Rattle.world_history.specs.History.{Step, StandsFor}
-use Rattle.count_law.specs.Text.{AreOfText}
+use Rattle.exchange_law.specs.Text.{AreOfText}
 
 -- the text of a scenario may have each of these events
 abbrev pub EventsFit : List Event → Type 0

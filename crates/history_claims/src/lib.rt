@@ -1,7 +1,7 @@
 //! What holds of every lawful history, as one record in the words of its lines.
 //!
-//! The parts are laws of the crates below, as `history_law`, `issue_law`, `holder_law`, `count_law` and `ending_law`, and
-//! here is one more: at each moment the components of a file stand on different drives.
+//! The parts are laws of the crates below, as `history_law`, `issue_law`, `holder_law`, `count_law` and
+//! `ending_law`, and here is one more: at each moment the components of a file stand on different drives.
 #![tactic(auto)]
 
 mod laws;

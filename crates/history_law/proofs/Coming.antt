@@ -31,7 +31,7 @@ use Rattle.world_history.specs.State.{DriveAt, at_number, and_number}
 use Rattle.world_history.specs.Drives.{judges, first_key, made_drive}
 use Rattle.world_history.specs.Reading.{is_drive, arrived, left_out, changed_by, changed_at, sent_after_event, sent_after, sent_in}
 use Rattle.world_history.specs.ReadDrives.{DriveSeen, sees_drive, drive_seen, drive_after, drive_after_event, drive_after_line, hears_bytes, hears_sent}
-use Rattle.world_history.specs.Guesses.{Guarded, opens_with, opened_by, was_sent, is_guess_of, is_guess, keys_after, guards, guarded, unguessed}
+use Rattle.world_history.specs.Guesses.{Guarded, opens_with, opened_by, was_sent, is_guess_of, is_guess, guessed_at, keys_after, guards, guarded, unguessed}
 use Rattle.history_law.specs.Judging.{Judges, IsDelivered, Replies, JudgesAt, injected_in}
 use Rattle.history_law.specs.Sources.{IsServerOrClient, WasSent, ComesAt}
 use Rattle.history_law.specs.Safe.{AtEachLine}
@@ -252,7 +252,7 @@ same_drive d (party.Drive k) e = elim (cases_eq k d) [
   | inr other ↦ absurd (cc (sym e ∙ ne_eqb k d other))
 ]
 
-opens_clear : (o : Option DriveKey) (c : Command) → is_none o ≡ false → fails_check o c ≡ false → opens_with o c ≡ true
+pub opens_clear : (o : Option DriveKey) (c : Command) → is_none o ≡ false → fails_check o c ≡ false → opens_with o c ≡ true
 opens_clear None c none fails = absurd (cc none)
 opens_clear (Some k) c none fails = not_false (is_checked k.key c) fails
 
@@ -261,6 +261,59 @@ sent_by : (opened sent : Bool) → not (opened && not sent) ≡ true → opened 
 sent_by true true e o = refl
 sent_by true false e o = absurd (cc e)
 sent_by false sent e o = absurd (cc o)
+
+-- ---- where nothing was guessed
+
+-- nothing was guessed before
+clean_before : (g : Guarded) (ls : List Line) → (fold guards g ls).unguessed ≡ true → g.unguessed ≡ true
+clean_before g [] e = e
+clean_before g (l ∷ ls) e = (both_true g.unguessed (not (guessed_at g l)) (clean_before (guards g l) ls e)).0
+
+pub clean_front : (before after : List Line) → unguessed (before ++ after) ≡ true → unguessed before ≡ true
+clean_front before after e =
+    clean_before (guarded before) after
+    (ap (λ (g : Guarded). g.unguessed) (sym (fold-append guards _ before after)) ∙ e)
+
+-- injected bytes that a key of the drive opens were sent to it before
+opened_was_sent : (lines : List Line) (d : ℕ) (bytes : List ℕ) (a : DriveAt) (c : Command) → AreFair (sent_in lines)
+    → unguessed (lines ++ line.Event (event.Inject d bytes) ∷ []) ≡ true → drive_after lines d ≡ Some a
+    → reading bytes ≡ Ok c → opens_with (key_of_version a.state.keys c.capability.key_version) c ≡ true
+    → WasSent lines d bytes
+opened_was_sent lines d bytes a c fair clean stood read opens =
+    let keys : at_number (guarded lines).keys d ≡ Some a.state.keys = fold_keys d _ _ lines refl ∙ ap keys_of stood in
+    let opened : opened_by (at_number (guarded lines).keys d) c ≡ true =
+    ap (λ (o : Option (List DriveKey)). opened_by o c) keys ∙ opens in
+    let free : not (is_guess (guarded lines) d bytes) ≡ true =
+    (both_true (guarded lines).unguessed _
+    (sym (ap (λ (g : Guarded). g.unguessed) (fold-append guards _ lines (line.Event (event.Inject d bytes) ∷ [])))
+    ∙ clean)).1 in
+    let known : was_sent (guarded lines).sent d bytes ≡ true =
+    sent_by (opened_by (at_number (guarded lines).keys d) c) (was_sent (guarded lines).sent d bytes)
+    (sym (ap (λ (r : Result Command CommandErr). not (is_guess_of (guarded lines) d bytes r)) read) ∙ free) opened in
+    let found = any_at _ (sent_in lines) (subst (λ (ss : List Sent). was_sent ss d bytes ≡ true) (guarded_sent lines) known) in
+    let tests = both_true (is_drive d found.1.to) (pointwise nat_eq found.1.bytes bytes) found.3 in
+    let to : found.1.to ≡ party.Drive d = same_drive d found.1.to tests.0 in
+    record {
+      number = found.0;
+      message = found.1;
+      sent = found.2;
+      receiver = to;
+      sender = fair_sender found.1.from found.1.to d (fair found.0 found.1 found.2) to;
+      bytes_are = same_text found.1.bytes bytes (sym tests.1);
+    }
+
+-- so it is of each injection of a history of which nothing was guessed
+pub opened_were_sent : (h : List Line) → EachBehind HoldsAt [] h → unguessed h ≡ true → (before after : List Line)
+    (d : ℕ) (bytes : List ℕ) → h ≡ before ++ line.Event (event.Inject d bytes) ∷ after → (a : DriveAt) (c : Command)
+    → drive_after before d ≡ Some a → reading bytes ≡ Ok c
+    → opens_with (key_of_version a.state.keys c.capability.key_version) c ≡ true → WasSent before d bytes
+opened_were_sent h each clean before after d bytes is a c =
+    let l : Line = line.Event (event.Inject d bytes) in
+    let front : EachBehind HoldsAt [] before =
+    each_front HoldsAt [] before (l ∷ after) (subst (EachBehind HoldsAt []) is each) in
+    opened_was_sent before d bytes a c (lines_fair [] before none_fair front)
+    (clean_front (before ++ l ∷ []) after
+    (ap unguessed (append_assoc before (l ∷ []) after ∙ sym is) ∙ clean))
 
 -- ---- at each line
 
@@ -277,6 +330,9 @@ module _ (lines : List Line) (d : ℕ) (bytes : List ℕ) where
   injected_is : injected_in behind d ≡ bytes
   injected_is = ap (λ (s : DriveSeen). s.injected) seen_behind
 
+  sent_same : sent_in behind ≡ sent_in lines
+  sent_same = sent_behind lines injection
+
   comes_injected : Judges behind (line.Judged d told.Perform) d (injected_in behind d) told.Perform → AreFair (sent_in behind)
       → unguessed behind ≡ true → WasSent behind d (injected_in behind d)
   comes_injected p fair clean =
@@ -286,28 +342,15 @@ module _ (lines : List Line) (d : ℕ) (bytes : List ℕ) where
       let stood : drive_after lines d ≡ Some p.there =
       sym (ap (λ (s : DriveSeen). s.drive) seen_behind) ∙ p.stands in
       let rows = ((all_told p.there.state p.there.clock c).0 done.clear).1 in
-      let keys : at_number (guarded lines).keys d ≡ Some p.there.state.keys = fold_keys d _ _ lines refl ∙ ap keys_of stood in
-      let opened : opened_by (at_number (guarded lines).keys d) c ≡ true =
-      ap (λ (o : Option (List DriveKey)). opened_by o c) keys
-      ∙ opens_clear (key_of_version p.there.state.keys c.capability.key_version) c rows.0 rows.1.0 in
-      let free : not (is_guess (guarded lines) d bytes) ≡ true =
-      (both_true (guarded lines).unguessed _
-      (sym (ap (λ (g : Guarded). g.unguessed) (fold-append guards _ lines (injection ∷ []))) ∙ clean)).1 in
-      let known : was_sent (guarded lines).sent d bytes ≡ true =
-      sent_by (opened_by (at_number (guarded lines).keys d) c) (was_sent (guarded lines).sent d bytes)
-      (sym (ap (λ (r : Result Command CommandErr). not (is_guess_of (guarded lines) d bytes r)) read) ∙ free) opened in
-      let found = any_at _ (sent_in lines) (subst (λ (ss : List Sent). was_sent ss d bytes ≡ true) (guarded_sent lines) known) in
-      let tests = both_true (is_drive d found.1.to) (pointwise nat_eq found.1.bytes bytes) found.3 in
-      let sent : slice_get (sent_in behind) found.0 ≡ Some found.1 =
-      ap (λ (ss : List Sent). slice_get ss found.0) (sent_behind lines injection) ∙ found.2 in
-      let to : found.1.to ≡ party.Drive d = same_drive d found.1.to tests.0 in
+      let w = opened_was_sent lines d bytes p.there c (subst AreFair sent_same fair) clean stood read
+      (opens_clear (key_of_version p.there.state.keys c.capability.key_version) c rows.0 rows.1.0) in
       record {
-        number = found.0;
-        message = found.1;
-        sent = sent;
-        receiver = to;
-        sender = fair_sender found.1.from found.1.to d (fair found.0 found.1 sent) to;
-        bytes_are = same_text found.1.bytes bytes (sym tests.1) ∙ sym injected_is;
+        number = w.number;
+        message = w.message;
+        sent = ap (λ (ss : List Sent). slice_get ss w.number) sent_same ∙ w.sent;
+        receiver = w.receiver;
+        sender = w.sender;
+        bytes_are = w.bytes_are ∙ sym injected_is;
       }
 
 comes_delivered : (before : List Line) (n : ℕ) → IsDelivered before n (delivery.Judged told.Perform) → AreFair (sent_in before) → (m : Sent)

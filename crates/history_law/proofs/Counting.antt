@@ -27,7 +27,7 @@ use Rattle.world_history.specs.Handed.{Post, Handed, quiet, drive_hears, drive_r
 use Rattle.world_history.specs.Moves.{Act, Action, Opens, Delivers, TimesOut, Pends, marked, delivers_found, delivers, drops_found, by_client, called, calls_at, times_out, leaves, resends, pends_as, pends, made_file, makes, gives, has_algorithm, by_drive, stops, injects_at, injects, adds_drive, changed, known_drive, knows_drive, op_of, raw_of, begins, acts}
 use Rattle.world_history.specs.Sending.{Move, move, fresh}
 use Rattle.history_law.specs.Counters.{GrantsAreCounted}
-use Rattle.history_law.proofs.Moments.{always}
+use Rattle.history_law.proofs.HistoryMoments.{always}
 use Rattle.history_law.proofs.Counted.{step_counted, made_same}
 
 -- ---- an act

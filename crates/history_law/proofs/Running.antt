@@ -17,8 +17,8 @@ use Rattle.world_history.specs.State.{World, ClientAt, empty_world, at_number}
 use Rattle.world_history.specs.Sending.{Move, move}
 use Rattle.history_law.specs.Parties.{ServerRuns, ClientRuns, PartiesRun, AllPartiesRun}
 use Rattle.history_law.specs.Grants.{GrantsAreSafe}
-use Rattle.history_law.proofs.Moments.{always}
-use Rattle.history_law.proofs.Going.{Clients, Served, Rests, Steps, Called, Idles, Goes, Moved, Same, One, More, goes}
+use Rattle.history_law.proofs.HistoryMoments.{always}
+use Rattle.history_law.proofs.HistoryGoing.{Clients, Served, Rests, Steps, Called, Idles, Goes, Moved, Same, One, More, goes}
 
 -- ---- one input more
 

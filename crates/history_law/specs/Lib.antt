@@ -1,4 +1,4 @@
-pub mod Moments
+pub mod HistoryMoments
 pub mod Parties
 pub mod Grants
 pub mod Counters
@@ -10,3 +10,13 @@ pub mod Tags
 pub mod Replied
 pub mod Safe
 pub mod Drives
+pub mod BookMoments
+pub mod Doing
+pub mod Placed
+pub mod Read
+pub mod State
+pub mod Listed
+pub mod Granted
+pub mod Issued
+pub mod Ranges
+pub mod Unforged

@@ -6,7 +6,7 @@ use Rattle.server_rules.specs.History.{Act, state_after}
 use Rattle.client_rules.specs.Steps.{new_client}
 use Rattle.client_rules.specs.History.{Input, state_after as client_after}
 use Rattle.world_history.specs.State.{ClientAt, World}
-use Rattle.history_law.specs.Moments.{IsReached}
+use Rattle.history_law.specs.HistoryMoments.{IsReached}
 
 -- the server is a new one after some inputs
 pub record ServerRuns (w : World) : Type 0 where

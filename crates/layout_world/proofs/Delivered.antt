@@ -36,7 +36,7 @@ use Rattle.world_clients.specs.Laws.{with_clients, ClientsHear}
 use Rattle.world_server.specs.State.{WorldServerState}
 use Rattle.world_server.specs.Acting.{Hears as ServerHears}
 use Rattle.layout_world.specs.declared.parties.Parties.{Parties}
-use Rattle.book_law.specs.Doing.{heard_of, brought}
+use Rattle.history_law.specs.Doing.{heard_of, brought}
 use Rattle.layout_world.specs.State.{Settled, ShowsWith, Shows}
 use Rattle.layout_world.specs.Acting.{Doing, Acts, ActsWith, ends_in, ends_at, IsOf, Handing, Hands, HandsAt, HandsTo}
 use Rattle.layout_world.proofs.Settling.{settled_set, set_get}

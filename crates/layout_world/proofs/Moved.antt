@@ -18,8 +18,8 @@ use Rattle.world_words.specs.declared.acts.Act.{Act}
 use Rattle.world_words.specs.Acts.{IsAct}
 use Rattle.layout_world.specs.declared.parties.Parties.{Parties}
 use Rattle.world_watch.specs.State.{WatchState}
-use Rattle.book_law.specs.Moments.{with_event, lines_in}
-use Rattle.book_law.specs.Doing.{did_in}
+use Rattle.history_law.specs.BookMoments.{with_event, lines_in}
+use Rattle.history_law.specs.Doing.{did_in}
 use Rattle.layout_world.specs.State.{Settled, ShowsWith}
 use Rattle.layout_world.specs.Acting.{ActsWith, ends_in, Marked, Grows}
 use Rattle.layout_world.specs.Going.{SeesAct, Sees, Performed, Moves, SettlesOne}

@@ -21,8 +21,8 @@ use Rattle.world_history.specs.ServerNames.{Mended}
 use Rattle.world_history.specs.Sending.{Move, move}
 use Rattle.world_history.specs.Calm.{mended_in}
 use Rattle.world_watch.specs.State.{WatchState}
-use Rattle.book_law.specs.Moments.{with_event, lines_in}
-use Rattle.book_law.specs.Doing.{did_in}
+use Rattle.history_law.specs.BookMoments.{with_event, lines_in}
+use Rattle.history_law.specs.Doing.{did_in}
 use Rattle.layout_world.specs.Acting.{ActsWith, ends_in, Grows}
 use Rattle.layout_world.specs.Going.{SeesAct, Sees, Performed, MovesBy, Far, Broken, Comes, Finishes, FinishesSeen, Ended, behind}
 use Rattle.layout_world.specs.Watching.{LeavesTold}

@@ -16,7 +16,7 @@ use Rattle.world_words.specs.declared.acts.Act.{Act}
 use Rattle.world_words.specs.declared.acts.Handed.{Handed}
 use Rattle.world_words.specs.Acts.{IsAct}
 use Rattle.layout_world.specs.declared.parties.Parties.{Parties}
-use Rattle.book_law.specs.Doing.{brought_to, did_in}
+use Rattle.history_law.specs.Doing.{brought_to, did_in}
 use Rattle.layout_world.specs.State.{ShowsWith, Shows}
 
 -- ---- an action

@@ -13,7 +13,7 @@ use Rattle.osd_bytes.proofs.Known.{Appends-then}
 use Rattle.scenario_text.specs.declared.line.Line.{Line}
 use Rattle.scenario_text.specs.LineSpelling.{lines_text}
 use Rattle.world_history.specs.State.{World, empty_world}
-use Rattle.calm_moves.specs.Watching.{WatchesAll}
+use Rattle.calm_law.specs.Watching.{WatchesAll}
 use Rattle.layout_world.specs.State.{WorldState}
 use Rattle.history_claims.specs.Sound.{HistoriesAreSound}
 use Rattle.osd_replay.specs.Transcript.{Tells, EndsWith}

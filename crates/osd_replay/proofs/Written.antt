@@ -9,7 +9,7 @@ use Rattle.scenario_text.specs.declared.event.Call.TheVariants as call
 use Rattle.scenario_text.specs.declared.event.Event.{Event}
 use Rattle.scenario_text.specs.declared.event.Event.TheVariants as event
 use Rattle.scenario_text.specs.Spelling.{Fits}
-use Rattle.book_law.specs.Read.{is_written}
+use Rattle.history_law.specs.Read.{is_written}
 use Rattle.history_claims.specs.Texts.{EventsFit}
 use Rattle.osd_replay.specs.Replay.{HasEvents}
 use Rattle.osd_replay.specs.Generator.{makes_drive, makes_file, call_event, calls_from, next_random, offset_of, length_of, opening, scenario_of}

@@ -17,9 +17,9 @@ use Rattle.world_history.specs.Runs.{FillsUp}
 use Rattle.world_history.specs.Summing.{summary_of}
 use Rattle.world_tally.specs.Capping.{capped_summary}
 use Rattle.scenario_text.specs.Spelling.{Fits}
-use Rattle.book_law.specs.Read.{AreWritten}
-use Rattle.count_law.specs.Text.{AreOfText, AreFew}
-use Rattle.calm_moves.specs.Watching.{WatchesAll}
+use Rattle.history_law.specs.Read.{AreWritten}
+use Rattle.exchange_law.specs.Text.{AreOfText, AreFew}
+use Rattle.calm_law.specs.Watching.{WatchesAll}
 use Rattle.layout_world.specs.State.{Shows}
 use Rattle.history_claims.specs.Sound.{IsSound}
 use Rattle.osd_replay.specs.Ends.{Ends, PutsError}

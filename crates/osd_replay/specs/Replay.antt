@@ -12,8 +12,8 @@ use Rattle.scenario_text.specs.LineSpelling.{lines_text}
 use Rattle.world_history.specs.State.{World}
 use Rattle.world_history.specs.Runs.{FillsUp}
 use Rattle.world_history.specs.History.{Lawful}
-use Rattle.book_law.specs.Read.{AreWritten}
-use Rattle.count_law.specs.Text.{AreOfText, AreFew}
+use Rattle.history_law.specs.Read.{AreWritten}
+use Rattle.exchange_law.specs.Text.{AreOfText, AreFew}
 use Rattle.history_claims.specs.Sound.{IsSound}
 use Rattle.osd_replay.specs.Ends.{Ends, Begins, IsAll, PassesNext, PutsError}
 use Rattle.osd_replay.specs.Errors.{error_line, full_name, kind_name}

@@ -32,9 +32,9 @@ use Rattle.world_history.specs.State.{World, DriveAt, ClientAt, at_number}
 use Rattle.world_history.specs.Handed.{Post, Handed, is_addressed, plain, wrote_in, data_in, op_in, server_post, client_posts, handed_to, server_takes, drive_hears, client_hears, client_takes, client_goes, for_server, for_client, pending_op}
 use Rattle.world_history.specs.Moves as world
 use Rattle.world_history.specs.Moves.{Act, Action, Opens, Delivers, TimesOut, Pends, acts}
-use Rattle.slot_law.specs.Doing.{posted}
-use Rattle.file_law.specs.Naming.{IsNamed, IsNamedInput}
-use Rattle.create_law.specs.Standing.{is_running}
+use Rattle.exchange_law.specs.Doing.{posted}
+use Rattle.calm_law.specs.Naming.{IsNamed, IsNamedInput}
+use Rattle.sent_law.specs.Standing.{is_running}
 use Rattle.fencing_law.proofs.Moves.{IsSent}
 use Rattle.sent_law.specs.Sent.{commanded}
 

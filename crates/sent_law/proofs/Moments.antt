@@ -12,14 +12,14 @@ use Rattle.world_history.specs.declared.messages.Message.{Message}
 use Rattle.world_history.specs.State.{World, empty_world}
 use Rattle.world_history.specs.Moves.{Act, Action, Opens, Delivers, TimesOut, Pends, acts}
 use Rattle.world_history.specs.Sending.{Move, move}
-use Rattle.book_law.specs.Moments.{with_event, lines_in}
-use Rattle.slot_law.specs.Doing.{said, posted}
-use Rattle.slot_law.proofs.Doing.{moves_are_steps}
-use Rattle.slot_law.proofs.Lists.{said_more}
-use Rattle.slot_law.proofs.Moments.{always}
-use Rattle.file_law.specs.Naming.{IsNamed, IsNamedInput, AreNamed}
-use Rattle.phase_law.specs.Tagged.{sent_over}
-use Rattle.create_law.specs.Standing.{is_running}
+use Rattle.history_law.specs.BookMoments.{with_event, lines_in}
+use Rattle.exchange_law.specs.Doing.{said, posted}
+use Rattle.exchange_law.proofs.Doing.{moves_are_steps}
+use Rattle.exchange_law.proofs.SlotLists.{said_more}
+use Rattle.exchange_law.proofs.SlotMoments.{always}
+use Rattle.calm_law.specs.Naming.{IsNamed, IsNamedInput, AreNamed}
+use Rattle.sent_law.specs.Tagged.{sent_over}
+use Rattle.sent_law.specs.Standing.{is_running}
 use Rattle.sent_law.specs.Sent.{commanded, IsSentByRun, ServerSentItsRun}
 use Rattle.sent_law.proofs.Doing.{Tells, Does, Rests, Serves, IsNamedAction, does}
 

@@ -9,11 +9,11 @@ use Rattle.world_history.specs.declared.messages.Body.TheVariants.{Command as Of
 use Rattle.world_history.specs.declared.messages.Message.{Message}
 use Rattle.world_history.specs.State.{World}
 use Rattle.job_law.specs.Names.{Command, ToDrive}
-use Rattle.book_law.specs.Moments.{IsMoment}
-use Rattle.slot_law.specs.Doing.{said}
-use Rattle.file_law.specs.Naming.{AreNamed}
-use Rattle.phase_law.specs.Tagged.{sent_over, AreNamedActs}
-use Rattle.create_law.specs.First.{AreRunning}
+use Rattle.history_law.specs.BookMoments.{IsMoment}
+use Rattle.exchange_law.specs.Doing.{said}
+use Rattle.calm_law.specs.Naming.{AreNamed}
+use Rattle.sent_law.specs.Tagged.{sent_over, AreNamedActs}
+use Rattle.sent_law.specs.First.{AreRunning}
 
 -- the message of a command to a drive
 abbrev pub commanded : (drive : ℕ) → Command → Message

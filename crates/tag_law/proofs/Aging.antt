@@ -18,8 +18,8 @@ use Rattle.world_history.specs.State.{World, empty_world}
 use Rattle.world_history.specs.Handed.{Post, is_addressed, server_post}
 use Rattle.world_history.specs.Moves.{Act}
 use Rattle.world_history.specs.Sending.{sends_all}
-use Rattle.file_law.specs.Sound.{IsSound}
-use Rattle.file_law.specs.Tags.{EachStepRaisesTags}
+use Rattle.calm_law.specs.Sound.{IsSound}
+use Rattle.calm_law.specs.Tags.{EachStepRaisesTags}
 use Rattle.job_law.proofs.Lists.{in_either, in_mapped, in_filtered}
 use Rattle.fencing_law.proofs.Moves.{messages_in, posts_of, NoneOfServer, Acts, Others, Serves}
 use Rattle.fencing_law.proofs.Numbers.{messages_sent}

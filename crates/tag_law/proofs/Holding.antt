@@ -34,18 +34,18 @@ use Rattle.world_history.specs.Book.{ServerSeen}
 use Rattle.world_history.specs.Calm.{first_seen}
 use Rattle.history_law.proofs.DriveLines.{view, sent_read}
 use Rattle.history_law.proofs.Histories.{IsKept, opening, stands}
-use Rattle.book_law.specs.Read.{AreWritten}
-use Rattle.book_law.proofs.Staying.{written_front}
-use Rattle.book_law.proofs.Following.{IsFollowed, followed}
-use Rattle.issue_law.proofs.Issuing.{IsSilent, AreSilent}
-use Rattle.issue_law.proofs.IssuingMoves.{acts_known}
-use Rattle.issue_law.proofs.Lines.{IsKnown, all_known}
-use Rattle.file_law.specs.Sound.{IsSound}
-use Rattle.file_law.specs.Seeing.{SeenIsSound}
-use Rattle.file_law.specs.Tags.{fence_note, EachStepRaisesTags}
+use Rattle.history_law.specs.Read.{AreWritten}
+use Rattle.history_law.proofs.Staying.{written_front}
+use Rattle.history_law.proofs.Following.{IsFollowed, followed}
+use Rattle.history_law.proofs.Issuing.{IsSilent, AreSilent}
+use Rattle.history_law.proofs.IssuingMoves.{acts_known}
+use Rattle.history_law.proofs.IssueLines.{IsKnown, all_known}
+use Rattle.calm_law.specs.Sound.{IsSound}
+use Rattle.calm_law.specs.Seeing.{SeenIsSound}
+use Rattle.calm_law.specs.Tags.{fence_note, EachStepRaisesTags}
 use Rattle.fencing_law.proofs.Moves.{messages_in, Acts, Others, Serves, each_acts}
 use Rattle.fencing_law.proofs.Holding.{no_note}
-use Rattle.calm_moves.proofs.Facts.{are_named, seen_server}
+use Rattle.calm_law.proofs.MoveFacts.{are_named, seen_server}
 use Rattle.tag_law.specs.Given.{GivesOlder, OlderIn, SpellsOlder, GivenBefore, GrantsAreOlder}
 use Rattle.tag_law.proofs.Saying.{GivesUpTo}
 use Rattle.tag_law.proofs.Aging.{to_client, EnvelopeUpTo, Aged, aged_by, aged_first}

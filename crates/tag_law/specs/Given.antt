@@ -15,7 +15,7 @@ use Rattle.world_history.specs.ServerNames.{Drive, Kept, Grant}
 use Rattle.world_history.specs.Reading.{sent_in}
 use Rattle.world_history.specs.State.{World}
 use Rattle.world_history.specs.History.{StandsFor}
-use Rattle.book_law.specs.Read.{AreWritten}
+use Rattle.history_law.specs.Read.{AreWritten}
 use Rattle.fencing_law.specs.Fenced.{noted}
 
 -- what a LAYOUTGET gives is a grant of a file whose tag was below this one then

@@ -1,1 +1,5 @@
 pub mod Given
+pub mod Origin
+pub mod Within
+pub mod Least
+pub mod Tags

@@ -1,12 +1,20 @@
-// What holds of the tags of grants, for the crates above.
+// What holds of every history, for the crates above.
 ghost use Rattle.tag_law.specs.Given.{GrantsAreOlder};
+ghost use Rattle.tag_law.specs.Origin.{EachTagWasSent};
+ghost use Rattle.tag_law.specs.Within.{NoTagIsAhead};
+ghost use Rattle.tag_law.specs.Least.{NoTagIsBehind};
+ghost use Rattle.tag_law.specs.Tags.{EachTagIsItsFiles};
 
-use file_law::{each_step_raises_tags, seen_is_sound};
+use calm_law::{each_step_raises_tags, seen_is_sound};
+use exchange_law::{all_files_fit, server_is_counted};
+use fencing_law::holder_is_server;
+use history_law::{book_is_read, commands_are_issued, unforged_are_issued};
+use sent_law::{creates_are_first, each_step_stands, no_command_is_ahead, server_sent_its_run};
 use server_rules::files_are_put;
-use world_history::reading_goes_on;
+use world_history::{one_event_more, reading_goes_on};
 
-/// In each whole history whose events a text may have, each grant of a file that the server gave a client before a note
-/// that a fence of the file is over has an earlier tag than the note tells.
+/// In each whole history whose events a text may have, each grant of a file that the server gave a client before a
+/// note that a fence of the file is over has an earlier tag than the note tells.
 pub fn grants_are_older()
     ensures { GrantsAreOlder }
 {
@@ -14,4 +22,54 @@ pub fn grants_are_older()
     files_are_put();
     reading_goes_on();
     seen_is_sound();
+}
+
+/// In a lawful history in which nothing is forged each object of each drive has its tag from a CREATE or a SET TAG
+/// for it that the server sent to the drive: the tag of the command's capability after a CREATE, the next one after a
+/// SET TAG.
+pub fn each_tag_was_sent()
+    ensures { EachTagWasSent }
+{
+    commands_are_issued();
+    unforged_are_issued();
+}
+
+/// At each moment of a lawful history of a scenario's text with few messages in which nothing is forged: no object of
+/// a component has a tag past its file's, but for the next one while the file's fence is open.
+pub fn no_tag_is_ahead()
+    ensures { NoTagIsAhead }
+{
+    server_sent_its_run();
+    each_tag_was_sent();
+    no_command_is_ahead();
+    all_files_fit();
+    server_is_counted();
+}
+
+/// At each moment of a lawful history of a scenario's text with few messages in which nothing is forged: each present
+/// component of a file has an object with the file's tag or a later one, unless its CREATE is awaited or its drive has
+/// failed.
+pub fn no_tag_is_behind()
+    ensures { NoTagIsBehind }
+{
+    server_sent_its_run();
+    each_tag_was_sent();
+    no_command_is_ahead();
+    all_files_fit();
+    server_is_counted();
+    holder_is_server();
+    each_step_stands();
+    creates_are_first();
+    one_event_more();
+}
+
+/// So at each such moment each present component of a file has an object with exactly the file's tag, or with the next
+/// one while a fence of the file is open, unless its CREATE is awaited or its drive has failed: in the words of the
+/// lines, of the server and the drives that are read off them.
+pub fn each_tag_is_its_files()
+    ensures { EachTagIsItsFiles }
+{
+    no_tag_is_ahead();
+    no_tag_is_behind();
+    book_is_read();
 }

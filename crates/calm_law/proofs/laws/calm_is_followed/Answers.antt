@@ -1,7 +1,7 @@
 use Rattle.std.proofs.Common.{true≢false, refl, sym}
-use Rattle.calm_law.proofs.Showing.{first_alike}
-use Rattle.calm_law.proofs.Following.{follows_on}
-use Rattle.calm_law.proofs.Opening.{follows_events}
+use Rattle.calm_law.proofs.CalmShowing.{first_alike}
+use Rattle.calm_law.proofs.CalmFollowing.{follows_on}
+use Rattle.calm_law.proofs.CalmOpening.{follows_events}
 use Rattle.calm_law.proofs.laws.calm_is_followed.Goals as goal
 
 pub returns-clause-first : goal.returns-clause-first

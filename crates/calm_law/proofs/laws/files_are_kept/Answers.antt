@@ -1,5 +1,5 @@
 use Rattle.calm_law.proofs.Noting.{short_alike, fails_alike, notes_alike}
-use Rattle.calm_law.proofs.Showing.{first_alike, steps_alike}
+use Rattle.calm_law.proofs.CalmShowing.{first_alike, steps_alike}
 use Rattle.calm_law.proofs.laws.files_are_kept.Goals as goal
 
 pub returns : goal.returns

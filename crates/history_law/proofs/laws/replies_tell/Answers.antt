@@ -1,4 +1,4 @@
-use Rattle.history_law.proofs.Telling.{replies_tell}
+use Rattle.history_law.proofs.HistoryTelling.{replies_tell}
 use Rattle.history_law.proofs.laws.replies_tell.Goals as goal
 
 pub returns : goal.returns

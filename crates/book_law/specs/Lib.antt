@@ -1,4 +1,0 @@
-pub mod Moments
-pub mod Doing
-pub mod Placed
-pub mod Read

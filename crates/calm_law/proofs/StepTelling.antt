@@ -1,0 +1,72 @@
+-- The lines of a step of the server say that a loss is taken, where an answer of it does.
+use Rattle.std.proofs.Common.{◌≡◌, ℕ, ◌+◌, ◌++◌, ◌∷◌, [], List, Bool, true, false, ◌||◌, nat_le, nat_lt, filter, map, refl, sym, subst, ◌∙◌, arith, inl, inr, if◌then◌else◌}
+use Rattle.std.specs.List.{list_any}
+use Rattle.std.proofs.lemmas.Bool.{cases_Bool}
+use Rattle.std.proofs.lemmas.Bool.Decides.{nat_tests}
+use Rattle.std.proofs.lemmas.List.Folds.{list_any-append}
+use Rattle.scenario_text.specs.declared.names.TheConstants.{CLIENTS}
+use Rattle.scenario_text.specs.declared.line.Line.{Line}
+use Rattle.server_rules.specs.declared.limits.TheConstants.{MAX_CLIENT}
+use Rattle.server_rules.specs.Making.{new_server}
+use Rattle.world_history.specs.ServerNames.{Server, Outgoing, Answers}
+use Rattle.world_history.specs.Handed.{Post, is_addressed, server_post}
+use Rattle.world_history.specs.Sending.{sent_line, sent_lines}
+use Rattle.world_history.specs.Calm.{is_told_taken, is_taken_out, sent_taken}
+use Rattle.history_law.specs.Parties.{AllPartiesRun}
+use Rattle.calm_law.specs.Told.{posts_of, LossesAreTold}
+use Rattle.calm_law.proofs.Answering.{SlotsPlain, OutPlain, SendsPlain, step_plain, runs_plain}
+use Rattle.calm_law.proofs.Trimming.{taken_read}
+
+-- ---- lines of messages
+
+-- where those behind say so, it doesn't matter whether a message before them is addressed
+later : (b : Bool) (p : Post) (ps : List Post) (number : ℕ)
+    → ((n : ℕ) → is_told_taken (sent_lines n ps) ≡ true)
+    → is_told_taken (sent_lines number (if b then p ∷ ps else ps)) ≡ true
+unfolding sent_lines
+later false p ps number rest = rest number
+later true p ps number rest = either (sent_taken (sent_line number p.message)) (rest (number + 1))
+  where
+    either : (b : Bool) → is_told_taken (sent_lines (number + 1) ps) ≡ true
+        → (b || is_told_taken (sent_lines (number + 1) ps)) ≡ true
+    either true e = refl
+    either false e = e
+
+is_named_too : (c : ℕ) → nat_le c MAX_CLIENT ≡ true → nat_lt c CLIENTS ≡ true
+is_named_too c e = grind (arith, e, nat_tests)
+
+-- an answer that takes a loss is addressed, and its line says so
+here : (o : Outgoing) (ps : List Post) (number : ℕ) → OutPlain o → is_taken_out o ≡ true
+    → is_told_taken (sent_lines number (if is_addressed (server_post o) then server_post o ∷ ps else ps)) ≡ true
+unfolding sent_lines
+here (Answers a) ps number plain e =
+    rw (is_named_too a.client plain.named) (rw (taken_read a plain e) refl)
+here o ps number plain e = absurd (cc e)
+
+lines_taken : (os : List Outgoing) (number : ℕ) → SendsPlain os → list_any is_taken_out os ≡ true
+    → is_told_taken (sent_lines number (filter is_addressed (map server_post os))) ≡ true
+lines_taken [] number h e = absurd (cc e)
+lines_taken (o ∷ os) number h e = elim (cases_Bool (is_taken_out o)) [
+  | inl t ↦ here o (filter is_addressed (map server_post os)) number h.0 t
+  | inr f ↦
+      later (is_addressed (server_post o)) (server_post o) (filter is_addressed (map server_post os)) number
+      (λ n. lines_taken os n h.1 (rw f at e))
+]
+
+behind_notes : (told lines : List Line) → is_told_taken lines ≡ true → is_told_taken (told ++ lines) ≡ true
+behind_notes told lines e = list_any-append sent_taken told lines ∙ rw e (or_true (list_any sent_taken told))
+  where
+    or_true : (b : Bool) → (b || true) ≡ true
+    or_true true = refl
+    or_true false = refl
+
+-- ---- at each moment
+
+pub losses_told : AllPartiesRun → LossesAreTold
+losses_told run w did told number reached servers e =
+    let runs = (run w reached).server in
+    let slots : SlotsPlain w.server.slots =
+    subst (λ (s : Server). SlotsPlain s.slots) (sym runs.is) (runs_plain (new_server []) runs.acts tt) in
+    let sends : SendsPlain did.sends =
+    subst SendsPlain (sym servers.sends) (step_plain w.server servers.chosen servers.input slots).sends in
+    behind_notes told (sent_lines number (posts_of did)) (lines_taken did.sends number sends e)

@@ -1,0 +1,58 @@
+-- How the components of a file go on in a step of the server.
+use Rattle.std.specs.Prelude.{◌≡◌, ℕ, false, List, Option, Some, None}
+use Rattle.std.specs.List.{list_any, filter_map}
+use Rattle.osd_bytes.specs.declared.node.Node.TheVariants as node
+use Rattle.server_rules.specs.Files.{file_at}
+use Rattle.server_rules.specs.Messages.{Orders}
+use Rattle.server_rules.specs.History.{Input, Hears, Makes, Obeys, step}
+use Rattle.scenario_text.specs.declared.line.Line.{Line}
+use Rattle.world_history.specs.ServerNames.{Server, File, OrderKind, ToDeclare}
+use Rattle.world_history.specs.Names.{known_note_line}
+use Rattle.calm_law.specs.Components.{Paired, StandAlike, told_in, tells_rebuilt, without_drive}
+use Rattle.calm_law.specs.Naming.{IsNamedInput}
+use Rattle.calm_law.specs.Sound.{IsSound}
+
+-- the drive that an order declares
+abbrev pub declared_by : OrderKind → (target : ℕ) → Option ℕ
+declared_by ToDeclare n = Some n
+declared_by kind n = None
+
+-- the drive that is declared by what comes to the server
+abbrev pub declared_in : Input → Option ℕ
+declared_in (Obeys kind n) = declared_by kind n
+declared_in (Hears now node.Server (Orders o)) = declared_by o.order o.target
+declared_in i = None
+
+-- no drive is taken out, or the one that is declared
+abbrev pub TakesOut : (declared out : Option ℕ) → Type 0
+TakesOut o None = Unit {0}
+TakesOut o (Some d) = o ≡ Some d
+
+-- A file goes on with its map. Its components are as these lines tell, but for the objects of those that were rebuilt,
+-- and for a drive that was taken out before.
+pub record GoesOn (i : Input) (lines : List Line) (n : ℕ) (f g : File) : Type 0 where
+  pub map : g.kept.map ≡ f.kept.map
+  pub out : Option ℕ
+  pub takes : TakesOut (declared_in i) out
+  pub alike : Paired StandAlike (told_in n (without_drive out f.kept.components) lines) g.kept.components
+  pub exact : out ≡ None → list_any (tells_rebuilt n) lines ≡ false
+      → g.kept.components ≡ told_in n f.kept.components lines
+
+-- the file of that number is made
+abbrev pub IsMaking : Input → (file : ℕ) → Type 0
+IsMaking (Makes k m tag) n = k ≡ n
+IsMaking i n = ⊥
+
+-- of file n before and behind a step with these lines
+abbrev pub Goes : Input → List Line → (file : ℕ) → Option File → Option File → Type 0
+Goes i lines n None None = Unit {0}
+Goes i lines n None (Some g) = IsMaking i n
+Goes i lines n (Some f) None = ⊥
+Goes i lines n (Some f) (Some g) = GoesOn i lines n f g
+
+-- so goes each file in each step, with the lines of its notes
+abbrev pub EachStepTells : Type 0
+EachStepTells =
+    (s : Server) (chosen : List ℕ) (i : Input) → IsSound s → IsNamedInput i → (n : ℕ)
+    → Goes i (filter_map known_note_line (step s chosen i).notes) n (file_at s.files n)
+    (file_at (step s chosen i).state.files n)

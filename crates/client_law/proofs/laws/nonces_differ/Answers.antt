@@ -1,5 +1,0 @@
-use Rattle.client_law.proofs.Numbers.{nonces_differ}
-use Rattle.client_law.proofs.laws.nonces_differ.Goals as goal
-
-pub returns : goal.returns
-returns c = nonces_differ

@@ -1,5 +1,0 @@
-use Rattle.client_law.proofs.RightSteps.{reads_are_right}
-use Rattle.client_law.proofs.laws.reads_are_right.Goals as goal
-
-pub returns : goal.returns
-returns c = reads_are_right

@@ -1,4 +1,0 @@
-pub mod State
-pub mod Nonces
-pub mod Requests
-pub mod Answers

@@ -1,5 +1,0 @@
-use Rattle.count_law.proofs.ClientsCounted.{clients_are_counted}
-use Rattle.count_law.proofs.laws.clients_are_counted.Goals as goal
-
-pub returns : goal.returns
-returns c = clients_are_counted

@@ -1,5 +1,0 @@
-use Rattle.count_law.proofs.Fitting.{messages_fit}
-use Rattle.count_law.proofs.laws.messages_fit.Goals as goal
-
-pub returns : goal.returns
-returns c = messages_fit

@@ -1,5 +1,0 @@
-use Rattle.count_law.proofs.Worlds.{server_is_counted}
-use Rattle.count_law.proofs.laws.server_is_counted.Goals as goal
-
-pub returns : goal.returns
-returns c = server_is_counted c.grants_are_counted.ensures

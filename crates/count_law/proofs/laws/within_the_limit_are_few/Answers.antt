@@ -1,5 +1,0 @@
-use Rattle.count_law.proofs.Bytes.{within_the_limit_are_few}
-use Rattle.count_law.proofs.laws.within_the_limit_are_few.Goals as goal
-
-pub returns : goal.returns
-returns c = within_the_limit_are_few

@@ -1,0 +1,86 @@
+-- A report of few errors is short.
+use Rattle.std.proofs.Common.{◌≡◌, ◌≤◌, ◌+◌, ◌*◌, ℕ, Bool, true, false, List, [], ◌∷◌, ◌++◌, length, refl, ap, ◌∙◌, arith}
+use Rattle.std.specs.List.{AllByRecursion, flat_map}
+use Rattle.std.proofs.lemmas.List.{length-append}
+use Rattle.std.proofs.lemmas.List.Concat.{flat_map-cons}
+use Rattle.xdr_codec.specs.Items.{u32_item, u64_item, bool_item, fixed_item}
+use Rattle.layout_types.specs.declared.ioerrs.IoErr.{IoErr}
+use Rattle.layout_types.specs.declared.objid.ObjId.{ObjId}
+use Rattle.layout_types.specs.Grammar.{list_item}
+use Rattle.layout_types.specs.Enumerations.{errno_number}
+use Rattle.layout_types.specs.Spelling.{objid_item, ioerr_item, ioerrs_item}
+use Rattle.layout_ops.specs.Spelling.{IsBody}
+use Rattle.ending_law.proofs.Ids.{IsLong}
+
+u32_long : (n : ℕ) → length (u32_item n) ≡ 4
+unfolding u32_item
+u32_long n = refl
+
+u64_long : (n : ℕ) → length (u64_item n) ≡ 8
+unfolding u64_item
+u64_long n = refl
+
+bool_long : (b : Bool) → length (bool_item b) ≡ 4
+bool_long false = u32_long 0
+bool_long true = u32_long 1
+
+device_long : (xs : List ℕ) → length xs ≡ 16 → length (fixed_item xs) ≡ 16
+unfolding fixed_item
+device_long xs e = length-append xs _ ∙ rw e refl
+
+object_long : (v : ObjId) → IsLong v → length (objid_item v) ≡ 32
+object_long v e =
+    length-append (fixed_item v.oid_device_id) _
+    ∙ omega (
+      arith,
+      device_long v.oid_device_id e,
+      length-append (u64_item v.oid_partition_id)
+          (u64_item v.oid_object_id),
+      u64_long v.oid_partition_id,
+      u64_long v.oid_object_id,
+    )
+
+-- the object of an error has a device id of its length
+abbrev pub ErrorLong : IoErr → Type 0
+ErrorLong v = IsLong v.oer_component
+
+error_long : (v : IoErr) → ErrorLong v → length (ioerr_item v) ≡ 56
+error_long v f =
+    length-append (objid_item v.oer_component) _
+    ∙ omega (
+      arith,
+      object_long v.oer_component f,
+      length-append (u64_item v.oer_comp_offset)
+          (u64_item v.oer_comp_length ++ (bool_item v.oer_iswrite ++ u32_item (errno_number v.oer_errno))),
+      length-append (u64_item v.oer_comp_length) (bool_item v.oer_iswrite ++ u32_item (errno_number v.oer_errno)),
+      length-append (bool_item v.oer_iswrite) (u32_item (errno_number v.oer_errno)),
+      u64_long v.oer_comp_offset,
+      u64_long v.oer_comp_length,
+      bool_long v.oer_iswrite,
+      u32_long (errno_number v.oer_errno),
+    )
+
+errors_long : (vs : List IoErr) → AllByRecursion ErrorLong vs → length (flat_map ioerr_item vs) ≡ 56 * length vs
+errors_long [] f = refl
+errors_long (v ∷ vs) f =
+    let rest : length (flat_map ioerr_item vs) ≡ 56 * length vs = errors_long vs f.1 in
+    let all : length (flat_map ioerr_item (v ∷ vs)) ≡ length (ioerr_item v) + length (flat_map ioerr_item vs) =
+    ap length (flat_map-cons ioerr_item v vs) ∙ length-append (ioerr_item v) (flat_map ioerr_item vs) in
+    omega (arith, rest, all, error_long v f.0)
+
+-- no more errors than a grant has components
+pub record ReportShort (report : List IoErr) : Type 0 where
+  pub few : length report ≤ 64
+  pub long : AllByRecursion ErrorLong report
+
+pub report_short : (report : List IoErr) → ReportShort report
+    → IsBody (ioerrs_item (record { olr_ioerr_report = report }))
+unfolding list_item
+report_short report s =
+    omega (
+      arith,
+      length-append (u32_item (length report)) (flat_map ioerr_item report),
+      u32_long (length report),
+      errors_long report s.long,
+      s.few,
+    )

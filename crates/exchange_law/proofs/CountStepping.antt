@@ -1,0 +1,500 @@
+-- Each step of the server leaves what fits, goes to those whom a line can name, and raises no number by more than it
+-- sends messages.
+use Rattle.std.specs.List.{AllByRecursion}
+use Rattle.std.proofs.Common.{◌≡◌, ◌&&◌, ◌==◌, ℕ, suc, ◌+◌, ◌≤◌, ◌<◌, ◌++◌, Bool, true, false, List, [], ◌∷◌, Option, Some, None, find, filter, map, length, nat_lt, nat_le, refl, sym, ap, subst, ◌∙◌, append_assoc, arith, if◌then◌else◌}
+use Rattle.std.proofs.lemmas.Bool.Decides.{nat_tests}
+use Rattle.std.proofs.lemmas.List.{append-nil, length-append, length-map}
+use Rattle.osd_commands.proofs.Passing.{both_true}
+use Rattle.osd_bytes.specs.declared.node.Node.{Node}
+use Rattle.osd_bytes.specs.declared.node.Node.TheVariants as node
+use Rattle.data_map.specs.declared.check.RawMap.{RawMap}
+use Rattle.data_map.specs.Check.{HasAlgorithm}
+use Rattle.osd_capability.specs.Layout.{is_format}
+use Rattle.scenario_text.specs.declared.names.TheConstants.{DRIVES, FILES}
+use Rattle.layout_ops.specs.declared.messages.Answer.{Answer}
+use Rattle.server_rules.specs.declared.limits.TheConstants.{MAX_CLIENT, GREATEST_TAG}
+use Rattle.server_rules.specs.declared.server.Slot.{Slot}
+use Rattle.world_history.specs.ServerNames.{Server, File, Drive, Grant, Awaited, Job, JobKind, Revoking, Rebuilding, Auditing, Busy, Spent, Outgoing, ToDrive, Recalls, Answers, AnswersOrder, ClientRequest, Reply, HasStarted, IsSpent, OrderKind, ToRecall, ToRevoke, ToDeclare, ToRebuild, ToAudit, Moved}
+use Rattle.server_rules.specs.Answers.{recalls_from}
+use Rattle.server_rules.specs.Going.{Going, noting}
+use Rattle.server_rules.specs.Jobs.{fence_begins, declares}
+use Rattle.server_rules.specs.Files.{Step, still, begins, file_at, put_file, add_file, at_file, to_drives, step_at}
+use Rattle.server_rules.specs.Rounds.{Round}
+use Rattle.server_rules.specs.Served.{Served}
+use Rattle.server_rules.specs.Get.{lowest}
+use Rattle.server_rules.specs.Slots.{Admit, New, Again, Misordered, slot_of, admit, admit_after, keep}
+use Rattle.server_rules.specs.Requests.{serves, answer_with, answer_without, carried_out, carries_out, by_admit, on_request}
+use Rattle.server_rules.specs.Messages.{Message, Asks, Replies, Orders, or_else, heard_at, by_heard, on_drive_reply, handled}
+use Rattle.server_rules.specs.Orders.{Ordered, begins_job, starts, recalls_on, offline, declares_each, declares_known, declare, ordered, with_result}
+use Rattle.server_rules.specs.Replies.{on_reply}
+use Rattle.server_rules.specs.History.{Input, Makes, Adds, Formats, Crashes, Opens}
+use Rattle.world_history.specs.Handed.{Post, is_addressed, server_post}
+use Rattle.history_law.specs.Placed.{AreNamed}
+use Rattle.history_law.proofs.Steps.{offline_named}
+use Rattle.exchange_law.specs.Files.{GrantFits, KeptFits}
+use Rattle.exchange_law.proofs.Parts.{each_more, each_as, IsNear, AllNear, JobFits, wider_job}
+use Rattle.exchange_law.proofs.Running.{wider_kept, Sound, From, here, noted}
+use Rattle.exchange_law.proofs.Mending.{fence_runs, declares_run, HeardRuns, reply_runs}
+use Rattle.exchange_law.proofs.CountServing.{ServedFits}
+use Rattle.exchange_law.proofs.Returning.{serves_fit, served_fits}
+
+-- ---- the server
+
+abbrev pub FileFits : (objects : ℕ) → File → Type 0
+FileFits n f = KeptFits n f.kept × JobFits n f.kept.tag f.job
+
+-- an answer that is kept is for a client that lines can name
+abbrev pub SlotFits : Slot → Type 0
+SlotFits s = s.kept.client ≤ MAX_CLIENT
+
+pub record ServerFits (s : Server) : Type 0 where
+  pub drives : AreNamed s.drives
+  pub format : is_format s.format ≡ true
+  pub files : AllByRecursion (FileFits s.next_object) s.files
+  pub slots : AllByRecursion SlotFits s.slots
+
+-- what may come to it
+abbrev pub IsGiven : Input → Type 0
+IsGiven (Makes n m tag) = (n < FILES) × (tag ≤ GREATEST_TAG) × HasAlgorithm m
+IsGiven (Adds d) = d.number < DRIVES
+IsGiven (Formats n) = is_format n ≡ true
+IsGiven Crashes = ⊥
+IsGiven Opens = ⊥
+IsGiven i = Unit {0}
+
+-- ---- what it sends
+
+-- a line can name the receiver
+abbrev pub IsNamedOut : Outgoing → Type 0
+IsNamedOut (ToDrive d c) = d < DRIVES
+IsNamedOut (Recalls r) = r.client ≤ MAX_CLIENT
+IsNamedOut (Answers a) = a.client ≤ MAX_CLIENT
+IsNamedOut (AnswersOrder a) = Unit {0}
+
+abbrev pub AreNamedOut : List Outgoing → Type 0
+AreNamedOut os = AllByRecursion IsNamedOut os
+
+named_out : (o : Outgoing) → IsNamedOut o → is_addressed (server_post o) ≡ true
+named_out (ToDrive d c) n = grind (arith, n, nat_tests)
+named_out (Recalls r) n = grind (arith, n, nat_tests)
+named_out (Answers a) n = grind (arith, n, nat_tests)
+named_out (AnswersOrder a) n = refl
+
+-- so all of it is sent
+pub all_posted : (os : List Outgoing) → AreNamedOut os
+    → filter is_addressed (map server_post os) ≡ map server_post os
+all_posted [] n = refl
+all_posted (o ∷ os) n = rw (named_out o n.0) (ap (λ (ps : List Post). server_post o ∷ ps) (all_posted os n.1))
+
+pub all_counted : (os : List Outgoing) → AreNamedOut os
+    → length (filter is_addressed (map server_post os)) ≡ length os
+all_counted os n = ap (λ (ps : List Post). length ps) (all_posted os n) ∙ length-map os server_post
+
+pub drives_out : (ds : List Drive) (ws : List Awaited) → AllNear ws → AreNamedOut (to_drives ds ws)
+drives_out ds [] n = tt
+drives_out ds (a ∷ ws) n = (n.0.drive, drives_out ds ws n.1)
+
+pub length_drives : (ds : List Drive) (ws : List Awaited) → length (to_drives ds ws) ≡ length ws
+length_drives ds ws = length-map ws _
+
+pub recalls_out : (count number : ℕ) (m : RawMap) (gs : List Grant) → AllByRecursion (GrantFits number m) gs
+    → AreNamedOut (recalls_from count gs)
+unfolding recalls_from
+recalls_out count number m [] k = tt
+recalls_out count number m (g ∷ gs) k = (k.0.client, recalls_out (count + 1) number m gs k.1)
+
+pub length_recalls : (count : ℕ) (gs : List Grant) → length (recalls_from count gs) ≡ length gs
+unfolding recalls_from
+length_recalls count [] = refl
+length_recalls count (g ∷ gs) = ap suc (length_recalls (count + 1) gs)
+
+-- ---- files and slots
+
+pub wider_files : (m n : ℕ) (fs : List File) → m ≤ n → AllByRecursion (FileFits m) fs → AllByRecursion (FileFits n) fs
+wider_files m n fs l k =
+    each_as (FileFits m) (FileFits n) fs (λ f x. (wider_kept m n f.kept l x.0, wider_job m n f.kept.tag f.job l x.1)) k
+
+pub put_fits : (n : ℕ) (fs : List File) (number : ℕ) (g : File) → AllByRecursion (FileFits n) fs → FileFits n g
+    → AllByRecursion (FileFits n) (put_file fs number g)
+unfolding put_file
+put_fits n [] number g k f = tt
+put_fits n (x ∷ fs) number g k f = either (x.kept.number == number) (put_fits n fs number g k.1 f)
+  where
+    either : (b : Bool) → AllByRecursion (FileFits n) (put_file fs number g)
+        → AllByRecursion (FileFits n) (if b then g ∷ fs else x ∷ put_file fs number g)
+    either true l = (f, k.1)
+    either false l = (k.0, l)
+
+pub add_fits : (n : ℕ) (fs : List File) (g : File) → AllByRecursion (FileFits n) fs → FileFits n g
+    → AllByRecursion (FileFits n) (add_file fs g)
+unfolding add_file
+add_fits n [] g k f = (f, tt)
+add_fits n (x ∷ fs) g k f = either (nat_lt x.kept.number g.kept.number) (add_fits n fs g k.1 f)
+  where
+    either : (b : Bool) → AllByRecursion (FileFits n) (add_file fs g)
+        → AllByRecursion (FileFits n) (if b then x ∷ add_file fs g else g ∷ x ∷ fs)
+    either true l = (k.0, l)
+    either false l = (f, k)
+
+abbrev pub FoundFile : ℕ → Option File → Type 0
+FoundFile n None = Unit {0}
+FoundFile n (Some f) = FileFits n f
+
+pub found_file : (n : ℕ) (fs : List File) (number : ℕ) → AllByRecursion (FileFits n) fs
+    → FoundFile n (file_at fs number)
+unfolding file_at
+found_file n [] number k = tt
+found_file n (x ∷ fs) number k = either (x.kept.number == number) (found_file n fs number k.1)
+  where
+    either : (b : Bool) → FoundFile n (file_at fs number) → FoundFile n (if b then Some x else file_at fs number)
+    either true l = k.0
+    either false l = l
+
+kept_slots : (ss : List Slot) (s : Slot) → AllByRecursion SlotFits ss → SlotFits s
+    → AllByRecursion SlotFits (keep ss s)
+unfolding keep
+kept_slots [] s k f = (f, tt)
+kept_slots (x ∷ ss) s k f = either (x.client == s.client) (kept_slots ss s k.1 f)
+  where
+    either : (b : Bool) → AllByRecursion SlotFits (keep ss s)
+        → AllByRecursion SlotFits (if b then s ∷ ss else x ∷ keep ss s)
+    either true l = (f, k.1)
+    either false l = (k.0, l)
+
+-- ---- a step
+
+pub record StepFits (s : Server) (t : Step) : Type 0 where
+  pub fits : ServerFits t.state
+  pub named : AreNamedOut t.sends
+  pub nonces : t.state.next_nonce ≤ s.next_nonce + length t.sends
+  pub objects : t.state.next_object ≤ s.next_object + length t.sends
+  pub recalls : t.state.next_recall ≤ s.next_recall + length t.sends
+  pub grows : s.next_object ≤ t.state.next_object
+
+pub either_step : (s : Server) (b : Bool) (x y : Step) → StepFits s x → StepFits s y → StepFits s (if b then x else y)
+either_step s true x y p q = p
+either_step s false x y p q = q
+
+pub still_fits : (s : Server) → ServerFits s → StepFits s (still s)
+still_fits s k = record {
+  fits = k;
+  named = tt;
+  nonces = omega arith;
+  objects = omega arith;
+  recalls = omega arith;
+  grows = omega arith;
+}
+
+pub at_sound : (s : Server) (chosen : List ℕ) (f : File) → ServerFits s → FileFits s.next_object f
+    → Sound (at_file s chosen f)
+at_sound s chosen f k x = record { kept = x.0; drives = k.drives }
+
+-- what a run at a file sent
+pub sent_near : (ws more : List Awaited) → ws ≡ more → AllNear more → AllNear ws
+sent_near ws more e n = subst AllNear (sym e) n
+
+-- a step at one file
+at_fits : (s : Server) (chosen : List ℕ) (number : ℕ) (f : File) (h : Going) → ServerFits s
+    → From (at_file s chosen f) h → StepFits s (step_at s number h)
+at_fits s chosen number f h k r =
+    let long : length (to_drives s.drives h.moved.sent) ≡ length r.more =
+    length_drives s.drives h.moved.sent ∙ ap (λ (ws : List Awaited). length ws) r.sent_is in
+    record {
+      fits = record {
+        drives = k.drives;
+        format = k.format;
+        files = put_fits h.moved.object s.files number h.file
+            (wider_files s.next_object h.moved.object s.files r.objects k.files) (r.kept, r.job);
+        slots = k.slots;
+      };
+      named = drives_out s.drives h.moved.sent (sent_near h.moved.sent r.more r.sent_is r.near);
+      nonces = omega (arith, r.rises, long);
+      objects = omega (arith, r.given, long);
+      recalls = omega arith;
+      grows = r.objects;
+    }
+
+-- ---- a request
+
+out_fits : (s : Server) (chosen : List ℕ) (q : ClientRequest) (f : File) (v : Served) → ServerFits s
+    → q.client ≤ MAX_CLIENT → ServedFits (at_file s chosen f) v → StepFits s (carried_out s q v)
+out_fits s chosen q f v k c x =
+    let r = x.runs in
+    let drives = to_drives s.drives v.going.moved.sent in
+    let recalls = recalls_from s.next_recall v.recalled in
+    let answer = Answers (answer_with s q v) ∷ [] in
+    let long : length drives ≡ length r.more =
+    length_drives s.drives v.going.moved.sent ∙ ap (λ (ws : List Awaited). length ws) r.sent_is in
+    let all : length (drives ++ (recalls ++ answer)) ≡ length drives + (length recalls + 1) =
+    length-append drives (recalls ++ answer) ∙ ap (λ (n : ℕ). length drives + n) (length-append recalls answer) in
+    let many : length recalls ≡ length v.recalled = length_recalls s.next_recall v.recalled in
+    record {
+      fits = record {
+        drives = k.drives;
+        format = k.format;
+        files = put_fits v.going.moved.object s.files q.file v.going.file
+            (wider_files s.next_object v.going.moved.object s.files r.objects k.files) (r.kept, r.job);
+        slots = kept_slots s.slots _ k.slots c;
+      };
+      named =
+          each_more IsNamedOut drives (recalls ++ answer)
+          (drives_out s.drives v.going.moved.sent (sent_near v.going.moved.sent r.more r.sent_is r.near))
+          (each_more IsNamedOut recalls answer
+          (recalls_out s.next_recall f.kept.number f.kept.map v.recalled x.recalled) (c, tt));
+      nonces = omega (arith, r.rises, long, all);
+      objects = omega (arith, r.given, long, all);
+      recalls = omega (arith, all, many);
+      grows = r.objects;
+    }
+
+only_fits : (s t : Server) (a : Answer) → ServerFits t → t.next_nonce ≡ s.next_nonce
+    → t.next_object ≡ s.next_object → t.next_recall ≡ s.next_recall → a.client ≤ MAX_CLIENT
+    → StepFits s (record { state = t; sends = Answers a ∷ []; notes = []; mended = [] })
+only_fits s t a k nonce object recall c = record {
+  fits = k;
+  named = (c, tt);
+  nonces = omega (arith, nonce);
+  objects = omega (arith, object);
+  recalls = omega (arith, recall);
+  grows = omega (arith, object);
+}
+
+carries_fit : (s : Server) (now : ℕ) (chosen : List ℕ) (q : ClientRequest) (o : Option File) → ServerFits s
+    → q.client ≤ MAX_CLIENT → FoundFile s.next_object o → StepFits s (carries_out s now chosen q o)
+carries_fit s now chosen q None k c f =
+    only_fits s _ (answer_without q) (record {
+      drives = k.drives;
+      format = k.format;
+      files = k.files;
+      slots = kept_slots s.slots _ k.slots c;
+    }) refl refl refl c
+carries_fit s now chosen q (Some f) k c x =
+    out_fits s chosen q f (serves (at_file s chosen f) s.next_grant s.format now q.client q.args) k c
+    (served_fits q.args (at_file s chosen f) _
+    (serves_fit (at_file s chosen f) s.next_grant s.format now q.client q.args k.format c (at_sound s chosen f k x)
+    x.1))
+
+abbrev AdmitFits : Admit → Type 0
+AdmitFits (Again kept) = kept.client ≤ MAX_CLIENT
+AdmitFits a = Unit {0}
+
+abbrev FoundSlot : Option Slot → Type 0
+FoundSlot None = Unit {0}
+FoundSlot (Some s) = SlotFits s
+
+found_slot : (p : Slot → Bool) (ss : List Slot) → AllByRecursion SlotFits ss → FoundSlot (find p ss)
+found_slot p [] k = tt
+found_slot p (s ∷ ss) k = either (p s) (found_slot p ss k.1)
+  where
+    either : (b : Bool) → FoundSlot (find p ss) → FoundSlot (if b then Some s else find p ss)
+    either true l = k.0
+    either false l = l
+
+either_admit : (b : Bool) (x y : Admit) → AdmitFits x → AdmitFits y → AdmitFits (if b then x else y)
+either_admit true x y p q = p
+either_admit false x y p q = q
+
+after_fits : (last sequence : ℕ) → AdmitFits (admit_after last sequence)
+unfolding admit_after
+after_fits last sequence = either_admit _ New (Misordered _) tt tt
+
+admit_fits : (o : Option Slot) (sequence : ℕ) → FoundSlot o → AdmitFits (admit o sequence)
+unfolding admit
+admit_fits None sequence k = after_fits 0 sequence
+admit_fits (Some s) sequence k =
+    either_admit (sequence == s.last) (Again s.kept) (admit_after s.last sequence) k (after_fits s.last sequence)
+
+admitted_fits : (s : Server) (now : ℕ) (chosen : List ℕ) (q : ClientRequest) (a : Admit) → ServerFits s
+    → q.client ≤ MAX_CLIENT → AdmitFits a → StepFits s (by_admit s now chosen q a)
+admitted_fits s now chosen q New k c f =
+    carries_fit s now chosen q (file_at s.files q.file) k c (found_file s.next_object s.files q.file k.files)
+admitted_fits s now chosen q (Again kept) k c f = only_fits s s kept k refl refl refl f
+admitted_fits s now chosen q (Misordered expected) k c f = only_fits s s _ k refl refl refl c
+
+request_fits : (s : Server) (now : ℕ) (chosen : List ℕ) (q : ClientRequest) → ServerFits s → q.client ≤ MAX_CLIENT
+    → StepFits s (on_request s now chosen q)
+unfolding on_request
+request_fits s now chosen q k c =
+    admitted_fits s now chosen q _ k c
+    (admit_fits (slot_of s.slots q.client) q.sequence (found_slot _ s.slots k.slots))
+
+-- ---- a reply
+
+abbrev HeardAt : Server → (chosen : List ℕ) → Option Going → Type 0
+HeardAt s chosen None = Unit {0}
+HeardAt s chosen (Some h) = (f : File) × From (at_file s chosen f) h
+
+first_heard : (s : Server) (chosen : List ℕ) (f : File) (o p : Option Going) → HeardRuns (at_file s chosen f) o
+    → HeardAt s chosen p → HeardAt s chosen (or_else o p)
+first_heard s chosen f None p h l = l
+first_heard s chosen f (Some g) p h l = (f, h)
+
+all_heard : (s : Server) (chosen : List ℕ) (drive : ℕ) (r : Reply) (fs : List File) → ServerFits s
+    → AllByRecursion (FileFits s.next_object) fs → HeardAt s chosen (heard_at s chosen drive r fs)
+unfolding heard_at
+all_heard s chosen drive r [] k l = tt
+all_heard s chosen drive r (f ∷ fs) k l =
+    first_heard s chosen f (on_reply (at_file s chosen f) drive r) _
+    (reply_runs (at_file s chosen f) drive r (at_sound s chosen f k l.0) l.0.1) (all_heard s chosen drive r fs k l.1)
+
+heard_fits : (s : Server) (chosen : List ℕ) (o : Option Going) → ServerFits s → HeardAt s chosen o
+    → StepFits s (by_heard s o)
+heard_fits s chosen None k h = still_fits s k
+heard_fits s chosen (Some g) k h = at_fits s chosen g.file.kept.number h.0 g k h.1
+
+-- ---- orders
+
+order_by : (s : Server) (b : Bool) (x y : Ordered) → (b ≡ true → StepFits s x.step) → (b ≡ false → StepFits s y.step)
+    → StepFits s (if b then x else y).step
+order_by s true x y p q = p refl
+order_by s false x y p q = q refl
+
+begun_fits : (s : Server) (chosen : List ℕ) (kind : JobKind) (f : File) (j : Option Job) → ServerFits s
+    → FileFits s.next_object f → StepFits s (begins_job s chosen kind f j).step
+begun_fits s chosen kind f (Some j) k x =
+    let g : Going = noting (at_file s chosen f) (Busy (lowest j.awaited)) in
+    at_fits s chosen f.kept.number f g k (here g (noted (at_file s chosen f) _ (at_sound s chosen f k x)) x.1)
+begun_fits s chosen kind f None k x =
+    let g : Going = noting (at_file s chosen f) Spent in
+    order_by s (f.kept.tag == GREATEST_TAG) (record { step = step_at s f.kept.number g; result = IsSpent }) (record {
+      step = step_at s f.kept.number (fence_begins kind s.format (at_file s chosen f));
+      result = HasStarted;
+    }) (λ is.
+    at_fits s chosen f.kept.number f g k (here g (noted (at_file s chosen f) Spent (at_sound s chosen f k x)) x.1))
+    (λ is.
+    at_fits s chosen f.kept.number f (fence_begins kind s.format (at_file s chosen f)) k
+    (fence_runs kind s.format (at_file s chosen f) k.format (at_sound s chosen f k x)
+    (grind (arith, is, x.0.tag, nat_tests))))
+
+started_fits : (s : Server) (chosen : List ℕ) (kind : JobKind) (o : Option File) → ServerFits s
+    → FoundFile s.next_object o → StepFits s (starts s chosen kind o).step
+started_fits s chosen kind None k f = still_fits s k
+started_fits s chosen kind (Some f) k x = begun_fits s chosen kind f f.job k x
+
+recalled_fits : (s : Server) (o : Option File) → ServerFits s → FoundFile s.next_object o
+    → StepFits s (recalls_on s o).step
+recalled_fits s None k f = still_fits s k
+recalled_fits s (Some f) k x = record {
+  fits = record { drives = k.drives; format = k.format; files = k.files; slots = k.slots };
+  named = recalls_out s.next_recall f.kept.number f.kept.map f.kept.grants x.0.grants;
+  nonces = omega arith;
+  objects = omega arith;
+  recalls = omega (arith, length_recalls s.next_recall f.kept.grants);
+  grows = omega arith;
+}
+
+-- ---- a drive is declared
+
+pub record RoundFits (nonce object : ℕ) (sent : List Awaited) (r : Round) : Type 0 where
+  pub more : List Awaited
+  pub sent_is : r.moved.sent ≡ sent ++ more
+  pub rises : r.moved.nonce ≡ nonce + length more
+  pub objects : object ≤ r.moved.object
+  pub given : r.moved.object ≤ object + length more
+  pub near : AllNear more
+  pub files : AllByRecursion (FileFits r.moved.object) r.files
+
+each_declared : (drive : ℕ) (ds : List Drive) (fs : List File) (m : Moved) (chosen : List ℕ) → AreNamed ds
+    → AllByRecursion (FileFits m.object) fs
+    → RoundFits m.nonce m.object m.sent (declares_each drive ds fs m chosen)
+unfolding declares_each
+each_declared drive ds [] m chosen named k = record {
+  more = [];
+  sent_is = sym (append-nil m.sent);
+  rises = omega arith;
+  objects = omega arith;
+  given = omega arith;
+  near = tt;
+  files = tt;
+}
+each_declared drive ds (f ∷ fs) m chosen named k =
+    let g : Going = record { file = f; moved = m; drives = ds; chosen = chosen } in
+    let h : Going = declares g drive in
+    let a = declares_run g drive (record { kept = k.0.0; drives = named }) k.0.1 in
+    let b = each_declared drive ds fs h.moved h.chosen named (wider_files m.object h.moved.object fs a.objects k.1) in
+    record {
+      more = a.more ++ b.more;
+      sent_is = b.sent_is ∙ ap (λ (ws : List Awaited). ws ++ b.more) a.sent_is ∙ append_assoc m.sent a.more b.more;
+      rises = omega (arith, a.rises, b.rises, length-append a.more b.more);
+      objects = omega (arith, a.objects, b.objects);
+      given = omega (arith, a.given, b.given, length-append a.more b.more);
+      near = each_more IsNear a.more b.more a.near b.near;
+      files = (
+        (
+          wider_kept h.moved.object _ h.file.kept b.objects a.kept,
+          wider_job h.moved.object _ h.file.kept.tag h.file.job b.objects a.job,
+        ),
+        b.files,
+      );
+    }
+
+declared_fits : (s : Server) (chosen : List ℕ) (n : ℕ) (b : Bool) → ServerFits s
+    → StepFits s (declares_known s chosen n b).step
+unfolding declare
+declared_fits s chosen n false k = still_fits s k
+declared_fits s chosen n true k =
+    let ds = offline s.drives n in
+    let named = offline_named s.drives n k.drives in
+    let r = declares_each n ds s.files (begins s) chosen in
+    let x = each_declared n ds s.files (begins s) chosen named k.files in
+    let long : length (to_drives ds r.moved.sent) ≡ length x.more =
+    length_drives ds r.moved.sent ∙ ap (λ (ws : List Awaited). length ws) x.sent_is in
+    record {
+      fits = record { drives = named; format = k.format; files = x.files; slots = k.slots };
+      named = drives_out ds r.moved.sent (sent_near r.moved.sent x.more x.sent_is x.near);
+      nonces = omega (arith, x.rises, long);
+      objects = omega (arith, x.given, long);
+      recalls = omega arith;
+      grows = x.objects;
+    }
+
+pub obeyed_fits : (s : Server) (chosen : List ℕ) (kind : OrderKind) (n : ℕ) → ServerFits s
+    → StepFits s (ordered s chosen kind n).step
+unfolding ordered
+obeyed_fits s chosen ToRecall n k =
+    recalled_fits s (file_at s.files n) k (found_file s.next_object s.files n k.files)
+obeyed_fits s chosen ToRevoke n k =
+    started_fits s chosen Revoking (file_at s.files n) k (found_file s.next_object s.files n k.files)
+obeyed_fits s chosen ToDeclare n k = declared_fits s chosen n _ k
+obeyed_fits s chosen ToRebuild n k =
+    started_fits s chosen Rebuilding (file_at s.files n) k (found_file s.next_object s.files n k.files)
+obeyed_fits s chosen ToAudit n k =
+    started_fits s chosen Auditing (file_at s.files n) k (found_file s.next_object s.files n k.files)
+
+answered_fits : (s : Server) (kind : OrderKind) (o : Ordered) → StepFits s o.step → StepFits s (with_result kind o)
+answered_fits s kind o k =
+    let long : length (o.step.sends ++ AnswersOrder (record { order = kind; result = o.result }) ∷ [])
+    ≡ length o.step.sends + 1 = length-append o.step.sends _ in
+    record {
+      fits = record {
+        drives = k.fits.drives;
+        format = k.fits.format;
+        files = k.fits.files;
+        slots = k.fits.slots;
+      };
+      named = each_more IsNamedOut o.step.sends _ k.named (tt, tt);
+      nonces = omega (arith, k.nonces, long);
+      objects = omega (arith, k.objects, long);
+      recalls = omega (arith, k.recalls, long);
+      grows = k.grows;
+    }
+
+-- ---- a message
+
+asked_fits : (s : Server) (now : ℕ) (chosen : List ℕ) (c : ℕ) (q : ClientRequest) (b : Bool) → ServerFits s
+    → ((q.client == c) && nat_le c MAX_CLIENT) ≡ b → StepFits s (if b then on_request s now chosen q else still s)
+asked_fits s now chosen c q false k is = still_fits s k
+asked_fits s now chosen c q true k is =
+    let both = both_true (q.client == c) (nat_le c MAX_CLIENT) is in
+    request_fits s now chosen q k (grind (arith, both.0, both.1, nat_tests))
+
+pub message_fits : (s : Server) (now : ℕ) (chosen : List ℕ) (from : Node) (m : Message) → ServerFits s
+    → StepFits s (handled s now chosen from m)
+unfolding on_drive_reply
+message_fits s now chosen (node.Client c) (Asks q) k =
+    asked_fits s now chosen c q ((q.client == c) && nat_le c MAX_CLIENT) k refl
+message_fits s now chosen (node.Drive d) (Replies r) k =
+    heard_fits s chosen (heard_at s chosen d r s.files) k (all_heard s chosen d r s.files k k.files)
+message_fits s now chosen node.Server (Orders o) k =
+    answered_fits s o.order (ordered s chosen o.order o.target) (obeyed_fits s chosen o.order o.target k)
+message_fits s now chosen from m k = still_fits s k

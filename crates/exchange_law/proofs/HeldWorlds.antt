@@ -1,0 +1,338 @@
+-- At each moment of a history each client and the server agree.
+use Rattle.std.proofs.Common.{◌≡◌, ◌≤◌, ◌++◌, ◌+◌, ℕ, List, [], ◌∷◌, Option, Some, None, inl, inr, arith, refl, sym, ap, subst, ◌∙◌, append_assoc}
+use Rattle.std.proofs.lemmas.List.{append-nil}
+use Rattle.std.proofs.lemmas.Bool.{cases_eq, eq-eqb, ne_eqb}
+use Rattle.osd_bytes.specs.declared.node.Node.{Node}
+use Rattle.osd_bytes.specs.declared.node.Node.TheVariants as node
+use Rattle.layout_ops.specs.declared.envelope.Envelope.TheVariants as envelope
+use Rattle.layout_ops.specs.Spelling.{EnvelopeFits}
+use Rattle.layout_ops.proofs.Whole.{all_again}
+use Rattle.client_rules.specs.declared.limits.TheConstants.{GREATEST_SEQUENCE}
+use Rattle.scenario_text.specs.declared.line.Line.{Line}
+use Rattle.world_history.specs.ClientNames.{Client, Held, Request}
+use Rattle.world_history.specs.ServerNames.{File, Server, Slot, ClientRequest, RequestArgs}
+use Rattle.world_history.specs.declared.messages.Body.{Body}
+use Rattle.world_history.specs.declared.messages.Body.TheVariants.{Envelope as OfEnvelope}
+use Rattle.world_history.specs.Spelled.{spelled}
+use Rattle.world_history.specs.State.{World, ClientAt, at_number, empty_world}
+use Rattle.world_history.specs.Moves.{Act, Action, acts}
+use Rattle.world_history.specs.Plans.{due, plan_of}
+use Rattle.world_history.specs.Runs.{world_after, plan_after}
+use Rattle.world_history.specs.Sending.{Move, move}
+use Rattle.world_history.specs.History.{OneEventMore}
+use Rattle.client_rules.specs.Grants.{held_of}
+use Rattle.client_rules.specs.History.{Input, Hears, Calls, TimesOut, Leaves, Resends, step as client_step}
+use Rattle.client_rules.specs.Messages.{TakesAnswer, takes}
+use Rattle.server_rules.specs.Envelopes.{asked_in, request_with, by_envelope, message_in}
+use Rattle.server_rules.specs.Files.{file_at}
+use Rattle.server_rules.specs.History.{Input as ServerInput, Hears as ServerHears, step}
+use Rattle.server_rules.specs.Laws.{SlotsAreKept, AreSafe, last_of}
+use Rattle.server_rules.specs.Messages.{Asks}
+use Rattle.server_rules.specs.Slots.{slot_of}
+use Rattle.history_law.specs.Grants.{GrantsAreSafe}
+use Rattle.history_law.specs.HistoryMoments.{IsReached}
+use Rattle.history_law.specs.BookMoments.{IsMoment, lines_so_far, lines_in, plan_at}
+use Rattle.fencing_law.proofs.Ending.{due_more, world_more, so_far_more}
+use Rattle.exchange_law.specs.Doing.{said, IsHeardByServer, IsHeardByClient, OthersGo, ServerGoes, ClientGoes, ClientStops, ClientComes, Goes, Others, AServer, AClient, Stops, Comes}
+use Rattle.exchange_law.specs.Messages.{AsksOf, IsAsked, last_before}
+use Rattle.exchange_law.specs.InStep.{StandsAt, state_of}
+use Rattle.exchange_law.specs.Taking.{AnswersAreOwn}
+use Rattle.exchange_law.proofs.Admitting.{is_next}
+use Rattle.exchange_law.proofs.SlotAnswered.{read_of, is_outstanding}
+use Rattle.exchange_law.proofs.Doing.{moves_are_steps}
+use Rattle.exchange_law.proofs.Each.{put_same, put_other, stopped_same, come_same, in_step}
+use Rattle.exchange_law.proofs.SlotLists.{each_at}
+use Rattle.exchange_law.proofs.SlotMoments.{comes_new, always}
+use Rattle.exchange_law.proofs.Standing.{Parts}
+use Rattle.exchange_law.specs.Calls.{Knows, GoodAnswer}
+use Rattle.exchange_law.specs.Shapes.{HasShape, FilesHaveShape}
+use Rattle.exchange_law.specs.Meeting.{AgreesAt, KeptGood, IsMet, Reads, FilesSound, IsReadable, IsReadableThrough, ClientsAgree}
+use Rattle.exchange_law.proofs.HeldMoving.{IsSame}
+use Rattle.exchange_law.proofs.HeldGoing.{Rules, StepFine}
+use Rattle.exchange_law.proofs.HeldStepping.{IsGoodInput, step_fine}
+use Rattle.exchange_law.proofs.HeldAsking.{IsOwn, step_met}
+
+same_some : {A : Type 0} (x y : A) (o : Option A) → o ≡ Some x → o ≡ Some y → x ≡ y
+same_some x y o e f = cc (sym e ∙ f)
+
+-- ---- one client
+
+-- what is held under the same grant agrees as well
+agrees_too : (s : Server) (c file : ℕ) (h k : Held) → IsSame h k → AgreesAt s c file h → AgreesAt s c file k
+agrees_too s c file h k same agrees f g there has =
+    let it = agrees f g there has in
+    record {
+      file = same.file ∙ it.file;
+      number = same.number ∙ it.number;
+      rw = ap (λ (r : _). r.rw) same.reach ∙ it.rw;
+      extending = ap (λ (r : _). r.extending) same.reach ∙ it.extending;
+      first = ap (λ (r : _). r.first) same.reach ∙ it.first;
+      end = ap (λ (r : _). r.end) same.reach ∙ it.end;
+      map = same.map ∙ it.map;
+    }
+
+-- a number that is the last one, or the one before, isn't the next
+not_next : (n m : ℕ) → n ≤ GREATEST_SEQUENCE → (m ≡ last_before n → m ≡ n → ⊥) × (m + 1 ≡ last_before n → m ≡ n → ⊥)
+not_next n m low = elim (cases_eq n 0) [
+  | inl e ↦ rw (eq-eqb n 0 e, e) (λ l f. absurd (omega (arith, l, f)), λ l f. absurd (omega (arith, l, f)))
+  | inr e ↦ rw (ne_eqb n 0 e) (λ l f. absurd (omega (arith, l, f, e)), λ l f. absurd (omega (arith, l, f, e)))
+]
+
+-- the server has answered no request with the next number
+none_answered : (h : List Line) (c : ℕ) (o : Option Slot) (n : ℕ) (p : Option Request) → n ≤ GREATEST_SEQUENCE
+    → StandsAt h c o (last_before n) p → (t : Slot) → o ≡ Some t → t.last ≡ n → ⊥
+none_answered h c o n None low stands t has last =
+    (not_next n t.last low).0 (sym (ap last_of has) ∙ stands) last
+none_answered h c o n (Some r) low stands t has last = elim stands.served [
+  | inl v ↦ (not_next n t.last low).1 (ap (λ (x : ℕ). x + 1) (sym (ap last_of has)) ∙ v ∙ stands.sequence) last
+  | inr v ↦
+      let same : v.slot ≡ t = same_some v.slot t o v.kept has in
+      (not_next n t.last low).0 (ap (λ (x : Slot). x.last) (sym same) ∙ v.last ∙ stands.sequence) last
+]
+
+-- what the server reads of a request that fits
+reads_as : (r : Request) (o : Option RequestArgs) (q : ClientRequest) → request_with r o ≡ Some (Asks q)
+    → (a : RequestArgs) × (o ≡ Some a)
+    × (record { client = r.client; sequence = r.sequence; file = r.file; args = a } ≡ q)
+reads_as r None q e = absurd (cc e)
+reads_as r (Some a) q e = (a, refl, cc e)
+
+pub reads_fit : (c : ℕ) (r : Request) (q : ClientRequest) → EnvelopeFits (envelope.Request r)
+    → message_in (node.Client c) (spelled (OfEnvelope (envelope.Request r))) ≡ Some (Asks q) → Reads q r
+unfolding message_in
+reads_fit c r q fits e =
+    let as_read : request_with r (asked_in r.args) ≡ Some (Asks q) =
+    ap by_envelope (sym (all_again (envelope.Request r) fits)) ∙ e in
+    let it = reads_as r (asked_in r.args) q as_read in
+    record {
+      sequence = ap (λ (x : ClientRequest). x.sequence) (sym it.2);
+      file = ap (λ (x : ClientRequest). x.file) (sym it.2);
+      args = it.1 ∙ ap (λ (x : ClientRequest). Some x.args) it.2;
+    }
+
+-- nothing is held at the begin
+none_held : (file : ℕ) (h : Held) → held_of [] file ≡ Some h → ⊥
+unfolding held_of
+none_held file h e = cc e
+
+-- ---- a move
+
+pub next_moment : (w : World) (h : List Line) (k : IsMoment w h) (m : Move) → due (plan_at k) w ≡ Some m.action
+    → IsMoment (move w m).world (h ++ lines_in w m)
+next_moment w h k m d =
+    let here : due (plan_after (plan_of k.before k.event) k.moves) (world_after k.before k.moves) ≡ Some m.action =
+    subst (λ (u : World). due (plan_at k) u ≡ Some m.action) k.world_is d in
+    record {
+      before = k.before;
+      history = k.history;
+      stands = k.stands;
+      event = k.event;
+      allowed = k.allowed;
+      moves = k.moves ++ m ∷ [];
+      are_due = due_more (plan_of k.before k.event) k.before k.moves m k.are_due here;
+      world_is = ap (λ (u : World). (move u m).world) k.world_is ∙ sym (world_more k.before k.moves m);
+      lines_are =
+          ap (λ (l : List Line). l ++ lines_in w m) k.lines_are
+          ∙ ap (λ (u : World). (k.history ++ lines_so_far k.before k.event k.moves) ++ lines_in u m) k.world_is
+          ∙ append_assoc k.history (lines_so_far k.before k.event k.moves) (lines_in (world_after k.before k.moves) m)
+          ∙ ap (λ (l : List Line). k.history ++ l) (sym (so_far_more k.before k.event k.moves m here));
+    }
+
+-- T holds of a history's fronts where it holds of the whole
+abbrev pub HoldsOfFronts : (List Line → Type 0) → Type 0
+HoldsOfFronts T = (h ls : List Line) → T (h ++ ls) → T h
+
+abbrev pub AreReadable : (List Line → Type 0) → Type 0
+AreReadable T = (w : World) (h : List Line) → IsMoment w h → T h → IsReadable w
+
+-- so it is of what is readable
+pub readable_fronts : HoldsOfFronts IsReadableThrough
+readable_fronts h ls t w g rest k is =
+    t w g (rest ++ ls) k (ap (λ (l : List Line). l ++ ls) is ∙ append_assoc g rest ls)
+
+pub readable_there : AreReadable IsReadableThrough
+readable_there w h k t = t w h [] k (sym (append-nil h))
+
+module _ (kept : SlotsAreKept) (more : OneEventMore)
+    (safe : (w : World) (h : List Line) → IsMoment w h → AreSafe w.server.files) (own : AnswersAreOwn)
+    (shapes : (w : World) (h : List Line) → IsMoment w h → (n : ℕ) (f : File) → file_at w.server.files n ≡ Some f
+    → HasShape f.kept) (T : List Line → Type 0) (front : HoldsOfFronts T) (readable : AreReadable T) where
+  abbrev state : World → ℕ → Client
+  state w c = state_of c (at_number w.clients c)
+
+  abbrev pub AllMet : World → List Line → Type 0
+  AllMet w h = T h → (c : ℕ) → IsMet w.server c (state w c)
+
+  -- ---- a client's step
+
+  module _ (w : World) (h : List Line) (k : IsMoment w h) (t : T h) (c : ℕ) (a : ClientAt)
+      (found : at_number w.clients c ≡ Some a) (fine : IsMet w.server c a.state) where
+    abbrev P : ℕ → Held → Type 0
+    P = AgreesAt w.server c
+
+    abbrev K : Knows
+    K = KeptGood w.server c
+
+    parts : Parts (said w.network.messages) (slot_of w.server.slots c) h c a.state
+    parts =
+        subst (Parts (said w.network.messages) (slot_of w.server.slots c) h c) (ap (state_of c) found)
+        (in_step kept more w h k c)
+
+    rules : Rules P K a.state.next
+    rules = record {
+      keeps = λ file x y same agrees. agrees_too w.server c file x y same agrees;
+      new =
+          λ op need r numbered slot has last.
+          absurd (none_answered h c (slot_of w.server.slots c) a.state.next a.state.outstanding parts.next parts.stands
+          slot has (last ∙ numbered));
+    }
+
+    good : (i : Input) → IsHeardByClient w c i → IsGoodInput P K a.state.next rules a.state refl fine i
+    good (Hears from m) heard = λ b e op need q call out known.
+        let d = heard.0 in
+        let there : takes a.state d.posted.message.from m ≡ Some (TakesAnswer b) =
+        subst (λ (n : Node). takes a.state n m ≡ Some (TakesAnswer b)) heard.1 e in
+        let it = own w h k c a found d.number d.posted d.there d.receiver m b heard.2 there in
+        let same : it.request ≡ q = same_some it.request q a.state.outstanding it.outstanding out in
+        let exact : b ≡ it.slot.kept = it.exact ((readable w h k t).answers c it.slot it.kept) in
+        subst (GoodAnswer P op need) (sym exact)
+        (known it.slot it.kept (it.last ∙ ap (λ (r : Request). r.sequence) same))
+    good (Calls op) heard = tt
+    good (TimesOut j) heard = tt
+    good Leaves heard = tt
+    good Resends heard = tt
+
+    pub client_fine : (i : Input) → IsHeardByClient w c i → StepFine P K (client_step a.state i)
+    client_fine i heard = step_fine P K a.state.next rules a.state refl fine i (good i heard)
+
+  -- ---- the server's step
+
+  sound_at : (w : World) (h : List Line) → IsMoment w h → T h → FilesSound w.server
+  sound_at w h k t n f at =
+      let x = (readable w h k t).files n f at in
+      let y = shapes w h k n f at in
+      record {
+        shaped = record { map = x.map; few = y.few; components = y.components };
+        drives = x.drives;
+        fits = x.fits;
+      }
+
+  own_request : (w : World) (h : List Line) (k : IsMoment w h) → T h → (c : ℕ) (i : ServerInput) → IsHeardByServer w i
+      → IsOwn w.server c (state w c) i
+  own_request w h k t c i heard now q is mine named new =
+      let at : IsHeardByServer w (ServerHears now (node.Client c) (Asks q)) = subst (IsHeardByServer w) is heard in
+      let d = at.0 in
+      let part = in_step kept more w h k c in
+      let asked : IsAsked (state w c) d.posted.message.body =
+      each_at (AsksOf c (state w c)) w.network.messages d.number d.posted d.there part.asks (sym at.2) d.receiver in
+      let read : message_in (node.Client c) (spelled d.posted.message.body) ≡ Some (Asks q) =
+      ap (λ (n : Node). message_in n (spelled d.posted.message.body)) at.2 ∙ at.3 in
+      let r = read_of c (state w c) d.posted.message.body q part.number named part.next asked read in
+      let out : (state w c).outstanding ≡ Some r.request =
+      is_outstanding h c (state w c) (slot_of w.server.slots c) r.request q.sequence (state w c).outstanding refl
+      part.stands r.asked r.sequence (is_next (slot_of w.server.slots c) q.sequence new).next in
+      let here : message_in (node.Client c) (spelled (OfEnvelope (envelope.Request r.request))) ≡ Some (Asks q) =
+      ap (λ (b : Body). message_in (node.Client c) (spelled b)) (sym r.body) ∙ read in
+      (r.request, out, reads_fit c r.request q ((readable w h k t).requests c r.request out) here)
+
+  -- ---- any move
+
+  module _ (w : World) (h : List Line) (k : IsMoment w h) (m : Move) (d : due (plan_at k) w ≡ Some m.action)
+      (met : AllMet w h) (t : T (h ++ lines_in w m)) where
+    abbrev a : Act
+    a = acts w m.chosen m.action
+
+    abbrev v : World
+    v = (move w m).world
+
+    before : T h
+    before = front h (lines_in w m) t
+
+    abbrev Goal : ℕ → Type 0
+    Goal c = IsMet v.server c (state v c)
+
+    idle : (c : ℕ) → v.server ≡ w.server → state v c ≡ state w c → Goal c
+    idle c server same =
+        subst (λ (s : Server). IsMet s c (state v c)) (sym server)
+        (subst (IsMet w.server c) (sym same) (met before c))
+
+    others : OthersGo w a → (c : ℕ) → Goal c
+    others g c = idle c g.server (ap (λ (xs : _). state_of c (at_number xs c)) g.clients)
+
+    stops : ClientStops w a → (c : ℕ) → Goal c
+    stops g c =
+        idle c g.server
+        (ap (λ (xs : _). state_of c (at_number xs c)) g.clients
+        ∙ stopped_same w.clients g.client c g.before g.after g.found g.state)
+
+    comes : ClientComes w m.action a → (c : ℕ) → Goal c
+    comes g c =
+        let none = comes_new w h k g.client (d ∙ ap (λ (x : Action). Some x) g.action_is) in
+        idle c g.server
+        (ap (λ (xs : _). state_of c (at_number xs c)) g.clients
+        ∙ come_same w.clients g.client c g.after none g.state)
+
+    client_steps : ClientGoes w a → (c : ℕ) → Goal c
+    client_steps g c = elim (cases_eq c g.client) [
+      | inl it ↦ subst Goal (sym it) its_own
+      | inr other ↦
+          idle c g.server
+          (ap (λ (xs : _). state_of c (at_number xs c)) g.clients
+          ∙ ap (state_of c) (put_other w.clients g.client c g.after other))
+    ]
+      where
+        fine : IsMet w.server g.client g.before.state
+        fine = subst (IsMet w.server g.client) (ap (state_of g.client) g.found) (met before g.client)
+
+        its_own : Goal g.client
+        its_own =
+            let step_of = client_fine w h k before g.client g.before g.found fine g.input g.heard in
+            let after : state v g.client ≡ (client_step g.before.state g.input).client =
+            ap (λ (xs : _). state_of g.client (at_number xs g.client)) g.clients
+            ∙ ap (state_of g.client) (put_same w.clients g.client g.before g.after g.found) ∙ g.state in
+            subst (λ (s : Server). IsMet s g.client (state v g.client)) (sym g.server)
+            (subst (IsMet w.server g.client) (sym after) step_of.client)
+
+    server_steps : ServerGoes w m.chosen a → (c : ℕ) → Goal c
+    server_steps g c =
+        let sound : FilesSound (step w.server m.chosen g.input).state =
+        subst FilesSound g.server (sound_at v (h ++ lines_in w m) (next_moment w h k m d) t) in
+        let same : state v c ≡ state w c = ap (λ (xs : _). state_of c (at_number xs c)) g.clients in
+        subst (λ (s : Server). IsMet s c (state v c)) (sym g.server)
+        (subst (IsMet (step w.server m.chosen g.input).state c) (sym same)
+        (step_met w.server m.chosen g.input c (state w c) (safe w h k) sound
+        (own_request w h k before c g.input g.heard) (met before c)))
+
+    by_goes : Goes w m.chosen m.action a → (c : ℕ) → Goal c
+    by_goes (Others g) c = others g c
+    by_goes (AServer g) c = server_steps g c
+    by_goes (AClient g) c = client_steps g c
+    by_goes (Stops g) c = stops g c
+    by_goes (Comes g) c = comes g c
+
+    pub move_meets : (c : ℕ) → Goal c
+    move_meets c = by_goes (moves_are_steps w m.chosen m.action).goes c
+
+  -- ---- at each moment
+
+  first_met : AllMet empty_world []
+  first_met t c = record { helds = λ file h e. absurd (none_held file h e); call = tt }
+
+  pub clients_agree : (w : World) (h : List Line) → IsMoment w h → AllMet w h
+  clients_agree w h k =
+      always AllMet (record { starts = first_met; moves = λ u g j m d p t. move_meets u g j m d p t }) more w h k
+
+-- a moment is reached
+pub reached : (w : World) (h : List Line) → IsMoment w h → IsReached w
+reached w h k = record {
+  before = k.before;
+  history = k.history;
+  stands = k.stands;
+  moves = k.moves;
+  world_is = k.world_is;
+}
+
+pub all_agree : SlotsAreKept → OneEventMore → GrantsAreSafe → AnswersAreOwn → FilesHaveShape → ClientsAgree
+all_agree kept more safe own shapes w h k t =
+    clients_agree kept more (λ u g j. safe u (reached u g j)) own
+    (λ u g j. shapes u (reached u g j)) IsReadableThrough readable_fronts readable_there w h k t

@@ -1,0 +1,238 @@
+-- A file that is made fits, and so does what any step of the server leaves.
+use Rattle.std.specs.List.{AllByRecursion}
+use Rattle.std.proofs.Common.{◌≡◌, ◌&&◌, ◌==◌, ℕ, zero, suc, ◌+◌, ◌≤◌, ◌<◌, ◌++◌, Bool, true, false, List, [], ◌∷◌, Option, Some, None, Result, Ok, Err, is_some, flat_map, map, take, length, nat_lt, refl, ap, ◌∙◌, arith, if◌then◌else◌}
+use Rattle.std.proofs.lemmas.Bool.Decides.{nat_tests}
+use Rattle.data_map.specs.declared.check.RawMap.{RawMap}
+use Rattle.data_map.specs.declared.check.MapErr.{MapErr}
+use Rattle.data_map.specs.declared.check.MapErr.TheVariants.{Unit as BadUnit, TooMany}
+use Rattle.data_map.specs.Check.{HasAlgorithm, bad_unit, checked, IsChecked}
+use Rattle.data_map.proofs.Checks.{checked_is_checked}
+use Rattle.scenario_text.specs.declared.names.TheConstants.{FILES}
+use Rattle.server_rules.specs.declared.limits.TheConstants.{MAX_FILE_COMPONENTS, GREATEST_TAG}
+use Rattle.world_history.specs.ServerNames.{Server, Kept, File, Drive, Awaited, Job, JobKind, Work, Making, Creates, Refusal}
+use Rattle.server_rules.specs.Commands.{Creating, All, is_meant, to_each, to_all}
+use Rattle.server_rules.specs.Going.{Going, rests_or}
+use Rattle.server_rules.specs.Jobs.{is_made, making}
+use Rattle.server_rules.specs.Files.{file_at, at_file, to_drives}
+use Rattle.server_rules.specs.Messages.{counters_low, on_message, awaited_by}
+use Rattle.server_rules.specs.Making.{checked_64, online, by_check, refusal, are_of, places, components_on, unmade, with_file, makes_file, unless_refused, create_file}
+use Rattle.server_rules.specs.History.{Input, Hears, Makes, Obeys, Adds, Formats, Resends, Crashes, Opens, unless_made, step}
+use Rattle.history_law.proofs.Placing.{greater_format}
+use Rattle.history_law.proofs.Made.{AllNamed, places_named}
+use Rattle.history_law.proofs.Inputs.{added_named}
+use Rattle.exchange_law.specs.Files.{KeptFits}
+use Rattle.exchange_law.proofs.Parts.{each_more, PartsFit, AllNear, JobFits}
+use Rattle.exchange_law.proofs.Mending.{making_runs}
+use Rattle.exchange_law.proofs.CountStepping.{FileFits, ServerFits, IsGiven, IsNamedOut, AreNamedOut, drives_out, length_drives, sent_near, wider_files, put_fits, add_fits, StepFits, either_step, still_fits, message_fits, obeyed_fits}
+
+-- ---- the map that a file is made with
+
+abbrev IsGood : RawMap → Type 0
+IsGood m = IsChecked m × (m.comps ≤ MAX_FILE_COMPONENTS)
+
+by_tests : (m n : RawMap) (a b : Bool) → HasAlgorithm m → nat_lt MAX_FILE_COMPONENTS m.comps ≡ b
+    → (if a then Err BadUnit else if b then Err TooMany else checked m) ≡ Ok n → IsGood m
+by_tests m n true b h is e = absurd (cc e)
+by_tests m n false true h is e = absurd (cc e)
+by_tests m n false false h is e = (checked_is_checked m n h e, grind (arith, is, nat_tests))
+
+by_result : (m : RawMap) (count : ℕ) (r : Result RawMap MapErr) → ((n : RawMap) → r ≡ Ok n → IsGood m)
+    → by_check count r ≡ None → IsGood m
+by_result m count (Err e) good none = absurd (cc none)
+by_result m count (Ok n) good none = good n refl
+
+by_name : (m : RawMap) (b : Bool) (x : Refusal) (o : Option Refusal) → (if b then Some x else o) ≡ None
+    → (o ≡ None → IsGood m) → IsGood m
+by_name m true x o e good = absurd (cc e)
+by_name m false x o e good = good e
+
+good_map : (s : Server) (number : ℕ) (m : RawMap) → HasAlgorithm m → refusal s number m ≡ None → IsGood m
+unfolding refusal checked_64
+good_map s number m h none =
+    by_name m (is_some (file_at s.files number)) _ _ none
+    (by_result m (length (online s.drives)) (checked_64 m)
+    (λ n e. by_tests m n (bad_unit m) (nat_lt MAX_FILE_COMPONENTS m.comps) h refl e))
+
+-- ---- its components
+
+taken : (count : ℕ) (ns : List ℕ) → length (take count ns) ≤ count
+taken zero ns = omega arith
+taken (suc n) [] = omega arith
+taken (suc n) (x ∷ ns) = omega (arith, taken n ns)
+
+few_places : (ds : List Drive) (count : ℕ) (chosen : List ℕ) → length (places ds count chosen) ≤ count
+unfolding places
+few_places ds count chosen = either (length chosen == count) (are_of (online ds) chosen) refl
+  where
+    either : (a b : Bool) → (length chosen == count) ≡ a
+        → length (if a && b then chosen else take count (map (λ d. d.number) (online ds))) ≤ count
+    either true true is = grind (arith, is, nat_tests)
+    either true false is = taken count _
+    either false b is = taken count _
+
+components_fit : (ns : List ℕ) (object n : ℕ) → object + length ns ≤ n → AllNamed ns
+    → PartsFit n (components_on ns object)
+unfolding components_on
+components_fit [] object n l k = tt
+components_fit (d ∷ ns) object n l k = (
+  record { drive = k.0; object = omega (arith, l) },
+  components_fit ns (object + 1) n (omega (arith, l)) k.1,
+)
+
+length_components : (ns : List ℕ) (object : ℕ) → length (components_on ns object) ≡ length ns
+unfolding components_on
+length_components [] object = refl
+length_components (d ∷ ns) object = ap suc (length_components ns (object + 1))
+
+-- each is sent CREATE
+creates_all : (f : Kept) (ns : List ℕ) (object k nonce : ℕ)
+    → length (to_each f All Creating (components_on ns object) k nonce) ≡ length ns
+unfolding to_each components_on is_meant
+creates_all f [] object k nonce = refl
+creates_all f (d ∷ ns) object k nonce = ap suc (creates_all f ns (object + 1) (k + 1) (nonce + 1))
+
+sent_or : (cs : List Awaited) (g : Going) (kind : JobKind) (work : Work) (later : Going)
+    → later.moved.sent ≡ g.moved.sent ++ [] → later.moved.object ≡ g.moved.object
+    → ((rests_or cs g kind work later).moved.sent ≡ g.moved.sent ++ cs)
+    × ((rests_or cs g kind work later).moved.object ≡ g.moved.object)
+sent_or [] g kind work later e o = (e, o)
+sent_or (c ∷ cs) g kind work later e o = (refl, refl)
+
+-- ---- the step
+
+module _ (s : Server) (number : ℕ) (m : RawMap) (tag : ℕ) (chosen : List ℕ) (k : ServerFits s)
+    (given : (number < FILES) × (tag ≤ GREATEST_TAG) × HasAlgorithm m) where
+  abbrev new : File
+  new = unmade s number m tag (places s.drives m.comps chosen)
+
+  abbrev start : Going
+  start = at_file (with_file s (unmade s number m tag (places s.drives m.comps chosen))) []
+      (unmade s number m tag (places s.drives m.comps chosen))
+
+  made_kept : IsGood m → KeptFits (s.next_object + length new.kept.components) new.kept
+  made_kept good =
+      let many = length_components (places s.drives m.comps chosen) s.next_object in
+      record {
+        number = given.0;
+        map = good.0;
+        few = omega (arith, many, few_places s.drives m.comps chosen, good.1);
+        format = k.format;
+        tag = given.1;
+        size = omega arith;
+        components =
+            components_fit (places s.drives m.comps chosen) s.next_object _ (omega (arith, many))
+            (places_named s.drives m.comps chosen k.drives);
+        grants = tt;
+      }
+
+  made_sent : ((making start).moved.sent ≡ to_all new.kept All Creating s.next_nonce)
+      × ((making start).moved.object ≡ s.next_object + length new.kept.components)
+  unfolding making
+  made_sent =
+      sent_or (to_all new.kept All Creating s.next_nonce) start Making Creates (is_made start) refl refl
+
+  made_file_fits : IsGood m → StepFits s (makes_file s new)
+  made_file_fits good =
+      let kept = made_kept good in
+      let r = making_runs start (record { kept = kept; drives = k.drives }) in
+      let sent = made_sent in
+      let long : length (to_drives s.drives (making start).moved.sent) ≡ length r.more =
+      length_drives s.drives (making start).moved.sent ∙ ap (λ (ws : List Awaited). length ws) r.sent_is in
+      let creates : length (making start).moved.sent ≡ length (places s.drives m.comps chosen) =
+      ap (λ (ws : List Awaited). length ws) sent.0
+      ∙ creates_all new.kept (places s.drives m.comps chosen) s.next_object 0 s.next_nonce in
+      let same : length (to_drives s.drives (making start).moved.sent) ≡ length (making start).moved.sent =
+      length_drives s.drives (making start).moved.sent in
+      let many = length_components (places s.drives m.comps chosen) s.next_object in
+      let rises : s.next_object ≤ (making start).moved.object = omega (arith, sent.1) in
+      let whole : s.next_object + length new.kept.components ≤ (making start).moved.object = omega (arith, sent.1) in
+      record {
+        fits = record {
+          drives = k.drives;
+          format = k.format;
+          files =
+              put_fits (making start).moved.object _ number (making start).file
+              (add_fits (making start).moved.object s.files new
+              (wider_files s.next_object (making start).moved.object s.files rises k.files)
+              (wider_files (s.next_object + length new.kept.components) (making start).moved.object (new ∷ []) whole
+              ((kept, tt), tt)).0)
+              (r.kept, r.job);
+          slots = k.slots;
+        };
+        named = drives_out s.drives (making start).moved.sent
+            (sent_near (making start).moved.sent r.more r.sent_is r.near);
+        nonces = omega (arith, r.rises, long);
+        objects = omega (arith, sent.1, creates, same, many);
+        recalls = omega arith;
+        grows = rises;
+      }
+
+  made_or_not : (o : Option Refusal) → (o ≡ None → IsGood m)
+      → StepFits s (unless_made s (unless_refused o (makes_file s new)))
+  made_or_not None good = made_file_fits (good refl)
+  made_or_not (Some e) good = still_fits s k
+
+  pub makes_fit : StepFits s (unless_made s (create_file s number m tag chosen))
+  unfolding create_file
+  makes_fit = made_or_not (refusal s number m) (good_map s number m given.2)
+
+-- ---- what jobs wait for, again
+
+awaited_near : (n tag : ℕ) (f : File) → JobFits n tag f.job → AllNear (awaited_by f.job)
+awaited_near n tag f k = by_job f.job k
+  where
+    by_job : (o : Option Job) → JobFits n tag o → AllNear (awaited_by o)
+    by_job None j = tt
+    by_job (Some x) j = j.1
+
+resent_out : (ds : List Drive) (n : ℕ) (fs : List File) → AllByRecursion (FileFits n) fs
+    → AreNamedOut (flat_map (λ f. to_drives ds (awaited_by f.job)) fs)
+resent_out ds n [] k = tt
+resent_out ds n (f ∷ fs) k =
+    each_more IsNamedOut (to_drives ds (awaited_by f.job)) _
+    (drives_out ds (awaited_by f.job) (awaited_near n f.kept.tag f k.0.1)) (resent_out ds n fs k.1)
+
+-- ---- any step
+
+pub step_fits : (s : Server) (chosen : List ℕ) (i : Input) → ServerFits s → IsGiven i → StepFits s (step s chosen i)
+unfolding on_message
+step_fits s chosen (Hears now from m) k g =
+    either_step s (counters_low s) _ _ (message_fits s now chosen from m k) (still_fits s k)
+step_fits s chosen (Makes n m tag) k g = makes_fit s n m tag chosen k g
+step_fits s chosen (Obeys kind n) k g = obeyed_fits s chosen kind n k
+step_fits s chosen (Adds d) k g = record {
+  fits = record {
+    drives = added_named s.drives d k.drives g;
+    format = k.format;
+    files = k.files;
+    slots = k.slots;
+  };
+  named = tt;
+  nonces = omega arith;
+  objects = omega arith;
+  recalls = omega arith;
+  grows = omega arith;
+}
+step_fits s chosen (Formats n) k g = record {
+  fits = record {
+    drives = k.drives;
+    format = greater_format s.format n k.format g;
+    files = k.files;
+    slots = k.slots;
+  };
+  named = tt;
+  nonces = omega arith;
+  objects = omega arith;
+  recalls = omega arith;
+  grows = omega arith;
+}
+step_fits s chosen Resends k g = record {
+  fits = k;
+  named = resent_out s.drives s.next_object s.files k.files;
+  nonces = omega arith;
+  objects = omega arith;
+  recalls = omega arith;
+  grows = omega arith;
+}
+step_fits s chosen Crashes k g = absurd g
+step_fits s chosen Opens k g = absurd g

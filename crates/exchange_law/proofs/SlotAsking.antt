@@ -1,0 +1,310 @@
+-- A step of a client sends at most one request, with the next number, once none is outstanding.
+use Rattle.std.proofs.Common.{◌≡◌, ◌≤◌, ◌+◌, ◌==◌, ◌⊎◌, nat_lt, ℕ, Bool, true, false, List, [], ◌∷◌, ◌++◌, Option, Some, None, find, refl, sym, ap, subst, ◌∙◌, arith, inl, inr, eq-eqb, ne_eqb, if◌then◌else◌}
+use Rattle.std.proofs.lemmas.Bool.{cases_Bool}
+use Rattle.std.proofs.lemmas.Bool.Decides.{nat_tests}
+use Rattle.layout_ops.specs.declared.args.Args.{Args}
+use Rattle.client_rules.specs.declared.limits.TheConstants.{GREATEST_SEQUENCE}
+use Rattle.history_law.specs.State.{Client, Call, CallOp, Held, Due, Need, First, Get, Commit, Report, Close, Phase, Starts, Needs, Waits, Reads, Probes, Gathers, Scatters, Turn, Goes, Ends, Forgets, Moved, Done, Request}
+use Rattle.client_rules.specs.Calls.{file_of}
+use Rattle.client_rules.specs.Grants.{covers, held_of, put_held, without_held}
+use Rattle.client_rules.specs.Requests.{get_args, args_of, return_args}
+use Rattle.client_rules.specs.Going.{phased, with_held, by_turn, moved, begins, starts_with, starts_under, starts_at, starts_call, begun, after_number, request_of, held_after, requests, asks_under, returns, returns_due, is_held, due_behind, progress_phase, progress_call, progress_free, progressed}
+use Rattle.exchange_law.proofs.Few.{rank_behind, IsLate, FewTurn, FewMoved, turn_few, begins_few}
+
+-- ---- numbers that are left
+
+-- so many numbers are left from the next one on
+abbrev pub HasRoom : (next count : ℕ) → Type 0
+HasRoom n k = 1 ≤ k → (1 ≤ n) × (n + k ≤ GREATEST_SEQUENCE + 1)
+
+pub room_less : (n k j : ℕ) → j ≤ k → HasRoom n k → HasRoom n j
+room_less n k j less h some =
+    let x = h (omega (arith, less, some)) in (x.0, omega (arith, less, x.1))
+
+room_after : (n k : ℕ) → HasRoom n (k + 1) → HasRoom (after_number n) k
+room_after n k h some =
+    let x = h (omega arith) in
+    let below : n ≡ GREATEST_SEQUENCE → ⊥ = λ e. absurd (omega (arith, e, x.1, some)) in
+    rw (ne_eqb n GREATEST_SEQUENCE below) (omega arith, omega (arith, x.1))
+
+-- ---- those that a call may need
+
+-- one that begins
+abbrev pub rank_at : CallOp → Option Held → ℕ
+rank_at op None = 5
+rank_at op (Some h) = if covers h op then 2 else 6
+
+-- where the grant goes back that didn't cover the call, none is held
+abbrev pub IsGone : List Held → CallOp → Need → Type 0
+IsGone hs op First = held_of hs (file_of op) ≡ None
+IsGone hs op n = Unit {0}
+
+abbrev pub RoomPhase : List Held → CallOp → (next : ℕ) → Phase → Type 0
+RoomPhase hs op n Starts = HasRoom n (rank_at op (held_of hs (file_of op)))
+RoomPhase hs op n (Needs need) = HasRoom n (rank_behind need + 1)
+RoomPhase hs op n (Waits need) = IsGone hs op need × HasRoom n (rank_behind need)
+RoomPhase hs op n p = HasRoom n 2
+
+abbrev pub RoomCall : List Held → (next : ℕ) → Option Call → Type 0
+RoomCall hs n None = Unit {0}
+RoomCall hs n (Some call) = RoomPhase hs call.op n call.phase
+
+-- ---- a client in the middle of a step
+
+-- it has asked nothing so far
+abbrev pub Unasked : (own first : ℕ) → Option Request → Done → Type 0
+Unasked own first o d = record {
+  number : d.client.number ≡ own;
+  next : d.client.next ≡ first;
+  outstanding : d.client.outstanding ≡ o;
+  requests : d.requests ≡ [];
+}
+
+abbrev pub HasRoomFor : Done → Type 0
+HasRoomFor d = RoomCall d.client.held d.client.next d.client.call
+
+-- and what its call may still need has numbers
+abbrev pub Calm : (own first : ℕ) → Option Request → Done → Type 0
+Calm own first o d = Unasked own first o d × HasRoomFor d
+
+-- what it asks: nothing, or one request
+abbrev pub AsksNone : (first : ℕ) → Option Request → Client → Type 0
+AsksNone first o c = (c.next ≡ first) × (c.outstanding ≡ o)
+
+abbrev pub AsksOne : (own first : ℕ) → Option Request → Client → Type 0
+AsksOne own first o c =
+    (r : Request) × (o ≡ None) × (1 ≤ first) × (r.client ≡ own) × (r.sequence ≡ first) × (c.next ≡ after_number first)
+    × (c.outstanding ≡ Some r)
+
+-- each of these is outstanding then
+abbrev pub AreOutstanding : Option Request → List Request → Type 0
+AreOutstanding o [] = Unit {0}
+AreOutstanding o (r ∷ rs) = (o ≡ Some r) × AreOutstanding o rs
+
+abbrev pub Asked : (own first : ℕ) → Option Request → Done → Type 0
+Asked own first o d = record {
+  number : d.client.number ≡ own;
+  asks : AsksNone first o d.client ⊎ AsksOne own first o d.client;
+  requests : AreOutstanding d.client.outstanding d.requests;
+  room : HasRoomFor d;
+}
+
+-- ---- held grants
+
+none_left : (hs : List Held) (file : ℕ) → held_of (without_held hs file) file ≡ None
+unfolding held_of without_held
+none_left [] file = refl
+none_left (h ∷ hs) file = elim (cases_Bool (h.file == file)) [
+  | inl t ↦ rw t (none_left hs file)
+  | inr f ↦ rw f (rw f (none_left hs file))
+]
+
+pub put_found : (hs : List Held) (h : Held) (file : ℕ) → h.file ≡ file → held_of (put_held hs h) file ≡ Some h
+unfolding held_of put_held
+put_found [] h file e = rw (eq-eqb h.file file e) refl
+put_found (g ∷ gs) h file e = elim (cases_Bool (g.file == h.file)) [
+  | inl t ↦ rw t (rw (eq-eqb h.file file e) refl)
+  | inr f ↦ elim (cases_Bool (nat_lt h.file g.file)) [
+    | inl u ↦ rw (f, u) (rw (eq-eqb h.file file e) refl)
+    | inr v ↦
+        let other : (g.file == file) ≡ false = subst (λ (n : ℕ). (g.file == n) ≡ false) e f in
+        rw (f, v) (rw other (put_found gs h file e))
+  ]
+]
+
+module _ (own first : ℕ) (o : Option Request) where
+  abbrev U : Done → Type 0
+  U d = Unasked own first o d
+
+  abbrev C : Done → Type 0
+  C d = Calm own first o d
+
+  abbrev A : Done → Type 0
+  A d = Asked own first o d
+
+  either_done : (b : Bool) (d e : Done) → C d → C e → C (if b then d else e)
+  either_done true d e x y = x
+  either_done false d e x y = y
+
+  either_asked : (b : Bool) (d e : Done) → A d → A e → A (if b then d else e)
+  either_asked true d e x y = x
+  either_asked false d e x y = y
+
+  -- ---- what becomes of a call
+
+  -- the turn leaves room
+  abbrev pub RoomTurn : (n : ℕ) → Turn → Type 0
+  RoomTurn n (Goes p) = (hs : List Held) (op : CallOp) → RoomPhase hs op n p
+  RoomTurn n t = Unit {0}
+
+  pub by_turn_calm : (d : Done) (op : CallOp) (t : Turn) → U d → RoomTurn d.client.next t → C (by_turn d op t)
+  by_turn_calm d op (Goes p) u r = (u, r d.client.held op)
+  by_turn_calm d op (Ends x) u r = (u, tt)
+  by_turn_calm d op (Forgets x) u r = (u, tt)
+
+  -- two numbers are enough behind what it does with the drives
+  late_room : (n : ℕ) (p : Phase) → IsLate p → HasRoom n 2 → (hs : List Held) (op : CallOp) → RoomPhase hs op n p
+  late_room n Starts l h hs op = absurd l
+  late_room n (Waits need) l h hs op = absurd l
+  late_room n (Needs need) l h hs op = room_less n 2 (rank_behind need + 1) (omega (arith, l)) h
+  late_room n (Reads io) l h hs op = h
+  late_room n (Probes io) l h hs op = h
+  late_room n (Gathers io) l h hs op = h
+  late_room n (Scatters io queue) l h hs op = h
+
+  few_room : (n : ℕ) (t : Turn) → FewTurn t → HasRoom n 2 → RoomTurn n t
+  unfolding FewTurn
+  few_room n (Goes p) f h = late_room n p f h
+  few_room n (Ends x) f h = tt
+  few_room n (Forgets x) f h = tt
+
+  -- the same client but for its call and what it holds
+  pub moved_calm : (d : Done) (op : CallOp) (m : Moved) → U d → FewMoved m → HasRoom d.client.next 2 → C (moved d op m)
+  moved_calm d op m u f h =
+      by_turn_calm (record (with_held d m.held) { commands = m.sent }) op m.turn u
+      (few_room d.client.next m.turn (turn_few m f) h)
+
+  -- ---- a call begins
+
+  starts_with_calm : (d : Done) (op : CallOp) (n : Need) (r : Option Request) → C d
+      → HasRoom d.client.next (rank_behind n + 1) → C (starts_with d op n r)
+  starts_with_calm d op n None c h = (c.0, h)
+  starts_with_calm d op n (Some r) c h = c
+
+  either_rank : (b : Bool) (n : ℕ) → HasRoom n (if b then 2 else 6)
+      → (b ≡ true → HasRoom n 2) × (b ≡ false → HasRoom n 6)
+  either_rank true n h = (λ e. h, λ e. absurd (cc e))
+  either_rank false n h = (λ e. absurd (cc e), λ e. h)
+
+  starts_covered : (d : Done) (op : CallOp) (h : Held) (b : Bool) → C d → (b ≡ true → HasRoom d.client.next 2)
+      → (b ≡ false → HasRoom d.client.next 6)
+      → C (if b then moved d op (begins h op) else starts_with d op First d.client.outstanding)
+  starts_covered d op h true c two six = moved_calm d op (begins h op) c.0 (begins_few h op) (two refl)
+  starts_covered d op h false c two six = starts_with_calm d op First d.client.outstanding c (six refl)
+
+  starts_under_calm : (d : Done) (op : CallOp) (h : Option Held) → C d → HasRoom d.client.next (rank_at op h)
+      → C (starts_under d op h)
+  starts_under_calm d op None c room = starts_with_calm d op (Get 0) d.client.outstanding c room
+  starts_under_calm d op (Some h) c room =
+      let x = either_rank (covers h op) d.client.next room in
+      starts_covered d op h (covers h op) c x.0 x.1
+
+  starts_at_calm : (d : Done) (op : CallOp) (p : Phase) → C d → RoomPhase d.client.held op d.client.next p
+      → C (starts_at d op p)
+  starts_at_calm d op Starts c room = starts_under_calm d op (held_of d.client.held (file_of op)) c room
+  starts_at_calm d op (Needs n) c room = c
+  starts_at_calm d op (Waits n) c room = c
+  starts_at_calm d op (Reads io) c room = c
+  starts_at_calm d op (Probes io) c room = c
+  starts_at_calm d op (Gathers io) c room = c
+  starts_at_calm d op (Scatters io queue) c room = c
+
+  starts_call_calm : (d : Done) (call : Option Call) → C d → RoomCall d.client.held d.client.next call
+      → C (starts_call d call)
+  starts_call_calm d None c room = c
+  starts_call_calm d (Some call) c room = starts_at_calm d call.op call.phase c room
+
+  begun_calm : (d : Done) → C d → C (begun d)
+  unfolding begun
+  begun_calm d c = starts_call_calm d d.client.call c c.1
+
+  -- ---- a request goes out
+
+  one_request : (d : Done) (file : ℕ) (a : Args) → U d → o ≡ None → 1 ≤ first
+      → HasRoomFor (requests d file a) → A (requests d file a)
+  unfolding requests
+  one_request d file a u free some room = record {
+    number = u.number;
+    asks =
+        inr (request_of d.client file a, free, some, u.number, u.next, ap after_number u.next, refl);
+    requests =
+        subst (λ (rs : List Request). AreOutstanding (Some (request_of d.client file a)) (rs
+        ++ request_of d.client file a ∷ [])) (sym u.requests) (refl, tt);
+    room = room;
+  }
+
+  none_asked : (d : Done) → C d → A d
+  none_asked d c = record {
+    number = c.0.number;
+    asks = inl (c.0.next, c.0.outstanding);
+    requests = subst (AreOutstanding d.client.outstanding) (sym c.0.requests) tt;
+    room = c.1;
+  }
+
+  gone_behind : (hs : List Held) (op : CallOp) (n : Need) (h : Held)
+      → IsGone (held_after hs (file_of op) (args_of h op n)) op n
+  unfolding args_of without_held
+  gone_behind hs op First h = none_left hs (file_of op)
+  gone_behind hs op (Get tries) h = tt
+  gone_behind hs op (Commit timed) h = tt
+  gone_behind hs op (Report timed) h = tt
+  gone_behind hs op (Close outcome report) h = tt
+
+  gone_before : (hs : List Held) (op : CallOp) (n : Need) → held_of hs (file_of op) ≡ None → IsGone hs op n
+  gone_before hs op First e = e
+  gone_before hs op (Get tries) e = tt
+  gone_before hs op (Commit timed) e = tt
+  gone_before hs op (Report timed) e = tt
+  gone_before hs op (Close outcome report) e = tt
+
+  asks_under_asked : (d : Done) (op : CallOp) (n : Need) (h : Option Held) → held_of d.client.held (file_of op) ≡ h
+      → U d
+      → o ≡ None → HasRoom d.client.next (rank_behind n + 1) → A (asks_under d op n h)
+  unfolding requests
+  asks_under_asked d op n None is u free room =
+      one_request (phased d op (Waits n)) (file_of op) (get_args op) u free (least d u room)
+      (gone_before d.client.held op n is, room_after d.client.next (rank_behind n) room)
+    where
+      least : (d : Done) → U d → HasRoom d.client.next (rank_behind n + 1) → 1 ≤ first
+      least d u room = omega (arith, (room (omega arith)).0, u.next)
+  asks_under_asked d op n (Some h) is u free room =
+      one_request (phased d op (Waits n)) (file_of op) (args_of h op n) u free (least d u room)
+      (gone_behind d.client.held op n h, room_after d.client.next (rank_behind n) room)
+    where
+      least : (d : Done) → U d → HasRoom d.client.next (rank_behind n + 1) → 1 ≤ first
+      least d u room = omega (arith, (room (omega arith)).0, u.next)
+
+  returns_asked : (d : Done) (u : Option Due) → C d → d.client.call ≡ None → o ≡ None → 1 ≤ first → A (returns d u)
+  unfolding requests
+  returns_asked d None c idle free some = none_asked (record d { client = record d.client { due = [] } }) c
+  returns_asked d (Some u) c idle free some =
+      one_request (record d { client = record d.client { due = due_behind d.client.held d.client.due } }) u.file
+      (return_args u.number []) c.0 free some (subst (RoomCall _ _) (sym idle) tt)
+
+  returns_due_asked : (d : Done) → C d → d.client.call ≡ None → o ≡ None → A (returns_due d)
+  unfolding returns_due
+  returns_due_asked d c idle free = elim (cases_Bool (d.client.next == 0)) [
+    | inl t ↦ rw t (none_asked d c)
+    | inr f ↦
+        rw f
+        (returns_asked d (find (is_held d.client.held) d.client.due) c idle free (some d.client.next f (c.0.next)))
+  ]
+    where
+      some : (n : ℕ) → (n == 0) ≡ false → n ≡ first → 1 ≤ first
+      some n f e = grind (arith, nat_tests, f, e)
+
+  progress_phase_asked : (d : Done) (op : CallOp) (p : Phase) → C d → RoomPhase d.client.held op d.client.next p
+      → o ≡ None → A (progress_phase d op p)
+  progress_phase_asked d op (Needs n) c room free =
+      asks_under_asked d op n (held_of d.client.held (file_of op)) refl c.0 free room
+  progress_phase_asked d op Starts c room free = none_asked d c
+  progress_phase_asked d op (Waits n) c room free = none_asked d c
+  progress_phase_asked d op (Reads io) c room free = none_asked d c
+  progress_phase_asked d op (Probes io) c room free = none_asked d c
+  progress_phase_asked d op (Gathers io) c room free = none_asked d c
+  progress_phase_asked d op (Scatters io queue) c room free = none_asked d c
+
+  progress_call_asked : (d : Done) (call : Option Call) → d.client.call ≡ call → C d → o ≡ None
+      → A (progress_call d call)
+  progress_call_asked d None is c free = returns_due_asked d c is free
+  progress_call_asked d (Some call) is c free =
+      progress_phase_asked d call.op call.phase c
+      (subst (RoomCall d.client.held d.client.next) is c.1) free
+
+  progress_free_asked : (d : Done) (r : Option Request) → d.client.outstanding ≡ r → C d → A (progress_free d r)
+  progress_free_asked d None is c = progress_call_asked d d.client.call refl c (sym c.0.outstanding ∙ is)
+  progress_free_asked d (Some r) is c = none_asked d c
+
+  pub progressed_asked : (d : Done) → C d → A (progressed (begun d))
+  unfolding progressed
+  progressed_asked d c = progress_free_asked (begun d) (begun d).client.outstanding refl (begun_calm d c)

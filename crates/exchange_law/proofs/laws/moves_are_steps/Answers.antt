@@ -1,0 +1,5 @@
+use Rattle.exchange_law.proofs.Doing.{moves_are_steps}
+use Rattle.exchange_law.proofs.laws.moves_are_steps.Goals as goal
+
+pub returns : goal.returns
+returns c = moves_are_steps

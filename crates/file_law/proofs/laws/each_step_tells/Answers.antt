@@ -1,5 +1,0 @@
-use Rattle.file_law.proofs.Making.{each_step_tells}
-use Rattle.file_law.proofs.laws.each_step_tells.Goals as goal
-
-pub returns : goal.returns
-returns c = each_step_tells

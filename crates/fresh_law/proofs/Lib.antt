@@ -1,4 +1,0 @@
-mod Listed
-mod Made
-mod Moments
-mod Fresh

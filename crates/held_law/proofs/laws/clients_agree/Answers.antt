@@ -1,7 +1,0 @@
-use Rattle.held_law.proofs.Worlds.{all_agree}
-use Rattle.held_law.proofs.laws.clients_agree.Goals as goal
-
-pub returns : goal.returns
-returns c =
-    all_agree c.slots_are_kept.ensures c.one_event_more.ensures c.grants_are_safe.ensures c.answers_are_own.ensures
-    c.files_have_shape.ensures

@@ -1,0 +1,162 @@
+-- A file is made on the drives that a placer named, which its CREATEs tell.
+use Rattle.std.proofs.Common.{◌≡◌, ℕ, ◌+◌, ◌==◌, ◌<◌, ◌∷◌, [], List, ◌++◌, Bool, true, false, ◌&&◌, not, Option, Some, None, is_some, find, map, take, length, zero, suc, refl, ap, ◌∙◌, if◌then◌else◌}
+use Rattle.osd_commands.proofs.Passing.{both_true}
+use Rattle.osd_capability.specs.Layout.{is_format}
+use Rattle.scenario_text.specs.declared.names.TheConstants.{DRIVES}
+use Rattle.world_history.specs.ServerNames.{Server, Kept, File, Drive, Awaited, RawMap, Refusal, JobKind, Work, Making, Creates}
+use Rattle.server_rules.specs.Numbers.{among}
+use Rattle.server_rules.specs.Commands.{Creating, All, is_meant, to_each, to_all}
+use Rattle.server_rules.specs.Going.{Going, rests_or}
+use Rattle.server_rules.specs.Jobs.{is_made, making}
+use Rattle.server_rules.specs.Files.{Step, still, at_file}
+use Rattle.server_rules.specs.Making.{online, are_of, places, components_on, unmade, with_file, makes_file, unless_refused, refusal, create_file}
+use Rattle.server_rules.specs.History.{unless_made}
+use Rattle.history_law.specs.Placed.{AreNamed, IsReadable, placed_by}
+use Rattle.history_law.proofs.Creating.{place_create}
+use Rattle.history_law.proofs.Placing.{placed_of}
+use Rattle.history_law.proofs.Rebuilding.{found_named}
+use Rattle.history_law.proofs.Stepping.{IsPlaced, placed_always, placed_sent, formats_put, formats_add}
+
+-- ---- the drives
+
+-- lines can name each of these
+abbrev pub AllNamed : List ℕ → Type 0
+AllNamed [] = Unit {0}
+AllNamed (n ∷ ns) = (n < DRIVES) × AllNamed ns
+
+online_named : (ds : List Drive) → AreNamed ds → AreNamed (online ds)
+online_named [] a = tt
+online_named (d ∷ ds) a = either d.online (online_named ds a.1)
+  where
+    either : (b : Bool) → AreNamed (online ds) → AreNamed (if b then d ∷ online ds else online ds)
+    either true rest = (a.0, rest)
+    either false rest = rest
+
+chosen_named : (ds : List Drive) (ns : List ℕ) → AreNamed ds → are_of ds ns ≡ true → AllNamed ns
+unfolding are_of
+chosen_named ds [] a e = tt
+chosen_named ds (n ∷ ns) a e =
+    let one = both_true (is_some (find (λ d. d.number == n) ds)) (not (among n ns) && are_of ds ns) e in
+    let two = both_true (not (among n ns)) (are_of ds ns) one.1 in
+    (found_named n ds a one.0, chosen_named ds ns a two.1)
+
+first_named : (count : ℕ) (ds : List Drive) → AreNamed ds → AllNamed (take count (map (λ d. d.number) ds))
+first_named zero ds a = tt
+first_named (suc n) [] a = tt
+first_named (suc n) (d ∷ ds) a = (a.0, first_named n ds a.1)
+
+pub places_named : (ds : List Drive) (count : ℕ) (chosen : List ℕ) → AreNamed ds → AllNamed (places ds count chosen)
+unfolding places
+places_named ds count chosen a = either ((length chosen == count) && are_of (online ds) chosen) refl
+  where
+    named : AreNamed (online ds)
+    named = online_named ds a
+
+    either : (b : Bool) → ((length chosen == count) && are_of (online ds) chosen) ≡ b
+        → AllNamed (if b then chosen else take count (map (λ d. d.number) (online ds)))
+    either true e = chosen_named (online ds) chosen named (both_true (length chosen == count) _ e).1
+    either false e = first_named count (online ds) named
+
+-- what was taken is taken again
+either_same : (b : Bool) (xs : List ℕ) → (if b then xs else xs) ≡ xs
+either_same true xs = refl
+either_same false xs = refl
+
+places_again : (ds : List Drive) (count : ℕ) (chosen : List ℕ)
+    → places ds count (places ds count chosen) ≡ places ds count chosen
+unfolding places
+places_again ds count chosen = either ((length chosen == count) && are_of (online ds) chosen) refl
+  where
+    first : List ℕ
+    first = take count (map (λ d. d.number) (online ds))
+
+    ok : List ℕ → Bool
+    ok ns = (length ns == count) && are_of (online ds) ns
+
+    kept : (b : Bool) → ok chosen ≡ b → b ≡ true → (if ok chosen then chosen else first) ≡ chosen
+    kept b e t = ap (λ (c : Bool). if c then chosen else first) (e ∙ t)
+
+    either : (b : Bool) → ok chosen ≡ b
+        → (if ok (if b then chosen else first) then (if b then chosen else first) else first) ≡
+        (if b then chosen else first)
+    either true e = kept true e refl
+    either false e = either_same (ok first) first
+
+-- ---- its CREATEs
+
+creates_told : (ds : List Drive) (f : Kept) (ns : List ℕ) (object k nonce : ℕ) → is_format f.format ≡ true → AllNamed ns
+    → placed_of ds (to_each f All Creating (components_on ns object) k nonce) ≡ ns
+unfolding to_each components_on is_meant
+creates_told ds f [] object k nonce h a = refl
+creates_told ds f (n ∷ ns) object k nonce h a =
+    ap (λ (xs : List ℕ). xs ++ placed_of ds
+    (to_each f All Creating (components_on ns (object + 1)) (k + 1) (nonce + 1)))
+    (place_create ds f k n object nonce h a.0)
+    ∙ ap (λ (xs : List ℕ). n ∷ xs) (creates_told ds f ns (object + 1) (k + 1) (nonce + 1) h a.1)
+
+-- what is sent where a job rests, or has nothing to send
+sent_or : (cs : List Awaited) (g : Going) (kind : JobKind) (work : Work) (later : Going)
+    → later.moved.sent ≡ g.moved.sent ++ []
+    → (rests_or cs g kind work later).moved.sent ≡ g.moved.sent ++ cs
+sent_or [] g kind work later e = e
+sent_or (c ∷ cs) g kind work later e = refl
+
+format_or : (cs : List Awaited) (g : Going) (kind : JobKind) (work : Work) (later : Going)
+    → later.file.kept.format ≡ g.file.kept.format
+    → (rests_or cs g kind work later).file.kept.format ≡ g.file.kept.format
+format_or [] g kind work later e = e
+format_or (c ∷ cs) g kind work later e = refl
+
+-- ---- the step
+
+module _ (s : Server) (number : ℕ) (m : RawMap) (tag : ℕ) (r : IsReadable s) where
+  -- the file on these drives
+  abbrev on : List ℕ → File
+  on ns = unmade s number m tag ns
+
+  abbrev makes_on : List ℕ → Step
+  makes_on ns = makes_file s (on ns)
+
+  made_sent : (ns : List ℕ) → (making (at_file (with_file s (on ns)) [] (on ns))).moved.sent
+      ≡ to_all (on ns).kept All Creating s.next_nonce
+  unfolding making
+  made_sent ns =
+      let g : Going = at_file (with_file s (on ns)) [] (on ns) in
+      sent_or (to_all (on ns).kept All Creating s.next_nonce) g Making Creates (is_made g) refl
+
+  made_format : (ns : List ℕ) → is_format (making (at_file (with_file s (on ns)) [] (on ns))).file.kept.format ≡ true
+  unfolding making
+  made_format ns =
+      let g : Going = at_file (with_file s (on ns)) [] (on ns) in
+      ap (λ (n : ℕ). is_format n)
+      (format_or (to_all (on ns).kept All Creating s.next_nonce) g Making Creates (is_made g) refl)
+      ∙ r.format
+
+  told_on : (ns : List ℕ) → AllNamed ns → (n : ℕ) → placed_by n (makes_on ns).sends ≡ ns
+  told_on ns a n =
+      placed_sent s.drives (making (at_file (with_file s (on ns)) [] (on ns))).moved.sent n
+      ∙ ap (placed_of s.drives) (made_sent ns)
+      ∙ creates_told s.drives (on ns).kept ns s.next_object 0 s.next_nonce r.format a
+
+  made_placed : (o : Option Refusal) (chosen : List ℕ)
+      → IsPlaced s (unless_made s (unless_refused o (makes_on (places s.drives m.comps chosen))))
+      (λ x. unless_made s (unless_refused o (makes_on (places s.drives m.comps x))))
+  made_placed (Some e) chosen = placed_always s (still s) r (λ d. refl)
+  made_placed None chosen =
+      let ns = places s.drives m.comps chosen in record {
+        same = λ n. ap (λ (x : List ℕ). makes_on (places s.drives m.comps x))
+            (told_on ns (places_named s.drives m.comps chosen r.drives) n)
+            ∙ ap makes_on (places_again s.drives m.comps chosen);
+        readable = record {
+          drives = r.drives;
+          format = r.format;
+          files = formats_put _ number _ (formats_add s.files (on ns) r.files r.format) (made_format ns);
+        };
+        knows = λ d. refl;
+      }
+
+  pub file_placed : (chosen : List ℕ)
+      → IsPlaced s (unless_made s (create_file s number m tag chosen))
+      (λ x. unless_made s (create_file s number m tag x))
+  unfolding create_file
+  file_placed chosen = made_placed (refusal s number m) chosen

@@ -1,9 +1,0 @@
-pub mod Fronts
-pub mod Parts
-pub mod Layouts
-pub mod Given
-pub mod Holders
-pub mod Addressed
-pub mod Named
-pub mod HolderLaw
-pub mod Fences

@@ -1,5 +1,0 @@
-use Rattle.issue_law.proofs.Unforged.{unforged_are_issued}
-use Rattle.issue_law.proofs.laws.unforged_are_issued.Goals as goal
-
-pub returns : goal.returns
-returns c = unforged_are_issued

@@ -1,6 +1,0 @@
-pub mod State
-pub mod Listed
-pub mod Granted
-pub mod Issued
-pub mod Ranges
-pub mod Unforged

@@ -1,5 +1,0 @@
-use Rattle.lane_law.proofs.LatestLaw.{awaited_are_latest}
-use Rattle.lane_law.proofs.laws.awaited_are_latest.Goals as goal
-
-pub returns : goal.returns
-returns c = awaited_are_latest c.one_event_more.ensures

@@ -1,5 +1,0 @@
-use Rattle.lane_law.proofs.LanesLaw.{lanes_are_own}
-use Rattle.lane_law.proofs.laws.lanes_are_own.Goals as goal
-
-pub returns : goal.returns
-returns c = lanes_are_own

@@ -1,7 +1,0 @@
-use Rattle.listed_law.proofs.Moments.{components_agree}
-use Rattle.listed_law.proofs.laws.components_agree.Goals as goal
-
-pub returns : goal.returns
-returns c =
-    components_agree c.slots_are_kept.ensures c.one_event_more.ensures c.grants_are_safe.ensures
-    c.answers_are_own.ensures c.clients_agree.ensures

@@ -1,4 +1,0 @@
-pub mod Layouts
-pub mod Rights
-pub mod TagLines
-pub mod TagsLaw

@@ -1,0 +1,5 @@
+pub mod Keys
+pub mod Rests
+pub mod Sizes
+pub mod Listed
+pub mod Order

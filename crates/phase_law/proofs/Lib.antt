@@ -1,9 +1,0 @@
-pub mod Sent
-pub mod Ends
-pub mod Jobs
-pub mod Serving
-pub mod Going
-pub mod Steps
-pub mod Every
-pub mod Runs
-pub mod Within

@@ -1,2 +1,0 @@
-pub mod Tagged
-pub mod Within

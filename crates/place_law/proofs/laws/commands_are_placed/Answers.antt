@@ -1,5 +1,0 @@
-use Rattle.place_law.proofs.PlacedLaw.{commands_placed}
-use Rattle.place_law.proofs.laws.commands_are_placed.Goals as goal
-
-pub returns : goal.returns
-returns c = commands_placed

@@ -1,5 +1,0 @@
-use Rattle.place_law.proofs.PlacedLaw.{held_given}
-use Rattle.place_law.proofs.laws.held_grants_are_given.Goals as goal
-
-pub returns : goal.returns
-returns c = held_given

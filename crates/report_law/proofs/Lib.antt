@@ -1,9 +1,0 @@
-pub mod Ids
-pub mod Lengths
-pub mod Timed
-pub mod Moving
-pub mod Timing
-pub mod Taken
-pub mod Going
-pub mod Steps
-pub mod ReportsLaw

@@ -1,0 +1,101 @@
+-- Each step of a server that goes on: what it sends, and what jobs await, is under no earlier tag than its object.
+use Rattle.std.proofs.Common.{◌≡◌, ℕ, true, List, [], ◌∷◌, flat_map, Option, Some, None, refl, sym, subst, ◌∙◌, arith, inl, inr}
+use Rattle.data_map.specs.declared.check.RawMap.{RawMap}
+use Rattle.server_rules.specs.Laws.{In}
+use Rattle.server_rules.specs.Files.{at_file, to_drives}
+use Rattle.server_rules.specs.Messages.{awaited_by, on_message, counters_low}
+use Rattle.server_rules.specs.Jobs.{making}
+use Rattle.server_rules.specs.Making.{refusal, places, unmade, with_file, makes_file, unless_refused, create_file}
+use Rattle.server_rules.specs.History.{Input, Hears, Makes, Obeys, Adds, Formats, Resends, Crashes, Opens, step, unless_made}
+use Rattle.job_law.specs.Names.{Command, ToDrive, Server, File, Drive, Refusal}
+use Rattle.job_law.proofs.Lists.{in_either}
+use Rattle.job_law.proofs.Files.{in_add, add_there, in_drives}
+use Rattle.sent_law.proofs.Numbers.{in_new}
+use Rattle.sent_law.proofs.Going.{with_owner, owner_below, owner_from}
+use Rattle.sent_law.specs.Standing.{is_running}
+use Rattle.sent_law.proofs.BirthEnds.{IsFine, fine_later}
+use Rattle.sent_law.proofs.BirthJobs.{ends_making}
+use Rattle.sent_law.proofs.BirthGoing.{AreFine, IsSent, sent_of, Keeps, idle, stays, either_step, goes_at, begun}
+use Rattle.sent_law.proofs.BirthSteps.{obeyed, heard_message}
+
+-- ---- making
+
+module _ (birth : ℕ → ℕ) (s : Server) (own : AreFine birth s) (number : ℕ) (m : RawMap) (tag : ℕ) (ds : List ℕ) where
+  -- the numbers of the new file are given at its first tag
+  abbrev new_birth : ℕ → ℕ
+  new_birth = with_owner birth s.next_object tag
+
+  abbrev new_file : File
+  new_file = unmade s number m tag ds
+
+  abbrev server_with : Server
+  server_with = with_file s new_file
+
+  new_fine : IsFine new_birth server_with.next_object new_file
+  new_fine = (
+    λ o i.
+        let r = in_new ds s.next_object o i in
+        (r.1, omega (arith, owner_from birth s.next_object tag o r.0)),
+    tt,
+    λ a i. absurd i,
+  )
+
+  with_fine : AreFine new_birth server_with
+  with_fine x i = elim (in_add s.files new_file x i) [
+    | inl same ↦ subst (IsFine new_birth server_with.next_object) (sym same) new_fine
+    | inr j ↦
+        fine_later birth new_birth s.next_object server_with.next_object x
+        (λ o less. owner_below birth s.next_object tag o less) (omega arith) (own x j)
+  ]
+
+  made : Keeps birth s.next_object (makes_file s new_file)
+  made =
+      let g = at_file server_with [] new_file in
+      let x : Keeps new_birth server_with.next_object (makes_file s new_file) =
+      goes_at new_birth server_with with_fine number (making g) (makes_file s new_file) refl refl (λ drive c i. i)
+      (ends_making new_birth server_with.next_object [] g
+      (begun new_birth server_with with_fine [] new_file (add_there s.files new_file)).0
+      (λ o i. omega (arith, owner_from birth s.next_object tag o (in_new ds s.next_object o i).0))) in
+      record {
+        later = x.later;
+        agree = λ o less. x.agree o (omega (arith, less)) ∙ owner_below birth s.next_object tag o less;
+        rises = omega (arith, x.rises);
+        fine = x.fine;
+        sent = x.sent;
+      }
+
+  unless : (r : Option Refusal) → Keeps birth s.next_object (unless_made s (unless_refused r (makes_file s new_file)))
+  unless None = made
+  unless (Some why) = stays birth s own
+
+-- ---- once more
+
+-- what is awaited
+sent_again : (birth : ℕ → ℕ) (n : ℕ) (ds : List Drive) (fs : List File) → ((f : File) → In f fs → IsFine birth n f)
+    → (drive : ℕ) (c : Command)
+    → In (ToDrive drive c) (flat_map (λ (f : File). to_drives ds (awaited_by f.job)) fs) → IsSent birth n c
+sent_again birth n ds [] own drive c i = absurd i
+sent_again birth n ds (f ∷ fs) own drive c i =
+    elim (in_either (ToDrive drive c) (to_drives ds (awaited_by f.job)) _ i) [
+      | inl j ↦
+          let r = in_drives ds (awaited_by f.job) drive c j in
+          sent_of birth n drive c r.0 r.1 ((own f (inl refl)).2 r.0 r.2).0
+      | inr j ↦ sent_again birth n ds fs (λ x k. own x (inr k)) drive c j
+    ]
+
+-- ---- any step
+
+pub step_keeps : (birth : ℕ → ℕ) (s : Server) (chosen : List ℕ) (i : Input) → is_running i ≡ true → AreFine birth s
+    → Keeps birth s.next_object (step s chosen i)
+unfolding on_message create_file
+step_keeps birth s chosen (Hears now from m) runs own =
+    either_step birth s own (counters_low s) _ _ (heard_message birth s own now chosen from m) (stays birth s own)
+step_keeps birth s chosen (Makes n m tag) runs own =
+    unless birth s own n m tag (places s.drives m.comps chosen) (refusal s n m)
+step_keeps birth s chosen (Obeys kind n) runs own = obeyed birth s own chosen kind n
+step_keeps birth s chosen (Adds d) runs own = idle birth s own _ refl refl (λ drive c i. absurd i)
+step_keeps birth s chosen (Formats n) runs own = idle birth s own _ refl refl (λ drive c i. absurd i)
+step_keeps birth s chosen Resends runs own =
+    idle birth s own (step s chosen Resends) refl refl (sent_again birth s.next_object s.drives s.files own)
+step_keeps birth s chosen Crashes runs own = absurd (cc runs)
+step_keeps birth s chosen Opens runs own = absurd (cc runs)

@@ -1,0 +1,55 @@
+-- Over any run of a server that goes on, nothing was sent under an earlier tag than that of a CREATE that is awaited.
+use Rattle.std.proofs.Common.{ℕ, ◌≤◌, List, [], ◌∷◌, refl, ap, ◌∙◌, arith, inl, inr}
+use Rattle.server_rules.specs.History.{Act, step, state_after}
+use Rattle.server_rules.specs.Laws.{In}
+use Rattle.server_rules.specs.Making.{new_server}
+use Rattle.job_law.specs.Names.{Server, Command, ToDrive}
+use Rattle.job_law.proofs.Lists.{in_either}
+use Rattle.sent_law.proofs.ObjectSteps.{Agree}
+use Rattle.sent_law.specs.Tagged.{sent_over}
+use Rattle.sent_law.specs.First.{AreRunning, CreatesAreFirst}
+use Rattle.sent_law.proofs.BirthEnds.{born_later}
+use Rattle.sent_law.proofs.BirthGoing.{AreFine, IsSent}
+use Rattle.sent_law.proofs.BirthEvery.{step_keeps}
+
+-- what holds at the end of a run
+record Runs (birth : ℕ → ℕ) (s : Server) (acts : List Act) : Type 0 where
+  later : ℕ → ℕ
+  agree : Agree birth later s.next_object
+  rises : s.next_object ≤ (state_after s acts).next_object
+  fine : AreFine later (state_after s acts)
+  sent : (drive : ℕ) (c : Command) → In (ToDrive drive c) (sent_over s acts)
+      → IsSent later (state_after s acts).next_object c
+
+runs : (birth : ℕ → ℕ) (s : Server) (acts : List Act) → AreRunning acts → AreFine birth s → Runs birth s acts
+unfolding sent_over
+runs birth s [] running own = record {
+  later = birth;
+  agree = λ o less. refl;
+  rises = omega arith;
+  fine = own;
+  sent = λ drive c i. absurd i;
+}
+runs birth s (a ∷ acts) running own =
+    let t : Server = (step s a.chosen a.input).state in
+    let g = step_keeps birth s a.chosen a.input running.0 own in
+    let r = runs g.later t acts running.1 g.fine in
+    record {
+      later = r.later;
+      agree = λ o less. r.agree o (omega (arith, less, g.rises)) ∙ g.agree o less;
+      rises = omega (arith, g.rises, r.rises);
+      fine = r.fine;
+      sent = λ drive c i. elim (in_either (ToDrive drive c) (step s a.chosen a.input).sends _ i) [
+        | inl j ↦
+            born_later g.later r.later t.next_object (state_after t acts).next_object c.object c.capability.tag r.agree
+            r.rises (g.sent drive c j)
+        | inr j ↦ r.sent drive c j
+      ];
+    }
+
+pub creates_are_first : CreatesAreFirst
+creates_are_first acts running f i a w create drive c j object =
+    let r = runs (λ o. o) (new_server []) acts running (λ g k. absurd k) in
+    let made : f.kept.tag ≤ r.later a.command.object = ((r.fine f i).2 a w).1 create in
+    let sent = r.sent drive c j in
+    omega (arith, made, ap r.later object, sent.1)

@@ -1,0 +1,279 @@
+-- Each step of the server keeps that components have their objects, or get them.
+use Rattle.std.proofs.Common.{◌≡◌, ◌⊎◌, ◌==◌, ◌&&◌, ℕ, nat_le, nat_lt, Bool, true, false, List, [], ◌∷◌, find, is_some, Option, Some, None, refl, sym, subst, inl, inr, if◌then◌else◌}
+use Rattle.std.proofs.lemmas.Bool.{cases_Bool, eq-eqb}
+use Rattle.data_map.specs.declared.check.RawMap.{RawMap}
+use Rattle.osd_bytes.specs.declared.node.Node.{Node}
+use Rattle.osd_bytes.specs.declared.node.Node.TheVariants.{Server as FromServer, Client as FromClient, Drive as FromDrive}
+use Rattle.server_rules.specs.declared.limits.TheConstants.{GREATEST_TAG, MAX_CLIENT}
+use Rattle.server_rules.specs.Files.{Step, still, begins, file_at, put_file, add_file, at_file}
+use Rattle.server_rules.specs.Going.{Going}
+use Rattle.server_rules.specs.History.{Input, Hears, Makes, Obeys, Adds, Formats, Resends, Crashes, Opens, step, unless_made}
+use Rattle.server_rules.specs.Jobs.{making, declares}
+use Rattle.server_rules.specs.Laws.{In}
+use Rattle.server_rules.specs.Making.{refusal, places, unmade, with_file, makes_file, unless_refused, create_file}
+use Rattle.server_rules.specs.Messages.{Message, Asks, Replies, Orders, awaited_by, counters_low, or_else, heard_at, by_heard, on_drive_reply, handled, on_message}
+use Rattle.server_rules.specs.Orders.{Ordered, begins_job, starts, recalls_on, declares_each, offline, declare, declares_known, ordered}
+use Rattle.server_rules.specs.Replies.{answers, hearing, heard_by, heard_in, on_reply}
+use Rattle.server_rules.specs.Requests.{carries_out, by_admit, on_request}
+use Rattle.server_rules.specs.Slots.{Admit, New, Again, Misordered, admit, slot_of}
+use Rattle.job_law.specs.Names.{Server, File, Drive, Awaited, Job, JobKind, Revoking, Rebuilding, Auditing, Moved, Reply, ClientRequest, OrderKind, ToRecall, ToRevoke, ToDeclare, ToRebuild, ToAudit, Refusal}
+use Rattle.job_law.specs.Fencing.{Reached, TellsRaised, IsHeardTruly}
+use Rattle.job_law.proofs.Files.{found_file, in_put}
+use Rattle.sent_law.specs.Standing.{TellsMade, AreMadeTruly, is_running, EachStepStands}
+use Rattle.sent_law.proofs.StandHeld.{Ends, FileEnds, into, out}
+use Rattle.sent_law.proofs.StandJobs.{ends_making, ends_fence, ends_hears, ends_declares}
+use Rattle.sent_law.proofs.StandServing.{ends_served}
+
+-- ---- the list of files
+
+not_there : (s : Server) (n : ℕ) (m : RawMap) → refusal s n m ≡ None → file_at s.files n ≡ None
+unfolding refusal
+not_there s n m e = elim (cases_Bool (is_some (file_at s.files n))) [
+  | inl t ↦ absurd (cc (rw t at e))
+  | inr z ↦ nothing (file_at s.files n) z
+]
+  where
+    nothing : (o : Option File) → is_some o ≡ false → o ≡ None
+    nothing None x = refl
+    nothing (Some f) x = absurd (cc x)
+
+-- a file that is made stands in its own place
+in_made : (fs : List File) (f g x : File) → file_at fs f.kept.number ≡ None
+    → In x (put_file (add_file fs f) f.kept.number g) → (x ≡ g) ⊎ In x fs
+unfolding file_at add_file put_file
+in_made [] f g x e i = rw (eq-eqb f.kept.number f.kept.number refl) at i
+in_made (y ∷ fs) f g x e i = elim (cases_Bool (y.kept.number == f.kept.number)) [
+  | inl t ↦ absurd (cc (rw t at e))
+  | inr z ↦ elim (cases_Bool (nat_lt y.kept.number f.kept.number)) [
+    | inl t ↦ behind (rw (t, z) at i) (in_made fs f g x (rw z at e))
+    | inr w ↦ rw (w, eq-eqb f.kept.number f.kept.number refl) at i
+  ]
+]
+  where
+    behind : In x (y ∷ put_file (add_file fs f) f.kept.number g)
+        → (In x (put_file (add_file fs f) f.kept.number g) → (x ≡ g) ⊎ In x fs) → (x ≡ g) ⊎ In x (y ∷ fs)
+    behind (inl same) rest = inr (inl same)
+    behind (inr j) rest = elim (rest j) [ inl same ↦ inl same | inr k ↦ inr (inr k) ]
+
+-- ---- a reply
+
+found_in : (p : Awaited → Bool) (ws : List Awaited) (a : Awaited) → find p ws ≡ Some a → In a ws × (p a ≡ true)
+found_in p [] a e = absurd (cc e)
+found_in p (x ∷ ws) a e = elim (cases_Bool (p x)) [
+  | inl t ↦ let is = same (rw t at e) in (inl (sym is), subst (λ (y : Awaited). p y ≡ true) is t)
+  | inr z ↦ let r = found_in p ws a (rw z at e) in (inr r.0, r.1)
+]
+  where
+    same : Some x ≡ Some a → x ≡ a
+    same f = cc f
+
+-- at most one command of the file's job has its nonce, and it tells truly what was raised and made
+record IsTold (R : Reached) (f : File) (drive : ℕ) (r : Reply) : Type 0 where
+  alone : (x y : Awaited) → In x (awaited_by f.job) → In y (awaited_by f.job) → x.command.nonce ≡ y.command.nonce
+      → x ≡ y
+  raised : TellsRaised R f drive r
+  made : TellsMade R f drive r
+
+module _ (R : Reached) where
+  -- so it is of each of these files
+  abbrev AllEnd : List File → Type 0
+  AllEnd fs = (f : File) → In f fs → FileEnds R f
+
+  either_step : (b : Bool) (x y : Step) → AllEnd x.state.files → AllEnd y.state.files
+      → AllEnd (if b then x else y).state.files
+  either_step true x y p q = p
+  either_step false x y p q = q
+
+  put_ends : (fs : List File) (n : ℕ) (g : File) → AllEnd fs → FileEnds R g → AllEnd (put_file fs n g)
+  put_ends fs n g h e x i = elim (in_put fs n g x i) [
+    | inl same ↦ subst (FileEnds R) (sym same) e
+    | inr j ↦ h x j
+  ]
+
+  -- ---- a request
+
+  carries : (s : Server) (now : ℕ) (chosen : List ℕ) (q : ClientRequest) (o : Option File) → file_at s.files q.file ≡ o
+      → AllEnd s.files → AllEnd (carries_out s now chosen q o).state.files
+  carries s now chosen q None e h = h
+  carries s now chosen q (Some f) e h =
+      put_ends s.files q.file _ h
+      (ends_served R (at_file s chosen f) s.next_grant s.format now q.client q.args (h f (found_file s.files q.file f
+      e).0))
+
+  admitted : (s : Server) (now : ℕ) (chosen : List ℕ) (q : ClientRequest) (a : Admit) → AllEnd s.files
+      → AllEnd (by_admit s now chosen q a).state.files
+  admitted s now chosen q New h = carries s now chosen q (file_at s.files q.file) refl h
+  admitted s now chosen q (Again kept) h = h
+  admitted s now chosen q (Misordered expected) h = h
+
+  asked : (s : Server) (now : ℕ) (chosen : List ℕ) (q : ClientRequest) → AllEnd s.files
+      → AllEnd (on_request s now chosen q).state.files
+  unfolding on_request
+  asked s now chosen q h = admitted s now chosen q (admit (slot_of s.slots q.client) q.sequence) h
+
+  -- ---- a reply, at the file that awaits it
+
+  abbrev AnyEnds : Option Going → Type 0
+  AnyEnds None = Unit {0}
+  AnyEnds (Some g) = FileEnds R g.file
+
+  heard_one : (s : Server) (chosen : List ℕ) (drive : ℕ) (r : Reply) (f : File) (j : Job) (o : Option Awaited)
+      → IsTold R f drive r → FileEnds R f → f.job ≡ Some j → find (answers drive r) j.awaited ≡ o
+      → AnyEnds (heard_by (at_file s chosen f) r j o)
+  heard_one s chosen drive r f j None told h is found = tt
+  heard_one s chosen drive r f j (Some a) told h is found =
+      let got = found_in (answers drive r) j.awaited a found in
+      ends_hears R (at_file s chosen f) j a r (hearing f.kept a r) refl is got.0
+      (λ x i same. told.alone x a (in_job x i) (in_job a got.0) same)
+      (λ raises done. told.raised a (in_job a got.0) raises got.1 done)
+      (λ create done. told.made a (in_job a got.0) create got.1 done) h
+    where
+      in_job : (x : Awaited) → In x j.awaited → In x (awaited_by f.job)
+      in_job x i = subst (λ (p : Option Job). In x (awaited_by p)) (sym is) i
+
+  heard_file : (s : Server) (chosen : List ℕ) (drive : ℕ) (r : Reply) (f : File) (o : Option Job)
+      → IsTold R f drive r → FileEnds R f → f.job ≡ o → AnyEnds (heard_in (at_file s chosen f) drive r o)
+  heard_file s chosen drive r f None told h is = tt
+  heard_file s chosen drive r f (Some j) told h is =
+      heard_one s chosen drive r f j (find (answers drive r) j.awaited) told h is refl
+
+  heard_reply : (s : Server) (chosen : List ℕ) (drive : ℕ) (r : Reply) (f : File) → IsTold R f drive r
+      → FileEnds R f → AnyEnds (on_reply (at_file s chosen f) drive r)
+  unfolding on_reply
+  heard_reply s chosen drive r f told h = heard_file s chosen drive r f f.job told h refl
+
+  first_heard : (a b : Option Going) → AnyEnds a → AnyEnds b → AnyEnds (or_else a b)
+  first_heard None b h k = k
+  first_heard (Some g) b h k = h
+
+  all_heard : (s : Server) (chosen : List ℕ) (drive : ℕ) (r : Reply) (fs : List File)
+      → ((f : File) → In f fs → IsTold R f drive r) → AllEnd fs → AnyEnds (heard_at s chosen drive r fs)
+  unfolding heard_at
+  all_heard s chosen drive r [] told h = tt
+  all_heard s chosen drive r (f ∷ fs) told h =
+      first_heard (on_reply (at_file s chosen f) drive r) _
+      (heard_reply s chosen drive r f (told f (inl refl)) (h f (inl refl)))
+      (all_heard s chosen drive r fs (λ x i. told x (inr i)) (λ x i. h x (inr i)))
+
+  by_reply : (s : Server) (o : Option Going) → AllEnd s.files → AnyEnds o → AllEnd (by_heard s o).state.files
+  by_reply s None h e = h
+  by_reply s (Some g) h e = put_ends s.files g.file.kept.number g.file h e
+
+  replied : (s : Server) (chosen : List ℕ) (drive : ℕ) (r : Reply)
+      → ((f : File) → In f s.files → IsTold R f drive r) → AllEnd s.files
+      → AllEnd (on_drive_reply s chosen drive r).state.files
+  unfolding on_drive_reply
+  replied s chosen drive r told h = by_reply s _ h (all_heard s chosen drive r s.files told h)
+
+  -- ---- orders
+
+  either_order : (b : Bool) (x y : Ordered) → AllEnd x.step.state.files → AllEnd y.step.state.files
+      → AllEnd (if b then x else y).step.state.files
+  either_order true x y p q = p
+  either_order false x y p q = q
+
+  begun : (s : Server) (chosen : List ℕ) (kind : JobKind) (f : File) (j : Option Job) → f.job ≡ j → FileEnds R f
+      → AllEnd s.files → AllEnd (begins_job s chosen kind f j).step.state.files
+  begun s chosen kind f (Some j) is e h = put_ends s.files f.kept.number f h e
+  begun s chosen kind f None is e h =
+      either_order (f.kept.tag == GREATEST_TAG) _ _ (put_ends s.files f.kept.number f h e)
+      (put_ends s.files f.kept.number _ h
+      (ends_fence R kind s.format (at_file s chosen f)
+      (subst (λ (o : Option Job). Ends R f.kept.tag f.kept.components f.kept.grants o) is e)))
+
+  started : (s : Server) (chosen : List ℕ) (kind : JobKind) (n : ℕ) (o : Option File) → file_at s.files n ≡ o
+      → AllEnd s.files → AllEnd (starts s chosen kind o).step.state.files
+  started s chosen kind n None e h = h
+  started s chosen kind n (Some f) e h =
+      begun s chosen kind f f.job refl (h f (found_file s.files n f e).0) h
+
+  recalled : (s : Server) (o : Option File) → AllEnd s.files → AllEnd (recalls_on s o).step.state.files
+  recalled s None h = h
+  recalled s (Some f) h = h
+
+  declared_each : (drive : ℕ) (ds : List Drive) (fs : List File) (m : Moved) (chosen : List ℕ) → AllEnd fs
+      → AllEnd (declares_each drive ds fs m chosen).files
+  unfolding declares_each
+  declared_each drive ds [] m chosen h x i = h x i
+  declared_each drive ds (f ∷ fs) m chosen h x i =
+      let g : Going = record { file = f; moved = m; drives = ds; chosen = chosen } in
+      let d : Going = declares g drive in
+      elim i [
+        | inl same ↦ subst (FileEnds R) (sym same) (ends_declares R g drive (h f (inl refl)))
+        | inr j ↦ declared_each drive ds fs d.moved d.chosen (λ y k. h y (inr k)) x j
+      ]
+
+  declared : (s : Server) (chosen : List ℕ) (n : ℕ) (b : Bool) → AllEnd s.files
+      → AllEnd (declares_known s chosen n b).step.state.files
+  unfolding declare
+  declared s chosen n false h = h
+  declared s chosen n true h = declared_each n (offline s.drives n) s.files (begins s) chosen h
+
+  obeyed : (s : Server) (chosen : List ℕ) (kind : OrderKind) (n : ℕ) → AllEnd s.files
+      → AllEnd (ordered s chosen kind n).step.state.files
+  unfolding ordered
+  obeyed s chosen ToRecall n h = recalled s (file_at s.files n) h
+  obeyed s chosen ToRevoke n h = started s chosen Revoking n (file_at s.files n) refl h
+  obeyed s chosen ToDeclare n h = declared s chosen n _ h
+  obeyed s chosen ToRebuild n h = started s chosen Rebuilding n (file_at s.files n) refl h
+  obeyed s chosen ToAudit n h = started s chosen Auditing n (file_at s.files n) refl h
+
+  -- ---- a message
+
+  heard_message : (s : Server) (now : ℕ) (chosen : List ℕ) (from : Node) (m : Message) → counters_low s ≡ true
+      → IsHeardTruly R s (Hears now from m) → AreMadeTruly R s (Hears now from m) → AllEnd s.files
+      → AllEnd (handled s now chosen from m).state.files
+  heard_message s now chosen (FromClient c) (Asks q) low heard made h =
+      either_step ((q.client == c) && nat_le c MAX_CLIENT) _ _ (asked s now chosen q h) h
+  heard_message s now chosen (FromDrive d) (Replies r) low heard made h =
+      replied s chosen d r (λ f i. record {
+        alone = λ x y j k e. heard.alone x y (f, i, j) (f, i, k) e;
+        raised = heard.tells now d r refl low f i;
+        made = made now d r refl low f i;
+      }) h
+  heard_message s now chosen FromServer (Orders o) low heard made h = obeyed s chosen o.order o.target h
+  heard_message s now chosen from m low heard made h = h
+
+  message_ends : (s : Server) (now : ℕ) (chosen : List ℕ) (from : Node) (m : Message)
+      → IsHeardTruly R s (Hears now from m) → AreMadeTruly R s (Hears now from m) → AllEnd s.files
+      → AllEnd (on_message s now chosen from m).state.files
+  unfolding on_message
+  message_ends s now chosen from m heard made h = by_room (counters_low s) refl
+    where
+      by_room : (b : Bool) → counters_low s ≡ b
+          → AllEnd (if b then handled s now chosen from m else still s).state.files
+      by_room true low = heard_message s now chosen from m low heard made h
+      by_room false high = h
+
+  -- ---- a file is made
+
+  unless : (s : Server) (number : ℕ) (m : RawMap) (tag : ℕ) (ds : List ℕ) (r : Option Refusal)
+      → refusal s number m ≡ r → AllEnd s.files
+      → AllEnd (unless_made s (unless_refused r (makes_file s (unmade s number m tag ds)))).state.files
+  unless s number m tag ds (Some why) e h x i = h x i
+  unless s number m tag ds None e h x i =
+      let f : File = unmade s number m tag ds in
+      let g : Going = making (at_file (with_file s f) [] f) in
+      elim (in_made s.files f g.file x (not_there s number m e) i) [
+        | inl same ↦ subst (FileEnds R) (sym same) (ends_making R (at_file (with_file s f) [] f) refl)
+        | inr j ↦ h x j
+      ]
+
+  -- ---- any step
+
+  step_ends : (s : Server) (chosen : List ℕ) (i : Input) → is_running i ≡ true → IsHeardTruly R s i
+      → AreMadeTruly R s i → AllEnd s.files → AllEnd (step s chosen i).state.files
+  unfolding create_file
+  step_ends s chosen (Hears now from m) runs heard made h = message_ends s now chosen from m heard made h
+  step_ends s chosen (Makes n m tag) runs heard made h =
+      unless s n m tag (places s.drives m.comps chosen) (refusal s n m) refl h
+  step_ends s chosen (Obeys kind n) runs heard made h = obeyed s chosen kind n h
+  step_ends s chosen (Adds d) runs heard made h = h
+  step_ends s chosen (Formats n) runs heard made h = h
+  step_ends s chosen Resends runs heard made h = h
+  step_ends s chosen Crashes runs heard made h = absurd (cc runs)
+  step_ends s chosen Opens runs heard made h = absurd (cc runs)
+
+pub each_step_stands : EachStepStands
+each_step_stands R s chosen i runs fencing standing heard made f j =
+    out R f (step_ends R s chosen i runs heard made (λ x k. into R x (standing x k) (fencing x k)) f j)

@@ -1,0 +1,89 @@
+-- Each present component of a file has an object with the file's tag, or its CREATE is awaited.
+use Rattle.std.specs.Prelude.{◌≡◌, ◌⊎◌, ℕ, Bool, true, false, List, [], Option, Some, None}
+use Rattle.osd_bytes.specs.declared.node.Node.TheVariants.{Drive as FromDrive}
+use Rattle.osd_commands.specs.declared.actions.Action.TheVariants.{Create}
+use Rattle.server_rules.specs.declared.limits.TheConstants.{SERVER_HOLDER}
+use Rattle.server_rules.specs.Messages.{awaited_by, Replies, counters_low}
+use Rattle.server_rules.specs.Replies.{answers, is_done}
+use Rattle.server_rules.specs.History.{Input, Hears, Crashes, Opens, step}
+use Rattle.server_rules.specs.Laws.{In}
+use Rattle.job_law.specs.Names.{Server, File, Component, Target, Awaited, Job, Work, Creates, Targets, Reply}
+use Rattle.job_law.specs.Fencing.{Reached, AllRaised, AreFencing, IsHeardTruly}
+use Rattle.sent_law.specs.Objects.{target_of}
+
+-- ---- a file
+
+-- it is the server's CREATE under that tag
+pub record IsCreate (tag : ℕ) (a : Awaited) : Type 0 where
+  pub action : a.command.action ≡ Create
+  pub tagged : a.command.capability.tag ≡ tag
+  pub holder : a.command.capability.holder ≡ SERVER_HOLDER
+
+-- one of these that are awaited goes to that object
+abbrev pub IsCreating : List Awaited → (drive object tag : ℕ) → Type 0
+IsCreating ws drive object tag =
+    (a : Awaited) × In a ws × IsCreate tag a × (a.drive ≡ drive) × (a.command.object ≡ object)
+
+-- the object there has the file's tag, or its CREATE is awaited under this tag
+abbrev pub IsThere : Reached → File → (drive object : ℕ) → Type 0
+IsThere R f drive object =
+    IsCreating (awaited_by f.job) drive object f.kept.tag ⊎ (R drive object f.kept.tag ≡ true)
+
+-- the job makes objects
+abbrev pub makes_objects : Work → Bool
+makes_objects Creates = true
+makes_objects (Targets t) = true
+makes_objects work = false
+
+abbrev pub is_making : Option Job → Bool
+is_making None = false
+is_making (Some j) = makes_objects j.work
+
+-- the job makes the objects of a new file
+abbrev pub is_creates : Work → Bool
+is_creates Creates = true
+is_creates work = false
+
+abbrev pub is_new : Option Job → Bool
+is_new None = false
+is_new (Some j) = is_creates j.work
+
+-- So it is of each component that isn't missing, and of what a rebuild makes anew. Each CREATE that is awaited is under
+-- the file's tag, and no other job awaits one. Only a new file's components can still wait for theirs, and that file
+-- has no grant yet: so no fence begins before they are made.
+pub record IsStanding (R : Reached) (f : File) : Type 0 where
+  pub quiet : is_making f.job ≡ false → (a : Awaited) → In a (awaited_by f.job) → a.command.action ≡ Create → ⊥
+  pub creates : (a : Awaited) → In a (awaited_by f.job) → a.command.action ≡ Create → IsCreate f.kept.tag a
+  pub each : (at : Component) → In at f.kept.components → at.missing ≡ false → IsThere R f at.drive at.object
+  pub target : (t : Target) → target_of f.job ≡ Some t → IsThere R f t.drive t.object
+  pub settled : is_new f.job ≡ false → AllRaised R f f.kept.tag
+  pub ungranted : is_new f.job ≡ true → f.kept.grants ≡ []
+
+abbrev pub AreStanding : Reached → List File → Type 0
+AreStanding R fs = (f : File) → In f fs → IsStanding R f
+
+-- ---- a step
+
+-- where a reply counts as the answer to a CREATE, the object is there with the tag
+abbrev pub TellsMade : Reached → File → (drive : ℕ) → Reply → Type 0
+TellsMade R f drive r =
+    (a : Awaited) → In a (awaited_by f.job) → IsCreate f.kept.tag a → answers drive r a ≡ true →
+    is_done f.kept a r ≡ true → R a.drive a.command.object f.kept.tag ≡ true
+
+-- so it is of what the server hears, as long as its counters have room
+abbrev pub AreMadeTruly : Reached → Server → Input → Type 0
+AreMadeTruly R s i =
+    (now drive : ℕ) (r : Reply) → i ≡ Hears now (FromDrive drive) (Replies r) → counters_low s ≡ true →
+    (f : File) → In f s.files → TellsMade R f drive r
+
+-- the server neither stops nor goes on behind that
+abbrev pub is_running : Input → Bool
+is_running Crashes = false
+is_running Opens = false
+is_running i = true
+
+-- A step keeps it, where replies tell the truth.
+abbrev pub EachStepStands : Type 0
+EachStepStands =
+    (R : Reached) (s : Server) (chosen : List ℕ) (i : Input) → is_running i ≡ true → AreFencing R s.files →
+    AreStanding R s.files → IsHeardTruly R s i → AreMadeTruly R s i → AreStanding R (step s chosen i).state.files

@@ -1,5 +1,0 @@
-use Rattle.slot_law.proofs.Each.{clients_are_in_step}
-use Rattle.slot_law.proofs.laws.clients_are_in_step.Goals as goal
-
-pub returns : goal.returns
-returns c = clients_are_in_step c.slots_are_kept.ensures c.one_event_more.ensures

@@ -1,5 +1,0 @@
-use Rattle.slot_law.proofs.Doing.{moves_are_steps}
-use Rattle.slot_law.proofs.laws.moves_are_steps.Goals as goal
-
-pub returns : goal.returns
-returns c = moves_are_steps

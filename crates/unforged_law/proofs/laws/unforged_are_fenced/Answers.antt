@@ -1,5 +1,0 @@
-use Rattle.unforged_law.proofs.Fences.{unforged_are_fenced}
-use Rattle.unforged_law.proofs.laws.unforged_are_fenced.Goals as goal
-
-pub returns : goal.returns
-returns c = unforged_are_fenced c.unforged_holder_is_server.ensures c.fenced_is_fenced.ensures c.nothing_older.ensures
