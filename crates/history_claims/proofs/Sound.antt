@@ -12,15 +12,17 @@ use Rattle.history_claims.specs.Sound.{HistoriesAreSound}
 use Rattle.tag_law.specs.Given.{GrantsAreOlder}
 use Rattle.exchange_law.specs.Text.{WithinTheLimitAreFew}
 use Rattle.exchange_law.specs.Exact.{CommandsAreIssuedExactly, UnforgedAreIssuedExactly}
+use Rattle.exchange_law.specs.Lanes.{LanesAreOwn}
+use Rattle.exchange_law.specs.FairLanes.{LanesAreFair}
 use Rattle.ending_law.specs.Calls.{CallsEndSo}
 use Rattle.tag_law.specs.Tags.{EachTagIsItsFiles}
 use Rattle.history_claims.proofs.Texts.{events_make_text}
 
 pub histories_are_sound : HistoriesAreSafe → CommandsAreIssued → UnforgedAreIssued → UnguessedAreUnforged
     → RangesAreApart → FrontsAreLawful → ComponentsStandApart → EachHolderIsOwn → UnforgedAreFenced → GrantsAreOlder
-    → CommandsAreIssuedExactly → UnforgedAreIssuedExactly → CallsEndSo → EachTagIsItsFiles → WithinTheLimitAreFew
+    → CommandsAreIssuedExactly → UnforgedAreIssuedExactly → LanesAreFair → LanesAreOwn → CallsEndSo → EachTagIsItsFiles → WithinTheLimitAreFew
     → HistoriesAreSound
-histories_are_sound safe issued listed fair ranges fronts apart own fenced older exact allowed ends tags few = record {
+histories_are_sound safe issued listed fair ranges fronts apart own fenced older exact allowed lanes lanes_own ends tags few = record {
   sound = λ h l. record {
     safe = safe h l;
     issued = issued h l;
@@ -31,6 +33,8 @@ histories_are_sound safe issued listed fair ranges fronts apart own fenced older
     holders = own h l;
     fenced = λ w s a u. fenced w h s a u;
     older = λ w s a. older w h s a;
+    lanes = λ before after is. lanes before (fronts before after (subst Lawful is l));
+    own = λ before after is. lanes_own before (fronts before after (subst Lawful is l));
     exact = exact h l;
     allowed = allowed h l;
     tags = λ before after is. tags before;

@@ -1,3 +1,4 @@
+pub mod Lanes
 pub mod Components
 pub mod Texts
 pub mod Sound

@@ -13,6 +13,7 @@ use Rattle.calm_law.specs.Naming.{AreNamed}
 use Rattle.fencing_law.specs.Fenced.{AreFenced, FencesLast}
 use Rattle.fencing_law.specs.Holder.{OwnUnlessForged}
 use Rattle.history_claims.specs.Components.{AreComponentsApart}
+use Rattle.history_claims.specs.Lanes.{HaveFairLanes, HaveOwnLanes}
 use Rattle.tag_law.specs.Given.{GivenBefore}
 use Rattle.exchange_law.specs.Text.{AreOfText, AreFew, WithinTheLimitAreFew}
 use Rattle.exchange_law.specs.Exact.{IssuedExactlyAt, InjectedExactlyAt}
@@ -45,6 +46,11 @@ pub record IsSound (h : List Line) : Type 0 where
   pub fenced : (w : World) → StandsFor w h → AreWritten h → AreUnforged h → AreFenced h × FencesLast h
   -- and whatever grants of the file the server gave before that note are of an earlier tag
   pub older : (w : World) → StandsFor w h → AreWritten h → GivenBefore h
+  -- at each moment each lane of an object is of a command of the lane's holder, the server or a client, or of one that carries
+  -- what the server gave that client, as far as nothing is forged; where nothing was guessed it is of one that the holder
+  -- sent; and no two lanes of an object have one holder
+  pub lanes : AtEachMoment HaveFairLanes h
+  pub own : AtEachMoment HaveOwnLanes h
   -- in a history of a scenario's text with few messages, what is performed of a client is for a present component under a
   -- grant of this client
   pub exact : AreOfText h → AreFew h → AtEachLine IssuedExactlyAt h

@@ -5,7 +5,8 @@ ghost use Rattle.history_claims.specs.Sound.{HistoriesAreSound};
 use calm_law::{each_step_is_apart, each_step_is_sound};
 use ending_law::calls_end_so;
 use exchange_law::{
-    commands_are_issued_exactly, unforged_are_issued_exactly, within_the_limit_are_few,
+    commands_are_issued_exactly, lanes_are_fair, lanes_are_own, unforged_are_issued_exactly,
+    within_the_limit_are_few,
 };
 use fencing_law::{holders_are_own, unforged_are_fenced};
 use history_law::{
@@ -28,11 +29,11 @@ pub fn components_stand_apart()
 /// was issued to the client whose command it is; no byte of a component is inside the capabilities of two live
 /// grants of which one is for writing; the components of a file stand on different drives. As far as nothing is
 /// forged, injected bytes that are performed carry a capability that the server gave a client, or are its own; what
-/// is performed under the server's holder is its own; and a fence that is over lasts. In a history of a scenario's
-/// text with few messages each performed command that isn't the server's is for a component under a grant of a
-/// client; as far as nothing is forged, the object of each present component has its file's tag, or the next one
-/// while a fence is open; no call ends since its layout can't be used or since a command lies outside its
-/// capability, and none is refused since its client has no sequence number left.
+/// is performed under the server's holder is its own, and each lane of an object its holder's; and a fence that is
+/// over lasts. In a history of a scenario's text with few messages each performed command that isn't the server's is
+/// for a component under a grant of a client; as far as nothing is forged, the object of each present component has
+/// its file's tag, or the next one while a fence is open; no call ends since its layout can't be used or since a
+/// command lies outside its capability, and none is refused since its client has no sequence number left.
 pub fn histories_are_sound()
     ensures { HistoriesAreSound }
 {
@@ -48,6 +49,8 @@ pub fn histories_are_sound()
     grants_are_older();
     commands_are_issued_exactly();
     unforged_are_issued_exactly();
+    lanes_are_fair();
+    lanes_are_own();
     calls_end_so();
     each_tag_is_its_files();
     within_the_limit_are_few();
