@@ -36,7 +36,7 @@ taking-last xs t n =
 
 -- the connections of which the newest asks
 abbrev asked_as : Node → Traffic → List Talk → Option Traffic
-asked_as to a talks = Some (record { to_accept = a.to_accept; accepted = a.accepted; to_ask = drop 1 a.to_ask; asked = talks; nodes = a.nodes ++ to ∷ [] })
+asked_as to a talks = Some (record { to_accept = a.to_accept; accepted = a.accepted; to_ask = drop 1 a.to_ask; asked = talks; nodes = a.nodes ++ to ∷ []; notes = a.notes })
 
 -- ---- sending
 

@@ -22,13 +22,14 @@ pub record Talk : Type 0 where
   pub put : List ℕ
 
 -- what comes on the connections that are still to be accepted, the accepted ones, what comes on those still to be
--- asked for, the asking ones, and whom these asked; the oldest first
+-- asked for, the asking ones, whom these asked, and the notes that were told beside them; the oldest first
 pub record Traffic : Type 0 where
   pub to_accept : List (List ℕ)
   pub accepted : List Talk
   pub to_ask : List (List ℕ)
   pub asked : List Talk
   pub nodes : List Node
+  pub notes : List (List ℕ)
 
 -- past the end of a list a connection gives no bytes
 abbrev pub next_stream : List (List ℕ) → List ℕ
@@ -101,6 +102,15 @@ Sends None new result bytes = new ≡ None
 Sends (Some a) new (Ok n) bytes =
     (0 < length a.asked) × (new ≡ Some (record a { asked = after_putting (take n bytes) a.asked }))
 Sends (Some a) new (Err e) bytes = new ≡ Some a
+
+-- ---- notes
+
+-- so many more notes were told
+abbrev pub with_notes : List (List ℕ) → Traffic → Traffic
+with_notes lines a = record a { notes = a.notes ++ lines }
+
+abbrev pub after_notes : List (List ℕ) → Option Traffic → Option Traffic
+after_notes lines told = option_map (with_notes lines) told
 
 -- ---- one end of a connection, where the links tell it
 

@@ -1,9 +1,10 @@
-ghost use Rattle.std.specs.Prelude.{◌≡◌, ◌<◌, false, is_ok, length, Option, Some, IfOk, IsErr, OnOk, OnErr};
+ghost use Rattle.std.specs.Prelude.{◌≡◌, ◌<◌, ◌∷◌, [], false, is_ok, length, Option, Some, IfOk, IsErr, OnOk, OnErr};
 ghost use Rattle.std.specs.Io.{ReadsAtMost, WritesAtMost};
-ghost use Rattle.osd_bytes.specs.Connections.{Standing, Traffic, connected_to, Accepts, Connects, Takes, Puts, Receives, Sends};
+ghost use Rattle.osd_bytes.specs.Connections.{Standing, Traffic, connected_to, Accepts, Connects, Takes, Puts, Receives, Sends, after_notes};
 ghost use Rattle.osd_bytes.specs.Counts.{Faults, HasLinkCause, asking_count};
 
 use crate::lists::Bytes;
+use crate::memory::Memory;
 use crate::node::Node;
 use crate::sequence::Sequence;
 use crate::source::Fault;
@@ -34,7 +35,7 @@ pub trait Links {
     /// The four counts of calls that failed.
     ghost faults: { Self → Faults };
 
-    /// What came and what comes on each connection, where the links tell that.
+    /// What came and what comes on each connection, and the notes, where the links tell that.
     ghost told: { Self → Option Traffic };
 
     /// Keeps the addresses, and listens at `listen` where that isn't empty.
@@ -98,5 +99,17 @@ pub trait Links {
     fn hang_up(&mut self)
         ensures standing { standing self.new ≡ record (standing self.old) { asked = None } }
         ensures told { told self.new ≡ told self.old }
+        ensures same { faults self.new ≡ faults self.old };
+
+    /// Tells whoever watches the program a note: one line of text, without its end. No connection has
+    /// a part in it. Links that can't tell it, as to a standard error that is closed, go on without.
+    ///
+    /// # Errors
+    ///
+    /// Want of memory alone, of links that keep their notes.
+    fn note(&mut self, line: &[u8]) -> Result<(), Memory>
+        ensures ok { OnOk result (told self.new ≡ after_notes (line.now ∷ []) (told self.old)) }
+        ensures err { OnErr result (told self.new ≡ told self.old) }
+        ensures standing { standing self.new ≡ standing self.old }
         ensures same { faults self.new ≡ faults self.old };
 }

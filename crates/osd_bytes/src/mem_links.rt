@@ -35,6 +35,7 @@ pub struct MemLinks {
     accepted: Conversations,
     asked: Conversations,
     nodes: Sequence<Node>,
+    notes: ByteLists,
     fails: Numbers,
     calls: u64,
 }
@@ -49,7 +50,7 @@ impl Model for MemLinks {
     ghost view = { λ m. record {
       standing = record { listen = m.listen; peers = m.peers; accepted = m.has_accepted; asked = m.asks };
       faults = record { listening = m.counts.listening; accepted = m.counts.accepted; server = m.counts.server; others = m.counts.others };
-      traffic = record { to_accept = m.accepted.coming; accepted = m.accepted.talks; to_ask = m.asked.coming; asked = m.asked.talks; nodes = m.nodes };
+      traffic = record { to_accept = m.accepted.coming; accepted = m.accepted.talks; to_ask = m.asked.coming; asked = m.asked.talks; nodes = m.nodes; notes = m.notes };
       fails = m.fails;
       calls = m.calls;
     } };
@@ -62,12 +63,12 @@ impl MemLinks {
     /// Links on whose accepted connections these bytes come, in order, and on whose asking ones
     /// those, one for each call of `connect`, in order, also for one that fails. Past the end of its
     /// list nothing comes. The calls whose numbers stand in `fails` fail, counted from 0; `hang_up`
-    /// has no number.
+    /// and `note` have no number.
     pub fn new(alloc: Global, accepted: ByteLists, asked: ByteLists, fails: Numbers) -> Self
         ensures { result ≡ record {
           standing = record { listen = []; peers = []; accepted = false; asked = None };
           faults = record { listening = 0; accepted = 0; server = 0; others = 0 };
-          traffic = record { to_accept = accepted; accepted = []; to_ask = asked; asked = []; nodes = [] };
+          traffic = record { to_accept = accepted; accepted = []; to_ask = asked; asked = []; nodes = []; notes = [] };
           fails = fails;
           calls = 0;
         } }
@@ -87,6 +88,7 @@ impl MemLinks {
             accepted: Conversations::new(alloc, accepted),
             asked: Conversations::new(alloc, asked),
             nodes: Sequence::new(alloc),
+            notes: ByteLists::new(alloc),
             fails,
             calls: 0,
         }
@@ -120,6 +122,13 @@ impl MemLinks {
         ensures { IfSome (slice_get self.now.traffic.asked i) (λ talk. result.now ≡ talk.put) }
     {
         self.asked.get(i).bytes()
+    }
+
+    /// The notes that were told, in order.
+    pub fn notes(&self) -> &[Bytes]
+        ensures { result.now ≡ self.now.traffic.notes }
+    {
+        self.notes.as_slice()
     }
 
     // Counts a call, which fails where its number is listed.
@@ -247,5 +256,10 @@ impl Links for MemLinks {
 
     fn hang_up(&mut self) {
         self.asks = None;
+    }
+
+    fn note(&mut self, line: &[u8]) -> Result<(), Memory> {
+        let line = Bytes::copied(self.alloc, line)?;
+        self.notes.push(line)
     }
 }
