@@ -1,0 +1,84 @@
+"""Faults of a transcript, in plain sentences."""
+from typing import Optional
+
+from transcripts.lines import (Delivered, Ended, Error, Event, Judged, Last, Line, Note, Refused, Sent, TimedOut)
+from transcripts.messages import fields_of
+
+LONGEST_SHOWN = 90
+
+
+class Fault(Exception):
+    """A line that isn't as the rules say, and why."""
+
+    def __init__(self, at: int, why: str) -> None:
+        super().__init__('line %d: %s' % (at, why))
+        self.at = at
+        self.why = why
+
+
+class Cut(Exception):
+    """The lines end before the event does."""
+
+
+def cut(text: str) -> str:
+    """A text, its end left out where it is long."""
+    return text if len(text) <= LONGEST_SHOWN else text[:LONGEST_SHOWN] + '..'
+
+
+def outcome_text(line: Ended) -> str:
+    """The outcome in a line's words."""
+    words = [line.kind]
+    for value in line.args:
+        if isinstance(value, bytes):
+            words.append(value.hex() or '-')
+        elif isinstance(value, tuple):
+            words.append(','.join(str(n) for n in value))
+        else:
+            words.append(str(value))
+    return ' '.join(words)
+
+
+def text_of(line: Line) -> str:
+    """The words of a line, its bytes cut."""
+    if isinstance(line, Event):
+        return '= ' + line.text
+    if isinstance(line, Sent):
+        return 'm %d %s %s %s' % (line.number, line.sender, line.receiver, line.data.hex() or '-')
+    if isinstance(line, Delivered):
+        return 'd %d %s' % (line.number, line.result)
+    if isinstance(line, Judged):
+        return 'j %s %s' % (line.drive, line.verdict)
+    if isinstance(line, TimedOut):
+        return 't %s %d' % (line.client, line.component)
+    if isinstance(line, Ended):
+        return 'o %s %s %s' % (line.client, line.word, outcome_text(line))
+    if isinstance(line, Refused):
+        return 'x %s %s' % (line.client, line.why)
+    if isinstance(line, Note):
+        return 'f %s %s' % (line.file, ' '.join(line.words))
+    if isinstance(line, Last):
+        return 'calm %s unguessed %s' % ('yes' if line.calm else 'no', 'yes' if line.unguessed else 'no')
+    return 'error %d %s' % (line.line, line.reason)
+
+
+def quoted(line: Optional[Line]) -> str:
+    """A line in quotes, its end left out where it is long."""
+    return 'the lines end' if line is None else 'the line is "%s"' % cut(text_of(line))
+
+
+def title(message: Sent) -> str:
+    """What a message is, in some words."""
+    fields = fields_of(message)
+    return ' '.join(fields[0]) if fields[0][0] != 'unreadable' else 'bytes that can\'t be read'
+
+
+def difference(wanted: Sent, found: Sent) -> str:
+    """The first field in which two messages differ."""
+    for (key, value), (other_key, other) in zip(fields_of(wanted), fields_of(found)):
+        if key != other_key:
+            break
+        if value != other:
+            return '%s is "%s", and by the rules it is "%s"' % (key, cut(other), cut(value))
+    at = next((n for n, (a, b) in enumerate(zip(wanted.data, found.data)) if a != b),
+              min(len(wanted.data), len(found.data)))
+    return 'the bytes differ at %d from those that the rules give, a %s' % (at, title(wanted))

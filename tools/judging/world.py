@@ -1,0 +1,507 @@
+"""The world of a transcript (docs/WORLD.md): its lines are gone through event by event, move by move, and compared with
+what each party had to do."""
+from typing import Callable, Dict, List, Optional, Tuple
+
+from transcripts import commands, envelopes
+from transcripts.commands import READ, WRITE, Command, maybe_command
+from transcripts.lines import (LATER, Delivered, Ended, Error, Event, Judged, Last, Line, Note, Refused, Sent,
+                               TimedOut, number_of)
+from transcripts.spelling import Unreadable
+from transcripts.striping import Map
+
+from . import clients, server
+from .calm import Moments
+from .drives import Drive, Verdict
+from .faults import Cut, Fault, cut, difference, outcome_text, quoted, title
+from .files import Fixed, Log, Pending
+
+
+class Message:
+    """A message that was sent, and its marks."""
+
+    def __init__(self, line: Sent) -> None:
+        self.line = line
+        self.delivered = False
+        self.dropped = False
+        self.spelled: Optional[Command] = None
+        self.is_read = False
+
+    def command(self) -> Optional[Command]:
+        """The command that its bytes spell, if any."""
+        if not self.is_read:
+            self.is_read = True
+            self.spelled = maybe_command(self.line.data)
+        return self.spelled
+
+
+class World:
+    """All parties and the network, as the lines so far leave them."""
+
+    def __init__(self, lines: List[Line]) -> None:
+        self.lines = lines
+        self.next = 0
+        self.drives: Dict[int, Drive] = {}
+        self.clients: Dict[int, clients.Client] = {}
+        self.server = server.Server()
+        self.messages: List[Message] = []
+        self.sent_to: Dict[Tuple[str, bytes], int] = {}
+        self.settled = 0
+        self.log = Log()
+        self.moments = Moments(self.server, self.log)
+        self.unguessed = True
+        self.guess = ''
+        self.before_break: Optional[List[Fixed]] = None
+        self.performed = 0
+
+    # ---- lines
+
+    def peek(self) -> Optional[Line]:
+        """The next line."""
+        return self.lines[self.next] if self.next < len(self.lines) else None
+
+    def at(self) -> int:
+        """The number of the next line."""
+        return self.next + 1
+
+    def take(self, kind: type, wanted: str) -> Line:
+        """The next line, which has to be of this kind."""
+        line = self.peek()
+        if line is None or (isinstance(line, Error) and line.reason in ('full kept', 'memory')):
+            raise Cut()
+        if not isinstance(line, kind):
+            raise Fault(self.at(), '%s had to follow, and %s' % (wanted, quoted(line)))
+        self.next += 1
+        return line
+
+    def expect(self, holds: bool, line: Line, why: str) -> None:
+        """The line isn't lawful unless this holds."""
+        if not holds:
+            raise Fault(line.at, why)
+
+    # ---- the whole
+
+    def go(self) -> None:
+        """All events, up to the last line."""
+        while True:
+            line = self.peek()
+            if line is None or isinstance(line, (Last, Error)):
+                return
+            if not isinstance(line, Event):
+                raise Fault(line.at, 'nothing more was due in the event before, and %s' % quoted(line))
+            self.next += 1
+            self.event(line)
+
+    def event(self, e: Event) -> None:
+        """An event is carried out."""
+        refused = self.refusal(e)
+        if refused:
+            raise Fault(e.at, 'this event is refused, and no line of it stands in a transcript: %s' % refused)
+        before = self.calm_so_far()
+        fixed = self.log.fixed() if before and e.kind == 'inject' else None
+        getattr(self, 'do_' + e.kind)(e)
+        if before and not self.unguessed:
+            self.before_break = fixed
+
+    def calm_so_far(self) -> bool:
+        """The run was calm and unguessed so far."""
+        return self.moments.calm and self.unguessed
+
+    def begins(self, at: int) -> None:
+        """A step begins with the line of that number: a moment."""
+        if not self.calm_so_far():
+            self.moments.look(at)
+            return
+        self.moments.look(at)
+        if not self.moments.calm:
+            self.before_break = self.log.fixed()
+
+    # ---- why an event is refused
+
+    def refusal(self, e: Event) -> Optional[str]:
+        """The first cause for which an event isn't carried out."""
+        if e.kind in LATER:
+            return 'the world doesn\'t know it yet'
+        if e.kind == 'drive':
+            return 'the drive exists' if number_of(e.args[0]) in self.drives else None
+        if e.kind == 'client':
+            return 'the client exists' if number_of(e.args[0]) in self.clients else None
+        if e.kind in ('recall', 'revoke', 'rebuild', 'audit'):
+            return None if number_of(e.args[0]) in self.server.files else 'there is no such file'
+        if e.kind in ('deliver', 'drop'):
+            return None if e.args[0] < len(self.messages) else 'no message of that number was sent'
+        if e.kind == 'declare':
+            return self.declare_refusal(number_of(e.args[0]))
+        return self.party_refusal(e.args[0]) if e.args and e.kind not in ('file', 'format') else None
+
+    def declare_refusal(self, drive: int) -> Optional[str]:
+        """A drive that is declared has failed."""
+        if drive not in self.drives:
+            return 'there is no such drive'
+        return None if self.drives[drive].failed else 'the drive hasn\'t failed'
+
+    def party_refusal(self, party: str) -> Optional[str]:
+        """A party that an event names exists, and wasn't stopped and didn't fail."""
+        if party[0] == 'd':
+            drive = self.drives.get(number_of(party))
+            return 'there is no such drive' if drive is None else 'the drive failed' if drive.failed else None
+        if party[0] == 'c':
+            client = self.clients.get(number_of(party))
+            return 'there is no such client' if client is None else 'the client was stopped' if client.stopped else None
+        return None
+
+    # ---- messages
+
+    def posts(self, sender: str, sends: List[Tuple[str, bytes]]) -> None:
+        """A party sends these, in order."""
+        for receiver, data in sends:
+            self.post(Sent(self.at(), len(self.messages), sender, receiver, data))
+
+    def post(self, wanted: Sent) -> None:
+        """The next line is that of this message."""
+        found = self.take(Sent, '%s had to send %s a %s (message %d)' % (
+            wanted.sender, wanted.receiver, title(wanted), wanted.number) if not self.is_next(wanted) else '')
+        if found[1:] != wanted[1:]:
+            self.refuse_message(wanted, found)
+        self.messages.append(Message(found))
+        self.sent_to.setdefault((found.receiver, found.data), found.number)
+        if found.sender[0] == 'c' and found.receiver[0] == 'd':
+            command = self.messages[-1].command()
+            if command is not None and command.action in (READ, WRITE):
+                self.log.sends(found.at, found.number, number_of(found.sender), command.action == WRITE,
+                               command.capability.grant)
+
+    def is_next(self, wanted: Sent) -> bool:
+        """The next line is a message's."""
+        return isinstance(self.peek(), Sent)
+
+    @staticmethod
+    def refuse_message(wanted: Sent, found: Sent) -> None:
+        """A message isn't the one that had to be sent."""
+        if found.number != wanted.number:
+            raise Fault(found.at, 'messages are numbered in order, and this one is %d' % wanted.number)
+        if (found.sender, found.receiver) != (wanted.sender, wanted.receiver):
+            raise Fault(found.at, '%s had to send %s a %s, and the line has a message from %s to %s' % (
+                wanted.sender, wanted.receiver, title(wanted), found.sender, found.receiver))
+        raise Fault(found.at, 'message %d from %s to %s isn\'t what %s had to send: %s' % (
+            found.number, found.sender, found.receiver, found.sender, difference(wanted, found)))
+
+    def pending_from(self, first: int) -> Optional[int]:
+        """The lowest message from a number on that was neither delivered nor dropped."""
+        while first < len(self.messages) and (self.messages[first].delivered or self.messages[first].dropped):
+            first += 1
+        return first if first < len(self.messages) else None
+
+    def deliver_all(self, first: int) -> int:
+        """Messages from a number on are delivered, the lowest first; below the result none is pending."""
+        while True:
+            number = self.pending_from(first)
+            if number is None:
+                return len(self.messages)
+            self.deliver(number)
+            first = number + 1
+
+    def deliver(self, number: int) -> None:
+        """Message `number` is delivered."""
+        message = self.messages[number]
+        sent = message.line
+        line = self.take(Delivered, 'message %d (%s from %s to %s) had to be delivered' % (
+            number, title(sent), sent.sender, sent.receiver) if not isinstance(self.peek(), Delivered) else '')
+        self.expect(line.number == number, line, 'message %d is the next to be delivered, and not %d'
+                    % (number, line.number))
+        message.delivered = True
+        if sent.receiver == 's':
+            self.to_server(line, sent)
+        elif sent.receiver[0] == 'd':
+            self.to_drive(line, message)
+        else:
+            self.to_client(line, sent)
+
+    def is_deaf(self, line: Delivered, deaf: bool, who: str) -> bool:
+        """A stopped client and a failed drive are deaf, and nobody else."""
+        if deaf:
+            self.expect(line.result == 'deaf', line, '%s, so it is deaf, and the line says "%s"' % (who, line.result))
+            self.begins(line.at)
+        return deaf
+
+    # ---- drives
+
+    def to_drive(self, line: Delivered, message: Message) -> None:
+        """A drive judges a message and replies to who sent it."""
+        sent = message.line
+        number = number_of(sent.receiver)
+        drive = self.drives[number]
+        if self.is_deaf(line, drive.failed, '%s has failed' % sent.receiver):
+            return
+        command = message.command()
+        verdict, reply = drive.hear(command)
+        self.judges(line, sent.receiver, line.result, verdict, command)
+        if verdict.word == 'perform':
+            self.performed += 1
+            self.moments.performed(number, command, self.log.writes.get(sent.number))
+        self.begins(line.at)
+        self.posts(sent.receiver, [(sent.sender, commands.reply_bytes(reply))])
+
+    def judges(self, line: Line, drive: str, said: str, verdict: Verdict, command: Optional[Command]) -> None:
+        """The line says the verdict that the drive had to give."""
+        what = commands.ACTIONS[command.action] if command else 'message'
+        self.expect(said == verdict.text, line, 'the verdict of %s on this %s is "%s", since %s; the line says "%s"' % (
+            drive, what, verdict.text, verdict.why, said))
+
+    def do_inject(self, e: Event) -> None:
+        """A stranger hands bytes to a drive; its reply goes nowhere."""
+        name, data = e.args
+        drive = self.drives[number_of(name)]
+        command = maybe_command(data)
+        first = self.sent_to.get((name, data))
+        if command is not None and first is None and drive.opens(command) and self.unguessed:
+            self.unguessed = False
+            self.guess = 'at line %d' % e.at
+        self.begins(e.at)
+        line = self.take(Judged, '%s had to judge the injected bytes' % name)
+        verdict, _ = drive.hear(command)
+        self.expect(line.drive == name, line, 'the bytes were injected at %s' % name)
+        self.judges(line, name, line.verdict, verdict, command)
+        if verdict.word == 'perform':
+            self.performed += 1
+            self.moments.performed(drive.number, command, None if first is None else self.log.writes.get(first))
+        self.begins(line.at)
+
+    # ---- the server
+
+    def to_server(self, line: Delivered, sent: Sent) -> None:
+        """The server takes a message."""
+        self.expect(line.result == 'taken', line, 'the server takes what comes to it, and the line says "%s"'
+                    % line.result)
+        did = server.NOTHING
+        returned = None
+        if sent.sender[0] == 'd':
+            try:
+                did = self.server.on_reply(number_of(sent.sender), commands.read_reply(sent.data))
+            except Unreadable:
+                pass
+        else:
+            envelope = envelopes.maybe_envelope(sent.data)
+            if isinstance(envelope, envelopes.Request) and sent.sender == 'c%d' % envelope.client:
+                did = self.server.on_request(envelope)
+                returned = envelope if did.took_loss else None
+        if returned is not None:
+            for entry in self.log.entries:
+                entry.taken = entry.taken or entry.grant == returned.args.state.grant
+        self.server_did(line.at, did)
+
+    def server_did(self, at: int, did: server.Did) -> None:
+        """What the server tells and sends in a step that begins with that line."""
+        self.begins(at)
+        before = self.calm_so_far()
+        fixed = self.log.fixed() if before and did.notes else None
+        for file, text in did.notes:
+            self.note(file, text, did)
+        if before and not self.moments.calm:
+            self.before_break = fixed
+        self.posts('s', did.sends)
+        self.moments.after_step()
+
+    def note(self, file: int, text: str, did: server.Did) -> None:
+        """The next line is this note."""
+        line = self.take(Note, 'the server had to note "f f%d %s"' % (file, text))
+        found = ' '.join(line.words)
+        self.expect((line.file, found) == ('f%d' % file, text), line,
+                    'the server had to note "f f%d %s", and %s' % (file, text, quoted(line)))
+        self.moments.noted(line.at, file, line.words, did.mended)
+
+    # ---- clients
+
+    def to_client(self, line: Delivered, sent: Sent) -> None:
+        """A client takes a message."""
+        client = self.clients[number_of(sent.receiver)]
+        if self.is_deaf(line, client.stopped, '%s was stopped' % sent.receiver):
+            return
+        self.expect(line.result == 'taken', line, 'a client takes what comes to it, and the line says "%s"'
+                    % line.result)
+        self.begins(line.at)
+        self.client_did(client, self.heard(client, sent))
+
+    @staticmethod
+    def heard(client: clients.Client, sent: Sent) -> clients.Did:
+        """What a client does with a message."""
+        if sent.sender[0] == 'd':
+            try:
+                return client.on_reply(number_of(sent.sender), commands.read_reply(sent.data))
+            except Unreadable:
+                return clients.Did(None, [])
+        envelope = envelopes.maybe_envelope(sent.data)
+        return clients.Did(None, []) if envelope is None else client.on_envelope(envelope)
+
+    def client_did(self, client: clients.Client, did: clients.Did) -> None:
+        """What a client tells and sends in a step."""
+        if did.outcome is not None:
+            self.ended(client.number, did.outcome)
+        self.posts('c%d' % client.number, did.sends)
+
+    def ended(self, number: int, outcome: str) -> None:
+        """The next line tells how a call ended."""
+        pending = self.log.pending.get(number)
+        word = 'write' if pending is None or pending.write else 'read'
+        line = self.take(Ended, 'the call of c%d had to end: "o c%d %s %s"' % (number, number, word, cut(outcome)))
+        found = outcome_text(line)
+        self.expect((line.client, line.word) == ('c%d' % number, word), line,
+                    'the %s of c%d had to end here, and %s' % (word, number, quoted(line)))
+        self.expect(found == outcome, line, 'the %s of c%d had to end with "%s", and the line says "%s"' % (
+            word, number, cut(outcome), cut(found)))
+        if outcome != 'pending':
+            ok = line.kind == 'ok'
+            self.log.ends(line.at, number, ok, line.args[0] if ok and word == 'read' else None)
+
+    def call(self, e: Event) -> bool:
+        """A client is called; false where the call is refused."""
+        client = self.clients[number_of(e.args[0])]
+        write, file, offset = e.args[1] == 'write', number_of(e.args[2]), e.args[3]
+        data = e.args[4] if write else None
+        length = len(data) if data is not None else e.args[4]
+        span = clients.Span(offset, length)
+        self.begins(e.at)
+        self.log.call(client.number, Pending(write, file, offset, length, data))
+        why = client.refusal(span)
+        if why:
+            self.refused(client.number, why)
+            return False
+        self.client_did(client, client.begin_op(clients.Op(write, file, span, data or b'')))
+        return True
+
+    def refused(self, number: int, why: str) -> None:
+        """The next line says that a call was refused."""
+        line = self.take(Refused, 'the call had to be refused: "x c%d %s"' % (number, why))
+        self.expect(line[1:] == ('c%d' % number, why), line, 'the call had to be refused with "x c%d %s", and %s' % (
+            number, why, quoted(line)))
+        self.log.refuse(number, why)
+
+    def do_call(self, e: Event) -> None:
+        """A call whose messages wait."""
+        self.call(e)
+
+    def do_do(self, e: Event) -> None:
+        """A call with prompt delivery."""
+        first = len(self.messages)
+        if not self.call(e):
+            return
+        client = self.clients[number_of(e.args[0])]
+        while True:
+            first = self.deliver_all(first)
+            k = client.awaits_drive()
+            if k is None:
+                break
+            self.time_out(client, k)
+        if client.call is not None:
+            self.ended(client.number, 'pending')
+
+    def time_out(self, client: clients.Client, k: int) -> None:
+        """A component times out at a client."""
+        line = self.take(TimedOut, 'component %d had to time out at c%d' % (k, client.number))
+        self.expect(line[1:] == ('c%d' % client.number, k), line, 'component %d had to time out at c%d, and %s' % (
+            k, client.number, quoted(line)))
+        self.begins(line.at)
+        self.client_did(client, client.time_out(k))
+
+    # ---- the other events
+
+    def do_drive(self, e: Event) -> None:
+        """A drive is made, and the server knows it."""
+        number = number_of(e.args[0])
+        self.drives[number] = Drive(number, e.args[1], e.args[2])
+        self.server.add_drive(number, e.args[1])
+
+    def do_client(self, e: Event) -> None:
+        """A client is made."""
+        number = number_of(e.args[0])
+        self.clients[number] = clients.Client(number)
+
+    def do_file(self, e: Event) -> None:
+        """The server makes a file, and what is sent is delivered."""
+        first = len(self.messages)
+        self.server_did(e.at, self.server.make_file(number_of(e.args[0]), Map(*e.args[1:7]), e.args[7]))
+        self.deliver_all(first)
+
+    def do_least(self, e: Event) -> None:
+        """A drive's least format rises."""
+        self.drives[number_of(e.args[0])].raise_least(e.args[1])
+
+    def do_format(self, e: Event) -> None:
+        """The server's format rises."""
+        self.server.raise_format(e.args[1])
+
+    def do_clock(self, e: Event) -> None:
+        """A clock is set."""
+        if e.args[0] == 's':
+            self.server.clock = e.args[1]
+        else:
+            self.drives[number_of(e.args[0])].clock = e.args[1]
+
+    def do_deliver(self, e: Event) -> None:
+        """A message is delivered, as often as it is named."""
+        self.deliver(e.args[0])
+
+    def do_drop(self, e: Event) -> None:
+        """A message is left out when messages are settled."""
+        self.messages[e.args[0]].dropped = True
+
+    def do_settle(self, e: Event) -> None:
+        """Each message that was never delivered and not dropped is delivered."""
+        self.settled = self.deliver_all(self.settled)
+
+    def do_resend(self, e: Event) -> None:
+        """A party sends again what it waits for."""
+        if e.args[0] == 's':
+            self.server_did(e.at, self.server.resend())
+        else:
+            client = self.clients[number_of(e.args[0])]
+            self.posts(e.args[0], client.resend())
+
+    def do_timeout(self, e: Event) -> None:
+        """A client gives up to wait for a component."""
+        self.time_out(self.clients[number_of(e.args[0])], e.args[1])
+
+    def do_leave(self, e: Event) -> None:
+        """An idle client returns its grants."""
+        client = self.clients[number_of(e.args[0])]
+        if client.call is not None:
+            self.refused(client.number, 'busy')
+        else:
+            self.client_did(client, client.leave())
+
+    def do_recall(self, e: Event) -> None:
+        """Every grant of a file is recalled."""
+        self.server_did(e.at, self.server.recall(number_of(e.args[0])))
+
+    def start(self, e: Event, kind: str) -> None:
+        """A job of a file."""
+        self.server_did(e.at, self.server.start(number_of(e.args[0]), kind))
+
+    def do_revoke(self, e: Event) -> None:
+        """A fence and a repair."""
+        self.start(e, 'revoke')
+
+    def do_rebuild(self, e: Event) -> None:
+        """A fence, a repair, and each missing component anew."""
+        self.start(e, 'rebuild')
+
+    def do_audit(self, e: Event) -> None:
+        """A fence, a repair, and all stripes are judged."""
+        self.start(e, 'audit')
+
+    def do_declare(self, e: Event) -> None:
+        """A failed drive is taken out."""
+        self.server_did(e.at, self.server.declare(number_of(e.args[0])))
+
+    def do_stop(self, e: Event) -> None:
+        """A client is deaf from now on."""
+        number = number_of(e.args[0])
+        self.clients[number].stopped = True
+        self.moments.stopped.add(number)
+        self.begins(e.at)
+
+    def do_fail(self, e: Event) -> None:
+        """A drive has lost everything."""
+        number = number_of(e.args[0])
+        self.drives[number].fail()
+        self.moments.failed.add(number)
+        self.begins(e.at)
