@@ -1,5 +1,5 @@
 """An object drive, as docs/DRIVE.md tells it: which verdict each command gets, what it does, and what is answered."""
-from typing import Dict, List, NamedTuple, Optional, Tuple
+from typing import Dict, NamedTuple, Optional, Tuple
 
 from transcripts import commands
 from transcripts.commands import CREATE, GET_ATTR, READ, SET_ATTR, SET_TAG, WRITE, Command, Reply

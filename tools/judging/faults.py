@@ -1,8 +1,11 @@
 """Faults of a transcript, in plain sentences."""
 from typing import Optional
 
-from transcripts.lines import (Delivered, Ended, Error, Event, Judged, Last, Line, Note, Refused, Sent, TimedOut)
+from transcripts.commands import ACTIONS, Command
+from transcripts.lines import (Delivered, Ended, Event, Judged, Last, Line, Note, Refused, Sent, TimedOut)
 from transcripts.messages import fields_of
+
+from .drives import Verdict
 
 LONGEST_SHOWN = 90
 
@@ -82,3 +85,34 @@ def difference(wanted: Sent, found: Sent) -> str:
     at = next((n for n, (a, b) in enumerate(zip(wanted.data, found.data)) if a != b),
               min(len(wanted.data), len(found.data)))
     return 'the bytes differ at %d from those that the rules give, a %s' % (at, title(wanted))
+
+
+def verdict_text(drive: str, verdict: Verdict, command: Optional[Command]) -> str:
+    """Which verdict a drive had to give, and why."""
+    what = ACTIONS[command.action] if command else 'message'
+    return 'the verdict of %s on this %s is "%s", since %s' % (drive, what, verdict.text, verdict.why)
+
+
+def due_text(wanted: Line) -> str:
+    """Which line was due, where one of another kind stands."""
+    if isinstance(wanted, Sent):
+        return '%s had to send %s a %s, message %d' % (wanted.sender, wanted.receiver, title(wanted), wanted.number)
+    if isinstance(wanted, Delivered):
+        return 'message %d had to be delivered here' % wanted.number
+    if isinstance(wanted, Ended):
+        return 'the %s of %s had to end here, with "%s"' % (wanted.word, wanted.client, cut(outcome_text(wanted)))
+    if isinstance(wanted, Note):
+        return 'the server had to write the note "%s"' % text_of(wanted)
+    return 'the line "%s" was due' % cut(text_of(wanted))
+
+
+def unlike(wanted: Line, found: Line) -> str:
+    """How a line differs from the one of its kind that was due."""
+    if not isinstance(wanted, Sent) or not isinstance(found, Sent):
+        return '%s, and %s' % (due_text(wanted), quoted(found))
+    if found.number != wanted.number:
+        return 'messages are numbered in order, and this one is %d, not %d' % (wanted.number, found.number)
+    if (found.sender, found.receiver) != (wanted.sender, wanted.receiver):
+        return '%s, and the line has a message from %s to %s' % (due_text(wanted), found.sender, found.receiver)
+    return 'message %d of %s to %s isn\'t what the rules give: %s' % (
+        found.number, found.sender, found.receiver, difference(wanted, found))

@@ -1,7 +1,7 @@
 """The judge of a transcript: its lines, the log of each file, what the drives hold, and the last line."""
-from typing import Dict, List, NamedTuple, Optional
+from typing import List, NamedTuple
 
-from transcripts.lines import Error, Last, Line, NoTranscript, read_transcript
+from transcripts.lines import Error, Last, Line, read_transcript
 
 from .faults import Cut, Fault
 from .files import judged

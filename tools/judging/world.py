@@ -1,37 +1,20 @@
 """The world of a transcript (docs/WORLD.md): its lines are gone through event by event, move by move, and compared with
 what each party had to do."""
-from typing import Callable, Dict, List, Optional, Tuple
+from typing import Dict, List, Optional, Tuple
 
 from transcripts import commands, envelopes
 from transcripts.commands import READ, WRITE, Command, maybe_command
-from transcripts.lines import (LATER, Delivered, Ended, Error, Event, Judged, Last, Line, Note, Refused, Sent,
-                               TimedOut, number_of)
+from transcripts.lines import (LATER, Delivered, Error, Event, Judged, Last, Line, Note, Refused, Sent, TimedOut,
+                               number_of, read_ended)
 from transcripts.spelling import Unreadable
 from transcripts.striping import Map
 
 from . import clients, server
 from .calm import Moments
 from .drives import Drive, Verdict
-from .faults import Cut, Fault, cut, difference, outcome_text, quoted, title
+from .faults import Cut, Fault, due_text, quoted, unlike, verdict_text
 from .files import Fixed, Log, Pending
-
-
-class Message:
-    """A message that was sent, and its marks."""
-
-    def __init__(self, line: Sent) -> None:
-        self.line = line
-        self.delivered = False
-        self.dropped = False
-        self.spelled: Optional[Command] = None
-        self.is_read = False
-
-    def command(self) -> Optional[Command]:
-        """The command that its bytes spell, if any."""
-        if not self.is_read:
-            self.is_read = True
-            self.spelled = maybe_command(self.line.data)
-        return self.spelled
+from .network import Message, Network
 
 
 class World:
@@ -43,8 +26,8 @@ class World:
         self.drives: Dict[int, Drive] = {}
         self.clients: Dict[int, clients.Client] = {}
         self.server = server.Server()
-        self.messages: List[Message] = []
-        self.sent_to: Dict[Tuple[str, bytes], int] = {}
+        self.network = Network()
+        self.messages = self.network.messages
         self.settled = 0
         self.log = Log()
         self.moments = Moments(self.server, self.log)
@@ -63,20 +46,17 @@ class World:
         """The number of the next line."""
         return self.next + 1
 
-    def take(self, kind: type, wanted: str) -> Line:
-        """The next line, which has to be of this kind."""
+    def must(self, wanted: Line, why: str = '') -> Line:
+        """The next line is this one, but for its place; `why` says why in a sentence of its own."""
         line = self.peek()
         if line is None or (isinstance(line, Error) and line.reason in ('full kept', 'memory')):
             raise Cut()
-        if not isinstance(line, kind):
-            raise Fault(self.at(), '%s had to follow, and %s' % (wanted, quoted(line)))
+        if type(line) is not type(wanted):
+            raise Fault(self.at(), '%s, and %s' % (due_text(wanted), quoted(line)))
+        if line[1:] != wanted[1:]:
+            raise Fault(line.at, '%s, and %s' % (why, quoted(line)) if why else unlike(wanted, line))
         self.next += 1
         return line
-
-    def expect(self, holds: bool, line: Line, why: str) -> None:
-        """The line isn't lawful unless this holds."""
-        if not holds:
-            raise Fault(line.at, why)
 
     # ---- the whole
 
@@ -158,43 +138,18 @@ class World:
 
     def post(self, wanted: Sent) -> None:
         """The next line is that of this message."""
-        found = self.take(Sent, '%s had to send %s a %s (message %d)' % (
-            wanted.sender, wanted.receiver, title(wanted), wanted.number) if not self.is_next(wanted) else '')
-        if found[1:] != wanted[1:]:
-            self.refuse_message(wanted, found)
-        self.messages.append(Message(found))
-        self.sent_to.setdefault((found.receiver, found.data), found.number)
+        found = self.must(wanted)
+        message = self.network.add(found)
         if found.sender[0] == 'c' and found.receiver[0] == 'd':
-            command = self.messages[-1].command()
+            command = message.command()
             if command is not None and command.action in (READ, WRITE):
                 self.log.sends(found.at, found.number, number_of(found.sender), command.action == WRITE,
                                command.capability.grant)
 
-    def is_next(self, wanted: Sent) -> bool:
-        """The next line is a message's."""
-        return isinstance(self.peek(), Sent)
-
-    @staticmethod
-    def refuse_message(wanted: Sent, found: Sent) -> None:
-        """A message isn't the one that had to be sent."""
-        if found.number != wanted.number:
-            raise Fault(found.at, 'messages are numbered in order, and this one is %d' % wanted.number)
-        if (found.sender, found.receiver) != (wanted.sender, wanted.receiver):
-            raise Fault(found.at, '%s had to send %s a %s, and the line has a message from %s to %s' % (
-                wanted.sender, wanted.receiver, title(wanted), found.sender, found.receiver))
-        raise Fault(found.at, 'message %d from %s to %s isn\'t what %s had to send: %s' % (
-            found.number, found.sender, found.receiver, found.sender, difference(wanted, found)))
-
-    def pending_from(self, first: int) -> Optional[int]:
-        """The lowest message from a number on that was neither delivered nor dropped."""
-        while first < len(self.messages) and (self.messages[first].delivered or self.messages[first].dropped):
-            first += 1
-        return first if first < len(self.messages) else None
-
     def deliver_all(self, first: int) -> int:
         """Messages from a number on are delivered, the lowest first; below the result none is pending."""
         while True:
-            number = self.pending_from(first)
+            number = self.network.pending_from(first)
             if number is None:
                 return len(self.messages)
             self.deliver(number)
@@ -204,74 +159,65 @@ class World:
         """Message `number` is delivered."""
         message = self.messages[number]
         sent = message.line
-        line = self.take(Delivered, 'message %d (%s from %s to %s) had to be delivered' % (
-            number, title(sent), sent.sender, sent.receiver) if not isinstance(self.peek(), Delivered) else '')
-        self.expect(line.number == number, line, 'message %d is the next to be delivered, and not %d'
-                    % (number, line.number))
         message.delivered = True
         if sent.receiver == 's':
-            self.to_server(line, sent)
+            self.to_server(number, sent)
         elif sent.receiver[0] == 'd':
-            self.to_drive(line, message)
+            self.to_drive(number, message)
         else:
-            self.to_client(line, sent)
+            self.to_client(number, sent)
 
-    def is_deaf(self, line: Delivered, deaf: bool, who: str) -> bool:
-        """A stopped client and a failed drive are deaf, and nobody else."""
-        if deaf:
-            self.expect(line.result == 'deaf', line, '%s, so it is deaf, and the line says "%s"' % (who, line.result))
-            self.begins(line.at)
-        return deaf
+    def is_next(self, number: int) -> bool:
+        """The next line tells of the delivery of this message."""
+        line = self.peek()
+        return isinstance(line, Delivered) and line.number == number
+
+    def delivered(self, number: int, result: str, why: str) -> int:
+        """The next line tells so of a delivery."""
+        return self.must(Delivered(self.at(), number, result), why if self.is_next(number) else '').at
 
     # ---- drives
 
-    def to_drive(self, line: Delivered, message: Message) -> None:
+    def to_drive(self, number: int, message: Message) -> None:
         """A drive judges a message and replies to who sent it."""
         sent = message.line
-        number = number_of(sent.receiver)
-        drive = self.drives[number]
-        if self.is_deaf(line, drive.failed, '%s has failed' % sent.receiver):
+        drive = self.drives[number_of(sent.receiver)]
+        if drive.failed:
+            self.begins(self.delivered(number, 'deaf', '%s has failed, so it is deaf' % sent.receiver))
             return
         command = message.command()
         verdict, reply = drive.hear(command)
-        self.judges(line, sent.receiver, line.result, verdict, command)
-        if verdict.word == 'perform':
-            self.performed += 1
-            self.moments.performed(number, command, self.log.writes.get(sent.number))
-        self.begins(line.at)
+        at = self.delivered(number, verdict.text, verdict_text(sent.receiver, verdict, command))
+        self.performs(drive.number, verdict, command, sent.number)
+        self.begins(at)
         self.posts(sent.receiver, [(sent.sender, commands.reply_bytes(reply))])
 
-    def judges(self, line: Line, drive: str, said: str, verdict: Verdict, command: Optional[Command]) -> None:
-        """The line says the verdict that the drive had to give."""
-        what = commands.ACTIONS[command.action] if command else 'message'
-        self.expect(said == verdict.text, line, 'the verdict of %s on this %s is "%s", since %s; the line says "%s"' % (
-            drive, what, verdict.text, verdict.why, said))
+    def performs(self, drive: int, verdict: Verdict, command: Optional[Command], number: Optional[int]) -> None:
+        """A drive performs a command that was sent as a message, if its verdict is so."""
+        if verdict.word == 'perform':
+            self.performed += 1
+            self.moments.performed(drive, command, None if number is None else self.log.writes.get(number))
 
     def do_inject(self, e: Event) -> None:
         """A stranger hands bytes to a drive; its reply goes nowhere."""
         name, data = e.args
         drive = self.drives[number_of(name)]
         command = maybe_command(data)
-        first = self.sent_to.get((name, data))
+        first = self.network.first(name, data)
         if command is not None and first is None and drive.opens(command) and self.unguessed:
             self.unguessed = False
-            self.guess = 'at line %d' % e.at
+            self.guess = 'at line %d bytes were injected that the drive\'s key opens, and that weren\'t sent there' % e.at
         self.begins(e.at)
-        line = self.take(Judged, '%s had to judge the injected bytes' % name)
         verdict, _ = drive.hear(command)
-        self.expect(line.drive == name, line, 'the bytes were injected at %s' % name)
-        self.judges(line, name, line.verdict, verdict, command)
-        if verdict.word == 'perform':
-            self.performed += 1
-            self.moments.performed(drive.number, command, None if first is None else self.log.writes.get(first))
-        self.begins(line.at)
+        at = self.must(Judged(self.at(), name, verdict.text), verdict_text(name, verdict, command)).at
+        self.performs(drive.number, verdict, command, first)
+        self.begins(at)
 
     # ---- the server
 
-    def to_server(self, line: Delivered, sent: Sent) -> None:
+    def to_server(self, number: int, sent: Sent) -> None:
         """The server takes a message."""
-        self.expect(line.result == 'taken', line, 'the server takes what comes to it, and the line says "%s"'
-                    % line.result)
+        at = self.delivered(number, 'taken', 'the server takes what comes to it')
         did = server.NOTHING
         returned = None
         if sent.sender[0] == 'd':
@@ -287,7 +233,7 @@ class World:
         if returned is not None:
             for entry in self.log.entries:
                 entry.taken = entry.taken or entry.grant == returned.args.state.grant
-        self.server_did(line.at, did)
+        self.server_did(at, did)
 
     def server_did(self, at: int, did: server.Did) -> None:
         """What the server tells and sends in a step that begins with that line."""
@@ -303,22 +249,18 @@ class World:
 
     def note(self, file: int, text: str, did: server.Did) -> None:
         """The next line is this note."""
-        line = self.take(Note, 'the server had to note "f f%d %s"' % (file, text))
-        found = ' '.join(line.words)
-        self.expect((line.file, found) == ('f%d' % file, text), line,
-                    'the server had to note "f f%d %s", and %s' % (file, text, quoted(line)))
+        line = self.must(Note(self.at(), 'f%d' % file, tuple(text.split(' '))))
         self.moments.noted(line.at, file, line.words, did.mended)
 
     # ---- clients
 
-    def to_client(self, line: Delivered, sent: Sent) -> None:
+    def to_client(self, number: int, sent: Sent) -> None:
         """A client takes a message."""
         client = self.clients[number_of(sent.receiver)]
-        if self.is_deaf(line, client.stopped, '%s was stopped' % sent.receiver):
+        if client.stopped:
+            self.begins(self.delivered(number, 'deaf', '%s was stopped, so it is deaf' % sent.receiver))
             return
-        self.expect(line.result == 'taken', line, 'a client takes what comes to it, and the line says "%s"'
-                    % line.result)
-        self.begins(line.at)
+        self.begins(self.delivered(number, 'taken', 'a client takes what comes to it'))
         self.client_did(client, self.heard(client, sent))
 
     @staticmethod
@@ -342,12 +284,7 @@ class World:
         """The next line tells how a call ended."""
         pending = self.log.pending.get(number)
         word = 'write' if pending is None or pending.write else 'read'
-        line = self.take(Ended, 'the call of c%d had to end: "o c%d %s %s"' % (number, number, word, cut(outcome)))
-        found = outcome_text(line)
-        self.expect((line.client, line.word) == ('c%d' % number, word), line,
-                    'the %s of c%d had to end here, and %s' % (word, number, quoted(line)))
-        self.expect(found == outcome, line, 'the %s of c%d had to end with "%s", and the line says "%s"' % (
-            word, number, cut(outcome), cut(found)))
+        line = self.must(read_ended(self.at(), ['c%d' % number, word] + outcome.split(' ')))
         if outcome != 'pending':
             ok = line.kind == 'ok'
             self.log.ends(line.at, number, ok, line.args[0] if ok and word == 'read' else None)
@@ -370,9 +307,7 @@ class World:
 
     def refused(self, number: int, why: str) -> None:
         """The next line says that a call was refused."""
-        line = self.take(Refused, 'the call had to be refused: "x c%d %s"' % (number, why))
-        self.expect(line[1:] == ('c%d' % number, why), line, 'the call had to be refused with "x c%d %s", and %s' % (
-            number, why, quoted(line)))
+        self.must(Refused(self.at(), 'c%d' % number, why))
         self.log.refuse(number, why)
 
     def do_call(self, e: Event) -> None:
@@ -396,10 +331,7 @@ class World:
 
     def time_out(self, client: clients.Client, k: int) -> None:
         """A component times out at a client."""
-        line = self.take(TimedOut, 'component %d had to time out at c%d' % (k, client.number))
-        self.expect(line[1:] == ('c%d' % client.number, k), line, 'component %d had to time out at c%d, and %s' % (
-            k, client.number, quoted(line)))
-        self.begins(line.at)
+        self.begins(self.must(TimedOut(self.at(), 'c%d' % client.number, k)).at)
         self.client_did(client, client.time_out(k))
 
     # ---- the other events
