@@ -1,7 +1,7 @@
 """The judge of a transcript: its lines, the log of each file, what the drives hold, and the last line."""
 from typing import List, NamedTuple
 
-from transcripts.lines import Error, Last, Line, read_transcript
+from transcripts.lines import Error, Event, Last, Line, read_transcript
 
 from .faults import Cut, Fault
 from .files import judged
@@ -70,7 +70,7 @@ def judge_lines(lines: List[Line]) -> Found:
     judge_files(world)
     ending = judge_last(world)
     entries = world.log.entries
-    return Found(len(lines), sum(hasattr(line, 'kind') for line in lines), len(world.messages), world.performed,
+    return Found(len(lines), sum(isinstance(line, Event) for line in lines), len(world.messages), world.performed,
                  len(entries), sum(e.answer is not None for e in entries), world.moments.calm, world.unguessed,
                  ending, world.moments.why)
 

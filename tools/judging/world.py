@@ -75,7 +75,7 @@ class World:
         """An event is carried out."""
         refused = self.refusal(e)
         if refused:
-            raise Fault(e.at, 'this event is refused, and no line of it stands in a transcript: %s' % refused)
+            raise Fault(e.at, 'this event is refused, and no line of it stands in a transcript: %s' % refused[1])
         before = self.calm_so_far()
         fixed = self.log.fixed() if before and e.kind == 'inject' else None
         getattr(self, 'do_' + e.kind)(e)
@@ -97,37 +97,37 @@ class World:
 
     # ---- why an event is refused
 
-    def refusal(self, e: Event) -> Optional[str]:
-        """The first cause for which an event isn't carried out."""
+    def refusal(self, e: Event) -> Optional[Tuple[str, str]]:
+        """The first cause for which an event isn't carried out: its word, and a sentence."""
         if e.kind in LATER:
-            return 'the world doesn\'t know it yet'
-        if e.kind == 'drive':
-            return 'the drive exists' if number_of(e.args[0]) in self.drives else None
-        if e.kind == 'client':
-            return 'the client exists' if number_of(e.args[0]) in self.clients else None
+            return 'NotYet', 'the world doesn\'t know it yet'
+        if e.kind in ('drive', 'client'):
+            there = number_of(e.args[0]) in (self.drives if e.kind == 'drive' else self.clients)
+            return ('Taken', 'the %s exists' % e.kind) if there else None
         if e.kind in ('recall', 'revoke', 'rebuild', 'audit'):
-            return None if number_of(e.args[0]) in self.server.files else 'there is no such file'
+            return None if number_of(e.args[0]) in self.server.files else ('NoName', 'there is no such file')
         if e.kind in ('deliver', 'drop'):
-            return None if e.args[0] < len(self.messages) else 'no message of that number was sent'
+            return None if e.args[0] < len(self.messages) else ('NoMessage', 'no message of that number was sent')
         if e.kind == 'declare':
             return self.declare_refusal(number_of(e.args[0]))
         return self.party_refusal(e.args[0]) if e.args and e.kind not in ('file', 'format') else None
 
-    def declare_refusal(self, drive: int) -> Optional[str]:
+    def declare_refusal(self, drive: int) -> Optional[Tuple[str, str]]:
         """A drive that is declared has failed."""
         if drive not in self.drives:
-            return 'there is no such drive'
-        return None if self.drives[drive].failed else 'the drive hasn\'t failed'
+            return 'NoName', 'there is no such drive'
+        return None if self.drives[drive].failed else ('Alive', 'the drive hasn\'t failed')
 
-    def party_refusal(self, party: str) -> Optional[str]:
+    def party_refusal(self, party: str) -> Optional[Tuple[str, str]]:
         """A party that an event names exists, and wasn't stopped and didn't fail."""
-        if party[0] == 'd':
-            drive = self.drives.get(number_of(party))
-            return 'there is no such drive' if drive is None else 'the drive failed' if drive.failed else None
-        if party[0] == 'c':
-            client = self.clients.get(number_of(party))
-            return 'there is no such client' if client is None else 'the client was stopped' if client.stopped else None
-        return None
+        if party == 's':
+            return None
+        number, is_drive = number_of(party), party[0] == 'd'
+        if number not in (self.drives if is_drive else self.clients):
+            return 'NoName', 'there is no such %s' % ('drive' if is_drive else 'client')
+        if is_drive:
+            return ('Dead', 'the drive failed') if self.drives[number].failed else None
+        return ('Dead', 'the client was stopped') if self.clients[number].stopped else None
 
     # ---- messages
 

@@ -1,0 +1,1 @@
+"""Storms: random scenarios, made by a guide that knows what each event leads to."""

@@ -1,0 +1,295 @@
+"""Random scenarios. Each seed gives one, the same on every machine."""
+from random import Random
+from typing import Callable, Dict, List, NamedTuple, Set, Tuple
+
+from transcripts import commands
+from transcripts.spelling import in_hex
+
+from .guide import Guide
+
+MOST_MESSAGES, MOST_EVENTS = 420, 70
+
+
+class Shape(NamedTuple):
+    """A file's map: components, unit, width, depth, mirrors, algorithm."""
+    components: int
+    unit: int
+    width: int
+    depth: int
+    mirrors: int
+    algorithm: int
+
+
+# how often each kind of event comes, by the kind of weather
+WEATHERS: Dict[str, Dict[str, int]] = {
+    'prompt': {'do': 30, 'fail': 3, 'stop': 1, 'job': 6, 'declare': 6, 'recall': 2, 'leave': 2, 'settle': 2, 'clock': 1,
+               'client': 1, 'file': 1},
+    'late': {'do': 5, 'call': 16, 'deliver': 60, 'drop': 5, 'repeat': 8, 'settle': 2, 'timeout': 5, 'resend': 5,
+             'stop': 2, 'job': 3, 'recall': 3, 'leave': 1, 'fail': 1, 'declare': 2, 'clock': 1},
+    'torn': {'do': 10, 'call': 20, 'deliver': 45, 'stop': 4, 'job': 8, 'fail': 3, 'declare': 4, 'repeat': 5, 'settle': 3,
+             'client': 3, 'timeout': 2, 'resend': 2},
+    'stranger': {'do': 20, 'call': 8, 'deliver': 20, 'inject': 20, 'repeat': 6, 'job': 3, 'settle': 3, 'stop': 1,
+                 'fail': 1, 'declare': 1, 'format': 1, 'least': 1, 'clock': 1},
+    'formats': {'do': 20, 'call': 5, 'deliver': 12, 'job': 6, 'format': 4, 'least': 5, 'settle': 3, 'fail': 1,
+                'declare': 2, 'inject': 3, 'resend': 2, 'clock': 3},
+}
+
+
+class Weather:
+    """One storm: a guide, a seed's random numbers, and what kind of weather it is."""
+
+    def __init__(self, seed: int) -> None:
+        self.random = Random('storm %d' % seed)
+        self.guide = Guide()
+        self.kind = self.random.choice(sorted(WEATHERS))
+        self.files: Dict[int, Shape] = {}
+        self.far: Set[int] = set()
+
+    def pick(self, numbers: List[int]) -> int:
+        """One of some numbers."""
+        return self.random.choice(numbers)
+
+    def some_bytes(self, length: int) -> bytes:
+        """Random bytes."""
+        return bytes(self.random.randrange(256) for _ in range(length))
+
+    # ---- the parties
+
+    def parties(self) -> None:
+        """Drives, clients and files."""
+        r = self.random
+        key = self.some_bytes(20)
+        for n in range(r.randint(3, 8)):
+            capacity = r.randint(8, 90) if r.random() < 0.06 else 20000000
+            self.guide.goes('drive d%d %s %d' % (n, (key if r.random() < 0.5 else self.some_bytes(20)).hex(), capacity))
+        if r.random() < 0.15:
+            self.guide.goes('format s 2')
+        for n in range(r.randint(2, 4)):
+            self.guide.goes('client c%d' % n)
+        for _ in range(r.randint(1, 2)):
+            self.file()
+
+    def shape(self) -> Shape:
+        """A map that the drives suffice for."""
+        r = self.random
+        drives = len(self.guide.standing())
+        unit = r.choice([1, 2, 3, 4, 5, 8, 8, 16])
+        while True:
+            algorithm, mirrors = r.randint(1, 4), r.choice([0, 0, 0, 0, 1, 1, 2])
+            positions = r.randint(1, 6)
+            width = r.choice([0, 0, 0, 1, 2, 3])
+            depth = r.randint(1, 3) if width else 0
+            shape = Shape(positions * (mirrors + 1), unit, width, depth, mirrors, algorithm)
+            group = width or positions
+            fine = positions % group == 0 and group > {1: 0, 2: 1, 3: 1, 4: 2}[algorithm]
+            if (fine and shape.components <= drives) or drives < 3:
+                return shape
+
+    def file(self) -> None:
+        """A file, now and then one that is refused."""
+        number = self.random.randrange(4)
+        shape = self.shape()
+        tag = 4294967294 if self.random.random() < 0.03 else self.random.randint(1, 9)
+        fresh = number not in self.files
+        self.guide.goes('file f%d %d %d %d %d %d %d %d' % ((number,) + shape + (tag,)))
+        if fresh and number in self.guide.server.files:
+            self.files[number] = shape
+
+    # ---- calls
+
+    def call_text(self, word: str) -> str:
+        """A call of a client that lives."""
+        r = self.random
+        client, file = self.pick(self.guide.living()), r.choice(sorted(self.files) + [63] * (r.random() < 0.02))
+        shape = self.files.get(file, Shape(1, 4, 0, 0, 0, 1))
+        reach = shape.unit * max(shape.components, 2) * 3
+        offset = r.randrange(reach)
+        if r.random() < 0.02:
+            offset = r.choice([262143, 16777210])
+            self.far.add(file)
+        length = r.choice([0, 1, shape.unit, r.randrange(1, shape.unit * 3 + 2), r.randrange(1, reach + 1)])
+        if r.random() < 0.55:
+            return '%s c%d write f%d %d %s' % (word, client, file, offset, in_hex(self.some_bytes(length)))
+        return '%s c%d read f%d %d %d' % (word, client, file, offset, length if length else reach)
+
+    def do(self) -> None:
+        """A call with prompt delivery."""
+        self.guide.goes(self.call_text('do'))
+
+    def call(self) -> None:
+        """A call whose messages wait."""
+        self.guide.goes(self.call_text('call'))
+
+    # ---- the network
+
+    def deliver(self) -> None:
+        """A message that waits, most often one of the first."""
+        waiting = self.guide.waiting()
+        if waiting:
+            few = waiting[:self.random.choice([1, 1, 2, 4, len(waiting)])]
+            self.guide.goes('deliver %d' % self.pick(few))
+
+    def repeat(self) -> None:
+        """Any message, most often one that was delivered before."""
+        if self.guide.messages:
+            self.guide.goes('deliver %d' % self.random.randrange(len(self.guide.messages)))
+
+    def drop(self) -> None:
+        """A message that waits is lost."""
+        waiting = self.guide.waiting()
+        if waiting:
+            self.guide.goes('drop %d' % self.pick(waiting))
+
+    def settle(self) -> None:
+        """All that waits is delivered."""
+        self.guide.goes('settle')
+
+    def resend(self) -> None:
+        """A client or the server sends again."""
+        who = self.random.choice(['s'] + ['c%d' % n for n in self.guide.living()])
+        self.guide.goes('resend %s' % who)
+
+    def timeout(self) -> None:
+        """A client gives up to wait for a component."""
+        calling = [n for n in self.guide.living() if self.guide.clients[n].awaits_drive() is not None]
+        if calling and self.random.random() < 0.9:
+            client = self.pick(calling)
+            self.guide.goes('timeout c%d %d' % (client, self.guide.clients[client].awaits_drive()))
+        else:
+            self.guide.goes('timeout c%d %d' % (self.pick(self.guide.living()), self.random.randrange(4)))
+
+    def inject(self) -> None:
+        """A stranger's bytes: a copy of a message, an altered one, or any."""
+        r, guide = self.random, self.guide
+        sent = guide.to_drives()
+        if not sent or not guide.standing():
+            return
+        message = guide.messages[self.pick(sent[-40:])].line
+        drive = message.receiver if r.random() < 0.85 else 'd%d' % self.pick(guide.standing())
+        data = message.data
+        chance = r.random()
+        if chance < 0.25:
+            at = r.randrange(len(data))
+            data = data[:at] + bytes([data[at] ^ (1 << r.randrange(8))]) + data[at + 1:]
+        elif chance < 0.32:
+            data = self.some_bytes(r.randrange(300))
+        elif chance < 0.35:
+            data = self.forged_copy(message.receiver, data)
+        guide.goes('inject %s %s' % (drive, in_hex(data)))
+
+    def forged_copy(self, drive: str, data: bytes) -> bytes:
+        """A command that was never sent, under the drive's own key."""
+        c = commands.maybe_command(data)
+        key = self.guide.drives[int(drive[1:])].keys[1]
+        if c is None or c.action not in (commands.READ, commands.WRITE):
+            return data
+        own = commands.capability_key(key, c.capability_bytes)
+        payload = self.some_bytes(len(c.payload))
+        return commands.write_command(c.action, c.partition, (c.object, c.offset), c.length,
+                                      c.nonce + self.random.randint(0, 3), 0, c.capability_bytes, own, payload)
+
+    # ---- orders and failures
+
+    def order_for(self, file: int) -> str:
+        """Revoke, rebuild or audit; the last two go through all stripes, so not of a file that was written far out."""
+        kind = self.random.choice(['revoke', 'revoke', 'rebuild', 'audit'])
+        return '%s f%d' % ('revoke' if file in self.far else kind, file)
+
+    def job(self) -> None:
+        """A job of a file."""
+        self.guide.goes(self.order_for(self.pick(sorted(self.files))))
+
+    def recall(self) -> None:
+        """A recall of every grant of a file."""
+        self.guide.goes('recall f%d' % self.pick(sorted(self.files)))
+
+    def leave(self) -> None:
+        """A client returns its grants."""
+        self.guide.goes('leave c%d' % self.pick(self.guide.living()))
+
+    def stop(self) -> None:
+        """A client is stopped, if others live."""
+        living = self.guide.living()
+        if len(living) > 1:
+            self.guide.goes('stop c%d' % self.pick(living))
+
+    def fail(self) -> None:
+        """A drive fails, seldom a third one."""
+        standing = self.guide.standing()
+        failed = len(self.guide.drives) - len(standing)
+        if len(standing) > 2 and (failed < 2 or self.random.random() < 0.2):
+            self.guide.goes('fail d%d' % self.pick(standing))
+
+    def declare(self) -> None:
+        """A failed drive is taken out."""
+        fallen = self.guide.fallen()
+        if fallen:
+            self.guide.goes('declare d%d' % self.pick(fallen))
+
+    def client(self) -> None:
+        """A further client."""
+        number = len(self.guide.clients)
+        if number < 7:
+            self.guide.goes('client c%d' % number)
+
+    def format(self) -> None:
+        """The server's format rises."""
+        self.guide.goes('format s %d' % self.random.randint(1, 2))
+
+    def least(self) -> None:
+        """A drive's least format rises."""
+        if self.guide.standing():
+            self.guide.goes('least d%d %d' % (self.pick(self.guide.standing()), self.random.choice([1, 2, 2])))
+
+    def clock(self) -> None:
+        """A clock is set."""
+        r = self.random
+        time = self.guide.server.clock + r.choice([1, 40, 91, 200])
+        if r.random() < 0.6 or not self.guide.standing():
+            self.guide.goes('clock s %d' % time)
+        else:
+            self.guide.goes('clock d%d %d' % (self.pick(self.guide.standing()), time))
+
+    # ---- the whole
+
+    def ending(self) -> None:
+        """All is delivered, failed drives are declared, and a living client reads each file."""
+        guide = self.guide
+        if self.random.random() < 0.8:
+            guide.goes('settle')
+        for drive in guide.fallen():
+            if self.random.random() < 0.6:
+                guide.goes('declare d%d' % drive)
+        guide.goes('client c15')
+        for file, shape in sorted(self.files.items()):
+            if self.random.random() < 0.7:
+                guide.goes(self.order_for(file))
+                guide.goes('settle')
+            guide.goes('do c15 read f%d 0 %d' % (file, shape.unit * shape.components * 8))
+
+    def blow(self) -> List[str]:
+        """The events of the storm."""
+        self.parties()
+        weights = WEATHERS[self.kind]
+        kinds, chances = list(weights), list(weights.values())
+        events = self.random.randint(12, MOST_EVENTS)
+        while self.files and len(self.guide.scenario) < events and len(self.guide.messages) < MOST_MESSAGES:
+            before = len(self.guide.scenario)
+            act: Callable[[], None] = getattr(self, self.random.choices(kinds, chances)[0])
+            act()
+            events -= len(self.guide.scenario) == before
+        self.ending()
+        return self.guide.scenario
+
+    def refused_event(self) -> Tuple[str, str]:
+        """An event that the world refuses, and the word for why."""
+        guide, r = self.guide, self.random
+        choices = ['client c15', 'deliver %d' % len(guide.messages), 'crash s', 'drive d0 %s 1' % ('0b' * 20),
+                   'revoke f62', 'do c14 read f0 0 1', 'stop c14', 'fail d63', 'declare d62', 'clock d61 1', 'zone d0 1']
+        choices += ['declare d%d' % n for n in guide.standing()[:1]]
+        choices += ['leave c%d' % n for n, client in guide.clients.items() if client.stopped]
+        choices += ['fail d%d' % n for n, drive in guide.drives.items() if drive.failed]
+        text = r.choice(choices)
+        refused = guide.goes(text)
+        assert refused is not None
+        return text, refused[0]
