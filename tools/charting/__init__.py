@@ -1,0 +1,1 @@
+"""Charts of runs: `runs` reads what is drawn off a transcript, `drawing` draws it as SVG."""
