@@ -1,8 +1,9 @@
 """A guide: the world of the judge, which carries out events instead of comparing lines."""
 from typing import List, Optional, Tuple
 
+from judging.faults import text_of
 from judging.world import World
-from transcripts.lines import Line, read_event
+from transcripts.lines import Last, Line, read_event
 
 
 class Guide(World):
@@ -11,6 +12,7 @@ class Guide(World):
     def __init__(self) -> None:
         super().__init__([])
         self.scenario: List[str] = []
+        self.done: List[Line] = []
 
     def peek(self) -> Optional[Line]:
         """There is no line to compare with."""
@@ -19,6 +21,7 @@ class Guide(World):
     def must(self, wanted: Line, why: str = '') -> Line:
         """What was due happens."""
         self.next += 1
+        self.done.append(wanted)
         return wanted
 
     def goes(self, text: str) -> Optional[Tuple[str, str]]:
@@ -27,9 +30,15 @@ class Guide(World):
         refused = self.refusal(event)
         if refused is None:
             self.scenario.append(text)
+            self.done.append(event)
             self.next += 1
             self.event(event)
         return refused
+
+    def transcript(self) -> bytes:
+        """The transcript of all that happened, with its last line."""
+        lines = self.done + [Last(self.at(), self.moments.calm, self.unguessed)]
+        return ''.join(text_of(line) + '\n' for line in lines).encode()
 
     # ---- what there is to choose from
 

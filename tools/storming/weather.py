@@ -100,7 +100,10 @@ class Weather:
     def call_text(self, word: str) -> str:
         """A call of a client that lives."""
         r = self.random
-        client, file = self.pick(self.guide.living()), r.choice(sorted(self.files) + [63] * (r.random() < 0.02))
+        living = self.guide.living()
+        idle = [n for n in living if self.guide.clients[n].call is None]
+        client = self.pick(idle if idle and r.random() < 0.9 else living)
+        file = r.choice(sorted(self.files) + [63] * (r.random() < 0.02))
         shape = self.files.get(file, Shape(1, 4, 0, 0, 0, 1))
         reach = shape.unit * max(shape.components, 2) * 3
         offset = r.randrange(reach)
