@@ -113,8 +113,9 @@ class Page:
         if b.style == 'dead':
             self.front.append(self.chip(x + BESIDE, self.y(b.first), b.words, BAD, 'start', 'bold'))
         elif bottom - top > len(b.words) * LETTER + 8:
+            ink = '#ffffff' if b.style in ('repair', 'rebuild', 'audit') else INK
             self.front.append('<text transform="translate(%.1f %.1f) rotate(-90)" fill="%s" font-size="8.5" '
-                              'text-anchor="middle">%s</text>' % (x + 3, (top + bottom) / 2, '#ffffff' if b.style in ('repair', 'rebuild', 'audit') else INK, escape(b.words)))
+                              'text-anchor="middle">%s</text>' % (x + 3, (top + bottom) / 2, ink, escape(b.words)))
 
     def say(self, w: Words) -> None:
         """Words at a party."""

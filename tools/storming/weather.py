@@ -8,6 +8,8 @@ from transcripts.spelling import in_hex
 from .guide import Guide
 
 MOST_MESSAGES, MOST_EVENTS = 420, 70
+# how often a failed drive is declared behind an event
+DECLARED = 0.2
 
 
 class Shape(NamedTuple):
@@ -24,9 +26,9 @@ class Shape(NamedTuple):
 WEATHERS: Dict[str, Dict[str, int]] = {
     'prompt': {'do': 30, 'fail': 3, 'stop': 1, 'job': 6, 'declare': 6, 'recall': 2, 'leave': 2, 'settle': 2, 'clock': 1,
                'client': 1, 'file': 1},
-    'late': {'do': 5, 'call': 16, 'deliver': 60, 'drop': 5, 'repeat': 8, 'settle': 2, 'timeout': 5, 'resend': 5,
+    'late': {'do': 5, 'call': 16, 'deliver': 60, 'drop': 5, 'repeat': 12, 'settle': 3, 'timeout': 6, 'resend': 8,
              'stop': 2, 'job': 3, 'recall': 3, 'leave': 1, 'fail': 1, 'declare': 2, 'clock': 1},
-    'torn': {'do': 10, 'call': 20, 'deliver': 45, 'stop': 4, 'job': 8, 'fail': 3, 'declare': 4, 'repeat': 5, 'settle': 3,
+    'torn': {'do': 10, 'call': 24, 'deliver': 50, 'stop': 6, 'job': 6, 'fail': 5, 'declare': 3, 'repeat': 5, 'settle': 3,
              'client': 3, 'timeout': 2, 'resend': 2},
     'stranger': {'do': 20, 'call': 8, 'deliver': 20, 'inject': 20, 'repeat': 6, 'job': 3, 'settle': 3, 'stop': 1,
                  'fail': 1, 'declare': 1, 'format': 1, 'least': 1, 'clock': 1},
@@ -59,7 +61,7 @@ class Weather:
         """Drives, clients and files."""
         r = self.random
         key = self.some_bytes(20)
-        for n in range(r.randint(3, 8)):
+        for n in range(r.randint(4, 9)):
             capacity = r.randint(8, 90) if r.random() < 0.06 else 20000000
             self.guide.goes('drive d%d %s %d' % (n, (key if r.random() < 0.5 else self.some_bytes(20)).hex(), capacity))
         if r.random() < 0.15:
@@ -76,7 +78,7 @@ class Weather:
         unit = r.choice([1, 2, 3, 4, 5, 8, 8, 16])
         while True:
             algorithm, mirrors = r.randint(1, 4), r.choice([0, 0, 0, 0, 1, 1, 2])
-            positions = r.randint(1, 6)
+            positions = r.randint(1, 5)
             width = r.choice([0, 0, 0, 1, 2, 3])
             depth = r.randint(1, 3) if width else 0
             shape = Shape(positions * (mirrors + 1), unit, width, depth, mirrors, algorithm)
@@ -201,6 +203,8 @@ class Weather:
     def job(self) -> None:
         """A job of a file."""
         self.guide.goes(self.order_for(self.pick(sorted(self.files))))
+        if self.kind not in ('late', 'torn') and self.random.random() < 0.8:
+            self.guide.goes('settle')
 
     def recall(self) -> None:
         """A recall of every grant of a file."""
@@ -261,7 +265,7 @@ class Weather:
         if self.random.random() < 0.8:
             guide.goes('settle')
         for drive in guide.fallen():
-            if self.random.random() < 0.6:
+            if self.random.random() < 0.8:
                 guide.goes('declare d%d' % drive)
         guide.goes('client c15')
         for file, shape in sorted(self.files.items()):
@@ -280,6 +284,8 @@ class Weather:
             before = len(self.guide.scenario)
             act: Callable[[], None] = getattr(self, self.random.choices(kinds, chances)[0])
             act()
+            if self.guide.fallen() and self.random.random() < DECLARED:
+                self.declare()
             events -= len(self.guide.scenario) == before
         self.ending()
         return self.guide.scenario
