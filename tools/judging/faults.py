@@ -71,8 +71,8 @@ def quoted(line: Optional[Line]) -> str:
 
 def title(message: Sent) -> str:
     """What a message is, in some words."""
-    fields = fields_of(message)
-    return ' '.join(fields[0]) if fields[0][0] != 'unreadable' else 'bytes that can\'t be read'
+    kind, what = fields_of(message)[0]
+    return 'message that can\'t be read' if kind == 'unreadable' else '%s %s' % (what, kind)
 
 
 def difference(wanted: Sent, found: Sent) -> str:
