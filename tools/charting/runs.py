@@ -114,7 +114,7 @@ class Reader:
         elif e.kind in ('stop', 'fail'):
             words = 'stopped: deaf from now on' if e.kind == 'stop' else 'failed: all is lost'
             self.chart.bars.append(Bar(e.args[0], row, None, 'dead', words))
-        elif e.kind == 'drop':
+        elif e.kind == 'drop' and e.args[0] in self.posted:
             self.posted[e.args[0]].dropped = True
 
     def sent(self, m: Sent) -> None:
@@ -143,10 +143,13 @@ class Reader:
     def delivered(self, d: Delivered) -> None:
         """A message comes to its receiver."""
         row = self.step(True)
-        posted = self.posted[d.number]
+        posted = self.posted.get(d.number)
+        if posted is None:
+            return
         posted.deliveries.append((row, d.result))
         e = envelopes.maybe_envelope(posted.line.data) if posted.line.sender == 's' else None
-        if isinstance(e, envelopes.Answer) and isinstance(e.result, envelopes.Granted) and d.result == 'taken':
+        is_grant = isinstance(e, envelopes.Answer) and isinstance(e.result, envelopes.Granted) and d.result == 'taken'
+        if is_grant and e.result.layouts:
             segment = e.result.layouts[0]
             key = (posted.line.receiver, 'f%d' % e.file)
             if len(posted.deliveries) == 1 and key not in self.grants:
@@ -230,6 +233,13 @@ class Reader:
             arrows.append(Arrow(m.number, m.sender, m.receiver, posted.row, row, style, words, verdict))
         return arrows
 
+    def place_strangers(self) -> None:
+        """Who was never made, in a transcript that isn't sound, has a column too."""
+        named = {p for a in self.chart.arrows for p in (a.sender, a.receiver)}
+        named |= {w.party for w in self.chart.words} | {b.party for b in self.chart.bars}
+        for party in named - {''}:
+            self.chart.parties.setdefault(party, 0)
+
     def finish(self) -> Chart:
         """The chart of all lines."""
         for posted in self.posted.values():
@@ -240,6 +250,7 @@ class Reader:
             if kind in ('fence', 'repair'):
                 self.end((kind, file))
         self.chart.rows = self.row + 1
+        self.place_strangers()
         return self.chart
 
 
