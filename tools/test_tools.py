@@ -359,6 +359,12 @@ class Charting(unittest.TestCase):
             delivered = sum(line.startswith(b'd ') for line in golden(name).split(b'\n'))
             self.assertEqual(sum(a.delivered is not None for a in chart.arrows), delivered)
 
+    def test_pictures_of_the_documents(self) -> None:
+        """They are those of the scenarios."""
+        for name in ('stopped_writer', 'lost_drive'):
+            picture = Page(chart_of(read_transcript(golden(name)))).picture()
+            self.assertEqual(read_file(os.path.join(TOP, 'docs', 'pictures', name + '.svg')).decode(), picture)
+
     def test_the_refused_write_is_told(self) -> None:
         """The late WRITE of the stopped writer, and the fence that ended its grant."""
         chart = chart_of(read_transcript(golden('stopped_writer')))
