@@ -144,6 +144,17 @@ class Altered(unittest.TestCase):
             if line not in (b'= settle', b'= revoke f0'):
                 self.refuses(b'\n'.join(lines[:n] + [line] + lines[n:]), n + 1)
 
+    def test_lines_of_storms_left_out(self) -> None:
+        """A line that isn't an event, out of storms of every kind."""
+        random = Random('storms')
+        for seed in range(20, 28):
+            weather = Weather(seed)
+            weather.blow()
+            lines = weather.guide.transcript().split(b'\n')
+            told = [n for n, line in enumerate(lines[:-2]) if not line.startswith(b'= ')]
+            for n in random.sample(told, 8):
+                self.refuses(b'\n'.join(lines[:n] + lines[n + 1:]), (seed, n + 1))
+
     def test_a_byte_of_each_message(self) -> None:
         """A message in which one byte is another."""
         random = Random('bytes')
