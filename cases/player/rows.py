@@ -71,6 +71,16 @@ class Run:
         name, count, seed = words
         self._write(name, random.Random(int(seed)).getrandbits(8 * int(count)).to_bytes(int(count), "big"))
 
+    def _filled(self, words: List[str], row: Row) -> None:
+        (name,) = words
+        content = b""
+        for line in row.below:
+            count, length, character = line.split()[:3]
+            content += (character.encode() * int(length) + b"\n") * int(count)
+            if line.split()[3:] == ["open"]:
+                content = content[:-1]
+        self._write(name, content)
+
     def _same(self, words: List[str], _: Row) -> None:
         first, second = (self._read(name) for name in words)
         if first != second:
@@ -189,13 +199,14 @@ class Run:
             (self._run if word == "run" else self._start)(head.split()[1:], row, text)
         else:
             self._plain(word)(self._values.put_in(row.head).split()[1:], row)
-        within = None if word in ("cluster", "text") else Marks(row.below).within
+        within = None if word in ("cluster", "text", "filled") else Marks(row.below).within
         if within is not None and time.monotonic() - begun > within:
             raise Fault("it takes %.1f seconds, and may take %g" % (time.monotonic() - begun, within))
 
     def _plain(self, word: str) -> Callable[[List[str], Row], None]:
         rows: Dict[str, Callable[[List[str], Row], None]] = {
-            "cluster": self._cluster, "text": self._text, "bytes": self._bytes, "same": self._same, "has": self._has, "digest": self._digest,
+            "cluster": self._cluster, "text": self._text, "bytes": self._bytes, "filled": self._filled,
+            "same": self._same, "has": self._has, "digest": self._digest,
             "says": self._says, "end": self._end, "sleep": self._sleep, "limit": self._set_limit, "let": self._let,
             "proxy": self._proxy, "ask": self._ask, "connect": self._connect, "close": self._close,
             "stop": self._signal(signal.SIGSTOP), "continue": self._signal(signal.SIGCONT),
