@@ -166,8 +166,8 @@ class Run:
     def _ask(self, words: List[str], row: Row) -> None:
         port, sent = words
         got = network.ask(self._values.port(port), bytes.fromhex(sent.replace("-", "")), self._limit)
-        wanted = [self._values.put_in(text) for _, text in Marks(row.below).output]
-        compare(wanted or ["-"], [got.hex() or "-"], "of the answer, line")
+        wanted = "".join(self._values.put_in(text) for _, text in Marks(row.below).output)
+        compare([wanted.replace("-", "")], [got.hex()], "of the answer, line")
 
     def _connect(self, words: List[str], _: Row) -> None:
         name, port, sent = words

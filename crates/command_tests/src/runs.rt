@@ -2,6 +2,7 @@
 ghost use Rattle.std.specs.Result.{ForOk};
 ghost use Rattle.stripe_repair.specs.Placing.{CanPlace, IsPlacer, Places};
 
+use crate::placing::highest_first;
 use osd_bytes::{
     ByteLists, Bytes, Clock, Links, MemClock, MemLinks, MemSink, MemSource, Memory, Numbers, Sink,
     Source, Times,
@@ -110,8 +111,8 @@ fn strings(alloc: Global, words: &[&str]) -> Vec<String> {
     strings
 }
 
-/// Adds a word, if memory is left for it.
-pub fn add_string(alloc: Global, strings: &mut Vec<String>, word: &str) {
+// Adds a word, if memory is left for it.
+fn add_string(alloc: Global, strings: &mut Vec<String>, word: &str) {
     match String::from_str(alloc, word) {
         Ok(string) => {
             let _ = strings.push(string);
@@ -137,8 +138,8 @@ where
     run(alloc, words, source, sink, links, clock, placer)
 }
 
-/// The exit status of the program for these words. Components are placed as the program places them.
-pub fn exit_code<S: Source, K: Sink, L: Links, C: Clock>(
+// The exit status of the program for these words. Components are placed as the program places them.
+fn exit_code<S: Source, K: Sink, L: Links, C: Clock>(
     alloc: Global,
     words: &[String],
     source: &mut S,
@@ -155,7 +156,25 @@ pub fn exit_code<S: Source, K: Sink, L: Links, C: Clock>(
     status_of(alloc, words, source, sink, links, clock, &placer).exit_code()
 }
 
-// The same with a clock that stands still.
+/// The exit status of a replay, with components on the online drives of the highest numbers.
+pub fn exit_code_by_number<S: Source, K: Sink, L: Links, C: Clock>(
+    alloc: Global,
+    source: &mut S,
+    sink: &mut K,
+    links: &mut L,
+    clock: &mut C,
+) -> u8 {
+    let placer = Placer::new(
+        |count: u32, loads: &[DriveLoad]| -> Result<Numbers, Memory>
+            requires { CanPlace count loads.now }
+            ensures { ForOk result (Places count loads.now) }
+        { highest_first(alloc, count, loads) },
+    );
+    let words = strings(alloc, &["replay"]);
+    status_of(alloc, words.as_slice(), source, sink, links, clock, &placer).exit_code()
+}
+
+// The exit status of the program with a clock that stands still.
 fn exit_code_over<S: Source, K: Sink, L: Links>(
     alloc: Global,
     words: &[String],
