@@ -1,14 +1,14 @@
 // Another rule by which components are placed: the online drives with the highest numbers.
 ghost use Rattle.std.specs.Prelude.{◌≡◌, IfOk, map};
 ghost use Rattle.std.specs.Result.{ForOk};
-ghost use Rattle.stripe_repair.specs.Placing.{CanPlace, Places};
+ghost use Rattle.stripe_repair.specs.Placing.{CanPlace, IsPlacer, Places};
 ghost use Rattle.command_tests.specs.Ranked.{ranked};
 
-use crate::runs::{copied, exit_code_by_number, lists, numbers};
-use osd_bytes::{MemClock, MemLinks, MemSink, MemSource, Memory, Numbers, Times};
-use osd_replay::fewest_first;
+use crate::runs::{copied, strings};
+use osd_bytes::{MemSink, MemSource, Memory, Numbers, Sink, Source};
+use osd_replay::{Status, fewest_first, run};
 use std::alloc::Global;
-use stripe_repair::DriveLoad;
+use stripe_repair::{DriveLoad, Placer};
 
 // The loads as if drives with higher numbers had fewer objects.
 fn ranked_loads(alloc: Global, loads: &[DriveLoad]) -> Result<Vec<DriveLoad>, Memory>
@@ -25,8 +25,8 @@ fn ranked_loads(alloc: Global, loads: &[DriveLoad]) -> Result<Vec<DriveLoad>, Me
     )
 }
 
-/// So many online drives, those with the highest numbers.
-pub fn highest_first(alloc: Global, count: u32, loads: &[DriveLoad]) -> Result<Numbers, Memory>
+// So many online drives, those with the highest numbers.
+fn highest_first(alloc: Global, count: u32, loads: &[DriveLoad]) -> Result<Numbers, Memory>
     requires { CanPlace count loads.now }
     ensures { ForOk result (Places count loads.now) }
 {
@@ -113,13 +113,52 @@ fn shows(transcript: &[u8], shown: &[u8]) -> bool {
     next.is_none()
 }
 
+// How a replay of these words ends.
+fn status_of<S: Source, K: Sink, F>(
+    alloc: Global,
+    words: &[String],
+    source: &mut S,
+    sink: &mut K,
+    placer: &Placer<F>,
+) -> Status
+where
+    F: Fn(u32, &[DriveLoad]) -> Result<Numbers, Memory>,
+    requires { IsPlacer F.Fn placer.now }
+{
+    run(alloc, words, source, sink, placer)
+}
+
+// The same of words that aren't owned.
+fn status_of_words<F>(
+    alloc: Global,
+    words: &[&str],
+    source: &mut MemSource,
+    sink: &mut MemSink,
+    placer: &Placer<F>,
+) -> Status
+where
+    F: Fn(u32, &[DriveLoad]) -> Result<Numbers, Memory>,
+    requires { IsPlacer F.Fn placer.now }
+{
+    let words = strings(alloc, words);
+    status_of(alloc, words.as_slice(), source, sink, placer)
+}
+
+// Components stand on the online drives of the highest numbers.
+fn status_by_number(alloc: Global, source: &mut MemSource, sink: &mut MemSink) -> Status {
+    let placer = Placer::new(
+        |count: u32, loads: &[DriveLoad]| -> Result<Numbers, Memory>
+            requires { CanPlace count loads.now }
+            ensures { ForOk result (Places count loads.now) }
+        { highest_first(alloc, count, loads) },
+    );
+    status_of_words(alloc, &["replay"], source, sink, &placer)
+}
+
 fn is_rebuilt(alloc: Global) -> bool {
-    let none = numbers(alloc, &[]);
-    let mut source = MemSource::new(copied(alloc, REBUILT.as_bytes()), numbers(alloc, &[]));
-    let mut sink = MemSink::new(alloc, numbers(alloc, &[]));
-    let mut links = MemLinks::new(alloc, lists(alloc, &[]), lists(alloc, &[]), none);
-    let mut clock = MemClock::new(Times::new(alloc));
-    exit_code_by_number(alloc, &mut source, &mut sink, &mut links, &mut clock) == 0
+    let mut source = MemSource::new(copied(alloc, REBUILT.as_bytes()), Numbers::new(alloc));
+    let mut sink = MemSink::new(alloc, Numbers::new(alloc));
+    status_by_number(alloc, &mut source, &mut sink) == Status::Done
         && shows(sink.bytes(), SHOWN.as_bytes())
 }
 

@@ -2,7 +2,6 @@
 ghost use Rattle.std.specs.Result.{ForOk};
 ghost use Rattle.stripe_repair.specs.Placing.{CanPlace, IsPlacer, Places};
 
-use crate::placing::highest_first;
 use osd_bytes::{
     ByteLists, Bytes, Clock, Links, MemClock, MemLinks, MemSink, MemSource, Memory, Numbers, Sink,
     Source, Times,
@@ -102,8 +101,8 @@ pub fn lists(alloc: Global, members: &[&[u8]]) -> ByteLists {
     lists
 }
 
-// The words that memory is left for.
-fn strings(alloc: Global, words: &[&str]) -> Vec<String> {
+/// The words that memory is left for.
+pub fn strings(alloc: Global, words: &[&str]) -> Vec<String> {
     let mut strings = Vec::new(alloc);
     for word in words {
         add_string(alloc, &mut strings, word);
@@ -156,25 +155,7 @@ fn exit_code<S: Source, K: Sink, L: Links, C: Clock>(
     status_of(alloc, words, source, sink, links, clock, &placer).exit_code()
 }
 
-/// The exit status of a replay, with components on the online drives of the highest numbers.
-pub fn exit_code_by_number<S: Source, K: Sink, L: Links, C: Clock>(
-    alloc: Global,
-    source: &mut S,
-    sink: &mut K,
-    links: &mut L,
-    clock: &mut C,
-) -> u8 {
-    let placer = Placer::new(
-        |count: u32, loads: &[DriveLoad]| -> Result<Numbers, Memory>
-            requires { CanPlace count loads.now }
-            ensures { ForOk result (Places count loads.now) }
-        { highest_first(alloc, count, loads) },
-    );
-    let words = strings(alloc, &["replay"]);
-    status_of(alloc, words.as_slice(), source, sink, links, clock, &placer).exit_code()
-}
-
-// The exit status of the program with a clock that stands still.
+// The same with a clock that stands still.
 fn exit_code_over<S: Source, K: Sink, L: Links>(
     alloc: Global,
     words: &[String],
