@@ -98,6 +98,8 @@ class Proxy:
         self._to, self._action, self._drops = to, ACTIONS.get(action), drops
         self._open: List[socket.socket] = []
         self._is_over = False
+        self._kept = 0
+        self._news = threading.Condition()
         self._listener = socket.socket()
         self._listener.setsockopt(socket.SOL_SOCKET, socket.SO_REUSEADDR, 1)
         self._listener.bind((HOST, port))
@@ -122,6 +124,9 @@ class Proxy:
             while True:
                 record = _record(connection)
                 if record is not None and self._keeps_back(record):
+                    with self._news:
+                        self._kept += 1
+                        self._news.notify_all()
                     if self._drops:
                         break
                     return
@@ -136,6 +141,12 @@ class Proxy:
         with contextlib.suppress(OSError):
             connection.shutdown(socket.SHUT_RDWR)
             connection.close()
+
+    def wait_for(self, count: int, seconds: float) -> None:
+        """Waits until so many commands were kept back."""
+        with self._news:
+            if not self._news.wait_for(lambda: self._kept >= count, seconds):
+                raise Fault("it has kept back %d commands within %d seconds" % (self._kept, seconds))
 
     @staticmethod
     def _answer(onward: socket.socket, connection: socket.socket) -> None:

@@ -163,6 +163,12 @@ class Run:
         ports = self._values.port(port), self._values.port(onward)
         self._others[name] = network.Proxy(ports[0], ports[1], action, holds == "drops")
 
+    def _held(self, words: List[str], _: Row) -> None:
+        proxy = self._others.get(words[0])
+        if not isinstance(proxy, network.Proxy):
+            raise Fault("there is no proxy %s" % words[0])
+        proxy.wait_for(int(words[1]) if len(words) > 1 else 1, self._limit)
+
     def _ask(self, words: List[str], row: Row) -> None:
         port, sent = words
         got = network.ask(self._values.port(port), bytes.fromhex(sent.replace("-", "")), self._limit)
@@ -208,7 +214,7 @@ class Run:
             "cluster": self._cluster, "text": self._text, "bytes": self._bytes, "filled": self._filled,
             "same": self._same, "has": self._has, "digest": self._digest,
             "says": self._says, "end": self._end, "sleep": self._sleep, "limit": self._set_limit, "let": self._let,
-            "proxy": self._proxy, "ask": self._ask, "connect": self._connect, "close": self._close,
+            "proxy": self._proxy, "held": self._held, "ask": self._ask, "connect": self._connect, "close": self._close,
             "stop": self._signal(signal.SIGSTOP), "continue": self._signal(signal.SIGCONT),
             "interrupt": self._signal(signal.SIGINT), "kill": self._signal(signal.SIGKILL),
         }
