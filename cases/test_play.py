@@ -150,8 +150,9 @@ class Rows(Playing):
     def test_proxies(self) -> None:
         write = "800000064f5344320003"
         begin = "limit 20\nstart s: serve {port s} 9\n  > listening\nproxy p x to s holds write\n"
-        self.assertEqual(self.rows(begin + "ask x 80000001aa\n  > 80000001aa\nconnect c x %s\nheld p\nclose c\nclose p\n" % write), "")
-        self.assertIn("kept back 0", self.rows(begin + "limit 1\nask x 80000001aa\n  > 80000001aa\nheld p\n"))
+        begin += "ask x 80000001aa\n  > 80000001aa\n"
+        self.assertEqual(self.rows(begin + "connect c x %s\nheld p\nclose c\nclose p\n" % write), "")
+        self.assertIn("kept back 0", self.rows(begin + "limit 1\nheld p\n"))
 
     def test_clusters(self) -> None:
         begin = "cluster c 1\n  file 0 1 4 0 0 0 1\n  format 2\n"

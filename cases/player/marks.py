@@ -155,7 +155,8 @@ def take_lines(values: Values, wanted: List[Tuple[str, str]], lines: List[str]) 
                 break
             except Unlike as unlike:
                 if not any_before:
-                    raise Unlike("line %d has to be\n  %s\nand is\n  %s" % (at + 1, shown(str(unlike)), shown(lines[at]))) from None
+                    has = shown(lines[at])
+                    raise Unlike("line %d has to be\n  %s\nand is\n  %s" % (at + 1, shown(str(unlike)), has)) from None
                 at += 1
         at, any_before = at + 1, False
     return at, any_before

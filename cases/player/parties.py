@@ -48,7 +48,9 @@ class Heard:
 class Party:
     """A process of a case."""
 
-    def __init__(self, words: List[str], command: Command, given: Optional[str], folder: str, environment: Dict[str, str]) -> None:
+    def __init__(
+        self, words: List[str], command: Command, given: Optional[str], folder: str, environment: Dict[str, str]
+    ) -> None:
         self._news = threading.Condition()
         self.any_status = False
         with contextlib.ExitStack() as files:
