@@ -101,8 +101,8 @@ pub fn lists(alloc: Global, members: &[&[u8]]) -> ByteLists {
     lists
 }
 
-// The words that memory is left for.
-fn strings(alloc: Global, words: &[&str]) -> Vec<String> {
+/// The words that memory is left for.
+pub fn strings(alloc: Global, words: &[&str]) -> Vec<String> {
     let mut strings = Vec::new(alloc);
     for word in words {
         add_string(alloc, &mut strings, word);
@@ -110,8 +110,8 @@ fn strings(alloc: Global, words: &[&str]) -> Vec<String> {
     strings
 }
 
-/// Adds a word, if memory is left for it.
-pub fn add_string(alloc: Global, strings: &mut Vec<String>, word: &str) {
+// Adds a word, if memory is left for it.
+fn add_string(alloc: Global, strings: &mut Vec<String>, word: &str) {
     match String::from_str(alloc, word) {
         Ok(string) => {
             let _ = strings.push(string);
@@ -137,8 +137,8 @@ where
     run(alloc, words, source, sink, links, clock, placer)
 }
 
-/// The exit status of the program for these words. Components are placed as the program places them.
-pub fn exit_code<S: Source, K: Sink, L: Links, C: Clock>(
+// The exit status of the program for these words. Components are placed as the program places them.
+fn exit_code<S: Source, K: Sink, L: Links, C: Clock>(
     alloc: Global,
     words: &[String],
     source: &mut S,

@@ -1,31 +1,7 @@
-// The commands of a drive and of the metadata server.
-use crate::runs::{CLUSTER, Case, KEYLESS, NOTHING, play};
+// The commands of a drive and of the metadata server, where links fail.
+use crate::runs::{CLUSTER, Case, NOTHING, play};
 
-const DRIVES: &[Case] = &[
-    Case {
-        name: "a drive serves its connections",
-        words: &["drive", "--number", "0", "--connections", "2"],
-        input: CLUSTER,
-        accepted: &[b"", b""],
-        output: "listening\nserved 2\n",
-        ..NOTHING
-    },
-    Case {
-        name: "a drive needs its key",
-        words: &["drive", "--number", "0", "--connections", "0"],
-        input: KEYLESS,
-        exit_code: 9,
-        output: "error cluster missing\n",
-        ..NOTHING
-    },
-    Case {
-        name: "a drive has to be in the text",
-        words: &["drive", "--number", "1", "--connections", "0"],
-        input: CLUSTER,
-        exit_code: 9,
-        output: "error cluster missing\n",
-        ..NOTHING
-    },
+const PARTIES: &[Case] = &[
     Case {
         name: "a drive that can't accept",
         words: &["drive", "--number", "0", "--connections", "1"],
@@ -33,23 +9,6 @@ const DRIVES: &[Case] = &[
         fails: &[1],
         exit_code: 8,
         output: "listening\nerror link\n",
-        ..NOTHING
-    },
-];
-
-const SERVERS: &[Case] = &[
-    Case {
-        name: "a server without files serves its connections",
-        words: &["server", "--connections", "1"],
-        input: "server = \"h:1\"
-[[drive]]
-number = 0
-address = \"h:2\"
-key = \"0b0b0b0b0b0b0b0b0b0b0b0b0b0b0b0b0b0b0b0b\"
-capacity = 20000000
-",
-        accepted: &[b""],
-        output: "listening\nserved 1\n",
         ..NOTHING
     },
     Case {
@@ -66,11 +25,6 @@ capacity = 20000000
 ];
 
 #[test]
-fn drives(rt: HostRuntime) {
-    play(&rt, rt.alloc(), DRIVES);
-}
-
-#[test]
-fn servers(rt: HostRuntime) {
-    play(&rt, rt.alloc(), SERVERS);
+fn parties_that_lack_a_link(rt: HostRuntime) {
+    play(&rt, rt.alloc(), PARTIES);
 }

@@ -1,4 +1,5 @@
 use crate::hexadecimal::is_hex;
+use crate::lines::with_byte;
 use osd_capability::{
     CapErr, CapKey, Capability, RIGHT_READ, RIGHT_WRITE, capability_key, check_value,
 };
@@ -55,22 +56,18 @@ fn is_refused(bytes: &[u8], cause: CapErr) -> bool {
 }
 
 // With another format and a reserved byte, of which the format counts.
-fn has_bad_format(bytes: &[u8; 96], format: u8) -> bool {
-    let mut wrong = *bytes;
-    wrong[0] = format;
-    wrong[1] = 1;
-    is_refused(&wrong, CapErr::Format)
+fn has_bad_format(alloc: Global, bytes: &[u8], format: u8) -> bool {
+    let wrong = with_byte(alloc, bytes, 0, format);
+    let wrong = with_byte(alloc, wrong.as_slice(), 1, 1);
+    is_refused(wrong.as_slice(), CapErr::Format)
 }
 
 // With this byte not 0 and the last, of which the first counts.
-fn is_reserved(bytes: &[u8; 96], at: usize) -> bool {
-    let mut wrong = *bytes;
-    if at < 96 {
-        wrong[at] = 1;
-    }
-    wrong[95] = 1;
+fn is_reserved(alloc: Global, bytes: &[u8], at: usize) -> bool {
+    let wrong = with_byte(alloc, bytes, at, 1);
+    let wrong = with_byte(alloc, wrong.as_slice(), 95, 1);
     let at = u32::try_from(at).unwrap_or(0);
-    is_refused(&wrong, CapErr::Reserved { at })
+    is_refused(wrong.as_slice(), CapErr::Reserved { at })
 }
 
 #[test]
@@ -80,11 +77,13 @@ fn bytes_that_spell_no_capability(rt: HostRuntime) {
         assert!(rt; is_refused(&bytes[..length], CapErr::Length));
     }
     assert!(rt;
-        has_bad_format(&bytes, 0) && has_bad_format(&bytes, 3) && has_bad_format(&bytes, 255)
+        has_bad_format(rt.alloc(), &bytes, 0)
+            && has_bad_format(rt.alloc(), &bytes, 3)
+            && has_bad_format(rt.alloc(), &bytes, 255)
     );
     for at in 0..96usize {
         if at == 1 || (at >= 28 && at < 32) || at >= 64 {
-            assert!(rt; is_reserved(&bytes, at), "byte {at}");
+            assert!(rt; is_reserved(rt.alloc(), &bytes, at), "byte {at}");
         }
     }
 }

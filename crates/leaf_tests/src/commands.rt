@@ -2,7 +2,7 @@ ghost use Rattle.std.specs.Prelude.{IsTrue};
 ghost use Rattle.osd_capability.specs.Layout.{is_format};
 
 use crate::hexadecimal::is_hex;
-use crate::lines::copied;
+use crate::lines::{copied, with_byte};
 use osd_bytes::Bytes;
 use osd_capability::{CapErr, Capability, capability_key};
 use osd_commands::{
@@ -172,15 +172,6 @@ fn prefixes_are_refused(alloc: Global, bytes: &[u8]) -> bool {
         }
     }
     true
-}
-
-// The bytes with one of them changed, where there is such a one.
-fn with_byte(alloc: Global, bytes: &[u8], at: usize, value: u8) -> Bytes {
-    let mut changed = copied(alloc, bytes);
-    if at < changed.len() {
-        *changed.get_mut(at) = value;
-    }
-    changed
 }
 
 fn is_reserved(alloc: Global, bytes: &[u8], at: usize) -> bool {

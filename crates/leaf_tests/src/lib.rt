@@ -1,12 +1,10 @@
 //! Tests of the crates that stand on few others, over their public calls: lines, records and links, in memory and over
 //! the loopback; XDR, structures and messages; capabilities and commands; the language of scenarios and of transcripts,
-//! and the judge over a file's log; cluster texts; objects and drives; the field, the codes, the data map and the plans.
+//! and the judge over a file's log; objects and drives; the field, the codes, the data map and the plans.
 #![tactic(auto)]
 
 #[cfg(test)]
 mod capabilities;
-#[cfg(test)]
-mod cluster_texts;
 #[cfg(test)]
 mod codes;
 #[cfg(test)]
@@ -45,9 +43,5 @@ mod plans;
 mod records;
 #[cfg(test)]
 mod serving;
-#[cfg(test)]
-mod structure_cases;
-#[cfg(test)]
-mod structures;
 #[cfg(test)]
 mod xdr;

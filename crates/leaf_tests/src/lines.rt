@@ -12,6 +12,15 @@ pub fn copied(alloc: Global, bytes: &[u8]) -> Bytes {
     }
 }
 
+/// The bytes with one of them changed, where there is such a one.
+pub fn with_byte(alloc: Global, bytes: &[u8], at: usize, value: u8) -> Bytes {
+    let mut changed = copied(alloc, bytes);
+    if at < changed.len() {
+        *changed.get_mut(at) = value;
+    }
+    changed
+}
+
 pub fn numbers(alloc: Global, numbers: &[u32]) -> Numbers {
     match Numbers::copied(alloc, numbers) {
         Ok(numbers) => numbers,
