@@ -1,5 +1,6 @@
 -- The layout of a checked map is a code.
-use Rattle.std.proofs.Common.{◌≡◌, ℕ, zero, suc, ◌+◌, ◌*◌, ◌/◌, ◌%◌, ◌<◌, ◌≤◌, Bool, true, false, List, [], ◌∷◌, ◌++◌, get_or, refl, sym, ap, ◌∙◌, arith, inl, inr, eq-eqb, ne_eqb, map}
+use Rattle.std.proofs.Common.{◌≡◌, ℕ, zero, suc, ◌+◌, ◌*◌, ◌/◌, ◌%◌, ◌<◌, ◌≤◌, Bool, true, false, List, [], ◌∷◌, ◌++◌, get_or}
+use Rattle.std.proofs.Common.{refl, sym, ap, ◌∙◌, arith, inl, inr, eq-eqb, ne_eqb, map}
 use Rattle.std.specs.Prelude.{if◌then◌else◌, ◌&&◌, nat_eq, nat_lt, ◌==◌, not}
 use Rattle.std.specs.List.{range_with_len}
 use Rattle.std.proofs.lemmas.Bool.{cases_eq, cases_lt, lt-ltb, le-ltb}
@@ -8,7 +9,8 @@ use Rattle.gf256.specs.Field.{two_to}
 use Rattle.gf256.proofs.Product.{product_zero}
 use Rattle.data_map.specs.declared.check.RawMap.{RawMap}
 use Rattle.data_map.specs.Check.{IsChecked}
-use Rattle.data_map.specs.Striping.{replicas, positions, parities, data_units, stripe_of, data_unit_of, column_of, place_of, replica_of}
+use Rattle.data_map.specs.Striping.{replicas, positions, parities, data_units, stripe_of, data_unit_of, column_of, place_of}
+use Rattle.data_map.specs.Striping.{replica_of}
 use Rattle.data_map.specs.Inverse.{LiesAt, stripe_at, unit_at, byte_at}
 use Rattle.data_map.proofs.Striping.{column_below, data_unit_below, position_below, place_found, found_again}
 use Rattle.data_map.proofs.Shape.{replicas_inside}
@@ -20,37 +22,42 @@ use Rattle.stripe_plan.specs.Touched.{unit_start}
 use Rattle.stripe_plan.specs.Words.{code_of}
 use Rattle.stripe_plan.specs.Laws.{word_of}
 use Rattle.stripe_plan.proofs.Columning.{word_is}
+use Rattle.stripe_plan.proofs.StripeRows.{same_range}
 use Rattle.plan_law.specs.FileLayout.{has_parity, column_at, column_of_cell, is_copy, word_in}
 use Rattle.plan_law.specs.Layouts.{LayoutsAreCodes}
-use Rattle.plan_law.proofs.Cells.{with_parity, is_coded, stands_at, unit_inside, lies_there, col_coded, col_plain, cell_coded, cell_plain, byte_col}
+use Rattle.plan_law.proofs.Cells.{with_parity, is_coded, stands_at, unit_inside, lies_there, col_coded, col_plain, cell_coded}
+use Rattle.plan_law.proofs.Cells.{cell_plain, byte_col}
 
 -- ---- a cell speaks of its column alone
 
-run_same : (f g : ℕ → ℕ) (a n : ℕ) → ((c : ℕ) → a ≤ c → c < a + n → f c ≡ g c) → map f (range_with_len a n) ≡ map g (range_with_len a n)
-run_same f g a zero same = refl
-run_same f g a (suc n) same =
-    ap (λ x. x ∷ map f (range_with_len (a + 1) n)) (same a (omega arith) (omega arith)) ∙ ap (λ xs. g a ∷ xs) (run_same f g (a + 1) n (λ c le lt. same c (omega (arith, le)) (omega (arith, lt))))
-
 -- data that are alike in a column have the same words there
-pub words_same : (m : RawMap) (d e : ℕ → ℕ) (s b c : ℕ) → ((k : ℕ) → k < data_units m → d (unit_start m s k + b) ≡ e (unit_start m s k + b)) → word_of m d s b c ≡ word_of m e s b c
+pub words_same : (m : RawMap) (d e : ℕ → ℕ) (s b c : ℕ) →
+    ((k : ℕ) → k < data_units m → d (unit_start m s k + b) ≡ e (unit_start m s k + b)) → word_of m d s b c ≡ word_of m e s b c
 words_same m d e s b c same =
-    ap (λ ds. get_or (codeword (code_of m) ds) c 0) (run_same (λ k. d (unit_start m s k + b)) (λ k. e (unit_start m s k + b)) 0 (data_units m) (λ k le lt. same k (omega (arith, lt))))
+    ap (λ ds. get_or (codeword (code_of m) ds) c 0)
+    (same_range (λ k. d (unit_start m s k + b)) (λ k. e (unit_start m s k + b)) 0 (data_units m)
+    (λ k le lt. same k (omega (arith, lt))))
 
 -- a unit of data holds its byte
-pub data_word : (m : RawMap) (k z : ℕ) (d : ℕ → ℕ) → unit_at m (k / replicas m) z < data_units m → word_in m k z d ≡ d (byte_at m (k / replicas m) z)
+pub data_word : (m : RawMap) (k z : ℕ) (d : ℕ → ℕ) → unit_at m (k / replicas m) z < data_units m →
+    word_in m k z d ≡ d (byte_at m (k / replicas m) z)
 data_word m k z d holds = word_is m d (stripe_at m (k / replicas m) z) (z % m.unit) (unit_at m (k / replicas m) z) holds
 
 -- without parity each unit is of data
 pub all_data : (m : RawMap) (k z : ℕ) → IsChecked m → parities m ≡ 0 → unit_at m (k / replicas m) z < data_units m
 all_data m k z c none = omega (arith, none, unit_inside m (k / replicas m) z c)
 
-pub word_local : (m : RawMap) (k z : ℕ) (d f : ℕ → ℕ) → IsChecked m → ((q : ℕ) → column_at m q ≡ column_of_cell m k z → d q ≡ f q) → word_in m k z d ≡ word_in m k z f
+pub word_local : (m : RawMap) (k z : ℕ) (d f : ℕ → ℕ) → IsChecked m →
+    ((q : ℕ) → column_at m q ≡ column_of_cell m k z → d q ≡ f q) → word_in m k z d ≡ word_in m k z f
 word_local m k z d f c same = elim (with_parity m) [
   | inl some ↦ words_same m d f (stripe_at m (k / replicas m) z) (z % m.unit) (unit_at m (k / replicas m) z)
-      (λ u low. same (unit_start m (stripe_at m (k / replicas m) z) u + z % m.unit) (byte_col m (stripe_at m (k / replicas m) z) u (z % m.unit) some low (mod_below z m.unit c.some_unit) ∙ sym (cell_coded m k z some)))
+      (λ u low. same (unit_start m (stripe_at m (k / replicas m) z) u + z % m.unit)
+      (byte_col m (stripe_at m (k / replicas m) z) u (z % m.unit) some low (mod_below z m.unit c.some_unit)
+      ∙ sym (cell_coded m k z some)))
   | inr none ↦
       let holds = all_data m k z c none in
-      data_word m k z d holds ∙ same (byte_at m (k / replicas m) z) (col_plain m (byte_at m (k / replicas m) z) none ∙ sym (cell_plain m k z none)) ∙ sym (data_word m k z f holds)
+      data_word m k z d holds ∙ same (byte_at m (k / replicas m) z) (col_plain m (byte_at m (k / replicas m) z) none
+      ∙ sym (cell_plain m k z none)) ∙ sym (data_word m k z f holds)
 ]
 
 -- ---- replicas of one position
@@ -77,7 +84,8 @@ zeros_at a (suc n) zero = refl
 zeros_at a (suc n) (suc k) = zeros_at (a + 1) n k
 
 -- behind zeros come numbers that are 0
-ended : (a n k : ℕ) (xs : List ℕ) → ((j : ℕ) → get_or xs j 0 ≡ 0) → get_or (map (λ (c : ℕ). zero) (range_with_len a n) ++ xs) k 0 ≡ 0
+ended : (a n k : ℕ) (xs : List ℕ) → ((j : ℕ) → get_or xs j 0 ≡ 0) →
+    get_or (map (λ (c : ℕ). zero) (range_with_len a n) ++ xs) k 0 ≡ 0
 ended a zero k xs none = none k
 ended a (suc n) zero xs none = refl
 ended a (suc n) (suc k) xs none = ended (a + 1) n k xs none
@@ -110,11 +118,13 @@ copy_lies m k z l e =
     (same_number _ _ t.0, same_number _ _ t.1)
 
 pub lies_copy : (m : RawMap) (k z l : ℕ) → LiesAt m l (k / replicas m) z → is_copy m k z l ≡ true
-lies_copy m k z l there = rw (eq-eqb (place_of m l).position (k / replicas m) there.0, eq-eqb (place_of m l).offset z there.1) refl
+lies_copy m k z l there = rw (eq-eqb (place_of m l).position (k / replicas m) there.0, eq-eqb (place_of m l).offset z there.1)
+    refl
 
 -- the cell of a byte's place has the byte's stripe, unit and column
 pub copy_found : (m : RawMap) (k z l : ℕ) → IsChecked m → LiesAt m l (k / replicas m) z →
-    (stripe_at m (k / replicas m) z ≡ stripe_of m l) × (unit_at m (k / replicas m) z ≡ data_unit_of m l) × (z % m.unit ≡ column_of m l) × (byte_at m (k / replicas m) z ≡ l)
+    (stripe_at m (k / replicas m) z ≡ stripe_of m l) × (unit_at m (k / replicas m) z ≡ data_unit_of m l) ×
+    (z % m.unit ≡ column_of m l) × (byte_at m (k / replicas m) z ≡ l)
 copy_found m k z l c there =
     let found = place_found m l c in (
       ap (λ p. stripe_at m p z) (sym there.0) ∙ ap (λ o. stripe_at m (place_of m l).position o) (sym there.1) ∙ found.0,
@@ -129,14 +139,16 @@ component_below m k c lt =
     let rest : k % replicas m < replicas m = mod_below k (replicas m) (omega arith) in
     omega (arith, replicas_inside m (k / replicas m) c lt, div-add-mod' k (replicas m), rest)
 
-pub copies_are : (m : RawMap) (k z l : ℕ) → IsChecked m → is_copy m k z l ≡ true → (nat_lt k m.comps ≡ true) × (column_of_cell m k z ≡ column_at m l) × ((d : ℕ → ℕ) → word_in m k z d ≡ d l)
+pub copies_are : (m : RawMap) (k z l : ℕ) → IsChecked m → is_copy m k z l ≡ true →
+    (nat_lt k m.comps ≡ true) × (column_of_cell m k z ≡ column_at m l) × ((d : ℕ → ℕ) → word_in m k z d ≡ d l)
 copies_are m k z l c e =
     let there = copy_lies m k z l e in
     let found = copy_found m k z l c there in
     let below : k < m.comps = component_below m k c (omega (arith, there.0, position_below m l c)) in (
       lt-ltb k m.comps below,
       elim (with_parity m) [
-        | inl some ↦ cell_coded m k z some ∙ ap (λ s. s * m.unit + z % m.unit) found.0 ∙ ap (λ b. stripe_of m l * m.unit + b) found.2 ∙ sym (col_coded m l some)
+        | inl some ↦ cell_coded m k z some ∙ ap (λ s. s * m.unit + z % m.unit) found.0 ∙ ap
+            (λ b. stripe_of m l * m.unit + b) found.2 ∙ sym (col_coded m l some)
         | inr none ↦ cell_plain m k z none ∙ found.3 ∙ sym (col_plain m l none)
       ],
       λ d. data_word m k z d (omega (arith, found.1, data_unit_below m l c)) ∙ ap d found.3,

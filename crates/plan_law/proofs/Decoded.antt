@@ -13,7 +13,8 @@ use Rattle.stripe_plan.specs.Laws.{data_at}
 use Rattle.stripe_plan.proofs.Columning.{data_long, data_bytes, code_count}
 use Rattle.plan_law.specs.Known.{DecodedAreWords}
 
-are_lost : (code : Code) (units n : ℕ) (lost : List ℕ) → ArePositions n lost → n ≡ units + count_of code → length lost ≤ count_of code → count_of code ≤ 2 → AreLost code units lost
+are_lost : (code : Code) (units n : ℕ) (lost : List ℕ) → ArePositions n lost → n ≡ units + count_of code →
+    length lost ≤ count_of code → count_of code ≤ 2 → AreLost code units lost
 are_lost code units n [] h e few most = tt
 are_lost code units n (x ∷ []) h e few most = (omega (arith, few), omega (arith, e, h.below 0 0 (omega arith)))
 are_lost code units n (x ∷ y ∷ []) h e few most =
@@ -34,5 +35,8 @@ decoded_are_words m s b d lost col c db at few long had = λ u.
         | inr beyond ↦ get_or_past cw k 0 (omega (arith, beyond, wide)) ∙ sym (get_or_past col k 0 (omega (arith, beyond, long)))
       ];
     } in
-    let are = are_lost (code_of m) (length ds) (group_width m) lost at (omega (arith, dl, code_count m, c.some_data)) (omega (arith, few, code_count m)) (count_most (code_of m)) in
-    ap (λ n. get_or (decoded n lost col) u 0) (sym dl) ∙ ap (λ xs. get_or xs u 0) (decoded_back (code_of m) ds lost col (data_bytes m d s b db) (omega (arith, dl, c.narrow)) are agree)
+    let are = are_lost (code_of m) (length ds) (group_width m) lost at (omega (arith, dl, code_count m, c.some_data))
+    (omega (arith, few, code_count m)) (count_most (code_of m)) in
+    ap (λ n. get_or (decoded n lost col) u 0) (sym dl)
+    ∙ ap (λ xs. get_or xs u 0) (decoded_back (code_of m) ds lost col (data_bytes m d s b db)
+    (omega (arith, dl, c.narrow)) are agree)

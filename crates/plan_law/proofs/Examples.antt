@@ -1,5 +1,6 @@
 -- The writes and the read of one byte, by computation.
-use Rattle.std.proofs.Common.{◌≡◌, ℕ, zero, suc, ◌+◌, ◌*◌, ◌/◌, ◌%◌, ◌<◌, Bool, true, false, List, [], ◌∷◌, refl, sym, arith, inl, inr, ne_eqb}
+use Rattle.std.proofs.Common.{◌≡◌, ℕ, zero, suc, ◌+◌, ◌*◌, ◌/◌, ◌%◌, ◌<◌, Bool, true, false, List, [], ◌∷◌, refl, sym, arith, inl}
+use Rattle.std.proofs.Common.{inr, ne_eqb}
 use Rattle.std.specs.Prelude.{None, ◌==◌, ◌&&◌, nat_le, nat_lt}
 use Rattle.std.specs.List.{All}
 use Rattle.std.proofs.lemmas.Bool.{cases_eq}
@@ -14,16 +15,20 @@ use Rattle.fence_law.specs.Columns.{Agrees, AreBytes}
 use Rattle.stripe_plan.specs.declared.plan.Column.{Column}
 use Rattle.stripe_plan.specs.declared.plan.Aim.TheVariants.{Reads, Gathers}
 use Rattle.stripe_plan.specs.Touched.{stripes, own, touches, columns, columns_between, whole}
-use Rattle.stripe_plan.specs.Lost.{is_out, source_from, source, out_from, positions_out, is_short, is_degraded, unwritable, unreadable, hit_from}
-use Rattle.stripe_plan.specs.Asks.{own_columns, changed, gathered, needed, without, without_each, asks_each, asks_place, asks_stripe, asks}
-use Rattle.stripe_plan.specs.Words.{has_byte, lost_from, decoded_at, byte_at, known_from, new_at, news_from, parity_at, word_at, answer_in, answer_at}
+use Rattle.stripe_plan.specs.Lost.{is_out, source_from, source, out_from, positions_out, is_short, is_degraded, unwritable}
+use Rattle.stripe_plan.specs.Lost.{unreadable, hit_from}
+use Rattle.stripe_plan.specs.Asks.{own_columns, changed, gathered, needed, without, without_each, asks_each, asks_place}
+use Rattle.stripe_plan.specs.Asks.{asks_stripe, asks}
+use Rattle.stripe_plan.specs.Words.{has_byte, lost_from, decoded_at, byte_at, known_from, new_at, news_from, parity_at, word_at}
+use Rattle.stripe_plan.specs.Words.{answer_in, answer_at}
 use Rattle.stripe_plan.specs.Laws.{IsWithin, IsGot, IsFetched}
 use Rattle.stripe_plan.specs.Plans.{written_place, written_stripe, written, stores}
 use Rattle.plan_law.specs.FileLayout.{column_of_cell}
 use Rattle.plan_law.specs.Writes.{some_unit_touched, touches_column}
 use Rattle.plan_law.specs.Got.{IsShown}
 use Rattle.plan_law.specs.Sending.{MayScatter}
-use Rattle.plan_law.specs.Examples.{small_map, first_byte, one_byte, one_cell, old_bytes, bytes_before, shown_old, other_bytes, shown_others, new_bytes, ScatterIsMet, GatherIsMet, ReadIsMet, ExamplesAreMet}
+use Rattle.plan_law.specs.Examples.{small_map, first_byte, one_byte, one_cell, old_bytes, bytes_before, shown_old, other_bytes}
+use Rattle.plan_law.specs.Examples.{shown_others, new_bytes, ScatterIsMet, GatherIsMet, ReadIsMet, ExamplesAreMet}
 
 checked : IsChecked small_map
 checked = record {

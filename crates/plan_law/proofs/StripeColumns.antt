@@ -24,8 +24,10 @@ of_byte m l c = elim (with_parity m) [
 
 of_cell : (m : RawMap) (k z : ℕ) → IsChecked m → stripe_of_column m (column_of_cell m k z) ≡ stripe_at m (k / replicas m) z
 of_cell m k z c = elim (with_parity m) [
-  | inr none ↦ rw (is_plain m none) (byte_stripe m (stripe_at m (k / replicas m) z) (unit_at m (k / replicas m) z) (z % m.unit) (all_data m k z c none) (mod_below z m.unit c.some_unit))
-  | inl some ↦ rw (is_coded m some) (div-mul-add (stripe_at m (k / replicas m) z) m.unit (z % m.unit) (mod_below z m.unit c.some_unit))
+  | inr none ↦ rw (is_plain m none) (byte_stripe m (stripe_at m (k / replicas m) z) (unit_at m (k / replicas m) z) (z % m.unit)
+      (all_data m k z c none) (mod_below z m.unit c.some_unit))
+  | inl some ↦ rw (is_coded m some) (div-mul-add (stripe_at m (k / replicas m) z) m.unit (z % m.unit)
+      (mod_below z m.unit c.some_unit))
 ]
 
 touched : (m : RawMap) (r : Span) (x : ℕ) → IsChecked m → touches_column m r x ≡ true → IsTouchedStripe m r (stripe_of_column m x)
@@ -33,7 +35,8 @@ touched m r x c e = elim (with_parity m) [
   | inr none ↦
       let inside = range_means r x (rw (is_plain m none) at e) in
       rw (is_plain m none) (stripe_touched m r x c inside.0 inside.1)
-  | inl some ↦ rw (is_coded m some) (any_touched m r (x / m.unit) (x % m.unit) c (mod_below x m.unit c.some_unit) (rw (is_coded m some) at e)).0
+  | inl some ↦ rw (is_coded m some) (any_touched m r (x / m.unit) (x % m.unit) c (mod_below x m.unit c.some_unit)
+      (rw (is_coded m some) at e)).0
 ]
 
 pub columns_have_stripes : ColumnsHaveStripes

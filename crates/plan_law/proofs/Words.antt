@@ -12,23 +12,26 @@ use Rattle.fence_law.specs.State.{State, Layout}
 use Rattle.fence_law.specs.Columns.{AreBytes, Stood}
 use Rattle.plan_law.specs.FileLayout.{layout_of, column_at, column_of_cell, word_in}
 use Rattle.plan_law.specs.Known.{WordsAreKnown, HasSource, RebuildsAreKnown}
-use Rattle.plan_law.proofs.Cells.{col_coded, col_plain, cell_coded, cell_plain, digits_apart}
+use Rattle.plan_law.proofs.Cells.{with_parity, col_coded, col_plain, cell_coded, cell_plain, digits_apart}
 use Rattle.plan_law.proofs.Codes.{word_local, all_data, same_col, same_word}
 use Rattle.plan_law.proofs.Known.{columns_are_known}
 
 -- a byte of a cell's column is of the cell's stripe
-stripe_is : (m : RawMap) (k z q : ℕ) → IsChecked m → column_at m q ≡ column_of_cell m k z → stripe_of m q ≡ stripe_at m (k / replicas m) z
-stripe_is m k z q c e = elim (cases_lt 0 (parities m)) [
-  | inl some ↦ (digits_apart m.unit (stripe_of m q) (column_of m q) (stripe_at m (k / replicas m) z) (z % m.unit) (column_below m q c) (mod_below z m.unit c.some_unit) (sym (col_coded m q some) ∙ e ∙ cell_coded m k z some)).0
-  | inr few ↦
-      let none : parities m ≡ 0 = omega (arith, few) in
+stripe_is : (m : RawMap) (k z q : ℕ) → IsChecked m → column_at m q ≡ column_of_cell m k z →
+    stripe_of m q ≡ stripe_at m (k / replicas m) z
+stripe_is m k z q c e = elim (with_parity m) [
+  | inl some ↦ (digits_apart m.unit (stripe_of m q) (column_of m q) (stripe_at m (k / replicas m) z) (z % m.unit)
+      (column_below m q c) (mod_below z m.unit c.some_unit) (sym (col_coded m q some) ∙ e ∙ cell_coded m k z some)).0
+  | inr none ↦
       let is : q ≡ byte_at m (k / replicas m) z = sym (col_plain m q none) ∙ e ∙ cell_plain m k z none in
-      ap (stripe_of m) is ∙ byte_stripe m (stripe_at m (k / replicas m) z) (unit_at m (k / replicas m) z) (z % m.unit) (all_data m k z c none) (mod_below z m.unit c.some_unit)
+      ap (stripe_of m) is ∙ byte_stripe m (stripe_at m (k / replicas m) z) (unit_at m (k / replicas m) z) (z % m.unit)
+      (all_data m k z c none) (mod_below z m.unit c.some_unit)
 ]
 
 pub words_are_known : WordsAreKnown
 words_are_known m out k z d e c below short db eb same =
-    word_local m k z d e c (λ q at. columns_are_known m out q d e c (ap (is_short m out) (stripe_is m k z q c at) ∙ short) db eb (λ f y lt col there. same f y lt (col ∙ at) there))
+    word_local m k z d e c (λ q at. columns_are_known m out q d e c (ap (is_short m out) (stripe_is m k z q c at) ∙ short) db eb
+    (λ f y lt col there. same f y lt (col ∙ at) there))
 
 not_gone : (gone : ℕ → Bool) (out : List ℕ) (f : ℕ) → (gone f ≡ true → among f out ≡ true) → among f out ≡ false → gone f ≡ false
 not_gone gone out f h there = elim (cases_Bool (gone f)) [ inl t ↦ absurd (cc (sym (h t) ∙ there)) | inr g ↦ g ]
