@@ -149,16 +149,14 @@ meets u low high b some lt w =
                       omega (arith, s, la, al)
                   | inr (inr s) ↦ absurd (omega (arith, s, la, hb, al, el, lt))
                 ],
-                omega
-                    (arith, hb, first, lt),
+                omega (arith, hb, first, lt),
                 digit ((high - 1) / u) u b bl,
               )
               | inr second ↦ (
                 low / u * u + b,
                 omega (arith, la, second),
                 elim ap [
-                  | inl s ↦ absurd
-                      (omega (arith, s, la, hb, round, lt))
+                  | inl s ↦ absurd (omega (arith, s, la, hb, round, lt))
                   | inr (inl s) ↦ omega (arith, s, hb, bl, lt)
                   | inr (inr s) ↦
                       absurd (omega (arith, s, la, hb, al, el, lt))

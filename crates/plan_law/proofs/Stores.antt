@@ -121,8 +121,7 @@ components : (m : RawMap) (p j : ℕ) → IsChecked m → p < positions m → p 
 components m p j c below from to =
     let at : j ≡ p * replicas m + (j - p * replicas m) = omega (arith, from) in (
       ap (λ x. x / replicas m) at ∙ div-mul-add p (replicas m) (j - p * replicas m) (omega (arith, from, to)),
-      omega
-          (arith, to, replicas_inside m p c below),
+      omega (arith, to, replicas_inside m p c below),
     )
 
 place_at : (m : RawMap) (s i : ℕ) → i < group_width m → position_of m s (unit_in m s i) ≡ group_of m s * group_width m + i
@@ -396,8 +395,7 @@ carried cols [] k z g = absurd g
 carried cols (a ∷ xs) k z (inl g) = inl (
   g.0,
   g.1,
-  omega
-      (arith, g.2, length-map-range_with_len (byte_got cols a.position) a.offset a.length),
+  omega (arith, g.2, length-map-range_with_len (byte_got cols a.position) a.offset a.length),
 )
 carried cols (a ∷ xs) k z (inr g) = inr (carried cols xs k z g)
 
