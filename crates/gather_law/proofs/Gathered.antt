@@ -10,7 +10,7 @@ use Rattle.stripe_plan.specs.Lost.{unwritable}
 use Rattle.stripe_plan.specs.Asks.{asks}
 use Rattle.stripe_plan.specs.Laws.{IsFetched}
 use Rattle.server_rules.specs.Laws.{In}
-use Rattle.client_rules.specs.Calls.{span_of, bytes_of}
+use Rattle.client_rules.specs.Calls.{span_of}
 use Rattle.client_rules.specs.Commands.{nonce_at, others, not_of, read_commands}
 use Rattle.client_rules.specs.Io.{outs, had, got_of}
 use Rattle.client_rules.specs.Laws.{nonce_of}

@@ -1,5 +1,5 @@
 -- The rows of a piece as words.
-use Rattle.std.proofs.Common.{◌≡◌, ℕ, zero, suc, true, ◌+◌, ◌-◌, ◌*◌, ◌/◌, ◌%◌, ◌<◌, ◌≤◌, List, [], ◌∷◌, length, get_or, take}
+use Rattle.std.proofs.Common.{◌≡◌, ℕ, zero, suc, true, ◌+◌, ◌-◌, ◌/◌, ◌%◌, ◌<◌, List, [], ◌∷◌, length, get_or, take}
 use Rattle.std.proofs.Common.{map, refl, sym, ap, ◌∙◌, arith, inl, inr, eq-eqb, ne_eqb}
 use Rattle.std.specs.List.{Contains, range_with_len}
 use Rattle.std.specs.Prelude.{Some, not, ◌&&◌, ◌==◌}
@@ -9,14 +9,13 @@ use Rattle.std.proofs.lemmas.Nat.{div-mul-add, mod-mul-add}
 use Rattle.std.proofs.lemmas.List.FromFn.{length-map-range_with_len, get_or-map-range_with_len, take-map-range_with_len}
 use Rattle.data_map.specs.declared.check.RawMap.{RawMap}
 use Rattle.data_map.specs.Check.{IsChecked}
-use Rattle.data_map.specs.Striping.{replicas, group_width, parities, data_units, group_of, row_of, position_of, offset_of}
+use Rattle.data_map.specs.Striping.{replicas, group_width, data_units, group_of, row_of, position_of, offset_of}
 use Rattle.data_map.specs.Inverse.{stripe_in, unit_in, stripe_at, unit_at}
 use Rattle.data_map.proofs.Striping.{stripe_again}
 use Rattle.parity_code.specs.Parity.{column}
 use Rattle.parity_code.specs.Codeword.{codeword}
 use Rattle.parity_code.specs.Decoding.{ArePositions, decoded}
 use Rattle.server_rules.specs.declared.files.Component.{Component}
-use Rattle.server_rules.specs.declared.jobs.Heard.{Heard}
 use Rattle.server_rules.specs.Maps.{code_of}
 use Rattle.server_rules.specs.Standing.{replica_from, replica}
 use Rattle.server_rules.specs.Columns.{row_at, unit_rows, unit_with, wanted}

@@ -1,8 +1,7 @@
 -- The writes and the read of one byte, by computation.
-use Rattle.std.proofs.Common.{◌≡◌, ℕ, zero, suc, ◌+◌, ◌*◌, ◌/◌, ◌%◌, ◌<◌, Bool, true, false, List, [], ◌∷◌, refl, sym, arith, inl}
+use Rattle.std.proofs.Common.{◌≡◌, ℕ, zero, suc, ◌+◌, ◌*◌, ◌/◌, ◌%◌, ◌<◌, true, false, [], ◌∷◌, refl, sym, arith, inl}
 use Rattle.std.proofs.Common.{inr, ne_eqb}
-use Rattle.std.specs.Prelude.{None, ◌==◌, ◌&&◌, nat_le, nat_lt}
-use Rattle.std.specs.List.{All}
+use Rattle.std.specs.Prelude.{None}
 use Rattle.std.proofs.lemmas.Bool.{cases_eq}
 use Rattle.std.proofs.lemmas.Bool.Decides.{nat_tests}
 use Rattle.std.proofs.lemmas.Nat.{div-add-mod'}
@@ -12,7 +11,6 @@ use Rattle.data_map.specs.Striping.{position_of, offset_of}
 use Rattle.parity_code.specs.Decoding.{decoded}
 use Rattle.parity_code.specs.Repairs.{repair_of}
 use Rattle.fence_law.specs.Columns.{Agrees, AreBytes}
-use Rattle.stripe_plan.specs.declared.plan.Column.{Column}
 use Rattle.stripe_plan.specs.declared.plan.Aim.TheVariants.{Reads, Gathers}
 use Rattle.stripe_plan.specs.Touched.{stripes, own, touches, columns, columns_between, whole}
 use Rattle.stripe_plan.specs.Lost.{is_out, source_from, source, out_from, positions_out, is_short, is_degraded, unwritable}
@@ -23,12 +21,11 @@ use Rattle.stripe_plan.specs.Words.{has_byte, lost_from, decoded_at, byte_at, kn
 use Rattle.stripe_plan.specs.Words.{answer_in, answer_at}
 use Rattle.stripe_plan.specs.Laws.{IsWithin, IsGot, IsFetched}
 use Rattle.stripe_plan.specs.Plans.{written_place, written_stripe, written, stores}
-use Rattle.plan_law.specs.FileLayout.{column_of_cell}
 use Rattle.plan_law.specs.Writes.{some_unit_touched, touches_column}
 use Rattle.plan_law.specs.Got.{IsShown}
 use Rattle.plan_law.specs.Sending.{MayScatter}
 use Rattle.plan_law.specs.Examples.{small_map, first_byte, one_byte, one_cell, old_bytes, bytes_before, shown_old, other_bytes}
-use Rattle.plan_law.specs.Examples.{shown_others, new_bytes, ScatterIsMet, GatherIsMet, ReadIsMet, ExamplesAreMet}
+use Rattle.plan_law.specs.Examples.{shown_others, new_bytes, ScatterIsMet, GatherIsMet, ExamplesAreMet}
 
 checked : IsChecked small_map
 checked = record {

@@ -1,13 +1,13 @@
 -- What a read gives, for all data that fit what it got of one column; and replies as what was got.
 use Rattle.std.proofs.Common.{◌≡◌, ℕ, ◌+◌, ◌*◌, ◌/◌, ◌%◌, ◌<◌, true, false, List, sym, ap, ◌∙◌, arith, inl, inr}
-use Rattle.std.specs.Prelude.{◌==◌, if◌then◌else◌, slice_index}
-use Rattle.std.proofs.lemmas.Bool.{cases_Bool, cases_lt, lt-ltb}
+use Rattle.std.specs.Prelude.{slice_index}
+use Rattle.std.proofs.lemmas.Bool.{cases_Bool, lt-ltb}
 use Rattle.std.proofs.lemmas.Nat.{div-mul-add, mod-mul-add}
 use Rattle.data_map.specs.declared.check.RawMap.{RawMap}
 use Rattle.data_map.specs.Check.{IsChecked}
 use Rattle.data_map.specs.Striping.{replicas, stripe_of, data_unit_of, column_of, stripe_length, group_width, data_units}
 use Rattle.data_map.specs.Striping.{parities, position_of, offset_of}
-use Rattle.data_map.specs.Inverse.{stripe_at, unit_at, byte_at}
+use Rattle.data_map.specs.Inverse.{unit_at, byte_at}
 use Rattle.data_map.proofs.Numbers.{digits}
 use Rattle.data_map.proofs.Striping.{column_below, data_unit_below, position_in_range, unit_found}
 use Rattle.data_map.proofs.Shape.{replicas_inside}
@@ -21,7 +21,7 @@ use Rattle.stripe_plan.specs.Laws.{word_of, IsWithin, IsGot}
 use Rattle.stripe_plan.proofs.Columning.{word_is, decoded_is}
 use Rattle.stripe_plan.proofs.Covering.{column_touched, own_touched}
 use Rattle.stripe_plan.proofs.ReadLaws.{hit_is, few_lost, stripe_touched}
-use Rattle.plan_law.specs.FileLayout.{column_of_cell, word_in}
+use Rattle.plan_law.specs.FileLayout.{column_of_cell}
 use Rattle.plan_law.specs.Got.{Fits}
 use Rattle.plan_law.specs.Guards.{ReadsFit, RepliesFit}
 use Rattle.plan_law.proofs.Cells.{with_parity, col_coded, col_plain, cell_plain}

@@ -6,7 +6,7 @@ use Rattle.std.proofs.lemmas.Bool.{cases_Bool, cases_eq, lt-ltb}
 use Rattle.std.proofs.lemmas.Nat.{div-add-mod', mod_below, div-mul-add, mod-mul-add}
 use Rattle.data_map.specs.declared.check.RawMap.{RawMap}
 use Rattle.data_map.specs.Check.{IsChecked}
-use Rattle.data_map.specs.Striping.{replicas, stripe_of, data_unit_of, column_of, group_width, parities, position_of, offset_of}
+use Rattle.data_map.specs.Striping.{replicas, stripe_of, data_unit_of, column_of, group_width, position_of, offset_of}
 use Rattle.data_map.specs.Striping.{place_of}
 use Rattle.data_map.specs.Inverse.{stripe_at, byte_at}
 use Rattle.data_map.proofs.Striping.{column_below, data_unit_below, position_below, position_in_range, unit_found, found_again}

@@ -1,6 +1,6 @@
 -- What the machine asks of a write's start.
 use Rattle.std.proofs.Common.{◌≡◌, ℕ, ◌+◌, ◌-◌, ◌*◌, ◌/◌, ◌%◌, ◌<◌, ◌≤◌, Bool, true, false, List, length, refl, sym, ap, ◌∙◌}
-use Rattle.std.proofs.Common.{arith, inl, inr, eq-eqb, ne_eqb}
+use Rattle.std.proofs.Common.{arith, inl, inr}
 use Rattle.std.specs.Prelude.{◌&&◌, not, nat_lt, Some, None}
 use Rattle.std.proofs.lemmas.Bool.{cases_Bool, cases_lt, lt-ltb, le-leb}
 use Rattle.std.proofs.lemmas.Nat.{mod_below, div-mul-add, mod-mul-add}
@@ -16,7 +16,7 @@ use Rattle.data_map.proofs.Striping.{column_below, data_unit_below, position_in_
 use Rattle.data_map.proofs.Shape.{replicas_inside}
 use Rattle.stripe_plan.specs.declared.plan.Span.{Span}
 use Rattle.stripe_plan.specs.Touched.{end_of, stripes, unit_start}
-use Rattle.stripe_plan.specs.Lost.{among, unwritable}
+use Rattle.stripe_plan.specs.Lost.{unwritable}
 use Rattle.stripe_plan.specs.Words.{lost_from}
 use Rattle.stripe_plan.proofs.ReadLaws.{stripe_touched}
 use Rattle.stripe_plan.proofs.WriteLaws.{few_out}

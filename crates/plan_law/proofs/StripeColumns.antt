@@ -3,7 +3,7 @@ use Rattle.std.proofs.Common.{◌≡◌, ℕ, ◌/◌, ◌%◌, true, refl, inl,
 use Rattle.std.proofs.lemmas.Nat.{div-mul-add, mod_below}
 use Rattle.data_map.specs.declared.check.RawMap.{RawMap}
 use Rattle.data_map.specs.Check.{IsChecked}
-use Rattle.data_map.specs.Striping.{replicas, parities, stripe_of, column_of}
+use Rattle.data_map.specs.Striping.{replicas, stripe_of, column_of}
 use Rattle.data_map.specs.Inverse.{stripe_at, unit_at}
 use Rattle.data_map.proofs.Striping.{column_below, byte_stripe}
 use Rattle.stripe_plan.specs.declared.plan.Span.{Span}

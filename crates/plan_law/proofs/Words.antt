@@ -1,10 +1,10 @@
 -- The words of a column are known by the cells whose components aren't out.
-use Rattle.std.proofs.Common.{◌≡◌, ℕ, ◌/◌, ◌%◌, ◌<◌, Bool, true, false, List, sym, ap, ◌∙◌, arith, inl, inr}
-use Rattle.std.proofs.lemmas.Bool.{cases_Bool, cases_lt, lt-ltb}
+use Rattle.std.proofs.Common.{◌≡◌, ℕ, ◌/◌, ◌%◌, ◌<◌, Bool, true, false, List, sym, ap, ◌∙◌, inl, inr}
+use Rattle.std.proofs.lemmas.Bool.{cases_Bool, lt-ltb}
 use Rattle.std.proofs.lemmas.Nat.{mod_below}
 use Rattle.data_map.specs.declared.check.RawMap.{RawMap}
 use Rattle.data_map.specs.Check.{IsChecked}
-use Rattle.data_map.specs.Striping.{replicas, stripe_of, column_of, parities}
+use Rattle.data_map.specs.Striping.{replicas, stripe_of, column_of}
 use Rattle.data_map.specs.Inverse.{stripe_at, unit_at, byte_at}
 use Rattle.data_map.proofs.Striping.{column_below, byte_stripe}
 use Rattle.stripe_plan.specs.Lost.{among, is_short}

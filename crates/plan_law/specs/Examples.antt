@@ -6,7 +6,6 @@ use Rattle.fence_law.specs.State.{State}
 use Rattle.fence_law.specs.Machine.{new_file_state}
 use Rattle.stripe_plan.specs.declared.plan.Span.{Span}
 use Rattle.stripe_plan.specs.declared.plan.Column.{Column}
-use Rattle.stripe_plan.specs.declared.plan.Ask.{Ask}
 use Rattle.stripe_plan.specs.declared.plan.Store.{Store}
 use Rattle.stripe_plan.specs.declared.plan.Aim.TheVariants.{Reads}
 use Rattle.stripe_plan.specs.Touched.{stripes}
