@@ -17,3 +17,4 @@ pub mod Decoded
 pub mod Examples
 pub mod StripeColumns
 pub mod Within
+pub mod PieceRows

@@ -6,4 +6,5 @@ pub mod Layouts
 pub mod Sending
 pub mod Guards
 pub mod Known
+pub mod Pieces
 pub mod Examples

@@ -3,6 +3,7 @@ ghost use Rattle.plan_law.specs.Examples.{ExamplesAreMet};
 ghost use Rattle.plan_law.specs.Guards.{ContentsAreCarried, ReadsFit, ReadsMayAnswer, RepairsMayWrite, RepairsStand, RepliesFit, StartsAreAllowed, WritesMayStart};
 ghost use Rattle.plan_law.specs.Known.{ColumnsAreKnown, DecodedAreWords, RebuildsAreKnown, WordsAreKnown};
 ghost use Rattle.plan_law.specs.Layouts.{ColumnsAreStripes, ColumnsHaveStripes, LayoutsAreCodes};
+ghost use Rattle.plan_law.specs.Pieces.{RebuildsCopyWords, RebuildsWriteWords, RepairsWriteWords};
 ghost use Rattle.plan_law.specs.Sending.{PayloadsAreRight, StoresAreRight, WritableWithin, WrittenWordsAreKnown};
 
 /// The layout of each checked map is a code, so the laws of `fence_law` speak of it: a cell depends on the bytes of its
@@ -114,6 +115,22 @@ pub fn rebuilds_are_known()
 /// words.
 pub fn decoded_are_words()
     ensures { DecodedAreWords }
+{}
+
+/// The row that a repair wants of a component, parity or a replica, has the words of the data whose rows it read: so
+/// what it writes makes the piece codewords of these data.
+pub fn repairs_write_words()
+    ensures { RepairsWriteWords }
+{}
+
+/// The row of a present replica has the words of each component of its position, so a rebuild may write it.
+pub fn rebuilds_copy_words()
+    ensures { RebuildsCopyWords }
+{}
+
+/// The row that a rebuild decodes has the words of the data of which it read the other units.
+pub fn rebuilds_write_words()
+    ensures { RebuildsWriteWords }
 {}
 
 /// The premises can be met: of writes of one byte by old data and old parity, with every component there and with one

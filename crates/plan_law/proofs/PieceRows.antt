@@ -30,7 +30,7 @@ use Rattle.plan_law.proofs.Codes.{both, same_word}
 use Rattle.plan_law.proofs.Decoded.{decoded_are_words}
 use Rattle.stripe_plan.proofs.StripeRows.{same_range}
 use Rattle.data_map.proofs.Inverse.{some_is}
-use Rattle.piece_law.specs.Pieces.{RepairsWriteWords, RebuildsCopyWords, RebuildsWriteWords}
+use Rattle.plan_law.specs.Pieces.{RepairsWriteWords, RebuildsCopyWords, RebuildsWriteWords}
 
 -- ---- rows
 
