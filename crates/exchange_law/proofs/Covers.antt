@@ -1,4 +1,4 @@
--- What a read asks covers all that it needs and that it hasn't.
+-- What a read or a gather asks covers all that it needs and that it hasn't.
 use Rattle.std.proofs.Common.{◌≡◌, ◌<◌, ◌≤◌, ◌⊎◌, ℕ, zero, suc, ◌+◌, ◌-◌, ◌*◌, false, List, [], ◌∷◌, ◌++◌, refl, sym, inl, inr, arith, eq-eqb, ne_eqb}
 use Rattle.std.specs.Prelude.{Option, Some, None, is_none}
 use Rattle.std.specs.List.{range_with_len}
@@ -11,10 +11,11 @@ use Rattle.stripe_plan.specs.declared.plan.Span.{Span}
 use Rattle.stripe_plan.specs.declared.plan.Interval.{Interval}
 use Rattle.stripe_plan.specs.declared.plan.Stretch.{Stretch}
 use Rattle.stripe_plan.specs.declared.plan.Ask.{Ask}
-use Rattle.stripe_plan.specs.declared.plan.Aim.TheVariants.{Reads as ToRead}
+use Rattle.stripe_plan.specs.declared.plan.Aim.{Aim}
+use Rattle.stripe_plan.specs.declared.plan.Aim.TheVariants.{Reads, Gathers, Scatters}
 use Rattle.stripe_plan.specs.Touched.{end_of, stripes, IsTouchedStripe}
 use Rattle.stripe_plan.specs.Lost.{source, is_out}
-use Rattle.stripe_plan.specs.Asks.{needed, at_rows, before, behind, without, without_each, asks_of, asks_source, asks_place, asks_stripe, asks}
+use Rattle.stripe_plan.specs.Asks.{needed, at_rows, before, behind, without, without_each, asks_of, asks_source, asks_position, asks_place, asks_stripe, asks}
 use Rattle.stripe_plan.specs.Laws.{IsWithin}
 use Rattle.exchange_law.proofs.Rising.{IsAmong}
 
@@ -84,6 +85,18 @@ source_point : (s p o : ℕ) (k : Option ℕ) (is : List Interval) → is_none k
 source_point s p o None is n w = absurd (cc n)
 source_point s p o (Some k) is n w = of_point s p k o is w
 
+-- a read and a gather ask one replica of a position
+abbrev pub AsksOne : Aim → Type 0
+AsksOne Reads = Unit {0}
+AsksOne Gathers = Unit {0}
+AsksOne Scatters = ⊥
+
+position_point : (aim : Aim) (m : RawMap) (out : List ℕ) (s p o : ℕ) (is : List Interval) → AsksOne aim → is_out m out p ≡ false → IsWithin o is →
+    IsAsked (asks_position aim m out s p is) p o
+position_point Reads m out s p o is one n w = source_point s p o (source m out p) is n w
+position_point Gathers m out s p o is one n w = source_point s p o (source m out p) is n w
+position_point Scatters m out s p o is one n w = absurd one
+
 shift : (k a b : ℕ) → a ≤ b → k + a ≤ k + b
 shift k a b l = omega (arith, l)
 
@@ -95,31 +108,31 @@ rows_point m s b [] w = absurd w
 rows_point m s b (i ∷ is) (inl w) = inl (shift (row_of m s * m.unit) i.first b w.0, shift_less (row_of m s * m.unit) b i.end w.1)
 rows_point m s b (i ∷ is) (inr w) = inr (rows_point m s b is w)
 
-place_point : (m : RawMap) (r : Span) (out : List ℕ) (hs : List Stretch) (s b c i p : ℕ) → c ≡ unit_in m s i → p ≡ group_of m s * group_width m + i → is_out m out p ≡ false → IsWithin b (needed ToRead m r out s c) →
-    HasStretch hs p (offset_of m s b) ⊎ IsAsked (asks_place ToRead m r out hs s i) p (offset_of m s b)
+place_point : (aim : Aim) (m : RawMap) (r : Span) (out : List ℕ) (hs : List Stretch) (s b c i p : ℕ) → AsksOne aim → c ≡ unit_in m s i → p ≡ group_of m s * group_width m + i → is_out m out p ≡ false → IsWithin b (needed aim m r out s c) →
+    HasStretch hs p (offset_of m s b) ⊎ IsAsked (asks_place aim m r out hs s i) p (offset_of m s b)
 unfolding asks_place
-place_point m r out hs s b c i p e f n w =
-    let rows : IsWithin (offset_of m s b) (at_rows m s (needed ToRead m r out s (unit_in m s i))) = rows_point m s b (needed ToRead m r out s (unit_in m s i)) (rw e at w) in
+place_point aim m r out hs s b c i p one e f n w =
+    let rows : IsWithin (offset_of m s b) (at_rows m s (needed aim m r out s (unit_in m s i))) = rows_point m s b (needed aim m r out s (unit_in m s i)) (rw e at w) in
     let here : is_out m out (group_of m s * group_width m + i) ≡ false = rw f at n in
-    rw f (elim (each_point hs (group_of m s * group_width m + i) (offset_of m s b) (at_rows m s (needed ToRead m r out s (unit_in m s i))) rows) [
+    rw f (elim (each_point hs (group_of m s * group_width m + i) (offset_of m s b) (at_rows m s (needed aim m r out s (unit_in m s i))) rows) [
       | inl h ↦ inl h
-      | inr x ↦ inr (source_point s (group_of m s * group_width m + i) (offset_of m s b) (source m out (group_of m s * group_width m + i)) _ here x)
+      | inr x ↦ inr (position_point aim m out s (group_of m s * group_width m + i) (offset_of m s b) _ one here x)
     ])
 
-stripe_point : (m : RawMap) (r : Span) (out : List ℕ) (hs : List Stretch) (s i j n p o : ℕ) → i ≤ j → j < i + n → IsAsked (asks_place ToRead m r out hs s j) p o → IsAsked (asks_stripe ToRead m r out hs s i n) p o
+stripe_point : (aim : Aim) (m : RawMap) (r : Span) (out : List ℕ) (hs : List Stretch) (s i j n p o : ℕ) → i ≤ j → j < i + n → IsAsked (asks_place aim m r out hs s j) p o → IsAsked (asks_stripe aim m r out hs s i n) p o
 unfolding asks_stripe
-stripe_point m r out hs s i j zero p o l u x = absurd (omega (arith, l, u))
-stripe_point m r out hs s i j (suc n) p o l u x = elim (cases_eq j i) [
-  | inl same ↦ let here : IsAsked (asks_place ToRead m r out hs s i) p o = rw same at x in asked_left (asks_place ToRead m r out hs s i) (asks_stripe ToRead m r out hs s (i + 1) n) p o here
-  | inr other ↦ asked_right (asks_place ToRead m r out hs s i) (asks_stripe ToRead m r out hs s (i + 1) n) p o (stripe_point m r out hs s (i + 1) j n p o (omega (arith, l, other)) (omega (arith, u)) x)
+stripe_point aim m r out hs s i j zero p o l u x = absurd (omega (arith, l, u))
+stripe_point aim m r out hs s i j (suc n) p o l u x = elim (cases_eq j i) [
+  | inl same ↦ let here : IsAsked (asks_place aim m r out hs s i) p o = rw same at x in asked_left (asks_place aim m r out hs s i) (asks_stripe aim m r out hs s (i + 1) n) p o here
+  | inr other ↦ asked_right (asks_place aim m r out hs s i) (asks_stripe aim m r out hs s (i + 1) n) p o (stripe_point aim m r out hs s (i + 1) j n p o (omega (arith, l, other)) (omega (arith, u)) x)
 ]
 
-all_point : (m : RawMap) (r : Span) (out : List ℕ) (hs : List Stretch) (s p o : ℕ) (ss : List ℕ) → IsAmong s ss → IsAsked (asks_stripe ToRead m r out hs s 0 (group_width m)) p o → IsAsked (asks ToRead m r out hs ss) p o
+all_point : (aim : Aim) (m : RawMap) (r : Span) (out : List ℕ) (hs : List Stretch) (s p o : ℕ) (ss : List ℕ) → IsAmong s ss → IsAsked (asks_stripe aim m r out hs s 0 (group_width m)) p o → IsAsked (asks aim m r out hs ss) p o
 unfolding asks
-all_point m r out hs s p o [] i x = absurd i
-all_point m r out hs s p o (t ∷ ss) (inl e) x =
-    let here : IsAsked (asks_stripe ToRead m r out hs t 0 (group_width m)) p o = rw e at x in asked_left (asks_stripe ToRead m r out hs t 0 (group_width m)) (asks ToRead m r out hs ss) p o here
-all_point m r out hs s p o (t ∷ ss) (inr i) x = asked_right (asks_stripe ToRead m r out hs t 0 (group_width m)) (asks ToRead m r out hs ss) p o (all_point m r out hs s p o ss i x)
+all_point aim m r out hs s p o [] i x = absurd i
+all_point aim m r out hs s p o (t ∷ ss) (inl e) x =
+    let here : IsAsked (asks_stripe aim m r out hs t 0 (group_width m)) p o = rw e at x in asked_left (asks_stripe aim m r out hs t 0 (group_width m)) (asks aim m r out hs ss) p o here
+all_point aim m r out hs s p o (t ∷ ss) (inr i) x = asked_right (asks_stripe aim m r out hs t 0 (group_width m)) (asks aim m r out hs ss) p o (all_point aim m r out hs s p o ss i x)
 
 among_range : (a n s : ℕ) → a ≤ s → s < a + n → IsAmong s (range_with_len a n)
 among_range a zero s l u = absurd (omega (arith, l, u))
@@ -142,10 +155,10 @@ none_below a = omega arith
 from_none : (a b : ℕ) → a < b → a < 0 + b
 from_none a b l = omega (arith, l)
 
-pub asks_cover : (m : RawMap) (r : Span) (out : List ℕ) (hs : List Stretch) (s b c : ℕ) → 0 < r.length → IsTouchedStripe m r s → c < group_width m → is_out m out (position_of m s c) ≡ false →
-    IsWithin b (needed ToRead m r out s c) → HasStretch hs (position_of m s c) (offset_of m s b) ⊎ IsAsked (asks ToRead m r out hs (stripes m r)) (position_of m s c) (offset_of m s b)
-asks_cover m r out hs s b c some t l n w =
-    elim (place_point m r out hs s b c (turned m s c) (position_of m s c) (sym (unit_again m s c l)) (swapped (turned m s c) (group_of m s * group_width m)) n w) [
+pub asks_cover : (aim : Aim) (m : RawMap) (r : Span) (out : List ℕ) (hs : List Stretch) (s b c : ℕ) → AsksOne aim → 0 < r.length → IsTouchedStripe m r s → c < group_width m → is_out m out (position_of m s c) ≡ false →
+    IsWithin b (needed aim m r out s c) → HasStretch hs (position_of m s c) (offset_of m s b) ⊎ IsAsked (asks aim m r out hs (stripes m r)) (position_of m s c) (offset_of m s b)
+asks_cover aim m r out hs s b c one some t l n w =
+    elim (place_point aim m r out hs s b c (turned m s c) (position_of m s c) one (sym (unit_again m s c l)) (swapped (turned m s c) (group_of m s * group_width m)) n w) [
       | inl h ↦ inl h
-      | inr x ↦ inr (all_point m r out hs s (position_of m s c) (offset_of m s b) (stripes m r) (stripe_among m r s some t) (stripe_point m r out hs s 0 (turned m s c) (group_width m) (position_of m s c) (offset_of m s b) (none_below (turned m s c)) (from_none (turned m s c) (group_width m) (turned_below m s c l)) x))
+      | inr x ↦ inr (all_point aim m r out hs s (position_of m s c) (offset_of m s b) (stripes m r) (stripe_among m r s some t) (stripe_point aim m r out hs s 0 (turned m s c) (group_width m) (position_of m s c) (offset_of m s b) (none_below (turned m s c)) (from_none (turned m s c) (group_width m) (turned_below m s c l)) x))
     ]

@@ -172,7 +172,7 @@ ready_sent : (h : Held) (r : Span) (got : List Column) (timed : List TimedOut) (
     IsReady h.map r (outs h timed) got (awaited ++ read_commands h (reads_due h r got timed awaited)) (nonce_at h (h.count + length (read_commands h (reads_due h r got timed awaited))))
 ready_sent h r got timed awaited some u b = record {
   readable = u;
-  needs = λ s b c t l n w. had_sent h got awaited (reads_due h r got timed awaited) (position_of h.map s c) (offset_of h.map s b) (asks_cover h.map r (outs h timed) (had got awaited) s b c some t l n w);
+  needs = λ s b c t l n w. had_sent h got awaited (reads_due h r got timed awaited) (position_of h.map s c) (offset_of h.map s b) (asks_cover ToRead h.map r (outs h timed) (had got awaited) s b c tt some t l n w);
   nonces = sent_below h awaited (reads_due h r got timed awaited) b;
 }
 

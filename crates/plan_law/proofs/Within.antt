@@ -1,0 +1,62 @@
+-- What can be written over a range can be over each range in it.
+use Rattle.std.proofs.Common.{◌≡◌, ℕ, zero, suc, ◌+◌, ◌-◌, ◌<◌, ◌≤◌, Bool, true, false, List, [], refl, sym, ap, ◌∙◌, arith, inl}
+use Rattle.std.proofs.Common.{inr, eq-eqb}
+use Rattle.std.specs.Prelude.{if◌then◌else◌, Option, Some, None}
+use Rattle.std.specs.List.{range_with_len}
+use Rattle.std.proofs.lemmas.Bool.{cases_eq, cases_lt}
+use Rattle.data_map.specs.declared.check.RawMap.{RawMap}
+use Rattle.data_map.specs.Striping.{stripe_of, stripe_length}
+use Rattle.data_map.proofs.Covering.{div_mono}
+use Rattle.data_map.proofs.Shape.{some_stripe}
+use Rattle.stripe_plan.specs.declared.plan.Span.{Span}
+use Rattle.stripe_plan.specs.Touched.{end_of, stripes}
+use Rattle.stripe_plan.specs.Lost.{is_short, unwritable}
+use Rattle.stripe_plan.proofs.ReadLaws.{stripes_are}
+use Rattle.plan_law.specs.Sending.{WritableWithin}
+
+can_write : (m : RawMap) (out : List ℕ) (a n s : ℕ) → unwritable m out (range_with_len a n) ≡ None → a ≤ s → s < a + n →
+    is_short m out s ≡ false
+unfolding unwritable
+can_write m out a zero s can le lt = absurd (omega (arith, le, lt))
+can_write m out a (suc n) s can le lt = elim (cases_eq a s) [
+  | inl same ↦ ap (is_short m out) (sym same) ∙ first (is_short m out a) _ _ can
+  | inr other ↦ can_write m out (a + 1) n s (rest (is_short m out a) _ _ can) (omega (arith, le, other)) (omega (arith, lt))
+]
+  where
+    first : (b : Bool) (ps : List ℕ) (o : Option (List ℕ)) → (if b then Some ps else o) ≡ None → b ≡ false
+    first true ps o e = absurd (cc e)
+    first false ps o e = refl
+
+    rest : (a : Bool) (ps : List ℕ) (o : Option (List ℕ)) → (if a then Some ps else o) ≡ None → o ≡ None
+    rest true ps o e = absurd (cc e)
+    rest false ps o e = e
+
+none_short : (m : RawMap) (out : List ℕ) (a n : ℕ) → ((s : ℕ) → a ≤ s → s < a + n → is_short m out s ≡ false) →
+    unwritable m out (range_with_len a n) ≡ None
+unfolding unwritable
+none_short m out a zero fine = refl
+none_short m out a (suc n) fine = rw (fine a (omega arith) (omega arith))
+    (none_short m out (a + 1) n (λ s le lt. fine s (omega (arith, le)) (omega (arith, lt))))
+
+no_stripes : (m : RawMap) (q : Span) → q.length ≡ 0 → stripes m q ≡ []
+unfolding stripes
+no_stripes m q none = rw (eq-eqb q.length 0 none) refl
+
+nothing : (m : RawMap) (out : List ℕ) → unwritable m out [] ≡ None
+unfolding unwritable
+nothing m out = refl
+
+pub writable_within : WritableWithin
+writable_within m out r q c from to can = elim (cases_lt 0 q.length) [
+  | inr none ↦ ap (unwritable m out) (no_stripes m q (omega (arith, none))) ∙ nothing m out
+  | inl some ↦
+      let more : 0 < r.length = omega (arith, from, to, some) in
+      let all : unwritable m out (range_with_len (stripe_of m r.offset) (stripe_of m (end_of r - 1) + 1 - stripe_of m r.offset))
+      ≡ None = rw (stripes_are m r more) at can in
+      let low = div_mono r.offset q.offset (stripe_length m) (some_stripe m c) from in
+      let high = div_mono (end_of q - 1) (end_of r - 1) (stripe_length m) (some_stripe m c) (omega (arith, to)) in
+      ap (unwritable m out) (stripes_are m q some)
+      ∙ none_short m out (stripe_of m q.offset) (stripe_of m (end_of q - 1) + 1 - stripe_of m q.offset)
+      (λ s le lt. can_write m out (stripe_of m r.offset) (stripe_of m (end_of r - 1) + 1 - stripe_of m r.offset) s all
+      (omega (arith, le, low)) (omega (arith, le, lt, low, high)))
+]

@@ -1,0 +1,10 @@
+pub mod FileLayout
+pub mod Writes
+pub mod Got
+pub mod Standing
+pub mod Layouts
+pub mod Sending
+pub mod Guards
+pub mod Known
+pub mod Pieces
+pub mod Examples
