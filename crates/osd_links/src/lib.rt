@@ -5,9 +5,11 @@
 #![tactic(auto)]
 
 mod clock;
+mod printable;
 mod streams;
 mod tcp;
 
 pub use clock::SystemClock;
+pub use printable::Printable;
 pub use streams::{StdSink, StdSource};
 pub use tcp::{PATIENCE_SECONDS, TcpLinks};

@@ -2,9 +2,10 @@ ghost use Rattle.std.specs.Prelude.{◌≡◌, [], None, false};
 ghost use Rattle.osd_bytes.specs.Counts.{asking_count};
 ghost use Rattle.osd_links.specs.Linked.{Faulted};
 
-use osd_bytes::{Bytes, Fault, Links, Node, Peers};
+use crate::printable::Printable;
+use osd_bytes::{Bytes, Fault, Links, Memory, Node, Peers};
 use std::alloc::Global;
-use std::io::{ErrorKind, Read, Write};
+use std::io::{Eprint, ErrorKind, Read, Write};
 use std::marker::Model;
 use std::net::{Net, OpenListener, OpenStream, TcpListener, TcpStream, ToSocketAddrs};
 use std::str;
@@ -34,7 +35,7 @@ struct Asking<S> {
 /// A call on a peer that keeps silent for [`PATIENCE_SECONDS`] fails. `accept` waits for a
 /// connection as long as it takes, and passes over one that its peer gave up while it waited.
 #[derive(Drop)]
-pub struct TcpLinks<R: Net> {
+pub struct TcpLinks<R: Net + Eprint> {
     runtime: R,
     listen: Bytes,
     peers: Peers,
@@ -44,7 +45,7 @@ pub struct TcpLinks<R: Net> {
     counts: Counts,
 }
 
-impl<R: Net> Model for TcpLinks<R> {
+impl<R: Net + Eprint> Model for TcpLinks<R> {
     ghost use Rattle.std.specs.Prelude.{is_some, option_map};
     ghost use Rattle.osd_links.specs.Linked.{Linked};
 
@@ -101,7 +102,7 @@ fn is_passed_over(kind: ErrorKind) -> bool {
     )
 }
 
-impl<R: Net + Drop> TcpLinks<R> {
+impl<R: Net + Eprint + Drop> TcpLinks<R> {
     /// Links without an address and without a connection, by a handle of the runtime.
     pub fn new(runtime: R, alloc: Global) -> Self
         ensures { result ≡ record {
@@ -178,7 +179,7 @@ impl<R: Net + Drop> TcpLinks<R> {
     }
 }
 
-impl<R: Net + Drop> Links for TcpLinks<R> {
+impl<R: Net + Eprint + Drop> Links for TcpLinks<R> {
     ghost use Rattle.std.specs.Prelude.{None};
 
     ghost standing = { λ l. l.standing };
@@ -266,5 +267,11 @@ impl<R: Net + Drop> Links for TcpLinks<R> {
 
     fn hang_up(&mut self) {
         self.asking = None;
+    }
+
+    // It goes to standard error at once. Where that fails nobody can be told.
+    fn note(&mut self, line: &[u8]) -> Result<(), Memory> {
+        let _told = self.runtime.eprintln(Printable::new(line));
+        Ok(())
     }
 }
