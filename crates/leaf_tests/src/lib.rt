@@ -36,6 +36,8 @@ mod message_cases;
 #[cfg(test)]
 mod objects;
 #[cfg(test)]
+mod patience;
+#[cfg(test)]
 mod plan_cases;
 #[cfg(test)]
 mod plans;

@@ -5,9 +5,21 @@
 #![tactic(auto)]
 
 mod clock;
+mod faults;
+mod patience;
+mod printable;
+mod resting;
+mod stopwatch;
 mod streams;
 mod tcp;
+mod timed;
 
 pub use clock::SystemClock;
+pub use faults::{Cause, LinkFault, Party};
+pub use patience::{
+    CALLER_PATIENCE_SECONDS, CLIENT_PATIENCE_SECONDS, DRIVE_PATIENCE_SECONDS, Limits, Patience,
+    RECORD_SECONDS, REST_SECONDS, SERVER_PATIENCE_SECONDS,
+};
+pub use printable::Printable;
 pub use streams::{StdSink, StdSource};
-pub use tcp::{PATIENCE_SECONDS, TcpLinks};
+pub use tcp::TcpLinks;
