@@ -5,10 +5,10 @@ use Rattle.osd_bytes.specs.Counts.{Faults}
 use Rattle.osd_serving.specs.declared.errors.ServeErr.{ServeErr}
 use Rattle.osd_serving.specs.declared.errors.ServeErr.TheVariants.{LinkFault as NoConnection, Memory as NoMemory}
 use Rattle.osd_drive.specs.State.{DriveState}
-use Rattle.osd_drive.specs.Serving.{Ends, IsRefused, ServesAll}
+use Rattle.osd_drive.specs.Serving.{Ends, IsRefused, ServesEach}
 use Rattle.drive_command.specs.Ends.{StopsAccepting, stop_of_serving}
 
-no_fewer : (n : ℕ) (old new : DriveState) (a b : Ends) → ServesAll n old new a b → a.faults.listening ≤ b.faults.listening
+no_fewer : (n : ℕ) (old new : DriveState) (a b : Ends) → ServesEach n old new a b → a.faults.listening ≤ b.faults.listening
 no_fewer zero old new a b s = omega (arith, ap (λ (e : Ends). e.faults.listening) s.1)
 no_fewer (suc n) old new a b s =
     let first = no_fewer n old s.0 a s.1 s.2 in

@@ -12,15 +12,13 @@ use Rattle.osd_bytes.specs.declared.records.TheConstants.{MAX_RECORD}
 use Rattle.osd_serving.specs.Inboxes.{Came, Coming, Reads, Talked, Told, WasTaken}
 use Rattle.osd_serving.specs.Inboxes as over
 use Rattle.osd_serving.specs.declared.inbox.TheConstants.{MAX_TAKEN}
-use Rattle.osd_serving.proofs.TalkLaws.{talked-nil, talked-put, talked-same, talked-taken, told-then}
+use Rattle.osd_serving.proofs.TalkLaws.{talked-nil, talked-noted, talked-put, talked-same, talked-taken, told-then}
 use Rattle.osd_drive.specs.State.{DriveState}
+use Rattle.osd_bytes.specs.Connections.{after_notes}
 use Rattle.osd_drive.specs.Effects.{drive_after}
-use Rattle.osd_drive.specs.Serving.{AcceptsOne, Answers, Ends, Handled, IsOver, Serves, ServesAll, ServesConnection, ServesMore, after_all, frames, reply_bytes}
+use Rattle.osd_drive.specs.Serving.{AcceptsOne, Answers, Ends, Handled, IsOver, Serves, ServesConnection, ServesEach, ServesMore, after_all, frames, handled_at, last_after, last_of, lines_of, notes_of, reply_bytes}
 
 -- ---- one more record
-
-abbrev handled_at : (time : ℕ) → (message : List ℕ) → Handled
-handled_at time message = record { time = time; message = message }
 
 pub after-more : (d : DriveState) (hs : List Handled) (h : Handled) → after_all d (hs ++ h ∷ []) ≡ drive_after (after_all d hs) h.time h.message
 after-more d [] h = refl
@@ -32,6 +30,18 @@ frames-more d [] h = append-nil _
 frames-more d (g ∷ hs) h =
     ap (λ (x : List ℕ). framed (reply_bytes d g.time g.message) ++ x) (frames-more (drive_after d g.time g.message) hs h)
     ∙ sym (append_assoc (framed (reply_bytes d g.time g.message)) (frames (drive_after d g.time g.message) hs) _)
+
+notes-more : (d : DriveState) (last : Option ℕ) (hs : List Handled) (h : Handled)
+    → notes_of d last (hs ++ h ∷ []) ≡ notes_of d last hs ++ lines_of (after_all d hs) (last_after d last hs) h
+notes-more d last [] h = append-nil _
+notes-more d last (g ∷ hs) h =
+    ap (λ (x : List (List ℕ)). lines_of d last g ++ x) (notes-more (drive_after d g.time g.message) (last_of d last g) hs h)
+    ∙ sym (append_assoc (lines_of d last g) (notes_of (drive_after d g.time g.message) (last_of d last g) hs) _)
+
+last-more : (d : DriveState) (last : Option ℕ) (hs : List Handled) (h : Handled)
+    → last_after d last (hs ++ h ∷ []) ≡ last_of (after_all d hs) (last_after d last hs) h
+last-more d last [] h = refl
+last-more d last (g ∷ hs) h = last-more (drive_after d g.time g.message) (last_of d last g) hs h
 
 fewer-then : (a b c : Faults) → NoFewer a b → NoFewer b c → NoFewer a c
 fewer-then a b c p q = record {
@@ -57,14 +67,20 @@ rose-before a b c r less = omega (arith, less, r)
 more-of : (puts still : Bool) (first new : DriveState) (begin before now : Ends) (taken : List ℕ) (handled : List Handled) (time : ℕ) (message put unput : List ℕ)
     → Told begin.times (map (λ h. h.time) handled) before.times → TellsTime before.times now.times time
     → new ≡ drive_after (after_all first handled) time message
-    → Talked begin.told now.told taken put → frames first handled ++ framed (reply_bytes (after_all first handled) time message) ≡ put ++ unput
+    → before.last ≡ last_after first begin.last handled → now.last ≡ last_of (after_all first handled) before.last (handled_at time message)
+    → Talked begin.told now.told taken put (notes_of first begin.last handled ++ lines_of (after_all first handled) before.last (handled_at time message))
+    → frames first handled ++ framed (reply_bytes (after_all first handled) time message) ≡ put ++ unput
     → NoFewer begin.faults now.faults → (still ≡ true → unput ≡ [])
     → (still ≡ false → Rose begin.faults.accepted now.faults.accepted)
     → Serves still first new begin now taken (handled ++ handled_at time message ∷ [])
-more-of puts still first new begin before now taken handled time message put unput told tells state talked replies faults stands broke = record {
+more-of puts still first new begin before now taken handled time message put unput told tells state last newest talked replies faults stands broke = record {
   put = put;
   unput = unput;
-  talked = talked;
+  talked = subst (λ (ns : List (List ℕ)). Talked begin.told now.told taken put ns)
+      (ap (λ (l : Option ℕ). notes_of first begin.last handled ++ lines_of (after_all first handled) l (handled_at time message)) last
+      ∙ sym (notes-more first begin.last handled (handled_at time message))) talked;
+  last = newest ∙ ap (λ (l : Option ℕ). last_of (after_all first handled) l (handled_at time message)) last
+      ∙ sym (last-more first begin.last handled (handled_at time message));
   state = state ∙ sym (after-more first handled (handled_at time message));
   replies = frames-more first handled (handled_at time message) ∙ replies;
   times = subst (λ (ts : List ℕ). Told begin.times ts now.times) (sym (map-append (λ (h : Handled). h.time) handled (handled_at time message ∷ [])))
@@ -74,20 +90,29 @@ more-of puts still first new begin before now taken handled time message put unp
   broke = broke;
 }
 
+-- what a record tells
+with_lines : (first : DriveState) (begin before : Ends) (taken : List ℕ) (handled : List Handled) (message put : List ℕ) (time : ℕ)
+    → Talked begin.told before.told taken put (notes_of first begin.last handled)
+    → Talked begin.told (after_notes (lines_of (after_all first handled) before.last (handled_at time message)) before.told) taken put
+    (notes_of first begin.last handled ++ lines_of (after_all first handled) before.last (handled_at time message))
+with_lines first begin before taken handled message put time t = talked-noted _ _ _ taken put _ _ t refl
+
 answered : (puts still : Bool) (first new : DriveState) (begin before now : Ends) (taken : List ℕ) (handled : List Handled) (message : List ℕ)
     → Serves puts first (after_all first handled) begin before taken handled → (a : Answers puts still (after_all first handled) new before now message)
     → Serves still first new begin now taken (handled ++ handled_at a.time message ∷ [])
 answered true true first new begin before now taken handled message s a =
     let reply = framed (reply_bytes (after_all first handled) a.time message) in
-    more-of true true first new begin before now taken handled a.time message (s.put ++ reply) [] s.times a.told a.state
-    (talked-put _ _ _ taken s.put reply s.talked a.reply.0)
+    let noted = with_lines first begin before taken handled message s.put a.time s.talked in
+    more-of true true first new begin before now taken handled a.time message (s.put ++ reply) [] s.times a.told a.state s.last a.last
+    (talked-put _ _ _ taken s.put reply _ noted a.reply.0)
     (ap (λ (x : List ℕ). x ++ reply) (s.replies ∙ ap (λ (x : List ℕ). s.put ++ x) (s.stands refl) ∙ append-nil s.put) ∙ sym (append-nil (s.put ++ reply)))
     (fewer-same _ _ _ s.faults a.reply.1) (λ e. refl) (λ e. absurd (cc e))
 answered true false first new begin before now taken handled message s a =
     let reply = framed (reply_bytes (after_all first handled) a.time message) in
     let went = a.reply.0 in
-    more-of true false first new begin before now taken handled a.time message (s.put ++ went.0) went.1 s.times a.told a.state
-    (talked-put _ _ _ taken s.put went.0 s.talked went.3)
+    let noted = with_lines first begin before taken handled message s.put a.time s.talked in
+    more-of true false first new begin before now taken handled a.time message (s.put ++ went.0) went.1 s.times a.told a.state s.last a.last
+    (talked-put _ _ _ taken s.put went.0 _ noted went.3)
     (ap (λ (x : List ℕ). x ++ reply) (s.replies ∙ ap (λ (x : List ℕ). s.put ++ x) (s.stands refl) ∙ append-nil s.put) ∙ ap (λ (x : List ℕ). s.put ++ x) went.2 ∙ sym (append_assoc s.put went.0 went.1))
     (fewer-then _ _ _ s.faults a.reply.1.0) (λ e. absurd (cc e)) (λ e. cause a.reply.1.1)
   where
@@ -97,8 +122,9 @@ answered true false first new begin before now taken handled message s a =
     cause (inr long) = absurd (omega (arith, long, a.short))
 answered false still first new begin before now taken handled message s a =
     let reply = framed (reply_bytes (after_all first handled) a.time message) in
-    more-of false still first new begin before now taken handled a.time message s.put (s.unput ++ reply) s.times a.told a.state
-    (talked-same _ _ _ taken s.put s.talked a.reply.1)
+    let noted = with_lines first begin before taken handled message s.put a.time s.talked in
+    more-of false still first new begin before now taken handled a.time message s.put (s.unput ++ reply) s.times a.told a.state s.last a.last
+    (talked-same _ _ _ taken s.put _ noted a.reply.1)
     (ap (λ (x : List ℕ). x ++ reply) s.replies ∙ append_assoc s.put s.unput reply)
     (fewer-same _ _ _ s.faults a.reply.2) (λ e. absurd (cc (sym e ∙ a.reply.0))) (λ e. subst (λ (x : Faults). Rose begin.faults.accepted x.accepted) (sym a.reply.2) (s.broke refl))
 
@@ -144,12 +170,13 @@ take-got records i x e = rw add-one (got records i x e)
 -- ---- bytes that are taken
 
 pub serving-taken : (puts : Bool) (first new : DriveState) (begin before now : Ends) (taken piece : List ℕ) (handled : List Handled)
-    → Serves puts first new begin before taken handled → WasTaken before.told now.told piece → NoFewer before.faults now.faults → now.times ≡ before.times
+    → Serves puts first new begin before taken handled → WasTaken before.told now.told piece → NoFewer before.faults now.faults → now.times ≡ before.times → now.last ≡ before.last
     → Serves puts first new begin now (taken ++ piece) handled
-serving-taken puts first new begin before now taken piece handled s w fewer same = record {
+serving-taken puts first new begin before now taken piece handled s w fewer same last = record {
   put = s.put;
   unput = s.unput;
-  talked = talked-taken _ _ _ taken s.put piece s.talked w;
+  talked = talked-taken _ _ _ taken s.put piece _ s.talked w;
+  last = last ∙ s.last;
   state = s.state;
   replies = s.replies;
   times = subst (λ (ts : Option (List ℕ)). Told begin.times (map (λ (h : Handled). h.time) handled) ts) (sym same) s.times;
@@ -163,6 +190,7 @@ serving-none d before = record {
   put = [];
   unput = [];
   talked = talked-nil before.told;
+  last = refl;
   state = refl;
   replies = refl;
   times = refl;
@@ -182,10 +210,10 @@ served-none d before inbox e = ([], [], serving-none d before, split-nil fresh �
 
 pub served-more : (puts still : Bool) (old mid new : DriveState) (begin before taking now : Ends) (inbox left : Coming) (piece : List ℕ) (records : List (List ℕ))
     → HasServed puts old mid begin before inbox → WasTaken before.told taking.told piece → length piece + left.room ≡ inbox.room
-    → Reads piece records inbox left → taking.faults ≡ before.faults → taking.times ≡ before.times
+    → Reads piece records inbox left → taking.faults ≡ before.faults → taking.times ≡ before.times → taking.last ≡ before.last
     → ServesMore puts still mid new taking now records → HasServed still old new begin now left
-served-more puts still old mid new begin before taking now inbox left piece records s w rooms reads faults times more =
-    let took = serving-taken puts old mid begin before taking s.0 piece s.1 s.2 w (fewer-same _ _ _ (same-fewer before.faults) faults) times in
+served-more puts still old mid new begin before taking now inbox left piece records s w rooms reads faults times last more =
+    let took = serving-taken puts old mid begin before taking s.0 piece s.1 s.2 w (fewer-same _ _ _ (same-fewer before.faults) faults) times last in
     let done = more old begin (s.0 ++ piece) s.1 took in (
       s.0 ++ piece,
       s.1 ++ done.0,
@@ -202,15 +230,15 @@ nothing-taken (x ∷ piece) room e = absurd (omega (arith, e))
 
 pub served-over : (puts : Bool) (old new : DriveState) (begin before now : Ends) (inbox left : Coming) (piece : List ℕ)
     → HasServed puts old new begin before inbox → WasTaken before.told now.told piece → length piece + left.room ≡ inbox.room → left ≡ inbox
-    → NoFewer before.faults now.faults → now.times ≡ before.times → over.IsOver inbox now.told before.faults now.faults
+    → NoFewer before.faults now.faults → now.times ≡ before.times → now.last ≡ before.last → over.IsOver inbox now.told before.faults now.faults
     → ServesConnection old new begin now
-served-over puts old new begin before now inbox left piece s w rooms same fewer times ends = record {
+served-over puts old new begin before now inbox left piece s w rooms same fewer times last ends = record {
   taken = s.0;
   handled = s.1;
   puts = puts;
   serves = subst (λ (t : List ℕ). Serves puts old new begin now t s.1)
       (ap (λ (p : List ℕ). s.0 ++ p) (nothing-taken piece inbox.room (ap (λ (i : Coming). length piece + i.room) (sym same) ∙ rooms)) ∙ append-nil s.0)
-      (serving-taken puts old new begin before now s.0 piece s.1 s.2 w fewer times);
+      (serving-taken puts old new begin before now s.0 piece s.1 s.2 w fewer times last);
   records = ap (λ (x : Split). x.records) s.3;
   limit = omega (arith, s.4);
   over = why ends;
@@ -223,5 +251,5 @@ served-over puts old new begin before now inbox left piece s w rooms same fewer 
     why (inr (inr (inr e))) = inr (inr (inr e))
 
 pub served-one : (n : ℕ) (old d new : DriveState) (before between accepted now : Ends)
-    → ServesAll n old d before between → AcceptsOne between accepted → ServesConnection d new accepted now → ServesAll (n + 1) old new before now
+    → ServesEach n old d before between → AcceptsOne between accepted → ServesConnection d new accepted now → ServesEach (n + 1) old new before now
 served-one n old d new before between accepted now all accepts serves = rw add-one (d, between, all, accepted, accepts, serves)

@@ -55,6 +55,13 @@ impl DriveCore {
         }
     }
 
+    /// The drive's number.
+    pub(crate) fn number(&self) -> u32
+        ensures { result ≡ self.now.number }
+    {
+        self.number
+    }
+
     // The key of the capability's version.
     fn key(&self, c: &Command) -> Option<DriveKey>
         ensures { result ≡ key_of_version self.now.keys c.now.capability.key_version }

@@ -18,6 +18,7 @@ mod replies;
 mod rows;
 mod serving;
 mod store_view;
+mod telling;
 mod verdict;
 
 pub use drive::DriveCore;

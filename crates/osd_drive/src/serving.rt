@@ -1,32 +1,36 @@
 ghost use Rattle.std.specs.Prelude.{◌≡◌, List, IfOk, IsErrOf, OnOk};
 ghost use Rattle.osd_serving.specs.declared.errors.ServeErr.TheVariants.{LinkFault};
-ghost use Rattle.osd_drive.specs.Serving.{Answers, Handled, IsRefused, ServesAll, ServesConnection, ServesMore, after_all, ends_of};
+ghost use Rattle.osd_drive.specs.Serving.{Answers, Handled, IsRefused, ServesAll, ServesConnection, ServesMore, after_all, ends_at, ends_of};
 
 use crate::drive::DriveCore;
+use crate::telling::tell_refusal;
 use osd_bytes::{ByteLists, Clock, Links, Memory};
 use osd_commands::write_reply;
 use osd_serving::{Inbox, ServeErr, put_record};
 use std::alloc::Global;
 
 impl DriveCore {
-    // Handles a record at the next time, and puts its reply where the connection still stands. Tells
-    // whether it stands now.
+    // Handles a record at the next time, tells where it refused it, and puts its reply where the connection still
+    // stands. Gives whether it stands now.
     fn answer_record<L: Links, C: Clock>(
         &mut self,
         alloc: Global,
         links: &mut L,
         clock: &mut C,
+        last: &mut Option<u64>,
         message: &[u8],
         puts: bool,
     ) -> Result<bool, Memory>
         ensures answers { IfOk result (λ still. Answers puts still self.old self.new
-            (ends_of (L.told links.old) (L.faults links.old) (C.times clock.old))
-            (ends_of (L.told links.new) (L.faults links.new) (C.times clock.new)) message.now) }
+            (ends_at (L.told links.old) (L.faults links.old) (C.times clock.old) last.old)
+            (ends_at (L.told links.new) (L.faults links.new) (C.times clock.new) last.new) message.now) }
         ensures state { (handled : List Handled) × (self.new ≡ after_all self.old handled) }
         ensures standing { L.standing links.new ≡ L.standing links.old }
     {
+        let number = self.number();
         let now = clock.now();
         let reply = self.handle(alloc, now, message)?;
+        tell_refusal(alloc, links, last, number, now, &reply)?;
         if !puts {
             return Ok(false);
         }
@@ -41,18 +45,26 @@ impl DriveCore {
         alloc: Global,
         links: &mut L,
         clock: &mut C,
+        last: &mut Option<u64>,
         records: &ByteLists,
         puts: bool,
     ) -> Result<bool, Memory>
         ensures serves { IfOk result (λ still. ServesMore puts still self.old self.new
-            (ends_of (L.told links.old) (L.faults links.old) (C.times clock.old))
-            (ends_of (L.told links.new) (L.faults links.new) (C.times clock.new)) records.now) }
+            (ends_at (L.told links.old) (L.faults links.old) (C.times clock.old) last.old)
+            (ends_at (L.told links.new) (L.faults links.new) (C.times clock.new) last.new) records.now) }
         ensures state { (handled : List Handled) × (self.new ≡ after_all self.old handled) }
         ensures standing { L.standing links.new ≡ L.standing links.old }
     {
         let mut stands = puts;
         for i in 0..records.len() {
-            stands = self.answer_record(alloc, links, clock, records.get(i).as_slice(), stands)?;
+            stands = self.answer_record(
+                alloc,
+                links,
+                clock,
+                last,
+                records.get(i).as_slice(),
+                stands,
+            )?;
         }
         Ok(stands)
     }
@@ -63,10 +75,11 @@ impl DriveCore {
         alloc: Global,
         links: &mut L,
         clock: &mut C,
+        last: &mut Option<u64>,
     ) -> Result<(), Memory>
         ensures serves { OnOk result (ServesConnection self.old self.new
-            (ends_of (L.told links.old) (L.faults links.old) (C.times clock.old))
-            (ends_of (L.told links.new) (L.faults links.new) (C.times clock.new))) }
+            (ends_at (L.told links.old) (L.faults links.old) (C.times clock.old) last.old)
+            (ends_at (L.told links.new) (L.faults links.new) (C.times clock.new) last.new)) }
         ensures state { (handled : List Handled) × (self.new ≡ after_all self.old handled) }
         ensures standing { L.standing links.new ≡ L.standing links.old }
     {
@@ -75,7 +88,9 @@ impl DriveCore {
         loop {
             match inbox.more(links)? {
                 None => return Ok(()),
-                Some(records) => stands = self.answer_all(alloc, links, clock, &records, stands)?,
+                Some(records) => stands = self.answer_all(
+                    alloc, links, clock, last, &records, stands,
+                )?,
             }
         }
     }
@@ -84,6 +99,9 @@ impl DriveCore {
     /// comes is handled at the next time of the clock and its reply put, up to the connection's end, a
     /// call on it that fails, a record that is too long, or 67,108,864 bytes. Where a reply couldn't be
     /// put whole, the records after it are handled without an answer.
+    ///
+    /// A record that is refused, neither performed nor performed before, is told whoever watches the links in a line, but
+    /// at most one in a second: in a later one than the line before, by the times at which records were handled.
     ///
     /// # Errors
     ///
@@ -104,10 +122,11 @@ impl DriveCore {
             (ends_of (L.told links.new) (L.faults links.new) (C.times clock.new)) }
         ensures state { (handled : List Handled) × (self.new ≡ after_all self.old handled) }
     {
+        let mut last = None;
         let mut served = 0;
         while served < connections {
             links.accept()?;
-            self.serve_connection(alloc, links, clock)?;
+            self.serve_connection(alloc, links, clock, &mut last)?;
             served += 1;
         }
         Ok(())

@@ -3,7 +3,7 @@ use Rattle.std.specs.Prelude.{◌≡◌, ◌⊎◌, ◌<◌, ℕ, Bool, true, fa
 use Rattle.osd_bytes.specs.Causes.{Rose}
 use Rattle.osd_bytes.specs.Clocks.{TellsTime}
 use Rattle.osd_bytes.specs.Counts.{Faults, NoFewer}
-use Rattle.osd_bytes.specs.Connections.{Talk, Traffic, newest}
+use Rattle.osd_bytes.specs.Connections.{Talk, Traffic, newest, with_notes}
 use Rattle.osd_bytes.specs.declared.records.TheConstants.{MAX_RECORD}
 use Rattle.osd_bytes.specs.Records.{Begun, fresh, framed, split}
 
@@ -71,12 +71,13 @@ HasPutCause false message before now =
 
 -- ---- a whole connection
 
--- these bytes were taken of the newest accepted connection, and those put on it, and nothing else happened
-pub record Talked (before now : Option Traffic) (taken put : List ℕ) : Type 0 where
+-- these bytes were taken of the newest accepted connection, and those put on it, these notes were told, and nothing else
+-- happened
+pub record Talked (before now : Option Traffic) (taken put : List ℕ) (notes : List (List ℕ)) : Type 0 where
   pub none : before ≡ None → now ≡ None
   pub some : (a : Traffic) (talks : List Talk) (t : Talk) → before ≡ Some (with_newest_talk a talks t) →
       (left : List ℕ) × (t.left ≡ taken ++ left)
-      × (now ≡ Some (with_newest_talk a talks (record { left = left; put = t.put ++ put })))
+      × (now ≡ Some (with_newest_talk (with_notes notes a) talks (record { left = left; put = t.put ++ put })))
 
 -- a clock told these times, one after the other
 abbrev pub Told : (before : Option (List ℕ)) → (times : List ℕ) → (now : Option (List ℕ)) → Type 0

@@ -1,5 +1,5 @@
 use Rattle.std.proofs.Common.{rules, refl}
-use Rattle.osd_drive.specs.Serving.{ends_of}
+use Rattle.osd_drive.specs.Serving.{ends_at}
 use Rattle.osd_drive.proofs.ServingLaws.{all-then, served-one}
 use Rattle.osd_drive.proofs.drive.DriveCore.serve.Goals as goal
 
@@ -13,9 +13,9 @@ pub loop-served-preserved : goal.loop-served-preserved
 loop-served-preserved g c =
     let before = c.loop-served.invariant.2 in
     let now = c.serve_connection.ensures.state in
-    let accepted = ends_of (g.L.Links.told c.accept.new.self) (g.L.Links.faults c.accept.new.self) (g.C.Clock.times c.loop-served.clock) in (
+    let accepted = ends_at (g.L.Links.told c.accept.new.self) (g.L.Links.faults c.accept.new.self) (g.C.Clock.times c.loop-served.clock) c.loop-served.last in (
       served-one c.loop-served.served c.args.self.now c.loop-served.self c.serve_connection.new.self _ _ accepted _ c.loop-served.invariant.0
-          (record { told = c.in_ok-accept.ensures.told; faults = search rules; times = refl }) c.in_ok-serve_connection.ensures.serves,
+          (record { told = c.in_ok-accept.ensures.told; faults = search rules; times = refl; last = refl }) c.in_ok-serve_connection.ensures.serves,
       search rules,
       all-then c.args.self.now c.loop-served.self c.serve_connection.new.self before.0 now.0 before.1 now.1,
     )

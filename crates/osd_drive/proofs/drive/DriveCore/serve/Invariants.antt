@@ -1,12 +1,12 @@
 use Rattle.std.proofs.Common.{◌≡◌, ◌≤◌, ◌-◌, List}
-use Rattle.osd_drive.specs.Serving.{Handled, ServesAll, after_all, ends_of}
+use Rattle.osd_drive.specs.Serving.{Handled, ServesEach, after_all, ends_at, ends_of}
 use Rattle.osd_drive.proofs.drive.DriveCore.serve.Given as goal
 
 abbrev pub invariant-loop-served : goal.invariant-loop-served
 invariant-loop-served g l =
-    ServesAll l.served l.initial.self l.self
+    ServesEach l.served l.initial.self l.self
     (ends_of (g.L.Links.told l.initial.links) (g.L.Links.faults l.initial.links) (g.C.Clock.times l.initial.clock))
-    (ends_of (g.L.Links.told l.links) (g.L.Links.faults l.links) (g.C.Clock.times l.clock))
+    (ends_at (g.L.Links.told l.links) (g.L.Links.faults l.links) (g.C.Clock.times l.clock) l.last)
     × (l.served ≤ l.connections)
     × ((handled : List Handled) × (l.self ≡ after_all l.initial.self handled))
 

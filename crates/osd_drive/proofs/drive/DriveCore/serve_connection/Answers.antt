@@ -10,7 +10,7 @@ returns-in-None-clause-serves g c =
     let taken = rw c.in-None.is at c.in_ok-more.ensures.taken in
     let over = rw c.in-None.is at c.in_ok-more.ensures.over in
     served-over c.loop-inbox.stands c.args.self.now c.loop-inbox.self _ _ _ c.loop-inbox.inbox c.more.new.self taken.0 c.loop-inbox.invariant.0 taken.1 taken.2
-    over.0 c.in_ok-more.ensures.later refl over.1
+    over.0 c.in_ok-more.ensures.later refl refl over.1
 
 pub returns-in_err-stands-in-Some-clause-state : goal.returns-in_err-stands-in-Some-clause-state
 returns-in_err-stands-in-Some-clause-state g c =
@@ -26,5 +26,5 @@ loop-inbox-preserved g c =
     let before = c.loop-inbox.invariant.1 in
     let now = c.answer_all.ensures.state in
     let served = served-more c.loop-inbox.stands c.in_ok-stands-in-Some.stands c.args.self.now c.loop-inbox.self c.answer_all.new.self _ _ _ _ c.loop-inbox.inbox c.more.new.self
-    taken.0 c.in-Some.records c.loop-inbox.invariant.0 taken.1 taken.2 taken.3 same refl c.in_ok-stands-in-Some.ensures.serves in
+    taken.0 c.in-Some.records c.loop-inbox.invariant.0 taken.1 taken.2 taken.3 same refl refl c.in_ok-stands-in-Some.ensures.serves in
     (served, all-then c.args.self.now c.loop-inbox.self c.answer_all.new.self before.0 now.0 before.1 now.1, search rules)
