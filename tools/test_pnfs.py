@@ -1,0 +1,361 @@
+#!/usr/bin/env python3
+"""Tests of tools/pnfs with a program that stands for the real one: python3 tools/test_pnfs.py"""
+import json
+import os
+import socket
+import subprocess
+import sys
+import tempfile
+import threading
+import time
+import unittest
+
+sys.dont_write_bytecode = True
+HERE = os.path.dirname(os.path.abspath(__file__))
+sys.path.insert(0, HERE)
+
+from pnfs_tool import answers, cluster, copying  # noqa: E402
+from pnfs_tool.ends import End  # noqa: E402
+
+TEXT = """\
+server = "127.0.0.1:7100"   # a comment
+format = 2
+
+[[drive]]
+number = 0
+address = "127.0.0.1:{port}"
+key = '1010101010101010101010101010101010101010'
+capacity = 50_000_000
+
+[[file]]
+number = 0
+components = 5
+unit = 4096
+width = 0
+depth = 0
+mirrors = 0
+algorithm = 4
+"""
+
+
+class Tool(unittest.TestCase):
+    """A folder with a cluster text, a server's state and locks of its own."""
+
+    def setUp(self):
+        self.folder = tempfile.TemporaryDirectory()
+        self.addCleanup(self.folder.cleanup)
+        self.text = os.path.join(self.folder.name, "c.toml")
+        self.state = os.path.join(self.folder.name, "state")
+        self.write_text(9)
+        self.begin()
+
+    def write_text(self, port):
+        with open(self.text, "w") as text:
+            text.write(TEXT.replace("{port}", str(port)))
+
+    def begin(self, script=(), data=b"", **more):
+        state = {"next": {"0": 17}, "files": {"f0": data.hex()}, "script": list(script), "runs": []}
+        state.update(more)
+        with open(self.state, "w") as text:
+            json.dump(state, text)
+
+    def now(self):
+        with open(self.state) as text:
+            return json.load(text)
+
+    def data(self):
+        return bytes.fromhex(self.now()["files"]["f0"])
+
+    def sequences(self):
+        return [run[1] for run in self.now()["runs"]]
+
+    def started(self, *words, **options):
+        environment = dict(os.environ, PNFS_FAKE=self.state, PNFS_LOCKS=os.path.join(self.folder.name, "locks"))
+        program = options.pop("program", os.path.join(HERE, "fake_program.py"))
+        line = [sys.executable, os.path.join(HERE, "pnfs"), "-c", self.text, "--program", program]
+        return subprocess.Popen(line + list(words), stdin=subprocess.PIPE, stdout=subprocess.PIPE, stderr=subprocess.PIPE,
+                                env=environment, **options)
+
+    def run_tool(self, *words, data=b"", patience="2", status=0, **options):
+        tool = self.started("--patience", patience, *words, **options)
+        output, messages = tool.communicate(data)
+        self.messages = messages.decode()
+        self.assertEqual(tool.returncode, status, self.messages)
+        return output
+
+
+class Copies(Tool):
+    """What goes well."""
+
+    def test_the_number_is_asked_for_and_followed(self):
+        self.run_tool("put", "f0", data=b"Hello")
+        self.assertEqual(self.sequences(), [4_294_967_280, 17, 19])
+        self.assertEqual(self.data(), b"Hello")
+        self.assertEqual(self.now()["runs"][0][2], "read f63 0 1")
+
+    def test_a_file_comes_back(self):
+        data = bytes(range(256)) * 2000
+        self.run_tool("put", "f0", data=data)
+        self.assertEqual(self.data(), data)
+        self.assertEqual(self.run_tool("get", "f0"), data)
+
+    def test_an_empty_file_and_a_full_stripe(self):
+        self.run_tool("put", "f0", data=b"")
+        self.assertEqual(self.run_tool("get", "f0"), b"")
+        data = b"x" * copying.cut_length(12288, copying.MAX_READ)
+        self.begin(data=data)
+        self.assertEqual(self.run_tool("get", "f0"), data)
+
+    def test_write_and_read(self):
+        self.begin(data=b"aaaaaaaa")
+        self.run_tool("write", "f0", "2", data=b"bbb")
+        self.assertEqual(self.run_tool("read", "f0", "1", "5"), b"abbba")
+        self.assertEqual(self.run_tool("read", "f0", "6", "5", status=23), b"aa")
+        self.assertIn("2 of 5 bytes", self.messages)
+
+    def test_put_refuses_a_longer_file(self):
+        self.begin(data=b"abcdef")
+        self.run_tool("put", "f0", data=b"xyz", status=20)
+        self.assertEqual(self.data(), b"abcdef")
+
+    def test_too_much_data(self):
+        self.run_tool("put", "f0", data=b"\0" * 16_777_217, status=20)
+        self.run_tool("write", "f0", "16777215", data=b"ab", status=20)
+        self.run_tool("read", "f0", "16777215", "2", status=20)
+        self.assertEqual(self.now()["runs"], [])
+
+    def test_a_component_that_times_out(self):
+        self.begin(["timeout", "timeout"])
+        self.run_tool("put", "f0", data=b"abc")
+        self.assertIn("2 waits for a component", self.messages)
+
+    def test_quiet(self):
+        self.run_tool("-q", "put", "f0", data=b"abc")
+        self.assertEqual(self.messages, "")
+
+
+class Again(Tool):
+    """What is tried again."""
+
+    def test_held(self):
+        self.begin(["held 3", "held 3", None], b"abc")
+        self.assertEqual(self.run_tool("get", "f0"), b"abc")
+        self.assertEqual(self.sequences(), [4_294_967_280, 17, 20, 23])
+        self.assertEqual(self.messages.count("client 3 has the bytes"), 1)
+
+    def test_held_for_too_long(self):
+        self.begin(["held 3"] * 99, b"abc")
+        self.assertEqual(self.run_tool("get", "f0", patience="1", status=10), b"")
+        self.assertIn("given up", self.messages)
+
+    def test_a_fence(self):
+        self.begin([None, "refused d2 tag 3", "fencing 1", "status 10050 0"])
+        self.run_tool("put", "f0", data=b"abc")
+        self.assertEqual(self.data(), b"abc")
+
+    def test_a_fence_without_end(self):
+        self.begin([None] + ["refused d2 tag 3"] * 99)
+        self.run_tool("put", "f0", data=b"abc", status=10)
+        self.assertIn("8 tries", self.messages)
+
+    def test_a_lost_answer_of_a_write(self):
+        self.begin([None, "lost answer"])
+        self.run_tool("put", "f0", data=b"abc")
+        self.assertEqual(self.sequences(), [4_294_967_280, 17, 19, 4_294_967_280, 22])
+        self.assertEqual(self.data(), b"abc")
+
+    def test_no_answer(self):
+        self.begin(["unheard"] * 99)
+        self.run_tool("get", "f0", patience="1", status=8)
+        self.assertIn("the server at 127.0.0.1:7100 didn't answer", self.messages)
+
+    def test_another_process_with_the_number(self):
+        self.begin(["status 10063 40", None], b"abc")
+        self.assertEqual(self.run_tool("get", "f0"), b"abc")
+        self.assertIn("does another process use this client number", self.messages)
+
+    def test_used_up(self):
+        self.begin(next={"0": 4_294_967_280})
+        self.run_tool("get", "f0", status=10)
+        self.assertIn("used up", self.messages)
+
+    def test_busy_and_refused_orders(self):
+        self.begin([1, 1, 0])
+        self.run_tool("rebuild", "f0")
+        self.begin([3])
+        self.run_tool("audit", "f0", status=10)
+        self.assertIn("no such file or drive", self.messages)
+
+    def test_what_does_not_help(self):
+        for outcome in ("lost 0,1", "degraded 2", "spent", "nofile", "refused d1 noobject", "status 22 0"):
+            self.begin([outcome] * 2)
+            self.run_tool("get", "f0", status=10)
+            self.assertEqual(len(self.now()["runs"]), 2, outcome)
+
+
+class Wrong(Tool):
+    """Answers that aren't answers."""
+
+    def test_each_kind(self):
+        for said in ("o c0 write ok 2\nnext {next}", "o c1 write ok 3\nnext {next}", "o c0 read ok 616263\nnext {next}",
+                     "o c0 write ok 3", "next {next}", "o c0 write ok 3\nnext {next}\nnext {next}", "", "order 0\nnext {next}",
+                     "o c0 write ok 3\no c0 write ok 3\nnext {next}", "o c0 write held 1\nnext {next}",
+                     "o c0 write ok 03\nnext {next}", "x c0 badrange\nnext {next}", "o c0 write ok 3\nerror link"):
+            self.begin(["says " + said])
+            self.run_tool("write", "f0", "0", data=b"abc", status=21)
+
+    def test_reads(self):
+        for said in ("o c0 read ok 61626364", "o c0 read ok 6", "o c0 read ok", "o c0 read ok 61 62", "o c0 read ok 3", "o c0 read ok 6G"):
+            self.begin(["says " + said + "\nnext {next}"])
+            self.assertEqual(self.run_tool("read", "f0", "0", "3", status=21), b"")
+
+    def test_a_refusal_that_says_ok(self):
+        self.begin(["says o c0 write ok 3\nnext {next}"], status=10)
+        self.run_tool("write", "f0", "0", data=b"abc", status=21)
+
+    def test_statuses_of_the_program(self):
+        for status, said in ((9, "error cluster range"), (6, "error 0 memory"), (70, "")):
+            self.begin(["says " + said], status=status)
+            self.run_tool("write", "f0", "0", data=b"abc", status=21 if not said else status)
+
+    def test_no_program(self):
+        self.run_tool("get", "f0", program="/nonexistent/program", status=22)
+
+    def test_a_full_disk(self):
+        self.begin(data=b"abc")
+        with open("/dev/full", "wb") as full:
+            environment = dict(os.environ, PNFS_FAKE=self.state, PNFS_LOCKS=os.path.join(self.folder.name, "locks"))
+            done = subprocess.run([sys.executable, os.path.join(HERE, "pnfs"), "-c", self.text, "--program",
+                                   os.path.join(HERE, "fake_program.py"), "get", "f0"], stdout=full, stderr=subprocess.PIPE,
+                                  env=environment, check=False)
+        self.assertEqual(done.returncode, 5, done.stderr)
+
+
+class Numbers(Tool):
+    """One number is used by one run at a time."""
+
+    def test_two_runs_wait_for_each_other(self):
+        self.begin(["sleep 1"], b"abc")
+        first = self.started("get", "f0")
+        time.sleep(0.5)
+        self.assertEqual(self.run_tool("get", "f0", patience="20"), b"abc")
+        self.assertIn("in use by another run", self.messages)
+        self.assertEqual(first.communicate()[0], b"abc")
+
+    def test_one_gives_up(self):
+        self.begin(["sleep 3"], b"abc")
+        first = self.started("get", "f0")
+        time.sleep(0.5)
+        self.run_tool("get", "f0", patience="0", status=20)
+        self.assertEqual(first.communicate()[0], b"abc")
+
+    def test_the_program_holds_the_number_when_the_tool_is_killed(self):
+        self.begin(["sleep 2"], b"abc")
+        first = self.started("get", "f0")
+        time.sleep(1)
+        first.kill()
+        self.run_tool("get", "f0", patience="0", status=20)
+        first.communicate()
+        self.assertEqual(self.run_tool("get", "f0", patience="20"), b"abc")
+
+
+class Drives(Tool):
+    """Drives are asked before they are declared."""
+
+    def listen(self, answer):
+        listener = socket.socket()
+        self.addCleanup(listener.close)
+        listener.bind(("127.0.0.1", 0))
+        listener.listen(1)
+        self.write_text(listener.getsockname()[1])
+
+        def serve():
+            connection, _ = listener.accept()
+            with connection:
+                connection.recv(4)
+                connection.sendall(answer) if answer else time.sleep(5)
+        if answer is not None:
+            threading.Thread(target=serve, daemon=True).start()
+
+    def test_a_drive_that_is_gone(self):
+        listener = socket.socket()
+        listener.bind(("127.0.0.1", 0))
+        port = listener.getsockname()[1]
+        listener.close()
+        self.write_text(port)
+        self.run_tool("declare", "d0")
+        self.assertEqual(self.now()["runs"], [[0, 1, "declare d0"]])
+
+    def test_a_drive_that_answers(self):
+        self.listen(b"\x80\x00\x00\x00")
+        self.run_tool("declare", "d0", status=20)
+        self.assertIn("it answers", self.messages)
+        self.assertEqual(self.now()["runs"], [])
+
+    def test_a_drive_that_hangs(self):
+        self.listen(None)
+        self.run_tool("declare", "d0", status=20)
+        self.assertIn("doesn't answer", self.messages)
+        self.run_tool("declare", "d0", "--even-if-alive")
+        self.assertEqual(self.now()["runs"], [[0, 1, "declare d0"]])
+
+    def test_no_such_drive(self):
+        self.run_tool("declare", "d1", status=20)
+
+
+class Words(Tool):
+    """Words and texts that are refused."""
+
+    def test_words(self):
+        for words in (["get"], ["get", "f64"], ["get", "g0"], ["read", "f0", "01", "2"], ["write", "f0", "-1"], ["--client", "16", "get", "f0"],
+                      ["jump", "f0"], ["declare", "f0"], []):
+            self.run_tool(*words, status=2)
+
+    def test_texts(self):
+        good = TEXT.replace("{port}", "9")
+        for old, new, where in (("number = 0", "number = 64", "line 5"), ("unit = 4096", "uint = 4096", "line 13"), ("format = 2", "format = '2'", "line 2"),
+                                ("components = 5", "components = 0x5", "line 12"), ("[[file]]", "[file]", "line 10"), ("unit = 4096\n", "", "line 10"),
+                                ("127.0.0.1:9", "127.0.0.1", "line 6"), ("127.0.0.1:9", "127.0.0.1:99999", "line 6"), ("depth = 0", "depth = 0\ndepth = 0", "line 16"),
+                                ("[[drive]]", "[[file]]", "line 6"), ("format = 2", "format = 2\n[[drive]]\nnumber = 0\naddress = 'a:1'", "line 8")):
+            with open(self.text, "w") as text:
+                text.write(good.replace(old, new, 1))
+            self.run_tool("get", "f0", status=9)
+            self.assertIn(where, self.messages)
+
+    def test_other_files(self):
+        self.run_tool("get", "f1", status=20)
+        self.run_tool("audit", "f1", status=20)
+
+
+class Cuts(unittest.TestCase):
+    """Pieces."""
+
+    def test_cuts(self):
+        for stripe, most in ((12288, 65500), (131072, 65500), (65536, 65500), (1, 65500), (0, 65500), (65501, 65500), (65500, 65500), (3, 7)):
+            whole = cluster.FileMap(1, stripe, 0, 0, 1)
+            for offset, length in ((0, 500000), (12287, 65501), (5, 1), (65500, 0), (7, 131072)):
+                cut = list(copying.pieces(offset, length, whole, most))
+                self.assertEqual(sum(count for _, count in cut), length)
+                at = offset
+                for begin, count in cut:
+                    self.assertEqual(begin, at)
+                    self.assertTrue(0 < count <= most)
+                    at += count
+                    if stripe:
+                        self.assertTrue(begin % stripe == 0 or begin // stripe == (at - 1) // stripe or begin == offset, (stripe, begin, count))
+
+    def test_the_longest_write_fits_an_argument(self):
+        self.assertLessEqual(len(f"write f63 16777215 {'00' * copying.MAX_WRITE}"), 131_071)
+        self.assertGreater(copying.MAX_WRITE, 65_500)
+
+    def test_stripes(self):
+        for numbers, length in (((5, 4096, 0, 0, 4), 12288), ((5, 4096, 0, 0, 3), 16384), ((6, 8, 3, 0, 2), 16), ((6, 8, 3, 1, 1), 24), ((3, 8, 0, 9, 1), 0)):
+            self.assertEqual(cluster.FileMap(*numbers).stripe_bytes(), length)
+
+    def test_numbers(self):
+        ran = answers.Ran(0, b"o c0 write ok 3\nnext 4294967296\n", "")
+        self.assertRaises(End, answers.read_answer, ran, 0, "write")
+
+
+if __name__ == "__main__":
+    unittest.main()
