@@ -225,5 +225,7 @@ def given_up(name: str, answer: Answer, step: Optional[Step], tries: int) -> End
         parts.extend(HELP_BEHIND[word] for word in said if word in HELP_BEHIND)
     message = ": ".join(parts)
     if answer.messages:
-        message += "\n" + "\n".join("  " + line for line in answer.messages.split("\n")[-6:])
+        lines = answer.messages.split("\n")
+        # Behind status 8 the program goes on with how to find the right number, which the tool does itself.
+        message += "".join("\n  " + line for line in (lines[:1] if answer.status == 8 else lines[-6:]))
     return End(answer.status or STRANGE, message)

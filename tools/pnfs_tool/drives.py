@@ -4,7 +4,7 @@ from typing import NamedTuple
 
 #: A record without bytes, as RFC 5531 (section 11) marks it. A drive answers any record, this one with `Format`.
 EMPTY_RECORD = b"\x80\x00\x00\x00"
-PATIENCE_SECONDS = 4.0
+PATIENCE_SECONDS = 6.0   # a drive that another peer keeps busy with its silence is free behind 5
 
 
 class Life(NamedTuple):

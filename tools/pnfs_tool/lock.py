@@ -10,7 +10,7 @@ import hashlib
 import os
 import stat
 import time
-from typing import Callable
+from typing import Callable, Optional, Tuple
 
 from .ends import NOT_ASKED, End
 
@@ -53,26 +53,55 @@ def opened(path: str) -> int:
     raise OSError(errno.EEXIST, "it comes and goes", path)
 
 
-def hold(server: str, client: int, patience: float, tell: Callable[[str], None]) -> int:
-    """Waits until the number is free, and gives the descriptor that holds it for as long as it is open."""
+def is_current(lock: int, path: str) -> bool:
+    """Whether the file that is open is the one at the path still: who had it before may have removed it."""
     try:
-        lock = opened(lock_path(server, client))
+        return os.path.samestat(os.fstat(lock), os.stat(path, follow_symlinks=False))
+    except FileNotFoundError:
+        return False
+
+
+def tried(path: str, client: int) -> Optional[int]:
+    """The descriptor that holds the number, where it is free."""
+    try:
+        while True:
+            lock = opened(path)
+            try:
+                fcntl.flock(lock, fcntl.LOCK_EX | fcntl.LOCK_NB)
+            except OSError as fault:
+                os.close(lock)
+                if fault.errno in (errno.EAGAIN, errno.EACCES, errno.EINTR):
+                    return None
+                raise
+            if is_current(lock, path):
+                return lock
+            os.close(lock)
     except OSError as fault:
-        raise End(NOT_ASKED, f"the lock of client number {client} can't be opened: {fault}")
+        raise End(NOT_ASKED, f"the lock of client number {client} can't be held: {fault}")
+
+
+def hold(server: str, client: int, patience: float, tell: Callable[[str], None]) -> Tuple[int, str]:
+    """Waits until the number is free. Gives the descriptor that holds it for as long as it is open, and its file."""
+    path = lock_path(server, client)
     until = time.monotonic() + patience
     waits = False
     while True:
-        try:
-            fcntl.flock(lock, fcntl.LOCK_EX | fcntl.LOCK_NB)
-            return lock
-        except OSError as fault:
-            if fault.errno not in (errno.EAGAIN, errno.EACCES, errno.EINTR):
-                raise End(NOT_ASKED, f"the lock of client number {client} can't be held: {fault}")
+        lock = tried(path, client)
+        if lock is not None:
+            return lock, path
         if time.monotonic() >= until:
-            os.close(lock)
             raise End(NOT_ASKED, f"client number {client} is in use by another run on this machine: "
                                  "wait for it, or take another with --client")
         if not waits:
             waits = True
             tell(f"client number {client} is in use by another run on this machine: waiting")
         time.sleep(PAUSE_SECONDS)
+
+
+def release(lock: int, path: str) -> None:
+    """Gives the number free, and removes its file where it may."""
+    try:
+        os.unlink(path)
+    except OSError:
+        pass
+    os.close(lock)

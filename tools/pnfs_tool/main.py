@@ -9,7 +9,7 @@ from .cluster import Cluster, FileMap, read_cluster
 from .copying import MAX_FILE, Progress, put, read_all, write_all
 from .drives import ask_drive
 from .ends import DONE, INPUT, NOT_ASKED, OUTPUT, SHORT, STOPPED, End
-from .lock import hold
+from .lock import hold, release
 from .program import Program, program_path
 from .words import words_of
 
@@ -119,9 +119,12 @@ def carry_out(words: argparse.Namespace) -> int:
     tell = (lambda line: None) if words.quiet else say
     if words.command in ("put", "get", "write", "read"):
         file_map(cluster, words.file)
-        lock = hold(cluster.server, words.client, words.patience, tell)
-        program = Program(path, cluster.text, words.client, lock)
-        return copy(words, cluster, Caller(program, spare_file(cluster), words.patience, tell))
+        lock, lock_file = hold(cluster.server, words.client, words.patience, tell)
+        try:
+            program = Program(path, cluster.text, words.client, lock)
+            return copy(words, cluster, Caller(program, spare_file(cluster), words.patience, tell))
+        finally:
+            release(lock, lock_file)
     caller = Caller(Program(path, cluster.text, words.client), spare_file(cluster), words.patience, tell)
     if words.command == "declare":
         return declare(words, cluster, caller)
