@@ -57,13 +57,22 @@ def answer(state, number, sequence, call, event):
         return "error link\n", 8
     if event is not None and not event.startswith(("lost answer", "timeout")):
         state["next"][str(number)] = expected + 3
-        return f"o c{number} {kind} {event}\nnext {expected + 3}\n", 10
+        late = f"t c{number} 1\n" if event.startswith("late ") else ""
+        outcome = event[5:] if late else event
+        return f"{late}o c{number} {kind} {outcome}\nnext {expected + 3}\n", 10
     outcome, requests = perform(state["files"], call)
     state["next"][str(number)] = expected + requests
     if event == "lost answer":
         return "error link\n", 8
     before = f"t c{number} 1\n" if event == "timeout" else ""
     return f"{before}o c{number} {kind} {outcome}\nnext {expected + requests}\n", 0 if outcome.startswith("ok") else 10
+
+
+def save(path, state):
+    """Keeps the state, at once as a whole."""
+    with open(path + ".new", "w") as text:
+        json.dump(state, text)
+    os.replace(path + ".new", path)
 
 
 def main():
@@ -77,12 +86,13 @@ def main():
     event = None
     if sequence < 1_000_000_000 and state["script"]:
         event = state["script"].pop(0)
-    if isinstance(event, str) and event.startswith("sleep "):
-        time.sleep(float(event[6:]))
+    if event == "waits":
+        save(path, state)
+        while not os.path.exists(path + ".go"):
+            time.sleep(0.02)
         event = None
     said, status = answer(state, number, sequence, call, event)
-    with open(path, "w") as text:
-        json.dump(state, text)
+    save(path, state)
     sys.stdout.write(said)
     if status == 8:
         sys.stderr.write("the server at 127.0.0.1:7100 didn't answer\n")

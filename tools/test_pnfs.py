@@ -1,5 +1,7 @@
 #!/usr/bin/env python3
 """Tests of tools/pnfs with a program that stands for the real one: python3 tools/test_pnfs.py"""
+import contextlib
+import io
 import json
 import os
 import socket
@@ -14,8 +16,10 @@ sys.dont_write_bytecode = True
 HERE = os.path.dirname(os.path.abspath(__file__))
 sys.path.insert(0, HERE)
 
-from pnfs_tool import answers, cluster, copying  # noqa: E402
+from pnfs_tool import answers, calls, cluster, copying  # noqa: E402
+from pnfs_tool.calls import Call  # noqa: E402
 from pnfs_tool.ends import End  # noqa: E402
+from pnfs_tool.words import words_of  # noqa: E402
 
 TEXT = """\
 server = "127.0.0.1:7100"   # a comment
@@ -127,7 +131,8 @@ class Copies(Tool):
     def test_a_component_that_times_out(self):
         self.begin(["timeout", "timeout"])
         self.run_tool("put", "f0", data=b"abc")
-        self.assertIn("2 waits for a component", self.messages)
+        self.assertIn("a component timed out 2 times", self.messages)
+        self.assertEqual(self.messages.count("component 1 of f0 timed out, and reads go on"), 1)
 
     def test_quiet(self):
         self.run_tool("-q", "put", "f0", data=b"abc")
@@ -138,13 +143,17 @@ class Again(Tool):
     """What is tried again."""
 
     def test_held(self):
-        self.begin(["held 3", "held 3", None], b"abc")
+        self.begin(["held c3", "held c3", None], b"abc")
         self.assertEqual(self.run_tool("get", "f0"), b"abc")
         self.assertEqual(self.sequences(), [4_294_967_280, 17, 20, 23])
-        self.assertEqual(self.messages.count("client 3 has the bytes"), 1)
+        self.assertEqual(self.messages.count("client 3 has a grant on these bytes"), 1)
+
+    def test_lost_while_a_drive_is_late(self):
+        self.begin(["late lost 1", None], b"abc")
+        self.assertEqual(self.run_tool("get", "f0"), b"abc")
 
     def test_held_for_too_long(self):
-        self.begin(["held 3"] * 99, b"abc")
+        self.begin(["held c3"] * 99, b"abc")
         self.assertEqual(self.run_tool("get", "f0", patience="1", status=10), b"")
         self.assertIn("given up", self.messages)
 
@@ -186,37 +195,55 @@ class Again(Tool):
         self.run_tool("audit", "f0", status=10)
         self.assertIn("no such file or drive", self.messages)
 
-    def test_what_does_not_help(self):
-        for outcome in ("lost 0,1", "degraded 2", "spent", "nofile", "refused d1 noobject", "status 22 0"):
-            self.begin([outcome] * 2)
-            self.run_tool("get", "f0", status=10)
-            self.assertEqual(len(self.now()["runs"]), 2, outcome)
+
+class Scripted:
+    """A program that says the right number, and then once what it is told to say."""
+
+    client = 0
+
+    def __init__(self, said, status):
+        self.rest = [answers.Ran(10, b"o c0 read status 10063 17\nnext 9\n", ""), answers.Ran(status, said.encode("latin-1"), "")]
+
+    def run(self, sequence, call):
+        return self.rest.pop(0)
+
+
+def ended(call, said, status):
+    """The end of a run in which the program says this to a call."""
+    try:
+        calls.Caller(Scripted(said, status), 63, 0, lambda line: None).carry_out(call)
+    except End as end:
+        return end
+    raise AssertionError(f"{said!r} was taken for an answer to {call}")
 
 
 class Wrong(Tool):
     """Answers that aren't answers."""
 
     def test_each_kind(self):
-        for said in ("o c0 write ok 2\nnext {next}", "o c1 write ok 3\nnext {next}", "o c0 read ok 616263\nnext {next}",
-                     "o c0 write ok 3", "next {next}", "o c0 write ok 3\nnext {next}\nnext {next}", "", "order 0\nnext {next}",
-                     "o c0 write ok 3\no c0 write ok 3\nnext {next}", "o c0 write held 1\nnext {next}",
-                     "o c0 write ok 03\nnext {next}", "x c0 badrange\nnext {next}", "o c0 write ok 3\nerror link"):
-            self.begin(["says " + said])
-            self.run_tool("write", "f0", "0", data=b"abc", status=21)
+        for said in ("o c0 write ok 2\nnext 19\n", "o c1 write ok 3\nnext 19\n", "o c0 read ok 616263\nnext 19\n", "o c0 write ok 3\n",
+                     "next 19\n", "o c0 write ok 3\nnext 19\nnext 19\n", "", "order 0\nnext 19\n", "o c0 write ok 3\nnext 19",
+                     "o c0 write ok 3\no c0 write ok 3\nnext 19\n", "o c0 write held c1\nnext 19\n", "o c0 write ok 03\nnext 19\n",
+                     "x c0 badrange\nnext 19\n", "o c0 write ok 3\nerror link\n", "o c0 write ok 3 4\nnext 19\n", "\xff\n"):
+            self.assertEqual(ended(Call(0, 0, 3, b"abc"), said, 0).status, 21, said)
 
     def test_reads(self):
-        for said in ("o c0 read ok 61626364", "o c0 read ok 6", "o c0 read ok", "o c0 read ok 61 62", "o c0 read ok 3", "o c0 read ok 6G"):
-            self.begin(["says " + said + "\nnext {next}"])
-            self.assertEqual(self.run_tool("read", "f0", "0", "3", status=21), b"")
+        for said in ("61626364", "6", "", "61 62", "3", "6G", "616"):
+            self.assertEqual(ended(Call(0, 0, 3), f"o c0 read ok {said}\nnext 19\n", 0).status, 21, said)
 
-    def test_a_refusal_that_says_ok(self):
-        self.begin(["says o c0 write ok 3\nnext {next}"], status=10)
-        self.run_tool("write", "f0", "0", data=b"abc", status=21)
+    def test_lines_that_do_not_go_with_their_status(self):
+        self.assertEqual(ended(Call(0, 0, 3, b"abc"), "o c0 write ok 3\nnext 19\n", 10).status, 21)
+        self.assertEqual(ended(Call(0, 0, 3, b"abc"), "o c0 write ok 3\nnext 19\n", 8).status, 21)
 
     def test_statuses_of_the_program(self):
-        for status, said in ((9, "error cluster range"), (6, "error 0 memory"), (70, "")):
-            self.begin(["says " + said], status=status)
-            self.run_tool("write", "f0", "0", data=b"abc", status=21 if not said else status)
+        for status, said in ((9, "error cluster range\n"), (6, "error 0 memory\n"), (70, ""), (126, "")):
+            self.assertEqual(ended(Call(0, 0, 3, b"abc"), said, status).status, status)
+
+    def test_what_does_not_help(self):
+        for outcome in ("lost 0,1", "degraded 2", "spent", "nofile", "refused d1 noobject", "refused d1 nospace 7", "status 22 0"):
+            end = ended(Call(0, 0, 3), f"o c0 read {outcome}\nnext 19\n", 10)
+            self.assertEqual(end.status, 10, outcome)
+            self.assertIn(outcome, end.message)
 
     def test_no_program(self):
         self.run_tool("get", "f0", program="/nonexistent/program", status=22)
@@ -234,29 +261,50 @@ class Wrong(Tool):
 class Numbers(Tool):
     """One number is used by one run at a time."""
 
+    def begun(self):
+        """A run of the tool whose program has begun, and goes on when it is let."""
+        self.begin(["waits"], b"abc")
+        tool = self.started("get", "f0")
+        self.addCleanup(self.let)
+        for _ in range(3000):
+            if len(self.now()["runs"]) == 2:
+                return tool
+            time.sleep(0.02)
+        raise AssertionError("the program doesn't begin")
+
+    def let(self):
+        with open(self.state + ".go", "w"):
+            pass
+
     def test_two_runs_wait_for_each_other(self):
-        self.begin(["sleep 1"], b"abc")
-        first = self.started("get", "f0")
-        time.sleep(0.5)
-        self.assertEqual(self.run_tool("get", "f0", patience="20"), b"abc")
-        self.assertIn("in use by another run", self.messages)
+        first = self.begun()
+        second = self.started("get", "f0")
+        self.assertIn(b"in use by another run", second.stderr.readline())
+        self.let()
         self.assertEqual(first.communicate()[0], b"abc")
+        self.assertEqual(second.communicate()[0], b"abc")
 
     def test_one_gives_up(self):
-        self.begin(["sleep 3"], b"abc")
-        first = self.started("get", "f0")
-        time.sleep(0.5)
+        first = self.begun()
         self.run_tool("get", "f0", patience="0", status=20)
+        self.let()
         self.assertEqual(first.communicate()[0], b"abc")
 
-    def test_the_program_holds_the_number_when_the_tool_is_killed(self):
-        self.begin(["sleep 2"], b"abc")
-        first = self.started("get", "f0")
-        time.sleep(1)
-        first.kill()
-        self.run_tool("get", "f0", patience="0", status=20)
+    def test_other_numbers_and_orders_are_free(self):
+        first = self.begun()
+        self.assertEqual(self.run_tool("--client", "1", "get", "f0", patience="0"), b"abc")
+        self.run_tool("audit", "f0", patience="0")
+        self.let()
         first.communicate()
-        self.assertEqual(self.run_tool("get", "f0", patience="20"), b"abc")
+
+    def test_the_program_holds_the_number_when_the_tool_is_killed(self):
+        first = self.begun()
+        first.kill()
+        first.wait()
+        self.run_tool("get", "f0", patience="0", status=20)
+        self.let()
+        first.communicate()
+        self.assertEqual(self.run_tool("get", "f0", patience="60"), b"abc")
 
 
 class Drives(Tool):
@@ -307,20 +355,28 @@ class Words(Tool):
     """Words and texts that are refused."""
 
     def test_words(self):
-        for words in (["get"], ["get", "f64"], ["get", "g0"], ["read", "f0", "01", "2"], ["write", "f0", "-1"], ["--client", "16", "get", "f0"],
-                      ["jump", "f0"], ["declare", "f0"], []):
-            self.run_tool(*words, status=2)
+        for words in (["get"], ["get", "f64"], ["get", "g0"], ["read", "f0", "01", "2"], ["write", "f0", "-1"],
+                      ["--client", "16", "get", "f0"], ["jump", "f0"], ["declare", "f0"], []):
+            with self.assertRaises(SystemExit) as caught, contextlib.redirect_stderr(io.StringIO()):
+                words_of(["-c", self.text] + words)
+            self.assertEqual(caught.exception.code, 2)
 
     def test_texts(self):
-        good = TEXT.replace("{port}", "9")
-        for old, new, where in (("number = 0", "number = 64", "line 5"), ("unit = 4096", "uint = 4096", "line 13"), ("format = 2", "format = '2'", "line 2"),
-                                ("components = 5", "components = 0x5", "line 12"), ("[[file]]", "[file]", "line 10"), ("unit = 4096\n", "", "line 10"),
-                                ("127.0.0.1:9", "127.0.0.1", "line 6"), ("127.0.0.1:9", "127.0.0.1:99999", "line 6"), ("depth = 0", "depth = 0\ndepth = 0", "line 16"),
-                                ("[[drive]]", "[[file]]", "line 6"), ("format = 2", "format = 2\n[[drive]]\nnumber = 0\naddress = 'a:1'", "line 8")):
-            with open(self.text, "w") as text:
-                text.write(good.replace(old, new, 1))
-            self.run_tool("get", "f0", status=9)
-            self.assertIn(where, self.messages)
+        for old, new, line in (
+            ("number = 0", "number = 64", 5), ("unit = 4096", "uint = 4096", 13), ("format = 2", "format = '2'", 2),
+            ("components = 5", "components = 0x5", 12), ("[[file]]", "[file]", 10), ("unit = 4096\n", "", 10),
+            ("127.0.0.1:9", "127.0.0.1", 6), ("127.0.0.1:9", "127.0.0.1:99999", 6), ("depth = 0", "depth = 0\ndepth = 0", 16),
+            ("[[drive]]", "[[file]]", 6), ("format = 2", "format = 2\n[[drive]]\nnumber = 0\naddress = 'a:1'", 8),
+            ('"127.0.0.1:7100"', '"127.0.0.1\\u003a7100"', 1), ("components = 5", "components = +5", 12), ("unit", '"unit"', 13),
+        ):
+            text = TEXT.replace("{port}", "9").replace(old, new, 1)
+            with self.assertRaises(End) as caught:
+                cluster.read_cluster(text.encode())
+            self.assertEqual(caught.exception.status, 9)
+            self.assertIn(f"line {line} of", caught.exception.message)
+        with open(self.text, "w") as text:
+            text.write("server = 1")
+        self.run_tool("get", "f0", status=9)
 
     def test_other_files(self):
         self.run_tool("get", "f1", status=20)
@@ -332,29 +388,30 @@ class Cuts(unittest.TestCase):
 
     def test_cuts(self):
         for stripe, most in ((12288, 65500), (131072, 65500), (65536, 65500), (1, 65500), (0, 65500), (65501, 65500), (65500, 65500), (3, 7)):
-            whole = cluster.FileMap(1, stripe, 0, 0, 1)
             for offset, length in ((0, 500000), (12287, 65501), (5, 1), (65500, 0), (7, 131072)):
-                cut = list(copying.pieces(offset, length, whole, most))
-                self.assertEqual(sum(count for _, count in cut), length)
-                at = offset
-                for begin, count in cut:
-                    self.assertEqual(begin, at)
-                    self.assertTrue(0 < count <= most)
-                    at += count
-                    if stripe:
-                        self.assertTrue(begin % stripe == 0 or begin // stripe == (at - 1) // stripe or begin == offset, (stripe, begin, count))
+                self.check_cut(stripe, most, offset, length)
+
+    def check_cut(self, stripe, most, offset, length):
+        at = offset
+        for begin, count in copying.pieces(offset, length, cluster.FileMap(1, stripe, 0, 0, 1), most):
+            self.assertEqual(begin, at)
+            self.assertTrue(0 < count <= most)
+            at += count
+            in_one = stripe and begin // stripe == (at - 1) // stripe
+            self.assertTrue(not stripe or begin % stripe == 0 or in_one or begin == offset, (stripe, begin, count))
+        self.assertEqual(at, offset + length)
 
     def test_the_longest_write_fits_an_argument(self):
         self.assertLessEqual(len(f"write f63 16777215 {'00' * copying.MAX_WRITE}"), 131_071)
         self.assertGreater(copying.MAX_WRITE, 65_500)
 
     def test_stripes(self):
-        for numbers, length in (((5, 4096, 0, 0, 4), 12288), ((5, 4096, 0, 0, 3), 16384), ((6, 8, 3, 0, 2), 16), ((6, 8, 3, 1, 1), 24), ((3, 8, 0, 9, 1), 0)):
+        for numbers, length in (((5, 4096, 0, 0, 4), 12288), ((5, 4096, 0, 0, 3), 16384), ((6, 8, 3, 0, 2), 16), ((6, 8, 3, 1, 1), 24),
+                                ((3, 8, 0, 9, 1), 0)):
             self.assertEqual(cluster.FileMap(*numbers).stripe_bytes(), length)
 
     def test_numbers(self):
-        ran = answers.Ran(0, b"o c0 write ok 3\nnext 4294967296\n", "")
-        self.assertRaises(End, answers.read_answer, ran, 0, "write")
+        self.assertRaises(End, answers.read_answer, answers.Ran(0, b"o c0 write ok 3\nnext 4294967296\n", ""), 0, "write")
 
 
 def main():

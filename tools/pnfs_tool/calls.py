@@ -5,7 +5,7 @@ the right number before its first request, and again behind each run that didn't
 request with a number far away: the server answers 10063 with the number that it expects, and does nothing.
 """
 import time
-from typing import Callable, List, NamedTuple, Optional
+from typing import Callable, List, NamedTuple, Optional, Set
 
 from .answers import Answer, bytes_read, read_answer, strange, written
 from .ends import PROGRAM_STATUSES, STRANGE, End
@@ -58,25 +58,20 @@ def step_behind(answer: Answer) -> Optional[Step]:
         return Step("the server didn't answer", False)
     if answer.status != 10 or not answer.outcome:
         return None
-    words = answer.outcome
-    if words[0] == "held":
-        return Step(f"client {words[1][:4]} has the bytes, for {GRANT_SECONDS} seconds at most ('revoke' ends its grants at once)"
-                    if len(words) == 2 else "another client has the bytes", True)
-    if words[0] == "fencing":
-        return Step(f"a job of the file waits for component {words[-1]} (if its drive is lost: 'declare')", True)
-    if words[0] == "silent":
-        return Step(f"component {words[-1]} didn't answer (if its drive is lost: 'declare')", True)
-    if words[0] == "refused" and words[2:3] == ["tag"]:
+    word, rest = answer.outcome[0], answer.outcome[1:]
+    if word == "held":
+        return Step(f"client {rest[-1][1:]} has a grant on these bytes, for {GRANT_SECONDS} seconds at most "
+                    "('revoke' ends it at once)" if rest else "another client has a grant on these bytes", True)
+    if word == "fencing":
+        return Step(f"a job of the file waits for component {rest[-1]} (if its drive is lost: 'declare')", True)
+    if word == "silent" or word == "lost" and answer.timed_out:
+        return Step("too many components didn't answer (if their drives are lost: 'declare')", True)
+    if word == "refused" and rest[1:2] == ["tag"] or answer.outcome[:2] == ["status", BADLAYOUT]:
         return Step("a fence ended its grant", True, MAX_TAG_TRIES, now=True)
-    if words[0] == "refused" and words[2:] == ["expired"]:
-        return Step(f"its capability expired (are the clocks of {words[1]} and the server {GRANT_SECONDS} seconds apart?)",
-                    True, MAX_CLOCK_TRIES)
-    if words[:2] == ["status", SEQ_MISORDERED]:
+    if word == "refused" and rest[1:] == ["expired"]:
+        return Step(f"its grant expired (is the clock of {rest[0]} {GRANT_SECONDS} seconds ahead?)", True, MAX_CLOCK_TRIES)
+    if word == "badlayout" or answer.outcome[:2] == ["status", SEQ_MISORDERED]:
         return Step("its number isn't the next one: does another process use this client number?", False, MAX_CLOCK_TRIES)
-    if words[:2] == ["status", BADLAYOUT]:
-        return Step("a fence ended its grant", True, MAX_TAG_TRIES, now=True)
-    if words[0] == "badlayout":
-        return Step("its layout can't be used: does another process use this client number?", False, MAX_CLOCK_TRIES)
     return None
 
 
@@ -136,6 +131,7 @@ class Caller:
         self.calls = 0
         self.again = 0
         self.timed_out = 0
+        self.late: Set[int] = set()
 
     def ask_number(self) -> Answer:
         """Asks the server for the number of the next request, once."""
@@ -160,12 +156,21 @@ class Caller:
         ran = self.program.run(self.next, call.words())
         self.next = None
         answer = read_answer(ran, self.program.client, call.kind())
-        self.timed_out += len(answer.timed_out)
+        self.note_late(call, answer)
         if answer.next:
             self.next = answer.next
         if answer.is_ok() and not fits(answer, call):
             raise strange(ran, f"it isn't the outcome of '{call.name()}'")
         return answer
+
+    def note_late(self, call: Call, answer: Answer) -> None:
+        """Counts the components that timed out, and tells of each once."""
+        self.timed_out += len(answer.timed_out)
+        for component in answer.timed_out:
+            if component not in self.late:
+                self.late.add(component)
+                self.tell(f"component {component} of f{call.file} timed out, and {call.kind()}s go on without it: if its drive is lost, "
+                          "'declare' it and 'rebuild'")
 
     def carry_out(self, call: Call) -> Answer:
         """Carries out the call, with as many tries as its patience has. Ends the run where it wasn't ok."""

@@ -85,9 +85,17 @@ class Progress:
     def end(self, caller: Caller) -> None:
         """What it took."""
         seconds = time.monotonic() - self.begin
-        again = f", {caller.again} tried again" if caller.again else ""
-        lost = f", {caller.timed_out} waits for a component that timed out" if caller.timed_out else ""
-        self.tell(f"{self.what}: {self.done} bytes in {caller.calls} calls{again}{lost}, {seconds:.1f} s")
+        parts = [f"{self.what}: {counted(self.done, 'byte')} in {counted(caller.calls, 'call')}"]
+        if caller.again:
+            parts.append(f"{caller.again} of them tried again")
+        if caller.timed_out:
+            parts.append(f"a component timed out {counted(caller.timed_out, 'time')}")
+        self.tell(", ".join(parts + [f"{seconds:.1f} s"]))
+
+
+def counted(count: int, what: str) -> str:
+    """So many of something."""
+    return f"{count} {what}" if count == 1 else f"{count} {what}s"
 
 
 def write_all(caller: Caller, file: int, file_map: FileMap, offset: int, data: bytes, progress: Progress) -> None:

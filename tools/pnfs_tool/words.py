@@ -3,8 +3,6 @@ import argparse
 import re
 from typing import List
 
-from .ends import WORDS
-
 EPILOG = """\
 calls (they use a number of the client, which the tool asks the server for):
   put F < DATA              writes DATA, at most 16777216 bytes, as the whole of file F (f0 to f63).
@@ -104,11 +102,9 @@ def parser() -> argparse.ArgumentParser:
     declare = commands.add_parser("declare", allow_abbrev=False)
     declare.add_argument("drive", type=drive_name, metavar="D")
     declare.add_argument("--even-if-alive", action="store_true", help="declare it though something answers at its address")
-    assert top.exit_on_error if hasattr(top, "exit_on_error") else True
     return top
 
 
 def words_of(arguments: List[str]) -> argparse.Namespace:
-    """The words; ends the process with status 2 where they are none of the tool's."""
-    assert WORDS == 2  # argparse's own
+    """The words; argparse ends the process with status 2 where they are none of the tool's."""
     return parser().parse_args(arguments)
