@@ -240,7 +240,8 @@ class Wrong(Tool):
             self.assertEqual(ended(Call(0, 0, 3, b"abc"), said, status).status, status)
 
     def test_what_does_not_help(self):
-        for outcome in ("lost 0,1", "degraded 2", "spent", "nofile", "refused d1 noobject", "refused d1 nospace 7", "status 22 0"):
+        for outcome in ("lost 0,1", "degraded 2", "spent", "nofile", "refused d1 noobject", "refused d1 nospace 7", "status 22 0",
+                        "held", "fencing", "refused", "status"):
             end = ended(Call(0, 0, 3), f"o c0 read {outcome}\nnext 19\n", 10)
             self.assertEqual(end.status, 10, outcome)
             self.assertIn(outcome, end.message)

@@ -59,11 +59,10 @@ def step_behind(answer: Answer) -> Optional[Step]:
     if answer.status != 10 or not answer.outcome:
         return None
     word, rest = answer.outcome[0], answer.outcome[1:]
-    if word == "held":
-        return Step(f"client {rest[-1][1:]} has a grant on these bytes, for {GRANT_SECONDS} seconds at most "
-                    "('revoke' ends it at once)" if rest else "another client has a grant on these bytes", True)
-    if word == "fencing":
-        return Step(f"a job of the file waits for component {rest[-1]} (if its drive is lost: 'declare')", True)
+    if word == "held" and rest:
+        return Step(f"client {rest[0][1:]} has a grant on these bytes, for {GRANT_SECONDS} seconds at most ('revoke' ends it at once)", True)
+    if word == "fencing" and rest:
+        return Step(f"a job of the file waits for component {rest[0]} (if its drive is lost: 'declare')", True)
     if word == "silent" or word == "lost" and answer.timed_out:
         return Step("too many components didn't answer (if their drives are lost: 'declare')", True)
     if word == "refused" and rest[1:2] == ["tag"] or answer.outcome[:2] == ["status", BADLAYOUT]:
