@@ -162,6 +162,12 @@ class Again(Tool):
         self.run_tool("put", "f0", data=b"abc")
         self.assertEqual(self.data(), b"abc")
 
+    def test_how_far_it_came_is_told(self):
+        self.begin([None, None, "spent"])
+        self.run_tool("put", "f0", data=b"x" * 70_000, status=10)
+        self.assertIn("it stops behind 61440 bytes", self.messages)
+        self.assertEqual(len(self.data()), 61_440)
+
     def test_a_fence_without_end(self):
         self.begin([None] + ["refused d2 tag 3"] * 99)
         self.run_tool("put", "f0", data=b"abc", patience="60", status=10)

@@ -55,15 +55,27 @@ def refuse_end(offset: int, length: int) -> None:
 class Progress:
     """Tells how far a copy has come, and in the end what it took."""
 
-    def __init__(self, what: str, whole: Optional[int], quiet: bool, verbose: bool):
+    def __init__(self, what: str, whole: Optional[int], quiet: bool, verbose: bool, caller: Caller):
         self.what = what
         self.whole = whole
         self.quiet = quiet
+        self.caller = caller
         self.on_terminal = sys.stderr.isatty()
         self.shows = (verbose or self.on_terminal) and not quiet
         self.begin = self.last = time.monotonic()
         self.done = 0
         self.line_open = False
+        caller.tell = self.tell
+
+    def __enter__(self) -> "Progress":
+        return self
+
+    def __exit__(self, _: object, fault: Optional[BaseException], __: object) -> None:
+        """What it took; or how far it came, where it stopped."""
+        if fault is None:
+            self.tell(self.summary())
+        elif isinstance(fault, (End, KeyboardInterrupt)) and self.done:
+            self.tell(f"{self.what}: it stops behind {counted(self.done, 'byte')}", always=True)
 
     def add(self, count: int) -> None:
         """So many bytes more are done."""
@@ -76,21 +88,21 @@ class Progress:
             sys.stderr.flush()
             self.line_open = self.on_terminal
 
-    def tell(self, line: str) -> None:
+    def tell(self, line: str, always: bool = False) -> None:
         """A line for a person, beside the progress."""
-        if not self.quiet:
+        if always or not self.quiet:
             sys.stderr.write(("\n" if self.line_open else "") + f"pnfs: {line}\n")
+            sys.stderr.flush()
             self.line_open = False
 
-    def end(self, caller: Caller) -> None:
-        """What it took."""
-        seconds = time.monotonic() - self.begin
-        parts = [f"{self.what}: {counted(self.done, 'byte')} in {counted(caller.calls, 'call')}"]
-        if caller.again:
-            parts.append(f"{caller.again} of them tried again")
-        if caller.timed_out:
-            parts.append(f"a component timed out {counted(caller.timed_out, 'time')}")
-        self.tell(", ".join(parts + [f"{seconds:.1f} s"]))
+    def summary(self) -> str:
+        """What was done, and what it took."""
+        parts = [f"{self.what}: {counted(self.done, 'byte')} in {counted(self.caller.calls, 'call')}"]
+        if self.caller.again:
+            parts.append(f"{self.caller.again} of them tried again")
+        if self.caller.timed_out:
+            parts.append(f"a component timed out {counted(self.caller.timed_out, 'time')}")
+        return ", ".join(parts + [f"{time.monotonic() - self.begin:.1f} s"])
 
 
 def counted(count: int, what: str) -> str:

@@ -6,7 +6,7 @@ from typing import List
 
 from .calls import Caller
 from .cluster import Cluster, FileMap, read_cluster
-from .copying import MAX_FILE, Progress, put, read_all, write_all
+from .copying import MAX_FILE, Progress, put, read_all, refuse_end, write_all
 from .drives import ask_drive
 from .ends import DONE, INPUT, NOT_ASKED, OUTPUT, SHORT, STOPPED, End
 from .lock import hold, release
@@ -48,37 +48,34 @@ def spare_file(cluster: Cluster) -> int:
     return next((number for number in reversed(ALL_FILES) if number not in cluster.files), 0)
 
 
-def file_map(cluster: Cluster, file: int) -> FileMap:
-    """The map of a file of the text."""
+def refuse_file(cluster: Cluster, file: int) -> None:
+    """Ends the run where the text has no such file."""
     if file not in cluster.files:
         have = ", ".join(f"f{number}" for number in sorted(cluster.files)) or "none"
         raise End(NOT_ASKED, f"the cluster text has no file f{file} (it has {have})")
-    return cluster.files[file]
 
 
-def copy(words: argparse.Namespace, cluster: Cluster, caller: Caller) -> int:
-    """Carries out put, get, write or read."""
-    file, striping = words.file, file_map(cluster, words.file)
-    name = f"{words.command} f{file}"
-    if words.command in ("put", "write"):
-        data = input_bytes()
-        progress = Progress(name, len(data), words.quiet, words.verbose)
-        caller.tell = progress.tell
+def copy_in(words: argparse.Namespace, striping: FileMap, caller: Caller) -> int:
+    """Carries out put or write."""
+    data = input_bytes()
+    with Progress(f"{words.command} f{words.file}", len(data), words.quiet, words.verbose, caller) as progress:
         if words.command == "put":
-            put(caller, file, striping, data, progress)
+            put(caller, words.file, striping, data, progress)
         else:
-            write_all(caller, file, striping, words.offset, data, progress)
-        progress.end(caller)
-        return DONE
-    offset, length = (0, MAX_FILE) if words.command == "get" else (words.offset, words.length)
-    if offset + length > MAX_FILE:
-        raise End(NOT_ASKED, f"a file has at most {MAX_FILE} bytes, and these end at byte {offset + length}")
-    progress = Progress(name, None if words.command == "get" else length, words.quiet, words.verbose)
-    caller.tell = progress.tell
-    count = read_all(caller, file, striping, offset, length, sys.stdout.buffer, progress)
-    progress.end(caller)
-    if words.command == "read" and count < length:
-        say(f"f{file} ends before byte {offset + length}: {count} of {length} bytes were there")
+            write_all(caller, words.file, striping, words.offset, data, progress)
+    return DONE
+
+
+def copy_out(words: argparse.Namespace, striping: FileMap, caller: Caller) -> int:
+    """Carries out get or read."""
+    is_get = words.command == "get"
+    offset, length = (0, MAX_FILE) if is_get else (words.offset, words.length)
+    refuse_end(offset, length)
+    name = f"{words.command} f{words.file}"
+    with Progress(name, None if is_get else length, words.quiet, words.verbose, caller) as progress:
+        count = read_all(caller, words.file, striping, offset, length, sys.stdout.buffer, progress)
+    if count < length and not is_get:
+        say(f"f{words.file} ends before byte {offset + length}: {count} of {length} bytes were there")
         return SHORT
     return DONE
 
@@ -118,17 +115,18 @@ def carry_out(words: argparse.Namespace) -> int:
     path = program_path(words.program)
     tell = (lambda line: None) if words.quiet else say
     if words.command in ("put", "get", "write", "read"):
-        file_map(cluster, words.file)
+        refuse_file(cluster, words.file)
         lock, lock_file = hold(cluster.server, words.client, words.patience, tell)
         try:
             program = Program(path, cluster.text, words.client, lock)
-            return copy(words, cluster, Caller(program, spare_file(cluster), words.patience, tell))
+            copy = copy_in if words.command in ("put", "write") else copy_out
+            return copy(words, cluster.files[words.file], Caller(program, spare_file(cluster), words.patience, tell))
         finally:
             release(lock, lock_file)
     caller = Caller(Program(path, cluster.text, words.client), spare_file(cluster), words.patience, tell)
     if words.command == "declare":
         return declare(words, cluster, caller)
-    file_map(cluster, words.file)
+    refuse_file(cluster, words.file)
     return order(words, f"{words.command} f{words.file}", caller, TOLD_BEHIND[words.command])
 
 
