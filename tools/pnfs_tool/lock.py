@@ -47,7 +47,9 @@ def opened(path: str) -> int:
         except FileNotFoundError:
             pass
         try:
-            return os.open(path, flags | os.O_CREAT | os.O_EXCL, 0o644)
+            lock = os.open(path, flags | os.O_CREAT | os.O_EXCL, 0o644)
+            os.fchmod(lock, 0o644)
+            return lock
         except FileExistsError:
             pass
     raise OSError(errno.EEXIST, "it comes and goes", path)
