@@ -27,6 +27,8 @@ def folder() -> str:
         os.chmod(path, 0o1777)
     except FileExistsError:
         pass
+    except OSError as fault:
+        raise End(NOT_ASKED, f"the folder {path} for the locks of client numbers can't be made: {fault.strerror or fault}")
     if not stat.S_ISDIR(os.lstat(path).st_mode):
         raise End(NOT_ASKED, f"{path} isn't a folder: it is to have the locks of client numbers")
     return path
