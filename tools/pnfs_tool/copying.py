@@ -62,7 +62,8 @@ class Progress:
         self.caller = caller
         self.on_terminal = sys.stderr.isatty()
         self.shows = (verbose or self.on_terminal) and not quiet
-        self.begin = self.last = time.monotonic()
+        self.begin = time.monotonic()
+        self.last = self.begin - PROGRESS_SECONDS   # so the first call shows at once
         self.done = 0
         self.line_open = False
         caller.tell = self.tell
