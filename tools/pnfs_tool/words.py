@@ -16,7 +16,8 @@ orders (the server only begins with them: how they end stands on its standard er
   rebuild F    makes each missing component of F anew on another drive
   audit F      reads and judges all stripes of F
   recall F     asks for every grant of F back (over a network this reaches no client)
-  declare D    takes drive D (d0 to d63) for lost, for good. Refused where it is alive
+  declare D    takes drive D (d0 to d63) for lost, for good. Refused where something takes connections at its
+               address, unless --even-if-alive follows
 
 A long copy is many calls, each whole in itself: other clients may read and write between them, and a copy that
 stops has written, or put out, a part from the front. A call behind whose run nothing is known is tried again,
