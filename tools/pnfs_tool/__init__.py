@@ -1,0 +1,1 @@
+"""What `tools/pnfs` is made of: each module has one part of it."""

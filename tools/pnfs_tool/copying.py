@@ -1,0 +1,163 @@
+"""Writes and reads of any length, in calls that the program takes."""
+import sys
+import time
+from typing import BinaryIO, Iterator, Optional, Tuple
+
+from .answers import Answer, bytes_read
+from .calls import Call, Caller
+from .cluster import FileMap
+from .ends import NOT_ASKED, OUTPUT, End
+from .program import MAX_ARGUMENT
+
+MAX_FILE = 16_777_216      # no call may end above it
+MAX_READ = 262_144         # the bytes of one call
+MAX_WRITE = (MAX_ARGUMENT - len(f"write f63 {MAX_FILE} ")) // 2
+PROGRESS_SECONDS = 2.0
+
+
+def cut_length(stripe: int, most: int) -> int:
+    """The bytes between two cuts, at most `most`, such that no piece has a part of one stripe and of another.
+
+    Where a stripe fits, as many whole stripes as fit; else equal parts of a stripe.
+    """
+    if stripe <= 0:
+        return most
+    if stripe <= most:
+        return most // stripe * stripe
+    parts = -(-stripe // most)
+    return -(-stripe // parts)
+
+
+def next_cut(offset: int, stripe: int, most: int) -> int:
+    """The first cut behind this byte of the file."""
+    length = cut_length(stripe, most)
+    if stripe <= most:
+        return (offset // length + 1) * length
+    begin = offset - offset % stripe
+    return min(begin + ((offset - begin) // length + 1) * length, begin + stripe)
+
+
+def pieces(offset: int, length: int, file_map: FileMap, most: int) -> Iterator[Tuple[int, int]]:
+    """The pieces of a range, each with its offset and its length."""
+    end = offset + length
+    while offset < end:
+        cut = min(next_cut(offset, file_map.stripe_bytes(), most), end)
+        yield offset, cut - offset
+        offset = cut
+
+
+def refuse_end(offset: int, length: int) -> None:
+    """Ends the run where a file can't have these bytes."""
+    if offset + length > MAX_FILE:
+        raise End(NOT_ASKED, f"a file has at most {MAX_FILE} bytes, and these end at byte {offset + length}: nothing was done")
+
+
+class Progress:
+    """Tells how far a copy has come, and in the end what it took."""
+
+    def __init__(self, what: str, whole: Optional[int], quiet: bool, verbose: bool, caller: Caller):
+        self.what = what
+        self.whole = whole
+        self.quiet = quiet
+        self.caller = caller
+        self.on_terminal = sys.stderr.isatty()
+        self.shows = (verbose or self.on_terminal) and not quiet
+        self.begin = time.monotonic()
+        self.last = self.begin - PROGRESS_SECONDS   # so the first call shows at once
+        self.done = 0
+        self.line_open = False
+        caller.tell = self.tell
+
+    def __enter__(self) -> "Progress":
+        return self
+
+    def __exit__(self, _: object, fault: Optional[BaseException], __: object) -> None:
+        """What it took; or how far it came, where it stopped."""
+        if fault is None:
+            self.tell(self.summary())
+        elif isinstance(fault, (End, KeyboardInterrupt)) and self.done:
+            self.tell(f"{self.what}: it stops behind {counted(self.done, 'byte')}", always=True)
+
+    def add(self, count: int) -> None:
+        """So many bytes more are done."""
+        self.done += count
+        moment = time.monotonic()
+        if self.shows and moment - self.last >= PROGRESS_SECONDS / (10 if self.on_terminal else 1):
+            self.last = moment
+            of_whole = f" of {self.whole}" if self.whole is not None else ""
+            sys.stderr.write(f"{self.what}: {self.done}{of_whole} bytes" + ("\r" if self.on_terminal else "\n"))
+            sys.stderr.flush()
+            self.line_open = self.on_terminal
+
+    def tell(self, line: str, always: bool = False) -> None:
+        """A line for a person, beside the progress."""
+        if always or not self.quiet:
+            sys.stderr.write(("\n" if self.line_open else "") + f"pnfs: {line}\n")
+            sys.stderr.flush()
+            self.line_open = False
+
+    def summary(self) -> str:
+        """What was done, and what it took."""
+        parts = [f"{self.what}: {counted(self.done, 'byte')} in {counted(self.caller.calls, 'call')}"]
+        if self.caller.again:
+            parts.append(f"{self.caller.again} of them tried again")
+        if self.caller.timed_out:
+            parts.append(f"a component timed out {counted(self.caller.timed_out, 'time')}")
+        return ", ".join(parts + [f"{time.monotonic() - self.begin:.1f} s"])
+
+
+def counted(count: int, what: str) -> str:
+    """So many of something."""
+    return f"{count} {what}" if count == 1 else f"{count} {what}s"
+
+
+def write_all(caller: Caller, file: int, file_map: FileMap, offset: int, data: bytes, progress: Progress) -> None:
+    """Writes these bytes from that offset on."""
+    refuse_end(offset, len(data))
+    for at, length in pieces(offset, len(data), file_map, MAX_WRITE):
+        begin = at - offset
+        caller.carry_out(Call(file, at, length, data[begin:begin + length]))
+        progress.add(length)
+
+
+def put(caller: Caller, file: int, file_map: FileMap, data: bytes, progress: Progress) -> None:
+    """Writes these bytes as the whole file.
+
+    A file doesn't get shorter: so one that has bytes behind these is refused before anything is written.
+    """
+    refuse_end(0, len(data))
+    if len(data) < MAX_FILE and read_piece(caller, file, len(data), 1):
+        raise End(NOT_ASKED, f"f{file} has bytes behind byte {len(data)}, and a file doesn't get shorter: nothing was written. "
+                             f"To write over its beginning: 'write f{file} 0'")
+    write_all(caller, file, file_map, 0, data, progress)
+
+
+def read_piece(caller: Caller, file: int, offset: int, length: int) -> bytes:
+    """The bytes of one call: fewer than asked only where the file ends."""
+    answer: Answer = caller.carry_out(Call(file, offset, length))
+    read = bytes_read(answer, length)
+    assert read is not None
+    return read
+
+
+def read_all(caller: Caller, file: int, file_map: FileMap, offset: int, length: int, sink: BinaryIO,
+             progress: Progress) -> int:
+    """Reads a range into the sink, and tells how many bytes it gave: fewer where the file ends."""
+    total = 0
+    for at, count in pieces(offset, length, file_map, MAX_READ):
+        read = read_piece(caller, file, at, count)
+        put_out(sink, read)
+        total += len(read)
+        progress.add(len(read))
+        if len(read) < count:
+            break
+    return total
+
+
+def put_out(sink: BinaryIO, data: bytes) -> None:
+    """Hands bytes on at once, so that a sink that fails shows."""
+    try:
+        sink.write(data)
+        sink.flush()
+    except OSError as fault:
+        raise End(OUTPUT, f"standard output failed: {fault.strerror or fault}")

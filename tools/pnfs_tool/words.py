@@ -1,0 +1,111 @@
+"""The words of the tool."""
+import argparse
+import re
+from typing import List
+
+EPILOG = """\
+calls (they use a number of the client, which the tool asks the server for):
+  put F < DATA              writes DATA, at most 16777216 bytes, as the whole of file F (f0 to f63).
+                            Refused where F is longer than DATA: a file doesn't get shorter
+  get F > DATA              reads file F to its end
+  write F OFFSET < DATA     writes DATA from byte OFFSET on
+  read F OFFSET LENGTH      reads these bytes; status 23 where F ends before
+
+orders (the server only begins with them: how they end stands on its standard error):
+  revoke F     ends every grant of F, and repairs what unfinished writes left
+  rebuild F    makes each missing component of F anew on another drive
+  audit F      reads and judges all stripes of F
+  recall F     asks for every grant of F back (over a network this reaches no client)
+  declare D    takes drive D (d0 to d63) for lost, for good. Refused where something takes connections at its
+               address, unless --even-if-alive follows
+
+A long copy is many calls, each whole in itself: other clients may read and write between them, and a copy that
+stops has written, or put out, a part from the front. A call behind whose run nothing is known is tried again,
+so it may be carried out twice.
+
+exit status:
+  0   done: each call was acknowledged, each byte that was asked for was read
+  2   the words are none of these
+  4   the cluster text or standard input couldn't be read
+  5   standard output failed
+  8   the server didn't answer, as often as it was asked
+  9   the cluster text is refused
+  10  the call or the order was refused, or what is in its way didn't go away: standard error says what
+  20  refused by this tool, which sent nothing of it: the drive is alive, F is longer than DATA or DATA too long,
+      there is no such file or drive in the cluster text, or the client number is in use
+  21  the program's answer is none to what was asked
+  22  the program couldn't be run
+  23  F ends before the bytes that 'read' asked for; those before its end were put out
+  130 Ctrl-C
+Other statuses are the program's own (./pnfs_osd --help).
+
+The program is that of --program or $PNFS_OSD, else crates/pnfs_osd/out/pnfs_osd, which ./pnfs_osd builds.
+Client numbers are held by locks in /tmp/pnfs_osd.locks ($PNFS_LOCKS), for one machine. Give each machine its own.
+docs/OPERATIONS.md goes through a cluster's first hour.
+"""
+
+
+def file_name(word: str) -> int:
+    """A file as f0."""
+    if not re.fullmatch(r"f(0|[1-9][0-9]?)", word) or int(word[1:]) > 63:
+        raise argparse.ArgumentTypeError(f"'{word}' is no file: f0 to f63")
+    return int(word[1:])
+
+
+def drive_name(word: str) -> int:
+    """A drive as d0."""
+    if not re.fullmatch(r"d(0|[1-9][0-9]?)", word) or int(word[1:]) > 63:
+        raise argparse.ArgumentTypeError(f"'{word}' is no drive: d0 to d63")
+    return int(word[1:])
+
+
+def number(word: str) -> int:
+    """A number from 0."""
+    if not re.fullmatch(r"0|[1-9][0-9]{0,17}", word):
+        raise argparse.ArgumentTypeError(f"'{word}' is no number without a sign and leading zeros")
+    return int(word)
+
+
+def client_number(word: str) -> int:
+    """A client's number."""
+    if number(word) > 15:
+        raise argparse.ArgumentTypeError(f"'{word}' is no client: 0 to 15")
+    return int(word)
+
+
+def add_options(parser: argparse.ArgumentParser) -> None:
+    """The options before the command."""
+    parser.add_argument("-c", "--cluster", metavar="CLUSTER.toml", required=True, help="the cluster text")
+    parser.add_argument("--client", metavar="N", type=client_number, default=0, help="act as client N, 0 to 15 (default 0)")
+    parser.add_argument("--program", metavar="P", help="the program pnfs_osd")
+    parser.add_argument("--patience", metavar="SECONDS", type=number, default=120,
+                        help="how long to try one call again, and to wait for the client number (default 120)")
+    parser.add_argument("-q", "--quiet", action="store_true", help="say on standard error only what failed")
+    parser.add_argument("-v", "--verbose", action="store_true", help="tell the progress also where standard error is no terminal")
+
+
+def parser() -> argparse.ArgumentParser:
+    """The parser of the words."""
+    top = argparse.ArgumentParser(prog="pnfs", formatter_class=argparse.RawDescriptionHelpFormatter, epilog=EPILOG,
+                                  description="Reads and writes the files of a pnfs_osd cluster, and hands its server orders.",
+                                  allow_abbrev=False)
+    add_options(top)
+    commands = top.add_subparsers(dest="command", metavar="COMMAND", required=True)
+    for name in ("put", "get", "recall", "revoke", "rebuild", "audit"):
+        commands.add_parser(name, allow_abbrev=False).add_argument("file", type=file_name, metavar="F")
+    write = commands.add_parser("write", allow_abbrev=False)
+    write.add_argument("file", type=file_name, metavar="F")
+    write.add_argument("offset", type=number, metavar="OFFSET")
+    read = commands.add_parser("read", allow_abbrev=False)
+    read.add_argument("file", type=file_name, metavar="F")
+    read.add_argument("offset", type=number, metavar="OFFSET")
+    read.add_argument("length", type=number, metavar="LENGTH")
+    declare = commands.add_parser("declare", allow_abbrev=False)
+    declare.add_argument("drive", type=drive_name, metavar="D")
+    declare.add_argument("--even-if-alive", action="store_true", help="declare it though something answers at its address")
+    return top
+
+
+def words_of(arguments: List[str]) -> argparse.Namespace:
+    """The words; argparse ends the process with status 2 where they are none of the tool's."""
+    return parser().parse_args(arguments)
