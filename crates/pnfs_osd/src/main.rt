@@ -1,15 +1,20 @@
 //! Replays scenarios of files striped over object drives, shows and checks the structures of their layouts
-//! (RFC 5664), and serves and asks over a network, as proved in `pnfs_run`.
+//! (RFC 5664), and serves and asks over a network, as proved in `pnfs_run`. Beside what that writes, people are told
+//! more on standard error.
 #![tactic(auto)]
 
+mod people;
+mod refused_line;
 mod usage;
 
 ghost use Rattle.std.specs.Result.{ForOk};
 ghost use Rattle.stripe_repair.specs.Placing.{CanPlace, Places};
 
+use advice::Kept;
 use osd_bytes::{Memory, Numbers, put_all};
 use osd_links::{StdSink, StdSource, SystemClock, TcpLinks};
 use osd_replay::{Stop, fewest_first, stopped};
+use people::tell;
 use pnfs_run::{Status, run};
 use std::io::ErrorKind;
 use std::process::ExitCode;
@@ -24,7 +29,7 @@ fn all_words(rt: HostRuntime) -> io::Result<Vec<String>> {
 }
 
 fn main(rt: HostRuntime) -> ExitCode {
-    let mut source = StdSource::new(rt);
+    let mut source = Kept::new(rt.alloc(), StdSource::new(rt));
     let mut sink = StdSink::new(rt);
     let words = match all_words(rt) {
         Ok(words) => words,
@@ -60,6 +65,14 @@ fn main(rt: HostRuntime) -> ExitCode {
         &mut links,
         &mut clock,
         &placer,
+    );
+    tell(
+        rt,
+        alloc,
+        &status,
+        words,
+        source.bytes(),
+        links.last_fault(),
     );
     ExitCode::from(status.exit_code())
 }

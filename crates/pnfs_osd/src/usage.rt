@@ -5,7 +5,8 @@ const VERSION: &str = "\
 pnfs_osd 0.1.0
 ";
 
-const PROGRAM: &str = "\
+/// What the program is told to do, and how it ends.
+pub const PROGRAM: &str = "\
 usage: pnfs_osd replay < SCENARIO
        pnfs_osd generate N K
        pnfs_osd show KIND < LINES
@@ -13,7 +14,7 @@ usage: pnfs_osd replay < SCENARIO
        pnfs_osd drive --number N --connections K < CLUSTER
        pnfs_osd server --connections K < CLUSTER
        pnfs_osd client --number N --sequence Q --call TEXT < CLUSTER
-       pnfs_osd --help | --version
+       pnfs_osd help [COMMAND] | --help | --version
        pnfs_osd COMMAND --help
 
 replay    carries out a scenario and writes its transcript (docs/SCENARIO.md)
@@ -97,19 +98,36 @@ fn usage_of(command: &str) -> Option<&'static str> {
     }
 }
 
+fn is_help(word: &String) -> bool {
+    matches!(word.as_str(), "--help" | "-h")
+}
+
+fn is_version(word: &String) -> bool {
+    matches!(word.as_str(), "--version" | "-V")
+}
+
+// What a command's words ask for: its usage or the version, wherever the word for it stands.
+fn command_text(command: &str, rest: &[String]) -> Option<&'static str> {
+    let usage = usage_of(command)?;
+    if rest.iter().any(is_help) {
+        Some(usage)
+    } else if rest.iter().any(is_version) {
+        Some(VERSION)
+    } else {
+        None
+    }
+}
+
 /// The text that the words ask for, where they ask what the program is or how it is used.
 pub fn text_asked(words: &[String]) -> Option<&'static str> {
     match words {
-        [word] => match word.as_str() {
-            "--help" | "-h" => Some(PROGRAM),
-            "--version" => Some(VERSION),
-            _ => None,
+        [] => None,
+        [word] if is_help(word) || word.as_str() == "help" => Some(PROGRAM),
+        [word] if is_version(word) => Some(VERSION),
+        [help, command] if help.as_str() == "help" => match command.as_str() {
+            "help" => Some(PROGRAM),
+            command => usage_of(command),
         },
-        [command, word] => match word.as_str() {
-            "--help" | "-h" => usage_of(command.as_str()),
-            "--version" => usage_of(command.as_str()).and(Some(VERSION)),
-            _ => None,
-        },
-        _ => None,
+        [command, rest @ ..] => command_text(command.as_str(), rest),
     }
 }

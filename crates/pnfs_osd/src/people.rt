@@ -1,0 +1,103 @@
+// What a person is told on standard error of how a run ended.
+use crate::refused_line::refused_line;
+use crate::usage::PROGRAM;
+use advice::{Asker, failed_links, refused_cluster, refused_words};
+use cluster_text::Reader;
+use osd_links::LinkFault;
+use osd_replay::Quantity;
+use pnfs_run::Status;
+use std::alloc::{AllocError, Global};
+use std::io::Eprint;
+
+// The party that the words name.
+fn asker_of(words: &[String]) -> Asker {
+    match words.first() {
+        Some(word) if word.as_str() == "drive" => Asker::Drive,
+        Some(word) if word.as_str() == "server" => Asker::Server,
+        _ => Asker::Client,
+    }
+}
+
+// The value of `--number`.
+fn number_in(words: &[String]) -> Option<u32> {
+    let mut is_next = false;
+    for word in words {
+        let word = word.as_str();
+        if is_next {
+            return word.parse().ok();
+        }
+        if let Some(number) = word.strip_prefix("--number=") {
+            return number.parse().ok();
+        }
+        is_next = word == "--number";
+    }
+    None
+}
+
+// Who reads the cluster text.
+fn reader_of(words: &[String]) -> Reader {
+    match asker_of(words) {
+        Asker::Drive => Reader::Drive(number_in(words).unwrap_or(0)),
+        Asker::Server => Reader::Server,
+        Asker::Client => Reader::Client,
+    }
+}
+
+fn words_text(alloc: Global, words: &[String]) -> Result<String, AllocError> {
+    if words.is_empty() {
+        return format!(in alloc; "pnfs_osd: no command\n{PROGRAM}");
+    }
+    refused_words(alloc, words)
+}
+
+fn full_text(quantity: Quantity) -> &'static str {
+    match quantity {
+        Quantity::Input => "pnfs_osd: the input has more than 67108864 bytes\n",
+        Quantity::Line => "pnfs_osd: a line of the input has more than 600000 bytes\n",
+        Quantity::Kept =>
+            "pnfs_osd: the drives, the server and the clients of the scenario would keep more than 268435456 bytes\n",
+    }
+}
+
+// What is told of an end, if anything is.
+fn text_of(
+    alloc: Global,
+    status: &Status,
+    words: &[String],
+    input: Option<&[u8]>,
+    fault: Option<LinkFault<'_>>,
+) -> Result<String, AllocError> {
+    match status {
+        Status::Done | Status::Refused { .. } => Ok(String::new(alloc)),
+        Status::BadWords => words_text(alloc, words),
+        Status::BadScenario { line, kind } => refused_line(alloc, *line, *kind, input),
+        Status::ReadFault => String::from_str(
+            alloc,
+            "pnfs_osd: standard input could not be read\n",
+        ),
+        Status::WriteFault => String::from_str(
+            alloc,
+            "pnfs_osd: standard output could not be written: its end is missing\n",
+        ),
+        Status::Memory => String::from_str(alloc, "pnfs_osd: there was no memory\n"),
+        Status::Full { quantity } => String::from_str(alloc, full_text(*quantity)),
+        Status::LinkFault => failed_links(alloc, asker_of(words), fault),
+        Status::BadCluster { kind } => refused_cluster(alloc, reader_of(words), *kind, input),
+    }
+}
+
+/// Tells a person on standard error how a run ended. Where that fails, or there is no memory for it, nothing is told.
+pub fn tell<R: Eprint + Drop>(
+    rt: R,
+    alloc: Global,
+    status: &Status,
+    words: &[String],
+    input: Option<&[u8]>,
+    fault: Option<LinkFault<'_>>,
+) {
+    if let Ok(text) = text_of(alloc, status, words, input, fault) {
+        if !text.is_empty() {
+            let _told = rt.eprint(text);
+        }
+    }
+}
