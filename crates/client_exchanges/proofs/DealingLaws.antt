@@ -1,5 +1,5 @@
 -- Steps of a client as its dealings, and messages one after the other.
-use Rattle.std.specs.Prelude.{◌↔◌, Bool, IsTrue, false, map, slice_get}
+use Rattle.std.specs.Prelude.{◌↔◌, Bool, IsTrue, false, true, map, slice_get, if◌then◌else◌}
 use Rattle.std.proofs.Common.{◌≡◌, ◌+◌, ℕ, zero, suc, List, [], ◌∷◌, ◌++◌, take, drop, Option, Some, None, refl, sym, ap, subst, ◌∙◌}
 use Rattle.std.proofs.Math.Numerals.{add-one}
 use Rattle.osd_bytes.specs.Connections.{Traffic}
@@ -18,8 +18,10 @@ use Rattle.client_rules.specs.Messages.{awaited_of, to_drive}
 use Rattle.client_rules.specs.Steps.{outstanding_sends, resent}
 use Rattle.client_state.specs.Sending.{spelled}
 use Rattle.layout_ops.specs.declared.messages.Request.{Request}
-use Rattle.osd_bytes.specs.declared.node.Node.TheVariants.{Drive}
-use Rattle.client_exchanges.specs.Dealing.{AwaitsStill, Dealing, InTurn, IsRequest, Loses, LosesIn, Works, WorksAll, WorksRounds, answered, dealing, ended, heard, late, stepped, timed_out}
+use Rattle.osd_bytes.specs.declared.node.Node.TheVariants.{Drive, Server}
+use Rattle.osd_asking.specs.Asking.{Answered}
+use Rattle.client_exchanges.specs.Answering.{is_answer_to}
+use Rattle.client_exchanges.specs.Dealing.{AwaitsStill, Dealing, InTurn, IsLost, IsRequest, Loses, LosesIn, LosesServer, Works, WorksAll, WorksRounds, answer_among, answered, dealing, ended, heard, late, on_links, stepped, timed_out}
 
 pub is_stepped : (s : Dealing) (step : Step) (c : Client) (told : CStep) (waiting : List Sent) (notices : List Notice)
     → IsStep step c told → waiting ≡ s.waiting ++ told.sends → notices ≡ s.notices ++ ended told.outcome
@@ -87,6 +89,21 @@ pub is_answered : (s mid t : Dealing) (drive : ℕ) (command : List ℕ) (came :
     → mid ≡ heard s (Drive drive) came → component ≡ late mid.client command → t ≡ timed_out mid component → t ≡ answered s drive command came
 is_answered s mid t drive command came component h l e =
     e ∙ ap (λ (k : Option ℕ). timed_out mid k) l ∙ ap (λ (m : Dealing). timed_out m (late m.client command)) h
+
+-- ---- an exchange with the server
+
+-- a record answers the message, and the answer is awaited still
+pub loses_answer : (message came : List ℕ) (s t : Dealing) → is_answer_to message came ≡ true
+    → Answered Server message s.told t.told s.faults t.faults (Some came) → t ≡ on_links t.told t.faults (heard s Server (Some came))
+    → AwaitsStill t.client message → LosesServer message s t
+loses_answer message came s t answers told dealt still =
+    let among : answer_among message (Some came) ≡ Some came = ap (λ (b : Bool). if b then Some came else None) answers in
+    record {
+      came = Some came;
+      told = told;
+      dealt = subst (λ (o : Option (List ℕ)). t ≡ on_links t.told t.faults (heard s Server o)) (sym among) dealt;
+      lost = subst (λ (o : Option (List ℕ)). IsLost o t.client message) (sym among) still;
+    }
 
 -- ---- rounds
 

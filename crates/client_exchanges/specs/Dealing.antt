@@ -1,5 +1,5 @@
 -- The exchanges of a client with its nodes, one after the other.
-use Rattle.std.specs.Prelude.{◌≡◌, ℕ, zero, suc, nat_le, List, [], ◌∷◌, ◌++◌, length, slice_range, ⊤, Option, Some, None, if◌then◌else◌}
+use Rattle.std.specs.Prelude.{◌≡◌, ℕ, zero, suc, nat_le, List, [], ◌∷◌, ◌++◌, length, slice_range, ⊤, Option, Some, None, IsTrue, if◌then◌else◌}
 use Rattle.std.specs.Int.{w64, from_be_bytes}
 use Rattle.osd_bytes.specs.Connections.{Traffic}
 use Rattle.osd_bytes.specs.Counts.{Faults}
@@ -15,6 +15,7 @@ use Rattle.client_rules.specs.Envelopes.{bytes_of, on_bytes}
 use Rattle.client_rules.specs.Steps.{awaited_component, times_out}
 use Rattle.client_state.specs.declared.sending.Sent.{Sent}
 use Rattle.client_state.specs.Sending.{spelled}
+use Rattle.client_exchanges.specs.Answering.{is_answer_to}
 use Rattle.client_exchanges.specs.declared.drive.TheConstants.{NONCE_AT, NONCE_END}
 use Rattle.client_exchanges.specs.declared.notices.Notice.{Notice}
 use Rattle.client_exchanges.specs.declared.notices.Notice.TheVariants.{Ended, TimedOut}
@@ -94,14 +95,20 @@ pub record AsksDrive (drive : ℕ) (command : List ℕ) (s t : Dealing) : Type 0
   pub told : Answered (Drive drive) command s.told t.told s.faults t.faults came
   pub dealt : t ≡ on_links t.told t.faults (answered s drive command came)
 
--- a message goes to the server, and the awaited answer comes
+-- the record that came, where it answers the message: the client hears no other
+abbrev pub answer_among : (message : List ℕ) → Option (List ℕ) → Option (List ℕ)
+answer_among message None = None
+answer_among message (Some bytes) = if is_answer_to message bytes then Some bytes else None
+
+-- a message goes to the server, and the awaited answer comes: a record that answers it, and that the client takes
 pub record AsksServer (message : List ℕ) (s t : Dealing) : Type 0 where
   pub came : List ℕ
   pub told : Answered Server message s.told t.told s.faults t.faults (Some came)
+  pub answers : IsTrue (is_answer_to message came)
   pub dealt : t ≡ on_links t.told t.faults (heard s Server (Some came))
   pub taken : AwaitsStill t.client message → ⊥
 
--- another record, or none
+-- no answer came, or one that the client doesn't take
 abbrev pub IsLost : Option (List ℕ) → Client → (message : List ℕ) → Type 0
 IsLost None c message = ⊤
 IsLost (Some bytes) c message = AwaitsStill c message
@@ -110,8 +117,8 @@ IsLost (Some bytes) c message = AwaitsStill c message
 pub record LosesServer (message : List ℕ) (s t : Dealing) : Type 0 where
   pub came : Option (List ℕ)
   pub told : Answered Server message s.told t.told s.faults t.faults came
-  pub dealt : t ≡ on_links t.told t.faults (heard s Server came)
-  pub lost : IsLost came t.client message
+  pub dealt : t ≡ on_links t.told t.faults (heard s Server (answer_among message came))
+  pub lost : IsLost (answer_among message came) t.client message
 
 -- ---- all messages
 

@@ -2,6 +2,7 @@
 //! and the record that comes is given to the client.
 #![tactic(auto)]
 
+mod answering;
 mod dealing;
 mod drive;
 mod notices;

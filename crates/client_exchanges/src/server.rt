@@ -3,6 +3,7 @@ ghost use Rattle.std.specs.Prelude.{◌≡◌, ◌↔◌, IfOk, IsTrue, IsErrOf,
 ghost use Rattle.client_exchanges.specs.declared.dealing.DealErr.TheVariants.{LinkFault};
 ghost use Rattle.client_exchanges.specs.Dealing.{AsksServer, AwaitsStill, IsRequest, LosesServer, dealing};
 
+use crate::answering::is_answer_to;
 use crate::dealing::DealErr;
 use crate::drive::hear;
 use crate::notices::Notices;
@@ -32,12 +33,14 @@ fn awaits_still(core: &ClientCore, message: &[u8]) -> Result<bool, Memory>
     Ok(is_request(sends.get(0), message))
 }
 
-/// Sends a message to the server, and gives the client the record that comes.
+/// Sends a message to the server, and gives the client the record that comes, where that answers the message. A server
+/// answers the last sequence number of a client with the answer that it kept, whatever is asked under it now: that is
+/// heard only where file and operation are the request's too.
 ///
 /// # Errors
 ///
-/// [`DealErr::LinkFault`] exactly where no record came, or one that isn't the awaited answer: the answer is awaited
-/// still. Want of memory.
+/// [`DealErr::LinkFault`] exactly where no record came, one that doesn't answer the message, which the client then
+/// hasn't heard, or an answer that the client doesn't take: it is awaited still. Want of memory.
 pub(crate) fn exchange_with_server<L: Links>(
     alloc: Global,
     core: &mut ClientCore,
@@ -55,6 +58,9 @@ pub(crate) fn exchange_with_server<L: Links>(
 {
     match asked(alloc, links, Node::Server, message)? {
         Some(record) => {
+            if !is_answer_to(alloc, message, record.as_slice())? {
+                return Err(DealErr::LinkFault);
+            }
             hear(alloc, core, Node::Server, Some(record), waiting, notices)?;
             if awaits_still(core, message)? {
                 return Err(DealErr::LinkFault);

@@ -7,6 +7,8 @@ mod commands;
 #[cfg(test)]
 mod failing;
 #[cfg(test)]
+mod kept;
+#[cfg(test)]
 mod live;
 #[cfg(test)]
 mod messages;
