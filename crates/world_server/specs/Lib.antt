@@ -2,4 +2,3 @@ pub mod Acting
 pub mod Making
 pub mod Posting
 pub mod State
-pub mod Telling

@@ -7,6 +7,5 @@
 mod making;
 mod posting;
 mod server;
-mod telling;
 
 pub use server::WorldServer;

@@ -13,7 +13,6 @@ ghost use Rattle.world_server.specs.Acting.{Acts, Adds, Does, Gives, Hears, Make
 
 use crate::making::{has_algorithm, has_number, raw_map, tell_refusal};
 use crate::posting::postings;
-use crate::telling::lines_of;
 use layout_server::{DriveInfo, DriveTable, Repairs, ServerCore, Step};
 use osd_bytes::{Memory, Node, Numbers};
 use scenario_text::{Delivery, DriveName, FileMap, FileName, Line, MapFault, Note};
@@ -24,7 +23,7 @@ use std::mem;
 use stripe_repair::{DriveLoad, Placer};
 use world_network::Lines;
 use world_watch::KeptFiles;
-use world_words::{Act, Handed};
+use world_words::{Act, Handed, lines_of};
 
 /// The metadata server as a party of a world.
 ///

@@ -9,10 +9,12 @@ mod acts;
 mod notes;
 mod outcomes;
 mod parties;
+mod telling;
 mod verdicts;
 
 pub use acts::{Act, Handed, Postings};
-pub use notes::{note_line, told_file_refusal, told_map_err, told_note};
+pub use notes::{told_file_refusal, told_map_err, told_note};
 pub use outcomes::{kind_of, told_outcome, told_refusal, told_why};
 pub use parties::{node_of, party_of};
+pub use telling::lines_of;
 pub use verdicts::{told_verdict, verdict_with};

@@ -2,28 +2,27 @@
 ghost use Rattle.std.specs.Prelude.{◌≡◌, ◌++◌, ◌<◌, length, slice_get, slice_set, Some, IfOk, OnOk};
 ghost use Rattle.std.specs.List.{filter_map};
 ghost use Rattle.world_history.specs.Names.{known_note_line};
-ghost use Rattle.world_server.specs.Telling.{no_note, told_as};
+ghost use Rattle.world_words.specs.Telling.{no_note, told_as};
 
-use layout_server::Notes;
-use osd_bytes::Memory;
-use server_rules::{Note, NoteKind};
+use crate::notes::note_line;
+use osd_bytes::{Memory, Sequence};
+use server_rules::{Note as FileNote, NoteKind};
 use std::alloc::Global;
 use std::mem;
 use world_network::Lines;
-use world_words::note_line;
 
 // A note that stands where another was taken out.
-fn no_note() -> Note
+fn no_note() -> FileNote
     ensures { result ≡ no_note }
 {
-    Note {
+    FileNote {
         file: 0,
         kind: NoteKind::Ready,
     }
 }
 
 // The note at a place, where `no_note` stands then.
-fn take_note(notes: &mut Notes, place: usize) -> Note
+fn take_note(notes: &mut Sequence<FileNote>, place: usize) -> FileNote
     requires { place < length notes.old }
     ensures taken { slice_get notes.old place ≡ Some result }
     ensures left { notes.new ≡ slice_set notes.old place no_note }
@@ -32,7 +31,7 @@ fn take_note(notes: &mut Notes, place: usize) -> Note
 }
 
 // A note that a line can tell.
-fn tell(told: &mut Lines, note: Note) -> Result<(), Memory>
+fn tell(told: &mut Lines, note: FileNote) -> Result<(), Memory>
     ensures { OnOk result (told.new ≡ told.old ++ told_as (known_note_line note)) }
 {
     match note_line(note) {
@@ -41,12 +40,12 @@ fn tell(told: &mut Lines, note: Note) -> Result<(), Memory>
     }
 }
 
-/// The notes of a step as lines, in order. One that no line can tell has none.
+/// The notes of a step of the server as lines, in order. One that no line can tell has none.
 ///
 /// # Errors
 ///
 /// Want of memory alone.
-pub fn lines_of(alloc: Global, notes: Notes) -> Result<Lines, Memory>
+pub fn lines_of(alloc: Global, notes: Sequence<FileNote>) -> Result<Lines, Memory>
     ensures { IfOk result (λ told. told ≡ filter_map known_note_line notes) }
 {
     let mut left = notes;

@@ -4,7 +4,7 @@ use Rattle.std.specs.List.{filter_map, cons_option}
 use Rattle.scenario_text.specs.declared.line.Line.{Line}
 use Rattle.server_rules.specs.declared.notes.Note.{Note}
 use Rattle.world_history.specs.Names.{known_note_line}
-use Rattle.world_server.specs.Telling.{told_as}
+use Rattle.world_words.specs.Telling.{told_as}
 
 -- a member that is taken out stands before those behind its place
 rest_of : (ns : List Note) (i : ℕ) (n other : Note) → slice_get ns i ≡ Some n

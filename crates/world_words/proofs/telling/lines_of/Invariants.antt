@@ -1,7 +1,7 @@
 use Rattle.std.proofs.Common.{◌≡◌, ◌-◌, ◌++◌, drop, length}
 use Rattle.std.specs.List.{filter_map}
 use Rattle.world_history.specs.Names.{known_note_line}
-use Rattle.world_server.proofs.telling.lines_of.Given as goal
+use Rattle.world_words.proofs.telling.lines_of.Given as goal
 
 abbrev pub invariant-loop-place : goal.invariant-loop-place
 invariant-loop-place l =

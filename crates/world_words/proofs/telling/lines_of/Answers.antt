@@ -2,9 +2,9 @@ use Rattle.std.proofs.Common.{◌+◌, ◌++◌, drop, ap, ◌∙◌, List}
 use Rattle.std.specs.List.{filter_map}
 use Rattle.server_rules.specs.declared.notes.Note.{Note}
 use Rattle.world_history.specs.Names.{known_note_line}
-use Rattle.world_server.specs.Telling.{no_note}
-use Rattle.world_server.proofs.Noted.{one_more}
-use Rattle.world_server.proofs.telling.lines_of.Goals as goal
+use Rattle.world_words.specs.Telling.{no_note}
+use Rattle.world_words.proofs.Noted.{one_more}
+use Rattle.world_words.proofs.telling.lines_of.Goals as goal
 
 pub loop-place-preserved : goal.loop-place-preserved
 loop-place-preserved c =
