@@ -3,7 +3,7 @@ ghost use Rattle.std.specs.Prelude.{◌≡◌, ◌≤◌, None, length};
 ghost use Rattle.osd_bytes.specs.Counts.{asking_count};
 ghost use Rattle.osd_links.specs.Linked.{Faulted};
 
-use osd_bytes::{Bytes, Fault, Links, Node, Peers};
+use osd_bytes::{Bytes, Fault, Links, Memory, Node, Peers};
 use std::alloc::Global;
 use std::marker::Model;
 
@@ -239,5 +239,9 @@ impl<P: Peer + Drop> Links for LiveLinks<P> {
     fn hang_up(&mut self) {
         self.hand_over();
         self.asks = None;
+    }
+
+    fn note(&mut self, _line: &[u8]) -> Result<(), Memory> {
+        Ok(())
     }
 }
