@@ -75,7 +75,7 @@ pub record IsUnsettled (before now : Ends) : Type 0 where
   pub told : now.told ≡ before.told
   pub times : now.times ≡ before.times
 
--- while the files were made an exchange with a drive gave no record
+-- while the files were made an exchange with a drive gave no record, or a drive held an object already
 abbrev pub LosesMaking : Cluster → (before now : Ends) → Type 0
 LosesMaking cluster before now =
     (first : Server) × (server_in cluster ≡ Ok first)

@@ -96,12 +96,13 @@ where
 /// Makes the files of the cluster that the source describes, and serves so many connections as its server. The sink is
 /// told `listening` once the server listens at its own address and has had one exchange for each CREATE of its files,
 /// and `served` with the number of connections at the end; or else, in a line of its own, why the server stopped before.
+/// What the server notes is told through the links, as it comes; so is which drive stops the making of files.
 ///
 /// # Errors
 ///
 /// [`CommandStop::BadCluster`] exactly where the text is refused; [`CommandStop::ReadFault`]; [`CommandStop::Full`]
 /// exactly where the text passes 67,108,864 bytes; [`CommandStop::LinkFault`] where the links couldn't be settled or no
-/// further connection accepted, or an exchange with a drive gave no record while the files were made;
+/// further connection accepted, or a drive gave no record or held an object already while the files were made;
 /// [`CommandStop::WriteFault`]; [`CommandStop::Memory`].
 pub fn server_command<S: Source, K: Sink, L: Links, C: Clock, F>(
     alloc: Global,

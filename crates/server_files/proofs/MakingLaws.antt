@@ -1,17 +1,20 @@
 -- Commands that make files, one after the other, and where they stop.
-use Rattle.std.specs.Prelude.{is_some, slice_get}
-use Rattle.std.proofs.Common.{◌≡◌, ◌<◌, ℕ, zero, suc, Bool, true, false, List, [], ◌∷◌, ◌++◌, length, take, drop, Some, None, refl, ap, subst}
+use Rattle.std.specs.Prelude.{option_map, slice_get}
+use Rattle.std.proofs.Common.{◌≡◌, ◌∙◌, ◌<◌, ℕ, zero, suc, true, List, [], ◌∷◌, ◌++◌, length, take, drop, Option, Some, None, refl, ap, subst}
+use Rattle.osd_bytes.specs.Connections.{Traffic, after_notes}
+use Rattle.osd_bytes.specs.Counts.{Faults}
 use Rattle.osd_bytes.specs.declared.node.Node.{Node}
 use Rattle.osd_bytes.specs.declared.node.Node.TheVariants.{Server as TheServer, Drive, Client}
-use Rattle.osd_asking.specs.Asking.{Ends}
+use Rattle.osd_asking.specs.Asking.{Answered, Ends, ends_of}
 use Rattle.cluster_text.specs.declared.cluster.ClusterFile.{ClusterFile}
 use Rattle.cluster_input.specs.declared.stop.CommandStop.{CommandStop}
 use Rattle.cluster_input.specs.declared.stop.CommandStop.TheVariants.{BadCluster, ReadFault, WriteFault, Memory, Full, LinkFault}
 use Rattle.server_rules.specs.declared.server.Server.{Server}
 use Rattle.server_requests.specs.declared.sending.Sent.{Sent}
-use Rattle.server_serving.specs.Work.{AsksDrive, InTurn, Round, Rounds, Serving, UntilNone, serving}
+use Rattle.server_serving.specs.Work.{Handles, InTurn, Round, Rounds, Serving, UntilNone, serving}
 use Rattle.server_serving.proofs.WorkLaws.{Grows, measure, round_less, turn_grows, works_grows}
-use Rattle.server_files.specs.Making.{Begins, Loses, LosesAll, LosesFile, LosesFiles, LosesIn, Makes, MakesFile, MakesTo, RefusesFile, RefusesFiles, StopsAt, StopsBy}
+use Rattle.server_files.specs.Faults.{fault_line, held_line, held_object}
+use Rattle.server_files.specs.Making.{Begins, Loses, LosesAll, LosesDrive, LosesFile, LosesFiles, LosesIn, Makes, MakesFile, MakesTo, RefusesFile, RefusesFiles, StopsAt, StopsBy}
 
 -- ---- where it stops
 
@@ -42,19 +45,29 @@ stops_at Does Stops xs i x s u e does stops = record {
 
 -- ---- one command
 
--- a record came for it
-pub asked_makes : (m : Sent) (drive : ℕ) (message : List ℕ) (s t : Serving) (came : Bool) → m.to ≡ Drive drive → message ≡ m.bytes → came ≡ true
-    → ((a : AsksDrive drive message s t) × (is_some a.came ≡ came)) → Makes m s t
-asked_makes m drive message s t came to bytes is asks =
-    rw to (subst (λ (b : List ℕ). (a : AsksDrive drive b s t) × (is_some a.came ≡ true)) bytes
-    (subst (λ (x : Bool). (a : AsksDrive drive message s t) × (is_some a.came ≡ x)) is asks))
+-- a record came for it that isn't Exists
+pub drive_makes : (drive : ℕ) (message reply : List ℕ) (s t : Serving) (between : Ends)
+    → Answered (Drive drive) message s.ends.told between.told s.ends.faults between.faults (Some reply) → between.times ≡ s.ends.times
+    → Handles (Drive drive) reply (record s { ends = between }) t → held_object message reply ≡ None → MakesTo (Drive drive) message s t
+drive_makes drive message reply s t between answered times hears none = (
+  record { came = Some reply; between = between; answered = answered; times = times; hears = hears },
+  ap (λ (o : Option ℕ). option_map (held_line drive) o) none,
+)
 
--- none came
-pub asked_loses : (m : Sent) (drive : ℕ) (message : List ℕ) (s t : Serving) (came : Bool) → m.to ≡ Drive drive → message ≡ m.bytes → came ≡ false
-    → ((a : AsksDrive drive message s t) × (is_some a.came ≡ came)) → Loses m s t
-asked_loses m drive message s t came to bytes is asks =
-    rw to (subst (λ (b : List ℕ). (a : AsksDrive drive b s t) × (is_some a.came ≡ false)) bytes
-    (subst (λ (x : Bool). (a : AsksDrive drive message s t) × (is_some a.came ≡ x)) is asks))
+-- none came, or one that is, and a note tells which
+pub drive_loses : (drive : ℕ) (message line : List ℕ) (came : Option (List ℕ)) (s : Serving) (told now : Option Traffic) (faults later : Faults)
+    → Answered (Drive drive) message s.ends.told told s.ends.faults faults came → fault_line drive message came ≡ Some line
+    → now ≡ after_notes (line ∷ []) told → later ≡ faults → LosesDrive drive message s (record s { ends = ends_of now later s.ends.times })
+drive_loses drive message line came s told now faults later answered fault tells same = record {
+  came = came;
+  between = ends_of told faults s.ends.times;
+  answered = answered;
+  times = refl;
+  line = line;
+  fault = fault;
+  tells = ap (λ (n : Option Traffic). record s { ends = ends_of n later s.ends.times }) tells
+      ∙ ap (λ (f : Faults). record s { ends = ends_of (after_notes (line ∷ []) told) f s.ends.times }) same;
+}
 
 -- ---- rounds
 

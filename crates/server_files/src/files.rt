@@ -9,8 +9,9 @@ use crate::making::make_all;
 use cluster_input::CommandStop;
 use cluster_text::{ClusterFile, ClusterKind};
 use data_map::{RAID_0, RAID_PQ};
-use layout_server::{FileErr, ServerCore};
+use layout_server::{FileErr, ServerCore, Step};
 use osd_bytes::{Clock, Links, Memory, Numbers};
+use server_serving::tell_notes;
 use std::alloc::Global;
 use stripe_repair::{DriveLoad, Placer};
 
@@ -46,20 +47,24 @@ where
         return Err(CommandStop::BadCluster(ClusterKind::Range));
     }
     match core.create_file(file.number, map, FIRST_TAG, placer) {
-        Ok(step) => match make_all(alloc, core, links, clock, placer, step.sends) {
-            Ok(()) => Ok(()),
-            Err(stop) => Err(stop),
-        },
+        Ok(Step { sends, notes, .. }) => {
+            tell_notes(alloc, links, notes)?;
+            match make_all(alloc, core, links, clock, placer, sends) {
+                Ok(()) => Ok(()),
+                Err(stop) => Err(stop),
+            }
+        }
         Err(FileErr::Memory) => Err(CommandStop::Memory),
         Err(_) => Err(CommandStop::BadCluster(ClusterKind::Range)),
     }
 }
 
-/// Makes the files of a cluster, one after the other.
+/// Makes the files of a cluster, one after the other. What the server notes is told through the links.
 ///
 /// # Errors
 ///
-/// [`CommandStop::LinkFault`] exactly where an exchange with a drive gave no record; [`CommandStop::BadCluster`] of the
+/// [`CommandStop::LinkFault`] exactly where an exchange with a drive gave no record, or one that is Exists to its CREATE,
+/// since the drive holds that object of an earlier run: a note names the drive; [`CommandStop::BadCluster`] of the
 /// kind [`ClusterKind::Range`] exactly where the server refuses a file, or its map has no algorithm; [`CommandStop::Memory`]
 /// for want of memory, and also before a file where the server's counters have no room, which takes a drive that has each
 /// command sent again 2^63 times.

@@ -2,18 +2,66 @@
 ghost use Rattle.std.specs.Prelude.{[], true, IfErr, OnOk};
 ghost use Rattle.osd_asking.specs.Asking.{ends_of};
 ghost use Rattle.stripe_repair.specs.Placing.{IsPlacer};
+ghost use Rattle.osd_bytes.specs.declared.node.Node.TheVariants.{Drive};
 ghost use Rattle.server_serving.specs.Work.{InTurn, UntilNone, serving};
-ghost use Rattle.server_files.specs.Making.{Loses, LosesAll, LosesIn, Makes, StopsBy};
+ghost use Rattle.server_files.specs.Making.{Loses, LosesAll, LosesIn, LosesTo, Makes, MakesTo, StopsBy};
 
+use crate::faults::{held_line, held_object, silent_line};
 use cluster_input::CommandStop;
 use layout_server::{Sends, Sent, ServerCore};
+use osd_asking::asked;
 use osd_bytes::{Clock, Links, Memory, Node, Numbers};
-use server_serving::ask_drive;
+use server_serving::hear_drive;
 use std::alloc::Global;
 use std::mem;
 use stripe_repair::{DriveLoad, Placer};
 
-// A command goes to its drive, whose record is handled. Without a record the file isn't made.
+// A command goes to its drive, whose record is handled. The file isn't made where no record comes, or one that says that
+// the drive holds the object already.
+fn make_on<L: Links, C: Clock, F>(
+    alloc: Global,
+    core: &mut ServerCore,
+    links: &mut L,
+    clock: &mut C,
+    placer: &Placer<F>,
+    drive: u32,
+    message: &[u8],
+    waiting: &mut Sends,
+) -> Result<(), CommandStop>
+where
+    F: Fn(u32, &[DriveLoad]) -> Result<Numbers, Memory>,
+    requires placer { IsPlacer F.Fn placer.now }
+    ensures makes { OnOk result (MakesTo (Drive drive) message.now
+        (serving core.old waiting.old true (ends_of (L.told links.old) (L.faults links.old) (C.times clock.old)))
+        (serving core.new waiting.new true (ends_of (L.told links.new) (L.faults links.new) (C.times clock.new)))) }
+    ensures stops { IfErr result (StopsBy (LosesTo (Drive drive) message.now
+        (serving core.old waiting.old true (ends_of (L.told links.old) (L.faults links.old) (C.times clock.old)))
+        (serving core.new waiting.new true (ends_of (L.told links.new) (L.faults links.new) (C.times clock.new)))) ⊥) }
+{
+    let Some(reply) = asked(alloc, links, Node::Drive(drive), message)? else {
+        let line = silent_line(alloc, drive)?;
+        links.note(line.as_bytes())?;
+        return Err(CommandStop::LinkFault);
+    };
+    if let Some(object) = held_object(alloc, message, reply.as_slice())? {
+        let line = held_line(alloc, drive, object)?;
+        links.note(line.as_bytes())?;
+        return Err(CommandStop::LinkFault);
+    }
+    hear_drive(
+        alloc,
+        core,
+        links,
+        clock,
+        placer,
+        drive,
+        reply.as_slice(),
+        waiting,
+    )?;
+    Ok(())
+}
+
+// A command goes to its drive. No other message is sent.
 fn make_one<L: Links, C: Clock, F>(
     alloc: Global,
     core: &mut ServerCore,
@@ -33,13 +81,18 @@ where
         (serving core.old waiting.old true (ends_of (L.told links.old) (L.faults links.old) (C.times clock.old)))
         (serving core.new waiting.new true (ends_of (L.told links.new) (L.faults links.new) (C.times clock.new)))) ⊥) }
 {
-    let message = sent.bytes.as_slice();
     match sent.to {
         Node::Drive(drive) => {
-            if ask_drive(alloc, core, links, clock, placer, drive, message, waiting)? {
-                return Ok(());
-            }
-            Err(CommandStop::LinkFault)
+            make_on(
+                alloc,
+                core,
+                links,
+                clock,
+                placer,
+                drive,
+                sent.bytes.as_slice(),
+                waiting,
+            )
         }
         Node::Server | Node::Client(_) => Ok(()),
     }
@@ -78,7 +131,8 @@ where
 ///
 /// # Errors
 ///
-/// [`CommandStop::LinkFault`] exactly where an exchange gave no record; [`CommandStop::Memory`].
+/// [`CommandStop::LinkFault`] exactly where an exchange gave no record, or one that is Exists to its CREATE, and a note told
+/// which; [`CommandStop::Memory`].
 pub fn make_all<L: Links, C: Clock, F>(
     alloc: Global,
     core: &mut ServerCore,

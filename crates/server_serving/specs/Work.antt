@@ -1,6 +1,7 @@
 -- The messages of a server in the midst of its work, one after the other.
 use Rattle.std.specs.Prelude.{◌≡◌, ℕ, zero, suc, ◌==◌, ◌&&◌, Bool, true, false, List, [], ◌∷◌, ◌++◌, Option, Some, None, Result, Ok}
 use Rattle.osd_bytes.specs.Clocks.{TellsTime}
+use Rattle.osd_bytes.specs.Connections.{after_notes}
 use Rattle.osd_bytes.specs.declared.node.Node.{Node}
 use Rattle.osd_bytes.specs.declared.node.Node.TheVariants.{Server as TheServer, Drive, Client}
 use Rattle.osd_asking.specs.Asking.{Answered, Ends}
@@ -13,6 +14,7 @@ use Rattle.server_rules.specs.declared.server.Server.{Server}
 use Rattle.server_rules.specs.Envelopes.{on_bytes}
 use Rattle.server_requests.specs.declared.sending.Sent.{Sent}
 use Rattle.server_requests.specs.Sending.{all_sent}
+use Rattle.server_serving.specs.Telling.{note_texts}
 
 -- a server in the midst of its work: the messages that wait to be sent, whether the accepted connection took all that
 -- was put on it so far, and what is known of the links and the clock
@@ -32,7 +34,8 @@ InTurn R (x ∷ xs) s t = (u : Serving) × R x s u × InTurn R xs u t
 
 -- ---- a record
 
--- a record of a node is handled at the next time of the clock; what that gives to send waits behind all other messages
+-- a record of a node is handled at the next time of the clock; what the server notes then is told, and what that gives
+-- to send waits behind all other messages
 pub record Handles (from : Node) (message : List ℕ) (s t : Serving) : Type 0 where
   pub time : ℕ
   -- what the placer named
@@ -41,7 +44,8 @@ pub record Handles (from : Node) (message : List ℕ) (s t : Serving) : Type 0 w
   pub server : t.server ≡ (on_bytes s.server time chosen from message).state
   pub waiting : t.waiting ≡ s.waiting ++ all_sent (on_bytes s.server time chosen from message).sends
   pub stands : t.stands ≡ s.stands
-  pub told : t.ends.told ≡ s.ends.told
+  pub told : t.ends.told ≡
+      after_notes (note_texts (on_bytes s.server time chosen from message).notes) s.ends.told
   pub faults : t.ends.faults ≡ s.ends.faults
 
 -- ---- a message to a drive

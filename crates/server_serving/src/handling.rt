@@ -1,14 +1,14 @@
 // A record of a node, handed to the server.
-ghost use Rattle.std.specs.Prelude.{◌≡◌, ◌++◌, ℕ, Bool, List, Option, is_some, IfOk, OnOk};
+ghost use Rattle.std.specs.Prelude.{◌≡◌, ◌++◌, Bool, List, IfOk, OnOk};
 ghost use Rattle.stripe_repair.specs.Placing.{IsPlacer};
-ghost use Rattle.osd_bytes.specs.Connections.{Traffic};
-ghost use Rattle.osd_bytes.specs.Counts.{Faults};
+ghost use Rattle.osd_bytes.specs.declared.node.Node.TheVariants.{Drive};
 ghost use Rattle.osd_asking.specs.Asking.{ends_of};
 ghost use Rattle.server_requests.specs.declared.sending.Sent.{Sent};
 ghost use Rattle.server_serving.specs.Work.{AsksDrive, Handles, sender_of, serving};
 
+use crate::telling::tell_notes;
 use layout_ops::{Envelope, OpErr, read_envelope};
-use layout_server::{Sends, Sent, ServerCore};
+use layout_server::{Sends, Sent, ServerCore, Step};
 use osd_asking::asked;
 use osd_bytes::{Bytes, Clock, Links, Memory, Node, Numbers};
 use std::alloc::Global;
@@ -32,13 +32,16 @@ pub fn sender_of(alloc: Global, message: &[u8]) -> Result<Node, Memory>
     }
 }
 
-/// Hands a record of a node to the server at the next time of the clock, and gives what is to be sent then.
+/// Hands a record of a node to the server at the next time of the clock, tells what the server notes then, and gives what
+/// is to be sent.
 ///
 /// # Errors
 ///
 /// Want of memory alone. Then nothing is left of the server.
-pub fn handle<C: Clock, F>(
+pub fn handle<L: Links, C: Clock, F>(
+    alloc: Global,
     core: &mut ServerCore,
+    links: &mut L,
     clock: &mut C,
     placer: &Placer<F>,
     from: Node,
@@ -47,13 +50,15 @@ pub fn handle<C: Clock, F>(
 where
     F: Fn(u32, &[DriveLoad]) -> Result<Numbers, Memory>,
     requires placer { IsPlacer F.Fn placer.now }
-    ensures { IfOk result (λ sends. (waiting : List Sent) (stands : Bool) (told : Option Traffic) (faults : Faults) →
-        Handles from message.now (serving core.old waiting stands (ends_of told faults (C.times clock.old)))
-        (serving core.new (waiting ++ sends) stands (ends_of told faults (C.times clock.new)))) }
+    ensures { IfOk result (λ sends. (waiting : List Sent) (stands : Bool) → Handles from message.now
+        (serving core.old waiting stands (ends_of (L.told links.old) (L.faults links.old) (C.times clock.old)))
+        (serving core.new (waiting ++ sends) stands
+        (ends_of (L.told links.new) (L.faults links.new) (C.times clock.new)))) }
 {
     let now = clock.now();
-    let step = core.on_message(now, from, message, placer)?;
-    Ok(step.sends)
+    let Step { sends, notes, .. } = core.on_message(now, from, message, placer)?;
+    tell_notes(alloc, links, notes)?;
+    Ok(sends)
 }
 
 // Adds messages behind those that wait.
@@ -67,8 +72,36 @@ fn push_all(alloc: Global, waiting: &mut Sends, more: &[Sent]) -> Result<(), Mem
     Ok(())
 }
 
-/// Sends a message to a drive in an exchange, and hands the record that comes to the server. What that gives to send
-/// waits behind all others. Tells whether a record came.
+/// Hands the record that came of a drive to the server, and tells what the server notes then. What that gives to send
+/// waits behind all other messages.
+///
+/// # Errors
+///
+/// Want of memory alone.
+pub fn hear_drive<L: Links, C: Clock, F>(
+    alloc: Global,
+    core: &mut ServerCore,
+    links: &mut L,
+    clock: &mut C,
+    placer: &Placer<F>,
+    drive: u32,
+    reply: &[u8],
+    waiting: &mut Sends,
+) -> Result<(), Memory>
+where
+    F: Fn(u32, &[DriveLoad]) -> Result<Numbers, Memory>,
+    requires placer { IsPlacer F.Fn placer.now }
+    ensures { OnOk result ((stands : Bool) → Handles (Drive drive) reply.now
+        (serving core.old waiting.old stands (ends_of (L.told links.old) (L.faults links.old) (C.times clock.old)))
+        (serving core.new waiting.new stands (ends_of (L.told links.new) (L.faults links.new) (C.times clock.new)))) }
+{
+    let sends = handle(alloc, core, links, clock, placer, Node::Drive(drive), reply)?;
+    push_all(alloc, waiting, sends.as_slice())?;
+    Ok(())
+}
+
+/// Sends a message to a drive in an exchange, and hands the record that comes, if any, to the server. What that gives to
+/// send waits behind all other messages.
 ///
 /// # Errors
 ///
@@ -82,21 +115,28 @@ pub fn ask_drive<L: Links, C: Clock, F>(
     drive: u32,
     message: &[u8],
     waiting: &mut Sends,
-) -> Result<bool, Memory>
+) -> Result<(), Memory>
 where
     F: Fn(u32, &[DriveLoad]) -> Result<Numbers, Memory>,
     requires placer { IsPlacer F.Fn placer.now }
-    ensures { IfOk result (λ came. (stands : Bool) → (a : AsksDrive drive message.now
+    ensures { OnOk result ((stands : Bool) → AsksDrive drive message.now
         (serving core.old waiting.old stands (ends_of (L.told links.old) (L.faults links.old) (C.times clock.old)))
-        (serving core.new waiting.new stands (ends_of (L.told links.new) (L.faults links.new) (C.times clock.new))))
-        × (is_some a.came ≡ came)) }
+        (serving core.new waiting.new stands (ends_of (L.told links.new) (L.faults links.new) (C.times clock.new)))) }
 {
     match asked(alloc, links, Node::Drive(drive), message)? {
         Some(reply) => {
-            let sends = handle(core, clock, placer, Node::Drive(drive), reply.as_slice())?;
-            push_all(alloc, waiting, sends.as_slice())?;
-            Ok(true)
+            hear_drive(
+                alloc,
+                core,
+                links,
+                clock,
+                placer,
+                drive,
+                reply.as_slice(),
+                waiting,
+            )?;
+            Ok(())
         }
-        None => Ok(false),
+        None => Ok(()),
     }
 }

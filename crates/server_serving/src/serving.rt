@@ -32,7 +32,7 @@ where
         (serving core.new [] still (ends_of (L.told links.new) (L.faults links.new) (C.times clock.new)))) }
 {
     let sender = sender_of(alloc, message)?;
-    let sends = handle(core, clock, placer, sender, message)?;
+    let sends = handle(alloc, core, links, clock, placer, sender, message)?;
     let still = work_all(alloc, core, links, clock, placer, Some(sender), sends, puts)?;
     Ok(still)
 }
@@ -119,9 +119,9 @@ where
 }
 
 /// Accepts so many connections, one after the other, and serves each: the commands that jobs wait for are sent once
-/// more; then every whole record that comes is handled at the next time of the clock, and what it brings is worked
-/// until nothing waits, up to the connection's end, a call on it that fails, a record that is too long, or 67,108,864
-/// bytes.
+/// more; then every whole record that comes is handled at the next time of the clock, what the server notes then is told
+/// through the links, and what the record brings is worked until nothing waits, up to the connection's end, a call on it
+/// that fails, a record that is too long, or 67,108,864 bytes.
 ///
 /// A command is one exchange with its drive, whose record is handled in its turn; it is lost where the exchange is
 /// refused, or where it is longer than a record may be. What is for who sent the record is put, unless an answer

@@ -2,7 +2,7 @@
 ghost use Rattle.std.specs.Result.{ForOk};
 ghost use Rattle.stripe_repair.specs.Placing.{CanPlace, Places};
 
-use crate::messages::{Came, Told, copied, framed, numbers, streams, went_out};
+use crate::messages::{Came, ORDER, Told, copied, framed, numbers, streams, went_out};
 use cluster_input::CommandStop;
 use cluster_text::ClusterKind;
 use osd_bytes::{
@@ -14,18 +14,22 @@ use server_command::server_command;
 use std::alloc::Global;
 use stripe_repair::{DriveLoad, Placer};
 
+// The nonce and the verdict of a drive's reply.
+type Replied = (u64, u16);
+
 // What the text of the cluster says, what comes on each connection to the drive and on each that is accepted, which
-// calls of the links fail, what the command tells and why it stops, how often the drive is asked and in which format
-// first, and what goes out on each connection that is accepted.
+// calls of the links fail, what the command tells and why it stops, which notes are told beside, how often the drive is
+// asked and in which format first, and what goes out on each connection that is accepted.
 struct Case {
     name: &'static str,
     text: &'static str,
-    performs: &'static [u64],
+    replies: &'static [Replied],
     comes: &'static [&'static [Came]],
     fails: &'static [u32],
     connections: u32,
     told: &'static str,
     stop: Option<CommandStop>,
+    notes: &'static [&'static str],
     asked: usize,
     format: Option<u8>,
     put: &'static [&'static [Told]],
@@ -46,16 +50,21 @@ const TWO_FILES: &str = "server = \"127.0.0.1:7100\"\nformat = 2\n\
 const NO_KEY: &str = "server = \"127.0.0.1:7100\"\n\
     [[drive]]\nnumber = 0\naddress = \"127.0.0.1:7000\"\ncapacity = 20000000\n";
 
+const PERFORMED: u16 = 0;
+
+const EXISTS: u16 = 8;
+
 const CASES: &[Case] = &[
     Case {
         name: "the file is made before the server listens, and a client gets a layout of it",
         text: ONE_FILE,
-        performs: &[1],
+        replies: &[(1, PERFORMED)],
         comes: &[&[Came::Asks(0, 1)]],
         fails: &[],
         connections: 1,
         told: "listening\nserved 1\n",
         stop: None,
+        notes: &["f f0 ready"],
         asked: 1,
         format: Some(1),
         put: &[&[(0, 1, 0)]],
@@ -63,12 +72,13 @@ const CASES: &[Case] = &[
     Case {
         name: "each file has a command of its own, in the format of the cluster",
         text: TWO_FILES,
-        performs: &[1, 2],
+        replies: &[(1, PERFORMED), (2, PERFORMED)],
         comes: &[],
         fails: &[],
         connections: 0,
         told: "listening\nserved 0\n",
         stop: None,
+        notes: &["f f9 ready", "f f3 ready"],
         asked: 2,
         format: Some(2),
         put: &[],
@@ -76,25 +86,63 @@ const CASES: &[Case] = &[
     Case {
         name: "the drive gives no record for the second file",
         text: TWO_FILES,
-        performs: &[1],
+        replies: &[(1, PERFORMED)],
         comes: &[],
         fails: &[],
         connections: 0,
         told: "error link\n",
         stop: Some(CommandStop::LinkFault),
+        notes: &["f f9 ready", "d0 gave no answer while the files were made"],
         asked: 2,
         format: Some(2),
         put: &[],
     },
     Case {
+        name: "the drive holds the object of an earlier run",
+        text: TWO_FILES,
+        replies: &[(1, EXISTS), (2, PERFORMED)],
+        comes: &[],
+        fails: &[],
+        connections: 0,
+        told: "error link\n",
+        stop: Some(CommandStop::LinkFault),
+        notes: &[
+            "d0 holds object 65536 already: end the drives of an earlier run before the server is started again",
+        ],
+        asked: 1,
+        format: Some(2),
+        put: &[],
+    },
+    Case {
+        // SET TAG and GET ATTR are the commands of an audit of a file of no bytes.
+        name: "what an audit finds is told, and what the server notes before it",
+        text: ONE_FILE,
+        replies: &[(1, PERFORMED), (2, PERFORMED), (3, PERFORMED)],
+        comes: &[&[Came::Audits(0)]],
+        fails: &[],
+        connections: 1,
+        told: "listening\nserved 1\n",
+        stop: None,
+        notes: &[
+            "f f0 ready",
+            "f f0 fenced 2",
+            "f f0 repaired 0 0",
+            "f f0 audit 0 0 0 0",
+        ],
+        asked: 3,
+        format: Some(1),
+        put: &[&[(ORDER, 0, 0)]],
+    },
+    Case {
         name: "the links can't be settled",
         text: ONE_FILE,
-        performs: &[1],
+        replies: &[(1, PERFORMED)],
         comes: &[],
         fails: &[0],
         connections: 0,
         told: "error link\n",
         stop: Some(CommandStop::LinkFault),
+        notes: &[],
         asked: 0,
         format: None,
         put: &[],
@@ -103,12 +151,13 @@ const CASES: &[Case] = &[
         // Call 0 settles, 1 to 3 are the exchange with the drive, and 4 would accept a connection.
         name: "no connection can be accepted",
         text: ONE_FILE,
-        performs: &[1],
+        replies: &[(1, PERFORMED)],
         comes: &[],
         fails: &[4],
         connections: 1,
         told: "listening\nerror link\n",
         stop: Some(CommandStop::LinkFault),
+        notes: &["f f0 ready"],
         asked: 1,
         format: Some(1),
         put: &[],
@@ -116,12 +165,13 @@ const CASES: &[Case] = &[
     Case {
         name: "a server needs the key of each drive",
         text: NO_KEY,
-        performs: &[],
+        replies: &[],
         comes: &[],
         fails: &[],
         connections: 0,
         told: "error cluster missing\n",
         stop: Some(CommandStop::BadCluster(ClusterKind::Missing)),
+        notes: &[],
         asked: 0,
         format: None,
         put: &[],
@@ -135,11 +185,12 @@ fn reply_bytes(alloc: Global, reply: &Reply) -> Bytes {
     }
 }
 
-// The reply to a CREATE that was performed.
-fn reply(alloc: Global, nonce: u64) -> Bytes {
+// A reply to a command, as it stands to a CREATE: which action it names isn't looked at.
+fn reply(alloc: Global, replied: Replied) -> Bytes {
+    let (nonce, verdict) = replied;
     let reply = Reply {
         action: 1,
-        verdict: 0,
+        verdict,
         object: 65_536,
         nonce,
         detail: 0,
@@ -149,17 +200,17 @@ fn reply(alloc: Global, nonce: u64) -> Bytes {
 }
 
 // Its frame.
-fn performed(alloc: Global, nonce: u64) -> Bytes {
-    let reply = reply(alloc, nonce);
+fn reply_frame(alloc: Global, replied: Replied) -> Bytes {
+    let reply = reply(alloc, replied);
     framed(alloc, reply.as_slice())
 }
 
-fn all_performed(alloc: Global, nonces: &[u64]) -> ByteLists {
-    let mut replies = ByteLists::new(alloc);
-    for nonce in nonces {
-        let _ = replies.push(performed(alloc, *nonce));
+fn reply_streams(alloc: Global, replies: &[Replied]) -> ByteLists {
+    let mut streams = ByteLists::new(alloc);
+    for replied in replies {
+        let _ = streams.push(reply_frame(alloc, *replied));
     }
-    replies
+    streams
 }
 
 // The one drive, where one is asked for.
@@ -225,8 +276,22 @@ fn first_format(links: &MemLinks) -> Option<u8> {
     links.sent_on(0).get(68).copied()
 }
 
+// Whether exactly these notes were told.
+fn are_noted(notes: &[Bytes], told: &[&str]) -> bool {
+    if notes.len() != told.len() {
+        return false;
+    }
+    for i in 0..told.len() {
+        if notes[i].as_slice() != told[i].as_bytes() {
+            return false;
+        }
+    }
+    true
+}
+
 fn goes_over(alloc: Global, case: &Case, sink: &mut MemSink, links: &mut MemLinks) -> bool {
     stop(alloc, case, sink, links) == case.stop
+        && are_noted(links.notes(), case.notes)
         && sink.bytes() == case.told.as_bytes()
         && links.asked_count() == case.asked
         && first_format(links) == case.format
@@ -237,7 +302,7 @@ fn goes_as_it_says(alloc: Global, case: &Case) -> bool {
     let mut links = MemLinks::new(
         alloc,
         streams(alloc, case.comes),
-        all_performed(alloc, case.performs),
+        reply_streams(alloc, case.replies),
         numbers(alloc, case.fails),
     );
     let mut sink = MemSink::new(alloc, Numbers::new(alloc));

@@ -15,6 +15,8 @@ pub enum Came {
     Asks(u32, u32),
     /// A revoke of a file.
     Revokes(u32),
+    /// An audit of a file.
+    Audits(u32),
     /// Bytes that spell nothing.
     Noise,
 }
@@ -74,13 +76,15 @@ fn request(alloc: Global, client: u32, sequence: u32) -> Bytes {
     spelled(alloc, &Envelope::Request(request))
 }
 
+fn order_bytes(alloc: Global, order: OrderKind, target: u32) -> Bytes {
+    spelled(alloc, &Envelope::Order(Order { order, target }))
+}
+
 fn bytes_of(alloc: Global, came: Came) -> Bytes {
     match came {
         Came::Asks(client, sequence) => request(alloc, client, sequence),
-        Came::Revokes(target) => {
-            let order = OrderKind::Revoke;
-            spelled(alloc, &Envelope::Order(Order { order, target }))
-        }
+        Came::Revokes(target) => order_bytes(alloc, OrderKind::Revoke, target),
+        Came::Audits(target) => order_bytes(alloc, OrderKind::Audit, target),
         Came::Noise => copied(alloc, b"no message"),
     }
 }

@@ -1,15 +1,12 @@
-use Rattle.std.proofs.Common.{rules, ◌≡◌, false, true}
-use Rattle.server_files.proofs.MakingLaws.{asked_loses, asked_makes}
+use Rattle.std.proofs.Common.{rules, ◌≡◌}
 use Rattle.server_files.proofs.making.make_one.Goals as goal
 
-pub returns-then-branch-clause-makes : goal.returns-then-branch-clause-makes
-returns-then-branch-clause-makes g c =
-    let came : c.in_ok-ask_drive-in-Drive.field-0 ≡ true = search rules in
-    asked_makes c.args.sent.now c.in-Drive.drive c.as_slice-message.result.now _ _ c.in_ok-ask_drive-in-Drive.field-0 c.in-Drive.is (search rules) came
-    (c.in_ok-ask_drive-in-Drive.ensures true)
+pub returns-in-Drive-clause-makes : goal.returns-in-Drive-clause-makes
+returns-in-Drive-clause-makes g c =
+    let same : c.as_slice.result.now ≡ c.args.sent.now.bytes = search rules in
+    rw c.in-Drive.is (rw same at c.make_on.ensures.makes)
 
-pub returns-else-branch-clause-stops : goal.returns-else-branch-clause-stops
-returns-else-branch-clause-stops g c =
-    let none : c.in_ok-ask_drive-in-Drive.field-0 ≡ false = search rules in
-    asked_loses c.args.sent.now c.in-Drive.drive c.as_slice-message.result.now _ _ c.in_ok-ask_drive-in-Drive.field-0 c.in-Drive.is (search rules) none
-    (c.in_ok-ask_drive-in-Drive.ensures true)
+pub returns-in-Drive-clause-stops : goal.returns-in-Drive-clause-stops
+returns-in-Drive-clause-stops g c =
+    let same : c.as_slice.result.now ≡ c.args.sent.now.bytes = search rules in
+    rw c.in-Drive.is (rw same at c.make_on.ensures.stops)
