@@ -1,5 +1,5 @@
 -- The machine of a file at a cut between two lines of a move, and the pairs of entries behind a line.
-use Rattle.std.specs.Prelude.{ℕ, ◌+◌, ◌-◌, ◌==◌, nat_lt, List, [], ◌∷◌, ◌++◌, length, take, drop, slice_get, Option, Some, None, if◌then◌else◌}
+use Rattle.std.specs.Prelude.{ℕ, ◌-◌, ◌==◌, nat_lt, List, [], ◌∷◌, ◌++◌, length, take, drop, slice_get, Option, Some, None, if◌then◌else◌}
 use Rattle.world_history.specs.ServerNames as server_rules
 use Rattle.world_history.specs.ServerNames.{File, Note, NoteKind}
 use Rattle.world_history.specs.State.{World}

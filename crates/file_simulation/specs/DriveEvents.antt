@@ -14,7 +14,7 @@ use Rattle.scenario_text.specs.declared.line.Verdict.TheVariants as verdict
 use Rattle.client_rules.specs.Calls.{file_of}
 use Rattle.client_rules.specs.Io.{awaited_in}
 use Rattle.world_history.specs.ServerNames.{File, Component}
-use Rattle.world_history.specs.ClientNames.{Client, Call, Awaited}
+use Rattle.world_history.specs.ClientNames.{Call, Awaited}
 use Rattle.world_history.specs.declared.messages.Message.{Message}
 use Rattle.world_history.specs.declared.messages.Posted.{Posted}
 use Rattle.world_history.specs.State.{World, DriveAt, at_number}
