@@ -45,7 +45,7 @@ pub mod Heads
 pub mod Sighting
 pub mod Stepping
 pub mod Shapes
-mod MoveOpening
+pub mod MoveOpening
 mod MoveStepping
 mod MoveFollowing
 mod Events

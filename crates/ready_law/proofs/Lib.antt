@@ -1,0 +1,9 @@
+pub mod Clear
+pub mod Enough
+pub mod Lacking
+pub mod Events
+pub mod Queue
+pub mod Examples
+pub mod OfflineServer
+pub mod Offline
+pub mod Worlds

@@ -1,0 +1,10 @@
+pub mod Ready
+pub mod ReadClients
+pub mod Events
+pub mod Queue
+pub mod Clear
+pub mod Enough
+pub mod Answered
+pub mod Examples
+pub mod Offline
+pub mod Worlds
