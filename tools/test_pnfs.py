@@ -227,9 +227,11 @@ class Wrong(Tool):
     """Answers that aren't answers."""
 
     def test_each_kind(self):
-        for said in ("o c0 write ok 2\nnext 19\n", "o c1 write ok 3\nnext 19\n", "o c0 read ok 616263\nnext 19\n", "o c0 write ok 3\n",
+        for said in ("o c0 write ok 2\nnext 19\n", "o c1 write ok 3\nnext 19\n", "o c0 read ok 616263\nnext 19\n",
+                     "o c0 write ok 3\n",
                      "next 19\n", "o c0 write ok 3\nnext 19\nnext 19\n", "", "order 0\nnext 19\n", "o c0 write ok 3\nnext 19",
-                     "o c0 write ok 3\no c0 write ok 3\nnext 19\n", "o c0 write held c1\nnext 19\n", "o c0 write ok 03\nnext 19\n",
+                     "o c0 write ok 3\no c0 write ok 3\nnext 19\n", "o c0 write held c1\nnext 19\n",
+                     "o c0 write ok 03\nnext 19\n",
                      "x c0 badrange\nnext 19\n", "o c0 write ok 3\nerror link\n", "o c0 write ok 3 4\nnext 19\n", "\xff\n"):
             self.assertEqual(ended(Call(0, 0, 3, b"abc"), said, 0).status, 21, said)
 
@@ -394,7 +396,8 @@ class Cuts(unittest.TestCase):
     """Pieces."""
 
     def test_cuts(self):
-        for stripe, most in ((12288, 65500), (131072, 65500), (65536, 65500), (1, 65500), (0, 65500), (65501, 65500), (65500, 65500), (3, 7)):
+        for stripe, most in ((12288, 65500), (131072, 65500), (65536, 65500), (1, 65500), (0, 65500), (65501, 65500),
+                             (65500, 65500), (3, 7)):
             for offset, length in ((0, 500000), (12287, 65501), (5, 1), (65500, 0), (7, 131072)):
                 self.check_cut(stripe, most, offset, length)
 
@@ -413,7 +416,8 @@ class Cuts(unittest.TestCase):
         self.assertGreater(copying.MAX_WRITE, 65_500)
 
     def test_stripes(self):
-        for numbers, length in (((5, 4096, 0, 0, 4), 12288), ((5, 4096, 0, 0, 3), 16384), ((6, 8, 3, 0, 2), 16), ((6, 8, 3, 1, 1), 24),
+        for numbers, length in (((5, 4096, 0, 0, 4), 12288), ((5, 4096, 0, 0, 3), 16384), ((6, 8, 3, 0, 2), 16),
+                                ((6, 8, 3, 1, 1), 24),
                                 ((3, 8, 0, 9, 1), 0)):
             self.assertEqual(cluster.FileMap(*numbers).stripe_bytes(), length)
 

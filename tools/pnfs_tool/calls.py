@@ -60,7 +60,8 @@ def step_behind(answer: Answer) -> Optional[Step]:
         return None
     word, rest = answer.outcome[0], answer.outcome[1:]
     if word == "held" and rest:
-        return Step(f"client {rest[0][1:]} has a grant on these bytes, for {GRANT_SECONDS} seconds at most ('revoke' ends it at once)", True)
+        return Step(f"client {rest[0][1:]} has a grant on these bytes, for {GRANT_SECONDS} seconds at most "
+                    "('revoke' ends it at once)", True)
     if word == "fencing" and rest:
         return Step(f"a job of the file waits for component {rest[0]} (if its drive is lost: 'declare')", True)
     if word == "silent" or word == "lost" and answer.timed_out:
@@ -142,7 +143,8 @@ class Caller:
                 self.next = int(words[2])
                 return answer
         if answer.status in (0, 10):
-            raise End(10, f"the numbers of client {self.program.client} are used up ({answer.words()}): take another with --client")
+            raise End(10, f"the numbers of client {self.program.client} are used up ({answer.words()}): "
+                          "take another with --client")
         return answer
 
     def once(self, call: Call) -> Answer:
@@ -168,8 +170,8 @@ class Caller:
         for component in answer.timed_out:
             if component not in self.late:
                 self.late.add(component)
-                self.tell(f"component {component} of f{call.file} timed out, and {call.kind()}s go on without it: if its drive is lost, "
-                          "'declare' it and 'rebuild'")
+                self.tell(f"component {component} of f{call.file} timed out, and {call.kind()}s go on without it: "
+                          "if its drive is lost, 'declare' it and 'rebuild'")
 
     def carry_out(self, call: Call) -> Answer:
         """Carries out the call, with as many tries as its patience has. Ends the run where it wasn't ok."""

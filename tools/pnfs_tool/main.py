@@ -86,8 +86,8 @@ def declare(words: argparse.Namespace, cluster: Cluster, caller: Caller) -> int:
         raise End(NOT_ASKED, f"the cluster text has no drive d{words.drive}")
     life = ask_drive(cluster.drives[words.drive])
     if life.may_live and not words.even_if_alive:
-        raise End(NOT_ASKED, f"d{words.drive} isn't declared as lost: {life.why}. A declaration can't be taken back, and the drive must "
-                             "perform nothing more. End its process first, or give --even-if-alive")
+        raise End(NOT_ASKED, f"d{words.drive} isn't declared as lost: {life.why}. A declaration can't be taken back, "
+                             "and the drive must perform nothing more. End its process first, or give --even-if-alive")
     if not words.quiet:
         say(f"d{words.drive}: {life.why}")
     return order(words, f"declare d{words.drive}", caller, "it is out: its components are missing. 'rebuild' each file of it")
@@ -142,6 +142,6 @@ def main(arguments: List[str]) -> int:
             os.dup2(os.open(os.devnull, os.O_WRONLY), 1)
         return end.status
     except KeyboardInterrupt:
-        say("stopped. What the last call did isn't known: the next run asks the server for its number, and the server then fences "
-            "and repairs what this one left")
+        say("stopped. What the last call did isn't known: the next run asks the server for its number, and the server then "
+            "fences and repairs what this one left")
         return STOPPED
