@@ -8,19 +8,19 @@ ghost use Rattle.file_jobs.specs.Sound.{IsSound, RestsSound};
 ghost use Rattle.file_jobs.specs.Steps.{IsSettled, Turns};
 
 use crate::job::{Turn, Work};
-use crate::moved::{note, rests};
+use crate::effects::{note, rests};
 use osd_bytes::Memory;
-use server_rules::{AwaitedCommands, Heard, JobKind, Kept, Moved, NoteKind};
+use server_rules::{AwaitedCommands, Heard, JobKind, Kept, Effects, NoteKind};
 use std::alloc::Global;
 use stripe_repair::{Ask, Audit, Which, to_all};
 
 // The audit is over.
-fn audited(kept: &Kept, moved: &mut Moved, audit: &Audit) -> Result<Turn, Memory>
+fn audited(kept: &Kept, effects: &mut Effects, audit: &Audit) -> Result<Turn, Memory>
     requires sound { IsSound kept.now }
     ensures turn { IfOk result (λ turn. Turns (λ g. audited g audit.now.tally)
-        kept.now moved.old turn kept.now moved.new) }
+        kept.now effects.old turn kept.now effects.new) }
     ensures settled { IfOk result IsSettled }
-    ensures sound { IfOk result (λ turn. RestsSound turn moved.old kept.now moved.new) }
+    ensures sound { IfOk result (λ turn. RestsSound turn effects.old kept.now effects.new) }
 {
     let kind = NoteKind::Audit {
         stripes: kept.high,
@@ -28,7 +28,7 @@ fn audited(kept: &Kept, moved: &mut Moved, audit: &Audit) -> Result<Turn, Memory
         bad: audit.bad_count(),
         bytes: audit.present_lengths(kept.components.as_slice()),
     };
-    note(moved, kept.number, kind)?;
+    note(effects, kept.number, kind)?;
     Ok(Turn::Over)
 }
 
@@ -36,88 +36,88 @@ fn audited(kept: &Kept, moved: &mut Moved, audit: &Audit) -> Result<Turn, Memory
 fn rests_auditing(
     alloc: Global,
     kept: &Kept,
-    moved: &mut Moved,
+    effects: &mut Effects,
     audit: Audit,
     reads: AwaitedCommands,
 ) -> Result<Turn, Memory>
     requires sound { IsSound kept.now }
-    requires low { moved.old.nonce < 2 ^ 63 }
+    requires low { effects.old.nonce < 2 ^ 63 }
     ensures turn { IfOk result (λ turn. Turns (λ g. rests_auditing reads g audit)
-        kept.now moved.old turn kept.now moved.new) }
+        kept.now effects.old turn kept.now effects.new) }
     ensures settled { IfOk result IsSettled }
-    ensures sound { IfOk result (λ turn. RestsSound turn moved.old kept.now moved.new) }
+    ensures sound { IfOk result (λ turn. RestsSound turn effects.old kept.now effects.new) }
 {
     if reads.is_empty() {
-        return audited(kept, moved, &audit);
+        return audited(kept, effects, &audit);
     }
-    rests(alloc, moved, JobKind::Auditing, Work::Checks(audit), reads)
+    rests(alloc, effects, JobKind::Auditing, Work::Checks(audit), reads)
 }
 
 // It goes on where its piece begins, or begins again.
-pub fn audits(alloc: Global, kept: &Kept, moved: &mut Moved, audit: Audit) -> Result<Turn, Memory>
+pub fn audits(alloc: Global, kept: &Kept, effects: &mut Effects, audit: Audit) -> Result<Turn, Memory>
     requires sound { IsSound kept.now }
-    requires low { moved.old.nonce < 2 ^ 63 }
+    requires low { effects.old.nonce < 2 ^ 63 }
     ensures turn { IfOk result (λ turn. Turns (λ g. audits g audit.todo audit.tally)
-        kept.now moved.old turn kept.now moved.new) }
+        kept.now effects.old turn kept.now effects.new) }
     ensures settled { IfOk result IsSettled }
-    ensures sound { IfOk result (λ turn. RestsSound turn moved.old kept.now moved.new) }
+    ensures sound { IfOk result (λ turn. RestsSound turn effects.old kept.now effects.new) }
 {
     let mut audit = audit;
-    let reads = audit.next(alloc, kept, moved.nonce)?;
-    rests_auditing(alloc, kept, moved, audit, reads)
+    let reads = audit.next(alloc, kept, effects.nonce)?;
+    rests_auditing(alloc, kept, effects, audit, reads)
 }
 
 // The rows of its first piece are read.
 pub fn audited_on(
     alloc: Global,
     kept: &Kept,
-    moved: &mut Moved,
+    effects: &mut Effects,
     audit: Audit,
     heard: &[Heard],
 ) -> Result<Turn, Memory>
     requires sound { IsSound kept.now }
-    requires low { moved.old.nonce < 2 ^ 63 }
+    requires low { effects.old.nonce < 2 ^ 63 }
     ensures turn { IfOk result (λ turn. Turns (λ g. audited_on g audit.todo audit.tally heard.now)
-        kept.now moved.old turn kept.now moved.new) }
+        kept.now effects.old turn kept.now effects.new) }
     ensures settled { IfOk result IsSettled }
-    ensures sound { IfOk result (λ turn. RestsSound turn moved.old kept.now moved.new) }
+    ensures sound { IfOk result (λ turn. RestsSound turn effects.old kept.now effects.new) }
 {
     let mut audit = audit;
-    let reads = audit.feed(alloc, kept, heard, moved.nonce)?;
-    rests_auditing(alloc, kept, moved, audit, reads)
+    let reads = audit.feed(alloc, kept, heard, effects.nonce)?;
+    rests_auditing(alloc, kept, effects, audit, reads)
 }
 
 // The lengths are read, and the stripes come.
 pub fn audits_all(
     alloc: Global,
     kept: &Kept,
-    moved: &mut Moved,
+    effects: &mut Effects,
     heard: &[Heard],
 ) -> Result<Turn, Memory>
     requires sound { IsSound kept.now }
-    requires low { moved.old.nonce < 2 ^ 63 }
+    requires low { effects.old.nonce < 2 ^ 63 }
     requires few { length heard.now ≤ MAX_FILE_COMPONENTS }
     ensures turn { IfOk result (λ turn. Turns (λ g. audits_all g heard.now)
-        kept.now moved.old turn kept.now moved.new) }
+        kept.now effects.old turn kept.now effects.new) }
     ensures settled { IfOk result IsSettled }
-    ensures sound { IfOk result (λ turn. RestsSound turn moved.old kept.now moved.new) }
+    ensures sound { IfOk result (λ turn. RestsSound turn effects.old kept.now effects.new) }
 {
     let audit = Audit::new(alloc, &kept.map, kept.high, heard)?;
-    audits(alloc, kept, moved, audit)
+    audits(alloc, kept, effects, audit)
 }
 
 // It begins.
 #[tactic(auto, unfolding(server_rules::specs::Audit::audit_begins))]
-pub fn audit_begins(alloc: Global, kept: &Kept, moved: &mut Moved) -> Result<Turn, Memory>
+pub fn audit_begins(alloc: Global, kept: &Kept, effects: &mut Effects) -> Result<Turn, Memory>
     requires sound { IsSound kept.now }
-    requires low { moved.old.nonce < 2 ^ 63 }
-    ensures turn { IfOk result (λ turn. Turns audit_begins kept.now moved.old turn kept.now moved.new) }
+    requires low { effects.old.nonce < 2 ^ 63 }
+    ensures turn { IfOk result (λ turn. Turns audit_begins kept.now effects.old turn kept.now effects.new) }
     ensures settled { IfOk result IsSettled }
-    ensures sound { IfOk result (λ turn. RestsSound turn moved.old kept.now moved.new) }
+    ensures sound { IfOk result (λ turn. RestsSound turn effects.old kept.now effects.new) }
 {
-    let measures = to_all(alloc, kept, Which::Every, Ask::Measure, moved.nonce)?;
+    let measures = to_all(alloc, kept, Which::Every, Ask::Measure, effects.nonce)?;
     if measures.is_empty() {
-        return audits_all(alloc, kept, moved, &[]);
+        return audits_all(alloc, kept, effects, &[]);
     }
-    rests(alloc, moved, JobKind::Auditing, Work::Lengths, measures)
+    rests(alloc, effects, JobKind::Auditing, Work::Lengths, measures)
 }

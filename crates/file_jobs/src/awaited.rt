@@ -5,7 +5,7 @@ ghost use Rattle.server_rules.specs.Commands.{again_in_2};
 ghost use Rattle.server_rules.specs.Replies.{answers};
 ghost use Rattle.file_jobs.specs.Awaiting.{stays};
 
-use crate::moved::copy_of;
+use crate::effects::copy_of;
 use osd_bytes::Memory;
 use osd_capability::FORMAT_SHA256;
 use osd_commands::Reply;

@@ -14,7 +14,7 @@ use crate::rebuilding::{ends, fills, target_of};
 use crate::settling::settle;
 use crate::standing::{any_on, lose_on};
 use osd_bytes::{Memory, Numbers};
-use server_rules::{Kept, Moved, NoteKind, Target};
+use server_rules::{Kept, Effects, NoteKind, Target};
 use std::alloc::Global;
 use stripe_repair::{DriveLoad, Placer};
 
@@ -22,24 +22,24 @@ use stripe_repair::{DriveLoad, Placer};
 fn declared(
     alloc: Global,
     kept: &mut Kept,
-    moved: &mut Moved,
+    effects: &mut Effects,
     job: RunningJob,
     drive: u32,
 ) -> Result<Turn, Memory>
     requires sound { IsSound kept.old }
-    requires low { moved.old.nonce < 2 ^ 63 }
+    requires low { effects.old.nonce < 2 ^ 63 }
     requires job { FitsAfterLoss kept.old (length job.awaited + length job.heard) job.work }
     ensures turn { IfOk result (λ turn. TurnsIn job (λ g. loses g job job.work (others_than drive job.awaited)
-        (is_target job.work drive)) kept.old moved.old turn kept.new moved.new) }
-    ensures sound { IfOk result (λ turn. RestsSound turn moved.old kept.new moved.new) }
+        (is_target job.work drive)) kept.old effects.old turn kept.new effects.new) }
+    ensures sound { IfOk result (λ turn. RestsSound turn effects.old kept.new effects.new) }
     ensures keeps { OnOk result (Leaves kept.old kept.new) }
 {
     match target_of(&job.work) {
-        Some(target) => redirects(alloc, kept, moved, job, target, drive),
+        Some(target) => redirects(alloc, kept, effects, job, target, drive),
         None => {
             let mut job = job;
             forget(&mut job.awaited, Gone::Drive { drive });
-            loses(alloc, kept, moved, job)
+            loses(alloc, kept, effects, job)
         }
     }
 }
@@ -48,23 +48,23 @@ fn declared(
 fn redirects(
     alloc: Global,
     kept: &mut Kept,
-    moved: &mut Moved,
+    effects: &mut Effects,
     job: RunningJob,
     target: Target,
     drive: u32,
 ) -> Result<Turn, Memory>
     requires target { target_in job.work ≡ Some target }
     requires sound { IsSound kept.old }
-    requires low { moved.old.nonce < 2 ^ 63 }
+    requires low { effects.old.nonce < 2 ^ 63 }
     requires job { FitsAfterLoss kept.old (length job.awaited + length job.heard) job.work }
     ensures turn { IfOk result (λ turn. TurnsIn job (λ g. loses g job job.work (others_than drive job.awaited)
-        (is_target job.work drive)) kept.old moved.old turn kept.new moved.new) }
-    ensures sound { IfOk result (λ turn. RestsSound turn moved.old kept.new moved.new) }
+        (is_target job.work drive)) kept.old effects.old turn kept.new effects.new) }
+    ensures sound { IfOk result (λ turn. RestsSound turn effects.old kept.new effects.new) }
     ensures keeps { OnOk result (Leaves kept.old kept.new) }
 {
     if target.drive == drive {
         let component = target.component;
-        return ends(kept, moved, target, NoteKind::NoDrive { component });
+        return ends(kept, effects, target, NoteKind::NoDrive { component });
     }
     let RunningJob {
         kind,
@@ -73,7 +73,7 @@ fn redirects(
         heard,
     } = job;
     match work {
-        Work::Rebuilds(rebuild) => fills(alloc, kept, moved, rebuild),
+        Work::Rebuilds(rebuild) => fills(alloc, kept, effects, rebuild),
         work => Ok(Turn::Rests(RunningJob {
             kind,
             work,
@@ -93,7 +93,7 @@ fn redirects(
 pub fn declare<F>(
     alloc: Global,
     file: &mut FileState,
-    moved: &mut Moved,
+    effects: &mut Effects,
     drive: u32,
     loads: &[DriveLoad],
     placer: &Placer<F>,
@@ -104,9 +104,9 @@ where
     requires different { AreDifferent (drives_of loads.now) }
     requires placer { IsPlacer F.Fn placer.now }
     requires sound { IsSoundFile file.old }
-    requires low { moved.old.nonce < 2 ^ 63 }
-    requires objects { moved.old.object < 2 ^ 63 }
-    ensures steps { OnOk result (StepsOn (λ g. declares g drive) loads.now file.old moved.old file.new moved.new) }
+    requires low { effects.old.nonce < 2 ^ 63 }
+    requires objects { effects.old.object < 2 ^ 63 }
+    ensures steps { OnOk result (StepsOn (λ g. declares g drive) loads.now file.old effects.old file.new effects.new) }
     ensures keeps { OnOk result (Leaves file.old.kept file.new.kept) }
     ensures sound { OnOk result (IsSoundFile file.new) }
 {
@@ -117,8 +117,8 @@ where
     let Some(job) = file.job.take() else {
         return Ok(());
     };
-    let turn = declared(alloc, &mut file.kept, moved, job, drive)?;
-    file.job = settle(alloc, &file.kept, moved, turn, loads, placer)?;
+    let turn = declared(alloc, &mut file.kept, effects, job, drive)?;
+    file.job = settle(alloc, &file.kept, effects, turn, loads, placer)?;
     Ok(())
 }
 

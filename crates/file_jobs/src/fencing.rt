@@ -8,39 +8,39 @@ ghost use Rattle.file_jobs.specs.Steps.{GoesOnAs, IsSettled, Turns};
 use crate::ending::end_grants;
 use crate::job::{Turn, Work};
 use crate::mending::repair_begins;
-use crate::moved::{note, rests};
+use crate::effects::{note, rests};
 use osd_bytes::Memory;
-use server_rules::{JobKind, Kept, Moved, NoteKind, Phase};
+use server_rules::{JobKind, Kept, Effects, NoteKind, Phase};
 use std::alloc::Global;
 use stripe_repair::{Ask, Which, to_all};
 
 // Each component was made, or is missing.
-pub fn is_made(kept: &mut Kept, moved: &mut Moved) -> Result<Turn, Memory>
-    ensures turn { IfOk result (λ turn. Turns is_made kept.old moved.old turn kept.new moved.new) }
+pub fn is_made(kept: &mut Kept, effects: &mut Effects) -> Result<Turn, Memory>
+    ensures turn { IfOk result (λ turn. Turns is_made kept.old effects.old turn kept.new effects.new) }
     ensures settled { IfOk result IsSettled }
-    ensures sound { IfOk result (λ turn. RestsSound turn moved.old kept.new moved.new) }
+    ensures sound { IfOk result (λ turn. RestsSound turn effects.old kept.new effects.new) }
     ensures keeps { OnOk result (Leaves kept.old kept.new) }
 {
     kept.ready = true;
-    note(moved, kept.number, NoteKind::Ready)?;
+    note(effects, kept.number, NoteKind::Ready)?;
     Ok(Turn::Over)
 }
 
 // The present components are sent CREATE.
 #[tactic(auto, unfolding(server_rules::specs::Jobs::making))]
-pub fn making(alloc: Global, kept: &mut Kept, moved: &mut Moved) -> Result<Turn, Memory>
+pub fn making(alloc: Global, kept: &mut Kept, effects: &mut Effects) -> Result<Turn, Memory>
     requires sound { IsSound kept.old }
-    requires low { moved.old.nonce < 2 ^ 63 }
-    ensures turn { IfOk result (λ turn. Turns making kept.old moved.old turn kept.new moved.new) }
+    requires low { effects.old.nonce < 2 ^ 63 }
+    ensures turn { IfOk result (λ turn. Turns making kept.old effects.old turn kept.new effects.new) }
     ensures settled { IfOk result IsSettled }
-    ensures sound { IfOk result (λ turn. RestsSound turn moved.old kept.new moved.new) }
+    ensures sound { IfOk result (λ turn. RestsSound turn effects.old kept.new effects.new) }
     ensures keeps { OnOk result (Leaves kept.old kept.new) }
 {
-    let creates = to_all(alloc, kept, Which::Every, Ask::Create, moved.nonce)?;
+    let creates = to_all(alloc, kept, Which::Every, Ask::Create, effects.nonce)?;
     if creates.is_empty() {
-        return is_made(kept, moved);
+        return is_made(kept, effects);
     }
-    rests(alloc, moved, JobKind::Making, Work::Creates, creates)
+    rests(alloc, effects, JobKind::Making, Work::Creates, creates)
 }
 
 // Each present component has the next tag.
@@ -48,38 +48,38 @@ pub fn making(alloc: Global, kept: &mut Kept, moved: &mut Moved) -> Result<Turn,
 pub fn fenced(
     alloc: Global,
     kept: &mut Kept,
-    moved: &mut Moved,
+    effects: &mut Effects,
     kind: JobKind,
 ) -> Result<Turn, Memory>
     requires sound { IsSound kept.old }
-    requires low { moved.old.nonce < 2 ^ 63 }
+    requires low { effects.old.nonce < 2 ^ 63 }
     requires next { kept.old.tag < GREATEST_TAG }
-    ensures turn { IfOk result (λ turn. Turns (fenced kind) kept.old moved.old turn kept.new moved.new) }
+    ensures turn { IfOk result (λ turn. Turns (fenced kind) kept.old effects.old turn kept.new effects.new) }
     ensures kind { IfOk result (GoesOnAs kind) }
-    ensures sound { IfOk result (λ turn. RestsSound turn moved.old kept.new moved.new) }
+    ensures sound { IfOk result (λ turn. RestsSound turn effects.old kept.new effects.new) }
     ensures keeps { OnOk result (Leaves kept.old kept.new) }
 {
     kept.tag += 1;
     kept.phase = Phase::Repairing;
-    note(moved, kept.number, NoteKind::Fenced { tag: kept.tag })?;
-    repair_begins(alloc, kept, moved, kind)
+    note(effects, kept.number, NoteKind::Fenced { tag: kept.tag })?;
+    repair_begins(alloc, kept, effects, kind)
 }
 
 // The present components are sent the next tag.
-fn fences(alloc: Global, kept: &mut Kept, moved: &mut Moved, kind: JobKind) -> Result<Turn, Memory>
+fn fences(alloc: Global, kept: &mut Kept, effects: &mut Effects, kind: JobKind) -> Result<Turn, Memory>
     requires sound { IsSound kept.old }
-    requires low { moved.old.nonce < 2 ^ 63 }
+    requires low { effects.old.nonce < 2 ^ 63 }
     requires next { kept.old.tag < GREATEST_TAG }
-    ensures turn { IfOk result (λ turn. Turns (fences kind) kept.old moved.old turn kept.new moved.new) }
+    ensures turn { IfOk result (λ turn. Turns (fences kind) kept.old effects.old turn kept.new effects.new) }
     ensures kind { IfOk result (GoesOnAs kind) }
-    ensures sound { IfOk result (λ turn. RestsSound turn moved.old kept.new moved.new) }
+    ensures sound { IfOk result (λ turn. RestsSound turn effects.old kept.new effects.new) }
     ensures keeps { OnOk result (Leaves kept.old kept.new) }
 {
-    let raises = to_all(alloc, kept, Which::Every, Ask::Raise, moved.nonce)?;
+    let raises = to_all(alloc, kept, Which::Every, Ask::Raise, effects.nonce)?;
     if raises.is_empty() {
-        return fenced(alloc, kept, moved, kind);
+        return fenced(alloc, kept, effects, kind);
     }
-    rests(alloc, moved, kind, Work::Fences, raises)
+    rests(alloc, effects, kind, Work::Fences, raises)
 }
 
 // A fence begins.
@@ -87,19 +87,19 @@ fn fences(alloc: Global, kept: &mut Kept, moved: &mut Moved, kind: JobKind) -> R
 pub fn fence_begins(
     alloc: Global,
     kept: &mut Kept,
-    moved: &mut Moved,
+    effects: &mut Effects,
     kind: JobKind,
     format: u8,
 ) -> Result<Turn, Memory>
     requires sound { IsSound kept.old }
-    requires low { moved.old.nonce < 2 ^ 63 }
+    requires low { effects.old.nonce < 2 ^ 63 }
     requires next { kept.old.tag < GREATEST_TAG }
-    ensures turn { IfOk result (λ turn. Turns (fence_begins kind format) kept.old moved.old turn kept.new moved.new) }
+    ensures turn { IfOk result (λ turn. Turns (fence_begins kind format) kept.old effects.old turn kept.new effects.new) }
     ensures alone { OnOk result (kept.new.grants ≡ []) }
     ensures kind { IfOk result (GoesOnAs kind) }
-    ensures sound { IfOk result (λ turn. RestsSound turn moved.old kept.new moved.new) }
+    ensures sound { IfOk result (λ turn. RestsSound turn effects.old kept.new effects.new) }
     ensures keeps { OnOk result (Leaves kept.old kept.new) }
 {
     end_grants(alloc, kept, format)?;
-    fences(alloc, kept, moved, kind)
+    fences(alloc, kept, effects, kind)
 }

@@ -12,7 +12,7 @@ use crate::job::{RunningJob, Turn, Work};
 use crate::mending::{answered, repairs};
 use crate::rebuilding::{self, fills_all};
 use osd_bytes::{Memory, Sequence};
-use server_rules::{AwaitedCommands, Heard, JobKind, Kept, Moved};
+use server_rules::{AwaitedCommands, Heard, JobKind, Kept, Effects};
 use std::alloc::Global;
 use stripe_repair::{Repair, Stage};
 
@@ -21,27 +21,27 @@ use stripe_repair::{Repair, Stage};
 fn goes_on(
     alloc: Global,
     kept: &mut Kept,
-    moved: &mut Moved,
+    effects: &mut Effects,
     kind: JobKind,
     work: Work,
     heard: &[Heard],
 ) -> Result<Turn, Memory>
     requires sound { IsSound kept.old }
-    requires low { moved.old.nonce < 2 ^ 63 }
+    requires low { effects.old.nonce < 2 ^ 63 }
     requires fits { Fits kept.old (length heard.now) (work_of work) }
     ensures turn { IfOk result (λ turn. Turns (goes_on kind (work_of work) heard.now)
-        kept.old moved.old turn kept.new moved.new) }
-    ensures sound { IfOk result (λ turn. RestsSound turn moved.old kept.new moved.new) }
+        kept.old effects.old turn kept.new effects.new) }
+    ensures sound { IfOk result (λ turn. RestsSound turn effects.old kept.new effects.new) }
     ensures keeps { OnOk result (Leaves kept.old kept.new) }
 {
     match work {
-        Work::Creates => is_made(kept, moved),
-        Work::Fences => fenced(alloc, kept, moved, kind),
-        Work::Repairs(repair) => answered(alloc, kept, moved, kind, repair, heard),
-        Work::Targets { target } => fills_all(alloc, kept, moved, target),
-        Work::Rebuilds(rebuild) => rebuilding::answered(alloc, kept, moved, rebuild, heard),
-        Work::Lengths => audits_all(alloc, kept, moved, heard),
-        Work::Checks(audit) => audited_on(alloc, kept, moved, audit, heard),
+        Work::Creates => is_made(kept, effects),
+        Work::Fences => fenced(alloc, kept, effects, kind),
+        Work::Repairs(repair) => answered(alloc, kept, effects, kind, repair, heard),
+        Work::Targets { target } => fills_all(alloc, kept, effects, target),
+        Work::Rebuilds(rebuild) => rebuilding::answered(alloc, kept, effects, rebuild, heard),
+        Work::Lengths => audits_all(alloc, kept, effects, heard),
+        Work::Checks(audit) => audited_on(alloc, kept, effects, audit, heard),
     }
 }
 
@@ -49,15 +49,15 @@ fn goes_on(
 pub fn waits_or_on(
     alloc: Global,
     kept: &mut Kept,
-    moved: &mut Moved,
+    effects: &mut Effects,
     job: RunningJob,
 ) -> Result<Turn, Memory>
     requires sound { IsSound kept.old }
-    requires low { moved.old.nonce < 2 ^ 63 }
+    requires low { effects.old.nonce < 2 ^ 63 }
     requires job { IsSoundJob kept.old job }
     ensures turn { IfOk result (λ turn. Turns (λ g. waits_or_on g job job.work job.awaited job.heard)
-        kept.old moved.old turn kept.new moved.new) }
-    ensures sound { IfOk result (λ turn. RestsSound turn moved.old kept.new moved.new) }
+        kept.old effects.old turn kept.new effects.new) }
+    ensures sound { IfOk result (λ turn. RestsSound turn effects.old kept.new effects.new) }
     ensures keeps { OnOk result (Leaves kept.old kept.new) }
 {
     if !job.awaited.is_empty() {
@@ -69,29 +69,29 @@ pub fn waits_or_on(
         heard,
         ..
     } = job;
-    goes_on(alloc, kept, moved, kind, work, heard.as_slice())
+    goes_on(alloc, kept, effects, kind, work, heard.as_slice())
 }
 
 // A repair of which a component became missing.
 fn loses_in_repair(
     alloc: Global,
     kept: &mut Kept,
-    moved: &mut Moved,
+    effects: &mut Effects,
     kind: JobKind,
     repair: Repair,
     awaited: AwaitedCommands,
     heard: Sequence<Heard>,
 ) -> Result<Turn, Memory>
     requires sound { IsSound kept.old }
-    requires low { moved.old.nonce < 2 ^ 63 }
+    requires low { effects.old.nonce < 2 ^ 63 }
     ensures turn { IfOk result (λ turn. Turns (λ g. loses_in_repair g kind repair awaited heard)
-        kept.old moved.old turn kept.new moved.new) }
-    ensures sound { IfOk result (λ turn. RestsSound turn moved.old kept.new moved.new) }
+        kept.old effects.old turn kept.new effects.new) }
+    ensures sound { IfOk result (λ turn. RestsSound turn effects.old kept.new effects.new) }
     ensures keeps { OnOk result (Leaves kept.old kept.new) }
 {
     let mut repair = repair;
     match repair.stage() {
-        Stage::Fetching => repairs(alloc, kept, moved, kind, repair),
+        Stage::Fetching => repairs(alloc, kept, effects, kind, repair),
         Stage::Storing { .. } => {
             repair.drop_component();
             let work = Work::Repairs(repair);
@@ -101,7 +101,7 @@ fn loses_in_repair(
                 awaited,
                 heard,
             };
-            waits_or_on(alloc, kept, moved, job)
+            waits_or_on(alloc, kept, effects, job)
         }
     }
 }
@@ -111,16 +111,16 @@ fn loses_in_repair(
 pub fn loses(
     alloc: Global,
     kept: &mut Kept,
-    moved: &mut Moved,
+    effects: &mut Effects,
     job: RunningJob,
 ) -> Result<Turn, Memory>
     requires sound { IsSound kept.old }
-    requires low { moved.old.nonce < 2 ^ 63 }
+    requires low { effects.old.nonce < 2 ^ 63 }
     requires job { IsSoundJob kept.old job }
     requires target { target_in job.work ≡ None }
     ensures turn { IfOk result (λ turn. Turns (λ g. loses g job job.work job.awaited false)
-        kept.old moved.old turn kept.new moved.new) }
-    ensures sound { IfOk result (λ turn. RestsSound turn moved.old kept.new moved.new) }
+        kept.old effects.old turn kept.new effects.new) }
+    ensures sound { IfOk result (λ turn. RestsSound turn effects.old kept.new effects.new) }
     ensures keeps { OnOk result (Leaves kept.old kept.new) }
 {
     let RunningJob {
@@ -130,12 +130,12 @@ pub fn loses(
         heard,
     } = job;
     match work {
-        Work::Repairs(repair) => loses_in_repair(alloc, kept, moved, kind, repair, awaited, heard),
-        Work::Checks(audit) => audits(alloc, kept, moved, audit),
+        Work::Repairs(repair) => loses_in_repair(alloc, kept, effects, kind, repair, awaited, heard),
+        Work::Checks(audit) => audits(alloc, kept, effects, audit),
         work => waits_or_on(
             alloc,
             kept,
-            moved,
+            effects,
             RunningJob {
                 kind,
                 work,

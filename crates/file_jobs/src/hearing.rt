@@ -11,7 +11,7 @@ use crate::replies::hears;
 use crate::settling::settle;
 use osd_bytes::{Memory, Numbers};
 use osd_commands::Reply;
-use server_rules::Moved;
+use server_rules::Effects;
 use std::alloc::Global;
 use stripe_repair::{DriveLoad, Placer};
 
@@ -35,7 +35,7 @@ fn place_of(job: &Option<RunningJob>, drive: u32, reply: &Reply) -> Option<usize
 pub fn on_reply<F>(
     alloc: Global,
     file: &mut FileState,
-    moved: &mut Moved,
+    effects: &mut Effects,
     drive: u32,
     reply: &Reply,
     loads: &[DriveLoad],
@@ -47,10 +47,10 @@ where
     requires different { AreDifferent (drives_of loads.now) }
     requires placer { IsPlacer F.Fn placer.now }
     requires sound { IsSoundFile file.old }
-    requires low { moved.old.nonce < 2 ^ 63 }
-    requires objects { moved.old.object < 2 ^ 63 }
+    requires low { effects.old.nonce < 2 ^ 63 }
+    requires objects { effects.old.object < 2 ^ 63 }
     ensures heard { IfOk result (λ heard. HearsReply heard loads.now drive reply.now
-        file.old moved.old file.new moved.new) }
+        file.old effects.old file.new effects.new) }
     ensures keeps { OnOk result (Leaves file.old.kept file.new.kept) }
     ensures sound { OnOk result (IsSoundFile file.new) }
 {
@@ -60,7 +60,7 @@ where
     let Some(job) = file.job.take() else {
         return Ok(false);
     };
-    let turn = hears(alloc, &mut file.kept, moved, job, place, reply)?;
-    file.job = settle(alloc, &file.kept, moved, turn, loads, placer)?;
+    let turn = hears(alloc, &mut file.kept, effects, job, place, reply)?;
+    file.job = settle(alloc, &file.kept, effects, turn, loads, placer)?;
     Ok(true)
 }

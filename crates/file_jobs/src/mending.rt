@@ -7,17 +7,17 @@ ghost use Rattle.file_jobs.specs.Sound.{IsSound, Leaves, RestsSound};
 ghost use Rattle.file_jobs.specs.Steps.{GoesOnAs, Makes, Turns};
 
 use crate::job::{Turn, Work};
-use crate::moved::{note, rests};
+use crate::effects::{note, rests};
 use crate::ranges::{count_stripes, merged};
 use osd_bytes::{Memory, Sequence, Times};
-use server_rules::{AwaitedCommands, Heard, JobKind, Kept, Mended, Moved, NoteKind, Phase};
+use server_rules::{AwaitedCommands, Heard, JobKind, Kept, Mended, Effects, NoteKind, Phase};
 use std::alloc::Global;
 use stripe_repair::Repair;
 
 // The repair is over; these stripes were left short.
-fn mended(alloc: Global, kept: &mut Kept, moved: &mut Moved, short: &[u64]) -> Result<(), Memory>
+fn mended(alloc: Global, kept: &mut Kept, effects: &mut Effects, short: &[u64]) -> Result<(), Memory>
     requires { IsSound kept.old }
-    ensures made { OnOk result (Makes (λ g. mended g short.now) kept.old moved.old kept.new moved.new) }
+    ensures made { OnOk result (Makes (λ g. mended g short.now) kept.old effects.old kept.new effects.new) }
     ensures keeps { OnOk result (Leaves kept.old kept.new) }
 {
     let worked = merged(alloc, kept.ended.as_slice())?;
@@ -25,10 +25,10 @@ fn mended(alloc: Global, kept: &mut Kept, moved: &mut Moved, short: &[u64]) -> R
         stripes: count_stripes(worked.as_slice()),
         short: short.len() as u64,
     };
-    note(moved, kept.number, kind)?;
+    note(effects, kept.number, kind)?;
     kept.ended = Sequence::new(alloc);
     kept.phase = Phase::Still;
-    moved.mended.push(Mended {
+    effects.mended.push(Mended {
         file: kept.number,
         worked,
         short: Times::copied(alloc, short)?,
@@ -39,67 +39,67 @@ fn mended(alloc: Global, kept: &mut Kept, moved: &mut Moved, short: &[u64]) -> R
 fn rests_repairing(
     alloc: Global,
     kept: &mut Kept,
-    moved: &mut Moved,
+    effects: &mut Effects,
     kind: JobKind,
     repair: Repair,
     sends: AwaitedCommands,
 ) -> Result<Turn, Memory>
     requires sound { IsSound kept.old }
-    requires low { moved.old.nonce < 2 ^ 63 }
+    requires low { effects.old.nonce < 2 ^ 63 }
     ensures turn { IfOk result (λ turn. Turns (λ g. rests_repairing sends g kind repair)
-        kept.old moved.old turn kept.new moved.new) }
+        kept.old effects.old turn kept.new effects.new) }
     ensures kind { IfOk result (GoesOnAs kind) }
-    ensures sound { IfOk result (λ turn. RestsSound turn moved.old kept.new moved.new) }
+    ensures sound { IfOk result (λ turn. RestsSound turn effects.old kept.new effects.new) }
     ensures keeps { OnOk result (Leaves kept.old kept.new) }
 {
     if sends.is_empty() {
-        mended(alloc, kept, moved, repair.short())?;
+        mended(alloc, kept, effects, repair.short())?;
         return Ok(Turn::Mended { kind });
     }
-    rests(alloc, moved, kind, Work::Repairs(repair), sends)
+    rests(alloc, effects, kind, Work::Repairs(repair), sends)
 }
 
 // The repair goes on where its piece begins, or begins again.
 pub fn repairs(
     alloc: Global,
     kept: &mut Kept,
-    moved: &mut Moved,
+    effects: &mut Effects,
     kind: JobKind,
     repair: Repair,
 ) -> Result<Turn, Memory>
     requires sound { IsSound kept.old }
-    requires low { moved.old.nonce < 2 ^ 63 }
+    requires low { effects.old.nonce < 2 ^ 63 }
     ensures turn { IfOk result (λ turn. Turns (λ g. repairs kind g repair.todo repair.short)
-        kept.old moved.old turn kept.new moved.new) }
+        kept.old effects.old turn kept.new effects.new) }
     ensures kind { IfOk result (GoesOnAs kind) }
-    ensures sound { IfOk result (λ turn. RestsSound turn moved.old kept.new moved.new) }
+    ensures sound { IfOk result (λ turn. RestsSound turn effects.old kept.new effects.new) }
     ensures keeps { OnOk result (Leaves kept.old kept.new) }
 {
     let mut repair = repair;
-    let sends = repair.next(alloc, kept, moved.nonce)?;
-    rests_repairing(alloc, kept, moved, kind, repair, sends)
+    let sends = repair.next(alloc, kept, effects.nonce)?;
+    rests_repairing(alloc, kept, effects, kind, repair, sends)
 }
 
 // What it sent is answered.
 pub fn answered(
     alloc: Global,
     kept: &mut Kept,
-    moved: &mut Moved,
+    effects: &mut Effects,
     kind: JobKind,
     repair: Repair,
     heard: &[Heard],
 ) -> Result<Turn, Memory>
     requires sound { IsSound kept.old }
-    requires low { moved.old.nonce < 2 ^ 63 }
+    requires low { effects.old.nonce < 2 ^ 63 }
     ensures turn { IfOk result (λ turn. Turns (goes_on kind (work_of repair) heard.now)
-        kept.old moved.old turn kept.new moved.new) }
+        kept.old effects.old turn kept.new effects.new) }
     ensures kind { IfOk result (GoesOnAs kind) }
-    ensures sound { IfOk result (λ turn. RestsSound turn moved.old kept.new moved.new) }
+    ensures sound { IfOk result (λ turn. RestsSound turn effects.old kept.new effects.new) }
     ensures keeps { OnOk result (Leaves kept.old kept.new) }
 {
     let mut repair = repair;
-    let sends = repair.feed(alloc, kept, heard, moved.nonce)?;
-    rests_repairing(alloc, kept, moved, kind, repair, sends)
+    let sends = repair.feed(alloc, kept, heard, effects.nonce)?;
+    rests_repairing(alloc, kept, effects, kind, repair, sends)
 }
 
 // It begins.
@@ -107,17 +107,17 @@ pub fn answered(
 pub fn repair_begins(
     alloc: Global,
     kept: &mut Kept,
-    moved: &mut Moved,
+    effects: &mut Effects,
     kind: JobKind,
 ) -> Result<Turn, Memory>
     requires sound { IsSound kept.old }
-    requires low { moved.old.nonce < 2 ^ 63 }
-    ensures turn { IfOk result (λ turn. Turns (repair_begins kind) kept.old moved.old turn kept.new moved.new) }
+    requires low { effects.old.nonce < 2 ^ 63 }
+    ensures turn { IfOk result (λ turn. Turns (repair_begins kind) kept.old effects.old turn kept.new effects.new) }
     ensures kind { IfOk result (GoesOnAs kind) }
-    ensures sound { IfOk result (λ turn. RestsSound turn moved.old kept.new moved.new) }
+    ensures sound { IfOk result (λ turn. RestsSound turn effects.old kept.new effects.new) }
     ensures keeps { OnOk result (Leaves kept.old kept.new) }
 {
     let ranges = merged(alloc, kept.ended.as_slice())?;
     let repair = Repair::new(alloc, &kept.map, ranges);
-    repairs(alloc, kept, moved, kind, repair)
+    repairs(alloc, kept, effects, kind, repair)
 }

@@ -9,10 +9,10 @@ ghost use Rattle.file_jobs.specs.Steps.{Chooses, IsSettled, MakesOn};
 ghost use Rattle.file_jobs.specs.Placing.{AreLoadsOf, IsPick, free_loads};
 
 use crate::job::{Turn, Work};
-use crate::moved::{note, rests};
+use crate::effects::{note, rests};
 use crate::standing::stood_on;
 use osd_bytes::{Memory, Numbers, Sequence};
-use server_rules::{AwaitedCommands, Component, JobKind, Kept, Moved, NoteKind, Target};
+use server_rules::{AwaitedCommands, Component, JobKind, Kept, Effects, NoteKind, Target};
 use std::alloc::Global;
 use stripe_repair::{Ask, DriveLoad, Placer, online_count, sent_to};
 
@@ -72,28 +72,28 @@ where
 fn makes(
     alloc: Global,
     kept: &Kept,
-    moved: &mut Moved,
+    effects: &mut Effects,
     component: u32,
     drive: u32,
 ) -> Result<Turn, Memory>
-    requires low { moved.old.nonce < 2 ^ 63 }
-    requires objects { moved.old.object < 2 ^ 63 }
+    requires low { effects.old.nonce < 2 ^ 63 }
+    requires objects { effects.old.object < 2 ^ 63 }
     requires component { component < length kept.now.components }
-    ensures turn { IfOk result (λ turn. MakesOn component drive kept.now moved.old turn moved.new) }
+    ensures turn { IfOk result (λ turn. MakesOn component drive kept.now effects.old turn effects.new) }
     ensures settled { IfOk result IsSettled }
-    ensures sound { IfOk result (λ turn. RestsSound turn moved.old kept.now moved.new) }
+    ensures sound { IfOk result (λ turn. RestsSound turn effects.old kept.now effects.new) }
 {
     let target = Target {
         component,
         drive,
-        object: moved.object,
+        object: effects.object,
     };
-    moved.object += 1;
+    effects.object += 1;
     let mut creates = AwaitedCommands::new(alloc);
-    creates.push(sent_to(alloc, kept, Ask::Create, target, moved.nonce)?)?;
+    creates.push(sent_to(alloc, kept, Ask::Create, target, effects.nonce)?)?;
     rests(
         alloc,
-        moved,
+        effects,
         JobKind::Rebuilding,
         Work::Targets { target },
         creates,
@@ -105,7 +105,7 @@ fn makes(
 pub fn places<F>(
     alloc: Global,
     kept: &Kept,
-    moved: &mut Moved,
+    effects: &mut Effects,
     from: u32,
     loads: &[DriveLoad],
     placer: &Placer<F>,
@@ -116,19 +116,19 @@ where
     requires different { AreDifferent (drives_of loads.now) }
     requires placer { IsPlacer F.Fn placer.now }
     requires sound { IsSound kept.now }
-    requires low { moved.old.nonce < 2 ^ 63 }
-    requires objects { moved.old.object < 2 ^ 63 }
+    requires low { effects.old.nonce < 2 ^ 63 }
+    requires objects { effects.old.object < 2 ^ 63 }
     ensures turn { IfOk result (λ turn. Chooses (λ g. rebuilds g (drop from kept.now.components) from) loads.now
-        kept.now moved.old turn kept.now moved.new) }
+        kept.now effects.old turn kept.now effects.new) }
     ensures settled { IfOk result IsSettled }
-    ensures sound { IfOk result (λ turn. RestsSound turn moved.old kept.now moved.new) }
+    ensures sound { IfOk result (λ turn. RestsSound turn effects.old kept.now effects.new) }
 {
     let mut k = from;
     while (k as usize) < kept.components.len() {
         if kept.components.get(k as usize).missing {
             match pick(alloc, kept.components.as_slice(), loads, placer)? {
-                Some(drive) => return makes(alloc, kept, moved, k, drive),
-                None => note(moved, kept.number, NoteKind::NoDrive { component: k })?,
+                Some(drive) => return makes(alloc, kept, effects, k, drive),
+                None => note(effects, kept.number, NoteKind::NoDrive { component: k })?,
             }
         }
         k += 1;

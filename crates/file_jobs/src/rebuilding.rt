@@ -11,9 +11,9 @@ ghost use Rattle.file_jobs.specs.Steps.{Turns};
 ghost use Rattle.file_jobs.specs.Works.{work_of};
 
 use crate::job::{Turn, Work};
-use crate::moved::{note, rests};
+use crate::effects::{note, rests};
 use osd_bytes::Memory;
-use server_rules::{AwaitedCommands, Component, Heard, JobKind, Kept, Moved, NoteKind, Target};
+use server_rules::{AwaitedCommands, Component, Heard, JobKind, Kept, Effects, NoteKind, Target};
 use std::alloc::Global;
 use stripe_repair::{FillStage, FillStep, Rebuild};
 
@@ -29,25 +29,25 @@ pub fn target_of(work: &Work) -> Option<Target>
 }
 
 // The rebuild of a component ends so, and the missing ones behind it are next.
-pub fn ends(kept: &Kept, moved: &mut Moved, target: Target, kind: NoteKind) -> Result<Turn, Memory>
+pub fn ends(kept: &Kept, effects: &mut Effects, target: Target, kind: NoteKind) -> Result<Turn, Memory>
     requires sound { IsSound kept.now }
     requires target { target.component < length kept.now.components }
     ensures turn { IfOk result (λ turn. Turns (λ g. goes_past (noting g kind) target)
-        kept.now moved.old turn kept.now moved.new) }
-    ensures sound { IfOk result (λ turn. RestsSound turn moved.old kept.now moved.new) }
+        kept.now effects.old turn kept.now effects.new) }
+    ensures sound { IfOk result (λ turn. RestsSound turn effects.old kept.now effects.new) }
 {
-    note(moved, kept.number, kind)?;
+    note(effects, kept.number, kind)?;
     Ok(Turn::Places {
         from: target.component + 1,
     })
 }
 
 // The component stands on its new drive.
-fn rebuilt(kept: &mut Kept, moved: &mut Moved, target: Target) -> Result<Turn, Memory>
+fn rebuilt(kept: &mut Kept, effects: &mut Effects, target: Target) -> Result<Turn, Memory>
     requires sound { IsSound kept.old }
     requires target { target.component < length kept.old.components }
-    ensures turn { IfOk result (λ turn. Turns (λ g. rebuilt g target) kept.old moved.old turn kept.new moved.new) }
-    ensures sound { IfOk result (λ turn. RestsSound turn moved.old kept.new moved.new) }
+    ensures turn { IfOk result (λ turn. Turns (λ g. rebuilt g target) kept.old effects.old turn kept.new effects.new) }
+    ensures sound { IfOk result (λ turn. RestsSound turn effects.old kept.new effects.new) }
     ensures keeps { OnOk result (Leaves kept.old kept.new) }
 {
     let Target {
@@ -60,48 +60,48 @@ fn rebuilt(kept: &mut Kept, moved: &mut Moved, target: Target) -> Result<Turn, M
         object,
         missing: false,
     };
-    ends(kept, moved, target, NoteKind::Rebuilt { component, drive })
+    ends(kept, effects, target, NoteKind::Rebuilt { component, drive })
 }
 
 // What comes of a step of its pieces.
 fn comes_to(
     alloc: Global,
     kept: &mut Kept,
-    moved: &mut Moved,
+    effects: &mut Effects,
     rebuild: Rebuild,
     step: FillStep,
 ) -> Result<Turn, Memory>
     requires sound { IsSound kept.old }
-    requires low { moved.old.nonce < 2 ^ 63 }
+    requires low { effects.old.nonce < 2 ^ 63 }
     requires fill { CanFill kept.old rebuild.target rebuild.todo }
     requires some { ReadsSome step }
     requires stage { StagesAs step rebuild.stage }
     requires readable { IsFetch step → IsReadable kept.old rebuild }
     ensures turn { IfOk result (λ turn. Turns (λ g. comes_to step g rebuild)
-        kept.old moved.old turn kept.new moved.new) }
-    ensures sound { IfOk result (λ turn. RestsSound turn moved.old kept.new moved.new) }
+        kept.old effects.old turn kept.new effects.new) }
+    ensures sound { IfOk result (λ turn. RestsSound turn effects.old kept.new effects.new) }
     ensures keeps { OnOk result (Leaves kept.old kept.new) }
 {
     let target = rebuild.target();
     match step {
         FillStep::Fetch(reads) => {
             let work = Work::Rebuilds(rebuild);
-            rests(alloc, moved, JobKind::Rebuilding, work, reads)
+            rests(alloc, effects, JobKind::Rebuilding, work, reads)
         }
         FillStep::Store(write) => {
             let mut writes = AwaitedCommands::new(alloc);
             writes.push(write)?;
             let work = Work::Rebuilds(rebuild);
-            rests(alloc, moved, JobKind::Rebuilding, work, writes)
+            rests(alloc, effects, JobKind::Rebuilding, work, writes)
         }
-        FillStep::Over => rebuilt(kept, moved, target),
+        FillStep::Over => rebuilt(kept, effects, target),
         FillStep::Lost { positions } => {
             let component = target.component;
             let kind = NoteKind::Lost {
                 component,
                 positions,
             };
-            ends(kept, moved, target, kind)
+            ends(kept, effects, target, kind)
         }
     }
 }
@@ -110,100 +110,100 @@ fn comes_to(
 pub fn fills(
     alloc: Global,
     kept: &mut Kept,
-    moved: &mut Moved,
+    effects: &mut Effects,
     rebuild: Rebuild,
 ) -> Result<Turn, Memory>
     requires sound { IsSound kept.old }
-    requires low { moved.old.nonce < 2 ^ 63 }
+    requires low { effects.old.nonce < 2 ^ 63 }
     requires fill { CanFill kept.old rebuild.target rebuild.todo }
     ensures turn { IfOk result (λ turn. Turns (λ g. fills g rebuild.target rebuild.todo)
-        kept.old moved.old turn kept.new moved.new) }
-    ensures sound { IfOk result (λ turn. RestsSound turn moved.old kept.new moved.new) }
+        kept.old effects.old turn kept.new effects.new) }
+    ensures sound { IfOk result (λ turn. RestsSound turn effects.old kept.new effects.new) }
     ensures keeps { OnOk result (Leaves kept.old kept.new) }
 {
     let mut rebuild = rebuild;
-    let step = rebuild.next(alloc, kept, moved.nonce)?;
-    comes_to(alloc, kept, moved, rebuild, step)
+    let step = rebuild.next(alloc, kept, effects.nonce)?;
+    comes_to(alloc, kept, effects, rebuild, step)
 }
 
 // The object of the target is made, and its pieces come.
 pub fn fills_all(
     alloc: Global,
     kept: &mut Kept,
-    moved: &mut Moved,
+    effects: &mut Effects,
     target: Target,
 ) -> Result<Turn, Memory>
     requires sound { IsSound kept.old }
-    requires low { moved.old.nonce < 2 ^ 63 }
+    requires low { effects.old.nonce < 2 ^ 63 }
     requires target { target.component < length kept.old.components }
-    ensures turn { IfOk result (λ turn. Turns (λ g. fills_all g target) kept.old moved.old turn kept.new moved.new) }
-    ensures sound { IfOk result (λ turn. RestsSound turn moved.old kept.new moved.new) }
+    ensures turn { IfOk result (λ turn. Turns (λ g. fills_all g target) kept.old effects.old turn kept.new effects.new) }
+    ensures sound { IfOk result (λ turn. RestsSound turn effects.old kept.new effects.new) }
     ensures keeps { OnOk result (Leaves kept.old kept.new) }
 {
     let rebuild = Rebuild::new(kept.map, target, kept.high);
-    fills(alloc, kept, moved, rebuild)
+    fills(alloc, kept, effects, rebuild)
 }
 
 // The sources of its first piece are read.
 fn gathered(
     alloc: Global,
     kept: &mut Kept,
-    moved: &mut Moved,
+    effects: &mut Effects,
     rebuild: Rebuild,
     heard: &[Heard],
 ) -> Result<Turn, Memory>
     requires sound { IsSound kept.old }
-    requires low { moved.old.nonce < 2 ^ 63 }
+    requires low { effects.old.nonce < 2 ^ 63 }
     requires fill { CanFill kept.old rebuild.target rebuild.todo }
     requires readable { IsReadable kept.old rebuild }
     ensures turn { IfOk result (λ turn. Turns (λ g. gathered g rebuild.target rebuild.todo heard.now)
-        kept.old moved.old turn kept.new moved.new) }
-    ensures sound { IfOk result (λ turn. RestsSound turn moved.old kept.new moved.new) }
+        kept.old effects.old turn kept.new effects.new) }
+    ensures sound { IfOk result (λ turn. RestsSound turn effects.old kept.new effects.new) }
     ensures keeps { OnOk result (Leaves kept.old kept.new) }
 {
     let mut rebuild = rebuild;
-    let step = rebuild.feed(alloc, kept, heard, moved.nonce)?;
-    comes_to(alloc, kept, moved, rebuild, step)
+    let step = rebuild.feed(alloc, kept, heard, effects.nonce)?;
+    comes_to(alloc, kept, effects, rebuild, step)
 }
 
 // Its first piece is written.
 fn filled_in(
     alloc: Global,
     kept: &mut Kept,
-    moved: &mut Moved,
+    effects: &mut Effects,
     rebuild: Rebuild,
 ) -> Result<Turn, Memory>
     requires sound { IsSound kept.old }
-    requires low { moved.old.nonce < 2 ^ 63 }
+    requires low { effects.old.nonce < 2 ^ 63 }
     requires fill { CanFill kept.old rebuild.target rebuild.todo }
     ensures turn { IfOk result (λ turn. Turns (λ g. filled_in g rebuild.target rebuild.todo)
-        kept.old moved.old turn kept.new moved.new) }
-    ensures sound { IfOk result (λ turn. RestsSound turn moved.old kept.new moved.new) }
+        kept.old effects.old turn kept.new effects.new) }
+    ensures sound { IfOk result (λ turn. RestsSound turn effects.old kept.new effects.new) }
     ensures keeps { OnOk result (Leaves kept.old kept.new) }
 {
     let mut rebuild = rebuild;
-    let step = rebuild.stored(alloc, kept, moved.nonce)?;
-    comes_to(alloc, kept, moved, rebuild, step)
+    let step = rebuild.stored(alloc, kept, effects.nonce)?;
+    comes_to(alloc, kept, effects, rebuild, step)
 }
 
 // What it sent for its first piece is answered.
 pub fn answered(
     alloc: Global,
     kept: &mut Kept,
-    moved: &mut Moved,
+    effects: &mut Effects,
     rebuild: Rebuild,
     heard: &[Heard],
 ) -> Result<Turn, Memory>
     requires sound { IsSound kept.old }
-    requires low { moved.old.nonce < 2 ^ 63 }
+    requires low { effects.old.nonce < 2 ^ 63 }
     requires fits { Fits kept.old (length heard.now) (fill_work_of rebuild) }
     ensures turn { IfOk result (λ turn. (kind : AJobKind) → Turns (goes_on kind (fill_work_of rebuild) heard.now)
-        kept.old moved.old turn kept.new moved.new) }
-    ensures sound { IfOk result (λ turn. RestsSound turn moved.old kept.new moved.new) }
+        kept.old effects.old turn kept.new effects.new) }
+    ensures sound { IfOk result (λ turn. RestsSound turn effects.old kept.new effects.new) }
     ensures keeps { OnOk result (Leaves kept.old kept.new) }
 {
     match rebuild.stage() {
-        FillStage::Gathering => gathered(alloc, kept, moved, rebuild, heard),
-        FillStage::Filling => filled_in(alloc, kept, moved, rebuild),
+        FillStage::Gathering => gathered(alloc, kept, effects, rebuild, heard),
+        FillStage::Filling => filled_in(alloc, kept, effects, rebuild),
     }
 }

@@ -12,14 +12,14 @@ ghost use Rattle.file_jobs.specs.Works.{sends};
 use crate::awaited::{Gone, again_in_2, forget, renew};
 use crate::going_on::{loses, waits_or_on};
 use crate::job::{RunningJob, Turn};
-use crate::moved::{note, send};
+use crate::effects::{note, send};
 use crate::rebuilding::{ends, target_of};
 use crate::standing::lose;
 use osd_bytes::{Bytes, Memory};
 use osd_capability::FORMAT_SHA256;
 use osd_commands::{Action, Reply};
 use server_rules::{
-    Awaited, AwaitedCommands, EXISTS, Heard, Kept, Moved, NO_SPACE, NoteKind, OLD_FORMAT,
+    Awaited, AwaitedCommands, EXISTS, Heard, Kept, Effects, NO_SPACE, NoteKind, OLD_FORMAT,
     OTHER_TAG, PERFORMED,
 };
 use std::alloc::Global;
@@ -71,40 +71,40 @@ fn hearing(kept: &Kept, awaited: &Awaited, reply: &Reply) -> ReplyKind
 // The command at that place goes again in format 2, and stands in the place of the former.
 fn goes_again(
     alloc: Global,
-    moved: &mut Moved,
+    effects: &mut Effects,
     awaited: &mut AwaitedCommands,
     place: usize,
 ) -> Result<(), Memory>
     requires place { place < length awaited.old }
-    requires low { moved.old.nonce < 2 ^ 63 }
+    requires low { effects.old.nonce < 2 ^ 63 }
     ensures many { OnOk result (length awaited.new ≡ length awaited.old) }
-    ensures sent { OnOk result ((a : AnAwaited) → slice_get awaited.old place ≡ Some a → moved.new ≡ sends moved.old (again_in_2 a moved.old.nonce ∷ [])) }
-    ensures left { OnOk result ((a : AnAwaited) → slice_get awaited.old place ≡ Some a → awaited.new ≡ map (renewed a (again_in_2 a moved.old.nonce)) awaited.old) }
+    ensures sent { OnOk result ((a : AnAwaited) → slice_get awaited.old place ≡ Some a → effects.new ≡ sends effects.old (again_in_2 a effects.old.nonce ∷ [])) }
+    ensures left { OnOk result ((a : AnAwaited) → slice_get awaited.old place ≡ Some a → awaited.new ≡ map (renewed a (again_in_2 a effects.old.nonce)) awaited.old) }
 {
     let former = awaited.get(place).command.nonce;
-    let again = again_in_2(alloc, awaited.get(place), moved.nonce)?;
+    let again = again_in_2(alloc, awaited.get(place), effects.nonce)?;
     renew(alloc, awaited, former, &again)?;
-    send(alloc, moved, &again)
+    send(alloc, effects, &again)
 }
 
 // Format 2 from now on, and the command again.
 fn renews(
     alloc: Global,
     kept: &mut Kept,
-    moved: &mut Moved,
+    effects: &mut Effects,
     job: RunningJob,
     place: usize,
 ) -> Result<Turn, Memory>
     requires place { place < length job.awaited }
-    requires low { moved.old.nonce < 2 ^ 63 }
+    requires low { effects.old.nonce < 2 ^ 63 }
     requires job { IsSoundJob kept.old job }
     ensures turn { IfOk result (λ turn. TurnsAt (λ g a. renews g job a) job.awaited place
-        kept.old moved.old turn kept.new moved.new) }
-    ensures sound { IfOk result (λ turn. RestsSound turn moved.old kept.new moved.new) }
+        kept.old effects.old turn kept.new effects.new) }
+    ensures sound { IfOk result (λ turn. RestsSound turn effects.old kept.new effects.new) }
     ensures keeps { OnOk result (Leaves kept.old kept.new) }
 {
     let mut job = job;
-    goes_again(alloc, moved, &mut job.awaited, place)?;
+    goes_again(alloc, effects, &mut job.awaited, place)?;
     kept.format = FORMAT_SHA256;
     Ok(Turn::Rests(job))
 }
@@ -113,52 +113,52 @@ fn renews(
 fn goes_without(
     alloc: Global,
     kept: &mut Kept,
-    moved: &mut Moved,
+    effects: &mut Effects,
     job: RunningJob,
     place: usize,
 ) -> Result<Turn, Memory>
     requires sound { IsSound kept.old }
     requires place { place < length job.awaited }
-    requires low { moved.old.nonce < 2 ^ 63 }
+    requires low { effects.old.nonce < 2 ^ 63 }
     requires job { IsSoundJob kept.old job }
     requires target { target_in job.work ≡ None }
     ensures turn { IfOk result (λ turn. TurnsAt (λ g a. fills_up g job a job.work) job.awaited place
-        kept.old moved.old turn kept.new moved.new) }
-    ensures sound { IfOk result (λ turn. RestsSound turn moved.old kept.new moved.new) }
+        kept.old effects.old turn kept.new effects.new) }
+    ensures sound { IfOk result (λ turn. RestsSound turn effects.old kept.new effects.new) }
     ensures keeps { OnOk result (Leaves kept.old kept.new) }
 {
     let mut job = job;
     let component = job.awaited.get(place).component;
     let nonce = job.awaited.get(place).command.nonce;
     kept.components = lose(alloc, kept.components.as_slice(), component)?;
-    note(moved, kept.number, NoteKind::NoSpace { component })?;
+    note(effects, kept.number, NoteKind::NoSpace { component })?;
     forget(&mut job.awaited, Gone::Nonce { nonce });
-    loses(alloc, kept, moved, job)
+    loses(alloc, kept, effects, job)
 }
 
 // The drive of a component has no space: a rebuild's target ends, any other component becomes missing.
 fn fills_up(
     alloc: Global,
     kept: &mut Kept,
-    moved: &mut Moved,
+    effects: &mut Effects,
     job: RunningJob,
     place: usize,
 ) -> Result<Turn, Memory>
     requires sound { IsSound kept.old }
     requires place { place < length job.awaited }
-    requires low { moved.old.nonce < 2 ^ 63 }
+    requires low { effects.old.nonce < 2 ^ 63 }
     requires job { IsSoundJob kept.old job }
     ensures turn { IfOk result (λ turn. TurnsAt (λ g a. fills_up g job a job.work) job.awaited place
-        kept.old moved.old turn kept.new moved.new) }
-    ensures sound { IfOk result (λ turn. RestsSound turn moved.old kept.new moved.new) }
+        kept.old effects.old turn kept.new effects.new) }
+    ensures sound { IfOk result (λ turn. RestsSound turn effects.old kept.new effects.new) }
     ensures keeps { OnOk result (Leaves kept.old kept.new) }
 {
     match target_of(&job.work) {
         Some(target) => {
             let component = target.component;
-            ends(kept, moved, target, NoteKind::NoSpace { component })
+            ends(kept, effects, target, NoteKind::NoSpace { component })
         }
-        None => goes_without(alloc, kept, moved, job, place),
+        None => goes_without(alloc, kept, effects, job, place),
     }
 }
 
@@ -180,46 +180,46 @@ fn hear(alloc: Global, job: &mut RunningJob, place: usize, reply: &Reply) -> Res
 fn answers(
     alloc: Global,
     kept: &mut Kept,
-    moved: &mut Moved,
+    effects: &mut Effects,
     job: RunningJob,
     place: usize,
     reply: &Reply,
 ) -> Result<Turn, Memory>
     requires sound { IsSound kept.old }
     requires place { place < length job.awaited }
-    requires low { moved.old.nonce < 2 ^ 63 }
+    requires low { effects.old.nonce < 2 ^ 63 }
     requires job { IsSoundJob kept.old job }
     ensures turn { IfOk result (λ turn. TurnsAt (λ g a. hears g job a reply.now IsDone) job.awaited place
-        kept.old moved.old turn kept.new moved.new) }
-    ensures sound { IfOk result (λ turn. RestsSound turn moved.old kept.new moved.new) }
+        kept.old effects.old turn kept.new effects.new) }
+    ensures sound { IfOk result (λ turn. RestsSound turn effects.old kept.new effects.new) }
     ensures keeps { OnOk result (Leaves kept.old kept.new) }
 {
     let mut job = job;
     hear(alloc, &mut job, place, reply)?;
-    waits_or_on(alloc, kept, moved, job)
+    waits_or_on(alloc, kept, effects, job)
 }
 
 // A reply to the command at that place.
 pub fn hears(
     alloc: Global,
     kept: &mut Kept,
-    moved: &mut Moved,
+    effects: &mut Effects,
     job: RunningJob,
     place: usize,
     reply: &Reply,
 ) -> Result<Turn, Memory>
     requires sound { IsSound kept.old }
     requires place { place < length job.awaited }
-    requires low { moved.old.nonce < 2 ^ 63 }
+    requires low { effects.old.nonce < 2 ^ 63 }
     requires job { IsSoundJob kept.old job }
-    ensures turn { IfOk result (λ turn. Hears job reply.now place kept.old moved.old turn kept.new moved.new) }
-    ensures sound { IfOk result (λ turn. RestsSound turn moved.old kept.new moved.new) }
+    ensures turn { IfOk result (λ turn. Hears job reply.now place kept.old effects.old turn kept.new effects.new) }
+    ensures sound { IfOk result (λ turn. RestsSound turn effects.old kept.new effects.new) }
     ensures keeps { OnOk result (Leaves kept.old kept.new) }
 {
     match hearing(kept, job.awaited.get(place), reply) {
-        ReplyKind::Older => renews(alloc, kept, moved, job, place),
-        ReplyKind::Full => fills_up(alloc, kept, moved, job, place),
-        ReplyKind::Done => answers(alloc, kept, moved, job, place, reply),
+        ReplyKind::Older => renews(alloc, kept, effects, job, place),
+        ReplyKind::Full => fills_up(alloc, kept, effects, job, place),
+        ReplyKind::Done => answers(alloc, kept, effects, job, place, reply),
         ReplyKind::Nothing => Ok(Turn::Rests(job)),
     }
 }

@@ -11,7 +11,7 @@ use crate::job::{RunningJob, Turn};
 use crate::placing::places;
 use crate::whole::job_of;
 use osd_bytes::{Memory, Numbers};
-use server_rules::{JobKind, Kept, Moved};
+use server_rules::{JobKind, Kept, Effects};
 use std::alloc::Global;
 use stripe_repair::{DriveLoad, Placer};
 
@@ -19,7 +19,7 @@ use stripe_repair::{DriveLoad, Placer};
 fn mended<F>(
     alloc: Global,
     kept: &Kept,
-    moved: &mut Moved,
+    effects: &mut Effects,
     kind: JobKind,
     loads: &[DriveLoad],
     placer: &Placer<F>,
@@ -30,19 +30,19 @@ where
     requires different { AreDifferent (drives_of loads.now) }
     requires placer { IsPlacer F.Fn placer.now }
     requires sound { IsSound kept.now }
-    requires low { moved.old.nonce < 2 ^ 63 }
-    requires objects { moved.old.object < 2 ^ 63 }
-    ensures job { IfOk result (λ job. Settles (IsMended kind) loads.now kept.now moved.old job moved.new) }
+    requires low { effects.old.nonce < 2 ^ 63 }
+    requires objects { effects.old.object < 2 ^ 63 }
+    ensures job { IfOk result (λ job. Settles (IsMended kind) loads.now kept.now effects.old job effects.new) }
     ensures sound { IfOk result (HasSoundJob kept.now) }
 {
     match kind {
         JobKind::Making | JobKind::Revoking => Ok(None),
         JobKind::Rebuilding => {
-            let turn = places(alloc, kept, moved, 0, loads, placer)?;
+            let turn = places(alloc, kept, effects, 0, loads, placer)?;
             Ok(job_of(turn))
         }
         JobKind::Auditing => {
-            let turn = audit_begins(alloc, kept, moved)?;
+            let turn = audit_begins(alloc, kept, effects)?;
             Ok(job_of(turn))
         }
     }
@@ -52,7 +52,7 @@ where
 pub fn settle<F>(
     alloc: Global,
     kept: &Kept,
-    moved: &mut Moved,
+    effects: &mut Effects,
     turn: Turn,
     loads: &[DriveLoad],
     placer: &Placer<F>,
@@ -63,16 +63,16 @@ where
     requires different { AreDifferent (drives_of loads.now) }
     requires placer { IsPlacer F.Fn placer.now }
     requires sound { IsSound kept.now }
-    requires turn { RestsLow turn kept.now moved.old }
-    ensures job { IfOk result (λ job. Settles turn loads.now kept.now moved.old job moved.new) }
+    requires turn { RestsLow turn kept.now effects.old }
+    ensures job { IfOk result (λ job. Settles turn loads.now kept.now effects.old job effects.new) }
     ensures sound { IfOk result (HasSoundJob kept.now) }
 {
     match turn {
         Turn::Over => Ok(None),
         Turn::Rests(job) => Ok(Some(job)),
-        Turn::Mended { kind } => mended(alloc, kept, moved, kind, loads, placer),
+        Turn::Mended { kind } => mended(alloc, kept, effects, kind, loads, placer),
         Turn::Places { from } => {
-            let turn = places(alloc, kept, moved, from, loads, placer)?;
+            let turn = places(alloc, kept, effects, from, loads, placer)?;
             Ok(job_of(turn))
         }
     }

@@ -3,7 +3,7 @@ ghost use Rattle.std.specs.Prelude.{[], ◌≡◌, ◌<◌, ◌≤◌, ◌^◌, 
 ghost use Rattle.server_rules.specs.declared.files.Kept.{Kept};
 ghost use Rattle.server_rules.specs.declared.jobs.JobKind.TheVariants.{Revoking};
 ghost use Rattle.server_rules.specs.declared.limits.TheConstants.{GREATEST_TAG};
-ghost use Rattle.server_rules.specs.declared.server.Moved.{Moved as AMoved};
+ghost use Rattle.server_rules.specs.declared.server.Effects.{Effects as AMoved};
 ghost use Rattle.server_rules.specs.Jobs.{fence_begins, making};
 ghost use Rattle.stripe_repair.specs.Placing.{AreDifferent, IsPlacer, drives_of};
 ghost use Rattle.stripe_repair.specs.declared.loads.TheConstants.{MAX_DRIVES};
@@ -14,7 +14,7 @@ use crate::fencing::{fence_begins, making};
 use crate::job::{FileState, RunningJob, Turn};
 use crate::settling::settle;
 use osd_bytes::{Memory, Numbers};
-use server_rules::{JobKind, Moved};
+use server_rules::{JobKind, Effects};
 use std::alloc::Global;
 use stripe_repair::{DriveLoad, Placer};
 
@@ -47,15 +47,15 @@ fn job_after(turn: Turn) -> Option<RunningJob>
 /// # Errors
 ///
 /// Want of memory alone.
-pub fn make(alloc: Global, file: &mut FileState, moved: &mut Moved) -> Result<(), Memory>
+pub fn make(alloc: Global, file: &mut FileState, effects: &mut Effects) -> Result<(), Memory>
     requires sound { IsSound file.old.kept }
     requires alone { file.old.kept.grants ≡ [] }
-    requires low { moved.old.nonce < 2 ^ 63 }
-    ensures steps { OnOk result (Steps making file.old moved.old file.new moved.new) }
+    requires low { effects.old.nonce < 2 ^ 63 }
+    ensures steps { OnOk result (Steps making file.old effects.old file.new effects.new) }
     ensures keeps { OnOk result (Leaves file.old.kept file.new.kept) }
     ensures sound { OnOk result (IsSoundFile file.new) }
 {
-    let turn = making(alloc, &mut file.kept, moved)?;
+    let turn = making(alloc, &mut file.kept, effects)?;
     file.job = job_of(turn);
     Ok(())
 }
@@ -69,17 +69,17 @@ pub fn make(alloc: Global, file: &mut FileState, moved: &mut Moved) -> Result<()
 pub fn revoke(
     alloc: Global,
     file: &mut FileState,
-    moved: &mut Moved,
+    effects: &mut Effects,
     format: u8,
 ) -> Result<(), Memory>
     requires sound { IsSound file.old.kept }
-    requires low { moved.old.nonce < 2 ^ 63 }
+    requires low { effects.old.nonce < 2 ^ 63 }
     requires next { file.old.kept.tag < GREATEST_TAG }
-    ensures steps { OnOk result (Steps (fence_begins Revoking format) file.old moved.old file.new moved.new) }
+    ensures steps { OnOk result (Steps (fence_begins Revoking format) file.old effects.old file.new effects.new) }
     ensures keeps { OnOk result (Leaves file.old.kept file.new.kept) }
     ensures sound { OnOk result (IsSoundFile file.new) }
 {
-    let turn = fence_begins(alloc, &mut file.kept, moved, JobKind::Revoking, format)?;
+    let turn = fence_begins(alloc, &mut file.kept, effects, JobKind::Revoking, format)?;
     file.job = job_after(turn);
     Ok(())
 }
@@ -93,7 +93,7 @@ pub fn revoke(
 pub fn begin<F>(
     alloc: Global,
     file: &mut FileState,
-    moved: &mut Moved,
+    effects: &mut Effects,
     kind: JobKind,
     format: u8,
     loads: &[DriveLoad],
@@ -105,14 +105,14 @@ where
     requires different { AreDifferent (drives_of loads.now) }
     requires placer { IsPlacer F.Fn placer.now }
     requires sound { IsSound file.old.kept }
-    requires low { moved.old.nonce < 2 ^ 63 }
-    requires objects { moved.old.object < 2 ^ 63 }
+    requires low { effects.old.nonce < 2 ^ 63 }
+    requires objects { effects.old.object < 2 ^ 63 }
     requires next { file.old.kept.tag < GREATEST_TAG }
-    ensures steps { OnOk result (StepsOn (fence_begins kind format) loads.now file.old moved.old file.new moved.new) }
+    ensures steps { OnOk result (StepsOn (fence_begins kind format) loads.now file.old effects.old file.new effects.new) }
     ensures keeps { OnOk result (Leaves file.old.kept file.new.kept) }
     ensures sound { OnOk result (IsSoundFile file.new) }
 {
-    let turn = fence_begins(alloc, &mut file.kept, moved, kind, format)?;
-    file.job = settle(alloc, &file.kept, moved, turn, loads, placer)?;
+    let turn = fence_begins(alloc, &mut file.kept, effects, kind, format)?;
+    file.job = settle(alloc, &file.kept, effects, turn, loads, placer)?;
     Ok(())
 }

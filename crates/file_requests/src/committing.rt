@@ -1,5 +1,5 @@
 ghost use Rattle.std.specs.Prelude.{◌≡◌, None};
-ghost use Rattle.server_rules.specs.declared.server.Moved.{Moved as AMoved};
+ghost use Rattle.server_rules.specs.declared.server.Effects.{Effects as AMoved};
 ghost use Rattle.server_rules.specs.Commit.{commits};
 ghost use Rattle.file_jobs.specs.Sound.{IsSoundFile};
 ghost use Rattle.file_requests.specs.Serving.{Serves};

@@ -1,6 +1,6 @@
 ghost use Rattle.std.specs.Prelude.{◌≡◌, ◌↔◌, ℕ, List, IsTrue, IfOk, OnOk};
 ghost use Rattle.stripe_repair.specs.Placing.{IsPlacer};
-ghost use Rattle.server_rules.specs.Messages.{counters_low, handled};
+ghost use Rattle.server_rules.specs.Messages.{counters_have_room, handled};
 ghost use Rattle.server_rules.specs.Envelopes.{on_bytes};
 ghost use Rattle.server_rules.specs.Orders.{ordered, with_result};
 ghost use Rattle.server_requests.specs.Reading.{message_rule};
@@ -118,7 +118,7 @@ pub fn hear<F>(
 where
     F: Fn(u32, &[DriveLoad]) -> Result<Numbers, Memory>,
     requires good { IsGood state.old }
-    requires low { low ≡ counters_low (server_of state.old) }
+    requires low { low ≡ counters_have_room (server_of state.old) }
     requires room { IsTrue low ↔ HasRoom (server_of state.old) }
     requires placer { IsPlacer F.Fn placer.now }
     ensures did { IfOk result (λ out. (chosen : List ℕ) × Did out (server_of state.new)

@@ -7,7 +7,7 @@ ghost use Rattle.stripe_repair.specs.Placing.{IsPlacer};
 ghost use Rattle.server_rules.specs.Envelopes.{on_bytes};
 ghost use Rattle.server_rules.specs.Files.{file_at};
 ghost use Rattle.server_rules.specs.Making.{add_drive, new_server, set_format};
-ghost use Rattle.server_rules.specs.Messages.{counters_low, resend};
+ghost use Rattle.server_rules.specs.Messages.{counters_have_room, resend};
 ghost use Rattle.server_rules.specs.Orders.{ordered};
 ghost use Rattle.server_requests.specs.Sending.{all_sent};
 ghost use Rattle.server_state.specs.States.{server_of, Did, HasRoom, IsGood};
@@ -292,9 +292,9 @@ impl ServerCore {
     }
 
     /// Whether the counters of 64 bits have room: each is below 9,223,372,036,854,775,808.
-    #[tactic(auto, unfolding(server_rules::specs::Messages::counters_low))]
+    #[tactic(auto, unfolding(server_rules::specs::Messages::counters_have_room))]
     pub fn counters_low(&self) -> bool
-        ensures value { result ≡ counters_low self.now }
+        ensures value { result ≡ counters_have_room self.now }
         ensures room { IsTrue result ↔ HasRoom self.now }
     {
         let state = &self.state;

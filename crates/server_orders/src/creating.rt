@@ -211,10 +211,10 @@ where
     let drives = chosen_for(alloc, state, file.map.raw().comps, placer)?;
     let mut made = unmade(alloc, state, file, drives.as_slice())?;
     let object = state.next_object + drives.len() as u64;
-    let mut moved = begins(alloc, state.next_nonce, object);
-    make(alloc, &mut made, &mut moved)?;
+    let mut effects = begins(alloc, state.next_nonce, object);
+    make(alloc, &mut made, &mut effects)?;
     put(&mut state.files, file.number, made)?;
-    let step = settle(alloc, state, moved)?;
+    let step = settle(alloc, state, effects)?;
     list(state, file.number)?;
     Ok(step)
 }

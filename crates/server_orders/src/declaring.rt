@@ -15,7 +15,7 @@ use crate::orders::{Obeyed, unknown};
 use file_jobs::{FileState, declare as declare_at};
 use layout_ops::OrderResult;
 use osd_bytes::{Memory, Numbers};
-use server_rules::{COUNTERS_END, Drive, Moved};
+use server_rules::{COUNTERS_END, Drive, Effects};
 use server_state::{Drives, Files, State, Step, begins, list_all, settle};
 use std::alloc::Global;
 use std::mem;
@@ -58,7 +58,7 @@ pub fn put(files: &mut Files, number: u32, file: FileState) -> Result<(), Memory
 fn declare_each<F>(
     alloc: Global,
     files: &mut Files,
-    moved: &mut Moved,
+    effects: &mut Effects,
     drive: u32,
     loads: &[DriveLoad],
     placer: &Placer<F>,
@@ -69,14 +69,14 @@ where
     requires different { AreDifferent (drives_of loads.now) }
     requires placer { IsPlacer F.Fn placer.now }
     requires files { AreEntries files.old.entries }
-    ensures { OnOk result (Declares drive loads.now files.old.entries moved.old files.new.entries moved.new) }
+    ensures { OnOk result (Declares drive loads.now files.old.entries effects.old files.new.entries effects.new) }
 {
     let left = mem::replace(files, Files::new(alloc));
     for (number, mut file) in left {
-        if moved.nonce >= COUNTERS_END || moved.object >= COUNTERS_END {
+        if effects.nonce >= COUNTERS_END || effects.object >= COUNTERS_END {
             return Err(Memory);
         }
-        declare_at(alloc, &mut file, moved, drive, loads, placer)?;
+        declare_at(alloc, &mut file, effects, drive, loads, placer)?;
         put(files, number, file)?;
     }
     Ok(())
@@ -100,9 +100,9 @@ where
     state.drives = offline(alloc, state.drives.as_slice(), drive)?;
     let loads = loads_of(alloc, state)?;
     let loads = loads.as_slice();
-    let mut moved = begins(alloc, state.next_nonce, state.next_object);
-    declare_each(alloc, &mut state.files, &mut moved, drive, loads, placer)?;
-    let step = settle(alloc, state, moved)?;
+    let mut effects = begins(alloc, state.next_nonce, state.next_object);
+    declare_each(alloc, &mut state.files, &mut effects, drive, loads, placer)?;
+    let step = settle(alloc, state, effects)?;
     list_all(alloc, state)?;
     Ok(step)
 }

@@ -20,7 +20,7 @@ use file_requests::waits;
 use layout_ops::OrderResult;
 use osd_bytes::{Memory, Numbers};
 use server_requests::{Sends, send_recalls};
-use server_rules::{GREATEST_TAG, Grant, JobKind, Moved, NoteKind};
+use server_rules::{GREATEST_TAG, Grant, JobKind, Effects, NoteKind};
 use server_state::{Files, State, Step, begins, list, only_sends, settle, unlist};
 use std::alloc::Global;
 use stripe_repair::{DriveLoad, Placer};
@@ -81,7 +81,7 @@ pub fn order_recall(alloc: Global, state: &mut State, number: u32) -> Result<Obe
 fn begin_at<F>(
     alloc: Global,
     file: &mut FileState,
-    moved: &mut Moved,
+    effects: &mut Effects,
     kind: JobKind,
     format: u8,
     loads: &[DriveLoad],
@@ -93,21 +93,21 @@ where
     requires different { AreDifferent (drives_of loads.now) }
     requires placer { IsPlacer F.Fn placer.now }
     requires sound { IsSoundFile file.old }
-    requires low { moved.old.nonce < 2 ^ 63 }
-    requires objects { moved.old.object < 2 ^ 63 }
+    requires low { effects.old.nonce < 2 ^ 63 }
+    requires objects { effects.old.object < 2 ^ 63 }
     ensures begun { IfOk result (λ r.
-        Begins (begun kind format file.old.job) loads.now file.old moved.old r file.new moved.new) }
+        Begins (begun kind format file.old.job) loads.now file.old effects.old r file.new effects.new) }
     ensures leaves { OnOk result (LeavesFile file.old file.new) }
 {
     if let Some(component) = waits(file) {
-        note(moved, file.kept.number, NoteKind::Busy { component })?;
+        note(effects, file.kept.number, NoteKind::Busy { component })?;
         return Ok(OrderResult::Busy);
     }
     if file.kept.tag == GREATEST_TAG {
-        note(moved, file.kept.number, NoteKind::Spent)?;
+        note(effects, file.kept.number, NoteKind::Spent)?;
         return Ok(OrderResult::Spent);
     }
-    begin(alloc, file, moved, kind, format, loads, placer)?;
+    begin(alloc, file, effects, kind, format, loads, placer)?;
     Ok(OrderResult::Started)
 }
 
@@ -115,7 +115,7 @@ where
 fn begin_in<F>(
     alloc: Global,
     files: &mut Files,
-    moved: &mut Moved,
+    effects: &mut Effects,
     number: u32,
     kind: JobKind,
     format: u8,
@@ -128,14 +128,14 @@ where
     requires different { AreDifferent (drives_of loads.now) }
     requires placer { IsPlacer F.Fn placer.now }
     requires files { AreEntries files.old.entries }
-    requires low { moved.old.nonce < 2 ^ 63 }
-    requires objects { moved.old.object < 2 ^ 63 }
+    requires low { effects.old.nonce < 2 ^ 63 }
+    requires objects { effects.old.object < 2 ^ 63 }
     ensures { IfOk result (λ r.
-        BegunIn kind format loads.now number files.old.entries moved.old r files.new.entries moved.new) }
+        BegunIn kind format loads.now number files.old.entries effects.old r files.new.entries effects.new) }
 {
     match files.get_mut(&number) {
         Some(file) => {
-            let result = begin_at(alloc, file, moved, kind, format, loads, placer)?;
+            let result = begin_at(alloc, file, effects, kind, format, loads, placer)?;
             Ok(Some(result))
         }
         None => Ok(None),
@@ -163,15 +163,15 @@ where
         (starts (server_of state.old) chosen kind (file_at (server_of state.old).files number))) }
     ensures good { OnOk result (IsGoodBut number state.new) }
 {
-    let mut moved = begins(alloc, state.next_nonce, state.next_object);
+    let mut effects = begins(alloc, state.next_nonce, state.next_object);
     let format = state.format;
     let files = &mut state.files;
     let begun = begin_in(
-        alloc, files, &mut moved, number, kind, format, loads, placer,
+        alloc, files, &mut effects, number, kind, format, loads, placer,
     )?;
     match begun {
         Some(result) => {
-            let step = settle(alloc, state, moved)?;
+            let step = settle(alloc, state, effects)?;
             Ok(Obeyed { step, result })
         }
         None => Ok(unknown(alloc)),

@@ -15,7 +15,7 @@ use file_jobs::on_reply;
 use osd_bytes::{Memory, Numbers};
 use osd_commands::Reply;
 use server_requests::Sends;
-use server_rules::Moved;
+use server_rules::Effects;
 use server_state::{Files, State, Step, begins, list, only_sends, settle, unlist};
 use std::alloc::Global;
 use stripe_repair::{DriveLoad, Placer};
@@ -41,7 +41,7 @@ fn awaiting(state: &State, drive: u32, reply: &Reply) -> Option<u32>
 fn hear_in<F>(
     alloc: Global,
     files: &mut Files,
-    moved: &mut Moved,
+    effects: &mut Effects,
     number: u32,
     drive: u32,
     reply: &Reply,
@@ -54,13 +54,13 @@ where
     requires different { AreDifferent (drives_of loads.now) }
     requires placer { IsPlacer F.Fn placer.now }
     requires files { AreEntries files.old.entries }
-    requires low { moved.old.nonce < 2 ^ 63 }
-    requires objects { moved.old.object < 2 ^ 63 }
+    requires low { effects.old.nonce < 2 ^ 63 }
+    requires objects { effects.old.object < 2 ^ 63 }
     ensures { OnOk result
-        (HeardIn loads.now drive reply.now number files.old.entries moved.old files.new.entries moved.new) }
+        (HeardIn loads.now drive reply.now number files.old.entries effects.old files.new.entries effects.new) }
 {
     if let Some(file) = files.get_mut(&number) {
-        on_reply(alloc, file, moved, drive, reply, loads, placer)?;
+        on_reply(alloc, file, effects, drive, reply, loads, placer)?;
     }
     Ok(())
 }
@@ -88,12 +88,12 @@ where
         (on_drive_reply (server_of state.old) chosen drive reply.now)) }
     ensures good { OnOk result (IsGoodBut number state.new) }
 {
-    let mut moved = begins(alloc, state.next_nonce, state.next_object);
+    let mut effects = begins(alloc, state.next_nonce, state.next_object);
     let files = &mut state.files;
     hear_in(
-        alloc, files, &mut moved, number, drive, reply, loads, placer,
+        alloc, files, &mut effects, number, drive, reply, loads, placer,
     )?;
-    settle(alloc, state, moved)
+    settle(alloc, state, effects)
 }
 
 // The same, with what its job awaits and where its components stand from then on.

@@ -45,7 +45,7 @@ tallied f p t = record t { short = short_with f p t.short }
 unfoldable pub audits : Going → List Piece → Tally → Going
 audits g [] t = audited g t
 audits g (p ∷ ps) t =
-    rests_or (reads g.file.kept p g.moved.nonce) g Auditing (Checks (p ∷ ps) (tallied g.file.kept p t))
+    rests_or (reads g.file.kept p g.effects.nonce) g Auditing (Checks (p ∷ ps) (tallied g.file.kept p t))
     (audits g ps (tallied g.file.kept p t))
 
 -- the rows of a piece are read
@@ -61,4 +61,4 @@ audits_all g heard = audits g (pieces_along g.file.kept.map.unit 0 g.file.kept.h
 
 -- it begins
 unfoldable pub audit_begins : Going → Going
-audit_begins g = rests_or (to_all g.file.kept All Measuring g.moved.nonce) g Auditing Lengths (audits_all g [])
+audit_begins g = rests_or (to_all g.file.kept All Measuring g.effects.nonce) g Auditing Lengths (audits_all g [])

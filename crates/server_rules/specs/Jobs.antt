@@ -16,7 +16,7 @@ is_made g = over (noting (keeping g (record g.file.kept { ready = true })) Ready
 
 -- its present components are made
 unfoldable pub making : Going → Going
-making g = rests_or (to_all g.file.kept All Creating g.moved.nonce) g Making Creates (is_made g)
+making g = rests_or (to_all g.file.kept All Creating g.effects.nonce) g Making Creates (is_made g)
 
 -- ---- the fence
 
@@ -44,7 +44,7 @@ fenced kind g =
 
 -- the present components are sent the next tag
 abbrev pub fences : JobKind → Going → Going
-fences kind g = rests_or (to_all g.file.kept All Raising g.moved.nonce) g kind Fences (fenced kind g)
+fences kind g = rests_or (to_all g.file.kept All Raising g.effects.nonce) g kind Fences (fenced kind g)
 
 -- a fence starts
 unfoldable pub fence_begins : JobKind → (format : ℕ) → Going → Going

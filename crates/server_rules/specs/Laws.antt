@@ -11,7 +11,7 @@ use Rattle.server_rules.specs.Going.{Going}
 use Rattle.server_rules.specs.Slots.{Admit, New, Again, Misordered, slot_of, admit, keep}
 use Rattle.server_rules.specs.Files.{file_at, put_file}
 use Rattle.server_rules.specs.Requests.{only_answers, on_request}
-use Rattle.server_rules.specs.Messages.{Message, Asks, Orders, counters_low}
+use Rattle.server_rules.specs.Messages.{Message, Asks, Orders, counters_have_room}
 use Rattle.server_rules.specs.Making.{new_server}
 use Rattle.server_rules.specs.History.{Input, Hears, Obeys, Crashes, Opens, Act, step, state_after}
 
@@ -133,7 +133,7 @@ where_new (Misordered expected) n = []
 
 -- the message is taken as a request of that client
 abbrev pub is_taken_of : Server → (client from : ℕ) → ClientRequest → Bool
-is_taken_of s client from q = (from == client) && (counters_low s && ((q.client == from) && nat_le from MAX_CLIENT))
+is_taken_of s client from q = (from == client) && (counters_have_room s && ((q.client == from) && nat_le from MAX_CLIENT))
 
 -- the sequence number of the client's request that is carried out for this message, if any
 abbrev pub carried_for : Server → (client : ℕ) → Node → Message → List ℕ

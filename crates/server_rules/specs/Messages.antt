@@ -11,8 +11,8 @@ use Rattle.server_rules.specs.Requests.{on_request}
 use Rattle.server_rules.specs.Orders.{ordered, with_result}
 
 -- the counters of 64 bits have room
-unfoldable pub counters_low : Server → Bool
-counters_low s =
+unfoldable pub counters_have_room : Server → Bool
+counters_have_room s =
     nat_lt s.next_nonce COUNTERS_END && (nat_lt s.next_object COUNTERS_END && nat_lt s.next_recall COUNTERS_END)
 
 -- ---- a drive's reply
@@ -54,7 +54,7 @@ handled s now chosen from message = still s
 
 -- any message; none is taken while the counters are high
 unfoldable pub on_message : Server → (now : ℕ) → (chosen : List ℕ) → Node → Message → Step
-on_message s now chosen from message = if counters_low s then handled s now chosen from message else still s
+on_message s now chosen from message = if counters_have_room s then handled s now chosen from message else still s
 
 -- ---- what is awaited, once more
 

@@ -41,7 +41,7 @@ AreInside ranges = All (λ r. r.end ≤ MAX_FILE_SIZE) ranges
 -- a step in the middle, of a file of which this is kept, with this next nonce
 pub record IsAt (f : Kept) (next : ℕ) (g : Going) : Type 0 where
   pub kept : g.file.kept ≡ f
-  pub nonce : g.moved.nonce ≡ next
+  pub nonce : g.effects.nonce ≡ next
 
 -- a repair that sends these commands and rests, or is over where there are none
 abbrev pub rests_repairing : List Awaited → Going → JobKind → RepairState → Going

@@ -20,7 +20,7 @@ pub declared-requires-clause-sound : goal.declared-requires-clause-sound
 declared-requires-clause-sound g c = sound_off c.args.file.now.kept c.in_ok-file.field-0 c.args.drive (rw c.as_slice-2.ensures at c.in_ok-file.ensures) c.requires.sound.kept
 
 pub settle-requires-clause-turn : goal.settle-requires-clause-turn
-settle-requires-clause-turn g c = sound_low c.in_ok-turn.turn c.args.moved.now c.declared.new.moved c.declared.new.kept c.requires.low c.requires.objects c.in_ok-turn.ensures.sound
+settle-requires-clause-turn g c = sound_low c.in_ok-turn.turn c.args.effects.now c.declared.new.effects c.declared.new.kept c.requires.low c.requires.objects c.in_ok-turn.ensures.sound
 
 pub returns-clause-keeps : goal.returns-clause-keeps
 returns-clause-keeps g c = record {
@@ -54,10 +54,10 @@ returns-clause-steps g c =
       | else-not-any_on-via-then-not-any_on+else-not-has_target w ↦ or_right _ _ (sym w.has_target.ensures ∙ w.if-not-has_target.false)
       | else-not-any_on-via-else-not-any_on w ↦ or_left _ _ (sym (rw c.as_slice.ensures at c.any_on.ensures) ∙ w.if-not-any_on.false)
     ] in
-    settled_steps (λ g. declares g c.args.drive) c.in_ok-turn.turn c.args.loads.now f c.args.moved.now c.declared.new.moved c.settle.new.moved c.declared.new.kept c.in_ok-file-2.field-0
+    settled_steps (λ g. declares g c.args.drive) c.in_ok-turn.turn c.args.loads.now f c.args.effects.now c.declared.new.effects c.settle.new.effects c.declared.new.kept c.in_ok-file-2.field-0
     (λ a h.
     c.in_ok-turn.ensures.turn a (h ∙ e)
-    ∙ declares_is (record { kept = f.kept; spent = a.spent; job = a.job }) c.args.moved.now a.drives a.chosen c.args.drive c.in_ok-file.field-0 c.in-Some.job (rw h there) (rw c.as_slice-2.ensures at c.in_ok-file.ensures) (h ∙ e))
+    ∙ declares_is (record { kept = f.kept; spent = a.spent; job = a.job }) c.args.effects.now a.drives a.chosen c.args.drive c.in_ok-file.field-0 c.in-Some.job (rw h there) (rw c.as_slice-2.ensures at c.in_ok-file.ensures) (h ∙ e))
     c.in_ok-file-2.ensures.job
 
 pub returns-clause-sound : goal.returns-clause-sound

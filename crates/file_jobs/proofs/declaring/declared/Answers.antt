@@ -28,7 +28,7 @@ pub returns-in-None-clause-turn : goal.returns-in-None-clause-turn
 returns-in-None-clause-turn c =
     let j : Job = record { kind = c.job-in-None.inside.kind; work = work_of c.job-in-None.inside.work; awaited = c.job-in-None.inside.awaited; heard = c.job-in-None.inside.heard } in
     IfOk-weaker c.loses.result _ _ (λ turn h s e.
-    h s ∙ declared_is (going c.args.kept.now c.args.moved.now s) j c.forget.new.awaited (others_than c.args.drive c.job-in-None.inside.awaited) c.args.drive
+    h s ∙ declared_is (going c.args.kept.now c.args.effects.now s) j c.forget.new.awaited (others_than c.args.drive c.job-in-None.inside.awaited) c.args.drive
     (ap (λ (x : Job). target_in x.work) (c.job-in-None.view_is ∙ sym c.job.view_is) ∙ sym c.target_of.ensures ∙ c.in-None.is) c.forget.ensures
-    ∙ ap (λ (x : Job). loses (going c.args.kept.now c.args.moved.now s) x x.work (others_than c.args.drive x.awaited) (is_target x.work c.args.drive)) c.job-in-None.view_is)
+    ∙ ap (λ (x : Job). loses (going c.args.kept.now c.args.effects.now s) x x.work (others_than c.args.drive x.awaited) (is_target x.work c.args.drive)) c.job-in-None.view_is)
     c.loses.ensures.turn

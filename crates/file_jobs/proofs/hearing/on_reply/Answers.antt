@@ -7,7 +7,7 @@ use Rattle.file_jobs.proofs.Mends.{alone_of, alone_with, sound_low}
 use Rattle.file_jobs.proofs.hearing.on_reply.Goals as goal
 
 pub settle-requires-clause-turn : goal.settle-requires-clause-turn
-settle-requires-clause-turn g c = sound_low c.in_ok-turn.turn c.args.moved.now c.hears.new.moved c.hears.new.kept c.requires.low c.requires.objects c.in_ok-turn.ensures.sound
+settle-requires-clause-turn g c = sound_low c.in_ok-turn.turn c.args.effects.now c.hears.new.effects c.hears.new.kept c.requires.low c.requires.objects c.in_ok-turn.ensures.sound
 
 pub returns-clause-heard : goal.returns-clause-heard
 unfolding on_reply
@@ -17,7 +17,7 @@ returns-clause-heard g c = λ ds l.
       s.0,
       λ rest.
           let a : Around = record { spent = c.args.file.now.spent; job = c.args.file.now.job; drives = ds; chosen = rest } in
-          is_heard (at c.args.file.now c.args.moved.now ds (s.0 ++ rest)) c.args.drive c.args.reply.now c.args.file.now.job c.in-Some-take.job c.in-Some.place _ e c.in-Some.ensures.found
+          is_heard (at c.args.file.now c.args.effects.now ds (s.0 ++ rest)) c.args.drive c.args.reply.now c.args.file.now.job c.in-Some-take.job c.in-Some.place _ e c.in-Some.ensures.found
           (λ x f. s.1 a l ∙ c.in_ok-turn.ensures.turn x f (record a { chosen = s.0 ++ rest }) e),
     )
 

@@ -5,11 +5,11 @@ use Rattle.file_jobs.proofs.mending.rests_repairing.Goals as goal
 
 pub returns-then-is_empty-clause-turn : goal.returns-then-is_empty-clause-turn
 returns-then-is_empty-clause-turn c = λ a.
-    mends c.args.kind (going c.args.kept.now c.args.moved.now a) (going c.mended.new.kept c.mended.new.moved a) c.args.sends c.args.repair c.short.result.now
+    mends c.args.kind (going c.args.kept.now c.args.effects.now a) (going c.mended.new.kept c.mended.new.effects a) c.args.sends c.args.repair c.short.result.now
     (none_of c.is_empty.result c.args.sends c.is_empty.ensures c.if-is_empty.true) c.short.ensures (c.in_ok-mended.ensures.made a)
 
 pub returns-then-is_empty-clause-sound : goal.returns-then-is_empty-clause-sound
-returns-then-is_empty-clause-sound c = mended_stays c.args.kept.now c.mended.new.kept c.args.moved.now c.mended.new.moved c.short.result.now c.in_ok-mended.ensures.made
+returns-then-is_empty-clause-sound c = mended_stays c.args.kept.now c.mended.new.kept c.args.effects.now c.mended.new.effects c.short.result.now c.in_ok-mended.ensures.made
 
 pub returns-clause-sound : goal.returns-clause-sound
 returns-clause-sound c = IfOk-weaker c.rests.result _ _ (λ turn h. sound_from turn _ _ _ _ (fits_repair c.args.kept.now _ c.args.repair) h) c.rests.ensures.job

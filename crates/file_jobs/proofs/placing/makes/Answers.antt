@@ -7,7 +7,7 @@ use Rattle.file_jobs.proofs.placing.makes.Goals as goal
 
 pub returns-clause-turn : goal.returns-clause-turn
 returns-clause-turn c = IfOk-weaker c.rests.result _ _ (λ turn h.
-    made_on c.args.component c.args.drive c.args.kept.now c.args.moved.now c.rests.new.moved turn _
+    made_on c.args.component c.args.drive c.args.kept.now c.args.effects.now c.rests.new.effects turn _
     (c.in_ok-push.ensures.ok ∙ ap (λ xs. xs ++ (c.in_ok-sent_to.field-0 ∷ [])) c.new-creates.ensures ∙ ap (λ x. x ∷ []) c.in_ok-sent_to.ensures) h)
     c.rests.ensures.turn
 

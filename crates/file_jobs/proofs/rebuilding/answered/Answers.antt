@@ -15,10 +15,10 @@ filled_in-requires-clause-fill c = can_fill c.args.kept.now _ c.args.rebuild c.r
 
 pub returns-in-Gathering-clause-turn : goal.returns-in-Gathering-clause-turn
 returns-in-Gathering-clause-turn c = IfOk-weaker c.gathered.result _ _ (λ turn h kind a.
-    h a ∙ goes_gathered kind (going c.args.kept.now c.args.moved.now a) c.args.rebuild c.args.heard.now (sym c.stage.ensures ∙ c.in-Gathering.is))
+    h a ∙ goes_gathered kind (going c.args.kept.now c.args.effects.now a) c.args.rebuild c.args.heard.now (sym c.stage.ensures ∙ c.in-Gathering.is))
     c.gathered.ensures.turn
 
 pub returns-in-Filling-clause-turn : goal.returns-in-Filling-clause-turn
 returns-in-Filling-clause-turn c = IfOk-weaker c.filled_in.result _ _ (λ turn h kind a.
-    h a ∙ goes_filled kind (going c.args.kept.now c.args.moved.now a) c.args.rebuild c.args.heard.now (sym c.stage.ensures ∙ c.in-Filling.is))
+    h a ∙ goes_filled kind (going c.args.kept.now c.args.effects.now a) c.args.rebuild c.args.heard.now (sym c.stage.ensures ∙ c.in-Filling.is))
     c.filled_in.ensures.turn

@@ -15,6 +15,6 @@ returns-in_ok-push-in-Store-clause-sound c = IfOk-weaker c.rests-in-Store.result
 
 pub returns-in_ok-push-in-Store-clause-turn : goal.returns-in_ok-push-in-Store-clause-turn
 returns-in_ok-push-in-Store-clause-turn c = IfOk-weaker c.rests-in-Store.result _ _ (λ turn h a.
-    stores_is c.args.step c.args.kept.now c.args.moved.now c.rests-in-Store.new.moved turn c.args.rebuild c.in-Store.write _ c.in-Store.is
+    stores_is c.args.step c.args.kept.now c.args.effects.now c.rests-in-Store.new.effects turn c.args.rebuild c.in-Store.write _ c.in-Store.is
     (c.in_ok-push-in-Store.ensures.ok ∙ ap (λ xs. xs ++ (c.in-Store.write ∷ [])) c.new-writes.ensures) h a)
     c.rests-in-Store.ensures.turn

@@ -17,5 +17,5 @@ waits_or_on-requires-clause-job c =
 
 pub returns-clause-turn : goal.returns-clause-turn
 returns-clause-turn c = IfOk-weaker c.waits_or_on.result _ _ (λ turn h a e s.
-    h s ∙ answered_job (going c.args.kept.now c.args.moved.now s) c.args.job c.hear.new.job a c.args.reply.now (c.in_ok-hear.ensures a e))
+    h s ∙ answered_job (going c.args.kept.now c.args.effects.now s) c.args.job c.hear.new.job a c.args.reply.now (c.in_ok-hear.ensures a e))
     c.waits_or_on.ensures.turn

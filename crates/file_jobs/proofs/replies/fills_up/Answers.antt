@@ -12,7 +12,7 @@ ends-requires-clause-target c = target_fits c.args.kept.now _ c.args.job.work c.
 
 pub returns-in-Some-clause-turn : goal.returns-in-Some-clause-turn
 returns-in-Some-clause-turn c = IfOk-weaker c.ends.result _ _ (λ turn h a e s.
-    h s ∙ full_is (going c.args.kept.now c.args.moved.now s) c.args.job a c.args.job.work c.in-Some.target (ap (λ (x : Job). target_in x.work) (sym c.job.view_is) ∙ sym c.target_of.ensures ∙ c.in-Some.is))
+    h s ∙ full_is (going c.args.kept.now c.args.effects.now s) c.args.job a c.args.job.work c.in-Some.target (ap (λ (x : Job). target_in x.work) (sym c.job.view_is) ∙ sym c.target_of.ensures ∙ c.in-Some.is))
     c.ends.ensures.turn
 
 pub goes_without-requires-clause-target : goal.goes_without-requires-clause-target

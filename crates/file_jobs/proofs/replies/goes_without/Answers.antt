@@ -26,9 +26,9 @@ returns-clause-turn c =
     let j : Job = record { kind = c.job.inside.kind; work = work_of c.job.inside.work; awaited = c.job.inside.awaited; heard = c.job.inside.heard } in
     IfOk-weaker c.loses.result _ _ (λ turn h a e s.
     let at : slice_get c.job.inside.awaited c.args.place ≡ Some a = ap (λ (x : Job). slice_get x.awaited c.args.place) c.job.view_is ∙ e in
-    h s ∙ fills_is c.args.kept.now c.args.moved.now _ s j a c.get.result.now c.get-2.result.now c.in_ok-kept.field-0 c.forget.new.awaited (ap (λ (x : Job). target_in x.work) c.job.view_is ∙ c.requires.target)
+    h s ∙ fills_is c.args.kept.now c.args.effects.now _ s j a c.get.result.now c.get-2.result.now c.in_ok-kept.field-0 c.forget.new.awaited (ap (λ (x : Job). target_in x.work) c.job.view_is ∙ c.requires.target)
     (let x = c.get.ensures in cc (x, at)) (let y = c.get-2.ensures in cc (y, at)) (rw c.as_slice.ensures at c.in_ok-kept.ensures) c.forget.ensures c.in_ok-note.ensures
-    ∙ ap (λ (x : Job). fills_up (going c.args.kept.now c.args.moved.now s) x a x.work) c.job.view_is)
+    ∙ ap (λ (x : Job). fills_up (going c.args.kept.now c.args.effects.now s) x a x.work) c.job.view_is)
     c.loses.ensures.turn
 
 pub returns-clause-keeps : goal.returns-clause-keeps

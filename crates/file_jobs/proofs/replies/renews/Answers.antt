@@ -11,5 +11,5 @@ pub returns-clause-turn : goal.returns-clause-turn
 returns-clause-turn c = λ a e s.
     let j : Job = record { kind = c.job.inside.kind; work = work_of c.job.inside.work; awaited = c.job.inside.awaited; heard = c.job.inside.heard } in
     let at : slice_get c.job.inside.awaited c.args.place ≡ Some a = ap (λ (x : Job). slice_get x.awaited c.args.place) c.job.view_is ∙ e in
-    renewed_job c.args.kept.now c.args.moved.now c.goes_again.new.moved s j a c.goes_again.new.awaited (c.in_ok-goes_again.ensures.sent a at) (c.in_ok-goes_again.ensures.left a at)
-    ∙ ap (λ (x : Job). renews (going c.args.kept.now c.args.moved.now s) x a) c.job.view_is
+    renewed_job c.args.kept.now c.args.effects.now c.goes_again.new.effects s j a c.goes_again.new.awaited (c.in_ok-goes_again.ensures.sent a at) (c.in_ok-goes_again.ensures.left a at)
+    ∙ ap (λ (x : Job). renews (going c.args.kept.now c.args.effects.now s) x a) c.job.view_is

@@ -4,11 +4,11 @@ use Rattle.file_jobs.proofs.Settled.{settled_steps}
 use Rattle.file_jobs.proofs.whole.begin.Goals as goal
 
 pub settle-requires-clause-turn : goal.settle-requires-clause-turn
-settle-requires-clause-turn g c = sound_low c.in_ok-turn.turn c.args.moved.now c.fence_begins.new.moved c.fence_begins.new.kept c.requires.low c.requires.objects c.in_ok-turn.ensures.sound
+settle-requires-clause-turn g c = sound_low c.in_ok-turn.turn c.args.effects.now c.fence_begins.new.effects c.fence_begins.new.kept c.requires.low c.requires.objects c.in_ok-turn.ensures.sound
 
 pub returns-clause-steps : goal.returns-clause-steps
 returns-clause-steps g c =
-    settled_steps (fence_begins c.args.kind c.args.format) c.in_ok-turn.turn c.args.loads.now c.args.file.now c.args.moved.now c.fence_begins.new.moved c.settle.new.moved c.fence_begins.new.kept
+    settled_steps (fence_begins c.args.kind c.args.format) c.in_ok-turn.turn c.args.loads.now c.args.file.now c.args.effects.now c.fence_begins.new.effects c.settle.new.effects c.fence_begins.new.kept
     c.in_ok-file.field-0 (λ a e. c.in_ok-turn.ensures.turn a) c.in_ok-file.ensures.job
 
 pub returns-clause-sound : goal.returns-clause-sound

@@ -6,11 +6,11 @@ use Rattle.file_jobs.proofs.whole.revoke.Goals as goal
 pub returns-clause-steps : goal.returns-clause-steps
 returns-clause-steps c = λ ds chosen.
     let a : Around = record { spent = c.args.file.now.spent; job = c.args.file.now.job; drives = ds; chosen = chosen } in
-    sym (c.job_after.ensures.value c.fence_begins.new.kept c.fence_begins.new.moved a) ∙ c.in_ok-turn.ensures.turn a
+    sym (c.job_after.ensures.value c.fence_begins.new.kept c.fence_begins.new.effects a) ∙ c.in_ok-turn.ensures.turn a
 
 pub returns-clause-sound : goal.returns-clause-sound
 returns-clause-sound c = record {
   kept = c.in_ok-turn.ensures.keeps.sound c.requires.sound;
   alone = alone_with c.fence_begins.new.kept c.job_after.result c.in_ok-turn.ensures.alone;
-  job = c.job_after.ensures.sound c.fence_begins.new.kept c.args.moved.now c.fence_begins.new.moved c.in_ok-turn.ensures.sound;
+  job = c.job_after.ensures.sound c.fence_begins.new.kept c.args.effects.now c.fence_begins.new.effects c.in_ok-turn.ensures.sound;
 }

@@ -6,7 +6,7 @@ ghost use Rattle.file_jobs.specs.Steps.{GoesOnAs, IsSettled, RestsOr};
 use crate::job::{RunningJob, Turn, Work};
 use osd_bytes::{Bytes, Memory, Sequence};
 use osd_commands::Command;
-use server_rules::{Awaited, AwaitedCommands, JobKind, Moved, Note, NoteKind};
+use server_rules::{Awaited, AwaitedCommands, JobKind, Effects, Note, NoteKind};
 use std::alloc::Global;
 
 /// The same command once more.
@@ -34,50 +34,50 @@ pub fn copy_of(alloc: Global, awaited: &Awaited) -> Result<Awaited, Memory>
 }
 
 /// A note on a file.
-pub fn note(moved: &mut Moved, file: u32, kind: NoteKind) -> Result<(), Memory>
-    ensures { OnOk result (moved.new ≡ noted moved.old file kind) }
+pub fn note(effects: &mut Effects, file: u32, kind: NoteKind) -> Result<(), Memory>
+    ensures { OnOk result (effects.new ≡ noted effects.old file kind) }
 {
-    moved.notes.push(Note { file, kind })
+    effects.notes.push(Note { file, kind })
 }
 
 /// A command is sent.
-pub fn send(alloc: Global, moved: &mut Moved, command: &Awaited) -> Result<(), Memory>
-    requires { moved.old.nonce < 2 ^ 63 }
-    ensures { OnOk result (moved.new ≡ sends moved.old (command.now ∷ [])) }
+pub fn send(alloc: Global, effects: &mut Effects, command: &Awaited) -> Result<(), Memory>
+    requires { effects.old.nonce < 2 ^ 63 }
+    ensures { OnOk result (effects.new ≡ sends effects.old (command.now ∷ [])) }
 {
-    moved.sent.push(copy_of(alloc, command)?)?;
-    moved.nonce += 1;
+    effects.sent.push(copy_of(alloc, command)?)?;
+    effects.nonce += 1;
     Ok(())
 }
 
 /// Commands are sent, in order.
-pub fn send_all(alloc: Global, moved: &mut Moved, commands: &[Awaited]) -> Result<(), Memory>
-    requires { moved.old.nonce + length commands.now < 2 ^ 64 }
-    ensures { OnOk result (moved.new ≡ sends moved.old commands.now) }
+pub fn send_all(alloc: Global, effects: &mut Effects, commands: &[Awaited]) -> Result<(), Memory>
+    requires { effects.old.nonce + length commands.now < 2 ^ 64 }
+    ensures { OnOk result (effects.new ≡ sends effects.old commands.now) }
 {
     for command in commands {
-        moved.sent.push(copy_of(alloc, command)?)?;
+        effects.sent.push(copy_of(alloc, command)?)?;
     }
-    moved.nonce += commands.len() as u64;
+    effects.nonce += commands.len() as u64;
     Ok(())
 }
 
 // The job waits for these commands, which are sent.
 pub fn rests(
     alloc: Global,
-    moved: &mut Moved,
+    effects: &mut Effects,
     kind: JobKind,
     work: Work,
     awaited: AwaitedCommands,
 ) -> Result<Turn, Memory>
     requires some { awaited ≢ [] }
-    requires low { moved.old.nonce + length awaited < 2 ^ 64 }
-    ensures turn { IfOk result (λ turn. RestsOr awaited kind work moved.old turn moved.new) }
+    requires low { effects.old.nonce + length awaited < 2 ^ 64 }
+    ensures turn { IfOk result (λ turn. RestsOr awaited kind work effects.old turn effects.new) }
     ensures settled { IfOk result IsSettled }
     ensures kind { IfOk result (GoesOnAs kind) }
     ensures job { IfOk result (RestsAs (record { kind = kind; work = work_of work; awaited = awaited; heard = [] })) }
 {
-    send_all(alloc, moved, awaited.as_slice())?;
+    send_all(alloc, effects, awaited.as_slice())?;
     Ok(Turn::Rests(RunningJob {
         kind,
         work,

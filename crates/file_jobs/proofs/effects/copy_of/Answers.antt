@@ -1,6 +1,6 @@
 use Rattle.std.specs.Prelude.{ℕ, List}
 use Rattle.std.proofs.Common.{ap, ◌∙◌}
-use Rattle.file_jobs.proofs.moved.copy_of.Goals as goal
+use Rattle.file_jobs.proofs.effects.copy_of.Goals as goal
 
 pub returns : goal.returns
 returns c =
