@@ -6,7 +6,7 @@ ghost use Rattle.file_jobs.specs.Steps.{GoesOnAs, IsSettled, RestsOr};
 use crate::job::{RunningJob, Turn, Work};
 use osd_bytes::{Bytes, Memory, Sequence};
 use osd_commands::Command;
-use server_rules::{Awaited, AwaitedCommands, JobKind, Effects, Note, NoteKind};
+use server_rules::{Awaited, AwaitedCommands, Effects, JobKind, Note, NoteKind};
 use std::alloc::Global;
 
 /// The same command once more.
@@ -63,7 +63,7 @@ pub fn send_all(alloc: Global, effects: &mut Effects, commands: &[Awaited]) -> R
 }
 
 // The job waits for these commands, which are sent.
-pub fn rests(
+pub fn rest(
     alloc: Global,
     effects: &mut Effects,
     kind: JobKind,

@@ -5,30 +5,30 @@
 //! a step sends and notes goes into [`Effects`](server_rules::Effects).
 #![tactic(auto)]
 
-mod auditing;
+mod audit;
 mod awaited;
-mod declaring;
-mod ending;
-mod fencing;
-mod going_on;
-mod hearing;
-mod job;
-mod mending;
+mod components;
+mod drive_replies;
 mod effects;
-mod placing;
+mod ended_grants;
+mod fences;
+mod job;
+mod lost_drives;
+mod next_job;
+mod next_stage;
+mod places;
 mod ranges;
-mod rebuilding;
+mod rebuild;
+mod repair;
 mod replies;
-mod settling;
-mod standing;
-mod whole;
+mod whole_files;
 
 pub use awaited::{Gone, answered_by, forget, renew};
-pub use declaring::declare;
-pub use hearing::on_reply;
+pub use components::{any_on, lose, lose_on};
+pub use drive_replies::on_reply;
+pub use effects::{copy_of, note, rest};
 pub use job::{FileState, RunningJob, Turn, Work};
-pub use effects::{copy_of, note, rests};
-pub use placing::{pick, places};
+pub use lost_drives::declare;
+pub use places::{pick, place_missing};
 pub use ranges::{count_stripes, merged};
-pub use standing::{any_on, lose, lose_on};
-pub use whole::{begin, make, revoke};
+pub use whole_files::{begin, make, revoke};

@@ -10,16 +10,16 @@ ghost use Rattle.file_jobs.specs.Steps.{Hears, TurnsAt};
 ghost use Rattle.file_jobs.specs.Works.{sends};
 
 use crate::awaited::{Gone, again_in_2, forget, renew};
-use crate::going_on::{loses, waits_or_on};
-use crate::job::{RunningJob, Turn};
+use crate::components::lose;
 use crate::effects::{note, send};
-use crate::rebuilding::{ends, target_of};
-use crate::standing::lose;
+use crate::job::{RunningJob, Turn};
+use crate::next_stage::{go_on_after_loss, wait_or_go_on};
+use crate::rebuild::{end_component, target_of};
 use osd_bytes::{Bytes, Memory};
 use osd_capability::FORMAT_SHA256;
 use osd_commands::{Action, Reply};
 use server_rules::{
-    Awaited, AwaitedCommands, EXISTS, Heard, Kept, Effects, NO_SPACE, NoteKind, OLD_FORMAT,
+    Awaited, AwaitedCommands, EXISTS, Effects, Heard, Kept, NO_SPACE, NoteKind, OLD_FORMAT,
     OTHER_TAG, PERFORMED,
 };
 use std::alloc::Global;
@@ -53,7 +53,7 @@ fn is_done(kept: &Kept, awaited: &Awaited, reply: &Reply) -> bool
 
 // The first of these that a reply is.
 #[tactic(auto, unfolding(server_rules::specs::Replies::hearing))]
-fn hearing(kept: &Kept, awaited: &Awaited, reply: &Reply) -> ReplyKind
+fn kind_of_reply(kept: &Kept, awaited: &Awaited, reply: &Reply) -> ReplyKind
     ensures { heard_as result ≡ hearing kept.now awaited.now reply.now }
 {
     if reply.verdict == OLD_FORMAT {
@@ -69,7 +69,7 @@ fn hearing(kept: &Kept, awaited: &Awaited, reply: &Reply) -> ReplyKind
 }
 
 // The command at that place goes again in format 2, and stands in the place of the former.
-fn goes_again(
+fn send_again(
     alloc: Global,
     effects: &mut Effects,
     awaited: &mut AwaitedCommands,
@@ -88,7 +88,7 @@ fn goes_again(
 }
 
 // Format 2 from now on, and the command again.
-fn renews(
+fn send_in_format_2(
     alloc: Global,
     kept: &mut Kept,
     effects: &mut Effects,
@@ -104,13 +104,13 @@ fn renews(
     ensures keeps { OnOk result (Leaves kept.old kept.new) }
 {
     let mut job = job;
-    goes_again(alloc, effects, &mut job.awaited, place)?;
+    send_again(alloc, effects, &mut job.awaited, place)?;
     kept.format = FORMAT_SHA256;
     Ok(Turn::Rests(job))
 }
 
 // The component becomes missing, at a job that isn't a rebuild.
-fn goes_without(
+fn lose_component(
     alloc: Global,
     kept: &mut Kept,
     effects: &mut Effects,
@@ -133,11 +133,11 @@ fn goes_without(
     kept.components = lose(alloc, kept.components.as_slice(), component)?;
     note(effects, kept.number, NoteKind::NoSpace { component })?;
     forget(&mut job.awaited, Gone::Nonce { nonce });
-    loses(alloc, kept, effects, job)
+    go_on_after_loss(alloc, kept, effects, job)
 }
 
 // The drive of a component has no space: a rebuild's target ends, any other component becomes missing.
-fn fills_up(
+fn lose_full_drive(
     alloc: Global,
     kept: &mut Kept,
     effects: &mut Effects,
@@ -156,14 +156,19 @@ fn fills_up(
     match target_of(&job.work) {
         Some(target) => {
             let component = target.component;
-            ends(kept, effects, target, NoteKind::NoSpace { component })
+            end_component(kept, effects, target, NoteKind::NoSpace { component })
         }
-        None => goes_without(alloc, kept, effects, job, place),
+        None => lose_component(alloc, kept, effects, job, place),
     }
 }
 
 // The reply is heard, and its command isn't awaited any more.
-fn hear(alloc: Global, job: &mut RunningJob, place: usize, reply: &Reply) -> Result<(), Memory>
+fn keep_payload(
+    alloc: Global,
+    job: &mut RunningJob,
+    place: usize,
+    reply: &Reply,
+) -> Result<(), Memory>
     requires { place < length job.old.awaited }
     ensures { OnOk result ((a : AnAwaited) → slice_get job.old.awaited place ≡ Some a → job.new
         ≡ record job.old { awaited = others job.old.awaited a.command.nonce; heard = heard_with job.old a reply.now }) }
@@ -177,7 +182,7 @@ fn hear(alloc: Global, job: &mut RunningJob, place: usize, reply: &Reply) -> Res
 }
 
 // The command is answered, and the job goes on where it was the last.
-fn answers(
+fn take_answer(
     alloc: Global,
     kept: &mut Kept,
     effects: &mut Effects,
@@ -195,12 +200,12 @@ fn answers(
     ensures keeps { OnOk result (Leaves kept.old kept.new) }
 {
     let mut job = job;
-    hear(alloc, &mut job, place, reply)?;
-    waits_or_on(alloc, kept, effects, job)
+    keep_payload(alloc, &mut job, place, reply)?;
+    wait_or_go_on(alloc, kept, effects, job)
 }
 
 // A reply to the command at that place.
-pub fn hears(
+pub fn take_reply(
     alloc: Global,
     kept: &mut Kept,
     effects: &mut Effects,
@@ -216,10 +221,10 @@ pub fn hears(
     ensures sound { IfOk result (λ turn. RestsSound turn effects.old kept.new effects.new) }
     ensures keeps { OnOk result (Leaves kept.old kept.new) }
 {
-    match hearing(kept, job.awaited.get(place), reply) {
-        ReplyKind::Older => renews(alloc, kept, effects, job, place),
-        ReplyKind::Full => fills_up(alloc, kept, effects, job, place),
-        ReplyKind::Done => answers(alloc, kept, effects, job, place, reply),
+    match kind_of_reply(kept, job.awaited.get(place), reply) {
+        ReplyKind::Older => send_in_format_2(alloc, kept, effects, job, place),
+        ReplyKind::Full => lose_full_drive(alloc, kept, effects, job, place),
+        ReplyKind::Done => take_answer(alloc, kept, effects, job, place, reply),
         ReplyKind::Nothing => Ok(Turn::Rests(job)),
     }
 }

@@ -1,5 +1,5 @@
 ghost use Rattle.std.specs.Prelude.{◌≡◌, ◌≤◌, ◌<◌, ◌^◌, ◌++◌, ◌∷◌, [], None, length, IfOk, OnOk};
-ghost use Rattle.server_rules.specs.declared.server.Effects.{Effects as AMoved};
+ghost use Rattle.server_rules.specs.declared.server.Effects.{Effects as TheEffects};
 ghost use Rattle.server_rules.specs.Get.{on_grants, fence_first, fence_then, give_or_refuse, high_after};
 ghost use Rattle.server_requests.specs.Bounds.{IsLow};
 ghost use Rattle.file_jobs.specs.Sound.{IsSoundFile};
@@ -14,7 +14,7 @@ use layout_ops::{
 };
 use osd_bytes::Memory;
 use server_requests::{Early, Late, Wanted, against, asked, early_row, late_row, must_fence};
-use server_rules::{GREATEST_TAG, Grant, Kept, Effects, NO_COMPONENT, NoteKind};
+use server_rules::{Effects, GREATEST_TAG, Grant, Kept, NO_COMPONENT, NoteKind};
 use std::alloc::Global;
 
 // The file has the grant.
@@ -40,7 +40,7 @@ fn give_or_refuse(
     requires low { IsLow grant }
     requires sound { IsSoundFile file.old }
     requires idle { file.old.job ≡ None }
-    ensures rule { IfOk result (λ o. (m : AMoved)
+    ensures rule { IfOk result (λ o. (m : TheEffects)
         → Serves (λ go. give_or_refuse go next_grant grant) file.old m o file.new m) }
     ensures told { IfOk result (λ o. IsLayoutTold o.told) }
     ensures numbers { IfOk result (λ o. Counts next_grant o) }
@@ -74,7 +74,7 @@ fn fence_then(
 ) -> Result<Outcome, Memory>
     requires low { IsLow grant }
     requires sound { IsSoundFile file.old }
-    ensures rule { IfOk result (λ o. (m : AMoved)
+    ensures rule { IfOk result (λ o. (m : TheEffects)
         → Serves (λ go. fence_then go next_grant grant) file.old m o file.new m) }
     ensures told { IfOk result (λ o. IsLayoutTold o.told) }
     ensures numbers { IfOk result (λ o. Counts next_grant o) }

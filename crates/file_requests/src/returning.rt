@@ -16,7 +16,7 @@ use layout_ops::{NFS4_OK, NFS4ERR_LAYOUTUNAVAILABLE};
 use layout_types::IoErr;
 use osd_bytes::{Memory, Numbers};
 use server_requests::{Returned, is_among, return_row, without, without_these};
-use server_rules::{LOSS_TAKEN, Effects, NO_COMPONENT, NoteKind};
+use server_rules::{Effects, LOSS_TAKEN, NO_COMPONENT, NoteKind};
 use std::alloc::Global;
 
 // The client's grant goes.

@@ -18,7 +18,7 @@ use data_map::{DataMap, MAX_STRIPE_UNIT, MapErr, RawMap};
 use file_jobs::{FileState, make};
 use osd_bytes::{Memory, Numbers, Sequence};
 use server_rules::{Component, Components, Drive, Grants, Kept, MAX_FILE_COMPONENTS, Phase};
-use server_state::{Files, State, Step, begins, list, settle};
+use server_state::{Files, State, Step, finish_step, list, no_effects};
 use std::alloc::Global;
 use stripe_repair::{DriveLoad, Placer};
 use thiserror::Error;
@@ -211,10 +211,10 @@ where
     let drives = chosen_for(alloc, state, file.map.raw().comps, placer)?;
     let mut made = unmade(alloc, state, file, drives.as_slice())?;
     let object = state.next_object + drives.len() as u64;
-    let mut effects = begins(alloc, state.next_nonce, object);
+    let mut effects = no_effects(alloc, state.next_nonce, object);
     make(alloc, &mut made, &mut effects)?;
     put(&mut state.files, file.number, made)?;
-    let step = settle(alloc, state, effects)?;
+    let step = finish_step(alloc, state, effects)?;
     list(state, file.number)?;
     Ok(step)
 }

@@ -16,7 +16,7 @@ use file_jobs::{FileState, declare as declare_at};
 use layout_ops::OrderResult;
 use osd_bytes::{Memory, Numbers};
 use server_rules::{COUNTERS_END, Drive, Effects};
-use server_state::{Drives, Files, State, Step, begins, list_all, settle};
+use server_state::{Drives, Files, State, Step, finish_step, list_all, no_effects};
 use std::alloc::Global;
 use std::mem;
 use stripe_repair::{DriveLoad, Placer};
@@ -100,9 +100,9 @@ where
     state.drives = offline(alloc, state.drives.as_slice(), drive)?;
     let loads = loads_of(alloc, state)?;
     let loads = loads.as_slice();
-    let mut effects = begins(alloc, state.next_nonce, state.next_object);
+    let mut effects = no_effects(alloc, state.next_nonce, state.next_object);
     declare_each(alloc, &mut state.files, &mut effects, drive, loads, placer)?;
-    let step = settle(alloc, state, effects)?;
+    let step = finish_step(alloc, state, effects)?;
     list_all(alloc, state)?;
     Ok(step)
 }

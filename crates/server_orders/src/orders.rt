@@ -20,8 +20,8 @@ use file_requests::waits;
 use layout_ops::OrderResult;
 use osd_bytes::{Memory, Numbers};
 use server_requests::{Sends, send_recalls};
-use server_rules::{GREATEST_TAG, Grant, JobKind, Effects, NoteKind};
-use server_state::{Files, State, Step, begins, list, only_sends, settle, unlist};
+use server_rules::{Effects, GREATEST_TAG, Grant, JobKind, NoteKind};
+use server_state::{Files, State, Step, finish_step, list, no_effects, only_sends, unlist};
 use std::alloc::Global;
 use stripe_repair::{DriveLoad, Placer};
 
@@ -163,15 +163,22 @@ where
         (starts (server_of state.old) chosen kind (file_at (server_of state.old).files number))) }
     ensures good { OnOk result (IsGoodBut number state.new) }
 {
-    let mut effects = begins(alloc, state.next_nonce, state.next_object);
+    let mut effects = no_effects(alloc, state.next_nonce, state.next_object);
     let format = state.format;
     let files = &mut state.files;
     let begun = begin_in(
-        alloc, files, &mut effects, number, kind, format, loads, placer,
+        alloc,
+        files,
+        &mut effects,
+        number,
+        kind,
+        format,
+        loads,
+        placer,
     )?;
     match begun {
         Some(result) => {
-            let step = settle(alloc, state, effects)?;
+            let step = finish_step(alloc, state, effects)?;
             Ok(Obeyed { step, result })
         }
         None => Ok(unknown(alloc)),

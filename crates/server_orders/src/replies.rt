@@ -16,7 +16,7 @@ use osd_bytes::{Memory, Numbers};
 use osd_commands::Reply;
 use server_requests::Sends;
 use server_rules::Effects;
-use server_state::{Files, State, Step, begins, list, only_sends, settle, unlist};
+use server_state::{Files, State, Step, finish_step, list, no_effects, only_sends, unlist};
 use std::alloc::Global;
 use stripe_repair::{DriveLoad, Placer};
 
@@ -88,12 +88,19 @@ where
         (on_drive_reply (server_of state.old) chosen drive reply.now)) }
     ensures good { OnOk result (IsGoodBut number state.new) }
 {
-    let mut effects = begins(alloc, state.next_nonce, state.next_object);
+    let mut effects = no_effects(alloc, state.next_nonce, state.next_object);
     let files = &mut state.files;
     hear_in(
-        alloc, files, &mut effects, number, drive, reply, loads, placer,
+        alloc,
+        files,
+        &mut effects,
+        number,
+        drive,
+        reply,
+        loads,
+        placer,
     )?;
-    settle(alloc, state, effects)
+    finish_step(alloc, state, effects)
 }
 
 // The same, with what its job awaits and where its components stand from then on.

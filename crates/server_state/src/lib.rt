@@ -16,7 +16,7 @@ pub use answering::{answer_to, send_answer};
 pub use listing::{list, list_all, unlist};
 pub use requests::carry_out;
 pub use serving::{Served, serve_in};
-pub use settling::{begins, only_sends, settle};
+pub use settling::{finish_step, no_effects, only_sends};
 pub use slots::{KeptAnswer, Slots, keep, slot_of};
 pub use state::{Drives, Files, State};
 pub use step::{Notes, Repairs, Step};

@@ -8,7 +8,7 @@ ghost use Rattle.server_state.specs.States.{server_of, IsGood, IsGoodBut, HasRoo
 use crate::answering::answer_to;
 use crate::listing::{list, unlist};
 use crate::serving::{Served, serve_in};
-use crate::settling::{begins, only_sends};
+use crate::settling::{no_effects, only_sends};
 use crate::state::State;
 use crate::step::Step;
 use file_requests::Asking;
@@ -46,7 +46,12 @@ fn refuse(alloc: Global, state: &mut State, request: &ClientRequest) -> Result<S
 }
 
 // What is left of the step of a request behind its file: it sends and counts.
-fn finish(alloc: Global, state: &mut State, effects: Effects, served: Served) -> Result<Step, Memory>
+fn finish(
+    alloc: Global,
+    state: &mut State,
+    effects: Effects,
+    served: Served,
+) -> Result<Step, Memory>
     requires writable { ResultsWritable served.answer.results }
     requires numbers { state.old.next_grant + served.outcome.numbers ≤ GREATEST_GRANT + 1 }
     requires room { state.old.next_recall < 2 ^ 63 }
@@ -93,7 +98,7 @@ fn carry_out_at(
         next_grant: state.next_grant,
         format: state.format,
     };
-    let mut effects = begins(alloc, state.next_nonce, state.next_object);
+    let mut effects = no_effects(alloc, state.next_nonce, state.next_object);
     let drives = state.drives.as_slice();
     match serve_in(
         alloc,

@@ -9,7 +9,7 @@ use server_rules::Effects;
 use std::alloc::Global;
 
 /// A step begins, and nothing is sent yet.
-pub fn begins(alloc: Global, nonce: u64, object: u64) -> Effects
+pub fn no_effects(alloc: Global, nonce: u64, object: u64) -> Effects
     ensures { result ≡ record { nonce = nonce; object = object; sent = []; notes = []; mended = [] } }
 {
     Effects {
@@ -37,7 +37,7 @@ pub fn only_sends(alloc: Global, sends: Sends) -> Step
 /// # Errors
 ///
 /// Want of memory alone.
-pub fn settle(alloc: Global, state: &mut State, effects: Effects) -> Result<Step, Memory>
+pub fn finish_step(alloc: Global, state: &mut State, effects: Effects) -> Result<Step, Memory>
     ensures { IfOk result (Settles state.old effects state.new) }
 {
     let mut sends = Sends::new(alloc);

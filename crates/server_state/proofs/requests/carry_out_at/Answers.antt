@@ -8,7 +8,7 @@ use Rattle.server_state.proofs.requests.carry_out_at.Goals as goal
 
 pub returns-in-Some-clause-did : goal.returns-in-Some-clause-did
 returns-in-Some-clause-did c =
-    let v = rw (c.in-Some.is, c.begins-effects.ensures, c.as_slice-drives.ensures) at c.in_ok-served.ensures in
+    let v = rw (c.in-Some.is, c.no_effects-effects.ensures, c.as_slice-drives.ensures) at c.in_ok-served.ensures in
     mapped_ok c.finish.result (λ out fin chosen. done_at c.args.state.now c.serve_in.new.files c.finish.new.state c.serve_in.new.effects _ c.args.request.now c.args.now chosen c.in-Some.served
     v.0 v.1 out refl c.requires.good.files v.3 v.2 v.4 fin) c.finish.ensures
 
