@@ -1,6 +1,6 @@
 // A drive's reply at a whole file.
 ghost use Rattle.std.specs.Prelude.{◌<◌, ◌≤◌, ◌^◌, length, IfOk, IfSome, IfNone, OnOk};
-ghost use Rattle.stripe_repair.specs.Placing.{AreDifferent, IsPlacer, drives_of};
+ghost use Rattle.stripe_repair.specs.Placing.{AreDifferent, drives_of};
 ghost use Rattle.stripe_repair.specs.declared.loads.TheConstants.{MAX_DRIVES};
 ghost use Rattle.file_jobs.specs.Heard.{FoundIn, FoundNowhere, HearsReply};
 ghost use Rattle.file_jobs.specs.Sound.{IsSoundFile, Leaves};
@@ -9,11 +9,11 @@ use crate::awaited::answered_by;
 use crate::job::{FileState, RunningJob};
 use crate::next_job::job_after_turn;
 use crate::replies::take_reply;
-use osd_bytes::{Memory, Numbers};
+use osd_bytes::Memory;
 use osd_commands::Reply;
 use server_rules::Effects;
 use std::alloc::Global;
-use stripe_repair::{DriveLoad, Placer};
+use stripe_repair::{DriveLoad, Place};
 
 // The place of the command that a reply of this drive answers, `None` where there is none.
 fn place_of(job: &Option<RunningJob>, drive: u32, reply: &Reply) -> Option<usize>
@@ -32,20 +32,18 @@ fn place_of(job: &Option<RunningJob>, drive: u32, reply: &Reply) -> Option<usize
 ///
 /// Want of memory alone.
 #[tactic(auto, unfolding(server_rules::specs::Replies::on_reply))]
-pub fn on_reply<F>(
+pub fn on_reply<P: Place>(
     alloc: Global,
     file: &mut FileState,
     effects: &mut Effects,
     drive: u32,
     reply: &Reply,
     loads: &[DriveLoad],
-    placer: &Placer<F>,
+    placer: &P,
 ) -> Result<bool, Memory>
-where
-    F: Fn(u32, &[DriveLoad]) -> Result<Numbers, Memory>,
     requires few { length loads.now ≤ MAX_DRIVES }
     requires different { AreDifferent (drives_of loads.now) }
-    requires placer { IsPlacer F.Fn placer.now }
+    requires placer { P.is_placer placer.now }
     requires sound { IsSoundFile file.old }
     requires low { effects.old.nonce < 2 ^ 63 }
     requires objects { effects.old.object < 2 ^ 63 }

@@ -1,7 +1,7 @@
 // A drive is declared, at a whole file.
 ghost use Rattle.std.specs.Prelude.{◌≡◌, ◌<◌, ◌≤◌, ◌+◌, ◌^◌, Some, length, IfOk, OnOk};
 ghost use Rattle.server_rules.specs.Jobs.{declares, is_target, loses, others_than, targets};
-ghost use Rattle.stripe_repair.specs.Placing.{AreDifferent, IsPlacer, drives_of};
+ghost use Rattle.stripe_repair.specs.Placing.{AreDifferent, drives_of};
 ghost use Rattle.stripe_repair.specs.declared.loads.TheConstants.{MAX_DRIVES};
 ghost use Rattle.file_jobs.specs.Losing.{TurnsIn, target_in};
 ghost use Rattle.file_jobs.specs.Sound.{FitsAfterLoss, IsSound, IsSoundFile, Leaves, RestsSound};
@@ -13,10 +13,10 @@ use crate::job::{FileState, RunningJob, Turn, Work};
 use crate::next_job::job_after_turn;
 use crate::next_stage::go_on_after_loss;
 use crate::rebuild::{end_component, fill_next_piece, target_of};
-use osd_bytes::{Memory, Numbers};
+use osd_bytes::Memory;
 use server_rules::{Effects, Kept, NoteKind, Target};
 use std::alloc::Global;
-use stripe_repair::{DriveLoad, Placer};
+use stripe_repair::{DriveLoad, Place};
 
 // The job goes on without what stood on the drive.
 fn go_on_without_drive(
@@ -90,19 +90,17 @@ fn redirect_rebuild(
 ///
 /// Want of memory alone.
 #[tactic(auto, unfolding(server_rules::specs::Jobs::declares))]
-pub fn declare<F>(
+pub fn declare<P: Place>(
     alloc: Global,
     file: &mut FileState,
     effects: &mut Effects,
     drive: u32,
     loads: &[DriveLoad],
-    placer: &Placer<F>,
+    placer: &P,
 ) -> Result<(), Memory>
-where
-    F: Fn(u32, &[DriveLoad]) -> Result<Numbers, Memory>,
     requires few { length loads.now ≤ MAX_DRIVES }
     requires different { AreDifferent (drives_of loads.now) }
-    requires placer { IsPlacer F.Fn placer.now }
+    requires placer { P.is_placer placer.now }
     requires sound { IsSoundFile file.old }
     requires low { effects.old.nonce < 2 ^ 63 }
     requires objects { effects.old.object < 2 ^ 63 }

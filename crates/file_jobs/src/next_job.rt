@@ -1,6 +1,6 @@
 // What a job goes on with where its repair, or the rebuild of a component, is over.
 ghost use Rattle.std.specs.Prelude.{◌<◌, ◌≤◌, ◌^◌, length, IfOk};
-ghost use Rattle.stripe_repair.specs.Placing.{AreDifferent, IsPlacer, drives_of};
+ghost use Rattle.stripe_repair.specs.Placing.{AreDifferent, drives_of};
 ghost use Rattle.stripe_repair.specs.declared.loads.TheConstants.{MAX_DRIVES};
 ghost use Rattle.file_jobs.specs.declared.job.Turn.TheVariants.{Mended as IsMended};
 ghost use Rattle.file_jobs.specs.Sound.{HasSoundJob, IsSound, RestsLow};
@@ -10,25 +10,23 @@ use crate::audit::begin_audit;
 use crate::job::{RunningJob, Turn};
 use crate::places::place_missing;
 use crate::whole_files::job_of;
-use osd_bytes::{Memory, Numbers};
+use osd_bytes::Memory;
 use server_rules::{Effects, JobKind, Kept};
 use std::alloc::Global;
-use stripe_repair::{DriveLoad, Placer};
+use stripe_repair::{DriveLoad, Place};
 
 // What comes behind the repair of such a job.
-fn begin_work_after_repair<F>(
+fn begin_work_after_repair<P: Place>(
     alloc: Global,
     kept: &Kept,
     effects: &mut Effects,
     kind: JobKind,
     loads: &[DriveLoad],
-    placer: &Placer<F>,
+    placer: &P,
 ) -> Result<Option<RunningJob>, Memory>
-where
-    F: Fn(u32, &[DriveLoad]) -> Result<Numbers, Memory>,
     requires few { length loads.now ≤ MAX_DRIVES }
     requires different { AreDifferent (drives_of loads.now) }
-    requires placer { IsPlacer F.Fn placer.now }
+    requires placer { P.is_placer placer.now }
     requires sound { IsSound kept.now }
     requires low { effects.old.nonce < 2 ^ 63 }
     requires objects { effects.old.object < 2 ^ 63 }
@@ -49,19 +47,17 @@ where
 }
 
 // The job that rests after a turn, `None` where it is over. Drives are chosen where components are missing.
-pub fn job_after_turn<F>(
+pub fn job_after_turn<P: Place>(
     alloc: Global,
     kept: &Kept,
     effects: &mut Effects,
     turn: Turn,
     loads: &[DriveLoad],
-    placer: &Placer<F>,
+    placer: &P,
 ) -> Result<Option<RunningJob>, Memory>
-where
-    F: Fn(u32, &[DriveLoad]) -> Result<Numbers, Memory>,
     requires few { length loads.now ≤ MAX_DRIVES }
     requires different { AreDifferent (drives_of loads.now) }
-    requires placer { IsPlacer F.Fn placer.now }
+    requires placer { P.is_placer placer.now }
     requires sound { IsSound kept.now }
     requires turn { RestsLow turn kept.now effects.old }
     ensures job { IfOk result (λ job. Settles turn loads.now kept.now effects.old job effects.new) }

@@ -1,7 +1,7 @@
 // Drives for missing components.
 ghost use Rattle.std.specs.Prelude.{◌≡◌, ◌<◌, ◌≤◌, ◌^◌, All, drop, length, List, IfOk};
 ghost use Rattle.server_rules.specs.declared.server.Drive.{Drive as ADrive};
-ghost use Rattle.stripe_repair.specs.Placing.{AreDifferent, FitsLoad, IsPlacer, drives_of};
+ghost use Rattle.stripe_repair.specs.Placing.{AreDifferent, FitsLoad, drives_of};
 ghost use Rattle.stripe_repair.specs.declared.loads.TheConstants.{MAX_DRIVES};
 ghost use Rattle.server_rules.specs.Rebuild.{rebuilds};
 ghost use Rattle.file_jobs.specs.Sound.{IsSound, RestsSound};
@@ -11,10 +11,10 @@ ghost use Rattle.file_jobs.specs.Placing.{AreLoadsOf, IsPick, free_loads};
 use crate::components::stood_on;
 use crate::effects::{note, rest};
 use crate::job::{Turn, Work};
-use osd_bytes::{Memory, Numbers, Sequence};
+use osd_bytes::{Memory, Sequence};
 use server_rules::{AwaitedCommands, Component, Effects, JobKind, Kept, NoteKind, Target};
 use std::alloc::Global;
-use stripe_repair::{Ask, DriveLoad, Placer, online_count, sent_to};
+use stripe_repair::{Ask, DriveLoad, Place, online_count, sent_to};
 
 // A drive, online where it is free for the file.
 fn load_of(drive: u32, online: bool, objects: u32) -> DriveLoad
@@ -46,17 +46,15 @@ fn free_loads(
 }
 
 // A drive that is free for the file, by the placer; `None` exactly where there is none.
-pub fn pick<F>(
+pub fn pick<P: Place>(
     alloc: Global,
     components: &[Component],
     loads: &[DriveLoad],
-    placer: &Placer<F>,
+    placer: &P,
 ) -> Result<Option<u32>, Memory>
-where
-    F: Fn(u32, &[DriveLoad]) -> Result<Numbers, Memory>,
     requires few { length loads.now ≤ MAX_DRIVES }
     requires different { AreDifferent (drives_of loads.now) }
-    requires placer { IsPlacer F.Fn placer.now }
+    requires placer { P.is_placer placer.now }
     ensures { IfOk result (λ found. (ds : List ADrive) → AreLoadsOf loads.now ds → IsPick ds components.now found) }
 {
     let free = free_loads(alloc, loads, components)?;
@@ -102,19 +100,17 @@ fn create_on(
 
 // The components from a number on; a missing one that no drive can take is passed over.
 #[tactic(auto, unfolding(server_rules::specs::Rebuild::rebuilds))]
-pub fn place_missing<F>(
+pub fn place_missing<P: Place>(
     alloc: Global,
     kept: &Kept,
     effects: &mut Effects,
     from: u32,
     loads: &[DriveLoad],
-    placer: &Placer<F>,
+    placer: &P,
 ) -> Result<Turn, Memory>
-where
-    F: Fn(u32, &[DriveLoad]) -> Result<Numbers, Memory>,
     requires few { length loads.now ≤ MAX_DRIVES }
     requires different { AreDifferent (drives_of loads.now) }
-    requires placer { IsPlacer F.Fn placer.now }
+    requires placer { P.is_placer placer.now }
     requires sound { IsSound kept.now }
     requires low { effects.old.nonce < 2 ^ 63 }
     requires objects { effects.old.object < 2 ^ 63 }

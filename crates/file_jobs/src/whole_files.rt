@@ -5,7 +5,7 @@ ghost use Rattle.server_rules.specs.declared.jobs.JobKind.TheVariants.{Revoking}
 ghost use Rattle.server_rules.specs.declared.limits.TheConstants.{GREATEST_TAG};
 ghost use Rattle.server_rules.specs.declared.server.Effects.{Effects as TheEffects};
 ghost use Rattle.server_rules.specs.Jobs.{fence_begins, making};
-ghost use Rattle.stripe_repair.specs.Placing.{AreDifferent, IsPlacer, drives_of};
+ghost use Rattle.stripe_repair.specs.Placing.{AreDifferent, drives_of};
 ghost use Rattle.stripe_repair.specs.declared.loads.TheConstants.{MAX_DRIVES};
 ghost use Rattle.file_jobs.specs.Sound.{HasSoundJob, IsSound, IsSoundFile, Leaves, RestsSound};
 ghost use Rattle.file_jobs.specs.Steps.{GoesOnAs, IsSettled, SetsJob, Steps, StepsOn};
@@ -13,10 +13,10 @@ ghost use Rattle.file_jobs.specs.Steps.{GoesOnAs, IsSettled, SetsJob, Steps, Ste
 use crate::fences::{begin_fence, begin_making};
 use crate::job::{FileState, RunningJob, Turn};
 use crate::next_job::job_after_turn;
-use osd_bytes::{Memory, Numbers};
+use osd_bytes::Memory;
 use server_rules::{Effects, JobKind};
 use std::alloc::Global;
-use stripe_repair::{DriveLoad, Placer};
+use stripe_repair::{DriveLoad, Place};
 
 // The job that rests, `None` where it is over.
 pub fn job_of(turn: Turn) -> Option<RunningJob>
@@ -90,20 +90,18 @@ pub fn revoke(
 /// # Errors
 ///
 /// Want of memory alone.
-pub fn begin<F>(
+pub fn begin<P: Place>(
     alloc: Global,
     file: &mut FileState,
     effects: &mut Effects,
     kind: JobKind,
     format: u8,
     loads: &[DriveLoad],
-    placer: &Placer<F>,
+    placer: &P,
 ) -> Result<(), Memory>
-where
-    F: Fn(u32, &[DriveLoad]) -> Result<Numbers, Memory>,
     requires few { length loads.now ≤ MAX_DRIVES }
     requires different { AreDifferent (drives_of loads.now) }
-    requires placer { IsPlacer F.Fn placer.now }
+    requires placer { P.is_placer placer.now }
     requires sound { IsSound file.old.kept }
     requires low { effects.old.nonce < 2 ^ 63 }
     requires objects { effects.old.object < 2 ^ 63 }

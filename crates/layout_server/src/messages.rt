@@ -1,5 +1,4 @@
 ghost use Rattle.std.specs.Prelude.{◌≡◌, ◌↔◌, ℕ, List, IsTrue, IfOk, OnOk};
-ghost use Rattle.stripe_repair.specs.Placing.{IsPlacer};
 ghost use Rattle.server_rules.specs.Messages.{counters_have_room, handled};
 ghost use Rattle.server_rules.specs.Envelopes.{on_bytes};
 ghost use Rattle.server_rules.specs.Orders.{ordered, with_result};
@@ -8,27 +7,25 @@ ghost use Rattle.server_state.specs.States.{server_of, Did, HasRoom, IsGood};
 ghost use Rattle.server_orders.specs.Orders.{Obeys};
 
 use layout_ops::{Order, OrderAnswer, OrderKind};
-use osd_bytes::{Memory, Node, Numbers};
+use osd_bytes::{Memory, Node};
 use server_orders::{Obeyed, on_drive_reply, order_declare, order_job, order_recall};
 use server_requests::{Message, Sends, message_in, send_order_answer};
 use server_rules::{JobKind, MAX_CLIENT};
 use server_state::{State, Step, on_request, only_sends};
 use std::alloc::Global;
-use stripe_repair::{DriveLoad, Placer};
+use stripe_repair::Place;
 
 // An order, by its kind.
 #[tactic(auto, unfolding(server_rules::specs::Orders::ordered))]
-fn obey<F>(
+fn obey<P: Place>(
     alloc: Global,
     state: &mut State,
     order: Order,
-    placer: &Placer<F>,
+    placer: &P,
 ) -> Result<Obeyed, Memory>
-where
-    F: Fn(u32, &[DriveLoad]) -> Result<Numbers, Memory>,
     requires good { IsGood state.old }
     requires room { HasRoom (server_of state.old) }
-    requires placer { IsPlacer F.Fn placer.now }
+    requires placer { P.is_placer placer.now }
     ensures obeys { IfOk result (λ o. (chosen : List ℕ)
         × Obeys o (server_of state.new) (ordered (server_of state.old) chosen order.order order.target)) }
     ensures good { OnOk result (IsGood state.new) }
@@ -44,17 +41,15 @@ where
 }
 
 // An order, and the answer to who gave it.
-fn obey_and_answer<F>(
+fn obey_and_answer<P: Place>(
     alloc: Global,
     state: &mut State,
     order: Order,
-    placer: &Placer<F>,
+    placer: &P,
 ) -> Result<Step, Memory>
-where
-    F: Fn(u32, &[DriveLoad]) -> Result<Numbers, Memory>,
     requires good { IsGood state.old }
     requires room { HasRoom (server_of state.old) }
-    requires placer { IsPlacer F.Fn placer.now }
+    requires placer { P.is_placer placer.now }
     ensures did { IfOk result (λ out. (chosen : List ℕ) × Did out (server_of state.new)
         (with_result order.order (ordered (server_of state.old) chosen order.order order.target))) }
     ensures good { OnOk result (IsGood state.new) }
@@ -69,19 +64,17 @@ where
 }
 
 // The step of a message, by who sent it. One that its sender doesn't send changes nothing.
-fn handle<F>(
+fn handle<P: Place>(
     alloc: Global,
     state: &mut State,
     now: u64,
     from: Node,
     message: &Message,
-    placer: &Placer<F>,
+    placer: &P,
 ) -> Result<Step, Memory>
-where
-    F: Fn(u32, &[DriveLoad]) -> Result<Numbers, Memory>,
     requires good { IsGood state.old }
     requires room { HasRoom (server_of state.old) }
-    requires placer { IsPlacer F.Fn placer.now }
+    requires placer { P.is_placer placer.now }
     ensures did { IfOk result (λ out. (chosen : List ℕ) × Did out (server_of state.new)
         (handled (server_of state.old) now chosen from (message_rule message.now))) }
     ensures good { OnOk result (IsGood state.new) }
@@ -106,21 +99,19 @@ where
 ///
 /// Want of memory alone.
 #[tactic(auto, unfolding(server_rules::specs::Messages::on_message))]
-pub fn hear<F>(
+pub fn hear<P: Place>(
     alloc: Global,
     state: &mut State,
     now: u64,
     from: Node,
     bytes: &[u8],
-    placer: &Placer<F>,
+    placer: &P,
     low: bool,
 ) -> Result<Step, Memory>
-where
-    F: Fn(u32, &[DriveLoad]) -> Result<Numbers, Memory>,
     requires good { IsGood state.old }
     requires low { low ≡ counters_have_room (server_of state.old) }
     requires room { IsTrue low ↔ HasRoom (server_of state.old) }
-    requires placer { IsPlacer F.Fn placer.now }
+    requires placer { P.is_placer placer.now }
     ensures did { IfOk result (λ out. (chosen : List ℕ) × Did out (server_of state.new)
         (on_bytes (server_of state.old) now chosen from bytes.now)) }
     ensures good { OnOk result (IsGood state.new) }

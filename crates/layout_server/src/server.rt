@@ -3,7 +3,6 @@ ghost use Rattle.std.specs.Option.{option_copied};
 ghost use Rattle.layout_ops.specs.declared.orders.OrderKind.TheVariants as order;
 ghost use Rattle.data_map.specs.Check.{HasAlgorithm};
 ghost use Rattle.stripe_repair.specs.declared.loads.TheConstants.{MAX_DRIVES};
-ghost use Rattle.stripe_repair.specs.Placing.{IsPlacer};
 ghost use Rattle.server_rules.specs.Envelopes.{on_bytes};
 ghost use Rattle.server_rules.specs.Files.{file_at};
 ghost use Rattle.server_rules.specs.Making.{add_drive, new_server, set_format};
@@ -29,7 +28,7 @@ use server_state::{State, Step};
 use std::alloc::Global;
 use std::marker::Model;
 use std::mem;
-use stripe_repair::{DriveLoad, Placer};
+use stripe_repair::Place;
 
 /// The metadata server. Contracts see the server of the rules.
 ///
@@ -116,17 +115,15 @@ impl ServerCore {
     /// # Errors
     ///
     /// As [`FileErr`] says. Then nothing is changed, want of memory excepted.
-    pub fn create_file<F>(
+    pub fn create_file<P: Place>(
         &mut self,
         file: u32,
         raw: RawMap,
         tag: u32,
-        placer: &Placer<F>,
+        placer: &P,
     ) -> Result<Step, FileErr>
-    where
-        F: Fn(u32, &[DriveLoad]) -> Result<Numbers, Memory>,
         requires room { HasRoom self.old }
-        requires placer { IsPlacer F.Fn placer.now }
+        requires placer { P.is_placer placer.now }
         requires algorithm { HasAlgorithm raw }
         ensures refused { IfErr result (IsRefused file raw self.old self.new) }
         ensures made { IfOk result (λ out. Makes file raw tag self.old self.new out) }
@@ -154,16 +151,14 @@ impl ServerCore {
     /// # Errors
     ///
     /// Want of memory alone.
-    pub fn on_message<F>(
+    pub fn on_message<P: Place>(
         &mut self,
         now: u64,
         from: Node,
         bytes: &[u8],
-        placer: &Placer<F>,
+        placer: &P,
     ) -> Result<Step, Memory>
-    where
-        F: Fn(u32, &[DriveLoad]) -> Result<Numbers, Memory>,
-        requires placer { IsPlacer F.Fn placer.now }
+        requires placer { P.is_placer placer.now }
         ensures { IfOk result (λ out. (chosen : List ℕ)
             × Did out self.new (on_bytes self.old now chosen from bytes.now)) }
     {
@@ -196,11 +191,9 @@ impl ServerCore {
     ///
     /// Want of memory alone.
     #[tactic(auto, unfolding(server_rules::specs::Orders::ordered))]
-    pub fn revoke<F>(&mut self, file: u32, placer: &Placer<F>) -> Result<Step, Memory>
-    where
-        F: Fn(u32, &[DriveLoad]) -> Result<Numbers, Memory>,
+    pub fn revoke<P: Place>(&mut self, file: u32, placer: &P) -> Result<Step, Memory>
         requires room { HasRoom self.old }
-        requires placer { IsPlacer F.Fn placer.now }
+        requires placer { P.is_placer placer.now }
         ensures { IfOk result (λ out. (chosen : List ℕ)
             × Did out self.new (ordered self.old chosen order.Revoke file).step) }
     {
@@ -217,11 +210,9 @@ impl ServerCore {
     ///
     /// Want of memory alone.
     #[tactic(auto, unfolding(server_rules::specs::Orders::ordered))]
-    pub fn rebuild<F>(&mut self, file: u32, placer: &Placer<F>) -> Result<Step, Memory>
-    where
-        F: Fn(u32, &[DriveLoad]) -> Result<Numbers, Memory>,
+    pub fn rebuild<P: Place>(&mut self, file: u32, placer: &P) -> Result<Step, Memory>
         requires room { HasRoom self.old }
-        requires placer { IsPlacer F.Fn placer.now }
+        requires placer { P.is_placer placer.now }
         ensures { IfOk result (λ out. (chosen : List ℕ)
             × Did out self.new (ordered self.old chosen order.Rebuild file).step) }
     {
@@ -238,11 +229,9 @@ impl ServerCore {
     ///
     /// Want of memory alone.
     #[tactic(auto, unfolding(server_rules::specs::Orders::ordered))]
-    pub fn audit<F>(&mut self, file: u32, placer: &Placer<F>) -> Result<Step, Memory>
-    where
-        F: Fn(u32, &[DriveLoad]) -> Result<Numbers, Memory>,
+    pub fn audit<P: Place>(&mut self, file: u32, placer: &P) -> Result<Step, Memory>
         requires room { HasRoom self.old }
-        requires placer { IsPlacer F.Fn placer.now }
+        requires placer { P.is_placer placer.now }
         ensures { IfOk result (λ out. (chosen : List ℕ)
             × Did out self.new (ordered self.old chosen order.Audit file).step) }
     {
@@ -257,10 +246,8 @@ impl ServerCore {
     /// # Errors
     ///
     /// Want of memory; and, in place of it, a counter of 64 bits without room in the middle of the step.
-    pub fn declare<F>(&mut self, drive: u32, placer: &Placer<F>) -> Result<Step, Memory>
-    where
-        F: Fn(u32, &[DriveLoad]) -> Result<Numbers, Memory>,
-        requires placer { IsPlacer F.Fn placer.now }
+    pub fn declare<P: Place>(&mut self, drive: u32, placer: &P) -> Result<Step, Memory>
+        requires placer { P.is_placer placer.now }
         ensures { IfOk result (λ out. (chosen : List ℕ)
             × Did out self.new (ordered self.old chosen order.Declare drive).step) }
     {

@@ -1,6 +1,5 @@
 // What an event begins with.
 ghost use Rattle.std.specs.Prelude.{◌≡◌, true, IfOk};
-ghost use Rattle.stripe_repair.specs.Placing.{IsPlacer};
 ghost use Rattle.world_history.specs.Moves.{Opens, begins, injects};
 ghost use Rattle.layout_world.specs.Acting.{Acts, ActsWith, ends_in};
 ghost use Rattle.layout_world.specs.Groups.{is_plain};
@@ -9,10 +8,10 @@ use crate::changing::change;
 use crate::delivering::deliver;
 use crate::parties::Parties;
 use crate::{by_client, by_server};
-use osd_bytes::{Memory, Numbers};
+use osd_bytes::Memory;
 use scenario_text::{DriveName, Event, Line, Sender};
 use std::alloc::Global;
-use stripe_repair::{DriveLoad, Placer};
+use stripe_repair::Place;
 use world_drives::drives_are_the_worlds;
 use world_words::Act;
 
@@ -72,15 +71,13 @@ fn begin_plain(parties: &mut Parties, alloc: Global, event: &Event) -> Result<Ac
 ///
 /// Want of memory alone.
 #[tactic(auto, unfolding(world_history::specs::Moves::begins))]
-pub fn begin<F>(
+pub fn begin<P: Place>(
     parties: &mut Parties,
     alloc: Global,
     event: &Event,
-    placer: &Placer<F>,
+    placer: &P,
 ) -> Result<Act, Memory>
-where
-    F: Fn(u32, &[DriveLoad]) -> Result<Numbers, Memory>,
-    requires placer { IsPlacer F.Fn placer.now }
+    requires placer { P.is_placer placer.now }
     ensures { IfOk result (λ act. ActsWith (λ w chosen. begins w chosen event.now) (ends_in (Opens event.now)) parties.old parties.new act) }
 {
     match event {

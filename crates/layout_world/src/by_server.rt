@@ -1,17 +1,16 @@
 // What the server does in an event.
 ghost use Rattle.std.specs.Prelude.{IfOk};
 ghost use Rattle.scenario_text.specs.declared.event.Event.TheVariants as event;
-ghost use Rattle.stripe_repair.specs.Placing.{IsPlacer};
 ghost use Rattle.server_rules.specs.History.{Obeys, Resends as ResendsAt, Formats as FormatsAt};
 ghost use Rattle.world_history.specs.ServerNames.{ToRecall, ToRevoke, ToRebuild, ToAudit, ToDeclare};
 ghost use Rattle.world_history.specs.Moves.{Opens, adds_drive, makes, raw_of, gives};
 ghost use Rattle.layout_world.specs.Acting.{Acts, ActsWith, ends_in};
 
 use crate::parties::Parties;
-use osd_bytes::{Memory, Numbers};
+use osd_bytes::Memory;
 use scenario_text::{DriveName, FileMap, FileName};
 use std::alloc::Global;
-use stripe_repair::{DriveLoad, Placer};
+use stripe_repair::Place;
 use world_words::Act;
 
 /// A drive is made, and the server knows it. There must be none of that number.
@@ -38,17 +37,15 @@ pub fn add_drive(
 /// # Errors
 ///
 /// Want of memory alone.
-pub fn make_file<F>(
+pub fn make_file<P: Place>(
     parties: &mut Parties,
     alloc: Global,
     file: FileName,
     map: &FileMap,
     tag: u32,
-    placer: &Placer<F>,
+    placer: &P,
 ) -> Result<Act, Memory>
-where
-    F: Fn(u32, &[DriveLoad]) -> Result<Numbers, Memory>,
-    requires placer { IsPlacer F.Fn placer.now }
+    requires placer { P.is_placer placer.now }
     ensures { IfOk result (λ act. ActsWith (λ w chosen. makes w chosen file (raw_of map.now) tag) (ends_in (Opens (event.File file map.now tag))) parties.old parties.new act) }
 {
     let act = parties.server.make_file(alloc, file, map, tag, placer)?;
@@ -72,15 +69,13 @@ pub fn recall(parties: &mut Parties, alloc: Global, file: FileName) -> Result<Ac
 /// # Errors
 ///
 /// Want of memory alone.
-pub fn revoke<F>(
+pub fn revoke<P: Place>(
     parties: &mut Parties,
     alloc: Global,
     file: FileName,
-    placer: &Placer<F>,
+    placer: &P,
 ) -> Result<Act, Memory>
-where
-    F: Fn(u32, &[DriveLoad]) -> Result<Numbers, Memory>,
-    requires placer { IsPlacer F.Fn placer.now }
+    requires placer { P.is_placer placer.now }
     ensures { IfOk result (λ act. ActsWith (λ w chosen. gives w chosen (Obeys ToRevoke file)) (ends_in (Opens (event.Revoke file))) parties.old parties.new act) }
 {
     let act = parties.server.revoke(alloc, file, placer)?;
@@ -92,15 +87,13 @@ where
 /// # Errors
 ///
 /// Want of memory alone.
-pub fn rebuild<F>(
+pub fn rebuild<P: Place>(
     parties: &mut Parties,
     alloc: Global,
     file: FileName,
-    placer: &Placer<F>,
+    placer: &P,
 ) -> Result<Act, Memory>
-where
-    F: Fn(u32, &[DriveLoad]) -> Result<Numbers, Memory>,
-    requires placer { IsPlacer F.Fn placer.now }
+    requires placer { P.is_placer placer.now }
     ensures { IfOk result (λ act. ActsWith (λ w chosen. gives w chosen (Obeys ToRebuild file)) (ends_in (Opens (event.Rebuild file))) parties.old parties.new act) }
 {
     let act = parties.server.rebuild(alloc, file, placer)?;
@@ -112,15 +105,13 @@ where
 /// # Errors
 ///
 /// Want of memory alone.
-pub fn audit<F>(
+pub fn audit<P: Place>(
     parties: &mut Parties,
     alloc: Global,
     file: FileName,
-    placer: &Placer<F>,
+    placer: &P,
 ) -> Result<Act, Memory>
-where
-    F: Fn(u32, &[DriveLoad]) -> Result<Numbers, Memory>,
-    requires placer { IsPlacer F.Fn placer.now }
+    requires placer { P.is_placer placer.now }
     ensures { IfOk result (λ act. ActsWith (λ w chosen. gives w chosen (Obeys ToAudit file)) (ends_in (Opens (event.Audit file))) parties.old parties.new act) }
 {
     let act = parties.server.audit(alloc, file, placer)?;
@@ -132,15 +123,13 @@ where
 /// # Errors
 ///
 /// Want of memory alone.
-pub fn declare<F>(
+pub fn declare<P: Place>(
     parties: &mut Parties,
     alloc: Global,
     drive: DriveName,
-    placer: &Placer<F>,
+    placer: &P,
 ) -> Result<Act, Memory>
-where
-    F: Fn(u32, &[DriveLoad]) -> Result<Numbers, Memory>,
-    requires placer { IsPlacer F.Fn placer.now }
+    requires placer { P.is_placer placer.now }
     ensures { IfOk result (λ act. ActsWith (λ w chosen. gives w chosen (Obeys ToDeclare drive)) (ends_in (Opens (event.Declare drive))) parties.old parties.new act) }
 {
     let act = parties.server.declare(alloc, drive, placer)?;

@@ -1,15 +1,14 @@
 // A message is delivered.
 ghost use Rattle.std.specs.Prelude.{◌≡◌, ◌<◌, length, IfOk, OnOk};
-ghost use Rattle.stripe_repair.specs.Placing.{IsPlacer};
 ghost use Rattle.scenario_text.specs.declared.line.Party.TheVariants as party;
 ghost use Rattle.world_history.specs.Moves.{Delivers, delivers};
 ghost use Rattle.layout_world.specs.Acting.{ActsWith, ends_in, HandsAt, HandsTo, Marked};
 
 use crate::parties::Parties;
-use osd_bytes::{Memory, Numbers};
+use osd_bytes::Memory;
 use scenario_text::{ClientName, Delivery, DriveName, Line, Party};
 use std::alloc::Global;
-use stripe_repair::{DriveLoad, Placer};
+use stripe_repair::Place;
 use world_clients::clients_are_the_worlds;
 use world_drives::drives_are_the_worlds;
 use world_moves::behind;
@@ -56,16 +55,14 @@ fn hand_client(
 }
 
 // The same to the server.
-fn hand_server<F>(
+fn hand_server<P: Place>(
     parties: &mut Parties,
     alloc: Global,
     number: usize,
-    placer: &Placer<F>,
+    placer: &P,
 ) -> Result<Handed, Memory>
-where
-    F: Fn(u32, &[DriveLoad]) -> Result<Numbers, Memory>,
     requires sent { number < length parties.old.network.messages }
-    requires placer { IsPlacer F.Fn placer.now }
+    requires placer { P.is_placer placer.now }
     ensures handed { IfOk result (λ h. HandsTo number party.Server parties.old parties.new h) }
     ensures network { parties.new.network ≡ parties.old.network }
 {
@@ -79,16 +76,14 @@ where
 }
 
 // Message `number` comes to its receiver.
-fn hand<F>(
+fn hand<P: Place>(
     parties: &mut Parties,
     alloc: Global,
     number: usize,
-    placer: &Placer<F>,
+    placer: &P,
 ) -> Result<Handed, Memory>
-where
-    F: Fn(u32, &[DriveLoad]) -> Result<Numbers, Memory>,
     requires sent { number < length parties.old.network.messages }
-    requires placer { IsPlacer F.Fn placer.now }
+    requires placer { P.is_placer placer.now }
     ensures handed { IfOk result (λ h. HandsAt number parties.old parties.new h) }
     ensures network { parties.new.network ≡ parties.old.network }
 {
@@ -104,15 +99,13 @@ where
 /// # Errors
 ///
 /// Want of memory alone.
-pub fn deliver<F>(
+pub fn deliver<P: Place>(
     parties: &mut Parties,
     alloc: Global,
     number: usize,
-    placer: &Placer<F>,
+    placer: &P,
 ) -> Result<Act, Memory>
-where
-    F: Fn(u32, &[DriveLoad]) -> Result<Numbers, Memory>,
-    requires placer { IsPlacer F.Fn placer.now }
+    requires placer { P.is_placer placer.now }
     ensures acts { IfOk result (λ act. ActsWith (λ w chosen. delivers w chosen number) (ends_in (Delivers number)) parties.old parties.new act) }
     ensures marked { OnOk result (Marked number parties.old.network parties.new.network) }
 {

@@ -4,7 +4,7 @@ ghost use Rattle.server_rules.specs.Answers.{recalls_from};
 ghost use Rattle.server_requests.specs.Sending.{all_sent};
 ghost use Rattle.server_rules.specs.Files.{file_at};
 ghost use Rattle.server_rules.specs.Orders.{ordered, starts, unknown};
-ghost use Rattle.stripe_repair.specs.Placing.{AreDifferent, IsPlacer, drives_of};
+ghost use Rattle.stripe_repair.specs.Placing.{AreDifferent, drives_of};
 ghost use Rattle.stripe_repair.specs.declared.loads.TheConstants.{MAX_DRIVES};
 ghost use Rattle.server_state.specs.declared.state.State.{State as AState};
 ghost use Rattle.file_jobs.specs.Placing.{AreLoadsOf};
@@ -18,12 +18,12 @@ use crate::loads::loads_of;
 use file_jobs::{FileState, begin, note};
 use file_requests::waits;
 use layout_ops::OrderResult;
-use osd_bytes::{Memory, Numbers};
+use osd_bytes::Memory;
 use server_requests::{Sends, send_recalls};
 use server_rules::{Effects, GREATEST_TAG, Grant, JobKind, NoteKind};
 use server_state::{Files, State, Step, finish_step, list, no_effects, only_sends, unlist};
 use std::alloc::Global;
-use stripe_repair::{DriveLoad, Placer};
+use stripe_repair::{DriveLoad, Place};
 
 /// The step of an order, and what came of it.
 #[derive(Debug, Drop)]
@@ -78,20 +78,18 @@ pub fn order_recall(alloc: Global, state: &mut State, number: u32) -> Result<Obe
 }
 
 // A fence begins at a file for a job of that kind, unless a job runs or the tag is spent.
-fn begin_at<F>(
+fn begin_at<P: Place>(
     alloc: Global,
     file: &mut FileState,
     effects: &mut Effects,
     kind: JobKind,
     format: u8,
     loads: &[DriveLoad],
-    placer: &Placer<F>,
+    placer: &P,
 ) -> Result<OrderResult, Memory>
-where
-    F: Fn(u32, &[DriveLoad]) -> Result<Numbers, Memory>,
     requires few { length loads.now ≤ MAX_DRIVES }
     requires different { AreDifferent (drives_of loads.now) }
-    requires placer { IsPlacer F.Fn placer.now }
+    requires placer { P.is_placer placer.now }
     requires sound { IsSoundFile file.old }
     requires low { effects.old.nonce < 2 ^ 63 }
     requires objects { effects.old.object < 2 ^ 63 }
@@ -112,7 +110,7 @@ where
 }
 
 // The same at the file of its number, `None` exactly where there is none.
-fn begin_in<F>(
+fn begin_in<P: Place>(
     alloc: Global,
     files: &mut Files,
     effects: &mut Effects,
@@ -120,13 +118,11 @@ fn begin_in<F>(
     kind: JobKind,
     format: u8,
     loads: &[DriveLoad],
-    placer: &Placer<F>,
+    placer: &P,
 ) -> Result<Option<OrderResult>, Memory>
-where
-    F: Fn(u32, &[DriveLoad]) -> Result<Numbers, Memory>,
     requires few { length loads.now ≤ MAX_DRIVES }
     requires different { AreDifferent (drives_of loads.now) }
-    requires placer { IsPlacer F.Fn placer.now }
+    requires placer { P.is_placer placer.now }
     requires files { AreEntries files.old.entries }
     requires low { effects.old.nonce < 2 ^ 63 }
     requires objects { effects.old.object < 2 ^ 63 }
@@ -143,22 +139,20 @@ where
 }
 
 // The step of an order for a job at its file, which is unlisted.
-fn order_job_at<F>(
+fn order_job_at<P: Place>(
     alloc: Global,
     state: &mut State,
     number: u32,
     kind: JobKind,
     loads: &[DriveLoad],
-    placer: &Placer<F>,
+    placer: &P,
 ) -> Result<Obeyed, Memory>
-where
-    F: Fn(u32, &[DriveLoad]) -> Result<Numbers, Memory>,
     requires good { IsGoodBut number state.old }
     requires room { HasRoom (server_of state.old) }
     requires few { length loads.now ≤ MAX_DRIVES }
     requires different { AreDifferent (drives_of loads.now) }
     requires loads { AreLoadsOf loads.now state.old.drives }
-    requires placer { IsPlacer F.Fn placer.now }
+    requires placer { P.is_placer placer.now }
     ensures obeys { IfOk result (λ o. (chosen : List ℕ) × Obeys o (server_of state.new)
         (starts (server_of state.old) chosen kind (file_at (server_of state.old).files number))) }
     ensures good { OnOk result (IsGoodBut number state.new) }
@@ -190,18 +184,16 @@ where
 /// # Errors
 ///
 /// Want of memory alone.
-pub fn order_job<F>(
+pub fn order_job<P: Place>(
     alloc: Global,
     state: &mut State,
     number: u32,
     kind: JobKind,
-    placer: &Placer<F>,
+    placer: &P,
 ) -> Result<Obeyed, Memory>
-where
-    F: Fn(u32, &[DriveLoad]) -> Result<Numbers, Memory>,
     requires good { IsGood state.old }
     requires room { HasRoom (server_of state.old) }
-    requires placer { IsPlacer F.Fn placer.now }
+    requires placer { P.is_placer placer.now }
     ensures obeys { IfOk result (λ o. (chosen : List ℕ) × Obeys o (server_of state.new)
         (starts (server_of state.old) chosen kind (file_at (server_of state.old).files number))) }
     ensures good { OnOk result (IsGood state.new) }

@@ -1,6 +1,5 @@
 // A record of a node, handed to the server.
 ghost use Rattle.std.specs.Prelude.{◌≡◌, ◌++◌, Bool, List, IfOk, OnOk};
-ghost use Rattle.stripe_repair.specs.Placing.{IsPlacer};
 ghost use Rattle.osd_bytes.specs.declared.node.Node.TheVariants.{Drive};
 ghost use Rattle.osd_asking.specs.Asking.{ends_of};
 ghost use Rattle.server_requests.specs.declared.sending.Sent.{Sent};
@@ -10,9 +9,9 @@ use crate::telling::tell_notes;
 use layout_ops::{Envelope, OpErr, read_envelope};
 use layout_server::{Sends, Sent, ServerCore, Step};
 use osd_asking::asked;
-use osd_bytes::{Bytes, Clock, Links, Memory, Node, Numbers};
+use osd_bytes::{Bytes, Clock, Links, Memory, Node};
 use std::alloc::Global;
-use stripe_repair::{DriveLoad, Placer};
+use stripe_repair::Place;
 
 /// Who sent a record of an accepted connection: the client that a request or a recall's answer names, else the program
 /// that gives orders, which stands for the server.
@@ -38,18 +37,16 @@ pub fn sender_of(alloc: Global, message: &[u8]) -> Result<Node, Memory>
 /// # Errors
 ///
 /// Want of memory alone. Then nothing is left of the server.
-pub fn handle<L: Links, C: Clock, F>(
+pub fn handle<L: Links, C: Clock, P: Place>(
     alloc: Global,
     core: &mut ServerCore,
     links: &mut L,
     clock: &mut C,
-    placer: &Placer<F>,
+    placer: &P,
     from: Node,
     message: &[u8],
 ) -> Result<Sends, Memory>
-where
-    F: Fn(u32, &[DriveLoad]) -> Result<Numbers, Memory>,
-    requires placer { IsPlacer F.Fn placer.now }
+    requires placer { P.is_placer placer.now }
     ensures { IfOk result (λ sends. (waiting : List Sent) (stands : Bool) → Handles from message.now
         (serving core.old waiting stands (ends_of (L.told links.old) (L.faults links.old) (C.times clock.old)))
         (serving core.new (waiting ++ sends) stands
@@ -78,19 +75,17 @@ fn push_all(alloc: Global, waiting: &mut Sends, more: &[Sent]) -> Result<(), Mem
 /// # Errors
 ///
 /// Want of memory alone.
-pub fn hear_drive<L: Links, C: Clock, F>(
+pub fn hear_drive<L: Links, C: Clock, P: Place>(
     alloc: Global,
     core: &mut ServerCore,
     links: &mut L,
     clock: &mut C,
-    placer: &Placer<F>,
+    placer: &P,
     drive: u32,
     reply: &[u8],
     waiting: &mut Sends,
 ) -> Result<(), Memory>
-where
-    F: Fn(u32, &[DriveLoad]) -> Result<Numbers, Memory>,
-    requires placer { IsPlacer F.Fn placer.now }
+    requires placer { P.is_placer placer.now }
     ensures { OnOk result ((stands : Bool) → Handles (Drive drive) reply.now
         (serving core.old waiting.old stands (ends_of (L.told links.old) (L.faults links.old) (C.times clock.old)))
         (serving core.new waiting.new stands (ends_of (L.told links.new) (L.faults links.new) (C.times clock.new)))) }
@@ -106,19 +101,17 @@ where
 /// # Errors
 ///
 /// Want of memory alone.
-pub fn ask_drive<L: Links, C: Clock, F>(
+pub fn ask_drive<L: Links, C: Clock, P: Place>(
     alloc: Global,
     core: &mut ServerCore,
     links: &mut L,
     clock: &mut C,
-    placer: &Placer<F>,
+    placer: &P,
     drive: u32,
     message: &[u8],
     waiting: &mut Sends,
 ) -> Result<(), Memory>
-where
-    F: Fn(u32, &[DriveLoad]) -> Result<Numbers, Memory>,
-    requires placer { IsPlacer F.Fn placer.now }
+    requires placer { P.is_placer placer.now }
     ensures { OnOk result ((stands : Bool) → AsksDrive drive message.now
         (serving core.old waiting.old stands (ends_of (L.told links.old) (L.faults links.old) (C.times clock.old)))
         (serving core.new waiting.new stands (ends_of (L.told links.new) (L.faults links.new) (C.times clock.new)))) }

@@ -1,5 +1,4 @@
 ghost use Rattle.std.specs.Prelude.{◌≡◌, [], not, is_some, IfOk, OnOk};
-ghost use Rattle.stripe_repair.specs.Placing.{IsPlacer};
 ghost use Rattle.server_rules.specs.Files.{file_at, Step as RulesStep};
 ghost use Rattle.server_rules.specs.Making.{new_server};
 ghost use Rattle.server_rules.specs.History.{Obeys, Formats, Resends};
@@ -14,13 +13,13 @@ ghost use Rattle.world_server.specs.Acting.{Acts, Adds, Does, Gives, Hears, Make
 use crate::making::{has_algorithm, has_number, raw_map, tell_refusal};
 use crate::posting::postings;
 use layout_server::{DriveInfo, DriveTable, Repairs, ServerCore, Step};
-use osd_bytes::{Memory, Node, Numbers};
+use osd_bytes::{Memory, Node};
 use scenario_text::{Delivery, DriveName, FileMap, FileName, Line, MapFault, Note};
 use server_rules::Kept;
 use std::alloc::Global;
 use std::marker::Model;
 use std::mem;
-use stripe_repair::{DriveLoad, Placer};
+use stripe_repair::Place;
 use world_network::Lines;
 use world_watch::KeptFiles;
 use world_words::{Act, Handed, lines_of};
@@ -117,17 +116,15 @@ impl WorldServer {
     /// # Errors
     ///
     /// Want of memory alone.
-    pub fn hear<F>(
+    pub fn hear<P: Place>(
         &mut self,
         alloc: Global,
         now: u64,
         from: Node,
         bytes: &[u8],
-        placer: &Placer<F>,
+        placer: &P,
     ) -> Result<Handed, Memory>
-    where
-        F: Fn(u32, &[DriveLoad]) -> Result<Numbers, Memory>,
-        requires { IsPlacer F.Fn placer.now }
+        requires { P.is_placer placer.now }
         ensures { IfOk result (Hears self.old.state now from bytes.now self.new) }
     {
         let step = self.core.on_message(now, from, bytes, placer)?;
@@ -170,17 +167,15 @@ impl WorldServer {
     /// # Errors
     ///
     /// Want of memory alone.
-    pub fn make_file<F>(
+    pub fn make_file<P: Place>(
         &mut self,
         alloc: Global,
         file: FileName,
         map: &FileMap,
         tag: u32,
-        placer: &Placer<F>,
+        placer: &P,
     ) -> Result<Act, Memory>
-    where
-        F: Fn(u32, &[DriveLoad]) -> Result<Numbers, Memory>,
-        requires { IsPlacer F.Fn placer.now }
+        requires { P.is_placer placer.now }
         ensures { IfOk result (Makes self.old file (raw_of map.now) tag self.new) }
     {
         self.ready()?;
@@ -221,15 +216,13 @@ impl WorldServer {
     /// # Errors
     ///
     /// Want of memory alone.
-    pub fn revoke<F>(
+    pub fn revoke<P: Place>(
         &mut self,
         alloc: Global,
         file: FileName,
-        placer: &Placer<F>,
+        placer: &P,
     ) -> Result<Act, Memory>
-    where
-        F: Fn(u32, &[DriveLoad]) -> Result<Numbers, Memory>,
-        requires { IsPlacer F.Fn placer.now }
+        requires { P.is_placer placer.now }
         ensures { IfOk result (Gives self.old.state (Obeys ToRevoke file) self.new) }
     {
         self.ready()?;
@@ -242,15 +235,13 @@ impl WorldServer {
     /// # Errors
     ///
     /// Want of memory alone.
-    pub fn rebuild<F>(
+    pub fn rebuild<P: Place>(
         &mut self,
         alloc: Global,
         file: FileName,
-        placer: &Placer<F>,
+        placer: &P,
     ) -> Result<Act, Memory>
-    where
-        F: Fn(u32, &[DriveLoad]) -> Result<Numbers, Memory>,
-        requires { IsPlacer F.Fn placer.now }
+        requires { P.is_placer placer.now }
         ensures { IfOk result (Gives self.old.state (Obeys ToRebuild file) self.new) }
     {
         self.ready()?;
@@ -263,15 +254,13 @@ impl WorldServer {
     /// # Errors
     ///
     /// Want of memory alone.
-    pub fn audit<F>(
+    pub fn audit<P: Place>(
         &mut self,
         alloc: Global,
         file: FileName,
-        placer: &Placer<F>,
+        placer: &P,
     ) -> Result<Act, Memory>
-    where
-        F: Fn(u32, &[DriveLoad]) -> Result<Numbers, Memory>,
-        requires { IsPlacer F.Fn placer.now }
+        requires { P.is_placer placer.now }
         ensures { IfOk result (Gives self.old.state (Obeys ToAudit file) self.new) }
     {
         self.ready()?;
@@ -284,15 +273,13 @@ impl WorldServer {
     /// # Errors
     ///
     /// Want of memory alone.
-    pub fn declare<F>(
+    pub fn declare<P: Place>(
         &mut self,
         alloc: Global,
         drive: DriveName,
-        placer: &Placer<F>,
+        placer: &P,
     ) -> Result<Act, Memory>
-    where
-        F: Fn(u32, &[DriveLoad]) -> Result<Numbers, Memory>,
-        requires { IsPlacer F.Fn placer.now }
+        requires { P.is_placer placer.now }
         ensures { IfOk result (Gives self.old.state (Obeys ToDeclare drive) self.new) }
     {
         self.ready()?;
