@@ -15,23 +15,27 @@ use server_state::{State, Step, on_request, only_sends};
 use std::alloc::Global;
 use stripe_repair::Place;
 
-// An order, by its kind.
+/// Obeys an order on a file, or on a drive that is declared, by the order's kind.
+///
+/// # Errors
+///
+/// Want of memory alone.
 #[tactic(auto, unfolding(server_rules::specs::Orders::ordered))]
-fn obey<P: Place>(
+pub fn obey<P: Place>(
     alloc: Global,
     state: &mut State,
-    order: Order,
+    kind: OrderKind,
+    target: u32,
     placer: &P,
 ) -> Result<Obeyed, Memory>
     requires good { IsGood state.old }
     requires room { HasRoom (server_of state.old) }
     requires placer { P.is_placer placer.now }
     ensures obeys { IfOk result (λ o. (chosen : List ℕ)
-        × Obeys o (server_of state.new) (ordered (server_of state.old) chosen order.order order.target)) }
+        × Obeys o (server_of state.new) (ordered (server_of state.old) chosen kind target)) }
     ensures good { OnOk result (IsGood state.new) }
 {
-    let target = order.target;
-    match order.order {
+    match kind {
         OrderKind::Recall => order_recall(alloc, state, target),
         OrderKind::Revoke => order_job(alloc, state, target, JobKind::Revoking, placer),
         OrderKind::Declare => order_declare(alloc, state, target, placer),
@@ -40,7 +44,7 @@ fn obey<P: Place>(
     }
 }
 
-// An order, and the answer to who gave it.
+// Obeys an order, and answers who gave it.
 fn obey_and_answer<P: Place>(
     alloc: Global,
     state: &mut State,
@@ -54,7 +58,7 @@ fn obey_and_answer<P: Place>(
         (with_result order.order (ordered (server_of state.old) chosen order.order order.target))) }
     ensures good { OnOk result (IsGood state.new) }
 {
-    let Obeyed { mut step, result } = obey(alloc, state, order, placer)?;
+    let Obeyed { mut step, result } = obey(alloc, state, order.order, order.target, placer)?;
     let answer = OrderAnswer {
         order: order.order,
         result,
@@ -92,8 +96,8 @@ fn handle<P: Place>(
     }
 }
 
-/// The step of bytes from a node. Nothing changes where there is no message in them, or where the counters have no
-/// room: `low` says whether they have.
+/// The step of bytes from a node. Nothing changes if there is no message in them, or if the counters have no room:
+/// `has_room` says whether they have.
 ///
 /// # Errors
 ///
@@ -106,17 +110,17 @@ pub fn hear<P: Place>(
     from: Node,
     bytes: &[u8],
     placer: &P,
-    low: bool,
+    has_room: bool,
 ) -> Result<Step, Memory>
     requires good { IsGood state.old }
-    requires low { low ≡ counters_have_room (server_of state.old) }
-    requires room { IsTrue low ↔ HasRoom (server_of state.old) }
+    requires counters { has_room ≡ counters_have_room (server_of state.old) }
+    requires room { IsTrue has_room ↔ HasRoom (server_of state.old) }
     requires placer { P.is_placer placer.now }
     ensures did { IfOk result (λ out. (chosen : List ℕ) × Did out (server_of state.new)
         (on_bytes (server_of state.old) now chosen from bytes.now)) }
     ensures good { OnOk result (IsGood state.new) }
 {
-    if !low {
+    if !has_room {
         return Ok(only_sends(alloc, Sends::new(alloc)));
     }
     match message_in(alloc, from, bytes)? {

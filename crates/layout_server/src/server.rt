@@ -15,15 +15,16 @@ ghost use Rattle.server_orders.specs.Resending.{waited_of};
 ghost use Rattle.layout_server.specs.Calls.{Makes, IsRefused};
 
 use crate::looking::{kept_of, numbers_of};
-use crate::messages::hear;
+use crate::messages::{hear, obey};
 use data_map::RawMap;
+use layout_ops::OrderKind;
 use osd_bytes::{Memory, Node, Numbers};
 use server_orders::{
-    DriveInfo, DriveTable, FileErr, add_drive, add_drives, create_file, order_declare, order_job,
-    order_recall, resend, waits,
+    DriveInfo, DriveTable, FileErr, add_drive, add_drives, create_file, order_declare, order_recall,
+    resend, waits,
 };
 use server_requests::Sends;
-use server_rules::{COUNTERS_END, Drive, JobKind, Kept};
+use server_rules::{COUNTERS_END, Drive, Kept};
 use server_state::{State, Step};
 use std::alloc::Global;
 use std::marker::Model;
@@ -162,11 +163,30 @@ impl ServerCore {
         ensures { IfOk result (λ out. (chosen : List ℕ)
             × Did out self.new (on_bytes self.old now chosen from bytes.now)) }
     {
-        let low = self.counters_low();
+        let has_room = self.counters_low();
         let mut state = self.begin()?;
-        let step = hear(self.alloc, &mut state, now, from, bytes, placer, low)?;
+        let step = hear(self.alloc, &mut state, now, from, bytes, placer, has_room)?;
         self.keep(state);
         Ok(step)
+    }
+
+    /// The server is given an order on a file, or on a drive that is declared. [`recall`](Self::recall),
+    /// [`revoke`](Self::revoke), [`rebuild`](Self::rebuild), [`audit`](Self::audit) and [`declare`](Self::declare) say
+    /// what each kind does.
+    ///
+    /// # Errors
+    ///
+    /// Want of memory; and, where a drive is declared, a counter of 64 bits without room in the middle of the step.
+    pub fn order<P: Place>(&mut self, kind: OrderKind, target: u32, placer: &P) -> Result<Step, Memory>
+        requires room { HasRoom self.old }
+        requires placer { P.is_placer placer.now }
+        ensures { IfOk result (λ out. (chosen : List ℕ)
+            × Did out self.new (ordered self.old chosen kind target).step) }
+    {
+        let mut state = self.begin()?;
+        let obeyed = obey(self.alloc, &mut state, kind, target, placer)?;
+        self.keep(state);
+        Ok(obeyed.step)
     }
 
     /// A recall goes to each holder of a grant on a file.
@@ -190,17 +210,13 @@ impl ServerCore {
     /// # Errors
     ///
     /// Want of memory alone.
-    #[tactic(auto, unfolding(server_rules::specs::Orders::ordered))]
     pub fn revoke<P: Place>(&mut self, file: u32, placer: &P) -> Result<Step, Memory>
         requires room { HasRoom self.old }
         requires placer { P.is_placer placer.now }
         ensures { IfOk result (λ out. (chosen : List ℕ)
             × Did out self.new (ordered self.old chosen order.Revoke file).step) }
     {
-        let mut state = self.begin()?;
-        let obeyed = order_job(self.alloc, &mut state, file, JobKind::Revoking, placer)?;
-        self.keep(state);
-        Ok(obeyed.step)
+        self.order(OrderKind::Revoke, file, placer)
     }
 
     /// The missing components of a file are made anew on other drives, behind a fence and its repair; unless a job
@@ -209,17 +225,13 @@ impl ServerCore {
     /// # Errors
     ///
     /// Want of memory alone.
-    #[tactic(auto, unfolding(server_rules::specs::Orders::ordered))]
     pub fn rebuild<P: Place>(&mut self, file: u32, placer: &P) -> Result<Step, Memory>
         requires room { HasRoom self.old }
         requires placer { P.is_placer placer.now }
         ensures { IfOk result (λ out. (chosen : List ℕ)
             × Did out self.new (ordered self.old chosen order.Rebuild file).step) }
     {
-        let mut state = self.begin()?;
-        let obeyed = order_job(self.alloc, &mut state, file, JobKind::Rebuilding, placer)?;
-        self.keep(state);
-        Ok(obeyed.step)
+        self.order(OrderKind::Rebuild, file, placer)
     }
 
     /// The stripes of a file are read and compared, behind a fence and its repair; unless a job runs or the file's
@@ -228,20 +240,17 @@ impl ServerCore {
     /// # Errors
     ///
     /// Want of memory alone.
-    #[tactic(auto, unfolding(server_rules::specs::Orders::ordered))]
     pub fn audit<P: Place>(&mut self, file: u32, placer: &P) -> Result<Step, Memory>
         requires room { HasRoom self.old }
         requires placer { P.is_placer placer.now }
         ensures { IfOk result (λ out. (chosen : List ℕ)
             × Did out self.new (ordered self.old chosen order.Audit file).step) }
     {
-        let mut state = self.begin()?;
-        let obeyed = order_job(self.alloc, &mut state, file, JobKind::Auditing, placer)?;
-        self.keep(state);
-        Ok(obeyed.step)
+        self.order(OrderKind::Audit, file, placer)
     }
 
-    /// A drive has failed: it is offline from now on, and each component on it missing.
+    /// A drive has failed: it is offline from now on, and each component on it missing. Unlike the other orders this
+    /// one may be given where the counters have little room.
     ///
     /// # Errors
     ///

@@ -8,6 +8,7 @@ use crate::changing::change;
 use crate::delivering::deliver;
 use crate::parties::Parties;
 use crate::{by_client, by_server};
+use layout_ops::OrderKind;
 use osd_bytes::Memory;
 use scenario_text::{DriveName, Event, Line, Sender};
 use std::alloc::Global;
@@ -78,18 +79,29 @@ pub fn begin<P: Place>(
     placer: &P,
 ) -> Result<Act, Memory>
     requires placer { P.is_placer placer.now }
-    ensures { IfOk result (λ act. ActsWith (λ w chosen. begins w chosen event.now) (ends_in (Opens event.now)) parties.old parties.new act) }
+    ensures { IfOk result (λ act. ActsWith (λ w chosen. begins w chosen event.now) (ends_in (Opens event.now))
+        parties.old parties.new act) }
 {
     match event {
         Event::Deliver { message } => deliver(parties, alloc, *message as usize, placer),
         Event::File { file, map, tag } => {
             by_server::make_file(parties, alloc, *file, map, *tag, placer)
         }
-        Event::Recall { file } => by_server::recall(parties, alloc, *file),
-        Event::Revoke { file } => by_server::revoke(parties, alloc, *file, placer),
-        Event::Rebuild { file } => by_server::rebuild(parties, alloc, *file, placer),
-        Event::Audit { file } => by_server::audit(parties, alloc, *file, placer),
-        Event::Declare { drive } => by_server::declare(parties, alloc, *drive, placer),
+        Event::Recall { file } => {
+            by_server::order(parties, alloc, OrderKind::Recall, file.number(), placer)
+        }
+        Event::Revoke { file } => {
+            by_server::order(parties, alloc, OrderKind::Revoke, file.number(), placer)
+        }
+        Event::Rebuild { file } => {
+            by_server::order(parties, alloc, OrderKind::Rebuild, file.number(), placer)
+        }
+        Event::Audit { file } => {
+            by_server::order(parties, alloc, OrderKind::Audit, file.number(), placer)
+        }
+        Event::Declare { drive } => {
+            by_server::order(parties, alloc, OrderKind::Declare, drive.number(), placer)
+        }
         _ => begin_plain(parties, alloc, event),
     }
 }

@@ -3,7 +3,6 @@ ghost use Rattle.server_rules.specs.Files.{file_at, Step as RulesStep};
 ghost use Rattle.server_rules.specs.Making.{new_server};
 ghost use Rattle.server_rules.specs.History.{Obeys, Formats, Resends};
 ghost use Rattle.server_state.specs.States.{HasRoom, Did};
-ghost use Rattle.world_history.specs.ServerNames.{ToRecall, ToRevoke, ToRebuild, ToAudit, ToDeclare};
 ghost use Rattle.world_history.specs.State.{World};
 ghost use Rattle.world_history.specs.Moves.{raw_of, gives};
 ghost use Rattle.world_history.specs.Refusals.{lacks_file};
@@ -12,6 +11,7 @@ ghost use Rattle.world_server.specs.Acting.{Acts, Adds, Does, Gives, Hears, Make
 
 use crate::making::{has_algorithm, has_number, raw_map, tell_refusal};
 use crate::posting::postings;
+use layout_ops::OrderKind;
 use layout_server::{DriveInfo, DriveTable, Repairs, ServerCore, Step};
 use osd_bytes::{Memory, Node};
 use scenario_text::{Delivery, DriveName, FileMap, FileName, Line, MapFault, Note};
@@ -198,92 +198,23 @@ impl WorldServer {
         }
     }
 
-    /// Every grant of a file is recalled.
+    /// The server is given an order on a file, or on a failed drive that is taken out.
     ///
     /// # Errors
     ///
     /// Want of memory alone.
-    pub fn recall(&mut self, alloc: Global, file: FileName) -> Result<Act, Memory>
-        ensures { IfOk result (Gives self.old.state (Obeys ToRecall file) self.new) }
-    {
-        self.ready()?;
-        let step = self.core.recall(file.number())?;
-        self.did(alloc, step)
-    }
-
-    /// A fence and a repair of a file begin.
-    ///
-    /// # Errors
-    ///
-    /// Want of memory alone.
-    pub fn revoke<P: Place>(
+    pub fn order<P: Place>(
         &mut self,
         alloc: Global,
-        file: FileName,
+        kind: OrderKind,
+        target: u32,
         placer: &P,
     ) -> Result<Act, Memory>
         requires { P.is_placer placer.now }
-        ensures { IfOk result (Gives self.old.state (Obeys ToRevoke file) self.new) }
+        ensures { IfOk result (Gives self.old.state (Obeys kind target) self.new) }
     {
         self.ready()?;
-        let step = self.core.revoke(file.number(), placer)?;
-        self.did(alloc, step)
-    }
-
-    /// A file's missing components are rebuilt.
-    ///
-    /// # Errors
-    ///
-    /// Want of memory alone.
-    pub fn rebuild<P: Place>(
-        &mut self,
-        alloc: Global,
-        file: FileName,
-        placer: &P,
-    ) -> Result<Act, Memory>
-        requires { P.is_placer placer.now }
-        ensures { IfOk result (Gives self.old.state (Obeys ToRebuild file) self.new) }
-    {
-        self.ready()?;
-        let step = self.core.rebuild(file.number(), placer)?;
-        self.did(alloc, step)
-    }
-
-    /// A file is audited.
-    ///
-    /// # Errors
-    ///
-    /// Want of memory alone.
-    pub fn audit<P: Place>(
-        &mut self,
-        alloc: Global,
-        file: FileName,
-        placer: &P,
-    ) -> Result<Act, Memory>
-        requires { P.is_placer placer.now }
-        ensures { IfOk result (Gives self.old.state (Obeys ToAudit file) self.new) }
-    {
-        self.ready()?;
-        let step = self.core.audit(file.number(), placer)?;
-        self.did(alloc, step)
-    }
-
-    /// A failed drive is taken out.
-    ///
-    /// # Errors
-    ///
-    /// Want of memory alone.
-    pub fn declare<P: Place>(
-        &mut self,
-        alloc: Global,
-        drive: DriveName,
-        placer: &P,
-    ) -> Result<Act, Memory>
-        requires { P.is_placer placer.now }
-        ensures { IfOk result (Gives self.old.state (Obeys ToDeclare drive) self.new) }
-    {
-        self.ready()?;
-        let step = self.core.declare(drive.number(), placer)?;
+        let step = self.core.order(kind, target, placer)?;
         self.did(alloc, step)
     }
 
