@@ -15,7 +15,7 @@ pub record Going : Type 0 where
 abbrev pub keeping : Going → Kept → Going
 keeping g k = record g { file = record g.file { kept = k } }
 
--- its components become these
+-- the file's components become these
 abbrev pub with_components : Going → List Component → Going
 with_components g cs = keeping g (record g.file.kept { components = cs })
 
@@ -25,7 +25,7 @@ over g = record g { file = record g.file { job = None } }
 
 -- ---- what the step did
 
--- a note on the file
+-- the step notes this of the file
 abbrev pub noting : Going → NoteKind → Going
 noting g n =
     record g {
@@ -35,11 +35,11 @@ noting g n =
       };
     }
 
--- a note where the test holds
+-- the step notes this of the file if the test holds
 abbrev pub noting_if : Bool → Going → NoteKind → Going
 noting_if b g n = record g { effects = record g.effects { notes = if b then (noting g n).effects.notes else g.effects.notes } }
 
--- these commands are sent
+-- the step sends these commands
 abbrev pub sending : Going → List Awaited → Going
 sending g cs = record g { effects = record g.effects { nonce = g.effects.nonce + length cs; sent = g.effects.sent ++ cs } }
 

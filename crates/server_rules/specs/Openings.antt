@@ -23,11 +23,11 @@ abbrev pub is_still : Phase → Bool
 is_still Still = true
 is_still phase = false
 
--- it has a grant that nothing ended, or a fence that no repair followed
+-- the file has a grant that nothing ended, or a fence that no repair followed
 abbrev pub is_unsettled : Kept → Bool
 is_unsettled f = nat_lt 0 (length f.grants) || not (is_still f.phase)
 
--- its CREATEs go again where it isn't ready
+-- the file's CREATEs go again if it isn't ready
 abbrev pub opens_made : Going → (ready : Bool) → Going
 opens_made g true = over g
 opens_made g false = making g

@@ -58,12 +58,12 @@ recalls_on s (Some f) = recalls s f
 
 -- ---- a drive is declared
 
--- it is offline
+-- the drive is offline
 unfoldable pub offline : List Drive → (drive : ℕ) → List Drive
 offline [] drive = []
 offline (d ∷ ds) drive = (if d.number == drive then record d { online = false } else d) ∷ offline ds drive
 
--- and at each file, in order, its components are missing
+-- at each file, in order, the components on the drive are missing
 unfoldable pub declares_each : (drive : ℕ) → List Drive → List File → Effects → (chosen : List ℕ) → Round
 declares_each drive ds [] m chosen = record { files = []; effects = m; chosen = chosen }
 declares_each drive ds (f ∷ fs) m chosen =
@@ -94,7 +94,7 @@ ordered s chosen ToDeclare n = declares_known s chosen n (is_some (find (λ d. d
 ordered s chosen ToRebuild n = starts s chosen Rebuilding (file_at s.files n)
 ordered s chosen ToAudit n = starts s chosen Auditing (file_at s.files n)
 
--- the order with its answer behind
+-- the step of an order, with the answer behind all else that it sends
 abbrev pub with_result : OrderKind → Ordered → Step
 with_result kind o =
     record o.step { sends = o.step.sends ++ (AnswersOrder (record { order = kind; result = o.result }) ∷ []) }

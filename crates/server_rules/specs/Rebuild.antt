@@ -31,7 +31,7 @@ unfoldable pub target_for : Going → Component → (k : ℕ) → Option Target
 target_for g at k =
     if at.missing then target_on g k (picked g.chosen (free_drives g.drives g.file.kept.components)) else None
 
--- its object is made; the number is used up, and so is the placer's answer
+-- the target's object is made: its number is used up, and so is the placer's answer
 abbrev pub makes : Going → Target → Going
 makes g t = rests (record g { effects = record g.effects { object = t.object + 1 }; chosen = drop 1 g.chosen }) Rebuilding
     (Targets t)
@@ -61,7 +61,7 @@ rebuild_begins g = rebuilds g g.file.kept.components 0
 abbrev pub position_for : Kept → Target → ℕ
 position_for f t = t.component / replicas f.map
 
--- its group
+-- the group of the target's component
 abbrev pub group_for : Kept → Target → ℕ
 group_for f t = group_with f.map t.component
 
@@ -91,12 +91,12 @@ abbrev pub lost : Going → Target → Going
 lost g t =
     goes_past (noting g (Lost t.component (lacking g.file.kept.map g.file.kept.components (group_for g.file.kept t)))) t
 
--- it goes on with these pieces
+-- the rebuild of the component goes on with these pieces
 unfoldable pub fills : Going → Target → List Piece → Going
 fills g t [] = rebuilt g t
 fills g t (p ∷ ps) = rests_or (sources g.file.kept t p g.effects.nonce) g Rebuilding (Gathers t (p ∷ ps)) (lost g t)
 
--- its object is made
+-- the target's object is made, and the pieces of the component come
 abbrev pub fills_all : Going → Target → Going
 fills_all g t = fills g t (pieces_in g.file.kept.map (group_for g.file.kept t) g.file.kept.high)
 
@@ -127,10 +127,10 @@ filling g t p ps bytes =
 
 -- ---- the end of its target
 
--- its drive was declared
+-- the target's drive was declared
 abbrev pub target_gone : Going → Target → Going
 target_gone g t = goes_past (noting g (NoDrive t.component)) t
 
--- its drive has no space
+-- the target's drive has no space
 abbrev pub target_full : Going → Target → Going
 target_full g t = goes_past (noting g (NoSpace t.component)) t

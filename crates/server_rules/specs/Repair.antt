@@ -54,6 +54,6 @@ abbrev pub stored : JobKind → Going → Piece → List Piece → List ℕ → 
 stored kind g p ps short true = repairs kind g (p ∷ ps) short
 stored kind g p ps short false = repairs kind g ps short
 
--- it begins
+-- a repair begins
 unfoldable pub repair_begins : JobKind → Going → Going
 repair_begins kind g = repairs kind g (pieces g.file.kept.map.unit (merged g.file.kept.ended)) []

@@ -92,7 +92,7 @@ hears g j a r Nothing = g
 
 -- ---- whom it is for
 
--- it comes from the drive and with the nonce of the command
+-- a reply answers a command if it comes from its drive and has its nonce
 abbrev pub answers : (drive : ℕ) → Reply → Awaited → Bool
 answers drive r a = (a.command.nonce == r.nonce) && (a.drive == drive)
 
