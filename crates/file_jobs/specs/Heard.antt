@@ -10,13 +10,13 @@ use Rattle.stripe_repair.specs.declared.loads.DriveLoad.{DriveLoad}
 use Rattle.file_jobs.specs.Placing.{AreLoadsOf}
 use Rattle.file_jobs.specs.Steps.{at}
 
--- it answers the command at that place
+-- a reply answers the job's command at that place
 abbrev pub FoundIn : (drive : ℕ) → Reply → (place : ℕ) → Option Job → Type 0
 FoundIn drive r place None = ⊥
 FoundIn drive r place (Some j) = (place < length j.awaited) ×
     (find (answers drive r) j.awaited ≡ slice_get j.awaited place)
 
--- it answers none of its commands
+-- a reply answers none of the job's commands
 abbrev pub FoundNowhere : (drive : ℕ) → Reply → Option Job → Type 0
 FoundNowhere drive r None = Unit {0}
 FoundNowhere drive r (Some j) = find (answers drive r) j.awaited ≡ None

@@ -52,12 +52,12 @@ Fits k sent (Fills t todo) = CanFill k t todo
 Fits k sent Lengths = sent ≤ MAX_FILE_COMPONENTS
 Fits k sent (Checks todo tally) = Unit {0}
 
--- the same where a component became missing meanwhile, so that it may be that the first piece can't be made any more
+-- the part of a job may go on where a component became missing meanwhile, so that the first piece may be lost by now
 abbrev pub FitsAfterLoss : Kept → (sent : ℕ) → Work → Type 0
 FitsAfterLoss k sent (Gathers t todo) = CanFill k t todo
 FitsAfterLoss k sent work = Fits k sent work
 
--- its part may go on
+-- the job's part may go on
 abbrev pub IsSoundJob : Kept → Job → Type 0
 IsSoundJob k j = Fits k (length j.awaited + length j.heard) j.work
 
@@ -76,7 +76,7 @@ pub record IsSoundFile (f : FileState) : Type 0 where
   pub alone : IsAlone f.kept f.job
   pub job : HasSoundJob f.kept f.job
 
--- nothing was sent, and no object number is used up
+-- the step sent nothing, and used no object number up
 abbrev pub Stays : Effects → Effects → Type 0
 Stays was is = (is.nonce ≡ was.nonce) × (is.object ≡ was.object)
 
@@ -94,7 +94,7 @@ RestsLow (Rests j) k is = IsSoundJob k j
 RestsLow (Mended kind) k is = (is.nonce < 2 ^ 63) × (is.object < 2 ^ 63)
 RestsLow (Places from) k is = (is.nonce < 2 ^ 63) × (is.object < 2 ^ 63)
 
--- this job rests
+-- the turn leaves this job at rest
 abbrev pub RestsAs : Job → Turn → Type 0
 RestsAs job Over = ⊥
 RestsAs job (Rests j) = j ≡ job

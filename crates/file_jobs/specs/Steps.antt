@@ -58,7 +58,7 @@ IsSettled (Rests j) = Unit {0}
 IsSettled (Mended kind) = ⊥
 IsSettled (Places from) = ⊥
 
--- it rests, is over, or goes on as a job of this kind
+-- the job rests, is over, or goes on as one of this kind
 abbrev pub GoesOnAs : JobKind → Turn → Type 0
 GoesOnAs kind Over = Unit {0}
 GoesOnAs kind (Rests j) = Unit {0}
@@ -78,7 +78,7 @@ Makes f old was new is = (a : Around) → going new is a ≡ f (going old was a)
 abbrev pub Turns : (Going → Going) → Kept → Effects → Turn → Kept → Effects → Type 0
 Turns f old was turn new is = (a : Around) → turned turn new is a ≡ f (going old was a)
 
--- the same of a command that the job waits for
+-- what a turn does with a command that the job waits for
 abbrev pub TurnsAt : (Going → Awaited → Going) → List Awaited → (place : ℕ) → Kept → Effects → Turn → Kept → Effects →
     Type 0
 TurnsAt f cs place old was turn new is = (a : Awaited) → slice_get cs place ≡ Some a →
@@ -119,11 +119,11 @@ Settles turn loads k was job is =
 abbrev pub Steps : (Going → Going) → FileState → Effects → FileState → Effects → Type 0
 Steps f old was new is = (ds : List Drive) (chosen : List ℕ) → at new is ds chosen ≡ f (at old was ds chosen)
 
--- the same for some answers of the placer
+-- what a step does, for some answers of the placer
 abbrev pub Asks : (Going → Going) → List Drive → FileState → Effects → FileState → Effects → Type 0
 Asks f ds old was new is = (chosen : List ℕ) × ((rest : List ℕ) →
     at new is ds rest ≡ f (at old was ds (chosen ++ rest)))
 
--- the same wherever these are the loads of the drives
+-- what a step does, for some answers of the placer, wherever these are the loads of the drives
 abbrev pub StepsOn : (Going → Going) → List DriveLoad → FileState → Effects → FileState → Effects → Type 0
 StepsOn f loads old was new is = (ds : List Drive) → AreLoadsOf loads ds → Asks f ds old was new is

@@ -20,7 +20,7 @@ work_of (Filling r) = fill_work_of r
 work_of Measuring = Lengths
 work_of (Checking a) = Checks a.todo a.tally
 
--- these commands are sent
+-- the step sends these commands
 abbrev pub sends : Effects → List Awaited → Effects
 sends m cs = record m { nonce = m.nonce + length cs; sent = m.sent ++ cs }
 

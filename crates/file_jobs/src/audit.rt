@@ -14,7 +14,7 @@ use server_rules::{AwaitedCommands, Effects, Heard, JobKind, Kept, NoteKind};
 use std::alloc::Global;
 use stripe_repair::{Ask, Audit, Which, to_all};
 
-// The audit is over.
+// Notes what an audit that is over found.
 fn end_audit(kept: &Kept, effects: &mut Effects, audit: &Audit) -> Result<Turn, Memory>
     requires sound { IsSound kept.now }
     ensures turn { IfOk result (λ turn. Turns (λ g. audited g audit.now.tally)
@@ -32,7 +32,7 @@ fn end_audit(kept: &Kept, effects: &mut Effects, audit: &Audit) -> Result<Turn, 
     Ok(Turn::Over)
 }
 
-// The audit rests on these READs, or is over where there are none.
+// The audit rests on these READs, or is over if there are none.
 fn rest_in_audit(
     alloc: Global,
     kept: &Kept,
@@ -59,7 +59,7 @@ fn rest_in_audit(
     )
 }
 
-// It goes on where its piece begins, or begins again.
+/// Reads the rows of an audit's piece, which begins or begins again.
 pub fn read_next_rows(
     alloc: Global,
     kept: &Kept,
@@ -78,7 +78,7 @@ pub fn read_next_rows(
     rest_in_audit(alloc, kept, effects, audit, reads)
 }
 
-// The rows of its first piece are read.
+/// Judges the rows of an audit's first piece, which are read.
 pub fn judge_rows(
     alloc: Global,
     kept: &Kept,
@@ -98,7 +98,7 @@ pub fn judge_rows(
     rest_in_audit(alloc, kept, effects, audit, reads)
 }
 
-// The lengths are read, and the stripes come.
+/// The lengths are read, and the stripes of the file come next.
 pub fn audit_stripes(
     alloc: Global,
     kept: &Kept,
@@ -117,7 +117,7 @@ pub fn audit_stripes(
     read_next_rows(alloc, kept, effects, audit)
 }
 
-// It begins.
+/// Begins an audit: reads the lengths of the present components.
 #[tactic(auto, unfolding(server_rules::specs::Audit::audit_begins))]
 pub fn begin_audit(alloc: Global, kept: &Kept, effects: &mut Effects) -> Result<Turn, Memory>
     requires sound { IsSound kept.now }

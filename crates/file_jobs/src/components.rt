@@ -7,7 +7,7 @@ use osd_bytes::Memory;
 use server_rules::{Component, Components};
 use std::alloc::Global;
 
-// Those on a drive are missing.
+/// The components, of which those on a drive are missing.
 #[tactic(auto, unfolding(server_rules::specs::Standing::lose_on))]
 pub fn lose_on(alloc: Global, components: &[Component], drive: u32) -> Result<Components, Memory>
     ensures { IfOk result (λ left. left ≡ lose_on drive components.now) }
@@ -20,7 +20,7 @@ pub fn lose_on(alloc: Global, components: &[Component], drive: u32) -> Result<Co
     Ok(left)
 }
 
-// That component is missing.
+/// The components, of which one is missing.
 #[tactic(auto, unfolding(server_rules::specs::Standing::lose_from, server_rules::specs::Numbers::among))]
 pub fn lose(alloc: Global, components: &[Component], lost: u32) -> Result<Components, Memory>
     requires { length components.now ≤ MAX_FILE_COMPONENTS }
@@ -36,7 +36,7 @@ pub fn lose(alloc: Global, components: &[Component], lost: u32) -> Result<Compon
     Ok(left)
 }
 
-// A present one stands on the drive.
+/// Whether a present component stands on the drive.
 #[tactic(auto, unfolding(server_rules::specs::Standing::any_on))]
 pub fn any_on(drive: u32, components: &[Component]) -> bool
     ensures { result ≡ any_on drive components.now }
@@ -49,7 +49,7 @@ pub fn any_on(drive: u32, components: &[Component]) -> bool
     false
 }
 
-// One of them stands there, or last stood there.
+/// Whether a component stands on the drive, or last stood there.
 #[tactic(auto, unfolding(server_rules::specs::Standing::stood_on))]
 pub fn stood_on(drive: u32, components: &[Component]) -> bool
     ensures { result ≡ stood_on drive components.now }

@@ -9,7 +9,7 @@ use osd_commands::Command;
 use server_rules::{Awaited, AwaitedCommands, Effects, JobKind, Note, NoteKind};
 use std::alloc::Global;
 
-/// The same command once more.
+/// A copy of a command that a job waits for.
 pub fn copy_of(alloc: Global, awaited: &Awaited) -> Result<Awaited, Memory>
     ensures { IfOk result (λ copy. copy ≡ awaited.now) }
 {
@@ -33,14 +33,14 @@ pub fn copy_of(alloc: Global, awaited: &Awaited) -> Result<Awaited, Memory>
     })
 }
 
-/// A note on a file.
+/// Notes something of a file.
 pub fn note(effects: &mut Effects, file: u32, kind: NoteKind) -> Result<(), Memory>
     ensures { OnOk result (effects.new ≡ noted effects.old file kind) }
 {
     effects.notes.push(Note { file, kind })
 }
 
-/// A command is sent.
+/// Sends a command.
 pub fn send(alloc: Global, effects: &mut Effects, command: &Awaited) -> Result<(), Memory>
     requires { effects.old.nonce < 2 ^ 63 }
     ensures { OnOk result (effects.new ≡ sends effects.old (command.now ∷ [])) }
@@ -50,7 +50,7 @@ pub fn send(alloc: Global, effects: &mut Effects, command: &Awaited) -> Result<(
     Ok(())
 }
 
-/// Commands are sent, in order.
+/// Sends commands, in order.
 pub fn send_all(alloc: Global, effects: &mut Effects, commands: &[Awaited]) -> Result<(), Memory>
     requires { effects.old.nonce + length commands.now < 2 ^ 64 }
     ensures { OnOk result (effects.new ≡ sends effects.old commands.now) }
@@ -62,7 +62,7 @@ pub fn send_all(alloc: Global, effects: &mut Effects, commands: &[Awaited]) -> R
     Ok(())
 }
 
-// The job waits for these commands, which are sent.
+/// Sends these commands, for which the job waits.
 pub fn rest(
     alloc: Global,
     effects: &mut Effects,

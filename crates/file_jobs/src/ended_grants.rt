@@ -17,7 +17,7 @@ fn fencing_phase(phase: Phase) -> Phase
     }
 }
 
-// Every grant ends, and the file takes the server's format where that is greater.
+/// Ends every grant of a file, which takes the server's format if that is greater.
 pub fn end_grants(alloc: Global, kept: &mut Kept, format: u8) -> Result<(), Memory>
     ensures value { OnOk result (kept.new ≡ ending kept.old format) }
     ensures keeps { OnOk result (Leaves kept.old kept.new) }

@@ -14,7 +14,7 @@ use server_rules::{Effects, JobKind, Kept, NoteKind, Phase};
 use std::alloc::Global;
 use stripe_repair::{Ask, Which, to_all};
 
-// Each component was made, or is missing.
+/// Notes that a file is ready: each component was made, or is missing.
 pub fn end_making(kept: &mut Kept, effects: &mut Effects) -> Result<Turn, Memory>
     ensures turn { IfOk result (λ turn. Turns is_made kept.old effects.old turn kept.new effects.new) }
     ensures settled { IfOk result IsSettled }
@@ -26,7 +26,7 @@ pub fn end_making(kept: &mut Kept, effects: &mut Effects) -> Result<Turn, Memory
     Ok(Turn::Over)
 }
 
-// The present components are sent CREATE.
+/// Begins to make a file: its present components are sent CREATE.
 #[tactic(auto, unfolding(server_rules::specs::Jobs::making))]
 pub fn begin_making(alloc: Global, kept: &mut Kept, effects: &mut Effects) -> Result<Turn, Memory>
     requires sound { IsSound kept.old }
@@ -43,7 +43,7 @@ pub fn begin_making(alloc: Global, kept: &mut Kept, effects: &mut Effects) -> Re
     rest(alloc, effects, JobKind::Making, Work::Creates, creates)
 }
 
-// Each present component has the next tag.
+/// Ends a fence: each present component has the next tag, and the repair begins.
 #[tactic(auto, unfolding(server_rules::specs::Jobs::fenced))]
 pub fn end_fence(
     alloc: Global,
@@ -65,7 +65,7 @@ pub fn end_fence(
     begin_repair(alloc, kept, effects, kind)
 }
 
-// The present components are sent the next tag.
+// Sends the next tag to the present components.
 fn send_next_tag(
     alloc: Global,
     kept: &mut Kept,
@@ -87,7 +87,7 @@ fn send_next_tag(
     rest(alloc, effects, kind, Work::Fences, raises)
 }
 
-// A fence begins.
+/// Begins a fence: all grants end, and the present components are sent the next tag.
 #[tactic(auto, unfolding(server_rules::specs::Jobs::fence_begins))]
 pub fn begin_fence(
     alloc: Global,

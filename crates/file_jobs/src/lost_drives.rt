@@ -18,7 +18,7 @@ use server_rules::{Effects, Kept, NoteKind, Target};
 use std::alloc::Global;
 use stripe_repair::{DriveLoad, Place};
 
-// The job goes on without what stood on the drive.
+// A job goes on without what stood on the drive.
 fn go_on_without_drive(
     alloc: Global,
     kept: &mut Kept,

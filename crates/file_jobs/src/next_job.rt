@@ -1,4 +1,4 @@
-// What a job goes on with where its repair, or the rebuild of a component, is over.
+// The job that rests at the end of a step: where a repair, or the rebuild of a component, is over, the placer is asked.
 ghost use Rattle.std.specs.Prelude.{◌<◌, ◌≤◌, ◌^◌, length, IfOk};
 ghost use Rattle.stripe_repair.specs.Placing.{AreDifferent, drives_of};
 ghost use Rattle.stripe_repair.specs.declared.loads.TheConstants.{MAX_DRIVES};
@@ -15,7 +15,7 @@ use server_rules::{Effects, JobKind, Kept};
 use std::alloc::Global;
 use stripe_repair::{DriveLoad, Place};
 
-// What comes behind the repair of such a job.
+// Begins what a job of that kind does after its repair.
 fn begin_work_after_repair<P: Place>(
     alloc: Global,
     kept: &Kept,
@@ -46,7 +46,7 @@ fn begin_work_after_repair<P: Place>(
     }
 }
 
-// The job that rests after a turn, `None` where it is over. Drives are chosen where components are missing.
+/// The job that rests after a turn, `None` if it is over. The placer is asked if components are missing.
 pub fn job_after_turn<P: Place>(
     alloc: Global,
     kept: &Kept,

@@ -16,7 +16,7 @@ use server_rules::{AwaitedCommands, Effects, Heard, JobKind, Kept};
 use std::alloc::Global;
 use stripe_repair::{Repair, Stage};
 
-// The next part of the job.
+// The next part of a job, all of whose commands are answered.
 #[tactic(auto, unfolding(server_rules::specs::Jobs::goes_on))]
 fn go_on(
     alloc: Global,
@@ -45,7 +45,7 @@ fn go_on(
     }
 }
 
-// The job waits for these that are left, or goes on.
+/// A job waits for the commands that are left, or goes on if there are none.
 pub fn wait_or_go_on(
     alloc: Global,
     kept: &mut Kept,
@@ -72,7 +72,7 @@ pub fn wait_or_go_on(
     go_on(alloc, kept, effects, kind, work, heard.as_slice())
 }
 
-// A repair of which a component became missing.
+// A repair goes on after a component of the file became missing.
 fn lose_in_repair(
     alloc: Global,
     kept: &mut Kept,
@@ -106,7 +106,7 @@ fn lose_in_repair(
     }
 }
 
-// A component of the file became missing, of a job that isn't a rebuild; it awaits what others are to answer.
+/// A job that isn't a rebuild goes on after a component of the file became missing; it awaits what others are to answer.
 #[tactic(auto, unfolding(server_rules::specs::Jobs::loses))]
 pub fn go_on_after_loss(
     alloc: Global,

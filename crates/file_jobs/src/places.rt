@@ -16,7 +16,7 @@ use server_rules::{AwaitedCommands, Component, Effects, JobKind, Kept, NoteKind,
 use std::alloc::Global;
 use stripe_repair::{Ask, DriveLoad, Place, online_count, sent_to};
 
-// A drive, online where it is free for the file.
+// A drive as the placer is told of it, online if it is free for the file.
 fn load_of(drive: u32, online: bool, objects: u32) -> DriveLoad
     ensures value { result ≡ record { drive = drive; online = online; objects = objects } }
     ensures fits { FitsLoad result }
@@ -28,7 +28,7 @@ fn load_of(drive: u32, online: bool, objects: u32) -> DriveLoad
     }
 }
 
-// The loads, of which those are online that are free for the file.
+// The drives as the placer is told of them: online are those that are free for the file.
 fn free_loads(
     alloc: Global,
     loads: &[DriveLoad],
@@ -45,7 +45,7 @@ fn free_loads(
     Ok(free)
 }
 
-// A drive that is free for the file, by the placer; `None` exactly where there is none.
+/// A drive that is free for the file, by the placer; `None` exactly if there is none.
 pub fn pick<P: Place>(
     alloc: Global,
     components: &[Component],
@@ -66,7 +66,7 @@ pub fn pick<P: Place>(
     Ok(Some(drive))
 }
 
-// The CREATE of a missing component on a drive, with the next object number.
+// Sends the CREATE of a missing component on a drive, with the next object number.
 fn create_on(
     alloc: Global,
     kept: &Kept,
@@ -98,7 +98,7 @@ fn create_on(
     )
 }
 
-// The components from a number on; a missing one that no drive can take is passed over.
+/// Finds a drive for the first missing component from a number on; one that no drive can take is passed over.
 #[tactic(auto, unfolding(server_rules::specs::Rebuild::rebuilds))]
 pub fn place_missing<P: Place>(
     alloc: Global,

@@ -17,7 +17,7 @@ use server_rules::{AwaitedCommands, Component, Effects, Heard, JobKind, Kept, No
 use std::alloc::Global;
 use stripe_repair::{FillStage, FillStep, Rebuild};
 
-// Where a rebuild makes a component anew.
+/// The target of a rebuild, `None` if the job is none.
 pub fn target_of(work: &Work) -> Option<Target>
     ensures { result ≡ target_in (work_of work.now) }
 {
@@ -28,7 +28,7 @@ pub fn target_of(work: &Work) -> Option<Target>
     }
 }
 
-// The rebuild of a component ends so, and the missing ones behind it are next.
+/// Ends the rebuild of a component with that note; the missing ones behind it are next.
 pub fn end_component(
     kept: &Kept,
     effects: &mut Effects,
@@ -47,7 +47,7 @@ pub fn end_component(
     })
 }
 
-// The component stands on its new drive.
+// Puts the component on its new drive, where it is made.
 fn install(kept: &mut Kept, effects: &mut Effects, target: Target) -> Result<Turn, Memory>
     requires sound { IsSound kept.old }
     requires target { target.component < length kept.old.components }
@@ -73,7 +73,7 @@ fn install(kept: &mut Kept, effects: &mut Effects, target: Target) -> Result<Tur
     )
 }
 
-// What comes of a step of its pieces.
+// What a rebuild does after a step over its pieces.
 fn after_fill_step(
     alloc: Global,
     kept: &mut Kept,
@@ -116,7 +116,7 @@ fn after_fill_step(
     }
 }
 
-// It goes on where its piece begins, or begins again.
+/// Makes the first piece of a rebuild, which begins or begins again.
 pub fn fill_next_piece(
     alloc: Global,
     kept: &mut Kept,
@@ -136,7 +136,7 @@ pub fn fill_next_piece(
     after_fill_step(alloc, kept, effects, rebuild, step)
 }
 
-// The object of the target is made, and its pieces come.
+/// The object of the target is made, and the pieces of the component come next.
 pub fn fill_component(
     alloc: Global,
     kept: &mut Kept,
@@ -154,7 +154,7 @@ pub fn fill_component(
     fill_next_piece(alloc, kept, effects, rebuild)
 }
 
-// The sources of its first piece are read.
+// Feeds a rebuild the sources of its first piece, which are read.
 fn feed_sources(
     alloc: Global,
     kept: &mut Kept,
@@ -176,7 +176,7 @@ fn feed_sources(
     after_fill_step(alloc, kept, effects, rebuild, step)
 }
 
-// Its first piece is written.
+// Goes past the first piece of a rebuild, which is written.
 fn go_on_after_write(
     alloc: Global,
     kept: &mut Kept,
@@ -196,7 +196,7 @@ fn go_on_after_write(
     after_fill_step(alloc, kept, effects, rebuild, step)
 }
 
-// What it sent for its first piece is answered.
+/// Feeds a rebuild the replies to what it sent for its first piece.
 pub fn feed_rebuild(
     alloc: Global,
     kept: &mut Kept,

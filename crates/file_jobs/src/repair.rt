@@ -14,7 +14,7 @@ use server_rules::{AwaitedCommands, Effects, Heard, JobKind, Kept, Mended, NoteK
 use std::alloc::Global;
 use stripe_repair::Repair;
 
-// The repair is over; these stripes were left short.
+// Ends a repair, which left these stripes short.
 fn end_repair(
     alloc: Global,
     kept: &mut Kept,
@@ -40,7 +40,7 @@ fn end_repair(
     })
 }
 
-// The repair rests on these commands, or is over where there are none.
+// The repair rests on these commands, or is over if there are none.
 fn rest_in_repair(
     alloc: Global,
     kept: &mut Kept,
@@ -64,7 +64,7 @@ fn rest_in_repair(
     rest(alloc, effects, kind, Work::Repairs(repair), sends)
 }
 
-// The repair goes on where its piece begins, or begins again.
+/// Works the first piece of a repair, which begins or begins again.
 pub fn repair_next_piece(
     alloc: Global,
     kept: &mut Kept,
@@ -85,7 +85,7 @@ pub fn repair_next_piece(
     rest_in_repair(alloc, kept, effects, kind, repair, sends)
 }
 
-// What it sent is answered.
+/// Feeds a repair the replies to what it sent.
 pub fn feed_repair(
     alloc: Global,
     kept: &mut Kept,
@@ -107,7 +107,7 @@ pub fn feed_repair(
     rest_in_repair(alloc, kept, effects, kind, repair, sends)
 }
 
-// It begins.
+/// Begins the repair of the stripes of ended grants.
 #[tactic(auto, unfolding(server_rules::specs::Repair::repair_begins))]
 pub fn begin_repair(
     alloc: Global,

@@ -30,13 +30,13 @@ enum ReplyKind {
     Older,
     // The drive has no space for the WRITE.
     Full,
-    // It is answered.
+    // The command is answered.
     Done,
     // Anything else, on which the job waits on.
     Nothing,
 }
 
-// Perform, at CREATE also Exists, and at SET TAG also the next tag.
+// Whether a command is answered: by Perform, at CREATE also by Exists, and at SET TAG also by the next tag.
 #[tactic(auto, unfolding(server_rules::specs::Replies::is_done))]
 fn is_done(kept: &Kept, awaited: &Awaited, reply: &Reply) -> bool
     ensures { result ≡ is_done kept.now awaited.now reply.now }
@@ -51,7 +51,7 @@ fn is_done(kept: &Kept, awaited: &Awaited, reply: &Reply) -> bool
     }
 }
 
-// The first of these that a reply is.
+// What a reply is to its command: the first that applies.
 #[tactic(auto, unfolding(server_rules::specs::Replies::hearing))]
 fn kind_of_reply(kept: &Kept, awaited: &Awaited, reply: &Reply) -> ReplyKind
     ensures { heard_as result ≡ hearing kept.now awaited.now reply.now }
@@ -68,7 +68,7 @@ fn kind_of_reply(kept: &Kept, awaited: &Awaited, reply: &Reply) -> ReplyKind
     ReplyKind::Nothing
 }
 
-// The command at that place goes again in format 2, and stands in the place of the former.
+// Sends the command at that place once more, in format 2; it takes the place of the former.
 fn send_again(
     alloc: Global,
     effects: &mut Effects,
@@ -87,7 +87,7 @@ fn send_again(
     send(alloc, effects, &again)
 }
 
-// Format 2 from now on, and the command again.
+// Sends the command once more in format 2, which is the file's from now on.
 fn send_in_format_2(
     alloc: Global,
     kept: &mut Kept,
@@ -109,7 +109,7 @@ fn send_in_format_2(
     Ok(Turn::Rests(job))
 }
 
-// The component becomes missing, at a job that isn't a rebuild.
+// Takes the component of a command as missing, at a job that isn't a rebuild.
 fn lose_component(
     alloc: Global,
     kept: &mut Kept,
@@ -136,7 +136,7 @@ fn lose_component(
     go_on_after_loss(alloc, kept, effects, job)
 }
 
-// The drive of a component has no space: a rebuild's target ends, any other component becomes missing.
+// Goes on without a full drive: a rebuild's target ends, any other component becomes missing.
 fn lose_full_drive(
     alloc: Global,
     kept: &mut Kept,
@@ -162,7 +162,7 @@ fn lose_full_drive(
     }
 }
 
-// The reply is heard, and its command isn't awaited any more.
+// Keeps what a reply carried; its command isn't awaited any more.
 fn keep_payload(
     alloc: Global,
     job: &mut RunningJob,
@@ -181,7 +181,7 @@ fn keep_payload(
     Ok(())
 }
 
-// The command is answered, and the job goes on where it was the last.
+// Takes the answer to a command; the job goes on if that was the last it waited for.
 fn take_answer(
     alloc: Global,
     kept: &mut Kept,
@@ -204,7 +204,7 @@ fn take_answer(
     wait_or_go_on(alloc, kept, effects, job)
 }
 
-// A reply to the command at that place.
+/// Takes a reply to the command at that place.
 pub fn take_reply(
     alloc: Global,
     kept: &mut Kept,

@@ -18,7 +18,7 @@ use server_rules::{Effects, JobKind};
 use std::alloc::Global;
 use stripe_repair::{DriveLoad, Place};
 
-// The job that rests, `None` where it is over.
+/// The job that rests after a turn, `None` if it is over.
 pub fn job_of(turn: Turn) -> Option<RunningJob>
     requires { IsSettled turn }
     ensures value { SetsJob turn result }
@@ -30,7 +30,7 @@ pub fn job_of(turn: Turn) -> Option<RunningJob>
     }
 }
 
-// The job that rests, `None` where it is over, of one that ends with its repair.
+// The job that rests after a turn of one that ends with its repair, `None` if it is over.
 fn job_after(turn: Turn) -> Option<RunningJob>
     requires { GoesOnAs Revoking turn }
     ensures value { SetsJob turn result }

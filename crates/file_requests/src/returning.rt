@@ -60,7 +60,7 @@ fn report(file: &FileState, effects: &mut Effects, numbers: &[u32]) -> Result<()
     Ok(())
 }
 
-// These components become missing.
+// Takes the components of these numbers as missing.
 fn take_loss(
     alloc: Global,
     file: &mut FileState,

@@ -43,7 +43,7 @@ Begins f loads old was r new is =
     (ds : List Drive) → AreLoadsOf loads ds → (chosen : List ℕ)
     × ((rest : List ℕ) → record { going = at new is ds rest; result = r } ≡ f (at old was ds (chosen ++ rest)))
 
--- in the table: at the file of that number, or nothing where there is none
+-- the job begins at the file of that number in the table; nothing happens if there is none
 abbrev pub BegunIn : JobKind → (format : ℕ) → List DriveLoad → (number : ℕ) → Table → Effects → Option OrderResult →
     Table → Effects → Type 0
 BegunIn kind format loads n old was None new is = (entry_at old n ≡ None) × (new ≡ old) × (is ≡ was)

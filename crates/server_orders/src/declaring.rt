@@ -21,7 +21,7 @@ use std::alloc::Global;
 use std::mem;
 use stripe_repair::{DriveLoad, Place};
 
-// These drives, of which that one is offline.
+// The drives, of which one is offline.
 #[tactic(auto, unfolding(server_rules::specs::Orders::offline))]
 fn offline(alloc: Global, drives: &[Drive], lost: u32) -> Result<Drives, Memory>
     ensures { IfOk result (λ left. left ≡ offline drives.now lost) }

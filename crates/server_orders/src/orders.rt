@@ -32,7 +32,7 @@ pub struct Obeyed {
     pub result: OrderResult,
 }
 
-/// There is no such file or drive.
+/// The answer to an order on a file or drive that isn't there.
 pub fn unknown(alloc: Global) -> Obeyed
     ensures { (s : AState) → Obeys result (server_of s) (unknown (server_of s)) }
 {
@@ -109,7 +109,7 @@ fn begin_at<P: Place>(
     Ok(OrderResult::Started)
 }
 
-// The same at the file of its number, `None` exactly where there is none.
+// A fence begins at the file of that number for a job of that kind; `None` exactly if there is no such file.
 fn begin_in<P: Place>(
     alloc: Global,
     files: &mut Files,

@@ -20,7 +20,7 @@ use server_state::{Files, State, Step, finish_step, list, no_effects, only_sends
 use std::alloc::Global;
 use stripe_repair::{DriveLoad, Place};
 
-// That files stand in the order of their numbers. Nothing runs.
+// Says that files stand in the order of their numbers. Nothing runs.
 fn in_order(files: &Files)
     ensures { IsStrictlySortedBy nat_cmp (keys_of files.now.entries) }
 {

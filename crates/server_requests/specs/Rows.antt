@@ -60,7 +60,7 @@ abbrev pub IsNumbered : Late → (number : ℕ) → Type 0
 IsNumbered late.Gives number = number ≤ GREATEST_GRANT
 IsNumbered row number = Unit {0}
 
--- it is for writing too
+-- the layout that is asked for is for writing too
 abbrev pub is_rw : (iomode : ℕ) → Bool
 is_rw iomode = iomode == LAYOUTIOMODE4_RW
 

@@ -23,7 +23,7 @@ pub record ServedAt (q : Asking) (r : ClientRequest) (ds : List Drive) (f : File
   pub numbers : Counts q.next_grant v.outcome
   pub leaves : LeavesFile f new
 
--- in the table: at the file of the request's number, or nothing where there is none
+-- the request is served at the file of its number in the table; nothing happens if there is none
 abbrev pub ServedIn : Asking → ClientRequest → List Drive → Table → Effects → Option Served → Table → Effects → Type 0
 ServedIn q r ds old was None new is = (entry_at old r.file ≡ None) × (new ≡ old) × (is ≡ was)
 ServedIn q r ds old was (Some v) new is =

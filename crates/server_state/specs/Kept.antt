@@ -23,7 +23,7 @@ answer_of r = no_answer
 abbrev pub answer_in : List ℕ → Answer
 answer_in bytes = answer_of (envelope_of bytes)
 
--- they spell it, and it is the client's
+-- the bytes spell an answer, and it is the client's
 pub record IsKept (holder : ℕ) (bytes : List ℕ) : Type 0 where
   pub spelled : bytes ≡ bytes_of (Answers (answer_in bytes))
   pub client : (answer_in bytes).client ≡ holder

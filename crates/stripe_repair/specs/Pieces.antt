@@ -53,6 +53,6 @@ store_of f p rows heard at k nonce =
     then Some (to_store f p (row_from heard k p.count) (wanted f.map rows (unit_with f.map p.stripe k) p.count) k at.drive at.object nonce)
     else None
 
--- the same over the rows that were read
+-- the WRITE to a component of what its row should be, by the rows that were read
 abbrev pub store_in : Kept → Piece → List Heard → Component → (k nonce : ℕ) → Option Awaited
 store_in f p heard at k nonce = store_of f p (rows_of f p heard) heard at k nonce

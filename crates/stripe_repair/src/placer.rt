@@ -13,7 +13,7 @@ pub trait Place {
     /// here what its closure must keep, since a type can't keep a fact about a closure.
     ghost is_placer: { Self → Type 0 } = { λ _. Unit {0} };
 
-    /// So many different online drives of these, which are at most 64 different drives with as many online.
+    /// Chooses `count` different online drives of these, which are at most 64 different drives with as many online.
     ///
     /// # Errors
     ///
@@ -52,7 +52,7 @@ where
         Placer { rule }
     }
 
-    /// So many different online drives of these. That the closure is a placer is asked again, since a type
+    /// Chooses `count` different online drives of these. That the closure is a placer is asked again, since a type
     /// can't keep a fact about a closure.
     ///
     /// # Errors
