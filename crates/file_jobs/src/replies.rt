@@ -78,8 +78,10 @@ fn send_again(
     requires place { place < length awaited.old }
     requires low { effects.old.nonce < 2 ^ 63 }
     ensures many { OnOk result (length awaited.new ≡ length awaited.old) }
-    ensures sent { OnOk result ((a : AnAwaited) → slice_get awaited.old place ≡ Some a → effects.new ≡ sends effects.old (again_in_2 a effects.old.nonce ∷ [])) }
-    ensures left { OnOk result ((a : AnAwaited) → slice_get awaited.old place ≡ Some a → awaited.new ≡ map (renewed a (again_in_2 a effects.old.nonce)) awaited.old) }
+    ensures sent { OnOk result ((a : AnAwaited) → slice_get awaited.old place ≡ Some a
+        → effects.new ≡ sends effects.old (again_in_2 a effects.old.nonce ∷ [])) }
+    ensures left { OnOk result ((a : AnAwaited) → slice_get awaited.old place ≡ Some a
+        → awaited.new ≡ map (renewed a (again_in_2 a effects.old.nonce)) awaited.old) }
 {
     let former = awaited.get(place).command.nonce;
     let again = again_in_2(alloc, awaited.get(place), effects.nonce)?;

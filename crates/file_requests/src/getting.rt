@@ -127,7 +127,8 @@ fn on_grants(
     requires idle { file.old.job ≡ None }
     requires nonce { effects.old.nonce < 2 ^ 63 }
     ensures rule { IfOk result (λ o. Serves
-        (λ go. on_grants go asking.now.next_grant asking.now.format asking.now.time grant) file.old effects.old o file.new effects.new) }
+        (λ go. on_grants go asking.now.next_grant asking.now.format asking.now.time grant)
+        file.old effects.old o file.new effects.new) }
     ensures told { IfOk result (λ o. IsLayoutTold o.told) }
     ensures numbers { IfOk result (λ o. Counts asking.now.next_grant o) }
     ensures leaves { OnOk result (LeavesFile file.old file.new) }

@@ -94,7 +94,8 @@ fn by_row(
     requires next { returned_rule row.now ≡ Fencing → file.old.kept.tag < GREATEST_TAG }
     requires low { effects.old.nonce < 2 ^ 63 }
     ensures rule { IfOk result (λ o. Serves
-        (λ go. by_return go asking.now.format asking.now.client (returned_rule row.now)) file.old effects.old o file.new effects.new) }
+        (λ go. by_return go asking.now.format asking.now.client (returned_rule row.now))
+        file.old effects.old o file.new effects.new) }
     ensures told { IfOk result (λ o. o.told.grant ≡ None) }
     ensures numbers { IfOk result (λ o. o.numbers ≡ 0) }
     ensures leaves { OnOk result (LeavesFile file.old file.new) }

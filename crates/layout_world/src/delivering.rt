@@ -106,7 +106,8 @@ pub fn deliver<P: Place>(
     placer: &P,
 ) -> Result<Act, Memory>
     requires placer { P.is_placer placer.now }
-    ensures acts { IfOk result (λ act. ActsWith (λ w chosen. delivers w chosen number) (ends_in (Delivers number)) parties.old parties.new act) }
+    ensures acts { IfOk result (λ act. ActsWith (λ w chosen. delivers w chosen number) (ends_in (Delivers number))
+        parties.old parties.new act) }
     ensures marked { OnOk result (Marked number parties.old.network parties.new.network) }
 {
     network_shows();

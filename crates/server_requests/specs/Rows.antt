@@ -70,7 +70,8 @@ asked_by f number client now w = asked f number client now w.offset w.length (is
 
 -- a missing component of a group in which a stripe of the grant stands and that can't be decoded
 abbrev pub is_lacked : Kept → Grant → (component : ℕ) → Component → Bool
-is_lacked f g k at = at.missing && (stands_in f.map (group_with f.map k) g.first g.end && is_beyond f.map f.components (group_with f.map k))
+is_lacked f g k at =
+    at.missing && (stands_in f.map (group_with f.map k) g.first g.end && is_beyond f.map f.components (group_with f.map k))
 
 -- ---- LAYOUTCOMMIT
 

@@ -16,7 +16,8 @@ use Rattle.server_state.specs.declared.serving.Served.{Served}
 use Rattle.server_state.specs.Tables.{Table, entry_at}
 
 -- what a request left of its file, and its answer
-pub record ServedAt (q : Asking) (r : ClientRequest) (ds : List Drive) (f : FileState) (was : Effects) (v : Served) (new : FileState) (is : Effects) : Type 0 where
+pub record ServedAt (q : Asking) (r : ClientRequest) (ds : List Drive) (f : FileState) (was : Effects) (v : Served)
+    (new : FileState) (is : Effects) : Type 0 where
   pub rule : Serves (serves_for q r.args) f was v.outcome new is
   pub answer : v.answer ≡ file_answer ds new.kept r (told_rule v.outcome.told)
   pub writable : ResultsWritable v.answer.results
@@ -27,4 +28,5 @@ pub record ServedAt (q : Asking) (r : ClientRequest) (ds : List Drive) (f : File
 abbrev pub ServedIn : Asking → ClientRequest → List Drive → Table → Effects → Option Served → Table → Effects → Type 0
 ServedIn q r ds old was None new is = (entry_at old r.file ≡ None) × (new ≡ old) × (is ≡ was)
 ServedIn q r ds old was (Some v) new is =
-    (f g : FileState) × (entry_at old r.file ≡ Some f) × (new ≡ set_value (is_at (nat_cmp r.file)) old g) × ServedAt q r ds f was v g is
+    (f g : FileState) × (entry_at old r.file ≡ Some f) × (new ≡ set_value (is_at (nat_cmp r.file)) old g)
+    × ServedAt q r ds f was v g is

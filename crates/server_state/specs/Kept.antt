@@ -13,7 +13,14 @@ use Rattle.server_rules.specs.Envelopes.{bytes_of}
 
 -- an answer that no bytes are kept of
 abbrev pub no_answer : Answer
-no_answer = record { client = 0; sequence = 0; file = 0; detail = 0; size = 0; results = results.LayoutReturn (return.Returned None) }
+no_answer = record {
+  client = 0;
+  sequence = 0;
+  file = 0;
+  detail = 0;
+  size = 0;
+  results = results.LayoutReturn (return.Returned None);
+}
 
 abbrev pub answer_of : Result Envelope OpErr → Answer
 answer_of (Ok (envelope.Answer a)) = a

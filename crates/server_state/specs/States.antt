@@ -74,7 +74,8 @@ pub record Finishes (old : State) (m : Effects) (v : Served) (new : State) (out 
     next_nonce = m.nonce;
     next_object = m.object;
   }
-  pub sends : out.sends ≡ all_sent (to_drives old.drives m.sent ++ (recalls_from old.next_recall v.outcome.recalled ++ (Answers v.answer ∷ [])))
+  pub sends : out.sends ≡ all_sent (to_drives old.drives m.sent
+      ++ (recalls_from old.next_recall v.outcome.recalled ++ (Answers v.answer ∷ [])))
   pub notes : out.notes ≡ m.notes
   pub mended : out.mended ≡ m.mended
 

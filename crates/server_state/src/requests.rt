@@ -32,7 +32,8 @@ fn no_file(args: &RequestArgs) -> u32
 
 // The step of a new request on a file that there isn't.
 fn refuse(alloc: Global, state: &mut State, request: &ClientRequest) -> Result<Step, Memory>
-    ensures did { IfOk result (λ out. (now : ℕ) (chosen : List ℕ) → Did out (server_of state.new) (carries_out (server_of state.old) now chosen request.now None)) }
+    ensures did { IfOk result (λ out. (now : ℕ) (chosen : List ℕ) → Did out (server_of state.new)
+        (carries_out (server_of state.old) now chosen request.now None)) }
     ensures files { OnOk result (state.new.files ≡ state.old.files) }
     ensures grants { OnOk result (state.new.next_grant ≡ state.old.next_grant) }
     ensures drives { OnOk result (state.new.drives ≡ state.old.drives) }

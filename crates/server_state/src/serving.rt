@@ -52,7 +52,8 @@ pub fn serve_in(
 ) -> Result<Option<Served>, Memory>
     requires files { AreEntries files.old.entries }
     requires low { effects.old.nonce < 2 ^ 63 }
-    ensures { IfOk result (λ v. ServedIn asking.now request.now drives.now files.old.entries effects.old v files.new.entries effects.new) }
+    ensures { IfOk result (λ v. ServedIn asking.now request.now drives.now files.old.entries effects.old v
+        files.new.entries effects.new) }
 {
     match files.get_mut(&request.file) {
         Some(file) => Ok(Some(serve_at(alloc, file, effects, drives, asking, request)?)),

@@ -18,7 +18,8 @@ use Rattle.server_rules.specs.Going.{Going, rests_or}
 use Rattle.stripe_repair.specs.declared.auditing.StripeState.{StripeState}
 use Rattle.stripe_repair.specs.declared.auditing.StripeState.TheVariants.{Whole, Short, Bad}
 
--- a piece whose rows were read: short where a position has no present replica, bad where it isn't short and some row isn't the wanted one
+-- a piece whose rows were read: short where a position has no present replica, bad where it isn't short and some row
+-- isn't the wanted one
 unfoldable pub state_of : Kept → Piece → List Heard → StripeState
 state_of f p heard =
     if is_short f.map f.components (group_of f.map p.stripe) then Short

@@ -16,7 +16,10 @@ rest_of unit stripe column = pieces_from unit stripe column ((unit - column + (M
 
 -- the pieces of this stripe and of those behind it in the range
 abbrev pub rest_in : (unit : ℕ) → Spot → List Piece
-rest_in unit s = if nat_lt s.stripe s.end then rest_of unit s.stripe s.column ++ pieces_along unit (s.stripe + 1) (s.end - (s.stripe + 1)) else []
+rest_in unit s =
+    if nat_lt s.stripe s.end
+    then rest_of unit s.stripe s.column ++ pieces_along unit (s.stripe + 1) (s.end - (s.stripe + 1))
+    else []
 
 -- the pieces of this range and of the further ones
 abbrev pub rest_at : (unit : ℕ) → List Stripes → Spot → List Piece
