@@ -9,7 +9,7 @@ use crate::effects::{note, rest};
 use crate::ended_grants::end_grants;
 use crate::job::{Turn, Work};
 use crate::repair::begin_repair;
-use osd_bytes::Memory;
+use osd_lists::Memory;
 use server_rules::{Effects, JobKind, Kept, NoteKind, Phase};
 use std::alloc::Global;
 use stripe_repair::{Ask, Which, to_all};

@@ -13,7 +13,7 @@ use crate::job::{FileState, RunningJob, Turn, Work};
 use crate::next_job::job_after_turn;
 use crate::next_stage::go_on_after_loss;
 use crate::rebuild::{end_component, fill_next_piece, target_of};
-use osd_bytes::Memory;
+use osd_lists::Memory;
 use server_rules::{Effects, Kept, NoteKind, Target};
 use std::alloc::Global;
 use stripe_repair::{DriveLoad, Place};

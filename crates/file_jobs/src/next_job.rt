@@ -10,7 +10,7 @@ use crate::audit::begin_audit;
 use crate::job::{RunningJob, Turn};
 use crate::places::place_missing;
 use crate::whole_files::job_of;
-use osd_bytes::Memory;
+use osd_lists::Memory;
 use server_rules::{Effects, JobKind, Kept};
 use std::alloc::Global;
 use stripe_repair::{DriveLoad, Place};

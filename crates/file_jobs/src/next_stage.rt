@@ -11,7 +11,7 @@ use crate::fences::{end_fence, end_making};
 use crate::job::{RunningJob, Turn, Work};
 use crate::rebuild::{feed_rebuild, fill_component};
 use crate::repair::{feed_repair, repair_next_piece};
-use osd_bytes::{Memory, Sequence};
+use osd_lists::{Memory, Sequence};
 use server_rules::{AwaitedCommands, Effects, Heard, JobKind, Kept};
 use std::alloc::Global;
 use stripe_repair::{Repair, Stage};

@@ -11,7 +11,7 @@ ghost use Rattle.file_jobs.specs.Placing.{AreLoadsOf, IsPick, free_loads};
 use crate::components::stood_on;
 use crate::effects::{note, rest};
 use crate::job::{Turn, Work};
-use osd_bytes::{Memory, Sequence};
+use osd_lists::{Memory, Sequence};
 use server_rules::{AwaitedCommands, Component, Effects, JobKind, Kept, NoteKind, Target};
 use std::alloc::Global;
 use stripe_repair::{Ask, DriveLoad, Place, online_count, sent_to};

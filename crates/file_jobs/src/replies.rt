@@ -15,9 +15,9 @@ use crate::effects::{note, send};
 use crate::job::{RunningJob, Turn};
 use crate::next_stage::{go_on_after_loss, wait_or_go_on};
 use crate::rebuild::{end_component, target_of};
-use osd_bytes::{Bytes, Memory};
 use osd_capability::FORMAT_SHA256;
 use osd_commands::{Action, Reply};
+use osd_lists::{Bytes, Memory};
 use server_rules::{
     Awaited, AwaitedCommands, EXISTS, Effects, Heard, Kept, NO_SPACE, NoteKind, OLD_FORMAT,
     OTHER_TAG, PERFORMED,

@@ -13,7 +13,7 @@ ghost use Rattle.file_jobs.specs.Steps.{GoesOnAs, IsSettled, SetsJob, Steps, Ste
 use crate::fences::{begin_fence, begin_making};
 use crate::job::{FileState, RunningJob, Turn};
 use crate::next_job::job_after_turn;
-use osd_bytes::Memory;
+use osd_lists::Memory;
 use server_rules::{Effects, JobKind};
 use std::alloc::Global;
 use stripe_repair::{DriveLoad, Place};

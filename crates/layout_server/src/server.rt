@@ -18,10 +18,10 @@ use crate::looking::{kept_of, numbers_of};
 use crate::messages::{hear, obey};
 use data_map::RawMap;
 use layout_ops::OrderKind;
-use osd_bytes::{Memory, Node, Numbers};
+use osd_lists::{Memory, Node, Numbers};
 use server_orders::{
-    DriveInfo, DriveTable, FileErr, add_drive, add_drives, create_file, order_declare, order_recall,
-    resend, waits,
+    DriveInfo, DriveTable, FileErr, add_drive, add_drives, create_file, order_declare,
+    order_recall, resend, waits,
 };
 use server_requests::Sends;
 use server_rules::{COUNTERS_END, Drive, Kept};
@@ -177,7 +177,12 @@ impl ServerCore {
     /// # Errors
     ///
     /// Want of memory; and, where a drive is declared, a counter of 64 bits without room in the middle of the step.
-    pub fn order<P: Place>(&mut self, kind: OrderKind, target: u32, placer: &P) -> Result<Step, Memory>
+    pub fn order<P: Place>(
+        &mut self,
+        kind: OrderKind,
+        target: u32,
+        placer: &P,
+    ) -> Result<Step, Memory>
         requires room { HasRoom self.old }
         requires placer { P.is_placer placer.now }
         ensures { IfOk result (λ out. (chosen : List ℕ)

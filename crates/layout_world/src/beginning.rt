@@ -9,7 +9,7 @@ use crate::delivering::deliver;
 use crate::parties::Parties;
 use crate::{by_client, by_server};
 use layout_ops::OrderKind;
-use osd_bytes::Memory;
+use osd_lists::Memory;
 use scenario_text::{DriveName, Event, Line, Sender};
 use std::alloc::Global;
 use stripe_repair::Place;

@@ -7,7 +7,7 @@ ghost use Rattle.layout_world.specs.Acting.{Acts, ActsWith, ends_by, ends_in};
 
 use crate::parties::Parties;
 use layout_ops::OrderKind;
-use osd_bytes::Memory;
+use osd_lists::Memory;
 use scenario_text::{DriveName, FileMap, FileName};
 use std::alloc::Global;
 use stripe_repair::Place;

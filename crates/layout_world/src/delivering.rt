@@ -5,7 +5,7 @@ ghost use Rattle.world_history.specs.Moves.{Delivers, delivers};
 ghost use Rattle.layout_world.specs.Acting.{ActsWith, ends_in, HandsAt, HandsTo, Marked};
 
 use crate::parties::Parties;
-use osd_bytes::Memory;
+use osd_lists::Memory;
 use scenario_text::{ClientName, Delivery, DriveName, Line, Party};
 use std::alloc::Global;
 use stripe_repair::Place;

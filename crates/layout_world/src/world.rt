@@ -19,7 +19,7 @@ use crate::parties::Parties;
 use crate::refusing::refusal;
 use crate::rules::rule_of;
 use calm_law::{moves_follow, watch_begins};
-use osd_bytes::Memory;
+use osd_lists::Memory;
 use scenario_text::{Event, Line};
 use std::alloc::Global;
 use std::marker::Model;

@@ -14,7 +14,7 @@ use crate::loads::loads_of;
 use crate::orders::{Obeyed, unknown};
 use file_jobs::{FileState, declare as declare_at};
 use layout_ops::OrderResult;
-use osd_bytes::Memory;
+use osd_lists::Memory;
 use server_rules::{COUNTERS_END, Drive, Effects};
 use server_state::{Drives, Files, State, Step, finish_step, list_all, no_effects};
 use std::alloc::Global;

@@ -18,7 +18,7 @@ use crate::loads::loads_of;
 use file_jobs::{FileState, begin, note};
 use file_requests::waits;
 use layout_ops::OrderResult;
-use osd_bytes::Memory;
+use osd_lists::Memory;
 use server_requests::{Sends, send_recalls};
 use server_rules::{Effects, GREATEST_TAG, Grant, JobKind, NoteKind};
 use server_state::{Files, State, Step, finish_step, list, no_effects, only_sends, unlist};

@@ -12,8 +12,8 @@ ghost use Rattle.server_orders.specs.Hearing.{AwaitedAt, AwaitedNowhere, HeardIn
 
 use crate::loads::loads_of;
 use file_jobs::on_reply;
-use osd_bytes::Memory;
 use osd_commands::Reply;
+use osd_lists::Memory;
 use server_requests::Sends;
 use server_rules::Effects;
 use server_state::{Files, State, Step, finish_step, list, no_effects, only_sends, unlist};

@@ -13,7 +13,7 @@ use crate::making::{has_algorithm, has_number, raw_map, tell_refusal};
 use crate::posting::postings;
 use layout_ops::OrderKind;
 use layout_server::{DriveInfo, DriveTable, Repairs, ServerCore, Step};
-use osd_bytes::{Memory, Node};
+use osd_lists::{Memory, Node};
 use scenario_text::{Delivery, DriveName, FileMap, FileName, Line, MapFault, Note};
 use server_rules::Kept;
 use std::alloc::Global;
