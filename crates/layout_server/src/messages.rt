@@ -16,10 +16,6 @@ use std::alloc::Global;
 use stripe_repair::Place;
 
 /// Obeys an order on a file, or on a drive that is declared, by the order's kind.
-///
-/// # Errors
-///
-/// Want of memory alone.
 #[tactic(auto, unfolding(server_rules::specs::Orders::ordered))]
 pub fn obey<P: Place>(
     alloc: Global,
@@ -98,10 +94,6 @@ fn handle<P: Place>(
 
 /// The step of bytes from a node. Nothing changes if there is no message in them, or if the counters have no room:
 /// `has_room` says whether they have.
-///
-/// # Errors
-///
-/// Want of memory alone.
 #[tactic(auto, unfolding(server_rules::specs::Messages::on_message))]
 pub fn hear<P: Place>(
     alloc: Global,

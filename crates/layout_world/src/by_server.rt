@@ -14,10 +14,6 @@ use stripe_repair::Place;
 use world_words::Act;
 
 /// A drive is made, and the server knows it. There must be none of that number.
-///
-/// # Errors
-///
-/// Want of memory alone.
 pub fn add_drive(
     parties: &mut Parties,
     alloc: Global,
@@ -33,10 +29,6 @@ pub fn add_drive(
 }
 
 /// A file is made, or it is noted why it isn't.
-///
-/// # Errors
-///
-/// Want of memory alone.
 pub fn make_file<P: Place>(
     parties: &mut Parties,
     alloc: Global,
@@ -54,10 +46,6 @@ pub fn make_file<P: Place>(
 }
 
 /// The server is given an order on a file, or on a failed drive that is taken out.
-///
-/// # Errors
-///
-/// Want of memory alone.
 pub fn order<P: Place>(
     parties: &mut Parties,
     alloc: Global,
@@ -74,10 +62,6 @@ pub fn order<P: Place>(
 }
 
 /// What jobs wait for is sent again.
-///
-/// # Errors
-///
-/// Want of memory alone.
 pub fn resend(parties: &Parties, alloc: Global) -> Result<Act, Memory>
     ensures { IfOk result (λ act. Acts (λ w chosen. gives w chosen ResendsAt) parties.now parties.now act) }
 {

@@ -95,10 +95,6 @@ fn hand<P: Place>(
 }
 
 /// Message `number` is delivered; nothing happens where there is none.
-///
-/// # Errors
-///
-/// Want of memory alone.
 pub fn deliver<P: Place>(
     parties: &mut Parties,
     alloc: Global,

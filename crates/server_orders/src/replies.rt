@@ -125,10 +125,6 @@ fn hear<P: Place>(
 }
 
 /// The step of a drive's reply, at the first file whose job awaits it. One that no job awaits changes nothing.
-///
-/// # Errors
-///
-/// Want of memory alone.
 pub fn on_drive_reply<P: Place>(
     alloc: Global,
     state: &mut State,

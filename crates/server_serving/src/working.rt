@@ -116,10 +116,6 @@ fn work_round<L: Links, C: Clock, P: Place>(
 
 /// Works these messages in order, and then what they bring, until none waits. Tells whether the accepted connection
 /// stands then: it took whole what was put on it.
-///
-/// # Errors
-///
-/// Want of memory alone.
 pub fn work_all<L: Links, C: Clock, P: Place>(
     alloc: Global,
     core: &mut ServerCore,

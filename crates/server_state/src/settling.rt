@@ -33,10 +33,6 @@ pub fn only_sends(alloc: Global, sends: Sends) -> Step
 }
 
 /// What is left of a step that sends to drives alone: it sends and counts.
-///
-/// # Errors
-///
-/// Want of memory alone.
 pub fn finish_step(alloc: Global, state: &mut State, effects: Effects) -> Result<Step, Memory>
     ensures { IfOk result (Settles state.old effects state.new) }
 {

@@ -14,10 +14,6 @@ pub trait Place {
     ghost is_placer: { Self → Type 0 } = { λ _. Unit {0} };
 
     /// Chooses `count` different online drives of these, which are at most 64 different drives with as many online.
-    ///
-    /// # Errors
-    ///
-    /// Want of memory alone.
     fn place(&self, count: u32, loads: &[DriveLoad]) -> Result<Numbers, Memory>
         requires placer { is_placer self.now }
         requires asked { CanPlace count loads.now }
@@ -54,10 +50,6 @@ where
 
     /// Chooses `count` different online drives of these. That the closure is a placer is asked again, since a type
     /// can't keep a fact about a closure.
-    ///
-    /// # Errors
-    ///
-    /// Want of memory alone.
     pub fn place(&self, count: u32, loads: &[DriveLoad]) -> Result<Numbers, Memory>
         requires rule { IsPlacer F.Fn self.now }
         requires asked { CanPlace count loads.now }

@@ -56,10 +56,6 @@ impl KeptFiles for WorldServer {
 
 impl WorldServer {
     /// A server that knows no drive and has no file.
-    ///
-    /// # Errors
-    ///
-    /// Want of memory alone.
     pub fn new(alloc: Global) -> Result<Self, Memory>
         ensures { IfOk result (λ server. server ≡ record { state = new_server []; mended = [] }) }
     {
@@ -112,10 +108,6 @@ impl WorldServer {
     }
 
     /// A message comes to the server, at a time of its clock in seconds.
-    ///
-    /// # Errors
-    ///
-    /// Want of memory alone.
     pub fn hear<P: Place>(
         &mut self,
         alloc: Global,
@@ -136,10 +128,6 @@ impl WorldServer {
 
     /// The server knows a further drive, with the key that they share and its capacity in bytes. One that it knows
     /// changes nothing.
-    ///
-    /// # Errors
-    ///
-    /// Want of memory alone.
     pub fn add_drive(
         &mut self,
         alloc: Global,
@@ -163,10 +151,6 @@ impl WorldServer {
 
     /// A file is made, or it is noted why it isn't. A map that names no parity algorithm is told as one whose groups
     /// have no width.
-    ///
-    /// # Errors
-    ///
-    /// Want of memory alone.
     pub fn make_file<P: Place>(
         &mut self,
         alloc: Global,
@@ -199,10 +183,6 @@ impl WorldServer {
     }
 
     /// The server is given an order on a file, or on a failed drive that is taken out.
-    ///
-    /// # Errors
-    ///
-    /// Want of memory alone.
     pub fn order<P: Place>(
         &mut self,
         alloc: Global,
@@ -219,10 +199,6 @@ impl WorldServer {
     }
 
     /// What jobs wait for is sent again.
-    ///
-    /// # Errors
-    ///
-    /// Want of memory alone.
     pub fn resend(&self, alloc: Global) -> Result<Act, Memory>
         ensures { IfOk result (Does self.now.state (λ w. gives w [] Resends) self.now.state) }
     {
