@@ -11,7 +11,7 @@ use osd_lists::Memory;
 use scenario_text::{DriveName, FileMap, FileName};
 use std::alloc::Global;
 use stripe_repair::Place;
-use world_words::Act;
+use world_network::Act;
 
 /// A drive is made, and the server knows it. There must be none of that number.
 pub fn add_drive(

@@ -4,11 +4,11 @@ ghost use Rattle.osd_bytes.specs.Asking.{ends_of};
 ghost use Rattle.drive_command.specs.Ends.{served_line, stop_of_serving};
 ghost use Rattle.server_command.specs.Ends.{Serves, StopsServing};
 
-use cluster_input::CommandStop;
+use crate::connections::serve;
+use cluster_text::CommandStop;
 use layout_server::ServerCore;
 use osd_bytes::{Clock, Links, ServeErr, Sink, put_all};
 use osd_lists::Memory;
-use server_serving::serve;
 use std::alloc::Global;
 use stripe_repair::Place;
 
