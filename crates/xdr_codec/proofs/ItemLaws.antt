@@ -9,6 +9,7 @@ use Rattle.std.proofs.lemmas.List.{take-append-drop, take_at, drop_at, length-ap
 use Rattle.std.proofs.lemmas.Nat.{be_bytes_4, be_bytes_8, from_be_bytes-to_be_bytes_4, from_be_bytes-to_be_bytes_8}
 use Rattle.osd_bytes.specs.Blocks.{IsBytes, first_nonzero}
 use Rattle.osd_bytes.proofs.BlockLaws.{length-range, zeros, first_nonzero-zeros, IsBytes-range, below_32, below_64, next}
+use Rattle.osd_bytes.proofs.Options.{guard_ok}
 use Rattle.xdr_codec.specs.declared.err.XdrErr.{XdrErr}
 use Rattle.xdr_codec.specs.declared.err.XdrErr.TheVariants.{BadBool, TooMany}
 use Rattle.xdr_codec.specs.Items.{padded, u32_item, u64_item, i64_item, bool_item, fixed_item, opaque_item}
@@ -21,11 +22,6 @@ use Rattle.xdr_codec.specs.Reading.{number_in, Rest, behind, ◌>>=◌, u32_in, 
 pub bind_ok : {A B E : Type 0} (r : Result A E) (f : A → Result B E) (y : B) → (r >>= f) ≡ Ok y → (x : A) × (r ≡ Ok x) × (f x ≡ Ok y)
 bind_ok (Ok x) f y e = (x, refl, e)
 bind_ok (Err d) f y e = absurd cc
-
--- a test that did not refuse
-pub guard_ok : {A E : Type 0} (b : Bool) (d : E) (r : Result A E) (y : A) → cond b (Err d) r ≡ Ok y → (b ≡ false) × (r ≡ Ok y)
-guard_ok true d r y e = absurd cc
-guard_ok false d r y e = (refl, e)
 
 abbrev done : {A E : Type 0} → A → Result A E
 done x = Ok x
