@@ -213,9 +213,21 @@ u32_rest : (left : List ℕ) (n : ℕ) (rest : List ℕ) → left ≡ u32_item n
 unfolding u32_item
 u32_rest left n rest e = rw e refl
 
-length-u32 : (n : ℕ) → length (u32_item n) ≡ 4
+pub length-u32 : (n : ℕ) → length (u32_item n) ≡ 4
 unfolding u32_item
 length-u32 n = refl
+
+pub length-u64 : (n : ℕ) → length (u64_item n) ≡ 8
+unfolding u64_item
+length-u64 n = refl
+
+pub length-bool : (b : Bool) → length (bool_item b) ≡ 4
+length-bool false = length-u32 0
+length-bool true = length-u32 1
+
+pub length-device : (xs : List ℕ) → length xs ≡ 16 → length (fixed_item xs) ≡ 16
+unfolding fixed_item
+length-device xs e = length-append xs _ ∙ rw e refl
 
 pub opaque_codec : (most : ℕ) → most < 2 ^ 32 → IsCodec (opaque_in most) opaque_item (λ v. length v ≤ most)
 unfolding opaque_in opaque_item fixed_item
