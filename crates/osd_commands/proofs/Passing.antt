@@ -3,7 +3,7 @@ use Rattle.std.proofs.Common.{◌≡◌, ℕ, ◌<◌, ◌≤◌, ◌^◌, List,
 use Rattle.std.specs.Prelude.{slice_range}
 use Rattle.std.specs.Int.{w32, to_be_bytes, from_be_bytes}
 use Rattle.std.proofs.lemmas.Nat.{from_be_bytes-to_be_bytes_4}
-use Rattle.osd_bytes.proofs.BlockLaws.{slice_range-append}
+use Rattle.osd_lists.proofs.BlockLaws.{slice_range-append}
 use Rattle.osd_commands.specs.declared.commands.CommandErr.{CommandErr}
 
 pub if_ok : {X : Type 0} (b : Bool) (f : CommandErr) (y x : X) → cond b (Ok y) (Err f) ≡ Ok x → (b ≡ true) × (y ≡ x)

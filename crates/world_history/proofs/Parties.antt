@@ -1,7 +1,7 @@
 -- The node that a line names as a party.
 use Rattle.std.proofs.Common.{refl, ◌≡◌, ap, ℕ}
-use Rattle.osd_bytes.specs.declared.node.Node.{Node}
-use Rattle.osd_bytes.specs.declared.node.Node.TheVariants as node
+use Rattle.osd_lists.specs.declared.node.Node.{Node}
+use Rattle.osd_lists.specs.declared.node.Node.TheVariants as node
 use Rattle.scenario_text.specs.declared.line.Party.TheVariants as party
 use Rattle.world_history.specs.Spelled.{party_of}
 
