@@ -11,7 +11,7 @@ use Rattle.std.proofs.lemmas.Bool.{cases_Bool}
 use Rattle.std.proofs.lemmas.Bool.Decides.{nat_tests}
 use Rattle.std.proofs.lemmas.List.Elements.{All-head, All-tail}
 use Rattle.std.proofs.lemmas.Map.Keys.{sorted_head, sorted_tail, ge_from_not_lt}
-use Rattle.osd_bytes.proofs.Tests.{at_number}
+use Rattle.osd_lists.proofs.Tests.{at_number}
 use Rattle.call_commands.specs.State.{Awaited, TimedOut}
 use Rattle.client_rules.specs.Commands.{others, not_of, of_component, before}
 use Rattle.client_rules.specs.Io.{first_of}

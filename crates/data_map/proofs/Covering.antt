@@ -5,7 +5,7 @@ use Rattle.std.proofs.lemmas.Bool.{cases_eq, eq-eqb, ne_eqb}
 use Rattle.std.proofs.lemmas.List.{append-nil}
 use Rattle.std.proofs.lemmas.Nat.{le-div, mod-mul-add}
 use Rattle.std.proofs.Math.Nat.{add-mul, div-mul-le_self, lt-div-mul-add, mul-le-mul_right}
-use Rattle.osd_bytes.proofs.Slices.{split_range}
+use Rattle.osd_lists.proofs.Slices.{split_range}
 use Rattle.data_map.specs.declared.check.RawMap.{RawMap}
 use Rattle.data_map.specs.Check.{IsChecked}
 use Rattle.data_map.specs.Striping.{stripe_length, stripe_of, place_of, left_in_unit}

@@ -6,7 +6,7 @@ use Rattle.osd_capability.specs.Layout.{spelling, capability_at, stray, unless_r
 use Rattle.osd_capability.specs.declared.layout.TheConstants.{CAPABILITY_BYTES}
 use Rattle.osd_capability.specs.declared.layout.CapErr.TheVariants.{Length, Format}
 use Rattle.std.specs.Prelude.{slice_index}
-use Rattle.osd_bytes.proofs.Options.{guard_ok}
+use Rattle.osd_lists.proofs.Options.{guard_ok}
 use Rattle.layout_types.specs.declared.cred.ObjectCred.{ObjectCred}
 use Rattle.server_rules.specs.declared.grants.Grant.{Grant}
 use Rattle.fencing_law.proofs.Layouts.{Bears, rights_by}

@@ -4,7 +4,7 @@ use Rattle.std.proofs.Common.{arith, inl, inr, ap, subst, ◌∙◌}
 use Rattle.std.proofs.lemmas.List.{length-map}
 use Rattle.std.proofs.lemmas.Bool.{cases_Bool, and_right}
 use Rattle.std.proofs.lemmas.List.Sums.{sum_by-cons}
-use Rattle.osd_bytes.proofs.Tests.{other_true, first_true}
+use Rattle.osd_lists.proofs.Tests.{other_true, first_true}
 use Rattle.server_rules.specs.declared.files.Component.{Component}
 use Rattle.server_rules.specs.declared.server.Drive.{Drive}
 use Rattle.server_rules.specs.Standing.{free_drives, stood_on}

@@ -5,7 +5,7 @@ use Rattle.std.specs.BTreeMap.{is_at}
 use Rattle.std.specs.Map.{lookup}
 use Rattle.std.proofs.Common.{rules, inl, inr}
 use Rattle.std.proofs.lemmas.Bool.{cases_Bool, or_parts}
-use Rattle.osd_bytes.proofs.Options.{none_there}
+use Rattle.osd_lists.proofs.Options.{none_there}
 use Rattle.server_rules.specs.declared.grants.Grant.{Grant}
 use Rattle.grant_table.specs.Numbered.{has_number}
 use Rattle.grant_table.specs.Tables.{Table, grants_of, HasNone}

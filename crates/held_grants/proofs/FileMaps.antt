@@ -8,7 +8,7 @@ use Rattle.std.specs.Map.{lookup, remove_entry, values_of}
 use Rattle.std.proofs.Common.{arith, inl, inr, sym, ap, ◌∙◌, eq-eqb}
 use Rattle.std.proofs.lemmas.Bool.{cases_Bool, cases_eq, cases_lt, ne_eqb}
 use Rattle.std.proofs.lemmas.Bool.Decides.{nat_tests}
-use Rattle.osd_bytes.proofs.Tests.{at_number}
+use Rattle.osd_lists.proofs.Tests.{at_number}
 use Rattle.client_rules.specs.declared.grants.Held.{Held}
 use Rattle.client_rules.specs.declared.grants.Due.{Due}
 use Rattle.client_rules.specs.Grants.{held_of, put_held, without_held}

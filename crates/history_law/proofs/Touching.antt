@@ -4,8 +4,8 @@ use Rattle.std.specs.Prelude.{get_or, is_some}
 use Rattle.std.specs.Option.{option_map}
 use Rattle.std.proofs.lemmas.Bool.{cases_lt, and_parts}
 use Rattle.osd_lists.proofs.Overwritten.{before_overwritten, behind_overwritten}
-use Rattle.osd_bytes.proofs.Options.{guard_ok}
-use Rattle.osd_bytes.proofs.Tests.{not_false}
+use Rattle.osd_lists.proofs.Options.{guard_ok}
+use Rattle.osd_lists.proofs.Tests.{not_false}
 use Rattle.osd_capability.specs.declared.layout.Capability.{Capability}
 use Rattle.osd_capability.specs.declared.layout.CapErr.{CapErr}
 use Rattle.osd_commands.specs.declared.actions.Action.{Action}

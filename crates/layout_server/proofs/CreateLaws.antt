@@ -7,7 +7,7 @@ use Rattle.std.specs.BTreeMap.{BTreeMap, insert_entry, is_at}
 use Rattle.std.proofs.Common.{arith, inl, inr, ap, sym, subst, eq-eqb, ◌∙◌}
 use Rattle.std.proofs.lemmas.Bool.{cases_Bool}
 use Rattle.std.proofs.lemmas.Bool.Decides.{nat_tests}
-use Rattle.osd_bytes.proofs.Tests.{same_number, at_number, is_at_same}
+use Rattle.osd_lists.proofs.Tests.{same_number, at_number, is_at_same}
 use Rattle.data_map.specs.declared.check.RawMap.{RawMap}
 use Rattle.server_rules.specs.declared.files.File.{File}
 use Rattle.server_rules.specs.declared.files.Kept.{Kept}

@@ -9,7 +9,7 @@ use Rattle.std.specs.declared.cmp.Ordering.TheVariants.{Less}
 use Rattle.std.proofs.lemmas.Bool.{cases_Bool}
 use Rattle.std.proofs.lemmas.Bool.Decides.{nat_tests}
 use Rattle.std.proofs.Common.{arith, inl, inr, sym, ap, subst, append-nil, ◌∙◌}
-use Rattle.osd_bytes.proofs.Tests.{at_number, is_at_same}
+use Rattle.osd_lists.proofs.Tests.{at_number, is_at_same}
 use Rattle.osd_commands.specs.declared.replies.Reply.{Reply}
 use Rattle.server_rules.specs.declared.jobs.Job.{Job}
 use Rattle.server_rules.specs.declared.jobs.Awaited.{Awaited}

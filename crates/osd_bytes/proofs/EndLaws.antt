@@ -5,7 +5,7 @@ use Rattle.std.specs.Io.KnownBytes.{ReadConsumes, WriteAppends}
 use Rattle.std.proofs.lemmas.List.{take-append-drop, length-set, drop-drop}
 use Rattle.osd_bytes.specs.Connections.{Talk, Traffic, Comes, newest, with_newest, after_taking, after_putting, Takes, Puts, Receives, Sends, accepted_left, accepted_put, asked_left, asked_put}
 use Rattle.osd_bytes.specs.declared.source.Fault.{Fault}
-use Rattle.osd_bytes.proofs.Slices.{get_set}
+use Rattle.osd_lists.proofs.Slices.{get_set}
 
 pub newest-with : (talks : List Talk) (t : Talk) → 0 < length talks → newest (with_newest talks t) ≡ t
 newest-with talks t some = rw (length-set talks (length talks - 1) t, get_set talks (length talks - 1) t (omega (arith, some))) refl

@@ -12,7 +12,7 @@ use Rattle.osd_bytes.specs.declared.exchanges.ExchangeErr.{ExchangeErr}
 use Rattle.osd_bytes.specs.declared.exchanges.ExchangeErr.TheVariants.{LinkFault, Ended, TooLong, Memory}
 use Rattle.osd_bytes.proofs.RecordLaws.{carried, split-append}
 use Rattle.osd_lists.specs.declared.node.Node.{Node}
-use Rattle.osd_bytes.proofs.Slices.{get_last}
+use Rattle.osd_lists.proofs.Slices.{get_last}
 
 last_place : (xs : List Talk) (t : Talk) → length (xs ++ t ∷ []) - 1 ≡ length xs
 last_place xs t = omega (arith, length-append xs (t ∷ []))

@@ -7,8 +7,8 @@ use Rattle.std.proofs.lemmas.List.{nil_from_length, length-append}
 use Rattle.std.proofs.lemmas.Nat.{from_be_bytes-to_be_bytes_2, from_be_bytes-to_be_bytes_4, from_be_bytes-to_be_bytes_8}
 use Rattle.osd_lists.specs.Blocks.{IsBytes}
 use Rattle.osd_lists.proofs.BlockLaws.{next, joined, zeros, first_nonzero-zeros, IsBytes-range, number_16, number_32, number_64, below_32, below_64}
-use Rattle.osd_bytes.proofs.Options.{guard_ok}
-use Rattle.osd_bytes.proofs.Tests.{not_false}
+use Rattle.osd_lists.proofs.Options.{guard_ok}
+use Rattle.osd_lists.proofs.Tests.{not_false}
 use Rattle.osd_commands.specs.declared.commands.CommandErr.{CommandErr}
 use Rattle.osd_commands.specs.declared.replies.Reply.{Reply}
 use Rattle.osd_commands.specs.Commands.{ReadsAs}

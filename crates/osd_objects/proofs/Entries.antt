@@ -4,7 +4,7 @@ use Rattle.std.specs.Ordering.{nat_cmp}
 use Rattle.std.specs.BTreeMap.{is_at, insert_entry}
 use Rattle.std.specs.Map.{lookup, set_value, remove_entry}
 use Rattle.std.proofs.lemmas.Bool.{cases_lt, cases_eq, eq-eqb, ne_eqb, lt-ltb, le-ltb}
-use Rattle.osd_bytes.proofs.Tests.{is_at_same}
+use Rattle.osd_lists.proofs.Tests.{is_at_same}
 
 pub is_at_equal : (k j : ℕ) → k ≡ j → is_at (nat_cmp k) j ≡ true
 is_at_equal k j same = ap (is_at (nat_cmp k)) (sym same) ∙ is_at_same k

@@ -8,7 +8,7 @@ use Rattle.std.specs.Map.{lookup, keys_of}
 use Rattle.std.proofs.lemmas.Bool.{cases_lt, cases_eq, cases_Bool, eq-eqb, ne_eqb, lt-ltb, le-ltb}
 use Rattle.std.proofs.lemmas.List.{length-replicate, get_or-replicate}
 use Rattle.std.proofs.lemmas.Option.{same_Some}
-use Rattle.osd_bytes.proofs.Options.{none_there}
+use Rattle.osd_lists.proofs.Options.{none_there}
 use Rattle.osd_objects.specs.declared.pages.TheConstants.{PAGE_BYTES}
 use Rattle.osd_objects.specs.Pages.{Pages, page_at, byte_on, byte_at, with_page, with_pages, AreFull}
 use Rattle.osd_objects.specs.Sparse.{touch, touch_from}

@@ -3,7 +3,7 @@ use Rattle.std.specs.Prelude.{◌+◌, List, length, refl, ℕ, ◌∷◌, ◌�
 use Rattle.std.proofs.Common.{arith, ap, suc, ◌&&◌, ◌==◌, inl, inr, map, ◌≤◌}
 use Rattle.std.proofs.lemmas.Bool.{cases_Bool}
 use Rattle.std.proofs.lemmas.Bool.Decides.{nat_tests}
-use Rattle.osd_bytes.proofs.Slices.{length_taken}
+use Rattle.osd_lists.proofs.Slices.{length_taken}
 use Rattle.server_rules.specs.declared.files.Component.{Component}
 use Rattle.server_rules.specs.declared.server.Drive.{Drive}
 use Rattle.server_rules.specs.Standing.{lose_from, lose_on}

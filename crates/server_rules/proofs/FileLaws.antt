@@ -3,7 +3,7 @@ use Rattle.std.specs.Prelude.{ℕ, false, List, [], ◌∷◌, Some, refl, ◌�
 use Rattle.std.proofs.Common.{arith, inl, inr, eq-eqb, subst, sym, None, is_some}
 use Rattle.std.proofs.lemmas.Bool.{cases_Bool}
 use Rattle.std.proofs.lemmas.Bool.Decides.{nat_tests}
-use Rattle.osd_bytes.proofs.Options.{none_there}
+use Rattle.osd_lists.proofs.Options.{none_there}
 use Rattle.data_map.specs.declared.check.RawMap.{RawMap}
 use Rattle.server_rules.specs.declared.server.Server.{Server}
 use Rattle.server_rules.specs.State.{File, Slot}

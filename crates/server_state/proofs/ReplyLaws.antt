@@ -11,7 +11,7 @@ use Rattle.std.proofs.lemmas.Bool.{cases_Bool}
 use Rattle.std.proofs.lemmas.Bool.Decides.{nat_tests}
 use Rattle.std.proofs.lemmas.List.Folds.{or-false}
 use Rattle.osd_lists.specs.declared.memory.Memory.{Memory}
-use Rattle.osd_bytes.proofs.Tests.{same_number, at_number}
+use Rattle.osd_lists.proofs.Tests.{same_number, at_number}
 use Rattle.server_rules.specs.declared.server.Server.{Server}
 use Rattle.server_rules.specs.Files.{Step as RulesStep}
 use Rattle.file_jobs.specs.declared.job.FileState.{FileState}

@@ -7,7 +7,7 @@ use Rattle.std.specs.Map.{set_value}
 use Rattle.std.proofs.Common.{arith, inl, inr, ap, sym, subst, ◌∙◌}
 use Rattle.std.proofs.lemmas.Bool.{cases_Bool}
 use Rattle.std.proofs.lemmas.Bool.Decides.{nat_tests}
-use Rattle.osd_bytes.proofs.Tests.{at_number}
+use Rattle.osd_lists.proofs.Tests.{at_number}
 use Rattle.server_rules.specs.Files.{file_at, put_file}
 use Rattle.server_rules.specs.Requests.{size_in}
 use Rattle.server_state.specs.FileRequests.{LeavesFile}

@@ -4,7 +4,7 @@ use Rattle.std.specs.Prelude.{min, max, Option, Some, None, Ok}
 use Rattle.std.specs.List.{range_with_len}
 use Rattle.std.proofs.lemmas.Bool.{cases_lt, lt-ltb}
 use Rattle.std.proofs.lemmas.Nat.{div-add-mod', mod_below}
-use Rattle.osd_bytes.proofs.Slices.{split_range}
+use Rattle.osd_lists.proofs.Slices.{split_range}
 use Rattle.data_map.specs.declared.check.RawMap.{RawMap}
 use Rattle.data_map.specs.Check.{IsChecked}
 use Rattle.data_map.specs.Striping.{stripe_of, stripe_length, data_units, data_unit_of, column_of}

@@ -9,7 +9,7 @@ use Rattle.std.proofs.lemmas.List.{take-append-drop, take_at, drop_at, length-ap
 use Rattle.std.proofs.lemmas.Nat.{be_bytes_4, be_bytes_8, from_be_bytes-to_be_bytes_4, from_be_bytes-to_be_bytes_8}
 use Rattle.osd_lists.specs.Blocks.{IsBytes, first_nonzero}
 use Rattle.osd_lists.proofs.BlockLaws.{length-range, zeros, first_nonzero-zeros, IsBytes-range, below_32, below_64, next}
-use Rattle.osd_bytes.proofs.Options.{guard_ok}
+use Rattle.osd_lists.proofs.Options.{guard_ok}
 use Rattle.xdr_codec.specs.declared.err.XdrErr.{XdrErr}
 use Rattle.xdr_codec.specs.declared.err.XdrErr.TheVariants.{BadBool, TooMany}
 use Rattle.xdr_codec.specs.Items.{padded, u32_item, u64_item, i64_item, bool_item, fixed_item, opaque_item}

@@ -1,7 +1,7 @@
 use Rattle.std.specs.Prelude.{◌==◌, ◌+◌, not, length, refl}
 use Rattle.std.proofs.Common.{◌∙◌}
 use Rattle.std.proofs.lemmas.Result.{IfOk-weaker}
-use Rattle.osd_bytes.proofs.Slices.{some_at}
+use Rattle.osd_lists.proofs.Slices.{some_at}
 use Rattle.server_rules.specs.declared.jobs.Awaited.{Awaited}
 use Rattle.file_jobs.specs.Steps.{going}
 use Rattle.file_jobs.proofs.HeardLaws.{answered_job}

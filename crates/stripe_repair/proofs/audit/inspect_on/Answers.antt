@@ -1,6 +1,6 @@
 use Rattle.std.proofs.Common.{sym, ◌∙◌}
 use Rattle.std.proofs.lemmas.List.Elements.{All-drop}
-use Rattle.osd_bytes.proofs.Options.{none_but}
+use Rattle.osd_lists.proofs.Options.{none_but}
 use Rattle.stripe_repair.specs.Pieces.{IsPiece}
 use Rattle.stripe_repair.proofs.RepairLaws.{some_of, none_of}
 use Rattle.stripe_repair.proofs.AuditLaws.{look_past, look_stops, look_ends}

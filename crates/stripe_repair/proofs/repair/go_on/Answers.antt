@@ -1,6 +1,6 @@
 use Rattle.std.proofs.Common.{sym, ◌∙◌}
 use Rattle.std.proofs.lemmas.List.Elements.{All-drop}
-use Rattle.osd_bytes.proofs.Options.{none_but}
+use Rattle.osd_lists.proofs.Options.{none_but}
 use Rattle.stripe_repair.specs.Pieces.{IsPiece}
 use Rattle.stripe_repair.proofs.RepairLaws.{step_past, step_stops, step_ends, some_of, none_of}
 use Rattle.stripe_repair.proofs.repair.go_on.Goals as goal

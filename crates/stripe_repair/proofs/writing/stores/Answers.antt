@@ -1,6 +1,6 @@
 use Rattle.std.proofs.Common.{arith, [], sym, ap, ◌∙◌, ◌++◌, ◌∷◌}
 use Rattle.std.proofs.lemmas.List.{append_assoc}
-use Rattle.osd_bytes.proofs.Options.{none_but}
+use Rattle.osd_lists.proofs.Options.{none_but}
 use Rattle.stripe_repair.specs.Pieces.{rows_of}
 use Rattle.stripe_repair.proofs.StoreLaws.{next_some, next_none}
 use Rattle.stripe_repair.proofs.writing.stores.Goals as goal

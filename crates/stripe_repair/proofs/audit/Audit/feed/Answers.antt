@@ -1,5 +1,5 @@
 use Rattle.std.proofs.Common.{sym, ◌∙◌, drop}
-use Rattle.osd_bytes.proofs.Options.{none_but}
+use Rattle.osd_lists.proofs.Options.{none_but}
 use Rattle.server_rules.specs.Jobs.{audited_on}
 use Rattle.server_rules.specs.Audit.{audits}
 use Rattle.server_rules.specs.declared.jobs.Tally.{Tally}

@@ -1,6 +1,6 @@
 use Rattle.std.proofs.Common.{sym, ◌∙◌, drop}
 use Rattle.std.proofs.lemmas.List.Elements.{All-drop}
-use Rattle.osd_bytes.proofs.Options.{none_but, none_but as no_piece}
+use Rattle.osd_lists.proofs.Options.{none_but, none_but as no_piece}
 use Rattle.server_rules.specs.Jobs.{gathered}
 use Rattle.server_rules.specs.Rebuild.{fills}
 use Rattle.stripe_repair.specs.Filling.{IsPieceOf}

@@ -1,6 +1,6 @@
 use Rattle.std.proofs.Common.{sym, ◌∙◌, drop}
 use Rattle.std.proofs.lemmas.List.Elements.{All-drop}
-use Rattle.osd_bytes.proofs.Options.{none_but}
+use Rattle.osd_lists.proofs.Options.{none_but}
 use Rattle.server_rules.specs.Jobs.{fetched}
 use Rattle.server_rules.specs.Repair.{repairs}
 use Rattle.stripe_repair.specs.Pieces.{IsPiece}
