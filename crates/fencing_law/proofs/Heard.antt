@@ -18,7 +18,7 @@ use Rattle.osd_drive.specs.Effects.{format_reply, reply_by, state_by}
 use Rattle.server_rules.specs.declared.limits.TheConstants.{SERVER_HOLDER}
 use Rattle.server_rules.specs.Laws.{In}
 use Rattle.server_rules.specs.Envelopes.{message_in, by_reply}
-use Rattle.server_rules.specs.Messages.{Replies as RepliesTo, awaited_by, counters_low}
+use Rattle.server_rules.specs.Messages.{Replies as RepliesTo, awaited_by, counters_have_room}
 use Rattle.server_rules.specs.Replies.{is_done, answers}
 use Rattle.scenario_text.specs.declared.line.Party.TheVariants as party
 use Rattle.scenario_text.specs.declared.line.Line.{Line}
@@ -113,8 +113,8 @@ world_command w h r n d bytes s =
 
 -- ---- the awaited command
 
-low_nonce : (w : World) → counters_low w.server ≡ true → w.server.next_nonce < 2 ^ 63
-unfolding counters_low
+low_nonce : (w : World) → counters_have_room w.server ≡ true → w.server.next_nonce < 2 ^ 63
+unfolding counters_have_room
 low_nonce w e = less w.server.next_nonce (2 ^ 63) (and_parts _ _ e).0
   where
     less : (a b : ℕ) → nat_lt a b ≡ true → a < b
@@ -128,7 +128,7 @@ pub record IsIt (d : ℕ) (a : Awaited) (c : Command) : Type 0 where
   pub tag : a.command.capability.tag < 2 ^ 32 → c.capability.tag ≡ a.command.capability.tag
   pub holder : a.command.capability.holder < 2 ^ 32 → c.capability.holder ≡ a.command.capability.holder
 
-read_nonce : (w : World) (d : ℕ) (bytes : List ℕ) (k : IsCommand w d bytes) (c : Command) → counters_low w.server ≡ true
+read_nonce : (w : World) (d : ℕ) (bytes : List ℕ) (k : IsCommand w d bytes) (c : Command) → counters_have_room w.server ≡ true
     → reading bytes ≡ Ok c → (c.nonce ≡ k.command.nonce) × (c.nonce < 2 ^ 64)
 read_nonce w d bytes k c low read =
     let below : k.command.nonce < 2 ^ 64 = omega (arith, low_nonce w low, k.low) in
@@ -136,7 +136,7 @@ read_nonce w d bytes k c low read =
     (command_reads k.command c (ap reading (sym k.bytes_are) ∙ read)).nonce below in
     (same, omega (arith, same, below))
 
-identify : (w : World) → Numbers w → counters_low w.server ≡ true → (d : ℕ) (bytes : List ℕ) (k : IsCommand w d bytes)
+identify : (w : World) → Numbers w → counters_have_room w.server ≡ true → (d : ℕ) (bytes : List ℕ) (k : IsCommand w d bytes)
     (c : Command) → reading bytes ≡ Ok c → (a : Awaited) → Awaits w.server.files a → c.nonce ≡ a.command.nonce
     → IsIt d a c
 identify w n low d bytes k c read a waits nonce =
@@ -161,7 +161,7 @@ identify w n low d bytes k c read a waits nonce =
 -- ---- the reply
 
 module _ (w : World) (h : List Line) (r : IsRead w h) (n : Numbers w) (own : EachBehind OwnAt [] h)
-    (low : counters_low w.server ≡ true) (d : ℕ) (a : Awaited) (waits : Awaits w.server.files a) (tag : ℕ)
+    (low : counters_have_room w.server ≡ true) (d : ℕ) (a : Awaited) (waits : Awaits w.server.files a) (tag : ℕ)
     (raises : Raises tag a) (object_fits : a.command.object < 2 ^ 64) (tag_fits : tag + 1 < 2 ^ 32) where
   -- the facts of a command of that nonce
   own_tag : (c : Command) → IsIt d a c → c.capability.tag ≡ tag
@@ -246,7 +246,7 @@ format_counts x tag is (inr e) = absurd (omega (arith, is, e.0))
 
 -- to bytes that spell a command or none
 judged_reached : (w : World) (h : List Line) → IsRead w h → Numbers w → EachBehind OwnAt [] h
-    → counters_low w.server ≡ true → (d : ℕ) (a : Awaited) → Awaits w.server.files a → (tag : ℕ) → Raises tag a
+    → counters_have_room w.server ≡ true → (d : ℕ) (a : Awaited) → Awaits w.server.files a → (tag : ℕ) → Raises tag a
     → a.command.object < 2 ^ 64 → tag + 1 < 2 ^ 32 → (lines more : List Line) → h ≡ lines ++ more → (there : DriveAt)
     → drive_after lines d ≡ Some there → (bytes : List ℕ) → IsCommand w d bytes → (x : Reply)
     → (o : Result Command CommandErr) → reading bytes ≡ o → replies.reading (replies.spelling (judges there o).reply)
@@ -265,7 +265,7 @@ judged_reached w h r n own low d a waits tag raises object_fits tag_fits lines m
     absurd (format_counts x tag ((reply_reads format_reply x heard).verdict (omega arith)) told)
 
 pub heard_reached : (w : World) (h : List Line) → IsRead w h → Numbers w → EachBehind OwnAt [] h
-    → counters_low w.server ≡ true → (d k : ℕ) (p : Posted) → slice_get w.network.messages k ≡ Some p
+    → counters_have_room w.server ≡ true → (d k : ℕ) (p : Posted) → slice_get w.network.messages k ≡ Some p
     → p.message.to ≡ node.Server → p.message.from ≡ node.Drive d → (x : Reply)
     → for_server p.message ≡ Some (RepliesTo x)
     → (f : File) → In f w.server.files → (a : Awaited) → In a (awaited_by f.job) → Raises f.kept.tag a

@@ -96,8 +96,8 @@ creates_told ds f (n ∷ ns) object k nonce h a =
 
 -- what is sent where a job rests, or has nothing to send
 sent_or : (cs : List Awaited) (g : Going) (kind : JobKind) (work : Work) (later : Going)
-    → later.moved.sent ≡ g.moved.sent ++ []
-    → (rests_or cs g kind work later).moved.sent ≡ g.moved.sent ++ cs
+    → later.effects.sent ≡ g.effects.sent ++ []
+    → (rests_or cs g kind work later).effects.sent ≡ g.effects.sent ++ cs
 sent_or [] g kind work later e = e
 sent_or (c ∷ cs) g kind work later e = refl
 
@@ -117,7 +117,7 @@ module _ (s : Server) (number : ℕ) (m : RawMap) (tag : ℕ) (r : IsReadable s)
   abbrev makes_on : List ℕ → Step
   makes_on ns = makes_file s (on ns)
 
-  made_sent : (ns : List ℕ) → (making (at_file (with_file s (on ns)) [] (on ns))).moved.sent
+  made_sent : (ns : List ℕ) → (making (at_file (with_file s (on ns)) [] (on ns))).effects.sent
       ≡ to_all (on ns).kept All Creating s.next_nonce
   unfolding making
   made_sent ns =
@@ -134,7 +134,7 @@ module _ (s : Server) (number : ℕ) (m : RawMap) (tag : ℕ) (r : IsReadable s)
 
   told_on : (ns : List ℕ) → AllNamed ns → (n : ℕ) → placed_by n (makes_on ns).sends ≡ ns
   told_on ns a n =
-      placed_sent s.drives (making (at_file (with_file s (on ns)) [] (on ns))).moved.sent n
+      placed_sent s.drives (making (at_file (with_file s (on ns)) [] (on ns))).effects.sent n
       ∙ ap (placed_of s.drives) (made_sent ns)
       ∙ creates_told s.drives (on ns).kept ns s.next_object 0 s.next_nonce r.format a
 

@@ -16,7 +16,7 @@ use Rattle.file_jobs.specs.Sound.{IsSound}
 use Rattle.server_rules.specs.declared.server.Refusal.{Refusal}
 use Rattle.server_rules.specs.declared.server.Refusal.TheVariants.{FileExists}
 use Rattle.server_rules.specs.declared.server.Server.{Server}
-use Rattle.server_rules.specs.declared.server.Moved.{Moved}
+use Rattle.server_rules.specs.declared.server.Effects.{Effects}
 use Rattle.server_rules.specs.Going.{Going}
 use Rattle.server_rules.specs.Jobs.{making}
 use Rattle.server_rules.specs.Files.{file_at, put_file, add_file, at_file, step_at}
@@ -111,7 +111,7 @@ new_files old n u g good none e h =
     ∙ add_file-files old.files.entries n g good (no_entry old.files.entries n good none) h
 
 -- what comes of a file that is made
-pub made_at : (old : State) (files : BTreeMap ℕ FileState) (new : State) (m : Moved) (n tag : ℕ) (raw : RawMap) (ds : List ℕ) (u g : FileState) (out : Step) →
+pub made_at : (old : State) (files : BTreeMap ℕ FileState) (new : State) (m : Effects) (n tag : ℕ) (raw : RawMap) (ds : List ℕ) (u g : FileState) (out : Step) →
     AreEntries old.files.entries → refusal (server_of old) n raw ≡ None → places old.drives raw.comps ds ≡ ds →
     file_of u ≡ unmade (server_of old) n raw tag ds → g.kept.number ≡ u.kept.number →
     files.entries ≡ insert_entry nat_cmp old.files.entries n g →
