@@ -1,7 +1,7 @@
 use Rattle.std.proofs.Common.{ℕ, ◌+◌, ◌*◌, get_or, arith}
 use Rattle.std.specs.Prelude.{bit_xor}
 use Rattle.gf256.proofs.Blocks.{block_stored, sum_lane, all_reached}
-use Rattle.gf256.proofs.sums.add.Goals as goal
+use Rattle.gf256.proofs.addition.add.Goals as goal
 
 pub loop-b-preserved : goal.loop-b-preserved
 loop-b-preserved c =

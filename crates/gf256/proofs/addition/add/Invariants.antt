@@ -1,7 +1,7 @@
 use Rattle.std.proofs.Common.{◌*◌, get_or}
 use Rattle.std.specs.Prelude.{bit_xor}
 use Rattle.gf256.proofs.Blocks.{Reached}
-use Rattle.gf256.proofs.sums.add.Given as goal
+use Rattle.gf256.proofs.addition.add.Given as goal
 
 abbrev pub invariant-loop-b : goal.invariant-loop-b
 invariant-loop-b l = Reached (λ k. bit_xor (get_or l.initial.out k 0) (get_or l.src k 0)) l.initial.out l.out (64 * l.b)
