@@ -1,7 +1,7 @@
 -- An answer that takes a loss has one form, and goes to a client that a line can name.
 use Rattle.std.proofs.Common.{◌≡◌, ◌==◌, ℕ, ◌+◌, ◌++◌, ◌∷◌, [], List, Bool, true, false, ◌&&◌, nat_le, nat_lt, Option, Some, None, flat_map, refl, subst, arith, if◌then◌else◌}
 use Rattle.std.proofs.lemmas.Bool.Decides.{nat_tests}
-use Rattle.osd_commands.proofs.Passing.{both_true}
+use Rattle.std.proofs.lemmas.Bool.{and_parts}
 use Rattle.osd_lists.specs.declared.node.Node.{Node}
 use Rattle.osd_lists.specs.declared.node.Node.TheVariants as node
 use Rattle.layout_ops.specs.declared.messages.Answer.{Answer}
@@ -243,7 +243,7 @@ asked_plain : (s : Server) (now : ℕ) (chosen : List ℕ) (c : ℕ) (q : Client
     → ((q.client == c) && nat_le c MAX_CLIENT) ≡ b → StepPlain (if b then on_request s now chosen q else still s)
 asked_plain s now chosen c q false h is = still_plain s h
 asked_plain s now chosen c q true h is =
-    let both = both_true (q.client == c) (nat_le c MAX_CLIENT) is in
+    let both = and_parts (q.client == c) (nat_le c MAX_CLIENT) is in
     request_plain s h q (subst (λ (n : ℕ). nat_le n MAX_CLIENT ≡ true) (same q.client c both.0) both.1) now chosen
   where
     same : (a b : ℕ) → (a == b) ≡ true → b ≡ a

@@ -4,7 +4,7 @@ use Rattle.std.specs.List.{AllByRecursion}
 use Rattle.std.proofs.Common.{◌≡◌, ◌&&◌, ◌==◌, ℕ, suc, ◌+◌, ◌≤◌, ◌<◌, ◌++◌, Bool, true, false, List, [], ◌∷◌, Option, Some, None, find, filter, map, length, nat_lt, nat_le, refl, sym, ap, subst, ◌∙◌, append_assoc, arith, if◌then◌else◌}
 use Rattle.std.proofs.lemmas.Bool.Decides.{nat_tests}
 use Rattle.std.proofs.lemmas.List.{append-nil, length-append, length-map}
-use Rattle.osd_commands.proofs.Passing.{both_true}
+use Rattle.std.proofs.lemmas.Bool.{and_parts}
 use Rattle.osd_lists.specs.declared.node.Node.{Node}
 use Rattle.osd_lists.specs.declared.node.Node.TheVariants as node
 use Rattle.data_map.specs.declared.check.RawMap.{RawMap}
@@ -485,7 +485,7 @@ asked_fits : (s : Server) (now : ℕ) (chosen : List ℕ) (c : ℕ) (q : ClientR
     → ((q.client == c) && nat_le c MAX_CLIENT) ≡ b → StepFits s (if b then on_request s now chosen q else still s)
 asked_fits s now chosen c q false k is = still_fits s k
 asked_fits s now chosen c q true k is =
-    let both = both_true (q.client == c) (nat_le c MAX_CLIENT) is in
+    let both = and_parts (q.client == c) (nat_le c MAX_CLIENT) is in
     request_fits s now chosen q k (grind (arith, both.0, both.1, nat_tests))
 
 pub message_fits : (s : Server) (now : ℕ) (chosen : List ℕ) (from : Node) (m : Message) → ServerFits s

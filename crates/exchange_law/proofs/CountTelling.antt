@@ -1,7 +1,7 @@
 -- Whatever comes to the server, its answers and recalls fit.
 use Rattle.std.proofs.Common.{◌≡◌, ◌&&◌, ◌==◌, ℕ, ◌+◌, ◌≤◌, ◌++◌, Bool, true, false, List, [], ◌∷◌, Option, Some, None, flat_map, nat_le, refl, sym, subst, arith, if◌then◌else◌}
 use Rattle.std.proofs.lemmas.Bool.Decides.{nat_tests}
-use Rattle.osd_commands.proofs.Passing.{both_true}
+use Rattle.std.proofs.lemmas.Bool.{and_parts}
 use Rattle.osd_lists.specs.declared.node.Node.{Node}
 use Rattle.osd_lists.specs.declared.node.Node.TheVariants as node
 use Rattle.server_rules.specs.declared.limits.TheConstants.{MAX_CLIENT, GREATEST_TAG}
@@ -149,7 +149,7 @@ asked_good : (s : Server) (now : ℕ) (chosen : List ℕ) (c : ℕ) (q : ClientR
     → StepGood s (if b then on_request s now chosen q else still s)
 asked_good s now chosen c q false k g r is = silent_good s (still s) g (omega arith) (still_silent s)
 asked_good s now chosen c q true k g r is =
-    let both = both_true (q.client == c) (nat_le c MAX_CLIENT) is in
+    let both = and_parts (q.client == c) (nat_le c MAX_CLIENT) is in
     request_good s now chosen q k g (grind (arith, both.0, both.1, nat_tests)) r
 
 either_good : (s : Server) (b : Bool) (x y : Step) → StepGood s x → StepGood s y → StepGood s (if b then x else y)

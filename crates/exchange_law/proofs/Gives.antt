@@ -1,11 +1,10 @@
 -- Which grants a step of the server gives: the next number, in the answer to a request behind all that it answered.
 use Rattle.std.proofs.Common.{◌≡◌, ◌⊎◌, ◌==◌, ℕ, ◌+◌, ◌≤◌, ◌<◌, ◌^◌, ◌++◌, ◌∷◌, [], List, inl, inr, Bool, true, false, ◌&&◌, nat_le, nat_lt, flat_map, Option, Some, None, refl, sym, ap, subst, ◌∙◌, arith, append_assoc, if◌then◌else◌}
 use Rattle.std.specs.Prelude.{min}
-use Rattle.std.proofs.lemmas.Bool.{cases_eq, eq-eqb, ne_eqb, eqb-true}
+use Rattle.std.proofs.lemmas.Bool.{cases_eq, eq-eqb, ne_eqb, eqb-true, and_parts}
 use Rattle.std.proofs.lemmas.Bool.Decides.{nat_tests}
 use Rattle.osd_lists.specs.declared.node.Node.{Node}
 use Rattle.osd_lists.specs.declared.node.Node.TheVariants as node
-use Rattle.osd_commands.proofs.Passing.{both_true}
 use Rattle.layout_ops.specs.declared.messages.Answer.{Answer}
 use Rattle.layout_ops.specs.declared.orders.OrderKind.{OrderKind}
 use Rattle.layout_ops.specs.declared.orders.OrderKind.TheVariants as order
@@ -232,7 +231,7 @@ after_admitted o last q is = either ((q == last + 1) && nat_lt last GREATEST_SEQ
     either : (b : Bool) → ((q == last + 1) && nat_lt last GREATEST_SEQUENCE) ≡ b
         → IsAdmitted o q (if b then New else Misordered (min (last + 1) GREATEST_SEQUENCE))
     either true e =
-        let both = both_true (q == last + 1) (nat_lt last GREATEST_SEQUENCE) e in
+        let both = and_parts (q == last + 1) (nat_lt last GREATEST_SEQUENCE) e in
         let next : q ≡ last + 1 = eqb-true q (last + 1) both.0 in
         let less : last < GREATEST_SEQUENCE = nat_less last GREATEST_SEQUENCE both.1 in
         (omega (arith, is, next), omega (arith, next, less))

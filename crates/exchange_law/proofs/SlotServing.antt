@@ -1,7 +1,7 @@
 -- A step of the server answers a client's request, or leaves all slots and answers nobody.
 use Rattle.std.proofs.Common.{◌≡◌, ◌≤◌, ◌==◌, ℕ, ◌+◌, ◌++◌, ◌∷◌, [], List, Bool, true, false, ◌&&◌, nat_le, flat_map, Option, Some, None, refl, sym, ap, arith, if◌then◌else◌}
 use Rattle.std.proofs.lemmas.Bool.Decides.{nat_tests}
-use Rattle.osd_commands.proofs.Passing.{both_true}
+use Rattle.std.proofs.lemmas.Bool.{and_parts}
 use Rattle.osd_lists.specs.declared.node.Node.{Node}
 use Rattle.osd_lists.specs.declared.node.Node.TheVariants as node
 use Rattle.layout_ops.specs.declared.messages.Answer.{Answer}
@@ -149,7 +149,7 @@ asked : (s : Server) (now : ℕ) (chosen : List ℕ) (c : ℕ) (q : ClientReques
     → ServerDid s chosen (Hears now (node.Client c) (Asks q)) (if b then on_request s now chosen q else still s)
 asked s now chosen c q false is = Quiet (still_quiet s)
 asked s now chosen c q true is =
-    let both = both_true (q.client == c) (nat_le c MAX_CLIENT) is in
+    let both = and_parts (q.client == c) (nat_le c MAX_CLIENT) is in
     let it : c ≡ q.client = same q.client c both.0 in
     Asked now q (ap (λ (n : ℕ). Hears now (node.Client n) (Asks q)) it) (named c q.client it both.1) refl
   where

@@ -1,7 +1,7 @@
 -- What the server hears of a SET TAG that it awaits is true, as far as only its commands are performed under its
 -- holder.
 use Rattle.std.proofs.Common.{◌≡◌, ◌⊎◌, ◌==◌, ℕ, ◌+◌, ◌<◌, ◌^◌, ◌++◌, ◌∷◌, [], List, true, nat_lt, Some, Result, Ok, Err, map, slice_get, refl, sym, ap, subst, ◌∙◌, append_assoc, arith, inl, inr}
-use Rattle.std.proofs.lemmas.Bool.{cases_lt}
+use Rattle.std.proofs.lemmas.Bool.{cases_lt, and_parts}
 use Rattle.std.proofs.lemmas.Bool.Decides.{nat_tests}
 use Rattle.std.proofs.lemmas.List.{append-nil}
 use Rattle.osd_lists.specs.declared.node.Node.{Node}
@@ -11,7 +11,6 @@ use Rattle.osd_commands.specs.declared.commands.CommandErr.{CommandErr}
 use Rattle.osd_commands.specs.declared.replies.Reply.{Reply}
 use Rattle.osd_commands.specs.Commands.{reading, spelling}
 use Rattle.osd_commands.specs.Replies as replies
-use Rattle.osd_commands.proofs.Passing.{both_true}
 use Rattle.osd_objects.specs.Lanes.{lane_of}
 use Rattle.osd_drive.specs.declared.verdict.Verdict.{Verdict}
 use Rattle.osd_drive.specs.Table.{first_fault}
@@ -116,7 +115,7 @@ world_command w h r n d bytes s =
 
 low_nonce : (w : World) → counters_have_room w.server ≡ true → w.server.next_nonce < 2 ^ 63
 unfolding counters_have_room
-low_nonce w e = less w.server.next_nonce (2 ^ 63) (both_true _ _ e).0
+low_nonce w e = less w.server.next_nonce (2 ^ 63) (and_parts _ _ e).0
   where
     less : (a b : ℕ) → nat_lt a b ≡ true → a < b
     less a b x = grind (arith, x, nat_tests)
@@ -296,7 +295,7 @@ heard_reached w h r n own low d k p there to sender x read f i a j raises answer
       receiver = rep.receiver;
       bytes_are = refl;
     } in
-    let tests = both_true (a.command.nonce == x.nonce) (a.drive == d) answer in
+    let tests = and_parts (a.command.nonce == x.nonce) (a.drive == d) answer in
     let heard : replies.reading (replies.spelling (judges rep.there (reading m.bytes)).reply) ≡ Ok x =
     ap replies.reading (sym rep.bytes_are) ∙ read_reply p.message.from d (spelled p.message.body) x sender read in
     let reached : has_reached a.command.object (f.kept.tag + 1) (drive_after t.before d) ≡ true =

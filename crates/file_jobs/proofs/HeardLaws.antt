@@ -2,6 +2,7 @@
 use Rattle.std.specs.Prelude.{ℕ, List, [], ◌∷◌, ◌++◌, Option, Some, None, ◌≡◌, ◌<◌, length, map, slice_get, find, refl}
 use Rattle.std.proofs.Common.{arith, ap, sym, ◌∙◌, get_or}
 use Rattle.std.proofs.lemmas.Option.{slice_get-get_or}
+use Rattle.osd_lists.proofs.Slices.{some_at}
 use Rattle.osd_commands.specs.declared.replies.Reply.{Reply}
 use Rattle.server_rules.specs.declared.files.Kept.{Kept}
 use Rattle.server_rules.specs.declared.jobs.Awaited.{Awaited}
@@ -30,10 +31,6 @@ pub waits_on_still : (k : Kept) (m : Effects) (s : Around) (j : Job) → s.job �
 waits_on_still k m s j e = ap (λ (x : Option Job). going k m (record s { job = x })) (sym e)
 
 -- ---- the job that awaits it
-
-pub some_at : (xs : List Awaited) (i : ℕ) → i < length xs → (a : Awaited) × (slice_get xs i ≡ Some a)
-some_at [] i l = absurd (omega (arith, l))
-some_at (x ∷ xs) i l = (get_or (x ∷ xs) i x, slice_get-get_or (x ∷ xs) i x l)
 
 by_job : (g : Going) (drive : ℕ) (r : Reply) (o : Option Job) (j : Job) (a : Awaited) → o ≡ Some j → find (answers drive r) j.awaited ≡ Some a → heard_in g drive r o ≡ Some (hears g j a r (hearing g.file.kept a r))
 by_job g drive r o j a e f = rw e (rw f refl)

@@ -193,14 +193,6 @@ declares_is f m ds chosen drive cs j a e o =
     ∙ ap (λ (x : List Component). declared_in (going (record f.kept { components = x }) m (record { spent = f.spent; job = f.job; drives = ds; chosen = chosen })) drive f.job) e
     ∙ rw a refl
 
-pub or_left : (a b : Bool) → a ≡ true → (a || b) ≡ true
-or_left true b e = refl
-or_left false b e = absurd (cc e)
-
-pub or_right : (a b : Bool) → b ≡ true → (a || b) ≡ true
-or_right true b e = refl
-or_right false b e = e
-
 length-lose_on : (drive : ℕ) (cs : List Component) → length (lose_on drive cs) ≡ length cs
 unfolding lose_on
 length-lose_on drive [] = refl

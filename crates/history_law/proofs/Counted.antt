@@ -2,7 +2,7 @@
 use Rattle.std.proofs.Common.{◌≡◌, ◌==◌, ℕ, ◌+◌, ◌≤◌, ◌++◌, ◌∷◌, [], List, Bool, true, false, ◌&&◌, nat_le, nat_lt, Option, Some, None, length, map, filter, refl, sym, ap, subst, arith, if◌then◌else◌}
 use Rattle.std.proofs.lemmas.Bool.Decides.{nat_tests}
 use Rattle.std.proofs.lemmas.List.{append_assoc}
-use Rattle.osd_commands.proofs.Passing.{both_true}
+use Rattle.std.proofs.lemmas.Bool.{and_parts}
 use Rattle.osd_lists.specs.declared.node.Node.{Node}
 use Rattle.osd_lists.specs.declared.node.Node.TheVariants as node
 use Rattle.scenario_text.specs.declared.names.TheConstants.{CLIENTS}
@@ -158,7 +158,7 @@ asked : (s : Server) (now : ℕ) (chosen : List ℕ) (c : ℕ) (q : ClientReques
 unfolding on_request
 asked s now chosen c q false is = none_given s _ refl
 asked s now chosen c q true is =
-    let both = both_true (q.client == c) (nat_le c MAX_CLIENT) is in
+    let both = and_parts (q.client == c) (nat_le c MAX_CLIENT) is in
     admitted s now chosen q _ (subst (λ (n : ℕ). nat_le n MAX_CLIENT ≡ true) (same q.client c both.0) both.1)
   where
     same : (a b : ℕ) → (a == b) ≡ true → b ≡ a

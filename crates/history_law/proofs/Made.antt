@@ -1,6 +1,6 @@
 -- A file is made on the drives that a placer named, which its CREATEs tell.
 use Rattle.std.proofs.Common.{◌≡◌, ℕ, ◌+◌, ◌==◌, ◌<◌, ◌∷◌, [], List, ◌++◌, Bool, true, false, ◌&&◌, not, Option, Some, None, is_some, find, map, take, length, zero, suc, refl, ap, ◌∙◌, if◌then◌else◌}
-use Rattle.osd_commands.proofs.Passing.{both_true}
+use Rattle.std.proofs.lemmas.Bool.{and_parts}
 use Rattle.osd_capability.specs.Layout.{is_format}
 use Rattle.scenario_text.specs.declared.names.TheConstants.{DRIVES}
 use Rattle.world_history.specs.ServerNames.{Server, Kept, File, Drive, Awaited, RawMap, Refusal, JobKind, Work, Making, Creates}
@@ -36,8 +36,8 @@ chosen_named : (ds : List Drive) (ns : List ℕ) → AreNamed ds → are_of ds n
 unfolding are_of
 chosen_named ds [] a e = tt
 chosen_named ds (n ∷ ns) a e =
-    let one = both_true (is_some (find (λ d. d.number == n) ds)) (not (among n ns) && are_of ds ns) e in
-    let two = both_true (not (among n ns)) (are_of ds ns) one.1 in
+    let one = and_parts (is_some (find (λ d. d.number == n) ds)) (not (among n ns) && are_of ds ns) e in
+    let two = and_parts (not (among n ns)) (are_of ds ns) one.1 in
     (found_named n ds a one.0, chosen_named ds ns a two.1)
 
 first_named : (count : ℕ) (ds : List Drive) → AreNamed ds → AllNamed (take count (map (λ d. d.number) ds))
@@ -54,7 +54,7 @@ places_named ds count chosen a = either ((length chosen == count) && are_of (onl
 
     either : (b : Bool) → ((length chosen == count) && are_of (online ds) chosen) ≡ b
         → AllNamed (if b then chosen else take count (map (λ d. d.number) (online ds)))
-    either true e = chosen_named (online ds) chosen named (both_true (length chosen == count) _ e).1
+    either true e = chosen_named (online ds) chosen named (and_parts (length chosen == count) _ e).1
     either false e = first_named count (online ds) named
 
 -- what was taken is taken again

@@ -9,6 +9,7 @@ use Rattle.std.specs.declared.cmp.Ordering.TheVariants.{Less}
 use Rattle.std.proofs.lemmas.Bool.{cases_Bool}
 use Rattle.std.proofs.lemmas.Bool.Decides.{nat_tests}
 use Rattle.std.proofs.Common.{arith, inl, inr, sym, ap, subst, append-nil, ◌∙◌}
+use Rattle.osd_lists.proofs.Tests.{at_number, is_at_same}
 use Rattle.osd_commands.specs.declared.replies.Reply.{Reply}
 use Rattle.server_rules.specs.declared.jobs.Job.{Job}
 use Rattle.server_rules.specs.declared.jobs.Awaited.{Awaited}
@@ -32,7 +33,7 @@ use Rattle.server_state.specs.States.{server_of, Did, IsGoodBut, Settles}
 use Rattle.server_state.specs.Replies.{file_awaits, job_awaits, AreListed, OthersStay}
 use Rattle.server_state.specs.Index.{Keys, has, are_to, IsFirst}
 use Rattle.layout_server.specs.Hearing.{awaits, AwaitedAt, AwaitedNowhere, HeardIn}
-use Rattle.server_state.proofs.TableLaws.{at_number, entry_found, entries_left}
+use Rattle.server_state.proofs.TableLaws.{entry_found, entries_left}
 use Rattle.server_state.proofs.ReplyLaws.{none_again, others_set, sorted_rest}
 use Rattle.server_state.proofs.StepLaws.{settled_at, good_settled}
 
@@ -91,12 +92,9 @@ awaiting_file : (o : Option FileState) (x d : ℕ) → file_awaits o x d ≡ tru
 awaiting_file None x d e = absurd (cc e)
 awaiting_file (Some f) x d e = (f, refl, e)
 
-at_itself : (n : ℕ) → is_at (nat_cmp n) n ≡ true
-at_itself n = grind (arith, nat_tests, at_number n n)
-
 -- the first of these doesn't await it
 quiet_here : (e : ℕ × FileState) (es : Table) (drive : ℕ) (r : Reply) → file_awaits (entry_at (e ∷ es) e.0) r.nonce drive ≡ false → awaits drive r e.1.job ≡ false
-quiet_here e es drive r q = same_awaits drive r e.1.job ∙ rw (at_itself e.0) at q
+quiet_here e es drive r q = same_awaits drive r e.1.job ∙ rw (is_at_same e.0) at q
 
 -- and so it is with those behind
 quiet_behind : (e : ℕ × FileState) (es : Table) (x d m : ℕ) → AllByRecursion (λ k. nat_cmp e.0 k ≡ Less) (keys_of es) →

@@ -137,7 +137,3 @@ pub same_fill : (r : Result FillStep Memory) (f : Kept) (nonce : ℕ) (x y : Goi
     IfOk r (λ step. (g : Going) → IsAt f nonce g → y g ≡ comes_to step g s) → IfOk r (λ step. (g : Going) → IsAt f nonce g → x g ≡ comes_to step g s)
 same_fill (Ok step) f nonce x y s same e = λ g at. same g at ∙ e g at
 same_fill (Err z) f nonce x y s same e = tt
-
-pub no_write : (o : Option Awaited) → ((w : Awaited) → o ≡ Some w → ⊥) → o ≡ None
-no_write None none = refl
-no_write (Some w) none = absurd (none w refl)

@@ -120,11 +120,6 @@ some_of b xs tells false_there e = true≢false (sym (tells.1 e) ∙ false_there
 pub none_of : {A : Type 0} (b : Bool) (xs : List A) → (IsTrue b ↔ (xs ≡ [])) → b ≡ true → xs ≡ []
 none_of b xs tells true_there = tells.0 true_there
 
--- no first piece
-pub no_piece : (o : Option Piece) → ((p : Piece) → o ≡ Some p → ⊥) → o ≡ None
-no_piece None none = refl
-no_piece (Some p) none = absurd (none p refl)
-
 pub next_ok : (r : Result (List Awaited) Memory) (f : Kept) (nonce : ℕ) (todo left : List Piece) (short marked : List ℕ) →
     IfOk r (λ cs. record { todo = left; short = marked; reads = cs } ≡ goes_to f nonce todo short) →
     IfOk r (λ cs. (kind : JobKind) (g : Going) → IsAt f nonce g → repairs kind g todo short ≡ rests_repairing cs g kind (record { todo = left; short = marked; stage = Fetching }))

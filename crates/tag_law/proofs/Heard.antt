@@ -2,6 +2,7 @@
 use Rattle.std.proofs.Common.{◌≡◌, ◌⊎◌, ◌==◌, ℕ, ◌<◌, ◌^◌, ◌++◌, ◌∷◌, [], List, true, nat_lt, Some, Result, Ok, Err, slice_get, refl, sym, ap, subst, ◌∙◌, append_assoc, arith, inl, inr}
 use Rattle.std.proofs.lemmas.Bool.Decides.{nat_tests}
 use Rattle.std.proofs.lemmas.List.{append-nil}
+use Rattle.std.proofs.lemmas.Bool.{and_parts}
 use Rattle.osd_lists.specs.declared.node.Node.{Node}
 use Rattle.osd_lists.specs.declared.node.Node.TheVariants as node
 use Rattle.osd_commands.specs.declared.actions.Action.TheVariants.{Create}
@@ -10,7 +11,6 @@ use Rattle.osd_commands.specs.declared.commands.CommandErr.{CommandErr}
 use Rattle.osd_commands.specs.declared.replies.Reply.{Reply}
 use Rattle.osd_commands.specs.Commands.{reading}
 use Rattle.osd_commands.specs.Replies as replies
-use Rattle.osd_commands.proofs.Passing.{both_true}
 use Rattle.osd_drive.specs.declared.verdict.Verdict.{Verdict}
 use Rattle.osd_drive.specs.Table.{first_fault}
 use Rattle.osd_drive.specs.Effects.{format_reply, reply_by, state_by}
@@ -52,7 +52,7 @@ use Rattle.tag_law.proofs.Letters.{world_command}
 
 low_nonce : (w : World) → counters_have_room w.server ≡ true → w.server.next_nonce < 2 ^ 63
 unfolding counters_have_room
-low_nonce w e = less w.server.next_nonce (2 ^ 63) (both_true _ _ e).0
+low_nonce w e = less w.server.next_nonce (2 ^ 63) (and_parts _ _ e).0
   where
     less : (a b : ℕ) → nat_lt a b ≡ true → a < b
     less a b x = grind (arith, x, nat_tests)
@@ -161,7 +161,7 @@ heard_made w h r n low d k p there to sender x read f i a j makes answer done fi
       receiver = rep.receiver;
       bytes_are = refl;
     } in
-    let tests = both_true (a.command.nonce == x.nonce) (a.drive == d) answer in
+    let tests = and_parts (a.command.nonce == x.nonce) (a.drive == d) answer in
     let heard : replies.reading (replies.spelling (judges rep.there (reading m.bytes)).reply) ≡ Ok x =
     ap replies.reading (sym rep.bytes_are) ∙ read_reply p.message.from d (spelled p.message.body) x sender read in
     let made : has_reached a.command.object 0 (drive_after t.before d) ≡ true =

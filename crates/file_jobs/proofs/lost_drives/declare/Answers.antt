@@ -1,9 +1,10 @@
 use Rattle.std.specs.Prelude.{Some, true, refl, ◌≡◌, ◌||◌}
 use Rattle.std.proofs.Common.{sym, ◌∙◌}
+use Rattle.std.proofs.lemmas.Bool.{or_left, or_right}
 use Rattle.server_rules.specs.Jobs.{declares, targets}
 use Rattle.server_rules.specs.Standing.{any_on}
 use Rattle.file_jobs.proofs.FitsLaws.{fits_lost, job_of}
-use Rattle.file_jobs.proofs.Losses.{declares_is, lost_many, or_left, or_right, sound_off}
+use Rattle.file_jobs.proofs.Losses.{declares_is, lost_many, sound_off}
 use Rattle.file_jobs.proofs.Mends.{alone_idle, alone_of, alone_with, job_idle, sound_low}
 use Rattle.file_jobs.proofs.Settled.{settled_steps}
 use Rattle.file_jobs.proofs.lost_drives.declare.Goals as goal

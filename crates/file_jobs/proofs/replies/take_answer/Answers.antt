@@ -1,9 +1,10 @@
 use Rattle.std.specs.Prelude.{◌==◌, ◌+◌, not, length, refl}
 use Rattle.std.proofs.Common.{◌∙◌}
 use Rattle.std.proofs.lemmas.Result.{IfOk-weaker}
+use Rattle.osd_lists.proofs.Slices.{some_at}
 use Rattle.server_rules.specs.declared.jobs.Awaited.{Awaited}
 use Rattle.file_jobs.specs.Steps.{going}
-use Rattle.file_jobs.proofs.HeardLaws.{answered_job, some_at}
+use Rattle.file_jobs.proofs.HeardLaws.{answered_job}
 use Rattle.file_jobs.proofs.FitsLaws.{fits_same, heard_one, not_other}
 use Rattle.file_jobs.proofs.replies.take_answer.Goals as goal
 
