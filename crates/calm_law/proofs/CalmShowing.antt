@@ -19,6 +19,7 @@ use Rattle.scenario_text.specs.declared.line.Line.{Line}
 use Rattle.scenario_text.specs.declared.line.Line.TheVariants as line
 use Rattle.server_rules.specs.Files.{file_at}
 use Rattle.server_rules.specs.Numbers.{among}
+use Rattle.server_rules.proofs.FileLaws.{number_at}
 use Rattle.world_history.specs.ServerNames.{File, Kept}
 use Rattle.world_history.specs.State.{at_number}
 use Rattle.world_calm.specs.Read.{command_of}
@@ -27,7 +28,6 @@ use Rattle.world_calm.specs.declared.files.SeenFile.{SeenFile}
 use Rattle.world_calm.specs.Files.{FilesState, Table, no_files, seen_as}
 use Rattle.world_calm.specs.Seeing.{CalmState, KeptOf, logs, logs_event, refused, acknowledged, ended, sent_by, sent, shown_with, shows, shows_all, follows}
 use Rattle.calm_law.proofs.Lists.{sorted_inserted}
-use Rattle.calm_law.proofs.Tables.{number_at}
 use Rattle.calm_law.specs.Words.{IsSorted, seen_in, kept_in, IsKeptOf, is_there}
 use Rattle.calm_law.specs.Files.{KeepsFiles, shows_file, StepsAlike}
 

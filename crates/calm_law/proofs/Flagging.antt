@@ -2,6 +2,7 @@
 use Rattle.std.proofs.Common.{◌≡◌, ℕ, ◌==◌, ◌||◌, ◌&&◌, ◌++◌, ◌∷◌, [], List, Bool, true, false, not, true≢false, Option, Some, None, slice_get, refl, sym, ap, subst, ◌∙◌, inl, inr, eq-eqb, ne_eqb}
 use Rattle.std.specs.List.{fold, list_any}
 use Rattle.std.proofs.lemmas.Bool.{cases_Bool, cases_eq}
+use Rattle.osd_lists.proofs.Tests.{and_true, same_number}
 use Rattle.osd_commands.specs.declared.commands.Command.{Command}
 use Rattle.osd_commands.specs.Commands.{reading}
 use Rattle.osd_drive.specs.Table.{is_write}
@@ -26,7 +27,7 @@ use Rattle.calm_law.specs.Words.{Each}
 use Rattle.calm_law.specs.Marks.{IsReal}
 use Rattle.calm_law.specs.Flagging.{AreReal, BeginIsSeen}
 use Rattle.calm_law.proofs.Harming.{here, among_in}
-use Rattle.calm_law.proofs.Marking.{both_true, either_true, same_number, real_still}
+use Rattle.calm_law.proofs.Marking.{both_true, either_true, real_still}
 use Rattle.calm_law.proofs.Performing.{first_place, later_place, or_none, over, last_among}
 
 -- ---- harmed by what is left now
@@ -221,10 +222,6 @@ record Adds (kept : KeptOf) (c d : CalmState) : Type 0 where
   files : d.files ≡ c.files
   stopped : d.stopped ≡ c.stopped
 
-all_of : (a : Bool) → a ≡ (a && true)
-all_of true = refl
-all_of false = refl
-
 not_or : (a b c : Bool) → ((a && not b) && not c) ≡ (a && not (b || c))
 not_or true true c = refl
 not_or true false c = refl
@@ -233,7 +230,7 @@ not_or false b c = refl
 adds_none : (kept : KeptOf) (c : CalmState) → Adds kept c c
 adds_none kept c = record {
   harm = false;
-  calm = all_of c.calm;
+  calm = and_true c.calm;
   now = sym (or_none (any_now c.stopped kept c.files c.marks));
   newly = λ e. e;
   files = refl;

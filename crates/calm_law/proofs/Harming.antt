@@ -4,6 +4,7 @@ use Rattle.std.specs.Prelude.{nat_lt}
 use Rattle.std.specs.List.{list_any}
 use Rattle.std.specs.Option.{option_map}
 use Rattle.std.proofs.lemmas.Bool.{cases_Bool, cases_eq}
+use Rattle.osd_lists.proofs.Tests.{not_false, same_number}
 use Rattle.osd_objects.proofs.Entries.{some_there}
 use Rattle.data_map.specs.declared.check.RawMap.{RawMap}
 use Rattle.data_map.specs.Striping.{parities}
@@ -23,7 +24,7 @@ use Rattle.calm_law.specs.Marks.{any_mark, any_marked, is_open, open_at, IsReal,
 use Rattle.calm_law.specs.Harms.{KeepsMoment, CalmAlike}
 use Rattle.calm_law.proofs.Lists.{get_map}
 use Rattle.calm_law.proofs.Noting.{short_alike}
-use Rattle.calm_law.proofs.Marking.{both_true, either_true, same_number}
+use Rattle.calm_law.proofs.Marking.{both_true, either_true}
 
 -- ---- lists
 
@@ -95,10 +96,6 @@ real_of : (es : List Logged) (fs : List LogEntry) (m : Marked) → fs ≡ map vi
 real_of es fs m q r =
     real_entry es m (slice_get es m.write) refl
     (sym (get_map view es m.write) ∙ ap (λ (x : List LogEntry). slice_get x m.write) (sym q) ∙ r)
-
-not_false : (b : Bool) → not b ≡ false → b ≡ true
-not_false true e = refl
-not_false false e = absurd (cc e)
 
 unfinished_of : (e : Logged) (c g : ℕ) → view e ≡ record { client = c; grant = g; finished = false }
     → is_unfinished e ≡ true

@@ -6,6 +6,7 @@ use Rattle.std.specs.Option.{option_map}
 use Rattle.std.proofs.lemmas.Bool.{cases_Bool, cases_eq}
 use Rattle.std.proofs.lemmas.Bool.Decides.{nat_tests}
 use Rattle.std.proofs.lemmas.List.Folds.{list_any-append}
+use Rattle.osd_lists.proofs.Tests.{and_false, same_number}
 use Rattle.osd_objects.proofs.Entries.{is_at_equal, is_at_other}
 use Rattle.data_map.specs.declared.check.RawMap.{RawMap}
 use Rattle.data_map.specs.Striping.{parities}
@@ -30,13 +31,9 @@ use Rattle.calm_law.specs.Marks.{any_mark, any_marked, is_open, open_at, IsReal,
 use Rattle.calm_law.specs.Performing.{AreDistinct, HaveComponents, WritesMark}
 use Rattle.calm_law.proofs.Lists.{each_more}
 use Rattle.calm_law.proofs.Tables.{among_end}
-use Rattle.calm_law.proofs.Marking.{both_true, either_true, same_number}
+use Rattle.calm_law.proofs.Marking.{both_true, either_true}
 
 -- ---- tests
-
-none_of : (a : Bool) → (a && false) ≡ false
-none_of true = refl
-none_of false = refl
 
 pub or_none : (a : Bool) → (a || false) ≡ a
 or_none true = refl
@@ -62,7 +59,7 @@ hit_in d object offset s (Some f) = hit_with f.kept.map offset s (component_at d
 
 one_hit : (g : File) (d object offset f s i n : ℕ) (o : Option ℕ)
     → any_mark f s i (marked_in g offset n o) ≡ (((g.kept.number == f) && hit_with g.kept.map offset s o) && (n == i))
-one_hit g d object offset f s i n None = rw (none_of (g.kept.number == f)) refl
+one_hit g d object offset f s i n None = rw (and_false (g.kept.number == f)) refl
 one_hit g d object offset f s i n (Some k) =
     or_none (((g.kept.number == f) && (stripe_of g.kept.map k offset == s)) && (n == i))
 
@@ -114,16 +111,16 @@ seen_hit d object offset s (Some x) =
 
 with_hit : (j : ℕ) (m : RawMap) (offset f s : ℕ) (o : Option ℕ)
     → any_stripe f s (stripe_with j m offset o) ≡ ((j == f) && seen_with m offset s o)
-with_hit j m offset f s None = sym (none_of (j == f))
+with_hit j m offset f s None = sym (and_false (j == f))
 with_hit j m offset f s (Some k) = elim (cases_Bool (nat_lt k m.comps)) [
   | inl t ↦ rw t (or_none ((j == f) && (stripe_of m k offset == s)))
-  | inr z ↦ rw z (sym (none_of (j == f)))
+  | inr z ↦ rw z (sym (and_false (j == f)))
 ]
 
 in_hit : (j : ℕ) (x : SeenFile) (d object offset f s : ℕ)
     → any_stripe f s (stripe_in j x d object offset) ≡ ((j == f) && seen_hit d object offset s (Some x))
 in_hit j x d object offset f s = elim (cases_Bool (parities x.map == 0)) [
-  | inl t ↦ rw t (sym (none_of (j == f)))
+  | inl t ↦ rw t (sym (and_false (j == f)))
   | inr z ↦ rw z (with_hit j x.map offset f s (component_at d object x.components 0))
 ]
 
@@ -319,7 +316,7 @@ new_of : (f s i n : ℕ) (w : LogEntry) (x : StripeOf)
     → is_new f s i (mark_of n w x) ≡ (((x.file == f) && (x.stripe == s)) && (n == i))
 new_of f s i n w x = elim (cases_Bool (n == i)) [
   | inl t ↦ rw (t, eq_turned s x.stripe) (sym (whole ((x.file == f) && (x.stripe == s))))
-  | inr z ↦ rw z (sym (none_of ((x.file == f) && (x.stripe == s))))
+  | inr z ↦ rw z (sym (and_false ((x.file == f) && (x.stripe == s))))
 ]
   where
     whole : (a : Bool) → (a && true) ≡ a
@@ -441,7 +438,7 @@ finished_more fs ks es ms d object offset n dis l o h = record {
       ∙ ap (λ (b : Bool). any_mark f s i ks || b) (marks_hit fs d object offset f s i n dis
       ∙ ap (λ (b : Bool). hit_in d object offset s (file_at fs f) && b)
       (ne_eqb n i (λ q. true≢false (sym u ∙ ap (open_at es) (sym q) ∙ o)))
-      ∙ none_of (hit_in d object offset s (file_at fs f)))
+      ∙ and_false (hit_in d object offset s (file_at fs f)))
       ∙ or_none (any_mark f s i ks) ∙ h.same f s i p u;
   known = λ f s i e. known_more fs ks es ms d object offset f s i n dis l h e;
   real = h.real;

@@ -6,6 +6,7 @@ use Rattle.std.specs.Option.{option_and_then, option_map_or}
 use Rattle.std.specs.Result.{result_ok}
 use Rattle.hex.specs.Hex.{decode_sized}
 use Rattle.toml.specs.Data.{Members}
+use Rattle.osd_lists.proofs.Tests.{not_false}
 use Rattle.cluster_text.specs.declared.cluster.Cluster.{Cluster}
 use Rattle.cluster_text.specs.declared.cluster.ClusterDrive.{ClusterDrive}
 use Rattle.cluster_text.specs.declared.cluster.ClusterFile.{ClusterFile}
@@ -26,10 +27,6 @@ neither : (a b : Bool) → (a || b) ≡ false → (a ≡ false) × (b ≡ false)
 neither false false h = (refl, refl)
 neither false true h = cc h
 neither true b h = cc h
-
-from_not : (b : Bool) → not b ≡ false → b ≡ true
-from_not true h = refl
-from_not false h = cc h
 
 bound : {A B : Type 0} (o : Option A) (f : A → Option B) (y : B) → (o >>= f) ≡ Some y → (x : A) × (o ≡ Some x) × (f x ≡ Some y)
 bound (Some x) f y h = (x, refl, h)
@@ -79,7 +76,7 @@ lacks_parts n top ds fs h =
     let a = neither _ _ h in
     let b = neither _ _ a.0 in
     let c = neither _ _ b.0 in
-    (c.1, from_not (list_any (is_drive n) ds) a.1)
+    (c.1, not_false (list_any (is_drive n) ds) a.1)
 
 wrong_parts : (top : Members) (ds fs : List Members) → is_wrong top ds fs ≡ false → list_any is_wrong_drive ds ≡ false
 unfolding is_wrong

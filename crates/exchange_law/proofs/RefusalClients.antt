@@ -6,6 +6,7 @@ use Rattle.osd_lists.specs.declared.node.Node.TheVariants as node
 use Rattle.osd_lists.proofs.Options.{none_there}
 use Rattle.server_rules.specs.Laws.{In}
 use Rattle.server_rules.specs.History.{step as server_step}
+use Rattle.server_rules.proofs.Members.{in_either}
 use Rattle.client_rules.specs.Messages.{awaited_of}
 use Rattle.client_rules.specs.History.{step as client_step}
 use Rattle.exchange_law.specs.Requests.{OneRequest}
@@ -29,7 +30,7 @@ use Rattle.exchange_law.specs.InStep.{IsInStep, state_of, ClientsAreInStep}
 use Rattle.exchange_law.proofs.Along.{MayMove, at_moment}
 use Rattle.exchange_law.proofs.Turning.{sent_by, bodies, posted, AreSame, Becomes, Turn, ByServer, ByClient, ByDrive, Makes, Stops, Rests, ClientDoes, ClientMade}
 use Rattle.exchange_law.proofs.Turns.{acts_turn, messages_behind}
-use Rattle.exchange_law.proofs.Replied.{in_either, from_server, from_client, none_posted}
+use Rattle.exchange_law.proofs.Replied.{from_server, from_client, none_posted}
 use Rattle.exchange_law.proofs.RefusalGiven.{AreOrdered, ordered_move, none_ordered}
 use Rattle.exchange_law.proofs.Owning.{are_own}
 use Rattle.exchange_law.proofs.Ran.{HasRun, StepSends, run_on, new_run, step_run, new_awaited}

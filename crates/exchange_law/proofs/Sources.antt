@@ -5,6 +5,7 @@ use Rattle.osd_commands.specs.declared.commands.Command.{Command}
 use Rattle.osd_commands.specs.Commands.{reading}
 use Rattle.server_rules.specs.declared.limits.TheConstants.{SERVER_HOLDER}
 use Rattle.server_rules.specs.Laws.{In}
+use Rattle.server_rules.proofs.Members.{in_map}
 use Rattle.scenario_text.specs.declared.names.TheConstants.{CLIENTS}
 use Rattle.scenario_text.specs.declared.line.Delivery.TheVariants.{Judged}
 use Rattle.scenario_text.specs.declared.line.Verdict.TheVariants.{Perform}
@@ -22,7 +23,6 @@ use Rattle.history_law.specs.Sources.{IsServerOrClient, WasSent, ComesAt}
 use Rattle.history_law.proofs.Coming.{sources_hold, clean_front}
 use Rattle.history_law.proofs.Each.{EachBehind, HoldsAt, judges_of, each_front, at_each_line}
 use Rattle.history_law.proofs.Histories.{lawful}
-use Rattle.job_law.proofs.Lists.{in_map}
 use Rattle.history_law.specs.Issued.{IsIssued}
 use Rattle.history_law.proofs.IssuedLaw.{issued}
 use Rattle.history_law.proofs.IssueLines.{CarriesAt, IsKnown, all_known}

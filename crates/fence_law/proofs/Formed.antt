@@ -52,10 +52,6 @@ keep_mending b e a h = h
 abbrev pub Gone_lost : State → Type 0
 Gone_lost b = (k : ℕ) → b.gone k ≡ true → b.lost k ≡ true
 
-pub or_off : (x y : Bool) → (x || y) ≡ false → x ≡ false
-or_off true y e = e
-or_off false y e = refl
-
 pub or_on : (x y : Bool) → x ≡ true → (x || y) ≡ true
 or_on true y e = refl
 or_on false y e = absurd (true≢false (sym e))

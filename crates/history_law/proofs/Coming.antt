@@ -32,6 +32,7 @@ use Rattle.world_history.specs.Drives.{judges, first_key, made_drive}
 use Rattle.world_history.specs.Reading.{is_drive, arrived, left_out, changed_by, changed_at, sent_after_event, sent_after, sent_in}
 use Rattle.world_history.specs.ReadDrives.{DriveSeen, sees_drive, drive_seen, drive_after, drive_after_event, drive_after_line, hears_bytes, hears_sent}
 use Rattle.world_history.specs.Guesses.{Guarded, opens_with, opened_by, was_sent, is_guess_of, is_guess, guessed_at, keys_after, guards, guarded, unguessed}
+use Rattle.world_history.proofs.DriveLines.{same_drive}
 use Rattle.history_law.specs.Judging.{Judges, IsDelivered, Replies, JudgesAt, injected_in}
 use Rattle.history_law.specs.Sources.{IsServerOrClient, WasSent, ComesAt}
 use Rattle.history_law.specs.Safe.{AtEachLine}
@@ -243,14 +244,6 @@ found_here f x xs false is e rest = let r = rest e in (suc r.0, r.1, r.2, r.3)
 any_at : (f : Sent → Bool) (xs : List Sent) → list_any f xs ≡ true → IsFound f xs
 any_at f [] e = absurd (cc e)
 any_at f (x ∷ xs) e = found_here f x xs (f x) refl e (λ r. any_at f xs r)
-
-pub same_drive : (d : ℕ) (p : Party) → is_drive d p ≡ true → p ≡ party.Drive d
-same_drive d party.Server e = absurd (cc e)
-same_drive d (party.Client c) e = absurd (cc e)
-same_drive d (party.Drive k) e = elim (cases_eq k d) [
-  | inl same ↦ ap (λ (x : ℕ). party.Drive x) same
-  | inr other ↦ absurd (cc (sym e ∙ ne_eqb k d other))
-]
 
 pub opens_clear : (o : Option DriveKey) (c : Command) → is_none o ≡ false → fails_check o c ≡ false → opens_with o c ≡ true
 opens_clear None c none fails = absurd (cc none)

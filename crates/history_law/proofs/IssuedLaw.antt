@@ -1,5 +1,6 @@
 -- What a drive performs is the server's, or was issued to the client that sent it.
 use Rattle.std.proofs.Common.{◌≡◌, ℕ, ◌∷◌, [], List, Bool, true, false, ◌||◌, Some, Ok, slice_get, bit_and, nat_eq, refl, sym, ap, subst, ◌∙◌, inl, inr}
+use Rattle.osd_lists.proofs.Tests.{first_false}
 use Rattle.layout_types.specs.declared.cred.ObjectCred.{ObjectCred}
 use Rattle.osd_capability.specs.declared.layout.Capability.{Capability}
 use Rattle.osd_commands.specs.declared.actions.Action.{Action}
@@ -44,10 +45,6 @@ nothing_allowed Write = refl
 nothing_allowed GetAttr = refl
 nothing_allowed SetAttr = refl
 nothing_allowed SetTag = refl
-
-first_false : (a b : Bool) → (a || b) ≡ false → a ≡ false
-first_false true b not = absurd (cc not)
-first_false false b not = refl
 
 -- a command that is performed has the right that it needs
 pub allowed : (d : DriveState) (now : ℕ) (c : Command) → first_fault d now c ≡ drive.Perform

@@ -87,21 +87,6 @@ of_part (i ∷ is) all b h (inl x) =
     (omega (arith, p.1, x.0), omega (arith, p.2, x.1), rw p.1 q.0, p.2 ∙ sym q.2 ∙ ap (λ y. interval_end y all) (sym p.1))
 of_part (i ∷ is) all b h (inr x) = of_part is all b h.1 x
 
--- they are of one unit
-pub within_changed : (m : RawMap) (r : Span) (s c b : ℕ) → IsChecked m → IsWithin b (changed m r s c) → b < m.unit
-unfolding changed own_columns own columns
-within_changed m r s c b ch w = elim (cases_lt c (data_units m)) [
-  | inl low ↦ elim (cases_Bool (touches m r s c)) [
-    | inl t ↦ one (rw (lt-ltb c (data_units m) low, t) at w)
-    | inr f ↦ absurd (rw (lt-ltb c (data_units m) low, f) at w)
-  ]
-  | inr past ↦ within_unit m.unit (low m r s) (high m r s) b ch.some_unit (rw (le-ltb c (data_units m) past) at w)
-]
-  where
-    one : IsWithin b (own m r s c ∷ []) → b < m.unit
-    one (inl x) = omega (arith, x.1)
-    one (inr x) = absurd x
-
 -- ---- each is one of the range's
 
 -- a byte between low and high has this column

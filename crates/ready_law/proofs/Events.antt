@@ -19,6 +19,7 @@ use Rattle.world_history.specs.Runs.{lines_of, AreDue, Carries}
 use Rattle.world_history.specs.Reading.{is_head}
 use Rattle.world_history.specs.History.{Step, AreCarried, end_of, lines_of_steps, StandsFor, Begins, OneEventMore}
 use Rattle.world_history.specs.History.Begins.{Nothing, Part}
+use Rattle.world_history.proofs.ReadMessages.{never_opens}
 use Rattle.calm_law.specs.Following.{is_opening}
 use Rattle.calm_law.proofs.Shapes.{Bare, Shape, IsHeaded, Nothing as NoLine, Left, Heads, is_event as begins_one, sent_bare, delivers_shape, times_shape, pends_shape}
 use Rattle.calm_law.proofs.MoveOpening.{begins_bare}
@@ -92,13 +93,9 @@ pending_opens : (w : World) (c n : Option ℕ) (e : Event) → due_pending w c n
 pending_opens w c (Some n) e q = cc q
 pending_opens w c None e q = of_opens w c e q
 
-due_opens : (w : World) (r : Rule) (e : Event) → due_by w r ≡ Some (Opens e) → ⊥
-due_opens w Alone e q = cc q
-due_opens w (Prompt first c) e q = pending_opens w c (next_pending w first) e q
-
 later_plain : (w : World) (r : Rule) (chosen : List ℕ) (a : Action) → due_by w r ≡ Some a
     → NoEvent (sends_all (acts w chosen a)).lines
-later_plain w r chosen (Opens e) d = absurd (due_opens w r e d)
+later_plain w r chosen (Opens e) d = absurd (never_opens w r e d)
 later_plain w r chosen (Delivers n) d = shape_plain (sends_all (delivers w chosen n)).lines (delivers_shape w chosen n)
 later_plain w r chosen (TimesOut c k) d = shape_plain (sends_all (times_out w c k)).lines (times_shape w c k)
 later_plain w r chosen (Pends c) d = shape_plain (sends_all (pends w c)).lines (pends_shape w c)

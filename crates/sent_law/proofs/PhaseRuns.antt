@@ -7,9 +7,9 @@ use Rattle.server_rules.specs.Files.{file_at}
 use Rattle.server_rules.specs.History.{Act, step, state_after}
 use Rattle.server_rules.specs.Laws.{In}
 use Rattle.server_rules.specs.Making.{new_server}
+use Rattle.server_rules.proofs.Members.{in_either}
 use Rattle.job_law.specs.Names.{Server, File, Kept, Command, Outgoing, ToDrive}
 use Rattle.job_law.proofs.Files.{found_file}
-use Rattle.job_law.proofs.Lists.{in_either}
 use Rattle.calm_law.specs.Words.{Each}
 use Rattle.calm_law.specs.Performing.{AreDistinct}
 use Rattle.calm_law.specs.Sound.{IsSound, EachStepIsSound}

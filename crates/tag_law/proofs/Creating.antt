@@ -3,6 +3,7 @@ use Rattle.std.specs.List.{list_any}
 use Rattle.std.proofs.Common.{◌≡◌, ◌⊎◌, ◌==◌, ◌&&◌, ◌||◌, ◌+◌, ℕ, Bool, true, false, nat_eq, ◌∷◌, [], List, is_some, Option, Some, None, option_map, refl, sym, ap, subst, ◌∙◌, arith, inl, inr, if◌then◌else◌}
 use Rattle.std.proofs.lemmas.Bool.Decides.{nat_tests}
 use Rattle.std.proofs.lemmas.Bool.{and_parts}
+use Rattle.osd_lists.proofs.Tests.{or_none, same_number}
 use Rattle.osd_commands.specs.declared.actions.Action.{Action}
 use Rattle.osd_commands.specs.declared.actions.Action.TheVariants.{Create}
 use Rattle.osd_commands.specs.declared.commands.Command.{Command}
@@ -26,9 +27,6 @@ use Rattle.tag_law.proofs.There.{zero_below, or_second}
 
 -- ---- what a reply must be to count
 
-eq_is : (a b : ℕ) → (a == b) ≡ true → a ≡ b
-eq_is a b e = grind (arith, e, nat_tests)
-
 -- to a CREATE: performed, or that the object is there already
 pub counts : (f : Kept) (a : Awaited) (r : Reply) → a.command.action ≡ Create → is_done f a r ≡ true
     → (r.verdict ≡ 0) ⊎ (r.verdict ≡ 8)
@@ -40,8 +38,8 @@ counts f a r is e =
   where
     by_tests : (p q : Bool) → (r.verdict == 0) ≡ p → (r.verdict == 8) ≡ q → (p || ((true && q) || false)) ≡ true
         → (r.verdict ≡ 0) ⊎ (r.verdict ≡ 8)
-    by_tests true q x y z = inl (eq_is r.verdict 0 x)
-    by_tests false true x y z = inr (eq_is r.verdict 8 y)
+    by_tests true q x y z = inl (same_number r.verdict 0 x)
+    by_tests false true x y z = inr (same_number r.verdict 8 y)
     by_tests false false x y z = absurd (cc z)
 
 -- ---- the row that finds the object
@@ -57,10 +55,6 @@ first_applies : (p : Verdict → Bool) (rows : List Row) → p verdict.Perform �
 first_applies p [] none e = absurd (cc (sym e ∙ none))
 first_applies p (r ∷ rows) none e =
     row_applies p r.0 r.1 (first_row rows) rows e (λ later. first_applies p rows none later)
-
-or_none : (b : Bool) → (b || false) ≡ true → b ≡ true
-or_none true e = refl
-or_none false e = absurd (cc e)
 
 abbrev is_exists : Verdict → Bool
 is_exists verdict.Exists = true

@@ -32,8 +32,10 @@ use Rattle.world_history.specs.Moves.{Act, acts}
 use Rattle.world_history.specs.Sending.{Move, move, sent_lines}
 use Rattle.world_history.specs.Book.{ServerSeen}
 use Rattle.world_history.specs.Calm.{first_seen}
+use Rattle.world_history.proofs.Always.{opening, IsKept}
+use Rattle.world_history.proofs.Parties.{party_server, party_client}
 use Rattle.history_law.proofs.DriveLines.{view, sent_read}
-use Rattle.history_law.proofs.Histories.{IsKept, opening, stands}
+use Rattle.history_law.proofs.Histories.{stands}
 use Rattle.history_law.specs.Read.{AreWritten}
 use Rattle.history_law.proofs.Staying.{written_front}
 use Rattle.history_law.proofs.Following.{IsFollowed, followed}
@@ -173,19 +175,6 @@ sent_back h front silent n m e =
 
 -- ---- messages of the world
 
-server_is : (n : Node) → party_of n ≡ party.Server → n ≡ node.Server
-server_is node.Server e = refl
-server_is (node.Drive d) e = absurd (cc e)
-server_is (node.Client c) e = absurd (cc e)
-
-client_is : (n : Node) (c : ℕ) → party_of n ≡ party.Client c → n ≡ node.Client c
-client_is node.Server c e = absurd (cc e)
-client_is (node.Drive d) c e = absurd (cc e)
-client_is (node.Client k) c e = ap (λ (x : ℕ). node.Client x) (same e)
-  where
-    same : party.Client k ≡ party.Client c → k ≡ c
-    same x = cc x
-
 found_post : (ps : List Posted) (n : ℕ) (x : Sent) → slice_get (map shown ps) n ≡ Some x
     → (p : Posted) × In p.message (map (λ (q : Posted). q.message) ps) × (x ≡ shown p)
 found_post [] n x e = absurd (cc e)
@@ -208,8 +197,8 @@ in_world : (w : World) (n client : ℕ) (x : Sent) → slice_get (view w) n ≡ 
 in_world w n client x e from to =
     let r = found_post w.network.messages n x e in
     let p : Posted = r.0 in
-    let source = server_is p.message.from (ap (λ (y : Sent). y.from) (sym r.2) ∙ from) in
-    let target = client_is p.message.to client (ap (λ (y : Sent). y.to) (sym r.2) ∙ to) in
+    let source = party_server p.message.from (ap (λ (y : Sent). y.from) (sym r.2) ∙ from) in
+    let target = party_client p.message.to client (ap (λ (y : Sent). y.to) (sym r.2) ∙ to) in
     record {
       body = p.message.body;
       there = subst (λ (y : Message). In y (messages_in w)) (to_client_is client p.message source target) r.1;
