@@ -73,11 +73,6 @@ length_taken n xs = rw (length-take n xs) (omega arith)
 
 -- ---- it is made
 
--- no file has its number
-nothing : (o : Option File) → is_some o ≡ false → o ≡ None
-nothing None e = refl
-nothing (Some f) e = absurd (cc e)
-
 -- the files with it
 pub went_made : (s : Server) (f : File) → IsSound s → NoneHas f.kept.number s.files → IsAimed f
     → WentEach None (add_file s.files f) [] (makes_file s f).state.files (makes_file s f).notes

@@ -1,7 +1,7 @@
 -- A repair that is over takes marks away, here and there.
 use Rattle.std.proofs.Common.{◌≡◌, ℕ, ◌==◌, ◌||◌, ◌&&◌, ◌∷◌, [], List, Bool, true, false, not, cond, true≢false, Option, Some, None, length, find, refl, sym, ap, ◌∙◌, arith, inl, inr, eq-eqb, ne_eqb}
 use Rattle.std.specs.Prelude.{nat_lt}
-use Rattle.std.proofs.lemmas.Bool.{cases_Bool, cases_eq}
+use Rattle.std.proofs.lemmas.Bool.{cases_Bool, cases_eq, and_parts}
 use Rattle.std.proofs.lemmas.Bool.Decides.{nat_tests}
 use Rattle.osd_lists.proofs.Tests.{and_false, same_number}
 use Rattle.data_map.specs.declared.check.RawMap.{RawMap}
@@ -18,7 +18,6 @@ use Rattle.world_calm.specs.Marking.{is_of, is_repaired, stripes_left, mended_by
 use Rattle.world_calm.specs.Seeing.{CalmState, mended_by as mends}
 use Rattle.calm_law.specs.Words.{Each, is_there}
 use Rattle.calm_law.specs.Marks.{any_mark, any_marked, IsReal, has_parity, has_parity_in, KeepsMarks, HaveMaps, NotesMark}
-use Rattle.calm_law.proofs.Marking.{both_true}
 
 -- ---- tests
 
@@ -37,8 +36,8 @@ takes m r f s = (f == r.file) && is_repaired_in m r s
 one_left : (m : RawMap) (r : Mended) (k : Mark) (f s n : ℕ) → (is_in f s k && (k.entry == n)) ≡ true
     → ((k.file == r.file) && is_repaired_in m r k.stripe) ≡ takes m r f s
 one_left m r k f s n e =
-    let i : is_in f s k ≡ true = (both_true (is_in f s k) (k.entry == n) e).0 in
-    let b : ((k.file == f) ≡ true) × ((k.stripe == s) ≡ true) = both_true (k.file == f) (k.stripe == s) i in
+    let i : is_in f s k ≡ true = (and_parts (is_in f s k) (k.entry == n) e).0 in
+    let b : ((k.file == f) ≡ true) × ((k.stripe == s) ≡ true) = and_parts (k.file == f) (k.stripe == s) i in
     ap (λ (x : ℕ). (x == r.file) && is_repaired_in m r k.stripe) (same_number k.file f b.0)
     ∙ ap (λ (x : ℕ). (f == r.file) && is_repaired_in m r x) (same_number k.stripe s b.1)
 
@@ -180,7 +179,7 @@ of_file (x ∷ rs) n r e = elim (cases_Bool (x.file == n)) [
 -- the marks of the moments lose at most what a repair takes
 fewer : (ks : List Mark) (m : RawMap) (r : Mended) (f s n : ℕ) → any_mark f s n (marks_left ks m r) ≡ true
     → any_mark f s n ks ≡ true
-fewer ks m r f s n e = (both_true (any_mark f s n ks) (not (takes m r f s)) (sym (marks_kept m r ks f s n) ∙ e)).0
+fewer ks m r f s n e = (and_parts (any_mark f s n ks) (not (takes m r f s)) (sym (marks_kept m r ks f s n) ∙ e)).0
 
 mended_keeps : (there now : List File) (es : List LogEntry) (ks : List Mark) (ms : List Marked) (n : ℕ) (r : Mended)
     (a b : ℕ) (o : Option File) → file_at now n ≡ o → r.file ≡ n → HaveMaps there now → KeepsMarks there es ks ms

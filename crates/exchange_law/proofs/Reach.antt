@@ -5,6 +5,7 @@ use Rattle.std.proofs.lemmas.Bool.{cases_Bool, cases_lt, cases_eq, eq-eqb, ne_eq
 use Rattle.std.proofs.lemmas.Nat.{le-div, mul-le}
 use Rattle.std.proofs.Math.Nat.{add-mul, mul-le-mul_right, div-mul-le_self}
 use Rattle.osd_lists.proofs.Tests.{first_false, second_false}
+use Rattle.osd_lists.proofs.Slices.{some_at}
 use Rattle.data_map.specs.declared.check.RawMap.{RawMap}
 use Rattle.data_map.specs.declared.ranges.TheConstants.{MAX_FILE_SIZE}
 use Rattle.data_map.specs.Check.{IsChecked}
@@ -78,11 +79,6 @@ stripes_granted m r first end ch low high small = elim (cases_eq r.length 0) [
 
 -- ---- components that aren't missing
 
-found_below : (ls : List Listed) (k : ℕ) → k < length ls → (l : Listed) × (slice_get ls k ≡ Some l)
-found_below [] k low = absurd (omega (arith, low))
-found_below (l ∷ ls) zero low = (l, refl)
-found_below (l ∷ ls) (suc k) low = found_below ls k (omega (arith, low))
-
 not_front : (k : ℕ) (xs ys : List ℕ) → among k (xs ++ ys) ≡ false → among k xs ≡ false
 not_front k [] ys e = refl
 not_front k (x ∷ xs) ys e =
@@ -127,7 +123,7 @@ pub is_listed : (h : Held) (timed : List TimedOut) (k : ℕ) → k < length h.co
     → IsListed h k
 unfolding outs
 is_listed h timed k low there =
-    let l = found_below h.components k low in
+    let l = some_at h.components k low in
     let z : k ≡ 0 + k = omega arith in
     let not : among (0 + k) (missing_from h.components 0) ≡ false =
     subst (λ (n : ℕ). among n (missing_from h.components 0) ≡ false) z (not_front k (missing_of h) _ there) in

@@ -2,6 +2,7 @@
 use Rattle.std.proofs.Common.{◌≡◌, ◌⊎◌, ℕ, suc, ◌+◌, ◌<◌, ◌^◌, Bool, true, false, List, [], ◌∷◌, ◌++◌, Some, None, is_some, length, refl, sym, ap, subst, ◌∙◌, arith, inl, inr, if◌then◌else◌}
 use Rattle.std.proofs.lemmas.Bool.{cases_eq}
 use Rattle.std.proofs.lemmas.List.{length-append}
+use Rattle.std.proofs.lemmas.Option.{same_Some}
 use Rattle.osd_lists.specs.declared.node.Node.TheVariants as node
 use Rattle.osd_lists.proofs.Options.{none_there}
 use Rattle.server_rules.specs.Laws.{In}
@@ -78,9 +79,6 @@ fewer_before w m few =
     ∙ length-append (sent_by w) (posted (acts w m.chosen m.action).posts) in
     omega (arith, longer, length_bodies w.network.messages, length_bodies (move w m).world.network.messages, few)
 
-some_there : (x y : ClientAt) → Some x ≡ Some y → x ≡ y
-some_there x y e = cc e
-
 unless_taken : (b : Bool) → (if b then Some Taken else None) ≡ None → b ≡ false
 unless_taken true e = absurd (cc e)
 unless_taken false e = refl
@@ -117,7 +115,7 @@ module _ (q : Known) (w : World) (h : List Line) (m : Move) (k : IsMoment w h)
     clients =
         λ d b found. elim (cases_eq d c) [
           | inl it ↦
-              let here : now ≡ b = some_there now b (sym becomes.there
+              let here : now ≡ b = same_Some now b (sym becomes.there
               ∙ ap (λ (n : ℕ). at_number v.clients n) (sym it) ∙ found) in
               subst (λ (n : ℕ). HasRun v n b.state) (sym it)
               (subst (λ (y : ClientAt). HasRun v c y.state) here run)

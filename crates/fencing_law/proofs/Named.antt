@@ -1,6 +1,7 @@
 -- Each message of the server to a client goes to one that a line can name, over all lines of a history.
 use Rattle.std.proofs.Common.{◌≡◌, ℕ, ◌+◌, ◌++◌, ◌∷◌, [], List, Option, Some, None, length, slice_get, slice_set, refl, sym, subst, append_assoc, inl, inr}
 use Rattle.std.proofs.lemmas.List.{append-nil}
+use Rattle.osd_lists.proofs.Slices.{found_more}
 use Rattle.scenario_text.specs.declared.event.Event.{Event}
 use Rattle.scenario_text.specs.declared.event.Event.TheVariants as event
 use Rattle.scenario_text.specs.declared.line.Line.{Line}
@@ -14,7 +15,7 @@ use Rattle.world_history.specs.Reading.{arrived, left_out, changed_by, sent_afte
 use Rattle.world_history.specs.History.{Lawful}
 use Rattle.world_history.proofs.Always.{opening, IsKept}
 use Rattle.history_law.proofs.DriveLines.{sent_read}
-use Rattle.history_law.proofs.Coming.{found_more, found_set, sent_behind}
+use Rattle.history_law.proofs.Coming.{found_set, sent_behind}
 use Rattle.history_law.proofs.Each.{EachBehind, each_more, each_front}
 use Rattle.history_law.proofs.Histories.{lawful}
 use Rattle.history_law.proofs.Issuing.{IsSilent, AreSilent}

@@ -6,6 +6,7 @@ use Rattle.std.proofs.lemmas.Bool.{cases_eq, eq-eqb, ne_eqb, and_parts}
 use Rattle.std.proofs.lemmas.List.{append-nil}
 use Rattle.std.proofs.lemmas.List.Sums.{fold-append}
 use Rattle.osd_lists.proofs.Tests.{not_false}
+use Rattle.osd_lists.proofs.Slices.{found_more}
 use Rattle.osd_commands.specs.declared.commands.Command.{Command}
 use Rattle.osd_commands.specs.declared.commands.CommandErr.{CommandErr}
 use Rattle.osd_commands.specs.Commands.{reading}
@@ -52,14 +53,6 @@ fair_sender : (from to : Party) (d : ℕ) → IsFair from to → to ≡ party.Dr
 fair_sender party.Server to d fair is = tt
 fair_sender (party.Client c) to d fair is = tt
 fair_sender (party.Drive k) to d fair is = subst (IsFair (party.Drive k)) is fair
-
--- what stands in a longer list
-pub found_more : (ss : List Sent) (s : Sent) (n : ℕ) (m : Sent) → slice_get (ss ++ s ∷ []) n ≡ Some m
-    → (slice_get ss n ≡ Some m) ⊎ (s ≡ m)
-found_more [] s zero m is = inr (cc is)
-found_more [] s (suc n) m is = absurd (cc is)
-found_more (x ∷ ss) s zero m is = inl is
-found_more (x ∷ ss) s (suc n) m is = found_more ss s n m is
 
 -- what stands in a list in which something was put in place of another
 pub found_set : (ss : List Sent) (k : ℕ) (s : Sent) (n : ℕ) (m : Sent) → slice_get (slice_set ss k s) n ≡ Some m

@@ -3,7 +3,7 @@ use Rattle.std.specs.Prelude.{ℕ, Bool, true, false, List, [], ◌∷◌, ◌�
 use Rattle.std.specs.List.{list_all}
 use Rattle.std.specs.Result.{ForOk}
 use Rattle.std.proofs.Common.{arith, inl, inr, ap, sym, subst, ◌∙◌}
-use Rattle.std.proofs.lemmas.Bool.{cases_Bool, and_right as and_no}
+use Rattle.std.proofs.lemmas.Bool.{cases_Bool, and_right}
 use Rattle.std.proofs.lemmas.Bool.Decides.{nat_tests}
 use Rattle.std.proofs.lemmas.List.{length-map}
 use Rattle.std.proofs.lemmas.List.Sums.{length-filter, sum_by-cons}
@@ -101,7 +101,7 @@ online_found (l ∷ ls) (d ∷ ds) drive e t =
         | inl s ↦ rw s refl
         | inr s ↦ rw s (online_found ls ds drive h.2 (other_true (nat_eq l.drive drive && l.online) _ t (rw (h.0, s) refl)))
       ])
-      | inr f ↦ rw (kept_out d ds f) (online_found ls ds drive h.2 (other_true (nat_eq l.drive drive && l.online) _ t (and_no (nat_eq l.drive drive) _ (rw (h.1) f))))
+      | inr f ↦ rw (kept_out d ds f) (online_found ls ds drive h.2 (other_true (nat_eq l.drive drive && l.online) _ t (and_right (nat_eq l.drive drive) _ (rw (h.1) f))))
     ]
 
 -- a number that differs from all of these is none of them

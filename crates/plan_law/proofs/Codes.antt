@@ -3,7 +3,7 @@ use Rattle.std.proofs.Common.{◌≡◌, ℕ, zero, suc, ◌+◌, ◌*◌, ◌/�
 use Rattle.std.proofs.Common.{refl, sym, ap, ◌∙◌, arith, inl, inr, eq-eqb, ne_eqb, map}
 use Rattle.std.specs.Prelude.{if◌then◌else◌, ◌&&◌, nat_eq, nat_lt}
 use Rattle.std.specs.List.{range_with_len}
-use Rattle.std.proofs.lemmas.Bool.{cases_eq, cases_lt, lt-ltb, le-ltb}
+use Rattle.std.proofs.lemmas.Bool.{cases_eq, cases_lt, lt-ltb, le-ltb, and_parts}
 use Rattle.std.proofs.lemmas.Nat.{div-add-mod', mod_below, div-mul-add, mod-mul-add}
 use Rattle.osd_lists.proofs.Tests.{nat_same, nat_less}
 use Rattle.gf256.specs.Field.{two_to}
@@ -106,13 +106,9 @@ code_zeros PandQ n c = ended 0 n c _ (λ j. two_zeros _ _ j (p_zeros 0 n) (q_zer
 
 -- ---- copies
 
-pub both : (a b : Bool) → (a && b) ≡ true → (a ≡ true) × (b ≡ true)
-both true b e = (refl, e)
-both false b e = absurd (cc e)
-
 pub copy_lies : (m : RawMap) (k z l : ℕ) → is_copy m k z l ≡ true → LiesAt m l (k / replicas m) z
 copy_lies m k z l e =
-    let t = both (nat_eq (place_of m l).position (k / replicas m)) (nat_eq (place_of m l).offset z) e in
+    let t = and_parts (nat_eq (place_of m l).position (k / replicas m)) (nat_eq (place_of m l).offset z) e in
     (nat_same _ _ t.0, nat_same _ _ t.1)
 
 pub lies_copy : (m : RawMap) (k z l : ℕ) → LiesAt m l (k / replicas m) z → is_copy m k z l ≡ true

@@ -93,9 +93,6 @@ of_part (i ∷ is) all b h (inr x) = of_part is all b h.1 x
 abbrev Meets : (u low high b : ℕ) → Type 0
 Meets u low high b = (x : ℕ) × (low ≤ x) × (x < high) × (x % u ≡ b)
 
-digit : (q u b : ℕ) → b < u → (q * u + b) % u ≡ b
-digit q u b bl = mod-mul-add q u b bl
-
 next : (q u : ℕ) → (q + 1) * u ≡ q * u + u
 next q u = omega arith
 
@@ -122,7 +119,7 @@ meets u low high b some lt w =
                     omega (arith, s, hb, t.1, lt)
                 | inr (inr s) ↦ absurd (omega (arith, s, la, hb, al, el, lt))
               ],
-              digit (low / u) u b bl,
+              mod-mul-add (low / u) u b bl,
             )
         | inr round ↦ elim (double ((high - 1) % u + 1) (low % u)
             (rw (lt-leb u (high - low) short, le-ltb (low % u) ((high - 1) % u + 1) round) at w)) [
@@ -135,7 +132,7 @@ meets u low high b some lt w =
                   | inr (inr s) ↦ absurd (omega (arith, s, la, hb, al, el, lt))
                 ],
                 omega (arith, hb, first, lt),
-                digit ((high - 1) / u) u b bl,
+                mod-mul-add ((high - 1) / u) u b bl,
               )
               | inr second ↦ (
                 low / u * u + b,
@@ -146,7 +143,7 @@ meets u low high b some lt w =
                   | inr (inr s) ↦
                       absurd (omega (arith, s, la, hb, al, el, lt))
                 ],
-                digit (low / u) u b bl,
+                mod-mul-add (low / u) u b bl,
               )
             ]
       ]
@@ -155,10 +152,10 @@ meets u low high b some lt w =
           (low / u + 1) * u + b,
           omega (arith, n, la, al),
           omega (arith, n, la, before, long),
-          digit
+          mod-mul-add
               (low / u + 1) u b bl,
         )
-        | inr from ↦ (low / u * u + b, omega (arith, la, from), omega (arith, la, bl, from, long), digit (low / u) u b bl)
+        | inr from ↦ (low / u * u + b, omega (arith, la, from), omega (arith, la, bl, from, long), mod-mul-add (low / u) u b bl)
       ]
     ]
   where

@@ -2,7 +2,7 @@
 use Rattle.std.proofs.Common.{◌≡◌, ℕ, ◌+◌, ◌-◌, ◌*◌, ◌/◌, ◌%◌, ◌<◌, ◌≤◌, Bool, true, false, List, length, refl, sym, ap, ◌∙◌}
 use Rattle.std.proofs.Common.{arith, inl, inr}
 use Rattle.std.specs.Prelude.{◌&&◌, not, nat_lt, Some, None}
-use Rattle.std.proofs.lemmas.Bool.{cases_Bool, cases_lt, lt-ltb, le-leb}
+use Rattle.std.proofs.lemmas.Bool.{cases_Bool, cases_lt, lt-ltb, le-leb, and_parts}
 use Rattle.std.proofs.lemmas.Nat.{mod_below, div-mul-add, mod-mul-add}
 use Rattle.osd_lists.proofs.Tests.{nat_less}
 use Rattle.file_log.specs.Judge.{byte_for}
@@ -27,7 +27,7 @@ use Rattle.plan_law.specs.Writes.{in_range, some_unit_touched, touches_column, t
 use Rattle.plan_law.specs.Sending.{WrittenWordsAreKnown}
 use Rattle.plan_law.specs.Guards.{AreOut, StartsAreAllowed}
 use Rattle.plan_law.proofs.Cells.{with_parity, is_coded, is_plain, col_coded, col_plain, cell_coded, cell_plain}
-use Rattle.plan_law.proofs.Codes.{both, words_same, data_word, all_data}
+use Rattle.plan_law.proofs.Codes.{words_same, data_word, all_data}
 use Rattle.plan_law.proofs.Payloads.{changed_low, changed_high, range_means, any_is, payloads_are_right}
 use Rattle.plan_law.proofs.Outs.{one_there, component_there}
 
@@ -111,8 +111,8 @@ changed_touched m r k z c e =
 pub hit_means : (m : RawMap) (r : Span) (left : ℕ → Bool) (k z : ℕ) → hits_cell m r left k z ≡ true →
     (nat_lt k m.comps ≡ true) × (left k ≡ false) × (touches_cell m r k z ≡ true)
 hit_means m r left k z e =
-    let outer = both (nat_lt k m.comps) (not (left k) && touches_cell m r k z) e in
-    let inner = both (not (left k)) (touches_cell m r k z) outer.1 in
+    let outer = and_parts (nat_lt k m.comps) (not (left k) && touches_cell m r k z) e in
+    let inner = and_parts (not (left k)) (touches_cell m r k z) outer.1 in
     (outer.0, listed (left k) inner.0, inner.1)
   where
     listed : (t : Bool) → not t ≡ true → t ≡ false

@@ -1,6 +1,6 @@
 -- A READ or a WRITE that is clear is carried out, and room stays.
 use Rattle.std.proofs.Common.{◌≡◌, ◌≤◌, ◌+◌, ◌-◌, ◌&&◌, ◌||◌, ℕ, Bool, true, false, true≢false, List, [], ◌∷◌, ◌++◌, length, Option, Some, None, option_map, is_none, is_some, IsSome, not, if◌then◌else◌, nat_eq, nat_lt, nat_le, subst, refl, sym, ap, ◌∙◌, inl, inr, arith}
-use Rattle.std.proofs.lemmas.Bool.{cases_Bool, le-ltb, eq-eqb}
+use Rattle.std.proofs.lemmas.Bool.{cases_Bool, le-ltb, eq-eqb, or_from}
 use Rattle.std.proofs.lemmas.Bool.Decides.{nat_tests}
 use Rattle.std.specs.Ordering.{nat_cmp}
 use Rattle.std.specs.BTreeMap.{is_at}
@@ -49,9 +49,6 @@ no_attribute a (inr e) = ap is_set_attr e
 
 within : (a b c d e : Bool) → a ≡ false → b ≡ false → c ≡ false → d ≡ false → e ≡ false → (a || (b || (c || (d || e)))) ≡ false
 within a b c d e p q r s t = rw (p, q, r, s, t) refl
-
-or_false : (a b : Bool) → a ≡ false → b ≡ false → (a || b) ≡ false
-or_false a b p q = rw (p, q) refl
 
 all_same : (a b c : Bool) → a ≡ true → b ≡ true → c ≡ true → not (a && (b && c)) ≡ false
 all_same a b c p q r = rw (p, q, r) refl
@@ -131,7 +128,7 @@ module _ (d : DriveState) (now : ℕ) (c : Command) (x : IsClear d now c) where
 
   right : has_no_right c ≡ false
   right =
-      or_false _ _ x.placed.right
+      or_from _ _ x.placed.right
       (ap (λ (b : Bool). b && nat_lt c.attribute FIRST_USER_ATTRIBUTE) (no_attribute c.action x.placed.action))
 
   place : is_elsewhere d.number c ≡ false

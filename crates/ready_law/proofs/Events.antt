@@ -1,7 +1,7 @@
 -- An event that is over stands apart in a lawful history.
 use Rattle.std.proofs.Common.{◌≡◌, ◌⊎◌, ◌||◌, ℕ, List, [], ◌∷◌, ◌++◌, Bool, true, false, true≢false, None, refl, sym, ap, subst, ◌∙◌, append_assoc, inl, inr, Option, Some, is_some, if◌then◌else◌}
 use Rattle.std.specs.List.{list_any}
-use Rattle.std.proofs.lemmas.Bool.{cases_Bool}
+use Rattle.std.proofs.lemmas.Bool.{cases_Bool, or_parts, or_from}
 use Rattle.std.proofs.lemmas.List.{append-nil}
 use Rattle.std.proofs.lemmas.List.Folds.{list_any-append}
 use Rattle.scenario_text.specs.declared.event.Event.{Event}
@@ -30,22 +30,15 @@ use Rattle.ready_law.specs.Events.{is_event, BeginsWithEvent, StandsApart, Event
 abbrev pub NoEvent : List Line → Type 0
 NoEvent ls = list_any is_event ls ≡ false
 
-neither : (a b : Bool) → (a || b) ≡ false → (a ≡ false) × (b ≡ false)
-neither true b e = absurd (cc e)
-neither false b e = (refl, e)
-
-both : (a b : Bool) → a ≡ false → b ≡ false → (a || b) ≡ false
-both a b p q = rw (p, q) refl
-
 first_plain : (l : Line) (ls : List Line) → NoEvent (l ∷ ls) → (is_event l ≡ false) × NoEvent ls
-first_plain l ls h = neither (is_event l) (list_any is_event ls) h
+first_plain l ls h = or_parts (is_event l) (list_any is_event ls) h
 
 more_plain : (l : Line) (ls : List Line) → is_event l ≡ false → NoEvent ls → NoEvent (l ∷ ls)
-more_plain l ls p q = both (is_event l) (list_any is_event ls) p q
+more_plain l ls p q = or_from (is_event l) (list_any is_event ls) p q
 
 all_plain : (xs ys : List Line) → NoEvent xs → NoEvent ys → NoEvent (xs ++ ys)
 all_plain xs ys p q =
-    list_any-append is_event xs ys ∙ both (list_any is_event xs) (list_any is_event ys) p q
+    list_any-append is_event xs ys ∙ or_from (list_any is_event xs) (list_any is_event ys) p q
 
 no_head : (l : Line) → is_head l ≡ false → is_event l ≡ false
 no_head (line.Event e) h = absurd (true≢false h)

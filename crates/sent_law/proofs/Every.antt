@@ -21,11 +21,6 @@ use Rattle.sent_law.proofs.PhaseSteps.{opened_each, round_keeps, obeyed, heard_m
 
 -- ---- making, crashing, opening
 
--- no file has the number
-nothing : (o : Option File) → is_some o ≡ false → o ≡ None
-nothing None e = refl
-nothing (Some f) e = absurd (cc e)
-
 -- a file that isn't made yet has numbers of its own
 new_fine : (s : Server) (number : ℕ) (m : RawMap) (tag : ℕ) (ds : List ℕ) (owner : ℕ → ℕ)
     → IsFine (with_owner owner s.next_object number) (s.next_object + length (components_on ds s.next_object))

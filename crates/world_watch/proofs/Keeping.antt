@@ -3,6 +3,7 @@ use Rattle.std.proofs.Common.{◌≡◌, ℕ, ◌∷◌, ◌&&◌, [], List, Boo
 use Rattle.std.specs.Prelude.{nat_eq}
 use Rattle.std.proofs.lemmas.Bool.{cases_Bool, cases_eq}
 use Rattle.osd_lists.proofs.Tests.{and_true}
+use Rattle.osd_lists.proofs.Slices.{length_set}
 use Rattle.osd_objects.proofs.Entries.{lookup_inserted, lookup_beside}
 use Rattle.osd_commands.specs.declared.commands.Command.{Command}
 use Rattle.osd_commands.specs.declared.commands.CommandErr.{CommandErr}
@@ -21,7 +22,7 @@ use Rattle.world_history.specs.Guesses.{Guarded, guards, is_guess_of, opened_by}
 use Rattle.world_watch.specs.Sighted.{Table, is_same, sighted}
 use Rattle.world_watch.specs.Guessing.{GuessState, opens, opens_with, injects_read, sees}
 use Rattle.world_watch.specs.Tied.{AreOf, BeginWith, Keeps, KeepsFirst, KeepsOn, with_key}
-use Rattle.world_watch.proofs.Finding.{same_set, length_set}
+use Rattle.world_watch.proofs.Finding.{same_set}
 use Rattle.world_watch.proofs.Sighting.{sighted_begins, none_sent, of_changed, of_more, of_seen}
 
 -- ---- before the first line
