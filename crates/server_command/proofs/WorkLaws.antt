@@ -29,14 +29,6 @@ pub turn_more : {A : Type 0} (R : A → Serving → Serving → Type 0) (xs : Li
 turn_more R [] x s t u e r = (u, subst (λ (v : Serving). R x v u) e r, refl)
 turn_more R (y ∷ xs) x s t u h r = (h.0, h.1, turn_more R xs x h.0 t u h.2 r)
 
-pub take_got : {A : Type 0} (xs : List A) (i : ℕ) (x : A) → slice_get xs i ≡ Some x → take (i + 1) xs ≡ take i xs ++ x ∷ []
-take_got {A} xs i x e = rw add-one (got xs i x e)
-  where
-    got : (ys : List A) (j : ℕ) (y : A) → slice_get ys j ≡ Some y → take (suc j) ys ≡ take j ys ++ y ∷ []
-    got [] j y e = absurd (cc e)
-    got (z ∷ ys) zero y e = ap (λ (w : A). w ∷ []) (cc e)
-    got (z ∷ ys) (suc j) y e = ap (λ (zs : List A). z ∷ zs) (got ys j y e)
-
 -- ---- the step of a drive's reply
 
 -- it sends nothing, or takes a nonce while there is one
