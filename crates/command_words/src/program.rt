@@ -1,4 +1,6 @@
-// The program's words as clap knows them, for its messages and suggestions.
+// The whole program as one command of `clap`, for what people are told of words that name no command.
+use crate::options::option;
+use crate::words::{MAX_CLIENT, MAX_DRIVE};
 use clap::builder::ValueParser;
 use clap::{Arg, ArgAction, Command};
 use std::alloc::{AllocError, Global};
@@ -18,24 +20,14 @@ const MAX_U32: u64 = 4_294_967_295;
 
 const MAX_U64: u64 = 18_446_744_073_709_551_615;
 
+// The most calls of a scenario that is generated.
 const MAX_CALLS: u64 = 1000;
-
-const MAX_DRIVE: u64 = 63;
-
-const MAX_CLIENT: u64 = 15;
-
-// A required option that takes a text.
-fn option<'a>(alloc: Global, id: &'a str, name: &'a str) -> Arg<'a> {
-    Arg::new(alloc, id)
-        .long(id)
-        .value_name(name)
-        .required(true)
-        .action(ArgAction::Set)
-}
 
 // A required option that takes a number.
 fn number<'a>(alloc: Global, id: &'a str, name: &'a str, least: u64, most: u64) -> Arg<'a> {
-    option(alloc, id, name).value_parser(ValueParser::unsigned(least, most))
+    option(alloc, id)
+        .value_name(name)
+        .value_parser(ValueParser::unsigned(least, most))
 }
 
 // A required number in a place of its own.
@@ -69,7 +61,7 @@ fn inspection<'a>(alloc: Global, name: &'a str, usage: &'a str) -> Result<Comman
 fn drive<'a>(alloc: Global) -> Result<Command<'a>, AllocError> {
     Command::new(alloc, "drive")
         .override_usage("pnfs_osd drive --number N --connections K < CLUSTER")
-        .arg(number(alloc, "number", "N", 0, MAX_DRIVE))?
+        .arg(number(alloc, "number", "N", 0, u64::from(MAX_DRIVE)))?
         .arg(number(alloc, "connections", "K", 0, MAX_U32))
 }
 
@@ -82,14 +74,16 @@ fn server<'a>(alloc: Global) -> Result<Command<'a>, AllocError> {
 fn client<'a>(alloc: Global) -> Result<Command<'a>, AllocError> {
     Command::new(alloc, "client")
         .override_usage("pnfs_osd client --number N --sequence Q --call TEXT < CLUSTER")
-        .arg(number(alloc, "number", "N", 0, MAX_CLIENT))?
+        .arg(number(alloc, "number", "N", 0, u64::from(MAX_CLIENT)))?
         .arg(number(alloc, "sequence", "Q", 1, MAX_U32))?
-        .arg(option(alloc, "call", "TEXT"))
+        .arg(option(alloc, "call").value_name("TEXT"))
 }
 
-// All commands of the program.
-pub(crate) fn commands<'a>(alloc: Global) -> Result<Command<'a>, AllocError> {
+// All commands of the program. Its name isn't among the words, so it is given here.
+fn program<'a>(alloc: Global) -> Result<Command<'a>, AllocError> {
     Command::new(alloc, "pnfs_osd")
+        .no_binary_name(true)
+        .bin_name("pnfs_osd")?
         .subcommand_required(true)
         .subcommand(replay(alloc))?
         .subcommand(generate(alloc)?)?
@@ -98,4 +92,16 @@ pub(crate) fn commands<'a>(alloc: Global) -> Result<Command<'a>, AllocError> {
         .subcommand(drive(alloc)?)?
         .subcommand(server(alloc)?)?
         .subcommand(client(alloc)?)
+}
+
+/// What `clap` says of words that it doesn't take, the program's name not among them: what is wrong, a suggestion, and
+/// how the command is used. `None` if it takes them; a number may still be spelled in a way that the program refuses, or
+/// the text of a call be none.
+///
+/// Nothing rests on this text, so it has no contract.
+pub fn refusal_text(alloc: Global, words: &[String]) -> Result<Option<String>, AllocError> {
+    match program(alloc)?.try_get_matches_from(words) {
+        Ok(_) => Ok(None),
+        Err(e) => Ok(Some(format!(in alloc; "{e}")?)),
+    }
 }
