@@ -3,6 +3,7 @@ use Rattle.std.specs.Prelude.{◌≡◌, ℕ, zero, suc, nat_le, List, [], ◌�
 use Rattle.std.specs.Int.{w64, from_be_bytes}
 use Rattle.osd_bytes.specs.Connections.{Traffic}
 use Rattle.osd_bytes.specs.Counts.{Faults}
+use Rattle.osd_bytes.specs.declared.links.Links.{Ghosts as LinksGhosts}
 use Rattle.osd_lists.specs.declared.node.Node.{Node}
 use Rattle.osd_lists.specs.declared.node.Node.TheVariants.{Server, Drive, Client as AClient}
 use Rattle.osd_bytes.specs.Asking.{Answered}
@@ -32,6 +33,9 @@ pub record Dealing : Type 0 where
 abbrev pub dealing : Client → List Sent → List Notice → Option Traffic → Faults → Dealing
 dealing client waiting notices told faults =
     record { client = client; waiting = waiting; notices = notices; told = told; faults = faults }
+
+abbrev pub dealing_at : {A : Type 0} → LinksGhosts A → (links : A) → Client → List Sent → List Notice → Dealing
+dealing_at l links client waiting notices = dealing client waiting notices (l.told links) (l.faults links)
 
 -- what else happened on the links
 abbrev pub on_links : Option Traffic → Faults → Dealing → Dealing

@@ -3,6 +3,7 @@ use Rattle.std.specs.Prelude.{◌≡◌, ◌⊎◌, ℕ, List, [], ◌++◌, Opt
 use Rattle.std.specs.Option.{option_map}
 use Rattle.osd_bytes.specs.Connections.{Traffic}
 use Rattle.osd_bytes.specs.Counts.{Faults}
+use Rattle.osd_bytes.specs.declared.links.Links.{Ghosts as LinksGhosts}
 use Rattle.layout_ops.specs.declared.orders.OrderResult.{OrderResult}
 use Rattle.layout_ops.specs.Enumerations.{order_result_number}
 use Rattle.scenario_text.specs.LineSpelling.{lines_text}
@@ -34,6 +35,9 @@ pub record OnLinks : Type 0 where
 
 abbrev pub on_links : Option Traffic → Faults → OnLinks
 on_links told faults = record { told = told; faults = faults }
+
+abbrev pub links_at : {A : Type 0} → LinksGhosts A → (links : A) → OnLinks
+links_at l links = on_links (l.told links) (l.faults links)
 
 -- a client that has done nothing, whose first request has this number
 abbrev pub fresh : (number sequence : ℕ) → OnLinks → Dealing

@@ -3,7 +3,7 @@ ghost use Rattle.std.specs.Prelude.{◌≡◌, ◌≤◌, ◌<◌, ◌++◌, [],
 ghost use Rattle.client_rules.specs.declared.client.Client.{Client};
 ghost use Rattle.client_rules.specs.declared.limits.TheConstants.{MAX_CLIENT};
 ghost use Rattle.client_rules.specs.Steps.{new_client};
-ghost use Rattle.client_command.specs.Dealing.{WorksAll, dealing, ended};
+ghost use Rattle.client_command.specs.Dealing.{WorksAll, dealing_at, ended};
 ghost use Rattle.client_command.specs.Calling.{Begins, Calls, Deals, StopsBegin, StopsCall, StopsDeal, StopsReturn};
 ghost use Rattle.client_command.specs.Calling.{leaving, stop_of_deal};
 
@@ -75,10 +75,10 @@ fn deal_call<L: Links>(
     notices: &mut Notices,
 ) -> Result<(), CallStop>
     ensures deals { OnOk result (Deals op
-        (dealing core.old [] notices.old (L.told links.old) (L.faults links.old))
-        (dealing core.new [] notices.new (L.told links.new) (L.faults links.new))) }
+        (dealing_at L.Links links.old core.old [] notices.old)
+        (dealing_at L.Links links.new core.new [] notices.new)) }
     ensures stops { IfErr result (StopsDeal op
-        (dealing core.old [] notices.old (L.told links.old) (L.faults links.old))
+        (dealing_at L.Links links.old core.old [] notices.old)
         core.new notices.new (L.told links.new) (L.faults links.new)) }
 {
     let CStep { sends, outcome } = match begin(core, op) {
@@ -101,10 +101,10 @@ fn return_grants<L: Links>(
 ) -> Result<(), CallStop>
     requires { core.old.call ≡ None }
     ensures returns { OnOk result (WorksAll
-        (leaving (dealing core.old [] notices.old (L.told links.old) (L.faults links.old)))
-        (dealing core.new [] notices.new (L.told links.new) (L.faults links.new))) }
+        (leaving (dealing_at L.Links links.old core.old [] notices.old))
+        (dealing_at L.Links links.new core.new [] notices.new)) }
     ensures stops { IfErr result (StopsReturn
-        (dealing core.old [] notices.old (L.told links.old) (L.faults links.old))
+        (dealing_at L.Links links.old core.old [] notices.old)
         core.new notices.new (L.told links.new) (L.faults links.new)) }
 {
     let sends = core.leave()?;
@@ -122,10 +122,10 @@ fn call_and_leave<L: Links>(
     notices: &mut Notices,
 ) -> Result<(), CallStop>
     ensures calls { OnOk result (Calls op
-        (dealing core.old [] notices.old (L.told links.old) (L.faults links.old))
-        (dealing core.new [] notices.new (L.told links.new) (L.faults links.new))) }
+        (dealing_at L.Links links.old core.old [] notices.old)
+        (dealing_at L.Links links.new core.new [] notices.new)) }
     ensures stops { IfErr result (StopsCall op
-        (dealing core.old [] notices.old (L.told links.old) (L.faults links.old))
+        (dealing_at L.Links links.old core.old [] notices.old)
         core.new notices.new (L.told links.new) (L.faults links.new)) }
 {
     match deal_call(alloc, core, op, links, notices) {
@@ -155,10 +155,10 @@ pub(crate) fn call_new<L: Links>(
     requires number { number ≤ MAX_CLIENT }
     requires sequence { 0 < sequence }
     ensures calls { IfOk result (λ next. (client : Client) × Calls op
-        (dealing (new_client number sequence) [] notices.old (L.told links.old) (L.faults links.old))
-        (dealing client [] notices.new (L.told links.new) (L.faults links.new)) × (next ≡ client.next)) }
+        (dealing_at L.Links links.old (new_client number sequence) [] notices.old)
+        (dealing_at L.Links links.new client [] notices.new) × (next ≡ client.next)) }
     ensures stops { IfErr result (λ stop. (client : Client) × StopsCall op
-        (dealing (new_client number sequence) [] notices.old (L.told links.old) (L.faults links.old))
+        (dealing_at L.Links links.old (new_client number sequence) [] notices.old)
         client notices.new (L.told links.new) (L.faults links.new) stop) }
 {
     let mut core = ClientCore::new(alloc, number, sequence);

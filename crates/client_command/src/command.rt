@@ -1,7 +1,7 @@
 ghost use Rattle.std.specs.Prelude.{◌≡◌, ◌≤◌, ◌<◌, IfErr, IfOk};
 ghost use Rattle.client_rules.specs.declared.limits.TheConstants.{MAX_CLIENT};
-ghost use Rattle.drive_command.specs.Ends.{streams};
-ghost use Rattle.client_command.specs.Reports.{on_links};
+ghost use Rattle.cluster_text.specs.Outside.{streams_at};
+ghost use Rattle.client_command.specs.Reports.{links_at};
 ghost use Rattle.client_command.specs.Ends.{EndsClient, StopsClient, StopsTelling, StopsWork, Tells, ToldAll, WorksAs};
 
 use crate::ending::{ClientEnd, Report};
@@ -39,10 +39,10 @@ fn work_in<K: Sink, L: Links>(
     requires number { words.number ≤ MAX_CLIENT }
     requires sequence { 0 < words.sequence }
     ensures tells { IfOk result (Tells words
-        (on_links (L.told links.old) (L.faults links.old)) (on_links (L.told links.new) (L.faults links.new))
+        (links_at L.Links links.old) (links_at L.Links links.new)
         (K.taken sink.old) (K.taken sink.new)) }
     ensures stops { IfErr result (StopsWork words
-        (on_links (L.told links.old) (L.faults links.old)) (on_links (L.told links.new) (L.faults links.new))
+        (links_at L.Links links.old) (links_at L.Links links.new)
         (K.taken sink.old) (K.taken sink.new) (K.faults sink.old) (K.faults sink.new)) }
 {
     match settle_at(alloc, links, cluster, &[]) {
@@ -67,13 +67,11 @@ fn work<S: Source, K: Sink, L: Links>(
     requires number { words.number ≤ MAX_CLIENT }
     requires sequence { 0 < words.sequence }
     ensures works { IfOk result (WorksAs words
-        (streams (S.left source.old) (S.faults source.old) (K.taken sink.old) (K.faults sink.old))
-        (streams (S.left source.new) (S.faults source.new) (K.taken sink.new) (K.faults sink.new))
-        (on_links (L.told links.old) (L.faults links.old)) (on_links (L.told links.new) (L.faults links.new))) }
+        (streams_at S.Source K.Sink source.old sink.old) (streams_at S.Source K.Sink source.new sink.new)
+        (links_at L.Links links.old) (links_at L.Links links.new)) }
     ensures stops { IfErr result (StopsClient words
-        (streams (S.left source.old) (S.faults source.old) (K.taken sink.old) (K.faults sink.old))
-        (streams (S.left source.new) (S.faults source.new) (K.taken sink.new) (K.faults sink.new))
-        (on_links (L.told links.old) (L.faults links.old)) (on_links (L.told links.new) (L.faults links.new))) }
+        (streams_at S.Source K.Sink source.old sink.old) (streams_at S.Source K.Sink source.new sink.new)
+        (links_at L.Links links.old) (links_at L.Links links.new)) }
 {
     let cluster = match cluster_from(alloc, Reader::Client, source) {
         Ok(cluster) => cluster,
@@ -106,13 +104,11 @@ pub fn client_command<S: Source, K: Sink, L: Links>(
     requires number { words.number ≤ MAX_CLIENT }
     requires sequence { 0 < words.sequence }
     ensures works { IfOk result (WorksAs words
-        (streams (S.left source.old) (S.faults source.old) (K.taken sink.old) (K.faults sink.old))
-        (streams (S.left source.new) (S.faults source.new) (K.taken sink.new) (K.faults sink.new))
-        (on_links (L.told links.old) (L.faults links.old)) (on_links (L.told links.new) (L.faults links.new))) }
+        (streams_at S.Source K.Sink source.old sink.old) (streams_at S.Source K.Sink source.new sink.new)
+        (links_at L.Links links.old) (links_at L.Links links.new)) }
     ensures stops { IfErr result (EndsClient words
-        (streams (S.left source.old) (S.faults source.old) (K.taken sink.old) (K.faults sink.old))
-        (streams (S.left source.new) (S.faults source.new) (K.taken sink.new) (K.faults sink.new))
-        (on_links (L.told links.old) (L.faults links.old)) (on_links (L.told links.new) (L.faults links.new))) }
+        (streams_at S.Source K.Sink source.old sink.old) (streams_at S.Source K.Sink source.new sink.new)
+        (links_at L.Links links.old) (links_at L.Links links.new)) }
 {
     match work(alloc, words, source, sink, links) {
         Ok(end) => Ok(end),

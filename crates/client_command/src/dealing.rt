@@ -1,7 +1,7 @@
 // The messages of a client, one after the other.
 ghost use Rattle.std.specs.Prelude.{◌≡◌, [], IsErrOf, OnOk};
 ghost use Rattle.client_command.specs.declared.dealing.DealErr.TheVariants.{LinkFault};
-ghost use Rattle.client_command.specs.Dealing.{InTurn, Loses, LosesIn, LosesAll, Works, WorksAll, dealing};
+ghost use Rattle.client_command.specs.Dealing.{InTurn, Loses, LosesAll, LosesIn, Works, WorksAll, dealing_at};
 
 use crate::drive::exchange_with_drive;
 use crate::notices::Notices;
@@ -44,11 +44,11 @@ fn work<L: Links>(
     notices: &mut Notices,
 ) -> Result<(), DealErr>
     ensures works { OnOk result (Works sent.now
-        (dealing core.old waiting.old notices.old (L.told links.old) (L.faults links.old))
-        (dealing core.new waiting.new notices.new (L.told links.new) (L.faults links.new))) }
+        (dealing_at L.Links links.old core.old waiting.old notices.old)
+        (dealing_at L.Links links.new core.new waiting.new notices.new)) }
     ensures loses { IsErrOf result LinkFault → Loses sent.now
-        (dealing core.old waiting.old notices.old (L.told links.old) (L.faults links.old))
-        (dealing core.new waiting.new notices.new (L.told links.new) (L.faults links.new)) }
+        (dealing_at L.Links links.old core.old waiting.old notices.old)
+        (dealing_at L.Links links.new core.new waiting.new notices.new) }
 {
     let message = sent.bytes.as_slice();
     match sent.to {
@@ -78,11 +78,11 @@ fn work_round<L: Links>(
     notices: &mut Notices,
 ) -> Result<(), DealErr>
     ensures works { OnOk result (InTurn Works round.now
-        (dealing core.old waiting.old notices.old (L.told links.old) (L.faults links.old))
-        (dealing core.new waiting.new notices.new (L.told links.new) (L.faults links.new))) }
+        (dealing_at L.Links links.old core.old waiting.old notices.old)
+        (dealing_at L.Links links.new core.new waiting.new notices.new)) }
     ensures loses { IsErrOf result LinkFault → LosesIn round.now
-        (dealing core.old waiting.old notices.old (L.told links.old) (L.faults links.old))
-        (dealing core.new waiting.new notices.new (L.told links.new) (L.faults links.new)) }
+        (dealing_at L.Links links.old core.old waiting.old notices.old)
+        (dealing_at L.Links links.new core.new waiting.new notices.new) }
 {
     for i in 0..round.len() {
         match work(alloc, core, links, round.get(i), waiting, notices) {
@@ -109,10 +109,10 @@ pub fn deal<L: Links>(
     notices: &mut Notices,
 ) -> Result<(), DealErr>
     ensures works { OnOk result (WorksAll
-        (dealing core.old sends notices.old (L.told links.old) (L.faults links.old))
-        (dealing core.new [] notices.new (L.told links.new) (L.faults links.new))) }
+        (dealing_at L.Links links.old core.old sends notices.old)
+        (dealing_at L.Links links.new core.new [] notices.new)) }
     ensures loses { IsErrOf result LinkFault → LosesAll
-        (dealing core.old sends notices.old (L.told links.old) (L.faults links.old))
+        (dealing_at L.Links links.old core.old sends notices.old)
         core.new notices.new (L.told links.new) (L.faults links.new) }
 {
     let mut waiting = sends;

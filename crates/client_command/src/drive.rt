@@ -2,7 +2,7 @@
 ghost use Rattle.std.specs.Prelude.{◌≡◌, Option, OnOk};
 ghost use Rattle.osd_bytes.specs.Connections.{Traffic};
 ghost use Rattle.osd_bytes.specs.Counts.{Faults};
-ghost use Rattle.client_command.specs.Dealing.{AsksDrive, dealing, heard, late, timed_out};
+ghost use Rattle.client_command.specs.Dealing.{AsksDrive, dealing, dealing_at, heard, late, timed_out};
 
 use crate::notices::{Notice, Notices, take_step};
 use osd_bytes::{Links, asked};
@@ -86,8 +86,8 @@ pub(crate) fn exchange_with_drive<L: Links>(
     notices: &mut Notices,
 ) -> Result<(), Memory>
     ensures { OnOk result (AsksDrive drive command.now
-        (dealing core.old waiting.old notices.old (L.told links.old) (L.faults links.old))
-        (dealing core.new waiting.new notices.new (L.told links.new) (L.faults links.new))) }
+        (dealing_at L.Links links.old core.old waiting.old notices.old)
+        (dealing_at L.Links links.new core.new waiting.new notices.new)) }
 {
     let came = asked(alloc, links, Node::Drive(drive), command)?;
     hear(alloc, core, Node::Drive(drive), came, waiting, notices)?;

@@ -5,7 +5,7 @@ ghost use Rattle.layout_ops.specs.Reading.{envelope_of};
 ghost use Rattle.client_command.specs.Endings.{end_by_result};
 ghost use Rattle.client_command.specs.Telling.{next_line, order_line};
 ghost use Rattle.client_command.specs.Ordering.{Answers, answer_read, sent_order};
-ghost use Rattle.client_command.specs.Reports.{IsReport, ReportsOrder, on_links};
+ghost use Rattle.client_command.specs.Reports.{IsReport, ReportsOrder, links_at};
 
 use crate::ending::{Report, end_by_result};
 use crate::telling::{order_text, push_next};
@@ -95,7 +95,7 @@ pub(crate) fn report_order<L: Links>(
     links: &mut L,
 ) -> Result<Report, Memory>
     ensures { IfOk result (ReportsOrder sequence order
-        (on_links (L.told links.old) (L.faults links.old)) (on_links (L.told links.new) (L.faults links.new))) }
+        (links_at L.Links links.old) (links_at L.Links links.new)) }
 {
     match answer_of(alloc, sent_order(order), links)? {
         Some(answer) => answered(alloc, sequence, answer),

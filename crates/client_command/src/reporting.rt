@@ -5,7 +5,7 @@ ghost use Rattle.world_history.specs.Moves.{op_of};
 ghost use Rattle.client_rules.specs.declared.limits.TheConstants.{MAX_CLIENT};
 ghost use Rattle.client_command.specs.Endings.{end_of};
 ghost use Rattle.client_command.specs.Telling.{call_lines, next_line, refusal_lines};
-ghost use Rattle.client_command.specs.Reports.{IsReport, Reports, ReportsCall, on_links};
+ghost use Rattle.client_command.specs.Reports.{IsReport, Reports, ReportsCall, links_at};
 
 use crate::calling::{CallStop, call_new};
 use crate::ending::{ClientEnd, Refusal, Report, end_of};
@@ -107,7 +107,7 @@ fn report_call<L: Links>(
 ) -> Result<Report, Memory>
     requires { 0 < sequence }
     ensures { IfOk result (ReportsCall client sequence (op_of call)
-        (on_links (L.told links.old) (L.faults links.old)) (on_links (L.told links.new) (L.faults links.new))) }
+        (links_at L.Links links.old) (links_at L.Links links.new)) }
 {
     let op = op_of(call);
     let kind = kind_of(&op);
@@ -129,7 +129,7 @@ pub(crate) fn report<L: Links>(
     requires number { words.number ≤ MAX_CLIENT }
     requires sequence { 0 < words.sequence }
     ensures { IfOk result (Reports words.number words.sequence words.work
-        (on_links (L.told links.old) (L.faults links.old)) (on_links (L.told links.new) (L.faults links.new))) }
+        (links_at L.Links links.old) (links_at L.Links links.new)) }
 {
     let ClientWords {
         number,

@@ -1,7 +1,7 @@
 // An exchange with the server.
 ghost use Rattle.std.specs.Prelude.{◌≡◌, ◌↔◌, IfOk, IsTrue, IsErrOf, OnOk};
 ghost use Rattle.client_command.specs.declared.dealing.DealErr.TheVariants.{LinkFault};
-ghost use Rattle.client_command.specs.Dealing.{AsksServer, AwaitsStill, IsRequest, LosesServer, dealing};
+ghost use Rattle.client_command.specs.Dealing.{AsksServer, AwaitsStill, IsRequest, LosesServer, dealing_at};
 
 use crate::answering::is_answer_to;
 use crate::dealing::DealErr;
@@ -50,11 +50,11 @@ pub(crate) fn exchange_with_server<L: Links>(
     notices: &mut Notices,
 ) -> Result<(), DealErr>
     ensures asks { OnOk result (AsksServer message.now
-        (dealing core.old waiting.old notices.old (L.told links.old) (L.faults links.old))
-        (dealing core.new waiting.new notices.new (L.told links.new) (L.faults links.new))) }
+        (dealing_at L.Links links.old core.old waiting.old notices.old)
+        (dealing_at L.Links links.new core.new waiting.new notices.new)) }
     ensures loses { IsErrOf result LinkFault → LosesServer message.now
-        (dealing core.old waiting.old notices.old (L.told links.old) (L.faults links.old))
-        (dealing core.new waiting.new notices.new (L.told links.new) (L.faults links.new)) }
+        (dealing_at L.Links links.old core.old waiting.old notices.old)
+        (dealing_at L.Links links.new core.new waiting.new notices.new) }
 {
     match asked(alloc, links, Node::Server, message)? {
         Some(record) => {

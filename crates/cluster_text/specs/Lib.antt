@@ -6,3 +6,4 @@ pub mod Reading
 pub mod Inputs
 pub mod Peers
 pub mod Lines
+pub mod Outside

@@ -22,7 +22,7 @@ pub use cluster::{Cluster, ClusterDrive, ClusterFile, Reader};
 pub use cluster_source::cluster_from;
 pub use errors::{ClusterErr, ClusterKind};
 pub use fields::{MAX_DRIVES, MAX_FILES};
-pub use lines::put_stop;
+pub use lines::{put_stop, served_line, stop_of_serving};
 pub use peers::{peers_of, settle_at};
 pub use reading::read_cluster;
 pub use stop::CommandStop;

@@ -1,6 +1,7 @@
 ghost use Rattle.std.specs.Prelude.{◌≡◌, IfErr, OnOk};
-ghost use Rattle.drive_command.specs.Connections.{ends_of};
-ghost use Rattle.drive_command.specs.Ends.{EndsDrive, ServesAs, ServesIn, StopsDrive, StopsIn, streams};
+ghost use Rattle.drive_command.specs.Connections.{network_at};
+ghost use Rattle.cluster_text.specs.Outside.{streams_at};
+ghost use Rattle.drive_command.specs.Ends.{EndsDrive, ServesAs, ServesIn, StopsDrive, StopsIn};
 
 use crate::own::{new_core, own_drive};
 use crate::serving::serve_core;
@@ -19,12 +20,10 @@ fn serve_in<K: Sink, L: Links, C: Clock>(
     clock: &mut C,
 ) -> Result<(), CommandStop>
     ensures serves { OnOk result (ServesIn number connections cluster.now
-        (ends_of (L.told links.old) (L.faults links.old) (C.times clock.old))
-        (ends_of (L.told links.new) (L.faults links.new) (C.times clock.new))
+        (network_at L.Links C.Clock links.old clock.old) (network_at L.Links C.Clock links.new clock.new)
         (K.taken sink.old) (K.taken sink.new)) }
     ensures stops { IfErr result (StopsIn number connections cluster.now
-        (ends_of (L.told links.old) (L.faults links.old) (C.times clock.old))
-        (ends_of (L.told links.new) (L.faults links.new) (C.times clock.new))
+        (network_at L.Links C.Clock links.old clock.old) (network_at L.Links C.Clock links.new clock.new)
         (K.taken sink.old) (K.taken sink.new) (K.faults sink.old) (K.faults sink.new)) }
 {
     let Some(drive) = own_drive(cluster.drives.as_slice(), number) else {
@@ -55,15 +54,11 @@ fn serve_cluster<S: Source, K: Sink, L: Links, C: Clock>(
     clock: &mut C,
 ) -> Result<(), CommandStop>
     ensures serves { OnOk result (ServesAs number connections
-        (streams (S.left source.old) (S.faults source.old) (K.taken sink.old) (K.faults sink.old))
-        (streams (S.left source.new) (S.faults source.new) (K.taken sink.new) (K.faults sink.new))
-        (ends_of (L.told links.old) (L.faults links.old) (C.times clock.old))
-        (ends_of (L.told links.new) (L.faults links.new) (C.times clock.new))) }
+        (streams_at S.Source K.Sink source.old sink.old) (streams_at S.Source K.Sink source.new sink.new)
+        (network_at L.Links C.Clock links.old clock.old) (network_at L.Links C.Clock links.new clock.new)) }
     ensures stops { IfErr result (StopsDrive number connections
-        (streams (S.left source.old) (S.faults source.old) (K.taken sink.old) (K.faults sink.old))
-        (streams (S.left source.new) (S.faults source.new) (K.taken sink.new) (K.faults sink.new))
-        (ends_of (L.told links.old) (L.faults links.old) (C.times clock.old))
-        (ends_of (L.told links.new) (L.faults links.new) (C.times clock.new))) }
+        (streams_at S.Source K.Sink source.old sink.old) (streams_at S.Source K.Sink source.new sink.new)
+        (network_at L.Links C.Clock links.old clock.old) (network_at L.Links C.Clock links.new clock.new)) }
 {
     let cluster = match cluster_from(alloc, Reader::Drive(number), source) {
         Ok(cluster) => cluster,
@@ -95,15 +90,11 @@ pub fn drive_command<S: Source, K: Sink, L: Links, C: Clock>(
     clock: &mut C,
 ) -> Result<(), CommandStop>
     ensures serves { OnOk result (ServesAs number connections
-        (streams (S.left source.old) (S.faults source.old) (K.taken sink.old) (K.faults sink.old))
-        (streams (S.left source.new) (S.faults source.new) (K.taken sink.new) (K.faults sink.new))
-        (ends_of (L.told links.old) (L.faults links.old) (C.times clock.old))
-        (ends_of (L.told links.new) (L.faults links.new) (C.times clock.new))) }
+        (streams_at S.Source K.Sink source.old sink.old) (streams_at S.Source K.Sink source.new sink.new)
+        (network_at L.Links C.Clock links.old clock.old) (network_at L.Links C.Clock links.new clock.new)) }
     ensures stops { IfErr result (EndsDrive number connections
-        (streams (S.left source.old) (S.faults source.old) (K.taken sink.old) (K.faults sink.old))
-        (streams (S.left source.new) (S.faults source.new) (K.taken sink.new) (K.faults sink.new))
-        (ends_of (L.told links.old) (L.faults links.old) (C.times clock.old))
-        (ends_of (L.told links.new) (L.faults links.new) (C.times clock.new))) }
+        (streams_at S.Source K.Sink source.old sink.old) (streams_at S.Source K.Sink source.new sink.new)
+        (network_at L.Links C.Clock links.old clock.old) (network_at L.Links C.Clock links.new clock.new)) }
 {
     match serve_cluster(alloc, number, connections, source, sink, links, clock) {
         Ok(()) => Ok(()),

@@ -1,6 +1,6 @@
 ghost use Rattle.std.specs.Prelude.{◌≡◌, List, IfOk, IsErrOf, OnOk};
 ghost use Rattle.osd_bytes.specs.declared.serve_err.ServeErr.TheVariants.{LinkFault};
-ghost use Rattle.drive_command.specs.Connections.{Answers, Handled, IsRefused, ServesAll, ServesConnection, ServesMore, after_all, ends_at, ends_of};
+ghost use Rattle.drive_command.specs.Connections.{Answers, Handled, IsRefused, ServesAll, ServesConnection, ServesMore, after_all, network_at, network_since};
 
 use crate::refusals::tell_refusal;
 use osd_bytes::{Clock, Inbox, Links, ServeErr, put_record};
@@ -21,8 +21,8 @@ fn answer_record<L: Links, C: Clock>(
     puts: bool,
 ) -> Result<bool, Memory>
     ensures answers { IfOk result (λ still. Answers puts still core.old core.new
-        (ends_at (L.told links.old) (L.faults links.old) (C.times clock.old) last.old)
-        (ends_at (L.told links.new) (L.faults links.new) (C.times clock.new) last.new) message.now) }
+        (network_since L.Links C.Clock links.old clock.old last.old)
+        (network_since L.Links C.Clock links.new clock.new last.new) message.now) }
     ensures state { (handled : List Handled) × (core.new ≡ after_all core.old handled) }
     ensures standing { L.standing links.new ≡ L.standing links.old }
 {
@@ -49,8 +49,8 @@ fn answer_all<L: Links, C: Clock>(
     puts: bool,
 ) -> Result<bool, Memory>
     ensures serves { IfOk result (λ still. ServesMore puts still core.old core.new
-        (ends_at (L.told links.old) (L.faults links.old) (C.times clock.old) last.old)
-        (ends_at (L.told links.new) (L.faults links.new) (C.times clock.new) last.new) records.now) }
+        (network_since L.Links C.Clock links.old clock.old last.old)
+        (network_since L.Links C.Clock links.new clock.new last.new) records.now) }
     ensures state { (handled : List Handled) × (core.new ≡ after_all core.old handled) }
     ensures standing { L.standing links.new ≡ L.standing links.old }
 {
@@ -78,8 +78,8 @@ fn serve_connection<L: Links, C: Clock>(
     last: &mut Option<u64>,
 ) -> Result<(), Memory>
     ensures serves { OnOk result (ServesConnection core.old core.new
-        (ends_at (L.told links.old) (L.faults links.old) (C.times clock.old) last.old)
-        (ends_at (L.told links.new) (L.faults links.new) (C.times clock.new) last.new)) }
+        (network_since L.Links C.Clock links.old clock.old last.old)
+        (network_since L.Links C.Clock links.new clock.new last.new)) }
     ensures state { (handled : List Handled) × (core.new ≡ after_all core.old handled) }
     ensures standing { L.standing links.new ≡ L.standing links.old }
 {
@@ -115,11 +115,9 @@ pub fn serve<L: Links, C: Clock>(
     connections: u32,
 ) -> Result<(), ServeErr>
     ensures served { OnOk result (ServesAll connections core.old core.new
-        (ends_of (L.told links.old) (L.faults links.old) (C.times clock.old))
-        (ends_of (L.told links.new) (L.faults links.new) (C.times clock.new))) }
+        (network_at L.Links C.Clock links.old clock.old) (network_at L.Links C.Clock links.new clock.new)) }
     ensures refused { IsErrOf result LinkFault → IsRefused connections core.old core.new
-        (ends_of (L.told links.old) (L.faults links.old) (C.times clock.old))
-        (ends_of (L.told links.new) (L.faults links.new) (C.times clock.new)) }
+        (network_at L.Links C.Clock links.old clock.old) (network_at L.Links C.Clock links.new clock.new) }
     ensures state { (handled : List Handled) × (core.new ≡ after_all core.old handled) }
 {
     let mut last = None;

@@ -1,30 +1,14 @@
 // The lines of the command, and the serving between them.
-ghost use Rattle.std.specs.Prelude.{◌≡◌, IfErr, IfOk, OnOk, string_bytes};
-ghost use Rattle.drive_command.specs.Connections.{ServesAll, ends_of};
-ghost use Rattle.drive_command.specs.Ends.{Serves, StopsAccepting, StopsServing, served_line, stop_of_serving};
+ghost use Rattle.std.specs.Prelude.{IfErr, OnOk};
+ghost use Rattle.drive_command.specs.Connections.{ServesAll, network_at};
+ghost use Rattle.cluster_text.specs.Lines.{served_line, stop_of_serving};
+ghost use Rattle.drive_command.specs.Ends.{Serves, StopsAccepting, StopsServing};
 
 use crate::connections::serve;
-use cluster_text::CommandStop;
-use osd_bytes::{Clock, Links, ServeErr, Sink, put_all};
+use cluster_text::{CommandStop, served_line, stop_of_serving};
+use osd_bytes::{Clock, Links, Sink, put_all};
 use osd_drive::DriveCore;
-use osd_lists::Memory;
 use std::alloc::Global;
-
-// The line that tells how many connections were served.
-fn served_line(alloc: Global, connections: u32) -> Result<String, Memory>
-    ensures { IfOk result (λ line. string_bytes line ≡ served_line connections) }
-{
-    Ok(format!(in alloc; "served {connections}\n")?)
-}
-
-fn stop_of(e: ServeErr) -> CommandStop
-    ensures { result ≡ stop_of_serving e }
-{
-    match e {
-        ServeErr::LinkFault => CommandStop::LinkFault,
-        ServeErr::Memory => CommandStop::Memory,
-    }
-}
 
 // Serves so many connections over links that listen.
 fn serve_all<L: Links, C: Clock>(
@@ -35,15 +19,13 @@ fn serve_all<L: Links, C: Clock>(
     clock: &mut C,
 ) -> Result<(), CommandStop>
     ensures served { OnOk result (ServesAll connections core.old core.new
-        (ends_of (L.told links.old) (L.faults links.old) (C.times clock.old))
-        (ends_of (L.told links.new) (L.faults links.new) (C.times clock.new))) }
+        (network_at L.Links C.Clock links.old clock.old) (network_at L.Links C.Clock links.new clock.new)) }
     ensures stops { IfErr result (StopsAccepting
-        (ends_of (L.told links.old) (L.faults links.old) (C.times clock.old))
-        (ends_of (L.told links.new) (L.faults links.new) (C.times clock.new))) }
+        (network_at L.Links C.Clock links.old clock.old) (network_at L.Links C.Clock links.new clock.new)) }
 {
     match serve(alloc, core, links, clock, connections) {
         Ok(()) => Ok(()),
-        Err(e) => Err(stop_of(e)),
+        Err(e) => Err(stop_of_serving(e)),
     }
 }
 
@@ -57,12 +39,10 @@ pub(crate) fn serve_core<K: Sink, L: Links, C: Clock>(
     clock: &mut C,
 ) -> Result<(), CommandStop>
     ensures serves { OnOk result (Serves connections core.old core.new
-        (ends_of (L.told links.old) (L.faults links.old) (C.times clock.old))
-        (ends_of (L.told links.new) (L.faults links.new) (C.times clock.new))
+        (network_at L.Links C.Clock links.old clock.old) (network_at L.Links C.Clock links.new clock.new)
         (K.taken sink.old) (K.taken sink.new)) }
     ensures stops { IfErr result (StopsServing connections
-        (ends_of (L.told links.old) (L.faults links.old) (C.times clock.old))
-        (ends_of (L.told links.new) (L.faults links.new) (C.times clock.new))
+        (network_at L.Links C.Clock links.old clock.old) (network_at L.Links C.Clock links.new clock.new)
         (K.taken sink.old) (K.taken sink.new) (K.faults sink.old) (K.faults sink.new)) }
 {
     let served = served_line(alloc, connections)?;

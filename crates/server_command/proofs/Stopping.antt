@@ -11,7 +11,7 @@ use Rattle.server_rules.specs.declared.server.Server.{Server}
 use Rattle.server_command.specs.Work.{serving}
 use Rattle.server_command.specs.Knowing.{server_in}
 use Rattle.server_command.specs.Making.{MakesFiles}
-use Rattle.drive_command.specs.Ends.{Streams}
+use Rattle.cluster_text.specs.Outside.{Streams}
 use Rattle.server_command.specs.Ends.{HasMade, StopsIn, StopsServer, StopsServing}
 use Rattle.server_command.proofs.Described.{sound}
 use Rattle.server_command.proofs.Refusing.{is_served}

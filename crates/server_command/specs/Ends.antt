@@ -17,7 +17,8 @@ use Rattle.server_command.specs.Work.{serving}
 use Rattle.server_command.specs.Serving.{IsRefused, ServesAll}
 use Rattle.server_command.specs.Knowing.{server_in}
 use Rattle.server_command.specs.Making.{LosesFiles, MakesFiles, RefusesFiles}
-use Rattle.drive_command.specs.Ends.{Streams, listening_line, served_line}
+use Rattle.cluster_text.specs.Lines.{listening_line, served_line}
+use Rattle.cluster_text.specs.Outside.{Streams}
 
 -- ---- serving over links that listen
 

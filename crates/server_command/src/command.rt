@@ -1,6 +1,5 @@
 ghost use Rattle.std.specs.Prelude.{◌≡◌, IfErr, OnOk};
-ghost use Rattle.osd_bytes.specs.Asking.{ends_of};
-ghost use Rattle.drive_command.specs.Ends.{streams};
+ghost use Rattle.cluster_text.specs.Outside.{network_at, streams_at};
 ghost use Rattle.server_command.specs.Ends.{EndsServer, ServesAs, ServesIn, StopsIn, StopsServer};
 
 use crate::drives::server_of;
@@ -24,12 +23,10 @@ fn serve_in<K: Sink, L: Links, C: Clock, P: Place>(
 ) -> Result<(), CommandStop>
     requires placer { P.is_placer placer.now }
     ensures serves { OnOk result (ServesIn connections cluster.now
-        (ends_of (L.told links.old) (L.faults links.old) (C.times clock.old))
-        (ends_of (L.told links.new) (L.faults links.new) (C.times clock.new))
+        (network_at L.Links C.Clock links.old clock.old) (network_at L.Links C.Clock links.new clock.new)
         (K.taken sink.old) (K.taken sink.new)) }
     ensures stops { IfErr result (StopsIn connections cluster.now
-        (ends_of (L.told links.old) (L.faults links.old) (C.times clock.old))
-        (ends_of (L.told links.new) (L.faults links.new) (C.times clock.new))
+        (network_at L.Links C.Clock links.old clock.old) (network_at L.Links C.Clock links.new clock.new)
         (K.taken sink.old) (K.taken sink.new) (K.faults sink.old) (K.faults sink.new)) }
 {
     match settle_at(alloc, links, cluster, cluster.server.as_slice()) {
@@ -69,15 +66,11 @@ fn serve_cluster<S: Source, K: Sink, L: Links, C: Clock, P: Place>(
 ) -> Result<(), CommandStop>
     requires placer { P.is_placer placer.now }
     ensures serves { OnOk result (ServesAs connections
-        (streams (S.left source.old) (S.faults source.old) (K.taken sink.old) (K.faults sink.old))
-        (streams (S.left source.new) (S.faults source.new) (K.taken sink.new) (K.faults sink.new))
-        (ends_of (L.told links.old) (L.faults links.old) (C.times clock.old))
-        (ends_of (L.told links.new) (L.faults links.new) (C.times clock.new))) }
+        (streams_at S.Source K.Sink source.old sink.old) (streams_at S.Source K.Sink source.new sink.new)
+        (network_at L.Links C.Clock links.old clock.old) (network_at L.Links C.Clock links.new clock.new)) }
     ensures stops { IfErr result (StopsServer connections
-        (streams (S.left source.old) (S.faults source.old) (K.taken sink.old) (K.faults sink.old))
-        (streams (S.left source.new) (S.faults source.new) (K.taken sink.new) (K.faults sink.new))
-        (ends_of (L.told links.old) (L.faults links.old) (C.times clock.old))
-        (ends_of (L.told links.new) (L.faults links.new) (C.times clock.new))) }
+        (streams_at S.Source K.Sink source.old sink.old) (streams_at S.Source K.Sink source.new sink.new)
+        (network_at L.Links C.Clock links.old clock.old) (network_at L.Links C.Clock links.new clock.new)) }
 {
     let cluster = match cluster_from(alloc, Reader::Server, source) {
         Ok(cluster) => cluster,
@@ -111,15 +104,11 @@ pub fn server_command<S: Source, K: Sink, L: Links, C: Clock, P: Place>(
 ) -> Result<(), CommandStop>
     requires placer { P.is_placer placer.now }
     ensures serves { OnOk result (ServesAs connections
-        (streams (S.left source.old) (S.faults source.old) (K.taken sink.old) (K.faults sink.old))
-        (streams (S.left source.new) (S.faults source.new) (K.taken sink.new) (K.faults sink.new))
-        (ends_of (L.told links.old) (L.faults links.old) (C.times clock.old))
-        (ends_of (L.told links.new) (L.faults links.new) (C.times clock.new))) }
+        (streams_at S.Source K.Sink source.old sink.old) (streams_at S.Source K.Sink source.new sink.new)
+        (network_at L.Links C.Clock links.old clock.old) (network_at L.Links C.Clock links.new clock.new)) }
     ensures stops { IfErr result (EndsServer connections
-        (streams (S.left source.old) (S.faults source.old) (K.taken sink.old) (K.faults sink.old))
-        (streams (S.left source.new) (S.faults source.new) (K.taken sink.new) (K.faults sink.new))
-        (ends_of (L.told links.old) (L.faults links.old) (C.times clock.old))
-        (ends_of (L.told links.new) (L.faults links.new) (C.times clock.new))) }
+        (streams_at S.Source K.Sink source.old sink.old) (streams_at S.Source K.Sink source.new sink.new)
+        (network_at L.Links C.Clock links.old clock.old) (network_at L.Links C.Clock links.new clock.new)) }
 {
     match serve_cluster(alloc, connections, source, sink, links, clock, placer) {
         Ok(()) => Ok(()),

@@ -1,6 +1,6 @@
 // The records of a connection, and one connection after the other.
 ghost use Rattle.std.specs.Prelude.{◌≡◌, [], IfOk, IsErrOf, OnOk};
-ghost use Rattle.osd_bytes.specs.Asking.{ends_of};
+ghost use Rattle.cluster_text.specs.Outside.{network_at};
 ghost use Rattle.osd_bytes.specs.declared.serve_err.ServeErr.TheVariants.{LinkFault};
 ghost use Rattle.server_command.specs.Work.{InTurn, ServesRecord, serving};
 ghost use Rattle.server_command.specs.Serving.{IsRefused, ServesAll, ServesConnection, ServesStream};
@@ -25,8 +25,8 @@ fn serve_record<L: Links, C: Clock, P: Place>(
 ) -> Result<bool, Memory>
     requires placer { P.is_placer placer.now }
     ensures { IfOk result (λ still. ServesRecord message.now
-        (serving core.old [] puts (ends_of (L.told links.old) (L.faults links.old) (C.times clock.old)))
-        (serving core.new [] still (ends_of (L.told links.new) (L.faults links.new) (C.times clock.new)))) }
+        (serving core.old [] puts (network_at L.Links C.Clock links.old clock.old))
+        (serving core.new [] still (network_at L.Links C.Clock links.new clock.new))) }
 {
     let sender = sender_of(alloc, message)?;
     let sends = handle(alloc, core, links, clock, placer, sender, message)?;
@@ -46,8 +46,8 @@ fn serve_records<L: Links, C: Clock, P: Place>(
 ) -> Result<bool, Memory>
     requires placer { P.is_placer placer.now }
     ensures { IfOk result (λ still. InTurn ServesRecord records.now
-        (serving core.old [] puts (ends_of (L.told links.old) (L.faults links.old) (C.times clock.old)))
-        (serving core.new [] still (ends_of (L.told links.new) (L.faults links.new) (C.times clock.new)))) }
+        (serving core.old [] puts (network_at L.Links C.Clock links.old clock.old))
+        (serving core.new [] still (network_at L.Links C.Clock links.new clock.new))) }
 {
     let mut stands = puts;
     for i in 0..records.len() {
@@ -75,8 +75,8 @@ fn serve_stream<L: Links, C: Clock, P: Place>(
 ) -> Result<(), Memory>
     requires placer { P.is_placer placer.now }
     ensures { OnOk result (ServesStream
-        (serving core.old [] puts (ends_of (L.told links.old) (L.faults links.old) (C.times clock.old))) core.new
-        (ends_of (L.told links.new) (L.faults links.new) (C.times clock.new))) }
+        (serving core.old [] puts (network_at L.Links C.Clock links.old clock.old)) core.new
+        (network_at L.Links C.Clock links.new clock.new)) }
 {
     let mut inbox = Inbox::new(alloc);
     let mut stands = puts;
@@ -100,8 +100,7 @@ fn serve_connection<L: Links, C: Clock, P: Place>(
 ) -> Result<(), Memory>
     requires placer { P.is_placer placer.now }
     ensures { OnOk result (ServesConnection core.old core.new
-        (ends_of (L.told links.old) (L.faults links.old) (C.times clock.old))
-        (ends_of (L.told links.new) (L.faults links.new) (C.times clock.new))) }
+        (network_at L.Links C.Clock links.old clock.old) (network_at L.Links C.Clock links.new clock.new)) }
 {
     let sends = core.resend()?;
     let stands = work_all(alloc, core, links, clock, placer, None, sends, true)?;
@@ -132,11 +131,9 @@ pub fn serve<L: Links, C: Clock, P: Place>(
 ) -> Result<(), ServeErr>
     requires placer { P.is_placer placer.now }
     ensures served { OnOk result (ServesAll connections core.old core.new
-        (ends_of (L.told links.old) (L.faults links.old) (C.times clock.old))
-        (ends_of (L.told links.new) (L.faults links.new) (C.times clock.new))) }
+        (network_at L.Links C.Clock links.old clock.old) (network_at L.Links C.Clock links.new clock.new)) }
     ensures refused { IsErrOf result LinkFault → IsRefused connections core.old core.new
-        (ends_of (L.told links.old) (L.faults links.old) (C.times clock.old))
-        (ends_of (L.told links.new) (L.faults links.new) (C.times clock.new)) }
+        (network_at L.Links C.Clock links.old clock.old) (network_at L.Links C.Clock links.new clock.new) }
 {
     let mut served = 0;
     while served < connections {

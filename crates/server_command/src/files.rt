@@ -1,6 +1,6 @@
 // The files of a cluster, made one after the other.
 ghost use Rattle.std.specs.Prelude.{[], true, IfErr, OnOk};
-ghost use Rattle.osd_bytes.specs.Asking.{ends_of};
+ghost use Rattle.cluster_text.specs.Outside.{network_at};
 ghost use Rattle.server_command.specs.Work.{serving};
 ghost use Rattle.server_command.specs.Making.{LosesFile, LosesFiles, MakesFile, MakesFiles, RefusesFile, RefusesFiles, StopsBy};
 
@@ -28,12 +28,12 @@ fn make_file<L: Links, C: Clock, P: Place>(
 ) -> Result<(), CommandStop>
     requires placer { P.is_placer placer.now }
     ensures makes { OnOk result (MakesFile file.now
-        (serving core.old [] true (ends_of (L.told links.old) (L.faults links.old) (C.times clock.old)))
-        (serving core.new [] true (ends_of (L.told links.new) (L.faults links.new) (C.times clock.new)))) }
+        (serving core.old [] true (network_at L.Links C.Clock links.old clock.old))
+        (serving core.new [] true (network_at L.Links C.Clock links.new clock.new))) }
     ensures stops { IfErr result (StopsBy
         (LosesFile file.now
-        (serving core.old [] true (ends_of (L.told links.old) (L.faults links.old) (C.times clock.old)))
-        core.new (ends_of (L.told links.new) (L.faults links.new) (C.times clock.new)))
+        (serving core.old [] true (network_at L.Links C.Clock links.old clock.old))
+        core.new (network_at L.Links C.Clock links.new clock.new))
         (RefusesFile file.now core.old)) }
 {
     let map = file.map;
@@ -75,14 +75,14 @@ pub fn make_files<L: Links, C: Clock, P: Place>(
 ) -> Result<(), CommandStop>
     requires placer { P.is_placer placer.now }
     ensures makes { OnOk result (MakesFiles files.now
-        (serving core.old [] true (ends_of (L.told links.old) (L.faults links.old) (C.times clock.old)))
-        (serving core.new [] true (ends_of (L.told links.new) (L.faults links.new) (C.times clock.new)))) }
+        (serving core.old [] true (network_at L.Links C.Clock links.old clock.old))
+        (serving core.new [] true (network_at L.Links C.Clock links.new clock.new))) }
     ensures stops { IfErr result (StopsBy
         (LosesFiles files.now
-        (serving core.old [] true (ends_of (L.told links.old) (L.faults links.old) (C.times clock.old)))
-        core.new (ends_of (L.told links.new) (L.faults links.new) (C.times clock.new)))
+        (serving core.old [] true (network_at L.Links C.Clock links.old clock.old))
+        core.new (network_at L.Links C.Clock links.new clock.new))
         (RefusesFiles files.now
-        (serving core.old [] true (ends_of (L.told links.old) (L.faults links.old) (C.times clock.old))))) }
+        (serving core.old [] true (network_at L.Links C.Clock links.old clock.old)))) }
 {
     for i in 0..files.len() {
         match make_file(alloc, core, links, clock, placer, &files[i]) {

@@ -1,7 +1,7 @@
 // A record of a node, handed to the server.
 ghost use Rattle.std.specs.Prelude.{◌≡◌, ◌++◌, Bool, List, IfOk, OnOk};
+ghost use Rattle.cluster_text.specs.Outside.{network_at};
 ghost use Rattle.osd_lists.specs.declared.node.Node.TheVariants.{Drive};
-ghost use Rattle.osd_bytes.specs.Asking.{ends_of};
 ghost use Rattle.server_requests.specs.declared.sending.Sent.{Sent};
 ghost use Rattle.server_command.specs.Work.{AsksDrive, Handles, sender_of, serving};
 
@@ -44,9 +44,9 @@ pub fn handle<L: Links, C: Clock, P: Place>(
 ) -> Result<Sends, Memory>
     requires placer { P.is_placer placer.now }
     ensures { IfOk result (λ sends. (waiting : List Sent) (stands : Bool) → Handles from message.now
-        (serving core.old waiting stands (ends_of (L.told links.old) (L.faults links.old) (C.times clock.old)))
+        (serving core.old waiting stands (network_at L.Links C.Clock links.old clock.old))
         (serving core.new (waiting ++ sends) stands
-        (ends_of (L.told links.new) (L.faults links.new) (C.times clock.new)))) }
+        (network_at L.Links C.Clock links.new clock.new))) }
 {
     let now = clock.now();
     let Step { sends, notes, .. } = core.on_message(now, from, message, placer)?;
@@ -79,8 +79,8 @@ pub fn hear_drive<L: Links, C: Clock, P: Place>(
 ) -> Result<(), Memory>
     requires placer { P.is_placer placer.now }
     ensures { OnOk result ((stands : Bool) → Handles (Drive drive) reply.now
-        (serving core.old waiting.old stands (ends_of (L.told links.old) (L.faults links.old) (C.times clock.old)))
-        (serving core.new waiting.new stands (ends_of (L.told links.new) (L.faults links.new) (C.times clock.new)))) }
+        (serving core.old waiting.old stands (network_at L.Links C.Clock links.old clock.old))
+        (serving core.new waiting.new stands (network_at L.Links C.Clock links.new clock.new))) }
 {
     let sends = handle(alloc, core, links, clock, placer, Node::Drive(drive), reply)?;
     push_all(alloc, waiting, sends.as_slice())?;
@@ -101,8 +101,8 @@ pub fn ask_drive<L: Links, C: Clock, P: Place>(
 ) -> Result<(), Memory>
     requires placer { P.is_placer placer.now }
     ensures { OnOk result ((stands : Bool) → AsksDrive drive message.now
-        (serving core.old waiting.old stands (ends_of (L.told links.old) (L.faults links.old) (C.times clock.old)))
-        (serving core.new waiting.new stands (ends_of (L.told links.new) (L.faults links.new) (C.times clock.new)))) }
+        (serving core.old waiting.old stands (network_at L.Links C.Clock links.old clock.old))
+        (serving core.new waiting.new stands (network_at L.Links C.Clock links.new clock.new))) }
 {
     match asked(alloc, links, Node::Drive(drive), message)? {
         Some(reply) => {

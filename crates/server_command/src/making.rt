@@ -1,6 +1,6 @@
 // The commands by which files are made, one after the other.
 ghost use Rattle.std.specs.Prelude.{[], true, IfErr, OnOk};
-ghost use Rattle.osd_bytes.specs.Asking.{ends_of};
+ghost use Rattle.cluster_text.specs.Outside.{network_at};
 ghost use Rattle.osd_lists.specs.declared.node.Node.TheVariants.{Drive};
 ghost use Rattle.server_command.specs.Work.{InTurn, UntilNone, serving};
 ghost use Rattle.server_command.specs.Making.{Loses, LosesAll, LosesIn, LosesTo, Makes, MakesTo, StopsBy};
@@ -29,11 +29,11 @@ fn make_on<L: Links, C: Clock, P: Place>(
 ) -> Result<(), CommandStop>
     requires placer { P.is_placer placer.now }
     ensures makes { OnOk result (MakesTo (Drive drive) message.now
-        (serving core.old waiting.old true (ends_of (L.told links.old) (L.faults links.old) (C.times clock.old)))
-        (serving core.new waiting.new true (ends_of (L.told links.new) (L.faults links.new) (C.times clock.new)))) }
+        (serving core.old waiting.old true (network_at L.Links C.Clock links.old clock.old))
+        (serving core.new waiting.new true (network_at L.Links C.Clock links.new clock.new))) }
     ensures stops { IfErr result (StopsBy (LosesTo (Drive drive) message.now
-        (serving core.old waiting.old true (ends_of (L.told links.old) (L.faults links.old) (C.times clock.old)))
-        (serving core.new waiting.new true (ends_of (L.told links.new) (L.faults links.new) (C.times clock.new)))) ⊥) }
+        (serving core.old waiting.old true (network_at L.Links C.Clock links.old clock.old))
+        (serving core.new waiting.new true (network_at L.Links C.Clock links.new clock.new))) ⊥) }
 {
     let Some(reply) = asked(alloc, links, Node::Drive(drive), message)? else {
         let line = silent_line(alloc, drive)?;
@@ -70,11 +70,11 @@ fn make_one<L: Links, C: Clock, P: Place>(
 ) -> Result<(), CommandStop>
     requires placer { P.is_placer placer.now }
     ensures makes { OnOk result (Makes sent.now
-        (serving core.old waiting.old true (ends_of (L.told links.old) (L.faults links.old) (C.times clock.old)))
-        (serving core.new waiting.new true (ends_of (L.told links.new) (L.faults links.new) (C.times clock.new)))) }
+        (serving core.old waiting.old true (network_at L.Links C.Clock links.old clock.old))
+        (serving core.new waiting.new true (network_at L.Links C.Clock links.new clock.new))) }
     ensures stops { IfErr result (StopsBy (Loses sent.now
-        (serving core.old waiting.old true (ends_of (L.told links.old) (L.faults links.old) (C.times clock.old)))
-        (serving core.new waiting.new true (ends_of (L.told links.new) (L.faults links.new) (C.times clock.new)))) ⊥) }
+        (serving core.old waiting.old true (network_at L.Links C.Clock links.old clock.old))
+        (serving core.new waiting.new true (network_at L.Links C.Clock links.new clock.new))) ⊥) }
 {
     match sent.to {
         Node::Drive(drive) => {
@@ -105,11 +105,11 @@ fn make_round<L: Links, C: Clock, P: Place>(
 ) -> Result<(), CommandStop>
     requires placer { P.is_placer placer.now }
     ensures makes { OnOk result (InTurn Makes round.now
-        (serving core.old waiting.old true (ends_of (L.told links.old) (L.faults links.old) (C.times clock.old)))
-        (serving core.new waiting.new true (ends_of (L.told links.new) (L.faults links.new) (C.times clock.new)))) }
+        (serving core.old waiting.old true (network_at L.Links C.Clock links.old clock.old))
+        (serving core.new waiting.new true (network_at L.Links C.Clock links.new clock.new))) }
     ensures stops { IfErr result (StopsBy (LosesIn round.now
-        (serving core.old waiting.old true (ends_of (L.told links.old) (L.faults links.old) (C.times clock.old)))
-        (serving core.new waiting.new true (ends_of (L.told links.new) (L.faults links.new) (C.times clock.new)))) ⊥) }
+        (serving core.old waiting.old true (network_at L.Links C.Clock links.old clock.old))
+        (serving core.new waiting.new true (network_at L.Links C.Clock links.new clock.new))) ⊥) }
 {
     for i in 0..round.len() {
         match make_one(alloc, core, links, clock, placer, round.get(i), waiting) {
@@ -136,11 +136,11 @@ pub fn make_all<L: Links, C: Clock, P: Place>(
 ) -> Result<(), CommandStop>
     requires placer { P.is_placer placer.now }
     ensures makes { OnOk result (UntilNone Makes
-        (serving core.old sends true (ends_of (L.told links.old) (L.faults links.old) (C.times clock.old)))
-        (serving core.new [] true (ends_of (L.told links.new) (L.faults links.new) (C.times clock.new)))) }
+        (serving core.old sends true (network_at L.Links C.Clock links.old clock.old))
+        (serving core.new [] true (network_at L.Links C.Clock links.new clock.new))) }
     ensures stops { IfErr result (StopsBy (LosesAll
-        (serving core.old sends true (ends_of (L.told links.old) (L.faults links.old) (C.times clock.old)))
-        core.new (ends_of (L.told links.new) (L.faults links.new) (C.times clock.new))) ⊥) }
+        (serving core.old sends true (network_at L.Links C.Clock links.old clock.old))
+        core.new (network_at L.Links C.Clock links.new clock.new)) ⊥) }
 {
     let mut waiting = sends;
     // Each round that brings commands raises the server's nonce, so a drive that answers for ever is left at last.

@@ -1,5 +1,6 @@
 // The messages that a server has to send, one after the other.
 ghost use Rattle.std.specs.Prelude.{◌≡◌, [], ℕ, List, Option, IfOk};
+ghost use Rattle.cluster_text.specs.Outside.{network_at};
 ghost use Rattle.osd_bytes.specs.Asking.{ends_of};
 ghost use Rattle.server_rules.specs.declared.server.Server.{Server};
 ghost use Rattle.server_requests.specs.declared.sending.Sent.{Sent};
@@ -58,8 +59,8 @@ fn work<L: Links, C: Clock, P: Place>(
 ) -> Result<bool, Memory>
     requires placer { P.is_placer placer.now }
     ensures { IfOk result (λ still. Works sender sent.now
-        (serving core.old waiting.old stands (ends_of (L.told links.old) (L.faults links.old) (C.times clock.old)))
-        (serving core.new waiting.new still (ends_of (L.told links.new) (L.faults links.new) (C.times clock.new)))) }
+        (serving core.old waiting.old stands (network_at L.Links C.Clock links.old clock.old))
+        (serving core.new waiting.new still (network_at L.Links C.Clock links.new clock.new))) }
 {
     let message = sent.bytes.as_slice();
     match sent.to {
@@ -94,8 +95,8 @@ fn work_round<L: Links, C: Clock, P: Place>(
 ) -> Result<bool, Memory>
     requires placer { P.is_placer placer.now }
     ensures { IfOk result (λ still. InTurn (Works sender) round.now
-        (serving core.old waiting.old puts (ends_of (L.told links.old) (L.faults links.old) (C.times clock.old)))
-        (serving core.new waiting.new still (ends_of (L.told links.new) (L.faults links.new) (C.times clock.new)))) }
+        (serving core.old waiting.old puts (network_at L.Links C.Clock links.old clock.old))
+        (serving core.new waiting.new still (network_at L.Links C.Clock links.new clock.new))) }
 {
     let mut stands = puts;
     for i in 0..round.len() {
@@ -128,8 +129,8 @@ pub fn work_all<L: Links, C: Clock, P: Place>(
 ) -> Result<bool, Memory>
     requires placer { P.is_placer placer.now }
     ensures { IfOk result (λ still. WorksAll sender
-        (serving core.old sends puts (ends_of (L.told links.old) (L.faults links.old) (C.times clock.old)))
-        (serving core.new [] still (ends_of (L.told links.new) (L.faults links.new) (C.times clock.new)))) }
+        (serving core.old sends puts (network_at L.Links C.Clock links.old clock.old))
+        (serving core.new [] still (network_at L.Links C.Clock links.new clock.new))) }
 {
     let mut waiting = sends;
     let mut stands = puts;

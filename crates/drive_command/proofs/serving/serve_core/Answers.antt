@@ -4,7 +4,7 @@ use Rattle.std.specs.Prelude.{take}
 use Rattle.osd_bytes.specs.Causes.{Rose}
 use Rattle.osd_bytes.specs.Put.{written_of}
 use Rattle.osd_bytes.proofs.Known.{Appends-then}
-use Rattle.drive_command.specs.Ends.{listening_line, served_line}
+use Rattle.cluster_text.specs.Lines.{listening_line, served_line}
 use Rattle.drive_command.proofs.Telling.{second_part}
 use Rattle.drive_command.proofs.serving.serve_core.Goals as goal
 
