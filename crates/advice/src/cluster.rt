@@ -108,13 +108,7 @@ fn mistyped(alloc: Global, text: &str, spot: Spot<'_>) -> Result<Option<String>,
             let is = shown(alloc, value)?;
             let is = is.as_str();
             let wrong = format!(in alloc; "{wanted} is wanted, and {is}")?;
-            return Ok(Some(finding(
-                alloc,
-                text,
-                spot,
-                key.name,
-                wrong.as_str(),
-            )?));
+            return Ok(Some(finding(alloc, text, spot, key.name, wrong.as_str())?));
         }
     }
     Ok(None)

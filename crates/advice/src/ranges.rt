@@ -122,13 +122,7 @@ pub(crate) fn out_of_range(
             },
             None => format!(in alloc; "{wanted} is wanted")?,
         };
-        return Ok(Some(finding(
-            alloc,
-            text,
-            spot,
-            key.name,
-            wrong.as_str(),
-        )?));
+        return Ok(Some(finding(alloc, text, spot, key.name, wrong.as_str())?));
     }
     if spot.section == Section::File {
         return wrong_map(alloc, text, spot, drives);

@@ -11,8 +11,8 @@ use Rattle.cluster_text.specs.declared.stop.CommandStop.TheVariants.{BadCluster,
 use Rattle.cluster_text.specs.declared.stop.CommandStop.TheVariants.{Full, LinkFault}
 use Rattle.command_words.specs.declared.words.ClientWords.{ClientWords}
 use Rattle.cluster_text.specs.Outside.{Streams}
-use Rattle.client_command.specs.declared.ending.ClientEnd.{ClientEnd}
-use Rattle.client_command.specs.declared.ending.Report.{Report}
+use Rattle.client_command.specs.declared.work_ends.ClientEnd.{ClientEnd}
+use Rattle.client_command.specs.declared.work_ends.Report.{Report}
 use Rattle.client_command.specs.Reports.{OnLinks, Reports}
 
 -- ---- a report that is told

@@ -14,19 +14,19 @@ use Rattle.client_rules.specs.declared.client.Client.{Client}
 use Rattle.client_rules.specs.declared.outcomes.CallErr.{CallErr}
 use Rattle.client_rules.specs.Steps.{calls, new_client}
 use Rattle.client_command.specs.declared.notices.Notice.{Notice}
-use Rattle.client_command.specs.Dealing.{Dealing, dealing}
+use Rattle.client_command.specs.Exchanges.{Dealing, dealing}
 use Rattle.command_words.specs.declared.work.ClientWork.{ClientWork}
 use Rattle.command_words.specs.declared.work.ClientWork.TheVariants as work
 use Rattle.command_words.specs.declared.work.Order.{Order}
-use Rattle.client_command.specs.declared.ending.ClientEnd.{ClientEnd}
-use Rattle.client_command.specs.declared.ending.ClientEnd.TheVariants.{Refused}
-use Rattle.client_command.specs.declared.ending.Refusal.TheVariants.{Call}
-use Rattle.client_command.specs.declared.ending.Report.{Report}
-use Rattle.client_command.specs.Endings.{end_of, end_by_result}
-use Rattle.client_command.specs.Telling.{call_lines, next_line, order_line, refusal_lines}
-use Rattle.client_command.specs.declared.calling.CallStop.TheVariants.{Lost}
-use Rattle.client_command.specs.Calling.{Calls, StopsCall}
-use Rattle.client_command.specs.Ordering.{Answers, sent_order}
+use Rattle.client_command.specs.declared.work_ends.ClientEnd.{ClientEnd}
+use Rattle.client_command.specs.declared.work_ends.ClientEnd.TheVariants.{Refused}
+use Rattle.client_command.specs.declared.work_ends.Refusal.TheVariants.{Call}
+use Rattle.client_command.specs.declared.work_ends.Report.{Report}
+use Rattle.client_command.specs.WorkEnds.{end_of, end_by_result}
+use Rattle.client_command.specs.Lines.{call_lines, next_line, order_line, refusal_lines}
+use Rattle.client_command.specs.declared.calls.CallStop.TheVariants.{Lost}
+use Rattle.client_command.specs.Calls.{Calls, StopsCall}
+use Rattle.client_command.specs.Orders.{Answers, sent_order}
 
 -- what is known of the links: what came and went, and the counts of the calls that failed
 pub record OnLinks : Type 0 where

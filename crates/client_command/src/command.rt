@@ -4,8 +4,8 @@ ghost use Rattle.cluster_text.specs.Outside.{streams_at};
 ghost use Rattle.client_command.specs.Reports.{links_at};
 ghost use Rattle.client_command.specs.Ends.{EndsClient, StopsClient, StopsTelling, StopsWork, Tells, ToldAll, WorksAs};
 
-use crate::ending::{ClientEnd, Report};
-use crate::reporting::report;
+use crate::reports::report;
+use crate::work_ends::{ClientEnd, Report};
 use cluster_text::{Cluster, CommandStop, Reader, cluster_from, put_stop, settle_at};
 use command_words::ClientWords;
 use osd_bytes::{Links, Sink, Source, put_all};

@@ -2,7 +2,7 @@
 ghost use Rattle.std.specs.Prelude.{◌≡◌, Option, OnOk};
 ghost use Rattle.osd_bytes.specs.Connections.{Traffic};
 ghost use Rattle.osd_bytes.specs.Counts.{Faults};
-ghost use Rattle.client_command.specs.Dealing.{AsksDrive, dealing, dealing_at, heard, late, timed_out};
+ghost use Rattle.client_command.specs.Exchanges.{AsksDrive, dealing, dealing_at, heard, late, timed_out};
 
 use crate::notices::{Notice, Notices, take_step};
 use osd_bytes::{Links, asked};
@@ -17,7 +17,7 @@ pub const NONCE_AT: usize = 40;
 const NONCE_END: usize = 48;
 
 /// Gives the client the record that came from a node, where one did.
-pub(crate) fn hear(
+pub(crate) fn hear_reply(
     alloc: Global,
     core: &mut ClientCore,
     from: Node,
@@ -39,7 +39,7 @@ pub(crate) fn hear(
 }
 
 // The component of the command, where its reply is awaited.
-fn late(core: &ClientCore, command: &[u8]) -> Option<u32>
+fn late_component(core: &ClientCore, command: &[u8]) -> Option<u32>
     ensures { result ≡ late core.now command.now }
 {
     if command.len() < NONCE_END {
@@ -90,8 +90,8 @@ pub(crate) fn exchange_with_drive<L: Links>(
         (dealing_at L.Links links.new core.new waiting.new notices.new)) }
 {
     let came = asked(alloc, links, Node::Drive(drive), command)?;
-    hear(alloc, core, Node::Drive(drive), came, waiting, notices)?;
-    let component = late(core, command);
+    hear_reply(alloc, core, Node::Drive(drive), came, waiting, notices)?;
+    let component = late_component(core, command);
     time_out(alloc, core, component, waiting, notices)?;
     Ok(())
 }

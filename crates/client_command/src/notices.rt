@@ -1,6 +1,6 @@
 // What a step of the client sends and tells.
 ghost use Rattle.std.specs.Prelude.{◌≡◌, ◌++◌, OnOk};
-ghost use Rattle.client_command.specs.Dealing.{ended};
+ghost use Rattle.client_command.specs.Exchanges.{ended};
 
 use client_rules::Outcome;
 use osd_lists::{Bytes, Memory, Sequence};

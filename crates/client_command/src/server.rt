@@ -1,11 +1,11 @@
 // An exchange with the server.
 ghost use Rattle.std.specs.Prelude.{◌≡◌, ◌↔◌, IfOk, IsTrue, IsErrOf, OnOk};
-ghost use Rattle.client_command.specs.declared.dealing.DealErr.TheVariants.{LinkFault};
-ghost use Rattle.client_command.specs.Dealing.{AsksServer, AwaitsStill, IsRequest, LosesServer, dealing_at};
+ghost use Rattle.client_command.specs.declared.exchanges.DealErr.TheVariants.{LinkFault};
+ghost use Rattle.client_command.specs.Exchanges.{AsksServer, AwaitsStill, IsRequest, LosesServer, dealing_at};
 
-use crate::answering::is_answer_to;
-use crate::dealing::DealErr;
-use crate::drive::hear;
+use crate::answers::is_answer_to;
+use crate::drive::hear_reply;
+use crate::exchanges::DealErr;
 use crate::notices::Notices;
 use osd_bytes::{Links, asked};
 use osd_lists::{Memory, Node};
@@ -61,7 +61,7 @@ pub(crate) fn exchange_with_server<L: Links>(
             if !is_answer_to(alloc, message, record.as_slice())? {
                 return Err(DealErr::LinkFault);
             }
-            hear(alloc, core, Node::Server, Some(record), waiting, notices)?;
+            hear_reply(alloc, core, Node::Server, Some(record), waiting, notices)?;
             if awaits_still(core, message)? {
                 return Err(DealErr::LinkFault);
             }

@@ -2,7 +2,7 @@ ghost use Rattle.std.specs.Prelude.{◌≡◌, IfErr, IfOk, OnOk};
 ghost use Rattle.cluster_text.specs.Inputs.{GivesCluster, StopsCluster};
 
 use crate::cluster::{Cluster, Reader};
-use crate::reading::read_cluster;
+use crate::cluster_document::read_cluster;
 use crate::stop::CommandStop;
 use crate::whole::read_whole;
 use osd_bytes::Source;

@@ -4,7 +4,7 @@ ghost use Rattle.cluster_text.specs.Outside.{streams_at};
 ghost use Rattle.drive_command.specs.Ends.{EndsDrive, ServesAs, ServesIn, StopsDrive, StopsIn};
 
 use crate::own::{new_core, own_drive};
-use crate::serving::serve_core;
+use crate::service::serve_core;
 use cluster_text::{Cluster, ClusterKind, CommandStop, Reader, cluster_from, put_stop, settle_at};
 use osd_bytes::{Clock, Links, Sink, Source};
 use std::alloc::Global;

@@ -4,7 +4,7 @@ use Rattle.std.proofs.lemmas.Bool.Decides.{nat_tests}
 use Rattle.std.specs.Prelude.{nat_eq}
 use Rattle.server_rules.specs.declared.server.Drive.{Drive}
 use Rattle.layout_server.specs.Adding.{IsNew}
-use Rattle.server_command.specs.Knowing.{has_number}
+use Rattle.server_command.specs.Drives.{has_number}
 
 neither : (a b : Bool) → (a || b) ≡ false → (a ≡ false) × (b ≡ false)
 neither false false h = (refl, refl)

@@ -4,7 +4,7 @@ ghost use Rattle.server_command.specs.Ends.{EndsServer, ServesAs, ServesIn, Stop
 
 use crate::drives::server_of;
 use crate::files::make_files;
-use crate::serving::serve_core;
+use crate::service::serve_core;
 use cluster_text::{Cluster, CommandStop, Reader, cluster_from, put_stop, settle_at};
 use osd_bytes::{Clock, Links, Sink, Source};
 use osd_lists::Memory;

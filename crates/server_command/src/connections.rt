@@ -2,11 +2,11 @@
 ghost use Rattle.std.specs.Prelude.{◌≡◌, [], IfOk, IsErrOf, OnOk};
 ghost use Rattle.cluster_text.specs.Outside.{network_at};
 ghost use Rattle.osd_bytes.specs.declared.serve_err.ServeErr.TheVariants.{LinkFault};
-ghost use Rattle.server_command.specs.Work.{InTurn, ServesRecord, serving};
-ghost use Rattle.server_command.specs.Serving.{IsRefused, ServesAll, ServesConnection, ServesStream};
+ghost use Rattle.server_command.specs.Messages.{InTurn, ServesRecord, serving};
+ghost use Rattle.server_command.specs.Connections.{IsRefused, ServesAll, ServesConnection, ServesStream};
 
-use crate::handling::{handle, sender_of};
-use crate::working::work_all;
+use crate::messages::work_all;
+use crate::records::{handle, sender_of};
 use layout_server::ServerCore;
 use osd_bytes::{Clock, Inbox, Links, ServeErr};
 use osd_lists::{ByteLists, Memory};

@@ -1,6 +1,6 @@
 // The drives of a cluster, as its server knows them.
 ghost use Rattle.std.specs.Prelude.{◌≡◌, Ok, IfErr, IfOk, OnOk};
-ghost use Rattle.server_command.specs.Knowing.{StopsKnowing, has_number, server_in, with_drive, with_drives};
+ghost use Rattle.server_command.specs.Drives.{StopsKnowing, has_number, server_in, with_drive, with_drives};
 
 use cluster_text::{Cluster, ClusterDrive, ClusterKind, CommandStop};
 use layout_server::{DriveInfo, DriveTable, ServerCore};

@@ -1,11 +1,11 @@
 // The files of a cluster, made one after the other.
 ghost use Rattle.std.specs.Prelude.{[], true, IfErr, OnOk};
 ghost use Rattle.cluster_text.specs.Outside.{network_at};
-ghost use Rattle.server_command.specs.Work.{serving};
-ghost use Rattle.server_command.specs.Making.{LosesFile, LosesFiles, MakesFile, MakesFiles, RefusesFile, RefusesFiles, StopsBy};
+ghost use Rattle.server_command.specs.Messages.{serving};
+ghost use Rattle.server_command.specs.Files.{LosesFile, LosesFiles, MakesFile, MakesFiles, RefusesFile, RefusesFiles, StopsBy};
 
-use crate::making::make_all;
-use crate::telling::tell_notes;
+use crate::creates::make_all;
+use crate::notes::tell_notes;
 use cluster_text::{ClusterFile, ClusterKind, CommandStop};
 use data_map::{RAID_0, RAID_PQ};
 use layout_server::{FileErr, ServerCore, Step};
