@@ -44,7 +44,7 @@ fn stop_of(e: DealErr) -> CallStop
     }
 }
 
-// The call begins.
+// Begins the call.
 fn begin(core: &mut ClientCore, op: CallOp) -> Result<CStep, CallStop>
     ensures begins { IfOk result (Begins op core.old core.new) }
     ensures stops { IfErr result (StopsBegin op core.old core.new) }
@@ -56,7 +56,7 @@ fn begin(core: &mut ClientCore, op: CallOp) -> Result<CStep, CallStop>
     }
 }
 
-// Tells how a call ended, where it did.
+// Adds how a call ended, if it did.
 fn tell_end(notices: &mut Notices, outcome: Option<Outcome>) -> Result<(), Memory>
     ensures { OnOk result (notices.new ≡ notices.old ++ ended outcome) }
 {
@@ -81,6 +81,7 @@ fn deal_call<L: Links>(
         (dealing_at L.Links links.old core.old [] notices.old)
         core.new notices.new (L.told links.new) (L.faults links.new)) }
 {
+    // Here and below, arms in place of `?` or of the bare call are for the prover (docs/PROVER_FORMS.md).
     let CStep { sends, outcome } = match begin(core, op) {
         Ok(step) => step,
         Err(stop) => return Err(stop),

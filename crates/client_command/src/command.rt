@@ -45,6 +45,7 @@ fn work_in<K: Sink, L: Links>(
         (links_at L.Links links.old) (links_at L.Links links.new)
         (K.taken sink.old) (K.taken sink.new) (K.faults sink.old) (K.faults sink.new)) }
 {
+    // Here and below, arms in place of `?` or of the bare call are for the prover (docs/PROVER_FORMS.md).
     match settle_at(alloc, links, cluster, &[]) {
         Ok(()) => {}
         Err(stop) => return Err(stop),
@@ -56,7 +57,7 @@ fn work_in<K: Sink, L: Links>(
     }
 }
 
-// The command without the line that tells why it stopped.
+// Works as a client of the cluster that the source describes. A stop isn't told here.
 fn work<S: Source, K: Sink, L: Links>(
     alloc: Global,
     words: ClientWords,
@@ -90,9 +91,9 @@ fn work<S: Source, K: Sink, L: Links>(
 ///
 /// # Errors
 ///
-/// [`CommandStop::BadCluster`] exactly where the text is refused; [`CommandStop::ReadFault`];
-/// [`CommandStop::Full`] exactly where the text passes 67,108,864 bytes; [`CommandStop::LinkFault`] where the links
-/// couldn't be settled, and exactly where an exchange with the server gave no record or one that isn't the awaited
+/// [`CommandStop::BadCluster`] exactly if the text is refused; [`CommandStop::ReadFault`];
+/// [`CommandStop::Full`] exactly if the text passes 67,108,864 bytes; [`CommandStop::LinkFault`] if the links
+/// couldn't be settled, and exactly if an exchange with the server gave no record or one that isn't the awaited
 /// answer; [`CommandStop::WriteFault`]; [`CommandStop::Memory`].
 pub fn client_command<S: Source, K: Sink, L: Links>(
     alloc: Global,

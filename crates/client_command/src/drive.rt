@@ -13,10 +13,10 @@ use stripe_client::{ClientCore, Sends};
 /// Where the nonce of a command stands.
 pub const NONCE_AT: usize = 40;
 
-// Where it ends.
+// Where the nonce of a command ends.
 const NONCE_END: usize = 48;
 
-/// Gives the client the record that came from a node, where one did.
+/// Gives the client the record that came from a node, if one did.
 pub(crate) fn hear_reply(
     alloc: Global,
     core: &mut ClientCore,
@@ -38,7 +38,7 @@ pub(crate) fn hear_reply(
     }
 }
 
-// The component of the command, where its reply is awaited.
+// The component whose reply to this command is still awaited.
 fn late_component(core: &ClientCore, command: &[u8]) -> Option<u32>
     ensures { result ≡ late core.now command.now }
 {
@@ -48,7 +48,7 @@ fn late_component(core: &ClientCore, command: &[u8]) -> Option<u32>
     core.awaited(u64_at(command, NONCE_AT))
 }
 
-// The component times out, where there is one.
+// Lets this component time out, if there is one.
 fn time_out(
     alloc: Global,
     core: &mut ClientCore,

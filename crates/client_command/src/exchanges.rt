@@ -59,6 +59,7 @@ fn work<L: Links>(
             }
         }
         Node::Server => {
+            // Here and below, arms in place of `?` or of the bare call are for the prover (docs/PROVER_FORMS.md).
             match exchange_with_server(alloc, core, links, message, waiting, notices) {
                 Ok(()) => Ok(()),
                 Err(e) => Err(e),
@@ -68,7 +69,7 @@ fn work<L: Links>(
     }
 }
 
-// Sends these messages in order. What they bring waits then.
+// Sends these messages in order. What they bring waits after that.
 fn work_round<L: Links>(
     alloc: Global,
     core: &mut ClientCore,
@@ -98,7 +99,7 @@ fn work_round<L: Links>(
 ///
 /// # Errors
 ///
-/// [`DealErr::LinkFault`] exactly where an exchange with the server gave no record, or one that isn't the awaited
+/// [`DealErr::LinkFault`] exactly if an exchange with the server gave no record, or one that isn't the awaited
 /// answer; nothing is sent then. Want of memory; and, in place of it, that 18,446,744,073,709,551,615 rounds of
 /// messages don't end.
 pub fn deal<L: Links>(

@@ -11,7 +11,7 @@ use std::alloc::Global;
 use stripe_client::{CallErr, Outcome};
 use world_network::{Lines, told_outcome, told_refusal};
 
-// Adds the line of an end, where a line can tell it.
+// Adds the line of an end, if a line can tell it.
 fn push_end(
     alloc: Global,
     lines: &mut Lines,

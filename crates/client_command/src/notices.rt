@@ -19,7 +19,7 @@ pub enum Notice {
 /// What is told of a call, in order.
 pub type Notices = Sequence<Notice>;
 
-// Adds messages behind those that wait.
+// Adds these messages after those that wait.
 fn push_all(alloc: Global, waiting: &mut Sends, more: &[Sent]) -> Result<(), Memory>
     ensures { OnOk result (waiting.new ≡ waiting.old ++ more.now) }
 {

@@ -45,7 +45,7 @@ fn sent_order(order: Order) -> SentOrder
     }
 }
 
-// What the bytes of a record answer to an order of a kind, `None` where they aren't its answer.
+// What the bytes of a record answer to an order of this kind, `None` if they aren't its answer.
 fn answer_in(alloc: Global, order: OrderKind, bytes: &[u8]) -> Result<Option<OrderResult>, Memory>
     ensures { IfOk result (λ answer. answer ≡ answer_read order (envelope_of bytes.now)) }
 {
@@ -59,7 +59,7 @@ fn answer_in(alloc: Global, order: OrderKind, bytes: &[u8]) -> Result<Option<Ord
     }
 }
 
-// Hands the server an order, and gives what it answers, `None` where its answer doesn't come.
+// Hands the server an order, and gives what the server answers, `None` if its answer doesn't come.
 fn answer_of<L: Links>(
     alloc: Global,
     order: SentOrder,
@@ -74,7 +74,7 @@ fn answer_of<L: Links>(
     }
 }
 
-// The order was answered so. No request of the client was used up.
+// The report of an order that was answered so. The order used up no request of the client.
 fn report_answer(alloc: Global, sequence: u32, answer: OrderResult) -> Result<Report, Memory>
     ensures { IfOk result (IsReport (order_line (order_result_number answer) ++ next_line sequence)
         (Some (end_by_result answer))) }

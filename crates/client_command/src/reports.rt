@@ -46,7 +46,7 @@ fn op_of(call: Call) -> CallOp
     }
 }
 
-// The call was carried out.
+// The report of a call that was carried out.
 fn report_end(
     alloc: Global,
     client: ClientName,
@@ -69,7 +69,7 @@ fn report_end(
     })
 }
 
-// The call isn't taken.
+// The report of a call that the client doesn't take.
 fn report_refusal(
     alloc: Global,
     client: ClientName,
@@ -87,7 +87,7 @@ fn report_refusal(
     })
 }
 
-// The server's answer didn't come.
+// The report of a call during which the server's answer didn't come.
 fn report_loss(
     alloc: Global,
     client: ClientName,
@@ -102,7 +102,7 @@ fn report_loss(
     })
 }
 
-// Carries out a call.
+// Carries out a call, and reports it.
 fn report_call<L: Links>(
     alloc: Global,
     client: ClientName,
@@ -125,7 +125,7 @@ fn report_call<L: Links>(
     }
 }
 
-/// Does the work of a client.
+/// Does the work of a client, and reports it.
 pub(crate) fn report<L: Links>(
     alloc: Global,
     words: ClientWords,

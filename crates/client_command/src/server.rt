@@ -12,7 +12,7 @@ use osd_lists::{Memory, Node};
 use std::alloc::Global;
 use stripe_client::{ClientCore, Sends, Sent};
 
-// Whether a message is this one to the server.
+// Whether what is sent is this message to the server.
 fn is_request(sent: &Sent, message: &[u8]) -> bool
     ensures { IsTrue result ↔ IsRequest sent.now message.now }
 {
@@ -33,13 +33,13 @@ fn awaits_still(core: &ClientCore, message: &[u8]) -> Result<bool, Memory>
     Ok(is_request(sends.get(0), message))
 }
 
-/// Sends a message to the server, and gives the client the record that comes, where that answers the message. A server
-/// answers the last sequence number of a client with the answer that it kept, whatever is asked under it now: that is
-/// heard only where file and operation are the request's too.
+/// Sends a message to the server, and gives the client the record that comes, if that answers the message. A server
+/// answers the last sequence number of a client with the answer that it kept, whatever is asked under that number now.
+/// So the client hears an answer only if its file and its operation are the request's too.
 ///
 /// # Errors
 ///
-/// [`DealErr::LinkFault`] exactly where no record came, one that doesn't answer the message, which the client then
+/// [`DealErr::LinkFault`] exactly if no record came, one that doesn't answer the message, which the client then
 /// hasn't heard, or an answer that the client doesn't take: it is awaited still. Want of memory.
 pub(crate) fn exchange_with_server<L: Links>(
     alloc: Global,

@@ -13,7 +13,7 @@ use stripe_client::{CallErr, Outcome};
 pub enum Refusal {
     /// The client doesn't take the call.
     Call(CallErr),
-    /// The call ended so, which isn't well.
+    /// The call ended so, and neither wrote nor read.
     Ended(Outcome),
     /// The server answers the order with this number, which isn't 0.
     Order(u32),
@@ -32,11 +32,11 @@ pub enum ClientEnd {
 #[derive(Drop)]
 pub(crate) struct Report {
     pub text: Bytes,
-    /// `None` where the server's answer didn't come.
+    /// `None` if the server's answer didn't come.
     pub end: Option<ClientEnd>,
 }
 
-/// The same outcome once more.
+/// A copy of an outcome.
 pub(crate) fn copy_of(alloc: Global, outcome: &Outcome) -> Result<Outcome, Memory>
     ensures { IfOk result (λ copy. copy ≡ outcome.now) }
 {
@@ -87,7 +87,7 @@ fn end_by_outcome(alloc: Global, outcome: &Outcome) -> Result<ClientEnd, Memory>
     }
 }
 
-/// How the call ended that these notices tell of, `None` exactly where they tell of no end.
+/// How the call ended that these notices tell of, `None` exactly if they tell of no end.
 pub(crate) fn end_of(alloc: Global, notices: &[Notice]) -> Result<Option<ClientEnd>, Memory>
     ensures { IfOk result (λ end. end ≡ end_of notices.now) }
 {
@@ -99,7 +99,7 @@ pub(crate) fn end_of(alloc: Global, notices: &[Notice]) -> Result<Option<ClientE
     Ok(None)
 }
 
-/// How an order ended that the server answers so.
+/// How an order ended that the server answered so.
 pub(crate) fn end_by_result(answer: OrderResult) -> ClientEnd
     ensures { result ≡ end_by_result answer }
 {

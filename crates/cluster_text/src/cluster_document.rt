@@ -1,4 +1,4 @@
-// The whole text.
+// A cluster text as a whole.
 ghost use Rattle.std.specs.Prelude.{◌≡◌, ◌⊎◌, ◌++◌, Err, None, Some, if◌then◌else◌, map, nat_eq, option_map, IfErr, IfOk};
 ghost use Rattle.std.specs.List.{list_any};
 ghost use Rattle.toml.specs.View.{table_view};
@@ -32,7 +32,7 @@ fn document(alloc: Global, text: &[u8]) -> Result<Table, ClusterErr>
     }
 }
 
-// The drives of these tables come behind those that are there, where all their values are in their ranges.
+// Adds the drives of these tables, if all their values are in their ranges.
 fn add_drives(
     alloc: Global,
     tables: &[&Table],
@@ -50,7 +50,7 @@ fn add_drives(
     Ok(true)
 }
 
-// The drives of these tables, where all their values are in their ranges.
+// The drives of these tables, if all their values are in their ranges.
 fn drives_in(alloc: Global, tables: &[&Table]) -> Result<Option<Sequence<ClusterDrive>>, Memory>
     ensures { IfOk result (λ drives. drives ≡ all_in (λ t. drive_in (table_view t.now)) tables.now) }
 {
@@ -62,7 +62,7 @@ fn drives_in(alloc: Global, tables: &[&Table]) -> Result<Option<Sequence<Cluster
     }
 }
 
-// The files of these tables come behind those that are there, where all their values are in their ranges.
+// Adds the files of these tables, if all their values are in their ranges.
 fn add_files(
     tables: &[&Table],
     drives: u64,
@@ -80,7 +80,7 @@ fn add_files(
     Ok(true)
 }
 
-// The files of these tables, where all their values are in their ranges.
+// The files of these tables, if all their values are in their ranges.
 fn files_in(
     alloc: Global,
     tables: &[&Table],
@@ -96,7 +96,7 @@ fn files_in(
     }
 }
 
-// The cluster, where all values are in their ranges.
+// The cluster, if all values are in their ranges.
 #[tactic(auto, unfolding(crate::specs::Document::cluster_in))]
 fn cluster_in(
     alloc: Global,
@@ -205,7 +205,7 @@ fn judge(alloc: Global, reader: Reader, top: &Table) -> Result<Cluster, ClusterE
 /// # Errors
 ///
 /// [`ClusterErr::Refused`] with the first kind of [`ClusterKind`] that applies anywhere in the text, and
-/// only where one does; [`ClusterErr::Memory`].
+/// only if one does; [`ClusterErr::Memory`].
 pub fn read_cluster(alloc: Global, reader: Reader, text: &[u8]) -> Result<Cluster, ClusterErr>
     ensures { (result ≡ Err NoMemory) ⊎ (result ≡ cluster_of reader text.now) }
 {

@@ -12,7 +12,7 @@ use std::alloc::Global;
 ///
 /// # Errors
 ///
-/// [`CommandStop::BadCluster`] exactly where the text is refused, with its kind; those of [`read_whole`].
+/// [`CommandStop::BadCluster`] exactly if the text is refused, with its kind; those of [`read_whole`].
 pub fn cluster_from<S: Source>(
     alloc: Global,
     reader: Reader,

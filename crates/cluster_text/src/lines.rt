@@ -23,7 +23,7 @@ impl CommandStop {
         }
     }
 
-    /// The line that tells it, with its newline; nothing where the sink failed. A cluster text has no lines that
+    /// The line that tells of the stop, with its newline; nothing if the sink failed. A cluster text has no lines that
     /// are counted, so 0 stands in the place of a line's number.
     pub fn line(self) -> &'static [u8]
         ensures { result.now ≡ stop_line self }

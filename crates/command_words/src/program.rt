@@ -38,60 +38,85 @@ fn placed<'a>(alloc: Global, id: &'a str, most: u64) -> Arg<'a> {
         .value_parser(ValueParser::unsigned(0, most))
 }
 
-fn replay<'a>(alloc: Global) -> Command<'a> {
-    Command::new(alloc, "replay").override_usage("pnfs_osd replay < SCENARIO")
-}
-
 fn generate<'a>(alloc: Global) -> Result<Command<'a>, AllocError> {
     Command::new(alloc, "generate")
-        .override_usage("pnfs_osd generate N K")
         .arg(placed(alloc, "N", MAX_U64))?
         .arg(placed(alloc, "K", MAX_CALLS))
 }
 
 // `show` or `check`
-fn inspection<'a>(alloc: Global, name: &'a str, usage: &'a str) -> Result<Command<'a>, AllocError> {
+fn inspection<'a>(alloc: Global, name: &'a str) -> Result<Command<'a>, AllocError> {
     let kind = Arg::new(alloc, "KIND")
         .required(true)
         .action(ArgAction::Set)
         .value_parser(KINDS);
-    Command::new(alloc, name).override_usage(usage).arg(kind)
+    Command::new(alloc, name).arg(kind)
 }
 
 fn drive<'a>(alloc: Global) -> Result<Command<'a>, AllocError> {
     Command::new(alloc, "drive")
-        .override_usage("pnfs_osd drive --number N --connections K < CLUSTER")
         .arg(number(alloc, "number", "N", 0, u64::from(MAX_DRIVE)))?
         .arg(number(alloc, "connections", "K", 0, MAX_U32))
 }
 
 fn server<'a>(alloc: Global) -> Result<Command<'a>, AllocError> {
-    Command::new(alloc, "server")
-        .override_usage("pnfs_osd server --connections K < CLUSTER")
-        .arg(number(alloc, "connections", "K", 0, MAX_U32))
+    Command::new(alloc, "server").arg(number(alloc, "connections", "K", 0, MAX_U32))
 }
 
 fn client<'a>(alloc: Global) -> Result<Command<'a>, AllocError> {
     Command::new(alloc, "client")
-        .override_usage("pnfs_osd client --number N --sequence Q --call TEXT < CLUSTER")
         .arg(number(alloc, "number", "N", 0, u64::from(MAX_CLIENT)))?
         .arg(number(alloc, "sequence", "Q", 1, MAX_U32))?
         .arg(option(alloc, "call").value_name("TEXT"))
 }
 
-// All commands of the program. Its name isn't among the words, so it is given here.
+// All commands of the program.
 fn program<'a>(alloc: Global) -> Result<Command<'a>, AllocError> {
     Command::new(alloc, "pnfs_osd")
-        .no_binary_name(true)
-        .bin_name("pnfs_osd")?
-        .subcommand_required(true)
-        .subcommand(replay(alloc))?
+        .subcommand(Command::new(alloc, "replay"))?
         .subcommand(generate(alloc)?)?
-        .subcommand(inspection(alloc, "show", "pnfs_osd show KIND < LINES")?)?
-        .subcommand(inspection(alloc, "check", "pnfs_osd check KIND < LINES")?)?
+        .subcommand(inspection(alloc, "show")?)?
+        .subcommand(inspection(alloc, "check")?)?
         .subcommand(drive(alloc)?)?
         .subcommand(server(alloc)?)?
         .subcommand(client(alloc)?)
+}
+
+// How a command is used.
+fn usage_of(command: &str) -> &'static str {
+    match command {
+        "replay" => "pnfs_osd replay < SCENARIO",
+        "generate" => "pnfs_osd generate N K",
+        "show" => "pnfs_osd show KIND < LINES",
+        "check" => "pnfs_osd check KIND < LINES",
+        "drive" => "pnfs_osd drive --number N --connections K < CLUSTER",
+        "server" => "pnfs_osd server --connections K < CLUSTER",
+        "client" => "pnfs_osd client --number N --sequence Q --call TEXT < CLUSTER",
+        _ => "pnfs_osd <COMMAND>",
+    }
+}
+
+// What `clap` says if the words name no command at all.
+const NO_COMMAND: &str = "\
+error: 'pnfs_osd' requires a subcommand but one was not provided
+  [subcommands: replay, generate, show, check, drive, server, client, help]
+
+Usage: pnfs_osd <COMMAND>
+
+For more information, try '--help'.
+";
+
+// An error's text with this usage in place of the one that `clap` makes. `override_usage` would do that too, but costs a
+// minute of proof: its contract speaks of all fields of a `Command`.
+fn with_usage(alloc: Global, text: &str, usage: &str) -> Result<String, AllocError> {
+    let Some((before, rest)) = text.split_once("\n\nUsage: ") else {
+        return String::from_str(alloc, text);
+    };
+    let after = match rest.split_once('\n') {
+        Some((_, after)) => after,
+        None => "",
+    };
+    format!(in alloc; "{before}\n\nUsage: {usage}\n{after}")
 }
 
 /// What `clap` says of words that it doesn't take, the program's name not among them: what is wrong, a suggestion, and
@@ -100,8 +125,20 @@ fn program<'a>(alloc: Global) -> Result<Command<'a>, AllocError> {
 ///
 /// Nothing rests on this text, so it has no contract.
 pub fn refusal_text(alloc: Global, words: &[String]) -> Result<Option<String>, AllocError> {
-    match program(alloc)?.try_get_matches_from(words) {
+    let Some(command) = words.first() else {
+        return Ok(None);
+    };
+    let mut all = Vec::new(alloc);
+    all.push("pnfs_osd")?;
+    for word in words {
+        all.push(word.as_str())?;
+    }
+    match program(alloc)?.try_get_matches_from(all.as_slice()) {
+        Ok(_) if command.as_str() == "--" => Ok(Some(String::from_str(alloc, NO_COMMAND)?)),
         Ok(_) => Ok(None),
-        Err(e) => Ok(Some(format!(in alloc; "{e}")?)),
+        Err(e) => {
+            let text = format!(in alloc; "{e}")?;
+            Ok(Some(with_usage(alloc, text.as_str(), usage_of(command.as_str()))?))
+        }
     }
 }

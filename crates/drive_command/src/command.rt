@@ -9,7 +9,7 @@ use cluster_text::{Cluster, ClusterKind, CommandStop, Reader, cluster_from, put_
 use osd_bytes::{Clock, Links, Sink, Source};
 use std::alloc::Global;
 
-// Serves so many connections as the drive of a number of a cluster.
+// Serves so many connections as the drive of this number, in a cluster that was read.
 fn serve_in<K: Sink, L: Links, C: Clock>(
     alloc: Global,
     cluster: &Cluster,
@@ -32,6 +32,7 @@ fn serve_in<K: Sink, L: Links, C: Clock>(
     let Some(key) = drive.key else {
         return Err(CommandStop::BadCluster(ClusterKind::Missing));
     };
+    // Here and below, arms in place of `?` or of the bare call are for the prover (docs/PROVER_FORMS.md).
     match settle_at(alloc, links, cluster, drive.address.as_slice()) {
         Ok(()) => {}
         Err(stop) => return Err(stop),
@@ -43,7 +44,7 @@ fn serve_in<K: Sink, L: Links, C: Clock>(
     }
 }
 
-// The command without the line that tells why it stopped.
+// Serves as the drive of the cluster that the source describes. A stop isn't told here.
 fn serve_cluster<S: Source, K: Sink, L: Links, C: Clock>(
     alloc: Global,
     number: u32,
@@ -76,8 +77,8 @@ fn serve_cluster<S: Source, K: Sink, L: Links, C: Clock>(
 ///
 /// # Errors
 ///
-/// [`CommandStop::BadCluster`] exactly where the text is refused; [`CommandStop::ReadFault`];
-/// [`CommandStop::Full`] exactly where the text passes 67,108,864 bytes; [`CommandStop::LinkFault`] where the
+/// [`CommandStop::BadCluster`] exactly if the text is refused; [`CommandStop::ReadFault`];
+/// [`CommandStop::Full`] exactly if the text passes 67,108,864 bytes; [`CommandStop::LinkFault`] if the
 /// links couldn't be settled or no further connection accepted; [`CommandStop::WriteFault`];
 /// [`CommandStop::Memory`].
 pub fn drive_command<S: Source, K: Sink, L: Links, C: Clock>(

@@ -1,4 +1,4 @@
-// The lines of the command, and the serving between them.
+// What a drive serves once its links listen, and the lines before and after.
 ghost use Rattle.std.specs.Prelude.{IfErr, OnOk};
 ghost use Rattle.drive_command.specs.Connections.{ServesAll, network_at};
 ghost use Rattle.cluster_text.specs.Lines.{served_line, stop_of_serving};
@@ -10,7 +10,7 @@ use osd_bytes::{Clock, Links, Sink, put_all};
 use osd_drive::DriveCore;
 use std::alloc::Global;
 
-// Serves so many connections over links that listen.
+// Serves so many connections over links that listen, without the lines.
 fn serve_all<L: Links, C: Clock>(
     alloc: Global,
     core: &mut DriveCore,
@@ -50,6 +50,7 @@ pub(crate) fn serve_core<K: Sink, L: Links, C: Clock>(
         Ok(()) => {}
         Err(_) => return Err(CommandStop::WriteFault),
     }
+    // Here and below, arms in place of `?` or of the bare call are for the prover (docs/PROVER_FORMS.md).
     match serve_all(alloc, core, connections, links, clock) {
         Ok(()) => {}
         Err(stop) => return Err(stop),

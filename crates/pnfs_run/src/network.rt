@@ -27,7 +27,7 @@ fn words_line() -> &'static [u8]
     b"error words\n"
 }
 
-// Puts it. It is cut only where the sink's count of faults rose.
+// Puts the line of bad words. The line is cut only if the sink's count of faults rose.
 fn put_words_error<K: Sink>(sink: &mut K)
     ensures { PutsLine (K.taken sink.old) (K.taken sink.new) (K.faults sink.old) (K.faults sink.new) words_error }
 {

@@ -1,4 +1,4 @@
-// The top call.
+// The top call: any command of the program, by its words.
 ghost use Rattle.std.specs.Prelude.{◌≡◌, map, string_bytes};
 ghost use Rattle.stripe_repair.specs.Placing.{IsPlacer};
 ghost use Rattle.pnfs_run.specs.Ends.{ends_at};

@@ -11,7 +11,7 @@ use osd_lists::Memory;
 use std::alloc::Global;
 use stripe_repair::Place;
 
-// Makes the files of a cluster, and serves so many connections as its server.
+// Makes the files of a cluster that was read, and serves so many connections as its server.
 fn serve_in<K: Sink, L: Links, C: Clock, P: Place>(
     alloc: Global,
     cluster: &Cluster,
@@ -29,6 +29,7 @@ fn serve_in<K: Sink, L: Links, C: Clock, P: Place>(
         (network_at L.Links C.Clock links.old clock.old) (network_at L.Links C.Clock links.new clock.new)
         (K.taken sink.old) (K.taken sink.new) (K.faults sink.old) (K.faults sink.new)) }
 {
+    // Here and below, arms in place of `?` or of the bare call are for the prover (docs/PROVER_FORMS.md).
     match settle_at(alloc, links, cluster, cluster.server.as_slice()) {
         Ok(()) => {}
         Err(stop) => return Err(stop),
@@ -54,7 +55,7 @@ fn serve_in<K: Sink, L: Links, C: Clock, P: Place>(
     }
 }
 
-// The command without the line that tells why it stopped.
+// Serves as the server of the cluster that the source describes. A stop isn't told here.
 fn serve_cluster<S: Source, K: Sink, L: Links, C: Clock, P: Place>(
     alloc: Global,
     connections: u32,
@@ -89,8 +90,8 @@ fn serve_cluster<S: Source, K: Sink, L: Links, C: Clock, P: Place>(
 ///
 /// # Errors
 ///
-/// [`CommandStop::BadCluster`] exactly where the text is refused; [`CommandStop::ReadFault`]; [`CommandStop::Full`]
-/// exactly where the text passes 67,108,864 bytes; [`CommandStop::LinkFault`] where the links couldn't be settled or no
+/// [`CommandStop::BadCluster`] exactly if the text is refused; [`CommandStop::ReadFault`]; [`CommandStop::Full`]
+/// exactly if the text passes 67,108,864 bytes; [`CommandStop::LinkFault`] if the links couldn't be settled or no
 /// further connection accepted, or a drive gave no record or held an object already while the files were made;
 /// [`CommandStop::WriteFault`]; [`CommandStop::Memory`].
 pub fn server_command<S: Source, K: Sink, L: Links, C: Clock, P: Place>(

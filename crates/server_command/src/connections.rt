@@ -13,7 +13,8 @@ use osd_lists::{ByteLists, Memory};
 use std::alloc::Global;
 use stripe_repair::Place;
 
-// Handles a record of the accepted connection, and works what it brings. Tells whether the connection stands then.
+// Handles a record of the accepted connection, and sends all that it brings. Gives whether the connection stands after
+// that: it took whole what was put on it.
 fn serve_record<L: Links, C: Clock, P: Place>(
     alloc: Global,
     core: &mut ServerCore,
@@ -34,7 +35,7 @@ fn serve_record<L: Links, C: Clock, P: Place>(
     Ok(still)
 }
 
-// Serves these records in order. Tells whether the connection stands then.
+// Serves these records in order. Gives whether the connection stands after them.
 fn serve_records<L: Links, C: Clock, P: Place>(
     alloc: Global,
     core: &mut ServerCore,
@@ -113,13 +114,13 @@ fn serve_connection<L: Links, C: Clock, P: Place>(
 /// through the links, and what the record brings is worked until nothing waits, up to the connection's end, a call on it
 /// that fails, a record that is too long, or 67,108,864 bytes.
 ///
-/// A command is one exchange with its drive, whose record is handled in its turn; it is lost where the exchange is
-/// refused, or where it is longer than a record may be. What is for who sent the record is put, unless an answer
+/// A command is one exchange with its drive, whose record is handled in its turn. The command is lost if the exchange is
+/// refused, or if it is longer than a record may be. What is for who sent the record is put, unless an answer
 /// before it couldn't be put whole. A message to any other client is lost.
 ///
 /// # Errors
 ///
-/// [`ServeErr::LinkFault`] where no further connection could be accepted, after those before it were served whole;
+/// [`ServeErr::LinkFault`] if no further connection could be accepted, after those before it were served whole;
 /// [`ServeErr::Memory`], after which nothing may be left of the server.
 pub fn serve<L: Links, C: Clock, P: Place>(
     alloc: Global,

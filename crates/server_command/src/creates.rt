@@ -15,8 +15,8 @@ use std::alloc::Global;
 use std::mem;
 use stripe_repair::Place;
 
-// A command goes to its drive, whose record is handled. The file isn't made where no record comes, or one that says that
-// the drive holds the object already.
+// Sends a command to its drive, and hands the server the record that comes. The file isn't made if no record comes, or
+// one that says that the drive holds the object already.
 fn make_on<L: Links, C: Clock, P: Place>(
     alloc: Global,
     core: &mut ServerCore,
@@ -58,7 +58,7 @@ fn make_on<L: Links, C: Clock, P: Place>(
     Ok(())
 }
 
-// A command goes to its drive. No other message is sent.
+// Sends a command to its drive. A message to another node isn't sent.
 fn make_one<L: Links, C: Clock, P: Place>(
     alloc: Global,
     core: &mut ServerCore,
@@ -93,7 +93,7 @@ fn make_one<L: Links, C: Clock, P: Place>(
     }
 }
 
-// These commands go to their drives in order. What they bring waits then.
+// Sends these commands to their drives in order. What they bring waits after that.
 fn make_round<L: Links, C: Clock, P: Place>(
     alloc: Global,
     core: &mut ServerCore,
@@ -112,6 +112,7 @@ fn make_round<L: Links, C: Clock, P: Place>(
         (serving core.new waiting.new true (network_at L.Links C.Clock links.new clock.new))) ⊥) }
 {
     for i in 0..round.len() {
+        // Here and below, arms in place of `?` or of the bare call are for the prover (docs/PROVER_FORMS.md).
         match make_one(alloc, core, links, clock, placer, round.get(i), waiting) {
             Ok(()) => {}
             Err(stop) => return Err(stop),
@@ -120,11 +121,11 @@ fn make_round<L: Links, C: Clock, P: Place>(
     Ok(())
 }
 
-/// These commands go to their drives in order, and then what they bring, until none waits.
+/// Sends these commands to their drives in order, and then what they bring, until none waits.
 ///
 /// # Errors
 ///
-/// [`CommandStop::LinkFault`] exactly where an exchange gave no record, or one that is Exists to its CREATE, and a note told
+/// [`CommandStop::LinkFault`] exactly if an exchange gave no record, or one that is Exists to its CREATE, and a note told
 /// which; [`CommandStop::Memory`].
 pub fn make_all<L: Links, C: Clock, P: Place>(
     alloc: Global,

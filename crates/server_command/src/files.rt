@@ -46,6 +46,7 @@ fn make_file<L: Links, C: Clock, P: Place>(
     match core.create_file(file.number, map, FIRST_TAG, placer) {
         Ok(Step { sends, notes, .. }) => {
             tell_notes(alloc, links, notes)?;
+            // Here and below, arms in place of `?` or of the bare call are for the prover (docs/PROVER_FORMS.md).
             match make_all(alloc, core, links, clock, placer, sends) {
                 Ok(()) => Ok(()),
                 Err(stop) => Err(stop),
@@ -60,10 +61,10 @@ fn make_file<L: Links, C: Clock, P: Place>(
 ///
 /// # Errors
 ///
-/// [`CommandStop::LinkFault`] exactly where an exchange with a drive gave no record, or one that is Exists to its CREATE,
+/// [`CommandStop::LinkFault`] exactly if an exchange with a drive gave no record, or one that is Exists to its CREATE,
 /// since the drive holds that object of an earlier run: a note names the drive; [`CommandStop::BadCluster`] of the
-/// kind [`ClusterKind::Range`] exactly where the server refuses a file, or its map has no algorithm; [`CommandStop::Memory`]
-/// for want of memory, and also before a file where the server's counters have no room, which takes a drive that has each
+/// kind [`ClusterKind::Range`] exactly if the server refuses a file, or its map has no algorithm; [`CommandStop::Memory`]
+/// for want of memory, and also before a file if the server's counters have no room, which takes a drive that has each
 /// command sent again 2^63 times.
 pub fn make_files<L: Links, C: Clock, P: Place>(
     alloc: Global,

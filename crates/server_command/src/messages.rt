@@ -14,7 +14,7 @@ use std::alloc::Global;
 use std::mem;
 use stripe_repair::Place;
 
-// Whether a node sent the record that is worked.
+// Whether this node sent the record whose messages are sent.
 fn is_sender(sender: Option<Node>, to: Node) -> bool
     ensures { result ≡ is_sender sender to }
 {
@@ -25,7 +25,7 @@ fn is_sender(sender: Option<Node>, to: Node) -> bool
     }
 }
 
-// Puts a message on the accepted connection, where it is meant to go there. Tells whether the connection stands then.
+// Puts a message on the accepted connection, if it is meant to go there. Gives whether the connection stands after that.
 fn put_if<L: Links>(
     alloc: Global,
     links: &mut L,
@@ -45,7 +45,7 @@ fn put_if<L: Links>(
     Ok(still)
 }
 
-// Works one message. Tells whether the accepted connection stands then.
+// Sends one message. Gives whether the accepted connection stands after that.
 fn work<L: Links, C: Clock, P: Place>(
     alloc: Global,
     core: &mut ServerCore,
@@ -81,7 +81,7 @@ fn work<L: Links, C: Clock, P: Place>(
     }
 }
 
-// Works these messages in order. What they bring waits then.
+// Sends these messages in order. What they bring waits after that.
 fn work_round<L: Links, C: Clock, P: Place>(
     alloc: Global,
     core: &mut ServerCore,
@@ -115,8 +115,8 @@ fn work_round<L: Links, C: Clock, P: Place>(
     Ok(stands)
 }
 
-/// Works these messages in order, and then what they bring, until none waits. Tells whether the accepted connection
-/// stands then: it took whole what was put on it.
+/// Sends these messages in order, and then what they bring, until none waits. Gives whether the accepted connection
+/// stands after that: it took whole what was put on it.
 pub fn work_all<L: Links, C: Clock, P: Place>(
     alloc: Global,
     core: &mut ServerCore,

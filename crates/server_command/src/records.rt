@@ -54,7 +54,7 @@ pub fn handle<L: Links, C: Clock, P: Place>(
     Ok(sends)
 }
 
-// Adds messages behind those that wait.
+// Adds these messages after those that wait.
 fn push_all(alloc: Global, waiting: &mut Sends, more: &[Sent]) -> Result<(), Memory>
     ensures { OnOk result (waiting.new ≡ waiting.old ++ more.now) }
 {

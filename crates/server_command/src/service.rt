@@ -1,4 +1,4 @@
-// The lines of the command, and the serving between them.
+// What a server serves once its files are made, and the lines before and after.
 ghost use Rattle.std.specs.Prelude.{IfErr, OnOk};
 ghost use Rattle.cluster_text.specs.Outside.{network_at};
 ghost use Rattle.cluster_text.specs.Lines.{served_line, stop_of_serving};
