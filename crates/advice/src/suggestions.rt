@@ -6,6 +6,7 @@ use strsim::damerau_levenshtein;
 const MOST_EDITS: usize = 2;
 
 // The name that is nearest to a word among those that were offered, if one is near.
+#[derive(Clone, Copy)]
 pub(crate) struct Suggestion {
     pub(crate) name: Option<&'static str>,
     edits: usize,
