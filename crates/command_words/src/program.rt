@@ -107,9 +107,10 @@ For more information, try '--help'.
 ";
 
 // An error's text with this usage in place of the one that `clap` makes. `override_usage` would do that too, but costs a
-// minute of proof: its contract speaks of all fields of a `Command`.
+// minute of proof: its contract speaks of all fields of a `Command`. The last such line is `clap`'s: the ones before it
+// may stand in a word of the user's.
 fn with_usage(alloc: Global, text: &str, usage: &str) -> Result<String, AllocError> {
-    let Some((before, rest)) = text.split_once("\n\nUsage: ") else {
+    let Some((before, rest)) = text.rsplit_once("\n\nUsage: ") else {
         return String::from_str(alloc, text);
     };
     let after = match rest.split_once('\n') {
