@@ -3,7 +3,7 @@ ghost use Rattle.std.specs.Prelude.{◌≡◌, [], ℕ, List, Option, IfOk};
 ghost use Rattle.cluster_text.specs.Outside.{network_at};
 ghost use Rattle.osd_bytes.specs.Asking.{ends_of};
 ghost use Rattle.server_rules.specs.declared.server.Server.{Server};
-ghost use Rattle.server_requests.specs.declared.sending.Sent.{Sent};
+ghost use Rattle.server_requests.specs.declared.outgoing.Sent.{Sent};
 ghost use Rattle.server_command.specs.Messages.{InTurn, PutsIf, Works, WorksAll, is_sender, serving};
 
 use crate::records::ask_drive;

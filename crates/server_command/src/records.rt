@@ -2,7 +2,7 @@
 ghost use Rattle.std.specs.Prelude.{◌≡◌, ◌++◌, Bool, List, IfOk, OnOk};
 ghost use Rattle.cluster_text.specs.Outside.{network_at};
 ghost use Rattle.osd_lists.specs.declared.node.Node.TheVariants.{Drive};
-ghost use Rattle.server_requests.specs.declared.sending.Sent.{Sent};
+ghost use Rattle.server_requests.specs.declared.outgoing.Sent.{Sent};
 ghost use Rattle.server_command.specs.Messages.{AsksDrive, Handles, sender_of, serving};
 
 use crate::notes::tell_notes;
