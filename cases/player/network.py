@@ -5,6 +5,7 @@ import random
 import socket
 import struct
 import threading
+import time
 from typing import List, Optional, Set
 
 from .case import Fault
@@ -56,6 +57,24 @@ def ask(port: int, sent: bytes, seconds: float) -> bytes:
             raise Fault("the answer doesn't end within %d seconds" % seconds) from None
         except ConnectionError:
             return got
+
+
+def drip(port: int, sent: bytes, pause: float, seconds: float) -> None:
+    """Sends a byte each so many seconds. Raises a Fault unless the other side ends the connection before all are sent."""
+    with socket.create_connection((HOST, port), timeout=seconds) as connection:
+        connection.settimeout(pause)
+        for at in range(len(sent)):
+            begun = time.monotonic()
+            try:
+                connection.sendall(sent[at:at + 1])
+                if not connection.recv(1):
+                    return
+                raise Fault("something comes back behind %d bytes" % (at + 1))
+            except socket.timeout:
+                time.sleep(max(0.0, pause - (time.monotonic() - begun)))
+            except ConnectionError:
+                return
+    raise Fault("all %d bytes could be sent" % len(sent))
 
 
 class Connection:
