@@ -1,3 +1,4 @@
+//! A drive that serves connections in memory, of which calls fail.
 use crate::links::links;
 use osd_bytes::{Clock, Links, MemClock, MemLinks, Times};
 use osd_drive::{DriveCore, KeyTable};
