@@ -1,6 +1,6 @@
 // A fence by itself.
-use osd_bytes::{Bytes, Numbers};
 use osd_commands::Reply;
+use osd_lists::{Bytes, Numbers};
 use recall_fence::Fence;
 use server_rules::{OTHER_TAG, PERFORMED};
 use std::alloc::Global;

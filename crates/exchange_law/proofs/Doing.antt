@@ -1,8 +1,8 @@
 -- Each move is a step of one party, and what that sends.
 use Rattle.std.proofs.Common.{◌≡◌, ℕ, Bool, true, false, List, [], ◌∷◌, zero, suc, Option, Some, None, Result, Ok, Err, map, filter, refl, sym, ap, ◌∙◌}
 use Rattle.std.specs.Prelude.{slice_get, slice_set, is_some, if◌then◌else◌}
-use Rattle.osd_bytes.specs.declared.node.Node.{Node}
-use Rattle.osd_bytes.specs.declared.node.Node.TheVariants as node
+use Rattle.osd_lists.specs.declared.node.Node.{Node}
+use Rattle.osd_lists.specs.declared.node.Node.TheVariants as node
 use Rattle.data_map.specs.declared.check.RawMap.{RawMap}
 use Rattle.scenario_text.specs.declared.event.Event.{Event}
 use Rattle.scenario_text.specs.declared.event.Event.TheVariants as event

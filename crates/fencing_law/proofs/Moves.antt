@@ -2,8 +2,8 @@
 -- of the server.
 use Rattle.std.specs.List.{cons_option, filter_map}
 use Rattle.std.proofs.Common.{◌≡◌, ◌⊎◌, ◌&&◌, ℕ, zero, suc, ◌∷◌, [], List, Bool, true, false, Option, Some, None, Result, Ok, Err, is_some, map, filter, nat_lt, slice_get, slice_set, refl, sym, ap, subst, ◌∙◌, inl, inr, if◌then◌else◌}
-use Rattle.osd_bytes.specs.declared.node.Node.{Node}
-use Rattle.osd_bytes.specs.declared.node.Node.TheVariants as node
+use Rattle.osd_lists.specs.declared.node.Node.{Node}
+use Rattle.osd_lists.specs.declared.node.Node.TheVariants as node
 use Rattle.osd_objects.proofs.Entries.{same_some}
 use Rattle.server_rules.specs.Laws.{In}
 use Rattle.server_rules.specs.Files.{Step as ServerStep}

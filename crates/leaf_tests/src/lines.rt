@@ -1,7 +1,6 @@
 //! Lines of a source, and bytes into a sink, of which calls fail.
-use osd_bytes::{
-    Bytes, LineErr, LineReader, MemSink, MemSource, Numbers, PutErr, Sink, Source, put_all,
-};
+use osd_bytes::{LineErr, LineReader, MemSink, MemSource, PutErr, Sink, Source, put_all};
+use osd_lists::{Bytes, Numbers};
 use std::alloc::Global;
 
 /// The bytes, or none where memory is short.

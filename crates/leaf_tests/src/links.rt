@@ -1,6 +1,7 @@
 //! Exchanges over links in memory, of which calls fail.
 use crate::lines::{copied, numbers};
-use osd_bytes::{ByteLists, ExchangeErr, Links, MemLinks, Node, exchange};
+use osd_bytes::{ExchangeErr, Links, MemLinks, exchange};
+use osd_lists::{ByteLists, Node};
 use std::alloc::Global;
 
 fn lists(alloc: Global, members: &[&[u8]]) -> ByteLists {

@@ -1,5 +1,5 @@
 //! XDR: numbers, bools, counts and opaques, both ways.
-use osd_bytes::Bytes;
+use osd_lists::Bytes;
 use std::alloc::Global;
 use xdr_codec::{Reader, Writer, XdrErr};
 

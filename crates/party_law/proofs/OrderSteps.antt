@@ -1,8 +1,8 @@
 -- Each step of the server keeps the order of each file's grants.
 use Rattle.std.proofs.Common.{◌≡◌, ◌==◌, ◌&&◌, ◌≤◌, ℕ, ◌+◌, nat_le, Bool, true, false, List, [], ◌∷◌, find, map, Option, Some, None, refl, sym, subst, arith, inl, inr, if◌then◌else◌}
 use Rattle.data_map.specs.declared.check.RawMap.{RawMap}
-use Rattle.osd_bytes.specs.declared.node.Node.{Node}
-use Rattle.osd_bytes.specs.declared.node.Node.TheVariants.{Server as FromServer, Client as FromClient, Drive as FromDrive}
+use Rattle.osd_lists.specs.declared.node.Node.{Node}
+use Rattle.osd_lists.specs.declared.node.Node.TheVariants.{Server as FromServer, Client as FromClient, Drive as FromDrive}
 use Rattle.server_rules.specs.declared.limits.TheConstants.{GREATEST_TAG, MAX_CLIENT}
 use Rattle.server_rules.specs.Files.{Step, begins, file_at, put_file, add_file, at_file}
 use Rattle.server_rules.specs.Going.{Going}
