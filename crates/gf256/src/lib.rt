@@ -7,10 +7,10 @@
 
 mod elements;
 pub mod lanes;
-mod scaling;
-mod summing;
+mod products;
+mod sums;
 mod tables;
 
 pub use elements::{inverse, mul, power};
-pub use scaling::add_scaled;
-pub use summing::add;
+pub use products::add_scaled;
+pub use sums::add;
