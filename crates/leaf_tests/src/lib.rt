@@ -19,6 +19,4 @@ mod lines;
 #[cfg(test)]
 mod links;
 #[cfg(test)]
-mod serving;
-#[cfg(test)]
 mod xdr;

@@ -1,10 +1,10 @@
 // The command of a client.
-use crate::messages::{
+use crate::runs::{Case, NOTHING, play};
+use crate::scripts::{
     AUDIT_BUSY, AUDIT_STARTED, COMMIT, COMMITTED, DATA, DECLARE_UNKNOWN, GET_MISORDERED, GET_READ,
     GET_WRITE, GRANTED_READ, GRANTED_WRITE, MISORDERED, ORDER_AUDIT, ORDER_DECLARE, OTHER_WRITTEN,
     READ, REPORT, REPORTED, RETURN, RETURN_READ, RETURNED, RETURNED_READ, WRITE, WRITTEN,
 };
-use crate::runs::{Case, NOTHING, play};
 
 /// The words of a client that writes AB.
 #[rattlefmt::skip]

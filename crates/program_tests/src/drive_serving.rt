@@ -1,5 +1,5 @@
-//! A drive that serves connections in memory, of which calls fail.
-use crate::links::links;
+// A drive that serves connections in memory, of which calls fail.
+use crate::ends::{lists, numbers};
 use drive_command::serve;
 use osd_bytes::{Clock, Links, MemClock, MemLinks};
 use osd_drive::{DriveCore, KeyTable};
@@ -133,7 +133,12 @@ fn goes_over(
 }
 
 fn goes(alloc: Global, drive: &mut DriveCore, case: &Case) -> bool {
-    let mut links = links(alloc, case.streams, &[], case.fails);
+    let mut links = MemLinks::new(
+        alloc,
+        lists(alloc, case.streams),
+        lists(alloc, &[]),
+        numbers(alloc, case.fails),
+    );
     let mut clock = clock(alloc);
     goes_over(alloc, drive, &mut links, &mut clock, case)
 }

@@ -1,10 +1,11 @@
 // Each call of the links of a client that writes fails in turn. Call 0 settles them; then each exchange connects, sends
 // and receives.
 use crate::clients::WRITES;
-use crate::messages::{
+use crate::ends::{lists, numbers};
+use crate::runs::{KEYLESS, exit_code_of};
+use crate::scripts::{
     COMMIT, COMMITTED, GET_WRITE, GRANTED_WRITE, REPORT, REPORTED, RETURN, RETURNED, WRITE, WRITTEN,
 };
-use crate::runs::{KEYLESS, exit_code_of, lists, numbers};
 use osd_bytes::{MemLinks, MemSink};
 use std::alloc::Global;
 

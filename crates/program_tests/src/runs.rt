@@ -2,8 +2,9 @@
 ghost use Rattle.std.specs.Result.{ForOk};
 ghost use Rattle.stripe_repair.specs.Placing.{CanPlace, IsPlacer, Places};
 
+use crate::ends::{copied, lists, numbers};
 use osd_bytes::{Clock, Links, MemClock, MemLinks, MemSink, MemSource, Sink, Source};
-use osd_lists::{ByteLists, Bytes, Memory, Numbers, Times};
+use osd_lists::{Memory, Numbers, Times};
 use osd_replay::fewest_first;
 use pnfs_run::{Status, run};
 use std::alloc::Global;
@@ -73,31 +74,6 @@ pub const NOTHING: Case = Case {
     exit_code: 0,
     output: "",
 };
-
-/// The bytes, or none where memory is short.
-pub fn copied(alloc: Global, bytes: &[u8]) -> Bytes {
-    match Bytes::copied(alloc, bytes) {
-        Ok(bytes) => bytes,
-        Err(_) => Bytes::new(alloc),
-    }
-}
-
-/// The numbers, or none where memory is short.
-pub fn numbers(alloc: Global, numbers: &[u32]) -> Numbers {
-    match Numbers::copied(alloc, numbers) {
-        Ok(numbers) => numbers,
-        Err(_) => Numbers::new(alloc),
-    }
-}
-
-/// The lists of these members.
-pub fn lists(alloc: Global, members: &[&[u8]]) -> ByteLists {
-    let mut lists = ByteLists::new(alloc);
-    for member in members {
-        let _ = lists.push(copied(alloc, member));
-    }
-    lists
-}
 
 /// The words that memory is left for.
 pub fn strings(alloc: Global, words: &[&str]) -> Vec<String> {

@@ -7,7 +7,7 @@ use Rattle.std.proofs.lemmas.List.Elements.{All-map, All-weaker}
 use Rattle.std.proofs.lemmas.List.Sums.{sum_by-cons}
 use Rattle.stripe_repair.specs.declared.loads.DriveLoad.{DriveLoad}
 use Rattle.stripe_repair.specs.Placing.{AreDifferent, CanPlace, FitsLoad, Places, drives_of, is_online}
-use Rattle.command_tests.specs.Ranked.{ranked}
+use Rattle.program_tests.specs.Ranked.{ranked}
 
 same_drives : (loads : List DriveLoad) → drives_of (map ranked loads) ≡ drives_of loads
 same_drives [] = refl

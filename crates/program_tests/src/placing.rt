@@ -2,9 +2,10 @@
 ghost use Rattle.std.specs.Prelude.{◌≡◌, IfOk, map};
 ghost use Rattle.std.specs.Result.{ForOk};
 ghost use Rattle.stripe_repair.specs.Placing.{CanPlace, IsPlacer, Places};
-ghost use Rattle.command_tests.specs.Ranked.{ranked};
+ghost use Rattle.program_tests.specs.Ranked.{ranked};
 
-use crate::runs::{copied, strings};
+use crate::ends::copied;
+use crate::runs::strings;
 use osd_bytes::{MemSink, MemSource, Sink, Source};
 use osd_lists::{Memory, Numbers};
 use osd_replay::{Status, fewest_first, run};

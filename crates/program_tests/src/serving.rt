@@ -1,6 +1,8 @@
+// A metadata server that serves connections in memory, of which calls fail.
 ghost use Rattle.stripe_repair.specs.Placing.{IsPlacer};
 
-use crate::messages::{Came, ORDER, Told, numbers, streams, went_out};
+use crate::ends::numbers;
+use crate::messages::{Came, ORDER, Told, streams, went_out};
 use layout_server::{DriveTable, ServerCore};
 use osd_bytes::{Clock, Links, MemClock, MemLinks};
 use osd_lists::{ByteLists, Memory, Numbers, Times};

@@ -1,5 +1,6 @@
 // Sources and sinks that fail.
-use crate::runs::{KEYLESS, exit_code_of, lists, numbers};
+use crate::ends::{lists, numbers};
+use crate::runs::{KEYLESS, exit_code_of};
 use osd_bytes::{MemLinks, MemSink};
 use pnfs_run::Status;
 use std::alloc::Global;

@@ -2,7 +2,8 @@
 ghost use Rattle.std.specs.Result.{ForOk};
 ghost use Rattle.stripe_repair.specs.Placing.{CanPlace, Places};
 
-use crate::messages::{Came, ORDER, Told, copied, framed, numbers, streams, went_out};
+use crate::ends::{copied, numbers};
+use crate::messages::{Came, ORDER, Told, framed, streams, went_out};
 use cluster_text::{ClusterKind, CommandStop};
 use osd_bytes::{Clock, Links, MemClock, MemLinks, MemSink, MemSource, Sink, Source};
 use osd_commands::{Reply, write_reply};
@@ -210,8 +211,8 @@ fn reply_streams(alloc: Global, replies: &[Replied]) -> ByteLists {
     streams
 }
 
-// The one drive, where one is asked for.
-fn only_drive(alloc: Global, count: u32, loads: &[DriveLoad]) -> Result<Numbers, Memory>
+/// The one drive, where one is asked for.
+pub fn only_drive(alloc: Global, count: u32, loads: &[DriveLoad]) -> Result<Numbers, Memory>
     ensures { ForOk result (Places count loads.now) }
 {
     match loads {

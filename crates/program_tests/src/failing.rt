@@ -1,6 +1,6 @@
 // A row of calls of two clients of a server and a drive, in which each call of links, of whichever party, fails in turn.
+use crate::ends::copied;
 use crate::live::LiveLinks;
-use crate::messages::copied;
 use crate::parties::{ServerEnd, server_with_a_file};
 use client_command::{DealErr, Notice, Notices, deal};
 use osd_bytes::Links;

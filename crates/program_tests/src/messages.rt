@@ -1,12 +1,13 @@
 // What comes to the server on a connection, and what goes out on one.
 ghost use Rattle.layout_ops.specs.Spelling.{ArgsWritable, EnvelopeWritable};
 
+use crate::ends::copied;
 use layout_ops::{
     Args, Envelope, LayoutGetArgs, Order, OrderKind, Request, StateId, read_envelope,
     write_envelope,
 };
 use osd_bytes::{MAX_RECORD, MemLinks, Records, frame};
-use osd_lists::{ByteLists, Bytes, Numbers};
+use osd_lists::{ByteLists, Bytes};
 use std::alloc::Global;
 
 /// What comes to the server.
@@ -40,22 +41,6 @@ fn get_args() -> Args
         },
         maxcount: 65_536,
     })
-}
-
-/// The bytes, or none where memory is short.
-pub fn copied(alloc: Global, bytes: &[u8]) -> Bytes {
-    match Bytes::copied(alloc, bytes) {
-        Ok(bytes) => bytes,
-        Err(_) => Bytes::new(alloc),
-    }
-}
-
-/// The numbers, or none where memory is short.
-pub fn numbers(alloc: Global, numbers: &[u32]) -> Numbers {
-    match Numbers::copied(alloc, numbers) {
-        Ok(numbers) => numbers,
-        Err(_) => Numbers::new(alloc),
-    }
 }
 
 fn spelled(alloc: Global, envelope: &Envelope) -> Bytes

@@ -1,6 +1,6 @@
 // Answers that a server kept, and that come to another process of the same client.
+use crate::ends::copied;
 use crate::live::LiveLinks;
-use crate::messages::copied;
 use crate::parties::{ServerEnd, server_with_a_file};
 use client_command::{DealErr, Notices, deal};
 use osd_bytes::Links;

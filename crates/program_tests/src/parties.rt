@@ -3,9 +3,9 @@ ghost use Rattle.std.specs.Prelude.{◌≡◌};
 ghost use Rattle.std.specs.Result.{ForOk};
 ghost use Rattle.stripe_repair.specs.Placing.{CanPlace, IsPlacer, Places};
 
-use crate::commands::ONE_FILE;
+use crate::commands::{ONE_FILE, only_drive};
+use crate::ends::copied;
 use crate::live::{LiveLinks, Peer};
-use crate::messages::copied;
 use cluster_text::{Cluster, ClusterFile, Reader, read_cluster};
 use layout_server::ServerCore;
 use osd_bytes::{Clock, Links, MemClock};
@@ -94,16 +94,6 @@ where
     requires { IsPlacer F.Fn placer.now }
 {
     make_files(alloc, server, links, clock, placer, files).is_ok()
-}
-
-// The one drive, where one is asked for.
-fn only_drive(alloc: Global, count: u32, loads: &[DriveLoad]) -> Result<Numbers, Memory>
-    ensures { ForOk result (Places count loads.now) }
-{
-    match loads {
-        [load] if load.online && count == 1 => Numbers::copied(alloc, &[load.drive]),
-        _ => Err(Memory),
-    }
 }
 
 impl Peer for DriveEnd {
