@@ -2,9 +2,9 @@
 -- of the server.
 use Rattle.std.specs.List.{cons_option, filter_map}
 use Rattle.std.proofs.Common.{◌≡◌, ◌⊎◌, ◌&&◌, ℕ, zero, suc, ◌∷◌, [], List, Bool, true, false, Option, Some, None, Result, Ok, Err, is_some, map, filter, nat_lt, slice_get, slice_set, refl, sym, ap, subst, ◌∙◌, inl, inr, if◌then◌else◌}
+use Rattle.std.proofs.lemmas.Option.{same_Some}
 use Rattle.osd_lists.specs.declared.node.Node.{Node}
 use Rattle.osd_lists.specs.declared.node.Node.TheVariants as node
-use Rattle.osd_objects.proofs.Entries.{same_some}
 use Rattle.server_rules.specs.Laws.{In}
 use Rattle.server_rules.specs.Files.{Step as ServerStep}
 use Rattle.server_rules.specs.Making.{create_file}
@@ -222,7 +222,7 @@ pub messages_set : (ps : List Posted) (n : ℕ) (p q : Posted) → slice_get ps 
 messages_set [] n p q there same = refl
 messages_set (x ∷ ps) zero p q there same =
     ap (λ (m : Message). m ∷ map (λ (y : Posted). y.message) ps)
-    (same ∙ ap (λ (y : Posted). y.message) (sym (same_some x p there)))
+    (same ∙ ap (λ (y : Posted). y.message) (sym (same_Some x p there)))
 messages_set (x ∷ ps) (suc n) p q there same =
     ap (λ (ms : List Message). x.message ∷ ms) (messages_set ps n p q there same)
 
@@ -251,11 +251,11 @@ unmarked w n p v ls ps there (Serves chosen i sent server messages told posts) =
         found (q ∷ qs) zero zero t f = (
           q,
           refl,
-          ap (λ (y : Posted). y.message) (same_some q p t)
-              ∙ ap (λ (y : Posted). y.message) (same_some (record p { delivered = true }) x f),
+          ap (λ (y : Posted). y.message) (same_Some q p t)
+              ∙ ap (λ (y : Posted). y.message) (same_Some (record p { delivered = true }) x f),
         )
         found (q ∷ qs) zero (suc b) t f = (x, f, refl)
-        found (q ∷ qs) (suc a) zero t f = (q, refl, ap (λ (y : Posted). y.message) (same_some q x f))
+        found (q ∷ qs) (suc a) zero t f = (q, refl, ap (λ (y : Posted). y.message) (same_Some q x f))
         found (q ∷ qs) (suc a) (suc b) t f = found qs a b t f
 
     sent_before : (j : Input) → IsSent (marked w n p) j → IsSent w j

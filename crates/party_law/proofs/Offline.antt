@@ -9,7 +9,7 @@ use Rattle.server_rules.specs.Files.{Step, file_at, still}
 use Rattle.server_rules.specs.Going.{Going}
 use Rattle.server_rules.specs.History.{Input, Hears, Makes, Obeys, Adds, Opens, step, unless_made}
 use Rattle.server_rules.specs.Making.{add_drive, refusal, unless_refused, makes_file, unmade, places, create_file}
-use Rattle.server_rules.specs.Messages.{Message, Asks, Replies, Orders, heard_at, by_heard, on_drive_reply, handled, on_message, counters_low}
+use Rattle.server_rules.specs.Messages.{Message, Asks, Replies, Orders, heard_at, by_heard, on_drive_reply, handled, on_message, counters_have_room}
 use Rattle.server_rules.specs.Openings.{reopen}
 use Rattle.server_rules.specs.Orders.{begins_job, starts, recalls_on, offline, declare, declares_known, ordered}
 use Rattle.server_rules.specs.Requests.{carries_out, by_admit, on_request}
@@ -125,7 +125,7 @@ knows_handled s now chosen from m = (λ n o. o)
 knows_message : (s : Server) (now : ℕ) (chosen : List ℕ) (from : Node) (m : Message) → Knows s (on_message s now chosen from m)
 unfolding on_message
 knows_message s now chosen from m =
-    either s (counters_low s) (handled s now chosen from m) (still s) (knows_handled s now chosen from m) (λ n o. o)
+    either s (counters_have_room s) (handled s now chosen from m) (still s) (knows_handled s now chosen from m) (λ n o. o)
 
 knows_unless : (s : Server) (o : Option Refusal) (f : File) → Knows s (unless_made s (unless_refused o (makes_file s f)))
 knows_unless s (Some r) f = (λ n o. o)
@@ -137,6 +137,6 @@ step_knows s chosen (Hears now from m) = knows_message s now chosen from m
 step_knows s chosen (Makes n m tag) =
     knows_unless s (refusal s n m) (unmade s n m tag (places s.drives m.comps chosen))
 step_knows s chosen (Obeys kind n) = knows_ordered s chosen kind n
-step_knows s chosen Opens = either s (counters_low s) _ (still s) (λ n o. o) (λ n o. o)
+step_knows s chosen Opens = either s (counters_have_room s) _ (still s) (λ n o. o) (λ n o. o)
 step_knows s chosen (Adds d) = added s.drives d
 step_knows s chosen i = λ n o. o

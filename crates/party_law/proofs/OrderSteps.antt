@@ -10,7 +10,7 @@ use Rattle.server_rules.specs.History.{Hears, Makes, Obeys, Adds, Formats, Resen
 use Rattle.server_rules.specs.Jobs.{making, declares}
 use Rattle.server_rules.specs.Laws.{In}
 use Rattle.server_rules.specs.Making.{refusal, places, unmade, with_file, makes_file, unless_refused, create_file}
-use Rattle.server_rules.specs.Messages.{Message, Asks, Replies, Orders, counters_low, or_else, heard_at, by_heard, on_drive_reply, handled, on_message}
+use Rattle.server_rules.specs.Messages.{Message, Asks, Replies, Orders, counters_have_room, or_else, heard_at, by_heard, on_drive_reply, handled, on_message}
 use Rattle.server_rules.specs.Openings.{crashed_file, opens, opens_each, reopen}
 use Rattle.server_rules.specs.Orders.{Ordered, begins_job, starts, recalls_on, declares_each, offline, declare, declares_known, ordered}
 use Rattle.server_rules.specs.Replies.{answers, hearing, heard_by, heard_in, on_reply}
@@ -19,7 +19,7 @@ use Rattle.server_rules.specs.Served.{Served}
 use Rattle.server_rules.specs.Slots.{Admit, New, Again, Misordered, admit, slot_of}
 use Rattle.server_rules.proofs.Runs.{ran_making}
 use Rattle.job_law.proofs.Files.{found_file, in_put, in_add}
-use Rattle.world_history.specs.ServerNames.{Server, File, Drive, Awaited, Job, JobKind, Revoking, Rebuilding, Auditing, Moved, Reply, ClientRequest, OrderKind, ToRecall, ToRevoke, ToDeclare, ToRebuild, ToAudit, Refusal}
+use Rattle.world_history.specs.ServerNames.{Server, File, Drive, Awaited, Job, JobKind, Revoking, Rebuilding, Auditing, Effects, Reply, ClientRequest, OrderKind, ToRecall, ToRevoke, ToDeclare, ToRebuild, ToAudit, Refusal}
 use Rattle.party_law.specs.Order.{IsInOrder, AreInOrder, EachStepOrders}
 use Rattle.party_law.proofs.Lists.{same_order, none_order, later_order}
 use Rattle.party_law.proofs.Jobs.{stays_heard, stays_declared, order_fence, order_opened}
@@ -143,17 +143,17 @@ recalled : (s : Server) (o : Option File) → AreInOrder s → AreInOrder (recal
 recalled s None h = h
 recalled s (Some f) h = h
 
-declared_each : (next drive : ℕ) (ds : List Drive) (fs : List File) (m : Moved) (chosen : List ℕ)
+declared_each : (next drive : ℕ) (ds : List Drive) (fs : List File) (m : Effects) (chosen : List ℕ)
     → AllInOrder next fs → AllInOrder next (declares_each drive ds fs m chosen).files
 unfolding declares_each
 declared_each next drive ds [] m chosen h x i = h x i
 declared_each next drive ds (f ∷ fs) m chosen h x i =
-    let g : Going = record { file = f; moved = m; drives = ds; chosen = chosen } in
+    let g : Going = record { file = f; effects = m; drives = ds; chosen = chosen } in
     let d : Going = declares g drive in
     elim i [
       | inl same ↦
           subst (IsInOrder next) (sym same) (same_order next f d.file (stays_declared g drive) (h f (inl refl)))
-      | inr j ↦ declared_each next drive ds fs d.moved d.chosen (λ y k. h y (inr k)) x j
+      | inr j ↦ declared_each next drive ds fs d.effects d.chosen (λ y k. h y (inr k)) x j
     ]
 
 declared : (s : Server) (chosen : List ℕ) (n : ℕ) (b : Bool) → AreInOrder s
@@ -184,7 +184,7 @@ heard_message s now chosen from m h = h
 any_message : (s : Server) (now : ℕ) (chosen : List ℕ) (from : Node) (m : Message) → AreInOrder s
     → AreInOrder (on_message s now chosen from m).state
 unfolding on_message
-any_message s now chosen from m h = either_step (counters_low s) _ _ (heard_message s now chosen from m h) h
+any_message s now chosen from m h = either_step (counters_have_room s) _ _ (heard_message s now chosen from m h) h
 
 -- ---- a file is made, and a server is opened
 
@@ -204,21 +204,21 @@ crashed next (f ∷ fs) h x (inl same) =
     subst (IsInOrder next) (sym same) (same_order next f (crashed_file f) refl (h f (inl refl)))
 crashed next (f ∷ fs) h x (inr i) = crashed next fs (λ y k. h y (inr k)) x i
 
-opened_each : (next format : ℕ) (ds : List Drive) (fs : List File) (m : Moved) → AllInOrder next fs
+opened_each : (next format : ℕ) (ds : List Drive) (fs : List File) (m : Effects) → AllInOrder next fs
     → AllInOrder next (opens_each format ds fs m).files
 unfolding opens_each
 opened_each next format ds [] m h x i = h x i
 opened_each next format ds (f ∷ fs) m h x i =
-    let g : Going = record { file = f; moved = m; drives = ds; chosen = [] } in
+    let g : Going = record { file = f; effects = m; drives = ds; chosen = [] } in
     elim i [
       | inl same ↦ subst (IsInOrder next) (sym same) (order_opened next format g (h f (inl refl)))
-      | inr j ↦ opened_each next format ds fs (opens format g).moved (λ y k. h y (inr k)) x j
+      | inr j ↦ opened_each next format ds fs (opens format g).effects (λ y k. h y (inr k)) x j
     ]
 
 reopened : (s : Server) → AreInOrder s → AreInOrder (reopen s).state
 unfolding reopen
 reopened s h =
-    either_step (counters_low s) _ _ (opened_each s.next_grant s.format s.drives s.files (begins s) h) h
+    either_step (counters_have_room s) _ _ (opened_each s.next_grant s.format s.drives s.files (begins s) h) h
 
 -- ---- any step
 

@@ -11,7 +11,7 @@ use Rattle.server_rules.specs.Going.{Going}
 use Rattle.server_rules.specs.Slots.{Admit, New, Again, Misordered, admit, slot_of}
 use Rattle.server_rules.specs.Requests.{carries_out, by_admit, on_request}
 use Rattle.server_rules.specs.Making.{refusal, unless_refused, places, unmade, makes_file, create_file, add_drive}
-use Rattle.server_rules.specs.Messages.{Message, Asks, Replies, Orders, counters_low, by_heard, heard_at, on_drive_reply, handled, on_message}
+use Rattle.server_rules.specs.Messages.{Message, Asks, Replies, Orders, counters_have_room, by_heard, heard_at, on_drive_reply, handled, on_message}
 use Rattle.server_rules.specs.Orders.{begins_job, starts, recalls_on, offline, declares_known, declare, ordered}
 use Rattle.server_rules.specs.Openings.{reopen}
 use Rattle.server_rules.specs.History.{Input, Hears, Makes, Obeys, Adds, Opens, step, unless_made}
@@ -157,7 +157,7 @@ knows_message : (s : Server) (now : ℕ) (chosen : List ℕ) (from : Node) (m : 
     → Knows s (on_message s now chosen from m)
 unfolding on_message
 knows_message s now chosen from m =
-    either s (counters_low s) (handled s now chosen from m) (still s) (knows_handled s now chosen from m) (λ d. refl)
+    either s (counters_have_room s) (handled s now chosen from m) (still s) (knows_handled s now chosen from m) (λ d. refl)
 
 knows_unless : (s : Server) (o : Option Refusal) (f : File)
     → Knows s (unless_made s (unless_refused o (makes_file s f)))
@@ -176,5 +176,5 @@ keys_step s chosen (Hears now from m) d = knows_message s now chosen from m d
 keys_step s chosen (Makes n m tag) d =
     knows_unless s (refusal s n m) (unmade s n m tag (places s.drives m.comps chosen)) d
 keys_step s chosen (Obeys kind n) d = knows_ordered s chosen kind n d
-keys_step s chosen Opens d = either s (counters_low s) _ (still s) (λ d. refl) (λ d. refl) d
+keys_step s chosen Opens d = either s (counters_have_room s) _ (still s) (λ d. refl) (λ d. refl) d
 keys_step s chosen i d = refl
