@@ -1,6 +1,6 @@
 // The command of the server of a cluster of one drive.
 ghost use Rattle.std.specs.Result.{ForOk};
-ghost use Rattle.stripe_repair.specs.Placing.{CanPlace, Places};
+ghost use Rattle.stripe_repair.specs.Placing.{Places};
 
 use crate::ends::{copied, numbers};
 use crate::messages::{Came, ORDER, Told, framed, streams, went_out};
@@ -10,7 +10,7 @@ use osd_commands::{Reply, write_reply};
 use osd_lists::{ByteLists, Bytes, Memory, Numbers, Times};
 use server_command::server_command;
 use std::alloc::Global;
-use stripe_repair::{DriveLoad, Placer};
+use stripe_repair::{DriveLoad, Place};
 
 // The nonce and the verdict of a drive's reply.
 type Replied = (u64, u16);
@@ -211,13 +211,25 @@ fn reply_streams(alloc: Global, replies: &[Replied]) -> ByteLists {
     streams
 }
 
-/// The one drive, where one is asked for.
-pub fn only_drive(alloc: Global, count: u32, loads: &[DriveLoad]) -> Result<Numbers, Memory>
+// The one drive, where one is asked for.
+fn only_drive(alloc: Global, count: u32, loads: &[DriveLoad]) -> Result<Numbers, Memory>
     ensures { ForOk result (Places count loads.now) }
 {
     match loads {
         [load] if load.online && count == 1 => Numbers::copied(alloc, &[load.drive]),
         _ => Err(Memory),
+    }
+}
+
+/// That rule of placing.
+#[derive(Clone, Copy)]
+pub struct OnlyDrive {
+    pub alloc: Global,
+}
+
+impl Place for OnlyDrive {
+    fn place(&self, count: u32, loads: &[DriveLoad]) -> Result<Numbers, Memory> {
+        only_drive(self.alloc, count, loads)
     }
 }
 
@@ -230,12 +242,7 @@ fn stop_of<S: Source, K: Sink, L: Links, C: Clock>(
     links: &mut L,
     clock: &mut C,
 ) -> Option<CommandStop> {
-    let placer = Placer::new(
-        |count: u32, loads: &[DriveLoad]| -> Result<Numbers, Memory>
-            requires { CanPlace count loads.now }
-            ensures { ForOk result (Places count loads.now) }
-        { only_drive(alloc, count, loads) },
-    );
+    let placer = OnlyDrive { alloc };
     server_command(alloc, connections, source, sink, links, clock, &placer).err()
 }
 

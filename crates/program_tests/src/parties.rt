@@ -1,19 +1,15 @@
 // A drive and a metadata server as the peers of links.
-ghost use Rattle.std.specs.Prelude.{◌≡◌};
-ghost use Rattle.std.specs.Result.{ForOk};
-ghost use Rattle.stripe_repair.specs.Placing.{CanPlace, IsPlacer, Places};
 
-use crate::commands::{ONE_FILE, only_drive};
+use crate::commands::{ONE_FILE, OnlyDrive};
 use crate::ends::copied;
 use crate::live::{LiveLinks, Peer};
 use cluster_text::{Cluster, ClusterFile, Reader, read_cluster};
 use layout_server::ServerCore;
 use osd_bytes::{Clock, Links, MemClock};
 use osd_drive::{DriveCore, DriveKey, KeyTable};
-use osd_lists::{Bytes, Memory, Node, Numbers, Times};
+use osd_lists::{Bytes, Node, Times};
 use server_command::{make_files, serve, server_of};
 use std::alloc::Global;
-use stripe_repair::{DriveLoad, Placer};
 
 const KEY: [u8; 20] = [11; 20];
 
@@ -66,33 +62,25 @@ fn drive_serves<L: Links, C: Clock>(
 }
 
 // What a server does with one.
-fn server_serves<L: Links, C: Clock, F>(
+fn server_serves<L: Links, C: Clock>(
     alloc: Global,
     server: &mut ServerCore,
     links: &mut L,
     clock: &mut C,
-    placer: &Placer<F>,
-)
-where
-    F: Fn(u32, &[DriveLoad]) -> Result<Numbers, Memory>,
-    requires { IsPlacer F.Fn placer.now }
-{
+    placer: &OnlyDrive,
+) {
     let _ = serve(alloc, server, links, clock, placer, 1);
 }
 
 // Whether a server makes its files.
-fn server_makes<L: Links, C: Clock, F>(
+fn server_makes<L: Links, C: Clock>(
     alloc: Global,
     server: &mut ServerCore,
     links: &mut L,
     clock: &mut C,
-    placer: &Placer<F>,
+    placer: &OnlyDrive,
     files: &[ClusterFile],
-) -> bool
-where
-    F: Fn(u32, &[DriveLoad]) -> Result<Numbers, Memory>,
-    requires { IsPlacer F.Fn placer.now }
-{
+) -> bool {
     make_files(alloc, server, links, clock, placer, files).is_ok()
 }
 
@@ -121,12 +109,7 @@ impl ServerEnd {
         let alloc = self.alloc;
         let mut links = LiveLinks::new(alloc, drive, copied(alloc, bytes));
         let mut clock = MemClock::new(Times::new(alloc));
-        let placer = Placer::new(
-            |count: u32, loads: &[DriveLoad]| -> Result<Numbers, Memory>
-                requires { CanPlace count loads.now }
-                ensures { ForOk result (Places count loads.now) }
-            { only_drive(alloc, count, loads) },
-        );
+        let placer = OnlyDrive { alloc };
         server_serves(alloc, &mut self.server, &mut links, &mut clock, &placer);
         links.into_parts()
     }
@@ -194,12 +177,7 @@ fn with_files(
 ) -> Option<DriveEnd> {
     let mut links = LiveLinks::new(alloc, drive, Bytes::new(alloc));
     let mut clock = MemClock::new(Times::new(alloc));
-    let placer = Placer::new(
-        |count: u32, loads: &[DriveLoad]| -> Result<Numbers, Memory>
-            requires { CanPlace count loads.now }
-            ensures { ForOk result (Places count loads.now) }
-        { only_drive(alloc, count, loads) },
-    );
+    let placer = OnlyDrive { alloc };
     let makes = server_makes(alloc, server, &mut links, &mut clock, &placer, files);
     let (drive, _) = links.into_parts();
     if makes { Some(drive) } else { None }

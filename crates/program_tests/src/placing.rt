@@ -1,7 +1,7 @@
 // Another rule by which components are placed: the online drives with the highest numbers.
 ghost use Rattle.std.specs.Prelude.{◌≡◌, IfOk, map};
 ghost use Rattle.std.specs.Result.{ForOk};
-ghost use Rattle.stripe_repair.specs.Placing.{CanPlace, IsPlacer, Places};
+ghost use Rattle.stripe_repair.specs.Placing.{CanPlace, Places};
 ghost use Rattle.program_tests.specs.Ranked.{ranked};
 
 use crate::ends::copied;
@@ -10,7 +10,7 @@ use osd_bytes::{MemSink, MemSource, Sink, Source};
 use osd_lists::{Memory, Numbers};
 use osd_replay::{Status, fewest_first, run};
 use std::alloc::Global;
-use stripe_repair::{DriveLoad, Placer};
+use stripe_repair::{DriveLoad, Place};
 
 // The loads as if drives with higher numbers had fewer objects.
 fn ranked_loads(alloc: Global, loads: &[DriveLoad]) -> Result<Vec<DriveLoad>, Memory>
@@ -34,6 +34,17 @@ fn highest_first(alloc: Global, count: u32, loads: &[DriveLoad]) -> Result<Numbe
 {
     let ranked = ranked_loads(alloc, loads)?;
     fewest_first(alloc, count, ranked.as_slice())
+}
+
+#[derive(Clone, Copy)]
+struct HighestFirst {
+    alloc: Global,
+}
+
+impl Place for HighestFirst {
+    fn place(&self, count: u32, loads: &[DriveLoad]) -> Result<Numbers, Memory> {
+        highest_first(self.alloc, count, loads)
+    }
 }
 
 // Four stripes are written and read, a drive is lost, and its component is made anew on another one.
@@ -63,7 +74,8 @@ audit f0
 settle
 ";
 
-// What its transcript shows. The first CREATE, of component 0, goes to the drive of the highest number, and so that of component 2 to drive 2.
+// What its transcript shows. The first CREATE, of component 0, goes to the drive of the highest number, and so that of
+// component 2 to drive 2.
 const SHOWN: &str = "m 0 s d4
 f f0 ready
 o c0 write ok 16
@@ -116,44 +128,31 @@ fn shows(transcript: &[u8], shown: &[u8]) -> bool {
 }
 
 // How a replay of these words ends.
-fn status_of<S: Source, K: Sink, F>(
+fn status_of<S: Source, K: Sink>(
     alloc: Global,
     words: &[String],
     source: &mut S,
     sink: &mut K,
-    placer: &Placer<F>,
-) -> Status
-where
-    F: Fn(u32, &[DriveLoad]) -> Result<Numbers, Memory>,
-    requires { IsPlacer F.Fn placer.now }
-{
+    placer: &HighestFirst,
+) -> Status {
     run(alloc, words, source, sink, placer)
 }
 
 // The same of words that aren't owned.
-fn status_of_words<F>(
+fn status_of_words(
     alloc: Global,
     words: &[&str],
     source: &mut MemSource,
     sink: &mut MemSink,
-    placer: &Placer<F>,
-) -> Status
-where
-    F: Fn(u32, &[DriveLoad]) -> Result<Numbers, Memory>,
-    requires { IsPlacer F.Fn placer.now }
-{
+    placer: &HighestFirst,
+) -> Status {
     let words = strings(alloc, words);
     status_of(alloc, words.as_slice(), source, sink, placer)
 }
 
 // Components stand on the online drives of the highest numbers.
 fn status_by_number(alloc: Global, source: &mut MemSource, sink: &mut MemSink) -> Status {
-    let placer = Placer::new(
-        |count: u32, loads: &[DriveLoad]| -> Result<Numbers, Memory>
-            requires { CanPlace count loads.now }
-            ensures { ForOk result (Places count loads.now) }
-        { highest_first(alloc, count, loads) },
-    );
+    let placer = HighestFirst { alloc };
     status_of_words(alloc, &["replay"], source, sink, &placer)
 }
 

@@ -1,6 +1,4 @@
 // A metadata server that serves connections in memory, of which calls fail.
-ghost use Rattle.stripe_repair.specs.Placing.{IsPlacer};
-
 use crate::ends::numbers;
 use crate::messages::{Came, ORDER, Told, streams, went_out};
 use layout_server::{DriveTable, ServerCore};
@@ -8,7 +6,7 @@ use osd_bytes::{Clock, Links, MemClock, MemLinks};
 use osd_lists::{ByteLists, Memory, Numbers, Times};
 use server_command::serve;
 use std::alloc::Global;
-use stripe_repair::{DriveLoad, Placer};
+use stripe_repair::{DriveLoad, Place};
 
 // What comes on each connection, which calls of the links fail, what goes out whole on each connection that is
 // accepted, whether so many are served, and what the clock tells next.
@@ -79,19 +77,25 @@ const CASES: &[Case] = &[
     },
 ];
 
+// A rule that places nothing, as if there were no memory for it.
+#[derive(Clone, Copy)]
+struct Nowhere;
+
+impl Place for Nowhere {
+    fn place(&self, _count: u32, _loads: &[DriveLoad]) -> Result<Numbers, Memory> {
+        Err(Memory)
+    }
+}
+
 // Whether the server serves that many connections.
-fn serves<L: Links, C: Clock, F>(
+fn serves<L: Links, C: Clock>(
     alloc: Global,
     core: &mut ServerCore,
     links: &mut L,
     clock: &mut C,
-    placer: &Placer<F>,
+    placer: &Nowhere,
     connections: u32,
-) -> bool
-where
-    F: Fn(u32, &[DriveLoad]) -> Result<Numbers, Memory>,
-    requires { IsPlacer F.Fn placer.now }
-{
+) -> bool {
     serve(alloc, core, links, clock, placer, connections).is_ok()
 }
 
@@ -102,9 +106,8 @@ fn new_server_serves<L: Links, C: Clock>(
     clock: &mut C,
     connections: u32,
 ) -> Option<bool> {
-    let placer = Placer::new(|_: u32, _: &[DriveLoad]| Err::<Numbers, Memory>(Memory));
     match ServerCore::new(alloc, DriveTable::new(alloc)) {
-        Ok(mut core) => Some(serves(alloc, &mut core, links, clock, &placer, connections)),
+        Ok(mut core) => Some(serves(alloc, &mut core, links, clock, &Nowhere, connections)),
         Err(_) => None,
     }
 }
