@@ -5,7 +5,6 @@ import random
 import socket
 import struct
 import threading
-import time
 from typing import List, Optional, Set
 
 from .case import Fault
@@ -64,14 +63,13 @@ def drip(port: int, sent: bytes, pause: float, seconds: float) -> None:
     with socket.create_connection((HOST, port), timeout=seconds) as connection:
         connection.settimeout(pause)
         for at in range(len(sent)):
-            begun = time.monotonic()
             try:
                 connection.sendall(sent[at:at + 1])
                 if not connection.recv(1):
                     return
                 raise Fault("something comes back behind %d bytes" % (at + 1))
             except socket.timeout:
-                time.sleep(max(0.0, pause - (time.monotonic() - begun)))
+                continue
             except ConnectionError:
                 return
     raise Fault("all %d bytes could be sent" % len(sent))
@@ -186,3 +184,29 @@ class Proxy:
                 each.shutdown(socket.SHUT_RDWR)
             with contextlib.suppress(OSError):
                 each.close()
+
+
+class Impostor:
+    """Listens in a party's place, and answers each record with the same bytes."""
+
+    def __init__(self, port: int, answer: bytes) -> None:
+        self._answer = answer
+        self._listener = socket.socket()
+        self._listener.setsockopt(socket.SOL_SOCKET, socket.SO_REUSEADDR, 1)
+        self._listener.bind((HOST, port))
+        self._listener.listen()
+        threading.Thread(target=self._accept, daemon=True).start()
+
+    def _accept(self) -> None:
+        with contextlib.suppress(OSError):
+            while True:
+                connection, _ = self._listener.accept()
+                with connection, contextlib.suppress(OSError):
+                    while _record(connection) is not None:
+                        connection.sendall(self._answer)
+
+    def close(self) -> None:
+        """Ends it."""
+        with contextlib.suppress(OSError):
+            self._listener.shutdown(socket.SHUT_RDWR)
+        self._listener.close()

@@ -33,7 +33,7 @@ class Run:
         self._program, self._folder, self._top = program, folder, top
         self._values = Values(network.free_port, {"dir": folder, "top": top})
         self._parties: Dict[str, Party] = {}
-        self._others: Dict[str, Union[network.Connection, network.Proxy]] = {}
+        self._others: Dict[str, Union[network.Connection, network.Impostor, network.Proxy]] = {}
         self._limit = _LIMIT
         home = os.path.join(folder, ".home")
         os.mkdir(home)
@@ -205,6 +205,13 @@ class Run:
         if taken < len(fields) and not any_may_follow:
             raise Fault("it also has the field\n  %s" % fields[taken])
 
+    def _impostor(self, words: List[str], _: Row) -> None:
+        name, port, answer = words
+        if name in self._others:
+            self._others.pop(name).close()
+        answers = drives.framed(bytes.fromhex(answer.replace("-", "")))
+        self._others[name] = network.Impostor(self._values.port(port), answers)
+
     def _drip(self, words: List[str], _: Row) -> None:
         port, sent, pause = words
         network.drip(self._values.port(port), bytes.fromhex(sent), float(pause), self._limit)
@@ -250,7 +257,7 @@ class Run:
             "says": self._says, "end": self._end, "sleep": self._sleep, "limit": self._set_limit, "let": self._let,
             "proxy": self._proxy, "held": self._held, "ask": self._ask, "connect": self._connect, "close": self._close,
             "command": self._command, "sealed": self._sealed, "spoilt": self._spoilt, "message": self._message,
-            "drip": self._drip,
+            "drip": self._drip, "impostor": self._impostor,
             "stop": self._signal(signal.SIGSTOP), "continue": self._signal(signal.SIGCONT),
             "interrupt": self._signal(signal.SIGINT), "kill": self._signal(signal.SIGKILL),
         }
