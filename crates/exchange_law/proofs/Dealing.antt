@@ -11,6 +11,7 @@ use Rattle.server_rules.specs.Making.{create_file}
 use Rattle.server_rules.specs.Messages.{Message as ServerMessage}
 use Rattle.server_rules.specs.History as server_input
 use Rattle.server_rules.specs.Laws.{In}
+use Rattle.server_rules.proofs.Members.{in_mapped, in_filtered}
 use Rattle.client_rules.specs.Envelopes.{receiver}
 use Rattle.client_rules.specs.Messages.{Message as ClientMessage, Step as ClientStep}
 use Rattle.client_rules.specs.Steps.{new_client, calls}
@@ -30,7 +31,6 @@ use Rattle.world_history.specs.Drives.{judges, command_in, made_drive}
 use Rattle.world_history.specs.Handed.{Post, Handed, is_addressed, quiet, drive_hears, drive_replies, server_post, server_did, server_takes, client_posts, client_body, client_did, client_goes, client_hears, client_takes, for_client, for_server, handed_to, pending_op}
 use Rattle.world_history.specs.Moves as world
 use Rattle.world_history.specs.Moves.{Act, Action, Opens, Delivers, TimesOut as ActTimesOut, Pends, acts}
-use Rattle.job_law.proofs.Lists.{in_mapped, in_filtered}
 use Rattle.fencing_law.proofs.Moves.{messages_in, messages_set}
 
 -- ---- what an action does of clients

@@ -12,7 +12,8 @@ use Rattle.world_history.specs.Plans.{Plan, due, due_in, went_on, plan_of}
 use Rattle.world_history.specs.Runs.{world_after, lines_of, AreDue, plan_after, IsOver, Carries}
 use Rattle.world_history.specs.History.{Step, AreCarried, end_of, lines_of_steps, StandsFor, OneEventMore}
 use Rattle.world_history.specs.Refusals.{refusal, unless_there}
-use Rattle.history_law.proofs.DriveEvents.{never_opens}
+use Rattle.world_history.proofs.ReadMessages.{never_opens}
+use Rattle.world_history.proofs.Runs.{plan_more, no_opening}
 use Rattle.history_law.specs.BookMoments.{IsMoment, lines_so_far, lines_in, plan_at}
 use Rattle.fencing_law.proofs.Ending.{due_more, world_more, so_far_more}
 
@@ -22,10 +23,6 @@ pub record IsKept (P : World → List Line → Type 0) : Type 0 where
       → P (move w m).world (h ++ lines_in w m)
 
 -- ---- one move more
-
-plan_more : (p : Plan) (ms : List Move) (m : Move) → plan_after p (ms ++ m ∷ []) ≡ went_on (plan_after p ms) m.action
-plan_more p [] m = refl
-plan_more p (x ∷ ms) m = plan_more (went_on p x.action) ms m
 
 module _ (P : World → List Line → Type 0) (kept : IsKept P) (more : OneEventMore) where
   module _ (v : World) (h : List Line) (stands : StandsFor v h) (e : Event) (allowed : refusal v e ≡ None) where
@@ -107,10 +104,6 @@ module _ (P : World → List Line → Type 0) (kept : IsKept P) (more : OneEvent
       (stands_kept k.before k.history k.stands)))
 
 -- ---- a client that comes is new
-
-no_opening : (p : Plan) (ms : List Move) → p.opening ≡ None → (plan_after p ms).opening ≡ None
-no_opening p [] e = e
-no_opening p (m ∷ ms) e = no_opening (went_on p m.action) ms refl
 
 not_opened : (w : World) (p : Plan) (e : Event) → p.opening ≡ None → due p w ≡ Some (Opens e) → ⊥
 not_opened w p e none d =

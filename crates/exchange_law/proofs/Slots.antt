@@ -39,8 +39,9 @@ use Rattle.world_history.specs.Drives.{judges, command_in, made_drive}
 use Rattle.world_history.specs.Handed.{Post, Handed, quiet, drive_hears, drive_replies, server_takes, client_goes, client_hears, client_takes, for_client, for_server, handed_to, pending_op, op_in, end_line, ended_by}
 use Rattle.world_history.specs.Moves.{Act, Action, Opens, Delivers, TimesOut, Pends, marked, delivers_found, delivers, by_client, called, calls_at, times_out, leaves, resends, pends_as, pends, made_file, makes, gives, has_algorithm, injects_at, injects, adds_drive, changed, known_drive, knows_drive, op_of, raw_of, begins, acts}
 use Rattle.world_history.specs.Sending.{Move, move, sent_lines}
+use Rattle.world_history.proofs.Always.{opening, IsKept}
 use Rattle.history_law.proofs.Each.{EachBehind, each_more, each_front, at_each_line}
-use Rattle.history_law.proofs.Histories.{opening, IsKept, lawful}
+use Rattle.history_law.proofs.Histories.{lawful}
 use Rattle.history_law.proofs.DriveEvents.{IsRead, kept as all_read}
 use Rattle.exchange_law.specs.Text.{AreFew}
 use Rattle.exchange_law.specs.Refused.{HasSlot, NoSlotIsSpent}

@@ -4,6 +4,7 @@ use Rattle.std.proofs.lemmas.Bool.{cases_lt}
 use Rattle.std.proofs.lemmas.Bool.Decides.{nat_tests}
 use Rattle.std.proofs.lemmas.List.{append-nil}
 use Rattle.server_rules.specs.Laws.{In}
+use Rattle.server_rules.proofs.Members.{in_either}
 use Rattle.scenario_text.specs.declared.event.Event.{Event}
 use Rattle.scenario_text.specs.declared.line.Note.TheVariants as note
 use Rattle.scenario_text.specs.declared.line.Line.{Line}
@@ -15,13 +16,13 @@ use Rattle.world_history.specs.Plans.{Plan, Rule, due, due_by, went_on, rule_aft
 use Rattle.world_history.specs.Runs.{world_after, lines_of, AreDue, plan_after}
 use Rattle.world_history.specs.Refusals.{refusal}
 use Rattle.world_history.specs.History.{StandsFor}
+use Rattle.world_history.proofs.ReadMessages.{never_opens}
 use Rattle.history_law.specs.Spent.{Spends}
 use Rattle.history_law.proofs.Each.{EachBehind, HoldsAt, each_front}
 use Rattle.history_law.proofs.Histories.{stands, kept_part, lawful}
-use Rattle.history_law.proofs.DriveEvents.{IsRead, kept, never_opens}
+use Rattle.history_law.proofs.DriveEvents.{IsRead, kept}
 use Rattle.history_law.proofs.Spending.{all_spend}
 use Rattle.history_law.specs.BookMoments.{IsMoment, with_event, lines_so_far, lines_in, plan_at}
-use Rattle.job_law.proofs.Lists.{in_either}
 use Rattle.fencing_law.specs.Reaching.{is_spellable, OwnAt}
 use Rattle.fencing_law.specs.Fenced.{FencesEnd, ReachedRefuses}
 use Rattle.fencing_law.proofs.Moves.{moved}

@@ -11,6 +11,7 @@ use Rattle.server_rules.specs.Making.{create_file}
 use Rattle.server_rules.specs.Messages.{Message as ServerMessage}
 use Rattle.server_rules.specs.History.{Input, Hears, Makes, step, unless_made}
 use Rattle.server_rules.specs.History as server_input
+use Rattle.server_rules.proofs.Members.{in_filtered}
 use Rattle.client_rules.specs.Messages.{Message as ClientMessage, Step as ClientStep}
 use Rattle.client_rules.specs.Steps.{calls}
 use Rattle.client_rules.specs.History as client_input
@@ -36,7 +37,6 @@ use Rattle.world_history.specs.Drives.{judges, command_in}
 use Rattle.world_history.specs.Handed.{Post, Handed, is_addressed, server_post, client_posts, quiet, drive_hears, drive_replies, server_takes, client_hears, client_takes, client_goes, end_line, ended_by, for_client, for_server, handed_to, pending_op, op_in, wrote_in, data_in}
 use Rattle.world_history.specs.Moves.{Act, Action, Opens, Delivers, TimesOut, Pends, marked, delivers_found, delivers, drops_found, by_client, called, calls_at, times_out, leaves, resends, pends_as, pends, made_file, makes, gives, has_algorithm, by_drive, stops, injects_at, injects, adds_drive, changed, known_drive, knows_drive, op_of, raw_of, begins, acts}
 use Rattle.world_history.specs.Sending.{Move, move, sends_all}
-use Rattle.job_law.proofs.Lists.{in_filtered}
 
 -- ---- messages and notes
 

@@ -26,8 +26,9 @@ use Rattle.world_history.specs.Plans.{Rule, Alone, Prompt, when_quiet, quiet_at,
 use Rattle.world_history.specs.Refusals.{refusal, of_drive, unless_failed}
 use Rattle.world_history.specs.Reading.{left_out, changed_by, changed_at}
 use Rattle.world_history.specs.ReadDrives.{DriveSeen, sees_drive, drive_seen, drive_after, hears_bytes, where_it_is}
+use Rattle.world_history.proofs.Always.{opening, IsKept}
+use Rattle.world_history.proofs.ReadMessages.{drops_view, left_pending, quiet_opens, quiet_at_opens, pending_opens, never_opens}
 use Rattle.history_law.specs.Judging.{Judges, JudgesAt}
-use Rattle.history_law.proofs.Histories.{opening, IsKept}
 use Rattle.history_law.proofs.Each.{EachBehind, ArisesAt, HoldsAt, each_more, seen, none_quiet}
 use Rattle.history_law.proofs.Replying.{changes_it, changes_another, heard, touches}
 use Rattle.history_law.proofs.DriveLines.{view, seen_at, AreRead, reads_on, drive_read, IsTold, told_reads, IsQuietAct, quiet_told, shown_get, changed_view}
@@ -96,12 +97,6 @@ turned_told w i h e k f r is =
     quiet_told (at_drive w k f) i (h ++ line.Event e ∷ []) _
     (λ d. event_read w i h e r d ∙ is d ∙ turned_read w i d k f) (nothing (at_drive w k f))
 
-dropped_view : (w : World) (n : ℕ) (o : Option Posted) → slice_get w.network.messages n ≡ o
-    → changed_at (view w) n left_out ≡ view (drops_found w n o)
-dropped_view w n None e =
-    ap (λ (o : Option Sent). changed_by (view w) n left_out o) (shown_get w.network.messages n None e)
-dropped_view w n (Some p) e = changed_view w.network.messages n p (record p { dropped = true }) left_out e refl
-
 dropped_drives : (w : World) (n : ℕ) (o : Option Posted) → (drops_found w n o).drives ≡ w.drives
 dropped_drives w n None = refl
 dropped_drives w n (Some p) = refl
@@ -114,7 +109,7 @@ dropped_told w i h n r =
     quiet_told v i (h ++ line.Event (event.DropMessage n) ∷ []) _
     (λ d. event_read w i h (event.DropMessage n) r d
     ∙ ap (λ (ss : List Sent). seen ss i (at_number w.drives d))
-    (dropped_view w n (slice_get w.network.messages n) refl)
+    (drops_view w n (slice_get w.network.messages n) refl)
     ∙ ap (λ (ds : List (ℕ × DriveAt)). seen (view v) i (at_number ds d))
     (sym (dropped_drives w n (slice_get w.network.messages n))))
     (nothing v)
@@ -273,30 +268,6 @@ begins_told w i h (event.Fail k) chosen r allowed = turned_told w i h (event.Fai
 begins_told w i h e chosen r allowed = absurd (cc allowed)
 
 -- ---- moves
-
--- no event begins behind another's first move
-left_pending : (c : ℕ) (e : Event) (b : Bool) → (if b then Some (Pends c) else None) ≡ Some (Opens e) → ⊥
-left_pending c e true s = cc s
-left_pending c e false s = cc s
-
-quiet_opens : (c : ℕ) (a : client_rules.Client) (e : Event) (x : client_rules.Awaits)
-    → when_quiet c a x ≡ Some (Opens e) → ⊥
-quiet_opens c a e (client_rules.ADrive k) s = cc s
-quiet_opens c a e client_rules.TheServer s = left_pending c e (is_some a.call) s
-quiet_opens c a e client_rules.Nothing s = left_pending c e (is_some a.call) s
-
-quiet_at_opens : (c : ℕ) (e : Event) (a : Option ClientAt) → quiet_at c a ≡ Some (Opens e) → ⊥
-quiet_at_opens c e None s = cc s
-quiet_at_opens c e (Some a) s = quiet_opens c a.state e (awaits a.state) s
-
-pending_opens : (w : World) (c : Option ℕ) (e : Event) (n : Option ℕ) → due_pending w c n ≡ Some (Opens e) → ⊥
-pending_opens w c e (Some n) s = cc s
-pending_opens w None e None s = cc s
-pending_opens w (Some c) e None s = quiet_at_opens c e (at_number w.clients c) s
-
-pub never_opens : (w : World) (r : Rule) (e : Event) → due_by w r ≡ Some (Opens e) → ⊥
-never_opens w Alone e s = cc s
-never_opens w (Prompt first c) e s = pending_opens w c e (next_pending w first) s
 
 acts_told : (w : World) (i : List ℕ) (before : List Line) (chosen : List ℕ) (rule : Rule) (action : Action)
     → AreRead w i before → due_by w rule ≡ Some action → IsTold before (acts w chosen action)

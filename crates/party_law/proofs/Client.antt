@@ -16,8 +16,8 @@ use Rattle.client_rules.specs.Messages.{Message, Answers, Replies, Recalls, answ
 use Rattle.client_rules.specs.Replies.{answers, replied, timed_out}
 use Rattle.client_rules.specs.Requests.{args_of}
 use Rattle.client_rules.specs.Steps.{is_bad_range, is_spent, writes_nothing, starts, calls, timeout_under, timeout_call, times_out, leaves}
+use Rattle.client_rules.proofs.ReadSteps.{held_file}
 use Rattle.exchange_law.proofs.ClientKeeping.{put_read, without_read}
-use Rattle.exchange_law.proofs.Numbers.{held_file}
 use Rattle.party_law.specs.Sizes.{IsCommit}
 use Rattle.party_law.proofs.Kept.{IsKept, replied_kept, timed_out_kept, begins_kept}
 

@@ -7,8 +7,8 @@ use Rattle.server_rules.specs.Messages.{awaited_by, on_message, counters_have_ro
 use Rattle.server_rules.specs.Jobs.{making}
 use Rattle.server_rules.specs.Making.{refusal, places, unmade, with_file, makes_file, unless_refused, create_file}
 use Rattle.server_rules.specs.History.{Input, Hears, Makes, Obeys, Adds, Formats, Resends, Crashes, Opens, step, unless_made}
+use Rattle.server_rules.proofs.Members.{in_either}
 use Rattle.job_law.specs.Names.{Command, ToDrive, Server, File, Drive, Refusal}
-use Rattle.job_law.proofs.Lists.{in_either}
 use Rattle.job_law.proofs.Files.{in_add, add_there, in_drives}
 use Rattle.sent_law.proofs.Numbers.{in_new}
 use Rattle.sent_law.proofs.Going.{with_owner, owner_below, owner_from}

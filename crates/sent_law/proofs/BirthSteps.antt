@@ -15,8 +15,8 @@ use Rattle.server_rules.specs.Messages.{Message, Asks, Replies, Orders, or_else,
 use Rattle.server_rules.specs.Orders.{Ordered, begins_job, starts, recalls_on, declares_each, with_offline, offline, declare, declares_known, ordered, with_result}
 use Rattle.server_rules.specs.Rounds.{Round, step_round}
 use Rattle.server_rules.specs.Jobs.{declares, fence_begins}
+use Rattle.server_rules.proofs.Members.{in_either}
 use Rattle.job_law.specs.Names.{Command, ToDrive, Server, File, Drive, Job, JobKind, Revoking, Rebuilding, Auditing, Effects, Reply, ClientRequest, Awaited, OrderKind, ToRecall, ToRevoke, ToDeclare, ToRebuild, ToAudit, Busy, Spent}
-use Rattle.job_law.proofs.Lists.{in_either}
 use Rattle.job_law.proofs.Files.{found_file, in_drives}
 use Rattle.sent_law.proofs.ObjectSteps.{Agree}
 use Rattle.sent_law.proofs.Going.{answers_alone, no_recall}
