@@ -40,7 +40,7 @@ use Rattle.exchange_law.proofs.LaneMoments.{IsKept, moment}
 
 -- ---- a moment's history
 
-known_moves : (v : World) (h : List Line) (e : Event) (ms : List Move) → StandsFor v h → refusal v e ≡ None
+pub known_moves : (v : World) (h : List Line) (e : Event) (ms : List Move) → StandsFor v h → refusal v e ≡ None
     → AreDue (plan_of v e) v ms → IsKnown (world_after v ms) (h ++ lines_so_far v e ms)
 known_moves v h e [] s allowed d = subst (IsKnown v) (sym (append-nil h)) (histories.stands IsKnown all_known v h s)
 known_moves v h e (m ∷ ms) s allowed d =

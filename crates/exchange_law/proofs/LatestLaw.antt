@@ -130,7 +130,7 @@ new_in w c s h none new = record {
     nonces k y (inl (d, i)) b n = omega (arith, new.later d k y i b n)
     nonces k y (inr (x, i, e)) b n = absurd (subst (In x) none i)
 
-reply_never : (r : Reply) (o : Option Awaited) (x : Answer) → reply_taken r o ≡ Some (TakesAnswer x) → ⊥
+pub reply_never : (r : Reply) (o : Option Awaited) (x : Answer) → reply_taken r o ≡ Some (TakesAnswer x) → ⊥
 reply_never r None x e = cc e
 reply_never r (Some a) x e = cc e
 

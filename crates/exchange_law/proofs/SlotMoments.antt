@@ -16,11 +16,7 @@ use Rattle.world_history.proofs.ReadMessages.{never_opens}
 use Rattle.world_history.proofs.Runs.{plan_more, no_opening}
 use Rattle.history_law.specs.BookMoments.{IsMoment, lines_so_far, lines_in, plan_at}
 use Rattle.fencing_law.proofs.Ending.{due_more, world_more, so_far_more}
-
-pub record IsKept (P : World → List Line → Type 0) : Type 0 where
-  pub starts : P empty_world []
-  pub moves : (w : World) (h : List Line) (k : IsMoment w h) (m : Move) → due (plan_at k) w ≡ Some m.action → P w h
-      → P (move w m).world (h ++ lines_in w m)
+use Rattle.exchange_law.proofs.LaneMoments.{IsKept}
 
 -- ---- one move more
 

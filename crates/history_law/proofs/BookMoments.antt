@@ -24,13 +24,13 @@ use Rattle.history_law.proofs.Staying.{written_front}
 use Rattle.history_law.proofs.Following.{IsServerRead, IsFollowed, followed, is_new, rule_read, opens_read}
 
 -- what an event still has to do behind its first move
-later_rule : (r : Rule) (ms : List Move)
+pub later_rule : (r : Rule) (ms : List Move)
     → (q : Rule) × (plan_after (record { opening = None; rule = r }) ms ≡ record { opening = None; rule = q })
 later_rule r [] = (r, refl)
 later_rule r (m ∷ ms) = later_rule (rule_after r m.action) ms
 
 -- no event begins behind it
-no_event : (w : World) (r : Rule) (action : Action) (ls : List Line) → due_by w r ≡ Some action
+pub no_event : (w : World) (r : Rule) (action : Action) (ls : List Line) → due_by w r ≡ Some action
     → with_event action ls ≡ ls
 no_event w r (Delivers number) ls d = refl
 no_event w r (TimesOut c component) ls d = refl

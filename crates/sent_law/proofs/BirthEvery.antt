@@ -11,12 +11,12 @@ use Rattle.server_rules.proofs.Members.{in_either}
 use Rattle.job_law.specs.Names.{Command, ToDrive, Server, File, Drive, Refusal}
 use Rattle.job_law.proofs.Files.{in_add, add_there, in_drives}
 use Rattle.sent_law.proofs.Numbers.{in_new}
-use Rattle.sent_law.proofs.Going.{with_owner, owner_below, owner_from}
 use Rattle.sent_law.specs.Standing.{is_running}
 use Rattle.sent_law.proofs.BirthEnds.{IsFine, fine_later}
 use Rattle.sent_law.proofs.BirthJobs.{ends_making}
 use Rattle.sent_law.proofs.BirthGoing.{AreFine, IsSent, sent_of, Keeps, idle, stays, either_step, goes_at, begun}
 use Rattle.sent_law.proofs.BirthSteps.{obeyed, heard_message}
+use Rattle.sent_law.proofs.ObjectSteps.{with_owner, owner_below, owner_from}
 
 -- ---- making
 

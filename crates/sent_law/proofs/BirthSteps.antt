@@ -18,8 +18,8 @@ use Rattle.server_rules.specs.Jobs.{declares, fence_begins}
 use Rattle.server_rules.proofs.Members.{in_either}
 use Rattle.job_law.specs.Names.{Command, ToDrive, Server, File, Drive, Job, JobKind, Revoking, Rebuilding, Auditing, Effects, Reply, ClientRequest, Awaited, OrderKind, ToRecall, ToRevoke, ToDeclare, ToRebuild, ToAudit, Busy, Spent}
 use Rattle.job_law.proofs.Files.{found_file, in_drives}
+use Rattle.job_law.proofs.Steps.{no_answer, no_recall}
 use Rattle.sent_law.proofs.ObjectSteps.{Agree}
-use Rattle.sent_law.proofs.Going.{answers_alone, no_recall}
 use Rattle.sent_law.proofs.PhaseSteps.{found_in}
 use Rattle.sent_law.proofs.BirthEnds.{IsFine, born_later, fine_later, AllSent, Ends, holds_on}
 use Rattle.sent_law.proofs.BirthJobs.{ends_fence, ends_hears, ends_declares}
@@ -96,7 +96,7 @@ module _ (birth : ℕ → ℕ) (s : Server) (own : AreFine birth s) where
 
   carries : (now : ℕ) (chosen : List ℕ) (q : ClientRequest) (o : Option File) → file_at s.files q.file ≡ o
       → IsKept (carries_out s now chosen q o)
-  carries now chosen q None e = answer_kept _ refl refl (answers_alone _)
+  carries now chosen q None e = answer_kept _ refl refl (no_answer _)
   carries now chosen q (Some f) e =
       let v = serves (at_file s chosen f) s.next_grant s.format now q.client q.args in
       goes_at birth s own q.file v.going (carried_out s q v) refl refl
@@ -104,7 +104,7 @@ module _ (birth : ℕ → ℕ) (s : Server) (own : AreFine birth s) where
         | inl j ↦ j
         | inr j ↦ elim (in_either (ToDrive drive c) (recalls_from s.next_recall v.recalled) _ j) [
           | inl k ↦ absurd (no_recall s.next_recall v.recalled drive c k)
-          | inr k ↦ absurd (answers_alone _ drive c k)
+          | inr k ↦ absurd (no_answer _ drive c k)
         ]
       ])
       (ends_served birth s.next_object [] (at_file s chosen f) s.next_grant s.format now q.client q.args
@@ -112,8 +112,8 @@ module _ (birth : ℕ → ℕ) (s : Server) (own : AreFine birth s) where
 
   admitted : (now : ℕ) (chosen : List ℕ) (q : ClientRequest) (a : Admit) → IsKept (by_admit s now chosen q a)
   admitted now chosen q New = carries now chosen q (file_at s.files q.file) refl
-  admitted now chosen q (Again kept) = answer_kept _ refl refl (answers_alone _)
-  admitted now chosen q (Misordered expected) = answer_kept _ refl refl (answers_alone _)
+  admitted now chosen q (Again kept) = answer_kept _ refl refl (no_answer _)
+  admitted now chosen q (Misordered expected) = answer_kept _ refl refl (no_answer _)
 
   asked : (now : ℕ) (chosen : List ℕ) (q : ClientRequest) → IsKept (on_request s now chosen q)
   unfolding on_request

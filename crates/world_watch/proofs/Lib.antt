@@ -2,6 +2,6 @@ mod Reading
 mod Telling
 mod Stepping
 mod Sums
-mod Finding
-mod Sighting
+pub mod Finding
+pub mod Sighting
 mod Keeping
