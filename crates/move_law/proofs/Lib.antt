@@ -1,0 +1,5 @@
+pub mod Moves
+pub mod Goes
+pub mod Steps
+pub mod Files
+pub mod Turns
