@@ -31,7 +31,8 @@ use Rattle.world_history.specs.Handed.{Post, Handed, is_addressed, quiet, drive_
 use Rattle.world_history.specs.Moves as world
 use Rattle.world_history.specs.Moves.{Act, Action, Opens, Delivers, TimesOut as ActTimesOut, Pends, acts}
 use Rattle.job_law.proofs.Lists.{in_mapped, in_filtered}
-use Rattle.fencing_law.proofs.Moves.{messages_in, messages_set}
+use Rattle.fencing_law.proofs.Moves.{messages_in}
+use Rattle.move_law.proofs.Moves.{said_marked}
 
 -- ---- what an action does of clients
 
@@ -214,7 +215,7 @@ found_acts : (w : World) (chosen : List ℕ) (n : ℕ) (o : Option Posted) → s
     → ActsIn w (world.delivers_found w chosen n o)
 found_acts w chosen n None there = quiet_act w w refl refl
 found_acts w chosen n (Some p) there =
-    let same = messages_set w.network.messages n p (record p { delivered = true }) there refl in
+    let same = said_marked w.network.messages n p (record p { delivered = true }) there refl in
     unmarked w (world.marked w n p) _ _ refl same
     (handed_acts (world.marked w n p) chosen p.message p.message.to
     (subst (In p.message) (sym same) (in_messages w.network.messages n p there)) refl)
@@ -227,7 +228,7 @@ dropped : (w : World) (n : ℕ) (o : Option Posted) → slice_get w.network.mess
     → ActsIn w (world.changed (world.drops_found w n o))
 dropped w n None there = quiet_act w w refl refl
 dropped w n (Some p) there =
-    quiet_act w _ refl (messages_set w.network.messages n p (record p { dropped = true }) there refl)
+    quiet_act w _ refl (said_marked w.network.messages n p (record p { dropped = true }) there refl)
 
 -- ---- a client
 

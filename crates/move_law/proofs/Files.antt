@@ -6,7 +6,7 @@ use Rattle.server_rules.specs.Going.{Going}
 use Rattle.osd_bytes.specs.declared.node.Node.TheVariants.{Server as FromServer}
 use Rattle.server_rules.specs.History.{Input, Hears, step}
 use Rattle.server_rules.specs.Jobs.{making, declares, fence_begins}
-use Rattle.server_rules.specs.Laws.{In}
+use Rattle.server_rules.specs.Laws.{In, IsSafe, AreSafe}
 use Rattle.server_rules.specs.Making.{with_file}
 use Rattle.server_rules.specs.Messages.{Orders}
 use Rattle.server_rules.specs.Openings.{crashed_file, opens, opens_each}
@@ -112,6 +112,11 @@ module _ (Q : File → Type 0) where
         | inl same ↦ subst Q (sym same) (all f (inl refl) m)
         | inr j ↦ opened_each format ds fs g.moved (λ y k. all y (inr k)) x j
       ]
+
+pub safe_in : (fs : List File) → AreSafe fs → (f : File) → In f fs → IsSafe f
+safe_in [] safe f i = absurd i
+safe_in (g ∷ fs) safe f (inl same) = subst IsSafe (sym same) safe.0
+safe_in (g ∷ fs) safe f (inr i) = safe_in fs safe.1 f i
 
 -- ---- what stands under each number
 

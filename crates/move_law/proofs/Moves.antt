@@ -50,6 +50,27 @@ refusal_is server_rules.FileExists = tt
 refusal_is (server_rules.BadMap why) = tt
 refusal_is (server_rules.TooFewDrives online) = tt
 
+-- what stands in front of what a party tells: nothing, or one of two lines
+pub each_front : (Q : List Line → Type 0) → Q [] → ((number : ℕ) (d : Delivery) → Q (line.Delivered number d ∷ []))
+    → ((c component : ℕ) → Q (line.TimedOut c component ∷ [])) → (action : Action) (d : Delivery) → Q (front_of action d)
+each_front Q none delivered timed (Opens (event.Deliver number)) d = delivered number d
+each_front Q none delivered timed (Opens (event.Timeout c component)) d = timed c component
+each_front Q none delivered timed (Delivers number) d = delivered number d
+each_front Q none delivered timed (TimesOut c component) d = timed c component
+each_front Q none delivered timed action d = none
+
+-- no action hands the server a drive: that is a case of its own
+pub none_added : (w : World) (action : Action) (x : server_rules.Drive) → IsForServer w action (server.Adds x) → ⊥
+none_added w (Opens (event.File f m tag)) x is = cc is
+none_added w (Opens (event.Format format)) x is = cc is
+none_added w (Opens (event.Resend sender.Server)) x is = cc is
+none_added w (Opens (event.Recall f)) x is = cc is
+none_added w (Opens (event.Revoke f)) x is = cc is
+none_added w (Opens (event.Rebuild f)) x is = cc is
+none_added w (Opens (event.Audit f)) x is = cc is
+none_added w (Opens (event.Declare d)) x is = cc is
+none_added w action x is = cc is
+
 module _ (w : World) (chosen : List ℕ) (action : Action) (P : Act → Type 0) (k : MoveCases w chosen action P) where
   -- ---- nothing, and one of two
 
