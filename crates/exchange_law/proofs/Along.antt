@@ -15,7 +15,8 @@ use Rattle.world_history.specs.Refusals.{refusal}
 use Rattle.history_law.proofs.Histories.{opening}
 use Rattle.history_law.proofs.DriveEvents.{never_opens}
 use Rattle.history_law.specs.BookMoments.{IsMoment, lines_so_far, lines_in}
-use Rattle.fencing_law.proofs.Ending.{so_far_more, next_moment}
+use Rattle.move_law.proofs.Moments.{so_far_more}
+use Rattle.fencing_law.proofs.Ending.{next_moment}
 
 -- an event with which a move begins isn't refused
 abbrev pub MayMove : World → Move → Type 0

@@ -1,4 +1,5 @@
 -- The drives are read off every history, and of each line it is told what it may do.
+pub use Rattle.move_law.proofs.Moments.{never_opens}
 use Rattle.std.proofs.Common.{◌≡◌, ◌==◌, ℕ, ◌++◌, ◌∷◌, [], List, Bool, true, false, Option, Some, None, IsSome, is_some, slice_get, option_map, refl, sym, ap, subst, ◌∙◌, append_assoc, inl, inr, if◌then◌else◌}
 use Rattle.std.proofs.lemmas.Bool.{cases_eq, eq-eqb, ne_eqb}
 use Rattle.osd_commands.specs.Commands.{reading}
@@ -272,30 +273,6 @@ begins_told w i h (event.Fail k) chosen r allowed = turned_told w i h (event.Fai
 begins_told w i h e chosen r allowed = absurd (cc allowed)
 
 -- ---- moves
-
--- no event begins behind another's first move
-left_pending : (c : ℕ) (e : Event) (b : Bool) → (if b then Some (Pends c) else None) ≡ Some (Opens e) → ⊥
-left_pending c e true s = cc s
-left_pending c e false s = cc s
-
-quiet_opens : (c : ℕ) (a : client_rules.Client) (e : Event) (x : client_rules.Awaits)
-    → when_quiet c a x ≡ Some (Opens e) → ⊥
-quiet_opens c a e (client_rules.ADrive k) s = cc s
-quiet_opens c a e client_rules.TheServer s = left_pending c e (is_some a.call) s
-quiet_opens c a e client_rules.Nothing s = left_pending c e (is_some a.call) s
-
-quiet_at_opens : (c : ℕ) (e : Event) (a : Option ClientAt) → quiet_at c a ≡ Some (Opens e) → ⊥
-quiet_at_opens c e None s = cc s
-quiet_at_opens c e (Some a) s = quiet_opens c a.state e (awaits a.state) s
-
-pending_opens : (w : World) (c : Option ℕ) (e : Event) (n : Option ℕ) → due_pending w c n ≡ Some (Opens e) → ⊥
-pending_opens w c e (Some n) s = cc s
-pending_opens w None e None s = cc s
-pending_opens w (Some c) e None s = quiet_at_opens c e (at_number w.clients c) s
-
-pub never_opens : (w : World) (r : Rule) (e : Event) → due_by w r ≡ Some (Opens e) → ⊥
-never_opens w Alone e s = cc s
-never_opens w (Prompt first c) e s = pending_opens w c e (next_pending w first) s
 
 acts_told : (w : World) (i : List ℕ) (before : List Line) (chosen : List ℕ) (rule : Rule) (action : Action)
     → AreRead w i before → due_by w rule ≡ Some action → IsTold before (acts w chosen action)

@@ -3,3 +3,5 @@ pub mod Goes
 pub mod Steps
 pub mod Files
 pub mod Turns
+pub mod Reached
+pub mod Moments

@@ -1,5 +1,5 @@
 -- What is so in each case of a move is so of each move. This is the one walk over what an action does.
-use Rattle.std.proofs.Common.{◌≡◌, ℕ, zero, suc, Bool, true, false, List, [], ◌∷◌, Option, Some, None, Result, Ok, Err, refl, sym, ap, subst, ◌∙◌}
+use Rattle.std.proofs.Common.{◌≡◌, ℕ, zero, suc, Bool, true, false, List, [], ◌∷◌, Option, Some, None, Result, Ok, Err, length, refl, sym, ap, subst, ◌∙◌}
 use Rattle.std.specs.Prelude.{slice_get, slice_set, is_some, if◌then◌else◌}
 use Rattle.osd_bytes.specs.declared.node.Node.{Node}
 use Rattle.osd_bytes.specs.declared.node.Node.TheVariants as node
@@ -44,6 +44,15 @@ said_marked (x ∷ ms) zero p q e s =
     let it : x ≡ p = cc e in
     ap (λ (m : Message). m ∷ said ms) (s ∙ sym (ap (λ (y : Posted). y.message) it))
 said_marked (x ∷ ms) (suc n) p q e s = ap (λ (l : List Message). x.message ∷ l) (said_marked ms n p q e s)
+
+-- so many were sent
+pub said_length : (xs ys : List Posted) → said xs ≡ said ys → length xs ≡ length ys
+said_length [] [] e = refl
+said_length [] (y ∷ ys) e = absurd (cc e)
+said_length (x ∷ xs) [] e = absurd (cc e)
+said_length (x ∷ xs) (y ∷ ys) e =
+    let rest : said xs ≡ said ys = cc e in
+    ap suc (said_length xs ys rest)
 
 refusal_is : (e : Refusal) → IsFileRefusal (told_file_refusal e)
 refusal_is server_rules.FileExists = tt

@@ -4,3 +4,4 @@ pub mod Moves
 pub mod Steps
 pub mod Files
 pub mod Turns
+pub mod Moments
