@@ -72,6 +72,7 @@ module _ (R : ℕ → Client → Type 0) (k : IsKeptByClients R) (n : ℕ) (w : 
   cases : (chosen : List ℕ) (action : Action) → MoveCases w chosen action GoesTo
   cases chosen action = record {
     rests = λ ms said told quiet. same_clients _ _ refl;
+    refused = λ c a found op is e why. same_clients _ _ refl;
     clock = λ time. same_clients _ _ refl;
     serves = λ ms said i is. same_clients _ _ refl;
     goes = λ ms said c a found i is.

@@ -147,6 +147,7 @@ module _ (w : World) (c : ℕ) where
 cases : (w : World) (chosen : List ℕ) (action : Action) → MoveCases w chosen action (ActsIn w)
 cases w chosen action = record {
   rests = λ ms said told quiet. Others (same_states w _ refl) said none_sent;
+  refused = λ c a found op is e why. quiet_act w _ refl refl;
   clock = λ time. quiet_act w _ refl refl;
   serves = λ ms said i is. Others (same_states w _ refl) said (server_none (server_input.step w.server chosen i).sends);
   goes = λ ms said c a found i is.

@@ -51,6 +51,7 @@ Named a = AreNamedTo a.posts
 cases : (w : World) (chosen : List ℕ) (action : Action) → MoveCases w chosen action Named
 cases w chosen action = record {
   rests = λ ms said told quiet. tt;
+  refused = λ c a found op is e why. tt;
   clock = λ time. tt;
   serves = λ ms said i is. addressed (map server_post (server_input.step w.server chosen i).sends);
   goes = λ ms said c a found i is.

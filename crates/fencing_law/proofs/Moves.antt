@@ -26,7 +26,7 @@ use Rattle.world_history.specs.Moves.{Act, Action, known_drive, acts}
 use Rattle.world_history.specs.Sending.{Move, move, sends_all}
 use Rattle.job_law.proofs.Lists.{in_filtered}
 use Rattle.move_law.specs.Moves.{IsForServer, IsQuiet, AreQuiet, front_of, MoveCases}
-use Rattle.move_law.proofs.Moves.{each_front, each_act}
+use Rattle.move_law.proofs.Moves.{front_cases, each_act}
 
 -- ---- messages and notes
 
@@ -130,7 +130,7 @@ behind : (X : ℕ → ℕ → Type 0) (ls : List Line) → ((f tag : ℕ) → In
     → (action : Action) (d : Delivery) (f tag : ℕ) → In (line.Note f (note.Fenced tag)) (front_of action d ++ ls)
     → X f tag
 behind X ls told action d =
-    each_front (λ (front : List Line). (f tag : ℕ) → In (line.Note f (note.Fenced tag)) (front ++ ls) → X f tag) told
+    front_cases (λ (front : List Line). (f tag : ℕ) → In (line.Note f (note.Fenced tag)) (front ++ ls) → X f tag) told
     (λ number x. one (line.Delivered number x) (λ f tag e. cc e)) (λ c k. one (line.TimedOut c k) (λ f tag e. cc e))
     action d
   where
@@ -174,6 +174,7 @@ sent_to_it w action i is = tt
 cases : (w : World) (chosen : List ℕ) (action : Action) → MoveCases w chosen action (ActsIn w)
 cases w chosen action = record {
   rests = λ ms said told quiet. Others refl said (quiet_none told quiet) none_sent;
+  refused = λ c a found op is e why. Others refl refl (alone _ (λ f tag x. cc x)) none_sent;
   clock = λ time. Others refl refl none_told none_sent;
   serves = λ ms said i is.
       Serves chosen i (sent_to_it w action i is) refl said

@@ -24,6 +24,7 @@ same w a server messages kept = record { grants = omega (arith, server); message
 cases : (w : World) (chosen : List ℕ) (action : Action) → MoveCases w chosen action (Counts w)
 cases w chosen action = record {
   rests = λ ms said told quiet. same w _ refl (said_length ms w.network.messages said) refl;
+  refused = λ c a found op is e why. same w _ refl refl refl;
   clock = λ time. same w _ refl refl refl;
   serves = λ ms said i is. record {
     grants = (step_counted w.server chosen i).grants;

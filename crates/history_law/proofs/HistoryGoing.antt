@@ -46,6 +46,7 @@ GoesOn w a = Going w (sends_all a).world
 cases : (w : World) (m : Move) → MoveCases w m.chosen m.action (GoesOn w)
 cases w m = record {
   rests = λ ms said told quiet. still w _ refl refl;
+  refused = λ c a found op is e why. still w _ refl refl;
   clock = λ time. still w _ refl refl;
   serves = λ ms said i is. record {
     server = Steps (record { input = i; chosen = m.chosen }) refl;

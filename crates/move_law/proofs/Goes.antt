@@ -26,6 +26,10 @@ cases w chosen action = record {
     goes = Others (record { server = refl; clients = refl; posts = Nothing refl });
     said = said;
   };
+  refused = λ c a found op is e why. record {
+    goes = Others (record { server = refl; clients = refl; posts = Nothing refl });
+    said = refl;
+  };
   clock = λ time. record {
     goes = Others (record { server = refl; clients = refl; posts = Nothing refl });
     said = refl;

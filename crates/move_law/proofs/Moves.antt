@@ -60,13 +60,13 @@ refusal_is (server_rules.BadMap why) = tt
 refusal_is (server_rules.TooFewDrives online) = tt
 
 -- what stands in front of what a party tells: nothing, or one of two lines
-pub each_front : (Q : List Line → Type 0) → Q [] → ((number : ℕ) (d : Delivery) → Q (line.Delivered number d ∷ []))
+pub front_cases : (Q : List Line → Type 0) → Q [] → ((number : ℕ) (d : Delivery) → Q (line.Delivered number d ∷ []))
     → ((c component : ℕ) → Q (line.TimedOut c component ∷ [])) → (action : Action) (d : Delivery) → Q (front_of action d)
-each_front Q none delivered timed (Opens (event.Deliver number)) d = delivered number d
-each_front Q none delivered timed (Opens (event.Timeout c component)) d = timed c component
-each_front Q none delivered timed (Delivers number) d = delivered number d
-each_front Q none delivered timed (TimesOut c component) d = timed c component
-each_front Q none delivered timed action d = none
+front_cases Q none delivered timed (Opens (event.Deliver number)) d = delivered number d
+front_cases Q none delivered timed (Opens (event.Timeout c component)) d = timed c component
+front_cases Q none delivered timed (Delivers number) d = delivered number d
+front_cases Q none delivered timed (TimesOut c component) d = timed c component
+front_cases Q none delivered timed action d = none
 
 -- no action hands the server a drive: that is a case of its own
 pub none_added : (w : World) (action : Action) (x : server_rules.Drive) → IsForServer w action (server.Adds x) → ⊥
@@ -178,7 +178,7 @@ module _ (w : World) (chosen : List ℕ) (action : Action) (P : Act → Type 0) 
   called : (c : ℕ) (a : ClientAt) (op : CallOp) → at_number w.clients c ≡ Some a
       → IsForClient w action c a (client.Calls op) → front_of action delivery.Taken ≡ []
       → (r : Result ClientStep CallErr) → calls a.state op ≡ r → P (world.called w c a op r)
-  called c a op found for front (Err e) is = k.rests w.network.messages refl (line.Refused c _ ∷ []) (tt, tt)
+  called c a op found for front (Err e) is = k.refused c a found op for e is
   called c a op found for front (Ok s) is =
       subst (λ (r : Result ClientStep CallErr).
       P (world.acted (client_did w c a (client.Calls op) (client.unless_refused a.state r)))) is

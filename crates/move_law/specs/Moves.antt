@@ -1,10 +1,11 @@
 -- A move by cases: it is a step of one party, with what that tells and sends, or no party goes on.
-use Rattle.std.specs.Prelude.{◌≡◌, ℕ, false, true, List, [], ◌∷◌, ◌++◌, Option, Some, None, slice_get}
+use Rattle.std.specs.Prelude.{◌≡◌, ℕ, false, true, List, [], ◌∷◌, ◌++◌, Option, Some, None, Err}
 use Rattle.osd_bytes.specs.declared.node.Node.{Node}
 use Rattle.osd_bytes.specs.declared.node.Node.TheVariants as node
 use Rattle.osd_commands.specs.Commands as commands
 use Rattle.server_rules.specs.Making.{add_drive}
 use Rattle.server_rules.specs.History as server
+use Rattle.client_rules.specs.Steps.{calls}
 use Rattle.client_rules.specs.History as client
 use Rattle.scenario_text.specs.declared.event.Event.TheVariants as event
 use Rattle.scenario_text.specs.declared.event.Sender.TheVariants as sender
@@ -12,16 +13,19 @@ use Rattle.scenario_text.specs.declared.line.Delivery.{Delivery}
 use Rattle.scenario_text.specs.declared.line.Delivery.TheVariants as delivery
 use Rattle.scenario_text.specs.declared.line.Ending.TheVariants as ending
 use Rattle.scenario_text.specs.declared.line.Outcome.TheVariants as outcome
+use Rattle.scenario_text.specs.declared.line.Refusal.TheVariants as refusal
 use Rattle.scenario_text.specs.declared.line.Note.{Note}
 use Rattle.scenario_text.specs.declared.line.Note.TheVariants as note
 use Rattle.scenario_text.specs.declared.line.Line.{Line}
 use Rattle.scenario_text.specs.declared.line.Line.TheVariants as line
 use Rattle.world_history.specs.ServerNames as server_rules
+use Rattle.world_history.specs.ClientNames.{CallOp, CallErr}
 use Rattle.world_history.specs.declared.messages.Posted.{Posted}
 use Rattle.world_history.specs.State.{World, DriveAt, ClientAt, at_number, with_drive, and_drive, with_client}
+use Rattle.world_history.specs.Told.{told_refusal}
 use Rattle.world_history.specs.Drives.{judges, command_in, made_drive, raised, at_time, fallen}
 use Rattle.world_history.specs.Handed.{Handed, server_did, client_did, drive_replies, for_server, for_client}
-use Rattle.world_history.specs.Moves.{Act, Action, Opens, Delivers, TimesOut, changed, told_delivered, judged_at, op_of, raw_of, known_drive, knows_drive, adds_client}
+use Rattle.world_history.specs.Moves.{Act, Action, Opens, Delivers, TimesOut, changed, tells, told_delivered, judged_at, op_of, raw_of, known_drive, knows_drive, adds_client}
 use Rattle.move_law.specs.Said.{said, with_marks, IsDelivered}
 
 -- ---- what an action hands to a party
@@ -93,11 +97,11 @@ IsFileRefusal (note.BadMap why) = Unit {0}
 IsFileRefusal (note.TooFew online) = Unit {0}
 IsFileRefusal n = ⊥
 
--- what is told where no party goes on: what became of a message, that a call or a file is refused, or that a call is
--- left pending
+-- what is told where no party goes on: what became of a message, that a client with a call can't leave, that a file is
+-- refused, or that a call is left pending
 abbrev pub IsQuiet : Line → Type 0
 IsQuiet (line.Delivered number d) = Unit {0}
-IsQuiet (line.Refused c why) = Unit {0}
+IsQuiet (line.Refused c refusal.Busy) = Unit {0}
 IsQuiet (line.Ended c (outcome.Failed kind ending.Pending)) = Unit {0}
 IsQuiet (line.Note f n) = IsFileRefusal n
 IsQuiet l = ⊥
@@ -123,6 +127,10 @@ pub record MoveCases (w : World) (chosen : List ℕ) (action : Action) (P : Act 
   -- no party goes on: a mark may be set, and a line tells why
   pub rests : (ms : List Posted) → said ms ≡ said w.network.messages → (told : List Line) → AreQuiet told
       → P (record { world = with_marks w ms; told = told; posts = [] })
+  -- a call is refused
+  pub refused : (c : ℕ) (a : ClientAt) → at_number w.clients c ≡ Some a → (op : CallOp)
+      → IsForClient w action c a (client.Calls op) → (e : CallErr) → calls a.state op ≡ Err e
+      → P (tells w (line.Refused c (told_refusal e)))
   -- the server's clock shows this
   pub clock : (time : ℕ) → P (changed (record w { clock = time }))
   -- the server takes a step

@@ -85,6 +85,7 @@ module _ (w : World) where
   cases : (chosen : List ℕ) (action : Action) → MakesNone action → MoveCases w chosen action (λ (a : Act). Stays w a.world)
   cases chosen action none = record {
     rests = λ ms said told quiet. same _ refl refl;
+    refused = λ c a found op is e why. same _ refl refl;
     clock = λ time. same _ refl refl;
     serves = λ ms said i is. record {
       drives = λ d. refl;

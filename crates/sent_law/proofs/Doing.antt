@@ -134,6 +134,7 @@ cases : (w : World) (chosen : List ℕ) (action : Action) → IsNamedAction acti
     → MoveCases w chosen action (Does w chosen)
 cases w chosen action named = record {
   rests = λ ms said told quiet. Rests refl tells_none;
+  refused = λ c a found op is e why. Rests refl tells_none;
   clock = λ time. Rests refl tells_none;
   serves = λ ms said i is. Serves i (comes w action i is named) refl (server_tells (step w.server chosen i).sends);
   goes = λ ms said c a found i is.
