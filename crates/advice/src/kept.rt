@@ -1,7 +1,8 @@
 // A source whose text is kept, so that a person can be shown a place in it.
 ghost use Rattle.std.specs.Prelude.{◌≡◌};
 
-use osd_bytes::{Bytes, Fault, Source};
+use osd_bytes::{Fault, Source};
+use osd_lists::Bytes;
 use std::alloc::Global;
 
 /// The most bytes that [`Kept`] keeps: 1 MiB. A longer text isn't kept at all.

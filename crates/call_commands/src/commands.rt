@@ -8,9 +8,9 @@ ghost use Rattle.client_rules.specs.Commands.{no_capability, no_credential, cred
 use crate::pending::{PendingCommands, copied};
 use client_rules::{Awaited, AwaitedCommands, Credential, Held, NONCES};
 use layout_types::{DEVICE_ID_BYTES, ObjId};
-use osd_bytes::{Bytes, Memory};
 use osd_capability::{CHECK_BYTES, CapKey, Capability, FORMAT_SHA1, FORMAT_SHA256, SHA1_TAG_BYTES};
 use osd_commands::{Action, Command, seal};
+use osd_lists::{Bytes, Memory};
 use std::alloc::Global;
 use stripe_plan::{Ask, Store};
 

@@ -7,7 +7,7 @@ ghost use Rattle.call_commands.specs.Having.{stretch_from};
 
 use crate::pending::PendingCommands;
 use client_rules::{Held, Listed, TimedOut, TimedOuts};
-use osd_bytes::{Memory, Numbers, Sequence};
+use osd_lists::{Memory, Numbers, Sequence};
 use std::alloc::Global;
 use stripe_plan::{Ask, Column, Out, Stretch};
 

@@ -7,7 +7,7 @@ ghost use Rattle.call_commands.specs.State.{Awaited};
 use crate::having::before;
 use crate::pending::PendingCommands;
 use client_rules::{Awaited, AwaitedCommands};
-use osd_bytes::Memory;
+use osd_lists::Memory;
 use std::alloc::Global;
 use stripe_plan::Ask;
 

@@ -8,8 +8,8 @@ ghost use Rattle.call_commands.specs.Pending.{answering, left_by, nearer, first_
 
 use crate::having::{before, stretch};
 use client_rules::{Awaited, TimedOut};
-use osd_bytes::{Bytes, Memory, Numbers, Sequence};
 use osd_commands::Command;
+use osd_lists::{Bytes, Memory, Numbers, Sequence};
 use std::alloc::Global;
 use std::collections::BTreeMap;
 use std::marker::Model;

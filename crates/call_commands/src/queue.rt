@@ -2,7 +2,7 @@ ghost use Rattle.std.specs.Prelude.{◌≡◌, [], ◌∷◌, ◌++◌, ◌<◌,
 ghost use Rattle.client_rules.specs.Writes.{next_to, without_next, without_component};
 ghost use Rattle.call_commands.specs.Queue.{first_place, is_to, is_to_other, NoneBefore, IsFirstTo, Notes};
 
-use osd_bytes::Memory;
+use osd_lists::Memory;
 use std::alloc::Global;
 use std::collections::BTreeMap;
 use std::marker::Model;

@@ -12,7 +12,7 @@ use crate::reading::reads;
 use crate::writing::gathers;
 use call_commands::{PendingCommands, count_sent};
 use client_rules::{CallOp, Held, TimedOuts};
-use osd_bytes::Memory;
+use osd_lists::Memory;
 use std::alloc::Global;
 use stripe_plan::Columns;
 

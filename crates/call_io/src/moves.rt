@@ -12,7 +12,7 @@ ghost use Rattle.call_io.specs.Inside.{IsInside};
 use crate::phase::{CallMove, CallPhase, CallTurn};
 use client_rules::{AwaitedCommands, CallOp, Held, Need, Outcome, TimedOuts};
 use layout_types::IoErr;
-use osd_bytes::Sequence;
+use osd_lists::Sequence;
 use std::alloc::Global;
 use stripe_plan::Span;
 

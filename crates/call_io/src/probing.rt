@@ -15,7 +15,7 @@ use crate::sending::send_reads;
 use call_commands::{credential_of, had_positions, out_of};
 use client_rules::{AwaitedCommands, Held, Outcome};
 use data_map::DataMap;
-use osd_bytes::{Bytes, Memory, Numbers};
+use osd_lists::{Bytes, Memory, Numbers};
 use std::alloc::Global;
 use stripe_plan::{Ask, Asks, Out, is_out, source};
 

@@ -13,7 +13,7 @@ use crate::sending::send_reads;
 use call_commands::{had, out_of};
 use client_rules::{AwaitedCommands, Held, Outcome, TimedOuts};
 use data_map::{DataMap, MAX_FILE_SIZE};
-use osd_bytes::{Bytes, Memory};
+use osd_lists::{Bytes, Memory};
 use std::alloc::Global;
 use std::mem;
 use stripe_plan::{

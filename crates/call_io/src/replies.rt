@@ -20,8 +20,8 @@ use client_rules::{
     NO_RIGHT, NO_SPACE, OTHER_OBJECT, OTHER_TAG, OUT_OF_RANGE, OVER_LIMIT, Outcome, PERFORMED,
 };
 use layout_types::{Errno, IoErr};
-use osd_bytes::{Memory, Sequence};
 use osd_commands::Reply;
+use osd_lists::{Memory, Sequence};
 use std::alloc::Global;
 use stripe_plan::{Ask, Column, Columns};
 

@@ -4,7 +4,7 @@ ghost use Rattle.client_rules.specs.Commands.{read_commands, write_commands};
 
 use call_commands::{PendingCommands, await_all, read_commands, write_commands};
 use client_rules::{AwaitedCommands, Held};
-use osd_bytes::Memory;
+use osd_lists::Memory;
 use std::alloc::Global;
 use stripe_plan::{Asks, Store};
 

@@ -21,7 +21,7 @@ use crate::writing::{gathers, is_too_short, scatters_on};
 use call_commands::{WriteQueue, count_sent, timed_with};
 use client_rules::{AwaitedCommands, CallOp, Held, Outcome, TimedOut, TimedOuts};
 use layout_types::{Errno, IoErr};
-use osd_bytes::{Memory, Sequence};
+use osd_lists::{Memory, Sequence};
 use std::alloc::Global;
 
 /// The report of the components that timed out: each wasn't reached.

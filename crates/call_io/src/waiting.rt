@@ -9,7 +9,7 @@ ghost use Rattle.call_commands.specs.Pending.{answering, first_among, lowest_amo
 use crate::phase::CallPhase;
 use call_commands::{PendingCommands, in_order};
 use client_rules::AwaitedCommands;
-use osd_bytes::Memory;
+use osd_lists::Memory;
 use std::alloc::Global;
 
 impl CallPhase {

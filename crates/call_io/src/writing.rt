@@ -18,7 +18,7 @@ use crate::reading::fetched;
 use crate::sending::{send_reads, send_writes};
 use call_commands::{PendingCommands, WriteQueue, had, out_of};
 use client_rules::{AwaitedCommands, CallOp, Held, TimedOuts};
-use osd_bytes::{Bytes, Memory, Numbers};
+use osd_lists::{Bytes, Memory, Numbers};
 use std::alloc::Global;
 use std::mem;
 use stripe_plan::{

@@ -1,7 +1,7 @@
 -- How the components of a file go on in a step of the server.
 use Rattle.std.specs.Prelude.{◌≡◌, ℕ, false, List, Option, Some, None}
 use Rattle.std.specs.List.{list_any, filter_map}
-use Rattle.osd_bytes.specs.declared.node.Node.TheVariants as node
+use Rattle.osd_lists.specs.declared.node.Node.TheVariants as node
 use Rattle.server_rules.specs.Files.{file_at}
 use Rattle.server_rules.specs.Messages.{Orders}
 use Rattle.server_rules.specs.History.{Input, Hears, Makes, Obeys, step}

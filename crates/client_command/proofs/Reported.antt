@@ -1,7 +1,7 @@
 -- The report of a call, by how its dealings ended.
 use Rattle.std.proofs.Common.{◌≡◌, ◌++◌, ℕ, List, [], None, Ok, Err, inl, inr}
 use Rattle.std.specs.Prelude.{IfOk, IsSome, Result}
-use Rattle.osd_bytes.specs.declared.memory.Memory.{Memory}
+use Rattle.osd_lists.specs.declared.memory.Memory.{Memory}
 use Rattle.scenario_text.specs.declared.line.CallKind.{CallKind}
 use Rattle.scenario_text.specs.LineSpelling.{lines_text}
 use Rattle.world_history.specs.Told.{kind_of}

@@ -2,8 +2,8 @@
 use Rattle.std.specs.Prelude.{◌≡◌, ℕ, ◌==◌, if◌then◌else◌, List, Option, Some, None, Result, Ok, Err}
 use Rattle.osd_bytes.specs.Connections.{Traffic}
 use Rattle.osd_bytes.specs.Counts.{Faults}
-use Rattle.osd_bytes.specs.declared.node.Node.TheVariants.{Server}
-use Rattle.osd_asking.specs.Asking.{Answered}
+use Rattle.osd_lists.specs.declared.node.Node.TheVariants.{Server}
+use Rattle.osd_bytes.specs.Asking.{Answered}
 use Rattle.command_words.specs.declared.work.Order.{Order}
 use Rattle.command_words.specs.declared.work.Order.TheVariants as work
 use Rattle.layout_ops.specs.declared.err.OpErr.{OpErr}

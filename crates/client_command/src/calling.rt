@@ -8,7 +8,8 @@ ghost use Rattle.client_command.specs.Calling.{Begins, Calls, Deals, StopsBegin,
 ghost use Rattle.client_command.specs.Calling.{leaving, stop_of_deal};
 
 use client_exchanges::{DealErr, Notice, Notices, deal};
-use osd_bytes::{Links, Memory};
+use osd_bytes::Links;
+use osd_lists::Memory;
 use std::alloc::Global;
 use stripe_client::{CStep, CallErr, CallOp, ClientCore, Outcome};
 

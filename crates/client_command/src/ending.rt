@@ -4,7 +4,7 @@ ghost use Rattle.client_command.specs.Endings.{end_by_outcome, end_by_result, en
 
 use client_exchanges::Notice;
 use layout_ops::OrderResult;
-use osd_bytes::{Bytes, Memory, Numbers};
+use osd_lists::{Bytes, Memory, Numbers};
 use std::alloc::Global;
 use stripe_client::{CallErr, Outcome};
 

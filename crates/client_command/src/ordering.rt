@@ -13,8 +13,8 @@ use command_words::Order;
 use layout_ops::{
     Envelope, OpErr, Order as SentOrder, OrderKind, OrderResult, read_envelope, write_envelope,
 };
-use osd_asking::asked;
-use osd_bytes::{Bytes, Links, Memory, Node};
+use osd_bytes::{Links, asked};
+use osd_lists::{Bytes, Memory, Node};
 use std::alloc::Global;
 
 // The order as the server takes it.

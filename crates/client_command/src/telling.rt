@@ -5,7 +5,7 @@ ghost use Rattle.client_command.specs.Telling.{call_lines, next_line, notice_lin
 
 use crate::ending::copied;
 use client_exchanges::Notice;
-use osd_bytes::{Bytes, Memory};
+use osd_lists::{Bytes, Memory};
 use scenario_text::{CallKind, ClientName, Line, write_lines};
 use std::alloc::Global;
 use stripe_client::{CallErr, Outcome};

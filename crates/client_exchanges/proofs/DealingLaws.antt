@@ -18,8 +18,8 @@ use Rattle.client_rules.specs.Messages.{awaited_of, to_drive}
 use Rattle.client_rules.specs.Steps.{outstanding_sends, resent}
 use Rattle.client_state.specs.Sending.{spelled}
 use Rattle.layout_ops.specs.declared.messages.Request.{Request}
-use Rattle.osd_bytes.specs.declared.node.Node.TheVariants.{Drive, Server}
-use Rattle.osd_asking.specs.Asking.{Answered}
+use Rattle.osd_lists.specs.declared.node.Node.TheVariants.{Drive, Server}
+use Rattle.osd_bytes.specs.Asking.{Answered}
 use Rattle.client_exchanges.specs.Answering.{is_answer_to}
 use Rattle.client_exchanges.specs.Dealing.{AwaitsStill, Dealing, InTurn, IsLost, IsRequest, Loses, LosesIn, LosesServer, Works, WorksAll, WorksRounds, answer_among, answered, dealing, ended, heard, late, on_links, stepped, timed_out}
 

@@ -3,9 +3,9 @@ use Rattle.std.specs.Prelude.{◌≡◌, ℕ, zero, suc, nat_le, List, [], ◌�
 use Rattle.std.specs.Int.{w64, from_be_bytes}
 use Rattle.osd_bytes.specs.Connections.{Traffic}
 use Rattle.osd_bytes.specs.Counts.{Faults}
-use Rattle.osd_bytes.specs.declared.node.Node.{Node}
-use Rattle.osd_bytes.specs.declared.node.Node.TheVariants.{Server, Drive, Client as AClient}
-use Rattle.osd_asking.specs.Asking.{Answered}
+use Rattle.osd_lists.specs.declared.node.Node.{Node}
+use Rattle.osd_lists.specs.declared.node.Node.TheVariants.{Server, Drive, Client as AClient}
+use Rattle.osd_bytes.specs.Asking.{Answered}
 use Rattle.layout_ops.specs.declared.messages.Request.{Request}
 use Rattle.client_rules.specs.declared.client.Client.{Client}
 use Rattle.client_rules.specs.declared.client.Outgoing.TheVariants.{Asks}

@@ -4,7 +4,7 @@ ghost use Rattle.client_exchanges.specs.Answering.{answers_request, is_answer, i
 ghost use Rattle.layout_ops.specs.Reading.{envelope_of};
 
 use layout_ops::{Answer, Envelope, OpErr, Request, read_envelope};
-use osd_bytes::Memory;
+use osd_lists::Memory;
 use std::alloc::Global;
 
 // Whether an answer has the client, the sequence number, the file and the operation of a request.

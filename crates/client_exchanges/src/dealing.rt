@@ -6,7 +6,8 @@ ghost use Rattle.client_exchanges.specs.Dealing.{InTurn, Loses, LosesIn, LosesAl
 use crate::drive::exchange_with_drive;
 use crate::notices::Notices;
 use crate::server::exchange_with_server;
-use osd_bytes::{Links, Memory, Node};
+use osd_bytes::Links;
+use osd_lists::{Memory, Node};
 use std::alloc::Global;
 use std::mem;
 use stripe_client::{ClientCore, Sends, Sent};

@@ -5,8 +5,8 @@ ghost use Rattle.osd_bytes.specs.Counts.{Faults};
 ghost use Rattle.client_exchanges.specs.Dealing.{AsksDrive, dealing, heard, late, timed_out};
 
 use crate::notices::{Notice, Notices, take_step};
-use osd_asking::asked;
-use osd_bytes::{Bytes, Links, Memory, Node, u64_at};
+use osd_bytes::{Links, asked};
+use osd_lists::{Bytes, Memory, Node, u64_at};
 use std::alloc::Global;
 use stripe_client::{ClientCore, Sends};
 

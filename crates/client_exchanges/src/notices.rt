@@ -3,7 +3,7 @@ ghost use Rattle.std.specs.Prelude.{◌≡◌, ◌++◌, OnOk};
 ghost use Rattle.client_exchanges.specs.Dealing.{ended};
 
 use client_rules::Outcome;
-use osd_bytes::{Bytes, Memory, Sequence};
+use osd_lists::{Bytes, Memory, Sequence};
 use std::alloc::Global;
 use stripe_client::{CStep, Sends, Sent};
 

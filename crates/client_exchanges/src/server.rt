@@ -7,8 +7,8 @@ use crate::answering::is_answer_to;
 use crate::dealing::DealErr;
 use crate::drive::hear;
 use crate::notices::Notices;
-use osd_asking::asked;
-use osd_bytes::{Links, Memory, Node};
+use osd_bytes::{Links, asked};
+use osd_lists::{Memory, Node};
 use std::alloc::Global;
 use stripe_client::{ClientCore, Sends, Sent};
 

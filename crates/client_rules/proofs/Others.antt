@@ -1,6 +1,6 @@
 -- What isn't taken, awaited or accepted changes nothing.
 use Rattle.std.specs.Prelude.{◌≡◌, refl, ℕ, List, [], Option, Some, None, Err}
-use Rattle.osd_bytes.specs.declared.node.Node.{Node}
+use Rattle.osd_lists.specs.declared.node.Node.{Node}
 use Rattle.client_rules.specs.State.{Client, Call, CallOp, CallErr, Held, Awaited}
 use Rattle.client_rules.specs.Calls.{file_of}
 use Rattle.client_rules.specs.Grants.{held_of}

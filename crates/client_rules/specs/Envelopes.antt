@@ -1,7 +1,7 @@
 -- Messages as bytes: what a client reads of them, and the spelling of what it sends.
 use Rattle.std.specs.Prelude.{ℕ, List, Option, Some, None, Result, Ok, Err}
-use Rattle.osd_bytes.specs.declared.node.Node.{Node}
-use Rattle.osd_bytes.specs.declared.node.Node.TheVariants.{Server as TheServer, Drive as ADrive}
+use Rattle.osd_lists.specs.declared.node.Node.{Node}
+use Rattle.osd_lists.specs.declared.node.Node.TheVariants.{Server as TheServer, Drive as ADrive}
 use Rattle.layout_ops.specs.declared.err.OpErr.{OpErr}
 use Rattle.layout_ops.specs.declared.envelope.Envelope.{Envelope}
 use Rattle.layout_ops.specs.declared.envelope.Envelope.TheVariants as envelope

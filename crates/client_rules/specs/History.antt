@@ -1,6 +1,6 @@
 -- What comes to a client, and the one function of all its steps.
 use Rattle.std.specs.Prelude.{ℕ, List, [], ◌∷◌, Result, Ok, Err}
-use Rattle.osd_bytes.specs.declared.node.Node.{Node}
+use Rattle.osd_lists.specs.declared.node.Node.{Node}
 use Rattle.client_rules.specs.State.{Client, CallOp, CallErr}
 use Rattle.client_rules.specs.Messages.{Message, Step, still, hears}
 use Rattle.client_rules.specs.Steps.{calls, times_out, leaves, resent}

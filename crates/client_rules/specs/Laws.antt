@@ -1,7 +1,7 @@
 -- What holds of every step of a client.
 use Rattle.std.specs.Prelude.{◌≡◌, ◌≢◌, ◌<◌, ◌≤◌, ℕ, ◌+◌, ◌==◌, ◌&&◌, not, if◌then◌else◌, List, [], ◌∷◌, ◌++◌, length, map, slice_index, Option, Some, None, Err}
 use Rattle.std.specs.List.{range_with_len}
-use Rattle.osd_bytes.specs.declared.node.Node.{Node}
+use Rattle.osd_lists.specs.declared.node.Node.{Node}
 use Rattle.data_map.specs.Check.{IsChecked}
 use Rattle.stripe_plan.specs.Words.{answered}
 use Rattle.client_rules.specs.declared.limits.TheConstants.{PERFORMED}

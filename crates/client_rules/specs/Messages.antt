@@ -1,8 +1,8 @@
 -- What a client takes of a message, and what that changes.
 use Rattle.std.specs.Prelude.{ℕ, Bool, not, List, [], ◌∷◌, ◌++◌, Option, Some, None, Result, Ok, Err, ◌==◌, ◌&&◌, nat_lt, map, find, if◌then◌else◌}
 use Rattle.std.specs.List.{list_any}
-use Rattle.osd_bytes.specs.declared.node.Node.{Node}
-use Rattle.osd_bytes.specs.declared.node.Node.TheVariants.{Server as FromServer, Drive as FromDrive}
+use Rattle.osd_lists.specs.declared.node.Node.{Node}
+use Rattle.osd_lists.specs.declared.node.Node.TheVariants.{Server as FromServer, Drive as FromDrive}
 use Rattle.layout_ops.specs.declared.statuses.TheConstants.{NFS4_OK, NFS4ERR_LAYOUTTRYLATER, NFS4ERR_NOMATCHING_LAYOUT}
 use Rattle.client_rules.specs.declared.limits.TheConstants.{MAX_CLIENT}
 use Rattle.client_rules.specs.State.{Client, Call, CallOp, Held, Due, Awaited, Need, First, Get, Commit, Report, Close, Phase, Starts, Needs, Waits, Reads, Probes, Gathers, Scatters, Outcome, BadLayout, Why, Done, Outgoing, AnswersRecall, Asks, ToDrive, Request, Answer, Recall, RecallAnswer, Reply}

@@ -1,7 +1,7 @@
 -- Worked rows: what comes to a client and what it then does, written out.
 use Rattle.std.specs.Prelude.{ℕ, Bool, true, false, List, [], ◌∷◌, ◌++◌, Option, Some, None, Result, Ok, Err, ◌+◌, ◌*◌, length, map, replicate, slice_get, unwrap_or, if◌then◌else◌}
 use Rattle.std.specs.Int.{w32, w64, to_be_bytes}
-use Rattle.osd_bytes.specs.declared.node.Node.TheVariants.{Server as FromServer, Drive as FromDrive}
+use Rattle.osd_lists.specs.declared.node.Node.TheVariants.{Server as FromServer, Drive as FromDrive}
 use Rattle.osd_capability.specs.declared.keys.CapKey.TheVariants.{One}
 use Rattle.osd_capability.specs.Layout as capabilities
 use Rattle.osd_commands.specs.declared.actions.Action.{Action}

@@ -1,7 +1,7 @@
 use crate::outcomes::Outcome;
 use layout_types::IoErr;
-use osd_bytes::{Bytes, Sequence};
 use osd_commands::Command;
+use osd_lists::{Bytes, Sequence};
 use stripe_plan::{Ask, Column, Store};
 
 /// What a call asks.

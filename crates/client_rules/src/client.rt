@@ -1,8 +1,8 @@
 use crate::calls::Call;
 use crate::grants::{Due, Held};
 use layout_ops::{RecallAnswer, Request};
-use osd_bytes::Sequence;
 use osd_commands::Command;
+use osd_lists::Sequence;
 
 /// A client.
 #[derive(Debug, Drop)]

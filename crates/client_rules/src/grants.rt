@@ -1,7 +1,7 @@
 use data_map::DataMap;
 use layout_types::ObjId;
-use osd_bytes::Sequence;
 use osd_capability::{CapKey, Capability};
+use osd_lists::Sequence;
 
 /// What opens the object of a component.
 #[derive(Clone, Copy, Debug, PartialEq, Eq)]

@@ -1,4 +1,4 @@
-use osd_bytes::{Bytes, Memory, Numbers};
+use osd_lists::{Bytes, Memory, Numbers};
 use thiserror::Error;
 
 /// Why a call isn't taken: the first that holds. Nothing has changed then.

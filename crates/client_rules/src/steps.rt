@@ -3,7 +3,7 @@ use crate::client::Client;
 use crate::grants::Held;
 use crate::outcomes::Outcome;
 use layout_ops::{RecallAnswer, Request};
-use osd_bytes::Sequence;
+use osd_lists::Sequence;
 
 /// What becomes of a call.
 #[derive(Debug, Drop)]

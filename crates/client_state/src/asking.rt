@@ -18,7 +18,7 @@ use client_rules::{CallOp, GREATEST_SEQUENCE, Held, Need};
 use held_grants::{HeldGrants, commit_args, file_of, get_args, return_args, take_due};
 use layout_ops::{Args, Operation, Request};
 use layout_types::{IoErr, MAX_MEMBERS};
-use osd_bytes::{Memory, Sequence};
+use osd_lists::{Memory, Sequence};
 use std::alloc::Global;
 
 // The number behind one; none is behind the last.

@@ -5,7 +5,7 @@ ghost use Rattle.layout_ops.specs.Spelling.{ArgsWritable, EnvelopeWritable};
 ghost use Rattle.client_state.specs.Outstanding.{request_bytes, request_in};
 
 use layout_ops::{Envelope, Request, write_envelope};
-use osd_bytes::{Bytes, Memory};
+use osd_lists::{Bytes, Memory};
 use std::alloc::Global;
 use std::marker::Model;
 

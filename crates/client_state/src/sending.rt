@@ -9,8 +9,8 @@ use crate::outstanding::Outstanding;
 use crate::state::{Made, State};
 use client_rules::{Awaited, Outcome};
 use layout_ops::{Envelope, RecallAnswer, write_envelope};
-use osd_bytes::{Bytes, Memory, Node, Sequence};
 use osd_commands::write_command;
+use osd_lists::{Bytes, Memory, Node, Sequence};
 use std::alloc::Global;
 
 /// A message that a client sends.

@@ -10,7 +10,7 @@ use crate::state::{Made, PendingCall, State};
 use call_io::{CallMove, CallPhase, CallTurn};
 use client_rules::{CallOp, Held, Outcome};
 use held_grants::file_of;
-use osd_bytes::Memory;
+use osd_lists::Memory;
 
 /// The call comes to this phase.
 pub fn go_on(state: &mut State, op: CallOp, phase: CallPhase)

@@ -3,7 +3,7 @@ use Rattle.std.specs.Prelude.{List, ◌∷◌, map, ⊤}
 use Rattle.osd_bytes.specs.Causes.{Rose}
 use Rattle.osd_bytes.specs.Counts.{Faults}
 use Rattle.osd_bytes.specs.declared.links.Peer.{Peer}
-use Rattle.osd_bytes.specs.declared.node.Node.TheVariants.{Server, Drive}
+use Rattle.osd_lists.specs.declared.node.Node.TheVariants.{Server, Drive}
 use Rattle.cluster_text.specs.declared.cluster.Cluster.{Cluster}
 use Rattle.cluster_text.specs.declared.cluster.ClusterDrive.{ClusterDrive}
 use Rattle.cluster_input.specs.declared.stop.CommandStop.{CommandStop}

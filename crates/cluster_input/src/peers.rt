@@ -4,7 +4,8 @@ ghost use Rattle.cluster_input.specs.Peers.{StopsSettling, peer_of, peers_of};
 
 use crate::stop::CommandStop;
 use cluster_text::{Cluster, ClusterDrive};
-use osd_bytes::{Bytes, Links, Memory, Node, Peer, Peers};
+use osd_bytes::{Links, Peer, Peers};
+use osd_lists::{Bytes, Memory, Node};
 use std::alloc::Global;
 
 // Adds the drives with their addresses.

@@ -1,5 +1,5 @@
 use cluster_text::{ClusterErr, ClusterKind};
-use osd_bytes::Memory;
+use osd_lists::Memory;
 use thiserror::Error;
 
 /// Why a command over a network stopped before its work was done.

@@ -4,7 +4,8 @@ ghost use Rattle.osd_bytes.specs.declared.lines.TheConstants.{MAX_INPUT};
 ghost use Rattle.cluster_input.specs.Inputs.{IsWhole, StopsReading};
 
 use crate::stop::CommandStop;
-use osd_bytes::{Bytes, MAX_INPUT, Source};
+use osd_bytes::{MAX_INPUT, Source};
+use osd_lists::Bytes;
 use std::alloc::Global;
 
 // How many bytes are taken at once at most.

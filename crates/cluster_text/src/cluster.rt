@@ -1,5 +1,5 @@
 use data_map::RawMap;
-use osd_bytes::{Bytes, Sequence};
+use osd_lists::{Bytes, Sequence};
 
 /// A drive of a cluster.
 #[derive(Debug, Drop)]

@@ -1,7 +1,7 @@
 ghost use Rattle.std.specs.Prelude.{◌≡◌};
 ghost use Rattle.cluster_text.specs.Kinds.{word_of};
 
-use osd_bytes::Memory;
+use osd_lists::Memory;
 use thiserror::Error;
 
 /// What is wrong with a cluster text; of several kinds the first in this order.

@@ -9,7 +9,7 @@ use crate::cluster::{ClusterDrive, ClusterFile};
 use crate::tables::{has, integer_at, text_at};
 use data_map::{DataMap, RAID_0, RAID_PQ, RawMap};
 use hex::FromHex;
-use osd_bytes::{Bytes, Memory};
+use osd_lists::{Bytes, Memory};
 use std::alloc::Global;
 use toml::Table;
 

@@ -12,7 +12,7 @@ use crate::errors::{ClusterErr, ClusterKind};
 use crate::fields::{MAX_DRIVES, MAX_FILES, address_at, drive_in, file_in, format_in, owned};
 use crate::shape::{has_unknown, is_wrong, lacks};
 use crate::tables::tables_at;
-use osd_bytes::{Memory, Sequence};
+use osd_lists::{Memory, Sequence};
 use std::alloc::Global;
 use toml::Table;
 

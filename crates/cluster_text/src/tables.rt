@@ -4,7 +4,7 @@ ghost use Rattle.toml.specs.Data.{get_member};
 ghost use Rattle.toml.specs.View.{view, table_view};
 ghost use Rattle.cluster_text.specs.Tables.{has, integer_at, tables_at, tables_in, text_at, are_tables};
 
-use osd_bytes::Memory;
+use osd_lists::Memory;
 use std::alloc::Global;
 use toml::{Table, Value};
 

@@ -5,7 +5,8 @@ ghost use Rattle.stripe_repair.specs.Placing.{CanPlace, IsPlacer, Places};
 ghost use Rattle.command_tests.specs.Ranked.{ranked};
 
 use crate::runs::{copied, strings};
-use osd_bytes::{MemSink, MemSource, Memory, Numbers, Sink, Source};
+use osd_bytes::{MemSink, MemSource, Sink, Source};
+use osd_lists::{Memory, Numbers};
 use osd_replay::{Status, fewest_first, run};
 use std::alloc::Global;
 use stripe_repair::{DriveLoad, Placer};

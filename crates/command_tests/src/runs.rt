@@ -2,10 +2,8 @@
 ghost use Rattle.std.specs.Result.{ForOk};
 ghost use Rattle.stripe_repair.specs.Placing.{CanPlace, IsPlacer, Places};
 
-use osd_bytes::{
-    ByteLists, Bytes, Clock, Links, MemClock, MemLinks, MemSink, MemSource, Memory, Numbers, Sink,
-    Source, Times,
-};
+use osd_bytes::{Clock, Links, MemClock, MemLinks, MemSink, MemSource, Sink, Source};
+use osd_lists::{ByteLists, Bytes, Memory, Numbers, Times};
 use osd_replay::fewest_first;
 use pnfs_run::{Status, run};
 use std::alloc::Global;

@@ -11,7 +11,7 @@ use crate::numbers::number;
 use crate::options::{client_options, drive_options, server_options};
 use crate::work::{ClientWork, work_in};
 use clap::error::ErrorKind;
-use osd_bytes::Memory;
+use osd_lists::Memory;
 use std::alloc::{AllocError, Global};
 use thiserror::Error;
 

@@ -2,7 +2,7 @@
 ghost use Rattle.std.specs.Prelude.{◌≡◌, IfOk};
 ghost use Rattle.command_words.specs.Work.{Gives, IsCall, IsOrder, IsWork, Reads, call_of, order_of};
 
-use osd_bytes::Memory;
+use osd_lists::Memory;
 use scenario_text::{Call, DriveName, Event, EventErr, FileName, read_event};
 use std::alloc::Global;
 

@@ -10,7 +10,7 @@ use crate::starts::{Start, moves_of};
 use crate::words::{put_note, put_sent};
 use data_map::RawMap;
 use layout_server::{DriveInfo, DriveTable, ServerCore, Step};
-use osd_bytes::{Bytes, Memory, Node, Numbers};
+use osd_lists::{Bytes, Memory, Node, Numbers};
 use std::alloc::Global;
 use std::process::Abort;
 use stripe_repair::{DriveLoad, Placer};

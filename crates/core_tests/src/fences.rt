@@ -1,6 +1,6 @@
-use osd_bytes::{Bytes, Numbers};
 use osd_capability::Capability;
 use osd_commands::{Action, Command, Reply};
+use osd_lists::{Bytes, Numbers};
 use recall_fence::{Fence, FenceErr, ObjectPlace};
 use server_rules::{OTHER_TAG, PERFORMED};
 use std::alloc::Global;

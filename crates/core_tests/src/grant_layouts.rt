@@ -1,7 +1,7 @@
 use client_rules::{CallOp, Held, Why};
 use held_grants::taken;
 use layout_ops::{Answer, LayoutGetOk, LayoutGetResult, LayoutSegment, Results, StateId};
-use osd_bytes::{Bytes, Memory, Sequence};
+use osd_lists::{Bytes, Memory, Sequence};
 use std::alloc::Global;
 
 // The answer that gives grant 7 with this layout's bytes, for the first 8 bytes of a file of 4.

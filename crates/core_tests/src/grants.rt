@@ -1,5 +1,5 @@
 use grant_table::{Admit, Grant, GrantErr, Grants, Slot, conflicts};
-use osd_bytes::Bytes;
+use osd_lists::Bytes;
 use std::alloc::Global;
 
 // A grant's number and client, whether it writes and extends, its first stripe and the one behind its last.

@@ -7,8 +7,8 @@ use layout_ops::{
     Request, StateId, write_envelope,
 };
 use layout_types::{Errno, IoErr, IoErrs, LayoutUpdate, MAX_MEMBERS, ObjId, Structure};
-use osd_bytes::{Bytes, Memory, Node, Sequence};
 use osd_commands::{Reply, write_reply};
+use osd_lists::{Bytes, Memory, Node, Sequence};
 use std::alloc::Global;
 
 /// Layouts of any mode, which LAYOUTGET doesn't take.

@@ -4,7 +4,7 @@ ghost use Rattle.std.specs.Result.{ForOk};
 ghost use Rattle.stripe_repair.specs.Placing.{CanPlace, Places};
 ghost use Rattle.core_tests.specs.Choosing.{with_load};
 
-use osd_bytes::{Memory, Numbers};
+use osd_lists::{Memory, Numbers};
 use std::alloc::Global;
 use stripe_repair::DriveLoad;
 

@@ -1,7 +1,7 @@
 ghost use Rattle.std.specs.Prelude.{◌≤◌, length};
 
 use data_map::{DataMap, RAID_0, RAID_5, RAID_PQ, RawMap};
-use osd_bytes::{Bytes, Memory, Sequence};
+use osd_lists::{Bytes, Memory, Sequence};
 use server_rules::{
     Awaited, AwaitedCommands, Component, Heard, Kept, Phase, Piece, Stripes, Target,
 };

@@ -3,7 +3,7 @@ ghost use Rattle.std.specs.Result.{ForOk};
 ghost use Rattle.stripe_repair.specs.Placing.{CanPlace, Places};
 
 use data_map::{DataMap, RAID_5, RawMap};
-use osd_bytes::{Bytes, Memory, Numbers, Rows, Sequence};
+use osd_lists::{Bytes, Memory, Numbers, Rows, Sequence};
 use server_rules::{Component, Heard, Stripes};
 use std::alloc::Global;
 use stripe_repair::{

@@ -1,7 +1,7 @@
 // The file of a case, and its layouts.
 use crate::line::{Field, Line, NUMBERS};
 use crate::wire::{CLIENT, put_numbers, size_of};
-use osd_bytes::{Bytes, Memory};
+use osd_lists::{Bytes, Memory};
 use std::alloc::Global;
 
 /// Component 0 stands on this drive, component 1 on the next, and so on.

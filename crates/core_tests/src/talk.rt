@@ -4,7 +4,7 @@ use crate::setting::{Grant, STRIPED, Setting, with_field};
 use crate::told::{told, told_awaits, told_number, told_refusal, told_sends};
 use crate::wire::{self, CLIENT, COMMIT, GET, Head, RETURN};
 use client_rules::{CallErr, CallOp};
-use osd_bytes::{Bytes, Memory, Node};
+use osd_lists::{Bytes, Memory, Node};
 use std::alloc::Global;
 use std::process::Abort;
 use stripe_client::{CStep, ClientCore, Sends};

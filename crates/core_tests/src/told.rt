@@ -2,7 +2,7 @@
 use crate::wire::{COMMIT, GET, RECALL, RETURN};
 use client_rules::{Awaits, CallErr, Outcome, Why};
 use itoa::Buffer;
-use osd_bytes::{Bytes, Memory, Node, u32_at};
+use osd_lists::{Bytes, Memory, Node, u32_at};
 use std::alloc::Global;
 use stripe_client::{CStep, Sent};
 

@@ -1,6 +1,6 @@
 // What comes to a client, as bytes: spelled number by number, apart from the codecs of the project.
 use crate::setting::{Grant, Setting, layout};
-use osd_bytes::{Bytes, Memory};
+use osd_lists::{Bytes, Memory};
 use std::alloc::Global;
 
 /// The number of the client.

@@ -5,8 +5,8 @@ use layout_ops::{
     Answer, Envelope, LayoutCommitResult, LayoutGetResult, LayoutReturnResult, OrderAnswer,
     Results, read_envelope,
 };
-use osd_bytes::{Bytes, Memory, Node};
 use osd_commands::{Action, Command, read_command};
+use osd_lists::{Bytes, Memory, Node};
 use server_requests::Sent;
 use server_rules::{Note, NoteKind};
 use std::alloc::Global;

@@ -3,7 +3,7 @@ ghost use Rattle.data_map.specs.Striping.{left_in_unit};
 ghost use Rattle.data_map.specs.Ranges.{HoldRange, part_in, extents_of, bytes_of_part, bytes_of_range};
 
 use crate::map::DataMap;
-use osd_bytes::{Memory, Sequence};
+use osd_lists::{Memory, Sequence};
 use std::alloc::Global;
 
 /// The longest file in bytes.

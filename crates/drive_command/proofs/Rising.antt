@@ -2,10 +2,10 @@
 use Rattle.std.proofs.Common.{◌≡◌, ◌≤◌, ℕ, zero, suc, ap, arith, refl}
 use Rattle.osd_bytes.specs.Causes.{Rose}
 use Rattle.osd_bytes.specs.Counts.{Faults}
-use Rattle.osd_serving.specs.declared.errors.ServeErr.{ServeErr}
-use Rattle.osd_serving.specs.declared.errors.ServeErr.TheVariants.{LinkFault as NoConnection, Memory as NoMemory}
+use Rattle.osd_bytes.specs.declared.serve_err.ServeErr.{ServeErr}
+use Rattle.osd_bytes.specs.declared.serve_err.ServeErr.TheVariants.{LinkFault as NoConnection, Memory as NoMemory}
 use Rattle.osd_drive.specs.State.{DriveState}
-use Rattle.osd_drive.specs.Serving.{Ends, IsRefused, ServesEach}
+use Rattle.drive_command.specs.Connections.{Ends, IsRefused, ServesEach}
 use Rattle.drive_command.specs.Ends.{StopsAccepting, stop_of_serving}
 
 no_fewer : (n : ℕ) (old new : DriveState) (a b : Ends) → ServesEach n old new a b → a.faults.listening ≤ b.faults.listening

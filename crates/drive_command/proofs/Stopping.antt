@@ -5,7 +5,7 @@ use Rattle.cluster_text.specs.declared.cluster.Reader.TheVariants.{Drive}
 use Rattle.cluster_input.specs.Inputs.{GivesCluster}
 use Rattle.cluster_input.specs.declared.stop.CommandStop.{CommandStop}
 use Rattle.cluster_input.specs.declared.stop.CommandStop.TheVariants.{BadCluster, ReadFault, WriteFault, Memory, Full, LinkFault}
-use Rattle.osd_drive.specs.Serving.{Ends}
+use Rattle.drive_command.specs.Connections.{Ends}
 use Rattle.drive_command.specs.Ends.{StopsDrive, StopsIn, Streams}
 use Rattle.drive_command.proofs.Described.{described}
 

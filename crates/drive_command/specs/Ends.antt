@@ -11,10 +11,10 @@ use Rattle.cluster_input.specs.Lines.{PutsLine, stop_line}
 use Rattle.cluster_input.specs.declared.stop.CommandStop.{CommandStop}
 use Rattle.cluster_input.specs.declared.stop.CommandStop.TheVariants.{BadCluster, ReadFault, WriteFault, Memory}
 use Rattle.cluster_input.specs.declared.stop.CommandStop.TheVariants.{Full, LinkFault}
-use Rattle.osd_serving.specs.declared.errors.ServeErr.{ServeErr}
-use Rattle.osd_serving.specs.declared.errors.ServeErr.TheVariants.{LinkFault as NoConnection, Memory as NoMemory}
+use Rattle.osd_bytes.specs.declared.serve_err.ServeErr.{ServeErr}
+use Rattle.osd_bytes.specs.declared.serve_err.ServeErr.TheVariants.{LinkFault as NoConnection, Memory as NoMemory}
 use Rattle.osd_drive.specs.State.{DriveState}
-use Rattle.osd_drive.specs.Serving.{Ends, ServesAll}
+use Rattle.drive_command.specs.Connections.{Ends, ServesAll}
 use Rattle.drive_command.specs.Own.{core_in}
 
 -- the bytes that the source has left and that the sink has taken, where they tell them, and the counts of their faults

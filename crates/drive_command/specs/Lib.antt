@@ -1,2 +1,4 @@
 pub mod Own
 pub mod Ends
+pub mod Refusals
+pub mod Connections

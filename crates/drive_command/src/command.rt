@@ -1,5 +1,5 @@
 ghost use Rattle.std.specs.Prelude.{◌≡◌, IfErr, OnOk};
-ghost use Rattle.osd_drive.specs.Serving.{ends_of};
+ghost use Rattle.drive_command.specs.Connections.{ends_of};
 ghost use Rattle.drive_command.specs.Ends.{EndsDrive, ServesAs, ServesIn, StopsDrive, StopsIn, streams};
 
 use crate::own::{new_core, own_drive};

@@ -3,8 +3,11 @@
 #![tactic(auto)]
 
 mod command;
+mod connections;
 mod own;
+mod refusals;
 mod serving;
 
 pub use command::drive_command;
+pub use connections::serve;
 pub use own::KEY_VERSION;

@@ -6,8 +6,8 @@ ghost use Rattle.osd_drive.specs.State.{new_drive};
 ghost use Rattle.drive_command.specs.Own.{keys_of};
 
 use cluster_text::ClusterDrive;
-use osd_bytes::Memory;
 use osd_drive::{DriveCore, DriveKey, KeyTable};
+use osd_lists::Memory;
 use std::alloc::Global;
 
 /// The version of the key that a cluster text gives a drive.

@@ -1,12 +1,13 @@
 // The lines of the command, and the serving between them.
 ghost use Rattle.std.specs.Prelude.{◌≡◌, IfErr, IfOk, OnOk, string_bytes};
-ghost use Rattle.osd_drive.specs.Serving.{ServesAll, ends_of};
+ghost use Rattle.drive_command.specs.Connections.{ServesAll, ends_of};
 ghost use Rattle.drive_command.specs.Ends.{Serves, StopsAccepting, StopsServing, served_line, stop_of_serving};
 
+use crate::connections::serve;
 use cluster_input::CommandStop;
-use osd_bytes::{Clock, Links, Memory, Sink, put_all};
+use osd_bytes::{Clock, Links, ServeErr, Sink, put_all};
 use osd_drive::DriveCore;
-use osd_serving::ServeErr;
+use osd_lists::Memory;
 use std::alloc::Global;
 
 // The line that tells how many connections were served.
@@ -40,7 +41,7 @@ fn serve_all<L: Links, C: Clock>(
         (ends_of (L.told links.old) (L.faults links.old) (C.times clock.old))
         (ends_of (L.told links.new) (L.faults links.new) (C.times clock.new))) }
 {
-    match core.serve(alloc, links, clock, connections) {
+    match serve(alloc, core, links, clock, connections) {
         Ok(()) => Ok(()),
         Err(e) => Err(stop_of(e)),
     }

@@ -2,7 +2,7 @@ ghost use Rattle.std.specs.Prelude.{◌≡◌, ◌+◌, ◌<◌, ◌≤◌, ℕ,
 ghost use Rattle.stripe_repair.specs.declared.loads.TheConstants.{MAX_DRIVES};
 ghost use Rattle.drive_counts.specs.Counts.{AreCounts, told, one, standing};
 
-use osd_bytes::Memory;
+use osd_lists::Memory;
 use server_rules::Component;
 use std::marker::Model;
 use stripe_repair::MAX_DRIVES;

@@ -3,8 +3,8 @@ use Rattle.std.proofs.Common.{◌≡◌, ℕ, zero, suc, Bool, true, false, List
 use Rattle.std.specs.Prelude.{slice_range}
 use Rattle.std.specs.List.{AllByRecursion}
 use Rattle.std.proofs.lemmas.Bool.{cases_lt, lt-ltb}
-use Rattle.osd_bytes.specs.Blocks.{first_nonzero}
-use Rattle.osd_bytes.proofs.BlockLaws.{length-range}
+use Rattle.osd_lists.specs.Blocks.{first_nonzero}
+use Rattle.osd_lists.proofs.BlockLaws.{length-range}
 use Rattle.xdr_codec.specs.declared.err.XdrErr.{XdrErr}
 use Rattle.xdr_codec.specs.declared.err.XdrErr.TheVariants.{Short}
 use Rattle.xdr_codec.specs.Reading.{Rest, ◌>>=◌, behind, unless_padding, body_in, fixed_in, end_of}

@@ -1,7 +1,7 @@
 -- At each moment what clients hold and what is kept for them is of files as they were in the server's run.
 use Rattle.std.proofs.Common.{◌≡◌, ℕ, ◌++◌, ◌∷◌, [], List, Option, Some, None, Ok, refl, sym, ap, subst, ◌∙◌, inl, inr}
 use Rattle.std.proofs.lemmas.Bool.{cases_eq}
-use Rattle.osd_bytes.specs.declared.node.Node.{Node}
+use Rattle.osd_lists.specs.declared.node.Node.{Node}
 use Rattle.layout_ops.specs.declared.envelope.Envelope.TheVariants as envelope
 use Rattle.layout_ops.specs.Spelling.{EnvelopeFits}
 use Rattle.layout_ops.specs.declared.results.LayoutGetOk.{LayoutGetOk}

@@ -1,7 +1,7 @@
 -- Each refusal that a line tells is of a command that the client awaited when the drive judged it.
 use Rattle.std.proofs.Common.{◌≡◌, ◌==◌, ℕ, suc, ◌<◌, ◌^◌, false, List, [], ◌∷◌, ◌++◌, Some, length, map, refl, sym, ap, subst, ◌∙◌, arith}
-use Rattle.osd_bytes.specs.declared.node.Node.{Node}
-use Rattle.osd_bytes.specs.declared.node.Node.TheVariants as node
+use Rattle.osd_lists.specs.declared.node.Node.{Node}
+use Rattle.osd_lists.specs.declared.node.Node.TheVariants as node
 use Rattle.osd_commands.specs.declared.replies.Reply.{Reply}
 use Rattle.osd_commands.specs.Commands.{reading}
 use Rattle.osd_commands.specs.Replies as replies

@@ -1,7 +1,7 @@
 -- Each reply of a drive to a command that a client still awaits was given when the client awaited it.
 use Rattle.std.proofs.Common.{◌≡◌, ◌⊎◌, ◌==◌, ◌||◌, ℕ, ◌/◌, ◌%◌, ◌≤◌, ◌<◌, ◌^◌, Bool, false, true≢false, List, [], ◌∷◌, ◌++◌, Option, Some, None, filter, length, refl, sym, ap, subst, ◌∙◌, arith, inl, inr}
 use Rattle.std.proofs.lemmas.Bool.{cases_eq}
-use Rattle.osd_bytes.specs.declared.node.Node.TheVariants as node
+use Rattle.osd_lists.specs.declared.node.Node.TheVariants as node
 use Rattle.osd_commands.specs.declared.commands.Command.{Command}
 use Rattle.osd_commands.specs.declared.replies.Reply.{Reply}
 use Rattle.client_rules.specs.declared.limits.TheConstants.{NONCES, PERFORMED}

@@ -1,8 +1,8 @@
 -- At each moment of a history of a scenario's text the server's files fit, and its numbers are counted.
 use Rattle.std.proofs.Common.{◌≡◌, ◌∷◌, ℕ, ◌+◌, ◌≤◌, Bool, true, false, List, Option, Some, None, length, slice_get, refl, sym, ap, subst, ◌∙◌, arith, if◌then◌else◌}
 use Rattle.std.proofs.lemmas.Bool.Decides.{nat_tests}
-use Rattle.osd_bytes.specs.declared.node.Node.{Node}
-use Rattle.osd_bytes.specs.declared.node.Node.TheVariants as node
+use Rattle.osd_lists.specs.declared.node.Node.{Node}
+use Rattle.osd_lists.specs.declared.node.Node.TheVariants as node
 use Rattle.osd_capability.specs.Layout.{is_format}
 use Rattle.scenario_text.specs.Spelling.{Fits}
 use Rattle.scenario_text.specs.declared.event.Event.{Event}

@@ -14,8 +14,8 @@ use Rattle.world_history.specs.State.{World}
 use Rattle.world_history.specs.Spelled.{party_of, spelled}
 use Rattle.world_history.specs.Handed.{Post, server_post, server_body}
 use Rattle.server_rules.specs.Envelopes.{receiver}
-use Rattle.osd_bytes.specs.declared.node.Node.{Node}
-use Rattle.osd_bytes.specs.declared.node.Node.TheVariants as node
+use Rattle.osd_lists.specs.declared.node.Node.{Node}
+use Rattle.osd_lists.specs.declared.node.Node.TheVariants as node
 use Rattle.world_history.specs.Moves.{acts}
 use Rattle.world_history.specs.Sending.{Move, move, sent_line, sent_lines}
 use Rattle.world_history.specs.Book.{step_by, server_behind}

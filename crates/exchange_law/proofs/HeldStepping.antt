@@ -1,8 +1,8 @@
 -- Whatever comes to a client: it goes on as it should, and its call ends fairly, where answers are good.
 use Rattle.std.proofs.Common.{◌≡◌, ◌==◌, ℕ, Bool, true, false, List, [], ◌∷◌, Option, Some, None, Ok, Err, find, is_some, inl, inr, refl, sym, subst, if◌then◌else◌}
 use Rattle.std.proofs.lemmas.Bool.{eq-eqb, ne_eqb}
-use Rattle.osd_bytes.specs.declared.node.Node.{Node}
-use Rattle.osd_bytes.specs.declared.node.Node.TheVariants.{Server as FromServer, Drive as FromDrive}
+use Rattle.osd_lists.specs.declared.node.Node.{Node}
+use Rattle.osd_lists.specs.declared.node.Node.TheVariants.{Server as FromServer, Drive as FromDrive}
 use Rattle.layout_ops.specs.declared.messages.Answer.{Answer}
 use Rattle.layout_ops.specs.declared.statuses.TheConstants.{NFS4_OK}
 use Rattle.world_history.specs.ClientNames.{Client, Call, CallOp, Busy, BadRange, SlotSpent, Held, Awaited, TimedOut, Request, Recall, Reply, Need, First, Get, Commit, Report, Close, Phase, Starts, Needs, Waits, Reads, Probes, Gathers, Scatters, Outcome, WriteOk, Status, BadLayout, Turn, Goes, Ends, Forgets, Moved, Done}

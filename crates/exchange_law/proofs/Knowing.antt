@@ -2,8 +2,8 @@
 -- sent to drives are commands.
 use Rattle.std.proofs.Common.{◌≡◌, ℕ, ◌∷◌, ◌++◌, [], List, Some, None, map, slice_get, refl, sym, ap, subst, ◌∙◌, inl, inr}
 use Rattle.std.proofs.lemmas.List.{append-nil}
-use Rattle.osd_bytes.specs.declared.node.Node.{Node}
-use Rattle.osd_bytes.specs.declared.node.Node.TheVariants as node
+use Rattle.osd_lists.specs.declared.node.Node.{Node}
+use Rattle.osd_lists.specs.declared.node.Node.TheVariants as node
 use Rattle.osd_commands.specs.declared.commands.Command.{Command}
 use Rattle.server_rules.specs.Laws.{In}
 use Rattle.job_law.proofs.Lists.{in_mapped}

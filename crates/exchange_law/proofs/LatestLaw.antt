@@ -2,8 +2,8 @@
 use Rattle.std.proofs.Common.{◌≡◌, ◌⊎◌, ◌==◌, ℕ, ◌≤◌, [], List, Bool, true, false, Option, Some, None, map, option_map, refl, sym, ap, subst, ◌∙◌, arith, inl, inr, if◌then◌else◌, append_assoc, ◌++◌}
 use Rattle.std.proofs.lemmas.Bool.{cases_eq}
 use Rattle.std.proofs.lemmas.List.{append-nil}
-use Rattle.osd_bytes.specs.declared.node.Node.{Node}
-use Rattle.osd_bytes.specs.declared.node.Node.TheVariants as node
+use Rattle.osd_lists.specs.declared.node.Node.{Node}
+use Rattle.osd_lists.specs.declared.node.Node.TheVariants as node
 use Rattle.server_rules.specs.Laws.{In}
 use Rattle.job_law.proofs.Lists.{in_either, in_mapped}
 use Rattle.exchange_law.specs.ClientState.{Client, Call, Held, Awaited, Outgoing, AnswersRecall, Asks, ToDrive, Answer, Reply, Command, Request}

@@ -1,6 +1,6 @@
 -- The commands among a client's messages, and their nonces.
 use Rattle.std.proofs.Common.{◌≡◌, ◌||◌, ◌&&◌, not, ℕ, ◌≤◌, Bool, true, false, List, [], ◌∷◌, ◌++◌, Option, Some, None, map, filter, length, refl, sym, ap, subst, ◌∙◌, arith, inl, inr, if◌then◌else◌}
-use Rattle.osd_bytes.specs.declared.node.Node.TheVariants as node
+use Rattle.osd_lists.specs.declared.node.Node.TheVariants as node
 use Rattle.server_rules.specs.Laws.{In}
 use Rattle.client_rules.specs.Commands.{placed, before, in_order}
 use Rattle.client_rules.specs.Messages.{to_drive, awaited_of}

@@ -11,7 +11,7 @@ use Rattle.scenario_text.specs.declared.line.Line.TheVariants as line
 use Rattle.client_rules.specs.History.{Input, Calls, Hears, TimesOut, Leaves, Resends}
 use Rattle.client_rules.specs.Messages.{Message as ClientMessage}
 use Rattle.history_law.specs.State.{Client, CallOp, Outcome, WriteOk, ReadOk, NoFile, HeldBy, Fencing, Degraded, Spent, Status, Refused, Silent, Lost, BadLayout}
-use Rattle.osd_bytes.specs.declared.node.Node.{Node}
+use Rattle.osd_lists.specs.declared.node.Node.{Node}
 use Rattle.world_history.specs.State.{ClientAt, World, at_number, empty_world}
 use Rattle.world_history.specs.Told.{kind_of, verdict_with}
 use Rattle.world_history.specs.Names.{where_known, has_tag, known_outcome}

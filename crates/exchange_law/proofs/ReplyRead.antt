@@ -1,7 +1,7 @@
 -- What is read of a reply that was spelled, however wide its numbers: its verdict, and the lowest bits of the rest.
 use Rattle.std.proofs.Common.{◌≡◌, ℕ, ◌%◌, ◌<◌, ◌^◌, List, length, Option, Some, None, Ok, refl, sym, ap, ◌∙◌, arith}
 use Rattle.std.specs.Prelude.{slice_range, nat_lt, nat_eq, not}
-use Rattle.osd_bytes.specs.Blocks.{first_nonzero}
+use Rattle.osd_lists.specs.Blocks.{first_nonzero}
 use Rattle.osd_commands.specs.declared.commands.CommandErr.TheVariants.{Short, Magic, BadAction, Length}
 use Rattle.std.specs.Int.{w16, w32, w64, to_be_bytes, from_be_bytes}
 use Rattle.std.proofs.lemmas.Nat.{from_be_bytes-to_be_bytes_2}

@@ -1,6 +1,6 @@
 -- The server's step keeps each client in step.
 use Rattle.std.proofs.Common.{◌≡◌, ◌≤◌, ◌<◌, ◌+◌, ℕ, List, ◌++◌, Option, Some, None, map, filter, refl, sym, ap, subst, ◌∙◌, arith, inl, inr, ne_eqb}
-use Rattle.osd_bytes.specs.declared.node.Node.TheVariants as node
+use Rattle.osd_lists.specs.declared.node.Node.TheVariants as node
 use Rattle.layout_ops.specs.declared.messages.Answer.{Answer}
 use Rattle.layout_ops.specs.declared.envelope.Envelope.TheVariants as envelope
 use Rattle.client_rules.specs.declared.limits.TheConstants.{GREATEST_SEQUENCE, MAX_CLIENT}

@@ -1,6 +1,6 @@
 -- What is read of a request and an answer that were spelled, however wide their other numbers are.
 use Rattle.std.proofs.Common.{◌≡◌, ◌<◌, ◌^◌, ℕ, List, Option, Some, None, Result, Ok, Err, refl, sym, ap, subst, ◌∙◌, arith}
-use Rattle.osd_bytes.specs.declared.node.Node.TheVariants as node
+use Rattle.osd_lists.specs.declared.node.Node.TheVariants as node
 use Rattle.xdr_codec.specs.Reading.{Rest, ◌>>=◌}
 use Rattle.xdr_codec.proofs.ItemLaws.{bind_ok, ok_is}
 use Rattle.layout_ops.specs.declared.err.OpErr.{OpErr}

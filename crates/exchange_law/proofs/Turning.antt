@@ -1,8 +1,8 @@
 -- What each move is: a step of the server, of a client or of a drive, with all that it tells and sends.
 use Rattle.std.specs.List.{cons_option, filter_map}
 use Rattle.std.proofs.Common.{◌≡◌, ◌⊎◌, ◌&&◌, ℕ, Bool, true, false, List, [], ◌∷◌, ◌++◌, Some, map, filter, nat_lt, slice_get, slice_set, refl, sym, ap, ◌∙◌, inl, inr, zero, suc}
-use Rattle.osd_bytes.specs.declared.node.Node.{Node}
-use Rattle.osd_bytes.specs.declared.node.Node.TheVariants as node
+use Rattle.osd_lists.specs.declared.node.Node.{Node}
+use Rattle.osd_lists.specs.declared.node.Node.TheVariants as node
 use Rattle.server_rules.specs.Laws.{In}
 use Rattle.server_rules.specs.Envelopes as server_bytes
 use Rattle.server_rules.specs.History as server_input

@@ -1,6 +1,6 @@
 -- What is asked of the grants that clients take: each is new to its objects.
 use Rattle.std.specs.Prelude.{◌≡◌, ◌<◌, ℕ, ◌+◌, ◌++◌, List, map, Some, Ok}
-use Rattle.osd_bytes.specs.declared.node.Node.TheVariants as node
+use Rattle.osd_lists.specs.declared.node.Node.TheVariants as node
 use Rattle.layout_ops.specs.declared.messages.Answer.{Answer}
 use Rattle.osd_commands.specs.declared.commands.Command.{Command}
 use Rattle.server_rules.specs.Laws.{In}

@@ -1,6 +1,6 @@
 -- Where a kept answer comes from: the server made it when the request first came.
 use Rattle.std.specs.Prelude.{◌≡◌, ◌++◌, ℕ, List, Option, Some, None}
-use Rattle.osd_bytes.specs.declared.node.Node.TheVariants as node
+use Rattle.osd_lists.specs.declared.node.Node.TheVariants as node
 use Rattle.layout_ops.specs.declared.envelope.Envelope.TheVariants as envelope
 use Rattle.server_rules.specs.declared.requests.ClientRequest.{ClientRequest}
 use Rattle.layout_ops.specs.declared.messages.Answer.{Answer}

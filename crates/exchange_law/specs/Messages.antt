@@ -1,6 +1,6 @@
 -- What was sent between a client and the server.
 use Rattle.std.specs.Prelude.{◌≡◌, ◌≤◌, ◌-◌, ◌==◌, ℕ, List, [], ◌∷◌, Option, Some, if◌then◌else◌}
-use Rattle.osd_bytes.specs.declared.node.Node.TheVariants as node
+use Rattle.osd_lists.specs.declared.node.Node.TheVariants as node
 use Rattle.layout_ops.specs.declared.envelope.Envelope.TheVariants as envelope
 use Rattle.server_rules.specs.declared.server.Slot.{Slot}
 use Rattle.layout_ops.specs.declared.messages.Answer.{Answer}

@@ -1,6 +1,6 @@
 -- The nonces of a client's commands, and the grants that it takes: none comes twice.
 use Rattle.std.specs.Prelude.{◌≡◌, ℕ, ◌<◌, List, map, Some, Ok}
-use Rattle.osd_bytes.specs.declared.node.Node.TheVariants as node
+use Rattle.osd_lists.specs.declared.node.Node.TheVariants as node
 use Rattle.osd_commands.specs.declared.commands.Command.{Command}
 use Rattle.layout_ops.specs.declared.messages.Answer.{Answer}
 use Rattle.server_rules.specs.Laws.{In}

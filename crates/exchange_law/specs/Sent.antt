@@ -1,6 +1,6 @@
 -- The commands that clients sent to drives, as the messages of a world have them, and the objects of a grant.
 use Rattle.std.specs.Prelude.{◌≡◌, ℕ, ◌<◌, ◌^◌, map, Some}
-use Rattle.osd_bytes.specs.declared.node.Node.TheVariants as node
+use Rattle.osd_lists.specs.declared.node.Node.TheVariants as node
 use Rattle.osd_commands.specs.declared.commands.Command.{Command}
 use Rattle.server_rules.specs.Laws.{In}
 use Rattle.client_rules.specs.Commands.{credential_of, no_capability}

@@ -1,7 +1,7 @@
 -- Each message of the server to a client goes to one that a line can name, in each move.
 use Rattle.std.proofs.Common.{◌≡◌, ℕ, ◌∷◌, [], List, Bool, true, false, nat_lt, filter, map, refl, if◌then◌else◌}
-use Rattle.osd_bytes.specs.declared.node.Node.{Node}
-use Rattle.osd_bytes.specs.declared.node.Node.TheVariants as node
+use Rattle.osd_lists.specs.declared.node.Node.{Node}
+use Rattle.osd_lists.specs.declared.node.Node.TheVariants as node
 use Rattle.server_rules.specs.History as server_input
 use Rattle.client_rules.specs.History as client_input
 use Rattle.scenario_text.specs.declared.names.TheConstants.{CLIENTS}

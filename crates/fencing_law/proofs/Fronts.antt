@@ -3,7 +3,7 @@ use Rattle.std.proofs.Common.{◌≡◌, ℕ, ◌+◌, ◌-◌, ◌≤◌, ◌<�
 use Rattle.std.specs.Prelude.{slice_range}
 use Rattle.std.proofs.lemmas.Bool.{eqb-true, ltb-false}
 use Rattle.std.proofs.lemmas.List.{length-append, length-drop, length-replicate, nil_from_length}
-use Rattle.osd_bytes.specs.Blocks.{first_nonzero}
+use Rattle.osd_lists.specs.Blocks.{first_nonzero}
 use Rattle.xdr_codec.specs.declared.err.XdrErr.TheVariants.{TooMany, Trailing}
 use Rattle.xdr_codec.specs.Items.{padded, u32_item, u64_item, fixed_item, opaque_item}
 use Rattle.xdr_codec.specs.Reading.{Rest, ◌>>=◌, behind, u32_in, u64_in, count_in, body_in, unless_padding, opaque_in, end_of}

@@ -1,7 +1,7 @@
 -- Over all moves: what fences wait for, and what their ends tell.
 use Rattle.std.proofs.Common.{◌≡◌, ℕ, ◌+◌, ◌++◌, ◌∷◌, [], List, true, sym, ap, subst, ◌∙◌, inl, inr}
 use Rattle.std.proofs.lemmas.List.{append-nil}
-use Rattle.osd_bytes.specs.declared.node.Node.TheVariants as node
+use Rattle.osd_lists.specs.declared.node.Node.TheVariants as node
 use Rattle.server_rules.specs.Laws.{In}
 use Rattle.server_rules.specs.Messages.{Replies as RepliesTo}
 use Rattle.server_rules.specs.History.{Input, Hears, step}

@@ -1,6 +1,6 @@
 -- In each world the server's messages and what its jobs await have nonces that don't repeat.
 use Rattle.std.proofs.Common.{◌≡◌, ◌⊎◌, ℕ, ◌<◌, ◌∷◌, [], ◌++◌, List, map, refl, sym, ap, subst, ◌∙◌, arith, inl, inr}
-use Rattle.osd_bytes.specs.declared.node.Node.TheVariants as node
+use Rattle.osd_lists.specs.declared.node.Node.TheVariants as node
 use Rattle.osd_commands.specs.declared.commands.Command.{Command}
 use Rattle.server_rules.specs.Laws.{In}
 use Rattle.server_rules.specs.Files.{Step as ServerStep}

@@ -12,7 +12,7 @@ use Rattle.osd_commands.specs.declared.commands.Command.{Command}
 use Rattle.osd_commands.specs.declared.commands.CommandErr.{CommandErr}
 use Rattle.osd_commands.specs.declared.commands.CommandErr.TheVariants.{Short, Magic, BadAction}
 use Rattle.osd_capability.specs.declared.layout.CapErr.TheVariants.{Length as CapLength, Format as CapFormat}
-use Rattle.osd_bytes.specs.Blocks.{first_nonzero}
+use Rattle.osd_lists.specs.Blocks.{first_nonzero}
 use Rattle.osd_commands.specs.declared.replies.Reply.{Reply}
 use Rattle.osd_commands.specs.Actions.{number_of, action_of}
 use Rattle.osd_commands.specs.Commands as Command

@@ -9,7 +9,7 @@ ghost use Rattle.file_jobs.specs.Steps.{IsSettled, Turns};
 
 use crate::job::{Turn, Work};
 use crate::moved::{note, rests};
-use osd_bytes::Memory;
+use osd_lists::Memory;
 use server_rules::{AwaitedCommands, Heard, JobKind, Kept, Moved, NoteKind};
 use std::alloc::Global;
 use stripe_repair::{Ask, Audit, Which, to_all};

@@ -6,9 +6,9 @@ ghost use Rattle.server_rules.specs.Replies.{answers};
 ghost use Rattle.file_jobs.specs.Awaiting.{stays};
 
 use crate::moved::copy_of;
-use osd_bytes::Memory;
 use osd_capability::FORMAT_SHA256;
 use osd_commands::Reply;
+use osd_lists::Memory;
 use server_rules::{Awaited, AwaitedCommands};
 use std::alloc::Global;
 

@@ -13,7 +13,7 @@ use crate::job::{FileState, RunningJob, Turn, Work};
 use crate::rebuilding::{ends, fills, target_of};
 use crate::settling::settle;
 use crate::standing::{any_on, lose_on};
-use osd_bytes::{Memory, Numbers};
+use osd_lists::{Memory, Numbers};
 use server_rules::{Kept, Moved, NoteKind, Target};
 use std::alloc::Global;
 use stripe_repair::{DriveLoad, Placer};

@@ -3,7 +3,7 @@ ghost use Rattle.std.specs.Prelude.{◌≡◌, max, OnOk};
 ghost use Rattle.server_rules.specs.Jobs.{ending, fencing};
 ghost use Rattle.file_jobs.specs.Sound.{Leaves};
 
-use osd_bytes::{Memory, Sequence};
+use osd_lists::{Memory, Sequence};
 use server_rules::{Kept, Phase};
 use std::alloc::Global;
 

@@ -9,7 +9,7 @@ use crate::ending::end_grants;
 use crate::job::{Turn, Work};
 use crate::mending::repair_begins;
 use crate::moved::{note, rests};
-use osd_bytes::Memory;
+use osd_lists::Memory;
 use server_rules::{JobKind, Kept, Moved, NoteKind, Phase};
 use std::alloc::Global;
 use stripe_repair::{Ask, Which, to_all};

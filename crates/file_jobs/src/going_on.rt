@@ -11,7 +11,7 @@ use crate::fencing::{fenced, is_made};
 use crate::job::{RunningJob, Turn, Work};
 use crate::mending::{answered, repairs};
 use crate::rebuilding::{self, fills_all};
-use osd_bytes::{Memory, Sequence};
+use osd_lists::{Memory, Sequence};
 use server_rules::{AwaitedCommands, Heard, JobKind, Kept, Moved};
 use std::alloc::Global;
 use stripe_repair::{Repair, Stage};

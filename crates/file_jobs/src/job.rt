@@ -1,4 +1,4 @@
-use osd_bytes::Sequence;
+use osd_lists::Sequence;
 use server_rules::{AwaitedCommands, Heard, JobKind, Kept, Target};
 use std::marker::Model;
 use stripe_repair::{Audit, Rebuild, Repair};

@@ -9,7 +9,7 @@ ghost use Rattle.file_jobs.specs.Steps.{GoesOnAs, Makes, Turns};
 use crate::job::{Turn, Work};
 use crate::moved::{note, rests};
 use crate::ranges::{count_stripes, merged};
-use osd_bytes::{Memory, Sequence, Times};
+use osd_lists::{Memory, Sequence, Times};
 use server_rules::{AwaitedCommands, Heard, JobKind, Kept, Mended, Moved, NoteKind, Phase};
 use std::alloc::Global;
 use stripe_repair::Repair;

@@ -4,8 +4,8 @@ ghost use Rattle.file_jobs.specs.Works.{noted, sends, work_of};
 ghost use Rattle.file_jobs.specs.Steps.{GoesOnAs, IsSettled, RestsOr};
 
 use crate::job::{RunningJob, Turn, Work};
-use osd_bytes::{Bytes, Memory, Sequence};
 use osd_commands::Command;
+use osd_lists::{Bytes, Memory, Sequence};
 use server_rules::{Awaited, AwaitedCommands, JobKind, Moved, Note, NoteKind};
 use std::alloc::Global;
 

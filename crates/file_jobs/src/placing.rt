@@ -11,7 +11,7 @@ ghost use Rattle.file_jobs.specs.Placing.{AreLoadsOf, IsPick, free_loads};
 use crate::job::{Turn, Work};
 use crate::moved::{note, rests};
 use crate::standing::stood_on;
-use osd_bytes::{Memory, Numbers, Sequence};
+use osd_lists::{Memory, Numbers, Sequence};
 use server_rules::{AwaitedCommands, Component, JobKind, Kept, Moved, NoteKind, Target};
 use std::alloc::Global;
 use stripe_repair::{Ask, DriveLoad, Placer, online_count, sent_to};

@@ -4,7 +4,7 @@ ghost use Rattle.data_map.specs.declared.ranges.TheConstants.{MAX_FILE_SIZE};
 ghost use Rattle.server_rules.specs.Grants.{count_stripes, joined, merged};
 ghost use Rattle.file_jobs.specs.Ranges.{EndInside, Rise};
 
-use osd_bytes::{Memory, Sequence};
+use osd_lists::{Memory, Sequence};
 use server_rules::{Grant, Stripes};
 use std::alloc::Global;
 

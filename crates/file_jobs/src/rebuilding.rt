@@ -12,7 +12,7 @@ ghost use Rattle.file_jobs.specs.Works.{work_of};
 
 use crate::job::{Turn, Work};
 use crate::moved::{note, rests};
-use osd_bytes::Memory;
+use osd_lists::Memory;
 use server_rules::{AwaitedCommands, Component, Heard, JobKind, Kept, Moved, NoteKind, Target};
 use std::alloc::Global;
 use stripe_repair::{FillStage, FillStep, Rebuild};

@@ -15,9 +15,9 @@ use crate::job::{RunningJob, Turn};
 use crate::moved::{note, send};
 use crate::rebuilding::{ends, target_of};
 use crate::standing::lose;
-use osd_bytes::{Bytes, Memory};
 use osd_capability::FORMAT_SHA256;
 use osd_commands::{Action, Reply};
+use osd_lists::{Bytes, Memory};
 use server_rules::{
     Awaited, AwaitedCommands, EXISTS, Heard, Kept, Moved, NO_SPACE, NoteKind, OLD_FORMAT,
     OTHER_TAG, PERFORMED,

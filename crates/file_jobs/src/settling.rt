@@ -10,7 +10,7 @@ use crate::auditing::audit_begins;
 use crate::job::{RunningJob, Turn};
 use crate::placing::places;
 use crate::whole::job_of;
-use osd_bytes::{Memory, Numbers};
+use osd_lists::{Memory, Numbers};
 use server_rules::{JobKind, Kept, Moved};
 use std::alloc::Global;
 use stripe_repair::{DriveLoad, Placer};

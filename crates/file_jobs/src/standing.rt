@@ -3,7 +3,7 @@ ghost use Rattle.std.specs.Prelude.{◌≡◌, ◌<◌, ◌≤◌, ◌^◌, ◌�
 ghost use Rattle.server_rules.specs.declared.limits.TheConstants.{MAX_FILE_COMPONENTS};
 ghost use Rattle.server_rules.specs.Standing.{any_on, lose_from, lose_on, stood_on};
 
-use osd_bytes::Memory;
+use osd_lists::Memory;
 use server_rules::{Component, Components};
 use std::alloc::Global;
 

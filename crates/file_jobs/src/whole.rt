@@ -13,7 +13,7 @@ ghost use Rattle.file_jobs.specs.Steps.{GoesOnAs, IsSettled, SetsJob, Steps, Ste
 use crate::fencing::{fence_begins, making};
 use crate::job::{FileState, RunningJob, Turn};
 use crate::settling::settle;
-use osd_bytes::{Memory, Numbers};
+use osd_lists::{Memory, Numbers};
 use server_rules::{JobKind, Moved};
 use std::alloc::Global;
 use stripe_repair::{DriveLoad, Placer};

@@ -1,7 +1,7 @@
 -- An accepted log of which every write was acknowledged is that of one plain list of bytes.
 use Rattle.std.proofs.Common.{◌≡◌, ℕ, zero, suc, ◌+◌, true, [], ◌∷◌, length, get_or, Some, None, sym, ap, subst, ◌∙◌, arith}
 use Rattle.std.specs.Prelude.{Contains}
-use Rattle.osd_bytes.specs.Overwrite.{overwritten}
+use Rattle.osd_lists.specs.Overwrite.{overwritten}
 use Rattle.file_log.specs.declared.entry.Entry.TheVariants.{Write, Read}
 use Rattle.file_log.specs.Judge.{after_entry, given}
 use Rattle.file_log.specs.OneList.{IsPlain, IsRangeFound}

@@ -2,8 +2,8 @@
 use Rattle.std.proofs.Common.{◌≡◌, ℕ, ◌+◌, ◌-◌, ◌<◌, ◌≤◌, true, List, [], ◌∷◌, ◌++◌, length, get_or, Some, None, refl, sym, ap, ◌∙◌, arith, inl, inr}
 use Rattle.std.proofs.lemmas.Bool.{cases_lt, lt-ltb, le-ltb, eq-eqb}
 use Rattle.std.proofs.lemmas.Option.{slice_get-get_or, slice_get_past}
-use Rattle.osd_bytes.specs.Overwrite.{overwritten}
-use Rattle.osd_bytes.proofs.Overwritten.{length-overwritten, before_overwritten, inside_overwritten, behind_overwritten}
+use Rattle.osd_lists.specs.Overwrite.{overwritten}
+use Rattle.osd_lists.proofs.Overwritten.{length-overwritten, before_overwritten, inside_overwritten, behind_overwritten}
 use Rattle.file_log.specs.declared.entry.Entry.{Entry}
 use Rattle.file_log.specs.declared.entry.Entry.TheVariants.{Write, Read}
 use Rattle.file_log.specs.Judge.{Candidates, byte_for, settled, given, after_entry, Fits, AcceptsFrom, candidates_from, new_file, IsSettled, IsRange}

@@ -1,6 +1,6 @@
 -- A log in which every write was acknowledged is that of one plain list of bytes.
 use Rattle.std.specs.Prelude.{◌≡◌, ℕ, true, List, [], ◌∷◌}
-use Rattle.osd_bytes.specs.Overwrite.{overwritten}
+use Rattle.osd_lists.specs.Overwrite.{overwritten}
 use Rattle.file_log.specs.declared.entry.Entry.{Entry}
 use Rattle.file_log.specs.declared.entry.Entry.TheVariants.{Write, Read}
 use Rattle.file_log.specs.Judge.{Candidates, Finds, IsSettled, IsRange, AcceptsFrom, candidates_from}

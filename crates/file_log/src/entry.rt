@@ -1,4 +1,4 @@
-use osd_bytes::Bytes;
+use osd_lists::Bytes;
 
 /// A write or a read of a file, as its log keeps it.
 #[derive(Debug, PartialEq, Drop)]

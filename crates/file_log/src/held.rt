@@ -5,7 +5,7 @@ ghost use Rattle.file_log.specs.Held.{held_by, AreSame};
 use crate::entry::Entry;
 use crate::sizes::{has_size, next_sizes};
 use crate::values::{has_bytes, next_values};
-use osd_bytes::{Bytes, Memory};
+use osd_lists::{Bytes, Memory};
 use std::alloc::Global;
 use std::collections::BTreeMap;
 use std::marker::Model;

@@ -3,7 +3,7 @@ ghost use Rattle.file_log.specs.Judge.{Accepts};
 
 use crate::entry::Entry;
 use crate::held::Held;
-use osd_bytes::Memory;
+use osd_lists::Memory;
 use std::alloc::Global;
 
 /// Whether the judge accepts a log. It goes through the log once: an entry takes the time of its

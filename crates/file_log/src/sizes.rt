@@ -3,7 +3,7 @@ ghost use Rattle.std.specs.List.{filter};
 ghost use Rattle.file_log.specs.Judge.{given, sizes_after};
 
 use crate::entry::Entry;
-use osd_bytes::Memory;
+use osd_lists::Memory;
 use std::alloc::Global;
 
 // How many bytes a read of a range gives at a size.

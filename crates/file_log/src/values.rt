@@ -3,7 +3,7 @@ ghost use Rattle.file_log.specs.Judge.{byte_for, taken_byte, values_after};
 ghost use Rattle.file_log.specs.Held.{values_in};
 
 use crate::entry::Entry;
-use osd_bytes::{Bytes, Memory};
+use osd_lists::{Bytes, Memory};
 use std::alloc::Global;
 use std::collections::BTreeMap;
 

@@ -1,7 +1,7 @@
 -- What a request does at a file, part by part.
 use Rattle.std.specs.Prelude.{ℕ, List, [], ◌∷◌, ◌≡◌, ◌+◌, ◌<◌, refl, false, Option, Some, None, Result, Ok, Err, IfOk, drop, length, suc, if◌then◌else◌}
 use Rattle.std.proofs.Common.{arith, inl, inr, ap, sym, ◌∙◌, ne_eqb, eq-eqb, drop-cons}
-use Rattle.osd_bytes.specs.declared.memory.Memory.{Memory}
+use Rattle.osd_lists.specs.declared.memory.Memory.{Memory}
 use Rattle.layout_types.specs.declared.ioerrs.IoErr.{IoErr}
 use Rattle.server_rules.specs.declared.files.Kept.{Kept}
 use Rattle.server_rules.specs.declared.jobs.Job.{Job}

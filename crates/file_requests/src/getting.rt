@@ -12,7 +12,7 @@ use layout_ops::{
     NFS4_OK, NFS4ERR_BADIOMODE, NFS4ERR_INVAL, NFS4ERR_LAYOUTTRYLATER, NFS4ERR_LAYOUTUNAVAILABLE,
     NFS4ERR_RECALLCONFLICT,
 };
-use osd_bytes::Memory;
+use osd_lists::Memory;
 use server_requests::{Early, Late, Wanted, against, asked, early_row, late_row, must_fence};
 use server_rules::{GREATEST_TAG, Grant, Kept, Moved, NO_COMPONENT, NoteKind};
 use std::alloc::Global;

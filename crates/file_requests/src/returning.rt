@@ -14,7 +14,7 @@ use crate::outcome::{Asking, Outcome, says};
 use file_jobs::{FileState, note, revoke};
 use layout_ops::{NFS4_OK, NFS4ERR_LAYOUTUNAVAILABLE};
 use layout_types::IoErr;
-use osd_bytes::{Memory, Numbers};
+use osd_lists::{Memory, Numbers};
 use server_requests::{Returned, is_among, return_row, without, without_these};
 use server_rules::{LOSS_TAKEN, Moved, NO_COMPONENT, NoteKind};
 use std::alloc::Global;

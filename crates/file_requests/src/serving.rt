@@ -9,7 +9,7 @@ use crate::getting::get;
 use crate::outcome::{Asking, Outcome};
 use crate::returning::give_back;
 use file_jobs::FileState;
-use osd_bytes::Memory;
+use osd_lists::Memory;
 use server_requests::Wanted;
 use server_rules::{Moved, RequestArgs};
 use std::alloc::Global;

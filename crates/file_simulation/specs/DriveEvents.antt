@@ -1,8 +1,8 @@
 -- The events of a file in a move of a drive.
 use Rattle.std.specs.Prelude.{ℕ, ◌+◌, ◌==◌, ◌&&◌, not, Bool, true, false, nat_le, nat_lt, List, [], ◌∷◌, ◌++◌, find, length, slice_get, nat_eq, Option, Some, None, Result, Ok, Err, if◌then◌else◌}
 use Rattle.std.specs.Cmp.Lexicographic.{pointwise}
-use Rattle.osd_bytes.specs.declared.node.Node.{Node}
-use Rattle.osd_bytes.specs.declared.node.Node.TheVariants as node
+use Rattle.osd_lists.specs.declared.node.Node.{Node}
+use Rattle.osd_lists.specs.declared.node.Node.TheVariants as node
 use Rattle.osd_commands.specs.declared.actions.Action.{Action}
 use Rattle.osd_commands.specs.declared.actions.Action.TheVariants.{Read, Write, SetTag}
 use Rattle.osd_commands.specs.declared.commands.Command.{Command}

@@ -1,6 +1,6 @@
 -- The repairs and rebuilds of a file, over the messages that were ever sent for them.
 use Rattle.std.specs.Prelude.{◌≡◌, ◌⊎◌, ℕ, ◌+◌, ◌-◌, ◌%◌, ◌<◌, ◌≤◌, Bool, true, false, List, [], ◌∷◌, length, get_or, slice_get, slice_index, Option, Some, None, if◌then◌else◌}
-use Rattle.osd_bytes.specs.declared.node.Node.TheVariants as node
+use Rattle.osd_lists.specs.declared.node.Node.TheVariants as node
 use Rattle.data_map.specs.declared.check.RawMap.{RawMap}
 use Rattle.data_map.specs.Striping.{group_of, offset_of, column_of}
 use Rattle.data_map.specs.Inverse.{stripe_at}

@@ -1,6 +1,6 @@
 -- What clients and the server sent to the objects of a file, and what drives replied.
 use Rattle.std.specs.Prelude.{◌≡◌, ℕ, ◌+◌, ◌<◌, ◌≤◌, true, false, length, slice_get, slice_index, Some}
-use Rattle.osd_bytes.specs.declared.node.Node.TheVariants as node
+use Rattle.osd_lists.specs.declared.node.Node.TheVariants as node
 use Rattle.osd_objects.specs.declared.lanes.LaneEntry.{LaneEntry}
 use Rattle.osd_objects.specs.Store.{lane_or_none}
 use Rattle.osd_commands.specs.declared.actions.Action.TheVariants.{Write, SetTag}

@@ -2,7 +2,7 @@ ghost use Rattle.std.specs.Prelude.{◌≡◌};
 ghost use Rattle.grant_table.specs.declared.slot.Admit.TheVariants.{New as IsNew};
 ghost use Rattle.grant_table.specs.Admitting.{admitted, new_slot};
 
-use osd_bytes::Bytes;
+use osd_lists::Bytes;
 use server_rules::GREATEST_SEQUENCE;
 use std::alloc::Global;
 use std::marker::Model;

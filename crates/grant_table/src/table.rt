@@ -6,7 +6,7 @@ ghost use Rattle.grant_table.specs.Numbered.{has_number, without_number};
 ghost use Rattle.grant_table.specs.Tables.{grants_of, Replaces, Removes, HasNone, Same};
 
 use crate::file_grants::{FileGrants, GrantErr};
-use osd_bytes::Memory;
+use osd_lists::Memory;
 use server_rules::{Grant, Grants as GrantList};
 use std::alloc::Global;
 use std::collections::BTreeMap;

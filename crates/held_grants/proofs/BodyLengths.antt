@@ -3,7 +3,7 @@ use Rattle.std.specs.Prelude.{ℕ, Bool, true, false, List, [], ◌∷◌, ◌++
 use Rattle.std.specs.List.{AllByRecursion, flat_map}
 use Rattle.std.proofs.Common.{arith, ◌∙◌}
 use Rattle.std.proofs.lemmas.List.{length-append}
-use Rattle.osd_bytes.specs.declared.memory.Memory.{Memory}
+use Rattle.osd_lists.specs.declared.memory.Memory.{Memory}
 use Rattle.xdr_codec.specs.Items.{u32_item, u64_item, bool_item, fixed_item}
 use Rattle.layout_types.specs.declared.ioerrs.IoErr.{IoErr}
 use Rattle.layout_types.specs.declared.objid.ObjId.{ObjId}

@@ -4,7 +4,7 @@ ghost use Rattle.layout_types.specs.declared.parts.TheConstants.{MAX_MEMBERS};
 ghost use Rattle.client_rules.specs.Grants.{missing_from};
 
 use client_rules::Listed;
-use osd_bytes::{Memory, Numbers};
+use osd_lists::{Memory, Numbers};
 use std::alloc::Global;
 
 /// The numbers of the components that a list has as missing, rising. There are at most

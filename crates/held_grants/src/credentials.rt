@@ -7,8 +7,8 @@ ghost use Rattle.client_rules.specs.Layouts.{drive_of, key_of, listed, with_capa
 
 use client_rules::{Credential, Listed, MAX_DRIVE};
 use layout_types::{KeySecurity, ObjectCred, OsdVersion};
-use osd_bytes::{Memory, Sequence};
 use osd_capability::{CHECK_BYTES, CapKey, Capability, FORMAT_SHA1, SHA1_TAG_BYTES};
+use osd_lists::{Memory, Sequence};
 use std::alloc::Global;
 
 // A key over SHA-1, where there are as many bytes as it has.

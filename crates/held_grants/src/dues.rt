@@ -6,7 +6,7 @@ ghost use Rattle.client_rules.specs.Messages.{is_due, due_with};
 
 use crate::grants::HeldGrants;
 use client_rules::Due;
-use osd_bytes::{Memory, Sequence};
+use osd_lists::{Memory, Sequence};
 use std::alloc::Global;
 
 /// Grants that are to be returned, in the order in which they became due.

@@ -8,7 +8,7 @@ ghost use Rattle.std.specs.Map.{values_of};
 
 use crate::dues::{Dues, make_due};
 use client_rules::{Due, Held};
-use osd_bytes::Memory;
+use osd_lists::Memory;
 use std::alloc::Global;
 use std::collections::BTreeMap;
 use std::marker::Model;

@@ -16,7 +16,7 @@ use layout_ops::{
     LayoutReturnArgs, STATEID_OTHER_BYTES, StateId,
 };
 use layout_types::{IoErr, IoErrs, LayoutUpdate, Structure};
-use osd_bytes::{Bytes, Memory, Sequence, put_u32};
+use osd_lists::{Bytes, Memory, Sequence, put_u32};
 use std::alloc::Global;
 
 // The stateid of a grant: 8 bytes of zeros, and its number.

@@ -18,7 +18,7 @@ use client_rules::{CallOp, Held, MAX_FILE_COMPONENTS, Reach, Why};
 use data_map::{DataMap, MAX_FILE_SIZE, RawMap};
 use layout_ops::{Answer, LAYOUTIOMODE4_RW, LayoutGetResult, LayoutSegment, Results, StateId};
 use layout_types::{Layout, LayoutErr, Structure};
-use osd_bytes::{Memory, u32_at};
+use osd_lists::{Memory, u32_at};
 use std::alloc::Global;
 use stripe_plan::{Out, PlanErr, Span, check_writable};
 

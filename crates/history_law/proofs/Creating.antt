@@ -4,7 +4,7 @@ use Rattle.std.specs.Prelude.{slice_range}
 use Rattle.std.specs.Int.{w16, w32, w64, to_be_bytes, from_be_bytes, byte_at, bytes_high_first}
 use Rattle.std.proofs.lemmas.Nat.{be_bytes_4, be_bytes_8}
 use Rattle.std.proofs.lemmas.Bool.Decides.{nat_tests}
-use Rattle.osd_bytes.proofs.BlockLaws.{below_32, below_64}
+use Rattle.osd_lists.proofs.BlockLaws.{below_32, below_64}
 use Rattle.osd_capability.specs.declared.layout.Capability.{Capability}
 use Rattle.osd_capability.specs.declared.layout.CapErr.{CapErr}
 use Rattle.osd_capability.specs.Layout as Cap

@@ -1,8 +1,8 @@
 -- In each move the server takes the step that the move is to it.
 use Rattle.std.specs.List.{filter_map}
 use Rattle.std.proofs.Common.{◌≡◌, ℕ, ◌++◌, ◌∷◌, [], List, Bool, true, false, Option, Some, None, Result, Ok, Err, is_some, map, filter, slice_get, refl, sym, ap, subst, ◌∙◌, if◌then◌else◌}
-use Rattle.osd_bytes.specs.declared.node.Node.{Node}
-use Rattle.osd_bytes.specs.declared.node.Node.TheVariants as node
+use Rattle.osd_lists.specs.declared.node.Node.{Node}
+use Rattle.osd_lists.specs.declared.node.Node.TheVariants as node
 use Rattle.data_map.specs.declared.check.RawMap.{RawMap}
 use Rattle.server_rules.specs.Files.{Step as ServerStep, still}
 use Rattle.server_rules.specs.Making.{create_file}

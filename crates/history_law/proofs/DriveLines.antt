@@ -1,7 +1,7 @@
 -- The drives that are read off a history are those of the world, and each line tells of them what it may.
 use Rattle.std.proofs.Common.{◌≡◌, ℕ, ◌++◌, ◌∷◌, [], List, true, false, Option, Some, length, map, fold, slice_get, slice_set, option_map, refl, sym, ap, ◌∙◌, zero, suc}
 use Rattle.std.proofs.lemmas.List.Sums.{fold-append}
-use Rattle.osd_bytes.specs.declared.node.Node.TheVariants as node
+use Rattle.osd_lists.specs.declared.node.Node.TheVariants as node
 use Rattle.scenario_text.specs.declared.line.Delivery.{Delivery}
 use Rattle.scenario_text.specs.declared.line.Delivery.TheVariants as delivery
 use Rattle.scenario_text.specs.declared.line.Verdict.{Verdict}

@@ -1,8 +1,8 @@
 -- Each answer of the server that gives a layout gives one of a grant of that client.
 use Rattle.std.proofs.Common.{◌≡◌, ◌==◌, ℕ, ◌+◌, ◌++◌, ◌∷◌, [], List, inl, inr, Bool, true, false, ◌&&◌, nat_le, find, flat_map, Option, Some, None, refl, sym, subst, if◌then◌else◌}
 use Rattle.std.proofs.lemmas.Bool.{cases_Bool}
-use Rattle.osd_bytes.specs.declared.node.Node.{Node}
-use Rattle.osd_bytes.specs.declared.node.Node.TheVariants as node
+use Rattle.osd_lists.specs.declared.node.Node.{Node}
+use Rattle.osd_lists.specs.declared.node.Node.TheVariants as node
 use Rattle.layout_ops.specs.declared.messages.Answer.{Answer}
 use Rattle.layout_ops.specs.declared.orders.OrderKind.{OrderKind}
 use Rattle.layout_ops.specs.declared.orders.OrderKind.TheVariants as order

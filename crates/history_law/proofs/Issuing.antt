@@ -2,8 +2,8 @@
 use Rattle.std.specs.List.{cons_option, filter_map}
 use Rattle.std.proofs.Common.{nat_lt, ◌&&◌, ◌≡◌, ℕ, ◌∷◌, [], List, Bool, true, false, Option, Some, None, Result, Ok, Err, IsSome, map, filter, slice_get, refl, sym, ap, subst, ◌∙◌, inl, inr, if◌then◌else◌}
 use Rattle.std.proofs.lemmas.Bool.{cases_eq}
-use Rattle.osd_bytes.specs.declared.node.Node.{Node}
-use Rattle.osd_bytes.specs.declared.node.Node.TheVariants as node
+use Rattle.osd_lists.specs.declared.node.Node.{Node}
+use Rattle.osd_lists.specs.declared.node.Node.TheVariants as node
 use Rattle.layout_types.specs.declared.cred.ObjectCred.{ObjectCred}
 use Rattle.layout_ops.specs.declared.err.OpErr.{OpErr}
 use Rattle.layout_ops.specs.declared.envelope.Envelope.{Envelope}

@@ -3,7 +3,7 @@ use Rattle.std.proofs.Common.{◌≡◌, ℕ, ◌+◌, ◌<◌, ◌≤◌, false
 use Rattle.std.specs.Prelude.{get_or, is_some}
 use Rattle.std.specs.Option.{option_map}
 use Rattle.std.proofs.lemmas.Bool.{cases_lt}
-use Rattle.osd_bytes.proofs.Overwritten.{before_overwritten, behind_overwritten}
+use Rattle.osd_lists.proofs.Overwritten.{before_overwritten, behind_overwritten}
 use Rattle.osd_capability.specs.declared.layout.Capability.{Capability}
 use Rattle.osd_capability.specs.declared.layout.CapErr.{CapErr}
 use Rattle.osd_commands.specs.declared.actions.Action.{Action}

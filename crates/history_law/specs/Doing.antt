@@ -1,8 +1,8 @@
 -- What a move is to the server: the step of its rules that the move makes it take.
 use Rattle.std.specs.Prelude.{◌≡◌, ℕ, List, ◌++◌, map, filter, slice_get, Option, Some, None, if◌then◌else◌}
 use Rattle.std.specs.List.{filter_map}
-use Rattle.osd_bytes.specs.declared.node.Node.{Node}
-use Rattle.osd_bytes.specs.declared.node.Node.TheVariants as node
+use Rattle.osd_lists.specs.declared.node.Node.{Node}
+use Rattle.osd_lists.specs.declared.node.Node.TheVariants as node
 use Rattle.server_rules.specs.Files.{Step as ServerStep}
 use Rattle.server_rules.specs.Messages.{Message as ServerMessage}
 use Rattle.server_rules.specs.History.{Input, Hears, Adds}

@@ -1,6 +1,6 @@
 -- Which commands of clients drives perform, in the words of the lines.
 use Rattle.std.specs.Prelude.{◌≡◌, ◌⊎◌, ℕ, true, List, slice_get, Some, Ok}
-use Rattle.osd_bytes.specs.Blocks.{IsBytes}
+use Rattle.osd_lists.specs.Blocks.{IsBytes}
 use Rattle.layout_types.specs.declared.cred.ObjectCred.{ObjectCred}
 use Rattle.layout_ops.specs.Spelling.{EnvelopeFits}
 use Rattle.osd_capability.specs.Layout as capabilities

@@ -1,7 +1,7 @@
 -- Each step of the server counts its recalls.
 use Rattle.std.proofs.Common.{◌≡◌, ◌==◌, ◌&&◌, ℕ, Bool, true, false, nat_le, List, [], ◌∷◌, flat_map, Option, Some, None, refl, ◌∙◌, arith, inl, inr, if◌then◌else◌}
-use Rattle.osd_bytes.specs.declared.node.Node.{Node}
-use Rattle.osd_bytes.specs.declared.node.Node.TheVariants.{Server as FromServer, Drive as FromDrive, Client as FromClient}
+use Rattle.osd_lists.specs.declared.node.Node.{Node}
+use Rattle.osd_lists.specs.declared.node.Node.TheVariants.{Server as FromServer, Drive as FromDrive, Client as FromClient}
 use Rattle.server_rules.specs.declared.limits.TheConstants.{MAX_CLIENT, GREATEST_TAG}
 use Rattle.job_law.specs.Names.{Server, File, Drive, Awaited, Job, JobKind, Revoking, Rebuilding, Auditing, ClientRequest, Answer, Refusal, Busy, Spent, HasStarted, IsSpent, Recall, Recalls, Answers, OrderKind, ToRecall, ToRevoke, ToDeclare, ToRebuild, ToAudit}
 use Rattle.server_rules.specs.Going.{Going, noting}

@@ -1,6 +1,6 @@
 -- A fence waits for each component that isn't missing.
 use Rattle.std.specs.Prelude.{◌≡◌, ◌⊎◌, ℕ, Bool, true, false, ◌+◌, List, Option, Some, None}
-use Rattle.osd_bytes.specs.declared.node.Node.TheVariants.{Drive as FromDrive}
+use Rattle.osd_lists.specs.declared.node.Node.TheVariants.{Drive as FromDrive}
 use Rattle.osd_commands.specs.declared.actions.Action.TheVariants.{SetTag}
 use Rattle.server_rules.specs.declared.limits.TheConstants.{SERVER_HOLDER}
 use Rattle.job_law.specs.Names.{Server, File, Component, Awaited, Job, Work, Fences, Reply, Note, Fenced}

@@ -1,7 +1,7 @@
 -- Reading arguments and recalls, and spelling them, are each other's inverse.
 use Rattle.std.proofs.Common.{◌≡◌, ℕ, List, [], ◌∷◌, ◌++◌, Ok, refl, subst, ◌∙◌}
 use Rattle.std.specs.Prelude.{⊤}
-use Rattle.osd_bytes.specs.Blocks.{IsBytes}
+use Rattle.osd_lists.specs.Blocks.{IsBytes}
 use Rattle.xdr_codec.specs.Items.{u32_item, u64_item, bool_item, opaque_item}
 use Rattle.xdr_codec.specs.Reading.{Rest}
 use Rattle.xdr_codec.proofs.Codec.{IsCodec}

@@ -2,7 +2,7 @@
 use Rattle.std.proofs.Common.{◌≡◌, ℕ, eqb, List, [], ◌∷◌, ◌++◌, Result, Ok, refl, sym, ap, subst, ◌∙◌, arith, inl, inr}
 use Rattle.std.specs.Prelude.{⊤}
 use Rattle.std.proofs.lemmas.Bool.{eqb-true}
-use Rattle.osd_bytes.specs.Blocks.{IsBytes}
+use Rattle.osd_lists.specs.Blocks.{IsBytes}
 use Rattle.xdr_codec.specs.Items.{u32_item, u64_item}
 use Rattle.xdr_codec.specs.Reading.{Rest, ◌>>=◌}
 use Rattle.xdr_codec.proofs.Codec.{IsCodec}

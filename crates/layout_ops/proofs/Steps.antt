@@ -1,6 +1,6 @@
 -- Parts that are read one after another, whatever their refusals are.
 use Rattle.std.proofs.Common.{◌≡◌, ℕ, List, ◌++◌, Result, Ok, ap, ◌∙◌}
-use Rattle.osd_bytes.specs.Blocks.{IsBytes}
+use Rattle.osd_lists.specs.Blocks.{IsBytes}
 use Rattle.xdr_codec.specs.Reading.{Rest, ◌>>=◌}
 use Rattle.xdr_codec.proofs.Codec.{IsCodec}
 use Rattle.xdr_codec.proofs.ItemLaws.{bind_ok, ok_is, rest_fits}

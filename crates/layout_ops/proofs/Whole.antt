@@ -3,7 +3,7 @@ use Rattle.std.proofs.Common.{◌≡◌, ℕ, eqb, List, [], ◌++◌, length, R
 use Rattle.std.specs.Prelude.{IfOk, OnOk}
 use Rattle.std.proofs.lemmas.Bool.{eqb-true}
 use Rattle.std.proofs.lemmas.List.{append-nil, nil_from_length}
-use Rattle.osd_bytes.specs.Blocks.{IsBytes}
+use Rattle.osd_lists.specs.Blocks.{IsBytes}
 use Rattle.xdr_codec.specs.declared.err.XdrErr.TheVariants.{Trailing}
 use Rattle.xdr_codec.specs.Reading.{Rest, end_of}
 use Rattle.xdr_codec.proofs.ItemLaws.{bind_ok, ok_is, err_is_not, chosen}

@@ -13,7 +13,7 @@ use crate::parts::{
     read_stateid, read_u32, read_u64,
 };
 use crate::statuses::{LAYOUT4_OSD2_OBJECTS, LAYOUT4_RET_REC_FILE};
-use osd_bytes::{Bytes, Memory};
+use osd_lists::{Bytes, Memory};
 use std::alloc::Global;
 use xdr_codec::{Reader, Writer};
 

@@ -14,7 +14,7 @@ use crate::recalls::{
     Recall, RecallAnswer, put_recall, put_recall_answer, read_recall, read_recall_answer,
 };
 use layout_types::LayoutErr;
-use osd_bytes::{Bytes, Memory};
+use osd_lists::{Bytes, Memory};
 use std::alloc::Global;
 use xdr_codec::{Reader, Writer};
 

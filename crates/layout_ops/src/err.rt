@@ -1,7 +1,7 @@
 ghost use Rattle.std.specs.Prelude.{◌≡◌};
 
 use layout_types::LayoutErr;
-use osd_bytes::Memory;
+use osd_lists::Memory;
 use thiserror::Error;
 use xdr_codec::XdrErr;
 

@@ -7,7 +7,7 @@ ghost use Rattle.layout_ops.specs.Reading.{stateid_part, time_part};
 
 use crate::statuses::LAYOUT4_OSD2_OBJECTS;
 use layout_types::LayoutErr;
-use osd_bytes::{Bytes, Memory};
+use osd_lists::{Bytes, Memory};
 use xdr_codec::{Reader, Writer};
 
 /// The bytes of a state id behind its number (RFC 5661 3.3.12).

@@ -8,7 +8,7 @@ use crate::err::OpErr;
 use crate::operation::read_operation;
 use crate::parts::{read_u32, read_u64};
 use crate::results::{Results, put_results, read_results};
-use osd_bytes::Memory;
+use osd_lists::Memory;
 use std::alloc::Global;
 use xdr_codec::{Reader, Writer};
 

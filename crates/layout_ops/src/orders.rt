@@ -8,7 +8,7 @@ ghost use Rattle.layout_ops.specs.Reading.{order_kind_field, order_result_field,
 use crate::err::OpErr;
 use crate::parts::read_u32;
 use layout_types::LayoutErr;
-use osd_bytes::Memory;
+use osd_lists::Memory;
 use xdr_codec::{Reader, Writer};
 
 /// What an order tells the server to do.

@@ -9,7 +9,7 @@ use crate::items::{
 };
 use crate::statuses::{LAYOUT4_OSD2_OBJECTS, LAYOUT4_RET_REC_FILE, OP_CB_LAYOUTRECALL};
 use layout_types::MAX_MEMBERS;
-use osd_bytes::Bytes;
+use osd_lists::Bytes;
 use std::alloc::Global;
 use xdr_codec::Reader;
 

@@ -16,7 +16,7 @@ use crate::parts::{
     read_stateid, read_u32, read_u64,
 };
 use crate::statuses::{NFS4_OK, NFS4ERR_LAYOUTTRYLATER};
-use osd_bytes::{Bytes, Memory, Sequence};
+use osd_lists::{Bytes, Memory, Sequence};
 use std::alloc::Global;
 use xdr_codec::{Reader, Writer};
 

@@ -4,7 +4,7 @@ ghost use Rattle.std.specs.Option.{option_copied};
 ghost use Rattle.server_rules.specs.Files.{file_at};
 ghost use Rattle.server_state.specs.Tables.{AreEntries, files_in};
 
-use osd_bytes::{Memory, Numbers};
+use osd_lists::{Memory, Numbers};
 use server_rules::Kept;
 use server_state::Files;
 use std::alloc::Global;

@@ -8,7 +8,7 @@ ghost use Rattle.server_state.specs.States.{server_of, Did, HasRoom, IsGood};
 ghost use Rattle.server_orders.specs.Orders.{Obeys};
 
 use layout_ops::{Order, OrderAnswer, OrderKind};
-use osd_bytes::{Memory, Node, Numbers};
+use osd_lists::{Memory, Node, Numbers};
 use server_orders::{Obeyed, on_drive_reply, order_declare, order_job, order_recall};
 use server_requests::{Message, Sends, message_in, send_order_answer};
 use server_rules::{JobKind, MAX_CLIENT};

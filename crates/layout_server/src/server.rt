@@ -18,7 +18,7 @@ ghost use Rattle.layout_server.specs.Calls.{Makes, IsRefused};
 use crate::looking::{kept_of, numbers_of};
 use crate::messages::hear;
 use data_map::RawMap;
-use osd_bytes::{Memory, Node, Numbers};
+use osd_lists::{Memory, Node, Numbers};
 use server_orders::{
     DriveInfo, DriveTable, FileErr, add_drive, add_drives, create_file, order_declare, order_job,
     order_recall, resend, waits,

@@ -3,7 +3,7 @@ use Rattle.std.proofs.Common.{◌≡◌, ℕ, suc, add-one, get_or, ◌+◌, ◌
 use Rattle.std.specs.Prelude.{OnOk, IfOk}
 use Rattle.std.proofs.Math.Seq.{drop-cons}
 use Rattle.std.proofs.lemmas.List.{append-nil, drop_all}
-use Rattle.osd_bytes.specs.Blocks.{IsBytes}
+use Rattle.osd_lists.specs.Blocks.{IsBytes}
 use Rattle.xdr_codec.proofs.Codec.{IsCodec}
 use Rattle.xdr_codec.specs.Reading.{Rest}
 use Rattle.xdr_codec.proofs.ItemLaws.{bind_ok, ok_is}

@@ -6,7 +6,7 @@ use Rattle.std.specs.List.{flat_map, AllByRecursion}
 use Rattle.std.proofs.lemmas.Bool.{eqb-true}
 use Rattle.std.proofs.lemmas.List.Concat.{flat_map-cons}
 use Rattle.std.proofs.lemmas.List.{append-nil, nil_from_length}
-use Rattle.osd_bytes.specs.Blocks.{IsBytes}
+use Rattle.osd_lists.specs.Blocks.{IsBytes}
 use Rattle.xdr_codec.specs.declared.err.XdrErr.{XdrErr}
 use Rattle.xdr_codec.specs.declared.err.XdrErr.TheVariants.{Trailing}
 use Rattle.xdr_codec.specs.Items.{u32_item, u64_item, i64_item, bool_item, fixed_item, opaque_item}

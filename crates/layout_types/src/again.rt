@@ -12,7 +12,7 @@ use crate::layout::Layout;
 use crate::structure::Structure;
 use crate::update::LayoutUpdate;
 use data_map::RawMap;
-use osd_bytes::Bytes;
+use osd_lists::Bytes;
 use std::alloc::Global;
 
 /// The structure that the bytes spell, written again. Since a value has one spelling, these are the

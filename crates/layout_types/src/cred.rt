@@ -6,7 +6,7 @@ use crate::err::LayoutErr;
 use crate::objid::ObjId;
 use crate::parts::{read_opaque, read_u32};
 use crate::structure::{Part, Structure, read_all, write_all};
-use osd_bytes::{Bytes, Memory};
+use osd_lists::{Bytes, Memory};
 use std::alloc::Global;
 use xdr_codec::{Reader, Writer};
 

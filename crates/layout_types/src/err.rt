@@ -1,6 +1,6 @@
 ghost use Rattle.std.specs.Prelude.{◌≡◌};
 
-use osd_bytes::Memory;
+use osd_lists::Memory;
 use thiserror::Error;
 use xdr_codec::XdrErr;
 

@@ -7,7 +7,7 @@ use crate::lists::{read_list, write_list};
 use crate::objid::ObjId;
 use crate::parts::{read_bool, read_u32, read_u64};
 use crate::structure::{Part, Structure, read_all, write_all};
-use osd_bytes::{Bytes, Memory, Sequence};
+use osd_lists::{Bytes, Memory, Sequence};
 use std::alloc::Global;
 use xdr_codec::{Reader, Writer};
 

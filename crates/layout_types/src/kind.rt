@@ -11,7 +11,7 @@ use crate::layout::Layout;
 use crate::show::show_all;
 use crate::update::LayoutUpdate;
 use data_map::RawMap;
-use osd_bytes::Bytes;
+use osd_lists::Bytes;
 use std::alloc::Global;
 
 /// A structure of RFC 5664 that can be shown.

@@ -4,7 +4,7 @@ use crate::lists::{read_list, write_list};
 use crate::parts::read_u32;
 use crate::structure::{Part, Structure, read_all, write_all};
 use data_map::RawMap;
-use osd_bytes::{Bytes, Memory, Sequence};
+use osd_lists::{Bytes, Memory, Sequence};
 use std::alloc::Global;
 use xdr_codec::{Reader, Writer};
 

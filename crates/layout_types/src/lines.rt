@@ -2,7 +2,7 @@ ghost use Rattle.std.specs.Prelude.{◌≡◌, ◌++◌, ◌∷◌, [], OnOk, If
 ghost use Rattle.layout_types.specs.Lines.{line, number_line, signed_line, bool_line, opaque_line, optional_lines, member_front};
 
 use itoa::Buffer;
-use osd_bytes::{Bytes, Memory};
+use osd_lists::{Bytes, Memory};
 use std::alloc::Global;
 
 fn put_line(out: &mut Bytes, front: &[u8], name: &[u8], value: &[u8]) -> Result<(), Memory>

@@ -6,7 +6,7 @@ ghost use Rattle.layout_types.specs.Spelling.{ListFits};
 use crate::err::LayoutErr;
 use crate::parts::read_count;
 use crate::structure::Part;
-use osd_bytes::{Memory, Sequence};
+use osd_lists::{Memory, Sequence};
 use std::alloc::Global;
 use xdr_codec::{Reader, Writer};
 

@@ -7,7 +7,7 @@ use crate::err::LayoutErr;
 use crate::parts::{read_algorithm, read_u32, read_u64};
 use crate::structure::{Part, Structure, read_all, write_all};
 use data_map::RawMap;
-use osd_bytes::{Bytes, Memory};
+use osd_lists::{Bytes, Memory};
 use std::alloc::Global;
 use xdr_codec::{Reader, Writer};
 

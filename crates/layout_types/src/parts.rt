@@ -8,7 +8,7 @@ ghost use Rattle.layout_types.specs.Spelling.{IsShort};
 use crate::err::LayoutErr;
 use crate::structure::Part;
 use data_map::{RAID_0, RAID_PQ};
-use osd_bytes::{Bytes, Memory};
+use osd_lists::{Bytes, Memory};
 use std::alloc::Global;
 use xdr_codec::{Reader, Writer};
 

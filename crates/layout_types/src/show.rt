@@ -16,7 +16,7 @@ use crate::objid::ObjId;
 use crate::structure::{Part, read_all};
 use crate::update::LayoutUpdate;
 use data_map::RawMap;
-use osd_bytes::{Bytes, Memory, Sequence};
+use osd_lists::{Bytes, Memory, Sequence};
 use std::alloc::Global;
 
 // What is shown field by field.

@@ -4,7 +4,7 @@ ghost use Rattle.layout_types.specs.declared.err.LayoutErr.{LayoutErr as Refusal
 ghost use Rattle.layout_types.specs.Grammar.{BeginsNoOther, Gives, GivesOrMemory, whole};
 
 use crate::err::LayoutErr;
-use osd_bytes::{Bytes, Memory};
+use osd_lists::{Bytes, Memory};
 use std::alloc::Global;
 use xdr_codec::{Reader, Writer};
 

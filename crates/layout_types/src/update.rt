@@ -1,7 +1,7 @@
 use crate::err::LayoutErr;
 use crate::parts::{read_bool, read_optional, write_optional};
 use crate::structure::{Part, Structure, read_all, write_all};
-use osd_bytes::{Bytes, Memory};
+use osd_lists::{Bytes, Memory};
 use std::alloc::Global;
 use xdr_codec::{Reader, Writer};
 

@@ -11,7 +11,7 @@ use Rattle.scenario_text.specs.declared.event.Event.{Event}
 use Rattle.scenario_text.specs.declared.event.Event.TheVariants as event
 use Rattle.scenario_text.specs.declared.line.Verdict.{Verdict}
 use Rattle.scenario_text.specs.declared.line.Line.TheVariants as line
-use Rattle.osd_bytes.specs.declared.memory.Memory.{Memory}
+use Rattle.osd_lists.specs.declared.memory.Memory.{Memory}
 use Rattle.osd_commands.specs.Commands as commands
 use Rattle.world_history.specs.ServerNames.{Mended}
 use Rattle.world_history.specs.State.{DriveAt, ClientAt, World, at_number, with_server, and_drive, and_number}

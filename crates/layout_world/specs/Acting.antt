@@ -1,6 +1,6 @@
 -- What the code does in an action is what the world does.
 use Rattle.std.specs.Prelude.{◌≡◌, ◌<◌, ◌++◌, ℕ, List, [], Some, length, slice_get}
-use Rattle.osd_bytes.specs.declared.node.Node.{Node}
+use Rattle.osd_lists.specs.declared.node.Node.{Node}
 use Rattle.scenario_text.specs.declared.line.Party.{Party}
 use Rattle.world_history.specs.declared.messages.Message.{Message}
 use Rattle.world_history.specs.declared.messages.Sent.{Sent}

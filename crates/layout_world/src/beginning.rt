@@ -9,7 +9,7 @@ use crate::changing::change;
 use crate::delivering::deliver;
 use crate::parties::Parties;
 use crate::{by_client, by_server};
-use osd_bytes::{Memory, Numbers};
+use osd_lists::{Memory, Numbers};
 use scenario_text::{DriveName, Event, Line, Sender};
 use std::alloc::Global;
 use stripe_repair::{DriveLoad, Placer};

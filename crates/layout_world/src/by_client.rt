@@ -5,7 +5,7 @@ ghost use Rattle.layout_world.specs.Acting.{Acts};
 
 use crate::parties::Parties;
 use client_rules::CallOp;
-use osd_bytes::{Bytes, Memory};
+use osd_lists::{Bytes, Memory};
 use scenario_text::{Call, ClientName};
 use std::alloc::Global;
 use world_clients::clients_are_the_worlds;

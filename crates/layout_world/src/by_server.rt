@@ -8,7 +8,7 @@ ghost use Rattle.world_history.specs.Moves.{Opens, adds_drive, makes, raw_of, gi
 ghost use Rattle.layout_world.specs.Acting.{Acts, ActsWith, ends_in};
 
 use crate::parties::Parties;
-use osd_bytes::{Memory, Numbers};
+use osd_lists::{Memory, Numbers};
 use scenario_text::{DriveName, FileMap, FileName};
 use std::alloc::Global;
 use stripe_repair::{DriveLoad, Placer};

@@ -7,7 +7,7 @@ ghost use Rattle.layout_world.specs.Acting.{Acts};
 ghost use Rattle.layout_world.specs.Groups.{is_change};
 
 use crate::parties::Parties;
-use osd_bytes::Memory;
+use osd_lists::Memory;
 use scenario_text::{ClientName, DriveName, Event, Machine};
 use std::alloc::Global;
 use world_clients::clients_are_the_worlds;

@@ -6,7 +6,7 @@ ghost use Rattle.world_history.specs.Moves.{Delivers, delivers};
 ghost use Rattle.layout_world.specs.Acting.{ActsWith, ends_in, HandsAt, HandsTo, Marked};
 
 use crate::parties::Parties;
-use osd_bytes::{Memory, Numbers};
+use osd_lists::{Memory, Numbers};
 use scenario_text::{ClientName, Delivery, DriveName, Line, Party};
 use std::alloc::Global;
 use stripe_repair::{DriveLoad, Placer};

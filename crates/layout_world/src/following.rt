@@ -11,7 +11,7 @@ ghost use Rattle.layout_world.specs.Watching.{LeavesTold};
 use crate::moving::{deliver_move, pend_move, time_out_move};
 use crate::parties::Parties;
 use crate::rules::{Quiet, Rule, quiet_of};
-use osd_bytes::{Memory, Numbers};
+use osd_lists::{Memory, Numbers};
 use scenario_text::ClientName;
 use std::alloc::Global;
 use stripe_repair::{DriveLoad, Placer};

@@ -11,7 +11,7 @@ use crate::acts::perform;
 use crate::by_client::{pend, time_out};
 use crate::delivering::deliver;
 use crate::parties::Parties;
-use osd_bytes::{Memory, Numbers};
+use osd_lists::{Memory, Numbers};
 use scenario_text::ClientName;
 use std::alloc::Global;
 use stripe_repair::{DriveLoad, Placer};

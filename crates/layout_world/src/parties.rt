@@ -3,7 +3,7 @@ ghost use Rattle.world_history.specs.declared.limits.TheConstants.{MAX_KEPT};
 ghost use Rattle.world_history.specs.State.{World, empty_world};
 ghost use Rattle.layout_world.specs.State.{Settled, Shows};
 
-use osd_bytes::Memory;
+use osd_lists::Memory;
 use std::alloc::Global;
 use world_clients::WorldClients;
 use world_drives::WorldDrives;

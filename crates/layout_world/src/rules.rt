@@ -8,7 +8,7 @@ ghost use Rattle.layout_world.specs.Rules.{rule_in, IsWithin, action_of};
 
 use crate::by_client::op_of;
 use crate::parties::Parties;
-use osd_bytes::Memory;
+use osd_lists::Memory;
 use scenario_text::{Call, ClientName, Event};
 use std::alloc::Global;
 use stripe_client::Awaits;

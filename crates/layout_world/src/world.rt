@@ -20,7 +20,7 @@ use crate::parties::Parties;
 use crate::refusing::refusal;
 use crate::rules::rule_of;
 use calm_law::{moves_follow, watch_begins};
-use osd_bytes::{Memory, Numbers};
+use osd_lists::{Memory, Numbers};
 use scenario_text::{Event, Line};
 use std::alloc::Global;
 use std::marker::Model;

@@ -3,7 +3,7 @@ ghost use Rattle.parity_code.specs.Codeword.{count_of, AreRows};
 ghost use Rattle.parity_code.specs.declared.code.Code.TheVariants.{PandQ};
 ghost use Rattle.parity_code.specs.Decoding.{ArePositions};
 
-use osd_bytes::{Bytes, Memory, Rows};
+use osd_lists::{Bytes, Memory, Rows};
 use parity_code::{Code, CodeErr, decode, encode, parity_delta};
 use std::alloc::Global;
 

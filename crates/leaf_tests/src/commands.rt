@@ -3,12 +3,12 @@ ghost use Rattle.osd_capability.specs.Layout.{is_format};
 
 use crate::hexadecimal::is_hex;
 use crate::lines::{copied, with_byte};
-use osd_bytes::Bytes;
 use osd_capability::{CapErr, Capability, capability_key};
 use osd_commands::{
     Action, Command, CommandErr, Reply, holds, read_command, read_reply, seal, write_command,
     write_reply,
 };
+use osd_lists::Bytes;
 use std::alloc::Global;
 
 const KEY: [u8; 20] = [0x0b; 20];

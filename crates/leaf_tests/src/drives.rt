@@ -1,7 +1,7 @@
-use osd_bytes::{Bytes, Memory};
 use osd_capability::{Capability, capability_key};
 use osd_commands::{Action, Command, Reply, read_command, seal, write_command};
 use osd_drive::{DriveCore, DriveKey, KeyTable, Verdict};
+use osd_lists::{Bytes, Memory};
 use std::alloc::Global;
 use std::test::Fail;
 

@@ -13,7 +13,7 @@ use layout_ops::{
     write_envelope,
 };
 use layout_types::LayoutErr;
-use osd_bytes::{Bytes, Sequence};
+use osd_lists::{Bytes, Sequence};
 use std::alloc::Global;
 use xdr_codec::XdrErr;
 

@@ -1,6 +1,6 @@
 //! Tests of the judge.
 use file_log::{Entry, judge};
-use osd_bytes::Bytes;
+use osd_lists::Bytes;
 use std::alloc::Global;
 
 // What stands in a log.

@@ -1,7 +1,7 @@
 use osd_bytes::{
-    Bytes, Clock, LineErr, LineReader, MemClock, MemSink, MemSource, Numbers, PutErr, Sink, Source,
-    Times, put_all,
+    Clock, LineErr, LineReader, MemClock, MemSink, MemSource, PutErr, Sink, Source, put_all,
 };
+use osd_lists::{Bytes, Numbers, Times};
 use std::alloc::Global;
 
 // The bytes, or none where memory is short.

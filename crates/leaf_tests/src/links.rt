@@ -1,7 +1,6 @@
 use crate::lines::{copied, numbers};
-use osd_bytes::{
-    Accepted, ByteLists, ExchangeErr, LineReader, Links, MemLinks, Node, Source, exchange, put_all,
-};
+use osd_bytes::{Accepted, ExchangeErr, LineReader, Links, MemLinks, Source, exchange, put_all};
+use osd_lists::{ByteLists, Node};
 use std::alloc::Global;
 
 fn lists(alloc: Global, members: &[&[u8]]) -> ByteLists {

@@ -1,6 +1,7 @@
 use crate::lines::copied;
-use osd_bytes::{Bytes, Clock, Links, Node, Peer, Peers};
+use osd_bytes::{Clock, Links, Peer, Peers};
 use osd_links::{SystemClock, TcpLinks};
+use osd_lists::{Bytes, Node};
 use std::alloc::Global;
 use std::net::{OpenListener, TcpListener};
 use std::test::Fail;

@@ -2,7 +2,7 @@ ghost use Rattle.std.specs.Prelude.{◌≡◌, ◌+◌, ◌<◌, ◌^◌, length
 ghost use Rattle.osd_objects.specs.Objects.{TakesAttribute};
 ghost use Rattle.osd_objects.specs.Store.{object_at, HasSpace, HasLane};
 
-use osd_bytes::Bytes;
+use osd_lists::Bytes;
 use osd_objects::{LaneEntry, MAX_ATTRIBUTES, MAX_LANES, ObjectState, Store};
 use std::alloc::Global;
 use std::process::Abort;

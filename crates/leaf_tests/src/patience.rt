@@ -1,7 +1,8 @@
 //! How long links wait: for a record that comes slowly, and for a drive that doesn't answer.
 use crate::lines::copied;
-use osd_bytes::{Bytes, Links, Node, Peer, Peers};
+use osd_bytes::{Links, Peer, Peers};
 use osd_links::{Limits, Patience, TcpLinks};
+use osd_lists::{Bytes, Node};
 use std::alloc::Global;
 use std::net::{OpenListener, TcpListener};
 use std::test::Fail;

@@ -3,7 +3,7 @@ use crate::plan_cases::{
     REPLICAS, Row, SCATTERS, SIX, Shape, TWICE, WHOLE_STRIPES,
 };
 use data_map::{DataMap, RawMap};
-use osd_bytes::{Bytes, Numbers};
+use osd_lists::{Bytes, Numbers};
 use std::alloc::Global;
 use stripe_plan::{
     Column, Columns, Fetched, Interval, Out, Part, Piece, Pieces, PlanErr, Span, Writes,

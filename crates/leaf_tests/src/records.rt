@@ -1,5 +1,6 @@
 use crate::lines::copied;
-use osd_bytes::{ByteLists, Bytes, MAX_RECORD, Memory, RecordErr, Records, Rows, frame};
+use osd_bytes::{MAX_RECORD, RecordErr, Records, frame};
+use osd_lists::{ByteLists, Bytes, Memory, Rows};
 use std::alloc::Global;
 
 fn write_over(bytes: &mut Bytes) -> Result<(), Memory> {

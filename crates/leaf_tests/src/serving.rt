@@ -1,6 +1,8 @@
 use crate::links::links;
-use osd_bytes::{Clock, Links, MemClock, MemLinks, Times};
+use drive_command::serve;
+use osd_bytes::{Clock, Links, MemClock, MemLinks};
 use osd_drive::{DriveCore, KeyTable};
+use osd_lists::Times;
 use std::alloc::Global;
 
 // What comes on each connection, which calls of the links fail, how many answers go out whole on each
@@ -114,7 +116,7 @@ fn serves<L: Links, C: Clock>(
     clock: &mut C,
     connections: u32,
 ) -> bool {
-    drive.serve(alloc, links, clock, connections).is_ok()
+    serve(alloc, drive, links, clock, connections).is_ok()
 }
 
 fn goes_over(

@@ -1,4 +1,4 @@
-use osd_bytes::Bytes;
+use osd_lists::Bytes;
 use std::alloc::Global;
 use xdr_codec::{Reader, Writer, XdrErr};
 

@@ -3,7 +3,7 @@ use Rattle.std.proofs.Common.{◌≡◌, ◌⊎◌, ◌==◌, ℕ, Bool, true, f
 use Rattle.std.proofs.lemmas.Bool.{cases_eq, eq-eqb, ne_eqb}
 use Rattle.server_rules.specs.Files.{Step, begins, file_at, put_file, add_file, at_file}
 use Rattle.server_rules.specs.Going.{Going}
-use Rattle.osd_bytes.specs.declared.node.Node.TheVariants.{Server as FromServer}
+use Rattle.osd_lists.specs.declared.node.Node.TheVariants.{Server as FromServer}
 use Rattle.server_rules.specs.History.{Input, Hears, step}
 use Rattle.server_rules.specs.Jobs.{making, declares, fence_begins}
 use Rattle.server_rules.specs.Laws.{In, IsSafe, AreSafe}

@@ -1,8 +1,8 @@
 -- What is so in each case of a step of the server is so of each step. This is the one walk over the server's steps.
 use Rattle.std.proofs.Common.{◌≡◌, ◌≤◌, ◌==◌, ◌&&◌, ℕ, Bool, true, false, nat_le, List, [], ◌∷◌, Option, Some, None, find, is_some, inl, inr, refl, sym, ap, subst, if◌then◌else◌}
 use Rattle.std.proofs.lemmas.Bool.{eqb-true, leb-true}
-use Rattle.osd_bytes.specs.declared.node.Node.{Node}
-use Rattle.osd_bytes.specs.declared.node.Node.TheVariants.{Server as FromServer, Drive as FromDrive, Client as FromClient}
+use Rattle.osd_lists.specs.declared.node.Node.{Node}
+use Rattle.osd_lists.specs.declared.node.Node.TheVariants.{Server as FromServer, Drive as FromDrive, Client as FromClient}
 use Rattle.server_rules.specs.declared.limits.TheConstants.{MAX_CLIENT, GREATEST_TAG}
 use Rattle.server_rules.specs.Files.{Step, still, begins, file_at, at_file, step_at}
 use Rattle.server_rules.specs.Going.{Going, noting}

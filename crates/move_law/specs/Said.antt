@@ -1,7 +1,7 @@
 -- What was sent, and what comes to a party.
 use Rattle.std.specs.Prelude.{◌≡◌, ℕ, List, map, slice_get, Some}
-use Rattle.osd_bytes.specs.declared.node.Node.{Node}
-use Rattle.osd_bytes.specs.declared.node.Node.TheVariants as node
+use Rattle.osd_lists.specs.declared.node.Node.{Node}
+use Rattle.osd_lists.specs.declared.node.Node.TheVariants as node
 use Rattle.server_rules.specs.History.{Input as ServerInput, Hears as ServerHears}
 use Rattle.client_rules.specs.History.{Input, Hears}
 use Rattle.world_history.specs.declared.messages.Message.{Message}

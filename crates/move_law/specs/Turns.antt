@@ -1,7 +1,7 @@
 -- A turn of a client by cases: what comes to it, how its call begins, and what goes to the server.
 use Rattle.std.specs.Prelude.{◌≡◌, ◌≢◌, ◌==◌, ℕ, true, List, [], ◌∷◌, Option, Some, None, find}
-use Rattle.osd_bytes.specs.declared.node.Node.{Node}
-use Rattle.osd_bytes.specs.declared.node.Node.TheVariants.{Server as FromServer, Drive as FromDrive}
+use Rattle.osd_lists.specs.declared.node.Node.{Node}
+use Rattle.osd_lists.specs.declared.node.Node.TheVariants.{Server as FromServer, Drive as FromDrive}
 use Rattle.layout_ops.specs.declared.messages.Answer.{Answer}
 use Rattle.client_rules.specs.Calls.{file_of}
 use Rattle.client_rules.specs.Commands.{of_component}
@@ -34,11 +34,11 @@ pub record IsReplied (c : Client) (i : Input) (drive : ℕ) (q : Reply) (call : 
 
 -- component k, of which these commands are awaited, doesn't answer
 pub record IsTimed (c : Client) (i : Input) (k : ℕ) (call : Call) (h : Held) (a : Awaited) (xs : List Awaited) : Type 0
-    where
-  pub is : i ≡ TimesOut k
-  pub call_is : c.call ≡ Some call
-  pub held : held_of c.held (file_of call.op) ≡ Some h
-  pub awaits : of_component k (awaited_in call.phase) ≡ a ∷ xs
+  where
+    pub is : i ≡ TimesOut k
+    pub call_is : c.call ≡ Some call
+    pub held : held_of c.held (file_of call.op) ≡ Some h
+    pub awaits : of_component k (awaited_in call.phase) ≡ a ∷ xs
 
 -- the answer to the outstanding request
 pub record IsAnswered (c : Client) (i : Input) (a : Answer) : Type 0 where

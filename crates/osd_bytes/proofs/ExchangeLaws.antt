@@ -8,10 +8,10 @@ use Rattle.osd_bytes.specs.Connections.{Comes, Connects, after_taking, after_put
 use Rattle.osd_bytes.specs.Exchanges.{Exchanges, WasSent, WasReceived, ReceivesFirst, IsFirst, LeftOf, first_or, first_record}
 use Rattle.osd_bytes.specs.Records.{Begun, Split, HasRead, fresh, split, framed}
 use Rattle.osd_bytes.specs.declared.source.Fault.{Fault}
-use Rattle.osd_bytes.specs.declared.asking.ExchangeErr.{ExchangeErr}
-use Rattle.osd_bytes.specs.declared.asking.ExchangeErr.TheVariants.{LinkFault, Ended, TooLong, Memory}
+use Rattle.osd_bytes.specs.declared.exchanges.ExchangeErr.{ExchangeErr}
+use Rattle.osd_bytes.specs.declared.exchanges.ExchangeErr.TheVariants.{LinkFault, Ended, TooLong, Memory}
 use Rattle.osd_bytes.proofs.RecordLaws.{carried, split-append}
-use Rattle.osd_bytes.specs.declared.node.Node.{Node}
+use Rattle.osd_lists.specs.declared.node.Node.{Node}
 
 last_place : (xs : List Talk) (t : Talk) → length (xs ++ t ∷ []) - 1 ≡ length xs
 last_place xs t = omega (arith, length-append xs (t ∷ []))

@@ -1,8 +1,8 @@
 -- The four counts of faults of links.
 use Rattle.std.specs.Prelude.{◌≡◌, ℕ, ◌≤◌, Option, Some, Result, OnOk, OnErr}
 use Rattle.osd_bytes.specs.Causes.{Rose}
-use Rattle.osd_bytes.specs.declared.node.Node.{Node}
-use Rattle.osd_bytes.specs.declared.node.Node.TheVariants.{Server}
+use Rattle.osd_lists.specs.declared.node.Node.{Node}
+use Rattle.osd_lists.specs.declared.node.Node.TheVariants.{Server}
 
 -- those of settle and accept, of the accepted connection, of asking the server, and of asking any other node or none
 pub record Faults : Type 0 where

@@ -4,9 +4,9 @@ use Rattle.osd_bytes.specs.Causes.{Rose}
 use Rattle.osd_bytes.specs.Connections.{Talk, Traffic, next_stream, with_asked, without_stream}
 use Rattle.osd_bytes.specs.Counts.{Faults, NoFewer}
 use Rattle.osd_bytes.specs.Records.{Begun, fresh, split, framed}
-use Rattle.osd_bytes.specs.declared.node.Node.{Node}
-use Rattle.osd_bytes.specs.declared.asking.ExchangeErr.{ExchangeErr}
-use Rattle.osd_bytes.specs.declared.asking.ExchangeErr.TheVariants.{LinkFault, Ended, TooLong, Memory}
+use Rattle.osd_lists.specs.declared.node.Node.{Node}
+use Rattle.osd_bytes.specs.declared.exchanges.ExchangeErr.{ExchangeErr}
+use Rattle.osd_bytes.specs.declared.exchanges.ExchangeErr.TheVariants.{LinkFault, Ended, TooLong, Memory}
 
 abbrev pub first_or : List (List ℕ) → Option Begun → Result (List ℕ) ExchangeErr
 first_or (r ∷ rs) begun = Ok r

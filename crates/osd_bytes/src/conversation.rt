@@ -2,9 +2,7 @@ ghost use Rattle.std.specs.Prelude.{◌≡◌, ◌<◌, ◌≤◌, ◌-◌, ◌+
 ghost use Rattle.osd_bytes.specs.Connections.{Comes, after_putting, after_taking, begin, newest, next_stream};
 
 use crate::in_memory::copy_front;
-use crate::lists::{ByteLists, Bytes};
-use crate::memory::Memory;
-use crate::sequence::Sequence;
+use osd_lists::{ByteLists, Bytes, Memory, Sequence};
 use std::alloc::Global;
 use std::marker::Model;
 

@@ -3,9 +3,9 @@ ghost use Rattle.std.specs.Io.{ReadsAtMost};
 ghost use Rattle.std.specs.Io.KnownBytes.{ReadConsumes};
 ghost use Rattle.osd_bytes.specs.Causes.{HasCause};
 
-use crate::lists::{Bytes, Numbers};
 use crate::sink::Sink;
 use crate::source::{Fault, Source};
+use osd_lists::{Bytes, Numbers};
 use std::alloc::Global;
 use std::marker::Model;
 

@@ -1,43 +1,45 @@
-//! Lists, and the ends through which bytes come from the outside and go to it.
+//! The ends through which bytes come from the outside and go to it.
 //!
-//! Every other crate stands on this one. It has the list types that contracts see as plain lists,
-//! the traits [`Source`] and [`Sink`] with ends in memory, the reading of lines, and fields at fixed
-//! places of a block of bytes.
+//! It has the traits [`Source`], [`Sink`], [`Links`] and [`Clock`] with ends in memory, the reading of lines, records on
+//! streams, exchanges of a message for a record, and the records of an accepted connection. A drive and a server both
+//! take these up to the connection's end, a call that fails, a record that is too long, or [`MAX_TAKEN`] bytes. The
+//! lists of `osd_lists` are named here too.
 #![tactic(auto)]
 
-mod asking;
+mod answer;
 mod clock;
 mod conversation;
 mod ends;
+mod exchanges;
 mod header;
 mod in_memory;
+mod inbox;
 mod lines;
 mod links;
-mod lists;
 mod mem_links;
-mod memory;
-mod node;
-mod overwrite;
-mod places;
+mod outbox;
 mod put;
 mod records;
-mod sequence;
+mod serve_err;
 mod sink;
 mod source;
 
-pub use asking::{ExchangeErr, exchange};
+pub use answer::asked;
 pub use clock::{Clock, MemClock};
 pub use ends::{Accepted, Asking};
+pub use exchanges::{ExchangeErr, exchange};
 pub use in_memory::{MemSink, MemSource};
+pub use inbox::{Inbox, MAX_TAKEN};
 pub use lines::{LineErr, LineReader, MAX_INPUT, MAX_LINE};
 pub use links::{Links, Peer, Peers};
-pub use lists::{ByteLists, Bytes, Numbers, Rows, Times};
 pub use mem_links::MemLinks;
-pub use memory::Memory;
-pub use node::Node;
-pub use places::{first_nonzero_in, put_at, put_u16, put_u32, put_u64, u16_at, u32_at, u64_at};
+pub use osd_lists::{
+    ByteLists, Bytes, Memory, Node, Numbers, Rows, Sequence, Times, first_nonzero_in, put_at,
+    put_u16, put_u32, put_u64, u16_at, u32_at, u64_at,
+};
+pub use outbox::put_record;
 pub use put::{PutErr, put_all};
 pub use records::{MAX_FRAGMENTS, MAX_RECORD, RecordErr, Records, frame, joins_fragments};
-pub use sequence::Sequence;
+pub use serve_err::ServeErr;
 pub use sink::Sink;
 pub use source::{Fault, Source};

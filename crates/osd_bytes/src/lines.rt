@@ -5,8 +5,8 @@ ghost use Rattle.osd_bytes.specs.Reading.{known_of, SeesEnd};
 ghost use Rattle.osd_bytes.specs.Causes.{HasCause, Rose};
 ghost use Rattle.osd_bytes.specs.Lines.{NextIs, Leaves, GivesLine, TakesLine, Yields, HasReadCause};
 
-use crate::lists::Bytes;
 use crate::source::{Fault, Source};
+use osd_lists::Bytes;
 use std::alloc::Global;
 use std::marker::Model;
 use thiserror::Error;

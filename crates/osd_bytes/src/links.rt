@@ -3,11 +3,8 @@ ghost use Rattle.std.specs.Io.{ReadsAtMost, WritesAtMost};
 ghost use Rattle.osd_bytes.specs.Connections.{Standing, Traffic, connected_to, Accepts, Connects, Takes, Puts, Receives, Sends, after_notes};
 ghost use Rattle.osd_bytes.specs.Counts.{Faults, HasLinkCause, asking_count};
 
-use crate::lists::Bytes;
-use crate::memory::Memory;
-use crate::node::Node;
-use crate::sequence::Sequence;
 use crate::source::Fault;
+use osd_lists::{Bytes, Memory, Node, Sequence};
 
 /// A node and the address at which it listens.
 #[derive(Debug, PartialEq, Drop)]

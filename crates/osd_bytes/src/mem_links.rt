@@ -6,11 +6,8 @@ ghost use Rattle.osd_bytes.specs.InMemory.{Faulted};
 use crate::conversation::Conversations;
 use crate::in_memory::is_listed;
 use crate::links::{Links, Peers};
-use crate::lists::{ByteLists, Bytes, Numbers};
-use crate::memory::Memory;
-use crate::node::Node;
-use crate::sequence::Sequence;
 use crate::source::Fault;
+use osd_lists::{ByteLists, Bytes, Memory, Node, Numbers, Sequence};
 use std::alloc::Global;
 use std::marker::Model;
 
@@ -42,7 +39,7 @@ pub struct MemLinks {
 
 impl Model for MemLinks {
     ghost use Rattle.std.specs.Prelude.{◌≡◌, ◌<◌, true, Some, length};
-    ghost use Rattle.osd_bytes.specs.declared.node.Node.{Node};
+    ghost use Rattle.osd_lists.specs.declared.node.Node.{Node};
     ghost use Rattle.osd_bytes.specs.InMemory.{Linked};
 
     ghost Value = { Linked };

@@ -5,8 +5,7 @@ ghost use Rattle.osd_bytes.specs.declared.records.TheConstants.{MAX_RECORD, MAX_
 ghost use Rattle.osd_bytes.specs.declared.records.RecordErr.TheVariants.{TooLong};
 
 use crate::header::Header;
-use crate::lists::{ByteLists, Bytes};
-use crate::memory::Memory;
+use osd_lists::{ByteLists, Bytes, Memory};
 use std::alloc::Global;
 use std::marker::Model;
 use std::mem;

@@ -5,8 +5,8 @@ use Rattle.std.specs.Option.{option_or}
 use Rattle.std.proofs.lemmas.List.{length-drop}
 use Rattle.std.proofs.lemmas.Nat.{from_be_bytes-to_be_bytes_2, from_be_bytes-to_be_bytes_4, from_be_bytes-to_be_bytes_8}
 use Rattle.std.proofs.lemmas.Bool.{eqb-true}
-use Rattle.osd_bytes.specs.Blocks.{first_nonzero, IsBytes}
-use Rattle.osd_bytes.proofs.BlockLaws.{next, zeros, option_or-none, IsBytes-range, number_16, number_32, number_64, below_16, below_32, below_64}
+use Rattle.osd_lists.specs.Blocks.{first_nonzero, IsBytes}
+use Rattle.osd_lists.proofs.BlockLaws.{next, zeros, option_or-none, IsBytes-range, number_16, number_32, number_64, below_16, below_32, below_64}
 use Rattle.osd_capability.specs.declared.layout.Capability.{Capability}
 use Rattle.osd_capability.specs.declared.layout.CapErr.{CapErr}
 use Rattle.osd_capability.specs.declared.layout.CapErr.TheVariants.{Length, Format}

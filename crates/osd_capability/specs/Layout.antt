@@ -2,7 +2,7 @@
 use Rattle.std.specs.Prelude.{ℕ, ◌-◌, ◌<◌, ◌^◌, List, [], ◌∷◌, ◌++◌, length, slice_index, slice_range, replicate, Result, Ok, Err, Option, Some, None, Bool, ◌||◌, IsTrue, if◌then◌else◌, nat_eq, not}
 use Rattle.std.specs.Option.{option_or}
 use Rattle.std.specs.Int.{w16, w32, w64, to_be_bytes, from_be_bytes}
-use Rattle.osd_bytes.specs.Blocks.{first_nonzero}
+use Rattle.osd_lists.specs.Blocks.{first_nonzero}
 use Rattle.osd_capability.specs.declared.layout.TheConstants.{CAPABILITY_BYTES, FIELDS, FORMAT_SHA1, FORMAT_SHA256}
 use Rattle.osd_capability.specs.declared.layout.Capability.{Capability}
 use Rattle.osd_capability.specs.declared.layout.CapErr.{CapErr}

@@ -2,7 +2,7 @@ ghost use Rattle.std.specs.Prelude.{◌≡◌, ◌<◌, length, IsTrue, IfOk, If
 ghost use Rattle.osd_capability.specs.declared.layout.Capability.{Capability as Cap};
 ghost use Rattle.osd_capability.specs.Layout.{spelling, reading, stray, is_format, Fits};
 
-use osd_bytes::{first_nonzero_in, put_u16, put_u32, put_u64, u16_at, u32_at, u64_at};
+use osd_lists::{first_nonzero_in, put_u16, put_u32, put_u64, u16_at, u32_at, u64_at};
 use thiserror::Error;
 
 /// The length of a capability's spelling.

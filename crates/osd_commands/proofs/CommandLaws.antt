@@ -6,8 +6,8 @@ use Rattle.std.proofs.lemmas.Bool.{eqb-true, eq-eqb, ltb-false, le-ltb}
 use Rattle.std.proofs.lemmas.Bool.Decides.{eqb_tells}
 use Rattle.std.proofs.lemmas.List.{nil_from_length, take_at, drop_at, drop-drop, length-append, length-replicate, length-take, take-append-drop, get_or-take, get_or-drop}
 use Rattle.std.proofs.lemmas.Nat.{from_be_bytes-to_be_bytes_4, from_be_bytes-to_be_bytes_8}
-use Rattle.osd_bytes.specs.Blocks.{first_nonzero, IsBytes}
-use Rattle.osd_bytes.proofs.BlockLaws.{next, joined, zeros, first_nonzero-zeros, option_or-none, IsBytes-range, length-range, number_16, number_32, number_64, below_32, below_64}
+use Rattle.osd_lists.specs.Blocks.{first_nonzero, IsBytes}
+use Rattle.osd_lists.proofs.BlockLaws.{next, joined, zeros, first_nonzero-zeros, option_or-none, IsBytes-range, length-range, number_16, number_32, number_64, below_32, below_64}
 use Rattle.osd_capability.specs.declared.layout.Capability.{Capability}
 use Rattle.osd_capability.specs.declared.layout.CapErr.{CapErr}
 use Rattle.osd_capability.specs.Layout as Cap

@@ -3,7 +3,7 @@ use Rattle.std.proofs.Common.{◌≡◌, ℕ, ◌<◌, ◌≤◌, ◌^◌, List,
 use Rattle.std.specs.Prelude.{slice_range}
 use Rattle.std.specs.Int.{w32, to_be_bytes, from_be_bytes}
 use Rattle.std.proofs.lemmas.Nat.{from_be_bytes-to_be_bytes_4}
-use Rattle.osd_bytes.proofs.BlockLaws.{slice_range-append}
+use Rattle.osd_lists.proofs.BlockLaws.{slice_range-append}
 use Rattle.osd_commands.specs.declared.commands.CommandErr.{CommandErr}
 
 pub guard_ok : {X : Type 0} (b : Bool) (f : CommandErr) (r : Result X CommandErr) (x : X) → cond b (Err f) r ≡ Ok x → (b ≡ false) × (r ≡ Ok x)

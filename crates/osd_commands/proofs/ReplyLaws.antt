@@ -5,8 +5,8 @@ use Rattle.std.specs.Int.{w16, w32, w64, to_be_bytes, from_be_bytes}
 use Rattle.std.proofs.lemmas.Bool.{eqb-true, eq-eqb, ltb-false, le-ltb, leb-true}
 use Rattle.std.proofs.lemmas.List.{nil_from_length, length-append}
 use Rattle.std.proofs.lemmas.Nat.{from_be_bytes-to_be_bytes_2, from_be_bytes-to_be_bytes_4, from_be_bytes-to_be_bytes_8}
-use Rattle.osd_bytes.specs.Blocks.{IsBytes}
-use Rattle.osd_bytes.proofs.BlockLaws.{next, joined, zeros, first_nonzero-zeros, IsBytes-range, number_16, number_32, number_64, below_32, below_64}
+use Rattle.osd_lists.specs.Blocks.{IsBytes}
+use Rattle.osd_lists.proofs.BlockLaws.{next, joined, zeros, first_nonzero-zeros, IsBytes-range, number_16, number_32, number_64, below_32, below_64}
 use Rattle.osd_commands.specs.declared.commands.CommandErr.{CommandErr}
 use Rattle.osd_commands.specs.declared.replies.Reply.{Reply}
 use Rattle.osd_commands.specs.Commands.{ReadsAs}

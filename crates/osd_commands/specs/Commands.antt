@@ -2,7 +2,7 @@
 use Rattle.std.specs.Prelude.{◌≡◌, ℕ, ◌-◌, ◌<◌, ◌^◌, List, [], ◌++◌, length, take, drop, slice_index, slice_range, replicate, Result, Ok, Err, Option, Some, None, Bool, ◌&&◌, IsTrue, if◌then◌else◌, nat_eq, nat_lt, not, ⊤}
 use Rattle.std.specs.Option.{option_or}
 use Rattle.std.specs.Int.{w16, w32, w64, to_be_bytes, from_be_bytes}
-use Rattle.osd_bytes.specs.Blocks.{first_nonzero}
+use Rattle.osd_lists.specs.Blocks.{first_nonzero}
 use Rattle.osd_capability.specs.declared.layout.TheConstants.{FORMAT_SHA256}
 use Rattle.osd_capability.specs.declared.keys.TheConstants.{CHECK_BYTES, SHA1_TAG_BYTES}
 use Rattle.osd_capability.specs.declared.layout.Capability.{Capability}

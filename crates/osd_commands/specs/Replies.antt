@@ -1,7 +1,7 @@
 -- The bytes of a reply, both ways.
 use Rattle.std.specs.Prelude.{◌≡◌, ℕ, ◌≤◌, ◌<◌, ◌^◌, List, [], ◌++◌, length, drop, slice_range, replicate, Result, Ok, Err, Option, Some, None, Bool, ◌&&◌, ◌||◌, IsTrue, if◌then◌else◌, nat_eq, nat_lt, nat_le, not}
 use Rattle.std.specs.Int.{w16, w32, w64, to_be_bytes, from_be_bytes}
-use Rattle.osd_bytes.specs.Blocks.{first_nonzero}
+use Rattle.osd_lists.specs.Blocks.{first_nonzero}
 use Rattle.osd_commands.specs.Actions.{number_of}
 use Rattle.osd_commands.specs.declared.actions.Action.TheVariants.{Read, GetAttr}
 use Rattle.osd_commands.specs.declared.replies.TheConstants.{MAGIC, BLOCK, LAST_ACTION, LAST_VERDICT, PERFORMED_BEFORE}

@@ -5,10 +5,10 @@ ghost use Rattle.osd_commands.specs.declared.commands.Command.{Command as Cmd};
 ghost use Rattle.osd_commands.specs.Commands.{fields, spelling, reading, stray, allows, is_sized, sized, command_at, check_at, check_len, NumbersFit, Fits, IsWhole, ReadsAs, BeginsNoOther};
 
 use crate::actions::Action;
-use osd_bytes::{
+use osd_capability::{CHECK_BYTES, CapErr, Capability, FORMAT_SHA256, SHA1_TAG_BYTES};
+use osd_lists::{
     Bytes, Memory, first_nonzero_in, put_at, put_u16, put_u32, put_u64, u16_at, u32_at, u64_at,
 };
-use osd_capability::{CHECK_BYTES, CapErr, Capability, FORMAT_SHA256, SHA1_TAG_BYTES};
 use std::alloc::Global;
 use thiserror::Error;
 
@@ -112,7 +112,7 @@ impl From<Memory> for CommandErr {
 
     ghost from_gives = { λ _ e. e ≡ Memory };
 
-    fn from(_: osd_bytes::Memory) -> Self {
+    fn from(_: osd_lists::Memory) -> Self {
         CommandErr::Memory
     }
 }

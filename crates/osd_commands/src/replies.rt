@@ -5,7 +5,7 @@ ghost use Rattle.osd_commands.specs.Replies.{fields, spelling, reading, sized, r
 
 use crate::actions::Action;
 use crate::commands::CommandErr;
-use osd_bytes::{
+use osd_lists::{
     Bytes, Memory, first_nonzero_in, put_at, put_u16, put_u32, put_u64, u16_at, u32_at, u64_at,
 };
 use std::alloc::Global;

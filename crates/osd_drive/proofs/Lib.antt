@@ -3,4 +3,3 @@ pub mod Ready
 pub mod LaneLaws
 pub mod Repeated
 pub mod ShortLaws
-pub mod ServingLaws

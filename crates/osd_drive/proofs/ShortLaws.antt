@@ -4,13 +4,10 @@ use Rattle.std.specs.Int.{w32, w64, to_be_bytes}
 use Rattle.std.specs.Ordering.{nat_cmp}
 use Rattle.std.specs.BTreeMap.{insert_entry}
 use Rattle.std.proofs.lemmas.Bool.{cases_eq}
-use Rattle.std.proofs.lemmas.List.{length-append, length-take}
+use Rattle.std.proofs.lemmas.List.{length-take}
 use Rattle.osd_commands.specs.declared.actions.Action.{Action}
 use Rattle.osd_commands.specs.declared.actions.Action.TheVariants.{Create, Read, Write, GetAttr, SetAttr, SetTag}
 use Rattle.osd_commands.specs.declared.commands.Command.{Command}
-use Rattle.osd_bytes.specs.declared.records.TheConstants.{MAX_RECORD}
-use Rattle.osd_commands.specs.declared.replies.Reply.{Reply}
-use Rattle.osd_commands.specs.Replies.{fields, spelling}
 use Rattle.osd_objects.specs.declared.object.StoredObject.{StoredObject}
 use Rattle.osd_objects.specs.Attributes.{Values, value_of}
 use Rattle.osd_objects.specs.Objects.{length_of}
@@ -90,8 +87,3 @@ result-short SetTag s c fits short = omega arith
 
 pub reply-short : (s : StoreState) (c : Command) → late_fault_of (view_of s c) c ≡ Perform → HasShortValues s → length (result_of c.action s c).payload ≤ MAX_LENGTH
 reply-short s c clear short = result-short c.action s c (clear_late _ _ clear).size short
-
--- so a record carries it
-pub spelled-short : (r : Reply) → length r.payload ≤ MAX_LENGTH → length (spelling r) ≤ MAX_RECORD
-unfolding spelling fields
-spelled-short r short = rw length-append (omega (arith, short))

@@ -3,5 +3,3 @@ pub mod Table
 pub mod Effects
 pub mod Repeats
 pub mod Short
-pub mod Telling
-pub mod Serving

@@ -15,8 +15,8 @@ use crate::replies::{format_reply, kept_reply, refused_reply};
 use crate::rows::{has_no_right, is_elsewhere, is_out_of_range, late_verdict};
 use crate::store_view::StoreView;
 use crate::verdict::Verdict;
-use osd_bytes::Memory;
 use osd_commands::{Command, CommandErr, Reply, holds, read_command};
+use osd_lists::Memory;
 use osd_objects::Store;
 use std::alloc::Global;
 use std::marker::Model;
@@ -56,7 +56,7 @@ impl DriveCore {
     }
 
     /// The drive's number.
-    pub(crate) fn number(&self) -> u32
+    pub fn number(&self) -> u32
         ensures { result ≡ self.now.number }
     {
         self.number

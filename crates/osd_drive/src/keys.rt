@@ -1,7 +1,7 @@
 ghost use Rattle.std.specs.Prelude.{◌≡◌, ◌<◌, length, position, nat_eq, IfSome};
 ghost use Rattle.osd_drive.specs.State.{key_of_version};
 
-use osd_bytes::Sequence;
+use osd_lists::Sequence;
 
 /// A key that a drive shares with the server.
 #[derive(Clone, Copy, Debug, PartialEq, Eq)]

@@ -16,9 +16,7 @@ mod limits;
 mod performing;
 mod replies;
 mod rows;
-mod serving;
 mod store_view;
-mod telling;
 mod verdict;
 
 pub use drive::DriveCore;

@@ -9,8 +9,8 @@ ghost use Rattle.osd_drive.specs.Table.{late_fault_of};
 ghost use Rattle.osd_drive.specs.Effects.{lane_for, next_tag, effect_of, result_of};
 
 use crate::replies::reply_with;
-use osd_bytes::{Bytes, Memory};
 use osd_commands::{Action, Command, Reply};
+use osd_lists::{Bytes, Memory};
 use osd_objects::{LaneEntry, Store};
 use std::alloc::Global;
 

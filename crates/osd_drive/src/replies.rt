@@ -2,8 +2,8 @@ ghost use Rattle.std.specs.Prelude.{◌≡◌};
 ghost use Rattle.osd_drive.specs.Effects.{reply_with, refused_reply, kept_reply, format_reply};
 
 use crate::verdict::Verdict;
-use osd_bytes::Bytes;
 use osd_commands::{Command, Reply};
+use osd_lists::Bytes;
 use osd_objects::LaneEntry;
 use std::alloc::Global;
 

@@ -1,6 +1,6 @@
 // What failed last, for a person to read.
 use crate::printable::Printable;
-use osd_bytes::Node;
+use osd_lists::Node;
 use std::fmt::{Display, Formatter, Write};
 use std::io::ErrorKind;
 use std::{fmt, io};

@@ -8,7 +8,7 @@ use Rattle.std.specs.Map.{lookup, set_value, keys_of}
 use Rattle.std.proofs.lemmas.Cmp.{nat_cmp_total}
 use Rattle.std.proofs.lemmas.Map.Entries.{sum_by-set_value, sum_by-insert_entry}
 use Rattle.std.proofs.lemmas.Map.Steps.{set_value_same}
-use Rattle.osd_bytes.proofs.Overwritten.{length-overwritten}
+use Rattle.osd_lists.proofs.Overwritten.{length-overwritten}
 use Rattle.osd_objects.specs.declared.object.StoredObject.{StoredObject}
 use Rattle.osd_objects.specs.Sparse.{Sparse, written}
 use Rattle.osd_objects.specs.Objects.{length_of}

@@ -5,8 +5,8 @@ use Rattle.std.specs.BTreeMap.{is_at}
 use Rattle.std.proofs.lemmas.Bool.{cases_lt, cases_eq}
 use Rattle.std.proofs.lemmas.List.{length-append, append-nil, get_or_append_left, get_or-append_right}
 use Rattle.std.proofs.lemmas.Map.{keys-set_value}
-use Rattle.osd_bytes.specs.Overwrite.{overwritten}
-use Rattle.osd_bytes.proofs.Overwritten.{length-overwritten, before_overwritten, inside_overwritten, behind_overwritten}
+use Rattle.osd_lists.specs.Overwrite.{overwritten}
+use Rattle.osd_lists.proofs.Overwritten.{length-overwritten, before_overwritten, inside_overwritten, behind_overwritten}
 use Rattle.osd_objects.specs.declared.pages.TheConstants.{PAGE_BYTES}
 use Rattle.osd_objects.specs.Pages.{Pages, page_at, byte_on, byte_at, part_over, with_part, AreFull, IsOverlaid}
 use Rattle.osd_objects.proofs.Entries.{lookup_set, lookup_set_beside, same_some}

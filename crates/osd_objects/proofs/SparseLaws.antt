@@ -3,8 +3,8 @@ use Rattle.std.proofs.Common.{◌≡◌, ℕ, ◌+◌, ◌-◌, ◌<◌, ◌^◌
 use Rattle.std.proofs.lemmas.Bool.{cases_lt}
 use Rattle.std.proofs.lemmas.Grind.{same_number_lists}
 use Rattle.std.proofs.lemmas.List.{length-drop, length-take, get_or-take, get_or-drop, get_or_past}
-use Rattle.osd_bytes.specs.Overwrite.{overwritten}
-use Rattle.osd_bytes.proofs.Overwritten.{length-overwritten, before_overwritten, inside_overwritten, behind_overwritten}
+use Rattle.osd_lists.specs.Overwrite.{overwritten}
+use Rattle.osd_lists.proofs.Overwritten.{length-overwritten, before_overwritten, inside_overwritten, behind_overwritten}
 use Rattle.std.specs.Map.{keys_of}
 use Rattle.osd_objects.specs.declared.pages.TheConstants.{PAGE_BYTES}
 use Rattle.osd_objects.specs.Pages.{Pages, byte_at, span, with_pages, IsKept, IsOverlaid}

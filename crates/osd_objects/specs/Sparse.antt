@@ -4,7 +4,7 @@ use Rattle.std.specs.List.{list_any}
 use Rattle.std.specs.Ordering.{nat_cmp}
 use Rattle.std.specs.BTreeMap.{is_at}
 use Rattle.std.specs.BTreeSet.{insert_key}
-use Rattle.osd_bytes.specs.Overwrite.{overwritten}
+use Rattle.osd_lists.specs.Overwrite.{overwritten}
 use Rattle.osd_objects.specs.declared.pages.TheConstants.{PAGE_BYTES}
 
 -- all bytes below the length, a byte that was never written being 0, and the numbers of the pages on which

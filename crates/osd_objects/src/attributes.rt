@@ -4,7 +4,7 @@ ghost use Rattle.std.specs.BTreeMap.{insert_entry};
 ghost use Rattle.std.specs.Option.{option_copied};
 ghost use Rattle.osd_objects.specs.Attributes.{value_of};
 
-use osd_bytes::{Bytes, Memory};
+use osd_lists::{Bytes, Memory};
 use std::alloc::Global;
 use std::collections::BTreeMap;
 use std::marker::Model;

@@ -6,7 +6,7 @@ ghost use Rattle.osd_objects.specs.Store.{attribute_bytes};
 use crate::attributes::Attributes;
 use crate::lanes::{LaneEntry, Lanes};
 use crate::sparse::SparseBytes;
-use osd_bytes::{Bytes, Memory};
+use osd_lists::{Bytes, Memory};
 use std::alloc::Global;
 
 /// The number of the attribute that is the length.

@@ -1,7 +1,7 @@
 ghost use Rattle.std.specs.Prelude.{◌≡◌, ◌+◌, ◌-◌, ◌≤◌, ◌<◌, ◌^◌, ◌/◌, ◌%◌, ◌++◌, ℕ, List, Some, length, OnOk, OnErr, IfOk, IsSome, replicate};
 ghost use Rattle.osd_objects.specs.Pages.{page_at, span, with_page, with_pages, without_pages, with_part, AreFull, HavePages, IsOverlaid};
 
-use osd_bytes::{Bytes, Memory, put_at};
+use osd_lists::{Bytes, Memory, put_at};
 use std::alloc::Global;
 use std::collections::BTreeMap;
 

@@ -2,7 +2,7 @@ ghost use Rattle.std.specs.Prelude.{◌≡◌, ◌+◌, ◌<◌, ◌^◌, length
 ghost use Rattle.osd_objects.specs.Sparse.{no_bytes, written};
 
 use crate::pages::{PAGE_BYTES, bytes_between, fill, put_over};
-use osd_bytes::{Bytes, Memory};
+use osd_lists::{Bytes, Memory};
 use std::alloc::Global;
 use std::collections::BTreeMap;
 use std::marker::Model;

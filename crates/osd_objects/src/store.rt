@@ -5,7 +5,7 @@ ghost use Rattle.osd_objects.specs.Store.{empty_store, object_at, free_of, touch
 
 use crate::lanes::LaneEntry;
 use crate::object::{ObjectState, StoredObject};
-use osd_bytes::{Bytes, Memory};
+use osd_lists::{Bytes, Memory};
 use std::alloc::Global;
 use std::collections::BTreeMap;
 use std::marker::Model;

@@ -6,7 +6,7 @@ ghost use Rattle.osd_replay.specs.LineCarried.{CarriesEvent, CarriesLine, StopsE
 use crate::status::ScenarioKind;
 use crate::stop::Stop;
 use layout_world::{Lines, World, WorldErr};
-use osd_bytes::{Bytes, Memory, Numbers};
+use osd_lists::{Bytes, Memory, Numbers};
 use scenario_text::{Event, EventErr, read_event, write_lines};
 use std::alloc::Global;
 use stripe_repair::{DriveLoad, Placer};

@@ -3,7 +3,7 @@ ghost use Rattle.std.specs.Prelude.{◌≡◌, ◌++◌, ◌≤◌, ◌<◌, ◌
 ghost use Rattle.scenario_text.specs.declared.event.Event.TheVariants as event;
 ghost use Rattle.osd_replay.specs.Generator as made;
 
-use osd_bytes::{Bytes, Memory};
+use osd_lists::{Bytes, Memory};
 use scenario_text::{Call, ClientName, DriveName, Event, FileMap, FileName};
 use std::alloc::Global;
 

@@ -9,7 +9,8 @@ use crate::status::{ScenarioKind, Status};
 use crate::stop::{Stop, stop_of, stopped};
 use hex::FromHexError;
 use layout_types::{Kind, LayoutErr, leaves, written_again};
-use osd_bytes::{Bytes, LineReader, Memory, Sink, Source, put_all};
+use osd_bytes::{LineReader, Sink, Source, put_all};
+use osd_lists::{Bytes, Memory};
 use std::alloc::Global;
 use xdr_codec::XdrErr;
 

@@ -4,7 +4,7 @@ ghost use Rattle.std.specs.Result.{ForOk};
 ghost use Rattle.stripe_repair.specs.Placing.{CanPlace, Places};
 ghost use Rattle.osd_replay.specs.Placing.{online_pairs, IsInOrder, TakesFewest};
 
-use osd_bytes::{Memory, Numbers};
+use osd_lists::{Memory, Numbers};
 use std::alloc::Global;
 use stripe_repair::DriveLoad;
 

@@ -6,7 +6,8 @@ ghost use Rattle.osd_replay.specs.Puts.{Puts};
 use crate::put_line::put_error;
 use crate::status::{Quantity, ScenarioKind, Status};
 use layout_world::WorldErr;
-use osd_bytes::{LineErr, Memory, Sink};
+use osd_bytes::{LineErr, Sink};
+use osd_lists::Memory;
 
 /// Why a replay stops before its input ends.
 #[derive(Clone, Copy, Debug, PartialEq, Eq)]

@@ -11,7 +11,8 @@ use crate::inspect::inspect;
 use crate::put_line::put_pieces;
 use crate::replay::replay;
 use crate::status::Status;
-use osd_bytes::{Memory, Numbers, Sink, Source};
+use osd_bytes::{Sink, Source};
+use osd_lists::{Memory, Numbers};
 use std::alloc::Global;
 use stripe_repair::{DriveLoad, Placer};
 

@@ -3,7 +3,7 @@ ghost use Rattle.std.specs.Prelude.{◌≡◌, ◌+◌, ◌<◌, ◌≤◌, [], 
 ghost use Rattle.parity_code.specs.Columns.{Stored};
 
 use gf256::lanes;
-use osd_bytes::Rows;
+use osd_lists::Rows;
 use std::simd::prelude::*;
 
 #[inline(always)]

@@ -7,7 +7,7 @@ ghost use Rattle.parity_code.specs.Decoding.{decoded, decoding, ArePositions};
 
 use crate::code::{Code, CodeErr};
 use crate::restoring::{restore_one, restore_two};
-use osd_bytes::Rows;
+use osd_lists::Rows;
 
 /// Brings back the lost rows, whatever they hold: a column that was a codeword is that codeword again. With as many
 /// rows lost as the code has parity rows, each column becomes a codeword. In any other column a lost row becomes the

@@ -8,7 +8,7 @@ ghost use Rattle.parity_code.specs.Columns.{Become};
 use crate::code::Code;
 use crate::columns::{store_block, store_byte};
 use crate::sums::{block_p, block_p_and_q, column_p_and_q};
-use osd_bytes::Rows;
+use osd_lists::Rows;
 
 /// Overwrites the parity rows, so that each column is the codeword of its data.
 ///

@@ -14,7 +14,7 @@ use crate::columns::{clear, store_block, store_byte};
 use crate::repair::{Repair, RepairTables, repair_of_one, repairs_of_two};
 use crate::sums::{block_of, block_p_and_q, byte_at, column_p_and_q, rows_are_bytes};
 use gf256::lanes;
-use osd_bytes::{Bytes, Rows};
+use osd_lists::{Bytes, Rows};
 use std::simd::prelude::*;
 
 // Brings back one row, whatever it holds.

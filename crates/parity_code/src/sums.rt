@@ -5,7 +5,7 @@ ghost use Rattle.gf256.specs.Lanes.{HasLanes};
 ghost use Rattle.parity_code.specs.Parity.{column, p_of, q_of};
 
 use gf256::{lanes, mul};
-use osd_bytes::Bytes;
+use osd_lists::Bytes;
 use std::simd::prelude::*;
 
 // Of the 64 columns from `at` on.

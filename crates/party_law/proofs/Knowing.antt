@@ -1,7 +1,7 @@
 -- What a client knows of sizes beside the server's step.
 use Rattle.std.proofs.Common.{◌≡◌, ◌⊎◌, ◌≤◌, ℕ, List, Option, Some, None, Result, Ok, Err, inl, inr, refl, sym, ap, subst, ◌∙◌, arith}
 use Rattle.std.proofs.lemmas.Bool.{cases_eq, ne_eqb}
-use Rattle.osd_bytes.specs.declared.node.Node.TheVariants.{Client as FromClient}
+use Rattle.osd_lists.specs.declared.node.Node.TheVariants.{Client as FromClient}
 use Rattle.layout_types.specs.declared.err.LayoutErr.{LayoutErr}
 use Rattle.layout_types.specs.declared.ioerrs.IoErrs.{IoErrs}
 use Rattle.layout_types.specs.Grammar.{whole}

@@ -91,7 +91,7 @@ module _ (w : World) where
       drives = λ d. refl;
       known = λ d. keys_step w.server chosen i d
           ∙ ap (λ (ds : List server_rules.Drive). known_keys ds d)
-        (known_before i w.server.drives (λ x e. none_added w action x (subst (IsForServer w action) e is)));
+          (known_before i w.server.drives (λ x e. none_added w action x (subst (IsForServer w action) e is)));
     };
     goes = λ ms said c a found i is. same _ refl refl;
     comes = λ c is. same _ refl refl;

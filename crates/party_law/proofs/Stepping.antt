@@ -1,7 +1,7 @@
 -- What a step of the server leaves of the lists that clients hold, and of those in the answers that are kept for them.
 use Rattle.std.proofs.Common.{◌≡◌, ◌⊎◌, ◌==◌, ◌≤◌, ℕ, Bool, true, false, List, Option, Some, None, Ok, inl, inr, refl, sym, ap, subst, ◌∙◌, if◌then◌else◌}
 use Rattle.std.proofs.lemmas.Bool.{cases_eq, eq-eqb, ne_eqb}
-use Rattle.osd_bytes.specs.declared.node.Node.TheVariants.{Client as FromClient}
+use Rattle.osd_lists.specs.declared.node.Node.TheVariants.{Client as FromClient}
 use Rattle.layout_ops.specs.declared.statuses.TheConstants.{NFS4ERR_LAYOUTTRYLATER, LAYOUTIOMODE4_RW}
 use Rattle.layout_ops.specs.declared.results.LayoutGetOk.{LayoutGetOk}
 use Rattle.layout_ops.specs.declared.results.LayoutGetResult.{LayoutGetResult}

@@ -11,8 +11,9 @@ ghost use Rattle.std.specs.Result.{ForOk};
 ghost use Rattle.stripe_repair.specs.Placing.{CanPlace, Places};
 
 use advice::Kept;
-use osd_bytes::{Memory, Numbers, put_all};
+use osd_bytes::put_all;
 use osd_links::{StdSink, StdSource, SystemClock, TcpLinks};
+use osd_lists::{Memory, Numbers};
 use osd_replay::{Stop, fewest_first, stopped};
 use people::tell;
 use pnfs_run::{Status, run};

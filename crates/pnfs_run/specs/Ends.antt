@@ -2,8 +2,8 @@
 use Rattle.std.specs.Prelude.{◌≡◌, ℕ, List, Option}
 use Rattle.osd_bytes.specs.Connections.{Traffic}
 use Rattle.osd_bytes.specs.Counts.{Faults}
-use Rattle.osd_asking.specs.Asking as asking
-use Rattle.osd_drive.specs.Serving as drive
+use Rattle.osd_bytes.specs.Asking as asking
+use Rattle.drive_command.specs.Connections as drive
 use Rattle.osd_replay.specs.Ends as replay
 use Rattle.drive_command.specs.Ends.{Streams, streams}
 use Rattle.client_command.specs.Reports.{OnLinks, on_links}

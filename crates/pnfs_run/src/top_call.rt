@@ -8,7 +8,8 @@ ghost use Rattle.pnfs_run.specs.Run.{AreBad, JudgesWords, Promises, RunsAlone};
 use crate::network::{run_client, run_drive, run_server};
 use crate::party::{Party, party_named};
 use crate::status::Status;
-use osd_bytes::{Clock, Links, Memory, Numbers, Sink, Source};
+use osd_bytes::{Clock, Links, Sink, Source};
+use osd_lists::{Memory, Numbers};
 use std::alloc::Global;
 use stripe_repair::{DriveLoad, Placer};
 

@@ -1,8 +1,8 @@
 -- A step of the server that declares no drive leaves none offline but those that were.
 use Rattle.std.proofs.Common.{◌≡◌, ◌==◌, ◌&&◌, not, ℕ, Bool, true, false, List, [], ◌∷◌, Option, Some, None, is_some, find, nat_le, nat_lt, inl, inr, refl, sym, ◌∙◌, if◌then◌else◌}
 use Rattle.std.proofs.lemmas.Bool.{cases_Bool, eqb-true, ne_eqb}
-use Rattle.osd_bytes.specs.declared.node.Node.{Node}
-use Rattle.osd_bytes.specs.declared.node.Node.TheVariants as node
+use Rattle.osd_lists.specs.declared.node.Node.{Node}
+use Rattle.osd_lists.specs.declared.node.Node.TheVariants as node
 use Rattle.server_rules.specs.declared.limits.TheConstants.{MAX_CLIENT, GREATEST_TAG}
 use Rattle.world_history.specs.ServerNames.{Server, File, Drive, Job, JobKind, ClientRequest, Reply, Refusal, Revoking, Rebuilding, Auditing, OrderKind, ToRecall, ToRevoke, ToDeclare, ToRebuild, ToAudit}
 use Rattle.server_rules.specs.Files.{Step, file_at, still}

@@ -10,9 +10,9 @@ ghost use Rattle.recall_fence.specs.Waiting.{without, lowest};
 ghost use Rattle.recall_fence.specs.Fences.{raise, counts_as_done, without_done, IsOfFile};
 
 use crate::waiting::lowest;
-use osd_bytes::{Bytes, Numbers};
 use osd_capability::{CHECK_BYTES, Capability};
 use osd_commands::{Action, Command, Reply};
+use osd_lists::{Bytes, Numbers};
 use server_rules::{
     ALL_RIGHTS, GREATEST_TAG, KEY_VERSION, NO_EXPIRY, OTHER_TAG, PERFORMED, SERVER_HOLDER,
     WHOLE_OBJECT,

@@ -1,7 +1,7 @@
 ghost use Rattle.std.specs.Prelude.{◌≡◌, ◌==◌, ◌&&◌, ◌||◌, ℕ, [], false, not, IfSome, IfNone, OnOk};
 ghost use Rattle.reply_index.specs.Index.{has, is_of, are_to, IsFirst};
 
-use osd_bytes::Memory;
+use osd_lists::Memory;
 use server_rules::Awaited;
 use std::alloc::Global;
 use std::collections::BTreeSet;

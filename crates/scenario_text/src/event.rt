@@ -2,7 +2,7 @@ ghost use Rattle.std.specs.Prelude.{◌≡◌};
 ghost use Rattle.scenario_text.specs.Errors.{event_error_name};
 
 use crate::names::{ClientName, DriveName, FileName};
-use osd_bytes::{Bytes, Memory};
+use osd_lists::{Bytes, Memory};
 use thiserror::Error;
 
 /// The numbers of a file's data map, as the scenario gives them (RFC 5664 3).

@@ -12,7 +12,7 @@ use crate::group::{Group, event_group};
 use crate::names::DriveName;
 use crate::write::Word::{Fixed, Hex, Key, Number};
 use crate::write::{Word, named, put, small};
-use osd_bytes::{Bytes, Memory};
+use osd_lists::{Bytes, Memory};
 use std::alloc::Global;
 
 fn put_call(alloc: Global, out: &mut Bytes, call: &Call) -> Result<(), Memory>

@@ -4,7 +4,7 @@ ghost use Rattle.scenario_text.specs.declared.event.EventErr.TheVariants.{Memory
 
 use crate::event::EventErr;
 use hex::{FromHex, FromHexError};
-use osd_bytes::Bytes;
+use osd_lists::Bytes;
 use std::alloc::Global;
 
 // Which hexadecimal digits may stand.

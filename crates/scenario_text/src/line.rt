@@ -1,6 +1,6 @@
 use crate::event::Event;
 use crate::names::{ClientName, DriveName, FileName};
-use osd_bytes::{Bytes, Numbers};
+use osd_lists::{Bytes, Numbers};
 
 /// One end of a message.
 #[derive(Clone, Copy, Debug, PartialEq, Eq)]

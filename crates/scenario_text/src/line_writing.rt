@@ -15,7 +15,7 @@ use crate::line::{
 };
 use crate::write::Word::{Fixed, Hex, Number, Positions};
 use crate::write::{Word, named, put, small};
-use osd_bytes::{Bytes, Memory};
+use osd_lists::{Bytes, Memory};
 use std::alloc::Global;
 
 fn party_word<'a>(party: &Party) -> Word<'a>

@@ -9,7 +9,7 @@ use crate::event::{EventErr, Machine, Sender};
 use crate::hexadecimal::{Digits, bytes, key};
 use crate::line::Party;
 use crate::names::{ClientName, DriveName, Name};
-use osd_bytes::{Bytes, Numbers};
+use osd_lists::{Bytes, Numbers};
 use std::alloc::Global;
 use std::marker::Model;
 

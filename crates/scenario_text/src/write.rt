@@ -6,7 +6,7 @@ ghost use Rattle.scenario_text.specs.Written.{written};
 
 use crate::names::Name;
 use itoa::Buffer;
-use osd_bytes::{Bytes, Memory};
+use osd_lists::{Bytes, Memory};
 use std::alloc::Global;
 
 // A word to be written.

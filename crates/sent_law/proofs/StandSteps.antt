@@ -2,8 +2,8 @@
 use Rattle.std.proofs.Common.{◌≡◌, ◌⊎◌, ◌==◌, ◌&&◌, ℕ, nat_le, nat_lt, Bool, true, false, List, [], ◌∷◌, find, is_some, Option, Some, None, refl, sym, subst, inl, inr, if◌then◌else◌}
 use Rattle.std.proofs.lemmas.Bool.{cases_Bool, eq-eqb}
 use Rattle.data_map.specs.declared.check.RawMap.{RawMap}
-use Rattle.osd_bytes.specs.declared.node.Node.{Node}
-use Rattle.osd_bytes.specs.declared.node.Node.TheVariants.{Server as FromServer, Client as FromClient, Drive as FromDrive}
+use Rattle.osd_lists.specs.declared.node.Node.{Node}
+use Rattle.osd_lists.specs.declared.node.Node.TheVariants.{Server as FromServer, Client as FromClient, Drive as FromDrive}
 use Rattle.server_rules.specs.declared.limits.TheConstants.{GREATEST_TAG, MAX_CLIENT}
 use Rattle.server_rules.specs.Files.{Step, still, begins, file_at, put_file, add_file, at_file}
 use Rattle.server_rules.specs.Going.{Going}

@@ -1,6 +1,6 @@
 -- What the server sent is what a run of it sends.
 use Rattle.std.specs.Prelude.{◌≡◌, ℕ, List, []}
-use Rattle.osd_bytes.specs.declared.node.Node.TheVariants as node
+use Rattle.osd_lists.specs.declared.node.Node.TheVariants as node
 use Rattle.scenario_text.specs.declared.line.Line.{Line}
 use Rattle.server_rules.specs.History.{Act, state_after}
 use Rattle.server_rules.specs.Laws.{In}

@@ -1,6 +1,6 @@
 -- Each present component of a file has an object with the file's tag, or its CREATE is awaited.
 use Rattle.std.specs.Prelude.{◌≡◌, ◌⊎◌, ℕ, Bool, true, false, List, [], Option, Some, None}
-use Rattle.osd_bytes.specs.declared.node.Node.TheVariants.{Drive as FromDrive}
+use Rattle.osd_lists.specs.declared.node.Node.TheVariants.{Drive as FromDrive}
 use Rattle.osd_commands.specs.declared.actions.Action.TheVariants.{Create}
 use Rattle.server_rules.specs.declared.limits.TheConstants.{SERVER_HOLDER}
 use Rattle.server_rules.specs.Messages.{awaited_by, Replies, counters_low}

@@ -13,7 +13,7 @@ use Rattle.cluster_text.specs.declared.cluster.ClusterFile.{ClusterFile}
 use Rattle.cluster_text.specs.declared.errors.ClusterKind.{ClusterKind}
 use Rattle.cluster_text.specs.Fields.{is_good_map}
 use Rattle.cluster_text.specs.Reading.{repeats}
-use Rattle.osd_asking.specs.Asking.{Ends}
+use Rattle.osd_bytes.specs.Asking.{Ends}
 use Rattle.server_rules.specs.declared.server.Drive.{Drive}
 use Rattle.server_rules.specs.declared.server.Server.{Server}
 use Rattle.server_rules.specs.Files.{file_at}

@@ -4,12 +4,12 @@ use Rattle.osd_bytes.specs.Causes.{Rose}
 use Rattle.osd_bytes.specs.Connections.{Traffic}
 use Rattle.osd_bytes.specs.Counts.{Faults, asking_count}
 use Rattle.osd_bytes.specs.Exchanges.{HasExchangeCause}
-use Rattle.osd_bytes.specs.declared.asking.ExchangeErr.{ExchangeErr}
-use Rattle.osd_bytes.specs.declared.asking.ExchangeErr.TheVariants.{LinkFault, Ended, TooLong, Memory}
-use Rattle.osd_bytes.specs.declared.node.Node.{Node}
-use Rattle.osd_bytes.specs.declared.node.Node.TheVariants.{Server as TheServer, Drive, Client}
-use Rattle.osd_asking.specs.Asking.{Answered, Ends}
-use Rattle.osd_serving.specs.Inboxes.{HasPutCause}
+use Rattle.osd_bytes.specs.declared.exchanges.ExchangeErr.{ExchangeErr}
+use Rattle.osd_bytes.specs.declared.exchanges.ExchangeErr.TheVariants.{LinkFault, Ended, TooLong, Memory}
+use Rattle.osd_lists.specs.declared.node.Node.{Node}
+use Rattle.osd_lists.specs.declared.node.Node.TheVariants.{Server as TheServer, Drive, Client}
+use Rattle.osd_bytes.specs.Asking.{Answered, Ends}
+use Rattle.osd_bytes.specs.Inboxes.{HasPutCause}
 use Rattle.cluster_text.specs.declared.cluster.ClusterFile.{ClusterFile}
 use Rattle.server_rules.specs.declared.server.Server.{Server}
 use Rattle.server_requests.specs.declared.sending.Sent.{Sent}

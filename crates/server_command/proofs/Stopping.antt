@@ -6,7 +6,7 @@ use Rattle.cluster_text.specs.declared.cluster.Reader.TheVariants.{Server as Ser
 use Rattle.cluster_input.specs.Inputs.{GivesCluster}
 use Rattle.cluster_input.specs.declared.stop.CommandStop.{CommandStop}
 use Rattle.cluster_input.specs.declared.stop.CommandStop.TheVariants.{BadCluster, ReadFault, WriteFault, Memory, Full, LinkFault}
-use Rattle.osd_asking.specs.Asking.{Ends}
+use Rattle.osd_bytes.specs.Asking.{Ends}
 use Rattle.server_rules.specs.declared.server.Server.{Server}
 use Rattle.server_serving.specs.Work.{serving}
 use Rattle.server_files.specs.Knowing.{server_in}

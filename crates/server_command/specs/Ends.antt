@@ -11,7 +11,7 @@ use Rattle.cluster_input.specs.Lines.{PutsLine, stop_line}
 use Rattle.cluster_input.specs.declared.stop.CommandStop.{CommandStop}
 use Rattle.cluster_input.specs.declared.stop.CommandStop.TheVariants.{BadCluster, ReadFault, WriteFault, Memory}
 use Rattle.cluster_input.specs.declared.stop.CommandStop.TheVariants.{Full, LinkFault}
-use Rattle.osd_asking.specs.Asking.{Ends}
+use Rattle.osd_bytes.specs.Asking.{Ends}
 use Rattle.server_rules.specs.declared.server.Server.{Server}
 use Rattle.server_serving.specs.Work.{serving}
 use Rattle.server_serving.specs.Serving.{IsRefused, ServesAll}

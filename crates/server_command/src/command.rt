@@ -1,5 +1,5 @@
 ghost use Rattle.std.specs.Prelude.{◌≡◌, IfErr, OnOk};
-ghost use Rattle.osd_asking.specs.Asking.{ends_of};
+ghost use Rattle.osd_bytes.specs.Asking.{ends_of};
 ghost use Rattle.stripe_repair.specs.Placing.{IsPlacer};
 ghost use Rattle.drive_command.specs.Ends.{streams};
 ghost use Rattle.server_command.specs.Ends.{EndsServer, ServesAs, ServesIn, StopsIn, StopsServer};
@@ -7,7 +7,8 @@ ghost use Rattle.server_command.specs.Ends.{EndsServer, ServesAs, ServesIn, Stop
 use crate::serving::serve_core;
 use cluster_input::{CommandStop, cluster_from, put_stop, settle_at};
 use cluster_text::{Cluster, Reader};
-use osd_bytes::{Clock, Links, Memory, Numbers, Sink, Source};
+use osd_bytes::{Clock, Links, Sink, Source};
+use osd_lists::{Memory, Numbers};
 use server_files::{make_files, server_of};
 use std::alloc::Global;
 use stripe_repair::{DriveLoad, Placer};

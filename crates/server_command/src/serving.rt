@@ -1,14 +1,14 @@
 // The lines of the command, and the serving between them.
 ghost use Rattle.std.specs.Prelude.{◌≡◌, IfErr, IfOk, OnOk, string_bytes};
-ghost use Rattle.osd_asking.specs.Asking.{ends_of};
+ghost use Rattle.osd_bytes.specs.Asking.{ends_of};
 ghost use Rattle.stripe_repair.specs.Placing.{IsPlacer};
 ghost use Rattle.drive_command.specs.Ends.{served_line, stop_of_serving};
 ghost use Rattle.server_command.specs.Ends.{Serves, StopsServing};
 
 use cluster_input::CommandStop;
 use layout_server::ServerCore;
-use osd_bytes::{Clock, Links, Memory, Numbers, Sink, put_all};
-use osd_serving::ServeErr;
+use osd_bytes::{Clock, Links, ServeErr, Sink, put_all};
+use osd_lists::{Memory, Numbers};
 use server_serving::serve;
 use std::alloc::Global;
 use stripe_repair::{DriveLoad, Placer};

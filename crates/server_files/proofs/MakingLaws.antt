@@ -3,9 +3,9 @@ use Rattle.std.specs.Prelude.{option_map, slice_get}
 use Rattle.std.proofs.Common.{◌≡◌, ◌∙◌, ◌<◌, ℕ, zero, suc, true, List, [], ◌∷◌, ◌++◌, length, take, drop, Option, Some, None, refl, ap, subst}
 use Rattle.osd_bytes.specs.Connections.{Traffic, after_notes}
 use Rattle.osd_bytes.specs.Counts.{Faults}
-use Rattle.osd_bytes.specs.declared.node.Node.{Node}
-use Rattle.osd_bytes.specs.declared.node.Node.TheVariants.{Server as TheServer, Drive, Client}
-use Rattle.osd_asking.specs.Asking.{Answered, Ends, ends_of}
+use Rattle.osd_lists.specs.declared.node.Node.{Node}
+use Rattle.osd_lists.specs.declared.node.Node.TheVariants.{Server as TheServer, Drive, Client}
+use Rattle.osd_bytes.specs.Asking.{Answered, Ends, ends_of}
 use Rattle.cluster_text.specs.declared.cluster.ClusterFile.{ClusterFile}
 use Rattle.cluster_input.specs.declared.stop.CommandStop.{CommandStop}
 use Rattle.cluster_input.specs.declared.stop.CommandStop.TheVariants.{BadCluster, ReadFault, WriteFault, Memory, Full, LinkFault}

@@ -1,8 +1,8 @@
 -- How the server of a cluster makes its files, and where it stops.
 use Rattle.std.specs.Prelude.{◌≡◌, ◌⊎◌, ℕ, true, List, [], ◌∷◌, ◌++◌, Option, Some, None, Ok, ⊤}
 use Rattle.osd_bytes.specs.Connections.{after_notes}
-use Rattle.osd_bytes.specs.declared.node.Node.{Node}
-use Rattle.osd_bytes.specs.declared.node.Node.TheVariants.{Server as TheServer, Drive, Client}
+use Rattle.osd_lists.specs.declared.node.Node.{Node}
+use Rattle.osd_lists.specs.declared.node.Node.TheVariants.{Server as TheServer, Drive, Client}
 use Rattle.data_map.specs.Check.{HasAlgorithm}
 use Rattle.cluster_text.specs.declared.cluster.ClusterFile.{ClusterFile}
 use Rattle.cluster_text.specs.declared.errors.ClusterKind.TheVariants.{Range}
@@ -14,7 +14,7 @@ use Rattle.server_rules.specs.Files.{Step}
 use Rattle.server_rules.specs.Making.{create_file, refusal}
 use Rattle.server_requests.specs.declared.sending.Sent.{Sent}
 use Rattle.server_requests.specs.Sending.{all_sent}
-use Rattle.osd_asking.specs.Asking.{Answered, Ends}
+use Rattle.osd_bytes.specs.Asking.{Answered, Ends}
 use Rattle.server_serving.specs.Telling.{note_texts}
 use Rattle.server_serving.specs.Work.{AsksDrive, InTurn, Rounds, Serving, UntilNone, serving}
 use Rattle.server_files.specs.Faults.{fault_line}

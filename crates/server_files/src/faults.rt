@@ -4,8 +4,8 @@ ghost use Rattle.server_rules.specs.Replies.{is_create};
 ghost use Rattle.server_rules.specs.declared.limits.TheConstants.{EXISTS};
 ghost use Rattle.server_files.specs.Faults.{held_line, held_object, silent_line};
 
-use osd_bytes::Memory;
 use osd_commands::{Action, Command, CommandErr, Reply, read_command, read_reply};
+use osd_lists::Memory;
 use server_rules::EXISTS;
 use std::alloc::Global;
 

@@ -1,6 +1,6 @@
 // The files of a cluster, made one after the other.
 ghost use Rattle.std.specs.Prelude.{[], true, IfErr, OnOk};
-ghost use Rattle.osd_asking.specs.Asking.{ends_of};
+ghost use Rattle.osd_bytes.specs.Asking.{ends_of};
 ghost use Rattle.stripe_repair.specs.Placing.{IsPlacer};
 ghost use Rattle.server_serving.specs.Work.{serving};
 ghost use Rattle.server_files.specs.Making.{LosesFile, LosesFiles, MakesFile, MakesFiles, RefusesFile, RefusesFiles, StopsBy};
@@ -10,7 +10,8 @@ use cluster_input::CommandStop;
 use cluster_text::{ClusterFile, ClusterKind};
 use data_map::{RAID_0, RAID_PQ};
 use layout_server::{FileErr, ServerCore, Step};
-use osd_bytes::{Clock, Links, Memory, Numbers};
+use osd_bytes::{Clock, Links};
+use osd_lists::{Memory, Numbers};
 use server_serving::tell_notes;
 use std::alloc::Global;
 use stripe_repair::{DriveLoad, Placer};

@@ -1,16 +1,16 @@
 // The commands by which files are made, one after the other.
 ghost use Rattle.std.specs.Prelude.{[], true, IfErr, OnOk};
-ghost use Rattle.osd_asking.specs.Asking.{ends_of};
+ghost use Rattle.osd_bytes.specs.Asking.{ends_of};
 ghost use Rattle.stripe_repair.specs.Placing.{IsPlacer};
-ghost use Rattle.osd_bytes.specs.declared.node.Node.TheVariants.{Drive};
+ghost use Rattle.osd_lists.specs.declared.node.Node.TheVariants.{Drive};
 ghost use Rattle.server_serving.specs.Work.{InTurn, UntilNone, serving};
 ghost use Rattle.server_files.specs.Making.{Loses, LosesAll, LosesIn, LosesTo, Makes, MakesTo, StopsBy};
 
 use crate::faults::{held_line, held_object, silent_line};
 use cluster_input::CommandStop;
 use layout_server::{Sends, Sent, ServerCore};
-use osd_asking::asked;
-use osd_bytes::{Clock, Links, Memory, Node, Numbers};
+use osd_bytes::{Clock, Links, asked};
+use osd_lists::{Memory, Node, Numbers};
 use server_serving::hear_drive;
 use std::alloc::Global;
 use std::mem;

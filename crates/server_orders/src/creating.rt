@@ -16,7 +16,7 @@ use crate::declaring::put;
 use crate::loads::loads_of;
 use data_map::{DataMap, MAX_STRIPE_UNIT, MapErr, RawMap};
 use file_jobs::{FileState, make};
-use osd_bytes::{Memory, Numbers, Sequence};
+use osd_lists::{Memory, Numbers, Sequence};
 use server_rules::{Component, Components, Drive, Grants, Kept, MAX_FILE_COMPONENTS, Phase};
 use server_state::{Files, State, Step, begins, list, settle};
 use std::alloc::Global;

@@ -14,7 +14,7 @@ use crate::loads::loads_of;
 use crate::orders::{Obeyed, unknown};
 use file_jobs::{FileState, declare as declare_at};
 use layout_ops::OrderResult;
-use osd_bytes::{Memory, Numbers};
+use osd_lists::{Memory, Numbers};
 use server_rules::{COUNTERS_END, Drive, Moved};
 use server_state::{Drives, Files, State, Step, begins, list_all, settle};
 use std::alloc::Global;

@@ -4,8 +4,8 @@ ghost use Rattle.stripe_repair.specs.declared.loads.TheConstants.{MAX_DRIVES};
 ghost use Rattle.server_state.specs.Drives.{AreDrives};
 ghost use Rattle.server_orders.specs.Adding.{IsNew, CanAdd, and_drives, drive_of, rank_in};
 
-use osd_bytes::{Memory, Sequence};
 use osd_capability::DRIVE_KEY_BYTES;
+use osd_lists::{Memory, Sequence};
 use server_rules::Drive;
 use server_state::Drives;
 use std::alloc::Global;

@@ -8,7 +8,7 @@ ghost use Rattle.server_state.specs.Standing.{AreCounted};
 ghost use Rattle.server_orders.specs.Loads.{Tells};
 
 use drive_counts::DriveCounts;
-use osd_bytes::{Memory, Sequence};
+use osd_lists::{Memory, Sequence};
 use server_rules::Drive;
 use server_state::State;
 use std::alloc::Global;

@@ -18,7 +18,7 @@ use crate::loads::loads_of;
 use file_jobs::{FileState, begin, note};
 use file_requests::waits;
 use layout_ops::OrderResult;
-use osd_bytes::{Memory, Numbers};
+use osd_lists::{Memory, Numbers};
 use server_requests::{Sends, send_recalls};
 use server_rules::{GREATEST_TAG, Grant, JobKind, Moved, NoteKind};
 use server_state::{Files, State, Step, begins, list, only_sends, settle, unlist};

@@ -12,8 +12,8 @@ ghost use Rattle.server_orders.specs.Hearing.{AwaitedAt, AwaitedNowhere, HeardIn
 
 use crate::loads::loads_of;
 use file_jobs::on_reply;
-use osd_bytes::{Memory, Numbers};
 use osd_commands::Reply;
+use osd_lists::{Memory, Numbers};
 use server_requests::Sends;
 use server_rules::Moved;
 use server_state::{Files, State, Step, begins, list, only_sends, settle, unlist};

@@ -7,7 +7,7 @@ ghost use Rattle.server_state.specs.States.{server_of};
 ghost use Rattle.server_orders.specs.Resending.{resent, waited_of};
 
 use file_jobs::FileState;
-use osd_bytes::Memory;
+use osd_lists::Memory;
 use server_requests::{Sends, send_to_drives};
 use server_rules::Drive;
 use server_state::{Files, State};

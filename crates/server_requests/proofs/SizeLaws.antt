@@ -10,7 +10,7 @@ use Rattle.layout_types.specs.Grammar.{list_item}
 use Rattle.layout_types.specs.Spelling.{cred_item, layout_item}
 use Rattle.layout_ops.specs.declared.parts.TheConstants.{MAX_BODY}
 use Rattle.layout_ops.specs.Spelling.{IsBody}
-use Rattle.osd_bytes.specs.declared.memory.Memory.{Memory}
+use Rattle.osd_lists.specs.declared.memory.Memory.{Memory}
 use Rattle.server_requests.specs.Bounds.{IsCredential, IsSmall}
 
 length-u32 : (n : ℕ) → length (u32_item n) ≡ 4

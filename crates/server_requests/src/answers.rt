@@ -10,7 +10,7 @@ use layout_ops::{
     Answer, LayoutCommitResult, LayoutGetResult, LayoutReturnResult, NFS4_OK,
     NFS4ERR_LAYOUTTRYLATER, Results,
 };
-use osd_bytes::Memory;
+use osd_lists::Memory;
 use server_rules::{ClientRequest, Drive, Grant, Kept, RequestArgs};
 use std::alloc::Global;
 

@@ -10,7 +10,7 @@ use crate::seeking::any_expired;
 use data_map::MAX_FILE_SIZE;
 use grant_table::{first_against, grant_of};
 use layout_ops::{LAYOUTIOMODE4_READ, LAYOUTIOMODE4_RW};
-use osd_bytes::Memory;
+use osd_lists::Memory;
 use server_rules::{GREATEST_GRANT, Grant, Kept, LEASE};
 use std::alloc::Global;
 

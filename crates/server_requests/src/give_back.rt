@@ -9,7 +9,7 @@ use crate::reports::named;
 use data_map::DataMap;
 use grant_table::grant_of;
 use layout_types::IoErr;
-use osd_bytes::{Memory, Numbers};
+use osd_lists::{Memory, Numbers};
 use server_rules::{Component, Components, GREATEST_TAG, Grant, Kept};
 use std::alloc::Global;
 use stripe_repair::{group_with, is_beyond};

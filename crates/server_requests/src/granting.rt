@@ -11,7 +11,7 @@ use layout_ops::{
     LAYOUTIOMODE4_READ, LAYOUTIOMODE4_RW, LayoutGetOk, LayoutSegment, STATEID_OTHER_BYTES, StateId,
 };
 use layout_types::{Layout, ObjectCred, Structure};
-use osd_bytes::{Bytes, Memory, Sequence, put_u32};
+use osd_lists::{Bytes, Memory, Sequence, put_u32};
 use server_rules::{Component, Drive, Grant, Kept};
 use std::alloc::Global;
 

@@ -6,7 +6,7 @@ ghost use Rattle.server_rules.specs.Get.{lacked};
 ghost use Rattle.server_requests.specs.Rows.{is_lacked};
 
 use data_map::DataMap;
-use osd_bytes::Memory;
+use osd_lists::Memory;
 use server_rules::{Component, Grant, Kept, Stripes};
 use std::alloc::Global;
 use stripe_repair::{group_with, is_beyond};

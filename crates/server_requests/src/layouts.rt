@@ -11,8 +11,8 @@ use crate::lacks::rows_below;
 use crate::sealing::key_of_drive;
 use data_map::DataMap;
 use layout_types::{DEVICE_ID_BYTES, KeySecurity, Layout, ObjId, ObjectCred, OsdVersion};
-use osd_bytes::{Bytes, Memory, Sequence, put_u64};
 use osd_capability::{CapKey, Capability, capability_key};
+use osd_lists::{Bytes, Memory, Sequence, put_u64};
 use server_rules::{
     Component, Drive, FIRST_PARTITION, Grant, KEY_VERSION, Kept, READ_RIGHTS, Stripes, WRITE_RIGHTS,
 };

@@ -12,7 +12,7 @@ use crate::sending::{Sends, Sent};
 use layout_ops::{
     Answer, Envelope, LAYOUTIOMODE4_ANY, LayoutRecallArgs, OrderAnswer, Recall, write_envelope,
 };
-use osd_bytes::{Bytes, Memory, Node};
+use osd_lists::{Bytes, Memory, Node};
 use server_rules::{Grant, RECALL_NUMBERS, WHOLE_FILE};
 use std::alloc::Global;
 

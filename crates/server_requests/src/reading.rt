@@ -12,8 +12,8 @@ use layout_ops::{
     Args, Envelope, LayoutCommitArgs, LayoutReturnArgs, OpErr, Order, Request, read_envelope,
 };
 use layout_types::{IoErrs, LayoutErr, LayoutUpdate, Structure};
-use osd_bytes::{Memory, Node};
 use osd_commands::{CommandErr, Reply, read_reply};
+use osd_lists::{Memory, Node};
 use server_rules::{ClientRequest, RequestArgs};
 use std::alloc::Global;
 

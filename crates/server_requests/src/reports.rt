@@ -4,7 +4,7 @@ ghost use Rattle.server_rules.specs.Return.{is_device, is_at, named_from, named_
 
 use crate::layouts::DRIVE_AT;
 use layout_types::{DEVICE_ID_BYTES, Errno, IoErr, ObjId};
-use osd_bytes::{Memory, Numbers, u64_at};
+use osd_lists::{Memory, Numbers, u64_at};
 use server_rules::{Component, FIRST_PARTITION};
 use std::alloc::Global;
 

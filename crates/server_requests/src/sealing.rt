@@ -6,11 +6,11 @@ ghost use Rattle.server_requests.specs.Keys.{IsKeyAt, with_number};
 ghost use Rattle.server_requests.specs.Sending.{sent_as, all_sent};
 
 use crate::sending::{Sends, Sent};
-use osd_bytes::{Bytes, Memory, Node};
 use osd_capability::{
     CHECK_BYTES, DRIVE_KEY_BYTES, FORMAT_SHA256, SHA1_TAG_BYTES, capability_key, check_value,
 };
 use osd_commands::write_command;
+use osd_lists::{Bytes, Memory, Node};
 use server_rules::{Awaited, Drive};
 use std::alloc::Global;
 

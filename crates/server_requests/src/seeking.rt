@@ -2,7 +2,7 @@ ghost use Rattle.std.specs.Prelude.{◌≡◌, IfOk};
 ghost use Rattle.server_rules.specs.Grants.{against, any_expired, without};
 
 use grant_table::conflicts;
-use osd_bytes::Memory;
+use osd_lists::Memory;
 use server_rules::{Grant, Grants};
 use std::alloc::Global;
 

@@ -1,4 +1,4 @@
-use osd_bytes::{Bytes, Node, Sequence};
+use osd_lists::{Bytes, Node, Sequence};
 
 /// A message to be sent.
 #[derive(Debug, PartialEq, Drop)]

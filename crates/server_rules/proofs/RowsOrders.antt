@@ -1,6 +1,6 @@
 -- Orders that come as messages: a file that isn't there, a job that is refused as busy, a drive that isn't there, a recall.
 use Rattle.std.specs.Prelude.{List, [], ◌∷◌, refl, ◌≡◌, true}
-use Rattle.osd_bytes.specs.declared.node.Node.TheVariants.{Server as FromServer, Client as FromClient}
+use Rattle.osd_lists.specs.declared.node.Node.TheVariants.{Server as FromServer, Client as FromClient}
 use Rattle.osd_commands.specs.declared.actions.Action.TheVariants.{Create}
 use Rattle.server_rules.specs.declared.limits.TheConstants.{EXISTS}
 use Rattle.server_rules.specs.State.{Server, RawMap, Audit, Busy, Fenced, Ready, Repaired, Get, HasStarted, IsBusy, IsUnknown, ToAudit, ToDeclare, ToRebuild, ToRecall, ToRevoke}

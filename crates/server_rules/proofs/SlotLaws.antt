@@ -4,8 +4,8 @@ use Rattle.std.proofs.Common.{arith, inl, inr, sym, ap, subst, eq-eqb, ◌∙◌
 use Rattle.std.proofs.lemmas.Bool.{cases_Bool, eqb-true}
 use Rattle.std.proofs.lemmas.Bool.Decides.{nat_tests}
 use Rattle.std.proofs.lemmas.List.{append_assoc}
-use Rattle.osd_bytes.specs.declared.node.Node.{Node}
-use Rattle.osd_bytes.specs.declared.node.Node.TheVariants.{Server as FromServer, Drive as FromDrive, Client as FromClient}
+use Rattle.osd_lists.specs.declared.node.Node.{Node}
+use Rattle.osd_lists.specs.declared.node.Node.TheVariants.{Server as FromServer, Drive as FromDrive, Client as FromClient}
 use Rattle.server_rules.specs.declared.limits.TheConstants.{MAX_CLIENT, GREATEST_TAG, GREATEST_SEQUENCE}
 use Rattle.server_rules.specs.State.{Server, File, Slot, Answer, JobKind, Job, ClientRequest, Reply, OrderKind, ToRecall, ToRevoke, ToDeclare, ToRebuild, ToAudit, RawMap, Refusal, Revoking, Rebuilding, Auditing, Outgoing, Answers}
 use Rattle.server_rules.specs.Slots.{Admit, New, Again, Misordered, admit, admit_after, slot_of}

@@ -1,7 +1,7 @@
 -- Messages as bytes: what the server reads of them, and the spelling of what it sends.
 use Rattle.std.specs.Prelude.{ℕ, List, Option, Some, None, Result, Ok, Err}
-use Rattle.osd_bytes.specs.declared.node.Node.{Node}
-use Rattle.osd_bytes.specs.declared.node.Node.TheVariants.{Server as TheServer, Drive as ADrive, Client as AClient}
+use Rattle.osd_lists.specs.declared.node.Node.{Node}
+use Rattle.osd_lists.specs.declared.node.Node.TheVariants.{Server as TheServer, Drive as ADrive, Client as AClient}
 use Rattle.layout_types.specs.declared.err.LayoutErr.{LayoutErr}
 use Rattle.layout_types.specs.declared.update.LayoutUpdate.{LayoutUpdate}
 use Rattle.layout_types.specs.declared.ioerrs.IoErrs.{IoErrs}

@@ -1,6 +1,6 @@
 -- What comes to a server, and the one function of all its steps.
 use Rattle.std.specs.Prelude.{ℕ, List, [], ◌∷◌, Result, Ok, Err, ◌≡◌, map}
-use Rattle.osd_bytes.specs.declared.node.Node.{Node}
+use Rattle.osd_lists.specs.declared.node.Node.{Node}
 use Rattle.server_rules.specs.State.{Server, RawMap, Drive, OrderKind, Outgoing, Note, Refusal}
 use Rattle.server_rules.specs.Files.{Step, still}
 use Rattle.server_rules.specs.Making.{add_drive, set_format, create_file}

@@ -1,7 +1,7 @@
 -- What holds of the state after each step.
 use Rattle.std.specs.Prelude.{ℕ, Bool, true, false, List, [], ◌∷◌, ◌++◌, Option, Some, None, ◌≡◌, ◌+◌, ◌≤◌, ◌<◌, ◌==◌, ◌&&◌, ◌⊎◌, nat_le, if◌then◌else◌}
-use Rattle.osd_bytes.specs.declared.node.Node.{Node}
-use Rattle.osd_bytes.specs.declared.node.Node.TheVariants.{Client as FromClient}
+use Rattle.osd_lists.specs.declared.node.Node.{Node}
+use Rattle.osd_lists.specs.declared.node.Node.TheVariants.{Client as FromClient}
 use Rattle.data_map.specs.Striping.{stripe_length}
 use Rattle.data_map.specs.Ranges.{HoldRange}
 use Rattle.server_rules.specs.declared.limits.TheConstants.{MAX_CLIENT}

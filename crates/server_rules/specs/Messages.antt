@@ -1,7 +1,7 @@
 -- The step of a message, and what is sent once more.
 use Rattle.std.specs.Prelude.{ℕ, Bool, List, [], ◌∷◌, Option, Some, None, ◌==◌, ◌&&◌, nat_lt, nat_le, flat_map, if◌then◌else◌}
-use Rattle.osd_bytes.specs.declared.node.Node.{Node}
-use Rattle.osd_bytes.specs.declared.node.Node.TheVariants.{Server as FromServer, Drive as FromDrive, Client as FromClient}
+use Rattle.osd_lists.specs.declared.node.Node.{Node}
+use Rattle.osd_lists.specs.declared.node.Node.TheVariants.{Server as FromServer, Drive as FromDrive, Client as FromClient}
 use Rattle.server_rules.specs.declared.limits.TheConstants.{MAX_CLIENT, COUNTERS_END}
 use Rattle.server_rules.specs.State.{Server, File, Awaited, Job, ClientRequest, Reply, Order, Outgoing}
 use Rattle.server_rules.specs.Going.{Going}

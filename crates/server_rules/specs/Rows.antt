@@ -1,7 +1,7 @@
 -- Worked rows: what comes to a server and what it then does, written out.
 use Rattle.std.specs.Prelude.{ℕ, Bool, true, false, List, [], ◌∷◌, None, ◌+◌, length, map, replicate, if◌then◌else◌}
 use Rattle.std.specs.Int.{w32, to_be_bytes}
-use Rattle.osd_bytes.specs.declared.node.Node.TheVariants.{Drive as FromDrive, Client as FromClient}
+use Rattle.osd_lists.specs.declared.node.Node.TheVariants.{Drive as FromDrive, Client as FromClient}
 use Rattle.osd_capability.specs.Keys.{key_of}
 use Rattle.osd_commands.specs.declared.actions.Action.{Action}
 use Rattle.osd_commands.specs.declared.actions.Action.TheVariants.{Create, Read, Write, GetAttr, SetTag}

@@ -1,5 +1,5 @@
-use osd_bytes::{Bytes, Sequence};
 use osd_commands::Command;
+use osd_lists::{Bytes, Sequence};
 
 /// Columns of one stripe.
 #[derive(Clone, Copy, Debug, PartialEq, Eq)]

@@ -1,6 +1,6 @@
 // What the server looks at in a client's request.
 use layout_types::IoErr;
-use osd_bytes::Sequence;
+use osd_lists::Sequence;
 
 /// What a request asks, with its body read.
 #[derive(Debug, Drop)]

@@ -3,8 +3,8 @@ use crate::jobs::AwaitedCommands;
 use crate::notes::{Mended, Note};
 use data_map::MapErr;
 use layout_ops::{Answer, OrderAnswer, Recall};
-use osd_bytes::Sequence;
 use osd_commands::Command;
+use osd_lists::Sequence;
 
 /// A drive as the server has it.
 #[derive(Clone, Copy, Debug, PartialEq, Eq)]

@@ -5,10 +5,10 @@ use Rattle.std.proofs.Math.Numerals.{add-one}
 use Rattle.osd_bytes.specs.Counts.{NoFewer}
 use Rattle.osd_bytes.specs.Records.{Split, fresh}
 use Rattle.osd_bytes.proofs.RecordLaws.{split-nil}
-use Rattle.osd_asking.specs.Asking.{Ends}
-use Rattle.osd_serving.specs.Inboxes.{Came, Coming, Reads, WasTaken}
-use Rattle.osd_serving.specs.Inboxes as over
-use Rattle.osd_serving.specs.declared.inbox.TheConstants.{MAX_TAKEN}
+use Rattle.osd_bytes.specs.Asking.{Ends}
+use Rattle.osd_bytes.specs.Inboxes.{Came, Coming, Reads, WasTaken}
+use Rattle.osd_bytes.specs.Inboxes as over
+use Rattle.osd_bytes.specs.declared.inbox.TheConstants.{MAX_TAKEN}
 use Rattle.server_rules.specs.declared.server.Server.{Server}
 use Rattle.server_serving.specs.Work.{InTurn, ServesRecord, Serving}
 use Rattle.server_serving.specs.Serving.{AcceptsOne, IsOver, ServesAll, ServesConnection, ServesPieces, ServesStream, Takes}

@@ -4,9 +4,9 @@ use Rattle.osd_bytes.specs.Causes.{Rose}
 use Rattle.osd_bytes.specs.Connections.{Accepts}
 use Rattle.osd_bytes.specs.Counts.{NoFewer}
 use Rattle.osd_bytes.specs.Records.{fresh, records_of, split}
-use Rattle.osd_asking.specs.Asking.{Ends}
-use Rattle.osd_serving.specs.Inboxes.{IsAtEnd, WasTaken}
-use Rattle.osd_serving.specs.declared.inbox.TheConstants.{MAX_TAKEN}
+use Rattle.osd_bytes.specs.Asking.{Ends}
+use Rattle.osd_bytes.specs.Inboxes.{IsAtEnd, WasTaken}
+use Rattle.osd_bytes.specs.declared.inbox.TheConstants.{MAX_TAKEN}
 use Rattle.server_rules.specs.declared.server.Server.{Server}
 use Rattle.server_rules.specs.Messages.{resend}
 use Rattle.server_requests.specs.Sending.{all_sent}

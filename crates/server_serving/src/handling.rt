@@ -1,16 +1,16 @@
 // A record of a node, handed to the server.
 ghost use Rattle.std.specs.Prelude.{◌≡◌, ◌++◌, Bool, List, IfOk, OnOk};
 ghost use Rattle.stripe_repair.specs.Placing.{IsPlacer};
-ghost use Rattle.osd_bytes.specs.declared.node.Node.TheVariants.{Drive};
-ghost use Rattle.osd_asking.specs.Asking.{ends_of};
+ghost use Rattle.osd_lists.specs.declared.node.Node.TheVariants.{Drive};
+ghost use Rattle.osd_bytes.specs.Asking.{ends_of};
 ghost use Rattle.server_requests.specs.declared.sending.Sent.{Sent};
 ghost use Rattle.server_serving.specs.Work.{AsksDrive, Handles, sender_of, serving};
 
 use crate::telling::tell_notes;
 use layout_ops::{Envelope, OpErr, read_envelope};
 use layout_server::{Sends, Sent, ServerCore, Step};
-use osd_asking::asked;
-use osd_bytes::{Bytes, Clock, Links, Memory, Node, Numbers};
+use osd_bytes::{Clock, Links, asked};
+use osd_lists::{Bytes, Memory, Node, Numbers};
 use std::alloc::Global;
 use stripe_repair::{DriveLoad, Placer};
 

@@ -1,16 +1,16 @@
 // The records of a connection, and one connection after the other.
 ghost use Rattle.std.specs.Prelude.{◌≡◌, [], IfOk, IsErrOf, OnOk};
 ghost use Rattle.stripe_repair.specs.Placing.{IsPlacer};
-ghost use Rattle.osd_asking.specs.Asking.{ends_of};
-ghost use Rattle.osd_serving.specs.declared.errors.ServeErr.TheVariants.{LinkFault};
+ghost use Rattle.osd_bytes.specs.Asking.{ends_of};
+ghost use Rattle.osd_bytes.specs.declared.serve_err.ServeErr.TheVariants.{LinkFault};
 ghost use Rattle.server_serving.specs.Work.{InTurn, ServesRecord, serving};
 ghost use Rattle.server_serving.specs.Serving.{IsRefused, ServesAll, ServesConnection, ServesStream};
 
 use crate::handling::{handle, sender_of};
 use crate::working::work_all;
 use layout_server::ServerCore;
-use osd_bytes::{ByteLists, Clock, Links, Memory, Numbers};
-use osd_serving::{Inbox, ServeErr};
+use osd_bytes::{Clock, Inbox, Links, ServeErr};
+use osd_lists::{ByteLists, Memory, Numbers};
 use std::alloc::Global;
 use stripe_repair::{DriveLoad, Placer};
 

@@ -5,7 +5,8 @@ ghost use Rattle.scenario_text.specs.LineSpelling.{line_text};
 ghost use Rattle.server_serving.specs.Telling.{note_texts};
 
 use layout_server::Notes;
-use osd_bytes::{Links, Memory};
+use osd_bytes::Links;
+use osd_lists::Memory;
 use scenario_text::{Line, write_line};
 use std::alloc::Global;
 use world_words::lines_of;

@@ -1,15 +1,15 @@
 // The messages that a server has to send, one after the other.
 ghost use Rattle.std.specs.Prelude.{◌≡◌, [], ℕ, List, Option, IfOk};
 ghost use Rattle.stripe_repair.specs.Placing.{IsPlacer};
-ghost use Rattle.osd_asking.specs.Asking.{ends_of};
+ghost use Rattle.osd_bytes.specs.Asking.{ends_of};
 ghost use Rattle.server_rules.specs.declared.server.Server.{Server};
 ghost use Rattle.server_requests.specs.declared.sending.Sent.{Sent};
 ghost use Rattle.server_serving.specs.Work.{InTurn, PutsIf, Works, WorksAll, is_sender, serving};
 
 use crate::handling::ask_drive;
 use layout_server::{Sends, Sent, ServerCore};
-use osd_bytes::{Clock, Links, Memory, Node, Numbers};
-use osd_serving::put_record;
+use osd_bytes::{Clock, Links, put_record};
+use osd_lists::{Memory, Node, Numbers};
 use std::alloc::Global;
 use std::mem;
 use stripe_repair::{DriveLoad, Placer};

@@ -1,7 +1,7 @@
 -- The slot of a client, by its number.
 use Rattle.std.specs.Prelude.{ℕ, List, [], ◌∷◌, ◌++◌, ◌≡◌, ◌<◌, ◌≤◌, ◌==◌, length, slice_set, suc, refl, Result, Ok, Err, OnOk}
 use Rattle.std.proofs.Common.{arith, inl, inr, ap, ◌∙◌}
-use Rattle.osd_bytes.specs.declared.memory.Memory.{Memory}
+use Rattle.osd_lists.specs.declared.memory.Memory.{Memory}
 use Rattle.std.proofs.lemmas.Bool.{cases_Bool}
 use Rattle.server_rules.specs.declared.server.Slot.{Slot}
 use Rattle.server_rules.specs.Slots.{keep}

@@ -16,7 +16,7 @@ use crate::slots::{KeptAnswer, slot_of};
 use crate::state::{Files, State};
 use crate::step::Step;
 use layout_ops::NFS4ERR_SEQ_MISORDERED;
-use osd_bytes::Memory;
+use osd_lists::Memory;
 use server_requests::{Sends, plain_answer};
 use server_rules::{ClientRequest, GREATEST_SEQUENCE};
 use std::alloc::Global;

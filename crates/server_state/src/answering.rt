@@ -6,7 +6,7 @@ ghost use Rattle.server_requests.specs.Sending.{sent_as};
 
 use crate::slots::{KeptAnswer, Slots, keep};
 use layout_ops::Answer;
-use osd_bytes::{Bytes, Memory, Node};
+use osd_lists::{Bytes, Memory, Node};
 use server_requests::{Sends, Sent, answer_bytes};
 use std::alloc::Global;
 

@@ -8,7 +8,7 @@ ghost use Rattle.server_state.specs.States.{server_of, IsGood, IsGoodBut, IsRead
 use crate::state::{Files, State};
 use drive_counts::DriveCounts;
 use file_jobs::FileState;
-use osd_bytes::Memory;
+use osd_lists::Memory;
 use reply_index::ReplyIndex;
 use std::alloc::Global;
 

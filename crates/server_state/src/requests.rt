@@ -13,7 +13,7 @@ use crate::state::State;
 use crate::step::Step;
 use file_requests::Asking;
 use layout_ops::{NFS4_OK, NFS4ERR_BADLAYOUT, NFS4ERR_NOENT};
-use osd_bytes::Memory;
+use osd_lists::Memory;
 use server_requests::{Sends, plain_answer, send_recalls, send_to_drives};
 use server_rules::{ClientRequest, Moved, RequestArgs};
 use std::alloc::Global;

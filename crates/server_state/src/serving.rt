@@ -7,7 +7,7 @@ use crate::state::Files;
 use file_jobs::FileState;
 use file_requests::{Asking, Outcome, serve};
 use layout_ops::Answer;
-use osd_bytes::Memory;
+use osd_lists::Memory;
 use server_requests::file_answer;
 use server_rules::{ClientRequest, Drive, Moved};
 use std::alloc::Global;

@@ -3,7 +3,7 @@ ghost use Rattle.server_state.specs.States.{Settles};
 
 use crate::state::State;
 use crate::step::{Notes, Repairs, Step};
-use osd_bytes::{Memory, Sequence};
+use osd_lists::{Memory, Sequence};
 use server_requests::{Sends, send_to_drives};
 use server_rules::Moved;
 use std::alloc::Global;

@@ -5,7 +5,7 @@ ghost use Rattle.server_requests.specs.Sending.{sent_as};
 ghost use Rattle.server_rules.specs.Slots.{slot_of, keep};
 ghost use Rattle.server_state.specs.Kept.{answer_in, IsKept, place_in};
 
-use osd_bytes::{Bytes, Memory, Node, Sequence};
+use osd_lists::{Bytes, Memory, Node, Sequence};
 use server_requests::Sent;
 use std::alloc::Global;
 use std::marker::Model;

@@ -1,4 +1,4 @@
-use osd_bytes::Sequence;
+use osd_lists::Sequence;
 use server_requests::Sends;
 use server_rules::{Mended, Note};
 

@@ -5,11 +5,9 @@ ghost use Rattle.stripe_repair.specs.Placing.{CanPlace, Places};
 use crate::messages::{Came, ORDER, Told, copied, framed, numbers, streams, went_out};
 use cluster_input::CommandStop;
 use cluster_text::ClusterKind;
-use osd_bytes::{
-    ByteLists, Bytes, Clock, Links, MemClock, MemLinks, MemSink, MemSource, Memory, Numbers, Sink,
-    Source, Times,
-};
+use osd_bytes::{Clock, Links, MemClock, MemLinks, MemSink, MemSource, Sink, Source};
 use osd_commands::{Reply, write_reply};
+use osd_lists::{ByteLists, Bytes, Memory, Numbers, Times};
 use server_command::server_command;
 use std::alloc::Global;
 use stripe_repair::{DriveLoad, Placer};

@@ -3,7 +3,8 @@ use crate::live::LiveLinks;
 use crate::messages::copied;
 use crate::parties::{ServerEnd, server_with_a_file};
 use client_exchanges::{DealErr, Notice, Notices, deal};
-use osd_bytes::{Bytes, Links};
+use osd_bytes::Links;
+use osd_lists::Bytes;
 use std::alloc::Global;
 use stripe_client::{CStep, CallOp, ClientCore, Outcome, Sends};
 

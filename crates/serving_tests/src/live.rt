@@ -3,7 +3,8 @@ ghost use Rattle.std.specs.Prelude.{◌≡◌, ◌≤◌, None, length};
 ghost use Rattle.osd_bytes.specs.Counts.{asking_count};
 ghost use Rattle.osd_links.specs.Linked.{Faulted};
 
-use osd_bytes::{Bytes, Fault, Links, Memory, Node, Peers};
+use osd_bytes::{Fault, Links, Peers};
+use osd_lists::{Bytes, Memory, Node};
 use std::alloc::Global;
 use std::marker::Model;
 

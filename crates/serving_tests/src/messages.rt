@@ -5,7 +5,8 @@ use layout_ops::{
     Args, Envelope, LayoutGetArgs, Order, OrderKind, Request, StateId, read_envelope,
     write_envelope,
 };
-use osd_bytes::{ByteLists, Bytes, MAX_RECORD, MemLinks, Numbers, Records, frame};
+use osd_bytes::{MAX_RECORD, MemLinks, Records, frame};
+use osd_lists::{ByteLists, Bytes, Numbers};
 use std::alloc::Global;
 
 /// What comes to the server.

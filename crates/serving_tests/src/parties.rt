@@ -8,8 +8,9 @@ use crate::live::{LiveLinks, Peer};
 use crate::messages::copied;
 use cluster_text::{Cluster, ClusterFile, Reader, read_cluster};
 use layout_server::ServerCore;
-use osd_bytes::{Bytes, Clock, Links, MemClock, Memory, Node, Numbers, Times};
+use osd_bytes::{Clock, Links, MemClock};
 use osd_drive::{DriveCore, DriveKey, KeyTable};
+use osd_lists::{Bytes, Memory, Node, Numbers, Times};
 use server_files::{make_files, server_of};
 use server_serving::serve;
 use std::alloc::Global;
@@ -62,7 +63,7 @@ fn drive_serves<L: Links, C: Clock>(
     links: &mut L,
     clock: &mut C,
 ) {
-    let _ = drive.serve(alloc, links, clock, 1);
+    let _ = drive_command::serve(alloc, drive, links, clock, 1);
 }
 
 // What a server does with one.

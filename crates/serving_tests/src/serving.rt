@@ -2,7 +2,8 @@ ghost use Rattle.stripe_repair.specs.Placing.{IsPlacer};
 
 use crate::messages::{Came, ORDER, Told, numbers, streams, went_out};
 use layout_server::{DriveTable, ServerCore};
-use osd_bytes::{ByteLists, Clock, Links, MemClock, MemLinks, Memory, Numbers, Times};
+use osd_bytes::{Clock, Links, MemClock, MemLinks};
+use osd_lists::{ByteLists, Memory, Numbers, Times};
 use server_serving::serve;
 use std::alloc::Global;
 use stripe_repair::{DriveLoad, Placer};

@@ -21,7 +21,7 @@ use layout_ops::{
     NFS4ERR_LAYOUTTRYLATER, NFS4ERR_LAYOUTUNAVAILABLE, NFS4ERR_NOENT, NFS4ERR_RECALLCONFLICT,
     Results,
 };
-use osd_bytes::Memory;
+use osd_lists::Memory;
 use std::alloc::Global;
 
 /// The status of an answer, whichever operation it answers.

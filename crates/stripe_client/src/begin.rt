@@ -12,7 +12,7 @@ use call_io::{CallPhase, begins};
 use client_rules::{CallOp, Need};
 use client_state::{Made, PendingCall, State, apply, go_on};
 use held_grants::{covers, file_of};
-use osd_bytes::Memory;
+use osd_lists::Memory;
 use std::alloc::Global;
 
 // The call needs the server, and waits with that while a request is outstanding.

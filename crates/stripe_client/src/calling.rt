@@ -17,7 +17,7 @@ use client_rules::{
 use client_state::{CStep, PendingCall, Sends, State, push_commands, push_request};
 use data_map::MAX_FILE_SIZE;
 use held_grants::{is_write, span_of};
-use osd_bytes::Memory;
+use osd_lists::Memory;
 use std::alloc::Global;
 use stripe_plan::Span;
 

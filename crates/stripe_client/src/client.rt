@@ -1,7 +1,7 @@
 ghost use Rattle.std.specs.Prelude.{◌≡◌, ◌≤◌, ◌<◌, None, IfOk, OnOk};
 ghost use Rattle.client_rules.specs.declared.limits.TheConstants.{MAX_CLIENT};
 ghost use Rattle.client_rules.specs.Envelopes.{in_envelope, on_message_in, on_bytes};
-ghost use Rattle.osd_bytes.specs.declared.node.Node.TheVariants as node;
+ghost use Rattle.osd_lists.specs.declared.node.Node.TheVariants as node;
 ghost use Rattle.client_state.specs.States.{client_of};
 ghost use Rattle.client_state.specs.Inside.{IsInside};
 ghost use Rattle.client_rules.specs.Steps.{new_client, calls, times_out, leaves, resent, awaits, awaited_component, next_sequence};
@@ -17,8 +17,8 @@ use client_rules::{Awaits, CallErr, CallOp};
 use client_state::{CStep, Outstanding, Sends, State};
 use held_grants::{Dues, HeldGrants};
 use layout_ops::{Envelope, OpErr, read_envelope};
-use osd_bytes::{Memory, Node};
 use osd_commands::{CommandErr, read_reply};
+use osd_lists::{Memory, Node};
 use std::alloc::Global;
 use std::marker::Model;
 

@@ -1,6 +1,6 @@
 // Replies of the drives, and drives that don't reply.
 ghost use Rattle.std.specs.Prelude.{◌≡◌, IfOk, OnOk};
-ghost use Rattle.osd_bytes.specs.declared.node.Node.TheVariants as node;
+ghost use Rattle.osd_lists.specs.declared.node.Node.TheVariants as node;
 ghost use Rattle.client_rules.specs.Messages.{hears, Replies};
 ghost use Rattle.client_rules.specs.Steps.{times_out};
 ghost use Rattle.held_grants.specs.Ranges.{AsksInFile};
@@ -13,8 +13,8 @@ use crate::stepping::{finish, quiet, still};
 use call_io::{replied, timed_out};
 use client_state::{CStep, Made, PendingCall, State, apply, go_on};
 use held_grants::file_of;
-use osd_bytes::Memory;
 use osd_commands::Reply;
+use osd_lists::Memory;
 use std::alloc::Global;
 
 // A reply to a command that the pending call awaits.

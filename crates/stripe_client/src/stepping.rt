@@ -1,6 +1,6 @@
 // The steps of a client's state.
 ghost use Rattle.std.specs.Prelude.{◌≡◌, [], None, IfOk, OnOk};
-ghost use Rattle.osd_bytes.specs.declared.node.Node.TheVariants as node;
+ghost use Rattle.osd_lists.specs.declared.node.Node.TheVariants as node;
 ghost use Rattle.client_rules.specs.Grants.{held_of};
 ghost use Rattle.client_rules.specs.Messages.{finished, hears, Answers, Recalls, on_call, recall_answer};
 ghost use Rattle.stripe_client.specs.Hearing.{nothing_made, awaits_answer, recall_status};
@@ -17,7 +17,7 @@ use held_grants::{grant_in, make_due};
 use layout_ops::{
     Answer, NFS4_OK, NFS4ERR_LAYOUTTRYLATER, NFS4ERR_NOMATCHING_LAYOUT, Recall, RecallAnswer,
 };
-use osd_bytes::Memory;
+use osd_lists::Memory;
 use std::alloc::Global;
 
 // Nothing was done yet.

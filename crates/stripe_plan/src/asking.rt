@@ -13,7 +13,7 @@ use crate::plan::{Aim, Ask, Asks, Interval, Out, Span, Stretch};
 use crate::row_index::RowIndex;
 use crate::touched::touched_stripes;
 use data_map::{DataMap, MAX_FILE_SIZE};
-use osd_bytes::Memory;
+use osd_lists::Memory;
 use std::alloc::Global;
 
 // These bytes of a component.

@@ -16,7 +16,7 @@ use crate::row_index::RowIndex;
 use crate::rows::{code_of, got_in};
 use crate::touched::own_columns;
 use data_map::{DataMap, MAX_FILE_SIZE};
-use osd_bytes::{Bytes, Memory, Rows};
+use osd_lists::{Bytes, Memory, Rows};
 use parity_code::{Code, parity_delta};
 use std::alloc::Global;
 

@@ -13,7 +13,7 @@ use crate::plan::{Interval, Span};
 use crate::rows::code_of;
 use crate::touched::unit_start;
 use data_map::{DataMap, MAX_FILE_SIZE};
-use osd_bytes::{Bytes, Memory, Rows};
+use osd_lists::{Bytes, Memory, Rows};
 use parity_code::encode;
 use std::alloc::Global;
 

@@ -7,7 +7,7 @@ ghost use Rattle.stripe_plan.specs.Indexed.{stretches_of, Indexes, Sifts};
 use crate::plan::{Column, Part};
 use crate::row_index::RowIndex;
 use data_map::DataMap;
-use osd_bytes::{Bytes, Memory, put_at};
+use osd_lists::{Bytes, Memory, put_at};
 use std::alloc::Global;
 
 // Writes the bytes that lie from `from` on over those of a buffer that lies from `offset` on, where they meet.

@@ -9,7 +9,7 @@ ghost use Rattle.stripe_plan.specs.Indexed.{Indexes, Sifts};
 use crate::plan::{Interval, Intervals, Stretch};
 use crate::row_index::RowIndex;
 use data_map::{DataMap, MAX_FILE_SIZE, MAX_STRIPE_UNIT};
-use osd_bytes::Memory;
+use osd_lists::Memory;
 use std::alloc::Global;
 
 // Columns of a stripe as bytes of a component.

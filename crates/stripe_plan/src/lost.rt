@@ -10,7 +10,7 @@ ghost use Rattle.stripe_plan.specs.Plans.{unless_lost, Gives};
 use crate::plan::{Out, PlanErr, Span};
 use crate::touched::{own_columns, touched_stripes};
 use data_map::{DataMap, MAX_FILE_SIZE};
-use osd_bytes::{Memory, Numbers};
+use osd_lists::{Memory, Numbers};
 use std::alloc::Global;
 
 // Whether a component is out.

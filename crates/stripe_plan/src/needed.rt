@@ -11,7 +11,7 @@ use crate::lost::{is_hit, positions_out};
 use crate::plan::{Aim, Intervals, Out, Span};
 use crate::touched::{holds_whole, own_columns, touched_columns};
 use data_map::{DataMap, MAX_FILE_SIZE};
-use osd_bytes::Memory;
+use osd_lists::Memory;
 use std::alloc::Global;
 
 /// Whether a position of a stripe's group is out.

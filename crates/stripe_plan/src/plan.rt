@@ -1,6 +1,6 @@
 ghost use Rattle.std.specs.Prelude.{◌≡◌};
 
-use osd_bytes::{Bytes, Memory, Numbers, Sequence};
+use osd_lists::{Bytes, Memory, Numbers, Sequence};
 use thiserror::Error;
 
 /// A range of a file's bytes.

@@ -8,7 +8,7 @@ use crate::laying::{bytes_of, index_columns};
 use crate::lost::{check_readable, check_writable};
 use crate::plan::{Aim, Asks, Columns, Out, Part, Piece, Pieces, PlanErr, Span, Writes};
 use data_map::{DataMap, MAX_FILE_SIZE};
-use osd_bytes::Memory;
+use osd_lists::Memory;
 use std::alloc::Global;
 
 // The ranges of components that are asked.

@@ -15,7 +15,7 @@ use crate::row_index::RowIndex;
 use crate::rows::{decoded_rows, got_in};
 use crate::touched::{own_columns, touched_stripes};
 use data_map::{DataMap, MAX_FILE_SIZE};
-use osd_bytes::{Bytes, Memory};
+use osd_lists::{Bytes, Memory};
 use std::alloc::Global;
 
 // The bytes of a data unit in these columns.

@@ -4,7 +4,7 @@ ghost use Rattle.std.specs.Prelude.{◌+◌, ◌*◌, ◌/◌, true, IfOk, OnOk}
 ghost use Rattle.stripe_plan.specs.declared.plan.Stretch.{Stretch};
 ghost use Rattle.stripe_plan.specs.Indexed.{list_of, AreEmpty, IsInRow, IsSound, Indexes, Sifts};
 
-use osd_bytes::{Memory, Sequence};
+use osd_lists::{Memory, Sequence};
 use std::alloc::Global;
 
 // Numbers of pieces, rising.

@@ -11,7 +11,7 @@ use crate::lost::is_out;
 use crate::plan::{Fetched, Interval, Out};
 use crate::row_index::RowIndex;
 use data_map::{DataMap, MAX_FILE_SIZE, RAID_0, RAID_PQ};
-use osd_bytes::{Bytes, Memory, Numbers, Rows};
+use osd_lists::{Bytes, Memory, Numbers, Rows};
 use parity_code::{Code, decode};
 use std::alloc::Global;
 

@@ -7,7 +7,7 @@ ghost use Rattle.stripe_plan.specs.Touched.{columns, whole};
 
 use crate::plan::{Interval, Intervals, Span};
 use data_map::{DataMap, MAX_FILE_SIZE, MAX_STRIPE_UNIT, MAX_WIDTH};
-use osd_bytes::Memory;
+use osd_lists::Memory;
 use std::alloc::Global;
 
 /// The first stripe that a range touches, and the end of the stripes that it touches; no stripe where it is empty. The

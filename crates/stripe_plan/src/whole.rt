@@ -14,7 +14,7 @@ use crate::plan::{Column, Columns, Out, Span};
 use crate::rows::code_of;
 use crate::touched::own_columns;
 use data_map::{DataMap, MAX_FILE_SIZE};
-use osd_bytes::{Bytes, Memory, Rows};
+use osd_lists::{Bytes, Memory, Rows};
 use parity_code::encode;
 use std::alloc::Global;
 use std::mem;

@@ -21,7 +21,7 @@ use crate::rows::decoded_rows;
 use crate::touched::{holds_whole, own_columns, touched_columns, touched_stripes};
 use crate::whole::push_whole;
 use data_map::{DataMap, MAX_FILE_SIZE};
-use osd_bytes::{Bytes, Memory, Rows, Sequence};
+use osd_lists::{Bytes, Memory, Rows, Sequence};
 use std::alloc::Global;
 
 // The parity of some columns after the write, as the last rows: of decoded data with the new, or the old changed.

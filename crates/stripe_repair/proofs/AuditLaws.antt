@@ -3,7 +3,7 @@ use Rattle.std.proofs.Common.{◌≡◌, ℕ, List, [], ◌∷◌, Some, None, l
 use Rattle.std.specs.Prelude.{Result, Ok, Err, IfOk, slice_get, slice_range, nat_lt}
 use Rattle.std.proofs.lemmas.Bool.{cases_Bool}
 use Rattle.std.proofs.lemmas.List.{take_all}
-use Rattle.osd_bytes.specs.declared.memory.Memory.{Memory}
+use Rattle.osd_lists.specs.declared.memory.Memory.{Memory}
 use Rattle.data_map.specs.Striping.{group_of}
 use Rattle.server_rules.specs.declared.files.Kept.{Kept}
 use Rattle.server_rules.specs.declared.jobs.Piece.{Piece}

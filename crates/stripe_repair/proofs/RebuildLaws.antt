@@ -5,7 +5,7 @@ use Rattle.std.specs.List.{All}
 use Rattle.std.proofs.lemmas.Bool.{cases_Bool, cases_lt}
 use Rattle.std.proofs.lemmas.Bool.Decides.{eqb_tells, nat_tests}
 use Rattle.std.proofs.lemmas.List.Elements.{All-nil, All-cons, All-tail}
-use Rattle.osd_bytes.specs.declared.memory.Memory.{Memory}
+use Rattle.osd_lists.specs.declared.memory.Memory.{Memory}
 use Rattle.data_map.specs.declared.check.RawMap.{RawMap}
 use Rattle.data_map.specs.declared.ranges.TheConstants.{MAX_FILE_SIZE}
 use Rattle.data_map.specs.Check.{IsChecked}

@@ -5,7 +5,7 @@ use Rattle.std.specs.Result.{ForOk}
 use Rattle.std.specs.Prelude.{Result}
 use Rattle.std.specs.Fn.{Shared}
 use Rattle.std.specs.Borrow.{Bor}
-use Rattle.osd_bytes.specs.declared.memory.Memory.{Memory}
+use Rattle.osd_lists.specs.declared.memory.Memory.{Memory}
 use Rattle.stripe_repair.specs.declared.loads.DriveLoad.{DriveLoad}
 use Rattle.stripe_repair.specs.declared.loads.TheConstants.{MAX_DRIVES}
 

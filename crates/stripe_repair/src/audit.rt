@@ -17,7 +17,7 @@ use crate::lengths::{lengths_of, present_lengths};
 use crate::marks::Marks;
 use crate::reading::{mark_short, reads};
 use data_map::DataMap;
-use osd_bytes::{Memory, Sequence};
+use osd_lists::{Memory, Sequence};
 use server_rules::{AwaitedCommands, Component, Heard, Kept, Measured, Piece};
 use std::alloc::Global;
 use std::marker::Model;

@@ -6,7 +6,7 @@ ghost use Rattle.stripe_repair.specs.Pieces.{IsPiece};
 
 use crate::reading::has_short_stripe;
 use crate::writing::stores;
-use osd_bytes::Memory;
+use osd_lists::Memory;
 use server_rules::{Heard, Kept, Piece};
 use std::alloc::Global;
 

@@ -8,7 +8,7 @@ ghost use Rattle.stripe_repair.specs.Pieces.{wanted_rows};
 
 use crate::rows::unit_rows;
 use data_map::DataMap;
-use osd_bytes::{Memory, Rows};
+use osd_lists::{Memory, Rows};
 use parity_code::{Code, encode};
 use server_rules::{Component, Heard};
 use std::alloc::Global;

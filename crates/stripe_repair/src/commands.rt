@@ -8,9 +8,9 @@ ghost use Rattle.stripe_repair.specs.Asks.{asked, meant};
 
 use crate::standing::{group_with, replica};
 use data_map::DataMap;
-use osd_bytes::{Bytes, Memory, put_u32, put_u64};
 use osd_capability::{CHECK_BYTES, Capability};
 use osd_commands::{Action, Command};
+use osd_lists::{Bytes, Memory, put_u32, put_u64};
 use server_rules::{
     ALL_RIGHTS, Awaited, AwaitedCommands, FIRST_PARTITION, KEY_VERSION, Kept, LENGTH_ATTRIBUTE,
     NO_EXPIRY, SERVER_HOLDER, Target, WHOLE_OBJECT,

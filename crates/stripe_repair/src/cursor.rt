@@ -3,7 +3,7 @@ ghost use Rattle.server_rules.specs.Maps.{pieces, pieces_along};
 ghost use Rattle.server_rules.specs.declared.grants.Stripes.{Stripes as AStripes};
 ghost use Rattle.stripe_repair.specs.Cursor.{rest_at, rest_in, piece_at, IsSettled};
 
-use osd_bytes::Sequence;
+use osd_lists::Sequence;
 use server_rules::{MAX_PIECE, Piece, Stripes};
 use std::alloc::Global;
 use std::marker::Model;

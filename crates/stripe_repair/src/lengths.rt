@@ -5,7 +5,7 @@ ghost use Rattle.server_rules.specs.declared.limits.TheConstants.{MAX_OBJECT_LEN
 ghost use Rattle.server_rules.specs.Audit.{length_in, lengths_of, present_lengths};
 ghost use Rattle.stripe_repair.specs.Lengths.{length_of, AreLengths};
 
-use osd_bytes::{Memory, Sequence, u64_at};
+use osd_lists::{Memory, Sequence, u64_at};
 use server_rules::{Component, Heard, MAX_OBJECT_LENGTH, Measured};
 use std::alloc::Global;
 

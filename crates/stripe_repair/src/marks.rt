@@ -2,7 +2,7 @@
 ghost use Rattle.std.specs.Prelude.{◌≡◌, length, [], OnOk, OnErr};
 ghost use Rattle.server_rules.specs.Numbers.{among, marked};
 
-use osd_bytes::{Memory, Times};
+use osd_lists::{Memory, Times};
 use std::alloc::Global;
 use std::marker::Model;
 

@@ -3,7 +3,7 @@ ghost use Rattle.std.specs.Result.{ForOk};
 ghost use Rattle.stripe_repair.specs.Placing.{CanPlace, Places, IsPlacer};
 
 use crate::loads::DriveLoad;
-use osd_bytes::{Memory, Numbers};
+use osd_lists::{Memory, Numbers};
 use std::marker::Model;
 
 /// A rule that chooses drives. Contracts see it as the closure.

@@ -13,7 +13,7 @@ use crate::marks::Marks;
 use crate::offsets::offset_of;
 use crate::standing::{group_with, is_beyond, is_short, replica};
 use data_map::DataMap;
-use osd_bytes::Memory;
+use osd_lists::Memory;
 use server_rules::{AwaitedCommands, Kept, Piece, Target};
 use std::alloc::Global;
 

@@ -18,7 +18,7 @@ use crate::reading::sources;
 use crate::restored::{fill, made};
 use crate::standing::{group_with, lacking};
 use data_map::DataMap;
-use osd_bytes::{Memory, Numbers};
+use osd_lists::{Memory, Numbers};
 use server_rules::{Awaited, AwaitedCommands, Heard, Kept, Piece, Target};
 use std::alloc::Global;
 use std::marker::Model;

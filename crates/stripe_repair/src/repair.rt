@@ -16,7 +16,7 @@ use crate::marks::Marks;
 use crate::reading::{mark_short, repair_reads};
 use crate::writing::stores;
 use data_map::DataMap;
-use osd_bytes::{Memory, Sequence};
+use osd_lists::{Memory, Sequence};
 use server_rules::{AwaitedCommands, Heard, Kept, Stripes};
 use std::alloc::Global;
 use std::marker::Model;

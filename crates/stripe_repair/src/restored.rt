@@ -15,7 +15,7 @@ use crate::rows::{row_from, unit_rows, zeros};
 use crate::standing::replica;
 use crate::writing::write_columns;
 use data_map::DataMap;
-use osd_bytes::{Bytes, Memory, Numbers, Rows};
+use osd_lists::{Bytes, Memory, Numbers, Rows};
 use parity_code::decode;
 use server_rules::{Awaited, Component, Heard, Kept, Piece, Target};
 use std::alloc::Global;

@@ -5,7 +5,7 @@ ghost use Rattle.server_rules.specs.Columns.{row_from, row_at, unit_rows};
 use crate::columns::filled;
 use crate::standing::replica;
 use data_map::DataMap;
-use osd_bytes::{Bytes, Memory, Rows};
+use osd_lists::{Bytes, Memory, Rows};
 use server_rules::{Component, Heard};
 use std::alloc::Global;
 

@@ -5,7 +5,7 @@ ghost use Rattle.server_rules.specs.Maps.{group_with};
 ghost use Rattle.server_rules.specs.Standing.{replica, lacking, is_beyond, is_short};
 
 use data_map::DataMap;
-use osd_bytes::{Memory, Numbers};
+use osd_lists::{Memory, Numbers};
 use server_rules::Component;
 use std::alloc::Global;
 

@@ -10,7 +10,7 @@ use crate::commands::write_to;
 use crate::offsets::offset_of;
 use crate::rows::row_from;
 use crate::standing::group_with;
-use osd_bytes::{Bytes, Memory, Rows};
+use osd_lists::{Bytes, Memory, Rows};
 use server_rules::{Awaited, AwaitedCommands, Component, Heard, Kept, Piece, Target};
 use std::alloc::Global;
 

@@ -1,6 +1,6 @@
 -- In each world, what the server answered gives grants of files that are there still, whose tags haven't fallen since.
 use Rattle.std.proofs.Common.{◌≡◌, ◌⊎◌, ℕ, ◌≤◌, List, map, Some, refl, sym, ap, subst, ◌∙◌, arith, inl, inr}
-use Rattle.osd_bytes.specs.declared.node.Node.TheVariants as node
+use Rattle.osd_lists.specs.declared.node.Node.TheVariants as node
 use Rattle.layout_ops.specs.declared.envelope.Envelope.{Envelope}
 use Rattle.layout_ops.specs.declared.envelope.Envelope.TheVariants as envelope
 use Rattle.layout_ops.specs.declared.results.LayoutGetResult.TheVariants as get

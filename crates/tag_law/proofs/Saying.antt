@@ -1,8 +1,8 @@
 -- What the server answers in a step: what it kept, or what it gives of the file as the step leaves it.
 use Rattle.std.proofs.Common.{◌≡◌, ◌⊎◌, ◌&&◌, ◌==◌, ℕ, ◌+◌, ◌≤◌, ◌∷◌, [], List, Bool, true, false, nat_le, find, flat_map, Option, Some, None, refl, sym, ap, subst, ◌∙◌, arith, inl, inr, if◌then◌else◌}
 use Rattle.std.proofs.lemmas.Bool.{cases_Bool}
-use Rattle.osd_bytes.specs.declared.node.Node.{Node}
-use Rattle.osd_bytes.specs.declared.node.Node.TheVariants as node
+use Rattle.osd_lists.specs.declared.node.Node.{Node}
+use Rattle.osd_lists.specs.declared.node.Node.TheVariants as node
 use Rattle.layout_ops.specs.declared.results.LayoutGetOk.{LayoutGetOk}
 use Rattle.layout_ops.specs.declared.results.LayoutGetResult.TheVariants as get
 use Rattle.layout_ops.specs.declared.results.Results.{Results}

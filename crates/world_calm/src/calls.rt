@@ -3,8 +3,8 @@ ghost use Rattle.std.specs.List.{fold};
 ghost use Rattle.world_history.specs.State.{at_number, without_number};
 ghost use Rattle.world_calm.specs.Log.{begun_for, called, finished, forgot, is_for, no_log, number_for, reads, sends, sent_as, started, under_with, write_by};
 
-use osd_bytes::{Memory, Sequence};
 use osd_commands::{Action, Command};
+use osd_lists::{Memory, Sequence};
 use std::alloc::Global;
 use std::collections::BTreeMap;
 use std::marker::Model;

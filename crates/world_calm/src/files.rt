@@ -6,7 +6,7 @@ ghost use Rattle.world_calm.specs.declared.files.TheConstants.{MAX_OFFSET};
 ghost use Rattle.world_calm.specs.Files.{component_as, file_as, is_short_at, is_short_in, missing, no_files, seen_as, shown, standing, standing_on, stripe_in, stripes_at};
 
 use data_map::DataMap;
-use osd_bytes::{Memory, Numbers, Sequence};
+use osd_lists::{Memory, Numbers, Sequence};
 use server_rules::{Component, Components, Kept};
 use std::alloc::Global;
 use std::collections::BTreeMap;

@@ -7,7 +7,7 @@ use crate::calls::LogEntry;
 use crate::files::StripeOf;
 use crate::marks::NewMark;
 use crate::reading::returned_by;
-use osd_bytes::Memory;
+use osd_lists::Memory;
 use scenario_text::{Call, Event, Line, Party};
 use server_rules::Mended;
 use std::alloc::Global;

@@ -6,7 +6,7 @@ ghost use Rattle.world_calm.specs.Marking.{and_stripe, any_harmed, any_newly_har
 
 use crate::files::{SeenFiles, among};
 use crate::view::{KeptFiles, is_live};
-use osd_bytes::{Memory, Sequence};
+use osd_lists::{Memory, Sequence};
 use server_rules::{Mended, Stripes};
 use std::alloc::Global;
 use std::marker::Model;

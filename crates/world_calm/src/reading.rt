@@ -13,8 +13,8 @@ use layout_ops::{
     Answer, Args, Envelope, LayoutCommitResult, LayoutGetResult, LayoutReturnResult, NFS4_OK,
     OpErr, Results, StateId, read_envelope,
 };
-use osd_bytes::{Memory, u32_at};
 use osd_commands::{Command, CommandErr, read_command};
+use osd_lists::{Memory, u32_at};
 use scenario_text::{Line, Party};
 use std::alloc::Global;
 

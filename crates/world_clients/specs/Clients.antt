@@ -1,6 +1,6 @@
 -- The clients by number: what the world does with a named one.
 use Rattle.std.specs.Prelude.{ℕ, Bool, true, List, ◌≡◌, Option, Some, None, is_some, if◌then◌else◌}
-use Rattle.osd_bytes.specs.declared.node.Node.{Node}
+use Rattle.osd_lists.specs.declared.node.Node.{Node}
 use Rattle.scenario_text.specs.declared.line.Delivery.TheVariants as delivery
 use Rattle.world_words.specs.declared.acts.Act.{Act}
 use Rattle.world_words.specs.declared.acts.Handed.{Handed}

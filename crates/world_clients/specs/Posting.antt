@@ -1,8 +1,8 @@
 -- What a client sends, as messages of the world.
 use Rattle.std.specs.Prelude.{ℕ, Bool, false, List, [], ◌∷◌, ◌++◌, ◌||◌, ◌&&◌, ◌==◌, not, nat_le, slice_range, length, Option, Some, None, if◌then◌else◌}
 use Rattle.std.specs.Int.{w16, from_be_bytes}
-use Rattle.osd_bytes.specs.declared.node.Node.{Node}
-use Rattle.osd_bytes.specs.declared.node.Node.TheVariants as node
+use Rattle.osd_lists.specs.declared.node.Node.{Node}
+use Rattle.osd_lists.specs.declared.node.Node.TheVariants as node
 use Rattle.osd_commands.specs.declared.actions.Action.TheVariants as action
 use Rattle.osd_commands.specs.Actions.{number_of}
 use Rattle.scenario_text.specs.declared.line.Party.{Party}

@@ -10,7 +10,7 @@ ghost use Rattle.world_clients.specs.Steps.{Steps};
 use crate::posting::{any_write, data_of, postings};
 use client_rules::{Awaits, CallErr, CallOp, Outcome as RulesOutcome};
 use client_state::CStep;
-use osd_bytes::{Memory, Node};
+use osd_lists::{Memory, Node};
 use scenario_text::{CallKind, ClientName, Ending, Line, Outcome, Refusal};
 use std::alloc::Global;
 use std::marker::Model;

@@ -8,7 +8,7 @@ ghost use Rattle.world_clients.specs.Clients.{did, Does, heard_one, HearsOne, he
 
 use crate::client::WorldClient;
 use client_rules::CallOp;
-use osd_bytes::{Memory, Node};
+use osd_lists::{Memory, Node};
 use scenario_text::{ClientName, Delivery};
 use std::alloc::Global;
 use std::collections::BTreeMap;

@@ -6,8 +6,8 @@ ghost use Rattle.world_clients.specs.Posting.{is_write, logged_with, posting, po
 
 use client_rules::CallOp;
 use client_state::Sent;
-use osd_bytes::{Bytes, Memory, Node, u16_at};
 use osd_commands::Action;
+use osd_lists::{Bytes, Memory, Node, u16_at};
 use scenario_text::{ClientName, Party};
 use std::alloc::Global;
 use world_network::Posting;

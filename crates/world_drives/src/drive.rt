@@ -3,9 +3,9 @@ ghost use Rattle.osd_commands.specs.Commands.{reading, allows};
 ghost use Rattle.world_history.specs.Drives.{judges, first_key, made_drive, raised, at_time, fallen};
 ghost use Rattle.world_drives.specs.Drive.{Judges};
 
-use osd_bytes::Memory;
 use osd_commands::{Command, CommandErr, Reply, read_command};
 use osd_drive::{DriveCore, DriveKey, KeyTable, Verdict as DriveVerdict};
+use osd_lists::Memory;
 use scenario_text::Verdict;
 use server_rules::KEY_VERSION;
 use std::alloc::Global;

@@ -6,8 +6,8 @@ ghost use Rattle.world_history.specs.Drives.{Judged as WorldJudged, made_drive, 
 ghost use Rattle.world_drives.specs.Drives.{changed, replied, heard_one, HearsOne, heard, Hears, injected, Injects};
 
 use crate::drive::{Judged, WorldDrive};
-use osd_bytes::Memory;
 use osd_commands::write_reply;
+use osd_lists::Memory;
 use scenario_text::{Delivery, DriveName, Party, Verdict};
 use std::alloc::Global;
 use std::collections::BTreeMap;

@@ -3,8 +3,8 @@ ghost use Rattle.osd_drive.specs.Table.{is_checked};
 ghost use Rattle.world_guesses.specs.Guessing.{injects, no_guess, opens, sees, sees_event};
 
 use crate::sightings::Sightings;
-use osd_bytes::Memory;
 use osd_commands::{Command, CommandErr, holds, read_command};
+use osd_lists::Memory;
 use scenario_text::{DriveName, Event, Line, Party};
 use server_rules::KEY_VERSION;
 use std::alloc::Global;

@@ -1,7 +1,7 @@
 ghost use Rattle.std.specs.Prelude.{◌≡◌, [], OnOk, Some, slice_get};
 ghost use Rattle.world_guesses.specs.Sighted.{first_same, is_same_at, nonce_in, of_nonce, sees_message, sighted, with_number};
 
-use osd_bytes::{Memory, Sequence, u64_at};
+use osd_lists::{Memory, Sequence, u64_at};
 use scenario_text::{DriveName, Party};
 use std::alloc::Global;
 use std::collections::BTreeMap;

@@ -1,7 +1,7 @@
 -- Messages as bytes, and parties as lines name them.
 use Rattle.std.specs.Prelude.{ℕ, List, length}
-use Rattle.osd_bytes.specs.declared.node.Node.{Node}
-use Rattle.osd_bytes.specs.declared.node.Node.TheVariants as node
+use Rattle.osd_lists.specs.declared.node.Node.{Node}
+use Rattle.osd_lists.specs.declared.node.Node.TheVariants as node
 use Rattle.layout_ops.specs.Spelling.{envelope_item}
 use Rattle.osd_commands.specs.Commands as commands
 use Rattle.osd_commands.specs.Replies as replies

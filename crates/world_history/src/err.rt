@@ -1,4 +1,4 @@
-use osd_bytes::Memory;
+use osd_lists::Memory;
 use thiserror::Error;
 
 /// Why an event isn't carried out, or ended the world: the first that applies.

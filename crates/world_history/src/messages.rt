@@ -1,6 +1,6 @@
 use layout_ops::Envelope;
-use osd_bytes::{Bytes, Node};
 use osd_commands::{Command, Reply};
+use osd_lists::{Bytes, Node};
 use scenario_text::Party;
 
 /// What a message says. On the wire it is the one spelling of this.

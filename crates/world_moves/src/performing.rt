@@ -2,7 +2,7 @@ ghost use Rattle.std.specs.Prelude.{◌≡◌, ◌++◌, ◌∷◌, ◌<◌, [],
 ghost use Rattle.world_network.specs.Posting.{IsFront};
 ghost use Rattle.world_moves.specs.Moving.{no_line, Performs};
 
-use osd_bytes::Memory;
+use osd_lists::Memory;
 use scenario_text::Line;
 use std::alloc::Global;
 use std::mem;

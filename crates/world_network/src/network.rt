@@ -4,7 +4,7 @@ ghost use Rattle.world_network.specs.Posting.{PostsAll};
 ghost use Rattle.world_network.specs.Network.{is_pending, Delivers, Drops, PendingIs, empty_network};
 
 use crate::posting::Posting;
-use osd_bytes::{Bytes, Sequence};
+use osd_lists::{Bytes, Sequence};
 use scenario_text::{Line, Party};
 use std::alloc::Global;
 use std::marker::Model;

@@ -1,4 +1,4 @@
-use osd_bytes::Bytes;
+use osd_lists::Bytes;
 use scenario_text::Party;
 
 /// A message that is to be sent.

@@ -1,7 +1,7 @@
 -- A step of the server of the code is what the world does there.
 use Rattle.std.proofs.Common.{◌≡◌, ℕ, Bool, true, false, List, [], ◌∷◌, Option, Some, None, refl, sym, ap, subst, ◌∙◌, map}
 use Rattle.std.specs.List.{filter, filter_map, list_any}
-use Rattle.osd_bytes.specs.declared.node.Node.{Node}
+use Rattle.osd_lists.specs.declared.node.Node.{Node}
 use Rattle.server_rules.specs.declared.server.Server.{Server}
 use Rattle.server_rules.specs.Files.{Step as RulesStep}
 use Rattle.server_rules.specs.Messages.{Message as ServerMessage}

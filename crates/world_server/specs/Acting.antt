@@ -1,7 +1,7 @@
 -- What a call of the server did, as each world has it in which the server is this one.
 use Rattle.std.specs.Prelude.{ℕ, Bool, true, List, [], map, filter, ◌≡◌, Result, Ok, Err}
 use Rattle.std.specs.List.{filter_map}
-use Rattle.osd_bytes.specs.declared.node.Node.{Node}
+use Rattle.osd_lists.specs.declared.node.Node.{Node}
 use Rattle.data_map.specs.declared.check.RawMap.{RawMap}
 use Rattle.server_rules.specs.declared.notes.Mended.{Mended}
 use Rattle.server_rules.specs.declared.server.Server.{Server}

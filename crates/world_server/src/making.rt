@@ -7,7 +7,7 @@ ghost use Rattle.world_server.specs.Making.{IsRefusedAs};
 
 use data_map::{RAID_0, RAID_PQ, RawMap};
 use layout_server::FileErr;
-use osd_bytes::Memory;
+use osd_lists::Memory;
 use scenario_text::{FileMap, FileName, Line, Note};
 use server_rules::Drive;
 use std::alloc::Global;

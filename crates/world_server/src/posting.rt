@@ -3,7 +3,7 @@ ghost use Rattle.std.specs.Prelude.{◌≡◌, ◌++◌, IfOk, OnOk};
 ghost use Rattle.world_server.specs.Posting.{posting, postings};
 
 use layout_server::Sent;
-use osd_bytes::{Bytes, Memory};
+use osd_lists::{Bytes, Memory};
 use scenario_text::Party;
 use std::alloc::Global;
 use world_network::Posting;

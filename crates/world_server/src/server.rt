@@ -14,7 +14,7 @@ ghost use Rattle.world_server.specs.Acting.{Acts, Adds, Does, Gives, Hears, Make
 use crate::making::{has_algorithm, has_number, raw_map, tell_refusal};
 use crate::posting::postings;
 use layout_server::{DriveInfo, DriveTable, Repairs, ServerCore, Step};
-use osd_bytes::{Memory, Node, Numbers};
+use osd_lists::{Memory, Node, Numbers};
 use scenario_text::{Delivery, DriveName, FileMap, FileName, Line, MapFault, Note};
 use server_rules::Kept;
 use std::alloc::Global;

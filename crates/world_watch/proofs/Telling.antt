@@ -5,8 +5,8 @@ use Rattle.std.specs.List.{cons_option, filter_map}
 use Rattle.std.proofs.lemmas.Bool.Decides.{nat_tests}
 use Rattle.std.proofs.lemmas.List.{append-nil, length-append}
 use Rattle.std.proofs.lemmas.List.Sums.{fold-append}
-use Rattle.osd_bytes.specs.declared.node.Node.{Node}
-use Rattle.osd_bytes.specs.declared.node.Node.TheVariants as node
+use Rattle.osd_lists.specs.declared.node.Node.{Node}
+use Rattle.osd_lists.specs.declared.node.Node.TheVariants as node
 use Rattle.server_rules.specs.Files.{Step as ServerStep}
 use Rattle.server_rules.specs.Messages.{Message as ServerMessage}
 use Rattle.server_rules.specs.History.{Hears as ServerHears, step as server_step}

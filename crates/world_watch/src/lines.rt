@@ -5,7 +5,7 @@ ghost use Rattle.world_history.specs.Summing.{counts_line};
 ghost use Rattle.world_tally.specs.Capping.{Counts};
 ghost use Rattle.world_watch.specs.Watching.{sees_all};
 
-use osd_bytes::Memory;
+use osd_lists::Memory;
 use scenario_text::Line;
 use std::alloc::Global;
 use world_guesses::Guesses;

@@ -6,7 +6,7 @@ ghost use Rattle.world_watch.specs.Watching.{HasSeen};
 
 use crate::lines::{count_all, see_all};
 use crate::steps::see_steps;
-use osd_bytes::Memory;
+use osd_lists::Memory;
 use scenario_text::Line;
 use server_rules::Mended;
 use std::alloc::Global;

@@ -1,7 +1,7 @@
 ghost use Rattle.std.specs.Prelude.{◌≡◌, IfOk};
 ghost use Rattle.world_words.specs.Acts.{nothing, line_alone, one_post};
 
-use osd_bytes::{Memory, Sequence};
+use osd_lists::{Memory, Sequence};
 use scenario_text::{Delivery, Line};
 use std::alloc::Global;
 use world_network::{Lines, Posting};

@@ -2,7 +2,7 @@ ghost use Rattle.std.specs.Prelude.{◌≡◌};
 ghost use Rattle.world_history.specs.Spelled.{node_of};
 ghost use Rattle.world_history.specs.Names.{named_party};
 
-use osd_bytes::Node;
+use osd_lists::Node;
 use scenario_text::{ClientName, DriveName, Party};
 
 /// A party as a line names it, `None` exactly where no line can.

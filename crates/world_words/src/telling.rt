@@ -5,7 +5,7 @@ ghost use Rattle.world_history.specs.Names.{known_note_line};
 ghost use Rattle.world_words.specs.Telling.{no_note, told_as};
 
 use crate::notes::note_line;
-use osd_bytes::{Memory, Sequence};
+use osd_lists::{Memory, Sequence};
 use server_rules::{Note as FileNote, NoteKind};
 use std::alloc::Global;
 use std::mem;

@@ -1,6 +1,6 @@
 -- A reading function and a spelling that are each other's inverse.
 use Rattle.std.proofs.Common.{◌≡◌, ℕ, List, ◌++◌, Result, Ok}
-use Rattle.osd_bytes.specs.Blocks.{IsBytes}
+use Rattle.osd_lists.specs.Blocks.{IsBytes}
 use Rattle.xdr_codec.specs.Reading.{Rest}
 
 pub record IsCodec {V E : Type 0} (reading : Rest → Result (V × Rest) E) (spelling : V → List ℕ) (Fits : V → Type 0) : Type 0 where

@@ -7,8 +7,8 @@ use Rattle.std.proofs.lemmas.Bool.{eqb-true, ltb-false, le-ltb}
 use Rattle.std.proofs.lemmas.Int.{of_z-to_z, to_z-of_z}
 use Rattle.std.proofs.lemmas.List.{take-append-drop, take_at, drop_at, length-append, length-take, length-replicate, get_or-append_right}
 use Rattle.std.proofs.lemmas.Nat.{be_bytes_4, be_bytes_8, from_be_bytes-to_be_bytes_4, from_be_bytes-to_be_bytes_8}
-use Rattle.osd_bytes.specs.Blocks.{IsBytes, first_nonzero}
-use Rattle.osd_bytes.proofs.BlockLaws.{length-range, zeros, first_nonzero-zeros, IsBytes-range, below_32, below_64, next}
+use Rattle.osd_lists.specs.Blocks.{IsBytes, first_nonzero}
+use Rattle.osd_lists.proofs.BlockLaws.{length-range, zeros, first_nonzero-zeros, IsBytes-range, below_32, below_64, next}
 use Rattle.xdr_codec.specs.declared.err.XdrErr.{XdrErr}
 use Rattle.xdr_codec.specs.declared.err.XdrErr.TheVariants.{BadBool, TooMany}
 use Rattle.xdr_codec.specs.Items.{padded, u32_item, u64_item, i64_item, bool_item, fixed_item, opaque_item}

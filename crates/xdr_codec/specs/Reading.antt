@@ -2,7 +2,7 @@
 use Rattle.std.specs.Prelude.{◌≡◌, ◌⊎◌, ◌≤◌, ℕ, ℤ, ◌+◌, List, ◌++◌, length, take, drop, slice_range, Bool, true, false, if◌then◌else◌, nat_eq, nat_lt, Option, Some, None, Result, Ok, Err, IfOk}
 use Rattle.std.specs.Borrow.{Bor}
 use Rattle.std.specs.Int.{Width, byte_len, w32, w64, from_be_bytes, cast_signed}
-use Rattle.osd_bytes.specs.Blocks.{first_nonzero}
+use Rattle.osd_lists.specs.Blocks.{first_nonzero}
 use Rattle.xdr_codec.specs.declared.err.XdrErr.{XdrErr}
 use Rattle.xdr_codec.specs.declared.err.XdrErr.TheVariants.{Short, Padding, BadBool, TooMany, Trailing, Memory}
 use Rattle.xdr_codec.specs.Items.{padded, fixed_item}

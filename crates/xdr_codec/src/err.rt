@@ -1,6 +1,6 @@
 ghost use Rattle.std.specs.Prelude.{◌≡◌};
 
-use osd_bytes::Memory;
+use osd_lists::Memory;
 use thiserror::Error;
 
 /// Why an item couldn't be read. `at` is a place in bytes, counted from the first byte of all.

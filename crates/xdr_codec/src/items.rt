@@ -4,7 +4,7 @@ ghost use Rattle.xdr_codec.specs.Reading.{u32_in, u64_in, i64_in, bool_in, count
 use crate::err::XdrErr;
 use crate::padding::padded_length;
 use crate::reader::Reader;
-use osd_bytes::{Bytes, first_nonzero_in, u32_at, u64_at};
+use osd_lists::{Bytes, first_nonzero_in, u32_at, u64_at};
 use std::alloc::Global;
 
 // The bytes of a body that begins after `start` bytes of `bytes`, and its end with the padding.

@@ -1,11 +1,11 @@
 ghost use Rattle.std.specs.Prelude.{◌≡◌, ◌<◌, ◌≤◌, ◌+◌, ◌++◌, ◌^◌, ⊤, length, OnOk, FitsSigned};
 ghost use Rattle.std.specs.Int.{w64};
-ghost use Rattle.osd_bytes.specs.Blocks.{IsBytes};
+ghost use Rattle.osd_lists.specs.Blocks.{IsBytes};
 ghost use Rattle.xdr_codec.specs.Items.{u32_item, u64_item, i64_item, bool_item, fixed_item, opaque_item};
 ghost use Rattle.xdr_codec.specs.Reading.{u32_in, u64_in, i64_in, bool_in, count_in, fixed_in, opaque_in, end_of, Reads, ReadsInto, ReadsOrMemory, IsFront, TakesFront, TakesFrontOrMemory, TakesInto};
 
 use crate::err::XdrErr;
-use osd_bytes::Bytes;
+use osd_lists::Bytes;
 use std::alloc::Global;
 use std::marker::Model;
 

@@ -3,7 +3,7 @@ ghost use Rattle.std.specs.Int.{w64};
 ghost use Rattle.xdr_codec.specs.Items.{u32_item, u64_item, i64_item, bool_item, fixed_item, opaque_item};
 
 use crate::padding::padded_length;
-use osd_bytes::{Bytes, Memory};
+use osd_lists::{Bytes, Memory};
 use std::alloc::Global;
 use std::marker::Model;
 

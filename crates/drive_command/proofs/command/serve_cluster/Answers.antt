@@ -1,4 +1,4 @@
-use Rattle.osd_drive.specs.Serving.{ends_of}
+use Rattle.drive_command.specs.Connections.{ends_of}
 use Rattle.drive_command.specs.Ends.{streams}
 use Rattle.drive_command.proofs.Stopping.{acting}
 use Rattle.drive_command.proofs.command.serve_cluster.Goals as goal

@@ -1,4 +1,4 @@
-use Rattle.osd_asking.specs.Asking.{ends_of}
+use Rattle.osd_bytes.specs.Asking.{ends_of}
 use Rattle.drive_command.specs.Ends.{streams}
 use Rattle.server_command.proofs.Stopping.{acting}
 use Rattle.server_command.proofs.command.serve_cluster.Goals as goal

@@ -1,7 +1,7 @@
 use Rattle.std.proofs.Common.{◌∙◌, Option, ap}
 use Rattle.osd_bytes.specs.Connections.{Traffic}
 use Rattle.osd_bytes.specs.Counts.{Faults}
-use Rattle.osd_asking.specs.Asking.{ends_of}
+use Rattle.osd_bytes.specs.Asking.{ends_of}
 use Rattle.server_command.proofs.Stopping.{has_made, serving_in}
 use Rattle.server_command.proofs.command.serve_in.Goals as goal
 

@@ -1,5 +1,5 @@
 use Rattle.std.proofs.Common.{rules, ◌≡◌, false, true, refl, suc}
-use Rattle.osd_asking.specs.Asking.{ends_of}
+use Rattle.osd_bytes.specs.Asking.{ends_of}
 use Rattle.server_serving.specs.Work.{serving}
 use Rattle.server_serving.proofs.WorkLaws.{round_from, some_wait}
 use Rattle.server_files.specs.Making.{Makes}

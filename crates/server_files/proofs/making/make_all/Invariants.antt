@@ -1,5 +1,5 @@
 use Rattle.std.proofs.Common.{ℕ, true}
-use Rattle.osd_asking.specs.Asking.{ends_of}
+use Rattle.osd_bytes.specs.Asking.{ends_of}
 use Rattle.server_serving.specs.Work.{Rounds, serving}
 use Rattle.server_serving.proofs.WorkLaws.{measure}
 use Rattle.server_files.specs.Making.{Makes}

@@ -1,6 +1,6 @@
 use Rattle.std.proofs.Common.{rules, ◌≡◌, ◌∙◌, ℕ, true, Option, Some, None, ap, refl, sym}
 use Rattle.std.specs.Prelude.{option_map}
-use Rattle.osd_asking.specs.Asking.{ends_of}
+use Rattle.osd_bytes.specs.Asking.{ends_of}
 use Rattle.server_serving.specs.Work.{serving}
 use Rattle.server_files.specs.Faults.{held_line, held_object, silent_line}
 use Rattle.server_files.proofs.MakingLaws.{drive_loses, drive_makes}

@@ -1,5 +1,5 @@
 use Rattle.std.proofs.Common.{true, take}
-use Rattle.osd_asking.specs.Asking.{ends_of}
+use Rattle.osd_bytes.specs.Asking.{ends_of}
 use Rattle.server_serving.specs.Work.{InTurn, serving}
 use Rattle.server_files.specs.Making.{Makes}
 use Rattle.server_files.proofs.making.make_round.Given as goal

@@ -1,5 +1,5 @@
 use Rattle.std.proofs.Common.{rules, ◌≡◌, Some, None, refl}
-use Rattle.osd_asking.specs.Asking.{ends_of}
+use Rattle.osd_bytes.specs.Asking.{ends_of}
 use Rattle.server_serving.proofs.handling.ask_drive.Goals as goal
 
 pub returns-in_ok-hear_drive-in-Some : goal.returns-in_ok-hear_drive-in-Some

@@ -1,5 +1,5 @@
 use Rattle.std.proofs.Common.{rules, refl}
-use Rattle.osd_asking.specs.Asking.{ends_of}
+use Rattle.osd_bytes.specs.Asking.{ends_of}
 use Rattle.server_serving.proofs.ConnectionLaws.{served_one}
 use Rattle.server_serving.proofs.serving.serve.Goals as goal
 

@@ -1,5 +1,5 @@
 use Rattle.std.proofs.Common.{[], take}
-use Rattle.osd_asking.specs.Asking.{ends_of}
+use Rattle.osd_bytes.specs.Asking.{ends_of}
 use Rattle.server_serving.specs.Work.{InTurn, ServesRecord, serving}
 use Rattle.server_serving.proofs.serving.serve_records.Given as goal
 

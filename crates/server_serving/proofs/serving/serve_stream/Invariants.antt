@@ -1,5 +1,5 @@
 use Rattle.std.proofs.Common.{[]}
-use Rattle.osd_asking.specs.Asking.{ends_of}
+use Rattle.osd_bytes.specs.Asking.{ends_of}
 use Rattle.server_serving.specs.Work.{serving}
 use Rattle.server_serving.proofs.ConnectionLaws.{HasServed}
 use Rattle.server_serving.proofs.serving.serve_stream.Given as goal

@@ -1,5 +1,5 @@
 use Rattle.std.proofs.Common.{rules, ◌≡◌, false, refl, suc}
-use Rattle.osd_asking.specs.Asking.{ends_of}
+use Rattle.osd_bytes.specs.Asking.{ends_of}
 use Rattle.server_serving.specs.Work.{Works, serving}
 use Rattle.server_serving.proofs.WorkLaws.{round_ends, round_from, some_wait}
 use Rattle.server_serving.proofs.working.work_all.Goals as goal

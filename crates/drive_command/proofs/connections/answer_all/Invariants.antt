@@ -1,0 +1,11 @@
+use Rattle.std.proofs.Common.{◌≡◌, List, take}
+use Rattle.drive_command.specs.Connections.{Handled, ServesMore, after_all, ends_at}
+use Rattle.drive_command.proofs.connections.answer_all.Given as goal
+
+abbrev pub invariant-loop-i : goal.invariant-loop-i
+invariant-loop-i g l =
+    ServesMore l.initial.puts l.stands l.initial.core l.core
+    (ends_at (g.L.Links.told l.initial.links) (g.L.Links.faults l.initial.links) (g.C.Clock.times l.initial.clock) l.initial.last)
+    (ends_at (g.L.Links.told l.links) (g.L.Links.faults l.links) (g.C.Clock.times l.clock) l.last) (take l.i l.records)
+    × ((handled : List Handled) × (l.core ≡ after_all l.initial.core handled))
+    × (g.L.Links.standing l.links ≡ g.L.Links.standing l.initial.links)

@@ -1,0 +1,94 @@
+// What a drive tells whoever watches it of the commands that it refuses.
+ghost use Rattle.std.specs.Prelude.{◌≡◌, IfOk, OnOk, string_bytes};
+ghost use Rattle.osd_bytes.specs.Connections.{after_notes};
+ghost use Rattle.drive_command.specs.Refusals.{is_later, is_told, last_told, lines_told, refusal_line, verdict_word};
+
+use osd_bytes::Links;
+use osd_commands::Reply;
+use osd_lists::Memory;
+use std::alloc::Global;
+
+// The word of a verdict, by its number in a reply.
+#[tactic(auto, unfolding(crate::specs::Refusals::verdict_word))]
+fn verdict_word(number: u16) -> &'static str
+    ensures { result.now ≡ verdict_word number }
+{
+    match number {
+        1 => "nokey",
+        2 => "checkvalue",
+        3 => "expired",
+        4 => "rights",
+        5 => "wrongobject",
+        6 => "range",
+        7 => "noobject",
+        8 => "exists",
+        9 => "tag",
+        10 => "limit",
+        11 => "nospace",
+        12 => "lanefull",
+        13 => "stale",
+        14 => "attrfull",
+        15 => "again",
+        16 => "format",
+        17 => "oldformat",
+        _ => "perform",
+    }
+}
+
+// The line of a refusal.
+fn refusal_line(alloc: Global, drive: u32, reply: &Reply) -> Result<String, Memory>
+    ensures { IfOk result (λ line. string_bytes line ≡ refusal_line drive reply.now) }
+{
+    let word = verdict_word(reply.verdict);
+    let detail = reply.detail;
+    let object = reply.object;
+    let nonce = reply.nonce;
+    Ok(format!(in alloc;
+        "drive {drive} refused: {word} (detail {detail}, object {object}, nonce {nonce})"
+    )?)
+}
+
+// Whether a time is in a later second than that of the newest line, where there is one.
+fn is_later(last: Option<u64>, time: u64) -> bool
+    ensures { result ≡ is_later last time }
+{
+    match last {
+        Some(last) => last < time,
+        None => true,
+    }
+}
+
+// Whether a reply at this time is told: the command was refused.
+fn is_told(last: Option<u64>, time: u64, reply: &Reply) -> bool
+    ensures { result ≡ is_told last time reply.now }
+{
+    reply.verdict != 0 && is_later(last, time)
+}
+
+/// Tells whoever watches the drive that it refused a command, unless a line was told in this second or a later one:
+/// `last` is the second of the newest line.
+///
+/// # Errors
+///
+/// Want of memory alone.
+pub(crate) fn tell_refusal<L: Links>(
+    alloc: Global,
+    links: &mut L,
+    last: &mut Option<u64>,
+    drive: u32,
+    time: u64,
+    reply: &Reply,
+) -> Result<(), Memory>
+    ensures lines { OnOk result (L.told links.new ≡ after_notes (lines_told drive last.old time reply.now) (L.told links.old)) }
+    ensures last { OnOk result (last.new ≡ last_told last.old time reply.now) }
+    ensures standing { L.standing links.new ≡ L.standing links.old }
+    ensures faults { L.faults links.new ≡ L.faults links.old }
+{
+    if !is_told(*last, time, reply) {
+        return Ok(());
+    }
+    let line = refusal_line(alloc, drive, reply)?;
+    links.note(line.as_bytes())?;
+    *last = Some(time);
+    Ok(())
+}

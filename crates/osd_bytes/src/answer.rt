@@ -1,0 +1,34 @@
+ghost use Rattle.std.specs.Prelude.{IfOk};
+ghost use Rattle.osd_bytes.specs.Asking.{Answered};
+
+use crate::exchanges::{ExchangeErr, exchange};
+use crate::links::Links;
+use crate::records::MAX_RECORD;
+use osd_lists::{Bytes, Memory, Node};
+use std::alloc::Global;
+
+/// Sends a message to a node over a new connection and gives the first record that comes. There is none where
+/// the exchange was refused for another cause than memory, or where the message is longer than a record may be,
+/// which is 300,000 bytes.
+///
+/// # Errors
+///
+/// Want of memory alone.
+pub fn asked<L: Links>(
+    alloc: Global,
+    links: &mut L,
+    to: Node,
+    message: &[u8],
+) -> Result<Option<Bytes>, Memory>
+    ensures { IfOk result (λ came. Answered to message.now
+        (L.told links.old) (L.told links.new) (L.faults links.old) (L.faults links.new) came) }
+{
+    if message.len() > MAX_RECORD {
+        return Ok(None);
+    }
+    match exchange(alloc, links, to, message) {
+        Ok(record) => Ok(Some(record)),
+        Err(ExchangeErr::Memory) => Err(Memory),
+        Err(_) => Ok(None),
+    }
+}

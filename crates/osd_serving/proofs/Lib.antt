@@ -1,2 +1,0 @@
-pub mod InboxLaws
-pub mod TalkLaws
