@@ -58,10 +58,6 @@ pub fn had(
 }
 
 /// The positions of which bytes were read or are awaited.
-///
-/// # Errors
-///
-/// Want of memory alone.
 #[tactic(auto, unfolding(client_rules::specs::Io::had_positions))]
 pub fn had_positions(
     alloc: Global,
@@ -79,10 +75,6 @@ pub fn had_positions(
 }
 
 /// The numbers of the components that the layout lists as missing.
-///
-/// # Errors
-///
-/// Want of memory alone.
 #[tactic(auto, using(crate::proofs::Lists::missing_step), unfolding(client_rules::specs::Grants::missing_from))]
 pub fn missing_of(alloc: Global, held: &Held) -> Result<Numbers, Memory>
     ensures { IfOk result (λ ks. ks ≡ missing_of held.now) }
@@ -118,10 +110,6 @@ fn push_missing(missing: &mut Numbers, listed: &Listed, component: u32) -> Resul
 }
 
 /// The components that are out: those that are missing, and those that timed out.
-///
-/// # Errors
-///
-/// Want of memory alone.
 #[tactic(auto, unfolding(client_rules::specs::Io::outs))]
 pub fn out_of(alloc: Global, held: &Held, timed: &TimedOuts) -> Result<Out, Memory>
     ensures { IfOk result (λ out. out.components ≡ outs held.now timed.now) }
@@ -134,10 +122,6 @@ pub fn out_of(alloc: Global, held: &Held, timed: &TimedOuts) -> Result<Out, Memo
 }
 
 /// The components that timed out, and one more; components rise.
-///
-/// # Errors
-///
-/// Want of memory alone.
 pub fn timed_with(alloc: Global, one: TimedOut, timed: &TimedOuts) -> Result<TimedOuts, Memory>
     ensures { IfOk result (λ ts. ts ≡ timed_with one timed.now) }
 {

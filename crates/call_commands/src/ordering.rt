@@ -51,10 +51,6 @@ fn reversed(alloc: Global, mut falling: Vec<Awaited>) -> Result<AwaitedCommands,
 ///
 /// They are placed from the last one on, among those that come after them the first one last: where they were sent in
 /// that order, each comes to the end, and none is moved.
-///
-/// # Errors
-///
-/// Want of memory alone.
 pub fn in_order(alloc: Global, pending: &PendingCommands) -> Result<AwaitedCommands, Memory>
     ensures { IfOk result (λ commands. commands ≡ in_order pending.now) }
 {

@@ -174,10 +174,6 @@ impl PendingCommands {
     }
 
     /// Copies of them all, in order.
-    ///
-    /// # Errors
-    ///
-    /// Want of memory alone.
     pub fn copies(&self, alloc: Global) -> Result<Vec<Awaited>, Memory>
         ensures { IfOk result (λ copies. copies.items ≡ self.now) }
     {

@@ -25,10 +25,6 @@ use osd_lists::{Memory, Sequence};
 use std::alloc::Global;
 
 /// The report of the components that timed out: each wasn't reached.
-///
-/// # Errors
-///
-/// Want of memory alone.
 #[tactic(auto, unfolding(client_rules::specs::Requests::report_of))]
 pub fn report_of(alloc: Global, held: &Held, timed: &TimedOuts) -> Result<Sequence<IoErr>, Memory>
     ensures { IfOk result (λ report. report ≡ report_of held.now timed.now) }

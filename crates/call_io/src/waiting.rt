@@ -67,10 +67,6 @@ impl CallPhase {
     }
 
     /// Copies of the commands of which the replies are awaited, by stripe, component and offset.
-    ///
-    /// # Errors
-    ///
-    /// Want of memory alone.
     #[tactic(auto, unfolding(client_rules::specs::Commands::in_order))]
     pub fn in_order(&self, alloc: Global) -> Result<AwaitedCommands, Memory>
         ensures { IfOk result (λ commands. commands ≡ in_order (awaited_in (phase_of self.now))) }

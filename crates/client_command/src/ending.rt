@@ -37,10 +37,6 @@ pub(crate) struct Report {
 }
 
 /// The same outcome once more.
-///
-/// # Errors
-///
-/// Want of memory alone.
 pub(crate) fn copied(alloc: Global, outcome: &Outcome) -> Result<Outcome, Memory>
     ensures { IfOk result (λ copy. copy ≡ outcome.now) }
 {
@@ -92,10 +88,6 @@ fn end_by_outcome(alloc: Global, outcome: &Outcome) -> Result<ClientEnd, Memory>
 }
 
 /// How the call ended that these notices tell of, `None` exactly where they tell of no end.
-///
-/// # Errors
-///
-/// Want of memory alone.
 pub(crate) fn end_of(alloc: Global, notices: &[Notice]) -> Result<Option<ClientEnd>, Memory>
     ensures { IfOk result (λ end. end ≡ end_of notices.now) }
 {

@@ -88,10 +88,6 @@ fn answered(alloc: Global, sequence: u32, answer: OrderResult) -> Result<Report,
 }
 
 /// Hands the server an order, in one exchange.
-///
-/// # Errors
-///
-/// Want of memory alone.
 pub(crate) fn report_order<L: Links>(
     alloc: Global,
     sequence: u32,

@@ -121,10 +121,6 @@ fn report_call<L: Links>(
 }
 
 /// Does the work of a client.
-///
-/// # Errors
-///
-/// Want of memory alone.
 pub(crate) fn report<L: Links>(
     alloc: Global,
     words: ClientWords,

@@ -63,10 +63,6 @@ fn call_lines(
 }
 
 /// The text of the lines of a call's notices.
-///
-/// # Errors
-///
-/// Want of memory alone.
 pub(crate) fn call_text(
     alloc: Global,
     client: ClientName,
@@ -80,10 +76,6 @@ pub(crate) fn call_text(
 }
 
 /// The text of the line of a call that isn't taken.
-///
-/// # Errors
-///
-/// Want of memory alone.
 pub(crate) fn refusal_text(alloc: Global, client: ClientName, why: CallErr) -> Result<Bytes, Memory>
     ensures { IfOk result (λ text. text ≡ lines_text (refusal_lines client why)) }
 {
@@ -92,10 +84,6 @@ pub(crate) fn refusal_text(alloc: Global, client: ClientName, why: CallErr) -> R
 }
 
 /// Adds the line `next Q`.
-///
-/// # Errors
-///
-/// Want of memory alone.
 pub(crate) fn push_next(alloc: Global, text: &mut Bytes, sequence: u32) -> Result<(), Memory>
     ensures { OnOk result (text.new ≡ text.old ++ next_line sequence) }
 {
@@ -104,10 +92,6 @@ pub(crate) fn push_next(alloc: Global, text: &mut Bytes, sequence: u32) -> Resul
 }
 
 /// The line `order N`.
-///
-/// # Errors
-///
-/// Want of memory alone.
 pub(crate) fn order_text(alloc: Global, answer: u32) -> Result<Bytes, Memory>
     ensures { IfOk result (λ text. text ≡ order_line answer) }
 {

@@ -31,10 +31,6 @@ fn answers_request(alloc: Global, request: &Request, came: &[u8]) -> Result<bool
 
 /// Whether a record answers a message: the message is a request, and the record an answer with its client, sequence
 /// number, file and operation, as they stand in the two envelopes.
-///
-/// # Errors
-///
-/// Want of memory alone.
 pub(crate) fn is_answer_to(alloc: Global, message: &[u8], came: &[u8]) -> Result<bool, Memory>
     ensures { IfOk result (λ is. is ≡ is_answer_to message.now came.now) }
 {

@@ -17,10 +17,6 @@ pub const NONCE_AT: usize = 40;
 const NONCE_END: usize = 48;
 
 /// Gives the client the record that came from a node, where one did.
-///
-/// # Errors
-///
-/// Want of memory alone.
 pub(crate) fn hear(
     alloc: Global,
     core: &mut ClientCore,

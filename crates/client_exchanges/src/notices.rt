@@ -31,10 +31,6 @@ fn push_all(alloc: Global, waiting: &mut Sends, more: &[Sent]) -> Result<(), Mem
 }
 
 /// What a step sends waits behind all other messages, and how it ended the call is told.
-///
-/// # Errors
-///
-/// Want of memory alone.
 pub(crate) fn take_step(
     alloc: Global,
     step: CStep,

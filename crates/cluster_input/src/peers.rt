@@ -23,10 +23,6 @@ fn push_drives(alloc: Global, peers: &mut Peers, drives: &[ClusterDrive]) -> Res
 }
 
 /// The server of a cluster and its drives, with their addresses.
-///
-/// # Errors
-///
-/// Want of memory alone.
 pub fn peers_of(alloc: Global, cluster: &Cluster) -> Result<Peers, Memory>
     ensures { IfOk result (λ peers. peers ≡ peers_of cluster.now) }
 {

@@ -67,10 +67,6 @@ fn is_told(last: Option<u64>, time: u64, reply: &Reply) -> bool
 
 /// Tells whoever watches the drive that it refused a command, unless a line was told in this second or a later one:
 /// `last` is the second of the newest line.
-///
-/// # Errors
-///
-/// Want of memory alone.
 pub(crate) fn tell_refusal<L: Links>(
     alloc: Global,
     links: &mut L,

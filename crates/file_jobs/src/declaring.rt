@@ -85,10 +85,6 @@ fn redirects(
 
 /// A drive is declared: each component of the file on it becomes missing, and the job goes on without them. The
 /// drive isn't online any more among `loads`.
-///
-/// # Errors
-///
-/// Want of memory alone.
 #[tactic(auto, unfolding(server_rules::specs::Jobs::declares))]
 pub fn declare<F>(
     alloc: Global,

@@ -27,10 +27,6 @@ fn place_of(job: &Option<RunningJob>, drive: u32, reply: &Reply) -> Option<usize
 }
 
 /// A reply of a drive, if the file's job awaits it: whether it does. Where it doesn't nothing changes.
-///
-/// # Errors
-///
-/// Want of memory alone.
 #[tactic(auto, unfolding(server_rules::specs::Replies::on_reply))]
 pub fn on_reply<F>(
     alloc: Global,

@@ -43,10 +43,6 @@ fn job_after(turn: Turn) -> Option<RunningJob>
 }
 
 /// The present components of a new file are sent CREATE.
-///
-/// # Errors
-///
-/// Want of memory alone.
 pub fn make(alloc: Global, file: &mut FileState, moved: &mut Moved) -> Result<(), Memory>
     requires sound { IsSound file.old.kept }
     requires alone { file.old.kept.grants ≡ [] }
@@ -62,10 +58,6 @@ pub fn make(alloc: Global, file: &mut FileState, moved: &mut Moved) -> Result<()
 
 /// A fence begins, with the repair behind it and nothing else. The server's format is taken where it is above
 /// the file's.
-///
-/// # Errors
-///
-/// Want of memory alone.
 pub fn revoke(
     alloc: Global,
     file: &mut FileState,
@@ -86,10 +78,6 @@ pub fn revoke(
 
 /// A fence begins for a job of any kind, with the repair behind it and what the job is for. The server's format
 /// is taken where it is above the file's.
-///
-/// # Errors
-///
-/// Want of memory alone.
 pub fn begin<F>(
     alloc: Global,
     file: &mut FileState,

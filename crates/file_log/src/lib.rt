@@ -9,11 +9,11 @@
 
 mod entry;
 mod held;
-mod judging;
+mod judgement;
 mod laws;
 mod sizes;
 mod values;
 
 pub use entry::Entry;
-pub use judging::judge;
+pub use judgement::judge;
 pub use laws::{plain, range_found};

@@ -139,10 +139,6 @@ fn on_grants(
 }
 
 /// A LAYOUTGET at a file.
-///
-/// # Errors
-///
-/// Want of memory alone.
 #[tactic(auto, unfolding(server_rules::specs::Get::gets))]
 pub fn get(
     alloc: Global,

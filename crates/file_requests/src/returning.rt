@@ -130,10 +130,6 @@ fn tag_of(file: &FileState) -> u32
 }
 
 /// A LAYOUTRETURN at a file, with a report.
-///
-/// # Errors
-///
-/// Want of memory alone.
 #[tactic(auto, unfolding(server_rules::specs::Return::returns_on))]
 pub fn give_back(
     alloc: Global,

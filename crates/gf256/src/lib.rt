@@ -5,12 +5,12 @@
 //! of 2 run through all elements but 0. No call takes memory.
 #![tactic(auto)]
 
+mod addition;
 mod elements;
 pub mod lanes;
-mod scaling;
-mod summing;
+mod products;
 mod tables;
 
+pub use addition::add;
 pub use elements::{inverse, mul, power};
-pub use scaling::add_scaled;
-pub use summing::add;
+pub use products::add_scaled;

@@ -172,10 +172,6 @@ impl Grants {
     }
 
     /// The live grants of a file, oldest first. No two conflict, and a client has at most one.
-    ///
-    /// # Errors
-    ///
-    /// Want of memory alone.
     pub fn of_file(&self, file: u32) -> Result<GrantList, Memory>
         ensures ok { IfOk result (λ gs. gs ≡ grants_of self.now file) }
         ensures apart { Apart (grants_of self.now file) }

@@ -68,10 +68,6 @@ fn commit_body(alloc: Global) -> Result<Bytes, Memory>
 
 /// What a call's LAYOUTCOMMIT tells under a grant (RFC 5661 18.42): that the call's bytes were written. The call's
 /// range ends at most at [`MAX_FILE_SIZE`](data_map::MAX_FILE_SIZE).
-///
-/// # Errors
-///
-/// Want of memory alone.
 pub fn commit_args(alloc: Global, grant: u32, op: &CallOp) -> Result<Args, Memory>
     requires { AsksInFile op.now }
     ensures value { IfOk result (λ a. a ≡ args.LayoutCommit (commit_of grant (span_of op.now))) }
@@ -103,10 +99,6 @@ fn return_body(alloc: Global, report: Sequence<IoErr>) -> Result<Bytes, Memory>
 
 /// What gives a file's layouts back (RFC 5661 18.44), with a report of at most
 /// [`MAX_MEMBERS`](layout_types::MAX_MEMBERS) errors: clean where there is none.
-///
-/// # Errors
-///
-/// Want of memory alone.
 pub fn return_args(alloc: Global, grant: u32, report: Sequence<IoErr>) -> Result<Args, Memory>
     requires { length report ≤ MAX_MEMBERS }
     ensures value { IfOk result (λ a. a ≡ return_args grant report) }

@@ -221,10 +221,6 @@ fn one_layout(
 /// The grant that a client takes from the answer to a call's LAYOUTGET (RFC 5661 18.43, RFC 5664 5.2), or why it
 /// takes none: the first of [`Why`] that holds. The call's range ends at most at
 /// [`MAX_FILE_SIZE`](data_map::MAX_FILE_SIZE).
-///
-/// # Errors
-///
-/// Want of memory alone.
 #[tactic(auto, unfolding(client_rules::specs::Layouts::taken))]
 pub fn taken(alloc: Global, answer: &Answer, op: &CallOp) -> Result<Result<Held, Why>, Memory>
     requires { AsksInFile op.now }

@@ -21,10 +21,6 @@ pub fn kept_of(files: &Files, number: u32) -> Option<&Kept>
 }
 
 /// The numbers of the files, in order.
-///
-/// # Errors
-///
-/// Want of memory alone.
 pub fn numbers_of(alloc: Global, files: &Files) -> Result<Numbers, Memory>
     ensures { IfOk result (λ numbers. numbers ≡ map (λ f. f.kept.number) (files_in files.now.entries)) }
 {

@@ -101,10 +101,6 @@ where
 
 /// The step of bytes from a node. Nothing changes where there is no message in them, or where the counters have no
 /// room: `low` says whether they have.
-///
-/// # Errors
-///
-/// Want of memory alone.
 #[tactic(auto, unfolding(server_rules::specs::Messages::on_message))]
 pub fn hear<F>(
     alloc: Global,

@@ -56,10 +56,6 @@ impl Model for ServerCore {
 
 impl ServerCore {
     /// A server without files, with these drives.
-    ///
-    /// # Errors
-    ///
-    /// Want of memory alone.
     pub fn new(alloc: Global, drives: DriveTable) -> Result<Self, Memory>
         requires { CanAdd [] drives }
         ensures { IfOk result (λ server. server ≡ new_server (and_drives [] drives)) }
@@ -96,10 +92,6 @@ impl ServerCore {
     }
 
     /// The server knows a further drive, of a new number below 64.
-    ///
-    /// # Errors
-    ///
-    /// Want of memory alone.
     pub fn add_drive(&mut self, info: DriveInfo) -> Result<(), Memory>
         requires new { IsNew info.number self.old.drives }
         requires low { info.number < MAX_DRIVES }
@@ -150,10 +142,6 @@ impl ServerCore {
 
     /// Bytes come from a node, at a time of the server's clock in seconds. Nothing changes where they can't be read,
     /// where their sender may not send such a message, or where the counters have no room.
-    ///
-    /// # Errors
-    ///
-    /// Want of memory alone.
     pub fn on_message<F>(
         &mut self,
         now: u64,
@@ -175,10 +163,6 @@ impl ServerCore {
     }
 
     /// A recall goes to each holder of a grant on a file.
-    ///
-    /// # Errors
-    ///
-    /// Want of memory alone.
     pub fn recall(&mut self, file: u32) -> Result<Step, Memory>
         requires room { HasRoom self.old }
         ensures { IfOk result (λ out. (chosen : List ℕ)
@@ -191,10 +175,6 @@ impl ServerCore {
     }
 
     /// A fence of a file begins, with the repair behind it, unless a job runs or the file's tag is spent.
-    ///
-    /// # Errors
-    ///
-    /// Want of memory alone.
     #[tactic(auto, unfolding(server_rules::specs::Orders::ordered))]
     pub fn revoke<F>(&mut self, file: u32, placer: &Placer<F>) -> Result<Step, Memory>
     where
@@ -212,10 +192,6 @@ impl ServerCore {
 
     /// The missing components of a file are made anew on other drives, behind a fence and its repair; unless a job
     /// runs or the file's tag is spent.
-    ///
-    /// # Errors
-    ///
-    /// Want of memory alone.
     #[tactic(auto, unfolding(server_rules::specs::Orders::ordered))]
     pub fn rebuild<F>(&mut self, file: u32, placer: &Placer<F>) -> Result<Step, Memory>
     where
@@ -233,10 +209,6 @@ impl ServerCore {
 
     /// The stripes of a file are read and compared, behind a fence and its repair; unless a job runs or the file's
     /// tag is spent.
-    ///
-    /// # Errors
-    ///
-    /// Want of memory alone.
     #[tactic(auto, unfolding(server_rules::specs::Orders::ordered))]
     pub fn audit<F>(&mut self, file: u32, placer: &Placer<F>) -> Result<Step, Memory>
     where
@@ -271,10 +243,6 @@ impl ServerCore {
     }
 
     /// Every command that a job waits for, once more.
-    ///
-    /// # Errors
-    ///
-    /// Want of memory alone.
     pub fn resend(&self) -> Result<Sends, Memory>
         ensures { IfOk result (λ sends. sends ≡ all_sent (resend self.now)) }
     {
@@ -312,10 +280,6 @@ impl ServerCore {
     }
 
     /// The numbers of the files, in rising order.
-    ///
-    /// # Errors
-    ///
-    /// Want of memory alone.
     pub fn file_numbers(&self) -> Result<Numbers, Memory>
         ensures { IfOk result (λ numbers. numbers ≡ map (λ f. f.kept.number) self.now.files) }
     {

@@ -67,10 +67,6 @@ fn begin_plain(parties: &mut Parties, alloc: Global, event: &Event) -> Result<Ac
 }
 
 /// What an event begins with. It isn't refused.
-///
-/// # Errors
-///
-/// Want of memory alone.
 #[tactic(auto, unfolding(world_history::specs::Moves::begins))]
 pub fn begin<F>(
     parties: &mut Parties,

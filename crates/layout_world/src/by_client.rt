@@ -12,10 +12,6 @@ use world_clients::clients_are_the_worlds;
 use world_words::Act;
 
 /// The call of an event, as the client takes it.
-///
-/// # Errors
-///
-/// Want of memory alone.
 pub fn op_of(alloc: Global, call: &Call) -> Result<CallOp, Memory>
     ensures { IfOk result (λ op. op ≡ op_of call.now) }
 {
@@ -42,10 +38,6 @@ pub fn op_of(alloc: Global, call: &Call) -> Result<CallOp, Memory>
 }
 
 /// A client is made. There must be none of that number.
-///
-/// # Errors
-///
-/// Want of memory alone.
 pub fn add(parties: &mut Parties, alloc: Global, client: ClientName) -> Result<Act, Memory>
     ensures { IfOk result (λ act. Acts (λ w chosen. changed (adds_client w client)) parties.old parties.new act) }
 {
@@ -54,10 +46,6 @@ pub fn add(parties: &mut Parties, alloc: Global, client: ClientName) -> Result<A
 }
 
 /// A client is called.
-///
-/// # Errors
-///
-/// Want of memory alone.
 pub fn call(
     parties: &mut Parties,
     alloc: Global,
@@ -73,10 +61,6 @@ pub fn call(
 }
 
 /// A component times out at a client.
-///
-/// # Errors
-///
-/// Want of memory alone.
 pub fn time_out(
     parties: &mut Parties,
     alloc: Global,
@@ -92,10 +76,6 @@ pub fn time_out(
 }
 
 /// A client sends again what it waits for.
-///
-/// # Errors
-///
-/// Want of memory alone.
 pub fn resend(parties: &mut Parties, alloc: Global, client: ClientName) -> Result<Act, Memory>
     ensures { IfOk result (λ act. Acts (λ w chosen. resends w client) parties.old parties.new act) }
 {
@@ -105,10 +85,6 @@ pub fn resend(parties: &mut Parties, alloc: Global, client: ClientName) -> Resul
 }
 
 /// A client returns its grants, or tells that it is busy.
-///
-/// # Errors
-///
-/// Want of memory alone.
 pub fn leave(parties: &mut Parties, alloc: Global, client: ClientName) -> Result<Act, Memory>
     ensures { IfOk result (λ act. Acts (λ w chosen. leaves w client) parties.old parties.new act) }
 {
@@ -118,10 +94,6 @@ pub fn leave(parties: &mut Parties, alloc: Global, client: ClientName) -> Result
 }
 
 /// A client tells that its call is still pending, where one is.
-///
-/// # Errors
-///
-/// Want of memory alone.
 pub fn pend(parties: &Parties, alloc: Global, client: ClientName) -> Result<Act, Memory>
     ensures { IfOk result (λ act. Acts (λ w chosen. pends w client) parties.now parties.now act) }
 {

@@ -15,10 +15,6 @@ use stripe_repair::{DriveLoad, Placer};
 use world_words::Act;
 
 /// A drive is made, and the server knows it. There must be none of that number.
-///
-/// # Errors
-///
-/// Want of memory alone.
 pub fn add_drive(
     parties: &mut Parties,
     alloc: Global,
@@ -34,10 +30,6 @@ pub fn add_drive(
 }
 
 /// A file is made, or it is noted why it isn't.
-///
-/// # Errors
-///
-/// Want of memory alone.
 pub fn make_file<F>(
     parties: &mut Parties,
     alloc: Global,
@@ -56,10 +48,6 @@ where
 }
 
 /// Every grant of a file is recalled.
-///
-/// # Errors
-///
-/// Want of memory alone.
 pub fn recall(parties: &mut Parties, alloc: Global, file: FileName) -> Result<Act, Memory>
     ensures { IfOk result (λ act. ActsWith (λ w chosen. gives w chosen (Obeys ToRecall file)) (ends_in (Opens (event.Recall file))) parties.old parties.new act) }
 {
@@ -68,10 +56,6 @@ pub fn recall(parties: &mut Parties, alloc: Global, file: FileName) -> Result<Ac
 }
 
 /// A fence and a repair of a file begin.
-///
-/// # Errors
-///
-/// Want of memory alone.
 pub fn revoke<F>(
     parties: &mut Parties,
     alloc: Global,
@@ -88,10 +72,6 @@ where
 }
 
 /// A file's missing components are rebuilt.
-///
-/// # Errors
-///
-/// Want of memory alone.
 pub fn rebuild<F>(
     parties: &mut Parties,
     alloc: Global,
@@ -108,10 +88,6 @@ where
 }
 
 /// A file is audited.
-///
-/// # Errors
-///
-/// Want of memory alone.
 pub fn audit<F>(
     parties: &mut Parties,
     alloc: Global,
@@ -128,10 +104,6 @@ where
 }
 
 /// A failed drive is taken out.
-///
-/// # Errors
-///
-/// Want of memory alone.
 pub fn declare<F>(
     parties: &mut Parties,
     alloc: Global,
@@ -148,10 +120,6 @@ where
 }
 
 /// What jobs wait for is sent again.
-///
-/// # Errors
-///
-/// Want of memory alone.
 pub fn resend(parties: &Parties, alloc: Global) -> Result<Act, Memory>
     ensures { IfOk result (λ act. Acts (λ w chosen. gives w chosen ResendsAt) parties.now parties.now act) }
 {

@@ -74,10 +74,6 @@ fn drop_message(parties: &mut Parties, alloc: Global, number: usize) -> Act
 }
 
 /// An event that changes one party, or nothing.
-///
-/// # Errors
-///
-/// Want of memory alone.
 #[tactic(auto, unfolding(world_history::specs::Moves::begins))]
 pub fn change(parties: &mut Parties, alloc: Global, event: &Event) -> Result<Act, Memory>
     ensures { IfOk result (λ act. is_change event.now ≡ true

@@ -100,10 +100,6 @@ where
 }
 
 /// Message `number` is delivered; nothing happens where there is none.
-///
-/// # Errors
-///
-/// Want of memory alone.
 pub fn deliver<F>(
     parties: &mut Parties,
     alloc: Global,

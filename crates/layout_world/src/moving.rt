@@ -71,10 +71,6 @@ pub fn time_out_move(
 }
 
 /// A client tells that its call is left pending.
-///
-/// # Errors
-///
-/// Want of memory alone.
 pub fn pend_move(
     parties: &mut Parties,
     watch: &mut Watch,

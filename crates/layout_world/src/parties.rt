@@ -25,10 +25,6 @@ pub struct Parties {
 
 impl Parties {
     /// Those of a scenario that hasn't begun.
-    ///
-    /// # Errors
-    ///
-    /// Want of memory alone.
     pub fn new(alloc: Global) -> Result<Self, Memory>
         ensures { IfOk result (λ parties. Shows parties empty_world) }
     {

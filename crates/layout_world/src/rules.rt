@@ -58,10 +58,6 @@ fn prompt_call(
 }
 
 /// What is done behind the first move of an event.
-///
-/// # Errors
-///
-/// Want of memory alone.
 #[tactic(auto, unfolding(world_history::specs::Plans::rule_of))]
 pub fn rule_of(parties: &Parties, alloc: Global, event: &Event) -> Result<Rule, Memory>
     ensures rule { IfOk result (λ rule. (w : World) → Shows parties.now w → rule_in rule ≡ rule_of w event.now) }

@@ -146,10 +146,6 @@ where
 
 impl World {
     /// The world of a scenario that hasn't begun.
-    ///
-    /// # Errors
-    ///
-    /// Want of memory alone.
     pub fn new(alloc: Global) -> Result<Self, Memory>
         ensures shows { IfOk result (λ world. Shows world.parties empty_world) }
         ensures watches { IfOk result (λ world. WatchesAll [] world.watch) }

@@ -10,10 +10,6 @@ use std::alloc::Global;
 /// Sends a message to a node over a new connection and gives the first record that comes. There is none where
 /// the exchange was refused for another cause than memory, or where the message is longer than a record may be,
 /// which is 300,000 bytes.
-///
-/// # Errors
-///
-/// Want of memory alone.
 pub fn asked<L: Links>(
     alloc: Global,
     links: &mut L,

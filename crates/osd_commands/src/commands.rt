@@ -163,10 +163,6 @@ pub fn head_of(c: &Command) -> [u8; HEAD]
 ///
 /// It is read back where the command keeps what its type doesn't: format 1 or 2, a payload that the
 /// action allows and that has less than 2^32 bytes, and zeros behind a check value of format 1.
-///
-/// # Errors
-///
-/// Want of memory alone.
 pub fn write_command(alloc: Global, c: &Command) -> Result<Bytes, Memory>
     ensures spelled { IfOk result (λ bytes. bytes ≡ spelling c.now) }
     ensures read_back { IfOk result (λ bytes. IsWhole c.now → reading bytes ≡ Ok c.now) }

@@ -77,10 +77,6 @@ fn fields_of(r: &Reply) -> [u8; BLOCK]
 ///
 /// It is read back where the reply keeps what its type doesn't: an action up to 6, a verdict up to
 /// 17 that isn't 15, and a payload that such a reply may have, of less than 2^32 bytes.
-///
-/// # Errors
-///
-/// Want of memory alone.
 pub fn write_reply(alloc: Global, r: &Reply) -> Result<Bytes, Memory>
     ensures spelled { IfOk result (λ bytes. bytes ≡ spelling r.now) }
     ensures read_back { IfOk result (λ bytes. IsWhole r.now → reading bytes ≡ Ok r.now) }

@@ -8,9 +8,9 @@ ghost use Rattle.osd_drive.specs.State.{new_drive, key_of_version};
 ghost use Rattle.osd_drive.specs.Table.{is_mutating, has_old_format, has_no_key, has_wrong_check, is_checked, rows_on_object, late_fault, all_rows, first_fault, NoneApplies, IsReady};
 ghost use Rattle.osd_drive.specs.Effects.{performed, performed_reply, reply_by, state_by, reply_to, drive_after};
 
+use crate::effects::perform_on;
 use crate::keys::{DriveKey, KeyTable, key_in};
 use crate::limits::FIRST_FORMAT;
-use crate::performing::perform_on;
 use crate::replies::{format_reply, kept_reply, refused_reply};
 use crate::rows::{has_no_right, is_elsewhere, is_out_of_range, late_verdict};
 use crate::store_view::StoreView;

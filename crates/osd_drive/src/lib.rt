@@ -10,10 +10,10 @@
 #![tactic(auto)]
 
 mod drive;
+mod effects;
 mod keys;
 mod laws;
 mod limits;
-mod performing;
 mod replies;
 mod rows;
 mod store_view;

@@ -112,10 +112,6 @@ impl Store {
 
     /// The bytes of a range that lie below the object's length; a byte that was never written is 0.
     /// There are none where there is no such object.
-    ///
-    /// # Errors
-    ///
-    /// Want of memory alone.
     pub fn read(
         &self,
         alloc: Global,
@@ -182,10 +178,6 @@ impl Store {
 
     /// The value of an attribute: 1 is the length as eight bytes, 2 the tag as four, 65,536 the label.
     /// No bytes where there is no such object or attribute.
-    ///
-    /// # Errors
-    ///
-    /// Want of memory alone.
     pub fn get_attr(&self, alloc: Global, object: u64, number: u32) -> Result<Bytes, Memory>
         ensures { IfOk result (λ value. value ≡ attribute_bytes (attribute_at self.now object number)) }
     {

@@ -165,10 +165,6 @@ fn add_calls(
 
 /// The events of the scenario with so many calls that is made from a seed: six drives, three clients, a file and its
 /// first call, and then the calls.
-///
-/// # Errors
-///
-/// Want of memory alone.
 pub fn scenario(alloc: Global, seed: u64, calls: u64) -> Result<Vec<Event>, Memory>
     ensures { IfOk result (λ events. events.items ≡ made.scenario_of seed calls) }
 {

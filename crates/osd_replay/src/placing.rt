@@ -44,10 +44,6 @@ fn first_numbers(alloc: Global, count: u32, pairs: &[(u32, u32)]) -> Result<Vec<
 }
 
 /// So many online drives: those with the fewest objects, of equals those with the lower numbers first.
-///
-/// # Errors
-///
-/// Want of memory alone.
 pub fn fewest_first(alloc: Global, count: u32, loads: &[DriveLoad]) -> Result<Numbers, Memory>
     requires { CanPlace count loads.now }
     ensures places { ForOk result (Places count loads.now) }

@@ -7,14 +7,14 @@
 
 mod code;
 mod columns;
-mod decoding;
+mod decoder;
 mod delta;
-mod encoding;
+mod encoder;
+mod erasures;
 mod repair;
-mod restoring;
 mod sums;
 
 pub use code::{Code, CodeErr};
-pub use decoding::decode;
+pub use decoder::decode;
 pub use delta::parity_delta;
-pub use encoding::encode;
+pub use encoder::encode;

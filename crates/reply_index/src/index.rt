@@ -64,10 +64,6 @@ impl ReplyIndex {
     }
 
     /// The file awaits the replies to these commands.
-    ///
-    /// # Errors
-    ///
-    /// Want of memory alone.
     pub fn add_all(&mut self, file: u32, commands: &[Awaited]) -> Result<(), Memory>
         ensures { OnOk result ((x d m : ℕ) →
             has self.new x d m ≡ ((file == m) && are_to commands.now x d || has self.old x d m)) }

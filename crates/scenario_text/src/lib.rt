@@ -7,26 +7,26 @@
 
 mod by_table;
 mod event;
-mod event_reading;
-mod event_writing;
+mod event_reader;
+mod event_writer;
 mod group;
 mod hexadecimal;
 mod keyword;
 mod line;
 mod line_keyword;
-mod line_reading;
-mod line_writing;
+mod line_reader;
+mod line_writer;
 mod names;
-mod note_reading;
-mod outcome_reading;
+mod note_reader;
+mod outcome_reader;
 mod words;
 mod write;
 
 pub use event::{Call, Event, EventErr, FileMap, Machine, Sender};
-pub use event_reading::read_event;
+pub use event_reader::read_event;
 pub use line::{
     CallKind, Delivery, Ending, LayoutFault, Line, MapFault, Note, Outcome, Party, Refusal, Verdict,
 };
-pub use line_reading::read_line;
-pub use line_writing::{write_event_line, write_line, write_lines};
+pub use line_reader::read_line;
+pub use line_writer::{write_event_line, write_line, write_lines};
 pub use names::{CLIENTS, ClientName, DRIVES, DriveName, FILES, FileName, Name};

@@ -19,10 +19,6 @@ fn is_exists(command: &Command, reply: &Reply) -> bool
 
 /// The object that a drive holds already, where its reply to this command says so: the command is its CREATE, and the
 /// reply is Exists.
-///
-/// # Errors
-///
-/// Want of memory alone.
 pub fn held_object(alloc: Global, message: &[u8], reply: &[u8]) -> Result<Option<u64>, Memory>
     ensures { IfOk result (λ object. object ≡ held_object message.now reply.now) }
 {
@@ -39,10 +35,6 @@ pub fn held_object(alloc: Global, message: &[u8], reply: &[u8]) -> Result<Option
 }
 
 /// The note on a drive that gave no answer.
-///
-/// # Errors
-///
-/// Want of memory alone.
 pub fn silent_line(alloc: Global, drive: u32) -> Result<String, Memory>
     ensures { IfOk result (λ line. string_bytes line ≡ silent_line drive) }
 {
@@ -50,10 +42,6 @@ pub fn silent_line(alloc: Global, drive: u32) -> Result<String, Memory>
 }
 
 /// The note on a drive that holds an object already.
-///
-/// # Errors
-///
-/// Want of memory alone.
 pub fn held_line(alloc: Global, drive: u32, object: u64) -> Result<String, Memory>
     ensures { IfOk result (λ line. string_bytes line ≡ held_line drive object) }
 {

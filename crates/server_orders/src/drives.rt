@@ -79,10 +79,6 @@ pub fn add_drive(alloc: Global, drives: &mut Drives, info: DriveInfo) -> Result<
 }
 
 /// Adds drives, in order of their numbers.
-///
-/// # Errors
-///
-/// Want of memory alone.
 pub fn add_drives(alloc: Global, drives: &mut Drives, infos: &[DriveInfo]) -> Result<(), Memory>
     requires drives { AreDrives drives.old }
     requires new { CanAdd drives.old infos.now }

@@ -45,10 +45,6 @@ fn loads_with(
 }
 
 /// The drives as the placer sees them, with what they hold of all files.
-///
-/// # Errors
-///
-/// Want of memory alone.
 pub fn loads_of(alloc: Global, state: &State) -> Result<Sequence<DriveLoad>, Memory>
     requires drives { AreDrives state.now.drives }
     requires counts { AreCounted state.now.counts state.now.files.entries }

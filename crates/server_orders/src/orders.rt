@@ -54,10 +54,6 @@ fn recalls(alloc: Global, grants: &[Grant], first: u64) -> Result<Step, Memory>
 }
 
 /// A recall goes to each holder of a grant on the file.
-///
-/// # Errors
-///
-/// Want of memory alone.
 pub fn order_recall(alloc: Global, state: &mut State, number: u32) -> Result<Obeyed, Memory>
     requires good { IsGood state.old }
     requires room { HasRoom (server_of state.old) }
@@ -179,10 +175,6 @@ where
 }
 
 /// A job of that kind begins at a file with its fence, unless one runs or the file's tag is spent.
-///
-/// # Errors
-///
-/// Want of memory alone.
 pub fn order_job<F>(
     alloc: Global,
     state: &mut State,

@@ -124,10 +124,6 @@ where
 }
 
 /// The step of a drive's reply, at the first file whose job awaits it. One that no job awaits changes nothing.
-///
-/// # Errors
-///
-/// Want of memory alone.
 pub fn on_drive_reply<F>(
     alloc: Global,
     state: &mut State,

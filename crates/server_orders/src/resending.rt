@@ -44,10 +44,6 @@ fn resend_all(
 }
 
 /// Every command that a job waits for, once more, sealed.
-///
-/// # Errors
-///
-/// Want of memory alone.
 pub fn resend(alloc: Global, state: &State) -> Result<Sends, Memory>
     ensures { IfOk result (λ sends. sends ≡ all_sent (resend (server_of state.now))) }
 {

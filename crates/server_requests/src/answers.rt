@@ -88,10 +88,6 @@ pub fn plain_answer(request: &ClientRequest, status: u32, detail: u32, size: u64
 }
 
 /// The answer to a request on a file, as the step left it: with the layout of the grant, if one is given.
-///
-/// # Errors
-///
-/// Want of memory alone.
 pub fn file_answer(
     alloc: Global,
     drives: &[Drive],

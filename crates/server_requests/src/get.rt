@@ -104,10 +104,6 @@ pub enum Late {
 }
 
 /// The row of a LAYOUTGET behind those of the fence, where the next grant has this number.
-///
-/// # Errors
-///
-/// Want of memory alone.
 #[tactic(auto, unfolding(server_rules::specs::Get::late))]
 pub fn late_row(alloc: Global, kept: &Kept, number: u64, asked: &Grant) -> Result<Late, Memory>
     requires { length kept.now.components ≤ MAX_COMPONENTS }

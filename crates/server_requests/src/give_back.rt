@@ -28,10 +28,6 @@ pub fn is_among(number: u32, numbers: &[u32]) -> bool
 }
 
 /// The components, those with these numbers missing.
-///
-/// # Errors
-///
-/// Want of memory alone.
 #[tactic(auto, unfolding(server_rules::specs::Standing::lose_from))]
 pub fn without_these(
     alloc: Global,
@@ -88,10 +84,6 @@ fn bearable(alloc: Global, kept: &Kept, numbers: Numbers) -> Result<Option<Numbe
 /// The components that become missing where a report is taken as a loss, `None` where it isn't: the grant is
 /// for writing and the file's only one, the entries name components of drives that weren't reached, and
 /// the groups of these can be decoded without them.
-///
-/// # Errors
-///
-/// Want of memory alone.
 #[tactic(auto, unfolding(server_rules::specs::Return::loss))]
 pub fn loss(
     alloc: Global,
@@ -154,10 +146,6 @@ fn by_report(
 }
 
 /// The row of a client's LAYOUTRETURN with a report.
-///
-/// # Errors
-///
-/// Want of memory alone.
 #[tactic(auto, unfolding(server_rules::specs::Return::return_row))]
 pub fn return_row(
     alloc: Global,

@@ -60,10 +60,6 @@ fn credentials(
 }
 
 /// The layout of a grant: every component, in the bytes that an answer carries.
-///
-/// # Errors
-///
-/// Want of memory alone.
 #[tactic(auto, unfolding(server_rules::specs::Layouts::body_of))]
 pub fn layout_body(
     alloc: Global,
@@ -94,10 +90,6 @@ pub fn stateid_of(grant: u32) -> StateId
 }
 
 /// What LAYOUTGET gives for a grant: one layout, of the stripes of the grant.
-///
-/// # Errors
-///
-/// Want of memory alone.
 pub fn granted(
     alloc: Global,
     drives: &[Drive],

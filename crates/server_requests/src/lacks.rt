@@ -55,10 +55,6 @@ fn is_lacked(
 
 /// The lowest missing component that a writer of these stripes would lack: that of a group in which one of
 /// them stands and that can't be decoded.
-///
-/// # Errors
-///
-/// Want of memory alone.
 #[tactic(auto, unfolding(server_rules::specs::Standing::lacked_from))]
 pub fn lacked(alloc: Global, kept: &Kept, grant: &Grant) -> Result<Option<u32>, Memory>
     requires { length kept.now.components ≤ MAX_COMPONENTS }

@@ -110,10 +110,6 @@ pub(crate) fn no_credential(alloc: Global, at: &Component) -> ObjectCred
 }
 
 /// The credential of a component under a grant, as if it were present: its capability with the key in clear.
-///
-/// # Errors
-///
-/// Want of memory alone.
 #[tactic(auto, unfolding(server_rules::specs::Layouts::credential))]
 pub fn credential(
     alloc: Global,

@@ -47,10 +47,6 @@ fn send_recall(alloc: Global, sends: &mut Sends, grant: &Grant, count: u64) -> R
 }
 
 /// Sends the recalls of some grants to their holders, in order, counted from `first`.
-///
-/// # Errors
-///
-/// Want of memory alone.
 #[tactic(auto, unfolding(server_rules::specs::Answers::recalls_from))]
 pub fn send_recalls(
     alloc: Global,
@@ -70,10 +66,6 @@ pub fn send_recalls(
 }
 
 /// The bytes of an answer.
-///
-/// # Errors
-///
-/// Want of memory alone.
 pub fn answer_bytes(alloc: Global, answer: Answer) -> Result<Bytes, Memory>
     requires { ResultsWritable answer.results }
     ensures spelled { IfOk result (λ bytes. bytes ≡ bytes_of (Answers answer)) }
@@ -83,10 +75,6 @@ pub fn answer_bytes(alloc: Global, answer: Answer) -> Result<Bytes, Memory>
 }
 
 /// Sends the answer to an order.
-///
-/// # Errors
-///
-/// Want of memory alone.
 pub fn send_order_answer(
     alloc: Global,
     sends: &mut Sends,

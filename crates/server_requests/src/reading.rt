@@ -119,10 +119,6 @@ fn by_reply(alloc: Global, bytes: &[u8]) -> Result<Option<Message>, Memory>
 
 /// The message that bytes from a node are to the server, `None` exactly where they are none: drives send
 /// replies, and all others requests and orders. A request whose body can't be read is none either.
-///
-/// # Errors
-///
-/// Want of memory alone.
 #[tactic(auto, unfolding(server_rules::specs::Envelopes::message_in))]
 pub fn message_in(alloc: Global, from: Node, bytes: &[u8]) -> Result<Option<Message>, Memory>
     ensures { IfOk result (λ m. messages_rule m ≡ message_in from bytes.now) }

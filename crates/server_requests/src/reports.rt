@@ -56,10 +56,6 @@ fn named_by(entry: &IoErr, components: &[Component]) -> Option<u32>
 
 /// The components that the entries of a report name, `None` exactly where one is for another cause than a
 /// drive that wasn't reached, or names no component at its present or last object.
-///
-/// # Errors
-///
-/// Want of memory alone.
 #[tactic(auto, unfolding(server_rules::specs::Return::named))]
 pub fn named(
     alloc: Global,

@@ -53,10 +53,6 @@ fn check_len(format: u8) -> usize
 }
 
 /// The bytes of a command as it goes to its drive, with the check value under the drive's key.
-///
-/// # Errors
-///
-/// Want of memory alone.
 pub fn sealed_bytes(alloc: Global, drives: &[Drive], awaited: &Awaited) -> Result<Bytes, Memory>
     ensures { IfOk result (λ bytes. bytes ≡ spelling (sealed drives.now awaited.now)) }
 {
@@ -72,10 +68,6 @@ pub fn sealed_bytes(alloc: Global, drives: &[Drive], awaited: &Awaited) -> Resul
 }
 
 /// Sends a command to its drive, sealed.
-///
-/// # Errors
-///
-/// Want of memory alone.
 pub fn send_to_drive(
     alloc: Global,
     sends: &mut Sends,
@@ -90,10 +82,6 @@ pub fn send_to_drive(
 }
 
 /// Sends commands to their drives, sealed, in order.
-///
-/// # Errors
-///
-/// Want of memory alone.
 pub fn send_to_drives(
     alloc: Global,
     sends: &mut Sends,

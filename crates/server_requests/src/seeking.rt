@@ -7,10 +7,6 @@ use server_rules::{Grant, Grants};
 use std::alloc::Global;
 
 /// The grants that conflict with a further one, in order.
-///
-/// # Errors
-///
-/// Want of memory alone.
 pub fn against(alloc: Global, grants: &[Grant], asked: &Grant) -> Result<Grants, Memory>
     ensures { IfOk result (λ gs. gs ≡ against grants.now asked.now) }
 {
@@ -36,10 +32,6 @@ pub fn any_expired(now: u64, grants: &[Grant], asked: &Grant) -> bool
 }
 
 /// The grants of the other clients, in order.
-///
-/// # Errors
-///
-/// Want of memory alone.
 pub fn without(alloc: Global, grants: &[Grant], client: u32) -> Result<Grants, Memory>
     ensures { IfOk result (λ gs. gs ≡ without grants.now client) }
 {

@@ -16,10 +16,6 @@ use stripe_repair::{DriveLoad, Placer};
 
 /// Who sent a record of an accepted connection: the client that a request or a recall's answer names, else the program
 /// that gives orders, which stands for the server.
-///
-/// # Errors
-///
-/// Want of memory alone.
 pub fn sender_of(alloc: Global, message: &[u8]) -> Result<Node, Memory>
     ensures { IfOk result (λ sender. sender ≡ sender_of message.now) }
 {
@@ -74,10 +70,6 @@ fn push_all(alloc: Global, waiting: &mut Sends, more: &[Sent]) -> Result<(), Mem
 
 /// Hands the record that came of a drive to the server, and tells what the server notes then. What that gives to send
 /// waits behind all other messages.
-///
-/// # Errors
-///
-/// Want of memory alone.
 pub fn hear_drive<L: Links, C: Clock, F>(
     alloc: Global,
     core: &mut ServerCore,
@@ -102,10 +94,6 @@ where
 
 /// Sends a message to a drive in an exchange, and hands the record that comes, if any, to the server. What that gives to
 /// send waits behind all other messages.
-///
-/// # Errors
-///
-/// Want of memory alone.
 pub fn ask_drive<L: Links, C: Clock, F>(
     alloc: Global,
     core: &mut ServerCore,

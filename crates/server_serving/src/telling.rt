@@ -33,10 +33,6 @@ fn tell_lines<L: Links>(alloc: Global, links: &mut L, lines: &[Line]) -> Result<
 
 /// Tells the notes of a step, in order, each as the line that a transcript has for it. A note that no line can tell
 /// isn't told.
-///
-/// # Errors
-///
-/// Want of memory alone.
 pub fn tell_notes<L: Links>(alloc: Global, links: &mut L, notes: Notes) -> Result<(), Memory>
     ensures told { OnOk result (L.told links.new ≡ after_notes (note_texts notes) (L.told links.old)) }
     ensures same { L.faults links.new ≡ L.faults links.old }

@@ -121,10 +121,6 @@ where
 
 /// Works these messages in order, and then what they bring, until none waits. Tells whether the accepted connection
 /// stands then: it took whole what was put on it.
-///
-/// # Errors
-///
-/// Want of memory alone.
 pub fn work_all<L: Links, C: Clock, F>(
     alloc: Global,
     core: &mut ServerCore,

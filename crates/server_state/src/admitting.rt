@@ -84,10 +84,6 @@ fn behind(
 
 /// The step of a client's request: a new one is carried out, the last one gets its answer again, and any other
 /// is misordered.
-///
-/// # Errors
-///
-/// Want of memory alone.
 #[tactic(auto, unfolding(server_rules::specs::Requests::on_request, server_rules::specs::Slots::admit))]
 pub fn on_request(
     alloc: Global,

@@ -11,10 +11,6 @@ use server_requests::{Sends, Sent, answer_bytes};
 use std::alloc::Global;
 
 /// Sends an answer to its client, which no slot keeps.
-///
-/// # Errors
-///
-/// Want of memory alone.
 pub fn send_answer(alloc: Global, sends: &mut Sends, answer: Answer) -> Result<(), Memory>
     requires { ResultsWritable answer.results }
     ensures { OnOk result (sends.new ≡ sends.old ++ sent_as (Answers answer) ∷ []) }
@@ -25,10 +21,6 @@ pub fn send_answer(alloc: Global, sends: &mut Sends, answer: Answer) -> Result<(
 }
 
 /// Sends an answer to its client, and keeps it as the last one in the client's slot.
-///
-/// # Errors
-///
-/// Want of memory alone.
 pub fn answer_to(
     alloc: Global,
     slots: &mut Slots,

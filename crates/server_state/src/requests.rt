@@ -109,10 +109,6 @@ fn carry_out_at(
 }
 
 /// The step of a new request.
-///
-/// # Errors
-///
-/// Want of memory alone.
 pub fn carry_out(
     alloc: Global,
     state: &mut State,

@@ -38,10 +38,6 @@ fn serve_at(
 }
 
 /// A request at the file of its number, `None` exactly where there is none.
-///
-/// # Errors
-///
-/// Want of memory alone.
 pub fn serve_in(
     alloc: Global,
     files: &mut Files,

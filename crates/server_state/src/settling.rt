@@ -33,10 +33,6 @@ pub fn only_sends(alloc: Global, sends: Sends) -> Step
 }
 
 /// What is left of a step that sends to drives alone: it sends and counts.
-///
-/// # Errors
-///
-/// Want of memory alone.
 pub fn settle(alloc: Global, state: &mut State, moved: Moved) -> Result<Step, Memory>
     ensures { IfOk result (Settles state.old moved state.new) }
 {

@@ -58,10 +58,6 @@ impl KeptAnswer {
     }
 
     /// The answer again.
-    ///
-    /// # Errors
-    ///
-    /// Want of memory alone.
     pub fn again(&self, alloc: Global) -> Result<Sent, Memory>
         ensures { IfOk result (λ sent. sent ≡ sent_as (Answers self.now.kept)) }
     {
@@ -100,10 +96,6 @@ fn place_of(slots: &[KeptAnswer], client: u32) -> usize
 }
 
 /// Keeps a client's last answer in the place of its former, or behind all.
-///
-/// # Errors
-///
-/// Want of memory alone.
 pub fn keep(slots: &mut Slots, slot: KeptAnswer) -> Result<(), Memory>
     ensures { OnOk result (slots.new ≡ keep slots.old slot) }
 {

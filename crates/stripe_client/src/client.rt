@@ -154,10 +154,6 @@ impl ClientCore {
 
     /// The messages whose answers are awaited, once more: the outstanding request, then the commands by stripe,
     /// component and offset.
-    ///
-    /// # Errors
-    ///
-    /// Want of memory alone.
     pub fn resend(&self) -> Result<Sends, Memory>
         ensures { IfOk result (λ sends. sends ≡ spelled (resent self.now)) }
     {

@@ -6,31 +6,31 @@
 //! specs/, over the formulas of `data_map` and the codewords of `parity_code`; nothing here sends anything.
 #![tactic(auto)]
 
-mod asking;
-mod changing;
-mod encoding;
-mod laying;
+mod laid_bytes;
 mod left;
 mod lost;
 mod needed;
+mod new_parity;
+mod outs;
+mod parity_change;
 mod plan;
 mod plans;
-mod reading;
+mod read_answer;
+mod requests;
 mod row_index;
 mod rows;
 mod touched;
 mod whole;
-mod writing;
 
-pub use asking::asks;
 pub use lost::{check_readable, check_writable, is_out, positions_out, source};
 pub use needed::is_degraded;
+pub use outs::apply_and_encode;
 pub use plan::{
     Aim, Ask, Asks, Column, Columns, Fetched, Interval, Intervals, Out, Part, Piece, Pieces,
     PlanErr, Span, Store, Stretch, Writes,
 };
 pub use plans::{plan_gather, plan_read, plan_scatter};
-pub use reading::assemble;
+pub use read_answer::assemble;
+pub use requests::asks;
 pub use rows::code_of;
 pub use touched::{holds_whole, own_columns, touched_columns, touched_stripes};
-pub use writing::apply_and_encode;

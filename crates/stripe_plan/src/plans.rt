@@ -3,10 +3,10 @@ ghost use Rattle.std.specs.Prelude.{◌≡◌, ◌+◌, ◌≤◌, ◌++◌, IfO
 ghost use Rattle.stripe_plan.specs.Plans.{gathers, pieces_of, plan_gather, plan_read, plan_scatter};
 ghost use Rattle.stripe_plan.specs.Plans.{span, writes_of, Gives};
 
-use crate::asking::asks;
-use crate::laying::{bytes_of, index_columns};
+use crate::laid_bytes::{bytes_of, index_columns};
 use crate::lost::{check_readable, check_writable};
 use crate::plan::{Aim, Asks, Columns, Out, Part, Piece, Pieces, PlanErr, Span, Writes};
+use crate::requests::asks;
 use data_map::{DataMap, MAX_FILE_SIZE};
 use osd_lists::Memory;
 use std::alloc::Global;

@@ -6,7 +6,7 @@ ghost use Rattle.stripe_plan.specs.Words.{code_of, got_in, known_in, known_rows,
 ghost use Rattle.stripe_plan.specs.Plans.{columns_of};
 ghost use Rattle.stripe_plan.specs.Indexed.{stretches_of, Indexes};
 
-use crate::laying::{fetched_bytes, zeros};
+use crate::laid_bytes::{fetched_bytes, zeros};
 use crate::lost::is_out;
 use crate::plan::{Fetched, Interval, Out};
 use crate::row_index::RowIndex;

@@ -7,9 +7,9 @@ ghost use Rattle.stripe_plan.specs.Touched.{whole};
 ghost use Rattle.stripe_plan.specs.Encoded.{place_column, AreWords, IsNewRow, NewRows};
 ghost use Rattle.stripe_plan.specs.Plans.{written_stripe};
 
-use crate::encoding::new_bytes;
-use crate::laying::zeros;
+use crate::laid_bytes::zeros;
 use crate::lost::is_out;
+use crate::new_parity::new_bytes;
 use crate::plan::{Column, Columns, Out, Span};
 use crate::rows::code_of;
 use crate::touched::own_columns;

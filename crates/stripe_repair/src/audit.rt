@@ -109,10 +109,6 @@ fn count_others(numbers: &[u64], marks: &Marks) -> u64
 impl Audit {
     /// An audit of the stripes below `high`, where `heard` are the replies to the questions after the lengths
     /// of the objects.
-    ///
-    /// # Errors
-    ///
-    /// Want of memory alone.
     pub fn new(alloc: Global, map: &DataMap, high: u64, heard: &[Heard]) -> Result<Audit, Memory>
         requires high { high ≤ MAX_FILE_SIZE }
         requires few { length heard.now ≤ MAX_COMPONENTS }
@@ -128,10 +124,6 @@ impl Audit {
     }
 
     /// The READs of the next piece. Where there are none the audit is over.
-    ///
-    /// # Errors
-    ///
-    /// Want of memory alone.
     pub fn next(
         &mut self,
         alloc: Global,
@@ -147,10 +139,6 @@ impl Audit {
     }
 
     /// Judges the first piece by what was read of it, and goes on with the next.
-    ///
-    /// # Errors
-    ///
-    /// Want of memory alone.
     pub fn feed(
         &mut self,
         alloc: Global,

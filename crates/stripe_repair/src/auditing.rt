@@ -23,10 +23,6 @@ pub enum StripeState {
 
 /// What an audit finds of a piece; `heard` are the replies to its READs. The piece is of a stripe that begins
 /// inside the longest file.
-///
-/// # Errors
-///
-/// Want of memory alone.
 #[tactic(auto, unfolding(crate::specs::Auditing::state_of))]
 pub fn judge(
     alloc: Global,

@@ -34,10 +34,6 @@ pub fn unit_with(map: &DataMap, stripe: u64, component: u32) -> u32
 
 /// The rows of a piece as they should be, in order of its stripe's units: the codewords of the data that
 /// were read, each unit's from the first present replica of its position.
-///
-/// # Errors
-///
-/// Want of memory alone.
 pub fn wanted_rows(
     alloc: Global,
     map: &DataMap,

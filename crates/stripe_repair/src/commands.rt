@@ -159,10 +159,6 @@ fn command_for(
 }
 
 /// The command that asks it of a component's object, as it is awaited. It isn't sealed.
-///
-/// # Errors
-///
-/// Want of memory alone.
 pub fn sent_to(
     alloc: Global,
     kept: &Kept,
@@ -226,10 +222,6 @@ pub fn is_meant(kept: &Kept, which: Which, component: u32) -> bool
 }
 
 /// The same to each present component that is meant, in order, with nonces that rise from `first` on.
-///
-/// # Errors
-///
-/// Want of memory alone.
 #[tactic(auto, unfolding(server_rules::specs::Commands::to_each))]
 pub fn to_all(
     alloc: Global,

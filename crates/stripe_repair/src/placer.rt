@@ -36,10 +36,6 @@ where
 
     /// So many different online drives of these. That the closure is a placer is asked again, since a type
     /// can't keep a fact about a closure.
-    ///
-    /// # Errors
-    ///
-    /// Want of memory alone.
     pub fn place(&self, count: u32, loads: &[DriveLoad]) -> Result<Numbers, Memory>
         requires rule { IsPlacer F.Fn self.now }
         requires asked { CanPlace count loads.now }

@@ -30,10 +30,6 @@ fn read_of(map: &DataMap, piece: Piece) -> Ask
 
 /// The READs of a piece: of each present component of its group, with nonces that rise from `nonce` on. The
 /// piece is of a stripe that begins inside the longest file.
-///
-/// # Errors
-///
-/// Want of memory alone.
 pub fn reads(
     alloc: Global,
     kept: &Kept,
@@ -52,10 +48,6 @@ pub fn reads(
 }
 
 /// Whether a position of the stripe of a piece has no present replica.
-///
-/// # Errors
-///
-/// Want of memory alone.
 pub fn has_short_stripe(alloc: Global, kept: &Kept, piece: Piece) -> Result<bool, Memory>
     requires few { length kept.now.components ≤ MAX_COMPONENTS }
     ensures { IfOk result (λ b. b ≡ is_short kept.now.map kept.now.components (group_of kept.now.map piece.stripe)) }
@@ -66,10 +58,6 @@ pub fn has_short_stripe(alloc: Global, kept: &Kept, piece: Piece) -> Result<bool
 
 /// Whether a repair leaves a piece as it is: its stripe has parity and is short, or the file has neither
 /// parity nor mirrors.
-///
-/// # Errors
-///
-/// Want of memory alone.
 pub fn is_left(alloc: Global, kept: &Kept, piece: Piece) -> Result<bool, Memory>
     requires few { length kept.now.components ≤ MAX_COMPONENTS }
     ensures { IfOk result (λ b. b ≡ is_left kept.now piece) }
@@ -81,10 +69,6 @@ pub fn is_left(alloc: Global, kept: &Kept, piece: Piece) -> Result<bool, Memory>
 }
 
 /// The READs of a piece in a repair: none where it is left as it is.
-///
-/// # Errors
-///
-/// Want of memory alone.
 #[tactic(auto, unfolding(server_rules::specs::Repair::repair_reads))]
 pub fn repair_reads(
     alloc: Global,
@@ -122,10 +106,6 @@ pub fn mark_short(alloc: Global, kept: &Kept, piece: Piece, short: &mut Marks) -
 
 /// The READs of a piece in the rebuild of a component: of the first present replica of its position, else of
 /// the first present replica of each other position of its group. There are none where the piece is lost.
-///
-/// # Errors
-///
-/// Want of memory alone.
 #[tactic(auto, unfolding(server_rules::specs::Rebuild::sources))]
 pub fn sources(
     alloc: Global,

@@ -119,10 +119,6 @@ impl Rebuild {
     }
 
     /// The READs of the first piece's sources, or that it is lost, or that none is left.
-    ///
-    /// # Errors
-    ///
-    /// Want of memory alone.
     pub fn next(&mut self, alloc: Global, kept: &Kept, nonce: u64) -> Result<FillStep, Memory>
         requires few { length kept.now.components ≤ MAX_COMPONENTS }
         requires low { nonce < 2 ^ 63 }
@@ -141,10 +137,6 @@ impl Rebuild {
 
     /// Makes the first piece of what its sources answered. A WRITE follows where some of its bytes isn't 0, else
     /// the next piece.
-    ///
-    /// # Errors
-    ///
-    /// Want of memory alone.
     pub fn feed(
         &mut self,
         alloc: Global,
@@ -177,10 +169,6 @@ impl Rebuild {
     }
 
     /// Goes on with the next piece when the WRITE of the first is answered.
-    ///
-    /// # Errors
-    ///
-    /// Want of memory alone.
     pub fn stored(&mut self, alloc: Global, kept: &Kept, nonce: u64) -> Result<FillStep, Memory>
         requires few { length kept.now.components ≤ MAX_COMPONENTS }
         requires low { nonce < 2 ^ 63 }

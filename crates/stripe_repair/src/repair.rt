@@ -98,10 +98,6 @@ impl Repair {
 
     /// The READs of the first piece of which something is read; those before it are left as they are. Where
     /// there are none the repair is over.
-    ///
-    /// # Errors
-    ///
-    /// Want of memory alone.
     pub fn next(
         &mut self,
         alloc: Global,
@@ -120,10 +116,6 @@ impl Repair {
     /// Goes on when what was awaited is answered; `heard` are the replies. After READs it sends the WRITEs of
     /// the piece, if it needs any. After WRITEs, or where there were none to send, it goes on with the next
     /// piece, or with the same where a component became missing meanwhile.
-    ///
-    /// # Errors
-    ///
-    /// Want of memory alone.
     pub fn feed(
         &mut self,
         alloc: Global,

@@ -21,10 +21,6 @@ use server_rules::{Awaited, Component, Heard, Kept, Piece, Target};
 use std::alloc::Global;
 
 /// The units of a stripe whose positions have no present replica.
-///
-/// # Errors
-///
-/// Want of memory alone.
 #[tactic(auto, unfolding(server_rules::specs::Decoding::lost_units))]
 pub fn lost_units(
     alloc: Global,
@@ -70,10 +66,6 @@ pub(crate) fn restored_rows(
 /// The bytes of a piece of a component that is made anew: those of the first present replica of its position,
 /// else those decoded from the other positions of its stripe, of which enough have a present replica.
 /// `heard` are the replies to the READs of its sources.
-///
-/// # Errors
-///
-/// Want of memory alone.
 #[tactic(auto, unfolding(server_rules::specs::Rebuild::made))]
 pub fn made(
     alloc: Global,
@@ -103,10 +95,6 @@ pub fn made(
 
 /// The WRITE of a piece to the component that is made anew, from its first to its last byte that isn't 0; none
 /// where it has only zeros.
-///
-/// # Errors
-///
-/// Want of memory alone.
 pub fn fill(
     alloc: Global,
     kept: &Kept,

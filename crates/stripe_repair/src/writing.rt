@@ -100,10 +100,6 @@ fn store_of(
 /// differs, in order of components, with nonces that rise from `first` on.
 ///
 /// The piece is of a stripe that begins inside the longest file. `heard` are the replies to its READs.
-///
-/// # Errors
-///
-/// Want of memory alone.
 #[tactic(auto, unfolding(server_rules::specs::Pieces::stores_from, crate::specs::Pieces::store_of))]
 pub fn stores(
     alloc: Global,

@@ -114,10 +114,6 @@ impl WriteLog {
     }
 
     /// A client is called. Where a call of it is pending, this one is refused.
-    ///
-    /// # Errors
-    ///
-    /// Want of memory.
     pub fn call(&mut self, client: u32, writes: bool) -> Result<(), Memory>
         ensures { OnOk result (self.new ≡ called self.old client writes) }
     {
@@ -231,10 +227,6 @@ impl WriteLog {
     }
 
     /// A client sends a command to a drive: its call's entry starts with the first WRITE or READ.
-    ///
-    /// # Errors
-    ///
-    /// Want of memory.
     pub fn send(&mut self, client: u32, message: usize, command: &Command) -> Result<(), Memory>
         ensures { OnOk result (self.new ≡ sent_as self.old client message command.now command.now.action) }
     {

@@ -472,10 +472,6 @@ impl Calm {
     /// Sees a step: the line with which it begins, and those behind it up to the next such line. `performed` is
     /// the message whose bytes a drive performed in it; `server` is as the step leaves it, and `mended` are the
     /// repairs that it ended.
-    ///
-    /// # Errors
-    ///
-    /// Want of memory.
     pub fn see<S: KeptFiles>(
         &mut self,
         network: &Network,

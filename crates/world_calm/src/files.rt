@@ -186,10 +186,6 @@ impl SeenFiles {
     }
 
     /// A drive failed.
-    ///
-    /// # Errors
-    ///
-    /// Want of memory.
     pub fn fail(&mut self, drive: u32) -> Result<(), Memory>
         ensures { OnOk result (self.new ≡ record self.old { failed = self.old.failed ++ drive ∷ [] }) }
     {
@@ -197,10 +193,6 @@ impl SeenFiles {
     }
 
     /// The file is as the server keeps it.
-    ///
-    /// # Errors
-    ///
-    /// Want of memory.
     pub fn show(&mut self, kept: &Kept) -> Result<(), Memory>
         ensures { OnOk result (self.new ≡ shown self.old kept.now) }
     {
@@ -233,10 +225,6 @@ impl SeenFiles {
     }
 
     /// The numbers of the files.
-    ///
-    /// # Errors
-    ///
-    /// Want of memory.
     pub fn numbers(&self) -> Result<Numbers, Memory>
         ensures { IfOk result (λ numbers. numbers ≡ map (λ e. e.0) self.now.files) }
     {
@@ -259,10 +247,6 @@ impl SeenFiles {
 
     /// The files with parity and the stripes of them in which a WRITE on a drive, at an offset of an object, is
     /// performed: each where a component stands there that isn't missing.
-    ///
-    /// # Errors
-    ///
-    /// Want of memory.
     pub fn stripes_at(&self, drive: u32, object: u64, offset: u64) -> Result<FileStripes, Memory>
         ensures { IfOk result (λ ss. ss ≡ stripes_at self.now drive object offset) }
     {

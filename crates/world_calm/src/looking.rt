@@ -38,10 +38,6 @@ pub fn sent_at(network: &Network, number: usize) -> Option<&Sent>
 }
 
 /// The grant that is returned to the server by a message, if it says so.
-///
-/// # Errors
-///
-/// Want of memory.
 pub fn returned_at(alloc: Global, network: &Network, head: &Line) -> Result<Option<u32>, Memory>
     ensures { IfOk result (λ grant. grant ≡ returned_at network.now.messages head.now) }
 {

@@ -249,10 +249,6 @@ impl Marks {
     }
 
     /// A WRITE of a write was performed in a stripe.
-    ///
-    /// # Errors
-    ///
-    /// Want of memory.
     pub fn mark(&mut self, mark: NewMark) -> Result<(), Memory>
         ensures { OnOk result (self.new ≡ marked self.old mark) }
     {
@@ -274,10 +270,6 @@ impl Marks {
     }
 
     /// A repair is over.
-    ///
-    /// # Errors
-    ///
-    /// Want of memory.
     pub fn mend(&mut self, mended: &Mended) -> Result<(), Memory>
         ensures { OnOk result (self.new ≡ all_mended self.old mended.now) }
     {

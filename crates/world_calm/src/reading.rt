@@ -19,10 +19,6 @@ use scenario_text::{Line, Party};
 use std::alloc::Global;
 
 /// The command that bytes spell.
-///
-/// # Errors
-///
-/// Want of memory.
 pub fn command_in(alloc: Global, bytes: &[u8]) -> Result<Option<Command>, Memory>
     ensures { IfOk result (λ c. c ≡ command_of (reading bytes.now)) }
 {
@@ -52,10 +48,6 @@ fn grant_in(state: &StateId) -> u32
 }
 
 /// The grant that is returned by bytes that come to the server.
-///
-/// # Errors
-///
-/// Want of memory.
 pub fn returned_by(alloc: Global, bytes: &[u8]) -> Result<Option<u32>, Memory>
     ensures { IfOk result (λ grant. grant ≡ return_in (envelope_of bytes.now)) }
 {
@@ -108,10 +100,6 @@ fn says_taken(alloc: Global, line: &Line) -> Result<bool, Memory>
 }
 
 /// Whether one of these lines is an answer that says that a report was taken as a loss.
-///
-/// # Errors
-///
-/// Want of memory.
 pub fn is_told_taken(alloc: Global, lines: &[Line]) -> Result<bool, Memory>
     ensures { IfOk result (λ b. b ≡ is_told_taken lines.now) }
 {

@@ -161,10 +161,6 @@ impl WorldClient {
     }
 
     /// Begins a call, or tells why it isn't taken.
-    ///
-    /// # Errors
-    ///
-    /// Want of memory alone.
     pub fn call(&mut self, alloc: Global, client: ClientName, op: CallOp) -> Result<Act, Memory>
         ensures { IfOk result (λ act. Acts (called client op self.old) self.new act) }
     {
@@ -187,10 +183,6 @@ impl WorldClient {
     }
 
     /// Takes bytes from a party. Bytes in which there is no message for it change nothing.
-    ///
-    /// # Errors
-    ///
-    /// Want of memory alone.
     pub fn hear(
         &mut self,
         alloc: Global,
@@ -209,10 +201,6 @@ impl WorldClient {
     }
 
     /// A component times out. That has its line, which stands first, also where nothing is awaited of it.
-    ///
-    /// # Errors
-    ///
-    /// Want of memory alone.
     pub fn time_out(
         &mut self,
         alloc: Global,
@@ -232,10 +220,6 @@ impl WorldClient {
     }
 
     /// Sends again what it waits for.
-    ///
-    /// # Errors
-    ///
-    /// Want of memory alone.
     pub fn resend(&mut self, alloc: Global, client: ClientName) -> Result<Act, Memory>
         ensures { IfOk result (λ act. Acts (resends client self.old) self.new act) }
     {
@@ -251,10 +235,6 @@ impl WorldClient {
     }
 
     /// Returns its grants, or tells that it is busy where a call is pending.
-    ///
-    /// # Errors
-    ///
-    /// Want of memory alone.
     pub fn leave(&mut self, alloc: Global, client: ClientName) -> Result<Act, Memory>
         ensures { IfOk result (λ act. Acts (left client self.old) self.new act) }
     {
@@ -274,10 +254,6 @@ impl WorldClient {
     }
 
     /// Tells that its call is still pending, where one is.
-    ///
-    /// # Errors
-    ///
-    /// Want of memory alone.
     pub fn pend(&self, alloc: Global, client: ClientName) -> Result<Act, Memory>
         ensures { IfOk result (λ act. act ≡ pending_told client (pending_op self.now.state)) }
     {

@@ -82,10 +82,6 @@ impl WorldClients {
     }
 
     /// A message comes to a client. One that there isn't or that was stopped is deaf.
-    ///
-    /// # Errors
-    ///
-    /// Want of memory alone.
     pub fn hear(
         &mut self,
         alloc: Global,
@@ -102,10 +98,6 @@ impl WorldClients {
     }
 
     /// A client begins a call, or tells why it isn't taken. Where there is no such client nothing happens.
-    ///
-    /// # Errors
-    ///
-    /// Want of memory alone.
     pub fn call(&mut self, alloc: Global, client: ClientName, op: CallOp) -> Result<Act, Memory>
         ensures { IfOk result (λ act. Does (did self.old client (called client op)) self.new act) }
     {
@@ -116,10 +108,6 @@ impl WorldClients {
     }
 
     /// A component times out at a client. Where there is no such client nothing happens.
-    ///
-    /// # Errors
-    ///
-    /// Want of memory alone.
     pub fn time_out(
         &mut self,
         alloc: Global,
@@ -135,10 +123,6 @@ impl WorldClients {
     }
 
     /// A client sends again what it waits for. Where there is no such client nothing happens.
-    ///
-    /// # Errors
-    ///
-    /// Want of memory alone.
     pub fn resend(&mut self, alloc: Global, client: ClientName) -> Result<Act, Memory>
         ensures { IfOk result (λ act. Does (did self.old client (resends client)) self.new act) }
     {
@@ -149,10 +133,6 @@ impl WorldClients {
     }
 
     /// A client returns its grants, or tells that it is busy. Where there is no such client nothing happens.
-    ///
-    /// # Errors
-    ///
-    /// Want of memory alone.
     pub fn leave(&mut self, alloc: Global, client: ClientName) -> Result<Act, Memory>
         ensures { IfOk result (λ act. Does (did self.old client (left client)) self.new act) }
     {
@@ -163,10 +143,6 @@ impl WorldClients {
     }
 
     /// A client tells that its call is still pending, where one is.
-    ///
-    /// # Errors
-    ///
-    /// Want of memory alone.
     pub fn pend(&self, alloc: Global, client: ClientName) -> Result<Act, Memory>
         ensures { IfOk result (λ act. act ≡ pends_in client (at_number self.now client)) }
     {

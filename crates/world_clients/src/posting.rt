@@ -82,10 +82,6 @@ fn post(
 
 /// Messages of a client, in order. The first WRITE of a call, before which none was sent, begins the write whose
 /// data has `logged` bytes. A message to a drive that no line can name isn't sent.
-///
-/// # Errors
-///
-/// Want of memory alone.
 pub fn postings(
     alloc: Global,
     client: ClientName,

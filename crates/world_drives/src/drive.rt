@@ -58,10 +58,6 @@ fn keys_of(alloc: Global, key: [u8; 20]) -> Result<KeyTable, Memory>
 impl WorldDrive {
     /// A drive without objects, with its number, the key that it shares with the server and its capacity in
     /// bytes. Its clock shows 0.
-    ///
-    /// # Errors
-    ///
-    /// Want of memory alone.
     pub fn new(alloc: Global, number: u32, key: [u8; 20], capacity: u64) -> Result<Self, Memory>
         ensures { IfOk result (λ drive. drive ≡ made_drive number key capacity) }
     {

@@ -105,10 +105,6 @@ impl WorldDrives {
 
     /// A message comes to a drive: it judges it and replies to the sender. One that there isn't or that failed is
     /// deaf.
-    ///
-    /// # Errors
-    ///
-    /// Want of memory alone.
     pub fn hear(
         &mut self,
         alloc: Global,

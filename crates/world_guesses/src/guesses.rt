@@ -115,10 +115,6 @@ impl Guesses {
     }
 
     /// Sees a line more. `network` has all messages of the lines so far, and may have more.
-    ///
-    /// # Errors
-    ///
-    /// Want of memory.
     pub fn see(&mut self, alloc: Global, network: &Network, line: &Line) -> Result<(), Memory>
         ensures { OnOk result (self.new ≡ sees self.old network.now.messages line.now) }
     {

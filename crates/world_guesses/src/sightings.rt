@@ -110,10 +110,6 @@ impl Sightings {
     }
 
     /// Message `number` to that drive, with these bytes.
-    ///
-    /// # Errors
-    ///
-    /// Want of memory.
     pub fn add(
         &mut self,
         network: &Network,

@@ -45,10 +45,6 @@ fn append(lines: &mut Lines, told: Lines) -> Result<(), Memory>
 }
 
 /// What a party did, with a line before all that it tells.
-///
-/// # Errors
-///
-/// Want of memory alone.
 pub fn behind(alloc: Global, line: Line, act: Act) -> Result<Act, Memory>
     ensures { IfOk result (λ a. a ≡ record { told = line ∷ act.told; posts = act.posts }) }
 {

@@ -28,10 +28,6 @@ fn post(posts: &mut Postings, alloc: Global, sent: &Sent) -> Result<(), Memory>
 }
 
 /// Messages of the server, in order. One to a party that no line can name isn't sent.
-///
-/// # Errors
-///
-/// Want of memory alone.
 pub fn postings(alloc: Global, sends: &[Sent]) -> Result<Postings, Memory>
     ensures { IfOk result (λ posts. posts ≡ postings sends.now) }
 {

@@ -57,10 +57,6 @@ impl KeptFiles for WorldServer {
 
 impl WorldServer {
     /// A server that knows no drive and has no file.
-    ///
-    /// # Errors
-    ///
-    /// Want of memory alone.
     pub fn new(alloc: Global) -> Result<Self, Memory>
         ensures { IfOk result (λ server. server ≡ record { state = new_server []; mended = [] }) }
     {
@@ -113,10 +109,6 @@ impl WorldServer {
     }
 
     /// A message comes to the server, at a time of its clock in seconds.
-    ///
-    /// # Errors
-    ///
-    /// Want of memory alone.
     pub fn hear<F>(
         &mut self,
         alloc: Global,
@@ -139,10 +131,6 @@ impl WorldServer {
 
     /// The server knows a further drive, with the key that they share and its capacity in bytes. One that it knows
     /// changes nothing.
-    ///
-    /// # Errors
-    ///
-    /// Want of memory alone.
     pub fn add_drive(
         &mut self,
         alloc: Global,
@@ -166,10 +154,6 @@ impl WorldServer {
 
     /// A file is made, or it is noted why it isn't. A map that names no parity algorithm is told as one whose groups
     /// have no width.
-    ///
-    /// # Errors
-    ///
-    /// Want of memory alone.
     pub fn make_file<F>(
         &mut self,
         alloc: Global,
@@ -204,10 +188,6 @@ impl WorldServer {
     }
 
     /// Every grant of a file is recalled.
-    ///
-    /// # Errors
-    ///
-    /// Want of memory alone.
     pub fn recall(&mut self, alloc: Global, file: FileName) -> Result<Act, Memory>
         ensures { IfOk result (Gives self.old.state (Obeys ToRecall file) self.new) }
     {
@@ -217,10 +197,6 @@ impl WorldServer {
     }
 
     /// A fence and a repair of a file begin.
-    ///
-    /// # Errors
-    ///
-    /// Want of memory alone.
     pub fn revoke<F>(
         &mut self,
         alloc: Global,
@@ -238,10 +214,6 @@ impl WorldServer {
     }
 
     /// A file's missing components are rebuilt.
-    ///
-    /// # Errors
-    ///
-    /// Want of memory alone.
     pub fn rebuild<F>(
         &mut self,
         alloc: Global,
@@ -259,10 +231,6 @@ impl WorldServer {
     }
 
     /// A file is audited.
-    ///
-    /// # Errors
-    ///
-    /// Want of memory alone.
     pub fn audit<F>(
         &mut self,
         alloc: Global,
@@ -280,10 +248,6 @@ impl WorldServer {
     }
 
     /// A failed drive is taken out.
-    ///
-    /// # Errors
-    ///
-    /// Want of memory alone.
     pub fn declare<F>(
         &mut self,
         alloc: Global,
@@ -301,10 +265,6 @@ impl WorldServer {
     }
 
     /// What jobs wait for is sent again.
-    ///
-    /// # Errors
-    ///
-    /// Want of memory alone.
     pub fn resend(&self, alloc: Global) -> Result<Act, Memory>
         ensures { IfOk result (Does self.now.state (λ w. gives w [] Resends) self.now.state) }
     {

@@ -22,10 +22,6 @@ pub fn count_all(tally: &mut Tally, lines: &[Line])
 }
 
 /// Sees some lines. `network` has all messages of them.
-///
-/// # Errors
-///
-/// Want of memory.
 pub fn see_all(
     guesses: &mut Guesses,
     alloc: Global,

@@ -145,10 +145,6 @@ fn see_from<S: KeptFiles>(
 }
 
 /// Sees the lines of a move.
-///
-/// # Errors
-///
-/// Want of memory.
 pub fn see_steps<S: KeptFiles>(
     calm: &mut Calm,
     sightings: &Sightings,

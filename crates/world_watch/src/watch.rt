@@ -66,10 +66,6 @@ impl Watch {
 
     /// Sees the lines of a move, after it, as far as calm hangs on them: `server` and `network` are as it leaves them,
     /// and `mended` are the repairs that it ended. The lines of earlier events were seen by [`Watch::see_event`].
-    ///
-    /// # Errors
-    ///
-    /// Want of memory.
     pub fn see_move<S: KeptFiles>(
         &mut self,
         network: &Network,
@@ -92,10 +88,6 @@ impl Watch {
     }
 
     /// Sees all lines of an event, after it: `network` is as it leaves it.
-    ///
-    /// # Errors
-    ///
-    /// Want of memory.
     pub fn see_event(&mut self, network: &Network, lines: &[Line]) -> Result<(), Memory>
         ensures seen { OnOk result (HasSeen network.now.messages lines.now self.old self.new) }
         ensures moments { self.new.moments ≡ self.old.moments }

@@ -36,10 +36,6 @@ impl Act {
     }
 
     /// A line is told, and nothing sent.
-    ///
-    /// # Errors
-    ///
-    /// Want of memory alone.
     pub fn line(alloc: Global, line: Line) -> Result<Self, Memory>
         ensures { IfOk result (λ act. act ≡ line_alone line) }
     {
@@ -49,10 +45,6 @@ impl Act {
     }
 
     /// A message is sent, and nothing told.
-    ///
-    /// # Errors
-    ///
-    /// Want of memory alone.
     pub fn post(alloc: Global, posting: Posting) -> Result<Self, Memory>
         ensures { IfOk result (λ act. act ≡ one_post posting) }
     {

@@ -41,10 +41,6 @@ fn tell(told: &mut Lines, note: FileNote) -> Result<(), Memory>
 }
 
 /// The notes of a step of the server as lines, in order. One that no line can tell has none.
-///
-/// # Errors
-///
-/// Want of memory alone.
 pub fn lines_of(alloc: Global, notes: Sequence<FileNote>) -> Result<Lines, Memory>
     ensures { IfOk result (λ told. told ≡ filter_map known_note_line notes) }
 {
