@@ -11,8 +11,8 @@ use Rattle.world_history.specs.Plans.{Plan, due, went_on, plan_of}
 use Rattle.world_history.specs.Runs.{world_after, lines_of, AreDue, plan_after}
 use Rattle.world_history.specs.Calm.{seen}
 use Rattle.world_history.specs.Guesses.{guarded}
-use Rattle.world_guesses.specs.Sighted.{Table}
-use Rattle.world_guesses.specs.Tied.{AreOf}
+use Rattle.world_watch.specs.Sighted.{Table}
+use Rattle.world_watch.specs.Tied.{AreOf}
 use Rattle.world_calm.specs.Seeing.{CalmState}
 use Rattle.calm_law.specs.Following.{Follows}
 use Rattle.history_law.specs.BookMoments.{IsMoment, with_event, lines_in, lines_so_far, plan_at}

@@ -19,8 +19,8 @@ use Rattle.world_history.specs.Book.{ServerSeen, server_step, sees_server, serve
 use Rattle.world_history.specs.Calm.{Seen, sees, seen, first_seen}
 use Rattle.world_history.specs.ReadDrives.{injected_by}
 use Rattle.world_history.specs.Guesses.{guarded}
-use Rattle.world_guesses.specs.Sighted.{Table}
-use Rattle.world_guesses.specs.Tied.{AreOf}
+use Rattle.world_watch.specs.Sighted.{Table}
+use Rattle.world_watch.specs.Tied.{AreOf}
 use Rattle.history_law.specs.Drives.{DrivesAreRead}
 use Rattle.history_law.specs.HistoryMoments.{IsReached}
 use Rattle.calm_law.specs.Following.{is_opening}

@@ -16,7 +16,7 @@ use Rattle.world_history.specs.Sending.{Move, move}
 use Rattle.world_history.specs.Reading.{Step}
 use Rattle.world_history.specs.Book.{ServerSeen, step_by, server_step, server_behind, sees_server}
 use Rattle.world_history.specs.Calm.{Seen, sees, seen, returned_at, takes_loss, is_told_taken, mended_in, performed_at}
-use Rattle.world_guesses.specs.Sighted.{Table}
+use Rattle.world_watch.specs.Sighted.{Table}
 use Rattle.world_calm.specs.declared.calm.Performed.{Performed}
 use Rattle.world_watch.specs.Steps.{injected_at, performed_at as performed_here}
 use Rattle.history_law.specs.HistoryMoments.{IsReached}

@@ -19,8 +19,8 @@ use Rattle.world_history.specs.Reading.{Step, is_head}
 use Rattle.world_history.specs.Book.{server_step}
 use Rattle.world_history.specs.Calm.{Seen, sees, seen, mended_in}
 use Rattle.world_history.specs.Guesses.{guarded}
-use Rattle.world_guesses.specs.Sighted.{Table}
-use Rattle.world_guesses.specs.Tied.{AreOf}
+use Rattle.world_watch.specs.Sighted.{Table}
+use Rattle.world_watch.specs.Tied.{AreOf}
 use Rattle.world_calm.specs.Seeing.{CalmState, KeptOf}
 use Rattle.world_watch.specs.Steps.{injected_at, performed_at, sees_move}
 use Rattle.calm_law.specs.Following.{Follows, StepFacts, FollowsOn, FollowsEvents, PendingIsRead, is_opening, left_pending}

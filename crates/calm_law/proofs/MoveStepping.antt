@@ -7,7 +7,7 @@ use Rattle.scenario_text.specs.declared.line.Line.TheVariants as line
 use Rattle.world_history.specs.declared.messages.Sent.{Sent}
 use Rattle.world_history.specs.ServerNames.{Mended}
 use Rattle.world_history.specs.Reading.{Grouped, is_head, grouped, grouped_with, steps_of}
-use Rattle.world_guesses.specs.Sighted.{Table}
+use Rattle.world_watch.specs.Sighted.{Table}
 use Rattle.world_calm.specs.Seeing.{CalmState, KeptOf, sees as sees_step_of}
 use Rattle.world_watch.specs.Steps.{is_headed, injected_at, performed_at, sees_headed, sees_step, sees_from, sees_move}
 use Rattle.calm_law.specs.Following.{left_pending}

@@ -5,8 +5,8 @@ use Rattle.world_history.specs.declared.messages.Sent.{Sent}
 use Rattle.world_history.specs.Laws.{MessagesAreRead}
 use Rattle.world_history.specs.Reading.{sent_after, sent_in}
 use Rattle.world_history.specs.Guesses.{Guarded, guards}
-use Rattle.world_guesses.specs.Sighted.{Table, nonce_in, of_nonce, is_same, is_same_at, first_same, first_in, sighted}
-use Rattle.world_guesses.specs.Tied.{AreBelow, AreOf, BeginWith}
+use Rattle.world_watch.specs.Sighted.{Table, nonce_in, of_nonce, is_same, is_same_at, first_same, first_in, sighted}
+use Rattle.world_watch.specs.Tied.{AreBelow, AreOf, BeginWith}
 use Rattle.calm_law.specs.Sightings.{GuardsMessages, SightsTheWorld}
 
 same_messages : (h : List Line) (g : Guarded) → (fold guards g h).sent ≡ fold sent_after g.sent h

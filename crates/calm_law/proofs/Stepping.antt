@@ -25,8 +25,8 @@ use Rattle.world_history.specs.Reading.{Step, is_head, is_drive}
 use Rattle.world_history.specs.Laws.{shown}
 use Rattle.world_history.specs.Calm.{return_in, return_for, return_of, returned_at, sent_taken, is_told_taken, takes_loss, Performed, performed_by, performed_sent, performed_first, performed_at, is_sent_as}
 use Rattle.world_calm.specs.declared.calm.Performed.{Performed as PerformedHere}
-use Rattle.world_guesses.specs.Sighted.{Table, is_same, is_same_at, sighted}
-use Rattle.world_guesses.specs.Tied.{AreOf, BeginWith}
+use Rattle.world_watch.specs.Sighted.{Table, is_same, is_same_at, sighted}
+use Rattle.world_watch.specs.Tied.{AreOf, BeginWith}
 use Rattle.world_watch.specs.Steps.{performed_to, performed_sent as sent_here, performed_found, injected_at, performed_at as performed_here}
 use Rattle.calm_law.specs.Following.{bytes_in, IsWithin, PerformsAs}
 use Rattle.history_law.specs.HistoryMoments.{IsReached}

@@ -7,8 +7,8 @@ use Rattle.world_history.specs.History.{StandsFor}
 use Rattle.world_history.specs.Laws.{shown}
 use Rattle.world_history.specs.Reading.{sent_in}
 use Rattle.world_history.specs.Guesses.{guarded}
-use Rattle.world_guesses.specs.Guessing.{GuessState}
-use Rattle.world_guesses.specs.Tied.{AreOf, Keeps}
+use Rattle.world_watch.specs.Guessing.{GuessState}
+use Rattle.world_watch.specs.Tied.{AreOf, Keeps}
 
 -- the messages of a world, as lines show them
 abbrev pub messages_of : World → List Sent

@@ -10,8 +10,8 @@ use Rattle.world_history.specs.Moves.{Opens, acts}
 use Rattle.world_history.specs.Sending.{Move, move}
 use Rattle.world_history.specs.Reading.{Step, is_head}
 use Rattle.world_history.specs.Calm.{is_told_taken, returned_at, takes_loss, performed_at}
-use Rattle.world_guesses.specs.Sighted.{Table}
-use Rattle.world_guesses.specs.Tied.{AreOf}
+use Rattle.world_watch.specs.Sighted.{Table}
+use Rattle.world_watch.specs.Tied.{AreOf}
 use Rattle.world_watch.specs.Steps.{injected_at, performed_at as performed_here}
 use Rattle.calm_law.specs.Following.{PerformsAs}
 use Rattle.history_law.specs.HistoryMoments.{IsReached}

@@ -8,8 +8,8 @@ use Rattle.world_history.specs.Told.{kind_of}
 use Rattle.client_rules.specs.declared.calls.CallOp.{CallOp}
 use Rattle.client_rules.specs.declared.client.Client.{Client}
 use Rattle.client_rules.specs.Steps.{new_client}
-use Rattle.client_exchanges.specs.declared.notices.Notice.{Notice}
-use Rattle.client_exchanges.specs.Dealing.{dealing}
+use Rattle.client_command.specs.declared.notices.Notice.{Notice}
+use Rattle.client_command.specs.Dealing.{dealing}
 use Rattle.client_command.specs.declared.calling.CallStop.TheVariants.{Lost}
 use Rattle.client_command.specs.declared.ending.Report.{Report}
 use Rattle.client_command.specs.Calling.{Calls, StopsCall}

@@ -6,12 +6,12 @@ use Rattle.client_rules.specs.declared.calls.CallOp.{CallOp}
 use Rattle.client_rules.specs.declared.client.Client.{Client}
 use Rattle.client_rules.specs.Messages.{Step}
 use Rattle.client_rules.specs.Steps.{calls, leaves}
-use Rattle.client_state.specs.declared.sending.CStep.{CStep}
-use Rattle.client_state.specs.Sending.{IsStep, spelled}
-use Rattle.client_exchanges.specs.declared.dealing.DealErr.{DealErr}
-use Rattle.client_exchanges.specs.declared.dealing.DealErr.TheVariants.{LinkFault, Memory as NoMemory}
-use Rattle.client_exchanges.specs.declared.notices.Notice.{Notice}
-use Rattle.client_exchanges.specs.Dealing.{Dealing, LosesAll, WorksAll, dealing, stepped}
+use Rattle.stripe_client.specs.declared.sending.CStep.{CStep}
+use Rattle.stripe_client.specs.Sending.{IsStep, spelled}
+use Rattle.client_command.specs.declared.dealing.DealErr.{DealErr}
+use Rattle.client_command.specs.declared.dealing.DealErr.TheVariants.{LinkFault, Memory as NoMemory}
+use Rattle.client_command.specs.declared.notices.Notice.{Notice}
+use Rattle.client_command.specs.Dealing.{Dealing, LosesAll, WorksAll, dealing, stepped}
 use Rattle.client_command.specs.declared.calling.CallStop.{CallStop}
 use Rattle.client_command.specs.declared.calling.CallStop.TheVariants.{Refused, Lost, Memory}
 

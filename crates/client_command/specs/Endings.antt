@@ -5,8 +5,8 @@ use Rattle.layout_ops.specs.declared.orders.OrderResult.TheVariants.{Started}
 use Rattle.layout_ops.specs.Enumerations.{order_result_number}
 use Rattle.client_rules.specs.declared.outcomes.Outcome.{Outcome}
 use Rattle.client_rules.specs.declared.outcomes.Outcome.TheVariants.{WriteOk, ReadOk}
-use Rattle.client_exchanges.specs.declared.notices.Notice.{Notice}
-use Rattle.client_exchanges.specs.declared.notices.Notice.TheVariants.{TimedOut, Ended as EndedCall}
+use Rattle.client_command.specs.declared.notices.Notice.{Notice}
+use Rattle.client_command.specs.declared.notices.Notice.TheVariants.{TimedOut, Ended as EndedCall}
 use Rattle.client_command.specs.declared.ending.ClientEnd.{ClientEnd}
 use Rattle.client_command.specs.declared.ending.ClientEnd.TheVariants.{Done, Refused}
 use Rattle.client_command.specs.declared.ending.Refusal.TheVariants.{Ended, Order}

@@ -4,11 +4,11 @@ use Rattle.std.specs.Io.KnownBytes.{Appends}
 use Rattle.osd_bytes.specs.Causes.{Rose}
 use Rattle.cluster_text.specs.declared.cluster.Cluster.{Cluster}
 use Rattle.cluster_text.specs.declared.cluster.Reader.TheVariants.{Client}
-use Rattle.cluster_input.specs.Inputs.{GivesCluster, RefusesCluster, IsTooLong}
-use Rattle.cluster_input.specs.Lines.{PutsLine, stop_line}
-use Rattle.cluster_input.specs.declared.stop.CommandStop.{CommandStop}
-use Rattle.cluster_input.specs.declared.stop.CommandStop.TheVariants.{BadCluster, ReadFault, WriteFault, Memory}
-use Rattle.cluster_input.specs.declared.stop.CommandStop.TheVariants.{Full, LinkFault}
+use Rattle.cluster_text.specs.Inputs.{GivesCluster, RefusesCluster, IsTooLong}
+use Rattle.cluster_text.specs.Lines.{PutsLine, stop_line}
+use Rattle.cluster_text.specs.declared.stop.CommandStop.{CommandStop}
+use Rattle.cluster_text.specs.declared.stop.CommandStop.TheVariants.{BadCluster, ReadFault, WriteFault, Memory}
+use Rattle.cluster_text.specs.declared.stop.CommandStop.TheVariants.{Full, LinkFault}
 use Rattle.command_words.specs.declared.words.ClientWords.{ClientWords}
 use Rattle.drive_command.specs.Ends.{Streams}
 use Rattle.client_command.specs.declared.ending.ClientEnd.{ClientEnd}

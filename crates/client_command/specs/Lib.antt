@@ -4,3 +4,5 @@ pub mod Calling
 pub mod Ordering
 pub mod Reports
 pub mod Ends
+pub mod Answering
+pub mod Dealing

@@ -12,8 +12,8 @@ use Rattle.client_rules.specs.declared.calls.CallOp.{CallOp}
 use Rattle.client_rules.specs.declared.client.Client.{Client}
 use Rattle.client_rules.specs.declared.outcomes.CallErr.{CallErr}
 use Rattle.client_rules.specs.Steps.{calls, new_client}
-use Rattle.client_exchanges.specs.declared.notices.Notice.{Notice}
-use Rattle.client_exchanges.specs.Dealing.{Dealing, dealing}
+use Rattle.client_command.specs.declared.notices.Notice.{Notice}
+use Rattle.client_command.specs.Dealing.{Dealing, dealing}
 use Rattle.command_words.specs.declared.work.ClientWork.{ClientWork}
 use Rattle.command_words.specs.declared.work.ClientWork.TheVariants as work
 use Rattle.command_words.specs.declared.work.Order.{Order}

@@ -6,8 +6,8 @@ use Rattle.scenario_text.specs.declared.line.CallKind.{CallKind}
 use Rattle.scenario_text.specs.declared.line.Line.{Line}
 use Rattle.scenario_text.specs.declared.line.Line.TheVariants as line
 use Rattle.client_rules.specs.declared.outcomes.CallErr.{CallErr}
-use Rattle.client_exchanges.specs.declared.notices.Notice.{Notice}
-use Rattle.client_exchanges.specs.declared.notices.Notice.TheVariants.{TimedOut, Ended}
+use Rattle.client_command.specs.declared.notices.Notice.{Notice}
+use Rattle.client_command.specs.declared.notices.Notice.TheVariants.{TimedOut, Ended}
 use Rattle.world_history.specs.Told.{told_refusal}
 use Rattle.world_history.specs.Names.{known_outcome}
 use Rattle.world_history.specs.Handed.{end_line}

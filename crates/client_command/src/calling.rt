@@ -3,11 +3,12 @@ ghost use Rattle.std.specs.Prelude.{◌≡◌, ◌≤◌, ◌<◌, ◌++◌, [],
 ghost use Rattle.client_rules.specs.declared.client.Client.{Client};
 ghost use Rattle.client_rules.specs.declared.limits.TheConstants.{MAX_CLIENT};
 ghost use Rattle.client_rules.specs.Steps.{new_client};
-ghost use Rattle.client_exchanges.specs.Dealing.{WorksAll, dealing, ended};
+ghost use Rattle.client_command.specs.Dealing.{WorksAll, dealing, ended};
 ghost use Rattle.client_command.specs.Calling.{Begins, Calls, Deals, StopsBegin, StopsCall, StopsDeal, StopsReturn};
 ghost use Rattle.client_command.specs.Calling.{leaving, stop_of_deal};
 
-use client_exchanges::{DealErr, Notice, Notices, deal};
+use crate::dealing::{DealErr, deal};
+use crate::notices::{Notice, Notices};
 use osd_bytes::Links;
 use osd_lists::Memory;
 use std::alloc::Global;

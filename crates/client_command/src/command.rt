@@ -6,8 +6,7 @@ ghost use Rattle.client_command.specs.Ends.{EndsClient, StopsClient, StopsTellin
 
 use crate::ending::{ClientEnd, Report};
 use crate::reporting::report;
-use cluster_input::{CommandStop, cluster_from, put_stop, settle_at};
-use cluster_text::{Cluster, Reader};
+use cluster_text::{Cluster, CommandStop, Reader, cluster_from, put_stop, settle_at};
 use command_words::ClientWords;
 use osd_bytes::{Links, Sink, Source, put_all};
 use std::alloc::Global;

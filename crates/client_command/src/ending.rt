@@ -2,7 +2,7 @@
 ghost use Rattle.std.specs.Prelude.{◌≡◌, IfOk};
 ghost use Rattle.client_command.specs.Endings.{end_by_outcome, end_by_result, end_of};
 
-use client_exchanges::Notice;
+use crate::notices::Notice;
 use layout_ops::OrderResult;
 use osd_lists::{Bytes, Memory, Numbers};
 use std::alloc::Global;

@@ -9,16 +9,16 @@ ghost use Rattle.client_command.specs.Reports.{IsReport, Reports, ReportsCall, o
 
 use crate::calling::{CallStop, call_new};
 use crate::ending::{ClientEnd, Refusal, Report, end_of};
+use crate::notices::{Notice, Notices};
 use crate::ordering::report_order;
 use crate::telling::{call_text, push_next, refusal_text};
-use client_exchanges::{Notice, Notices};
 use command_words::{ClientWords, ClientWork};
 use osd_bytes::Links;
 use osd_lists::Memory;
 use scenario_text::{Call, CallKind, ClientName};
 use std::alloc::Global;
 use stripe_client::{CallErr, CallOp};
-use world_words::kind_of;
+use world_network::kind_of;
 
 // A call as the client takes it.
 fn op_of(call: Call) -> CallOp

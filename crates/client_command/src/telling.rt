@@ -4,13 +4,12 @@ ghost use Rattle.scenario_text.specs.LineSpelling.{lines_text};
 ghost use Rattle.client_command.specs.Telling.{call_lines, next_line, notice_lines, order_line, refusal_lines};
 
 use crate::ending::copied;
-use client_exchanges::Notice;
+use crate::notices::Notice;
 use osd_lists::{Bytes, Memory};
 use scenario_text::{CallKind, ClientName, Line, write_lines};
 use std::alloc::Global;
 use stripe_client::{CallErr, Outcome};
-use world_network::Lines;
-use world_words::{told_outcome, told_refusal};
+use world_network::{Lines, told_outcome, told_refusal};
 
 // Adds the line of an end, where a line can tell it.
 fn push_end(

@@ -1,7 +1,7 @@
 // A server with one file, and the moves of a case.
 ghost use Rattle.std.specs.Prelude.{[], ◌≡◌, IfOk};
 ghost use Rattle.std.specs.Result.{ForOk};
-ghost use Rattle.server_orders.specs.Adding.{CanAdd};
+ghost use Rattle.layout_server.specs.Adding.{CanAdd};
 ghost use Rattle.stripe_repair.specs.Placing.{CanPlace, IsPlacer, Places};
 
 use crate::moves::{Move, Questions, bytes_of, sender};

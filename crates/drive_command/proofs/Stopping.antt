@@ -2,9 +2,9 @@
 use Rattle.std.proofs.Common.{ℕ}
 use Rattle.cluster_text.specs.declared.cluster.Cluster.{Cluster}
 use Rattle.cluster_text.specs.declared.cluster.Reader.TheVariants.{Drive}
-use Rattle.cluster_input.specs.Inputs.{GivesCluster}
-use Rattle.cluster_input.specs.declared.stop.CommandStop.{CommandStop}
-use Rattle.cluster_input.specs.declared.stop.CommandStop.TheVariants.{BadCluster, ReadFault, WriteFault, Memory, Full, LinkFault}
+use Rattle.cluster_text.specs.Inputs.{GivesCluster}
+use Rattle.cluster_text.specs.declared.stop.CommandStop.{CommandStop}
+use Rattle.cluster_text.specs.declared.stop.CommandStop.TheVariants.{BadCluster, ReadFault, WriteFault, Memory, Full, LinkFault}
 use Rattle.drive_command.specs.Connections.{Ends}
 use Rattle.drive_command.specs.Ends.{StopsDrive, StopsIn, Streams}
 use Rattle.drive_command.proofs.Described.{described}

@@ -6,11 +6,11 @@ use Rattle.osd_bytes.specs.Causes.{Rose}
 use Rattle.cluster_text.specs.declared.cluster.Cluster.{Cluster}
 use Rattle.cluster_text.specs.declared.cluster.Reader.TheVariants.{Drive}
 use Rattle.cluster_text.specs.declared.errors.ClusterKind.TheVariants.{Missing}
-use Rattle.cluster_input.specs.Inputs.{GivesCluster, RefusesCluster, IsTooLong}
-use Rattle.cluster_input.specs.Lines.{PutsLine, stop_line}
-use Rattle.cluster_input.specs.declared.stop.CommandStop.{CommandStop}
-use Rattle.cluster_input.specs.declared.stop.CommandStop.TheVariants.{BadCluster, ReadFault, WriteFault, Memory}
-use Rattle.cluster_input.specs.declared.stop.CommandStop.TheVariants.{Full, LinkFault}
+use Rattle.cluster_text.specs.Inputs.{GivesCluster, RefusesCluster, IsTooLong}
+use Rattle.cluster_text.specs.Lines.{PutsLine, stop_line}
+use Rattle.cluster_text.specs.declared.stop.CommandStop.{CommandStop}
+use Rattle.cluster_text.specs.declared.stop.CommandStop.TheVariants.{BadCluster, ReadFault, WriteFault, Memory}
+use Rattle.cluster_text.specs.declared.stop.CommandStop.TheVariants.{Full, LinkFault}
 use Rattle.osd_bytes.specs.declared.serve_err.ServeErr.{ServeErr}
 use Rattle.osd_bytes.specs.declared.serve_err.ServeErr.TheVariants.{LinkFault as NoConnection, Memory as NoMemory}
 use Rattle.osd_drive.specs.State.{DriveState}

@@ -4,8 +4,7 @@ ghost use Rattle.drive_command.specs.Ends.{EndsDrive, ServesAs, ServesIn, StopsD
 
 use crate::own::{new_core, own_drive};
 use crate::serving::serve_core;
-use cluster_input::{CommandStop, cluster_from, put_stop, settle_at};
-use cluster_text::{Cluster, ClusterKind, Reader};
+use cluster_text::{Cluster, ClusterKind, CommandStop, Reader, cluster_from, put_stop, settle_at};
 use osd_bytes::{Clock, Links, Sink, Source};
 use std::alloc::Global;
 

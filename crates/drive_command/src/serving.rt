@@ -4,7 +4,7 @@ ghost use Rattle.drive_command.specs.Connections.{ServesAll, ends_of};
 ghost use Rattle.drive_command.specs.Ends.{Serves, StopsAccepting, StopsServing, served_line, stop_of_serving};
 
 use crate::connections::serve;
-use cluster_input::CommandStop;
+use cluster_text::CommandStop;
 use osd_bytes::{Clock, Links, ServeErr, Sink, put_all};
 use osd_drive::DriveCore;
 use osd_lists::Memory;

@@ -7,9 +7,9 @@ use Rattle.server_rules.specs.declared.server.Refusal.{Refusal}
 use Rattle.server_rules.specs.Making.{create_file, refusal}
 use Rattle.server_state.specs.declared.step.Step.{Step}
 use Rattle.server_state.specs.States.{Did}
-use Rattle.server_orders.specs.declared.creating.FileErr.{FileErr}
-use Rattle.server_orders.specs.declared.creating.FileErr.TheVariants.{Memory}
-use Rattle.server_orders.specs.Creating.{cause_of}
+use Rattle.layout_server.specs.declared.creating.FileErr.{FileErr}
+use Rattle.layout_server.specs.declared.creating.FileErr.TheVariants.{Memory}
+use Rattle.layout_server.specs.Creating.{cause_of}
 
 -- a file was made, on some drives
 abbrev pub Makes : (number : ℕ) → RawMap → (tag : ℕ) → Server → Server → Step → Type 0

@@ -5,11 +5,13 @@ ghost use Rattle.server_rules.specs.Envelopes.{on_bytes};
 ghost use Rattle.server_rules.specs.Orders.{ordered, with_result};
 ghost use Rattle.server_requests.specs.Reading.{message_rule};
 ghost use Rattle.server_state.specs.States.{server_of, Did, HasRoom, IsGood};
-ghost use Rattle.server_orders.specs.Orders.{Obeys};
+ghost use Rattle.layout_server.specs.Orders.{Obeys};
 
+use crate::declaring::order_declare;
+use crate::orders::{Obeyed, order_job, order_recall};
+use crate::replies::on_drive_reply;
 use layout_ops::{Order, OrderAnswer, OrderKind};
 use osd_lists::{Memory, Node, Numbers};
-use server_orders::{Obeyed, on_drive_reply, order_declare, order_job, order_recall};
 use server_requests::{Message, Sends, message_in, send_order_answer};
 use server_rules::{JobKind, MAX_CLIENT};
 use server_state::{State, Step, on_request, only_sends};

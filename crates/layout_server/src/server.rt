@@ -11,18 +11,19 @@ ghost use Rattle.server_rules.specs.Messages.{counters_low, resend};
 ghost use Rattle.server_rules.specs.Orders.{ordered};
 ghost use Rattle.server_requests.specs.Sending.{all_sent};
 ghost use Rattle.server_state.specs.States.{server_of, Did, HasRoom, IsGood};
-ghost use Rattle.server_orders.specs.Adding.{IsNew, CanAdd, and_drives, drive_of};
-ghost use Rattle.server_orders.specs.Resending.{waited_of};
+ghost use Rattle.layout_server.specs.Adding.{IsNew, CanAdd, and_drives, drive_of};
+ghost use Rattle.layout_server.specs.Resending.{waited_of};
 ghost use Rattle.layout_server.specs.Calls.{Makes, IsRefused};
 
+use crate::creating::{FileErr, create_file};
+use crate::declaring::order_declare;
+use crate::drives::{DriveInfo, DriveTable, add_drive, add_drives};
 use crate::looking::{kept_of, numbers_of};
 use crate::messages::hear;
+use crate::orders::{order_job, order_recall};
+use crate::resending::{resend, waits};
 use data_map::RawMap;
 use osd_lists::{Memory, Node, Numbers};
-use server_orders::{
-    DriveInfo, DriveTable, FileErr, add_drive, add_drives, create_file, order_declare, order_job,
-    order_recall, resend, waits,
-};
 use server_requests::Sends;
 use server_rules::{COUNTERS_END, Drive, JobKind, Kept};
 use server_state::{State, Step};

@@ -19,14 +19,14 @@ use Rattle.world_history.specs.Book.{step_by}
 use Rattle.world_history.specs.Calm.{mended_in}
 use Rattle.world_history.specs.Drives.{made_drive}
 use Rattle.world_history.specs.Moves.{Act as WorldAct, Opens, changed as only_changed, at_drive, injects, adds_drive, stops, pends, makes, gives, begins, raw_of, has_algorithm, knows_drive, known_drive}
-use Rattle.world_words.specs.declared.acts.Act.{Act}
-use Rattle.world_words.specs.Acts.{IsAct, IsDone, nothing, line_alone}
-use Rattle.world_drives.specs.Drives.{Injects, injected, changed}
-use Rattle.world_drives.specs.Laws.{with_drives, DrivesInject, DrivesChange, injects_as}
-use Rattle.world_clients.specs.Clients.{Table, Did, Does, pends_in, stopped}
-use Rattle.world_clients.specs.Laws.{with_clients, IsDid, ClientsPend, ClientsStop}
-use Rattle.world_server.specs.State.{WorldServerState}
-use Rattle.world_server.specs.Acting as server
+use Rattle.world_network.specs.declared.acts.Act.{Act}
+use Rattle.world_network.specs.Acts.{IsAct, IsDone, nothing, line_alone}
+use Rattle.world_parties.specs.Drives.{Injects, injected, changed}
+use Rattle.world_parties.specs.DriveLaws.{with_drives, DrivesInject, DrivesChange, injects_as}
+use Rattle.world_parties.specs.Clients.{Table, Did, Does, pends_in, stopped}
+use Rattle.world_parties.specs.ClientLaws.{with_clients, IsDid, ClientsPend, ClientsStop}
+use Rattle.layout_world.specs.ServerState.{WorldServerState}
+use Rattle.layout_world.specs.ServerActing as server
 use Rattle.layout_world.specs.declared.parties.Parties.{Parties}
 use Rattle.layout_world.specs.State.{ShowsWith, Shows}
 use Rattle.layout_world.specs.Groups.{is_plain}

@@ -26,15 +26,15 @@ use Rattle.world_history.specs.Reading.{arrived, left_out}
 use Rattle.world_history.specs.Laws.{shown}
 use Rattle.world_network.specs.Network.{NetworkState, is_pending, Delivers, Drops}
 use Rattle.world_network.specs.Shows.{AllMarksAreShown}
-use Rattle.world_words.specs.declared.acts.Act.{Act}
-use Rattle.world_words.specs.declared.acts.Handed.{Handed}
-use Rattle.world_words.specs.Acts.{IsAct, IsHanded, nothing}
-use Rattle.world_drives.specs.Drives.{Heard as DrivesHeard, heard, Hears as DriveHears}
-use Rattle.world_drives.specs.Laws.{with_drives, DrivesHear}
-use Rattle.world_clients.specs.Clients.{Table, Heard as ClientsHeard, heard_in, Hears as ClientHears}
-use Rattle.world_clients.specs.Laws.{with_clients, ClientsHear}
-use Rattle.world_server.specs.State.{WorldServerState}
-use Rattle.world_server.specs.Acting.{Hears as ServerHears}
+use Rattle.world_network.specs.declared.acts.Act.{Act}
+use Rattle.world_network.specs.declared.acts.Handed.{Handed}
+use Rattle.world_network.specs.Acts.{IsAct, IsHanded, nothing}
+use Rattle.world_parties.specs.Drives.{Heard as DrivesHeard, heard, Hears as DriveHears}
+use Rattle.world_parties.specs.DriveLaws.{with_drives, DrivesHear}
+use Rattle.world_parties.specs.Clients.{Table, Heard as ClientsHeard, heard_in, Hears as ClientHears}
+use Rattle.world_parties.specs.ClientLaws.{with_clients, ClientsHear}
+use Rattle.layout_world.specs.ServerState.{WorldServerState}
+use Rattle.layout_world.specs.ServerActing.{Hears as ServerHears}
 use Rattle.layout_world.specs.declared.parties.Parties.{Parties}
 use Rattle.history_law.specs.Doing.{heard_of, brought}
 use Rattle.layout_world.specs.State.{Settled, ShowsWith, Shows}

@@ -14,8 +14,8 @@ use Rattle.world_history.specs.Runs.{world_after, lines_of, AreDue, plan_after}
 use Rattle.world_history.specs.History.Begins.{Part}
 use Rattle.layout_world.specs.declared.parties.Parties.{Parties}
 use Rattle.layout_world.specs.State.{Shows}
-use Rattle.world_guesses.specs.Sighted.{Table}
-use Rattle.world_guesses.specs.Guessing.{GuessState}
+use Rattle.world_watch.specs.Sighted.{Table}
+use Rattle.world_watch.specs.Guessing.{GuessState}
 use Rattle.world_calm.specs.Seeing.{CalmState}
 use Rattle.world_watch.specs.State.{WatchState}
 use Rattle.calm_law.specs.Moving.{sees_one, sees_moves}

@@ -9,3 +9,7 @@ mod Finishing
 mod Began
 mod Opened
 mod Watched
+pub mod ServerActed
+pub mod Knowing
+pub mod Posted
+pub mod Refused

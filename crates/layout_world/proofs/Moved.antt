@@ -14,8 +14,8 @@ use Rattle.world_history.specs.Sending.{Move, move}
 use Rattle.world_history.specs.Calm.{mended_in}
 use Rattle.world_history.specs.Reading.{arrived}
 use Rattle.world_network.specs.Network.{NetworkState}
-use Rattle.world_words.specs.declared.acts.Act.{Act}
-use Rattle.world_words.specs.Acts.{IsAct}
+use Rattle.world_network.specs.declared.acts.Act.{Act}
+use Rattle.world_network.specs.Acts.{IsAct}
 use Rattle.layout_world.specs.declared.parties.Parties.{Parties}
 use Rattle.world_watch.specs.State.{WatchState}
 use Rattle.history_law.specs.BookMoments.{with_event, lines_in}

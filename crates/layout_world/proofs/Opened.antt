@@ -11,8 +11,8 @@ use Rattle.world_history.specs.State.{World}
 use Rattle.world_history.specs.Moves.{Action, Opens, begins, acts}
 use Rattle.world_history.specs.Plans.{rule_of, plan_of}
 use Rattle.world_history.specs.Refusals.{refusal}
-use Rattle.world_words.specs.declared.acts.Act.{Act}
-use Rattle.world_words.specs.Acts.{IsAct}
+use Rattle.world_network.specs.declared.acts.Act.{Act}
+use Rattle.world_network.specs.Acts.{IsAct}
 use Rattle.world_history.specs.Moves.{Act as WorldAct}
 use Rattle.layout_world.specs.declared.parties.Parties.{Parties}
 use Rattle.layout_world.specs.State.{ShowsWith, Shows}

@@ -14,9 +14,9 @@ use Rattle.world_network.specs.declared.posting.Posting.{Posting}
 use Rattle.world_network.specs.Network.{NetworkState}
 use Rattle.world_network.specs.Posting.{sent}
 use Rattle.world_network.specs.Shows.{posting_of}
-use Rattle.world_words.specs.declared.acts.Act.{Act}
-use Rattle.world_words.specs.Acts.{IsAct}
-use Rattle.world_moves.specs.Moving.{act_of, Performs, ActsAreMoves}
+use Rattle.world_network.specs.declared.acts.Act.{Act}
+use Rattle.world_network.specs.Acts.{IsAct}
+use Rattle.world_network.specs.Moving.{act_of, Performs, ActsAreMoves}
 use Rattle.layout_world.specs.declared.parties.Parties.{Parties}
 use Rattle.world_watch.specs.State.{WatchState}
 use Rattle.world_watch.specs.Steps.{sees_move}

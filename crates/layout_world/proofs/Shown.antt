@@ -2,7 +2,7 @@
 use Rattle.std.proofs.Common.{◌≡◌, ℕ, List, refl}
 use Rattle.world_history.specs.ServerNames.{Mended}
 use Rattle.world_history.specs.State.{DriveAt, ClientAt, World, with_server}
-use Rattle.world_server.specs.State.{WorldServerState}
+use Rattle.layout_world.specs.ServerState.{WorldServerState}
 use Rattle.layout_world.specs.declared.parties.Parties.{Parties}
 use Rattle.layout_world.specs.State.{ShowsWith, Shows}
 

@@ -14,8 +14,8 @@ use Rattle.world_history.specs.State.{World}
 use Rattle.world_history.specs.Runs.{world_after, lines_of}
 use Rattle.world_history.specs.History.{StandsFor, Appended, Goes}
 use Rattle.world_history.specs.Summing.{counts_line}
-use Rattle.world_tally.specs.Capping.{Counts}
-use Rattle.world_guesses.specs.Guessing.{GuessState}
+use Rattle.world_watch.specs.Capping.{Counts}
+use Rattle.world_watch.specs.Guessing.{GuessState}
 use Rattle.world_network.specs.Network.{NetworkState}
 use Rattle.world_network.specs.Shows.{Shows as ShowsNetwork}
 use Rattle.world_watch.specs.State.{WatchState}

@@ -12,9 +12,9 @@ use Rattle.world_history.specs.Moves.{Act as WorldAct, Action}
 use Rattle.world_history.specs.Book.{step_by}
 use Rattle.world_history.specs.Calm.{mended_in}
 use Rattle.world_network.specs.Network.{NetworkState, Delivers}
-use Rattle.world_words.specs.declared.acts.Act.{Act}
-use Rattle.world_words.specs.declared.acts.Handed.{Handed}
-use Rattle.world_words.specs.Acts.{IsAct}
+use Rattle.world_network.specs.declared.acts.Act.{Act}
+use Rattle.world_network.specs.declared.acts.Handed.{Handed}
+use Rattle.world_network.specs.Acts.{IsAct}
 use Rattle.layout_world.specs.declared.parties.Parties.{Parties}
 use Rattle.history_law.specs.Doing.{brought_to, did_in}
 use Rattle.layout_world.specs.State.{ShowsWith, Shows}

@@ -6,3 +6,7 @@ pub mod Rules
 pub mod Refusing
 pub mod Steps
 pub mod Watching
+pub mod ServerActing
+pub mod Making
+pub mod Posting
+pub mod ServerState

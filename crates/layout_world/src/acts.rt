@@ -4,7 +4,7 @@ ghost use Rattle.world_history.specs.declared.err.WorldErr.TheVariants.{Memory};
 ghost use Rattle.world_history.specs.ServerNames.{Mended};
 ghost use Rattle.world_history.specs.State.{World};
 ghost use Rattle.world_history.specs.Moves.{Act as WorldAct};
-ghost use Rattle.world_words.specs.Acts.{IsAct};
+ghost use Rattle.world_network.specs.Acts.{IsAct};
 ghost use Rattle.layout_world.specs.State.{ShowsWith, Shows};
 ghost use Rattle.layout_world.specs.Acting.{Grows};
 ghost use Rattle.layout_world.specs.Going.{Performed, SeesAct, SeesBehind};
@@ -14,10 +14,8 @@ ghost use Rattle.layout_world.specs.Watching.{LeavesTold};
 use crate::parties::Parties;
 use std::alloc::Global;
 use world_history::WorldErr;
-use world_moves::{acts_are_moves, perform as perform_act};
-use world_network::Lines;
+use world_network::{Act, Lines, acts_are_moves, perform as perform_act};
 use world_watch::Watch;
-use world_words::Act;
 
 // The watch sees the lines of a move, which begin at `before`.
 fn watch_lines(

@@ -13,8 +13,8 @@ use osd_lists::{Memory, Numbers};
 use scenario_text::{DriveName, Event, Line, Sender};
 use std::alloc::Global;
 use stripe_repair::{DriveLoad, Placer};
-use world_drives::drives_are_the_worlds;
-use world_words::Act;
+use world_network::Act;
+use world_parties::drives_are_the_worlds;
 
 // Bytes are injected into a drive. Its reply goes nowhere.
 fn inject(

@@ -8,8 +8,8 @@ use client_rules::CallOp;
 use osd_lists::{Bytes, Memory};
 use scenario_text::{Call, ClientName};
 use std::alloc::Global;
-use world_clients::clients_are_the_worlds;
-use world_words::Act;
+use world_network::Act;
+use world_parties::clients_are_the_worlds;
 
 /// The call of an event, as the client takes it.
 pub fn op_of(alloc: Global, call: &Call) -> Result<CallOp, Memory>

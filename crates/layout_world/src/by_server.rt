@@ -12,7 +12,7 @@ use osd_lists::{Memory, Numbers};
 use scenario_text::{DriveName, FileMap, FileName};
 use std::alloc::Global;
 use stripe_repair::{DriveLoad, Placer};
-use world_words::Act;
+use world_network::Act;
 
 /// A drive is made, and the server knows it. There must be none of that number.
 pub fn add_drive(

@@ -10,10 +10,8 @@ use crate::parties::Parties;
 use osd_lists::Memory;
 use scenario_text::{ClientName, DriveName, Event, Machine};
 use std::alloc::Global;
-use world_clients::clients_are_the_worlds;
-use world_drives::drives_are_the_worlds;
-use world_network::network_shows;
-use world_words::Act;
+use world_network::{Act, network_shows};
+use world_parties::{clients_are_the_worlds, drives_are_the_worlds};
 
 // A drive takes no more capabilities of a format below this one.
 fn raise_least(parties: &mut Parties, alloc: Global, drive: DriveName, format: u8) -> Act

@@ -10,11 +10,8 @@ use osd_lists::{Memory, Numbers};
 use scenario_text::{ClientName, Delivery, DriveName, Line, Party};
 use std::alloc::Global;
 use stripe_repair::{DriveLoad, Placer};
-use world_clients::clients_are_the_worlds;
-use world_drives::drives_are_the_worlds;
-use world_moves::behind;
-use world_network::network_shows;
-use world_words::{Act, Handed, node_of};
+use world_network::{Act, Handed, behind, network_shows, node_of};
+use world_parties::{clients_are_the_worlds, drives_are_the_worlds};
 
 // Message `number` comes to a drive.
 fn hand_drive(

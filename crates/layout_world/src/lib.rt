@@ -2,6 +2,7 @@
 //!
 //! [`World`] carries out the events of a scenario one after another and appends the lines of each. An event is one move
 //! after another, each the action of one party; `world_history` defines them all, and what a lawful history is.
+//! [`WorldServer`] is the metadata server as a party of a world: it says what is told and what is sent.
 #![tactic(auto)]
 
 mod acts;
@@ -12,13 +13,17 @@ mod changing;
 mod delivering;
 mod err_name;
 mod following;
+mod making;
 mod moving;
 mod parties;
+mod posting;
 mod refusing;
 mod rules;
+mod server;
 mod world;
 
 pub use err_name::error_name;
+pub use server::WorldServer;
 pub use world::World;
 pub use world_history::{Summary, WorldErr};
 pub use world_network::Lines;

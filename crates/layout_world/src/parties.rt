@@ -3,12 +3,11 @@ ghost use Rattle.world_history.specs.declared.limits.TheConstants.{MAX_KEPT};
 ghost use Rattle.world_history.specs.State.{World, empty_world};
 ghost use Rattle.layout_world.specs.State.{Settled, Shows};
 
+use crate::server::WorldServer;
 use osd_lists::Memory;
 use std::alloc::Global;
-use world_clients::WorldClients;
-use world_drives::WorldDrives;
 use world_network::Network;
-use world_server::WorldServer;
+use world_parties::{WorldClients, WorldDrives};
 
 /// All parties of a scenario, and every message between them.
 #[derive(Drop)]

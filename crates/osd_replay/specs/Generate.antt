@@ -15,7 +15,7 @@ use Rattle.world_history.specs.State.{World}
 use Rattle.world_history.specs.Refusals.{refusal}
 use Rattle.world_history.specs.Runs.{FillsUp}
 use Rattle.world_history.specs.Summing.{summary_of}
-use Rattle.world_tally.specs.Capping.{capped_summary}
+use Rattle.world_watch.specs.Capping.{capped_summary}
 use Rattle.scenario_text.specs.Spelling.{Fits}
 use Rattle.history_law.specs.Read.{AreWritten}
 use Rattle.exchange_law.specs.Text.{AreOfText, AreFew}

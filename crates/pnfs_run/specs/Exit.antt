@@ -1,7 +1,7 @@
 -- How a run of the program ends, by how its command ended, and the exit status of the program then.
 use Rattle.std.specs.Prelude.{ℕ}
-use Rattle.cluster_input.specs.declared.stop.CommandStop.{CommandStop}
-use Rattle.cluster_input.specs.declared.stop.CommandStop.TheVariants as stop
+use Rattle.cluster_text.specs.declared.stop.CommandStop.{CommandStop}
+use Rattle.cluster_text.specs.declared.stop.CommandStop.TheVariants as stop
 use Rattle.client_command.specs.declared.ending.ClientEnd.{ClientEnd}
 use Rattle.client_command.specs.declared.ending.ClientEnd.TheVariants as client
 use Rattle.osd_replay.specs.declared.status.Quantity.TheVariants.{Input}

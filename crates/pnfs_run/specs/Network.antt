@@ -2,8 +2,8 @@
 use Rattle.std.specs.Prelude.{◌≡◌, ◌⊎◌, ℕ, List, ⊤, Option}
 use Rattle.clap.specs.Walk.{Text}
 use Rattle.clap.specs.Simple.{App}
-use Rattle.cluster_input.specs.Lines.{PutsLine}
-use Rattle.cluster_input.specs.declared.stop.CommandStop.{CommandStop}
+use Rattle.cluster_text.specs.Lines.{PutsLine}
+use Rattle.cluster_text.specs.declared.stop.CommandStop.{CommandStop}
 use Rattle.command_words.specs.declared.words.ClientWords.{ClientWords}
 use Rattle.command_words.specs.declared.words.DriveWords.{DriveWords}
 use Rattle.command_words.specs.declared.words.ServerWords.{ServerWords}

@@ -1,7 +1,7 @@
 // The three commands over a network.
 ghost use Rattle.std.specs.Prelude.{◌≡◌, ℕ, List, Option, map, string_bytes};
 ghost use Rattle.stripe_repair.specs.Placing.{IsPlacer};
-ghost use Rattle.cluster_input.specs.Lines.{PutsLine};
+ghost use Rattle.cluster_text.specs.Lines.{PutsLine};
 ghost use Rattle.command_words.specs.declared.words.WordsErr.TheVariants as words_err;
 ghost use Rattle.command_words.specs.Options.{client_options, drive_options, server_options};
 ghost use Rattle.command_words.specs.Asked.{Refuses, client_gives, drive_gives, server_gives};
@@ -12,7 +12,7 @@ ghost use Rattle.pnfs_run.specs.Run.{JudgesWords};
 
 use crate::status::Status;
 use client_command::client_command;
-use cluster_input::{CommandStop, put_stop};
+use cluster_text::{CommandStop, put_stop};
 use command_words::{WordsErr, client_words, drive_words, server_words};
 use drive_command::drive_command;
 use osd_bytes::{Clock, Links, Sink, Source, put_all};

@@ -3,8 +3,7 @@ ghost use Rattle.std.specs.Prelude.{◌≡◌};
 ghost use Rattle.pnfs_run.specs.Exit.{exit_code_of};
 
 use client_command::{ClientEnd, Refusal};
-use cluster_input::CommandStop;
-use cluster_text::ClusterKind;
+use cluster_text::{ClusterKind, CommandStop};
 use osd_replay::{Quantity, ScenarioKind, Status as ReplayStatus};
 
 /// How a run ended.

@@ -2,3 +2,9 @@ pub mod Described
 pub mod Refusing
 pub mod Rising
 pub mod Stopping
+pub mod NonceLaws
+pub mod WorkLaws
+pub mod ConnectionLaws
+pub mod Keeping
+pub mod KnowingLaws
+pub mod MakingLaws

@@ -3,14 +3,14 @@ use Rattle.std.proofs.Common.{◌≡◌, ℕ, List, Option, Ok, true, [], subst,
 use Rattle.cluster_text.specs.declared.cluster.Cluster.{Cluster}
 use Rattle.cluster_text.specs.declared.cluster.ClusterFile.{ClusterFile}
 use Rattle.cluster_text.specs.declared.cluster.Reader.TheVariants.{Server as ServerReads}
-use Rattle.cluster_input.specs.Inputs.{GivesCluster}
-use Rattle.cluster_input.specs.declared.stop.CommandStop.{CommandStop}
-use Rattle.cluster_input.specs.declared.stop.CommandStop.TheVariants.{BadCluster, ReadFault, WriteFault, Memory, Full, LinkFault}
+use Rattle.cluster_text.specs.Inputs.{GivesCluster}
+use Rattle.cluster_text.specs.declared.stop.CommandStop.{CommandStop}
+use Rattle.cluster_text.specs.declared.stop.CommandStop.TheVariants.{BadCluster, ReadFault, WriteFault, Memory, Full, LinkFault}
 use Rattle.osd_bytes.specs.Asking.{Ends}
 use Rattle.server_rules.specs.declared.server.Server.{Server}
-use Rattle.server_serving.specs.Work.{serving}
-use Rattle.server_files.specs.Knowing.{server_in}
-use Rattle.server_files.specs.Making.{MakesFiles}
+use Rattle.server_command.specs.Work.{serving}
+use Rattle.server_command.specs.Knowing.{server_in}
+use Rattle.server_command.specs.Making.{MakesFiles}
 use Rattle.drive_command.specs.Ends.{Streams}
 use Rattle.server_command.specs.Ends.{HasMade, StopsIn, StopsServer, StopsServing}
 use Rattle.server_command.proofs.Described.{sound}

@@ -6,17 +6,17 @@ use Rattle.cluster_text.specs.declared.cluster.Cluster.{Cluster}
 use Rattle.cluster_text.specs.declared.cluster.Reader.TheVariants.{Server as ServerReads}
 use Rattle.cluster_text.specs.declared.errors.ClusterKind.{ClusterKind}
 use Rattle.cluster_text.specs.declared.errors.ClusterKind.TheVariants.{Range}
-use Rattle.cluster_input.specs.Inputs.{GivesCluster, RefusesCluster, IsTooLong}
-use Rattle.cluster_input.specs.Lines.{PutsLine, stop_line}
-use Rattle.cluster_input.specs.declared.stop.CommandStop.{CommandStop}
-use Rattle.cluster_input.specs.declared.stop.CommandStop.TheVariants.{BadCluster, ReadFault, WriteFault, Memory}
-use Rattle.cluster_input.specs.declared.stop.CommandStop.TheVariants.{Full, LinkFault}
+use Rattle.cluster_text.specs.Inputs.{GivesCluster, RefusesCluster, IsTooLong}
+use Rattle.cluster_text.specs.Lines.{PutsLine, stop_line}
+use Rattle.cluster_text.specs.declared.stop.CommandStop.{CommandStop}
+use Rattle.cluster_text.specs.declared.stop.CommandStop.TheVariants.{BadCluster, ReadFault, WriteFault, Memory}
+use Rattle.cluster_text.specs.declared.stop.CommandStop.TheVariants.{Full, LinkFault}
 use Rattle.osd_bytes.specs.Asking.{Ends}
 use Rattle.server_rules.specs.declared.server.Server.{Server}
-use Rattle.server_serving.specs.Work.{serving}
-use Rattle.server_serving.specs.Serving.{IsRefused, ServesAll}
-use Rattle.server_files.specs.Knowing.{server_in}
-use Rattle.server_files.specs.Making.{LosesFiles, MakesFiles, RefusesFiles}
+use Rattle.server_command.specs.Work.{serving}
+use Rattle.server_command.specs.Serving.{IsRefused, ServesAll}
+use Rattle.server_command.specs.Knowing.{server_in}
+use Rattle.server_command.specs.Making.{LosesFiles, MakesFiles, RefusesFiles}
 use Rattle.drive_command.specs.Ends.{Streams, listening_line, served_line}
 
 -- ---- serving over links that listen

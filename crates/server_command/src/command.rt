@@ -4,12 +4,12 @@ ghost use Rattle.stripe_repair.specs.Placing.{IsPlacer};
 ghost use Rattle.drive_command.specs.Ends.{streams};
 ghost use Rattle.server_command.specs.Ends.{EndsServer, ServesAs, ServesIn, StopsIn, StopsServer};
 
+use crate::drives::server_of;
+use crate::files::make_files;
 use crate::serving::serve_core;
-use cluster_input::{CommandStop, cluster_from, put_stop, settle_at};
-use cluster_text::{Cluster, Reader};
+use cluster_text::{Cluster, CommandStop, Reader, cluster_from, put_stop, settle_at};
 use osd_bytes::{Clock, Links, Sink, Source};
 use osd_lists::{Memory, Numbers};
-use server_files::{make_files, server_of};
 use std::alloc::Global;
 use stripe_repair::{DriveLoad, Placer};
 

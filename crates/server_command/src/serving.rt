@@ -5,11 +5,11 @@ ghost use Rattle.stripe_repair.specs.Placing.{IsPlacer};
 ghost use Rattle.drive_command.specs.Ends.{served_line, stop_of_serving};
 ghost use Rattle.server_command.specs.Ends.{Serves, StopsServing};
 
-use cluster_input::CommandStop;
+use crate::connections::serve;
+use cluster_text::CommandStop;
 use layout_server::ServerCore;
 use osd_bytes::{Clock, Links, ServeErr, Sink, put_all};
 use osd_lists::{Memory, Numbers};
-use server_serving::serve;
 use std::alloc::Global;
 use stripe_repair::{DriveLoad, Placer};
 

@@ -8,7 +8,7 @@ use Rattle.std.proofs.lemmas.List.Sums.{sum_by-cons}
 use Rattle.std.proofs.lemmas.Map.Entries.{sum_by-remove_entry}
 use Rattle.stripe_repair.specs.declared.loads.TheConstants.{MAX_DRIVES}
 use Rattle.file_jobs.specs.declared.job.FileState.{FileState}
-use Rattle.drive_counts.specs.Counts.{Counts, AreCounts, standing}
+use Rattle.server_state.specs.Counts.{Counts, AreCounts, standing}
 use Rattle.server_state.specs.Replies.{OthersStay}
 use Rattle.server_state.specs.Standing.{standing_of, standing_if, standing_in, AreCounted}
 use Rattle.server_state.specs.Tables.{Table, entry_at, without}

@@ -3,3 +3,7 @@ pub mod SlotLaws
 pub mod ReplyLaws
 pub mod CountLaws
 pub mod StepLaws
+pub mod Keys
+pub mod Commands
+pub mod SoundLaws
+pub mod ServingLaws

@@ -13,7 +13,7 @@ use Rattle.osd_lists.specs.declared.memory.Memory.{Memory}
 use Rattle.server_rules.specs.declared.server.Server.{Server}
 use Rattle.server_rules.specs.Files.{Step as RulesStep}
 use Rattle.file_jobs.specs.declared.job.FileState.{FileState}
-use Rattle.reply_index.specs.Index.{Keys, has}
+use Rattle.server_state.specs.Index.{Keys, has}
 use Rattle.server_state.specs.declared.step.Step.{Step}
 use Rattle.server_state.specs.States.{Did}
 use Rattle.server_state.specs.Tables.{Table, entry_at, without}

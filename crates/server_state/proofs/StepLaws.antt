@@ -25,16 +25,16 @@ use Rattle.server_requests.specs.declared.sending.Sent.{Sent}
 use Rattle.server_requests.specs.Sending.{sent_as, all_sent}
 use Rattle.file_jobs.specs.declared.job.FileState.{FileState}
 use Rattle.file_jobs.specs.Steps.{at, file_of}
-use Rattle.file_requests.specs.declared.outcome.Asking.{Asking}
-use Rattle.file_requests.specs.Serving.{served_by, serves_for}
+use Rattle.server_state.specs.declared.outcome.Asking.{Asking}
+use Rattle.server_state.specs.FileRequests.{served_by, serves_for}
 use Rattle.server_state.specs.declared.serving.Served.{Served}
 use Rattle.server_state.specs.declared.state.State.{State}
 use Rattle.server_state.specs.declared.step.Step.{Step}
-use Rattle.reply_index.specs.Index.{Keys}
+use Rattle.server_state.specs.Index.{Keys}
 use Rattle.server_rules.specs.declared.server.Drive.{Drive}
 use Rattle.server_state.specs.Drives.{AreDrives}
 use Rattle.server_state.specs.Replies.{AreListedBut, OthersStay}
-use Rattle.drive_counts.specs.Counts.{Counts}
+use Rattle.server_state.specs.Counts.{Counts}
 use Rattle.server_state.specs.Standing.{AreCounted}
 use Rattle.server_state.specs.Tables.{Table, files_in, entry_at, without, AreEntries}
 use Rattle.server_state.specs.AtFile.{ServedAt}

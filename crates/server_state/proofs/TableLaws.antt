@@ -9,7 +9,7 @@ use Rattle.std.proofs.lemmas.Bool.{cases_Bool}
 use Rattle.std.proofs.lemmas.Bool.Decides.{nat_tests}
 use Rattle.server_rules.specs.Files.{file_at, put_file}
 use Rattle.server_rules.specs.Requests.{size_in}
-use Rattle.file_requests.specs.Serving.{LeavesFile}
+use Rattle.server_state.specs.FileRequests.{LeavesFile}
 use Rattle.file_jobs.specs.declared.job.FileState.{FileState}
 use Rattle.file_jobs.specs.Steps.{file_of}
 use Rattle.file_jobs.specs.Sound.{IsSoundFile}

@@ -10,8 +10,8 @@ use Rattle.server_rules.specs.Answers.{file_answer}
 use Rattle.layout_ops.specs.Spelling.{ResultsWritable}
 use Rattle.server_requests.specs.Telling.{told_rule}
 use Rattle.file_jobs.specs.declared.job.FileState.{FileState}
-use Rattle.file_requests.specs.declared.outcome.Asking.{Asking}
-use Rattle.file_requests.specs.Serving.{Serves, Counts, LeavesFile, serves_for}
+use Rattle.server_state.specs.declared.outcome.Asking.{Asking}
+use Rattle.server_state.specs.FileRequests.{Serves, Counts, LeavesFile, serves_for}
 use Rattle.server_state.specs.declared.serving.Served.{Served}
 use Rattle.server_state.specs.Tables.{Table, entry_at}
 

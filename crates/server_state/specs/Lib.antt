@@ -5,3 +5,6 @@ pub mod Standing
 pub mod Drives
 pub mod States
 pub mod AtFile
+pub mod Counts
+pub mod Index
+pub mod FileRequests

@@ -2,7 +2,7 @@
 use Rattle.std.specs.Prelude.{ℕ, Bool, false, Option, Some, None, ◌≡◌, ◌==◌, ◌&&◌, not}
 use Rattle.server_rules.specs.declared.jobs.Job.{Job}
 use Rattle.file_jobs.specs.declared.job.FileState.{FileState}
-use Rattle.reply_index.specs.Index.{Keys, has, are_to}
+use Rattle.server_state.specs.Index.{Keys, has, are_to}
 use Rattle.server_state.specs.Tables.{Table, entry_at, without}
 
 -- the job, if one runs, awaits a reply of nonce x from drive d

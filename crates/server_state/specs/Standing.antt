@@ -2,7 +2,7 @@
 use Rattle.std.specs.Prelude.{ℕ, Option, unwrap_or, option_map, sum_by}
 use Rattle.std.specs.Map.{values_of}
 use Rattle.file_jobs.specs.declared.job.FileState.{FileState}
-use Rattle.drive_counts.specs.Counts.{Counts, AreCounts, standing}
+use Rattle.server_state.specs.Counts.{Counts, AreCounts, standing}
 use Rattle.server_state.specs.Tables.{Table}
 
 -- how many present components of the file stand on drive d

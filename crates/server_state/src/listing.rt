@@ -1,15 +1,15 @@
 // Which replies the files await, and how many components stand on each drive.
 ghost use Rattle.std.specs.Prelude.{◌≡◌, ◌==◌, ◌&&◌, ◌||◌, ℕ, not, IfOk, OnOk};
-ghost use Rattle.reply_index.specs.Index.{has};
+ghost use Rattle.server_state.specs.Index.{has};
 ghost use Rattle.server_state.specs.Replies.{job_awaits, AreListed};
 ghost use Rattle.server_state.specs.Standing.{AreCounted};
 ghost use Rattle.server_state.specs.States.{server_of, IsGood, IsGoodBut, IsReady};
 
+use crate::counts::DriveCounts;
+use crate::index::ReplyIndex;
 use crate::state::{Files, State};
-use drive_counts::DriveCounts;
 use file_jobs::FileState;
 use osd_lists::Memory;
-use reply_index::ReplyIndex;
 use std::alloc::Global;
 
 // What the file's job awaits isn't listed any more.

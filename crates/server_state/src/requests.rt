@@ -7,11 +7,11 @@ ghost use Rattle.server_state.specs.States.{server_of, IsGood, IsGoodBut, HasRoo
 
 use crate::answering::answer_to;
 use crate::listing::{list, unlist};
+use crate::outcome::Asking;
 use crate::serving::{Served, serve_in};
 use crate::settling::{begins, only_sends};
 use crate::state::State;
 use crate::step::Step;
-use file_requests::Asking;
 use layout_ops::{NFS4_OK, NFS4ERR_BADLAYOUT, NFS4ERR_NOENT};
 use osd_lists::Memory;
 use server_requests::{Sends, plain_answer, send_recalls, send_to_drives};

@@ -3,9 +3,10 @@ ghost use Rattle.file_jobs.specs.Sound.{IsSoundFile};
 ghost use Rattle.server_state.specs.Tables.{AreEntries};
 ghost use Rattle.server_state.specs.AtFile.{ServedAt, ServedIn};
 
+use crate::file_requests::serve;
+use crate::outcome::{Asking, Outcome};
 use crate::state::Files;
 use file_jobs::FileState;
-use file_requests::{Asking, Outcome, serve};
 use layout_ops::Answer;
 use osd_lists::Memory;
 use server_requests::file_answer;

@@ -2,12 +2,12 @@ ghost use Rattle.std.specs.Prelude.{◌≡◌, []};
 ghost use Rattle.server_rules.specs.Making.{new_server};
 ghost use Rattle.server_state.specs.States.{server_of, IsGood};
 
+use crate::counts::DriveCounts;
+use crate::index::ReplyIndex;
 use crate::slots::Slots;
-use drive_counts::DriveCounts;
 use file_jobs::FileState;
 use osd_capability::FORMAT_SHA1;
 use osd_lists::Sequence;
-use reply_index::ReplyIndex;
 use server_rules::{Drive, FIRST_OBJECT};
 use std::alloc::Global;
 use std::collections::BTreeMap;

@@ -3,8 +3,7 @@ ghost use Rattle.std.specs.Result.{ForOk};
 ghost use Rattle.stripe_repair.specs.Placing.{CanPlace, Places};
 
 use crate::messages::{Came, ORDER, Told, copied, framed, numbers, streams, went_out};
-use cluster_input::CommandStop;
-use cluster_text::ClusterKind;
+use cluster_text::{ClusterKind, CommandStop};
 use osd_bytes::{Clock, Links, MemClock, MemLinks, MemSink, MemSource, Sink, Source};
 use osd_commands::{Reply, write_reply};
 use osd_lists::{ByteLists, Bytes, Memory, Numbers, Times};

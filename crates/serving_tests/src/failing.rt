@@ -2,7 +2,7 @@
 use crate::live::LiveLinks;
 use crate::messages::copied;
 use crate::parties::{ServerEnd, server_with_a_file};
-use client_exchanges::{DealErr, Notice, Notices, deal};
+use client_command::{DealErr, Notice, Notices, deal};
 use osd_bytes::Links;
 use osd_lists::Bytes;
 use std::alloc::Global;

@@ -11,8 +11,7 @@ use layout_server::ServerCore;
 use osd_bytes::{Clock, Links, MemClock};
 use osd_drive::{DriveCore, DriveKey, KeyTable};
 use osd_lists::{Bytes, Memory, Node, Numbers, Times};
-use server_files::{make_files, server_of};
-use server_serving::serve;
+use server_command::{make_files, serve, server_of};
 use std::alloc::Global;
 use stripe_repair::{DriveLoad, Placer};
 

@@ -4,7 +4,7 @@ use crate::messages::{Came, ORDER, Told, numbers, streams, went_out};
 use layout_server::{DriveTable, ServerCore};
 use osd_bytes::{Clock, Links, MemClock, MemLinks};
 use osd_lists::{ByteLists, Memory, Numbers, Times};
-use server_serving::serve;
+use server_command::serve;
 use std::alloc::Global;
 use stripe_repair::{DriveLoad, Placer};
 

@@ -5,8 +5,8 @@ use Rattle.client_rules.specs.declared.client.Outgoing.TheVariants.{Asks}
 use Rattle.layout_ops.specs.declared.messages.Request.{Request}
 use Rattle.client_rules.specs.Messages.{to_drive}
 use Rattle.client_rules.specs.Steps.{outstanding_sends}
-use Rattle.client_state.specs.States.{list_of}
-use Rattle.client_state.specs.Sending.{sent_of, spelled}
+use Rattle.stripe_client.specs.States.{list_of}
+use Rattle.stripe_client.specs.Sending.{sent_of, spelled}
 
 pub resent_bytes : (o : Option Request) (xs : List Awaited) →
     spelled (outstanding_sends o ++ map to_drive xs) ≡ ([] ++ map sent_of (map Asks (list_of o)))

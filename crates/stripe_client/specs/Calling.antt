@@ -8,8 +8,8 @@ use Rattle.client_rules.specs.declared.outcomes.CallErr.TheVariants.{Memory}
 use Rattle.client_rules.specs.Calls.{span_of}
 use Rattle.client_rules.specs.Messages.{Step}
 use Rattle.client_rules.specs.Steps.{is_bad_range, is_spent}
-use Rattle.client_state.specs.declared.sending.CStep.{CStep}
-use Rattle.client_state.specs.Sending.{IsStep}
+use Rattle.stripe_client.specs.declared.sending.CStep.{CStep}
+use Rattle.stripe_client.specs.Sending.{IsStep}
 
 -- why a call isn't taken
 abbrev pub refusal : Client → CallOp → Option CallErr

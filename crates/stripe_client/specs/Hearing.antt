@@ -8,9 +8,9 @@ use Rattle.layout_ops.specs.declared.messages.Answer.{Answer}
 use Rattle.layout_ops.specs.declared.recalls.Recall.{Recall}
 use Rattle.client_rules.specs.Requests.{grant_in}
 use Rattle.client_rules.specs.Messages.{is_awaited}
-use Rattle.client_state.specs.declared.state.State.{State}
-use Rattle.client_state.specs.declared.state.Made.{Made}
-use Rattle.client_state.specs.States.{client_of}
+use Rattle.stripe_client.specs.declared.state.State.{State}
+use Rattle.stripe_client.specs.declared.state.Made.{Made}
+use Rattle.stripe_client.specs.States.{client_of}
 
 -- a step has made nothing yet
 abbrev pub nothing_made : Made

@@ -3,3 +3,8 @@ pub mod Answering
 pub mod Hearing
 pub mod Driving
 pub mod Calling
+pub mod Outstanding
+pub mod States
+pub mod Inside
+pub mod Sending
+pub mod Asking

@@ -11,7 +11,7 @@ use Rattle.client_rules.specs.Grants.{held_of, covers}
 use Rattle.client_rules.specs.Going.{phased, moved, starts_under, begins}
 use Rattle.stripe_client.specs.declared.begin.Cover.{Cover}
 use Rattle.stripe_client.specs.declared.begin.Cover.TheVariants as cover
-use Rattle.client_state.specs.declared.state.State.{State}
+use Rattle.stripe_client.specs.declared.state.State.{State}
 
 -- it needs the server, or waits while a request is outstanding
 abbrev pub started : State → CallOp → Need → State

@@ -7,14 +7,15 @@ ghost use Rattle.client_rules.specs.Going.{over};
 ghost use Rattle.client_rules.specs.Messages.{on_get, on_need};
 ghost use Rattle.held_grants.specs.Ranges.{AsksInFile};
 ghost use Rattle.stripe_client.specs.Answering.{commits, answers_need};
-ghost use Rattle.client_state.specs.States.{done_of};
-ghost use Rattle.client_state.specs.Inside.{IsInside};
+ghost use Rattle.stripe_client.specs.States.{done_of};
+ghost use Rattle.stripe_client.specs.Inside.{IsInside};
 
+use crate::state::{Made, State};
+use crate::turning::{apply, end, go_on, turn};
 use call_io::{CallMove, CallPhase, CallTurn, accounted};
 use client_rules::{
     AwaitedCommands, CallOp, Held, LOSS_TAKEN, MAX_TRIES, NO_COMPONENT, Need, Outcome, TimedOuts,
 };
-use client_state::{Made, State, apply, end, go_on, turn};
 use held_grants::{file_of, span_of, taken};
 use layout_ops::{
     Answer, LayoutCommitResult, LayoutGetResult, LayoutReturnResult, NFS4_OK, NFS4ERR_BADLAYOUT,

@@ -5,12 +5,13 @@ ghost use Rattle.client_rules.specs.Grants.{held_of};
 ghost use Rattle.client_rules.specs.Going.{begun};
 ghost use Rattle.held_grants.specs.Ranges.{AsksInFile};
 ghost use Rattle.stripe_client.specs.Starting.{started, cover_of, Deals, starts};
-ghost use Rattle.client_state.specs.States.{done_of};
-ghost use Rattle.client_state.specs.Inside.{IsInside};
+ghost use Rattle.stripe_client.specs.States.{done_of};
+ghost use Rattle.stripe_client.specs.Inside.{IsInside};
 
+use crate::state::{Made, PendingCall, State};
+use crate::turning::{apply, go_on};
 use call_io::{CallPhase, begins};
 use client_rules::{CallOp, Need};
-use client_state::{Made, PendingCall, State, apply, go_on};
 use held_grants::{covers, file_of};
 use osd_lists::Memory;
 use std::alloc::Global;

@@ -5,16 +5,17 @@ ghost use Rattle.client_rules.specs.Commands.{in_order};
 ghost use Rattle.client_rules.specs.Steps.{is_bad_range, is_spent, writes_nothing, starts, leaves, resent, awaits, awaited_component};
 ghost use Rattle.held_grants.specs.Ranges.{IsInFile, AsksInFile};
 ghost use Rattle.stripe_client.specs.Calling.{refusal};
-ghost use Rattle.client_state.specs.States.{client_of};
-ghost use Rattle.client_state.specs.Sending.{IsStep, spelled};
-ghost use Rattle.client_state.specs.Inside.{IsInside};
+ghost use Rattle.stripe_client.specs.States.{client_of};
+ghost use Rattle.stripe_client.specs.Sending.{IsStep, spelled};
+ghost use Rattle.stripe_client.specs.Inside.{IsInside};
 
+use crate::sending::{CStep, Sends, push_commands, push_request};
+use crate::state::{PendingCall, State};
 use crate::stepping::{finish, quiet, still};
 use call_io::CallPhase;
 use client_rules::{
     AwaitedCommands, Awaits, CallErr, CallOp, GREATEST_SEQUENCE, MAX_CALL, Outcome, SPARE_REQUESTS,
 };
-use client_state::{CStep, PendingCall, Sends, State, push_commands, push_request};
 use data_map::MAX_FILE_SIZE;
 use held_grants::{is_write, span_of};
 use osd_lists::Memory;

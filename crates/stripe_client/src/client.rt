@@ -2,19 +2,21 @@ ghost use Rattle.std.specs.Prelude.{◌≡◌, ◌≤◌, ◌<◌, None, IfOk, O
 ghost use Rattle.client_rules.specs.declared.limits.TheConstants.{MAX_CLIENT};
 ghost use Rattle.client_rules.specs.Envelopes.{in_envelope, on_message_in, on_bytes};
 ghost use Rattle.osd_lists.specs.declared.node.Node.TheVariants as node;
-ghost use Rattle.client_state.specs.States.{client_of};
-ghost use Rattle.client_state.specs.Inside.{IsInside};
+ghost use Rattle.stripe_client.specs.States.{client_of};
+ghost use Rattle.stripe_client.specs.Inside.{IsInside};
 ghost use Rattle.client_rules.specs.Steps.{new_client, calls, times_out, leaves, resent, awaits, awaited_component, next_sequence};
 ghost use Rattle.std.specs.Option.{option_copied, option_map};
 ghost use Rattle.client_rules.specs.declared.calls.Call.{Call};
 ghost use Rattle.stripe_client.specs.Calling.{Gives, refusal};
-ghost use Rattle.client_state.specs.Sending.{IsStep, spelled};
+ghost use Rattle.stripe_client.specs.Sending.{IsStep, spelled};
 
 use crate::calling;
 use crate::driving::{hear_nothing, hear_reply};
+use crate::outstanding::Outstanding;
+use crate::sending::{CStep, Sends};
+use crate::state::State;
 use crate::stepping::{hear_answer, hear_recall, still};
 use client_rules::{Awaits, CallErr, CallOp};
-use client_state::{CStep, Outstanding, Sends, State};
 use held_grants::{Dues, HeldGrants};
 use layout_ops::{Envelope, OpErr, read_envelope};
 use osd_commands::{CommandErr, read_reply};
@@ -34,8 +36,8 @@ pub struct ClientCore {
 
 impl Model for ClientCore {
     ghost use Rattle.client_rules.specs.declared.client.Client.{Client};
-    ghost use Rattle.client_state.specs.States.{client_of};
-    ghost use Rattle.client_state.specs.Inside.{IsInside};
+    ghost use Rattle.stripe_client.specs.States.{client_of};
+    ghost use Rattle.stripe_client.specs.Inside.{IsInside};
 
     ghost Value = { Client };
 

@@ -4,15 +4,19 @@ ghost use Rattle.osd_lists.specs.declared.node.Node.TheVariants as node;
 ghost use Rattle.client_rules.specs.Grants.{held_of};
 ghost use Rattle.client_rules.specs.Messages.{finished, hears, Answers, Recalls, on_call, recall_answer};
 ghost use Rattle.stripe_client.specs.Hearing.{nothing_made, awaits_answer, recall_status};
-ghost use Rattle.client_state.specs.States.{client_of, done_of};
-ghost use Rattle.client_state.specs.Sending.{IsStep};
-ghost use Rattle.client_state.specs.Inside.{IsInside, HasNotAsked};
+ghost use Rattle.stripe_client.specs.States.{client_of, done_of};
+ghost use Rattle.stripe_client.specs.Sending.{IsStep};
+ghost use Rattle.stripe_client.specs.Inside.{IsInside, HasNotAsked};
 
 use crate::answers::{on_need, status_of};
+use crate::asking::progress;
 use crate::begin::begin;
+use crate::outstanding::Outstanding;
+use crate::sending::{CStep, Sends, close};
+use crate::state::{Made, PendingCall, State};
+use crate::turning::go_on;
 use call_io::CallPhase;
 use client_rules::{AwaitedCommands, MAX_CLIENT};
-use client_state::{CStep, Made, Outstanding, PendingCall, Sends, State, close, go_on, progress};
 use held_grants::{grant_in, make_due};
 use layout_ops::{
     Answer, NFS4_OK, NFS4ERR_LAYOUTTRYLATER, NFS4ERR_NOMATCHING_LAYOUT, Recall, RecallAnswer,

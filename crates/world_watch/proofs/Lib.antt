@@ -1,3 +1,7 @@
 mod Reading
 mod Telling
 mod Stepping
+mod Sums
+mod Finding
+mod Sighting
+mod Keeping

@@ -14,10 +14,10 @@ use Rattle.world_history.specs.declared.summary.Summary.{Summary}
 use Rattle.world_history.specs.Reading.{is_drive, arrived, left_out, changed_by, sent_after}
 use Rattle.world_history.specs.Guesses.{Guarded, guards, guarded}
 use Rattle.world_history.specs.Summing.{counts_line, no_summary, summary_of}
-use Rattle.world_tally.specs.Capping.{capped_summary}
-use Rattle.world_guesses.specs.Sighted.{is_same_at}
-use Rattle.world_guesses.specs.Guessing.{GuessState, sees}
-use Rattle.world_guesses.specs.Tied.{Keeps, IsNext, KeepsFirst, KeepsOn}
+use Rattle.world_watch.specs.Capping.{capped_summary}
+use Rattle.world_watch.specs.Sighted.{is_same_at}
+use Rattle.world_watch.specs.Guessing.{GuessState, sees}
+use Rattle.world_watch.specs.Tied.{Keeps, IsNext, KeepsFirst, KeepsOn}
 use Rattle.world_watch.specs.Watching.{sees_all}
 use Rattle.world_watch.specs.Laws.{Letter, letter, letters_after, letters_on, letters_in, WatchBegins, WatchGoesOn}
 

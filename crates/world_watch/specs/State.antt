@@ -1,7 +1,7 @@
 -- What is kept for the last line and the summary.
 use Rattle.world_history.specs.declared.summary.Summary.{Summary}
 use Rattle.world_history.specs.Summing.{no_summary}
-use Rattle.world_guesses.specs.Guessing.{GuessState, no_guess}
+use Rattle.world_watch.specs.Guessing.{GuessState, no_guess}
 use Rattle.world_calm.specs.Seeing.{CalmState, calm_at_first}
 
 -- what tells whether the run is unguessed; the numbers of its calls; and what is kept of its moments, with whether all so

@@ -10,7 +10,7 @@ use Rattle.scenario_text.specs.declared.line.Line.TheVariants as line
 use Rattle.world_history.specs.declared.messages.Sent.{Sent}
 use Rattle.world_history.specs.ServerNames.{Mended}
 use Rattle.world_history.specs.Reading.{is_head}
-use Rattle.world_guesses.specs.Sighted.{Table, sighted}
+use Rattle.world_watch.specs.Sighted.{Table, sighted}
 use Rattle.world_calm.specs.declared.calm.Performed.{Performed}
 use Rattle.world_calm.specs.Seeing.{CalmState, KeptOf, sees as sees_step_of}
 

@@ -5,9 +5,9 @@ use Rattle.scenario_text.specs.declared.line.Line.{Line}
 use Rattle.world_history.specs.declared.messages.Sent.{Sent}
 use Rattle.world_history.specs.Guesses.{guarded}
 use Rattle.world_history.specs.Summing.{counts_line, summary_of}
-use Rattle.world_tally.specs.Capping.{capped_summary, Counts}
-use Rattle.world_guesses.specs.Guessing.{GuessState, sees}
-use Rattle.world_guesses.specs.Tied.{Keeps}
+use Rattle.world_watch.specs.Capping.{capped_summary, Counts}
+use Rattle.world_watch.specs.Guessing.{GuessState, sees}
+use Rattle.world_watch.specs.Tied.{Keeps}
 use Rattle.world_watch.specs.State.{WatchState}
 
 -- the guesses behind some lines, where these are the messages

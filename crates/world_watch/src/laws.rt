@@ -1,7 +1,7 @@
 // What is kept of a run's lines is what is read off them, for the crates above.
 ghost use Rattle.world_watch.specs.Laws.{EventsTell, WatchBegins, WatchGoesOn};
 
-use world_guesses::guesses_are_read;
+use crate::guess_laws::guesses_are_read;
 
 /// What is kept stands for what the definitions read off the lines: before the first line, and after further lines
 /// where it did so before, as long as the network has the messages of all lines so far. It has them behind each move of

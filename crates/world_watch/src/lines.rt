@@ -2,15 +2,15 @@
 ghost use Rattle.std.specs.Prelude.{◌≡◌, OnOk};
 ghost use Rattle.std.specs.List.{fold};
 ghost use Rattle.world_history.specs.Summing.{counts_line};
-ghost use Rattle.world_tally.specs.Capping.{Counts};
+ghost use Rattle.world_watch.specs.Capping.{Counts};
 ghost use Rattle.world_watch.specs.Watching.{sees_all};
 
+use crate::guesses::Guesses;
+use crate::tally::Tally;
 use osd_lists::Memory;
 use scenario_text::Line;
 use std::alloc::Global;
-use world_guesses::Guesses;
 use world_network::Network;
-use world_tally::Tally;
 
 /// Counts some lines.
 pub fn count_all(tally: &mut Tally, lines: &[Line])

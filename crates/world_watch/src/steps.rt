@@ -3,11 +3,11 @@ ghost use Rattle.std.specs.Prelude.{◌≡◌, slice_get, OnOk};
 ghost use Rattle.world_history.specs.Reading.{is_head};
 ghost use Rattle.world_watch.specs.Steps.{injected_at, is_headed, performed_at, performed_sent, sees_from, sees_headed, sees_move, sees_step};
 
+use crate::sightings::Sightings;
 use osd_lists::Memory;
 use scenario_text::{Delivery, Event, Line, Party, Verdict};
 use server_rules::Mended;
 use world_calm::{Calm, KeptFiles, Performed};
-use world_guesses::Sightings;
 use world_network::Network;
 
 // Whether a step begins with the line.

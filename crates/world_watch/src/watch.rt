@@ -4,18 +4,18 @@ ghost use Rattle.world_watch.specs.State.{no_watch};
 ghost use Rattle.world_watch.specs.Steps.{sees_move};
 ghost use Rattle.world_watch.specs.Watching.{HasSeen};
 
+use crate::guesses::Guesses;
 use crate::lines::{count_all, see_all};
 use crate::steps::see_steps;
+use crate::tally::Tally;
 use osd_lists::Memory;
 use scenario_text::Line;
 use server_rules::Mended;
 use std::alloc::Global;
 use std::marker::Model;
 use world_calm::{Calm, KeptFiles};
-use world_guesses::Guesses;
 use world_history::Summary;
 use world_network::Network;
-use world_tally::Tally;
 
 /// The two flags of a transcript's last line, and the numbers of its calls, as far as the lines go.
 #[derive(Drop)]

@@ -1,7 +1,7 @@
 use Rattle.std.proofs.Common.{[]}
 use Rattle.server_rules.specs.History.{Formats}
 use Rattle.world_history.specs.Moves.{gives}
-use Rattle.world_words.specs.Acts.{nothing}
+use Rattle.world_network.specs.Acts.{nothing}
 use Rattle.layout_world.proofs.Acted.{server_keeps}
 use Rattle.layout_world.proofs.by_server.set_format.Goals as goal
 

@@ -1,7 +1,7 @@
 use Rattle.std.proofs.Common.{◌≡◌, ap, subst, ◌∙◌}
 use Rattle.world_history.specs.declared.messages.Sent.{Sent}
 use Rattle.world_history.specs.Spelled.{node_of}
-use Rattle.world_clients.specs.Clients.{heard_in, Hears}
+use Rattle.world_parties.specs.Clients.{heard_in, Hears}
 use Rattle.layout_world.proofs.Delivered.{same_message, client_handed}
 use Rattle.layout_world.proofs.delivering.hand_client.Goals as goal
 

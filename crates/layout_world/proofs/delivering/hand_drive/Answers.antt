@@ -1,7 +1,7 @@
 use Rattle.std.proofs.Common.{◌≡◌, subst}
 use Rattle.osd_commands.specs.Commands as commands
 use Rattle.world_history.specs.declared.messages.Sent.{Sent}
-use Rattle.world_drives.specs.Drives.{heard, Hears}
+use Rattle.world_parties.specs.Drives.{heard, Hears}
 use Rattle.layout_world.proofs.Delivered.{same_message, drive_handed}
 use Rattle.layout_world.proofs.delivering.hand_drive.Goals as goal
 

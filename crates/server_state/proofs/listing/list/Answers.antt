@@ -1,6 +1,6 @@
 use Rattle.std.specs.Prelude.{Some, None, ◌==◌}
 use Rattle.std.proofs.Common.{sym}
-use Rattle.reply_index.specs.Index.{has}
+use Rattle.server_state.specs.Index.{has}
 use Rattle.server_state.proofs.ReplyLaws.{nothing_on, on_that, put_on}
 use Rattle.server_state.proofs.CountLaws.{counted_on, none_on}
 use Rattle.server_state.proofs.listing.list.Goals as goal

@@ -1,5 +1,5 @@
 use Rattle.std.proofs.Common.{rules, sym, subst, ◌≡◌, []}
-use Rattle.reply_index.specs.Index.{Keys}
+use Rattle.server_state.specs.Index.{Keys}
 use Rattle.server_state.specs.Tables.{Table}
 use Rattle.std.specs.Map.Iter.{deref_pair}
 use Rattle.std.proofs.lemmas.Map.Iter.{rest_all, rest_more}

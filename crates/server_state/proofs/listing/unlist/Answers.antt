@@ -1,6 +1,6 @@
 use Rattle.std.specs.Prelude.{Some, None, ◌==◌}
 use Rattle.std.proofs.Common.{sym}
-use Rattle.reply_index.specs.Index.{has}
+use Rattle.server_state.specs.Index.{has}
 use Rattle.server_state.proofs.ReplyLaws.{nothing_off, taken_off}
 use Rattle.server_state.proofs.CountLaws.{file_counted, counted_off, none_off}
 use Rattle.server_state.proofs.listing.unlist.Goals as goal

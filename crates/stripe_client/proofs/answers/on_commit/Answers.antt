@@ -1,7 +1,7 @@
 use Rattle.std.proofs.Common.{sym, ap, ◌∙◌}
 use Rattle.call_io.specs.Phases.{moved_of}
-use Rattle.client_state.specs.declared.state.State.{State}
-use Rattle.client_state.specs.States.{done_of}
+use Rattle.stripe_client.specs.declared.state.State.{State}
+use Rattle.stripe_client.specs.States.{done_of}
 use Rattle.stripe_client.proofs.Taking.{none_left}
 use Rattle.stripe_client.proofs.Moves.{implied, committed, committed_none}
 use Rattle.stripe_client.proofs.answers.on_commit.Goals as goal

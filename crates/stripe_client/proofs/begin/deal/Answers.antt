@@ -1,6 +1,6 @@
 use Rattle.std.proofs.Common.{sym, ◌∙◌}
 use Rattle.call_io.specs.Phases.{moved_of}
-use Rattle.client_state.specs.States.{done_of}
+use Rattle.stripe_client.specs.States.{done_of}
 use Rattle.stripe_client.proofs.Taking.{none_left}
 use Rattle.stripe_client.proofs.Moves.{implied, dealt, dealt_none}
 use Rattle.stripe_client.proofs.begin.deal.Goals as goal

@@ -1,7 +1,7 @@
 use Rattle.std.proofs.Common.{sym, ap, ◌∙◌}
 use Rattle.call_io.specs.Phases.{moved_of}
-use Rattle.client_state.specs.declared.state.State.{State}
-use Rattle.client_state.specs.States.{call_of, done_of}
+use Rattle.stripe_client.specs.declared.state.State.{State}
+use Rattle.stripe_client.specs.States.{call_of, done_of}
 use Rattle.stripe_client.proofs.Taking.{none_left}
 use Rattle.stripe_client.proofs.Moves.{implied, timed_of, timed_none}
 use Rattle.stripe_client.proofs.driving.time_out.Goals as goal

@@ -2,7 +2,7 @@ use Rattle.std.proofs.Common.{drop}
 use Rattle.std.specs.List.{fold}
 use Rattle.world_history.specs.declared.summary.Summary.{Summary}
 use Rattle.world_history.specs.Summing.{counts_line}
-use Rattle.world_tally.specs.Capping.{Counts}
+use Rattle.world_watch.specs.Capping.{Counts}
 use Rattle.world_watch.proofs.lines.count_all.Given as goal
 
 -- whatever counts the rest counts all

@@ -1,0 +1,17 @@
+use Rattle.std.proofs.Common.{ap}
+use Rattle.client_command.specs.Dealing.{dealing, on_links}
+use Rattle.client_command.proofs.DealingLaws.{is_answered}
+use Rattle.client_command.proofs.drive.exchange_with_drive.Goals as goal
+
+pub returns : goal.returns
+returns g c =
+    let told = g.L.Links.told c.args.links.now in
+    let faults = g.L.Links.faults c.args.links.now in
+    record {
+      came = c.in_ok-came.came;
+      told = c.in_ok-came.ensures;
+      dealt = ap (on_links (g.L.Links.told c.asked.new.links) (g.L.Links.faults c.asked.new.links))
+          (is_answered (dealing c.args.core.now c.args.waiting.now c.args.notices.now told faults)
+          (dealing c.hear.new.core c.hear.new.waiting c.hear.new.notices told faults) _ c.args.drive c.args.command.now c.in_ok-came.came
+          c.late-component.result (c.in_ok-hear.ensures told faults) c.late-component.ensures (c.in_ok-time_out.ensures told faults));
+    }

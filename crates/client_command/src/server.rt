@@ -1,0 +1,72 @@
+// An exchange with the server.
+ghost use Rattle.std.specs.Prelude.{◌≡◌, ◌↔◌, IfOk, IsTrue, IsErrOf, OnOk};
+ghost use Rattle.client_command.specs.declared.dealing.DealErr.TheVariants.{LinkFault};
+ghost use Rattle.client_command.specs.Dealing.{AsksServer, AwaitsStill, IsRequest, LosesServer, dealing};
+
+use crate::answering::is_answer_to;
+use crate::dealing::DealErr;
+use crate::drive::hear;
+use crate::notices::Notices;
+use osd_bytes::{Links, asked};
+use osd_lists::{Memory, Node};
+use std::alloc::Global;
+use stripe_client::{ClientCore, Sends, Sent};
+
+// Whether a message is this one to the server.
+fn is_request(sent: &Sent, message: &[u8]) -> bool
+    ensures { IsTrue result ↔ IsRequest sent.now message.now }
+{
+    match sent.to {
+        Node::Server => sent.bytes.as_slice() == message,
+        Node::Drive(_) | Node::Client(_) => false,
+    }
+}
+
+// Whether the answer to a request is awaited still. The outstanding request is the first of what is sent once more.
+fn awaits_still(core: &ClientCore, message: &[u8]) -> Result<bool, Memory>
+    ensures { IfOk result (λ still. IsTrue still ↔ AwaitsStill core.now message.now) }
+{
+    let sends = core.resend()?;
+    if sends.is_empty() {
+        return Ok(false);
+    }
+    Ok(is_request(sends.get(0), message))
+}
+
+/// Sends a message to the server, and gives the client the record that comes, where that answers the message. A server
+/// answers the last sequence number of a client with the answer that it kept, whatever is asked under it now: that is
+/// heard only where file and operation are the request's too.
+///
+/// # Errors
+///
+/// [`DealErr::LinkFault`] exactly where no record came, one that doesn't answer the message, which the client then
+/// hasn't heard, or an answer that the client doesn't take: it is awaited still. Want of memory.
+pub(crate) fn exchange_with_server<L: Links>(
+    alloc: Global,
+    core: &mut ClientCore,
+    links: &mut L,
+    message: &[u8],
+    waiting: &mut Sends,
+    notices: &mut Notices,
+) -> Result<(), DealErr>
+    ensures asks { OnOk result (AsksServer message.now
+        (dealing core.old waiting.old notices.old (L.told links.old) (L.faults links.old))
+        (dealing core.new waiting.new notices.new (L.told links.new) (L.faults links.new))) }
+    ensures loses { IsErrOf result LinkFault → LosesServer message.now
+        (dealing core.old waiting.old notices.old (L.told links.old) (L.faults links.old))
+        (dealing core.new waiting.new notices.new (L.told links.new) (L.faults links.new)) }
+{
+    match asked(alloc, links, Node::Server, message)? {
+        Some(record) => {
+            if !is_answer_to(alloc, message, record.as_slice())? {
+                return Err(DealErr::LinkFault);
+            }
+            hear(alloc, core, Node::Server, Some(record), waiting, notices)?;
+            if awaits_still(core, message)? {
+                return Err(DealErr::LinkFault);
+            }
+            Ok(())
+        }
+        None => Err(DealErr::LinkFault),
+    }
+}

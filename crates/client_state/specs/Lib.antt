@@ -1,5 +1,0 @@
-pub mod Outstanding
-pub mod States
-pub mod Inside
-pub mod Sending
-pub mod Asking

@@ -1,0 +1,147 @@
+ghost use Rattle.std.specs.Prelude.{◌≡◌, ◌<◌, ◌≤◌, ◌^◌, ℕ, List, length, IfSome, IfNone, IfOk, OnOk};
+ghost use Rattle.std.specs.Ordering.{nat_cmp};
+ghost use Rattle.std.specs.List.Sorted.{IsStrictlySortedBy};
+ghost use Rattle.std.specs.Map.{keys_of};
+ghost use Rattle.server_rules.specs.Messages.{on_drive_reply};
+ghost use Rattle.stripe_repair.specs.Placing.{AreDifferent, IsPlacer, drives_of};
+ghost use Rattle.stripe_repair.specs.declared.loads.TheConstants.{MAX_DRIVES};
+ghost use Rattle.file_jobs.specs.Placing.{AreLoadsOf};
+ghost use Rattle.server_state.specs.Tables.{AreEntries};
+ghost use Rattle.server_state.specs.States.{server_of, Did, HasRoom, IsGood, IsGoodBut};
+ghost use Rattle.layout_server.specs.Hearing.{AwaitedAt, AwaitedNowhere, HeardIn};
+
+use crate::loads::loads_of;
+use file_jobs::on_reply;
+use osd_commands::Reply;
+use osd_lists::{Memory, Numbers};
+use server_requests::Sends;
+use server_rules::Moved;
+use server_state::{Files, State, Step, begins, list, only_sends, settle, unlist};
+use std::alloc::Global;
+use stripe_repair::{DriveLoad, Placer};
+
+// That files stand in the order of their numbers. Nothing runs.
+fn in_order(files: &Files)
+    ensures { IsStrictlySortedBy nat_cmp (keys_of files.now.entries) }
+{
+    let _ = files.len();
+}
+
+// The number of the first file whose job awaits it.
+fn awaiting(state: &State, drive: u32, reply: &Reply) -> Option<u32>
+    requires { IsGood state.now }
+    ensures some { IfSome result (λ number. AwaitedAt drive reply.now number state.now.files.entries) }
+    ensures none { IfNone result (AwaitedNowhere drive reply.now state.now.files.entries) }
+{
+    in_order(&state.files);
+    state.replies.first(reply.nonce, drive)
+}
+
+// The file of that number hears it.
+fn hear_in<F>(
+    alloc: Global,
+    files: &mut Files,
+    moved: &mut Moved,
+    number: u32,
+    drive: u32,
+    reply: &Reply,
+    loads: &[DriveLoad],
+    placer: &Placer<F>,
+) -> Result<(), Memory>
+where
+    F: Fn(u32, &[DriveLoad]) -> Result<Numbers, Memory>,
+    requires few { length loads.now ≤ MAX_DRIVES }
+    requires different { AreDifferent (drives_of loads.now) }
+    requires placer { IsPlacer F.Fn placer.now }
+    requires files { AreEntries files.old.entries }
+    requires low { moved.old.nonce < 2 ^ 63 }
+    requires objects { moved.old.object < 2 ^ 63 }
+    ensures { OnOk result
+        (HeardIn loads.now drive reply.now number files.old.entries moved.old files.new.entries moved.new) }
+{
+    if let Some(file) = files.get_mut(&number) {
+        on_reply(alloc, file, moved, drive, reply, loads, placer)?;
+    }
+    Ok(())
+}
+
+// The step of a reply that the job of that file awaits, which is unlisted.
+fn hear_at<F>(
+    alloc: Global,
+    state: &mut State,
+    number: u32,
+    drive: u32,
+    reply: &Reply,
+    loads: &[DriveLoad],
+    placer: &Placer<F>,
+) -> Result<Step, Memory>
+where
+    F: Fn(u32, &[DriveLoad]) -> Result<Numbers, Memory>,
+    requires good { IsGoodBut number state.old }
+    requires room { HasRoom (server_of state.old) }
+    requires few { length loads.now ≤ MAX_DRIVES }
+    requires different { AreDifferent (drives_of loads.now) }
+    requires loads { AreLoadsOf loads.now state.old.drives }
+    requires placer { IsPlacer F.Fn placer.now }
+    requires awaited { AwaitedAt drive reply.now number state.old.files.entries }
+    ensures did { IfOk result (λ out. (chosen : List ℕ) × Did out (server_of state.new)
+        (on_drive_reply (server_of state.old) chosen drive reply.now)) }
+    ensures good { OnOk result (IsGoodBut number state.new) }
+{
+    let mut moved = begins(alloc, state.next_nonce, state.next_object);
+    let files = &mut state.files;
+    hear_in(
+        alloc, files, &mut moved, number, drive, reply, loads, placer,
+    )?;
+    settle(alloc, state, moved)
+}
+
+// The same, with what its job awaits and where its components stand from then on.
+fn hear<F>(
+    alloc: Global,
+    state: &mut State,
+    number: u32,
+    drive: u32,
+    reply: &Reply,
+    placer: &Placer<F>,
+) -> Result<Step, Memory>
+where
+    F: Fn(u32, &[DriveLoad]) -> Result<Numbers, Memory>,
+    requires good { IsGood state.old }
+    requires room { HasRoom (server_of state.old) }
+    requires placer { IsPlacer F.Fn placer.now }
+    requires awaited { AwaitedAt drive reply.now number state.old.files.entries }
+    ensures did { IfOk result (λ out. (chosen : List ℕ) × Did out (server_of state.new)
+        (on_drive_reply (server_of state.old) chosen drive reply.now)) }
+    ensures good { OnOk result (IsGood state.new) }
+{
+    let loads = loads_of(alloc, state)?;
+    let loads = loads.as_slice();
+    unlist(state, number);
+    let step = hear_at(alloc, state, number, drive, reply, loads, placer)?;
+    list(state, number)?;
+    Ok(step)
+}
+
+/// The step of a drive's reply, at the first file whose job awaits it. One that no job awaits changes nothing.
+pub fn on_drive_reply<F>(
+    alloc: Global,
+    state: &mut State,
+    drive: u32,
+    reply: &Reply,
+    placer: &Placer<F>,
+) -> Result<Step, Memory>
+where
+    F: Fn(u32, &[DriveLoad]) -> Result<Numbers, Memory>,
+    requires good { IsGood state.old }
+    requires room { HasRoom (server_of state.old) }
+    requires placer { IsPlacer F.Fn placer.now }
+    ensures did { IfOk result (λ out. (chosen : List ℕ) × Did out (server_of state.new)
+        (on_drive_reply (server_of state.old) chosen drive reply.now)) }
+    ensures good { OnOk result (IsGood state.new) }
+{
+    match awaiting(state, drive, reply) {
+        Some(number) => hear(alloc, state, number, drive, reply, placer),
+        None => Ok(only_sends(alloc, Sends::new(alloc))),
+    }
+}

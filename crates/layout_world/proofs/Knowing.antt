@@ -1,0 +1,58 @@
+-- A drive that the server is to know.
+use Rattle.std.proofs.Common.{◌≡◌, ◌||◌, ℕ, zero, suc, Bool, List, [], ◌∷◌, true, false, nat_eq, refl, sym, ap, ◌∙◌}
+use Rattle.std.specs.List.{list_any}
+use Rattle.std.proofs.Common.{arith}
+use Rattle.std.proofs.lemmas.Bool.Decides.{nat_tests}
+use Rattle.server_rules.specs.declared.server.Drive.{Drive}
+use Rattle.server_rules.specs.declared.server.Server.{Server}
+use Rattle.server_rules.specs.Making.{add_drive}
+use Rattle.layout_server.specs.Adding.{IsNew}
+use Rattle.world_history.specs.State.{World, with_server, and_drive}
+use Rattle.world_history.specs.Drives.{made_drive}
+use Rattle.world_history.specs.Moves.{gives, knows_drive, known_drive}
+use Rattle.world_network.specs.declared.acts.Act.{Act}
+use Rattle.world_network.specs.Acts.{nothing}
+use Rattle.layout_world.specs.ServerActing.{Adds}
+
+same_number : (n : ℕ) → nat_eq n n ≡ true
+same_number n = grind (arith, nat_tests)
+
+or_false : (a b : Bool) → (a || b) ≡ false → (a ≡ false) × (b ≡ false)
+or_false true b e = absurd (cc e)
+or_false false b e = (refl, e)
+
+differs : (a b : ℕ) → nat_eq a b ≡ false → a ≡ b → ⊥
+differs a b e p =
+    let no : true ≡ false = sym (same_number a) ∙ ap (λ n. nat_eq a n) p ∙ e in
+    cc no
+
+-- a number that no drive has is a new one
+pub new_by : (ds : List Drive) (number : ℕ) → list_any (λ d. nat_eq d.number number) ds ≡ false → IsNew number ds
+new_by [] number e = _
+new_by (d ∷ ds) number e =
+    let parts = or_false (nat_eq d.number number) (list_any (λ x. nat_eq x.number number) ds) e in
+    (differs d.number number parts.0, new_by ds number parts.1)
+
+-- ---- in the world
+
+pub added : (old new : Server) (drive : ℕ) (key : List ℕ) (capacity : ℕ) → knows_drive old drive ≡ false
+    → new ≡ record old { drives = add_drive old.drives (known_drive drive key capacity) }
+    → Adds old drive key capacity new nothing
+unfolding gives
+added old new drive key capacity k f = λ w e. rw (e, k) (record {
+  world = ap (λ s. with_server (and_drive w drive (made_drive drive key capacity)) s) (sym f);
+  act = record { lines = refl; sends = refl };
+})
+
+-- ---- as the code has it
+
+pub is_new_by : (old : List Drive) (drives : List Drive) (n m : ℕ) → false ≡ list_any (λ d. nat_eq d.number n) drives
+    → drives ≡ old → n ≡ m → IsNew m old
+is_new_by old drives n m k e f = new_by old m (rw (← f, ← e) (sym k))
+
+pub added_by : (old core new : Server) (drives : List Drive) (n m drive : ℕ) (key : List ℕ) (capacity : ℕ) (act : Act)
+    → false ≡ list_any (λ d. nat_eq d.number n) drives → drives ≡ old.drives → n ≡ drive → m ≡ drive → core ≡ old
+    → new ≡ record core { drives = add_drive core.drives (known_drive m key capacity) } → act ≡ nothing
+    → Adds old drive key capacity new act
+added_by old core new drives n m drive key capacity act k e f g h i a =
+    rw a (added old new drive key capacity (rw (← f, ← e) (sym k)) (rw (← g, ← h) i))

@@ -1,0 +1,11 @@
+use Rattle.std.proofs.Common.{[]}
+use Rattle.std.proofs.lemmas.Result.{IfOk-weaker}
+use Rattle.world_history.specs.ServerNames.{ToRecall}
+use Rattle.layout_world.proofs.ServerActed.{same_state, ordered_by}
+use Rattle.layout_world.proofs.server.WorldServer.recall.Goals as goal
+
+pub returns : goal.returns
+returns c =
+    let d = c.in_ok-step.ensures [] in
+    IfOk-weaker c.did.result _ _ (λ act h.
+    ordered_by _ _ _ _ ToRecall _ _ [] _ act (same_state c.self.view_is) c.number.ensures.number d h) c.did.ensures

@@ -1,0 +1,284 @@
+ghost use Rattle.std.specs.Prelude.{◌≡◌, [], not, is_some, IfOk, OnOk};
+ghost use Rattle.stripe_repair.specs.Placing.{IsPlacer};
+ghost use Rattle.server_rules.specs.Files.{file_at, Step as RulesStep};
+ghost use Rattle.server_rules.specs.Making.{new_server};
+ghost use Rattle.server_rules.specs.History.{Obeys, Formats, Resends};
+ghost use Rattle.server_state.specs.States.{HasRoom, Did};
+ghost use Rattle.world_history.specs.ServerNames.{ToRecall, ToRevoke, ToRebuild, ToAudit, ToDeclare};
+ghost use Rattle.world_history.specs.State.{World};
+ghost use Rattle.world_history.specs.Moves.{raw_of, gives};
+ghost use Rattle.world_history.specs.Refusals.{lacks_file};
+ghost use Rattle.world_network.specs.Acts.{nothing};
+ghost use Rattle.layout_world.specs.ServerActing.{Acts, Adds, Does, Gives, Hears, Makes};
+
+use crate::making::{has_algorithm, has_number, raw_map, tell_refusal};
+use crate::posting::postings;
+use layout_server::{DriveInfo, DriveTable, Repairs, ServerCore, Step};
+use osd_lists::{Memory, Node, Numbers};
+use scenario_text::{Delivery, DriveName, FileMap, FileName, Line, MapFault, Note};
+use server_rules::Kept;
+use std::alloc::Global;
+use std::marker::Model;
+use std::mem;
+use stripe_repair::{DriveLoad, Placer};
+use world_network::{Act, Handed, Lines, lines_of};
+use world_watch::KeptFiles;
+
+/// The metadata server as a party of a world.
+///
+/// Where a counter of 64 bits has no room, a call that gives the server something to do answers that there is no
+/// memory.
+#[derive(Drop)]
+pub struct WorldServer {
+    core: ServerCore,
+    // The repairs that the last step ended, until they are taken.
+    mended: Repairs,
+}
+
+impl Model for WorldServer {
+    ghost use Rattle.layout_world.specs.ServerState.{WorldServerState};
+
+    ghost Value = { WorldServerState };
+
+    ghost view = { λ s. record { state = s.core; mended = s.mended } };
+}
+
+impl KeptFiles for WorldServer {
+    ghost use Rattle.std.specs.Prelude.{option_map};
+    ghost use Rattle.server_rules.specs.Files.{file_at};
+
+    ghost kept_of = { λ s n. option_map (λ f. f.kept) (file_at s.state.files n) };
+
+    fn kept(&self, file: u32) -> Option<&Kept> {
+        self.core.file(file)
+    }
+}
+
+impl WorldServer {
+    /// A server that knows no drive and has no file.
+    pub fn new(alloc: Global) -> Result<Self, Memory>
+        ensures { IfOk result (λ server. server ≡ record { state = new_server []; mended = [] }) }
+    {
+        Ok(WorldServer {
+            core: ServerCore::new(alloc, DriveTable::new(alloc))?,
+            mended: Repairs::new(alloc),
+        })
+    }
+
+    /// Whether there is such a file.
+    pub fn has_file(&self, file: FileName) -> bool
+        ensures value { result ≡ is_some (file_at self.now.state.files file) }
+        ensures there { (w : World) → w.server ≡ self.now.state → lacks_file w file ≡ not result }
+    {
+        self.core.file(file.number()).is_some()
+    }
+
+    /// The repairs that the last step ended, unless they were taken.
+    pub fn take_mended(&mut self, alloc: Global) -> Repairs
+        ensures taken { result ≡ self.old.mended }
+        ensures left { self.new ≡ record { state = self.old.state; mended = [] } }
+    {
+        mem::replace(&mut self.mended, Repairs::new(alloc))
+    }
+
+    // What a step comes to.
+    fn did(&mut self, alloc: Global, step: Step) -> Result<Act, Memory>
+        ensures { IfOk result (λ act. (s : RulesStep) → Did step self.old.state s → Acts s self.new act) }
+    {
+        let Step {
+            sends,
+            notes,
+            mended,
+        } = step;
+        let told = lines_of(alloc, notes)?;
+        let posts = postings(alloc, sends.as_slice())?;
+        self.mended = mended;
+        Ok(Act { told, posts })
+    }
+
+    // The server is given something to do only where the counters have room.
+    fn ready(&self) -> Result<(), Memory>
+        ensures { OnOk result (HasRoom self.now.state) }
+    {
+        if self.core.counters_low() {
+            Ok(())
+        } else {
+            Err(Memory)
+        }
+    }
+
+    /// A message comes to the server, at a time of its clock in seconds.
+    pub fn hear<F>(
+        &mut self,
+        alloc: Global,
+        now: u64,
+        from: Node,
+        bytes: &[u8],
+        placer: &Placer<F>,
+    ) -> Result<Handed, Memory>
+    where
+        F: Fn(u32, &[DriveLoad]) -> Result<Numbers, Memory>,
+        requires { IsPlacer F.Fn placer.now }
+        ensures { IfOk result (Hears self.old.state now from bytes.now self.new) }
+    {
+        let step = self.core.on_message(now, from, bytes, placer)?;
+        Ok(Handed {
+            receipt: Delivery::Taken,
+            act: self.did(alloc, step)?,
+        })
+    }
+
+    /// The server knows a further drive, with the key that they share and its capacity in bytes. One that it knows
+    /// changes nothing.
+    pub fn add_drive(
+        &mut self,
+        alloc: Global,
+        drive: DriveName,
+        key: [u8; 20],
+        capacity: u64,
+    ) -> Result<Act, Memory>
+        ensures added { IfOk result (Adds self.old.state drive key capacity self.new.state) }
+        ensures mended { OnOk result (self.new.mended ≡ self.old.mended) }
+    {
+        if has_number(self.core.drives(), drive.number()) {
+            return Ok(Act::nothing(alloc));
+        }
+        self.core.add_drive(DriveInfo {
+            number: drive.number(),
+            key,
+            capacity,
+        })?;
+        Ok(Act::nothing(alloc))
+    }
+
+    /// A file is made, or it is noted why it isn't. A map that names no parity algorithm is told as one whose groups
+    /// have no width.
+    pub fn make_file<F>(
+        &mut self,
+        alloc: Global,
+        file: FileName,
+        map: &FileMap,
+        tag: u32,
+        placer: &Placer<F>,
+    ) -> Result<Act, Memory>
+    where
+        F: Fn(u32, &[DriveLoad]) -> Result<Numbers, Memory>,
+        requires { IsPlacer F.Fn placer.now }
+        ensures { IfOk result (Makes self.old file (raw_of map.now) tag self.new) }
+    {
+        self.ready()?;
+        if !has_algorithm(map) {
+            let why = MapFault::Width;
+            return Act::line(
+                alloc,
+                Line::Note {
+                    file,
+                    note: Note::BadMap { why },
+                },
+            );
+        }
+        match self
+            .core
+            .create_file(file.number(), raw_map(map), tag, placer)
+        {
+            Ok(step) => self.did(alloc, step),
+            Err(why) => tell_refusal(alloc, file, why),
+        }
+    }
+
+    /// Every grant of a file is recalled.
+    pub fn recall(&mut self, alloc: Global, file: FileName) -> Result<Act, Memory>
+        ensures { IfOk result (Gives self.old.state (Obeys ToRecall file) self.new) }
+    {
+        self.ready()?;
+        let step = self.core.recall(file.number())?;
+        self.did(alloc, step)
+    }
+
+    /// A fence and a repair of a file begin.
+    pub fn revoke<F>(
+        &mut self,
+        alloc: Global,
+        file: FileName,
+        placer: &Placer<F>,
+    ) -> Result<Act, Memory>
+    where
+        F: Fn(u32, &[DriveLoad]) -> Result<Numbers, Memory>,
+        requires { IsPlacer F.Fn placer.now }
+        ensures { IfOk result (Gives self.old.state (Obeys ToRevoke file) self.new) }
+    {
+        self.ready()?;
+        let step = self.core.revoke(file.number(), placer)?;
+        self.did(alloc, step)
+    }
+
+    /// A file's missing components are rebuilt.
+    pub fn rebuild<F>(
+        &mut self,
+        alloc: Global,
+        file: FileName,
+        placer: &Placer<F>,
+    ) -> Result<Act, Memory>
+    where
+        F: Fn(u32, &[DriveLoad]) -> Result<Numbers, Memory>,
+        requires { IsPlacer F.Fn placer.now }
+        ensures { IfOk result (Gives self.old.state (Obeys ToRebuild file) self.new) }
+    {
+        self.ready()?;
+        let step = self.core.rebuild(file.number(), placer)?;
+        self.did(alloc, step)
+    }
+
+    /// A file is audited.
+    pub fn audit<F>(
+        &mut self,
+        alloc: Global,
+        file: FileName,
+        placer: &Placer<F>,
+    ) -> Result<Act, Memory>
+    where
+        F: Fn(u32, &[DriveLoad]) -> Result<Numbers, Memory>,
+        requires { IsPlacer F.Fn placer.now }
+        ensures { IfOk result (Gives self.old.state (Obeys ToAudit file) self.new) }
+    {
+        self.ready()?;
+        let step = self.core.audit(file.number(), placer)?;
+        self.did(alloc, step)
+    }
+
+    /// A failed drive is taken out.
+    pub fn declare<F>(
+        &mut self,
+        alloc: Global,
+        drive: DriveName,
+        placer: &Placer<F>,
+    ) -> Result<Act, Memory>
+    where
+        F: Fn(u32, &[DriveLoad]) -> Result<Numbers, Memory>,
+        requires { IsPlacer F.Fn placer.now }
+        ensures { IfOk result (Gives self.old.state (Obeys ToDeclare drive) self.new) }
+    {
+        self.ready()?;
+        let step = self.core.declare(drive.number(), placer)?;
+        self.did(alloc, step)
+    }
+
+    /// What jobs wait for is sent again.
+    pub fn resend(&self, alloc: Global) -> Result<Act, Memory>
+        ensures { IfOk result (Does self.now.state (λ w. gives w [] Resends) self.now.state) }
+    {
+        let sends = self.core.resend()?;
+        Ok(Act {
+            told: Lines::new(alloc),
+            posts: postings(alloc, sends.as_slice())?,
+        })
+    }
+
+    /// Fences leave files with this format at least, 1 or 2.
+    pub fn set_format(&mut self, format: u8)
+        ensures state { Does self.old.state (λ w. gives w [] (Formats format)) self.new.state nothing }
+        ensures mended { self.new.mended ≡ self.old.mended }
+    {
+        self.core.set_format(format);
+    }
+}

@@ -1,5 +1,0 @@
-use Rattle.reply_index.proofs.Keys.{removed}
-use Rattle.reply_index.proofs.index.ReplyIndex.remove.Goals as goal
-
-pub returns : goal.returns
-returns c = removed c.self.inside.keys c.remove.new.self c.args.self.now c.args.nonce c.args.drive c.args.file c.self.view_is c.remove.ensures.updates

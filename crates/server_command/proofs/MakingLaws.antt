@@ -1,0 +1,121 @@
+-- Commands that make files, one after the other, and where they stop.
+use Rattle.std.specs.Prelude.{option_map, slice_get}
+use Rattle.std.proofs.Common.{◌≡◌, ◌∙◌, ◌<◌, ℕ, zero, suc, true, List, [], ◌∷◌, ◌++◌, length, take, drop, Option, Some, None, refl, ap, subst}
+use Rattle.osd_bytes.specs.Connections.{Traffic, after_notes}
+use Rattle.osd_bytes.specs.Counts.{Faults}
+use Rattle.osd_lists.specs.declared.node.Node.{Node}
+use Rattle.osd_lists.specs.declared.node.Node.TheVariants.{Server as TheServer, Drive, Client}
+use Rattle.osd_bytes.specs.Asking.{Answered, Ends, ends_of}
+use Rattle.cluster_text.specs.declared.cluster.ClusterFile.{ClusterFile}
+use Rattle.cluster_text.specs.declared.stop.CommandStop.{CommandStop}
+use Rattle.cluster_text.specs.declared.stop.CommandStop.TheVariants.{BadCluster, ReadFault, WriteFault, Memory, Full, LinkFault}
+use Rattle.server_rules.specs.declared.server.Server.{Server}
+use Rattle.server_requests.specs.declared.sending.Sent.{Sent}
+use Rattle.server_command.specs.Work.{Handles, InTurn, Round, Rounds, Serving, UntilNone, serving}
+use Rattle.server_command.proofs.WorkLaws.{Grows, measure, round_less, turn_grows, works_grows}
+use Rattle.server_command.specs.Faults.{fault_line, held_line, held_object}
+use Rattle.server_command.specs.Making.{Begins, Loses, LosesAll, LosesDrive, LosesFile, LosesFiles, LosesIn, Makes, MakesFile, MakesTo, RefusesFile, RefusesFiles, StopsAt, StopsBy}
+
+-- ---- where it stops
+
+stops_by : (A B X Y : Type 0) → (A → B) → (X → Y) → (stop : CommandStop) → StopsBy A X stop → StopsBy B Y stop
+stops_by A B X Y f g LinkFault s = f s
+stops_by A B X Y f g (BadCluster kind) s = (s.0, g s.1)
+stops_by A B X Y f g Memory s = tt
+stops_by A B X Y f g ReadFault s = absurd s
+stops_by A B X Y f g WriteFault s = absurd s
+stops_by A B X Y f g Full s = absurd s
+
+split_got : {A : Type 0} (xs : List A) (i : ℕ) (x : A) → slice_get xs i ≡ Some x → xs ≡ take i xs ++ x ∷ drop (suc i) xs
+split_got [] i x e = absurd (cc e)
+split_got {A} (y ∷ xs) zero x e = ap (λ (z : A). z ∷ xs) (cc e)
+split_got {A} (y ∷ xs) (suc i) x e = ap (λ (zs : List A). y ∷ zs) (split_got xs i x e)
+
+stops_at : {A : Type 0} (Does : A → Serving → Serving → Type 0) (Stops : A → Serving → Type 0) (xs : List A) (i : ℕ) (x : A) (s u : Serving)
+    → slice_get xs i ≡ Some x → InTurn Does (take i xs) s u → Stops x u → StopsAt Does Stops xs s
+stops_at Does Stops xs i x s u e does stops = record {
+  done = take i xs;
+  next = x;
+  left = drop (suc i) xs;
+  are = split_got xs i x e;
+  before = u;
+  does = does;
+  stops = stops;
+}
+
+-- ---- one command
+
+-- a record came for it that isn't Exists
+pub drive_makes : (drive : ℕ) (message reply : List ℕ) (s t : Serving) (between : Ends)
+    → Answered (Drive drive) message s.ends.told between.told s.ends.faults between.faults (Some reply) → between.times ≡ s.ends.times
+    → Handles (Drive drive) reply (record s { ends = between }) t → held_object message reply ≡ None → MakesTo (Drive drive) message s t
+drive_makes drive message reply s t between answered times hears none = (
+  record { came = Some reply; between = between; answered = answered; times = times; hears = hears },
+  ap (λ (o : Option ℕ). option_map (held_line drive) o) none,
+)
+
+-- none came, or one that is, and a note tells which
+pub drive_loses : (drive : ℕ) (message line : List ℕ) (came : Option (List ℕ)) (s : Serving) (told now : Option Traffic) (faults later : Faults)
+    → Answered (Drive drive) message s.ends.told told s.ends.faults faults came → fault_line drive message came ≡ Some line
+    → now ≡ after_notes (line ∷ []) told → later ≡ faults → LosesDrive drive message s (record s { ends = ends_of now later s.ends.times })
+drive_loses drive message line came s told now faults later answered fault tells same = record {
+  came = came;
+  between = ends_of told faults s.ends.times;
+  answered = answered;
+  times = refl;
+  line = line;
+  fault = fault;
+  tells = ap (λ (n : Option Traffic). record s { ends = ends_of n later s.ends.times }) tells
+      ∙ ap (λ (f : Faults). record s { ends = ends_of (after_notes (line ∷ []) told) f s.ends.times }) same;
+}
+
+-- ---- rounds
+
+to_grows : (to : Node) (message : List ℕ) (s t : Serving) → MakesTo to message s t → Grows s t
+to_grows (Drive d) message s t h = works_grows None (record { to = Drive d; bytes = message }) s t h.0
+to_grows TheServer message s t h = works_grows None (record { to = TheServer; bytes = message }) s t h
+to_grows (Client c) message s t h = works_grows None (record { to = Client c; bytes = message }) s t h
+
+makes_grows : (m : Sent) (s t : Serving) → Makes m s t → Grows s t
+makes_grows m s t h = to_grows m.to m.bytes s t h
+
+pub makes_end : (s t : Serving) → 0 < length s.waiting → Round Makes s t → measure t.server.next_nonce t.waiting < measure s.server.next_nonce s.waiting
+makes_end s t some r =
+    round_less (record s { waiting = [] }) t s.waiting refl some (turn_grows Makes makes_grows s.waiting (record s { waiting = [] }) t r)
+
+loses_from : (u t : Serving) (ms rest : List Sent) → ms ≡ u.waiting → rest ≡ [] → LosesIn ms (record u { waiting = rest }) t
+    → LosesIn u.waiting (record u { waiting = [] }) t
+loses_from u t ms rest e f h =
+    subst (λ (ns : List Sent). LosesIn ns (record u { waiting = [] }) t) e (subst (λ (ns : List Sent). LosesIn ms (record u { waiting = ns }) t) f h)
+
+pub all_made : (rounds : ℕ) (s : Serving) (server : Server) (waiting : List Sent) (ends : Ends)
+    → Rounds Makes rounds s (serving server waiting true ends) → waiting ≡ [] → UntilNone Makes s (serving server [] true ends)
+all_made rounds s server waiting ends h e =
+    (rounds, subst (λ (ws : List Sent). Rounds Makes rounds s (serving server ws true ends)) e h, refl)
+
+-- ---- why it stopped
+
+pub round_stops : (ms : List Sent) (i : ℕ) (m : Sent) (s u t : Serving) (stop : CommandStop) → slice_get ms i ≡ Some m → InTurn Makes (take i ms) s u
+    → StopsBy (Loses m u t) ⊥ stop → StopsBy (LosesIn ms s t) ⊥ stop
+round_stops ms i m s u t stop e made h =
+    stops_by (Loses m u t) (LosesIn ms s t) ⊥ ⊥ (λ l. stops_at Makes (λ n v. Loses n v t) ms i m s u e made l) (λ x. x) stop h
+
+pub all_stops : (rounds : ℕ) (s u : Serving) (waiting ms rest : List Sent) (server : Server) (ends : Ends) (stop : CommandStop) → Rounds Makes rounds s u
+    → ms ≡ u.waiting → rest ≡ [] → StopsBy (LosesIn ms (record u { waiting = rest }) (serving server waiting true ends)) ⊥ stop
+    → StopsBy (LosesAll s server ends) ⊥ stop
+all_stops rounds s u waiting ms rest server ends stop made e f h =
+    stops_by (LosesIn ms (record u { waiting = rest }) (serving server waiting true ends)) (LosesAll s server ends) ⊥ ⊥
+    (λ l. (rounds, u, made, waiting, loses_from u (serving server waiting true ends) ms rest e f l)) (λ x. x) stop h
+
+pub file_stops : (file : ClusterFile) (s u : Serving) (server : Server) (ends : Ends) (stop : CommandStop) → Begins file s u
+    → StopsBy (LosesAll u server ends) ⊥ stop → StopsBy (LosesFile file s server ends) (RefusesFile file s.server) stop
+file_stops file s u server ends stop begins h =
+    stops_by (LosesAll u server ends) (LosesFile file s server ends) ⊥ (RefusesFile file s.server) (λ l. (u, begins, l)) (λ x. absurd x) stop h
+
+pub files_stop : (files : List ClusterFile) (i : ℕ) (f : ClusterFile) (s u : Serving) (server : Server) (ends : Ends) (stop : CommandStop)
+    → slice_get files i ≡ Some f → InTurn MakesFile (take i files) s u → StopsBy (LosesFile f u server ends) (RefusesFile f u.server) stop
+    → StopsBy (LosesFiles files s server ends) (RefusesFiles files s) stop
+files_stop files i f s u server ends stop e made h =
+    stops_by (LosesFile f u server ends) (LosesFiles files s server ends) (RefusesFile f u.server) (RefusesFiles files s)
+    (λ l. stops_at MakesFile (λ g v. LosesFile g v server ends) files i f s u e made l)
+    (λ r. stops_at MakesFile (λ g v. RefusesFile g v.server) files i f s u e made r) stop h

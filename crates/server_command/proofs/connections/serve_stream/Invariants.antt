@@ -1,0 +1,16 @@
+use Rattle.std.proofs.Common.{[]}
+use Rattle.osd_bytes.specs.Asking.{ends_of}
+use Rattle.server_command.specs.Work.{serving}
+use Rattle.server_command.proofs.ConnectionLaws.{HasServed}
+use Rattle.server_command.proofs.connections.serve_stream.Given as goal
+
+abbrev pub invariant-loop-inbox : goal.invariant-loop-inbox
+invariant-loop-inbox g l =
+    HasServed
+    (serving l.initial.core [] l.initial.stands
+    (ends_of (g.L.Links.told l.initial.links) (g.L.Links.faults l.initial.links) (g.C.Clock.times l.initial.clock)))
+    (serving l.core [] l.stands (ends_of (g.L.Links.told l.links) (g.L.Links.faults l.links) (g.C.Clock.times l.clock)))
+    l.inbox
+
+abbrev pub decreases-loop-inbox : goal.decreases-loop-inbox
+decreases-loop-inbox g l = l.inbox.room

@@ -1,0 +1,22 @@
+use Rattle.std.proofs.Common.{get_or}
+use Rattle.std.proofs.lemmas.Option.{slice_get-get_or}
+use Rattle.cluster_text.specs.declared.cluster.ClusterFile.{ClusterFile}
+use Rattle.server_command.proofs.WorkLaws.{take_got, turn_more}
+use Rattle.server_command.specs.Making.{MakesFile}
+use Rattle.server_command.proofs.MakingLaws.{files_stop}
+use Rattle.server_command.proofs.files.make_files.Goals as goal
+
+-- in the place of a file past the end of a list
+abbrev no_file : ClusterFile
+no_file = record { number = 0; map = record { comps = 0; unit = 0; width = 0; depth = 0; mirrors = 0; algorithm = 0 } }
+
+pub returns-in-Err-clause-stops : goal.returns-in-Err-clause-stops
+returns-in-Err-clause-stops g c =
+    files_stop c.args.files.now c.loop-i.i (get_or c.args.files.now c.loop-i.i no_file) _ _ _ _ c.in-Err.stop
+    (slice_get-get_or c.args.files.now c.loop-i.i no_file c.loop-i-test.true) c.loop-i.invariant c.in-Err.ensures.stops
+
+pub loop-i-preserved : goal.loop-i-preserved
+loop-i-preserved g c =
+    let file = get_or c.args.files.now c.loop-i.i no_file in
+    rw (take_got c.args.files.now c.loop-i.i file (slice_get-get_or c.args.files.now c.loop-i.i no_file c.loop-i-test.true))
+    (turn_more MakesFile _ file _ _ _ c.loop-i.invariant c.in-Ok.ensures.makes)

@@ -1,0 +1,12 @@
+use Rattle.std.proofs.Common.{[], true, take}
+use Rattle.osd_bytes.specs.Asking.{ends_of}
+use Rattle.server_command.specs.Work.{InTurn, serving}
+use Rattle.server_command.specs.Making.{MakesFile}
+use Rattle.server_command.proofs.files.make_files.Given as goal
+
+abbrev pub invariant-loop-i : goal.invariant-loop-i
+invariant-loop-i g l =
+    InTurn MakesFile (take l.i l.files)
+    (serving l.initial.core [] true
+    (ends_of (g.L.Links.told l.initial.links) (g.L.Links.faults l.initial.links) (g.C.Clock.times l.initial.clock)))
+    (serving l.core [] true (ends_of (g.L.Links.told l.links) (g.L.Links.faults l.links) (g.C.Clock.times l.clock)))

@@ -1,6 +1,0 @@
-use Rattle.std.proofs.Common.{◌≡◌, drop}
-use Rattle.server_files.specs.Knowing.{with_drives}
-use Rattle.server_files.proofs.drives.add_drives.Given as goal
-
-abbrev pub invariant-loop-drive : goal.invariant-loop-drive
-invariant-loop-drive l = with_drives l.core (drop l.drive-index l.fn.drives) ≡ with_drives l.fn.core l.fn.drives

@@ -1,3 +1,0 @@
-pub mod Knowing
-pub mod Faults
-pub mod Making

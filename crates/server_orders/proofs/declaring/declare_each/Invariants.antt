@@ -1,5 +1,0 @@
-use Rattle.server_orders.proofs.DeclareLaws.{SoFar}
-use Rattle.server_orders.proofs.declaring.declare_each.Given as goal
-
-abbrev pub invariant-loop-number : goal.invariant-loop-number
-invariant-loop-number g l = SoFar l.drive l.fn.loads l.fn.files.entries l.fn.moved l.files.entries l.number-iterator l.moved

@@ -1,3 +1,0 @@
-pub mod NonceLaws
-pub mod WorkLaws
-pub mod ConnectionLaws

@@ -1,3 +1,0 @@
-mod Writes
-pub mod Refused
-mod Worlds

@@ -1,3 +1,0 @@
-pub mod Drive
-pub mod Drives
-pub mod Laws

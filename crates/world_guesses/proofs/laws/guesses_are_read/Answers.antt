@@ -1,8 +1,0 @@
-use Rattle.world_guesses.proofs.Keeping.{keeps_first, keeps_on}
-use Rattle.world_guesses.proofs.laws.guesses_are_read.Goals as goal
-
-pub returns-clause-first : goal.returns-clause-first
-returns-clause-first c = keeps_first
-
-pub returns-clause-on : goal.returns-clause-on
-returns-clause-on c = keeps_on

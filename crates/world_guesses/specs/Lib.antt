@@ -1,3 +1,0 @@
-pub mod Sighted
-pub mod Guessing
-pub mod Tied

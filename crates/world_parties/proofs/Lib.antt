@@ -1,0 +1,5 @@
+mod Written
+mod DriveWorlds
+mod Writes
+pub mod Refused
+mod ClientWorlds

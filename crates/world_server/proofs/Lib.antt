@@ -1,4 +1,0 @@
-pub mod Acted
-pub mod Knowing
-pub mod Posted
-pub mod Refused

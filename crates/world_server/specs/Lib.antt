@@ -1,4 +1,0 @@
-pub mod Acting
-pub mod Making
-pub mod Posting
-pub mod State
