@@ -11,6 +11,7 @@ use Rattle.std.proofs.lemmas.Bool.{cases_Bool}
 use Rattle.std.proofs.lemmas.Bool.Decides.{nat_tests}
 use Rattle.std.proofs.lemmas.List.Elements.{All-head, All-tail}
 use Rattle.std.proofs.lemmas.Map.Keys.{sorted_head, sorted_tail, ge_from_not_lt}
+use Rattle.osd_lists.proofs.Tests.{at_number}
 use Rattle.call_commands.specs.State.{Awaited, TimedOut}
 use Rattle.client_rules.specs.Commands.{others, not_of, of_component, before}
 use Rattle.client_rules.specs.Io.{first_of}
@@ -45,10 +46,6 @@ values_more [] n a = refl
 values_more (e ∷ es) n a = ap (λ xs. e.1 ∷ xs) (values_more es n a)
 
 -- ---- the one with a nonce
-
--- a look-up goes by equality
-at_key : (n k : ℕ) → is_at (nat_cmp n) k ≡ (k == n)
-at_key n k = grind (arith, nat_tests)
 
 nonce_is : (n : ℕ) (e : ℕ × Awaited) → e.1.command.nonce ≡ e.0 → (e.1.command.nonce == n) ≡ (e.0 == n)
 nonce_is n e h = ap (λ (z : ℕ). z == n) h
@@ -94,25 +91,25 @@ either_none false x a e = e
 pub found : (d n : ℕ) (es : List (ℕ × Awaited)) → AreKeyed es → IsStrictlySortedBy nat_cmp (keys_of es) → find (answering d n) (values_of es) ≡ of_drive d (lookup (is_at (nat_cmp n)) es)
 found d n [] h s = refl
 found d n (e ∷ es) h s = elim (cases_Bool (e.0 == n)) [
-  | inl t ↦ rw (at_key n e.0 ∙ t, nonce_is n e h.0 ∙ t)
+  | inl t ↦ rw (at_number n e.0 ∙ t, nonce_is n e h.0 ∙ t)
       (either_none (e.1.drive == d) _ e.1 (none_found d n es h.1 (apart e.0 n (keys_of es) t (sorted_head nat_cmp e.0 (keys_of es) s))))
-  | inr f ↦ rw (at_key n e.0 ∙ f, nonce_is n e h.0 ∙ f) (found d n es h.1 (sorted_tail nat_cmp e.0 (keys_of es) s))
+  | inr f ↦ rw (at_number n e.0 ∙ f, nonce_is n e h.0 ∙ f) (found d n es h.1 (sorted_tail nat_cmp e.0 (keys_of es) s))
 ]
 
 pub found_any : (n : ℕ) (es : List (ℕ × Awaited)) → AreKeyed es → find (λ (a : Awaited). a.command.nonce == n) (values_of es) ≡ lookup (is_at (nat_cmp n)) es
 found_any n [] h = refl
 found_any n (e ∷ es) h = elim (cases_Bool (e.0 == n)) [
-  | inl t ↦ rw (at_key n e.0 ∙ t, nonce_is n e h.0 ∙ t) refl
-  | inr f ↦ rw (at_key n e.0 ∙ f, nonce_is n e h.0 ∙ f) (found_any n es h.1)
+  | inl t ↦ rw (at_number n e.0 ∙ t, nonce_is n e h.0 ∙ t) refl
+  | inr f ↦ rw (at_number n e.0 ∙ f, nonce_is n e h.0 ∙ f) (found_any n es h.1)
 ]
 
 pub taken_out : (n : ℕ) (es : List (ℕ × Awaited)) → AreKeyed es → IsStrictlySortedBy nat_cmp (keys_of es) → values_of (remove_entry (is_at (nat_cmp n)) es) ≡ others (values_of es) n
 unfolding others
 taken_out n [] h s = refl
 taken_out n (e ∷ es) h s = elim (cases_Bool (e.0 == n)) [
-  | inl t ↦ rw (at_key n e.0 ∙ t, nonce_is n e h.0 ∙ t)
+  | inl t ↦ rw (at_number n e.0 ∙ t, nonce_is n e h.0 ∙ t)
       (sym (all_stay n es h.1 (apart e.0 n (keys_of es) t (sorted_head nat_cmp e.0 (keys_of es) s))))
-  | inr f ↦ rw (at_key n e.0 ∙ f, nonce_is n e h.0 ∙ f) (ap (λ xs. e.1 ∷ xs) (taken_out n es h.1 (sorted_tail nat_cmp e.0 (keys_of es) s)))
+  | inr f ↦ rw (at_number n e.0 ∙ f, nonce_is n e h.0 ∙ f) (ap (λ xs. e.1 ∷ xs) (taken_out n es h.1 (sorted_tail nat_cmp e.0 (keys_of es) s)))
 ]
 
 -- a command that is looked up has the nonce
@@ -120,11 +117,11 @@ pub nonce_there : (n : ℕ) (es : List (ℕ × Awaited)) (a : Awaited) → AreKe
 nonce_there n [] a h e = absurd (cc e)
 nonce_there n (e ∷ es) a h x = elim (cases_Bool (e.0 == n)) [
   | inl t ↦
-      let at : is_at (nat_cmp n) e.0 ≡ true = at_key n e.0 ∙ t in
+      let at : is_at (nat_cmp n) e.0 ≡ true = at_number n e.0 ∙ t in
       let same : e.1 ≡ a = cc (rw at at x) in
       ap (λ (b : Awaited). b.command.nonce) (sym same) ∙ h.0 ∙ grind (arith, nat_tests, t)
   | inr f ↦
-      let at : is_at (nat_cmp n) e.0 ≡ false = at_key n e.0 ∙ f in
+      let at : is_at (nat_cmp n) e.0 ≡ false = at_number n e.0 ∙ f in
       nonce_there n es a h.1 (rw at at x)
 ]
 

@@ -1,7 +1,7 @@
 -- An answer that takes a loss has one form, and goes to a client that a line can name.
 use Rattle.std.proofs.Common.{◌≡◌, ◌==◌, ℕ, ◌+◌, ◌++◌, ◌∷◌, [], List, Bool, true, false, ◌&&◌, nat_le, nat_lt, Option, Some, None, flat_map, refl, subst, arith, if◌then◌else◌}
 use Rattle.std.proofs.lemmas.Bool.Decides.{nat_tests}
-use Rattle.osd_commands.proofs.Passing.{both_true}
+use Rattle.std.proofs.lemmas.Bool.{and_parts}
 use Rattle.osd_lists.specs.declared.node.Node.{Node}
 use Rattle.osd_lists.specs.declared.node.Node.TheVariants as node
 use Rattle.layout_ops.specs.declared.messages.Answer.{Answer}
@@ -27,7 +27,7 @@ use Rattle.server_rules.specs.Rounds.{Round, step_round}
 use Rattle.server_rules.specs.Jobs.{making, fence_begins}
 use Rattle.server_rules.specs.Slots.{Admit, New, Again, Misordered, slot_of, admit, admit_after, keep}
 use Rattle.server_rules.specs.Requests.{serves, no_file, answer_with, answer_without, carries_out, by_admit, on_request}
-use Rattle.server_rules.specs.Messages.{Message, Asks, Replies, Orders, counters_low, by_heard, on_drive_reply, handled, on_message, awaited_by}
+use Rattle.server_rules.specs.Messages.{Message, Asks, Replies, Orders, counters_have_room, by_heard, on_drive_reply, handled, on_message, awaited_by}
 use Rattle.server_rules.specs.Orders.{Ordered, begins_job, starts, recalls_on, declares_known, offline, declares_each, with_offline, declare, ordered}
 use Rattle.server_rules.specs.Making.{with_file, refusal, unless_refused, makes_file, create_file}
 use Rattle.server_rules.specs.Openings.{opens_each, reopen}
@@ -218,7 +218,7 @@ module _ (s : Server) (plain : SlotsPlain s.slots) (q : ClientRequest) (named : 
       record {
         slots = keep_plain s.slots _ plain a;
         sends =
-            sends_more (to_drives s.drives v.going.moved.sent) _ (drives_plain s.drives v.going.moved.sent)
+            sends_more (to_drives s.drives v.going.effects.sent) _ (drives_plain s.drives v.going.effects.sent)
             (sends_more (recalls_from s.next_recall v.recalled) _ (recalls_plain s.next_recall v.recalled) (a, tt));
       }
 
@@ -243,7 +243,7 @@ asked_plain : (s : Server) (now : ℕ) (chosen : List ℕ) (c : ℕ) (q : Client
     → ((q.client == c) && nat_le c MAX_CLIENT) ≡ b → StepPlain (if b then on_request s now chosen q else still s)
 asked_plain s now chosen c q false h is = still_plain s h
 asked_plain s now chosen c q true h is =
-    let both = both_true (q.client == c) (nat_le c MAX_CLIENT) is in
+    let both = and_parts (q.client == c) (nat_le c MAX_CLIENT) is in
     request_plain s h q (subst (λ (n : ℕ). nat_le n MAX_CLIENT ≡ true) (same q.client c both.0) both.1) now chosen
   where
     same : (a b : ℕ) → (a == b) ≡ true → b ≡ a
@@ -252,10 +252,10 @@ asked_plain s now chosen c q true h is =
 -- ---- drives and orders
 
 at_plain : (s : Server) (n : ℕ) (g : Going) → SlotsPlain s.slots → StepPlain (step_at s n g)
-at_plain s n g h = record { slots = h; sends = drives_plain s.drives g.moved.sent }
+at_plain s n g h = record { slots = h; sends = drives_plain s.drives g.effects.sent }
 
 round_plain : (s : Server) (r : Round) → SlotsPlain s.slots → StepPlain (step_round s r)
-round_plain s r h = record { slots = h; sends = drives_plain s.drives r.moved.sent }
+round_plain s r h = record { slots = h; sends = drives_plain s.drives r.effects.sent }
 
 heard_plain : (s : Server) (o : Option Going) → SlotsPlain s.slots → StepPlain (by_heard s o)
 heard_plain s None h = still_plain s h
@@ -324,7 +324,7 @@ resent_plain ds (f ∷ fs) = sends_more (to_drives ds (awaited_by f.job)) _ (dri
 pub step_plain : (s : Server) (chosen : List ℕ) (i : Input) → SlotsPlain s.slots → StepPlain (step s chosen i)
 unfolding on_message create_file reopen
 step_plain s chosen (Hears now from m) h =
-    either_step (counters_low s) _ _ (message_plain s now chosen from m h) (still_plain s h)
+    either_step (counters_have_room s) _ _ (message_plain s now chosen from m h) (still_plain s h)
 step_plain s chosen (Makes n m tag) h = made_plain s _ (refusal s n m) h
 step_plain s chosen (Obeys kind n) h = obeyed_plain s chosen kind n h
 step_plain s chosen (Adds d) h = record { slots = h; sends = tt }
@@ -332,7 +332,7 @@ step_plain s chosen (Formats n) h = record { slots = h; sends = tt }
 step_plain s chosen Resends h = record { slots = h; sends = resent_plain s.drives s.files }
 step_plain s chosen Crashes h = record { slots = h; sends = tt }
 step_plain s chosen Opens h =
-    either_step (counters_low s) _ _ (round_plain s (opens_each s.format s.drives s.files (begins s)) h)
+    either_step (counters_have_room s) _ _ (round_plain s (opens_each s.format s.drives s.files (begins s)) h)
     (still_plain s h)
 
 pub runs_plain : (s : Server) (acts : List Act) → SlotsPlain s.slots → SlotsPlain (state_after s acts).slots

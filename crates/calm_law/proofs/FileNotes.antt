@@ -76,7 +76,7 @@ Tells k before g = record {
   number : g.file.kept.number ≡ k.number;
   map : g.file.kept.map ≡ k.map;
   kinds : List NoteKind;
-  notes : g.moved.notes ≡ noted_with before k.number kinds;
+  notes : g.effects.notes ≡ noted_with before k.number kinds;
   tellable : AreTellable kinds;
   tags : Tagged k.tag kinds g.file.kept.tag;
   alike : Paired StandAlike (behind k.components kinds) g.file.kept.components;
@@ -91,10 +91,10 @@ Ends k before g = Tells k before g × IsAimed g.file
 -- ---- notes come
 
 note_more : (k : Kept) (before : List Note) (g : Going) (n : NoteKind) (ks : List NoteKind)
-    → g.file.kept.number ≡ k.number → g.moved.notes ≡ noted_with before k.number ks
-    → (noting g n).moved.notes ≡ noted_with before k.number (n ∷ ks)
+    → g.file.kept.number ≡ k.number → g.effects.notes ≡ noted_with before k.number ks
+    → (noting g n).effects.notes ≡ noted_with before k.number (n ∷ ks)
 note_more k before g n ks same notes =
-    ap (λ (x : ℕ). g.moved.notes ++ record { file = x; kind = n } ∷ []) same
+    ap (λ (x : ℕ). g.effects.notes ++ record { file = x; kind = n } ∷ []) same
     ∙ ap (λ (ns : List Note). ns ++ record { file = k.number; kind = n } ∷ []) notes
 
 -- one that tells of no component
@@ -202,7 +202,7 @@ tells_fenced k before g h = record {
 
 -- ---- a step begins
 
-pub tells_first : (g : Going) → Tells g.file.kept g.moved.notes g
+pub tells_first : (g : Going) → Tells g.file.kept g.effects.notes g
 tells_first g = record {
   number = refl;
   map = refl;

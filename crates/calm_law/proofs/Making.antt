@@ -100,7 +100,7 @@ pub went_made : (s : Server) (f : File) → IsSound s → NoneHas f.kept.number 
     → WentEach None (add_file s.files f) [] (makes_file s f).state.files (makes_file s f).notes
 went_made s f h none a =
     went_put (add_file s.files f) f.kept.number f (making (at_file (with_file s f) [] f)).file []
-    (making (at_file (with_file s f) [] f)).moved.notes (each_added IsAimed s.files f h.aimed a) (there s.files f none)
+    (making (at_file (with_file s f) [] f)).effects.notes (each_added IsAimed s.files f h.aimed a) (there s.files f none)
     (went_plain f [] (making (at_file (with_file s f) [] f))
     (ends_making f.kept [] (at_file (with_file s f) [] f) (tells_first (at_file (with_file s f) [] f))))
 

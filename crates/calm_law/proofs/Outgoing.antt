@@ -11,7 +11,7 @@ use Rattle.server_rules.specs.Going.{Going}
 use Rattle.server_rules.specs.Served.{Served}
 use Rattle.server_rules.specs.Slots.{Admit, New, Again, Misordered, admit, slot_of}
 use Rattle.server_rules.specs.Requests.{serves, carries_out, by_admit, on_request, answer_with}
-use Rattle.server_rules.specs.Messages.{Message, Asks, Replies, counters_low, awaited_by, by_heard, heard_at, on_drive_reply, handled, on_message, resend}
+use Rattle.server_rules.specs.Messages.{Message, Asks, Replies, counters_have_room, awaited_by, by_heard, heard_at, on_drive_reply, handled, on_message, resend}
 use Rattle.server_rules.specs.Orders.{begins_job, starts, recalls_on, declares_known, declare, ordered}
 use Rattle.server_rules.specs.Making.{refusal, unless_refused, makes_file, unmade, places, create_file}
 use Rattle.server_rules.specs.History.{Input, Hears, Makes, Obeys, Adds, Formats, Resends, Crashes, Opens, unless_made, step}
@@ -51,8 +51,8 @@ out_carried : (s : Server) (now : ℕ) (chosen : List ℕ) (q : ClientRequest) (
 out_carried s now chosen q None = (tt, tt)
 out_carried s now chosen q (Some f) =
     let v : Served = serves (at_file s chosen f) s.next_grant s.format now q.client q.args in
-    out_more (to_drives s.drives v.going.moved.sent) (recalls_from s.next_recall v.recalled ++ Answers (answer_with s q v) ∷ [])
-    (out_drives s.drives v.going.moved.sent)
+    out_more (to_drives s.drives v.going.effects.sent) (recalls_from s.next_recall v.recalled ++ Answers (answer_with s q v) ∷ [])
+    (out_drives s.drives v.going.effects.sent)
     (out_more (recalls_from s.next_recall v.recalled) (Answers (answer_with s q v) ∷ []) (out_recalls s.next_recall v.recalled)
     (tt, tt))
 
@@ -68,7 +68,7 @@ out_request s now chosen q = out_admitted s now chosen q (admit (slot_of s.slots
 
 out_heard : (s : Server) (o : Option Going) → GoOut (by_heard s o).sends
 out_heard s None = tt
-out_heard s (Some g) = out_drives s.drives g.moved.sent
+out_heard s (Some g) = out_drives s.drives g.effects.sent
 
 out_reply : (s : Server) (chosen : List ℕ) (drive : ℕ) (r : Reply) → GoOut (on_drive_reply s chosen drive r).sends
 unfolding on_drive_reply
@@ -119,7 +119,7 @@ pub out_message : (s : Server) (now : ℕ) (chosen : List ℕ) (from : Node) (m 
     → GoOut (on_message s now chosen from m).sends
 unfolding on_message
 out_message s now chosen from m h =
-    either (counters_low s) (handled s now chosen from m) (still s) (out_handled s now chosen from m h) tt
+    either (counters_have_room s) (handled s now chosen from m) (still s) (out_handled s now chosen from m h) tt
 
 -- ---- a file that is made, and what is sent again
 

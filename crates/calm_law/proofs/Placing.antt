@@ -10,7 +10,7 @@ use Rattle.server_rules.specs.Going.{Going}
 use Rattle.server_rules.specs.Slots.{Admit, New, Again, Misordered, admit, slot_of}
 use Rattle.server_rules.specs.Requests.{carries_out, by_admit, on_request}
 use Rattle.server_rules.specs.Making.{online, refusal, unless_refused, are_of, places, components_on, unmade, makes_file, create_file, add_drive, new_server}
-use Rattle.server_rules.specs.Messages.{Message, Asks, Replies, Orders, counters_low, by_heard, heard_at, on_drive_reply, handled, on_message}
+use Rattle.server_rules.specs.Messages.{Message, Asks, Replies, Orders, counters_have_room, by_heard, heard_at, on_drive_reply, handled, on_message}
 use Rattle.server_rules.specs.Orders.{begins_job, starts, recalls_on, offline, declares_known, declare, ordered}
 use Rattle.server_rules.specs.Openings.{reopen}
 use Rattle.server_rules.specs.History.{Input, Hears, Makes, Obeys, Adds, Opens, Act, step, state_after, unless_made}
@@ -185,7 +185,7 @@ knows_handled s now chosen from m = refl
 knows_message : (s : Server) (now : ℕ) (chosen : List ℕ) (from : Node) (m : Message) → Knows s (on_message s now chosen from m)
 unfolding on_message
 knows_message s now chosen from m =
-    either s (counters_low s) (handled s now chosen from m) (still s) (knows_handled s now chosen from m) refl
+    either s (counters_have_room s) (handled s now chosen from m) (still s) (knows_handled s now chosen from m) refl
 
 knows_unless : (s : Server) (o : Option Refusal) (f : File) → Knows s (unless_made s (unless_refused o (makes_file s f)))
 knows_unless s (Some r) f = refl
@@ -203,7 +203,7 @@ knows_step s chosen (Hears now from m) = knows_message s now chosen from m
 knows_step s chosen (Makes n m tag) =
     knows_unless s (refusal s n m) (unmade s n m tag (places s.drives m.comps chosen))
 knows_step s chosen (Obeys kind n) = knows_ordered s chosen kind n
-knows_step s chosen Opens = either s (counters_low s) _ (still s) refl refl
+knows_step s chosen Opens = either s (counters_have_room s) _ (still s) refl refl
 knows_step s chosen i = refl
 
 -- another drive than the one that is added, if any

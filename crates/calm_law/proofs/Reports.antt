@@ -115,18 +115,18 @@ still_tagged tag ns = (tag_stays tag ns, none_later tag ns)
 abbrev Reports : (before : List Note) → (ns : List ℕ) → (g h : Going) → Type 0
 Reports before ns g h = record {
   file : h.file ≡ g.file;
-  notes : h.moved.notes ≡ noted_with before g.file.kept.number (kinds_of ns);
+  notes : h.effects.notes ≡ noted_with before g.file.kept.number (kinds_of ns);
 }
 
 report_one : (b : Bool) (before : List Note) (go : Going) (k : ℕ) (ns : List ℕ)
-    → go.moved.notes ≡ noted_with before go.file.kept.number (kinds_of ns)
-    → (noting_if b go (Reported k)).moved.notes ≡ noted_with before go.file.kept.number (kinds_of (if b then k ∷ ns else ns))
+    → go.effects.notes ≡ noted_with before go.file.kept.number (kinds_of ns)
+    → (noting_if b go (Reported k)).effects.notes ≡ noted_with before go.file.kept.number (kinds_of (if b then k ∷ ns else ns))
 report_one true before go k ns e =
     ap (λ (x : List Note). x ++ record { file = go.file.kept.number; kind = Reported k } ∷ []) e
 report_one false before go k ns e = e
 
 reports_on : (before : List Note) (go : Going) (ks : List ℕ) (cs : List Component) (k : ℕ) (ns : List ℕ)
-    → go.moved.notes ≡ noted_with before go.file.kept.number (kinds_of ns)
+    → go.effects.notes ≡ noted_with before go.file.kept.number (kinds_of ns)
     → Reports before (numbers ks cs k ns) go (reports_from go ks cs k)
 unfolding reports_from
 reports_on before go ks [] k ns e = record { file = refl; notes = e }
@@ -138,8 +138,8 @@ abbrev taken : Going → List ℕ → Going
 taken go ks = keeping go (record go.file.kept { components = lose_from ks go.file.kept.components 0 })
 
 told_of : (go h : Going) (ks : List ℕ)
-    → Reports go.moved.notes (numbers ks go.file.kept.components 0 []) (taken go ks) h → IsAimed go.file
-    → Ends go.file.kept go.moved.notes h
+    → Reports go.effects.notes (numbers ks go.file.kept.components 0 []) (taken go ks) h → IsAimed go.file
+    → Ends go.file.kept go.effects.notes h
 told_of go h ks r a =
     let cs : List Component = go.file.kept.components in
     let ns : List ℕ = numbers ks cs 0 [] in
@@ -160,8 +160,8 @@ told_of go h ks r a =
       subst (λ (f : File). IsAimed f) (sym r.file) (aim_lost ks cs (target_of go.file.job) a),
     )
 
-pub ends_loss : (go : Going) (ks : List ℕ) → IsAimed go.file → Ends go.file.kept go.moved.notes (takes_loss go ks)
+pub ends_loss : (go : Going) (ks : List ℕ) → IsAimed go.file → Ends go.file.kept go.effects.notes (takes_loss go ks)
 unfolding takes_loss
 ends_loss go ks a =
     told_of go (reports_from (taken go ks) ks go.file.kept.components 0) ks
-    (reports_on go.moved.notes (taken go ks) ks go.file.kept.components 0 [] refl) a
+    (reports_on go.effects.notes (taken go ks) ks go.file.kept.components 0 [] refl) a

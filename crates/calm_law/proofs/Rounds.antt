@@ -45,7 +45,7 @@ WentEach out (f ∷ fs) before (g ∷ gs) after =
 WentEach out fs before gs after = ⊥
 
 pub went_plain : (f : File) (before : List Note) (h : Going) → Ends f.kept before h
-    → WentAs None f before h.file h.moved.notes
+    → WentAs None f before h.file h.effects.notes
 went_plain f before h e = record {
   number = e.0.number;
   map = e.0.map;
@@ -60,7 +60,7 @@ went_plain f before h e = record {
 }
 
 pub went_out : (d : ℕ) (f : File) (before : List Note) (h : Going) → Ends (without f.kept d) before h
-    → WentAs (Some d) f before h.file h.moved.notes
+    → WentAs (Some d) f before h.file h.effects.notes
 went_out d f before h e = record {
   number = e.0.number;
   map = e.0.map;

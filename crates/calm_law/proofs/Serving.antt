@@ -61,9 +61,9 @@ out_in k before g drive r None h known e = tt
 out_in k before g drive r (Some j) h known e = out_by k before g r j (find (answers drive r) j.awaited) h known e
 
 pub ends_reply : (g : Going) (drive : ℕ) (r : Reply) → AreKnown g.drives → IsAimed g.file
-    → EndsOut g.file.kept g.moved.notes (on_reply g drive r)
+    → EndsOut g.file.kept g.effects.notes (on_reply g drive r)
 unfolding on_reply
-ends_reply g drive r known a = out_in g.file.kept g.moved.notes g drive r g.file.job (tells_first g, a) known refl
+ends_reply g drive r known a = out_in g.file.kept g.effects.notes g drive r g.file.job (tells_first g, a) known refl
 
 -- ---- a drive is declared
 
@@ -76,7 +76,7 @@ ends_declared k before g drive None h known e = h
 ends_declared k before g drive (Some j) h known e = ends_loses k before g j j.work _ _ h known (aim_of g.file j e h.1)
 
 untouched : (g : Going) (drive : ℕ) → any_on drive g.file.kept.components ≡ false
-    → Tells (without g.file.kept drive) g.moved.notes g
+    → Tells (without g.file.kept drive) g.effects.notes g
 untouched g drive e = record {
   number = refl;
   map = refl;
@@ -94,10 +94,10 @@ first_false true b e = absurd (cc e)
 first_false false b e = refl
 
 pub ends_declares : (g : Going) (drive : ℕ) → AreKnown g.drives → IsAimed g.file
-    → Ends (without g.file.kept drive) g.moved.notes (declares g drive)
+    → Ends (without g.file.kept drive) g.effects.notes (declares g drive)
 unfolding declares
 ends_declares g drive known a = elim (cases_Bool (any_on drive g.file.kept.components || targets g.file.job drive)) [
-  | inl e ↦ rw e (ends_declared (without g.file.kept drive) g.moved.notes
+  | inl e ↦ rw e (ends_declared (without g.file.kept drive) g.effects.notes
       (with_components g (lose_on drive g.file.kept.components)) drive g.file.job (
         tells_first (with_components g (lose_on drive g.file.kept.components)),
         aim_declared drive g.file.kept.components (target_of g.file.job) a,
@@ -107,20 +107,20 @@ ends_declares g drive known a = elim (cases_Bool (any_on drive g.file.kept.compo
 
 -- ---- the server is opened
 
-ends_made : (g : Going) (ready : Bool) → IsAimed g.file → Ends g.file.kept g.moved.notes (opens_made g ready)
+ends_made : (g : Going) (ready : Bool) → IsAimed g.file → Ends g.file.kept g.effects.notes (opens_made g ready)
 ends_made g true a = (tells_first g, tt)
-ends_made g false a = ends_making g.file.kept g.moved.notes g (tells_first g)
+ends_made g false a = ends_making g.file.kept g.effects.notes g (tells_first g)
 
 ends_reopened : (format : ℕ) (g : Going) → AreKnown g.drives → IsAimed g.file
-    → Ends g.file.kept g.moved.notes (opens_fenced format g)
+    → Ends g.file.kept g.effects.notes (opens_fenced format g)
 unfolding opens_fenced
 ends_reopened format g known a = elim (cases_Bool (g.file.kept.tag == GREATEST_TAG)) [
-  | inl t ↦ rw t (tells_plain g.file.kept g.moved.notes g Spent (λ cs. refl) refl refl refl (tells_first g), a)
-  | inr z ↦ rw z (ends_fence g.file.kept g.moved.notes Revoking format g (tells_first g) known)
+  | inl t ↦ rw t (tells_plain g.file.kept g.effects.notes g Spent (λ cs. refl) refl refl refl (tells_first g), a)
+  | inr z ↦ rw z (ends_fence g.file.kept g.effects.notes Revoking format g (tells_first g) known)
 ]
 
 pub ends_opened : (format : ℕ) (g : Going) → AreKnown g.drives → IsAimed g.file
-    → Ends g.file.kept g.moved.notes (opens format g)
+    → Ends g.file.kept g.effects.notes (opens format g)
 unfolding opens
 ends_opened format g known a = elim (cases_Bool (is_unsettled g.file.kept)) [
   | inl e ↦ rw e (ends_reopened format g known a)
@@ -147,25 +147,25 @@ ends_after k before go next g None h = ends_given k before go next g h
 ends_after k before go next g (Some j) h = h
 
 ends_first : (go : Going) (next format : ℕ) (g : Grant) → AreKnown go.drives → IsAimed go.file
-    → Ends go.file.kept go.moved.notes (fence_first go next format g).going
+    → Ends go.file.kept go.effects.notes (fence_first go next format g).going
 unfolding fence_first
 ends_first go next format g known a = elim (cases_Bool (go.file.kept.tag == GREATEST_TAG)) [
-  | inl t ↦ rw t (tells_plain go.file.kept go.moved.notes go Spent (λ cs. refl) refl refl refl (tells_first go), a)
-  | inr z ↦ rw z (ends_after go.file.kept go.moved.notes (fence_begins Revoking format go) next g
+  | inl t ↦ rw t (tells_plain go.file.kept go.effects.notes go Spent (λ cs. refl) refl refl refl (tells_first go), a)
+  | inr z ↦ rw z (ends_after go.file.kept go.effects.notes (fence_begins Revoking format go) next g
       (fence_begins Revoking format go).file.job
-      (ends_fence go.file.kept go.moved.notes Revoking format go (tells_first go) known))
+      (ends_fence go.file.kept go.effects.notes Revoking format go (tells_first go) known))
 ]
 
 ends_grants : (go : Going) (next format now : ℕ) (g : Grant) → AreKnown go.drives → IsAimed go.file
-    → Ends go.file.kept go.moved.notes (on_grants go next format now g).going
+    → Ends go.file.kept go.effects.notes (on_grants go next format now g).going
 unfolding on_grants
 ends_grants go next format now g known a = elim (cases_Bool (must_fence now go.file.kept.grants g)) [
   | inl t ↦ rw t (ends_first go next format g known a)
-  | inr z ↦ rw z (ends_given go.file.kept go.moved.notes go next g (tells_first go, a))
+  | inr z ↦ rw z (ends_given go.file.kept go.effects.notes go next g (tells_first go, a))
 ]
 
 ends_early : (go : Going) (next format now : ℕ) (g : Grant) (e : Early) → AreKnown go.drives → IsAimed go.file
-    → Ends go.file.kept go.moved.notes (by_early go next format now g e).going
+    → Ends go.file.kept go.effects.notes (by_early go next format now g e).going
 ends_early go next format now g BadMode known a = (tells_first go, a)
 ends_early go next format now g Invalid known a = (tells_first go, a)
 ends_early go next format now g Unable known a = (tells_first go, a)
@@ -173,35 +173,35 @@ ends_early go next format now g (Waits k) known a = (tells_first go, a)
 ends_early go next format now g On known a = ends_grants go next format now g known a
 
 ends_gets : (go : Going) (next format now client iomode offset count : ℕ) → AreKnown go.drives → IsAimed go.file
-    → Ends go.file.kept go.moved.notes (gets go next format now client iomode offset count).going
+    → Ends go.file.kept go.effects.notes (gets go next format now client iomode offset count).going
 unfolding gets
 ends_gets go next format now client iomode offset count known a =
     ends_early go next format now _ (early go.file iomode offset count) known a
 
 -- ---- LAYOUTCOMMIT and LAYOUTRETURN
 
-ends_commit : (go : Going) (c : Committed) → IsAimed go.file → Ends go.file.kept go.moved.notes (by_commit go c).going
+ends_commit : (go : Going) (c : Committed) → IsAimed go.file → Ends go.file.kept go.effects.notes (by_commit go c).going
 ends_commit go NoCommit a = (tells_first go, a)
 ends_commit go Wrong a = (tells_first go, a)
 ends_commit go (Sizes size) a = (tells_first go, a)
 
 ends_commits : (go : Going) (client : ℕ) (last : Option ℕ) → IsAimed go.file
-    → Ends go.file.kept go.moved.notes (commits go client last).going
+    → Ends go.file.kept go.effects.notes (commits go client last).going
 unfolding commits
 ends_commits go client last a = ends_commit go (commit_row go.file.kept client last) a
 
 ends_return : (go : Going) (format client : ℕ) (r : Returned) → AreKnown go.drives → IsAimed go.file
-    → Ends go.file.kept go.moved.notes (by_return go format client r).going
+    → Ends go.file.kept go.effects.notes (by_return go format client r).going
 ends_return go format client NoGrant known a = (tells_first go, a)
 ends_return go format client Clean known a = (tells_first go, a)
 ends_return go format client (Taken ks) known a = ends_loss go ks a
 ends_return go format client TooMany known a =
-    (tells_plain go.file.kept go.moved.notes go Spent (λ cs. refl) refl refl refl (tells_first go), a)
+    (tells_plain go.file.kept go.effects.notes go Spent (λ cs. refl) refl refl refl (tells_first go), a)
 ends_return go format client Fencing known a =
-    ends_fence go.file.kept go.moved.notes Revoking format go (tells_first go) known
+    ends_fence go.file.kept go.effects.notes Revoking format go (tells_first go) known
 
 ends_returns : (go : Going) (format client : ℕ) (report : List IoErr) → AreKnown go.drives → IsAimed go.file
-    → Ends go.file.kept go.moved.notes (returns_on go format client report).going
+    → Ends go.file.kept go.effects.notes (returns_on go format client report).going
 unfolding returns_on
 ends_returns go format client report known a =
     ends_return go format client (return_row go.file.kept client report) known a
@@ -209,7 +209,7 @@ ends_returns go format client report known a =
 -- ---- a request
 
 pub ends_served : (go : Going) (next format now client : ℕ) (args : RequestArgs) → AreKnown go.drives → IsAimed go.file
-    → Ends go.file.kept go.moved.notes (serves go next format now client args).going
+    → Ends go.file.kept go.effects.notes (serves go next format now client args).going
 ends_served go next format now client (Get iomode offset count) known a =
     ends_gets go next format now client iomode offset count known a
 ends_served go next format now client (Commit last) known a = ends_commits go client last a

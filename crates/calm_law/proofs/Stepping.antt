@@ -4,7 +4,7 @@ use Rattle.std.specs.Prelude.{nat_eq}
 use Rattle.std.specs.Cmp.Lexicographic.{pointwise, same_text}
 use Rattle.std.proofs.lemmas.List.Quantifiers.{position-Some}
 use Rattle.std.proofs.lemmas.Option.{slice_get-get_or}
-use Rattle.osd_commands.proofs.Passing.{both_true}
+use Rattle.std.proofs.lemmas.Bool.{and_parts}
 use Rattle.layout_ops.specs.Reading.{envelope_of}
 use Rattle.server_rules.specs.Files.{Step as ServerStep}
 use Rattle.scenario_text.specs.declared.line.Party.{Party}
@@ -187,7 +187,7 @@ is_place ss d bytes k e =
     record {
       message = s;
       found = slice_get-get_or ss k no_message at.0;
-      same = same_text s.bytes bytes (sym (both_true (is_drive d s.to) (pointwise nat_eq s.bytes bytes) at.1).1);
+      same = same_text s.bytes bytes (sym (and_parts (is_drive d s.to) (pointwise nat_eq s.bytes bytes) at.1).1);
     }
 
 begin_with : (w : World) (m : Move) → BeginWith (messages_of (move w m).world) (messages_of w)

@@ -14,11 +14,11 @@ use Rattle.server_rules.specs.Get.{lowest}
 use Rattle.server_rules.specs.Files.{Step, file_at, put_file, at_file, begins}
 use Rattle.server_rules.specs.Requests.{serves, carries_out, by_admit, on_request}
 use Rattle.server_rules.specs.Making.{add_drive}
-use Rattle.server_rules.specs.Messages.{heard_at, or_else, by_heard, on_drive_reply, Message, Asks, Replies, Orders, handled, on_message, counters_low}
+use Rattle.server_rules.specs.Messages.{heard_at, or_else, by_heard, on_drive_reply, Message, Asks, Replies, Orders, handled, on_message, counters_have_room}
 use Rattle.server_rules.specs.Orders.{begins_job, starts, recalls_on, offline, declares_each, declare, declares_known, ordered}
 use Rattle.server_rules.specs.History.{Input, Hears, Makes, Obeys, Adds, Formats, Resends, Crashes, Opens, step}
 use Rattle.server_rules.specs.Openings.{crashed_file, opens, opens_each, reopen}
-use Rattle.world_history.specs.ServerNames.{Server, File, Drive, Note, Moved, Job, JobKind, ClientRequest, Reply, OrderKind, ToRecall, ToRevoke, ToDeclare, ToRebuild, ToAudit, Revoking, Rebuilding, Auditing, Busy, Spent}
+use Rattle.world_history.specs.ServerNames.{Server, File, Drive, Note, Effects, Job, JobKind, ClientRequest, Reply, OrderKind, ToRecall, ToRevoke, ToDeclare, ToRebuild, ToAudit, Revoking, Rebuilding, Auditing, Busy, Spent}
 use Rattle.calm_law.specs.Words.{Each}
 use Rattle.calm_law.specs.Performing.{AreDistinct}
 use Rattle.calm_law.specs.Sound.{IsAimed, IsSound}
@@ -94,7 +94,7 @@ went_request o s now chosen q h = went_admitted o s now chosen q (admit (slot_of
 -- the first of these files, with the number of the file that heard it
 abbrev HeardAs : List File → Option Going → Type 0
 HeardAs fs None = Unit {0}
-HeardAs fs (Some g) = (f : File) × (file_at fs f.kept.number ≡ Some f) × WentAs None f [] g.file g.moved.notes
+HeardAs fs (Some g) = (f : File) × (file_at fs f.kept.number ≡ Some f) × WentAs None f [] g.file g.effects.notes
 
 heard_first : (s : Server) (chosen : List ℕ) (f : File) (fs : List File) (o p : Option Going)
     → EndsOut f.kept [] o → AreDistinct (f ∷ fs) → HeardAs fs p → HeardAs (f ∷ fs) (or_else o p)
@@ -122,7 +122,7 @@ went_heard o s None h w = went_still o s h
 went_heard o s (Some g) h w = record {
   out = None;
   takes = tt;
-  each = went_one o s g.file.kept.number w.0 g.file g.moved.notes h
+  each = went_one o s g.file.kept.number w.0 g.file g.effects.notes h
       (ap (λ (n : ℕ). file_at s.files n) w.2.number ∙ w.1) w.2;
   known = h.drives;
 }
@@ -185,17 +185,17 @@ known_offline (d ∷ ds) drive h = elim (cases_Bool (d.number == drive)) [
   | inr z ↦ rw z (h.0, known_offline ds drive h.1)
 ]
 
-went_declares : (drive : ℕ) (ds : List Drive) (fs : List File) (m : Moved) (chosen : List ℕ) → AreKnown ds
+went_declares : (drive : ℕ) (ds : List Drive) (fs : List File) (m : Effects) (chosen : List ℕ) → AreKnown ds
     → Each IsAimed fs
-    → WentEach (Some drive) fs m.notes (declares_each drive ds fs m chosen).files (declares_each drive ds fs m chosen).moved.notes
+    → WentEach (Some drive) fs m.notes (declares_each drive ds fs m chosen).files (declares_each drive ds fs m chosen).effects.notes
 unfolding declares_each
 went_declares drive ds [] m chosen known a = refl
 went_declares drive ds (f ∷ fs) m chosen known a =
-    let g : Going = declares (record { file = f; moved = m; drives = ds; chosen = chosen }) drive in (
-      g.moved.notes,
+    let g : Going = declares (record { file = f; effects = m; drives = ds; chosen = chosen }) drive in (
+      g.effects.notes,
       went_out drive f m.notes g
-          (ends_declares (record { file = f; moved = m; drives = ds; chosen = chosen }) drive known a.0),
-      went_declares drive ds fs g.moved g.chosen known a.1,
+          (ends_declares (record { file = f; effects = m; drives = ds; chosen = chosen }) drive known a.0),
+      went_declares drive ds fs g.effects g.chosen known a.1,
     )
 
 went_declared : (s : Server) (chosen : List ℕ) (drive : ℕ) (b : Bool) → IsSound s
@@ -233,7 +233,7 @@ went_handled s now chosen from m h = went_still (declared_in (Hears now from m))
 went_message : (s : Server) (now : ℕ) (chosen : List ℕ) (from : Node) (m : Message) → IsSound s
     → Went (declared_in (Hears now from m)) s (on_message s now chosen from m)
 unfolding on_message
-went_message s now chosen from m h = elim (cases_Bool (counters_low s)) [
+went_message s now chosen from m h = elim (cases_Bool (counters_have_room s)) [
   | inl t ↦ rw t (went_handled s now chosen from m h)
   | inr z ↦ rw z (went_still (declared_in (Hears now from m)) s h)
 ]
@@ -267,20 +267,20 @@ went_crashes (f ∷ fs) = (
   went_crashes fs,
 )
 
-went_opens : (format : ℕ) (ds : List Drive) (fs : List File) (m : Moved) → AreKnown ds → Each IsAimed fs
-    → WentEach None fs m.notes (opens_each format ds fs m).files (opens_each format ds fs m).moved.notes
+went_opens : (format : ℕ) (ds : List Drive) (fs : List File) (m : Effects) → AreKnown ds → Each IsAimed fs
+    → WentEach None fs m.notes (opens_each format ds fs m).files (opens_each format ds fs m).effects.notes
 unfolding opens_each
 went_opens format ds [] m known a = refl
 went_opens format ds (f ∷ fs) m known a =
-    let g : Going = opens format (record { file = f; moved = m; drives = ds; chosen = [] }) in (
-      g.moved.notes,
-      went_plain f m.notes g (ends_opened format (record { file = f; moved = m; drives = ds; chosen = [] }) known a.0),
-      went_opens format ds fs g.moved known a.1,
+    let g : Going = opens format (record { file = f; effects = m; drives = ds; chosen = [] }) in (
+      g.effects.notes,
+      went_plain f m.notes g (ends_opened format (record { file = f; effects = m; drives = ds; chosen = [] }) known a.0),
+      went_opens format ds fs g.effects known a.1,
     )
 
 went_reopened : (s : Server) → IsSound s → Went None s (reopen s)
 unfolding reopen
-went_reopened s h = elim (cases_Bool (counters_low s)) [
+went_reopened s h = elim (cases_Bool (counters_have_room s)) [
   | inl t ↦ rw t (record {
     out = None;
     takes = tt;

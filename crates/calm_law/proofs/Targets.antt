@@ -63,7 +63,7 @@ target_free : (g : Going) (k : ℕ) (o : Option ℕ) (t : Target)
     → (t.component ≡ k) × (t.drive < DRIVES) × (stood_on t.drive g.file.kept.components ≡ false)
 target_free g k None t f e = absurd (cc e)
 target_free g k (Some n) t f e =
-    let s : record { component = k; drive = n; object = g.moved.object } ≡ t = cc e in
+    let s : record { component = k; drive = n; object = g.effects.object } ≡ t = cc e in
     let r : IsFree g.file.kept.components t.drive =
     subst (λ (x : Target). IsFree g.file.kept.components x.drive) s (f n refl) in
     (ap (λ (x : Target). x.component) (sym s), r.0, r.1)

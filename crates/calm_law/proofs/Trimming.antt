@@ -1,7 +1,7 @@
 -- Bytes spell a number as far as they are wide, so an answer that is too wide is spelled as another one.
 use Rattle.std.proofs.Common.{◌≡◌, ◌==◌, ℕ, ◌%◌, ◌<◌, true, Ok, sym, ap, ◌∙◌, arith}
 use Rattle.std.proofs.lemmas.Bool.Decides.{nat_tests}
-use Rattle.osd_commands.proofs.Passing.{both_true}
+use Rattle.std.proofs.lemmas.Bool.{and_parts}
 use Rattle.layout_ops.specs.declared.messages.Answer.{Answer}
 use Rattle.layout_ops.specs.declared.envelope.Envelope.TheVariants as envelope
 use Rattle.layout_ops.specs.Reading.{envelope_of}
@@ -51,7 +51,7 @@ fits a detail is = record {
 detail_is : (a : Answer) → is_loss_taken a ≡ true → a.detail ≡ 1
 detail_is a e =
     let is : (a.detail == LOSS_TAKEN) ≡ true =
-    (both_true (status_of a.results == NFS4_OK) (a.detail == LOSS_TAKEN) e).1 in
+    (and_parts (status_of a.results == NFS4_OK) (a.detail == LOSS_TAKEN) e).1 in
     grind (arith, nat_tests, is)
 
 -- an answer that takes a loss is read so

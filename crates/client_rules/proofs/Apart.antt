@@ -1,7 +1,7 @@
 -- Commands to different components.
 use Rattle.std.proofs.Common.{◌≡◌, ◌⊎◌, ℕ, ◌+◌, ◌==◌, Bool, true, false, List, [], ◌∷◌, ◌++◌, refl, sym, ◌∙◌, inl, inr, eq-eqb, ne_eqb}
 use Rattle.std.specs.Prelude.{not, ◌||◌, filter}
-use Rattle.std.proofs.lemmas.Bool.{cases_Bool, cases_eq}
+use Rattle.std.proofs.lemmas.Bool.{cases_Bool, cases_eq, or_right, or_left}
 use Rattle.stripe_plan.specs.Lost.{among}
 use Rattle.client_rules.specs.State.{Held, Awaited, Store}
 use Rattle.client_rules.specs.Commands.{numbered, write_commands, others, not_of}
@@ -82,14 +82,6 @@ unfolding write_commands
 next_apart h k queue xs x n = next_numbered h h.count k queue xs x n
 
 -- ---- the first writes
-
-or_right : (a b : Bool) → b ≡ true → (a || b) ≡ true
-or_right true b e = refl
-or_right false b e = e
-
-or_left : (a b : Bool) → a ≡ true → (a || b) ≡ true
-or_left true b e = refl
-or_left false b e = absurd (cc e)
 
 -- none is to a component that was seen
 seen_none : (h : Held) (count k : ℕ) (seen : List ℕ) (ws : List Store) → among k seen ≡ true → NoneTo k (numbered h true count (firsts seen ws))

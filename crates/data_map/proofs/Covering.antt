@@ -5,6 +5,7 @@ use Rattle.std.proofs.lemmas.Bool.{cases_eq, eq-eqb, ne_eqb}
 use Rattle.std.proofs.lemmas.List.{append-nil}
 use Rattle.std.proofs.lemmas.Nat.{le-div, mod-mul-add}
 use Rattle.std.proofs.Math.Nat.{add-mul, div-mul-le_self, lt-div-mul-add, mul-le-mul_right}
+use Rattle.osd_lists.proofs.Slices.{split_range}
 use Rattle.data_map.specs.declared.check.RawMap.{RawMap}
 use Rattle.data_map.specs.Check.{IsChecked}
 use Rattle.data_map.specs.Striping.{stripe_length, stripe_of, place_of, left_in_unit}
@@ -23,17 +24,6 @@ same_run f g a b (suc n) h =
     let rest : map f (range_with_len (a + 1) n) ≡ map g (range_with_len (b + 1) n) =
     same_run f g (a + 1) (b + 1) n (λ j below. ap f (on a j) ∙ h (j + 1) (omega (arith, below)) ∙ ap g (sym (on b j))) in
     ap (λ x. x ∷ map f (range_with_len (a + 1) n)) first ∙ ap (λ xs. g b ∷ xs) rest
-
--- the numbers up to a place, and those from there on
-run_append : {X : Type 0} (f : ℕ → X) (a x y : ℕ) → map f (range_with_len a (x + y)) ≡ map f (range_with_len a x) ++ map f (range_with_len (a + x) y)
-run_append f a zero y =
-    let none : 0 + y ≡ y = omega arith in
-    let here : a ≡ a + 0 = omega arith in
-    ap (λ n. map f (range_with_len a n)) none ∙ ap (λ b. map f (range_with_len b y)) here
-run_append f a (suc x) y =
-    let more : suc x + y ≡ suc (x + y) = omega arith in
-    let on : a + 1 + x ≡ a + suc x = omega arith in
-    ap (λ n. map f (range_with_len a n)) more ∙ ap (λ xs. f a ∷ xs) (run_append f (a + 1) x y ∙ ap (λ b. map f (range_with_len (a + 1) x) ++ map f (range_with_len b y)) on)
 
 -- ---- parts
 
@@ -84,7 +74,7 @@ parts_bytes m off end u (suc n) c touched more =
     ∙ ap (λ xs. xs ++ bytes_of_range m (max off next) (last - max off next)) (part_bytes m from (min end next - from) c (part_short m off end u c touched) ∙ ap (bytes_of_range m from) length_here)
     ∙ ap (λ x. bytes_of_range m from (next - from) ++ bytes_of_range m x (last - x)) (from_next ∙ sym at_next)
     ∙ ap (λ x. bytes_of_range m from (next - from) ++ bytes_of_range m (from + (next - from)) (last - x)) at_next
-    ∙ sym (run_append (λ l. ((place_of m l).position, (place_of m l).offset)) from (next - from) (last - next))
+    ∙ sym (split_range (λ l. ((place_of m l).position, (place_of m l).offset)) from (next - from) (last - next))
     ∙ ap (bytes_of_range m from) split
     ∙ ap (λ k. bytes_of_range m from (min end (k * m.unit) - from)) (sym end_units)
 

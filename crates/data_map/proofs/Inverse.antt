@@ -3,6 +3,7 @@ use Rattle.std.proofs.Common.{◌≡◌, ◌↔◌, ℕ, ◌+◌, ◌*◌, ◌/�
 use Rattle.std.proofs.lemmas.Bool.{cases_eq, eq-eqb, ne_eqb}
 use Rattle.std.proofs.lemmas.Nat.{div-add-mod', div_below, mod_below, mul-le}
 use Rattle.std.proofs.Math.Nat.{mul-le-mul_right, mul_comm, mul-mul-mul_comm, add-mul, div-mul-le_self}
+use Rattle.std.proofs.lemmas.Option.{same_Some}
 use Rattle.data_map.specs.declared.check.RawMap.{RawMap}
 use Rattle.data_map.specs.Check.{IsChecked}
 use Rattle.data_map.specs.Striping.{positions, group_width, groups, parities, data_units, stripe_length, data_unit_of, group_of, row_of, offset_of, position_of, place_of}
@@ -50,16 +51,13 @@ parity_unit m p o s unit c row below position =
     let offset : offset_of m s (o % m.unit) ≡ o = ap (λ r. r * m.unit + o % m.unit) row ∙ div-add-mod' o m.unit in
     ap (λ x. unit_at m x o) (sym position) ∙ ap (λ x. unit_at m (position_of m s unit) x) (sym offset) ∙ (unit_found m s unit (o % m.unit) c below (mod_below o m.unit c.some_unit)).1
 
-pub some_is : {X : Type 0} (a b : X) → Some a ≡ Some b → a ≡ b
-some_is a b same = grind (arith, same)
-
 holds_parity : (m : RawMap) (p o : ℕ) → IsChecked m → HoldsParity m p o → data_units m ≤ unit_at m p o
 holds_parity m p o c (s, row, inl p_there) = elim (cases_eq (parities m) 0) [
   | inl none ↦ absurd (cc (rw (eq-eqb (parities m) 0 none) at p_there))
-  | inr some ↦ omega (arith, parity_unit m p o s (data_units m) c row (omega (arith, some, c.some_data)) (some_is _ _ (rw (ne_eqb (parities m) 0 some) at p_there)))
+  | inr some ↦ omega (arith, parity_unit m p o s (data_units m) c row (omega (arith, some, c.some_data)) (same_Some _ _ (rw (ne_eqb (parities m) 0 some) at p_there)))
 ]
 holds_parity m p o c (s, row, inr q_there) = elim (cases_eq (parities m) 2) [
-  | inl two ↦ omega (arith, parity_unit m p o s (data_units m + 1) c row (omega (arith, two, c.some_data)) (some_is _ _ (rw (eq-eqb (parities m) 2 two) at q_there)))
+  | inl two ↦ omega (arith, parity_unit m p o s (data_units m + 1) c row (omega (arith, two, c.some_data)) (same_Some _ _ (rw (eq-eqb (parities m) 2 two) at q_there)))
   | inr other ↦ absurd (cc (rw (ne_eqb (parities m) 2 other) at q_there))
 ]
 
@@ -94,7 +92,7 @@ pub is_parity : (m : RawMap) (p o : ℕ) → IsChecked m → p < positions m →
 is_parity m p o c below none = inr (parity_there m p o c below none)
 
 pub is_byte : (m : RawMap) (p o l : ℕ) → IsChecked m → p < positions m → unit_at m p o < data_units m → (Some (byte_at m p o) ≡ Some l) ↔ LiesAt m l p o
-is_byte m p o l c below holds = (λ e. subst (λ x. LiesAt m x p o) (some_is _ _ e) (lies_there m p o c below holds), λ there. ap Some (only_one m l p o c there))
+is_byte m p o l c below holds = (λ e. subst (λ x. LiesAt m x p o) (same_Some _ _ e) (lies_there m p o c below holds), λ there. ap Some (only_one m l p o c there))
 
 pub has_byte : (m : RawMap) (p o : ℕ) → IsChecked m → p < positions m → unit_at m p o < data_units m → HasNoByte m p o → ⊥
 has_byte m p o c below holds (inl high) = omega (arith, below, high)

@@ -1,8 +1,8 @@
 -- What a checked map's shape has: positions, groups and data units.
-use Rattle.std.proofs.Common.{◌≡◌, ℕ, ◌+◌, ◌*◌, ◌<◌, ◌≤◌, refl, sym, ap, ◌∙◌, arith, inl, inr}
+use Rattle.std.proofs.Common.{◌≡◌, ℕ, ◌+◌, ◌*◌, ◌<◌, ◌≤◌, refl, sym, ap, ◌∙◌, arith, inl, inr, ◌/◌}
 use Rattle.std.proofs.lemmas.Bool.{cases_eq, eq-eqb, ne_eqb}
-use Rattle.std.proofs.lemmas.Nat.{div-add-mod', mul-le}
-use Rattle.std.proofs.Math.Nat.{div-le_self, mul-le-mul_right, one-le-mul}
+use Rattle.std.proofs.lemmas.Nat.{div-add-mod', mul-le, div_below}
+use Rattle.std.proofs.Math.Nat.{div-le_self, mul-le-mul_right, one-le-mul, add-mul}
 use Rattle.data_map.specs.declared.check.RawMap.{RawMap}
 use Rattle.data_map.specs.Check.{IsChecked}
 use Rattle.data_map.specs.Striping.{replicas, positions, group_width, groups, parities, data_units, stripe_length}
@@ -67,3 +67,8 @@ few_parities m = elim (cases_eq m.algorithm 1) [
     | inr one ↦ rw (ne_eqb m.algorithm 1 other, ne_eqb m.algorithm 4 one) (omega arith)
   ]
 ]
+
+pub group_ends : (m : RawMap) (p : ℕ) → IsChecked m → p < positions m → p / group_width m * group_width m + group_width m ≤ positions m
+group_ends m p c l =
+    let more : p / group_width m + 1 ≤ groups m = omega (arith, div_below p (group_width m) (groups m) (omega (arith, c.some_data)) (rw (whole_groups m c) l)) in
+    omega (arith, mul-le-mul_right (group_width m) more, add-mul (p / group_width m) 1 (group_width m), whole_groups m c)

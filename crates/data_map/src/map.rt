@@ -32,7 +32,12 @@ impl Model for DataMap {
     ghost invariant = { λ m. IsChecked m.raw × (m.positions ≡ positions_of m.raw) × (m.group_width ≡ width_of m.raw) ×
         (m.parities ≡ parities_of m.raw) };
 
-    ghost inverse = { λ raw. record { raw = raw; positions = positions_of raw; group_width = width_of raw; parities = parities_of raw } };
+    ghost inverse = { λ raw. record {
+      raw = raw;
+      positions = positions_of raw;
+      group_width = width_of raw;
+      parities = parities_of raw;
+    } };
 
     ghost inverse_ok = { λ a h. rw (h.1, h.2, h.3) refl };
 }

@@ -10,7 +10,7 @@ use crate::map::DataMap;
 pub struct Place {
     /// The position of its component.
     pub position: u32,
-    /// Its offset in the component, in bytes.
+    /// The offset of the byte in its component, in bytes.
     pub offset: u64,
     /// The number of its stripe in the file.
     pub stripe: u64,

@@ -14,9 +14,9 @@ pub const MAX_FILE_SIZE: u64 = 16_777_216;
 pub struct Extent {
     /// The position of its component.
     pub position: u32,
-    /// Its offset in the component, in bytes.
+    /// The offset of the extent in its component, in bytes.
     pub offset: u64,
-    /// Its length in bytes.
+    /// The length of the extent in bytes.
     pub length: u64,
 }
 

@@ -273,24 +273,24 @@ out_good : (s : Server) (chosen : List ℕ) (q : ClientRequest) (f : File) (v : 
 out_good s chosen q f v k c r file x own =
     let fits = served_fits q.args (at_file s chosen f) v x in
     let run = fits.runs in
-    let last = v.going.moved.object in
-    let drives : length v.going.moved.sent ≡ length run.more =
+    let last = v.going.effects.object in
+    let drives : length v.going.effects.sent ≡ length run.more =
     ap (λ (ws : List Awaited). length ws) run.sent_is in
     let good : GoodBelow last (answer_with s q v) = λ few.
     answered few run.kept fits.status fits.detail in
     record {
       slots = keep_good last s.slots _ (more_slots s.next_object last s.slots run.objects k) good;
       sends =
-          drives_before s.next_object last 0 s.drives v.going.moved.sent _
-          (recalls_before s.next_object last (0 + length v.going.moved.sent) s.next_recall f.kept.number f.kept.map
+          drives_before s.next_object last 0 s.drives v.going.effects.sent _
+          (recalls_before s.next_object last (0 + length v.going.effects.sent) s.next_recall f.kept.number f.kept.map
           v.recalled _ file.0.number fits.recalled
           (good, omega (arith, run.given, drives), tt));
     }
   where
-    answered : v.going.moved.object ≤ 2 ^ 63 → KeptFits v.going.moved.object v.going.file.kept
+    answered : v.going.effects.object ≤ 2 ^ 63 → KeptFits v.going.effects.object v.going.file.kept
         → v.told.status < 2 ^ 32 → v.told.detail < 2 ^ 32 → AnswerGood (answer_with s q v)
     answered few kept status detail =
-        let results = results_good q.client s.drives v.going.moved.object q.args v v.told.grant refl few kept own status
+        let results = results_good q.client s.drives v.going.effects.object q.args v v.told.grant refl few kept own status
         (says_so q.args (at_file s chosen f) v x) in (
           record {
             client = omega (arith, c);

@@ -35,7 +35,7 @@ then_runs g h k a b = record {
   map_is = b.map_is ∙ a.map_is;
   more = a.more ++ b.more;
   sent_is =
-      b.sent_is ∙ ap (λ (ws : List Awaited). ws ++ b.more) a.sent_is ∙ append_assoc g.moved.sent a.more b.more;
+      b.sent_is ∙ ap (λ (ws : List Awaited). ws ++ b.more) a.sent_is ∙ append_assoc g.effects.sent a.more b.more;
   rises = omega (arith, a.rises, b.rises, length-append a.more b.more);
   objects = omega (arith, a.objects, b.objects);
   given = omega (arith, a.given, b.given, length-append a.more b.more);
@@ -166,7 +166,7 @@ late_fits n f next g k =
     (find_fits f.number f.map (conflicts g) f.grants k.grants))
 
 -- the grant is one of the file's
-pub given : (go : Going) (g : Grant) → Sound go → JobFits go.moved.object go.file.kept.tag go.file.job
+pub given : (go : Going) (g : Grant) → Sound go → JobFits go.effects.object go.file.kept.tag go.file.job
     → GrantFits go.file.kept.number go.file.kept.map g → From go (by_late go g Gives).going
 given go g s j f = here (by_late go g Gives).going (record {
   kept = record {
@@ -185,7 +185,7 @@ given go g s j f = here (by_late go g Gives).going (record {
   drives = s.drives;
 }) j
 
-late_served : (go : Going) (g : Grant) (l : Late) → Sound go → JobFits go.moved.object go.file.kept.tag go.file.job
+late_served : (go : Going) (g : Grant) (l : Late) → Sound go → JobFits go.effects.object go.file.kept.tag go.file.job
     → GrantFits go.file.kept.number go.file.kept.map g → LateFits l → GetFits go (by_late go g l)
 late_served go g NoNumber s j f l = refused go go _ _ (here go s j) (omega arith) (omega arith) (λ e. cc e)
 late_served go g (Lacks k) s j f l = refused go go _ _ (here go s j) (omega arith) (omega (arith, l)) (λ e. cc e)
@@ -204,11 +204,11 @@ late_served go g Gives s j f l = record {
   refuses = λ e z. cc e;
 }
 
-give_served : (go : Going) (next : ℕ) (g : Grant) → Sound go → JobFits go.moved.object go.file.kept.tag go.file.job
+give_served : (go : Going) (next : ℕ) (g : Grant) → Sound go → JobFits go.effects.object go.file.kept.tag go.file.job
     → GrantFits go.file.kept.number go.file.kept.map g → GetFits go (give_or_refuse go next g)
 unfolding give_or_refuse
 give_served go next g s j f =
-    late_served go g (late go.file.kept next g) s j f (late_fits go.moved.object go.file.kept next g s.kept)
+    late_served go g (late go.file.kept next g) s j f (late_fits go.effects.object go.file.kept next g s.kept)
 
 -- ---- a fence
 
@@ -230,7 +230,7 @@ behind go h v r k = record {
 }
 
 after_served : (go : Going) (next : ℕ) (g : Grant) (o : Option Job) → Sound go
-    → JobFits go.moved.object go.file.kept.tag go.file.job → JobFits go.moved.object go.file.kept.tag o
+    → JobFits go.effects.object go.file.kept.tag go.file.job → JobFits go.effects.object go.file.kept.tag o
     → GrantFits go.file.kept.number go.file.kept.map g → GetFits go (after_fence go next g o)
 after_served go next g None s j k f = give_served go next g s j f
 after_served go next g (Some x) s j k f =
@@ -238,7 +238,7 @@ after_served go next g (Some x) s j k f =
     refused go go _ _ (here go s j) (omega arith) (omega (arith, low)) (λ e. cc e)
 
 fence_served : (go : Going) (next format : ℕ) (g : Grant) → is_format format ≡ true → Sound go
-    → JobFits go.moved.object go.file.kept.tag go.file.job → GrantFits go.file.kept.number go.file.kept.map g
+    → JobFits go.effects.object go.file.kept.tag go.file.job → GrantFits go.file.kept.number go.file.kept.map g
     → GetFits go (fence_first go next format g)
 unfolding fence_first
 fence_served go next format g known s j f = either (go.file.kept.tag == GREATEST_TAG) refl
@@ -262,7 +262,7 @@ either_served go true x y p q = p
 either_served go false x y p q = q
 
 grants_served : (go : Going) (next format now : ℕ) (g : Grant) → is_format format ≡ true → Sound go
-    → JobFits go.moved.object go.file.kept.tag go.file.job → GrantFits go.file.kept.number go.file.kept.map g
+    → JobFits go.effects.object go.file.kept.tag go.file.job → GrantFits go.file.kept.number go.file.kept.map g
     → GetFits go (on_grants go next format now g)
 unfolding on_grants
 grants_served go next format now g known s j f =
@@ -324,7 +324,7 @@ asked_fits f number client now offset count rw c l = record {
     behind_it a s x y = omega (arith, x, y)
 
 early_served : (go : Going) (next format now : ℕ) (g : Grant) (offset count : ℕ) (e : Early) → is_format format ≡ true
-    → Sound go → JobFits go.moved.object go.file.kept.tag go.file.job
+    → Sound go → JobFits go.effects.object go.file.kept.tag go.file.job
     → (offset + count ≤ MAX_FILE_SIZE → GrantFits go.file.kept.number go.file.kept.map g) → EarlyFits offset count e
     → GetFits go (by_early go next format now g e)
 early_served go next format now g offset count BadMode known s j f e =
@@ -338,10 +338,10 @@ early_served go next format now g offset count (Waits k) known s j f e =
 early_served go next format now g offset count On known s j f e = grants_served go next format now g known s j (f e)
 
 pub gets_served : (go : Going) (next format now client iomode offset count : ℕ) → is_format format ≡ true
-    → client ≤ MAX_CLIENT → Sound go → JobFits go.moved.object go.file.kept.tag go.file.job
+    → client ≤ MAX_CLIENT → Sound go → JobFits go.effects.object go.file.kept.tag go.file.job
     → GetFits go (gets go next format now client iomode offset count)
 unfolding gets
 gets_served go next format now client iomode offset count known c s j =
     early_served go next format now _ offset count (early go.file iomode offset count) known s j
     (asked_fits go.file.kept next client now offset count (iomode == LAYOUTIOMODE4_RW) c)
-    (early_fits go.file iomode offset count go.moved.object j)
+    (early_fits go.file iomode offset count go.effects.object j)

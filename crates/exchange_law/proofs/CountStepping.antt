@@ -4,7 +4,7 @@ use Rattle.std.specs.List.{AllByRecursion}
 use Rattle.std.proofs.Common.{◌≡◌, ◌&&◌, ◌==◌, ℕ, suc, ◌+◌, ◌≤◌, ◌<◌, ◌++◌, Bool, true, false, List, [], ◌∷◌, Option, Some, None, find, filter, map, length, nat_lt, nat_le, refl, sym, ap, subst, ◌∙◌, append_assoc, arith, if◌then◌else◌}
 use Rattle.std.proofs.lemmas.Bool.Decides.{nat_tests}
 use Rattle.std.proofs.lemmas.List.{append-nil, length-append, length-map}
-use Rattle.osd_commands.proofs.Passing.{both_true}
+use Rattle.std.proofs.lemmas.Bool.{and_parts}
 use Rattle.osd_lists.specs.declared.node.Node.{Node}
 use Rattle.osd_lists.specs.declared.node.Node.TheVariants as node
 use Rattle.data_map.specs.declared.check.RawMap.{RawMap}
@@ -14,7 +14,7 @@ use Rattle.scenario_text.specs.declared.names.TheConstants.{DRIVES, FILES}
 use Rattle.layout_ops.specs.declared.messages.Answer.{Answer}
 use Rattle.server_rules.specs.declared.limits.TheConstants.{MAX_CLIENT, GREATEST_TAG}
 use Rattle.server_rules.specs.declared.server.Slot.{Slot}
-use Rattle.world_history.specs.ServerNames.{Server, File, Drive, Grant, Awaited, Job, JobKind, Revoking, Rebuilding, Auditing, Busy, Spent, Outgoing, ToDrive, Recalls, Answers, AnswersOrder, ClientRequest, Reply, HasStarted, IsSpent, OrderKind, ToRecall, ToRevoke, ToDeclare, ToRebuild, ToAudit, Moved}
+use Rattle.world_history.specs.ServerNames.{Server, File, Drive, Grant, Awaited, Job, JobKind, Revoking, Rebuilding, Auditing, Busy, Spent, Outgoing, ToDrive, Recalls, Answers, AnswersOrder, ClientRequest, Reply, HasStarted, IsSpent, OrderKind, ToRecall, ToRevoke, ToDeclare, ToRebuild, ToAudit, Effects}
 use Rattle.server_rules.specs.Answers.{recalls_from}
 use Rattle.server_rules.specs.Going.{Going, noting}
 use Rattle.server_rules.specs.Jobs.{fence_begins, declares}
@@ -197,17 +197,17 @@ sent_near ws more e n = subst AllNear (sym e) n
 at_fits : (s : Server) (chosen : List ℕ) (number : ℕ) (f : File) (h : Going) → ServerFits s
     → From (at_file s chosen f) h → StepFits s (step_at s number h)
 at_fits s chosen number f h k r =
-    let long : length (to_drives s.drives h.moved.sent) ≡ length r.more =
-    length_drives s.drives h.moved.sent ∙ ap (λ (ws : List Awaited). length ws) r.sent_is in
+    let long : length (to_drives s.drives h.effects.sent) ≡ length r.more =
+    length_drives s.drives h.effects.sent ∙ ap (λ (ws : List Awaited). length ws) r.sent_is in
     record {
       fits = record {
         drives = k.drives;
         format = k.format;
-        files = put_fits h.moved.object s.files number h.file
-            (wider_files s.next_object h.moved.object s.files r.objects k.files) (r.kept, r.job);
+        files = put_fits h.effects.object s.files number h.file
+            (wider_files s.next_object h.effects.object s.files r.objects k.files) (r.kept, r.job);
         slots = k.slots;
       };
-      named = drives_out s.drives h.moved.sent (sent_near h.moved.sent r.more r.sent_is r.near);
+      named = drives_out s.drives h.effects.sent (sent_near h.effects.sent r.more r.sent_is r.near);
       nonces = omega (arith, r.rises, long);
       objects = omega (arith, r.given, long);
       recalls = omega arith;
@@ -220,11 +220,11 @@ out_fits : (s : Server) (chosen : List ℕ) (q : ClientRequest) (f : File) (v : 
     → q.client ≤ MAX_CLIENT → ServedFits (at_file s chosen f) v → StepFits s (carried_out s q v)
 out_fits s chosen q f v k c x =
     let r = x.runs in
-    let drives = to_drives s.drives v.going.moved.sent in
+    let drives = to_drives s.drives v.going.effects.sent in
     let recalls = recalls_from s.next_recall v.recalled in
     let answer = Answers (answer_with s q v) ∷ [] in
     let long : length drives ≡ length r.more =
-    length_drives s.drives v.going.moved.sent ∙ ap (λ (ws : List Awaited). length ws) r.sent_is in
+    length_drives s.drives v.going.effects.sent ∙ ap (λ (ws : List Awaited). length ws) r.sent_is in
     let all : length (drives ++ (recalls ++ answer)) ≡ length drives + (length recalls + 1) =
     length-append drives (recalls ++ answer) ∙ ap (λ (n : ℕ). length drives + n) (length-append recalls answer) in
     let many : length recalls ≡ length v.recalled = length_recalls s.next_recall v.recalled in
@@ -232,13 +232,13 @@ out_fits s chosen q f v k c x =
       fits = record {
         drives = k.drives;
         format = k.format;
-        files = put_fits v.going.moved.object s.files q.file v.going.file
-            (wider_files s.next_object v.going.moved.object s.files r.objects k.files) (r.kept, r.job);
+        files = put_fits v.going.effects.object s.files q.file v.going.file
+            (wider_files s.next_object v.going.effects.object s.files r.objects k.files) (r.kept, r.job);
         slots = kept_slots s.slots _ k.slots c;
       };
       named =
           each_more IsNamedOut drives (recalls ++ answer)
-          (drives_out s.drives v.going.moved.sent (sent_near v.going.moved.sent r.more r.sent_is r.near))
+          (drives_out s.drives v.going.effects.sent (sent_near v.going.effects.sent r.more r.sent_is r.near))
           (each_more IsNamedOut recalls answer
           (recalls_out s.next_recall f.kept.number f.kept.map v.recalled x.recalled) (c, tt));
       nonces = omega (arith, r.rises, long, all);
@@ -387,14 +387,14 @@ recalled_fits s (Some f) k x = record {
 
 pub record RoundFits (nonce object : ℕ) (sent : List Awaited) (r : Round) : Type 0 where
   pub more : List Awaited
-  pub sent_is : r.moved.sent ≡ sent ++ more
-  pub rises : r.moved.nonce ≡ nonce + length more
-  pub objects : object ≤ r.moved.object
-  pub given : r.moved.object ≤ object + length more
+  pub sent_is : r.effects.sent ≡ sent ++ more
+  pub rises : r.effects.nonce ≡ nonce + length more
+  pub objects : object ≤ r.effects.object
+  pub given : r.effects.object ≤ object + length more
   pub near : AllNear more
-  pub files : AllByRecursion (FileFits r.moved.object) r.files
+  pub files : AllByRecursion (FileFits r.effects.object) r.files
 
-each_declared : (drive : ℕ) (ds : List Drive) (fs : List File) (m : Moved) (chosen : List ℕ) → AreNamed ds
+each_declared : (drive : ℕ) (ds : List Drive) (fs : List File) (m : Effects) (chosen : List ℕ) → AreNamed ds
     → AllByRecursion (FileFits m.object) fs
     → RoundFits m.nonce m.object m.sent (declares_each drive ds fs m chosen)
 unfolding declares_each
@@ -408,10 +408,10 @@ each_declared drive ds [] m chosen named k = record {
   files = tt;
 }
 each_declared drive ds (f ∷ fs) m chosen named k =
-    let g : Going = record { file = f; moved = m; drives = ds; chosen = chosen } in
+    let g : Going = record { file = f; effects = m; drives = ds; chosen = chosen } in
     let h : Going = declares g drive in
     let a = declares_run g drive (record { kept = k.0.0; drives = named }) k.0.1 in
-    let b = each_declared drive ds fs h.moved h.chosen named (wider_files m.object h.moved.object fs a.objects k.1) in
+    let b = each_declared drive ds fs h.effects h.chosen named (wider_files m.object h.effects.object fs a.objects k.1) in
     record {
       more = a.more ++ b.more;
       sent_is = b.sent_is ∙ ap (λ (ws : List Awaited). ws ++ b.more) a.sent_is ∙ append_assoc m.sent a.more b.more;
@@ -421,8 +421,8 @@ each_declared drive ds (f ∷ fs) m chosen named k =
       near = each_more IsNear a.more b.more a.near b.near;
       files = (
         (
-          wider_kept h.moved.object _ h.file.kept b.objects a.kept,
-          wider_job h.moved.object _ h.file.kept.tag h.file.job b.objects a.job,
+          wider_kept h.effects.object _ h.file.kept b.objects a.kept,
+          wider_job h.effects.object _ h.file.kept.tag h.file.job b.objects a.job,
         ),
         b.files,
       );
@@ -437,11 +437,11 @@ declared_fits s chosen n true k =
     let named = offline_named s.drives n k.drives in
     let r = declares_each n ds s.files (begins s) chosen in
     let x = each_declared n ds s.files (begins s) chosen named k.files in
-    let long : length (to_drives ds r.moved.sent) ≡ length x.more =
-    length_drives ds r.moved.sent ∙ ap (λ (ws : List Awaited). length ws) x.sent_is in
+    let long : length (to_drives ds r.effects.sent) ≡ length x.more =
+    length_drives ds r.effects.sent ∙ ap (λ (ws : List Awaited). length ws) x.sent_is in
     record {
       fits = record { drives = named; format = k.format; files = x.files; slots = k.slots };
-      named = drives_out ds r.moved.sent (sent_near r.moved.sent x.more x.sent_is x.near);
+      named = drives_out ds r.effects.sent (sent_near r.effects.sent x.more x.sent_is x.near);
       nonces = omega (arith, x.rises, long);
       objects = omega (arith, x.given, long);
       recalls = omega arith;
@@ -485,7 +485,7 @@ asked_fits : (s : Server) (now : ℕ) (chosen : List ℕ) (c : ℕ) (q : ClientR
     → ((q.client == c) && nat_le c MAX_CLIENT) ≡ b → StepFits s (if b then on_request s now chosen q else still s)
 asked_fits s now chosen c q false k is = still_fits s k
 asked_fits s now chosen c q true k is =
-    let both = both_true (q.client == c) (nat_le c MAX_CLIENT) is in
+    let both = and_parts (q.client == c) (nat_le c MAX_CLIENT) is in
     request_fits s now chosen q k (grind (arith, both.0, both.1, nat_tests))
 
 pub message_fits : (s : Server) (now : ℕ) (chosen : List ℕ) (from : Node) (m : Message) → ServerFits s

@@ -1,7 +1,7 @@
 -- Whatever comes to the server, its answers and recalls fit.
 use Rattle.std.proofs.Common.{◌≡◌, ◌&&◌, ◌==◌, ℕ, ◌+◌, ◌≤◌, ◌++◌, Bool, true, false, List, [], ◌∷◌, Option, Some, None, flat_map, nat_le, refl, sym, subst, arith, if◌then◌else◌}
 use Rattle.std.proofs.lemmas.Bool.Decides.{nat_tests}
-use Rattle.osd_commands.proofs.Passing.{both_true}
+use Rattle.std.proofs.lemmas.Bool.{and_parts}
 use Rattle.osd_lists.specs.declared.node.Node.{Node}
 use Rattle.osd_lists.specs.declared.node.Node.TheVariants as node
 use Rattle.server_rules.specs.declared.limits.TheConstants.{MAX_CLIENT, GREATEST_TAG}
@@ -11,7 +11,7 @@ use Rattle.server_rules.specs.Get.{lowest}
 use Rattle.server_rules.specs.Jobs.{fence_begins, making}
 use Rattle.server_rules.specs.Files.{Step, still, begins, file_at, at_file, to_drives, step_at}
 use Rattle.server_rules.specs.Requests.{on_request}
-use Rattle.server_rules.specs.Messages.{Message, Asks, Replies, Orders, counters_low, by_heard, on_drive_reply, handled, on_message, awaited_by}
+use Rattle.server_rules.specs.Messages.{Message, Asks, Replies, Orders, counters_have_room, by_heard, on_drive_reply, handled, on_message, awaited_by}
 use Rattle.server_rules.specs.Orders.{Ordered, begins_job, starts, recalls_on, offline, declares_each, declares_known, declare, ordered, with_result}
 use Rattle.server_rules.specs.Making.{refusal, places, unmade, with_file, makes_file, unless_refused, create_file}
 use Rattle.server_rules.specs.History.{Input, Hears, Makes, Obeys, Adds, Formats, Resends, Crashes, Opens, unless_made, step}
@@ -57,7 +57,7 @@ either_silent s true x y p q = p
 either_silent s false x y p q = q
 
 at_silent : (s : Server) (number : ℕ) (g : Going) → IsSilent s (step_at s number g)
-at_silent s number g = record { slots = refl; sends = drives_plain s.drives g.moved.sent }
+at_silent s number g = record { slots = refl; sends = drives_plain s.drives g.effects.sent }
 
 heard_silent : (s : Server) (o : Option Going) → IsSilent s (by_heard s o)
 heard_silent s None = still_silent s
@@ -102,7 +102,7 @@ unfolding declare
 declared_silent s chosen n true = record {
   slots = refl;
   sends = drives_plain (offline s.drives n)
-      (declares_each n (offline s.drives n) s.files (begins s) chosen).moved.sent;
+      (declares_each n (offline s.drives n) s.files (begins s) chosen).effects.sent;
 }
 declared_silent s chosen n false = still_silent s
 
@@ -149,7 +149,7 @@ asked_good : (s : Server) (now : ℕ) (chosen : List ℕ) (c : ℕ) (q : ClientR
     → StepGood s (if b then on_request s now chosen q else still s)
 asked_good s now chosen c q false k g r is = silent_good s (still s) g (omega arith) (still_silent s)
 asked_good s now chosen c q true k g r is =
-    let both = both_true (q.client == c) (nat_le c MAX_CLIENT) is in
+    let both = and_parts (q.client == c) (nat_le c MAX_CLIENT) is in
     request_good s now chosen q k g (grind (arith, both.0, both.1, nat_tests)) r
 
 either_good : (s : Server) (b : Bool) (x y : Step) → StepGood s x → StepGood s y → StepGood s (if b then x else y)
@@ -175,22 +175,22 @@ heard_good : (s : Server) (now : ℕ) (chosen : List ℕ) (from : Node) (m : Mes
     → SlotsGood s.next_object s.slots → ReadsWell (Hears now from m) → StepGood s (on_message s now chosen from m)
 unfolding on_message
 heard_good s now chosen (node.Client c) (Asks q) k g r =
-    either_good s (counters_low s) _ _
+    either_good s (counters_have_room s) _ _
     (asked_good s now chosen c q ((q.client == c) && nat_le c MAX_CLIENT) k g r refl)
     (silent_good s (still s) g (omega arith) (still_silent s))
 heard_good s now chosen (node.Drive d) (Asks q) k g r =
-    either_good s (counters_low s) _ _ (silent_good s (still s) g (omega arith) (still_silent s))
+    either_good s (counters_have_room s) _ _ (silent_good s (still s) g (omega arith) (still_silent s))
     (silent_good s (still s) g (omega arith) (still_silent s))
 heard_good s now chosen node.Server (Asks q) k g r =
-    either_good s (counters_low s) _ _ (silent_good s (still s) g (omega arith) (still_silent s))
+    either_good s (counters_have_room s) _ _ (silent_good s (still s) g (omega arith) (still_silent s))
     (silent_good s (still s) g (omega arith) (still_silent s))
 heard_good s now chosen from (Replies x) k g r =
     by_growth s chosen (Hears now from (Replies x)) k tt g
-    (either_silent s (counters_low s) _ _ (message_silent s now chosen from (Replies x) k (λ q e. cc e))
+    (either_silent s (counters_have_room s) _ _ (message_silent s now chosen from (Replies x) k (λ q e. cc e))
     (still_silent s))
 heard_good s now chosen from (Orders x) k g r =
     by_growth s chosen (Hears now from (Orders x)) k tt g
-    (either_silent s (counters_low s) _ _ (message_silent s now chosen from (Orders x) k (λ q e. cc e))
+    (either_silent s (counters_have_room s) _ _ (message_silent s now chosen from (Orders x) k (λ q e. cc e))
     (still_silent s))
 
 pub step_good : (s : Server) (chosen : List ℕ) (i : Input) → ServerFits s → IsGiven i → ReadsWell i

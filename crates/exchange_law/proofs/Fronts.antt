@@ -1,10 +1,11 @@
 -- The numbers at the front of a request, as the server reads them, fit their places.
 use Rattle.std.proofs.Common.{◌≡◌, ℕ, zero, suc, ◌^◌, ◌<◌, ◌++◌, Bool, true, false, List, [], ◌∷◌, Result, Ok, Err, length, nat_lt, nat_eq, ap, subst, ◌∙◌, arith, if◌then◌else◌}
 use Rattle.std.specs.Int.{w16, w32, w64, to_be_bytes}
+use Rattle.osd_lists.proofs.Options.{guard_ok}
 use Rattle.xdr_codec.specs.declared.err.XdrErr.{XdrErr}
 use Rattle.xdr_codec.specs.Items.{u32_item}
 use Rattle.xdr_codec.specs.Reading.{Rest, ◌>>=◌, u32_in, end_of}
-use Rattle.xdr_codec.proofs.ItemLaws.{bind_ok, ok_is, guard_ok}
+use Rattle.xdr_codec.proofs.ItemLaws.{bind_ok, ok_is}
 use Rattle.layout_types.specs.declared.err.LayoutErr.{LayoutErr}
 use Rattle.layout_types.specs.Grammar.{lifted, u32_part}
 use Rattle.layout_types.specs.declared.err.LayoutErr.TheVariants.{BadEnum}

@@ -1,11 +1,10 @@
 -- Which grants a step of the server gives: the next number, in the answer to a request behind all that it answered.
 use Rattle.std.proofs.Common.{◌≡◌, ◌⊎◌, ◌==◌, ℕ, ◌+◌, ◌≤◌, ◌<◌, ◌^◌, ◌++◌, ◌∷◌, [], List, inl, inr, Bool, true, false, ◌&&◌, nat_le, nat_lt, flat_map, Option, Some, None, refl, sym, ap, subst, ◌∙◌, arith, append_assoc, if◌then◌else◌}
 use Rattle.std.specs.Prelude.{min}
-use Rattle.std.proofs.lemmas.Bool.{cases_eq, eq-eqb, ne_eqb, eqb-true}
+use Rattle.std.proofs.lemmas.Bool.{cases_eq, eq-eqb, ne_eqb, eqb-true, and_parts}
 use Rattle.std.proofs.lemmas.Bool.Decides.{nat_tests}
 use Rattle.osd_lists.specs.declared.node.Node.{Node}
 use Rattle.osd_lists.specs.declared.node.Node.TheVariants as node
-use Rattle.osd_commands.proofs.Passing.{both_true}
 use Rattle.layout_ops.specs.declared.messages.Answer.{Answer}
 use Rattle.layout_ops.specs.declared.orders.OrderKind.{OrderKind}
 use Rattle.layout_ops.specs.declared.orders.OrderKind.TheVariants as order
@@ -21,7 +20,7 @@ use Rattle.server_rules.specs.Get.{lowest}
 use Rattle.server_rules.specs.Jobs.{making, fence_begins}
 use Rattle.server_rules.specs.Slots.{Admit, New, Again, Misordered, slot_of, admit, admit_after, keep}
 use Rattle.server_rules.specs.Requests.{serves, no_file, size_in, answer_with, answer_without, carries_out, by_admit, on_request}
-use Rattle.server_rules.specs.Messages.{Message, Asks, Replies, Orders, counters_low, by_heard, on_drive_reply, handled, on_message, awaited_by}
+use Rattle.server_rules.specs.Messages.{Message, Asks, Replies, Orders, counters_have_room, by_heard, on_drive_reply, handled, on_message, awaited_by}
 use Rattle.server_rules.specs.Orders.{Ordered, begins_job, starts, recalls_on, offline, with_offline, declares_each, declares_known, declare, ordered}
 use Rattle.server_rules.specs.Making.{with_file, refusal, unless_refused, makes_file, create_file}
 use Rattle.server_rules.specs.Openings.{opens_each, reopen}
@@ -169,7 +168,7 @@ still_quiet : (s : Server) → IsQuiet s (still s)
 still_quiet s = record { slots = refl; grants = refl; sends = tt }
 
 at_quiet : (s : Server) (n : ℕ) (g : Going) → IsQuiet s (step_at s n g)
-at_quiet s n g = record { slots = refl; grants = refl; sends = drives_none s.drives g.moved.sent }
+at_quiet s n g = record { slots = refl; grants = refl; sends = drives_none s.drives g.effects.sent }
 
 heard_quiet : (s : Server) (o : Option Going) → IsQuiet s (by_heard s o)
 heard_quiet s None = still_quiet s
@@ -203,7 +202,7 @@ declared_quiet s chosen n true = record {
   slots = refl;
   grants = refl;
   sends = drives_none (with_offline s n).drives
-      (declares_each n (offline s.drives n) s.files (begins s) chosen).moved.sent;
+      (declares_each n (offline s.drives n) s.files (begins s) chosen).effects.sent;
 }
 declared_quiet s chosen n false = still_quiet s
 
@@ -232,7 +231,7 @@ after_admitted o last q is = either ((q == last + 1) && nat_lt last GREATEST_SEQ
     either : (b : Bool) → ((q == last + 1) && nat_lt last GREATEST_SEQUENCE) ≡ b
         → IsAdmitted o q (if b then New else Misordered (min (last + 1) GREATEST_SEQUENCE))
     either true e =
-        let both = both_true (q == last + 1) (nat_lt last GREATEST_SEQUENCE) e in
+        let both = and_parts (q == last + 1) (nat_lt last GREATEST_SEQUENCE) e in
         let next : q ≡ last + 1 = eqb-true q (last + 1) both.0 in
         let less : last < GREATEST_SEQUENCE = nat_less last GREATEST_SEQUENCE both.1 in
         (omega (arith, is, next), omega (arith, next, less))
@@ -341,10 +340,10 @@ module _ (s : Server) (k : AreSlots s.slots) (low : s.next_grant < 2 ^ 32) (q : 
       (λ n e. absurd (cc (sym (refused_names q.args (no_file q.args)) ∙ e)))
   carried_gives now chosen (Some f) later =
       let v : Served = serves (at_file s chosen f) s.next_grant s.format now q.client q.args in
-      let front : List Outgoing = to_drives s.drives v.going.moved.sent ++ recalls_from s.next_recall v.recalled in
+      let front : List Outgoing = to_drives s.drives v.going.effects.sent ++ recalls_from s.next_recall v.recalled in
       keeps_gives (carries_out s now chosen q (Some f)) front (answer_with s q v) later refl refl (omega arith) refl
-      (sym (append_assoc (to_drives s.drives v.going.moved.sent) (recalls_from s.next_recall v.recalled) _))
-      (none_more (to_drives s.drives v.going.moved.sent) _ (drives_none s.drives v.going.moved.sent)
+      (sym (append_assoc (to_drives s.drives v.going.effects.sent) (recalls_from s.next_recall v.recalled) _))
+      (none_more (to_drives s.drives v.going.effects.sent) _ (drives_none s.drives v.going.effects.sent)
       (recalls_none s.next_recall v.recalled))
       (λ n e. let it = answer_names s.next_grant s.drives v.going.file.kept v q.args v.told.grant n low refl
       (served_next (at_file s chosen f) s.next_grant s.format now q.client q.args low) e in
@@ -397,14 +396,14 @@ module _ (s : Server) (k : AreSlots s.slots) (low : s.next_grant < 2 ^ 32) where
   made_quiet f None = record {
     slots = refl;
     grants = refl;
-    sends = drives_none s.drives (making (at_file (with_file s f) [] f)).moved.sent;
+    sends = drives_none s.drives (making (at_file (with_file s f) [] f)).effects.sent;
   }
   made_quiet f (Some why) = still_quiet s
 
   pub step_gives : (chosen : List ℕ) (i : Input) → StepGives s (step s chosen i)
   unfolding on_message create_file reopen
   step_gives chosen (Hears now from m) =
-      either_step s (counters_low s) _ _ (message_gives now chosen from m) (quiet_gives s (still s) k (still_quiet s))
+      either_step s (counters_have_room s) _ _ (message_gives now chosen from m) (quiet_gives s (still s) k (still_quiet s))
   step_gives chosen (Makes n m tag) = quiet_gives s _ k (made_quiet _ (refusal s n m))
   step_gives chosen (Obeys kind n) = quiet_gives s _ k (obeyed_quiet s chosen kind n)
   step_gives chosen (Adds d) = quiet_gives s _ k (record { slots = refl; grants = refl; sends = tt })
@@ -413,8 +412,8 @@ module _ (s : Server) (k : AreSlots s.slots) (low : s.next_grant < 2 ^ 32) where
       quiet_gives s _ k (record { slots = refl; grants = refl; sends = resend_none s.drives s.files })
   step_gives chosen Crashes = quiet_gives s _ k (record { slots = refl; grants = refl; sends = tt })
   step_gives chosen Opens =
-      either_step s (counters_low s) _ _ (quiet_gives s _ k (record {
+      either_step s (counters_have_room s) _ _ (quiet_gives s _ k (record {
         slots = refl;
         grants = refl;
-        sends = drives_none s.drives (opens_each s.format s.drives s.files (begins s)).moved.sent;
+        sends = drives_none s.drives (opens_each s.format s.drives s.files (begins s)).effects.sent;
       })) (quiet_gives s (still s) k (still_quiet s))

@@ -4,14 +4,14 @@ use Rattle.std.proofs.lemmas.Bool.{cases_Bool, cases_eq, eq-eqb, ne_eqb, eqb-tru
 use Rattle.osd_lists.specs.declared.node.Node.{Node}
 use Rattle.osd_lists.specs.declared.node.Node.TheVariants.{Server as FromServer, Drive as FromDrive, Client as FromClient}
 use Rattle.server_rules.specs.declared.limits.TheConstants.{MAX_CLIENT, GREATEST_TAG}
-use Rattle.world_history.specs.ServerNames.{Server, File, Drive, Job, JobKind, ClientRequest, Moved, Reply, RawMap, Refusal, Revoking, Rebuilding, Auditing, OrderKind, ToRecall, ToRevoke, ToDeclare, ToRebuild, ToAudit}
+use Rattle.world_history.specs.ServerNames.{Server, File, Drive, Job, JobKind, ClientRequest, Effects, Reply, RawMap, Refusal, Revoking, Rebuilding, Auditing, OrderKind, ToRecall, ToRevoke, ToDeclare, ToRebuild, ToAudit}
 use Rattle.server_rules.specs.Files.{Step, file_at, put_file, add_file, at_file, begins, still}
 use Rattle.server_rules.specs.Going.{Going}
 use Rattle.server_rules.specs.History.{Input, Hears, Makes, Obeys, Adds, Formats, Resends, Crashes, Opens, step, unless_made}
 use Rattle.server_rules.specs.Jobs.{making, declares, fence_begins}
 use Rattle.server_rules.specs.Laws.{AreSafe}
 use Rattle.server_rules.specs.Making.{refusal, unless_refused, makes_file, with_file, unmade, places, create_file}
-use Rattle.server_rules.specs.Messages.{Message, Asks, Replies, Orders, heard_at, or_else, by_heard, on_drive_reply, handled, on_message, counters_low}
+use Rattle.server_rules.specs.Messages.{Message, Asks, Replies, Orders, heard_at, or_else, by_heard, on_drive_reply, handled, on_message, counters_have_room}
 use Rattle.server_rules.specs.Openings.{crashed_file, opens, opens_each, reopen}
 use Rattle.server_rules.specs.Orders.{begins_job, starts, recalls_on, declares_each, declare, declares_known, ordered}
 use Rattle.server_rules.specs.Replies.{on_reply}
@@ -114,14 +114,14 @@ more_fewer f g fs gs x all n h e = elim (cases_eq f.kept.number n) [
       (all n h (rw (ne_eqb g.kept.number n (λ (i : g.kept.number ≡ n). other (sym x.number ∙ i))) at e))
 ]
 
-each_fewer : (drive : ℕ) (ds : List Drive) (fs : List File) (m : Moved) (chosen : List ℕ) → AreSafe fs
+each_fewer : (drive : ℕ) (ds : List Drive) (fs : List File) (m : Effects) (chosen : List ℕ) → AreSafe fs
     → AllFewer fs (declares_each drive ds fs m chosen).files
 unfolding declares_each
 each_fewer drive ds [] m chosen h = same_fewer []
 each_fewer drive ds (f ∷ fs) m chosen h =
-    let go : Going = record { file = f; moved = m; drives = ds; chosen = chosen } in
+    let go : Going = record { file = f; effects = m; drives = ds; chosen = chosen } in
     more_fewer f (declares go drive).file fs _ (declares_fewer go drive h.0)
-    (each_fewer drive ds fs (declares go drive).moved (declares go drive).chosen h.1)
+    (each_fewer drive ds fs (declares go drive).effects (declares go drive).chosen h.1)
 
 declared_fewer : (s : Server) (chosen : List ℕ) (drive : ℕ) (b : Bool) → AreSafe s.files
     → AllFewer s.files (declares_known s chosen drive b).step.state.files
@@ -171,18 +171,18 @@ crashed_fewer : (fs : List File) → AllFewer fs (map crashed_file fs)
 crashed_fewer [] = same_fewer []
 crashed_fewer (f ∷ fs) = more_fewer f (crashed_file f) fs (map crashed_file fs) (fewer_itself f.kept) (crashed_fewer fs)
 
-opened_fewer : (format : ℕ) (ds : List Drive) (fs : List File) (m : Moved)
+opened_fewer : (format : ℕ) (ds : List Drive) (fs : List File) (m : Effects)
     → AllFewer fs (opens_each format ds fs m).files
 unfolding opens_each
 opened_fewer format ds [] m = same_fewer []
 opened_fewer format ds (f ∷ fs) m =
-    let go : Going = record { file = f; moved = m; drives = ds; chosen = [] } in
+    let go : Going = record { file = f; effects = m; drives = ds; chosen = [] } in
     more_fewer f (opens format go).file fs _ (opens_fewer format go)
-    (opened_fewer format ds fs (opens format go).moved)
+    (opened_fewer format ds fs (opens format go).effects)
 
 reopened_fewer : (s : Server) → AllFewer s.files (reopen s).state.files
 unfolding reopen
-reopened_fewer s = elim (cases_Bool (counters_low s)) [
+reopened_fewer s = elim (cases_Bool (counters_have_room s)) [
   | inl t ↦ rw t (opened_fewer s.format s.drives s.files (begins s))
   | inr z ↦ rw z (same_fewer s.files)
 ]
@@ -230,7 +230,7 @@ either_did s chosen i false x y p q = q
 pub step_did : (s : Server) (chosen : List ℕ) (i : Input) → AreSafe s.files → Did s chosen i (step s chosen i)
 unfolding on_message
 step_did s chosen (Hears now from m) h =
-    either_did s chosen (Hears now from m) (counters_low s) _ _ (handled_did s now chosen from m h)
+    either_did s chosen (Hears now from m) (counters_have_room s) _ _ (handled_did s now chosen from m h)
     (quiet_still s chosen _)
 step_did s chosen (Makes n m tag) h = Quiet (created_fewer s n m tag chosen) (same_created s n m tag chosen)
 step_did s chosen (Obeys kind n) h = Quiet (ordered_fewer s chosen kind n h) (same_ordered s chosen kind n)

@@ -5,8 +5,7 @@ use Rattle.osd_lists.specs.declared.node.Node.TheVariants as node
 use Rattle.osd_commands.specs.declared.commands.CommandErr.{CommandErr}
 use Rattle.osd_commands.specs.declared.replies.Reply.{Reply}
 use Rattle.osd_commands.specs.Replies as replies
-use Rattle.osd_commands.proofs.Passing.{both_true}
-use Rattle.std.proofs.lemmas.Bool.{eqb-true}
+use Rattle.std.proofs.lemmas.Bool.{eqb-true, and_parts}
 use Rattle.client_rules.specs.declared.limits.TheConstants.{PERFORMED}
 use Rattle.client_rules.specs.Envelopes.{by_reply, message_in}
 use Rattle.client_rules.specs.Messages.{Message as ClientMessage, Replies, Answers, Recalls, TakesAnswer, TakesReply, TakesRecall, takes, reply_taken, answer_taken, is_awaited, awaited_of}
@@ -100,7 +99,7 @@ is_taken c from x a r e = absurd (cc e)
 pub answers_drive : (d : ℕ) (r : Reply) (a : Awaited) → answers d r a ≡ true
     → (a.command.nonce ≡ r.nonce) × (a.drive ≡ d)
 answers_drive d r a e =
-    let both = both_true (a.command.nonce == r.nonce) (a.drive == d) e in
+    let both = and_parts (a.command.nonce == r.nonce) (a.drive == d) e in
     (eqb-true a.command.nonce r.nonce both.0, eqb-true a.drive d both.1)
 
 -- ---- what it says

@@ -3,6 +3,7 @@ use Rattle.std.proofs.Common.{◌≡◌, ◌⊎◌, ◌==◌, ℕ, ◌++◌, ◌
 use Rattle.std.proofs.lemmas.Bool.{cases_eq}
 use Rattle.std.proofs.lemmas.List.{append-nil}
 use Rattle.std.proofs.lemmas.List.Sums.{fold-append}
+use Rattle.std.proofs.lemmas.Option.{same_Some}
 use Rattle.osd_commands.specs.declared.actions.Action.{Action}
 use Rattle.osd_commands.specs.declared.actions.Action.TheVariants as action
 use Rattle.osd_commands.specs.declared.commands.Command.{Command}
@@ -13,7 +14,7 @@ use Rattle.osd_objects.specs.declared.object.StoredObject.{StoredObject}
 use Rattle.osd_objects.specs.Lanes.{with_lane}
 use Rattle.osd_objects.specs.Objects.{created, after_write, after_set_tag, after_set_attr}
 use Rattle.osd_objects.specs.Store.{StoreState, object_at, changed_if_there}
-use Rattle.osd_objects.proofs.Entries.{same_some, lookup_inserted, lookup_beside, lookup_set, lookup_set_beside}
+use Rattle.osd_objects.proofs.Entries.{lookup_inserted, lookup_beside, lookup_set, lookup_set_beside}
 use Rattle.osd_drive.specs.declared.verdict.Verdict.{Verdict}
 use Rattle.osd_drive.specs.declared.verdict.Verdict.TheVariants as verdict
 use Rattle.osd_drive.specs.Table.{is_mutating, has_no_right, first_fault}
@@ -87,7 +88,7 @@ changed_from s c detail f None none changes leaves q y e = Same e
 changed_from s c detail f (Some z) there changes leaves q y e = elim (cases_eq q c.object) [
   | inl same ↦
       let is : f z ≡ y =
-      same_some (f z) y
+      same_Some (f z) y
       (sym (lookup_set s.objects c.object (f z) (subst IsSome (sym there) refl))
       ∙ ap (object_at (changed_if_there s c.object f (Some z))) (sym same) ∙ e) in
       Put same changes detail z.lanes (inr (z, ap (object_at s) same ∙ there, refl))
@@ -101,7 +102,7 @@ created_from s c changes q y e = elim (cases_eq q c.object) [
   | inl same ↦
       let made : StoredObject = created c.capability.tag c.payload (lane_for c 0) in
       let is : made ≡ y =
-      same_some made y
+      same_Some made y
       (sym (lookup_inserted s.objects c.object made) ∙ ap (object_at (effect_of action.Create s c)) (sym same) ∙ e) in
       Put same changes 0 [] (inl refl) (ap (λ (x : StoredObject). x.lanes) (sym is))
   | inr other ↦ Same (sym (lookup_beside s.objects c.object q _ other) ∙ e)
@@ -190,14 +191,14 @@ module _ (S : Source)
   same_objects h lines drive a b same s c is object x there =
       are_more h lines drive object x.lanes
       (s a refl object x
-      (ap (λ z. object_at z object) (sym same) ∙ ap (λ (z : DriveAt). object_at z.state.store object) (same_some b c is)
+      (ap (λ z. object_at z object) (sym same) ∙ ap (λ (z : DriveAt). object_at z.state.store object) (same_Some b c is)
       ∙ there))
 
   -- a drive whose objects are gone, or that has none yet
   no_objects : (h : List Line) (drive : ℕ) (b : DriveAt) → b.state.store.objects ≡ [] → DriveLanes S h drive (Some b)
   no_objects h drive b none c is object x there =
       absurd (nothing (object_at b.state.store object) (ap (λ es. look es object) none)
-      (ap (λ (z : DriveAt). object_at z.state.store object) (same_some b c is) ∙ there))
+      (ap (λ (z : DriveAt). object_at z.state.store object) (same_Some b c is) ∙ there))
     where
       look : List (ℕ × StoredObject) → ℕ → Option StoredObject
       look es k = object_at (record { capacity = b.state.store.capacity; objects = es }) k
@@ -253,7 +254,7 @@ module _ (S : Source)
         are_more before (l ∷ []) d object x.lanes
         (put_left c read allowed (source c performs read) object x
         (lanes_from c.action j.there.state.store c refl object x
-        (ap (λ (z : DriveAt). object_at z.state.store object) (same_some _ a is) ∙ there)))
+        (ap (λ (z : DriveAt). object_at z.state.store object) (same_Some _ a is) ∙ there)))
       where
         performs : v ≡ told.Perform
         performs =

@@ -4,8 +4,8 @@ use Rattle.std.specs.Prelude.{get_or}
 use Rattle.std.proofs.lemmas.Bool.Decides.{nat_tests}
 use Rattle.std.proofs.lemmas.List.Quantifiers.{position-Some}
 use Rattle.std.proofs.lemmas.Option.{get_or_from_slice_get}
+use Rattle.std.proofs.lemmas.Bool.{and_parts}
 use Rattle.osd_commands.specs.declared.commands.Command.{Command}
-use Rattle.osd_commands.proofs.Passing.{both_true}
 use Rattle.osd_objects.specs.declared.lanes.LaneEntry.{LaneEntry}
 use Rattle.osd_objects.specs.declared.lanes.TheConstants.{MAX_LANES}
 use Rattle.osd_objects.specs.declared.object.StoredObject.{StoredObject}
@@ -157,9 +157,9 @@ module _ (d : DriveState) (now : ℕ) (c : Command) where
 pub are_many : (o : Option StoredObject) (changes none : Bool)
     → (changes && (none && of_object (λ s. nat_le MAX_LANES s.lanes) (option_map state_of o))) ≡ true
     → (x : StoredObject) × (o ≡ Some x) × (MAX_LANES ≤ length x.lanes)
-are_many None changes none e = absurd (cc (both_true none false (both_true changes (none && false) e).1).1)
+are_many None changes none e = absurd (cc (and_parts none false (and_parts changes (none && false) e).1).1)
 are_many (Some x) changes none e =
-    let r = (both_true none _ (both_true changes _ e).1).1 in
+    let r = (and_parts none _ (and_parts changes _ e).1).1 in
     (x, refl, below MAX_LANES (length x.lanes) r)
   where
     below : (a b : ℕ) → nat_le a b ≡ true → a ≤ b
@@ -213,6 +213,6 @@ late_lane x holder nonce (Some l) there e =
 pub is_late : (o : Option StoredObject) (changes : Bool) (holder nonce : ℕ)
     → (changes && of_lane (λ l. nat_lt nonce l.nonce) (lane_or_none o holder)) ≡ true
     → (changes ≡ true) × IsLate o holder nonce
-is_late None changes holder nonce e = absurd (cc (both_true changes false e).1)
+is_late None changes holder nonce e = absurd (cc (and_parts changes false e).1)
 is_late (Some x) changes holder nonce e =
-    let r = both_true changes _ e in (r.0, late_lane x holder nonce (lane_of x.lanes holder) refl r.1)
+    let r = and_parts changes _ e in (r.0, late_lane x holder nonce (lane_of x.lanes holder) refl r.1)

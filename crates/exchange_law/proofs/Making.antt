@@ -14,7 +14,7 @@ use Rattle.server_rules.specs.Commands.{Creating, All, is_meant, to_each, to_all
 use Rattle.server_rules.specs.Going.{Going, rests_or}
 use Rattle.server_rules.specs.Jobs.{is_made, making}
 use Rattle.server_rules.specs.Files.{file_at, at_file, to_drives}
-use Rattle.server_rules.specs.Messages.{counters_low, on_message, awaited_by}
+use Rattle.server_rules.specs.Messages.{counters_have_room, on_message, awaited_by}
 use Rattle.server_rules.specs.Making.{checked_64, online, by_check, refusal, are_of, places, components_on, unmade, with_file, makes_file, unless_refused, create_file}
 use Rattle.server_rules.specs.History.{Input, Hears, Makes, Obeys, Adds, Formats, Resends, Crashes, Opens, unless_made, step}
 use Rattle.history_law.proofs.Placing.{greater_format}
@@ -92,9 +92,9 @@ creates_all f [] object k nonce = refl
 creates_all f (d ∷ ns) object k nonce = ap suc (creates_all f ns (object + 1) (k + 1) (nonce + 1))
 
 sent_or : (cs : List Awaited) (g : Going) (kind : JobKind) (work : Work) (later : Going)
-    → later.moved.sent ≡ g.moved.sent ++ [] → later.moved.object ≡ g.moved.object
-    → ((rests_or cs g kind work later).moved.sent ≡ g.moved.sent ++ cs)
-    × ((rests_or cs g kind work later).moved.object ≡ g.moved.object)
+    → later.effects.sent ≡ g.effects.sent ++ [] → later.effects.object ≡ g.effects.object
+    → ((rests_or cs g kind work later).effects.sent ≡ g.effects.sent ++ cs)
+    × ((rests_or cs g kind work later).effects.object ≡ g.effects.object)
 sent_or [] g kind work later e o = (e, o)
 sent_or (c ∷ cs) g kind work later e o = (refl, refl)
 
@@ -125,8 +125,8 @@ module _ (s : Server) (number : ℕ) (m : RawMap) (tag : ℕ) (chosen : List ℕ
         grants = tt;
       }
 
-  made_sent : ((making start).moved.sent ≡ to_all new.kept All Creating s.next_nonce)
-      × ((making start).moved.object ≡ s.next_object + length new.kept.components)
+  made_sent : ((making start).effects.sent ≡ to_all new.kept All Creating s.next_nonce)
+      × ((making start).effects.object ≡ s.next_object + length new.kept.components)
   unfolding making
   made_sent =
       sent_or (to_all new.kept All Creating s.next_nonce) start Making Creates (is_made start) refl refl
@@ -136,31 +136,31 @@ module _ (s : Server) (number : ℕ) (m : RawMap) (tag : ℕ) (chosen : List ℕ
       let kept = made_kept good in
       let r = making_runs start (record { kept = kept; drives = k.drives }) in
       let sent = made_sent in
-      let long : length (to_drives s.drives (making start).moved.sent) ≡ length r.more =
-      length_drives s.drives (making start).moved.sent ∙ ap (λ (ws : List Awaited). length ws) r.sent_is in
-      let creates : length (making start).moved.sent ≡ length (places s.drives m.comps chosen) =
+      let long : length (to_drives s.drives (making start).effects.sent) ≡ length r.more =
+      length_drives s.drives (making start).effects.sent ∙ ap (λ (ws : List Awaited). length ws) r.sent_is in
+      let creates : length (making start).effects.sent ≡ length (places s.drives m.comps chosen) =
       ap (λ (ws : List Awaited). length ws) sent.0
       ∙ creates_all new.kept (places s.drives m.comps chosen) s.next_object 0 s.next_nonce in
-      let same : length (to_drives s.drives (making start).moved.sent) ≡ length (making start).moved.sent =
-      length_drives s.drives (making start).moved.sent in
+      let same : length (to_drives s.drives (making start).effects.sent) ≡ length (making start).effects.sent =
+      length_drives s.drives (making start).effects.sent in
       let many = length_components (places s.drives m.comps chosen) s.next_object in
-      let rises : s.next_object ≤ (making start).moved.object = omega (arith, sent.1) in
-      let whole : s.next_object + length new.kept.components ≤ (making start).moved.object = omega (arith, sent.1) in
+      let rises : s.next_object ≤ (making start).effects.object = omega (arith, sent.1) in
+      let whole : s.next_object + length new.kept.components ≤ (making start).effects.object = omega (arith, sent.1) in
       record {
         fits = record {
           drives = k.drives;
           format = k.format;
           files =
-              put_fits (making start).moved.object _ number (making start).file
-              (add_fits (making start).moved.object s.files new
-              (wider_files s.next_object (making start).moved.object s.files rises k.files)
-              (wider_files (s.next_object + length new.kept.components) (making start).moved.object (new ∷ []) whole
+              put_fits (making start).effects.object _ number (making start).file
+              (add_fits (making start).effects.object s.files new
+              (wider_files s.next_object (making start).effects.object s.files rises k.files)
+              (wider_files (s.next_object + length new.kept.components) (making start).effects.object (new ∷ []) whole
               ((kept, tt), tt)).0)
               (r.kept, r.job);
           slots = k.slots;
         };
-        named = drives_out s.drives (making start).moved.sent
-            (sent_near (making start).moved.sent r.more r.sent_is r.near);
+        named = drives_out s.drives (making start).effects.sent
+            (sent_near (making start).effects.sent r.more r.sent_is r.near);
         nonces = omega (arith, r.rises, long);
         objects = omega (arith, sent.1, creates, same, many);
         recalls = omega arith;
@@ -197,7 +197,7 @@ resent_out ds n (f ∷ fs) k =
 pub step_fits : (s : Server) (chosen : List ℕ) (i : Input) → ServerFits s → IsGiven i → StepFits s (step s chosen i)
 unfolding on_message
 step_fits s chosen (Hears now from m) k g =
-    either_step s (counters_low s) _ _ (message_fits s now chosen from m k) (still_fits s k)
+    either_step s (counters_have_room s) _ _ (message_fits s now chosen from m k) (still_fits s k)
 step_fits s chosen (Makes n m tag) k g = makes_fit s n m tag chosen k g
 step_fits s chosen (Obeys kind n) k g = obeyed_fits s chosen kind n k
 step_fits s chosen (Adds d) k g = record {

@@ -48,14 +48,14 @@ repairs_run : (kind : JobKind) (g : Going) (ps : List Piece) (short : List ℕ) 
 unfolding repairs
 repairs_run kind g [] short s = after_runs kind (mended g short) (mended_sound g short s)
 repairs_run kind g (p ∷ ps) short s =
-    rests_or_runs _ g _ _ _ s (repair_near g.file.kept p g.moved.nonce g.moved.object s.kept.components s.kept.few) tt
+    rests_or_runs _ g _ _ _ s (repair_near g.file.kept p g.effects.nonce g.effects.object s.kept.components s.kept.few) tt
     (repairs_run kind g ps _ s)
 
 storing_runs : (kind : JobKind) (g : Going) (p : Piece) (ps : List Piece) (short : List ℕ) (heard : List Heard)
     → Sound g → From g (storing kind g p ps short heard)
 unfolding storing
 storing_runs kind g p ps short heard s =
-    rests_or_runs _ g _ _ _ s (stores_near g.moved.object g.file.kept p _ heard g.file.kept.components 0 g.moved.nonce
+    rests_or_runs _ g _ _ _ s (stores_near g.effects.object g.file.kept p _ heard g.file.kept.components 0 g.effects.nonce
     (omega (arith, s.kept.few)) s.kept.components) tt (repairs_run kind g ps short s)
 
 stored_runs : (kind : JobKind) (g : Going) (p : Piece) (ps : List Piece) (short : List ℕ) (broken : Bool) → Sound g
@@ -95,7 +95,7 @@ fenced_runs kind g s l =
 
 fences_run : (kind : JobKind) (g : Going) → Sound g → g.file.kept.tag < GREATEST_TAG → From g (fences kind g)
 fences_run kind g s l =
-    rests_or_runs _ g _ _ _ s (each_near g.moved.object g.file.kept _ _ g.file.kept.components 0 g.moved.nonce
+    rests_or_runs _ g _ _ _ s (each_near g.effects.object g.file.kept _ _ g.file.kept.components 0 g.effects.nonce
     (omega (arith, s.kept.few)) s.kept.components) l (fenced_runs kind g s l)
 
 pub fence_runs : (kind : JobKind) (format : ℕ) (g : Going) → is_format format ≡ true → Sound g
@@ -136,11 +136,11 @@ made_runs g s = over_runs (noting (keeping g (record g.file.kept { ready = true 
 pub making_runs : (g : Going) → Sound g → From g (making g)
 unfolding making
 making_runs g s =
-    rests_or_runs _ g _ _ _ s (each_near g.moved.object g.file.kept _ _ g.file.kept.components 0 g.moved.nonce
+    rests_or_runs _ g _ _ _ s (each_near g.effects.object g.file.kept _ _ g.file.kept.components 0 g.effects.nonce
     (omega (arith, s.kept.few)) s.kept.components) tt (made_runs g s)
 
 on_runs : (kind : JobKind) (work : Work) (heard : List Heard) (g : Going) → Sound g
-    → WorkFits g.moved.object g.file.kept.tag work → From g (goes_on kind work heard g)
+    → WorkFits g.effects.object g.file.kept.tag work → From g (goes_on kind work heard g)
 unfolding goes_on
 on_runs kind Creates heard g s w = made_runs g s
 on_runs kind Fences heard g s w = fenced_runs kind g s w
@@ -153,13 +153,13 @@ on_runs kind Lengths heard g s w = audits_run g _ _ s
 on_runs kind (Checks todo t) heard g s w = audited_runs g todo t heard s
 
 pub waits_run : (g : Going) (j : Job) (work : Work) (rest : List Awaited) (heard : List Heard) → Sound g
-    → WorkFits g.moved.object g.file.kept.tag work → AllNear rest → From g (waits_or_on g j work rest heard)
+    → WorkFits g.effects.object g.file.kept.tag work → AllNear rest → From g (waits_or_on g j work rest heard)
 waits_run g j work [] heard s w n = on_runs j.kind work heard g s w
 waits_run g j work (c ∷ cs) heard s w n = record {
   number_is = refl;
   map_is = refl;
   more = [];
-  sent_is = sym (append-nil g.moved.sent);
+  sent_is = sym (append-nil g.effects.sent);
   rises = omega arith;
   objects = omega arith;
   given = omega arith;
@@ -171,18 +171,18 @@ waits_run g j work (c ∷ cs) heard s w n = record {
 
 -- ---- a component becomes missing
 
-refills_run : (g : Going) (t : Target) (ps : List Piece) (gone : Bool) → Sound g → TargetFits g.moved.object t
+refills_run : (g : Going) (t : Target) (ps : List Piece) (gone : Bool) → Sound g → TargetFits g.effects.object t
     → From g (refills g t ps gone)
 refills_run g t ps true s f = gone_runs g t s
 refills_run g t ps false s f = fills_run g t ps s f
 
-remakes_run : (g : Going) (t : Target) (gone : Bool) → Sound g → JobFits g.moved.object g.file.kept.tag g.file.job
+remakes_run : (g : Going) (t : Target) (gone : Bool) → Sound g → JobFits g.effects.object g.file.kept.tag g.file.job
     → From g (remakes g t gone)
 remakes_run g t true s j = gone_runs g t s
 remakes_run g t false s j = here g s j
 
 pub loses_run : (g : Going) (j : Job) (work : Work) (rest : List Awaited) (gone : Bool) → Sound g
-    → JobFits g.moved.object g.file.kept.tag g.file.job → WorkFits g.moved.object g.file.kept.tag work → AllNear rest
+    → JobFits g.effects.object g.file.kept.tag g.file.job → WorkFits g.effects.object g.file.kept.tag work → AllNear rest
     → From g (loses g j work rest gone)
 unfolding loses
 loses_run g j (Fetches todo short) rest gone s k w n = repairs_run j.kind g todo short s
@@ -198,7 +198,7 @@ loses_run g j Lengths rest gone s k w n = waits_run g j Lengths rest _ s w n
 -- ---- a drive is declared
 
 declared_runs : (g : Going) (drive : ℕ) (o : Option Job) → Sound g
-    → JobFits g.moved.object g.file.kept.tag g.file.job → JobFits g.moved.object g.file.kept.tag o
+    → JobFits g.effects.object g.file.kept.tag g.file.job → JobFits g.effects.object g.file.kept.tag o
     → From g (declared_in g drive o)
 declared_runs g drive None s k l = here g s k
 declared_runs g drive (Some j) s k l =
@@ -209,14 +209,14 @@ either_runs : (g : Going) (b : Bool) (x y : Going) → From g x → From g y →
 either_runs g true x y p q = p
 either_runs g false x y p q = q
 
-pub declares_run : (g : Going) (drive : ℕ) → Sound g → JobFits g.moved.object g.file.kept.tag g.file.job
+pub declares_run : (g : Going) (drive : ℕ) → Sound g → JobFits g.effects.object g.file.kept.tag g.file.job
     → From g (declares g drive)
 unfolding declares
 declares_run g drive s k =
     either_runs g (any_on drive g.file.kept.components || targets g.file.job drive) _ _
     (declared_runs (with_components g (lose_on drive g.file.kept.components)) drive g.file.job (record {
-      kept = with_parts g.moved.object g.file.kept _ s.kept (length_lost_on drive g.file.kept.components)
-          (fit_lost_on g.moved.object drive g.file.kept.components s.kept.components);
+      kept = with_parts g.effects.object g.file.kept _ s.kept (length_lost_on drive g.file.kept.components)
+          (fit_lost_on g.effects.object drive g.file.kept.components s.kept.components);
       drives = s.drives;
     }) k k) (here g s k)
 
@@ -230,15 +230,15 @@ renewed_near a b (c ∷ ws) n k = (either (c.command.nonce == a.command.nonce), 
     either true = n
     either false = k.0
 
-again_near : (g : Going) (a : Awaited) → IsNear a → IsNear (again_in_2 a g.moved.nonce)
+again_near : (g : Going) (a : Awaited) → IsNear a → IsNear (again_in_2 a g.effects.nonce)
 again_near g a n = record { drive = n.drive; component = n.component }
 
 renews_run : (g : Going) (j : Job) (a : Awaited) → Sound g → IsNear a
-    → WorkFits g.moved.object g.file.kept.tag j.work → AllNear j.awaited → From g (renews g j a)
+    → WorkFits g.effects.object g.file.kept.tag j.work → AllNear j.awaited → From g (renews g j a)
 renews_run g j a s n w k = record {
   number_is = refl;
   map_is = refl;
-  more = again_in_2 a g.moved.nonce ∷ [];
+  more = again_in_2 a g.effects.nonce ∷ [];
   sent_is = refl;
   rises = refl;
   objects = omega arith;
@@ -255,19 +255,19 @@ renews_run g j a s n w k = record {
     components = s.kept.components;
     grants = s.kept.grants;
   };
-  job = (w, renewed_near a (again_in_2 a g.moved.nonce) j.awaited (again_near g a n) k);
+  job = (w, renewed_near a (again_in_2 a g.effects.nonce) j.awaited (again_near g a n) k);
 }
 
 lost_sound : (g : Going) (ks : List ℕ) → Sound g
     → Sound (with_components g (lose_from ks g.file.kept.components 0))
 lost_sound g ks s = record {
-  kept = with_parts g.moved.object g.file.kept _ s.kept (length_lost ks g.file.kept.components 0)
-      (fit_lost g.moved.object ks g.file.kept.components 0 s.kept.components);
+  kept = with_parts g.effects.object g.file.kept _ s.kept (length_lost ks g.file.kept.components 0)
+      (fit_lost g.effects.object ks g.file.kept.components 0 s.kept.components);
   drives = s.drives;
 }
 
 full_or_lost : (g : Going) (j : Job) (a : Awaited) (work : Work) → Sound g
-    → JobFits g.moved.object g.file.kept.tag g.file.job → WorkFits g.moved.object g.file.kept.tag work
+    → JobFits g.effects.object g.file.kept.tag g.file.job → WorkFits g.effects.object g.file.kept.tag work
     → AllNear j.awaited → From g (loses (noting (with_components g (lose_from (a.component ∷ []) g.file.kept.components
     0)) (NoSpace a.component)) j work (others j.awaited a.command.nonce) false)
 full_or_lost g j a work s k w n =
@@ -276,7 +276,7 @@ full_or_lost g j a work s k w n =
     (each_filtered IsNear _ j.awaited n)
 
 fills_up_run : (g : Going) (j : Job) (a : Awaited) (work : Work) → Sound g
-    → JobFits g.moved.object g.file.kept.tag g.file.job → WorkFits g.moved.object g.file.kept.tag work
+    → JobFits g.effects.object g.file.kept.tag g.file.job → WorkFits g.effects.object g.file.kept.tag work
     → AllNear j.awaited → From g (fills_up g j a work)
 fills_up_run g j a (Targets t) s k w n = full_runs g t s
 fills_up_run g j a (Gathers t todo) s k w n = full_runs g t s
@@ -289,7 +289,7 @@ fills_up_run g j a Lengths s k w n = full_or_lost g j a Lengths s k w n
 fills_up_run g j a (Checks todo t) s k w n = full_or_lost g j a (Checks todo t) s k w n
 
 hears_run : (g : Going) (j : Job) (a : Awaited) (r : Reply) (x : Hearing) → Sound g
-    → JobFits g.moved.object g.file.kept.tag g.file.job → JobFits g.moved.object g.file.kept.tag (Some j)
+    → JobFits g.effects.object g.file.kept.tag g.file.job → JobFits g.effects.object g.file.kept.tag (Some j)
     → IsNear a → From g (hears g j a r x)
 hears_run g j a r Older s k l n = renews_run g j a s n l.0 l.1
 hears_run g j a r Full s k l n = fills_up_run g j a j.work s k l.0 l.1
@@ -316,19 +316,19 @@ find_near p (a ∷ ws) k = either (p a) (find_near p ws k.1)
     either false l = l
 
 by_job_runs : (g : Going) (r : Reply) (j : Job) (o : Option Awaited) → Sound g
-    → JobFits g.moved.object g.file.kept.tag g.file.job → JobFits g.moved.object g.file.kept.tag (Some j)
+    → JobFits g.effects.object g.file.kept.tag g.file.job → JobFits g.effects.object g.file.kept.tag (Some j)
     → FoundNear o → HeardRuns g (heard_by g r j o)
 by_job_runs g r j None s k l n = tt
 by_job_runs g r j (Some a) s k l n = hears_run g j a r (hearing g.file.kept a r) s k l n
 
 in_job_runs : (g : Going) (drive : ℕ) (r : Reply) (o : Option Job) → Sound g
-    → JobFits g.moved.object g.file.kept.tag g.file.job → JobFits g.moved.object g.file.kept.tag o
+    → JobFits g.effects.object g.file.kept.tag g.file.job → JobFits g.effects.object g.file.kept.tag o
     → HeardRuns g (heard_in g drive r o)
 in_job_runs g drive r None s k l = tt
 in_job_runs g drive r (Some j) s k l =
     by_job_runs g r j (find (answers drive r) j.awaited) s k l (find_near (answers drive r) j.awaited l.1)
 
-pub reply_runs : (g : Going) (drive : ℕ) (r : Reply) → Sound g → JobFits g.moved.object g.file.kept.tag g.file.job
+pub reply_runs : (g : Going) (drive : ℕ) (r : Reply) → Sound g → JobFits g.effects.object g.file.kept.tag g.file.job
     → HeardRuns g (on_reply g drive r)
 unfolding on_reply
 reply_runs g drive r s k = in_job_runs g drive r g.file.job s k k

@@ -3,6 +3,7 @@ use Rattle.std.proofs.Common.{◌≡◌, ◌⊎◌, ◌<◌, ℕ, ◌^◌, false
 use Rattle.std.specs.Prelude.{slice_range, not}
 use Rattle.std.specs.Int.{w16, w32, w64, to_be_bytes, from_be_bytes}
 use Rattle.std.proofs.lemmas.Nat.{from_be_bytes-to_be_bytes_8}
+use Rattle.osd_lists.proofs.Options.{guard_ok}
 use Rattle.osd_capability.specs.declared.layout.Capability.{Capability}
 use Rattle.osd_capability.specs.declared.layout.CapErr.{CapErr}
 use Rattle.osd_capability.specs.Layout as cap
@@ -12,7 +13,7 @@ use Rattle.osd_commands.specs.declared.commands.Command.{Command}
 use Rattle.osd_commands.specs.declared.commands.CommandErr.TheVariants.{Short, Magic}
 use Rattle.osd_commands.specs.Actions.{number_of, action_of, right_of}
 use Rattle.osd_commands.specs.Commands.{magic, fields, head, spelling, stray, command_at, with_capability, unless_reserved, with_action, reading}
-use Rattle.osd_commands.proofs.Passing.{guard_ok, if_ok}
+use Rattle.osd_commands.proofs.Passing.{if_ok}
 use Rattle.history_law.proofs.Carried.{fits_read}
 use Rattle.exchange_law.specs.Placed.{IsPlaced, SpellsPlaced}
 use Rattle.exchange_law.proofs.Commands.{MaySend}

@@ -3,7 +3,7 @@ use Rattle.std.proofs.Common.{◌≡◌, ◌⊎◌, ℕ, suc, ◌+◌, ◌<◌, 
 use Rattle.std.proofs.lemmas.Bool.{cases_eq}
 use Rattle.std.proofs.lemmas.List.{length-append}
 use Rattle.osd_lists.specs.declared.node.Node.TheVariants as node
-use Rattle.osd_objects.proofs.Entries.{none_there}
+use Rattle.osd_lists.proofs.Options.{none_there}
 use Rattle.server_rules.specs.Laws.{In}
 use Rattle.server_rules.specs.History.{step as server_step}
 use Rattle.client_rules.specs.Messages.{awaited_of}

@@ -2,12 +2,13 @@
 use Rattle.std.proofs.Common.{◌≡◌, ℕ, ◌%◌, ◌<◌, ◌^◌, List, length, Option, Some, None, Ok, refl, sym, ap, ◌∙◌, arith}
 use Rattle.std.specs.Prelude.{slice_range, nat_lt, nat_eq, not}
 use Rattle.osd_lists.specs.Blocks.{first_nonzero}
+use Rattle.osd_lists.proofs.Options.{guard_ok}
 use Rattle.osd_commands.specs.declared.commands.CommandErr.TheVariants.{Short, Magic, BadAction, Length}
 use Rattle.std.specs.Int.{w16, w32, w64, to_be_bytes, from_be_bytes}
 use Rattle.std.proofs.lemmas.Nat.{from_be_bytes-to_be_bytes_2}
 use Rattle.osd_commands.specs.declared.replies.Reply.{Reply}
 use Rattle.osd_commands.specs.Replies.{magic, action_at, verdict_at, is_verdict, is_sized, fields, spelling, reply_at, sized, unless_reserved, reading}
-use Rattle.osd_commands.proofs.Passing.{guard_ok, if_ok}
+use Rattle.osd_commands.proofs.Passing.{if_ok}
 
 -- a number of 8 bytes is read as far as these are wide
 pub read_64 : (n : ℕ) → from_be_bytes w64 (to_be_bytes w64 n) ≡ n % 2 ^ 64

@@ -43,7 +43,7 @@ under_fits stripe size (Some last) (Some g) l = either (g.extending) (nat_le (g.
     either true true false d is = tt
     either true true true false is = tt
 
-commit_served : (go : Going) (c : Committed) → Sound go → JobFits go.moved.object go.file.kept.tag go.file.job
+commit_served : (go : Going) (c : Committed) → Sound go → JobFits go.effects.object go.file.kept.tag go.file.job
     → CommittedFits c → ServedFits go (by_commit go c)
 commit_served go NoGrant s j f = said go go _ _ (here go s j) (omega arith) (omega arith)
 commit_served go Wrong s j f = said go go _ _ (here go s j) (omega arith) (omega arith)
@@ -97,14 +97,14 @@ reported_behind g h ks (at ∷ cs) k r =
     reported_behind g (noting_if (among k ks) h (Reported k)) ks cs (k + 1)
     (noted_behind g h (among k ks) (Reported k) r)
 
-lost_behind : (go : Going) (ks : List ℕ) → Sound go → JobFits go.moved.object go.file.kept.tag go.file.job
+lost_behind : (go : Going) (ks : List ℕ) → Sound go → JobFits go.effects.object go.file.kept.tag go.file.job
     → From go (takes_loss go ks)
 unfolding takes_loss
 lost_behind go ks s j =
     let h : Going = keeping go (record go.file.kept { components = lose_from ks go.file.kept.components 0 }) in
     reported_behind go h ks go.file.kept.components 0 (here h (record {
-      kept = with_parts go.moved.object go.file.kept _ s.kept (length_lost ks go.file.kept.components 0)
-          (fit_lost go.moved.object ks go.file.kept.components 0 s.kept.components);
+      kept = with_parts go.effects.object go.file.kept _ s.kept (length_lost ks go.file.kept.components 0)
+          (fit_lost go.effects.object ks go.file.kept.components 0 s.kept.components);
       drives = s.drives;
     }) j)
 
@@ -136,7 +136,7 @@ unfolding return_row
 row_fits f client report l = by_grant_fits f report (grant_of f.grants client) l
 
 return_served : (go : Going) (format client : ℕ) (r : Returned) → is_format format ≡ true → Sound go
-    → JobFits go.moved.object go.file.kept.tag go.file.job → ReturnedFits go.file.kept.tag r
+    → JobFits go.effects.object go.file.kept.tag go.file.job → ReturnedFits go.file.kept.tag r
     → ServedFits go (by_return go format client r)
 return_served go format client NotHeld known s j f = said go go _ _ (here go s j) (omega arith) (omega arith)
 return_served go format client Clean known s j f =
@@ -156,7 +156,7 @@ ServesFit (Get iomode offset count) go v = GetFits go v
 ServesFit args go v = ServedFits go v
 
 pub serves_fit : (go : Going) (next format now client : ℕ) (args : RequestArgs) → is_format format ≡ true
-    → client ≤ MAX_CLIENT → Sound go → JobFits go.moved.object go.file.kept.tag go.file.job
+    → client ≤ MAX_CLIENT → Sound go → JobFits go.effects.object go.file.kept.tag go.file.job
     → ServesFit args go (serves go next format now client args)
 unfolding commits returns_on
 serves_fit go next format now client (Get iomode offset count) known c s j =

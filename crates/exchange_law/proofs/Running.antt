@@ -48,7 +48,7 @@ with_parts n f cs k same fit = record {
 
 -- what is kept fits, and lines can name the drives
 pub record Sound (g : Going) : Type 0 where
-  pub kept : KeptFits g.moved.object g.file.kept
+  pub kept : KeptFits g.effects.object g.file.kept
   pub drives : AreNamed g.drives
 
 -- behind a run from these numbers and commands
@@ -57,26 +57,26 @@ pub record Runs (number : ℕ) (m : RawMap) (nonce object : ℕ) (sent : List Aw
   pub number_is : h.file.kept.number ≡ number
   pub map_is : h.file.kept.map ≡ m
   pub more : List Awaited
-  pub sent_is : h.moved.sent ≡ sent ++ more
-  pub rises : h.moved.nonce ≡ nonce + length more
-  pub objects : object ≤ h.moved.object
-  pub given : h.moved.object ≤ object + length more
+  pub sent_is : h.effects.sent ≡ sent ++ more
+  pub rises : h.effects.nonce ≡ nonce + length more
+  pub objects : object ≤ h.effects.object
+  pub given : h.effects.object ≤ object + length more
   pub near : AllNear more
   pub drives : h.drives ≡ ds
-  pub kept : KeptFits h.moved.object h.file.kept
-  pub job : JobFits h.moved.object h.file.kept.tag h.file.job
+  pub kept : KeptFits h.effects.object h.file.kept
+  pub job : JobFits h.effects.object h.file.kept.tag h.file.job
 
 abbrev pub From : Going → Going → Type 0
 From g h =
-    Runs g.file.kept.number g.file.kept.map g.moved.nonce g.moved.object g.moved.sent g.drives h
+    Runs g.file.kept.number g.file.kept.map g.effects.nonce g.effects.object g.effects.sent g.drives h
 
 -- nothing is sent
-pub here : (g : Going) → Sound g → JobFits g.moved.object g.file.kept.tag g.file.job → From g g
+pub here : (g : Going) → Sound g → JobFits g.effects.object g.file.kept.tag g.file.job → From g g
 here g s j = record {
   number_is = refl;
   map_is = refl;
   more = [];
-  sent_is = sym (append-nil g.moved.sent);
+  sent_is = sym (append-nil g.effects.sent);
   rises = omega arith;
   objects = omega arith;
   given = omega arith;
@@ -90,7 +90,7 @@ pub over_runs : (g : Going) → Sound g → From g (over g)
 over_runs g s = here (over g) (record { kept = s.kept; drives = s.drives }) tt
 
 rests_run : (g : Going) (kind : JobKind) (work : Work) (c : Awaited) (cs : List Awaited) → Sound g
-    → AllNear (c ∷ cs) → WorkFits g.moved.object g.file.kept.tag work → From g (rests g kind work c cs)
+    → AllNear (c ∷ cs) → WorkFits g.effects.object g.file.kept.tag work → From g (rests g kind work c cs)
 rests_run g kind work c cs s n w = record {
   number_is = refl;
   map_is = refl;
@@ -106,7 +106,7 @@ rests_run g kind work c cs s n w = record {
 }
 
 pub rests_or_runs : (cs : List Awaited) (g : Going) (kind : JobKind) (work : Work) (later : Going) → Sound g → AllNear cs
-    → WorkFits g.moved.object g.file.kept.tag work → From g later → From g (rests_or cs g kind work later)
+    → WorkFits g.effects.object g.file.kept.tag work → From g later → From g (rests_or cs g kind work later)
 rests_or_runs [] g kind work later s n w r = r
 rests_or_runs (c ∷ cs) g kind work later s n w r = rests_run g kind work c cs s n w
 
@@ -119,13 +119,13 @@ pub audits_run : (g : Going) (ps : List Piece) (t : Tally) → Sound g → From 
 unfolding audits
 audits_run g [] t s = over_runs (noting g _) (noted g _ s)
 audits_run g (p ∷ ps) t s =
-    rests_or_runs _ g _ _ _ s (each_near g.moved.object g.file.kept _ _ g.file.kept.components 0 g.moved.nonce
+    rests_or_runs _ g _ _ _ s (each_near g.effects.object g.file.kept _ _ g.file.kept.components 0 g.effects.nonce
     (omega (arith, s.kept.few)) s.kept.components) tt (audits_run g ps _ s)
 
 pub audit_runs : (g : Going) → Sound g → From g (audit_begins g)
 unfolding audit_begins
 audit_runs g s =
-    rests_or_runs _ g _ _ _ s (each_near g.moved.object g.file.kept _ _ g.file.kept.components 0 g.moved.nonce
+    rests_or_runs _ g _ _ _ s (each_near g.effects.object g.file.kept _ _ g.file.kept.components 0 g.effects.nonce
     (omega (arith, s.kept.few)) s.kept.components) tt (audits_run g _ _ s)
 
 pub audited_runs : (g : Going) (ps : List Piece) (t : Tally) (heard : List Heard) → Sound g
@@ -137,7 +137,7 @@ audited_runs g (p ∷ ps) t heard s = audits_run g ps _ s
 
 -- a component is made anew on one of these drives
 makes_run : (g : Going) (k : ℕ) (d : Drive) (ds : List Drive) → Sound g → k < MAX_FILE_COMPONENTS → AreNamed (d ∷ ds)
-    → From g (makes g (record { component = k; drive = or_first g.chosen d ds; object = g.moved.object }))
+    → From g (makes g (record { component = k; drive = or_first g.chosen d ds; object = g.effects.object }))
 makes_run g k d ds s l named = record {
   number_is = refl;
   map_is = refl;
@@ -148,7 +148,7 @@ makes_run g k d ds s l named = record {
   given = omega arith;
   near = (record { drive = first_named g.chosen d ds named; component = l }, tt);
   drives = refl;
-  kept = wider_kept g.moved.object (g.moved.object + 1) g.file.kept (omega arith) s.kept;
+  kept = wider_kept g.effects.object (g.effects.object + 1) g.file.kept (omega arith) s.kept;
   job = (
     record { drive = first_named g.chosen d ds named; object = omega arith; component = l },
     (record { drive = first_named g.chosen d ds named; component = l }, tt),
@@ -185,26 +185,26 @@ none_or_near f t p nonce n None fit l =
     (each_near n f _ _ f.components 0 nonce (omega (arith, l)) fit)
 
 -- its target stands there
-placed : (g : Going) (t : Target) → Sound g → TargetFits g.moved.object t
+placed : (g : Going) (t : Target) → Sound g → TargetFits g.effects.object t
     → Sound (with_components g (slice_set g.file.kept.components t.component (stands_at t)))
 placed g t s f = record {
-  kept = with_parts g.moved.object g.file.kept _ s.kept (length_set g.file.kept.components t.component (stands_at t))
-      (fit_set g.moved.object g.file.kept.components t.component (stands_at t) s.kept.components
+  kept = with_parts g.effects.object g.file.kept _ s.kept (length_set g.file.kept.components t.component (stands_at t))
+      (fit_set g.effects.object g.file.kept.components t.component (stands_at t) s.kept.components
       (record { drive = f.drive; object = f.object }));
   drives = s.drives;
 }
 
-pub fills_run : (g : Going) (t : Target) (ps : List Piece) → Sound g → TargetFits g.moved.object t → From g (fills g t ps)
+pub fills_run : (g : Going) (t : Target) (ps : List Piece) → Sound g → TargetFits g.effects.object t → From g (fills g t ps)
 unfolding fills sources
 fills_run g t [] s f =
     past_runs (noting (with_components g (slice_set g.file.kept.components t.component (stands_at t))) _) t
     (noted _ _ (placed g t s f))
 fills_run g t (p ∷ ps) s f =
-    rests_or_runs _ g _ _ _ s (none_or_near g.file.kept t p g.moved.nonce g.moved.object _ s.kept.components
+    rests_or_runs _ g _ _ _ s (none_or_near g.file.kept t p g.effects.nonce g.effects.object _ s.kept.components
     s.kept.few) f (past_runs (noting g _) t (noted g _ s))
 
 filling_runs : (g : Going) (t : Target) (p : Piece) (ps : List Piece) (bytes : List ℕ) → Sound g
-    → TargetFits g.moved.object t → From g (filling g t p ps bytes)
+    → TargetFits g.effects.object t → From g (filling g t p ps bytes)
 unfolding filling
 filling_runs g t p ps bytes s f = elim (cases_Bool (nat_lt 0 (end_of bytes (replicate p.count 0)))) [
   | inl e ↦ rw e (rests_run g Rebuilding (Fills t (p ∷ ps)) _ [] s
@@ -212,12 +212,12 @@ filling_runs g t p ps bytes s f = elim (cases_Bool (nat_lt 0 (end_of bytes (repl
   | inr e ↦ rw e (fills_run g t ps s f)
 ]
 
-pub gathered_runs : (g : Going) (t : Target) (ps : List Piece) (heard : List Heard) → Sound g → TargetFits g.moved.object t
+pub gathered_runs : (g : Going) (t : Target) (ps : List Piece) (heard : List Heard) → Sound g → TargetFits g.effects.object t
     → From g (gathered g t ps heard)
 gathered_runs g t [] heard s f = fills_run g t [] s f
 gathered_runs g t (p ∷ ps) heard s f = filling_runs g t p ps _ s f
 
-pub filled_runs : (g : Going) (t : Target) (ps : List Piece) → Sound g → TargetFits g.moved.object t
+pub filled_runs : (g : Going) (t : Target) (ps : List Piece) → Sound g → TargetFits g.effects.object t
     → From g (filled_in g t ps)
 filled_runs g t [] s f = fills_run g t [] s f
 filled_runs g t (p ∷ ps) s f = fills_run g t ps s f

@@ -9,7 +9,7 @@ use Rattle.data_map.specs.declared.check.MapErr.{MapErr}
 use Rattle.data_map.specs.declared.check.MapErr.TheVariants.{Unit as BadUnit, TooMany}
 use Rattle.data_map.specs.Check.{bad_unit, too_many, too_few, bad_multiple, bad_width, bad_depth, checked}
 use Rattle.server_rules.specs.declared.limits.TheConstants.{MAX_CLIENT, MAX_FILE_COMPONENTS, GREATEST_TAG}
-use Rattle.world_history.specs.ServerNames.{Server, File, Component, Drive, Job, JobKind, Work, Awaited, Grant, RequestArgs, Get, Commit, Return, ClientRequest, Moved, Reply, RawMap, Refusal, FileExists, TooFewDrives, Revoking, Rebuilding, Auditing, Targets, Gathers, Fills, Reported, OrderKind, ToRecall, ToRevoke, ToDeclare, ToRebuild, ToAudit}
+use Rattle.world_history.specs.ServerNames.{Server, File, Component, Drive, Job, JobKind, Work, Awaited, Grant, RequestArgs, Get, Commit, Return, ClientRequest, Effects, Reply, RawMap, Refusal, FileExists, TooFewDrives, Revoking, Rebuilding, Auditing, Targets, Gathers, Fills, Reported, OrderKind, ToRecall, ToRevoke, ToDeclare, ToRebuild, ToAudit}
 use Rattle.server_rules.specs.Numbers.{among}
 use Rattle.server_rules.specs.Files.{file_at, put_file, add_file, at_file, begins}
 use Rattle.server_rules.specs.Going.{Going, keeping, noting_if}
@@ -24,7 +24,7 @@ use Rattle.server_rules.specs.Replies.{Hearing, Older, Full, Done, Nothing, hear
 use Rattle.server_rules.specs.Requests.{serves, carries_out, by_admit, on_request}
 use Rattle.server_rules.specs.Slots.{Admit, New, Again, Misordered, slot_of, admit}
 use Rattle.server_rules.specs.Making.{new_server, online, checked_64, by_online, by_check, refusal, unless_refused, makes_file, with_file, are_of, places, components_on, unmade, create_file}
-use Rattle.server_rules.specs.Messages.{Message, Asks, Replies, Orders, heard_at, or_else, by_heard, on_drive_reply, handled, on_message, counters_low}
+use Rattle.server_rules.specs.Messages.{Message, Asks, Replies, Orders, heard_at, or_else, by_heard, on_drive_reply, handled, on_message, counters_have_room}
 use Rattle.server_rules.specs.History.{Input, Hears, Makes, Obeys, Adds, Formats, Resends, Crashes, Opens, Act, step, state_after, unless_made}
 use Rattle.history_law.specs.Parties.{AllPartiesRun}
 use Rattle.exchange_law.specs.Shapes.{FilesHaveShape}
@@ -258,14 +258,14 @@ recalls_shaped : (s : Server) (o : Option File) → AllShaped s.files → AllSha
 recalls_shaped s None all = all
 recalls_shaped s (Some f) all = all
 
-each_shaped : (drive : ℕ) (ds : List Drive) (fs : List File) (m : Moved) (chosen : List ℕ) → AllShaped fs
+each_shaped : (drive : ℕ) (ds : List Drive) (fs : List File) (m : Effects) (chosen : List ℕ) → AllShaped fs
     → AllShaped (declares_each drive ds fs m chosen).files
 unfolding declares_each
 each_shaped drive ds [] m chosen all = tt
 each_shaped drive ds (f ∷ fs) m chosen all =
-    let g : Going = record { file = f; moved = m; drives = ds; chosen = chosen } in (
+    let g : Going = record { file = f; effects = m; drives = ds; chosen = chosen } in (
       over g (declares g drive) (long_declares g drive) all.0,
-      each_shaped drive ds fs (declares g drive).moved (declares g drive).chosen all.1,
+      each_shaped drive ds fs (declares g drive).effects (declares g drive).chosen all.1,
     )
 
 declared_shaped : (s : Server) (chosen : List ℕ) (drive : ℕ) (b : Bool) → AllShaped s.files
@@ -297,7 +297,7 @@ handled_shaped s now chosen from m all = all
 message_shaped : (s : Server) (now : ℕ) (chosen : List ℕ) (from : Node) (m : Message) → AllShaped s.files
     → AllShaped (on_message s now chosen from m).state.files
 unfolding on_message
-message_shaped s now chosen from m all = elim (cases_Bool (counters_low s)) [
+message_shaped s now chosen from m all = elim (cases_Bool (counters_have_room s)) [
   | inl t ↦ rw t (handled_shaped s now chosen from m all)
   | inr z ↦ rw z all
 ]
@@ -405,17 +405,17 @@ crashed_shaped : (fs : List File) → AllShaped fs → AllShaped (map crashed_fi
 crashed_shaped [] all = tt
 crashed_shaped (f ∷ fs) all = (all.0, crashed_shaped fs all.1)
 
-opened_shaped : (format : ℕ) (ds : List Drive) (fs : List File) (m : Moved) → AllShaped fs
+opened_shaped : (format : ℕ) (ds : List Drive) (fs : List File) (m : Effects) → AllShaped fs
     → AllShaped (opens_each format ds fs m).files
 unfolding opens_each
 opened_shaped format ds [] m all = tt
 opened_shaped format ds (f ∷ fs) m all =
-    let g : Going = record { file = f; moved = m; drives = ds; chosen = [] } in
-    (over g (opens format g) (long_opens format g) all.0, opened_shaped format ds fs (opens format g).moved all.1)
+    let g : Going = record { file = f; effects = m; drives = ds; chosen = [] } in
+    (over g (opens format g) (long_opens format g) all.0, opened_shaped format ds fs (opens format g).effects all.1)
 
 reopened_shaped : (s : Server) → AllShaped s.files → AllShaped (reopen s).state.files
 unfolding reopen
-reopened_shaped s all = elim (cases_Bool (counters_low s)) [
+reopened_shaped s all = elim (cases_Bool (counters_have_room s)) [
   | inl t ↦ rw t (opened_shaped s.format s.drives s.files (begins s) all)
   | inr z ↦ rw z all
 ]

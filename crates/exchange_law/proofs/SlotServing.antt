@@ -1,7 +1,7 @@
 -- A step of the server answers a client's request, or leaves all slots and answers nobody.
 use Rattle.std.proofs.Common.{◌≡◌, ◌≤◌, ◌==◌, ℕ, ◌+◌, ◌++◌, ◌∷◌, [], List, Bool, true, false, ◌&&◌, nat_le, flat_map, Option, Some, None, refl, sym, ap, arith, if◌then◌else◌}
 use Rattle.std.proofs.lemmas.Bool.Decides.{nat_tests}
-use Rattle.osd_commands.proofs.Passing.{both_true}
+use Rattle.std.proofs.lemmas.Bool.{and_parts}
 use Rattle.osd_lists.specs.declared.node.Node.{Node}
 use Rattle.osd_lists.specs.declared.node.Node.TheVariants as node
 use Rattle.layout_ops.specs.declared.messages.Answer.{Answer}
@@ -29,7 +29,7 @@ use Rattle.server_rules.specs.Going.{Going, noting}
 use Rattle.server_rules.specs.Served.{Served}
 use Rattle.server_rules.specs.Slots.{Admit, New, Again, Misordered, slot_of, admit, keep}
 use Rattle.server_rules.specs.Requests.{serves, answer_with, answer_without, carries_out, by_admit, on_request}
-use Rattle.server_rules.specs.Messages.{Message, Asks, Replies, Orders, counters_low, by_heard, on_drive_reply, handled, on_message, awaited_by}
+use Rattle.server_rules.specs.Messages.{Message, Asks, Replies, Orders, counters_have_room, by_heard, on_drive_reply, handled, on_message, awaited_by}
 use Rattle.server_rules.specs.Orders.{Ordered, begins_job, starts, recalls_on, offline, with_offline, declares_each, declares_known, declare, ordered}
 use Rattle.server_rules.specs.Making.{with_file, refusal, unless_refused, makes_file, create_file}
 use Rattle.server_rules.specs.Openings.{opens_each, reopen}
@@ -81,12 +81,12 @@ either_quiet s true x y p q = p
 either_quiet s false x y p q = q
 
 at_quiet : (s : Server) (n : ℕ) (g : Going) → IsQuiet s (step_at s n g)
-at_quiet s n g = record { slots = refl; sends = drives_only Never s.drives g.moved.sent }
+at_quiet s n g = record { slots = refl; sends = drives_only Never s.drives g.effects.sent }
 
 -- ---- replies and orders
 
 round_quiet : (s : Server) (r : Round) → IsQuiet s (step_round s r)
-round_quiet s r = record { slots = refl; sends = drives_only Never s.drives r.moved.sent }
+round_quiet s r = record { slots = refl; sends = drives_only Never s.drives r.effects.sent }
 
 heard_quiet : (s : Server) (o : Option Going) → IsQuiet s (by_heard s o)
 heard_quiet s None = still_quiet s
@@ -149,7 +149,7 @@ asked : (s : Server) (now : ℕ) (chosen : List ℕ) (c : ℕ) (q : ClientReques
     → ServerDid s chosen (Hears now (node.Client c) (Asks q)) (if b then on_request s now chosen q else still s)
 asked s now chosen c q false is = Quiet (still_quiet s)
 asked s now chosen c q true is =
-    let both = both_true (q.client == c) (nat_le c MAX_CLIENT) is in
+    let both = and_parts (q.client == c) (nat_le c MAX_CLIENT) is in
     let it : c ≡ q.client = same q.client c both.0 in
     Asked now q (ap (λ (n : ℕ). Hears now (node.Client n) (Asks q)) it) (named c q.client it both.1) refl
   where
@@ -179,7 +179,7 @@ low_did s now chosen from m false = Quiet (still_quiet s)
 
 pub step_did : (s : Server) (chosen : List ℕ) (i : Input) → ServerDid s chosen i (step s chosen i)
 unfolding on_message create_file reopen
-step_did s chosen (Hears now from m) = low_did s now chosen from m (counters_low s)
+step_did s chosen (Hears now from m) = low_did s now chosen from m (counters_have_room s)
 step_did s chosen (Makes n m tag) = Quiet (made_quiet s _ (refusal s n m))
 step_did s chosen (Obeys kind n) = Quiet (obeyed_quiet s chosen kind n)
 step_did s chosen (Adds d) = Quiet (record { slots = refl; sends = tt })
@@ -187,7 +187,7 @@ step_did s chosen (Formats n) = Quiet (record { slots = refl; sends = tt })
 step_did s chosen Resends = Quiet (record { slots = refl; sends = resend_only Never s.drives s.files })
 step_did s chosen Crashes = Quiet (record { slots = refl; sends = tt })
 step_did s chosen Opens =
-    Quiet (either_quiet s (counters_low s) _ _
+    Quiet (either_quiet s (counters_have_room s) _ _
     (round_quiet s (opens_each s.format s.drives s.files (begins s))) (still_quiet s))
 
 -- ---- a request
@@ -215,7 +215,7 @@ new_at s now chosen q (Some f) is =
     record {
       slots = ap (λ (a : Answer). keep s.slots (record { client = q.client; last = q.sequence; kept = a })) it;
       sends =
-          more_only _ (to_drives s.drives v.going.moved.sent) _ (drives_only _ s.drives v.going.moved.sent)
+          more_only _ (to_drives s.drives v.going.effects.sent) _ (drives_only _ s.drives v.going.effects.sent)
           (more_only _ (recalls_from s.next_recall v.recalled) _ (recalls_only _ s.next_recall v.recalled) (it, tt));
     }
 

@@ -1,7 +1,7 @@
 -- An answer that a client in step takes is the one that the server keeps for it.
 use Rattle.std.proofs.Common.{◌≡◌, ◌==◌, ◌&&◌, not, ℕ, Bool, true, false, List, Option, Some, None, find, refl, sym, ap, subst, ◌∙◌, arith, inl, inr, if◌then◌else◌}
 use Rattle.std.proofs.lemmas.Bool.Decides.{nat_tests}
-use Rattle.osd_commands.proofs.Passing.{both_true}
+use Rattle.std.proofs.lemmas.Bool.{and_parts}
 use Rattle.osd_lists.specs.declared.node.Node.{Node}
 use Rattle.osd_lists.specs.declared.node.Node.TheVariants as node
 use Rattle.osd_lists.specs.declared.node.Node.TheVariants.{Server as FromServer, Drive as FromDrive}
@@ -33,8 +33,8 @@ pub record IsTaken (x : Client) (from : Node) (m : Message) (b : Answer) : Type 
 
 awaited_same : (x : Client) (a : Answer) (r : Request) → is_awaited x a r ≡ true → a.sequence ≡ r.sequence
 awaited_same x a r e =
-    let both = both_true (a.client == x.number) ((a.sequence == r.sequence) && not (names_nobody a)) e in
-    let two = both_true (a.sequence == r.sequence) (not (names_nobody a)) both.1 in
+    let both = and_parts (a.client == x.number) ((a.sequence == r.sequence) && not (names_nobody a)) e in
+    let two = and_parts (a.sequence == r.sequence) (not (names_nobody a)) both.1 in
     same a.sequence r.sequence two.0
   where
     same : (n k : ℕ) → (n == k) ≡ true → n ≡ k

@@ -2,10 +2,9 @@
 use Rattle.std.proofs.Common.{◌≡◌, ◌⊎◌, ◌==◌, not, ℕ, ◌+◌, ◌≤◌, ◌<◌, ◌^◌, Bool, true, false, List, [], ◌∷◌, Option, Some, None, Result, Ok, Err, refl, sym, ap, subst, ◌∙◌, arith, inl, inr, if◌then◌else◌}
 use Rattle.std.specs.Prelude.{find}
 use Rattle.std.specs.Option.{option_map}
-use Rattle.std.proofs.lemmas.Bool.{eqb-true, cases_eq, eq-eqb, ne_eqb}
+use Rattle.std.proofs.lemmas.Bool.{eqb-true, cases_eq, eq-eqb, ne_eqb, and_parts}
 use Rattle.osd_lists.specs.declared.node.Node.{Node}
 use Rattle.osd_lists.specs.declared.node.Node.TheVariants as node
-use Rattle.osd_commands.proofs.Passing.{both_true}
 use Rattle.layout_ops.specs.declared.err.OpErr.{OpErr}
 use Rattle.layout_ops.specs.declared.messages.Answer.{Answer}
 use Rattle.layout_ops.specs.declared.results.Results.{Results}
@@ -63,8 +62,8 @@ awaited_answer c x (Some r) a e = either (is_awaited c x r) refl e
         → (q : Request) × (Some r ≡ Some q) × (x ≡ a) × (x.sequence ≡ q.sequence)
     either true is f =
         let same : x ≡ a = cc f in
-        let both = both_true (x.client == c.number) _ is in
-        let next = both_true (x.sequence == r.sequence) (not (names_nobody x)) both.1 in
+        let both = and_parts (x.client == c.number) _ is in
+        let next = and_parts (x.sequence == r.sequence) (not (names_nobody x)) both.1 in
         (r, refl, same, eqb-true x.sequence r.sequence next.0)
     either false is f = absurd (cc f)
 

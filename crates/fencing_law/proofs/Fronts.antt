@@ -4,11 +4,12 @@ use Rattle.std.specs.Prelude.{slice_range}
 use Rattle.std.proofs.lemmas.Bool.{eqb-true, ltb-false}
 use Rattle.std.proofs.lemmas.List.{length-append, length-drop, length-replicate, nil_from_length}
 use Rattle.osd_lists.specs.Blocks.{first_nonzero}
+use Rattle.osd_lists.proofs.Options.{guard_ok}
 use Rattle.xdr_codec.specs.declared.err.XdrErr.TheVariants.{TooMany, Trailing}
 use Rattle.xdr_codec.specs.Items.{padded, u32_item, u64_item, fixed_item, opaque_item}
 use Rattle.xdr_codec.specs.Reading.{Rest, ◌>>=◌, behind, u32_in, u64_in, count_in, body_in, unless_padding, opaque_in, end_of}
 use Rattle.xdr_codec.proofs.Codec.{IsCodec}
-use Rattle.xdr_codec.proofs.ItemLaws.{bind_ok, guard_ok, ok_is, chosen, err_is_not}
+use Rattle.xdr_codec.proofs.ItemLaws.{bind_ok, ok_is, chosen, err_is_not}
 
 -- ---- a part
 

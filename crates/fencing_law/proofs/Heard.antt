@@ -1,7 +1,7 @@
 -- What the server hears of a SET TAG that it awaits is true, as far as only its commands are performed under its
 -- holder.
 use Rattle.std.proofs.Common.{◌≡◌, ◌⊎◌, ◌==◌, ℕ, ◌+◌, ◌<◌, ◌^◌, ◌++◌, ◌∷◌, [], List, true, nat_lt, Some, Result, Ok, Err, map, slice_get, refl, sym, ap, subst, ◌∙◌, append_assoc, arith, inl, inr}
-use Rattle.std.proofs.lemmas.Bool.{cases_lt}
+use Rattle.std.proofs.lemmas.Bool.{cases_lt, and_parts}
 use Rattle.std.proofs.lemmas.Bool.Decides.{nat_tests}
 use Rattle.std.proofs.lemmas.List.{append-nil}
 use Rattle.osd_lists.specs.declared.node.Node.{Node}
@@ -11,7 +11,6 @@ use Rattle.osd_commands.specs.declared.commands.CommandErr.{CommandErr}
 use Rattle.osd_commands.specs.declared.replies.Reply.{Reply}
 use Rattle.osd_commands.specs.Commands.{reading, spelling}
 use Rattle.osd_commands.specs.Replies as replies
-use Rattle.osd_commands.proofs.Passing.{both_true}
 use Rattle.osd_objects.specs.Lanes.{lane_of}
 use Rattle.osd_drive.specs.declared.verdict.Verdict.{Verdict}
 use Rattle.osd_drive.specs.Table.{first_fault}
@@ -19,7 +18,7 @@ use Rattle.osd_drive.specs.Effects.{format_reply, reply_by, state_by}
 use Rattle.server_rules.specs.declared.limits.TheConstants.{SERVER_HOLDER}
 use Rattle.server_rules.specs.Laws.{In}
 use Rattle.server_rules.specs.Envelopes.{message_in, by_reply}
-use Rattle.server_rules.specs.Messages.{Replies as RepliesTo, awaited_by, counters_low}
+use Rattle.server_rules.specs.Messages.{Replies as RepliesTo, awaited_by, counters_have_room}
 use Rattle.server_rules.specs.Replies.{is_done, answers}
 use Rattle.scenario_text.specs.declared.line.Party.TheVariants as party
 use Rattle.scenario_text.specs.declared.line.Line.{Line}
@@ -114,9 +113,9 @@ world_command w h r n d bytes s =
 
 -- ---- the awaited command
 
-low_nonce : (w : World) → counters_low w.server ≡ true → w.server.next_nonce < 2 ^ 63
-unfolding counters_low
-low_nonce w e = less w.server.next_nonce (2 ^ 63) (both_true _ _ e).0
+low_nonce : (w : World) → counters_have_room w.server ≡ true → w.server.next_nonce < 2 ^ 63
+unfolding counters_have_room
+low_nonce w e = less w.server.next_nonce (2 ^ 63) (and_parts _ _ e).0
   where
     less : (a b : ℕ) → nat_lt a b ≡ true → a < b
     less a b x = grind (arith, x, nat_tests)
@@ -129,7 +128,7 @@ pub record IsIt (d : ℕ) (a : Awaited) (c : Command) : Type 0 where
   pub tag : a.command.capability.tag < 2 ^ 32 → c.capability.tag ≡ a.command.capability.tag
   pub holder : a.command.capability.holder < 2 ^ 32 → c.capability.holder ≡ a.command.capability.holder
 
-read_nonce : (w : World) (d : ℕ) (bytes : List ℕ) (k : IsCommand w d bytes) (c : Command) → counters_low w.server ≡ true
+read_nonce : (w : World) (d : ℕ) (bytes : List ℕ) (k : IsCommand w d bytes) (c : Command) → counters_have_room w.server ≡ true
     → reading bytes ≡ Ok c → (c.nonce ≡ k.command.nonce) × (c.nonce < 2 ^ 64)
 read_nonce w d bytes k c low read =
     let below : k.command.nonce < 2 ^ 64 = omega (arith, low_nonce w low, k.low) in
@@ -137,7 +136,7 @@ read_nonce w d bytes k c low read =
     (command_reads k.command c (ap reading (sym k.bytes_are) ∙ read)).nonce below in
     (same, omega (arith, same, below))
 
-identify : (w : World) → Numbers w → counters_low w.server ≡ true → (d : ℕ) (bytes : List ℕ) (k : IsCommand w d bytes)
+identify : (w : World) → Numbers w → counters_have_room w.server ≡ true → (d : ℕ) (bytes : List ℕ) (k : IsCommand w d bytes)
     (c : Command) → reading bytes ≡ Ok c → (a : Awaited) → Awaits w.server.files a → c.nonce ≡ a.command.nonce
     → IsIt d a c
 identify w n low d bytes k c read a waits nonce =
@@ -162,7 +161,7 @@ identify w n low d bytes k c read a waits nonce =
 -- ---- the reply
 
 module _ (w : World) (h : List Line) (r : IsRead w h) (n : Numbers w) (own : EachBehind OwnAt [] h)
-    (low : counters_low w.server ≡ true) (d : ℕ) (a : Awaited) (waits : Awaits w.server.files a) (tag : ℕ)
+    (low : counters_have_room w.server ≡ true) (d : ℕ) (a : Awaited) (waits : Awaits w.server.files a) (tag : ℕ)
     (raises : Raises tag a) (object_fits : a.command.object < 2 ^ 64) (tag_fits : tag + 1 < 2 ^ 32) where
   -- the facts of a command of that nonce
   own_tag : (c : Command) → IsIt d a c → c.capability.tag ≡ tag
@@ -247,7 +246,7 @@ format_counts x tag is (inr e) = absurd (omega (arith, is, e.0))
 
 -- to bytes that spell a command or none
 judged_reached : (w : World) (h : List Line) → IsRead w h → Numbers w → EachBehind OwnAt [] h
-    → counters_low w.server ≡ true → (d : ℕ) (a : Awaited) → Awaits w.server.files a → (tag : ℕ) → Raises tag a
+    → counters_have_room w.server ≡ true → (d : ℕ) (a : Awaited) → Awaits w.server.files a → (tag : ℕ) → Raises tag a
     → a.command.object < 2 ^ 64 → tag + 1 < 2 ^ 32 → (lines more : List Line) → h ≡ lines ++ more → (there : DriveAt)
     → drive_after lines d ≡ Some there → (bytes : List ℕ) → IsCommand w d bytes → (x : Reply)
     → (o : Result Command CommandErr) → reading bytes ≡ o → replies.reading (replies.spelling (judges there o).reply)
@@ -266,7 +265,7 @@ judged_reached w h r n own low d a waits tag raises object_fits tag_fits lines m
     absurd (format_counts x tag ((reply_reads format_reply x heard).verdict (omega arith)) told)
 
 pub heard_reached : (w : World) (h : List Line) → IsRead w h → Numbers w → EachBehind OwnAt [] h
-    → counters_low w.server ≡ true → (d k : ℕ) (p : Posted) → slice_get w.network.messages k ≡ Some p
+    → counters_have_room w.server ≡ true → (d k : ℕ) (p : Posted) → slice_get w.network.messages k ≡ Some p
     → p.message.to ≡ node.Server → p.message.from ≡ node.Drive d → (x : Reply)
     → for_server p.message ≡ Some (RepliesTo x)
     → (f : File) → In f w.server.files → (a : Awaited) → In a (awaited_by f.job) → Raises f.kept.tag a
@@ -296,7 +295,7 @@ heard_reached w h r n own low d k p there to sender x read f i a j raises answer
       receiver = rep.receiver;
       bytes_are = refl;
     } in
-    let tests = both_true (a.command.nonce == x.nonce) (a.drive == d) answer in
+    let tests = and_parts (a.command.nonce == x.nonce) (a.drive == d) answer in
     let heard : replies.reading (replies.spelling (judges rep.there (reading m.bytes)).reply) ≡ Ok x =
     ap replies.reading (sym rep.bytes_are) ∙ read_reply p.message.from d (spelled p.message.body) x sender read in
     let reached : has_reached a.command.object (f.kept.tag + 1) (drive_after t.before d) ≡ true =

@@ -1,12 +1,12 @@
 -- The holder and the rights that are read of a capability are those that were spelled.
 use Rattle.std.proofs.Common.{◌≡◌, ℕ, ◌<◌, ◌^◌, Bool, true, false, eqb, not, List, [], length, Option, Some, None, Ok, sym, ap, subst, ◌∙◌, arith, inl, inr}
 use Rattle.std.proofs.lemmas.Nat.{from_be_bytes-to_be_bytes_4}
-use Rattle.xdr_codec.proofs.ItemLaws.{guard_ok}
 use Rattle.osd_capability.specs.declared.layout.Capability.{Capability}
 use Rattle.osd_capability.specs.Layout.{spelling, capability_at, stray, unless_reserved, is_format, reading}
 use Rattle.osd_capability.specs.declared.layout.TheConstants.{CAPABILITY_BYTES}
 use Rattle.osd_capability.specs.declared.layout.CapErr.TheVariants.{Length, Format}
 use Rattle.std.specs.Prelude.{slice_index}
+use Rattle.osd_lists.proofs.Options.{guard_ok}
 use Rattle.layout_types.specs.declared.cred.ObjectCred.{ObjectCred}
 use Rattle.server_rules.specs.declared.grants.Grant.{Grant}
 use Rattle.fencing_law.proofs.Layouts.{Bears, rights_by}

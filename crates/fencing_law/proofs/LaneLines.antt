@@ -4,6 +4,7 @@ use Rattle.std.proofs.Common.{◌≡◌, ◌==◌, ℕ, ◌≤◌, ◌<◌, ◌+
 use Rattle.std.proofs.lemmas.Bool.{cases_eq}
 use Rattle.std.proofs.lemmas.List.{append-nil}
 use Rattle.std.proofs.lemmas.List.Sums.{fold-append}
+use Rattle.std.proofs.lemmas.Option.{same_Some}
 use Rattle.osd_commands.specs.declared.actions.Action.TheVariants.{SetTag}
 use Rattle.osd_commands.specs.declared.commands.Command.{Command}
 use Rattle.osd_commands.specs.declared.commands.CommandErr.{CommandErr}
@@ -12,7 +13,6 @@ use Rattle.osd_objects.specs.declared.lanes.LaneEntry.{LaneEntry}
 use Rattle.osd_objects.specs.declared.object.StoredObject.{StoredObject}
 use Rattle.osd_objects.specs.Lanes.{lane_of}
 use Rattle.osd_objects.specs.Store.{object_at}
-use Rattle.osd_objects.proofs.Entries.{same_some}
 use Rattle.osd_drive.specs.declared.verdict.Verdict.{Verdict}
 use Rattle.osd_drive.specs.declared.verdict.Verdict.TheVariants as verdict
 use Rattle.osd_drive.specs.Table.{first_fault}
@@ -55,7 +55,7 @@ letters_set : (ss : List Sent) (n : ℕ) (s t : Sent) → slice_get ss n ≡ Som
     → letters (slice_set ss n t) ≡ letters ss
 letters_set [] n s t there same = refl
 letters_set (x ∷ ss) zero s t there same =
-    ap (λ (y : Sent). y ∷ letters ss) (same ∙ ap letter (sym (same_some x s there)))
+    ap (λ (y : Sent). y ∷ letters ss) (same ∙ ap letter (sym (same_Some x s there)))
 letters_set (x ∷ ss) (suc n) s t there same = ap (λ (ys : List Sent). letter x ∷ ys) (letters_set ss n s t there same)
 
 pub letters_changed : (ss : List Sent) (n : ℕ) (change : Sent → Sent) (o : Option Sent) → ((s : Sent)
@@ -103,7 +103,7 @@ pub record SentTo (h : List Line) (drive : ℕ) (bytes : List ℕ) : Type 0 wher
 
 pub in_get : (ss : List Sent) (n : ℕ) (m : Sent) → slice_get ss n ≡ Some m → In m ss
 in_get [] n m e = absurd (cc e)
-in_get (x ∷ ss) zero m e = inl (sym (same_some x m e))
+in_get (x ∷ ss) zero m e = inl (sym (same_Some x m e))
 in_get (x ∷ ss) (suc n) m e = inr (in_get ss n m e)
 
 sent_to : (h : List Line) (drive : ℕ) (bytes : List ℕ) → ServerSent h drive bytes → SentTo h drive bytes
@@ -165,14 +165,14 @@ same_objects : (h lines : List Line) (drive : ℕ) (a b : DriveAt) → b.state.s
 same_objects h lines drive a b same s c is object x l there e =
     servers_more h lines drive object x.tag x.tag l.nonce (omega arith)
     (s a refl object x l
-    (ap (λ z. object_at z object) (sym same) ∙ ap (λ (z : DriveAt). object_at z.state.store object) (same_some b c
+    (ap (λ z. object_at z object) (sym same) ∙ ap (λ (z : DriveAt). object_at z.state.store object) (same_Some b c
     is) ∙ there) e)
 
 -- a drive whose objects are gone, or that has none yet
 no_objects : (h : List Line) (drive : ℕ) (b : DriveAt) → b.state.store.objects ≡ [] → AreServers h drive (Some b)
 no_objects h drive b none c is object x l there e =
     absurd (nothing (object_at b.state.store object) (ap (λ es. look es object) none)
-    (ap (λ (z : DriveAt). object_at z.state.store object) (same_some b c is) ∙ there))
+    (ap (λ (z : DriveAt). object_at z.state.store object) (same_Some b c is) ∙ there))
   where
     look : List (ℕ × StoredObject) → ℕ → Option StoredObject
     look es k = object_at (record { capacity = b.state.store.capacity; objects = es }) k
@@ -192,7 +192,7 @@ module _ (before : List Line) (l : Line) (d : ℕ) (bytes : List ℕ) (v : ToldV
   performed_servers c read verdict.Perform clear = λ a is object x lane there e.
       elim_from object x lane (lane_from c.action j.there.state c refl (free j.there.state j.there.clock c clear)
       object SERVER_HOLDER x lane
-      (ap (λ (z : DriveAt). object_at z.state.store object) (same_some _ a is) ∙ there) e)
+      (ap (λ (z : DriveAt). object_at z.state.store object) (same_Some _ a is) ∙ there) e)
     where
       performs : v ≡ told.Perform
       performs =

@@ -2,6 +2,7 @@
 use Rattle.std.proofs.Common.{◌≡◌, ◌⊎◌, ℕ, ◌+◌, ◌≤◌, ◌<◌, Bool, true, false, not, nat_eq, ◌&&◌, is_none, List, [], Option, Some, None, IsSome, option_map, refl, sym, ap, subst, ◌∙◌, arith, inl, inr}
 use Rattle.std.proofs.lemmas.Bool.{cases_eq}
 use Rattle.std.proofs.lemmas.Bool.Decides.{nat_tests}
+use Rattle.std.proofs.lemmas.Option.{same_Some}
 use Rattle.osd_commands.specs.declared.actions.Action.{Action}
 use Rattle.osd_commands.specs.declared.actions.Action.TheVariants as action
 use Rattle.osd_commands.specs.declared.commands.Command.{Command}
@@ -10,7 +11,7 @@ use Rattle.osd_objects.specs.declared.object.StoredObject.{StoredObject}
 use Rattle.osd_objects.specs.Lanes.{lane_of, with_lane}
 use Rattle.osd_objects.specs.Objects.{state_of, created, after_write, after_set_attr, after_set_tag}
 use Rattle.osd_objects.specs.Store.{StoreState, object_at, changed_if_there}
-use Rattle.osd_objects.proofs.Entries.{lookup_inserted, lookup_beside, lookup_set, lookup_set_beside, same_some}
+use Rattle.osd_objects.proofs.Entries.{lookup_inserted, lookup_beside, lookup_set, lookup_set_beside}
 use Rattle.osd_drive.specs.State.{DriveState}
 use Rattle.osd_drive.specs.Table.{is_create, of_object}
 use Rattle.osd_drive.specs.Effects.{lane_for, next_tag, effect_of, performed}
@@ -33,7 +34,7 @@ changed_at s k f (Some z) there q y e = elim (cases_eq q k) [
     z,
     same,
     there,
-    same_some (f z) y
+    same_Some (f z) y
         (sym (lookup_set s.objects k (f z) (subst IsSome (sym there) refl))
         ∙ ap (object_at (changed_if_there s k f (Some z))) (sym same) ∙ e),
   )
@@ -142,12 +143,12 @@ lane_from action.Create d c is f q holder y l there e = elim (cases_eq q c.objec
     lane = lane_for c 0
 
     own_lane : (a b : LaneEntry) → Some a ≡ Some b → a.nonce ≡ b.nonce
-    own_lane a b i = ap (λ (z : LaneEntry). z.nonce) (same_some a b i)
+    own_lane a b i = ap (λ (z : LaneEntry). z.nonce) (same_Some a b i)
 
     made : q ≡ c.object → LaneFrom d.store c q holder y l
     made same =
         let is_y : created c.capability.tag c.payload lane ≡ y =
-        same_some _ y (sym (lookup_inserted d.store.objects c.object (created c.capability.tag c.payload lane))
+        same_Some _ y (sym (lookup_inserted d.store.objects c.object (created c.capability.tag c.payload lane))
         ∙ ap (object_at (effect_of action.Create d.store c)) (sym same) ∙ there) in
         let found : lane_of (with_lane [] lane) holder ≡ Some l =
         ap (λ (z : StoredObject). lane_of z.lanes holder) is_y ∙ e in
@@ -173,6 +174,6 @@ lane_from action.SetTag d c is f q holder y l there e =
     raised : (x : StoredObject) → object_at d.store c.object ≡ Some x → c.capability.tag < x.tag + 1
     raised x found =
         let r = there_with c (object_at d.store c.object) (ap is_create is) f.there f.tag in
-        let tag : x.tag ≡ c.capability.tag = ap (λ (z : StoredObject). z.tag) (same_some x r.0 (sym found ∙ r.1))
+        let tag : x.tag ≡ c.capability.tag = ap (λ (z : StoredObject). z.tag) (same_Some x r.0 (sym found ∙ r.1))
         ∙ r.2 in
         omega (arith, tag)

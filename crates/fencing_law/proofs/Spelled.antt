@@ -13,12 +13,13 @@ use Rattle.osd_commands.specs.declared.commands.CommandErr.{CommandErr}
 use Rattle.osd_commands.specs.declared.commands.CommandErr.TheVariants.{Short, Magic, BadAction}
 use Rattle.osd_capability.specs.declared.layout.CapErr.TheVariants.{Length as CapLength, Format as CapFormat}
 use Rattle.osd_lists.specs.Blocks.{first_nonzero}
+use Rattle.osd_lists.proofs.Options.{guard_ok}
 use Rattle.osd_commands.specs.declared.replies.Reply.{Reply}
 use Rattle.osd_commands.specs.Actions.{number_of, action_of}
 use Rattle.osd_commands.specs.Commands as Command
 use Rattle.osd_commands.specs.Commands.{fields, head, spelling, stray, command_at, with_action, unless_reserved, with_capability, sized, reading}
 use Rattle.osd_commands.specs.Replies as Reply
-use Rattle.osd_commands.proofs.Passing.{guard_ok, if_ok}
+use Rattle.osd_commands.proofs.Passing.{if_ok}
 
 -- ---- what an answer shows
 

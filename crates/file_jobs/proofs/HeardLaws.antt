@@ -2,12 +2,13 @@
 use Rattle.std.specs.Prelude.{ℕ, List, [], ◌∷◌, ◌++◌, Option, Some, None, ◌≡◌, ◌<◌, length, map, slice_get, find, refl}
 use Rattle.std.proofs.Common.{arith, ap, sym, ◌∙◌, get_or}
 use Rattle.std.proofs.lemmas.Option.{slice_get-get_or}
+use Rattle.osd_lists.proofs.Slices.{some_at}
 use Rattle.osd_commands.specs.declared.replies.Reply.{Reply}
 use Rattle.server_rules.specs.declared.files.Kept.{Kept}
 use Rattle.server_rules.specs.declared.jobs.Awaited.{Awaited}
 use Rattle.server_rules.specs.declared.jobs.Heard.{Heard}
 use Rattle.server_rules.specs.declared.jobs.Job.{Job}
-use Rattle.server_rules.specs.declared.server.Moved.{Moved}
+use Rattle.server_rules.specs.declared.server.Effects.{Effects}
 use Rattle.server_rules.specs.Going.{Going}
 use Rattle.server_rules.specs.Jobs.{waits_or_on}
 use Rattle.osd_capability.specs.declared.layout.TheConstants.{FORMAT_SHA256}
@@ -26,14 +27,10 @@ heard_is g j k r cs place a x kind u v e =
     ap (hears g j a r) (e ∙ ap (λ (y : Awaited). hearing k y r) same)
 
 -- the job waits on
-pub waits_on_still : (k : Kept) (m : Moved) (s : Around) (j : Job) → s.job ≡ Some j → turned (Rests j) k m s ≡ going k m s
+pub waits_on_still : (k : Kept) (m : Effects) (s : Around) (j : Job) → s.job ≡ Some j → turned (Rests j) k m s ≡ going k m s
 waits_on_still k m s j e = ap (λ (x : Option Job). going k m (record s { job = x })) (sym e)
 
 -- ---- the job that awaits it
-
-pub some_at : (xs : List Awaited) (i : ℕ) → i < length xs → (a : Awaited) × (slice_get xs i ≡ Some a)
-some_at [] i l = absurd (omega (arith, l))
-some_at (x ∷ xs) i l = (get_or (x ∷ xs) i x, slice_get-get_or (x ∷ xs) i x l)
 
 by_job : (g : Going) (drive : ℕ) (r : Reply) (o : Option Job) (j : Job) (a : Awaited) → o ≡ Some j → find (answers drive r) j.awaited ≡ Some a → heard_in g drive r o ≡ Some (hears g j a r (hearing g.file.kept a r))
 by_job g drive r o j a e f = rw e (rw f refl)
@@ -58,6 +55,6 @@ pub answered_job : (g : Going) (j i : Job) (a : Awaited) (r : Reply) → i ≡ r
 answered_job g j i a r e = rw e refl
 
 -- the command goes again, and the job waits for it
-pub renewed_job : (k : Kept) (m is : Moved) (s : Around) (j : Job) (a : Awaited) (cs : List Awaited) → is ≡ sends m (again_in_2 a m.nonce ∷ []) → cs ≡ map (renewed a (again_in_2 a m.nonce)) j.awaited →
+pub renewed_job : (k : Kept) (m is : Effects) (s : Around) (j : Job) (a : Awaited) (cs : List Awaited) → is ≡ sends m (again_in_2 a m.nonce ∷ []) → cs ≡ map (renewed a (again_in_2 a m.nonce)) j.awaited →
     turned (Rests (record { kind = j.kind; work = j.work; awaited = cs; heard = j.heard })) (record k { format = FORMAT_SHA256 }) is s ≡ renews (going k m s) j a
 renewed_job k m is s j a cs e f = rw (e, f) refl

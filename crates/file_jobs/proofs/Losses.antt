@@ -12,7 +12,7 @@ use Rattle.server_rules.specs.declared.jobs.Target.{Target}
 use Rattle.server_rules.specs.declared.jobs.Work.{Work}
 use Rattle.server_rules.specs.declared.jobs.Work.TheVariants.{Creates, Fences, Fetches, Stores, Targets, Gathers, Fills, Lengths, Checks}
 use Rattle.server_rules.specs.declared.notes.NoteKind.TheVariants.{NoSpace}
-use Rattle.server_rules.specs.declared.server.Moved.{Moved}
+use Rattle.server_rules.specs.declared.server.Effects.{Effects}
 use Rattle.server_rules.specs.declared.server.Drive.{Drive}
 use Rattle.server_rules.specs.Standing.{any_on, lose_from, lose_on}
 use Rattle.file_jobs.specs.declared.job.FileState.{FileState}
@@ -80,7 +80,7 @@ fills_at g kind (Fills t todo) awaited heard a f = absurd (cc f)
 fills_at g kind Lengths awaited heard a f = refl
 fills_at g kind (Checks todo t) awaited heard a f = refl
 
-pub fills_is : (kept : Kept) (m is : Moved) (s : Around) (j : Job) (a x y : Awaited) (cs : List Component) (rest : List Awaited) → target_in j.work ≡ None → x ≡ a → y ≡ a →
+pub fills_is : (kept : Kept) (m is : Effects) (s : Around) (j : Job) (a x y : Awaited) (cs : List Component) (rest : List Awaited) → target_in j.work ≡ None → x ≡ a → y ≡ a →
     cs ≡ lose_from (x.component ∷ []) kept.components 0 → rest ≡ others j.awaited y.command.nonce → is ≡ noted m kept.number (NoSpace x.component) →
     loses (going (record kept { components = cs }) is s) (record { kind = j.kind; work = j.work; awaited = rest; heard = j.heard }) j.work rest false ≡ fills_up (going kept m s) j a j.work
 fills_is kept m is s j a x y cs rest f ex ey ec er ei =
@@ -184,7 +184,7 @@ remade g j (InAudit a) t rest drive w e n f = absurd (cc (ap target_in (sym w) �
 in_job : (g : Going) (drive : ℕ) (o : Option Job) (j : Job) → o ≡ Some j → loses g j j.work (others_than drive j.awaited) (is_target j.work drive) ≡ declared_in g drive o
 in_job g drive o j e = rw e refl
 
-pub declares_is : (f : FileState) (m : Moved) (ds : List Drive) (chosen : List ℕ) (drive : ℕ) (cs : List Component) (j : Job) → (any_on drive f.kept.components || targets f.job drive) ≡ true →
+pub declares_is : (f : FileState) (m : Effects) (ds : List Drive) (chosen : List ℕ) (drive : ℕ) (cs : List Component) (j : Job) → (any_on drive f.kept.components || targets f.job drive) ≡ true →
     cs ≡ lose_on drive f.kept.components → f.job ≡ Some j →
     loses (going (record f.kept { components = cs }) m (record { spent = f.spent; job = f.job; drives = ds; chosen = chosen })) j j.work (others_than drive j.awaited) (is_target j.work drive) ≡ declares (at f m ds chosen) drive
 unfolding declares
@@ -192,14 +192,6 @@ declares_is f m ds chosen drive cs j a e o =
     in_job (going (record f.kept { components = cs }) m (record { spent = f.spent; job = f.job; drives = ds; chosen = chosen })) drive f.job j o
     ∙ ap (λ (x : List Component). declared_in (going (record f.kept { components = x }) m (record { spent = f.spent; job = f.job; drives = ds; chosen = chosen })) drive f.job) e
     ∙ rw a refl
-
-pub or_left : (a b : Bool) → a ≡ true → (a || b) ≡ true
-or_left true b e = refl
-or_left false b e = absurd (cc e)
-
-pub or_right : (a b : Bool) → b ≡ true → (a || b) ≡ true
-or_right true b e = refl
-or_right false b e = e
 
 length-lose_on : (drive : ℕ) (cs : List Component) → length (lose_on drive cs) ≡ length cs
 unfolding lose_on

@@ -2,8 +2,9 @@
 use Rattle.std.specs.Prelude.{ℕ, Bool, true, false, List, [], ◌∷◌, Some, refl, ◌≡◌, ◌+◌, ◌≤◌, ◌<◌, ◌==◌, ◌&&◌, ◌||◌, not, nat_eq, cond, find, is_some, length, count_by, slice_get, All}
 use Rattle.std.proofs.Common.{arith, inl, inr, ap, subst, ◌∙◌}
 use Rattle.std.proofs.lemmas.List.{length-map}
-use Rattle.std.proofs.lemmas.Bool.{cases_Bool}
+use Rattle.std.proofs.lemmas.Bool.{cases_Bool, and_right}
 use Rattle.std.proofs.lemmas.List.Sums.{sum_by-cons}
+use Rattle.osd_lists.proofs.Tests.{other_true, first_true}
 use Rattle.server_rules.specs.declared.files.Component.{Component}
 use Rattle.server_rules.specs.declared.server.Drive.{Drive}
 use Rattle.server_rules.specs.Standing.{free_drives, stood_on}
@@ -17,18 +18,6 @@ tail_of : (l : DriveLoad) (ls : List DriveLoad) (d : Drive) (ds : List Drive) �
 tail_of l ls d ds e =
     let h : (l.drive, l.online) ≡ (d.number, d.online) = cc e in
     (ap (λ (p : ℕ × Bool). p.0) h, ap (λ (p : ℕ × Bool). p.1) h, cc e)
-
-or_true : (a b : Bool) → (a || b) ≡ true → a ≡ false → b ≡ true
-or_true true b t e = absurd (cc e)
-or_true false b t e = t
-
-and_no : (a b : Bool) → b ≡ false → (a && b) ≡ false
-and_no true b e = e
-and_no false b e = refl
-
-and_left : (a b : Bool) → (a && b) ≡ true → a ≡ true
-and_left true b t = refl
-and_left false b t = absurd (cc t)
 
 -- how many are online
 counted : (b : Bool) (n m : ℕ) → n ≡ cond b 1 0 + m → n ≡ 0 → (b ≡ false) × (m ≡ 0)
@@ -62,9 +51,9 @@ free_found cs (l ∷ ls) (d ∷ ds) drive e t =
     elim (cases_Bool (d.online && not (stood_on d.number cs))) [
       | inl f ↦ rw (taken_in cs d ds f) (elim (cases_Bool (d.number == drive)) [
         | inl s ↦ rw s refl
-        | inr s ↦ rw s (free_found cs ls ds drive h.2 (or_true (nat_eq l.drive drive && (free_load cs l).online) _ t (rw (h.0, s) refl)))
+        | inr s ↦ rw s (free_found cs ls ds drive h.2 (other_true (nat_eq l.drive drive && (free_load cs l).online) _ t (rw (h.0, s) refl)))
       ])
-      | inr f ↦ rw (kept_out cs d ds f) (free_found cs ls ds drive h.2 (or_true (nat_eq l.drive drive && (free_load cs l).online) _ t (and_no (nat_eq l.drive drive) _ (rw (h.0, h.1) f))))
+      | inr f ↦ rw (kept_out cs d ds f) (free_found cs ls ds drive h.2 (other_true (nat_eq l.drive drive && (free_load cs l).online) _ t (and_right (nat_eq l.drive drive) _ (rw (h.0, h.1) f))))
     ]
 
 -- one place may be asked of the free ones, if there are any
@@ -82,7 +71,7 @@ can_place cs loads few fits different some = record {
 
 -- the one that was chosen
 pub chosen_is_free : (cs : List Component) (loads : List DriveLoad) (ds : List Drive) (chosen : List ℕ) (drive : ℕ) → AreLoadsOf loads ds → Places 1 (free_loads cs loads) (drive ∷ chosen) → IsPick ds cs (Some drive)
-chosen_is_free cs loads ds chosen drive e p = free_found cs loads ds drive e (and_left _ _ p.online)
+chosen_is_free cs loads ds chosen drive e p = free_found cs loads ds drive e (first_true _ _ p.online)
 
 pub picked_free : (cs : List Component) (loads : List DriveLoad) (ds : List Drive) (chosen : List ℕ) (drive : ℕ) → AreLoadsOf loads ds → Places 1 (free_loads cs loads) chosen → slice_get chosen 0 ≡ Some drive → IsPick ds cs (Some drive)
 picked_free cs loads ds [] drive e p g = absurd (cc g)

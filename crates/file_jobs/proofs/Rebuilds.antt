@@ -13,7 +13,7 @@ use Rattle.stripe_repair.specs.declared.rebuild.FillStage.TheVariants.{Gathering
 use Rattle.stripe_repair.specs.Filling.{RebuildState, comes_to, fill_work_at, fill_work_of, ArePiecesOf, IsReadable}
 use Rattle.server_rules.specs.declared.jobs.Awaited.{Awaited}
 use Rattle.server_rules.specs.declared.jobs.JobKind.TheVariants.{Rebuilding}
-use Rattle.server_rules.specs.declared.server.Moved.{Moved}
+use Rattle.server_rules.specs.declared.server.Effects.{Effects}
 use Rattle.stripe_repair.specs.declared.rebuild.FillStep.{FillStep}
 use Rattle.stripe_repair.specs.declared.rebuild.FillStep.TheVariants.{Store}
 use Rattle.file_jobs.specs.declared.job.Turn.{Turn}
@@ -45,7 +45,7 @@ fills_still k old new t p f = record { component = rw t f.component; pieces = p 
 -- ---- where it rests or goes on
 
 -- it sends the WRITE alone
-pub stores_is : (step : FillStep) (kept : Kept) (was is : Moved) (turn : Turn) (r : RebuildState) (w : Awaited) (cs : List Awaited) → step ≡ Store w → cs ≡ w ∷ [] →
+pub stores_is : (step : FillStep) (kept : Kept) (was is : Effects) (turn : Turn) (r : RebuildState) (w : Awaited) (cs : List Awaited) → step ≡ Store w → cs ≡ w ∷ [] →
     RestsOr cs Rebuilding (Pieces r) was turn is → (a : Around) → turned turn kept is a ≡ comes_to step (going kept was a) r
 stores_is step kept was is turn r w cs e f h a = h kept a (over (going kept was a)) ∙ rw (e, f) refl
 

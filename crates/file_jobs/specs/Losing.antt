@@ -7,7 +7,7 @@ use Rattle.server_rules.specs.declared.jobs.Job.{Job}
 use Rattle.server_rules.specs.declared.jobs.Target.{Target}
 use Rattle.server_rules.specs.declared.jobs.Work.{Work}
 use Rattle.server_rules.specs.declared.jobs.Work.TheVariants.{Targets, Gathers, Fills}
-use Rattle.server_rules.specs.declared.server.Moved.{Moved}
+use Rattle.server_rules.specs.declared.server.Effects.{Effects}
 use Rattle.server_rules.specs.Going.{Going}
 use Rattle.server_rules.specs.Jobs.{loses}
 use Rattle.server_rules.specs.declared.files.Kept.{Kept}
@@ -28,5 +28,5 @@ loses_in_repair g kind r rest heard = loses g (record { kind = kind; work = work
     (work_of r) rest false
 
 -- where this job runs, what came of it is what this function makes
-abbrev pub TurnsIn : Job → (Going → Going) → Kept → Moved → Turn → Kept → Moved → Type 0
+abbrev pub TurnsIn : Job → (Going → Going) → Kept → Effects → Turn → Kept → Effects → Type 0
 TurnsIn j f old was turn new is = (a : Around) → a.job ≡ Some j → turned turn new is a ≡ f (going old was a)

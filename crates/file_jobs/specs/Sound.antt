@@ -9,7 +9,7 @@ use Rattle.server_rules.specs.declared.jobs.Piece.{Piece}
 use Rattle.server_rules.specs.declared.jobs.Target.{Target}
 use Rattle.server_rules.specs.declared.jobs.Work.{Work}
 use Rattle.server_rules.specs.declared.jobs.Work.TheVariants.{Creates, Fences, Fetches, Stores, Targets, Gathers, Fills, Lengths, Checks}
-use Rattle.server_rules.specs.declared.server.Moved.{Moved}
+use Rattle.server_rules.specs.declared.server.Effects.{Effects}
 use Rattle.stripe_repair.specs.Filling.{IsPieceOf}
 use Rattle.stripe_repair.specs.Restored.{CanBeMade}
 use Rattle.file_jobs.specs.declared.job.FileState.{FileState}
@@ -52,12 +52,12 @@ Fits k sent (Fills t todo) = CanFill k t todo
 Fits k sent Lengths = sent ≤ MAX_FILE_COMPONENTS
 Fits k sent (Checks todo tally) = Unit {0}
 
--- the same where a component became missing meanwhile, so that it may be that the first piece can't be made any more
+-- the part of a job may go on where a component became missing meanwhile, so that the first piece may be lost by now
 abbrev pub FitsAfterLoss : Kept → (sent : ℕ) → Work → Type 0
 FitsAfterLoss k sent (Gathers t todo) = CanFill k t todo
 FitsAfterLoss k sent work = Fits k sent work
 
--- its part may go on
+-- the job's part may go on
 abbrev pub IsSoundJob : Kept → Job → Type 0
 IsSoundJob k j = Fits k (length j.awaited + length j.heard) j.work
 
@@ -76,25 +76,25 @@ pub record IsSoundFile (f : FileState) : Type 0 where
   pub alone : IsAlone f.kept f.job
   pub job : HasSoundJob f.kept f.job
 
--- nothing was sent, and no object number is used up
-abbrev pub Stays : Moved → Moved → Type 0
+-- the step sent nothing, and used no object number up
+abbrev pub Stays : Effects → Effects → Type 0
 Stays was is = (is.nonce ≡ was.nonce) × (is.object ≡ was.object)
 
 -- a job that rests may go on, and where more is to be sent nothing was sent yet
-abbrev pub RestsSound : Turn → Moved → Kept → Moved → Type 0
+abbrev pub RestsSound : Turn → Effects → Kept → Effects → Type 0
 RestsSound Over was k is = Unit {0}
 RestsSound (Rests j) was k is = IsSoundJob k j
 RestsSound (Mended kind) was k is = Stays was is
 RestsSound (Places from) was k is = Stays was is
 
 -- the same, where the numbers of what is to be sent fit their types
-abbrev pub RestsLow : Turn → Kept → Moved → Type 0
+abbrev pub RestsLow : Turn → Kept → Effects → Type 0
 RestsLow Over k is = Unit {0}
 RestsLow (Rests j) k is = IsSoundJob k j
 RestsLow (Mended kind) k is = (is.nonce < 2 ^ 63) × (is.object < 2 ^ 63)
 RestsLow (Places from) k is = (is.nonce < 2 ^ 63) × (is.object < 2 ^ 63)
 
--- this job rests
+-- the turn leaves this job at rest
 abbrev pub RestsAs : Job → Turn → Type 0
 RestsAs job Over = ⊥
 RestsAs job (Rests j) = j ≡ job

@@ -4,7 +4,7 @@ use Rattle.server_rules.specs.declared.jobs.Work.{Work}
 use Rattle.server_rules.specs.declared.jobs.Work.TheVariants.{Creates, Fences, Targets, Lengths, Checks}
 use Rattle.server_rules.specs.declared.jobs.Awaited.{Awaited}
 use Rattle.server_rules.specs.declared.notes.NoteKind.{NoteKind}
-use Rattle.server_rules.specs.declared.server.Moved.{Moved}
+use Rattle.server_rules.specs.declared.server.Effects.{Effects}
 use Rattle.stripe_repair.specs.Repairing.{work_of as repair_of}
 use Rattle.stripe_repair.specs.Filling.{fill_work_of}
 use Rattle.file_jobs.specs.declared.job.Work.{Work as RunningWork}
@@ -20,10 +20,10 @@ work_of (Filling r) = fill_work_of r
 work_of Measuring = Lengths
 work_of (Checking a) = Checks a.todo a.tally
 
--- these commands are sent
-abbrev pub sends : Moved → List Awaited → Moved
+-- the step sends these commands
+abbrev pub sends : Effects → List Awaited → Effects
 sends m cs = record m { nonce = m.nonce + length cs; sent = m.sent ++ cs }
 
 -- a note on a file
-abbrev pub noted : Moved → (file : ℕ) → NoteKind → Moved
+abbrev pub noted : Effects → (file : ℕ) → NoteKind → Effects
 noted m file kind = record m { notes = m.notes ++ (record { file = file; kind = kind } ∷ []) }

@@ -5,14 +5,14 @@ ghost use Rattle.server_rules.specs.Commands.{again_in_2};
 ghost use Rattle.server_rules.specs.Replies.{answers};
 ghost use Rattle.file_jobs.specs.Awaiting.{stays};
 
-use crate::moved::copy_of;
+use crate::effects::copy_of;
 use osd_capability::FORMAT_SHA256;
 use osd_commands::Reply;
 use osd_lists::Memory;
 use server_rules::{Awaited, AwaitedCommands};
 use std::alloc::Global;
 
-// The place of the command that a reply of this drive answers, `None` where there is none.
+/// The place of the command that a reply of this drive answers, `None` if there is none.
 pub fn answered_by(awaited: &[Awaited], drive: u32, reply: &Reply) -> Option<usize>
     ensures found { IfSome result (λ i. (i < length awaited.now)
         × (find (answers drive reply.now) awaited.now ≡ slice_get awaited.now i)) }
@@ -29,9 +29,9 @@ pub fn answered_by(awaited: &[Awaited], drive: u32, reply: &Reply) -> Option<usi
 /// Which commands a job doesn't wait for any more.
 #[derive(Clone, Copy)]
 pub enum Gone {
-    /// That with this nonce, which is answered.
+    /// The one with this nonce, which is answered.
     Nonce { nonce: u64 },
-    /// Those to a drive, which was declared.
+    /// The commands to a drive, which was declared.
     Drive { drive: u32 },
 }
 
@@ -45,7 +45,7 @@ fn stays(awaited: &Awaited, gone: Gone) -> bool
     }
 }
 
-// Brings those that are still waited for to the front, in order: how many they are.
+// Brings the commands that are still waited for to the front, in order: how many they are.
 fn shift(items: &mut [Awaited], gone: Gone) -> usize
     ensures left { take result items.new ≡ filter (stays gone) items.old }
     ensures bound { result ≤ length items.old }
@@ -68,7 +68,7 @@ pub fn forget(awaited: &mut AwaitedCommands, gone: Gone)
     awaited.truncate(left);
 }
 
-// The same command in format 2, with a new nonce.
+/// A copy of a command, in format 2 and with a new nonce.
 pub fn again_in_2(alloc: Global, awaited: &Awaited, nonce: u64) -> Result<Awaited, Memory>
     ensures { IfOk result (λ again. again ≡ again_in_2 awaited.now nonce) }
 {
@@ -78,7 +78,7 @@ pub fn again_in_2(alloc: Global, awaited: &Awaited, nonce: u64) -> Result<Awaite
     Ok(again)
 }
 
-// Puts a command in the place of those with a nonce.
+/// Puts a command in the place of those with a nonce.
 pub fn renew(
     alloc: Global,
     awaited: &mut AwaitedCommands,

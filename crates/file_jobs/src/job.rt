@@ -27,7 +27,7 @@ pub enum Work {
 pub struct RunningJob {
     pub kind: JobKind,
     pub work: Work,
-    /// What it waits for.
+    /// The commands that the job waits for.
     pub awaited: AwaitedCommands,
     /// The replies to the commands that were sent together with those awaited.
     pub heard: Sequence<Heard>,
@@ -47,9 +47,9 @@ impl Model for RunningJob {
 #[derive(Drop)]
 pub struct FileState {
     pub kept: Kept,
-    /// At the last opening of the server its fence was refused, since its tag is spent.
+    /// At the last opening of the server the file's fence was refused, since its tag is spent.
     pub spent: bool,
-    /// What runs on it.
+    /// What runs on the file.
     pub job: Option<RunningJob>,
 }
 
@@ -58,9 +58,9 @@ pub struct FileState {
 pub enum Turn {
     /// No job runs any more.
     Over,
-    /// It waits for what it sent.
+    /// The job waits for what it sent.
     Rests(RunningJob),
-    /// Its repair is over: what the job is for comes.
+    /// The job's repair is over: what the job is for comes next.
     Mended { kind: JobKind },
     /// Drives are to be found for the missing components, from this number on.
     Places { from: u32 },

@@ -2,33 +2,33 @@
 //!
 //! A [`FileState`] is what the server has of a file: what is kept of it, and the job that runs on it. Each
 //! function here is one part of the rules of `server_rules`, and its contract is the equation with them. What
-//! a step sends and notes goes into [`Moved`](server_rules::Moved).
+//! a step sends and notes goes into [`Effects`](server_rules::Effects).
 #![tactic(auto)]
 
-mod auditing;
+mod audit;
 mod awaited;
-mod declaring;
-mod ending;
-mod fencing;
-mod going_on;
-mod hearing;
+mod components;
+mod drive_replies;
+mod effects;
+mod ended_grants;
+mod fences;
 mod job;
-mod mending;
-mod moved;
-mod placing;
+mod lost_drives;
+mod next_job;
+mod next_stage;
+mod places;
 mod ranges;
-mod rebuilding;
+mod rebuild;
+mod repair;
 mod replies;
-mod settling;
-mod standing;
-mod whole;
+mod whole_files;
 
 pub use awaited::{Gone, answered_by, forget, renew};
-pub use declaring::declare;
-pub use hearing::on_reply;
+pub use components::{any_on, lose, lose_on};
+pub use drive_replies::on_reply;
+pub use effects::{copy_of, note, rest};
 pub use job::{FileState, RunningJob, Turn, Work};
-pub use moved::{copy_of, note, rests};
-pub use placing::{pick, places};
+pub use lost_drives::declare;
+pub use places::{pick, place_missing};
 pub use ranges::{count_stripes, merged};
-pub use standing::{any_on, lose, lose_on};
-pub use whole::{begin, make, revoke};
+pub use whole_files::{begin, make, revoke};

@@ -8,7 +8,7 @@ use osd_lists::{Memory, Sequence};
 use server_rules::{Grant, Stripes};
 use std::alloc::Global;
 
-// One more range among ranges that rise and don't touch.
+// Joins one more range to ranges that rise and don't touch.
 #[tactic(auto, unfolding(server_rules::specs::Grants::joined))]
 fn joined(alloc: Global, range: Stripes, ranges: &[Stripes]) -> Result<Sequence<Stripes>, Memory>
     ensures { IfOk result (λ all. all ≡ joined range ranges.now) }
@@ -35,7 +35,7 @@ fn joined(alloc: Global, range: Stripes, ranges: &[Stripes]) -> Result<Sequence<
     Ok(all)
 }
 
-// The stripes of the grants for writing, each once, in order.
+/// The stripes of the grants for writing, each once, in order.
 #[tactic(auto, unfolding(server_rules::specs::Grants::merged))]
 pub fn merged(alloc: Global, grants: &[Grant]) -> Result<Sequence<Stripes>, Memory>
     requires { EndInside grants.now }
@@ -58,7 +58,7 @@ pub fn merged(alloc: Global, grants: &[Grant]) -> Result<Sequence<Stripes>, Memo
     Ok(ranges)
 }
 
-// How many stripes they are.
+/// How many stripes the ranges have.
 pub fn count_stripes(ranges: &[Stripes]) -> u64
     requires { Rise 0 ranges.now }
     ensures value { result ≡ count_stripes ranges.now }

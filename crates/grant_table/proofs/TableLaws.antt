@@ -4,7 +4,8 @@ use Rattle.std.specs.Ordering.{nat_cmp}
 use Rattle.std.specs.BTreeMap.{is_at}
 use Rattle.std.specs.Map.{lookup}
 use Rattle.std.proofs.Common.{rules, inl, inr}
-use Rattle.std.proofs.lemmas.Bool.{cases_Bool}
+use Rattle.std.proofs.lemmas.Bool.{cases_Bool, or_parts}
+use Rattle.osd_lists.proofs.Options.{none_there}
 use Rattle.server_rules.specs.declared.grants.Grant.{Grant}
 use Rattle.grant_table.specs.Numbered.{has_number}
 use Rattle.grant_table.specs.Tables.{Table, grants_of, HasNone}
@@ -14,19 +15,11 @@ abbrev pub any_has : (number : ℕ) → Table → Bool
 any_has number [] = false
 any_has number (e ∷ es) = is_some (find (has_number number) e.1) || any_has number es
 
-or_false : (a b : Bool) → (a || b) ≡ false → (a ≡ false) × (b ≡ false)
-or_false true b e = absurd (cc e)
-or_false false b e = (refl, e)
-
-nothing : (o : Option Grant) → is_some o ≡ false → o ≡ None
-nothing None e = refl
-nothing (Some g) e = absurd (cc e)
-
 pub none_has : (number : ℕ) (t : Table) → any_has number t ≡ false → HasNone number t
 none_has number [] n = λ file. refl
 none_has number (e ∷ es) n = λ file. elim (cases_Bool (is_at (nat_cmp file) e.0)) [
-  | inl t ↦ rw t (nothing _ (or_false _ _ n).0)
-  | inr z ↦ rw z (none_has number es (or_false _ _ n).1 file)
+  | inl t ↦ rw t (none_there _ (or_parts _ _ n).0)
+  | inr z ↦ rw z (none_has number es (or_parts _ _ n).1 file)
 ]
 
 some_if : (o : Option Grant) → is_some o ≡ true → IsSome o

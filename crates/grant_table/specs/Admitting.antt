@@ -25,7 +25,7 @@ unfoldable pub admitted : (last sequence : ℕ) → Admit
 admitted last sequence =
     if (sequence == last) && nat_lt 0 last then Again else without_answer (admit_after last sequence)
 
--- that is what the rules say of a client that made no request, and of one that did
+-- a slot admits what the rules say, of a client that made no request and of one that did
 abbrev pub FollowTheRules : Type 0
 FollowTheRules = (sequence : ℕ) → (without_answer (admit None sequence) ≡ admitted 0 sequence)
     × ((s : RulesSlot) → 0 < s.last → without_answer (admit (Some s) sequence) ≡ admitted s.last sequence)

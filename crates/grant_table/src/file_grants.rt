@@ -16,7 +16,7 @@ pub enum GrantErr {
     /// A grant of this client conflicts with it; of several the oldest grant's client.
     #[error("a grant of client {holder} conflicts")]
     Conflict { holder: u32 },
-    /// Its client has a grant on the file.
+    /// The grant's client has one on the file.
     #[error("the client has a grant on the file")]
     Twice,
     /// There is no memory for it.

@@ -40,7 +40,7 @@ impl Model for Slot {
 }
 
 impl Slot {
-    /// That of a client without a request, which takes no memory.
+    /// The slot of a client without a request, which takes no memory.
     pub fn new(alloc: Global) -> Self
         ensures { result ≡ new_slot }
     {

@@ -143,7 +143,7 @@ impl Grants {
         ensures err { OnErr result (Same self.old self.new) }
     {
         add_to(&mut self.by_file, self.alloc, grant)?;
-        // Where there is no memory for it, the grant is found all the same.
+        // If there is no memory for the hint, the grant is found all the same.
         let _ = self.file_by_number.insert(grant.number, grant.file);
         Ok(())
     }

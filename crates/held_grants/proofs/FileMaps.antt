@@ -8,6 +8,7 @@ use Rattle.std.specs.Map.{lookup, remove_entry, values_of}
 use Rattle.std.proofs.Common.{arith, inl, inr, sym, ap, ◌∙◌, eq-eqb}
 use Rattle.std.proofs.lemmas.Bool.{cases_Bool, cases_eq, cases_lt, ne_eqb}
 use Rattle.std.proofs.lemmas.Bool.Decides.{nat_tests}
+use Rattle.osd_lists.proofs.Tests.{at_number}
 use Rattle.client_rules.specs.declared.grants.Held.{Held}
 use Rattle.client_rules.specs.declared.grants.Due.{Due}
 use Rattle.client_rules.specs.Grants.{held_of, put_held, without_held}
@@ -15,16 +16,13 @@ use Rattle.client_rules.specs.Going.{is_held}
 use Rattle.client_rules.specs.Steps.{all_due}
 use Rattle.held_grants.specs.ByFile.{AllBehind, AreByFile}
 
-is_at_test : (f k : ℕ) → is_at (nat_cmp f) k ≡ (k == f)
-is_at_test f k = grind (arith, nat_tests)
-
 -- ---- a look-up
 
 pub found : (f : ℕ) (es : List (ℕ × Held)) → AreByFile es → lookup (is_at (nat_cmp f)) es ≡ held_of (values_of es) f
 unfolding held_of
 found f [] o = refl
 found f (e ∷ es) o =
-    let same : is_at (nat_cmp f) e.0 ≡ (e.1.file == f) = is_at_test f e.0 ∙ ap (λ (z : ℕ). z == f) o.0 in
+    let same : is_at (nat_cmp f) e.0 ≡ (e.1.file == f) = at_number f e.0 ∙ ap (λ (z : ℕ). z == f) o.0 in
     rw same (elim (cases_Bool (e.1.file == f)) [ inl t ↦ rw t refl | inr z ↦ rw z (found f es o.2) ])
 
 -- ---- a grant is put
@@ -90,7 +88,7 @@ pub left_there : (f : ℕ) (es : List (ℕ × Held)) → AreByFile es →
 unfolding without_held
 left_there f [] o = refl
 left_there f (e ∷ es) o =
-    let same : is_at (nat_cmp f) e.0 ≡ (e.1.file == f) = is_at_test f e.0 ∙ ap (λ (z : ℕ). z == f) o.0 in
+    let same : is_at (nat_cmp f) e.0 ≡ (e.1.file == f) = at_number f e.0 ∙ ap (λ (z : ℕ). z == f) o.0 in
     rw same (elim (cases_eq e.1.file f) [
       | inl s ↦ rw (eq-eqb e.1.file f s) (none_without f es o.2 (rw (o.0 ∙ s) at o.1))
       | inr d ↦ rw (ne_eqb e.1.file f d) (ap (λ (z : List Held). e.1 ∷ z) (left_there f es o.2))

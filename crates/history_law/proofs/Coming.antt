@@ -2,13 +2,13 @@
 use Rattle.std.specs.List.{list_any}
 use Rattle.std.specs.Cmp.Lexicographic.{pointwise, same_text}
 use Rattle.std.proofs.Common.{◌≡◌, ◌==◌, ℕ, ◌++◌, ◌∷◌, [], List, Bool, true, false, not, nat_eq, ◌&&◌, ◌||◌, ◌⊎◌, Option, Some, None, Result, Ok, Err, is_none, fold, slice_get, slice_set, option_map, refl, sym, ap, subst, ◌∙◌, append_assoc, zero, suc, inl, inr, if◌then◌else◌}
-use Rattle.std.proofs.lemmas.Bool.{cases_eq, eq-eqb, ne_eqb}
+use Rattle.std.proofs.lemmas.Bool.{cases_eq, eq-eqb, ne_eqb, and_parts}
 use Rattle.std.proofs.lemmas.List.{append-nil}
 use Rattle.std.proofs.lemmas.List.Sums.{fold-append}
+use Rattle.osd_lists.proofs.Tests.{not_false}
 use Rattle.osd_commands.specs.declared.commands.Command.{Command}
 use Rattle.osd_commands.specs.declared.commands.CommandErr.{CommandErr}
 use Rattle.osd_commands.specs.Commands.{reading}
-use Rattle.osd_commands.proofs.Passing.{not_false, both_true}
 use Rattle.osd_objects.proofs.Entries.{lookup_inserted, lookup_beside}
 use Rattle.osd_drive.specs.declared.keys.DriveKey.{DriveKey}
 use Rattle.osd_drive.specs.declared.verdict.Verdict.{Verdict}
@@ -267,7 +267,7 @@ sent_by false sent e o = absurd (cc o)
 -- nothing was guessed before
 clean_before : (g : Guarded) (ls : List Line) → (fold guards g ls).unguessed ≡ true → g.unguessed ≡ true
 clean_before g [] e = e
-clean_before g (l ∷ ls) e = (both_true g.unguessed (not (guessed_at g l)) (clean_before (guards g l) ls e)).0
+clean_before g (l ∷ ls) e = (and_parts g.unguessed (not (guessed_at g l)) (clean_before (guards g l) ls e)).0
 
 pub clean_front : (before after : List Line) → unguessed (before ++ after) ≡ true → unguessed before ≡ true
 clean_front before after e =
@@ -284,14 +284,14 @@ opened_was_sent lines d bytes a c fair clean stood read opens =
     let opened : opened_by (at_number (guarded lines).keys d) c ≡ true =
     ap (λ (o : Option (List DriveKey)). opened_by o c) keys ∙ opens in
     let free : not (is_guess (guarded lines) d bytes) ≡ true =
-    (both_true (guarded lines).unguessed _
+    (and_parts (guarded lines).unguessed _
     (sym (ap (λ (g : Guarded). g.unguessed) (fold-append guards _ lines (line.Event (event.Inject d bytes) ∷ [])))
     ∙ clean)).1 in
     let known : was_sent (guarded lines).sent d bytes ≡ true =
     sent_by (opened_by (at_number (guarded lines).keys d) c) (was_sent (guarded lines).sent d bytes)
     (sym (ap (λ (r : Result Command CommandErr). not (is_guess_of (guarded lines) d bytes r)) read) ∙ free) opened in
     let found = any_at _ (sent_in lines) (subst (λ (ss : List Sent). was_sent ss d bytes ≡ true) (guarded_sent lines) known) in
-    let tests = both_true (is_drive d found.1.to) (pointwise nat_eq found.1.bytes bytes) found.3 in
+    let tests = and_parts (is_drive d found.1.to) (pointwise nat_eq found.1.bytes bytes) found.3 in
     let to : found.1.to ≡ party.Drive d = same_drive d found.1.to tests.0 in
     record {
       number = found.0;

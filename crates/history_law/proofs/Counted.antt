@@ -2,7 +2,7 @@
 use Rattle.std.proofs.Common.{◌≡◌, ◌==◌, ℕ, ◌+◌, ◌≤◌, ◌++◌, ◌∷◌, [], List, Bool, true, false, ◌&&◌, nat_le, nat_lt, Option, Some, None, length, map, filter, refl, sym, ap, subst, arith, if◌then◌else◌}
 use Rattle.std.proofs.lemmas.Bool.Decides.{nat_tests}
 use Rattle.std.proofs.lemmas.List.{append_assoc}
-use Rattle.osd_commands.proofs.Passing.{both_true}
+use Rattle.std.proofs.lemmas.Bool.{and_parts}
 use Rattle.osd_lists.specs.declared.node.Node.{Node}
 use Rattle.osd_lists.specs.declared.node.Node.TheVariants as node
 use Rattle.scenario_text.specs.declared.names.TheConstants.{CLIENTS}
@@ -29,7 +29,7 @@ use Rattle.server_rules.specs.Commit.{Committed, NoGrant, Wrong, Sizes, by_commi
 use Rattle.server_rules.specs.Return.{Returned, NoGrant as NotHeld, Clean, Taken, TooMany, Fencing, by_return, returns_on}
 use Rattle.server_rules.specs.Slots.{Admit, New, Again, Misordered}
 use Rattle.server_rules.specs.Requests.{serves, answer_with, carried_out, carries_out, by_admit, on_request}
-use Rattle.server_rules.specs.Messages.{Message, Asks, Replies, Orders, counters_low, by_heard, on_drive_reply, handled, on_message}
+use Rattle.server_rules.specs.Messages.{Message, Asks, Replies, Orders, counters_have_room, by_heard, on_drive_reply, handled, on_message}
 use Rattle.server_rules.specs.Orders.{Ordered, begins_job, starts, recalls_on, declares_known, declare, ordered}
 use Rattle.server_rules.specs.Making.{refusal, unless_refused, makes_file, create_file}
 use Rattle.server_rules.specs.Openings.{reopen}
@@ -128,7 +128,7 @@ either_step s false x y p q = q
 out_counted : (s : Server) (q : ClientRequest) (v : Served) → AtMostOne v → nat_le q.client MAX_CLIENT ≡ true
     → Counted s (carried_out s q v)
 out_counted s q v one named =
-    let front = to_drives s.drives v.going.moved.sent in
+    let front = to_drives s.drives v.going.effects.sent in
     let recalled = recalls_from s.next_recall v.recalled in
     let sent : 1 ≤ length (posts_of ((front ++ recalled) ++ Answers (answer_with s q v) ∷ [])) =
     last_counts (front ++ recalled) (Answers (answer_with s q v)) (named_too q.client named) in
@@ -158,7 +158,7 @@ asked : (s : Server) (now : ℕ) (chosen : List ℕ) (c : ℕ) (q : ClientReques
 unfolding on_request
 asked s now chosen c q false is = none_given s _ refl
 asked s now chosen c q true is =
-    let both = both_true (q.client == c) (nat_le c MAX_CLIENT) is in
+    let both = and_parts (q.client == c) (nat_le c MAX_CLIENT) is in
     admitted s now chosen q _ (subst (λ (n : ℕ). nat_le n MAX_CLIENT ≡ true) (same q.client c both.0) both.1)
   where
     same : (a b : ℕ) → (a == b) ≡ true → b ≡ a
@@ -223,11 +223,11 @@ made_same s n f (Some why) = refl
 pub step_counted : (s : Server) (chosen : List ℕ) (i : Input) → Counted s (step s chosen i)
 unfolding on_message create_file reopen
 step_counted s chosen (Hears now from m) =
-    either_step s (counters_low s) _ _ (message_counted s now chosen from m) (none_given s _ refl)
+    either_step s (counters_have_room s) _ _ (message_counted s now chosen from m) (none_given s _ refl)
 step_counted s chosen (Makes n m tag) = none_given s _ (made_same s n _ (refusal s n m))
 step_counted s chosen (Obeys kind n) = none_given s _ (obeyed s chosen kind n)
 step_counted s chosen (Adds d) = none_given s _ refl
 step_counted s chosen (Formats n) = none_given s _ refl
 step_counted s chosen Resends = none_given s _ refl
 step_counted s chosen Crashes = none_given s _ refl
-step_counted s chosen Opens = either_step s (counters_low s) _ _ (none_given s _ refl) (none_given s _ refl)
+step_counted s chosen Opens = either_step s (counters_have_room s) _ _ (none_given s _ refl) (none_given s _ refl)

@@ -2,8 +2,9 @@
 pub use Rattle.move_law.proofs.Moments.{never_opens}
 use Rattle.std.proofs.Common.{◌≡◌, ◌==◌, ℕ, ◌++◌, ◌∷◌, [], List, Bool, true, false, Option, Some, None, IsSome, is_some, slice_get, option_map, refl, sym, ap, subst, ◌∙◌, append_assoc, inl, inr, if◌then◌else◌}
 use Rattle.std.proofs.lemmas.Bool.{cases_eq, eq-eqb, ne_eqb}
+use Rattle.osd_lists.proofs.Options.{none_there}
 use Rattle.osd_commands.specs.Commands.{reading}
-use Rattle.osd_objects.proofs.Entries.{lookup_inserted, lookup_beside, lookup_set, lookup_set_beside, none_there}
+use Rattle.osd_objects.proofs.Entries.{lookup_inserted, lookup_beside, lookup_set, lookup_set_beside}
 use Rattle.client_rules.specs.Steps.{awaits}
 use Rattle.server_rules.specs.History as server_input
 use Rattle.scenario_text.specs.declared.event.Event.{Event}

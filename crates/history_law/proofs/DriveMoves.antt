@@ -1,9 +1,10 @@
 -- Each move tells of the drives what it does, so they are read off every history.
 use Rattle.std.proofs.Common.{◌≡◌, ℕ, ◌++◌, ◌∷◌, [], List, Bool, true, false, Option, Some, None, IsSome, Result, Ok, Err, is_some, length, fold, slice_get, option_map, refl, sym, ap, subst, ◌∙◌, inl, inr, if◌then◌else◌}
 use Rattle.std.proofs.lemmas.Bool.{cases_eq}
+use Rattle.std.proofs.lemmas.Option.{same_Some}
 use Rattle.osd_lists.specs.declared.node.Node.{Node}
 use Rattle.osd_lists.specs.declared.node.Node.TheVariants as node
-use Rattle.osd_objects.proofs.Entries.{lookup_set, lookup_set_beside, same_some}
+use Rattle.osd_objects.proofs.Entries.{lookup_set, lookup_set_beside}
 use Rattle.server_rules.specs.Files.{Step as ServerStep}
 use Rattle.server_rules.specs.Making.{create_file}
 use Rattle.server_rules.specs.Messages.{Message as ServerMessage}
@@ -175,7 +176,7 @@ module _ (w : World) (i : List ℕ) (before : List Line) (n : ℕ) (p : Posted) 
     drive_told a true failed there = hand_told _ (deaf_hand (marked w n p)) (λ d. stays d (
         ap (option_map (hears_bytes (spelled p.message.body))) there
         ∙ ap (λ (b : Bool). Some (if b then a else (judges a (command_in p.message.body)).drive)) failed ∙ sym there))
-        (λ d x is stands. subst (λ (y : DriveAt). y.failed ≡ true) (same_some a x (sym there
+        (λ d x is stands. subst (λ (y : DriveAt). y.failed ≡ true) (same_Some a x (sym there
         ∙ ap (at_number w.drives) (same_number k d (sym (ap party_of to) ∙ is)) ∙ stands)) failed)
     drive_told a false lives there = record {
       injected = i;

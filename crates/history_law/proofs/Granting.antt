@@ -29,7 +29,7 @@ use Rattle.server_rules.specs.Served.{Served}
 use Rattle.server_rules.specs.Get.{lowest}
 use Rattle.server_rules.specs.Slots.{Admit, New, Again, Misordered, slot_of, admit, admit_after, keep}
 use Rattle.server_rules.specs.Requests.{serves, carried_out, carries_out, by_admit, on_request}
-use Rattle.server_rules.specs.Messages.{Message, Asks, Replies, Orders, counters_low, by_heard, on_drive_reply, handled, on_message, awaited_by}
+use Rattle.server_rules.specs.Messages.{Message, Asks, Replies, Orders, counters_have_room, by_heard, on_drive_reply, handled, on_message, awaited_by}
 use Rattle.server_rules.specs.Orders.{Ordered, begins_job, starts, recalls_on, offline, with_offline, declares_each, declares_known, declare, ordered}
 use Rattle.server_rules.specs.Making.{with_file, refusal, unless_refused, makes_file, create_file}
 use Rattle.server_rules.specs.Openings.{opens_each, reopen}
@@ -104,7 +104,7 @@ out_own s q v k own =
     record {
       slots = keep_own s.slots _ k answer;
       sends =
-          sends_more (to_drives s.drives v.going.moved.sent) _ (drives_own s.drives v.going.moved.sent)
+          sends_more (to_drives s.drives v.going.effects.sent) _ (drives_own s.drives v.going.effects.sent)
           (sends_more (recalls_from s.next_recall v.recalled) _ (recalls_own s.next_recall v.recalled) (answer, tt));
     }
 
@@ -162,10 +162,10 @@ request_own s now chosen q k =
 
 -- a step that sends to drives alone
 at_own : (s : Server) (n : ℕ) (g : Going) → SlotsOwn s.slots → StepOwn (step_at s n g)
-at_own s n g k = record { slots = k; sends = drives_own s.drives g.moved.sent }
+at_own s n g k = record { slots = k; sends = drives_own s.drives g.effects.sent }
 
 round_own : (s : Server) (r : Round) → SlotsOwn s.slots → StepOwn (step_round s r)
-round_own s r k = record { slots = k; sends = drives_own s.drives r.moved.sent }
+round_own s r k = record { slots = k; sends = drives_own s.drives r.effects.sent }
 
 heard_own : (s : Server) (o : Option Going) → SlotsOwn s.slots → StepOwn (by_heard s o)
 heard_own s None k = still_own s k
@@ -229,7 +229,7 @@ made_own s f (Some why) k = still_own s k
 pub step_own : (s : Server) (chosen : List ℕ) (i : Input) → SlotsOwn s.slots → StepOwn (step s chosen i)
 unfolding on_message create_file reopen
 step_own s chosen (Hears now from m) k =
-    either_step (counters_low s) _ _ (message_own s now chosen from m k) (still_own s k)
+    either_step (counters_have_room s) _ _ (message_own s now chosen from m k) (still_own s k)
 step_own s chosen (Makes n m tag) k = made_own s _ (refusal s n m) k
 step_own s chosen (Obeys kind n) k = obeyed_own s chosen kind n k
 step_own s chosen (Adds d) k = record { slots = k; sends = tt }
@@ -237,4 +237,4 @@ step_own s chosen (Formats n) k = record { slots = k; sends = tt }
 step_own s chosen Resends k = record { slots = k; sends = resend_own s.drives s.files }
 step_own s chosen Crashes k = record { slots = k; sends = tt }
 step_own s chosen Opens k =
-    either_step (counters_low s) _ _ (round_own s (opens_each s.format s.drives s.files (begins s)) k) (still_own s k)
+    either_step (counters_have_room s) _ _ (round_own s (opens_each s.format s.drives s.files (begins s)) k) (still_own s k)

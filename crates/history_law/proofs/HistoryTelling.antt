@@ -2,12 +2,12 @@
 use Rattle.std.specs.List.{list_any}
 use Rattle.std.proofs.Common.{◌≡◌, ℕ, ◌<◌, ◌∷◌, [], List, Bool, true, false, not, nat_eq, nat_lt, ◌&&◌, ◌||◌, Option, Some, None, Result, option_map, refl, sym, ap, subst, ◌∙◌, arith, inl, inr, if◌then◌else◌}
 use Rattle.std.proofs.lemmas.Bool.Decides.{nat_tests}
+use Rattle.std.proofs.lemmas.Bool.{and_parts}
 use Rattle.osd_commands.specs.declared.actions.Action.{Action}
 use Rattle.osd_commands.specs.declared.actions.Action.TheVariants as action
 use Rattle.osd_commands.specs.declared.commands.Command.{Command}
 use Rattle.osd_commands.specs.declared.commands.CommandErr.{CommandErr}
 use Rattle.osd_commands.specs.Commands.{reading}
-use Rattle.osd_commands.proofs.Passing.{both_true}
 use Rattle.osd_objects.specs.declared.lanes.LaneEntry.{LaneEntry}
 use Rattle.osd_objects.specs.declared.object.StoredObject.{StoredObject}
 use Rattle.osd_objects.specs.Lanes.{lane_of}
@@ -87,9 +87,9 @@ tag_row d now c t e =
 kept_spent : (c : Command) (o : Option StoredObject)
     → (is_mutating c.action && of_lane (λ l. nat_eq l.nonce c.nonce) (lane_or_none o c.capability.holder)) ≡ true
     → IsSpentOn o c
-kept_spent c None e = absurd (cc (both_true (is_mutating c.action) false e).1)
+kept_spent c None e = absurd (cc (and_parts (is_mutating c.action) false e).1)
 kept_spent c (Some x) e =
-    let tests = both_true (is_mutating c.action) _ e in
+    let tests = and_parts (is_mutating c.action) _ e in
     inr (inr (tests.0, passed (lane_of x.lanes c.capability.holder) tests.1))
   where
     passed : (o : Option LaneEntry) → of_lane (λ l. nat_eq l.nonce c.nonce) o ≡ true → HasPassed o c.nonce
@@ -100,9 +100,9 @@ tag_there : (c : Command) (o : Option StoredObject) (t : ℕ) (b : Bool)
     → (nat_eq (tag_of (option_map state_of o)) t
     && (b && of_object (λ y. not (nat_eq c.capability.tag y.tag)) (option_map state_of o))) ≡ true
     → option_map (λ (x : StoredObject). x.tag) o ≡ Some t
-tag_there c None t b e = absurd (cc (both_true b false (both_true _ (b && false) e).1).1)
+tag_there c None t b e = absurd (cc (and_parts b false (and_parts _ (b && false) e).1).1)
 tag_there c (Some x) t b e =
-    ap (λ (n : ℕ). Some n) (same (both_true (nat_eq x.tag t) _ e).0)
+    ap (λ (n : ℕ). Some n) (same (and_parts (nat_eq x.tag t) _ e).0)
   where
     same : nat_eq x.tag t ≡ true → x.tag ≡ t
     same is = grind (arith, is, nat_tests)

@@ -1,6 +1,6 @@
 -- A file is made on the drives that a placer named, which its CREATEs tell.
 use Rattle.std.proofs.Common.{◌≡◌, ℕ, ◌+◌, ◌==◌, ◌<◌, ◌∷◌, [], List, ◌++◌, Bool, true, false, ◌&&◌, not, Option, Some, None, is_some, find, map, take, length, zero, suc, refl, ap, ◌∙◌, if◌then◌else◌}
-use Rattle.osd_commands.proofs.Passing.{both_true}
+use Rattle.std.proofs.lemmas.Bool.{and_parts}
 use Rattle.osd_capability.specs.Layout.{is_format}
 use Rattle.scenario_text.specs.declared.names.TheConstants.{DRIVES}
 use Rattle.world_history.specs.ServerNames.{Server, Kept, File, Drive, Awaited, RawMap, Refusal, JobKind, Work, Making, Creates}
@@ -36,8 +36,8 @@ chosen_named : (ds : List Drive) (ns : List ℕ) → AreNamed ds → are_of ds n
 unfolding are_of
 chosen_named ds [] a e = tt
 chosen_named ds (n ∷ ns) a e =
-    let one = both_true (is_some (find (λ d. d.number == n) ds)) (not (among n ns) && are_of ds ns) e in
-    let two = both_true (not (among n ns)) (are_of ds ns) one.1 in
+    let one = and_parts (is_some (find (λ d. d.number == n) ds)) (not (among n ns) && are_of ds ns) e in
+    let two = and_parts (not (among n ns)) (are_of ds ns) one.1 in
     (found_named n ds a one.0, chosen_named ds ns a two.1)
 
 first_named : (count : ℕ) (ds : List Drive) → AreNamed ds → AllNamed (take count (map (λ d. d.number) ds))
@@ -54,7 +54,7 @@ places_named ds count chosen a = either ((length chosen == count) && are_of (onl
 
     either : (b : Bool) → ((length chosen == count) && are_of (online ds) chosen) ≡ b
         → AllNamed (if b then chosen else take count (map (λ d. d.number) (online ds)))
-    either true e = chosen_named (online ds) chosen named (both_true (length chosen == count) _ e).1
+    either true e = chosen_named (online ds) chosen named (and_parts (length chosen == count) _ e).1
     either false e = first_named count (online ds) named
 
 -- what was taken is taken again
@@ -96,8 +96,8 @@ creates_told ds f (n ∷ ns) object k nonce h a =
 
 -- what is sent where a job rests, or has nothing to send
 sent_or : (cs : List Awaited) (g : Going) (kind : JobKind) (work : Work) (later : Going)
-    → later.moved.sent ≡ g.moved.sent ++ []
-    → (rests_or cs g kind work later).moved.sent ≡ g.moved.sent ++ cs
+    → later.effects.sent ≡ g.effects.sent ++ []
+    → (rests_or cs g kind work later).effects.sent ≡ g.effects.sent ++ cs
 sent_or [] g kind work later e = e
 sent_or (c ∷ cs) g kind work later e = refl
 
@@ -117,7 +117,7 @@ module _ (s : Server) (number : ℕ) (m : RawMap) (tag : ℕ) (r : IsReadable s)
   abbrev makes_on : List ℕ → Step
   makes_on ns = makes_file s (on ns)
 
-  made_sent : (ns : List ℕ) → (making (at_file (with_file s (on ns)) [] (on ns))).moved.sent
+  made_sent : (ns : List ℕ) → (making (at_file (with_file s (on ns)) [] (on ns))).effects.sent
       ≡ to_all (on ns).kept All Creating s.next_nonce
   unfolding making
   made_sent ns =
@@ -134,7 +134,7 @@ module _ (s : Server) (number : ℕ) (m : RawMap) (tag : ℕ) (r : IsReadable s)
 
   told_on : (ns : List ℕ) → AllNamed ns → (n : ℕ) → placed_by n (makes_on ns).sends ≡ ns
   told_on ns a n =
-      placed_sent s.drives (making (at_file (with_file s (on ns)) [] (on ns))).moved.sent n
+      placed_sent s.drives (making (at_file (with_file s (on ns)) [] (on ns))).effects.sent n
       ∙ ap (placed_of s.drives) (made_sent ns)
       ∙ creates_told s.drives (on ns).kept ns s.next_object 0 s.next_nonce r.format a
 

@@ -28,18 +28,18 @@ placed_of ds cs = flat_map (place ds) cs
 -- these begin with the drives of the CREATEs that it sends, it goes on so, and has used them up.
 pub record Placed (ds : List Drive) (sent : List Awaited) (h : Going) (f : List ℕ → Going) : Type 0 where
   pub more : List Awaited
-  pub sends : h.moved.sent ≡ sent ++ more
+  pub sends : h.effects.sent ≡ sent ++ more
   pub same : (rest : List ℕ) → f (placed_of ds more ++ rest) ≡ choosing h rest
   pub format : is_format h.file.kept.format ≡ true
 
 -- ---- nothing is sent, or no CREATE
 
-pub placed_here : (g : Going) → Fit g → Placed g.drives g.moved.sent g (choosing g)
-placed_here g h = record { more = []; sends = sym (append-nil g.moved.sent); same = λ rest. refl; format = h.format }
+pub placed_here : (g : Going) → Fit g → Placed g.drives g.effects.sent g (choosing g)
+placed_here g h = record { more = []; sends = sym (append-nil g.effects.sent); same = λ rest. refl; format = h.format }
 
 pub placed_rests : (g : Going) (kind : JobKind) (work : Work) (c : Awaited) (cs : List Awaited) → Fit g
     → placed_of g.drives (c ∷ cs) ≡ []
-    → Placed g.drives g.moved.sent (rests g kind work c cs) (λ x. rests (choosing g x) kind work c cs)
+    → Placed g.drives g.effects.sent (rests g kind work c cs) (λ x. rests (choosing g x) kind work c cs)
 placed_rests g kind work c cs h none = record {
   more = c ∷ cs;
   sends = refl;
@@ -49,8 +49,8 @@ placed_rests g kind work c cs h none = record {
 
 pub placed_or : (cs : List Awaited) (g : Going) (kind : JobKind) (work : Work) (later : Going) (f : List ℕ → Going)
     → Fit g
-    → placed_of g.drives cs ≡ [] → Placed g.drives g.moved.sent later f
-    → Placed g.drives g.moved.sent (rests_or cs g kind work later) (λ x. rests_or cs (choosing g x) kind work (f x))
+    → placed_of g.drives cs ≡ [] → Placed g.drives g.effects.sent later f
+    → Placed g.drives g.effects.sent (rests_or cs g kind work later) (λ x. rests_or cs (choosing g x) kind work (f x))
 placed_or [] g kind work later f h none p = p
 placed_or (c ∷ cs) g kind work later f h none p = placed_rests g kind work c cs h none
 

@@ -18,21 +18,21 @@ use Rattle.history_law.proofs.Placing.{choosing, Fit, placed_of, Placed, placed_
 -- ---- an audit
 
 pub audits_placed : (g : Going) (ps : List Piece) (t : Tally) → Fit g
-    → Placed g.drives g.moved.sent (audits g ps t) (λ x. audits (choosing g x) ps t)
+    → Placed g.drives g.effects.sent (audits g ps t) (λ x. audits (choosing g x) ps t)
 unfolding audits
 audits_placed g [] t h = placed_here (audited g t) h
 audits_placed g (p ∷ ps) t h =
-    placed_or (reads g.file.kept p g.moved.nonce) g Auditing _ _
+    placed_or (reads g.file.kept p g.effects.nonce) g Auditing _ _
     (λ x. audits (choosing g x) ps (tallied g.file.kept p t)) h
-    (none_each g.drives g.file.kept _ _ g.file.kept.components 0 g.moved.nonce (λ f k drive object nonce. refl))
+    (none_each g.drives g.file.kept _ _ g.file.kept.components 0 g.effects.nonce (λ f k drive object nonce. refl))
     (audits_placed g ps (tallied g.file.kept p t) h)
 
 pub audit_placed : (g : Going) → Fit g
-    → Placed g.drives g.moved.sent (audit_begins g) (λ x. audit_begins (choosing g x))
+    → Placed g.drives g.effects.sent (audit_begins g) (λ x. audit_begins (choosing g x))
 unfolding audit_begins
 audit_placed g h =
-    placed_or (to_all g.file.kept All Measuring g.moved.nonce) g Auditing _ _ (λ x. audits_all (choosing g x) []) h
-    (none_each g.drives g.file.kept _ _ g.file.kept.components 0 g.moved.nonce (λ f k drive object nonce. refl))
+    placed_or (to_all g.file.kept All Measuring g.effects.nonce) g Auditing _ _ (λ x. audits_all (choosing g x) []) h
+    (none_each g.drives g.file.kept _ _ g.file.kept.components 0 g.effects.nonce (λ f k drive object nonce. refl))
     (audits_placed g _ _ h)
 
 -- ---- the drive of a target
@@ -84,37 +84,37 @@ abbrev target_of : Going → (missing : Bool) → (k : ℕ) → (free : List Dri
 target_of g b k free = if b then target_on g k (picked g.chosen free) else None
 
 makes_placed : (g : Going) (k : ℕ) (d : Drive) (ds : List Drive) → Fit g → AreNamed (d ∷ ds)
-    → Placed g.drives g.moved.sent
-    (makes g (record { component = k; drive = or_first g.chosen d ds; object = g.moved.object }))
-    (λ x. makes (choosing g x) (record { component = k; drive = or_first x d ds; object = g.moved.object }))
+    → Placed g.drives g.effects.sent
+    (makes g (record { component = k; drive = or_first g.chosen d ds; object = g.effects.object }))
+    (λ x. makes (choosing g x) (record { component = k; drive = or_first x d ds; object = g.effects.object }))
 makes_placed g k d ds h named =
     let drive = or_first g.chosen d ds in
-    let create = sent_to g.file.kept Creating k drive g.moved.object g.moved.nonce in
+    let create = sent_to g.file.kept Creating k drive g.effects.object g.effects.nonce in
     let places : placed_of g.drives (create ∷ []) ≡ drive ∷ [] = ap (λ (ns : List ℕ). ns ++ [])
-    (place_create g.drives g.file.kept k drive g.moved.object g.moved.nonce h.format
+    (place_create g.drives g.file.kept k drive g.effects.object g.effects.nonce h.format
     (first_named g.chosen d ds named)) in
     record {
       more = create ∷ [];
       sends = refl;
       same = λ rest. ap (λ (ns : List ℕ). makes (choosing g (ns ++ rest))
-          (record { component = k; drive = or_first (ns ++ rest) d ds; object = g.moved.object })) places
+          (record { component = k; drive = or_first (ns ++ rest) d ds; object = g.effects.object })) places
           ∙ ap (λ (n : ℕ). makes (choosing g (drive ∷ rest))
-          (record { component = k; drive = n; object = g.moved.object }))
+          (record { component = k; drive = n; object = g.effects.object }))
           (first_again g.chosen d ds rest);
       format = h.format;
     }
 
 made_or : (g : Going) (b : Bool) (k : ℕ) (free : List Drive) (later : Going) (f : List ℕ → Going) → Fit g
     → AreNamed free
-    → Placed g.drives g.moved.sent later f
-    → Placed g.drives g.moved.sent (makes_or g (target_of g b k free) later)
+    → Placed g.drives g.effects.sent later f
+    → Placed g.drives g.effects.sent (makes_or g (target_of g b k free) later)
     (λ x. makes_or (choosing g x) (target_of (choosing g x) b k free) (f x))
 made_or g false k free later f h named p = p
 made_or g true k [] later f h named p = p
 made_or g true k (d ∷ ds) later f h named p = makes_placed g k d ds h named
 
 pub rebuilds_placed : (g : Going) (cs : List Component) (k : ℕ) → Fit g
-    → Placed g.drives g.moved.sent (rebuilds g cs k) (λ x. rebuilds (choosing g x) cs k)
+    → Placed g.drives g.effects.sent (rebuilds g cs k) (λ x. rebuilds (choosing g x) cs k)
 unfolding rebuilds target_for
 rebuilds_placed g [] k h = placed_here (over g) h
 rebuilds_placed g (at ∷ cs) k h =
@@ -124,7 +124,7 @@ rebuilds_placed g (at ∷ cs) k h =
     (rebuilds_placed (noting_if at.missing g (NoDrive k)) cs (k + 1) h)
 
 pub past_placed : (g : Going) (t : Target) → Fit g
-    → Placed g.drives g.moved.sent (goes_past g t) (λ x. goes_past (choosing g x) t)
+    → Placed g.drives g.effects.sent (goes_past g t) (λ x. goes_past (choosing g x) t)
 past_placed g t h = rebuilds_placed g _ _ h
 
 -- ---- its pieces
@@ -140,37 +140,37 @@ none_sources ds f t p nonce None = either (is_beyond f.map f.components (group_f
     either false = none_each ds f _ _ f.components 0 nonce (λ g k drive object n. refl)
 
 pub fills_placed : (g : Going) (t : Target) (ps : List Piece) → Fit g
-    → Placed g.drives g.moved.sent (fills g t ps) (λ x. fills (choosing g x) t ps)
+    → Placed g.drives g.effects.sent (fills g t ps) (λ x. fills (choosing g x) t ps)
 unfolding fills sources
 fills_placed g t [] h =
     past_placed (noting (with_components g (slice_set g.file.kept.components t.component (stands_at t)))
     (Rebuilt t.component t.drive)) t h
 fills_placed g t (p ∷ ps) h =
-    placed_or (sources g.file.kept t p g.moved.nonce) g Rebuilding _ _ (λ x. lost (choosing g x) t) h
-    (none_sources g.drives g.file.kept t p g.moved.nonce
+    placed_or (sources g.file.kept t p g.effects.nonce) g Rebuilding _ _ (λ x. lost (choosing g x) t) h
+    (none_sources g.drives g.file.kept t p g.effects.nonce
     (replica g.file.kept.map g.file.kept.components (position_for g.file.kept t)))
     (past_placed (noting g _) t h)
 
 pub filling_placed : (g : Going) (t : Target) (p : Piece) (ps : List Piece) (bytes : List ℕ) → Fit g
-    → Placed g.drives g.moved.sent (filling g t p ps bytes) (λ x. filling (choosing g x) t p ps bytes)
+    → Placed g.drives g.effects.sent (filling g t p ps bytes) (λ x. filling (choosing g x) t p ps bytes)
 unfolding filling
 filling_placed g t p ps bytes h = either (nat_lt 0 (end_of bytes (replicate p.count 0)))
   where
-    either : (b : Bool) → Placed g.drives g.moved.sent
+    either : (b : Bool) → Placed g.drives g.effects.sent
         (if b then rests g Rebuilding (Fills t (p ∷ ps))
-        (to_fill g.file.kept t p bytes g.moved.nonce) [] else fills g t ps)
+        (to_fill g.file.kept t p bytes g.effects.nonce) [] else fills g t ps)
         (λ x. if b then rests (choosing g x) Rebuilding (Fills t (p ∷ ps))
-        (to_fill g.file.kept t p bytes g.moved.nonce) []
+        (to_fill g.file.kept t p bytes g.effects.nonce) []
         else fills (choosing g x) t ps)
     either true = placed_rests g Rebuilding _ _ [] h (none_one g.drives _ refl)
     either false = fills_placed g t ps h
 
 pub gone_placed : (g : Going) (t : Target) → Fit g
-    → Placed g.drives g.moved.sent (target_gone g t) (λ x. target_gone (choosing g x) t)
+    → Placed g.drives g.effects.sent (target_gone g t) (λ x. target_gone (choosing g x) t)
 gone_placed g t h = past_placed (noting g (NoDrive t.component)) t h
 
 pub full_placed : (g : Going) (t : Target) → Fit g
-    → Placed g.drives g.moved.sent (target_full g t) (λ x. target_full (choosing g x) t)
+    → Placed g.drives g.effects.sent (target_full g t) (λ x. target_full (choosing g x) t)
 full_placed g t h = past_placed (noting g (NoSpace t.component)) t h
 
 -- ---- a repair
@@ -193,36 +193,36 @@ none_to_repair ds f p nonce = either (is_left f p)
     either false = none_each ds f _ _ f.components 0 nonce (λ g k drive object n. refl)
 
 after_placed : (kind : JobKind) (g : Going) → Fit g
-    → Placed g.drives g.moved.sent (after_repair kind g) (λ x. after_repair kind (choosing g x))
+    → Placed g.drives g.effects.sent (after_repair kind g) (λ x. after_repair kind (choosing g x))
 after_placed Making g h = placed_here (over g) h
 after_placed Revoking g h = placed_here (over g) h
 after_placed Rebuilding g h = rebuilds_placed g g.file.kept.components 0 h
 after_placed Auditing g h = audit_placed g h
 
 pub repairs_placed : (kind : JobKind) (g : Going) (ps : List Piece) (short : List ℕ) → Fit g
-    → Placed g.drives g.moved.sent (repairs kind g ps short) (λ x. repairs kind (choosing g x) ps short)
+    → Placed g.drives g.effects.sent (repairs kind g ps short) (λ x. repairs kind (choosing g x) ps short)
 unfolding repairs
 repairs_placed kind g [] short h = after_placed kind (mended g short) h
 repairs_placed kind g (p ∷ ps) short h =
-    placed_or (repair_reads g.file.kept p g.moved.nonce) g kind _ _
+    placed_or (repair_reads g.file.kept p g.effects.nonce) g kind _ _
     (λ x. repairs kind (choosing g x) ps (short_with g.file.kept p short)) h
-    (none_to_repair g.drives g.file.kept p g.moved.nonce) (repairs_placed kind g ps (short_with g.file.kept p short) h)
+    (none_to_repair g.drives g.file.kept p g.effects.nonce) (repairs_placed kind g ps (short_with g.file.kept p short) h)
 
 pub storing_placed : (kind : JobKind) (g : Going) (p : Piece) (ps : List Piece) (short : List ℕ) (heard : List Heard)
     → Fit g
-    → Placed g.drives g.moved.sent (storing kind g p ps short heard) (λ x. storing kind (choosing g x) p ps short heard)
+    → Placed g.drives g.effects.sent (storing kind g p ps short heard) (λ x. storing kind (choosing g x) p ps short heard)
 unfolding storing
 storing_placed kind g p ps short heard h =
-    placed_or (stores g.file.kept p heard g.moved.nonce) g kind _ _ (λ x. repairs kind (choosing g x) ps short) h
-    (none_stored g.drives g.file.kept p _ heard g.file.kept.components 0 g.moved.nonce)
+    placed_or (stores g.file.kept p heard g.effects.nonce) g kind _ _ (λ x. repairs kind (choosing g x) ps short) h
+    (none_stored g.drives g.file.kept p _ heard g.file.kept.components 0 g.effects.nonce)
     (repairs_placed kind g ps short h)
 
 pub stored_placed : (kind : JobKind) (g : Going) (p : Piece) (ps : List Piece) (short : List ℕ) (again : Bool) → Fit g
-    → Placed g.drives g.moved.sent (stored kind g p ps short again) (λ x. stored kind (choosing g x) p ps short again)
+    → Placed g.drives g.effects.sent (stored kind g p ps short again) (λ x. stored kind (choosing g x) p ps short again)
 stored_placed kind g p ps short true h = repairs_placed kind g (p ∷ ps) short h
 stored_placed kind g p ps short false h = repairs_placed kind g ps short h
 
 pub repair_placed : (kind : JobKind) (g : Going) → Fit g
-    → Placed g.drives g.moved.sent (repair_begins kind g) (λ x. repair_begins kind (choosing g x))
+    → Placed g.drives g.effects.sent (repair_begins kind g) (λ x. repair_begins kind (choosing g x))
 unfolding repair_begins
 repair_placed kind g h = repairs_placed kind g _ [] h

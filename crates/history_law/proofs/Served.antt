@@ -27,7 +27,7 @@ use Rattle.history_law.proofs.BookGoing.{fence_placed, waits_placed, loses_place
 -- matter.
 pub record Ends (ds : List Drive) (sent : List Awaited) (h : Going) (f : List ℕ → Going) : Type 0 where
   pub more : List Awaited
-  pub sends : h.moved.sent ≡ sent ++ more
+  pub sends : h.effects.sent ≡ sent ++ more
   pub left : List ℕ
   pub same : f (placed_of ds more) ≡ choosing h left
   pub format : is_format h.file.kept.format ≡ true
@@ -43,7 +43,7 @@ ends_placed ds sent h f p = record {
 }
 
 full_up_placed : (g : Going) (j : Job) (a : Awaited) (work : Work) → Fit g
-    → Placed g.drives g.moved.sent (fills_up g j a work) (λ x. fills_up (choosing g x) j a work)
+    → Placed g.drives g.effects.sent (fills_up g j a work) (λ x. fills_up (choosing g x) j a work)
 full_up_placed g j a (Targets t) h = full_placed g t h
 full_up_placed g j a (Gathers t todo) h = full_placed g t h
 full_up_placed g j a (Fills t todo) h = full_placed g t h
@@ -53,7 +53,7 @@ full_up_placed g j a work h =
     work (others j.awaited a.command.nonce) false h
 
 hears_ends : (g : Going) (j : Job) (a : Awaited) (r : Reply) (v : Hearing) → Fit g
-    → Ends g.drives g.moved.sent (hears g j a r v) (λ x. hears (choosing g x) j a r v)
+    → Ends g.drives g.effects.sent (hears g j a r v) (λ x. hears (choosing g x) j a r v)
 hears_ends g j a r Older h = record { more = _; sends = refl; left = _; same = refl; format = refl }
 hears_ends g j a r Full h = ends_placed _ _ _ _ (full_up_placed g j a j.work h)
 hears_ends g j a r Done h =
@@ -64,24 +64,24 @@ hears_ends g j a r Nothing h = ends_placed _ _ _ _ (placed_here g h)
 abbrev pub HeardAs : List Drive → List Awaited → Option Going → (List ℕ → Option Going) → Type 0
 HeardAs ds sent None f = (x : List ℕ) → f x ≡ None
 HeardAs ds sent (Some h) f =
-    (more : List Awaited) × (left : List ℕ) × (h.moved.sent ≡ sent ++ more) ×
+    (more : List Awaited) × (left : List ℕ) × (h.effects.sent ≡ sent ++ more) ×
     (f (placed_of ds more) ≡ Some (choosing h left)) ×
     (is_format h.file.kept.format ≡ true)
 
 by_placed : (g : Going) (r : Reply) (j : Job) (a : Option Awaited) → Fit g
-    → HeardAs g.drives g.moved.sent (heard_by g r j a) (λ x. heard_by (choosing g x) r j a)
+    → HeardAs g.drives g.effects.sent (heard_by g r j a) (λ x. heard_by (choosing g x) r j a)
 by_placed g r j None h = λ x. refl
 by_placed g r j (Some a) h =
     let e = hears_ends g j a r (hearing g.file.kept a r) h in
     (e.more, e.left, e.sends, ap (λ (y : Going). Some y) e.same, e.format)
 
 in_placed : (g : Going) (drive : ℕ) (r : Reply) (j : Option Job) → Fit g
-    → HeardAs g.drives g.moved.sent (heard_in g drive r j) (λ x. heard_in (choosing g x) drive r j)
+    → HeardAs g.drives g.effects.sent (heard_in g drive r j) (λ x. heard_in (choosing g x) drive r j)
 in_placed g drive r None h = λ x. refl
 in_placed g drive r (Some j) h = by_placed g r j (find (answers drive r) j.awaited) h
 
 pub reply_placed : (g : Going) (drive : ℕ) (r : Reply) → Fit g
-    → HeardAs g.drives g.moved.sent (on_reply g drive r) (λ x. on_reply (choosing g x) drive r)
+    → HeardAs g.drives g.effects.sent (on_reply g drive r) (λ x. on_reply (choosing g x) drive r)
 unfolding on_reply
 reply_placed g drive r h = in_placed g drive r g.file.job h
 
@@ -90,11 +90,11 @@ reply_placed g drive r h = in_placed g drive r g.file.job h
 -- A request is served so, and so it is with the drives of the CREATEs that are sent.
 pub record Serves (ds : List Drive) (sent : List Awaited) (v : Served) (f : List ℕ → Served) : Type 0 where
   pub more : List Awaited
-  pub sends : v.going.moved.sent ≡ sent ++ more
+  pub sends : v.going.effects.sent ≡ sent ++ more
   pub same : (rest : List ℕ) → f (placed_of ds more ++ rest) ≡ record v { going = choosing v.going rest }
   pub format : is_format v.going.file.kept.format ≡ true
 
-serves_here : (ds : List Drive) (sent : List Awaited) (v : Served) → v.going.moved.sent ≡ sent
+serves_here : (ds : List Drive) (sent : List Awaited) (v : Served) → v.going.effects.sent ≡ sent
     → is_format v.going.file.kept.format ≡ true → Serves ds sent v (λ x. record v { going = choosing v.going x })
 serves_here ds sent v same format = record {
   more = [];
@@ -105,7 +105,7 @@ serves_here ds sent v same format = record {
 
 -- behind something else that was done at the file
 serves_then : (ds : List Drive) (sent : List Awaited) (h : Going) (f : List ℕ → Going) (k : Going → Served)
-    → Placed ds sent h f → Serves ds h.moved.sent (k h) (λ x. k (choosing h x)) → Serves ds sent (k h) (λ x. k (f x))
+    → Placed ds sent h f → Serves ds h.effects.sent (k h) (λ x. k (choosing h x)) → Serves ds sent (k h) (λ x. k (f x))
 serves_then ds sent h f k p q = record {
   more = p.more ++ q.more;
   sends = q.sends ∙ ap (λ (cs : List Awaited). cs ++ q.more) p.sends ∙ append_assoc sent p.more q.more;
@@ -124,93 +124,93 @@ serves_either ds sent false v u f k p q = q
 -- ---- LAYOUTGET
 
 late_serves : (ds : List Drive) (go : Going) (g : Grant) (l : Late) → is_format go.file.kept.format ≡ true
-    → Serves ds go.moved.sent (by_late go g l) (λ x. by_late (choosing go x) g l)
-late_serves ds go g NoNumber h = serves_here ds go.moved.sent _ refl h
-late_serves ds go g (Lacks k) h = serves_here ds go.moved.sent _ refl h
-late_serves ds go g (Conflict holder) h = serves_here ds go.moved.sent _ refl h
-late_serves ds go g Gives h = serves_here ds go.moved.sent _ refl h
+    → Serves ds go.effects.sent (by_late go g l) (λ x. by_late (choosing go x) g l)
+late_serves ds go g NoNumber h = serves_here ds go.effects.sent _ refl h
+late_serves ds go g (Lacks k) h = serves_here ds go.effects.sent _ refl h
+late_serves ds go g (Conflict holder) h = serves_here ds go.effects.sent _ refl h
+late_serves ds go g Gives h = serves_here ds go.effects.sent _ refl h
 
 give_serves : (ds : List Drive) (go : Going) (next : ℕ) (g : Grant) → is_format go.file.kept.format ≡ true
-    → Serves ds go.moved.sent (give_or_refuse go next g) (λ x. give_or_refuse (choosing go x) next g)
+    → Serves ds go.effects.sent (give_or_refuse go next g) (λ x. give_or_refuse (choosing go x) next g)
 unfolding give_or_refuse
 give_serves ds go next g h = late_serves ds go g (late go.file.kept next g) h
 
 after_serves : (ds : List Drive) (go : Going) (next : ℕ) (g : Grant) (j : Option Job)
     → is_format go.file.kept.format ≡ true
-    → Serves ds go.moved.sent (after_fence go next g j) (λ x. after_fence (choosing go x) next g j)
+    → Serves ds go.effects.sent (after_fence go next g j) (λ x. after_fence (choosing go x) next g j)
 after_serves ds go next g None h = give_serves ds go next g h
-after_serves ds go next g (Some j) h = serves_here ds go.moved.sent _ refl h
+after_serves ds go next g (Some j) h = serves_here ds go.effects.sent _ refl h
 
 fence_serves : (go : Going) (next format : ℕ) (g : Grant) → is_format format ≡ true → Fit go
-    → Serves go.drives go.moved.sent (fence_first go next format g) (λ x. fence_first (choosing go x) next format g)
+    → Serves go.drives go.effects.sent (fence_first go next format g) (λ x. fence_first (choosing go x) next format g)
 unfolding fence_first
 fence_serves go next format g known h =
     let p = fence_placed Revoking format go known h in
-    serves_either go.drives go.moved.sent (go.file.kept.tag == GREATEST_TAG) _ _
+    serves_either go.drives go.effects.sent (go.file.kept.tag == GREATEST_TAG) _ _
     (λ x. says (noting (choosing go x) Spent) NFS4ERR_LAYOUTUNAVAILABLE NO_COMPONENT)
     (λ x. fence_then (fence_begins Revoking format (choosing go x)) next g)
-    (serves_here go.drives go.moved.sent _ refl h.format)
-    (serves_then go.drives go.moved.sent (fence_begins Revoking format go) _ (λ y. fence_then y next g) p
+    (serves_here go.drives go.effects.sent _ refl h.format)
+    (serves_then go.drives go.effects.sent (fence_begins Revoking format go) _ (λ y. fence_then y next g) p
     (after_serves go.drives (fence_begins Revoking format go) next g
     (fence_begins Revoking format go).file.job p.format))
 
 grants_serve : (go : Going) (next format now : ℕ) (g : Grant) → is_format format ≡ true → Fit go
-    → Serves go.drives go.moved.sent (on_grants go next format now g) (λ x. on_grants (choosing go x) next format now g)
+    → Serves go.drives go.effects.sent (on_grants go next format now g) (λ x. on_grants (choosing go x) next format now g)
 unfolding on_grants
 grants_serve go next format now g known h =
-    serves_either go.drives go.moved.sent (must_fence now go.file.kept.grants g) _ _
+    serves_either go.drives go.effects.sent (must_fence now go.file.kept.grants g) _ _
     (λ x. fence_first (choosing go x) next format g) (λ x. give_or_refuse (choosing go x) next g)
     (fence_serves go next format g known h) (give_serves go.drives go next g h.format)
 
 early_serves : (go : Going) (next format now : ℕ) (g : Grant) (e : Early) → is_format format ≡ true → Fit go
-    → Serves go.drives go.moved.sent (by_early go next format now g e)
+    → Serves go.drives go.effects.sent (by_early go next format now g e)
     (λ x. by_early (choosing go x) next format now g e)
-early_serves go next format now g BadMode known h = serves_here go.drives go.moved.sent _ refl h.format
-early_serves go next format now g Invalid known h = serves_here go.drives go.moved.sent _ refl h.format
-early_serves go next format now g Unable known h = serves_here go.drives go.moved.sent _ refl h.format
-early_serves go next format now g (Waits k) known h = serves_here go.drives go.moved.sent _ refl h.format
+early_serves go next format now g BadMode known h = serves_here go.drives go.effects.sent _ refl h.format
+early_serves go next format now g Invalid known h = serves_here go.drives go.effects.sent _ refl h.format
+early_serves go next format now g Unable known h = serves_here go.drives go.effects.sent _ refl h.format
+early_serves go next format now g (Waits k) known h = serves_here go.drives go.effects.sent _ refl h.format
 early_serves go next format now g On known h = grants_serve go next format now g known h
 
 -- ---- LAYOUTCOMMIT and LAYOUTRETURN
 
 commit_serves : (go : Going) (c : Committed) → Fit go
-    → Serves go.drives go.moved.sent (by_commit go c) (λ x. by_commit (choosing go x) c)
-commit_serves go NoCommit h = serves_here go.drives go.moved.sent _ refl h.format
-commit_serves go Wrong h = serves_here go.drives go.moved.sent _ refl h.format
-commit_serves go (Sizes size) h = serves_here go.drives go.moved.sent _ refl h.format
+    → Serves go.drives go.effects.sent (by_commit go c) (λ x. by_commit (choosing go x) c)
+commit_serves go NoCommit h = serves_here go.drives go.effects.sent _ refl h.format
+commit_serves go Wrong h = serves_here go.drives go.effects.sent _ refl h.format
+commit_serves go (Sizes size) h = serves_here go.drives go.effects.sent _ refl h.format
 
 reports_placed : (go : Going) (ks : List ℕ) (cs : List Component) (k : ℕ) → Fit go
-    → Placed go.drives go.moved.sent (reports_from go ks cs k) (λ x. reports_from (choosing go x) ks cs k)
+    → Placed go.drives go.effects.sent (reports_from go ks cs k) (λ x. reports_from (choosing go x) ks cs k)
 unfolding reports_from
 reports_placed go ks [] k h = placed_here go h
 reports_placed go ks (at ∷ cs) k h = reports_placed (noting_if (among k ks) go (Reported k)) ks cs (k + 1) h
 
 taken_serves : (go : Going) (client : ℕ) (ks : List ℕ) → Fit go
-    → Serves go.drives go.moved.sent (says (ends_grant (takes_loss go ks) client) NFS4_OK LOSS_TAKEN)
+    → Serves go.drives go.effects.sent (says (ends_grant (takes_loss go ks) client) NFS4_OK LOSS_TAKEN)
     (λ x. says (ends_grant (takes_loss (choosing go x) ks) client) NFS4_OK LOSS_TAKEN)
 unfolding takes_loss
 taken_serves go client ks h =
     let g : Going = keeping go (record go.file.kept { components = lose_from ks go.file.kept.components 0 }) in
     let p = reports_placed g ks go.file.kept.components 0 h in
-    serves_then go.drives go.moved.sent (reports_from g ks go.file.kept.components 0) _
+    serves_then go.drives go.effects.sent (reports_from g ks go.file.kept.components 0) _
     (λ y. says (ends_grant y client) NFS4_OK LOSS_TAKEN) p
     (serves_here go.drives _ _ refl p.format)
 
 return_serves : (go : Going) (format client : ℕ) (r : Returned) → is_format format ≡ true → Fit go
-    → Serves go.drives go.moved.sent (by_return go format client r) (λ x. by_return (choosing go x) format client r)
-return_serves go format client NoGrant known h = serves_here go.drives go.moved.sent _ refl h.format
-return_serves go format client Clean known h = serves_here go.drives go.moved.sent _ refl h.format
+    → Serves go.drives go.effects.sent (by_return go format client r) (λ x. by_return (choosing go x) format client r)
+return_serves go format client NoGrant known h = serves_here go.drives go.effects.sent _ refl h.format
+return_serves go format client Clean known h = serves_here go.drives go.effects.sent _ refl h.format
 return_serves go format client (Taken ks) known h = taken_serves go client ks h
-return_serves go format client TooMany known h = serves_here go.drives go.moved.sent _ refl h.format
+return_serves go format client TooMany known h = serves_here go.drives go.effects.sent _ refl h.format
 return_serves go format client Fencing known h =
     let p = fence_placed Revoking format go known h in
-    serves_then go.drives go.moved.sent (fence_begins Revoking format go) _ (λ y. says y NFS4_OK 0) p
+    serves_then go.drives go.effects.sent (fence_begins Revoking format go) _ (λ y. says y NFS4_OK 0) p
     (serves_here go.drives _ _ refl p.format)
 
 -- ---- any request
 
 pub request_serves : (go : Going) (next format now client : ℕ) (a : RequestArgs) → is_format format ≡ true → Fit go
-    → Serves go.drives go.moved.sent (serves go next format now client a)
+    → Serves go.drives go.effects.sent (serves go next format now client a)
     (λ x. serves (choosing go x) next format now client a)
 unfolding gets commits returns_on
 request_serves go next format now client (Get iomode offset count) known h = early_serves go next format now _ _ known h

@@ -6,6 +6,7 @@ use Rattle.std.specs.Ordering.{nat_cmp}
 use Rattle.std.specs.BTreeMap.{insert_entry}
 use Rattle.std.proofs.lemmas.List.{append-nil}
 use Rattle.std.proofs.lemmas.List.Sums.{fold-append}
+use Rattle.std.proofs.lemmas.Option.{same_Some}
 use Rattle.osd_commands.specs.declared.actions.Action.{Action}
 use Rattle.osd_commands.specs.declared.actions.Action.TheVariants as action
 use Rattle.osd_commands.specs.declared.commands.Command.{Command}
@@ -16,7 +17,7 @@ use Rattle.osd_objects.specs.declared.object.StoredObject.{StoredObject}
 use Rattle.osd_objects.specs.Lanes.{lane_of, with_lane}
 use Rattle.osd_objects.specs.Objects.{state_of, after_write, after_set_attr, after_set_tag}
 use Rattle.osd_objects.specs.Store.{StoreState, object_at, lane_or_none, changed_if_there}
-use Rattle.osd_objects.proofs.Entries.{lookup_inserted, lookup_beside, lookup_set, lookup_set_beside, same_some}
+use Rattle.osd_objects.proofs.Entries.{lookup_inserted, lookup_beside, lookup_set, lookup_set_beside}
 use Rattle.osd_drive.specs.declared.verdict.Verdict.{Verdict}
 use Rattle.osd_drive.specs.declared.verdict.Verdict.TheVariants as verdict
 use Rattle.osd_drive.specs.Table.{first_fault, is_create, is_mutating, of_object, of_lane}
@@ -363,7 +364,7 @@ module _ (h : List Line) (each : EachBehind HoldsAt [] h) where
     where
       on_object : (o : Option StoredObject) → option_map (λ (x : StoredObject). x.tag) o ≡ Some tag → IsSpentOn o c
       on_object None e = absurd (cc e)
-      on_object (Some x) e = inr (inl (omega (arith, less, same_some x.tag tag e)))
+      on_object (Some x) e = inr (inl (omega (arith, less, same_Some x.tag tag e)))
 
   pub old_tags : RefusesOldTags h
   old_tags first middle after l is d object tag old bytes c j read it = elim (cases_lt c.capability.tag tag) [

@@ -138,7 +138,7 @@ pub step_placed : (s : Server) (number : ℕ) (h : Going) (f : List ℕ → Goin
     → IsPlaced s (step_at s number h) (λ x. step_at s number (f x))
 step_placed s number h f r e = record {
   same = λ n. ap (λ (ns : List ℕ). step_at s number (f ns))
-      (placed_sent s.drives h.moved.sent n ∙ ap (placed_of s.drives) e.sends)
+      (placed_sent s.drives h.effects.sent n ∙ ap (placed_of s.drives) e.sends)
       ∙ ap (step_at s number) e.same;
   readable = record {
     drives = r.drives;

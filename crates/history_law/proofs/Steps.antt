@@ -8,7 +8,7 @@ use Rattle.osd_lists.specs.declared.node.Node.TheVariants as node
 use Rattle.osd_capability.specs.Layout.{is_format}
 use Rattle.scenario_text.specs.declared.names.TheConstants.{DRIVES}
 use Rattle.server_rules.specs.declared.limits.TheConstants.{MAX_CLIENT, GREATEST_TAG}
-use Rattle.world_history.specs.ServerNames.{Server, File, Drive, Awaited, Moved, Job, JobKind, Revoking, Rebuilding, Auditing, ClientRequest, Reply, OrderResult, IsSpent, HasStarted, OrderKind, ToRecall, ToRevoke, ToDeclare, ToRebuild, ToAudit, Busy, Spent, Answers, AnswersOrder}
+use Rattle.world_history.specs.ServerNames.{Server, File, Drive, Awaited, Effects, Job, JobKind, Revoking, Rebuilding, Auditing, ClientRequest, Reply, OrderResult, IsSpent, HasStarted, OrderKind, ToRecall, ToRevoke, ToDeclare, ToRebuild, ToAudit, Busy, Spent, Answers, AnswersOrder}
 use Rattle.server_rules.specs.Going.{Going, noting}
 use Rattle.server_rules.specs.Get.{lowest}
 use Rattle.server_rules.specs.Replies.{on_reply}
@@ -18,7 +18,7 @@ use Rattle.server_rules.specs.Jobs.{fence_begins, declares}
 use Rattle.server_rules.specs.Files.{Step, still, begins, file_at, at_file, step_at, to_drives}
 use Rattle.server_rules.specs.Rounds.{Round, then_files, step_round}
 use Rattle.server_rules.specs.Requests.{carried_out, carries_out, by_admit, on_request}
-use Rattle.server_rules.specs.Messages.{heard_at, or_else, by_heard, on_drive_reply, Message, Asks, Replies, Orders, handled, on_message, counters_low}
+use Rattle.server_rules.specs.Messages.{heard_at, or_else, by_heard, on_drive_reply, Message, Asks, Replies, Orders, handled, on_message, counters_have_room}
 use Rattle.server_rules.specs.Orders.{Ordered, begins_job, starts, recalls_on, offline, declares_each, with_offline, declare, declares_known, ordered, with_result}
 use Rattle.history_law.specs.Placed.{AreNamed, HaveFormats, IsReadable, placed_by}
 use Rattle.history_law.proofs.Creating.{place}
@@ -34,9 +34,9 @@ served_placed : (s : Server) (q : ClientRequest) (v : Served) (f : List ℕ → 
     → IsPlaced s (carried_out s q v) (λ x. carried_out s q (f x))
 served_placed s q v f r e = record {
   same = λ n. ap (λ (ns : List ℕ). carried_out s q (f ns))
-      (placed_more (to_drives s.drives v.going.moved.sent) _
+      (placed_more (to_drives s.drives v.going.effects.sent) _
       (recalls_to_others s.next_recall v.recalled (Answers _ ∷ []) tt) n
-      ∙ placed_sent s.drives v.going.moved.sent n ∙ ap (placed_of s.drives) e.sends
+      ∙ placed_sent s.drives v.going.effects.sent n ∙ ap (placed_of s.drives) e.sends
       ∙ sym (append-nil (placed_of s.drives e.more)))
       ∙ ap (carried_out s q) (e.same []);
   readable = record {
@@ -97,7 +97,7 @@ by_heard_placed : (s : Server) (o : Option Going) (f : List ℕ → Option Going
 by_heard_placed s None f r h = record { same = λ n. ap (by_heard s) (h _); readable = r; knows = λ d. refl }
 by_heard_placed s (Some g) f r h = record {
   same = λ n. ap (λ (ns : List ℕ). by_heard s (f ns))
-      (placed_sent s.drives g.moved.sent n ∙ ap (placed_of s.drives) h.2) ∙ ap (by_heard s) h.3;
+      (placed_sent s.drives g.effects.sent n ∙ ap (placed_of s.drives) h.2) ∙ ap (by_heard s) h.3;
   readable = record {
     drives = r.drives;
     format = r.format;
@@ -187,13 +187,13 @@ offline_known (x ∷ ds) drive d =
 
 record Goes (ds : List Drive) (sent : List Awaited) (r : Round) (f : List ℕ → Round) : Type 0 where
   more : List Awaited
-  sends : r.moved.sent ≡ sent ++ more
+  sends : r.effects.sent ≡ sent ++ more
   same : (rest : List ℕ) → f (placed_of ds more ++ rest) ≡ record r { chosen = rest }
   files : HaveFormats r.files
 
-goes_then : (ds : List Drive) (sent : List Awaited) (g : Going) (f : List ℕ → Going) (k : Moved → List ℕ → Round)
-    → Placed ds sent g f → Goes ds g.moved.sent (k g.moved g.chosen) (k g.moved)
-    → Goes ds sent (then_files g (k g.moved g.chosen)) (λ x. then_files (f x) (k (f x).moved (f x).chosen))
+goes_then : (ds : List Drive) (sent : List Awaited) (g : Going) (f : List ℕ → Going) (k : Effects → List ℕ → Round)
+    → Placed ds sent g f → Goes ds g.effects.sent (k g.effects g.chosen) (k g.effects)
+    → Goes ds sent (then_files g (k g.effects g.chosen)) (λ x. then_files (f x) (k (f x).effects (f x).chosen))
 goes_then ds sent g f k p q = record {
   more = p.more ++ q.more;
   sends = q.sends ∙ ap (λ (cs : List Awaited). cs ++ q.more) p.sends ∙ append_assoc sent p.more q.more;
@@ -204,19 +204,19 @@ goes_then ds sent g f k p q = record {
 }
   where
     next : Going → Round
-    next y = then_files y (k y.moved y.chosen)
+    next y = then_files y (k y.effects y.chosen)
 
-each_placed : (drive : ℕ) (ds : List Drive) (fs : List File) (m : Moved) (chosen : List ℕ) → AreNamed ds
+each_placed : (drive : ℕ) (ds : List Drive) (fs : List File) (m : Effects) (chosen : List ℕ) → AreNamed ds
     → HaveFormats fs
     → Goes ds m.sent (declares_each drive ds fs m chosen) (declares_each drive ds fs m)
 unfolding declares_each
 each_placed drive ds [] m chosen a h =
     record { more = []; sends = sym (append-nil m.sent); same = λ rest. refl; files = tt }
 each_placed drive ds (f ∷ fs) m chosen a h =
-    let g0 : Going = record { file = f; moved = m; drives = ds; chosen = chosen } in
+    let g0 : Going = record { file = f; effects = m; drives = ds; chosen = chosen } in
     let g = declares g0 drive in
     goes_then ds m.sent g (λ x. declares (choosing g0 x) drive) (declares_each drive ds fs)
-    (declares_placed g0 drive (record { format = h.0; drives = a })) (each_placed drive ds fs g.moved g.chosen a h.1)
+    (declares_placed g0 drive (record { format = h.0; drives = a })) (each_placed drive ds fs g.effects g.chosen a h.1)
 
 declare_placed : (s : Server) (chosen : List ℕ) (drive : ℕ) → IsReadable s
     → IsPlaced s (declare s chosen drive) (λ x. declare s x drive)
@@ -307,6 +307,6 @@ pub message_placed : (s : Server) (now : ℕ) (chosen : List ℕ) (from : Node) 
     → IsPlaced s (on_message s now chosen from m) (λ x. on_message s now x from m)
 unfolding on_message
 message_placed s now chosen from m r =
-    placed_either (counters_low s) s _ _ (λ x. handled s now x from m) (λ x. still s)
+    placed_either (counters_have_room s) s _ _ (λ x. handled s now x from m) (λ x. still s)
     (handled_placed s now chosen from m r)
     (placed_always s (still s) r (λ d. refl))

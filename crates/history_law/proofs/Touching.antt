@@ -2,8 +2,10 @@
 use Rattle.std.proofs.Common.{◌≡◌, ℕ, ◌+◌, ◌<◌, ◌≤◌, false, List, [], ◌∷◌, length, Option, Some, None, Result, Ok, Err, IsSome, IsTrue, refl, sym, ap, subst, ◌∙◌, arith, inl, inr, nat_eq}
 use Rattle.std.specs.Prelude.{get_or, is_some}
 use Rattle.std.specs.Option.{option_map}
-use Rattle.std.proofs.lemmas.Bool.{cases_lt}
+use Rattle.std.proofs.lemmas.Bool.{cases_lt, and_parts}
 use Rattle.osd_lists.proofs.Overwritten.{before_overwritten, behind_overwritten}
+use Rattle.osd_lists.proofs.Options.{guard_ok}
+use Rattle.osd_lists.proofs.Tests.{not_false}
 use Rattle.osd_capability.specs.declared.layout.Capability.{Capability}
 use Rattle.osd_capability.specs.declared.layout.CapErr.{CapErr}
 use Rattle.osd_commands.specs.declared.actions.Action.{Action}
@@ -11,7 +13,7 @@ use Rattle.osd_commands.specs.declared.actions.Action.TheVariants.{Create, Read,
 use Rattle.osd_commands.specs.declared.commands.Command.{Command}
 use Rattle.osd_commands.specs.declared.commands.CommandErr.TheVariants.{Short, Magic, Length}
 use Rattle.osd_commands.specs.Commands.{allows, is_sized, command_at, sized, with_capability, unless_reserved, with_action, reading}
-use Rattle.osd_commands.proofs.Passing.{guard_ok, if_ok, not_false, both_true}
+use Rattle.osd_commands.proofs.Passing.{if_ok}
 use Rattle.osd_objects.specs.declared.object.StoredObject.{StoredObject}
 use Rattle.osd_objects.specs.Objects.{state_of}
 use Rattle.osd_objects.specs.Sparse.{Sparse, written}
@@ -30,7 +32,7 @@ sized_only : (bytes : List ℕ) (d c : Command) → sized bytes d ≡ Ok c → I
 sized_only bytes d c is =
     let both = if_ok (is_sized bytes d.action d.length (length d.payload)) (Length (length d.payload)) d c is in
     subst (λ (x : Command). IsTrue (allows x.action x.length (length x.payload))) both.1
-    (both_true _ (allows d.action d.length (length d.payload)) both.0).1
+    (and_parts _ (allows d.action d.length (length d.payload)) both.0).1
 
 capable_only : (bytes : List ℕ) (a : Action) (r : Result Capability CapErr) (c : Command) → with_capability bytes a r ≡ Ok c
     → IsTrue (allows c.action c.length (length c.payload))
@@ -103,8 +105,8 @@ pub home : (d : DriveState) (now : ℕ) (c : Command) → first_fault d now c �
 home d now c e =
     let all = (all_told d now c).0 e in
     let here = not_false _ all.1.1.1.1.1.0 in
-    let rest = both_true (nat_eq c.partition c.capability.partition) _ here in
-    let same = (both_true (nat_eq c.object c.capability.object) _ rest.1).0 in
+    let rest = and_parts (nat_eq c.partition c.capability.partition) _ here in
+    let same = (and_parts (nat_eq c.object c.capability.object) _ rest.1).0 in
     let finds = all.1.1.1.1.1.1.1.1.0 in
     record {
       object = grind (arith, same);

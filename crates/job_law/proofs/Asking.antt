@@ -29,9 +29,9 @@ pub record Stays (g h : Going) : Type 0 where
   pub number : h.file.kept.number ≡ g.file.kept.number
   pub tag : h.file.kept.tag ≡ g.file.kept.tag
   pub components : (at : Component) → In at h.file.kept.components → at.missing ≡ false → In at g.file.kept.components
-  pub sent : h.moved.sent ≡ g.moved.sent
-  pub nonce : h.moved.nonce ≡ g.moved.nonce
-  pub notes : NoEnd g.moved.notes h.moved.notes
+  pub sent : h.effects.sent ≡ g.effects.sent
+  pub nonce : h.effects.nonce ≡ g.effects.nonce
+  pub notes : NoEnd g.effects.notes h.effects.notes
 
 fencing_stays : (R : Reached) (g h : Going) → Stays g h → IsFencing R g.file → IsFencing R h.file
 fencing_stays R g h s f = record {
@@ -89,7 +89,7 @@ stays_noted g kind none = record {
   components = λ at i there. i;
   sent = refl;
   nonce = refl;
-  notes = no_end_behind g.moved.notes g.file.kept.number kind none;
+  notes = no_end_behind g.effects.notes g.file.kept.number kind none;
 }
 
 pub handled_noted : (R : Reached) (g : Going) (kind : NoteKind) → is_fenced kind ≡ false → Handled R g (noting g kind)
@@ -194,8 +194,8 @@ in_lost_on drive (x ∷ cs) at (inr i) there =
     let r = in_lost_on drive cs at i there in (inr r.0, r.1)
 
 if_noted : (b : Bool) (go : Going) (kind : NoteKind) → is_fenced kind ≡ false
-    → NoEnd go.moved.notes (if b then (noting go kind).moved.notes else go.moved.notes)
-if_noted true go kind none = no_end_behind go.moved.notes go.file.kept.number kind none
+    → NoEnd go.effects.notes (if b then (noting go kind).effects.notes else go.effects.notes)
+if_noted true go kind none = no_end_behind go.effects.notes go.file.kept.number kind none
 if_noted false go kind none = λ x i e. i
 
 stays_then : (g h k : Going) → Stays g h → Stays h k → Stays g k
@@ -277,7 +277,7 @@ handled_served R go next format now client (Return report) = handled_return R go
 -- behind a declaration what is left is awaited of each component that isn't missing
 fence_declared : (R : Reached) (g : Going) (j : Job) (drive : ℕ) (gone : Bool) → g.file.job ≡ Some j → j.work ≡ Fences
     → IsFencing R g.file
-    → Fencing R g.moved.notes
+    → Fencing R g.effects.notes
     (loses (with_components g (lose_on drive g.file.kept.components)) j Fences (others_than drive j.awaited) gone)
 unfolding loses
 fence_declared R g j drive gone job work f =
@@ -319,11 +319,11 @@ handled_declared R g drive (Some j) job = record {
     h = with_components g (lose_on drive g.file.kept.components)
 
     by_work : (b : Bool) → is_fences j.work ≡ b → WasFencing R g.file
-        → Fencing R g.moved.notes (loses h j j.work (others_than drive j.awaited) (is_target j.work drive))
+        → Fencing R g.effects.notes (loses h j j.work (others_than drive j.awaited) (is_target j.work drive))
     by_work false e was =
         other_loses R h j j.work (others_than drive j.awaited) (is_target j.work drive) e (ap is_fencing job ∙ e)
     by_work true e was =
-        subst (λ (w : Work). Fencing R g.moved.notes (loses h j w (others_than drive j.awaited) (is_target j.work
+        subst (λ (w : Work). Fencing R g.effects.notes (loses h j w (others_than drive j.awaited) (is_target j.work
         drive)))
         (sym (fences_is j.work e))
         (fence_declared R g j drive (is_target j.work drive) job (fences_is j.work e) (was (ap is_fencing job ∙ e)))
@@ -353,7 +353,7 @@ opened_spent R g = handled_stays R g g (opens_spent g) (handled_here R g) (recor
   components = λ at i there. i;
   sent = refl;
   nonce = refl;
-  notes = no_end_behind g.moved.notes g.file.kept.number Spent refl;
+  notes = no_end_behind g.effects.notes g.file.kept.number Spent refl;
 })
 
 opened_fenced : (R : Reached) (format : ℕ) (g : Going) → Handled R g (opens_fenced format g)

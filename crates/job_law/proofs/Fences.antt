@@ -21,14 +21,14 @@ use Rattle.job_law.proofs.Quiet.{each_numbered, is_fenced, Quiet, From, noted, q
 pub record Goes (number nonce : ℕ) (sent old : List Awaited) (g : Going) : Type 0 where
   pub number_is : g.file.kept.number ≡ number
   pub fresh : List Awaited
-  pub sent_is : g.moved.sent ≡ sent ++ fresh
-  pub rises : g.moved.nonce ≡ nonce + length fresh
+  pub sent_is : g.effects.sent ≡ sent ++ fresh
+  pub rises : g.effects.nonce ≡ nonce + length fresh
   pub numbered : Numbered nonce fresh
   pub owned : AllOwned old → AllOwned fresh
   pub waits : (a : Awaited) → In a (awaited_by g.file.job) → In a old ⊎ In a fresh
 
 abbrev pub GoesFrom : Going → Going → Type 0
-GoesFrom g h = Goes g.file.kept.number g.moved.nonce g.moved.sent (awaited_by g.file.job) h
+GoesFrom g h = Goes g.file.kept.number g.effects.nonce g.effects.sent (awaited_by g.file.job) h
 
 -- the note is of this file, which has that tag, and each component that isn't missing reached it
 abbrev pub Ended : Reached → Note → (tag : ℕ) → File → Type 0
@@ -37,7 +37,7 @@ Ended R x tag f = (x.file ≡ f.kept.number) × (f.kept.tag ≡ tag) × AllRaise
 -- a fence still waits for what isn't raised, and further notes say that one is over only where all are
 pub record Fencing (R : Reached) (notes : List Note) (g : Going) : Type 0 where
   pub fencing : is_fencing g.file.job ≡ true → IsFencing R g.file
-  pub ended : (x : Note) (tag : ℕ) → In x g.moved.notes → x.kind ≡ Fenced tag → In x notes ⊎ Ended R x tag g.file
+  pub ended : (x : Note) (tag : ℕ) → In x g.effects.notes → x.kind ≡ Fenced tag → In x notes ⊎ Ended R x tag g.file
 
 -- both, the second where it was so before
 abbrev pub WasFencing : Reached → File → Type 0
@@ -45,7 +45,7 @@ WasFencing R f = is_fencing f.job ≡ true → IsFencing R f
 
 pub record Handled (R : Reached) (g h : Going) : Type 0 where
   pub goes : GoesFrom g h
-  pub fences : WasFencing R g.file → Fencing R g.moved.notes h
+  pub fences : WasFencing R g.file → Fencing R g.effects.notes h
 
 -- ---- from a run that ends no fence
 
@@ -83,8 +83,8 @@ quiet_fencing R K nonce sent notes g q = record {
 
 pub quiet_handled : (R : Reached) (g h : Going) → From (IsNumber g.file.kept.number) g h → Handled R g h
 quiet_handled R g h q = record {
-  goes = quiet_goes g.file.kept.number g.moved.nonce g.moved.sent (awaited_by g.file.job) g.moved.notes h q;
-  fences = λ was. quiet_fencing R _ g.moved.nonce g.moved.sent g.moved.notes h q;
+  goes = quiet_goes g.file.kept.number g.effects.nonce g.effects.sent (awaited_by g.file.job) g.effects.notes h q;
+  fences = λ was. quiet_fencing R _ g.effects.nonce g.effects.sent g.effects.notes h q;
 }
 
 -- ---- nothing new
@@ -93,14 +93,14 @@ pub goes_here : (g : Going) → GoesFrom g g
 goes_here g = record {
   number_is = refl;
   fresh = [];
-  sent_is = sym (append-nil g.moved.sent);
+  sent_is = sym (append-nil g.effects.sent);
   rises = omega arith;
   numbered = tt;
   owned = λ was. none_owned;
   waits = λ a i. inl i;
 }
 
-pub fencing_here : (R : Reached) (g : Going) → WasFencing R g.file → Fencing R g.moved.notes g
+pub fencing_here : (R : Reached) (g : Going) → WasFencing R g.file → Fencing R g.effects.notes g
 fencing_here R g was = record { fencing = was; ended = λ x tag i e. inl i }
 
 pub handled_here : (R : Reached) (g : Going) → Handled R g g
@@ -132,7 +132,7 @@ quiet_raised kind g =
     quiet_repair _ (at_mended _ _ _) kind (raised g) (record { components = refl; tag = refl; number = refl })
 
 pub goes_fenced : (kind : JobKind) (g : Going) (old : List Awaited)
-    → Goes g.file.kept.number g.moved.nonce g.moved.sent old (fenced kind g)
+    → Goes g.file.kept.number g.effects.nonce g.effects.sent old (fenced kind g)
 goes_fenced kind g old =
     let q = quiet_raised kind g in
     record {
@@ -146,14 +146,14 @@ goes_fenced kind g old =
     }
 
 pub ends_fenced : (R : Reached) (kind : JobKind) (g : Going) → AllRaised R g.file (g.file.kept.tag + 1)
-    → Fencing R g.moved.notes (fenced kind g)
+    → Fencing R g.effects.notes (fenced kind g)
 ends_fenced R kind g all =
     let q = quiet_raised kind g in
     let here : AllRaised R (fenced kind g).file (g.file.kept.tag + 1) =
     λ at i there. all at (subst (In at) q.kept.components i) there in
     record {
       fencing = λ e. absurd (cc (sym e ∙ q.waits));
-      ended = λ x tag i e. elim (in_either x g.moved.notes _ (q.ends x i (fenced_kind x tag e))) [
+      ended = λ x tag i e. elim (in_either x g.effects.notes _ (q.ends x i (fenced_kind x tag e))) [
         | inl there ↦ inl there
         | inr (inl same) ↦ inr (own x tag same e here)
         | inr (inr nothing) ↦ absurd nothing
@@ -216,7 +216,7 @@ asked_each f (x ∷ cs) k nonce at (inr i) there =
 fencing_or : (R : Reached) (ws : List Awaited) (kind : JobKind) (g : Going)
     → ((a : Awaited) → In a ws → Raises g.file.kept.tag a)
     → ((at : Component) → In at g.file.kept.components → at.missing ≡ false → IsAsked ws at)
-    → Fencing R g.moved.notes (rests_or ws g kind Fences (fenced kind g))
+    → Fencing R g.effects.notes (rests_or ws g kind Fences (fenced kind g))
 fencing_or R [] kind g raises asked =
     ends_fenced R kind g (λ at i there. absurd (asked at i there).1)
 fencing_or R (c ∷ cs) kind g raises asked = record {
@@ -224,9 +224,9 @@ fencing_or R (c ∷ cs) kind g raises asked = record {
   ended = λ x tag i e. inl i;
 }
 
-goes_or : (ws : List Awaited) (kind : JobKind) (g : Going) (old : List Awaited) → Numbered g.moved.nonce ws
+goes_or : (ws : List Awaited) (kind : JobKind) (g : Going) (old : List Awaited) → Numbered g.effects.nonce ws
     → AllOwned ws
-    → Goes g.file.kept.number g.moved.nonce g.moved.sent old (rests_or ws g kind Fences (fenced kind g))
+    → Goes g.file.kept.number g.effects.nonce g.effects.sent old (rests_or ws g kind Fences (fenced kind g))
 goes_or [] kind g old n o = goes_fenced kind g old
 goes_or (c ∷ cs) kind g old n o = record {
   number_is = refl;
@@ -244,12 +244,12 @@ handled_fence R kind format g =
     let h : Going = keeping g (ending g.file.kept format) in
     let k : Kept = ending g.file.kept format in
     record {
-      goes = goes_or (to_all k All Raising g.moved.nonce) kind h (awaited_by g.file.job)
-          (each_numbered k All Raising k.components 0 g.moved.nonce)
-          (each_owned k All Raising k.components 0 g.moved.nonce);
-      fences = λ was. fencing_or R (to_all k All Raising g.moved.nonce) kind h
-          (raises_each k k.components 0 g.moved.nonce)
-          (asked_each k k.components 0 g.moved.nonce);
+      goes = goes_or (to_all k All Raising g.effects.nonce) kind h (awaited_by g.file.job)
+          (each_numbered k All Raising k.components 0 g.effects.nonce)
+          (each_owned k All Raising k.components 0 g.effects.nonce);
+      fences = λ was. fencing_or R (to_all k All Raising g.effects.nonce) kind h
+          (raises_each k k.components 0 g.effects.nonce)
+          (asked_each k k.components 0 g.effects.nonce);
     }
 
 -- ---- a file that is made
@@ -264,8 +264,8 @@ unfolding making
 handled_making R g =
     quiet_handled R g _
     (quiet_rests_or (IsNumber g.file.kept.number) _ g _ _ _ refl
-    (each_numbered g.file.kept _ _ g.file.kept.components 0 g.moved.nonce)
-    (each_owned g.file.kept _ _ g.file.kept.components 0 g.moved.nonce) refl
+    (each_numbered g.file.kept _ _ g.file.kept.components 0 g.effects.nonce)
+    (each_owned g.file.kept _ _ g.file.kept.components 0 g.effects.nonce) refl
     (quiet_is_made g.file.kept.number g refl))
 
 -- ---- the job goes on
@@ -287,15 +287,15 @@ quiet_on kind (Checks ps t) heard g e = quiet_audited _ g ps t heard refl
 -- it waits for what is left, or goes on
 pub goes_waits : (g : Going) (j : Job) (work : Work) (rest : List Awaited) (heard : List Heard) (old : List Awaited)
     → ((a : Awaited) → In a rest → In a old)
-    → Goes g.file.kept.number g.moved.nonce g.moved.sent old (waits_or_on g j work rest heard)
+    → Goes g.file.kept.number g.effects.nonce g.effects.sent old (waits_or_on g j work rest heard)
 unfolding goes_on
 goes_waits g j Fences [] heard old left = goes_fenced j.kind g old
 goes_waits g j work [] heard old left =
-    quiet_goes g.file.kept.number g.moved.nonce g.moved.sent old g.moved.notes _ (quiet_on j.kind work heard g refl)
+    quiet_goes g.file.kept.number g.effects.nonce g.effects.sent old g.effects.notes _ (quiet_on j.kind work heard g refl)
 goes_waits g j work (c ∷ cs) heard old left = record {
   number_is = refl;
   fresh = [];
-  sent_is = sym (append-nil g.moved.sent);
+  sent_is = sym (append-nil g.effects.sent);
   rises = omega arith;
   numbered = tt;
   owned = λ was. none_owned;
@@ -307,7 +307,7 @@ pub fencing_waits : (R : Reached) (g : Going) (j : Job) (rest : List Awaited) (h
     → ((a : Awaited) → In a rest → Raises g.file.kept.tag a)
     → ((at : Component) → In at g.file.kept.components → at.missing ≡ false →
     IsAsked rest at ⊎ (R at.drive at.object (g.file.kept.tag + 1) ≡ true))
-    → Fencing R g.moved.notes (waits_or_on g j Fences rest heard)
+    → Fencing R g.effects.notes (waits_or_on g j Fences rest heard)
 unfolding goes_on
 fencing_waits R g j [] heard raises each =
     ends_fenced R j.kind g (λ at i there. elim (each at i there) [
@@ -322,9 +322,9 @@ fencing_waits R g j (c ∷ cs) heard raises each = record {
 
 -- any other job ends no fence, and begins none
 pub other_waits : (R : Reached) (g : Going) (j : Job) (work : Work) (rest : List Awaited) (heard : List Heard)
-    → is_fences work ≡ false → Fencing R g.moved.notes (waits_or_on g j work rest heard)
+    → is_fences work ≡ false → Fencing R g.effects.notes (waits_or_on g j work rest heard)
 other_waits R g j work [] heard e =
-    quiet_fencing R _ g.moved.nonce g.moved.sent g.moved.notes _ (quiet_on j.kind work heard g e)
+    quiet_fencing R _ g.effects.nonce g.effects.sent g.effects.notes _ (quiet_on j.kind work heard g e)
 other_waits R g j work (c ∷ cs) heard e = record {
   fencing = λ t. absurd (cc (sym t ∙ e));
   ended = λ x tag i t. inl i;
@@ -340,14 +340,14 @@ quiet_refills K c g t ps false k = quiet_fills K c g t ps k
 
 goes_remakes : (g : Going) (t : Target) (gone : Bool) → GoesFrom g (remakes g t gone)
 goes_remakes g t true =
-    quiet_goes g.file.kept.number g.moved.nonce g.moved.sent (awaited_by g.file.job) g.moved.notes _
+    quiet_goes g.file.kept.number g.effects.nonce g.effects.sent (awaited_by g.file.job) g.effects.notes _
     (quiet_gone (IsNumber g.file.kept.number) g t refl)
 goes_remakes g t false = goes_here g
 
 other_remakes : (R : Reached) (g : Going) (t : Target) (gone : Bool) → is_fencing g.file.job ≡ false
-    → Fencing R g.moved.notes (remakes g t gone)
+    → Fencing R g.effects.notes (remakes g t gone)
 other_remakes R g t true none =
-    quiet_fencing R _ g.moved.nonce g.moved.sent g.moved.notes _ (quiet_gone (IsNumber g.file.kept.number) g t refl)
+    quiet_fencing R _ g.effects.nonce g.effects.sent g.effects.notes _ (quiet_gone (IsNumber g.file.kept.number) g t refl)
 other_remakes R g t false none = fencing_here R g (λ e. absurd (cc (sym e ∙ none)))
 
 pub goes_loses : (g : Going) (j : Job) (work : Work) (rest : List Awaited) (gone : Bool)
@@ -366,7 +366,7 @@ goes_loses g j (Checks ps t) rest gone left =
 goes_loses g j work rest gone left = goes_waits g j work rest j.heard _ left
 
 pub other_loses : (R : Reached) (g : Going) (j : Job) (work : Work) (rest : List Awaited) (gone : Bool)
-    → is_fences work ≡ false → is_fencing g.file.job ≡ false → Fencing R g.moved.notes (loses g j work rest gone)
+    → is_fences work ≡ false → is_fencing g.file.job ≡ false → Fencing R g.effects.notes (loses g j work rest gone)
 unfolding loses
 other_loses R g j Fences rest gone e none = absurd (cc e)
 other_loses R g j (Fetches ps short) rest gone e none =

@@ -3,7 +3,7 @@ use Rattle.std.proofs.Common.{◌≡◌, ◌⊎◌, ◌==◌, ℕ, ◌+◌, Bool
 use Rattle.std.proofs.lemmas.List.{append-nil, length-append}
 use Rattle.std.proofs.lemmas.Bool.Decides.{nat_tests}
 use Rattle.osd_commands.specs.declared.commands.Command.{Command}
-use Rattle.job_law.specs.Names.{Server, File, Drive, Awaited, Job, Moved, Note, ToDrive, Fenced}
+use Rattle.job_law.specs.Names.{Server, File, Drive, Awaited, Job, Effects, Note, ToDrive, Fenced}
 use Rattle.server_rules.specs.Commands.{sealed}
 use Rattle.server_rules.specs.Going.{Going}
 use Rattle.server_rules.specs.Jobs.{declares}
@@ -120,10 +120,10 @@ pub record IsStepAt (s : Server) (f : File) (h : Going) (t : Step) : Type 0 wher
   pub files : (x : File) → In x t.state.files → (x ≡ h.file) ⊎ (In x s.files ⊎ (x.job ≡ None))
   pub there : In h.file t.state.files
   pub awaits : (a : Awaited) → In a (awaited_by f.job) → Awaits s.files a
-  pub nonce : t.state.next_nonce ≡ h.moved.nonce
-  pub notes : t.notes ≡ h.moved.notes
+  pub nonce : t.state.next_nonce ≡ h.effects.nonce
+  pub notes : t.notes ≡ h.effects.notes
   pub sends : (drive : ℕ) (c : Command) → In (ToDrive drive c) t.sends
-      → In (ToDrive drive c) (to_drives s.drives h.moved.sent)
+      → In (ToDrive drive c) (to_drives s.drives h.effects.sent)
 
 module _ (s : Server) (f : File) (h : Going) (t : Step) (is : IsStepAt s f h t) where
   none_awaited : (o : Option Job) (a : Awaited) → o ≡ None → In a (awaited_by o) → ⊥
@@ -143,7 +143,7 @@ module _ (s : Server) (f : File) (h : Going) (t : Step) (is : IsStepAt s f h t) 
       | inr (inr none) ↦ absurd (none_awaited x.job a none w.2)
     ];
     sends = λ drive c i.
-        let r = in_drives s.drives h.moved.sent drive c (is.sends drive c i) in
+        let r = in_drives s.drives h.effects.sent drive c (is.sends drive c i) in
         (r.0, r.1, inr (subst (In r.0) g.sent_is r.2));
   }
 
@@ -158,7 +158,7 @@ module _ (s : Server) (f : File) (h : Going) (t : Step) (is : IsStepAt s f h t) 
       | inr (inr none) ↦ absurd (none_awaited x.job a none w.2)
     ];
     sends = λ were drive c i.
-        let r = in_drives s.drives h.moved.sent drive c (is.sends drive c i) in
+        let r = in_drives s.drives h.effects.sent drive c (is.sends drive c i) in
         sent_owned drive c r.0 r.1
         (g.owned (λ b j. were b (is.awaits b j)) r.0 (subst (In r.0) g.sent_is r.2));
   }
@@ -180,15 +180,15 @@ module _ (s : Server) (f : File) (h : Going) (t : Step) (is : IsStepAt s f h t) 
 
 pub record GoesAll (nonce : ℕ) (sent : List Awaited) (fs : List File) (r : Round) : Type 0 where
   pub fresh : List Awaited
-  pub sent_is : r.moved.sent ≡ sent ++ fresh
-  pub rises : r.moved.nonce ≡ nonce + length fresh
+  pub sent_is : r.effects.sent ≡ sent ++ fresh
+  pub rises : r.effects.nonce ≡ nonce + length fresh
   pub numbered : Numbered nonce fresh
   pub owned : AreOwned fs → AllOwned fresh
   pub waits : (a : Awaited) → Awaits r.files a → Awaits fs a ⊎ In a fresh
 
 pub record FencingAll (R : Reached) (notes : List Note) (r : Round) : Type 0 where
   pub fencing : AreFencing R r.files
-  pub ended : (x : Note) (tag : ℕ) → In x r.moved.notes → x.kind ≡ Fenced tag →
+  pub ended : (x : Note) (tag : ℕ) → In x r.effects.notes → x.kind ≡ Fenced tag →
       In x notes ⊎ ((f : File) × In f r.files × Ended R x tag f)
 
 pub record HandledAll (R : Reached) (nonce : ℕ) (sent : List Awaited) (notes : List Note) (fs : List File) (r :
@@ -196,8 +196,8 @@ pub record HandledAll (R : Reached) (nonce : ℕ) (sent : List Awaited) (notes :
   pub goes : GoesAll nonce sent fs r
   pub fences : AreFencing R fs → FencingAll R notes r
 
-no_files : (R : Reached) (m : Moved) (chosen : List ℕ)
-    → HandledAll R m.nonce m.sent m.notes [] (record { files = []; moved = m; chosen = chosen })
+no_files : (R : Reached) (m : Effects) (chosen : List ℕ)
+    → HandledAll R m.nonce m.sent m.notes [] (record { files = []; effects = m; chosen = chosen })
 no_files R m chosen = record {
   goes = record {
     fresh = [];
@@ -211,18 +211,18 @@ no_files R m chosen = record {
 }
 
 then_all : (R : Reached) (g h : Going) (fs : List File) (r : Round) → Handled R g h
-    → HandledAll R h.moved.nonce h.moved.sent h.moved.notes fs r
-    → HandledAll R g.moved.nonce g.moved.sent g.moved.notes (g.file ∷ fs) (record r { files = h.file ∷ r.files })
+    → HandledAll R h.effects.nonce h.effects.sent h.effects.notes fs r
+    → HandledAll R g.effects.nonce g.effects.sent g.effects.notes (g.file ∷ fs) (record r { files = h.file ∷ r.files })
 then_all R g h fs r one all = record {
   goes = record {
     fresh = one.goes.fresh ++ all.goes.fresh;
     sent_is =
         all.goes.sent_is ∙ ap (λ (l : List Awaited). l ++ all.goes.fresh) one.goes.sent_is
-        ∙ append_assoc g.moved.sent one.goes.fresh all.goes.fresh;
+        ∙ append_assoc g.effects.sent one.goes.fresh all.goes.fresh;
     rises = omega (arith, all.goes.rises, one.goes.rises, length-append one.goes.fresh all.goes.fresh);
     numbered =
-        numbered_more g.moved.nonce one.goes.fresh all.goes.fresh one.goes.numbered
-        (numbered_at h.moved.nonce (g.moved.nonce + length one.goes.fresh) all.goes.fresh one.goes.rises
+        numbered_more g.effects.nonce one.goes.fresh all.goes.fresh one.goes.numbered
+        (numbered_at h.effects.nonce (g.effects.nonce + length one.goes.fresh) all.goes.fresh one.goes.rises
         all.goes.numbered);
     owned = λ were a i. elim (in_either a one.goes.fresh all.goes.fresh i) [
       | inl new ↦ one.goes.owned (λ b j. were b (g.file, inl refl, j)) a new
@@ -259,22 +259,22 @@ then_all R g h fs r one all = record {
       | inr new ↦ inr (in_behind a one.goes.fresh all.goes.fresh new)
     ]
 
-pub handled_each : (R : Reached) (drive : ℕ) (ds : List Drive) (fs : List File) (m : Moved) (chosen : List ℕ)
+pub handled_each : (R : Reached) (drive : ℕ) (ds : List Drive) (fs : List File) (m : Effects) (chosen : List ℕ)
     → HandledAll R m.nonce m.sent m.notes fs (declares_each drive ds fs m chosen)
 unfolding declares_each
 handled_each R drive ds [] m chosen = no_files R m chosen
 handled_each R drive ds (f ∷ fs) m chosen =
-    let g : Going = record { file = f; moved = m; drives = ds; chosen = chosen } in
+    let g : Going = record { file = f; effects = m; drives = ds; chosen = chosen } in
     then_all R g (declares g drive) fs _ (handled_declares R g drive)
-    (handled_each R drive ds fs (declares g drive).moved (declares g drive).chosen)
+    (handled_each R drive ds fs (declares g drive).effects (declares g drive).chosen)
 
-pub opened_each : (R : Reached) (format : ℕ) (ds : List Drive) (fs : List File) (m : Moved)
+pub opened_each : (R : Reached) (format : ℕ) (ds : List Drive) (fs : List File) (m : Effects)
     → HandledAll R m.nonce m.sent m.notes fs (opens_each format ds fs m)
 unfolding opens_each
 opened_each R format ds [] m = no_files R m []
 opened_each R format ds (f ∷ fs) m =
-    let g : Going = record { file = f; moved = m; drives = ds; chosen = [] } in
-    then_all R g (opens format g) fs _ (handled_opened R format g) (opened_each R format ds fs (opens format g).moved)
+    let g : Going = record { file = f; effects = m; drives = ds; chosen = [] } in
+    then_all R g (opens format g) fs _ (handled_opened R format g) (opened_each R format ds fs (opens format g).effects)
 
 -- the step of a round, which may change drives
 pub numbers_round : (s t : Server) (r : Round) → t.next_nonce ≡ s.next_nonce → GoesAll s.next_nonce [] s.files r
@@ -285,7 +285,7 @@ numbers_round s t r same g = record {
   rises = g.rises;
   waits = g.waits;
   sends = λ drive c i.
-      let x = in_drives t.drives r.moved.sent drive c i in (x.0, x.1, inr (subst (In x.0) g.sent_is x.2));
+      let x = in_drives t.drives r.effects.sent drive c i in (x.0, x.1, inr (subst (In x.0) g.sent_is x.2));
 }
 
 pub owns_round : (s t : Server) (r : Round) → GoesAll s.next_nonce [] s.files r → Owns s (step_round t r)
@@ -295,7 +295,7 @@ owns_round s t r g = record {
     | inr new ↦ g.owned were a new
   ];
   sends = λ were drive c i.
-      let x = in_drives t.drives r.moved.sent drive c i in
+      let x = in_drives t.drives r.effects.sent drive c i in
       sent_owned drive c x.0 x.1 (g.owned were x.0 (subst (In x.0) g.sent_is x.2));
 }
 

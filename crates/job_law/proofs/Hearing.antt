@@ -99,12 +99,12 @@ goes_renews : (g : Going) (j : Job) (a : Awaited) → In a j.awaited
     → ((x : Awaited) → In x j.awaited → In x (awaited_by g.file.job)) → GoesFrom g (renews g j a)
 goes_renews g j a here there = record {
   number_is = refl;
-  fresh = again_in_2 a g.moved.nonce ∷ [];
+  fresh = again_in_2 a g.effects.nonce ∷ [];
   sent_is = refl;
   rises = refl;
   numbered = (refl, tt);
-  owned = λ was. one_owned (again_in_2 a g.moved.nonce) (was a (there a here));
-  waits = λ x i. elim (in_renewed a (again_in_2 a g.moved.nonce) j.awaited x i) [
+  owned = λ was. one_owned (again_in_2 a g.effects.nonce) (was a (there a here));
+  waits = λ x i. elim (in_renewed a (again_in_2 a g.effects.nonce) j.awaited x i) [
     | inl old ↦ inl (there x old)
     | inr new ↦ inr (inl new)
   ];
@@ -190,11 +190,11 @@ left_others R tag cs ws a alone done left = record {
 
 -- behind a note that ends no fence
 pub fencing_noted : (R : Reached) (g h : Going) (kind : NoteKind) → is_fenced kind ≡ false
-    → Fencing R (noting g kind).moved.notes h → Fencing R g.moved.notes h
+    → Fencing R (noting g kind).effects.notes h → Fencing R g.effects.notes h
 fencing_noted R g h kind none f = record {
   fencing = f.fencing;
   ended = λ x tag i e. elim (f.ended x tag i e) [
-    | inl there ↦ inl (no_end_behind g.moved.notes g.file.kept.number kind none x there (fenced_kind x tag e))
+    | inl there ↦ inl (no_end_behind g.effects.notes g.file.kept.number kind none x there (fenced_kind x tag e))
     | inr own ↦ inr own
   ];
 }
@@ -211,7 +211,7 @@ goes_full g j a work there =
     work (others j.awaited a.command.nonce) false (λ x i. there x (in_filtered _ x j.awaited i).0)
 
 other_full : (R : Reached) (g : Going) (j : Job) (a : Awaited) (work : Work) → is_fences work ≡ false
-    → is_fencing g.file.job ≡ false → Fencing R g.moved.notes (fills_up g j a work)
+    → is_fencing g.file.job ≡ false → Fencing R g.effects.notes (fills_up g j a work)
 other_full R g j a Fences e none = absurd (cc e)
 other_full R g j a (Targets t) e none =
     quiet_fencing R _ _ _ _ _ (quiet_full (IsNumber g.file.kept.number) g t refl)
@@ -235,7 +235,7 @@ goes_hears g j a r Nothing here there = goes_here g
 
 -- a job that is no fence
 other_hears : (R : Reached) (g : Going) (j : Job) (a : Awaited) (r : Reply) (x : Hearing) → is_fences j.work ≡ false
-    → is_fencing g.file.job ≡ false → Fencing R g.moved.notes (hears g j a r x)
+    → is_fencing g.file.job ≡ false → Fencing R g.effects.notes (hears g j a r x)
 other_hears R g j a r Older e none = record {
   fencing = λ t. absurd (cc (sym t ∙ e));
   ended = λ y tag i t. inl i;
@@ -251,9 +251,9 @@ set_tag_writes a is e = cc (sym e ∙ ap is_write is)
 fence_hears : (R : Reached) (g : Going) (j : Job) (a : Awaited) (r : Reply) (x : Hearing) → hearing g.file.kept a r ≡ x
     → j.work ≡ Fences → g.file.job ≡ Some j → In a j.awaited → IsAlone j.awaited a
     → (is_done g.file.kept a r ≡ true → R a.drive a.command.object (g.file.kept.tag + 1) ≡ true)
-    → IsLeft R g.file.kept.tag g.file.kept.components j.awaited → Fencing R g.moved.notes (hears g j a r x)
+    → IsLeft R g.file.kept.tag g.file.kept.components j.awaited → Fencing R g.effects.notes (hears g j a r x)
 fence_hears R g j a r Older is work job here alone done left =
-    let rest = left_renewed R g.file.kept.tag g.file.kept.components j.awaited a g.moved.nonce here alone left in
+    let rest = left_renewed R g.file.kept.tag g.file.kept.components j.awaited a g.effects.nonce here alone left in
     record {
       fencing = λ e. record { raises = rest.raises; each = rest.each };
       ended = λ y tag i e. inl i;
@@ -263,7 +263,7 @@ fence_hears R g j a r Full is work job here alone done left =
 fence_hears R g j a r Done is work job here alone done left =
     let rest = left_others R g.file.kept.tag g.file.kept.components j.awaited a alone
     (done (done_is_done g.file.kept a r is)) left in
-    subst (λ (w : Work). Fencing R g.moved.notes (waits_or_on g j w (others j.awaited a.command.nonce) (heard_with j
+    subst (λ (w : Work). Fencing R g.effects.notes (waits_or_on g j w (others j.awaited a.command.nonce) (heard_with j
     a r)))
     (sym work) (fencing_waits R g j (others j.awaited a.command.nonce) (heard_with j a r) rest.raises rest.each)
 fence_hears R g j a r Nothing is work job here alone done left =
@@ -289,7 +289,7 @@ pub record IsTruth (R : Reached) (f : File) (drive : ℕ) (r : Reply) : Type 0 w
 pub data Heard (R : Reached) (g : Going) (drive : ℕ) (r : Reply) : Option Going → Type 0 where
   Unheard : Heard R g drive r None
   IsHeard : (h : Going) → GoesFrom g h
-      → (WasFencing R g.file → IsTruth R g.file drive r → Fencing R g.moved.notes h) → Heard R g drive r (Some h)
+      → (WasFencing R g.file → IsTruth R g.file drive r → Fencing R g.effects.notes h) → Heard R g drive r (Some h)
 
 heard_by_job : (R : Reached) (g : Going) (drive : ℕ) (r : Reply) (j : Job) (o : Option Awaited) → g.file.job ≡ Some j
     → find (answers drive r) j.awaited ≡ o → Heard R g drive r (heard_by g r j o)
@@ -305,7 +305,7 @@ heard_by_job R g drive r j (Some a) job e =
     in_job y i = subst (λ (o : Option Job). In y (awaited_by o)) (sym job) i
 
     by_work : (b : Bool) → is_fences j.work ≡ b → In a j.awaited × (answers drive r a ≡ true) → WasFencing R g.file
-        → IsTruth R g.file drive r → Fencing R g.moved.notes (hears g j a r (hearing g.file.kept a r))
+        → IsTruth R g.file drive r → Fencing R g.effects.notes (hears g j a r (hearing g.file.kept a r))
     by_work false e found was t =
         other_hears R g j a r (hearing g.file.kept a r) e (ap is_fencing job ∙ e)
     by_work true e found was t =

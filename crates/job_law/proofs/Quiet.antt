@@ -92,15 +92,15 @@ no_end_behind ns file kind none x i e = elim (in_either x ns _ i) [
 -- What is kept of the file is as `K` says.
 pub record Quiet (K : Kept → Type 0) (nonce : ℕ) (sent : List Awaited) (notes : List Note) (g : Going) : Type 0 where
   pub kept : K g.file.kept
-  pub sent_is : g.moved.sent ≡ sent ++ awaited_by g.file.job
-  pub rises : g.moved.nonce ≡ nonce + length (awaited_by g.file.job)
+  pub sent_is : g.effects.sent ≡ sent ++ awaited_by g.file.job
+  pub rises : g.effects.nonce ≡ nonce + length (awaited_by g.file.job)
   pub numbered : Numbered nonce (awaited_by g.file.job)
   pub owned : AllOwned (awaited_by g.file.job)
   pub waits : is_fencing g.file.job ≡ false
-  pub ends : NoEnd notes g.moved.notes
+  pub ends : NoEnd notes g.effects.notes
 
 abbrev pub From : (Kept → Type 0) → Going → Going → Type 0
-From K g h = Quiet K g.moved.nonce g.moved.sent g.moved.notes h
+From K g h = Quiet K g.effects.nonce g.effects.sent g.effects.notes h
 
 -- behind a note that ends no fence
 pub noted : (K : Kept → Type 0) (g h : Going) (kind : NoteKind) → is_fenced kind ≡ false
@@ -112,16 +112,16 @@ noted K g h kind none q = record {
   numbered = q.numbered;
   owned = q.owned;
   waits = q.waits;
-  ends = λ x i e. no_end_behind g.moved.notes g.file.kept.number kind none x (q.ends x i e) e;
+  ends = λ x i e. no_end_behind g.effects.notes g.file.kept.number kind none x (q.ends x i e) e;
 }
 
 noted_if : (K : Kept → Type 0) (b : Bool) (g h : Going) (kind : NoteKind) → is_fenced kind ≡ false
-    → Quiet K g.moved.nonce g.moved.sent (if b then (noting g kind).moved.notes else g.moved.notes) h → From K g h
+    → Quiet K g.effects.nonce g.effects.sent (if b then (noting g kind).effects.notes else g.effects.notes) h → From K g h
 noted_if K true g h kind none q = noted K g h kind none q
 noted_if K false g h kind none q = q
 
-nothing_sent : (g : Going) → g.moved.sent ≡ g.moved.sent ++ []
-nothing_sent g = sym (append-nil g.moved.sent)
+nothing_sent : (g : Going) → g.effects.sent ≡ g.effects.sent ++ []
+nothing_sent g = sym (append-nil g.effects.sent)
 
 pub quiet_over : (K : Kept → Type 0) (g : Going) → K g.file.kept → From K g (over g)
 quiet_over K g k = record {
@@ -135,7 +135,7 @@ quiet_over K g k = record {
 }
 
 pub quiet_rests_or : (K : Kept → Type 0) (cs : List Awaited) (g : Going) (kind : JobKind) (work : Work) (later : Going)
-    → K g.file.kept → Numbered g.moved.nonce cs → AllOwned cs → is_fences work ≡ false → From K g later
+    → K g.file.kept → Numbered g.effects.nonce cs → AllOwned cs → is_fences work ≡ false → From K g later
     → From K g (rests_or cs g kind work later)
 quiet_rests_or K [] g kind work later k n o w q = q
 quiet_rests_or K (c ∷ cs) g kind work later k n o w q = record {
@@ -155,8 +155,8 @@ pub quiet_audits : (K : Kept → Type 0) (g : Going) (ps : List Piece) (t : Tall
 unfolding audits
 quiet_audits K g [] t k = noted K g _ _ refl (quiet_over K (noting g _) k)
 quiet_audits K g (p ∷ ps) t k =
-    quiet_rests_or K _ g _ _ _ k (each_numbered g.file.kept _ _ g.file.kept.components 0 g.moved.nonce)
-    (each_owned g.file.kept _ _ g.file.kept.components 0 g.moved.nonce) refl
+    quiet_rests_or K _ g _ _ _ k (each_numbered g.file.kept _ _ g.file.kept.components 0 g.effects.nonce)
+    (each_owned g.file.kept _ _ g.file.kept.components 0 g.effects.nonce) refl
     (quiet_audits K g ps _ k)
 
 pub quiet_audits_all : (K : Kept → Type 0) (g : Going) (heard : List Heard) → K g.file.kept
@@ -166,8 +166,8 @@ quiet_audits_all K g heard k = quiet_audits K g _ _ k
 quiet_audit : (K : Kept → Type 0) (g : Going) → K g.file.kept → From K g (audit_begins g)
 unfolding audit_begins
 quiet_audit K g k =
-    quiet_rests_or K _ g _ _ _ k (each_numbered g.file.kept _ _ g.file.kept.components 0 g.moved.nonce)
-    (each_owned g.file.kept _ _ g.file.kept.components 0 g.moved.nonce) refl
+    quiet_rests_or K _ g _ _ _ k (each_numbered g.file.kept _ _ g.file.kept.components 0 g.effects.nonce)
+    (each_owned g.file.kept _ _ g.file.kept.components 0 g.effects.nonce) refl
     (quiet_audits_all K g [] k)
 
 pub quiet_audited : (K : Kept → Type 0) (g : Going) (ps : List Piece) (t : Tally) (heard : List Heard) → K g.file.kept
@@ -222,7 +222,7 @@ from_mended K g h short q = record {
   numbered = q.numbered;
   owned = q.owned;
   waits = q.waits;
-  ends = λ x i e. no_end_behind g.moved.notes g.file.kept.number _ refl x (q.ends x i e) e;
+  ends = λ x i e. no_end_behind g.effects.notes g.file.kept.number _ refl x (q.ends x i e) e;
 }
 
 pub quiet_repairs : (K : Kept → Type 0) → IsMended K → (kind : JobKind) (g : Going) (ps : List Piece) (short : List ℕ)
@@ -231,15 +231,15 @@ unfolding repairs
 quiet_repairs K m kind g [] short k =
     from_mended K g _ short (quiet_after K kind (mended g short) (m.mends g.file.kept k))
 quiet_repairs K m kind g (p ∷ ps) short k =
-    quiet_rests_or K _ g _ _ _ k (repair_numbered g.file.kept p g.moved.nonce)
-    (repair_owned g.file.kept p g.moved.nonce) refl (quiet_repairs K m kind g ps _ k)
+    quiet_rests_or K _ g _ _ _ k (repair_numbered g.file.kept p g.effects.nonce)
+    (repair_owned g.file.kept p g.effects.nonce) refl (quiet_repairs K m kind g ps _ k)
 
 quiet_storing : (K : Kept → Type 0) → IsMended K → (kind : JobKind) (g : Going) (p : Piece) (ps : List Piece)
     (short : List ℕ) (heard : List Heard) → K g.file.kept → From K g (storing kind g p ps short heard)
 unfolding storing
 quiet_storing K m kind g p ps short heard k =
-    quiet_rests_or K _ g _ _ _ k (stores_numbered g.file.kept p _ heard g.file.kept.components 0 g.moved.nonce)
-    (stores_owned g.file.kept p _ heard g.file.kept.components 0 g.moved.nonce) refl
+    quiet_rests_or K _ g _ _ _ k (stores_numbered g.file.kept p _ heard g.file.kept.components 0 g.effects.nonce)
+    (stores_owned g.file.kept p _ heard g.file.kept.components 0 g.effects.nonce) refl
     (quiet_repairs K m kind g ps short k)
 
 quiet_stored : (K : Kept → Type 0) → IsMended K → (kind : JobKind) (g : Going) (p : Piece) (ps : List Piece)
@@ -274,8 +274,8 @@ unfolding fills sources
 quiet_fills K c g t [] k =
     noted K g _ (Rebuilt t.component t.drive) refl (quiet_rebuilds K _ _ _ (c.places g.file.kept _ k))
 quiet_fills K c g t (p ∷ ps) k =
-    quiet_rests_or K _ g _ _ _ k (sources_numbered g.file.kept t p g.moved.nonce _)
-    (sources_owned g.file.kept t p g.moved.nonce _) refl
+    quiet_rests_or K _ g _ _ _ k (sources_numbered g.file.kept t p g.effects.nonce _)
+    (sources_owned g.file.kept t p g.effects.nonce _) refl
     (noted K g _ (Lost t.component _) refl (quiet_rebuilds K _ _ _ k))
 
 pub quiet_filling : (K : Kept → Type 0) → IsPlaced K → (g : Going) (t : Target) (p : Piece) (ps : List Piece)

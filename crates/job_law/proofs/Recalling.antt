@@ -12,7 +12,7 @@ use Rattle.server_rules.specs.Answers.{recalls_from}
 use Rattle.server_rules.specs.Slots.{Admit, New, Again, Misordered, admit, slot_of}
 use Rattle.server_rules.specs.Files.{Step, still, file_at, at_file, to_drive, to_drives, step_at}
 use Rattle.server_rules.specs.Requests.{serves, carried_out, carries_out, by_admit, on_request}
-use Rattle.server_rules.specs.Messages.{Message, Asks, Replies, Orders, counters_low, heard_at, by_heard, on_drive_reply, handled, on_message, awaited_by}
+use Rattle.server_rules.specs.Messages.{Message, Asks, Replies, Orders, counters_have_room, heard_at, by_heard, on_drive_reply, handled, on_message, awaited_by}
 use Rattle.server_rules.specs.Orders.{Ordered, begins_job, starts, recalls_on, declare, declares_known, ordered, with_result}
 use Rattle.server_rules.specs.Making.{refusal, unless_refused, makes_file, unmade, places, create_file}
 use Rattle.server_rules.specs.Openings.{reopen}
@@ -52,8 +52,8 @@ carried_counts : (s : Server) (q : ClientRequest) (v : Served) → CountsRecalls
 carried_counts s q v = record {
   recalled = v.recalled;
   rises = refl;
-  sends = λ r i. elim (in_either (Recalls r) (to_drives s.drives v.going.moved.sent) _ i) [
-    | inl j ↦ absurd (none_to_drives s.drives v.going.moved.sent r j)
+  sends = λ r i. elim (in_either (Recalls r) (to_drives s.drives v.going.effects.sent) _ i) [
+    | inl j ↦ absurd (none_to_drives s.drives v.going.effects.sent r j)
     | inr j ↦ elim (in_either (Recalls r) (recalls_from s.next_recall v.recalled) _ j) [
       | inl k ↦ k
       | inr k ↦ absurd (no_answer _ r k)
@@ -82,7 +82,7 @@ asked_counts s now chosen q = admitted_counts s now chosen q (admit (slot_of s.s
 
 heard_counts : (s : Server) (o : Option Going) → CountsRecalls s (by_heard s o)
 heard_counts s None = still_counts s
-heard_counts s (Some g) = none_counted s _ refl (none_to_drives s.drives g.moved.sent)
+heard_counts s (Some g) = none_counted s _ refl (none_to_drives s.drives g.effects.sent)
 
 either_order : (s : Server) (b : Bool) (x y : Ordered) → CountsRecalls s x.step → CountsRecalls s y.step
     → CountsRecalls s (if b then x else y).step
@@ -91,7 +91,7 @@ either_order s false x y p q = q
 
 -- a step at one file
 at_counts : (s : Server) (n : ℕ) (g : Going) → CountsRecalls s (step_at s n g)
-at_counts s n g = none_counted s _ refl (none_to_drives s.drives g.moved.sent)
+at_counts s n g = none_counted s _ refl (none_to_drives s.drives g.effects.sent)
 
 begun_counts : (s : Server) (chosen : List ℕ) (kind : JobKind) (f : File) (j : Option Job)
     → CountsRecalls s (begins_job s chosen kind f j).step
@@ -170,7 +170,7 @@ none_resent ds (f ∷ fs) r i = elim (in_either (Recalls r) (to_drives ds (await
 pub step_counts : EachStepCounts
 unfolding on_message create_file reopen
 step_counts s chosen (Hears now from m) =
-    either_step s (counters_low s) _ _ (handled_counts s now chosen from m) (still_counts s)
+    either_step s (counters_have_room s) _ _ (handled_counts s now chosen from m) (still_counts s)
 step_counts s chosen (Makes n m tag) =
     made_counts s (unmade s n m tag (places s.drives m.comps chosen)) (refusal s n m)
 step_counts s chosen (Obeys kind n) = obeyed_counts s chosen kind n
@@ -179,4 +179,4 @@ step_counts s chosen (Formats n) = none_counted s _ refl (λ r i. i)
 step_counts s chosen Resends = none_counted s _ refl (none_resent s.drives s.files)
 step_counts s chosen Crashes = none_counted s _ refl (λ r i. i)
 step_counts s chosen Opens =
-    either_step s (counters_low s) _ _ (none_counted s _ refl (none_to_drives s.drives _)) (still_counts s)
+    either_step s (counters_have_room s) _ _ (none_counted s _ refl (none_to_drives s.drives _)) (still_counts s)

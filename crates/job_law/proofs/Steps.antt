@@ -14,7 +14,7 @@ use Rattle.server_rules.specs.Files.{Step, still, file_at, add_file, at_file, to
 use Rattle.server_rules.specs.Jobs.{making}
 use Rattle.server_rules.specs.Replies.{on_reply}
 use Rattle.server_rules.specs.Requests.{carried_out, carries_out, by_admit, on_request}
-use Rattle.server_rules.specs.Messages.{Message, Asks, Replies, Orders, counters_low, or_else, heard_at, by_heard, on_drive_reply, handled, on_message, awaited_by, resend}
+use Rattle.server_rules.specs.Messages.{Message, Asks, Replies, Orders, counters_have_room, or_else, heard_at, by_heard, on_drive_reply, handled, on_message, awaited_by, resend}
 use Rattle.server_rules.specs.Orders.{Ordered, begins_job, starts, recalls_on, offline, with_offline, declare, declares_known, ordered, with_result}
 use Rattle.server_rules.specs.Making.{refusal, unless_refused, makes_file, with_file, unmade, places, create_file}
 use Rattle.server_rules.specs.Openings.{crashed_file, reopen}
@@ -141,7 +141,7 @@ carried R given s q chosen f v i e d =
       awaits = λ a j. (f, i, j);
       nonce = refl;
       notes = refl;
-      sends = λ drive c j. elim (in_either (ToDrive drive c) (to_drives s.drives v.going.moved.sent) _ j) [
+      sends = λ drive c j. elim (in_either (ToDrive drive c) (to_drives s.drives v.going.effects.sent) _ j) [
         | inl k ↦ k
         | inr k ↦ elim (in_either (ToDrive drive c) (recalls_from s.next_recall v.recalled) _ k) [
           | inl l ↦ absurd (no_recall s.next_recall v.recalled drive c l)
@@ -304,7 +304,7 @@ weaken : (R : Reached) (given more : Type 0) (s : Server) (t : Step) → (more �
 weaken R given more s t by b = record { numbers = b.numbers; owns = b.owns; fences = λ were g. b.fences were (by g) }
 
 heard_message : (R : Reached) (s : Server) (now : ℕ) (chosen : List ℕ) (from : Node) (m : Message)
-    → counters_low s ≡ true
+    → counters_have_room s ≡ true
     → Both R (IsHeardTruly R s (Hears now from m)) s (handled s now chosen from m)
 heard_message R s now chosen (FromClient c) (Asks q) low =
     either_step R _ s ((q.client == c) && nat_le c MAX_CLIENT) _ _ (asked R _ s now chosen q) (both_still R _ s)
@@ -320,9 +320,9 @@ heard_message R s now chosen from m low = both_still R _ s
 message_both : (R : Reached) (s : Server) (now : ℕ) (chosen : List ℕ) (from : Node) (m : Message)
     → Both R (IsHeardTruly R s (Hears now from m)) s (on_message s now chosen from m)
 unfolding on_message
-message_both R s now chosen from m = by_room (counters_low s) refl
+message_both R s now chosen from m = by_room (counters_have_room s) refl
   where
-    by_room : (b : Bool) → counters_low s ≡ b
+    by_room : (b : Bool) → counters_have_room s ≡ b
         → Both R (IsHeardTruly R s (Hears now from m)) s (if b then handled s now chosen from m else still s)
     by_room true low = heard_message R s now chosen from m low
     by_room false high = both_still R _ s
@@ -399,7 +399,7 @@ opened : (R : Reached) (given : Type 0) (s : Server) → Both R given s (reopen 
 unfolding reopen
 opened R given s =
     let d = opened_each R s.format s.drives s.files _ in
-    either_step R given s (counters_low s) _ _ (record {
+    either_step R given s (counters_have_room s) _ _ (record {
       numbers = numbers_round s s _ refl d.goes;
       owns = owns_round s s _ d.goes;
       fences = λ were g. fences_round R s _ (d.fences were);

@@ -5,7 +5,7 @@ use Rattle.osd_commands.specs.declared.actions.Action.TheVariants.{SetTag}
 use Rattle.server_rules.specs.declared.limits.TheConstants.{SERVER_HOLDER}
 use Rattle.job_law.specs.Names.{Server, File, Component, Awaited, Job, Work, Fences, Reply, Note, Fenced}
 use Rattle.server_rules.specs.Files.{Step}
-use Rattle.server_rules.specs.Messages.{awaited_by, Replies, counters_low}
+use Rattle.server_rules.specs.Messages.{awaited_by, Replies, counters_have_room}
 use Rattle.server_rules.specs.Replies.{answers, is_done}
 use Rattle.server_rules.specs.History.{Input, Hears, step}
 use Rattle.server_rules.specs.Laws.{In}
@@ -58,7 +58,7 @@ TellsRaised R f drive r =
 -- so it is of what the server hears, as long as its counters have room; and no two awaited commands have one nonce
 pub record IsHeardTruly (R : Reached) (s : Server) (i : Input) : Type 0 where
   pub alone : (a b : Awaited) → Awaits s.files a → Awaits s.files b → a.command.nonce ≡ b.command.nonce → a ≡ b
-  pub tells : (now drive : ℕ) (r : Reply) → i ≡ Hears now (FromDrive drive) (Replies r) → counters_low s ≡ true →
+  pub tells : (now drive : ℕ) (r : Reply) → i ≡ Hears now (FromDrive drive) (Replies r) → counters_have_room s ≡ true →
       (f : File) → In f s.files → TellsRaised R f drive r
 
 -- ---- the end of a fence

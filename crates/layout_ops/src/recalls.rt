@@ -15,7 +15,7 @@ use std::alloc::Global;
 use xdr_codec::{Reader, Writer};
 
 /// What CB_LAYOUTRECALL asks back: layouts of one file (`CB_LAYOUTRECALL4args`, RFC 5661 20.3.1).
-/// Its layout type is that of object-based storage.
+/// The layout type is always that of object-based storage.
 #[derive(Debug, PartialEq, Drop)]
 pub struct LayoutRecallArgs {
     /// The iomode of the layouts.

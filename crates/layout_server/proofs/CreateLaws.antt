@@ -7,6 +7,7 @@ use Rattle.std.specs.BTreeMap.{BTreeMap, insert_entry, is_at}
 use Rattle.std.proofs.Common.{arith, inl, inr, ap, sym, subst, eq-eqb, ◌∙◌}
 use Rattle.std.proofs.lemmas.Bool.{cases_Bool}
 use Rattle.std.proofs.lemmas.Bool.Decides.{nat_tests}
+use Rattle.osd_lists.proofs.Tests.{same_number, at_number, is_at_same}
 use Rattle.data_map.specs.declared.check.RawMap.{RawMap}
 use Rattle.server_rules.specs.declared.files.File.{File}
 use Rattle.server_rules.specs.declared.files.Kept.{Kept}
@@ -15,7 +16,7 @@ use Rattle.file_jobs.specs.Sound.{IsSound}
 use Rattle.server_rules.specs.declared.server.Refusal.{Refusal}
 use Rattle.server_rules.specs.declared.server.Refusal.TheVariants.{FileExists}
 use Rattle.server_rules.specs.declared.server.Server.{Server}
-use Rattle.server_rules.specs.declared.server.Moved.{Moved}
+use Rattle.server_rules.specs.declared.server.Effects.{Effects}
 use Rattle.server_rules.specs.Going.{Going}
 use Rattle.server_rules.specs.Jobs.{making}
 use Rattle.server_rules.specs.Files.{file_at, put_file, add_file, at_file, step_at}
@@ -30,8 +31,7 @@ use Rattle.server_state.specs.Replies.{file_awaits, AreListed, AreListedBut, Oth
 use Rattle.server_state.specs.Index.{Keys}
 use Rattle.layout_server.specs.declared.creating.FileErr.{FileErr}
 use Rattle.layout_server.specs.Creating.{Creates, cause_of, map_unless}
-use Rattle.server_state.proofs.TableLaws.{at_number, file_at-files}
-use Rattle.server_state.proofs.ReplyLaws.{same_number}
+use Rattle.server_state.proofs.TableLaws.{file_at-files}
 use Rattle.server_state.proofs.CountLaws.{none_off}
 use Rattle.server_state.proofs.StepLaws.{after_settling}
 
@@ -111,7 +111,7 @@ new_files old n u g good none e h =
     ∙ add_file-files old.files.entries n g good (no_entry old.files.entries n good none) h
 
 -- what comes of a file that is made
-pub made_at : (old : State) (files : BTreeMap ℕ FileState) (new : State) (m : Moved) (n tag : ℕ) (raw : RawMap) (ds : List ℕ) (u g : FileState) (out : Step) →
+pub made_at : (old : State) (files : BTreeMap ℕ FileState) (new : State) (m : Effects) (n tag : ℕ) (raw : RawMap) (ds : List ℕ) (u g : FileState) (out : Step) →
     AreEntries old.files.entries → refusal (server_of old) n raw ≡ None → places old.drives raw.comps ds ≡ ds →
     file_of u ≡ unmade (server_of old) n raw tag ds → g.kept.number ≡ u.kept.number →
     files.entries ≡ insert_entry nat_cmp old.files.entries n g →
@@ -201,16 +201,13 @@ none_without (e ∷ es) n none = elim (cases_Bool (is_at (nat_cmp n) e.0)) [
     some_none : {f : FileState} → Some f ≡ None → ⊥
     some_none e = absurd (cc e)
 
-at_itself : (n : ℕ) → is_at (nat_cmp n) n ≡ true
-at_itself n = grind (arith, nat_tests, at_number n n)
-
 inserted_out : (t : Table) (n : ℕ) (g : FileState) → entry_at t n ≡ None → without n (insert_entry nat_cmp t n g) ≡ t
-inserted_out [] n g none = rw (at_itself n) refl
+inserted_out [] n g none = rw (is_at_same n) refl
 inserted_out (e ∷ es) n g none = elim (cases_Bool (is_at (nat_cmp n) e.0)) [
   | inl here ↦ absurd (some_none (rw here at none))
   | inr not_here ↦ elim (cases_Bool (nat_lt e.0 n)) [
     | inl less ↦ rw (behind_it n e.0 less) (rw not_here (ap (λ (xs : Table). e ∷ xs) (inserted_out es n g (rw not_here at none))))
-    | inr more ↦ rw (before_it n e.0 more not_here) (rw (at_itself n) refl)
+    | inr more ↦ rw (before_it n e.0 more not_here) (rw (is_at_same n) refl)
   ]
 ]
   where

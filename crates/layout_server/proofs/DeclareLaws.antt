@@ -12,7 +12,7 @@ use Rattle.std.proofs.lemmas.Bool.Decides.{nat_tests}
 use mathlib.Core.List.{map-append}
 use Rattle.server_rules.specs.declared.files.File.{File}
 use Rattle.server_rules.specs.declared.server.Drive.{Drive}
-use Rattle.server_rules.specs.declared.server.Moved.{Moved}
+use Rattle.server_rules.specs.declared.server.Effects.{Effects}
 use Rattle.server_rules.specs.declared.server.Server.{Server}
 use Rattle.server_rules.specs.Files.{begins}
 use Rattle.server_rules.specs.Going.{Going}
@@ -65,7 +65,7 @@ abbrev pub with_files : List File → Round → Round
 with_files fs r = record r { files = fs ++ r.files }
 
 -- what was done so far, and what is left to be done
-pub record SoFar (drive : ℕ) (loads : List DriveLoad) (all : Table) (was : Moved) (done left : Table) (is : Moved) : Type 0 where
+pub record SoFar (drive : ℕ) (loads : List DriveLoad) (all : Table) (was : Effects) (done left : Table) (is : Effects) : Type 0 where
   pub round : (ds : List Drive) → AreLoadsOf loads ds → (chosen : List ℕ)
       × ((rest : List ℕ) → with_files (files_in done) (declares_each drive ds (files_in left) is rest) ≡ declares_each drive ds (files_in all) was (chosen ++ rest))
   pub entries : AreEntries done
@@ -77,7 +77,7 @@ none_below : (ks : List ℕ) → AreAllBelow [] ks
 none_below [] = tt
 none_below (k ∷ ks) = (tt, none_below ks)
 
-pub at_first : (drive : ℕ) (loads : List DriveLoad) (all : Table) (was : Moved) → AreEntries all → IsStrictlySortedBy nat_cmp (keys_of all) → SoFar drive loads all was [] all was
+pub at_first : (drive : ℕ) (loads : List DriveLoad) (all : Table) (was : Effects) → AreEntries all → IsStrictlySortedBy nat_cmp (keys_of all) → SoFar drive loads all was [] all was
 at_first drive loads all was a s = record {
   round = λ ds e. ([], λ rest. refl);
   entries = tt;
@@ -87,7 +87,7 @@ at_first drive loads all was a s = record {
 }
 
 -- one file more
-one_more : (drive : ℕ) (ds : List Drive) (done left : Table) (n : ℕ) (f g : FileState) (was is : Moved) (chosen rest : List ℕ) →
+one_more : (drive : ℕ) (ds : List Drive) (done left : Table) (n : ℕ) (f g : FileState) (was is : Effects) (chosen rest : List ℕ) →
     at g is ds rest ≡ declares (at f was ds (chosen ++ rest)) drive →
     with_files (files_in (done ++ (n, g) ∷ [])) (declares_each drive ds (files_in left) is rest)
     ≡ with_files (files_in done) (declares_each drive ds (files_in ((n, f) ∷ left)) was (chosen ++ rest))
@@ -97,13 +97,13 @@ one_more drive ds done left n f g was is chosen rest e =
     let files : files_in (done ++ (n, g) ∷ []) ++ later.files ≡ files_in done ++ (file_of g ∷ later.files) =
     ap (λ (fs : List File). fs ++ later.files) (map-append (λ (e : ℕ × FileState). file_of e.1) done ((n, g) ∷ [])) ∙ append_assoc (files_in done) (file_of g ∷ []) later.files in
     ap (λ (fs : List File). record later { files = fs }) files
-    ∙ ap (λ (z : Going). with_files (files_in done) (then_files z (declares_each drive ds (files_in left) z.moved z.chosen))) e
+    ∙ ap (λ (z : Going). with_files (files_in done) (then_files z (declares_each drive ds (files_in left) z.effects z.chosen))) e
 
 pub sorted_rest : (n : ℕ) (ks : List ℕ) → IsStrictlySortedBy nat_cmp (n ∷ ks) → AllByRecursion (λ k. nat_cmp n k ≡ Less) ks × IsStrictlySortedBy nat_cmp ks
 unfolding IsStrictlySortedBy
 sorted_rest n ks s = s
 
-pub next_file : (drive : ℕ) (loads : List DriveLoad) (all : Table) (was : Moved) (done left : Table) (n : ℕ) (f g : FileState) (before behind : Moved) →
+pub next_file : (drive : ℕ) (loads : List DriveLoad) (all : Table) (was : Effects) (done left : Table) (n : ℕ) (f g : FileState) (before behind : Effects) →
     SoFar drive loads all was done ((n, f) ∷ left) before → StepsOn (λ z. declares z drive) loads f before g behind → IsEntry (n, g) →
     SoFar drive loads all was (insert_entry nat_cmp done n g) left behind
 next_file drive loads all was done left n f g before behind so steps entry =
@@ -125,7 +125,7 @@ next_file drive loads all was done left n f g before behind so steps entry =
     })
 
 -- no file is left
-pub at_last : (drive : ℕ) (loads : List DriveLoad) (all : Table) (was : Moved) (done left : Table) (is : Moved) → left ≡ [] →
+pub at_last : (drive : ℕ) (loads : List DriveLoad) (all : Table) (was : Effects) (done left : Table) (is : Effects) → left ≡ [] →
     SoFar drive loads all was done left is → Declares drive loads all was done is
 unfolding declares_each
 at_last drive loads all was done left is e so =
@@ -133,7 +133,7 @@ at_last drive loads all was done left is e so =
     record {
       round = λ ds d.
           let h = last.round ds d in
-          (h.0, λ rest. ap (λ (fs : List File). record { files = fs; moved = is; chosen = rest }) (sym (append-nil (files_in done))) ∙ h.1 rest);
+          (h.0, λ rest. ap (λ (fs : List File). record { files = fs; effects = is; chosen = rest }) (sym (append-nil (files_in done))) ∙ h.1 rest);
       entries = so.entries;
     }
 
@@ -152,7 +152,7 @@ pub still_drives : (ds : List Drive) (drive : ℕ) → AreDrives ds → AreDrive
 still_drives ds drive r = offline_rises 0 ds drive r
 
 -- what comes of it, once it was declared at each file
-pub declared_at : (old : State) (drives : List Drive) (files : BTreeMap ℕ FileState) (new : State) (m : Moved) (loads : List DriveLoad) (drive : ℕ) (out : Step) →
+pub declared_at : (old : State) (drives : List Drive) (files : BTreeMap ℕ FileState) (new : State) (m : Effects) (loads : List DriveLoad) (drive : ℕ) (out : Step) →
     IsGood old → drives ≡ offline old.drives drive → AreLoadsOf loads drives → Declares drive loads old.files.entries (begins (server_of old)) files.entries m →
     Settles (record old { drives = drives; files = files }) m new out →
     ((chosen : List ℕ) × Did out (server_of new) (declare (server_of old) chosen drive)) × IsReady new
@@ -160,13 +160,13 @@ unfolding declare
 declared_at old drives files new m loads drive out good off loaded did fin =
     let s : Server = server_of old in
     let h = did.round drives loaded in
-    let e : record { files = files_in files.entries; moved = m; chosen = [] } ≡ declares_each drive (offline old.drives drive) s.files (begins s) h.0 =
+    let e : record { files = files_in files.entries; effects = m; chosen = [] } ≡ declares_each drive (offline old.drives drive) s.files (begins s) h.0 =
     h.1 [] ∙ ap (λ (cs : List ℕ). declares_each drive drives s.files (begins s) cs) (append-nil h.0)
     ∙ ap (λ (ds : List Drive). declares_each drive ds s.files (begins s) h.0) off in (
       (
         h.0,
         subst (λ (r : Round). Did out (server_of new) (step_round (record s { drives = offline old.drives drive }) r)) e
-            (subst (λ (ds : List Drive). Did out (server_of new) (step_round (record s { drives = ds }) (record { files = files_in files.entries; moved = m; chosen = [] }))) off
+            (subst (λ (ds : List Drive). Did out (server_of new) (step_round (record s { drives = ds }) (record { files = files_in files.entries; effects = m; chosen = [] }))) off
             (record { state = ap server_of fin.state; sends = fin.sends; notes = fin.notes; mended = fin.mended })),
       ),
       subst (λ (z : State). IsReady z) (sym fin.state)

@@ -9,12 +9,13 @@ use Rattle.std.specs.declared.cmp.Ordering.TheVariants.{Less}
 use Rattle.std.proofs.lemmas.Bool.{cases_Bool}
 use Rattle.std.proofs.lemmas.Bool.Decides.{nat_tests}
 use Rattle.std.proofs.Common.{arith, inl, inr, sym, ap, subst, append-nil, ◌∙◌}
+use Rattle.osd_lists.proofs.Tests.{at_number, is_at_same}
 use Rattle.osd_commands.specs.declared.replies.Reply.{Reply}
 use Rattle.server_rules.specs.declared.jobs.Job.{Job}
 use Rattle.server_rules.specs.declared.jobs.Awaited.{Awaited}
 use Rattle.server_rules.specs.declared.server.Server.{Server}
 use Rattle.server_rules.specs.Going.{Going}
-use Rattle.server_rules.specs.declared.server.Moved.{Moved}
+use Rattle.server_rules.specs.declared.server.Effects.{Effects}
 use Rattle.server_rules.specs.declared.files.File.{File}
 use Rattle.server_rules.specs.Files.{at_file, begins, step_at, still}
 use Rattle.server_rules.specs.Messages.{heard_at, or_else, by_heard, on_drive_reply}
@@ -32,7 +33,7 @@ use Rattle.server_state.specs.States.{server_of, Did, IsGoodBut, Settles}
 use Rattle.server_state.specs.Replies.{file_awaits, job_awaits, AreListed, OthersStay}
 use Rattle.server_state.specs.Index.{Keys, has, are_to, IsFirst}
 use Rattle.layout_server.specs.Hearing.{awaits, AwaitedAt, AwaitedNowhere, HeardIn}
-use Rattle.server_state.proofs.TableLaws.{at_number, entry_found, entries_left}
+use Rattle.server_state.proofs.TableLaws.{entry_found, entries_left}
 use Rattle.server_state.proofs.ReplyLaws.{none_again, others_set, sorted_rest}
 use Rattle.server_state.proofs.StepLaws.{settled_at, good_settled}
 
@@ -91,12 +92,9 @@ awaiting_file : (o : Option FileState) (x d : ℕ) → file_awaits o x d ≡ tru
 awaiting_file None x d e = absurd (cc e)
 awaiting_file (Some f) x d e = (f, refl, e)
 
-at_itself : (n : ℕ) → is_at (nat_cmp n) n ≡ true
-at_itself n = grind (arith, nat_tests, at_number n n)
-
 -- the first of these doesn't await it
 quiet_here : (e : ℕ × FileState) (es : Table) (drive : ℕ) (r : Reply) → file_awaits (entry_at (e ∷ es) e.0) r.nonce drive ≡ false → awaits drive r e.1.job ≡ false
-quiet_here e es drive r q = same_awaits drive r e.1.job ∙ rw (at_itself e.0) at q
+quiet_here e es drive r q = same_awaits drive r e.1.job ∙ rw (is_at_same e.0) at q
 
 -- and so it is with those behind
 quiet_behind : (e : ℕ × FileState) (es : Table) (x d m : ℕ) → AllByRecursion (λ k. nat_cmp e.0 k ≡ Less) (keys_of es) →
@@ -177,12 +175,12 @@ if_none (Some n) f p = tt
 
 -- ---- at the file of a number
 
-heard_there : (heard : Bool) (loads : List DriveLoad) (drive : ℕ) (r : Reply) (f g : FileState) (was is : Moved) →
+heard_there : (heard : Bool) (loads : List DriveLoad) (drive : ℕ) (r : Reply) (f g : FileState) (was is : Effects) →
     awaits drive r f.job ≡ true → HearsReply heard loads drive r f was g is → HearsReply true loads drive r f was g is
 heard_there true loads drive r f g was is w h = h
 heard_there false loads drive r f g was is w h = absurd (none_awaits (at f was [] []) drive r (h.0 [] []) w)
 
-pub heard_in_table : (loads : List DriveLoad) (drive : ℕ) (r : Reply) (n : ℕ) (old new : Table) (was is : Moved) (heard : Bool) (f g : FileState) →
+pub heard_in_table : (loads : List DriveLoad) (drive : ℕ) (r : Reply) (n : ℕ) (old new : Table) (was is : Effects) (heard : Bool) (f g : FileState) →
     entry_at old n ≡ Some f → new ≡ set_value (is_at (nat_cmp n)) old g → HearsReply heard loads drive r f was g is → LeavesFile f g →
     HeardIn loads drive r n old was new is
 heard_in_table loads drive r n old new was is heard f g found put h l = λ e at_e w.
@@ -194,7 +192,7 @@ heard_in_table loads drive r n old new was is heard f g found put h l = λ e at_
       subst (λ (z : FileState). LeavesFile z g) same l,
     )
 
-pub heard_nowhere : (loads : List DriveLoad) (drive : ℕ) (r : Reply) (n : ℕ) (old new : Table) (was is : Moved) → entry_at old n ≡ None → HeardIn loads drive r n old was new is
+pub heard_nowhere : (loads : List DriveLoad) (drive : ℕ) (r : Reply) (n : ℕ) (old new : Table) (was is : Effects) → entry_at old n ≡ None → HeardIn loads drive r n old was new is
 heard_nowhere loads drive r n old new was is none = λ e at_e w. absurd (no_entry (sym none ∙ at_e))
   where
     no_entry : {f : FileState} → None ≡ Some f → ⊥
@@ -203,7 +201,7 @@ heard_nowhere loads drive r n old new was is none = λ e at_e w. absurd (no_entr
 -- ---- the step
 
 -- what comes of it, once its file heard it
-pub heard_step : (old : State) (files : BTreeMap ℕ FileState) (new : State) (m : Moved) (n : ℕ) (loads : List DriveLoad) (drive : ℕ) (r : Reply) (f g : FileState) (out : Step) →
+pub heard_step : (old : State) (files : BTreeMap ℕ FileState) (new : State) (m : Effects) (n : ℕ) (loads : List DriveLoad) (drive : ℕ) (r : Reply) (f g : FileState) (out : Step) →
     AreEntries old.files.entries → entry_at old.files.entries n ≡ Some f →
     ((s : Server) (chosen : List ℕ) → heard_at s chosen drive r (files_in old.files.entries) ≡ on_reply (at_file s chosen (file_of f)) drive r) →
     files.entries ≡ set_value (is_at (nat_cmp n)) old.files.entries g → AreLoadsOf loads old.drives → HearsReply true loads drive r f (begins (server_of old)) g m → LeavesFile f g →
@@ -223,7 +221,7 @@ heard_step old files new m n loads drive r f g out good found at_it put_in loade
     )
 
 -- the file that heard it, and what the step left of it
-pub heard_whole : (old : State) (files : BTreeMap ℕ FileState) (new : State) (m : Moved) (n : ℕ) (loads : List DriveLoad) (drive : ℕ) (r : Reply) (out : Step) →
+pub heard_whole : (old : State) (files : BTreeMap ℕ FileState) (new : State) (m : Effects) (n : ℕ) (loads : List DriveLoad) (drive : ℕ) (r : Reply) (out : Step) →
     IsGoodBut n old → AwaitedAt drive r n old.files.entries → AreLoadsOf loads old.drives → HeardIn loads drive r n old.files.entries (begins (server_of old)) files.entries m →
     Settles (record old { files = files }) m new out →
     ((chosen : List ℕ) × Did out (server_of new) (on_drive_reply (server_of old) chosen drive r)) × IsGoodBut n new

@@ -15,7 +15,7 @@ use Rattle.server_rules.specs.declared.files.File.{File}
 use Rattle.server_rules.specs.declared.jobs.Job.{Job}
 use Rattle.server_rules.specs.declared.jobs.JobKind.{JobKind}
 use Rattle.server_rules.specs.declared.server.Server.{Server}
-use Rattle.server_rules.specs.declared.server.Moved.{Moved}
+use Rattle.server_rules.specs.declared.server.Effects.{Effects}
 use Rattle.server_rules.specs.Files.{file_at, begins, at_file, step_at}
 use Rattle.server_rules.specs.Orders.{Ordered, begins_job, ordered, recalls_on, starts, unknown}
 use Rattle.file_jobs.specs.declared.job.FileState.{FileState}
@@ -44,7 +44,7 @@ begins_begun s chosen kind f None = elim (cases_Bool (f.kept.tag == GREATEST_TAG
 ]
 
 -- what comes of the order, once it was begun at its file
-pub started_at : (old : State) (files : BTreeMap ℕ FileState) (new : State) (m : Moved) (n : ℕ) (kind : JobKind) (loads : List DriveLoad) (r : OrderResult) (f g : FileState) (out : Step) →
+pub started_at : (old : State) (files : BTreeMap ℕ FileState) (new : State) (m : Effects) (n : ℕ) (kind : JobKind) (loads : List DriveLoad) (r : OrderResult) (f g : FileState) (out : Step) →
     AreEntries old.files.entries → files.entries ≡ set_value (is_at (nat_cmp n)) old.files.entries g → entry_at old.files.entries n ≡ Some f → AreLoadsOf loads old.drives →
     Begins (begun kind old.format f.job) loads f (begins (server_of old)) r g m → Settles (record old { files = files }) m new out →
     (chosen : List ℕ) × Obeys (record { step = out; result = r }) (server_of new) (starts (server_of old) chosen kind (file_at (server_of old).files n))

@@ -3,11 +3,12 @@ use Rattle.std.specs.Prelude.{ℕ, Bool, true, false, List, [], ◌∷◌, ◌�
 use Rattle.std.specs.List.{list_all}
 use Rattle.std.specs.Result.{ForOk}
 use Rattle.std.proofs.Common.{arith, inl, inr, ap, sym, subst, ◌∙◌}
-use Rattle.std.proofs.lemmas.Bool.{cases_Bool}
+use Rattle.std.proofs.lemmas.Bool.{cases_Bool, and_right as and_no}
 use Rattle.std.proofs.lemmas.Bool.Decides.{nat_tests}
 use Rattle.std.proofs.lemmas.List.{length-map}
 use Rattle.std.proofs.lemmas.List.Sums.{length-filter, sum_by-cons}
 use Rattle.osd_lists.specs.declared.memory.Memory.{Memory}
+use Rattle.osd_lists.proofs.Tests.{other_true, first_true, second_true}
 use Rattle.server_rules.specs.declared.server.Drive.{Drive}
 use Rattle.server_rules.specs.Numbers.{among}
 use Rattle.server_rules.specs.Making.{online, are_of, places}
@@ -88,22 +89,6 @@ can_create ls ds count e fits r l = record {
 
 -- ---- what the placer names
 
-or_true : (a b : Bool) → (a || b) ≡ true → a ≡ false → b ≡ true
-or_true true b t e = absurd (cc e)
-or_true false b t e = t
-
-and_no : (a b : Bool) → b ≡ false → (a && b) ≡ false
-and_no true b e = e
-and_no false b e = refl
-
-and_left : (a b : Bool) → (a && b) ≡ true → a ≡ true
-and_left true b t = refl
-and_left false b t = absurd (cc t)
-
-and_right : (a b : Bool) → (a && b) ≡ true → b ≡ true
-and_right true b t = t
-and_right false b t = absurd (cc t)
-
 kept_out : (d : Drive) (ds : List Drive) → d.online ≡ false → online (d ∷ ds) ≡ online ds
 kept_out d ds e = rw e refl
 
@@ -119,9 +104,9 @@ online_found (l ∷ ls) (d ∷ ds) drive e t =
     elim (cases_Bool d.online) [
       | inl f ↦ rw (taken_in d ds f) (elim (cases_Bool (d.number == drive)) [
         | inl s ↦ rw s refl
-        | inr s ↦ rw s (online_found ls ds drive h.2 (or_true (nat_eq l.drive drive && l.online) _ t (rw (h.0, s) refl)))
+        | inr s ↦ rw s (online_found ls ds drive h.2 (other_true (nat_eq l.drive drive && l.online) _ t (rw (h.0, s) refl)))
       ])
-      | inr f ↦ rw (kept_out d ds f) (online_found ls ds drive h.2 (or_true (nat_eq l.drive drive && l.online) _ t (and_no (nat_eq l.drive drive) _ (rw (h.1) f))))
+      | inr f ↦ rw (kept_out d ds f) (online_found ls ds drive h.2 (other_true (nat_eq l.drive drive && l.online) _ t (and_no (nat_eq l.drive drive) _ (rw (h.1) f))))
     ]
 
 -- a number that differs from all of these is none of them
@@ -138,9 +123,9 @@ are_online : (ls : List DriveLoad) (ds : List Drive) (chosen : List ℕ) → Are
 unfolding are_of
 are_online ls ds [] e o d = refl
 are_online ls ds (n ∷ ns) e o d =
-    let found : is_some (find (λ d. d.number == n) (online ds)) ≡ true = online_found ls ds n e (and_left _ _ o) in
+    let found : is_some (find (λ d. d.number == n) (online ds)) ≡ true = online_found ls ds n e (first_true _ _ o) in
     let other : among n ns ≡ false = none_among n ns (λ j l. d 0 (suc j) (omega arith) (omega (arith, l))) in
-    let behind : are_of (online ds) ns ≡ true = are_online ls ds ns e (and_right _ _ o) (λ i j l m. d (suc i) (suc j) (omega (arith, l)) (omega (arith, m))) in
+    let behind : are_of (online ds) ns ≡ true = are_online ls ds ns e (second_true _ _ o) (λ i j l m. d (suc i) (suc j) (omega (arith, l)) (omega (arith, m))) in
     rw (found, other, behind) refl
 
 -- what the placer names is taken

@@ -5,7 +5,7 @@ use Rattle.stripe_repair.specs.declared.loads.TheConstants.{MAX_DRIVES}
 use Rattle.server_rules.specs.Making.{add_drive}
 use Rattle.layout_server.specs.declared.drives.DriveInfo.{DriveInfo}
 
--- there is none of that number
+-- no drive has that number
 abbrev pub IsNew : (number : ℕ) → List Drive → Type 0
 IsNew number [] = Unit {0}
 IsNew number (d ∷ ds) = (d.number ≡ number → ⊥) × IsNew number ds
@@ -14,7 +14,7 @@ IsNew number (d ∷ ds) = (d.number ≡ number → ⊥) × IsNew number ds
 abbrev pub drive_of : DriveInfo → Drive
 drive_of i = record { number = i.number; key = i.key; capacity = i.capacity; online = true }
 
--- these drives and further ones, in order of their numbers
+-- the drives and further ones, in order of their numbers
 abbrev pub and_drives : List Drive → List DriveInfo → List Drive
 and_drives ds [] = ds
 and_drives ds (i ∷ is) = and_drives (add_drive ds (drive_of i)) is

@@ -16,7 +16,7 @@ abbrev pub Makes : (number : ℕ) → RawMap → (tag : ℕ) → Server → Serv
 Makes number raw tag old new out =
     (chosen : List ℕ) × (s : RulesStep) × (create_file old number raw tag chosen ≡ Ok s) × Did out new s
 
--- it is refused as the rules say, and nothing changed; that there is no memory says nothing
+-- the file is refused as the rules say, and nothing changed; that there is no memory says nothing
 abbrev pub IsRefused : (number : ℕ) → RawMap → Server → Server → FileErr → Type 0
 IsRefused number raw old new e =
     e ≢ Memory → (r : Refusal) × (refusal old number raw ≡ Some r) × (e ≡ cause_of r) × (new ≡ old)

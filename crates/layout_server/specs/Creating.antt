@@ -35,7 +35,7 @@ Creates number raw tag old new out =
     (chosen : List ℕ) × (s : RulesStep) × (create_file (server_of old) number raw tag chosen ≡ Ok s)
     × Did out (server_of new) s
 
--- it is refused as the rules say, and nothing changed; that there is no memory says nothing
+-- the file is refused as the rules say, and nothing changed; that there is no memory says nothing
 abbrev pub IsRefused : (number : ℕ) → RawMap → State → State → FileErr → Type 0
 IsRefused number raw old new e =
     e ≢ cause.Memory → (r : Refusal) × (refusal (server_of old) number raw ≡ Some r) × (e ≡ cause_of r) × (new ≡ old)

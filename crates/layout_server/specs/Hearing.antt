@@ -6,7 +6,7 @@ use Rattle.std.specs.Map.{set_value}
 use Rattle.osd_commands.specs.declared.replies.Reply.{Reply}
 use Rattle.server_rules.specs.declared.jobs.Job.{Job}
 use Rattle.server_rules.specs.declared.server.Server.{Server}
-use Rattle.server_rules.specs.declared.server.Moved.{Moved}
+use Rattle.server_rules.specs.declared.server.Effects.{Effects}
 use Rattle.server_rules.specs.Files.{at_file}
 use Rattle.server_rules.specs.Messages.{heard_at}
 use Rattle.server_rules.specs.Replies.{answers, on_reply}
@@ -34,7 +34,7 @@ abbrev pub AwaitedNowhere : (drive : ℕ) → Reply → Table → Type 0
 AwaitedNowhere drive r t = (s : Server) (chosen : List ℕ) → heard_at s chosen drive r (files_in t) ≡ None
 
 -- the file of that number heard it, if its job awaits it
-abbrev pub HeardIn : List DriveLoad → (drive : ℕ) → Reply → (number : ℕ) → Table → Moved → Table → Moved → Type 0
+abbrev pub HeardIn : List DriveLoad → (drive : ℕ) → Reply → (number : ℕ) → Table → Effects → Table → Effects → Type 0
 HeardIn loads drive r n old was new is =
     (f : FileState) → entry_at old n ≡ Some f → awaits drive r f.job ≡ true →
     (g : FileState) × (new ≡ set_value (is_at (nat_cmp n)) old g)

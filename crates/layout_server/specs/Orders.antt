@@ -11,7 +11,7 @@ use Rattle.server_rules.specs.declared.jobs.JobKind.{JobKind}
 use Rattle.server_rules.specs.declared.notes.NoteKind.TheVariants.{Busy, Spent}
 use Rattle.server_rules.specs.declared.server.Drive.{Drive}
 use Rattle.server_rules.specs.declared.server.Server.{Server}
-use Rattle.server_rules.specs.declared.server.Moved.{Moved}
+use Rattle.server_rules.specs.declared.server.Effects.{Effects}
 use Rattle.server_rules.specs.Going.{Going, noting}
 use Rattle.server_rules.specs.Get.{lowest}
 use Rattle.server_rules.specs.Jobs.{fence_begins}
@@ -38,14 +38,14 @@ begun kind format None g =
     else record { going = fence_begins kind format g; result = result.Started }
 
 -- for some answers of the placer, what was done at the file and came of it is what this says
-abbrev pub Begins : (Going → Begun) → List DriveLoad → FileState → Moved → OrderResult → FileState → Moved → Type 0
+abbrev pub Begins : (Going → Begun) → List DriveLoad → FileState → Effects → OrderResult → FileState → Effects → Type 0
 Begins f loads old was r new is =
     (ds : List Drive) → AreLoadsOf loads ds → (chosen : List ℕ)
     × ((rest : List ℕ) → record { going = at new is ds rest; result = r } ≡ f (at old was ds (chosen ++ rest)))
 
--- in the table: at the file of that number, or nothing where there is none
-abbrev pub BegunIn : JobKind → (format : ℕ) → List DriveLoad → (number : ℕ) → Table → Moved → Option OrderResult →
-    Table → Moved → Type 0
+-- the job begins at the file of that number in the table; nothing happens if there is none
+abbrev pub BegunIn : JobKind → (format : ℕ) → List DriveLoad → (number : ℕ) → Table → Effects → Option OrderResult →
+    Table → Effects → Type 0
 BegunIn kind format loads n old was None new is = (entry_at old n ≡ None) × (new ≡ old) × (is ≡ was)
 BegunIn kind format loads n old was (Some r) new is =
     (f g : FileState) × (entry_at old n ≡ Some f) × (new ≡ set_value (is_at (nat_cmp n)) old g)

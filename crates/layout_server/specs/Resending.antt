@@ -7,7 +7,7 @@ use Rattle.server_rules.specs.Files.{to_drives}
 use Rattle.server_rules.specs.Messages.{awaited_by}
 use Rattle.server_state.specs.FileRequests.{waited}
 
--- of these files
+-- what the jobs of these files wait for, as it is sent once more
 abbrev pub resent : List Drive → List File → List Outgoing
 resent ds [] = []
 resent ds (f ∷ fs) = to_drives ds (awaited_by f.job) ++ resent ds fs

@@ -3,7 +3,7 @@ ghost use Rattle.data_map.specs.Check.{HasAlgorithm};
 ghost use Rattle.server_rules.specs.declared.limits.TheConstants.{MAX_FILE_COMPONENTS};
 ghost use Rattle.server_rules.specs.Files.{file_at};
 ghost use Rattle.server_rules.specs.Making.{checked_64, components_on, online, places, refusal};
-ghost use Rattle.stripe_repair.specs.Placing.{FitsLoad, IsPlacer};
+ghost use Rattle.stripe_repair.specs.Placing.{FitsLoad};
 ghost use Rattle.stripe_repair.specs.declared.loads.TheConstants.{MAX_DRIVES};
 ghost use Rattle.file_jobs.specs.Placing.{AreLoadsOf};
 ghost use Rattle.file_jobs.specs.Sound.{IsSound};
@@ -18,9 +18,9 @@ use data_map::{DataMap, MAX_STRIPE_UNIT, MapErr, RawMap};
 use file_jobs::{FileState, make};
 use osd_lists::{Memory, Numbers, Sequence};
 use server_rules::{Component, Components, Drive, Grants, Kept, MAX_FILE_COMPONENTS, Phase};
-use server_state::{Files, State, Step, begins, list, settle};
+use server_state::{Files, State, Step, finish_step, list, no_effects};
 use std::alloc::Global;
-use stripe_repair::{DriveLoad, Placer};
+use stripe_repair::Place;
 use thiserror::Error;
 
 /// Why a file isn't made; of several reasons the first in this order.
@@ -172,16 +172,14 @@ fn unmade(alloc: Global, state: &State, file: NewFile, drives: &[u32]) -> Result
 }
 
 // Different online drives for the components, by the placer.
-fn chosen_for<F>(
+fn chosen_for<P: Place>(
     alloc: Global,
     state: &State,
     count: u32,
-    placer: &Placer<F>,
+    placer: &P,
 ) -> Result<Numbers, Memory>
-where
-    F: Fn(u32, &[DriveLoad]) -> Result<Numbers, Memory>,
     requires good { IsGood state.now }
-    requires placer { IsPlacer F.Fn placer.now }
+    requires placer { P.is_placer placer.now }
     requires enough { count ≤ length (online state.now.drives) }
     ensures placed { IfOk result (λ chosen. places state.now.drives count chosen ≡ chosen) }
     ensures many { IfOk result (λ chosen. length chosen ≡ count) }
@@ -191,17 +189,15 @@ where
 }
 
 // A file is made that may be made.
-fn create<F>(
+fn create<P: Place>(
     alloc: Global,
     state: &mut State,
     file: NewFile,
-    placer: &Placer<F>,
+    placer: &P,
 ) -> Result<Step, Memory>
-where
-    F: Fn(u32, &[DriveLoad]) -> Result<Numbers, Memory>,
     requires good { IsGood state.old }
     requires room { HasRoom (server_of state.old) }
-    requires placer { IsPlacer F.Fn placer.now }
+    requires placer { P.is_placer placer.now }
     requires few { file.map.comps ≤ MAX_FILE_COMPONENTS }
     requires enough { file.map.comps ≤ length (online state.old.drives) }
     requires usable { refusal (server_of state.old) file.number file.map ≡ None }
@@ -211,10 +207,10 @@ where
     let drives = chosen_for(alloc, state, file.map.raw().comps, placer)?;
     let mut made = unmade(alloc, state, file, drives.as_slice())?;
     let object = state.next_object + drives.len() as u64;
-    let mut moved = begins(alloc, state.next_nonce, object);
-    make(alloc, &mut made, &mut moved)?;
+    let mut effects = no_effects(alloc, state.next_nonce, object);
+    make(alloc, &mut made, &mut effects)?;
     put(&mut state.files, file.number, made)?;
-    let step = settle(alloc, state, moved)?;
+    let step = finish_step(alloc, state, effects)?;
     list(state, file.number)?;
     Ok(step)
 }
@@ -224,19 +220,17 @@ where
 /// # Errors
 ///
 /// As [`FileErr`] says. Then nothing is changed, want of memory excepted.
-pub fn create_file<F>(
+pub fn create_file<P: Place>(
     alloc: Global,
     state: &mut State,
     number: u32,
     raw: RawMap,
     tag: u32,
-    placer: &Placer<F>,
+    placer: &P,
 ) -> Result<Step, FileErr>
-where
-    F: Fn(u32, &[DriveLoad]) -> Result<Numbers, Memory>,
     requires good { IsGood state.old }
     requires room { HasRoom (server_of state.old) }
-    requires placer { IsPlacer F.Fn placer.now }
+    requires placer { P.is_placer placer.now }
     requires algorithm { HasAlgorithm raw }
     ensures refused { IfErr result (IsRefused number raw state.old state.new) }
     ensures made { IfOk result (λ out. Creates number raw tag state.old state.new out) }

@@ -13,7 +13,7 @@ use std::alloc::Global;
 /// A drive that the server is told of.
 #[derive(Clone, Copy, Debug, PartialEq, Eq)]
 pub struct DriveInfo {
-    /// Its number, below 64.
+    /// The number of the drive, below 64.
     pub number: u32,
     /// The key that capabilities on it are made with.
     pub key: [u8; DRIVE_KEY_BYTES],

@@ -1,6 +1,5 @@
 ghost use Rattle.std.specs.Prelude.{◌≡◌, ◌↔◌, ℕ, List, IsTrue, IfOk, OnOk};
-ghost use Rattle.stripe_repair.specs.Placing.{IsPlacer};
-ghost use Rattle.server_rules.specs.Messages.{counters_low, handled};
+ghost use Rattle.server_rules.specs.Messages.{counters_have_room, handled};
 ghost use Rattle.server_rules.specs.Envelopes.{on_bytes};
 ghost use Rattle.server_rules.specs.Orders.{ordered, with_result};
 ghost use Rattle.server_requests.specs.Reading.{message_rule};
@@ -11,32 +10,30 @@ use crate::declaring::order_declare;
 use crate::orders::{Obeyed, order_job, order_recall};
 use crate::replies::on_drive_reply;
 use layout_ops::{Order, OrderAnswer, OrderKind};
-use osd_lists::{Memory, Node, Numbers};
+use osd_lists::{Memory, Node};
 use server_requests::{Message, Sends, message_in, send_order_answer};
 use server_rules::{JobKind, MAX_CLIENT};
 use server_state::{State, Step, on_request, only_sends};
 use std::alloc::Global;
-use stripe_repair::{DriveLoad, Placer};
+use stripe_repair::Place;
 
-// An order, by its kind.
+/// Obeys an order on a file, or on a drive that is declared, by the order's kind.
 #[tactic(auto, unfolding(server_rules::specs::Orders::ordered))]
-fn obey<F>(
+pub fn obey<P: Place>(
     alloc: Global,
     state: &mut State,
-    order: Order,
-    placer: &Placer<F>,
+    kind: OrderKind,
+    target: u32,
+    placer: &P,
 ) -> Result<Obeyed, Memory>
-where
-    F: Fn(u32, &[DriveLoad]) -> Result<Numbers, Memory>,
     requires good { IsGood state.old }
     requires room { HasRoom (server_of state.old) }
-    requires placer { IsPlacer F.Fn placer.now }
+    requires placer { P.is_placer placer.now }
     ensures obeys { IfOk result (λ o. (chosen : List ℕ)
-        × Obeys o (server_of state.new) (ordered (server_of state.old) chosen order.order order.target)) }
+        × Obeys o (server_of state.new) (ordered (server_of state.old) chosen kind target)) }
     ensures good { OnOk result (IsGood state.new) }
 {
-    let target = order.target;
-    match order.order {
+    match kind {
         OrderKind::Recall => order_recall(alloc, state, target),
         OrderKind::Revoke => order_job(alloc, state, target, JobKind::Revoking, placer),
         OrderKind::Declare => order_declare(alloc, state, target, placer),
@@ -45,23 +42,21 @@ where
     }
 }
 
-// An order, and the answer to who gave it.
-fn obey_and_answer<F>(
+// Obeys an order, and answers who gave it.
+fn obey_and_answer<P: Place>(
     alloc: Global,
     state: &mut State,
     order: Order,
-    placer: &Placer<F>,
+    placer: &P,
 ) -> Result<Step, Memory>
-where
-    F: Fn(u32, &[DriveLoad]) -> Result<Numbers, Memory>,
     requires good { IsGood state.old }
     requires room { HasRoom (server_of state.old) }
-    requires placer { IsPlacer F.Fn placer.now }
+    requires placer { P.is_placer placer.now }
     ensures did { IfOk result (λ out. (chosen : List ℕ) × Did out (server_of state.new)
         (with_result order.order (ordered (server_of state.old) chosen order.order order.target))) }
     ensures good { OnOk result (IsGood state.new) }
 {
-    let Obeyed { mut step, result } = obey(alloc, state, order, placer)?;
+    let Obeyed { mut step, result } = obey(alloc, state, order.order, order.target, placer)?;
     let answer = OrderAnswer {
         order: order.order,
         result,
@@ -71,19 +66,17 @@ where
 }
 
 // The step of a message, by who sent it. One that its sender doesn't send changes nothing.
-fn handle<F>(
+fn handle<P: Place>(
     alloc: Global,
     state: &mut State,
     now: u64,
     from: Node,
     message: &Message,
-    placer: &Placer<F>,
+    placer: &P,
 ) -> Result<Step, Memory>
-where
-    F: Fn(u32, &[DriveLoad]) -> Result<Numbers, Memory>,
     requires good { IsGood state.old }
     requires room { HasRoom (server_of state.old) }
-    requires placer { IsPlacer F.Fn placer.now }
+    requires placer { P.is_placer placer.now }
     ensures did { IfOk result (λ out. (chosen : List ℕ) × Did out (server_of state.new)
         (handled (server_of state.old) now chosen from (message_rule message.now))) }
     ensures good { OnOk result (IsGood state.new) }
@@ -101,29 +94,27 @@ where
     }
 }
 
-/// The step of bytes from a node. Nothing changes where there is no message in them, or where the counters have no
-/// room: `low` says whether they have.
+/// The step of bytes from a node. Nothing changes if there is no message in them, or if the counters have no room:
+/// `has_room` says whether they have.
 #[tactic(auto, unfolding(server_rules::specs::Messages::on_message))]
-pub fn hear<F>(
+pub fn hear<P: Place>(
     alloc: Global,
     state: &mut State,
     now: u64,
     from: Node,
     bytes: &[u8],
-    placer: &Placer<F>,
-    low: bool,
+    placer: &P,
+    has_room: bool,
 ) -> Result<Step, Memory>
-where
-    F: Fn(u32, &[DriveLoad]) -> Result<Numbers, Memory>,
     requires good { IsGood state.old }
-    requires low { low ≡ counters_low (server_of state.old) }
-    requires room { IsTrue low ↔ HasRoom (server_of state.old) }
-    requires placer { IsPlacer F.Fn placer.now }
+    requires counters { has_room ≡ counters_have_room (server_of state.old) }
+    requires room { IsTrue has_room ↔ HasRoom (server_of state.old) }
+    requires placer { P.is_placer placer.now }
     ensures did { IfOk result (λ out. (chosen : List ℕ) × Did out (server_of state.new)
         (on_bytes (server_of state.old) now chosen from bytes.now)) }
     ensures good { OnOk result (IsGood state.new) }
 {
-    if !low {
+    if !has_room {
         return Ok(only_sends(alloc, Sends::new(alloc)));
     }
     match message_in(alloc, from, bytes)? {

@@ -4,7 +4,7 @@ ghost use Rattle.server_rules.specs.Answers.{recalls_from};
 ghost use Rattle.server_requests.specs.Sending.{all_sent};
 ghost use Rattle.server_rules.specs.Files.{file_at};
 ghost use Rattle.server_rules.specs.Orders.{ordered, starts, unknown};
-ghost use Rattle.stripe_repair.specs.Placing.{AreDifferent, IsPlacer, drives_of};
+ghost use Rattle.stripe_repair.specs.Placing.{AreDifferent, drives_of};
 ghost use Rattle.stripe_repair.specs.declared.loads.TheConstants.{MAX_DRIVES};
 ghost use Rattle.server_state.specs.declared.state.State.{State as AState};
 ghost use Rattle.file_jobs.specs.Placing.{AreLoadsOf};
@@ -17,12 +17,12 @@ ghost use Rattle.layout_server.specs.Orders.{begun, Begins, BegunIn, Obeys};
 use crate::loads::loads_of;
 use file_jobs::{FileState, begin, note};
 use layout_ops::OrderResult;
-use osd_lists::{Memory, Numbers};
+use osd_lists::Memory;
 use server_requests::{Sends, send_recalls};
-use server_rules::{GREATEST_TAG, Grant, JobKind, Moved, NoteKind};
-use server_state::{Files, State, Step, begins, list, only_sends, settle, unlist, waits};
+use server_rules::{Effects, GREATEST_TAG, Grant, JobKind, NoteKind};
+use server_state::{Files, State, Step, finish_step, list, no_effects, only_sends, unlist, waits};
 use std::alloc::Global;
-use stripe_repair::{DriveLoad, Placer};
+use stripe_repair::{DriveLoad, Place};
 
 /// The step of an order, and what came of it.
 #[derive(Debug, Drop)]
@@ -31,7 +31,7 @@ pub struct Obeyed {
     pub result: OrderResult,
 }
 
-/// There is no such file or drive.
+/// The answer to an order on a file or drive that isn't there.
 pub fn unknown(alloc: Global) -> Obeyed
     ensures { (s : AState) → Obeys result (server_of s) (unknown (server_of s)) }
 {
@@ -73,64 +73,60 @@ pub fn order_recall(alloc: Global, state: &mut State, number: u32) -> Result<Obe
 }
 
 // A fence begins at a file for a job of that kind, unless a job runs or the tag is spent.
-fn begin_at<F>(
+fn begin_at<P: Place>(
     alloc: Global,
     file: &mut FileState,
-    moved: &mut Moved,
+    effects: &mut Effects,
     kind: JobKind,
     format: u8,
     loads: &[DriveLoad],
-    placer: &Placer<F>,
+    placer: &P,
 ) -> Result<OrderResult, Memory>
-where
-    F: Fn(u32, &[DriveLoad]) -> Result<Numbers, Memory>,
     requires few { length loads.now ≤ MAX_DRIVES }
     requires different { AreDifferent (drives_of loads.now) }
-    requires placer { IsPlacer F.Fn placer.now }
+    requires placer { P.is_placer placer.now }
     requires sound { IsSoundFile file.old }
-    requires low { moved.old.nonce < 2 ^ 63 }
-    requires objects { moved.old.object < 2 ^ 63 }
+    requires low { effects.old.nonce < 2 ^ 63 }
+    requires objects { effects.old.object < 2 ^ 63 }
     ensures begun { IfOk result (λ r.
-        Begins (begun kind format file.old.job) loads.now file.old moved.old r file.new moved.new) }
+        Begins (begun kind format file.old.job) loads.now file.old effects.old r file.new effects.new) }
     ensures leaves { OnOk result (LeavesFile file.old file.new) }
 {
     if let Some(component) = waits(file) {
-        note(moved, file.kept.number, NoteKind::Busy { component })?;
+        note(effects, file.kept.number, NoteKind::Busy { component })?;
         return Ok(OrderResult::Busy);
     }
     if file.kept.tag == GREATEST_TAG {
-        note(moved, file.kept.number, NoteKind::Spent)?;
+        note(effects, file.kept.number, NoteKind::Spent)?;
         return Ok(OrderResult::Spent);
     }
-    begin(alloc, file, moved, kind, format, loads, placer)?;
+    begin(alloc, file, effects, kind, format, loads, placer)?;
     Ok(OrderResult::Started)
 }
 
-// The same at the file of its number, `None` exactly where there is none.
-fn begin_in<F>(
+// A fence begins at the file of that number for a job of that kind; `None` exactly if there is no such file.
+fn begin_in<P: Place>(
     alloc: Global,
     files: &mut Files,
-    moved: &mut Moved,
+    effects: &mut Effects,
     number: u32,
     kind: JobKind,
     format: u8,
     loads: &[DriveLoad],
-    placer: &Placer<F>,
+    placer: &P,
 ) -> Result<Option<OrderResult>, Memory>
-where
-    F: Fn(u32, &[DriveLoad]) -> Result<Numbers, Memory>,
     requires few { length loads.now ≤ MAX_DRIVES }
     requires different { AreDifferent (drives_of loads.now) }
-    requires placer { IsPlacer F.Fn placer.now }
+    requires placer { P.is_placer placer.now }
     requires files { AreEntries files.old.entries }
-    requires low { moved.old.nonce < 2 ^ 63 }
-    requires objects { moved.old.object < 2 ^ 63 }
+    requires low { effects.old.nonce < 2 ^ 63 }
+    requires objects { effects.old.object < 2 ^ 63 }
     ensures { IfOk result (λ r.
-        BegunIn kind format loads.now number files.old.entries moved.old r files.new.entries moved.new) }
+        BegunIn kind format loads.now number files.old.entries effects.old r files.new.entries effects.new) }
 {
     match files.get_mut(&number) {
         Some(file) => {
-            let result = begin_at(alloc, file, moved, kind, format, loads, placer)?;
+            let result = begin_at(alloc, file, effects, kind, format, loads, placer)?;
             Ok(Some(result))
         }
         None => Ok(None),
@@ -138,35 +134,40 @@ where
 }
 
 // The step of an order for a job at its file, which is unlisted.
-fn order_job_at<F>(
+fn order_job_at<P: Place>(
     alloc: Global,
     state: &mut State,
     number: u32,
     kind: JobKind,
     loads: &[DriveLoad],
-    placer: &Placer<F>,
+    placer: &P,
 ) -> Result<Obeyed, Memory>
-where
-    F: Fn(u32, &[DriveLoad]) -> Result<Numbers, Memory>,
     requires good { IsGoodBut number state.old }
     requires room { HasRoom (server_of state.old) }
     requires few { length loads.now ≤ MAX_DRIVES }
     requires different { AreDifferent (drives_of loads.now) }
     requires loads { AreLoadsOf loads.now state.old.drives }
-    requires placer { IsPlacer F.Fn placer.now }
+    requires placer { P.is_placer placer.now }
     ensures obeys { IfOk result (λ o. (chosen : List ℕ) × Obeys o (server_of state.new)
         (starts (server_of state.old) chosen kind (file_at (server_of state.old).files number))) }
     ensures good { OnOk result (IsGoodBut number state.new) }
 {
-    let mut moved = begins(alloc, state.next_nonce, state.next_object);
+    let mut effects = no_effects(alloc, state.next_nonce, state.next_object);
     let format = state.format;
     let files = &mut state.files;
     let begun = begin_in(
-        alloc, files, &mut moved, number, kind, format, loads, placer,
+        alloc,
+        files,
+        &mut effects,
+        number,
+        kind,
+        format,
+        loads,
+        placer,
     )?;
     match begun {
         Some(result) => {
-            let step = settle(alloc, state, moved)?;
+            let step = finish_step(alloc, state, effects)?;
             Ok(Obeyed { step, result })
         }
         None => Ok(unknown(alloc)),
@@ -174,18 +175,16 @@ where
 }
 
 /// A job of that kind begins at a file with its fence, unless one runs or the file's tag is spent.
-pub fn order_job<F>(
+pub fn order_job<P: Place>(
     alloc: Global,
     state: &mut State,
     number: u32,
     kind: JobKind,
-    placer: &Placer<F>,
+    placer: &P,
 ) -> Result<Obeyed, Memory>
-where
-    F: Fn(u32, &[DriveLoad]) -> Result<Numbers, Memory>,
     requires good { IsGood state.old }
     requires room { HasRoom (server_of state.old) }
-    requires placer { IsPlacer F.Fn placer.now }
+    requires placer { P.is_placer placer.now }
     ensures obeys { IfOk result (λ o. (chosen : List ℕ) × Obeys o (server_of state.new)
         (starts (server_of state.old) chosen kind (file_at (server_of state.old).files number))) }
     ensures good { OnOk result (IsGood state.new) }

@@ -3,7 +3,7 @@ ghost use Rattle.std.specs.Ordering.{nat_cmp};
 ghost use Rattle.std.specs.List.Sorted.{IsStrictlySortedBy};
 ghost use Rattle.std.specs.Map.{keys_of};
 ghost use Rattle.server_rules.specs.Messages.{on_drive_reply};
-ghost use Rattle.stripe_repair.specs.Placing.{AreDifferent, IsPlacer, drives_of};
+ghost use Rattle.stripe_repair.specs.Placing.{AreDifferent, drives_of};
 ghost use Rattle.stripe_repair.specs.declared.loads.TheConstants.{MAX_DRIVES};
 ghost use Rattle.file_jobs.specs.Placing.{AreLoadsOf};
 ghost use Rattle.server_state.specs.Tables.{AreEntries};
@@ -13,14 +13,14 @@ ghost use Rattle.layout_server.specs.Hearing.{AwaitedAt, AwaitedNowhere, HeardIn
 use crate::loads::loads_of;
 use file_jobs::on_reply;
 use osd_commands::Reply;
-use osd_lists::{Memory, Numbers};
+use osd_lists::Memory;
 use server_requests::Sends;
-use server_rules::Moved;
-use server_state::{Files, State, Step, begins, list, only_sends, settle, unlist};
+use server_rules::Effects;
+use server_state::{Files, State, Step, finish_step, list, no_effects, only_sends, unlist};
 use std::alloc::Global;
-use stripe_repair::{DriveLoad, Placer};
+use stripe_repair::{DriveLoad, Place};
 
-// That files stand in the order of their numbers. Nothing runs.
+// Says that files stand in the order of their numbers. Nothing runs.
 fn in_order(files: &Files)
     ensures { IsStrictlySortedBy nat_cmp (keys_of files.now.entries) }
 {
@@ -38,78 +38,79 @@ fn awaiting(state: &State, drive: u32, reply: &Reply) -> Option<u32>
 }
 
 // The file of that number hears it.
-fn hear_in<F>(
+fn hear_in<P: Place>(
     alloc: Global,
     files: &mut Files,
-    moved: &mut Moved,
+    effects: &mut Effects,
     number: u32,
     drive: u32,
     reply: &Reply,
     loads: &[DriveLoad],
-    placer: &Placer<F>,
+    placer: &P,
 ) -> Result<(), Memory>
-where
-    F: Fn(u32, &[DriveLoad]) -> Result<Numbers, Memory>,
     requires few { length loads.now ≤ MAX_DRIVES }
     requires different { AreDifferent (drives_of loads.now) }
-    requires placer { IsPlacer F.Fn placer.now }
+    requires placer { P.is_placer placer.now }
     requires files { AreEntries files.old.entries }
-    requires low { moved.old.nonce < 2 ^ 63 }
-    requires objects { moved.old.object < 2 ^ 63 }
+    requires low { effects.old.nonce < 2 ^ 63 }
+    requires objects { effects.old.object < 2 ^ 63 }
     ensures { OnOk result
-        (HeardIn loads.now drive reply.now number files.old.entries moved.old files.new.entries moved.new) }
+        (HeardIn loads.now drive reply.now number files.old.entries effects.old files.new.entries effects.new) }
 {
     if let Some(file) = files.get_mut(&number) {
-        on_reply(alloc, file, moved, drive, reply, loads, placer)?;
+        on_reply(alloc, file, effects, drive, reply, loads, placer)?;
     }
     Ok(())
 }
 
 // The step of a reply that the job of that file awaits, which is unlisted.
-fn hear_at<F>(
+fn hear_at<P: Place>(
     alloc: Global,
     state: &mut State,
     number: u32,
     drive: u32,
     reply: &Reply,
     loads: &[DriveLoad],
-    placer: &Placer<F>,
+    placer: &P,
 ) -> Result<Step, Memory>
-where
-    F: Fn(u32, &[DriveLoad]) -> Result<Numbers, Memory>,
     requires good { IsGoodBut number state.old }
     requires room { HasRoom (server_of state.old) }
     requires few { length loads.now ≤ MAX_DRIVES }
     requires different { AreDifferent (drives_of loads.now) }
     requires loads { AreLoadsOf loads.now state.old.drives }
-    requires placer { IsPlacer F.Fn placer.now }
+    requires placer { P.is_placer placer.now }
     requires awaited { AwaitedAt drive reply.now number state.old.files.entries }
     ensures did { IfOk result (λ out. (chosen : List ℕ) × Did out (server_of state.new)
         (on_drive_reply (server_of state.old) chosen drive reply.now)) }
     ensures good { OnOk result (IsGoodBut number state.new) }
 {
-    let mut moved = begins(alloc, state.next_nonce, state.next_object);
+    let mut effects = no_effects(alloc, state.next_nonce, state.next_object);
     let files = &mut state.files;
     hear_in(
-        alloc, files, &mut moved, number, drive, reply, loads, placer,
+        alloc,
+        files,
+        &mut effects,
+        number,
+        drive,
+        reply,
+        loads,
+        placer,
     )?;
-    settle(alloc, state, moved)
+    finish_step(alloc, state, effects)
 }
 
 // The same, with what its job awaits and where its components stand from then on.
-fn hear<F>(
+fn hear<P: Place>(
     alloc: Global,
     state: &mut State,
     number: u32,
     drive: u32,
     reply: &Reply,
-    placer: &Placer<F>,
+    placer: &P,
 ) -> Result<Step, Memory>
-where
-    F: Fn(u32, &[DriveLoad]) -> Result<Numbers, Memory>,
     requires good { IsGood state.old }
     requires room { HasRoom (server_of state.old) }
-    requires placer { IsPlacer F.Fn placer.now }
+    requires placer { P.is_placer placer.now }
     requires awaited { AwaitedAt drive reply.now number state.old.files.entries }
     ensures did { IfOk result (λ out. (chosen : List ℕ) × Did out (server_of state.new)
         (on_drive_reply (server_of state.old) chosen drive reply.now)) }
@@ -124,18 +125,16 @@ where
 }
 
 /// The step of a drive's reply, at the first file whose job awaits it. One that no job awaits changes nothing.
-pub fn on_drive_reply<F>(
+pub fn on_drive_reply<P: Place>(
     alloc: Global,
     state: &mut State,
     drive: u32,
     reply: &Reply,
-    placer: &Placer<F>,
+    placer: &P,
 ) -> Result<Step, Memory>
-where
-    F: Fn(u32, &[DriveLoad]) -> Result<Numbers, Memory>,
     requires good { IsGood state.old }
     requires room { HasRoom (server_of state.old) }
-    requires placer { IsPlacer F.Fn placer.now }
+    requires placer { P.is_placer placer.now }
     ensures did { IfOk result (λ out. (chosen : List ℕ) × Did out (server_of state.new)
         (on_drive_reply (server_of state.old) chosen drive reply.now)) }
     ensures good { OnOk result (IsGood state.new) }

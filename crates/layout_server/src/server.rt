@@ -3,11 +3,10 @@ ghost use Rattle.std.specs.Option.{option_copied};
 ghost use Rattle.layout_ops.specs.declared.orders.OrderKind.TheVariants as order;
 ghost use Rattle.data_map.specs.Check.{HasAlgorithm};
 ghost use Rattle.stripe_repair.specs.declared.loads.TheConstants.{MAX_DRIVES};
-ghost use Rattle.stripe_repair.specs.Placing.{IsPlacer};
 ghost use Rattle.server_rules.specs.Envelopes.{on_bytes};
 ghost use Rattle.server_rules.specs.Files.{file_at};
 ghost use Rattle.server_rules.specs.Making.{add_drive, new_server, set_format};
-ghost use Rattle.server_rules.specs.Messages.{counters_low, resend};
+ghost use Rattle.server_rules.specs.Messages.{counters_have_room, resend};
 ghost use Rattle.server_rules.specs.Orders.{ordered};
 ghost use Rattle.server_requests.specs.Sending.{all_sent};
 ghost use Rattle.server_state.specs.States.{server_of, Did, HasRoom, IsGood};
@@ -19,18 +18,19 @@ use crate::creating::{FileErr, create_file};
 use crate::declaring::order_declare;
 use crate::drives::{DriveInfo, DriveTable, add_drive, add_drives};
 use crate::looking::{kept_of, numbers_of};
-use crate::messages::hear;
-use crate::orders::{order_job, order_recall};
+use crate::messages::{hear, obey};
+use crate::orders::order_recall;
 use crate::resending::{resend, waits};
 use data_map::RawMap;
+use layout_ops::OrderKind;
 use osd_lists::{Memory, Node, Numbers};
 use server_requests::Sends;
-use server_rules::{COUNTERS_END, Drive, JobKind, Kept};
+use server_rules::{COUNTERS_END, Drive, Kept};
 use server_state::{State, Step};
 use std::alloc::Global;
 use std::marker::Model;
 use std::mem;
-use stripe_repair::{DriveLoad, Placer};
+use stripe_repair::Place;
 
 /// The metadata server. Contracts see the server of the rules.
 ///
@@ -109,17 +109,15 @@ impl ServerCore {
     /// # Errors
     ///
     /// As [`FileErr`] says. Then nothing is changed, want of memory excepted.
-    pub fn create_file<F>(
+    pub fn create_file<P: Place>(
         &mut self,
         file: u32,
         raw: RawMap,
         tag: u32,
-        placer: &Placer<F>,
+        placer: &P,
     ) -> Result<Step, FileErr>
-    where
-        F: Fn(u32, &[DriveLoad]) -> Result<Numbers, Memory>,
         requires room { HasRoom self.old }
-        requires placer { IsPlacer F.Fn placer.now }
+        requires placer { P.is_placer placer.now }
         requires algorithm { HasAlgorithm raw }
         ensures refused { IfErr result (IsRefused file raw self.old self.new) }
         ensures made { IfOk result (λ out. Makes file raw tag self.old self.new out) }
@@ -143,24 +141,46 @@ impl ServerCore {
 
     /// Bytes come from a node, at a time of the server's clock in seconds. Nothing changes where they can't be read,
     /// where their sender may not send such a message, or where the counters have no room.
-    pub fn on_message<F>(
+    pub fn on_message<P: Place>(
         &mut self,
         now: u64,
         from: Node,
         bytes: &[u8],
-        placer: &Placer<F>,
+        placer: &P,
     ) -> Result<Step, Memory>
-    where
-        F: Fn(u32, &[DriveLoad]) -> Result<Numbers, Memory>,
-        requires placer { IsPlacer F.Fn placer.now }
+        requires placer { P.is_placer placer.now }
         ensures { IfOk result (λ out. (chosen : List ℕ)
             × Did out self.new (on_bytes self.old now chosen from bytes.now)) }
     {
-        let low = self.counters_low();
+        let has_room = self.counters_low();
         let mut state = self.begin()?;
-        let step = hear(self.alloc, &mut state, now, from, bytes, placer, low)?;
+        let step = hear(self.alloc, &mut state, now, from, bytes, placer, has_room)?;
         self.keep(state);
         Ok(step)
+    }
+
+    /// The server is given an order on a file, or on a drive that is declared. [`recall`](Self::recall),
+    /// [`revoke`](Self::revoke), [`rebuild`](Self::rebuild), [`audit`](Self::audit) and [`declare`](Self::declare) say
+    /// what each kind does.
+    ///
+    /// # Errors
+    ///
+    /// Want of memory; and, where a drive is declared, a counter of 64 bits without room in the middle of the step.
+    pub fn order<P: Place>(
+        &mut self,
+        kind: OrderKind,
+        target: u32,
+        placer: &P,
+    ) -> Result<Step, Memory>
+        requires room { HasRoom self.old }
+        requires placer { P.is_placer placer.now }
+        ensures { IfOk result (λ out. (chosen : List ℕ)
+            × Did out self.new (ordered self.old chosen kind target).step) }
+    {
+        let mut state = self.begin()?;
+        let obeyed = obey(self.alloc, &mut state, kind, target, placer)?;
+        self.keep(state);
+        Ok(obeyed.step)
     }
 
     /// A recall goes to each holder of a grant on a file.
@@ -176,64 +196,45 @@ impl ServerCore {
     }
 
     /// A fence of a file begins, with the repair behind it, unless a job runs or the file's tag is spent.
-    #[tactic(auto, unfolding(server_rules::specs::Orders::ordered))]
-    pub fn revoke<F>(&mut self, file: u32, placer: &Placer<F>) -> Result<Step, Memory>
-    where
-        F: Fn(u32, &[DriveLoad]) -> Result<Numbers, Memory>,
+    pub fn revoke<P: Place>(&mut self, file: u32, placer: &P) -> Result<Step, Memory>
         requires room { HasRoom self.old }
-        requires placer { IsPlacer F.Fn placer.now }
+        requires placer { P.is_placer placer.now }
         ensures { IfOk result (λ out. (chosen : List ℕ)
             × Did out self.new (ordered self.old chosen order.Revoke file).step) }
     {
-        let mut state = self.begin()?;
-        let obeyed = order_job(self.alloc, &mut state, file, JobKind::Revoking, placer)?;
-        self.keep(state);
-        Ok(obeyed.step)
+        self.order(OrderKind::Revoke, file, placer)
     }
 
     /// The missing components of a file are made anew on other drives, behind a fence and its repair; unless a job
     /// runs or the file's tag is spent.
-    #[tactic(auto, unfolding(server_rules::specs::Orders::ordered))]
-    pub fn rebuild<F>(&mut self, file: u32, placer: &Placer<F>) -> Result<Step, Memory>
-    where
-        F: Fn(u32, &[DriveLoad]) -> Result<Numbers, Memory>,
+    pub fn rebuild<P: Place>(&mut self, file: u32, placer: &P) -> Result<Step, Memory>
         requires room { HasRoom self.old }
-        requires placer { IsPlacer F.Fn placer.now }
+        requires placer { P.is_placer placer.now }
         ensures { IfOk result (λ out. (chosen : List ℕ)
             × Did out self.new (ordered self.old chosen order.Rebuild file).step) }
     {
-        let mut state = self.begin()?;
-        let obeyed = order_job(self.alloc, &mut state, file, JobKind::Rebuilding, placer)?;
-        self.keep(state);
-        Ok(obeyed.step)
+        self.order(OrderKind::Rebuild, file, placer)
     }
 
     /// The stripes of a file are read and compared, behind a fence and its repair; unless a job runs or the file's
     /// tag is spent.
-    #[tactic(auto, unfolding(server_rules::specs::Orders::ordered))]
-    pub fn audit<F>(&mut self, file: u32, placer: &Placer<F>) -> Result<Step, Memory>
-    where
-        F: Fn(u32, &[DriveLoad]) -> Result<Numbers, Memory>,
+    pub fn audit<P: Place>(&mut self, file: u32, placer: &P) -> Result<Step, Memory>
         requires room { HasRoom self.old }
-        requires placer { IsPlacer F.Fn placer.now }
+        requires placer { P.is_placer placer.now }
         ensures { IfOk result (λ out. (chosen : List ℕ)
             × Did out self.new (ordered self.old chosen order.Audit file).step) }
     {
-        let mut state = self.begin()?;
-        let obeyed = order_job(self.alloc, &mut state, file, JobKind::Auditing, placer)?;
-        self.keep(state);
-        Ok(obeyed.step)
+        self.order(OrderKind::Audit, file, placer)
     }
 
-    /// A drive has failed: it is offline from now on, and each component on it missing.
+    /// A drive has failed: it is offline from now on, and each component on it missing. Unlike the other orders this
+    /// one may be given where the counters have little room.
     ///
     /// # Errors
     ///
     /// Want of memory; and, in place of it, a counter of 64 bits without room in the middle of the step.
-    pub fn declare<F>(&mut self, drive: u32, placer: &Placer<F>) -> Result<Step, Memory>
-    where
-        F: Fn(u32, &[DriveLoad]) -> Result<Numbers, Memory>,
-        requires placer { IsPlacer F.Fn placer.now }
+    pub fn declare<P: Place>(&mut self, drive: u32, placer: &P) -> Result<Step, Memory>
+        requires placer { P.is_placer placer.now }
         ensures { IfOk result (λ out. (chosen : List ℕ)
             × Did out self.new (ordered self.old chosen order.Declare drive).step) }
     {
@@ -261,9 +262,9 @@ impl ServerCore {
     }
 
     /// Whether the counters of 64 bits have room: each is below 9,223,372,036,854,775,808.
-    #[tactic(auto, unfolding(server_rules::specs::Messages::counters_low))]
+    #[tactic(auto, unfolding(server_rules::specs::Messages::counters_have_room))]
     pub fn counters_low(&self) -> bool
-        ensures value { result ≡ counters_low self.now }
+        ensures value { result ≡ counters_have_room self.now }
         ensures room { IsTrue result ↔ HasRoom self.now }
     {
         let state = &self.state;

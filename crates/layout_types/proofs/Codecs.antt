@@ -1,7 +1,8 @@
 -- Reading a structure and spelling it are each other's inverse.
 use Rattle.std.proofs.Common.{◌≡◌, ◌⊎◌, ℕ, ◌<◌, ◌^◌, Bool, true, false, ◌&&◌, cond, eqb, leb, ltb, List, [], ◌∷◌, ◌++◌, Option, None, Some, inl, inr, Ok, refl, sym, ap, subst, ◌∙◌, arith}
 use Rattle.std.specs.Prelude.{⊤}
-use Rattle.std.proofs.lemmas.Bool.{leb-true, le-leb, ltb-true, lt-ltb, eqb-true}
+use Rattle.std.proofs.lemmas.Bool.{leb-true, le-leb, ltb-true, lt-ltb, eqb-true, and_parts}
+use Rattle.std.proofs.lemmas.Option.{none-some}
 use Rattle.osd_lists.specs.Blocks.{IsBytes}
 use Rattle.data_map.specs.declared.check.RawMap.{RawMap}
 use Rattle.xdr_codec.specs.Items.{u32_item, u64_item, i64_item, bool_item, fixed_item, opaque_item}
@@ -33,16 +34,12 @@ use Rattle.layout_types.proofs.Steps.{u32_law, u64_law, i64_law, bool_law, fixed
 
 -- ---- enumerations
 
-and_true : (a b : Bool) → (a && b) ≡ true → (a ≡ true) × (b ≡ true)
-and_true true b e = (refl, e)
-and_true false b e = absurd cc
-
 algorithm_only : (n v : ℕ) → algorithm_of n ≡ Some v → (v ≡ n) × IsAlgorithm v
 algorithm_only n v e =
     elim (chosen (ltb 0 n && leb n 4) (Some n) None (Some v) e) [
       | inl p ↦
           let same : n ≡ v = cc in
-          let both = and_true (ltb 0 n) (leb n 4) p.0 in
+          let both = and_parts (ltb 0 n) (leb n 4) p.0 in
           (sym same, rw (← same) (ltb-true 0 n both.0, leb-true n 4 both.1))
       | inr p ↦ absurd cc
     ]
@@ -60,9 +57,6 @@ some_is n m x v o e =
       | inr p ↦ inr p.1
     ]
 
-none_is_not : {V : Type 0} (v : V) → None ≡ Some v → ⊥
-none_is_not v e = absurd cc
-
 version_only : (n : ℕ) (v : OsdVersion) → version_of n ≡ Some v → (version_number v ≡ n) × ⊤
 version_only n v e =
     elim (some_is n 0 version.Missing v _ e) [
@@ -74,7 +68,7 @@ version_only n v e =
                 elim (some_is n 2 version.Version2 v _ q1) [
                   | inl p ↦ (ap version_number (sym p.1) ∙ sym p.0, tt)
                   | inr q2 ↦
-                      absurd (none_is_not v q2)
+                      absurd (none-some v q2)
                 ]
           ]
     ]
@@ -100,7 +94,7 @@ security_only n v e =
           elim (some_is n 1 security.Ssv v _ q0) [
             | inl p ↦ (ap security_number (sym p.1) ∙ sym p.0, tt)
             | inr q1 ↦
-                absurd (none_is_not v q1)
+                absurd (none-some v q1)
           ]
     ]
 
@@ -138,7 +132,7 @@ errno_only n v e =
                                         elim (some_is n 7 errno.Resource v _ q5) [
                                           | inl p ↦ (ap errno_number (sym p.1) ∙ sym p.0, tt)
                                           | inr q6 ↦
-                                              absurd (none_is_not v q6)
+                                              absurd (none-some v q6)
                                         ]
                                   ]
                             ]

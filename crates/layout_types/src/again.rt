@@ -24,7 +24,7 @@ use std::alloc::Global;
 pub fn written_again(alloc: Global, kind: Kind, bytes: &[u8]) -> Result<Bytes, LayoutErr>
     // Which bytes, or which refusal.
     ensures exact { GivesOrMemory (written_of kind bytes.now) result }
-    // They are the same.
+    // The bytes that are written are those that were read.
     ensures same { IfOk result (λ written. written ≡ bytes.now) }
 {
     let written = match kind {

@@ -42,13 +42,13 @@ pub struct DeviceAddr {
     pub oda_targetid: TargetId,
     /// Where it is reached, if that is told.
     pub oda_targetaddr: Option<NetAddr>,
-    /// Its logical unit number.
+    /// The logical unit number of the drive.
     pub oda_lun: [u8; LUN_BYTES],
-    /// Its system id, at most [`MAX_OPAQUE`](crate::MAX_OPAQUE) bytes.
+    /// The system id of the drive, at most [`MAX_OPAQUE`](crate::MAX_OPAQUE) bytes.
     pub oda_systemid: Bytes,
     /// A credential for its root object.
     pub oda_root_obj_cred: ObjectCred,
-    /// Its name, at most [`MAX_OPAQUE`](crate::MAX_OPAQUE) bytes.
+    /// The name of the drive, at most [`MAX_OPAQUE`](crate::MAX_OPAQUE) bytes.
     pub oda_osdname: Bytes,
 }
 

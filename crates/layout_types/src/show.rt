@@ -298,7 +298,7 @@ fn show_hint(
     }
 }
 
-// The same number in 64 bits.
+// A number of 32 bits, if there is one, as one of 64.
 fn widened(value: Option<u32>) -> Option<u64>
     ensures { result ≡ value }
 {

@@ -2,6 +2,7 @@
 use Rattle.std.specs.Prelude.{◌≡◌, ◌<◌, ◌++◌, ℕ, List, [], Some, length, slice_get}
 use Rattle.osd_lists.specs.declared.node.Node.{Node}
 use Rattle.scenario_text.specs.declared.line.Party.{Party}
+use Rattle.server_rules.specs.History.{Input}
 use Rattle.world_history.specs.declared.messages.Message.{Message}
 use Rattle.world_history.specs.declared.messages.Sent.{Sent}
 use Rattle.world_history.specs.ServerNames.{Mended}
@@ -24,6 +25,10 @@ use Rattle.layout_world.specs.State.{ShowsWith, Shows}
 -- the repairs that the server ends in a move
 abbrev pub ends_in : Action → World → (chosen : List ℕ) → List Mended
 ends_in action w chosen = mended_in (did_in w (record { action = action; chosen = chosen }))
+
+-- the repairs that the server ends where this comes to it
+abbrev pub ends_by : Input → World → (chosen : List ℕ) → List Mended
+ends_by i w chosen = mended_in (step_by w.server chosen (Some i))
 
 -- The world does this and ends these repairs, with some drives that the placer names: the parties show it then, and the
 -- act is the code's.

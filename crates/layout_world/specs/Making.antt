@@ -9,7 +9,7 @@ use Rattle.world_history.specs.Told.{told_file_refusal}
 use Rattle.world_network.specs.declared.acts.Act.{Act}
 use Rattle.world_network.specs.Acts.{line_alone}
 
--- there was memory, and the refusal of that cause has its note
+-- the cause isn't want of memory, and the refusal of that cause has its note
 pub record IsRefusedAs (file : ℕ) (why : FileErr) (act : Act) : Type 0 where
   pub known : why ≢ Memory
   pub told : (r : Refusal) → why ≡ cause_of r → act ≡ line_alone (line.Note file (told_file_refusal r))

@@ -1,6 +1,5 @@
 // What an event begins with.
 ghost use Rattle.std.specs.Prelude.{◌≡◌, true, IfOk};
-ghost use Rattle.stripe_repair.specs.Placing.{IsPlacer};
 ghost use Rattle.world_history.specs.Moves.{Opens, begins, injects};
 ghost use Rattle.layout_world.specs.Acting.{Acts, ActsWith, ends_in};
 ghost use Rattle.layout_world.specs.Groups.{is_plain};
@@ -9,10 +8,11 @@ use crate::changing::change;
 use crate::delivering::deliver;
 use crate::parties::Parties;
 use crate::{by_client, by_server};
-use osd_lists::{Memory, Numbers};
+use layout_ops::OrderKind;
+use osd_lists::Memory;
 use scenario_text::{DriveName, Event, Line, Sender};
 use std::alloc::Global;
-use stripe_repair::{DriveLoad, Placer};
+use stripe_repair::Place;
 use world_network::Act;
 use world_parties::drives_are_the_worlds;
 
@@ -68,27 +68,36 @@ fn begin_plain(parties: &mut Parties, alloc: Global, event: &Event) -> Result<Ac
 
 /// What an event begins with. It isn't refused.
 #[tactic(auto, unfolding(world_history::specs::Moves::begins))]
-pub fn begin<F>(
+pub fn begin<P: Place>(
     parties: &mut Parties,
     alloc: Global,
     event: &Event,
-    placer: &Placer<F>,
+    placer: &P,
 ) -> Result<Act, Memory>
-where
-    F: Fn(u32, &[DriveLoad]) -> Result<Numbers, Memory>,
-    requires placer { IsPlacer F.Fn placer.now }
-    ensures { IfOk result (λ act. ActsWith (λ w chosen. begins w chosen event.now) (ends_in (Opens event.now)) parties.old parties.new act) }
+    requires placer { P.is_placer placer.now }
+    ensures { IfOk result (λ act. ActsWith (λ w chosen. begins w chosen event.now) (ends_in (Opens event.now))
+        parties.old parties.new act) }
 {
     match event {
         Event::Deliver { message } => deliver(parties, alloc, *message as usize, placer),
         Event::File { file, map, tag } => {
             by_server::make_file(parties, alloc, *file, map, *tag, placer)
         }
-        Event::Recall { file } => by_server::recall(parties, alloc, *file),
-        Event::Revoke { file } => by_server::revoke(parties, alloc, *file, placer),
-        Event::Rebuild { file } => by_server::rebuild(parties, alloc, *file, placer),
-        Event::Audit { file } => by_server::audit(parties, alloc, *file, placer),
-        Event::Declare { drive } => by_server::declare(parties, alloc, *drive, placer),
+        Event::Recall { file } => {
+            by_server::order(parties, alloc, OrderKind::Recall, file.number(), placer)
+        }
+        Event::Revoke { file } => {
+            by_server::order(parties, alloc, OrderKind::Revoke, file.number(), placer)
+        }
+        Event::Rebuild { file } => {
+            by_server::order(parties, alloc, OrderKind::Rebuild, file.number(), placer)
+        }
+        Event::Audit { file } => {
+            by_server::order(parties, alloc, OrderKind::Audit, file.number(), placer)
+        }
+        Event::Declare { drive } => {
+            by_server::order(parties, alloc, OrderKind::Declare, drive.number(), placer)
+        }
         _ => begin_plain(parties, alloc, event),
     }
 }

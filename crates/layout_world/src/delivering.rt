@@ -1,15 +1,14 @@
 // A message is delivered.
 ghost use Rattle.std.specs.Prelude.{◌≡◌, ◌<◌, length, IfOk, OnOk};
-ghost use Rattle.stripe_repair.specs.Placing.{IsPlacer};
 ghost use Rattle.scenario_text.specs.declared.line.Party.TheVariants as party;
 ghost use Rattle.world_history.specs.Moves.{Delivers, delivers};
 ghost use Rattle.layout_world.specs.Acting.{ActsWith, ends_in, HandsAt, HandsTo, Marked};
 
 use crate::parties::Parties;
-use osd_lists::{Memory, Numbers};
+use osd_lists::Memory;
 use scenario_text::{ClientName, Delivery, DriveName, Line, Party};
 use std::alloc::Global;
-use stripe_repair::{DriveLoad, Placer};
+use stripe_repair::Place;
 use world_network::{Act, Handed, behind, network_shows, node_of};
 use world_parties::{clients_are_the_worlds, drives_are_the_worlds};
 
@@ -53,16 +52,14 @@ fn hand_client(
 }
 
 // The same to the server.
-fn hand_server<F>(
+fn hand_server<P: Place>(
     parties: &mut Parties,
     alloc: Global,
     number: usize,
-    placer: &Placer<F>,
+    placer: &P,
 ) -> Result<Handed, Memory>
-where
-    F: Fn(u32, &[DriveLoad]) -> Result<Numbers, Memory>,
     requires sent { number < length parties.old.network.messages }
-    requires placer { IsPlacer F.Fn placer.now }
+    requires placer { P.is_placer placer.now }
     ensures handed { IfOk result (λ h. HandsTo number party.Server parties.old parties.new h) }
     ensures network { parties.new.network ≡ parties.old.network }
 {
@@ -76,16 +73,14 @@ where
 }
 
 // Message `number` comes to its receiver.
-fn hand<F>(
+fn hand<P: Place>(
     parties: &mut Parties,
     alloc: Global,
     number: usize,
-    placer: &Placer<F>,
+    placer: &P,
 ) -> Result<Handed, Memory>
-where
-    F: Fn(u32, &[DriveLoad]) -> Result<Numbers, Memory>,
     requires sent { number < length parties.old.network.messages }
-    requires placer { IsPlacer F.Fn placer.now }
+    requires placer { P.is_placer placer.now }
     ensures handed { IfOk result (λ h. HandsAt number parties.old parties.new h) }
     ensures network { parties.new.network ≡ parties.old.network }
 {
@@ -97,16 +92,15 @@ where
 }
 
 /// Message `number` is delivered; nothing happens where there is none.
-pub fn deliver<F>(
+pub fn deliver<P: Place>(
     parties: &mut Parties,
     alloc: Global,
     number: usize,
-    placer: &Placer<F>,
+    placer: &P,
 ) -> Result<Act, Memory>
-where
-    F: Fn(u32, &[DriveLoad]) -> Result<Numbers, Memory>,
-    requires placer { IsPlacer F.Fn placer.now }
-    ensures acts { IfOk result (λ act. ActsWith (λ w chosen. delivers w chosen number) (ends_in (Delivers number)) parties.old parties.new act) }
+    requires placer { P.is_placer placer.now }
+    ensures acts { IfOk result (λ act. ActsWith (λ w chosen. delivers w chosen number) (ends_in (Delivers number))
+        parties.old parties.new act) }
     ensures marked { OnOk result (Marked number parties.old.network parties.new.network) }
 {
     network_shows();

@@ -1,6 +1,5 @@
 // What is due behind the first move of an event.
 ghost use Rattle.std.specs.Prelude.{◌≡◌, ◌≤◌, ◌⊎◌, length, IfErr, OnOk};
-ghost use Rattle.stripe_repair.specs.Placing.{IsPlacer};
 ghost use Rattle.world_history.specs.Plans.{Prompt as Promptly};
 ghost use Rattle.layout_world.specs.Acting.{Grows};
 ghost use Rattle.layout_world.specs.Going.{QuietsAll, FinishesAll, MovesIf, behind};
@@ -11,27 +10,25 @@ ghost use Rattle.layout_world.specs.Watching.{LeavesTold};
 use crate::moving::{deliver_move, pend_move, time_out_move};
 use crate::parties::Parties;
 use crate::rules::{Quiet, Rule, quiet_of};
-use osd_lists::{Memory, Numbers};
+use osd_lists::Memory;
 use scenario_text::ClientName;
 use std::alloc::Global;
-use stripe_repair::{DriveLoad, Placer};
+use stripe_repair::Place;
 use world_history::WorldErr;
 use world_network::{Lines, network_shows};
 use world_watch::Watch;
 
 // Delivers the pending messages from number `start` on, also those that are sent meanwhile. Each message has bytes of its
 // own, so that memory ends before the loop does.
-fn settle<F>(
+fn settle<P: Place>(
     parties: &mut Parties,
     watch: &mut Watch,
     alloc: Global,
     start: usize,
-    placer: &Placer<F>,
+    placer: &P,
     lines: &mut Lines,
 ) -> Result<(), WorldErr>
-where
-    F: Fn(u32, &[DriveLoad]) -> Result<Numbers, Memory>,
-    requires placer { IsPlacer F.Fn placer.now }
+    requires placer { P.is_placer placer.now }
     ensures quiets { QuietsAll start parties.old parties.new watch.old watch.new lines.old lines.new result }
     ensures told { LeavesTold watch.old watch.new }
     ensures halts { IfErr result IsEnd }
@@ -86,18 +83,16 @@ fn quieten(
 // Delivers messages from number `first` on, for the call of a client where one is named: where no message is left, the
 // lowest awaited component times out. A component times out once for each message that is sent, so that memory ends
 // before the loop does.
-fn prompt<F>(
+fn prompt<P: Place>(
     parties: &mut Parties,
     watch: &mut Watch,
     alloc: Global,
     first: usize,
     client: Option<ClientName>,
-    placer: &Placer<F>,
+    placer: &P,
     lines: &mut Lines,
 ) -> Result<(), WorldErr>
-where
-    F: Fn(u32, &[DriveLoad]) -> Result<Numbers, Memory>,
-    requires placer { IsPlacer F.Fn placer.now }
+    requires placer { P.is_placer placer.now }
     ensures finishes { first ≤ length parties.old.network.messages
         → FinishesAll (behind (Promptly first client)) parties.old parties.new watch.old watch.new lines.old lines.new result }
     ensures told { LeavesTold watch.old watch.new }
@@ -133,17 +128,15 @@ where
 /// # Errors
 ///
 /// `KeptFull` where a message would pass the limit of kept bytes, and `Memory`.
-pub fn follow<F>(
+pub fn follow<P: Place>(
     parties: &mut Parties,
     watch: &mut Watch,
     alloc: Global,
     rule: Rule,
-    placer: &Placer<F>,
+    placer: &P,
     lines: &mut Lines,
 ) -> Result<(), WorldErr>
-where
-    F: Fn(u32, &[DriveLoad]) -> Result<Numbers, Memory>,
-    requires placer { IsPlacer F.Fn placer.now }
+    requires placer { P.is_placer placer.now }
     ensures finishes { IsWithin rule (length parties.old.network.messages)
         → FinishesAll (behind (rule_in rule)) parties.old parties.new watch.old watch.new lines.old lines.new result }
     ensures told { LeavesTold watch.old watch.new }

@@ -1,6 +1,5 @@
 // The moves behind the first one of an event.
 ghost use Rattle.std.specs.Prelude.{OnOk, IfErr};
-ghost use Rattle.stripe_repair.specs.Placing.{IsPlacer};
 ghost use Rattle.world_history.specs.Moves.{Delivers as DeliversAt, TimesOut, Pends};
 ghost use Rattle.layout_world.specs.Acting.{Grows};
 ghost use Rattle.layout_world.specs.Going.{Moves, SettlesOne};
@@ -11,10 +10,10 @@ use crate::acts::perform;
 use crate::by_client::{pend, time_out};
 use crate::delivering::deliver;
 use crate::parties::Parties;
-use osd_lists::{Memory, Numbers};
+use osd_lists::Memory;
 use scenario_text::ClientName;
 use std::alloc::Global;
-use stripe_repair::{DriveLoad, Placer};
+use stripe_repair::Place;
 use world_history::WorldErr;
 use world_network::Lines;
 use world_watch::Watch;
@@ -24,17 +23,15 @@ use world_watch::Watch;
 /// # Errors
 ///
 /// `KeptFull` where a message would pass the limit of kept bytes, and `Memory`.
-pub fn deliver_move<F>(
+pub fn deliver_move<P: Place>(
     parties: &mut Parties,
     watch: &mut Watch,
     alloc: Global,
     number: usize,
-    placer: &Placer<F>,
+    placer: &P,
     lines: &mut Lines,
 ) -> Result<(), WorldErr>
-where
-    F: Fn(u32, &[DriveLoad]) -> Result<Numbers, Memory>,
-    requires placer { IsPlacer F.Fn placer.now }
+    requires placer { P.is_placer placer.now }
     ensures moves { Moves (DeliversAt number) parties.old parties.new watch.old watch.new lines.old lines.new result }
     ensures settles { OnOk result (SettlesOne number parties.old.network.messages parties.new.network.messages) }
     ensures told { LeavesTold watch.old watch.new }

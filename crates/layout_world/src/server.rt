@@ -1,10 +1,8 @@
 ghost use Rattle.std.specs.Prelude.{◌≡◌, [], not, is_some, IfOk, OnOk};
-ghost use Rattle.stripe_repair.specs.Placing.{IsPlacer};
 ghost use Rattle.server_rules.specs.Files.{file_at, Step as RulesStep};
 ghost use Rattle.server_rules.specs.Making.{new_server};
 ghost use Rattle.server_rules.specs.History.{Obeys, Formats, Resends};
 ghost use Rattle.server_state.specs.States.{HasRoom, Did};
-ghost use Rattle.world_history.specs.ServerNames.{ToRecall, ToRevoke, ToRebuild, ToAudit, ToDeclare};
 ghost use Rattle.world_history.specs.State.{World};
 ghost use Rattle.world_history.specs.Moves.{raw_of, gives};
 ghost use Rattle.world_history.specs.Refusals.{lacks_file};
@@ -13,14 +11,15 @@ ghost use Rattle.layout_world.specs.ServerActing.{Acts, Adds, Does, Gives, Hears
 
 use crate::making::{has_algorithm, has_number, raw_map, tell_refusal};
 use crate::posting::postings;
+use layout_ops::OrderKind;
 use layout_server::{DriveInfo, DriveTable, Repairs, ServerCore, Step};
-use osd_lists::{Memory, Node, Numbers};
+use osd_lists::{Memory, Node};
 use scenario_text::{Delivery, DriveName, FileMap, FileName, Line, MapFault, Note};
 use server_rules::Kept;
 use std::alloc::Global;
 use std::marker::Model;
 use std::mem;
-use stripe_repair::{DriveLoad, Placer};
+use stripe_repair::Place;
 use world_network::{Act, Handed, Lines, lines_of};
 use world_watch::KeptFiles;
 
@@ -108,17 +107,15 @@ impl WorldServer {
     }
 
     /// A message comes to the server, at a time of its clock in seconds.
-    pub fn hear<F>(
+    pub fn hear<P: Place>(
         &mut self,
         alloc: Global,
         now: u64,
         from: Node,
         bytes: &[u8],
-        placer: &Placer<F>,
+        placer: &P,
     ) -> Result<Handed, Memory>
-    where
-        F: Fn(u32, &[DriveLoad]) -> Result<Numbers, Memory>,
-        requires { IsPlacer F.Fn placer.now }
+        requires { P.is_placer placer.now }
         ensures { IfOk result (Hears self.old.state now from bytes.now self.new) }
     {
         let step = self.core.on_message(now, from, bytes, placer)?;
@@ -153,17 +150,15 @@ impl WorldServer {
 
     /// A file is made, or it is noted why it isn't. A map that names no parity algorithm is told as one whose groups
     /// have no width.
-    pub fn make_file<F>(
+    pub fn make_file<P: Place>(
         &mut self,
         alloc: Global,
         file: FileName,
         map: &FileMap,
         tag: u32,
-        placer: &Placer<F>,
+        placer: &P,
     ) -> Result<Act, Memory>
-    where
-        F: Fn(u32, &[DriveLoad]) -> Result<Numbers, Memory>,
-        requires { IsPlacer F.Fn placer.now }
+        requires { P.is_placer placer.now }
         ensures { IfOk result (Makes self.old file (raw_of map.now) tag self.new) }
     {
         self.ready()?;
@@ -186,80 +181,19 @@ impl WorldServer {
         }
     }
 
-    /// Every grant of a file is recalled.
-    pub fn recall(&mut self, alloc: Global, file: FileName) -> Result<Act, Memory>
-        ensures { IfOk result (Gives self.old.state (Obeys ToRecall file) self.new) }
-    {
-        self.ready()?;
-        let step = self.core.recall(file.number())?;
-        self.did(alloc, step)
-    }
-
-    /// A fence and a repair of a file begin.
-    pub fn revoke<F>(
+    /// The server is given an order on a file, or on a failed drive that is taken out.
+    pub fn order<P: Place>(
         &mut self,
         alloc: Global,
-        file: FileName,
-        placer: &Placer<F>,
+        kind: OrderKind,
+        target: u32,
+        placer: &P,
     ) -> Result<Act, Memory>
-    where
-        F: Fn(u32, &[DriveLoad]) -> Result<Numbers, Memory>,
-        requires { IsPlacer F.Fn placer.now }
-        ensures { IfOk result (Gives self.old.state (Obeys ToRevoke file) self.new) }
+        requires { P.is_placer placer.now }
+        ensures { IfOk result (Gives self.old.state (Obeys kind target) self.new) }
     {
         self.ready()?;
-        let step = self.core.revoke(file.number(), placer)?;
-        self.did(alloc, step)
-    }
-
-    /// A file's missing components are rebuilt.
-    pub fn rebuild<F>(
-        &mut self,
-        alloc: Global,
-        file: FileName,
-        placer: &Placer<F>,
-    ) -> Result<Act, Memory>
-    where
-        F: Fn(u32, &[DriveLoad]) -> Result<Numbers, Memory>,
-        requires { IsPlacer F.Fn placer.now }
-        ensures { IfOk result (Gives self.old.state (Obeys ToRebuild file) self.new) }
-    {
-        self.ready()?;
-        let step = self.core.rebuild(file.number(), placer)?;
-        self.did(alloc, step)
-    }
-
-    /// A file is audited.
-    pub fn audit<F>(
-        &mut self,
-        alloc: Global,
-        file: FileName,
-        placer: &Placer<F>,
-    ) -> Result<Act, Memory>
-    where
-        F: Fn(u32, &[DriveLoad]) -> Result<Numbers, Memory>,
-        requires { IsPlacer F.Fn placer.now }
-        ensures { IfOk result (Gives self.old.state (Obeys ToAudit file) self.new) }
-    {
-        self.ready()?;
-        let step = self.core.audit(file.number(), placer)?;
-        self.did(alloc, step)
-    }
-
-    /// A failed drive is taken out.
-    pub fn declare<F>(
-        &mut self,
-        alloc: Global,
-        drive: DriveName,
-        placer: &Placer<F>,
-    ) -> Result<Act, Memory>
-    where
-        F: Fn(u32, &[DriveLoad]) -> Result<Numbers, Memory>,
-        requires { IsPlacer F.Fn placer.now }
-        ensures { IfOk result (Gives self.old.state (Obeys ToDeclare drive) self.new) }
-    {
-        self.ready()?;
-        let step = self.core.declare(drive.number(), placer)?;
+        let step = self.core.order(kind, target, placer)?;
         self.did(alloc, step)
     }
 

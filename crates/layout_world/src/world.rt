@@ -1,5 +1,4 @@
 ghost use Rattle.std.specs.Prelude.{◌≡◌, ◌≤◌, None, false, length, drop, [], Err, IfOk, IfErr, OnOk, OnErr};
-ghost use Rattle.stripe_repair.specs.Placing.{IsPlacer};
 ghost use Rattle.scenario_text.specs.declared.line.Line.TheVariants as line;
 ghost use Rattle.world_history.specs.Plans.{rule_of};
 ghost use Rattle.world_history.specs.Refusals.{refusal};
@@ -20,11 +19,11 @@ use crate::parties::Parties;
 use crate::refusing::refusal;
 use crate::rules::rule_of;
 use calm_law::{moves_follow, watch_begins};
-use osd_lists::{Memory, Numbers};
+use osd_lists::Memory;
 use scenario_text::{Event, Line};
 use std::alloc::Global;
 use std::marker::Model;
-use stripe_repair::{DriveLoad, Placer};
+use stripe_repair::Place;
 use world_history::{Summary, WorldErr, full_is_cut, one_event_more};
 use world_network::Lines;
 use world_watch::{Watch, watch_is_read};
@@ -47,17 +46,15 @@ impl Model for World {
 }
 
 // The line of an event that isn't refused, and what it begins with.
-fn open<F>(
+fn open<P: Place>(
     parties: &mut Parties,
     watch: &mut Watch,
     alloc: Global,
     event: Event,
-    placer: &Placer<F>,
+    placer: &P,
     lines: &mut Lines,
 ) -> Result<(), WorldErr>
-where
-    F: Fn(u32, &[DriveLoad]) -> Result<Numbers, Memory>,
-    requires placer { IsPlacer F.Fn placer.now }
+    requires placer { P.is_placer placer.now }
     ensures comes { (w : TheWorld) → Shows parties.old w → refusal w event ≡ None
         → Comes w event lines.old watch.old (behind (rule_of w event)) parties.new watch.new lines.new result }
     ensures sent { OnOk result ((w : TheWorld) → Shows parties.old w
@@ -76,17 +73,15 @@ where
 }
 
 // The line of an event that isn't refused, and its moves to the end.
-fn carry_moves<F>(
+fn carry_moves<P: Place>(
     parties: &mut Parties,
     watch: &mut Watch,
     alloc: Global,
     event: Event,
-    placer: &Placer<F>,
+    placer: &P,
     lines: &mut Lines,
 ) -> Result<(), WorldErr>
-where
-    F: Fn(u32, &[DriveLoad]) -> Result<Numbers, Memory>,
-    requires placer { IsPlacer F.Fn placer.now }
+    requires placer { P.is_placer placer.now }
     ensures finishes { (w : TheWorld) → Shows parties.old w → refusal w event ≡ None
         → Finishes w event lines.old watch.old parties.new watch.new lines.new result }
     ensures told { LeavesTold watch.old watch.new }
@@ -120,17 +115,15 @@ fn see_event(
 }
 
 // Carries out an event that isn't refused.
-fn carry_out<F>(
+fn carry_out<P: Place>(
     parties: &mut Parties,
     watch: &mut Watch,
     alloc: Global,
     event: Event,
-    placer: &Placer<F>,
+    placer: &P,
     lines: &mut Lines,
 ) -> Result<(), WorldErr>
-where
-    F: Fn(u32, &[DriveLoad]) -> Result<Numbers, Memory>,
-    requires placer { IsPlacer F.Fn placer.now }
+    requires placer { P.is_placer placer.now }
     ensures finishes { (w : TheWorld) → Shows parties.old w → refusal w event ≡ None
         → FinishesSeen w event lines.old watch.old parties.new watch.new lines.new result }
     ensures seen { OnOk result (length lines.old ≤ length lines.new
@@ -178,15 +171,13 @@ impl World {
     /// declared one; `Alive` where a drive that is declared hasn't failed; `NoMessage` where the message wasn't sent. They
     /// change nothing. `KeptFull`, where a message would pass the limit of kept bytes, and `Memory` end the world; the lines
     /// appended stand.
-    pub fn step<F>(
+    pub fn step<P: Place>(
         &mut self,
         event: Event,
-        placer: &Placer<F>,
+        placer: &P,
         lines: &mut Lines,
     ) -> Result<(), WorldErr>
-    where
-        F: Fn(u32, &[DriveLoad]) -> Result<Numbers, Memory>,
-        requires placer { IsPlacer F.Fn placer.now }
+        requires placer { P.is_placer placer.now }
         ensures steps { StepsAs event lines.old lines.new self.old self.new result }
         ensures watches { OnOk result (WatchesOn event lines.old lines.new self.old self.new) }
         ensures over { Ends self.old self.new result }

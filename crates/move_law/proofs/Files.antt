@@ -13,7 +13,7 @@ use Rattle.server_rules.specs.Openings.{crashed_file, opens, opens_each}
 use Rattle.server_rules.specs.Orders.{offline, declare, declares_each}
 use Rattle.server_rules.proofs.FileLaws.{number_at, put_other, add_other}
 use Rattle.server_rules.proofs.Runs.{ran_making}
-use Rattle.world_history.specs.ServerNames.{Server, File, Drive, Moved, Order, OrderResult}
+use Rattle.world_history.specs.ServerNames.{Server, File, Drive, Effects, Order, OrderResult}
 use Rattle.move_law.specs.Steps.{answered_file, new_file, with_added, with_answer, StepCases}
 use Rattle.move_law.specs.Files.{GoesAt, AllGo, FilesGo, Quiet, Asked, FileCases}
 use Rattle.move_law.proofs.Steps.{each_step}
@@ -87,30 +87,30 @@ module _ (Q : File → Type 0) where
   crashed_each (f ∷ fs) all x (inl same) = subst Q (sym same) (all f (inl refl))
   crashed_each (f ∷ fs) all x (inr i) = crashed_each fs (λ g j. all g (inr j)) x i
 
-  pub declared_each : (d : ℕ) (ds : List Drive) (fs : List File) (m : Moved) (chosen : List ℕ)
-      → ((f : File) → In f fs → (m : Moved) (chosen : List ℕ)
-      → Q (declares (record { file = f; moved = m; drives = ds; chosen = chosen }) d).file)
+  pub declared_each : (d : ℕ) (ds : List Drive) (fs : List File) (m : Effects) (chosen : List ℕ)
+      → ((f : File) → In f fs → (m : Effects) (chosen : List ℕ)
+      → Q (declares (record { file = f; effects = m; drives = ds; chosen = chosen }) d).file)
       → Each Q (declares_each d ds fs m chosen).files
   unfolding declares_each
   declared_each d ds [] m chosen all x i = absurd i
   declared_each d ds (f ∷ fs) m chosen all x i =
-      let g : Going = declares (record { file = f; moved = m; drives = ds; chosen = chosen }) d in
+      let g : Going = declares (record { file = f; effects = m; drives = ds; chosen = chosen }) d in
       elim i [
         | inl same ↦ subst Q (sym same) (all f (inl refl) m chosen)
-        | inr j ↦ declared_each d ds fs g.moved g.chosen (λ y k. all y (inr k)) x j
+        | inr j ↦ declared_each d ds fs g.effects g.chosen (λ y k. all y (inr k)) x j
       ]
 
-  pub opened_each : (format : ℕ) (ds : List Drive) (fs : List File) (m : Moved)
-      → ((f : File) → In f fs → (m : Moved)
-      → Q (opens format (record { file = f; moved = m; drives = ds; chosen = [] })).file)
+  pub opened_each : (format : ℕ) (ds : List Drive) (fs : List File) (m : Effects)
+      → ((f : File) → In f fs → (m : Effects)
+      → Q (opens format (record { file = f; effects = m; drives = ds; chosen = [] })).file)
       → Each Q (opens_each format ds fs m).files
   unfolding opens_each
   opened_each format ds [] m all x i = absurd i
   opened_each format ds (f ∷ fs) m all x i =
-      let g : Going = opens format (record { file = f; moved = m; drives = ds; chosen = [] }) in
+      let g : Going = opens format (record { file = f; effects = m; drives = ds; chosen = [] }) in
       elim i [
         | inl same ↦ subst Q (sym same) (all f (inl refl) m)
-        | inr j ↦ opened_each format ds fs g.moved (λ y k. all y (inr k)) x j
+        | inr j ↦ opened_each format ds fs g.effects (λ y k. all y (inr k)) x j
       ]
 
 pub safe_in : (fs : List File) → AreSafe fs → (f : File) → In f fs → IsSafe f
@@ -172,30 +172,30 @@ module _ (R : List Drive → File → File → Type 0) (N : File → Type 0) (ds
         (all n h (rw (ne_eqb g.kept.number n (λ (i : g.kept.number ≡ n). other (sym (number f g x) ∙ i))) at e))
   ]
 
-  declared_go : (d : ℕ) (fs : List File) (m : Moved) (chosen : List ℕ)
-      → ((f : File) → In f fs → (m : Moved) (chosen : List ℕ)
-      → R ds f (declares (record { file = f; moved = m; drives = ds; chosen = chosen }) d).file)
+  declared_go : (d : ℕ) (fs : List File) (m : Effects) (chosen : List ℕ)
+      → ((f : File) → In f fs → (m : Effects) (chosen : List ℕ)
+      → R ds f (declares (record { file = f; effects = m; drives = ds; chosen = chosen }) d).file)
       → Go fs (declares_each d ds fs m chosen).files
   unfolding declares_each
   declared_go d [] m chosen all = same_go []
   declared_go d (f ∷ fs) m chosen all =
-      let g : Going = declares (record { file = f; moved = m; drives = ds; chosen = chosen }) d in
-      more_go f g.file fs _ (all f (inl refl) m chosen) (declared_go d fs g.moved g.chosen (λ y j. all y (inr j)))
+      let g : Going = declares (record { file = f; effects = m; drives = ds; chosen = chosen }) d in
+      more_go f g.file fs _ (all f (inl refl) m chosen) (declared_go d fs g.effects g.chosen (λ y j. all y (inr j)))
 
   crashed_go : (fs : List File) → ((f : File) → In f fs → R ds f (crashed_file f)) → Go fs (map crashed_file fs)
   crashed_go [] all = same_go []
   crashed_go (f ∷ fs) all =
       more_go f (crashed_file f) fs (map crashed_file fs) (all f (inl refl)) (crashed_go fs (λ y j. all y (inr j)))
 
-  opened_go : (format : ℕ) (fs : List File) (m : Moved)
-      → ((f : File) → In f fs → (m : Moved)
-      → R ds f (opens format (record { file = f; moved = m; drives = ds; chosen = [] })).file)
+  opened_go : (format : ℕ) (fs : List File) (m : Effects)
+      → ((f : File) → In f fs → (m : Effects)
+      → R ds f (opens format (record { file = f; effects = m; drives = ds; chosen = [] })).file)
       → Go fs (opens_each format ds fs m).files
   unfolding opens_each
   opened_go format [] m all = same_go []
   opened_go format (f ∷ fs) m all =
-      let g : Going = opens format (record { file = f; moved = m; drives = ds; chosen = [] }) in
-      more_go f g.file fs _ (all f (inl refl) m) (opened_go format fs g.moved (λ y j. all y (inr j)))
+      let g : Going = opens format (record { file = f; effects = m; drives = ds; chosen = [] }) in
+      more_go f g.file fs _ (all f (inl refl) m) (opened_go format fs g.effects (λ y j. all y (inr j)))
 
 -- ---- any step
 

@@ -10,7 +10,7 @@ use Rattle.server_rules.specs.History.{Input, Hears, Makes, Obeys, Adds, Formats
 use Rattle.server_rules.specs.Jobs.{fence_begins}
 use Rattle.server_rules.specs.Laws.{In}
 use Rattle.server_rules.specs.Making.{refusal, unless_refused, makes_file, create_file}
-use Rattle.server_rules.specs.Messages.{Message, Asks, Replies, Orders, counters_low, or_else, by_heard, heard_at, on_drive_reply, handled, on_message}
+use Rattle.server_rules.specs.Messages.{Message, Asks, Replies, Orders, counters_have_room, or_else, by_heard, heard_at, on_drive_reply, handled, on_message}
 use Rattle.server_rules.specs.Openings.{opens_each, reopen}
 use Rattle.server_rules.specs.Orders.{Ordered, begins_job, starts, recalls_on, declares_known, ordered}
 use Rattle.server_rules.specs.Replies.{answers, heard_by, heard_in, on_reply}
@@ -47,7 +47,7 @@ both false b e = absurd (cc e)
 module _ (s : Server) (chosen : List ℕ) (i : Input) (P : Step → Type 0) (k : StepCases s chosen i P) where
   -- ---- a request
 
-  asked : (now c : ℕ) (q : ClientRequest) → i ≡ Hears now (FromClient c) (Asks q) → counters_low s ≡ true
+  asked : (now c : ℕ) (q : ClientRequest) → i ≡ Hears now (FromClient c) (Asks q) → counters_have_room s ≡ true
       → (b : Bool) → ((q.client == c) && nat_le c MAX_CLIENT) ≡ b
       → P (if b then on_request s now chosen q else still s)
   asked now c q is low false e = k.rests
@@ -64,7 +64,7 @@ module _ (s : Server) (chosen : List ℕ) (i : Input) (P : Step → Type 0) (k :
   -- ---- a reply
 
   module _ (now drive : ℕ) (r : Reply) (is : i ≡ Hears now (FromDrive drive) (Replies r))
-      (low : counters_low s ≡ true) where
+      (low : counters_have_room s ≡ true) where
     awaiting : (f : File) → In f s.files → (j : Job) → f.job ≡ Some j → (o : Option Awaited)
         → find (answers drive r) j.awaited ≡ o → (later : Option Going) → P (by_heard s later)
         → P (by_heard s (or_else (heard_by (at_file s chosen f) r j o) later))
@@ -138,7 +138,7 @@ module _ (s : Server) (chosen : List ℕ) (i : Input) (P : Step → Type 0) (k :
 
   -- ---- a message
 
-  handles : (now : ℕ) (from : Node) (m : Message) → i ≡ Hears now from m → counters_low s ≡ true
+  handles : (now : ℕ) (from : Node) (m : Message) → i ≡ Hears now from m → counters_have_room s ≡ true
       → P (handled s now chosen from m)
   handles now (FromClient c) (Asks q) is low =
       asked now c q is low ((q.client == c) && nat_le c MAX_CLIENT) refl
@@ -148,7 +148,7 @@ module _ (s : Server) (chosen : List ℕ) (i : Input) (P : Step → Type 0) (k :
       (obeyed o.order o.target (Sent now o is refl refl))
   handles now from m is low = k.rests
 
-  hears_it : (now : ℕ) (from : Node) (m : Message) → i ≡ Hears now from m → (b : Bool) → counters_low s ≡ b
+  hears_it : (now : ℕ) (from : Node) (m : Message) → i ≡ Hears now from m → (b : Bool) → counters_have_room s ≡ b
       → P (if b then handled s now chosen from m else still s)
   hears_it now from m is true low = handles now from m is low
   hears_it now from m is false low = k.rests
@@ -158,21 +158,21 @@ module _ (s : Server) (chosen : List ℕ) (i : Input) (P : Step → Type 0) (k :
   made n m tag is (Some why) refused = k.rests
   made n m tag is None refused = k.made n m tag is refused
 
-  opened : i ≡ Opens → (b : Bool) → counters_low s ≡ b
+  opened : i ≡ Opens → (b : Bool) → counters_have_room s ≡ b
       → P (if b then step_round s (opens_each s.format s.drives s.files (begins s)) else still s)
   opened is true low = k.opened is low
   opened is false low = k.rests
 
   by_input : (j : Input) → i ≡ j → P (step s chosen j)
   unfolding on_message create_file reopen
-  by_input (Hears now from m) is = hears_it now from m is (counters_low s) refl
+  by_input (Hears now from m) is = hears_it now from m is (counters_have_room s) refl
   by_input (Makes n m tag) is = made n m tag is (refusal s n m) refl
   by_input (Obeys kind n) is = obeyed kind n (Here is)
   by_input (Adds d) is = k.added d is
   by_input (Formats n) is = k.formats n is
   by_input Resends is = k.resends is
   by_input Crashes is = k.crashes is
-  by_input Opens is = opened is (counters_low s) refl
+  by_input Opens is = opened is (counters_have_room s) refl
 
   pub each_step : P (step s chosen i)
   each_step = by_input i refl

@@ -8,7 +8,7 @@ use Rattle.server_rules.specs.Making.{with_file}
 use Rattle.server_rules.specs.Openings.{crashed_file, opens}
 use Rattle.server_rules.specs.Orders.{offline}
 use Rattle.server_rules.specs.Requests.{on_request}
-use Rattle.world_history.specs.ServerNames.{Server, File, Drive, Moved, JobKind, ClientRequest}
+use Rattle.world_history.specs.ServerNames.{Server, File, Drive, Effects, JobKind, ClientRequest}
 use Rattle.move_law.specs.Steps.{IsAsked, Answering, IsAnswering, answered_file, IsOrdered}
 
 -- `R ds f g` says how file f goes on as g in a step that leaves the drives ds, and `N g` what a file is whatever it was.
@@ -36,10 +36,10 @@ pub record FileCases (R : List Drive → File → File → Type 0) (N : File →
   pub fenced : (f : File) → IsOrdered s i f → (kind : JobKind) → f.job ≡ None
       → R s.drives f (fence_begins kind s.format (at_file s chosen f)).file
   pub declared : (d : ℕ) → is_some (find (λ (x : Drive). x.number == d) s.drives) ≡ true → (f : File) → In f s.files
-      → (m : Moved) (placed : List ℕ)
+      → (m : Effects) (placed : List ℕ)
       → R (offline s.drives d) f
-      (declares (record { file = f; moved = m; drives = offline s.drives d; chosen = placed }) d).file
+      (declares (record { file = f; effects = m; drives = offline s.drives d; chosen = placed }) d).file
   pub made : (f : File) → f.kept.grants ≡ [] → N (making (at_file (with_file s f) [] f)).file
   pub crashed : (f : File) → In f s.files → R s.drives f (crashed_file f)
-  pub opened : (f : File) → In f s.files → (m : Moved)
-      → R s.drives f (opens s.format (record { file = f; moved = m; drives = s.drives; chosen = [] })).file
+  pub opened : (f : File) → In f s.files → (m : Effects)
+      → R s.drives f (opens s.format (record { file = f; effects = m; drives = s.drives; chosen = [] })).file

@@ -11,7 +11,7 @@ use Rattle.server_rules.specs.History.{Input, Hears, Makes, Obeys, Adds, Formats
 use Rattle.server_rules.specs.Jobs.{fence_begins}
 use Rattle.server_rules.specs.Laws.{In}
 use Rattle.server_rules.specs.Making.{refusal, places, unmade, makes_file, add_drive, set_format}
-use Rattle.server_rules.specs.Messages.{Asks, Replies, Orders, counters_low, resend}
+use Rattle.server_rules.specs.Messages.{Asks, Replies, Orders, counters_have_room, resend}
 use Rattle.server_rules.specs.Openings.{opens_each, crash}
 use Rattle.server_rules.specs.Orders.{recalls, declare}
 use Rattle.server_rules.specs.Replies.{answers, hearing, hears}
@@ -27,7 +27,7 @@ use Rattle.world_history.specs.ServerNames.{Server, File, Drive, Job, JobKind, A
 pub record IsAsked (s : Server) (i : Input) (now : ℕ) (q : ClientRequest) : Type 0 where
   pub is : i ≡ Hears now (FromClient q.client) (Asks q)
   pub named : q.client ≤ MAX_CLIENT
-  pub low : counters_low s ≡ true
+  pub low : counters_have_room s ≡ true
 
 -- a reply of a drive, and what it answers
 pub record Answering : Type 0 where
@@ -40,7 +40,7 @@ pub record Answering : Type 0 where
 
 pub record IsAnswering (s : Server) (i : Input) (x : Answering) : Type 0 where
   pub is : i ≡ Hears x.now (FromDrive x.drive) (Replies x.reply)
-  pub low : counters_low s ≡ true
+  pub low : counters_have_room s ≡ true
   pub there : In x.file s.files
   pub runs : x.file.job ≡ Some x.job
   pub awaits : find (answers x.drive x.reply) x.job.awaited ≡ Some x.awaited
@@ -114,7 +114,7 @@ pub record StepCases (s : Server) (chosen : List ℕ) (i : Input) (P : Step → 
   pub resends : i ≡ Resends → P (record (still s) { sends = resend s })
   -- the server crashes, and is opened
   pub crashes : i ≡ Crashes → P (still (crash s))
-  pub opened : i ≡ Opens → counters_low s ≡ true
+  pub opened : i ≡ Opens → counters_have_room s ≡ true
       → P (step_round s (opens_each s.format s.drives s.files (begins s)))
 
 -- So is P of the step of a request.

@@ -5,14 +5,10 @@ use Rattle.std.specs.Io.KnownBytes.{ReadConsumes, WriteAppends}
 use Rattle.std.proofs.lemmas.List.{take-append-drop, length-set, drop-drop}
 use Rattle.osd_bytes.specs.Connections.{Talk, Traffic, Comes, newest, with_newest, after_taking, after_putting, Takes, Puts, Receives, Sends, accepted_left, accepted_put, asked_left, asked_put}
 use Rattle.osd_bytes.specs.declared.source.Fault.{Fault}
-
-get-set : (xs : List Talk) (i : ℕ) (t : Talk) → i < length xs → slice_get (slice_set xs i t) i ≡ Some t
-get-set [] i t h = absurd (omega (arith, h))
-get-set (x ∷ xs) zero t h = refl
-get-set (x ∷ xs) (suc i) t h = get-set xs i t (omega (arith, h))
+use Rattle.osd_lists.proofs.Slices.{get_set}
 
 pub newest-with : (talks : List Talk) (t : Talk) → 0 < length talks → newest (with_newest talks t) ≡ t
-newest-with talks t some = rw (length-set talks (length talks - 1) t, get-set talks (length talks - 1) t (omega (arith, some))) refl
+newest-with talks t some = rw (length-set talks (length talks - 1) t, get_set talks (length talks - 1) t (omega (arith, some))) refl
 
 -- what was taken is no more to come
 consumed : (talks : List Talk) (n : ℕ) (buf : List ℕ) → 0 < length talks → Comes (newest talks) n buf

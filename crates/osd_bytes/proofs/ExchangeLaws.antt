@@ -12,13 +12,10 @@ use Rattle.osd_bytes.specs.declared.exchanges.ExchangeErr.{ExchangeErr}
 use Rattle.osd_bytes.specs.declared.exchanges.ExchangeErr.TheVariants.{LinkFault, Ended, TooLong, Memory}
 use Rattle.osd_bytes.proofs.RecordLaws.{carried, split-append}
 use Rattle.osd_lists.specs.declared.node.Node.{Node}
+use Rattle.osd_lists.proofs.Slices.{get_last}
 
 last_place : (xs : List Talk) (t : Talk) → length (xs ++ t ∷ []) - 1 ≡ length xs
 last_place xs t = omega (arith, length-append xs (t ∷ []))
-
-get_last : (xs : List Talk) (t : Talk) → slice_get (xs ++ t ∷ []) (length xs) ≡ Some t
-get_last [] t = refl
-get_last (x ∷ xs) t = get_last xs t
 
 pub newest-last : (xs : List Talk) (t : Talk) → newest (xs ++ t ∷ []) ≡ t
 newest-last xs t = rw (last_place xs t, get_last xs t) refl

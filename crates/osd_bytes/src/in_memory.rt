@@ -44,13 +44,14 @@ impl MemSource {
     }
 }
 
+/// Whether a call of this number, from 0, is one of those that fail.
 pub fn is_listed(fails: &[u32], call: u64) -> bool
     ensures { IsTrue result ↔ Contains fails.now call }
 {
     fails.iter().any(|n| u64::from(*n) == call)
 }
 
-// Copies as many bytes as both have room for.
+/// Copies the front of `rest` into a buffer, as much as both have room for, and gives how many bytes.
 pub fn copy_front(rest: &[u8], buf: &mut [u8]) -> usize
     ensures count { result ≡ min (length rest.now) (length buf.old) }
     ensures bytes { take result buf.new ≡ take result rest.now }

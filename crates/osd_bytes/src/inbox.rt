@@ -16,7 +16,7 @@ pub const MAX_TAKEN: usize = 67_108_864;
 // How many bytes are taken at once at most.
 const PIECE: usize = 4096;
 
-// The record that a byte completes, where it does, and whether it makes one too long.
+// Adds the record that a byte completes, if it does, and tells whether the byte makes a record too long.
 fn read_byte(
     alloc: Global,
     stream: &mut Records,
@@ -37,7 +37,7 @@ fn read_byte(
     }
 }
 
-// The records of a piece, byte by byte up to one that is too long, and whether there is such a one.
+// Reads the records of a piece byte by byte, up to one that is too long, and tells whether there is such a record.
 fn read_bytewise(
     alloc: Global,
     stream: &mut Records,
@@ -56,7 +56,7 @@ fn read_bytewise(
     Ok(false)
 }
 
-// The records of a piece up to one that is too long, and whether there is such a one.
+// Reads the records of a piece, up to one that is too long, and tells whether there is such a record.
 fn read_piece(
     alloc: Global,
     stream: &mut Records,
@@ -131,7 +131,7 @@ impl Inbox {
     ///
     /// # Errors
     ///
-    /// Want of memory alone; what was taken then is lost.
+    /// [`Memory`]; what was taken then is lost.
     pub fn more<L: Links>(&mut self, links: &mut L) -> Result<Option<ByteLists>, Memory>
         ensures taken { (piece : List ℕ) × WasTaken (L.told links.old) (L.told links.new) piece ×
             (length piece + self.new.room ≡ self.old.room) ×

@@ -103,7 +103,7 @@ pub trait Links {
     ///
     /// # Errors
     ///
-    /// Want of memory alone, of links that keep their notes.
+    /// [`Memory`], of links that keep their notes; then the note isn't kept.
     fn note(&mut self, line: &[u8]) -> Result<(), Memory>
         ensures ok { OnOk result (told self.new ≡ after_notes (line.now ∷ []) (told self.old)) }
         ensures err { OnErr result (told self.new ≡ told self.old) }

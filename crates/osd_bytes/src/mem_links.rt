@@ -46,8 +46,20 @@ impl Model for MemLinks {
 
     ghost view = { λ m. record {
       standing = record { listen = m.listen; peers = m.peers; accepted = m.has_accepted; asked = m.asks };
-      faults = record { listening = m.counts.listening; accepted = m.counts.accepted; server = m.counts.server; others = m.counts.others };
-      traffic = record { to_accept = m.accepted.coming; accepted = m.accepted.talks; to_ask = m.asked.coming; asked = m.asked.talks; nodes = m.nodes; notes = m.notes };
+      faults = record {
+        listening = m.counts.listening;
+        accepted = m.counts.accepted;
+        server = m.counts.server;
+        others = m.counts.others;
+      };
+      traffic = record {
+        to_accept = m.accepted.coming;
+        accepted = m.accepted.talks;
+        to_ask = m.asked.coming;
+        asked = m.asked.talks;
+        nodes = m.nodes;
+        notes = m.notes;
+      };
       fails = m.fails;
       calls = m.calls;
     } };
@@ -162,7 +174,7 @@ impl MemLinks {
         Fault
     }
 
-    // One asking connection more. Where there is no memory nothing changes.
+    // Begins a connection that asks a node. If there is no memory, nothing changes.
     fn begin_asking(&mut self, to: Node) -> Result<(), Memory>
         ensures ok { OnOk result (self.new ≡ record self.old {
           traffic = record self.old.traffic {

@@ -25,11 +25,11 @@ fn put_all<L: Links>(links: &mut L, bytes: &[u8]) -> Result<(), Fault>
 }
 
 /// Puts a message on the accepted connection, as one record, and tells whether all of it went out.
-/// Where it didn't, a call of the links failed, or the message is longer than a record may be.
+/// If it didn't, a call of the links failed, or the message is longer than [`MAX_RECORD`] bytes.
 ///
 /// # Errors
 ///
-/// Want of memory alone; then nothing went out.
+/// [`Memory`]; then nothing went out.
 pub fn put_record<L: Links>(alloc: Global, links: &mut L, message: &[u8]) -> Result<bool, Memory>
     ensures put { IfOk result (λ all. PutsFrame all message.now (L.told links.old) (L.told links.new)) }
     ensures cause { IfOk result (λ all. HasPutCause all message.now (L.faults links.old) (L.faults links.new)) }

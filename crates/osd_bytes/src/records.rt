@@ -75,7 +75,13 @@ impl Model for Records {
 
     ghost Value = { Begun };
 
-    ghost view = { λ r. record { payload = r.payload; fragments = r.fragments; header = r.header; last = r.last; left = r.left } };
+    ghost view = { λ r. record {
+      payload = r.payload;
+      fragments = r.fragments;
+      header = r.header;
+      last = r.last;
+      left = r.left;
+    } };
 
     ghost invariant = { λ r. (length r.payload + r.left ≤ MAX_RECORD) × (r.fragments ≤ MAX_FRAGMENTS) ×
         (length r.header ≤ 3) };
@@ -163,7 +169,7 @@ impl Records {
         Ok(self.close())
     }
 
-    // One byte more.
+    // Takes the next byte of the stream, and gives the record that it completes, if it does.
     #[tactic(auto, unfolding(crate::specs::Records::after))]
     fn advance(&mut self, byte: u8) -> Result<Option<Bytes>, RecordErr>
         ensures step { Advances (after self.old byte) result self.old self.new }
@@ -193,14 +199,14 @@ impl Records {
         Ok(None)
     }
 
-    // So many bytes come of a record at most before it is whole or too long.
+    // Proves that at most `most_coming` bytes of a record have come while it is neither whole nor too long.
     fn stays_bounded(&self)
         ensures { came self.now ≤ most_coming }
     {
         let _ = &self.alloc;
     }
 
-    // Adds a record, where there is one. Where there is no memory for that, it is the payload again.
+    // Adds a record, if there is one. If there is no memory for that, the record is the payload again.
     fn add(&mut self, whole: Option<Bytes>, records: &mut ByteLists) -> Result<(), Memory>
         requires short { IfSome whole (λ r. length r ≤ MAX_RECORD) }
         requires over { IfSome whole (λ r. self.old.left ≡ 0) }

@@ -2,12 +2,14 @@
 use Rattle.std.proofs.Common.{◌≡◌, ℕ, ◌+◌, ◌-◌, ◌≤◌, true, cond, eqb, List, [], ◌++◌, length, get_or, take, drop, replicate, Option, None, Some, Result, Ok, Err, refl, sym, ap, subst, ◌∙◌, arith, ◌⊎◌, inl, inr, append_assoc}
 use Rattle.std.specs.Prelude.{IfOk, IsTrue, slice_range}
 use Rattle.std.specs.Int.{w16, w32, w64, to_be_bytes, from_be_bytes}
-use Rattle.std.proofs.lemmas.Bool.{eqb-true, eq-eqb, ltb-false, le-ltb}
+use Rattle.std.proofs.lemmas.Bool.{eqb-true, eq-eqb, ltb-false, le-ltb, and_parts}
 use Rattle.std.proofs.lemmas.Bool.Decides.{eqb_tells}
 use Rattle.std.proofs.lemmas.List.{nil_from_length, take_at, drop_at, drop-drop, length-append, length-replicate, length-take, take-append-drop, get_or-take, get_or-drop}
 use Rattle.std.proofs.lemmas.Nat.{from_be_bytes-to_be_bytes_4, from_be_bytes-to_be_bytes_8}
 use Rattle.osd_lists.specs.Blocks.{first_nonzero, IsBytes}
 use Rattle.osd_lists.proofs.BlockLaws.{next, joined, zeros, first_nonzero-zeros, option_or-none, IsBytes-range, length-range, number_16, number_32, number_64, below_32, below_64}
+use Rattle.osd_lists.proofs.Options.{guard_ok}
+use Rattle.osd_lists.proofs.Tests.{not_false}
 use Rattle.osd_capability.specs.declared.layout.Capability.{Capability}
 use Rattle.osd_capability.specs.declared.layout.CapErr.{CapErr}
 use Rattle.osd_capability.specs.Layout as Cap
@@ -19,7 +21,7 @@ use Rattle.osd_commands.specs.declared.commands.Command.{Command}
 use Rattle.osd_commands.specs.declared.commands.CommandErr.{CommandErr}
 use Rattle.osd_commands.specs.Actions.{number_of, action_of}
 use Rattle.osd_commands.specs.Commands.{magic, check_len, fields, head, spelling, stray, allows, command_at, sized, with_capability, unless_reserved, with_action, reading, ReadsAs, IsCheck, Fits}
-use Rattle.osd_commands.proofs.Passing.{guard_ok, not_false, both_true, if_ok, same_length}
+use Rattle.osd_commands.proofs.Passing.{if_ok, same_length}
 use Rattle.osd_commands.proofs.Writing.{length-fields, check_len-bounds}
 
 -- ---- what an answer shows, test by test
@@ -98,7 +100,7 @@ read_ok bytes c fits e =
     let cap = five.0 in
     let six = if_ok _ _ (command_at a cap bytes) c five.1.1 in
     let long : 256 ≤ length bytes = ltb-false _ _ one.0 in
-    let tests = both_true _ _ six.0 in
+    let tests = and_parts _ _ six.0 in
     let last = option_or-none _ (first_nonzero bytes 160 (256 - check_len (get_or bytes 64 0))) four.0 in
     let third = option_or-none _ (first_nonzero bytes 60 64) last.0 in
     let second = option_or-none (first_nonzero bytes 6 8) (first_nonzero bytes 52 56) third.0 in

@@ -6,21 +6,9 @@ use Rattle.std.proofs.lemmas.Nat.{from_be_bytes-to_be_bytes_4}
 use Rattle.osd_lists.proofs.BlockLaws.{slice_range-append}
 use Rattle.osd_commands.specs.declared.commands.CommandErr.{CommandErr}
 
-pub guard_ok : {X : Type 0} (b : Bool) (f : CommandErr) (r : Result X CommandErr) (x : X) → cond b (Err f) r ≡ Ok x → (b ≡ false) × (r ≡ Ok x)
-guard_ok true f r x e = absurd cc
-guard_ok false f r x e = (refl, e)
-
 pub if_ok : {X : Type 0} (b : Bool) (f : CommandErr) (y x : X) → cond b (Ok y) (Err f) ≡ Ok x → (b ≡ true) × (y ≡ x)
 if_ok true f y x e = (refl, cc)
 if_ok false f y x e = absurd cc
-
-pub not_false : (b : Bool) → not b ≡ false → b ≡ true
-not_false true e = refl
-not_false false e = absurd cc
-
-pub both_true : (a b : Bool) → (a && b) ≡ true → (a ≡ true) × (b ≡ true)
-both_true true b e = (refl, e)
-both_true false b e = absurd cc
 
 -- a stated length, and another behind which the same bytes stand
 pub same_length : (xs ys : List ℕ) (a b m n : ℕ) → a ≤ b → b ≤ length xs → m < 2 ^ 32 → n < 2 ^ 32 → slice_range xs a b ≡ to_be_bytes w32 m → slice_range (xs ++ ys) a b ≡ to_be_bytes w32 n → m ≡ n

@@ -2,15 +2,17 @@
 use Rattle.std.proofs.Common.{◌≡◌, ℕ, ◌+◌, ◌≤◌, true, false, eqb, ltb, List, [], ◌++◌, length, drop, replicate, Option, None, Some, Result, Ok, Err, refl, sym, ap, subst, ◌∙◌, arith}
 use Rattle.std.specs.Prelude.{IfOk, slice_range}
 use Rattle.std.specs.Int.{w16, w32, w64, to_be_bytes, from_be_bytes}
-use Rattle.std.proofs.lemmas.Bool.{eqb-true, eq-eqb, ltb-false, le-ltb, leb-true}
+use Rattle.std.proofs.lemmas.Bool.{eqb-true, eq-eqb, ltb-false, le-ltb, leb-true, and_parts}
 use Rattle.std.proofs.lemmas.List.{nil_from_length, length-append}
 use Rattle.std.proofs.lemmas.Nat.{from_be_bytes-to_be_bytes_2, from_be_bytes-to_be_bytes_4, from_be_bytes-to_be_bytes_8}
 use Rattle.osd_lists.specs.Blocks.{IsBytes}
 use Rattle.osd_lists.proofs.BlockLaws.{next, joined, zeros, first_nonzero-zeros, IsBytes-range, number_16, number_32, number_64, below_32, below_64}
+use Rattle.osd_lists.proofs.Options.{guard_ok}
+use Rattle.osd_lists.proofs.Tests.{not_false}
 use Rattle.osd_commands.specs.declared.commands.CommandErr.{CommandErr}
 use Rattle.osd_commands.specs.declared.replies.Reply.{Reply}
 use Rattle.osd_commands.specs.Commands.{ReadsAs}
-use Rattle.osd_commands.proofs.Passing.{guard_ok, not_false, both_true, if_ok, same_length}
+use Rattle.osd_commands.proofs.Passing.{if_ok, same_length}
 use Rattle.osd_commands.specs.Replies.{magic, fields, spelling, is_verdict, reply_at, sized, unless_reserved, reading, IsWhole, Fits}
 
 reserved_ok : (bytes : List ℕ) (o : Option ℕ) (r : Reply) → unless_reserved bytes o ≡ Ok r → (o ≡ None) × (sized bytes (reply_at bytes) ≡ Ok r)
@@ -36,7 +38,7 @@ read_ok bytes r fits e =
     let five = reserved_ok bytes _ r four.1 in
     let six = if_ok _ _ (reply_at bytes) r five.1 in
     let long : 40 ≤ length bytes = ltb-false _ _ one.0 in
-    let tests = both_true _ _ six.0 in
+    let tests = and_parts _ _ six.0 in
     let stated : from_be_bytes w32 (slice_range bytes 32 36) ≡ length (drop 40 bytes) = eqb-true _ _ tests.0 in
     let action : from_be_bytes w16 (slice_range bytes 4 6) ≤ 6 = ltb-false _ _ three.0 in (
       record {
@@ -121,7 +123,7 @@ at_parts : (r : Reply) (bytes : List ℕ) → Fits r → HasParts r bytes → re
 unfolding reply_at
 at_parts r bytes fits h =
     let n = fits.numbers in
-    let verdict : r.verdict ≤ 17 = leb-true _ _ (both_true _ _ fits.whole.verdict).0 in
+    let verdict : r.verdict ≤ 17 = leb-true _ _ (and_parts _ _ fits.whole.verdict).0 in
     rw (
       h.action,
       from_be_bytes-to_be_bytes_2 r.action (omega (arith, fits.whole.action)),
@@ -147,7 +149,7 @@ reading-reply r fits =
     let h = has_parts r in
     let long : 40 ≤ length bytes = omega (arith, h.long) in
     let start : eqb (from_be_bytes w32 (slice_range bytes 0 4)) magic ≡ true = rw h.start refl in
-    let low : r.verdict ≤ 17 = leb-true _ _ (both_true _ _ fits.whole.verdict).0 in
+    let low : r.verdict ≤ 17 = leb-true _ _ (and_parts _ _ fits.whole.verdict).0 in
     let action : from_be_bytes w16 (slice_range bytes 4 6) ≡ r.action = rw h.action (from_be_bytes-to_be_bytes_2 r.action (omega (arith, fits.whole.action))) in
     let verdict : from_be_bytes w16 (slice_range bytes 6 8) ≡ r.verdict = rw h.verdict (from_be_bytes-to_be_bytes_2 r.verdict (omega arith)) in
     let known : is_verdict (from_be_bytes w16 (slice_range bytes 6 8)) ≡ true = rw verdict fits.whole.verdict in

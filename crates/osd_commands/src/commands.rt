@@ -117,7 +117,7 @@ impl From<Memory> for CommandErr {
     }
 }
 
-// How many bytes the check value has in a format. An unknown format is taken as 1.
+/// How many bytes the check value has in a format. An unknown format is taken as 1.
 pub fn check_len(format: u8) -> usize
     ensures { result ≡ check_len format }
 {
@@ -128,7 +128,8 @@ pub fn check_len(format: u8) -> usize
     }
 }
 
-// The block before the capability.
+// The block before the capability, with each field at its place in the table of [`Command`], which `docs/DRIVE.md`
+// ("The bytes of commands and replies") has too.
 #[tactic(auto, unfolding(crate::specs::Commands::fields))]
 fn fields_of(c: &Command) -> [u8; FIELDS]
     ensures written { result ≡ fields c.now }
@@ -148,7 +149,7 @@ fn fields_of(c: &Command) -> [u8; FIELDS]
     out
 }
 
-// The block before the check value, and zeros to 236 bytes.
+/// The block before the check value, and zeros to 236 bytes.
 pub fn head_of(c: &Command) -> [u8; HEAD]
     ensures written { result ≡ fields c.now ++ (capability_bytes c.now.capability ++ replicate 76 0) }
     ensures fits { IsWhole c.now → Fits c.now }
@@ -217,7 +218,7 @@ fn check_at(bytes: &[u8], format: u8) -> [u8; CHECK_BYTES]
     check
 }
 
-// The last test, and the command.
+// The command, if its payload has the right length, by the places of the table of [`Command`].
 #[tactic(auto, unfolding(crate::specs::Commands::command_at))]
 fn sized_command(
     alloc: Global,

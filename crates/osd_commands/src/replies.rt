@@ -55,7 +55,8 @@ pub struct Reply {
     pub payload: Bytes,
 }
 
-// The block before the payload.
+// The block before the payload, with each field at its place in the table of [`Reply`], which `docs/DRIVE.md`
+// ("The bytes of commands and replies") has too.
 #[tactic(auto, unfolding(crate::specs::Replies::fields))]
 fn fields_of(r: &Reply) -> [u8; BLOCK]
     ensures written { result ≡ fields r.now }
@@ -109,7 +110,7 @@ fn is_sized(bytes: &[u8], action: u16, verdict: u16, payload: u64) -> bool
     u64::from(u32_at(bytes, 32)) == payload && allows_payload(action, verdict, payload)
 }
 
-// The last test, and the reply.
+// The reply, if its payload has the right length, by the places of the table of [`Reply`].
 #[tactic(auto, unfolding(crate::specs::Replies::reply_at))]
 fn sized_reply(alloc: Global, bytes: &[u8]) -> Result<Reply, CommandErr>
     requires { BLOCK ≤ length bytes.now }

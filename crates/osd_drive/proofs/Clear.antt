@@ -1,5 +1,6 @@
 -- What no fault says: none of the rows applies.
 use Rattle.std.proofs.Common.{◌≡◌, ℕ, ◌+◌, List, [], ◌∷◌, ◌++◌, length, Bool, true, false, ◌&&◌, ◌||◌, if◌then◌else◌, nat_eq, nat_lt, nat_le, bit_and, ◌↔◌, ◌≤◌, refl, sym, ap, ◌∙◌, arith}
+use Rattle.std.proofs.lemmas.Bool.{and_parts, or_parts}
 use Rattle.osd_commands.specs.declared.actions.Action.TheVariants.{SetAttr}
 use Rattle.osd_commands.specs.declared.commands.Command.{Command}
 use Rattle.osd_commands.specs.Actions.{right_of}
@@ -19,14 +20,6 @@ abbrev pub all_refuse : List Row → Bool
 all_refuse [] = true
 all_refuse (r ∷ rows) = refuses r.1 && all_refuse rows
 
-both : (a b : Bool) → (a && b) ≡ true → (a ≡ true) × (b ≡ true)
-both true b e = (refl, e)
-both false b e = absurd (cc e)
-
-neither : (a b : Bool) → (a || b) ≡ false → (a ≡ false) × (b ≡ false)
-neither true b e = absurd (cc e)
-neither false b e = (refl, e)
-
 -- a row doesn't apply where the verdict is Perform
 row_passes : (b : Bool) (v w : Verdict) → refuses v ≡ true → (if b then v else w) ≡ verdict.Perform → (b ≡ false) × (w ≡ verdict.Perform)
 row_passes true v w refusal e = absurd (cc (sym (ap refuses e) ∙ refusal))
@@ -35,7 +28,7 @@ row_passes false v w refusal e = (refl, e)
 pub none_applies : (rows : List Row) → all_refuse rows ≡ true → first_row rows ≡ verdict.Perform → NoneApplies rows
 none_applies [] refusals e = tt
 none_applies (r ∷ rows) refusals e =
-    let rest = both (refuses r.1) (all_refuse rows) refusals in
+    let rest = and_parts (refuses r.1) (all_refuse rows) refusals in
     let row = row_passes r.0 r.1 (first_row rows) rest.0 e in
     (row.0, none_applies rows rest.1 row.1)
 
@@ -70,15 +63,15 @@ clear_late s c e =
     let value = has_value c.action && nat_lt MAX_VALUE (length c.payload) in
     let tag = is_set_tag c.action && of_object (λ o. nat_eq o.tag MAX_TAG) s.object in
     let count = is_create c.action && nat_le MAX_OBJECTS s.objects in
-    let past_length = neither (nat_lt MAX_LENGTH c.length) (range || (value || (tag || count))) rows.1.1.1.0 in
-    let past_range = neither range (value || (tag || count)) past_length.1 in
-    let past_value = neither value (tag || count) past_range.1 in
+    let past_length = or_parts (nat_lt MAX_LENGTH c.length) (range || (value || (tag || count))) rows.1.1.1.0 in
+    let past_range = or_parts range (value || (tag || count)) past_length.1 in
+    let past_value = or_parts value (tag || count) past_range.1 in
     record {
       finds = rows.1.0;
       size = past_length.0;
       value = past_value.0;
       range = past_range.0;
-      tag = (neither tag count past_value.1).0;
+      tag = (or_parts tag count past_value.1).0;
       space = rows.1.1.1.1.0;
       lane = rows.1.1.1.1.1.0;
       attribute = rows.1.1.1.1.1.1.1.0;
@@ -88,7 +81,7 @@ clear_late s c e =
 pub past_early : (early late : List Row) → all_refuse early ≡ true → first_row (early ++ late) ≡ verdict.Perform → NoneApplies early × (first_row late ≡ verdict.Perform)
 past_early [] late refusals e = (tt, e)
 past_early (r ∷ rows) late refusals e =
-    let rest = both (refuses r.1) (all_refuse rows) refusals in
+    let rest = and_parts (refuses r.1) (all_refuse rows) refusals in
     let row = row_passes r.0 r.1 (first_row (rows ++ late)) rest.0 e in
     let more = past_early rows late rest.1 row.1 in
     ((row.0, more.0), more.1)
@@ -98,7 +91,7 @@ pub clear_early : (d : DriveState) (now : ℕ) (c : Command) → first_fault d n
 unfolding first_fault late_fault_of
 clear_early d now c e =
     let past = past_early (early_rows d now c) (late_rows (view_of d.store c) c) refl e in
-    (past.1, (neither (nat_eq (bit_and c.capability.rights (right_of c.action)) 0) (is_set_attr c.action && nat_lt c.attribute FIRST_USER_ATTRIBUTE) past.0.1.1.1.1.0).1)
+    (past.1, (or_parts (nat_eq (bit_and c.capability.rights (right_of c.action)) 0) (is_set_attr c.action && nat_lt c.attribute FIRST_USER_ATTRIBUTE) past.0.1.1.1.1.0).1)
 
 names_user : (d : DriveState) (now : ℕ) (c : Command) → first_fault d now c ≡ verdict.Perform → c.action ≡ SetAttr → FIRST_USER_ATTRIBUTE ≤ c.attribute
 names_user d now c e sets = let early = rw sets at (clear_early d now c e).1 in grind (arith, early)

@@ -2,6 +2,7 @@
 use Rattle.std.proofs.Common.{◌≡◌, ℕ, ◌+◌, ◌-◌, ◌≤◌, List, [], ◌∷◌, ◌++◌, length, Bool, true, false, not, ◌&&◌, ◌||◌, nat_eq, nat_lt, is_some, is_none, Option, Some, None, IsTrue, refl, sym, ap, ◌∙◌, arith}
 use Rattle.std.specs.Option.{option_map}
 use Rattle.std.proofs.lemmas.Bool.{eq-eqb, ne_eqb, le-ltb}
+use Rattle.osd_lists.proofs.Tests.{and_false}
 use Rattle.osd_commands.specs.declared.actions.Action.{Action}
 use Rattle.osd_commands.specs.declared.actions.Action.TheVariants.{Create, Read, Write, GetAttr, SetAttr, SetTag}
 use Rattle.osd_commands.specs.declared.commands.Command.{Command}
@@ -28,10 +29,6 @@ past_rows : (rows late : List Row) → NoneApplies rows → first_row (rows ++ l
 past_rows [] late none = refl
 past_rows (r ∷ rows) late none = rw none.0 (past_rows rows late none.1)
 
-neither_way : (a : Bool) → (a && false) ≡ false
-neither_way true = refl
-neither_way false = refl
-
 -- what the objects have on a command that comes again
 record IsSeenAgain (s : StoreView) (c : Command) (o : ObjectState) (l : LaneEntry) : Type 0 where
   object : s.object ≡ Some o
@@ -48,10 +45,10 @@ unfolding late_fault_of
 answered_again s c o l h mutating =
     let same : nat_lt c.nonce l.nonce ≡ false = rw h.nonce (le-ltb c.nonce c.nonce (omega arith)) in
     let equal : nat_eq l.nonce c.nonce ≡ true = eq-eqb l.nonce c.nonce h.nonce in
-    let there : lacks_object s c ≡ false = rw h.object (neither_way (not (is_create c.action))) in
-    let tag : has_other_tag s c ≡ false = rw h.object (rw h.tag (neither_way (not (is_create c.action)))) in
-    let lane : lacks_lane s c ≡ false = rw h.lane (neither_way (is_mutating c.action)) in
-    let stale : is_stale s c ≡ false = rw h.lane (rw same (neither_way (is_mutating c.action))) in
+    let there : lacks_object s c ≡ false = rw h.object (and_false (not (is_create c.action))) in
+    let tag : has_other_tag s c ≡ false = rw h.object (rw h.tag (and_false (not (is_create c.action)))) in
+    let lane : lacks_lane s c ≡ false = rw h.lane (and_false (is_mutating c.action)) in
+    let stale : is_stale s c ≡ false = rw h.lane (rw same (and_false (is_mutating c.action))) in
     let repeated : is_repeated s c ≡ true = rw (mutating, h.lane) equal in
     past_rows
     ((lacks_object s c, verdict.NoObject) ∷ (finds_object s c, verdict.Exists) ∷ (has_other_tag s c, verdict.Tag (tag_of s.object)) ∷ (passes_limit s c, verdict.Limit) ∷ (lacks_space s c, verdict.NoSpace s.free)
@@ -61,10 +58,10 @@ answered_again s c o l h mutating =
     ∙ rw repeated refl
 
 space_again : (s : StoreView) (c : Command) (o : ObjectState) → s.object ≡ Some o → (nat_lt 0 c.length && nat_lt s.free ((c.offset + c.length) - o.length)) ≡ false → lacks_space s c ≡ false
-space_again s c o object fits = rw object (rw fits (neither_way (is_write c.action)))
+space_again s c o object fits = rw object (rw fits (and_false (is_write c.action)))
 
 attribute_again : (s : StoreView) (c : Command) → s.has_attribute ≡ true → lacks_attribute s c ≡ false
-attribute_again s c has = rw has (neither_way (is_set_attr c.action))
+attribute_again s c has = rw has (and_false (is_set_attr c.action))
 
 -- the object after a change of it
 object_changed : (s : StoreState) (n : ℕ) (f : StoredObject → StoredObject) (o : StoredObject) → object_at s n ≡ Some o → object_at (changed s n f) n ≡ Some (f o)
@@ -75,7 +72,7 @@ inside_now : (free offset len size : ℕ) (bytes : List ℕ) → length bytes �
 inside_now free offset len size [] long = rw (← long) refl
 inside_now free offset len size (b ∷ bytes) long =
     let none : (offset + len) - (size + growth size offset (b ∷ bytes)) ≡ 0 = omega (arith, long) in
-    rw none (rw (le-ltb free 0 (omega arith)) (neither_way (nat_lt 0 len)))
+    rw none (rw (le-ltb free 0 (omega arith)) (and_false (nat_lt 0 len)))
 
 -- an attribute that was set is there
 attribute_now : (o : StoredObject) (number : ℕ) (value : List ℕ) (l : LaneEntry) → FIRST_USER_ATTRIBUTE ≤ number → is_some (attribute_of (after_set_attr number value l o) number) ≡ true

@@ -141,7 +141,7 @@ impl DriveCore {
     ///
     /// # Errors
     ///
-    /// Want of memory alone; then nothing changes.
+    /// [`Memory`]; then nothing changes.
     pub fn perform(&mut self, alloc: Global, c: &Command) -> Result<Reply, Memory>
         requires late { late_fault self.old c.now ≡ Perform }
         requires attribute { c.now.action ≡ SetAttr → FIRST_USER_ATTRIBUTE ≤ c.now.attribute }
@@ -180,7 +180,7 @@ impl DriveCore {
     ///
     /// # Errors
     ///
-    /// Want of memory alone. All memory is taken before anything changes, so then nothing changes.
+    /// [`Memory`]. All memory is taken before anything changes, so then nothing changes.
     pub fn handle(&mut self, alloc: Global, now: u64, message: &[u8]) -> Result<Reply, Memory>
         ensures reply { IfOk result (λ r. r ≡ reply_to self.old now message.now) }
         ensures short { IfOk result (λ r. length r.payload ≤ MAX_LENGTH) }

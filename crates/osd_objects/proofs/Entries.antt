@@ -4,9 +4,7 @@ use Rattle.std.specs.Ordering.{nat_cmp}
 use Rattle.std.specs.BTreeMap.{is_at, insert_entry}
 use Rattle.std.specs.Map.{lookup, set_value, remove_entry}
 use Rattle.std.proofs.lemmas.Bool.{cases_lt, cases_eq, eq-eqb, ne_eqb, lt-ltb, le-ltb}
-
-pub is_at_same : (k : ℕ) → is_at (nat_cmp k) k ≡ true
-is_at_same k = rw (le-ltb k k (omega arith), eq-eqb k k refl) refl
+use Rattle.osd_lists.proofs.Tests.{is_at_same}
 
 pub is_at_equal : (k j : ℕ) → k ≡ j → is_at (nat_cmp k) j ≡ true
 is_at_equal k j same = ap (is_at (nat_cmp k)) (sym same) ∙ is_at_same k
@@ -58,13 +56,6 @@ removed_again {X} (e ∷ es) k v none = elim (cases_lt k e.0) [
     | inr other ↦ rw (le-ltb k e.0 from, ne_eqb k e.0 other) (rw (is_at_other k e.0 other) (ap (λ (x : List (ℕ × X)). e ∷ x) (removed_again es k v (rw (is_at_other k e.0 other) at none))))
   ]
 ]
-
-pub none_there : {X : Type 0} (o : Option X) → is_some o ≡ false → o ≡ None
-none_there None h = refl
-none_there (Some x) h = absurd (cc h)
-
-pub same_some : {X : Type 0} (x y : X) → Some x ≡ Some y → x ≡ y
-same_some x y e = cc e
 
 pub some_there : {X : Type 0} (o : Option X) → is_some o ≡ true → (x : X) × (o ≡ Some x)
 some_there None h = absurd (cc h)

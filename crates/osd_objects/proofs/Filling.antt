@@ -7,10 +7,12 @@ use Rattle.std.specs.BTreeSet.{insert_key}
 use Rattle.std.specs.Map.{lookup, keys_of}
 use Rattle.std.proofs.lemmas.Bool.{cases_lt, cases_eq, cases_Bool, eq-eqb, ne_eqb, lt-ltb, le-ltb}
 use Rattle.std.proofs.lemmas.List.{length-replicate, get_or-replicate}
+use Rattle.std.proofs.lemmas.Option.{same_Some}
+use Rattle.osd_lists.proofs.Options.{none_there}
 use Rattle.osd_objects.specs.declared.pages.TheConstants.{PAGE_BYTES}
 use Rattle.osd_objects.specs.Pages.{Pages, page_at, byte_on, byte_at, with_page, with_pages, AreFull}
 use Rattle.osd_objects.specs.Sparse.{touch, touch_from}
-use Rattle.osd_objects.proofs.Entries.{lookup_inserted, lookup_beside, none_there, same_some}
+use Rattle.osd_objects.proofs.Entries.{lookup_inserted, lookup_beside}
 
 abbrev zeros : List ℕ
 zeros = replicate PAGE_BYTES 0
@@ -34,7 +36,7 @@ full_with_page : (pages : Pages) (n : ℕ) → AreFull pages → AreFull (with_p
 full_with_page pages n full = λ q page found. elim (cases_Bool (is_some (page_at pages n))) [
   | inl there ↦ full q page (rw there at found)
   | inr none ↦ elim (cases_eq q n) [
-    | inl same ↦ (let e : Some zeros ≡ Some page = sym (page_new pages n q same) ∙ rw none at found in ap length (sym (same_some zeros page e)) ∙ length-replicate {A = ℕ} PAGE_BYTES 0)
+    | inl same ↦ (let e : Some zeros ≡ Some page = sym (page_new pages n q same) ∙ rw none at found in ap length (sym (same_Some zeros page e)) ∙ length-replicate {A = ℕ} PAGE_BYTES 0)
     | inr other ↦ full q page (sym (lookup_beside pages n q zeros other) ∙ rw none at found)
   ]
 ]

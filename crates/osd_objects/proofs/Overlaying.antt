@@ -5,11 +5,12 @@ use Rattle.std.specs.BTreeMap.{is_at}
 use Rattle.std.proofs.lemmas.Bool.{cases_lt, cases_eq}
 use Rattle.std.proofs.lemmas.List.{length-append, append-nil, get_or_append_left, get_or-append_right}
 use Rattle.std.proofs.lemmas.Map.{keys-set_value}
+use Rattle.std.proofs.lemmas.Option.{same_Some}
 use Rattle.osd_lists.specs.Overwrite.{overwritten}
 use Rattle.osd_lists.proofs.Overwritten.{length-overwritten, before_overwritten, inside_overwritten, behind_overwritten}
 use Rattle.osd_objects.specs.declared.pages.TheConstants.{PAGE_BYTES}
 use Rattle.osd_objects.specs.Pages.{Pages, page_at, byte_on, byte_at, part_over, with_part, AreFull, IsOverlaid}
-use Rattle.osd_objects.proofs.Entries.{lookup_set, lookup_set_beside, same_some}
+use Rattle.osd_objects.proofs.Entries.{lookup_set, lookup_set_beside}
 use Rattle.osd_objects.proofs.PageLaws.{on_page}
 
 put_is_overwritten : (page : List ℕ) (i : ℕ) (part : List ℕ) → i ≤ length page → take i page ++ (part ++ drop (i + length part) page) ≡ overwritten page i part
@@ -37,7 +38,7 @@ part_put pages at page part found full inside =
       ];
       full = λ q other_page there. elim (cases_eq q n) [
         | inl same ↦ (let e : Some (overwritten page i part) ≡ Some other_page = sym now ∙ ap (page_at (with_part pages at part)) (sym same) ∙ there in
-            ap length (sym (same_some (overwritten page i part) other_page e)) ∙ length-overwritten page i part ∙ omega (arith, whole, inside))
+            ap length (sym (same_Some (overwritten page i part) other_page e)) ∙ length-overwritten page i part ∙ omega (arith, whole, inside))
         | inr other ↦ full q other_page (sym (lookup_set_beside pages n q new other) ∙ there)
       ];
       inside = λ j below.

@@ -6,7 +6,8 @@ use Rattle.osd_objects.specs.declared.pages.TheConstants.{PAGE_BYTES}
 use Rattle.std.specs.Ordering.{nat_cmp}
 use Rattle.std.specs.BTreeMap.{is_at, insert_entry}
 use Rattle.std.specs.Map.{remove_entry}
-use Rattle.osd_objects.proofs.Entries.{removed_again, none_there}
+use Rattle.osd_lists.proofs.Options.{none_there}
+use Rattle.osd_objects.proofs.Entries.{removed_again}
 use Rattle.osd_objects.specs.Pages.{Pages, page_at, byte_on, byte_at, span, with_page, with_pages, without_pages}
 
 -- a place that lies on the page of `at`

@@ -91,7 +91,7 @@ impl Store {
     ///
     /// # Errors
     ///
-    /// Want of memory alone; then nothing changes.
+    /// [`Memory`]; then nothing changes.
     pub fn create(
         &mut self,
         alloc: Global,
@@ -133,7 +133,7 @@ impl Store {
     ///
     /// # Errors
     ///
-    /// Want of memory alone. All memory is taken before a byte changes, so then nothing changes.
+    /// [`Memory`]. All memory is taken before a byte changes, so then nothing changes.
     pub fn write(
         &mut self,
         alloc: Global,
@@ -202,7 +202,7 @@ impl Store {
     ///
     /// # Errors
     ///
-    /// Want of memory alone; then nothing changes.
+    /// [`Memory`]; then nothing changes.
     pub fn set_attr(
         &mut self,
         alloc: Global,

@@ -1,15 +1,14 @@
 // One line of a scenario.
 ghost use Rattle.std.specs.Prelude.{◌≡◌, IfOk, IfErr};
-ghost use Rattle.stripe_repair.specs.Placing.{IsPlacer};
 ghost use Rattle.osd_replay.specs.LineCarried.{CarriesEvent, CarriesLine, StopsEvent, StopsLine, step_gives};
 
 use crate::status::ScenarioKind;
 use crate::stop::Stop;
 use layout_world::{Lines, World, WorldErr};
-use osd_lists::{Bytes, Memory, Numbers};
+use osd_lists::{Bytes, Memory};
 use scenario_text::{Event, EventErr, read_event, write_lines};
 use std::alloc::Global;
-use stripe_repair::{DriveLoad, Placer};
+use stripe_repair::Place;
 
 /// The lines of an event that was carried out.
 #[derive(Drop)]
@@ -37,15 +36,13 @@ fn is_cut(step: Result<(), WorldErr>) -> Result<bool, Stop>
 /// # Errors
 ///
 /// `Refused` where the world refuses the event, and `Memory`.
-pub fn carry_out_event<F>(
+pub fn carry_out_event<P: Place>(
     alloc: Global,
     world: &mut World,
     event: Event,
-    placer: &Placer<F>,
+    placer: &P,
 ) -> Result<Carried, Stop>
-where
-    F: Fn(u32, &[DriveLoad]) -> Result<Numbers, Memory>,
-    requires { IsPlacer F.Fn placer.now }
+    requires { P.is_placer placer.now }
     ensures ok { IfOk result (CarriesEvent event world.old world.new) }
     ensures err { IfErr result (StopsEvent event world.old) }
 {
@@ -63,15 +60,13 @@ where
 /// # Errors
 ///
 /// As [`carry_out_event`] has them; `Refused` also where the line spells no event.
-pub fn carry_out<F>(
+pub fn carry_out<P: Place>(
     alloc: Global,
     world: &mut World,
     line: &[u8],
-    placer: &Placer<F>,
+    placer: &P,
 ) -> Result<Carried, Stop>
-where
-    F: Fn(u32, &[DriveLoad]) -> Result<Numbers, Memory>,
-    requires { IsPlacer F.Fn placer.now }
+    requires { P.is_placer placer.now }
     ensures ok { IfOk result (CarriesLine line.now world.old world.new) }
     ensures err { IfErr result (StopsLine line.now world.old) }
 {

@@ -1,7 +1,6 @@
 // A scenario made from a seed, and what it comes to.
 ghost use Rattle.std.specs.Prelude.{◌≡◌, ℕ, List, [], Option, IfOk, IfErr, OnOk, string_bytes};
 ghost use Rattle.sha1.specs.Sha1.{Holds};
-ghost use Rattle.stripe_repair.specs.Placing.{IsPlacer};
 ghost use Rattle.osd_replay.specs.Ends.{ends};
 ghost use Rattle.osd_replay.specs.Generate.{count_line, counts_text, digest_line, IsToldOf};
 ghost use Rattle.history_claims.specs.Texts.{EventsFit};
@@ -15,12 +14,12 @@ use crate::stop::{Stop, stopped};
 use history_claims::histories_are_sound;
 use layout_world::{Summary, World};
 use osd_bytes::{Sink, put_all};
-use osd_lists::{Bytes, Memory, Numbers};
+use osd_lists::{Bytes, Memory};
 use scenario_text::{Event, write_lines};
 use sha1::Sha1;
 use std::alloc::Global;
 use std::mem;
-use stripe_repair::{DriveLoad, Placer};
+use stripe_repair::Place;
 
 // The line of a count.
 fn count_line(alloc: Global, name: &str, count: u64) -> Result<Bytes, Memory>
@@ -65,10 +64,8 @@ struct Digested {
 
 impl Digested {
     // Carries out an event.
-    fn step<F>(&mut self, alloc: Global, event: Event, placer: &Placer<F>) -> Result<(), Stop>
-    where
-        F: Fn(u32, &[DriveLoad]) -> Result<Numbers, Memory>,
-        requires { IsPlacer F.Fn placer.now }
+    fn step<P: Place>(&mut self, alloc: Global, event: Event, placer: &P) -> Result<(), Stop>
+        requires { P.is_placer placer.now }
         ensures ok { OnOk result (MakesMore event self.old self.new) }
         ensures err { IfErr result (StopsMaking event self.old) }
     {
@@ -84,15 +81,13 @@ impl Digested {
     }
 
     // Carries out all events.
-    fn carry_out_all<F>(
+    fn carry_out_all<P: Place>(
         &mut self,
         alloc: Global,
         events: Vec<Event>,
-        placer: &Placer<F>,
+        placer: &P,
     ) -> Result<(), Stop>
-    where
-        F: Fn(u32, &[DriveLoad]) -> Result<Numbers, Memory>,
-        requires { IsPlacer F.Fn placer.now }
+        requires { P.is_placer placer.now }
         ensures ok { OnOk result (Made [] self.old → EventsFit events.items → Made events.items self.new) }
         ensures err { IfErr result (λ stop. Made [] self.old → EventsFit events.items → StopsAmong events.items stop) }
     {
@@ -119,16 +114,14 @@ impl Digested {
     }
 
     // Carries out all of a scenario, and gives what it came to.
-    fn come_to<F>(
+    fn come_to<P: Place>(
         &mut self,
         alloc: Global,
         seed: u64,
         calls: u64,
-        placer: &Placer<F>,
+        placer: &P,
     ) -> Result<Bytes, Stop>
-    where
-        F: Fn(u32, &[DriveLoad]) -> Result<Numbers, Memory>,
-        requires places { IsPlacer F.Fn placer.now }
+        requires places { P.is_placer placer.now }
         requires begins { Made [] self.now }
         ensures ok { IfOk result (ComesTo seed calls) }
         ensures err { IfErr result (StopsAmong (scenario_of seed calls)) }
@@ -145,10 +138,8 @@ impl Digested {
 }
 
 // What a scenario comes to in a new world, whose drop has but one place here.
-fn carried_out<F>(alloc: Global, seed: u64, calls: u64, placer: &Placer<F>) -> Result<Bytes, Stop>
-where
-    F: Fn(u32, &[DriveLoad]) -> Result<Numbers, Memory>,
-    requires { IsPlacer F.Fn placer.now }
+fn carried_out<P: Place>(alloc: Global, seed: u64, calls: u64, placer: &P) -> Result<Bytes, Stop>
+    requires { P.is_placer placer.now }
     ensures ok { IfOk result (ComesTo seed calls) }
     ensures err { IfErr result (StopsAmong (scenario_of seed calls)) }
 {
@@ -162,16 +153,14 @@ where
 
 /// Carries out the scenario of `calls` calls that is made from a seed, and puts what it came to: six
 /// counts, the digest (SHA-1) of its transcript, and the transcript's last line.
-pub fn generate<K: Sink, F>(
+pub fn generate<K: Sink, P: Place>(
     alloc: Global,
     seed: u64,
     calls: u64,
     sink: &mut K,
-    placer: &Placer<F>,
+    placer: &P,
 ) -> Status
-where
-    F: Fn(u32, &[DriveLoad]) -> Result<Numbers, Memory>,
-    requires { IsPlacer F.Fn placer.now }
+    requires { P.is_placer placer.now }
     ensures { (left : Option (List ℕ)) (reads : ℕ) → Promises seed calls
         (ends left reads (K.taken sink.old) (K.faults sink.old))
         (ends left reads (K.taken sink.new) (K.faults sink.new)) result }

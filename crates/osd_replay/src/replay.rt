@@ -1,6 +1,5 @@
 // A scenario replayed line by line.
 ghost use Rattle.std.specs.Prelude.{◌≡◌, []};
-ghost use Rattle.stripe_repair.specs.Placing.{IsPlacer};
 ghost use Rattle.scenario_text.specs.declared.line.Line.TheVariants.{Last};
 ghost use Rattle.world_history.specs.State.{empty_world};
 ghost use Rattle.calm_law.specs.Watching.{WatchesAll};
@@ -15,10 +14,10 @@ use crate::stop::{Stop, stop_of, stopped};
 use history_claims::histories_are_sound;
 use layout_world::World;
 use osd_bytes::{LineReader, Sink, Source, put_all};
-use osd_lists::{Memory, Numbers};
+use osd_lists::Memory;
 use scenario_text::write_lines;
 use std::alloc::Global;
-use stripe_repair::{DriveLoad, Placer};
+use stripe_repair::Place;
 
 // Puts the last line.
 fn finish<K: Sink>(alloc: Global, world: &World, sink: &mut K) -> Status
@@ -37,16 +36,14 @@ fn finish<K: Sink>(alloc: Global, world: &World, sink: &mut K) -> Status
 }
 
 // Carries out the lines that the source gives in a new world, and puts their transcript.
-fn carry_out_lines<S: Source, K: Sink, F>(
+fn carry_out_lines<S: Source, K: Sink, P: Place>(
     alloc: Global,
     world: &mut World,
     source: &mut S,
     sink: &mut K,
-    placer: &Placer<F>,
+    placer: &P,
 ) -> Status
-where
-    F: Fn(u32, &[DriveLoad]) -> Result<Numbers, Memory>,
-    requires places { IsPlacer F.Fn placer.now }
+    requires places { P.is_placer placer.now }
     requires is_new { Shows world.now.parties empty_world }
     requires watches { WatchesAll [] world.now.watch }
     ensures { Promises
@@ -77,15 +74,13 @@ where
 }
 
 /// Replays the scenario that the source gives, and puts its transcript.
-pub fn replay<S: Source, K: Sink, F>(
+pub fn replay<S: Source, K: Sink, P: Place>(
     alloc: Global,
     source: &mut S,
     sink: &mut K,
-    placer: &Placer<F>,
+    placer: &P,
 ) -> Status
-where
-    F: Fn(u32, &[DriveLoad]) -> Result<Numbers, Memory>,
-    requires { IsPlacer F.Fn placer.now }
+    requires { P.is_placer placer.now }
     ensures { Promises
         (ends (S.left source.old) (S.faults source.old) (K.taken sink.old) (K.faults sink.old))
         (ends (S.left source.new) (S.faults source.new) (K.taken sink.new) (K.faults sink.new)) result }

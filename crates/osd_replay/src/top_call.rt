@@ -1,6 +1,5 @@
 // The top call.
 ghost use Rattle.std.specs.Prelude.{◌≡◌, ◌↔◌, IsNone, map, string_bytes};
-ghost use Rattle.stripe_repair.specs.Placing.{IsPlacer};
 ghost use Rattle.osd_replay.specs.Ends.{ends};
 ghost use Rattle.osd_replay.specs.Commands.{command_of};
 ghost use Rattle.osd_replay.specs.Run.{Promises};
@@ -12,9 +11,8 @@ use crate::put_line::put_pieces;
 use crate::replay::replay;
 use crate::status::Status;
 use osd_bytes::{Sink, Source};
-use osd_lists::{Memory, Numbers};
 use std::alloc::Global;
-use stripe_repair::{DriveLoad, Placer};
+use stripe_repair::Place;
 
 /// Runs the command that the words name over a source and a sink, and tells how it ended.
 ///
@@ -23,16 +21,14 @@ use stripe_repair::{DriveLoad, Placer};
 /// `check KIND` read a structure of RFC 5664 from each line, in hexadecimal digits: the first writes its
 /// fields, the second tells whether it is well formed. Where a command stops before the end of the
 /// input, an error line says why.
-pub fn run<S: Source, K: Sink, F>(
+pub fn run<S: Source, K: Sink, P: Place>(
     alloc: Global,
     words: &[String],
     source: &mut S,
     sink: &mut K,
-    placer: &Placer<F>,
+    placer: &P,
 ) -> Status
-where
-    F: Fn(u32, &[DriveLoad]) -> Result<Numbers, Memory>,
-    requires { IsPlacer F.Fn placer.now }
+    requires { P.is_placer placer.now }
     ensures promise { Promises (command_of (map string_bytes words.now))
         (ends (S.left source.old) (S.faults source.old) (K.taken sink.old) (K.faults sink.old))
         (ends (S.left source.new) (S.faults source.new) (K.taken sink.new) (K.faults sink.new)) result }

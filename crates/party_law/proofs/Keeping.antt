@@ -190,7 +190,7 @@ module _ (Off : ℕ → Type 0) where
 
   pub making_fewer : (go : Going) → Fewer go.file.kept (making go).file.kept
   unfolding making
-  making_fewer go = ready_fewer go (to_all go.file.kept All Creating go.moved.nonce)
+  making_fewer go = ready_fewer go (to_all go.file.kept All Creating go.effects.nonce)
 
   made_fewer : (go : Going) (ready : Bool) → Fewer go.file.kept (opens_made go ready).file.kept
   made_fewer go true = fewer_itself go.file.kept

@@ -4,10 +4,10 @@ use Rattle.std.proofs.Common.{inr}
 use Rattle.std.specs.Prelude.{Some, slice_index}
 use Rattle.std.specs.List.{All}
 use Rattle.std.proofs.lemmas.Bool.{cases_Bool}
+use Rattle.std.proofs.lemmas.Option.{same_Some}
 use Rattle.file_log.specs.Judge.{byte_for}
 use Rattle.file_log.proofs.Settled.{byte_inside}
 use Rattle.data_map.specs.declared.check.RawMap.{RawMap}
-use Rattle.data_map.proofs.Inverse.{some_is}
 use Rattle.stripe_plan.specs.declared.plan.Span.{Span}
 use Rattle.stripe_plan.specs.declared.plan.Column.{Column}
 use Rattle.stripe_plan.specs.declared.plan.Store.{Store}
@@ -27,7 +27,7 @@ small_new r bytes p v long small e =
     let i = new_inside r bytes p v long e in
     let in_ : p - r.offset < length bytes = omega (arith, i.0, i.1, long) in
     let is : v ≡ get_or bytes (p - r.offset) 0 =
-    some_is v (get_or bytes (p - r.offset) 0) (sym e ∙ byte_inside r.offset bytes p i.0 in_) in
+    same_Some v (get_or bytes (p - r.offset) 0) (sym e ∙ byte_inside r.offset bytes p i.0 in_) in
     omega (arith, is, small (p - r.offset) 0 in_)
 
 -- what was seen, and any data that agree with the replies, give one word to each cell that is hit

@@ -7,6 +7,7 @@ use Rattle.std.proofs.lemmas.Bool.{cases_Bool, cases_eq}
 use Rattle.std.proofs.lemmas.Bool.Decides.{nat_tests}
 use Rattle.std.proofs.lemmas.Nat.{div-mul-add, mod-mul-add}
 use Rattle.std.proofs.lemmas.List.FromFn.{length-map-range_with_len, get_or-map-range_with_len, take-map-range_with_len}
+use Rattle.std.proofs.lemmas.Option.{same_Some}
 use Rattle.data_map.specs.declared.check.RawMap.{RawMap}
 use Rattle.data_map.specs.Check.{IsChecked}
 use Rattle.data_map.specs.Striping.{replicas, group_width, data_units, group_of, row_of, position_of, offset_of}
@@ -29,7 +30,6 @@ use Rattle.plan_law.specs.FileLayout.{word_in}
 use Rattle.plan_law.proofs.Codes.{both, same_word}
 use Rattle.plan_law.proofs.Decoded.{decoded_are_words}
 use Rattle.stripe_plan.proofs.StripeRows.{same_range}
-use Rattle.data_map.proofs.Inverse.{some_is}
 use Rattle.plan_law.specs.Pieces.{RepairsWriteWords, RebuildsCopyWords, RebuildsWriteWords}
 
 -- ---- rows
@@ -97,7 +97,7 @@ unfolding replica_from
 stands_at m p [] n f e = absurd (cc e)
 stands_at m p (at ∷ cs) n f e = elim (cases_Bool (not at.missing && (n / replicas m == p))) [
   | inl t ↦
-      let here : n ≡ f = some_is n f (rw t at e) in
+      let here : n ≡ f = same_Some n f (rw t at e) in
       let there : (n / replicas m == p) ≡ true = (both (not at.missing) (n / replicas m == p) t).1 in
       ap (λ x. x / replicas m) (sym here) ∙ grind (arith, nat_tests, there)
   | inr no_more ↦ stands_at m p cs (n + 1) f (rw no_more at e)

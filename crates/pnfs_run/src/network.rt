@@ -1,6 +1,5 @@
 // The three commands over a network.
 ghost use Rattle.std.specs.Prelude.{◌≡◌, ℕ, List, Option, map, string_bytes};
-ghost use Rattle.stripe_repair.specs.Placing.{IsPlacer};
 ghost use Rattle.cluster_text.specs.Lines.{PutsLine};
 ghost use Rattle.command_words.specs.declared.words.WordsErr.TheVariants as words_err;
 ghost use Rattle.command_words.specs.Options.{client_options, drive_options, server_options};
@@ -16,10 +15,10 @@ use cluster_text::{CommandStop, put_stop};
 use command_words::{WordsErr, client_words, drive_words, server_words};
 use drive_command::drive_command;
 use osd_bytes::{Clock, Links, Sink, Source, put_all};
-use osd_lists::{Memory, Numbers};
+use osd_lists::Memory;
 use server_command::server_command;
 use std::alloc::Global;
-use stripe_repair::{DriveLoad, Placer};
+use stripe_repair::Place;
 
 // The line that says that the words aren't those of a command.
 fn words_line() -> &'static [u8]
@@ -79,18 +78,16 @@ pub(crate) fn run_drive<S: Source, K: Sink, L: Links, C: Clock>(
 }
 
 /// Serves as the metadata server.
-pub(crate) fn run_server<S: Source, K: Sink, L: Links, C: Clock, F>(
+pub(crate) fn run_server<S: Source, K: Sink, L: Links, C: Clock, P: Place>(
     alloc: Global,
     words: &[String],
     source: &mut S,
     sink: &mut K,
     links: &mut L,
     clock: &mut C,
-    placer: &Placer<F>,
+    placer: &P,
 ) -> Status
-where
-    F: Fn(u32, &[DriveLoad]) -> Result<Numbers, Memory>,
-    requires { IsPlacer F.Fn placer.now }
+    requires { P.is_placer placer.now }
     ensures promise { Runs server_options server_gives ServerEnds (map string_bytes words.now)
         (ends (S.left source.old) (S.faults source.old) (K.taken sink.old) (K.faults sink.old)
         (L.told links.old) (L.faults links.old) (C.times clock.old))

@@ -9,7 +9,7 @@ use Rattle.server_rules.specs.Files.{Step, file_at, still}
 use Rattle.server_rules.specs.Going.{Going}
 use Rattle.server_rules.specs.History.{Input, Hears, Makes, Obeys, Adds, Opens, step, unless_made}
 use Rattle.server_rules.specs.Making.{add_drive, refusal, unless_refused, makes_file, unmade, places, create_file}
-use Rattle.server_rules.specs.Messages.{Message, Asks, Replies, Orders, heard_at, by_heard, on_drive_reply, handled, on_message, counters_low}
+use Rattle.server_rules.specs.Messages.{Message, Asks, Replies, Orders, heard_at, by_heard, on_drive_reply, handled, on_message, counters_have_room}
 use Rattle.server_rules.specs.Openings.{reopen}
 use Rattle.server_rules.specs.Orders.{begins_job, starts, recalls_on, offline, declare, declares_known, ordered}
 use Rattle.server_rules.specs.Requests.{carries_out, by_admit, on_request}
@@ -120,7 +120,7 @@ knows_message : (s : Server) (now : ℕ) (chosen : List ℕ) (from : Node) (m : 
     → Knows s (on_message s now chosen from m)
 unfolding on_message
 knows_message s now chosen from m other =
-    either_step s (counters_low s) (handled s now chosen from m) (still s) (knows_handled s now chosen from m other) (λ n o. o)
+    either_step s (counters_have_room s) (handled s now chosen from m) (still s) (knows_handled s now chosen from m other) (λ n o. o)
 
 knows_unless : (s : Server) (o : Option Refusal) (f : File) → Knows s (unless_made s (unless_refused o (makes_file s f)))
 knows_unless s (Some r) f = (λ n o. o)
@@ -139,7 +139,7 @@ step_back s chosen (Hears now from m) none = knows_message s now chosen from m n
 step_back s chosen (Makes n m tag) none =
     knows_unless s (refusal s n m) (unmade s n m tag (places s.drives m.comps chosen))
 step_back s chosen (Obeys kind n) none = knows_ordered s chosen kind n none
-step_back s chosen Opens none = either_step s (counters_low s) _ (still s) (λ n o. o) (λ n o. o)
+step_back s chosen Opens none = either_step s (counters_have_room s) _ (still s) (λ n o. o) (λ n o. o)
 step_back s chosen (Adds d) none = λ n o. added_back s.drives d n none o
 step_back s chosen i none = λ n o. o
 

@@ -5,6 +5,7 @@ use Rattle.std.specs.List.{list_any}
 use Rattle.std.specs.Str.{bytes_eq}
 use Rattle.std.proofs.lemmas.List.{append-nil}
 use Rattle.std.proofs.lemmas.Slice.Eq.{bytes_eq-Decides}
+use Rattle.std.proofs.lemmas.Bool.{or_parts, or_from}
 use Rattle.scenario_text.specs.declared.event.EventErr.{EventErr}
 use Rattle.scenario_text.specs.declared.hexadecimal.Digits.{Digits}
 use Rattle.scenario_text.specs.Parts.{Part, Fixed, word_of, PartFits, AllFit}
@@ -13,7 +14,7 @@ use Rattle.scenario_text.specs.Reading.{first, after, nothing, next_as}
 use Rattle.scenario_text.specs.Keywords.{word_in}
 use Rattle.scenario_text.specs.Form.{Form, Done, Word, Choose, Then, Unknown, reads, reads_line, pick, chosen, form_or}
 use Rattle.scenario_text.proofs.Results.{bind_ok, first_ok, good_same, end_ok}
-use Rattle.scenario_text.proofs.Without.{none_any, or_parts, or_false}
+use Rattle.scenario_text.proofs.Without.{none_any}
 
 abbrev pub is_space : ℕ → Bool
 is_space b = b == 32
@@ -223,7 +224,7 @@ clear_append : (ps qs : List Part) → none_any is_space (map word_of ps) ≡ fa
 clear_append [] qs h k = k
 clear_append (p ∷ ps) qs h k =
     let t = or_parts (list_any is_space (word_of p)) (none_any is_space (map word_of ps)) h in
-    or_false _ _ t.0 (clear_append ps qs t.1 k)
+    or_from _ _ t.0 (clear_append ps qs t.1 k)
 
 done_read : {A : Type 0} (digits : Digits) (y x : A) (words left : List (List ℕ)) → y ≡ x → SpellAll digits [] words
     → reads (Done y) (words ++ left) ≡ Ok (x, left)
@@ -266,7 +267,7 @@ again digits (Word of next) parts before h x p =
       back = h.0 p.0 ∷ a.back;
       is = a.is ∙ one_more before a.back (h.0 p.0);
       read = λ words left fit spell. word_read digits of next h.0 h.1 p.0 a.back x words left fit.0 spell (λ ws s. a.read ws left fit.1 s);
-      clear = λ fit. or_false _ _ (h.1.clear p.0 fit.0) (a.clear fit.1);
+      clear = λ fit. or_from _ _ (h.1.clear p.0 fit.0) (a.clear fit.1);
     }
 again digits (Choose form) parts before h x p =
     let a = again digits (form p.0) parts (before ++ Fixed p.0 ∷ []) (h p.0) x p.2 in
@@ -274,7 +275,7 @@ again digits (Choose form) parts before h x p =
       back = Fixed p.0 ∷ a.back;
       is = a.is ∙ one_more before a.back (Fixed p.0);
       read = λ words left fit spell. choose_read digits form p.0 a.back x words left spell (λ ws s. a.read ws left fit.1 s);
-      clear = λ fit. or_false _ _ p.1 (a.clear fit.1);
+      clear = λ fit. or_from _ _ p.1 (a.clear fit.1);
     }
 again digits (Then form next) parts before h x p =
     let a = again digits form h.0 h.2 h.4 p.0 p.1 in

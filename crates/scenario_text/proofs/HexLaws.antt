@@ -3,7 +3,7 @@ use Rattle.std.proofs.Common.{◌≡◌, ℕ, zero, suc, ◌+◌, ◌*◌, ◌/�
 use Rattle.std.specs.Prelude.{◌==◌, nat_le, nat_lt, if◌then◌else◌}
 use Rattle.std.specs.Str.{bytes_eq}
 use Rattle.std.specs.List.{list_any}
-use Rattle.std.proofs.lemmas.Bool.{and_parts, eqb-true, false_from_ne_true, cases_lt}
+use Rattle.std.proofs.lemmas.Bool.{and_parts, eqb-true, false_from_ne_true, cases_lt, or_parts}
 use Rattle.std.proofs.lemmas.Slice.Eq.{bytes_eq-Decides}
 use Rattle.hex.specs.Hex.{IsBytes, decode_of, decode_sized, decode_pairs, pair_value, value_at, digit_or_error, hex_digit_value, encode_lower, encode_with, lower_digits, ◌>>=◌ as ◌>>>◌}
 use Rattle.hex.specs.declared.error.FromHexError.{FromHexError}
@@ -15,7 +15,7 @@ use Rattle.scenario_text.specs.declared.event.EventErr.TheVariants.{BadHex}
 use Rattle.scenario_text.specs.Parts.{Key, Hex, hex_word}
 use Rattle.scenario_text.specs.Spells.{SpellsKey, SpellsBytes}
 use Rattle.scenario_text.specs.Reading.{or_bad_hex, any_upper, refuses, key_of, bytes_of}
-use Rattle.scenario_text.proofs.Without.{or_parts, encode_without}
+use Rattle.scenario_text.proofs.Without.{encode_without}
 use Rattle.scenario_text.proofs.Forms.{Law, is_space}
 
 -- ---- digits in lower case

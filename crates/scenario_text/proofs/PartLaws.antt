@@ -3,7 +3,7 @@ use Rattle.std.proofs.Common.{◌≡◌, ℕ, ◌+◌, ◌^◌, ◌<◌, ◌≤�
 use Rattle.std.specs.Prelude.{◌==◌, nat_eq, nat_le, nat_lt, if◌then◌else◌}
 use Rattle.std.specs.Fmt.{decimal}
 use Rattle.std.specs.List.{list_any, slice_split, join_with_byte}
-use Rattle.std.proofs.lemmas.Bool.{leb-true, le-leb, ltb-true, lt-ltb, eqb-true, eq-eqb, false_from_ne_true}
+use Rattle.std.proofs.lemmas.Bool.{leb-true, le-leb, ltb-true, lt-ltb, eqb-true, eq-eqb, false_from_ne_true, or_parts, or_from}
 use Rattle.std.proofs.lemmas.List.Splits.{length-slice_split, join_with_byte-slice_split}
 use Rattle.scenario_text.specs.declared.event.EventErr.{EventErr}
 use Rattle.scenario_text.specs.declared.event.EventErr.TheVariants.{BadNumber, BadName}
@@ -12,7 +12,7 @@ use Rattle.scenario_text.specs.Parts.{Number, Name, Positions, positions_word, R
 use Rattle.scenario_text.specs.Reading.{in_range, below, number_of, name_of, decimal_of, rising_of, positions_of}
 use Rattle.scenario_text.proofs.Results.{bind_ok, good_same}
 use Rattle.scenario_text.proofs.Numbers.{decimal_of-some, decimal_of-decimal}
-use Rattle.scenario_text.proofs.Without.{none_any, or_parts, or_false, split_joined, SparesDigits, decimal_without}
+use Rattle.scenario_text.proofs.Without.{none_any, split_joined, SparesDigits, decimal_without}
 use Rattle.scenario_text.proofs.Forms.{Law, is_space}
 
 spares : SparesDigits is_space
@@ -92,7 +92,7 @@ pub name_law : (digits : Digits) (letter count : ℕ) → count ≤ 2 ^ 64 → i
 name_law digits letter count few letters = record {
   found = λ word n h. name_ok letter count word n h;
   again = λ word n fit is. rw is (name_again letter count n fit (omega (arith, fit, few)));
-  clear = λ n fit. or_false _ _ letters (decimal_clear n (omega (arith, fit, few)));
+  clear = λ n fit. or_from _ _ letters (decimal_clear n (omega (arith, fit, few)));
 }
 
 -- ---- positions
@@ -131,7 +131,7 @@ no_comma c low high = false_from_ne_true (c == 44) (λ t. let is = eqb-true c 44
 
 commas : (least : ℕ) (ps : List ℕ) → Rising least ps → none_any (λ b. b == 44) (map decimal ps) ≡ false
 commas least [] h = refl
-commas least (p ∷ ps) h = or_false _ _ (decimal_without (λ b. b == 44) p no_comma (omega arith)) (commas (p + 1) ps h.2)
+commas least (p ∷ ps) h = or_from _ _ (decimal_without (λ b. b == 44) p no_comma (omega arith)) (commas (p + 1) ps h.2)
 
 positions_again : (ps : List ℕ) → PositionsFit ps → positions_of (positions_word ps) ≡ Ok ps
 unfolding positions_of
@@ -140,7 +140,7 @@ positions_again (p ∷ ps) h = rw (split_joined 44 (decimal p) (map decimal ps) 
 
 any_append : (p : ℕ → Bool) (xs ys : List ℕ) → list_any p xs ≡ false → list_any p ys ≡ false → list_any p (xs ++ ys) ≡ false
 any_append p [] ys hx hy = hy
-any_append p (x ∷ xs) ys hx hy = let t = or_parts (p x) (list_any p xs) hx in or_false _ _ t.0 (any_append p xs ys t.1 hy)
+any_append p (x ∷ xs) ys hx hy = let t = or_parts (p x) (list_any p xs) hx in or_from _ _ t.0 (any_append p xs ys t.1 hy)
 
 -- positions behind the first one
 joined_clear : (p least : ℕ) (ps : List ℕ) → p < 2 ^ 32 → Rising least ps → list_any is_space (positions_word (p ∷ ps)) ≡ false

@@ -4,7 +4,7 @@ use Rattle.std.specs.Prelude.{◌==◌}
 use Rattle.std.specs.Fmt.{decimal}
 use Rattle.std.specs.List.{All, list_any, slice_split, join_with_byte}
 use Rattle.std.specs.Str.Parse.{AllDigits}
-use Rattle.std.proofs.lemmas.Bool.{eq-eqb}
+use Rattle.std.proofs.lemmas.Bool.{eq-eqb, or_parts, or_from}
 use Rattle.std.proofs.lemmas.Fmt.{decimal_is_IsNumeral}
 use Rattle.std.proofs.lemmas.List.Elements.{All-cons, All-nil}
 use Rattle.std.proofs.lemmas.List.Splits.{slice_split_at, slice_split_none}
@@ -15,13 +15,6 @@ use Rattle.hex.specs.Hex.{encode_with, encode_lower, lower_digits}
 abbrev pub none_any : (ℕ → Bool) → List (List ℕ) → Bool
 none_any p [] = false
 none_any p (word ∷ words) = list_any p word || none_any p words
-
-pub or_parts : (a b : Bool) → (a || b) ≡ false → (a ≡ false) × (b ≡ false)
-or_parts true b h = cc h
-or_parts false b h = (refl, h)
-
-pub or_false : (a b : Bool) → a ≡ false → b ≡ false → (a || b) ≡ false
-or_false a b p q = rw (p, q) refl
 
 none_of : (p : ℕ → Bool) (word : List ℕ) → list_any p word ≡ false → All (λ b. p b ≡ false) word
 none_of p [] h = All-nil (λ b. p b ≡ false)
@@ -52,7 +45,7 @@ digits_without : (p : ℕ → Bool) (word : List ℕ) → SparesDigits p → All
 digits_without p [] spares h = refl
 digits_without p (c ∷ word) spares h =
     let range = digit_from_value c h.0 in
-    or_false (p c) (list_any p word) (spares c range.0 range.1) (digits_without p word spares h.1)
+    or_from (p c) (list_any p word) (spares c range.0 range.1) (digits_without p word spares h.1)
 
 pub decimal_without : (p : ℕ → Bool) (n : ℕ) → SparesDigits p → n < 2 ^ 64 → list_any p (decimal n) ≡ false
 decimal_without p n spares lt = digits_without p (decimal n) spares (decimal_is_IsNumeral n lt).0.1
@@ -66,8 +59,8 @@ encoded_without : (p : ℕ → Bool) (t bytes : List ℕ) → p 0 ≡ false → 
 unfolding encode_with
 encoded_without p t [] none h = refl
 encoded_without p t (b ∷ bytes) none h =
-    or_false (p (slice_index t (b / 16))) _ (table_at p t none h (b / 16))
-    (or_false (p (slice_index t (b % 16))) _ (table_at p t none h (b % 16)) (encoded_without p t bytes none h))
+    or_from (p (slice_index t (b / 16))) _ (table_at p t none h (b / 16))
+    (or_from (p (slice_index t (b % 16))) _ (table_at p t none h (b % 16)) (encoded_without p t bytes none h))
 
 pub encode_without : (p : ℕ → Bool) (bytes : List ℕ) → p 0 ≡ false → list_any p lower_digits ≡ false → list_any p (encode_lower bytes) ≡ false
 encode_without p bytes none h = encoded_without p lower_digits bytes none h

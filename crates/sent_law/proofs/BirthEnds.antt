@@ -57,20 +57,20 @@ AllSent birth m before sent =
 -- the file has the numbers that it had, and the step gave none yet: its tag may still rise
 abbrev pub Owns : (birth : ℕ → ℕ) → (n : ℕ) → (before : List Awaited) → Going → Type 0
 Owns birth n before g =
-    (g.moved.object ≡ n) × AllBorn birth g.moved.object g.file.kept.tag g.file.kept.components
-    × AllSent birth g.moved.object before g.moved.sent
+    (g.effects.object ≡ n) × AllBorn birth g.effects.object g.file.kept.tag g.file.kept.components
+    × AllSent birth g.effects.object before g.effects.sent
 
 -- and so it is of its job
 abbrev pub Holds : (birth : ℕ → ℕ) → (n : ℕ) → (before : List Awaited) → Going → Type 0
 Holds birth n before g =
-    Owns birth n before g × IsAim birth g.moved.object g.file.kept.tag (target_of g.file.job)
-    × AllAsked birth g.moved.object g.file.kept.tag (awaited_by g.file.job)
+    Owns birth n before g × IsAim birth g.effects.object g.file.kept.tag (target_of g.file.job)
+    × AllAsked birth g.effects.object g.file.kept.tag (awaited_by g.file.job)
 
 -- the step may have given numbers from n on
 abbrev pub Ends : (birth : ℕ → ℕ) → (n : ℕ) → (before : List Awaited) → Going → Type 0
 Ends birth n before g =
-    (later : ℕ → ℕ) × Agree birth later n × (n ≤ g.moved.object) × IsFine later g.moved.object g.file
-    × AllSent later g.moved.object before g.moved.sent
+    (later : ℕ → ℕ) × Agree birth later n × (n ≤ g.effects.object) × IsFine later g.effects.object g.file
+    × AllSent later g.effects.object before g.effects.sent
 
 -- it gave none
 pub holds_on : (birth : ℕ → ℕ) (n : ℕ) (before : List Awaited) (g : Going) → Holds birth n before g

@@ -3,7 +3,7 @@ use Rattle.std.proofs.Common.{◌≡◌, ℕ, true, List, [], ◌∷◌, flat_ma
 use Rattle.data_map.specs.declared.check.RawMap.{RawMap}
 use Rattle.server_rules.specs.Laws.{In}
 use Rattle.server_rules.specs.Files.{at_file, to_drives}
-use Rattle.server_rules.specs.Messages.{awaited_by, on_message, counters_low}
+use Rattle.server_rules.specs.Messages.{awaited_by, on_message, counters_have_room}
 use Rattle.server_rules.specs.Jobs.{making}
 use Rattle.server_rules.specs.Making.{refusal, places, unmade, with_file, makes_file, unless_refused, create_file}
 use Rattle.server_rules.specs.History.{Input, Hears, Makes, Obeys, Adds, Formats, Resends, Crashes, Opens, step, unless_made}
@@ -89,7 +89,7 @@ pub step_keeps : (birth : ℕ → ℕ) (s : Server) (chosen : List ℕ) (i : Inp
     → Keeps birth s.next_object (step s chosen i)
 unfolding on_message create_file
 step_keeps birth s chosen (Hears now from m) runs own =
-    either_step birth s own (counters_low s) _ _ (heard_message birth s own now chosen from m) (stays birth s own)
+    either_step birth s own (counters_have_room s) _ _ (heard_message birth s own now chosen from m) (stays birth s own)
 step_keeps birth s chosen (Makes n m tag) runs own =
     unless birth s own n m tag (places s.drives m.comps chosen) (refusal s n m)
 step_keeps birth s chosen (Obeys kind n) runs own = obeyed birth s own chosen kind n

@@ -55,9 +55,9 @@ module _ (birth : ℕ → ℕ) (s : Server) (own : AreFine birth s) where
 
   -- one file goes on
   pub goes_at : (number : ℕ) (h : Going) (t : Step) → t.state.files ≡ put_file s.files number h.file
-      → t.state.next_object ≡ h.moved.object
+      → t.state.next_object ≡ h.effects.object
       → ((drive : ℕ) (c : Command) → In (ToDrive drive c) t.sends
-      → In (ToDrive drive c) (to_drives s.drives h.moved.sent)) → Ends birth s.next_object [] h
+      → In (ToDrive drive c) (to_drives s.drives h.effects.sent)) → Ends birth s.next_object [] h
       → Keeps birth s.next_object t
   goes_at number h t files next sends e = record {
     later = e.0;
@@ -70,11 +70,11 @@ module _ (birth : ℕ → ℕ) (s : Server) (own : AreFine birth s) where
           fine_later birth e.0 s.next_object t.state.next_object x e.1 (omega (arith, next, e.2)) (own x k)
     ];
     sent = λ drive c j.
-        let r = in_drives s.drives h.moved.sent drive c (sends drive c j) in
+        let r = in_drives s.drives h.effects.sent drive c (sends drive c j) in
         subst (λ (m : ℕ). IsSent e.0 m c) (sym next)
         (elim (e.4 r.0 r.2) [
           | inl none ↦ absurd none
-          | inr x ↦ sent_of e.0 h.moved.object drive c r.0 r.1 x
+          | inr x ↦ sent_of e.0 h.effects.object drive c r.0 r.1 x
         ]);
   }
 

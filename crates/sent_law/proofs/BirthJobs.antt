@@ -32,10 +32,10 @@ module _ (birth : ℕ → ℕ) (n : ℕ) (before : List Awaited) where
   End g = Ends birth n before g
 
   abbrev Aim : Going → Option Target → Type 0
-  Aim g o = IsAim birth g.moved.object g.file.kept.tag o
+  Aim g o = IsAim birth g.effects.object g.file.kept.tag o
 
   abbrev Asked : Going → List Awaited → Type 0
-  Asked g ws = AllAsked birth g.moved.object g.file.kept.tag ws
+  Asked g ws = AllAsked birth g.effects.object g.file.kept.tag ws
 
   same : (g : Going) → Hold g → End g
   same g h = holds_on birth n before g h
@@ -58,7 +58,7 @@ module _ (birth : ℕ → ℕ) (n : ℕ) (before : List Awaited) where
       → Aim g (target_in work) → Asked g (c ∷ cs) → End (rests g kind work c cs)
   ends_rests g kind work c cs h a asked =
       same (rests g kind work c cs)
-      ((h.0, h.1, sent_more birth g.moved.object g.file.kept.tag g.moved.sent (c ∷ cs) h.2 asked), a, asked)
+      ((h.0, h.1, sent_more birth g.effects.object g.file.kept.tag g.effects.sent (c ∷ cs) h.2 asked), a, asked)
 
   ends_rests_or : (cs : List Awaited) (g : Going) (kind : JobKind) (work : Work) (later : Going) → Own g
       → Aim g (target_in work) → Asked g cs → End later → End (rests_or cs g kind work later)
@@ -68,9 +68,9 @@ module _ (birth : ℕ → ℕ) (n : ℕ) (before : List Awaited) where
   -- of the file's components
   all_asked : (g : Going) (which : Which) (ask : Ask) → Own g
       → (is_creating ask ≡ true → AllNew birth g.file.kept.tag g.file.kept.components)
-      → Asked g (to_all g.file.kept which ask g.moved.nonce)
+      → Asked g (to_all g.file.kept which ask g.effects.nonce)
   all_asked g which ask h r =
-      each_asked birth g.moved.object g.file.kept which ask g.file.kept.components 0 g.moved.nonce h.1 r
+      each_asked birth g.effects.object g.file.kept which ask g.file.kept.components 0 g.effects.nonce h.1 r
 
   -- ---- audit
 
@@ -87,14 +87,14 @@ module _ (birth : ℕ → ℕ) (n : ℕ) (before : List Awaited) where
   -- ---- rebuild
 
   target_object : (g : Going) (k : ℕ) (o : Option ℕ) (t : Target) → target_on g k o ≡ Some t
-      → t.object ≡ g.moved.object
+      → t.object ≡ g.effects.object
   target_object g k None t e = absurd (cc e)
   target_object g k (Some d) t e =
-      let it : record { component = k; drive = d; object = g.moved.object } ≡ t = cc e in
+      let it : record { component = k; drive = d; object = g.effects.object } ≡ t = cc e in
       ap (λ (x : Target). x.object) (sym it)
 
   aims_at : (g : Going) (at : Component) (k : ℕ) (t : Target) → target_for g at k ≡ Some t
-      → t.object ≡ g.moved.object
+      → t.object ≡ g.effects.object
   unfolding target_for
   aims_at g at k t e = elim (cases_Bool at.missing) [
     | inl m ↦ target_object g k (picked g.chosen (free_drives g.drives g.file.kept.components)) t (rw m at e)
@@ -109,25 +109,25 @@ module _ (birth : ℕ → ℕ) (n : ℕ) (before : List Awaited) where
       let new : later t.object ≡ tag = owner_from birth n tag t.object (omega (arith, e)) in
       let born : IsBorn later (t.object + 1) t.object tag = (omega arith, omega (arith, new)) in
       let asked : AllAsked later (t.object + 1) tag
-      (sent_to g.file.kept Creating t.component t.drive t.object g.moved.nonce ∷ []) =
+      (sent_to g.file.kept Creating t.component t.drive t.object g.effects.nonce ∷ []) =
       one_asked later (t.object + 1) tag _
-      (asked_for later (t.object + 1) g.file.kept Creating t.component t.drive t.object g.moved.nonce born
+      (asked_for later (t.object + 1) g.file.kept Creating t.component t.drive t.object g.effects.nonce born
       (λ x. omega (arith, new))) in (
         later,
         λ o less. owner_below birth n tag o less,
         omega (arith, e),
         (λ o i. on o tag (h.1 o i), born, asked),
-        sent_more later (t.object + 1) tag g.moved.sent _
+        sent_more later (t.object + 1) tag g.effects.sent _
             (λ a i. elim (h.2 a i) [
               | inl old ↦ inl old
               | inr x ↦ inr (on a.command.object a.command.capability.tag x)
             ]) asked,
       )
     where
-      on : (o tag : ℕ) → IsBorn birth g.moved.object o tag
+      on : (o tag : ℕ) → IsBorn birth g.effects.object o tag
           → IsBorn (with_owner birth n g.file.kept.tag) (t.object + 1) o tag
       on o tag x =
-          born_later birth (with_owner birth n g.file.kept.tag) g.moved.object (t.object + 1) o tag
+          born_later birth (with_owner birth n g.file.kept.tag) g.effects.object (t.object + 1) o tag
           (λ q less. owner_below birth n g.file.kept.tag q (omega (arith, less, h.0))) (omega (arith, e, h.0)) x
 
   ends_makes_or : (g : Going) (at : Component) (k : ℕ) (o : Option Target) (later : Going) → target_for g at k ≡ o
@@ -149,15 +149,15 @@ module _ (birth : ℕ → ℕ) (n : ℕ) (before : List Awaited) where
       let is = objects_set g.file.kept.components t.component (stands_at t) in (
         h.0,
         λ o i. elim (in_set (objects_of g.file.kept.components) t.component t.object o (subst (In o) is i)) [
-          | inl e ↦ subst (λ (x : ℕ). IsBorn birth g.moved.object x g.file.kept.tag) (sym e) a
+          | inl e ↦ subst (λ (x : ℕ). IsBorn birth g.effects.object x g.file.kept.tag) (sym e) a
           | inr j ↦ h.1 o j
         ],
         h.2,
       )
 
-  from : (g : Going) (t : Target) (p : Piece) → Own g → Asked g (sources g.file.kept t p g.moved.nonce)
+  from : (g : Going) (t : Target) (p : Piece) → Own g → Asked g (sources g.file.kept t p g.effects.nonce)
   unfolding sources
-  from g t p h = sources_asked birth g.moved.object g.file.kept t p g.moved.nonce _ h.1
+  from g t p h = sources_asked birth g.effects.object g.file.kept t p g.effects.nonce _ h.1
 
   ends_fills : (g : Going) (t : Target) (ps : List Piece) → Own g → Aim g (Some t) → End (fills g t ps)
   unfolding fills
@@ -169,10 +169,10 @@ module _ (birth : ℕ → ℕ) (n : ℕ) (before : List Awaited) where
 
   -- the WRITE to the target
   filled : (g : Going) (t : Target) (p : Piece) (ps : List Piece) (bytes : List ℕ) → Own g → Aim g (Some t)
-      → End (rests g Rebuilding (Fills t (p ∷ ps)) (to_fill g.file.kept t p bytes g.moved.nonce) [])
+      → End (rests g Rebuilding (Fills t (p ∷ ps)) (to_fill g.file.kept t p bytes g.effects.nonce) [])
   filled g t p ps bytes h a =
-      ends_rests g Rebuilding (Fills t (p ∷ ps)) (to_fill g.file.kept t p bytes g.moved.nonce) [] h a
-      (one_asked birth g.moved.object g.file.kept.tag _ (a, λ x. absurd (cc x)))
+      ends_rests g Rebuilding (Fills t (p ∷ ps)) (to_fill g.file.kept t p bytes g.effects.nonce) [] h a
+      (one_asked birth g.effects.object g.file.kept.tag _ (a, λ x. absurd (cc x)))
 
   ends_filling : (g : Going) (t : Target) (p : Piece) (ps : List Piece) (bytes : List ℕ) → Own g → Aim g (Some t)
       → End (filling g t p ps bytes)
@@ -200,7 +200,7 @@ module _ (birth : ℕ → ℕ) (n : ℕ) (before : List Awaited) where
   unfolding repairs
   ends_repairs kind g [] short h = ends_after kind (mended g short) h
   ends_repairs kind g (p ∷ ps) short h =
-      ends_rests_or _ g _ _ _ h tt (repair_asked birth g.moved.object g.file.kept p g.moved.nonce h.1)
+      ends_rests_or _ g _ _ _ h tt (repair_asked birth g.effects.object g.file.kept p g.effects.nonce h.1)
       (ends_repairs kind g ps _ h)
 
   ends_storing : (kind : JobKind) (g : Going) (p : Piece) (ps : List Piece) (short : List ℕ) (heard : List Heard)
@@ -208,7 +208,7 @@ module _ (birth : ℕ → ℕ) (n : ℕ) (before : List Awaited) where
   unfolding storing
   ends_storing kind g p ps short heard h =
       ends_rests_or _ g _ _ _ h tt
-      (stores_asked birth g.moved.object g.file.kept p _ heard g.file.kept.components 0 _ h.1)
+      (stores_asked birth g.effects.object g.file.kept p _ heard g.file.kept.components 0 _ h.1)
       (ends_repairs kind g ps short h)
 
   ends_stored : (kind : JobKind) (g : Going) (p : Piece) (ps : List Piece) (short : List ℕ) (broken : Bool) → Own g
@@ -328,7 +328,7 @@ module _ (birth : ℕ → ℕ) (n : ℕ) (before : List Awaited) where
       let cs : List Component = lose_from (a.component ∷ []) g.file.kept.components 0 in
       let e = holds_same g cs (objects_from (a.component ∷ []) g.file.kept.components 0) h in
       ends_loses (noting (with_components g cs) (NoSpace a.component)) j work _ false e
-      (subst (IsAim birth g.moved.object g.file.kept.tag) (sym none) tt) (left_asked g _ j.awaited asked)
+      (subst (IsAim birth g.effects.object g.file.kept.tag) (sym none) tt) (left_asked g _ j.awaited asked)
 
   ends_fills_up : (g : Going) (j : Job) (a : Awaited) (work : Work) → Hold g → Aim g (target_in work)
       → Asked g j.awaited → End (fills_up g j a work)
@@ -353,20 +353,20 @@ module _ (birth : ℕ → ℕ) (n : ℕ) (before : List Awaited) where
   -- the command goes again, in format 2
   ends_renews : (g : Going) (j : Job) (a : Awaited) → g.file.job ≡ Some j → In a j.awaited → Hold g → End (renews g j a)
   ends_renews g j a is i h =
-      let b : Awaited = again_in_2 a g.moved.nonce in
-      let x : IsAsked birth g.moved.object g.file.kept.tag b = asked_of g j is h a i in
+      let b : Awaited = again_in_2 a g.effects.nonce in
+      let x : IsAsked birth g.effects.object g.file.kept.tag b = asked_of g j is h a i in
       same (renews g j a) (
         (
           h.0.0,
           h.0.1,
-          sent_more birth g.moved.object g.file.kept.tag g.moved.sent (b ∷ []) h.0.2
-              (one_asked birth g.moved.object g.file.kept.tag b x),
+          sent_more birth g.effects.object g.file.kept.tag g.effects.sent (b ∷ []) h.0.2
+              (one_asked birth g.effects.object g.file.kept.tag b x),
         ),
         aim_of g j is h,
         λ c l.
             let r = in_mapped (renewed a b) c j.awaited l in
-            subst (IsAsked birth g.moved.object g.file.kept.tag) (sym r.2)
-            (renewed_asked g.moved.object g.file.kept.tag a b r.0 x (asked_of g j is h r.0 r.1)),
+            subst (IsAsked birth g.effects.object g.file.kept.tag) (sym r.2)
+            (renewed_asked g.effects.object g.file.kept.tag a b r.0 x (asked_of g j is h r.0 r.1)),
       )
 
   pub ends_hears : (g : Going) (j : Job) (a : Awaited) (r : Reply) (x : Hearing) → g.file.job ≡ Some j

@@ -15,7 +15,7 @@ use Rattle.server_rules.specs.Messages.{Message, Asks, Replies, Orders, or_else,
 use Rattle.server_rules.specs.Orders.{Ordered, begins_job, starts, recalls_on, declares_each, with_offline, offline, declare, declares_known, ordered, with_result}
 use Rattle.server_rules.specs.Rounds.{Round, step_round}
 use Rattle.server_rules.specs.Jobs.{declares, fence_begins}
-use Rattle.job_law.specs.Names.{Command, ToDrive, Server, File, Drive, Job, JobKind, Revoking, Rebuilding, Auditing, Moved, Reply, ClientRequest, Awaited, OrderKind, ToRecall, ToRevoke, ToDeclare, ToRebuild, ToAudit, Busy, Spent}
+use Rattle.job_law.specs.Names.{Command, ToDrive, Server, File, Drive, Job, JobKind, Revoking, Rebuilding, Auditing, Effects, Reply, ClientRequest, Awaited, OrderKind, ToRecall, ToRevoke, ToDeclare, ToRebuild, ToAudit, Busy, Spent}
 use Rattle.job_law.proofs.Lists.{in_either}
 use Rattle.job_law.proofs.Files.{found_file, in_drives}
 use Rattle.sent_law.proofs.ObjectSteps.{Agree}
@@ -31,21 +31,21 @@ use Rattle.sent_law.proofs.BirthGoing.{AreFine, sent_of, Keeps, idle, stays, eit
 record KeepsAll (birth : ℕ → ℕ) (next : ℕ) (before : List Awaited) (r : Round) : Type 0 where
   later : ℕ → ℕ
   agree : Agree birth later next
-  rises : next ≤ r.moved.object
-  fine : (f : File) → In f r.files → IsFine later r.moved.object f
-  sent : AllSent later r.moved.object before r.moved.sent
+  rises : next ≤ r.effects.object
+  fine : (f : File) → In f r.files → IsFine later r.effects.object f
+  sent : AllSent later r.effects.object before r.effects.sent
 
 -- the first file goes on, and then the others
 then_all : (birth : ℕ → ℕ) (n : ℕ) (before : List Awaited) (h : Going) (r : Round) (e : Ends birth n before h)
-    → KeepsAll e.0 h.moved.object h.moved.sent r → KeepsAll birth n before (record r { files = h.file ∷ r.files })
+    → KeepsAll e.0 h.effects.object h.effects.sent r → KeepsAll birth n before (record r { files = h.file ∷ r.files })
 then_all birth n before h r e k = record {
   later = k.later;
   agree = λ o less. k.agree o (omega (arith, less, e.2)) ∙ e.1 o less;
   rises = omega (arith, e.2, k.rises);
   fine = λ x i. elim i [
     | inl same ↦
-        subst (IsFine k.later r.moved.object) (sym same)
-        (fine_later e.0 k.later h.moved.object r.moved.object h.file k.agree k.rises e.3)
+        subst (IsFine k.later r.effects.object) (sym same)
+        (fine_later e.0 k.later h.effects.object r.effects.object h.file k.agree k.rises e.3)
     | inr j ↦ k.fine x j
   ];
   sent = λ a i. elim (k.sent a i) [
@@ -54,12 +54,12 @@ then_all birth n before h r e k = record {
       | inl old ↦ inl old
       | inr x ↦
           let c = a.command in
-          inr (born_later e.0 k.later h.moved.object r.moved.object c.object c.capability.tag k.agree k.rises x)
+          inr (born_later e.0 k.later h.effects.object r.effects.object c.object c.capability.tag k.agree k.rises x)
     ]
   ];
 }
 
-declared_each : (drive : ℕ) (ds : List Drive) (fs : List File) (m : Moved) (chosen : List ℕ) (birth : ℕ → ℕ)
+declared_each : (drive : ℕ) (ds : List Drive) (fs : List File) (m : Effects) (chosen : List ℕ) (birth : ℕ → ℕ)
     → ((f : File) → In f fs → IsFine birth m.object f)
     → KeepsAll birth m.object m.sent (declares_each drive ds fs m chosen)
 unfolding declares_each
@@ -71,14 +71,14 @@ declared_each drive ds [] m chosen birth own = record {
   sent = λ a i. inl i;
 }
 declared_each drive ds (f ∷ fs) m chosen birth own =
-    let g : Going = record { file = f; moved = m; drives = ds; chosen = chosen } in
+    let g : Going = record { file = f; effects = m; drives = ds; chosen = chosen } in
     let h : Going = declares g drive in
     let w = own f (inl refl) in
     let e : Ends birth m.object m.sent h =
     ends_declares birth m.object m.sent g drive ((refl, w.0, λ a i. inl i), w.1, w.2) in
     then_all birth m.object m.sent h _ e
-    (declared_each drive ds fs h.moved h.chosen e.0
-    (λ x i. fine_later birth e.0 m.object h.moved.object x e.1 e.2 (own x (inr i))))
+    (declared_each drive ds fs h.effects h.chosen e.0
+    (λ x i. fine_later birth e.0 m.object h.effects.object x e.1 e.2 (own x (inr i))))
 
 module _ (birth : ℕ → ℕ) (s : Server) (own : AreFine birth s) where
   abbrev IsKept : Step → Type 0
@@ -100,7 +100,7 @@ module _ (birth : ℕ → ℕ) (s : Server) (own : AreFine birth s) where
   carries now chosen q (Some f) e =
       let v = serves (at_file s chosen f) s.next_grant s.format now q.client q.args in
       goes_at birth s own q.file v.going (carried_out s q v) refl refl
-      (λ drive c i. elim (in_either (ToDrive drive c) (to_drives s.drives v.going.moved.sent) _ i) [
+      (λ drive c i. elim (in_either (ToDrive drive c) (to_drives s.drives v.going.effects.sent) _ i) [
         | inl j ↦ j
         | inr j ↦ elim (in_either (ToDrive drive c) (recalls_from s.next_recall v.recalled) _ j) [
           | inl k ↦ absurd (no_recall s.next_recall v.recalled drive c k)
@@ -203,10 +203,10 @@ module _ (birth : ℕ → ℕ) (s : Server) (own : AreFine birth s) where
     rises = k.rises;
     fine = k.fine;
     sent = λ drive c i.
-        let x = in_drives t.drives r.moved.sent drive c i in
+        let x = in_drives t.drives r.effects.sent drive c i in
         elim (k.sent x.0 x.2) [
           | inl none ↦ absurd none
-          | inr y ↦ sent_of k.later r.moved.object drive c x.0 x.1 y
+          | inr y ↦ sent_of k.later r.effects.object drive c x.0 x.1 y
         ];
   }
 

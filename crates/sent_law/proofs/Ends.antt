@@ -18,9 +18,9 @@ Sends P k0 before m k sent =
 -- so are those of its components, which differ; numbers were used from n on
 abbrev pub Owns : (P : ℕ → Type 0) → (number n : ℕ) → Kept → List Awaited → Going → Type 0
 Owns P number n k0 before g =
-    (g.file.kept.number ≡ number) × (n ≤ g.moved.object) × AllUsed P g.moved.object g.file.kept.components
+    (g.file.kept.number ≡ number) × (n ≤ g.effects.object) × AllUsed P g.effects.object g.file.kept.components
     × AllDiffer (objects_of g.file.kept.components)
-    × Sends P k0 before g.moved.object g.file.kept g.moved.sent
+    × Sends P k0 before g.effects.object g.file.kept g.effects.sent
 
 -- and so is that of what is made anew, which is none of theirs
 abbrev pub IsAim : (P : ℕ → Type 0) → (next : ℕ) → List Component → Option Target → Type 0
@@ -43,6 +43,6 @@ AreClosed k (Some j) = IsClosed k j.work
 abbrev pub Ends : (P : ℕ → Type 0) → (number n : ℕ) → Kept → List Awaited → Going → Type 0
 Ends P number n k0 before g =
     Owns P number n k0 before g
-    × IsAim P g.moved.object g.file.kept.components (target_of g.file.job)
-    × AllMine P g.moved.object g.file.kept (awaited_by g.file.job)
+    × IsAim P g.effects.object g.file.kept.components (target_of g.file.job)
+    × AllMine P g.effects.object g.file.kept (awaited_by g.file.job)
     × AreClosed g.file.kept g.file.job

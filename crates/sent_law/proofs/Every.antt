@@ -4,7 +4,7 @@ use Rattle.std.proofs.lemmas.Bool.{cases_Bool}
 use Rattle.data_map.specs.declared.check.RawMap.{RawMap}
 use Rattle.server_rules.specs.Laws.{In}
 use Rattle.server_rules.specs.Files.{Step, still, begins, at_file, file_at, to_drives}
-use Rattle.server_rules.specs.Messages.{awaited_by, on_message, counters_low}
+use Rattle.server_rules.specs.Messages.{awaited_by, on_message, counters_have_room}
 use Rattle.server_rules.specs.Openings.{crashed_file, reopen}
 use Rattle.server_rules.specs.Jobs.{making}
 use Rattle.server_rules.specs.Making.{components_on, refusal, places, unmade, with_file, makes_file, unless_refused, create_file}
@@ -169,7 +169,7 @@ pub step_goes : (owner : ℕ → ℕ) (s : Server) (chosen : List ℕ) (i : Inpu
     → Goes owner s (step s chosen i)
 unfolding on_message create_file reopen
 step_goes owner s chosen (Hears now from m) own =
-    plain owner s _ own (either_step s (counters_low s) _ _ (heard_message s now chosen from m) (stays s))
+    plain owner s _ own (either_step s (counters_have_room s) _ _ (heard_message s now chosen from m) (stays s))
 step_goes owner s chosen (Makes n m tag) own =
     unless owner s n m tag (places s.drives m.comps chosen) (refusal s n m) refl own
 step_goes owner s chosen (Obeys kind n) own = plain owner s _ own (obeyed s chosen kind n)
@@ -184,7 +184,7 @@ step_goes owner s chosen Resends own =
 step_goes owner s chosen Crashes own = plain owner s _ own (crashed s chosen)
 step_goes owner s chosen Opens own =
     plain owner s _ own
-    (either_step s (counters_low s) _ _
+    (either_step s (counters_have_room s) _ _
     (record {
       keeps = λ o h. round_keeps o s s _ (opened_each s.format s.drives s.files (begins s) o h);
     }) (stays s))

@@ -60,8 +60,8 @@ module _ (owner : ℕ → ℕ) (n number : ℕ) where
   mine_fresh o from = owner_from owner n number o from
 
   -- in the middle of a step
-  pub into : (g : Going) → g.moved.object ≡ n → g.file.kept.number ≡ number → IsFine owner n g.file
-      → Ends Mine number n g.file.kept g.moved.sent g
+  pub into : (g : Going) → g.effects.object ≡ n → g.file.kept.number ≡ number → IsFine owner n g.file
+      → Ends Mine number n g.file.kept g.effects.sent g
   into g at is h = (
     (
       is,
@@ -84,7 +84,7 @@ module _ (owner : ℕ → ℕ) (n number : ℕ) where
     h.closed,
   )
     where
-      aims : (o : Option Target) → target_of g.file.job ≡ o → IsAim Mine g.moved.object g.file.kept.components o
+      aims : (o : Option Target) → target_of g.file.job ≡ o → IsAim Mine g.effects.object g.file.kept.components o
       aims None e = tt
       aims (Some t) e =
           let r = h.owned.target t e in (
@@ -94,14 +94,14 @@ module _ (owner : ℕ → ℕ) (n number : ℕ) where
 
   -- and behind it
   pub out : (k0 : Kept) (before : List Awaited) (g : Going) → Ends Mine number n k0 before g
-      → IsFine (with_owner owner n number) g.moved.object g.file
+      → IsFine (with_owner owner n number) g.effects.object g.file
   out k0 before g h = record {
     owned = record {
       components = λ o i. let r = h.0.2 o i in (r.1, r.0 ∙ sym h.0.0);
       target = λ t e.
-          let a = subst (IsAim Mine g.moved.object g.file.kept.components) e h.1 in (a.0.1, a.0.0 ∙ sym h.0.0);
+          let a = subst (IsAim Mine g.effects.object g.file.kept.components) e h.1 in (a.0.1, a.0.0 ∙ sym h.0.0);
       differ = h.0.3;
-      apart = λ t e. (subst (IsAim Mine g.moved.object g.file.kept.components) e h.1).1;
+      apart = λ t e. (subst (IsAim Mine g.effects.object g.file.kept.components) e h.1).1;
     };
     mine = λ a i. let r = h.2 a i in ((r.0.0 ∙ sym h.0.0, r.0.1), r.1);
     closed = h.3;
@@ -183,10 +183,10 @@ either_step s false x y p q = q
 
 -- one file goes on
 pub goes_at : (s : Server) (number : ℕ) (f : File) (h : Going) (t : Step) → In f s.files
-    → t.state.files ≡ put_file s.files number h.file → t.state.next_object ≡ h.moved.object
+    → t.state.files ≡ put_file s.files number h.file → t.state.next_object ≡ h.effects.object
     → (h.file.kept.number ≡ f.kept.number → f.kept.number ≡ number)
     → ((drive : ℕ) (c : Command) → In (ToDrive drive c) t.sends
-    → In (ToDrive drive c) (to_drives s.drives h.moved.sent))
+    → In (ToDrive drive c) (to_drives s.drives h.effects.sent))
     → ((owner : ℕ → ℕ) → IsFine owner s.next_object f
     → Ends (Mine owner s.next_object f.kept.number) f.kept.number s.next_object f.kept [] h) → Steps s t
 goes_at s number f h t i files next its sends ends = record {
@@ -215,12 +215,12 @@ goes_at s number f h t i files next its sends ends = record {
           | inr k ↦ from_same s.files x k
         ];
         sent = λ drive c j.
-            let r = in_drives s.drives h.moved.sent drive c (sends drive c j) in
+            let r = in_drives s.drives h.effects.sent drive c (sends drive c j) in
             subst (λ (m : ℕ). IsSent owns m t.state.files c) (sym next)
             (elim (e.0.4.1 r.0 r.2) [
               | inl none ↦ absurd none
               | inr x ↦
-                  sent_of owns h.moved.object t.state.files h.file drive c r.0 there r.1
+                  sent_of owns h.effects.object t.state.files h.file drive c r.0 there r.1
                   ((x.0.0 ∙ sym e.0.0, x.0.1), x.1)
             ]);
       };

@@ -25,8 +25,8 @@ IsUsed P m o = P o × (o < m)
 -- so are those of its components, which differ; numbers were used from n on
 abbrev pub Owns : (P : ℕ → Type 0) → (number n : ℕ) → Going → Type 0
 Owns P number n g =
-    (g.file.kept.number ≡ number) × (n ≤ g.moved.object)
-    × ((o : ℕ) → In o (objects_of g.file.kept.components) → IsUsed P g.moved.object o)
+    (g.file.kept.number ≡ number) × (n ≤ g.effects.object)
+    × ((o : ℕ) → In o (objects_of g.file.kept.components) → IsUsed P g.effects.object o)
     × AllDiffer (objects_of g.file.kept.components)
 
 -- and so is that of what is made anew, which is none of theirs
@@ -35,7 +35,7 @@ IsAim P m cs None = Unit {0}
 IsAim P m cs (Some t) = IsUsed P m t.object × NoneIs t.object (objects_of cs)
 
 abbrev pub Ends : (P : ℕ → Type 0) → (number n : ℕ) → Going → Type 0
-Ends P number n g = Owns P number n g × IsAim P g.moved.object g.file.kept.components (target_of g.file.job)
+Ends P number n g = Owns P number n g × IsAim P g.effects.object g.file.kept.components (target_of g.file.job)
 
 module _ (P : ℕ → Type 0) (number n : ℕ) (fresh : (o : ℕ) → n ≤ o → P o) where
   abbrev Own : Going → Type 0
@@ -45,7 +45,7 @@ module _ (P : ℕ → Type 0) (number n : ℕ) (fresh : (o : ℕ) → n ≤ o �
   End g = Ends P number n g
 
   abbrev Aim : Going → Option Target → Type 0
-  Aim g o = IsAim P g.moved.object g.file.kept.components o
+  Aim g o = IsAim P g.effects.object g.file.kept.components o
 
   -- ---- the job rests, or goes on
 
@@ -68,14 +68,14 @@ module _ (P : ℕ → Type 0) (number n : ℕ) (fresh : (o : ℕ) → n ≤ o �
   -- ---- rebuild
 
   target_object : (g : Going) (k : ℕ) (o : Option ℕ) (t : Target) → target_on g k o ≡ Some t
-      → t.object ≡ g.moved.object
+      → t.object ≡ g.effects.object
   target_object g k None t e = absurd (cc e)
   target_object g k (Some d) t e =
-      let same : record { component = k; drive = d; object = g.moved.object } ≡ t = cc e in
+      let same : record { component = k; drive = d; object = g.effects.object } ≡ t = cc e in
       ap (λ (x : Target). x.object) (sym same)
 
   aims_at : (g : Going) (at : Component) (k : ℕ) (t : Target) → target_for g at k ≡ Some t
-      → t.object ≡ g.moved.object
+      → t.object ≡ g.effects.object
   unfolding target_for
   aims_at g at k t e = elim (cases_Bool at.missing) [
     | inl m ↦ target_object g k (picked g.chosen (free_drives g.drives g.file.kept.components)) t (rw m at e)
@@ -114,7 +114,7 @@ module _ (P : ℕ → Type 0) (number n : ℕ) (fresh : (o : ℕ) → n ≤ o �
         h.0,
         h.1,
         λ o i. elim (in_set (objects_of g.file.kept.components) t.component t.object o (subst (In o) same i)) [
-          | inl e ↦ subst (IsUsed P g.moved.object) (sym e) a.0
+          | inl e ↦ subst (IsUsed P g.effects.object) (sym e) a.0
           | inr j ↦ h.2 o j
         ],
         subst AllDiffer (sym same) (set_differ (objects_of g.file.kept.components) t.component t.object h.3 a.1),
@@ -258,7 +258,7 @@ module _ (P : ℕ → Type 0) (number n : ℕ) (fresh : (o : ℕ) → n ≤ o �
   pub ends_same : (g : Going) (ds : List Component) → objects_of ds ≡ objects_of g.file.kept.components → End g
       → End (with_components g ds)
   ends_same g ds e h =
-      (owns_same g ds e h.0, aim_same g.moved.object g.file.kept.components ds (target_of g.file.job) e h.1)
+      (owns_same g ds e h.0, aim_same g.effects.object g.file.kept.components ds (target_of g.file.job) e h.1)
 
   -- ---- a reply
 
@@ -272,7 +272,7 @@ module _ (P : ℕ → Type 0) (number n : ℕ) (fresh : (o : ℕ) → n ≤ o �
       let cs : List Component = lose_from (a.component ∷ []) g.file.kept.components 0 in
       let e = ends_same g cs (objects_from (a.component ∷ []) g.file.kept.components 0) h in
       ends_loses (noting (with_components g cs) (NoSpace a.component)) j work _ false e
-      (subst (IsAim P g.moved.object cs) (sym none) tt)
+      (subst (IsAim P g.effects.object cs) (sym none) tt)
 
   ends_fills_up : (g : Going) (j : Job) (a : Awaited) (work : Work) → End g → Aim g (target_in work)
       → End (fills_up g j a work)

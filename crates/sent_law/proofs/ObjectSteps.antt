@@ -11,14 +11,14 @@ use Rattle.server_rules.specs.Files.{Step, still, begins, at_file, step_at, file
 use Rattle.server_rules.specs.Slots.{Admit, New, Again, Misordered, admit, slot_of}
 use Rattle.server_rules.specs.Requests.{serves, carried_out, carries_out, by_admit, on_request}
 use Rattle.server_rules.specs.Replies.{answers, hearing, heard_by, heard_in, on_reply}
-use Rattle.server_rules.specs.Messages.{Message, Asks, Replies, Orders, or_else, heard_at, by_heard, on_drive_reply, handled, on_message, counters_low}
+use Rattle.server_rules.specs.Messages.{Message, Asks, Replies, Orders, or_else, heard_at, by_heard, on_drive_reply, handled, on_message, counters_have_room}
 use Rattle.server_rules.specs.Orders.{Ordered, begins_job, starts, recalls_on, declares_each, with_offline, offline, declare, declares_known, ordered, with_result}
 use Rattle.server_rules.specs.Openings.{crashed_file, opens, opens_each, reopen}
 use Rattle.server_rules.specs.Rounds.{Round, step_round}
 use Rattle.server_rules.specs.Jobs.{declares, fence_begins, making}
 use Rattle.server_rules.specs.Making.{components_on, refusal, places, unmade, with_file, makes_file, unless_refused, create_file}
 use Rattle.server_rules.specs.History.{Input, Hears, Makes, Obeys, Adds, Formats, Resends, Crashes, Opens, step, unless_made}
-use Rattle.job_law.specs.Names.{Server, File, Target, Drive, Job, JobKind, Revoking, Rebuilding, Auditing, Moved, Reply, ClientRequest, Awaited, Refusal, OrderKind, ToRecall, ToRevoke, ToDeclare, ToRebuild, ToAudit, Busy, Spent}
+use Rattle.job_law.specs.Names.{Server, File, Target, Drive, Job, JobKind, Revoking, Rebuilding, Auditing, Effects, Reply, ClientRequest, Awaited, Refusal, OrderKind, ToRecall, ToRevoke, ToDeclare, ToRebuild, ToAudit, Busy, Spent}
 use Rattle.job_law.proofs.Lists.{in_mapped}
 use Rattle.job_law.proofs.Files.{found_file, in_put, in_add, add_there}
 use Rattle.sent_law.specs.Objects.{target_of, IsOwned, AreOwned}
@@ -63,7 +63,7 @@ module _ (owner : ℕ → ℕ) (n number : ℕ) where
   mine_fresh o from = owner_from owner n number o from
 
   -- in the middle of a step
-  into : (g : Going) → g.moved.object ≡ n → g.file.kept.number ≡ number → IsOwned owner n g.file
+  into : (g : Going) → g.effects.object ≡ n → g.file.kept.number ≡ number → IsOwned owner n g.file
       → Ends Mine number n g
   into g at is h = (
     (
@@ -77,7 +77,7 @@ module _ (owner : ℕ → ℕ) (n number : ℕ) where
     aims (target_of g.file.job) refl,
   )
     where
-      aims : (o : Option Target) → target_of g.file.job ≡ o → IsAim Mine g.moved.object g.file.kept.components o
+      aims : (o : Option Target) → target_of g.file.job ≡ o → IsAim Mine g.effects.object g.file.kept.components o
       aims None e = tt
       aims (Some t) e =
           let r = h.target t e in (
@@ -86,13 +86,13 @@ module _ (owner : ℕ → ℕ) (n number : ℕ) where
           )
 
   -- and behind it
-  out : (g : Going) → Ends Mine number n g → IsOwned (with_owner owner n number) g.moved.object g.file
+  out : (g : Going) → Ends Mine number n g → IsOwned (with_owner owner n number) g.effects.object g.file
   out g h = record {
     components = λ o i. let r = h.0.2 o i in (r.1, r.0 ∙ sym h.0.0);
     target = λ t e.
-        let a = subst (IsAim Mine g.moved.object g.file.kept.components) e h.1 in (a.0.1, a.0.0 ∙ sym h.0.0);
+        let a = subst (IsAim Mine g.effects.object g.file.kept.components) e h.1 in (a.0.1, a.0.0 ∙ sym h.0.0);
     differ = h.0.3;
-    apart = λ t e. (subst (IsAim Mine g.moved.object g.file.kept.components) e h.1).1;
+    apart = λ t e. (subst (IsAim Mine g.effects.object g.file.kept.components) e h.1).1;
   }
 
 -- ---- a step
@@ -129,7 +129,7 @@ either_step s false x y p q = q
 
 -- one file goes on
 goes_at : (s : Server) (number : ℕ) (f : File) (h : Going) (t : Step) → In f s.files
-    → t.state.files ≡ put_file s.files number h.file → t.state.next_object ≡ h.moved.object
+    → t.state.files ≡ put_file s.files number h.file → t.state.next_object ≡ h.effects.object
     → ((owner : ℕ → ℕ) → IsOwned owner s.next_object f
     → Ends (Mine owner s.next_object f.kept.number) f.kept.number s.next_object h) → Steps s t
 goes_at s number f h t i files next ends = record {
@@ -263,11 +263,11 @@ recalled s (Some f) = idle s _ refl (λ x i. i)
 record KeepsAll (owner : ℕ → ℕ) (next : ℕ) (r : Round) : Type 0 where
   later : ℕ → ℕ
   agree : Agree owner later next
-  rises : next ≤ r.moved.object
-  owned : (f : File) → In f r.files → IsOwned later r.moved.object f
+  rises : next ≤ r.effects.object
+  owned : (f : File) → In f r.files → IsOwned later r.effects.object f
 
-no_files : (owner : ℕ → ℕ) (m : Moved) (chosen : List ℕ)
-    → KeepsAll owner m.object (record { files = []; moved = m; chosen = chosen })
+no_files : (owner : ℕ → ℕ) (m : Effects) (chosen : List ℕ)
+    → KeepsAll owner m.object (record { files = []; effects = m; chosen = chosen })
 no_files owner m chosen = record {
   later = owner;
   agree = λ o less. refl;
@@ -278,7 +278,7 @@ no_files owner m chosen = record {
 -- the first file goes on, and then the others
 then_all : (owner : ℕ → ℕ) (n : ℕ) (f : File) (h : Going) (r : Round)
     → Ends (Mine owner n f.kept.number) f.kept.number n h
-    → KeepsAll (with_owner owner n f.kept.number) h.moved.object r
+    → KeepsAll (with_owner owner n f.kept.number) h.effects.object r
     → KeepsAll owner n (record r { files = h.file ∷ r.files })
 then_all owner n f h r e k = record {
   later = k.later;
@@ -287,8 +287,8 @@ then_all owner n f h r e k = record {
   rises = omega (arith, e.0.1, k.rises);
   owned = λ x i. elim i [
     | inl same ↦
-        subst (IsOwned k.later r.moved.object) (sym same)
-        (owned_later (with_owner owner n f.kept.number) k.later h.moved.object r.moved.object h.file k.agree k.rises
+        subst (IsOwned k.later r.effects.object) (sym same)
+        (owned_later (with_owner owner n f.kept.number) k.later h.effects.object r.effects.object h.file k.agree k.rises
         (out owner n f.kept.number h e))
     | inr j ↦ k.owned x j
   ];
@@ -299,33 +299,33 @@ others_owned : (owner : ℕ → ℕ) (n number m : ℕ) (fs : List File) → n �
 others_owned owner n number m fs le own f i =
     owned_later owner (with_owner owner n number) n m f (λ o less. owner_below owner n number o less) le (own f i)
 
-declared_each : (drive : ℕ) (ds : List Drive) (fs : List File) (m : Moved) (chosen : List ℕ) (owner : ℕ → ℕ)
+declared_each : (drive : ℕ) (ds : List Drive) (fs : List File) (m : Effects) (chosen : List ℕ) (owner : ℕ → ℕ)
     → ((f : File) → In f fs → IsOwned owner m.object f) → KeepsAll owner m.object (declares_each drive ds fs m chosen)
 unfolding declares_each
 declared_each drive ds [] m chosen owner own = no_files owner m chosen
 declared_each drive ds (f ∷ fs) m chosen owner own =
-    let g : Going = record { file = f; moved = m; drives = ds; chosen = chosen } in
+    let g : Going = record { file = f; effects = m; drives = ds; chosen = chosen } in
     let h : Going = declares g drive in
     let e = ends_declares (Mine owner m.object f.kept.number) f.kept.number m.object
     (mine_fresh owner m.object f.kept.number) g drive
     (into owner m.object f.kept.number g refl refl (own f (inl refl))) in
     then_all owner m.object f h _ e
-    (declared_each drive ds fs h.moved h.chosen (with_owner owner m.object f.kept.number)
-    (others_owned owner m.object f.kept.number h.moved.object fs e.0.1 (λ x i. own x (inr i))))
+    (declared_each drive ds fs h.effects h.chosen (with_owner owner m.object f.kept.number)
+    (others_owned owner m.object f.kept.number h.effects.object fs e.0.1 (λ x i. own x (inr i))))
 
-opened_each : (format : ℕ) (ds : List Drive) (fs : List File) (m : Moved) (owner : ℕ → ℕ)
+opened_each : (format : ℕ) (ds : List Drive) (fs : List File) (m : Effects) (owner : ℕ → ℕ)
     → ((f : File) → In f fs → IsOwned owner m.object f) → KeepsAll owner m.object (opens_each format ds fs m)
 unfolding opens_each
 opened_each format ds [] m owner own = no_files owner m []
 opened_each format ds (f ∷ fs) m owner own =
-    let g : Going = record { file = f; moved = m; drives = ds; chosen = [] } in
+    let g : Going = record { file = f; effects = m; drives = ds; chosen = [] } in
     let h : Going = opens format g in
     let e = ends_opens (Mine owner m.object f.kept.number) f.kept.number m.object
     (mine_fresh owner m.object f.kept.number) format g
     (into owner m.object f.kept.number g refl refl (own f (inl refl))) in
     then_all owner m.object f h _ e
-    (opened_each format ds fs h.moved (with_owner owner m.object f.kept.number)
-    (others_owned owner m.object f.kept.number h.moved.object fs e.0.1 (λ x i. own x (inr i))))
+    (opened_each format ds fs h.effects (with_owner owner m.object f.kept.number)
+    (others_owned owner m.object f.kept.number h.effects.object fs e.0.1 (λ x i. own x (inr i))))
 
 round_keeps : (owner : ℕ → ℕ) (s t : Server) (r : Round) → KeepsAll owner s.next_object r
     → Keeps owner s (step_round t r).state
@@ -448,7 +448,7 @@ crashed s chosen = record {
 pub step_owns : (s : Server) (chosen : List ℕ) (i : Input) → Steps s (step s chosen i)
 unfolding on_message create_file reopen
 step_owns s chosen (Hears now from m) =
-    either_step s (counters_low s) _ _ (heard_message s now chosen from m) (stays s)
+    either_step s (counters_have_room s) _ _ (heard_message s now chosen from m) (stays s)
 step_owns s chosen (Makes n m tag) = unless s n m tag (places s.drives m.comps chosen) (refusal s n m)
 step_owns s chosen (Obeys kind n) = obeyed s chosen kind n
 step_owns s chosen (Adds d) = idle s _ refl (λ f i. i)
@@ -456,7 +456,7 @@ step_owns s chosen (Formats n) = idle s _ refl (λ f i. i)
 step_owns s chosen Resends = idle s _ refl (λ f i. i)
 step_owns s chosen Crashes = crashed s chosen
 step_owns s chosen Opens =
-    either_step s (counters_low s) _ _
+    either_step s (counters_have_room s) _ _
     (record {
       keeps = λ owner own.
           round_keeps owner s s _ (opened_each s.format s.drives s.files (begins s) owner own);

@@ -30,10 +30,10 @@ module _ (P : ℕ → Type 0) (number n : ℕ) (fresh : (o : ℕ) → n ≤ o �
   End g = Ends P number n k0 before g
 
   abbrev Aim : Going → Option Target → Type 0
-  Aim g o = IsAim P g.moved.object g.file.kept.components o
+  Aim g o = IsAim P g.effects.object g.file.kept.components o
 
   abbrev Mine : Going → List Awaited → Type 0
-  Mine g ws = AllMine P g.moved.object g.file.kept ws
+  Mine g ws = AllMine P g.effects.object g.file.kept ws
 
   not_mine : (g : Going) → Mine g []
   not_mine g a i = absurd i
@@ -73,7 +73,7 @@ module _ (P : ℕ → Type 0) (number n : ℕ) (fresh : (o : ℕ) → n ≤ o �
       → End (rests_or cs g kind work later)
   ends_rests_or [] g kind work later h a mine closed l = l
   ends_rests_or (c ∷ cs) g kind work later h a mine closed l = (
-    (h.0, h.1, h.2, h.3, sends_more g.moved.object g.file.kept g.moved.sent (c ∷ cs) h.4 mine),
+    (h.0, h.1, h.2, h.3, sends_more g.effects.object g.file.kept g.effects.sent (c ∷ cs) h.4 mine),
     a,
     mine,
     closed,
@@ -81,9 +81,9 @@ module _ (P : ℕ → Type 0) (number n : ℕ) (fresh : (o : ℕ) → n ≤ o �
 
   -- of the file's components
   all_mine : (g : Going) (which : Which) (ask : Ask) → Own g → (is_raising ask ≡ true → fence_open g.file.kept ≡ true)
-      → Mine g (to_all g.file.kept which ask g.moved.nonce)
+      → Mine g (to_all g.file.kept which ask g.effects.nonce)
   all_mine g which ask h r =
-      each_mine P g.moved.object g.file.kept which ask g.file.kept.components 0 g.moved.nonce h.2 r
+      each_mine P g.effects.object g.file.kept which ask g.file.kept.components 0 g.effects.nonce h.2 r
 
   -- ---- audit
 
@@ -101,14 +101,14 @@ module _ (P : ℕ → Type 0) (number n : ℕ) (fresh : (o : ℕ) → n ≤ o �
   -- ---- rebuild
 
   target_object : (g : Going) (k : ℕ) (o : Option ℕ) (t : Target) → target_on g k o ≡ Some t
-      → t.object ≡ g.moved.object
+      → t.object ≡ g.effects.object
   target_object g k None t e = absurd (cc e)
   target_object g k (Some d) t e =
-      let same : record { component = k; drive = d; object = g.moved.object } ≡ t = cc e in
+      let same : record { component = k; drive = d; object = g.effects.object } ≡ t = cc e in
       ap (λ (x : Target). x.object) (sym same)
 
   aims_at : (g : Going) (at : Component) (k : ℕ) (t : Target) → target_for g at k ≡ Some t
-      → t.object ≡ g.moved.object
+      → t.object ≡ g.effects.object
   unfolding target_for
   aims_at g at k t e = elim (cases_Bool at.missing) [
     | inl m ↦ target_object g k (picked g.chosen (free_drives g.drives g.file.kept.components)) t (rw m at e)
@@ -122,17 +122,17 @@ module _ (P : ℕ → Type 0) (number n : ℕ) (fresh : (o : ℕ) → n ≤ o �
       let e = aims_at g at k t is in
       let used : IsUsed P (t.object + 1) t.object = (fresh t.object (omega (arith, e, h.1)), omega arith) in
       let mine : AllMine P (t.object + 1) g.file.kept
-      (sent_to g.file.kept Creating t.component t.drive t.object g.moved.nonce ∷ []) =
+      (sent_to g.file.kept Creating t.component t.drive t.object g.effects.nonce ∷ []) =
       one_mine P (t.object + 1) g.file.kept _
-      (mine_for P (t.object + 1) g.file.kept Creating t.component t.drive t.object g.moved.nonce used
+      (mine_for P (t.object + 1) g.file.kept Creating t.component t.drive t.object g.effects.nonce used
       (λ x. absurd (cc x))) in (
         (
           h.0,
           omega (arith, e, h.1),
           λ o i. let u = h.2 o i in (u.0, omega (arith, e, u.1)),
           h.3,
-          sends_more (t.object + 1) g.file.kept g.moved.sent _
-              (sends_later g.moved.object (t.object + 1) g.file.kept g.moved.sent (omega (arith, e)) h.4) mine,
+          sends_more (t.object + 1) g.file.kept g.effects.sent _
+              (sends_later g.effects.object (t.object + 1) g.file.kept g.effects.sent (omega (arith, e)) h.4) mine,
         ),
         (
           used,
@@ -157,16 +157,16 @@ module _ (P : ℕ → Type 0) (number n : ℕ) (fresh : (o : ℕ) → n ≤ o �
         h.0,
         h.1,
         λ o i. elim (in_set (objects_of g.file.kept.components) t.component t.object o (subst (In o) same i)) [
-          | inl e ↦ subst (IsUsed P g.moved.object) (sym e) a.0
+          | inl e ↦ subst (IsUsed P g.effects.object) (sym e) a.0
           | inr j ↦ h.2 o j
         ],
         subst AllDiffer (sym same) (set_differ (objects_of g.file.kept.components) t.component t.object h.3 a.1),
         h.4,
       )
 
-  from : (g : Going) (t : Target) (p : Piece) → Own g → Mine g (sources g.file.kept t p g.moved.nonce)
+  from : (g : Going) (t : Target) (p : Piece) → Own g → Mine g (sources g.file.kept t p g.effects.nonce)
   unfolding sources
-  from g t p h = sources_mine P g.moved.object g.file.kept t p g.moved.nonce _ h.2
+  from g t p h = sources_mine P g.effects.object g.file.kept t p g.effects.nonce _ h.2
 
   ends_fills : (g : Going) (t : Target) (ps : List Piece) → Own g → Aim g (Some t) → End (fills g t ps)
   unfolding fills
@@ -179,11 +179,11 @@ module _ (P : ℕ → Type 0) (number n : ℕ) (fresh : (o : ℕ) → n ≤ o �
 
   -- the WRITE to the target
   filled : (g : Going) (t : Target) (p : Piece) (ps : List Piece) (bytes : List ℕ) → Own g → Aim g (Some t)
-      → End (rests g Rebuilding (Fills t (p ∷ ps)) (to_fill g.file.kept t p bytes g.moved.nonce) [])
+      → End (rests g Rebuilding (Fills t (p ∷ ps)) (to_fill g.file.kept t p bytes g.effects.nonce) [])
   filled g t p ps bytes h a =
-      let mine : Mine g (to_fill g.file.kept t p bytes g.moved.nonce ∷ []) =
-      one_mine P g.moved.object g.file.kept _ (a.0, (omega arith, λ x. absurd (cc x))) in (
-        (h.0, h.1, h.2, h.3, sends_more g.moved.object g.file.kept g.moved.sent _ h.4 mine),
+      let mine : Mine g (to_fill g.file.kept t p bytes g.effects.nonce ∷ []) =
+      one_mine P g.effects.object g.file.kept _ (a.0, (omega arith, λ x. absurd (cc x))) in (
+        (h.0, h.1, h.2, h.3, sends_more g.effects.object g.file.kept g.effects.sent _ h.4 mine),
         a,
         mine,
         λ x. absurd (cc x),
@@ -218,7 +218,7 @@ module _ (P : ℕ → Type 0) (number n : ℕ) (fresh : (o : ℕ) → n ≤ o �
     h.1,
     h.2,
     h.3,
-    sends_on g.moved.object g.file.kept (mended g short).file.kept g.moved.sent
+    sends_on g.effects.object g.file.kept (mended g short).file.kept g.effects.sent
         (λ c b. (b.0, λ e. elim (b.1 e) [ inl less ↦ inl less | inr wide ↦ absurd (cc (sym wide ∙ closed)) ])) h.4,
   )
 
@@ -227,14 +227,14 @@ module _ (P : ℕ → Type 0) (number n : ℕ) (fresh : (o : ℕ) → n ≤ o �
   unfolding repairs
   ends_repairs kind g [] short closed h = ends_after kind (mended g short) (owns_mended g short closed h)
   ends_repairs kind g (p ∷ ps) short closed h =
-      ends_rests_or _ g _ _ _ h tt (repair_mine P g.moved.object g.file.kept p g.moved.nonce h.2) (λ e. closed)
+      ends_rests_or _ g _ _ _ h tt (repair_mine P g.effects.object g.file.kept p g.effects.nonce h.2) (λ e. closed)
       (ends_repairs kind g ps _ closed h)
 
   ends_storing : (kind : JobKind) (g : Going) (p : Piece) (ps : List Piece) (short : List ℕ) (heard : List Heard)
       → fence_open g.file.kept ≡ false → Own g → End (storing kind g p ps short heard)
   unfolding storing
   ends_storing kind g p ps short heard closed h =
-      ends_rests_or _ g _ _ _ h tt (stores_mine P g.moved.object g.file.kept p _ heard g.file.kept.components 0 _ h.2)
+      ends_rests_or _ g _ _ _ h tt (stores_mine P g.effects.object g.file.kept p _ heard g.file.kept.components 0 _ h.2)
       (λ e. closed) (ends_repairs kind g ps short closed h)
 
   ends_stored : (kind : JobKind) (g : Going) (p : Piece) (ps : List Piece) (short : List ℕ) (broken : Bool)
@@ -258,8 +258,8 @@ module _ (P : ℕ → Type 0) (number n : ℕ) (fresh : (o : ℕ) → n ≤ o �
     h.1,
     h.2,
     h.3,
-    sends_on g.moved.object g.file.kept (record g.file.kept { tag = g.file.kept.tag + 1; phase = Repairing })
-        g.moved.sent (λ c b. (omega (arith, b.0), λ e. inl (omega (arith, b.0)))) h.4,
+    sends_on g.effects.object g.file.kept (record g.file.kept { tag = g.file.kept.tag + 1; phase = Repairing })
+        g.effects.sent (λ c b. (omega (arith, b.0), λ e. inl (omega (arith, b.0)))) h.4,
   )
 
   ends_fenced : (kind : JobKind) (g : Going) → Own g → End (fenced kind g)
@@ -279,7 +279,7 @@ module _ (P : ℕ → Type 0) (number n : ℕ) (fresh : (o : ℕ) → n ≤ o �
     h.1,
     h.2,
     h.3,
-    sends_on g.moved.object g.file.kept (ending g.file.kept format) g.moved.sent
+    sends_on g.effects.object g.file.kept (ending g.file.kept format) g.effects.sent
         (λ c b. (b.0, λ e. inr (opened g.file.kept.phase))) h.4,
   )
 
@@ -369,7 +369,7 @@ module _ (P : ℕ → Type 0) (number n : ℕ) (fresh : (o : ℕ) → n ≤ o �
   pub ends_same : (g : Going) (ds : List Component) → objects_of ds ≡ objects_of g.file.kept.components → End g
       → End (with_components g ds)
   ends_same g ds e h =
-      (owns_same g ds e h.0, aim_same g.moved.object g.file.kept.components ds (target_of g.file.job) e h.1, h.2, h.3)
+      (owns_same g ds e h.0, aim_same g.effects.object g.file.kept.components ds (target_of g.file.job) e h.1, h.2, h.3)
 
   -- ---- a reply
 
@@ -393,7 +393,7 @@ module _ (P : ℕ → Type 0) (number n : ℕ) (fresh : (o : ℕ) → n ≤ o �
       let cs : List Component = lose_from (a.component ∷ []) g.file.kept.components 0 in
       let e = ends_same g cs (objects_from (a.component ∷ []) g.file.kept.components 0) h in
       ends_loses (noting (with_components g cs) (NoSpace a.component)) j work _ false e
-      (subst (IsAim P g.moved.object cs) (sym none) tt) (left_mine g _ j.awaited mine) closed
+      (subst (IsAim P g.effects.object cs) (sym none) tt) (left_mine g _ j.awaited mine) closed
 
   ends_fills_up : (g : Going) (j : Job) (a : Awaited) (work : Work) → End g → Aim g (target_in work)
       → Mine g j.awaited → IsClosed g.file.kept work → End (fills_up g j a work)
@@ -417,20 +417,20 @@ module _ (P : ℕ → Type 0) (number n : ℕ) (fresh : (o : ℕ) → n ≤ o �
   -- the command goes again, in format 2
   ends_renews : (g : Going) (j : Job) (a : Awaited) → g.file.job ≡ Some j → In a j.awaited → End g → End (renews g j a)
   ends_renews g j a is i h =
-      let b : Awaited = again_in_2 a g.moved.nonce in
-      let x : IsMine P g.moved.object g.file.kept b = mine_of g j is h a i in (
+      let b : Awaited = again_in_2 a g.effects.nonce in
+      let x : IsMine P g.effects.object g.file.kept b = mine_of g j is h a i in (
         (
           h.0.0,
           h.0.1,
           h.0.2,
           h.0.3,
-          sends_more g.moved.object g.file.kept g.moved.sent (b ∷ []) h.0.4 (one_mine P g.moved.object g.file.kept b x),
+          sends_more g.effects.object g.file.kept g.effects.sent (b ∷ []) h.0.4 (one_mine P g.effects.object g.file.kept b x),
         ),
         aim_of g j is h,
         λ c l.
             let r = in_mapped (renewed a b) c j.awaited l in
-            subst (IsMine P g.moved.object g.file.kept) (sym r.2)
-            (renewed_mine g.moved.object g.file.kept a b r.0 x (mine_of g j is h r.0 r.1)),
+            subst (IsMine P g.effects.object g.file.kept) (sym r.2)
+            (renewed_mine g.effects.object g.file.kept a b r.0 x (mine_of g j is h r.0 r.1)),
         closed_of g j is h,
       )
 

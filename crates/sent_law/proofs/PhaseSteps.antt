@@ -16,7 +16,7 @@ use Rattle.server_rules.specs.Orders.{Ordered, begins_job, starts, recalls_on, d
 use Rattle.server_rules.specs.Openings.{opens, opens_each}
 use Rattle.server_rules.specs.Rounds.{Round, step_round}
 use Rattle.server_rules.specs.Jobs.{declares, fence_begins}
-use Rattle.job_law.specs.Names.{Command, ToDrive, Server, File, Drive, Job, JobKind, Revoking, Rebuilding, Auditing, Moved, Reply, ClientRequest, Awaited, OrderKind, ToRecall, ToRevoke, ToDeclare, ToRebuild, ToAudit, Busy, Spent}
+use Rattle.job_law.specs.Names.{Command, ToDrive, Server, File, Drive, Job, JobKind, Revoking, Rebuilding, Auditing, Effects, Reply, ClientRequest, Awaited, OrderKind, ToRecall, ToRevoke, ToDeclare, ToRebuild, ToAudit, Busy, Spent}
 use Rattle.job_law.proofs.Lists.{in_either}
 use Rattle.job_law.proofs.Files.{found_file, in_drives}
 use Rattle.sent_law.proofs.ObjectSteps.{Agree}
@@ -34,7 +34,7 @@ carries s now chosen q (Some f) e =
     let found = found_file s.files q.file f e in
     let v = serves (at_file s chosen f) s.next_grant s.format now q.client q.args in
     goes_at s q.file f v.going (carried_out s q v) found.0 refl refl (λ e. found.1)
-    (λ drive c i. elim (in_either (ToDrive drive c) (to_drives s.drives v.going.moved.sent) _ i) [
+    (λ drive c i. elim (in_either (ToDrive drive c) (to_drives s.drives v.going.effects.sent) _ i) [
       | inl j ↦ j
       | inr j ↦ elim (in_either (ToDrive drive c) (recalls_from s.next_recall v.recalled) _ j) [
         | inl k ↦ absurd (no_recall s.next_recall v.recalled drive c k)
@@ -158,13 +158,13 @@ recalled s (Some f) = idle s _ refl refl (λ owner h drive c i. absurd (no_recal
 pub record KeepsAll (owner : ℕ → ℕ) (next : ℕ) (before : List Awaited) (fs : List File) (r : Round) : Type 0 where
   pub later : ℕ → ℕ
   pub agree : Agree owner later next
-  pub rises : next ≤ r.moved.object
-  pub fine : (f : File) → In f r.files → IsFine later r.moved.object f
+  pub rises : next ≤ r.effects.object
+  pub fine : (f : File) → In f r.files → IsFine later r.effects.object f
   pub from : (x : File) → In x r.files → IsFrom fs x
-  pub sent : (a : Awaited) → In a r.moved.sent → In a before ⊎ IsSent later r.moved.object r.files a.command
+  pub sent : (a : Awaited) → In a r.effects.sent → In a before ⊎ IsSent later r.effects.object r.files a.command
 
-pub no_files : (owner : ℕ → ℕ) (m : Moved) (chosen : List ℕ)
-    → KeepsAll owner m.object m.sent [] (record { files = []; moved = m; chosen = chosen })
+pub no_files : (owner : ℕ → ℕ) (m : Effects) (chosen : List ℕ)
+    → KeepsAll owner m.object m.sent [] (record { files = []; effects = m; chosen = chosen })
 no_files owner m chosen = record {
   later = owner;
   agree = λ o less. refl;
@@ -184,7 +184,7 @@ sent_more owner n f fs c r = record { file = r.file; there = inr r.there; used =
 -- the first file goes on, and then the others
 pub then_all : (owner : ℕ → ℕ) (n : ℕ) (before : List Awaited) (f : File) (fs : List File) (h : Going) (r : Round)
     → Ends (Mine owner n f.kept.number) f.kept.number n f.kept before h
-    → KeepsAll (with_owner owner n f.kept.number) h.moved.object h.moved.sent fs r
+    → KeepsAll (with_owner owner n f.kept.number) h.effects.object h.effects.sent fs r
     → KeepsAll owner n before (f ∷ fs) (record r { files = h.file ∷ r.files })
 then_all owner n before f fs h r e k = record {
   later = k.later;
@@ -193,8 +193,8 @@ then_all owner n before f fs h r e k = record {
   rises = omega (arith, e.0.1, k.rises);
   fine = λ x i. elim i [
     | inl same ↦
-        subst (IsFine k.later r.moved.object) (sym same)
-        (fine_later (with_owner owner n f.kept.number) k.later h.moved.object r.moved.object h.file k.agree k.rises
+        subst (IsFine k.later r.effects.object) (sym same)
+        (fine_later (with_owner owner n f.kept.number) k.later h.effects.object r.effects.object h.file k.agree k.rises
         (out owner n f.kept.number f.kept before h e))
     | inr j ↦ k.fine x j
   ];
@@ -205,11 +205,11 @@ then_all owner n before f fs h r e k = record {
     | inr j ↦ from_more f fs x (k.from x j)
   ];
   sent = λ a i. elim (k.sent a i) [
-    | inr x ↦ inr (sent_more k.later r.moved.object h.file r.files a.command x)
+    | inr x ↦ inr (sent_more k.later r.effects.object h.file r.files a.command x)
     | inl j ↦ elim (e.0.4.1 a j) [
       | inl old ↦ inl old
       | inr x ↦
-          let y = mine_later (with_owner owner n f.kept.number) k.later h.moved.object r.moved.object h.file k.agree
+          let y = mine_later (with_owner owner n f.kept.number) k.later h.effects.object r.effects.object h.file k.agree
           k.rises a ((x.0.0 ∙ sym e.0.0, x.0.1), x.1) in
           inr (record { file = h.file; there = inl refl; used = y.0; behind = y.1 })
     ]
@@ -221,34 +221,34 @@ pub others_fine : (owner : ℕ → ℕ) (n number m : ℕ) (fs : List File) → 
 others_fine owner n number m fs le own f i =
     fine_later owner (with_owner owner n number) n m f (λ o less. owner_below owner n number o less) le (own f i)
 
-pub declared_each : (drive : ℕ) (ds : List Drive) (fs : List File) (m : Moved) (chosen : List ℕ) (owner : ℕ → ℕ)
+pub declared_each : (drive : ℕ) (ds : List Drive) (fs : List File) (m : Effects) (chosen : List ℕ) (owner : ℕ → ℕ)
     → ((f : File) → In f fs → IsFine owner m.object f)
     → KeepsAll owner m.object m.sent fs (declares_each drive ds fs m chosen)
 unfolding declares_each
 declared_each drive ds [] m chosen owner own = no_files owner m chosen
 declared_each drive ds (f ∷ fs) m chosen owner own =
-    let g : Going = record { file = f; moved = m; drives = ds; chosen = chosen } in
+    let g : Going = record { file = f; effects = m; drives = ds; chosen = chosen } in
     let h : Going = declares g drive in
     let e = ends_declares (Mine owner m.object f.kept.number) f.kept.number m.object
     (mine_fresh owner m.object f.kept.number) f.kept m.sent g drive
     (into owner m.object f.kept.number g refl refl (own f (inl refl))) in
     then_all owner m.object m.sent f fs h _ e
-    (declared_each drive ds fs h.moved h.chosen (with_owner owner m.object f.kept.number)
-    (others_fine owner m.object f.kept.number h.moved.object fs e.0.1 (λ x i. own x (inr i))))
+    (declared_each drive ds fs h.effects h.chosen (with_owner owner m.object f.kept.number)
+    (others_fine owner m.object f.kept.number h.effects.object fs e.0.1 (λ x i. own x (inr i))))
 
-pub opened_each : (format : ℕ) (ds : List Drive) (fs : List File) (m : Moved) (owner : ℕ → ℕ)
+pub opened_each : (format : ℕ) (ds : List Drive) (fs : List File) (m : Effects) (owner : ℕ → ℕ)
     → ((f : File) → In f fs → IsFine owner m.object f) → KeepsAll owner m.object m.sent fs (opens_each format ds fs m)
 unfolding opens_each
 opened_each format ds [] m owner own = no_files owner m []
 opened_each format ds (f ∷ fs) m owner own =
-    let g : Going = record { file = f; moved = m; drives = ds; chosen = [] } in
+    let g : Going = record { file = f; effects = m; drives = ds; chosen = [] } in
     let h : Going = opens format g in
     let e = ends_opens (Mine owner m.object f.kept.number) f.kept.number m.object
     (mine_fresh owner m.object f.kept.number) f.kept m.sent format g
     (into owner m.object f.kept.number g refl refl (own f (inl refl))) in
     then_all owner m.object m.sent f fs h _ e
-    (opened_each format ds fs h.moved (with_owner owner m.object f.kept.number)
-    (others_fine owner m.object f.kept.number h.moved.object fs e.0.1 (λ x i. own x (inr i))))
+    (opened_each format ds fs h.effects (with_owner owner m.object f.kept.number)
+    (others_fine owner m.object f.kept.number h.effects.object fs e.0.1 (λ x i. own x (inr i))))
 
 pub round_keeps : (owner : ℕ → ℕ) (s t : Server) (r : Round) → KeepsAll owner s.next_object [] s.files r
     → Keeps owner s.next_object s.files (step_round t r)
@@ -259,11 +259,11 @@ round_keeps owner s t r k = record {
   fine = k.fine;
   from = k.from;
   sent = λ drive c i.
-      let x = in_drives t.drives r.moved.sent drive c i in
+      let x = in_drives t.drives r.effects.sent drive c i in
       elim (k.sent x.0 x.2) [
         | inl none ↦ absurd none
         | inr y ↦
-            subst (IsSent k.later r.moved.object r.files) (sym x.1.1)
+            subst (IsSent k.later r.effects.object r.files) (sym x.1.1)
             (record { file = y.file; there = y.there; used = y.used; behind = y.behind })
       ];
 }

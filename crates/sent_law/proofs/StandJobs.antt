@@ -45,8 +45,8 @@ module _ (R : Reached) where
   ends_rests_or (c ∷ cs) g kind work later h l = h
 
   all_others : (g : Going) (which : Which) (ask : Ask) → is_creating ask ≡ false
-      → AllAre IsOther (to_all g.file.kept which ask g.moved.nonce)
-  all_others g which ask other = others_each g.file.kept which ask g.file.kept.components 0 g.moved.nonce other
+      → AllAre IsOther (to_all g.file.kept which ask g.effects.nonce)
+  all_others g which ask other = others_each g.file.kept which ask g.file.kept.components 0 g.effects.nonce other
 
   -- ---- audit
 
@@ -64,7 +64,7 @@ module _ (R : Reached) where
   ends_makes_or : (g : Going) (o : Option Target) (later : Going) → Own g → End later → End (makes_or g o later)
   ends_makes_or g None later h l = l
   ends_makes_or g (Some t) later h l =
-      let x : Awaited = sent_to g.file.kept Creating t.component t.drive t.object g.moved.nonce in
+      let x : Awaited = sent_to g.file.kept Creating t.component t.drive t.object g.effects.nonce in
       let create : IsCreate g.file.kept.tag x = record { action = refl; tagged = refl; holder = refl } in
       (h, one_is (IsTagged g.file.kept.tag) x (λ e. create), inl (x, inl refl, create, refl, refl))
 
@@ -82,9 +82,9 @@ module _ (R : Reached) where
     | inr j ↦ h at j there
   ]
 
-  from : (g : Going) (t : Target) (p : Piece) → AllAre IsOther (sources g.file.kept t p g.moved.nonce)
+  from : (g : Going) (t : Target) (p : Piece) → AllAre IsOther (sources g.file.kept t p g.effects.nonce)
   unfolding sources
-  from g t p = sources_others g.file.kept t p g.moved.nonce _
+  from g t p = sources_others g.file.kept t p g.effects.nonce _
 
   ends_fills : (g : Going) (t : Target) (ps : List Piece) → Own g → Aim g t → End (fills g t ps)
   unfolding fills
@@ -97,7 +97,7 @@ module _ (R : Reached) where
 
   -- the WRITE to the target
   filled : (g : Going) (t : Target) (p : Piece) (ps : List Piece) (bytes : List ℕ) → Own g → Aim g t
-      → End (rests g Rebuilding (Fills t (p ∷ ps)) (to_fill g.file.kept t p bytes g.moved.nonce) [])
+      → End (rests g Rebuilding (Fills t (p ∷ ps)) (to_fill g.file.kept t p bytes g.effects.nonce) [])
   filled g t p ps bytes h a = (h, one_is IsOther _ (λ e. cc e), a)
 
   ends_filling : (g : Going) (t : Target) (p : Piece) (ps : List Piece) (bytes : List ℕ) → Own g → Aim g t
@@ -127,7 +127,7 @@ module _ (R : Reached) where
   unfolding repairs
   ends_repairs kind g [] short h = ends_after kind (mended g short) h
   ends_repairs kind g (p ∷ ps) short h =
-      ends_rests_or _ g _ _ _ (h, repair_others g.file.kept p g.moved.nonce) (ends_repairs kind g ps _ h)
+      ends_rests_or _ g _ _ _ (h, repair_others g.file.kept p g.effects.nonce) (ends_repairs kind g ps _ h)
 
   ends_storing : (kind : JobKind) (g : Going) (p : Piece) (ps : List Piece) (short : List ℕ) (heard : List Heard)
       → Own g → End (storing kind g p ps short heard)
@@ -160,10 +160,10 @@ module _ (R : Reached) where
   pub ends_making : (g : Going) → g.file.kept.grants ≡ [] → End (making g)
   unfolding making
   ends_making g none =
-      ends_made_or (to_all g.file.kept All Creating g.moved.nonce) g
-      (each_are (IsCreate g.file.kept.tag) g.file.kept All Creating g.file.kept.components 0 g.moved.nonce
+      ends_made_or (to_all g.file.kept All Creating g.effects.nonce) g
+      (each_are (IsCreate g.file.kept.tag) g.file.kept All Creating g.file.kept.components 0 g.effects.nonce
       (λ j drive object n. record { action = refl; tagged = refl; holder = refl }))
-      (asked_each g.file.kept Creating g.file.kept.components 0 g.moved.nonce) none
+      (asked_each g.file.kept Creating g.file.kept.components 0 g.effects.nonce) none
 
   -- ---- a fence
 
@@ -189,10 +189,10 @@ module _ (R : Reached) where
   unfolding fence_begins
   ends_fence kind format g h =
       let k : Kept = ending g.file.kept format in
-      ends_fences_or (to_all k All Raising g.moved.nonce) kind (keeping g k) h
-      (each_are (Raises k.tag) k All Raising k.components 0 g.moved.nonce
+      ends_fences_or (to_all k All Raising g.effects.nonce) kind (keeping g k) h
+      (each_are (Raises k.tag) k All Raising k.components 0 g.effects.nonce
       (λ j drive object n. record { action = refl; tagged = refl; holder = refl }))
-      (asked_each k Raising k.components 0 g.moved.nonce)
+      (asked_each k Raising k.components 0 g.effects.nonce)
 
   -- ---- nothing is awaited any more
 
@@ -310,7 +310,7 @@ module _ (R : Reached) where
       → (IsCreate g.file.kept.tag a → is_done g.file.kept a r ≡ true
       → R a.drive a.command.object g.file.kept.tag ≡ true) → End g → End (hears g j a r x)
   ends_hears g j a r Older is job i alone raised made e =
-      holds_renewed R g.file.kept.tag g.file.kept.components g.file.kept.grants j.work j.awaited a g.moved.nonce i alone
+      holds_renewed R g.file.kept.tag g.file.kept.components g.file.kept.grants j.work j.awaited a g.effects.nonce i alone
       (has_job g j job e)
   ends_hears g j a r Full is job i alone raised made e =
       let write = full_is_write g.file.kept a r is in

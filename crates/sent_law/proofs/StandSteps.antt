@@ -11,12 +11,12 @@ use Rattle.server_rules.specs.History.{Input, Hears, Makes, Obeys, Adds, Formats
 use Rattle.server_rules.specs.Jobs.{making, declares}
 use Rattle.server_rules.specs.Laws.{In}
 use Rattle.server_rules.specs.Making.{refusal, places, unmade, with_file, makes_file, unless_refused, create_file}
-use Rattle.server_rules.specs.Messages.{Message, Asks, Replies, Orders, awaited_by, counters_low, or_else, heard_at, by_heard, on_drive_reply, handled, on_message}
+use Rattle.server_rules.specs.Messages.{Message, Asks, Replies, Orders, awaited_by, counters_have_room, or_else, heard_at, by_heard, on_drive_reply, handled, on_message}
 use Rattle.server_rules.specs.Orders.{Ordered, begins_job, starts, recalls_on, declares_each, offline, declare, declares_known, ordered}
 use Rattle.server_rules.specs.Replies.{answers, hearing, heard_by, heard_in, on_reply}
 use Rattle.server_rules.specs.Requests.{carries_out, by_admit, on_request}
 use Rattle.server_rules.specs.Slots.{Admit, New, Again, Misordered, admit, slot_of}
-use Rattle.job_law.specs.Names.{Server, File, Drive, Awaited, Job, JobKind, Revoking, Rebuilding, Auditing, Moved, Reply, ClientRequest, OrderKind, ToRecall, ToRevoke, ToDeclare, ToRebuild, ToAudit, Refusal}
+use Rattle.job_law.specs.Names.{Server, File, Drive, Awaited, Job, JobKind, Revoking, Rebuilding, Auditing, Effects, Reply, ClientRequest, OrderKind, ToRecall, ToRevoke, ToDeclare, ToRebuild, ToAudit, Refusal}
 use Rattle.job_law.specs.Fencing.{Reached, TellsRaised, IsHeardTruly}
 use Rattle.job_law.proofs.Files.{found_file, in_put}
 use Rattle.sent_law.specs.Standing.{TellsMade, AreMadeTruly, is_running, EachStepStands}
@@ -191,16 +191,16 @@ module _ (R : Reached) where
   recalled s None h = h
   recalled s (Some f) h = h
 
-  declared_each : (drive : ℕ) (ds : List Drive) (fs : List File) (m : Moved) (chosen : List ℕ) → AllEnd fs
+  declared_each : (drive : ℕ) (ds : List Drive) (fs : List File) (m : Effects) (chosen : List ℕ) → AllEnd fs
       → AllEnd (declares_each drive ds fs m chosen).files
   unfolding declares_each
   declared_each drive ds [] m chosen h x i = h x i
   declared_each drive ds (f ∷ fs) m chosen h x i =
-      let g : Going = record { file = f; moved = m; drives = ds; chosen = chosen } in
+      let g : Going = record { file = f; effects = m; drives = ds; chosen = chosen } in
       let d : Going = declares g drive in
       elim i [
         | inl same ↦ subst (FileEnds R) (sym same) (ends_declares R g drive (h f (inl refl)))
-        | inr j ↦ declared_each drive ds fs d.moved d.chosen (λ y k. h y (inr k)) x j
+        | inr j ↦ declared_each drive ds fs d.effects d.chosen (λ y k. h y (inr k)) x j
       ]
 
   declared : (s : Server) (chosen : List ℕ) (n : ℕ) (b : Bool) → AllEnd s.files
@@ -220,7 +220,7 @@ module _ (R : Reached) where
 
   -- ---- a message
 
-  heard_message : (s : Server) (now : ℕ) (chosen : List ℕ) (from : Node) (m : Message) → counters_low s ≡ true
+  heard_message : (s : Server) (now : ℕ) (chosen : List ℕ) (from : Node) (m : Message) → counters_have_room s ≡ true
       → IsHeardTruly R s (Hears now from m) → AreMadeTruly R s (Hears now from m) → AllEnd s.files
       → AllEnd (handled s now chosen from m).state.files
   heard_message s now chosen (FromClient c) (Asks q) low heard made h =
@@ -238,9 +238,9 @@ module _ (R : Reached) where
       → IsHeardTruly R s (Hears now from m) → AreMadeTruly R s (Hears now from m) → AllEnd s.files
       → AllEnd (on_message s now chosen from m).state.files
   unfolding on_message
-  message_ends s now chosen from m heard made h = by_room (counters_low s) refl
+  message_ends s now chosen from m heard made h = by_room (counters_have_room s) refl
     where
-      by_room : (b : Bool) → counters_low s ≡ b
+      by_room : (b : Bool) → counters_have_room s ≡ b
           → AllEnd (if b then handled s now chosen from m else still s).state.files
       by_room true low = heard_message s now chosen from m low heard made h
       by_room false high = h

@@ -1,12 +1,13 @@
 -- What a command that is performed leaves of the tags of objects.
 use Rattle.std.proofs.Common.{◌≡◌, true, ℕ, ◌+◌, ◌≤◌, Option, Some, None, IsSome, refl, sym, ap, subst, ◌∙◌, arith, inl, inr}
+use Rattle.std.proofs.lemmas.Option.{same_Some}
 use Rattle.osd_commands.specs.declared.actions.Action.{Action}
 use Rattle.osd_commands.specs.declared.actions.Action.TheVariants as action
 use Rattle.osd_commands.specs.declared.commands.Command.{Command}
 use Rattle.osd_objects.specs.declared.object.StoredObject.{StoredObject}
 use Rattle.osd_objects.specs.Objects.{created, after_write, after_set_attr, after_set_tag}
 use Rattle.osd_objects.specs.Store.{StoreState, object_at, changed_if_there}
-use Rattle.osd_objects.proofs.Entries.{lookup_inserted, lookup_beside, lookup_set, lookup_set_beside, same_some}
+use Rattle.osd_objects.proofs.Entries.{lookup_inserted, lookup_beside, lookup_set, lookup_set_beside}
 use Rattle.osd_drive.specs.State.{DriveState}
 use Rattle.osd_drive.specs.Table.{is_create}
 use Rattle.osd_drive.specs.Effects.{lane_for, next_tag, effect_of}
@@ -28,7 +29,7 @@ changed_own : (s : StoreState) (k : ℕ) (f : StoredObject → StoredObject) (o 
     → (x : StoredObject) × (object_at s k ≡ Some x) × (f x ≡ y)
 changed_own s k f None none y e = absurd (cc (sym none ∙ e))
 changed_own s k f (Some z) there y e =
-    (z, there, same_some (f z) y (sym (lookup_set s.objects k (f z) (subst IsSome (sym there) refl)) ∙ e))
+    (z, there, same_Some (f z) y (sym (lookup_set s.objects k (f z) (subst IsSome (sym there) refl)) ∙ e))
 
 -- one that keeps its tag
 kept_tag : (d : DriveState) (c : Command) (k : Kept) (f : StoredObject → StoredObject)
@@ -46,7 +47,7 @@ own_by : (a : Action) (d : DriveState) (c : Command) → c.action ≡ a → IsFr
     → IsWithin k y.tag
 own_by action.Create d c is f k b was y e =
     let made : created c.capability.tag c.payload (lane_for c 0) ≡ y =
-    same_some _ y
+    same_Some _ y
     (sym (lookup_inserted d.store.objects c.object (created c.capability.tag c.payload (lane_for c 0))) ∙ e) in
     inl (subst (λ (t : ℕ). t ≤ k.tag) (ap (λ (z : StoredObject). z.tag) made) (b refl).0)
 own_by action.Read d c is f k b was y e = was y e
@@ -60,7 +61,7 @@ own_by action.SetTag d c is f k b was y e =
     let r = changed_own d.store c.object (after_set_tag lane) (object_at d.store c.object) refl y e in
     let w = there_with c (object_at d.store c.object) (ap is_create is) f.there f.tag in
     let same : r.0.tag ≡ c.capability.tag =
-    ap (λ (z : StoredObject). z.tag) (same_some r.0 w.0 (sym r.1 ∙ w.1)) ∙ w.2 in
+    ap (λ (z : StoredObject). z.tag) (same_Some r.0 w.0 (sym r.1 ∙ w.1)) ∙ w.2 in
     let tag : y.tag ≡ c.capability.tag + 1 =
     ap (λ (z : StoredObject). z.tag) (sym r.2) ∙ ap (λ (n : ℕ). n + 1) same in
     elim ((b refl).1 is) [

@@ -3,7 +3,7 @@ use Rattle.std.specs.Prelude.{◌≡◌, ◌⊎◌, ℕ, Bool, true, false, List
 use Rattle.osd_lists.specs.declared.node.Node.TheVariants.{Drive as FromDrive}
 use Rattle.osd_commands.specs.declared.actions.Action.TheVariants.{Create}
 use Rattle.server_rules.specs.declared.limits.TheConstants.{SERVER_HOLDER}
-use Rattle.server_rules.specs.Messages.{awaited_by, Replies, counters_low}
+use Rattle.server_rules.specs.Messages.{awaited_by, Replies, counters_have_room}
 use Rattle.server_rules.specs.Replies.{answers, is_done}
 use Rattle.server_rules.specs.History.{Input, Hears, Crashes, Opens, step}
 use Rattle.server_rules.specs.Laws.{In}
@@ -73,7 +73,7 @@ TellsMade R f drive r =
 -- so it is of what the server hears, as long as its counters have room
 abbrev pub AreMadeTruly : Reached → Server → Input → Type 0
 AreMadeTruly R s i =
-    (now drive : ℕ) (r : Reply) → i ≡ Hears now (FromDrive drive) (Replies r) → counters_low s ≡ true →
+    (now drive : ℕ) (r : Reply) → i ≡ Hears now (FromDrive drive) (Replies r) → counters_have_room s ≡ true →
     (f : File) → In f s.files → TellsMade R f drive r
 
 -- the server neither stops nor goes on behind that

@@ -18,7 +18,7 @@ use Rattle.server_rules.specs.Files.{Step, add_file, at_file, file_at, put_file}
 use Rattle.server_rules.specs.Going.{Going, rests_or}
 use Rattle.server_rules.specs.Jobs.{is_made, making}
 use Rattle.server_rules.specs.Making.{create_file, makes_file, places, refusal, unless_refused, unmade, with_file}
-use Rattle.server_rules.specs.Messages.{Message, Asks, Replies, Orders, by_heard, counters_low, handled, heard_at, on_drive_reply, on_message}
+use Rattle.server_rules.specs.Messages.{Message, Asks, Replies, Orders, by_heard, counters_have_room, handled, heard_at, on_drive_reply, on_message}
 use Rattle.server_rules.specs.Envelopes.{message_in, on_message_in}
 use Rattle.server_requests.specs.declared.sending.Sent.{Sent}
 use Rattle.server_command.specs.Work.{Hears, InTurn, Rounds, Serving}
@@ -78,7 +78,7 @@ handled_keeps s now chosen drive (Orders o) = same_keeps s s refl
 message_keeps : (s : Server) (now : ℕ) (chosen : List ℕ) (drive : ℕ) (o : Option Message) → Keeps s (on_message_in s now chosen (Drive drive) o).state
 unfolding on_message
 message_keeps s now chosen drive None = same_keeps s s refl
-message_keeps s now chosen drive (Some m) = elim (cases_Bool (counters_low s)) [
+message_keeps s now chosen drive (Some m) = elim (cases_Bool (counters_have_room s)) [
   | inl t ↦ rw t (handled_keeps s now chosen drive m)
   | inr z ↦ rw z (same_keeps s s refl)
 ]

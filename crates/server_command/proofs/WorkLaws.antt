@@ -10,13 +10,13 @@ use Rattle.osd_lists.specs.declared.node.Node.TheVariants.{Server as TheServer, 
 use Rattle.server_rules.specs.declared.limits.TheConstants.{COUNTERS_END}
 use Rattle.osd_commands.specs.declared.replies.Reply.{Reply}
 use Rattle.server_rules.specs.declared.files.File.{File}
-use Rattle.server_rules.specs.declared.server.Moved.{Moved}
+use Rattle.server_rules.specs.declared.server.Effects.{Effects}
 use Rattle.server_rules.specs.declared.server.Outgoing.{Outgoing}
 use Rattle.server_rules.specs.declared.server.Server.{Server}
 use Rattle.server_rules.specs.Going.{Going}
 use Rattle.server_rules.specs.Files.{Step, begins, at_file, still, to_drives}
 use Rattle.server_rules.specs.Replies.{on_reply}
-use Rattle.server_rules.specs.Messages.{Message, Asks, Replies, Orders, counters_low, heard_at, or_else, by_heard, on_drive_reply, handled, on_message}
+use Rattle.server_rules.specs.Messages.{Message, Asks, Replies, Orders, counters_have_room, heard_at, or_else, by_heard, on_drive_reply, handled, on_message}
 use Rattle.server_rules.specs.Envelopes.{message_in, on_message_in, on_bytes}
 use Rattle.server_requests.specs.declared.sending.Sent.{Sent}
 use Rattle.server_requests.specs.Sending.{all_sent}
@@ -62,13 +62,13 @@ heard_grows : (s : Server) (o : Option Going) → s.next_nonce < COUNTERS_END �
 heard_grows s None low r = still_grows s
 heard_grows s (Some g) low r = (r.least, more r.more)
   where
-    more : (g.moved.sent ≡ []) ⊎ (s.next_nonce < g.moved.nonce)
-        → (to_drives s.drives g.moved.sent ≡ []) ⊎ ((s.next_nonce < g.moved.nonce) × (s.next_nonce < COUNTERS_END))
+    more : (g.effects.sent ≡ []) ⊎ (s.next_nonce < g.effects.nonce)
+        → (to_drives s.drives g.effects.sent ≡ []) ⊎ ((s.next_nonce < g.effects.nonce) × (s.next_nonce < COUNTERS_END))
     more (inl e) = inl (rw e refl)
     more (inr l) = inr (l, low)
 
-low_nonce : (s : Server) → counters_low s ≡ true → s.next_nonce < COUNTERS_END
-unfolding counters_low
+low_nonce : (s : Server) → counters_have_room s ≡ true → s.next_nonce < COUNTERS_END
+unfolding counters_have_room
 low_nonce s e = grind (arith, nat_tests, e)
 
 handled_grows : (s : Server) (now : ℕ) (chosen : List ℕ) (drive : ℕ) (m : Message) → s.next_nonce < COUNTERS_END → StepGrows s (handled s now chosen (Drive drive) m)
@@ -80,7 +80,7 @@ handled_grows s now chosen drive (Orders o) low = still_grows s
 message_grows : (s : Server) (now : ℕ) (chosen : List ℕ) (drive : ℕ) (o : Option Message) → StepGrows s (on_message_in s now chosen (Drive drive) o)
 unfolding on_message
 message_grows s now chosen drive None = still_grows s
-message_grows s now chosen drive (Some m) = elim (cases_Bool (counters_low s)) [
+message_grows s now chosen drive (Some m) = elim (cases_Bool (counters_have_room s)) [
   | inl t ↦ rw t (handled_grows s now chosen drive m (low_nonce s t))
   | inr z ↦ rw z (still_grows s)
 ]

@@ -1,6 +1,5 @@
 ghost use Rattle.std.specs.Prelude.{◌≡◌, IfErr, OnOk};
 ghost use Rattle.osd_bytes.specs.Asking.{ends_of};
-ghost use Rattle.stripe_repair.specs.Placing.{IsPlacer};
 ghost use Rattle.drive_command.specs.Ends.{streams};
 ghost use Rattle.server_command.specs.Ends.{EndsServer, ServesAs, ServesIn, StopsIn, StopsServer};
 
@@ -9,23 +8,21 @@ use crate::files::make_files;
 use crate::serving::serve_core;
 use cluster_text::{Cluster, CommandStop, Reader, cluster_from, put_stop, settle_at};
 use osd_bytes::{Clock, Links, Sink, Source};
-use osd_lists::{Memory, Numbers};
+use osd_lists::Memory;
 use std::alloc::Global;
-use stripe_repair::{DriveLoad, Placer};
+use stripe_repair::Place;
 
 // Makes the files of a cluster, and serves so many connections as its server.
-fn serve_in<K: Sink, L: Links, C: Clock, F>(
+fn serve_in<K: Sink, L: Links, C: Clock, P: Place>(
     alloc: Global,
     cluster: &Cluster,
     connections: u32,
     sink: &mut K,
     links: &mut L,
     clock: &mut C,
-    placer: &Placer<F>,
+    placer: &P,
 ) -> Result<(), CommandStop>
-where
-    F: Fn(u32, &[DriveLoad]) -> Result<Numbers, Memory>,
-    requires placer { IsPlacer F.Fn placer.now }
+    requires placer { P.is_placer placer.now }
     ensures serves { OnOk result (ServesIn connections cluster.now
         (ends_of (L.told links.old) (L.faults links.old) (C.times clock.old))
         (ends_of (L.told links.new) (L.faults links.new) (C.times clock.new))
@@ -61,18 +58,16 @@ where
 }
 
 // The command without the line that tells why it stopped.
-fn serve_cluster<S: Source, K: Sink, L: Links, C: Clock, F>(
+fn serve_cluster<S: Source, K: Sink, L: Links, C: Clock, P: Place>(
     alloc: Global,
     connections: u32,
     source: &mut S,
     sink: &mut K,
     links: &mut L,
     clock: &mut C,
-    placer: &Placer<F>,
+    placer: &P,
 ) -> Result<(), CommandStop>
-where
-    F: Fn(u32, &[DriveLoad]) -> Result<Numbers, Memory>,
-    requires placer { IsPlacer F.Fn placer.now }
+    requires placer { P.is_placer placer.now }
     ensures serves { OnOk result (ServesAs connections
         (streams (S.left source.old) (S.faults source.old) (K.taken sink.old) (K.faults sink.old))
         (streams (S.left source.new) (S.faults source.new) (K.taken sink.new) (K.faults sink.new))
@@ -105,18 +100,16 @@ where
 /// exactly where the text passes 67,108,864 bytes; [`CommandStop::LinkFault`] where the links couldn't be settled or no
 /// further connection accepted, or a drive gave no record or held an object already while the files were made;
 /// [`CommandStop::WriteFault`]; [`CommandStop::Memory`].
-pub fn server_command<S: Source, K: Sink, L: Links, C: Clock, F>(
+pub fn server_command<S: Source, K: Sink, L: Links, C: Clock, P: Place>(
     alloc: Global,
     connections: u32,
     source: &mut S,
     sink: &mut K,
     links: &mut L,
     clock: &mut C,
-    placer: &Placer<F>,
+    placer: &P,
 ) -> Result<(), CommandStop>
-where
-    F: Fn(u32, &[DriveLoad]) -> Result<Numbers, Memory>,
-    requires placer { IsPlacer F.Fn placer.now }
+    requires placer { P.is_placer placer.now }
     ensures serves { OnOk result (ServesAs connections
         (streams (S.left source.old) (S.faults source.old) (K.taken sink.old) (K.faults sink.old))
         (streams (S.left source.new) (S.faults source.new) (K.taken sink.new) (K.faults sink.new))

@@ -1,6 +1,5 @@
 // The records of a connection, and one connection after the other.
 ghost use Rattle.std.specs.Prelude.{◌≡◌, [], IfOk, IsErrOf, OnOk};
-ghost use Rattle.stripe_repair.specs.Placing.{IsPlacer};
 ghost use Rattle.osd_bytes.specs.Asking.{ends_of};
 ghost use Rattle.osd_bytes.specs.declared.serve_err.ServeErr.TheVariants.{LinkFault};
 ghost use Rattle.server_command.specs.Work.{InTurn, ServesRecord, serving};
@@ -10,23 +9,21 @@ use crate::handling::{handle, sender_of};
 use crate::working::work_all;
 use layout_server::ServerCore;
 use osd_bytes::{Clock, Inbox, Links, ServeErr};
-use osd_lists::{ByteLists, Memory, Numbers};
+use osd_lists::{ByteLists, Memory};
 use std::alloc::Global;
-use stripe_repair::{DriveLoad, Placer};
+use stripe_repair::Place;
 
 // Handles a record of the accepted connection, and works what it brings. Tells whether the connection stands then.
-fn serve_record<L: Links, C: Clock, F>(
+fn serve_record<L: Links, C: Clock, P: Place>(
     alloc: Global,
     core: &mut ServerCore,
     links: &mut L,
     clock: &mut C,
-    placer: &Placer<F>,
+    placer: &P,
     message: &[u8],
     puts: bool,
 ) -> Result<bool, Memory>
-where
-    F: Fn(u32, &[DriveLoad]) -> Result<Numbers, Memory>,
-    requires placer { IsPlacer F.Fn placer.now }
+    requires placer { P.is_placer placer.now }
     ensures { IfOk result (λ still. ServesRecord message.now
         (serving core.old [] puts (ends_of (L.told links.old) (L.faults links.old) (C.times clock.old)))
         (serving core.new [] still (ends_of (L.told links.new) (L.faults links.new) (C.times clock.new)))) }
@@ -38,18 +35,16 @@ where
 }
 
 // Serves these records in order. Tells whether the connection stands then.
-fn serve_records<L: Links, C: Clock, F>(
+fn serve_records<L: Links, C: Clock, P: Place>(
     alloc: Global,
     core: &mut ServerCore,
     links: &mut L,
     clock: &mut C,
-    placer: &Placer<F>,
+    placer: &P,
     records: &ByteLists,
     puts: bool,
 ) -> Result<bool, Memory>
-where
-    F: Fn(u32, &[DriveLoad]) -> Result<Numbers, Memory>,
-    requires placer { IsPlacer F.Fn placer.now }
+    requires placer { P.is_placer placer.now }
     ensures { IfOk result (λ still. InTurn ServesRecord records.now
         (serving core.old [] puts (ends_of (L.told links.old) (L.faults links.old) (C.times clock.old)))
         (serving core.new [] still (ends_of (L.told links.new) (L.faults links.new) (C.times clock.new)))) }
@@ -70,17 +65,15 @@ where
 }
 
 // Serves the records that come on the accepted connection.
-fn serve_stream<L: Links, C: Clock, F>(
+fn serve_stream<L: Links, C: Clock, P: Place>(
     alloc: Global,
     core: &mut ServerCore,
     links: &mut L,
     clock: &mut C,
-    placer: &Placer<F>,
+    placer: &P,
     puts: bool,
 ) -> Result<(), Memory>
-where
-    F: Fn(u32, &[DriveLoad]) -> Result<Numbers, Memory>,
-    requires placer { IsPlacer F.Fn placer.now }
+    requires placer { P.is_placer placer.now }
     ensures { OnOk result (ServesStream
         (serving core.old [] puts (ends_of (L.told links.old) (L.faults links.old) (C.times clock.old))) core.new
         (ends_of (L.told links.new) (L.faults links.new) (C.times clock.new))) }
@@ -98,16 +91,14 @@ where
 }
 
 // Serves the connection that was accepted.
-fn serve_connection<L: Links, C: Clock, F>(
+fn serve_connection<L: Links, C: Clock, P: Place>(
     alloc: Global,
     core: &mut ServerCore,
     links: &mut L,
     clock: &mut C,
-    placer: &Placer<F>,
+    placer: &P,
 ) -> Result<(), Memory>
-where
-    F: Fn(u32, &[DriveLoad]) -> Result<Numbers, Memory>,
-    requires placer { IsPlacer F.Fn placer.now }
+    requires placer { P.is_placer placer.now }
     ensures { OnOk result (ServesConnection core.old core.new
         (ends_of (L.told links.old) (L.faults links.old) (C.times clock.old))
         (ends_of (L.told links.new) (L.faults links.new) (C.times clock.new))) }
@@ -131,17 +122,15 @@ where
 ///
 /// [`ServeErr::LinkFault`] where no further connection could be accepted, after those before it were served whole;
 /// [`ServeErr::Memory`], after which nothing may be left of the server.
-pub fn serve<L: Links, C: Clock, F>(
+pub fn serve<L: Links, C: Clock, P: Place>(
     alloc: Global,
     core: &mut ServerCore,
     links: &mut L,
     clock: &mut C,
-    placer: &Placer<F>,
+    placer: &P,
     connections: u32,
 ) -> Result<(), ServeErr>
-where
-    F: Fn(u32, &[DriveLoad]) -> Result<Numbers, Memory>,
-    requires placer { IsPlacer F.Fn placer.now }
+    requires placer { P.is_placer placer.now }
     ensures served { OnOk result (ServesAll connections core.old core.new
         (ends_of (L.told links.old) (L.faults links.old) (C.times clock.old))
         (ends_of (L.told links.new) (L.faults links.new) (C.times clock.new))) }

@@ -1,7 +1,6 @@
 // The files of a cluster, made one after the other.
 ghost use Rattle.std.specs.Prelude.{[], true, IfErr, OnOk};
 ghost use Rattle.osd_bytes.specs.Asking.{ends_of};
-ghost use Rattle.stripe_repair.specs.Placing.{IsPlacer};
 ghost use Rattle.server_command.specs.Work.{serving};
 ghost use Rattle.server_command.specs.Making.{LosesFile, LosesFiles, MakesFile, MakesFiles, RefusesFile, RefusesFiles, StopsBy};
 
@@ -11,25 +10,23 @@ use cluster_text::{ClusterFile, ClusterKind, CommandStop};
 use data_map::{RAID_0, RAID_PQ};
 use layout_server::{FileErr, ServerCore, Step};
 use osd_bytes::{Clock, Links};
-use osd_lists::{Memory, Numbers};
+use osd_lists::Memory;
 use std::alloc::Global;
-use stripe_repair::{DriveLoad, Placer};
+use stripe_repair::Place;
 
 /// The first tag of each file of a cluster.
 pub const FIRST_TAG: u32 = 1;
 
 // Makes a file of a cluster: each CREATE, and what its answer brings, is one exchange with its drive.
-fn make_file<L: Links, C: Clock, F>(
+fn make_file<L: Links, C: Clock, P: Place>(
     alloc: Global,
     core: &mut ServerCore,
     links: &mut L,
     clock: &mut C,
-    placer: &Placer<F>,
+    placer: &P,
     file: &ClusterFile,
 ) -> Result<(), CommandStop>
-where
-    F: Fn(u32, &[DriveLoad]) -> Result<Numbers, Memory>,
-    requires placer { IsPlacer F.Fn placer.now }
+    requires placer { P.is_placer placer.now }
     ensures makes { OnOk result (MakesFile file.now
         (serving core.old [] true (ends_of (L.told links.old) (L.faults links.old) (C.times clock.old)))
         (serving core.new [] true (ends_of (L.told links.new) (L.faults links.new) (C.times clock.new)))) }
@@ -68,17 +65,15 @@ where
 /// kind [`ClusterKind::Range`] exactly where the server refuses a file, or its map has no algorithm; [`CommandStop::Memory`]
 /// for want of memory, and also before a file where the server's counters have no room, which takes a drive that has each
 /// command sent again 2^63 times.
-pub fn make_files<L: Links, C: Clock, F>(
+pub fn make_files<L: Links, C: Clock, P: Place>(
     alloc: Global,
     core: &mut ServerCore,
     links: &mut L,
     clock: &mut C,
-    placer: &Placer<F>,
+    placer: &P,
     files: &[ClusterFile],
 ) -> Result<(), CommandStop>
-where
-    F: Fn(u32, &[DriveLoad]) -> Result<Numbers, Memory>,
-    requires placer { IsPlacer F.Fn placer.now }
+    requires placer { P.is_placer placer.now }
     ensures makes { OnOk result (MakesFiles files.now
         (serving core.old [] true (ends_of (L.told links.old) (L.faults links.old) (C.times clock.old)))
         (serving core.new [] true (ends_of (L.told links.new) (L.faults links.new) (C.times clock.new)))) }

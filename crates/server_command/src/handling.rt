@@ -1,6 +1,5 @@
 // A record of a node, handed to the server.
 ghost use Rattle.std.specs.Prelude.{◌≡◌, ◌++◌, Bool, List, IfOk, OnOk};
-ghost use Rattle.stripe_repair.specs.Placing.{IsPlacer};
 ghost use Rattle.osd_lists.specs.declared.node.Node.TheVariants.{Drive};
 ghost use Rattle.osd_bytes.specs.Asking.{ends_of};
 ghost use Rattle.server_requests.specs.declared.sending.Sent.{Sent};
@@ -10,9 +9,9 @@ use crate::telling::tell_notes;
 use layout_ops::{Envelope, OpErr, read_envelope};
 use layout_server::{Sends, Sent, ServerCore, Step};
 use osd_bytes::{Clock, Links, asked};
-use osd_lists::{Bytes, Memory, Node, Numbers};
+use osd_lists::{Bytes, Memory, Node};
 use std::alloc::Global;
-use stripe_repair::{DriveLoad, Placer};
+use stripe_repair::Place;
 
 /// Who sent a record of an accepted connection: the client that a request or a recall's answer names, else the program
 /// that gives orders, which stands for the server.
@@ -34,18 +33,16 @@ pub fn sender_of(alloc: Global, message: &[u8]) -> Result<Node, Memory>
 /// # Errors
 ///
 /// Want of memory alone. Then nothing is left of the server.
-pub fn handle<L: Links, C: Clock, F>(
+pub fn handle<L: Links, C: Clock, P: Place>(
     alloc: Global,
     core: &mut ServerCore,
     links: &mut L,
     clock: &mut C,
-    placer: &Placer<F>,
+    placer: &P,
     from: Node,
     message: &[u8],
 ) -> Result<Sends, Memory>
-where
-    F: Fn(u32, &[DriveLoad]) -> Result<Numbers, Memory>,
-    requires placer { IsPlacer F.Fn placer.now }
+    requires placer { P.is_placer placer.now }
     ensures { IfOk result (λ sends. (waiting : List Sent) (stands : Bool) → Handles from message.now
         (serving core.old waiting stands (ends_of (L.told links.old) (L.faults links.old) (C.times clock.old)))
         (serving core.new (waiting ++ sends) stands
@@ -70,19 +67,17 @@ fn push_all(alloc: Global, waiting: &mut Sends, more: &[Sent]) -> Result<(), Mem
 
 /// Hands the record that came of a drive to the server, and tells what the server notes then. What that gives to send
 /// waits behind all other messages.
-pub fn hear_drive<L: Links, C: Clock, F>(
+pub fn hear_drive<L: Links, C: Clock, P: Place>(
     alloc: Global,
     core: &mut ServerCore,
     links: &mut L,
     clock: &mut C,
-    placer: &Placer<F>,
+    placer: &P,
     drive: u32,
     reply: &[u8],
     waiting: &mut Sends,
 ) -> Result<(), Memory>
-where
-    F: Fn(u32, &[DriveLoad]) -> Result<Numbers, Memory>,
-    requires placer { IsPlacer F.Fn placer.now }
+    requires placer { P.is_placer placer.now }
     ensures { OnOk result ((stands : Bool) → Handles (Drive drive) reply.now
         (serving core.old waiting.old stands (ends_of (L.told links.old) (L.faults links.old) (C.times clock.old)))
         (serving core.new waiting.new stands (ends_of (L.told links.new) (L.faults links.new) (C.times clock.new)))) }
@@ -94,19 +89,17 @@ where
 
 /// Sends a message to a drive in an exchange, and hands the record that comes, if any, to the server. What that gives to
 /// send waits behind all other messages.
-pub fn ask_drive<L: Links, C: Clock, F>(
+pub fn ask_drive<L: Links, C: Clock, P: Place>(
     alloc: Global,
     core: &mut ServerCore,
     links: &mut L,
     clock: &mut C,
-    placer: &Placer<F>,
+    placer: &P,
     drive: u32,
     message: &[u8],
     waiting: &mut Sends,
 ) -> Result<(), Memory>
-where
-    F: Fn(u32, &[DriveLoad]) -> Result<Numbers, Memory>,
-    requires placer { IsPlacer F.Fn placer.now }
+    requires placer { P.is_placer placer.now }
     ensures { OnOk result ((stands : Bool) → AsksDrive drive message.now
         (serving core.old waiting.old stands (ends_of (L.told links.old) (L.faults links.old) (C.times clock.old)))
         (serving core.new waiting.new stands (ends_of (L.told links.new) (L.faults links.new) (C.times clock.new)))) }

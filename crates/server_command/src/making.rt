@@ -1,7 +1,6 @@
 // The commands by which files are made, one after the other.
 ghost use Rattle.std.specs.Prelude.{[], true, IfErr, OnOk};
 ghost use Rattle.osd_bytes.specs.Asking.{ends_of};
-ghost use Rattle.stripe_repair.specs.Placing.{IsPlacer};
 ghost use Rattle.osd_lists.specs.declared.node.Node.TheVariants.{Drive};
 ghost use Rattle.server_command.specs.Work.{InTurn, UntilNone, serving};
 ghost use Rattle.server_command.specs.Making.{Loses, LosesAll, LosesIn, LosesTo, Makes, MakesTo, StopsBy};
@@ -11,26 +10,24 @@ use crate::handling::hear_drive;
 use cluster_text::CommandStop;
 use layout_server::{Sends, Sent, ServerCore};
 use osd_bytes::{Clock, Links, asked};
-use osd_lists::{Memory, Node, Numbers};
+use osd_lists::{Memory, Node};
 use std::alloc::Global;
 use std::mem;
-use stripe_repair::{DriveLoad, Placer};
+use stripe_repair::Place;
 
 // A command goes to its drive, whose record is handled. The file isn't made where no record comes, or one that says that
 // the drive holds the object already.
-fn make_on<L: Links, C: Clock, F>(
+fn make_on<L: Links, C: Clock, P: Place>(
     alloc: Global,
     core: &mut ServerCore,
     links: &mut L,
     clock: &mut C,
-    placer: &Placer<F>,
+    placer: &P,
     drive: u32,
     message: &[u8],
     waiting: &mut Sends,
 ) -> Result<(), CommandStop>
-where
-    F: Fn(u32, &[DriveLoad]) -> Result<Numbers, Memory>,
-    requires placer { IsPlacer F.Fn placer.now }
+    requires placer { P.is_placer placer.now }
     ensures makes { OnOk result (MakesTo (Drive drive) message.now
         (serving core.old waiting.old true (ends_of (L.told links.old) (L.faults links.old) (C.times clock.old)))
         (serving core.new waiting.new true (ends_of (L.told links.new) (L.faults links.new) (C.times clock.new)))) }
@@ -62,18 +59,16 @@ where
 }
 
 // A command goes to its drive. No other message is sent.
-fn make_one<L: Links, C: Clock, F>(
+fn make_one<L: Links, C: Clock, P: Place>(
     alloc: Global,
     core: &mut ServerCore,
     links: &mut L,
     clock: &mut C,
-    placer: &Placer<F>,
+    placer: &P,
     sent: &Sent,
     waiting: &mut Sends,
 ) -> Result<(), CommandStop>
-where
-    F: Fn(u32, &[DriveLoad]) -> Result<Numbers, Memory>,
-    requires placer { IsPlacer F.Fn placer.now }
+    requires placer { P.is_placer placer.now }
     ensures makes { OnOk result (Makes sent.now
         (serving core.old waiting.old true (ends_of (L.told links.old) (L.faults links.old) (C.times clock.old)))
         (serving core.new waiting.new true (ends_of (L.told links.new) (L.faults links.new) (C.times clock.new)))) }
@@ -99,18 +94,16 @@ where
 }
 
 // These commands go to their drives in order. What they bring waits then.
-fn make_round<L: Links, C: Clock, F>(
+fn make_round<L: Links, C: Clock, P: Place>(
     alloc: Global,
     core: &mut ServerCore,
     links: &mut L,
     clock: &mut C,
-    placer: &Placer<F>,
+    placer: &P,
     round: &Sends,
     waiting: &mut Sends,
 ) -> Result<(), CommandStop>
-where
-    F: Fn(u32, &[DriveLoad]) -> Result<Numbers, Memory>,
-    requires placer { IsPlacer F.Fn placer.now }
+    requires placer { P.is_placer placer.now }
     ensures makes { OnOk result (InTurn Makes round.now
         (serving core.old waiting.old true (ends_of (L.told links.old) (L.faults links.old) (C.times clock.old)))
         (serving core.new waiting.new true (ends_of (L.told links.new) (L.faults links.new) (C.times clock.new)))) }
@@ -133,17 +126,15 @@ where
 ///
 /// [`CommandStop::LinkFault`] exactly where an exchange gave no record, or one that is Exists to its CREATE, and a note told
 /// which; [`CommandStop::Memory`].
-pub fn make_all<L: Links, C: Clock, F>(
+pub fn make_all<L: Links, C: Clock, P: Place>(
     alloc: Global,
     core: &mut ServerCore,
     links: &mut L,
     clock: &mut C,
-    placer: &Placer<F>,
+    placer: &P,
     sends: Sends,
 ) -> Result<(), CommandStop>
-where
-    F: Fn(u32, &[DriveLoad]) -> Result<Numbers, Memory>,
-    requires placer { IsPlacer F.Fn placer.now }
+    requires placer { P.is_placer placer.now }
     ensures makes { OnOk result (UntilNone Makes
         (serving core.old sends true (ends_of (L.told links.old) (L.faults links.old) (C.times clock.old)))
         (serving core.new [] true (ends_of (L.told links.new) (L.faults links.new) (C.times clock.new)))) }

@@ -1,7 +1,6 @@
 // The lines of the command, and the serving between them.
 ghost use Rattle.std.specs.Prelude.{◌≡◌, IfErr, IfOk, OnOk, string_bytes};
 ghost use Rattle.osd_bytes.specs.Asking.{ends_of};
-ghost use Rattle.stripe_repair.specs.Placing.{IsPlacer};
 ghost use Rattle.drive_command.specs.Ends.{served_line, stop_of_serving};
 ghost use Rattle.server_command.specs.Ends.{Serves, StopsServing};
 
@@ -9,9 +8,9 @@ use crate::connections::serve;
 use cluster_text::CommandStop;
 use layout_server::ServerCore;
 use osd_bytes::{Clock, Links, ServeErr, Sink, put_all};
-use osd_lists::{Memory, Numbers};
+use osd_lists::Memory;
 use std::alloc::Global;
-use stripe_repair::{DriveLoad, Placer};
+use stripe_repair::Place;
 
 // The line that tells how many connections were served.
 fn served_line(alloc: Global, connections: u32) -> Result<String, Memory>
@@ -30,18 +29,16 @@ fn stop_of(e: ServeErr) -> CommandStop
 }
 
 // Serves so many connections over links that listen, and tells when that begins and when it is over.
-pub(crate) fn serve_core<K: Sink, L: Links, C: Clock, F>(
+pub(crate) fn serve_core<K: Sink, L: Links, C: Clock, P: Place>(
     alloc: Global,
     core: &mut ServerCore,
     connections: u32,
     sink: &mut K,
     links: &mut L,
     clock: &mut C,
-    placer: &Placer<F>,
+    placer: &P,
 ) -> Result<(), CommandStop>
-where
-    F: Fn(u32, &[DriveLoad]) -> Result<Numbers, Memory>,
-    requires placer { IsPlacer F.Fn placer.now }
+    requires placer { P.is_placer placer.now }
     ensures serves { OnOk result (Serves connections core.old core.new
         (ends_of (L.told links.old) (L.faults links.old) (C.times clock.old))
         (ends_of (L.told links.new) (L.faults links.new) (C.times clock.new))

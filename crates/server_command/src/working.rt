@@ -1,6 +1,5 @@
 // The messages that a server has to send, one after the other.
 ghost use Rattle.std.specs.Prelude.{◌≡◌, [], ℕ, List, Option, IfOk};
-ghost use Rattle.stripe_repair.specs.Placing.{IsPlacer};
 ghost use Rattle.osd_bytes.specs.Asking.{ends_of};
 ghost use Rattle.server_rules.specs.declared.server.Server.{Server};
 ghost use Rattle.server_requests.specs.declared.sending.Sent.{Sent};
@@ -9,10 +8,10 @@ ghost use Rattle.server_command.specs.Work.{InTurn, PutsIf, Works, WorksAll, is_
 use crate::handling::ask_drive;
 use layout_server::{Sends, Sent, ServerCore};
 use osd_bytes::{Clock, Links, put_record};
-use osd_lists::{Memory, Node, Numbers};
+use osd_lists::{Memory, Node};
 use std::alloc::Global;
 use std::mem;
-use stripe_repair::{DriveLoad, Placer};
+use stripe_repair::Place;
 
 // Whether a node sent the record that is worked.
 fn is_sender(sender: Option<Node>, to: Node) -> bool
@@ -46,20 +45,18 @@ fn put_if<L: Links>(
 }
 
 // Works one message. Tells whether the accepted connection stands then.
-fn work<L: Links, C: Clock, F>(
+fn work<L: Links, C: Clock, P: Place>(
     alloc: Global,
     core: &mut ServerCore,
     links: &mut L,
     clock: &mut C,
-    placer: &Placer<F>,
+    placer: &P,
     sender: Option<Node>,
     sent: &Sent,
     stands: bool,
     waiting: &mut Sends,
 ) -> Result<bool, Memory>
-where
-    F: Fn(u32, &[DriveLoad]) -> Result<Numbers, Memory>,
-    requires placer { IsPlacer F.Fn placer.now }
+    requires placer { P.is_placer placer.now }
     ensures { IfOk result (λ still. Works sender sent.now
         (serving core.old waiting.old stands (ends_of (L.told links.old) (L.faults links.old) (C.times clock.old)))
         (serving core.new waiting.new still (ends_of (L.told links.new) (L.faults links.new) (C.times clock.new)))) }
@@ -84,20 +81,18 @@ where
 }
 
 // Works these messages in order. What they bring waits then.
-fn work_round<L: Links, C: Clock, F>(
+fn work_round<L: Links, C: Clock, P: Place>(
     alloc: Global,
     core: &mut ServerCore,
     links: &mut L,
     clock: &mut C,
-    placer: &Placer<F>,
+    placer: &P,
     sender: Option<Node>,
     round: &Sends,
     puts: bool,
     waiting: &mut Sends,
 ) -> Result<bool, Memory>
-where
-    F: Fn(u32, &[DriveLoad]) -> Result<Numbers, Memory>,
-    requires placer { IsPlacer F.Fn placer.now }
+    requires placer { P.is_placer placer.now }
     ensures { IfOk result (λ still. InTurn (Works sender) round.now
         (serving core.old waiting.old puts (ends_of (L.told links.old) (L.faults links.old) (C.times clock.old)))
         (serving core.new waiting.new still (ends_of (L.told links.new) (L.faults links.new) (C.times clock.new)))) }
@@ -121,19 +116,17 @@ where
 
 /// Works these messages in order, and then what they bring, until none waits. Tells whether the accepted connection
 /// stands then: it took whole what was put on it.
-pub fn work_all<L: Links, C: Clock, F>(
+pub fn work_all<L: Links, C: Clock, P: Place>(
     alloc: Global,
     core: &mut ServerCore,
     links: &mut L,
     clock: &mut C,
-    placer: &Placer<F>,
+    placer: &P,
     sender: Option<Node>,
     sends: Sends,
     puts: bool,
 ) -> Result<bool, Memory>
-where
-    F: Fn(u32, &[DriveLoad]) -> Result<Numbers, Memory>,
-    requires placer { IsPlacer F.Fn placer.now }
+    requires placer { P.is_placer placer.now }
     ensures { IfOk result (λ still. WorksAll sender
         (serving core.old sends puts (ends_of (L.told links.old) (L.faults links.old) (C.times clock.old)))
         (serving core.new [] still (ends_of (L.told links.new) (L.faults links.new) (C.times clock.new)))) }

@@ -22,7 +22,7 @@ pub record IsCredential (c : ObjectCred) : Type 0 where
   pub key : length c.oc_capability_key ≤ 32
   pub capability : length c.oc_capability ≤ 96
 
--- as many credentials as a file has components
+-- there are no more credentials than a file has components
 pub record IsSmall (cs : List ObjectCred) : Type 0 where
   pub few : length cs ≤ MAX_FILE_COMPONENTS
   pub each : AllByRecursion IsCredential cs

@@ -8,6 +8,6 @@ use Rattle.server_rules.specs.Commands.{key_at}
 abbrev pub with_number : (number : ℕ) → Drive → Bool
 with_number number d = d.number == number
 
--- it makes the same keys of capabilities as that of the drive
+-- the key makes the same keys of capabilities as the drive's
 abbrev pub IsKeyAt : List Drive → (drive : ℕ) → (key : List ℕ) → Type 0
 IsKeyAt ds drive key = (c : Capability) → key_of key c ≡ key_of (key_at ds drive) c

@@ -60,7 +60,7 @@ abbrev pub IsNumbered : Late → (number : ℕ) → Type 0
 IsNumbered late.Gives number = number ≤ GREATEST_GRANT
 IsNumbered row number = Unit {0}
 
--- it is for writing too
+-- the layout that is asked for is for writing too
 abbrev pub is_rw : (iomode : ℕ) → Bool
 is_rw iomode = iomode == LAYOUTIOMODE4_RW
 
@@ -70,7 +70,8 @@ asked_by f number client now w = asked f number client now w.offset w.length (is
 
 -- a missing component of a group in which a stripe of the grant stands and that can't be decoded
 abbrev pub is_lacked : Kept → Grant → (component : ℕ) → Component → Bool
-is_lacked f g k at = at.missing && (stands_in f.map (group_with f.map k) g.first g.end && is_beyond f.map f.components (group_with f.map k))
+is_lacked f g k at =
+    at.missing && (stands_in f.map (group_with f.map k) g.first g.end && is_beyond f.map f.components (group_with f.map k))
 
 -- ---- LAYOUTCOMMIT
 

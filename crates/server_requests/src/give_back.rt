@@ -68,7 +68,7 @@ fn none_beyond(
     Ok(true)
 }
 
-// These components, where each group of theirs can be decoded without them.
+// The components of these numbers, if each group can be decoded without them.
 fn bearable(alloc: Global, kept: &Kept, numbers: Numbers) -> Result<Option<Numbers>, Memory>
     requires few { length kept.now.components ≤ MAX_COMPONENTS }
     requires inside { All (λ k. k < MAX_COMPONENTS) numbers }

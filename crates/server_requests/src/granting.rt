@@ -15,7 +15,7 @@ use osd_lists::{Bytes, Memory, Sequence, put_u32};
 use server_rules::{Component, Drive, Grant, Kept};
 use std::alloc::Global;
 
-// Where the number of a grant stands in a state id.
+// The place of a grant's number in a state id.
 const GRANT_AT: usize = 8;
 
 // The credential of a component; that of a missing one has no capability.

@@ -19,7 +19,7 @@ use server_rules::{
 use std::alloc::Global;
 use stripe_repair::group_with;
 
-// Where the number of a drive stands in a device id.
+// The place of a drive's number in a device id.
 pub(crate) const DRIVE_AT: usize = 8;
 
 /// The rows that a range of stripes has in a group; where it has none, none from 0 on.

@@ -1,12 +1,16 @@
 -- The list of files.
 use Rattle.std.specs.Prelude.{ℕ, false, List, [], ◌∷◌, Some, refl, ◌≡◌, ◌==◌, nat_lt}
-use Rattle.std.proofs.Common.{arith, inl, inr, eq-eqb, subst}
+use Rattle.std.proofs.Common.{arith, inl, inr, eq-eqb, subst, sym, None, is_some}
 use Rattle.std.proofs.lemmas.Bool.{cases_Bool}
 use Rattle.std.proofs.lemmas.Bool.Decides.{nat_tests}
+use Rattle.osd_lists.proofs.Options.{none_there}
+use Rattle.data_map.specs.declared.check.RawMap.{RawMap}
+use Rattle.server_rules.specs.declared.server.Server.{Server}
 use Rattle.server_rules.specs.State.{File, Slot}
 use Rattle.server_rules.specs.Slots.{slot_of, keep}
 use Rattle.server_rules.specs.Files.{file_at, put_file, add_file}
-use Rattle.server_rules.specs.Laws.{FilesArePut, SlotsAreKept, IsSafe, AreSafe, OthersStay}
+use Rattle.server_rules.specs.Laws.{FilesArePut, SlotsAreKept, IsSafe, AreSafe, OthersStay, In}
+use Rattle.server_rules.specs.Making.{refusal}
 
 pub number_at : (fs : List File) (n : ℕ) (f : File) → file_at fs n ≡ Some f → f.kept.number ≡ n
 unfolding file_at
@@ -90,3 +94,20 @@ keep_other (t ∷ ts) s c e = elim (cases_Bool (t.client == s.client)) [
 
 pub slots_kept : SlotsAreKept
 slots_kept ss s = (keep_same ss s, keep_other ss s)
+
+-- a file that is found is one of them
+pub file_in : (fs : List File) (n : ℕ) (f : File) → file_at fs n ≡ Some f → In f fs
+unfolding file_at
+file_in [] n f e = absurd (cc e)
+file_in (g ∷ fs) n f e = elim (cases_Bool (g.kept.number == n)) [
+  | inl t ↦ inl (cc (sym (rw t at e)))
+  | inr z ↦ inr (file_in fs n f (rw z at e))
+]
+
+-- a number under which a file may be made is no file's
+pub not_there : (s : Server) (n : ℕ) (m : RawMap) → refusal s n m ≡ None → file_at s.files n ≡ None
+unfolding refusal
+not_there s n m e = elim (cases_Bool (is_some (file_at s.files n))) [
+  | inl t ↦ absurd (cc (rw t at e))
+  | inr z ↦ none_there (file_at s.files n) z
+]

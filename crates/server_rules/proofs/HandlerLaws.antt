@@ -126,7 +126,7 @@ ran_hears g j a r Older w h = record {
   size = refl;
   high = refl;
   grants = refl;
-  rests = (renewed a (again_in_2 a g.moved.nonce) w.0, map (renewed a (again_in_2 a g.moved.nonce)) w.1, some_renewed a _ w.0 w.1 j.awaited w.2);
+  rests = (renewed a (again_in_2 a g.effects.nonce) w.0, map (renewed a (again_in_2 a g.effects.nonce)) w.1, some_renewed a _ w.0 w.1 j.awaited w.2);
 }
 ran_hears g j a r Full w h = ran_full_up g j a j.work h
 ran_hears g j a r Done w h = ran_waits_or_on g j j.work _ _

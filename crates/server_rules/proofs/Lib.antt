@@ -1,3 +1,5 @@
+pub mod Members
+pub mod Components
 pub mod Runs
 pub mod GrantLaws
 pub mod FileLaws

@@ -15,7 +15,7 @@ use Rattle.server_rules.specs.Files.{Step, file_at, at_file, to_drives}
 use Rattle.server_rules.specs.Requests.{serves, carries_out, by_admit, on_request, answer_with, answer_without}
 use Rattle.server_rules.specs.Answers.{recalls_from}
 use Rattle.server_rules.specs.Making.{refusal, unless_refused, makes_file, unmade, places, create_file}
-use Rattle.server_rules.specs.Messages.{heard_at, by_heard, on_drive_reply, Message, Asks, Replies, Orders, handled, on_message, counters_low}
+use Rattle.server_rules.specs.Messages.{heard_at, by_heard, on_drive_reply, Message, Asks, Replies, Orders, handled, on_message, counters_have_room}
 use Rattle.server_rules.specs.Orders.{begins_job, starts, recalls_on, declare, declares_known, ordered}
 use Rattle.server_rules.specs.Openings.{reopen}
 use Rattle.server_rules.specs.History.{Input, Hears, Makes, Obeys, Adds, Formats, Resends, Crashes, Opens, Act, step, state_after, unless_made}
@@ -68,7 +68,7 @@ same_created s n m tag chosen = same_made s n m tag (places s.drives m.comps cho
 
 pub same_reopened : (s : Server) → (reopen s).state.slots ≡ s.slots
 unfolding reopen
-same_reopened s = elim (cases_Bool (counters_low s)) [ inl t ↦ rw t refl | inr z ↦ rw z refl ]
+same_reopened s = elim (cases_Bool (counters_have_room s)) [ inl t ↦ rw t refl | inr z ↦ rw z refl ]
 
 -- ---- a request
 
@@ -100,8 +100,8 @@ leaves_answer s now chosen q (Some f) =
     let v : Served = serves (at_file s chosen f) s.next_grant s.format now q.client q.args
     in (
       answer_with s q v,
-      to_drives s.drives v.going.moved.sent ++ recalls_from s.next_recall v.recalled,
-      sym (append_assoc (to_drives s.drives v.going.moved.sent) (recalls_from s.next_recall v.recalled) (Answers (answer_with s q v) ∷ [])),
+      to_drives s.drives v.going.effects.sent ++ recalls_from s.next_recall v.recalled,
+      sym (append_assoc (to_drives s.drives v.going.effects.sent) (recalls_from s.next_recall v.recalled) (Answers (answer_with s q v) ∷ [])),
       keep_same s.slots (record { client = q.client; last = q.sequence; kept = answer_with s q v }),
     )
 
@@ -187,18 +187,18 @@ taken_counts s now client c chosen q = elim (cases_Bool ((q.client == c) && nat_
 
 pub message_counts : (s : Server) (now client : ℕ) (chosen : List ℕ) (from : Node) (m : Message) → Counts s client (carried_for s client from m) (on_message s now chosen from m).state
 unfolding on_message
-message_counts s now client chosen (FromClient c) (Asks q) = elim (cases_Bool (counters_low s)) [
+message_counts s now client chosen (FromClient c) (Asks q) = elim (cases_Bool (counters_have_room s)) [
   | inl l ↦ rw l (taken_counts s now client c chosen q)
   | inr z ↦ elim (cases_Bool (c == client)) [ inl x ↦ rw (x, z) (none_counts s client s refl) | inr x ↦ rw (x, z) (none_counts s client s refl) ]
 ]
 message_counts s now client chosen (FromDrive d) (Replies r) =
     none_counts s client (on_message s now chosen (FromDrive d) (Replies r)).state
-    (elim (cases_Bool (counters_low s)) [ inl t ↦ rw t (same_reply s chosen d r) | inr z ↦ rw z refl ])
+    (elim (cases_Bool (counters_have_room s)) [ inl t ↦ rw t (same_reply s chosen d r) | inr z ↦ rw z refl ])
 message_counts s now client chosen FromServer (Orders o) =
     none_counts s client (on_message s now chosen FromServer (Orders o)).state
-    (elim (cases_Bool (counters_low s)) [ inl t ↦ rw t (same_ordered s chosen o.order o.target) | inr z ↦ rw z refl ])
+    (elim (cases_Bool (counters_have_room s)) [ inl t ↦ rw t (same_ordered s chosen o.order o.target) | inr z ↦ rw z refl ])
 message_counts s now client chosen from m =
-    none_counts s client (on_message s now chosen from m).state (elim (cases_Bool (counters_low s)) [ inl t ↦ rw t refl | inr z ↦ rw z refl ])
+    none_counts s client (on_message s now chosen from m).state (elim (cases_Bool (counters_have_room s)) [ inl t ↦ rw t refl | inr z ↦ rw z refl ])
 
 pub step_counts : (s : Server) (client : ℕ) (chosen : List ℕ) (i : Input) → Counts s client (carried_by s client i) (step s chosen i).state
 step_counts s client chosen (Hears now from m) = message_counts s now client chosen from m
@@ -226,7 +226,7 @@ count_on s client (a ∷ acts) =
 
 pub others_change_nothing : OtherRequestsChangeNothing
 unfolding on_message
-others_change_nothing s now client chosen q e = elim (cases_Bool (counters_low s)) [
+others_change_nothing s now client chosen q e = elim (cases_Bool (counters_have_room s)) [
   | inl l ↦ elim (cases_Bool ((q.client == client) && nat_le client MAX_CLIENT)) [
     | inl y ↦ rw (l, y) (not_carried s now chosen q (subst (λ c. where_new (admit (slot_of s.slots c) q.sequence) q.sequence ≡ []) (sym (is_client y))
         (rw (eq-eqb client client refl, l, y) at e)))

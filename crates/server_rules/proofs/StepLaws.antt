@@ -5,7 +5,7 @@ use Rattle.std.proofs.lemmas.Bool.{cases_Bool}
 use Rattle.osd_lists.specs.declared.node.Node.{Node}
 use Rattle.osd_lists.specs.declared.node.Node.TheVariants.{Server as FromServer, Drive as FromDrive, Client as FromClient}
 use Rattle.server_rules.specs.declared.limits.TheConstants.{MAX_CLIENT, GREATEST_TAG}
-use Rattle.server_rules.specs.State.{Server, File, Kept, Drive, JobKind, Job, ClientRequest, Reply, OrderKind, ToRecall, ToRevoke, ToDeclare, ToRebuild, ToAudit, Moved, RawMap, Refusal, Revoking, Rebuilding, Auditing}
+use Rattle.server_rules.specs.State.{Server, File, Kept, Drive, JobKind, Job, ClientRequest, Reply, OrderKind, ToRecall, ToRevoke, ToDeclare, ToRebuild, ToAudit, Effects, RawMap, Refusal, Revoking, Rebuilding, Auditing}
 use Rattle.server_rules.specs.Slots.{Admit, New, Again, Misordered, admit, slot_of}
 use Rattle.server_rules.specs.Going.{Going}
 use Rattle.server_rules.specs.Jobs.{making, declares, fence_begins}
@@ -13,7 +13,7 @@ use Rattle.server_rules.specs.Replies.{on_reply}
 use Rattle.server_rules.specs.Files.{file_at, at_file}
 use Rattle.server_rules.specs.Requests.{serves, carries_out, by_admit, on_request}
 use Rattle.server_rules.specs.Making.{new_server, refusal, unless_refused, makes_file, with_file, unmade, places, create_file}
-use Rattle.server_rules.specs.Messages.{heard_at, or_else, by_heard, on_drive_reply, Message, Asks, Replies, Orders, handled, on_message, counters_low}
+use Rattle.server_rules.specs.Messages.{heard_at, or_else, by_heard, on_drive_reply, Message, Asks, Replies, Orders, handled, on_message, counters_have_room}
 use Rattle.server_rules.specs.Orders.{begins_job, starts, recalls_on, declares_each, declare, declares_known, ordered}
 use Rattle.server_rules.specs.Openings.{crashed_file, opens, opens_each, reopen}
 use Rattle.server_rules.specs.History.{Input, Hears, Makes, Obeys, Adds, Formats, Resends, Crashes, Opens, Act, step, state_after, unless_made}
@@ -110,12 +110,12 @@ pub safe_recalls : (s : Server) (o : Option File) → AreSafe s.files → AreSaf
 safe_recalls s None h = h
 safe_recalls s (Some f) h = h
 
-pub safe_each : (drive : ℕ) (ds : List Drive) (fs : List File) (m : Moved) (chosen : List ℕ) → AreSafe fs → AreSafe (declares_each drive ds fs m chosen).files
+pub safe_each : (drive : ℕ) (ds : List Drive) (fs : List File) (m : Effects) (chosen : List ℕ) → AreSafe fs → AreSafe (declares_each drive ds fs m chosen).files
 unfolding declares_each
 safe_each drive ds [] m chosen h = tt
 safe_each drive ds (f ∷ fs) m chosen h =
-    let g : Going = declares (record { file = f; moved = m; drives = ds; chosen = chosen }) drive
-    in ((leaves_declared (record { file = f; moved = m; drives = ds; chosen = chosen }) drive h.0).safe, safe_each drive ds fs g.moved g.chosen h.1)
+    let g : Going = declares (record { file = f; effects = m; drives = ds; chosen = chosen }) drive
+    in ((leaves_declared (record { file = f; effects = m; drives = ds; chosen = chosen }) drive h.0).safe, safe_each drive ds fs g.effects g.chosen h.1)
 
 pub safe_declared : (s : Server) (chosen : List ℕ) (drive : ℕ) (b : Bool) → AreSafe s.files → AreSafe (declares_known s chosen drive b).step.state.files
 unfolding declare
@@ -143,7 +143,7 @@ safe_handled s now chosen from m h = h
 
 pub safe_message : (s : Server) (now : ℕ) (chosen : List ℕ) (from : Node) (m : Message) → AreSafe s.files → AreSafe (on_message s now chosen from m).state.files
 unfolding on_message
-safe_message s now chosen from m h = elim (cases_Bool (counters_low s)) [
+safe_message s now chosen from m h = elim (cases_Bool (counters_have_room s)) [
   | inl t ↦ rw t (safe_handled s now chosen from m h)
   | inr z ↦ rw z h
 ]
@@ -164,16 +164,16 @@ pub safe_crashed : (fs : List File) → AreSafe fs → AreSafe (map crashed_file
 safe_crashed [] h = tt
 safe_crashed (f ∷ fs) h = (record { rests = tt; apart = h.0.apart; alone = tt }, safe_crashed fs h.1)
 
-pub safe_opened : (format : ℕ) (ds : List Drive) (fs : List File) (m : Moved) → AreSafe fs → AreSafe (opens_each format ds fs m).files
+pub safe_opened : (format : ℕ) (ds : List Drive) (fs : List File) (m : Effects) → AreSafe fs → AreSafe (opens_each format ds fs m).files
 unfolding opens_each
 safe_opened format ds [] m h = tt
 safe_opened format ds (f ∷ fs) m h =
-    let g : Going = opens format (record { file = f; moved = m; drives = ds; chosen = [] })
-    in ((leaves_opened format (record { file = f; moved = m; drives = ds; chosen = [] }) h.0).safe, safe_opened format ds fs g.moved h.1)
+    let g : Going = opens format (record { file = f; effects = m; drives = ds; chosen = [] })
+    in ((leaves_opened format (record { file = f; effects = m; drives = ds; chosen = [] }) h.0).safe, safe_opened format ds fs g.effects h.1)
 
 pub safe_reopened : (s : Server) → AreSafe s.files → AreSafe (reopen s).state.files
 unfolding reopen
-safe_reopened s h = elim (cases_Bool (counters_low s)) [ inl t ↦ rw t (safe_opened s.format s.drives s.files _ h) | inr z ↦ rw z h ]
+safe_reopened s h = elim (cases_Bool (counters_have_room s)) [ inl t ↦ rw t (safe_opened s.format s.drives s.files _ h) | inr z ↦ rw z h ]
 
 -- ---- every step
 
@@ -242,7 +242,7 @@ one_handled s now chosen from m h d = one_of_none s.files
 
 pub one_message : (s : Server) (now : ℕ) (chosen : List ℕ) (from : Node) (m : Message) → AreSafe s.files → tells_to_declare m ≡ false → One s.files (on_message s now chosen from m).state.files
 unfolding on_message
-one_message s now chosen from m h d = elim (cases_Bool (counters_low s)) [
+one_message s now chosen from m h d = elim (cases_Bool (counters_have_room s)) [
   | inl t ↦ rw t (one_handled s now chosen from m h d)
   | inr z ↦ rw z (one_of_none s.files)
 ]

@@ -17,19 +17,19 @@ use Rattle.server_rules.specs.Layouts.{stateid_of, granted}
 
 -- ---- results
 
--- of a LAYOUTGET that is refused
+-- the result of a LAYOUTGET that is refused
 abbrev pub get_refused : (status : ℕ) → LayoutGetResult
 get_refused status = if status == NFS4ERR_LAYOUTTRYLATER then get.TryLater false else get.Refused status
 
--- of a LAYOUTCOMMIT; no new size is told
+-- the result of a LAYOUTCOMMIT, which tells no new size
 abbrev pub commit_result : (status : ℕ) → LayoutCommitResult
 commit_result status = if status == NFS4_OK then commit.Committed None else commit.Refused status
 
--- of a LAYOUTRETURN; the client has no layout of the file left
+-- the result of a LAYOUTRETURN: the client has no layout of the file left
 abbrev pub return_result : (status : ℕ) → LayoutReturnResult
 return_result status = if status == NFS4_OK then return.Returned None else return.Refused status
 
--- of a status that comes with no layout
+-- the results of a request that is answered with a status and no layout
 abbrev pub result_of : RequestArgs → (status : ℕ) → Results
 result_of (Get iomode offset count) status = results.LayoutGet (get_refused status)
 result_of (Commit last) status = results.LayoutCommit (commit_result status)
@@ -63,7 +63,7 @@ file_answer ds f q t = answer q t.detail f.size (result_with ds f q.args t.statu
 
 -- ---- recalls
 
--- of a grant: all layouts of the file, by the low 32 bits of the count
+-- the recall of a grant: all layouts of the file, numbered by the low 32 bits of the count
 abbrev pub recall_of : Grant → (count : ℕ) → Recall
 recall_of g count = record {
   client = g.client;
@@ -79,7 +79,7 @@ recall_of g count = record {
   };
 }
 
--- of several, with rising numbers
+-- the recalls of several grants, with rising numbers
 unfoldable pub recalls_from : (count : ℕ) → List Grant → List Outgoing
 recalls_from n [] = []
 recalls_from n (g ∷ gs) = Recalls (recall_of g n) ∷ recalls_from (n + 1) gs

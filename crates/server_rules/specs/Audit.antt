@@ -31,7 +31,7 @@ present_lengths ms (at ∷ cs) k =
 
 -- ---- the audit
 
--- it is over: the stripes that were bad and aren't short are bad
+-- the audit is over: the stripes that were bad and aren't short are bad
 abbrev pub audited : Going → Tally → Going
 audited g t =
     over (noting g (Audit g.file.kept.high (length t.short) (length (filter (λ s. not (among s t.short)) t.bad))
@@ -41,11 +41,11 @@ audited g t =
 abbrev pub tallied : Kept → Piece → Tally → Tally
 tallied f p t = record t { short = short_with f p t.short }
 
--- it goes on with these pieces
+-- the audit goes on with these pieces
 unfoldable pub audits : Going → List Piece → Tally → Going
 audits g [] t = audited g t
 audits g (p ∷ ps) t =
-    rests_or (reads g.file.kept p g.moved.nonce) g Auditing (Checks (p ∷ ps) (tallied g.file.kept p t))
+    rests_or (reads g.file.kept p g.effects.nonce) g Auditing (Checks (p ∷ ps) (tallied g.file.kept p t))
     (audits g ps (tallied g.file.kept p t))
 
 -- the rows of a piece are read
@@ -59,6 +59,6 @@ abbrev pub audits_all : Going → List Heard → Going
 audits_all g heard = audits g (pieces_along g.file.kept.map.unit 0 g.file.kept.high)
     (record { lengths = lengths_of heard; short = []; bad = [] })
 
--- it begins
+-- an audit begins
 unfoldable pub audit_begins : Going → Going
-audit_begins g = rests_or (to_all g.file.kept All Measuring g.moved.nonce) g Auditing Lengths (audits_all g [])
+audit_begins g = rests_or (to_all g.file.kept All Measuring g.effects.nonce) g Auditing Lengths (audits_all g [])

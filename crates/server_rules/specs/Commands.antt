@@ -87,7 +87,7 @@ pub data Which : Type 0 where
   OfGroup : (group : ℕ) → Which
   FirstsOf : (group : ℕ) → Which
 
--- this is component k
+-- component k is that component, if there is one
 abbrev pub is_first : Kept → (k : ℕ) → Option ℕ → Bool
 is_first f k None = false
 is_first f k (Some j) = k == j
@@ -100,7 +100,7 @@ is_meant f (OfGroup group) k = group_with f.map k == group
 is_meant f (FirstsOf group) k =
     (group_with f.map k == group) && is_first f k (replica f.map f.components (k / replicas f.map))
 
--- the same to each present component that is meant, from number k on, with rising nonces
+-- the same command to each present component that is meant, from number k on, with rising nonces
 unfoldable pub to_each : Kept → Which → Ask → List Component → (k nonce : ℕ) → List Awaited
 to_each f which ask [] k nonce = []
 to_each f which ask (at ∷ cs) k nonce =
@@ -108,7 +108,7 @@ to_each f which ask (at ∷ cs) k nonce =
     then sent_to f ask k at.drive at.object nonce ∷ to_each f which ask cs (k + 1) (nonce + 1)
     else to_each f which ask cs (k + 1) nonce
 
--- the same over all components of the file
+-- the same command to each component of the file that is meant
 abbrev pub to_all : Kept → Which → Ask → (nonce : ℕ) → List Awaited
 to_all f which ask nonce = to_each f which ask f.components 0 nonce
 

@@ -85,7 +85,7 @@ receiver (Recalls r) = AClient r.client
 receiver (Answers a) = AClient a.client
 receiver (AnswersOrder a) = TheServer
 
--- and as which bytes
+-- the bytes that a message is sent as
 abbrev pub bytes_of : Outgoing → List ℕ
 bytes_of (ToDrive drive c) = Commands.spelling c
 bytes_of (Recalls r) = envelope_item (envelope.Recall r)

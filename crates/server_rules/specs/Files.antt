@@ -1,6 +1,6 @@
 -- The server's files in order of their numbers, and what a step leaves.
 use Rattle.std.specs.Prelude.{ℕ, List, [], ◌∷◌, Option, Some, None, ◌==◌, nat_lt, if◌then◌else◌, map}
-use Rattle.server_rules.specs.State.{Server, File, Awaited, Drive, Moved, Note, Mended, Outgoing, ToDrive}
+use Rattle.server_rules.specs.State.{Server, File, Awaited, Drive, Effects, Note, Mended, Outgoing, ToDrive}
 use Rattle.server_rules.specs.Commands.{sealed}
 use Rattle.server_rules.specs.Going.{Going}
 
@@ -35,12 +35,12 @@ abbrev pub still : Server → Step
 still s = record { state = s; sends = []; notes = []; mended = [] }
 
 -- a step begins, and nothing is sent yet
-abbrev pub begins : Server → Moved
+abbrev pub begins : Server → Effects
 begins s = record { nonce = s.next_nonce; object = s.next_object; sent = []; notes = []; mended = [] }
 
 -- a step at a file begins
 abbrev pub at_file : Server → (chosen : List ℕ) → File → Going
-at_file s chosen f = record { file = f; moved = begins s; drives = s.drives; chosen = chosen }
+at_file s chosen f = record { file = f; effects = begins s; drives = s.drives; chosen = chosen }
 
 -- a command goes to its drive, sealed
 abbrev pub to_drive : List Drive → Awaited → Outgoing
@@ -54,15 +54,15 @@ to_drives ds cs = map (to_drive ds) cs
 abbrev pub after_going : Server → (number : ℕ) → Going → Server
 after_going s n g = record s {
   files = put_file s.files n g.file;
-  next_nonce = g.moved.nonce;
-  next_object = g.moved.object;
+  next_nonce = g.effects.nonce;
+  next_object = g.effects.object;
 }
 
 -- the step of a file that sends to drives alone
 abbrev pub step_at : Server → (number : ℕ) → Going → Step
 step_at s n g = record {
   state = after_going s n g;
-  sends = to_drives s.drives g.moved.sent;
-  notes = g.moved.notes;
-  mended = g.moved.mended;
+  sends = to_drives s.drives g.effects.sent;
+  notes = g.effects.notes;
+  mended = g.effects.mended;
 }

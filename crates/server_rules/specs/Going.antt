@@ -1,11 +1,11 @@
 -- A file in the middle of a step, with what the step did so far.
 use Rattle.std.specs.Prelude.{ℕ, Bool, List, [], ◌∷◌, ◌++◌, Some, None, ◌+◌, length, if◌then◌else◌}
-use Rattle.server_rules.specs.State.{File, Kept, Job, JobKind, Work, Awaited, Heard, NoteKind, Moved, Drive, Component}
+use Rattle.server_rules.specs.State.{File, Kept, Job, JobKind, Work, Awaited, Heard, NoteKind, Effects, Drive, Component}
 
 -- `chosen` are the drives that the placer names where it is asked, in order
 pub record Going : Type 0 where
   pub file : File
-  pub moved : Moved
+  pub effects : Effects
   pub drives : List Drive
   pub chosen : List ℕ
 
@@ -15,7 +15,7 @@ pub record Going : Type 0 where
 abbrev pub keeping : Going → Kept → Going
 keeping g k = record g { file = record g.file { kept = k } }
 
--- its components become these
+-- the file's components become these
 abbrev pub with_components : Going → List Component → Going
 with_components g cs = keeping g (record g.file.kept { components = cs })
 
@@ -25,23 +25,23 @@ over g = record g { file = record g.file { job = None } }
 
 -- ---- what the step did
 
--- a note on the file
+-- the step notes this of the file
 abbrev pub noting : Going → NoteKind → Going
 noting g n =
     record g {
-      moved = record g.moved {
-        notes = g.moved.notes
+      effects = record g.effects {
+        notes = g.effects.notes
             ++ (record { file = g.file.kept.number; kind = n } ∷ []);
       };
     }
 
--- a note where the test holds
+-- the step notes this of the file if the test holds
 abbrev pub noting_if : Bool → Going → NoteKind → Going
-noting_if b g n = record g { moved = record g.moved { notes = if b then (noting g n).moved.notes else g.moved.notes } }
+noting_if b g n = record g { effects = record g.effects { notes = if b then (noting g n).effects.notes else g.effects.notes } }
 
--- these commands are sent
+-- the step sends these commands
 abbrev pub sending : Going → List Awaited → Going
-sending g cs = record g { moved = record g.moved { nonce = g.moved.nonce + length cs; sent = g.moved.sent ++ cs } }
+sending g cs = record g { effects = record g.effects { nonce = g.effects.nonce + length cs; sent = g.effects.sent ++ cs } }
 
 -- the job sends a command and others, and rests until they are answered
 abbrev pub rests : Going → JobKind → Work → Awaited → List Awaited → Going

@@ -20,7 +20,7 @@ grant_of gs client = find (λ g. g.client == client) gs
 abbrev pub without : List Grant → (client : ℕ) → List Grant
 without gs client = filter (λ g. not (g.client == client)) gs
 
--- those that conflict with a grant
+-- the grants that conflict with a grant
 abbrev pub against : List Grant → Grant → List Grant
 against gs g = filter (conflicts g) gs
 

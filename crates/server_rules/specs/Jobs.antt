@@ -14,9 +14,9 @@ use Rattle.server_rules.specs.Repair.{repairs, storing, stored, repair_begins}
 abbrev pub is_made : Going → Going
 is_made g = over (noting (keeping g (record g.file.kept { ready = true })) Ready)
 
--- its present components are made
+-- the file's present components are made
 unfoldable pub making : Going → Going
-making g = rests_or (to_all g.file.kept All Creating g.moved.nonce) g Making Creates (is_made g)
+making g = rests_or (to_all g.file.kept All Creating g.effects.nonce) g Making Creates (is_made g)
 
 -- ---- the fence
 
@@ -44,7 +44,7 @@ fenced kind g =
 
 -- the present components are sent the next tag
 abbrev pub fences : JobKind → Going → Going
-fences kind g = rests_or (to_all g.file.kept All Raising g.moved.nonce) g kind Fences (fenced kind g)
+fences kind g = rests_or (to_all g.file.kept All Raising g.effects.nonce) g kind Fences (fenced kind g)
 
 -- a fence starts
 unfoldable pub fence_begins : JobKind → (format : ℕ) → Going → Going
@@ -57,17 +57,17 @@ abbrev pub fetched : JobKind → Going → List Piece → List ℕ → List Hear
 fetched kind g [] short heard = repairs kind g [] short
 fetched kind g (p ∷ ps) short heard = storing kind g p ps short heard
 
--- its WRITEs are answered
+-- the WRITEs of the first piece are answered
 abbrev pub written : JobKind → Going → List Piece → List ℕ → Bool → Going
 written kind g [] short broken = repairs kind g [] short
 written kind g (p ∷ ps) short broken = stored kind g p ps short broken
 
--- the sources of the first piece are read
+-- the sources of the first piece are read, and what it holds is made of them
 abbrev pub gathered : Going → Target → List Piece → List Heard → Going
 gathered g t [] heard = fills g t []
 gathered g t (p ∷ ps) heard = filling g t p ps (made g.file.kept t p heard)
 
--- it is written to the target
+-- the first piece is written to the target
 abbrev pub filled_in : Going → Target → List Piece → Going
 filled_in g t [] = fills g t []
 filled_in g t (p ∷ ps) = fills g t ps
@@ -126,7 +126,7 @@ loses g j work rest gone = waits_or_on g j work rest j.heard
 
 -- ---- a drive is declared
 
--- those that another drive is to answer
+-- the commands that another drive is to answer
 abbrev pub others_than : (drive : ℕ) → List Awaited → List Awaited
 others_than drive cs = filter (λ a. not (a.drive == drive)) cs
 

@@ -11,7 +11,7 @@ use Rattle.server_rules.specs.Going.{Going}
 use Rattle.server_rules.specs.Slots.{Admit, New, Again, Misordered, slot_of, admit, keep}
 use Rattle.server_rules.specs.Files.{file_at, put_file}
 use Rattle.server_rules.specs.Requests.{only_answers, on_request}
-use Rattle.server_rules.specs.Messages.{Message, Asks, Orders, counters_low}
+use Rattle.server_rules.specs.Messages.{Message, Asks, Orders, counters_have_room}
 use Rattle.server_rules.specs.Making.{new_server}
 use Rattle.server_rules.specs.History.{Input, Hears, Obeys, Crashes, Opens, Act, step, state_after}
 
@@ -27,7 +27,7 @@ pub record AreCompatible (a b : Grant) : Type 0 where
   pub bounded : (a.extending ≡ false) × (b.extending ≡ false)
   pub reading : (s : ℕ) → a.first ≤ s → s < a.end → b.first ≤ s → s < b.end → (a.rw ≡ false) × (b.rw ≡ false)
 
--- so it is exactly with grants of different clients that don't conflict
+-- grants of different clients don't conflict exactly where that holds of them
 abbrev pub ConflictsAreExact : Type 0
 ConflictsAreExact =
     (a b : Grant) → (a.client ≡ b.client → ⊥) → (conflicts a b ≡ false → AreCompatible a b) ×
@@ -60,7 +60,7 @@ NoneBeside (Some j) gs = gs ≡ []
 abbrev pub IsSafe : File → Type 0
 IsSafe f = record { rests : Rests f.job; apart : Apart f.kept.grants; alone : NoneBeside f.job f.kept.grants }
 
--- of all files
+-- all of that holds of each file
 abbrev pub AreSafe : List File → Type 0
 AreSafe [] = Unit {0}
 AreSafe (f ∷ fs) = IsSafe f × AreSafe fs
@@ -84,7 +84,7 @@ Leaves k g = record { number : g.file.kept.number ≡ k.number; safe : IsSafe g.
 abbrev pub EachStepIsSafe : Type 0
 EachStepIsSafe = (s : Server) (chosen : List ℕ) (i : Input) → AreSafe s.files → AreSafe (step s chosen i).state.files
 
--- so they hold after all that may come to a new server
+-- all of that holds of each file, whatever came to a new server
 abbrev pub EveryRunIsSafe : Type 0
 EveryRunIsSafe = (ds : List Drive) (acts : List Act) → AreSafe (state_after (new_server ds) acts).files
 
@@ -133,7 +133,7 @@ where_new (Misordered expected) n = []
 
 -- the message is taken as a request of that client
 abbrev pub is_taken_of : Server → (client from : ℕ) → ClientRequest → Bool
-is_taken_of s client from q = (from == client) && (counters_low s && ((q.client == from) && nat_le from MAX_CLIENT))
+is_taken_of s client from q = (from == client) && (counters_have_room s && ((q.client == from) && nat_le from MAX_CLIENT))
 
 -- the sequence number of the client's request that is carried out for this message, if any
 abbrev pub carried_for : Server → (client : ℕ) → Node → Message → List ℕ
@@ -141,12 +141,12 @@ carried_for s client (FromClient c) (Asks q) =
     if is_taken_of s client c q then where_new (admit (slot_of s.slots client) q.sequence) q.sequence else []
 carried_for s client from m = []
 
--- the same of an input
+-- the client's requests that an input has carried out
 abbrev pub carried_by : Server → (client : ℕ) → Input → List ℕ
 carried_by s client (Hears now from m) = carried_for s client from m
 carried_by s client i = []
 
--- those of the inputs that come one after another
+-- the client's requests that are carried out over inputs that come one after another
 unfoldable pub carried : Server → (client : ℕ) → List Act → List ℕ
 carried s client [] = []
 carried s client (a ∷ acts) = carried_by s client a.input ++ carried (step s a.chosen a.input).state client acts

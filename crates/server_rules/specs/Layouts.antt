@@ -39,7 +39,7 @@ capability_on f g at rows = record {
   range_len = (rows.end - rows.first) * f.map.unit;
 }
 
--- of component k: the rows that the granted stripes have there
+-- the capability for component k: the rows that the granted stripes have there
 abbrev pub capability_for : Kept → Grant → Component → (k : ℕ) → Capability
 capability_for f g at k = capability_on f g at (rows_in f.map (group_with f.map k) g.first g.end)
 
@@ -87,7 +87,7 @@ unfoldable pub credential : List Drive → Kept → Grant → Component → (k :
 credential ds f g at k =
     credential_with at (key_of (key_at ds at.drive) (capability_for f g at k)) (capability_for f g at k)
 
--- those of the components from number k on; a missing one has no capability
+-- the credentials of the components from number k on; a missing one has no capability
 unfoldable pub credentials_from : List Drive → Kept → Grant → List Component → (k : ℕ) → List ObjectCred
 credentials_from ds f g [] k = []
 credentials_from ds f g (at ∷ cs) k =
@@ -103,7 +103,7 @@ layout_for ds f g = record {
   olo_components = credentials_from ds f g f.components 0;
 }
 
--- as an answer carries it
+-- the layout as the bytes of an answer
 unfoldable pub body_of : Layout → List ℕ
 body_of l = layout_item l
 

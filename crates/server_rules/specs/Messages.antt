@@ -10,14 +10,14 @@ use Rattle.server_rules.specs.Files.{Step, still, at_file, to_drives, step_at}
 use Rattle.server_rules.specs.Requests.{on_request}
 use Rattle.server_rules.specs.Orders.{ordered, with_result}
 
--- the counters of 64 bits have room
-unfoldable pub counters_low : Server → Bool
-counters_low s =
+-- the counters of 64 bits have room: each is below COUNTERS_END
+unfoldable pub counters_have_room : Server → Bool
+counters_have_room s =
     nat_lt s.next_nonce COUNTERS_END && (nat_lt s.next_object COUNTERS_END && nat_lt s.next_recall COUNTERS_END)
 
 -- ---- a drive's reply
 
--- the first of two that there is
+-- the first of two that there is, of files that may have heard a reply
 abbrev pub or_else : Option Going → Option Going → Option Going
 or_else None later = later
 or_else (Some g) later = Some g
@@ -32,7 +32,7 @@ abbrev pub by_heard : Server → Option Going → Step
 by_heard s None = still s
 by_heard s (Some g) = step_at s g.file.kept.number g
 
--- a reply of a drive
+-- the step of a drive's reply
 unfoldable pub on_drive_reply : Server → (chosen : List ℕ) → (drive : ℕ) → Reply → Step
 on_drive_reply s chosen drive r = by_heard s (heard_at s chosen drive r s.files)
 
@@ -44,7 +44,7 @@ pub data Message : Type 0 where
   Replies : Reply → Message
   Orders : Order → Message
 
--- a message, by who sent it
+-- the step of a message, by who sent it
 abbrev pub handled : Server → (now : ℕ) → (chosen : List ℕ) → Node → Message → Step
 handled s now chosen (FromClient c) (Asks q) =
     if (q.client == c) && nat_le c MAX_CLIENT then on_request s now chosen q else still s
@@ -52,13 +52,13 @@ handled s now chosen (FromDrive d) (Replies r) = on_drive_reply s chosen d r
 handled s now chosen FromServer (Orders o) = with_result o.order (ordered s chosen o.order o.target)
 handled s now chosen from message = still s
 
--- any message; none is taken while the counters are high
+-- the step of a message; none is taken while a counter has no room
 unfoldable pub on_message : Server → (now : ℕ) → (chosen : List ℕ) → Node → Message → Step
-on_message s now chosen from message = if counters_low s then handled s now chosen from message else still s
+on_message s now chosen from message = if counters_have_room s then handled s now chosen from message else still s
 
 -- ---- what is awaited, once more
 
--- what a job waits for
+-- the commands that a job waits for
 abbrev pub awaited_by : Option Job → List Awaited
 awaited_by None = []
 awaited_by (Some j) = j.awaited

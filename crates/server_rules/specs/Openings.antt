@@ -1,12 +1,12 @@
 -- A crash of the server, and the opening after it.
 use Rattle.std.specs.Prelude.{ℕ, Bool, true, false, List, [], ◌∷◌, None, ◌==◌, ◌||◌, not, nat_lt, length, map, if◌then◌else◌}
 use Rattle.server_rules.specs.declared.limits.TheConstants.{GREATEST_TAG}
-use Rattle.server_rules.specs.State.{Server, File, Kept, Drive, Phase, Still, Moved, Revoking, Spent}
+use Rattle.server_rules.specs.State.{Server, File, Kept, Drive, Phase, Still, Effects, Revoking, Spent}
 use Rattle.server_rules.specs.Going.{Going, over, noting}
 use Rattle.server_rules.specs.Jobs.{making, fence_begins}
 use Rattle.server_rules.specs.Files.{Step, still, begins}
 use Rattle.server_rules.specs.Rounds.{Round, then_files, step_round}
-use Rattle.server_rules.specs.Messages.{counters_low}
+use Rattle.server_rules.specs.Messages.{counters_have_room}
 
 -- what is kept of a file
 abbrev pub crashed_file : File → File
@@ -23,11 +23,11 @@ abbrev pub is_still : Phase → Bool
 is_still Still = true
 is_still phase = false
 
--- it has a grant that nothing ended, or a fence that no repair followed
+-- the file has a grant that nothing ended, or a fence that no repair followed
 abbrev pub is_unsettled : Kept → Bool
 is_unsettled f = nat_lt 0 (length f.grants) || not (is_still f.phase)
 
--- its CREATEs go again where it isn't ready
+-- the file's CREATEs go again if it isn't ready
 abbrev pub opens_made : Going → (ready : Bool) → Going
 opens_made g true = over g
 opens_made g false = making g
@@ -45,12 +45,12 @@ unfoldable pub opens : (format : ℕ) → Going → Going
 opens format g = if is_unsettled g.file.kept then opens_fenced format g else opens_made g g.file.kept.ready
 
 -- each file in order
-unfoldable pub opens_each : (format : ℕ) → List Drive → List File → Moved → Round
-opens_each format ds [] m = record { files = []; moved = m; chosen = [] }
+unfoldable pub opens_each : (format : ℕ) → List Drive → List File → Effects → Round
+opens_each format ds [] m = record { files = []; effects = m; chosen = [] }
 opens_each format ds (f ∷ fs) m =
-    let g : Going = opens format (record { file = f; moved = m; drives = ds; chosen = [] })
-    in then_files g (opens_each format ds fs g.moved)
+    let g : Going = opens format (record { file = f; effects = m; drives = ds; chosen = [] })
+    in then_files g (opens_each format ds fs g.effects)
 
 -- a server that crashed is opened
 unfoldable pub reopen : Server → Step
-reopen s = if counters_low s then step_round s (opens_each s.format s.drives s.files (begins s)) else still s
+reopen s = if counters_have_room s then step_round s (opens_each s.format s.drives s.files (begins s)) else still s

@@ -1,7 +1,7 @@
 -- Orders: recall, revoke, declare, rebuild, audit.
 use Rattle.std.specs.Prelude.{ℕ, Bool, true, false, List, [], ◌∷◌, ◌++◌, Option, Some, None, is_some, ◌+◌, ◌==◌, length, find, if◌then◌else◌}
 use Rattle.server_rules.specs.declared.limits.TheConstants.{GREATEST_TAG}
-use Rattle.server_rules.specs.State.{Server, File, Drive, Job, JobKind, Revoking, Rebuilding, Auditing, OrderKind, ToRecall, ToRevoke, ToDeclare, ToRebuild, ToAudit, AnswersOrder, OrderResult, HasStarted, IsBusy, IsSpent, IsUnknown, Moved, Spent, Busy}
+use Rattle.server_rules.specs.State.{Server, File, Drive, Job, JobKind, Revoking, Rebuilding, Auditing, OrderKind, ToRecall, ToRevoke, ToDeclare, ToRebuild, ToAudit, AnswersOrder, OrderResult, HasStarted, IsBusy, IsSpent, IsUnknown, Effects, Spent, Busy}
 use Rattle.server_rules.specs.Going.{Going, noting}
 use Rattle.server_rules.specs.Jobs.{fence_begins, declares}
 use Rattle.server_rules.specs.Get.{lowest}
@@ -58,17 +58,17 @@ recalls_on s (Some f) = recalls s f
 
 -- ---- a drive is declared
 
--- it is offline
+-- the drive is offline
 unfoldable pub offline : List Drive → (drive : ℕ) → List Drive
 offline [] drive = []
 offline (d ∷ ds) drive = (if d.number == drive then record d { online = false } else d) ∷ offline ds drive
 
--- and at each file, in order, its components are missing
-unfoldable pub declares_each : (drive : ℕ) → List Drive → List File → Moved → (chosen : List ℕ) → Round
-declares_each drive ds [] m chosen = record { files = []; moved = m; chosen = chosen }
+-- at each file, in order, the components on the drive are missing
+unfoldable pub declares_each : (drive : ℕ) → List Drive → List File → Effects → (chosen : List ℕ) → Round
+declares_each drive ds [] m chosen = record { files = []; effects = m; chosen = chosen }
 declares_each drive ds (f ∷ fs) m chosen =
-    let g : Going = declares (record { file = f; moved = m; drives = ds; chosen = chosen }) drive
-    in then_files g (declares_each drive ds fs g.moved g.chosen)
+    let g : Going = declares (record { file = f; effects = m; drives = ds; chosen = chosen }) drive
+    in then_files g (declares_each drive ds fs g.effects g.chosen)
 
 -- the server without the drive
 abbrev pub with_offline : Server → (drive : ℕ) → Server
@@ -94,7 +94,7 @@ ordered s chosen ToDeclare n = declares_known s chosen n (is_some (find (λ d. d
 ordered s chosen ToRebuild n = starts s chosen Rebuilding (file_at s.files n)
 ordered s chosen ToAudit n = starts s chosen Auditing (file_at s.files n)
 
--- the order with its answer behind
+-- the step of an order, with the answer behind all else that it sends
 abbrev pub with_result : OrderKind → Ordered → Step
 with_result kind o =
     record o.step { sends = o.step.sends ++ (AnswersOrder (record { order = kind; result = o.result }) ∷ []) }

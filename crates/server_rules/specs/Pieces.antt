@@ -35,7 +35,7 @@ stores_from f p rows heard (at ∷ cs) k nonce =
     ∷ stores_from f p rows heard cs (k + 1) (nonce + 1)
     else stores_from f p rows heard cs (k + 1) nonce
 
--- the same over all components
+-- the WRITEs of a piece to all components whose rows differ
 abbrev pub stores : Kept → Piece → List Heard → (nonce : ℕ) → List Awaited
 stores f p heard nonce =
     stores_from f p (unit_rows f.map f.components p.stripe heard p.count) heard f.components 0 nonce

@@ -24,18 +24,18 @@ picked chosen (d ∷ ds) = Some (or_first chosen d ds)
 -- the component, on that drive, with the next object number
 abbrev pub target_on : Going → (k : ℕ) → Option ℕ → Option Target
 target_on g k None = None
-target_on g k (Some drive) = Some (record { component = k; drive = drive; object = g.moved.object })
+target_on g k (Some drive) = Some (record { component = k; drive = drive; object = g.effects.object })
 
 -- where component k is made anew: None where it isn't missing, or where no drive can take it
 unfoldable pub target_for : Going → Component → (k : ℕ) → Option Target
 target_for g at k =
     if at.missing then target_on g k (picked g.chosen (free_drives g.drives g.file.kept.components)) else None
 
--- its object is made; the number is used up, and so is the placer's answer
+-- the target's object is made: its number is used up, and so is the placer's answer
 abbrev pub makes : Going → Target → Going
-makes g t = rests (record g { moved = record g.moved { object = t.object + 1 }; chosen = drop 1 g.chosen }) Rebuilding
+makes g t = rests (record g { effects = record g.effects { object = t.object + 1 }; chosen = drop 1 g.chosen }) Rebuilding
     (Targets t)
-    (sent_to g.file.kept Creating t.component t.drive t.object g.moved.nonce) []
+    (sent_to g.file.kept Creating t.component t.drive t.object g.effects.nonce) []
 
 -- the object is made where there is a place for it, else this is what comes
 abbrev pub makes_or : Going → Option Target → Going → Going
@@ -61,7 +61,7 @@ rebuild_begins g = rebuilds g g.file.kept.components 0
 abbrev pub position_for : Kept → Target → ℕ
 position_for f t = t.component / replicas f.map
 
--- its group
+-- the group of the target's component
 abbrev pub group_for : Kept → Target → ℕ
 group_for f t = group_with f.map t.component
 
@@ -91,12 +91,12 @@ abbrev pub lost : Going → Target → Going
 lost g t =
     goes_past (noting g (Lost t.component (lacking g.file.kept.map g.file.kept.components (group_for g.file.kept t)))) t
 
--- it goes on with these pieces
+-- the rebuild of the component goes on with these pieces
 unfoldable pub fills : Going → Target → List Piece → Going
 fills g t [] = rebuilt g t
-fills g t (p ∷ ps) = rests_or (sources g.file.kept t p g.moved.nonce) g Rebuilding (Gathers t (p ∷ ps)) (lost g t)
+fills g t (p ∷ ps) = rests_or (sources g.file.kept t p g.effects.nonce) g Rebuilding (Gathers t (p ∷ ps)) (lost g t)
 
--- its object is made
+-- the target's object is made, and the pieces of the component come
 abbrev pub fills_all : Going → Target → Going
 fills_all g t = fills g t (pieces_in g.file.kept.map (group_for g.file.kept t) g.file.kept.high)
 
@@ -122,15 +122,15 @@ to_fill f t p bytes nonce =
 unfoldable pub filling : Going → Target → Piece → List Piece → List ℕ → Going
 filling g t p ps bytes =
     if nat_lt 0 (end_of bytes (replicate p.count 0))
-    then rests g Rebuilding (Fills t (p ∷ ps)) (to_fill g.file.kept t p bytes g.moved.nonce) []
+    then rests g Rebuilding (Fills t (p ∷ ps)) (to_fill g.file.kept t p bytes g.effects.nonce) []
     else fills g t ps
 
 -- ---- the end of its target
 
--- its drive was declared
+-- the target's drive was declared
 abbrev pub target_gone : Going → Target → Going
 target_gone g t = goes_past (noting g (NoDrive t.component)) t
 
--- its drive has no space
+-- the target's drive has no space
 abbrev pub target_full : Going → Target → Going
 target_full g t = goes_past (noting g (NoSpace t.component)) t

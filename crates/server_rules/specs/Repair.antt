@@ -23,8 +23,8 @@ mended g short =
     let h : Going = keeping (noting g (Repaired (count_stripes (merged g.file.kept.ended)) (length short)))
     (record g.file.kept { ended = []; phase = Still })
     in record h {
-      moved = record h.moved {
-        mended = h.moved.mended
+      effects = record h.effects {
+        mended = h.effects.mended
             ++ (record { file = g.file.kept.number; worked = merged g.file.kept.ended; short = short } ∷ []);
       };
     }
@@ -41,19 +41,19 @@ repair_reads f p nonce = if is_left f p then [] else reads f p nonce
 unfoldable pub repairs : JobKind → Going → List Piece → List ℕ → Going
 repairs kind g [] short = after_repair kind (mended g short)
 repairs kind g (p ∷ ps) short =
-    rests_or (repair_reads g.file.kept p g.moved.nonce) g kind (Fetches (p ∷ ps) (short_with g.file.kept p short))
+    rests_or (repair_reads g.file.kept p g.effects.nonce) g kind (Fetches (p ∷ ps) (short_with g.file.kept p short))
     (repairs kind g ps (short_with g.file.kept p short))
 
 -- the rows of a piece are read
 unfoldable pub storing : JobKind → Going → Piece → List Piece → List ℕ → List Heard → Going
 storing kind g p ps short heard =
-    rests_or (stores g.file.kept p heard g.moved.nonce) g kind (Stores (p ∷ ps) short false) (repairs kind g ps short)
+    rests_or (stores g.file.kept p heard g.effects.nonce) g kind (Stores (p ∷ ps) short false) (repairs kind g ps short)
 
 -- the rows of a piece are written; where a component became missing meanwhile, the piece begins again
 abbrev pub stored : JobKind → Going → Piece → List Piece → List ℕ → Bool → Going
 stored kind g p ps short true = repairs kind g (p ∷ ps) short
 stored kind g p ps short false = repairs kind g ps short
 
--- it begins
+-- a repair begins
 unfoldable pub repair_begins : JobKind → Going → Going
 repair_begins kind g = repairs kind g (pieces g.file.kept.map.unit (merged g.file.kept.ended)) []

@@ -61,7 +61,7 @@ renewed a b c = if c.command.nonce == a.command.nonce then b else c
 -- format 2 from now on, and the command again
 abbrev pub renews : Going → Job → Awaited → Going
 renews g j a =
-    let b : Awaited = again_in_2 a g.moved.nonce
+    let b : Awaited = again_in_2 a g.effects.nonce
     in record (sending g (b ∷ [])) {
       file = record g.file {
         kept = record g.file.kept { format = FORMAT_SHA256 };
@@ -92,7 +92,7 @@ hears g j a r Nothing = g
 
 -- ---- whom it is for
 
--- it comes from the drive and with the nonce of the command
+-- a reply answers a command if it comes from its drive and has its nonce
 abbrev pub answers : (drive : ℕ) → Reply → Awaited → Bool
 answers drive r a = (a.command.nonce == r.nonce) && (a.drive == drive)
 

@@ -21,7 +21,7 @@ use Rattle.server_rules.specs.Served.{Served, says}
 unfoldable pub is_device : List ℕ → (drive : ℕ) → Bool
 is_device bytes drive = (from_be_bytes w64 (take 8 bytes) == 0) && (from_be_bytes w64 (drop 8 bytes) == drive)
 
--- this is the component's object
+-- an object's name is that of the component's object
 abbrev pub is_at : ObjId → Component → Bool
 is_at o at = is_device o.oid_device_id at.drive
     && ((o.oid_partition_id == FIRST_PARTITION + at.drive) && (o.oid_object_id == at.object))
@@ -31,7 +31,7 @@ unfoldable pub named_from : IoErr → List Component → (k : ℕ) → Option �
 named_from e [] k = None
 named_from e (at ∷ cs) k = if is_at e.oer_component at then Some k else named_from e cs (k + 1)
 
--- its drive wasn't reached
+-- the error says that the drive wasn't reached
 abbrev pub is_unreachable : Errno → Bool
 is_unreachable Unreachable = true
 is_unreachable e = false
@@ -58,7 +58,7 @@ unfoldable pub none_beyond : RawMap → List Component → List ℕ → Bool
 none_beyond m cs [] = true
 none_beyond m cs (k ∷ ks) = not (is_beyond m cs (group_with m k)) && none_beyond m cs ks
 
--- it is the file's only grant, and for writing
+-- the grant is the file's only one, and for writing
 abbrev pub is_sole : Kept → Grant → Bool
 is_sole f g = g.rw && (length f.grants == 1)
 
@@ -111,7 +111,7 @@ unfoldable pub reports_from : Going → List ℕ → List Component → (k : ℕ
 reports_from go ks [] k = go
 reports_from go ks (at ∷ cs) k = reports_from (noting_if (among k ks) go (Reported k)) ks cs (k + 1)
 
--- these become missing
+-- the components of these numbers become missing
 unfoldable pub takes_loss : Going → List ℕ → Going
 takes_loss go ks =
     reports_from (keeping go (record go.file.kept { components = lose_from ks go.file.kept.components 0 })) ks

@@ -20,7 +20,7 @@ use Rattle.server_rules.specs.Files.{Step}
 use Rattle.server_rules.specs.Messages.{Asks, Replies}
 use Rattle.server_rules.specs.History.{Input, Hears, Event, step}
 
--- the same inputs, with what the server does
+-- the inputs of a row, with what the server does at each
 unfoldable pub done : Server → List Event → List Event
 done s [] = []
 done s (e ∷ es) =
@@ -31,7 +31,7 @@ done s (e ∷ es) =
 abbrev pub on : Input → List Note → List Outgoing → Event
 on i notes sends = record { act = record { input = i; chosen = [] }; notes = notes; sends = sends }
 
--- the same with what the placer names
+-- an event with the drives that the placer names
 abbrev pub placing : List ℕ → Event → Event
 placing drives e = record e { act = record e.act { chosen = drives } }
 

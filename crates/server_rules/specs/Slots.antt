@@ -19,7 +19,7 @@ admit_after last sequence =
     if (sequence == last + 1) && nat_lt last GREATEST_SEQUENCE then New
     else Misordered (min (last + 1) GREATEST_SEQUENCE)
 
--- the same number again, or another
+-- a request by its number: the next, the last again, or another
 unfoldable pub admit : Option Slot → (sequence : ℕ) → Admit
 admit None sequence = admit_after 0 sequence
 admit (Some s) sequence = if sequence == s.last then Again s.kept else admit_after s.last sequence

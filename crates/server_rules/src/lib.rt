@@ -33,4 +33,4 @@ pub use limits::{
 };
 pub use notes::{Mended, Note, NoteKind};
 pub use requests::{ClientRequest, RequestArgs};
-pub use server::{Drive, Moved, Outgoing, Refusal, Server, Slot};
+pub use server::{Drive, Effects, Outgoing, Refusal, Server, Slot};

@@ -50,7 +50,7 @@ pub struct Server {
 
 /// What a step did so far: the next nonce and object number, and what it sent and noted.
 #[derive(Debug, Drop)]
-pub struct Moved {
+pub struct Effects {
     pub nonce: u64,
     pub object: u64,
     pub sent: AwaitedCommands,

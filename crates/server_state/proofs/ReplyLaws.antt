@@ -9,7 +9,9 @@ use Rattle.std.specs.Map.{keys_of, set_value}
 use Rattle.std.proofs.Common.{arith, inl, inr, ap, sym, subst, ◌∙◌}
 use Rattle.std.proofs.lemmas.Bool.{cases_Bool}
 use Rattle.std.proofs.lemmas.Bool.Decides.{nat_tests}
+use Rattle.std.proofs.lemmas.List.Folds.{or-false}
 use Rattle.osd_lists.specs.declared.memory.Memory.{Memory}
+use Rattle.osd_lists.proofs.Tests.{same_number, at_number}
 use Rattle.server_rules.specs.declared.server.Server.{Server}
 use Rattle.server_rules.specs.Files.{Step as RulesStep}
 use Rattle.file_jobs.specs.declared.job.FileState.{FileState}
@@ -18,7 +20,6 @@ use Rattle.server_state.specs.declared.step.Step.{Step}
 use Rattle.server_state.specs.States.{Did}
 use Rattle.server_state.specs.Tables.{Table, entry_at, without}
 use Rattle.server_state.specs.Replies.{file_awaits, job_awaits, AreListed, AreListedBut, OthersStay}
-use Rattle.server_state.proofs.TableLaws.{at_number}
 
 -- ---- a list without and with what is awaited
 
@@ -39,9 +40,6 @@ on : (b a : Bool) → ((b && a) || (not b && a)) ≡ a
 on true true = refl
 on true false = refl
 on false a = refl
-
-pub same_number : (n m : ℕ) → (n == m) ≡ true → n ≡ m
-same_number n m e = grind (arith, nat_tests, e)
 
 -- what is at number n, also asked at m
 asked_there : (t : Table) (n m x d : ℕ) (o : Option FileState) → entry_at t n ≡ o → ((n == m) && file_awaits o x d) ≡ ((n == m) && file_awaits (entry_at t m) x d)
@@ -121,13 +119,9 @@ either true c = refl
 either false true = refl
 either false false = refl
 
-nothing_more : (b : Bool) → (b || false) ≡ b
-nothing_more true = refl
-nothing_more false = refl
-
 pub at_first : (t : Table) → IsStrictlySortedBy nat_cmp (keys_of t) → AreToList [] t t
 unfolding has
-at_first t s = record { listed = λ x d m. nothing_more (file_awaits (entry_at t m) x d); sorted = s }
+at_first t s = record { listed = λ x d m. or-false (file_awaits (entry_at t m) x d); sorted = s }
 
 next_listed : (n m x d : ℕ) (f : FileState) (rest : Table) (old : Bool) → entry_at rest n ≡ None →
     (file_awaits (entry_at rest m) x d || (((n == m) && job_awaits f.job x d) || old)) ≡ (file_awaits (entry_at ((n, f) ∷ rest) m) x d || old)

@@ -16,7 +16,7 @@ use Rattle.server_rules.specs.declared.files.Component.{Component}
 use Rattle.server_rules.specs.declared.grants.Grant.{Grant}
 use Rattle.server_rules.specs.declared.notes.NoteKind.TheVariants.{Reported}
 use Rattle.server_rules.specs.declared.server.Drive.{Drive}
-use Rattle.server_rules.specs.declared.server.Moved.{Moved}
+use Rattle.server_rules.specs.declared.server.Effects.{Effects}
 use Rattle.server_rules.specs.declared.jobs.JobKind.TheVariants.{Revoking}
 use Rattle.server_rules.specs.Numbers.{among}
 use Rattle.server_rules.specs.Standing.{lose_from}
@@ -33,7 +33,7 @@ use Rattle.server_state.specs.declared.outcome.Asking.{Asking}
 use Rattle.server_state.specs.FileRequests.{Serves, served_by, reported, waited, gets_for}
 
 -- notes of components, at a file in a step
-reports_as : (f : FileState) (ks : List ℕ) (cs : List Component) (k : ℕ) (m : Moved) (ds : List Drive) (chosen : List ℕ) →
+reports_as : (f : FileState) (ks : List ℕ) (cs : List Component) (k : ℕ) (m : Effects) (ds : List Drive) (chosen : List ℕ) →
     reports_from (at f m ds chosen) ks cs k ≡ at f (reported ks cs k f.kept.number m) ds chosen
 unfolding reports_from reported
 reports_as f ks [] k m ds chosen = refl
@@ -43,7 +43,7 @@ reports_as f ks (c ∷ cs) k m ds chosen = elim (cases_Bool (among k ks)) [
 ]
 
 -- components become missing by a report
-pub loss_steps : (f new : FileState) (ks : List ℕ) (was is : Moved) →
+pub loss_steps : (f new : FileState) (ks : List ℕ) (was is : Effects) →
     new ≡ record f { kept = record f.kept { components = lose_from ks f.kept.components 0 } } → is ≡ reported ks f.kept.components 0 f.kept.number was →
     Steps (λ go. takes_loss go ks) f was new is
 unfolding takes_loss
@@ -51,14 +51,14 @@ loss_steps f new ks was is e h =
     λ ds chosen. rw (e, h) (sym (reports_as (record f { kept = record f.kept { components = lose_from ks f.kept.components 0 } }) ks f.kept.components 0 was ds chosen))
 
 -- and the client's grant goes
-pub taken_serves : (f mid new : FileState) (ks : List ℕ) (client : ℕ) (was is : Moved) (o : Outcome) →
+pub taken_serves : (f mid new : FileState) (ks : List ℕ) (client : ℕ) (was is : Effects) (o : Outcome) →
     Steps (λ go. takes_loss go ks) f was mid is →
     ((ds : List Drive) (chosen : List ℕ) → served_by o (at new is ds chosen) ≡ says (ends_grant (at mid is ds chosen) client) NFS4_OK LOSS_TAKEN) →
     Serves (λ go. says (ends_grant (takes_loss go ks) client) NFS4_OK LOSS_TAKEN) f was o new is
 taken_serves f mid new ks client was is o s e = λ ds chosen. e ds chosen ∙ ap (λ go. says (ends_grant go client) NFS4_OK LOSS_TAKEN) (s ds chosen)
 
 -- a fence, and what follows it
-pub fence_serves : (f mid new : FileState) (was is : Moved) (o : Outcome) (next format : ℕ) (g : Grant) → (f.kept.tag ≡ GREATEST_TAG → ⊥) →
+pub fence_serves : (f mid new : FileState) (was is : Effects) (o : Outcome) (next format : ℕ) (g : Grant) → (f.kept.tag ≡ GREATEST_TAG → ⊥) →
     Steps (fence_begins Revoking format) f was mid is → Serves (λ go. fence_then go next g) mid is o new is →
     Serves (λ go. fence_first go next format g) f was o new is
 unfolding fence_first
@@ -68,7 +68,7 @@ fence_serves f mid new was is o next format g n s e =
 -- ---- rows
 
 -- where this is what the function does at the file
-pub serves_as : (F G : Going → Served) (r : Result Outcome Memory) (f new : FileState) (was is : Moved) →
+pub serves_as : (F G : Going → Served) (r : Result Outcome Memory) (f new : FileState) (was is : Effects) →
     ((ds : List Drive) (chosen : List ℕ) → F (at f was ds chosen) ≡ G (at f was ds chosen)) → IfOk r (λ o. Serves F f was o new is) → IfOk r (λ o. Serves G f was o new is)
 serves_as F G (Ok o) f new was is e s = λ ds chosen. s ds chosen ∙ e ds chosen
 serves_as F G (Err m) f new was is e s = tt
@@ -82,7 +82,7 @@ unfolding early early_of
 early_is f iomode offset count = rw (by_waited f.job) refl
 
 -- what the row that looks at no grant does is what the LAYOUTGET does
-pub gets_by : (f : FileState) (was : Moved) (q : Asking) (w : Wanted) (e : Early) → e ≡ early_of f.spent (waited f.job) w.iomode w.offset w.length →
+pub gets_by : (f : FileState) (was : Effects) (q : Asking) (w : Wanted) (e : Early) → e ≡ early_of f.spent (waited f.job) w.iomode w.offset w.length →
     (ds : List Drive) (chosen : List ℕ) →
     by_early (at f was ds chosen) q.next_grant q.format q.time (asked f.kept q.next_grant q.client q.time w.offset w.length (is_rw w.iomode)) e ≡ gets_for q w (at f was ds chosen)
 unfolding gets
@@ -109,7 +109,7 @@ not_spent f client report e t = not_spent_grant f report (grant_of f.grants clie
 -- ---- notes of components
 
 -- one more
-pub noted_more : (ks : List ℕ) (cs : List Component) (file i component : ℕ) (is now all : Moved) → i < length cs →
+pub noted_more : (ks : List ℕ) (cs : List Component) (file i component : ℕ) (is now all : Effects) → i < length cs →
     now ≡ (if among component ks then noted is file (Reported component) else is) → reported ks (drop i cs) component file is ≡ all →
     reported ks (drop (i + 1) cs) (component + 1) file now ≡ all
 unfolding reported
@@ -121,6 +121,6 @@ noted_more ks cs file i component is now all l e h =
     ∙ ap (λ rest. reported ks rest component file is) (sym (drop-cons cs i d l)) ∙ h
 
 -- what is served without a look at what the step did
-pub for_moved : (F : Going → Served) (r : Result Outcome Memory) (f new : FileState) (m : Moved) → IfOk r (λ o. (is : Moved) → Serves F f is o new is) → IfOk r (λ o. Serves F f m o new m)
+pub for_moved : (F : Going → Served) (r : Result Outcome Memory) (f new : FileState) (m : Effects) → IfOk r (λ o. (is : Effects) → Serves F f is o new is) → IfOk r (λ o. Serves F f m o new m)
 for_moved F (Ok o) f new m s = s m
 for_moved F (Err e) f new m s = tt

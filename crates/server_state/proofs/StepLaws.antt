@@ -10,7 +10,7 @@ use Rattle.osd_lists.specs.declared.memory.Memory.{Memory}
 use Rattle.server_rules.specs.declared.limits.TheConstants.{GREATEST_GRANT}
 use Rattle.server_rules.specs.declared.server.Server.{Server}
 use Rattle.server_rules.specs.declared.files.File.{File}
-use Rattle.server_rules.specs.declared.server.Moved.{Moved}
+use Rattle.server_rules.specs.declared.server.Effects.{Effects}
 use Rattle.layout_ops.specs.declared.messages.Answer.{Answer}
 use Rattle.server_rules.specs.declared.requests.ClientRequest.{ClientRequest}
 use Rattle.server_rules.specs.declared.server.Outgoing.TheVariants.{Answers}
@@ -44,7 +44,7 @@ use Rattle.server_state.proofs.CountLaws.{still_counted}
 use Rattle.server_state.proofs.TableLaws.{file_at-files, put_file-files, no_file_there}
 
 -- the server with these files and this answer, once the request's step is over
-abbrev after_all : State → List File → Moved → Served → Answer → Server
+abbrev after_all : State → List File → Effects → Served → Answer → Server
 after_all old fs m v a = record {
   files = fs;
   slots = keep old.slots (record { client = a.client; last = a.sequence; kept = a });
@@ -73,7 +73,7 @@ on_ok (Err e) f p = tt
 -- ---- a new request
 
 -- what comes of it, once it was carried out at its file
-pub done_at : (old : State) (files : BTreeMap ℕ FileState) (new : State) (m : Moved) (q : Asking) (r : ClientRequest) (now : ℕ) (chosen : List ℕ) (v : Served) (f g : FileState) (out : Step) →
+pub done_at : (old : State) (files : BTreeMap ℕ FileState) (new : State) (m : Effects) (q : Asking) (r : ClientRequest) (now : ℕ) (chosen : List ℕ) (v : Served) (f g : FileState) (out : Step) →
     q ≡ record { client = r.client; time = now; next_grant = old.next_grant; format = old.format } → AreEntries old.files.entries →
     files.entries ≡ set_value (is_at (nat_cmp r.file)) old.files.entries g → entry_at old.files.entries r.file ≡ Some f →
     ServedAt q r old.drives f (begins (server_of old)) v g m → Finishes (record old { files = files }) m v new out → Did out (server_of new) (carried_in (server_of old) now chosen r)
@@ -94,11 +94,11 @@ done_at old files new m q r now chosen v f g out e good put_in found served fin 
 -- ---- a step at one file that sends to drives alone
 
 -- the server with these files, once such a step is over
-abbrev pub after_settling : State → List File → Moved → Server
+abbrev pub after_settling : State → List File → Effects → Server
 after_settling old fs m = record (server_of old) { files = fs; next_nonce = m.nonce; next_object = m.object }
 
 -- what comes of it, once it was done at its file
-pub settled_at : (old : State) (files : BTreeMap ℕ FileState) (new : State) (m : Moved) (n : ℕ) (g : FileState) (chosen : List ℕ) (go : Going) (out : Step) →
+pub settled_at : (old : State) (files : BTreeMap ℕ FileState) (new : State) (m : Effects) (n : ℕ) (g : FileState) (chosen : List ℕ) (go : Going) (out : Step) →
     AreEntries old.files.entries → files.entries ≡ set_value (is_at (nat_cmp n)) old.files.entries g → at g m old.drives chosen ≡ go →
     Settles (record old { files = files }) m new out → Did out (server_of new) (step_at (server_of old) n go)
 settled_at old files new m n g chosen go out good put_in e fin =
@@ -111,7 +111,7 @@ settled_at old files new m n g chosen go out good put_in e fin =
     })
 
 -- behind its file all is ready again
-pub good_settled : (n : ℕ) (old : State) (files : BTreeMap ℕ FileState) (new : State) (m : Moved) (out : Step) →
+pub good_settled : (n : ℕ) (old : State) (files : BTreeMap ℕ FileState) (new : State) (m : Effects) (out : Step) →
     IsGoodBut n old → AreEntries files.entries → OthersStay n old.files.entries files.entries → Settles (record old { files = files }) m new out → IsGoodBut n new
 good_settled n old files new m out good entries others fin =
     subst (λ (z : State). IsGoodBut n z) (sym fin.state) (record {
@@ -122,7 +122,7 @@ good_settled n old files new m out good entries others fin =
       counts = still_counted n old.counts old.files.entries files.entries others good.counts;
     })
 
-pub good_finished : (n : ℕ) (old : State) (files : BTreeMap ℕ FileState) (new : State) (m : Moved) (v : Served) (out : Step) →
+pub good_finished : (n : ℕ) (old : State) (files : BTreeMap ℕ FileState) (new : State) (m : Effects) (v : Served) (out : Step) →
     IsGoodBut n old → AreEntries files.entries → OthersStay n old.files.entries files.entries → old.next_grant + v.outcome.numbers ≤ GREATEST_GRANT + 1 →
     Finishes (record old { files = files }) m v new out → IsGoodBut n new
 good_finished n old files new m v out good entries others numbers fin =

@@ -7,6 +7,7 @@ use Rattle.std.specs.Map.{set_value}
 use Rattle.std.proofs.Common.{arith, inl, inr, ap, sym, subst, ◌∙◌}
 use Rattle.std.proofs.lemmas.Bool.{cases_Bool}
 use Rattle.std.proofs.lemmas.Bool.Decides.{nat_tests}
+use Rattle.osd_lists.proofs.Tests.{at_number}
 use Rattle.server_rules.specs.Files.{file_at, put_file}
 use Rattle.server_rules.specs.Requests.{size_in}
 use Rattle.server_state.specs.FileRequests.{LeavesFile}
@@ -14,10 +15,6 @@ use Rattle.file_jobs.specs.declared.job.FileState.{FileState}
 use Rattle.file_jobs.specs.Steps.{file_of}
 use Rattle.file_jobs.specs.Sound.{IsSoundFile}
 use Rattle.server_state.specs.Tables.{Table, files_in, entry_at, IsEntry, AreEntries}
-
--- a query finds the key that is its number
-pub at_number : (n k : ℕ) → is_at (nat_cmp n) k ≡ (k == n)
-at_number n k = grind (arith, nat_tests)
 
 number_at : (n : ℕ) (e : ℕ × FileState) → IsEntry e → is_at (nat_cmp n) e.0 ≡ (e.1.kept.number == n)
 number_at n e i = at_number n e.0 ∙ ap (λ k. k == n) (sym i.number)

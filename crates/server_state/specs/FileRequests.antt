@@ -3,7 +3,7 @@ use Rattle.std.specs.Prelude.{ℕ, List, [], ◌∷◌, Option, Some, None, ◌�
 use Rattle.server_rules.specs.declared.jobs.Job.{Job}
 use Rattle.server_rules.specs.declared.server.Drive.{Drive}
 use Rattle.server_rules.specs.declared.files.Component.{Component}
-use Rattle.server_rules.specs.declared.server.Moved.{Moved}
+use Rattle.server_rules.specs.declared.server.Effects.{Effects}
 use Rattle.server_rules.specs.declared.requests.RequestArgs.{RequestArgs}
 use Rattle.server_rules.specs.declared.requests.RequestArgs.TheVariants.{Get}
 use Rattle.server_rules.specs.declared.notes.NoteKind.TheVariants.{Reported}
@@ -38,7 +38,7 @@ abbrev pub served_by : Outcome → Going → Served
 served_by o g = record { going = g; recalled = o.recalled; numbers = o.numbers; told = told_rule o.told }
 
 -- whatever drives there are and the placer names, what was done at the file is what this function says
-abbrev pub Serves : (Going → Served) → FileState → Moved → Outcome → FileState → Moved → Type 0
+abbrev pub Serves : (Going → Served) → FileState → Effects → Outcome → FileState → Effects → Type 0
 Serves f old was o new is = (ds : List Drive) (chosen : List ℕ) →
     served_by o (at new is ds chosen) ≡ f (at old was ds chosen)
 
@@ -55,7 +55,7 @@ abbrev pub IsLayoutTold : Told → Type 0
 IsLayoutTold t = IsTold (Get 0 0 0) t
 
 -- a note for each of these components, in rising order, from number k on
-unfoldable pub reported : List ℕ → List Component → (k file : ℕ) → Moved → Moved
+unfoldable pub reported : List ℕ → List Component → (k file : ℕ) → Effects → Effects
 reported ks [] k n m = m
 reported ks (at ∷ cs) k n m = reported ks cs (k + 1) n (if among k ks then noted m n (Reported k) else m)
 

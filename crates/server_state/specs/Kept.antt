@@ -13,7 +13,14 @@ use Rattle.server_rules.specs.Envelopes.{bytes_of}
 
 -- an answer that no bytes are kept of
 abbrev pub no_answer : Answer
-no_answer = record { client = 0; sequence = 0; file = 0; detail = 0; size = 0; results = results.LayoutReturn (return.Returned None) }
+no_answer = record {
+  client = 0;
+  sequence = 0;
+  file = 0;
+  detail = 0;
+  size = 0;
+  results = results.LayoutReturn (return.Returned None);
+}
 
 abbrev pub answer_of : Result Envelope OpErr → Answer
 answer_of (Ok (envelope.Answer a)) = a
@@ -23,7 +30,7 @@ answer_of r = no_answer
 abbrev pub answer_in : List ℕ → Answer
 answer_in bytes = answer_of (envelope_of bytes)
 
--- they spell it, and it is the client's
+-- the bytes spell an answer, and it is the client's
 pub record IsKept (holder : ℕ) (bytes : List ℕ) : Type 0 where
   pub spelled : bytes ≡ bytes_of (Answers (answer_in bytes))
   pub client : (answer_in bytes).client ≡ holder

@@ -10,7 +10,7 @@ abbrev pub job_awaits : Option Job → (x d : ℕ) → Bool
 job_awaits None x d = false
 job_awaits (Some j) x d = are_to j.awaited x d
 
--- and so does the file, if there is one
+-- the file awaits a reply, if there is one
 abbrev pub file_awaits : Option FileState → (x d : ℕ) → Bool
 file_awaits None x d = false
 file_awaits (Some f) x d = job_awaits f.job x d
@@ -19,7 +19,7 @@ file_awaits (Some f) x d = job_awaits f.job x d
 abbrev pub AreListed : Keys → Table → Type 0
 AreListed ks t = (x d m : ℕ) → has ks x d m ≡ file_awaits (entry_at t m) x d
 
--- the same without file n, of which none is listed
+-- the replies that files await are listed, but for file n, of which none is
 abbrev pub AreListedBut : (n : ℕ) → Keys → Table → Type 0
 AreListedBut n ks t = (x d m : ℕ) → has ks x d m ≡ (not (n == m) && file_awaits (entry_at t m) x d)
 

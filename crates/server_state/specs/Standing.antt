@@ -9,11 +9,11 @@ use Rattle.server_state.specs.Tables.{Table}
 abbrev pub standing_of : (d : ℕ) → FileState → ℕ
 standing_of d f = standing d f.kept.components
 
--- and of a file, if there is one
+-- how many present components of a file stand on a drive, if there is one
 abbrev pub standing_if : (d : ℕ) → Option FileState → ℕ
 standing_if d o = unwrap_or (option_map (standing_of d) o) 0
 
--- and of all these files
+-- how many present components of all these files stand on a drive
 abbrev pub standing_in : (d : ℕ) → Table → ℕ
 standing_in d t = sum_by (standing_of d) (values_of t)
 

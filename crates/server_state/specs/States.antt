@@ -2,7 +2,7 @@
 use Rattle.std.specs.Prelude.{ℕ, List, ◌≡◌, ◌≤◌, ◌+◌, ◌<◌, ◌^◌, [], ◌∷◌, ◌++◌, length}
 use Rattle.server_rules.specs.declared.limits.TheConstants.{GREATEST_GRANT}
 use Rattle.server_rules.specs.declared.server.Server.{Server}
-use Rattle.server_rules.specs.declared.server.Moved.{Moved}
+use Rattle.server_rules.specs.declared.server.Effects.{Effects}
 use Rattle.server_rules.specs.declared.server.Outgoing.TheVariants.{Answers}
 use Rattle.server_rules.specs.Answers.{recalls_from}
 use Rattle.server_rules.specs.Slots.{keep}
@@ -66,7 +66,7 @@ pub record Did (out : Step) (new : Server) (s : RulesStep) : Type 0 where
   pub mended : out.mended ≡ s.mended
 
 -- the rest of a request's step behind its file: it sends and counts, and keeps the answer
-pub record Finishes (old : State) (m : Moved) (v : Served) (new : State) (out : Step) : Type 0 where
+pub record Finishes (old : State) (m : Effects) (v : Served) (new : State) (out : Step) : Type 0 where
   pub state : new ≡ record old {
     slots = keep old.slots (record { client = v.answer.client; last = v.answer.sequence; kept = v.answer });
     next_grant = old.next_grant + v.outcome.numbers;
@@ -74,12 +74,13 @@ pub record Finishes (old : State) (m : Moved) (v : Served) (new : State) (out : 
     next_nonce = m.nonce;
     next_object = m.object;
   }
-  pub sends : out.sends ≡ all_sent (to_drives old.drives m.sent ++ (recalls_from old.next_recall v.outcome.recalled ++ (Answers v.answer ∷ [])))
+  pub sends : out.sends ≡ all_sent (to_drives old.drives m.sent
+      ++ (recalls_from old.next_recall v.outcome.recalled ++ (Answers v.answer ∷ [])))
   pub notes : out.notes ≡ m.notes
   pub mended : out.mended ≡ m.mended
 
 -- the rest of a step that sends to drives alone
-pub record Settles (old : State) (m : Moved) (new : State) (out : Step) : Type 0 where
+pub record Settles (old : State) (m : Effects) (new : State) (out : Step) : Type 0 where
   pub state : new ≡ record old { next_nonce = m.nonce; next_object = m.object }
   pub sends : out.sends ≡ all_sent (to_drives old.drives m.sent)
   pub notes : out.notes ≡ m.notes

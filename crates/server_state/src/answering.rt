@@ -28,7 +28,8 @@ pub fn answer_to(
     answer: Answer,
 ) -> Result<(), Memory>
     requires { ResultsWritable answer.results }
-    ensures kept { OnOk result (slots.new ≡ keep slots.old (record { client = answer.client; last = answer.sequence; kept = answer })) }
+    ensures kept { OnOk result (slots.new
+        ≡ keep slots.old (record { client = answer.client; last = answer.sequence; kept = answer })) }
     ensures sent { OnOk result (sends.new ≡ sends.old ++ sent_as (Answers answer) ∷ []) }
 {
     let client = answer.client;

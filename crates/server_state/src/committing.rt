@@ -1,5 +1,5 @@
 ghost use Rattle.std.specs.Prelude.{◌≡◌, None};
-ghost use Rattle.server_rules.specs.declared.server.Moved.{Moved as AMoved};
+ghost use Rattle.server_rules.specs.declared.server.Effects.{Effects as TheEffects};
 ghost use Rattle.server_rules.specs.Commit.{commits};
 ghost use Rattle.file_jobs.specs.Sound.{IsSoundFile};
 ghost use Rattle.server_state.specs.FileRequests.{Serves};
@@ -14,7 +14,7 @@ use std::alloc::Global;
 #[tactic(auto, unfolding(server_rules::specs::Commit::commits))]
 pub fn commit(alloc: Global, file: &mut FileState, client: u32, last: Option<u64>) -> Outcome
     requires { IsSoundFile file.old }
-    ensures rule { (m : AMoved) → Serves (λ go. commits go client last) file.old m result file.new m }
+    ensures rule { (m : TheEffects) → Serves (λ go. commits go client last) file.old m result file.new m }
     ensures sound { IsSoundFile file.new }
     ensures number { file.new.kept.number ≡ file.old.kept.number }
     ensures told { result.told.grant ≡ None }

@@ -22,7 +22,7 @@ impl Model for DriveCounts {
 }
 
 impl DriveCounts {
-    /// That no component stands anywhere.
+    /// Counts of zero for every drive.
     pub fn new() -> Self
         ensures { AreCounts result (λ d. 0) }
     {

@@ -11,7 +11,7 @@ use crate::returning::give_back;
 use file_jobs::FileState;
 use osd_lists::Memory;
 use server_requests::Wanted;
-use server_rules::{Moved, RequestArgs};
+use server_rules::{Effects, RequestArgs};
 use std::alloc::Global;
 
 /// A request at its file.
@@ -22,13 +22,13 @@ use std::alloc::Global;
 pub fn serve(
     alloc: Global,
     file: &mut FileState,
-    moved: &mut Moved,
+    effects: &mut Effects,
     asking: &Asking,
     args: &RequestArgs,
 ) -> Result<Outcome, Memory>
     requires sound { IsSoundFile file.old }
-    requires low { moved.old.nonce < 2 ^ 63 }
-    ensures rule { IfOk result (λ o. Serves (serves_for asking.now args.now) file.old moved.old o file.new moved.new) }
+    requires low { effects.old.nonce < 2 ^ 63 }
+    ensures rule { IfOk result (λ o. Serves (serves_for asking.now args.now) file.old effects.old o file.new effects.new) }
     ensures told { IfOk result (λ o. IsTold args.now o.told) }
     ensures numbers { IfOk result (λ o. Counts asking.now.next_grant o) }
     ensures leaves { OnOk result (LeavesFile file.old file.new) }
@@ -44,11 +44,11 @@ pub fn serve(
                 offset: *offset,
                 length: *length,
             };
-            get(alloc, file, moved, asking, &wanted)
+            get(alloc, file, effects, asking, &wanted)
         }
         RequestArgs::Commit { last } => Ok(commit(alloc, file, asking.client, *last)),
         RequestArgs::Return { report } => {
-            give_back(alloc, file, moved, asking, report.as_slice())
+            give_back(alloc, file, effects, asking, report.as_slice())
         }
     }
 }

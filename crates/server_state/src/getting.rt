@@ -1,5 +1,5 @@
 ghost use Rattle.std.specs.Prelude.{◌≡◌, ◌≤◌, ◌<◌, ◌^◌, ◌++◌, ◌∷◌, [], None, length, IfOk, OnOk};
-ghost use Rattle.server_rules.specs.declared.server.Moved.{Moved as AMoved};
+ghost use Rattle.server_rules.specs.declared.server.Effects.{Effects as TheEffects};
 ghost use Rattle.server_rules.specs.Get.{on_grants, fence_first, fence_then, give_or_refuse, high_after};
 ghost use Rattle.server_requests.specs.Bounds.{IsLow};
 ghost use Rattle.file_jobs.specs.Sound.{IsSoundFile};
@@ -14,7 +14,7 @@ use layout_ops::{
 };
 use osd_lists::Memory;
 use server_requests::{Early, Late, Wanted, against, asked, early_row, late_row, must_fence};
-use server_rules::{GREATEST_TAG, Grant, Kept, Moved, NO_COMPONENT, NoteKind};
+use server_rules::{Effects, GREATEST_TAG, Grant, Kept, NO_COMPONENT, NoteKind};
 use std::alloc::Global;
 
 // The file has the grant.
@@ -40,7 +40,7 @@ fn give_or_refuse(
     requires low { IsLow grant }
     requires sound { IsSoundFile file.old }
     requires idle { file.old.job ≡ None }
-    ensures rule { IfOk result (λ o. (m : AMoved)
+    ensures rule { IfOk result (λ o. (m : TheEffects)
         → Serves (λ go. give_or_refuse go next_grant grant) file.old m o file.new m) }
     ensures told { IfOk result (λ o. IsLayoutTold o.told) }
     ensures numbers { IfOk result (λ o. Counts next_grant o) }
@@ -74,7 +74,7 @@ fn fence_then(
 ) -> Result<Outcome, Memory>
     requires low { IsLow grant }
     requires sound { IsSoundFile file.old }
-    ensures rule { IfOk result (λ o. (m : AMoved)
+    ensures rule { IfOk result (λ o. (m : TheEffects)
         → Serves (λ go. fence_then go next_grant grant) file.old m o file.new m) }
     ensures told { IfOk result (λ o. IsLayoutTold o.told) }
     ensures numbers { IfOk result (λ o. Counts next_grant o) }
@@ -92,24 +92,24 @@ fn fence_then(
 fn fence_first(
     alloc: Global,
     file: &mut FileState,
-    moved: &mut Moved,
+    effects: &mut Effects,
     asking: &Asking,
     grant: Grant,
 ) -> Result<Outcome, Memory>
     requires low { IsLow grant }
     requires sound { IsSoundFile file.old }
-    requires nonce { moved.old.nonce < 2 ^ 63 }
+    requires nonce { effects.old.nonce < 2 ^ 63 }
     ensures rule { IfOk result (λ o. Serves (λ go. fence_first go asking.now.next_grant asking.now.format grant)
-        file.old moved.old o file.new moved.new) }
+        file.old effects.old o file.new effects.new) }
     ensures told { IfOk result (λ o. IsLayoutTold o.told) }
     ensures numbers { IfOk result (λ o. Counts asking.now.next_grant o) }
     ensures leaves { OnOk result (LeavesFile file.old file.new) }
 {
     if file.kept.tag == GREATEST_TAG {
-        note(moved, file.kept.number, NoteKind::Spent)?;
+        note(effects, file.kept.number, NoteKind::Spent)?;
         return Ok(says(alloc, NFS4ERR_LAYOUTUNAVAILABLE, NO_COMPONENT));
     }
-    revoke(alloc, file, moved, asking.format)?;
+    revoke(alloc, file, effects, asking.format)?;
     fence_then(alloc, file, asking.next_grant, grant)
 }
 
@@ -118,22 +118,23 @@ fn fence_first(
 fn on_grants(
     alloc: Global,
     file: &mut FileState,
-    moved: &mut Moved,
+    effects: &mut Effects,
     asking: &Asking,
     grant: Grant,
 ) -> Result<Outcome, Memory>
     requires low { IsLow grant }
     requires sound { IsSoundFile file.old }
     requires idle { file.old.job ≡ None }
-    requires nonce { moved.old.nonce < 2 ^ 63 }
+    requires nonce { effects.old.nonce < 2 ^ 63 }
     ensures rule { IfOk result (λ o. Serves
-        (λ go. on_grants go asking.now.next_grant asking.now.format asking.now.time grant) file.old moved.old o file.new moved.new) }
+        (λ go. on_grants go asking.now.next_grant asking.now.format asking.now.time grant)
+        file.old effects.old o file.new effects.new) }
     ensures told { IfOk result (λ o. IsLayoutTold o.told) }
     ensures numbers { IfOk result (λ o. Counts asking.now.next_grant o) }
     ensures leaves { OnOk result (LeavesFile file.old file.new) }
 {
     if must_fence(asking.time, file.kept.grants.as_slice(), &grant) {
-        return fence_first(alloc, file, moved, asking, grant);
+        return fence_first(alloc, file, effects, asking, grant);
     }
     give_or_refuse(alloc, file, asking.next_grant, grant)
 }
@@ -143,13 +144,13 @@ fn on_grants(
 pub fn get(
     alloc: Global,
     file: &mut FileState,
-    moved: &mut Moved,
+    effects: &mut Effects,
     asking: &Asking,
     wanted: &Wanted,
 ) -> Result<Outcome, Memory>
     requires sound { IsSoundFile file.old }
-    requires nonce { moved.old.nonce < 2 ^ 63 }
-    ensures rule { IfOk result (λ o. Serves (gets_for asking.now wanted.now) file.old moved.old o file.new moved.new) }
+    requires nonce { effects.old.nonce < 2 ^ 63 }
+    ensures rule { IfOk result (λ o. Serves (gets_for asking.now wanted.now) file.old effects.old o file.new effects.new) }
     ensures told { IfOk result (λ o. IsLayoutTold o.told) }
     ensures numbers { IfOk result (λ o. Counts asking.now.next_grant o) }
     ensures leaves { OnOk result (LeavesFile file.old file.new) }
@@ -162,7 +163,7 @@ pub fn get(
         Early::On => {
             let number = asking.next_grant;
             let grant = asked(&file.kept, number, asking.client, asking.time, wanted);
-            on_grants(alloc, file, moved, asking, grant)
+            on_grants(alloc, file, effects, asking, grant)
         }
     }
 }

@@ -22,7 +22,7 @@ impl Model for ReplyIndex {
 }
 
 impl ReplyIndex {
-    /// That no file awaits any, which takes no memory.
+    /// An index in which no file awaits a reply, which takes no memory.
     pub fn new(alloc: Global) -> Self
         ensures { result ≡ [] }
     {

@@ -33,7 +33,7 @@ pub use listing::{list, list_all, unlist};
 pub use outcome::{Asking, Outcome};
 pub use requests::carry_out;
 pub use serving::{Served, serve_in};
-pub use settling::{begins, only_sends, settle};
+pub use settling::{finish_step, no_effects, only_sends};
 pub use slots::{KeptAnswer, Slots, keep, slot_of};
 pub use state::{Drives, Files, State};
 pub use step::{Notes, Repairs, Step};

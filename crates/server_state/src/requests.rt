@@ -9,13 +9,13 @@ use crate::answering::answer_to;
 use crate::listing::{list, unlist};
 use crate::outcome::Asking;
 use crate::serving::{Served, serve_in};
-use crate::settling::{begins, only_sends};
+use crate::settling::{no_effects, only_sends};
 use crate::state::State;
 use crate::step::Step;
 use layout_ops::{NFS4_OK, NFS4ERR_BADLAYOUT, NFS4ERR_NOENT};
 use osd_lists::Memory;
 use server_requests::{Sends, plain_answer, send_recalls, send_to_drives};
-use server_rules::{ClientRequest, Moved, RequestArgs};
+use server_rules::{ClientRequest, Effects, RequestArgs};
 use std::alloc::Global;
 
 // The status of a request on a file that there isn't.
@@ -32,7 +32,8 @@ fn no_file(args: &RequestArgs) -> u32
 
 // The step of a new request on a file that there isn't.
 fn refuse(alloc: Global, state: &mut State, request: &ClientRequest) -> Result<Step, Memory>
-    ensures did { IfOk result (λ out. (now : ℕ) (chosen : List ℕ) → Did out (server_of state.new) (carries_out (server_of state.old) now chosen request.now None)) }
+    ensures did { IfOk result (λ out. (now : ℕ) (chosen : List ℕ) → Did out (server_of state.new)
+        (carries_out (server_of state.old) now chosen request.now None)) }
     ensures files { OnOk result (state.new.files ≡ state.old.files) }
     ensures grants { OnOk result (state.new.next_grant ≡ state.old.next_grant) }
     ensures drives { OnOk result (state.new.drives ≡ state.old.drives) }
@@ -46,11 +47,16 @@ fn refuse(alloc: Global, state: &mut State, request: &ClientRequest) -> Result<S
 }
 
 // What is left of the step of a request behind its file: it sends and counts.
-fn finish(alloc: Global, state: &mut State, moved: Moved, served: Served) -> Result<Step, Memory>
+fn finish(
+    alloc: Global,
+    state: &mut State,
+    effects: Effects,
+    served: Served,
+) -> Result<Step, Memory>
     requires writable { ResultsWritable served.answer.results }
     requires numbers { state.old.next_grant + served.outcome.numbers ≤ GREATEST_GRANT + 1 }
     requires room { state.old.next_recall < 2 ^ 63 }
-    ensures { IfOk result (Finishes state.old moved served state.new) }
+    ensures { IfOk result (Finishes state.old effects served state.new) }
 {
     let Served { outcome, answer } = served;
     let recalls = outcome.recalled.as_slice();
@@ -59,18 +65,18 @@ fn finish(alloc: Global, state: &mut State, moved: Moved, served: Served) -> Res
         alloc,
         &mut sends,
         state.drives.as_slice(),
-        moved.sent.as_slice(),
+        effects.sent.as_slice(),
     )?;
     send_recalls(alloc, &mut sends, recalls, state.next_recall)?;
     answer_to(alloc, &mut state.slots, &mut sends, answer)?;
     state.next_grant += outcome.numbers;
     state.next_recall += recalls.len() as u64;
-    state.next_nonce = moved.nonce;
-    state.next_object = moved.object;
+    state.next_nonce = effects.nonce;
+    state.next_object = effects.object;
     Ok(Step {
         sends,
-        notes: moved.notes,
-        mended: moved.mended,
+        notes: effects.notes,
+        mended: effects.mended,
     })
 }
 
@@ -93,17 +99,17 @@ fn carry_out_at(
         next_grant: state.next_grant,
         format: state.format,
     };
-    let mut moved = begins(alloc, state.next_nonce, state.next_object);
+    let mut effects = no_effects(alloc, state.next_nonce, state.next_object);
     let drives = state.drives.as_slice();
     match serve_in(
         alloc,
         &mut state.files,
-        &mut moved,
+        &mut effects,
         drives,
         &asking,
         request,
     )? {
-        Some(served) => finish(alloc, state, moved, served),
+        Some(served) => finish(alloc, state, effects, served),
         None => refuse(alloc, state, request),
     }
 }

@@ -16,7 +16,7 @@ use layout_ops::{NFS4_OK, NFS4ERR_LAYOUTUNAVAILABLE};
 use layout_types::IoErr;
 use osd_lists::{Memory, Numbers};
 use server_requests::{Returned, is_among, return_row, without, without_these};
-use server_rules::{LOSS_TAKEN, Moved, NO_COMPONENT, NoteKind};
+use server_rules::{Effects, LOSS_TAKEN, NO_COMPONENT, NoteKind};
 use std::alloc::Global;
 
 // The client's grant goes.
@@ -31,48 +31,48 @@ fn end_grant(alloc: Global, file: &mut FileState, client: u32) -> Result<(), Mem
 // A note, where the component is one of these.
 fn report_one(
     file: &FileState,
-    moved: &mut Moved,
+    effects: &mut Effects,
     numbers: &[u32],
     component: u32,
 ) -> Result<(), Memory>
-    ensures { OnOk result (moved.new
+    ensures { OnOk result (effects.new
         ≡ (if among component numbers.now
-        then noted moved.old file.now.kept.number (Reported component) else moved.old)) }
+        then noted effects.old file.now.kept.number (Reported component) else effects.old)) }
 {
     if is_among(component, numbers) {
-        note(moved, file.kept.number, NoteKind::Reported { component })?;
+        note(effects, file.kept.number, NoteKind::Reported { component })?;
     }
     Ok(())
 }
 
 // A note for each of these components, in rising order.
 #[tactic(auto, unfolding(crate::specs::FileRequests::reported))]
-fn report(file: &FileState, moved: &mut Moved, numbers: &[u32]) -> Result<(), Memory>
+fn report(file: &FileState, effects: &mut Effects, numbers: &[u32]) -> Result<(), Memory>
     requires { length file.now.kept.components ≤ 64 }
-    ensures rule { OnOk result (moved.new
-        ≡ reported numbers.now file.now.kept.components 0 file.now.kept.number moved.old) }
+    ensures rule { OnOk result (effects.new
+        ≡ reported numbers.now file.now.kept.components 0 file.now.kept.number effects.old) }
 {
     let mut component = 0u32;
     for _ in file.kept.components.as_slice() {
-        report_one(file, moved, numbers, component)?;
+        report_one(file, effects, numbers, component)?;
         component += 1;
     }
     Ok(())
 }
 
-// These components become missing.
+// Takes the components of these numbers as missing.
 fn take_loss(
     alloc: Global,
     file: &mut FileState,
-    moved: &mut Moved,
+    effects: &mut Effects,
     numbers: &Numbers,
 ) -> Result<(), Memory>
     requires sound { IsSoundFile file.old }
     requires idle { file.old.job ≡ None }
-    ensures rule { OnOk result (Steps (λ go. takes_loss go numbers.now) file.old moved.old file.new moved.new) }
+    ensures rule { OnOk result (Steps (λ go. takes_loss go numbers.now) file.old effects.old file.new effects.new) }
     ensures leaves { OnOk result (LeavesFile file.old file.new) }
 {
-    report(file, moved, numbers.as_slice())?;
+    report(file, effects, numbers.as_slice())?;
     file.kept.components = without_these(
         alloc,
         numbers.as_slice(),
@@ -85,16 +85,17 @@ fn take_loss(
 fn by_row(
     alloc: Global,
     file: &mut FileState,
-    moved: &mut Moved,
+    effects: &mut Effects,
     asking: &Asking,
     row: &Returned,
 ) -> Result<Outcome, Memory>
     requires sound { IsSoundFile file.old }
     requires idle { (ks : List ℕ) → returned_rule row.now ≡ Taken ks → file.old.job ≡ None }
     requires next { returned_rule row.now ≡ Fencing → file.old.kept.tag < GREATEST_TAG }
-    requires low { moved.old.nonce < 2 ^ 63 }
+    requires low { effects.old.nonce < 2 ^ 63 }
     ensures rule { IfOk result (λ o. Serves
-        (λ go. by_return go asking.now.format asking.now.client (returned_rule row.now)) file.old moved.old o file.new moved.new) }
+        (λ go. by_return go asking.now.format asking.now.client (returned_rule row.now))
+        file.old effects.old o file.new effects.new) }
     ensures told { IfOk result (λ o. o.told.grant ≡ None) }
     ensures numbers { IfOk result (λ o. o.numbers ≡ 0) }
     ensures leaves { OnOk result (LeavesFile file.old file.new) }
@@ -106,16 +107,16 @@ fn by_row(
             Ok(says(alloc, NFS4_OK, 0))
         }
         Returned::Taken { components } => {
-            take_loss(alloc, file, moved, components)?;
+            take_loss(alloc, file, effects, components)?;
             end_grant(alloc, file, asking.client)?;
             Ok(says(alloc, NFS4_OK, LOSS_TAKEN))
         }
         Returned::TooMany => {
-            note(moved, file.kept.number, NoteKind::Spent)?;
+            note(effects, file.kept.number, NoteKind::Spent)?;
             Ok(says(alloc, NFS4ERR_LAYOUTUNAVAILABLE, NO_COMPONENT))
         }
         Returned::Fencing => {
-            revoke(alloc, file, moved, asking.format)?;
+            revoke(alloc, file, effects, asking.format)?;
             Ok(says(alloc, NFS4_OK, 0))
         }
     }
@@ -134,19 +135,19 @@ fn tag_of(file: &FileState) -> u32
 pub fn give_back(
     alloc: Global,
     file: &mut FileState,
-    moved: &mut Moved,
+    effects: &mut Effects,
     asking: &Asking,
     report: &[IoErr],
 ) -> Result<Outcome, Memory>
     requires sound { IsSoundFile file.old }
-    requires low { moved.old.nonce < 2 ^ 63 }
+    requires low { effects.old.nonce < 2 ^ 63 }
     ensures rule { IfOk result (λ o. Serves (λ go. returns_on go asking.now.format asking.now.client report.now)
-        file.old moved.old o file.new moved.new) }
+        file.old effects.old o file.new effects.new) }
     ensures told { IfOk result (λ o. o.told.grant ≡ None) }
     ensures numbers { IfOk result (λ o. o.numbers ≡ 0) }
     ensures leaves { OnOk result (LeavesFile file.old file.new) }
 {
     let row = return_row(alloc, &file.kept, asking.client, report)?;
     let _ = tag_of(file);
-    by_row(alloc, file, moved, asking, &row)
+    by_row(alloc, file, effects, asking, &row)
 }

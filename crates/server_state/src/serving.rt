@@ -10,7 +10,7 @@ use file_jobs::FileState;
 use layout_ops::Answer;
 use osd_lists::Memory;
 use server_requests::file_answer;
-use server_rules::{ClientRequest, Drive, Moved};
+use server_rules::{ClientRequest, Drive, Effects};
 use std::alloc::Global;
 
 /// What a request did besides its file, and the answer to it.
@@ -24,16 +24,16 @@ pub struct Served {
 fn serve_at(
     alloc: Global,
     file: &mut FileState,
-    moved: &mut Moved,
+    effects: &mut Effects,
     drives: &[Drive],
     asking: &Asking,
     request: &ClientRequest,
 ) -> Result<Served, Memory>
     requires sound { IsSoundFile file.old }
-    requires low { moved.old.nonce < 2 ^ 63 }
-    ensures { IfOk result (λ v. ServedAt asking.now request.now drives.now file.old moved.old v file.new moved.new) }
+    requires low { effects.old.nonce < 2 ^ 63 }
+    ensures { IfOk result (λ v. ServedAt asking.now request.now drives.now file.old effects.old v file.new effects.new) }
 {
-    let outcome = serve(alloc, file, moved, asking, &request.args)?;
+    let outcome = serve(alloc, file, effects, asking, &request.args)?;
     let answer = file_answer(alloc, drives, &file.kept, request, &outcome.told)?;
     Ok(Served { outcome, answer })
 }
@@ -42,17 +42,18 @@ fn serve_at(
 pub fn serve_in(
     alloc: Global,
     files: &mut Files,
-    moved: &mut Moved,
+    effects: &mut Effects,
     drives: &[Drive],
     asking: &Asking,
     request: &ClientRequest,
 ) -> Result<Option<Served>, Memory>
     requires files { AreEntries files.old.entries }
-    requires low { moved.old.nonce < 2 ^ 63 }
-    ensures { IfOk result (λ v. ServedIn asking.now request.now drives.now files.old.entries moved.old v files.new.entries moved.new) }
+    requires low { effects.old.nonce < 2 ^ 63 }
+    ensures { IfOk result (λ v. ServedIn asking.now request.now drives.now files.old.entries effects.old v
+        files.new.entries effects.new) }
 {
     match files.get_mut(&request.file) {
-        Some(file) => Ok(Some(serve_at(alloc, file, moved, drives, asking, request)?)),
+        Some(file) => Ok(Some(serve_at(alloc, file, effects, drives, asking, request)?)),
         None => Ok(None),
     }
 }

@@ -5,14 +5,14 @@ use crate::state::State;
 use crate::step::{Notes, Repairs, Step};
 use osd_lists::{Memory, Sequence};
 use server_requests::{Sends, send_to_drives};
-use server_rules::Moved;
+use server_rules::Effects;
 use std::alloc::Global;
 
 /// A step begins, and nothing is sent yet.
-pub fn begins(alloc: Global, nonce: u64, object: u64) -> Moved
+pub fn no_effects(alloc: Global, nonce: u64, object: u64) -> Effects
     ensures { result ≡ record { nonce = nonce; object = object; sent = []; notes = []; mended = [] } }
 {
-    Moved {
+    Effects {
         nonce,
         object,
         sent: Sequence::new(alloc),
@@ -33,17 +33,17 @@ pub fn only_sends(alloc: Global, sends: Sends) -> Step
 }
 
 /// What is left of a step that sends to drives alone: it sends and counts.
-pub fn settle(alloc: Global, state: &mut State, moved: Moved) -> Result<Step, Memory>
-    ensures { IfOk result (Settles state.old moved state.new) }
+pub fn finish_step(alloc: Global, state: &mut State, effects: Effects) -> Result<Step, Memory>
+    ensures { IfOk result (Settles state.old effects state.new) }
 {
     let mut sends = Sends::new(alloc);
     let drives = state.drives.as_slice();
-    send_to_drives(alloc, &mut sends, drives, moved.sent.as_slice())?;
-    state.next_nonce = moved.nonce;
-    state.next_object = moved.object;
+    send_to_drives(alloc, &mut sends, drives, effects.sent.as_slice())?;
+    state.next_nonce = effects.nonce;
+    state.next_object = effects.object;
     Ok(Step {
         sends,
-        notes: moved.notes,
-        mended: moved.mended,
+        notes: effects.notes,
+        mended: effects.mended,
     })
 }

@@ -41,7 +41,7 @@ pub struct State {
 }
 
 impl State {
-    /// That of a server without files and drives, which takes no memory.
+    /// The state of a server without files and drives, which takes no memory.
     pub fn new(alloc: Global) -> Self
         ensures value { server_of result ≡ new_server [] }
         ensures good { IsGood result }

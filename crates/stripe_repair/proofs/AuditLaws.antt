@@ -59,12 +59,12 @@ pick (c ∷ cs) todo short later g t x e = refl
 
 goes_there : (g : Going) (todo : List Piece) (t : Tally) →
     audits g todo t
-    ≡ rests_auditing (inspects g.file.kept g.moved.nonce todo t.short).reads g
-    (record { todo = (inspects g.file.kept g.moved.nonce todo t.short).todo; tally = record t { short = (inspects g.file.kept g.moved.nonce todo t.short).short } })
+    ≡ rests_auditing (inspects g.file.kept g.effects.nonce todo t.short).reads g
+    (record { todo = (inspects g.file.kept g.effects.nonce todo t.short).todo; tally = record t { short = (inspects g.file.kept g.effects.nonce todo t.short).short } })
 unfolding inspects audits
 goes_there g [] t = refl
 goes_there g (p ∷ ps) t =
-    pick (reads g.file.kept p g.moved.nonce) (p ∷ ps) (short_with g.file.kept p t.short) (inspects g.file.kept g.moved.nonce ps (short_with g.file.kept p t.short)) g t
+    pick (reads g.file.kept p g.effects.nonce) (p ∷ ps) (short_with g.file.kept p t.short) (inspects g.file.kept g.effects.nonce ps (short_with g.file.kept p t.short)) g t
     (audits g ps (record t { short = short_with g.file.kept p t.short })) (goes_there g ps (record t { short = short_with g.file.kept p t.short }))
 
 pub next_audits : (r : Result (List Awaited) Memory) (f : Kept) (nonce : ℕ) (todo left : List Piece) (t : Tally) (marked : List ℕ) →
@@ -75,7 +75,7 @@ next_audits (Ok cs) f nonce todo left t marked e = λ g at.
     ∙ ap (λ (o : Inspecting). rests_auditing o.reads g (record { todo = o.todo; tally = record t { short = o.short } }))
     (here g at)
   where
-    here : (g : Going) → IsAt f nonce g → inspects g.file.kept g.moved.nonce todo t.short ≡ record { todo = left; short = marked; reads = cs }
+    here : (g : Going) → IsAt f nonce g → inspects g.file.kept g.effects.nonce todo t.short ≡ record { todo = left; short = marked; reads = cs }
     here g at = rw (at.kept, at.nonce) (sym e)
 next_audits (Err x) f nonce todo left t marked e = tt
 

@@ -80,7 +80,7 @@ fills_by : (f : Kept) (nonce : ℕ) (g : Going) (t : Target) (todo : List Piece)
 unfolding fills
 fills_by f nonce g t [] at = refl
 fills_by f nonce g t (p ∷ ps) at =
-    let here : sources g.file.kept t p g.moved.nonce ≡ sources f t p nonce = rw (at.kept, at.nonce) refl in
+    let here : sources g.file.kept t p g.effects.nonce ≡ sources f t p nonce = rw (at.kept, at.nonce) refl in
     ap (λ (cs : List Awaited). rests_or cs g Rebuilding (Gathers t (p ∷ ps)) (lost g t)) here ∙ by_list (sources f t p nonce) f g t (p ∷ ps) at.kept
 
 pub next_fills : (r : Result FillStep Memory) (f : Kept) (nonce : ℕ) (t : Target) (todo : List Piece) (o : Option Piece) → o ≡ slice_get todo 0 →
@@ -98,13 +98,13 @@ unfolding filling
 gathered_stores f nonce g t [] heard p w at e is = absurd (cc e)
 gathered_stores f nonce g t (q ∷ ps) heard p w at e is =
     let same : q ≡ p = cc e in
-    let here : fill_of g.file.kept t p (made g.file.kept t p heard) g.moved.nonce ≡ Some w = rw (at.kept, at.nonce) is in
+    let here : fill_of g.file.kept t p (made g.file.kept t p heard) g.effects.nonce ≡ Some w = rw (at.kept, at.nonce) is in
     rw same (chosen here)
   where
-    chosen : fill_of g.file.kept t p (made g.file.kept t p heard) g.moved.nonce ≡ Some w → filling g t p ps (made g.file.kept t p heard) ≡ rests g Rebuilding (Fills t (p ∷ ps)) w []
+    chosen : fill_of g.file.kept t p (made g.file.kept t p heard) g.effects.nonce ≡ Some w → filling g t p ps (made g.file.kept t p heard) ≡ rests g Rebuilding (Fills t (p ∷ ps)) w []
     chosen h = elim (cases_Bool (nat_lt 0 (end_of (made g.file.kept t p heard) (replicate p.count 0)))) [
       | inl some ↦
-          let is_it : to_fill g.file.kept t p (made g.file.kept t p heard) g.moved.nonce ≡ w = cc (rw some at h) in
+          let is_it : to_fill g.file.kept t p (made g.file.kept t p heard) g.effects.nonce ≡ w = cc (rw some at h) in
           rw some (ap (λ (a : Awaited). rests g Rebuilding (Fills t (p ∷ ps)) a []) is_it)
       | inr zeros ↦ absurd (cc (rw zeros at h))
     ]
@@ -115,10 +115,10 @@ unfolding filling
 gathered_past f nonce g t [] heard p at e is = absurd (cc e)
 gathered_past f nonce g t (q ∷ ps) heard p at e is =
     let same : q ≡ p = cc e in
-    let here : fill_of g.file.kept t p (made g.file.kept t p heard) g.moved.nonce ≡ None = rw (at.kept, at.nonce) is in
+    let here : fill_of g.file.kept t p (made g.file.kept t p heard) g.effects.nonce ≡ None = rw (at.kept, at.nonce) is in
     rw same (chosen here)
   where
-    chosen : fill_of g.file.kept t p (made g.file.kept t p heard) g.moved.nonce ≡ None → filling g t p ps (made g.file.kept t p heard) ≡ fills g t ps
+    chosen : fill_of g.file.kept t p (made g.file.kept t p heard) g.effects.nonce ≡ None → filling g t p ps (made g.file.kept t p heard) ≡ fills g t ps
     chosen h = elim (cases_Bool (nat_lt 0 (end_of (made g.file.kept t p heard) (replicate p.count 0)))) [
       | inl some ↦ absurd (cc (rw some at h))
       | inr zeros ↦ rw zeros refl
@@ -137,7 +137,3 @@ pub same_fill : (r : Result FillStep Memory) (f : Kept) (nonce : ℕ) (x y : Goi
     IfOk r (λ step. (g : Going) → IsAt f nonce g → y g ≡ comes_to step g s) → IfOk r (λ step. (g : Going) → IsAt f nonce g → x g ≡ comes_to step g s)
 same_fill (Ok step) f nonce x y s same e = λ g at. same g at ∙ e g at
 same_fill (Err z) f nonce x y s same e = tt
-
-pub no_write : (o : Option Awaited) → ((w : Awaited) → o ≡ Some w → ⊥) → o ≡ None
-no_write None none = refl
-no_write (Some w) none = absurd (none w refl)

@@ -52,18 +52,18 @@ pick (c ∷ cs) todo short later g kind x e = refl
 -- where the rules go
 goes_there : (kind : JobKind) (g : Going) (todo : List Piece) (short : List ℕ) →
     repairs kind g todo short
-    ≡ rests_or (goes_to g.file.kept g.moved.nonce todo short).reads g kind (Fetches (goes_to g.file.kept g.moved.nonce todo short).todo (goes_to g.file.kept g.moved.nonce todo short).short)
-    (repairs kind g [] (goes_to g.file.kept g.moved.nonce todo short).short)
+    ≡ rests_or (goes_to g.file.kept g.effects.nonce todo short).reads g kind (Fetches (goes_to g.file.kept g.effects.nonce todo short).todo (goes_to g.file.kept g.effects.nonce todo short).short)
+    (repairs kind g [] (goes_to g.file.kept g.effects.nonce todo short).short)
 unfolding goes_to repairs
 goes_there kind g [] short = refl
 goes_there kind g (p ∷ ps) short =
-    pick (repair_reads g.file.kept p g.moved.nonce) (p ∷ ps) (short_with g.file.kept p short) (goes_to g.file.kept g.moved.nonce ps (short_with g.file.kept p short)) g kind
+    pick (repair_reads g.file.kept p g.effects.nonce) (p ∷ ps) (short_with g.file.kept p short) (goes_to g.file.kept g.effects.nonce ps (short_with g.file.kept p short)) g kind
     (repairs kind g ps (short_with g.file.kept p short)) (goes_there kind g ps (short_with g.file.kept p short))
 
 pub goes_by_rules : (f : Kept) (nonce : ℕ) (kind : JobKind) (g : Going) (todo : List Piece) (short : List ℕ) (to : Onward) → IsAt f nonce g → to ≡ goes_to f nonce todo short →
     repairs kind g todo short ≡ rests_repairing to.reads g kind (record { todo = to.todo; short = to.short; stage = Fetching })
 goes_by_rules f nonce kind g todo short to at e =
-    let here : goes_to g.file.kept g.moved.nonce todo short ≡ to = rw (at.kept, at.nonce) (sym e) in
+    let here : goes_to g.file.kept g.effects.nonce todo short ≡ to = rw (at.kept, at.nonce) (sym e) in
     goes_there kind g todo short ∙ ap (λ (o : Onward). rests_or o.reads g kind (Fetches o.todo o.short) (repairs kind g [] o.short)) here
 
 -- ---- rows that are read, and rows that are written
@@ -77,7 +77,7 @@ fetched_stores f nonce kind g [] short heard p cs at e is some = absurd (cc e)
 fetched_stores f nonce kind g (q ∷ ps) short heard p [] at e is some = absurd (some refl)
 fetched_stores f nonce kind g (q ∷ ps) short heard p (c ∷ cs) at e is some =
     let same : q ≡ p = cc e in
-    let here : stores g.file.kept p heard g.moved.nonce ≡ c ∷ cs = rw (at.kept, at.nonce) (sym is) in
+    let here : stores g.file.kept p heard g.effects.nonce ≡ c ∷ cs = rw (at.kept, at.nonce) (sym is) in
     rw (same, here) refl
 
 -- it has none
@@ -87,7 +87,7 @@ unfolding storing
 fetched_past f nonce kind g [] short heard p at e none = absurd (cc e)
 fetched_past f nonce kind g (q ∷ ps) short heard p at e none =
     let same : q ≡ p = cc e in
-    let here : stores g.file.kept p heard g.moved.nonce ≡ [] = rw (at.kept, at.nonce) none in
+    let here : stores g.file.kept p heard g.effects.nonce ≡ [] = rw (at.kept, at.nonce) none in
     rw (same, here) refl
 
 pub fetched_ends : (kind : JobKind) (g : Going) (todo : List Piece) (short : List ℕ) (heard : List Heard) → slice_get todo 0 ≡ None → fetched kind g todo short heard ≡ repairs kind g todo short
@@ -119,11 +119,6 @@ some_of b xs tells false_there e = true≢false (sym (tells.1 e) ∙ false_there
 
 pub none_of : {A : Type 0} (b : Bool) (xs : List A) → (IsTrue b ↔ (xs ≡ [])) → b ≡ true → xs ≡ []
 none_of b xs tells true_there = tells.0 true_there
-
--- no first piece
-pub no_piece : (o : Option Piece) → ((p : Piece) → o ≡ Some p → ⊥) → o ≡ None
-no_piece None none = refl
-no_piece (Some p) none = absurd (none p refl)
 
 pub next_ok : (r : Result (List Awaited) Memory) (f : Kept) (nonce : ℕ) (todo left : List Piece) (short marked : List ℕ) →
     IfOk r (λ cs. record { todo = left; short = marked; reads = cs } ≡ goes_to f nonce todo short) →

@@ -60,7 +60,3 @@ next_none f p rows heard cs i k nonce d o lt is e =
     ap (λ (xs : List Component). stores_from f p rows heard xs k nonce) (drop-cons cs i d lt)
     ∙ with_none f p rows heard (get_or cs i d) (drop (suc i) cs) k nonce (sym is ∙ e)
     ∙ ap (λ (z : ℕ). stores_from f p rows heard (drop z cs) (k + 1) nonce) n
-
-pub no_some : (o : Option Awaited) → ((w : Awaited) → o ≡ Some w → ⊥) → o ≡ None
-no_some None none = refl
-no_some (Some w) none = absurd (none w refl)

@@ -18,7 +18,8 @@ use Rattle.server_rules.specs.Going.{Going, rests_or}
 use Rattle.stripe_repair.specs.declared.auditing.StripeState.{StripeState}
 use Rattle.stripe_repair.specs.declared.auditing.StripeState.TheVariants.{Whole, Short, Bad}
 
--- a piece whose rows were read: short where a position has no present replica, bad where it isn't short and some row isn't the wanted one
+-- a piece whose rows were read: short where a position has no present replica, bad where it isn't short and some row
+-- isn't the wanted one
 unfoldable pub state_of : Kept → Piece → List Heard → StripeState
 state_of f p heard =
     if is_short f.map f.components (group_of f.map p.stripe) then Short
@@ -41,14 +42,14 @@ pub record AuditState : Type 0 where
 abbrev pub tally_of : List Measured → (short bad : List ℕ) → Tally
 tally_of lengths short bad = record { lengths = lengths; short = short; bad = bad }
 
--- it begins: all pieces below high, where these replies told the lengths
+-- an audit begins: all pieces below high, of components of which these replies told the lengths
 abbrev pub audit_of : (unit high : ℕ) → List Heard → AuditState
 audit_of unit high heard = record {
   todo = pieces_along unit 0 high;
   tally = record { lengths = lengths_of heard; short = []; bad = [] };
 }
 
--- it sends these READs and rests, or is over where there are none
+-- the audit sends these READs and rests, or is over if there are none
 abbrev pub rests_auditing : List Awaited → Going → AuditState → Going
 rests_auditing cs g s = rests_or cs g Auditing (Checks s.todo s.tally) (audited g s.tally)
 
@@ -62,7 +63,7 @@ abbrev pub inspects_or : List Awaited → List Piece → List ℕ → Inspecting
 inspects_or [] todo short later = later
 inspects_or (c ∷ cs) todo short later = record { todo = todo; short = short; reads = c ∷ cs }
 
--- it goes past each piece of which there is nothing to read
+-- the audit goes past each piece of which there is nothing to read
 unfoldable pub inspects : Kept → (nonce : ℕ) → List Piece → List ℕ → Inspecting
 inspects f nonce [] short = record { todo = []; short = short; reads = [] }
 inspects f nonce (p ∷ ps) short =

@@ -14,15 +14,18 @@ piece_at unit s = record { stripe = s.stripe; column = s.column; count = min MAX
 abbrev pub rest_of : (unit stripe column : ℕ) → List Piece
 rest_of unit stripe column = pieces_from unit stripe column ((unit - column + (MAX_PIECE - 1)) / MAX_PIECE)
 
--- these and the pieces of the stripes behind it
+-- the pieces of this stripe and of those behind it in the range
 abbrev pub rest_in : (unit : ℕ) → Spot → List Piece
-rest_in unit s = if nat_lt s.stripe s.end then rest_of unit s.stripe s.column ++ pieces_along unit (s.stripe + 1) (s.end - (s.stripe + 1)) else []
+rest_in unit s =
+    if nat_lt s.stripe s.end
+    then rest_of unit s.stripe s.column ++ pieces_along unit (s.stripe + 1) (s.end - (s.stripe + 1))
+    else []
 
--- these and the pieces of the further ranges
+-- the pieces of this range and of the further ones
 abbrev pub rest_at : (unit : ℕ) → List Stripes → Spot → List Piece
 rest_at unit ranges s = rest_in unit s ++ pieces unit (drop s.next ranges)
 
--- it stands before a piece, or no range is left
+-- a cursor stands before a piece, or no range is left
 pub record IsSettled (unit : ℕ) (ranges : List Stripes) (s : Spot) : Type 0 where
   pub some : 0 < unit
   pub column : s.column < unit

@@ -28,11 +28,11 @@ pub record RebuildState : Type 0 where
   pub todo : List Piece
   pub stage : FillStage
 
--- it begins: all pieces of the component's group below high
+-- a rebuild begins: all pieces of the component's group below high
 abbrev pub begins : RawMap → Target → (high : ℕ) → RebuildState
 begins m t high = record { target = t; todo = pieces_in m (group_with m t.component) high; stage = Gathering }
 
--- the same as the rules have it
+-- what a rebuild waits for and has left, as the rules have it
 abbrev pub fill_work_at : FillStage → Target → List Piece → Work
 fill_work_at Gathering t todo = Gathers t todo
 fill_work_at Filling t todo = Fills t todo
@@ -55,14 +55,14 @@ IsReadable f s = IfSome (slice_get s.todo 0) (CanBeMade f s.target)
 
 -- ---- what comes of a step
 
--- it sends these READs, or that WRITE, and rests; the component stands on its new drive; or a piece is lost
+-- the rebuild sends these READs, or that WRITE, and rests; or the component stands on its new drive; or a piece is lost
 abbrev pub comes_to : FillStep → Going → RebuildState → Going
 comes_to (Fetch cs) g s = rests_or cs g Rebuilding (fill_work_of s) (lost g s.target)
 comes_to (Store a) g s = rests g Rebuilding (fill_work_of s) a []
 comes_to Over g s = rebuilt g s.target
 comes_to (LostPiece positions) g s = goes_past (noting g (Lost s.target.component positions)) s.target
 
--- it reads
+-- the step reads
 abbrev pub IsFetch : FillStep → Type 0
 IsFetch (Fetch cs) = Unit {0}
 IsFetch step = ⊥
@@ -83,7 +83,7 @@ abbrev pub by_sources : Kept → Target → List Awaited → FillStep
 by_sources f t [] = LostPiece (lacking f.map f.components (group_for f t))
 by_sources f t (c ∷ cs) = Fetch (c ∷ cs)
 
--- the same of the first piece that there may be
+-- what comes of the first piece, if there is one
 abbrev pub sourced : Kept → Target → Option Piece → (nonce : ℕ) → FillStep
 sourced f t None nonce = Over
 sourced f t (Some p) nonce = by_sources f t (sources f t p nonce)

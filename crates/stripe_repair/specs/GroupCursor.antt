@@ -7,11 +7,11 @@ use Rattle.server_rules.specs.declared.jobs.Piece.{Piece}
 use Rattle.stripe_repair.specs.declared.cursor.Spot.{Spot}
 use Rattle.stripe_repair.specs.Cursor.{rest_in}
 
--- those of the stripes in the group
+-- the pieces that are left of the stripes in the group
 abbrev pub left_in_group : RawMap → (group : ℕ) → Spot → List Piece
 left_in_group m group s = filter (λ p. group_of m p.stripe == group) (rest_in m.unit s)
 
--- it stands in a stripe of the group, or none is left
+-- a cursor stands in a stripe of the group, or none is left
 pub record StandsInGroup (m : RawMap) (group : ℕ) (s : Spot) : Type 0 where
   pub known : group < groups m
   pub column : s.column < m.unit

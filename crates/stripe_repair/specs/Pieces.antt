@@ -35,7 +35,8 @@ wanted_rows m rows count = map (λ c. wanted m rows c count) (range_with_len 0 (
 -- the WRITE of columns first to end of a piece's row
 abbrev pub columns_write : Kept → Piece → List ℕ → (first end : ℕ) → Target → (nonce : ℕ) → Awaited
 columns_write f p row first end to nonce =
-    sent_to f (Writing (offset_of f.map p.stripe p.column + first) (slice_range row first end)) to.component to.drive to.object nonce
+    sent_to f (Writing (offset_of f.map p.stripe p.column + first) (slice_range row first end))
+    to.component to.drive to.object nonce
 
 -- the WRITE that makes one row another, where they differ
 abbrev pub store_between : Kept → Piece → (have want : List ℕ) → Target → (nonce : ℕ) → Option Awaited
@@ -50,9 +51,10 @@ rows_of f p heard = unit_rows f.map f.components p.stripe heard p.count
 unfoldable pub store_of : Kept → Piece → List (List ℕ) → List Heard → Component → (k nonce : ℕ) → Option Awaited
 store_of f p rows heard at k nonce =
     if is_off f p (row_from heard k p.count) (wanted f.map rows (unit_with f.map p.stripe k) p.count) at k
-    then Some (to_store f p (row_from heard k p.count) (wanted f.map rows (unit_with f.map p.stripe k) p.count) k at.drive at.object nonce)
+    then Some (to_store f p (row_from heard k p.count) (wanted f.map rows (unit_with f.map p.stripe k) p.count)
+    k at.drive at.object nonce)
     else None
 
--- the same over the rows that were read
+-- the WRITE to a component of what its row should be, by the rows that were read
 abbrev pub store_in : Kept → Piece → List Heard → Component → (k nonce : ℕ) → Option Awaited
 store_in f p heard at k nonce = store_of f p (rows_of f p heard) heard at k nonce

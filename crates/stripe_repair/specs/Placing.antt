@@ -37,6 +37,8 @@ pub record Places (n : ℕ) (loads : List DriveLoad) (chosen : List ℕ) : Type 
   pub different : AreDifferent chosen
 
 -- a closure may be called wherever n places may be asked, and its list is n different online drives
-pub record IsPlacer {F : Type 0} (g : Shared F (ℕ × (Bor (List DriveLoad) × Unit {0})) (Result (List ℕ) Memory)) (f : F) : Type 0 where
+pub record IsPlacer {F : Type 0} (g : Shared F (ℕ × (Bor (List DriveLoad) × Unit {0})) (Result (List ℕ) Memory)) (f : F)
+    : Type 0 where
   pub callable : (n : ℕ) (loads : Bor (List DriveLoad)) → CanPlace n loads.now → g.pre f (n, (loads, tt))
-  pub places : (n : ℕ) (loads : Bor (List DriveLoad)) (r : Result (List ℕ) Memory) → CanPlace n loads.now → g.post f (n, (loads, tt)) r → ForOk r (Places n loads.now)
+  pub places : (n : ℕ) (loads : Bor (List DriveLoad)) (r : Result (List ℕ) Memory) → CanPlace n loads.now
+      → g.post f (n, (loads, tt)) r → ForOk r (Places n loads.now)

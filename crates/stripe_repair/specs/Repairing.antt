@@ -21,7 +21,7 @@ pub record RepairState : Type 0 where
   pub short : List ℕ
   pub stage : Stage
 
--- the same as the rules have it
+-- what a repair waits for and has left, as the rules have it
 abbrev pub work_at : Stage → List Piece → List ℕ → Work
 work_at Fetching todo short = Fetches todo short
 work_at (Storing broken) todo short = Stores todo short broken
@@ -41,7 +41,7 @@ AreInside ranges = All (λ r. r.end ≤ MAX_FILE_SIZE) ranges
 -- a step in the middle, of a file of which this is kept, with this next nonce
 pub record IsAt (f : Kept) (next : ℕ) (g : Going) : Type 0 where
   pub kept : g.file.kept ≡ f
-  pub nonce : g.moved.nonce ≡ next
+  pub nonce : g.effects.nonce ≡ next
 
 -- a repair that sends these commands and rests, or is over where there are none
 abbrev pub rests_repairing : List Awaited → Going → JobKind → RepairState → Going
@@ -55,12 +55,12 @@ pub record Onward : Type 0 where
   pub short : List ℕ
   pub reads : List Awaited
 
--- it stops at a piece of which something is read, else this is what comes
+-- a repair stops at a piece of which something is read, else this is what comes
 abbrev pub stops_or : List Awaited → List Piece → List ℕ → Onward → Onward
 stops_or [] todo short later = later
 stops_or (c ∷ cs) todo short later = record { todo = todo; short = short; reads = c ∷ cs }
 
--- it goes past each piece of which nothing is read
+-- a repair goes past each piece of which nothing is read
 unfoldable pub goes_to : Kept → (nonce : ℕ) → List Piece → List ℕ → Onward
 goes_to f nonce [] short = record { todo = []; short = short; reads = [] }
 goes_to f nonce (p ∷ ps) short =

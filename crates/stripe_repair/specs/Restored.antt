@@ -19,9 +19,10 @@ abbrev pub restored_rows : RawMap → List Component → (stripe : ℕ) → List
 restored_rows m cs stripe heard count =
     map (λ c. restored m (lost_units m cs stripe) (unit_rows m cs stripe heard count) c count) (range_with_len 0 (group_width m))
 
--- its position has a present replica, or no more of its stripe's units are lost than the code brings back
+-- the piece's position has a present replica, or no more of its stripe's units are lost than the code brings back
 abbrev pub CanBeMade : Kept → Target → Piece → Type 0
-CanBeMade f t p = replica f.map f.components (position_for f t) ≡ None → length (lost_units f.map f.components p.stripe) ≤ parities f.map
+CanBeMade f t p =
+    replica f.map f.components (position_for f t) ≡ None → length (lost_units f.map f.components p.stripe) ≤ parities f.map
 
 -- the WRITE of a piece to the target, where some byte isn't 0
 abbrev pub fill_of : Kept → Target → Piece → List ℕ → (nonce : ℕ) → Option Awaited

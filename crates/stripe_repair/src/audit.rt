@@ -25,7 +25,7 @@ use std::marker::Model;
 /// An audit: the pieces that are left, the first of which is in work, and what was found so far. Contracts see
 /// the list of the pieces; a cursor stands for it.
 ///
-/// It goes on with [`Audit::next`] where it begins or the piece in work begins again, and with [`Audit::feed`]
+/// An audit goes on with [`Audit::next`] where it begins or the piece in work begins again, and with [`Audit::feed`]
 /// when the last READ that it sent is answered. It is over where it sends none.
 #[derive(Drop)]
 pub struct Audit {

@@ -13,11 +13,11 @@ use std::alloc::Global;
 /// What an audit finds of a piece.
 #[derive(Clone, Copy, Debug, PartialEq, Eq)]
 pub enum StripeState {
-    /// Its columns are codewords, equal in all replicas.
+    /// The stripe's columns are codewords, equal in all replicas.
     Whole,
     /// A position of its stripe has no present replica.
     Short,
-    /// It is neither.
+    /// The stripe is neither.
     Bad,
 }
 

@@ -35,7 +35,7 @@ pub fn end_unlike(xs: &[u8], ys: &[u8]) -> usize
     end
 }
 
-/// So many of the bytes, or all and zeros behind them.
+/// The first `count` of the bytes; if there are fewer, all of them and zeros after them.
 pub fn filled(alloc: Global, bytes: &[u8], count: usize) -> Result<Bytes, Memory>
     requires { count < 2 ^ 63 }
     ensures { IfOk result (λ row. row ≡ filled bytes.now count) }

@@ -35,9 +35,9 @@ pub enum Ask {
 pub enum Which {
     /// All of them.
     Every,
-    /// That component.
+    /// The component of a number.
     One { component: u32 },
-    /// Those of a group.
+    /// The components of a group.
     Group { group: u32 },
     /// The first present replica of each position of a group.
     Firsts { group: u32 },
@@ -192,7 +192,7 @@ pub fn write_to(kept: &Kept, offset: u64, bytes: Bytes, to: Target, nonce: u64) 
     }
 }
 
-// This is the first present replica of its position.
+// Whether a component is the first present replica of its position.
 fn is_first(kept: &Kept, component: u32) -> bool
     requires { length kept.now.components ≤ MAX_COMPONENTS }
     ensures { result ≡ is_first kept.now component
@@ -221,7 +221,7 @@ pub fn is_meant(kept: &Kept, which: Which, component: u32) -> bool
     }
 }
 
-/// The same to each present component that is meant, in order, with nonces that rise from `first` on.
+/// The same command to each present component that is meant, in order, with nonces that rise from `first` on.
 #[tactic(auto, unfolding(server_rules::specs::Commands::to_each))]
 pub fn to_all(
     alloc: Global,

@@ -8,12 +8,12 @@ use server_rules::{MAX_PIECE, Piece, Stripes};
 use std::alloc::Global;
 use std::marker::Model;
 
-/// Where a cursor stands: in a stripe of a range, before further ranges.
+/// A cursor's place: in a stripe of a range, before further ranges.
 #[derive(Clone, Copy, Debug, PartialEq, Eq)]
 pub struct Spot {
     /// The stripe in work.
     pub stripe: u64,
-    /// Its first column that isn't worked yet.
+    /// The stripe's first column that isn't worked yet.
     pub column: u64,
     /// The stripe behind the range in work.
     pub end: u64,
@@ -42,7 +42,7 @@ impl Model for PieceCursor {
     ghost invariant = { λ s. IsSettled s.unit s.ranges s.spot };
 }
 
-// The same spot, or the first of the next range that has a stripe.
+// The spot itself if it has a piece, else the first of the next range that has a stripe.
 fn settled(unit: u64, ranges: &[Stripes], spot: Spot) -> Spot
     requires unit { 0 < unit }
     requires column { spot.column < unit }

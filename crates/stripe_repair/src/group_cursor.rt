@@ -49,7 +49,7 @@ fn next_in_group(map: &DataMap, group: u32, stripe: u64) -> u64
     (stripe / depth + u64::from(further)) * depth
 }
 
-// The same spot, or the next of a stripe in the group, if there is one.
+// The spot itself if its stripe is in the group, else the first of the next such stripe, if there is one.
 fn settled(map: &DataMap, group: u32, spot: Spot) -> Spot
     requires group { group < groups map.now }
     requires begin { spot.column ≡ 0 }

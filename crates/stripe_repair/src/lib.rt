@@ -35,7 +35,7 @@ pub use group_cursor::GroupCursor;
 pub use loads::{DriveLoad, MAX_DRIVES, online_count};
 pub use marks::Marks;
 pub use offsets::offset_of;
-pub use placer::Placer;
+pub use placer::{Place, Placer};
 pub use reading::{has_short_stripe, is_left, mark_short, reads, repair_reads, sources};
 pub use rebuild::{FillStage, FillStep, Rebuild};
 pub use repair::{Repair, Stage};

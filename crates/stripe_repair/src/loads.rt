@@ -9,7 +9,7 @@ pub const MAX_DRIVES: usize = 64;
 pub struct DriveLoad {
     /// The number of the drive.
     pub drive: u32,
-    /// It wasn't declared as failed.
+    /// The drive wasn't declared as failed.
     pub online: bool,
     /// How many present components stand on it.
     pub objects: u32,

@@ -1,4 +1,4 @@
-// Where a piece lies.
+// The place of a piece in a component.
 ghost use Rattle.std.specs.Prelude.{◌≡◌, ◌<◌, ◌^◌};
 ghost use Rattle.data_map.specs.Striping.{offset_of};
 ghost use Rattle.stripe_repair.specs.Pieces.{IsPiece};

@@ -6,7 +6,21 @@ use crate::loads::DriveLoad;
 use osd_lists::{Memory, Numbers};
 use std::marker::Model;
 
-/// A rule that chooses drives. Contracts see it as the closure.
+/// A rule that chooses drives for components. Contracts of callers ask [`place`](Place::place) alone, so a rule may be
+/// a struct of its own, or a closure behind [`Placer`].
+pub trait Place {
+    /// The value keeps what its method promises. A type whose every value does leaves this as it is; [`Placer`] has
+    /// here what its closure must keep, since a type can't keep a fact about a closure.
+    ghost is_placer: { Self → Type 0 } = { λ _. Unit {0} };
+
+    /// Chooses `count` different online drives of these, which are at most 64 different drives with as many online.
+    fn place(&self, count: u32, loads: &[DriveLoad]) -> Result<Numbers, Memory>
+        requires placer { is_placer self.now }
+        requires asked { CanPlace count loads.now }
+        ensures { ForOk result (Places count loads.now) };
+}
+
+/// A placement rule that is a closure. Contracts see it as the closure.
 ///
 /// The closure must be a placer: for at most 64 different drives of which at least as many are online as
 /// are asked, it may be called, and its list has as many different online drives of these. A closure that
@@ -34,7 +48,7 @@ where
         Placer { rule }
     }
 
-    /// So many different online drives of these. That the closure is a placer is asked again, since a type
+    /// Chooses `count` different online drives of these. That the closure is a placer is asked again, since a type
     /// can't keep a fact about a closure.
     pub fn place(&self, count: u32, loads: &[DriveLoad]) -> Result<Numbers, Memory>
         requires rule { IsPlacer F.Fn self.now }
@@ -42,5 +56,16 @@ where
         ensures { ForOk result (Places count loads.now) }
     {
         (self.rule)(count, loads)
+    }
+}
+
+impl<F> Place for Placer<F>
+where
+    F: Fn(u32, &[DriveLoad]) -> Result<Numbers, Memory>,
+{
+    ghost is_placer = { λ rule. IsPlacer F.Fn rule };
+
+    fn place(&self, count: u32, loads: &[DriveLoad]) -> Result<Numbers, Memory> {
+        self.place(count, loads)
     }
 }

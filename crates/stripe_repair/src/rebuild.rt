@@ -26,9 +26,9 @@ use std::marker::Model;
 /// What is awaited of the first piece.
 #[derive(Clone, Copy, Debug, PartialEq, Eq)]
 pub enum FillStage {
-    /// Its sources are read.
+    /// The sources of the first piece are read.
     Gathering,
-    /// It is written to the component.
+    /// The first piece is written to the component.
     Filling,
 }
 
@@ -49,7 +49,7 @@ pub enum FillStep {
 /// The rebuild of one component: where it is made anew, and the pieces that are left, the first of which is in
 /// work. Contracts see the list of the pieces; a cursor stands for it.
 ///
-/// It goes on with [`Rebuild::next`] where it begins or the piece in work begins again, with [`Rebuild::feed`]
+/// A rebuild goes on with [`Rebuild::next`] where it begins or the piece in work begins again, with [`Rebuild::feed`]
 /// when the last READ that it sent is answered, and with [`Rebuild::stored`] when its WRITE is.
 #[derive(Drop)]
 pub struct Rebuild {
@@ -185,7 +185,7 @@ impl Rebuild {
         self.next(alloc, kept, nonce)
     }
 
-    /// Where the component is made anew.
+    /// The place at which the component is made anew.
     pub fn target(&self) -> Target
         ensures { result ≡ self.now.target }
     {

@@ -24,7 +24,7 @@ use std::marker::Model;
 /// What is awaited of the first piece.
 #[derive(Clone, Copy, Debug, PartialEq, Eq)]
 pub enum Stage {
-    /// Its rows are read.
+    /// The rows of the first piece are read.
     Fetching,
     /// The rows that differ are written. Where a component became missing since, the piece is `broken` and
     /// begins again afterwards.
@@ -34,7 +34,7 @@ pub enum Stage {
 /// A repair: the pieces that are left, the first of which is in work, and the stripes left short. Contracts
 /// see the list of the pieces; a cursor stands for it.
 ///
-/// It goes on with [`Repair::next`] where it begins or the piece in work begins again, and with
+/// A repair goes on with [`Repair::next`] where it begins or the piece in work begins again, and with
 /// [`Repair::feed`] when the last of the commands that it sent is answered. It is over where it sends none.
 #[derive(Drop)]
 pub struct Repair {

@@ -2,11 +2,11 @@
 use Rattle.std.specs.List.{list_any}
 use Rattle.std.proofs.Common.{◌≡◌, ◌⊎◌, ◌==◌, ◌&&◌, ◌||◌, ◌+◌, ℕ, Bool, true, false, nat_eq, ◌∷◌, [], List, is_some, Option, Some, None, option_map, refl, sym, ap, subst, ◌∙◌, arith, inl, inr, if◌then◌else◌}
 use Rattle.std.proofs.lemmas.Bool.Decides.{nat_tests}
+use Rattle.std.proofs.lemmas.Bool.{and_parts}
 use Rattle.osd_commands.specs.declared.actions.Action.{Action}
 use Rattle.osd_commands.specs.declared.actions.Action.TheVariants.{Create}
 use Rattle.osd_commands.specs.declared.commands.Command.{Command}
 use Rattle.osd_commands.specs.declared.replies.Reply.{Reply}
-use Rattle.osd_commands.proofs.Passing.{both_true}
 use Rattle.osd_objects.specs.declared.lanes.LaneEntry.{LaneEntry}
 use Rattle.osd_objects.specs.declared.object.StoredObject.{StoredObject}
 use Rattle.osd_objects.specs.Objects.{state_of, created}
@@ -104,10 +104,10 @@ made_behind a c verdict.Perform clear is told =
     ∙ lookup_inserted a.state.store.objects c.object made)
 made_behind a c verdict.Again clear is told =
     by_lane (record a { state = a.state }) c.object c.capability.holder c.nonce (object_at a.state.store c.object) refl
-    (both_true (is_mutating c.action) _ (again_row a.state a.clock c clear)).1
+    (and_parts (is_mutating c.action) _ (again_row a.state a.clock c clear)).1
 made_behind a c verdict.Exists clear is told =
     by_found (record a { state = a.state }) c.object (object_at a.state.store c.object) refl
-    (both_true (makes c.action) _ (exists_row a.state a.clock c clear)).1
+    (and_parts (makes c.action) _ (exists_row a.state a.clock c clear)).1
 made_behind a c verdict.OldFormat clear is told = absurd (neither 17 refl refl told)
 made_behind a c verdict.NoKey clear is told = absurd (neither 1 refl refl told)
 made_behind a c verdict.CheckValue clear is told = absurd (neither 2 refl refl told)

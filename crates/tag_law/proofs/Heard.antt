@@ -2,6 +2,7 @@
 use Rattle.std.proofs.Common.{◌≡◌, ◌⊎◌, ◌==◌, ℕ, ◌<◌, ◌^◌, ◌++◌, ◌∷◌, [], List, true, nat_lt, Some, Result, Ok, Err, slice_get, refl, sym, ap, subst, ◌∙◌, append_assoc, arith, inl, inr}
 use Rattle.std.proofs.lemmas.Bool.Decides.{nat_tests}
 use Rattle.std.proofs.lemmas.List.{append-nil}
+use Rattle.std.proofs.lemmas.Bool.{and_parts}
 use Rattle.osd_lists.specs.declared.node.Node.{Node}
 use Rattle.osd_lists.specs.declared.node.Node.TheVariants as node
 use Rattle.osd_commands.specs.declared.actions.Action.TheVariants.{Create}
@@ -10,13 +11,12 @@ use Rattle.osd_commands.specs.declared.commands.CommandErr.{CommandErr}
 use Rattle.osd_commands.specs.declared.replies.Reply.{Reply}
 use Rattle.osd_commands.specs.Commands.{reading}
 use Rattle.osd_commands.specs.Replies as replies
-use Rattle.osd_commands.proofs.Passing.{both_true}
 use Rattle.osd_drive.specs.declared.verdict.Verdict.{Verdict}
 use Rattle.osd_drive.specs.Table.{first_fault}
 use Rattle.osd_drive.specs.Effects.{format_reply, reply_by, state_by}
 use Rattle.server_rules.specs.Laws.{In}
 use Rattle.server_rules.specs.Envelopes.{message_in, by_reply}
-use Rattle.server_rules.specs.Messages.{Replies as RepliesTo, awaited_by, counters_low}
+use Rattle.server_rules.specs.Messages.{Replies as RepliesTo, awaited_by, counters_have_room}
 use Rattle.server_rules.specs.Replies.{is_done, answers}
 use Rattle.scenario_text.specs.declared.line.Party.TheVariants as party
 use Rattle.scenario_text.specs.declared.line.Line.{Line}
@@ -50,14 +50,14 @@ use Rattle.tag_law.proofs.Letters.{world_command}
 
 -- ---- the awaited command
 
-low_nonce : (w : World) → counters_low w.server ≡ true → w.server.next_nonce < 2 ^ 63
-unfolding counters_low
-low_nonce w e = less w.server.next_nonce (2 ^ 63) (both_true _ _ e).0
+low_nonce : (w : World) → counters_have_room w.server ≡ true → w.server.next_nonce < 2 ^ 63
+unfolding counters_have_room
+low_nonce w e = less w.server.next_nonce (2 ^ 63) (and_parts _ _ e).0
   where
     less : (a b : ℕ) → nat_lt a b ≡ true → a < b
     less a b x = grind (arith, x, nat_tests)
 
-read_nonce : (w : World) (d : ℕ) (bytes : List ℕ) (k : IsCommand w d bytes) (c : Command) → counters_low w.server ≡ true
+read_nonce : (w : World) (d : ℕ) (bytes : List ℕ) (k : IsCommand w d bytes) (c : Command) → counters_have_room w.server ≡ true
     → reading bytes ≡ Ok c → (c.nonce ≡ k.command.nonce) × (c.nonce < 2 ^ 64)
 read_nonce w d bytes k c low read =
     let below : k.command.nonce < 2 ^ 64 = omega (arith, low_nonce w low, k.low) in
@@ -69,7 +69,7 @@ format_counts : (x : Reply) → x.verdict ≡ 16 → (x.verdict ≡ 0) ⊎ (x.ve
 format_counts x is (inl e) = absurd (omega (arith, is, e))
 format_counts x is (inr e) = absurd (omega (arith, is, e))
 
-module _ (w : World) (n : Numbers w) (low : counters_low w.server ≡ true) (d : ℕ) (a : Awaited)
+module _ (w : World) (n : Numbers w) (low : counters_have_room w.server ≡ true) (d : ℕ) (a : Awaited)
     (waits : Awaits w.server.files a) (makes : a.command.action ≡ Create) (fits : a.command.object < 2 ^ 64) where
   -- what a drive read with the nonce of an awaited CREATE is that CREATE
   identify : (bytes : List ℕ) (k : IsCommand w d bytes) (c : Command) → reading bytes ≡ Ok c
@@ -132,7 +132,7 @@ unfolding message_in
 read_reply n d bytes x is e =
     replied (replies.reading bytes) x (ap (λ (k : Node). message_in k bytes) (sym is) ∙ e)
 
-pub heard_made : (w : World) (h : List Line) → IsRead w h → Numbers w → counters_low w.server ≡ true
+pub heard_made : (w : World) (h : List Line) → IsRead w h → Numbers w → counters_have_room w.server ≡ true
     → (d k : ℕ) (p : Posted) → slice_get w.network.messages k ≡ Some p → p.message.to ≡ node.Server
     → p.message.from ≡ node.Drive d → (x : Reply) → for_server p.message ≡ Some (RepliesTo x)
     → (f : File) → In f w.server.files → (a : Awaited) → In a (awaited_by f.job) → a.command.action ≡ Create
@@ -161,7 +161,7 @@ heard_made w h r n low d k p there to sender x read f i a j makes answer done fi
       receiver = rep.receiver;
       bytes_are = refl;
     } in
-    let tests = both_true (a.command.nonce == x.nonce) (a.drive == d) answer in
+    let tests = and_parts (a.command.nonce == x.nonce) (a.drive == d) answer in
     let heard : replies.reading (replies.spelling (judges rep.there (reading m.bytes)).reply) ≡ Ok x =
     ap replies.reading (sym rep.bytes_are) ∙ read_reply p.message.from d (spelled p.message.body) x sender read in
     let made : has_reached a.command.object 0 (drive_after t.before d) ≡ true =

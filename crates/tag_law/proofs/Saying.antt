@@ -19,7 +19,7 @@ use Rattle.server_rules.specs.Layouts.{granted}
 use Rattle.server_rules.specs.Served.{Served}
 use Rattle.server_rules.specs.Slots.{Admit, New, Again, Misordered, admit, admit_after, slot_of, keep}
 use Rattle.server_rules.specs.Requests.{serves, carried_out, carries_out, by_admit, on_request}
-use Rattle.server_rules.specs.Messages.{Message, Asks, Replies, Orders, counters_low, by_heard, on_drive_reply, handled, on_message, awaited_by}
+use Rattle.server_rules.specs.Messages.{Message, Asks, Replies, Orders, counters_have_room, by_heard, on_drive_reply, handled, on_message, awaited_by}
 use Rattle.server_rules.specs.Orders.{Ordered, begins_job, starts, recalls_on, declares_known, declare, ordered, with_result}
 use Rattle.server_rules.specs.Making.{refusal, unless_refused, makes_file, create_file}
 use Rattle.server_rules.specs.Openings.{reopen}
@@ -171,8 +171,8 @@ module _ (put : FilesArePut) where
       } in
       says_answer s (carried_out s q v) a
       (λ x i. elim (in_kept s.slots _ x i) [ inl e ↦ inl (ap (λ (y : Slot). y.kept) e) | inr j ↦ inr j ])
-      (λ b i. elim (in_either (Answers b) (to_drives s.drives v.going.moved.sent) _ i) [
-        | inl j ↦ absurd (none_to_drives s.drives v.going.moved.sent b j)
+      (λ b i. elim (in_either (Answers b) (to_drives s.drives v.going.effects.sent) _ i) [
+        | inl j ↦ absurd (none_to_drives s.drives v.going.effects.sent b j)
         | inr j ↦ elim (in_either (Answers b) (recalls_from s.next_recall v.recalled) _ j) [
           | inl k ↦ absurd (none_recalled s.next_recall v.recalled b k)
           | inr k ↦ only_one a b k
@@ -231,7 +231,7 @@ module _ (put : FilesArePut) where
   -- ---- replies and orders
 
   says_at : (s : Server) (n : ℕ) (g : Going) → Says s (step_at s n g)
-  says_at s n g = says_nothing s (step_at s n g) refl (none_to_drives s.drives g.moved.sent)
+  says_at s n g = says_nothing s (step_at s n g) refl (none_to_drives s.drives g.effects.sent)
 
   says_heard : (s : Server) (o : Option Going) → Says s (by_heard s o)
   says_heard s None = says_still s
@@ -299,7 +299,7 @@ module _ (put : FilesArePut) where
   pub says_step : (s : Server) (chosen : List ℕ) (i : Input) → Says s (step s chosen i)
   unfolding on_message create_file reopen
   says_step s chosen (Hears now from m) =
-      either_step s (counters_low s) _ _ (says_message s now chosen from m) (says_still s)
+      either_step s (counters_have_room s) _ _ (says_message s now chosen from m) (says_still s)
   says_step s chosen (Makes n m tag) = says_made s _ (refusal s n m)
   says_step s chosen (Obeys kind n) = says_obeyed s chosen kind n
   says_step s chosen (Adds d) = says_nothing s _ refl (λ a i. i)
@@ -307,4 +307,4 @@ module _ (put : FilesArePut) where
   says_step s chosen Resends = says_nothing s _ refl (none_resent s.drives s.files)
   says_step s chosen Crashes = says_nothing s _ refl (λ a i. i)
   says_step s chosen Opens =
-      either_step s (counters_low s) _ _ (says_nothing s _ refl (none_to_drives s.drives _)) (says_still s)
+      either_step s (counters_have_room s) _ _ (says_nothing s _ refl (none_to_drives s.drives _)) (says_still s)

@@ -3,6 +3,7 @@ use Rattle.std.proofs.Common.{◌≡◌, ◌==◌, ℕ, ◌+◌, ◌++◌, ◌�
 use Rattle.std.proofs.lemmas.Bool.{cases_eq}
 use Rattle.std.proofs.lemmas.List.{append-nil}
 use Rattle.std.proofs.lemmas.List.Sums.{fold-append}
+use Rattle.std.proofs.lemmas.Option.{same_Some}
 use Rattle.osd_commands.specs.declared.actions.Action.{Action}
 use Rattle.osd_commands.specs.declared.actions.Action.TheVariants as action
 use Rattle.osd_commands.specs.declared.commands.Command.{Command}
@@ -11,7 +12,7 @@ use Rattle.osd_commands.specs.Commands.{reading}
 use Rattle.osd_objects.specs.declared.object.StoredObject.{StoredObject}
 use Rattle.osd_objects.specs.Objects.{created, after_write, after_set_tag, after_set_attr}
 use Rattle.osd_objects.specs.Store.{StoreState, object_at, changed_if_there}
-use Rattle.osd_objects.proofs.Entries.{same_some, lookup_inserted, lookup_beside, lookup_set, lookup_set_beside}
+use Rattle.osd_objects.proofs.Entries.{lookup_inserted, lookup_beside, lookup_set, lookup_set_beside}
 use Rattle.osd_drive.specs.declared.verdict.Verdict.{Verdict}
 use Rattle.osd_drive.specs.declared.verdict.Verdict.TheVariants as verdict
 use Rattle.osd_drive.specs.State.{DriveState}
@@ -93,14 +94,14 @@ same_objects : (h lines : List Line) (drive : ℕ) (a b : DriveAt) → b.state.s
 same_objects h lines drive a b same s c is object x there =
     tag_more h lines drive object x.tag
     (s a refl object x
-    (ap (λ z. object_at z object) (sym same) ∙ ap (λ (z : DriveAt). object_at z.state.store object) (same_some b c is)
+    (ap (λ z. object_at z object) (sym same) ∙ ap (λ (z : DriveAt). object_at z.state.store object) (same_Some b c is)
     ∙ there))
 
 -- a drive whose objects are gone, or that has none yet
 no_objects : (h : List Line) (drive : ℕ) (b : DriveAt) → b.state.store.objects ≡ [] → DriveTags h drive (Some b)
 no_objects h drive b none c is object x there =
     absurd (nothing (object_at b.state.store object) (ap (λ es. look es object) none)
-    (ap (λ (z : DriveAt). object_at z.state.store object) (same_some b c is) ∙ there))
+    (ap (λ (z : DriveAt). object_at z.state.store object) (same_Some b c is) ∙ there))
   where
     look : List (ℕ × StoredObject) → ℕ → Option StoredObject
     look es k = object_at (record { capacity = b.state.store.capacity; objects = es }) k
@@ -126,7 +127,7 @@ change_of s k f None none q y e = Same e
 change_of s k f (Some z) there q y e = elim (cases_eq q k) [
   | inl same ↦
       Changed same z there
-      (same_some (f z) y
+      (same_Some (f z) y
       (sym (lookup_set s.objects k (f z) (subst IsSome (sym there) refl))
       ∙ ap (object_at (changed_if_there s k f (Some z))) (sym same) ∙ e))
   | inr other ↦ Same (sym (lookup_set_beside s.objects k q (f z) other) ∙ e)
@@ -146,7 +147,7 @@ created_tag s c is q y e = elim (cases_eq q c.object) [
   | inl same ↦
       let made : StoredObject = created c.capability.tag c.payload (lane_for c 0) in
       let it : made ≡ y =
-      same_some made y
+      same_Some made y
       (sym (lookup_inserted s.objects c.object made) ∙ ap (object_at (effect_of action.Create s c)) (sym same) ∙ e) in
       Given same (inl (is, ap (λ (x : StoredObject). x.tag) (sym it)))
   | inr other ↦ Old y (sym (lookup_beside s.objects c.object q _ other) ∙ e) refl
@@ -159,7 +160,7 @@ set_tag d c is f q y (Same e) = Old y e refl
 set_tag d c is f q y (Changed same x there it) =
     let w = there_with c (object_at d.store c.object) (ap is_create is) f.there f.tag in
     let tag : x.tag ≡ c.capability.tag =
-    ap (λ (z : StoredObject). z.tag) (same_some x w.0 (sym there ∙ w.1)) ∙ w.2 in
+    ap (λ (z : StoredObject). z.tag) (same_Some x w.0 (sym there ∙ w.1)) ∙ w.2 in
     Given same (inr (is, ap (λ (z : StoredObject). z.tag) (sym it) ∙ ap (λ (n : ℕ). n + 1) tag))
 
 tag_from : (a : Action) (d : DriveState) (c : Command) → c.action ≡ a → IsFree d c → (q : ℕ) (y : StoredObject)
@@ -204,7 +205,7 @@ module _ (before : List Line) (l : Line) (d : ℕ) (bytes : List ℕ) (v : ToldV
       tag_more before (l ∷ []) d object x.tag
       (given_tag c read allowed (source performs) object x
       (tag_from c.action j.there.state c refl (free j.there.state j.there.clock c clear) object x
-      (ap (λ (z : DriveAt). object_at z.state.store object) (same_some _ a is) ∙ there)))
+      (ap (λ (z : DriveAt). object_at z.state.store object) (same_Some _ a is) ∙ there)))
     where
       performs : v ≡ told.Perform
       performs =

@@ -11,7 +11,7 @@ use Rattle.osd_commands.specs.Commands.{reading}
 use Rattle.osd_objects.specs.declared.object.StoredObject.{StoredObject}
 use Rattle.osd_objects.specs.Store.{object_at}
 use Rattle.server_rules.specs.Laws.{In}
-use Rattle.server_rules.specs.Messages.{Replies as RepliesTo, awaited_by, counters_low}
+use Rattle.server_rules.specs.Messages.{Replies as RepliesTo, awaited_by, counters_have_room}
 use Rattle.server_rules.specs.Replies.{is_done, answers}
 use Rattle.scenario_text.specs.declared.line.Line.{Line}
 use Rattle.world_history.specs.ServerNames.{Server, File, Awaited}
@@ -108,7 +108,7 @@ module _ (run : ServerSentItsRun) (given : EachTagWasSent) (ahead : NoCommandIsA
         given_from f.kept.tag g.command x.tag (omega (arith, tag, own)) g.gives
 
     -- so where a reply counts as the answer to the CREATE, the tag was reached
-    pub made_reached : counters_low w.server ≡ true → (d n : ℕ) (p : Posted) → slice_get w.network.messages n ≡ Some p
+    pub made_reached : counters_have_room w.server ≡ true → (d n : ℕ) (p : Posted) → slice_get w.network.messages n ≡ Some p
         → p.message.to ≡ node.Server → p.message.from ≡ node.Drive d → (x : Reply)
         → for_server p.message ≡ Some (RepliesTo x) → answers d x a ≡ true → is_done f.kept a x ≡ true
         → reached_in h a.drive a.command.object f.kept.tag ≡ true

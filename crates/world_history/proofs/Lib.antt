@@ -1,3 +1,5 @@
+pub mod DriveLines
+pub mod Parties
 mod Runs
 mod Histories
 mod Closed

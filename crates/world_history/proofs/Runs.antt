@@ -1,5 +1,5 @@
 -- An event that goes on by one move.
-use Rattle.std.proofs.Common.{◌≡◌, ◌++◌, ◌∷◌, [], List, Some, refl, sym, ap, ◌∙◌, append_assoc}
+use Rattle.std.proofs.Common.{◌≡◌, ◌++◌, ◌∷◌, [], List, Some, refl, sym, ap, ◌∙◌, append_assoc, None}
 use Rattle.std.proofs.lemmas.List.{append-nil}
 use Rattle.scenario_text.specs.declared.line.Line.{Line}
 use Rattle.world_history.specs.State.{World}
@@ -28,3 +28,7 @@ lines_more w [] m = append-nil (move w m).lines
 lines_more w (x ∷ ms) m =
     ap (λ (l : List Line). (move w x).lines ++ l) (lines_more (move w x).world ms m)
     ∙ sym (append_assoc (move w x).lines (lines_of (move w x).world ms) _)
+
+pub no_opening : (p : Plan) (ms : List Move) → p.opening ≡ None → (plan_after p ms).opening ≡ None
+no_opening p [] e = e
+no_opening p (m ∷ ms) e = no_opening (went_on p m.action) ms refl

@@ -29,7 +29,7 @@ pub use Rattle.server_rules.specs.declared.server.Slot.{Slot}
 pub use Rattle.server_rules.specs.declared.server.Server.{Server}
 pub use Rattle.server_rules.specs.declared.server.Outgoing.{Outgoing}
 pub use Rattle.server_rules.specs.declared.server.Outgoing.TheVariants.{ToDrive, Recalls, Answers, AnswersOrder}
-pub use Rattle.server_rules.specs.declared.server.Moved.{Moved}
+pub use Rattle.server_rules.specs.declared.server.Effects.{Effects}
 pub use Rattle.server_rules.specs.declared.server.Refusal.{Refusal}
 pub use Rattle.server_rules.specs.declared.server.Refusal.TheVariants.{FileExists, BadMap, TooFewDrives}
 pub use Rattle.layout_ops.specs.declared.messages.Answer.{Answer}

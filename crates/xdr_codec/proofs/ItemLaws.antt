@@ -9,6 +9,7 @@ use Rattle.std.proofs.lemmas.List.{take-append-drop, take_at, drop_at, length-ap
 use Rattle.std.proofs.lemmas.Nat.{be_bytes_4, be_bytes_8, from_be_bytes-to_be_bytes_4, from_be_bytes-to_be_bytes_8}
 use Rattle.osd_lists.specs.Blocks.{IsBytes, first_nonzero}
 use Rattle.osd_lists.proofs.BlockLaws.{length-range, zeros, first_nonzero-zeros, IsBytes-range, below_32, below_64, next}
+use Rattle.osd_lists.proofs.Options.{guard_ok}
 use Rattle.xdr_codec.specs.declared.err.XdrErr.{XdrErr}
 use Rattle.xdr_codec.specs.declared.err.XdrErr.TheVariants.{BadBool, TooMany}
 use Rattle.xdr_codec.specs.Items.{padded, u32_item, u64_item, i64_item, bool_item, fixed_item, opaque_item}
@@ -21,11 +22,6 @@ use Rattle.xdr_codec.specs.Reading.{number_in, Rest, behind, ◌>>=◌, u32_in, 
 pub bind_ok : {A B E : Type 0} (r : Result A E) (f : A → Result B E) (y : B) → (r >>= f) ≡ Ok y → (x : A) × (r ≡ Ok x) × (f x ≡ Ok y)
 bind_ok (Ok x) f y e = (x, refl, e)
 bind_ok (Err d) f y e = absurd cc
-
--- a test that did not refuse
-pub guard_ok : {A E : Type 0} (b : Bool) (d : E) (r : Result A E) (y : A) → cond b (Err d) r ≡ Ok y → (b ≡ false) × (r ≡ Ok y)
-guard_ok true d r y e = absurd cc
-guard_ok false d r y e = (refl, e)
 
 abbrev done : {A E : Type 0} → A → Result A E
 done x = Ok x
@@ -217,9 +213,21 @@ u32_rest : (left : List ℕ) (n : ℕ) (rest : List ℕ) → left ≡ u32_item n
 unfolding u32_item
 u32_rest left n rest e = rw e refl
 
-length-u32 : (n : ℕ) → length (u32_item n) ≡ 4
+pub length-u32 : (n : ℕ) → length (u32_item n) ≡ 4
 unfolding u32_item
 length-u32 n = refl
+
+pub length-u64 : (n : ℕ) → length (u64_item n) ≡ 8
+unfolding u64_item
+length-u64 n = refl
+
+pub length-bool : (b : Bool) → length (bool_item b) ≡ 4
+length-bool false = length-u32 0
+length-bool true = length-u32 1
+
+pub length-device : (xs : List ℕ) → length xs ≡ 16 → length (fixed_item xs) ≡ 16
+unfolding fixed_item
+length-device xs e = length-append xs _ ∙ rw e refl
 
 pub opaque_codec : (most : ℕ) → most < 2 ^ 32 → IsCodec (opaque_in most) opaque_item (λ v. length v ≤ most)
 unfolding opaque_in opaque_item fixed_item

@@ -10,7 +10,7 @@ pub list-requires : goal.list-requires
 list-requires g c =
     let same = rw c.as_slice.ensures at c.in_ok-made.ensures.value in
     let old = c.args.state.now.files.entries in
-    good_settled c.args.file.number c.args.state.now c.put.new.files c.settle.new.state c.make.new.moved c.in_ok-step.step
+    good_settled c.args.file.number c.args.state.now c.put.new.files c.finish_step.new.state c.make.new.effects c.in_ok-step.step
     (good_before c.args.state.now c.args.file.number c.args.file.map c.requires.good c.requires.usable)
     (subst (λ (t : Table). AreEntries t) (sym c.in_ok-put.ensures) (entries_inserted old c.args.file.number c.make.new.file c.requires.good.files
     (record { number = c.in_ok-make.ensures.keeps.number ∙ ap (λ (f : File). f.kept.number) same; sound = c.in_ok-make.ensures.sound })))
@@ -21,7 +21,7 @@ pub returns-clause-made : goal.returns-clause-made
 returns-clause-made g c =
     let placed = rw c.raw.ensures.value at c.in_ok-drives.ensures.placed in
     let same = rw c.as_slice.ensures at c.in_ok-made.ensures.value in
-    let steps = rw (c.begins-moved.ensures, c.len.ensures) at c.in_ok-make.ensures.steps in
-    created_too c.args.file.number c.args.file.map c.args.file.tag c.args.state.now c.settle.new.state c.list.new.state c.in_ok-step.step c.in_ok-list.ensures.server
-    (made_at c.args.state.now c.put.new.files c.settle.new.state c.make.new.moved c.args.file.number c.args.file.tag c.args.file.map c.in_ok-drives.drives
+    let steps = rw (c.no_effects-effects.ensures, c.len.ensures) at c.in_ok-make.ensures.steps in
+    created_too c.args.file.number c.args.file.map c.args.file.tag c.args.state.now c.finish_step.new.state c.list.new.state c.in_ok-step.step c.in_ok-list.ensures.server
+    (made_at c.args.state.now c.put.new.files c.finish_step.new.state c.make.new.effects c.args.file.number c.args.file.tag c.args.file.map c.in_ok-drives.drives
     c.in_ok-made.made c.make.new.file c.in_ok-step.step c.requires.good.files c.requires.usable placed same c.in_ok-make.ensures.keeps.number c.in_ok-put.ensures steps c.in_ok-step.ensures)

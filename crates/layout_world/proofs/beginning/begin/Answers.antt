@@ -14,23 +14,23 @@ returns-in-File g c = rw c.in-File.is c.make_file.ensures
 
 pub returns-in-Recall : goal.returns-in-Recall
 unfolding begins
-returns-in-Recall g c = rw c.in-Recall.is c.recall.ensures
+returns-in-Recall g c = rw (c.in-Recall.is, ← c.number.ensures.number) c.order.ensures
 
 pub returns-in-Revoke : goal.returns-in-Revoke
 unfolding begins
-returns-in-Revoke g c = rw c.in-Revoke.is c.revoke.ensures
+returns-in-Revoke g c = rw (c.in-Revoke.is, ← c.number-in-Revoke.ensures.number) c.order-in-Revoke.ensures
 
 pub returns-in-Rebuild : goal.returns-in-Rebuild
 unfolding begins
-returns-in-Rebuild g c = rw c.in-Rebuild.is c.rebuild.ensures
+returns-in-Rebuild g c = rw (c.in-Rebuild.is, ← c.number-in-Rebuild.ensures.number) c.order-in-Rebuild.ensures
 
 pub returns-in-Audit : goal.returns-in-Audit
 unfolding begins
-returns-in-Audit g c = rw c.in-Audit.is c.audit.ensures
+returns-in-Audit g c = rw (c.in-Audit.is, ← c.number-in-Audit.ensures.number) c.order-in-Audit.ensures
 
 pub returns-in-Declare : goal.returns-in-Declare
 unfolding begins
-returns-in-Declare g c = rw c.in-Declare.is c.declare.ensures
+returns-in-Declare g c = rw (c.in-Declare.is, ← c.number-in-Declare.ensures.number) c.order-in-Declare.ensures
 
 pub returns-in_default : goal.returns-in_default
 returns-in_default g c =

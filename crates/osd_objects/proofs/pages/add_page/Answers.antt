@@ -2,8 +2,9 @@ use Rattle.std.proofs.Common.{◌≡◌, ◌∙◌, sym, ap, false, is_some}
 use Rattle.std.specs.Ordering.{nat_cmp}
 use Rattle.std.specs.BTreeMap.{is_at, insert_entry}
 use Rattle.std.specs.Map.{remove_entry}
+use Rattle.osd_lists.proofs.Options.{none_there}
 use Rattle.osd_objects.specs.Pages.{Pages, page_at, without_pages}
-use Rattle.osd_objects.proofs.Entries.{removed_again, none_there}
+use Rattle.osd_objects.proofs.Entries.{removed_again}
 use Rattle.osd_objects.proofs.PageLaws.{without_added}
 use Rattle.osd_objects.proofs.pages.add_page.Goals as goal
 

@@ -1,7 +1,8 @@
 use Rattle.std.proofs.Common.{sym, ◌∙◌}
 use Rattle.std.proofs.lemmas.List.Elements.{All-drop}
+use Rattle.osd_lists.proofs.Options.{none_but}
 use Rattle.stripe_repair.specs.Pieces.{IsPiece}
-use Rattle.stripe_repair.proofs.RepairLaws.{step_past, step_stops, step_ends, some_of, none_of, no_piece}
+use Rattle.stripe_repair.proofs.RepairLaws.{step_past, step_stops, step_ends, some_of, none_of}
 use Rattle.stripe_repair.proofs.repair.go_on.Goals as goal
 
 pub returns-then-not-is_empty-clause-exact : goal.returns-then-not-is_empty-clause-exact
@@ -27,4 +28,4 @@ loop-piece-preserved c =
 pub returns-clause-exact : goal.returns-clause-exact
 returns-clause-exact c =
     let l = c.loop-piece in
-    rw c.new.ensures (step_ends c.args.kept.now c.args.nonce l.todo l.short (sym c.first.ensures ∙ no_piece c.first.result c.in_default.not-Some) ∙ l.invariant.same)
+    rw c.new.ensures (step_ends c.args.kept.now c.args.nonce l.todo l.short (sym c.first.ensures ∙ none_but c.first.result c.in_default.not-Some) ∙ l.invariant.same)

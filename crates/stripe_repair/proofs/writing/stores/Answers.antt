@@ -1,7 +1,8 @@
 use Rattle.std.proofs.Common.{arith, [], sym, ap, ◌∙◌, ◌++◌, ◌∷◌}
 use Rattle.std.proofs.lemmas.List.{append_assoc}
+use Rattle.osd_lists.proofs.Options.{none_but}
 use Rattle.stripe_repair.specs.Pieces.{rows_of}
-use Rattle.stripe_repair.proofs.StoreLaws.{next_some, next_none, no_some}
+use Rattle.stripe_repair.proofs.StoreLaws.{next_some, next_none}
 use Rattle.stripe_repair.proofs.writing.stores.Goals as goal
 use Rattle.stripe_repair.proofs.writing.stores.Goals.{in-Some+in_ok-push, in_default}
 
@@ -24,7 +25,7 @@ loop-at-preserved c =
       }
       | in_default w ↦ record {
         all =
-            rw (w.out-is, w.nonce-is) (ap (λ xs. l.out ++ xs) (sym (next_none f c.args.piece rows c.args.heard.now f.components l.at-index l.component l.nonce _ o inside is (no_some o w.in_default.not-Some)))
+            rw (w.out-is, w.nonce-is) (ap (λ xs. l.out ++ xs) (sym (next_none f c.args.piece rows c.args.heard.now f.components l.at-index l.component l.nonce _ o inside is (none_but o w.in_default.not-Some)))
             ∙ l.invariant.all);
         place = omega (arith, l.invariant.place);
         low = omega (arith, l.invariant.low, w.nonce-is);

@@ -1,9 +1,9 @@
 use Rattle.std.proofs.Common.{sym, ◌∙◌, drop}
+use Rattle.osd_lists.proofs.Options.{none_but}
 use Rattle.server_rules.specs.Jobs.{audited_on}
 use Rattle.server_rules.specs.Audit.{audits}
 use Rattle.server_rules.specs.declared.jobs.Tally.{Tally}
 use Rattle.stripe_repair.specs.Auditing.{state_of, bad_by}
-use Rattle.stripe_repair.proofs.RepairLaws.{no_piece}
 use Rattle.stripe_repair.proofs.AuditLaws.{audited_past, audited_ends, same_audit}
 use Rattle.stripe_repair.proofs.audit.Audit.feed.Goals as goal
 use Rattle.stripe_repair.proofs.audit.Audit.feed.Goals.{in-Some+in_ok-mark_bad, in_default}
@@ -21,6 +21,6 @@ returns c =
           (rw (w.self-is, w.advance.ensures, w.in_ok-mark_bad.ensures) at c.next.ensures)
       | in_default w ↦
           same_audit c.next.result f c.args.nonce (λ g. audited_on g s.todo t c.args.heard.now) (λ g. audits g s.todo t) c.next.new.self
-          (λ g at. audited_ends g s.todo t c.args.heard.now (sym c.first.ensures ∙ no_piece c.first.result w.in_default.not-Some))
+          (λ g at. audited_ends g s.todo t c.args.heard.now (sym c.first.ensures ∙ none_but c.first.result w.in_default.not-Some))
           (rw (w.self-is, ← c.self.view_is) at c.next.ensures)
     ])

@@ -1,10 +1,10 @@
 use Rattle.std.proofs.Common.{sym, ◌∙◌, drop}
 use Rattle.std.proofs.lemmas.List.Elements.{All-drop}
+use Rattle.osd_lists.proofs.Options.{none_but, none_but as no_piece}
 use Rattle.server_rules.specs.Jobs.{gathered}
 use Rattle.server_rules.specs.Rebuild.{fills}
 use Rattle.stripe_repair.specs.Filling.{IsPieceOf}
-use Rattle.stripe_repair.proofs.RepairLaws.{no_piece}
-use Rattle.stripe_repair.proofs.RebuildLaws.{gathered_stores, gathered_past, gathered_ends, same_fill, no_write}
+use Rattle.stripe_repair.proofs.RebuildLaws.{gathered_stores, gathered_past, gathered_ends, same_fill}
 use Rattle.stripe_repair.proofs.rebuild.Rebuild.feed.Goals as goal
 use Rattle.stripe_repair.proofs.rebuild.Rebuild.feed.Goals.{in-Some+in_ok-bytes+in_ok-write+in_default-write, in_default}
 
@@ -31,7 +31,7 @@ returns-clause-rules c =
       | in-Some+in_ok-bytes+in_ok-write+in_default-write w ↦
           let write = rw (w.as_slice.ensures, w.in_ok-bytes.ensures.value) at w.in_ok-write.ensures in
           same_fill c.next.result f c.args.nonce (λ g. gathered g s.target s.todo c.args.heard.now) (λ g. fills g s.target (drop 1 s.todo)) c.next.new.self
-          (λ g at. gathered_past f c.args.nonce g s.target s.todo c.args.heard.now w.in-Some.piece at (sym c.first.ensures ∙ w.in-Some.is) (sym write ∙ no_write w.in_ok-write.write w.in_default-write.not-Some))
+          (λ g at. gathered_past f c.args.nonce g s.target s.todo c.args.heard.now w.in-Some.piece at (sym c.first.ensures ∙ w.in-Some.is) (sym write ∙ none_but w.in_ok-write.write w.in_default-write.not-Some))
           (rw (w.self-is, w.advance.ensures) at c.next.ensures.rules)
       | in_default w ↦
           same_fill c.next.result f c.args.nonce (λ g. gathered g s.target s.todo c.args.heard.now) (λ g. fills g s.target s.todo) c.next.new.self

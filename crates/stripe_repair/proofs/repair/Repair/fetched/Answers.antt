@@ -1,9 +1,10 @@
 use Rattle.std.proofs.Common.{sym, ◌∙◌, drop}
 use Rattle.std.proofs.lemmas.List.Elements.{All-drop}
+use Rattle.osd_lists.proofs.Options.{none_but}
 use Rattle.server_rules.specs.Jobs.{fetched}
 use Rattle.server_rules.specs.Repair.{repairs}
 use Rattle.stripe_repair.specs.Pieces.{IsPiece}
-use Rattle.stripe_repair.proofs.RepairLaws.{fetched_stores, fetched_past, fetched_ends, same_ok, some_of, none_of, no_piece}
+use Rattle.stripe_repair.proofs.RepairLaws.{fetched_stores, fetched_past, fetched_ends, same_ok, some_of, none_of}
 use Rattle.stripe_repair.proofs.repair.Repair.fetched.Goals as goal
 use Rattle.stripe_repair.proofs.repair.Repair.fetched.Goals.{in-Some+in_ok-writes+else-not-is_empty, in_default}
 
@@ -28,6 +29,6 @@ returns c =
           (rw (w.self-is, w.advance.ensures) at c.next.ensures)
       | in_default w ↦
           same_ok c.next.result f c.args.nonce (λ kind g. fetched kind g s.todo s.short c.args.heard.now) (λ kind g. repairs kind g s.todo s.short) c.next.new.self
-          (λ kind g at. fetched_ends kind g s.todo s.short c.args.heard.now (sym c.first.ensures ∙ no_piece c.first.result w.in_default.not-Some))
+          (λ kind g at. fetched_ends kind g s.todo s.short c.args.heard.now (sym c.first.ensures ∙ none_but c.first.result w.in_default.not-Some))
           (rw (w.self-is, ← c.self.view_is) at c.next.ensures)
     ])

@@ -1,0 +1,6 @@
+use Rattle.std.proofs.lemmas.Result.{IfOk-weaker}
+use Rattle.file_jobs.proofs.Mends.{sound_from}
+use Rattle.file_jobs.proofs.audit.rest_in_audit.Goals as goal
+
+pub returns-clause-sound : goal.returns-clause-sound
+returns-clause-sound c = IfOk-weaker c.rest.result _ _ (λ turn h. sound_from turn _ _ _ _ tt h) c.rest.ensures.job

@@ -1,7 +1,0 @@
-use Rattle.std.specs.Prelude.{refl}
-use Rattle.std.proofs.lemmas.Result.{IfOk-weaker}
-use Rattle.file_jobs.proofs.Mends.{sound_after}
-use Rattle.file_jobs.proofs.fencing.fenced.Goals as goal
-
-pub returns-clause-sound : goal.returns-clause-sound
-returns-clause-sound c = IfOk-weaker c.repair_begins.result _ _ (λ turn h. sound_after turn _ _ _ _ (rw c.in_ok-note.ensures (refl, refl)) h) c.repair_begins.ensures.sound

@@ -1,5 +1,0 @@
-use Rattle.file_jobs.proofs.Rising.{are_inside}
-use Rattle.file_jobs.proofs.mending.repair_begins.Goals as goal
-
-pub new-repair-requires : goal.new-repair-requires
-new-repair-requires c = are_inside 0 c.in_ok-ranges.ranges c.in_ok-ranges.ensures.rise
