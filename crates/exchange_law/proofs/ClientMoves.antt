@@ -3,12 +3,13 @@ use Rattle.std.proofs.Common.{◌≡◌, ℕ, ◌+◌, List, Some, IsSome, lengt
 use Rattle.std.proofs.lemmas.Bool.{cases_eq}
 use Rattle.std.proofs.lemmas.List.{length-append}
 use Rattle.osd_objects.proofs.Entries.{lookup_inserted, lookup_beside, lookup_set, lookup_set_beside}
+use Rattle.server_rules.specs.History.{step as server_step}
 use Rattle.client_rules.specs.Messages.{Step as ClientStep}
 use Rattle.client_rules.specs.Steps.{new_client}
 use Rattle.client_rules.specs.History.{Input, step}
 use Rattle.world_history.specs.ClientNames.{Client}
 use Rattle.world_history.specs.State.{ClientAt, World, at_number, with_number, and_number, empty_world}
-use Rattle.world_history.specs.Handed.{Post, is_addressed, client_posts, wrote_in, data_in, op_in}
+use Rattle.world_history.specs.Handed.{Post, is_addressed, server_post, client_posts, wrote_in, data_in, op_in}
 use Rattle.world_history.specs.Moves.{Act, Action, acts}
 use Rattle.world_history.specs.Sending.{Move, move, fresh}
 use Rattle.move_law.specs.Moves.{MoveCases}
@@ -61,30 +62,30 @@ module _ (R : ℕ → Client → Type 0) (k : IsKeptByClients R) (n : ℕ) (w : 
     | inr other ↦ k.more n 0 x.state (all d x (sym (lookup_beside w.clients c d b other) ∙ there))
   ]
 
-  -- no client changes
-  same_clients : (v : World) (ps : List Post) → v.clients ≡ w.clients → Goes R n v ps
-  same_clients v ps same c a found =
-      k.more n (length ps) a.state (all c a (ap (λ (xs : Clients). at_number xs c) (sym same) ∙ found))
+  -- no client changes, and so many messages are sent
+  stay : (m : ℕ) → AllClients R w.clients (n + m)
+  stay m c a found = k.more n m a.state (all c a found)
 
   abbrev GoesTo : Act → Type 0
   GoesTo a = Goes R n a.world a.posts
 
   cases : (chosen : List ℕ) (action : Action) → MoveCases w chosen action GoesTo
   cases chosen action = record {
-    rests = λ ms said told quiet. same_clients _ _ refl;
-    refused = λ c a found op is e why. same_clients _ _ refl;
-    clock = λ time. same_clients _ _ refl;
-    serves = λ ms said i is. same_clients _ _ refl;
+    rests = λ ms said told quiet. stay 0;
+    refused = λ c a found op is e why. stay 0;
+    clock = λ time. stay 0;
+    serves = λ ms said i is.
+        stay (length (filter is_addressed (map server_post (server_step w.server chosen i).sends)));
     goes = λ ms said c a found i is.
         put_client c a _ (posted c (wrote_in a i) (data_in (op_in a.state i)) (step a.state i)) found
         (k.steps n a.state i c (wrote_in a i) (data_in (op_in a.state i)) (all c a found));
     comes = λ c is. add_client c _ (k.made n c);
     stops = λ c a found. put_client c a _ 0 found (k.more n 0 a.state (all c a found));
-    judged = λ ms said d a found failed m number. same_clients _ _ refl;
-    injected = λ d bytes is a found. same_clients _ _ refl;
-    turns = λ d a b found turns. same_clients _ _ refl;
-    known = λ d key capacity is knows. same_clients _ _ refl;
-    adds = λ d key capacity is knows. same_clients _ _ refl;
+    judged = λ ms said d a found failed m number. stay 1;
+    injected = λ d bytes is a found. stay 0;
+    turns = λ d a b found turns. stay 0;
+    known = λ d key capacity is knows. stay 0;
+    adds = λ d key capacity is knows. stay 0;
   }
 
   acts_go : (chosen : List ℕ) (action : Action) → Goes R n (acts w chosen action).world (acts w chosen action).posts

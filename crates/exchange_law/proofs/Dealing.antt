@@ -74,6 +74,10 @@ none_sent p n i e = i
 same_states : (w v : World) → v.clients ≡ w.clients → StatesStay w v
 same_states w v e c b there = (b, ap (λ xs. at_number xs c) (sym e) ∙ there, refl)
 
+others : (w v : World) (ps : List Post) → v.clients ≡ w.clients → messages_in v ≡ messages_in w → NoneOfClients ps
+    → Acts w v ps
+others w v ps clients messages none = Others (same_states w v clients) messages none
+
 quiet_act : (w v : World) → v.clients ≡ w.clients → messages_in v ≡ messages_in w → Acts w v []
 quiet_act w v clients messages = Others (same_states w v clients) messages none_sent
 
@@ -146,10 +150,10 @@ module _ (w : World) (c : ℕ) where
 
 cases : (w : World) (chosen : List ℕ) (action : Action) → MoveCases w chosen action (ActsIn w)
 cases w chosen action = record {
-  rests = λ ms said told quiet. Others (same_states w _ refl) said none_sent;
+  rests = λ ms said told quiet. quiet_act w _ refl said;
   refused = λ c a found op is e why. quiet_act w _ refl refl;
   clock = λ time. quiet_act w _ refl refl;
-  serves = λ ms said i is. Others (same_states w _ refl) said (server_none (server_input.step w.server chosen i).sends);
+  serves = λ ms said i is. others w _ _ refl said (server_none (server_input.step w.server chosen i).sends);
   goes = λ ms said c a found i is.
       Goes c a i found (heard_by w action c a i is)
       (λ x there. ap (λ (y : ClientAt). y.state) (put_own w.clients c a _ found x there))
@@ -159,7 +163,7 @@ cases w chosen action = record {
       Makes c (new_state w c) (λ n b other there. sym (lookup_beside w.clients c n _ other) ∙ there) refl none_sent;
   stops = λ c a found. Others (stopped w c a found) refl none_sent;
   judged = λ ms said d a found failed m number.
-      Others (same_states w _ refl) said (reply_none d m.posted.message.from _);
+      others w _ _ refl said (reply_none d m.posted.message.from _);
   injected = λ d bytes is a found. quiet_act w _ refl refl;
   turns = λ d a b found turns. quiet_act w _ refl refl;
   known = λ d key capacity is knows. quiet_act w _ refl refl;

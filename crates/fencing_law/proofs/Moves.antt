@@ -9,6 +9,7 @@ use Rattle.server_rules.specs.History.{Input, Hears, step}
 use Rattle.server_rules.specs.History as server_input
 use Rattle.client_rules.specs.History as client_input
 use Rattle.scenario_text.specs.declared.line.Delivery.{Delivery}
+use Rattle.scenario_text.specs.declared.line.Delivery.TheVariants as delivery
 use Rattle.scenario_text.specs.declared.line.Note.TheVariants as note
 use Rattle.scenario_text.specs.declared.line.Outcome.{Outcome}
 use Rattle.scenario_text.specs.declared.line.Line.{Line}
@@ -41,6 +42,10 @@ posts_of os = filter is_addressed (map server_post os)
 -- the lines tell of no fence that is over
 abbrev pub TellsNone : List Line → Type 0
 TellsNone ls = (f tag : ℕ) → In (line.Note f (note.Fenced tag)) ls → ⊥
+
+-- one of these notes is that this fence is over
+abbrev pub IsNoted : List server_rules.Note → (file tag : ℕ) → Type 0
+IsNoted ns f tag = (n : server_rules.Note) × In n ns × (n.file ≡ f) × (n.kind ≡ server_rules.Fenced tag)
 
 -- the lines tell only of the ends of fences that the notes name
 abbrev pub TellsOf : List server_rules.Note → List Line → Type 0
@@ -178,11 +183,12 @@ cases w chosen action = record {
   clock = λ time. Others refl refl none_told none_sent;
   serves = λ ms said i is.
       Serves chosen i (sent_to_it w action i is) refl said
-      (behind _ (filter_map known_note_line (step w.server chosen i).notes)
-      (notes_told (step w.server chosen i).notes) action _) refl;
+      (behind (IsNoted (step w.server chosen i).notes) (filter_map known_note_line (step w.server chosen i).notes)
+      (notes_told (step w.server chosen i).notes) action delivery.Taken) refl;
   goes = λ ms said c a found i is.
       Others refl said
-      (behind (λ f tag. ⊥) _ (told_none c (op_in a.state i) (client_input.step a.state i).outcome) action _)
+      (behind (λ f tag. ⊥) (ended_by c (op_in a.state i) (client_input.step a.state i).outcome)
+      (told_none c (op_in a.state i) (client_input.step a.state i).outcome) action delivery.Taken)
       (addressed _ (clients_send c (wrote_in a i) (data_in (op_in a.state i)) (client_input.step a.state i).sends));
   comes = λ c is. Others refl refl none_told none_sent;
   stops = λ c a found. Others refl refl none_told none_sent;

@@ -11,6 +11,7 @@ use Rattle.scenario_text.specs.declared.event.Machine.TheVariants as machine
 use Rattle.scenario_text.specs.declared.event.Sender.TheVariants as sender
 use Rattle.scenario_text.specs.declared.line.Delivery.{Delivery}
 use Rattle.scenario_text.specs.declared.line.Delivery.TheVariants as delivery
+use Rattle.scenario_text.specs.declared.line.Refusal.TheVariants as refusal
 use Rattle.scenario_text.specs.declared.line.Line.{Line}
 use Rattle.scenario_text.specs.declared.line.Line.TheVariants as line
 use Rattle.server_rules.specs.declared.server.Refusal.{Refusal}
@@ -208,7 +209,7 @@ module _ (w : World) (chosen : List ℕ) (action : Action) (P : Act → Type 0) 
   leaves c for front =
       at_client c _ (at_number w.clients c) refl
       (λ a found. either_act (is_some a.state.call) _ _
-      (k.rests w.network.messages refl (line.Refused c _ ∷ []) (tt, tt))
+      (k.rests w.network.messages refl (line.Refused c refusal.Busy ∷ []) (tt, tt))
       (subst (λ (l : List Line). P (fronted l (client_did w c a client.Leaves (client.step a.state client.Leaves)))) front
       (k.goes w.network.messages refl c a found client.Leaves (for a))))
 

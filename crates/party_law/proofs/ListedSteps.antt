@@ -38,11 +38,15 @@ cases s chosen i safe = record {
   number = λ ds f g x. x.number;
   answered = λ x is. answered_none s chosen x is.runs (safe_in s.files safe x.file is.there);
   fenced = λ f is kind none. fence_fewer (IsOffline s.drives) kind s.format (at_file s chosen f);
-  declared = λ d known f there m placed. declares_fewer (IsOffline (offline s.drives d)) _ d
+  declared = λ d known f there m placed.
+      declares_fewer (IsOffline (offline s.drives d))
+      (record { file = f; effects = m; drives = offline s.drives d; chosen = placed }) d
       (safe_in s.files safe f there) (now_out s.drives d known);
   made = λ f none. (ran_making (at_file (with_file s f) [] f)).grants ∙ none;
   crashed = λ f there. fewer_itself (IsOffline s.drives) f.kept;
-  opened = λ f there m. opens_fewer (IsOffline s.drives) s.format _;
+  opened = λ f there m.
+      opens_fewer (IsOffline s.drives) s.format
+      (record { file = f; effects = m; drives = s.drives; chosen = [] });
 }
 
 pub step_did : (s : Server) (chosen : List ℕ) (i : Input) → AreSafe s.files → Did s chosen i (step s chosen i)

@@ -56,7 +56,9 @@ cases s chosen i h = record {
       (order_fence s.next_grant kind s.format (at_file s chosen f));
   declared = λ d known.
       declared_each (IsInOrder s.next_grant) d (offline s.drives d) s.files (begins s) chosen
-      (λ f there m placed. same_order s.next_grant f _ (stays_declared _ d) (h f there));
+      (λ f there m placed.
+      let g : Going = record { file = f; effects = m; drives = offline s.drives d; chosen = placed } in
+      same_order s.next_grant f (declares g d).file (stays_declared g d) (h f there));
   told = λ t now o is result kept. kept;
   made = λ n m tag is none.
       let f : File = new_file s chosen n m tag in
@@ -72,7 +74,9 @@ cases s chosen i h = record {
       (λ f there. same_order s.next_grant f (crashed_file f) refl (h f there));
   opened = λ is low.
       opened_each (IsInOrder s.next_grant) s.format s.drives s.files (begins s)
-      (λ f there m. order_opened s.next_grant s.format _ (h f there));
+      (λ f there m.
+      order_opened s.next_grant s.format (record { file = f; effects = m; drives = s.drives; chosen = [] })
+      (h f there));
 }
   where
     put : (g : Going) → IsInOrder s.next_grant g.file

@@ -4,6 +4,7 @@ use Rattle.server_rules.specs.Files.{Step, file_at, at_file}
 use Rattle.server_rules.specs.History.{Input, step}
 use Rattle.server_rules.specs.Laws.{AreSafe}
 use Rattle.server_rules.specs.Making.{with_file}
+use Rattle.server_rules.specs.Orders.{offline}
 use Rattle.server_rules.proofs.Runs.{ran_making}
 use Rattle.world_history.specs.ServerNames.{Server, File, Drive}
 use Rattle.move_law.specs.Files.{FilesGo, FileCases}
@@ -33,10 +34,13 @@ cases s chosen i safe = record {
   number = λ ds f g x. x.number;
   answered = λ x is. answered_none s chosen x is.runs (safe_in s.files safe x.file is.there);
   fenced = λ f is kind none. fence_fewer kind s.format (at_file s chosen f);
-  declared = λ d known f there m placed. declares_fewer _ d (safe_in s.files safe f there);
+  declared = λ d known f there m placed.
+      declares_fewer (record { file = f; effects = m; drives = offline s.drives d; chosen = placed }) d
+      (safe_in s.files safe f there);
   made = λ f none. (ran_making (at_file (with_file s f) [] f)).grants ∙ none;
   crashed = λ f there. fewer_itself f.kept;
-  opened = λ f there m. opens_fewer s.format _;
+  opened = λ f there m.
+      opens_fewer s.format (record { file = f; effects = m; drives = s.drives; chosen = [] });
 }
 
 pub step_did : (s : Server) (chosen : List ℕ) (i : Input) → AreSafe s.files → Did s chosen i (step s chosen i)

@@ -105,20 +105,20 @@ IsNamedAction action = Unit {0}
 -- ---- each action
 
 -- what an action gives the server
-on : (j i : Input) → IsNamedInput j × (is_running j ≡ true) → Some j ≡ Some i → IsNamedInput i × (is_running i ≡ true)
-on j i x e =
+on : (j i : Input) → Some j ≡ Some i → IsNamedInput j × (is_running j ≡ true) → IsNamedInput i × (is_running i ≡ true)
+on j i e x =
     let same : j ≡ i = cc e in subst (λ (k : Input). IsNamedInput k × (is_running k ≡ true)) same x
 
 named_given : (action : Action) (i : Input) → given_in action ≡ Some i → IsNamedAction action
     → IsNamedInput i × (is_running i ≡ true)
-named_given (Opens (event.File f m tag)) i e named = on _ i (named, refl) e
-named_given (Opens (event.Format format)) i e named = on _ i (tt, refl) e
-named_given (Opens (event.Resend sender.Server)) i e named = on _ i (tt, refl) e
-named_given (Opens (event.Recall f)) i e named = on _ i (tt, refl) e
-named_given (Opens (event.Revoke f)) i e named = on _ i (tt, refl) e
-named_given (Opens (event.Rebuild f)) i e named = on _ i (tt, refl) e
-named_given (Opens (event.Audit f)) i e named = on _ i (tt, refl) e
-named_given (Opens (event.Declare d)) i e named = on _ i (tt, refl) e
+named_given (Opens (event.File f m tag)) i e named = on _ i e (named, refl)
+named_given (Opens (event.Format format)) i e named = on _ i e (tt, refl)
+named_given (Opens (event.Resend sender.Server)) i e named = on _ i e (tt, refl)
+named_given (Opens (event.Recall f)) i e named = on _ i e (tt, refl)
+named_given (Opens (event.Revoke f)) i e named = on _ i e (tt, refl)
+named_given (Opens (event.Rebuild f)) i e named = on _ i e (tt, refl)
+named_given (Opens (event.Audit f)) i e named = on _ i e (tt, refl)
+named_given (Opens (event.Declare d)) i e named = on _ i e (tt, refl)
 named_given action i e named = absurd (cc e)
 
 comes : (w : World) (action : Action) (i : Input) → IsForServer w action i → IsNamedAction action → Comes w i
