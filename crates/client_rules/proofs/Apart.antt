@@ -1,6 +1,6 @@
 -- Commands to different components.
 use Rattle.std.proofs.Common.{◌≡◌, ◌⊎◌, ℕ, ◌+◌, ◌==◌, Bool, true, false, List, [], ◌∷◌, ◌++◌, refl, sym, ◌∙◌, inl, inr, eq-eqb, ne_eqb}
-use Rattle.std.specs.Prelude.{not, ◌||◌, filter}
+use Rattle.std.specs.Prelude.{not, filter}
 use Rattle.std.proofs.lemmas.Bool.{cases_Bool, cases_eq, or_right, or_left}
 use Rattle.stripe_plan.specs.Lost.{among}
 use Rattle.client_rules.specs.State.{Held, Awaited, Store}

@@ -22,11 +22,11 @@ both (Ok a) f y e = (a, refl, e)
 both (Err z) f y e = absurd (cc e)
 
 -- a value that was read
-abbrev given : {A : Type 0} → A → Result A LayoutErr
+abbrev pub given : {A : Type 0} → A → Result A LayoutErr
 given v = Ok v
 
 -- what holds of a value holds of the one that it was given as
-holds : {A : Type 0} (P : A → Type 0) (v x : A) → P v → given v ≡ given x → P x
+pub holds : {A : Type 0} (P : A → Type 0) (v x : A) → P v → given v ≡ given x → P x
 holds P v x p e = let same : v ≡ x = cc e in rw same at p
 
 algorithm_known : (n v : ℕ) → algorithm_of n ≡ Some v → IsAlgorithm v

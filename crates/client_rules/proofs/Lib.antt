@@ -1,3 +1,4 @@
+mod RowsGrants
 pub mod WaitingMoves
 pub mod Waiting
 pub mod Numbering

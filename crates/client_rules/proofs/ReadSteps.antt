@@ -31,11 +31,11 @@ use Rattle.client_rules.proofs.ReadMoves.{found_in, FitsOutcome, AnswersNone, we
 -- ---- held grants
 
 -- their maps are checked
-abbrev AreChecked : List Held → Type 0
+abbrev pub AreChecked : List Held → Type 0
 AreChecked [] = Unit {0}
 AreChecked (h ∷ hs) = IsChecked h.map × AreChecked hs
 
-put_checked : (hs : List Held) (h : Held) → AreChecked hs → IsChecked h.map → AreChecked (put_held hs h)
+pub put_checked : (hs : List Held) (h : Held) → AreChecked hs → IsChecked h.map → AreChecked (put_held hs h)
 unfolding put_held
 put_checked [] h x ch = (ch, tt)
 put_checked (g ∷ gs) h x ch = elim (cases_Bool (g.file == h.file)) [
@@ -46,7 +46,7 @@ put_checked (g ∷ gs) h x ch = elim (cases_Bool (g.file == h.file)) [
   ]
 ]
 
-without_checked : (hs : List Held) (file : ℕ) → AreChecked hs → AreChecked (without_held hs file)
+pub without_checked : (hs : List Held) (file : ℕ) → AreChecked hs → AreChecked (without_held hs file)
 unfolding without_held
 without_checked [] file x = tt
 without_checked (g ∷ gs) file x = elim (cases_Bool (g.file == file)) [
@@ -54,12 +54,12 @@ without_checked (g ∷ gs) file x = elim (cases_Bool (g.file == file)) [
   | inr f ↦ rw f (x.0, without_checked gs file x.1)
 ]
 
-after_checked : (hs : List Held) (file : ℕ) (a : Args) → AreChecked hs → AreChecked (held_after hs file a)
+pub after_checked : (hs : List Held) (file : ℕ) (a : Args) → AreChecked hs → AreChecked (held_after hs file a)
 after_checked hs file (args.LayoutGet a) x = x
 after_checked hs file (args.LayoutCommit a) x = x
 after_checked hs file (args.LayoutReturn a) x = without_checked hs file x
 
-held_checked : (hs : List Held) (file : ℕ) (h : Held) → AreChecked hs → held_of hs file ≡ Some h → IsChecked h.map
+pub held_checked : (hs : List Held) (file : ℕ) (h : Held) → AreChecked hs → held_of hs file ≡ Some h → IsChecked h.map
 unfolding held_of
 held_checked [] file h x e = absurd (cc e)
 held_checked (g ∷ gs) file h x e = elim (cases_eq g.file file) [
@@ -67,7 +67,7 @@ held_checked (g ∷ gs) file h x e = elim (cases_eq g.file file) [
   | inr other ↦ held_checked gs file h x.1 (rw (ne_eqb g.file file other) at e)
 ]
 
-held_file : (hs : List Held) (file : ℕ) (h : Held) → held_of hs file ≡ Some h → h.file ≡ file
+pub held_file : (hs : List Held) (file : ℕ) (h : Held) → held_of hs file ≡ Some h → h.file ≡ file
 unfolding held_of
 held_file [] file h e = absurd (cc e)
 held_file (g ∷ gs) file h e = elim (cases_eq g.file file) [
@@ -75,7 +75,7 @@ held_file (g ∷ gs) file h e = elim (cases_eq g.file file) [
   | inr other ↦ held_file gs file h (rw (ne_eqb g.file file other) at e)
 ]
 
-put_found : (hs : List Held) (h : Held) → held_of (put_held hs h) h.file ≡ Some h
+pub put_found : (hs : List Held) (h : Held) → held_of (put_held hs h) h.file ≡ Some h
 unfolding held_of put_held
 put_found [] h = rw (eq-eqb h.file h.file refl) refl
 put_found (g ∷ gs) h = elim (cases_eq g.file h.file) [
@@ -86,7 +86,7 @@ put_found (g ∷ gs) h = elim (cases_eq g.file h.file) [
   ]
 ]
 
-put_at : (hs : List Held) (h : Held) (file : ℕ) → h.file ≡ file → held_of (put_held hs h) file ≡ Some h
+pub put_at : (hs : List Held) (h : Held) (file : ℕ) → h.file ≡ file → held_of (put_held hs h) file ≡ Some h
 put_at hs h file e = ap (λ (f : ℕ). held_of (put_held hs h) f) (sym e) ∙ put_found hs h
 
 -- ---- a client between steps
@@ -109,7 +109,7 @@ record IsGood (c : Client) (got : List Column) : Type 0 where
   checked : AreChecked c.held
   call : GoodCall c.held c.call got
 
-abbrev Fits : (List ℕ → Type 0) → Option Outcome → Type 0
+abbrev pub Fits : (List ℕ → Type 0) → Option Outcome → Type 0
 Fits Fit None = Unit {0}
 Fits Fit (Some o) = FitsOutcome Fit o
 
@@ -243,24 +243,24 @@ over_good : (Fit : List ℕ → Type 0) (d : Done) (o : Outcome) (got : List Col
 over_good Fit d o got w g = record { checked = g.checked; call = tt; outcome = w }
 
 -- a turn of a call that has read nothing and answers no read
-abbrev Refuses : Turn → Type 0
+abbrev pub Refuses : Turn → Type 0
 Refuses (Goes (Needs (Get tries))) = Unit {0}
 Refuses (Ends o) = AnswersNone o
 Refuses t = ⊥
 
-either_refuses : (b : Bool) (t u : Turn) → Refuses t → Refuses u → Refuses (if b then t else u)
+pub either_refuses : (b : Bool) (t u : Turn) → Refuses t → Refuses u → Refuses (if b then t else u)
 either_refuses true t u x y = x
 either_refuses false t u x y = y
 
-busy_refuses : (tries : ℕ) (o : Outcome) → AnswersNone o → Refuses (busy tries o)
+pub busy_refuses : (tries : ℕ) (o : Outcome) → AnswersNone o → Refuses (busy tries o)
 unfolding busy
 busy_refuses tries o x = either_refuses _ (Goes (Needs (Get (tries + 1)))) (Ends o) tt x
 
-either_none : (Fit : List ℕ → Type 0) (b : Bool) (o u : Outcome) → FitsOutcome Fit o → FitsOutcome Fit u → FitsOutcome Fit (if b then o else u)
+pub either_none : (Fit : List ℕ → Type 0) (b : Bool) (o u : Outcome) → FitsOutcome Fit o → FitsOutcome Fit u → FitsOutcome Fit (if b then o else u)
 either_none Fit true o u x y = x
 either_none Fit false o u x y = y
 
-refused_with_refuses : (status detail tries : ℕ) → Refuses (refused_with status detail tries)
+pub refused_with_refuses : (status detail tries : ℕ) → Refuses (refused_with status detail tries)
 refused_with_refuses status detail tries =
     either_refuses (status == NFS4ERR_NOENT) (Ends NoFile) _ tt
     (either_refuses (status == NFS4ERR_LAYOUTTRYLATER) (busy tries (HeldBy detail)) _ (busy_refuses tries (HeldBy detail) tt)
@@ -281,11 +281,11 @@ answered_get_good : (Fit : List ℕ → Type 0) (d : Done) (op : CallOp) (r : Re
 answered_get_good Fit d op (Err w) got ch e g = over_good Fit d _ got tt g
 answered_get_good Fit d op (Ok h) got ch e g = record { checked = put_checked d.client.held h g.checked (ch h refl); call = e; outcome = g.outcome }
 
-report_fits : (Fit : List ℕ → Type 0) (op : CallOp) (a : Answer) (timed : List TimedOut) → FitsOutcome Fit (on_report op a timed)
+pub report_fits : (Fit : List ℕ → Type 0) (op : CallOp) (a : Answer) (timed : List TimedOut) → FitsOutcome Fit (on_report op a timed)
 unfolding on_report
 report_fits Fit op a timed = either_none Fit (is_loss_taken a) (WriteOk (span_of op).length) (Silent (lowest timed)) tt tt
 
-any_fits : (o : Option Outcome) → Fits (λ bytes. Unit {0}) o
+pub any_fits : (o : Option Outcome) → Fits (λ bytes. Unit {0}) o
 any_fits None = tt
 any_fits (Some (ReadOk bytes)) = tt
 any_fits (Some o) = tt
@@ -361,23 +361,23 @@ reply_call_good c a r (Some call) got p x w i = reply_under_good c call a r _ go
 -- ---- messages
 
 -- a reply that is taken is to an awaited command
-abbrev Fair : Client → Option Taken → Type 0
+abbrev pub Fair : Client → Option Taken → Type 0
 Fair c (Some (TakesReply a r)) = IsIn a (awaited_of c.call)
 Fair c t = Unit {0}
 
-reply_fair : (c : Client) (p : Awaited → Bool) (r : Reply) (o : Option Awaited) → find p (awaited_of c.call) ≡ o → Fair c (reply_taken r o)
+pub reply_fair : (c : Client) (p : Awaited → Bool) (r : Reply) (o : Option Awaited) → find p (awaited_of c.call) ≡ o → Fair c (reply_taken r o)
 reply_fair c p r None e = tt
 reply_fair c p r (Some a) e = found_in p (awaited_of c.call) a e
 
-either_fair : (c : Client) (b : Bool) (t u : Option Taken) → Fair c t → Fair c u → Fair c (if b then t else u)
+pub either_fair : (c : Client) (b : Bool) (t u : Option Taken) → Fair c t → Fair c u → Fair c (if b then t else u)
 either_fair c true t u x y = x
 either_fair c false t u x y = y
 
-answer_fair : (c : Client) (a : Answer) (o : Option Request) → Fair c (answer_taken c a o)
+pub answer_fair : (c : Client) (a : Answer) (o : Option Request) → Fair c (answer_taken c a o)
 answer_fair c a None = tt
 answer_fair c a (Some r) = either_fair c (is_awaited c a r) (Some (TakesAnswer a)) None tt tt
 
-takes_fair : (c : Client) (from : Node) (m : Message) → Fair c (takes c from m)
+pub takes_fair : (c : Client) (from : Node) (m : Message) → Fair c (takes c from m)
 unfolding takes
 takes_fair c (FromDrive drive) (Replies r) = reply_fair c (answers drive r) r _ refl
 takes_fair c (FromDrive drive) (Answers a) = tt
@@ -427,7 +427,7 @@ refuses Fit c got false true d x y z s v w = still_good Fit c got v
 refuses Fit c got false false true x y z s v w = still_good Fit c got v
 refuses Fit c got false false false x y z s v w = w refl
 
-none_pending : (o : Option Call) (got : List Column) → is_some o ≡ false → kept_by o got ≡ []
+pub none_pending : (o : Option Call) (got : List Column) → is_some o ≡ false → kept_by o got ≡ []
 none_pending None got e = refl
 none_pending (Some call) got e = absurd (cc e)
 
@@ -457,7 +457,7 @@ all_good : (c : Client) (got : List Column) (is : List Input) → IsGood c got �
 all_good c got [] g = g
 all_good c got (i ∷ is) g = all_good (step c i).client (read_after c got i) is (step_good c got i g).client
 
-fits_answer : (Fit : List ℕ → Type 0) (o : Option Outcome) (bytes : List ℕ) → o ≡ Some (ReadOk bytes) → Fits Fit o → Fit bytes
+pub fits_answer : (Fit : List ℕ → Type 0) (o : Option Outcome) (bytes : List ℕ) → o ≡ Some (ReadOk bytes) → Fits Fit o → Fit bytes
 fits_answer Fit o bytes e x = rw e at x
 
 pub reads_took_replies : ReadsTookReplies

@@ -1,20 +1,12 @@
 -- BADLAYOUT to a commit: the grant is forgotten. A grant for reading goes back before a write asks for another.
-use Rattle.std.specs.Prelude.{◌≡◌, refl, List, [], ◌∷◌, false, true}
+use Rattle.std.specs.Prelude.{◌≡◌, refl, List, [], ◌∷◌, true}
 use Rattle.layout_ops.specs.declared.statuses.TheConstants.{NFS4ERR_BADLAYOUT}
-use Rattle.client_rules.specs.State.{RawMap, Write, Read, WriteOk, ReadOk, Status, Nothing, TheServer, ADrive}
+use Rattle.client_rules.specs.State.{Write, Read, WriteOk, ReadOk, Status, Nothing, TheServer, ADrive}
 use Rattle.client_rules.specs.Steps.{new_client}
 use Rattle.client_rules.specs.History.{Calls}
 use Rattle.client_rules.specs.Rows.{Event, Given, Usable, done, on, ends, answers, gives_layout, committed, not_committed, returned, has_read, has_written, asks_to_read, asks_to_write, commits, gives_back, reads, writes}
 use Rattle.client_rules.proofs.Opened.{opened}
-
-abbrev striping : RawMap
-striping = record { comps = 1; unit = 4; width = 0; depth = 0; mirrors = 0; algorithm = 1 }
-
-abbrev first_grant : Given
-first_grant = record { number = 1; writes = true; offset = 0; len = 4; map = striping; components = Usable 0 65536 0 4 ∷ [] }
-
-abbrev second_grant : Given
-second_grant = record { number = 2; writes = false; offset = 0; len = 4; map = striping; components = Usable 0 65536 0 4 ∷ [] }
+use Rattle.client_rules.proofs.RowsGrants.{striping, striping_grant, reading_grant}
 
 abbrev third_grant : Given
 third_grant = record { number = 3; writes = true; offset = 0; len = 4; map = striping; components = Usable 0 65536 0 4 ∷ [] }
@@ -22,12 +14,12 @@ third_grant = record { number = 3; writes = true; offset = 0; len = 4; map = str
 abbrev events : List Event
 events =
     on (Calls (Write 0 0 (65 ∷ []))) TheServer (asks_to_write 1 0 0 1 ∷ []) ∷
-    on (answers 1 0 0 0 (gives_layout first_grant)) (ADrive 0) (writes first_grant 0 1 0 (65 ∷ []) ∷ []) ∷
-    on (has_written first_grant 0 1) TheServer (commits 2 0 1 0 1 ∷ []) ∷
+    on (answers 1 0 0 0 (gives_layout striping_grant)) (ADrive 0) (writes striping_grant 0 1 0 (65 ∷ []) ∷ []) ∷
+    on (has_written striping_grant 0 1) TheServer (commits 2 0 1 0 1 ∷ []) ∷
     ends (answers 2 0 0 0 (not_committed NFS4ERR_BADLAYOUT)) (Status NFS4ERR_BADLAYOUT 0) Nothing [] ∷
     on (Calls (Read 0 0 1)) TheServer (asks_to_read 3 0 0 1 ∷ []) ∷
-    on (answers 3 0 0 0 (gives_layout second_grant)) (ADrive 0) (reads second_grant 0 1 0 0 ∷ []) ∷
-    ends (has_read second_grant 0 1 []) (ReadOk []) Nothing [] ∷
+    on (answers 3 0 0 0 (gives_layout reading_grant)) (ADrive 0) (reads reading_grant 0 1 0 0 ∷ []) ∷
+    ends (has_read reading_grant 0 1 []) (ReadOk []) Nothing [] ∷
     on (Calls (Write 0 1 (66 ∷ []))) TheServer (gives_back 4 0 2 [] ∷ []) ∷
     on (answers 4 0 0 0 returned) TheServer (asks_to_write 5 0 1 1 ∷ []) ∷
     on (answers 5 0 0 0 (gives_layout third_grant)) (ADrive 0) (writes third_grant 0 1 1 (66 ∷ []) ∷ []) ∷

@@ -6,14 +6,12 @@ use Rattle.layout_types.specs.declared.cred.KeySecurity.TheVariants as security
 use Rattle.layout_types.specs.declared.layout.Layout.{Layout}
 use Rattle.layout_types.specs.Spelling.{layout_item}
 use Rattle.layout_ops.specs.declared.results.Results.{Results}
-use Rattle.client_rules.specs.State.{RawMap, Write, Read, Why, Unreadable, Index, Partial, Secured, BadMap, BadCredential, BadLayout, Nothing, TheServer}
+use Rattle.client_rules.specs.State.{Write, Read, Why, Unreadable, Index, Partial, Secured, BadMap, BadCredential, BadLayout, Nothing, TheServer}
 use Rattle.client_rules.specs.Steps.{new_client}
 use Rattle.client_rules.specs.History.{Calls}
 use Rattle.client_rules.specs.Rows.{Event, Given, Part, Usable, Missing, done, on, ends, answers, credential, layout_of, gives, gives_bodies, gives_layout, committed, asks_to_read, asks_to_write}
 use Rattle.client_rules.proofs.Opened.{opened}
-
-abbrev rotating : RawMap
-rotating = record { comps = 3; unit = 4; width = 0; depth = 0; mirrors = 0; algorithm = 3 }
+use Rattle.client_rules.proofs.RowsGrants.{rotating}
 
 -- a grant for writing the first stripe, with these components
 abbrev with_parts : List Part → Given

@@ -1,14 +1,12 @@
 -- Another client holds a conflicting grant: the call asks three times. A file that there isn't.
 use Rattle.std.specs.Prelude.{◌≡◌, refl, List, [], ◌∷◌, false}
 use Rattle.layout_ops.specs.declared.statuses.TheConstants.{NFS4ERR_NOENT}
-use Rattle.client_rules.specs.State.{RawMap, Read, ReadOk, NoFile, HeldBy, Nothing, TheServer, ADrive}
+use Rattle.client_rules.specs.State.{Read, ReadOk, NoFile, HeldBy, Nothing, TheServer, ADrive}
 use Rattle.client_rules.specs.Steps.{new_client}
 use Rattle.client_rules.specs.History.{Calls}
 use Rattle.client_rules.specs.Rows.{Event, Given, Usable, done, on, ends, answers, gives_layout, no_layout, try_later, has_read, asks_to_read, reads}
 use Rattle.client_rules.proofs.Opened.{opened}
-
-abbrev rotating : RawMap
-rotating = record { comps = 3; unit = 4; width = 0; depth = 0; mirrors = 0; algorithm = 3 }
+use Rattle.client_rules.proofs.RowsGrants.{rotating}
 
 abbrev first_grant : Given
 first_grant = record { number = 2; writes = false; offset = 0; len = 8; map = rotating; components = Usable 0 65536 0 4 ∷ Usable 1 65537 0 4 ∷ Usable 2 65538 0 4 ∷ [] }

@@ -1,16 +1,11 @@
 -- A grant that doesn't cover goes back first; a call that needs no request runs beside a return; leaving.
 use Rattle.std.specs.Prelude.{◌≡◌, refl, List, [], ◌∷◌, false, true}
-use Rattle.client_rules.specs.State.{RawMap, Write, Read, WriteOk, ReadOk, Nothing, TheServer, ADrive}
+use Rattle.client_rules.specs.State.{Write, Read, WriteOk, ReadOk, Nothing, TheServer, ADrive}
 use Rattle.client_rules.specs.Steps.{new_client}
 use Rattle.client_rules.specs.History.{Calls, Leaves}
 use Rattle.client_rules.specs.Rows.{Event, Given, Usable, done, on, ends, answers, gives_layout, committed, returned, has_read, has_written, asks_to_read, asks_to_write, commits, gives_back, reads, writes}
 use Rattle.client_rules.proofs.Opened.{opened}
-
-abbrev rotating : RawMap
-rotating = record { comps = 3; unit = 4; width = 0; depth = 0; mirrors = 0; algorithm = 3 }
-
-abbrev striping : RawMap
-striping = record { comps = 1; unit = 4; width = 0; depth = 0; mirrors = 0; algorithm = 1 }
+use Rattle.client_rules.proofs.RowsGrants.{rotating, striping}
 
 abbrev first_grant : Given
 first_grant = record { number = 1; writes = false; offset = 0; len = 8; map = rotating; components = Usable 0 65536 0 4 ∷ Usable 1 65537 0 4 ∷ Usable 2 65538 0 4 ∷ [] }

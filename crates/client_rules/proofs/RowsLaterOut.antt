@@ -1,13 +1,11 @@
 -- RAID 5, a component has answered for one stripe and times out in the next: it is out in both. Late replies and answers.
 use Rattle.std.specs.Prelude.{◌≡◌, refl, List, [], ◌∷◌, true}
-use Rattle.client_rules.specs.State.{RawMap, Write, Read, WriteOk, ReadOk, Nothing, TheServer, ADrive}
+use Rattle.client_rules.specs.State.{Write, Read, WriteOk, ReadOk, Nothing, TheServer, ADrive}
 use Rattle.client_rules.specs.Steps.{new_client}
 use Rattle.client_rules.specs.History.{Calls, TimesOut}
 use Rattle.client_rules.specs.Rows.{Event, Given, Usable, done, on, ends, answers, gives_layout, committed, has_read, has_written, asks_to_write, commits, reads, writes}
 use Rattle.client_rules.proofs.Opened.{opened}
-
-abbrev rotating : RawMap
-rotating = record { comps = 3; unit = 4; width = 0; depth = 0; mirrors = 0; algorithm = 3 }
+use Rattle.client_rules.proofs.RowsGrants.{rotating}
 
 abbrev first_grant : Given
 first_grant = record { number = 1; writes = true; offset = 0; len = 16; map = rotating; components = Usable 0 65536 0 8 ∷ Usable 1 65537 0 8 ∷ Usable 2 65538 0 8 ∷ [] }

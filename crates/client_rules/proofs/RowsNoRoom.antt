@@ -3,14 +3,12 @@ use Rattle.std.specs.Prelude.{◌≡◌, refl, List, [], ◌∷◌, true}
 use Rattle.osd_commands.specs.declared.actions.Action.TheVariants.{Write as ToWrite}
 use Rattle.layout_types.specs.declared.ioerrs.Errno.TheVariants.{NoSpace}
 use Rattle.client_rules.specs.declared.limits.TheConstants.{NO_SPACE}
-use Rattle.client_rules.specs.State.{RawMap, Write, Refused, Nothing, TheServer, ADrive}
+use Rattle.client_rules.specs.State.{Write, Refused, Nothing, TheServer, ADrive}
 use Rattle.client_rules.specs.Steps.{new_client}
 use Rattle.client_rules.specs.History.{Calls}
 use Rattle.client_rules.specs.Rows.{Event, Given, Usable, done, on, ends, answers, gives_layout, returned, replies, has_written, asks_to_write, gives_back, error, writes}
 use Rattle.client_rules.proofs.Opened.{opened}
-
-abbrev striping : RawMap
-striping = record { comps = 1; unit = 4; width = 0; depth = 0; mirrors = 0; algorithm = 1 }
+use Rattle.client_rules.proofs.RowsGrants.{striping}
 
 abbrev first_grant : Given
 first_grant = record { number = 1; writes = true; offset = 0; len = 8; map = striping; components = Usable 0 65536 0 8 ∷ [] }

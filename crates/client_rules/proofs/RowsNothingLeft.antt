@@ -1,16 +1,11 @@
 -- An empty read whose component times out asks the rest of its group; without parity the position is lost.
 use Rattle.std.specs.Prelude.{◌≡◌, refl, List, [], ◌∷◌, false}
-use Rattle.client_rules.specs.State.{RawMap, Read, ReadOk, Lost, Nothing, TheServer, ADrive}
+use Rattle.client_rules.specs.State.{Read, ReadOk, Lost, Nothing, TheServer, ADrive}
 use Rattle.client_rules.specs.Steps.{new_client}
 use Rattle.client_rules.specs.History.{Calls, TimesOut}
 use Rattle.client_rules.specs.Rows.{Event, Given, Usable, done, on, ends, answers, gives_layout, has_read, asks_to_read, reads}
 use Rattle.client_rules.proofs.Opened.{opened}
-
-abbrev rotating : RawMap
-rotating = record { comps = 3; unit = 4; width = 0; depth = 0; mirrors = 0; algorithm = 3 }
-
-abbrev striping : RawMap
-striping = record { comps = 1; unit = 4; width = 0; depth = 0; mirrors = 0; algorithm = 1 }
+use Rattle.client_rules.proofs.RowsGrants.{rotating, striping}
 
 abbrev first_grant : Given
 first_grant = record { number = 1; writes = false; offset = 0; len = 8; map = rotating; components = Usable 0 65536 0 4 ∷ Usable 1 65537 0 4 ∷ Usable 2 65538 0 4 ∷ [] }

@@ -1,13 +1,11 @@
 -- RAID 5 with a missing component: writes and reads in its stripes, and of its own bytes.
 use Rattle.std.specs.Prelude.{◌≡◌, refl, List, [], ◌∷◌, true}
-use Rattle.client_rules.specs.State.{RawMap, Write, Read, WriteOk, ReadOk, Nothing, TheServer, ADrive}
+use Rattle.client_rules.specs.State.{Write, Read, WriteOk, ReadOk, Nothing, TheServer, ADrive}
 use Rattle.client_rules.specs.Steps.{new_client}
 use Rattle.client_rules.specs.History.{Calls}
 use Rattle.client_rules.specs.Rows.{Event, Given, Usable, Missing, done, on, ends, answers, gives_layout, has_read, has_written, asks_to_write, reads, writes}
 use Rattle.client_rules.proofs.Opened.{opened}
-
-abbrev rotating : RawMap
-rotating = record { comps = 3; unit = 4; width = 0; depth = 0; mirrors = 0; algorithm = 3 }
+use Rattle.client_rules.proofs.RowsGrants.{rotating}
 
 abbrev first_grant : Given
 first_grant = record { number = 1; writes = true; offset = 0; len = 8; map = rotating; components = Usable 0 65536 0 4 ∷ Missing 1 65537 ∷ Usable 2 65538 0 4 ∷ [] }

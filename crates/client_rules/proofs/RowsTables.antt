@@ -5,12 +5,13 @@ use Rattle.layout_types.specs.declared.cred.ObjectCred.{ObjectCred}
 use Rattle.osd_capability.specs.declared.keys.CapKey.TheVariants.{Two}
 use Rattle.osd_capability.specs.Layout as capabilities
 use Rattle.client_rules.specs.declared.limits.TheConstants.{MAX_COUNT}
-use Rattle.client_rules.specs.State.{Write, Read, Held, Capability, RawMap}
+use Rattle.client_rules.specs.State.{Write, Read, Held, Capability}
 use Rattle.client_rules.specs.Requests.{errno_of}
 use Rattle.client_rules.specs.Layouts.{listed}
 use Rattle.client_rules.specs.Grants.{covers}
 use Rattle.client_rules.specs.Rows.{Given, Usable, object_at, credential, usable}
 use Rattle.client_rules.proofs.Opened.{opened}
+use Rattle.client_rules.proofs.RowsGrants.{striping}
 
 -- ---- verdicts, from Perform to OldFormat
 
@@ -20,9 +21,6 @@ unfolding opened
 errors = refl
 
 -- ---- keys
-
-abbrev striping : RawMap
-striping = record { comps = 1; unit = 4; width = 0; depth = 0; mirrors = 0; algorithm = 1 }
 
 abbrev first_grant : Given
 first_grant = record { number = 1; writes = true; offset = 0; len = 4; map = striping; components = Usable 0 65536 0 4 ∷ [] }

@@ -1,28 +1,23 @@
 -- RAID 5, two components time out before the first WRITE: silent, and the grant stays until the client leaves.
-use Rattle.std.specs.Prelude.{◌≡◌, refl, List, [], ◌∷◌, true}
-use Rattle.client_rules.specs.State.{RawMap, Write, WriteOk, Silent, Nothing, TheServer, ADrive}
+use Rattle.std.specs.Prelude.{◌≡◌, refl, List, [], ◌∷◌}
+use Rattle.client_rules.specs.State.{Write, WriteOk, Silent, Nothing, TheServer, ADrive}
 use Rattle.client_rules.specs.Steps.{new_client}
 use Rattle.client_rules.specs.History.{Calls, TimesOut, Leaves}
-use Rattle.client_rules.specs.Rows.{Event, Given, Usable, done, on, ends, answers, gives_layout, committed, returned, has_read, has_written, asks_to_write, commits, gives_back, reads, writes}
+use Rattle.client_rules.specs.Rows.{Event, done, on, ends, answers, gives_layout, committed, returned, has_read, has_written, asks_to_write, commits, gives_back, reads, writes}
 use Rattle.client_rules.proofs.Opened.{opened}
-
-abbrev rotating : RawMap
-rotating = record { comps = 3; unit = 4; width = 0; depth = 0; mirrors = 0; algorithm = 3 }
-
-abbrev first_grant : Given
-first_grant = record { number = 1; writes = true; offset = 0; len = 8; map = rotating; components = Usable 0 65536 0 4 ∷ Usable 1 65537 0 4 ∷ Usable 2 65538 0 4 ∷ [] }
+use Rattle.client_rules.proofs.RowsGrants.{rotating_grant}
 
 abbrev events : List Event
 events =
     on (Calls (Write 0 0 (1 ∷ 2 ∷ 3 ∷ 4 ∷ 5 ∷ 6 ∷ 7 ∷ 8 ∷ []))) TheServer (asks_to_write 1 0 0 8 ∷ []) ∷
-    on (answers 1 0 0 0 (gives_layout first_grant)) (ADrive 0) (writes first_grant 0 1 0 (1 ∷ 2 ∷ 3 ∷ 4 ∷ []) ∷ writes first_grant 1 2 0 (5 ∷ 6 ∷ 7 ∷ 8 ∷ []) ∷ writes first_grant 2 3 0 (4 ∷ 4 ∷ 4 ∷ 12 ∷ []) ∷ []) ∷
-    on (has_written first_grant 0 1) (ADrive 1) [] ∷
-    on (has_written first_grant 1 2) (ADrive 2) [] ∷
-    on (has_written first_grant 2 3) TheServer (commits 2 0 1 0 8 ∷ []) ∷
+    on (answers 1 0 0 0 (gives_layout rotating_grant)) (ADrive 0) (writes rotating_grant 0 1 0 (1 ∷ 2 ∷ 3 ∷ 4 ∷ []) ∷ writes rotating_grant 1 2 0 (5 ∷ 6 ∷ 7 ∷ 8 ∷ []) ∷ writes rotating_grant 2 3 0 (4 ∷ 4 ∷ 4 ∷ 12 ∷ []) ∷ []) ∷
+    on (has_written rotating_grant 0 1) (ADrive 1) [] ∷
+    on (has_written rotating_grant 1 2) (ADrive 2) [] ∷
+    on (has_written rotating_grant 2 3) TheServer (commits 2 0 1 0 8 ∷ []) ∷
     ends (answers 2 0 0 8 committed) (WriteOk 8) Nothing [] ∷
-    on (Calls (Write 0 0 (255 ∷ []))) (ADrive 0) (reads first_grant 0 4 0 1 ∷ reads first_grant 2 5 0 1 ∷ []) ∷
-    on (has_read first_grant 0 4 (1 ∷ [])) (ADrive 2) [] ∷
-    on (TimesOut 2) (ADrive 1) (reads first_grant 1 6 0 1 ∷ []) ∷
+    on (Calls (Write 0 0 (255 ∷ []))) (ADrive 0) (reads rotating_grant 0 4 0 1 ∷ reads rotating_grant 2 5 0 1 ∷ []) ∷
+    on (has_read rotating_grant 0 4 (1 ∷ [])) (ADrive 2) [] ∷
+    on (TimesOut 2) (ADrive 1) (reads rotating_grant 1 6 0 1 ∷ []) ∷
     ends (TimesOut 1) (Silent 1) Nothing [] ∷
     on Leaves TheServer (gives_back 3 0 1 [] ∷ []) ∷
     on (answers 3 0 0 8 returned) Nothing [] ∷

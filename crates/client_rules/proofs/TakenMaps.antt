@@ -18,7 +18,7 @@ use Rattle.client_rules.specs.Results.{layouts_in}
 use Rattle.client_rules.specs.Layouts.{is_map, first_why, fresh, is_lacking, enough, with_listed, unless_why, with_body, reach_of, one_layout, in_layouts, taken}
 use Rattle.client_rules.proofs.KnownMaps.{whole_known}
 
-last_none : (a b c d e : Bool) (v w x y z : Why) → (if a then Some v else if b then Some w else if c then Some x else if d then Some y else if not e then Some z else None) ≡ None → e ≡ true
+pub last_none : (a b c d e : Bool) (v w x y z : Why) → (if a then Some v else if b then Some w else if c then Some x else if d then Some y else if not e then Some z else None) ≡ None → e ≡ true
 last_none true b c d e v w x y z n = absurd (cc n)
 last_none false true c d e v w x y z n = absurd (cc n)
 last_none false false true d e v w x y z n = absurd (cc n)
@@ -26,7 +26,7 @@ last_none false false false true e v w x y z n = absurd (cc n)
 last_none false false false false true v w x y z n = refl
 last_none false false false false false v w x y z n = absurd (cc n)
 
-map_taken : (g : Reach) (size : ℕ) (op : CallOp) (l : Layout) → first_why g size op l ≡ None → is_map l.olo_map ≡ true
+pub map_taken : (g : Reach) (size : ℕ) (op : CallOp) (l : Layout) → first_why g size op l ≡ None → is_map l.olo_map ≡ true
 unfolding first_why
 map_taken g size op l e = last_none _ _ _ _ (is_map l.olo_map) Unreadable Index Partial Secured BadMap e
 
@@ -37,11 +37,11 @@ gave_map (Err x) b e = absurd (cc e)
 checked_map : (m : RawMap) → HasAlgorithm m → is_map m ≡ true → IsChecked m
 checked_map m known e = let n = gave_map (checked m) (nat_lt MAX_FILE_COMPONENTS m.comps) e in checked_is_checked m n.0 known n.1
 
-same_grant : (b : Bool) (h k : Held) → (if b then Err BadCredential else Ok h) ≡ Ok k → k ≡ h
+pub same_grant : (b : Bool) (h k : Held) → (if b then Err BadCredential else Ok h) ≡ Ok k → k ≡ h
 same_grant true h k e = absurd (cc e)
 same_grant false h k e = cc e
 
-enough_same : (h k : Held) (op : CallOp) → enough h op ≡ Ok k → k ≡ h
+pub enough_same : (h k : Held) (op : CallOp) → enough h op ≡ Ok k → k ≡ h
 unfolding enough
 enough_same h k op e = same_grant ((is_write op || h.reach.rw) && is_lacking h op) h k e
 

@@ -1,6 +1,5 @@
 -- How many components a file has, whatever is lost.
-use Rattle.std.specs.Prelude.{◌+◌, List, length, refl, ℕ, ◌∷◌, ◌≡◌}
-use Rattle.std.proofs.Common.{arith, ap, suc, ◌&&◌, ◌==◌, inl, inr, map, ◌≤◌}
+use Rattle.std.proofs.Common.{◌≡◌, ◌≤◌, ◌==◌, ◌&&◌, ℕ, suc, ◌+◌, List, [], ◌∷◌, length, map, refl, ap, arith, inl, inr}
 use Rattle.std.proofs.lemmas.Bool.{cases_Bool}
 use Rattle.std.proofs.lemmas.Bool.Decides.{nat_tests}
 use Rattle.osd_lists.proofs.Slices.{length_taken}

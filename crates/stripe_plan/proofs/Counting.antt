@@ -23,7 +23,7 @@ run m out s c p (suc n) e =
     let rest = run m out s (c + 1) (p + 1) n (λ j lt. let z : c + 1 + j ≡ c + (j + 1) = omega arith in let y : p + 1 + j ≡ p + (j + 1) = omega arith in rw (z, y) (e (j + 1) (omega (arith, lt)))) in
     rw here (elim (cases_Bool (is_out m out p)) [ inl t ↦ rw t (omega (arith, rest)) | inr f ↦ rw f rest ])
 
-lost_split : (m : RawMap) (out : List ℕ) (s c a b : ℕ) → length (lost_from m out s c (a + b)) ≡ length (lost_from m out s c a) + length (lost_from m out s (c + a) b)
+pub lost_split : (m : RawMap) (out : List ℕ) (s c a b : ℕ) → length (lost_from m out s c (a + b)) ≡ length (lost_from m out s c a) + length (lost_from m out s (c + a) b)
 unfolding lost_from
 lost_split m out s c zero b = let z : zero + b ≡ b = omega arith in let y : c + 0 ≡ c = omega arith in rw (z, y) (omega arith)
 lost_split m out s c (suc a) b =

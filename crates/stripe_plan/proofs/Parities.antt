@@ -168,7 +168,7 @@ place_parity m r bytes got out s i c p row is is_c is_p there past is_row all =
 
 -- ---- all places and stripes
 
-left : (i e : ℕ) → i < e → e - i ≡ suc (e - (i + 1))
+pub left : (i e : ℕ) → i < e → e - i ≡ suc (e - (i + 1))
 left i e lt = omega (arith, lt)
 
 pub written_step : (m : RawMap) (r : Span) (bytes : List ℕ) (got : List Column) (out : List ℕ) (s i e : ℕ) → i < e →

@@ -1,5 +1,5 @@
 -- One step of each definition that goes up to an end.
-use Rattle.std.proofs.Common.{◌≡◌, ℕ, suc, ◌+◌, ◌-◌, ◌*◌, ◌<◌, ◌≤◌, Bool, true, false, List, [], ◌∷◌, ◌++◌, refl, sym, ap, ◌∙◌, arith, append_assoc, append-nil}
+use Rattle.std.proofs.Common.{◌≡◌, ℕ, ◌+◌, ◌-◌, ◌*◌, ◌<◌, ◌≤◌, Bool, true, false, List, [], ◌∷◌, ◌++◌, refl, sym, ap, ◌∙◌, arith, append_assoc, append-nil}
 use Rattle.std.specs.Prelude.{◌&&◌, ◌||◌, if◌then◌else◌, Option, Some, None, map}
 use Rattle.std.specs.List.{range_with_len}
 use Rattle.data_map.specs.declared.check.RawMap.{RawMap}
@@ -12,9 +12,7 @@ use Rattle.stripe_plan.specs.Touched.{touches}
 use Rattle.stripe_plan.specs.Words.{lost_from}
 use Rattle.stripe_plan.specs.Asks.{asks_of, asks_each, asks_place, asks_stripe, asks}
 use Rattle.stripe_plan.specs.Lost.{among, source_from, source, is_out, out_from, positions_out, is_short, hit_from, is_hit, when, unreadable, unwritable}
-
-left : (i e : ℕ) → i < e → e - i ≡ suc (e - (i + 1))
-left i e lt = omega (arith, lt)
+use Rattle.stripe_plan.proofs.Parities.{left}
 
 pub none : (i e : ℕ) → e ≤ i → e - i ≡ 0
 none i e le = omega (arith, le)

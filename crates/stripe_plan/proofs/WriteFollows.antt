@@ -35,7 +35,7 @@ within_at (i ∷ is) zero b d lt le bl = inl (le, bl)
 within_at (i ∷ is) (suc j) b d lt le bl = inr (within_at is j b d (omega (arith, lt)) le bl)
 
 -- what a write changes is of one unit
-within_changed : (m : RawMap) (r : Span) (s c b : ℕ) → IsChecked m → IsWithin b (changed m r s c) → b < m.unit
+pub within_changed : (m : RawMap) (r : Span) (s c b : ℕ) → IsChecked m → IsWithin b (changed m r s c) → b < m.unit
 unfolding changed own_columns own columns
 within_changed m r s c b ch w = elim (cases_lt c (data_units m)) [
   | inl low ↦ elim (cases_Bool (touches m r s c)) [
@@ -115,7 +115,7 @@ stripes_hold m r bytes got out d a (suc n) ch right =
     (stripe_holds m r bytes got out d a 0 (group_width m) ch (omega arith) (right a (omega arith) (omega arith)))
     (stripes_hold m r bytes got out d (a + 1) n ch (λ s le lt. right s (omega (arith, le)) (omega (arith, lt))))
 
-no_stripes : (m : RawMap) (r : Span) → r.length ≡ 0 → stripes m r ≡ []
+pub no_stripes : (m : RawMap) (r : Span) → r.length ≡ 0 → stripes m r ≡ []
 unfolding stripes
 no_stripes m r none = rw (eq-eqb r.length 0 none) refl
 

@@ -82,7 +82,7 @@ new_is m r bytes d s b c bl = elim (cases_lt (unit_start m s c + b) r.offset) [
 ]
 
 -- so the data with the new bytes put in are those of the file after the write
-overlaid_is : (m : RawMap) (r : Span) (bytes : List ℕ) (d : ℕ → ℕ) (s b c n : ℕ) → b < m.unit →
+pub overlaid_is : (m : RawMap) (r : Span) (bytes : List ℕ) (d : ℕ → ℕ) (s b c n : ℕ) → b < m.unit →
     overlaid (news_from m r bytes s b c n) (map (λ (k : ℕ). d (unit_start m s k + b)) (range_with_len c n)) ≡ map (λ (k : ℕ). over r bytes d (unit_start m s k + b)) (range_with_len c n)
 unfolding news_from
 overlaid_is m r bytes d s b c zero bl = refl
@@ -106,14 +106,14 @@ parity_word PandQ ds zero lt = get_or-append-add ds (p_of ds ∷ q_of ds ∷ [])
 parity_word PandQ ds (suc zero) lt = get_or-append-add ds (p_of ds ∷ q_of ds ∷ []) 1 0
 parity_word PandQ ds (suc (suc i)) lt = absurd (omega (arith, lt))
 
-parity_is : (m : RawMap) (d : ℕ → ℕ) (s b c : ℕ) → IsChecked m → data_units m ≤ c → c < group_width m → word_of m d s b c ≡ parity_of (c - data_units m) (data_at m d s b)
+pub parity_is : (m : RawMap) (d : ℕ → ℕ) (s b c : ℕ) → IsChecked m → data_units m ≤ c → c < group_width m → word_of m d s b c ≡ parity_of (c - data_units m) (data_at m d s b)
 parity_is m d s b c ch le lt =
     let at : c ≡ length (data_at m d s b) + (c - data_units m) = omega (arith, data_long m d s b, le) in
     ap (λ (k : ℕ). get_or (codeword (code_of m) (data_at m d s b)) k 0) at ∙ parity_word (code_of m) (data_at m d s b) (c - data_units m) (omega (arith, code_count m, le, lt, ch.some_data))
 
 -- ---- a whole stripe
 
-all_new : (m : RawMap) (r : Span) (bytes : List ℕ) (s b c n : ℕ) → b < m.unit → c + n ≤ data_units m → r.offset ≤ s * stripe_length m → (s + 1) * stripe_length m ≤ end_of r → AllNew (news_from m r bytes s b c n)
+pub all_new : (m : RawMap) (r : Span) (bytes : List ℕ) (s b c n : ℕ) → b < m.unit → c + n ≤ data_units m → r.offset ≤ s * stripe_length m → (s + 1) * stripe_length m ≤ end_of r → AllNew (news_from m r bytes s b c n)
 unfolding news_from
 all_new m r bytes s b c zero bl le from to = tt
 all_new m r bytes s b c (suc n) bl le from to =
@@ -127,7 +127,7 @@ pub none_out : (m : RawMap) (p : ℕ) → is_out m [] p ≡ false
 unfolding source source_from
 none_out m p = let z : replicas m ≡ suc m.mirrors = omega arith in rw z refl
 
-can_write : (m : RawMap) (out : List ℕ) (a n s : ℕ) → unwritable m out (range_with_len a n) ≡ None → a ≤ s → s < a + n → is_short m out s ≡ false
+pub can_write : (m : RawMap) (out : List ℕ) (a n s : ℕ) → unwritable m out (range_with_len a n) ≡ None → a ≤ s → s < a + n → is_short m out s ≡ false
 unfolding unwritable
 can_write m out a zero s can le lt = absurd (omega (arith, le, lt))
 can_write m out a (suc n) s can le lt = elim (cases_eq a s) [
@@ -154,7 +154,7 @@ few_out m r out s ch some can touched =
     ]
 
 -- without a position out every unit is there
-all_there : (m : RawMap) (out : List ℕ) (s k : ℕ) → IsChecked m → is_degraded m out s ≡ false → k < group_width m → is_out m out (position_of m s k) ≡ false
+pub all_there : (m : RawMap) (out : List ℕ) (s k : ℕ) → IsChecked m → is_degraded m out s ≡ false → k < group_width m → is_out m out (position_of m s k) ≡ false
 unfolding is_degraded
 all_there m out s k ch free lt =
     let long : length (lost_from m out s 0 (group_width m)) ≡ 0 = elim (cases_lt 0 (length (positions_out m out (group_of m s)))) [
@@ -170,7 +170,7 @@ parities_of : (row : ℕ) (xs ys : List ℕ) → xs ≡ ys → parity_of row xs 
 parities_of row xs ys e = ap (parity_of row) e
 
 -- the old bytes that a delta uses are the data's
-old_is : (m : RawMap) (r : Span) (bytes : List ℕ) (got : List Column) (d : ℕ → ℕ) (s b c n : ℕ) → b < m.unit →
+pub old_is : (m : RawMap) (r : Span) (bytes : List ℕ) (got : List Column) (d : ℕ → ℕ) (s b c n : ℕ) → b < m.unit →
     ((k : ℕ) → c ≤ k → k < c + n → (own m r s k).first ≤ b → b < (own m r s k).end → got_at m got s b k ≡ d (unit_start m s k + b)) →
     AreOld (news_from m r bytes s b c n) (known_from m got [] s b c n) (map (λ (k : ℕ). d (unit_start m s k + b)) (range_with_len c n))
 unfolding news_from known_from
@@ -182,7 +182,7 @@ old_is m r bytes got d s b c (suc n) bl had =
       | inr old ↦ rw old.0 rest
     ]
 
-delta_is : (news : List (Option ℕ)) (olds ds : List ℕ) (row p : ℕ) → AreOld news olds ds → p ≡ parity_of row ds → parity_changed row news olds p ≡ parity_of row (overlaid news ds)
+pub delta_is : (news : List (Option ℕ)) (olds ds : List ℕ) (row p : ℕ) → AreOld news olds ds → p ≡ parity_of row ds → parity_changed row news olds p ≡ parity_of row (overlaid news ds)
 delta_is news olds ds zero p old e = ap (p_changed news olds) e ∙ (delta_follows news olds ds old).0
 delta_is news olds ds (suc i) p old e = ap (q_changed 0 news olds) e ∙ (delta_follows news olds ds old).1
 
@@ -197,15 +197,15 @@ whole_means m r s e = elim (cases_lt (s * stripe_length m) r.offset) [
 ]
 
 -- what a gather needs
-needs_all : (m : RawMap) (r : Span) (out : List ℕ) (s b k : ℕ) → whole m r s ≡ false → is_degraded m out s ≡ true → IsWithin b (columns m r s) → IsWithin b (needed Gathers m r out s k)
+pub needs_all : (m : RawMap) (r : Span) (out : List ℕ) (s b k : ℕ) → whole m r s ≡ false → is_degraded m out s ≡ true → IsWithin b (columns m r s) → IsWithin b (needed Gathers m r out s k)
 unfolding gathered
 needs_all m r out s b k part less w = rw (part, less) w
 
-needs_own : (m : RawMap) (r : Span) (out : List ℕ) (s b k : ℕ) → whole m r s ≡ false → is_degraded m out s ≡ false → k < data_units m → (own m r s k).first ≤ b → b < (own m r s k).end → IsWithin b (needed Gathers m r out s k)
+pub needs_own : (m : RawMap) (r : Span) (out : List ℕ) (s b k : ℕ) → whole m r s ≡ false → is_degraded m out s ≡ false → k < data_units m → (own m r s k).first ≤ b → b < (own m r s k).end → IsWithin b (needed Gathers m r out s k)
 unfolding gathered changed own_columns touches
 needs_own m r out s b k part free lt f e = rw (part, free, lt-ltb k (data_units m) lt, lt-ltb (own m r s k).first (own m r s k).end (omega (arith, f, e))) (inl (f, e))
 
-needs_parity : (m : RawMap) (r : Span) (out : List ℕ) (s b k : ℕ) → whole m r s ≡ false → is_degraded m out s ≡ false → data_units m ≤ k → IsWithin b (columns m r s) → IsWithin b (needed Gathers m r out s k)
+pub needs_parity : (m : RawMap) (r : Span) (out : List ℕ) (s b k : ℕ) → whole m r s ≡ false → is_degraded m out s ≡ false → data_units m ≤ k → IsWithin b (columns m r s) → IsWithin b (needed Gathers m r out s k)
 unfolding gathered changed
 needs_parity m r out s b k part free le w = rw (part, free, le-ltb k (data_units m) le) w
 
@@ -236,7 +236,7 @@ parity_right m r bytes got out d s b row ch db some can fetched agrees stripe bl
 
 -- ---- the law
 
-over_is : (r : Span) (bytes : List ℕ) (d : ℕ → ℕ) (l : ℕ) → r.offset ≤ l → l < end_of r → over r bytes d l ≡ slice_index bytes (l - r.offset)
+pub over_is : (r : Span) (bytes : List ℕ) (d : ℕ → ℕ) (l : ℕ) → r.offset ≤ l → l < end_of r → over r bytes d l ≡ slice_index bytes (l - r.offset)
 over_is r bytes d l from to = rw (le-leb r.offset l from, lt-ltb l (end_of r) to) refl
 
 data_right : (m : RawMap) (r : Span) (bytes : List ℕ) (d : ℕ → ℕ) (s b c : ℕ) → c < data_units m → IsWithin b (own_columns m r s c) → unwrap_or (new_at m r bytes s b c) 0 ≡ word_of m (over r bytes d) s b c

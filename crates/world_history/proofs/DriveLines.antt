@@ -1,5 +1,5 @@
 -- What a line does to the drive that lines tell of.
-use Rattle.std.proofs.Common.{◌++◌, List, ap, sym, ◌∙◌, inl, inr, ℕ, ◌∷◌, ◌≡◌, Bool, None, Option, Some, false, if◌then◌else◌, option_map, refl, true}
+use Rattle.std.proofs.Common.{◌++◌, List, [], ap, sym, ◌∙◌, inl, inr, ℕ, ◌∷◌, ◌≡◌, Bool, None, Option, Some, false, if◌then◌else◌, option_map, refl, true}
 use Rattle.std.proofs.lemmas.Bool.{cases_eq, ne_eqb}
 use Rattle.std.proofs.lemmas.List.Sums.{fold-append}
 use Rattle.osd_commands.specs.Commands.{reading}

@@ -16,17 +16,17 @@ use Rattle.world_history.proofs.Runs.{due_more, lines_more}
 
 -- ---- one event more
 
-carried_more : (w : World) (steps : List Step) (s : Step) → AreCarried w steps
+pub carried_more : (w : World) (steps : List Step) (s : Step) → AreCarried w steps
     → Carries (end_of w steps) s.event s.lines s.after
     → AreCarried w (steps ++ s ∷ [])
 carried_more w [] s r c = (c, tt)
 carried_more w (x ∷ steps) s r c = (r.0, carried_more x.after steps s r.1 c)
 
-end_more : (w : World) (steps : List Step) (s : Step) → end_of w (steps ++ s ∷ []) ≡ s.after
+pub end_more : (w : World) (steps : List Step) (s : Step) → end_of w (steps ++ s ∷ []) ≡ s.after
 end_more w [] s = refl
 end_more w (x ∷ steps) s = end_more x.after steps s
 
-steps_more : (steps : List Step) (s : Step) → lines_of_steps (steps ++ s ∷ []) ≡ lines_of_steps steps ++ s.lines
+pub steps_more : (steps : List Step) (s : Step) → lines_of_steps (steps ++ s ∷ []) ≡ lines_of_steps steps ++ s.lines
 steps_more [] s = append-nil s.lines
 steps_more (x ∷ steps) s =
     ap (λ (l : List Line). x.lines ++ l) (steps_more steps s)

@@ -1,12 +1,12 @@
 pub mod DriveLines
 pub mod Parties
-mod Runs
-mod Histories
+pub mod Runs
+pub mod Histories
 mod Closed
-mod Always
+pub mod Always
 mod Going
-mod ReadMessages
-mod Pending
+pub mod ReadMessages
+pub mod Pending
 mod Played
 mod Opened
 mod OpenedServer

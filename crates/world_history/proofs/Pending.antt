@@ -15,7 +15,7 @@ past_next : (first k place : ℕ) (x : Posted) (ps : List Posted) → Past first
 past_next first k place x ps h j p f l e = h (suc j) p (omega (arith, f)) (omega (arith, l)) e
 
 -- the first message isn't the one
-passed_over : (first k : ℕ) (x : Posted) → (first ≤ k → is_pending x ≡ false) → (nat_le first k && is_pending x) ≡ false
+pub passed_over : (first k : ℕ) (x : Posted) → (first ≤ k → is_pending x ≡ false) → (nat_le first k && is_pending x) ≡ false
 passed_over first k x h = grind (arith, nat_tests, h)
 
 found : (first k place : ℕ) (ps : List Posted) (p : Posted) → first ≤ k + place → slice_get ps place ≡ Some p

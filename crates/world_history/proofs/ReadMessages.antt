@@ -42,13 +42,13 @@ map_more : (xs : List Posted) (ys : List Posted) → map shown (xs ++ ys) ≡ ma
 map_more [] ys = refl
 map_more (x ∷ xs) ys = ap (λ (l : List Sent). shown x ∷ l) (map_more xs ys)
 
-shown_set : (ps : List Posted) (n : ℕ) (p : Posted)
+pub shown_set : (ps : List Posted) (n : ℕ) (p : Posted)
     → map shown (slice_set ps n p) ≡ slice_set (map shown ps) n (shown p)
 shown_set [] n p = refl
 shown_set (x ∷ ps) zero p = refl
 shown_set (x ∷ ps) (suc n) p = ap (λ (l : List Sent). shown x ∷ l) (shown_set ps n p)
 
-shown_get : (ps : List Posted) (n : ℕ) (p : Posted) → slice_get ps n ≡ Some p
+pub shown_get : (ps : List Posted) (n : ℕ) (p : Posted) → slice_get ps n ≡ Some p
     → slice_get (map shown ps) n ≡ Some (shown p)
 shown_get [] n p e = absurd (cc e)
 shown_get (x ∷ ps) zero p e = let same : x ≡ p = cc in ap (λ (y : Posted). Some (shown y)) same
@@ -141,7 +141,7 @@ hand_to w chosen m (node.Client c) = client_heard w c m (at_number w.clients c)
 
 -- ---- an action
 
-abbrev view : World → List Sent
+abbrev pub view : World → List Sent
 view w = map shown w.network.messages
 
 -- what is told of messages leads from one world to the other
@@ -154,7 +154,7 @@ marked_view w n p e =
     ap (λ (o : Option Sent). changed_by (view w) n arrived o) (shown_get w.network.messages n p e)
     ∙ sym (shown_set w.network.messages n (record p { delivered = true }))
 
-drops_view : (w : World) (n : ℕ) (p : Option Posted) → slice_get w.network.messages n ≡ p
+pub drops_view : (w : World) (n : ℕ) (p : Option Posted) → slice_get w.network.messages n ≡ p
     → changed_at (view w) n left_out ≡ view (drops_found w n p)
 drops_view w n None e = ap (λ (o : Option Sent). changed_by (view w) n left_out o) (shown_none w.network.messages n e)
 drops_view w n (Some p) e =
@@ -204,12 +204,12 @@ pends_reads : (w : World) (c : ℕ) (op : Option client_rules.CallOp) → Reads 
 pends_reads w c None = refl
 pends_reads w c (Some op) = refl
 
-drive_view : (w : World) (d : ℕ) (becomes : DriveAt → DriveAt) (a : Option DriveAt)
+pub drive_view : (w : World) (d : ℕ) (becomes : DriveAt → DriveAt) (a : Option DriveAt)
     → (by_drive w d becomes a).network ≡ w.network
 drive_view w d becomes None = refl
 drive_view w d becomes (Some a) = refl
 
-stops_view : (w : World) (c : ℕ) (a : Option ClientAt) → (stops w c a).network ≡ w.network
+pub stops_view : (w : World) (c : ℕ) (a : Option ClientAt) → (stops w c a).network ≡ w.network
 stops_view w c None = refl
 stops_view w c (Some a) = refl
 
@@ -296,26 +296,26 @@ begins_reads w chosen e = refl
 -- ---- moves
 
 -- no event begins behind another's first move
-left_pending : (c : ℕ) (e : Event) (b : Bool) → (if b then Some (Pends c) else None) ≡ Some (Opens e) → ⊥
+pub left_pending : (c : ℕ) (e : Event) (b : Bool) → (if b then Some (Pends c) else None) ≡ Some (Opens e) → ⊥
 left_pending c e true s = cc s
 left_pending c e false s = cc s
 
-quiet_opens : (c : ℕ) (a : client_rules.Client) (e : Event) (x : client_rules.Awaits)
+pub quiet_opens : (c : ℕ) (a : client_rules.Client) (e : Event) (x : client_rules.Awaits)
     → when_quiet c a x ≡ Some (Opens e) → ⊥
 quiet_opens c a e (client_rules.ADrive k) s = cc s
 quiet_opens c a e client_rules.TheServer s = left_pending c e (is_some a.call) s
 quiet_opens c a e client_rules.Nothing s = left_pending c e (is_some a.call) s
 
-quiet_at_opens : (c : ℕ) (e : Event) (a : Option ClientAt) → quiet_at c a ≡ Some (Opens e) → ⊥
+pub quiet_at_opens : (c : ℕ) (e : Event) (a : Option ClientAt) → quiet_at c a ≡ Some (Opens e) → ⊥
 quiet_at_opens c e None s = cc s
 quiet_at_opens c e (Some a) s = quiet_opens c a.state e (awaits a.state) s
 
-pending_opens : (w : World) (c : Option ℕ) (e : Event) (n : Option ℕ) → due_pending w c n ≡ Some (Opens e) → ⊥
+pub pending_opens : (w : World) (c : Option ℕ) (e : Event) (n : Option ℕ) → due_pending w c n ≡ Some (Opens e) → ⊥
 pending_opens w c e (Some n) s = cc s
 pending_opens w None e None s = cc s
 pending_opens w (Some c) e None s = quiet_at_opens c e (at_number w.clients c) s
 
-never_opens : (w : World) (r : Rule) (e : Event) → due_by w r ≡ Some (Opens e) → ⊥
+pub never_opens : (w : World) (r : Rule) (e : Event) → due_by w r ≡ Some (Opens e) → ⊥
 never_opens w Alone e s = cc s
 never_opens w (Prompt first c) e s = pending_opens w c e (next_pending w first) s
 
