@@ -32,7 +32,7 @@ use Rattle.server_rules.specs.Slots.{slot_of}
 use Rattle.history_law.specs.Grants.{GrantsAreSafe}
 use Rattle.history_law.specs.HistoryMoments.{IsReached}
 use Rattle.history_law.specs.BookMoments.{IsMoment, lines_so_far, lines_in, plan_at}
-use Rattle.move_law.proofs.Moments.{due_more, world_more}
+use Rattle.world_history.proofs.Runs.{due_more, world_more}
 use Rattle.move_law.proofs.Moments.{so_far_more}
 use Rattle.exchange_law.specs.Doing.{said, IsHeardByServer, IsHeardByClient, OthersGo, ServerGoes, ClientGoes, ClientStops, ClientComes, Goes, Others, AServer, AClient, Stops, Comes}
 use Rattle.exchange_law.specs.Messages.{AsksOf, IsAsked, last_before}

@@ -11,7 +11,7 @@ use Rattle.world_history.specs.Runs.{world_after, plan_after}
 use Rattle.world_history.specs.Refusals.{refusal, unless_there}
 use Rattle.move_law.specs.Moments.{IsMoment, plan_at}
 pub use Rattle.move_law.proofs.Moments.{IsKept, always}
-use Rattle.move_law.proofs.Moments.{never_opens}
+use Rattle.world_history.proofs.ReadMessages.{never_opens}
 
 no_opening : (p : Plan) (ms : List Move) → p.opening ≡ None → (plan_after p ms).opening ≡ None
 no_opening p [] e = e

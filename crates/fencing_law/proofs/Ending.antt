@@ -22,7 +22,7 @@ use Rattle.move_law.proofs.Moments.{so_far_more}
 use Rattle.history_law.proofs.DriveEvents.{IsRead, kept}
 use Rattle.history_law.proofs.Spending.{all_spend}
 use Rattle.history_law.specs.BookMoments.{IsMoment, with_event, lines_so_far, lines_in, plan_at}
-use Rattle.move_law.proofs.Moments.{due_more, world_more}
+use Rattle.world_history.proofs.Runs.{due_more, world_more}
 use Rattle.job_law.proofs.Lists.{in_either}
 use Rattle.fencing_law.specs.Reaching.{is_spellable, OwnAt}
 use Rattle.fencing_law.specs.Fenced.{FencesEnd, ReachedRefuses}

@@ -1,71 +1,23 @@
 -- What the empty world has, and each move that is due at a moment keeps, holds at each moment, with the lines so far.
-use Rattle.std.proofs.Common.{◌≡◌, ℕ, ◌++◌, ◌∷◌, [], List, Bool, true, false, Option, Some, None, is_some, refl, sym, ap, subst, ◌∙◌, append_assoc, if◌then◌else◌}
+use Rattle.std.proofs.Common.{◌≡◌, ◌++◌, ◌∷◌, [], List, Some, None, refl, sym, ap, subst, ◌∙◌, append_assoc}
 use Rattle.std.proofs.lemmas.List.{append-nil}
 use Rattle.scenario_text.specs.declared.event.Event.{Event}
 use Rattle.scenario_text.specs.declared.line.Line.{Line}
 use Rattle.scenario_text.specs.declared.line.Line.TheVariants as line
-use Rattle.world_history.specs.State.{World, ClientAt, empty_world, at_number}
+use Rattle.world_history.specs.State.{World, empty_world}
 use Rattle.world_history.specs.Moves.{Act, Action, Opens, Delivers, TimesOut, Pends}
 use Rattle.world_history.specs.Sending.{Move, move, sends_all}
-use Rattle.world_history.specs.ClientNames as client_rules
-use Rattle.client_rules.specs.Steps.{awaits}
-use Rattle.world_history.specs.Plans.{Plan, Rule, Alone, Prompt, due, due_by, due_pending, quiet_of, quiet_at, when_quiet, next_pending, went_on, rule_after, rule_of, plan_of}
+use Rattle.world_history.specs.Plans.{Plan, Rule, due, due_by, went_on, rule_after, rule_of, plan_of}
 use Rattle.world_history.specs.Runs.{world_after, lines_of, AreDue, plan_after, IsOver, Carries}
 use Rattle.world_history.specs.History.{Step, AreCarried, end_of, lines_of_steps, StandsFor, OneEventMore}
 use Rattle.world_history.specs.Refusals.{refusal}
+use Rattle.world_history.proofs.Runs.{due_more, plan_more, world_more, lines_more}
+use Rattle.world_history.proofs.ReadMessages.{never_opens}
 use Rattle.move_law.specs.Moves.{MoveCases}
 use Rattle.move_law.specs.Moments.{IsMoment, with_event, lines_so_far, lines_in, plan_at}
 use Rattle.move_law.proofs.Moves.{each_act}
 
--- ---- an event goes on by one move
-
-pub due_more : (p : Plan) (w : World) (ms : List Move) (m : Move) → AreDue p w ms
-    → due (plan_after p ms) (world_after w ms) ≡ Some m.action → AreDue p w (ms ++ m ∷ [])
-due_more p w [] m d e = (e, tt)
-due_more p w (x ∷ ms) m d e = (d.0, due_more (went_on p x.action) (move w x).world ms m d.1 e)
-
-pub plan_more : (p : Plan) (ms : List Move) (m : Move)
-    → plan_after p (ms ++ m ∷ []) ≡ went_on (plan_after p ms) m.action
-plan_more p [] m = refl
-plan_more p (x ∷ ms) m = plan_more (went_on p x.action) ms m
-
-pub world_more : (w : World) (ms : List Move) (m : Move)
-    → world_after w (ms ++ m ∷ []) ≡ (move (world_after w ms) m).world
-world_more w [] m = refl
-world_more w (x ∷ ms) m = world_more (move w x).world ms m
-
-lines_more : (w : World) (ms : List Move) (m : Move)
-    → lines_of w (ms ++ m ∷ []) ≡ lines_of w ms ++ (move (world_after w ms) m).lines
-lines_more w [] m = append-nil (move w m).lines
-lines_more w (x ∷ ms) m =
-    ap (λ (ls : List Line). (move w x).lines ++ ls) (lines_more (move w x).world ms m)
-    ∙ sym (append_assoc (move w x).lines (lines_of (move w x).world ms) _)
-
 -- ---- behind the first action of an event begins no other
-
--- no event begins behind another's first move
-left_pending : (c : ℕ) (e : Event) (b : Bool) → (if b then Some (Pends c) else None) ≡ Some (Opens e) → ⊥
-left_pending c e true s = cc s
-left_pending c e false s = cc s
-
-quiet_opens : (c : ℕ) (a : client_rules.Client) (e : Event) (x : client_rules.Awaits)
-    → when_quiet c a x ≡ Some (Opens e) → ⊥
-quiet_opens c a e (client_rules.ADrive k) s = cc s
-quiet_opens c a e client_rules.TheServer s = left_pending c e (is_some a.call) s
-quiet_opens c a e client_rules.Nothing s = left_pending c e (is_some a.call) s
-
-quiet_at_opens : (c : ℕ) (e : Event) (a : Option ClientAt) → quiet_at c a ≡ Some (Opens e) → ⊥
-quiet_at_opens c e None s = cc s
-quiet_at_opens c e (Some a) s = quiet_opens c a.state e (awaits a.state) s
-
-pending_opens : (w : World) (c : Option ℕ) (e : Event) (n : Option ℕ) → due_pending w c n ≡ Some (Opens e) → ⊥
-pending_opens w c e (Some n) s = cc s
-pending_opens w None e None s = cc s
-pending_opens w (Some c) e None s = quiet_at_opens c e (at_number w.clients c) s
-
-pub never_opens : (w : World) (r : Rule) (e : Event) → due_by w r ≡ Some (Opens e) → ⊥
-never_opens w Alone e s = cc s
-never_opens w (Prompt first c) e s = pending_opens w c e (next_pending w first) s
 
 later_rule : (r : Rule) (ms : List Move)
     → (q : Rule) × (plan_after (record { opening = None; rule = r }) ms ≡ record { opening = None; rule = q })
