@@ -48,7 +48,7 @@ use Rattle.world_history.specs.Reading.{sent_in}
 use Rattle.history_law.proofs.DriveLines.{sent_read, view, shown_get}
 use Rattle.history_law.specs.BookMoments.{IsMoment}
 use Rattle.exchange_law.specs.Doing.{IsHeardByClient, AreReplies, Nothing, OneReply, ClientGoes, Goes, Others, AServer, AClient, Stops, Comes}
-use Rattle.exchange_law.proofs.Doing.{moves_are_steps}
+use Rattle.move_law.proofs.Goes.{moves_are_steps}
 use Rattle.exchange_law.specs.PlaceAnswers.{ResultsFit, AnswerFits, SpellsFitting, AnswersFit}
 use Rattle.exchange_law.proofs.PlaceLines.{fits_before}
 use Rattle.exchange_law.proofs.AwaitsSteps.{step_awaits}

@@ -8,7 +8,6 @@ pub mod Covers
 pub mod Had
 pub mod RightMoves
 pub mod RightSteps
-pub mod Doing
 pub mod Few
 pub mod SlotAsking
 pub mod Granted

@@ -15,7 +15,7 @@ use Rattle.world_history.specs.Sending.{Move, move}
 use Rattle.history_law.specs.BookMoments.{with_event, lines_in}
 use Rattle.history_law.proofs.Running.{server_more}
 use Rattle.exchange_law.specs.Doing.{said, posted}
-use Rattle.exchange_law.proofs.Doing.{moves_are_steps}
+use Rattle.move_law.proofs.Goes.{moves_are_steps}
 use Rattle.exchange_law.proofs.SlotLists.{said_more}
 use Rattle.exchange_law.proofs.SlotMoments.{always}
 use Rattle.calm_law.specs.Naming.{IsNamed, IsNamedInput, AreNamed}
