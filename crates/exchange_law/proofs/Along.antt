@@ -13,7 +13,7 @@ use Rattle.world_history.specs.History.{Step, AreCarried, end_of, lines_of_steps
 use Rattle.world_history.specs.History.Begins.{Nothing, Part}
 use Rattle.world_history.specs.Refusals.{refusal}
 use Rattle.world_history.proofs.Always.{opening}
-use Rattle.history_law.proofs.DriveEvents.{never_opens}
+use Rattle.world_history.proofs.ReadMessages.{never_opens}
 use Rattle.history_law.specs.BookMoments.{IsMoment, lines_so_far, lines_in}
 use Rattle.move_law.proofs.Moments.{so_far_more}
 use Rattle.fencing_law.proofs.Ending.{next_moment}

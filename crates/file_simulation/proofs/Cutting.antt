@@ -14,8 +14,8 @@ use Rattle.world_history.specs.Refusals.{refusal}
 use Rattle.world_history.specs.History.{StandsFor, Begins, Lawful}
 use Rattle.world_history.specs.History.Begins.{Nothing, Part}
 use Rattle.history_law.specs.BookMoments.{IsMoment, with_event, lines_in, lines_so_far, plan_at}
-use Rattle.history_law.proofs.DriveEvents.{never_opens}
 use Rattle.world_history.proofs.Runs.{due_more, world_more}
+use Rattle.world_history.proofs.ReadMessages.{never_opens}
 use Rattle.move_law.proofs.Moments.{so_far_more}
 use Rattle.file_simulation.specs.Simulation.{IsNext}
 
