@@ -31,7 +31,7 @@ use Rattle.server_state.specs.Tables.{Table, files_in, entry_at, without, IsEntr
 use Rattle.server_state.specs.States.{server_of, Did, IsGood, IsGoodBut, Settles}
 use Rattle.server_state.specs.Replies.{file_awaits, AreListed, AreListedBut, OthersStay}
 use Rattle.server_state.specs.Index.{Keys}
-use Rattle.layout_server.specs.declared.creating.FileErr.{FileErr}
+use Rattle.layout_server.specs.declared.new_files.FileErr.{FileErr}
 use Rattle.layout_server.specs.Creating.{Creates, cause_of, map_unless}
 use Rattle.server_state.proofs.TableLaws.{file_at-files}
 use Rattle.server_state.proofs.CountLaws.{none_off}

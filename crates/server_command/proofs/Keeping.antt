@@ -20,7 +20,7 @@ use Rattle.server_rules.specs.Jobs.{is_made, making}
 use Rattle.server_rules.specs.Making.{create_file, makes_file, places, refusal, unless_refused, unmade, with_file}
 use Rattle.server_rules.specs.Messages.{Message, Asks, Replies, Orders, by_heard, counters_have_room, handled, heard_at, on_drive_reply, on_message}
 use Rattle.server_rules.specs.Envelopes.{message_in, on_message_in}
-use Rattle.server_requests.specs.declared.sending.Sent.{Sent}
+use Rattle.server_requests.specs.declared.outgoing.Sent.{Sent}
 use Rattle.server_command.specs.Work.{Hears, InTurn, Rounds, Serving}
 use Rattle.server_command.specs.declared.files.TheConstants.{FIRST_TAG}
 use Rattle.server_command.specs.Making.{Begins, Makes, MakesFile, MakesTo}

@@ -18,7 +18,7 @@ use Rattle.server_rules.specs.Files.{Step, begins, at_file, still, to_drives}
 use Rattle.server_rules.specs.Replies.{on_reply}
 use Rattle.server_rules.specs.Messages.{Message, Asks, Replies, Orders, counters_have_room, heard_at, or_else, by_heard, on_drive_reply, handled, on_message}
 use Rattle.server_rules.specs.Envelopes.{message_in, on_message_in, on_bytes}
-use Rattle.server_requests.specs.declared.sending.Sent.{Sent}
+use Rattle.server_requests.specs.declared.outgoing.Sent.{Sent}
 use Rattle.server_requests.specs.Sending.{all_sent}
 use Rattle.server_command.specs.Work.{Handles, Hears, InTurn, PutsIf, Round, Serving, Works, WorksTo}
 use Rattle.server_command.proofs.NonceLaws.{RisesIn, reply_rises}
