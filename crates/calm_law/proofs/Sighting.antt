@@ -7,8 +7,6 @@ use Rattle.world_history.specs.Reading.{sent_after, sent_in}
 use Rattle.world_history.specs.Guesses.{Guarded, guards}
 use Rattle.world_watch.specs.Sighted.{Table, nonce_in, of_nonce, is_same, is_same_at, first_same, first_in, sighted}
 use Rattle.world_watch.specs.Tied.{AreBelow, AreOf, BeginWith}
-use Rattle.world_watch.proofs.Finding.{first_begins}
-use Rattle.world_watch.proofs.Sighting.{in_begins}
 use Rattle.calm_law.specs.Sightings.{GuardsMessages, SightsTheWorld}
 
 same_messages : (h : List Line) (g : Guarded) → (fold guards g h).sent ≡ fold sent_after g.sent h
@@ -20,6 +18,20 @@ unfolding sent_in
 guards_messages h = same_messages h _
 
 -- ---- behind a move
+
+-- in messages that begin with those of the table, the same is found
+first_begins : (ms sent : List Sent) (d : ℕ) (bytes ns : List ℕ) → BeginWith ms sent → AreBelow (length sent) ns
+    → first_same ms d bytes ns ≡ first_same sent d bytes ns
+unfolding first_same
+first_begins ms sent d bytes [] w b = refl
+first_begins ms sent d bytes (n ∷ ns) w b =
+    ap (λ t. cond t (Some n) (first_same ms d bytes ns)) (w n b.0 d bytes)
+    ∙ ap (λ r. cond (is_same_at d bytes (slice_get sent n)) (Some n) r) (first_begins ms sent d bytes ns w b.1)
+
+in_begins : (ms sent : List Sent) (d : ℕ) (bytes : List ℕ) → BeginWith ms sent → (o : Option (List ℕ))
+    → ((ns : List ℕ) → o ≡ Some ns → AreBelow (length sent) ns) → first_in ms d bytes o ≡ first_in sent d bytes o
+in_begins ms sent d bytes w None h = refl
+in_begins ms sent d bytes w (Some ns) h = first_begins ms sent d bytes ns w (h ns refl)
 
 pub sighted_begins : (ms sent : List Sent) (t : Table) (d : ℕ) (bytes : List ℕ) → BeginWith ms sent → AreOf sent t
     → sighted t ms d bytes ≡ position (is_same d bytes) sent

@@ -2,6 +2,6 @@ mod Reading
 mod Telling
 mod Stepping
 mod Sums
-pub mod Finding
-pub mod Sighting
+mod Finding
+mod Sighting
 mod Keeping

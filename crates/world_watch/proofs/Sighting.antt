@@ -16,7 +16,7 @@ use Rattle.world_watch.proofs.Finding.{below_more, below_push, get_front, first_
 
 -- ---- in other messages that begin alike
 
-pub in_begins : (ms sent : List Sent) (d : ℕ) (bytes : List ℕ) → BeginWith ms sent → (o : Option (List ℕ))
+in_begins : (ms sent : List Sent) (d : ℕ) (bytes : List ℕ) → BeginWith ms sent → (o : Option (List ℕ))
     → ((ns : List ℕ) → o ≡ Some ns → AreBelow (length sent) ns) → first_in ms d bytes o ≡ first_in sent d bytes o
 in_begins ms sent d bytes w None h = refl
 in_begins ms sent d bytes w (Some ns) h = first_begins ms sent d bytes ns w (h ns refl)
