@@ -15,6 +15,7 @@ use Rattle.world_history.proofs.Runs.{due_more, plan_more, world_more, lines_mor
 use Rattle.world_watch.specs.Sighted.{Table}
 use Rattle.world_watch.specs.Tied.{AreOf}
 use Rattle.world_calm.specs.Seeing.{CalmState}
+use Rattle.move_law.proofs.Moments.{so_far_more}
 use Rattle.calm_law.specs.Following.{Follows}
 use Rattle.history_law.specs.BookMoments.{IsMoment, with_event, lines_in, lines_so_far, plan_at}
 use Rattle.history_law.specs.Read.{AreWritten}
@@ -23,20 +24,6 @@ use Rattle.calm_law.specs.Moving.{MoveFollows, EventFollows, sees_one, sees_move
 use Rattle.calm_law.proofs.MoveFollowing.{is_opens, next_opens, plain_lines}
 
 -- ---- a moment, and the next one
-
-so_far_more : (w : World) (e : Event) (done : List Move) (m : Move)
-    → due (plan_after (plan_of w e) done) (world_after w done) ≡ Some m.action
-    → lines_so_far w e (done ++ m ∷ []) ≡ lines_so_far w e done ++ lines_in (world_after w done) m
-so_far_more w e [] m n =
-    let opens : Opens e ≡ m.action = cc n in
-    ap (λ (ls : List Line). line.Event e ∷ ls) (append-nil (move w m).lines)
-    ∙ ap (λ (a : Action). with_event a (move w m).lines) opens
-so_far_more w e (d ∷ done) m n =
-    let v : World = world_after w (d ∷ done) in
-    let late : is_opens m.action ≡ false = next_opens (went_on (plan_of w e) d.action) done v m.action refl n in
-    ap (λ (ls : List Line). line.Event e ∷ ls)
-    (lines_more w (d ∷ done) m
-    ∙ ap (λ (ls : List Line). lines_of w (d ∷ done) ++ ls) (sym (plain_lines m.action (move v m).lines late)))
 
 abbrev next_moment : (w : World) (h : List Line) (k : IsMoment w h) (m : Move) → due (plan_at k) w ≡ Some m.action
     → IsMoment (move w m).world (h ++ lines_in w m)

@@ -20,6 +20,7 @@ use Rattle.world_history.specs.Handed.{Post}
 use Rattle.world_history.specs.Moves.{Act, acts}
 use Rattle.world_history.specs.Sending.{sends_all}
 use Rattle.world_history.specs.History.{OneEventMore}
+use Rattle.move_law.proofs.Moments.{IsKept}
 use Rattle.history_law.specs.BookMoments.{IsMoment, lines_in}
 use Rattle.fencing_law.proofs.Moves.{messages_in}
 use Rattle.fencing_law.proofs.Numbers.{messages_sent}
@@ -31,7 +32,7 @@ use Rattle.exchange_law.proofs.Fine.{ClientFine, fewer}
 use Rattle.exchange_law.proofs.LaneGoing.{StepFine}
 use Rattle.exchange_law.proofs.LaneSteps.{IsNewIn, InputNew, step_fine}
 use Rattle.exchange_law.proofs.Dealing.{message_by, IsHeard, AreSends, Acts, Others, Goes, Makes, each_acts}
-use Rattle.exchange_law.proofs.LaneMoments.{IsKept, moment}
+use Rattle.exchange_law.proofs.LaneMoments.{moment}
 
 -- ---- what a client sent
 
