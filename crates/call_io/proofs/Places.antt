@@ -14,14 +14,10 @@ use Rattle.call_commands.proofs.Lists.{drop_at, snoc}
 use Rattle.call_io.specs.State.{Held, Column}
 use Rattle.stripe_plan.specs.declared.plan.Part.{Part}
 use Rattle.stripe_plan.specs.Plans.{part_column, columns_of}
+use Rattle.stripe_plan.proofs.Parities.{left}
+use Rattle.stripe_plan.proofs.Steps.{none}
 use Rattle.call_io.specs.Probes.{probe_unless}
 use Rattle.data_map.proofs.Shape.{whole_groups}
-
--- a group's positions are among all
-pub group_ends : (m : RawMap) (p : ℕ) → IsChecked m → p < positions m → p / group_width m * group_width m + group_width m ≤ positions m
-group_ends m p c l =
-    let more : p / group_width m + 1 ≤ groups m = omega (arith, div_below p (group_width m) (groups m) (omega (arith, c.some_data)) (rw (whole_groups m c) l)) in
-    omega (arith, mul-le-mul_right (group_width m) more, add-mul (p / group_width m) 1 (group_width m), whole_groups m c)
 
 -- the first component of a position is the position's
 pub first_replica : (m : RawMap) (p : ℕ) → (p * replicas m + 0) / replicas m ≡ p
@@ -29,25 +25,19 @@ first_replica m p = div-mul-add p (replicas m) 0 (omega arith)
 
 -- ---- numbers from p up to e
 
-more : (p e : ℕ) → p < e → e - p ≡ suc (e - (p + 1))
-more p e l = omega (arith, l)
-
-done : (p e : ℕ) → e ≤ p → e - p ≡ 0
-done p e l = omega (arith, l)
-
 pub range_step : (p e : ℕ) → p < e → range_with_len p (e - p) ≡ p ∷ range_with_len (p + 1) (e - (p + 1))
-range_step p e l = ap (range_with_len p) (more p e l)
+range_step p e l = ap (range_with_len p) (left p e l)
 
 pub range_end : (p e : ℕ) → e ≤ p → range_with_len p (e - p) ≡ []
-range_end p e l = ap (range_with_len p) (done p e l)
+range_end p e l = ap (range_with_len p) (none p e l)
 
 pub probe_step : (h : Held) (out have : List ℕ) (p e : ℕ) → p < e → probe_each h out have p (e - p) ≡ probe_unless h out have p ++ probe_each h out have (p + 1) (e - (p + 1))
 unfolding probe_each
-probe_step h out have p e l = ap (probe_each h out have p) (more p e l)
+probe_step h out have p e l = ap (probe_each h out have p) (left p e l)
 
 pub probe_end : (h : Held) (out have : List ℕ) (p e : ℕ) → e ≤ p → probe_each h out have p (e - p) ≡ []
 unfolding probe_each
-probe_end h out have p e l = ap (probe_each h out have p) (done p e l)
+probe_end h out have p e l = ap (probe_each h out have p) (none p e l)
 
 -- ---- nothing is awaited
 

@@ -12,6 +12,7 @@ use Rattle.scenario_text.specs.declared.line.Line.{Line}
 use Rattle.scenario_text.specs.declared.line.Line.TheVariants as line
 use Rattle.server_rules.specs.Files.{file_at}
 use Rattle.server_rules.specs.Numbers.{among}
+use Rattle.server_rules.proofs.FileLaws.{number_at}
 use Rattle.world_history.specs.declared.messages.Sent.{Sent}
 use Rattle.world_history.specs.ServerNames.{File}
 use Rattle.world_history.specs.State.{at_number}
@@ -32,7 +33,7 @@ use Rattle.calm_law.specs.Marks.{any_marked, IsReal, KeepsMarks, HaveMaps}
 use Rattle.calm_law.specs.Harms.{AreLeft}
 use Rattle.calm_law.specs.Performing.{AreDistinct, HaveComponents}
 use Rattle.calm_law.specs.Following.{bytes_in, IsWithin, PerformsAs}
-use Rattle.calm_law.proofs.Tables.{among_end, number_at}
+use Rattle.calm_law.proofs.Tables.{among_end}
 use Rattle.calm_law.proofs.Noting.{fails_alike}
 use Rattle.calm_law.proofs.Performing.{writes_mark}
 

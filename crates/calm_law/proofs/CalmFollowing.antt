@@ -3,6 +3,7 @@ use Rattle.std.proofs.Common.{◌≡◌, ◌||◌, ◌<◌, ℕ, ◌&&◌, ◌�
 use Rattle.std.specs.Prelude.{nat_lt}
 use Rattle.std.specs.List.{fold, list_any}
 use Rattle.std.proofs.lemmas.Bool.{cases_Bool}
+use Rattle.osd_lists.proofs.Tests.{without_second}
 use Rattle.osd_objects.proofs.Entries.{some_there}
 use Rattle.data_map.specs.declared.check.RawMap.{RawMap}
 use Rattle.data_map.specs.Striping.{parities}
@@ -40,7 +41,7 @@ use Rattle.calm_law.proofs.Marking.{taken_marks}
 use Rattle.calm_law.proofs.Harming.{calm_alike}
 use Rattle.calm_law.proofs.Flagging.{begin_is_seen}
 use Rattle.calm_law.proofs.Beginning.{opened_files, opened_stopped, opened_rest, taken_writes, performs_leaves, performed_come, left_marks, are_left, begun_keeps}
-use Rattle.calm_law.proofs.CalmTelling.{Told, all_told, quiet_flag}
+use Rattle.calm_law.proofs.CalmTelling.{Told, all_told}
 use Rattle.calm_law.proofs.Ending.{Ends, all_end, rebased, quiet_still}
 
 -- ---- a report leaves files and clients
@@ -199,7 +200,7 @@ begin_told s t did kept rs ms p c h f =
       calm = flag ∙ ap (λ (b : Bool). c.calm && b)
           (sym (calm_alike s.moment.server.files kept (begins_there s t did) (begins kept c ms t.head t.rest p) k))
           ∙ ap (λ (b : Bool). b && is_calm (begins_there s t did)) h.calm;
-      quiet = λ e. quiet_flag c.calm (any_harmed (begins kept c ms t.head t.rest p).files
+      quiet = λ e. without_second c.calm (any_harmed (begins kept c ms t.head t.rest p).files
           (begins kept c ms t.head t.rest p).marks) (sym flag ∙ e);
     }
 

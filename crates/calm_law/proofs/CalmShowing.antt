@@ -1,7 +1,7 @@
 -- Files behind a step.
 use Rattle.std.proofs.Common.{◌≡◌, ◌⊎◌, ℕ, ◌==◌, ◌&&◌, ◌∷◌, [], List, Bool, true, false, Option, Some, None, is_some, map, refl, sym, ap, subst, ◌∙◌, inl, inr, eq-eqb, ne_eqb}
 use Rattle.std.specs.List.{fold, list_any}
-use Rattle.std.proofs.lemmas.Bool.{cases_Bool, cases_eq}
+use Rattle.std.proofs.lemmas.Bool.{cases_Bool, cases_eq, and_parts}
 use Rattle.osd_objects.proofs.Entries.{is_at_other, lookup_inserted, lookup_beside, some_there}
 use Rattle.osd_commands.specs.declared.commands.Command.{Command}
 use Rattle.osd_commands.specs.Commands.{reading}
@@ -19,6 +19,7 @@ use Rattle.scenario_text.specs.declared.line.Line.{Line}
 use Rattle.scenario_text.specs.declared.line.Line.TheVariants as line
 use Rattle.server_rules.specs.Files.{file_at}
 use Rattle.server_rules.specs.Numbers.{among}
+use Rattle.server_rules.proofs.FileLaws.{number_at}
 use Rattle.world_history.specs.ServerNames.{File, Kept}
 use Rattle.world_history.specs.State.{at_number}
 use Rattle.world_calm.specs.Read.{command_of}
@@ -27,7 +28,6 @@ use Rattle.world_calm.specs.declared.files.SeenFile.{SeenFile}
 use Rattle.world_calm.specs.Files.{FilesState, Table, no_files, seen_as}
 use Rattle.world_calm.specs.Seeing.{CalmState, KeptOf, logs, logs_event, refused, acknowledged, ended, sent_by, sent, shown_with, shows, shows_all, follows}
 use Rattle.calm_law.proofs.Lists.{sorted_inserted}
-use Rattle.calm_law.proofs.Tables.{number_at}
 use Rattle.calm_law.specs.Words.{IsSorted, seen_in, kept_in, IsKeptOf, is_there}
 use Rattle.calm_law.specs.Files.{KeepsFiles, shows_file, StepsAlike}
 
@@ -145,11 +145,6 @@ among_keys (e ∷ es) n h = elim (cases_eq n e.0) [
 
 -- ---- a line
 
-both : (a b : Bool) → (a && b) ≡ true → (a ≡ true) × (b ≡ true)
-both true true e = (refl, refl)
-both true false e = absurd (cc e)
-both false b e = absurd (cc e)
-
 may_line : (behind : List File) (kept : KeptOf) → IsKeptOf behind kept → (c : CalmState) (l : Line) (n : ℕ)
     → Either behind c.files (follows kept c l).files n
 may_line behind kept h c (line.Event (event.File f m tag)) n = may_show behind kept h c f n
@@ -161,7 +156,7 @@ may_line behind kept h c l n = inl (ap (λ (t : FilesState). at_number t.files n
 here : (behind : List File) (kept : KeptOf) → IsKeptOf behind kept → (c : CalmState) (f n : ℕ)
     → ((f == n) && is_there behind n) ≡ true → at_number (shows kept c f).files.files n ≡ seen_in (file_at behind n)
 here behind kept h c f n t =
-    let b : ((f == n) ≡ true) × (is_there behind n ≡ true) = both (f == n) (is_there behind n) t in
+    let b : ((f == n) ≡ true) × (is_there behind n ≡ true) = and_parts (f == n) (is_there behind n) t in
     elim (cases_eq f n) [
       | inl i ↦ rw i (must_show behind kept h c n b.1)
       | inr o ↦ absurd (cc (rw (ne_eqb f n o) at b.0))
@@ -172,7 +167,7 @@ must_line : (behind : List File) (kept : KeptOf) → IsKeptOf behind kept → (c
     → at_number (follows kept c l).files.files n ≡ seen_in (file_at behind n)
 must_line behind kept h c (line.Event (event.File f m tag)) n x e t = here behind kept h c f n t
 must_line behind kept h c (line.Event (event.Declare d)) n x e t =
-    let b : (is_some x ≡ true) × (is_there behind n ≡ true) = both (is_some x) (is_there behind n) t in
+    let b : (is_some x ≡ true) × (is_there behind n ≡ true) = and_parts (is_some x) (is_there behind n) t in
     must_show_all behind kept h c (map (λ (e : ℕ × SeenFile). e.0) c.files.files) n b.1
     (among_keys c.files.files n (ap (λ (o : Option SeenFile). is_some o) e ∙ b.0))
 must_line behind kept h c (line.Note f (note.Rebuilt k d)) n x e t = here behind kept h c f n t

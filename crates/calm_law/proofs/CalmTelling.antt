@@ -2,6 +2,7 @@
 use Rattle.std.proofs.Common.{◌≡◌, ℕ, ◌==◌, ◌&&◌, ◌∷◌, [], List, Bool, true, false, not, true≢false, Option, Some, None, find, refl, sym, ap, subst, ◌∙◌, inl, inr}
 use Rattle.std.specs.List.{fold}
 use Rattle.std.proofs.lemmas.Bool.{cases_Bool}
+use Rattle.osd_lists.proofs.Tests.{without_second}
 use Rattle.scenario_text.specs.declared.line.Note.{Note}
 use Rattle.scenario_text.specs.declared.line.Note.TheVariants as note
 use Rattle.scenario_text.specs.declared.line.Line.{Line}
@@ -112,11 +113,6 @@ note_keeps rs there kept m c n what h =
       left = left_noted kept rs c n what h.left;
     }
 
-pub quiet_flag : (a b : Bool) → (a && not b) ≡ true → b ≡ false
-quiet_flag true true e = absurd (true≢false (sym e))
-quiet_flag true false e = refl
-quiet_flag false b e = absurd (true≢false (sym e))
-
 -- ---- all of them
 
 pub record Told (there : List File) (kept : KeptOf) (w : Watched) (c : CalmState) : Type 0 where
@@ -135,7 +131,7 @@ one_told rs there kept w c (line.Note n what) h =
           ((rest_noted rs c n what).calm ∙ h.calm)
           ∙ ap (λ (b : Bool). w.calm && b) (sym (calm_alike there kept (moment_behind rs w.moment n what)
           (looked (noted rs c n what)) k));
-      quiet = λ e. quiet_flag (noted rs c n what).calm (any_harmed (noted rs c n what).files (noted rs c n what).marks) e;
+      quiet = λ e. without_second (noted rs c n what).calm (any_harmed (noted rs c n what).files (noted rs c n what).marks) e;
     }
 one_told rs there kept w c l h = h
 

@@ -11,6 +11,7 @@ use Rattle.world_history.specs.Plans.{Plan, due, went_on, plan_of}
 use Rattle.world_history.specs.Runs.{world_after, lines_of, AreDue, plan_after}
 use Rattle.world_history.specs.Calm.{seen}
 use Rattle.world_history.specs.Guesses.{guarded}
+use Rattle.world_history.proofs.Runs.{due_more, plan_more, world_more, lines_more}
 use Rattle.world_watch.specs.Sighted.{Table}
 use Rattle.world_watch.specs.Tied.{AreOf}
 use Rattle.world_calm.specs.Seeing.{CalmState}
@@ -21,26 +22,6 @@ use Rattle.calm_law.specs.Moving.{MoveFollows, EventFollows, sees_one, sees_move
 use Rattle.calm_law.proofs.MoveFollowing.{is_opens, next_opens, plain_lines}
 
 -- ---- a moment, and the next one
-
-world_more : (w : World) (xs : List Move) (m : Move) → world_after w (xs ++ m ∷ []) ≡ (move (world_after w xs) m).world
-world_more w [] m = refl
-world_more w (x ∷ xs) m = world_more (move w x).world xs m
-
-plan_more : (p : Plan) (xs : List Move) (m : Move) → plan_after p (xs ++ m ∷ []) ≡ went_on (plan_after p xs) m.action
-plan_more p [] m = refl
-plan_more p (x ∷ xs) m = plan_more (went_on p x.action) xs m
-
-due_more : (p : Plan) (w : World) (xs : List Move) (m : Move) → AreDue p w xs
-    → due (plan_after p xs) (world_after w xs) ≡ Some m.action → AreDue p w (xs ++ m ∷ [])
-due_more p w [] m d n = (n, tt)
-due_more p w (x ∷ xs) m d n = (d.0, due_more (went_on p x.action) (move w x).world xs m d.1 n)
-
-lines_more : (w : World) (xs : List Move) (m : Move)
-    → lines_of w (xs ++ m ∷ []) ≡ lines_of w xs ++ (move (world_after w xs) m).lines
-lines_more w [] m = append-nil (move w m).lines
-lines_more w (x ∷ xs) m =
-    ap (λ (l : List Line). (move w x).lines ++ l) (lines_more (move w x).world xs m)
-    ∙ sym (append_assoc (move w x).lines (lines_of (move w x).world xs) _)
 
 so_far_more : (w : World) (e : Event) (done : List Move) (m : Move)
     → due (plan_after (plan_of w e) done) (world_after w done) ≡ Some m.action

@@ -1,7 +1,7 @@
 -- What a step of the lines shows of the files.
 use Rattle.std.proofs.Common.{◌≡◌, ℕ, ◌==◌, ◌&&◌, ◌||◌, ◌∷◌, [], List, Bool, true, false, Option, Some, None, filter, slice_get, refl, sym, ap, subst, ◌∙◌, inl, inr, eq-eqb}
 use Rattle.std.specs.List.{list_any}
-use Rattle.std.proofs.lemmas.Bool.{cases_Bool}
+use Rattle.std.proofs.lemmas.Bool.{cases_Bool, or_parts}
 use Rattle.scenario_text.specs.declared.event.Event.{Event}
 use Rattle.scenario_text.specs.declared.event.Event.TheVariants as event
 use Rattle.scenario_text.specs.declared.line.Note.TheVariants as note
@@ -191,13 +191,9 @@ hidden_one known behind n (line.Note f (note.Rebuilt k d)) t e = and_true (f == 
     and_true false b q r = refl
 hidden_one known behind n l t e = refl
 
-pub neither : (a b : Bool) → (a || b) ≡ false → (a ≡ false) × (b ≡ false)
-neither true b e = absurd (cc e)
-neither false b e = (refl, e)
-
 pub hidden : (known : Bool) (behind : List File) (n : ℕ) (ls : List Line) → is_there behind n ≡ true
     → list_any (shows_file known behind n) ls ≡ false → list_any (tells_rebuilt n) ls ≡ false
 hidden known behind n [] t e = refl
 hidden known behind n (l ∷ ls) t e =
-    let p : (shows_file known behind n l ≡ false) × (list_any (shows_file known behind n) ls ≡ false) = neither _ _ e in
+    let p : (shows_file known behind n l ≡ false) × (list_any (shows_file known behind n) ls ≡ false) = or_parts _ _ e in
     rw (hidden_one known behind n l t p.0) (hidden known behind n ls t p.1)

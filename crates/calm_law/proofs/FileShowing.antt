@@ -1,6 +1,7 @@
 -- The files behind a step are those that its lines show, and else those behind its notes.
 use Rattle.std.proofs.Common.{◌≡◌, ℕ, ◌&&◌, not, ◌∷◌, [], List, Bool, true, false, Option, Some, None, is_some, refl, sym, ap, subst, ◌∙◌}
 use Rattle.std.specs.List.{fold, filter_map, list_any}
+use Rattle.std.proofs.lemmas.Bool.{or_parts}
 use Rattle.data_map.specs.declared.check.RawMap.{RawMap}
 use Rattle.scenario_text.specs.declared.event.Event.TheVariants as event
 use Rattle.scenario_text.specs.declared.line.Line.{Line}
@@ -27,7 +28,7 @@ use Rattle.calm_law.proofs.Components.{paired_more, paired_same, paired_then}
 use Rattle.calm_law.proofs.Making.{each_step_is_sound, each_step_tells}
 use Rattle.calm_law.proofs.Short.{LostAlike, short_alike, lost_by_standing, out_alike, told_alike}
 use Rattle.calm_law.proofs.Through.{with_parts, through_at, through_failed, begun_at}
-use Rattle.calm_law.proofs.FileFacts.{named_input, declares_at, making_at, told_same, rebuilt_same, neither, hidden}
+use Rattle.calm_law.proofs.FileFacts.{named_input, declares_at, making_at, told_same, rebuilt_same, hidden}
 
 -- ---- a file that was there
 
@@ -142,13 +143,13 @@ parts_told : (s : Seen) (t : Step) (n : ℕ) (f g : File) (behind : List File) �
     → is_there behind n ≡ true → list_any (shows_file true behind n) (t.head ∷ t.rest) ≡ false
     → g.kept.components ≡ told_in n f.kept.components t.rest
 parts_told s t n f g behind m w None e is h =
-    let p : (shows_file true behind n t.head ≡ false) × (list_any (shows_file true behind n) t.rest ≡ false) = neither _ _ h in
+    let p : (shows_file true behind n t.head ≡ false) × (list_any (shows_file true behind n) t.rest ≡ false) = or_parts _ _ h in
     w.exact e
     (rebuilt_same n (filter_map known_note_line (notes_in (did_at s t))) t.rest (sym m.notes)
     ∙ hidden true behind n t.rest is p.1)
     ∙ told_rest s t n f.kept.components m
 parts_told s t n f g behind m w (Some d) e is h =
-    let p : (shows_file true behind n t.head ≡ false) × (list_any (shows_file true behind n) t.rest ≡ false) = neither _ _ h in
+    let p : (shows_file true behind n t.head ≡ false) × (list_any (shows_file true behind n) t.rest ≡ false) = or_parts _ _ h in
     absurd (cc (sym (declared_shows true behind n d t.head refl is (w.declared d e)) ∙ p.0))
 
 shown_file : (b g : File) (cs : List Component) → b.kept.map ≡ g.kept.map → g.kept.components ≡ cs
@@ -165,7 +166,7 @@ shown_by : FilesArePut → (s : Seen) (t : Step) (n : ℕ) (o p : Option File) �
     → seen_in p ≡ seen_then s.server.server.files (through s t (did_at s t)).moment.server.files n
 shown_by put s t n None None m e q w h = rw e refl
 shown_by put s t n None (Some g) m e q w h =
-    absurd (cc (sym (w (is_there s.server.server.files n) (rw q refl)) ∙ (neither _ _ h).0))
+    absurd (cc (sym (w (is_there s.server.server.files n) (rw q refl)) ∙ (or_parts _ _ h).0))
 shown_by put s t n (Some f) None m e q w h = absurd w
 shown_by put s t n (Some f) (Some g) m e q w h =
     let b : Behind s t (did_at s t) n f g = behind_at put s t (did_at s t) n f g e q w.map in

@@ -1,7 +1,9 @@
 -- The flag at the first moment of a step.
 use Rattle.std.proofs.Common.{◌≡◌, ℕ, ◌==◌, ◌||◌, ◌&&◌, ◌++◌, ◌∷◌, [], List, Bool, true, false, not, true≢false, Option, Some, None, slice_get, refl, sym, ap, subst, ◌∙◌, inl, inr, eq-eqb, ne_eqb}
 use Rattle.std.specs.List.{fold, list_any}
-use Rattle.std.proofs.lemmas.Bool.{cases_Bool, cases_eq}
+use Rattle.std.proofs.lemmas.Bool.{cases_Bool, cases_eq, or_left, or_right, and_parts, or_cases}
+use Rattle.std.proofs.Math.Bool.{or-false, or_assoc}
+use Rattle.osd_lists.proofs.Tests.{and_true, same_number}
 use Rattle.osd_commands.specs.declared.commands.Command.{Command}
 use Rattle.osd_commands.specs.Commands.{reading}
 use Rattle.osd_drive.specs.Table.{is_write}
@@ -26,8 +28,8 @@ use Rattle.calm_law.specs.Words.{Each}
 use Rattle.calm_law.specs.Marks.{IsReal}
 use Rattle.calm_law.specs.Flagging.{AreReal, BeginIsSeen}
 use Rattle.calm_law.proofs.Harming.{here, among_in}
-use Rattle.calm_law.proofs.Marking.{both_true, either_true, same_number, real_still}
-use Rattle.calm_law.proofs.Performing.{first_place, later_place, or_none, over, last_among}
+use Rattle.calm_law.proofs.Marking.{real_still}
+use Rattle.calm_law.proofs.Performing.{first_place, later_place, last_among}
 
 -- ---- harmed by what is left now
 
@@ -49,7 +51,7 @@ newly_now : (stopped : List ℕ) (kept : KeptOf) (fs : FilesState) (ms : List Ma
     → any_newly_harmed stopped kept fs ms ≡ true → any_now stopped kept fs ms ≡ true
 newly_now stopped kept fs [] e = e
 newly_now stopped kept fs (m ∷ ms) e =
-    elim (either_true (is_newly_harmed stopped kept fs m) (any_newly_harmed stopped kept fs ms) e) [
+    elim (or_cases (is_newly_harmed stopped kept fs m) (any_newly_harmed stopped kept fs ms) e) [
       | inl a ↦ rw (one m.left (is_left stopped kept m) (any_short fs m.file m.stripes) a) refl
       | inr b ↦ later (harmed_now stopped kept fs m) (any_now stopped kept fs ms) (newly_now stopped kept fs ms b)
     ]
@@ -83,10 +85,10 @@ now_newly stopped kept fs (m ∷ ms) q =
 -- ---- a mark more
 
 short_more : (fs : FilesState) (f t : ℕ) (ss : List ℕ) → any_short fs f (ss ++ t ∷ []) ≡ (any_short fs f ss || is_short_at fs f t)
-short_more fs f t [] = or_none (is_short_at fs f t)
+short_more fs f t [] = or-false (is_short_at fs f t)
 short_more fs f t (s ∷ ss) =
     ap (λ (b : Bool). is_short_at fs f s || b) (short_more fs f t ss)
-    ∙ over (is_short_at fs f s) (any_short fs f ss) (is_short_at fs f t)
+    ∙ sym (or_assoc (is_short_at fs f s) (any_short fs f ss) (is_short_at fs f t))
 
 -- the stripe that was marked last is among them
 short_last : (fs : FilesState) (f t : ℕ) (ss : List ℕ) → last_is t ss ≡ true
@@ -98,7 +100,7 @@ short_last fs f t ss e = elim (cases_Bool (is_short_at fs f t)) [
         let h : any_short fs f ss ≡ true = here (λ (s : ℕ). is_short_at fs f s) ss t (among_in t ss l) y in
         h ∙ sym (ap (λ (b : Bool). b || is_short_at fs f t) h)
   ]
-  | inr z ↦ sym (ap (λ (b : Bool). any_short fs f ss || b) z ∙ or_none (any_short fs f ss))
+  | inr z ↦ sym (ap (λ (b : Bool). any_short fs f ss || b) z ∙ or-false (any_short fs f ss))
 ]
 
 short_stripe : (fs : FilesState) (f t : ℕ) (m : Marked)
@@ -127,14 +129,14 @@ turned : (a b c : Bool) → ((a || b) || c) ≡ ((a || c) || b)
 turned true b c = refl
 turned false true true = refl
 turned false true false = refl
-turned false false c = sym (or_none c)
+turned false false c = sym (or-false c)
 
 -- one of the same entry has its client and its grant
 left_same : (stopped : List ℕ) (kept : KeptOf) (es : List LogEntry) (m : Marked) (k : NewMark)
     → is_of k.write k.file m ≡ true → IsReal es m → IsReal es (first_mark k)
     → is_left stopped kept m ≡ is_left_by stopped kept k.client k.grant k.file
 left_same stopped kept es m k e r q =
-    let b : ((m.write == k.write) ≡ true) × ((m.file == k.file) ≡ true) = both_true (m.write == k.write) (m.file == k.file) e in
+    let b : ((m.write == k.write) ≡ true) × ((m.file == k.file) ≡ true) = and_parts (m.write == k.write) (m.file == k.file) e in
     let it : Some (record { client = m.client; grant = m.grant; finished = false })
     ≡ Some (record { client = k.client; grant = k.grant; finished = false }) =
     sym r ∙ ap (λ (n : ℕ). slice_get es n) (same_number m.write k.write b.0) ∙ q in
@@ -159,8 +161,8 @@ now_marked : (stopped : List ℕ) (kept : KeptOf) (fs : FilesState) (es : List L
     → Each (IsReal es) ms → IsReal es (first_mark k)
     → any_now stopped kept fs (marked ms k) ≡ (any_now stopped kept fs ms || harm_of stopped kept fs k)
 now_marked stopped kept fs es [] k h r =
-    or_none (is_left_by stopped kept k.client k.grant k.file && (is_short_at fs k.file k.stripe || false))
-    ∙ ap (λ (b : Bool). is_left_by stopped kept k.client k.grant k.file && b) (or_none (is_short_at fs k.file k.stripe))
+    or-false (is_left_by stopped kept k.client k.grant k.file && (is_short_at fs k.file k.stripe || false))
+    ∙ ap (λ (b : Bool). is_left_by stopped kept k.client k.grant k.file && b) (or-false (is_short_at fs k.file k.stripe))
 now_marked stopped kept fs es (m ∷ ms) k h r = elim (cases_Bool (is_of k.write k.file m)) [
   | inl t ↦ ap (any_now stopped kept fs) (first_place k m ms t)
       ∙ ap (λ (b : Bool). b || any_now stopped kept fs ms) (now_one stopped kept fs k.stripe m)
@@ -168,43 +170,36 @@ now_marked stopped kept fs es (m ∷ ms) k h r = elim (cases_Bool (is_of k.write
       (left_same stopped kept es m k t h.0 r)
       ∙ ap (λ (n : ℕ). (harmed_now stopped kept fs m
       || (is_left_by stopped kept k.client k.grant k.file && is_short_at fs n k.stripe)) || any_now stopped kept fs ms)
-      (same_number m.file k.file (both_true (m.write == k.write) (m.file == k.file) t).1)
+      (same_number m.file k.file (and_parts (m.write == k.write) (m.file == k.file) t).1)
       ∙ turned (harmed_now stopped kept fs m) (harm_of stopped kept fs k) (any_now stopped kept fs ms)
   | inr z ↦ ap (any_now stopped kept fs) (later_place k m ms z)
       ∙ ap (λ (b : Bool). harmed_now stopped kept fs m || b) (now_marked stopped kept fs es ms k h.1 r)
-      ∙ over (harmed_now stopped kept fs m) (any_now stopped kept fs ms) (harm_of stopped kept fs k)
+      ∙ sym (or_assoc (harmed_now stopped kept fs m) (any_now stopped kept fs ms) (harm_of stopped kept fs k))
 ]
-
-either_left : (a b : Bool) → a ≡ true → (a || b) ≡ true
-either_left a b e = rw e refl
-
-either_right : (a b : Bool) → b ≡ true → (a || b) ≡ true
-either_right true b e = refl
-either_right false b e = e
 
 newly_one : (stopped : List ℕ) (kept : KeptOf) (fs : FilesState) (t : ℕ) (m : Marked)
     → is_newly_harmed stopped kept fs m ≡ true → is_newly_harmed stopped kept fs (and_stripe t m) ≡ true
 newly_one stopped kept fs t m e =
     let b : (leaves stopped kept m ≡ true) × (any_short fs m.file m.stripes ≡ true) =
-    both_true (leaves stopped kept m) (any_short fs m.file m.stripes) e in
+    and_parts (leaves stopped kept m) (any_short fs m.file m.stripes) e in
     ap (λ (x : Bool). x && any_short fs (and_stripe t m).file (and_stripe t m).stripes) (same_leaves stopped kept t m ∙ b.0)
     ∙ ap (λ (f : ℕ). any_short fs f (and_stripe t m).stripes) (same_file t m)
-    ∙ short_stripe fs m.file t m ∙ either_left (any_short fs m.file m.stripes) (is_short_at fs m.file t) b.1
+    ∙ short_stripe fs m.file t m ∙ or_left (any_short fs m.file m.stripes) (is_short_at fs m.file t) b.1
 
 newly_marked : (stopped : List ℕ) (kept : KeptOf) (fs : FilesState) (ms : List Marked) (k : NewMark)
     → any_newly_harmed stopped kept fs ms ≡ true → any_newly_harmed stopped kept fs (marked ms k) ≡ true
 newly_marked stopped kept fs [] k e = absurd (true≢false (sym e))
 newly_marked stopped kept fs (m ∷ ms) k e = elim (cases_Bool (is_of k.write k.file m)) [
   | inl t ↦ ap (any_newly_harmed stopped kept fs) (first_place k m ms t)
-      ∙ elim (either_true (is_newly_harmed stopped kept fs m) (any_newly_harmed stopped kept fs ms) e) [
-        | inl a ↦ either_left (is_newly_harmed stopped kept fs (and_stripe k.stripe m)) (any_newly_harmed stopped kept fs ms)
+      ∙ elim (or_cases (is_newly_harmed stopped kept fs m) (any_newly_harmed stopped kept fs ms) e) [
+        | inl a ↦ or_left (is_newly_harmed stopped kept fs (and_stripe k.stripe m)) (any_newly_harmed stopped kept fs ms)
             (newly_one stopped kept fs k.stripe m a)
-        | inr b ↦ either_right (is_newly_harmed stopped kept fs (and_stripe k.stripe m)) (any_newly_harmed stopped kept fs ms) b
+        | inr b ↦ or_right (is_newly_harmed stopped kept fs (and_stripe k.stripe m)) (any_newly_harmed stopped kept fs ms) b
       ]
   | inr z ↦ ap (any_newly_harmed stopped kept fs) (later_place k m ms z)
-      ∙ elim (either_true (is_newly_harmed stopped kept fs m) (any_newly_harmed stopped kept fs ms) e) [
-        | inl a ↦ either_left (is_newly_harmed stopped kept fs m) (any_newly_harmed stopped kept fs (marked ms k)) a
-        | inr b ↦ either_right (is_newly_harmed stopped kept fs m) (any_newly_harmed stopped kept fs (marked ms k))
+      ∙ elim (or_cases (is_newly_harmed stopped kept fs m) (any_newly_harmed stopped kept fs ms) e) [
+        | inl a ↦ or_left (is_newly_harmed stopped kept fs m) (any_newly_harmed stopped kept fs (marked ms k)) a
+        | inr b ↦ or_right (is_newly_harmed stopped kept fs m) (any_newly_harmed stopped kept fs (marked ms k))
             (newly_marked stopped kept fs ms k b)
       ]
 ]
@@ -221,10 +216,6 @@ record Adds (kept : KeptOf) (c d : CalmState) : Type 0 where
   files : d.files ≡ c.files
   stopped : d.stopped ≡ c.stopped
 
-all_of : (a : Bool) → a ≡ (a && true)
-all_of true = refl
-all_of false = refl
-
 not_or : (a b c : Bool) → ((a && not b) && not c) ≡ (a && not (b || c))
 not_or true true c = refl
 not_or true false c = refl
@@ -233,8 +224,8 @@ not_or false b c = refl
 adds_none : (kept : KeptOf) (c : CalmState) → Adds kept c c
 adds_none kept c = record {
   harm = false;
-  calm = all_of c.calm;
-  now = sym (or_none (any_now c.stopped kept c.files c.marks));
+  calm = and_true c.calm;
+  now = sym (or-false (any_now c.stopped kept c.files c.marks));
   newly = λ e. e;
   files = refl;
   stopped = refl;
@@ -264,7 +255,7 @@ adds_all kept es c n w (x ∷ xs) e h =
       harm = harms kept c k || a.harm;
       calm = a.calm ∙ not_or c.calm (harms kept c k) a.harm;
       now = a.now ∙ ap (λ (b : Bool). b || a.harm) (now_marked c.stopped kept c.files es c.marks k h e)
-          ∙ sym (over (any_now c.stopped kept c.files c.marks) (harms kept c k) a.harm);
+          ∙ or_assoc (any_now c.stopped kept c.files c.marks) (harms kept c k) a.harm;
       newly = λ q. a.newly (newly_marked c.stopped kept c.files c.marks k q);
       files = a.files;
       stopped = a.stopped;
@@ -384,7 +375,7 @@ fail_flag : (c t n g h : Bool) → g ≡ (h || t) → (n ≡ true → g ≡ true
     → (((c && not t) && not n) && not g) ≡ (c && not g)
 fail_flag false t n g h e f = refl
 fail_flag true true n g h e f =
-    let all : g ≡ true = e ∙ either_right h true refl in
+    let all : g ≡ true = e ∙ or_right h true refl in
     rw all refl
 fail_flag true false true g h e f = rw (f refl) refl
 fail_flag true false false g h e f = refl
@@ -394,12 +385,12 @@ other_flag : (c t n m g h : Bool) → g ≡ (h || t) → (n ≡ true → g ≡ t
     → (c ≡ true → h ≡ m) → ((c && not t) && not n) ≡ (c && not g)
 other_flag false t n m g h e f k q = refl
 other_flag true true n m g h e f k q =
-    let all : g ≡ true = e ∙ either_right h true refl in
+    let all : g ≡ true = e ∙ or_right h true refl in
     rw all refl
 other_flag true false true m g h e f k q = rw (f refl) refl
 other_flag true false false true g h e f k q = absurd (true≢false (sym (k refl)))
 other_flag true false false false g h e f k q =
-    let none : g ≡ false = e ∙ or_none h ∙ q refl in
+    let none : g ≡ false = e ∙ or-false h ∙ q refl in
     rw none refl
 
 begin_flag : (kept : KeptOf) (c d : CalmState) (head : Line) → Adds kept c d

@@ -2,6 +2,7 @@
 use Rattle.std.proofs.Common.{◌≡◌, ◌++◌, ◌∷◌, [], List, Bool, true, false, true≢false, Some, None, fold, refl, sym, ap, subst, ◌∙◌, append_assoc, inl, inr, if◌then◌else◌}
 use Rattle.std.proofs.lemmas.Bool.{cases_Bool}
 use Rattle.std.proofs.lemmas.List.{append-nil}
+use Rattle.std.proofs.lemmas.Option.{same_Some}
 use Rattle.scenario_text.specs.declared.event.Event.{Event}
 use Rattle.scenario_text.specs.declared.event.Event.TheVariants as event
 use Rattle.scenario_text.specs.declared.line.Line.{Line}
@@ -57,9 +58,6 @@ pub record Given : Type 0 where
 
 -- ---- lines
 
-same_read : (x r : Read) → Some x ≡ Some r → x ≡ r
-same_read x r e = cc e
-
 quiet_head : (l : Line) → is_head l ≡ true → tells_component l ≡ false
 quiet_head (line.Note f n) h = absurd (true≢false (sym h))
 quiet_head l h = refl
@@ -108,7 +106,7 @@ give_plain : Given → (w : World) (h : List Line) (m : Move) (t : Table) (r : R
 give_plain laws w h m t r head rest b bare are is i =
     let x : Read = record { before = []; step = record { head = head; rest = rest } } in
     let same : x ≡ r =
-    same_read x r (sym (ap (λ (ls : List Line). reads ls) are ∙ reads_plain head rest b bare) ∙ i) in
+    same_Some x r (sym (ap (λ (ls : List Line). reads ls) are ∙ reads_plain head rest b bare) ∙ i) in
     subst (λ (y : Read). FactsOf (seen (h ++ y.before)) y t w m) same
     (subst (λ (ls : List Line). FactsOf (seen ls) x t w m) (sym (append-nil h))
     (step_facts laws.moves laws.net laws.files w m t h x.step (line.Event event.Settle)
@@ -219,7 +217,7 @@ give_behind laws w h k m t r next written of e q o begun lines x i =
     (laws.reading w h k m next written) in
     let read : Read = record { before = line.Event e ∷ []; step = st } in
     let same : read ≡ r =
-    same_read read r (sym (ap (λ (ls : List Line). reads ls) are ∙ reads_behind (line.Event e) x.head x.rest x.begins) ∙ i) in
+    same_Some read r (sym (ap (λ (ls : List Line). reads ls) are ∙ reads_behind (line.Event e) x.head x.rest x.begins) ∙ i) in
     subst (λ (y : Read). FactsOf (seen (h ++ y.before)) y t w m) same
     (step_facts laws.moves laws.net laws.files w m t b st (line.Event e)
     (performed_in t (messages_of (move w m).world) read) (record {

@@ -3,7 +3,8 @@ use Rattle.std.proofs.Common.{◌≡◌, ℕ, ◌==◌, ◌||◌, ◌&&◌, ◌�
 use Rattle.std.specs.Prelude.{nat_lt}
 use Rattle.std.specs.List.{list_any}
 use Rattle.std.specs.Option.{option_map}
-use Rattle.std.proofs.lemmas.Bool.{cases_Bool, cases_eq}
+use Rattle.std.proofs.lemmas.Bool.{cases_Bool, cases_eq, and_from, and_parts, or_cases}
+use Rattle.osd_lists.proofs.Tests.{not_false, same_number}
 use Rattle.osd_objects.proofs.Entries.{some_there}
 use Rattle.data_map.specs.declared.check.RawMap.{RawMap}
 use Rattle.data_map.specs.Striping.{parities}
@@ -23,13 +24,12 @@ use Rattle.calm_law.specs.Marks.{any_mark, any_marked, is_open, open_at, IsReal,
 use Rattle.calm_law.specs.Harms.{KeepsMoment, CalmAlike}
 use Rattle.calm_law.proofs.Lists.{get_map}
 use Rattle.calm_law.proofs.Noting.{short_alike}
-use Rattle.calm_law.proofs.Marking.{both_true, either_true, same_number}
 
 -- ---- lists
 
 pub found : {A : Type 0} (p : A → Bool) (xs : List A) → list_any p xs ≡ true → (x : A) × In x xs × (p x ≡ true)
 found p [] e = absurd (cc e)
-found p (x ∷ xs) e = elim (either_true (p x) (list_any p xs) e) [
+found p (x ∷ xs) e = elim (or_cases (p x) (list_any p xs) e) [
   | inl a ↦ (x, inl refl, a)
   | inr b ↦ let f : _ = found p xs b in (f.0, inr f.1, f.2)
 ]
@@ -60,9 +60,6 @@ in_among n (m ∷ ns) (inr i) = elim (cases_eq n m) [
   | inl s ↦ rw (eq-eqb n m s) refl
   | inr o ↦ rw (ne_eqb n m o) (in_among n ns i)
 ]
-
-both : (a b : Bool) → a ≡ true → b ≡ true → (a && b) ≡ true
-both a b p q = rw (p, q) refl
 
 same_bools : (a b : Bool) → (a ≡ true → b ≡ true) → (b ≡ true → a ≡ true) → a ≡ b
 same_bools true b f g = sym (f refl)
@@ -96,10 +93,6 @@ real_of es fs m q r =
     real_entry es m (slice_get es m.write) refl
     (sym (get_map view es m.write) ∙ ap (λ (x : List LogEntry). slice_get x m.write) (sym q) ∙ r)
 
-not_false : (b : Bool) → not b ≡ false → b ≡ true
-not_false true e = refl
-not_false false e = absurd (cc e)
-
 unfinished_of : (e : Logged) (c g : ℕ) → view e ≡ record { client = c; grant = g; finished = false }
     → is_unfinished e ≡ true
 unfinished_of e c g q = not_false (is_unfinished e) (ap (λ (x : LogEntry). x.finished) q)
@@ -127,7 +120,7 @@ torn_entry : (m : Moment) (f : File) (k : Mark) (o : Option Logged) → slice_ge
     → (e : Logged) × (slice_get m.log.entries k.entry ≡ Some e) × (is_unfinished e ≡ true) × (is_left_at m f e ≡ true)
 torn_entry m f k None s e = absurd (cc e)
 torn_entry m f k (Some x) s e =
-    let b : (is_unfinished x ≡ true) × (is_left_at m f x ≡ true) = both_true (is_unfinished x) (is_left_at m f x) e in
+    let b : (is_unfinished x ≡ true) × (is_left_at m f x ≡ true) = and_parts (is_unfinished x) (is_left_at m f x) e in
     (x, s, b.0, b.1)
 
 parity_there : (there : List File) (kept : KeptOf) (m : Moment) (c : CalmState) (h : KeepsMoment there kept m c)
@@ -146,15 +139,15 @@ harmed_here : (there : List File) (kept : KeptOf) (m : Moment) (c : CalmState) (
 harmed_here there kept m c h k None i q e = absurd (cc e)
 harmed_here there kept m c h k (Some f) i q e =
     let p : (nat_lt 0 (parities f.kept.map) ≡ true) × ((is_torn_by m f k && is_short_stripe m f k.stripe) ≡ true) =
-    both_true (nat_lt 0 (parities f.kept.map)) (is_torn_by m f k && is_short_stripe m f k.stripe) e in
+    and_parts (nat_lt 0 (parities f.kept.map)) (is_torn_by m f k && is_short_stripe m f k.stripe) e in
     let ts : (is_torn_by m f k ≡ true) × (is_short_stripe m f k.stripe ≡ true) =
-    both_true (is_torn_by m f k) (is_short_stripe m f k.stripe) p.1 in
+    and_parts (is_torn_by m f k) (is_short_stripe m f k.stripe) p.1 in
     let x : (e : Logged) × (slice_get m.log.entries k.entry ≡ Some e) × (is_unfinished e ≡ true)
     × (is_left_at m f e ≡ true) = torn_entry m f k (slice_get m.log.entries k.entry) refl ts.0 in
     let mark : any_mark k.file k.stripe k.entry m.marks ≡ true =
     here (λ (y : Mark). is_in k.file k.stripe y && (y.entry == k.entry)) m.marks k i
-    (both (is_in k.file k.stripe k) (k.entry == k.entry)
-    (both (k.file == k.file) (k.stripe == k.stripe) (eq-eqb k.file k.file refl) (eq-eqb k.stripe k.stripe refl))
+    (and_from (is_in k.file k.stripe k) (k.entry == k.entry)
+    (and_from (k.file == k.file) (k.stripe == k.stripe) (eq-eqb k.file k.file refl) (eq-eqb k.stripe k.stripe refl))
     (eq-eqb k.entry k.entry refl)) in
     let t : is_there there k.file ≡ true = (h.marks.known k.file k.stripe k.entry mark).0 in
     let at_entry : slice_get c.log.entries k.entry ≡ Some (view x.0) =
@@ -166,9 +159,9 @@ harmed_here there kept m c h k (Some f) i q e =
     let y : (z : Marked) × In z c.marks × ((is_of k.entry k.file z && among k.stripe z.stripes) ≡ true) =
     found (λ (z : Marked). is_of k.entry k.file z && among k.stripe z.stripes) c.marks marked in
     let yb : (is_of k.entry k.file y.0 ≡ true) × (among k.stripe y.0.stripes ≡ true) =
-    both_true (is_of k.entry k.file y.0) (among k.stripe y.0.stripes) y.2 in
+    and_parts (is_of k.entry k.file y.0) (among k.stripe y.0.stripes) y.2 in
     let yo : ((y.0.write == k.entry) ≡ true) × ((y.0.file == k.file) ≡ true) =
-    both_true (y.0.write == k.entry) (y.0.file == k.file) yb.0 in
+    and_parts (y.0.write == k.entry) (y.0.file == k.file) yb.0 in
     let same_entry : y.0.write ≡ k.entry = same_number y.0.write k.entry yo.0 in
     let same_file : y.0.file ≡ k.file = same_number y.0.file k.file yo.1 in
     let real : IsReal c.log.entries y.0 × (is_there there y.0.file ≡ true) =
@@ -181,9 +174,9 @@ harmed_here there kept m c h k (Some f) i q e =
     ∙ left_alike there kept m c h y.0 f x.0 real.1 (ap (file_at m.server.files) same_file ∙ q) vs ∙ x.3 in
     let short : is_short_at c.files k.file k.stripe ≡ true =
     short_alike there m c.files k.file k.stripe f h.files t q
-    ∙ both (nat_lt 0 (parities f.kept.map)) (is_short_stripe m f k.stripe) p.0 ts.1 in
+    ∙ and_from (nat_lt 0 (parities f.kept.map)) (is_short_stripe m f k.stripe) p.0 ts.1 in
     here (is_harmed c.files) c.marks y.0 y.1
-    (both y.0.left (any_short c.files y.0.file y.0.stripes) left
+    (and_from y.0.left (any_short c.files y.0.file y.0.stripes) left
     (here (λ (s : ℕ). is_short_at c.files y.0.file s) y.0.stripes k.stripe (among_in k.stripe y.0.stripes yb.1)
     (ap (λ (n : ℕ). is_short_at c.files n k.stripe) same_file ∙ short)))
 
@@ -195,7 +188,7 @@ harmed_there : (there : List File) (kept : KeptOf) (m : Moment) (c : CalmState) 
 harmed_there there kept m c h e =
     let y : (z : Marked) × In z c.marks × (is_harmed c.files z ≡ true) = found (is_harmed c.files) c.marks e in
     let b : (y.0.left ≡ true) × (any_short c.files y.0.file y.0.stripes ≡ true) =
-    both_true y.0.left (any_short c.files y.0.file y.0.stripes) y.2 in
+    and_parts y.0.left (any_short c.files y.0.file y.0.stripes) y.2 in
     let s : (z : ℕ) × In z y.0.stripes × (is_short_at c.files y.0.file z ≡ true) =
     found (λ (z : ℕ). is_short_at c.files y.0.file z) y.0.stripes b.1 in
     let real : IsReal c.log.entries y.0 × (is_there there y.0.file ≡ true) =
@@ -206,7 +199,7 @@ harmed_there there kept m c h e =
     let short : (nat_lt 0 (parities f.0.kept.map) && is_short_stripe m f.0 s.0) ≡ true =
     sym (short_alike there m c.files y.0.file s.0 f.0 h.files real.1 f.1) ∙ s.2 in
     let ps : (nat_lt 0 (parities f.0.kept.map) ≡ true) × (is_short_stripe m f.0 s.0 ≡ true) =
-    both_true (nat_lt 0 (parities f.0.kept.map)) (is_short_stripe m f.0 s.0) short in
+    and_parts (nat_lt 0 (parities f.0.kept.map)) (is_short_stripe m f.0 s.0) short in
     let x : (e : Logged) × (slice_get m.log.entries y.0.write ≡ Some e)
     × (view e ≡ record { client = y.0.client; grant = y.0.grant; finished = false }) =
     real_of m.log.entries c.log.entries y.0 h.log.entries real.0 in
@@ -216,8 +209,8 @@ harmed_there there kept m c h e =
     ∙ sym (of_each (λ (z : Marked). z.left ≡ is_left c.stopped kept z) c.marks y.0 h.left y.1) ∙ b.0 in
     let marked : any_marked y.0.file s.0 y.0.write c.marks ≡ true =
     here (λ (z : Marked). is_of y.0.write y.0.file z && among s.0 z.stripes) c.marks y.0 y.1
-    (both (is_of y.0.write y.0.file y.0) (among s.0 y.0.stripes)
-    (both (y.0.write == y.0.write) (y.0.file == y.0.file) (eq-eqb y.0.write y.0.write refl) (eq-eqb y.0.file y.0.file refl))
+    (and_from (is_of y.0.write y.0.file y.0) (among s.0 y.0.stripes)
+    (and_from (y.0.write == y.0.write) (y.0.file == y.0.file) (eq-eqb y.0.write y.0.write refl) (eq-eqb y.0.file y.0.file refl))
     (in_among s.0 y.0.stripes s.1)) in
     let opens : open_at c.log.entries y.0.write ≡ true = ap is_open real.0 in
     let mark : any_mark y.0.file s.0 y.0.write m.marks ≡ true =
@@ -225,20 +218,20 @@ harmed_there there kept m c h e =
     let k : (z : Mark) × In z m.marks × ((is_in y.0.file s.0 z && (z.entry == y.0.write)) ≡ true) =
     found (λ (z : Mark). is_in y.0.file s.0 z && (z.entry == y.0.write)) m.marks mark in
     let kb : (is_in y.0.file s.0 k.0 ≡ true) × ((k.0.entry == y.0.write) ≡ true) =
-    both_true (is_in y.0.file s.0 k.0) (k.0.entry == y.0.write) k.2 in
+    and_parts (is_in y.0.file s.0 k.0) (k.0.entry == y.0.write) k.2 in
     let ki : ((k.0.file == y.0.file) ≡ true) × ((k.0.stripe == s.0) ≡ true) =
-    both_true (k.0.file == y.0.file) (k.0.stripe == s.0) kb.0 in
+    and_parts (k.0.file == y.0.file) (k.0.stripe == s.0) kb.0 in
     let same_file : k.0.file ≡ y.0.file = same_number k.0.file y.0.file ki.0 in
     let same_stripe : k.0.stripe ≡ s.0 = same_number k.0.stripe s.0 ki.1 in
     let same_entry : k.0.entry ≡ y.0.write = same_number k.0.entry y.0.write kb.1 in
     let torn : is_torn_by m f.0 k.0 ≡ true =
     ap (of_entry (λ z. is_unfinished z && is_left_at m f.0 z))
     (ap (λ (n : ℕ). slice_get m.log.entries n) same_entry ∙ x.1)
-    ∙ both (is_unfinished x.0) (is_left_at m f.0 x.0) unfinished left in
+    ∙ and_from (is_unfinished x.0) (is_left_at m f.0 x.0) unfinished left in
     here (λ (z : Mark). is_harmed_in m z (file_at m.server.files z.file)) m.marks k.0 k.1
     (ap (is_harmed_in m k.0) (ap (file_at m.server.files) same_file ∙ f.1)
-    ∙ both (nat_lt 0 (parities f.0.kept.map)) (is_torn_by m f.0 k.0 && is_short_stripe m f.0 k.0.stripe) ps.0
-    (both (is_torn_by m f.0 k.0) (is_short_stripe m f.0 k.0.stripe) torn
+    ∙ and_from (nat_lt 0 (parities f.0.kept.map)) (is_torn_by m f.0 k.0 && is_short_stripe m f.0 k.0.stripe) ps.0
+    (and_from (is_torn_by m f.0 k.0) (is_short_stripe m f.0 k.0.stripe) torn
     (ap (is_short_stripe m f.0) same_stripe ∙ ps.1)))
 
 pub calm_alike : CalmAlike

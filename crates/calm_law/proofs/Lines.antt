@@ -1,7 +1,7 @@
 -- The lines of notes, and what they tell of the components of a file.
 use Rattle.std.proofs.Common.{◌≡◌, ℕ, ◌<◌, ◌==◌, ◌||◌, ◌&&◌, ◌++◌, ◌∷◌, [], List, Bool, true, false, refl, sym, ap, ◌∙◌, eq-eqb, ne_eqb}
 use Rattle.std.specs.List.{filter_map, list_any}
-use Rattle.std.proofs.lemmas.Bool.{lt-ltb}
+use Rattle.std.proofs.lemmas.Bool.{lt-ltb, or_parts}
 use Rattle.std.proofs.lemmas.List.Sums.{fold-append}
 use Rattle.std.proofs.lemmas.List.Folds.{list_any-append}
 use Rattle.std.proofs.lemmas.List.Elements.{filter_map-append}
@@ -67,10 +67,6 @@ rebuilt_more before n m k ks named known =
     or_false true = refl
     or_false false = refl
 
-neither : (a b : Bool) → (a || b) ≡ false → (a ≡ false) × (b ≡ false)
-neither true b e = absurd (cc e)
-neither false b e = (refl, e)
-
 -- where none of the lines does, none of the notes on the file does
 pub whole_here : (before : List Note) (n : ℕ) (ks : List NoteKind) → n < FILES → AreTellable ks
     → list_any (tells_rebuilt n) (lines_of (noted_with before n ks)) ≡ false
@@ -78,7 +74,7 @@ pub whole_here : (before : List Note) (n : ℕ) (ks : List NoteKind) → n < FIL
 whole_here before n [] named known e = (refl, e)
 whole_here before n (k ∷ ks) named known e =
     let p : (list_any (tells_rebuilt n) (lines_of (noted_with before n ks)) ≡ false) × ((is_rebuilt k && (n == n)) ≡ false) =
-    neither _ _ (sym (rebuilt_more before n n k ks named known.0) ∙ e) in
+    or_parts _ _ (sym (rebuilt_more before n n k ks named known.0) ∙ e) in
     let r : (any_rebuilt ks ≡ false) × (list_any (tells_rebuilt n) (lines_of before) ≡ false) =
     whole_here before n ks named known.1 p.0 in
     (rw (and_true (is_rebuilt k) (n == n) (eq-eqb n n refl) p.1) r.0, r.1)
@@ -93,4 +89,4 @@ pub whole_beside : (before : List Note) (m n : ℕ) (ks : List NoteKind) → (m 
 whole_beside before m n [] other named known e = e
 whole_beside before m n (k ∷ ks) other named known e =
     whole_beside before m n ks other named known.1
-    (neither _ _ (sym (rebuilt_more before n m k ks named known.0) ∙ e)).0
+    (or_parts _ _ (sym (rebuilt_more before n m k ks named known.0) ∙ e)).0

@@ -29,10 +29,6 @@ same_lists {A} (x ∷ xs) (y ∷ ys) h =
     let head : x ≡ y = cc e in
     ap (λ (z : A). z ∷ xs) head ∙ ap (λ (zs : List A). y ∷ zs) (same_lists xs ys (λ i. h (suc i)))
 
-pub get_end : {A : Type 0} (xs : List A) (y : A) → slice_get (xs ++ y ∷ []) (length xs) ≡ Some y
-get_end [] y = refl
-get_end (x ∷ xs) y = get_end xs y
-
 pub get_before : {A : Type 0} (xs : List A) (y z : A) (i : ℕ) → slice_get xs i ≡ Some z
     → slice_get (xs ++ y ∷ []) i ≡ Some z
 get_before [] y z i e = absurd (cc e)

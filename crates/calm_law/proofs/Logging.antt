@@ -7,6 +7,7 @@ use Rattle.std.proofs.lemmas.Bool.{cases_eq}
 use Rattle.std.proofs.lemmas.Map.Made.{lookup-map_values}
 use Rattle.std.proofs.lemmas.Option.{slice_get_within}
 use Rattle.std.proofs.lemmas.List.{length-append}
+use Rattle.osd_lists.proofs.Slices.{get_last}
 use Rattle.osd_objects.proofs.Entries.{lookup_inserted, lookup_beside, lookup_set, lookup_set_beside}
 use Rattle.osd_commands.specs.declared.actions.Action.{Action}
 use Rattle.osd_commands.specs.declared.actions.Action.TheVariants as action
@@ -39,7 +40,7 @@ use Rattle.world_calm.specs.Seeing.{CalmState, writes, numbers_in, logs_event, r
 use Rattle.calm_law.specs.Words.{Each}
 use Rattle.calm_law.specs.Logs.{pending_view, keyed, view, is_write_entry, Key, key, HasEntry, IsUnder, KeepsKeys, KeepsLog, LinesAlike}
 use Rattle.calm_law.proofs.Tables.{among_end}
-use Rattle.calm_law.proofs.Lists.{each_more, each_end, get_end, get_before, get_either, map_set_same, map_set, map_end, map_length, get_map, insert_seen, remove_seen, each_inserted, each_removed, each_found, each_set}
+use Rattle.calm_law.proofs.Lists.{each_more, each_end, get_before, get_either, map_set_same, map_set, map_end, map_length, get_map, insert_seen, remove_seen, each_inserted, each_removed, each_found, each_set}
 
 -- ---- a pending call
 
@@ -284,14 +285,14 @@ grants_with : (ks : List Key) (k : Key) (t : List (ℕ × List ℕ)) (o : Option
     → Each (λ (e : ℕ × List ℕ). Each (λ n. IsUnder (ks ++ k ∷ []) e.0 n) e.1) (under_with t k.grant (length ks) o)
 grants_with ks k t None a h =
     each_inserted (λ (e : ℕ × List ℕ). Each (λ n. IsUnder (ks ++ k ∷ []) e.0 n) e.1) t k.grant (length ks ∷ [])
-    (grants_more ks k t h) (λ j i. ((k, get_end ks k, i), tt))
+    (grants_more ks k t h) (λ j i. ((k, get_last ks k, i), tt))
 grants_with ks k t (Some ns) a h =
     let f : (j : ℕ) × (k.grant ≡ j) × Each (λ n. IsUnder (ks ++ k ∷ []) j n) ns =
     each_found (λ (e : ℕ × List ℕ). Each (λ n. IsUnder (ks ++ k ∷ []) e.0 n) e.1) t k.grant ns (grants_more ks k t h) a in
     each_set (λ (e : ℕ × List ℕ). Each (λ n. IsUnder (ks ++ k ∷ []) e.0 n) e.1) t k.grant (ns ++ length ks ∷ [])
     (grants_more ks k t h)
     (λ j i. each_end (λ n. IsUnder (ks ++ k ∷ []) j n) ns (length ks)
-    (subst (λ (q : ℕ). Each (λ n. IsUnder (ks ++ k ∷ []) q n) ns) (sym f.1 ∙ i) f.2) (k, get_end ks k, i))
+    (subst (λ (q : ℕ). Each (λ n. IsUnder (ks ++ k ∷ []) q n) ns) (sym f.1 ∙ i) f.2) (k, get_last ks k, i))
 
 -- what is listed under a grant behind one number more
 listed_here : (t : List (ℕ × List ℕ)) (g n : ℕ) (o : Option (List ℕ)) → at_number t g ≡ o
@@ -331,7 +332,7 @@ keys_start ks ps t c p k h w = record {
       (record p { entry = Some (length ks) })
       (each_more (λ (e : ℕ × Pending). HasEntry ks e.1) (λ (e : ℕ × Pending). HasEntry (ks ++ k ∷ []) e.1)
       (λ e x. has_more ks k e.1 x) ps h.kinds)
-      (λ j i n q. let same : length ks ≡ n = cc q in (k, ap (λ (z : ℕ). slice_get (ks ++ k ∷ []) z) (sym same) ∙ get_end ks k, w));
+      (λ j i n q. let same : length ks ≡ n = cc q in (k, ap (λ (z : ℕ). slice_get (ks ++ k ∷ []) z) (sym same) ∙ get_last ks k, w));
   grants = grants_with ks k t (at_number t k.grant) refl h.grants;
   under = λ n x q u. elim (get_either ks k x n q) [
     | inl a ↦ listed_more t k.grant (length ks) x.grant n (h.under n x a u)

@@ -9,6 +9,8 @@ use Rattle.server_rules.specs.Files.{Step, file_at, add_file, at_file}
 use Rattle.server_rules.specs.Jobs.{making}
 use Rattle.server_rules.specs.Making.{online, refusal, unless_refused, are_of, places, components_on, unmade, with_file, makes_file, create_file}
 use Rattle.server_rules.specs.History.{Input, Makes, step, unless_made}
+use Rattle.server_rules.proofs.Components.{length_components, length_placed}
+use Rattle.server_rules.proofs.FileLaws.{not_there}
 use Rattle.world_history.specs.ServerNames.{Server, File, Drive, RawMap, Refusal, Note}
 use Rattle.calm_law.specs.Words.{Each}
 use Rattle.calm_law.specs.Performing.{AreDistinct}
@@ -66,34 +68,10 @@ beside (g ∷ fs) f n e = elim (cases_Bool (nat_lt g.kept.number f.kept.number))
 
 -- ---- how many components it has
 
-length_on : (ds : List ℕ) (object : ℕ) → length (components_on ds object) ≡ length ds
-unfolding components_on
-length_on [] object = refl
-length_on (d ∷ ds) object = ap (λ (n : ℕ). suc n) (length_on ds (object + 1))
-
 length_taken : (n : ℕ) (xs : List ℕ) → length (take n xs) ≤ n
 length_taken n xs = rw (length-take n xs) (omega arith)
 
-length_placed : (ds : List Drive) (count : ℕ) (chosen : List ℕ) → length (places ds count chosen) ≤ count
-unfolding places
-length_placed ds count chosen = elim (cases_Bool ((length chosen == count) && are_of (online ds) chosen)) [
-  | inl t ↦ rw t (grind (arith, nat_tests, t))
-  | inr z ↦ rw z (length_taken count (map (λ (d : Drive). d.number) (online ds)))
-]
-
 -- ---- it is made
-
--- no file has its number
-nothing : (o : Option File) → is_some o ≡ false → o ≡ None
-nothing None e = refl
-nothing (Some f) e = absurd (cc e)
-
-pub not_there : (s : Server) (n : ℕ) (m : RawMap) → refusal s n m ≡ None → file_at s.files n ≡ None
-unfolding refusal
-not_there s n m e = elim (cases_Bool (is_some (file_at s.files n))) [
-  | inl t ↦ absurd (cc (rw t at e))
-  | inr z ↦ nothing (file_at s.files n) z
-]
 
 -- the files with it
 pub went_made : (s : Server) (f : File) → IsSound s → NoneHas f.kept.number s.files → IsAimed f
@@ -166,7 +144,7 @@ sound_unless : (s : Server) (n : ℕ) (m : RawMap) (tag : ℕ) (ds : List ℕ) (
 sound_unless s n m tag ds (Some r) e h named few = h
 sound_unless s n m tag ds None e h named few =
     sound_made s (unmade s n m tag ds) h (none_there s.files n (not_there s n m e)) tt named
-    (rw (length_on ds s.next_object) few)
+    (rw (length_components ds s.next_object) few)
 
 tells_unless : (s : Server) (n : ℕ) (m : RawMap) (tag : ℕ) (ds : List ℕ) (o : Option Refusal) → refusal s n m ≡ o
     → IsSound s → n < FILES → (k : ℕ)

@@ -1,10 +1,12 @@
 -- Marks go on where entries change.
 use Rattle.std.proofs.Common.{◌≡◌, ◌⊎◌, ℕ, zero, suc, ◌<◌, ◌≤◌, ◌==◌, ◌||◌, ◌&&◌, ◌++◌, ◌∷◌, [], List, Bool, true, false, Option, Some, None, length, slice_get, slice_set, refl, sym, ap, ◌∙◌, arith, inl, inr, eq-eqb, ne_eqb}
 use Rattle.std.specs.List.{fold}
-use Rattle.std.proofs.lemmas.Bool.{cases_Bool, cases_eq}
+use Rattle.std.proofs.lemmas.Bool.{cases_Bool, cases_eq, and_parts, or_cases}
 use Rattle.std.proofs.lemmas.Bool.Decides.{nat_tests}
 use Rattle.std.proofs.lemmas.Option.{slice_get_within}
 use Rattle.std.proofs.lemmas.List.{length-append}
+use Rattle.osd_lists.proofs.Tests.{same_number}
+use Rattle.osd_lists.proofs.Slices.{length_set}
 use Rattle.osd_commands.specs.declared.actions.Action.{Action}
 use Rattle.osd_commands.specs.declared.actions.Action.TheVariants as action
 use Rattle.osd_commands.specs.declared.commands.Command.{Command}
@@ -37,17 +39,6 @@ use Rattle.calm_law.proofs.Lists.{each_more, get_before, get_either}
 
 -- ---- tests
 
-pub both_true : (a b : Bool) → (a && b) ≡ true → (a ≡ true) × (b ≡ true)
-both_true true b e = (refl, e)
-both_true false b e = absurd (cc e)
-
-pub either_true : (a b : Bool) → (a || b) ≡ true → (a ≡ true) ⊎ (b ≡ true)
-either_true true b e = inl refl
-either_true false b e = inr e
-
-pub same_number : (m n : ℕ) → (m == n) ≡ true → m ≡ n
-same_number m n e = grind (arith, nat_tests, e)
-
 -- ---- what is kept is of entries that aren't finished
 
 -- marks that are kept of an entry show it
@@ -55,10 +46,10 @@ pub marked_entry : (there : List File) (es : List LogEntry) (ms : List Marked) (
     → Each (λ m. IsReal es m × (is_there there m.file ≡ true)) ms → any_marked f s n ms ≡ true → open_at es n ≡ true
 marked_entry there es [] f s n h e = absurd (cc e)
 marked_entry there es (m ∷ ms) f s n h e =
-    elim (either_true (is_of n f m && among s m.stripes) (any_marked f s n ms) e) [
+    elim (or_cases (is_of n f m && among s m.stripes) (any_marked f s n ms) e) [
       | inl a ↦
-          let of : is_of n f m ≡ true = (both_true (is_of n f m) (among s m.stripes) a).0 in
-          let same : m.write ≡ n = same_number m.write n (both_true (m.write == n) (m.file == f) of).0 in
+          let of : is_of n f m ≡ true = (and_parts (is_of n f m) (among s m.stripes) a).0 in
+          let same : m.write ≡ n = same_number m.write n (and_parts (m.write == n) (m.file == f) of).0 in
           ap (λ (k : ℕ). open_at es k) (sym same) ∙ ap is_open h.0.0
       | inr b ↦ marked_entry there es ms f s n h.1 b
     ]
@@ -68,10 +59,10 @@ pub marked_there : (there : List File) (es : List LogEntry) (ms : List Marked) (
     → Each (λ m. IsReal es m × (is_there there m.file ≡ true)) ms → any_marked f s n ms ≡ true → is_there there f ≡ true
 marked_there there es [] f s n h e = absurd (cc e)
 marked_there there es (m ∷ ms) f s n h e =
-    elim (either_true (is_of n f m && among s m.stripes) (any_marked f s n ms) e) [
+    elim (or_cases (is_of n f m && among s m.stripes) (any_marked f s n ms) e) [
       | inl a ↦
-          let of : is_of n f m ≡ true = (both_true (is_of n f m) (among s m.stripes) a).0 in
-          let same : m.file ≡ f = same_number m.file f (both_true (m.write == n) (m.file == f) of).1 in
+          let of : is_of n f m ≡ true = (and_parts (is_of n f m) (among s m.stripes) a).0 in
+          let same : m.file ≡ f = same_number m.file f (and_parts (m.write == n) (m.file == f) of).1 in
           ap (is_there there) (sym same) ∙ h.0.1
       | inr b ↦ marked_there there es ms f s n h.1 b
     ]
@@ -116,11 +107,6 @@ later_marks there es fs ks ms ns l a r h = record {
 
 -- ---- an entry is finished
 
-finished_length : (es : List LogEntry) (n : ℕ) (y : LogEntry) → length (slice_set es n y) ≡ length es
-finished_length [] n y = refl
-finished_length (e ∷ es) zero y = refl
-finished_length (e ∷ es) (suc n) y = ap (λ (k : ℕ). suc k) (finished_length es n y)
-
 -- entry i of a list in which entry n was set
 set_get : (es : List LogEntry) (n i : ℕ) (y : LogEntry)
     → (slice_get (slice_set es n y) i ≡ slice_get es i) ⊎ ((n ≡ i) × (slice_get (slice_set es n y) i ≡ Some y))
@@ -143,7 +129,7 @@ later_finished es n (Some x) e = record {
     | inl a ↦ inl (ap is_open (sym a) ∙ q)
     | inr b ↦ absurd (cc (sym q ∙ ap is_open b.1))
   ];
-  long = omega (arith, finished_length es n (record x { finished = true }));
+  long = omega (arith, length_set es n (record x { finished = true }));
 }
 
 -- it isn't open then

@@ -1,8 +1,9 @@
 -- A repair that is over takes marks away, here and there.
 use Rattle.std.proofs.Common.{◌≡◌, ℕ, ◌==◌, ◌||◌, ◌&&◌, ◌∷◌, [], List, Bool, true, false, not, cond, true≢false, Option, Some, None, length, find, refl, sym, ap, ◌∙◌, arith, inl, inr, eq-eqb, ne_eqb}
 use Rattle.std.specs.Prelude.{nat_lt}
-use Rattle.std.proofs.lemmas.Bool.{cases_Bool, cases_eq}
+use Rattle.std.proofs.lemmas.Bool.{cases_Bool, cases_eq, and_parts}
 use Rattle.std.proofs.lemmas.Bool.Decides.{nat_tests}
+use Rattle.osd_lists.proofs.Tests.{and_false, same_number}
 use Rattle.data_map.specs.declared.check.RawMap.{RawMap}
 use Rattle.data_map.specs.Striping.{parities}
 use Rattle.scenario_text.specs.declared.line.Note.TheVariants as note
@@ -17,18 +18,13 @@ use Rattle.world_calm.specs.Marking.{is_of, is_repaired, stripes_left, mended_by
 use Rattle.world_calm.specs.Seeing.{CalmState, mended_by as mends}
 use Rattle.calm_law.specs.Words.{Each, is_there}
 use Rattle.calm_law.specs.Marks.{any_mark, any_marked, IsReal, has_parity, has_parity_in, KeepsMarks, HaveMaps, NotesMark}
-use Rattle.calm_law.proofs.Marking.{both_true, same_number}
 
 -- ---- tests
-
-none_both : (a : Bool) → (a && false) ≡ false
-none_both true = refl
-none_both false = refl
 
 -- a filter that keeps a member exactly where b holds
 kept_both : (a b c : Bool) → ((a && b) || (c && b)) ≡ ((a || c) && b)
 kept_both true true c = refl
-kept_both true false c = none_both c
+kept_both true false c = and_false c
 kept_both false b c = refl
 
 -- ---- the marks of the moments
@@ -40,8 +36,8 @@ takes m r f s = (f == r.file) && is_repaired_in m r s
 one_left : (m : RawMap) (r : Mended) (k : Mark) (f s n : ℕ) → (is_in f s k && (k.entry == n)) ≡ true
     → ((k.file == r.file) && is_repaired_in m r k.stripe) ≡ takes m r f s
 one_left m r k f s n e =
-    let i : is_in f s k ≡ true = (both_true (is_in f s k) (k.entry == n) e).0 in
-    let b : ((k.file == f) ≡ true) × ((k.stripe == s) ≡ true) = both_true (k.file == f) (k.stripe == s) i in
+    let i : is_in f s k ≡ true = (and_parts (is_in f s k) (k.entry == n) e).0 in
+    let b : ((k.file == f) ≡ true) × ((k.stripe == s) ≡ true) = and_parts (k.file == f) (k.stripe == s) i in
     ap (λ (x : ℕ). (x == r.file) && is_repaired_in m r k.stripe) (same_number k.file f b.0)
     ∙ ap (λ (x : ℕ). (f == r.file) && is_repaired_in m r x) (same_number k.stripe s b.1)
 
@@ -52,7 +48,7 @@ kept_one : (hit out all more left : Bool) (k : Mark) (rest : List Mark) (f s n :
     → any_mark f s n (cond (not out) (k ∷ rest) rest) ≡ ((hit || more) && not all)
 kept_one true true all more left k rest f s n h l q e =
     let a : true ≡ all = q refl in
-    rw (sym a) (l ∙ e ∙ ap (λ (b : Bool). more && not b) (sym a) ∙ none_both more)
+    rw (sym a) (l ∙ e ∙ ap (λ (b : Bool). more && not b) (sym a) ∙ and_false more)
 kept_one true false all more left k rest f s n h l q e =
     let a : false ≡ all = q refl in
     rw (h, sym a) refl
@@ -81,7 +77,7 @@ among_left r [] s = refl
 among_left r (x ∷ ss) s = elim (cases_eq s x) [
   | inl same ↦ elim (cases_Bool (is_repaired r x)) [
     | inl out ↦ rw (eq-eqb s x same, out) (among_left r ss s
-        ∙ ap (λ (b : Bool). among s ss && not b) (ap (is_repaired r) same ∙ out) ∙ none_both (among s ss)
+        ∙ ap (λ (b : Bool). among s ss && not b) (ap (is_repaired r) same ∙ out) ∙ and_false (among s ss)
         ∙ sym (ap (λ (b : Bool). not b) (ap (is_repaired r) same ∙ out)))
     | inr stays ↦ rw stays (rw (eq-eqb s x same) (sym (ap (λ (b : Bool). not b) (ap (is_repaired r) same ∙ stays))))
   ]
@@ -146,7 +142,7 @@ marked_kept r (m ∷ ms) f s n = elim (cases_Bool (has_stripes (mended_by r m)))
   | inr z ↦
       let none : ((is_of n f m && among s m.stripes) && not (taken r f s)) ≡ false =
       sym (one_mended r m f s n) ∙ ap (λ (b : Bool). is_of n f (mended_by r m) && b)
-      (empty_none s (mended_by r m).stripes z) ∙ none_both (is_of n f (mended_by r m)) in
+      (empty_none s (mended_by r m).stripes z) ∙ and_false (is_of n f (mended_by r m)) in
       rw z (marked_kept r ms f s n
       ∙ ap (λ (b : Bool). b || (any_marked f s n ms && not (taken r f s))) (sym none)
       ∙ kept_both (is_of n f m && among s m.stripes) (not (taken r f s)) (any_marked f s n ms))
@@ -183,7 +179,7 @@ of_file (x ∷ rs) n r e = elim (cases_Bool (x.file == n)) [
 -- the marks of the moments lose at most what a repair takes
 fewer : (ks : List Mark) (m : RawMap) (r : Mended) (f s n : ℕ) → any_mark f s n (marks_left ks m r) ≡ true
     → any_mark f s n ks ≡ true
-fewer ks m r f s n e = (both_true (any_mark f s n ks) (not (takes m r f s)) (sym (marks_kept m r ks f s n) ∙ e)).0
+fewer ks m r f s n e = (and_parts (any_mark f s n ks) (not (takes m r f s)) (sym (marks_kept m r ks f s n) ∙ e)).0
 
 mended_keeps : (there now : List File) (es : List LogEntry) (ks : List Mark) (ms : List Marked) (n : ℕ) (r : Mended)
     (a b : ℕ) (o : Option File) → file_at now n ≡ o → r.file ≡ n → HaveMaps there now → KeepsMarks there es ks ms

@@ -26,6 +26,7 @@ use Rattle.world_watch.specs.Steps.{injected_at, performed_at, sees_move}
 use Rattle.calm_law.specs.Following.{Follows, StepFacts, FollowsOn, FollowsEvents, PendingIsRead, is_opening, left_pending}
 use Rattle.world_history.specs.History.{StandsFor}
 use Rattle.world_history.specs.Refusals.{refusal}
+use Rattle.world_history.proofs.Runs.{no_opening}
 use Rattle.history_law.specs.BookMoments.{IsMoment, with_event, lines_in, lines_so_far, plan_at}
 use Rattle.history_law.specs.Doing.{did_in}
 use Rattle.history_law.specs.Read.{AreWritten}
@@ -109,16 +110,12 @@ due_opens w (Prompt first c) m e = pending (next_pending w first) e
         ap (λ (x : Action). is_opens x) (sym same)
     pending None q = quiet c q
 
-later_plan : (p : Plan) (ms : List Move) → p.opening ≡ None → (plan_after p ms).opening ≡ None
-later_plan p [] e = e
-later_plan p (m ∷ ms) e = later_plan (went_on p m.action) ms refl
-
 -- behind the first move
 pub next_opens : (p : Plan) (done : List Move) (v : World) (m : Action) → p.opening ≡ None
     → due (plan_after p done) v ≡ Some m → is_opens m ≡ false
 next_opens p done v m none n =
     due_opens v (plan_after p done).rule m
-    (sym (ap (λ (o : Option Event). due_in v (plan_after p done).rule o) (later_plan p done none)) ∙ n)
+    (sym (ap (λ (o : Option Event). due_in v (plan_after p done).rule o) (no_opening p done none)) ∙ n)
 
 -- a moment at which an event begins: the world stands for all lines, and the event isn't refused
 pub record IsBegun (w : World) (h : List Line) (e : Event) (history : List Line) : Type 0 where

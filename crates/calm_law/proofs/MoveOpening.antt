@@ -1,6 +1,7 @@
 -- The lines of an event's first move.
 use Rattle.std.proofs.Common.{◌≡◌, ℕ, zero, suc, ◌<◌, ◌∷◌, [], List, Bool, true, false, true≢false, Option, Some, None, Result, Ok, Err, is_some, length, slice_get, nat_lt, arith, refl, sym, if◌then◌else◌}
 use Rattle.std.proofs.lemmas.Bool.Decides.{nat_tests}
+use Rattle.osd_lists.proofs.Slices.{some_at}
 use Rattle.server_rules.specs.Files.{Step as ServerStep}
 use Rattle.server_rules.specs.History.{step as server_step}
 use Rattle.server_rules.specs.History as server_input
@@ -34,11 +35,6 @@ has_drive : (o : Option DriveAt) → unless_failed o ≡ None → (a : DriveAt) 
 has_drive None e = absurd (cc e)
 has_drive (Some a) e = (a, refl)
 
-posted_at : (ps : List Posted) (n : ℕ) → n < length ps → (p : Posted) × (slice_get ps n ≡ Some p)
-posted_at [] n l = absurd (omega (arith, l))
-posted_at (p ∷ ps) zero l = (p, refl)
-posted_at (p ∷ ps) (suc n) l = posted_at ps n (omega (arith, l))
-
 none_if : (b : Bool) (x : WorldErr) → (if b then None else Some x) ≡ None → b ≡ true
 none_if true x e = refl
 none_if false x e = absurd (cc e)
@@ -46,7 +42,7 @@ none_if false x e = absurd (cc e)
 has_message : (w : World) (n : ℕ) → of_message w n ≡ None → (p : Posted) × (slice_get w.network.messages n ≡ Some p)
 has_message w n e =
     let test : nat_lt n (length w.network.messages) ≡ true = none_if _ _ e in
-    posted_at w.network.messages n (grind (arith, nat_tests, test))
+    some_at w.network.messages n (grind (arith, nat_tests, test))
 
 delivers_headed : (w : World) (chosen : List ℕ) (n : ℕ) (p : Posted) → slice_get w.network.messages n ≡ Some p
     → IsHeaded (sends_all (delivers w chosen n)).lines

@@ -10,6 +10,7 @@ use Rattle.scenario_text.specs.declared.line.Note.TheVariants as note
 use Rattle.server_rules.specs.Numbers.{among}
 use Rattle.server_rules.specs.Files.{file_at}
 use Rattle.server_rules.specs.Standing.{is_short}
+use Rattle.server_rules.proofs.FileLaws.{number_at, put_same}
 use Rattle.world_history.specs.ServerNames.{Component, File, Mended}
 use Rattle.world_history.specs.State.{at_number}
 use Rattle.world_history.specs.Stripes.{Moment, is_lost, is_short_stripe, standing as standing_at}
@@ -20,7 +21,7 @@ use Rattle.world_calm.specs.Seeing.{CalmState, mended_by}
 use Rattle.calm_law.specs.Words.{IsSorted, seen_in}
 use Rattle.calm_law.specs.Files.{KeepsFiles, ShortAlike, FailsAlike, NotesAlike}
 use Rattle.calm_law.proofs.Lists.{sorted_set}
-use Rattle.calm_law.proofs.Tables.{among_end, lost_one, number_at, put_same, put_other}
+use Rattle.calm_law.proofs.Tables.{among_end, lost_one, put_other}
 
 -- ---- short stripes
 

@@ -3,9 +3,11 @@ use Rattle.std.proofs.Common.{◌≡◌, ◌⊎◌, ℕ, suc, ◌+◌, ◌<◌, 
 use Rattle.std.specs.Prelude.{nat_lt}
 use Rattle.std.specs.List.{list_any, position_or_len}
 use Rattle.std.specs.Option.{option_map}
-use Rattle.std.proofs.lemmas.Bool.{cases_Bool, cases_eq}
+use Rattle.std.proofs.lemmas.Bool.{cases_Bool, cases_eq, and_parts, or_cases}
 use Rattle.std.proofs.lemmas.Bool.Decides.{nat_tests}
+use Rattle.std.proofs.Math.Bool.{or-false, or_assoc}
 use Rattle.std.proofs.lemmas.List.Folds.{list_any-append}
+use Rattle.osd_lists.proofs.Tests.{and_false, same_number}
 use Rattle.osd_objects.proofs.Entries.{is_at_equal, is_at_other}
 use Rattle.data_map.specs.declared.check.RawMap.{RawMap}
 use Rattle.data_map.specs.Striping.{parities}
@@ -30,17 +32,8 @@ use Rattle.calm_law.specs.Marks.{any_mark, any_marked, is_open, open_at, IsReal,
 use Rattle.calm_law.specs.Performing.{AreDistinct, HaveComponents, WritesMark}
 use Rattle.calm_law.proofs.Lists.{each_more}
 use Rattle.calm_law.proofs.Tables.{among_end}
-use Rattle.calm_law.proofs.Marking.{both_true, either_true, same_number}
 
 -- ---- tests
-
-none_of : (a : Bool) → (a && false) ≡ false
-none_of true = refl
-none_of false = refl
-
-pub or_none : (a : Bool) → (a || false) ≡ a
-or_none true = refl
-or_none false = refl
 
 or_both : (a b c : Bool) → ((a || b) && c) ≡ ((a && c) || (b && c))
 or_both true true true = refl
@@ -62,9 +55,9 @@ hit_in d object offset s (Some f) = hit_with f.kept.map offset s (component_at d
 
 one_hit : (g : File) (d object offset f s i n : ℕ) (o : Option ℕ)
     → any_mark f s i (marked_in g offset n o) ≡ (((g.kept.number == f) && hit_with g.kept.map offset s o) && (n == i))
-one_hit g d object offset f s i n None = rw (none_of (g.kept.number == f)) refl
+one_hit g d object offset f s i n None = rw (and_false (g.kept.number == f)) refl
 one_hit g d object offset f s i n (Some k) =
-    or_none (((g.kept.number == f) && (stripe_of g.kept.map k offset == s)) && (n == i))
+    or-false (((g.kept.number == f) && (stripe_of g.kept.map k offset == s)) && (n == i))
 
 no_hits : (fs : List File) (d object offset f s i n : ℕ) → Each (λ (g : File). g.kept.number ≡ f → ⊥) fs
     → any_mark f s i (marks_of fs d object offset n) ≡ false
@@ -93,7 +86,7 @@ marks_hit (g ∷ fs) d object offset f s i n h =
           (ap (λ (b : Bool). (hit_with g.kept.map offset s (component_at d object g.kept.components 0) && (n == i)) || b)
           (no_hits fs d object offset f s i n (each_more (λ (x : File). x.kept.number ≡ g.kept.number → ⊥)
           (λ (x : File). x.kept.number ≡ f → ⊥) (λ x u v. u (v ∙ sym same)) fs h.0))
-          ∙ or_none (hit_with g.kept.map offset s (component_at d object g.kept.components 0) && (n == i)))
+          ∙ or-false (hit_with g.kept.map offset s (component_at d object g.kept.components 0) && (n == i)))
       | inr other ↦ rw (ne_eqb g.kept.number f other) (marks_hit fs d object offset f s i n h.1)
     ]
 
@@ -114,16 +107,16 @@ seen_hit d object offset s (Some x) =
 
 with_hit : (j : ℕ) (m : RawMap) (offset f s : ℕ) (o : Option ℕ)
     → any_stripe f s (stripe_with j m offset o) ≡ ((j == f) && seen_with m offset s o)
-with_hit j m offset f s None = sym (none_of (j == f))
+with_hit j m offset f s None = sym (and_false (j == f))
 with_hit j m offset f s (Some k) = elim (cases_Bool (nat_lt k m.comps)) [
-  | inl t ↦ rw t (or_none ((j == f) && (stripe_of m k offset == s)))
-  | inr z ↦ rw z (sym (none_of (j == f)))
+  | inl t ↦ rw t (or-false ((j == f) && (stripe_of m k offset == s)))
+  | inr z ↦ rw z (sym (and_false (j == f)))
 ]
 
 in_hit : (j : ℕ) (x : SeenFile) (d object offset f s : ℕ)
     → any_stripe f s (stripe_in j x d object offset) ≡ ((j == f) && seen_hit d object offset s (Some x))
 in_hit j x d object offset f s = elim (cases_Bool (parities x.map == 0)) [
-  | inl t ↦ rw t (sym (none_of (j == f)))
+  | inl t ↦ rw t (sym (and_false (j == f)))
   | inr z ↦ rw z (with_hit j x.map offset f s (component_at d object x.components 0))
 ]
 
@@ -150,7 +143,7 @@ stripes_hit (e ∷ es) d object offset f s h =
           (ap (λ (b : Bool). seen_hit d object offset s (Some e.1) || b)
           (no_stripes es d object offset f s (each_more (λ (x : ℕ × SeenFile). e.0 < x.0) (λ (x : ℕ × SeenFile). f < x.0)
           (λ x l. omega (arith, l, same)) es h.0))
-          ∙ or_none (seen_hit d object offset s (Some e.1)))
+          ∙ or-false (seen_hit d object offset s (Some e.1)))
       | inr other ↦ rw (ne_eqb e.0 f other, is_at_other f e.0 (λ q. other (sym q)))
           (stripes_hit es d object offset f s h.1)
     ]
@@ -270,7 +263,7 @@ later_place k m ms z =
 
 of_numbers : (w f v g : ℕ) (m : Marked) → is_of w f m ≡ true → is_of v g m ≡ ((w == v) && (f == g))
 of_numbers w f v g m e =
-    let b : ((m.write == w) ≡ true) × ((m.file == f) ≡ true) = both_true (m.write == w) (m.file == f) e in
+    let b : ((m.write == w) ≡ true) × ((m.file == f) ≡ true) = and_parts (m.write == w) (m.file == f) e in
     ap (λ (x : ℕ). (x == v) && (m.file == g)) (same_number m.write w b.0)
     ∙ ap (λ (x : ℕ). (w == v) && (x == g)) (same_number m.file f b.1)
 
@@ -285,16 +278,12 @@ distribute true false false false = refl
 distribute false b c true = refl
 distribute false b c false = refl
 
-pub over : (a b c : Bool) → (a || (b || c)) ≡ ((a || b) || c)
-over true b c = refl
-over false b c = refl
-
 marked_more : (ms : List Marked) (k : NewMark) (f s i : ℕ)
     → any_marked f s i (marked ms k) ≡ (any_marked f s i ms || is_new f s i k)
 unfolding among
 marked_more [] k f s i =
-    or_none (((k.write == i) && (k.file == f)) && ((s == k.stripe) || false))
-    ∙ ap (λ (b : Bool). ((k.write == i) && (k.file == f)) && b) (or_none (s == k.stripe))
+    or-false (((k.write == i) && (k.file == f)) && ((s == k.stripe) || false))
+    ∙ ap (λ (b : Bool). ((k.write == i) && (k.file == f)) && b) (or-false (s == k.stripe))
 marked_more (m ∷ ms) k f s i = elim (cases_Bool (is_of k.write k.file m)) [
   | inl t ↦ ap (any_marked f s i) (first_place k m ms t)
       ∙ ap (λ (b : Bool). (b && among s (and_stripe k.stripe m).stripes) || any_marked f s i ms) (same_of i f k.stripe m)
@@ -304,7 +293,7 @@ marked_more (m ∷ ms) k f s i = elim (cases_Bool (is_of k.write k.file m)) [
       (of_numbers k.write k.file i f m t)
   | inr z ↦ ap (any_marked f s i) (later_place k m ms z)
       ∙ ap (λ (b : Bool). (is_of i f m && among s m.stripes) || b) (marked_more ms k f s i)
-      ∙ over (is_of i f m && among s m.stripes) (any_marked f s i ms) (is_new f s i k)
+      ∙ sym (or_assoc (is_of i f m && among s m.stripes) (any_marked f s i ms) (is_new f s i k))
 ]
 
 -- ---- several
@@ -319,7 +308,7 @@ new_of : (f s i n : ℕ) (w : LogEntry) (x : StripeOf)
     → is_new f s i (mark_of n w x) ≡ (((x.file == f) && (x.stripe == s)) && (n == i))
 new_of f s i n w x = elim (cases_Bool (n == i)) [
   | inl t ↦ rw (t, eq_turned s x.stripe) (sym (whole ((x.file == f) && (x.stripe == s))))
-  | inr z ↦ rw z (sym (none_of ((x.file == f) && (x.stripe == s))))
+  | inr z ↦ rw z (sym (and_false ((x.file == f) && (x.stripe == s))))
 ]
   where
     whole : (a : Bool) → (a && true) ≡ a
@@ -328,12 +317,12 @@ new_of f s i n w x = elim (cases_Bool (n == i)) [
 
 all_more : (kept : KeptOf) (c : CalmState) (n : ℕ) (w : LogEntry) (xs : List StripeOf) (f s i : ℕ)
     → any_marked f s i (marks_all kept c n w xs).marks ≡ (any_marked f s i c.marks || (any_stripe f s xs && (n == i)))
-all_more kept c n w [] f s i = sym (or_none (any_marked f s i c.marks))
+all_more kept c n w [] f s i = sym (or-false (any_marked f s i c.marks))
 all_more kept c n w (x ∷ xs) f s i =
     all_more kept (marks_one kept c (mark_of n w x)) n w xs f s i
     ∙ ap (λ (b : Bool). b || (any_stripe f s xs && (n == i))) (marked_more c.marks (mark_of n w x) f s i)
     ∙ ap (λ (b : Bool). (any_marked f s i c.marks || b) || (any_stripe f s xs && (n == i))) (new_of f s i n w x)
-    ∙ sym (over (any_marked f s i c.marks) (((x.file == f) && (x.stripe == s)) && (n == i)) (any_stripe f s xs && (n == i)))
+    ∙ or_assoc (any_marked f s i c.marks) (((x.file == f) && (x.stripe == s)) && (n == i)) (any_stripe f s xs && (n == i))
     ∙ ap (λ (b : Bool). any_marked f s i c.marks || b)
     (sym (or_both ((x.file == f) && (x.stripe == s)) (any_stripe f s xs) (n == i)))
 
@@ -422,12 +411,12 @@ known_more : (fs : List File) (ks : List Mark) (es : List LogEntry) (ms : List M
     → AreDistinct fs → n < length es → KeepsMarks fs es ks ms
     → any_mark f s i (ks ++ marks_of fs d object offset n) ≡ true → (is_there fs f ≡ true) × (i < length es)
 known_more fs ks es ms d object offset f s i n dis l h e =
-    elim (either_true (any_mark f s i ks) (any_mark f s i (marks_of fs d object offset n))
+    elim (or_cases (any_mark f s i ks) (any_mark f s i (marks_of fs d object offset n))
     (sym (list_any-append (λ (k : Mark). is_in f s k && (k.entry == i)) ks (marks_of fs d object offset n)) ∙ e)) [
       | inl a ↦ h.known f s i a
       | inr b ↦
           let c : (hit_in d object offset s (file_at fs f) ≡ true) × ((n == i) ≡ true) =
-          both_true (hit_in d object offset s (file_at fs f)) (n == i)
+          and_parts (hit_in d object offset s (file_at fs f)) (n == i)
           (sym (marks_hit fs d object offset f s i n dis) ∙ b) in
           (hits_there fs d object offset f s (file_at fs f) c.0 refl, omega (arith, l, same_number n i c.1))
     ]
@@ -441,8 +430,8 @@ finished_more fs ks es ms d object offset n dis l o h = record {
       ∙ ap (λ (b : Bool). any_mark f s i ks || b) (marks_hit fs d object offset f s i n dis
       ∙ ap (λ (b : Bool). hit_in d object offset s (file_at fs f) && b)
       (ne_eqb n i (λ q. true≢false (sym u ∙ ap (open_at es) (sym q) ∙ o)))
-      ∙ none_of (hit_in d object offset s (file_at fs f)))
-      ∙ or_none (any_mark f s i ks) ∙ h.same f s i p u;
+      ∙ and_false (hit_in d object offset s (file_at fs f)))
+      ∙ or-false (any_mark f s i ks) ∙ h.same f s i p u;
   known = λ f s i e. known_more fs ks es ms d object offset f s i n dis l h e;
   real = h.real;
 }

@@ -3,6 +3,7 @@ use Rattle.std.proofs.Common.{◌≡◌, ℕ, zero, suc, ◌+◌, ◌==◌, ◌&
 use Rattle.std.proofs.lemmas.Bool.{cases_Bool}
 use Rattle.osd_lists.specs.declared.node.Node.{Node}
 use Rattle.osd_lists.specs.declared.node.Node.TheVariants as node
+use Rattle.osd_lists.proofs.Tests.{second_true}
 use Rattle.server_rules.specs.declared.limits.TheConstants.{MAX_CLIENT, GREATEST_TAG}
 use Rattle.server_rules.specs.Numbers.{among}
 use Rattle.server_rules.specs.Files.{Step, still, file_at, add_file}
@@ -14,6 +15,7 @@ use Rattle.server_rules.specs.Messages.{Message, Asks, Replies, Orders, counters
 use Rattle.server_rules.specs.Orders.{begins_job, starts, recalls_on, offline, declares_known, declare, ordered}
 use Rattle.server_rules.specs.Openings.{reopen}
 use Rattle.server_rules.specs.History.{Input, Hears, Makes, Obeys, Adds, Opens, Act, step, state_after, unless_made}
+use Rattle.server_rules.proofs.FileLaws.{not_there}
 use Rattle.world_history.specs.ServerNames.{Server, File, Drive, Job, JobKind, ClientRequest, Reply, OrderKind, ToRecall, ToRevoke, ToDeclare, ToRebuild, ToAudit, Revoking, Rebuilding, Auditing, Refusal, RawMap}
 use Rattle.calm_law.specs.Words.{Each}
 use Rattle.calm_law.specs.Naming.{IsNamedInput}
@@ -22,7 +24,7 @@ use Rattle.calm_law.specs.Apart.{AreDifferent, AreApart, IsApart, IsFresh, EachS
 use Rattle.calm_law.proofs.Drives.{drives, not_first, not_among}
 use Rattle.calm_law.proofs.Rounds.{apart_went}
 use Rattle.calm_law.proofs.Steps.{went, makes}
-use Rattle.calm_law.proofs.Making.{each_added, none_there, not_there, went_made, each_step_is_sound}
+use Rattle.calm_law.proofs.Making.{each_added, none_there, went_made, each_step_is_sound}
 
 abbrev pub numbers : List Drive → List ℕ
 numbers ds = map (λ (d : Drive). d.number) ds
@@ -70,15 +72,11 @@ different_chosen ds (n ∷ ns) e =
     both (is_some (find (λ (d : Drive). d.number == n) ds)) (among n ns) (are_of ds ns) e in
     (p.0, different_chosen ds ns p.1)
 
-second : (a b : Bool) → (a && b) ≡ true → b ≡ true
-second true b e = e
-second false b e = absurd (cc e)
-
 different_placed : (ds : List Drive) (count : ℕ) (chosen : List ℕ) → AreDifferent (numbers ds)
     → AreDifferent (places ds count chosen)
 unfolding places
 different_placed ds count chosen h = elim (cases_Bool ((length chosen == count) && are_of (online ds) chosen)) [
-  | inl t ↦ rw t (different_chosen (online ds) chosen (second (length chosen == count) (are_of (online ds) chosen) t))
+  | inl t ↦ rw t (different_chosen (online ds) chosen (second_true (length chosen == count) (are_of (online ds) chosen) t))
   | inr z ↦ rw z (different_taken count (numbers (online ds)) (different_filtered (λ (d : Drive). d.online) ds h))
 ]
 

@@ -7,6 +7,7 @@ use Rattle.scenario_text.specs.declared.line.Note.TheVariants as note
 use Rattle.server_rules.specs.Going.{Going}
 use Rattle.server_rules.specs.Files.{file_at, put_file}
 use Rattle.server_rules.specs.Standing.{lose_on, lose_from}
+use Rattle.server_rules.proofs.Components.{length_lost, length_lost_on}
 use Rattle.world_history.specs.ServerNames.{Component, File, Note, NoteKind}
 use Rattle.world_history.specs.Told.{told_note}
 use Rattle.world_history.specs.Calm.{noted}
@@ -138,16 +139,6 @@ distinct_went out (f ∷ fs) (g ∷ gs) before after h w = (
 
 -- ---- how many components
 
-length_lost : (ks : List ℕ) (cs : List Component) (j : ℕ) → length (lose_from ks cs j) ≡ length cs
-unfolding lose_from
-length_lost ks [] j = refl
-length_lost ks (at ∷ cs) j = ap (λ (n : ℕ). suc n) (length_lost ks cs (j + 1))
-
-length_on : (d : ℕ) (cs : List Component) → length (lose_on d cs) ≡ length cs
-unfolding lose_on
-length_on d [] = refl
-length_on d (at ∷ cs) = ap (λ (n : ℕ). suc n) (length_on d cs)
-
 length_stood : (cs : List Component) (k d : ℕ) → length (stood cs k d) ≡ length cs
 length_stood [] k d = refl
 length_stood (at ∷ cs) zero d = refl
@@ -165,7 +156,7 @@ length_behind cs (k ∷ ks) = length_noted (behind cs ks) (told_note k) ∙ leng
 
 length_out : (out : Option ℕ) (cs : List Component) → length (without_drive out cs) ≡ length cs
 length_out None cs = refl
-length_out (Some d) cs = length_on d cs
+length_out (Some d) cs = length_lost_on d cs
 
 pub components_went : (out : Option ℕ) (fs gs : List File) (before after : List Note) → HaveComponents fs
     → WentEach out fs before gs after → HaveComponents gs

@@ -1,6 +1,7 @@
 -- What each handler makes of its file's components.
 use Rattle.std.proofs.Common.{◌≡◌, ℕ, ◌==◌, ◌||◌, ◌∷◌, [], List, Bool, true, false, Option, Some, None, find, refl, sym, subst, inl, inr}
 use Rattle.std.proofs.lemmas.Bool.{cases_Bool}
+use Rattle.osd_lists.proofs.Tests.{first_false}
 use Rattle.server_rules.specs.declared.limits.TheConstants.{GREATEST_TAG}
 use Rattle.server_rules.specs.Going.{Going, with_components, noting}
 use Rattle.server_rules.specs.Standing.{lose_on, lose_from, any_on}
@@ -88,10 +89,6 @@ untouched g drive e = record {
   exact = λ q. sym (none_lost_on drive g.file.kept.components e);
   apart = λ x. apart_again drive g.file.kept.components x;
 }
-
-first_false : (a b : Bool) → (a || b) ≡ false → a ≡ false
-first_false true b e = absurd (cc e)
-first_false false b e = refl
 
 pub ends_declares : (g : Going) (drive : ℕ) → AreKnown g.drives → IsAimed g.file
     → Ends (without g.file.kept drive) g.effects.notes (declares g drive)

@@ -1,6 +1,7 @@
 -- Messages stay through a move, but for what becomes of them.
 use Rattle.std.proofs.Common.{◌≡◌, ℕ, zero, suc, ◌++◌, ◌∷◌, [], List, Option, Some, None, option_map, slice_get, slice_set, refl, sym, ap, subst, ◌∙◌}
 use Rattle.std.proofs.lemmas.Option.{slice_get-map}
+use Rattle.osd_lists.proofs.Slices.{get_more}
 use Rattle.world_history.specs.declared.messages.Posted.{Posted}
 use Rattle.world_history.specs.declared.messages.Sent.{Sent}
 use Rattle.world_history.specs.State.{World}
@@ -45,11 +46,6 @@ stay_set (y ∷ ps) (suc n) p q there same zero x e = record { now = x; found = 
 stay_set (y ∷ ps) (suc n) p q there same (suc k) x e =
     let s : Stands (slice_set ps n q) k x = stay_set ps n p q there same k x e in
     record { now = s.now; found = s.found; same = s.same }
-
-get_more : (ps qs : List Posted) (k : ℕ) (p : Posted) → slice_get ps k ≡ Some p → slice_get (ps ++ qs) k ≡ Some p
-get_more [] qs k p e = absurd (cc e)
-get_more (x ∷ ps) qs zero p e = e
-get_more (x ∷ ps) qs (suc k) p e = get_more ps qs k p e
 
 -- and behind further ones
 pub stay_more : (ps qs rs : List Posted) → Stay ps qs → Stay ps (qs ++ rs)

@@ -18,6 +18,7 @@ use Rattle.server_rules.specs.Messages.{heard_at, or_else, by_heard, on_drive_re
 use Rattle.server_rules.specs.Orders.{begins_job, starts, recalls_on, offline, declares_each, declare, declares_known, ordered}
 use Rattle.server_rules.specs.History.{Input, Hears, Makes, Obeys, Adds, Formats, Resends, Crashes, Opens, step}
 use Rattle.server_rules.specs.Openings.{crashed_file, opens, opens_each, reopen}
+use Rattle.server_rules.proofs.FileLaws.{number_at}
 use Rattle.world_history.specs.ServerNames.{Server, File, Drive, Note, Effects, Job, JobKind, ClientRequest, Reply, OrderKind, ToRecall, ToRevoke, ToDeclare, ToRebuild, ToAudit, Revoking, Rebuilding, Auditing, Busy, Spent}
 use Rattle.calm_law.specs.Words.{Each}
 use Rattle.calm_law.specs.Performing.{AreDistinct}
@@ -53,14 +54,6 @@ went_one o s m f g after h e w = went_put s.files m f g [] after h.aimed e w
 
 aimed_at : (s : Server) (n : ℕ) (f : File) → IsSound s → file_at s.files n ≡ Some f → IsAimed f
 aimed_at s n f h e = each_at IsAimed s.files n f h.aimed e
-
-pub number_at : (fs : List File) (n : ℕ) (f : File) → file_at fs n ≡ Some f → f.kept.number ≡ n
-unfolding file_at
-number_at [] n f e = absurd (cc e)
-number_at (g ∷ fs) n f e = elim (cases_Bool (g.kept.number == n)) [
-  | inl t ↦ grind (arith, nat_tests, t, (rw t at e))
-  | inr z ↦ number_at fs n f (rw z at e)
-]
 
 -- ---- a request
 

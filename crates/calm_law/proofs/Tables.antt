@@ -49,23 +49,6 @@ lost_one cs k = lost_at cs k 0 k (omega arith)
 
 -- ---- files
 
-pub number_at : (fs : List File) (n : ℕ) (f : File) → file_at fs n ≡ Some f → f.kept.number ≡ n
-unfolding file_at
-number_at [] n f e = absurd (cc e)
-number_at (g ∷ fs) n f e = elim (cases_Bool (g.kept.number == n)) [
-  | inl t ↦ grind (arith, nat_tests, t, (rw t at e))
-  | inr z ↦ number_at fs n f (rw z at e)
-]
-
-pub put_same : (fs : List File) (n : ℕ) (f g : File) → f.kept.number ≡ n → file_at fs n ≡ Some g
-    → file_at (put_file fs n f) n ≡ Some f
-unfolding file_at put_file
-put_same [] n f g m e = absurd (cc e)
-put_same (h ∷ hs) n f g m e = elim (cases_Bool (h.kept.number == n)) [
-  | inl t ↦ rw t (rw (eq-eqb f.kept.number n m) refl)
-  | inr z ↦ rw (z, z) (put_same hs n f g m (rw z at e))
-]
-
 pub put_other : (fs : List File) (m n : ℕ) (f : File) → f.kept.number ≡ m → (m == n) ≡ false
     → file_at (put_file fs m f) n ≡ file_at fs n
 unfolding file_at put_file

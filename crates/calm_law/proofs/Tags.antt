@@ -6,6 +6,7 @@ use Rattle.server_rules.specs.Files.{Step, file_at, add_file}
 use Rattle.server_rules.specs.History.{Input, Hears, Makes, Obeys, Adds, Formats, Resends, Crashes, Opens, step, unless_made}
 use Rattle.server_rules.specs.Laws.{In}
 use Rattle.server_rules.specs.Making.{refusal, unless_refused, makes_file, unmade, places, create_file}
+use Rattle.server_rules.proofs.FileLaws.{not_there}
 use Rattle.world_history.specs.ServerNames.{Server, File, Note, NoteKind, Refusal, Fenced}
 use Rattle.calm_law.specs.Performing.{AreDistinct}
 use Rattle.calm_law.specs.Going.{declared_in}
@@ -14,7 +15,7 @@ use Rattle.calm_law.specs.Tags.{fence_note, TagRises, EachStepRaisesTags}
 use Rattle.calm_law.proofs.FileNotes.{noted_with, tag_behind, AreLater}
 use Rattle.calm_law.proofs.Rounds.{WentAs, WentEach, NoneHas}
 use Rattle.calm_law.proofs.Steps.{Went, went}
-use Rattle.calm_law.proofs.Making.{went_made, not_there, distinct_added, none_there, beside}
+use Rattle.calm_law.proofs.Making.{went_made, distinct_added, none_there, beside}
 
 -- ---- notes
 

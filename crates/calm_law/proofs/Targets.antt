@@ -2,6 +2,7 @@
 use Rattle.std.proofs.Common.{◌≡◌, ℕ, ◌<◌, ◌==◌, ◌&&◌, not, ◌∷◌, [], List, Bool, true, false, Option, Some, None, is_some, find, refl, sym, ap, subst, arith, inl, inr}
 use Rattle.std.proofs.lemmas.Bool.{cases_Bool}
 use Rattle.std.proofs.lemmas.Bool.Decides.{nat_tests}
+use Rattle.osd_lists.proofs.Tests.{without_second}
 use Rattle.scenario_text.specs.declared.names.TheConstants.{DRIVES}
 use Rattle.server_rules.specs.Going.{Going}
 use Rattle.server_rules.specs.Standing.{stood_on, free_drives, lose_from, lose_on}
@@ -23,15 +24,10 @@ IsFree cs n = (n < DRIVES) × (stood_on n cs ≡ false)
 abbrev AreFree : List Component → List Drive → Type 0
 AreFree cs ds = Each (λ (d : Drive). IsFree cs d.number) ds
 
-not_stood : (a b : Bool) → (a && not b) ≡ true → b ≡ false
-not_stood true true e = absurd (cc e)
-not_stood true false e = refl
-not_stood false b e = absurd (cc e)
-
 free_known : (cs : List Component) (ds : List Drive) → AreKnown ds → AreFree cs (free_drives ds cs)
 free_known cs [] h = tt
 free_known cs (d ∷ ds) h = elim (cases_Bool (d.online && not (stood_on d.number cs))) [
-  | inl t ↦ rw t ((h.0, not_stood d.online (stood_on d.number cs) t), free_known cs ds h.1)
+  | inl t ↦ rw t ((h.0, without_second d.online (stood_on d.number cs) t), free_known cs ds h.1)
   | inr z ↦ rw z (free_known cs ds h.1)
 ]
 

@@ -7,10 +7,10 @@ use Rattle.scenario_text.specs.declared.line.Line.{Line}
 use Rattle.scenario_text.specs.declared.line.Line.TheVariants as line
 use Rattle.server_rules.specs.Files.{file_at}
 use Rattle.server_rules.specs.Laws.{FilesArePut}
+use Rattle.server_rules.proofs.FileLaws.{number_at}
 use Rattle.world_history.specs.ServerNames.{Server, File, Component, Mended}
 use Rattle.world_history.specs.Calm.{Watched, watches, noted, noted_in, with_components, with_grants, untold_file, begun_file, at_begin}
 use Rattle.calm_law.specs.Components.{told_by, told_in}
-use Rattle.calm_law.proofs.Steps.{number_at}
 
 -- the file with these components
 abbrev pub with_parts : File → List Component → File

@@ -32,14 +32,6 @@ pub turn_more : (ms : List Sent) (m : Sent) (s t u : Dealing) → InTurn Works m
 turn_more [] m s t u e r = (u, subst (λ (v : Dealing). Works m v u) e r, refl)
 turn_more (n ∷ ms) m s t u h r = (h.0, h.1, turn_more ms m h.0 t u h.2 r)
 
-pub take_got : (ms : List Sent) (i : ℕ) (m : Sent) → slice_get ms i ≡ Some m → take (i + 1) ms ≡ take i ms ++ m ∷ []
-take_got ms i m e = rw add-one (got ms i m e)
-  where
-    got : (ns : List Sent) (j : ℕ) (n : Sent) → slice_get ns j ≡ Some n → take (suc j) ns ≡ take j ns ++ n ∷ []
-    got [] j n e = absurd (cc e)
-    got (k ∷ ns) zero n e = ap (λ (w : Sent). w ∷ []) (cc e)
-    got (k ∷ ns) (suc j) n e = ap (λ (ks : List Sent). k ∷ ks) (got ns j n e)
-
 split_got : (ms : List Sent) (i : ℕ) (m : Sent) → slice_get ms i ≡ Some m → ms ≡ take i ms ++ m ∷ drop (suc i) ms
 split_got [] i m e = absurd (cc e)
 split_got (k ∷ ms) zero m e = ap (λ (w : Sent). w ∷ ms) (cc e)

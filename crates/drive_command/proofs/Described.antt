@@ -4,8 +4,10 @@ use Rattle.std.specs.Prelude.{ℕ, ℤ, pos, codes, Bool, true, false, not, ◌-
 use Rattle.std.specs.List.{find, list_any}
 use Rattle.std.specs.Option.{option_and_then, option_map_or}
 use Rattle.std.specs.Result.{result_ok}
+use Rattle.std.proofs.lemmas.Bool.{or_parts}
 use Rattle.hex.specs.Hex.{decode_sized}
 use Rattle.toml.specs.Data.{Members}
+use Rattle.osd_lists.proofs.Tests.{not_false}
 use Rattle.cluster_text.specs.declared.cluster.Cluster.{Cluster}
 use Rattle.cluster_text.specs.declared.cluster.ClusterDrive.{ClusterDrive}
 use Rattle.cluster_text.specs.declared.cluster.ClusterFile.{ClusterFile}
@@ -21,15 +23,6 @@ use Rattle.osd_drive.specs.State.{new_drive}
 use Rattle.drive_command.specs.Own.{core_from, core_in, keys_of}
 
 -- ---- tests and options
-
-neither : (a b : Bool) → (a || b) ≡ false → (a ≡ false) × (b ≡ false)
-neither false false h = (refl, refl)
-neither false true h = cc h
-neither true b h = cc h
-
-from_not : (b : Bool) → not b ≡ false → b ≡ true
-from_not true h = refl
-from_not false h = cc h
 
 bound : {A B : Type 0} (o : Option A) (f : A → Option B) (y : B) → (o >>= f) ≡ Some y → (x : A) × (o ≡ Some x) × (f x ≡ Some y)
 bound (Some x) f y h = (x, refl, h)
@@ -76,14 +69,14 @@ lacks_parts : (n : ℕ) (top : Members) (ds fs : List Members) → lacks (Drive 
     → (list_any (lacks_drive_key true) ds ≡ false) × (list_any (is_drive n) ds ≡ true)
 unfolding lacks
 lacks_parts n top ds fs h =
-    let a = neither _ _ h in
-    let b = neither _ _ a.0 in
-    let c = neither _ _ b.0 in
-    (c.1, from_not (list_any (is_drive n) ds) a.1)
+    let a = or_parts _ _ h in
+    let b = or_parts _ _ a.0 in
+    let c = or_parts _ _ b.0 in
+    (c.1, not_false (list_any (is_drive n) ds) a.1)
 
 wrong_parts : (top : Members) (ds fs : List Members) → is_wrong top ds fs ≡ false → list_any is_wrong_drive ds ≡ false
 unfolding is_wrong
-wrong_parts top ds fs h = (neither _ _ (neither _ _ h).0).1
+wrong_parts top ds fs h = (or_parts _ _ (or_parts _ _ h).0).1
 
 -- ---- one table of a drive
 
@@ -124,8 +117,8 @@ row n t d h lack wrong =
     let k = bound (key_in t) _ d b.2 in
     let e = bound (number_at (codes "capacity") 0 18446744073709551615 t) _ d k.2 in
     let same : record { number = a.0; address = b.0; key = k.0; capacity = e.0 } ≡ d = cc e.2 in
-    let l = neither _ _ lack in
-    let w = neither _ _ (neither _ _ wrong).0 in
+    let l = or_parts _ _ lack in
+    let w = or_parts _ _ (or_parts _ _ wrong).0 in
     let text = has_text (has (codes "key") t) (is_none (text_at (codes "key") t)) l.1 w.1 in
     let some = key_there (text_at (codes "key") t) k.0 text k.1 in
     let number = ap (λ (o : Option ℤ). option_map_or (is_number n) o false) (number_is t a.0 a.1) in
@@ -147,8 +140,8 @@ found n (t ∷ ts) ds h lack wrong any =
     let a = bound (drive_in t) _ ds h in
     let b = bound (all_in drive_in ts) _ ds a.2 in
     let same : a.0 ∷ b.0 ≡ ds = cc b.2 in
-    let l = neither (lacks_drive_key true t) (list_any (lacks_drive_key true) ts) lack in
-    let w = neither (is_wrong_drive t) (list_any is_wrong_drive ts) wrong in
+    let l = or_parts (lacks_drive_key true t) (list_any (lacks_drive_key true) ts) lack in
+    let w = or_parts (is_wrong_drive t) (list_any is_wrong_drive ts) wrong in
     let r = row n t a.0 a.1 l.0 w.0 in
     rw (← same) (go (nat_eq (a.0).number n) refl a.0 b.0 r.0 (sym r.1) (λ rest. found n ts b.0 b.1 l.1 w.1 rest))
   where

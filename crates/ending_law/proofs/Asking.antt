@@ -3,6 +3,7 @@ use Rattle.std.specs.List.{AllByRecursion}
 use Rattle.std.proofs.Common.{◌≡◌, ◌==◌, ◌&&◌, ◌||◌, ℕ, ◌+◌, ◌^◌, ◌≤◌, ◌<◌, Bool, true, false, List, [], ◌∷◌, Option, Some, None, find, length, refl, sym, subst, arith, inl, inr, if◌then◌else◌}
 use Rattle.std.proofs.lemmas.Bool.{cases_Bool}
 use Rattle.std.proofs.lemmas.Bool.Decides.{nat_tests}
+use Rattle.osd_lists.proofs.Tests.{same_number}
 use Rattle.data_map.specs.declared.ranges.TheConstants.{MAX_FILE_SIZE}
 use Rattle.xdr_codec.specs.Items.{u32_item}
 use Rattle.layout_types.specs.Spelling.{update_item}
@@ -109,9 +110,6 @@ after_small hs file (args.LayoutGet a) k = k
 after_small hs file (args.LayoutCommit a) k = k
 after_small hs file (args.LayoutReturn a) k = without_small hs file k
 
-equal : (a b : ℕ) → (a == b) ≡ true → a ≡ b
-equal a b e = grind (arith, nat_tests, e)
-
 held_file : (hs : List Held) (u : Due) → AllByRecursion HeldSmall hs → is_held hs u ≡ true → u.file < 2 ^ 32
 held_file [] u k e = absurd (cc e)
 held_file (h ∷ hs) u k e =
@@ -119,7 +117,7 @@ held_file (h ∷ hs) u k e =
   where
     either : (a b : Bool) → (h.file == u.file) ≡ a → (is_held hs u ≡ true → u.file < 2 ^ 32)
         → ((a && b) || is_held hs u) ≡ true → u.file < 2 ^ 32
-    either true true is rest e = subst (λ (n : ℕ). n < 2 ^ 32) (equal h.file u.file is) k.0
+    either true true is rest e = subst (λ (n : ℕ). n < 2 ^ 32) (same_number h.file u.file is) k.0
     either true false is rest e = rest e
     either false b is rest e = rest e
 

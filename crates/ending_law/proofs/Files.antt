@@ -11,9 +11,9 @@ use Rattle.world_history.specs.ServerNames.{Server, File, Component, Grant, Slot
 use Rattle.world_history.specs.State.{World}
 use Rattle.world_history.specs.Sending.{Move, move}
 use Rattle.world_history.specs.Book.{step_by, server_behind}
-use Rattle.history_law.proofs.Histories.{opening, IsKept}
 use Rattle.history_law.proofs.DriveEvents.{IsRead, kept}
 use Rattle.world_history.specs.declared.limits.TheConstants.{MAX_KEPT}
+use Rattle.world_history.proofs.Always.{opening, IsKept}
 use Rattle.data_map.specs.declared.check.RawMap.{RawMap}
 use Rattle.history_law.specs.Doing.{input_in}
 use Rattle.history_law.specs.BookMoments.{IsMoment}

@@ -18,7 +18,7 @@ use Rattle.server_rules.specs.Laws.{In}
 use Rattle.server_rules.specs.History.{Act as ServerAct, state_after}
 use Rattle.server_rules.specs.Making.{new_server}
 use Rattle.server_rules.specs.Envelopes.{asked_in}
-use Rattle.server_rules.proofs.FileLaws.{number_at}
+use Rattle.server_rules.proofs.FileLaws.{number_at, file_in}
 use Rattle.scenario_text.specs.declared.line.Line.{Line}
 use Rattle.world_history.specs.ClientNames.{Call, CallOp, Held, Request, Need, First, Get, Commit, Report, Close, Phase, Starts, Needs, Waits, Reads as ReadsOn, Probes, Gathers, Scatters}
 use Rattle.world_history.specs.ServerNames.{Component, File}
@@ -48,14 +48,6 @@ use Rattle.ending_law.proofs.Made.{no_get_given}
 use Rattle.ending_law.proofs.Moments.{WasHeld, Stands, stands, taken_gives, taken_held, made_file}
 
 -- ---- lists
-
-file_in : (fs : List File) (n : ℕ) (f : File) → file_at fs n ≡ Some f → In f fs
-unfolding file_at
-file_in [] n f e = absurd (cc e)
-file_in (g ∷ fs) n f e = elim (cases_Bool (g.kept.number == n)) [
-  | inl t ↦ inl (cc (sym (rw t at e)))
-  | inr z ↦ inr (file_in fs n f (rw z at e))
-]
 
 object_in : (cs : List Component) (k : ℕ) (at : Component) → slice_get cs k ≡ Some at → In at.object (objects_of cs)
 object_in [] k at e = absurd (cc e)

@@ -8,6 +8,7 @@ use Rattle.osd_lists.proofs.BlockLaws.{length-range}
 use Rattle.xdr_codec.specs.declared.err.XdrErr.{XdrErr}
 use Rattle.xdr_codec.specs.declared.err.XdrErr.TheVariants.{Short}
 use Rattle.xdr_codec.specs.Reading.{Rest, ◌>>=◌, behind, unless_padding, body_in, fixed_in, end_of}
+use Rattle.xdr_codec.proofs.ItemLaws.{bind_ok}
 use Rattle.layout_types.specs.declared.err.LayoutErr.{LayoutErr}
 use Rattle.layout_types.specs.declared.objid.ObjId.{ObjId}
 use Rattle.layout_types.specs.declared.cred.ObjectCred.{ObjectCred}
@@ -15,20 +16,7 @@ use Rattle.layout_types.specs.declared.layout.Layout.{Layout}
 use Rattle.layout_types.specs.Enumerations.{version_of, security_of}
 use Rattle.layout_types.specs.Grammar.{u32_part, u64_part, fixed_part, opaque_part, enum_part, count_part, members, list_part, lifted, whole}
 use Rattle.layout_types.specs.Reading.{objid_in, cred_in, map_in, layout_in}
-
--- where both steps gave a value both are known
-both : {A B E : Type 0} (x : Result A E) (f : A → Result B E) (y : B) → (x >>= f) ≡ Ok y
-    → (a : A) × (x ≡ Ok a) × (f a ≡ Ok y)
-both (Ok a) f y e = (a, refl, e)
-both (Err z) f y e = absurd (cc e)
-
--- a value that was read
-abbrev given : {A : Type 0} → A → Result A LayoutErr
-given v = Ok v
-
--- what holds of a value holds of the one that it was given as
-holds : {A : Type 0} (P : A → Type 0) (v x : A) → P v → given v ≡ given x → P x
-holds P v x p e = let same : v ≡ x = cc e in rw same at p
+use Rattle.client_rules.proofs.KnownMaps.{given, holds}
 
 unlifted : {A : Type 0} (r : Result A XdrErr) (x : A) → lifted r ≡ Ok x → r ≡ Ok x
 unlifted (Ok y) x e = let same : y ≡ x = cc e in ap (λ z. Ok z) same
@@ -65,20 +53,20 @@ CredLong o = IsLong o.oc_object_id
 objid_long : (i : Rest) (x : ObjId × Rest) → objid_in i ≡ Ok x → IsLong x.0
 unfolding objid_in fixed_part
 objid_long i x e =
-    let device = both (fixed_part 16 i) _ x e in
-    let partition = both (u64_part device.0.1) _ x device.2 in
-    let object = both (u64_part partition.0.1) _ x partition.2 in
+    let device = bind_ok (fixed_part 16 i) _ x e in
+    let partition = bind_ok (u64_part device.0.1) _ x device.2 in
+    let object = bind_ok (u64_part partition.0.1) _ x partition.2 in
     holds (λ (y : ObjId × Rest). IsLong y.0) _ x
     (fixed_long i device.0 (unlifted (fixed_in 16 i) device.0 device.1)) object.2
 
 cred_long : (i : Rest) (x : ObjectCred × Rest) → cred_in i ≡ Ok x → CredLong x.0
 unfolding cred_in
 cred_long i x e =
-    let id = both (objid_in i) _ x e in
-    let version = both (enum_part version_of id.0.1) _ x id.2 in
-    let security = both (enum_part security_of version.0.1) _ x version.2 in
-    let key = both (opaque_part security.0.1) _ x security.2 in
-    let capability = both (opaque_part key.0.1) _ x key.2 in
+    let id = bind_ok (objid_in i) _ x e in
+    let version = bind_ok (enum_part version_of id.0.1) _ x id.2 in
+    let security = bind_ok (enum_part security_of version.0.1) _ x version.2 in
+    let key = bind_ok (opaque_part security.0.1) _ x security.2 in
+    let capability = bind_ok (opaque_part key.0.1) _ x key.2 in
     holds (λ (y : ObjectCred × Rest). CredLong y.0) _ x (objid_long i id.0 id.1) capability.2
 
 members_long : (n : ℕ) (i : Rest) (x : List ObjectCred × Rest) → members cred_in n i ≡ Ok x
@@ -86,18 +74,18 @@ members_long : (n : ℕ) (i : Rest) (x : List ObjectCred × Rest) → members cr
 unfolding members
 members_long zero i x e = holds (λ (y : List ObjectCred × Rest). AllByRecursion CredLong y.0) ([], i) x tt e
 members_long (suc n) i x e =
-    let v = both (cred_in i) _ x e in
-    let vs = both (members cred_in n v.0.1) _ x v.2 in
+    let v = bind_ok (cred_in i) _ x e in
+    let vs = bind_ok (members cred_in n v.0.1) _ x v.2 in
     holds (λ (y : List ObjectCred × Rest). AllByRecursion CredLong y.0) _ x
     (cred_long i v.0 v.1, members_long n v.0.1 vs.0 vs.1) vs.2
 
 layout_long : (i : Rest) (x : Layout × Rest) → layout_in i ≡ Ok x → AllByRecursion CredLong x.0.olo_components
 unfolding layout_in list_part
 layout_long i x e =
-    let m = both (map_in i) _ x e in
-    let index = both (u32_part m.0.1) _ x m.2 in
-    let components = both (list_part cred_in index.0.1) _ x index.2 in
-    let n = both (count_part index.0.1) _ components.0 components.1 in
+    let m = bind_ok (map_in i) _ x e in
+    let index = bind_ok (u32_part m.0.1) _ x m.2 in
+    let components = bind_ok (list_part cred_in index.0.1) _ x index.2 in
+    let n = bind_ok (count_part index.0.1) _ components.0 components.1 in
     holds (λ (y : Layout × Rest). AllByRecursion CredLong y.0.olo_components) _ x
     (members_long n.0.0 n.0.1 components.0 n.2) components.2
 
@@ -105,7 +93,7 @@ pub whole_long : (bytes : List ℕ) (l : Layout) → whole layout_in bytes ≡ O
     → AllByRecursion CredLong l.olo_components
 unfolding whole
 whole_long bytes l e =
-    let v = both (layout_in (record { left = bytes; at = 0 })) _ l e in
-    let end = both (lifted (end_of v.0.1)) _ l v.2 in
+    let v = bind_ok (layout_in (record { left = bytes; at = 0 })) _ l e in
+    let end = bind_ok (lifted (end_of v.0.1)) _ l v.2 in
     holds (λ (y : Layout). AllByRecursion CredLong y.olo_components) _ l
     (layout_long (record { left = bytes; at = 0 }) v.0 v.1) end.2

@@ -4,6 +4,7 @@ use Rattle.std.specs.List.{AllByRecursion, flat_map}
 use Rattle.std.proofs.lemmas.List.{length-append}
 use Rattle.std.proofs.lemmas.List.Concat.{flat_map-cons}
 use Rattle.xdr_codec.specs.Items.{u32_item, u64_item, bool_item, fixed_item}
+use Rattle.xdr_codec.proofs.ItemLaws.{length-u32, length-u64, length-bool, length-device}
 use Rattle.layout_types.specs.declared.ioerrs.IoErr.{IoErr}
 use Rattle.layout_types.specs.declared.objid.ObjId.{ObjId}
 use Rattle.layout_types.specs.Grammar.{list_item}
@@ -12,32 +13,16 @@ use Rattle.layout_types.specs.Spelling.{objid_item, ioerr_item, ioerrs_item}
 use Rattle.layout_ops.specs.Spelling.{IsBody}
 use Rattle.ending_law.proofs.Ids.{IsLong}
 
-u32_long : (n : ℕ) → length (u32_item n) ≡ 4
-unfolding u32_item
-u32_long n = refl
-
-u64_long : (n : ℕ) → length (u64_item n) ≡ 8
-unfolding u64_item
-u64_long n = refl
-
-bool_long : (b : Bool) → length (bool_item b) ≡ 4
-bool_long false = u32_long 0
-bool_long true = u32_long 1
-
-device_long : (xs : List ℕ) → length xs ≡ 16 → length (fixed_item xs) ≡ 16
-unfolding fixed_item
-device_long xs e = length-append xs _ ∙ rw e refl
-
 object_long : (v : ObjId) → IsLong v → length (objid_item v) ≡ 32
 object_long v e =
     length-append (fixed_item v.oid_device_id) _
     ∙ omega (
       arith,
-      device_long v.oid_device_id e,
+      length-device v.oid_device_id e,
       length-append (u64_item v.oid_partition_id)
           (u64_item v.oid_object_id),
-      u64_long v.oid_partition_id,
-      u64_long v.oid_object_id,
+      length-u64 v.oid_partition_id,
+      length-u64 v.oid_object_id,
     )
 
 -- the object of an error has a device id of its length
@@ -54,10 +39,10 @@ error_long v f =
           (u64_item v.oer_comp_length ++ (bool_item v.oer_iswrite ++ u32_item (errno_number v.oer_errno))),
       length-append (u64_item v.oer_comp_length) (bool_item v.oer_iswrite ++ u32_item (errno_number v.oer_errno)),
       length-append (bool_item v.oer_iswrite) (u32_item (errno_number v.oer_errno)),
-      u64_long v.oer_comp_offset,
-      u64_long v.oer_comp_length,
-      bool_long v.oer_iswrite,
-      u32_long (errno_number v.oer_errno),
+      length-u64 v.oer_comp_offset,
+      length-u64 v.oer_comp_length,
+      length-bool v.oer_iswrite,
+      length-u32 (errno_number v.oer_errno),
     )
 
 errors_long : (vs : List IoErr) → AllByRecursion ErrorLong vs → length (flat_map ioerr_item vs) ≡ 56 * length vs
@@ -80,7 +65,7 @@ report_short report s =
     omega (
       arith,
       length-append (u32_item (length report)) (flat_map ioerr_item report),
-      u32_long (length report),
+      length-u32 (length report),
       errors_long report s.long,
       s.few,
     )

@@ -1,6 +1,7 @@
 -- What a call has the drives do leaves few components that timed out, and its reports are short.
 use Rattle.std.proofs.Common.{◌≡◌, ◌==◌, ◌≤◌, ℕ, ◌+◌, Bool, true, false, List, [], ◌∷◌, ◌++◌, Option, Some, None, length, slice_get, zero, suc, refl, arith, if◌then◌else◌}
 use Rattle.std.specs.List.{AllByRecursion}
+use Rattle.osd_lists.proofs.Tests.{second_false}
 use Rattle.data_map.specs.Check.{IsChecked}
 use Rattle.data_map.specs.Striping.{parities}
 use Rattle.stripe_plan.specs.Touched.{stripes}
@@ -26,7 +27,7 @@ use Rattle.exchange_law.proofs.Plans.{IsAsked, asks_in}
 use Rattle.exchange_law.proofs.PlaceSending.{firsts_fit, laters_fit, next_fit, queue_fit}
 use Rattle.ending_law.proofs.Ids.{IsLong}
 use Rattle.ending_law.proofs.Lengths.{ErrorLong, ReportShort}
-use Rattle.ending_law.proofs.Timed.{second_not, components, Rise, are_few, AskApart, StoreApart, AwaitedApart}
+use Rattle.ending_law.proofs.Timed.{components, Rise, are_few, AskApart, StoreApart, AwaitedApart}
 
 -- ---- what a client keeps
 
@@ -123,7 +124,7 @@ any_stripes (s ∷ ss) = (tt, any_stripes ss)
 
 not_back : (k : ℕ) (xs ys : List ℕ) → among k (xs ++ ys) ≡ false → among k ys ≡ false
 not_back k [] ys e = e
-not_back k (x ∷ xs) ys e = not_back k xs ys (second_not (x == k) (among k (xs ++ ys)) e)
+not_back k (x ∷ xs) ys e = not_back k xs ys (second_false (x == k) (among k (xs ++ ys)) e)
 
 asks_apart : (h : Held) → HeldShort h → (by : Aim) (r : Span) (timed : List TimedOut) (got : List Stretch)
     (ss : List ℕ) → AllByRecursion (AskApart timed) (asks by h.map r (outs h timed) got ss)

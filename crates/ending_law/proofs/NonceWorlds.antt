@@ -18,6 +18,7 @@ use Rattle.layout_ops.proofs.Whole.{all_again}
 use Rattle.server_rules.specs.Laws.{In}
 use Rattle.server_rules.specs.Layouts.{stateid_of}
 use Rattle.server_rules.specs.History.{step as server_step}
+use Rattle.server_rules.proofs.Members.{one_in}
 use Rattle.client_rules.specs.Envelopes.{by_envelope, message_in}
 use Rattle.client_rules.specs.Messages.{Message as ClientMessage, Answers, awaited_of}
 use Rattle.client_rules.specs.Requests.{grant_in}
@@ -45,7 +46,6 @@ use Rattle.world_history.specs.Moves.{Act, acts}
 use Rattle.world_history.specs.Sending.{Move, move}
 use Rattle.world_history.specs.Reading.{sent_in}
 use Rattle.history_law.proofs.DriveLines.{sent_read, view, shown_get}
-use Rattle.history_law.proofs.Histories.{opening, IsKept}
 use Rattle.history_law.specs.BookMoments.{IsMoment}
 use Rattle.exchange_law.specs.Doing.{IsHeardByClient, AreReplies, Nothing, OneReply, ClientGoes, Goes, Others, AServer, AClient, Stops, Comes}
 use Rattle.move_law.proofs.Goes.{moves_are_steps}
@@ -62,9 +62,10 @@ use Rattle.exchange_law.proofs.CountGrowing.{fewer}
 use Rattle.exchange_law.proofs.CountMoments.{at_moment}
 use Rattle.exchange_law.specs.Sent.{message_of}
 use Rattle.world_history.specs.declared.limits.TheConstants.{MAX_KEPT}
+use Rattle.world_history.proofs.Always.{opening, IsKept}
 use Rattle.ending_law.specs.Readable.{AnswersAreFit, NoncesFit, NoncesAreEnough}
 use Rattle.ending_law.proofs.Files.{few_there}
-use Rattle.ending_law.proofs.Objects.{one_in, same_bodies}
+use Rattle.ending_law.proofs.Objects.{same_bodies}
 use Rattle.ending_law.proofs.Nonces.{IsLow, AreLow, AreNamed}
 use Rattle.ending_law.proofs.NonceSteps.{HeardNamed, InputNamed, AnswerNamed, step_keeps}
 

@@ -9,6 +9,7 @@ use Rattle.client_rules.specs.declared.calls.Call.{Call}
 use Rattle.client_rules.specs.declared.grants.Held.{Held}
 use Rattle.client_rules.specs.Messages.{awaited_of}
 use Rattle.server_rules.specs.Laws.{In}
+use Rattle.server_rules.proofs.Members.{one_in}
 use Rattle.world_history.specs.declared.messages.Message.{Message}
 use Rattle.world_history.specs.declared.messages.Posted.{Posted}
 use Rattle.world_history.specs.State.{World}
@@ -16,8 +17,8 @@ use Rattle.world_history.specs.Handed.{Post}
 use Rattle.world_history.specs.Moves.{acts}
 use Rattle.world_history.specs.Sending.{Move, move}
 use Rattle.world_history.specs.Reading.{sent_in}
+use Rattle.world_history.proofs.Always.{opening, IsKept}
 use Rattle.history_law.proofs.DriveLines.{sent_read}
-use Rattle.history_law.proofs.Histories.{opening, IsKept}
 use Rattle.history_law.proofs.Growing.{history_grows}
 use Rattle.history_law.specs.BookMoments.{IsMoment}
 use Rattle.exchange_law.specs.PlaceAnswers.{AnswersFit}
@@ -48,11 +49,6 @@ all_posted (p ∷ ps) k = (k.0, all_posted ps k.1)
 all_more : (xs ys : List Message) → AllMessages xs → AllMessages ys → AllMessages (xs ++ ys)
 all_more [] ys k l = l
 all_more (x ∷ xs) ys k l = (k.0, all_more xs ys k.1 l)
-
-pub one_in : {A : Type 0} (P : A → Type 0) (xs : List A) (x : A) → AllByRecursion P xs → In x xs → P x
-one_in P [] x k i = absurd i
-one_in P (y ∷ xs) x k (inl e) = subst P (sym e) k.0
-one_in P (y ∷ xs) x k (inr i) = one_in P xs x k.1 i
 
 pub same_bodies : (ps : List Posted) → map (λ (p : Posted). p.message) ps ≡ bodies ps
 same_bodies [] = refl

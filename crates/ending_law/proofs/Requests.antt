@@ -15,8 +15,8 @@ use Rattle.world_history.specs.State.{World, ClientAt, at_number, empty_world}
 use Rattle.world_history.specs.Moves.{Action, Opens, Delivers, TimesOut, Pends, op_of}
 use Rattle.world_history.specs.Plans.{Rule, due_by}
 use Rattle.world_history.specs.Sending.{Move, move}
-use Rattle.history_law.proofs.DriveEvents.{never_opens}
-use Rattle.history_law.proofs.Histories.{opening, IsKept}
+use Rattle.world_history.proofs.Always.{opening, IsKept}
+use Rattle.world_history.proofs.ReadMessages.{never_opens}
 use Rattle.server_rules.specs.Slots.{slot_of}
 use Rattle.exchange_law.specs.Messages.{last_before}
 use Rattle.exchange_law.specs.InStep.{StandsAt, state_of, ClientsAreInStep}

@@ -22,7 +22,7 @@ use Rattle.client_rules.specs.Calls.{file_of, is_write}
 use Rattle.client_rules.specs.Requests.{grant_in}
 use Rattle.client_rules.specs.Results.{layouts_in}
 use Rattle.client_rules.specs.Layouts.{drive_of, key_of, with_key, with_capability, with_version, listed, all_listed, is_map, first_why, reach_of, fresh, is_lacking, enough, with_listed, unless_why, with_body, one_layout, in_layouts, taken}
-use Rattle.client_rules.proofs.TakenMaps.{taken_checked}
+use Rattle.client_rules.proofs.TakenMaps.{taken_checked, last_none, map_taken}
 use Rattle.history_law.proofs.Taking.{both_listed}
 use Rattle.ending_law.specs.State.{CallOp, Listed, Reach, Held, Why, Unreadable, Index, Partial, Secured, BadMap, BadCredential, Answer, RawMap}
 use Rattle.ending_law.proofs.Ids.{CredLong, whole_long}
@@ -85,21 +85,6 @@ few_map m e = elim (cases_lt MAX_FILE_COMPONENTS m.comps) [
     refuses true b e f = cc e
     refuses false true e f = cc e
     refuses false false e f = cc f
-
-last_none : (a b c d e : Bool) (v w x y z : Why)
-    → (if a then Some v else if b then Some w else if c then Some x else if d then Some y
-    else if not e then Some z else None) ≡ None → e ≡ true
-last_none true b c d e v w x y z n = absurd (cc n)
-last_none false true c d e v w x y z n = absurd (cc n)
-last_none false false true d e v w x y z n = absurd (cc n)
-last_none false false false true e v w x y z n = absurd (cc n)
-last_none false false false false true v w x y z n = refl
-last_none false false false false false v w x y z n = absurd (cc n)
-
-map_taken : (g : Reach) (size : ℕ) (op : CallOp) (l : Layout) → first_why g size op l ≡ None
-    → is_map l.olo_map ≡ true
-unfolding first_why
-map_taken g size op l e = last_none _ _ _ _ (is_map l.olo_map) Unreadable Index Partial Secured BadMap e
 
 -- ---- the grant
 

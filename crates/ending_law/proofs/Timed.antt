@@ -1,8 +1,9 @@
 -- Components that timed out rise, and stay below the limit of a grant's components.
 use Rattle.std.proofs.Common.{◌≡◌, ◌==◌, ◌≤◌, ◌<◌, ℕ, ◌+◌, Bool, true, false, ◌||◌, nat_lt, List, [], ◌∷◌, length, map, refl, sym, ◌∙◌, inl, inr, arith}
 use Rattle.std.specs.List.{AllByRecursion}
-use Rattle.std.proofs.lemmas.Bool.{cases_Bool, cases_lt, eq-eqb, lt-ltb, le-ltb}
+use Rattle.std.proofs.lemmas.Bool.{cases_Bool, cases_lt, eq-eqb, lt-ltb, le-ltb, or_from}
 use Rattle.std.proofs.lemmas.Bool.Decides.{nat_tests}
+use Rattle.osd_lists.proofs.Tests.{first_false, second_false}
 use Rattle.stripe_plan.specs.Lost.{among}
 use Rattle.ending_law.specs.State.{Awaited, TimedOut, Ask, Store}
 use Rattle.client_rules.specs.Commands.{before, of_component, not_of}
@@ -10,18 +11,6 @@ use Rattle.client_rules.specs.Io.{first_of, timed_with}
 use Rattle.client_rules.specs.Writes.{without_component}
 
 -- ---- tests
-
-pub first_not : (a b : Bool) → (a || b) ≡ false → a ≡ false
-first_not true b e = e
-first_not false b e = refl
-
-pub second_not : (a b : Bool) → (a || b) ≡ false → b ≡ false
-second_not true b e = absurd (cc e)
-second_not false b e = e
-
-neither : (a b : Bool) → a ≡ false → b ≡ false → (a || b) ≡ false
-neither true b e f = e
-neither false b e f = f
 
 differ : (a b : ℕ) → (a == b) ≡ false → a ≡ b → ⊥
 differ a b e s = cc (sym (eq-eqb a b s) ∙ e)
@@ -67,8 +56,8 @@ rise_with low t [] from new r = (from, new.0, omega (arith, new.0))
 rise_with low t (u ∷ us) from new r = elim (cases_lt t.ask.component u.ask.component) [
   | inl less ↦ rw (lt-ltb t.ask.component u.ask.component less) (from, new.0, (omega (arith, less), r.1, r.2))
   | inr past ↦
-      let other = first_not (u.ask.component == t.ask.component) _ new.1 in
-      let rest = second_not (u.ask.component == t.ask.component) _ new.1 in
+      let other = first_false (u.ask.component == t.ask.component) _ new.1 in
+      let rest = second_false (u.ask.component == t.ask.component) _ new.1 in
       rw (le-ltb t.ask.component u.ask.component past) (
         r.0,
         r.1,
@@ -81,11 +70,11 @@ rise_with low t (u ∷ us) from new r = elim (cases_lt t.ask.component u.ask.com
 pub apart_with : (k : ℕ) (t : TimedOut) (ts : List TimedOut) → (t.ask.component == k) ≡ false
     → among k (components ts) ≡ false → among k (components (timed_with t ts)) ≡ false
 unfolding timed_with
-apart_with k t [] e n = neither (t.ask.component == k) false e refl
+apart_with k t [] e n = or_from (t.ask.component == k) false e refl
 apart_with k t (u ∷ us) e n = elim (cases_Bool (nat_lt t.ask.component u.ask.component)) [
-  | inl less ↦ rw less (neither (t.ask.component == k) _ e n)
-  | inr past ↦ rw past (neither (u.ask.component == k) _ (first_not (u.ask.component == k) _ n)
-      (apart_with k t us e (second_not (u.ask.component == k) _ n)))
+  | inl less ↦ rw less (or_from (t.ask.component == k) _ e n)
+  | inr past ↦ rw past (or_from (u.ask.component == k) _ (first_false (u.ask.component == k) _ n)
+      (apart_with k t us e (second_false (u.ask.component == k) _ n)))
 ]
 
 -- ---- what is awaited of a component

@@ -12,8 +12,9 @@ use Rattle.world_history.specs.Runs.{world_after, lines_of, AreDue, plan_after, 
 use Rattle.world_history.specs.History.{Step, AreCarried, end_of, lines_of_steps, StandsFor, OneEventMore, Begins, Lawful}
 use Rattle.world_history.specs.History.Begins.{Nothing, Part}
 use Rattle.world_history.specs.Refusals.{refusal}
-use Rattle.history_law.proofs.Histories.{opening}
-use Rattle.history_law.proofs.DriveEvents.{never_opens}
+use Rattle.world_history.proofs.Always.{opening}
+use Rattle.world_history.proofs.ReadMessages.{never_opens}
+use Rattle.world_history.proofs.Runs.{world_more}
 use Rattle.history_law.specs.BookMoments.{IsMoment, lines_so_far, lines_in}
 use Rattle.move_law.proofs.Moments.{so_far_more}
 use Rattle.fencing_law.proofs.Ending.{next_moment}
@@ -54,11 +55,6 @@ due_split : (p : Plan) (w : World) (front : List Move) (m : Move) (back : List M
 due_split p w [] m back d = (tt, d.0)
 due_split p w (x ∷ front) m back d =
     let r = due_split (went_on p x.action) (move w x).world front m back d.1 in ((d.0, r.0), r.1)
-
-world_more : (w : World) (ms : List Move) (m : Move)
-    → world_after w (ms ++ m ∷ []) ≡ (move (world_after w ms) m).world
-world_more w [] m = refl
-world_more w (x ∷ ms) m = world_more (move w x).world ms m
 
 -- a history and what a front of the lines behind it leaves out
 cut_at : (h whole last rest lines : List Line) → h ≡ whole ++ last → lines ≡ last ++ rest → whole ++ lines ≡ h ++ rest

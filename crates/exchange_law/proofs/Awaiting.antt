@@ -11,6 +11,7 @@ use Rattle.exchange_law.specs.ClientNonces.{grant_of}
 use Rattle.exchange_law.proofs.Rising.{Each, IsAmong}
 use Rattle.server_rules.specs.Laws.{In}
 use Rattle.server_rules.specs.History.{step as server_step}
+use Rattle.server_rules.proofs.Members.{in_either}
 use Rattle.history_law.specs.State.{Client, Awaited, Outgoing, AnswersRecall, Asks, ToDrive}
 use Rattle.scenario_text.specs.declared.line.Line.{Line}
 use Rattle.world_history.specs.declared.messages.Body.{Body}
@@ -25,7 +26,7 @@ use Rattle.history_law.specs.BookMoments.{IsMoment, lines_in}
 use Rattle.exchange_law.proofs.Along.{at_moment}
 use Rattle.exchange_law.proofs.Turning.{sent_by, posted, body_in, AreSame, Turn, ByServer, ByClient, ByDrive, Makes, Stops, Rests, ClientDoes, DriveDoes}
 use Rattle.exchange_law.proofs.Turns.{acts_turn, messages_behind}
-use Rattle.exchange_law.proofs.Replied.{IsReplied, replied_on, drive_replied, in_either, addressed, from_server, from_client, none_posted}
+use Rattle.exchange_law.proofs.Replied.{IsReplied, replied_on, drive_replied, addressed, from_server, from_client, none_posted}
 use Rattle.exchange_law.proofs.CommandRead.{nonce_read, reply_carries}
 use Rattle.exchange_law.proofs.RefusalGiven.{AreOrdered}
 use Rattle.exchange_law.proofs.RefusalSending.{command_of}

@@ -2,6 +2,7 @@
 use Rattle.std.proofs.Common.{◌≡◌, ◌⊎◌, ◌==◌, ℕ, Bool, true, false, List, [], ◌∷◌, ◌++◌, Option, Some, None, filter, refl, subst, inl, inr, if◌then◌else◌}
 use Rattle.layout_ops.specs.declared.statuses.TheConstants.{NFS4_OK}
 use Rattle.server_rules.specs.Laws.{In}
+use Rattle.server_rules.proofs.Members.{in_either}
 use Rattle.history_law.specs.State.{CallOp, Held, Awaited, TimedOut, Io, Commit, Phase, Starts, Needs, Waits, Reads, Probes, Gathers, Scatters, Turn, Goes, Ends, Forgets, Moved, Answer, Reply, Span, Column, Store}
 use Rattle.client_rules.specs.declared.limits.TheConstants.{PERFORMED, OTHER_TAG}
 use Rattle.client_rules.specs.Commands.{others, not_of}
@@ -13,7 +14,6 @@ use Rattle.client_rules.specs.Writes.{accounted, is_past_size, written, scatters
 use Rattle.client_rules.specs.Replies.{refusal, refused_report, performed, refused, replied, gather_timed, scatter_timed, timed_out}
 use Rattle.client_rules.specs.Answers.{committed, not_committed, on_commit}
 use Rattle.client_rules.specs.Going.{begins}
-use Rattle.exchange_law.proofs.Replied.{in_either}
 
 -- what is awaited behind a turn
 abbrev pub awaited_by : Turn → List Awaited

@@ -12,19 +12,12 @@ use Rattle.client_rules.specs.Calls.{is_write, file_of}
 use Rattle.client_rules.specs.Requests.{grant_in}
 use Rattle.client_rules.specs.Results.{layouts_in}
 use Rattle.client_rules.specs.Layouts.{first_why, fresh, is_lacking, enough, with_listed, unless_why, with_body, reach_of, one_layout, in_layouts, taken}
+use Rattle.client_rules.proofs.TakenMaps.{same_grant, enough_same}
 
 -- a grant of this number under which nothing was sent
 pub record IsFresh (n : ℕ) (h : Held) : Type 0 where
   pub number : h.number ≡ n
   pub count : h.count ≡ 0
-
-same_grant : (b : Bool) (h k : Held) → (if b then Err BadCredential else Ok h) ≡ Ok k → k ≡ h
-same_grant true h k e = absurd (cc e)
-same_grant false h k e = cc e
-
-enough_same : (h k : Held) (op : CallOp) → enough h op ≡ Ok k → k ≡ h
-unfolding enough
-enough_same h k op e = same_grant ((is_write op || h.reach.rw) && is_lacking h op) h k e
 
 listed_fresh : (a : Answer) (n : ℕ) (op : CallOp) (g : Reach) (l : Layout) (o : Option (List Listed)) (h : Held) → with_listed a n op g l o ≡ Ok h → IsFresh n h
 listed_fresh a n op g l None h e = absurd (cc e)

@@ -13,22 +13,12 @@ use Rattle.exchange_law.specs.ClientState.{Held}
 use Rattle.client_rules.specs.Grants.{held_of, put_held, without_held}
 use Rattle.client_rules.specs.Commands.{nonce_at}
 use Rattle.client_rules.specs.Going.{held_after}
+use Rattle.client_rules.proofs.ReadSteps.{put_found}
 use Rattle.exchange_law.specs.ClientNonces.{grant_of, RiseInGrants}
 use Rattle.exchange_law.proofs.Rising.{Each, each_more, each_map, each_range, IsAmong, among_more, among_last, rises_more}
 use Rattle.exchange_law.proofs.ClientGiven.{IsFresh}
 
 -- ---- the grants that are held
-
-pub put_found : (hs : List Held) (k : Held) → held_of (put_held hs k) k.file ≡ Some k
-unfolding held_of put_held
-put_found [] k = rw (eq-eqb k.file k.file refl) refl
-put_found (g ∷ gs) k = elim (cases_eq g.file k.file) [
-  | inl same ↦ rw (eq-eqb g.file k.file same, eq-eqb k.file k.file refl) refl
-  | inr other ↦ elim (cases_Bool (nat_lt k.file g.file)) [
-    | inl u ↦ rw (ne_eqb g.file k.file other, u, eq-eqb k.file k.file refl) refl
-    | inr v ↦ rw (ne_eqb g.file k.file other, v, ne_eqb g.file k.file other) (put_found gs k)
-  ]
-]
 
 pub put_other : (hs : List Held) (k : Held) (f : ℕ) → k.file ≢ f → held_of (put_held hs k) f ≡ held_of hs f
 unfolding held_of put_held

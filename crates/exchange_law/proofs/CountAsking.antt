@@ -4,6 +4,7 @@ use Rattle.std.proofs.Common.{◌≡◌, ◌==◌, ℕ, ◌+◌, ◌≤◌, ◌+
 use Rattle.std.proofs.lemmas.Bool.{cases_Bool}
 use Rattle.std.proofs.lemmas.Bool.Decides.{nat_tests}
 use Rattle.std.proofs.lemmas.List.{length-append}
+use Rattle.osd_lists.proofs.Slices.{length_more}
 use Rattle.layout_ops.specs.declared.args.Args.{Args}
 use Rattle.layout_ops.specs.declared.args.Args.TheVariants as args
 use Rattle.client_rules.specs.declared.limits.TheConstants.{GREATEST_SEQUENCE}
@@ -166,9 +167,6 @@ numbered_on n next k = either (next == GREATEST_SEQUENCE) refl
     }
     either false is = record { few = omega (arith, k.few); spent = λ e. absurd (omega (arith, e)) }
 
-one_longer : (rs : List Request) (r : Request) → length (rs ++ r ∷ []) ≡ length rs + 1
-one_longer rs r = length-append rs (r ∷ [])
-
 requests_count : (n : ℕ) (d : Done) (file : ℕ) (a : Args) → Numbered (n + length d.requests) d.client.next
     → HeldsCount (n + length d.commands) d.client.held → (IsAnew d.client.call → d.commands ≡ [])
     → DoneCounts n (requests d file a)
@@ -177,7 +175,7 @@ requests_count n d file a r k s = record {
   requests =
       subst (λ (m : ℕ). Numbered m (after_number d.client.next))
       (let more : length (d.requests ++ request_of d.client file a ∷ []) ≡ length d.requests + 1 =
-      one_longer d.requests (request_of d.client file a) in omega (arith, more))
+      length_more d.requests (request_of d.client file a) in omega (arith, more))
       (numbered_on (n + length d.requests) d.client.next r);
   commands = after_counts (n + length d.commands) d.client.held file a k;
   anew = s;

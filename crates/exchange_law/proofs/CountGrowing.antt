@@ -3,6 +3,7 @@ use Rattle.std.specs.List.{AllByRecursion}
 use Rattle.std.proofs.Common.{◌≡◌, ℕ, zero, suc, ◌+◌, ◌≤◌, ◌++◌, ◌∷◌, [], List, false, Option, Some, None, length, fold, slice_get, slice_set, refl, sym, ap, subst, ◌∙◌, arith}
 use Rattle.std.proofs.lemmas.Grind.{fold-append}
 use Rattle.std.proofs.lemmas.List.{length-append, length-map}
+use Rattle.osd_lists.proofs.Slices.{length_set}
 use Rattle.scenario_text.specs.declared.event.Event.{Event}
 use Rattle.scenario_text.specs.declared.event.Event.TheVariants as event
 use Rattle.scenario_text.specs.declared.line.Line.{Line}
@@ -15,11 +16,6 @@ use Rattle.history_law.proofs.DriveLines.{sent_read}
 use Rattle.history_law.proofs.DriveEvents.{IsRead}
 use Rattle.history_law.proofs.Each.{EachBehind}
 use Rattle.exchange_law.specs.Text.{AreOfText, AreFew}
-
-length_set : (ss : List Sent) (n : ℕ) (s : Sent) → length (slice_set ss n s) ≡ length ss
-length_set [] n s = refl
-length_set (x ∷ ss) zero s = refl
-length_set (x ∷ ss) (suc n) s = ap suc (length_set ss n s)
 
 changed_length : (ss : List Sent) (n : ℕ) (change : Sent → Sent) (o : Option Sent)
     → length (changed_by ss n change o) ≡ length ss

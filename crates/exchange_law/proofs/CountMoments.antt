@@ -9,9 +9,10 @@ use Rattle.world_history.specs.Plans.{plan_of}
 use Rattle.world_history.specs.Refusals.{refusal}
 use Rattle.world_history.specs.Runs.{world_after, AreDue}
 use Rattle.world_history.specs.History.{StandsFor}
+use Rattle.world_history.proofs.Always.{IsKept}
 use Rattle.std.proofs.Common.{None}
 use Rattle.history_law.specs.HistoryMoments.{IsReached}
-use Rattle.history_law.proofs.Histories.{IsKept, stands, kept_part}
+use Rattle.history_law.proofs.Histories.{stands, kept_part}
 use Rattle.history_law.specs.BookMoments.{IsMoment, lines_so_far}
 
 module _ (P : World → List Line → Type 0) (k : IsKept P) where

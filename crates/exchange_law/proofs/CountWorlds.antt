@@ -21,9 +21,9 @@ use Rattle.world_history.specs.Moves.{Action, Opens, Delivers, TimesOut, Pends, 
 use Rattle.world_history.specs.Sending.{Move, move}
 use Rattle.world_history.specs.Plans.{Rule, due_by}
 use Rattle.world_history.specs.Book.{step_by, server_behind}
+use Rattle.world_history.proofs.Always.{opening, IsKept}
+use Rattle.world_history.proofs.ReadMessages.{never_opens}
 use Rattle.history_law.specs.Counters.{GrantsAreCounted}
-use Rattle.history_law.proofs.Histories.{opening, IsKept}
-use Rattle.history_law.proofs.DriveEvents.{never_opens}
 use Rattle.history_law.specs.Doing.{heard_of, brought_to, brought, input_in}
 use Rattle.history_law.proofs.Doing.{acts_serve}
 use Rattle.exchange_law.specs.Text.{AreOfText}

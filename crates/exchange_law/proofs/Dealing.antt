@@ -17,7 +17,7 @@ use Rattle.world_history.specs.declared.messages.Posted.{Posted}
 use Rattle.world_history.specs.State.{Body, ClientAt, World, at_number, with_number, with_client}
 use Rattle.world_history.specs.Handed.{Post, plain, is_addressed, quiet, server_post, client_posts, client_body, for_client}
 use Rattle.world_history.specs.Moves.{Act, Action, adds_client, acts}
-use Rattle.job_law.proofs.Lists.{in_mapped, in_filtered}
+use Rattle.server_rules.proofs.Members.{in_mapped, in_filtered}
 use Rattle.fencing_law.proofs.Moves.{messages_in}
 use Rattle.move_law.specs.Moves.{IsForClient, MoveCases}
 use Rattle.move_law.proofs.Moves.{each_act}

@@ -2,7 +2,7 @@
 use Rattle.std.proofs.Common.{◌≡◌, ◌==◌, ◌<◌, ◌≤◌, ℕ, zero, suc, ◌+◌, ◌-◌, ◌*◌, ◌/◌, ◌%◌, ◌&&◌, not, Bool, true, false, List, [], ◌∷◌, Option, Some, None, length, slice_get, filter, refl, sym, ap, subst, ◌∙◌, arith, inl, inr, if◌then◌else◌}
 use Rattle.std.specs.Prelude.{is_none}
 use Rattle.std.specs.List.{range_with_len}
-use Rattle.std.proofs.lemmas.Bool.{cases_Bool, cases_eq, lt-ltb, ltb-true, eq-eqb, ne_eqb, eqb-true}
+use Rattle.std.proofs.lemmas.Bool.{cases_Bool, cases_eq, lt-ltb, ltb-true, eq-eqb, ne_eqb, eqb-true, and_parts}
 use Rattle.std.proofs.lemmas.Nat.{div-add-mod', div-mul-add}
 use Rattle.std.proofs.lemmas.Option.{slice_get_cases}
 use Rattle.std.proofs.Math.Nat.{add-mul, mod-lt, mul-le-mul_right}
@@ -86,11 +86,6 @@ record IsReplica (m : RawMap) (p : ℕ) (cs : List Component) (k : ℕ) : Type 0
   present : at.missing ≡ false
   position : (k + place) / replicas m ≡ p
 
-both_true : (a b : Bool) → (a && b) ≡ true → (a ≡ true) × (b ≡ true)
-both_true true true e = (refl, refl)
-both_true true false e = absurd (cc e)
-both_true false b e = absurd (cc e)
-
 not_true : (b : Bool) → not b ≡ true → b ≡ false
 not_true true e = absurd (cc e)
 not_true false e = refl
@@ -101,7 +96,7 @@ unfolding replica_from
 is_replica m p [] k n e = absurd (cc e)
 is_replica m p (at ∷ cs) k n e = elim (cases_Bool (not at.missing && (k / replicas m == p))) [
   | inl t ↦
-      let w = both_true (not at.missing) (k / replicas m == p) t in
+      let w = and_parts (not at.missing) (k / replicas m == p) t in
       let same : k + 0 ≡ k = omega arith in
       record {
         place = 0;

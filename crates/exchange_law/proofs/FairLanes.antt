@@ -1,6 +1,7 @@
 -- Whose lanes the objects of drives have where nothing is forged, in the words of the lines.
 use Rattle.std.proofs.Common.{◌≡◌, ◌⊎◌, ℕ, ◌<◌, List, [], Bool, true, false, ◌||◌, refl, sym, subst, inl, inr}
 use Rattle.std.proofs.lemmas.List.{append-nil}
+use Rattle.osd_lists.proofs.Tests.{first_false}
 use Rattle.osd_commands.specs.declared.commands.Command.{Command}
 use Rattle.osd_drive.specs.Table.{has_no_right}
 use Rattle.osd_objects.specs.declared.lanes.LaneEntry.{LaneEntry}
@@ -20,10 +21,6 @@ use Rattle.exchange_law.proofs.Sources.{AreKnown, lines_known}
 use Rattle.exchange_law.proofs.FairSources.{CarriesGiven, IsFair, fair_more, lines_fair}
 use Rattle.exchange_law.proofs.LaneLines.{LeftBy, AreLeft, lanes_are_left}
 use Rattle.exchange_law.proofs.LanesLaw.{is_own, holder_of}
-
-first_false : (a b : Bool) → (a || b) ≡ false → a ≡ false
-first_false true b not = absurd (cc not)
-first_false false b not = refl
 
 -- what carries what was given, and has the right that it needs
 listed : (h : List Line) (client : ℕ) (y : Command) → AllCarry (sent_in h) → has_no_right y ≡ false

@@ -2,6 +2,7 @@
 use Rattle.std.proofs.Common.{◌≡◌, ℕ, zero, suc, ◌≤◌, ◌++◌, ◌∷◌, [], List, false, Option, Some, None, length, fold, slice_get, slice_set, refl, sym, ap, subst, arith}
 use Rattle.std.proofs.lemmas.List.Sums.{fold-append}
 use Rattle.std.proofs.lemmas.List.{length-append}
+use Rattle.osd_lists.proofs.Slices.{length_set}
 use Rattle.scenario_text.specs.declared.event.Event.{Event}
 use Rattle.scenario_text.specs.declared.event.Event.TheVariants as event
 use Rattle.scenario_text.specs.declared.line.Line.{Line}
@@ -9,11 +10,6 @@ use Rattle.scenario_text.specs.declared.line.Line.TheVariants as line
 use Rattle.world_history.specs.declared.messages.Sent.{Sent}
 use Rattle.world_history.specs.Reading.{arrived, left_out, changed_by, sent_after_event, sent_after, sent_in}
 use Rattle.exchange_law.specs.Awaited.{AreFew}
-
-length_set : (ss : List Sent) (n : ℕ) (s : Sent) → length (slice_set ss n s) ≡ length ss
-length_set [] n s = refl
-length_set (x ∷ ss) zero s = refl
-length_set (x ∷ ss) (suc n) s = ap suc (length_set ss n s)
 
 changed_length : (ss : List Sent) (n : ℕ) (change : Sent → Sent) (o : Option Sent)
     → length (changed_by ss n change o) ≡ length ss

@@ -16,14 +16,16 @@ use Rattle.world_history.specs.Handed.{Post, server_post, server_body}
 use Rattle.server_rules.specs.Envelopes.{receiver}
 use Rattle.osd_lists.specs.declared.node.Node.{Node}
 use Rattle.osd_lists.specs.declared.node.Node.TheVariants as node
+use Rattle.osd_lists.proofs.Slices.{found_more}
 use Rattle.world_history.specs.Moves.{acts}
 use Rattle.world_history.specs.Sending.{Move, move, sent_line, sent_lines}
 use Rattle.world_history.specs.Book.{step_by, server_behind}
 use Rattle.world_history.specs.Reading.{arrived, left_out, changed_by, sent_after, sent_after_event, sent_in}
+use Rattle.world_history.proofs.Always.{opening, IsKept}
 use Rattle.history_law.proofs.DriveLines.{sent_read}
-use Rattle.history_law.proofs.Coming.{found_more, found_set, sent_behind}
+use Rattle.history_law.proofs.Coming.{found_set, sent_behind}
 use Rattle.history_law.proofs.Each.{EachBehind, each_more, each_front}
-use Rattle.history_law.proofs.Histories.{opening, IsKept, lawful}
+use Rattle.history_law.proofs.Histories.{lawful}
 use Rattle.history_law.proofs.Issuing.{IsSilent, AreSilent}
 use Rattle.history_law.proofs.IssuingMoves.{acts_known}
 use Rattle.history_law.proofs.IssueLines.{IsKnown, all_known}

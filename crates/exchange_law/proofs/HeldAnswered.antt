@@ -1,6 +1,6 @@
 -- The answer that the server makes of a call's LAYOUTGET or LAYOUTCOMMIT is good for the call.
 use Rattle.std.proofs.Common.{◌≡◌, ◌⊎◌, ◌<◌, ◌≤◌, ◌==◌, ◌&&◌, ◌||◌, ◌*◌, ◌+◌, ◌-◌, ℕ, min, max, nat_lt, nat_le, length, Bool, true, false, List, Option, Some, None, Result, Ok, Err, inl, inr, arith, refl, sym, ap, subst, ◌∙◌, if◌then◌else◌}
-use Rattle.std.proofs.lemmas.Bool.{cases_eq, eq-eqb, ne_eqb, eqb-false, lt-ltb, le-leb, leb-true, ltb-true}
+use Rattle.std.proofs.lemmas.Bool.{cases_eq, eq-eqb, ne_eqb, eqb-false, lt-ltb, le-leb, leb-true, ltb-true, and_parts}
 use Rattle.data_map.specs.declared.ranges.TheConstants.{MAX_FILE_SIZE}
 use Rattle.data_map.specs.Striping.{stripe_length}
 use Rattle.layout_types.specs.declared.err.LayoutErr.{LayoutErr}
@@ -122,10 +122,6 @@ pub args_of_commit : (h : Held) (op : CallOp) (q : ClientRequest) → asked_in (
     → AsksCommit (Some ((span_of op).offset + (span_of op).length - 1)) ≡ q.args
 args_of_commit h op q e = by_update _ (whole update_in (commit_of h.number (span_of op)).body) q.args e
 
-both : (a b : Bool) → (a && b) ≡ true → (a ≡ true) × (b ≡ true)
-both true b e = (refl, e)
-both false b e = absurd (cc e)
-
 extends_past : (e : Bool) (x y : ℕ) → (e || nat_le x y) ≡ true → nat_lt y x ≡ true → e ≡ true
 extends_past true x y c p = refl
 extends_past false x y c p = absurd (omega (arith, leb-true x y c, ltb-true y x p))
@@ -140,9 +136,9 @@ unfolding is_for covers_write may_commit
 commit_inside m g h (Read file offset count) agrees is writes passes = absurd (cc writes.0)
 commit_inside m g h (Write file offset bytes) agrees is writes passes =
     let n : ℕ = length bytes in
-    let covered = both h.reach.rw _ writes.1 in
-    let more = both (contains h.reach (record { offset = offset; length = n })) _ covered.1 in
-    let inside = both (nat_le h.reach.first offset) (nat_le (offset + n) h.reach.end) more.0 in
+    let covered = and_parts h.reach.rw _ writes.1 in
+    let more = and_parts (contains h.reach (record { offset = offset; length = n })) _ covered.1 in
+    let inside = and_parts (nat_le h.reach.first offset) (nat_le (offset + n) h.reach.end) more.0 in
     let extends : g.extending ≡ true =
     sym agrees.extending ∙ extends_past h.reach.extending (offset + n) h.size more.1 passes in
     let some : 0 < n = some_bytes n is.some in

@@ -11,6 +11,7 @@ use Rattle.layout_ops.specs.declared.args.Args.TheVariants as args
 use Rattle.layout_ops.specs.declared.statuses.TheConstants.{NFS4_OK}
 use Rattle.layout_ops.specs.declared.messages.Answer.{Answer}
 use Rattle.osd_lists.specs.declared.node.Node.TheVariants.{Client as FromClient}
+use Rattle.osd_lists.proofs.Options.{same_some}
 use Rattle.world_history.specs.ClientNames.{Client, Call, CallOp, Held, Request, Need, First, Get, Commit, Report, Close, Phase, Starts, Needs, Waits, Reads as ReadsOn, Probes, Gathers, Scatters, RawMap}
 use Rattle.client_rules.specs.Calls.{file_of}
 use Rattle.client_rules.specs.Grants.{held_of}
@@ -41,9 +42,6 @@ use Rattle.exchange_law.proofs.HeldSteps.{put_gives, Did, Quiet, Asked, step_did
 use Rattle.exchange_law.proofs.HeldAnswered.{none_good, no_file_good, call_told, args_of_commit, commit_good, no_file_commit}
 use Rattle.exchange_law.proofs.HeldTaken.{its_grant, told_for, given_is_taken}
 use Rattle.exchange_law.proofs.Meeting.{good_over, client_over, quiet_met}
-
-same_some : {A : Type 0} (x y : A) (o : Option A) → o ≡ Some x → o ≡ Some y → x ≡ y
-same_some x y o e f = cc (sym e ∙ f)
 
 -- ---- the outstanding request
 

@@ -4,6 +4,7 @@ use Rattle.std.proofs.lemmas.List.{append-nil}
 use Rattle.std.proofs.lemmas.Bool.{cases_eq, eq-eqb, ne_eqb}
 use Rattle.osd_lists.specs.declared.node.Node.{Node}
 use Rattle.osd_lists.specs.declared.node.Node.TheVariants as node
+use Rattle.osd_lists.proofs.Options.{same_some}
 use Rattle.layout_ops.specs.declared.envelope.Envelope.TheVariants as envelope
 use Rattle.layout_ops.specs.Spelling.{EnvelopeFits}
 use Rattle.layout_ops.proofs.Whole.{all_again}
@@ -52,9 +53,6 @@ use Rattle.exchange_law.proofs.HeldMoving.{IsSame}
 use Rattle.exchange_law.proofs.HeldGoing.{Rules, StepFine}
 use Rattle.exchange_law.proofs.HeldStepping.{IsGoodInput, step_fine}
 use Rattle.exchange_law.proofs.HeldAsking.{IsOwn, step_met}
-
-same_some : {A : Type 0} (x y : A) (o : Option A) → o ≡ Some x → o ≡ Some y → x ≡ y
-same_some x y o e f = cc (sym e ∙ f)
 
 -- ---- one client
 

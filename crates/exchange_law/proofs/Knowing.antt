@@ -6,7 +6,7 @@ use Rattle.osd_lists.specs.declared.node.Node.{Node}
 use Rattle.osd_lists.specs.declared.node.Node.TheVariants as node
 use Rattle.osd_commands.specs.declared.commands.Command.{Command}
 use Rattle.server_rules.specs.Laws.{In}
-use Rattle.job_law.proofs.Lists.{in_mapped}
+use Rattle.server_rules.proofs.Members.{in_mapped}
 use Rattle.exchange_law.specs.ClientState.{Outgoing, AnswersRecall, Asks, ToDrive}
 use Rattle.scenario_text.specs.declared.event.Event.{Event}
 use Rattle.scenario_text.specs.declared.line.Party.TheVariants as party
@@ -27,6 +27,7 @@ use Rattle.world_history.specs.History.{StandsFor, Begins, Lawful, OneEventMore}
 use Rattle.world_history.specs.History.Begins.{Nothing, Part}
 use Rattle.world_history.specs.Laws.{shown}
 use Rattle.world_history.specs.Refusals.{refusal}
+use Rattle.world_history.proofs.Parties.{party_drive, party_client}
 use Rattle.history_law.proofs.Histories as histories
 use Rattle.history_law.specs.BookMoments.{IsMoment, lines_so_far}
 use Rattle.fencing_law.proofs.LaneLines.{in_get}
@@ -116,22 +117,6 @@ all_commands = record {
 
 -- ---- a message that is read off the lines
 
-client_party : (n : Node) (c : ℕ) → party_of n ≡ party.Client c → n ≡ node.Client c
-client_party (node.Client k) c e = ap node.Client (same e)
-  where
-    same : party.Client k ≡ party.Client c → k ≡ c
-    same f = cc f
-client_party node.Server c e = absurd (cc e)
-client_party (node.Drive d) c e = absurd (cc e)
-
-drive_party : (n : Node) (d : ℕ) → party_of n ≡ party.Drive d → n ≡ node.Drive d
-drive_party (node.Drive k) d e = ap node.Drive (same e)
-  where
-    same : party.Drive k ≡ party.Drive d → k ≡ d
-    same f = cc f
-drive_party node.Server d e = absurd (cc e)
-drive_party (node.Client c) d e = absurd (cc e)
-
 in_message : (p : Posted) (ps : List Posted) → In p ps → In p.message (map (λ (q : Posted). q.message) ps)
 in_message p [] j = absurd j
 in_message p (q ∷ ps) (inl e) = inl (ap (λ (z : Posted). z.message) e)
@@ -150,8 +135,8 @@ was_sent further w h k n m c d read there from to =
     let r = in_mapped shown m w.network.messages
     (in_get (map shown w.network.messages) n m (ap (λ (ss : List Sent). slice_get ss n) (sym read) ∙ there)) in
     let p = r.0.message in
-    let by = client_party p.from c (ap (λ (z : Sent). z.from) (sym r.2) ∙ from) in
-    let for = drive_party p.to d (ap (λ (z : Sent). z.to) (sym r.2) ∙ to) in
+    let by = party_client p.from c (ap (λ (z : Sent). z.from) (sym r.2) ∙ from) in
+    let for = party_drive p.to d (ap (λ (z : Sent). z.to) (sym r.2) ∙ to) in
     let i = in_message r.0 w.network.messages r.1 in
     let x = moment further (λ v ls. SendCommands v) all_commands w h k p c d i by for in
     record {

@@ -1,7 +1,7 @@
 -- A client in the middle of a step keeps what holds of its grants and of what its call awaits.
 use Rattle.std.proofs.Common.{◌≡◌, ℕ, Bool, true, false, List, [], map, Option, Some, None, refl, sym, subst, ◌∙◌, inl, inr, if◌then◌else◌}
 use Rattle.server_rules.specs.Laws.{In}
-use Rattle.job_law.proofs.Lists.{in_either, in_mapped}
+use Rattle.server_rules.proofs.Members.{in_either, in_mapped}
 use Rattle.exchange_law.specs.ClientState.{Client, Call, CallOp, Held, Due, Awaited, Need, First, Get, Phase, Starts, Needs, Waits, Reads, Probes, Gathers, Scatters, Turn, Goes, Ends, Forgets, Moved, Done, AnswersRecall, Asks, ToDrive, Request, Command}
 use Rattle.client_rules.specs.Calls.{file_of}
 use Rattle.client_rules.specs.Grants.{covers, held_of, put_held}
@@ -11,9 +11,8 @@ use Rattle.client_rules.specs.Going.{quiet, with_held, by_turn, moved, begins, s
 use Rattle.client_rules.specs.Messages.{Step, still, to_drive, sends_of, closed, finished}
 use Rattle.client_rules.specs.Laws.{IsNumbered}
 use Rattle.client_rules.proofs.Numbering.{nonces_rise}
+use Rattle.client_rules.proofs.ReadSteps.{held_file, put_found}
 use Rattle.exchange_law.proofs.Kept.{FairPhase, FairTurn, IsKept, begins_kept}
-use Rattle.exchange_law.proofs.ClientKeeping.{put_found}
-use Rattle.exchange_law.proofs.Numbers.{held_file}
 use Rattle.exchange_law.proofs.LaneMoves.{IsOf, AreOf, PhaseFine, PhaseWell, TurnWell, MovedWell, phase_well, begins_well}
 use Rattle.exchange_law.proofs.LaneGrowing.{With, AreLatest, of_same, all_of, moved_latest}
 use Rattle.exchange_law.proofs.Fine.{HeldsFine, CallFine, AreSent, ClientFine, fewer, fewer_helds, without_fine, after_fine, moved_helds}

@@ -5,7 +5,7 @@ use Rattle.std.specs.Prelude.{unwrap_or}
 use Rattle.std.specs.List.{range_with_len}
 use Rattle.osd_drive.specs.Table.{is_mutating}
 use Rattle.server_rules.specs.Laws.{In}
-use Rattle.job_law.proofs.Lists.{in_map}
+use Rattle.server_rules.proofs.Members.{in_map}
 use Rattle.exchange_law.specs.ClientState.{Held, Awaited, Listed, Command, Phase, Starts, Needs, Waits, Reads, Probes, Gathers, Scatters, Moved}
 use Rattle.client_rules.specs.Requests.{object_of, id_in}
 use Rattle.client_rules.specs.Commands.{credential_in, credential_of, no_credential, nonce_at}

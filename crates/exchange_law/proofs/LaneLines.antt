@@ -36,11 +36,11 @@ use Rattle.world_history.specs.Told.{told_verdict}
 use Rattle.world_history.specs.Drives.{verdict_on, judges, made_drive}
 use Rattle.world_history.specs.Reading.{is_drive, sent_in}
 use Rattle.world_history.specs.ReadDrives.{DriveSeen, sees_drive, drive_seen, drive_after, drive_after_event, drive_after_line, hears_bytes, hears_sent}
+use Rattle.world_history.proofs.DriveLines.{drive_line, same_drive, unheard}
 use Rattle.history_law.specs.Judging.{Judges, JudgesAt, injected_in}
 use Rattle.history_law.specs.Safe.{AtEachLine}
 use Rattle.history_law.proofs.Each.{EachBehind, HoldsAt, judges_of}
 use Rattle.history_law.proofs.DriveLines.{sent_same}
-use Rattle.history_law.proofs.Coming.{same_drive}
 use Rattle.exchange_law.specs.Lanes.{HoldersDiffer}
 use Rattle.exchange_law.proofs.LaneLists.{in_with, with_differ}
 use Rattle.exchange_law.proofs.Sources.{Source, SourceAt}
@@ -125,22 +125,6 @@ lanes_from action.SetTag s c is q y e =
     (λ x. refl) q y e
 
 -- ---- lines and messages
-
-drive_line : (before : List Line) (l : Line) (d : ℕ)
-    → drive_after (before ++ l ∷ []) d ≡ drive_after_line d (drive_seen d before) l
-drive_line before l d = ap (λ (x : DriveSeen). x.drive) (fold-append (sees_drive d) _ before (l ∷ []))
-
-unheard : (d : ℕ) (o : Option DriveAt) (m : Sent)
-    → ((a : DriveAt) → m.to ≡ party.Drive d → o ≡ Some a → a.failed ≡ true) → hears_sent d o (Some m) ≡ o
-unheard d o m deaf = either (is_drive d m.to) (λ e. same_drive d m.to e) o deaf
-  where
-    either : (b : Bool) → (b ≡ true → m.to ≡ party.Drive d) → (p : Option DriveAt)
-        → ((a : DriveAt) → m.to ≡ party.Drive d → p ≡ Some a → a.failed ≡ true)
-        → (if b then option_map (hears_bytes m.bytes) p else p) ≡ p
-    either true to None failed = refl
-    either true to (Some a) failed =
-        ap (λ (f : Bool). Some (if f then a else (judges a (reading m.bytes)).drive)) (failed a (to refl) refl)
-    either false to p failed = refl
 
 delivered_source : (S : Source) (before : List Line) (n : ℕ) (x : ToldVerdict) → x ≡ told.Perform
     → SourceAt S before (line.Delivered n (delivery.Judged x))

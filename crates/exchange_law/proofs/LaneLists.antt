@@ -5,12 +5,13 @@ use Rattle.std.specs.List.{position_or_len}
 use Rattle.std.proofs.lemmas.Bool.{cases_eq, cases_lt}
 use Rattle.std.proofs.lemmas.Bool.Decides.{nat_tests}
 use Rattle.std.proofs.lemmas.List.Quantifiers.{position-Some}
+use Rattle.osd_lists.proofs.Tests.{nat_same}
 use Rattle.osd_objects.specs.declared.lanes.LaneEntry.{LaneEntry}
 use Rattle.osd_objects.specs.Lanes.{place_of, put_at, with_lane}
 use Rattle.server_rules.specs.declared.limits.TheConstants.{SERVER_HOLDER}
 use Rattle.server_rules.specs.Laws.{In}
+use Rattle.server_rules.proofs.Members.{in_either}
 use Rattle.scenario_text.specs.declared.names.TheConstants.{CLIENTS}
-use Rattle.job_law.proofs.Lists.{in_either}
 use Rattle.exchange_law.specs.Lanes.{NoneHolds, HoldersDiffer}
 
 pub none_in : (q : ℕ) (ls : List LaneEntry) (l : LaneEntry) → NoneHolds q ls → In l ls → l.holder ≡ q → ⊥
@@ -79,14 +80,11 @@ none_there q ls e = elim (cases_lt (position_or_len (λ l. nat_eq l.holder q) ls
   | inr from ↦ past_all q ls from
 ]
 
-same_holder : (a b : ℕ) → nat_eq a b ≡ true → a ≡ b
-same_holder a b e = grind (arith, e, nat_tests)
-
 put_differ : (ls : List LaneEntry) (y : LaneEntry) (o : Option ℕ) → place_of ls y.holder ≡ o → HoldersDiffer ls
     → HoldersDiffer (put_at ls y o)
 put_differ ls y (Some i) e d =
     let p = position-Some (λ l. nat_eq l.holder y.holder) ls i y e in
-    set_differ ls i y (same_holder (get_or ls i y).holder y.holder p.1) d
+    set_differ ls i y (nat_same (get_or ls i y).holder y.holder p.1) d
 put_differ ls y None e d = more_differ ls y d (none_there y.holder ls e)
 
 pub with_differ : (ls : List LaneEntry) (y : LaneEntry) → HoldersDiffer ls → HoldersDiffer (with_lane ls y)

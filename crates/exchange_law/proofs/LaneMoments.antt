@@ -10,6 +10,7 @@ use Rattle.world_history.specs.Plans.{Plan, due, went_on, plan_of}
 use Rattle.world_history.specs.Runs.{world_after, lines_of, AreDue, plan_after, IsOver, Carries}
 use Rattle.world_history.specs.History.{Step, AreCarried, end_of, lines_of_steps, StandsFor, OneEventMore}
 use Rattle.world_history.specs.Refusals.{refusal}
+use Rattle.world_history.proofs.Runs.{due_more, plan_more}
 use Rattle.history_law.specs.BookMoments.{IsMoment, plan_at, lines_so_far, lines_in}
 use Rattle.move_law.proofs.Moments.{so_far_more}
 
@@ -18,18 +19,9 @@ pub record IsKept (P : World → List Line → Type 0) : Type 0 where
   pub moves : (w : World) (h : List Line) (k : IsMoment w h) (m : Move) → due (plan_at k) w ≡ Some m.action → P w h
       → P (move w m).world (h ++ lines_in w m)
 
-plan_more : (p : Plan) (ms : List Move) (m : Move) → plan_after p (ms ++ m ∷ []) ≡ went_on (plan_after p ms) m.action
-plan_more p [] m = refl
-plan_more p (x ∷ ms) m = plan_more (went_on p x.action) ms m
-
 world_more : (w : World) (ms : List Move) (m : Move) → (move (world_after w ms) m).world ≡ world_after w (ms ++ m ∷ [])
 world_more w [] m = refl
 world_more w (x ∷ ms) m = world_more (move w x).world ms m
-
-due_more : (p : Plan) (w : World) (ms : List Move) (m : Move) → AreDue p w ms
-    → due (plan_after p ms) (world_after w ms) ≡ Some m.action → AreDue p w (ms ++ m ∷ [])
-due_more p w [] m a d = (d, tt)
-due_more p w (x ∷ ms) m a d = (a.0, due_more (went_on p x.action) (move w x).world ms m a.1 d)
 
 module _ (further : OneEventMore) (P : World → List Line → Type 0) (kept : IsKept P) where
   module _ (v : World) (h : List Line) (e : Event) (s : StandsFor v h) (allowed : refusal v e ≡ None) where

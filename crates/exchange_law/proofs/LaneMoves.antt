@@ -3,7 +3,7 @@ use Rattle.std.proofs.Common.{◌≡◌, ◌⊎◌, ℕ, ◌+◌, ◌==◌, Bool
 use Rattle.osd_drive.specs.Table.{is_mutating}
 use Rattle.layout_ops.specs.declared.statuses.TheConstants.{NFS4_OK}
 use Rattle.server_rules.specs.Laws.{In}
-use Rattle.job_law.proofs.Lists.{in_behind, in_either, in_filtered}
+use Rattle.server_rules.proofs.Members.{in_behind, in_either, in_filtered}
 use Rattle.exchange_law.specs.ClientState.{CallOp, Held, Awaited, TimedOut, Io, Commit, Phase, Starts, Needs, Waits, Reads, Probes, Gathers, Scatters, Outcome, Silent, Turn, Goes, Ends, Forgets, Moved, Answer, Reply, Span, Ask, Column, Store}
 use Rattle.client_rules.specs.Results.{status_of}
 use Rattle.client_rules.specs.Requests.{object_of, report_of}

@@ -5,7 +5,7 @@ use Rattle.osd_lists.specs.declared.node.Node.{Node}
 use Rattle.osd_lists.specs.declared.node.Node.TheVariants.{Server as FromServer, Drive as FromDrive, Client as FromClient}
 use Rattle.layout_ops.specs.declared.statuses.TheConstants.{NFS4_OK}
 use Rattle.server_rules.specs.Laws.{In}
-use Rattle.job_law.proofs.Lists.{in_either}
+use Rattle.server_rules.proofs.Members.{in_either}
 use Rattle.exchange_law.specs.ClientState.{Client, Call, CallOp, CallErr, Busy, BadRange, SlotSpent, Held, Awaited, TimedOut, Need, First, Get, Commit, Report, Close, Phase, Starts, Needs, Waits, Reads, Probes, Gathers, Scatters, Outcome, WriteOk, Why, Turn, Goes, Ends, Done, ToDrive, Request, Answer, Recall, Reply, Command}
 use Rattle.client_rules.specs.Calls.{file_of, span_of}
 use Rattle.client_rules.specs.Grants.{held_of, put_held}

@@ -5,7 +5,7 @@ use Rattle.std.proofs.lemmas.List.{append-nil}
 use Rattle.osd_lists.specs.declared.node.Node.{Node}
 use Rattle.osd_lists.specs.declared.node.Node.TheVariants as node
 use Rattle.server_rules.specs.Laws.{In}
-use Rattle.job_law.proofs.Lists.{in_either, in_mapped}
+use Rattle.server_rules.proofs.Members.{in_either, in_mapped}
 use Rattle.exchange_law.specs.ClientState.{Client, Call, Held, Awaited, Outgoing, AnswersRecall, Asks, ToDrive, Answer, Reply, Command, Request}
 use Rattle.client_rules.specs.Grants.{held_of}
 use Rattle.client_rules.specs.Io.{awaited_in}

@@ -4,15 +4,18 @@ use Rattle.std.proofs.Common.{◌≡◌, ℕ, zero, suc, ◌+◌, ◌-◌, ◌*�
 use Rattle.std.proofs.lemmas.List.{length-append, length-replicate}
 use Rattle.std.proofs.lemmas.List.Concat.{flat_map-cons}
 use Rattle.hmac_tags.specs.Mac.{hmac, hmac_sha1, hmac_sha256}
+use Rattle.hmac_tags.proofs.Lengths.{long_sha1, long_sha256}
 use Rattle.sha1.specs.Sha1.{sha1, digest_bytes as sha1_bytes}
 use Rattle.sha2.specs.Sha256.{sha256, digest_bytes as sha256_bytes}
 use Rattle.xdr_codec.specs.Items.{padded, u32_item, u64_item, fixed_item, opaque_item}
+use Rattle.xdr_codec.proofs.ItemLaws.{length-u32, length-u64}
 use Rattle.data_map.specs.declared.check.RawMap.{RawMap}
 use Rattle.layout_types.specs.declared.objid.ObjId.{ObjId}
 use Rattle.layout_types.specs.declared.cred.ObjectCred.{ObjectCred}
 use Rattle.layout_types.specs.Enumerations.{version_number, security_number}
 use Rattle.layout_types.specs.Grammar.{list_item}
 use Rattle.layout_types.specs.Spelling.{CredFits, LayoutFits, objid_item, cred_item, map_item}
+use Rattle.layout_types.proofs.Lengths.{length-objid}
 use Rattle.osd_capability.specs.declared.keys.CapKey.TheVariants.{One, Two}
 use Rattle.osd_capability.specs.declared.layout.TheConstants.{FORMAT_SHA256}
 use Rattle.osd_capability.proofs.LayoutLaws.{length-spelling}
@@ -25,14 +28,6 @@ use Rattle.exchange_law.proofs.Parts.{PartsFit}
 use Rattle.exchange_law.proofs.Ranges.{map_fits, capability_fits}
 
 -- ---- keys
-
-long_sha1 : (key text : List ℕ) → length (hmac_sha1 key text) ≡ 20
-unfolding hmac sha1 sha1_bytes
-long_sha1 key text = refl
-
-long_sha256 : (key text : List ℕ) → length (hmac_sha256 key text) ≡ 32
-unfolding hmac sha256 sha256_bytes
-long_sha256 key text = refl
 
 short_key : (b : Bool) (key text : List ℕ)
     → length (key_bytes (if b then Two (hmac_sha256 key text) else One (hmac_sha1 key text))) ≤ 32
@@ -134,26 +129,6 @@ length_fixed b =
     let fill = length-replicate {A = ℕ} (padded (length b) - length b) 0 in
     omega (arith, length-append b (replicate (padded (length b) - length b) 0), fill)
 
-length_32 : (n : ℕ) → length (u32_item n) ≡ 4
-unfolding u32_item
-length_32 n = refl
-
-length_64 : (n : ℕ) → length (u64_item n) ≡ 8
-unfolding u64_item
-length_64 n = refl
-
-length_id : (v : ObjId) → length v.oid_device_id ≡ 16 → length (objid_item v) ≡ 32
-length_id v long =
-    let device : length (fixed_item v.oid_device_id) ≡ 16 = length_fixed v.oid_device_id ∙ ap padded long in
-    omega (
-      arith,
-      device,
-      length-append (fixed_item v.oid_device_id) (u64_item v.oid_partition_id ++ u64_item v.oid_object_id),
-      length-append (u64_item v.oid_partition_id) (u64_item v.oid_object_id),
-      length_64 v.oid_partition_id,
-      length_64 v.oid_object_id,
-    )
-
 length_cred : (v : ObjectCred) → IsSmall v → length (cred_item v) ≤ 176
 length_cred v s =
     let version = u32_item (version_number v.oc_osd_version) in
@@ -162,13 +137,13 @@ length_cred v s =
     let capability = opaque_item v.oc_capability in
     omega (
       arith,
-      length_id v.oc_object_id s.device,
+      length-objid v.oc_object_id s.device,
       length-append (objid_item v.oc_object_id) (version ++ (security ++ (key ++ capability))),
       length-append version (security ++ (key ++ capability)),
       length-append security (key ++ capability),
       length-append key capability,
-      length_32 (version_number v.oc_osd_version),
-      length_32 (security_number v.oc_cap_key_sec),
+      length-u32 (version_number v.oc_osd_version),
+      length-u32 (security_number v.oc_cap_key_sec),
       length_opaque v.oc_capability_key,
       length_opaque v.oc_capability,
       s.key,
@@ -198,8 +173,8 @@ short_body ds n f g l k =
       length-append (map_item f.map) (u32_item 0 ++ (u32_item (length vs) ++ flat_map cred_item vs)),
       length-append (u32_item 0) (u32_item (length vs) ++ flat_map cred_item vs),
       length-append (u32_item (length vs)) (flat_map cred_item vs),
-      length_32 0,
-      length_32 (length vs),
+      length-u32 0,
+      length-u32 (length vs),
       length_creds vs (all_small ds n f g f.components 0 l k.components),
       as_many ds f g f.components 0,
       k.few,

@@ -10,18 +10,9 @@ use Rattle.server_rules.specs.Audit.{audits, audit_begins}
 use Rattle.server_rules.specs.Rebuild.{stands_at, rebuilds, makes_or, fills, filling, target_gone, target_full}
 use Rattle.server_rules.specs.Repair.{repairs, after_repair, mended, storing, stored, repair_begins}
 use Rattle.server_rules.specs.Jobs.{making, fenced, fences, goes_on, fetched, written, gathered, filled_in, audited_on, waits_or_on, loses, refills, remakes, declares, declared_in, targets}
+use Rattle.server_rules.proofs.Components.{length_lost_on}
 
 -- ---- lists of components
-
-length_lost_on : (drive : ℕ) (cs : List Component) → length (lose_on drive cs) ≡ length cs
-unfolding lose_on
-length_lost_on drive [] = refl
-length_lost_on drive (at ∷ cs) = ap suc (length_lost_on drive cs)
-
-pub length_lost : (ks : List ℕ) (cs : List Component) (j : ℕ) → length (lose_from ks cs j) ≡ length cs
-unfolding lose_from
-length_lost ks [] j = refl
-length_lost ks (at ∷ cs) j = ap suc (length_lost ks cs (j + 1))
 
 length_set : (cs : List Component) (j : ℕ) (at : Component) → length (slice_set cs j at) ≡ length cs
 length_set [] j at = refl

@@ -7,6 +7,7 @@ use Rattle.std.proofs.lemmas.Nat.{from_be_bytes-to_be_bytes_8}
 use Rattle.sha1.specs.Sha1.{sha1, digest_bytes as sha1_bytes}
 use Rattle.sha2.specs.Sha256.{sha256, digest_bytes as sha256_bytes}
 use Rattle.hmac_tags.specs.Mac.{hmac, hmac_sha1, hmac_sha256}
+use Rattle.hmac_tags.proofs.Lengths.{long_sha1, long_sha256}
 use Rattle.osd_capability.specs.declared.layout.TheConstants.{FORMAT_SHA256}
 use Rattle.osd_capability.specs.declared.keys.CapKey.{CapKey}
 use Rattle.osd_capability.specs.declared.keys.CapKey.TheVariants.{One, Two}
@@ -31,14 +32,6 @@ drive_again d few =
     let low : d < 2 ^ 64 = omega (arith, few) in device_read (to_be_bytes w64 d) ∙ from_be_bytes-to_be_bytes_8 d low
 
 -- ---- the key
-
-long_sha1 : (key text : List ℕ) → length (hmac_sha1 key text) ≡ 20
-unfolding hmac sha1 sha1_bytes
-long_sha1 key text = refl
-
-long_sha256 : (key text : List ℕ) → length (hmac_sha256 key text) ≡ 32
-unfolding hmac sha256 sha256_bytes
-long_sha256 key text = refl
 
 -- a key of the capability's format
 abbrev key_in : (format : ℕ) → (one two : List ℕ) → CapKey

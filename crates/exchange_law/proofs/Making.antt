@@ -17,6 +17,7 @@ use Rattle.server_rules.specs.Files.{file_at, at_file, to_drives}
 use Rattle.server_rules.specs.Messages.{counters_have_room, on_message, awaited_by}
 use Rattle.server_rules.specs.Making.{checked_64, online, by_check, refusal, are_of, places, components_on, unmade, with_file, makes_file, unless_refused, create_file}
 use Rattle.server_rules.specs.History.{Input, Hears, Makes, Obeys, Adds, Formats, Resends, Crashes, Opens, unless_made, step}
+use Rattle.server_rules.proofs.Components.{length_components, length_placed}
 use Rattle.history_law.proofs.Placing.{greater_format}
 use Rattle.history_law.proofs.Made.{AllNamed, places_named}
 use Rattle.history_law.proofs.Inputs.{added_named}
@@ -60,16 +61,6 @@ taken zero ns = omega arith
 taken (suc n) [] = omega arith
 taken (suc n) (x ∷ ns) = omega (arith, taken n ns)
 
-few_places : (ds : List Drive) (count : ℕ) (chosen : List ℕ) → length (places ds count chosen) ≤ count
-unfolding places
-few_places ds count chosen = either (length chosen == count) (are_of (online ds) chosen) refl
-  where
-    either : (a b : Bool) → (length chosen == count) ≡ a
-        → length (if a && b then chosen else take count (map (λ d. d.number) (online ds))) ≤ count
-    either true true is = grind (arith, is, nat_tests)
-    either true false is = taken count _
-    either false b is = taken count _
-
 components_fit : (ns : List ℕ) (object n : ℕ) → object + length ns ≤ n → AllNamed ns
     → PartsFit n (components_on ns object)
 unfolding components_on
@@ -78,11 +69,6 @@ components_fit (d ∷ ns) object n l k = (
   record { drive = k.0; object = omega (arith, l) },
   components_fit ns (object + 1) n (omega (arith, l)) k.1,
 )
-
-length_components : (ns : List ℕ) (object : ℕ) → length (components_on ns object) ≡ length ns
-unfolding components_on
-length_components [] object = refl
-length_components (d ∷ ns) object = ap suc (length_components ns (object + 1))
 
 -- each is sent CREATE
 creates_all : (f : Kept) (ns : List ℕ) (object k nonce : ℕ)
@@ -115,7 +101,7 @@ module _ (s : Server) (number : ℕ) (m : RawMap) (tag : ℕ) (chosen : List ℕ
       record {
         number = given.0;
         map = good.0;
-        few = omega (arith, many, few_places s.drives m.comps chosen, good.1);
+        few = omega (arith, many, length_placed s.drives m.comps chosen, good.1);
         format = k.format;
         tag = given.1;
         size = omega arith;

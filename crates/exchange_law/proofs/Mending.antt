@@ -10,8 +10,9 @@ use Rattle.server_rules.specs.Going.{Going, keeping, with_components, noting}
 use Rattle.server_rules.specs.Repair.{after_repair, mended, is_left, repair_reads, repairs, storing, stored, repair_begins}
 use Rattle.server_rules.specs.Jobs.{is_made, making, ending, fenced, fences, fence_begins, fetched, written, goes_on, waits_or_on, is_target, refills, remakes, loses, others_than, declared_in, targets, declares}
 use Rattle.server_rules.specs.Replies.{Hearing, Older, Full, Done, Nothing, hearing, others, renewed, renews, fills_up, heard_with, hears, answers, heard_by, heard_in, on_reply}
+use Rattle.server_rules.proofs.Components.{length_lost, length_lost_on}
 use Rattle.history_law.proofs.Placing.{greater_format}
-use Rattle.exchange_law.proofs.Parts.{each_filtered, PartsFit, fit_lost_on, fit_lost, length_lost_on, length_lost, IsNear, AllNear, either_near, each_near, stores_near, TargetFits, WorkFits, JobFits}
+use Rattle.exchange_law.proofs.Parts.{each_filtered, PartsFit, fit_lost_on, fit_lost, IsNear, AllNear, either_near, each_near, stores_near, TargetFits, WorkFits, JobFits}
 use Rattle.exchange_law.proofs.Running.{with_parts, Sound, From, here, over_runs, rests_or_runs, noted, audits_run, audit_runs, audited_runs, rebuilds_run, fills_run, gathered_runs, filled_runs, gone_runs, full_runs}
 
 -- ---- repair

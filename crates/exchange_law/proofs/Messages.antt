@@ -1,6 +1,7 @@
 -- Each message of a client to a drive spells a placed command, at each moment.
 use Rattle.std.proofs.Common.{◌≡◌, ℕ, ◌++◌, ◌∷◌, [], List, Some, slice_get, refl, sym, ap, subst, ◌∙◌, inl, inr, append_assoc}
 use Rattle.std.proofs.lemmas.List.{append-nil}
+use Rattle.osd_lists.proofs.Slices.{found_more}
 use Rattle.scenario_text.specs.declared.line.Party.{Party}
 use Rattle.scenario_text.specs.declared.line.Party.TheVariants as party
 use Rattle.scenario_text.specs.declared.line.Line.{Line}
@@ -9,7 +10,7 @@ use Rattle.world_history.specs.declared.messages.Sent.{Sent}
 use Rattle.world_history.specs.Reading.{sent_after, sent_in}
 use Rattle.history_law.proofs.Each.{EachBehind}
 use Rattle.history_law.proofs.Growing.{Grows, line_grows}
-use Rattle.history_law.proofs.Messages.{WasIn, was_itself, found_more, arrived_was, event_was, sent_behind}
+use Rattle.history_law.proofs.Messages.{WasIn, was_itself, arrived_was, event_was, sent_behind}
 use Rattle.exchange_law.specs.PlaceAnswers.{AnswersFit}
 use Rattle.exchange_law.proofs.PlaceLines.{Spells, SpellsAt, fits_before}
 

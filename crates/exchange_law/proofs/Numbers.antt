@@ -21,6 +21,7 @@ use Rattle.client_rules.specs.Steps.{timeout_under, timeout_call, times_out, is_
 use Rattle.client_rules.specs.History.{Input, Calls, Hears, TimesOut, Leaves, Resends, unless_refused, step}
 use Rattle.client_rules.specs.Laws.{nonce_of, IsNumbered}
 use Rattle.client_rules.proofs.Numbering.{nonces_rise}
+use Rattle.client_rules.proofs.ReadSteps.{held_file}
 use Rattle.exchange_law.specs.ClientNonces.{nonces_in, nonces_at, nonces_by, given, granted, grants_at, grants_by, AllDiffer, RiseInGrants, IsBounded, NoncesDiffer}
 use Rattle.exchange_law.proofs.Rising.{last_is_new, differ_before, rising_differ}
 use Rattle.exchange_law.proofs.Kept.{FairPhase, FairTurn, IsKept, replied_kept, timed_out_kept, begins_kept, on_commit_kept}
@@ -76,14 +77,6 @@ turn_counts : (before xs : List ℕ) (d : Done) (op : CallOp) (t : Turn) → Fai
 turn_counts before xs d op (Goes p) f k = record { holds = k; fair = f }
 turn_counts before xs d op (Ends o) f k = record { holds = k; fair = tt }
 turn_counts before xs d op (Forgets o) f k = record { holds = λ b. without_keeping d.client.held (file_of op) before (all_of xs d) (k b); fair = tt }
-
-pub held_file : (hs : List Held) (file : ℕ) (h : Held) → held_of hs file ≡ Some h → h.file ≡ file
-unfolding held_of
-held_file [] file h e = absurd (cc e)
-held_file (g ∷ gs) file h e = elim (cases_eq g.file file) [
-  | inl same ↦ let g_is_h : Some g ≡ Some h = rw (eq-eqb g.file file same) at e in let it : g ≡ h = cc g_is_h in rw it at same
-  | inr other ↦ held_file gs file h (rw (ne_eqb g.file file other) at e)
-]
 
 -- what a call does with the drives
 sent_counts : (before xs : List ℕ) (hs : List Held) (f : ℕ) (h : Held) (m : Moved) → held_of hs f ≡ Some h → IsNumbered h m → IsKept h m → (length xs < NONCES → IsKeeping hs before xs) →

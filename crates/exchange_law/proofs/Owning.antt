@@ -11,6 +11,7 @@ use Rattle.layout_ops.specs.declared.envelope.Envelope.TheVariants as envelope
 use Rattle.layout_ops.specs.Spelling.{StateIdFits}
 use Rattle.client_rules.specs.Results.{layouts_in}
 use Rattle.server_rules.specs.Laws.{In}
+use Rattle.server_rules.proofs.Members.{in_either}
 use Rattle.scenario_text.specs.declared.event.Event.{Event}
 use Rattle.scenario_text.specs.declared.line.Line.{Line}
 use Rattle.world_history.specs.declared.messages.Body.{Body}
@@ -38,7 +39,6 @@ use Rattle.history_law.proofs.IssueLines.{IsKnown, all_known}
 use Rattle.exchange_law.proofs.Along.{at_moment}
 use Rattle.exchange_law.proofs.Turning.{sent_by, posted}
 use Rattle.exchange_law.proofs.Turns.{messages_behind}
-use Rattle.exchange_law.proofs.Replied.{in_either}
 
 known_moves : (v : World) (h : List Line) (e : Event) (ms : List Move) → StandsFor v h → refusal v e ≡ None
     → AreDue (plan_of v e) v ms → IsKnown (world_after v ms) (h ++ lines_so_far v e ms)

@@ -64,16 +64,6 @@ fit_set n [] j at k f = k
 fit_set n (c ∷ cs) zero at k f = (f, k.1)
 fit_set n (c ∷ cs) (suc j) at k f = (k.0, fit_set n cs j at k.1 f)
 
-pub length_lost_on : (drive : ℕ) (cs : List Component) → length (lose_on drive cs) ≡ length cs
-unfolding lose_on
-length_lost_on drive [] = refl
-length_lost_on drive (at ∷ cs) = ap suc (length_lost_on drive cs)
-
-pub length_lost : (ks : List ℕ) (cs : List Component) (j : ℕ) → length (lose_from ks cs j) ≡ length cs
-unfolding lose_from
-length_lost ks [] j = refl
-length_lost ks (at ∷ cs) j = ap suc (length_lost ks cs (j + 1))
-
 pub length_set : (cs : List Component) (j : ℕ) (at : Component) → length (slice_set cs j at) ≡ length cs
 length_set [] j at = refl
 length_set (c ∷ cs) zero at = refl

@@ -12,6 +12,7 @@ use Rattle.client_rules.specs.Requests.{get_args, args_of, return_args}
 use Rattle.client_rules.specs.Io.{awaited_in}
 use Rattle.client_rules.specs.Going.{quiet, with_held, by_turn, moved, begins, starts_with, starts_under, starts_at, starts_call, begun, held_after, requests, asks_under, returns, returns_due, progress_phase, progress_call, progress_free, progressed}
 use Rattle.client_rules.specs.Messages.{Step, still, to_drive, closed, finished}
+use Rattle.client_rules.proofs.ReadSteps.{put_found}
 use Rattle.exchange_law.specs.Kept.{IsOwnGrant}
 use Rattle.exchange_law.proofs.Commands.{MaySend}
 use Rattle.exchange_law.proofs.PlaceSending.{ArePlaced, PhaseFits, TurnFits, MovedFits}
@@ -64,18 +65,6 @@ put_all P (g ∷ gs) h k l = elim (cases_Bool (g.file == h.file)) [
   | inr f ↦ elim (cases_Bool (nat_lt h.file g.file)) [
     | inl u ↦ rw (f, u) (l, k)
     | inr v ↦ rw (f, v) (k.0, put_all P gs h k.1 l)
-  ]
-]
-
--- the grant that was put is found again
-put_found : (hs : List Held) (h : Held) → held_of (put_held hs h) h.file ≡ Some h
-unfolding put_held held_of
-put_found [] h = rw (eq-eqb h.file h.file refl) refl
-put_found (g ∷ gs) h = elim (cases_Bool (g.file == h.file)) [
-  | inl t ↦ rw (t, eq-eqb h.file h.file refl) refl
-  | inr f ↦ elim (cases_Bool (nat_lt h.file g.file)) [
-    | inl u ↦ rw (f, u, eq-eqb h.file h.file refl) refl
-    | inr v ↦ rw (f, v, f) (put_found gs h)
   ]
 ]
 

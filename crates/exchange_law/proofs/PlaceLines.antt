@@ -16,9 +16,9 @@ use Rattle.world_history.specs.Handed.{Post}
 use Rattle.world_history.specs.Moves.{Act, acts}
 use Rattle.world_history.specs.Sending.{Move, move, sent_line, sent_lines, sends_all}
 use Rattle.world_history.specs.Reading.{sent_in}
+use Rattle.world_history.proofs.Always.{opening, IsKept}
 use Rattle.history_law.proofs.DriveLines.{sent_read}
 use Rattle.history_law.proofs.Each.{EachBehind, each_more}
-use Rattle.history_law.proofs.Histories.{opening, IsKept}
 use Rattle.history_law.proofs.Growing.{Grows, grows_not, grows_on, history_grows}
 use Rattle.history_law.proofs.Issuing.{IsSilent, AreSilent}
 use Rattle.history_law.proofs.IssuingMoves.{acts_known}

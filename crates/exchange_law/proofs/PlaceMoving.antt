@@ -2,6 +2,7 @@
 use Rattle.std.proofs.Common.{◌≡◌, ◌==◌, ◌≤◌, ℕ, Bool, true, false, ◌&&◌, ◌||◌, List, [], ◌∷◌, ◌+◌, Option, Some, None, nat_lt, nat_le, refl, arith, if◌then◌else◌}
 use Rattle.std.specs.List.{AllByRecursion}
 use Rattle.std.proofs.lemmas.Bool.Decides.{nat_tests}
+use Rattle.std.proofs.lemmas.Bool.{and_parts}
 use Rattle.layout_ops.specs.declared.statuses.TheConstants.{NFS4_OK}
 use Rattle.exchange_law.specs.PlaceState.{CallOp, Write, Read, Held, Reach, Awaited, TimedOut, Phase, Starts, Needs, Waits, Reads, Probes, Gathers, Scatters, Io, Ends, Forgets, Answer, Reply, Span, Column, Store}
 use Rattle.stripe_plan.specs.declared.plan.Aim.TheVariants as aim
@@ -31,13 +32,9 @@ use Rattle.exchange_law.proofs.PlaceSending.{AwaitedPlaced, ArePlaced, others_pl
 
 -- ---- what a call is covered by
 
-both : (a b : Bool) → (a && b) ≡ true → (a ≡ true) × (b ≡ true)
-both true b e = (refl, e)
-both false b e = absurd (cc e)
-
 is_in : (g : Reach) (r : Span) → contains g r ≡ true → IsHeldIn g r
 is_in g r e =
-    let s = both (nat_le g.first r.offset) (nat_le (r.offset + r.length) g.end) e in
+    let s = and_parts (nat_le g.first r.offset) (nat_le (r.offset + r.length) g.end) e in
     (at_most g.first r.offset s.0, at_most (r.offset + r.length) g.end s.1)
   where
     at_most : (a b : ℕ) → nat_le a b ≡ true → a ≤ b
@@ -46,8 +43,8 @@ is_in g r e =
 write_in : (g : Reach) (size : ℕ) (r : Span) → covers_write g size r ≡ true → (g.rw ≡ true) × IsHeldIn g r
 unfolding covers_write
 write_in g size r e =
-    let s = both g.rw (contains g r && (g.extending || nat_le (r.offset + r.length) size)) e in
-    let t = both (contains g r) (g.extending || nat_le (r.offset + r.length) size) s.1 in
+    let s = and_parts g.rw (contains g r && (g.extending || nat_le (r.offset + r.length) size)) e in
+    let t = and_parts (contains g r) (g.extending || nat_le (r.offset + r.length) size) s.1 in
     (s.0, is_in g r t.0)
 
 read_in : (g : Reach) (size : ℕ) (r : Span) → covers_read g size r ≡ true → ((clipped size r).length == 0) ≡ false

@@ -1,6 +1,7 @@
 -- A command that is placed is given no verdict on where it lies.
 use Rattle.std.proofs.Common.{◌≡◌, ◌⊎◌, ℕ, ◌+◌, Bool, true, false, ◌&&◌, List, [], ◌∷◌, ◌++◌, refl, ap, inl, inr, if◌then◌else◌}
 use Rattle.std.proofs.lemmas.Bool.{eq-eqb, le-leb}
+use Rattle.osd_lists.proofs.Tests.{and_false}
 use Rattle.osd_commands.specs.declared.actions.Action.{Action}
 use Rattle.osd_commands.specs.declared.actions.Action.TheVariants.{Read, Write}
 use Rattle.osd_commands.specs.declared.commands.Command.{Command}
@@ -28,16 +29,12 @@ elsewhere drive c p =
       eq-eqb c.partition (FIRST_PARTITION + drive) p.here,
     ) refl
 
-neither : (a : Bool) → (a && false) ≡ false
-neither true = refl
-neither false = refl
-
 out_of_range : (drive : ℕ) (c : Command) → IsPlaced drive c → is_out_of_range c ≡ false
 out_of_range drive c p =
     rw (
       le-leb c.capability.range_start c.offset p.first,
       le-leb (c.offset + c.length) (c.capability.range_start + c.capability.range_len) p.end,
-    ) (neither (has_range c.action))
+    ) (and_false (has_range c.action))
 
 -- ---- the table
 

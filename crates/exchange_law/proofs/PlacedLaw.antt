@@ -1,6 +1,7 @@
 -- In every history each command of a client is placed, and no drive gives a verdict on where it lies.
 use Rattle.std.proofs.Common.{◌≡◌, ℕ, ◌∷◌, [], List, Some, Result, Ok, Err, refl, sym, ap, subst, ◌∙◌, inl, inr}
 use Rattle.std.specs.List.{AllByRecursion}
+use Rattle.std.proofs.lemmas.Option.{same_Some}
 use Rattle.osd_commands.specs.declared.commands.Command.{Command}
 use Rattle.osd_commands.specs.declared.commands.CommandErr.{CommandErr}
 use Rattle.osd_commands.specs.Commands.{reading}
@@ -57,13 +58,10 @@ judged_right before l d bytes v p s m =
 
 -- ---- each line
 
-same_some : (x y : Sent) → Some x ≡ Some y → x ≡ y
-same_some x y e = cc e
-
 delivered_right : (before : List Line) (n : ℕ) (v : Verdict) → IsDelivered before n (Judged v)
     → AllSpell (sent_in before) → AnswersFit (sent_in before) → PlacedAt before (line.Delivered n (Judged v))
 delivered_right before n v p all fit m c found from =
-    let same : p.message ≡ m = same_some p.message m (sym p.sent ∙ found) in
+    let same : p.message ≡ m = same_Some p.message m (sym p.sent ∙ found) in
     let who : p.message.from ≡ party.Client c = ap (λ (x : Sent). x.from) same ∙ from in
     judged_right before (line.Delivered n (Judged v)) p.tells.0 p.message.bytes v p.tells.2
     (all fit n p.message p.sent c p.tells.0 who p.tells.1)

@@ -7,7 +7,7 @@ use Rattle.std.proofs.Math.Nat.{add-mul, mul-le-mul_right}
 use Rattle.data_map.specs.declared.check.RawMap.{RawMap}
 use Rattle.data_map.specs.Check.{IsChecked}
 use Rattle.data_map.specs.Striping.{replicas, positions, group_width, groups}
-use Rattle.data_map.proofs.Shape.{whole_positions, whole_groups, replicas_inside, some_width}
+use Rattle.data_map.proofs.Shape.{whole_positions, whole_groups, replicas_inside, some_width, group_ends}
 use Rattle.stripe_plan.specs.Lost.{among, source, is_out}
 use Rattle.exchange_law.specs.PlaceState.{Held, Listed, Credential, TimedOut}
 use Rattle.client_rules.specs.Io.{outs}
@@ -30,20 +30,6 @@ present_below (l ∷ ls) k j e = elim (cases_Bool (is_some l.credential)) [
   | inl has ↦ let same : k ≡ j = cc (rw has at e) in omega (arith, same)
   | inr not ↦ let rest = present_below ls (k + 1) j (rw not at e) in omega (arith, rest)
 ]
-
--- the positions of its group are those of the map
-group_positions : (m : RawMap) (p : ℕ) → IsChecked m → p < positions m
-    → p / group_width m * group_width m + group_width m ≤ positions m
-group_positions m p ch low =
-    let all : p < groups m * group_width m = omega (arith, low, whole_groups m ch) in
-    let group : p / group_width m + 1 ≤ groups m = omega (
-      arith,
-      div_below p (group_width m) (groups m)
-          (some_width m ch) all,
-    ) in
-    let one : (p / group_width m + 1) * group_width m ≡ p / group_width m * group_width m + group_width m =
-    add-mul (p / group_width m) 1 (group_width m) ∙ omega arith in
-    omega (arith, one, whole_groups m ch, mul-le-mul_right (group_width m) group)
 
 module _ (f : Kept) (g : Grant) (h : Held) (k : IsGrant f g h) where
   probe_fits : (timed : List TimedOut) (p : ℕ) (o : Option ℕ) → p < positions h.map → IsChecked h.map
@@ -96,5 +82,5 @@ module _ (f : Kept) (g : Grant) (h : Held) (k : IsGrant f g h) where
       let low : n / replicas h.map < positions h.map =
       div_below n (replicas h.map) (positions h.map) (omega arith) below in
       either_all (AskFits h.components) (is_out h.map (outs h timed) (n / replicas h.map)) _ _
-      (each_fits timed have _ _ (group_positions h.map (n / replicas h.map) ch low) ch)
+      (each_fits timed have _ _ (group_ends h.map (n / replicas h.map) ch low) ch)
       (each_fits timed have (n / replicas h.map) 1 (omega (arith, low)) ch)

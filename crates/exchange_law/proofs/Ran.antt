@@ -5,6 +5,7 @@ use Rattle.osd_lists.specs.declared.node.Node.TheVariants as node
 use Rattle.server_rules.specs.Laws.{In, last_of}
 use Rattle.world_history.specs.ServerNames.{Server}
 use Rattle.server_rules.specs.Slots.{slot_of}
+use Rattle.server_rules.proofs.Members.{in_front, in_behind, in_either}
 use Rattle.client_rules.specs.declared.limits.TheConstants.{NONCES}
 use Rattle.client_rules.specs.Messages.{Taken, TakesAnswer, takes, awaited_of}
 use Rattle.client_rules.specs.Steps.{new_client}
@@ -25,7 +26,6 @@ use Rattle.world_history.specs.Handed.{Post, is_addressed, client_posts}
 use Rattle.exchange_law.specs.Messages.{last_before}
 use Rattle.exchange_law.specs.InStep.{IsAwaiting, StandsAt, IsInStep}
 use Rattle.exchange_law.proofs.Turning.{sent_by, posted, ComesTo}
-use Rattle.exchange_law.proofs.Replied.{in_either}
 use Rattle.exchange_law.proofs.AwaitsSteps.{step_awaits}
 use Rattle.exchange_law.proofs.RefusalNear.{IsNear, input_near}
 use Rattle.exchange_law.proofs.Gives.{last_in}
@@ -83,15 +83,6 @@ apart (z ∷ xs) ys x a (inr i) j = apart xs ys x a.1 i j
 among_behind : (x : ℕ) (xs ys : List ℕ) → IsAmong x ys → IsAmong x (xs ++ ys)
 among_behind x [] ys i = i
 among_behind x (y ∷ xs) ys i = inr (among_behind x xs ys i)
-
-in_front : {A : Type 0} (x : A) (xs ys : List A) → In x xs → In x (xs ++ ys)
-in_front x [] ys i = absurd i
-in_front x (y ∷ xs) ys (inl e) = inl e
-in_front x (y ∷ xs) ys (inr i) = inr (in_front x xs ys i)
-
-in_back : {A : Type 0} (x : A) (xs ys : List A) → In x ys → In x (xs ++ ys)
-in_back x [] ys i = i
-in_back x (y ∷ xs) ys i = inr (in_back x xs ys i)
 
 -- ---- messages stay
 
@@ -394,7 +385,7 @@ module _ (one : OneRequest) (w v : World) (h after : List Line) (o : AreOrdered 
     | inl old ↦ still_sent w v _ sends.is (command_of c a.drive a.command) (k.awaited a old)
     | inr sent ↦
         subst (In (command_of c a.drive a.command)) (sym messages_are)
-        (in_back (command_of c a.drive a.command) (sent_by w) new
+        (in_behind (command_of c a.drive a.command) (sent_by w) new
         (posts_command c sends.wrote sends.logged os a.drive a.command sent))
   ]
 

@@ -4,6 +4,8 @@ use Rattle.std.specs.List.{AllByRecursion}
 use Rattle.std.proofs.lemmas.Bool.{cases_Bool, cases_lt, cases_eq, eq-eqb, ne_eqb}
 use Rattle.std.proofs.lemmas.Nat.{le-div, mul-le}
 use Rattle.std.proofs.Math.Nat.{add-mul, mul-le-mul_right, div-mul-le_self}
+use Rattle.osd_lists.proofs.Tests.{first_false, second_false}
+use Rattle.osd_lists.proofs.Slices.{some_at}
 use Rattle.data_map.specs.declared.check.RawMap.{RawMap}
 use Rattle.data_map.specs.declared.ranges.TheConstants.{MAX_FILE_SIZE}
 use Rattle.data_map.specs.Check.{IsChecked}
@@ -77,24 +79,11 @@ stripes_granted m r first end ch low high small = elim (cases_eq r.length 0) [
 
 -- ---- components that aren't missing
 
-found_below : (ls : List Listed) (k : ℕ) → k < length ls → (l : Listed) × (slice_get ls k ≡ Some l)
-found_below [] k low = absurd (omega (arith, low))
-found_below (l ∷ ls) zero low = (l, refl)
-found_below (l ∷ ls) (suc k) low = found_below ls k (omega (arith, low))
-
-first_not : (a b : Bool) → (a || b) ≡ false → a ≡ false
-first_not true b e = e
-first_not false b e = refl
-
-second_not : (a b : Bool) → (a || b) ≡ false → b ≡ false
-second_not true b e = absurd (cc e)
-second_not false b e = e
-
 not_front : (k : ℕ) (xs ys : List ℕ) → among k (xs ++ ys) ≡ false → among k xs ≡ false
 not_front k [] ys e = refl
 not_front k (x ∷ xs) ys e =
-    let rest = not_front k xs ys (second_not (x == k) (among k (xs ++ ys)) e) in
-    rw (first_not (x == k) (among k (xs ++ ys)) e, rest) refl
+    let rest = not_front k xs ys (second_false (x == k) (among k (xs ++ ys)) e) in
+    rw (first_false (x == k) (among k (xs ++ ys)) e, rest) refl
 
 not_missing : (ls : List Listed) (k j : ℕ) (l : Listed) → slice_get ls j ≡ Some l
     → among (k + j) (missing_from ls k) ≡ false → is_some l.credential ≡ true
@@ -107,10 +96,10 @@ not_missing (x ∷ ls) k zero l e n = elim (cases_Bool (is_some x.credential)) [
   where
     itself : (k : ℕ) (xs : List ℕ) → among (k + 0) (k ∷ xs) ≡ false → ⊥
     itself k xs e = let z : k ≡ k + 0 = omega arith in
-        cc (sym (eq-eqb k (k + 0) z) ∙ first_not (k == k + 0) (among (k + 0) xs) e)
+        cc (sym (eq-eqb k (k + 0) z) ∙ first_false (k == k + 0) (among (k + 0) xs) e)
 not_missing (x ∷ ls) k (suc j) l e n = elim (cases_Bool (is_some x.credential)) [
   | inl has ↦ not_missing ls (k + 1) j l e (next k j _ (rw has at n))
-  | inr not ↦ not_missing ls (k + 1) j l e (next k j _ (second_not (k == k + suc j) _ (rw not at n)))
+  | inr not ↦ not_missing ls (k + 1) j l e (next k j _ (second_false (k == k + suc j) _ (rw not at n)))
 ]
   where
     next : (k j : ℕ) (xs : List ℕ) → among (k + suc j) xs ≡ false → among (k + 1 + j) xs ≡ false
@@ -134,7 +123,7 @@ pub is_listed : (h : Held) (timed : List TimedOut) (k : ℕ) → k < length h.co
     → IsListed h k
 unfolding outs
 is_listed h timed k low there =
-    let l = found_below h.components k low in
+    let l = some_at h.components k low in
     let z : k ≡ 0 + k = omega arith in
     let not : among (0 + k) (missing_from h.components 0) ≡ false =
     subst (λ (n : ℕ). among n (missing_from h.components 0) ≡ false) z (not_front k (missing_of h) _ there) in

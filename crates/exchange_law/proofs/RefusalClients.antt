@@ -2,10 +2,12 @@
 use Rattle.std.proofs.Common.{◌≡◌, ◌⊎◌, ℕ, suc, ◌+◌, ◌<◌, ◌^◌, Bool, true, false, List, [], ◌∷◌, ◌++◌, Some, None, is_some, length, refl, sym, ap, subst, ◌∙◌, arith, inl, inr, if◌then◌else◌}
 use Rattle.std.proofs.lemmas.Bool.{cases_eq}
 use Rattle.std.proofs.lemmas.List.{length-append}
+use Rattle.std.proofs.lemmas.Option.{same_Some}
 use Rattle.osd_lists.specs.declared.node.Node.TheVariants as node
 use Rattle.osd_lists.proofs.Options.{none_there}
 use Rattle.server_rules.specs.Laws.{In}
 use Rattle.server_rules.specs.History.{step as server_step}
+use Rattle.server_rules.proofs.Members.{in_either}
 use Rattle.client_rules.specs.Messages.{awaited_of}
 use Rattle.client_rules.specs.History.{step as client_step}
 use Rattle.exchange_law.specs.Requests.{OneRequest}
@@ -29,7 +31,7 @@ use Rattle.exchange_law.specs.InStep.{IsInStep, state_of, ClientsAreInStep}
 use Rattle.exchange_law.proofs.Along.{MayMove, at_moment}
 use Rattle.exchange_law.proofs.Turning.{sent_by, bodies, posted, AreSame, Becomes, Turn, ByServer, ByClient, ByDrive, Makes, Stops, Rests, ClientDoes, ClientMade}
 use Rattle.exchange_law.proofs.Turns.{acts_turn, messages_behind}
-use Rattle.exchange_law.proofs.Replied.{in_either, from_server, from_client, none_posted}
+use Rattle.exchange_law.proofs.Replied.{from_server, from_client, none_posted}
 use Rattle.exchange_law.proofs.RefusalGiven.{AreOrdered, ordered_move, none_ordered}
 use Rattle.exchange_law.proofs.Owning.{are_own}
 use Rattle.exchange_law.proofs.Ran.{HasRun, StepSends, run_on, new_run, step_run, new_awaited}
@@ -77,9 +79,6 @@ fewer_before w m few =
     ∙ length-append (sent_by w) (posted (acts w m.chosen m.action).posts) in
     omega (arith, longer, length_bodies w.network.messages, length_bodies (move w m).world.network.messages, few)
 
-some_there : (x y : ClientAt) → Some x ≡ Some y → x ≡ y
-some_there x y e = cc e
-
 unless_taken : (b : Bool) → (if b then Some Taken else None) ≡ None → b ≡ false
 unless_taken true e = absurd (cc e)
 unless_taken false e = refl
@@ -116,7 +115,7 @@ module _ (q : Known) (w : World) (h : List Line) (m : Move) (k : IsMoment w h)
     clients =
         λ d b found. elim (cases_eq d c) [
           | inl it ↦
-              let here : now ≡ b = some_there now b (sym becomes.there
+              let here : now ≡ b = same_Some now b (sym becomes.there
               ∙ ap (λ (n : ℕ). at_number v.clients n) (sym it) ∙ found) in
               subst (λ (n : ℕ). HasRun v n b.state) (sym it)
               (subst (λ (y : ClientAt). HasRun v c y.state) here run)

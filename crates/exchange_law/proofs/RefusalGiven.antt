@@ -6,6 +6,7 @@ use Rattle.layout_ops.specs.declared.envelope.Envelope.TheVariants as envelope
 use Rattle.server_rules.specs.Files.{Step}
 use Rattle.server_rules.specs.Laws.{In}
 use Rattle.server_rules.specs.History.{step as server_step}
+use Rattle.server_rules.proofs.Members.{in_either}
 use Rattle.client_rules.specs.History.{step as client_step}
 use Rattle.world_history.specs.ServerNames.{Server, Outgoing, ToDrive, Recalls, Answers, AnswersOrder}
 use Rattle.world_history.specs.declared.messages.Body.TheVariants.{Envelope as OfEnvelope}
@@ -16,7 +17,7 @@ use Rattle.world_history.specs.Moves.{Act, acts}
 use Rattle.world_history.specs.Sending.{Move, move}
 use Rattle.exchange_law.proofs.Turning.{sent_by, posted, Turn, ByServer, ByClient, ByDrive, Makes, Stops, Rests}
 use Rattle.exchange_law.proofs.Turns.{acts_turn, messages_behind}
-use Rattle.exchange_law.proofs.Replied.{in_either, addressed, from_client, none_posted}
+use Rattle.exchange_law.proofs.Replied.{addressed, from_client, none_posted}
 use Rattle.exchange_law.proofs.Gives.{last_in, KeepsGrant, AreSlots, IsNew, StepGives, step_gives}
 use Rattle.exchange_law.proofs.RefusalTelling.{named}
 

@@ -6,6 +6,7 @@ use Rattle.osd_lists.specs.declared.node.Node.TheVariants as node
 use Rattle.osd_commands.specs.declared.replies.Reply.{Reply}
 use Rattle.server_rules.specs.Laws.{In}
 use Rattle.server_rules.specs.History.{step as server_step}
+use Rattle.server_rules.proofs.Members.{in_either}
 use Rattle.client_rules.specs.History.{step as client_step}
 use Rattle.scenario_text.specs.declared.event.Event.{Event}
 use Rattle.scenario_text.specs.declared.event.Event.TheVariants as event
@@ -110,11 +111,6 @@ reply_on h more c d body k =
     record { reply = k.reply; is = k.is; replied = replied_on h more c d k.reply k.replied }
 
 -- ---- of which party a message is
-
-pub in_either : {A : Type 0} (x : A) (xs ys : List A) → In x (xs ++ ys) → In x xs ⊎ In x ys
-in_either x [] ys i = inr i
-in_either x (y ∷ xs) ys (inl e) = inl (inl e)
-in_either x (y ∷ xs) ys (inr i) = elim (in_either x xs ys i) [ inl a ↦ inl (inr a) | inr b ↦ inr b ]
 
 -- those that go out are among those that are posted
 pub addressed : (m : Message) (ps : List Post) → In m (posted (filter is_addressed ps)) → In m (posted ps)

@@ -15,8 +15,9 @@ use Rattle.server_rules.specs.Served.{Served}
 use Rattle.server_rules.specs.Commit.{Committed, NoGrant, Wrong, Sizes, may_commit, commit_under, commit_row, by_commit, commits}
 use Rattle.server_rules.specs.Return.{loss, Returned, NoGrant as NotHeld, Clean, Taken, TooMany, Fencing, by_loss, by_report, by_grant, return_row, ends_grant, reports_from, takes_loss, by_return, returns_on}
 use Rattle.server_rules.specs.Requests.{serves}
+use Rattle.server_rules.proofs.Components.{length_lost}
 use Rattle.exchange_law.specs.Files.{GrantFits}
-use Rattle.exchange_law.proofs.Parts.{each_filtered, JobFits, fit_lost, length_lost}
+use Rattle.exchange_law.proofs.Parts.{each_filtered, JobFits, fit_lost}
 use Rattle.exchange_law.proofs.Running.{with_parts, Sound, From, here, noted}
 use Rattle.exchange_law.proofs.Mending.{fence_runs}
 use Rattle.exchange_law.proofs.CountServing.{noted_behind, ServedFits, GetFits, said, gets_served}

@@ -28,68 +28,10 @@ use Rattle.exchange_law.specs.ClientAnswers.{IsRight, ReadsAreRight}
 use Rattle.client_rules.proofs.TakenMaps.{taken_checked}
 use Rattle.client_rules.proofs.Apart.{IsIn}
 use Rattle.client_rules.proofs.ReadMoves.{found_in, FitsOutcome, AnswersNone, weaker, GoodNeed}
+use Rattle.client_rules.proofs.ReadSteps.{AreChecked, put_checked, without_checked, after_checked, held_checked, held_file, put_found, put_at, Fits, Refuses, either_refuses, busy_refuses, either_none, refused_with_refuses, report_fits, any_fits, Fair, reply_fair, either_fair, answer_fair, takes_fair, none_pending, fits_answer}
 use Rattle.exchange_law.proofs.RightMoves.{GoodPhase, Follows, GoodTurn, GoodMoved, replied_good, timed_good, begins_good, on_commit_good}
 
 -- ---- held grants
-
--- their maps are checked
-abbrev AreChecked : List Held → Type 0
-AreChecked [] = Unit {0}
-AreChecked (h ∷ hs) = IsChecked h.map × AreChecked hs
-
-put_checked : (hs : List Held) (h : Held) → AreChecked hs → IsChecked h.map → AreChecked (put_held hs h)
-unfolding put_held
-put_checked [] h x ch = (ch, tt)
-put_checked (g ∷ gs) h x ch = elim (cases_Bool (g.file == h.file)) [
-  | inl t ↦ rw t (ch, x.1)
-  | inr f ↦ elim (cases_Bool (nat_lt h.file g.file)) [
-    | inl u ↦ rw (f, u) (ch, x)
-    | inr v ↦ rw (f, v) (x.0, put_checked gs h x.1 ch)
-  ]
-]
-
-without_checked : (hs : List Held) (file : ℕ) → AreChecked hs → AreChecked (without_held hs file)
-unfolding without_held
-without_checked [] file x = tt
-without_checked (g ∷ gs) file x = elim (cases_Bool (g.file == file)) [
-  | inl t ↦ rw t (without_checked gs file x.1)
-  | inr f ↦ rw f (x.0, without_checked gs file x.1)
-]
-
-after_checked : (hs : List Held) (file : ℕ) (a : Args) → AreChecked hs → AreChecked (held_after hs file a)
-after_checked hs file (args.LayoutGet a) x = x
-after_checked hs file (args.LayoutCommit a) x = x
-after_checked hs file (args.LayoutReturn a) x = without_checked hs file x
-
-held_checked : (hs : List Held) (file : ℕ) (h : Held) → AreChecked hs → held_of hs file ≡ Some h → IsChecked h.map
-unfolding held_of
-held_checked [] file h x e = absurd (cc e)
-held_checked (g ∷ gs) file h x e = elim (cases_eq g.file file) [
-  | inl same ↦ let g_is_h : Some g ≡ Some h = rw (eq-eqb g.file file same) at e in let it : g ≡ h = cc g_is_h in rw it at x.0
-  | inr other ↦ held_checked gs file h x.1 (rw (ne_eqb g.file file other) at e)
-]
-
-held_file : (hs : List Held) (file : ℕ) (h : Held) → held_of hs file ≡ Some h → h.file ≡ file
-unfolding held_of
-held_file [] file h e = absurd (cc e)
-held_file (g ∷ gs) file h e = elim (cases_eq g.file file) [
-  | inl same ↦ let g_is_h : Some g ≡ Some h = rw (eq-eqb g.file file same) at e in let it : g ≡ h = cc g_is_h in rw it at same
-  | inr other ↦ held_file gs file h (rw (ne_eqb g.file file other) at e)
-]
-
-put_found : (hs : List Held) (h : Held) → held_of (put_held hs h) h.file ≡ Some h
-unfolding held_of put_held
-put_found [] h = rw (eq-eqb h.file h.file refl) refl
-put_found (g ∷ gs) h = elim (cases_eq g.file h.file) [
-  | inl same ↦ rw (eq-eqb g.file h.file same, eq-eqb h.file h.file refl) refl
-  | inr other ↦ elim (cases_Bool (nat_lt h.file g.file)) [
-    | inl u ↦ rw (ne_eqb g.file h.file other, u, eq-eqb h.file h.file refl) refl
-    | inr v ↦ rw (ne_eqb g.file h.file other, v, ne_eqb g.file h.file other) (put_found gs h)
-  ]
-]
-
-put_at : (hs : List Held) (h : Held) (file : ℕ) → h.file ≡ file → held_of (put_held hs h) file ≡ Some h
-put_at hs h file e = ap (λ (f : ℕ). held_of (put_held hs h) f) (sym e) ∙ put_found hs h
 
 -- ---- a client between steps
 
@@ -110,10 +52,6 @@ GoodCall hs (Some call) got = GoodAt hs call.op call.phase got
 record IsGood (c : Client) (got : List Column) : Type 0 where
   checked : AreChecked c.held
   call : GoodCall c.held c.call got
-
-abbrev Fits : (List ℕ → Type 0) → Option Outcome → Type 0
-Fits Fit None = Unit {0}
-Fits Fit (Some o) = FitsOutcome Fit o
 
 record GoodDone (Fit : List ℕ → Type 0) (d : Done) (got : List Column) : Type 0 where
   checked : AreChecked d.client.held
@@ -244,32 +182,6 @@ phased_good Fit d op p got w g = record { checked = g.checked; call = w; outcome
 over_good : (Fit : List ℕ → Type 0) (d : Done) (o : Outcome) (got : List Column) → FitsOutcome Fit o → GoodDone Fit d got → GoodDone Fit (over d o) got
 over_good Fit d o got w g = record { checked = g.checked; call = tt; outcome = w }
 
--- a turn of a call that has read nothing and answers no read
-abbrev Refuses : Turn → Type 0
-Refuses (Goes (Needs (Get tries))) = Unit {0}
-Refuses (Ends o) = AnswersNone o
-Refuses t = ⊥
-
-either_refuses : (b : Bool) (t u : Turn) → Refuses t → Refuses u → Refuses (if b then t else u)
-either_refuses true t u x y = x
-either_refuses false t u x y = y
-
-busy_refuses : (tries : ℕ) (o : Outcome) → AnswersNone o → Refuses (busy tries o)
-unfolding busy
-busy_refuses tries o x = either_refuses _ (Goes (Needs (Get (tries + 1)))) (Ends o) tt x
-
-either_none : (Fit : List ℕ → Type 0) (b : Bool) (o u : Outcome) → FitsOutcome Fit o → FitsOutcome Fit u → FitsOutcome Fit (if b then o else u)
-either_none Fit true o u x y = x
-either_none Fit false o u x y = y
-
-refused_with_refuses : (status detail tries : ℕ) → Refuses (refused_with status detail tries)
-refused_with_refuses status detail tries =
-    either_refuses (status == NFS4ERR_NOENT) (Ends NoFile) _ tt
-    (either_refuses (status == NFS4ERR_LAYOUTTRYLATER) (busy tries (HeldBy detail)) _ (busy_refuses tries (HeldBy detail) tt)
-    (either_refuses (status == NFS4ERR_RECALLCONFLICT) (busy tries (Fencing detail)) _ (busy_refuses tries (Fencing detail) tt)
-    (either_refuses (status == NFS4ERR_LAYOUTUNAVAILABLE) (Ends (unavailable detail)) (Ends (Status status detail))
-    (either_none (λ bytes. ⊥) (detail == NO_COMPONENT) Spent (Degraded detail) tt tt) tt)))
-
 turn_good : (Fit : List ℕ → Type 0) (d : Done) (op : CallOp) (t : Turn) (got : List Column) → got ≡ [] → Refuses t → GoodDone Fit d got → GoodDone Fit (by_turn d op t) got
 turn_good Fit d op (Goes (Needs (Get tries))) got e x g = record { checked = g.checked; call = e; outcome = g.outcome }
 turn_good Fit d op (Ends o) got e x g = over_good Fit d o got (weaker (λ bytes. ⊥) Fit (λ bytes. λ z. absurd z) o x) g
@@ -282,15 +194,6 @@ not_granted_good Fit d op a tries got e g = turn_good Fit d op (refused_with (st
 answered_get_good : (Fit : List ℕ → Type 0) (d : Done) (op : CallOp) (r : Result Held Why) (got : List Column) → ((h : Held) → r ≡ Ok h → IsChecked h.map) → got ≡ [] → GoodDone Fit d got → GoodDone Fit (answered_get d op r) got
 answered_get_good Fit d op (Err w) got ch e g = over_good Fit d _ got tt g
 answered_get_good Fit d op (Ok h) got ch e g = record { checked = put_checked d.client.held h g.checked (ch h refl); call = e; outcome = g.outcome }
-
-report_fits : (Fit : List ℕ → Type 0) (op : CallOp) (a : Answer) (timed : List TimedOut) → FitsOutcome Fit (on_report op a timed)
-unfolding on_report
-report_fits Fit op a timed = either_none Fit (is_loss_taken a) (WriteOk (span_of op).length) (Silent (lowest timed)) tt tt
-
-any_fits : (o : Option Outcome) → Fits (λ bytes. Unit {0}) o
-any_fits None = tt
-any_fits (Some (ReadOk bytes)) = tt
-any_fits (Some o) = tt
 
 commit_under_good : (Fit : List ℕ → Type 0) (d : Done) (op : CallOp) (a : Answer) (timed : List TimedOut) (o : Option Held) (got : List Column) → held_of d.client.held (file_of op) ≡ o →
     GoodDone Fit d got → GoodDone Fit (commit_under d op a (Commit timed) o) got
@@ -362,35 +265,6 @@ reply_call_good c a r (Some call) got p x w i = reply_under_good c call a r _ go
 
 -- ---- messages
 
--- a reply that is taken is to an awaited command
-abbrev Fair : Client → Option Taken → Type 0
-Fair c (Some (TakesReply a r)) = IsIn a (awaited_of c.call)
-Fair c t = Unit {0}
-
-reply_fair : (c : Client) (p : Awaited → Bool) (r : Reply) (o : Option Awaited) → find p (awaited_of c.call) ≡ o → Fair c (reply_taken r o)
-reply_fair c p r None e = tt
-reply_fair c p r (Some a) e = found_in p (awaited_of c.call) a e
-
-either_fair : (c : Client) (b : Bool) (t u : Option Taken) → Fair c t → Fair c u → Fair c (if b then t else u)
-either_fair c true t u x y = x
-either_fair c false t u x y = y
-
-answer_fair : (c : Client) (a : Answer) (o : Option Request) → Fair c (answer_taken c a o)
-answer_fair c a None = tt
-answer_fair c a (Some r) = either_fair c (is_awaited c a r) (Some (TakesAnswer a)) None tt tt
-
-takes_fair : (c : Client) (from : Node) (m : Message) → Fair c (takes c from m)
-unfolding takes
-takes_fair c (FromDrive drive) (Replies r) = reply_fair c (answers drive r) r _ refl
-takes_fair c (FromDrive drive) (Answers a) = tt
-takes_fair c (FromDrive drive) (Recalls r) = tt
-takes_fair c FromServer (Answers a) = answer_fair c a c.outstanding
-takes_fair c FromServer (Recalls r) = either_fair c (r.client == c.number) (Some (TakesRecall r)) None tt tt
-takes_fair c FromServer (Replies r) = tt
-takes_fair c (FromClient n) (Replies r) = tt
-takes_fair c (FromClient n) (Answers a) = tt
-takes_fair c (FromClient n) (Recalls r) = tt
-
 by_taken_good : (c : Client) (t : Option Taken) (got : List Column) → IsGood c got → Fair c t → GoodStep (IsRight c (with_reply got t)) (by_taken c t) (with_reply got t)
 by_taken_good c None got g f = still_good _ c got g
 by_taken_good c (Some (TakesAnswer a)) got g f =
@@ -429,10 +303,6 @@ refuses Fit c got false true d x y z s v w = still_good Fit c got v
 refuses Fit c got false false true x y z s v w = still_good Fit c got v
 refuses Fit c got false false false x y z s v w = w refl
 
-none_pending : (o : Option Call) (got : List Column) → is_some o ≡ false → kept_by o got ≡ []
-none_pending None got e = refl
-none_pending (Some call) got e = absurd (cc e)
-
 calls_good : (Fit : List ℕ → Type 0) (c : Client) (op : CallOp) (got : List Column) → IsGood c (kept_by c.call got) → GoodStep Fit (unless_refused c (calls c op)) (kept_by c.call got)
 unfolding calls
 calls_good Fit c op got g =
@@ -458,9 +328,6 @@ step_good c got Resends g = record { client = record { checked = g.checked; call
 all_good : (c : Client) (got : List Column) (is : List Input) → IsGood c got → IsGood (state_after c is) (read_by c got is)
 all_good c got [] g = g
 all_good c got (i ∷ is) g = all_good (step c i).client (read_after c got i) is (step_good c got i g).client
-
-fits_answer : (Fit : List ℕ → Type 0) (o : Option Outcome) (bytes : List ℕ) → o ≡ Some (ReadOk bytes) → Fits Fit o → Fit bytes
-fits_answer Fit o bytes e x = rw e at x
 
 pub reads_are_right : ReadsAreRight
 reads_are_right = λ number sequence is i bytes e.

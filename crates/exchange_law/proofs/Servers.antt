@@ -7,6 +7,7 @@ use Rattle.osd_commands.specs.Commands.{reading, spelling}
 use Rattle.server_rules.specs.declared.limits.TheConstants.{SERVER_HOLDER}
 use Rattle.server_rules.specs.Laws.{In}
 use Rattle.server_rules.specs.History.{step}
+use Rattle.server_rules.proofs.Members.{in_either, in_mapped}
 use Rattle.scenario_text.specs.declared.line.Party.TheVariants as party
 use Rattle.scenario_text.specs.declared.line.Line.{Line}
 use Rattle.world_history.specs.declared.messages.Body.{Body}
@@ -22,10 +23,11 @@ use Rattle.world_history.specs.Sending.{Move, move, sends_all}
 use Rattle.world_history.specs.Reading.{sent_in}
 use Rattle.world_history.specs.History.{Lawful}
 use Rattle.world_history.specs.Laws.{shown}
+use Rattle.world_history.proofs.Always.{opening, IsKept}
+use Rattle.world_history.proofs.Parties.{party_server, party_drive}
 use Rattle.history_law.proofs.DriveLines.{sent_read}
-use Rattle.history_law.proofs.Histories.{IsKept, lawful, opening}
+use Rattle.history_law.proofs.Histories.{lawful}
 use Rattle.job_law.specs.Owned.{AreOwned}
-use Rattle.job_law.proofs.Lists.{in_either, in_mapped}
 use Rattle.job_law.proofs.Steps.{step_owns}
 use Rattle.history_law.proofs.Carried.{read_spelled}
 use Rattle.history_law.proofs.IssueLines.{IsKnown, all_known}
@@ -99,19 +101,6 @@ all_owned = record {
 
 -- ---- in the words of the lines
 
-server_party : (n : Node) → party_of n ≡ party.Server → n ≡ node.Server
-server_party node.Server e = refl
-server_party (node.Drive d) e = absurd (cc e)
-server_party (node.Client c) e = absurd (cc e)
-
-drive_party : (n : Node) (d : ℕ) → party_of n ≡ party.Drive d → n ≡ node.Drive d
-drive_party (node.Drive k) d e = ap node.Drive (same e)
-  where
-    same : party.Drive k ≡ party.Drive d → k ≡ d
-    same f = cc f
-drive_party node.Server d e = absurd (cc e)
-drive_party (node.Client c) d e = absurd (cc e)
-
 message_is : (m : Message) (d : ℕ) → m.from ≡ node.Server → m.to ≡ node.Drive d → m ≡ to_drive d m.body
 message_is m d by to =
     ap (λ (n : Node). record { from = n; to = m.to; body = m.body }) by
@@ -134,8 +123,8 @@ servers_own h l before after is x d y i by to read =
     let s = in_mapped letter x (map shown w.network.messages) seen in
     let p = in_mapped shown s.0 w.network.messages s.1 in
     let letter_is : x ≡ letter (shown p.0) = s.2 ∙ ap letter p.2 in
-    let from = server_party p.0.message.from (ap (λ (z : Sent). z.from) (sym letter_is) ∙ by) in
-    let goes = drive_party p.0.message.to d (ap (λ (z : Sent). z.to) (sym letter_is) ∙ to) in
+    let from = party_server p.0.message.from (ap (λ (z : Sent). z.from) (sym letter_is) ∙ by) in
+    let goes = party_drive p.0.message.to d (ap (λ (z : Sent). z.to) (sym letter_is) ∙ to) in
     let message : In (to_drive d p.0.message.body) (messages_in w) =
     subst (λ (m : Message). In m (messages_in w)) (message_is p.0.message d from goes)
     (in_message p.0 w.network.messages p.1) in

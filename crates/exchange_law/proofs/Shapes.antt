@@ -26,9 +26,10 @@ use Rattle.server_rules.specs.Slots.{Admit, New, Again, Misordered, slot_of, adm
 use Rattle.server_rules.specs.Making.{new_server, online, checked_64, by_online, by_check, refusal, unless_refused, makes_file, with_file, are_of, places, components_on, unmade, create_file}
 use Rattle.server_rules.specs.Messages.{Message, Asks, Replies, Orders, heard_at, or_else, by_heard, on_drive_reply, handled, on_message, counters_have_room}
 use Rattle.server_rules.specs.History.{Input, Hears, Makes, Obeys, Adds, Formats, Resends, Crashes, Opens, Act, step, state_after, unless_made}
+use Rattle.server_rules.proofs.Components.{length_lost, length_components}
 use Rattle.history_law.specs.Parties.{AllPartiesRun}
 use Rattle.exchange_law.specs.Shapes.{FilesHaveShape}
-use Rattle.exchange_law.proofs.Lengths.{shape, Long, length_lost, long_making, long_fences, long_declares, long_full, long_loses, long_waits_or_on}
+use Rattle.exchange_law.proofs.Lengths.{shape, Long, long_making, long_fences, long_declares, long_full, long_loses, long_waits_or_on}
 
 -- ---- at a file
 
@@ -303,11 +304,6 @@ message_shaped s now chosen from m all = elim (cases_Bool (counters_have_room s)
 ]
 
 -- ---- a file that is made
-
-length_components : (ds : List ℕ) (object : ℕ) → length (components_on ds object) ≡ length ds
-unfolding components_on
-length_components [] object = refl
-length_components (d ∷ ds) object = ap suc (length_components ds (object + 1))
 
 length_places : (ds : List Drive) (count : ℕ) (chosen : List ℕ) → count ≤ length (online ds)
     → length (places ds count chosen) ≡ count

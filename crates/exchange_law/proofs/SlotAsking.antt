@@ -99,19 +99,6 @@ none_left (h ∷ hs) file = elim (cases_Bool (h.file == file)) [
   | inr f ↦ rw f (rw f (none_left hs file))
 ]
 
-pub put_found : (hs : List Held) (h : Held) (file : ℕ) → h.file ≡ file → held_of (put_held hs h) file ≡ Some h
-unfolding held_of put_held
-put_found [] h file e = rw (eq-eqb h.file file e) refl
-put_found (g ∷ gs) h file e = elim (cases_Bool (g.file == h.file)) [
-  | inl t ↦ rw t (rw (eq-eqb h.file file e) refl)
-  | inr f ↦ elim (cases_Bool (nat_lt h.file g.file)) [
-    | inl u ↦ rw (f, u) (rw (eq-eqb h.file file e) refl)
-    | inr v ↦
-        let other : (g.file == file) ≡ false = subst (λ (n : ℕ). (g.file == n) ≡ false) e f in
-        rw (f, v) (rw other (put_found gs h file e))
-  ]
-]
-
 module _ (own first : ℕ) (o : Option Request) where
   abbrev U : Done → Type 0
   U d = Unasked own first o d

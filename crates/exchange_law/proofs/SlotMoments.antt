@@ -11,11 +11,8 @@ use Rattle.world_history.specs.Runs.{world_after, plan_after}
 use Rattle.world_history.specs.Refusals.{refusal, unless_there}
 use Rattle.move_law.specs.Moments.{IsMoment, plan_at}
 pub use Rattle.move_law.proofs.Moments.{IsKept, always}
+use Rattle.world_history.proofs.Runs.{no_opening}
 use Rattle.world_history.proofs.ReadMessages.{never_opens}
-
-no_opening : (p : Plan) (ms : List Move) → p.opening ≡ None → (plan_after p ms).opening ≡ None
-no_opening p [] e = e
-no_opening p (m ∷ ms) e = no_opening (went_on p m.action) ms refl
 
 not_opened : (w : World) (p : Plan) (e : Event) → p.opening ≡ None → due p w ≡ Some (Opens e) → ⊥
 not_opened w p e none d =

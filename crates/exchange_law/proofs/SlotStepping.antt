@@ -22,9 +22,10 @@ use Rattle.client_rules.specs.Messages.{Message, Replies, Answers, Recalls, Take
 use Rattle.client_rules.specs.Steps.{is_bad_range, is_spent, writes_nothing, starts, calls, timeout_under, timeout_call, times_out, all_due, leaves, outstanding_sends, resent}
 use Rattle.client_rules.specs.History.{Input, Calls, Hears, TimesOut, Leaves, Resends, unless_refused, step}
 use Rattle.client_rules.specs.Commands.{in_order}
+use Rattle.client_rules.proofs.ReadSteps.{put_at}
 use Rattle.exchange_law.proofs.Few.{rank_behind, IsDriving, replied_few, timed_out_few}
 use Rattle.exchange_law.proofs.Granted.{taken_covers}
-use Rattle.exchange_law.proofs.SlotAsking.{HasRoom, room_less, rank_at, RoomPhase, RoomCall, Unasked, Calm, AsksNone, AsksOne, AreOutstanding, put_found, RoomTurn, by_turn_calm, moved_calm, progressed_asked}
+use Rattle.exchange_law.proofs.SlotAsking.{HasRoom, room_less, rank_at, RoomPhase, RoomCall, Unasked, Calm, AsksNone, AsksOne, AreOutstanding, RoomTurn, by_turn_calm, moved_calm, progressed_asked}
 
 -- ---- a step
 
@@ -95,7 +96,7 @@ module _ (own first : ℕ) (o : Option Request) where
   answered_get_calm d op (Ok h) for u room =
       let it = for h refl in
       let found : held_of (put_held d.client.held h) (file_of op) ≡ Some h =
-      put_found d.client.held h (file_of op) it.0 in (
+      put_at d.client.held h (file_of op) it.0 in (
         u,
         subst (λ (x : Option Held). HasRoom d.client.next (rank_at op x)) (sym found)
             (subst (λ (b : Bool). HasRoom d.client.next (if b then 2 else 6)) (sym it.1) room),

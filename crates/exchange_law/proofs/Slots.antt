@@ -27,7 +27,8 @@ use Rattle.world_history.specs.Sending.{Move, move, sent_lines}
 use Rattle.move_law.specs.Moves.{AreQuiet, front_of, MoveCases}
 use Rattle.move_law.proofs.Moves.{front_cases, each_act}
 use Rattle.history_law.proofs.Each.{EachBehind, each_more, each_front, at_each_line}
-use Rattle.history_law.proofs.Histories.{opening, IsKept, lawful}
+use Rattle.world_history.proofs.Always.{opening, IsKept}
+use Rattle.history_law.proofs.Histories.{lawful}
 use Rattle.history_law.proofs.DriveEvents.{IsRead, kept as all_read}
 use Rattle.exchange_law.specs.Text.{AreFew}
 use Rattle.exchange_law.specs.Refused.{HasSlot, NoSlotIsSpent}

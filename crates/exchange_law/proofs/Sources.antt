@@ -1,10 +1,12 @@
 -- What a drive performs is the server's, under its own holder, or was sent by the client whose number its holder is.
 use Rattle.std.proofs.Common.{◌≡◌, ◌⊎◌, ℕ, ◌<◌, ◌++◌, ◌∷◌, [], List, true, nat_lt, Some, Ok, slice_get, refl, sym, ap, subst, ◌∙◌, arith, inl, inr}
 use Rattle.std.proofs.lemmas.Bool.Decides.{nat_tests}
+use Rattle.std.proofs.lemmas.Option.{same_Some}
 use Rattle.osd_commands.specs.declared.commands.Command.{Command}
 use Rattle.osd_commands.specs.Commands.{reading}
 use Rattle.server_rules.specs.declared.limits.TheConstants.{SERVER_HOLDER}
 use Rattle.server_rules.specs.Laws.{In}
+use Rattle.server_rules.proofs.Members.{in_map}
 use Rattle.scenario_text.specs.declared.names.TheConstants.{CLIENTS}
 use Rattle.scenario_text.specs.declared.line.Delivery.TheVariants.{Judged}
 use Rattle.scenario_text.specs.declared.line.Verdict.TheVariants.{Perform}
@@ -22,7 +24,6 @@ use Rattle.history_law.specs.Sources.{IsServerOrClient, WasSent, ComesAt}
 use Rattle.history_law.proofs.Coming.{sources_hold, clean_front}
 use Rattle.history_law.proofs.Each.{EachBehind, HoldsAt, judges_of, each_front, at_each_line}
 use Rattle.history_law.proofs.Histories.{lawful}
-use Rattle.job_law.proofs.Lists.{in_map}
 use Rattle.history_law.specs.Issued.{IsIssued}
 use Rattle.history_law.proofs.IssuedLaw.{issued}
 use Rattle.history_law.proofs.IssueLines.{CarriesAt, IsKnown, all_known}
@@ -127,9 +128,6 @@ module _ (before : List Line) (l : Line) (known : IsKnownOf before) where
       )
   by_sender d bytes n m (party.Drive k) found from to are who p y read = absurd who
 
-same_some : (x y : Sent) → Some x ≡ Some y → x ≡ y
-same_some x y e = cc e
-
 same_drive : (a b : ℕ) → party.Drive a ≡ party.Drive b → a ≡ b
 same_drive a b e = cc e
 
@@ -137,7 +135,7 @@ pub delivered_owned : (before : List Line) (n : ℕ) → IsDelivered before n (J
     → ComesAt before (line.Delivered n (Judged Perform)) → IsKnownOf before
     → SourceAt IsOwned before (line.Delivered n (Judged Perform))
 delivered_owned before n p comes known m d y found to read =
-    let same : p.message ≡ m = same_some p.message m (sym p.sent ∙ found) in
+    let same : p.message ≡ m = same_Some p.message m (sym p.sent ∙ found) in
     let here : p.tells.0 ≡ d =
     same_drive p.tells.0 d (sym p.tells.1 ∙ ap (λ (x : Sent). x.to) same ∙ to) in
     let l : Line = line.Delivered n (Judged Perform) in

@@ -1,6 +1,7 @@
 -- No drive finds an awaited command stale, or an object without a lane for it.
 use Rattle.std.proofs.Common.{◌≡◌, ℕ, ◌<◌, ◌∷◌, ◌||◌, [], List, Bool, true, false, nat_lt, nat_eq, bit_and, Some, Result, Ok, Err, map, refl, sym, ap, subst, ◌∙◌, arith, inl, inr}
 use Rattle.std.proofs.lemmas.Bool.Decides.{nat_tests}
+use Rattle.osd_lists.proofs.Tests.{first_false}
 use Rattle.osd_capability.specs.declared.layout.Capability.{Capability}
 use Rattle.osd_commands.specs.declared.actions.Action.{Action}
 use Rattle.osd_commands.specs.declared.actions.Action.TheVariants as action
@@ -56,10 +57,6 @@ nothing_allowed action.Write = refl
 nothing_allowed action.GetAttr = refl
 nothing_allowed action.SetAttr = refl
 nothing_allowed action.SetTag = refl
-
-first_false : (a b : Bool) → (a || b) ≡ false → a ≡ false
-first_false true b e = absurd (cc e)
-first_false false b e = refl
 
 not_none : (y : Command) → has_no_right y ≡ false → y.capability ≡ no_capability → ⊥
 not_none y allowed none =

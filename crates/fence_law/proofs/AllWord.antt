@@ -1,8 +1,9 @@
 -- Kept: where a write under way was performed whole its columns are words of its data; what a layout left out is gone.
 -- Every cell that a write doesn't hit keeps its word, and each that it hits gets the new one.
 use Rattle.std.proofs.Common.{◌≡◌, ℕ, ◌≤◌, Bool, true, false, ◌||◌, ◌&&◌, ◌==◌, Option, Some, None, ◌⊎◌, refl, sym, ap, ◌∙◌, inl, inr, arith}
-use Rattle.std.proofs.lemmas.Bool.{cases_Bool, and_right, false_from_ne_true, eqb-true, eq-eqb, cases_eq, true≢false}
+use Rattle.std.proofs.lemmas.Bool.{cases_Bool, and_right, false_from_ne_true, eqb-true, eq-eqb, cases_eq, true≢false, or_left}
 use Rattle.std.proofs.lemmas.Option.{same_Some}
+use Rattle.osd_lists.proofs.Tests.{first_false}
 use Rattle.fence_law.specs.Words.{updated, over}
 use Rattle.fence_law.specs.State.{State, Event, Grant, Write, Start}
 use Rattle.fence_law.specs.Columns.{overlaid, only}
@@ -17,7 +18,7 @@ use Rattle.fence_law.proofs.Tags.{Tags}
 use Rattle.fence_law.proofs.Holds.{Holds}
 use Rattle.fence_law.proofs.Commands.{Calls}
 use Rattle.fence_law.proofs.Chains.{over_none}
-use Rattle.fence_law.proofs.Formed.{Gone_lost, not_gone, or_off, or_on, added, Mending, Formed, FormedOne, Running}
+use Rattle.fence_law.proofs.Formed.{Gone_lost, not_gone, added, Mending, Formed, FormedOne, Running}
 use Rattle.fence_law.proofs.Open.{Dead, Known, Unacked, Open, fresh_open, now_fresh}
 use Rattle.fence_law.proofs.Live.{Open_granted}
 use Rattle.fence_law.proofs.Acked.{FullHere, Known_done, option_cases}
@@ -56,9 +57,9 @@ pub keep_left_gone : (b : State) (e : Event) → Allowed b e → Holds b → For
 keep_left_gone b (Grants c number rw range extending) a o f m q gl h = record {
   outstanding = λ d k g e l. elim (updated_read b.outstanding c (Some (granted b c number rw range extending)) d).1 [
     | inl w ↦ let same : b.missing ≡ g.left = ap (λ y. y.left) (same_Some (granted b c number rw range extending) g (sym w.1 ∙ e)) in or_new (b.gone k) (b.missing k) (ap (λ y. y k) same ∙ l)
-    | inr w ↦ or_on (b.gone k) (b.missing k) (h.outstanding d k g (sym w.1 ∙ e) l)
+    | inr w ↦ or_left (b.gone k) (b.missing k) (h.outstanding d k g (sym w.1 ∙ e) l)
   ];
-  writes = λ j k u l. or_on (b.gone k) (b.missing k) (h.writes j k u l);
+  writes = λ j k u l. or_left (b.gone k) (b.missing k) (h.writes j k u l);
 }
   where
     or_new : (x y : Bool) → y ≡ true → (x || y) ≡ true
@@ -172,7 +173,7 @@ keep_all_word b (Rebuilds k cells0) a code t f f2 o r run n u kd dead late m q l
 ])
 keep_all_word b (Acknowledges c i) a code t f f2 o r run n u kd dead late m q lt us cells bw sound now gl lg h = aw_acks b c i a code r run f kd dead late lt h
 keep_all_word b (Performs w) a code t f f2 o r run n u kd dead late m q lt us cells bw sound now gl lg h = aw_performs b w a (fresh_open b w a.comes (now_fresh b w a t f n) n dead u) code f m q dead lt us bw sound lg h
-keep_all_word b (Grants c number rw range extending) a code t f f2 o r run n u kd dead late m q lt us cells bw sound now gl lg h = λ j k z v full t2 is l. aw_again b j k z a.repaired v (λ u2 content. full k z u2 l content) t2 is (or_off (b.gone k) (b.missing k) l) code f dead lt us bw sound lg
+keep_all_word b (Grants c number rw range extending) a code t f f2 o r run n u kd dead late m q lt us cells bw sound now gl lg h = λ j k z v full t2 is l. aw_again b j k z a.repaired v (λ u2 content. full k z u2 l content) t2 is (first_false (b.gone k) (b.missing k) l) code f dead lt us bw sound lg
 keep_all_word b (Loses c k0) a code t f f2 o r run n u kd dead late m q lt us cells bw sound now gl lg h = λ j k z v full t2 is l. aw_again b j k z a.repaired v (λ u2 content. full k z u2 l content) t2 is (up_off b.gone k0 k l) code f dead lt us bw sound lg
 keep_all_word b Fenced a code t f f2 o r run n u kd dead late m q lt us cells bw sound now gl lg h = λ j k z v full t2 is l. aw_again b j k z a.first (unsettled_fenced b j f v) (λ u2 content. full k z u2 l content) t2 is (not_gone b k gl l) code f dead lt us bw sound lg
 keep_all_word b Refenced a code t f f2 o r run n u kd dead late m q lt us cells bw sound now gl lg h = λ j k z v full t2 is l. h j k z (unsettled_refenced b j f v) full t2 is l

@@ -2,6 +2,7 @@
 -- It was whole when the call started, and only that write touches it since.
 use Rattle.std.proofs.Common.{◌≡◌, ℕ, ◌<◌, Bool, true, false, ◌==◌, Some, ◌⊎◌, refl, sym, ap, ◌∙◌, inl, inr, arith}
 use Rattle.std.proofs.lemmas.Bool.{cases_eq, true≢false}
+use Rattle.osd_lists.proofs.Tests.{first_false}
 use Rattle.fence_law.specs.Words.{updated, In}
 use Rattle.fence_law.specs.State.{State, Event, Grant, Write, ReadReply, Call, Start}
 use Rattle.fence_law.specs.Starts.{written_start, read_start, repair_start, rebuilt_start}
@@ -13,7 +14,7 @@ use Rattle.fence_law.proofs.Words.{up_off, updated_at, updated_other, updated_re
 use Rattle.fence_law.proofs.Tags.{Tags}
 use Rattle.fence_law.proofs.Holds.{Holds}
 use Rattle.fence_law.proofs.Commands.{Calls}
-use Rattle.fence_law.proofs.Formed.{Gone_lost, not_gone, or_off, added, Mending, Formed, Running}
+use Rattle.fence_law.proofs.Formed.{Gone_lost, not_gone, added, Mending, Formed, Running}
 use Rattle.fence_law.proofs.Open.{Dead, Known, Unacked, Open, fresh_open, now_fresh}
 use Rattle.fence_law.proofs.Live.{Open_granted}
 use Rattle.fence_law.proofs.Acked.{Known_done}
@@ -108,7 +109,7 @@ keep_before_whole b (Breaks c j) a code t f o r run n u kd dead late m q lt now 
 keep_before_whole b (Answers c j g) a code t f o r run n u kd dead late m q lt now gl h = bw_call b c Idle (λ j e. cc) h
 keep_before_whole b (EndsRead c j) a code t f o r run n u kd dead late m q lt now gl h = bw_call b c Idle (λ j e. cc) h
 keep_before_whole b (Performs w) a code t f o r run n u kd dead late m q lt now gl h = bw_performs b w code (fresh_open b w a.comes (now_fresh b w a t f n) n dead u) f lt h
-keep_before_whole b (Grants c number rw range extending) a code t f o r run n u kd dead late m q lt now gl h = λ i x low al rx sv cur k z is here l. h i x low al rx sv cur k z is here (or_off (b.gone k) (b.missing k) l)
+keep_before_whole b (Grants c number rw range extending) a code t f o r run n u kd dead late m q lt now gl h = λ i x low al rx sv cur k z is here l. h i x low al rx sv cur k z is here (first_false (b.gone k) (b.missing k) l)
 keep_before_whole b (Loses c k0) a code t f o r run n u kd dead late m q lt now gl h = λ i x low al rx sv cur k z is here l. h i x low al rx sv cur k z is here (up_off b.gone k0 k l)
 keep_before_whole b Fenced a code t f o r run n u kd dead late m q lt now gl h = λ i x low al rx sv cur k z is here l. h i x low al rx sv (elim cur [
   | inl w ↦ inl (unsettled_fenced b i f w)

@@ -1,6 +1,7 @@
 -- The repair's end: what it found is what the log leaves from then on, in columns that are done and in those that are left. Calm is used for the latter.
 use Rattle.std.proofs.Common.{◌≡◌, ℕ, ◌<◌, Bool, true, false, not, cond, ◌&&◌, ◌==◌, Some, ◌⊎◌, refl, sym, ap, ◌∙◌, inl, inr, arith}
 use Rattle.std.proofs.lemmas.Bool.{and_parts, and_from, cases_Bool, eqb-true, eq-eqb, cases_eq, true≢false}
+use Rattle.osd_lists.proofs.Tests.{first_false}
 use Rattle.fence_law.specs.Words.{updated, over}
 use Rattle.fence_law.specs.State.{State, Event, Start}
 use Rattle.fence_law.specs.Columns.{overlaid, IsCalm}
@@ -13,7 +14,7 @@ use Rattle.fence_law.proofs.Parts.{pf_row}
 use Rattle.fence_law.proofs.Tags.{Tags}
 use Rattle.fence_law.proofs.Commands.{Calls}
 use Rattle.fence_law.proofs.Chains.{chain_same}
-use Rattle.fence_law.proofs.Formed.{Gone_lost, not_gone, or_off, added, Mending, Formed, Running}
+use Rattle.fence_law.proofs.Formed.{Gone_lost, not_gone, added, Mending, Formed, Running}
 use Rattle.fence_law.proofs.Open.{Dead, Known, Unacked, fresh_open, now_fresh}
 use Rattle.fence_law.proofs.Live.{Open_granted}
 use Rattle.fence_law.proofs.Acked.{Known_done}
@@ -106,7 +107,7 @@ keep_mixed b (Repairs k which e0) a calm code t f r run n u kd dead late m q lt 
 keep_mixed b (Rebuilds k cells0) a calm code t f r run n u kd dead late m q lt us co cells sound aw ml re gl h = mixed_rebuilds b k cells0 (re k cells0 a) code h
 keep_mixed b (Acknowledges c i) a calm code t f r run n u kd dead late m q lt us co cells sound aw ml re gl h = mixed_acks b c i a code r run f kd dead late lt aw h
 keep_mixed b (Performs w) a calm code t f r run n u kd dead late m q lt us co cells sound aw ml re gl h = mixed_performs b w (fresh_open b w a.comes (now_fresh b w a t f n) n dead u) code f dead lt us co sound h
-keep_mixed b (Grants c number rw range extending) a calm code t f r run n u kd dead late m q lt us co cells sound aw ml re gl h = λ k z p c2 l. h k z p c2 (or_off (b.gone k) (b.missing k) l)
+keep_mixed b (Grants c number rw range extending) a calm code t f r run n u kd dead late m q lt us co cells sound aw ml re gl h = λ k z p c2 l. h k z p c2 (first_false (b.gone k) (b.missing k) l)
 keep_mixed b (Loses c k0) a calm code t f r run n u kd dead late m q lt us co cells sound aw ml re gl h = λ k z p c2 l. h k z p c2 (up_off b.gone k0 k l)
 keep_mixed b Fenced a calm code t f r run n u kd dead late m q lt us co cells sound aw ml re gl h = λ k z p c l. elim (h k z p c (not_gone b k gl l)) [
   | inl e ↦ inl e

@@ -1,7 +1,7 @@
 -- Kept: what is fixed of an entry at its start agrees with the layout and the tags; what is gone is lost; no grant is outstanding while a repair runs, and the tag that it settles is old.
 -- The guards of the starts say it, and later events change no entry's start.
 use Rattle.std.proofs.Common.{◌≡◌, ℕ, ◌+◌, ◌<◌, ◌≤◌, Bool, true, false, ◌||◌, ◌==◌, Some, None, ◌⊎◌, refl, sym, ◌∙◌, inl, inr, arith}
-use Rattle.std.proofs.lemmas.Bool.{false_from_ne_true, eqb-false, true≢false}
+use Rattle.std.proofs.lemmas.Bool.{false_from_ne_true, eqb-false, true≢false, or_cases}
 use Rattle.fence_law.specs.Words.{updated}
 use Rattle.fence_law.specs.State.{State, Event, Grant, Call, Start}
 use Rattle.fence_law.specs.Columns.{spans, overlaid, only}
@@ -52,18 +52,6 @@ keep_mending b e a h = h
 abbrev pub Gone_lost : State → Type 0
 Gone_lost b = (k : ℕ) → b.gone k ≡ true → b.lost k ≡ true
 
-pub or_off : (x y : Bool) → (x || y) ≡ false → x ≡ false
-or_off true y e = e
-or_off false y e = refl
-
-pub or_on : (x y : Bool) → x ≡ true → (x || y) ≡ true
-or_on true y e = refl
-or_on false y e = absurd (true≢false (sym e))
-
-or_last : (x y : Bool) → (x || y) ≡ true → (x ≡ true) ⊎ (y ≡ true)
-or_last true y e = inl refl
-or_last false y e = inr e
-
 -- what layouts leave out is lost; whose drive lives though it was lost is left out
 abbrev pub Missing_lost : State → Type 0
 Missing_lost b = record { lost : (k : ℕ) → b.missing k ≡ true → b.lost k ≡ true; dropped : (k : ℕ) → b.dropped k ≡ true → b.missing k ≡ true }
@@ -77,7 +65,7 @@ keep_missing b (Rebuilds k0 cells) a h = record { lost = λ k m. grind (arith, u
 keep_missing b e a h = h
 
 pub keep_gone_lost : (b : State) (e : Event) → Missing_lost b → Gone_lost b → Gone_lost (after b e)
-keep_gone_lost b (Grants c number rw range extending) m h = λ k g. elim (or_last (b.gone k) (b.missing k) g) [ inl x ↦ h k x | inr x ↦ m.lost k x ]
+keep_gone_lost b (Grants c number rw range extending) m h = λ k g. elim (or_cases (b.gone k) (b.missing k) g) [ inl x ↦ h k x | inr x ↦ m.lost k x ]
 keep_gone_lost b Fenced m h = λ k g. g
 keep_gone_lost b (Repaired done e0) m h = λ k g. g
 keep_gone_lost b (Fails k0) m h = λ k g. grind (arith, updated_read b.lost k0 true k, h k g)

@@ -4,6 +4,7 @@ use Rattle.std.proofs.Common.{◌≡◌, ℕ, ◌+◌, ◌<◌, ◌≤◌, Bool,
 use Rattle.std.proofs.lemmas.Bool.{cases_Bool, false_from_ne_true, eq-eqb, cases_eq, true≢false}
 use Rattle.fence_law.specs.Words.{updated, over}
 use Rattle.std.proofs.Common.{cond}
+use Rattle.osd_lists.proofs.Tests.{first_false}
 use Rattle.fence_law.specs.State.{State, Event, Write, Call, Start}
 use Rattle.fence_law.specs.Starts.{written_start, read_start, repair_start, rebuilt_start, performed}
 use Rattle.fence_law.specs.Machine.{Allowed, after}
@@ -16,7 +17,7 @@ use Rattle.fence_law.proofs.Tags.{Tags}
 use Rattle.fence_law.proofs.Holds.{Holds}
 use Rattle.fence_law.proofs.Commands.{Calls}
 use Rattle.fence_law.proofs.Chains.{chain-next, chain_same, chain_cares, chain_quiet, over_none, over_twice}
-use Rattle.fence_law.proofs.Formed.{Gone_lost, not_gone, or_off, added, Mending, Formed, Running}
+use Rattle.fence_law.proofs.Formed.{Gone_lost, not_gone, added, Mending, Formed, Running}
 use Rattle.fence_law.proofs.Open.{Dead, Known, Unacked, Open, fresh_open, now_fresh}
 use Rattle.fence_law.proofs.Live.{Open_granted, Open_at_work}
 use Rattle.fence_law.proofs.Acked.{Known_done}
@@ -188,7 +189,7 @@ keep_cells b (StartsWrite c g i d touch hit seen e1 pt) a t f n u dead lt us gl 
 keep_cells b (StartsRead c g lo hi reach) a t f n u dead lt us gl h = cells_starts b (read_start b c g lo hi reach) h
 keep_cells b (Repairs k which e0) a t f n u dead lt us gl h = cells_mends b k which e0 h
 keep_cells b (Rebuilds k cells) a t f n u dead lt us gl h = cells_rebuilds b k cells h
-keep_cells b (Grants c number rw range extending) a t f n u dead lt us gl h = λ k z l. h k z (or_off (b.gone k) (b.missing k) l)
+keep_cells b (Grants c number rw range extending) a t f n u dead lt us gl h = λ k z l. h k z (first_false (b.gone k) (b.missing k) l)
 keep_cells b (Loses c k0) a t f n u dead lt us gl h = λ k z l. h k z (up_off b.gone k0 k l)
 keep_cells b (PerformsLost m) a t f n u dead lt us gl h = λ k z l. ap (λ y. y z) (updated_other b.cell m.at (λ y. over ((b.start m.entry).part m.at y == m.part) ((b.start m.entry).content m.at y) (b.cell m.at y)) k (λ e. true≢false (sym a.lost ∙ ap b.gone (sym e) ∙ l))) ∙ h k z l
 keep_cells b Fenced a t f n u dead lt us gl h = λ q z l. h q z (not_gone b q gl l)

@@ -2,6 +2,7 @@
 -- A nonce is used once, a drive performs only nonces above the last, and a write is acknowledged only when nothing is awaited.
 use Rattle.std.proofs.Common.{◌≡◌, ℕ, ◌<◌, ◌≤◌, Bool, true, false, Some, None, ◌⊎◌, sym, ap, ◌∙◌, inl, inr, arith, refl}
 use Rattle.std.proofs.lemmas.Bool.{true_from_ne_false, cases_eq, true≢false}
+use Rattle.osd_lists.proofs.Tests.{first_false}
 use Rattle.fence_law.specs.Words.{updated, In}
 use Rattle.fence_law.specs.State.{State, Event, Grant, Write, WriteReply, Call, PartState, Start}
 use Rattle.fence_law.specs.Starts.{written_start, read_start, repair_start, rebuilt_start}
@@ -12,7 +13,7 @@ use Rattle.fence_law.specs.State.Event.{Reports, Forgets, Fenced, Refenced, Send
 use Rattle.fence_law.proofs.Words.{up_off, updated_other, updated_read}
 use Rattle.fence_law.proofs.Tags.{Tags}
 use Rattle.fence_law.proofs.Commands.{Calls}
-use Rattle.fence_law.proofs.Formed.{added, Formed, Running, Gone_lost, not_gone, or_off}
+use Rattle.fence_law.proofs.Formed.{added, Formed, Running, Gone_lost, not_gone}
 use Rattle.fence_law.proofs.Holds.{Holds}
 
 -- an entry of an old grant has no part in the bytes
@@ -198,7 +199,7 @@ keep_awaited b (Answers c j f) a o n p gl ui h = awaited_call b c Idle (λ j e. 
 keep_awaited b (EndsRead c j) a o n p gl ui h = awaited_call b c Idle (λ j e. cc) h
 keep_awaited b (Performs m) a o n p gl ui h = λ w i f. h w i (fresh_before b m w a.new f)
 keep_awaited b (PerformsLost m) a o n p gl ui h = λ w i f. h w i (fresh_before b m w a.new f)
-keep_awaited b (Grants c number rw range extending) a o n p gl ui h = λ w i f. h w i (f.0, f.1, or_off (b.gone w.at) (b.missing w.at) f.2)
+keep_awaited b (Grants c number rw range extending) a o n p gl ui h = λ w i f. h w i (f.0, f.1, first_false (b.gone w.at) (b.missing w.at) f.2)
 keep_awaited b (Loses c k) a o n p gl ui h = λ w i f. h w i (f.0, f.1, up_off b.gone k w.at f.2)
 keep_awaited b (Repaired done e0) a o n p gl ui h = λ w i f. h w i (f.0, f.1, not_gone b w.at gl f.2)
 keep_awaited b (Rebuilds k cells) a o n p gl ui h = λ w i f. absurd (unissued_fresh b w i f.0 a.unused o n ui)
@@ -232,7 +233,7 @@ keep_unacked b (Sends c k g j pi fresh) a r u o n w gl ui h = unacked_sends b c 
 keep_unacked b (Acknowledges c j) a r u o n w gl ui h = unacked_acks b c j a r n w h
 keep_unacked b (Performs m) a r u o n w gl ui h = λ x i f. h x i (fresh_before b m x a.new f)
 keep_unacked b (PerformsLost m) a r u o n w gl ui h = λ x i f. h x i (fresh_before b m x a.new f)
-keep_unacked b (Grants c number rw range extending) a r u o n w gl ui h = λ x i f. h x i (f.0, f.1, or_off (b.gone x.at) (b.missing x.at) f.2)
+keep_unacked b (Grants c number rw range extending) a r u o n w gl ui h = λ x i f. h x i (f.0, f.1, first_false (b.gone x.at) (b.missing x.at) f.2)
 keep_unacked b (Loses c k) a r u o n w gl ui h = λ x i f. h x i (f.0, f.1, up_off b.gone k x.at f.2)
 keep_unacked b (Repaired done e0) a r u o n w gl ui h = λ x i f. h x i (f.0, f.1, not_gone b x.at gl f.2)
 keep_unacked b Fenced a r u o n w gl ui h = λ m i f. absurd (grind (arith, low_write b m i o n, f.0))

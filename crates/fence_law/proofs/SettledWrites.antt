@@ -1,7 +1,7 @@
 -- Kept: a write that isn't acknowledged is unsettled, or has no part in a column since its repair, unless nothing is left of that.
 -- Calm is used here: a column that a repair leaves short wasn't torn.
 use Rattle.std.proofs.Common.{◌≡◌, ℕ, zero, suc, ◌+◌, ◌<◌, ◌≤◌, Bool, true, false, cond, Option, Some, None, ◌⊎◌, refl, sym, ap, ◌∙◌, inl, inr, arith}
-use Rattle.std.proofs.lemmas.Bool.{false_from_ne_true, cases_Bool, eqb-true, eq-eqb, cases_eq, true≢false}
+use Rattle.std.proofs.lemmas.Bool.{false_from_ne_true, cases_Bool, eqb-true, eq-eqb, cases_eq, true≢false, or_left}
 use Rattle.fence_law.specs.Words.{updated, over}
 use Rattle.fence_law.specs.State.{State, Event, Write, Start}
 use Rattle.fence_law.specs.Columns.{Stood, Untouched, Short, Gone, IsCalm}
@@ -14,7 +14,7 @@ use Rattle.fence_law.proofs.Parts.{pf_row}
 use Rattle.fence_law.proofs.Tags.{Tags}
 use Rattle.fence_law.proofs.Holds.{Holds}
 use Rattle.fence_law.proofs.Chains.{chain-next, chain_quiet}
-use Rattle.fence_law.proofs.Formed.{Gone_lost, or_on, added, Mending, Formed}
+use Rattle.fence_law.proofs.Formed.{Gone_lost, added, Mending, Formed}
 use Rattle.fence_law.proofs.Open.{Dead, Known, Unacked, Open, fresh_open, now_fresh}
 use Rattle.fence_law.proofs.Live.{Open_granted}
 use Rattle.fence_law.proofs.Later.{Unsettled, none_open, unsettled_added, unsettled_acks, unsettled_fenced, unsettled_mended, Later, byte_or_touch, pay_or_touch, bytes_end, unsettled_refenced, refenced_unsettled}
@@ -134,7 +134,7 @@ keep_settled b (Acknowledges c i) a calm code t f o n u dead m q gl h = settled_
 keep_settled b (Performs w) a calm code t f o n u dead m q gl h = settled_performs b w (fresh_open b w a.comes (now_fresh b w a t f n) n dead u) h
 keep_settled b (Grants c number rw range extending) a calm code t f o n u dead m q gl h = λ j k z v low w ack content is l. elim (h j k z v low w ack content is l) [
   | inl y ↦ inl y
-  | inr v2 ↦ inr (elim v2 [ inl off ↦ inl off | inr g ↦ inr (λ f2 u is2 here. or_on (b.gone f2) (b.missing f2) (g.0 f2 u is2 here), g.1) ])
+  | inr v2 ↦ inr (elim v2 [ inl off ↦ inl off | inr g ↦ inr (λ f2 u is2 here. or_left (b.gone f2) (b.missing f2) (g.0 f2 u is2 here), g.1) ])
 ]
 keep_settled b (Loses c k0) a calm code t f o n u dead m q gl h = λ j k z v low w ack content is l. elim (h j k z v low w ack content is l) [
   | inl y ↦ inl y

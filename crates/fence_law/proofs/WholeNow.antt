@@ -2,6 +2,7 @@
 -- A performed part of a write that isn't acknowledged disturbs; the acknowledgement or the repair ends that with whole words.
 use Rattle.std.proofs.Common.{◌≡◌, ℕ, ◌+◌, ◌≤◌, Bool, true, false, ◌&&◌, ◌==◌, Option, Some, None, ◌⊎◌, refl, sym, ap, ◌∙◌, inl, inr, arith}
 use Rattle.std.proofs.lemmas.Bool.{cases_Bool, eq-eqb, cases_eq, true≢false}
+use Rattle.osd_lists.proofs.Tests.{first_false}
 use Rattle.fence_law.specs.Words.{updated, over}
 use Rattle.fence_law.specs.State.{State, Event, Grant, Write, Start}
 use Rattle.fence_law.specs.Columns.{only, Untouched, Disturbed}
@@ -16,7 +17,7 @@ use Rattle.fence_law.proofs.Tags.{Tags}
 use Rattle.fence_law.proofs.Holds.{Holds}
 use Rattle.fence_law.proofs.Commands.{Calls}
 use Rattle.fence_law.proofs.Chains.{chain-none, chain_cares, chain_quiet, over_none}
-use Rattle.fence_law.proofs.Formed.{Gone_lost, not_gone, or_off, added, Mending, Formed, Running, bytes_before}
+use Rattle.fence_law.proofs.Formed.{Gone_lost, not_gone, added, Mending, Formed, Running, bytes_before}
 use Rattle.fence_law.proofs.Open.{Dead, Known, Unacked, Open, fresh_open, now_fresh}
 use Rattle.fence_law.proofs.Live.{Open_granted, Open_at_work}
 use Rattle.fence_law.proofs.Acked.{Known_done, acks_here, option_cases}
@@ -161,7 +162,7 @@ keep_whole_now b (Repairs k which e0) a code t f r run n u kd dead late m q lt c
 keep_whole_now b (Rebuilds k cells0) a code t f r run n u kd dead late m q lt co cells aw ml mixed st re gl h = wn_rebuilds b k cells0 (re k cells0 a) code h
 keep_whole_now b (Acknowledges c i) a code t f r run n u kd dead late m q lt co cells aw ml mixed st re gl h = wn_acks b c i a code r run f kd dead late lt aw st h
 keep_whole_now b (Performs w) a code t f r run n u kd dead late m q lt co cells aw ml mixed st re gl h = wn_performs b w (fresh_open b w a.comes (now_fresh b w a t f n) n dead u) f ml h
-keep_whole_now b (Grants c number rw range extending) a code t f r run n u kd dead late m q lt co cells aw ml mixed st re gl h = λ k z is l none. h k z is (or_off (b.gone k) (b.missing k) l) none
+keep_whole_now b (Grants c number rw range extending) a code t f r run n u kd dead late m q lt co cells aw ml mixed st re gl h = λ k z is l none. h k z is (first_false (b.gone k) (b.missing k) l) none
 keep_whole_now b (Loses c k0) a code t f r run n u kd dead late m q lt co cells aw ml mixed st re gl h = λ k z is l none. h k z is (up_off b.gone k0 k l) none
 keep_whole_now b Fenced a code t f r run n u kd dead late m q lt co cells aw ml mixed st re gl h = λ k z is l none. h k z is (not_gone b k gl l) none
 keep_whole_now b (Repaired done e0) a code t f r run n u kd dead late m q lt co cells aw ml mixed st re gl h = wn_mended b done e0 a gl code f dead lt m q co cells mixed h

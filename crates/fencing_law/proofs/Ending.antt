@@ -23,7 +23,7 @@ use Rattle.history_law.proofs.DriveEvents.{IsRead, kept}
 use Rattle.history_law.proofs.Spending.{all_spend}
 use Rattle.history_law.specs.BookMoments.{IsMoment, with_event, lines_so_far, lines_in, plan_at}
 use Rattle.world_history.proofs.Runs.{due_more, world_more}
-use Rattle.job_law.proofs.Lists.{in_either}
+use Rattle.server_rules.proofs.Members.{in_either}
 use Rattle.fencing_law.specs.Reaching.{is_spellable, OwnAt}
 use Rattle.fencing_law.specs.Fenced.{FencesEnd, ReachedRefuses}
 use Rattle.fencing_law.proofs.Moves.{moved}

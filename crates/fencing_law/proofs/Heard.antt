@@ -20,6 +20,7 @@ use Rattle.server_rules.specs.Laws.{In}
 use Rattle.server_rules.specs.Envelopes.{message_in, by_reply}
 use Rattle.server_rules.specs.Messages.{Replies as RepliesTo, awaited_by, counters_have_room}
 use Rattle.server_rules.specs.Replies.{is_done, answers}
+use Rattle.server_rules.proofs.Members.{in_mapped, in_map}
 use Rattle.scenario_text.specs.declared.line.Party.TheVariants as party
 use Rattle.scenario_text.specs.declared.line.Line.{Line}
 use Rattle.scenario_text.specs.declared.line.Line.TheVariants as line
@@ -43,7 +44,6 @@ use Rattle.history_law.proofs.DriveEvents.{IsRead}
 use Rattle.history_law.proofs.Spending.{all_spend}
 use Rattle.job_law.specs.Numbered.{Awaits, IsOf}
 use Rattle.job_law.specs.Fencing.{Raises}
-use Rattle.job_law.proofs.Lists.{in_map, in_mapped}
 use Rattle.fencing_law.specs.Reaching.{has_reached, reached_in, OwnAt}
 use Rattle.fencing_law.proofs.Spelled.{command_reads, RepliesAs, reply_reads}
 use Rattle.fencing_law.proofs.LaneLines.{letter, letters, letters_stay, in_get, SentTo, lanes_are_servers}

@@ -13,8 +13,8 @@ use Rattle.world_history.specs.State.{World}
 use Rattle.world_history.specs.Moves.{acts}
 use Rattle.world_history.specs.Sending.{move, sent_lines}
 use Rattle.world_history.specs.Handed.{Post}
+use Rattle.world_history.proofs.Always.{opening, IsKept}
 use Rattle.history_law.proofs.Each.{EachBehind, each_front}
-use Rattle.history_law.proofs.Histories.{IsKept, opening}
 use Rattle.history_law.proofs.DriveEvents.{IsRead, kept}
 use Rattle.history_law.proofs.Spending.{all_spend}
 use Rattle.job_law.specs.Fencing.{AreFencing, IsHeardTruly, AllRaised, FencesHold}

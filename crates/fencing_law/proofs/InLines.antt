@@ -2,6 +2,7 @@
 use Rattle.std.proofs.Common.{◌≡◌, ◌⊎◌, ℕ, ◌++◌, ◌∷◌, [], List, Some, None, refl, sym, ap, subst, ◌∙◌, append_assoc, inl, inr}
 use Rattle.std.proofs.lemmas.List.{append-nil}
 use Rattle.server_rules.specs.Laws.{In}
+use Rattle.server_rules.proofs.Members.{in_behind}
 use Rattle.scenario_text.specs.declared.event.Event.{Event}
 use Rattle.scenario_text.specs.declared.line.Note.TheVariants as note
 use Rattle.scenario_text.specs.declared.line.Line.{Line}
@@ -17,7 +18,6 @@ use Rattle.world_history.specs.History.{Step, AreCarried, lines_of_steps, Stands
 use Rattle.world_history.specs.History.Begins.{Nothing}
 use Rattle.history_law.specs.BookMoments.{IsMoment, lines_so_far, lines_in}
 use Rattle.history_law.specs.Read.{AreWritten, BookIsRead}
-use Rattle.job_law.proofs.Lists.{in_behind}
 use Rattle.fencing_law.specs.Reaching.{HolderIsServer}
 use Rattle.fencing_law.specs.Fenced.{IsFenced, noted, FencedIsFenced, NothingOlder}
 use Rattle.move_law.proofs.Moments.{so_far_more}

@@ -19,6 +19,7 @@ use Rattle.osd_drive.specs.Table.{first_fault}
 use Rattle.osd_drive.specs.Effects.{state_by}
 use Rattle.server_rules.specs.declared.limits.TheConstants.{SERVER_HOLDER}
 use Rattle.server_rules.specs.Laws.{In}
+use Rattle.server_rules.proofs.Members.{in_front, in_map}
 use Rattle.scenario_text.specs.declared.event.Event.{Event}
 use Rattle.scenario_text.specs.declared.event.Event.TheVariants as event
 use Rattle.scenario_text.specs.declared.event.Machine.TheVariants as machine
@@ -34,12 +35,12 @@ use Rattle.world_history.specs.Told.{told_verdict}
 use Rattle.world_history.specs.Drives.{verdict_on, judges, made_drive}
 use Rattle.world_history.specs.Reading.{is_drive, arrived, left_out, changed_by, sent_after_event, sent_after, sent_in}
 use Rattle.world_history.specs.ReadDrives.{DriveSeen, sees_drive, drive_seen, drive_after, drive_after_event, drive_after_line, hears_bytes, hears_sent}
+use Rattle.world_history.proofs.DriveLines.{same_drive}
 use Rattle.history_law.specs.Judging.{Judges, JudgesAt, injected_in}
 use Rattle.history_law.proofs.Spending.{free}
 use Rattle.history_law.proofs.Each.{EachBehind, HoldsAt, judges_of}
 use Rattle.history_law.proofs.DriveLines.{sent_same}
-use Rattle.history_law.proofs.Coming.{sent_behind, same_drive}
-use Rattle.job_law.proofs.Lists.{in_front, in_map}
+use Rattle.history_law.proofs.Coming.{sent_behind}
 use Rattle.fencing_law.specs.Reaching.{ServerSent, OwnAt}
 use Rattle.fencing_law.proofs.Raising.{LaneFrom, Old, New, lane_from}
 

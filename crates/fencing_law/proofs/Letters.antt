@@ -2,6 +2,7 @@
 use Rattle.std.proofs.Common.{◌≡◌, ℕ, false, ◌++◌, ◌∷◌, [], List, slice_get, refl, sym, ap, subst, ◌∙◌, append_assoc, inl, inr}
 use Rattle.std.proofs.lemmas.List.{append-nil}
 use Rattle.server_rules.specs.Laws.{In}
+use Rattle.server_rules.proofs.Members.{in_either}
 use Rattle.scenario_text.specs.declared.line.Party.{Party}
 use Rattle.scenario_text.specs.declared.line.Party.TheVariants as party
 use Rattle.scenario_text.specs.declared.line.Line.{Line}
@@ -11,7 +12,6 @@ use Rattle.world_history.specs.Reading.{arrived, sent_after, sent_in}
 use Rattle.history_law.specs.Judging.{Replies, JudgesAt}
 use Rattle.history_law.proofs.Each.{EachBehind, HoldsAt, judges_of}
 use Rattle.history_law.proofs.Coming.{sent_behind}
-use Rattle.job_law.proofs.Lists.{in_either}
 use Rattle.fencing_law.proofs.LaneLines.{letters, letters_event, letters_changed, map_append}
 
 -- where a letter of a drive was sent, and to what it replied

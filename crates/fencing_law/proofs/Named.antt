@@ -1,6 +1,7 @@
 -- Each message of the server to a client goes to one that a line can name, over all lines of a history.
 use Rattle.std.proofs.Common.{◌≡◌, ℕ, ◌+◌, ◌++◌, ◌∷◌, [], List, Option, Some, None, length, slice_get, slice_set, refl, sym, subst, append_assoc, inl, inr}
 use Rattle.std.proofs.lemmas.List.{append-nil}
+use Rattle.osd_lists.proofs.Slices.{found_more}
 use Rattle.scenario_text.specs.declared.event.Event.{Event}
 use Rattle.scenario_text.specs.declared.event.Event.TheVariants as event
 use Rattle.scenario_text.specs.declared.line.Line.{Line}
@@ -12,10 +13,11 @@ use Rattle.world_history.specs.Moves.{Act, acts}
 use Rattle.world_history.specs.Sending.{Move, move, sent_line, sent_lines, sends_all}
 use Rattle.world_history.specs.Reading.{arrived, left_out, changed_by, sent_after, sent_after_event, sent_in}
 use Rattle.world_history.specs.History.{Lawful}
+use Rattle.world_history.proofs.Always.{opening, IsKept}
 use Rattle.history_law.proofs.DriveLines.{sent_read}
-use Rattle.history_law.proofs.Coming.{found_more, found_set, sent_behind}
+use Rattle.history_law.proofs.Coming.{found_set, sent_behind}
 use Rattle.history_law.proofs.Each.{EachBehind, each_more, each_front}
-use Rattle.history_law.proofs.Histories.{opening, IsKept, lawful}
+use Rattle.history_law.proofs.Histories.{lawful}
 use Rattle.history_law.proofs.Issuing.{IsSilent, AreSilent}
 use Rattle.history_law.proofs.IssuingMoves.{acts_known}
 use Rattle.history_law.proofs.IssueLines.{IsKnown, all_known}

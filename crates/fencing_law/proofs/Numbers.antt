@@ -5,6 +5,7 @@ use Rattle.osd_commands.specs.declared.commands.Command.{Command}
 use Rattle.server_rules.specs.Laws.{In}
 use Rattle.server_rules.specs.Files.{Step as ServerStep}
 use Rattle.server_rules.specs.History.{step}
+use Rattle.server_rules.proofs.Members.{in_either, in_mapped, in_filtered}
 use Rattle.world_history.specs.ServerNames.{Awaited, Outgoing, ToDrive, Recalls, Answers, AnswersOrder}
 use Rattle.world_history.specs.declared.messages.Message.{Message}
 use Rattle.world_history.specs.declared.messages.Posted.{Posted}
@@ -15,7 +16,7 @@ use Rattle.world_history.specs.Handed.{Post, is_addressed, server_post}
 use Rattle.world_history.specs.Moves.{Act, acts}
 use Rattle.world_history.specs.Sending.{Move, move, fresh, sends_all}
 use Rattle.job_law.specs.Numbered.{Awaits, IsOf, NumbersOn}
-use Rattle.job_law.proofs.Lists.{in_either, in_mapped, in_filtered, numbered_from, numbered_alone}
+use Rattle.job_law.proofs.Lists.{numbered_from, numbered_alone}
 use Rattle.job_law.proofs.Steps.{step_numbers}
 use Rattle.fencing_law.proofs.Moves.{messages_in, posts_of, NoneOfServer, Acts, Others, Serves, each_acts}
 

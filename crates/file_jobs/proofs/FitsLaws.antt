@@ -20,7 +20,7 @@ use Rattle.file_jobs.specs.Works.{work_of}
 use Rattle.file_jobs.proofs.Mends.{fits_repair}
 use Rattle.file_jobs.specs.Sound.{CanFill, Fits, FitsAfterLoss, HasSoundJob, IsSoundJob}
 
-some_is : (t u : Target) → Some u ≡ Some t → t ≡ u
+pub some_is : (t u : Target) → Some u ≡ Some t → t ≡ u
 some_is t u e = cc e
 
 -- the target of a rebuild is one of the components

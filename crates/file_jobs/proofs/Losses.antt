@@ -21,6 +21,7 @@ use Rattle.server_rules.specs.Jobs.{declared_in, declares, is_target, loses, oth
 use Rattle.server_rules.specs.Rebuild.{fills, target_full, target_gone}
 use Rattle.server_rules.specs.Repair.{repairs}
 use Rattle.server_rules.specs.Replies.{fills_up, others}
+use Rattle.server_rules.proofs.Components.{length_lost, length_lost_on}
 use Rattle.stripe_repair.specs.declared.repair.Stage.{Stage}
 use Rattle.stripe_repair.specs.declared.repair.Stage.TheVariants.{Fetching, Storing}
 use Rattle.stripe_repair.specs.declared.rebuild.FillStage.{FillStage}
@@ -33,9 +34,7 @@ use Rattle.file_jobs.specs.Works.{noted, work_of as work_in}
 use Rattle.file_jobs.specs.Losing.{loses_in_repair, target_in}
 use Rattle.file_jobs.specs.Sound.{IsSound}
 use Rattle.file_jobs.specs.Steps.{Around, at, going}
-
-some_same : (t u : Target) → Some u ≡ Some t → t ≡ u
-some_same t u e = cc e
+use Rattle.file_jobs.proofs.FitsLaws.{some_is}
 
 -- ---- a repair
 
@@ -92,21 +91,16 @@ full_is g j a Creates t f = absurd (cc f)
 full_is g j a Fences t f = absurd (cc f)
 full_is g j a (Fetches todo short) t f = absurd (cc f)
 full_is g j a (Stores todo short b) t f = absurd (cc f)
-full_is g j a (Targets u) t f = ap (target_full g) (some_same t u f)
-full_is g j a (Gathers u todo) t f = ap (target_full g) (some_same t u f)
-full_is g j a (Fills u todo) t f = ap (target_full g) (some_same t u f)
+full_is g j a (Targets u) t f = ap (target_full g) (some_is t u f)
+full_is g j a (Gathers u todo) t f = ap (target_full g) (some_is t u f)
+full_is g j a (Fills u todo) t f = ap (target_full g) (some_is t u f)
 full_is g j a Lengths t f = absurd (cc f)
 full_is g j a (Checks todo x) t f = absurd (cc f)
 
 -- ---- what is kept
 
-length-lose_from : (ks : List ℕ) (cs : List Component) (k : ℕ) → length (lose_from ks cs k) ≡ length cs
-unfolding lose_from
-length-lose_from ks [] k = refl
-length-lose_from ks (c ∷ cs) k = omega (arith, length-lose_from ks cs (k + 1))
-
 pub sound_lost : (k : Kept) (cs : List Component) (lost : ℕ) → cs ≡ lose_from (lost ∷ []) k.components 0 → IsSound k → IsSound (record k { components = cs })
-sound_lost k cs lost e s = record { few = rw (e, length-lose_from (lost ∷ []) k.components 0) s.few; whole = rw (e, length-lose_from (lost ∷ []) k.components 0) s.whole; high = s.high; live = s.live; ended = s.ended }
+sound_lost k cs lost e s = record { few = rw (e, length_lost (lost ∷ []) k.components 0) s.few; whole = rw (e, length_lost (lost ∷ []) k.components 0) s.whole; high = s.high; live = s.live; ended = s.ended }
 
 -- ---- a drive is declared
 
@@ -137,9 +131,9 @@ gone_is g j Creates rest t drive f e = absurd (cc f)
 gone_is g j Fences rest t drive f e = absurd (cc f)
 gone_is g j (Fetches todo short) rest t drive f e = absurd (cc f)
 gone_is g j (Stores todo short b) rest t drive f e = absurd (cc f)
-gone_is g j (Targets u) rest t drive f e = rw (sym (some_same t u f), e) refl
-gone_is g j (Gathers u todo) rest t drive f e = rw (sym (some_same t u f), e) refl
-gone_is g j (Fills u todo) rest t drive f e = rw (sym (some_same t u f), e) refl
+gone_is g j (Targets u) rest t drive f e = rw (sym (some_is t u f), e) refl
+gone_is g j (Gathers u todo) rest t drive f e = rw (sym (some_is t u f), e) refl
+gone_is g j (Fills u todo) rest t drive f e = rw (sym (some_is t u f), e) refl
 gone_is g j Lengths rest t drive f e = absurd (cc f)
 gone_is g j (Checks todo x) rest t drive f e = absurd (cc f)
 
@@ -175,7 +169,7 @@ remade g j IsMade t rest drive w e n f = absurd (cc (ap target_in (sym w) ∙ e)
 remade g j IsFenced t rest drive w e n f = absurd (cc (ap target_in (sym w) ∙ e))
 remade g j (InRepair r) t rest drive w e n f = absurd (no_repair r.stage r.todo r.short t (ap target_in (sym w) ∙ e))
 remade g j (OnTarget u) t rest drive w e n f =
-    let same : t ≡ u = some_same t u (ap target_in (sym w) ∙ e) in
+    let same : t ≡ u = some_is t u (ap target_in (sym w) ∙ e) in
     remakes_is g j u rest drive (rw (← same) f) ∙ ap (λ (x : Work). loses g j x rest (is_target x drive)) (sym w)
 remade g j (InPieces r) t rest drive w e n f = absurd (n r refl)
 remade g j IsMeasured t rest drive w e n f = absurd (cc (ap target_in (sym w) ∙ e))
@@ -193,13 +187,8 @@ declares_is f m ds chosen drive cs j a e o =
     ∙ ap (λ (x : List Component). declared_in (going (record f.kept { components = x }) m (record { spent = f.spent; job = f.job; drives = ds; chosen = chosen })) drive f.job) e
     ∙ rw a refl
 
-length-lose_on : (drive : ℕ) (cs : List Component) → length (lose_on drive cs) ≡ length cs
-unfolding lose_on
-length-lose_on drive [] = refl
-length-lose_on drive (c ∷ cs) = omega (arith, length-lose_on drive cs)
-
 pub lost_many : (new : List Component) (drive : ℕ) (old : List Component) → new ≡ lose_on drive old → length new ≡ length old
-lost_many new drive old e = rw e (length-lose_on drive old)
+lost_many new drive old e = rw e (length_lost_on drive old)
 
 pub sound_off : (k : Kept) (cs : List Component) (drive : ℕ) → cs ≡ lose_on drive k.components → IsSound k → IsSound (record k { components = cs })
-sound_off k cs drive e s = record { few = rw (e, length-lose_on drive k.components) s.few; whole = rw (e, length-lose_on drive k.components) s.whole; high = s.high; live = s.live; ended = s.ended }
+sound_off k cs drive e s = record { few = rw (e, length_lost_on drive k.components) s.few; whole = rw (e, length_lost_on drive k.components) s.whole; high = s.high; live = s.live; ended = s.ended }

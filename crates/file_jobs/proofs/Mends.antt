@@ -16,9 +16,6 @@ use Rattle.file_jobs.specs.declared.job.Turn.TheVariants.{Over, Rests, Mended, P
 use Rattle.file_jobs.specs.Sound.{Fits, HasSoundJob, IsAlone, IsSoundJob, RestsAs, RestsLow, RestsSound, Stays}
 use Rattle.file_jobs.specs.Steps.{Around, Makes}
 
-pub none_of : {A : Type 0} (b : Bool) (xs : List A) → (IsTrue b ↔ (xs ≡ [])) → b ≡ true → xs ≡ []
-none_of b xs tells there = tells.0 there
-
 -- where it sends nothing it is over
 pub mends : (kind : JobKind) (g h : Going) (cs : List Awaited) (s : RepairState) (short : List ℕ) → cs ≡ [] → short ≡ s.short → h ≡ mended g short → after_repair kind h ≡ rests_repairing cs g kind s
 unfolding repairs

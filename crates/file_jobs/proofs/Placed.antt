@@ -14,7 +14,7 @@ use Rattle.stripe_repair.specs.Placing.{AreDifferent, CanPlace, FitsLoad, Places
 use Rattle.file_jobs.specs.Placing.{AreLoadsOf, free_load, free_loads, IsPick}
 
 -- one load more
-tail_of : (l : DriveLoad) (ls : List DriveLoad) (d : Drive) (ds : List Drive) → AreLoadsOf (l ∷ ls) (d ∷ ds) → (l.drive ≡ d.number) × (l.online ≡ d.online) × AreLoadsOf ls ds
+pub tail_of : (l : DriveLoad) (ls : List DriveLoad) (d : Drive) (ds : List Drive) → AreLoadsOf (l ∷ ls) (d ∷ ds) → (l.drive ≡ d.number) × (l.online ≡ d.online) × AreLoadsOf ls ds
 tail_of l ls d ds e =
     let h : (l.drive, l.online) ≡ (d.number, d.online) = cc e in
     (ap (λ (p : ℕ × Bool). p.0) h, ap (λ (p : ℕ × Bool). p.1) h, cc e)

@@ -14,8 +14,8 @@ use Rattle.world_history.specs.Refusals.{refusal}
 use Rattle.world_history.specs.History.{StandsFor, Begins, Lawful}
 use Rattle.world_history.specs.History.Begins.{Nothing, Part}
 use Rattle.history_law.specs.BookMoments.{IsMoment, with_event, lines_in, lines_so_far, plan_at}
-use Rattle.history_law.proofs.DriveEvents.{never_opens}
-use Rattle.world_history.proofs.Runs.{due_more, world_more}
+use Rattle.world_history.proofs.ReadMessages.{never_opens}
+use Rattle.world_history.proofs.Runs.{due_more, plan_more, world_more}
 use Rattle.move_law.proofs.Moments.{so_far_more}
 use Rattle.file_simulation.specs.Simulation.{IsNext}
 
@@ -101,10 +101,6 @@ event_lines w e m ms d =
     ap (λ (a : Action). with_event a (move w m).lines ++ lines_all (move w m).world ms) (sym opens)
     ∙ ap (λ (ls : List Line). line.Event e ∷ ((move w m).lines ++ ls))
     (later_lines (went_on (plan_of w e) m.action) (move w m).world ms refl d.1)
-
-plan_more : (p : Plan) (ms : List Move) (m : Move) → plan_after p (ms ++ m ∷ []) ≡ went_on (plan_after p ms) m.action
-plan_more p [] m = refl
-plan_more p (x ∷ ms) m = plan_more (went_on p x.action) ms m
 
 module _ (v : World) (g : List Line) (s : StandsFor v g) (e : Event) (allowed : refusal v e ≡ None) where
   abbrev plan : Plan

@@ -3,6 +3,7 @@
 use Rattle.std.proofs.Common.{◌≡◌, ℕ, ◌&&◌, ◌++◌, ◌∷◌, zero, suc, [], List, Bool, true, false, length, take, refl, sym, ap, subst, ◌∙◌}
 use Rattle.std.specs.List.{fold}
 use Rattle.std.proofs.lemmas.List.{append-nil}
+use Rattle.osd_lists.proofs.Tests.{first_true}
 use Rattle.scenario_text.specs.declared.line.CallKind.{CallKind}
 use Rattle.scenario_text.specs.declared.line.Line.{Line}
 use Rattle.scenario_text.specs.declared.line.Line.TheVariants as line
@@ -22,10 +23,6 @@ use Rattle.exchange_law.proofs.CountGrowing.{fewer, text_front}
 use Rattle.calm_law.specs.Following.{left_pending, PendingIsRead}
 use Rattle.calm_law.proofs.Shapes.{Shape, Nothing, Left, Heads, delivers_shape, times_shape, pends_shape}
 use Rattle.file_simulation.specs.Claim.{IsOfScenario, IsCalmHistory}
-
-first_true : (a b : Bool) → (a && b) ≡ true → a ≡ true
-first_true true b e = refl
-first_true false b e = absurd (cc e)
 
 -- ---- calm, and nothing guessed
 

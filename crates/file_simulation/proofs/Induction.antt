@@ -1,6 +1,7 @@
 -- From the statements of the simulation to the runs of all files: a machine stands for each file at each moment, and shows
 -- each cut of the move behind it.
 use Rattle.std.proofs.Common.{◌≡◌, ℕ, ◌++◌, ◌≤◌, List, [], length, take, Option, Some, None, refl, sym, ap, subst, ◌∙◌}
+use Rattle.std.proofs.lemmas.Option.{same_Some}
 use Rattle.server_rules.specs.Files.{file_at}
 use Rattle.server_rules.proofs.FileLaws.{number_at}
 use Rattle.scenario_text.specs.declared.line.Line.{Line}
@@ -34,9 +35,6 @@ none_there : (file : ℕ) → file_at [] file ≡ None
 unfolding file_at
 none_there file = refl
 
-same_file : (f g : File) → Some f ≡ Some g → f ≡ g
-same_file f g e = cc e
-
 -- ---- a move
 
 -- a file that was there before
@@ -44,7 +42,7 @@ stands_on : (v : World) (h : List Line) (file : ℕ) (f g : File) (s : State) (p
     file_at v.server.files file ≡ Some f → StandsAt v h g s pairs → Stands v h f
 stands_on v h file f g s pairs number e st =
     let same : g ≡ f =
-    same_file g f (sym st.there ∙ ap (λ (n : ℕ). file_at v.server.files n) number ∙ e) in
+    same_Some g f (sym st.there ∙ ap (λ (n : ℕ). file_at v.server.files n) number ∙ e) in
     subst (Stands v h) same (s, pairs, st)
 
 -- a file that the move makes, or that was there before

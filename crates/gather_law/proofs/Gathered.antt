@@ -1,6 +1,7 @@
 -- A gather keeps all that its write needs had or awaited.
 use Rattle.std.proofs.Common.{◌≡◌, ◌<◌, ◌≤◌, ◌⊎◌, ℕ, ◌+◌, false, List, [], ◌∷◌, ◌++◌, length, refl, arith, inl, inr, ne_eqb, map}
 use Rattle.std.specs.Prelude.{None, Some, Option, is_some}
+use Rattle.osd_lists.proofs.Options.{none_there}
 use Rattle.data_map.specs.Check.{IsChecked}
 use Rattle.data_map.specs.Striping.{parities, position_of, offset_of}
 use Rattle.stripe_plan.specs.declared.plan.Stretch.{Stretch}
@@ -140,14 +141,10 @@ gather_hears h op io a r ch is i x =
     goes_on h op (io.got ++ got_of a r ∷ []) io.timed [] (others io.awaited a.command.nonce) ch is (rw (no_more h) at
     (ready_replied h.map (span_of op) (outs h io.timed) io.got io.awaited a r (nonce_at h h.count) i x))
 
-none_is : {X : Type 0} (o : Option X) → is_some o ≡ false → o ≡ None
-none_is None e = refl
-none_is (Some x) e = absurd (cc e)
-
 long_enough : (h : Held) (op : CallOp) (timed : List TimedOut) → is_too_short h op timed ≡ false →
     unwritable h.map (outs h timed) (stripes h.map (span_of op)) ≡ None
 unfolding is_too_short
-long_enough h op timed e = none_is (unwritable h.map (outs h timed) (stripes h.map (span_of op))) e
+long_enough h op timed e = none_there (unwritable h.map (outs h timed) (stripes h.map (span_of op))) e
 
 gather_times_out : (h : Held) (op : CallOp) (io : Io) (k : ℕ) (timed : List TimedOut) → IsChecked h.map → IsSome op →
     is_too_short h op timed ≡ false →

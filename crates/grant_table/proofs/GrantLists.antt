@@ -9,50 +9,9 @@ use Rattle.std.proofs.lemmas.Bool.Decides.{nat_tests}
 use Rattle.server_rules.specs.declared.grants.Grant.{Grant}
 use Rattle.server_rules.specs.Grants.{overlaps, conflicts, grant_of}
 use Rattle.server_rules.specs.Laws.{In, Apart}
+use Rattle.server_rules.proofs.GrantLaws.{not_with_itself, turned_round, none_here, nobody, in_more, other_client, apart_more}
 use Rattle.grant_table.specs.Refusals.{refusal, conflict_or}
 use Rattle.grant_table.specs.Numbered.{has_number, without_number}
-
-not_with_itself : (g : Grant) → conflicts g g ≡ false
-unfolding conflicts
-not_with_itself g = grind (arith, nat_tests)
-
-turned_round : (a b : Grant) → conflicts a b ≡ false → conflicts b a ≡ false
-unfolding conflicts overlaps
-turned_round a b e = grind (arith, nat_tests, e)
-
-none_here : (p : Grant → Bool) (g : Grant) (gs : List Grant) → find p (g ∷ gs) ≡ None → (p g ≡ false) × (find p gs ≡ None)
-none_here p g gs e = elim (cases_Bool (p g)) [ inl t ↦ absurd (cc (rw t at e)) | inr f ↦ (f, rw f at e) ]
-
--- a test that finds nobody holds of no member
-nobody : (p : Grant → Bool) (gs : List Grant) (d : Grant) → find p gs ≡ None → In d gs → p d ≡ false
-nobody p [] d e i = absurd i
-nobody p (g ∷ gs) d e (inl x) = rw x (none_here p g gs e).0
-nobody p (g ∷ gs) d e (inr i) = nobody p gs d (none_here p g gs e).1 i
-
-in_more : (gs : List Grant) (g d : Grant) → In d (gs ++ (g ∷ [])) → In d gs ⊎ (d ≡ g)
-in_more [] g d (inl e) = inr e
-in_more [] g d (inr i) = absurd i
-in_more (h ∷ gs) g d (inl e) = inl (inl e)
-in_more (h ∷ gs) g d (inr i) = elim (in_more gs g d i) [ inl j ↦ inl (inr j) | inr e ↦ inr e ]
-
-other_client : (gs : List Grant) (g d : Grant) → grant_of gs g.client ≡ None → In d gs → d.client ≡ g.client → ⊥
-other_client gs g d own i e = grind (arith, nat_tests, e, nobody (λ h. h.client == g.client) gs d own i)
-
-pub apart_none : Apart []
-apart_none = λ a b i j. absurd i
-
--- a grant that conflicts with none, of a client that has none
-pub apart_more : (gs : List Grant) (g : Grant) → Apart gs → find (conflicts g) gs ≡ None → grant_of gs g.client ≡ None → Apart (gs ++ (g ∷ []))
-apart_more gs g h none own = λ a b i j. elim (in_more gs g a i) [
-  | inl x ↦ elim (in_more gs g b j) [
-    | inl y ↦ h a b x y
-    | inr e ↦ rw e (turned_round g a (nobody _ gs a none x), λ c. absurd (other_client gs g a own x c))
-  ]
-  | inr e ↦ elim (in_more gs g b j) [
-    | inl y ↦ rw e (nobody _ gs b none y, λ c. absurd (other_client gs g b own y (sym c)))
-    | inr z ↦ rw (e, z) (not_with_itself g, λ c. refl)
-  ]
-]
 
 in_without : (number : ℕ) (gs : List Grant) (d : Grant) → In d (without_number number gs) → In d gs
 in_without number [] d i = i
@@ -68,9 +27,6 @@ in_without number (g ∷ gs) d i = elim (cases_Bool (g.number == number)) [
 -- one taken out
 pub apart_without : (number : ℕ) (gs : List Grant) → Apart gs → Apart (without_number number gs)
 apart_without number gs h = λ a b i j. h a b (in_without number gs a i) (in_without number gs b j)
-
-pub apart_same : (gs hs : List Grant) → gs ≡ hs → Apart hs → Apart gs
-apart_same gs hs e h = rw e h
 
 -- ---- a grant that isn't refused
 

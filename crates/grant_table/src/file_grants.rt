@@ -4,7 +4,7 @@ ghost use Rattle.grant_table.specs.declared.file_grants.GrantErr.TheVariants.{Me
 ghost use Rattle.grant_table.specs.Refusals.{refusal};
 ghost use Rattle.grant_table.specs.Numbered.{has_number, without_number};
 
-use crate::conflicting::{first_against, grant_of};
+use crate::conflict::{first_against, grant_of};
 use server_rules::Grant;
 use std::alloc::{AllocFailed, Global};
 use std::marker::Model;

@@ -6,13 +6,13 @@
 //! `server_rules`.
 #![tactic(auto)]
 
-mod conflicting;
+mod conflict;
 mod file_grants;
 mod laws;
 mod slot;
 mod table;
 
-pub use conflicting::{conflicts, first_against, grant_of};
+pub use conflict::{conflicts, first_against, grant_of};
 pub use file_grants::{FileGrants, GrantErr, refusal};
 pub use laws::{slots_answer_repeats_alike, slots_carry_out_in_order, slots_follow_the_rules};
 pub use server_rules::{Grant, Grants as GrantList};

@@ -5,57 +5,31 @@ use Rattle.std.proofs.Common.{arith, ◌∙◌}
 use Rattle.std.proofs.lemmas.List.{length-append}
 use Rattle.osd_lists.specs.declared.memory.Memory.{Memory}
 use Rattle.xdr_codec.specs.Items.{u32_item, u64_item, bool_item, fixed_item}
+use Rattle.xdr_codec.proofs.ItemLaws.{length-u32, length-u64, length-bool, length-device}
 use Rattle.layout_types.specs.declared.ioerrs.IoErr.{IoErr}
 use Rattle.layout_types.specs.declared.objid.ObjId.{ObjId}
 use Rattle.layout_types.specs.Grammar.{list_item}
 use Rattle.layout_types.specs.Enumerations.{errno_number}
 use Rattle.layout_types.specs.Spelling.{objid_item, ioerr_item, IoErrFits, IoErrsFits, update_item}
+use Rattle.layout_types.proofs.Lengths.{length-objid}
 use Rattle.layout_ops.specs.Spelling.{IsBody}
 use Rattle.client_rules.specs.Requests.{plain_update}
 use Rattle.held_grants.specs.Bodies.{report_item}
-
-u32_long : (n : ℕ) → length (u32_item n) ≡ 4
-unfolding u32_item
-u32_long n = refl
-
-u64_long : (n : ℕ) → length (u64_item n) ≡ 8
-unfolding u64_item
-u64_long n = refl
-
-bool_long : (b : Bool) → length (bool_item b) ≡ 4
-bool_long false = u32_long 0
-bool_long true = u32_long 1
-
-device_long : (xs : List ℕ) → length xs ≡ 16 → length (fixed_item xs) ≡ 16
-unfolding fixed_item
-device_long xs e = length-append xs _ ∙ rw e refl
-
-object_long : (v : ObjId) → length v.oid_device_id ≡ 16 → length (objid_item v) ≡ 32
-object_long v e =
-    length-append (fixed_item v.oid_device_id) _
-    ∙ omega (
-      arith,
-      device_long v.oid_device_id e,
-      length-append (u64_item v.oid_partition_id)
-          (u64_item v.oid_object_id),
-      u64_long v.oid_partition_id,
-      u64_long v.oid_object_id,
-    )
 
 error_long : (v : IoErr) → IoErrFits v → length (ioerr_item v) ≡ 56
 error_long v f =
     length-append (objid_item v.oer_component) _
     ∙ omega (
       arith,
-      object_long v.oer_component f.component.device_id,
+      length-objid v.oer_component f.component.device_id,
       length-append (u64_item v.oer_comp_offset)
           (u64_item v.oer_comp_length ++ (bool_item v.oer_iswrite ++ u32_item (errno_number v.oer_errno))),
       length-append (u64_item v.oer_comp_length) (bool_item v.oer_iswrite ++ u32_item (errno_number v.oer_errno)),
       length-append (bool_item v.oer_iswrite) (u32_item (errno_number v.oer_errno)),
-      u64_long v.oer_comp_offset,
-      u64_long v.oer_comp_length,
-      bool_long v.oer_iswrite,
-      u32_long (errno_number v.oer_errno),
+      length-u64 v.oer_comp_offset,
+      length-u64 v.oer_comp_length,
+      length-bool v.oer_iswrite,
+      length-u32 (errno_number v.oer_errno),
     )
 
 errors_long : (vs : List IoErr) → AllByRecursion IoErrFits vs → length (flat_map ioerr_item vs) ≡ 56 * length vs
@@ -70,7 +44,7 @@ report_long report f =
     omega (
       arith,
       length-append (u32_item (length report)) (flat_map ioerr_item report),
-      u32_long
+      length-u32
           (length report),
       errors_long report f.1,
       f.0,
@@ -85,5 +59,5 @@ short_report report (Err m) f e = tt
 
 -- the update of a commit is one
 pub short_update : (r : Result (List ℕ) Memory) → IfOk r (λ b. b ≡ update_item plain_update) → IfOk r IsBody
-short_update (Ok b) e = rw e (omega (arith, length-append (bool_item false) (bool_item false), u32_long 0))
+short_update (Ok b) e = rw e (omega (arith, length-append (bool_item false) (bool_item false), length-u32 0))
 short_update (Err m) e = tt

@@ -7,6 +7,8 @@ use Rattle.data_map.specs.Striping.{replicas, group_width, group_of}
 use Rattle.stripe_plan.specs.declared.plan.Span.{Span}
 use Rattle.stripe_plan.specs.Touched.{stripes}
 use Rattle.stripe_plan.specs.Lost.{source_from, source, is_out, out_from, positions_out, is_short, unwritable}
+use Rattle.stripe_plan.proofs.WriteFollows.{no_stripes}
+use Rattle.stripe_plan.proofs.WriteLaws.{none_out}
 use Rattle.client_rules.specs.declared.calls.CallOp.{CallOp}
 use Rattle.client_rules.specs.declared.grants.Held.{Held}
 use Rattle.client_rules.specs.declared.grants.Reach.{Reach}
@@ -19,10 +21,6 @@ first_there : (k n : ℕ) → 0 < n → source_from [] k n ≡ Some k
 unfolding source_from
 first_there k zero l = absurd (omega (arith, l))
 first_there k (suc n) l = refl
-
-none_out : (m : RawMap) (p : ℕ) → is_out m [] p ≡ false
-unfolding source
-none_out m p = rw (first_there (p * replicas m) (replicas m) (omega arith)) refl
 
 none_out_from : (m : RawMap) (p n : ℕ) → out_from m [] p n ≡ []
 unfolding out_from
@@ -43,10 +41,6 @@ unfolding is_lacking
 none_lacking h op e = rw e (rw (all_writable h.map _, all_writable h.map _) refl)
 
 -- ---- no byte was granted
-
-no_stripes : (m : RawMap) (r : Span) → r.length ≡ 0 → stripes m r ≡ []
-unfolding stripes
-no_stripes m r e = rw (eq-eqb r.length 0 e) refl
 
 pub none_granted : (m : RawMap) (out : List ℕ) (g : Reach) → g.end ≤ g.first →
     is_some (unwritable m out (stripes m (granted_span g))) ≡ false

@@ -14,8 +14,9 @@ use Rattle.world_history.specs.Refusals.{refusal}
 use Rattle.world_history.specs.Reading.{steps_of}
 use Rattle.world_history.specs.Book.{ServerSeen, server_seen}
 use Rattle.world_history.specs.Laws.{ServerGoesOn, AllLinesGoOn}
-use Rattle.history_law.proofs.Histories.{opening, stands, kept_part}
-use Rattle.history_law.proofs.DriveEvents.{never_opens}
+use Rattle.world_history.proofs.Always.{opening}
+use Rattle.world_history.proofs.ReadMessages.{never_opens}
+use Rattle.history_law.proofs.Histories.{stands, kept_part}
 use Rattle.history_law.specs.BookMoments.{IsMoment, lines_so_far, with_event, lines_in}
 use Rattle.history_law.specs.Doing.{did_in}
 use Rattle.history_law.specs.Read.{AreWritten, BookIsRead, FilesAreRead, ReadsAs, StepIsRead}

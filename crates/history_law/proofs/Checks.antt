@@ -4,18 +4,11 @@ use Rattle.std.proofs.lemmas.List.{drop_at, drop_all, length-append, length-repl
 use Rattle.sha1.specs.Sha1.{sha1, digest_bytes as sha1_bytes}
 use Rattle.sha2.specs.Sha256.{sha256, digest_bytes as sha256_bytes}
 use Rattle.hmac_tags.specs.Mac.{hmac, hmac_sha1, hmac_sha256}
+use Rattle.hmac_tags.proofs.Lengths.{long_sha1, long_sha256}
 use Rattle.osd_capability.specs.declared.keys.CapKey.{CapKey}
 use Rattle.osd_capability.specs.declared.keys.CapKey.TheVariants.{One, Two}
 use Rattle.osd_capability.specs.Keys.{check_of}
 use Rattle.osd_commands.specs.Commands.{IsCheck}
-
-long_sha1 : (key text : List ℕ) → length (hmac_sha1 key text) ≡ 20
-unfolding hmac sha1 sha1_bytes
-long_sha1 key text = refl
-
-long_sha256 : (key text : List ℕ) → length (hmac_sha256 key text) ≡ 32
-unfolding hmac sha256 sha256_bytes
-long_sha256 key text = refl
 
 -- by the hash of the format
 abbrev by_hash : (second : Bool) → (one two : List ℕ) → CapKey

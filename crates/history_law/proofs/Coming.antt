@@ -6,6 +6,7 @@ use Rattle.std.proofs.lemmas.Bool.{cases_eq, eq-eqb, ne_eqb, and_parts}
 use Rattle.std.proofs.lemmas.List.{append-nil}
 use Rattle.std.proofs.lemmas.List.Sums.{fold-append}
 use Rattle.osd_lists.proofs.Tests.{not_false}
+use Rattle.osd_lists.proofs.Slices.{found_more}
 use Rattle.osd_commands.specs.declared.commands.Command.{Command}
 use Rattle.osd_commands.specs.declared.commands.CommandErr.{CommandErr}
 use Rattle.osd_commands.specs.Commands.{reading}
@@ -32,6 +33,7 @@ use Rattle.world_history.specs.Drives.{judges, first_key, made_drive}
 use Rattle.world_history.specs.Reading.{is_drive, arrived, left_out, changed_by, changed_at, sent_after_event, sent_after, sent_in}
 use Rattle.world_history.specs.ReadDrives.{DriveSeen, sees_drive, drive_seen, drive_after, drive_after_event, drive_after_line, hears_bytes, hears_sent}
 use Rattle.world_history.specs.Guesses.{Guarded, opens_with, opened_by, was_sent, is_guess_of, is_guess, guessed_at, keys_after, guards, guarded, unguessed}
+use Rattle.world_history.proofs.DriveLines.{same_drive}
 use Rattle.history_law.specs.Judging.{Judges, IsDelivered, Replies, JudgesAt, injected_in}
 use Rattle.history_law.specs.Sources.{IsServerOrClient, WasSent, ComesAt}
 use Rattle.history_law.specs.Safe.{AtEachLine}
@@ -51,14 +53,6 @@ fair_sender : (from to : Party) (d : ℕ) → IsFair from to → to ≡ party.Dr
 fair_sender party.Server to d fair is = tt
 fair_sender (party.Client c) to d fair is = tt
 fair_sender (party.Drive k) to d fair is = subst (IsFair (party.Drive k)) is fair
-
--- what stands in a longer list
-pub found_more : (ss : List Sent) (s : Sent) (n : ℕ) (m : Sent) → slice_get (ss ++ s ∷ []) n ≡ Some m
-    → (slice_get ss n ≡ Some m) ⊎ (s ≡ m)
-found_more [] s zero m is = inr (cc is)
-found_more [] s (suc n) m is = absurd (cc is)
-found_more (x ∷ ss) s zero m is = inl is
-found_more (x ∷ ss) s (suc n) m is = found_more ss s n m is
 
 -- what stands in a list in which something was put in place of another
 pub found_set : (ss : List Sent) (k : ℕ) (s : Sent) (n : ℕ) (m : Sent) → slice_get (slice_set ss k s) n ≡ Some m
@@ -243,14 +237,6 @@ found_here f x xs false is e rest = let r = rest e in (suc r.0, r.1, r.2, r.3)
 any_at : (f : Sent → Bool) (xs : List Sent) → list_any f xs ≡ true → IsFound f xs
 any_at f [] e = absurd (cc e)
 any_at f (x ∷ xs) e = found_here f x xs (f x) refl e (λ r. any_at f xs r)
-
-pub same_drive : (d : ℕ) (p : Party) → is_drive d p ≡ true → p ≡ party.Drive d
-same_drive d party.Server e = absurd (cc e)
-same_drive d (party.Client c) e = absurd (cc e)
-same_drive d (party.Drive k) e = elim (cases_eq k d) [
-  | inl same ↦ ap (λ (x : ℕ). party.Drive x) same
-  | inr other ↦ absurd (cc (sym e ∙ ne_eqb k d other))
-]
 
 pub opens_clear : (o : Option DriveKey) (c : Command) → is_none o ≡ false → fails_check o c ≡ false → opens_with o c ≡ true
 opens_clear None c none fails = absurd (cc none)

@@ -27,8 +27,9 @@ use Rattle.world_history.specs.Plans.{Rule, Alone, Prompt, when_quiet, quiet_at,
 use Rattle.world_history.specs.Refusals.{refusal, of_drive, unless_failed}
 use Rattle.world_history.specs.Reading.{left_out, changed_by, changed_at}
 use Rattle.world_history.specs.ReadDrives.{DriveSeen, sees_drive, drive_seen, drive_after, hears_bytes, where_it_is}
+use Rattle.world_history.proofs.Always.{opening, IsKept}
+use Rattle.world_history.proofs.ReadMessages.{drops_view, left_pending, quiet_opens, quiet_at_opens, pending_opens, never_opens}
 use Rattle.history_law.specs.Judging.{Judges, JudgesAt}
-use Rattle.history_law.proofs.Histories.{opening, IsKept}
 use Rattle.history_law.proofs.Each.{EachBehind, ArisesAt, HoldsAt, each_more, seen, none_quiet}
 use Rattle.history_law.proofs.Replying.{changes_it, changes_another, heard, touches}
 use Rattle.history_law.proofs.DriveLines.{view, seen_at, AreRead, reads_on, drive_read, IsTold, told_reads, IsQuietAct, quiet_told, shown_get, changed_view}
@@ -97,12 +98,6 @@ turned_told w i h e k f r is =
     quiet_told (at_drive w k f) i (h ++ line.Event e ∷ []) _
     (λ d. event_read w i h e r d ∙ is d ∙ turned_read w i d k f) (nothing (at_drive w k f))
 
-dropped_view : (w : World) (n : ℕ) (o : Option Posted) → slice_get w.network.messages n ≡ o
-    → changed_at (view w) n left_out ≡ view (drops_found w n o)
-dropped_view w n None e =
-    ap (λ (o : Option Sent). changed_by (view w) n left_out o) (shown_get w.network.messages n None e)
-dropped_view w n (Some p) e = changed_view w.network.messages n p (record p { dropped = true }) left_out e refl
-
 dropped_drives : (w : World) (n : ℕ) (o : Option Posted) → (drops_found w n o).drives ≡ w.drives
 dropped_drives w n None = refl
 dropped_drives w n (Some p) = refl
@@ -115,7 +110,7 @@ dropped_told w i h n r =
     quiet_told v i (h ++ line.Event (event.DropMessage n) ∷ []) _
     (λ d. event_read w i h (event.DropMessage n) r d
     ∙ ap (λ (ss : List Sent). seen ss i (at_number w.drives d))
-    (dropped_view w n (slice_get w.network.messages n) refl)
+    (drops_view w n (slice_get w.network.messages n) refl)
     ∙ ap (λ (ds : List (ℕ × DriveAt)). seen (view v) i (at_number ds d))
     (sym (dropped_drives w n (slice_get w.network.messages n))))
     (nothing v)

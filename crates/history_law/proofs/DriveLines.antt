@@ -18,6 +18,7 @@ use Rattle.world_history.specs.Sending.{fresh, sent_lines, sends_all}
 use Rattle.world_history.specs.Reading.{arrived, changed_by, changed_at, sent_after, sent_in}
 use Rattle.world_history.specs.ReadDrives.{DriveSeen, sees_drive, drive_seen, drive_after, hears_bytes, hears_sent}
 use Rattle.world_history.specs.Laws.{shown}
+use Rattle.world_history.proofs.ReadMessages.{shown_set}
 use Rattle.history_law.specs.Judging.{Judges, IsDelivered, Replies}
 use Rattle.history_law.proofs.Each.{EachBehind, HoldsAt, each_more, seen, AreQuiet, FromNoDrive, sent_say, sent_fold}
 use Rattle.history_law.proofs.Replying.{at_it, at_another, heard, touches, reply_tells}
@@ -102,12 +103,6 @@ quiet_told w i before a r q = record {
 }
 
 -- ---- messages that are marked
-
-shown_set : (ps : List Posted) (n : ℕ) (p : Posted)
-    → map shown (slice_set ps n p) ≡ slice_set (map shown ps) n (shown p)
-shown_set [] n p = refl
-shown_set (x ∷ ps) zero p = refl
-shown_set (x ∷ ps) (suc n) p = ap (λ (l : List Sent). shown x ∷ l) (shown_set ps n p)
 
 pub shown_get : (ps : List Posted) (n : ℕ) (o : Option Posted) → slice_get ps n ≡ o
     → slice_get (map shown ps) n ≡ option_map shown o

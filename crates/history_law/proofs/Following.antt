@@ -26,9 +26,10 @@ use Rattle.world_history.specs.Reading.{grouped, sent_after, steps_of}
 use Rattle.world_history.specs.ReadDrives.{DriveSeen, sees_drive, drive_seen, drive_after}
 use Rattle.world_history.specs.Book.{ServerSeen, input_of, step_by, server_behind, clock_after, sees_server, server_seen}
 use Rattle.world_history.specs.Laws.{ServerGoesOn, AllLinesGoOn}
-use Rattle.history_law.proofs.Histories.{opening, IsKept}
+use Rattle.world_history.proofs.Always.{opening, IsKept}
+use Rattle.world_history.proofs.ReadMessages.{never_opens}
 use Rattle.history_law.proofs.DriveLines.{sent_read, drive_read}
-use Rattle.history_law.proofs.DriveEvents.{IsRead, kept, never_opens}
+use Rattle.history_law.proofs.DriveEvents.{IsRead, kept}
 use Rattle.history_law.specs.Placed.{IsReadable}
 use Rattle.history_law.specs.Doing.{heard_of, brought_to, brought, input_in, did_in}
 use Rattle.history_law.specs.Read.{is_written, AreWritten, server_of, leads}

@@ -1,6 +1,7 @@
 -- What was sent stays, with its parties and its bytes, whatever lines come behind.
 use Rattle.std.proofs.Common.{◌≡◌, ℕ, zero, suc, List, [], ◌∷◌, ◌++◌, Option, Some, None, fold, slice_get, slice_set, refl, sym, ap, subst, ◌∙◌}
 use Rattle.std.proofs.lemmas.List.Sums.{fold-append}
+use Rattle.osd_lists.proofs.Slices.{get_more}
 use Rattle.layout_types.specs.declared.cred.ObjectCred.{ObjectCred}
 use Rattle.scenario_text.specs.declared.event.Event.{Event}
 use Rattle.scenario_text.specs.declared.event.Event.TheVariants as event
@@ -36,13 +37,8 @@ grows_on ss ts us g f n m found =
       bytes_are = t.bytes_are ∙ s.bytes_are;
     }
 
-found_before : (ss ts : List Sent) (n : ℕ) (m : Sent) → slice_get ss n ≡ Some m → slice_get (ss ++ ts) n ≡ Some m
-found_before [] ts n m e = absurd (cc e)
-found_before (x ∷ ss) ts zero m e = e
-found_before (x ∷ ss) ts (suc n) m e = found_before ss ts n m e
-
 pub grows_more : (ss ts : List Sent) → Grows ss (ss ++ ts)
-grows_more ss ts n m found = grows_not (ss ++ ts) n m (found_before ss ts n m found)
+grows_more ss ts n m found = grows_not (ss ++ ts) n m (get_more ss ts n m found)
 
 -- ---- marks
 

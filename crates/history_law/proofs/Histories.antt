@@ -12,17 +12,7 @@ use Rattle.world_history.specs.Runs.{world_after, lines_of, AreDue, plan_after, 
 use Rattle.world_history.specs.History.{Step, AreCarried, end_of, lines_of_steps, StandsFor, Begins, Lawful}
 use Rattle.world_history.specs.History.Begins.{Nothing, Part}
 use Rattle.world_history.specs.Refusals.{refusal}
-
--- what an event begins with
-abbrev pub opening : Event → List ℕ → Move
-opening e chosen = record { action = Opens e; chosen = chosen }
-
-pub record IsKept (P : World → List Line → Type 0) : Type 0 where
-  pub starts : P empty_world []
-  pub opens : (w : World) (h : List Line) (e : Event) (chosen : List ℕ) → P w h → refusal w e ≡ None →
-      P (move w (opening e chosen)).world (h ++ line.Event e ∷ (move w (opening e chosen)).lines)
-  pub moves : (w : World) (h : List Line) (r : Rule) (m : Move) → P w h → due_by w r ≡ Some m.action →
-      P (move w m).world (h ++ (move w m).lines)
+use Rattle.world_history.proofs.Always.{opening, IsKept}
 
 -- a history and what a front of the lines behind it leaves out
 cut_at : (h whole last rest lines : List Line) → h ≡ whole ++ last → lines ≡ last ++ rest → whole ++ lines ≡ h ++ rest

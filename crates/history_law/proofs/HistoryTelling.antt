@@ -3,6 +3,7 @@ use Rattle.std.specs.List.{list_any}
 use Rattle.std.proofs.Common.{◌≡◌, ℕ, ◌<◌, ◌∷◌, [], List, Bool, true, false, not, nat_eq, nat_lt, ◌&&◌, ◌||◌, Option, Some, None, Result, option_map, refl, sym, ap, subst, ◌∙◌, arith, inl, inr, if◌then◌else◌}
 use Rattle.std.proofs.lemmas.Bool.Decides.{nat_tests}
 use Rattle.std.proofs.lemmas.Bool.{and_parts}
+use Rattle.osd_lists.proofs.Tests.{or_none, differ}
 use Rattle.osd_commands.specs.declared.actions.Action.{Action}
 use Rattle.osd_commands.specs.declared.actions.Action.TheVariants as action
 use Rattle.osd_commands.specs.declared.commands.Command.{Command}
@@ -42,10 +43,6 @@ first_applies : (p : Verdict → Bool) (rows : List Row) → p verdict.Perform �
 first_applies p [] none e = absurd (cc (sym e ∙ none))
 first_applies p (r ∷ rows) none e =
     row_applies p r.0 r.1 (first_row rows) rows e (λ later. first_applies p rows none later)
-
-or_none : (b : Bool) → (b || false) ≡ true → b ≡ true
-or_none true e = refl
-or_none false e = absurd (cc e)
 
 -- ---- which verdict it was
 
@@ -106,9 +103,6 @@ tag_there c (Some x) t b e =
   where
     same : nat_eq x.tag t ≡ true → x.tag ≡ t
     same is = grind (arith, is, nat_tests)
-
-differ : (a b : ℕ) → nat_eq a b ≡ false → a ≡ b → ⊥
-differ a b e is = grind (arith, e, is, nat_tests)
 
 result_done : (a : Action) (s : StoreState) (c : Command) → (result_of a s c).verdict ≡ 0
 result_done action.Create s c = refl

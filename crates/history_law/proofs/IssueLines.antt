@@ -17,10 +17,11 @@ use Rattle.world_history.specs.Moves.{Act, acts}
 use Rattle.world_history.specs.Sending.{Move, move, sent_line, sent_lines, sends_all}
 use Rattle.world_history.specs.Reading.{sent_in}
 use Rattle.world_history.specs.History.{Lawful}
+use Rattle.world_history.proofs.Always.{opening, IsKept}
 use Rattle.history_law.proofs.DriveEvents.{IsRead, kept}
 use Rattle.history_law.proofs.DriveLines.{sent_read}
 use Rattle.history_law.proofs.Each.{EachBehind, each_more, each_front}
-use Rattle.history_law.proofs.Histories.{opening, IsKept, lawful}
+use Rattle.history_law.proofs.Histories.{lawful}
 use Rattle.history_law.specs.Granted.{SpellsOwn}
 use Rattle.history_law.proofs.KnownGoing.{ClientKnown}
 use Rattle.history_law.proofs.KnownSteps.{wider_client}

@@ -1,5 +1,7 @@
 -- What a drive performs is the server's, or was issued to the client that sent it.
 use Rattle.std.proofs.Common.{◌≡◌, ℕ, ◌∷◌, [], List, Bool, true, false, ◌||◌, Some, Ok, slice_get, bit_and, nat_eq, refl, sym, ap, subst, ◌∙◌, inl, inr}
+use Rattle.std.proofs.lemmas.Option.{same_Some}
+use Rattle.osd_lists.proofs.Tests.{first_false}
 use Rattle.layout_types.specs.declared.cred.ObjectCred.{ObjectCred}
 use Rattle.osd_capability.specs.declared.layout.Capability.{Capability}
 use Rattle.osd_commands.specs.declared.actions.Action.{Action}
@@ -44,10 +46,6 @@ nothing_allowed Write = refl
 nothing_allowed GetAttr = refl
 nothing_allowed SetAttr = refl
 nothing_allowed SetTag = refl
-
-first_false : (a b : Bool) → (a || b) ≡ false → a ≡ false
-first_false true b not = absurd (cc not)
-first_false false b not = refl
 
 -- a command that is performed has the right that it needs
 pub allowed : (d : DriveState) (now : ℕ) (c : Command) → first_fault d now c ≡ drive.Perform
@@ -112,9 +110,6 @@ by_sender before l d bytes n m (party.Client c) all found from to are who p =
     inr (c, issued before l c d bytes all k p)
 by_sender before l d bytes n m (party.Drive k) all found from to are who p = absurd who
 
-same_some : (x y : Sent) → Some x ≡ Some y → x ≡ y
-same_some x y e = cc e
-
 same_drive : (a b : ℕ) → party.Drive a ≡ party.Drive b → a ≡ b
 same_drive a b e = cc e
 
@@ -122,7 +117,7 @@ delivered_issued : (before : List Line) (n : ℕ) → IsDelivered before n (Judg
     → ComesAt before (line.Delivered n (Judged Perform)) → AllCarry (sent_in before)
     → IssuedAt before (line.Delivered n (Judged Perform))
 delivered_issued before n p comes all m d found to =
-    let same : p.message ≡ m = same_some p.message m (sym p.sent ∙ found) in
+    let same : p.message ≡ m = same_Some p.message m (sym p.sent ∙ found) in
     let here : p.tells.0 ≡ d =
     same_drive p.tells.0 d (sym p.tells.1 ∙ ap (λ (x : Sent). x.to) same ∙ to) in
     let l : Line = line.Delivered n (Judged Perform) in

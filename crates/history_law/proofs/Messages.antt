@@ -2,6 +2,7 @@
 use Rattle.std.proofs.Common.{◌≡◌, ℕ, ◌++◌, ◌∷◌, [], List, Option, Some, None, slice_get, slice_set, refl, sym, ap, subst, ◌∙◌, zero, suc, inl, inr, ◌⊎◌, append_assoc}
 use Rattle.std.proofs.lemmas.List.{append-nil}
 use Rattle.std.proofs.lemmas.List.Sums.{fold-append}
+use Rattle.osd_lists.proofs.Slices.{found_more}
 use Rattle.scenario_text.specs.declared.event.Event.{Event}
 use Rattle.scenario_text.specs.declared.event.Event.TheVariants as event
 use Rattle.scenario_text.specs.declared.line.Party.{Party}
@@ -62,13 +63,6 @@ was_itself ss n m found = record {
   to_is = refl;
   bytes_are = refl;
 }
-
-pub found_more : (ss : List Sent) (s : Sent) (n : ℕ) (m : Sent) → slice_get (ss ++ s ∷ []) n ≡ Some m
-    → (slice_get ss n ≡ Some m) ⊎ (s ≡ m)
-found_more [] s zero m is = inr (cc is)
-found_more [] s (suc n) m is = absurd (cc is)
-found_more (x ∷ ss) s zero m is = inl is
-found_more (x ∷ ss) s (suc n) m is = found_more ss s n m is
 
 pub found_set : (ss : List Sent) (k : ℕ) (s : Sent) (n : ℕ) (m : Sent) → slice_get (slice_set ss k s) n ≡ Some m
     → (slice_get ss n ≡ Some m) ⊎ (s ≡ m)

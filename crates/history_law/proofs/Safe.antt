@@ -6,6 +6,7 @@ use Rattle.server_rules.specs.declared.server.Server.{Server}
 use Rattle.server_rules.specs.Files.{file_at}
 use Rattle.server_rules.specs.History.{Input}
 use Rattle.server_rules.specs.Laws.{Apart, AreSafe, EachStepIsSafe}
+use Rattle.server_rules.proofs.GrantLaws.{apart_none}
 use Rattle.scenario_text.specs.declared.line.Line.{Line}
 use Rattle.world_history.specs.Reading.{Step, steps_of}
 use Rattle.world_history.specs.Book.{ServerSeen, input_at, placed_in, step_by, server_behind, sees_server, server_at_first, server_after, live_in}
@@ -35,12 +36,9 @@ safe_server each s [] safe = safe
 safe_server each s (t ∷ steps) safe =
     safe_server each (sees_server s t) steps (safe_behind each s.server (placed_in t.rest) (input_at s t.head) safe)
 
-none_apart : Apart []
-none_apart a b x y = absurd x
-
 file_apart : (fs : List File) (n : ℕ) → AreSafe fs → Apart (live_in (file_at fs n))
 unfolding file_at
-file_apart [] n safe = none_apart
+file_apart [] n safe = apart_none
 file_apart (f ∷ fs) n safe = either (f.kept.number == n) (file_apart fs n safe.1)
   where
     either : (b : Bool) → Apart (live_in (file_at fs n)) → Apart (live_in (if b then Some f else file_at fs n))

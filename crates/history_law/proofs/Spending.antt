@@ -7,6 +7,7 @@ use Rattle.std.specs.BTreeMap.{insert_entry}
 use Rattle.std.proofs.lemmas.List.{append-nil}
 use Rattle.std.proofs.lemmas.List.Sums.{fold-append}
 use Rattle.std.proofs.lemmas.Option.{same_Some}
+use Rattle.osd_lists.proofs.Tests.{not_apart}
 use Rattle.osd_commands.specs.declared.actions.Action.{Action}
 use Rattle.osd_commands.specs.declared.actions.Action.TheVariants as action
 use Rattle.osd_commands.specs.declared.commands.Command.{Command}
@@ -246,16 +247,13 @@ lines_stay before (l ∷ lines) d each =
 
 -- ---- what is performed
 
-same_tag : (a b : ℕ) → not (nat_eq a b) ≡ false → a ≡ b
-same_tag a b e = grind (arith, e, nat_tests)
-
 -- a command that is performed on an object that is there has its tag
 tag_by : (a : Action) (c : Command) (x : StoredObject)
     → (is_create a && is_some (option_map state_of (Some x))) ≡ false
     → (not (is_create a) && of_object (λ y. not (nat_eq c.capability.tag y.tag)) (option_map state_of (Some x))) ≡ false
     → c.capability.tag ≡ x.tag
 tag_by action.Create c x finds tag = absurd (cc finds)
-tag_by a c x finds tag = same_tag c.capability.tag x.tag tag
+tag_by a c x finds tag = not_apart c.capability.tag x.tag tag
 
 later_lane : (o : Option LaneEntry) (n : ℕ) → of_lane (λ l. nat_lt n l.nonce) o ≡ false
     → of_lane (λ l. nat_eq l.nonce n) o ≡ false → HasPassed o n → ⊥

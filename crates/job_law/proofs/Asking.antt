@@ -15,8 +15,8 @@ use Rattle.server_rules.specs.Return.{Returned, NoGrant as NotHeld, Clean, Taken
 use Rattle.server_rules.specs.Requests.{serves}
 use Rattle.server_rules.specs.Openings.{opens, opens_made, opens_spent, opens_fenced, is_unsettled}
 use Rattle.server_rules.specs.Laws.{In}
+use Rattle.server_rules.proofs.Members.{in_filtered, in_filter}
 use Rattle.job_law.specs.Fencing.{Reached, is_fences, is_fencing, Raises, IsAsked, IsFencing}
-use Rattle.job_law.proofs.Lists.{in_filtered, in_filter}
 use Rattle.job_law.proofs.Quiet.{is_fenced, NoEnd, no_end_behind, quiet_over}
 use Rattle.job_law.proofs.Fences.{Fencing, WasFencing, Handled, IsNumber, quiet_handled, fenced_kind, handled_here, handled_fence, handled_making, fencing_waits, goes_loses, other_loses}
 use Rattle.job_law.proofs.Hearing.{fences_is}

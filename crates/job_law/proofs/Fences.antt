@@ -8,9 +8,9 @@ use Rattle.server_rules.specs.Messages.{awaited_by}
 use Rattle.server_rules.specs.Jobs.{is_made, making, ending, fenced, fence_begins, goes_on, waits_or_on, refills, remakes, loses}
 use Rattle.job_law.specs.Names.{Target, Piece}
 use Rattle.server_rules.specs.Laws.{In}
+use Rattle.server_rules.proofs.Members.{in_either}
 use Rattle.job_law.specs.Numbered.{Numbered}
 use Rattle.job_law.specs.Fencing.{Reached, is_fences, is_fencing, Raises, IsAsked, IsFencing, AllRaised}
-use Rattle.job_law.proofs.Lists.{in_either}
 use Rattle.job_law.proofs.Owned.{AllOwned, none_owned, each_owned}
 use Rattle.job_law.proofs.Quiet.{each_numbered, is_fenced, Quiet, From, noted, quiet_over, quiet_rests_or, IsMended, IsPlaced, quiet_repair, quiet_repairs, quiet_fetched, quiet_written, quiet_fills, quiet_gathered, quiet_filled, quiet_gone, quiet_audits, quiet_audits_all, quiet_audited}
 

@@ -13,10 +13,11 @@ use Rattle.server_rules.specs.Orders.{declares_each}
 use Rattle.server_rules.specs.Openings.{opens, opens_each}
 use Rattle.server_rules.specs.Rounds.{Round, step_round}
 use Rattle.server_rules.specs.Laws.{In}
+use Rattle.server_rules.proofs.Members.{in_front, in_behind, in_either, in_mapped}
 use Rattle.job_law.specs.Numbered.{Numbered, Awaits, IsOf, NumbersOn}
 use Rattle.job_law.specs.Fencing.{Reached, is_fencing, IsFencing, AreFencing, FencesHold}
 use Rattle.job_law.specs.Owned.{AreOwned, Owns}
-use Rattle.job_law.proofs.Lists.{in_front, in_behind, in_either, in_mapped, numbered_at, numbered_more}
+use Rattle.job_law.proofs.Lists.{numbered_at, numbered_more}
 use Rattle.job_law.proofs.Owned.{AllOwned, none_owned, sent_owned}
 use Rattle.job_law.proofs.Fences.{Goes, Ended, Fencing, Handled}
 use Rattle.job_law.proofs.Asking.{handled_declares, handled_opened}

@@ -11,8 +11,8 @@ use Rattle.server_rules.specs.Messages.{awaited_by}
 use Rattle.server_rules.specs.Jobs.{waits_or_on}
 use Rattle.server_rules.specs.Replies.{Hearing, Older, Full, Done, Nothing, is_write, is_done, hearing, others, renewed, renews, fills_up, heard_with, hears, answers, heard_by, heard_in, on_reply}
 use Rattle.server_rules.specs.Laws.{In}
+use Rattle.server_rules.proofs.Members.{in_mapped, in_map, in_filtered, in_filter}
 use Rattle.job_law.specs.Fencing.{Reached, is_fences, is_fencing, Raises, IsAsked, IsFencing, TellsRaised}
-use Rattle.job_law.proofs.Lists.{in_mapped, in_map, in_filtered, in_filter}
 use Rattle.job_law.proofs.Owned.{one_owned}
 use Rattle.job_law.proofs.Quiet.{is_fenced, no_end_behind, quiet_full}
 use Rattle.job_law.proofs.Fences.{GoesFrom, Fencing, WasFencing, IsNumber, quiet_goes, quiet_fencing, fenced_kind, goes_here, fencing_here, goes_waits, fencing_waits, other_waits, goes_loses, other_loses}

@@ -15,9 +15,9 @@ use Rattle.server_rules.specs.Rebuild.{makes_or, rebuilds, sources, sources_by, 
 use Rattle.server_rules.specs.Repair.{after_repair, mended, is_left, repair_reads, repairs, storing, stored, repair_begins}
 use Rattle.server_rules.specs.Jobs.{fetched, written, gathered, filled_in, audited_on}
 use Rattle.server_rules.specs.Laws.{In}
+use Rattle.server_rules.proofs.Members.{in_either}
 use Rattle.job_law.specs.Numbered.{Numbered}
 use Rattle.job_law.specs.Fencing.{is_fences, is_fencing}
-use Rattle.job_law.proofs.Lists.{in_either}
 use Rattle.job_law.proofs.Owned.{AllOwned, none_owned, one_owned, each_owned, stores_owned, repair_owned, sources_owned}
 
 -- ---- what is sent is numbered

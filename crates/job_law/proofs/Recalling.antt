@@ -18,8 +18,8 @@ use Rattle.server_rules.specs.Making.{refusal, unless_refused, makes_file, unmad
 use Rattle.server_rules.specs.Openings.{reopen}
 use Rattle.server_rules.specs.History.{Hears, Makes, Obeys, Adds, Formats, Resends, Crashes, Opens, unless_made}
 use Rattle.server_rules.specs.Laws.{In}
+use Rattle.server_rules.proofs.Members.{in_either, in_mapped}
 use Rattle.job_law.specs.Recalled.{CountsRecalls, EachStepCounts}
-use Rattle.job_law.proofs.Lists.{in_either, in_mapped}
 
 -- ---- steps without recalls
 

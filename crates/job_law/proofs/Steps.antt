@@ -20,9 +20,10 @@ use Rattle.server_rules.specs.Making.{refusal, unless_refused, makes_file, with_
 use Rattle.server_rules.specs.Openings.{crashed_file, reopen}
 use Rattle.server_rules.specs.History.{Input, Hears, Makes, Obeys, Adds, Formats, Resends, Crashes, Opens, unless_made, step}
 use Rattle.server_rules.specs.Laws.{In}
+use Rattle.server_rules.proofs.Members.{in_front, in_behind, in_either, in_mapped}
 use Rattle.job_law.specs.Numbered.{Awaits, IsOf, NumbersOn, EachStepNumbers, EachRunNumbers}
 use Rattle.job_law.specs.Fencing.{Reached, is_fencing, AreFencing, IsHeardTruly, FencesHold, FencesWait}
-use Rattle.job_law.proofs.Lists.{in_front, in_behind, in_either, in_mapped, numbered_at, numbered_more}
+use Rattle.job_law.proofs.Lists.{numbered_at, numbered_more}
 use Rattle.job_law.proofs.Fences.{GoesFrom, Fencing, WasFencing, Handled, handled_fence, handled_making}
 use Rattle.job_law.proofs.Hearing.{IsTruth, Heard, Unheard, IsHeard, heard_reply}
 use Rattle.job_law.proofs.Asking.{handled_noted, handled_served}

@@ -21,6 +21,8 @@ use Rattle.server_rules.specs.Going.{Going}
 use Rattle.server_rules.specs.Jobs.{making}
 use Rattle.server_rules.specs.Files.{file_at, put_file, add_file, at_file, step_at}
 use Rattle.server_rules.specs.Making.{by_check, checked_64, components_on, create_file, makes_file, online, places, refusal, unless_refused, unmade, with_file}
+use Rattle.server_rules.proofs.Components.{length_components}
+use Rattle.server_rules.proofs.FileLaws.{not_there}
 use Rattle.file_jobs.specs.declared.job.FileState.{FileState}
 use Rattle.file_jobs.specs.Steps.{at, file_of, Steps}
 use Rattle.server_state.specs.declared.state.State.{State}
@@ -29,7 +31,7 @@ use Rattle.server_state.specs.Tables.{Table, files_in, entry_at, without, IsEntr
 use Rattle.server_state.specs.States.{server_of, Did, IsGood, IsGoodBut, Settles}
 use Rattle.server_state.specs.Replies.{file_awaits, AreListed, AreListedBut, OthersStay}
 use Rattle.server_state.specs.Index.{Keys}
-use Rattle.layout_server.specs.declared.creating.FileErr.{FileErr}
+use Rattle.layout_server.specs.declared.new_files.FileErr.{FileErr}
 use Rattle.layout_server.specs.Creating.{Creates, cause_of, map_unless}
 use Rattle.server_state.proofs.TableLaws.{file_at-files}
 use Rattle.server_state.proofs.CountLaws.{none_off}
@@ -79,20 +81,10 @@ put_added (x ∷ xs) f g none e = elim (cases_Bool (x.kept.number == f.kept.numb
 
 -- ---- the step
 
--- so many components
-components_many : (ds : List ℕ) (object : ℕ) → length (components_on ds object) ≡ length ds
-unfolding components_on
-components_many [] object = refl
-components_many (d ∷ ds) object = ap suc (components_many ds (object + 1))
-
 -- what a refusal looks at first
 where_none : (o : Option File) (rest : Option Refusal) → (if is_some o then Some FileExists else rest) ≡ None → o ≡ None
 where_none None rest e = refl
 where_none (Some f) rest e = absurd (cc e)
-
-pub none_there : (s : Server) (n : ℕ) (m : RawMap) → refusal s n m ≡ None → file_at s.files n ≡ None
-unfolding refusal
-none_there s n m e = where_none (file_at s.files n) (by_check (length (online s.drives)) (checked_64 m)) e
 
 -- where there is no file, there is no entry
 mapped_none : (o : Option FileState) → option_map file_of o ≡ None → o ≡ None
@@ -122,11 +114,11 @@ made_at old files new m n tag raw ds u g out good none chosen same left put_in s
     let s : Server = server_of old in
     let w : Server = with_file s (file_of u) in
     let number : u.kept.number ≡ n = ap (λ (f : File). f.kept.number) same in
-    let many : length ds ≡ length u.kept.components = sym (ap (λ (f : File). length f.kept.components) same ∙ components_many ds old.next_object) in
+    let many : length ds ≡ length u.kept.components = sym (ap (λ (f : File). length f.kept.components) same ∙ length_components ds old.next_object) in
     let go : at g m old.drives [] ≡ making (at_file w [] (file_of u)) =
     steps old.drives [] ∙ ap (λ (k : ℕ). making (at u (record { nonce = old.next_nonce; object = old.next_object + k; sent = []; notes = []; mended = [] }) old.drives [])) many in
     let put : files_in files.entries ≡ put_file (add_file s.files (file_of u)) u.kept.number (file_of g) =
-    ap files_in put_in ∙ sym (new_files old n u g good (none_there s n raw none) number (left ∙ number)) in
+    ap files_in put_in ∙ sym (new_files old n u g good (not_there s n raw none) number (left ∙ number)) in
     let did : Did out (server_of new) (makes_file s (file_of u)) =
     subst (λ (z : Going). Did out (server_of new) (step_at w u.kept.number z)) go (record {
       state = ap server_of fin.state ∙ ap (λ (fs : List File). after_settling old fs m) put;
@@ -164,8 +156,8 @@ refused_as (Some r) raw e p = (r, refl, cc p)
 pub sound_new : (k : Kept) (ds : List ℕ) (object : ℕ) → k.components ≡ components_on ds object → length ds ≡ k.map.comps → k.map.comps ≤ MAX_FILE_COMPONENTS →
     k.high ≡ 0 → k.grants ≡ [] → k.ended ≡ [] → IsSound k
 sound_new k ds object e many few high live ended = record {
-  few = rw (e, components_many ds object, many) few;
-  whole = rw e (components_many ds object ∙ many);
+  few = rw (e, length_components ds object, many) few;
+  whole = rw e (length_components ds object ∙ many);
   high = rw high (omega arith);
   live = rw live tt;
   ended = rw ended tt;
@@ -226,7 +218,7 @@ unlisted t ks n none a = λ x d m. elim (cases_Bool (n == m)) [
 ]
 
 pub none_before : (old : State) (n : ℕ) (raw : RawMap) → IsGood old → refusal (server_of old) n raw ≡ None → entry_at old.files.entries n ≡ None
-none_before old n raw good none = no_entry old.files.entries n good.files (none_there (server_of old) n raw none)
+none_before old n raw good none = no_entry old.files.entries n good.files (not_there (server_of old) n raw none)
 
 pub good_before : (old : State) (n : ℕ) (raw : RawMap) → IsGood old → refusal (server_of old) n raw ≡ None → IsGoodBut n old
 good_before old n raw good none = record {

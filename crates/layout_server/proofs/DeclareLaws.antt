@@ -28,6 +28,7 @@ use Rattle.server_state.specs.declared.step.Step.{Step}
 use Rattle.server_state.specs.Drives.{RiseFrom, AreDrives}
 use Rattle.server_state.specs.Tables.{Table, files_in, IsEntry, AreEntries}
 use Rattle.server_state.specs.States.{server_of, Did, IsGood, IsReady, Settles}
+use Rattle.server_state.proofs.ReplyLaws.{sorted_rest}
 use Rattle.layout_server.specs.Declaring.{Declares}
 
 -- ---- files put behind each other
@@ -98,10 +99,6 @@ one_more drive ds done left n f g was is chosen rest e =
     ap (λ (fs : List File). fs ++ later.files) (map-append (λ (e : ℕ × FileState). file_of e.1) done ((n, g) ∷ [])) ∙ append_assoc (files_in done) (file_of g ∷ []) later.files in
     ap (λ (fs : List File). record later { files = fs }) files
     ∙ ap (λ (z : Going). with_files (files_in done) (then_files z (declares_each drive ds (files_in left) z.effects z.chosen))) e
-
-pub sorted_rest : (n : ℕ) (ks : List ℕ) → IsStrictlySortedBy nat_cmp (n ∷ ks) → AllByRecursion (λ k. nat_cmp n k ≡ Less) ks × IsStrictlySortedBy nat_cmp ks
-unfolding IsStrictlySortedBy
-sorted_rest n ks s = s
 
 pub next_file : (drive : ℕ) (loads : List DriveLoad) (all : Table) (was : Effects) (done left : Table) (n : ℕ) (f g : FileState) (before behind : Effects) →
     SoFar drive loads all was done ((n, f) ∷ left) before → StepsOn (λ z. declares z drive) loads f before g behind → IsEntry (n, g) →

@@ -3,7 +3,7 @@ use Rattle.std.specs.Prelude.{ℕ, Bool, true, false, List, [], ◌∷◌, ◌�
 use Rattle.std.specs.List.{list_all}
 use Rattle.std.specs.Result.{ForOk}
 use Rattle.std.proofs.Common.{arith, inl, inr, ap, sym, subst, ◌∙◌}
-use Rattle.std.proofs.lemmas.Bool.{cases_Bool, and_right as and_no}
+use Rattle.std.proofs.lemmas.Bool.{cases_Bool, and_right}
 use Rattle.std.proofs.lemmas.Bool.Decides.{nat_tests}
 use Rattle.std.proofs.lemmas.List.{length-map}
 use Rattle.std.proofs.lemmas.List.Sums.{length-filter, sum_by-cons}
@@ -16,6 +16,7 @@ use Rattle.stripe_repair.specs.declared.loads.DriveLoad.{DriveLoad}
 use Rattle.stripe_repair.specs.declared.loads.TheConstants.{MAX_DRIVES}
 use Rattle.stripe_repair.specs.Placing.{AreDifferent, CanPlace, FitsLoad, Places, drives_of, is_online}
 use Rattle.file_jobs.specs.Placing.{AreLoadsOf}
+use Rattle.file_jobs.proofs.Placed.{tail_of}
 use Rattle.server_state.specs.Drives.{RiseFrom, AreDrives}
 use Rattle.server_state.specs.Standing.{AreCounted}
 use Rattle.server_state.specs.Tables.{Table}
@@ -24,12 +25,6 @@ use Rattle.layout_server.specs.Loads.{Tells}
 use Rattle.layout_server.proofs.DriveLaws.{few_drives}
 
 -- ---- the loads of drives
-
--- one load more
-tail_of : (l : DriveLoad) (ls : List DriveLoad) (d : Drive) (ds : List Drive) → AreLoadsOf (l ∷ ls) (d ∷ ds) → (l.drive ≡ d.number) × (l.online ≡ d.online) × AreLoadsOf ls ds
-tail_of l ls d ds e =
-    let h : (l.drive, l.online) ≡ (d.number, d.online) = cc e in
-    (ap (λ (p : ℕ × Bool). p.0) h, ap (λ (p : ℕ × Bool). p.1) h, cc e)
 
 -- they have the numbers of the drives
 same_numbers : (ls : List DriveLoad) (ds : List Drive) → AreLoadsOf ls ds → drives_of ls ≡ map (λ d. d.number) ds
@@ -106,7 +101,7 @@ online_found (l ∷ ls) (d ∷ ds) drive e t =
         | inl s ↦ rw s refl
         | inr s ↦ rw s (online_found ls ds drive h.2 (other_true (nat_eq l.drive drive && l.online) _ t (rw (h.0, s) refl)))
       ])
-      | inr f ↦ rw (kept_out d ds f) (online_found ls ds drive h.2 (other_true (nat_eq l.drive drive && l.online) _ t (and_no (nat_eq l.drive drive) _ (rw (h.1) f))))
+      | inr f ↦ rw (kept_out d ds f) (online_found ls ds drive h.2 (other_true (nat_eq l.drive drive && l.online) _ t (and_right (nat_eq l.drive drive) _ (rw (h.1) f))))
     ]
 
 -- a number that differs from all of these is none of them

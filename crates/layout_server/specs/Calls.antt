@@ -7,8 +7,8 @@ use Rattle.server_rules.specs.declared.server.Refusal.{Refusal}
 use Rattle.server_rules.specs.Making.{create_file, refusal}
 use Rattle.server_state.specs.declared.step.Step.{Step}
 use Rattle.server_state.specs.States.{Did}
-use Rattle.layout_server.specs.declared.creating.FileErr.{FileErr}
-use Rattle.layout_server.specs.declared.creating.FileErr.TheVariants.{Memory}
+use Rattle.layout_server.specs.declared.new_files.FileErr.{FileErr}
+use Rattle.layout_server.specs.declared.new_files.FileErr.TheVariants.{Memory}
 use Rattle.layout_server.specs.Creating.{cause_of}
 
 -- a file was made, on some drives

@@ -7,9 +7,9 @@ use Rattle.server_rules.specs.Files.{Step as RulesStep}
 use Rattle.server_rules.specs.Making.{create_file, refusal, unmade}
 use Rattle.file_jobs.specs.declared.job.FileState.{FileState}
 use Rattle.file_jobs.specs.Steps.{file_of}
-use Rattle.layout_server.specs.declared.creating.FileErr.{FileErr}
-use Rattle.layout_server.specs.declared.creating.FileErr.TheVariants as cause
-use Rattle.layout_server.specs.declared.creating.NewFile.{NewFile}
+use Rattle.layout_server.specs.declared.new_files.FileErr.{FileErr}
+use Rattle.layout_server.specs.declared.new_files.FileErr.TheVariants as cause
+use Rattle.layout_server.specs.declared.new_files.NewFile.{NewFile}
 use Rattle.server_state.specs.declared.state.State.{State}
 use Rattle.server_state.specs.declared.step.Step.{Step}
 use Rattle.server_state.specs.States.{server_of, Did}

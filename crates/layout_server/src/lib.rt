@@ -5,24 +5,24 @@
 //! of their own: drives' replies, orders, declared drives, and files that are made.
 #![tactic(auto)]
 
-mod creating;
-mod declaring;
 mod drives;
+mod kept_files;
 mod loads;
-mod looking;
+mod lost_drives;
 mod messages;
+mod new_files;
 mod orders;
 mod replies;
-mod resending;
+mod resends;
 mod server;
 
-pub use creating::{FileErr, create_file};
-pub use declaring::order_declare;
 pub use drives::{DriveInfo, DriveTable, add_drive, add_drives};
 pub use loads::loads_of;
+pub use lost_drives::order_declare;
+pub use new_files::{FileErr, create_file};
 pub use orders::{Obeyed, order_job, order_recall};
 pub use replies::on_drive_reply;
-pub use resending::{resend, waits};
+pub use resends::{resend, waits};
 pub use server::ServerCore;
 pub use server_requests::{Sends, Sent};
 pub use server_state::{Notes, Repairs, Step};

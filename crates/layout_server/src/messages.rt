@@ -6,7 +6,7 @@ ghost use Rattle.server_requests.specs.Reading.{message_rule};
 ghost use Rattle.server_state.specs.States.{server_of, Did, HasRoom, IsGood};
 ghost use Rattle.layout_server.specs.Orders.{Obeys};
 
-use crate::declaring::order_declare;
+use crate::lost_drives::order_declare;
 use crate::orders::{Obeyed, order_job, order_recall};
 use crate::replies::on_drive_reply;
 use layout_ops::{Order, OrderAnswer, OrderKind};

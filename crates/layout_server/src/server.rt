@@ -14,13 +14,13 @@ ghost use Rattle.layout_server.specs.Adding.{IsNew, CanAdd, and_drives, drive_of
 ghost use Rattle.layout_server.specs.Resending.{waited_of};
 ghost use Rattle.layout_server.specs.Calls.{Makes, IsRefused};
 
-use crate::creating::{FileErr, create_file};
-use crate::declaring::order_declare;
 use crate::drives::{DriveInfo, DriveTable, add_drive, add_drives};
-use crate::looking::{kept_of, numbers_of};
+use crate::kept_files::{kept_of, numbers_of};
+use crate::lost_drives::order_declare;
 use crate::messages::{hear, obey};
+use crate::new_files::{FileErr, create_file};
 use crate::orders::order_recall;
-use crate::resending::{resend, waits};
+use crate::resends::{resend, waits};
 use data_map::RawMap;
 use layout_ops::OrderKind;
 use osd_lists::{Memory, Node, Numbers};

@@ -2,6 +2,7 @@
 use Rattle.std.proofs.Common.{◌≡◌, ℕ, zero, suc, Bool, true, false, List, [], ◌∷◌, Option, Some, None, Result, Ok, Err, is_some, length, slice_get, slice_set, refl, ap, ◌∙◌, if◌then◌else◌}
 use Rattle.osd_lists.specs.declared.node.Node.{Node}
 use Rattle.osd_lists.specs.declared.node.Node.TheVariants as node
+use Rattle.osd_lists.proofs.Slices.{length_set}
 use Rattle.server_rules.specs.Files.{Step as ServerStep}
 use Rattle.server_rules.specs.declared.server.Refusal.{Refusal}
 use Rattle.server_rules.specs.Messages.{Message as ServerMessage}
@@ -23,11 +24,6 @@ use Rattle.world_history.specs.Drives.{raised, at_time, fallen}
 -- as many messages as in another world
 abbrev SameCount : World → World → Type 0
 SameCount w v = length v.network.messages ≡ length w.network.messages
-
-count_set : (ps : List Posted) (n : ℕ) (p : Posted) → length (slice_set ps n p) ≡ length ps
-count_set [] n p = refl
-count_set (x ∷ ps) zero p = refl
-count_set (x ∷ ps) (suc n) p = ap suc (count_set ps n p)
 
 either_act : (w : World) (b : Bool) (x y : Act) → SameCount w x.world → SameCount w y.world
     → SameCount w (if b then x else y).world
@@ -67,7 +63,7 @@ hand_to w chosen m (node.Client c) = client_heard w c m (at_number w.clients c)
 found_hand : (w : World) (chosen : List ℕ) (n : ℕ) (p : Option Posted) → SameCount w (delivers_found w chosen n p).world
 found_hand w chosen n None = refl
 found_hand w chosen n (Some p) =
-    hand_to (marked w n p) chosen p.message p.message.to ∙ count_set w.network.messages n (record p { delivered = true })
+    hand_to (marked w n p) chosen p.message p.message.to ∙ length_set w.network.messages n (record p { delivered = true })
 
 delivered : (w : World) (chosen : List ℕ) (n : ℕ) → SameCount w (delivers w chosen n).world
 unfolding delivers
@@ -75,7 +71,7 @@ delivered w chosen n = found_hand w chosen n (slice_get w.network.messages n)
 
 dropped : (w : World) (n : ℕ) (p : Option Posted) → SameCount w (drops_found w n p)
 dropped w n None = refl
-dropped w n (Some p) = count_set w.network.messages n (record p { dropped = true })
+dropped w n (Some p) = length_set w.network.messages n (record p { dropped = true })
 
 -- ---- a party does something
 

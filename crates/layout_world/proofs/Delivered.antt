@@ -3,6 +3,7 @@ use Rattle.std.proofs.Common.{◌≡◌, ℕ, zero, suc, ◌<◌, ◌≤◌, ◌
 use Rattle.osd_lists.specs.declared.node.Node.{Node}
 use Rattle.osd_lists.specs.declared.node.Node.TheVariants as node
 use Rattle.osd_lists.specs.declared.memory.Memory.{Memory}
+use Rattle.osd_lists.proofs.Slices.{get_set}
 use Rattle.osd_commands.specs.Commands as commands
 use Rattle.server_rules.specs.declared.server.Server.{Server}
 use Rattle.server_rules.specs.Messages.{Message as ServerMessage}
@@ -39,7 +40,7 @@ use Rattle.layout_world.specs.declared.parties.Parties.{Parties}
 use Rattle.history_law.specs.Doing.{heard_of, brought}
 use Rattle.layout_world.specs.State.{Settled, ShowsWith, Shows}
 use Rattle.layout_world.specs.Acting.{Doing, Acts, ActsWith, ends_in, ends_at, IsOf, Handing, Hands, HandsAt, HandsTo}
-use Rattle.layout_world.proofs.Settling.{settled_set, set_get}
+use Rattle.layout_world.proofs.Settling.{settled_set}
 use Rattle.layout_world.proofs.Shown.{shows_drives, shows_clients, shows_server}
 use Rattle.layout_world.proofs.Acted.{nothing_told}
 
@@ -221,7 +222,7 @@ delivered law old new n' number h act d inside hands e = λ w s.
     let shows : Shows (record old { network = n' }) (marked w number q.0) = marked_shows old n' number w q.0 law s q.1 d in
     let found : slice_get n'.messages number ≡ Some (arrived d.message) =
     ap (λ (x : NetworkState). slice_get x.messages number) d.state
-    ∙ set_get old.network.messages number (arrived d.message) inside in
+    ∙ get_set old.network.messages number (arrived d.message) inside in
     let is : IsOf (arrived d.message) q.0.message = record {
       from = ap (λ (x : Sent). x.from) q.2;
       to = ap (λ (x : Sent). x.to) q.2;

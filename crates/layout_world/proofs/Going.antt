@@ -12,6 +12,7 @@ use Rattle.world_history.specs.Sending.{Move, move, cut_lines}
 use Rattle.world_history.specs.Plans.{Plan, due, went_on, plan_of}
 use Rattle.world_history.specs.Runs.{world_after, lines_of, AreDue, plan_after}
 use Rattle.world_history.specs.History.Begins.{Part}
+use Rattle.world_history.proofs.Runs.{due_more, plan_more, world_more, lines_more}
 use Rattle.layout_world.specs.declared.parties.Parties.{Parties}
 use Rattle.layout_world.specs.State.{Shows}
 use Rattle.world_watch.specs.Sighted.{Table}
@@ -22,27 +23,6 @@ use Rattle.calm_law.specs.Moving.{sees_one, sees_moves}
 use Rattle.layout_world.specs.Going.{Sees, HasSeenAll, MovesBy, Far, Broken, Comes}
 
 -- ---- one more move
-
-due_more : (p : Plan) (w : World) (ms : List Move) (m : Move) → AreDue p w ms
-    → due (plan_after p ms) (world_after w ms) ≡ Some m.action → AreDue p w (ms ++ m ∷ [])
-due_more p w [] m b n = (n, tt)
-due_more p w (x ∷ ms) m b n = (b.0, due_more (went_on p x.action) (move w x).world ms m b.1 n)
-
-plan_more : (p : Plan) (ms : List Move) (m : Move) → plan_after p (ms ++ m ∷ []) ≡ went_on (plan_after p ms) m.action
-plan_more p [] m = refl
-plan_more p (x ∷ ms) m = plan_more (went_on p x.action) ms m
-
-world_more : (w : World) (ms : List Move) (m : Move)
-    → world_after w (ms ++ m ∷ []) ≡ (move (world_after w ms) m).world
-world_more w [] m = refl
-world_more w (x ∷ ms) m = world_more (move w x).world ms m
-
-lines_more : (w : World) (ms : List Move) (m : Move)
-    → lines_of w (ms ++ m ∷ []) ≡ lines_of w ms ++ (move (world_after w ms) m).lines
-lines_more w [] m = append-nil (move w m).lines
-lines_more w (x ∷ ms) m =
-    ap (λ (l : List Line). (move w x).lines ++ l) (lines_more (move w x).world ms m)
-    ∙ sym (append_assoc (move w x).lines (lines_of (move w x).world ms) _)
 
 -- ---- an event
 

@@ -3,6 +3,8 @@ use Rattle.std.proofs.Common.{◌≡◌, ◌||◌, ℕ, zero, suc, Bool, List, [
 use Rattle.std.specs.List.{list_any}
 use Rattle.std.proofs.Common.{arith}
 use Rattle.std.proofs.lemmas.Bool.Decides.{nat_tests}
+use Rattle.std.proofs.lemmas.Bool.{or_parts}
+use Rattle.osd_lists.proofs.Tests.{differ}
 use Rattle.server_rules.specs.declared.server.Drive.{Drive}
 use Rattle.server_rules.specs.declared.server.Server.{Server}
 use Rattle.server_rules.specs.Making.{add_drive}
@@ -17,21 +19,12 @@ use Rattle.layout_world.specs.ServerActing.{Adds}
 same_number : (n : ℕ) → nat_eq n n ≡ true
 same_number n = grind (arith, nat_tests)
 
-or_false : (a b : Bool) → (a || b) ≡ false → (a ≡ false) × (b ≡ false)
-or_false true b e = absurd (cc e)
-or_false false b e = (refl, e)
-
-differs : (a b : ℕ) → nat_eq a b ≡ false → a ≡ b → ⊥
-differs a b e p =
-    let no : true ≡ false = sym (same_number a) ∙ ap (λ n. nat_eq a n) p ∙ e in
-    cc no
-
 -- a number that no drive has is a new one
 pub new_by : (ds : List Drive) (number : ℕ) → list_any (λ d. nat_eq d.number number) ds ≡ false → IsNew number ds
 new_by [] number e = _
 new_by (d ∷ ds) number e =
-    let parts = or_false (nat_eq d.number number) (list_any (λ x. nat_eq x.number number) ds) e in
-    (differs d.number number parts.0, new_by ds number parts.1)
+    let parts = or_parts (nat_eq d.number number) (list_any (λ x. nat_eq x.number number) ds) e in
+    (differ d.number number parts.0, new_by ds number parts.1)
 
 -- ---- in the world
 

@@ -10,7 +10,7 @@ use Rattle.server_rules.specs.declared.server.Server.{Server}
 use Rattle.server_rules.specs.declared.server.Refusal.{Refusal}
 use Rattle.server_rules.specs.Files.{Step as RulesStep}
 use Rattle.server_rules.specs.Making.{create_file, refusal}
-use Rattle.layout_server.specs.declared.creating.FileErr.{FileErr}
+use Rattle.layout_server.specs.declared.new_files.FileErr.{FileErr}
 use Rattle.server_state.specs.declared.step.Step.{Step}
 use Rattle.server_state.specs.States.{Did}
 use Rattle.layout_server.specs.Calls.{IsRefused, Makes as CodeMakes}

@@ -10,7 +10,7 @@ use Rattle.server_rules.specs.Making.{set_format}
 use Rattle.server_rules.specs.Messages.{resend}
 use Rattle.server_rules.specs.Orders.{ordered}
 use Rattle.server_rules.specs.History.{Input, Obeys, Formats, Resends, step}
-use Rattle.server_requests.specs.declared.sending.Sent.{Sent}
+use Rattle.server_requests.specs.declared.outgoing.Sent.{Sent}
 use Rattle.server_requests.specs.Sending.{all_sent}
 use Rattle.server_state.specs.declared.step.Step.{Step}
 use Rattle.server_state.specs.States.{Did}

@@ -1,6 +1,7 @@
 -- Messages of which none is pending up to a place.
 use Rattle.std.proofs.Common.{◌≡◌, ℕ, zero, suc, ◌+◌, ◌≤◌, ◌<◌, ◌++◌, ◌∷◌, [], ◌⊎◌, inl, inr, List, false, Option, Some, None, length, slice_get, slice_set, refl, sym, ap, ◌∙◌, arith, length-append}
 use Rattle.std.proofs.lemmas.Bool.{cases_lt}
+use Rattle.osd_lists.proofs.Slices.{length_set}
 use Rattle.world_history.specs.declared.messages.Sent.{Sent}
 use Rattle.world_network.specs.Network.{is_pending, NonePending, IsLowestPending, PendingIs}
 use Rattle.layout_world.specs.State.{Settled}
@@ -17,11 +18,6 @@ get_in [] k x e = absurd (cc e)
 get_in (y ∷ xs) zero x e = omega arith
 get_in (y ∷ xs) (suc k) x e = omega (arith, get_in xs k x e)
 
-count_stays : (xs : List Sent) (n : ℕ) (x : Sent) → length (slice_set xs n x) ≡ length xs
-count_stays [] n x = refl
-count_stays (y ∷ xs) zero x = refl
-count_stays (y ∷ xs) (suc n) x = ap (λ (m : ℕ). suc m) (count_stays xs n x)
-
 -- what stands in a list behind a change stood there, or is the change
 get_set : (xs : List Sent) (n k : ℕ) (q p : Sent) → slice_get (slice_set xs n q) k ≡ Some p
     → (p ≡ q) ⊎ ((k ≡ n → ⊥) × (slice_get xs k ≡ Some p))
@@ -33,11 +29,6 @@ get_set (x ∷ xs) (suc n) (suc k) q p e = elim (get_set xs n k q p e) [
   | inl s ↦ inl s
   | inr s ↦ inr (λ z. s.0 (omega (arith, z)), s.1)
 ]
-
-pub set_get : (xs : List Sent) (n : ℕ) (q : Sent) → n < length xs → slice_get (slice_set xs n q) n ≡ Some q
-set_get [] n q l = absurd (omega (arith, l))
-set_get (x ∷ xs) zero q l = refl
-set_get (x ∷ xs) (suc n) q l = set_get xs n q (omega (arith, l))
 
 -- ---- settled messages
 
@@ -52,7 +43,7 @@ pub settled_set : (first end number : ℕ) (ms : List Sent) (q : Sent) → is_pe
     → Settled first end (slice_set ms number q)
 settled_set first end number ms q t s = record {
   from = s.from;
-  sent = rw (count_stays ms number q) s.sent;
+  sent = rw (length_set ms number q) s.sent;
   none = λ k p f l e. elim (get_set ms number k q p e) [
     | inl h ↦ ap (λ (x : Sent). is_pending x) h ∙ t
     | inr h ↦ s.none k p f l h.1
@@ -65,7 +56,7 @@ settled_next first next number ms q t s low =
     let inside : number < length ms = get_in ms number low.message low.found in
     record {
       from = omega (arith, s.from, low.from);
-      sent = rw (count_stays ms number q) (omega (arith, inside));
+      sent = rw (length_set ms number q) (omega (arith, inside));
       none = λ k p f l e. elim (get_set ms number k q p e) [
         | inl h ↦ ap (λ (x : Sent). is_pending x) h ∙ t
         | inr h ↦ elim (cases_lt k next) [

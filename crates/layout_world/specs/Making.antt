@@ -2,8 +2,8 @@
 use Rattle.std.specs.Prelude.{ℕ, ◌≡◌, ◌≢◌}
 use Rattle.scenario_text.specs.declared.line.Line.TheVariants as line
 use Rattle.server_rules.specs.declared.server.Refusal.{Refusal}
-use Rattle.layout_server.specs.declared.creating.FileErr.{FileErr}
-use Rattle.layout_server.specs.declared.creating.FileErr.TheVariants.{Memory}
+use Rattle.layout_server.specs.declared.new_files.FileErr.{FileErr}
+use Rattle.layout_server.specs.declared.new_files.FileErr.TheVariants.{Memory}
 use Rattle.layout_server.specs.Creating.{cause_of}
 use Rattle.world_history.specs.Told.{told_file_refusal}
 use Rattle.world_network.specs.declared.acts.Act.{Act}

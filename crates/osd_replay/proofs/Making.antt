@@ -10,6 +10,7 @@ use Rattle.scenario_text.specs.LineSpelling.{lines_text}
 use Rattle.world_history.specs.State.{empty_world}
 use Rattle.world_history.specs.declared.summary.Summary.{Summary}
 use Rattle.scenario_text.specs.Spelling.{Fits}
+use Rattle.scenario_text.proofs.Histories.{lines_text_more}
 use Rattle.calm_law.specs.Watching.{WatchesAll}
 use Rattle.layout_world.specs.State.{WorldState, Shows}
 use Rattle.history_claims.specs.Sound.{HistoriesAreSound}
@@ -24,7 +25,7 @@ use Rattle.osd_replay.specs.declared.generate.Digested.{Digested}
 use Rattle.osd_replay.specs.declared.stop.Stop.{Stop}
 use Rattle.osd_replay.specs.declared.stop.Stop.TheVariants.{Refused, Read, Memory, Full}
 use Rattle.osd_replay.proofs.Telling.{told_sound, told_text, told_few, tells_none, tells_more, last_said}
-use Rattle.osd_replay.proofs.SoFar.{text_more, appends_none}
+use Rattle.osd_replay.proofs.SoFar.{appends_none}
 use Rattle.osd_replay.proofs.Promised.{tells}
 use Rattle.osd_replay.proofs.Written.{fits_written, scenario_fits}
 
@@ -39,7 +40,7 @@ made_by front e old new text false whole may m by holds = record {
   shows = by.shows;
   tells = tells_more front m.world by.world m.history by.lines e m.tells by.carries by.fits;
   watches = by.watches m.history m.tells.stands (fits_written e may) m.watches;
-  holds = subst (λ (x : List ℕ). Holds new.digest x) (sym (text_more m.history by.lines ∙ ap (λ (x : List ℕ). lines_text m.history ++ x) (sym by.text_is))) (holds (lines_text m.history) m.holds);
+  holds = subst (λ (x : List ℕ). Holds new.digest x) (sym (lines_text_more m.history by.lines ∙ ap (λ (x : List ℕ). lines_text m.history ++ x) (sym by.text_is))) (holds (lines_text m.history) m.holds);
 }
 
 pub made_more : (front : List Event) (e : Event) (old new : Digested) (carried : Carried) → carried.is_full ≡ false → Fits e → Made front old → CarriesEvent e old.world new.world carried

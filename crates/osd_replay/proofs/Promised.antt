@@ -12,6 +12,7 @@ use Rattle.osd_bytes.specs.declared.lines.LineErr.TheVariants.{TooLong, InputFul
 use Rattle.osd_bytes.proofs.Known.{Appends-then}
 use Rattle.scenario_text.specs.declared.line.Line.{Line}
 use Rattle.scenario_text.specs.LineSpelling.{lines_text}
+use Rattle.scenario_text.proofs.Histories.{lines_text_more}
 use Rattle.world_history.specs.State.{World, empty_world}
 use Rattle.calm_law.specs.Watching.{WatchesAll}
 use Rattle.layout_world.specs.State.{WorldState}
@@ -35,7 +36,7 @@ use Rattle.osd_replay.specs.declared.stop.Stop.{Stop}
 use Rattle.osd_replay.specs.declared.stop.Stop.TheVariants.{Refused, Read, Memory as WantsMemory, Full as StopsFull}
 use Rattle.osd_replay.proofs.Telling.{told_sound, told_text, told_few, tells_none, tells_more}
 use Rattle.osd_replay.proofs.Written.{fits_written, fit_more, events_fit}
-use Rattle.osd_replay.proofs.SoFar.{SoFar, Reached, events_more, text_more, reached_more, reached_none, appends_none}
+use Rattle.osd_replay.proofs.SoFar.{SoFar, Reached, events_more, reached_more, reached_none, appends_none}
 
 -- what went out before an error line, and that line
 pub tells : (b a : Ends) (middle : Option (List ℕ)) (bytes error : List ℕ) (failed : ℕ) (whole : Bool) → Appends b.taken middle bytes → Puts middle a.taken failed a.writes_failed error whole → failed ≡ b.writes_failed → PutsError b a bytes error
@@ -73,7 +74,7 @@ front_and_more xs ys zs n same = ap (take (length xs + n)) same ∙ take-append-
 part_of : (b a : Ends) (middle : Option (List ℕ)) (text front more : List Line) (upto : ℕ) → IsTranscript b.left text → text ≡ front ++ more → upto < length (lines_text more) →
     Appends b.taken middle (lines_text front) → Appends middle a.taken (take upto (lines_text more)) → Rose b.writes_failed a.writes_failed → IsWriteFault b a
 part_of b a middle text front more upto is split short out part rose =
-    let whole : lines_text text ≡ lines_text front ++ lines_text more = ap lines_text split ∙ text_more front more in
+    let whole : lines_text text ≡ lines_text front ++ lines_text more = ap lines_text split ∙ lines_text_more front more in
     record {
       text = text;
       transcript = is;
@@ -94,7 +95,7 @@ finished b a now next taken middle number failed state last Done s y end reads w
   all = all_lines b.left s.lines taken now next s.reached y;
   last = last;
   ends = ends s.history s.watches;
-  out = subst (Appends b.taken a.taken) (sym (text_more s.history (last ∷ []))) (Appends-then b.taken middle a.taken (lines_text s.history) (lines_text (last ∷ [])) s.out fin.0);
+  out = subst (Appends b.taken a.taken) (sym (lines_text_more s.history (last ∷ []))) (Appends-then b.taken middle a.taken (lines_text s.history) (lines_text (last ∷ [])) s.out fin.0);
   at_end = end;
   reads = reads;
   writes = fin.1 ∙ writes;
@@ -254,7 +255,7 @@ cut_by : (b a : Ends) (now next : Option (List ℕ)) (taken more : ℕ) (middle 
 cut_by b a now next taken more middle told number failed whole old new line carried false full s y t c by out same put = absurd (cc full)
 cut_by b a now next taken more middle told number failed whole old new line carried true full s y t c cut out same put =
     let text : lines_text (s.history ++ cut.lines) ≡ lines_text s.history ++ carried.text =
-    text_more s.history cut.lines ∙ ap (λ (x : List ℕ). lines_text s.history ++ x) (sym cut.text_is) in
+    lines_text_more s.history cut.lines ∙ ap (λ (x : List ℕ). lines_text s.history ++ x) (sym cut.text_is) in
     record {
       lines = s.lines;
       world = s.world;

@@ -8,6 +8,7 @@ use Rattle.osd_bytes.proofs.Known.{Appends-then}
 use Rattle.scenario_text.specs.declared.event.Event.{Event}
 use Rattle.scenario_text.specs.declared.line.Line.{Line}
 use Rattle.scenario_text.specs.LineSpelling.{line_text, lines_text}
+use Rattle.scenario_text.proofs.Histories.{lines_text_more}
 use Rattle.world_history.specs.State.{World, empty_world}
 use Rattle.calm_law.specs.Watching.{WatchesAll}
 use Rattle.layout_world.specs.State.{WorldState, Shows}
@@ -46,9 +47,6 @@ events_more [] events line more h g = subst (λ (es : List Event). HasEvents (li
 events_more (l ∷ lines) events line more (inl h) g = inl (h.0, events_more lines events line more h.1 g)
 events_more (l ∷ lines) events line more (inr h) g = inr (h.0, h.1 ++ more, ap (λ (es : List Event). es ++ more) h.2, h.3, h.4, events_more lines h.1 line more h.5 g)
 
-pub text_more : (xs ys : List Line) → lines_text (xs ++ ys) ≡ lines_text xs ++ lines_text ys
-text_more xs ys = flat_map-append (λ line. line_text line ++ 10 ∷ []) xs ys
-
 pub reached_more : (input now next : Option (List ℕ)) (lines : List (List ℕ)) (line : List ℕ) (taken more : ℕ) → Reached input lines taken now → Yields now next (Ok (Some line)) → TakesLine taken more now next (Ok (Some line)) →
     Reached input (lines ++ line ∷ []) more next
 reached_more None now next lines line taken more r y t = tt
@@ -86,7 +84,7 @@ spells_more lines events w h line old new carried false whole spelled tells watc
   tells = tells_more events w by.world h by.lines c.event tells by.carries by.fits;
   shows = by.shows;
   watches = by.watches h tells.stands (fits_written c.event c.fits) watches;
-  text_is = text_more h by.lines ∙ ap (λ (x : List ℕ). lines_text h ++ x) (sym by.text_is);
+  text_is = lines_text_more h by.lines ∙ ap (λ (x : List ℕ). lines_text h ++ x) (sym by.text_is);
 }
 
 pub one_more : (lines : List (List ℕ)) (events : List Event) (w : World) (h : List Line) (line : List ℕ) (old new : WorldState) (carried : Carried) → carried.is_full ≡ false → HasEvents lines events → Tells events w h →

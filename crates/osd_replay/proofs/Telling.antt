@@ -16,21 +16,7 @@ use Rattle.osd_replay.specs.Transcript.{Tells, EndsWith}
 use Rattle.exchange_law.specs.Text.{AreOfText, AreFew}
 use Rattle.history_claims.specs.Texts.{EventsFit}
 use Rattle.world_history.specs.declared.limits.TheConstants.{MAX_KEPT}
-
-carried_more : (w : World) (steps : List Step) (s : Step) → AreCarried w steps
-    → Carries (end_of w steps) s.event s.lines s.after → AreCarried w (steps ++ s ∷ [])
-carried_more w [] s r c = (c, tt)
-carried_more w (x ∷ steps) s r c = (r.0, carried_more x.after steps s r.1 c)
-
-end_more : (w : World) (steps : List Step) (s : Step) → end_of w (steps ++ s ∷ []) ≡ s.after
-end_more w [] s = refl
-end_more w (x ∷ steps) s = end_more x.after steps s
-
-lines_more : (steps : List Step) (s : Step) → lines_of_steps (steps ++ s ∷ []) ≡ lines_of_steps steps ++ s.lines
-lines_more [] s = append-nil s.lines
-lines_more (x ∷ steps) s =
-    ap (λ (l : List Line). x.lines ++ l) (lines_more steps s)
-    ∙ sym (append_assoc x.lines (lines_of_steps steps) s.lines)
+use Rattle.world_history.proofs.Histories.{carried_more, end_more, steps_more}
 
 -- the flags that are kept are the history's
 pub last_said : (s : WorldState) (h : List Line) → WatchesAll h s.watch
@@ -82,7 +68,7 @@ tells_more events w w' h lines e t c kept =
             carried_more empty_world s step t.stands.carried
             (subst (λ (x : World). Carries x e lines w') t.stands.world_is c);
         world_is = sym (end_more empty_world s step);
-        lines_are = ap (λ (l : List Line). l ++ lines) t.stands.lines_are ∙ sym (lines_more s step);
+        lines_are = ap (λ (l : List Line). l ++ lines) t.stands.lines_are ∙ sym (steps_more s step);
       };
       fits = kept;
       events_are =

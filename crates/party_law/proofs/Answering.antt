@@ -18,7 +18,7 @@ use Rattle.client_rules.specs.Layouts.{first_why, fresh, is_lacking, enough, wit
 use Rattle.client_rules.specs.Messages.{answered_get, commit_under, on_need, on_phase, on_call}
 use Rattle.client_rules.specs.Requests.{grant_in}
 use Rattle.client_rules.specs.Results.{layouts_in, status_of}
-use Rattle.exchange_law.proofs.Numbers.{held_file}
+use Rattle.client_rules.proofs.ReadSteps.{held_file}
 use Rattle.party_law.proofs.Client.{IsSized, AreSized, put_over, turn_sized, same_call}
 
 -- ---- the size that is taken

@@ -15,7 +15,7 @@ use Rattle.client_rules.specs.Replies.{answers, replied, timed_out}
 use Rattle.client_rules.specs.Requests.{args_of}
 use Rattle.client_rules.specs.Steps.{leaves}
 use Rattle.exchange_law.proofs.ClientKeeping.{put_read, without_read}
-use Rattle.exchange_law.proofs.Numbers.{held_file}
+use Rattle.client_rules.proofs.ReadSteps.{held_file}
 use Rattle.move_law.specs.Turns.{IsBeginning, TurnCases, FinishCases}
 use Rattle.move_law.proofs.Turns.{each_turn, each_finish}
 use Rattle.party_law.specs.Sizes.{IsCommit}

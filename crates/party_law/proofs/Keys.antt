@@ -18,7 +18,7 @@ use Rattle.world_history.specs.Plans.{Plan, due, due_in, went_on, plan_of}
 use Rattle.world_history.specs.Runs.{world_after, plan_after}
 use Rattle.world_history.specs.History.{OneEventMore}
 use Rattle.world_history.specs.Refusals.{refusal, unless_there}
-use Rattle.history_law.proofs.DriveEvents.{never_opens}
+use Rattle.world_history.proofs.ReadMessages.{never_opens}
 use Rattle.history_law.specs.BookMoments.{IsMoment, with_event, lines_in, plan_at}
 use Rattle.exchange_law.proofs.SlotMoments.{always}
 use Rattle.party_law.proofs.Servers.{known_keys, added_here, added_other, not_known}

@@ -3,8 +3,9 @@ use Rattle.std.proofs.Common.{◌≡◌, ℕ, zero, suc, ◌+◌, ◌*◌, ◌/�
 use Rattle.std.proofs.Common.{refl, sym, ap, ◌∙◌, arith, inl, inr, eq-eqb, ne_eqb, map}
 use Rattle.std.specs.Prelude.{if◌then◌else◌, ◌&&◌, nat_eq, nat_lt}
 use Rattle.std.specs.List.{range_with_len}
-use Rattle.std.proofs.lemmas.Bool.{cases_eq, cases_lt, lt-ltb, le-ltb}
+use Rattle.std.proofs.lemmas.Bool.{cases_eq, cases_lt, lt-ltb, le-ltb, and_parts}
 use Rattle.std.proofs.lemmas.Nat.{div-add-mod', mod_below, div-mul-add, mod-mul-add}
+use Rattle.osd_lists.proofs.Tests.{nat_same, nat_less}
 use Rattle.gf256.specs.Field.{two_to}
 use Rattle.gf256.proofs.Product.{product_zero}
 use Rattle.data_map.specs.declared.check.RawMap.{RawMap}
@@ -105,17 +106,10 @@ code_zeros PandQ n c = ended 0 n c _ (λ j. two_zeros _ _ j (p_zeros 0 n) (q_zer
 
 -- ---- copies
 
-pub both : (a b : Bool) → (a && b) ≡ true → (a ≡ true) × (b ≡ true)
-both true b e = (refl, e)
-both false b e = absurd (cc e)
-
-same_number : (a b : ℕ) → nat_eq a b ≡ true → a ≡ b
-same_number a b e = elim (cases_eq a b) [ inl s ↦ s | inr n ↦ absurd (cc (sym e ∙ ne_eqb a b n)) ]
-
 pub copy_lies : (m : RawMap) (k z l : ℕ) → is_copy m k z l ≡ true → LiesAt m l (k / replicas m) z
 copy_lies m k z l e =
-    let t = both (nat_eq (place_of m l).position (k / replicas m)) (nat_eq (place_of m l).offset z) e in
-    (same_number _ _ t.0, same_number _ _ t.1)
+    let t = and_parts (nat_eq (place_of m l).position (k / replicas m)) (nat_eq (place_of m l).offset z) e in
+    (nat_same _ _ t.0, nat_same _ _ t.1)
 
 pub lies_copy : (m : RawMap) (k z l : ℕ) → LiesAt m l (k / replicas m) z → is_copy m k z l ≡ true
 lies_copy m k z l there = rw (eq-eqb (place_of m l).position (k / replicas m) there.0, eq-eqb (place_of m l).offset z there.1)
@@ -165,9 +159,6 @@ copy_there m l =
 uncoded : (m : RawMap) → has_parity m ≡ false → parities m ≡ 0
 uncoded m e = elim (with_parity m) [ inl some ↦ absurd (cc (sym e ∙ is_coded m some)) | inr none ↦ none ]
 
-pub below_comps : (a b : ℕ) → nat_lt a b ≡ true → a < b
-below_comps a b e = elim (cases_lt a b) [ inl lt ↦ lt | inr le ↦ absurd (cc (sym e ∙ le-ltb a b le)) ]
-
 pub layouts_are_codes : LayoutsAreCodes
 layouts_are_codes m tag c = record {
   local = λ k z d f same. word_local m k z d f c same;
@@ -177,8 +168,8 @@ layouts_are_codes m tag c = record {
   plain = λ k z f y u ck cf same.
       let none = uncoded m u in
       let l : ℕ = byte_at m (k / replicas m) z in
-      let lk = lies_there m (k / replicas m) z c (stands_at m k c (below_comps k m.comps ck)) (all_data m k z c none) in
-      let lf = lies_there m (f / replicas m) y c (stands_at m f c (below_comps f m.comps cf)) (all_data m f y c none) in
+      let lk = lies_there m (k / replicas m) z c (stands_at m k c (nat_less k m.comps ck)) (all_data m k z c none) in
+      let lf = lies_there m (f / replicas m) y c (stands_at m f c (nat_less f m.comps cf)) (all_data m f y c none) in
       let one : byte_at m (f / replicas m) y ≡ l = sym (cell_plain m f y none) ∙ same ∙ cell_plain m k z none in
       let lf2 : LiesAt m l (f / replicas m) y = rw one at lf in
       (l, lies_copy m k z l lk, lies_copy m f y l lf2, sym lk.0 ∙ lf2.0);

@@ -87,29 +87,11 @@ of_part (i ∷ is) all b h (inl x) =
     (omega (arith, p.1, x.0), omega (arith, p.2, x.1), rw p.1 q.0, p.2 ∙ sym q.2 ∙ ap (λ y. interval_end y all) (sym p.1))
 of_part (i ∷ is) all b h (inr x) = of_part is all b h.1 x
 
--- they are of one unit
-pub within_changed : (m : RawMap) (r : Span) (s c b : ℕ) → IsChecked m → IsWithin b (changed m r s c) → b < m.unit
-unfolding changed own_columns own columns
-within_changed m r s c b ch w = elim (cases_lt c (data_units m)) [
-  | inl low ↦ elim (cases_Bool (touches m r s c)) [
-    | inl t ↦ one (rw (lt-ltb c (data_units m) low, t) at w)
-    | inr f ↦ absurd (rw (lt-ltb c (data_units m) low, f) at w)
-  ]
-  | inr past ↦ within_unit m.unit (low m r s) (high m r s) b ch.some_unit (rw (le-ltb c (data_units m) past) at w)
-]
-  where
-    one : IsWithin b (own m r s c ∷ []) → b < m.unit
-    one (inl x) = omega (arith, x.1)
-    one (inr x) = absurd x
-
 -- ---- each is one of the range's
 
 -- a byte between low and high has this column
 abbrev Meets : (u low high b : ℕ) → Type 0
 Meets u low high b = (x : ℕ) × (low ≤ x) × (x < high) × (x % u ≡ b)
-
-digit : (q u b : ℕ) → b < u → (q * u + b) % u ≡ b
-digit q u b bl = mod-mul-add q u b bl
 
 next : (q u : ℕ) → (q + 1) * u ≡ q * u + u
 next q u = omega arith
@@ -137,7 +119,7 @@ meets u low high b some lt w =
                     omega (arith, s, hb, t.1, lt)
                 | inr (inr s) ↦ absurd (omega (arith, s, la, hb, al, el, lt))
               ],
-              digit (low / u) u b bl,
+              mod-mul-add (low / u) u b bl,
             )
         | inr round ↦ elim (double ((high - 1) % u + 1) (low % u)
             (rw (lt-leb u (high - low) short, le-ltb (low % u) ((high - 1) % u + 1) round) at w)) [
@@ -150,7 +132,7 @@ meets u low high b some lt w =
                   | inr (inr s) ↦ absurd (omega (arith, s, la, hb, al, el, lt))
                 ],
                 omega (arith, hb, first, lt),
-                digit ((high - 1) / u) u b bl,
+                mod-mul-add ((high - 1) / u) u b bl,
               )
               | inr second ↦ (
                 low / u * u + b,
@@ -161,7 +143,7 @@ meets u low high b some lt w =
                   | inr (inr s) ↦
                       absurd (omega (arith, s, la, hb, al, el, lt))
                 ],
-                digit (low / u) u b bl,
+                mod-mul-add (low / u) u b bl,
               )
             ]
       ]
@@ -170,10 +152,10 @@ meets u low high b some lt w =
           (low / u + 1) * u + b,
           omega (arith, n, la, al),
           omega (arith, n, la, before, long),
-          digit
+          mod-mul-add
               (low / u + 1) u b bl,
         )
-        | inr from ↦ (low / u * u + b, omega (arith, la, from), omega (arith, la, bl, from, long), digit (low / u) u b bl)
+        | inr from ↦ (low / u * u + b, omega (arith, la, from), omega (arith, la, bl, from, long), mod-mul-add (low / u) u b bl)
       ]
     ]
   where

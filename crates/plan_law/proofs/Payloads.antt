@@ -21,7 +21,7 @@ use Rattle.stripe_plan.specs.Laws.{word_of, over, IsWithin}
 use Rattle.stripe_plan.proofs.Columning.{word_is}
 use Rattle.stripe_plan.proofs.Covering.{column_touched}
 use Rattle.stripe_plan.proofs.ReadLaws.{stripe_touched}
-use Rattle.stripe_plan.proofs.WriteLaws.{new_some}
+use Rattle.stripe_plan.proofs.WriteLaws.{new_some, parity_is, over_is}
 use Rattle.fence_law.specs.Columns.{overlaid}
 use Rattle.plan_law.specs.FileLayout.{column_of_cell, word_in}
 use Rattle.plan_law.specs.Writes.{in_range, some_unit_touched, touches_cell, word_after}
@@ -29,7 +29,7 @@ use Rattle.plan_law.specs.Got.{Fits}
 use Rattle.plan_law.specs.Sending.{PayloadsAreRight}
 use Rattle.plan_law.proofs.Cells.{unit_inside, cell_coded}
 use Rattle.plan_law.proofs.Codes.{words_same}
-use Rattle.plan_law.proofs.Parities.{FitsAt, parity_is, parity_right}
+use Rattle.plan_law.proofs.Parities.{FitsAt, parity_right}
 
 -- ---- the new data
 
@@ -41,10 +41,6 @@ range_means r l e = elim (cases_lt l r.offset) [
     | inr past ↦ absurd (cc (rw (le-leb r.offset l from, le-ltb l (end_of r) past) at e))
   ]
 ]
-
-over_is : (r : Span) (bytes : List ℕ) (d : ℕ → ℕ) (l : ℕ) → r.offset ≤ l → l < end_of r →
-    over r bytes d l ≡ slice_index bytes (l - r.offset)
-over_is r bytes d l from to = rw (le-leb r.offset l from, lt-ltb l (end_of r) to) refl
 
 -- the machine's words for the new data and the plan's are one
 pub overlaid_over : (r : Span) (bytes : List ℕ) (d : ℕ → ℕ) (l : ℕ) → length bytes ≡ r.length →

@@ -3,7 +3,7 @@ use Rattle.std.proofs.Common.{◌≡◌, ℕ, zero, suc, true, ◌+◌, ◌/◌,
 use Rattle.std.proofs.Common.{map, refl, sym, ap, ◌∙◌, arith, inl, inr, eq-eqb, ne_eqb}
 use Rattle.std.specs.List.{Contains, range_with_len}
 use Rattle.std.specs.Prelude.{Some, not, ◌&&◌, ◌==◌}
-use Rattle.std.proofs.lemmas.Bool.{cases_Bool, cases_eq}
+use Rattle.std.proofs.lemmas.Bool.{cases_Bool, cases_eq, and_parts}
 use Rattle.std.proofs.lemmas.Bool.Decides.{nat_tests}
 use Rattle.std.proofs.lemmas.Nat.{div-mul-add, mod-mul-add}
 use Rattle.std.proofs.lemmas.List.FromFn.{length-map-range_with_len, get_or-map-range_with_len, take-map-range_with_len}
@@ -27,7 +27,7 @@ use Rattle.stripe_plan.specs.Touched.{unit_start}
 use Rattle.stripe_plan.specs.Words.{code_of as plan_code}
 use Rattle.stripe_plan.specs.Laws.{data_at, word_of}
 use Rattle.plan_law.specs.FileLayout.{word_in}
-use Rattle.plan_law.proofs.Codes.{both, same_word}
+use Rattle.plan_law.proofs.Codes.{same_word}
 use Rattle.plan_law.proofs.Decoded.{decoded_are_words}
 use Rattle.stripe_plan.proofs.StripeRows.{same_range}
 use Rattle.plan_law.specs.Pieces.{RepairsWriteWords, RebuildsCopyWords, RebuildsWriteWords}
@@ -98,7 +98,7 @@ stands_at m p [] n f e = absurd (cc e)
 stands_at m p (at ∷ cs) n f e = elim (cases_Bool (not at.missing && (n / replicas m == p))) [
   | inl t ↦
       let here : n ≡ f = same_Some n f (rw t at e) in
-      let there : (n / replicas m == p) ≡ true = (both (not at.missing) (n / replicas m == p) t).1 in
+      let there : (n / replicas m == p) ≡ true = (and_parts (not at.missing) (n / replicas m == p) t).1 in
       ap (λ x. x / replicas m) (sym here) ∙ grind (arith, nat_tests, there)
   | inr no_more ↦ stands_at m p cs (n + 1) f (rw no_more at e)
 ]

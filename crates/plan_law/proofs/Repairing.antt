@@ -4,6 +4,7 @@ use Rattle.std.proofs.Common.{inl, inr}
 use Rattle.std.specs.Prelude.{nat_lt}
 use Rattle.std.proofs.lemmas.Bool.{cases_Bool, cases_eq, lt-ltb}
 use Rattle.std.proofs.lemmas.Nat.{div-add-mod', mod_below, div-mul-add, mod-mul-add}
+use Rattle.osd_lists.proofs.Tests.{nat_less}
 use Rattle.data_map.specs.declared.check.RawMap.{RawMap}
 use Rattle.data_map.specs.Check.{IsChecked}
 use Rattle.data_map.specs.Striping.{replicas, stripe_of, data_unit_of, column_of, group_width, position_of, offset_of}
@@ -16,7 +17,7 @@ use Rattle.plan_law.specs.Standing.{some_stands, first_standing, standing_at, po
 use Rattle.plan_law.specs.Standing.{standing_byte}
 use Rattle.plan_law.specs.Guards.{RepairsStand, RepairsMayWrite}
 use Rattle.plan_law.proofs.Cells.{with_parity, is_coded, is_plain, cell_coded, cell_plain}
-use Rattle.plan_law.proofs.Codes.{word_local, copies_are, lies_copy, below_comps}
+use Rattle.plan_law.proofs.Codes.{word_local, copies_are, lies_copy}
 
 -- ---- replicas
 
@@ -190,5 +191,5 @@ repairs_may_write m tag b lost c is stay k z q done at =
     let copy = copy_stands m lost q c stands in
     let are = copies_are m (standing_at m lost q) (place_of m q).offset q c copy.0 in
     let kept : b.gone (standing_at m lost q) ≡ false =
-    stay (standing_at m lost q) (below_comps (standing_at m lost q) m.comps are.0) copy.1 in
+    stay (standing_at m lost q) (nat_less (standing_at m lost q) m.comps are.0) copy.1 in
     rw is (standing_at m lost q, (place_of m q).offset, copy.0, kept, byte_is m lost b.cell q c stands)

@@ -2,8 +2,9 @@
 use Rattle.std.proofs.Common.{◌≡◌, ℕ, ◌+◌, ◌-◌, ◌*◌, ◌/◌, ◌%◌, ◌<◌, ◌≤◌, Bool, true, false, List, length, refl, sym, ap, ◌∙◌}
 use Rattle.std.proofs.Common.{arith, inl, inr}
 use Rattle.std.specs.Prelude.{◌&&◌, not, nat_lt, Some, None}
-use Rattle.std.proofs.lemmas.Bool.{cases_Bool, cases_lt, lt-ltb, le-leb}
+use Rattle.std.proofs.lemmas.Bool.{cases_Bool, cases_lt, lt-ltb, le-leb, and_parts}
 use Rattle.std.proofs.lemmas.Nat.{mod_below, div-mul-add, mod-mul-add}
+use Rattle.osd_lists.proofs.Tests.{nat_less}
 use Rattle.file_log.specs.Judge.{byte_for}
 use Rattle.file_log.proofs.Settled.{byte_before, byte_behind}
 use Rattle.data_map.specs.declared.check.RawMap.{RawMap}
@@ -26,7 +27,7 @@ use Rattle.plan_law.specs.Writes.{in_range, some_unit_touched, touches_column, t
 use Rattle.plan_law.specs.Sending.{WrittenWordsAreKnown}
 use Rattle.plan_law.specs.Guards.{AreOut, StartsAreAllowed}
 use Rattle.plan_law.proofs.Cells.{with_parity, is_coded, is_plain, col_coded, col_plain, cell_coded, cell_plain}
-use Rattle.plan_law.proofs.Codes.{both, below_comps, words_same, data_word, all_data}
+use Rattle.plan_law.proofs.Codes.{words_same, data_word, all_data}
 use Rattle.plan_law.proofs.Payloads.{changed_low, changed_high, range_means, any_is, payloads_are_right}
 use Rattle.plan_law.proofs.Outs.{one_there, component_there}
 
@@ -110,8 +111,8 @@ changed_touched m r k z c e =
 pub hit_means : (m : RawMap) (r : Span) (left : ℕ → Bool) (k z : ℕ) → hits_cell m r left k z ≡ true →
     (nat_lt k m.comps ≡ true) × (left k ≡ false) × (touches_cell m r k z ≡ true)
 hit_means m r left k z e =
-    let outer = both (nat_lt k m.comps) (not (left k) && touches_cell m r k z) e in
-    let inner = both (not (left k)) (touches_cell m r k z) outer.1 in
+    let outer = and_parts (nat_lt k m.comps) (not (left k) && touches_cell m r k z) e in
+    let inner = and_parts (not (left k)) (touches_cell m r k z) outer.1 in
     (outer.0, listed (left k) inner.0, inner.1)
   where
     listed : (t : Bool) → not t ≡ true → t ≡ false
@@ -207,11 +208,11 @@ starts_are_allowed m tag r bytes out left c long can outs = record {
   touches = λ p v e. touch_is m r p c (new_range r bytes p v long e);
   hits = λ k z e. let h = hit_means m r left k z e in (h.0, changed_touched m r k z c h.2);
   lands = λ p v e. lands m r bytes out left p c long can outs (new_range r bytes p v long e);
-  misses = λ k z ck l h e. misses m r bytes k z e long (not_hit m r left k z (below_comps k m.comps ck) l h);
+  misses = λ k z ck l h e. misses m r bytes k z e long (not_hit m r left k z (nat_less k m.comps ck) l h);
 }
 
 pub written_words_are_known : WrittenWordsAreKnown
 written_words_are_known m r bytes got out left may k z e d f db fb df ff =
     let h = hit_means m r left k z e in
-    sym (payloads_are_right m r bytes got out may k z d (below_comps k m.comps h.0) h.2 db df)
-    ∙ payloads_are_right m r bytes got out may k z f (below_comps k m.comps h.0) h.2 fb ff
+    sym (payloads_are_right m r bytes got out may k z d (nat_less k m.comps h.0) h.2 db df)
+    ∙ payloads_are_right m r bytes got out may k z f (nat_less k m.comps h.0) h.2 fb ff

@@ -27,11 +27,12 @@ use Rattle.stripe_plan.specs.Words.{byte_at as byte_got}
 use Rattle.stripe_plan.specs.Laws.{IsWithin, IsGot}
 use Rattle.stripe_plan.specs.Plans.{writes, written, filled, stores}
 use Rattle.stripe_plan.proofs.ReadLaws.{stripes_are, stripe_touched}
+use Rattle.stripe_plan.proofs.WriteFollows.{within_changed, no_stripes}
 use Rattle.plan_law.specs.Writes.{touches_cell, interval_start, interval_end, part_of, IsCarried, IsRightStore}
 use Rattle.plan_law.specs.Sending.{MayScatter, StoresAreRight}
 use Rattle.plan_law.proofs.Cells.{stands_at, position_again, offset_again, unit_inside}
 use Rattle.plan_law.proofs.Payloads.{changed_low, changed_high, range_means, any_touched, payloads_are_right}
-use Rattle.plan_law.proofs.Intervals.{Every, every_append, IsPart, of_part, changed_parts, within_changed, range_own, changed_is}
+use Rattle.plan_law.proofs.Intervals.{Every, every_append, IsPart, of_part, changed_parts, range_own, changed_is}
 use Rattle.plan_law.proofs.Written.{place_is, word_for, got_for, written_for, written_got}
 
 -- ---- asks
@@ -418,10 +419,6 @@ each_carried m r bytes got out k z c below there e =
     (rw (stripes_are m r means.2) (all_have m r out (stripe_of m r.offset) (stripe_of m (end_of r - 1) + 1 - stripe_of m r.offset)
     s k z means.0.0 (omega (arith, means.0.0, means.0.1))
     (stripe_have m r out s 0 (group_width m) (turned m s u) k z (omega arith) (omega (arith, turned_below m s u wide)) asked)))
-
-no_stripes : (m : RawMap) (r : Span) → r.length ≡ 0 → stripes m r ≡ []
-unfolding stripes
-no_stripes m r none = rw (eq-eqb r.length 0 none) refl
 
 no_asks : (m : RawMap) (r : Span) (out : List ℕ) → asks Scatters m r out [] [] ≡ []
 unfolding asks

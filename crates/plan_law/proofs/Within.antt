@@ -12,24 +12,9 @@ use Rattle.stripe_plan.specs.declared.plan.Span.{Span}
 use Rattle.stripe_plan.specs.Touched.{end_of, stripes}
 use Rattle.stripe_plan.specs.Lost.{is_short, unwritable}
 use Rattle.stripe_plan.proofs.ReadLaws.{stripes_are}
+use Rattle.stripe_plan.proofs.WriteFollows.{no_stripes}
+use Rattle.stripe_plan.proofs.WriteLaws.{can_write}
 use Rattle.plan_law.specs.Sending.{WritableWithin}
-
-can_write : (m : RawMap) (out : List ℕ) (a n s : ℕ) → unwritable m out (range_with_len a n) ≡ None → a ≤ s → s < a + n →
-    is_short m out s ≡ false
-unfolding unwritable
-can_write m out a zero s can le lt = absurd (omega (arith, le, lt))
-can_write m out a (suc n) s can le lt = elim (cases_eq a s) [
-  | inl same ↦ ap (is_short m out) (sym same) ∙ first (is_short m out a) _ _ can
-  | inr other ↦ can_write m out (a + 1) n s (rest (is_short m out a) _ _ can) (omega (arith, le, other)) (omega (arith, lt))
-]
-  where
-    first : (b : Bool) (ps : List ℕ) (o : Option (List ℕ)) → (if b then Some ps else o) ≡ None → b ≡ false
-    first true ps o e = absurd (cc e)
-    first false ps o e = refl
-
-    rest : (a : Bool) (ps : List ℕ) (o : Option (List ℕ)) → (if a then Some ps else o) ≡ None → o ≡ None
-    rest true ps o e = absurd (cc e)
-    rest false ps o e = e
 
 none_short : (m : RawMap) (out : List ℕ) (a n : ℕ) → ((s : ℕ) → a ≤ s → s < a + n → is_short m out s ≡ false) →
     unwritable m out (range_with_len a n) ≡ None
@@ -37,10 +22,6 @@ unfolding unwritable
 none_short m out a zero fine = refl
 none_short m out a (suc n) fine = rw (fine a (omega arith) (omega arith))
     (none_short m out (a + 1) n (λ s le lt. fine s (omega (arith, le)) (omega (arith, lt))))
-
-no_stripes : (m : RawMap) (q : Span) → q.length ≡ 0 → stripes m q ≡ []
-unfolding stripes
-no_stripes m q none = rw (eq-eqb q.length 0 none) refl
 
 nothing : (m : RawMap) (out : List ℕ) → unwritable m out [] ≡ None
 unfolding unwritable

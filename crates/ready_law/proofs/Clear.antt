@@ -1,11 +1,12 @@
 -- A READ or a WRITE that is clear is carried out, and room stays.
 use Rattle.std.proofs.Common.{◌≡◌, ◌≤◌, ◌+◌, ◌-◌, ◌&&◌, ◌||◌, ℕ, Bool, true, false, true≢false, List, [], ◌∷◌, ◌++◌, length, Option, Some, None, option_map, is_none, is_some, IsSome, not, if◌then◌else◌, nat_eq, nat_lt, nat_le, subst, refl, sym, ap, ◌∙◌, inl, inr, arith}
-use Rattle.std.proofs.lemmas.Bool.{cases_Bool, le-ltb, eq-eqb}
+use Rattle.std.proofs.lemmas.Bool.{cases_Bool, le-ltb, eq-eqb, or_from}
 use Rattle.std.proofs.lemmas.Bool.Decides.{nat_tests}
 use Rattle.std.specs.Ordering.{nat_cmp}
 use Rattle.std.specs.BTreeMap.{is_at}
 use Rattle.std.specs.Map.{lookup, set_value}
 use Rattle.std.proofs.lemmas.Map.Entries.{sum_by-set_value}
+use Rattle.osd_lists.proofs.Tests.{and_false}
 use Rattle.osd_commands.specs.declared.actions.Action.{Action}
 use Rattle.osd_commands.specs.declared.actions.Action.TheVariants.{Create, Read, Write, GetAttr, SetAttr, SetTag}
 use Rattle.osd_commands.specs.declared.commands.Command.{Command}
@@ -30,10 +31,6 @@ use Rattle.ready_law.specs.Clear.{ReadsOrWrites, IsClear, ClearCommandsAreCarrie
 
 -- ---- rows
 
-none_after : (b : Bool) → (b && false) ≡ false
-none_after true = refl
-none_after false = refl
-
 no_create : (a : Action) → ReadsOrWrites a → is_create a ≡ false
 no_create a (inl e) = ap is_create e
 no_create a (inr e) = ap is_create e
@@ -53,14 +50,11 @@ no_attribute a (inr e) = ap is_set_attr e
 within : (a b c d e : Bool) → a ≡ false → b ≡ false → c ≡ false → d ≡ false → e ≡ false → (a || (b || (c || (d || e)))) ≡ false
 within a b c d e p q r s t = rw (p, q, r, s, t) refl
 
-or_false : (a b : Bool) → a ≡ false → b ≡ false → (a || b) ≡ false
-or_false a b p q = rw (p, q) refl
-
 all_same : (a b c : Bool) → a ≡ true → b ≡ true → c ≡ true → not (a && (b && c)) ≡ false
 all_same a b c p q r = rw (p, q, r) refl
 
 inside : (h a b : Bool) → a ≡ true → b ≡ true → (h && not (a && b)) ≡ false
-inside h a b p q = ap (λ (x : Bool). h && not (x && b)) p ∙ ap (λ (x : Bool). h && not x) q ∙ none_after h
+inside h a b p q = ap (λ (x : Bool). h && not (x && b)) p ∙ ap (λ (x : Bool). h && not x) q ∙ and_false h
 
 -- rows of which none applies say nothing
 passes : (rows more : List Row) → NoneApplies rows → first_row (rows ++ more) ≡ first_row more
@@ -102,20 +96,20 @@ module _ (d : DriveState) (now : ℕ) (c : Command) (x : IsClear d now c) where
   finds : lacks_object s c ≡ false
   finds =
       ap (λ (o : Option StoredObject). not (is_create c.action) && is_none (option_map state_of o)) x.there
-      ∙ none_after (not (is_create c.action))
+      ∙ and_false (not (is_create c.action))
 
   same_tag : has_other_tag s c ≡ false
   same_tag =
       ap (λ (o : Option StoredObject). not (is_create c.action) && of_object (λ y. not (nat_eq c.capability.tag y.tag))
       (option_map state_of o)) x.there
       ∙ ap (λ (b : Bool). not (is_create c.action) && not b) (eq-eqb c.capability.tag x.object.tag x.tag)
-      ∙ none_after (not (is_create c.action))
+      ∙ and_false (not (is_create c.action))
 
   limits : passes_limit s c ≡ false
   limits =
       within _ _ _ _ _ (le-ltb MAX_LENGTH c.length x.short)
       (ap (λ (b : Bool). has_range c.action && b) (le-ltb MAX_END (c.offset + c.length) x.low)
-      ∙ none_after (has_range c.action))
+      ∙ and_false (has_range c.action))
       (ap (λ (b : Bool). b && nat_lt MAX_VALUE (length c.payload)) (no_value c.action x.placed.action))
       (ap (λ (b : Bool). b && of_object (λ o. nat_eq o.tag MAX_TAG) s.object) (no_tag c.action x.placed.action))
       (ap (λ (b : Bool). b && nat_le MAX_OBJECTS s.objects) (no_create c.action x.placed.action))
@@ -129,12 +123,12 @@ module _ (d : DriveState) (now : ℕ) (c : Command) (x : IsClear d now c) where
       && of_object (λ y. nat_lt s.free ((c.offset + c.length) - y.length)) (option_map state_of o))) x.there
       ∙ ap (λ (b : Bool). is_write c.action && (nat_lt 0 c.length && b))
       (le-ltb (free_of d.store) ((c.offset + c.length) - length_of x.object) (x.room e))
-      ∙ ap (λ (b : Bool). is_write c.action && b) (none_after (nat_lt 0 c.length))
-      ∙ none_after (is_write c.action)
+      ∙ ap (λ (b : Bool). is_write c.action && b) (and_false (nat_lt 0 c.length))
+      ∙ and_false (is_write c.action)
 
   right : has_no_right c ≡ false
   right =
-      or_false _ _ x.placed.right
+      or_from _ _ x.placed.right
       (ap (λ (b : Bool). b && nat_lt c.attribute FIRST_USER_ATTRIBUTE) (no_attribute c.action x.placed.action))
 
   place : is_elsewhere d.number c ≡ false
@@ -238,7 +232,7 @@ nonce_performed SetTag s c = refl
 
 told_kept : (c : Command) (m : Bool) (o : Option LaneEntry) → (m && of_lane (λ l. nat_eq l.nonce c.nonce) o) ≡ true
     → ((kept_reply c o).verdict ≡ 0) × ((kept_reply c o).nonce ≡ c.nonce)
-told_kept c m None e = absurd (true≢false (sym e ∙ none_after m))
+told_kept c m None e = absurd (true≢false (sym e ∙ and_false m))
 told_kept c false (Some l) e = absurd (cc e)
 told_kept c true (Some l) e = (refl, grind (arith, nat_tests, e))
 

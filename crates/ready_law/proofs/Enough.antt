@@ -13,10 +13,6 @@ none_else : (b : Bool) (k : ℕ) (o : Option ℕ) → is_none (if b then o else 
 none_else true k o e = (refl, e)
 none_else false k o e = absurd (cc e)
 
-false_if : (b : Bool) → (b ≡ true → ⊥) → b ≡ false
-false_if true h = absurd (h refl)
-false_if false h = refl
-
 module _ (m : RawMap) (out lost : List ℕ) (fewer : AreAmong out lost) where
   no_source : (k n : ℕ) → is_none (source_from out k n) ≡ true → is_none (source_from lost k n) ≡ true
   unfolding source_from

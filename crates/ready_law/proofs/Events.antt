@@ -1,7 +1,7 @@
 -- An event that is over stands apart in a lawful history.
 use Rattle.std.proofs.Common.{◌≡◌, ◌⊎◌, ◌||◌, ℕ, List, [], ◌∷◌, ◌++◌, Bool, true, false, true≢false, None, refl, sym, ap, subst, ◌∙◌, append_assoc, inl, inr, Option, Some, is_some, if◌then◌else◌}
 use Rattle.std.specs.List.{list_any}
-use Rattle.std.proofs.lemmas.Bool.{cases_Bool}
+use Rattle.std.proofs.lemmas.Bool.{cases_Bool, or_parts, or_from}
 use Rattle.std.proofs.lemmas.List.{append-nil}
 use Rattle.std.proofs.lemmas.List.Folds.{list_any-append}
 use Rattle.scenario_text.specs.declared.event.Event.{Event}
@@ -19,6 +19,7 @@ use Rattle.world_history.specs.Runs.{lines_of, AreDue, Carries}
 use Rattle.world_history.specs.Reading.{is_head}
 use Rattle.world_history.specs.History.{Step, AreCarried, end_of, lines_of_steps, StandsFor, Begins, OneEventMore}
 use Rattle.world_history.specs.History.Begins.{Nothing, Part}
+use Rattle.world_history.proofs.ReadMessages.{never_opens}
 use Rattle.calm_law.specs.Following.{is_opening}
 use Rattle.calm_law.proofs.Shapes.{Bare, Shape, IsHeaded, Nothing as NoLine, Left, Heads, is_event as begins_one, sent_bare, delivers_shape, times_shape, pends_shape}
 use Rattle.calm_law.proofs.MoveOpening.{begins_bare}
@@ -29,22 +30,15 @@ use Rattle.ready_law.specs.Events.{is_event, BeginsWithEvent, StandsApart, Event
 abbrev pub NoEvent : List Line → Type 0
 NoEvent ls = list_any is_event ls ≡ false
 
-neither : (a b : Bool) → (a || b) ≡ false → (a ≡ false) × (b ≡ false)
-neither true b e = absurd (cc e)
-neither false b e = (refl, e)
-
-both : (a b : Bool) → a ≡ false → b ≡ false → (a || b) ≡ false
-both a b p q = rw (p, q) refl
-
 first_plain : (l : Line) (ls : List Line) → NoEvent (l ∷ ls) → (is_event l ≡ false) × NoEvent ls
-first_plain l ls h = neither (is_event l) (list_any is_event ls) h
+first_plain l ls h = or_parts (is_event l) (list_any is_event ls) h
 
 more_plain : (l : Line) (ls : List Line) → is_event l ≡ false → NoEvent ls → NoEvent (l ∷ ls)
-more_plain l ls p q = both (is_event l) (list_any is_event ls) p q
+more_plain l ls p q = or_from (is_event l) (list_any is_event ls) p q
 
 all_plain : (xs ys : List Line) → NoEvent xs → NoEvent ys → NoEvent (xs ++ ys)
 all_plain xs ys p q =
-    list_any-append is_event xs ys ∙ both (list_any is_event xs) (list_any is_event ys) p q
+    list_any-append is_event xs ys ∙ or_from (list_any is_event xs) (list_any is_event ys) p q
 
 no_head : (l : Line) → is_head l ≡ false → is_event l ≡ false
 no_head (line.Event e) h = absurd (true≢false h)
@@ -92,13 +86,9 @@ pending_opens : (w : World) (c n : Option ℕ) (e : Event) → due_pending w c n
 pending_opens w c (Some n) e q = cc q
 pending_opens w c None e q = of_opens w c e q
 
-due_opens : (w : World) (r : Rule) (e : Event) → due_by w r ≡ Some (Opens e) → ⊥
-due_opens w Alone e q = cc q
-due_opens w (Prompt first c) e q = pending_opens w c (next_pending w first) e q
-
 later_plain : (w : World) (r : Rule) (chosen : List ℕ) (a : Action) → due_by w r ≡ Some a
     → NoEvent (sends_all (acts w chosen a)).lines
-later_plain w r chosen (Opens e) d = absurd (due_opens w r e d)
+later_plain w r chosen (Opens e) d = absurd (never_opens w r e d)
 later_plain w r chosen (Delivers n) d = shape_plain (sends_all (delivers w chosen n)).lines (delivers_shape w chosen n)
 later_plain w r chosen (TimesOut c k) d = shape_plain (sends_all (times_out w c k)).lines (times_shape w c k)
 later_plain w r chosen (Pends c) d = shape_plain (sends_all (pends w c)).lines (pends_shape w c)

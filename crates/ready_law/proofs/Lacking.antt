@@ -2,7 +2,7 @@
 use Rattle.std.proofs.Common.{◌≡◌, ◌==◌, ◌<◌, ◌≤◌, ℕ, zero, suc, ◌+◌, ◌*◌, ◌/◌, ◌&&◌, ◌||◌, not, Bool, true, false, List, [], ◌∷◌, Option, Some, None, length, slice_get, filter, refl, sym, ap, subst, ◌∙◌, arith, inl, inr}
 use Rattle.std.specs.Prelude.{is_none}
 use Rattle.std.specs.List.{range_with_len}
-use Rattle.std.proofs.lemmas.Bool.{cases_Bool, cases_lt, le-ltb, ltb-true, eq-eqb}
+use Rattle.std.proofs.lemmas.Bool.{cases_Bool, cases_lt, le-ltb, ltb-true, eq-eqb, or_right}
 use Rattle.std.proofs.lemmas.Bool.Decides.{nat_tests}
 use Rattle.std.proofs.lemmas.Nat.{div-add-mod', div-mul-add}
 use Rattle.std.proofs.lemmas.Option.{slice_get_cases}
@@ -23,10 +23,6 @@ use Rattle.ready_law.specs.Enough.{AreMissingAmong, LostAreListed, NoneIsLacked}
 
 -- ---- lost components
 
-or_true : (a b : Bool) → b ≡ true → (a || b) ≡ true
-or_true true b e = refl
-or_true false b e = e
-
 lost_at : (s : Scene) (cs : List Component) (j i : ℕ) (at : Component) → slice_get cs i ≡ Some at → is_lost s at ≡ true
     → among (j + i) (lost_from s cs j) ≡ true
 unfolding lost_from
@@ -40,7 +36,7 @@ lost_at s (c ∷ cs) j (suc i) at e l =
     let on : j + suc i ≡ j + 1 + i = omega arith in
     let rest = lost_at s cs (j + 1) i at e l in
     rw on (elim (cases_Bool (is_lost s c)) [
-      | inl t ↦ rw t (or_true (j == j + 1 + i) (among (j + 1 + i) (lost_from s cs (j + 1))) rest)
+      | inl t ↦ rw t (or_right (j == j + 1 + i) (among (j + 1 + i) (lost_from s cs (j + 1))) rest)
       | inr f ↦ rw f rest
     ])
 

@@ -13,9 +13,9 @@ use Rattle.server_rules.specs.Replies.{renewed, renews, fills_up, hears, Hearing
 use Rattle.server_rules.specs.Jobs.{making, ending, fenced, fence_begins, fetched, written, gathered, filled_in, audited_on, goes_on, waits_or_on, refills, remakes, loses, declared_in, targets, declares}
 use Rattle.server_rules.specs.Commands.{Ask, Creating, Which, sent_to, to_all, again_in_2}
 use Rattle.server_rules.specs.Messages.{awaited_by}
+use Rattle.server_rules.proofs.Members.{in_either, in_mapped, in_filtered}
 use Rattle.job_law.specs.Names.{Repairing, Fenced, Component, Awaited, Heard, Piece, Target, Job, JobKind, Making, Revoking, Rebuilding, Auditing, Work, Creates, Fences, Fetches, Stores, Targets, Gathers, Fills, Lengths, Checks, Tally, Rebuilt, NoDrive, NoSpace, Reply}
 use Rattle.sent_law.specs.Objects.{objects_of, target_in, target_of}
-use Rattle.job_law.proofs.Lists.{in_either, in_mapped, in_filtered}
 use Rattle.sent_law.proofs.Numbers.{in_set, objects_set, objects_from, objects_on}
 use Rattle.sent_law.proofs.Going.{with_owner, owner_below, owner_from}
 use Rattle.sent_law.proofs.BirthSent.{IsBorn, IsAsked, AllAsked, AllNew, is_creating, one_asked, asked_for, each_asked, stores_asked, repair_asked, sources_asked}

@@ -3,8 +3,8 @@ use Rattle.std.proofs.Common.{ℕ, ◌≤◌, List, [], ◌∷◌, refl, ap, ◌
 use Rattle.server_rules.specs.History.{Act, step, state_after}
 use Rattle.server_rules.specs.Laws.{In}
 use Rattle.server_rules.specs.Making.{new_server}
+use Rattle.server_rules.proofs.Members.{in_either}
 use Rattle.job_law.specs.Names.{Server, Command, ToDrive}
-use Rattle.job_law.proofs.Lists.{in_either}
 use Rattle.sent_law.proofs.ObjectSteps.{Agree}
 use Rattle.sent_law.specs.Tagged.{sent_over}
 use Rattle.sent_law.specs.First.{AreRunning, CreatesAreFirst}

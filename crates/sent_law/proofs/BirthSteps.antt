@@ -10,7 +10,7 @@ use Rattle.server_rules.specs.Orders.{declares_each, with_offline, offline, decl
 use Rattle.server_rules.specs.Rounds.{Round, step_round}
 use Rattle.server_rules.specs.Jobs.{declares, fence_begins}
 use Rattle.job_law.specs.Names.{Command, ToDrive, Server, File, Drive, Effects, ClientRequest, Awaited, OrderKind}
-use Rattle.job_law.proofs.Lists.{in_either}
+use Rattle.server_rules.proofs.Members.{in_either}
 use Rattle.job_law.proofs.Files.{found_file, in_drives}
 use Rattle.sent_law.proofs.ObjectSteps.{Agree}
 use Rattle.sent_law.proofs.Going.{answers_alone, no_recall}

@@ -9,8 +9,9 @@ use Rattle.server_rules.specs.Openings.{crashed_file, reopen}
 use Rattle.server_rules.specs.Jobs.{making}
 use Rattle.server_rules.specs.Making.{components_on, refusal, places, unmade, with_file, makes_file, unless_refused, create_file}
 use Rattle.server_rules.specs.History.{Input, Hears, Makes, Obeys, Adds, Formats, Resends, Crashes, Opens, step, unless_made}
+use Rattle.server_rules.proofs.FileLaws.{not_there}
+use Rattle.server_rules.proofs.Members.{in_either, in_mapped}
 use Rattle.job_law.specs.Names.{Command, ToDrive, Server, File, Drive, Refusal}
-use Rattle.job_law.proofs.Lists.{in_either, in_mapped}
 use Rattle.job_law.proofs.Files.{in_add, add_there, in_drives}
 use Rattle.sent_law.proofs.ObjectSteps.{Agree}
 use Rattle.sent_law.proofs.Numbers.{in_new, new_differ}
@@ -19,18 +20,6 @@ use Rattle.sent_law.proofs.Going.{with_owner, owner_below, owner_from, IsFine, A
 use Rattle.sent_law.proofs.PhaseSteps.{opened_each, round_keeps, obeyed, heard_message}
 
 -- ---- making, crashing, opening
-
--- no file has the number
-nothing : (o : Option File) → is_some o ≡ false → o ≡ None
-nothing None e = refl
-nothing (Some f) e = absurd (cc e)
-
-not_there : (s : Server) (n : ℕ) (m : RawMap) → refusal s n m ≡ None → file_at s.files n ≡ None
-unfolding refusal
-not_there s n m e = elim (cases_Bool (is_some (file_at s.files n))) [
-  | inl t ↦ absurd (cc (rw t at e))
-  | inr z ↦ nothing (file_at s.files n) z
-]
 
 -- a file that isn't made yet has numbers of its own
 new_fine : (s : Server) (number : ℕ) (m : RawMap) (tag : ℕ) (ds : List ℕ) (owner : ℕ → ℕ)

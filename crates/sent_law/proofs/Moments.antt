@@ -4,8 +4,8 @@ use Rattle.scenario_text.specs.declared.line.Line.{Line}
 use Rattle.server_rules.specs.History.{Act as ServerAct, state_after, step}
 use Rattle.server_rules.specs.Laws.{In}
 use Rattle.server_rules.specs.Making.{new_server}
+use Rattle.server_rules.proofs.Members.{in_front, in_behind, in_either}
 use Rattle.job_law.specs.Names.{Server, Command, Outgoing, ToDrive}
-use Rattle.job_law.proofs.Lists.{in_either}
 use Rattle.calm_law.specs.Words.{Each}
 use Rattle.world_history.specs.History.{OneEventMore}
 use Rattle.world_history.specs.declared.messages.Message.{Message}
@@ -24,15 +24,6 @@ use Rattle.sent_law.specs.Sent.{commanded, IsSentByRun, ServerSentItsRun}
 use Rattle.sent_law.proofs.Doing.{Tells, Does, Rests, Serves, IsNamedAction, does}
 
 -- ---- lists
-
-in_first : {A : Type 0} (x : A) (xs ys : List A) → In x xs → In x (xs ++ ys)
-in_first x [] ys i = absurd i
-in_first x (y ∷ xs) ys (inl e) = inl e
-in_first x (y ∷ xs) ys (inr i) = inr (in_first x xs ys i)
-
-in_second : {A : Type 0} (x : A) (xs ys : List A) → In x ys → In x (xs ++ ys)
-in_second x [] ys i = i
-in_second x (y ∷ xs) ys i = inr (in_second x xs ys i)
 
 pub each_first : {A : Type 0} (P : A → Type 0) (xs ys : List A) → Each P (xs ++ ys) → Each P xs
 each_first P [] ys k = tt
@@ -58,16 +49,16 @@ sent_before : (s : Server) (run : List ServerAct) (a : ServerAct) (o : Outgoing)
 unfolding sent_over
 sent_before s [] a o i = absurd i
 sent_before s (b ∷ run) a o i = elim (in_either o (step s b.chosen b.input).sends _ i) [
-  | inl j ↦ in_first o (step s b.chosen b.input).sends _ j
-  | inr j ↦ in_second o (step s b.chosen b.input).sends _ (sent_before (step s b.chosen b.input).state run a o j)
+  | inl j ↦ in_front o (step s b.chosen b.input).sends _ j
+  | inr j ↦ in_behind o (step s b.chosen b.input).sends _ (sent_before (step s b.chosen b.input).state run a o j)
 ]
 
 sent_last : (s : Server) (run : List ServerAct) (a : ServerAct) (o : Outgoing)
     → In o (step (state_after s run) a.chosen a.input).sends → In o (sent_over s (run ++ a ∷ []))
 unfolding sent_over
-sent_last s [] a o i = in_first o (step s a.chosen a.input).sends [] i
+sent_last s [] a o i = in_front o (step s a.chosen a.input).sends [] i
 sent_last s (b ∷ run) a o i =
-    in_second o (step s b.chosen b.input).sends _ (sent_last (step s b.chosen b.input).state run a o i)
+    in_behind o (step s b.chosen b.input).sends _ (sent_last (step s b.chosen b.input).state run a o i)
 
 -- ---- a move
 

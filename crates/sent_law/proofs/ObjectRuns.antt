@@ -1,5 +1,6 @@
 -- Over any run there is one owner for each object number.
 use Rattle.std.proofs.Common.{◌≡◌, ℕ, ◌<◌, List, [], ◌∷◌, ◌++◌, refl, subst, ◌∙◌, arith}
+use Rattle.osd_lists.proofs.Slices.{head_same, tail_same}
 use Rattle.server_rules.specs.Making.{new_server}
 use Rattle.server_rules.specs.History.{Act, step, state_after}
 use Rattle.job_law.specs.Names.{Server}
@@ -11,12 +12,6 @@ record Runs (owner : ℕ → ℕ) (s : Server) (acts : List Act) : Type 0 where
   later : ℕ → ℕ
   agree : Agree owner later s.next_object
   owned : (before after : List Act) → acts ≡ before ++ after → AreOwned later (state_after s before)
-
-head_same : (a b : Act) (xs ys : List Act) → a ∷ xs ≡ b ∷ ys → a ≡ b
-head_same a b xs ys e = cc e
-
-tail_same : (a b : Act) (xs ys : List Act) → a ∷ xs ≡ b ∷ ys → xs ≡ ys
-tail_same a b xs ys e = cc e
 
 here : (owner later : ℕ → ℕ) (s : Server) → Agree owner later s.next_object → AreOwned owner s → AreOwned later s
 here owner later s agree own f i =

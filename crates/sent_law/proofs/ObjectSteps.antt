@@ -18,8 +18,8 @@ use Rattle.server_rules.specs.Rounds.{Round, step_round}
 use Rattle.server_rules.specs.Jobs.{declares, fence_begins, making}
 use Rattle.server_rules.specs.Making.{components_on, refusal, places, unmade, with_file, makes_file, unless_refused, create_file}
 use Rattle.server_rules.specs.History.{Input, Hears, Makes, Obeys, Adds, Formats, Resends, Crashes, Opens, step, unless_made}
+use Rattle.server_rules.proofs.Members.{in_mapped}
 use Rattle.job_law.specs.Names.{Server, File, Target, Drive, Job, JobKind, Revoking, Rebuilding, Auditing, Effects, Reply, ClientRequest, Awaited, Refusal, OrderKind, ToRecall, ToRevoke, ToDeclare, ToRebuild, ToAudit, Busy, Spent}
-use Rattle.job_law.proofs.Lists.{in_mapped}
 use Rattle.job_law.proofs.Files.{found_file, in_put, in_add, add_there}
 use Rattle.sent_law.specs.Objects.{target_of, IsOwned, AreOwned}
 use Rattle.sent_law.proofs.Numbers.{in_new, new_differ}

@@ -14,9 +14,9 @@ use Rattle.server_rules.specs.Jobs.{making, fencing, ending, fenced, fence_begin
 use Rattle.server_rules.specs.Openings.{opens_made, opens_spent, opens_fenced, is_unsettled, opens}
 use Rattle.server_rules.specs.Commands.{Ask, Creating, Which, sent_to, to_all, again_in_2}
 use Rattle.server_rules.specs.Messages.{awaited_by}
+use Rattle.server_rules.proofs.Members.{in_either, in_mapped, in_filtered}
 use Rattle.job_law.specs.Names.{Kept, Phase, Still, Fencing, Repairing, FencingAgain, Command, Fenced, Component, Awaited, Heard, Piece, Target, Job, JobKind, Making, Revoking, Rebuilding, Auditing, Work, Creates, Fences, Fetches, Stores, Targets, Gathers, Fills, Lengths, Checks, Tally, Rebuilt, NoDrive, NoSpace, Reply}
 use Rattle.sent_law.specs.Objects.{objects_of, target_in, target_of, NoneIs, AllDiffer}
-use Rattle.job_law.proofs.Lists.{in_either, in_mapped, in_filtered}
 use Rattle.sent_law.proofs.Numbers.{none_above, in_set, set_differ, objects_set, objects_from, objects_on}
 use Rattle.sent_law.specs.Tagged.{is_fence, fence_open, IsBehind}
 use Rattle.sent_law.proofs.Sent.{IsUsed, IsMine, AllMine, is_raising, one_mine, mine_for, each_mine, stores_mine, repair_mine, sources_mine}

@@ -1,5 +1,6 @@
 -- Over any run what was sent goes to objects of files, and isn't past them.
 use Rattle.std.proofs.Common.{◌≡◌, ◌⊎◌, ℕ, zero, suc, ◌<◌, List, [], ◌∷◌, ◌++◌, Some, None, refl, sym, ap, subst, ◌∙◌, arith, inl, inr, eq-eqb, ne_eqb}
+use Rattle.std.proofs.lemmas.Option.{same_Some}
 use Rattle.osd_commands.specs.declared.actions.Action.{Action}
 use Rattle.osd_commands.specs.declared.actions.Action.TheVariants.{GetAttr, SetTag}
 use Rattle.server_rules.specs.Commands.{command}
@@ -7,9 +8,9 @@ use Rattle.server_rules.specs.Files.{file_at}
 use Rattle.server_rules.specs.History.{Act, step, state_after}
 use Rattle.server_rules.specs.Laws.{In}
 use Rattle.server_rules.specs.Making.{new_server}
+use Rattle.server_rules.proofs.Members.{in_either}
 use Rattle.job_law.specs.Names.{Server, File, Kept, Command, Outgoing, ToDrive}
 use Rattle.job_law.proofs.Files.{found_file}
-use Rattle.job_law.proofs.Lists.{in_either}
 use Rattle.calm_law.specs.Words.{Each}
 use Rattle.calm_law.specs.Performing.{AreDistinct}
 use Rattle.calm_law.specs.Sound.{IsSound, EachStepIsSound}
@@ -37,9 +38,6 @@ found_own (g ∷ fs) f d (inr i) =
     rw (ne_eqb g.kept.number f.kept.number
     (λ e. each_in (λ (x : File). x.kept.number ≡ g.kept.number → ⊥) fs f d.0 i (sym e))) (found_own fs f d.1 i)
 
-same_some : (f g : File) → Some f ≡ Some g → f ≡ g
-same_some f g e = cc e
-
 -- ---- a step
 
 module _ (sound : EachStepIsSound) (raises : EachStepRaisesTags) where
@@ -62,7 +60,7 @@ module _ (sound : EachStepIsSound) (raises : EachStepRaisesTags) where
               let e = found_own s.files r.file h.distinct r.there in
               let own : r.file.kept.number ≡ n = r.number ∙ found.1 in
               let same : r.file ≡ f =
-              same_some r.file f (sym (subst (λ (k : ℕ). file_at s.files k ≡ Some r.file) own e) ∙ at_n) in
+              same_Some r.file f (sym (subst (λ (k : ℕ). file_at s.files k ≡ Some r.file) own e) ∙ at_n) in
               r.behind c (subst (λ (x : File). IsBehind x.kept c) (sym same) was)
           | inr none ↦ absurd (cc (sym (subst (λ (k : ℕ). file_at s.files k ≡ None) found.1 none) ∙ at_n))
         ];

@@ -16,8 +16,8 @@ use Rattle.server_rules.specs.Orders.{Ordered, begins_job, starts, recalls_on, d
 use Rattle.server_rules.specs.Openings.{opens, opens_each}
 use Rattle.server_rules.specs.Rounds.{Round, step_round}
 use Rattle.server_rules.specs.Jobs.{declares, fence_begins}
+use Rattle.server_rules.proofs.Members.{in_either}
 use Rattle.job_law.specs.Names.{Command, ToDrive, Server, File, Drive, Job, JobKind, Revoking, Rebuilding, Auditing, Effects, Reply, ClientRequest, Awaited, OrderKind, ToRecall, ToRevoke, ToDeclare, ToRebuild, ToAudit, Busy, Spent}
-use Rattle.job_law.proofs.Lists.{in_either}
 use Rattle.job_law.proofs.Files.{found_file, in_drives}
 use Rattle.sent_law.proofs.ObjectSteps.{Agree}
 use Rattle.sent_law.proofs.Ends.{Ends}

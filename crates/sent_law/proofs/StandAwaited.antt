@@ -11,9 +11,9 @@ use Rattle.server_rules.specs.Rebuild.{sources_by, group_for}
 use Rattle.server_rules.specs.Repair.{is_left, repair_reads}
 use Rattle.server_rules.specs.Replies.{Full, Done, is_write, is_done, hearing, others, renewed}
 use Rattle.server_rules.specs.Standing.{is_beyond, lose_on}
+use Rattle.server_rules.proofs.Members.{in_mapped, in_map, in_filtered, in_filter}
 use Rattle.job_law.specs.Names.{Kept, Piece, Heard, Component, Awaited, Target, Reply}
 use Rattle.job_law.specs.Fencing.{IsAsked}
-use Rattle.job_law.proofs.Lists.{in_mapped, in_map, in_filtered, in_filter}
 
 -- ---- all that is awaited
 

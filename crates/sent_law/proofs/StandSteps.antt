@@ -16,6 +16,7 @@ use Rattle.server_rules.specs.Orders.{Ordered, begins_job, starts, recalls_on, d
 use Rattle.server_rules.specs.Replies.{answers, hearing, heard_by, heard_in, on_reply}
 use Rattle.server_rules.specs.Requests.{carries_out, by_admit, on_request}
 use Rattle.server_rules.specs.Slots.{Admit, New, Again, Misordered, admit, slot_of}
+use Rattle.server_rules.proofs.FileLaws.{not_there}
 use Rattle.job_law.specs.Names.{Server, File, Drive, Awaited, Job, JobKind, Revoking, Rebuilding, Auditing, Effects, Reply, ClientRequest, OrderKind, ToRecall, ToRevoke, ToDeclare, ToRebuild, ToAudit, Refusal}
 use Rattle.job_law.specs.Fencing.{Reached, TellsRaised, IsHeardTruly}
 use Rattle.job_law.proofs.Files.{found_file, in_put}
@@ -25,17 +26,6 @@ use Rattle.sent_law.proofs.StandJobs.{ends_making, ends_fence, ends_hears, ends_
 use Rattle.sent_law.proofs.StandServing.{ends_served}
 
 -- ---- the list of files
-
-not_there : (s : Server) (n : ℕ) (m : RawMap) → refusal s n m ≡ None → file_at s.files n ≡ None
-unfolding refusal
-not_there s n m e = elim (cases_Bool (is_some (file_at s.files n))) [
-  | inl t ↦ absurd (cc (rw t at e))
-  | inr z ↦ nothing (file_at s.files n) z
-]
-  where
-    nothing : (o : Option File) → is_some o ≡ false → o ≡ None
-    nothing None x = refl
-    nothing (Some f) x = absurd (cc x)
 
 -- a file that is made stands in its own place
 in_made : (fs : List File) (f g x : File) → file_at fs f.kept.number ≡ None

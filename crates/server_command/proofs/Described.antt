@@ -4,6 +4,7 @@ use Rattle.std.proofs.lemmas.Bool.Decides.{nat_tests}
 use Rattle.std.specs.Prelude.{ℕ, suc, codes, Bool, true, false, not, ◌-◌, ◌≤◌, ◌||◌, ◌&&◌, nat_le, if◌then◌else◌, List, [], ◌∷◌, length, map, Option, Some, None, is_some, is_none, Ok, Err}
 use Rattle.std.specs.List.{list_any}
 use Rattle.std.specs.Result.{result_ok}
+use Rattle.std.proofs.lemmas.Bool.{or_parts}
 use Rattle.hex.specs.Hex.{decode_sized}
 use Rattle.toml.specs.Data.{Members}
 use Rattle.data_map.specs.Check.{HasAlgorithm}
@@ -40,11 +41,6 @@ pub record IsSound (c : Cluster) : Type 0 where
   pub files : repeats (map (λ f. f.number) c.files) ≡ false
 
 -- ---- tests and options
-
-neither : (a b : Bool) → (a || b) ≡ false → (a ≡ false) × (b ≡ false)
-neither false false h = (refl, refl)
-neither false true h = cc h
-neither true b h = cc h
 
 bound : {A B : Type 0} (o : Option A) (f : A → Option B) (y : B) → (o >>= f) ≡ Some y → (x : A) × (o ≡ Some x) × (f x ≡ Some y)
 bound (Some x) f y h = (x, refl, h)
@@ -87,8 +83,8 @@ drive_row t d h lack wrong =
     let k = bound (key_in t) _ d b.2 in
     let e = bound (number_at (codes "capacity") 0 18446744073709551615 t) _ d k.2 in
     let same : record { number = a.0; address = b.0; key = k.0; capacity = e.0 } ≡ d = cc e.2 in
-    let l = neither _ _ lack in
-    let w = neither _ _ (neither _ _ wrong).0 in
+    let l = or_parts _ _ lack in
+    let w = or_parts _ _ (or_parts _ _ wrong).0 in
     let text = has_text (has (codes "key") t) (is_none (text_at (codes "key") t)) l.1 w.1 in
     let some = key_there (text_at (codes "key") t) k.0 text k.1 in
     let fits = number_fits (codes "number") 0 (MAX_DRIVES - 1) t a.0 a.1 in
@@ -135,8 +131,8 @@ knowable (t ∷ ts) ds h lack wrong =
     let a = bound (drive_in t) _ ds h in
     let b = bound (all_in drive_in ts) _ ds a.2 in
     let same : a.0 ∷ b.0 ≡ ds = cc b.2 in
-    let l = neither (lacks_drive_key true t) (list_any (lacks_drive_key true) ts) lack in
-    let w = neither (is_wrong_drive t) (list_any is_wrong_drive ts) wrong in
+    let l = or_parts (lacks_drive_key true t) (list_any (lacks_drive_key true) ts) lack in
+    let w = or_parts (is_wrong_drive t) (list_any is_wrong_drive ts) wrong in
     let r = drive_row t a.0 a.1 l.0 w.0 in
     let rest = knowable ts b.0 b.1 l.1 w.1 in
     rw (← same) ((r.0, r.1, rest.0), ap suc rest.1)
@@ -197,11 +193,11 @@ parts_of top ds fs c h =
 
 lacks_none : (top : Members) (ds fs : List Members) → lacks Server top ds fs ≡ false → list_any (lacks_drive_key true) ds ≡ false
 unfolding lacks
-lacks_none top ds fs h = (neither _ _ (neither _ _ (neither _ _ h).0).0).1
+lacks_none top ds fs h = (or_parts _ _ (or_parts _ _ (or_parts _ _ h).0).0).1
 
 wrong_none : (top : Members) (ds fs : List Members) → is_wrong top ds fs ≡ false → list_any is_wrong_drive ds ≡ false
 unfolding is_wrong
-wrong_none top ds fs h = (neither _ _ (neither _ _ h).0).1
+wrong_none top ds fs h = (or_parts _ _ (or_parts _ _ h).0).1
 
 pub sound : (text : List ℕ) (c : Cluster) → cluster_of Server text ≡ Ok c → IsSound c
 sound text c h =

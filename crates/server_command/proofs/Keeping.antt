@@ -1,6 +1,6 @@
 -- What making files leaves of a server: its drives, and that there is no file of any other number.
 use Rattle.std.proofs.Common.{◌≡◌, ◌∙◌, ℕ, zero, suc, Bool, true, false, List, [], ◌∷◌, ◌==◌, Option, Some, None, Ok, refl, sym, ap, subst, inl, inr, arith}
-use Rattle.std.proofs.lemmas.Bool.{cases_Bool}
+use Rattle.std.proofs.lemmas.Bool.{cases_Bool, or_parts}
 use Rattle.std.proofs.lemmas.Bool.Decides.{nat_tests}
 use Rattle.std.specs.Prelude.{◌||◌, nat_eq, nat_lt}
 use Rattle.std.specs.List.{list_any}
@@ -20,7 +20,7 @@ use Rattle.server_rules.specs.Jobs.{is_made, making}
 use Rattle.server_rules.specs.Making.{create_file, makes_file, places, refusal, unless_refused, unmade, with_file}
 use Rattle.server_rules.specs.Messages.{Message, Asks, Replies, Orders, by_heard, counters_have_room, handled, heard_at, on_drive_reply, on_message}
 use Rattle.server_rules.specs.Envelopes.{message_in, on_message_in}
-use Rattle.server_requests.specs.declared.sending.Sent.{Sent}
+use Rattle.server_requests.specs.declared.outgoing.Sent.{Sent}
 use Rattle.server_command.specs.Work.{Hears, InTurn, Rounds, Serving}
 use Rattle.server_command.specs.declared.files.TheConstants.{FIRST_TAG}
 use Rattle.server_command.specs.Making.{Begins, Makes, MakesFile, MakesTo}
@@ -154,11 +154,6 @@ pub record KeepsBesides (files : List ClusterFile) (s t : Server) : Type 0 where
   pub drives : t.drives ≡ s.drives
   pub none : (n : ℕ) → has_file files n ≡ false → file_at s.files n ≡ None → file_at t.files n ≡ None
 
-neither : (a b : Bool) → (a || b) ≡ false → (a ≡ false) × (b ≡ false)
-neither false false h = (refl, refl)
-neither false true h = cc h
-neither true b h = cc h
-
 pub files_keep : (files : List ClusterFile) (s t : Serving) → InTurn MakesFile files s t → KeepsBesides files s.server t.server
 files_keep [] s t e =
     let same = same_keeps s.server t.server (ap (λ (x : Serving). x.server) e) in
@@ -168,5 +163,5 @@ files_keep (f ∷ fs) s t h =
     let rest = files_keep fs h.0 t h.2 in
     record {
       drives = rest.drives ∙ first.drives;
-      none = λ n z k. let b = neither (nat_eq f.number n) (has_file fs n) z in rest.none n b.1 (first.none n b.0 k);
+      none = λ n z k. let b = or_parts (nat_eq f.number n) (has_file fs n) z in rest.none n b.1 (first.none n b.0 k);
     }

@@ -1,6 +1,6 @@
 -- A cluster that a text describes has a server, and that refuses none of its files.
 use Rattle.std.proofs.Common.{◌≡◌, ◌∙◌, ap, refl, sym, subst, arith, inl, inr}
-use Rattle.std.proofs.lemmas.Bool.{cases_Bool}
+use Rattle.std.proofs.lemmas.Bool.{cases_Bool, or_parts, and_parts}
 use Rattle.std.proofs.lemmas.Bool.Decides.{nat_tests}
 use Rattle.std.specs.Prelude.{ℕ, ◌+◌, Bool, true, false, ◌||◌, ◌&&◌, nat_eq, nat_le, nat_lt, if◌then◌else◌, List, [], ◌∷◌, ◌++◌, length, map, Option, Some, None, is_some, Result, Ok, Err, is_ok}
 use Rattle.std.specs.List.{list_any}
@@ -25,16 +25,6 @@ use Rattle.server_command.proofs.Keeping.{files_keep, has_file}
 use Rattle.server_command.specs.Ends.{HasNoServer}
 use Rattle.server_command.proofs.Described.{AreKnowable, AreMakeable, IsSound}
 
-neither : (a b : Bool) → (a || b) ≡ false → (a ≡ false) × (b ≡ false)
-neither false false h = (refl, refl)
-neither false true h = cc h
-neither true b h = cc h
-
-both : (a b : Bool) → (a && b) ≡ true → (a ≡ true) × (b ≡ true)
-both true true h = (refl, refl)
-both true false h = cc h
-both false b h = cc h
-
 swapped : (m n : ℕ) → nat_eq m n ≡ false → nat_eq n m ≡ false
 swapped m n e = grind (arith, nat_tests, e)
 
@@ -53,7 +43,7 @@ added_number : (ks : List Drive) (k : Drive) (n : ℕ) → nat_eq k.number n ≡
 unfolding add_drive
 added_number [] k n e h = rw e refl
 added_number (j ∷ ks) k n e h =
-    let b = neither (nat_eq j.number n) (has_number ks n) h in elim (cases_Bool (nat_lt j.number k.number)) [
+    let b = or_parts (nat_eq j.number n) (has_number ks n) h in elim (cases_Bool (nat_lt j.number k.number)) [
       | inl t ↦ rw (t, b.0) (added_number ks k n e b.1)
       | inr z ↦ rw (z, e, b.0) b.1
     ]
@@ -62,7 +52,7 @@ added_apart : (ks : List Drive) (k : Drive) (ds : List ClusterDrive) → list_an
     → Apart ks ds → Apart (add_drive ks k) ds
 added_apart ks k [] e a = tt
 added_apart ks k (d ∷ ds) e a =
-    let b = neither (nat_eq d.number k.number) (list_any (λ m. nat_eq m k.number) (map (λ x. x.number) ds)) e in
+    let b = or_parts (nat_eq d.number k.number) (list_any (λ m. nat_eq m k.number) (map (λ x. x.number) ds)) e in
     (added_number ks k d.number (swapped d.number k.number b.0) a.0, added_apart ks k ds b.1 a.1)
 
 added_online : (ks : List Drive) (k : Drive) → k.online ≡ true → length (online (add_drive ks k)) ≡ length (online ks) + 1
@@ -96,7 +86,7 @@ knows s [] k r a = record { server = s; is = refl; online = omega arith; files =
 knows s (d ∷ ds) k r a =
     let key = key_in d.key k.0 in
     let next : Server = record s { drives = add_drive s.drives (drive_with d key.0) } in
-    let n = neither (list_any (λ m. nat_eq m d.number) (map (λ x. x.number) ds)) (repeats (map (λ x. x.number) ds)) r in
+    let n = or_parts (list_any (λ m. nat_eq m d.number) (map (λ x. x.number) ds)) (repeats (map (λ x. x.number) ds)) r in
     let rest = knows next ds k.2 n.1 (added_apart s.drives (drive_with d key.0) ds n.0 a.1) in
     record {
       server = rest.server;
@@ -151,21 +141,21 @@ unrefused : (s : Server) (number : ℕ) (m : RawMap) (n : ℕ) → file_at s.fil
     → refusal s number m ≡ None
 unfolding refusal
 unrefused s number m n none drives good =
-    let a = both (is_ok (checked m) && nat_le m.comps 64) (nat_le m.comps n) good in
-    let b = both (is_ok (checked m)) (nat_le m.comps 64) a.0 in
+    let a = and_parts (is_ok (checked m) && nat_le m.comps 64) (nat_le m.comps n) good in
+    let b = and_parts (is_ok (checked m)) (nat_le m.comps 64) a.0 in
     rw (none, drives, checked_as m b.0 b.1, few_enough m.comps n a.1) refl
 
 unrepeated : (done : List ClusterFile) (next : ClusterFile) (left : List ClusterFile) → repeats (map (λ f. f.number) (done ++ next ∷ left)) ≡ false
     → has_file done next.number ≡ false
 unrepeated [] next left h = refl
 unrepeated (f ∷ done) next left h =
-    let n = neither (list_any (λ m. nat_eq m f.number) (map (λ x. x.number) (done ++ next ∷ left))) (repeats (map (λ x. x.number) (done ++ next ∷ left))) h in
+    let n = or_parts (list_any (λ m. nat_eq m f.number) (map (λ x. x.number) (done ++ next ∷ left))) (repeats (map (λ x. x.number) (done ++ next ∷ left))) h in
     rw (swapped next.number f.number (in_middle done n.0)) (unrepeated done next left n.1)
   where
     in_middle : (fs : List ClusterFile) → list_any (λ m. nat_eq m f.number) (map (λ x. x.number) (fs ++ next ∷ left)) ≡ false
         → nat_eq next.number f.number ≡ false
-    in_middle [] e = (neither (nat_eq next.number f.number) (list_any (λ m. nat_eq m f.number) (map (λ x. x.number) left)) e).0
-    in_middle (g ∷ fs) e = in_middle fs (neither (nat_eq g.number f.number) (list_any (λ m. nat_eq m f.number) (map (λ x. x.number) (fs ++ next ∷ left))) e).1
+    in_middle [] e = (or_parts (nat_eq next.number f.number) (list_any (λ m. nat_eq m f.number) (map (λ x. x.number) left)) e).0
+    in_middle (g ∷ fs) e = in_middle fs (or_parts (nat_eq g.number f.number) (list_any (λ m. nat_eq m f.number) (map (λ x. x.number) (fs ++ next ∷ left))) e).1
 
 makeable_at : (n : ℕ) (done : List ClusterFile) (next : ClusterFile) (left : List ClusterFile) → AreMakeable n (done ++ next ∷ left)
     → (is_good_map n next.map ≡ true) × HasAlgorithm next.map

@@ -12,7 +12,7 @@ use Rattle.osd_bytes.specs.Asking.{Answered, Ends}
 use Rattle.osd_bytes.specs.Inboxes.{HasPutCause}
 use Rattle.cluster_text.specs.declared.cluster.ClusterFile.{ClusterFile}
 use Rattle.server_rules.specs.declared.server.Server.{Server}
-use Rattle.server_requests.specs.declared.sending.Sent.{Sent}
+use Rattle.server_requests.specs.declared.outgoing.Sent.{Sent}
 use Rattle.server_command.specs.Work.{AsksDrive, Hears, InTurn, PutsIf, Rounds, ServesRecord, Serving, UntilNone, Works, WorksTo, sender_of}
 use Rattle.server_command.specs.Serving.{IsRefused, ServesAll, ServesConnection, ServesPieces, ServesStream, begins}
 use Rattle.server_command.specs.Making.{Makes, MakesFile, MakesFiles, MakesTo}

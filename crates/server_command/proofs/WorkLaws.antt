@@ -18,7 +18,7 @@ use Rattle.server_rules.specs.Files.{Step, begins, at_file, still, to_drives}
 use Rattle.server_rules.specs.Replies.{on_reply}
 use Rattle.server_rules.specs.Messages.{Message, Asks, Replies, Orders, counters_have_room, heard_at, or_else, by_heard, on_drive_reply, handled, on_message}
 use Rattle.server_rules.specs.Envelopes.{message_in, on_message_in, on_bytes}
-use Rattle.server_requests.specs.declared.sending.Sent.{Sent}
+use Rattle.server_requests.specs.declared.outgoing.Sent.{Sent}
 use Rattle.server_requests.specs.Sending.{all_sent}
 use Rattle.server_command.specs.Work.{Handles, Hears, InTurn, PutsIf, Round, Serving, Works, WorksTo}
 use Rattle.server_command.proofs.NonceLaws.{RisesIn, reply_rises}
@@ -28,14 +28,6 @@ use Rattle.server_command.proofs.NonceLaws.{RisesIn, reply_rises}
 pub turn_more : {A : Type 0} (R : A → Serving → Serving → Type 0) (xs : List A) (x : A) (s t u : Serving) → InTurn R xs s t → R x t u → InTurn R (xs ++ x ∷ []) s u
 turn_more R [] x s t u e r = (u, subst (λ (v : Serving). R x v u) e r, refl)
 turn_more R (y ∷ xs) x s t u h r = (h.0, h.1, turn_more R xs x h.0 t u h.2 r)
-
-pub take_got : {A : Type 0} (xs : List A) (i : ℕ) (x : A) → slice_get xs i ≡ Some x → take (i + 1) xs ≡ take i xs ++ x ∷ []
-take_got {A} xs i x e = rw add-one (got xs i x e)
-  where
-    got : (ys : List A) (j : ℕ) (y : A) → slice_get ys j ≡ Some y → take (suc j) ys ≡ take j ys ++ y ∷ []
-    got [] j y e = absurd (cc e)
-    got (z ∷ ys) zero y e = ap (λ (w : A). w ∷ []) (cc e)
-    got (z ∷ ys) (suc j) y e = ap (λ (zs : List A). z ∷ zs) (got ys j y e)
 
 -- ---- the step of a drive's reply
 

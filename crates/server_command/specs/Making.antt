@@ -12,7 +12,7 @@ use Rattle.server_rules.specs.declared.server.Refusal.{Refusal}
 use Rattle.server_rules.specs.declared.server.Server.{Server}
 use Rattle.server_rules.specs.Files.{Step}
 use Rattle.server_rules.specs.Making.{create_file, refusal}
-use Rattle.server_requests.specs.declared.sending.Sent.{Sent}
+use Rattle.server_requests.specs.declared.outgoing.Sent.{Sent}
 use Rattle.server_requests.specs.Sending.{all_sent}
 use Rattle.osd_bytes.specs.Asking.{Answered, Ends}
 use Rattle.server_command.specs.Telling.{note_texts}

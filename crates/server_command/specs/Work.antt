@@ -12,7 +12,7 @@ use Rattle.layout_ops.specs.declared.envelope.Envelope.TheVariants.{Request, Rec
 use Rattle.layout_ops.specs.Reading.{envelope_of}
 use Rattle.server_rules.specs.declared.server.Server.{Server}
 use Rattle.server_rules.specs.Envelopes.{on_bytes}
-use Rattle.server_requests.specs.declared.sending.Sent.{Sent}
+use Rattle.server_requests.specs.declared.outgoing.Sent.{Sent}
 use Rattle.server_requests.specs.Sending.{all_sent}
 use Rattle.server_command.specs.Telling.{note_texts}
 

@@ -2,7 +2,7 @@
 ghost use Rattle.std.specs.Prelude.{◌≡◌, ◌++◌, Bool, List, IfOk, OnOk};
 ghost use Rattle.osd_lists.specs.declared.node.Node.TheVariants.{Drive};
 ghost use Rattle.osd_bytes.specs.Asking.{ends_of};
-ghost use Rattle.server_requests.specs.declared.sending.Sent.{Sent};
+ghost use Rattle.server_requests.specs.declared.outgoing.Sent.{Sent};
 ghost use Rattle.server_command.specs.Work.{AsksDrive, Handles, sender_of, serving};
 
 use crate::telling::tell_notes;

@@ -2,7 +2,7 @@
 ghost use Rattle.std.specs.Prelude.{◌≡◌, [], ℕ, List, Option, IfOk};
 ghost use Rattle.osd_bytes.specs.Asking.{ends_of};
 ghost use Rattle.server_rules.specs.declared.server.Server.{Server};
-ghost use Rattle.server_requests.specs.declared.sending.Sent.{Sent};
+ghost use Rattle.server_requests.specs.declared.outgoing.Sent.{Sent};
 ghost use Rattle.server_command.specs.Work.{InTurn, PutsIf, Works, WorksAll, is_sender, serving};
 
 use crate::handling::ask_drive;

@@ -4,7 +4,7 @@ use Rattle.std.proofs.Common.{arith, ap, sym, ◌∙◌, append_assoc, get_or, d
 use Rattle.server_rules.specs.declared.grants.Grant.{Grant}
 use Rattle.server_rules.specs.declared.server.Outgoing.TheVariants.{Recalls}
 use Rattle.server_rules.specs.Answers.{recall_of, recalls_from}
-use Rattle.server_requests.specs.declared.sending.Sent.{Sent}
+use Rattle.server_requests.specs.declared.outgoing.Sent.{Sent}
 use Rattle.server_requests.specs.Sending.{sent_as, all_sent}
 
 recalls_at : (gs : List Grant) (i count : ℕ) (d : Grant) → i < length gs →

@@ -4,6 +4,7 @@ use Rattle.std.specs.List.{AllByRecursion, flat_map}
 use Rattle.std.proofs.Common.{arith}
 use Rattle.std.proofs.lemmas.List.{length-append, length-replicate}
 use Rattle.xdr_codec.specs.Items.{u32_item, u64_item, fixed_item, opaque_item}
+use Rattle.xdr_codec.proofs.ItemLaws.{length-u32, length-u64}
 use Rattle.layout_types.specs.declared.cred.ObjectCred.{ObjectCred}
 use Rattle.layout_types.specs.declared.layout.Layout.{Layout}
 use Rattle.layout_types.specs.Grammar.{list_item}
@@ -12,14 +13,6 @@ use Rattle.layout_ops.specs.declared.parts.TheConstants.{MAX_BODY}
 use Rattle.layout_ops.specs.Spelling.{IsBody}
 use Rattle.osd_lists.specs.declared.memory.Memory.{Memory}
 use Rattle.server_requests.specs.Bounds.{IsCredential, IsSmall}
-
-length-u32 : (n : ℕ) → length (u32_item n) ≡ 4
-unfolding u32_item
-length-u32 n = refl
-
-length-u64 : (n : ℕ) → length (u64_item n) ≡ 8
-unfolding u64_item
-length-u64 n = refl
 
 length-fixed : (bytes : List ℕ) → length (fixed_item bytes) ≤ length bytes + 3
 unfolding fixed_item

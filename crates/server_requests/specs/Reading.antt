@@ -1,8 +1,8 @@
 -- What the server takes, as the code has it.
 use Rattle.std.specs.Prelude.{Option, Some, None}
 use Rattle.server_rules.specs.Messages.{Message as MessageRule, Asks, Replies, Orders}
-use Rattle.server_requests.specs.declared.reading.Message.{Message}
-use Rattle.server_requests.specs.declared.reading.Message.TheVariants as message
+use Rattle.server_requests.specs.declared.incoming.Message.{Message}
+use Rattle.server_requests.specs.declared.incoming.Message.TheVariants as message
 
 abbrev pub message_rule : Message → MessageRule
 message_rule (message.Asks q) = Asks q

@@ -2,7 +2,7 @@
 use Rattle.std.specs.Prelude.{List, map}
 use Rattle.server_rules.specs.declared.server.Outgoing.{Outgoing}
 use Rattle.server_rules.specs.Envelopes.{receiver, bytes_of}
-use Rattle.server_requests.specs.declared.sending.Sent.{Sent}
+use Rattle.server_requests.specs.declared.outgoing.Sent.{Sent}
 
 abbrev pub sent_as : Outgoing → Sent
 sent_as o = record { to = receiver o; bytes = bytes_of o }

@@ -5,7 +5,7 @@ ghost use Rattle.server_rules.specs.Answers.{get_refused, commit_result, return_
 ghost use Rattle.server_rules.specs.Served.{tells};
 ghost use Rattle.server_requests.specs.Telling.{told_rule, IsAnswer, IsTold};
 
-use crate::granting::granted;
+use crate::layout_answer::granted;
 use layout_ops::{
     Answer, LayoutCommitResult, LayoutGetResult, LayoutReturnResult, NFS4_OK,
     NFS4ERR_LAYOUTTRYLATER, Results,

@@ -5,8 +5,8 @@ ghost use Rattle.server_rules.specs.Get.{must_fence, late};
 ghost use Rattle.server_requests.specs.Bounds.{IsLow};
 ghost use Rattle.server_requests.specs.Rows.{early_rule, early_of, IsFit, IsNumbered, asked_by, late_rule};
 
+use crate::grant_lists::any_expired;
 use crate::lacks::lacked;
-use crate::seeking::any_expired;
 use data_map::MAX_FILE_SIZE;
 use grant_table::{first_against, grant_of};
 use layout_ops::{LAYOUTIOMODE4_READ, LAYOUTIOMODE4_RW};

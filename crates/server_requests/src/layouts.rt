@@ -8,7 +8,7 @@ ghost use Rattle.server_requests.specs.Keys.{IsKeyAt};
 ghost use Rattle.server_requests.specs.Bounds.{IsLow, IsCredential};
 
 use crate::lacks::rows_below;
-use crate::sealing::key_of_drive;
+use crate::seals::key_of_drive;
 use data_map::DataMap;
 use layout_types::{DEVICE_ID_BYTES, KeySecurity, Layout, ObjId, ObjectCred, OsdVersion};
 use osd_capability::{CapKey, Capability, capability_key};

@@ -7,8 +7,8 @@ ghost use Rattle.server_rules.specs.Answers.{recall_of, recalls_from};
 ghost use Rattle.server_rules.specs.Envelopes.{bytes_of};
 ghost use Rattle.server_requests.specs.Sending.{sent_as, all_sent};
 
-use crate::granting::stateid_of;
-use crate::sending::{Sends, Sent};
+use crate::layout_answer::stateid_of;
+use crate::outgoing::{Sends, Sent};
 use layout_ops::{
     Answer, Envelope, LAYOUTIOMODE4_ANY, LayoutRecallArgs, OrderAnswer, Recall, write_envelope,
 };

@@ -9,7 +9,7 @@ use Rattle.std.specs.Map.{keys_of, set_value}
 use Rattle.std.proofs.Common.{arith, inl, inr, ap, sym, subst, ◌∙◌}
 use Rattle.std.proofs.lemmas.Bool.{cases_Bool}
 use Rattle.std.proofs.lemmas.Bool.Decides.{nat_tests}
-use Rattle.std.proofs.lemmas.List.Folds.{or-false}
+use Rattle.std.proofs.Math.Bool.{or-false}
 use Rattle.osd_lists.specs.declared.memory.Memory.{Memory}
 use Rattle.osd_lists.proofs.Tests.{same_number, at_number}
 use Rattle.server_rules.specs.declared.server.Server.{Server}

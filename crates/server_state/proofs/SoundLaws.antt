@@ -14,6 +14,7 @@ use Rattle.layout_ops.specs.declared.statuses.TheConstants.{LAYOUTIOMODE4_READ, 
 use Rattle.server_rules.specs.Get.{Early, BadMode, Invalid, Unable, On, high_after}
 use Rattle.server_requests.specs.Rows.{by_waits, early_of}
 use Rattle.server_rules.specs.Standing.{lose_from}
+use Rattle.server_rules.proofs.Components.{length_lost}
 use Rattle.file_jobs.specs.declared.job.FileState.{FileState}
 use Rattle.file_jobs.specs.Ranges.{EndInside}
 use Rattle.file_jobs.specs.Sound.{HasSoundJob, IsAlone, IsSoundFile}
@@ -33,11 +34,6 @@ ends_without (g ∷ gs) client e = elim (cases_Bool (not (g.client == client))) 
   | inl t ↦ rw t (e.0, e.1, ends_without gs client e.2)
   | inr z ↦ rw z (ends_without gs client e.2)
 ]
-
-length-lost : (ks : List ℕ) (cs : List Component) (k : ℕ) → length (lose_from ks cs k) ≡ length cs
-unfolding lose_from
-length-lost ks [] k = refl
-length-lost ks (c ∷ cs) k = ap (λ n. suc n) (length-lost ks cs (k + 1))
 
 -- ---- jobs
 
@@ -87,7 +83,7 @@ sound_without f client s = record {
 -- components become missing
 pub sound_lost : (f : FileState) (ks : List ℕ) → f.job ≡ None → IsSoundFile f → IsSoundFile (record f { kept = record f.kept { components = lose_from ks f.kept.components 0 } })
 sound_lost f ks i s = record {
-  kept = record { few = rw (length-lost ks f.kept.components 0) s.kept.few; whole = rw (length-lost ks f.kept.components 0) s.kept.whole; high = s.kept.high; live = s.kept.live; ended = s.kept.ended };
+  kept = record { few = rw (length_lost ks f.kept.components 0) s.kept.few; whole = rw (length_lost ks f.kept.components 0) s.kept.whole; high = s.kept.high; live = s.kept.live; ended = s.kept.ended };
   alone = alone_idle (record f.kept { components = lose_from ks f.kept.components 0 }) f.job i;
   job = job_idle (record f.kept { components = lose_from ks f.kept.components 0 }) f.job i;
 }

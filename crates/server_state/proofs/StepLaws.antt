@@ -21,13 +21,13 @@ use Rattle.server_rules.specs.Going.{Going}
 use Rattle.server_rules.specs.Files.{file_at, put_file, begins, at_file, to_drives, step_at}
 use Rattle.server_rules.specs.Served.{Served as RulesServed}
 use Rattle.server_rules.specs.Requests.{serves, carries_out, carried_out}
-use Rattle.server_requests.specs.declared.sending.Sent.{Sent}
+use Rattle.server_requests.specs.declared.outgoing.Sent.{Sent}
 use Rattle.server_requests.specs.Sending.{sent_as, all_sent}
 use Rattle.file_jobs.specs.declared.job.FileState.{FileState}
 use Rattle.file_jobs.specs.Steps.{at, file_of}
 use Rattle.server_state.specs.declared.outcome.Asking.{Asking}
 use Rattle.server_state.specs.FileRequests.{served_by, serves_for}
-use Rattle.server_state.specs.declared.serving.Served.{Served}
+use Rattle.server_state.specs.declared.at_file.Served.{Served}
 use Rattle.server_state.specs.declared.state.State.{State}
 use Rattle.server_state.specs.declared.step.Step.{Step}
 use Rattle.server_state.specs.Index.{Keys}

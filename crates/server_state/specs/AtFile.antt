@@ -12,7 +12,7 @@ use Rattle.server_requests.specs.Telling.{told_rule}
 use Rattle.file_jobs.specs.declared.job.FileState.{FileState}
 use Rattle.server_state.specs.declared.outcome.Asking.{Asking}
 use Rattle.server_state.specs.FileRequests.{Serves, Counts, LeavesFile, serves_for}
-use Rattle.server_state.specs.declared.serving.Served.{Served}
+use Rattle.server_state.specs.declared.at_file.Served.{Served}
 use Rattle.server_state.specs.Tables.{Table, entry_at}
 
 -- what a request left of its file, and its answer

@@ -12,7 +12,7 @@ use Rattle.server_rules.specs.Files.{file_at, to_drives, Step as RulesStep}
 use Rattle.server_requests.specs.Sending.{all_sent}
 use Rattle.server_state.specs.declared.state.State.{State}
 use Rattle.server_state.specs.declared.step.Step.{Step}
-use Rattle.server_state.specs.declared.serving.Served.{Served}
+use Rattle.server_state.specs.declared.at_file.Served.{Served}
 use Rattle.server_state.specs.Tables.{files_in, without, AreEntries}
 use Rattle.server_state.specs.Replies.{AreListed, AreListedBut}
 use Rattle.server_state.specs.Standing.{AreCounted}

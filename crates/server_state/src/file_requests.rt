@@ -4,10 +4,10 @@ ghost use Rattle.server_requests.specs.Telling.{IsTold};
 ghost use Rattle.file_jobs.specs.Sound.{IsSoundFile};
 ghost use Rattle.server_state.specs.FileRequests.{Serves, LeavesFile, Counts, serves_for};
 
-use crate::committing::commit;
-use crate::getting::get;
+use crate::layout_commit::commit;
+use crate::layout_get::get;
+use crate::layout_return::give_back;
 use crate::outcome::{Asking, Outcome};
-use crate::returning::give_back;
 use file_jobs::FileState;
 use osd_lists::Memory;
 use server_requests::Wanted;

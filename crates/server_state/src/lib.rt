@@ -7,34 +7,34 @@
 //! what is sent and noted, the recalls and the answer.
 #![tactic(auto)]
 
-mod admitting;
-mod answering;
-mod committing;
+mod admission;
+mod answers;
+mod at_file;
+mod awaited;
 mod counts;
 mod file_requests;
-mod getting;
 mod index;
-mod listing;
+mod layout_commit;
+mod layout_get;
+mod layout_return;
+mod lists;
 mod outcome;
 mod requests;
-mod returning;
-mod serving;
-mod settling;
 mod slots;
 mod state;
 mod step;
-mod waiting;
+mod step_end;
 
-pub use admitting::on_request;
-pub use answering::{answer_to, send_answer};
+pub use admission::on_request;
+pub use answers::{answer_to, send_answer};
+pub use at_file::{Served, serve_in};
+pub use awaited::{lowest, waits};
 pub use counts::DriveCounts;
 pub use index::ReplyIndex;
-pub use listing::{list, list_all, unlist};
+pub use lists::{list, list_all, unlist};
 pub use outcome::{Asking, Outcome};
 pub use requests::carry_out;
-pub use serving::{Served, serve_in};
-pub use settling::{finish_step, no_effects, only_sends};
 pub use slots::{KeptAnswer, Slots, keep, slot_of};
 pub use state::{Drives, Files, State};
 pub use step::{Notes, Repairs, Step};
-pub use waiting::{lowest, waits};
+pub use step_end::{finish_step, no_effects, only_sends};

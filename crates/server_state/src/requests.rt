@@ -5,13 +5,13 @@ ghost use Rattle.server_rules.specs.Requests.{no_file, carries_out};
 ghost use Rattle.server_requests.specs.Telling.{IsAnswer};
 ghost use Rattle.server_state.specs.States.{server_of, IsGood, IsGoodBut, HasRoom, Did, Finishes, carried_in};
 
-use crate::answering::answer_to;
-use crate::listing::{list, unlist};
+use crate::answers::answer_to;
+use crate::at_file::{Served, serve_in};
+use crate::lists::{list, unlist};
 use crate::outcome::Asking;
-use crate::serving::{Served, serve_in};
-use crate::settling::{no_effects, only_sends};
 use crate::state::State;
 use crate::step::Step;
+use crate::step_end::{no_effects, only_sends};
 use layout_ops::{NFS4_OK, NFS4ERR_BADLAYOUT, NFS4ERR_NOENT};
 use osd_lists::Memory;
 use server_requests::{Sends, plain_answer, send_recalls, send_to_drives};

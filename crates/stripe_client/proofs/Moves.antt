@@ -19,11 +19,12 @@ use Rattle.client_rules.specs.Io.{awaited_in}
 use Rattle.client_rules.specs.Replies.{answers}
 use Rattle.client_rules.specs.Answers.{on_commit}
 use Rattle.client_rules.specs.Going.{moved, phased, begins}
+use Rattle.client_rules.proofs.ReadSteps.{held_file}
 use Rattle.stripe_client.specs.Starting.{Deals}
 use Rattle.stripe_client.specs.Answering.{commits}
 use Rattle.stripe_client.specs.Driving.{replied_call, timed_call}
 use Rattle.stripe_client.proofs.SameFile.{begins_stays, on_commit_stays, on_reply_stays, on_timeout_stays}
-use Rattle.stripe_client.proofs.Taking.{of_file, turned_alike, moved_alike}
+use Rattle.stripe_client.proofs.Taking.{turned_alike, moved_alike}
 
 -- what is put back stands where it stood
 abbrev pub PutsBack : (f : ℕ) → (hs all : List Held) → Type 0
@@ -37,7 +38,7 @@ put_back : (d : Done) (hs : List Held) (op : CallOp) (h : Held) (m : Moved) →
     held_of d.client.held (file_of op) ≡ Some h →
     PutsBack (file_of op) hs d.client.held → m.held.file ≡ h.file → moved (without d hs) op m ≡ moved d op m
 put_back d hs op h m found back stays =
-    moved_alike d hs d.client.call op m (back m.held (stays ∙ of_file d.client.held (file_of op) h found))
+    moved_alike d hs d.client.call op m (back m.held (stays ∙ held_file d.client.held (file_of op) h found))
 
 pub dealt : (d : Done) (hs : List Held) (op : CallOp) (h : Held) (m : Moved) (new : Done) →
     held_of d.client.held (file_of op) ≡ Some h →

@@ -13,15 +13,6 @@ use Rattle.client_rules.specs.declared.steps.Done.{Done}
 use Rattle.client_rules.specs.Grants.{held_of, put_held, without_held}
 use Rattle.client_rules.specs.Going.{by_turn, moved}
 
--- a grant that is found is of that file
-pub of_file : (hs : List Held) (f : ℕ) (h : Held) → held_of hs f ≡ Some h → h.file ≡ f
-unfolding held_of
-of_file [] f h e = absurd (cc e)
-of_file (g ∷ hs) f h e = elim (cases_Bool (g.file == f)) [
-  | inl t ↦ grind (arith, nat_tests, rw t at e, t)
-  | inr z ↦ of_file hs f h (rw z at e)
-]
-
 -- where none is found, taking it out changes nothing
 pub none_left : (hs : List Held) (f : ℕ) → held_of hs f ≡ None → without_held hs f ≡ hs
 unfolding held_of without_held

@@ -15,8 +15,8 @@ use Rattle.server_rules.specs.Standing.{is_short}
 use Rattle.server_rules.specs.Pieces.{reads, stores, short_with}
 use Rattle.server_rules.specs.Audit.{audited, lengths_of}
 use Rattle.server_rules.specs.Going.{Going, rests_or}
-use Rattle.stripe_repair.specs.declared.auditing.StripeState.{StripeState}
-use Rattle.stripe_repair.specs.declared.auditing.StripeState.TheVariants.{Whole, Short, Bad}
+use Rattle.stripe_repair.specs.declared.stripe_state.StripeState.{StripeState}
+use Rattle.stripe_repair.specs.declared.stripe_state.StripeState.TheVariants.{Whole, Short, Bad}
 
 -- a piece whose rows were read: short where a position has no present replica, bad where it isn't short and some row
 -- isn't the wanted one

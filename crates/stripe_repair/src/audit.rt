@@ -11,11 +11,11 @@ ghost use Rattle.stripe_repair.specs.Auditing.{audit_of, bad_by, bad_whole, insp
 ghost use Rattle.stripe_repair.specs.Pieces.{IsPiece};
 ghost use Rattle.stripe_repair.specs.Repairing.{IsAt};
 
-use crate::auditing::{StripeState, judge};
 use crate::cursor::PieceCursor;
 use crate::lengths::{lengths_of, present_lengths};
 use crate::marks::Marks;
-use crate::reading::{mark_short, reads};
+use crate::piece_reads::{mark_short, reads};
+use crate::stripe_state::{StripeState, judge};
 use data_map::DataMap;
 use osd_lists::{Memory, Sequence};
 use server_rules::{AwaitedCommands, Component, Heard, Kept, Measured, Piece};

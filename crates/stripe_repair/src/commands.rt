@@ -6,7 +6,7 @@ ghost use Rattle.server_rules.specs.Standing.{replica};
 ghost use Rattle.server_rules.specs.Commands.{Writing, command, command_for, is_first, is_meant, label, own_capability, sent_to, to_all};
 ghost use Rattle.stripe_repair.specs.Asks.{asked, meant};
 
-use crate::standing::{group_with, replica};
+use crate::replicas::{group_with, replica};
 use data_map::DataMap;
 use osd_capability::{CHECK_BYTES, Capability};
 use osd_commands::{Action, Command};

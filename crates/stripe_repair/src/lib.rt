@@ -6,7 +6,6 @@
 #![tactic(auto)]
 
 mod audit;
-mod auditing;
 mod codewords;
 mod columns;
 mod commands;
@@ -16,17 +15,17 @@ mod lengths;
 mod loads;
 mod marks;
 mod offsets;
+mod piece_reads;
+mod piece_writes;
 mod placer;
-mod reading;
 mod rebuild;
 mod repair;
+mod replicas;
 mod restored;
 mod rows;
-mod standing;
-mod writing;
+mod stripe_state;
 
 pub use audit::Audit;
-pub use auditing::{StripeState, judge};
 pub use codewords::{code_of, unit_with, wanted_rows};
 pub use columns::{end_unlike, filled, first_unlike};
 pub use commands::{Ask, Which, is_meant, sent_to, to_all, write_to};
@@ -35,11 +34,12 @@ pub use group_cursor::GroupCursor;
 pub use loads::{DriveLoad, MAX_DRIVES, online_count};
 pub use marks::Marks;
 pub use offsets::offset_of;
+pub use piece_reads::{has_short_stripe, is_left, mark_short, reads, repair_reads, sources};
+pub use piece_writes::stores;
 pub use placer::{Place, Placer};
-pub use reading::{has_short_stripe, is_left, mark_short, reads, repair_reads, sources};
 pub use rebuild::{FillStage, FillStep, Rebuild};
 pub use repair::{Repair, Stage};
+pub use replicas::{group_with, is_beyond, is_short, lacking, replica};
 pub use restored::{fill, lost_units, made};
 pub use rows::{row_from, unit_rows};
-pub use standing::{group_with, is_beyond, is_short, lacking, replica};
-pub use writing::stores;
+pub use stripe_state::{StripeState, judge};

@@ -14,9 +14,9 @@ ghost use Rattle.stripe_repair.specs.declared.rebuild.FillStage.TheVariants.{Gat
 ghost use Rattle.stripe_repair.specs.Repairing.{IsAt};
 
 use crate::group_cursor::GroupCursor;
-use crate::reading::sources;
+use crate::piece_reads::sources;
+use crate::replicas::{group_with, lacking};
 use crate::restored::{fill, made};
-use crate::standing::{group_with, lacking};
 use data_map::DataMap;
 use osd_lists::{Memory, Numbers};
 use server_rules::{Awaited, AwaitedCommands, Heard, Kept, Piece, Target};

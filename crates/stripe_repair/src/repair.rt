@@ -13,8 +13,8 @@ ghost use Rattle.stripe_repair.specs.Repairing.{goes_to, rests_repairing, work_o
 
 use crate::cursor::PieceCursor;
 use crate::marks::Marks;
-use crate::reading::{mark_short, repair_reads};
-use crate::writing::stores;
+use crate::piece_reads::{mark_short, repair_reads};
+use crate::piece_writes::stores;
 use data_map::DataMap;
 use osd_lists::{Memory, Sequence};
 use server_rules::{AwaitedCommands, Heard, Kept, Stripes};

@@ -11,9 +11,9 @@ ghost use Rattle.stripe_repair.specs.Restored.{fill_of, restored_rows, CanBeMade
 
 use crate::codewords::{code_of, unit_with};
 use crate::columns::{end_unlike, first_unlike};
+use crate::piece_writes::write_columns;
+use crate::replicas::replica;
 use crate::rows::{row_from, unit_rows, zeros};
-use crate::standing::replica;
-use crate::writing::write_columns;
 use data_map::DataMap;
 use osd_lists::{Bytes, Memory, Numbers, Rows};
 use parity_code::decode;

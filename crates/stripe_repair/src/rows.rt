@@ -3,7 +3,7 @@ ghost use Rattle.data_map.specs.declared.check.TheConstants.{MAX_COMPONENTS};
 ghost use Rattle.server_rules.specs.Columns.{row_from, row_at, unit_rows};
 
 use crate::columns::filled;
-use crate::standing::replica;
+use crate::replicas::replica;
 use data_map::DataMap;
 use osd_lists::{Bytes, Memory, Rows};
 use server_rules::{Component, Heard};

@@ -9,6 +9,7 @@ use Rattle.layout_ops.specs.declared.results.Results.TheVariants as results
 use Rattle.server_rules.specs.Files.{Step, file_at}
 use Rattle.server_rules.specs.History.{Input, step}
 use Rattle.server_rules.specs.Laws.{In, FilesArePut}
+use Rattle.server_rules.proofs.Members.{in_either, in_mapped, in_filtered}
 use Rattle.world_history.specs.ServerNames.{Server, File, Answer, Outgoing, ToDrive, Recalls, Answers, AnswersOrder}
 use Rattle.job_law.specs.Names.{Slot}
 use Rattle.world_history.specs.declared.messages.Message.{Message}
@@ -20,7 +21,6 @@ use Rattle.world_history.specs.Moves.{Act}
 use Rattle.world_history.specs.Sending.{sends_all}
 use Rattle.calm_law.specs.Sound.{IsSound}
 use Rattle.calm_law.specs.Tags.{EachStepRaisesTags}
-use Rattle.job_law.proofs.Lists.{in_either, in_mapped, in_filtered}
 use Rattle.fencing_law.proofs.Moves.{messages_in, posts_of, NoneOfServer, Acts, Others, Serves}
 use Rattle.fencing_law.proofs.Numbers.{messages_sent}
 use Rattle.tag_law.proofs.Saying.{GivesUpTo, UpTo, Says, says_step}

@@ -2,7 +2,8 @@
 use Rattle.std.specs.List.{list_any}
 use Rattle.std.proofs.Common.{◌≡◌, ◌⊎◌, ◌==◌, ◌&&◌, ◌||◌, ◌+◌, ℕ, Bool, true, false, nat_eq, ◌∷◌, [], List, is_some, Option, Some, None, option_map, refl, sym, ap, subst, ◌∙◌, arith, inl, inr, if◌then◌else◌}
 use Rattle.std.proofs.lemmas.Bool.Decides.{nat_tests}
-use Rattle.std.proofs.lemmas.Bool.{and_parts}
+use Rattle.std.proofs.lemmas.Bool.{and_parts, or_right}
+use Rattle.osd_lists.proofs.Tests.{or_none, same_number}
 use Rattle.osd_commands.specs.declared.actions.Action.{Action}
 use Rattle.osd_commands.specs.declared.actions.Action.TheVariants.{Create}
 use Rattle.osd_commands.specs.declared.commands.Command.{Command}
@@ -22,12 +23,9 @@ use Rattle.world_history.specs.ServerNames.{Awaited, Kept}
 use Rattle.world_history.specs.State.{DriveAt}
 use Rattle.history_law.proofs.HistoryTelling.{again_row}
 use Rattle.fencing_law.specs.Reaching.{has_tag, has_reached}
-use Rattle.tag_law.proofs.There.{zero_below, or_second}
+use Rattle.tag_law.proofs.There.{zero_below}
 
 -- ---- what a reply must be to count
-
-eq_is : (a b : ℕ) → (a == b) ≡ true → a ≡ b
-eq_is a b e = grind (arith, e, nat_tests)
 
 -- to a CREATE: performed, or that the object is there already
 pub counts : (f : Kept) (a : Awaited) (r : Reply) → a.command.action ≡ Create → is_done f a r ≡ true
@@ -40,8 +38,8 @@ counts f a r is e =
   where
     by_tests : (p q : Bool) → (r.verdict == 0) ≡ p → (r.verdict == 8) ≡ q → (p || ((true && q) || false)) ≡ true
         → (r.verdict ≡ 0) ⊎ (r.verdict ≡ 8)
-    by_tests true q x y z = inl (eq_is r.verdict 0 x)
-    by_tests false true x y z = inr (eq_is r.verdict 8 y)
+    by_tests true q x y z = inl (same_number r.verdict 0 x)
+    by_tests false true x y z = inr (same_number r.verdict 8 y)
     by_tests false false x y z = absurd (cc z)
 
 -- ---- the row that finds the object
@@ -50,17 +48,13 @@ row_applies : (p : Verdict → Bool) (b : Bool) (v w : Verdict) (rows : List Row
     → (p w ≡ true → list_any (λ (r : Row). p r.1 && r.0) rows ≡ true)
     → ((p v && b) || list_any (λ (r : Row). p r.1 && r.0) rows) ≡ true
 row_applies p true v w rows e rest = rw e refl
-row_applies p false v w rows e rest = or_second (p v && false) _ (rest e)
+row_applies p false v w rows e rest = or_right (p v && false) _ (rest e)
 
 first_applies : (p : Verdict → Bool) (rows : List Row) → p verdict.Perform ≡ false → p (first_row rows) ≡ true
     → list_any (λ (r : Row). p r.1 && r.0) rows ≡ true
 first_applies p [] none e = absurd (cc (sym e ∙ none))
 first_applies p (r ∷ rows) none e =
     row_applies p r.0 r.1 (first_row rows) rows e (λ later. first_applies p rows none later)
-
-or_none : (b : Bool) → (b || false) ≡ true → b ≡ true
-or_none true e = refl
-or_none false e = absurd (cc e)
 
 abbrev is_exists : Verdict → Bool
 is_exists verdict.Exists = true
@@ -75,7 +69,7 @@ exists_row d now c e = or_none _ (first_applies is_exists (all_rows d now c) ref
 
 there_now : (a : DriveAt) (object : ℕ) (x : StoredObject) → object_at a.state.store object ≡ Some x
     → has_reached object 0 (Some a) ≡ true
-there_now a object x e = or_second a.failed _ (ap (has_tag 0) e ∙ zero_below x.tag)
+there_now a object x e = or_right a.failed _ (ap (has_tag 0) e ∙ zero_below x.tag)
 
 by_found : (a : DriveAt) (object : ℕ) (o : Option StoredObject) → object_at a.state.store object ≡ o
     → is_some (option_map state_of o) ≡ true → has_reached object 0 (Some a) ≡ true

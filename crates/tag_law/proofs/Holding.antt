@@ -2,8 +2,10 @@
 use Rattle.std.proofs.Common.{◌≡◌, ℕ, zero, suc, ◌<◌, ◌++◌, ◌∷◌, [], List, length, map, slice_get, slice_set, Option, Some, None, refl, sym, ap, subst, ◌∙◌, append_assoc, arith, inl, inr}
 use Rattle.std.proofs.lemmas.List.Sums.{fold-append}
 use Rattle.std.specs.List.{fold}
+use Rattle.std.proofs.lemmas.Option.{same_Some}
 use Rattle.osd_lists.specs.declared.node.Node.{Node}
 use Rattle.osd_lists.specs.declared.node.Node.TheVariants as node
+use Rattle.osd_lists.proofs.Slices.{head_same, tail_same}
 use Rattle.layout_ops.specs.declared.envelope.Envelope.{Envelope}
 use Rattle.layout_ops.specs.declared.envelope.Envelope.TheVariants as envelope
 use Rattle.layout_ops.specs.declared.results.LayoutGetResult.TheVariants as get
@@ -32,8 +34,10 @@ use Rattle.world_history.specs.Moves.{Act, acts}
 use Rattle.world_history.specs.Sending.{Move, move, sent_lines}
 use Rattle.world_history.specs.Book.{ServerSeen}
 use Rattle.world_history.specs.Calm.{first_seen}
+use Rattle.world_history.proofs.Always.{opening, IsKept}
+use Rattle.world_history.proofs.Parties.{party_server, party_client}
 use Rattle.history_law.proofs.DriveLines.{view, sent_read}
-use Rattle.history_law.proofs.Histories.{IsKept, opening, stands}
+use Rattle.history_law.proofs.Histories.{stands}
 use Rattle.history_law.specs.Read.{AreWritten}
 use Rattle.history_law.proofs.Staying.{written_front}
 use Rattle.history_law.proofs.Following.{IsFollowed, followed}
@@ -51,12 +55,6 @@ use Rattle.tag_law.proofs.Saying.{GivesUpTo}
 use Rattle.tag_law.proofs.Aging.{to_client, EnvelopeUpTo, Aged, aged_by, aged_first}
 
 -- ---- places in lists
-
-head_same : (x y : Line) (xs ys : List Line) → x ∷ xs ≡ y ∷ ys → x ≡ y
-head_same x y xs ys e = cc e
-
-tail_same : (x y : Line) (xs ys : List Line) → x ∷ xs ≡ y ∷ ys → xs ≡ ys
-tail_same x y xs ys e = cc e
 
 -- a line of two lists is one of the first, or stands in the second behind a front of it
 data Place (h ls before after : List Line) (x : Line) : Type 0 where
@@ -95,9 +93,6 @@ record Was (ss : List Sent) (n : ℕ) (m : Sent) : Type 0 where
   to_is : m.to ≡ message.to
   bytes_are : m.bytes ≡ message.bytes
 
-same_sent : (x y : Sent) → Some x ≡ Some y → x ≡ y
-same_sent x y e = cc e
-
 was_there : (ss : List Sent) (n : ℕ) (m : Sent) → slice_get ss n ≡ Some m → Was ss n m
 was_there ss n m e = record { message = m; there = e; from_is = refl; to_is = refl; bytes_are = refl }
 
@@ -114,8 +109,8 @@ set_back : (ss : List Sent) (k : ℕ) (s y : Sent) → slice_get ss k ≡ Some s
     → y.bytes ≡ s.bytes → (n : ℕ) (m : Sent) → slice_get (slice_set ss k y) n ≡ Some m → Was ss n m
 set_back [] k s y there from to bytes n m e = absurd (cc there)
 set_back (x ∷ ss) zero s y there from to bytes zero m e =
-    let new : y ≡ m = same_sent y m e in
-    let old : x ≡ s = same_sent x s there in
+    let new : y ≡ m = same_Some y m e in
+    let old : x ≡ s = same_Some x s there in
     record {
       message = x;
       there = refl;
@@ -173,23 +168,10 @@ sent_back h front silent n m e =
 
 -- ---- messages of the world
 
-server_is : (n : Node) → party_of n ≡ party.Server → n ≡ node.Server
-server_is node.Server e = refl
-server_is (node.Drive d) e = absurd (cc e)
-server_is (node.Client c) e = absurd (cc e)
-
-client_is : (n : Node) (c : ℕ) → party_of n ≡ party.Client c → n ≡ node.Client c
-client_is node.Server c e = absurd (cc e)
-client_is (node.Drive d) c e = absurd (cc e)
-client_is (node.Client k) c e = ap (λ (x : ℕ). node.Client x) (same e)
-  where
-    same : party.Client k ≡ party.Client c → k ≡ c
-    same x = cc x
-
 found_post : (ps : List Posted) (n : ℕ) (x : Sent) → slice_get (map shown ps) n ≡ Some x
     → (p : Posted) × In p.message (map (λ (q : Posted). q.message) ps) × (x ≡ shown p)
 found_post [] n x e = absurd (cc e)
-found_post (p ∷ ps) zero x e = (p, inl refl, sym (same_sent (shown p) x e))
+found_post (p ∷ ps) zero x e = (p, inl refl, sym (same_Some (shown p) x e))
 found_post (p ∷ ps) (suc n) x e = let r = found_post ps n x e in (r.0, inr r.1, r.2)
 
 -- a message of the server to a client, as the lines show it, is one of the world's
@@ -208,8 +190,8 @@ in_world : (w : World) (n client : ℕ) (x : Sent) → slice_get (view w) n ≡ 
 in_world w n client x e from to =
     let r = found_post w.network.messages n x e in
     let p : Posted = r.0 in
-    let source = server_is p.message.from (ap (λ (y : Sent). y.from) (sym r.2) ∙ from) in
-    let target = client_is p.message.to client (ap (λ (y : Sent). y.to) (sym r.2) ∙ to) in
+    let source = party_server p.message.from (ap (λ (y : Sent). y.from) (sym r.2) ∙ from) in
+    let target = party_client p.message.to client (ap (λ (y : Sent). y.to) (sym r.2) ∙ to) in
     record {
       body = p.message.body;
       there = subst (λ (y : Message). In y (messages_in w)) (to_client_is client p.message source target) r.1;

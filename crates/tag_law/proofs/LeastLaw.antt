@@ -8,6 +8,7 @@ use Rattle.scenario_text.specs.declared.line.Line.{Line}
 use Rattle.server_rules.specs.History.{Input, Hears}
 use Rattle.server_rules.specs.Laws.{In}
 use Rattle.server_rules.specs.Messages.{Replies as RepliesTo}
+use Rattle.server_rules.proofs.Members.{one_in}
 use Rattle.world_history.specs.ServerNames.{Server, File, Component}
 use Rattle.world_history.specs.State.{World, DriveAt, at_number, empty_world}
 use Rattle.world_history.specs.Moves.{acts}
@@ -49,7 +50,7 @@ use Rattle.sent_law.proofs.Doing.{Does, Rests, Serves, does}
 use Rattle.sent_law.proofs.Moments.{each_first, each_second, named_action}
 use Rattle.tag_law.specs.Least.{NoTagIsBehind}
 use Rattle.tag_law.proofs.There.{any_stays}
-use Rattle.tag_law.proofs.Tags.{one_of, made_reached}
+use Rattle.tag_law.proofs.Tags.{made_reached}
 
 -- ---- at a moment
 
@@ -200,9 +201,9 @@ module _ (run : ServerSentItsRun) (given : EachTagWasSent) (ahead : NoCommandIsA
     reached_there w h k text few f i at j e =
         let read = read_at w h k in
         let fits : KeptFits w.server.next_object f.kept =
-        one_of (λ (y : File). KeptFits w.server.next_object y.kept) w.server.files f (files w h k text) i in
+        one_in (λ (y : File). KeptFits w.server.next_object y.kept) w.server.files f (files w h k text) i in
         let object : ComponentFits w.server.next_object at =
-        one_of (ComponentFits w.server.next_object) f.kept.components at fits.components j in
+        one_in (ComponentFits w.server.next_object) f.kept.components at fits.components j in
         let next : w.server.next_object < 2 ^ 64 =
         omega (arith, (counted w h k text).objects, as_many w h read, few) in
         subst (λ (o : Option DriveAt). has_reached at.object f.kept.tag o ≡ true)

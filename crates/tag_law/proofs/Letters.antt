@@ -3,6 +3,7 @@ use Rattle.std.proofs.Common.{◌≡◌, ℕ, List, map, refl, sym, ap, subst, �
 use Rattle.osd_lists.specs.declared.node.Node.{Node}
 use Rattle.osd_lists.specs.declared.node.Node.TheVariants as node
 use Rattle.server_rules.specs.Laws.{In}
+use Rattle.server_rules.proofs.Members.{in_mapped, in_map}
 use Rattle.scenario_text.specs.declared.line.Party.TheVariants as party
 use Rattle.scenario_text.specs.declared.line.Line.{Line}
 use Rattle.world_history.specs.declared.messages.Body.{Body}
@@ -12,26 +13,13 @@ use Rattle.world_history.specs.declared.messages.Sent.{Sent}
 use Rattle.world_history.specs.State.{World}
 use Rattle.world_history.specs.Spelled.{spelled, party_of}
 use Rattle.world_history.specs.Laws.{shown}
+use Rattle.world_history.proofs.Parties.{party_server, party_drive}
 use Rattle.history_law.proofs.DriveLines.{sent_read}
 use Rattle.history_law.proofs.DriveEvents.{IsRead}
-use Rattle.job_law.proofs.Lists.{in_map, in_mapped}
 use Rattle.fencing_law.proofs.Heard.{IsCommand}
 use Rattle.fencing_law.proofs.LaneLines.{letter, letters, SentTo}
 use Rattle.fencing_law.proofs.Moves.{messages_in}
 use Rattle.fencing_law.proofs.Numbers.{to_drive, Numbers}
-
-party_server : (n : Node) → party_of n ≡ party.Server → n ≡ node.Server
-party_server node.Server e = refl
-party_server (node.Drive d) e = absurd (cc e)
-party_server (node.Client c) e = absurd (cc e)
-
-party_drive : (n : Node) (d : ℕ) → party_of n ≡ party.Drive d → n ≡ node.Drive d
-party_drive node.Server d e = absurd (cc e)
-party_drive (node.Drive k) d e = ap (λ (n : ℕ). node.Drive n) (same e)
-  where
-    same : party.Drive k ≡ party.Drive d → k ≡ d
-    same x = cc x
-party_drive (node.Client c) d e = absurd (cc e)
 
 -- where a letter is read, the message stands in the world
 letter_message : (ms : List Posted) (x : Sent) → In x (letters (map shown ms)) → (q : Posted) × In q ms

@@ -1,5 +1,6 @@
 -- What a client may send gives no object a tag: its capability has no right to that.
 use Rattle.std.proofs.Common.{◌≡◌, ◌⊎◌, ℕ, ◌<◌, ◌^◌, Bool, true, false, ◌||◌, List, Ok, bit_and, nat_eq, refl, sym, ap, subst, ◌∙◌, inl, inr}
+use Rattle.osd_lists.proofs.Tests.{first_false}
 use Rattle.osd_capability.specs.declared.layout.Capability.{Capability}
 use Rattle.osd_capability.specs.Layout.{reading as capability_in}
 use Rattle.osd_commands.specs.declared.actions.Action.{Action}
@@ -10,6 +11,7 @@ use Rattle.osd_commands.specs.Commands.{reading}
 use Rattle.osd_drive.specs.Table.{has_no_right}
 use Rattle.layout_types.specs.declared.cred.ObjectCred.{ObjectCred}
 use Rattle.scenario_text.specs.declared.line.Line.{Line}
+use Rattle.server_rules.proofs.Members.{in_map}
 use Rattle.world_history.specs.declared.messages.Sent.{Sent}
 use Rattle.world_history.specs.Reading.{sent_in}
 use Rattle.history_law.specs.Listed.{WasGiven}
@@ -18,7 +20,6 @@ use Rattle.history_law.specs.Issued.{IsIssued}
 use Rattle.history_law.specs.Unforged.{HasFairSource}
 use Rattle.history_law.proofs.Carried.{read_spelled}
 use Rattle.fencing_law.proofs.LaneLines.{SentTo, letter, in_get}
-use Rattle.job_law.proofs.Lists.{in_map}
 use Rattle.fencing_law.proofs.Layouts.{rights_by}
 use Rattle.fencing_law.proofs.Bodies.{given_own}
 use Rattle.fencing_law.proofs.Holders.{rights_read, few_rights, bears_rights}
@@ -56,10 +57,6 @@ no_set_tag false = refl
 no_tags : (rw : Bool) (a : Action) → GivesTags a → nat_eq (bit_and (rights_by rw) (right_of a)) 0 ≡ true
 no_tags rw a (inl is) = ap (λ (x : Action). nat_eq (bit_and (rights_by rw) (right_of x)) 0) is ∙ no_create rw
 no_tags rw a (inr is) = ap (λ (x : Action). nat_eq (bit_and (rights_by rw) (right_of x)) 0) is ∙ no_set_tag rw
-
-first_false : (a b : Bool) → (a || b) ≡ false → a ≡ false
-first_false true b not = absurd (cc not)
-first_false false b not = refl
 
 -- no client's capability allows that
 has_none : (y : Command) → (rw : Bool) × (y.capability.rights ≡ rights_by rw) → has_no_right y ≡ false → GivesTags y.action

@@ -25,7 +25,7 @@ use Rattle.server_rules.specs.Making.{refusal, unless_refused, makes_file, creat
 use Rattle.server_rules.specs.Openings.{reopen}
 use Rattle.server_rules.specs.History.{Input, Hears, Makes, Obeys, Adds, Formats, Resends, Crashes, Opens, unless_made, step}
 use Rattle.server_rules.specs.Laws.{In, FilesArePut}
-use Rattle.job_law.proofs.Lists.{in_either}
+use Rattle.server_rules.proofs.Members.{in_either}
 use Rattle.job_law.proofs.Files.{found_file}
 use Rattle.job_law.proofs.Asking.{handled_served}
 

@@ -34,11 +34,11 @@ use Rattle.world_history.specs.Told.{told_verdict}
 use Rattle.world_history.specs.Drives.{verdict_on, judges, made_drive}
 use Rattle.world_history.specs.Reading.{is_drive, sent_in}
 use Rattle.world_history.specs.ReadDrives.{DriveSeen, sees_drive, drive_seen, drive_after, drive_after_event, drive_after_line, hears_bytes, hears_sent}
+use Rattle.world_history.proofs.DriveLines.{drive_line, same_drive, unheard}
 use Rattle.history_law.specs.Judging.{Judges, JudgesAt, injected_in}
 use Rattle.history_law.specs.Safe.{AtEachLine}
 use Rattle.history_law.proofs.Each.{EachBehind, HoldsAt, judges_of}
 use Rattle.history_law.proofs.DriveLines.{sent_same}
-use Rattle.history_law.proofs.Coming.{same_drive}
 use Rattle.history_law.proofs.Spending.{IsFree, free}
 use Rattle.history_law.specs.Issued.{IssuedAt}
 use Rattle.history_law.specs.Unforged.{AreUnforged, HasFairSource, InjectedAt}
@@ -237,10 +237,6 @@ judged_line before l k bytes v j source s d = elim (cases_eq d k) [
 
 -- ---- an event
 
-drive_line : (before : List Line) (l : Line) (d : ℕ)
-    → drive_after (before ++ l ∷ []) d ≡ drive_after_line d (drive_seen d before) l
-drive_line before l d = ap (λ (x : DriveSeen). x.drive) (fold-append (sees_drive d) _ before (l ∷ []))
-
 module _ (before : List Line) (l : Line) (d : ℕ) where
   mapped_tags : (f : DriveAt → DriveAt) (o : Option DriveAt) → ((a : DriveAt) → (f a).state.store ≡ a.state.store)
       → DriveTags before d o → DriveTags (before ++ l ∷ []) d (option_map f o)
@@ -275,18 +271,6 @@ module _ (before : List Line) (l : Line) (d : ℕ) where
   event_tags o e s = same_drives before (l ∷ []) d o o refl s
 
 -- ---- a message that no drive judges
-
-unheard : (d : ℕ) (o : Option DriveAt) (m : Sent)
-    → ((a : DriveAt) → m.to ≡ party.Drive d → o ≡ Some a → a.failed ≡ true) → hears_sent d o (Some m) ≡ o
-unheard d o m deaf = either (is_drive d m.to) (λ e. same_drive d m.to e) o deaf
-  where
-    either : (b : Bool) → (b ≡ true → m.to ≡ party.Drive d) → (p : Option DriveAt)
-        → ((a : DriveAt) → m.to ≡ party.Drive d → p ≡ Some a → a.failed ≡ true)
-        → (if b then option_map (hears_bytes m.bytes) p else p) ≡ p
-    either true to None failed = refl
-    either true to (Some a) failed =
-        ap (λ (f : Bool). Some (if f then a else (judges a (reading m.bytes)).drive)) (failed a (to refl) refl)
-    either false to p failed = refl
 
 deaf_line : (before : List Line) (n : ℕ) (l : Line) (m : Sent) → slice_get (sent_in before) n ≡ Some m
     → ((d : ℕ) → drive_after_line d (drive_seen d before) l

@@ -13,6 +13,7 @@ use Rattle.osd_objects.specs.Store.{object_at}
 use Rattle.server_rules.specs.Laws.{In}
 use Rattle.server_rules.specs.Messages.{Replies as RepliesTo, awaited_by, counters_have_room}
 use Rattle.server_rules.specs.Replies.{is_done, answers}
+use Rattle.server_rules.proofs.Members.{in_map, one_in}
 use Rattle.scenario_text.specs.declared.line.Line.{Line}
 use Rattle.world_history.specs.ServerNames.{Server, File, Awaited}
 use Rattle.world_history.specs.declared.messages.Posted.{Posted}
@@ -23,7 +24,6 @@ use Rattle.world_history.specs.ReadDrives.{drive_after}
 use Rattle.history_law.specs.BookMoments.{IsMoment}
 use Rattle.history_law.specs.Unforged.{AreUnforged}
 use Rattle.job_law.proofs.Files.{found_file}
-use Rattle.job_law.proofs.Lists.{in_map}
 use Rattle.fencing_law.specs.Reaching.{has_tag, has_reached, reached_in}
 use Rattle.fencing_law.proofs.LaneLines.{letter, in_get}
 use Rattle.fencing_law.proofs.Numbers.{Numbers}
@@ -42,11 +42,6 @@ use Rattle.sent_law.specs.First.{CreatesAreFirst}
 use Rattle.sent_law.specs.Sent.{ServerSentItsRun}
 use Rattle.tag_law.proofs.Letters.{world_command}
 use Rattle.tag_law.proofs.Heard.{heard_made}
-
-pub one_of : {A : Type 0} (P : A → Type 0) (xs : List A) (x : A) → AllByRecursion P xs → In x xs → P x
-one_of P [] x all i = absurd i
-one_of P (y ∷ xs) x all (inl e) = subst P (sym e) all.0
-one_of P (y ∷ xs) x all (inr i) = one_of P xs x all.1 i
 
 given_from : (least : ℕ) (c : Command) (tag : ℕ) → least ≤ c.capability.tag → GivesTag c tag → least ≤ tag
 given_from least c tag le (inl (is, e)) = omega (arith, le, e)
@@ -101,7 +96,7 @@ module _ (run : ServerSentItsRun) (given : EachTagWasSent) (ahead : NoCommandIsA
         first r.acts r.running f (subst (λ (s : Server). In f s.files) r.server i) a j makes a.drive c.command
         sent (sym same ∙ g.object_is) in
         let fits : KeptFits w.server.next_object s.file.kept =
-        one_of (λ (y : File). KeptFits w.server.next_object y.kept) w.server.files s.file (files w h k text)
+        one_in (λ (y : File). KeptFits w.server.next_object y.kept) w.server.files s.file (files w h k text)
         (found_file w.server.files (o.0 c.command.object) s.file s.there).0 in
         let own : g.command.capability.tag ≡ c.command.capability.tag =
         reads.tag (omega (arith, s.behind.0, fits.tag)) in

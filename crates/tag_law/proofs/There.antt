@@ -1,6 +1,7 @@
 -- What an object has reached stays reached, whatever the tag; so an object that is there stays there.
 use Rattle.std.proofs.Common.{◌≡◌, ℕ, zero, suc, ◌+◌, ◌||◌, ◌++◌, [], List, Bool, true, false, not, nat_le, Option, Some, None, refl, sym, subst, arith, inl, inr}
 use Rattle.std.proofs.lemmas.Bool.Decides.{nat_tests}
+use Rattle.std.proofs.lemmas.Bool.{or_left, or_right}
 use Rattle.osd_commands.specs.declared.actions.Action.TheVariants.{Create}
 use Rattle.osd_commands.specs.declared.commands.Command.{Command}
 use Rattle.osd_objects.specs.declared.object.StoredObject.{StoredObject}
@@ -16,14 +17,6 @@ use Rattle.fencing_law.proofs.Reaching.{has_stays}
 
 pub zero_below : (n : ℕ) → nat_le 0 n ≡ true
 zero_below n = grind (arith, nat_tests)
-
-or_first : (a b : Bool) → a ≡ true → (a || b) ≡ true
-or_first true b e = refl
-or_first false b e = absurd (cc e)
-
-pub or_second : (a b : Bool) → b ≡ true → (a || b) ≡ true
-or_second true b e = refl
-or_second false b e = e
 
 -- a CREATE of the object
 abbrev probe : (format object : ℕ) → Command
@@ -81,10 +74,10 @@ spent_there (Some a) object each = by_spent (each (probe a.state.least object) r
   where
     by_spent : IsSpent (Some a) (probe a.state.least object)
         → (a.failed || has_tag 0 (object_at a.state.store object)) ≡ true
-    by_spent (inl failed) = or_first a.failed _ failed
+    by_spent (inl failed) = or_left a.failed _ failed
     by_spent (inr (inl old)) = absurd (omega (arith, old))
     by_spent (inr (inr spent)) =
-        or_second a.failed _ (there_by (object_at a.state.store object) (probe a.state.least object) spent)
+        or_right a.failed _ (there_by (object_at a.state.store object) (probe a.state.least object) spent)
 
 -- ---- over more lines
 

@@ -15,6 +15,8 @@ use Rattle.server_rules.specs.Files.{file_at}
 use Rattle.server_rules.specs.Laws.{In}
 use Rattle.server_rules.specs.Making.{new_server}
 use Rattle.server_rules.specs.History.{state_after}
+use Rattle.server_rules.proofs.FileLaws.{number_at, file_in}
+use Rattle.server_rules.proofs.Members.{in_mapped, in_map}
 use Rattle.world_history.specs.ServerNames.{Server, File, Component, Kept}
 use Rattle.world_history.specs.declared.messages.Body.{Body}
 use Rattle.world_history.specs.declared.messages.Body.TheVariants.{Command as OfCommand}
@@ -45,8 +47,9 @@ use Rattle.world_history.specs.History.{StandsFor}
 use Rattle.world_history.specs.Plans.{plan_of}
 use Rattle.world_history.specs.Refusals.{refusal}
 use Rattle.world_history.specs.Runs.{world_after, AreDue}
-use Rattle.history_law.proofs.Histories.{IsKept, opening, stands, kept_part}
-use Rattle.job_law.proofs.Lists.{in_mapped, in_map}
+use Rattle.world_history.proofs.Always.{opening, IsKept}
+use Rattle.world_history.proofs.Parties.{party_server, party_drive}
+use Rattle.history_law.proofs.Histories.{stands, kept_part}
 use Rattle.fencing_law.proofs.LaneLines.{in_get}
 use Rattle.fencing_law.proofs.Moves.{messages_in}
 use Rattle.fencing_law.proofs.Numbers.{Numbers, to_drive, numbers_move, numbers_first}
@@ -55,22 +58,6 @@ use Rattle.sent_law.specs.Tagged.{IsBehind}
 use Rattle.tag_law.specs.Within.{NoTagIsAhead}
 
 -- ---- files
-
-there_in : (fs : List File) (n : ℕ) (f : File) → file_at fs n ≡ Some f → In f fs
-unfolding file_at
-there_in [] n f e = absurd (cc e)
-there_in (x ∷ fs) n f e = elim (cases_Bool (x.kept.number == n)) [
-  | inl t ↦ inl (cc (sym (rw t at e)))
-  | inr z ↦ inr (there_in fs n f (rw z at e))
-]
-
-number_at : (fs : List File) (n : ℕ) (f : File) → file_at fs n ≡ Some f → f.kept.number ≡ n
-unfolding file_at
-number_at [] n f e = absurd (cc e)
-number_at (g ∷ fs) n f e = elim (cases_Bool (g.kept.number == n)) [
-  | inl t ↦ grind (arith, nat_tests, t, (rw t at e))
-  | inr z ↦ number_at fs n f (rw z at e)
-]
 
 fits_of : (o : ℕ) (fs : List File) (f : File) → AllByRecursion (λ (g : File). KeptFits o g.kept) fs → In f fs
     → KeptFits o f.kept
@@ -117,19 +104,6 @@ numbers_at w h k =
     subst Numbers (sym k.world_is)
     (numbers_moves k.before k.history k.event k.moves k.stands k.allowed k.are_due)
 
-party_server : (n : Node) → party_of n ≡ party.Server → n ≡ node.Server
-party_server node.Server e = refl
-party_server (node.Drive d) e = absurd (cc e)
-party_server (node.Client c) e = absurd (cc e)
-
-party_drive : (n : Node) (d : ℕ) → party_of n ≡ party.Drive d → n ≡ node.Drive d
-party_drive node.Server d e = absurd (cc e)
-party_drive (node.Drive k) d e = ap (λ (n : ℕ). node.Drive n) (same e)
-  where
-    same : party.Drive k ≡ party.Drive d → k ≡ d
-    same x = cc x
-party_drive (node.Client c) d e = absurd (cc e)
-
 -- a message of the server to a drive, as the lines have it, is a command that it sent
 record IsCommand (w : World) (d : ℕ) (bytes : List ℕ) : Type 0 where
   command : Command
@@ -172,7 +146,7 @@ module _ (run : ServerSentItsRun) (given : EachTagWasSent) (ahead : NoCommandIsA
       → AreOwned owner w.server → (c y : Command) → ReadsAs c y → y.object ≡ at.object → HasFile owner w.server c
       → (tag : ℕ) → GivesTag y tag → IsWithin f.kept tag
   under w h k text few n f e at i owner owned c y reads object_is s tag gives =
-      let some : In f w.server.files = there_in w.server.files n f e in
+      let some : In f w.server.files = file_in w.server.files n f e in
       let fits = fits_of w.server.next_object w.server.files f (files w h k text) some in
       let next : w.server.next_object < 2 ^ 64 =
       omega (arith, (counted w h k text).objects, as_many w h (read_at w h k), few) in

@@ -10,6 +10,8 @@ use Rattle.world_history.specs.Sending.{fresh as fresh_post, cost}
 use Rattle.world_history.specs.Reading.{arrived, left_out}
 use Rattle.world_history.specs.Plans.{is_pending as is_pending_there, pending_from}
 use Rattle.world_history.specs.Laws.{shown}
+use Rattle.world_history.proofs.Pending.{passed_over}
+use Rattle.world_history.proofs.ReadMessages.{shown_set, shown_get}
 use Rattle.world_network.specs.Network.{NetworkState, Changes, is_pending, PendingIs}
 use Rattle.world_network.specs.Shows.{Shows, PendingIsShown, PostsAreShown, AllMarksAreShown}
 
@@ -23,18 +25,6 @@ shown_more : (ps : List Posted) (p : Posted) → map shown (ps ++ p ∷ []) ≡ 
 shown_more [] p = refl
 shown_more (x ∷ ps) p = ap (λ (l : List Sent). shown x ∷ l) (shown_more ps p)
 
-shown_set : (ps : List Posted) (n : ℕ) (p : Posted)
-    → map shown (slice_set ps n p) ≡ slice_set (map shown ps) n (shown p)
-shown_set [] n p = refl
-shown_set (x ∷ ps) zero p = refl
-shown_set (x ∷ ps) (suc n) p = ap (λ (l : List Sent). shown x ∷ l) (shown_set ps n p)
-
-shown_get : (ps : List Posted) (n : ℕ) (p : Posted) → slice_get ps n ≡ Some p
-    → slice_get (map shown ps) n ≡ Some (shown p)
-shown_get [] n p e = absurd (cc e)
-shown_get (x ∷ ps) zero p e = let same : x ≡ p = cc in ap (λ (y : Posted). Some (shown y)) same
-shown_get (x ∷ ps) (suc n) p e = shown_get ps n p e
-
 -- ---- pending messages
 
 -- none of a list's messages below a place is pending, where the list begins with number k
@@ -45,10 +35,6 @@ Past first k place ps = (j : ℕ) (p : Sent) → first ≤ k + j → j < place �
 past_next : (first k place : ℕ) (x : Posted) (ps : List Posted) → Past first k (suc place) (x ∷ ps)
     → Past first (k + 1) place ps
 past_next first k place x ps h j p f l e = h (suc j) p (omega (arith, f)) (omega (arith, l)) e
-
-passed_over : (first k : ℕ) (x : Posted) → (first ≤ k → is_pending_there x ≡ false)
-    → (nat_le first k && is_pending_there x) ≡ false
-passed_over first k x h = grind (arith, nat_tests, h)
 
 found : (first k place : ℕ) (ps : List Posted) (p : Sent) → first ≤ k + place
     → slice_get (map shown ps) place ≡ Some p → is_pending p ≡ true

@@ -37,18 +37,9 @@ same_rest xs ys i x e = rest_of xs i x ∙ further xs i ∙ ap (λ l. drop 1 l) 
 
 -- ---- the same, counted up by one
 
-pub one_more : {X : Type 0} (xs : List X) (i : ℕ) (x : X) → slice_get xs i ≡ Some x
-    → take (i + 1) xs ≡ take i xs ++ x ∷ []
-one_more xs i x e = rw add-one (taken_next xs i x e)
-
 pub rest_stays : {X : Type 0} (xs ys : List X) (i : ℕ) (x : X) → drop i xs ≡ drop i ys
     → drop (i + 1) (slice_set xs i x) ≡ drop (i + 1) ys
 rest_stays xs ys i x e = rw add-one (same_rest xs ys i x e)
-
-pub count_stays : {X : Type 0} (xs : List X) (i : ℕ) (x : X) → length (slice_set xs i x) ≡ length xs
-count_stays [] i x = refl
-count_stays (y ∷ xs) zero x = refl
-count_stays (y ∷ xs) (suc i) x = ap (λ n. suc n) (count_stays xs i x)
 
 pub split_at : {X : Type 0} (xs : List X) (i : ℕ) → xs ≡ take i xs ++ drop i xs
 split_at [] zero = refl

@@ -6,6 +6,7 @@ use Rattle.std.specs.Option.{option_map}
 use Rattle.std.specs.Ordering.{nat_cmp}
 use Rattle.std.specs.BTreeMap.{is_at}
 use Rattle.std.proofs.lemmas.Map.Steps.{set_value_same}
+use Rattle.std.proofs.Math.Bool.{or-false}
 use Rattle.osd_lists.specs.declared.node.Node.{Node}
 use Rattle.scenario_text.specs.declared.line.CallKind.{CallKind}
 use Rattle.scenario_text.specs.declared.line.Line.{Line}
@@ -105,12 +106,8 @@ stays : (w : World) (c : ℕ) (a b : ClientAt) → b ≡ a → at_number w.clien
 stays w c a b e f =
     rw e (ap (λ (t : Table). with_clients w t) (sym (set_value_same (is_at (nat_cmp c)) w.clients a f)))
 
-or_false : (b : Bool) → (b || false) ≡ b
-or_false true = refl
-or_false false = refl
-
 still_same : (c : ℕ) (a : ClientAt) → (goes_on c a (still a.state)).client ≡ a
-still_same c a = ap (λ (b : Bool). record a { wrote = b }) (or_false a.wrote)
+still_same c a = ap (λ (b : Bool). record a { wrote = b }) (or-false a.wrote)
 
 nothing_ended : (c : ℕ) (op : Option CallOp) → ended c (option_map data_of_call op) None ≡ []
 nothing_ended c None = refl

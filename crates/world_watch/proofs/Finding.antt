@@ -23,10 +23,6 @@ get_front [] m k l = absurd (omega (arith, l))
 get_front (x ∷ xs) m zero l = refl
 get_front (x ∷ xs) m (suc k) l = get_front xs m k (omega (arith, l))
 
-pub get_end : (xs : List Sent) (m : Sent) → slice_get (xs ++ m ∷ []) (length xs) ≡ Some m
-get_end [] m = refl
-get_end (x ∷ xs) m = get_end xs m
-
 -- one that becomes another with the same receiver and bytes
 pub same_set : (xs : List Sent) (n k : ℕ) (s s' : Sent) (d : ℕ) (bytes : List ℕ) → slice_get xs n ≡ Some s
     → is_same d bytes s' ≡ is_same d bytes s
@@ -38,11 +34,6 @@ same_set (x ∷ xs) zero zero s s' d bytes e q =
 same_set (x ∷ xs) zero (suc k) s s' d bytes e q = refl
 same_set (x ∷ xs) (suc n) zero s s' d bytes e q = refl
 same_set (x ∷ xs) (suc n) (suc k) s s' d bytes e q = same_set xs n k s s' d bytes e q
-
-pub length_set : (xs : List Sent) (n : ℕ) (s : Sent) → length (slice_set xs n s) ≡ length xs
-length_set [] n s = refl
-length_set (x ∷ xs) zero s = refl
-length_set (x ∷ xs) (suc n) s = ap (λ k. suc k) (length_set xs n s)
 
 -- ---- the first of some
 

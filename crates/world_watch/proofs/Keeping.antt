@@ -2,6 +2,8 @@
 use Rattle.std.proofs.Common.{◌≡◌, ℕ, ◌∷◌, ◌&&◌, [], List, Bool, true, false, not, Option, Some, None, is_none, Result, Ok, Err, length, slice_get, slice_set, refl, sym, ap, subst, ◌∙◌, inl, inr}
 use Rattle.std.specs.Prelude.{nat_eq}
 use Rattle.std.proofs.lemmas.Bool.{cases_Bool, cases_eq}
+use Rattle.osd_lists.proofs.Tests.{and_true}
+use Rattle.osd_lists.proofs.Slices.{length_set}
 use Rattle.osd_objects.proofs.Entries.{lookup_inserted, lookup_beside}
 use Rattle.osd_commands.specs.declared.commands.Command.{Command}
 use Rattle.osd_commands.specs.declared.commands.CommandErr.{CommandErr}
@@ -20,7 +22,7 @@ use Rattle.world_history.specs.Guesses.{Guarded, guards, is_guess_of, opened_by}
 use Rattle.world_watch.specs.Sighted.{Table, is_same, sighted}
 use Rattle.world_watch.specs.Guessing.{GuessState, opens, opens_with, injects_read, sees}
 use Rattle.world_watch.specs.Tied.{AreOf, BeginWith, Keeps, KeepsFirst, KeepsOn, with_key}
-use Rattle.world_watch.proofs.Finding.{same_set, length_set}
+use Rattle.world_watch.proofs.Finding.{same_set}
 use Rattle.world_watch.proofs.Sighting.{sighted_begins, none_sent, of_changed, of_more, of_seen}
 
 -- ---- before the first line
@@ -61,10 +63,6 @@ none_as : (g : Guarded) (s : GuessState) (ms : List Sent) (d : ℕ) (bytes : Lis
     → is_none (sighted s.sightings ms d bytes) ≡ is_none (sighted s.sightings g.sent d bytes)
 none_as g s ms d bytes h w = ap (λ o. is_none o) (sighted_begins ms g.sent s.sightings d bytes w h.sightings)
 
-still : (b : Bool) → b ≡ (b && true)
-still true = refl
-still false = refl
-
 guessed_as : (g : Guarded) (s : GuessState) (ms : List Sent) (d : ℕ) (bytes : List ℕ) → Keeps g s
     → BeginWith ms g.sent → (r : Result Command CommandErr)
     → (injects_read s ms d bytes r).unguessed ≡ (g.unguessed && not (is_guess_of g d bytes r))
@@ -73,7 +71,7 @@ guessed_as g s ms d bytes h w (Ok c) =
     ∙ ap (λ x. g.unguessed && not (x && is_none (sighted s.sightings ms d bytes))) (opens_as g s d c h)
     ∙ ap (λ x. g.unguessed && not (opened_by (at_number g.keys d) c && x))
     (none_as g s ms d bytes h w ∙ none_sent g.sent s.sightings d bytes h.sightings)
-guessed_as g s ms d bytes h w (Err e) = h.unguessed ∙ still g.unguessed
+guessed_as g s ms d bytes h w (Err e) = h.unguessed ∙ and_true g.unguessed
 
 same_keys : (s : GuessState) (ms : List Sent) (d : ℕ) (bytes : List ℕ) (r : Result Command CommandErr)
     → (injects_read s ms d bytes r).keys ≡ s.keys
@@ -120,17 +118,17 @@ sent_on : (g : Guarded) (s : GuessState) (ms : List Sent) (n : ℕ) (from to : P
 sent_on g s ms n from (party.Drive d) bytes h w next = record {
   keys = h.keys;
   sightings = rw next (of_seen ms g.sent (sent_so from (party.Drive d) bytes) s.sightings d refl h.sightings w);
-  unguessed = h.unguessed ∙ still g.unguessed;
+  unguessed = h.unguessed ∙ and_true g.unguessed;
 }
 sent_on g s ms n from (party.Client c) bytes h w next = record {
   keys = h.keys;
   sightings = of_more g.sent (sent_so from (party.Client c) bytes) s.sightings h.sightings (λ d bs e. absurd (cc e));
-  unguessed = h.unguessed ∙ still g.unguessed;
+  unguessed = h.unguessed ∙ and_true g.unguessed;
 }
 sent_on g s ms n from party.Server bytes h w next = record {
   keys = h.keys;
   sightings = of_more g.sent (sent_so from party.Server bytes) s.sightings h.sightings (λ d bs e. absurd (cc e));
-  unguessed = h.unguessed ∙ still g.unguessed;
+  unguessed = h.unguessed ∙ and_true g.unguessed;
 }
 
 -- ---- each line
@@ -140,18 +138,18 @@ on_event : (g : Guarded) (s : GuessState) (ms : List Sent) (e : Event) → Keeps
 on_event g s ms (event.Drive d key capacity) h w = record {
   keys = keys_more g s d key h;
   sightings = h.sightings;
-  unguessed = h.unguessed ∙ still g.unguessed;
+  unguessed = h.unguessed ∙ and_true g.unguessed;
 }
 on_event g s ms (event.Inject d bytes) h w = injected g s ms d bytes h w
 on_event g s ms (event.DropMessage n) h w = record {
   keys = h.keys;
   sightings = left_out_of g.sent s.sightings n h.sightings;
-  unguessed = h.unguessed ∙ still g.unguessed;
+  unguessed = h.unguessed ∙ and_true g.unguessed;
 }
 on_event g s ms e h w = record {
   keys = h.keys;
   sightings = h.sightings;
-  unguessed = h.unguessed ∙ still g.unguessed;
+  unguessed = h.unguessed ∙ and_true g.unguessed;
 }
 
 pub keeps_on : KeepsOn
@@ -160,10 +158,10 @@ keeps_on g s ms (line.Message n from to bytes) h w next = sent_on g s ms n from 
 keeps_on g s ms (line.Delivered n d) h w next = record {
   keys = h.keys;
   sightings = arrived_of g.sent s.sightings n h.sightings;
-  unguessed = h.unguessed ∙ still g.unguessed;
+  unguessed = h.unguessed ∙ and_true g.unguessed;
 }
 keeps_on g s ms l h w next = record {
   keys = h.keys;
   sightings = h.sightings;
-  unguessed = h.unguessed ∙ still g.unguessed;
+  unguessed = h.unguessed ∙ and_true g.unguessed;
 }

@@ -2,16 +2,17 @@
 use Rattle.std.proofs.Common.{◌≡◌, ℕ, ◌+◌, ◌++◌, ◌∷◌, ◌&&◌, [], List, Bool, true, false, not, Option, Some, None, is_some, is_none, length, position, slice_get, refl, sym, ap, subst, ◌∙◌, arith, inl, inr}
 use Rattle.std.specs.Prelude.{nat_eq}
 use Rattle.std.specs.Cmp.Lexicographic.{same_text}
-use Rattle.std.proofs.lemmas.Bool.{cases_eq}
+use Rattle.std.proofs.lemmas.Bool.{cases_eq, and_parts}
 use Rattle.std.proofs.lemmas.Bool.Decides.{nat_tests}
 use Rattle.std.proofs.lemmas.List.{length-append}
+use Rattle.osd_lists.proofs.Slices.{get_last, length_more}
 use Rattle.osd_objects.proofs.Entries.{lookup_inserted, lookup_beside, lookup_set, lookup_set_beside}
 use Rattle.scenario_text.specs.declared.line.Party.TheVariants as party
 use Rattle.world_history.specs.declared.messages.Sent.{Sent}
 use Rattle.world_history.specs.Guesses.{was_sent}
 use Rattle.world_watch.specs.Sighted.{Table, nonce_in, of_nonce, is_same, is_same_at, first_same, first_in, sighted, with_number, with_sighting, sees_message}
 use Rattle.world_watch.specs.Tied.{AreBelow, AreOf, BeginWith}
-use Rattle.world_watch.proofs.Finding.{below_more, below_push, get_front, get_end, first_begins, first_pushed, or_end, place_pushed, place_sent, place_alike}
+use Rattle.world_watch.proofs.Finding.{below_more, below_push, get_front, first_begins, first_pushed, or_end, place_pushed, place_sent, place_alike}
 
 -- ---- in other messages that begin alike
 
@@ -48,13 +49,10 @@ of_changed sent sent' t n same a = record {
 front : (sent : List Sent) (m : Sent) → BeginWith (sent ++ m ∷ []) sent
 front sent m k l d bytes = ap (λ o. is_same_at d bytes o) (get_front sent m k l)
 
-more_length : (sent : List Sent) (m : Sent) → length (sent ++ m ∷ []) ≡ length sent + 1
-more_length sent m = length-append sent (m ∷ [])
-
 more_below : (sent : List Sent) (m : Sent) (ns : List ℕ) → AreBelow (length sent) ns
     → AreBelow (length (sent ++ m ∷ [])) ns
 more_below sent m ns b =
-    below_more (length sent) (length (sent ++ m ∷ [])) (omega (arith, more_length sent m)) ns b
+    below_more (length sent) (length (sent ++ m ∷ [])) (omega (arith, length_more sent m)) ns b
 
 -- the first stays where there is one
 or_end_stays : (o : Option ℕ) (b : Bool) (end : ℕ) → (b ≡ true → is_some o ≡ true) → o ≡ or_end o b end
@@ -119,18 +117,13 @@ grown_below sent m t t' nonce a g q ns e = elim (cases_eq q nonce) [
       let b : AreBelow (length sent + 1) (numbers_in (of_nonce t nonce) ++ length sent ∷ []) =
       below_push (length sent) (numbers_in (of_nonce t nonce))
       (numbers_below (length sent) (of_nonce t nonce) (λ ks h. a.below nonce ks h)) in
-      subst (λ k. AreBelow k ns) (sym (more_length sent m)) (subst (λ l. AreBelow (length sent + 1) l) list b)
+      subst (λ k. AreBelow k ns) (sym (length_more sent m)) (subst (λ l. AreBelow (length sent + 1) l) list b)
   | inr ne ↦ more_below sent m ns (a.below q ns (sym (g.beside q ne) ∙ e))
 ]
 
-both : (a b : Bool) → (a && b) ≡ true → (a ≡ true) × (b ≡ true)
-both true true e = (refl, refl)
-both true false e = absurd (cc e)
-both false b e = absurd (cc e)
-
 -- the bytes of a message that is the same
 same_bytes : (d : ℕ) (bytes : List ℕ) (m : Sent) → is_same d bytes m ≡ true → m.bytes ≡ bytes
-same_bytes d bytes m e = same_text m.bytes bytes (sym (both _ _ e).1)
+same_bytes d bytes m e = same_text m.bytes bytes (sym (and_parts _ _ e).1)
 
 -- of bytes with its nonce
 grown_here : (sent : List Sent) (m : Sent) (t t' : Table) (d : ℕ) (bytes : List ℕ) → AreOf sent t
@@ -148,7 +141,7 @@ grown_here sent m t t' d bytes a g =
     ∙ first_pushed (sent ++ m ∷ []) d bytes ns (length sent)
     ∙ ap (λ (o : Option ℕ). or_end o (is_same_at d bytes (slice_get (sent ++ m ∷ []) (length sent))) (length sent)) old
     ∙ ap (λ (o : Option Sent). or_end (position (is_same d bytes) sent) (is_same_at d bytes o) (length sent))
-    (get_end sent m)
+    (get_last sent m)
 
 -- of bytes with another one
 grown_beside : (sent : List Sent) (m : Sent) (t t' : Table) (d : ℕ) (bytes : List ℕ) → AreOf sent t
@@ -179,7 +172,7 @@ of_grown sent m t t' a g = record {
 same_drive : (drive d : ℕ) (bytes : List ℕ) (m : Sent) → m.to ≡ party.Drive drive → is_same d bytes m ≡ true
     → drive ≡ d
 same_drive drive d bytes m to e =
-    let test : nat_eq drive d ≡ true = (both _ _ (rw to at e)).0 in
+    let test : nat_eq drive d ≡ true = (and_parts _ _ (rw to at e)).0 in
     grind (arith, nat_tests, test)
 
 seen_by : (sent : List Sent) (m : Sent) (t : Table) (drive : ℕ) → m.to ≡ party.Drive drive → AreOf sent t

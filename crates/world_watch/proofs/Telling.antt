@@ -40,6 +40,7 @@ use Rattle.world_history.specs.Drives.{raised, at_time, fallen}
 use Rattle.world_history.specs.Runs.{world_after, lines_of, Carries}
 use Rattle.world_history.specs.History.{Step, AreCarried, end_of, lines_of_steps, StandsFor}
 use Rattle.world_history.specs.Laws.{shown}
+use Rattle.world_history.proofs.ReadMessages.{drive_view, stops_view}
 use Rattle.world_watch.specs.Laws.{Letter, letter, letters_on, letters_in, EventsTell}
 
 -- ---- the messages of a world
@@ -216,15 +217,6 @@ pends_silent : (w : World) (c : ℕ) (op : Option client_rules.CallOp) → IsSil
 pends_silent w c None = same_silent w _ refl (λ x. refl)
 pends_silent w c (Some op) = same_silent w _ refl (λ x. refl)
 
-drive_network : (w : World) (d : ℕ) (becomes : DriveAt → DriveAt) (a : Option DriveAt)
-    → (by_drive w d becomes a).network ≡ w.network
-drive_network w d becomes None = refl
-drive_network w d becomes (Some a) = refl
-
-stops_network : (w : World) (c : ℕ) (a : Option ClientAt) → (stops w c a).network ≡ w.network
-stops_network w c None = refl
-stops_network w c (Some a) = refl
-
 -- ---- each kind of action
 
 call_silent : (w : World) (c : ℕ) (op : client_rules.CallOp) → IsSilent w (calls_at w c op)
@@ -278,7 +270,7 @@ unfolding begins
 begins_silent w chosen (event.Drive d key capacity) = adds_silent w d key capacity
 begins_silent w chosen (event.File f m tag) = makes_silent w chosen f (raw_of m) tag
 begins_silent w chosen (event.Least d format) =
-    same_silent w _ (drive_network w d (λ a. raised a format) (at_number w.drives d)) (λ x. refl)
+    same_silent w _ (drive_view w d (λ a. raised a format) (at_number w.drives d)) (λ x. refl)
 begins_silent w chosen (event.Format format) = gives_silent w chosen (server_input.Formats format)
 begins_silent w chosen (event.Do c x) = call_silent w c (op_of x)
 begins_silent w chosen (event.Call c x) = call_silent w c (op_of x)
@@ -293,7 +285,7 @@ begins_silent w chosen (event.Timeout c component) = timeout_silent w c componen
 begins_silent w chosen (event.Leave c) = leave_silent w c
 begins_silent w chosen (event.Inject d bytes) = inject_silent w d bytes
 begins_silent w chosen (event.Clock (machine.Drive d) time) =
-    same_silent w _ (drive_network w d (λ a. at_time a time) (at_number w.drives d)) (λ x. refl)
+    same_silent w _ (drive_view w d (λ a. at_time a time) (at_number w.drives d)) (λ x. refl)
 begins_silent w chosen (event.Clock machine.Server time) = same_silent w _ refl (λ x. refl)
 begins_silent w chosen (event.Recall f) = gives_silent w chosen (server_input.Obeys server_rules.ToRecall f)
 begins_silent w chosen (event.Revoke f) = gives_silent w chosen (server_input.Obeys server_rules.ToRevoke f)
@@ -301,9 +293,9 @@ begins_silent w chosen (event.Rebuild f) = gives_silent w chosen (server_input.O
 begins_silent w chosen (event.Audit f) = gives_silent w chosen (server_input.Obeys server_rules.ToAudit f)
 begins_silent w chosen (event.Declare d) = gives_silent w chosen (server_input.Obeys server_rules.ToDeclare d)
 begins_silent w chosen (event.Stop c) =
-    same_silent w _ (stops_network w c (at_number w.clients c)) (λ x. refl)
+    same_silent w _ (stops_view w c (at_number w.clients c)) (λ x. refl)
 begins_silent w chosen (event.Fail d) =
-    same_silent w _ (drive_network w d fallen (at_number w.drives d)) (λ x. refl)
+    same_silent w _ (drive_view w d fallen (at_number w.drives d)) (λ x. refl)
 begins_silent w chosen e = same_silent w _ refl (λ x. refl)
 
 acts_silent : (w : World) (chosen : List ℕ) (a : Action) → IsSilent w (acts w chosen a)

@@ -1,4 +1,4 @@
-use Rattle.call_io.proofs.Places.{group_ends}
+use Rattle.data_map.proofs.Shape.{group_ends}
 use Rattle.call_io.proofs.probing.group_start.Goals as goal
 
 pub returns-clause-end : goal.returns-clause-end

@@ -1,11 +1,12 @@
 use Rattle.std.proofs.Common.{rules}
 use Rattle.std.proofs.lemmas.List.{take_all}
-use Rattle.client_command.proofs.DealingLaws.{loses_at, take_got, turn_more}
+use Rattle.osd_lists.proofs.Slices.{take_more}
+use Rattle.client_command.proofs.DealingLaws.{loses_at, turn_more}
 use Rattle.client_command.proofs.dealing.work_round.Goals as goal
 
 pub loop-i-preserved : goal.loop-i-preserved
 loop-i-preserved g c =
-    rw (take_got c.args.round.now c.loop-i.i c.get.result.now (search rules))
+    rw (take_more c.args.round.now c.loop-i.i c.get.result.now (search rules))
     (turn_more _ c.get.result.now _ _ _ c.loop-i.invariant c.in-Ok.ensures.works)
 
 pub returns-clause-works : goal.returns-clause-works

@@ -1,6 +1,7 @@
 use Rattle.std.proofs.lemmas.Result.{IfOk-weaker}
+use Rattle.stripe_repair.proofs.RepairLaws.{none_of}
 use Rattle.file_jobs.specs.Steps.{going}
-use Rattle.file_jobs.proofs.Mends.{fits_repair, mended_stays, mends, none_of, sound_from}
+use Rattle.file_jobs.proofs.Mends.{fits_repair, mended_stays, mends, sound_from}
 use Rattle.file_jobs.proofs.repair.rest_in_repair.Goals as goal
 
 pub returns-then-is_empty-clause-turn : goal.returns-then-is_empty-clause-turn

@@ -1,7 +1,8 @@
 use Rattle.std.proofs.Common.{get_or}
 use Rattle.std.proofs.lemmas.Option.{slice_get-get_or}
+use Rattle.osd_lists.proofs.Slices.{take_more}
 use Rattle.cluster_text.specs.declared.cluster.ClusterFile.{ClusterFile}
-use Rattle.server_command.proofs.WorkLaws.{take_got, turn_more}
+use Rattle.server_command.proofs.WorkLaws.{turn_more}
 use Rattle.server_command.specs.Making.{MakesFile}
 use Rattle.server_command.proofs.MakingLaws.{files_stop}
 use Rattle.server_command.proofs.files.make_files.Goals as goal
@@ -18,5 +19,5 @@ returns-in-Err-clause-stops g c =
 pub loop-i-preserved : goal.loop-i-preserved
 loop-i-preserved g c =
     let file = get_or c.args.files.now c.loop-i.i no_file in
-    rw (take_got c.args.files.now c.loop-i.i file (slice_get-get_or c.args.files.now c.loop-i.i no_file c.loop-i-test.true))
+    rw (take_more c.args.files.now c.loop-i.i file (slice_get-get_or c.args.files.now c.loop-i.i no_file c.loop-i-test.true))
     (turn_more MakesFile _ file _ _ _ c.loop-i.invariant c.in-Ok.ensures.makes)

@@ -1,7 +1,7 @@
 use Rattle.std.proofs.Common.{rules, ◌++◌, ◌∙◌, List, ap, refl}
 use Rattle.osd_bytes.specs.Connections.{after_notes}
 use Rattle.server_rules.specs.declared.notes.Note.{Note}
-use Rattle.server_requests.specs.declared.sending.Sent.{Sent}
+use Rattle.server_requests.specs.declared.outgoing.Sent.{Sent}
 use Rattle.server_command.specs.Telling.{note_texts}
 use Rattle.server_command.proofs.handling.handle.Goals as goal
 

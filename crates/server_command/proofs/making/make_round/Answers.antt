@@ -1,13 +1,14 @@
 use Rattle.std.proofs.Common.{rules}
 use Rattle.std.proofs.lemmas.List.{take_all}
-use Rattle.server_command.proofs.WorkLaws.{take_got, turn_more}
+use Rattle.osd_lists.proofs.Slices.{take_more}
+use Rattle.server_command.proofs.WorkLaws.{turn_more}
 use Rattle.server_command.specs.Making.{Makes}
 use Rattle.server_command.proofs.MakingLaws.{round_stops}
 use Rattle.server_command.proofs.making.make_round.Goals as goal
 
 pub loop-i-preserved : goal.loop-i-preserved
 loop-i-preserved g c =
-    rw (take_got c.args.round.now c.loop-i.i c.get.result.now (search rules))
+    rw (take_more c.args.round.now c.loop-i.i c.get.result.now (search rules))
     (turn_more Makes _ c.get.result.now _ _ _ c.loop-i.invariant c.in-Ok.ensures.makes)
 
 pub returns-clause-makes : goal.returns-clause-makes

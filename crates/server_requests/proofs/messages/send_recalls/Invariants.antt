@@ -1,7 +1,7 @@
 use Rattle.std.proofs.Common.{◌≡◌, ◌++◌, ◌+◌, ℕ, List, drop}
 use Rattle.server_rules.specs.declared.grants.Grant.{Grant}
 use Rattle.server_rules.specs.Answers.{recalls_from}
-use Rattle.server_requests.specs.declared.sending.Sent.{Sent}
+use Rattle.server_requests.specs.declared.outgoing.Sent.{Sent}
 use Rattle.server_requests.specs.Sending.{all_sent}
 use Rattle.server_requests.proofs.messages.send_recalls.Given as goal
 

@@ -1,5 +1,6 @@
 use Rattle.std.proofs.Common.{sym, ◌∙◌}
-use Rattle.grant_table.proofs.GrantLists.{apart_added, apart_same}
+use Rattle.server_rules.proofs.GrantLaws.{apart_same}
+use Rattle.grant_table.proofs.GrantLists.{apart_added}
 use Rattle.grant_table.proofs.file_grants.FileGrants.add.Goals as goal
 
 pub invariant_of-self-in_err-push-in-None : goal.invariant_of-self-in_err-push-in-None

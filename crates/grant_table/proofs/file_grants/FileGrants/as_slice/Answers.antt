@@ -1,5 +1,5 @@
 use Rattle.std.proofs.Common.{sym}
-use Rattle.grant_table.proofs.GrantLists.{apart_same}
+use Rattle.server_rules.proofs.GrantLaws.{apart_same}
 use Rattle.grant_table.proofs.file_grants.FileGrants.as_slice.Goals as goal
 
 pub returns-clause-apart : goal.returns-clause-apart

@@ -1,4 +1,5 @@
-use Rattle.grant_table.proofs.GrantLists.{apart_same, apart_without}
+use Rattle.server_rules.proofs.GrantLaws.{apart_same}
+use Rattle.grant_table.proofs.GrantLists.{apart_without}
 use Rattle.grant_table.proofs.file_grants.FileGrants.remove.Goals as goal
 
 pub invariant_of-self : goal.invariant_of-self

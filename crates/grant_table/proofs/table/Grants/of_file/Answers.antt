@@ -1,6 +1,6 @@
 use Rattle.std.proofs.Common.{sym, ap}
+use Rattle.server_rules.proofs.GrantLaws.{apart_none, apart_same}
 use Rattle.grant_table.specs.Tables.{or_none}
-use Rattle.grant_table.proofs.GrantLists.{apart_same, apart_none}
 use Rattle.grant_table.proofs.table.Grants.of_file.Goals as goal
 
 pub returns-in-Some-clause-apart : goal.returns-in-Some-clause-apart

@@ -1,5 +1,5 @@
 use Rattle.std.proofs.Common.{ap, refl, ◌∙◌, List}
-use Rattle.server_requests.specs.declared.sending.Sent.{Sent}
+use Rattle.server_requests.specs.declared.outgoing.Sent.{Sent}
 use Rattle.layout_world.specs.Posting.{postings}
 use Rattle.layout_world.proofs.ServerActed.{same_state, acts_as}
 use Rattle.layout_world.proofs.server.WorldServer.did.Goals as goal

@@ -1,6 +1,6 @@
 use Rattle.std.proofs.Common.{sym, ◌∙◌, drop}
 use Rattle.std.proofs.lemmas.List.Elements.{All-drop}
-use Rattle.osd_lists.proofs.Options.{none_but, none_but as no_piece}
+use Rattle.osd_lists.proofs.Options.{none_but}
 use Rattle.server_rules.specs.Jobs.{gathered}
 use Rattle.server_rules.specs.Rebuild.{fills}
 use Rattle.stripe_repair.specs.Filling.{IsPieceOf}
@@ -35,6 +35,6 @@ returns-clause-rules c =
           (rw (w.self-is, w.advance.ensures) at c.next.ensures.rules)
       | in_default w ↦
           same_fill c.next.result f c.args.nonce (λ g. gathered g s.target s.todo c.args.heard.now) (λ g. fills g s.target s.todo) c.next.new.self
-          (λ g at. gathered_ends g s.target s.todo c.args.heard.now (sym c.first.ensures ∙ no_piece c.first.result w.in_default.not-Some))
+          (λ g at. gathered_ends g s.target s.todo c.args.heard.now (sym c.first.ensures ∙ none_but c.first.result w.in_default.not-Some))
           (rw (w.self-is, ← c.self.view_is) at c.next.ensures.rules)
     ])

@@ -1,6 +1,0 @@
-use Rattle.std.proofs.Common.{◌≡◌, ◌++◌, drop}
-use Rattle.server_rules.specs.Orders.{offline}
-use Rattle.layout_server.proofs.declaring.offline.Given as goal
-
-abbrev pub invariant-loop-drive : goal.invariant-loop-drive
-invariant-loop-drive l = l.left ++ offline (drop l.drive-index l.fn.drives) l.lost ≡ offline l.fn.drives l.lost

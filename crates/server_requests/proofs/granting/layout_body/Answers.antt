@@ -1,5 +1,0 @@
-use Rattle.server_requests.proofs.SizeLaws.{if_small}
-use Rattle.server_requests.proofs.granting.layout_body.Goals as goal
-
-pub returns-clause-short : goal.returns-clause-short
-returns-clause-short c = if_small _ _ c.in_ok-credentials.ensures.small c.write.ensures.spelled
