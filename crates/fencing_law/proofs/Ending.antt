@@ -11,8 +11,8 @@ use Rattle.scenario_text.specs.declared.line.Line.TheVariants as line
 use Rattle.world_history.specs.State.{World}
 use Rattle.world_history.specs.Moves.{Action, Opens, Delivers, TimesOut, Pends, acts}
 use Rattle.world_history.specs.Sending.{Move, move, sent_lines}
-use Rattle.world_history.specs.Plans.{Plan, Rule, due, due_by, went_on, rule_after, rule_of, plan_of}
-use Rattle.world_history.specs.Runs.{world_after, lines_of, AreDue, plan_after}
+use Rattle.world_history.specs.Plans.{due, plan_of}
+use Rattle.world_history.specs.Runs.{world_after, AreDue}
 use Rattle.world_history.specs.Refusals.{refusal}
 use Rattle.world_history.specs.History.{StandsFor}
 use Rattle.history_law.specs.Spent.{Spends}
