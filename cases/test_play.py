@@ -107,6 +107,10 @@ class Scenarios(Playing):
         self.write("cases/t/one.lacks", "^o .* ok [0-9]\n")
         self.assertIn("may not have", self.outcome(".status", "0\ncalm yes unguessed yes\n"))
 
+    def test_commands_and_outcomes(self) -> None:
+        self.assertEqual(self.outcome(".commands", "o c0 write ok 1\n"), "")
+        self.assertIn("line 1 has to be", self.outcome(".commands", "c0 d0 write 0+1 61\no c0 write ok 1\n"))
+
     def test_titles(self) -> None:
         self.outcome(".status", "0\n")
         self.assertEqual(collect.cases(self.top)[0].title(), "It shows this")
@@ -141,6 +145,22 @@ class Rows(Playing):
         self.assertIn("of the answer", self.rows(begin + "ask s bb\n  > cc\n"))
         self.assertEqual(self.rows(begin + "kill s\nend s\n  = SIGKILL\n"), "")
         self.assertIn("doesn't end", self.rows(begin + "limit 1\nend s\n  > served 2\n"))
+
+    def test_commands(self) -> None:
+        begin = "limit 20\nstart d0: serve {port d0} 9\n  > listening\n"
+        self.assertIn("no reply", self.rows(begin + "command d0 read\n  > read perform 65536 0 0\n"))
+        self.assertIn("no field speed", self.rows(begin + "command d0 read speed 3\n"))
+        self.assertEqual(self.rows(begin + "sealed c d0 write payload 61\nask d0 {c}\n  >~ .*\n").count("4f534432"), 1)
+        self.assertIn("unreadable", self.rows(begin + "message d0 61\n  > answer: LAYOUTGET\n"))
+
+    def test_spoilt_messages(self) -> None:
+        begin = "limit 20\nimpostor i x aabb\n"
+        self.assertEqual(self.rows(begin + "ask x {2*80000001cc}\n  > {2*80000002aabb}\n"), "")
+        self.assertEqual(self.rows(begin + "ask x 80000001cc\n  > 80000002aabb\n"), "")
+        self.assertEqual(self.rows(begin + "spoilt x abcd 0=cd 0..2=01\n  > aabb\n"), "")
+        self.assertIn("number 1 has to be", self.rows(begin + "spoilt x abcd\n  > aabbcc\n"))
+        self.assertIn("could be sent", self.rows(begin + "drip x 0102 0.1\n"))
+        self.assertIn("something comes back", self.rows(begin + "drip x 8000000101 0.1\n"))
 
     def test_signals(self) -> None:
         begin = "start s: serve {port s} 9\n  > listening\nstop s\n"

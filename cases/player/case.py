@@ -6,7 +6,7 @@ from typing import List, Optional
 # How many characters of a line are printed.
 _SHOWN = 200
 
-_TIMES = re.compile(r"\{([0-9]+)\*([0-9a-fA-F]{2})\}")
+_TIMES = re.compile(r"\{([0-9]+)\*((?:[0-9a-fA-F]{2})+)\}")
 
 
 class Fault(Exception):

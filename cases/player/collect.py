@@ -8,7 +8,7 @@ from .rows import RowsCase
 from .scenarios import ScenarioCase
 from .structures import StructureCase
 
-OUTCOMES = (".transcript", ".shows", ".status")
+OUTCOMES = (".transcript", ".shows", ".commands", ".status")
 
 
 def _of_file(top: str, path: str, name: str, beside: List[str]) -> List[Case]:

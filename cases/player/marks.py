@@ -7,7 +7,7 @@ from typing import Callable, Dict, List, NamedTuple, Optional, Tuple
 from .case import Fault, shown
 
 _PORT = re.compile(r"port ([A-Za-z0-9_]+)")
-_TIMES = re.compile(r"([0-9]+)\*([0-9a-fA-F]{2})")
+_TIMES = re.compile(r"([0-9]+)\*((?:[0-9a-fA-F]{2})+)")
 _BRACES = re.compile(r"\{([^{}]*)\}")
 
 

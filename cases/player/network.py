@@ -58,6 +58,23 @@ def ask(port: int, sent: bytes, seconds: float) -> bytes:
             return got
 
 
+def drip(port: int, sent: bytes, pause: float, seconds: float) -> None:
+    """Sends a byte each so many seconds. Raises a Fault unless the other side ends the connection before all are sent."""
+    with socket.create_connection((HOST, port), timeout=seconds) as connection:
+        connection.settimeout(pause)
+        for at in range(len(sent)):
+            try:
+                connection.sendall(sent[at:at + 1])
+                if not connection.recv(1):
+                    return
+                raise Fault("something comes back behind %d bytes" % (at + 1))
+            except socket.timeout:
+                continue
+            except ConnectionError:
+                return
+    raise Fault("all %d bytes could be sent" % len(sent))
+
+
 class Connection:
     """A stranger's connection that stays open."""
 
@@ -167,3 +184,29 @@ class Proxy:
                 each.shutdown(socket.SHUT_RDWR)
             with contextlib.suppress(OSError):
                 each.close()
+
+
+class Impostor:
+    """Listens in a party's place, and answers each record with the same bytes."""
+
+    def __init__(self, port: int, answer: bytes) -> None:
+        self._answer = answer
+        self._listener = socket.socket()
+        self._listener.setsockopt(socket.SOL_SOCKET, socket.SO_REUSEADDR, 1)
+        self._listener.bind((HOST, port))
+        self._listener.listen()
+        threading.Thread(target=self._accept, daemon=True).start()
+
+    def _accept(self) -> None:
+        with contextlib.suppress(OSError):
+            while True:
+                connection, _ = self._listener.accept()
+                with connection, contextlib.suppress(OSError):
+                    while _record(connection) is not None:
+                        connection.sendall(self._answer)
+
+    def close(self) -> None:
+        """Ends it."""
+        with contextlib.suppress(OSError):
+            self._listener.shutdown(socket.SHUT_RDWR)
+        self._listener.close()

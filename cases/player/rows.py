@@ -10,9 +10,9 @@ import tempfile
 import time
 from typing import Callable, Dict, List, Union
 
-from . import clusters, network
+from . import clusters, drives, network
 from .case import Case, Fault, compare, lines_of
-from .marks import Marks, Row, Values, command, read
+from .marks import Marks, Row, Unlike, Values, command, read, take_lines
 from .parties import Party
 
 # How many seconds a row may take at first.
@@ -33,7 +33,7 @@ class Run:
         self._program, self._folder, self._top = program, folder, top
         self._values = Values(network.free_port, {"dir": folder, "top": top})
         self._parties: Dict[str, Party] = {}
-        self._others: Dict[str, Union[network.Connection, network.Proxy]] = {}
+        self._others: Dict[str, Union[network.Connection, network.Impostor, network.Proxy]] = {}
         self._limit = _LIMIT
         home = os.path.join(folder, ".home")
         os.mkdir(home)
@@ -175,6 +175,47 @@ class Run:
         wanted = "".join(self._values.put_in(text) for _, text in Marks(row.below).output)
         compare([wanted.replace("-", "")], [got.hex()], "of the answer, line")
 
+    def _answers(self, port: str, sent: List[bytes]) -> List[bytes]:
+        """The records that come back over a connection on which these are sent."""
+        got = network.ask(self._values.port(port), b"".join(map(drives.framed, sent)), self._limit)
+        return drives.records_in(got)
+
+    def _command(self, words: List[str], row: Row) -> None:
+        replies = self._answers(words[0], [drives.sealed(words[0], words[1:])])
+        wanted = [self._values.put_in(text) for _, text in Marks(row.below).output]
+        compare(wanted, [drives.reply_in_words(reply) for reply in replies], "of the replies, line")
+
+    def _sealed(self, words: List[str], _: Row) -> None:
+        self._values.keep(words[0], drives.sealed(words[1], words[2:]).hex())
+
+    def _spoilt(self, words: List[str], row: Row) -> None:
+        sent = drives.spoilt(bytes.fromhex(words[1]), words[2:])
+        wanted = [self._values.put_in(text) for _, text in Marks(row.below).output] * len(sent)
+        compare(wanted, [reply.hex() for reply in self._answers(words[0], sent)], "of the records that come back, number")
+
+    def _message(self, words: List[str], row: Row) -> None:
+        answers = self._answers(words[0], [bytes.fromhex(words[1])])
+        fields = [field for answer in answers for field in drives.fields_of(answer)]
+        try:
+            taken, any_may_follow = take_lines(self._values, Marks(row.below).output, fields)
+        except Unlike as unlike:
+            raise Fault(str(unlike)) from None
+        except LookupError as lacking:
+            raise Fault("there is no field\n  %s" % lacking.args[0]) from None
+        if taken < len(fields) and not any_may_follow:
+            raise Fault("it also has the field\n  %s" % fields[taken])
+
+    def _impostor(self, words: List[str], _: Row) -> None:
+        name, port, answer = words
+        if name in self._others:
+            self._others.pop(name).close()
+        answers = drives.framed(bytes.fromhex(answer.replace("-", "")))
+        self._others[name] = network.Impostor(self._values.port(port), answers)
+
+    def _drip(self, words: List[str], _: Row) -> None:
+        port, sent, pause = words
+        network.drip(self._values.port(port), bytes.fromhex(sent), float(pause), self._limit)
+
     def _connect(self, words: List[str], _: Row) -> None:
         name, port, sent = words
         self._others[name] = network.Connection(self._values.port(port), bytes.fromhex(sent.replace("-", "")), self._limit)
@@ -215,6 +256,8 @@ class Run:
             "same": self._same, "has": self._has, "digest": self._digest,
             "says": self._says, "end": self._end, "sleep": self._sleep, "limit": self._set_limit, "let": self._let,
             "proxy": self._proxy, "held": self._held, "ask": self._ask, "connect": self._connect, "close": self._close,
+            "command": self._command, "sealed": self._sealed, "spoilt": self._spoilt, "message": self._message,
+            "drip": self._drip, "impostor": self._impostor,
             "stop": self._signal(signal.SIGSTOP), "continue": self._signal(signal.SIGCONT),
             "interrupt": self._signal(signal.SIGINT), "kill": self._signal(signal.SIGKILL),
         }

@@ -4,7 +4,7 @@ import os
 import re
 from typing import List, Optional
 
-from . import processes
+from . import drives, processes
 from .case import Case, Fault, compare, expanded, lines_of, shown
 
 # How many seconds a replay may take.
@@ -41,6 +41,12 @@ def show_none(transcript: List[str], patterns: List[str]) -> None:
                 raise Fault("line %d may not have %s, and is\n  %s" % (number, pattern, shown(line)))
 
 
+def commands_of(transcript: List[str]) -> List[str]:
+    """Each READ and WRITE that is sent, by its sender, drive, range and bytes, and each line that tells how a call ended."""
+    told = (line if line.startswith("o ") else drives.transfer_in(line) for line in transcript)
+    return [line for line in told if line]
+
+
 class ScenarioCase(Case):
     """A scenario and what has to come of it."""
 
@@ -62,6 +68,9 @@ class ScenarioCase(Case):
             compare(lines_of(transcript), had)
         if shows is not None:
             show_in_order(had, expanded(shows.decode("utf-8")).splitlines())
+        sent = self._beside(".commands")
+        if sent is not None:
+            compare(expanded(sent.decode("utf-8")).splitlines(), commands_of(had), "of the commands and outcomes, line")
         lacks = self._beside(".lacks")
         if lacks is not None:
             show_none(had, lacks.decode("utf-8").splitlines())

@@ -1,5 +1,5 @@
 // What is wrong with the text of a client's call or order.
-use crate::suggestions::nearest;
+use crate::suggestions::Suggestion;
 use scenario_text::{EventErr, read_event};
 use std::alloc::{AllocError, Global};
 
@@ -46,7 +46,11 @@ fn refusal_in(alloc: Global, name: &str, text: &str) -> Result<Option<EventErr>,
 
 // What is said of a text whose first word names nothing.
 fn unknown_name(alloc: Global, name: &str) -> Result<String, AllocError> {
-    match nearest(alloc, name, NAMES)? {
+    let mut suggestion = Suggestion::new();
+    for known in NAMES {
+        suggestion.offer(alloc, name, known)?;
+    }
+    match suggestion.name {
         Some(meant) => format!(in alloc;
             "error: no call or order '{name}'; did you mean '{meant}'?\n\n{FORMS}"
         ),

@@ -3,7 +3,7 @@ use crate::findings::{finding, shown, whereabouts};
 use crate::keys::{Form, Section};
 use crate::ranges::out_of_range;
 use crate::spots::{Spot, spots_in};
-use crate::suggestions::nearest;
+use crate::suggestions::Suggestion;
 use cluster_text::{ClusterKind, MAX_DRIVES, MAX_FILES, Reader};
 use std::alloc::{AllocError, Global};
 use std::str;
@@ -23,23 +23,37 @@ fn line_at(text: &str, place: usize) -> usize {
 // What a key that isn't one of its table may have meant.
 fn unknown_key(alloc: Global, section: Section, key: &str) -> Result<String, AllocError> {
     let name = section.name();
-    let mut wrong = match nearest(alloc, key, section.keys())? {
+    let mut suggestion = Suggestion::new();
+    for known in section.keys() {
+        suggestion.offer(alloc, key, known.name)?;
+    }
+    let mut wrong = match suggestion.name {
         Some(meant) => format!(in alloc;
             "no such key; did you mean \"{meant}\"? The keys of {name} are"
         )?,
         None => format!(in alloc; "no such key. The keys of {name} are")?,
     };
-    for key in section.keys() {
-        write!(wrong, " {key}")?;
+    for known in section.keys() {
+        let name = known.name;
+        write!(wrong, " {name}")?;
     }
     Ok(wrong)
+}
+
+fn is_known(section: Section, key: &str) -> bool {
+    for known in section.keys() {
+        if known.name == key {
+            return true;
+        }
+    }
+    false
 }
 
 // A key that isn't one of its table.
 fn unknown(alloc: Global, text: &str, spot: Spot<'_>) -> Result<Option<String>, AllocError> {
     for key in spot.table.keys() {
         let key = key.as_str();
-        if !spot.section.keys().iter().any(|known| *known == key) {
+        if !is_known(spot.section, key) {
             let wrong = unknown_key(alloc, spot.section, key)?;
             return Ok(Some(finding(alloc, text, spot, key, wrong.as_str())?));
         }
@@ -55,13 +69,12 @@ fn missing(
     reader: Reader,
 ) -> Result<Option<String>, AllocError> {
     for key in spot.section.keys() {
-        let key = *key;
-        let needs = spot.section.needs(key, reader != Reader::Client);
-        if needs && spot.table.get(key).is_none() {
+        let needs = key.is_needed(reader != Reader::Client);
+        if needs && spot.table.get(key.name).is_none() {
             let place = whereabouts(alloc, text, spot)?;
-            let wanted = spot.section.wanted(key);
+            let (name, wanted) = (key.name, key.wanted);
             return Ok(Some(format!(in alloc;
-                "{place}: the key \"{key}\" is missing; {wanted} is wanted"
+                "{place}: the key \"{name}\" is missing; {wanted} is wanted"
             )?));
         }
     }
@@ -78,8 +91,8 @@ fn are_tables(value: &Value) -> bool {
 
 fn has_form(value: &Value, form: Form) -> bool {
     match form {
-        Form::Text => value.is_str(),
-        Form::Whole => value.is_integer(),
+        Form::Address | Form::Key => value.is_str(),
+        Form::Whole(_, _) => value.is_integer(),
         Form::Tables => are_tables(value),
     }
 }
@@ -87,16 +100,15 @@ fn has_form(value: &Value, form: Form) -> bool {
 // A value of another type than its key asks for.
 fn mistyped(alloc: Global, text: &str, spot: Spot<'_>) -> Result<Option<String>, AllocError> {
     for key in spot.section.keys() {
-        let key = *key;
-        let Some(value) = spot.table.get(key) else {
+        let Some(value) = spot.table.get(key.name) else {
             continue;
         };
-        if !has_form(value, spot.section.form(key)) {
-            let wanted = spot.section.wanted(key);
+        if !has_form(value, key.form) {
+            let wanted = key.wanted;
             let is = shown(alloc, value)?;
             let is = is.as_str();
             let wrong = format!(in alloc; "{wanted} is wanted, and {is}")?;
-            return Ok(Some(finding(alloc, text, spot, key, wrong.as_str())?));
+            return Ok(Some(finding(alloc, text, spot, key.name, wrong.as_str())?));
         }
     }
     Ok(None)

@@ -1,7 +1,7 @@
 // The keys of a cluster text, and what they may be.
 
 // The kinds of tables.
-#[derive(Clone, Copy, Debug, PartialEq, Eq)]
+#[derive(Clone, Copy, PartialEq, Eq)]
 pub(crate) enum Section {
     Top,
     Drive,
@@ -9,30 +9,77 @@ pub(crate) enum Section {
 }
 
 // What a value has to be.
-#[derive(Clone, Copy, Debug, PartialEq, Eq)]
+#[derive(Clone, Copy)]
 pub(crate) enum Form {
-    Text,
-    Whole,
+    // A text with a host, a colon and a port.
+    Address,
+    // A text of 40 hexadecimal digits.
+    Key,
+    // A whole number, from the first to the second.
+    Whole(i64, i64),
     Tables,
 }
 
-const TOP: &[&str] = &["server", "format", "drive", "file"];
+// When a key has to stand.
+#[derive(Clone, Copy)]
+pub(crate) enum Need {
+    Always,
+    // If the reader needs the drives' keys.
+    WithKeys,
+    Never,
+}
 
-const DRIVE: &[&str] = &["number", "address", "key", "capacity"];
+pub(crate) struct Key {
+    pub(crate) name: &'static str,
+    pub(crate) form: Form,
+    pub(crate) need: Need,
+    // What its value may be, in words.
+    pub(crate) wanted: &'static str,
+}
 
-const FILE: &[&str] = &[
-    "number",
-    "components",
-    "unit",
-    "width",
-    "depth",
-    "mirrors",
-    "algorithm",
+const MAX_U32: i64 = 4_294_967_295;
+
+const ADDRESS: &str = "a host and a port in quotation marks, as \"127.0.0.1:7100\",";
+
+const NUMBER: &str = "a whole number from 0 to 63";
+
+#[rattlefmt::skip]
+const TOP: &[Key] = &[
+    Key { name: "server", form: Form::Address, need: Need::Always, wanted: ADDRESS },
+    Key { name: "format", form: Form::Whole(1, 2), need: Need::Never, wanted: "1 or 2" },
+    Key { name: "drive", form: Form::Tables, need: Need::Always, wanted: "tables, each below a line [[drive]]" },
+    Key { name: "file", form: Form::Tables, need: Need::Never, wanted: "tables, each below a line [[file]]" },
+];
+
+#[rattlefmt::skip]
+const DRIVE: &[Key] = &[
+    Key { name: "number", form: Form::Whole(0, 63), need: Need::Always, wanted: NUMBER },
+    Key { name: "address", form: Form::Address, need: Need::Always, wanted: ADDRESS },
+    Key { name: "key", form: Form::Key, need: Need::WithKeys, wanted: "40 hexadecimal digits in quotation marks" },
+    Key { name: "capacity", form: Form::Whole(0, i64::MAX), need: Need::Always,
+        wanted: "a whole number of bytes, from 0," },
+];
+
+#[rattlefmt::skip]
+const FILE: &[Key] = &[
+    Key { name: "number", form: Form::Whole(0, 63), need: Need::Always, wanted: NUMBER },
+    Key { name: "components", form: Form::Whole(0, MAX_U32), need: Need::Always,
+        wanted: "a whole number, at most 64 and the number of drives," },
+    Key { name: "unit", form: Form::Whole(0, i64::MAX), need: Need::Always,
+        wanted: "a whole number of bytes, from 1 to 1048576," },
+    Key { name: "width", form: Form::Whole(0, MAX_U32), need: Need::Always,
+        wanted: "a whole number of positions, 0 where all are one group," },
+    Key { name: "depth", form: Form::Whole(0, MAX_U32), need: Need::Always,
+        wanted: "a whole number of stripes, 0 without groups," },
+    Key { name: "mirrors", form: Form::Whole(0, MAX_U32), need: Need::Always,
+        wanted: "a whole number of further replicas, from 0," },
+    Key { name: "algorithm", form: Form::Whole(1, 4), need: Need::Always,
+        wanted: "1 (RAID 0), 2 (RAID 4), 3 (RAID 5) or 4 (P+Q)" },
 ];
 
 impl Section {
     // The keys of its tables.
-    pub(crate) fn keys(self) -> &'static [&'static str] {
+    pub(crate) fn keys(self) -> &'static [Key] {
         match self {
             Section::Top => TOP,
             Section::Drive => DRIVE,
@@ -48,53 +95,15 @@ impl Section {
             Section::File => "[[file]]",
         }
     }
+}
 
-    // Whether a key has to stand, where drives need their keys or don't.
-    pub(crate) fn needs(self, key: &str, needs_key: bool) -> bool {
-        match self {
-            Section::Top => matches!(key, "server" | "drive"),
-            Section::Drive => key != "key" || needs_key,
-            Section::File => true,
-        }
-    }
-
-    // What the value of a key has to be.
-    pub(crate) fn form(self, key: &str) -> Form {
-        match (self, key) {
-            (Section::Top, "drive" | "file") => Form::Tables,
-            (Section::Top, "server") | (Section::Drive, "address" | "key") => Form::Text,
-            _ => Form::Whole,
-        }
-    }
-
-    // The least and the greatest number of a key.
-    pub(crate) fn range(self, key: &str) -> (i64, i64) {
-        match (self, key) {
-            (Section::Top, _) => (1, 2),
-            (_, "number") => (0, 63),
-            (_, "capacity" | "unit") => (0, i64::MAX),
-            (_, "algorithm") => (1, 4),
-            _ => (0, 4_294_967_295),
-        }
-    }
-
-    // What the value of a key may be, in words.
-    pub(crate) fn wanted(self, key: &str) -> &'static str {
-        match (self, key) {
-            (Section::Top, "format") => "1 or 2",
-            (Section::Top, "drive") => "tables, each below a line [[drive]]",
-            (Section::Top, "file") => "tables, each below a line [[file]]",
-            (Section::Top, _) | (_, "address") =>
-                "a host and a port in quotation marks, as \"127.0.0.1:7100\",",
-            (_, "number") => "a whole number from 0 to 63",
-            (_, "key") => "40 hexadecimal digits in quotation marks",
-            (_, "capacity") => "a whole number of bytes, from 0,",
-            (_, "components") => "a whole number, at most 64 and the number of drives,",
-            (_, "unit") => "a whole number of bytes, from 1 to 1048576,",
-            (_, "width") => "a whole number of positions, 0 where all are one group,",
-            (_, "depth") => "a whole number of stripes, 0 without groups,",
-            (_, "mirrors") => "a whole number of further replicas, from 0,",
-            _ => "1 (RAID 0), 2 (RAID 4), 3 (RAID 5) or 4 (P+Q)",
+impl Key {
+    // Whether it has to stand, if the reader needs the drives' keys or doesn't.
+    pub(crate) fn is_needed(&self, needs_keys: bool) -> bool {
+        match self.need {
+            Need::Always => true,
+            Need::WithKeys => needs_keys,
+            Need::Never => false,
         }
     }
 }

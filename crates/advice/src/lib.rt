@@ -6,7 +6,6 @@
 
 mod calls;
 mod cluster;
-mod commands;
 mod findings;
 mod kept;
 mod keys;

@@ -1,6 +1,6 @@
 // Values of a cluster text that aren't in their ranges.
 use crate::findings::finding;
-use crate::keys::{Form, Section};
+use crate::keys::{Form, Key, Section};
 use crate::spots::Spot;
 use data_map::{DataMap, MapErr, RAID_0, RAID_PQ, RawMap};
 use std::alloc::{AllocError, Global};
@@ -20,22 +20,22 @@ fn is_key(text: &str) -> bool {
             .all(|digit| digit.is_ascii_hexdigit())
 }
 
-// Whether the value of a key is in its range.
-fn is_in_range(spot: Spot<'_>, key: &str) -> bool {
-    let Some(value) = spot.table.get(key) else {
+// Whether the value of a key is in its range. A value of another type is judged elsewhere.
+fn is_in_range(table: &Table, key: &Key) -> bool {
+    let Some(value) = table.get(key.name) else {
         return true;
     };
-    match spot.section.form(key) {
+    match key.form {
         Form::Tables => true,
-        Form::Whole => match value.as_integer() {
-            Some(number) => {
-                let (least, most) = spot.section.range(key);
-                least <= number && number <= most
-            }
+        Form::Whole(least, most) => match value.as_integer() {
+            Some(number) => least <= number && number <= most,
             None => true,
         },
-        Form::Text => match value.as_str() {
-            Some(text) if key == "key" => is_key(text),
+        Form::Key => match value.as_str() {
+            Some(text) => is_key(text),
+            None => true,
+        },
+        Form::Address => match value.as_str() {
             Some(text) => text.contains(':'),
             None => true,
         },
@@ -43,10 +43,9 @@ fn is_in_range(spot: Spot<'_>, key: &str) -> bool {
 }
 
 // The first key of a table whose value isn't in its range.
-fn key_out_of_range(spot: Spot<'_>) -> Option<&'static str> {
+fn key_out_of_range(spot: Spot<'_>) -> Option<&'static Key> {
     for key in spot.section.keys() {
-        let key = *key;
-        if !is_in_range(spot, key) {
+        if !is_in_range(spot.table, key) {
             return Some(key);
         }
     }
@@ -115,15 +114,15 @@ pub(crate) fn out_of_range(
     drives: u64,
 ) -> Result<Option<String>, AllocError> {
     if let Some(key) = key_out_of_range(spot) {
-        let wanted = spot.section.wanted(key);
-        let wrong = match spot.table.get(key) {
+        let wanted = key.wanted;
+        let wrong = match spot.table.get(key.name) {
             Some(value) => match value.as_integer() {
                 Some(number) => format!(in alloc; "{wanted} is wanted, and it is {number}")?,
                 None => format!(in alloc; "{wanted} is wanted")?,
             },
             None => format!(in alloc; "{wanted} is wanted")?,
         };
-        return Ok(Some(finding(alloc, text, spot, key, wrong.as_str())?));
+        return Ok(Some(finding(alloc, text, spot, key.name, wrong.as_str())?));
     }
     if spot.section == Section::File {
         return wrong_map(alloc, text, spot, drives);

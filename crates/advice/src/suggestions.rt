@@ -5,20 +5,34 @@ use strsim::damerau_levenshtein;
 // How many letters a name may be away from the one that was meant.
 const MOST_EDITS: usize = 2;
 
-// The name that is nearest to the word, where one is near.
-pub(crate) fn nearest(
-    alloc: Global,
-    word: &str,
-    names: &'static [&'static str],
-) -> Result<Option<&'static str>, AllocError> {
-    let mut best = None;
-    let mut least = MOST_EDITS;
-    for name in names {
-        let edits = damerau_levenshtein(alloc, word, name)?;
-        if edits < least || edits == least && best.is_none() {
-            best = Some(*name);
-            least = edits;
+// The name that is nearest to a word among those that were offered, if one is near.
+#[derive(Clone, Copy)]
+pub(crate) struct Suggestion {
+    pub(crate) name: Option<&'static str>,
+    edits: usize,
+}
+
+impl Suggestion {
+    // No name was offered yet.
+    pub(crate) fn new() -> Suggestion {
+        Suggestion {
+            name: None,
+            edits: MOST_EDITS,
         }
     }
-    Ok(best)
+
+    // Takes the name if it is nearer than those before.
+    pub(crate) fn offer(
+        &mut self,
+        alloc: Global,
+        word: &str,
+        name: &'static str,
+    ) -> Result<(), AllocError> {
+        let edits = damerau_levenshtein(alloc, word, name)?;
+        if edits < self.edits || edits == self.edits && self.name.is_none() {
+            self.name = Some(name);
+            self.edits = edits;
+        }
+        Ok(())
+    }
 }

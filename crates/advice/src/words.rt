@@ -1,6 +1,6 @@
 // Why words name no command.
 use crate::calls::refused_call;
-use crate::commands::commands;
+use command_words::refusal_text;
 use std::alloc::{AllocError, Global};
 
 const SPELLING: &str = "\
@@ -50,19 +50,31 @@ fn misspelled(alloc: Global, call: Option<&str>) -> Result<String, AllocError> {
     String::from_str(alloc, SPELLING)
 }
 
+// The text of a client's option `--call`, among words that clap takes.
+fn call_in(words: &[String]) -> Option<&str> {
+    let (command, rest) = words.split_first()?;
+    if command.as_str() != "client" {
+        return None;
+    }
+    let mut is_next = false;
+    for word in rest {
+        let word = word.as_str();
+        if is_next {
+            return Some(word);
+        }
+        if let Some(text) = word.strip_prefix("--call=") {
+            return Some(text);
+        }
+        is_next = word == "--call";
+    }
+    None
+}
+
 // What clap says of the words, or else why the program doesn't take them.
 fn complaint(alloc: Global, words: &[String]) -> Result<String, AllocError> {
-    let mut all = Vec::new(alloc);
-    all.push("pnfs_osd")?;
-    for word in words {
-        all.push(word.as_str())?;
-    }
-    match commands(alloc)?.try_get_matches_from(all.as_slice()) {
-        Ok(matches) => match matches.subcommand_matches("client") {
-            Some(client) => misspelled(alloc, client.get_str("call")),
-            None => misspelled(alloc, None),
-        },
-        Err(e) => format!(in alloc; "{e}"),
+    match refusal_text(alloc, words)? {
+        Some(text) => Ok(text),
+        None => misspelled(alloc, call_in(words)),
     }
 }
 

@@ -20,8 +20,8 @@ use Rattle.stripe_client.specs.Sending.{spelled}
 use Rattle.layout_ops.specs.declared.messages.Request.{Request}
 use Rattle.osd_lists.specs.declared.node.Node.TheVariants.{Drive, Server}
 use Rattle.osd_bytes.specs.Asking.{Answered}
-use Rattle.client_command.specs.Answering.{is_answer_to}
-use Rattle.client_command.specs.Dealing.{AwaitsStill, Dealing, InTurn, IsLost, IsRequest, Loses, LosesIn, LosesServer, Works, WorksAll, WorksRounds, answer_among, answered, dealing, ended, heard, late, on_links, stepped, timed_out}
+use Rattle.client_command.specs.Answers.{is_answer_to}
+use Rattle.client_command.specs.Exchanges.{AwaitsStill, Dealing, InTurn, IsLost, IsRequest, Loses, LosesIn, LosesServer, Works, WorksAll, WorksRounds, answer_among, answered, dealing, ended, heard, late, on_links, stepped, timed_out}
 
 pub is_stepped : (s : Dealing) (step : Step) (c : Client) (told : CStep) (waiting : List Sent) (notices : List Notice)
     → IsStep step c told → waiting ≡ s.waiting ++ told.sends → notices ≡ s.notices ++ ended told.outcome

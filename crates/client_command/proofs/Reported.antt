@@ -9,12 +9,12 @@ use Rattle.client_rules.specs.declared.calls.CallOp.{CallOp}
 use Rattle.client_rules.specs.declared.client.Client.{Client}
 use Rattle.client_rules.specs.Steps.{new_client}
 use Rattle.client_command.specs.declared.notices.Notice.{Notice}
-use Rattle.client_command.specs.Dealing.{dealing}
-use Rattle.client_command.specs.declared.calling.CallStop.TheVariants.{Lost}
-use Rattle.client_command.specs.declared.ending.Report.{Report}
-use Rattle.client_command.specs.Calling.{Calls, StopsCall}
-use Rattle.client_command.specs.Endings.{end_of}
-use Rattle.client_command.specs.Telling.{call_lines, next_line}
+use Rattle.client_command.specs.Exchanges.{dealing}
+use Rattle.client_command.specs.declared.calls.CallStop.TheVariants.{Lost}
+use Rattle.client_command.specs.declared.work_ends.Report.{Report}
+use Rattle.client_command.specs.Calls.{Calls, StopsCall}
+use Rattle.client_command.specs.WorkEnds.{end_of}
+use Rattle.client_command.specs.Lines.{call_lines, next_line}
 use Rattle.client_command.specs.Reports.{IsReport, OnLinks, ReportsCall}
 
 module _ (number n sequence : ℕ) (op o : CallOp) (kind : CallKind) (first notices told : List Notice) (before now : OnLinks)

@@ -10,9 +10,9 @@ use Rattle.cluster_text.specs.declared.stop.CommandStop.{CommandStop}
 use Rattle.cluster_text.specs.declared.stop.CommandStop.TheVariants.{BadCluster, ReadFault, WriteFault, Memory}
 use Rattle.cluster_text.specs.declared.stop.CommandStop.TheVariants.{Full, LinkFault}
 use Rattle.command_words.specs.declared.words.ClientWords.{ClientWords}
-use Rattle.drive_command.specs.Ends.{Streams}
-use Rattle.client_command.specs.declared.ending.ClientEnd.{ClientEnd}
-use Rattle.client_command.specs.declared.ending.Report.{Report}
+use Rattle.cluster_text.specs.Outside.{Streams}
+use Rattle.client_command.specs.declared.work_ends.ClientEnd.{ClientEnd}
+use Rattle.client_command.specs.declared.work_ends.Report.{Report}
 use Rattle.client_command.specs.Reports.{OnLinks, Reports}
 
 -- ---- a report that is told

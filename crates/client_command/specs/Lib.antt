@@ -1,8 +1,8 @@
-pub mod Endings
-pub mod Telling
-pub mod Calling
-pub mod Ordering
+pub mod WorkEnds
+pub mod Lines
+pub mod Calls
+pub mod Orders
 pub mod Reports
 pub mod Ends
-pub mod Answering
-pub mod Dealing
+pub mod Answers
+pub mod Exchanges

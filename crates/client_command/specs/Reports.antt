@@ -3,6 +3,7 @@ use Rattle.std.specs.Prelude.{◌≡◌, ◌⊎◌, ℕ, List, [], ◌++◌, Opt
 use Rattle.std.specs.Option.{option_map}
 use Rattle.osd_bytes.specs.Connections.{Traffic}
 use Rattle.osd_bytes.specs.Counts.{Faults}
+use Rattle.osd_bytes.specs.declared.links.Links.{Ghosts as LinksGhosts}
 use Rattle.layout_ops.specs.declared.orders.OrderResult.{OrderResult}
 use Rattle.layout_ops.specs.Enumerations.{order_result_number}
 use Rattle.scenario_text.specs.LineSpelling.{lines_text}
@@ -13,19 +14,19 @@ use Rattle.client_rules.specs.declared.client.Client.{Client}
 use Rattle.client_rules.specs.declared.outcomes.CallErr.{CallErr}
 use Rattle.client_rules.specs.Steps.{calls, new_client}
 use Rattle.client_command.specs.declared.notices.Notice.{Notice}
-use Rattle.client_command.specs.Dealing.{Dealing, dealing}
+use Rattle.client_command.specs.Exchanges.{Dealing, dealing}
 use Rattle.command_words.specs.declared.work.ClientWork.{ClientWork}
 use Rattle.command_words.specs.declared.work.ClientWork.TheVariants as work
 use Rattle.command_words.specs.declared.work.Order.{Order}
-use Rattle.client_command.specs.declared.ending.ClientEnd.{ClientEnd}
-use Rattle.client_command.specs.declared.ending.ClientEnd.TheVariants.{Refused}
-use Rattle.client_command.specs.declared.ending.Refusal.TheVariants.{Call}
-use Rattle.client_command.specs.declared.ending.Report.{Report}
-use Rattle.client_command.specs.Endings.{end_of, end_by_result}
-use Rattle.client_command.specs.Telling.{call_lines, next_line, order_line, refusal_lines}
-use Rattle.client_command.specs.declared.calling.CallStop.TheVariants.{Lost}
-use Rattle.client_command.specs.Calling.{Calls, StopsCall}
-use Rattle.client_command.specs.Ordering.{Answers, sent_order}
+use Rattle.client_command.specs.declared.work_ends.ClientEnd.{ClientEnd}
+use Rattle.client_command.specs.declared.work_ends.ClientEnd.TheVariants.{Refused}
+use Rattle.client_command.specs.declared.work_ends.Refusal.TheVariants.{Call}
+use Rattle.client_command.specs.declared.work_ends.Report.{Report}
+use Rattle.client_command.specs.WorkEnds.{end_of, end_by_result}
+use Rattle.client_command.specs.Lines.{call_lines, next_line, order_line, refusal_lines}
+use Rattle.client_command.specs.declared.calls.CallStop.TheVariants.{Lost}
+use Rattle.client_command.specs.Calls.{Calls, StopsCall}
+use Rattle.client_command.specs.Orders.{Answers, sent_order}
 
 -- what is known of the links: what came and went, and the counts of the calls that failed
 pub record OnLinks : Type 0 where
@@ -34,6 +35,9 @@ pub record OnLinks : Type 0 where
 
 abbrev pub on_links : Option Traffic → Faults → OnLinks
 on_links told faults = record { told = told; faults = faults }
+
+abbrev pub links_at : {A : Type 0} → LinksGhosts A → (links : A) → OnLinks
+links_at l links = on_links (l.told links) (l.faults links)
 
 -- a client that has done nothing, whose first request has this number
 abbrev pub fresh : (number sequence : ℕ) → OnLinks → Dealing

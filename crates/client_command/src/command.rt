@@ -1,11 +1,11 @@
 ghost use Rattle.std.specs.Prelude.{◌≡◌, ◌≤◌, ◌<◌, IfErr, IfOk};
 ghost use Rattle.client_rules.specs.declared.limits.TheConstants.{MAX_CLIENT};
-ghost use Rattle.drive_command.specs.Ends.{streams};
-ghost use Rattle.client_command.specs.Reports.{on_links};
+ghost use Rattle.cluster_text.specs.Outside.{streams_at};
+ghost use Rattle.client_command.specs.Reports.{links_at};
 ghost use Rattle.client_command.specs.Ends.{EndsClient, StopsClient, StopsTelling, StopsWork, Tells, ToldAll, WorksAs};
 
-use crate::ending::{ClientEnd, Report};
-use crate::reporting::report;
+use crate::reports::report;
+use crate::work_ends::{ClientEnd, Report};
 use cluster_text::{Cluster, CommandStop, Reader, cluster_from, put_stop, settle_at};
 use command_words::ClientWords;
 use osd_bytes::{Links, Sink, Source, put_all};
@@ -39,12 +39,13 @@ fn work_in<K: Sink, L: Links>(
     requires number { words.number ≤ MAX_CLIENT }
     requires sequence { 0 < words.sequence }
     ensures tells { IfOk result (Tells words
-        (on_links (L.told links.old) (L.faults links.old)) (on_links (L.told links.new) (L.faults links.new))
+        (links_at L.Links links.old) (links_at L.Links links.new)
         (K.taken sink.old) (K.taken sink.new)) }
     ensures stops { IfErr result (StopsWork words
-        (on_links (L.told links.old) (L.faults links.old)) (on_links (L.told links.new) (L.faults links.new))
+        (links_at L.Links links.old) (links_at L.Links links.new)
         (K.taken sink.old) (K.taken sink.new) (K.faults sink.old) (K.faults sink.new)) }
 {
+    // Here and below, arms in place of `?` or of the bare call are for the prover (docs/PROVER_FORMS.md).
     match settle_at(alloc, links, cluster, &[]) {
         Ok(()) => {}
         Err(stop) => return Err(stop),
@@ -56,7 +57,7 @@ fn work_in<K: Sink, L: Links>(
     }
 }
 
-// The command without the line that tells why it stopped.
+// Works as a client of the cluster that the source describes. A stop isn't told here.
 fn work<S: Source, K: Sink, L: Links>(
     alloc: Global,
     words: ClientWords,
@@ -67,13 +68,11 @@ fn work<S: Source, K: Sink, L: Links>(
     requires number { words.number ≤ MAX_CLIENT }
     requires sequence { 0 < words.sequence }
     ensures works { IfOk result (WorksAs words
-        (streams (S.left source.old) (S.faults source.old) (K.taken sink.old) (K.faults sink.old))
-        (streams (S.left source.new) (S.faults source.new) (K.taken sink.new) (K.faults sink.new))
-        (on_links (L.told links.old) (L.faults links.old)) (on_links (L.told links.new) (L.faults links.new))) }
+        (streams_at S.Source K.Sink source.old sink.old) (streams_at S.Source K.Sink source.new sink.new)
+        (links_at L.Links links.old) (links_at L.Links links.new)) }
     ensures stops { IfErr result (StopsClient words
-        (streams (S.left source.old) (S.faults source.old) (K.taken sink.old) (K.faults sink.old))
-        (streams (S.left source.new) (S.faults source.new) (K.taken sink.new) (K.faults sink.new))
-        (on_links (L.told links.old) (L.faults links.old)) (on_links (L.told links.new) (L.faults links.new))) }
+        (streams_at S.Source K.Sink source.old sink.old) (streams_at S.Source K.Sink source.new sink.new)
+        (links_at L.Links links.old) (links_at L.Links links.new)) }
 {
     let cluster = match cluster_from(alloc, Reader::Client, source) {
         Ok(cluster) => cluster,
@@ -92,9 +91,9 @@ fn work<S: Source, K: Sink, L: Links>(
 ///
 /// # Errors
 ///
-/// [`CommandStop::BadCluster`] exactly where the text is refused; [`CommandStop::ReadFault`];
-/// [`CommandStop::Full`] exactly where the text passes 67,108,864 bytes; [`CommandStop::LinkFault`] where the links
-/// couldn't be settled, and exactly where an exchange with the server gave no record or one that isn't the awaited
+/// [`CommandStop::BadCluster`] exactly if the text is refused; [`CommandStop::ReadFault`];
+/// [`CommandStop::Full`] exactly if the text passes 67,108,864 bytes; [`CommandStop::LinkFault`] if the links
+/// couldn't be settled, and exactly if an exchange with the server gave no record or one that isn't the awaited
 /// answer; [`CommandStop::WriteFault`]; [`CommandStop::Memory`].
 pub fn client_command<S: Source, K: Sink, L: Links>(
     alloc: Global,
@@ -106,13 +105,11 @@ pub fn client_command<S: Source, K: Sink, L: Links>(
     requires number { words.number ≤ MAX_CLIENT }
     requires sequence { 0 < words.sequence }
     ensures works { IfOk result (WorksAs words
-        (streams (S.left source.old) (S.faults source.old) (K.taken sink.old) (K.faults sink.old))
-        (streams (S.left source.new) (S.faults source.new) (K.taken sink.new) (K.faults sink.new))
-        (on_links (L.told links.old) (L.faults links.old)) (on_links (L.told links.new) (L.faults links.new))) }
+        (streams_at S.Source K.Sink source.old sink.old) (streams_at S.Source K.Sink source.new sink.new)
+        (links_at L.Links links.old) (links_at L.Links links.new)) }
     ensures stops { IfErr result (EndsClient words
-        (streams (S.left source.old) (S.faults source.old) (K.taken sink.old) (K.faults sink.old))
-        (streams (S.left source.new) (S.faults source.new) (K.taken sink.new) (K.faults sink.new))
-        (on_links (L.told links.old) (L.faults links.old)) (on_links (L.told links.new) (L.faults links.new))) }
+        (streams_at S.Source K.Sink source.old sink.old) (streams_at S.Source K.Sink source.new sink.new)
+        (links_at L.Links links.old) (links_at L.Links links.new)) }
 {
     match work(alloc, words, source, sink, links) {
         Ok(end) => Ok(end),

@@ -2,7 +2,7 @@
 ghost use Rattle.std.specs.Prelude.{◌≡◌, Option, OnOk};
 ghost use Rattle.osd_bytes.specs.Connections.{Traffic};
 ghost use Rattle.osd_bytes.specs.Counts.{Faults};
-ghost use Rattle.client_command.specs.Dealing.{AsksDrive, dealing, heard, late, timed_out};
+ghost use Rattle.client_command.specs.Exchanges.{AsksDrive, dealing, dealing_at, heard, late, timed_out};
 
 use crate::notices::{Notice, Notices, take_step};
 use osd_bytes::{Links, asked};
@@ -13,11 +13,11 @@ use stripe_client::{ClientCore, Sends};
 /// Where the nonce of a command stands.
 pub const NONCE_AT: usize = 40;
 
-// Where it ends.
+// Where the nonce of a command ends.
 const NONCE_END: usize = 48;
 
-/// Gives the client the record that came from a node, where one did.
-pub(crate) fn hear(
+/// Gives the client the record that came from a node, if one did.
+pub(crate) fn hear_reply(
     alloc: Global,
     core: &mut ClientCore,
     from: Node,
@@ -38,8 +38,8 @@ pub(crate) fn hear(
     }
 }
 
-// The component of the command, where its reply is awaited.
-fn late(core: &ClientCore, command: &[u8]) -> Option<u32>
+// The component whose reply to this command is still awaited.
+fn late_component(core: &ClientCore, command: &[u8]) -> Option<u32>
     ensures { result ≡ late core.now command.now }
 {
     if command.len() < NONCE_END {
@@ -48,7 +48,7 @@ fn late(core: &ClientCore, command: &[u8]) -> Option<u32>
     core.awaited(u64_at(command, NONCE_AT))
 }
 
-// The component times out, where there is one.
+// Lets this component time out, if there is one.
 fn time_out(
     alloc: Global,
     core: &mut ClientCore,
@@ -86,12 +86,12 @@ pub(crate) fn exchange_with_drive<L: Links>(
     notices: &mut Notices,
 ) -> Result<(), Memory>
     ensures { OnOk result (AsksDrive drive command.now
-        (dealing core.old waiting.old notices.old (L.told links.old) (L.faults links.old))
-        (dealing core.new waiting.new notices.new (L.told links.new) (L.faults links.new))) }
+        (dealing_at L.Links links.old core.old waiting.old notices.old)
+        (dealing_at L.Links links.new core.new waiting.new notices.new)) }
 {
     let came = asked(alloc, links, Node::Drive(drive), command)?;
-    hear(alloc, core, Node::Drive(drive), came, waiting, notices)?;
-    let component = late(core, command);
+    hear_reply(alloc, core, Node::Drive(drive), came, waiting, notices)?;
+    let component = late_component(core, command);
     time_out(alloc, core, component, waiting, notices)?;
     Ok(())
 }

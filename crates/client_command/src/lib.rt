@@ -5,20 +5,20 @@
 //! to the client ([`deal`]).
 #![tactic(auto)]
 
-mod answering;
-mod calling;
+mod answers;
+mod calls;
 mod command;
-mod dealing;
 mod drive;
-mod ending;
+mod exchanges;
+mod lines;
 mod notices;
-mod ordering;
-mod reporting;
+mod orders;
+mod reports;
 mod server;
-mod telling;
+mod work_ends;
 
 pub use command::client_command;
-pub use dealing::{DealErr, deal};
 pub use drive::NONCE_AT;
-pub use ending::{ClientEnd, Refusal};
+pub use exchanges::{DealErr, deal};
 pub use notices::{Notice, Notices};
+pub use work_ends::{ClientEnd, Refusal};

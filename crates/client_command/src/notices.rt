@@ -1,6 +1,6 @@
 // What a step of the client sends and tells.
 ghost use Rattle.std.specs.Prelude.{◌≡◌, ◌++◌, OnOk};
-ghost use Rattle.client_command.specs.Dealing.{ended};
+ghost use Rattle.client_command.specs.Exchanges.{ended};
 
 use client_rules::Outcome;
 use osd_lists::{Bytes, Memory, Sequence};
@@ -19,7 +19,7 @@ pub enum Notice {
 /// What is told of a call, in order.
 pub type Notices = Sequence<Notice>;
 
-// Adds messages behind those that wait.
+// Adds these messages after those that wait.
 fn push_all(alloc: Global, waiting: &mut Sends, more: &[Sent]) -> Result<(), Memory>
     ensures { OnOk result (waiting.new ≡ waiting.old ++ more.now) }
 {

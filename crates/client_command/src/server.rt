@@ -1,18 +1,18 @@
 // An exchange with the server.
 ghost use Rattle.std.specs.Prelude.{◌≡◌, ◌↔◌, IfOk, IsTrue, IsErrOf, OnOk};
-ghost use Rattle.client_command.specs.declared.dealing.DealErr.TheVariants.{LinkFault};
-ghost use Rattle.client_command.specs.Dealing.{AsksServer, AwaitsStill, IsRequest, LosesServer, dealing};
+ghost use Rattle.client_command.specs.declared.exchanges.DealErr.TheVariants.{LinkFault};
+ghost use Rattle.client_command.specs.Exchanges.{AsksServer, AwaitsStill, IsRequest, LosesServer, dealing_at};
 
-use crate::answering::is_answer_to;
-use crate::dealing::DealErr;
-use crate::drive::hear;
+use crate::answers::is_answer_to;
+use crate::drive::hear_reply;
+use crate::exchanges::DealErr;
 use crate::notices::Notices;
 use osd_bytes::{Links, asked};
 use osd_lists::{Memory, Node};
 use std::alloc::Global;
 use stripe_client::{ClientCore, Sends, Sent};
 
-// Whether a message is this one to the server.
+// Whether what is sent is this message to the server.
 fn is_request(sent: &Sent, message: &[u8]) -> bool
     ensures { IsTrue result ↔ IsRequest sent.now message.now }
 {
@@ -33,13 +33,13 @@ fn awaits_still(core: &ClientCore, message: &[u8]) -> Result<bool, Memory>
     Ok(is_request(sends.get(0), message))
 }
 
-/// Sends a message to the server, and gives the client the record that comes, where that answers the message. A server
-/// answers the last sequence number of a client with the answer that it kept, whatever is asked under it now: that is
-/// heard only where file and operation are the request's too.
+/// Sends a message to the server, and gives the client the record that comes, if that answers the message. A server
+/// answers the last sequence number of a client with the answer that it kept, whatever is asked under that number now.
+/// So the client hears an answer only if its file and its operation are the request's too.
 ///
 /// # Errors
 ///
-/// [`DealErr::LinkFault`] exactly where no record came, one that doesn't answer the message, which the client then
+/// [`DealErr::LinkFault`] exactly if no record came, one that doesn't answer the message, which the client then
 /// hasn't heard, or an answer that the client doesn't take: it is awaited still. Want of memory.
 pub(crate) fn exchange_with_server<L: Links>(
     alloc: Global,
@@ -50,18 +50,18 @@ pub(crate) fn exchange_with_server<L: Links>(
     notices: &mut Notices,
 ) -> Result<(), DealErr>
     ensures asks { OnOk result (AsksServer message.now
-        (dealing core.old waiting.old notices.old (L.told links.old) (L.faults links.old))
-        (dealing core.new waiting.new notices.new (L.told links.new) (L.faults links.new))) }
+        (dealing_at L.Links links.old core.old waiting.old notices.old)
+        (dealing_at L.Links links.new core.new waiting.new notices.new)) }
     ensures loses { IsErrOf result LinkFault → LosesServer message.now
-        (dealing core.old waiting.old notices.old (L.told links.old) (L.faults links.old))
-        (dealing core.new waiting.new notices.new (L.told links.new) (L.faults links.new)) }
+        (dealing_at L.Links links.old core.old waiting.old notices.old)
+        (dealing_at L.Links links.new core.new waiting.new notices.new) }
 {
     match asked(alloc, links, Node::Server, message)? {
         Some(record) => {
             if !is_answer_to(alloc, message, record.as_slice())? {
                 return Err(DealErr::LinkFault);
             }
-            hear(alloc, core, Node::Server, Some(record), waiting, notices)?;
+            hear_reply(alloc, core, Node::Server, Some(record), waiting, notices)?;
             if awaits_still(core, message)? {
                 return Err(DealErr::LinkFault);
             }

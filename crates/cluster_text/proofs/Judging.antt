@@ -11,7 +11,7 @@ use Rattle.cluster_text.specs.declared.cluster.ClusterDrive.{ClusterDrive}
 use Rattle.cluster_text.specs.declared.cluster.ClusterFile.{ClusterFile}
 use Rattle.cluster_text.specs.declared.fields.TheConstants.{MAX_DRIVES, MAX_FILES}
 use Rattle.cluster_text.specs.Fields.{address_at, drive_in, file_in, format_in}
-use Rattle.cluster_text.specs.Reading.{all_in, cluster_in, document_of, has_good_counts}
+use Rattle.cluster_text.specs.Document.{all_in, cluster_in, document_of, has_good_counts}
 use Rattle.cluster_text.proofs.Lists.{all-map}
 
 none_of : (b : Bool) (o : Option Members) → b ≡ false → (if b then o else None) ≡ None

@@ -8,7 +8,7 @@ use Rattle.toml.specs.View.{items_view, members_view, view}
 use Rattle.cluster_text.specs.Tables.{are_tables, keys_of, tables_at, tables_in, values_of}
 use Rattle.cluster_text.specs.Shape.{holds_no_list}
 use Rattle.cluster_text.specs.Fields.{◌>>=◌}
-use Rattle.cluster_text.specs.Reading.{all_in}
+use Rattle.cluster_text.specs.Document.{all_in}
 
 pub any_map : {X Y : Type 0} (p : Y → Bool) (f : X → Y) (xs : List X) → list_any (λ x. p (f x)) xs ≡ list_any p (map f xs)
 any_map p f [] = refl

@@ -8,7 +8,7 @@ use Rattle.cluster_text.specs.declared.cluster.Reader.{Reader}
 use Rattle.cluster_text.specs.declared.errors.ClusterErr.{ClusterErr}
 use Rattle.cluster_text.specs.declared.errors.ClusterErr.TheVariants.{Refused, Memory as NoMemory}
 use Rattle.cluster_text.specs.declared.errors.ClusterKind.{ClusterKind}
-use Rattle.cluster_text.specs.Reading.{cluster_of}
+use Rattle.cluster_text.specs.Document.{cluster_of}
 use Rattle.cluster_text.specs.declared.stop.CommandStop.{CommandStop}
 use Rattle.cluster_text.specs.declared.stop.CommandStop.TheVariants.{BadCluster, ReadFault, WriteFault, Memory, Full, LinkFault}
 

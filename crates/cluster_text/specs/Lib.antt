@@ -2,7 +2,8 @@ pub mod Kinds
 pub mod Tables
 pub mod Shape
 pub mod Fields
-pub mod Reading
+pub mod Document
 pub mod Inputs
 pub mod Peers
 pub mod Lines
+pub mod Outside

@@ -1,11 +1,26 @@
--- The line that tells why a command stopped, and the exit status of the program then.
+-- The lines of a command over a network: that it listens, how many connections it served, or why it stopped; and the
+-- exit status of the program then.
 use Rattle.std.specs.Prelude.{◌≡◌, ◌⊎◌, ℕ, List, [], ◌∷◌, ◌++◌, take, codes, Option}
+use Rattle.std.specs.Fmt.{decimal}
 use Rattle.std.specs.Io.KnownBytes.{Appends}
 use Rattle.osd_bytes.specs.Causes.{Rose}
+use Rattle.osd_bytes.specs.declared.serve_err.ServeErr.{ServeErr}
+use Rattle.osd_bytes.specs.declared.serve_err.ServeErr.TheVariants.{LinkFault as NoConnection, Memory as NoMemory}
 use Rattle.cluster_text.specs.Kinds.{word_of}
 use Rattle.cluster_text.specs.declared.stop.CommandStop.{CommandStop}
 use Rattle.cluster_text.specs.declared.stop.CommandStop.TheVariants.{BadCluster, ReadFault, WriteFault, Memory}
 use Rattle.cluster_text.specs.declared.stop.CommandStop.TheVariants.{Full, LinkFault}
+
+abbrev pub listening_line : List ℕ
+listening_line = codes "listening\n"
+
+abbrev pub served_line : ℕ → List ℕ
+served_line connections = codes "served " ++ (decimal connections ++ (10 ∷ []))
+
+-- why a command stops where serving does
+abbrev pub stop_of_serving : ServeErr → CommandStop
+stop_of_serving NoConnection = LinkFault
+stop_of_serving NoMemory = Memory
 
 -- a cluster text has no lines that are counted, so 0 stands in the place of a line's number
 abbrev pub stop_line : CommandStop → List ℕ

@@ -8,7 +8,7 @@ pub struct ClusterDrive {
     pub number: u32,
     /// Host and port, as in `127.0.0.1:7000`.
     pub address: Bytes,
-    /// Its key, where the text has it.
+    /// Its key, if the text has it.
     pub key: Option<[u8; 20]>,
     /// In bytes.
     pub capacity: u64,
@@ -28,7 +28,7 @@ pub struct ClusterFile {
 pub struct Cluster {
     /// Host and port of the server.
     pub server: Bytes,
-    /// The format of the capabilities that the server writes, 1 or 2; 1 where the text doesn't say.
+    /// The format of the capabilities that the server writes, 1 or 2; 1 if the text doesn't say.
     pub format: u8,
     /// One to 64, with different numbers.
     pub drives: Sequence<ClusterDrive>,

@@ -2,7 +2,7 @@ ghost use Rattle.std.specs.Prelude.{◌≡◌, IfErr, IfOk, OnOk};
 ghost use Rattle.cluster_text.specs.Inputs.{GivesCluster, StopsCluster};
 
 use crate::cluster::{Cluster, Reader};
-use crate::reading::read_cluster;
+use crate::cluster_document::read_cluster;
 use crate::stop::CommandStop;
 use crate::whole::read_whole;
 use osd_bytes::Source;
@@ -12,7 +12,7 @@ use std::alloc::Global;
 ///
 /// # Errors
 ///
-/// [`CommandStop::BadCluster`] exactly where the text is refused, with its kind; those of [`read_whole`].
+/// [`CommandStop::BadCluster`] exactly if the text is refused, with its kind; those of [`read_whole`].
 pub fn cluster_from<S: Source>(
     alloc: Global,
     reader: Reader,

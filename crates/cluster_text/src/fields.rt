@@ -33,7 +33,7 @@ fn natural(number: i64) -> Option<u64>
     u64::try_from(number).ok()
 }
 
-// The number of a key, where it is in its range.
+// The number at a key, if it is in its range.
 fn number_at(table: &Table, key: &str, least: u64, most: u64) -> Option<u64>
     ensures value { result ≡ number_at key.now least most (table_view table.now) }
     ensures range { IfSome result (λ n. (least ≤ n) × (n ≤ most)) }
@@ -46,7 +46,7 @@ fn number_at(table: &Table, key: &str, least: u64, most: u64) -> Option<u64>
     }
 }
 
-// The address of a key, where there is a colon between host and port.
+// The address at a key, if there is a colon between host and port.
 pub(crate) fn address_at<'a>(table: &'a Table, key: &str) -> Option<&'a [u8]>
     ensures { option_map (λ a. a.now) result ≡ address_at key.now (table_view table.now) }
 {
@@ -58,7 +58,7 @@ pub(crate) fn address_at<'a>(table: &'a Table, key: &str) -> Option<&'a [u8]>
     }
 }
 
-// The key of a drive, where there is none or one of 40 hexadecimal digits.
+// The key of a drive, if there is none or one of 40 hexadecimal digits.
 fn key_in(table: &Table) -> Option<Option<[u8; 20]>>
     ensures { result ≡ key_in (table_view table.now) }
 {
@@ -71,14 +71,14 @@ fn key_in(table: &Table) -> Option<Option<[u8; 20]>>
     }
 }
 
-// The list of some bytes.
+// These bytes as a list.
 pub(crate) fn owned(alloc: Global, bytes: &[u8]) -> Result<Bytes, Memory>
     ensures { IfOk result (λ list. list ≡ bytes.now) }
 {
     Ok(Bytes::from_vec(Vec::from_slice(alloc, bytes)?))
 }
 
-// A drive, where its values are in their ranges.
+// A drive, if its values are in their ranges.
 pub(crate) fn drive_in(alloc: Global, table: &Table) -> Result<Option<ClusterDrive>, Memory>
     ensures { IfOk result (λ drive. drive ≡ drive_in (table_view table.now)) }
 {
@@ -103,7 +103,7 @@ pub(crate) fn drive_in(alloc: Global, table: &Table) -> Result<Option<ClusterDri
     }))
 }
 
-// The map of a file as it is written down, where its numbers are in their ranges.
+// The map of a file as it is written down, if its numbers are in their ranges.
 fn map_in(table: &Table) -> Option<RawMap>
     ensures value { result ≡ map_in (table_view table.now) }
     ensures algorithm { IfSome result (λ map. IsAlgorithm map.algorithm) }
@@ -134,7 +134,7 @@ fn is_good_map(map: RawMap, drives: u64) -> bool
         && u64::from(map.comps) <= drives
 }
 
-// A file of a cluster with so many drives, where its values are in their ranges.
+// A file of a cluster with so many drives, if its values are in their ranges.
 pub(crate) fn file_in(table: &Table, drives: u64) -> Option<ClusterFile>
     ensures { result ≡ file_in drives (table_view table.now) }
 {
@@ -150,7 +150,7 @@ pub(crate) fn file_in(table: &Table, drives: u64) -> Option<ClusterFile>
     }
 }
 
-// The format, where it is 1 or 2 or isn't there.
+// The format, if it is 1 or 2 or isn't there.
 pub(crate) fn format_in(table: &Table) -> Option<u8>
     ensures { result ≡ format_in (table_view table.now) }
 {

@@ -7,23 +7,23 @@
 #![tactic(auto)]
 
 mod cluster;
+mod cluster_document;
 mod cluster_source;
 mod errors;
 mod fields;
 mod lines;
 mod peers;
-mod reading;
 mod shape;
 mod stop;
 mod tables;
 mod whole;
 
 pub use cluster::{Cluster, ClusterDrive, ClusterFile, Reader};
+pub use cluster_document::read_cluster;
 pub use cluster_source::cluster_from;
 pub use errors::{ClusterErr, ClusterKind};
 pub use fields::{MAX_DRIVES, MAX_FILES};
-pub use lines::put_stop;
+pub use lines::{put_stop, served_line, stop_of_serving};
 pub use peers::{peers_of, settle_at};
-pub use reading::read_cluster;
 pub use stop::CommandStop;
 pub use whole::read_whole;

@@ -1,10 +1,12 @@
-// What a command says where it stops.
-ghost use Rattle.std.specs.Prelude.{◌≡◌};
-ghost use Rattle.cluster_text.specs.Lines.{PutsLine, exit_code_of, stop_line};
+// What a command says when it has served, or when it stops.
+ghost use Rattle.std.specs.Prelude.{◌≡◌, IfOk, string_bytes};
+ghost use Rattle.cluster_text.specs.Lines.{PutsLine, exit_code_of, served_line, stop_line, stop_of_serving};
 
 use crate::errors::ClusterKind;
 use crate::stop::CommandStop;
-use osd_bytes::{Sink, put_all};
+use osd_bytes::{ServeErr, Sink, put_all};
+use osd_lists::Memory;
+use std::alloc::Global;
 
 impl CommandStop {
     /// The exit status of the program.
@@ -21,7 +23,7 @@ impl CommandStop {
         }
     }
 
-    /// The line that tells it, with its newline; nothing where the sink failed. A cluster text has no lines that
+    /// The line that tells of the stop, with its newline; nothing if the sink failed. A cluster text has no lines that
     /// are counted, so 0 stands in the place of a line's number.
     pub fn line(self) -> &'static [u8]
         ensures { result.now ≡ stop_line self }
@@ -50,5 +52,22 @@ pub fn put_stop<K: Sink>(sink: &mut K, stop: CommandStop)
 {
     match put_all(sink, stop.line()) {
         Ok(()) | Err(_) => {}
+    }
+}
+
+/// The line that tells how many connections were served.
+pub fn served_line(alloc: Global, connections: u32) -> Result<String, Memory>
+    ensures { IfOk result (λ line. string_bytes line ≡ served_line connections) }
+{
+    Ok(format!(in alloc; "served {connections}\n")?)
+}
+
+/// Why a command stops if serving stops for this reason.
+pub fn stop_of_serving(e: ServeErr) -> CommandStop
+    ensures { result ≡ stop_of_serving e }
+{
+    match e {
+        ServeErr::LinkFault => CommandStop::LinkFault,
+        ServeErr::Memory => CommandStop::Memory,
     }
 }

@@ -36,12 +36,12 @@ pub fn peers_of(alloc: Global, cluster: &Cluster) -> Result<Peers, Memory>
     Ok(peers)
 }
 
-/// Gives the links the addresses of a cluster. They listen at `listen`, where that isn't empty.
+/// Gives the links the addresses of a cluster. They listen at `listen`, unless that is empty.
 ///
 /// # Errors
 ///
-/// [`CommandStop::LinkFault`] where the links couldn't be settled, [`CommandStop::Memory`]. The connections
-/// are as before then.
+/// [`CommandStop::LinkFault`] if the links couldn't be settled, [`CommandStop::Memory`]. In either case the
+/// connections are as before.
 pub fn settle_at<L: Links>(
     alloc: Global,
     links: &mut L,

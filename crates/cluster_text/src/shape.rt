@@ -45,7 +45,7 @@ fn any_has_other_key(section: Section, tables: &[&Table]) -> bool
     tables.iter().any(|table| has_other_key(section, table))
 }
 
-// Whether another key stands anywhere.
+// Whether a table has a key that isn't one of its own, anywhere in the text.
 #[tactic(auto, unfolding(crate::specs::Shape::has_unknown))]
 pub(crate) fn has_unknown(top: &Table, drives: &[&Table], files: &[&Table]) -> bool
     ensures { result ≡ has_unknown (table_view top.now) (map (λ t. table_view t.now) drives.now) (map (λ t. table_view t.now) files.now) }
@@ -105,7 +105,7 @@ fn any_is_drive(number: u32, tables: &[&Table]) -> bool
     tables.iter().any(|table| is_drive(number, table))
 }
 
-// Whether the drive that reads isn't there.
+// Whether the drive that reads the text isn't in it.
 fn lacks_drive(reader: Reader, drives: &[&Table]) -> bool
     ensures { result ≡ lacks_drive reader (map (λ t. table_view t.now) drives.now) }
 {
@@ -115,7 +115,7 @@ fn lacks_drive(reader: Reader, drives: &[&Table]) -> bool
     }
 }
 
-// Whether a key is missing anywhere, or the drive that reads.
+// Whether a key is missing anywhere in the text, or the drive that reads it.
 #[tactic(auto, unfolding(crate::specs::Shape::lacks))]
 pub(crate) fn lacks(reader: Reader, top: &Table, drives: &[&Table], files: &[&Table]) -> bool
     ensures { result ≡ lacks reader (table_view top.now) (map (λ t. table_view t.now) drives.now) (map (λ t. table_view t.now) files.now) }
@@ -188,7 +188,7 @@ fn any_is_wrong_file(tables: &[&Table]) -> bool
     tables.iter().any(|table| is_wrong_file(table))
 }
 
-// Whether a value of another type stands anywhere.
+// Whether a value is of another type than its key asks for, anywhere in the text.
 #[tactic(auto, unfolding(crate::specs::Shape::is_wrong))]
 pub(crate) fn is_wrong(top: &Table, drives: &[&Table], files: &[&Table]) -> bool
     ensures { result ≡ is_wrong (table_view top.now) (map (λ t. table_view t.now) drives.now) (map (λ t. table_view t.now) files.now) }

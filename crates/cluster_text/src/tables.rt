@@ -8,21 +8,21 @@ use osd_lists::Memory;
 use std::alloc::Global;
 use toml::{Table, Value};
 
-// The value of a key.
+// The value at a key.
 pub(crate) fn value_at<'a>(table: &'a Table, key: &str) -> Option<&'a Value>
     ensures { option_map (λ v. view v.now) result ≡ get_member key.now (table_view table.now) }
 {
     table.get(key)
 }
 
-// Whether a key stands.
+// Whether a table has a key.
 pub(crate) fn has(table: &Table, key: &str) -> bool
     ensures { result ≡ has key.now (table_view table.now) }
 {
     value_at(table, key).is_some()
 }
 
-// The text of a key, where it is one.
+// The value at a key, if it is a text.
 pub(crate) fn text_at<'a>(table: &'a Table, key: &str) -> Option<&'a str>
     ensures { option_map (λ s. s.now) result ≡ text_at key.now (table_view table.now) }
 {
@@ -32,7 +32,7 @@ pub(crate) fn text_at<'a>(table: &'a Table, key: &str) -> Option<&'a str>
     }
 }
 
-// The integer of a key, where it is one.
+// The value at a key, if it is an integer.
 pub(crate) fn integer_at(table: &Table, key: &str) -> Option<i64>
     ensures { result ≡ integer_at key.now (table_view table.now) }
 {

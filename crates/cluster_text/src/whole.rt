@@ -15,7 +15,7 @@ const PIECE: usize = 4096;
 ///
 /// # Errors
 ///
-/// [`CommandStop::Full`] exactly where more than [`MAX_INPUT`] bytes came, [`CommandStop::ReadFault`] where
+/// [`CommandStop::Full`] exactly if more than [`MAX_INPUT`] bytes came, [`CommandStop::ReadFault`] if
 /// the source failed, [`CommandStop::Memory`].
 pub fn read_whole<S: Source>(alloc: Global, source: &mut S) -> Result<Bytes, CommandStop>
     ensures whole { IfOk result (IsWhole (S.left source.old) (S.left source.new)) }

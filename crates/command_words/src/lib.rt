@@ -1,12 +1,14 @@
 //! The words of the commands over a network: `drive`, `server` and `client`, whose options are read by one simple
-//! command of `clap` each.
+//! command of `clap` each. Of words that name no command at all, [`refusal_text`] has what `clap` says.
 #![tactic(auto)]
 
 mod numbers;
 mod options;
+mod program;
 mod words;
 mod work;
 
+pub use program::refusal_text;
 pub use words::{
     ClientWords, DriveWords, MAX_CLIENT, MAX_DRIVE, ServerWords, WordsErr, client_words,
     drive_words, server_words,

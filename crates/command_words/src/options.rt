@@ -7,7 +7,7 @@ use clap::{Arg, ArgAction, Command};
 use std::alloc::{AllocError, Global};
 
 // A required option that takes a text.
-fn option<'a>(alloc: Global, id: &'a str) -> Arg<'a>
+pub(crate) fn option<'a>(alloc: Global, id: &'a str) -> Arg<'a>
     ensures rule { rule_of result ≡ option_rule id.entry.now }
     ensures local { result.global ≡ false }
 {

@@ -1,19 +1,16 @@
 // A server with one file, and the moves of a case.
 ghost use Rattle.std.specs.Prelude.{[], ◌≡◌, IfOk};
-ghost use Rattle.std.specs.Result.{ForOk};
 ghost use Rattle.layout_server.specs.Adding.{CanAdd};
-ghost use Rattle.stripe_repair.specs.Placing.{CanPlace, IsPlacer, Places};
 
 use crate::moves::{Move, Questions, bytes_of, sender};
-use crate::placing::first_online;
+use crate::placing::FirstOnline;
 use crate::starts::{Start, moves_of};
 use crate::words::{put_note, put_sent};
 use data_map::RawMap;
 use layout_server::{DriveInfo, DriveTable, ServerCore, Step};
-use osd_lists::{Bytes, Memory, Node, Numbers};
+use osd_lists::{Bytes, Memory, Node};
 use std::alloc::Global;
 use std::process::Abort;
-use stripe_repair::{DriveLoad, Placer};
 
 /// The file of a case, whose number is 0, on a server with drives 0 to 5, and units of four bytes.
 #[derive(Clone, Copy)]
@@ -138,17 +135,13 @@ fn told(alloc: Global, questions: &mut Questions, step: &Step) -> Result<Bytes, 
 }
 
 // The words of what comes of a message.
-fn reacts<F>(
+fn reacts(
     alloc: Global,
     bench: &mut Bench,
     from: Node,
     bytes: &[u8],
-    placer: &Placer<F>,
-) -> Result<Bytes, Memory>
-where
-    F: Fn(u32, &[DriveLoad]) -> Result<Numbers, Memory>,
-    requires { IsPlacer F.Fn placer.now }
-{
+    placer: &FirstOnline,
+) -> Result<Bytes, Memory> {
     match bench.core.on_message(bench.now, from, bytes, placer) {
         Ok(step) => told(alloc, &mut bench.questions, &step),
         Err(e) => Err(e),
@@ -156,16 +149,12 @@ where
 }
 
 // The words of a move.
-fn plays<F>(
+fn plays(
     alloc: Global,
     bench: &mut Bench,
     next: &Move,
-    placer: &Placer<F>,
-) -> Result<Bytes, Memory>
-where
-    F: Fn(u32, &[DriveLoad]) -> Result<Numbers, Memory>,
-    requires { IsPlacer F.Fn placer.now }
-{
+    placer: &FirstOnline,
+) -> Result<Bytes, Memory> {
     if let Move::Waits(now) = next {
         bench.now = *now;
     }
@@ -176,11 +165,7 @@ where
 }
 
 // Whether the words of a move are these.
-fn says<F>(alloc: Global, bench: &mut Bench, next: &Move, wanted: &str, placer: &Placer<F>) -> bool
-where
-    F: Fn(u32, &[DriveLoad]) -> Result<Numbers, Memory>,
-    requires { IsPlacer F.Fn placer.now }
-{
+fn says(alloc: Global, bench: &mut Bench, next: &Move, wanted: &str, placer: &FirstOnline) -> bool {
     match plays(alloc, bench, next, placer) {
         Ok(came) => came.as_slice() == wanted.as_bytes(),
         Err(_) => false,
@@ -188,11 +173,7 @@ where
 }
 
 // The CREATE of each component is performed.
-fn makes<F>(alloc: Global, bench: &mut Bench, comps: u32, placer: &Placer<F>) -> bool
-where
-    F: Fn(u32, &[DriveLoad]) -> Result<Numbers, Memory>,
-    requires { IsPlacer F.Fn placer.now }
-{
+fn makes(alloc: Global, bench: &mut Bench, comps: u32, placer: &FirstOnline) -> bool {
     for drive in 0..comps {
         if plays(alloc, bench, &Move::Performs(drive, b""), placer).is_err() {
             return false;
@@ -225,12 +206,8 @@ fn new_bench(alloc: Global) -> Result<Bench, Memory> {
 }
 
 // Whether the server takes the file of a case.
-fn takes<F>(alloc: Global, bench: &mut Bench, setup: Setup, placer: &Placer<F>) -> bool
-where
-    F: Fn(u32, &[DriveLoad]) -> Result<Numbers, Memory>,
-    requires { IsPlacer F.Fn placer.now }
-{
-    if !bench.core.counters_low() || setup.algorithm == 0 || setup.algorithm > 4 {
+fn takes(alloc: Global, bench: &mut Bench, setup: Setup, placer: &FirstOnline) -> bool {
+    if !bench.core.counters_have_room() || setup.algorithm == 0 || setup.algorithm > 4 {
         return false;
     }
     match bench.core.create_file(0, raw_map(setup), setup.tag, placer) {
@@ -240,26 +217,18 @@ where
 }
 
 // Whether the server takes the file of a case, and its objects are made where they are to be.
-fn begins<F>(alloc: Global, bench: &mut Bench, setup: Setup, placer: &Placer<F>) -> bool
-where
-    F: Fn(u32, &[DriveLoad]) -> Result<Numbers, Memory>,
-    requires { IsPlacer F.Fn placer.now }
-{
+fn begins(alloc: Global, bench: &mut Bench, setup: Setup, placer: &FirstOnline) -> bool {
     takes(alloc, bench, setup, placer)
         && (!setup.is_made || makes(alloc, bench, setup.comps, placer))
 }
 
 // The words that were wanted at the first move at which others came.
-fn first_other<F>(
+fn first_other(
     alloc: Global,
     bench: &mut Bench,
     steps: Steps,
-    placer: &Placer<F>,
-) -> Option<&'static str>
-where
-    F: Fn(u32, &[DriveLoad]) -> Result<Numbers, Memory>,
-    requires { IsPlacer F.Fn placer.now }
-{
+    placer: &FirstOnline,
+) -> Option<&'static str> {
     for (next, wanted) in steps {
         if !says(alloc, bench, next, wanted, placer) {
             return Some(wanted);
@@ -269,16 +238,12 @@ where
 }
 
 // The same of what a case begins with.
-fn first_other_start<F>(
+fn first_other_start(
     alloc: Global,
     bench: &mut Bench,
     starts: &[Start],
-    placer: &Placer<F>,
-) -> Option<&'static str>
-where
-    F: Fn(u32, &[DriveLoad]) -> Result<Numbers, Memory>,
-    requires { IsPlacer F.Fn placer.now }
-{
+    placer: &FirstOnline,
+) -> Option<&'static str> {
     for start in starts {
         let other = first_other(alloc, bench, moves_of(*start), placer);
         if other.is_some() {
@@ -289,16 +254,12 @@ where
 }
 
 // The same of a whole case.
-fn other_of<F>(
+fn other_of(
     alloc: Global,
     bench: &mut Bench,
     case: &Case,
-    placer: &Placer<F>,
-) -> Option<&'static str>
-where
-    F: Fn(u32, &[DriveLoad]) -> Result<Numbers, Memory>,
-    requires { IsPlacer F.Fn placer.now }
-{
+    placer: &FirstOnline,
+) -> Option<&'static str> {
     let (_, file, starts, steps) = *case;
     if !begins(alloc, bench, setup_of(file), placer) {
         return Some("a file");
@@ -311,11 +272,7 @@ where
 }
 
 // The same on a server of its own.
-fn other_in<F>(alloc: Global, case: &Case, placer: &Placer<F>) -> Option<&'static str>
-where
-    F: Fn(u32, &[DriveLoad]) -> Result<Numbers, Memory>,
-    requires { IsPlacer F.Fn placer.now }
-{
+fn other_in(alloc: Global, case: &Case, placer: &FirstOnline) -> Option<&'static str> {
     match new_bench(alloc) {
         Ok(mut bench) => other_of(alloc, &mut bench, case, placer),
         Err(_) => Some("a server"),
@@ -324,12 +281,7 @@ where
 
 // The same with the rule by which the tests place components.
 fn other_of_case(alloc: Global, case: &Case) -> Option<&'static str> {
-    let placer = Placer::new(
-        |count: u32, loads: &[DriveLoad]| -> Result<Numbers, Memory>
-            requires { CanPlace count loads.now }
-            ensures { ForOk result (Places count loads.now) }
-        { first_online(alloc, count, loads) },
-    );
+    let placer = FirstOnline { alloc };
     other_in(alloc, case, &placer)
 }
 

@@ -189,11 +189,38 @@ read 0 4
   asks 16 f5 to read 0+4
 grant 16 7 13 0 24 read
   badlayout credential
-file 3 4 0 0 0 1 hh-
+file 3 4 0 0 0 1 lll
 read 0 4
   asks 17 f5 to read 0+4
-grant 17 7 13 0 24 rw
+grant 17 7 13 0 24 read
   badlayout credential
+file 3 4 0 0 0 1 ccc
+read 0 4
+  asks 18 f5 to read 0+4
+grant 18 7 13 0 24 read
+  badlayout credential
+file 3 4 0 0 0 1 hh-
+read 0 4
+  asks 19 f5 to read 0+4
+grant 19 7 13 0 24 rw
+  badlayout credential
+file 3 4 0 0 0 1 hhh
+write 0 x7a
+  asks 20 f5 to write 0+1
+grant 20 7 13 0 24 read
+  badlayout unreadable
+# a missing component is no reason against a read, nor against a write that its parity covers
+file 1 4 0 0 0 1 -
+read 0 4
+  asks 1 f5 to read 0+4
+grant 1 7 13 0 24 read
+  lost 0
+# one layout for each format of capabilities
+file 3 4 0 0 0 1 nnn
+read 0 4
+  asks 1 f5 to read 0+4
+grant 1 7 13 0 24 read
+  reads d10 0+4 7.1
 ";
 
 #[test]

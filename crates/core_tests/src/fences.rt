@@ -1,7 +1,7 @@
-use osd_capability::Capability;
-use osd_commands::{Action, Command, Reply};
+// A fence by itself.
+use osd_commands::Reply;
 use osd_lists::{Bytes, Numbers};
-use recall_fence::{Fence, FenceErr, ObjectPlace};
+use recall_fence::Fence;
 use server_rules::{OTHER_TAG, PERFORMED};
 use std::alloc::Global;
 
@@ -65,62 +65,4 @@ fn waits_for(alloc: Global, present: &[u32]) -> bool {
 #[test]
 fn a_fence_waits_for_those_neither_done_nor_dropped(rt: HostRuntime) {
     assert!(rt; waits_for(rt.alloc(), &[0, 2, 3]));
-}
-
-fn refusal(alloc: Global, tag: u32) -> Option<FenceErr> {
-    match Fence::start(alloc, 0, Numbers::new(alloc), tag) {
-        Ok(_) => None,
-        Err(e) => Some(e),
-    }
-}
-
-#[test]
-fn the_greatest_tag_is_not_raised(rt: HostRuntime) {
-    assert!(rt; refusal(rt.alloc(), u32::MAX) == Some(FenceErr::TagsSpent));
-    assert!(rt; refusal(rt.alloc(), u32::MAX - 1).is_none());
-}
-
-fn raises(alloc: Global, fence: &Fence, format: u8) -> bool {
-    let at = ObjectPlace {
-        drive: 3,
-        partition: 65_539,
-        object: 65_540,
-    };
-    let want = Command {
-        action: Action::SetTag,
-        partition: 65_539,
-        object: 65_540,
-        offset: 0,
-        length: 0,
-        nonce: 9,
-        attribute: 0,
-        capability: Capability {
-            format,
-            key_version: 1,
-            rights: 63,
-            expiry: u64::MAX,
-            grant: 0,
-            holder: u32::MAX,
-            tag: 7,
-            partition: 65_539,
-            object: 65_540,
-            range_start: 0,
-            range_len: u64::MAX,
-        },
-        payload: Bytes::new(alloc),
-        check: [0; 32],
-    };
-    fence.command(2, at, 9, format) == want
-}
-
-fn sends_set_tag(alloc: Global) -> bool {
-    match Fence::start(alloc, 0, Numbers::new(alloc), 7) {
-        Ok(fence) => raises(alloc, &fence, 1) && raises(alloc, &fence, 2),
-        Err(_) => false,
-    }
-}
-
-#[test]
-fn a_fence_sends_set_tag_with_all_rights(rt: HostRuntime) {
-    assert!(rt; sends_set_tag(rt.alloc()));
 }

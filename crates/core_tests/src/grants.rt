@@ -1,5 +1,5 @@
-use grant_table::{Admit, Grant, GrantErr, Grants, Slot, conflicts};
-use osd_lists::Bytes;
+// The grants of all files in one table, which no server keeps so.
+use grant_table::{Grant, GrantErr, Grants};
 use std::alloc::Global;
 
 // A grant's number and client, whether it writes and extends, its first stripe and the one behind its last.
@@ -18,43 +18,6 @@ fn grant(file: u32, row: Row) -> Grant {
         end,
         expiry: 90,
     }
-}
-
-// Two grants, and whether they conflict.
-const PAIRS: &[(Row, Row, bool)] = &[
-    // Two writers on one stripe, on neighbours, and apart.
-    ((1, 0, true, false, 0, 1), (2, 1, true, false, 0, 1), true),
-    ((1, 0, true, false, 0, 1), (2, 1, true, false, 1, 2), false),
-    ((1, 0, true, false, 0, 4), (2, 1, true, false, 3, 9), true),
-    // A reader beside a writer, and two readers.
-    ((1, 0, false, false, 0, 4), (2, 1, true, false, 3, 9), true),
-    (
-        (1, 0, false, false, 0, 4),
-        (2, 1, false, false, 3, 9),
-        false,
-    ),
-    // An extending one, wherever it lies, and one of the same client.
-    ((1, 0, true, true, 7, 8), (2, 1, false, false, 0, 1), true),
-    ((1, 0, true, true, 0, 4), (2, 0, true, true, 0, 4), false),
-];
-
-fn is_pair(one: Row, other: Row, want: bool) -> bool {
-    let (a, b) = (grant(0, one), grant(0, other));
-    conflicts(&a, &b) == want && conflicts(&b, &a) == want
-}
-
-fn are_pairs(pairs: &[(Row, Row, bool)]) -> bool {
-    for (one, other, want) in pairs {
-        if !is_pair(*one, *other, *want) {
-            return false;
-        }
-    }
-    true
-}
-
-#[test]
-fn grants_conflict_by_whole_stripes(rt: HostRuntime) {
-    assert!(rt; are_pairs(PAIRS));
 }
 
 // The file of a grant that is added, the grant, and why it is refused.
@@ -151,53 +114,4 @@ fn empty_table_does(alloc: Global) -> bool {
 #[test]
 fn a_table_takes_grants_that_fit(rt: HostRuntime) {
     assert!(rt; empty_table_does(rt.alloc()));
-}
-
-// Requests by their numbers, and what the slot says of each.
-const REQUESTS: &[(u32, Admit)] = &[
-    (0, Admit::Misordered { expected: 1 }),
-    (2, Admit::Misordered { expected: 1 }),
-    (1, Admit::New),
-    (1, Admit::Again),
-    (3, Admit::Misordered { expected: 2 }),
-    (2, Admit::New),
-    (1, Admit::Misordered { expected: 3 }),
-    (2, Admit::Again),
-    (u32::MAX, Admit::Misordered { expected: 3 }),
-];
-
-// Keeps an answer to a request that is new.
-fn keep_new(alloc: Global, slot: &mut Slot, sequence: u32) {
-    match Bytes::copied(alloc, &[u8::try_from(sequence).unwrap_or(0)]) {
-        Ok(answer) => match slot.admit(sequence) {
-            Admit::New => slot.keep(sequence, answer),
-            _ => {}
-        },
-        Err(_) => {}
-    }
-}
-
-fn admits(alloc: Global, slot: &mut Slot, sequence: u32, want: Admit) -> bool {
-    let is_so = slot.admit(sequence) == want;
-    keep_new(alloc, slot, sequence);
-    is_so
-}
-
-fn admits_all(alloc: Global, slot: &mut Slot) -> bool {
-    for (sequence, want) in REQUESTS.iter() {
-        if !admits(alloc, slot, *sequence, *want) {
-            return false;
-        }
-    }
-    slot.kept() == b"\x02".as_slice()
-}
-
-fn empty_slot_admits_all(alloc: Global) -> bool {
-    let mut slot = Slot::new(alloc);
-    admits_all(alloc, &mut slot)
-}
-
-#[test]
-fn a_slot_takes_each_number_once(rt: HostRuntime) {
-    assert!(rt; empty_slot_admits_all(rt.alloc()));
 }

@@ -18,8 +18,6 @@ mod fences;
 #[cfg(test)]
 mod formats;
 #[cfg(test)]
-mod grant_layouts;
-#[cfg(test)]
 mod grants;
 #[cfg(test)]
 mod jobs;
@@ -32,15 +30,11 @@ mod placing;
 #[cfg(test)]
 mod reads;
 #[cfg(test)]
-mod rebuilds;
-#[cfg(test)]
 mod recalls;
 #[cfg(test)]
 mod refusals;
 #[cfg(test)]
 mod refused;
-#[cfg(test)]
-mod repairs;
 #[cfg(test)]
 mod reports;
 #[cfg(test)]

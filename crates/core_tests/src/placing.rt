@@ -6,7 +6,7 @@ ghost use Rattle.core_tests.specs.Choosing.{with_load};
 
 use osd_lists::{Memory, Numbers};
 use std::alloc::Global;
-use stripe_repair::DriveLoad;
+use stripe_repair::{DriveLoad, Place};
 
 // The drive of a load too, where it is online and more are wanted.
 fn take(chosen: &mut Numbers, count: u32, load: &DriveLoad) -> Result<(), Memory>
@@ -18,8 +18,8 @@ fn take(chosen: &mut Numbers, count: u32, load: &DriveLoad) -> Result<(), Memory
     Ok(())
 }
 
-/// So many of the first online drives.
-pub fn first_online(alloc: Global, count: u32, loads: &[DriveLoad]) -> Result<Numbers, Memory>
+// So many of the first online drives.
+fn first_online(alloc: Global, count: u32, loads: &[DriveLoad]) -> Result<Numbers, Memory>
     requires { CanPlace count loads.now }
     ensures { ForOk result (Places count loads.now) }
 {
@@ -28,4 +28,16 @@ pub fn first_online(alloc: Global, count: u32, loads: &[DriveLoad]) -> Result<Nu
         take(&mut chosen, count, load)?;
     }
     Ok(chosen)
+}
+
+/// That rule.
+#[derive(Clone, Copy)]
+pub struct FirstOnline {
+    pub alloc: Global,
+}
+
+impl Place for FirstOnline {
+    fn place(&self, count: u32, loads: &[DriveLoad]) -> Result<Numbers, Memory> {
+        first_online(self.alloc, count, loads)
+    }
 }

@@ -36,8 +36,8 @@ pub struct Setting<'a> {
     /// Components, unit, width, depth, mirrors and algorithm.
     pub map: [u32; NUMBERS],
     /// How each component is listed, by its letter: `h` here, `-` missing, `o` on a drive that speaks OSD-1, `f` on a
-    /// drive that no client knows, `s` with a key that is encrypted, `k` with a key of 19 bytes, `n` with a capability
-    /// of format 2 and its key.
+    /// drive that no client knows, `s` with a key that is encrypted, `k` with a key of 19 bytes, `l` with one of 32,
+    /// `c` with a capability of 95 bytes, `n` with a capability of format 2 and its key.
     pub letters: &'a str,
     /// The number of the first of them.
     pub index: u32,
@@ -117,8 +117,8 @@ struct Listing {
     security: u32,
     key_bytes: u32,
     key: &'static [u32],
-    // What the capability begins with: its format, and key version 1. None where the component is missing.
-    head: Option<u32>,
+    // What the capability begins with: its length, and its format with key version 1. None where the component is missing.
+    head: Option<[u32; 2]>,
 }
 
 const HERE: Listing = Listing {
@@ -126,7 +126,7 @@ const HERE: Listing = Listing {
     security: 0,
     key_bytes: 20,
     key: KEY,
-    head: Some(0x0100_0001),
+    head: Some([96, 0x0100_0001]),
 };
 
 fn listing_of(letter: u8) -> Listing {
@@ -148,10 +148,20 @@ fn listing_of(letter: u8) -> Listing {
             key: SHORT_KEY,
             ..HERE
         },
+        b'l' => Listing {
+            key_bytes: 32,
+            key: LONG_KEY,
+            ..HERE
+        },
+        // Its last byte is 0, as the padding is.
+        b'c' => Listing {
+            head: Some([95, 0x0100_0001]),
+            ..HERE
+        },
         b'n' => Listing {
             key_bytes: 32,
             key: LONG_KEY,
-            head: Some(0x0200_0001),
+            head: Some([96, 0x0200_0001]),
             ..HERE
         },
         _ => HERE,
@@ -160,12 +170,13 @@ fn listing_of(letter: u8) -> Listing {
 
 // A capability for 1,024 bytes of an object with tag 2, until second 100; its length first.
 #[rattlefmt::skip]
-fn capability(head: u32, drive: u32, object: u32, grant: &Grant, start: u32) -> [u32; 25] {
+fn capability(head: [u32; 2], drive: u32, object: u32, grant: &Grant, start: u32) -> [u32; 25] {
     let rights = if grant.rw { 6 } else { 2 };
     let partition = FIRST_PARTITION.wrapping_add(drive);
+    let [size, begin] = head;
     [
-        96,
-        head,
+        size,
+        begin,
         rights,
         0,
         100,

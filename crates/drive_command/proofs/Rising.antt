@@ -6,7 +6,8 @@ use Rattle.osd_bytes.specs.declared.serve_err.ServeErr.{ServeErr}
 use Rattle.osd_bytes.specs.declared.serve_err.ServeErr.TheVariants.{LinkFault as NoConnection, Memory as NoMemory}
 use Rattle.osd_drive.specs.State.{DriveState}
 use Rattle.drive_command.specs.Connections.{Ends, IsRefused, ServesEach}
-use Rattle.drive_command.specs.Ends.{StopsAccepting, stop_of_serving}
+use Rattle.cluster_text.specs.Lines.{stop_of_serving}
+use Rattle.drive_command.specs.Ends.{StopsAccepting}
 
 no_fewer : (n : ℕ) (old new : DriveState) (a b : Ends) → ServesEach n old new a b → a.faults.listening ≤ b.faults.listening
 no_fewer zero old new a b s = omega (arith, ap (λ (e : Ends). e.faults.listening) s.1)

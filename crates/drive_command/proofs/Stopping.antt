@@ -6,7 +6,8 @@ use Rattle.cluster_text.specs.Inputs.{GivesCluster}
 use Rattle.cluster_text.specs.declared.stop.CommandStop.{CommandStop}
 use Rattle.cluster_text.specs.declared.stop.CommandStop.TheVariants.{BadCluster, ReadFault, WriteFault, Memory, Full, LinkFault}
 use Rattle.drive_command.specs.Connections.{Ends}
-use Rattle.drive_command.specs.Ends.{StopsDrive, StopsIn, Streams}
+use Rattle.cluster_text.specs.Outside.{Streams}
+use Rattle.drive_command.specs.Ends.{StopsDrive, StopsIn}
 use Rattle.drive_command.proofs.Described.{described}
 
 module _ (number connections : ℕ) (in_before in_now : Streams) (before now : Ends) where

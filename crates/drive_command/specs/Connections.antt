@@ -4,6 +4,8 @@ use Rattle.osd_bytes.specs.Clocks.{TellsTime}
 use Rattle.osd_bytes.specs.Causes.{Rose}
 use Rattle.osd_bytes.specs.Connections.{Traffic, Accepts, after_notes}
 use Rattle.osd_bytes.specs.Counts.{Faults, NoFewer}
+use Rattle.osd_bytes.specs.declared.clock.Clock.{Ghosts as ClockGhosts}
+use Rattle.osd_bytes.specs.declared.links.Links.{Ghosts as LinksGhosts}
 use Rattle.osd_bytes.specs.Records.{framed, fresh, records_of, split}
 use Rattle.osd_bytes.specs.declared.records.TheConstants.{MAX_RECORD}
 use Rattle.osd_commands.specs.Replies.{spelling}
@@ -27,6 +29,14 @@ ends_at told faults times last = record { told = told; faults = faults; times = 
 -- before any refusal was told
 abbrev pub ends_of : Option Traffic → Faults → Option (List ℕ) → Ends
 ends_of told faults times = ends_at told faults times None
+
+-- of links and a clock, before any refusal was told
+abbrev pub network_at : {A B : Type 0} → LinksGhosts A → ClockGhosts B → (links : A) → (clock : B) → Ends
+network_at l c links clock = ends_of (l.told links) (l.faults links) (c.times clock)
+
+-- of links and a clock, where a refusal was told last in this second
+abbrev pub network_since : {A B : Type 0} → LinksGhosts A → ClockGhosts B → (links : A) → (clock : B) → Option ℕ → Ends
+network_since l c links clock last = ends_at (l.told links) (l.faults links) (c.times clock) last
 
 -- a record, and when it was handled
 pub record Handled : Type 0 where

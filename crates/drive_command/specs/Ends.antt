@@ -1,38 +1,19 @@
 -- What the command of a drive leaves, and why it stops.
-use Rattle.std.specs.Prelude.{◌≡◌, ◌⊎◌, ℕ, List, [], ◌∷◌, ◌++◌, take, codes, ⊤, Option, Some, None}
-use Rattle.std.specs.Fmt.{decimal}
+use Rattle.std.specs.Prelude.{◌≡◌, ◌⊎◌, ℕ, List, ◌++◌, take, ⊤, Option, Some, None}
 use Rattle.std.specs.Io.KnownBytes.{Appends}
 use Rattle.osd_bytes.specs.Causes.{Rose}
 use Rattle.cluster_text.specs.declared.cluster.Cluster.{Cluster}
 use Rattle.cluster_text.specs.declared.cluster.Reader.TheVariants.{Drive}
 use Rattle.cluster_text.specs.declared.errors.ClusterKind.TheVariants.{Missing}
 use Rattle.cluster_text.specs.Inputs.{GivesCluster, RefusesCluster, IsTooLong}
-use Rattle.cluster_text.specs.Lines.{PutsLine, stop_line}
+use Rattle.cluster_text.specs.Lines.{PutsLine, listening_line, served_line, stop_line}
+use Rattle.cluster_text.specs.Outside.{Streams}
 use Rattle.cluster_text.specs.declared.stop.CommandStop.{CommandStop}
 use Rattle.cluster_text.specs.declared.stop.CommandStop.TheVariants.{BadCluster, ReadFault, WriteFault, Memory}
 use Rattle.cluster_text.specs.declared.stop.CommandStop.TheVariants.{Full, LinkFault}
-use Rattle.osd_bytes.specs.declared.serve_err.ServeErr.{ServeErr}
-use Rattle.osd_bytes.specs.declared.serve_err.ServeErr.TheVariants.{LinkFault as NoConnection, Memory as NoMemory}
 use Rattle.osd_drive.specs.State.{DriveState}
 use Rattle.drive_command.specs.Connections.{Ends, ServesAll}
 use Rattle.drive_command.specs.Own.{core_in}
-
--- the bytes that the source has left and that the sink has taken, where they tell them, and the counts of their faults
-pub record Streams : Type 0 where
-  pub left : Option (List ℕ)
-  pub reads_failed : ℕ
-  pub taken : Option (List ℕ)
-  pub writes_failed : ℕ
-
-abbrev pub streams : Option (List ℕ) → ℕ → Option (List ℕ) → ℕ → Streams
-streams left reads_failed taken writes_failed =
-    record { left = left; reads_failed = reads_failed; taken = taken; writes_failed = writes_failed }
-
-abbrev pub listening_line : List ℕ
-listening_line = codes "listening\n"
-
-abbrev pub served_line : ℕ → List ℕ
-served_line connections = codes "served " ++ (decimal connections ++ (10 ∷ []))
 
 -- ---- serving over links that listen
 
@@ -41,10 +22,6 @@ pub record Serves (connections : ℕ) (old new : DriveState) (before now : Ends)
     : Type 0 where
   pub served : ServesAll connections old new before now
   pub told : Appends taken_before taken (listening_line ++ served_line connections)
-
-abbrev pub stop_of_serving : ServeErr → CommandStop
-stop_of_serving NoConnection = LinkFault
-stop_of_serving NoMemory = Memory
 
 -- why no more were accepted
 abbrev pub StopsAccepting : (before now : Ends) → CommandStop → Type 0

@@ -1,14 +1,15 @@
 ghost use Rattle.std.specs.Prelude.{◌≡◌, IfErr, OnOk};
-ghost use Rattle.drive_command.specs.Connections.{ends_of};
-ghost use Rattle.drive_command.specs.Ends.{EndsDrive, ServesAs, ServesIn, StopsDrive, StopsIn, streams};
+ghost use Rattle.drive_command.specs.Connections.{network_at};
+ghost use Rattle.cluster_text.specs.Outside.{streams_at};
+ghost use Rattle.drive_command.specs.Ends.{EndsDrive, ServesAs, ServesIn, StopsDrive, StopsIn};
 
 use crate::own::{new_core, own_drive};
-use crate::serving::serve_core;
+use crate::service::serve_core;
 use cluster_text::{Cluster, ClusterKind, CommandStop, Reader, cluster_from, put_stop, settle_at};
 use osd_bytes::{Clock, Links, Sink, Source};
 use std::alloc::Global;
 
-// Serves so many connections as the drive of a number of a cluster.
+// Serves so many connections as the drive of this number, in a cluster that was read.
 fn serve_in<K: Sink, L: Links, C: Clock>(
     alloc: Global,
     cluster: &Cluster,
@@ -19,12 +20,10 @@ fn serve_in<K: Sink, L: Links, C: Clock>(
     clock: &mut C,
 ) -> Result<(), CommandStop>
     ensures serves { OnOk result (ServesIn number connections cluster.now
-        (ends_of (L.told links.old) (L.faults links.old) (C.times clock.old))
-        (ends_of (L.told links.new) (L.faults links.new) (C.times clock.new))
+        (network_at L.Links C.Clock links.old clock.old) (network_at L.Links C.Clock links.new clock.new)
         (K.taken sink.old) (K.taken sink.new)) }
     ensures stops { IfErr result (StopsIn number connections cluster.now
-        (ends_of (L.told links.old) (L.faults links.old) (C.times clock.old))
-        (ends_of (L.told links.new) (L.faults links.new) (C.times clock.new))
+        (network_at L.Links C.Clock links.old clock.old) (network_at L.Links C.Clock links.new clock.new)
         (K.taken sink.old) (K.taken sink.new) (K.faults sink.old) (K.faults sink.new)) }
 {
     let Some(drive) = own_drive(cluster.drives.as_slice(), number) else {
@@ -33,6 +32,7 @@ fn serve_in<K: Sink, L: Links, C: Clock>(
     let Some(key) = drive.key else {
         return Err(CommandStop::BadCluster(ClusterKind::Missing));
     };
+    // Here and below, arms in place of `?` or of the bare call are for the prover (docs/PROVER_FORMS.md).
     match settle_at(alloc, links, cluster, drive.address.as_slice()) {
         Ok(()) => {}
         Err(stop) => return Err(stop),
@@ -44,7 +44,7 @@ fn serve_in<K: Sink, L: Links, C: Clock>(
     }
 }
 
-// The command without the line that tells why it stopped.
+// Serves as the drive of the cluster that the source describes. A stop isn't told here.
 fn serve_cluster<S: Source, K: Sink, L: Links, C: Clock>(
     alloc: Global,
     number: u32,
@@ -55,15 +55,11 @@ fn serve_cluster<S: Source, K: Sink, L: Links, C: Clock>(
     clock: &mut C,
 ) -> Result<(), CommandStop>
     ensures serves { OnOk result (ServesAs number connections
-        (streams (S.left source.old) (S.faults source.old) (K.taken sink.old) (K.faults sink.old))
-        (streams (S.left source.new) (S.faults source.new) (K.taken sink.new) (K.faults sink.new))
-        (ends_of (L.told links.old) (L.faults links.old) (C.times clock.old))
-        (ends_of (L.told links.new) (L.faults links.new) (C.times clock.new))) }
+        (streams_at S.Source K.Sink source.old sink.old) (streams_at S.Source K.Sink source.new sink.new)
+        (network_at L.Links C.Clock links.old clock.old) (network_at L.Links C.Clock links.new clock.new)) }
     ensures stops { IfErr result (StopsDrive number connections
-        (streams (S.left source.old) (S.faults source.old) (K.taken sink.old) (K.faults sink.old))
-        (streams (S.left source.new) (S.faults source.new) (K.taken sink.new) (K.faults sink.new))
-        (ends_of (L.told links.old) (L.faults links.old) (C.times clock.old))
-        (ends_of (L.told links.new) (L.faults links.new) (C.times clock.new))) }
+        (streams_at S.Source K.Sink source.old sink.old) (streams_at S.Source K.Sink source.new sink.new)
+        (network_at L.Links C.Clock links.old clock.old) (network_at L.Links C.Clock links.new clock.new)) }
 {
     let cluster = match cluster_from(alloc, Reader::Drive(number), source) {
         Ok(cluster) => cluster,
@@ -81,8 +77,8 @@ fn serve_cluster<S: Source, K: Sink, L: Links, C: Clock>(
 ///
 /// # Errors
 ///
-/// [`CommandStop::BadCluster`] exactly where the text is refused; [`CommandStop::ReadFault`];
-/// [`CommandStop::Full`] exactly where the text passes 67,108,864 bytes; [`CommandStop::LinkFault`] where the
+/// [`CommandStop::BadCluster`] exactly if the text is refused; [`CommandStop::ReadFault`];
+/// [`CommandStop::Full`] exactly if the text passes 67,108,864 bytes; [`CommandStop::LinkFault`] if the
 /// links couldn't be settled or no further connection accepted; [`CommandStop::WriteFault`];
 /// [`CommandStop::Memory`].
 pub fn drive_command<S: Source, K: Sink, L: Links, C: Clock>(
@@ -95,15 +91,11 @@ pub fn drive_command<S: Source, K: Sink, L: Links, C: Clock>(
     clock: &mut C,
 ) -> Result<(), CommandStop>
     ensures serves { OnOk result (ServesAs number connections
-        (streams (S.left source.old) (S.faults source.old) (K.taken sink.old) (K.faults sink.old))
-        (streams (S.left source.new) (S.faults source.new) (K.taken sink.new) (K.faults sink.new))
-        (ends_of (L.told links.old) (L.faults links.old) (C.times clock.old))
-        (ends_of (L.told links.new) (L.faults links.new) (C.times clock.new))) }
+        (streams_at S.Source K.Sink source.old sink.old) (streams_at S.Source K.Sink source.new sink.new)
+        (network_at L.Links C.Clock links.old clock.old) (network_at L.Links C.Clock links.new clock.new)) }
     ensures stops { IfErr result (EndsDrive number connections
-        (streams (S.left source.old) (S.faults source.old) (K.taken sink.old) (K.faults sink.old))
-        (streams (S.left source.new) (S.faults source.new) (K.taken sink.new) (K.faults sink.new))
-        (ends_of (L.told links.old) (L.faults links.old) (C.times clock.old))
-        (ends_of (L.told links.new) (L.faults links.new) (C.times clock.new))) }
+        (streams_at S.Source K.Sink source.old sink.old) (streams_at S.Source K.Sink source.new sink.new)
+        (network_at L.Links C.Clock links.old clock.old) (network_at L.Links C.Clock links.new clock.new)) }
 {
     match serve_cluster(alloc, number, connections, source, sink, links, clock) {
         Ok(()) => Ok(()),

@@ -1,6 +1,7 @@
 ghost use Rattle.std.specs.Prelude.{◌≡◌, List, IfOk, IsErrOf, OnOk};
 ghost use Rattle.osd_bytes.specs.declared.serve_err.ServeErr.TheVariants.{LinkFault};
-ghost use Rattle.drive_command.specs.Connections.{Answers, Handled, IsRefused, ServesAll, ServesConnection, ServesMore, after_all, ends_at, ends_of};
+ghost use Rattle.drive_command.specs.Connections.{Answers, Handled, IsRefused, ServesAll, ServesConnection, ServesMore};
+ghost use Rattle.drive_command.specs.Connections.{after_all, network_at, network_since};
 
 use crate::refusals::tell_refusal;
 use osd_bytes::{Clock, Inbox, Links, ServeErr, put_record};
@@ -9,8 +10,8 @@ use osd_drive::DriveCore;
 use osd_lists::{ByteLists, Memory};
 use std::alloc::Global;
 
-// Handles a record at the next time, tells where it refused it, and puts its reply where the connection still
-// stands. Gives whether it stands now.
+// Handles a record at the next time of the clock, tells of it if the drive refused it, and puts the reply if the
+// connection still stands. Gives whether the connection stands after that.
 fn answer_record<L: Links, C: Clock>(
     alloc: Global,
     core: &mut DriveCore,
@@ -21,8 +22,8 @@ fn answer_record<L: Links, C: Clock>(
     puts: bool,
 ) -> Result<bool, Memory>
     ensures answers { IfOk result (λ still. Answers puts still core.old core.new
-        (ends_at (L.told links.old) (L.faults links.old) (C.times clock.old) last.old)
-        (ends_at (L.told links.new) (L.faults links.new) (C.times clock.new) last.new) message.now) }
+        (network_since L.Links C.Clock links.old clock.old last.old)
+        (network_since L.Links C.Clock links.new clock.new last.new) message.now) }
     ensures state { (handled : List Handled) × (core.new ≡ after_all core.old handled) }
     ensures standing { L.standing links.new ≡ L.standing links.old }
 {
@@ -38,7 +39,7 @@ fn answer_record<L: Links, C: Clock>(
     Ok(stands)
 }
 
-// Handles these records in order. Tells whether the connection still stands.
+// Handles these records in order. Gives whether the connection stands after them.
 fn answer_all<L: Links, C: Clock>(
     alloc: Global,
     core: &mut DriveCore,
@@ -49,8 +50,8 @@ fn answer_all<L: Links, C: Clock>(
     puts: bool,
 ) -> Result<bool, Memory>
     ensures serves { IfOk result (λ still. ServesMore puts still core.old core.new
-        (ends_at (L.told links.old) (L.faults links.old) (C.times clock.old) last.old)
-        (ends_at (L.told links.new) (L.faults links.new) (C.times clock.new) last.new) records.now) }
+        (network_since L.Links C.Clock links.old clock.old last.old)
+        (network_since L.Links C.Clock links.new clock.new last.new) records.now) }
     ensures state { (handled : List Handled) × (core.new ≡ after_all core.old handled) }
     ensures standing { L.standing links.new ≡ L.standing links.old }
 {
@@ -78,8 +79,8 @@ fn serve_connection<L: Links, C: Clock>(
     last: &mut Option<u64>,
 ) -> Result<(), Memory>
     ensures serves { OnOk result (ServesConnection core.old core.new
-        (ends_at (L.told links.old) (L.faults links.old) (C.times clock.old) last.old)
-        (ends_at (L.told links.new) (L.faults links.new) (C.times clock.new) last.new)) }
+        (network_since L.Links C.Clock links.old clock.old last.old)
+        (network_since L.Links C.Clock links.new clock.new last.new)) }
     ensures state { (handled : List Handled) × (core.new ≡ after_all core.old handled) }
     ensures standing { L.standing links.new ≡ L.standing links.old }
 {
@@ -97,15 +98,16 @@ fn serve_connection<L: Links, C: Clock>(
 
 /// Accepts so many connections, one after the other, and serves each: every whole record that
 /// comes is handled at the next time of the clock and its reply put, up to the connection's end, a
-/// call on it that fails, a record that is too long, or 67,108,864 bytes. Where a reply couldn't be
-/// put whole, the records after it are handled without an answer.
+/// call on it that fails, a record that is too long, or 67,108,864 bytes. If a reply couldn't be put
+/// whole, the records after it are handled without an answer.
 ///
-/// A record that is refused, neither performed nor performed before, is told whoever watches the links in a line, but
-/// at most one in a second: in a later one than the line before, by the times at which records were handled.
+/// Whoever watches the links is told in a line of a command that the drive refused, which means that it was neither
+/// performed nor performed before. There is at most one such line in a second, by the times at which records were
+/// handled.
 ///
 /// # Errors
 ///
-/// [`ServeErr::LinkFault`] where no further connection could be accepted, after those before it were
+/// [`ServeErr::LinkFault`] if no further connection could be accepted, after those before it were
 /// served whole; [`ServeErr::Memory`]. The drive then is as the handled records leave it.
 pub fn serve<L: Links, C: Clock>(
     alloc: Global,
@@ -115,11 +117,9 @@ pub fn serve<L: Links, C: Clock>(
     connections: u32,
 ) -> Result<(), ServeErr>
     ensures served { OnOk result (ServesAll connections core.old core.new
-        (ends_of (L.told links.old) (L.faults links.old) (C.times clock.old))
-        (ends_of (L.told links.new) (L.faults links.new) (C.times clock.new))) }
+        (network_at L.Links C.Clock links.old clock.old) (network_at L.Links C.Clock links.new clock.new)) }
     ensures refused { IsErrOf result LinkFault → IsRefused connections core.old core.new
-        (ends_of (L.told links.old) (L.faults links.old) (C.times clock.old))
-        (ends_of (L.told links.new) (L.faults links.new) (C.times clock.new)) }
+        (network_at L.Links C.Clock links.old clock.old) (network_at L.Links C.Clock links.new clock.new) }
     ensures state { (handled : List Handled) × (core.new ≡ after_all core.old handled) }
 {
     let mut last = None;

@@ -6,7 +6,7 @@ mod command;
 mod connections;
 mod own;
 mod refusals;
-mod serving;
+mod service;
 
 pub use command::drive_command;
 pub use connections::serve;

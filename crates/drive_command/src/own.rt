@@ -13,14 +13,14 @@ use std::alloc::Global;
 /// The version of the key that a cluster text gives a drive.
 pub const KEY_VERSION: u16 = 1;
 
-// The drive of a number.
+// The drive of this number.
 pub(crate) fn own_drive(drives: &[ClusterDrive], number: u32) -> Option<&ClusterDrive>
     ensures { option_map (λ d. d.now) result ≡ find (λ d. nat_eq d.number number) drives.now }
 {
     drives.iter().find(|drive| drive.number == number)
 }
 
-// The drive without objects.
+// A drive without objects that has this one key.
 pub(crate) fn new_core(
     alloc: Global,
     number: u32,

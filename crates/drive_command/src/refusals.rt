@@ -48,7 +48,7 @@ fn refusal_line(alloc: Global, drive: u32, reply: &Reply) -> Result<String, Memo
     )?)
 }
 
-// Whether a time is in a later second than that of the newest line, where there is one.
+// Whether a time is in a later second than the newest line. It is if there was no line.
 fn is_later(last: Option<u64>, time: u64) -> bool
     ensures { result ≡ is_later last time }
 {
@@ -58,7 +58,7 @@ fn is_later(last: Option<u64>, time: u64) -> bool
     }
 }
 
-// Whether a reply at this time is told: the command was refused.
+// Whether a reply at this time is told of: it refuses its command, and no line was told in this second.
 fn is_told(last: Option<u64>, time: u64, reply: &Reply) -> bool
     ensures { result ≡ is_told last time reply.now }
 {

@@ -1,13 +1,11 @@
+//! The field of 256 elements, by values of its tables.
 use gf256::{add, add_scaled, inverse, mul, power};
 
 #[test]
 fn products_and_inverses(rt: HostRuntime) {
-    assert_eq!(rt; mul(2, 0x80), 0x1d);
-    assert_eq!(rt; mul(3, 0xf4), 1);
-    assert_eq!(rt; inverse(2), 0x8e);
-    assert_eq!(rt; inverse(3), 0xf4);
-    assert_eq!(rt; power(8), 0x1d);
-    assert_eq!(rt; power(255), 1);
+    assert!(rt; mul(2, 0x80) == 0x1d && mul(3, 0xf4) == 1);
+    assert!(rt; inverse(2) == 0x8e && inverse(3) == 0xf4);
+    assert!(rt; power(8) == 0x1d && power(255) == 1);
 }
 
 #[test]

@@ -1,3 +1,4 @@
+//! HMAC, by the vectors of the RFCs.
 use crate::hexadecimal::is_hex;
 use hmac_tags::{Hmac, Hmac256};
 use std::alloc::Global;

@@ -1,4 +1,4 @@
-//! Tests of the judge.
+//! The judge over a file's log.
 use file_log::{Entry, judge};
 use osd_lists::Bytes;
 use std::alloc::Global;
@@ -33,6 +33,7 @@ const DONE: &[Case] = &[
 
 const UNFINISHED: &[Row] = &[Row::Done(0, b"xa"), Row::Open(0, b"yb"), Row::Done(0, b"x")];
 
+// An unfinished write's bytes are old or new, once for all.
 const OLD_OR_NEW: &[Case] = &[
     (
         UNFINISHED,
@@ -63,6 +64,7 @@ const OLD_OR_NEW: &[Case] = &[
 
 const LONGER: &[Row] = &[Row::Done(0, b"x"), Row::Open(1, b"a")];
 
+// An answered read settles the size.
 const SIZES: &[Case] = &[
     (
         LONGER,
@@ -179,30 +181,20 @@ fn goes(alloc: Global, case: Case) -> bool {
     is_judged(alloc, &mut log, case)
 }
 
-#[test]
-fn acknowledged_writes_are_read(rt: HostRuntime) {
-    for case in DONE.iter() {
-        assert!(rt; goes(rt.alloc(), *case));
+const TABLES: &[&[Case]] = &[DONE, OLD_OR_NEW, SIZES, MANY_SIZES];
+
+fn all_go(alloc: Global, cases: &[Case]) -> bool {
+    for case in cases {
+        if !goes(alloc, *case) {
+            return false;
+        }
     }
+    true
 }
 
 #[test]
-fn an_unfinished_write_is_old_or_new_once_for_all(rt: HostRuntime) {
-    for case in OLD_OR_NEW.iter() {
-        assert!(rt; goes(rt.alloc(), *case));
-    }
-}
-
-#[test]
-fn an_answered_read_settles_the_size(rt: HostRuntime) {
-    for case in SIZES.iter() {
-        assert!(rt; goes(rt.alloc(), *case));
-    }
-}
-
-#[test]
-fn many_unfinished_writes(rt: HostRuntime) {
-    for case in MANY_SIZES.iter() {
-        assert!(rt; goes(rt.alloc(), *case));
+fn reads_are_judged_by_the_writes_before_them(rt: HostRuntime) {
+    for cases in TABLES.iter() {
+        assert!(rt; all_go(rt.alloc(), cases));
     }
 }

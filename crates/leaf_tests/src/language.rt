@@ -1,172 +1,43 @@
-//! Tests of the language of scenarios and of transcripts.
+//! The language of scenarios and of transcripts: lines as they are read and written, those of transcripts, which the program
+//! only writes, above all.
 use scenario_text::{
     Event, EventErr, Line, read_event, read_line, write_event_line, write_line, write_lines,
 };
 use std::alloc::Global;
 
-// Whether bytes are `= ` and a text.
-fn is_echo(written: &[u8], text: &[u8]) -> bool {
-    match written.strip_prefix(b"= ".as_slice()) {
-        Some(rest) => rest == text,
-        None => false,
-    }
-}
-
-fn is_echoed(alloc: Global, event: &Event, text: &[u8]) -> bool {
-    match write_event_line(alloc, event) {
-        Ok(written) => is_echo(written.as_slice(), text),
-        Err(_) => false,
-    }
-}
-
-fn is_line_of(alloc: Global, line: &Line, text: &[u8]) -> bool {
-    match write_line(alloc, line) {
-        Ok(written) => written.as_slice() == text,
-        Err(_) => false,
-    }
-}
-
-// Whether an event's line is written as `= ` and a text, by either call.
-fn is_written(alloc: Global, event: Event, text: &[u8]) -> bool {
-    if !is_echoed(alloc, &event, text) {
-        return false;
-    }
-    is_line_echoed(alloc, &Line::Event { event }, text)
-}
-
-fn is_line_echoed(alloc: Global, line: &Line, text: &[u8]) -> bool {
-    match write_line(alloc, line) {
-        Ok(written) => is_echo(written.as_slice(), text),
-        Err(_) => false,
-    }
-}
-
-// Whether a line is read, and its event's line written as `= ` and that text.
-fn reads_as(alloc: Global, line: &[u8], text: &[u8]) -> bool {
-    match read_event(alloc, line) {
-        Ok(Some(event)) => is_written(alloc, event, text),
-        _ => false,
-    }
-}
-
-const EVENTS: &[&[u8]] = &[
-    b"drive d0 000102030405060708090a0b0c0d0e0f10111213 18446744073709551615",
-    b"disk d63 000102030405060708090a0b0c0d0e0f10111213 0",
-    b"client c15",
-    b"file f63 4 65536 0 0 4294967295 4 1",
-    b"zfile f0 6 4 0 0 0 4 4294967295",
-    b"zone d1 4294967295",
-    b"least d0 2",
-    b"format s 1",
-    b"do c0 write f0 0 -",
-    b"do c1 read f2 18446744073709551615 0",
-    b"call c0 write f1 5 0aff",
-    b"call c1 read f2 0 1",
-    b"deliver 8",
-    b"drop 18446744073709551615",
-    b"settle",
-    b"resend c1",
-    b"resend s",
-    b"timeout c0 4294967295",
-    b"leave c3",
-    b"inject d2 -",
-    b"clock d1 0",
-    b"clock s 90",
-    b"recall f1",
-    b"revoke f2",
-    b"rebuild f3",
-    b"audit f4",
-    b"declare d5",
-    b"stop c6",
-    b"fail d7",
-    b"crash d8",
-    b"reopen s",
-];
-
-#[test]
-fn each_event_is_read_and_written_again(rt: HostRuntime) {
-    for line in EVENTS.iter() {
-        assert!(rt; reads_as(rt.alloc(), line, line));
-    }
-    assert!(rt; reads_as(rt.alloc(), b"inject d2 0AfF", b"inject d2 0aff"));
-}
-
-// Whether a line is read as no event, or refused so.
-fn is_no_event(alloc: Global, line: &[u8], kind: Option<EventErr>) -> bool {
-    match read_event(alloc, line) {
-        Ok(event) => event.is_none() && kind.is_none(),
-        Err(e) => kind == Some(e),
-    }
-}
-
-#[test]
-fn lines_without_an_event(rt: HostRuntime) {
-    assert!(rt; is_no_event(rt.alloc(), b"", None));
-    assert!(rt; is_no_event(rt.alloc(), b"#", None));
-    assert!(rt; is_no_event(rt.alloc(), b"# drive d0", None));
-}
-
-const REFUSED: &[(&[u8], EventErr)] = &[
-    (b"Client c0", EventErr::UnknownWord),
-    (b" client c0", EventErr::UnknownWord),
-    (b"settled", EventErr::UnknownWord),
-    (b"do c0 append f0 0 00", EventErr::UnknownWord),
-    (b"do c16 append f0 0 00", EventErr::BadName),
-    (b"client", EventErr::Missing),
-    (b"client ", EventErr::BadName),
-    (b"client  c0", EventErr::BadName),
-    (b"client c16", EventErr::BadName),
-    (b"client c01", EventErr::BadName),
-    (b"client c", EventErr::BadName),
-    (b"client d0", EventErr::BadName),
-    (b"client c0 ", EventErr::Extra),
-    (b"client c0 c1", EventErr::Extra),
-    (b"settle s", EventErr::Extra),
-    (b"drive d64 - 5", EventErr::BadName),
-    (b"drive d0 - 5", EventErr::BadHex),
-    (
-        b"drive d0 000102030405060708090a0b0c0d0e0f101112 5",
-        EventErr::BadHex,
-    ),
-    (
-        b"drive d0 000102030405060708090a0b0c0d0e0f10111213 18446744073709551616",
-        EventErr::BadNumber,
-    ),
-    (
-        b"drive d0 000102030405060708090a0b0c0d0e0f10111213 +5 6",
-        EventErr::BadNumber,
-    ),
-    (b"file f0 1 1 0 0 0 0 1", EventErr::BadNumber),
-    (b"file f0 1 1 0 0 0 5 1", EventErr::BadNumber),
-    (b"file f0 1 1 0 0 0 1 0", EventErr::BadNumber),
-    (b"zfile f0 4294967296 1 0 0 0 1 1", EventErr::BadNumber),
-    (b"do c0 write f0 00 0g", EventErr::BadNumber),
-    (b"do c0 write f0 0 0", EventErr::BadHex),
-    (b"do c0 write f0 0 ", EventErr::BadHex),
-    (b"do c0 read f0 0 -", EventErr::BadNumber),
-    (b"least d0 3", EventErr::BadNumber),
-    (b"format d0 1", EventErr::BadName),
-    (b"resend d0", EventErr::BadName),
-    (b"clock c0 1", EventErr::BadName),
-];
-
-#[test]
-fn the_first_wrong_word_decides(rt: HostRuntime) {
-    for (line, kind) in REFUSED.iter() {
-        assert!(rt; is_no_event(rt.alloc(), line, Some(*kind)));
-    }
-}
-
-// Whether a line of a transcript is read and written again the same.
-fn is_read_again(alloc: Global, text: &[u8]) -> bool {
-    match read_line(alloc, text) {
-        Ok(line) => is_line_of(alloc, &line, text),
-        Err(_) => false,
-    }
-}
-
+// Lines of a transcript, with each event.
 const LINES: &[&[u8]] = &[
-    b"= do c0 write f0 0 0aff",
+    b"= drive d0 000102030405060708090a0b0c0d0e0f10111213 18446744073709551615",
+    b"= disk d63 000102030405060708090a0b0c0d0e0f10111213 0",
+    b"= client c15",
+    b"= file f63 4 65536 0 0 4294967295 4 1",
+    b"= zfile f0 6 4 0 0 0 4 4294967295",
+    b"= zone d1 4294967295",
+    b"= least d0 2",
+    b"= format s 1",
+    b"= do c0 write f0 0 -",
+    b"= do c1 read f2 18446744073709551615 0",
+    b"= call c0 write f1 5 0aff",
+    b"= call c1 read f2 0 1",
+    b"= deliver 8",
+    b"= drop 18446744073709551615",
+    b"= settle",
+    b"= resend c1",
+    b"= resend s",
+    b"= timeout c0 4294967295",
+    b"= leave c3",
+    b"= inject d2 -",
+    b"= clock d1 0",
+    b"= clock s 90",
+    b"= recall f1",
+    b"= revoke f2",
+    b"= rebuild f3",
+    b"= audit f4",
+    b"= declare d5",
+    b"= stop c6",
+    b"= fail d7",
+    b"= crash d8",
+    b"= reopen s",
     b"m 0 s d63 00ff",
     b"m 18446744073709551615 c15 s -",
     b"d 7 deaf",
@@ -228,10 +99,61 @@ const LINES: &[&[u8]] = &[
     b"calm no unguessed no",
 ];
 
+// Whether a line is written as this text.
+fn is_line_of(alloc: Global, line: &Line, text: &[u8]) -> bool {
+    match write_line(alloc, line) {
+        Ok(written) => written.as_slice() == text,
+        Err(_) => false,
+    }
+}
+
+fn is_read_again(alloc: Global, text: &[u8]) -> bool {
+    match read_line(alloc, text) {
+        Ok(line) => is_line_of(alloc, &line, text),
+        Err(_) => false,
+    }
+}
+
 #[test]
 fn each_line_is_read_and_written_again(rt: HostRuntime) {
     for line in LINES.iter() {
         assert!(rt; is_read_again(rt.alloc(), line));
+    }
+}
+
+// Lines of which none is one of a transcript, and why.
+#[rattlefmt::skip]
+const WRONG: &[(&[u8], EventErr)] = &[
+    (b"", EventErr::UnknownWord),
+    (b"# note", EventErr::UnknownWord),
+    (b"= do c0 write f0 0 0aFf", EventErr::BadHex),
+    (b"= drive d0 000102030405060708090A0b0c0d0e0f10111213 5", EventErr::BadHex),
+    (b"m 0 s d64 00", EventErr::BadName),
+    (b"o c0 read ok 0A", EventErr::BadHex),
+    (b"o c0 read lost 3,3", EventErr::BadNumber),
+    (b"o c0 read lost 3,", EventErr::BadNumber),
+    (b"o c0 read okay", EventErr::UnknownWord),
+    (b"f f0 refused badmap unit", EventErr::UnknownWord),
+    (b"f f0 refused", EventErr::Missing),
+    (b"d 7 tag", EventErr::Missing),
+    (b"x c0 busy 1", EventErr::Extra),
+    (b"calm", EventErr::Missing),
+    (b"calm maybe unguessed yes", EventErr::UnknownWord),
+    (b"calm yes guessed yes", EventErr::UnknownWord),
+];
+
+// Whether a line of a transcript is refused so.
+fn is_no_line(alloc: Global, text: &[u8], kind: EventErr) -> bool {
+    match read_line(alloc, text) {
+        Ok(_) => false,
+        Err(e) => e == kind,
+    }
+}
+
+#[test]
+fn lines_that_are_none(rt: HostRuntime) {
+    for (text, kind) in WRONG.iter() {
+        assert!(rt; is_no_line(rt.alloc(), text, *kind));
     }
 }
 
@@ -253,51 +175,30 @@ fn give_both(alloc: Global, first: &[u8], last: &[u8], text: &[u8]) -> bool {
     }
 }
 
+// Whether an event is written as this line.
+fn is_line(alloc: Global, event: &Event, line: &[u8]) -> bool {
+    match write_event_line(alloc, event) {
+        Ok(written) => written.as_slice() == line,
+        Err(_) => false,
+    }
+}
+
+fn is_event_of(alloc: Global, text: &[u8], line: &[u8]) -> bool {
+    match read_event(alloc, text) {
+        Ok(Some(event)) => is_line(alloc, &event, line),
+        _ => false,
+    }
+}
+
 #[test]
-fn a_history_has_a_newline_behind_each_line(rt: HostRuntime) {
+fn events_and_histories_are_written(rt: HostRuntime) {
+    assert!(rt; is_event_of(rt.alloc(), b"inject d2 0AfF", b"= inject d2 0aff"));
     assert!(rt;
         give_both(
             rt.alloc(),
             b"t c0 3",
-            b"calm yes unguessed no",
-            b"t c0 3\ncalm yes unguessed no\n"
+            b"f f0 ready",
+            b"t c0 3\nf f0 ready\n"
         )
     );
-}
-
-// Whether a line of a transcript is refused so.
-fn is_no_line(alloc: Global, text: &[u8], kind: EventErr) -> bool {
-    match read_line(alloc, text) {
-        Ok(_) => false,
-        Err(e) => e == kind,
-    }
-}
-
-const WRONG: &[(&[u8], EventErr)] = &[
-    (b"", EventErr::UnknownWord),
-    (b"# note", EventErr::UnknownWord),
-    (b"= do c0 write f0 0 0aFf", EventErr::BadHex),
-    (
-        b"= drive d0 000102030405060708090A0b0c0d0e0f10111213 5",
-        EventErr::BadHex,
-    ),
-    (b"m 0 s d64 00", EventErr::BadName),
-    (b"o c0 read ok 0A", EventErr::BadHex),
-    (b"o c0 read lost 3,3", EventErr::BadNumber),
-    (b"o c0 read lost 3,", EventErr::BadNumber),
-    (b"o c0 read okay", EventErr::UnknownWord),
-    (b"f f0 refused badmap unit", EventErr::UnknownWord),
-    (b"f f0 refused", EventErr::Missing),
-    (b"d 7 tag", EventErr::Missing),
-    (b"x c0 busy 1", EventErr::Extra),
-    (b"calm", EventErr::Missing),
-    (b"calm maybe unguessed yes", EventErr::UnknownWord),
-    (b"calm yes guessed yes", EventErr::UnknownWord),
-];
-
-#[test]
-fn wrong_lines(rt: HostRuntime) {
-    for (text, kind) in WRONG.iter() {
-        assert!(rt; is_no_line(rt.alloc(), text, *kind));
-    }
 }

@@ -1,10 +1,9 @@
-use osd_bytes::{
-    Clock, LineErr, LineReader, MemClock, MemSink, MemSource, PutErr, Sink, Source, put_all,
-};
-use osd_lists::{Bytes, Numbers, Times};
+//! Lines of a source, and bytes into a sink, of which calls fail.
+use osd_bytes::{LineErr, LineReader, MemSink, MemSource, PutErr, Sink, Source, put_all};
+use osd_lists::{Bytes, Numbers};
 use std::alloc::Global;
 
-// The bytes, or none where memory is short.
+/// The bytes, or none where memory is short.
 pub fn copied(alloc: Global, bytes: &[u8]) -> Bytes {
     match Bytes::copied(alloc, bytes) {
         Ok(bytes) => bytes,
@@ -12,15 +11,7 @@ pub fn copied(alloc: Global, bytes: &[u8]) -> Bytes {
     }
 }
 
-/// The bytes with one of them changed, where there is such a one.
-pub fn with_byte(alloc: Global, bytes: &[u8], at: usize, value: u8) -> Bytes {
-    let mut changed = copied(alloc, bytes);
-    if at < changed.len() {
-        *changed.get_mut(at) = value;
-    }
-    changed
-}
-
+/// The numbers, or none where memory is short.
 pub fn numbers(alloc: Global, numbers: &[u32]) -> Numbers {
     match Numbers::copied(alloc, numbers) {
         Ok(numbers) => numbers,
@@ -62,9 +53,6 @@ const LINES: &[Lines] = &[
     (b"ab\n\nc", &[], &[2, 0, 1, 100]),
     (b"ab\n", &[], &[2, 100]),
     (b"a", &[], &[1, 100]),
-];
-
-const FAILING: &[Lines] = &[
     (b"ab\n", &[0], &[101]),
     (b"ab\nc", &[1], &[2, 101]),
     // A source that has come to its end is asked no more.
@@ -88,13 +76,8 @@ fn have_lines(alloc: Global, texts: &[Lines]) -> bool {
 }
 
 #[test]
-fn lines_end_at_newlines_or_at_the_end(rt: HostRuntime) {
+fn lines_end_at_newlines_and_where_a_source_fails(rt: HostRuntime) {
     assert!(rt; have_lines(rt.alloc(), LINES));
-}
-
-#[test]
-fn a_source_that_fails_ends_the_lines(rt: HostRuntime) {
-    assert!(rt; have_lines(rt.alloc(), FAILING));
 }
 
 fn puts<S: Sink>(sink: &mut S, bytes: &[u8], fault: Option<PutErr>) -> bool {
@@ -118,32 +101,4 @@ fn sink_fails_once(alloc: Global) -> bool {
 #[test]
 fn a_sink_that_fails_tells_what_went_out(rt: HostRuntime) {
     assert!(rt; sink_fails_once(rt.alloc()));
-}
-
-fn time_of<C: Clock>(clock: &mut C) -> u64 {
-    clock.now()
-}
-
-fn tells(clock: &mut MemClock, told: [u64; 4]) -> bool {
-    time_of(clock) == told[0]
-        && time_of(clock) == told[1]
-        && time_of(clock) == told[2]
-        && time_of(clock) == told[3]
-}
-
-fn clock_tells(alloc: Global, times: &[u64], told: [u64; 4]) -> bool {
-    match Times::copied(alloc, times) {
-        Ok(times) => {
-            let mut clock = MemClock::new(times);
-            tells(&mut clock, told)
-        }
-        Err(_) => false,
-    }
-}
-
-#[test]
-fn the_last_time_is_told_again(rt: HostRuntime) {
-    assert!(rt; clock_tells(rt.alloc(), &[], [0, 0, 0, 0]));
-    assert!(rt; clock_tells(rt.alloc(), &[7], [7, 7, 7, 7]));
-    assert!(rt; clock_tells(rt.alloc(), &[5, 3, 9], [5, 3, 9, 9]));
 }

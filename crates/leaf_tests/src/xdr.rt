@@ -1,3 +1,4 @@
+//! XDR: numbers, bools, counts and opaques, both ways.
 use osd_lists::Bytes;
 use std::alloc::Global;
 use xdr_codec::{Reader, Writer, XdrErr};

@@ -10,8 +10,8 @@ use Rattle.command_words.specs.declared.words.ServerWords.{ServerWords}
 use Rattle.command_words.specs.declared.words.WordsErr.{WordsErr}
 use Rattle.command_words.specs.declared.words.WordsErr.TheVariants.{Bad, Memory as NoMemory}
 use Rattle.command_words.specs.Asked.{Asks, Refuses, client_gives, drive_gives, server_gives}
-use Rattle.client_command.specs.declared.ending.ClientEnd.{ClientEnd}
-use Rattle.client_command.specs.declared.ending.ClientEnd.TheVariants as client
+use Rattle.client_command.specs.declared.work_ends.ClientEnd.{ClientEnd}
+use Rattle.client_command.specs.declared.work_ends.ClientEnd.TheVariants as client
 use Rattle.pnfs_run.specs.declared.status.Status.{Status}
 use Rattle.pnfs_run.specs.declared.status.Status.TheVariants.{BadWords}
 use Rattle.pnfs_run.specs.Exit.{by_client, by_stop}

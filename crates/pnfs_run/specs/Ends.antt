@@ -2,10 +2,14 @@
 use Rattle.std.specs.Prelude.{◌≡◌, ℕ, List, Option}
 use Rattle.osd_bytes.specs.Connections.{Traffic}
 use Rattle.osd_bytes.specs.Counts.{Faults}
+use Rattle.osd_bytes.specs.declared.clock.Clock.{Ghosts as ClockGhosts}
+use Rattle.osd_bytes.specs.declared.links.Links.{Ghosts as LinksGhosts}
+use Rattle.osd_bytes.specs.declared.sink.Sink.{Ghosts as SinkGhosts}
+use Rattle.osd_bytes.specs.declared.source.Source.{Ghosts as SourceGhosts}
 use Rattle.osd_bytes.specs.Asking as asking
 use Rattle.drive_command.specs.Connections as drive
 use Rattle.osd_replay.specs.Ends as replay
-use Rattle.drive_command.specs.Ends.{Streams, streams}
+use Rattle.cluster_text.specs.Outside.{Streams, streams}
 use Rattle.client_command.specs.Reports.{OnLinks, on_links}
 
 -- the bytes that the source has left and that the sink has taken, what came and went on the links, and the times of the
@@ -29,6 +33,11 @@ ends left reads_failed taken writes_failed told faults times = record {
   faults = faults;
   times = times;
 }
+
+abbrev pub ends_at : {A B D E : Type 0} → SourceGhosts A → SinkGhosts B → LinksGhosts D → ClockGhosts E
+    → (source : A) → (sink : B) → (links : D) → (clock : E) → Ends
+ends_at s k l c source sink links clock = ends (s.left source) (s.faults source) (k.taken sink) (k.faults sink)
+    (l.told links) (l.faults links) (c.times clock)
 
 -- ---- what each command sees of them
 

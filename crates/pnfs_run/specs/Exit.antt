@@ -2,8 +2,8 @@
 use Rattle.std.specs.Prelude.{ℕ}
 use Rattle.cluster_text.specs.declared.stop.CommandStop.{CommandStop}
 use Rattle.cluster_text.specs.declared.stop.CommandStop.TheVariants as stop
-use Rattle.client_command.specs.declared.ending.ClientEnd.{ClientEnd}
-use Rattle.client_command.specs.declared.ending.ClientEnd.TheVariants as client
+use Rattle.client_command.specs.declared.work_ends.ClientEnd.{ClientEnd}
+use Rattle.client_command.specs.declared.work_ends.ClientEnd.TheVariants as client
 use Rattle.osd_replay.specs.declared.status.Quantity.TheVariants.{Input}
 use Rattle.osd_replay.specs.declared.status.Status.{Status as ReplayStatus}
 use Rattle.osd_replay.specs.declared.status.Status.TheVariants as replay

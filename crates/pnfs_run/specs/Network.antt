@@ -10,7 +10,7 @@ use Rattle.command_words.specs.declared.words.ServerWords.{ServerWords}
 use Rattle.command_words.specs.declared.words.WordsErr.{WordsErr}
 use Rattle.command_words.specs.declared.words.WordsErr.TheVariants.{Bad, Memory as NoMemory}
 use Rattle.command_words.specs.Asked.{Asks, Refuses}
-use Rattle.client_command.specs.declared.ending.ClientEnd.{ClientEnd}
+use Rattle.client_command.specs.declared.work_ends.ClientEnd.{ClientEnd}
 use Rattle.client_command.specs.Ends.{EndsClient, WorksAs}
 use Rattle.drive_command.specs.Ends as drive
 use Rattle.server_command.specs.Ends as server

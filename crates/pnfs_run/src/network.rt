@@ -5,7 +5,7 @@ ghost use Rattle.command_words.specs.declared.words.WordsErr.TheVariants as word
 ghost use Rattle.command_words.specs.Options.{client_options, drive_options, server_options};
 ghost use Rattle.command_words.specs.Asked.{Refuses, client_gives, drive_gives, server_gives};
 ghost use Rattle.osd_replay.specs.Errors.{words_error};
-ghost use Rattle.pnfs_run.specs.Ends.{ends};
+ghost use Rattle.pnfs_run.specs.Ends.{ends, ends_at};
 ghost use Rattle.pnfs_run.specs.Network.{ClientEnds, DriveEnds, Runs, ServerEnds, TellsWords};
 ghost use Rattle.pnfs_run.specs.Run.{JudgesWords};
 
@@ -27,7 +27,7 @@ fn words_line() -> &'static [u8]
     b"error words\n"
 }
 
-// Puts it. It is cut only where the sink's count of faults rose.
+// Puts the line of bad words. The line is cut only if the sink's count of faults rose.
 fn put_words_error<K: Sink>(sink: &mut K)
     ensures { PutsLine (K.taken sink.old) (K.taken sink.new) (K.faults sink.old) (K.faults sink.new) words_error }
 {
@@ -60,10 +60,8 @@ pub(crate) fn run_drive<S: Source, K: Sink, L: Links, C: Clock>(
     clock: &mut C,
 ) -> Status
     ensures promise { Runs drive_options drive_gives DriveEnds (map string_bytes words.now)
-        (ends (S.left source.old) (S.faults source.old) (K.taken sink.old) (K.faults sink.old)
-        (L.told links.old) (L.faults links.old) (C.times clock.old))
-        (ends (S.left source.new) (S.faults source.new) (K.taken sink.new) (K.faults sink.new)
-        (L.told links.new) (L.faults links.new) (C.times clock.new)) result }
+        (ends_at S.Source K.Sink L.Links C.Clock source.old sink.old links.old clock.old)
+        (ends_at S.Source K.Sink L.Links C.Clock source.new sink.new links.new clock.new) result }
     ensures words { JudgesWords (Refuses drive_options drive_gives (map string_bytes words.now) words_err.Bad) result }
 {
     let asked = match drive_words(alloc, words) {
@@ -89,10 +87,8 @@ pub(crate) fn run_server<S: Source, K: Sink, L: Links, C: Clock, P: Place>(
 ) -> Status
     requires { P.is_placer placer.now }
     ensures promise { Runs server_options server_gives ServerEnds (map string_bytes words.now)
-        (ends (S.left source.old) (S.faults source.old) (K.taken sink.old) (K.faults sink.old)
-        (L.told links.old) (L.faults links.old) (C.times clock.old))
-        (ends (S.left source.new) (S.faults source.new) (K.taken sink.new) (K.faults sink.new)
-        (L.told links.new) (L.faults links.new) (C.times clock.new)) result }
+        (ends_at S.Source K.Sink L.Links C.Clock source.old sink.old links.old clock.old)
+        (ends_at S.Source K.Sink L.Links C.Clock source.new sink.new links.new clock.new) result }
     ensures words { JudgesWords (Refuses server_options server_gives (map string_bytes words.now) words_err.Bad) result }
 {
     let asked = match server_words(alloc, words) {

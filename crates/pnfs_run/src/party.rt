@@ -22,7 +22,7 @@ fn party_of_word(word: &str) -> Option<Party>
     }
 }
 
-/// The party that the first word names, `None` where it names none.
+/// The party that the first word names, `None` if it names none.
 pub(crate) fn party_named(words: &[String]) -> Option<Party>
     ensures { result ≡ party_of (map string_bytes words.now) }
 {

@@ -23,7 +23,7 @@ pub enum Status {
     Memory,
     /// A quantity would have passed its limit.
     Full { quantity: Quantity },
-    /// The links failed where the command can't do without them, or the server didn't answer.
+    /// A call of the links failed that the command can't do without, or the server didn't answer.
     LinkFault,
     /// The cluster text is refused.
     BadCluster { kind: ClusterKind },

@@ -1,7 +1,7 @@
-// The top call.
+// The top call: any command of the program, by its words.
 ghost use Rattle.std.specs.Prelude.{◌≡◌, map, string_bytes};
 ghost use Rattle.stripe_repair.specs.Placing.{IsPlacer};
-ghost use Rattle.pnfs_run.specs.Ends.{ends};
+ghost use Rattle.pnfs_run.specs.Ends.{ends_at};
 ghost use Rattle.pnfs_run.specs.Party.{party_of};
 ghost use Rattle.pnfs_run.specs.Run.{AreBad, JudgesWords, Promises, RunsAlone};
 
@@ -27,10 +27,8 @@ where
     F: Fn(u32, &[DriveLoad]) -> Result<Numbers, Memory>,
     requires { IsPlacer F.Fn placer.now }
     ensures promise { Promises (party_of (map string_bytes words.now)) (map string_bytes words.now)
-        (ends (S.left source.old) (S.faults source.old) (K.taken sink.old) (K.faults sink.old)
-        (L.told links.old) (L.faults links.old) (C.times clock.old))
-        (ends (S.left source.new) (S.faults source.new) (K.taken sink.new) (K.faults sink.new)
-        (L.told links.new) (L.faults links.new) (C.times clock.new)) result }
+        (ends_at S.Source K.Sink L.Links C.Clock source.old sink.old links.old clock.old)
+        (ends_at S.Source K.Sink L.Links C.Clock source.new sink.new links.new clock.new) result }
     ensures words { JudgesWords (AreBad (party_of (map string_bytes words.now)) (map string_bytes words.now)) result }
 {
     match party_named(words) {

@@ -10,8 +10,8 @@ use Rattle.osd_bytes.specs.Inboxes.{Came, Coming, Reads, WasTaken}
 use Rattle.osd_bytes.specs.Inboxes as over
 use Rattle.osd_bytes.specs.declared.inbox.TheConstants.{MAX_TAKEN}
 use Rattle.server_rules.specs.declared.server.Server.{Server}
-use Rattle.server_command.specs.Work.{InTurn, ServesRecord, Serving}
-use Rattle.server_command.specs.Serving.{AcceptsOne, IsOver, ServesAll, ServesConnection, ServesPieces, ServesStream, Takes}
+use Rattle.server_command.specs.Messages.{InTurn, ServesRecord, Serving}
+use Rattle.server_command.specs.Connections.{AcceptsOne, IsOver, ServesAll, ServesConnection, ServesPieces, ServesStream, Takes}
 
 -- what a connection gave so far
 abbrev pub HasServed : (s t : Serving) → Coming → Type 0

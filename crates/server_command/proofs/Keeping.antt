@@ -21,9 +21,9 @@ use Rattle.server_rules.specs.Making.{create_file, makes_file, places, refusal, 
 use Rattle.server_rules.specs.Messages.{Message, Asks, Replies, Orders, by_heard, counters_have_room, handled, heard_at, on_drive_reply, on_message}
 use Rattle.server_rules.specs.Envelopes.{message_in, on_message_in}
 use Rattle.server_requests.specs.declared.outgoing.Sent.{Sent}
-use Rattle.server_command.specs.Work.{Hears, InTurn, Rounds, Serving}
+use Rattle.server_command.specs.Messages.{Hears, InTurn, Rounds, Serving}
 use Rattle.server_command.specs.declared.files.TheConstants.{FIRST_TAG}
-use Rattle.server_command.specs.Making.{Begins, Makes, MakesFile, MakesTo}
+use Rattle.server_command.specs.Files.{Begins, Makes, MakesFile, MakesTo}
 
 -- ---- the list of files
 

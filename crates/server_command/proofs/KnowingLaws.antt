@@ -5,7 +5,7 @@ use Rattle.std.specs.Prelude.{nat_eq}
 use Rattle.std.proofs.lemmas.Bool.{or_parts}
 use Rattle.server_rules.specs.declared.server.Drive.{Drive}
 use Rattle.layout_server.specs.Adding.{IsNew}
-use Rattle.server_command.specs.Knowing.{has_number}
+use Rattle.server_command.specs.Drives.{has_number}
 
 pub is_new : (ds : List Drive) (number : ℕ) → has_number ds number ≡ false → IsNew number ds
 is_new [] number h = tt

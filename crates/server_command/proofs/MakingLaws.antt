@@ -11,10 +11,10 @@ use Rattle.cluster_text.specs.declared.stop.CommandStop.{CommandStop}
 use Rattle.cluster_text.specs.declared.stop.CommandStop.TheVariants.{BadCluster, ReadFault, WriteFault, Memory, Full, LinkFault}
 use Rattle.server_rules.specs.declared.server.Server.{Server}
 use Rattle.server_requests.specs.declared.outgoing.Sent.{Sent}
-use Rattle.server_command.specs.Work.{Handles, InTurn, Round, Rounds, Serving, UntilNone, serving}
+use Rattle.server_command.specs.Messages.{Handles, InTurn, Round, Rounds, Serving, UntilNone, serving}
 use Rattle.server_command.proofs.WorkLaws.{Grows, measure, round_less, turn_grows, works_grows}
 use Rattle.server_command.specs.Faults.{fault_line, held_line, held_object}
-use Rattle.server_command.specs.Making.{Begins, Loses, LosesAll, LosesDrive, LosesFile, LosesFiles, LosesIn, Makes, MakesFile, MakesTo, RefusesFile, RefusesFiles, StopsAt, StopsBy}
+use Rattle.server_command.specs.Files.{Begins, Loses, LosesAll, LosesDrive, LosesFile, LosesFiles, LosesIn, Makes, MakesFile, MakesTo, RefusesFile, RefusesFiles, StopsAt, StopsBy}
 
 -- ---- where it stops
 

@@ -12,15 +12,15 @@ use Rattle.cluster_text.specs.declared.cluster.ClusterDrive.{ClusterDrive}
 use Rattle.cluster_text.specs.declared.cluster.ClusterFile.{ClusterFile}
 use Rattle.cluster_text.specs.declared.errors.ClusterKind.{ClusterKind}
 use Rattle.cluster_text.specs.Fields.{is_good_map}
-use Rattle.cluster_text.specs.Reading.{repeats}
+use Rattle.cluster_text.specs.Document.{repeats}
 use Rattle.osd_bytes.specs.Asking.{Ends}
 use Rattle.server_rules.specs.declared.server.Drive.{Drive}
 use Rattle.server_rules.specs.declared.server.Server.{Server}
 use Rattle.server_rules.specs.Files.{file_at}
 use Rattle.server_rules.specs.Making.{add_drive, checked_64, new_server, online, refusal, set_format}
-use Rattle.server_command.specs.Work.{serving}
-use Rattle.server_command.specs.Knowing.{Known, and_then, drive_with, has_number, server_in, with_drive, with_drives, with_key}
-use Rattle.server_command.specs.Making.{RefusesFile, RefusesFiles}
+use Rattle.server_command.specs.Messages.{serving}
+use Rattle.server_command.specs.Drives.{Known, and_then, drive_with, has_number, server_in, with_drive, with_drives, with_key}
+use Rattle.server_command.specs.Files.{RefusesFile, RefusesFiles}
 use Rattle.server_command.proofs.Keeping.{files_keep, has_file}
 use Rattle.server_command.specs.Ends.{HasNoServer}
 use Rattle.server_command.proofs.Described.{AreKnowable, AreMakeable, IsSound}

@@ -13,9 +13,9 @@ use Rattle.osd_bytes.specs.Inboxes.{HasPutCause}
 use Rattle.cluster_text.specs.declared.cluster.ClusterFile.{ClusterFile}
 use Rattle.server_rules.specs.declared.server.Server.{Server}
 use Rattle.server_requests.specs.declared.outgoing.Sent.{Sent}
-use Rattle.server_command.specs.Work.{AsksDrive, Hears, InTurn, PutsIf, Rounds, ServesRecord, Serving, UntilNone, Works, WorksTo, sender_of}
-use Rattle.server_command.specs.Serving.{IsRefused, ServesAll, ServesConnection, ServesPieces, ServesStream, begins}
-use Rattle.server_command.specs.Making.{Makes, MakesFile, MakesFiles, MakesTo}
+use Rattle.server_command.specs.Messages.{AsksDrive, Hears, InTurn, PutsIf, Rounds, ServesRecord, Serving, UntilNone, Works, WorksTo, sender_of}
+use Rattle.server_command.specs.Connections.{IsRefused, ServesAll, ServesConnection, ServesPieces, ServesStream, begins}
+use Rattle.server_command.specs.Files.{Makes, MakesFile, MakesFiles, MakesTo}
 
 -- ---- one exchange, one answer
 

@@ -8,10 +8,10 @@ use Rattle.cluster_text.specs.declared.stop.CommandStop.{CommandStop}
 use Rattle.cluster_text.specs.declared.stop.CommandStop.TheVariants.{BadCluster, ReadFault, WriteFault, Memory, Full, LinkFault}
 use Rattle.osd_bytes.specs.Asking.{Ends}
 use Rattle.server_rules.specs.declared.server.Server.{Server}
-use Rattle.server_command.specs.Work.{serving}
-use Rattle.server_command.specs.Knowing.{server_in}
-use Rattle.server_command.specs.Making.{MakesFiles}
-use Rattle.drive_command.specs.Ends.{Streams}
+use Rattle.server_command.specs.Messages.{serving}
+use Rattle.server_command.specs.Drives.{server_in}
+use Rattle.server_command.specs.Files.{MakesFiles}
+use Rattle.cluster_text.specs.Outside.{Streams}
 use Rattle.server_command.specs.Ends.{HasMade, StopsIn, StopsServer, StopsServing}
 use Rattle.server_command.proofs.Described.{sound}
 use Rattle.server_command.proofs.Refusing.{is_served}

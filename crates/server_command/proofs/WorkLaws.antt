@@ -20,7 +20,7 @@ use Rattle.server_rules.specs.Messages.{Message, Asks, Replies, Orders, counters
 use Rattle.server_rules.specs.Envelopes.{message_in, on_message_in, on_bytes}
 use Rattle.server_requests.specs.declared.outgoing.Sent.{Sent}
 use Rattle.server_requests.specs.Sending.{all_sent}
-use Rattle.server_command.specs.Work.{Handles, Hears, InTurn, PutsIf, Round, Serving, Works, WorksTo}
+use Rattle.server_command.specs.Messages.{Handles, Hears, InTurn, PutsIf, Round, Serving, Works, WorksTo}
 use Rattle.server_command.proofs.NonceLaws.{RisesIn, reply_rises}
 
 -- ---- one after the other

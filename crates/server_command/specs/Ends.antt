@@ -13,11 +13,12 @@ use Rattle.cluster_text.specs.declared.stop.CommandStop.TheVariants.{BadCluster,
 use Rattle.cluster_text.specs.declared.stop.CommandStop.TheVariants.{Full, LinkFault}
 use Rattle.osd_bytes.specs.Asking.{Ends}
 use Rattle.server_rules.specs.declared.server.Server.{Server}
-use Rattle.server_command.specs.Work.{serving}
-use Rattle.server_command.specs.Serving.{IsRefused, ServesAll}
-use Rattle.server_command.specs.Knowing.{server_in}
-use Rattle.server_command.specs.Making.{LosesFiles, MakesFiles, RefusesFiles}
-use Rattle.drive_command.specs.Ends.{Streams, listening_line, served_line}
+use Rattle.server_command.specs.Messages.{serving}
+use Rattle.server_command.specs.Connections.{IsRefused, ServesAll}
+use Rattle.server_command.specs.Drives.{server_in}
+use Rattle.server_command.specs.Files.{LosesFiles, MakesFiles, RefusesFiles}
+use Rattle.cluster_text.specs.Lines.{listening_line, served_line}
+use Rattle.cluster_text.specs.Outside.{Streams}
 
 -- ---- serving over links that listen
 

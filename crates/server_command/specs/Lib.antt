@@ -1,7 +1,7 @@
 pub mod Ends
-pub mod Telling
-pub mod Work
-pub mod Serving
-pub mod Knowing
+pub mod Notes
+pub mod Messages
+pub mod Connections
+pub mod Drives
 pub mod Faults
-pub mod Making
+pub mod Files

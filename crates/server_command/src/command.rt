@@ -1,18 +1,17 @@
 ghost use Rattle.std.specs.Prelude.{◌≡◌, IfErr, OnOk};
-ghost use Rattle.osd_bytes.specs.Asking.{ends_of};
-ghost use Rattle.drive_command.specs.Ends.{streams};
+ghost use Rattle.cluster_text.specs.Outside.{network_at, streams_at};
 ghost use Rattle.server_command.specs.Ends.{EndsServer, ServesAs, ServesIn, StopsIn, StopsServer};
 
 use crate::drives::server_of;
 use crate::files::make_files;
-use crate::serving::serve_core;
+use crate::service::serve_core;
 use cluster_text::{Cluster, CommandStop, Reader, cluster_from, put_stop, settle_at};
 use osd_bytes::{Clock, Links, Sink, Source};
 use osd_lists::Memory;
 use std::alloc::Global;
 use stripe_repair::Place;
 
-// Makes the files of a cluster, and serves so many connections as its server.
+// Makes the files of a cluster that was read, and serves so many connections as its server.
 fn serve_in<K: Sink, L: Links, C: Clock, P: Place>(
     alloc: Global,
     cluster: &Cluster,
@@ -24,14 +23,13 @@ fn serve_in<K: Sink, L: Links, C: Clock, P: Place>(
 ) -> Result<(), CommandStop>
     requires placer { P.is_placer placer.now }
     ensures serves { OnOk result (ServesIn connections cluster.now
-        (ends_of (L.told links.old) (L.faults links.old) (C.times clock.old))
-        (ends_of (L.told links.new) (L.faults links.new) (C.times clock.new))
+        (network_at L.Links C.Clock links.old clock.old) (network_at L.Links C.Clock links.new clock.new)
         (K.taken sink.old) (K.taken sink.new)) }
     ensures stops { IfErr result (StopsIn connections cluster.now
-        (ends_of (L.told links.old) (L.faults links.old) (C.times clock.old))
-        (ends_of (L.told links.new) (L.faults links.new) (C.times clock.new))
+        (network_at L.Links C.Clock links.old clock.old) (network_at L.Links C.Clock links.new clock.new)
         (K.taken sink.old) (K.taken sink.new) (K.faults sink.old) (K.faults sink.new)) }
 {
+    // Here and below, arms in place of `?` or of the bare call are for the prover (docs/PROVER_FORMS.md).
     match settle_at(alloc, links, cluster, cluster.server.as_slice()) {
         Ok(()) => {}
         Err(stop) => return Err(stop),
@@ -57,7 +55,7 @@ fn serve_in<K: Sink, L: Links, C: Clock, P: Place>(
     }
 }
 
-// The command without the line that tells why it stopped.
+// Serves as the server of the cluster that the source describes. A stop isn't told here.
 fn serve_cluster<S: Source, K: Sink, L: Links, C: Clock, P: Place>(
     alloc: Global,
     connections: u32,
@@ -69,15 +67,11 @@ fn serve_cluster<S: Source, K: Sink, L: Links, C: Clock, P: Place>(
 ) -> Result<(), CommandStop>
     requires placer { P.is_placer placer.now }
     ensures serves { OnOk result (ServesAs connections
-        (streams (S.left source.old) (S.faults source.old) (K.taken sink.old) (K.faults sink.old))
-        (streams (S.left source.new) (S.faults source.new) (K.taken sink.new) (K.faults sink.new))
-        (ends_of (L.told links.old) (L.faults links.old) (C.times clock.old))
-        (ends_of (L.told links.new) (L.faults links.new) (C.times clock.new))) }
+        (streams_at S.Source K.Sink source.old sink.old) (streams_at S.Source K.Sink source.new sink.new)
+        (network_at L.Links C.Clock links.old clock.old) (network_at L.Links C.Clock links.new clock.new)) }
     ensures stops { IfErr result (StopsServer connections
-        (streams (S.left source.old) (S.faults source.old) (K.taken sink.old) (K.faults sink.old))
-        (streams (S.left source.new) (S.faults source.new) (K.taken sink.new) (K.faults sink.new))
-        (ends_of (L.told links.old) (L.faults links.old) (C.times clock.old))
-        (ends_of (L.told links.new) (L.faults links.new) (C.times clock.new))) }
+        (streams_at S.Source K.Sink source.old sink.old) (streams_at S.Source K.Sink source.new sink.new)
+        (network_at L.Links C.Clock links.old clock.old) (network_at L.Links C.Clock links.new clock.new)) }
 {
     let cluster = match cluster_from(alloc, Reader::Server, source) {
         Ok(cluster) => cluster,
@@ -96,8 +90,8 @@ fn serve_cluster<S: Source, K: Sink, L: Links, C: Clock, P: Place>(
 ///
 /// # Errors
 ///
-/// [`CommandStop::BadCluster`] exactly where the text is refused; [`CommandStop::ReadFault`]; [`CommandStop::Full`]
-/// exactly where the text passes 67,108,864 bytes; [`CommandStop::LinkFault`] where the links couldn't be settled or no
+/// [`CommandStop::BadCluster`] exactly if the text is refused; [`CommandStop::ReadFault`]; [`CommandStop::Full`]
+/// exactly if the text passes 67,108,864 bytes; [`CommandStop::LinkFault`] if the links couldn't be settled or no
 /// further connection accepted, or a drive gave no record or held an object already while the files were made;
 /// [`CommandStop::WriteFault`]; [`CommandStop::Memory`].
 pub fn server_command<S: Source, K: Sink, L: Links, C: Clock, P: Place>(
@@ -111,15 +105,11 @@ pub fn server_command<S: Source, K: Sink, L: Links, C: Clock, P: Place>(
 ) -> Result<(), CommandStop>
     requires placer { P.is_placer placer.now }
     ensures serves { OnOk result (ServesAs connections
-        (streams (S.left source.old) (S.faults source.old) (K.taken sink.old) (K.faults sink.old))
-        (streams (S.left source.new) (S.faults source.new) (K.taken sink.new) (K.faults sink.new))
-        (ends_of (L.told links.old) (L.faults links.old) (C.times clock.old))
-        (ends_of (L.told links.new) (L.faults links.new) (C.times clock.new))) }
+        (streams_at S.Source K.Sink source.old sink.old) (streams_at S.Source K.Sink source.new sink.new)
+        (network_at L.Links C.Clock links.old clock.old) (network_at L.Links C.Clock links.new clock.new)) }
     ensures stops { IfErr result (EndsServer connections
-        (streams (S.left source.old) (S.faults source.old) (K.taken sink.old) (K.faults sink.old))
-        (streams (S.left source.new) (S.faults source.new) (K.taken sink.new) (K.faults sink.new))
-        (ends_of (L.told links.old) (L.faults links.old) (C.times clock.old))
-        (ends_of (L.told links.new) (L.faults links.new) (C.times clock.new))) }
+        (streams_at S.Source K.Sink source.old sink.old) (streams_at S.Source K.Sink source.new sink.new)
+        (network_at L.Links C.Clock links.old clock.old) (network_at L.Links C.Clock links.new clock.new)) }
 {
     match serve_cluster(alloc, connections, source, sink, links, clock, placer) {
         Ok(()) => Ok(()),

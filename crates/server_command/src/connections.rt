@@ -1,19 +1,20 @@
 // The records of a connection, and one connection after the other.
 ghost use Rattle.std.specs.Prelude.{◌≡◌, [], IfOk, IsErrOf, OnOk};
-ghost use Rattle.osd_bytes.specs.Asking.{ends_of};
+ghost use Rattle.cluster_text.specs.Outside.{network_at};
 ghost use Rattle.osd_bytes.specs.declared.serve_err.ServeErr.TheVariants.{LinkFault};
-ghost use Rattle.server_command.specs.Work.{InTurn, ServesRecord, serving};
-ghost use Rattle.server_command.specs.Serving.{IsRefused, ServesAll, ServesConnection, ServesStream};
+ghost use Rattle.server_command.specs.Messages.{InTurn, ServesRecord, serving};
+ghost use Rattle.server_command.specs.Connections.{IsRefused, ServesAll, ServesConnection, ServesStream};
 
-use crate::handling::{handle, sender_of};
-use crate::working::work_all;
+use crate::messages::work_all;
+use crate::records::{handle, sender_of};
 use layout_server::ServerCore;
 use osd_bytes::{Clock, Inbox, Links, ServeErr};
 use osd_lists::{ByteLists, Memory};
 use std::alloc::Global;
 use stripe_repair::Place;
 
-// Handles a record of the accepted connection, and works what it brings. Tells whether the connection stands then.
+// Handles a record of the accepted connection, and sends all that it brings. Gives whether the connection stands after
+// that: it took whole what was put on it.
 fn serve_record<L: Links, C: Clock, P: Place>(
     alloc: Global,
     core: &mut ServerCore,
@@ -25,8 +26,8 @@ fn serve_record<L: Links, C: Clock, P: Place>(
 ) -> Result<bool, Memory>
     requires placer { P.is_placer placer.now }
     ensures { IfOk result (λ still. ServesRecord message.now
-        (serving core.old [] puts (ends_of (L.told links.old) (L.faults links.old) (C.times clock.old)))
-        (serving core.new [] still (ends_of (L.told links.new) (L.faults links.new) (C.times clock.new)))) }
+        (serving core.old [] puts (network_at L.Links C.Clock links.old clock.old))
+        (serving core.new [] still (network_at L.Links C.Clock links.new clock.new))) }
 {
     let sender = sender_of(alloc, message)?;
     let sends = handle(alloc, core, links, clock, placer, sender, message)?;
@@ -34,7 +35,7 @@ fn serve_record<L: Links, C: Clock, P: Place>(
     Ok(still)
 }
 
-// Serves these records in order. Tells whether the connection stands then.
+// Serves these records in order. Gives whether the connection stands after them.
 fn serve_records<L: Links, C: Clock, P: Place>(
     alloc: Global,
     core: &mut ServerCore,
@@ -46,8 +47,8 @@ fn serve_records<L: Links, C: Clock, P: Place>(
 ) -> Result<bool, Memory>
     requires placer { P.is_placer placer.now }
     ensures { IfOk result (λ still. InTurn ServesRecord records.now
-        (serving core.old [] puts (ends_of (L.told links.old) (L.faults links.old) (C.times clock.old)))
-        (serving core.new [] still (ends_of (L.told links.new) (L.faults links.new) (C.times clock.new)))) }
+        (serving core.old [] puts (network_at L.Links C.Clock links.old clock.old))
+        (serving core.new [] still (network_at L.Links C.Clock links.new clock.new))) }
 {
     let mut stands = puts;
     for i in 0..records.len() {
@@ -75,8 +76,8 @@ fn serve_stream<L: Links, C: Clock, P: Place>(
 ) -> Result<(), Memory>
     requires placer { P.is_placer placer.now }
     ensures { OnOk result (ServesStream
-        (serving core.old [] puts (ends_of (L.told links.old) (L.faults links.old) (C.times clock.old))) core.new
-        (ends_of (L.told links.new) (L.faults links.new) (C.times clock.new))) }
+        (serving core.old [] puts (network_at L.Links C.Clock links.old clock.old)) core.new
+        (network_at L.Links C.Clock links.new clock.new)) }
 {
     let mut inbox = Inbox::new(alloc);
     let mut stands = puts;
@@ -100,8 +101,7 @@ fn serve_connection<L: Links, C: Clock, P: Place>(
 ) -> Result<(), Memory>
     requires placer { P.is_placer placer.now }
     ensures { OnOk result (ServesConnection core.old core.new
-        (ends_of (L.told links.old) (L.faults links.old) (C.times clock.old))
-        (ends_of (L.told links.new) (L.faults links.new) (C.times clock.new))) }
+        (network_at L.Links C.Clock links.old clock.old) (network_at L.Links C.Clock links.new clock.new)) }
 {
     let sends = core.resend()?;
     let stands = work_all(alloc, core, links, clock, placer, None, sends, true)?;
@@ -114,13 +114,13 @@ fn serve_connection<L: Links, C: Clock, P: Place>(
 /// through the links, and what the record brings is worked until nothing waits, up to the connection's end, a call on it
 /// that fails, a record that is too long, or 67,108,864 bytes.
 ///
-/// A command is one exchange with its drive, whose record is handled in its turn; it is lost where the exchange is
-/// refused, or where it is longer than a record may be. What is for who sent the record is put, unless an answer
+/// A command is one exchange with its drive, whose record is handled in its turn. The command is lost if the exchange is
+/// refused, or if it is longer than a record may be. What is for who sent the record is put, unless an answer
 /// before it couldn't be put whole. A message to any other client is lost.
 ///
 /// # Errors
 ///
-/// [`ServeErr::LinkFault`] where no further connection could be accepted, after those before it were served whole;
+/// [`ServeErr::LinkFault`] if no further connection could be accepted, after those before it were served whole;
 /// [`ServeErr::Memory`], after which nothing may be left of the server.
 pub fn serve<L: Links, C: Clock, P: Place>(
     alloc: Global,
@@ -132,11 +132,9 @@ pub fn serve<L: Links, C: Clock, P: Place>(
 ) -> Result<(), ServeErr>
     requires placer { P.is_placer placer.now }
     ensures served { OnOk result (ServesAll connections core.old core.new
-        (ends_of (L.told links.old) (L.faults links.old) (C.times clock.old))
-        (ends_of (L.told links.new) (L.faults links.new) (C.times clock.new))) }
+        (network_at L.Links C.Clock links.old clock.old) (network_at L.Links C.Clock links.new clock.new)) }
     ensures refused { IsErrOf result LinkFault → IsRefused connections core.old core.new
-        (ends_of (L.told links.old) (L.faults links.old) (C.times clock.old))
-        (ends_of (L.told links.new) (L.faults links.new) (C.times clock.new)) }
+        (network_at L.Links C.Clock links.old clock.old) (network_at L.Links C.Clock links.new clock.new) }
 {
     let mut served = 0;
     while served < connections {

@@ -1,6 +1,6 @@
 // The drives of a cluster, as its server knows them.
 ghost use Rattle.std.specs.Prelude.{◌≡◌, Ok, IfErr, IfOk, OnOk};
-ghost use Rattle.server_command.specs.Knowing.{StopsKnowing, has_number, server_in, with_drive, with_drives};
+ghost use Rattle.server_command.specs.Drives.{StopsKnowing, has_number, server_in, with_drive, with_drives};
 
 use cluster_text::{Cluster, ClusterDrive, ClusterKind, CommandStop};
 use layout_server::{DriveInfo, DriveTable, ServerCore};
@@ -14,7 +14,7 @@ fn has_number(drives: &[Drive], number: u32) -> bool
     drives.iter().any(|drive| drive.number == number)
 }
 
-// The server knows a further drive of a cluster.
+// Tells the server of a further drive of the cluster.
 fn add_drive(core: &mut ServerCore, drive: &ClusterDrive) -> Result<(), CommandStop>
     ensures knows { OnOk result (with_drive core.old drive.now ≡ Ok core.new) }
     ensures stops { IfErr result (StopsKnowing (with_drive core.old drive.now)) }
@@ -36,12 +36,13 @@ fn add_drive(core: &mut ServerCore, drive: &ClusterDrive) -> Result<(), CommandS
     Ok(())
 }
 
-// The server knows these drives of a cluster too.
+// Tells the server of these drives of the cluster too.
 fn add_drives(core: &mut ServerCore, drives: &[ClusterDrive]) -> Result<(), CommandStop>
     ensures knows { OnOk result (with_drives core.old drives.now ≡ Ok core.new) }
     ensures stops { IfErr result (StopsKnowing (with_drives core.old drives.now)) }
 {
     for drive in drives {
+        // Here and below, arms in place of `?` or of the bare call are for the prover (docs/PROVER_FORMS.md).
         match add_drive(core, drive) {
             Ok(()) => {}
             Err(stop) => return Err(stop),
@@ -54,7 +55,7 @@ fn add_drives(core: &mut ServerCore, drives: &[ClusterDrive]) -> Result<(), Comm
 ///
 /// # Errors
 ///
-/// [`CommandStop::BadCluster`] exactly where a drive has no key, or a number that isn't below 64 or stands twice,
+/// [`CommandStop::BadCluster`] exactly if a drive has no key, or a number that isn't below 64 or stands twice,
 /// with the first such kind of the first such drive; [`CommandStop::Memory`].
 pub fn server_of(alloc: Global, cluster: &Cluster) -> Result<ServerCore, CommandStop>
     ensures knows { IfOk result (λ core. server_in cluster.now ≡ Ok core) }

@@ -17,8 +17,8 @@ fn is_exists(command: &Command, reply: &Reply) -> bool
     command.action == Action::Create && reply.verdict == EXISTS && reply.nonce == command.nonce
 }
 
-/// The object that a drive holds already, where its reply to this command says so: the command is its CREATE, and the
-/// reply is Exists.
+/// The object that a drive holds already, if its reply to this command says so: the command is a CREATE, and the reply is
+/// Exists.
 pub fn held_object(alloc: Global, message: &[u8], reply: &[u8]) -> Result<Option<u64>, Memory>
     ensures { IfOk result (λ object. object ≡ held_object message.now reply.now) }
 {

@@ -1,11 +1,11 @@
 // The files of a cluster, made one after the other.
 ghost use Rattle.std.specs.Prelude.{[], true, IfErr, OnOk};
-ghost use Rattle.osd_bytes.specs.Asking.{ends_of};
-ghost use Rattle.server_command.specs.Work.{serving};
-ghost use Rattle.server_command.specs.Making.{LosesFile, LosesFiles, MakesFile, MakesFiles, RefusesFile, RefusesFiles, StopsBy};
+ghost use Rattle.cluster_text.specs.Outside.{network_at};
+ghost use Rattle.server_command.specs.Messages.{serving};
+ghost use Rattle.server_command.specs.Files.{LosesFile, LosesFiles, MakesFile, MakesFiles, RefusesFile, RefusesFiles, StopsBy};
 
-use crate::making::make_all;
-use crate::telling::tell_notes;
+use crate::creates::make_all;
+use crate::notes::tell_notes;
 use cluster_text::{ClusterFile, ClusterKind, CommandStop};
 use data_map::{RAID_0, RAID_PQ};
 use layout_server::{FileErr, ServerCore, Step};
@@ -28,12 +28,12 @@ fn make_file<L: Links, C: Clock, P: Place>(
 ) -> Result<(), CommandStop>
     requires placer { P.is_placer placer.now }
     ensures makes { OnOk result (MakesFile file.now
-        (serving core.old [] true (ends_of (L.told links.old) (L.faults links.old) (C.times clock.old)))
-        (serving core.new [] true (ends_of (L.told links.new) (L.faults links.new) (C.times clock.new)))) }
+        (serving core.old [] true (network_at L.Links C.Clock links.old clock.old))
+        (serving core.new [] true (network_at L.Links C.Clock links.new clock.new))) }
     ensures stops { IfErr result (StopsBy
         (LosesFile file.now
-        (serving core.old [] true (ends_of (L.told links.old) (L.faults links.old) (C.times clock.old)))
-        core.new (ends_of (L.told links.new) (L.faults links.new) (C.times clock.new)))
+        (serving core.old [] true (network_at L.Links C.Clock links.old clock.old))
+        core.new (network_at L.Links C.Clock links.new clock.new))
         (RefusesFile file.now core.old)) }
 {
     let map = file.map;
@@ -46,6 +46,7 @@ fn make_file<L: Links, C: Clock, P: Place>(
     match core.create_file(file.number, map, FIRST_TAG, placer) {
         Ok(Step { sends, notes, .. }) => {
             tell_notes(alloc, links, notes)?;
+            // Here and below, arms in place of `?` or of the bare call are for the prover (docs/PROVER_FORMS.md).
             match make_all(alloc, core, links, clock, placer, sends) {
                 Ok(()) => Ok(()),
                 Err(stop) => Err(stop),
@@ -60,10 +61,10 @@ fn make_file<L: Links, C: Clock, P: Place>(
 ///
 /// # Errors
 ///
-/// [`CommandStop::LinkFault`] exactly where an exchange with a drive gave no record, or one that is Exists to its CREATE,
+/// [`CommandStop::LinkFault`] exactly if an exchange with a drive gave no record, or one that is Exists to its CREATE,
 /// since the drive holds that object of an earlier run: a note names the drive; [`CommandStop::BadCluster`] of the
-/// kind [`ClusterKind::Range`] exactly where the server refuses a file, or its map has no algorithm; [`CommandStop::Memory`]
-/// for want of memory, and also before a file where the server's counters have no room, which takes a drive that has each
+/// kind [`ClusterKind::Range`] exactly if the server refuses a file, or its map has no algorithm; [`CommandStop::Memory`]
+/// for want of memory, and also before a file if the server's counters have no room, which takes a drive that has each
 /// command sent again 2^63 times.
 pub fn make_files<L: Links, C: Clock, P: Place>(
     alloc: Global,
@@ -75,14 +76,14 @@ pub fn make_files<L: Links, C: Clock, P: Place>(
 ) -> Result<(), CommandStop>
     requires placer { P.is_placer placer.now }
     ensures makes { OnOk result (MakesFiles files.now
-        (serving core.old [] true (ends_of (L.told links.old) (L.faults links.old) (C.times clock.old)))
-        (serving core.new [] true (ends_of (L.told links.new) (L.faults links.new) (C.times clock.new)))) }
+        (serving core.old [] true (network_at L.Links C.Clock links.old clock.old))
+        (serving core.new [] true (network_at L.Links C.Clock links.new clock.new))) }
     ensures stops { IfErr result (StopsBy
         (LosesFiles files.now
-        (serving core.old [] true (ends_of (L.told links.old) (L.faults links.old) (C.times clock.old)))
-        core.new (ends_of (L.told links.new) (L.faults links.new) (C.times clock.new)))
+        (serving core.old [] true (network_at L.Links C.Clock links.old clock.old))
+        core.new (network_at L.Links C.Clock links.new clock.new))
         (RefusesFiles files.now
-        (serving core.old [] true (ends_of (L.told links.old) (L.faults links.old) (C.times clock.old))))) }
+        (serving core.old [] true (network_at L.Links C.Clock links.old clock.old)))) }
 {
     for i in 0..files.len() {
         match make_file(alloc, core, links, clock, placer, &files[i]) {

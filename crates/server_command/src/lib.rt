@@ -12,18 +12,18 @@
 
 mod command;
 mod connections;
+mod creates;
 mod drives;
 mod faults;
 mod files;
-mod handling;
-mod making;
-mod serving;
-mod telling;
-mod working;
+mod messages;
+mod notes;
+mod records;
+mod service;
 
 pub use command::server_command;
 pub use connections::serve;
 pub use drives::server_of;
 pub use files::{FIRST_TAG, make_files};
-pub use handling::hear_drive;
-pub use telling::tell_notes;
+pub use notes::tell_notes;
+pub use records::hear_drive;

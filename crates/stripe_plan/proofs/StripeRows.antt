@@ -33,6 +33,13 @@ shifted f x a (suc n) =
     let e : x + a + 1 ≡ x + (a + 1) = omega arith in
     ap (λ xs. f (x + a) ∷ xs) (ap (λ (z : ℕ). map f (range_with_len z n)) e ∙ shifted f x (a + 1) n)
 
+pub split_range : {A : Type 0} (f : ℕ → A) (a x y : ℕ) → map f (range_with_len a (x + y)) ≡ map f (range_with_len a x) ++ map f (range_with_len (a + x) y)
+split_range f a zero y = let e : zero + y ≡ y = omega arith in let z : a + zero ≡ a = omega arith in rw (e, z) refl
+split_range f a (suc x) y =
+    let e : suc x + y ≡ suc (x + y) = omega arith in
+    let z : a + suc x ≡ a + 1 + x = omega arith in
+    rw (e, z) (ap (λ xs. f a ∷ xs) (split_range f (a + 1) x y))
+
 -- ---- known rows
 
 known_long : (m : RawMap) (got : List Column) (out : List ℕ) (s c : ℕ) (i : Interval) → length (known_in m got out s i c) ≡ i.end - i.first

@@ -21,6 +21,7 @@ mod row_index;
 mod rows;
 mod touched;
 mod whole;
+mod write;
 
 pub use lost::{check_readable, check_writable, is_out, positions_out, source};
 pub use needed::is_degraded;

@@ -16,10 +16,10 @@ use crate::needed::is_degraded;
 use crate::new_parity::{encode_new, new_bytes};
 use crate::parity_change::changed_parity;
 use crate::plan::{Column, Columns, Fetched, Interval, Intervals, Out, PlanErr, Span};
-use crate::row_index::RowIndex;
 use crate::rows::decoded_rows;
 use crate::touched::{holds_whole, own_columns, touched_columns, touched_stripes};
 use crate::whole::push_whole;
+use crate::write::Write;
 use data_map::{DataMap, MAX_FILE_SIZE};
 use osd_lists::{Bytes, Memory, Rows, Sequence};
 use std::alloc::Global;
@@ -27,66 +27,69 @@ use std::alloc::Global;
 // The parity of some columns after the write, as the last rows: of decoded data with the new, or the old changed.
 fn parity_of(
     alloc: Global,
-    map: &DataMap,
-    range: Span,
-    bytes: &[u8],
-    got: &Fetched,
-    index: &RowIndex,
-    out: &Out,
+    write: &Write<'_>,
     stripe: u64,
     columns: Interval,
 ) -> Result<Rows, Memory>
-    requires inside { range.offset + range.length ≤ MAX_FILE_SIZE }
-    requires bytes { length bytes.now ≡ range.length }
+    requires inside { write.now.range.offset + write.now.range.length ≤ MAX_FILE_SIZE }
+    requires bytes { length write.now.bytes.now ≡ write.now.range.length }
     requires stripe { stripe ≤ MAX_FILE_SIZE }
     requires low { IsLow columns }
-    requires unit { IsInUnit map.now columns }
-    requires some { 0 < parities map.now }
-    requires part { whole map.now range stripe ≡ false }
-    requires few { length (lost_from map.now out.now.components stripe 0 (group_width map.now)) ≤ parities map.now }
-    requires index { Indexes (stretches_of (columns_of map.now got.now)) index.now }
-    ensures { IfOk result (HasParity (parities map.now) columns
-        (parity_at map.now range bytes.now (columns_of map.now got.now) out.now.components stripe)) }
+    requires unit { IsInUnit write.now.map.now columns }
+    requires some { 0 < parities write.now.map.now }
+    requires part { whole write.now.map.now write.now.range stripe ≡ false }
+    requires few { length (lost_from write.now.map.now write.now.out.now.components stripe 0 (group_width write.now.map.now))
+        ≤ parities write.now.map.now }
+    requires index { Indexes (stretches_of (columns_of write.now.map.now write.now.got.now)) write.now.index.now }
+    ensures { IfOk result (HasParity (parities write.now.map.now) columns
+        (parity_at write.now.map.now write.now.range write.now.bytes.now
+        (columns_of write.now.map.now write.now.got.now) write.now.out.now.components stripe)) }
 {
-    if is_degraded(alloc, map, out, stripe)? {
-        let mut rows = decoded_rows(alloc, map, got, index, out, stripe, columns)?;
-        encode_new(map, range, bytes, stripe, columns, &mut rows);
+    let map = write.map;
+    if is_degraded(alloc, map, write.out, stripe)? {
+        let mut rows = decoded_rows(
+            alloc,
+            map,
+            write.got,
+            write.index,
+            write.out,
+            stripe,
+            columns,
+        )?;
+        encode_new(map, write.range, write.bytes, stripe, columns, &mut rows);
         return Ok(rows);
     }
-    let rows = changed_parity(alloc, map, range, bytes, got, index, stripe, columns)?;
+    let rows = changed_parity(alloc, write, stripe, columns)?;
     Ok(rows)
 }
 
 // The parity of each of these columns.
 fn parities_of(
     alloc: Global,
-    map: &DataMap,
-    range: Span,
-    bytes: &[u8],
-    got: &Fetched,
-    index: &RowIndex,
-    out: &Out,
+    write: &Write<'_>,
     stripe: u64,
     intervals: &[Interval],
 ) -> Result<Sequence<Rows>, Memory>
-    requires inside { range.offset + range.length ≤ MAX_FILE_SIZE }
-    requires bytes { length bytes.now ≡ range.length }
+    requires inside { write.now.range.offset + write.now.range.length ≤ MAX_FILE_SIZE }
+    requires bytes { length write.now.bytes.now ≡ write.now.range.length }
     requires stripe { stripe ≤ MAX_FILE_SIZE }
     requires low { All IsLow intervals.now }
-    requires unit { All (IsInUnit map.now) intervals.now }
-    requires part { whole map.now range stripe ≡ false }
-    requires few { length (lost_from map.now out.now.components stripe 0 (group_width map.now)) ≤ parities map.now }
-    requires index { Indexes (stretches_of (columns_of map.now got.now)) index.now }
-    ensures value { 0 < parities map.now → IfOk result (AreParities (parities map.now) intervals.now
-        (parity_at map.now range bytes.now (columns_of map.now got.now) out.now.components stripe)) }
-    ensures enough { IfOk result (λ all. All (λ rows. parities map.now ≤ length rows) all) }
+    requires unit { All (IsInUnit write.now.map.now) intervals.now }
+    requires part { whole write.now.map.now write.now.range stripe ≡ false }
+    requires few { length (lost_from write.now.map.now write.now.out.now.components stripe 0 (group_width write.now.map.now))
+        ≤ parities write.now.map.now }
+    requires index { Indexes (stretches_of (columns_of write.now.map.now write.now.got.now)) write.now.index.now }
+    ensures value { 0 < parities write.now.map.now → IfOk result (AreParities (parities write.now.map.now) intervals.now
+        (parity_at write.now.map.now write.now.range write.now.bytes.now
+        (columns_of write.now.map.now write.now.got.now) write.now.out.now.components stripe)) }
+    ensures enough { IfOk result (λ all. All (λ rows. parities write.now.map.now ≤ length rows) all) }
 {
     let mut all = Sequence::new(alloc);
-    if map.parities() == 0 {
+    if write.map.parities() == 0 {
         return Ok(all);
     }
     for columns in intervals {
-        let rows = parity_of(alloc, map, range, bytes, got, index, out, stripe, *columns)?;
+        let rows = parity_of(alloc, write, stripe, *columns)?;
         all.push(rows)?;
     }
     Ok(all)
@@ -96,27 +99,27 @@ fn parities_of(
 fn push_data(
     made: &mut Columns,
     alloc: Global,
-    map: &DataMap,
-    range: Span,
-    bytes: &[u8],
+    write: &Write<'_>,
     stripe: u64,
     unit: u32,
     position: u32,
 ) -> Result<(), Memory>
-    requires inside { range.offset + range.length ≤ MAX_FILE_SIZE }
-    requires bytes { length bytes.now ≡ range.length }
+    requires inside { write.now.range.offset + write.now.range.length ≤ MAX_FILE_SIZE }
+    requires bytes { length write.now.bytes.now ≡ write.now.range.length }
     requires stripe { stripe ≤ MAX_FILE_SIZE }
-    requires unit { unit < data_units map.now }
-    ensures { OnOk result (made.new ≡ made.old ++ data_columns map.now range bytes.now stripe unit position) }
+    requires unit { unit < data_units write.now.map.now }
+    ensures { OnOk result (made.new
+        ≡ made.old ++ data_columns write.now.map.now write.now.range write.now.bytes.now stripe unit position) }
 {
-    let own = own_columns(map, range, stripe, unit);
+    let map = write.map;
+    let own = own_columns(map, write.range, stripe, unit);
     if own.first >= own.end {
         return Ok(());
     }
     let column = Column {
         position,
         offset: map.row(stripe) * map.raw().unit + own.first,
-        bytes: new_bytes(alloc, map, range, bytes, stripe, unit, own)?,
+        bytes: new_bytes(alloc, map, write.range, write.bytes, stripe, unit, own)?,
     };
     made.push(column)?;
     Ok(())
@@ -178,36 +181,34 @@ fn push_parity(
 fn push_place(
     made: &mut Columns,
     alloc: Global,
-    map: &DataMap,
-    range: Span,
-    bytes: &[u8],
-    out: &Out,
+    write: &Write<'_>,
     stripe: u64,
     place: u32,
     intervals: &[Interval],
     parity: &[Rows],
 ) -> Result<(), Memory>
-    requires inside { range.offset + range.length ≤ MAX_FILE_SIZE }
-    requires bytes { length bytes.now ≡ range.length }
+    requires inside { write.now.range.offset + write.now.range.length ≤ MAX_FILE_SIZE }
+    requires bytes { length write.now.bytes.now ≡ write.now.range.length }
     requires stripe { stripe ≤ MAX_FILE_SIZE }
-    requires place { place < group_width map.now }
-    requires intervals { intervals.now ≡ columns map.now range stripe }
+    requires place { place < group_width write.now.map.now }
+    requires intervals { intervals.now ≡ columns write.now.map.now write.now.range stripe }
     requires low { All IsLow intervals.now }
-    requires same { 0 < parities map.now → length parity.now ≡ length intervals.now }
-    requires enough { All (λ rows. parities map.now ≤ length rows) parity.now }
+    requires same { 0 < parities write.now.map.now → length parity.now ≡ length intervals.now }
+    requires enough { All (λ rows. parities write.now.map.now ≤ length rows) parity.now }
     ensures { (got : List Column)
-        → (0 < parities map.now → AreParities (parities map.now) intervals.now
-        (parity_at map.now range bytes.now got out.now.components stripe) parity.now)
+        → (0 < parities write.now.map.now → AreParities (parities write.now.map.now) intervals.now
+        (parity_at write.now.map.now write.now.range write.now.bytes.now got write.now.out.now.components stripe) parity.now)
         → OnOk result (made.new ≡ made.old
-        ++ written_place map.now range bytes.now got out.now.components stripe place) }
+        ++ written_place write.now.map.now write.now.range write.now.bytes.now got write.now.out.now.components stripe place) }
 {
+    let map = write.map;
     let unit = map.unit_in(stripe, place);
     let position = map.group(stripe) * map.group_width() + place;
-    if is_out(map, out, position) {
+    if is_out(map, write.out, position) {
         return Ok(());
     }
     if unit < map.data_units() {
-        return push_data(made, alloc, map, range, bytes, stripe, unit, position);
+        return push_data(made, alloc, write, stripe, unit, position);
     }
     let row = unit - map.data_units();
     push_parity(made, alloc, map, stripe, position, intervals, parity, row)
@@ -217,31 +218,25 @@ fn push_place(
 fn push_part(
     made: &mut Columns,
     alloc: Global,
-    map: &DataMap,
-    range: Span,
-    bytes: &[u8],
-    got: &Fetched,
-    index: &RowIndex,
-    out: &Out,
+    write: &Write<'_>,
     stripe: u64,
 ) -> Result<(), Memory>
-    requires inside { range.offset + range.length ≤ MAX_FILE_SIZE }
-    requires bytes { length bytes.now ≡ range.length }
+    requires inside { write.now.range.offset + write.now.range.length ≤ MAX_FILE_SIZE }
+    requires bytes { length write.now.bytes.now ≡ write.now.range.length }
     requires stripe { stripe ≤ MAX_FILE_SIZE }
-    requires part { whole map.now range stripe ≡ false }
-    requires few { length (lost_from map.now out.now.components stripe 0 (group_width map.now)) ≤ parities map.now }
-    requires index { Indexes (stretches_of (columns_of map.now got.now)) index.now }
-    ensures { OnOk result (made.new ≡ made.old ++ written_stripe map.now range bytes.now
-        (columns_of map.now got.now) out.now.components stripe 0 (group_width map.now)) }
+    requires part { whole write.now.map.now write.now.range stripe ≡ false }
+    requires few { length (lost_from write.now.map.now write.now.out.now.components stripe 0 (group_width write.now.map.now))
+        ≤ parities write.now.map.now }
+    requires index { Indexes (stretches_of (columns_of write.now.map.now write.now.got.now)) write.now.index.now }
+    ensures { OnOk result (made.new ≡ made.old ++ written_stripe write.now.map.now write.now.range write.now.bytes.now
+        (columns_of write.now.map.now write.now.got.now) write.now.out.now.components stripe 0 (group_width write.now.map.now)) }
 {
-    let touched = touched_columns(alloc, map, range, stripe)?;
+    let touched = touched_columns(alloc, write.map, write.range, stripe)?;
     let columns = touched.as_slice();
-    let parity = parities_of(alloc, map, range, bytes, got, index, out, stripe, columns)?;
+    let parity = parities_of(alloc, write, stripe, columns)?;
     let rows = parity.as_slice();
-    for place in 0..map.group_width() {
-        push_place(
-            made, alloc, map, range, bytes, out, stripe, place, columns, rows,
-        )?;
+    for place in 0..write.map.group_width() {
+        push_place(made, alloc, write, stripe, place, columns, rows)?;
     }
     Ok(())
 }
@@ -250,26 +245,31 @@ fn push_part(
 fn push_stripe(
     made: &mut Columns,
     alloc: Global,
-    map: &DataMap,
-    range: Span,
-    bytes: &[u8],
-    got: &Fetched,
-    index: &RowIndex,
-    out: &Out,
+    write: &Write<'_>,
     stripe: u64,
 ) -> Result<(), Memory>
-    requires inside { range.offset + range.length ≤ MAX_FILE_SIZE }
-    requires bytes { length bytes.now ≡ range.length }
+    requires inside { write.now.range.offset + write.now.range.length ≤ MAX_FILE_SIZE }
+    requires bytes { length write.now.bytes.now ≡ write.now.range.length }
     requires stripe { stripe ≤ MAX_FILE_SIZE }
-    requires few { length (lost_from map.now out.now.components stripe 0 (group_width map.now)) ≤ parities map.now }
-    requires index { Indexes (stretches_of (columns_of map.now got.now)) index.now }
-    ensures { OnOk result (made.new ≡ made.old ++ written_stripe map.now range bytes.now
-        (columns_of map.now got.now) out.now.components stripe 0 (group_width map.now)) }
+    requires few { length (lost_from write.now.map.now write.now.out.now.components stripe 0 (group_width write.now.map.now))
+        ≤ parities write.now.map.now }
+    requires index { Indexes (stretches_of (columns_of write.now.map.now write.now.got.now)) write.now.index.now }
+    ensures { OnOk result (made.new ≡ made.old ++ written_stripe write.now.map.now write.now.range write.now.bytes.now
+        (columns_of write.now.map.now write.now.got.now) write.now.out.now.components stripe 0 (group_width write.now.map.now)) }
 {
-    if holds_whole(map, range, stripe) {
-        return push_whole(made, alloc, map, range, bytes, out, stripe);
+    let map = write.map;
+    if holds_whole(map, write.range, stripe) {
+        return push_whole(
+            made,
+            alloc,
+            map,
+            write.range,
+            write.bytes,
+            write.out,
+            stripe,
+        );
     }
-    push_part(made, alloc, map, range, bytes, got, index, out, stripe)
+    push_part(made, alloc, write, stripe)
 }
 
 /// The bytes that a write of a range puts at each position that isn't out, out of what was gathered: its own new bytes,
@@ -303,11 +303,17 @@ pub fn apply_and_encode(
     check_writable(alloc, map, range, out)?;
     let index = index_parts(alloc, map, got.as_slice())?;
     let (first, end) = touched_stripes(map, range);
+    let write = Write {
+        map,
+        range,
+        bytes,
+        got,
+        index: &index,
+        out,
+    };
     let mut made = Columns::new(alloc);
     for stripe in first..end {
-        push_stripe(
-            &mut made, alloc, map, range, bytes, got, &index, out, stripe,
-        )?;
+        push_stripe(&mut made, alloc, &write, stripe)?;
     }
     Ok(made)
 }

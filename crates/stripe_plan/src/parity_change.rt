@@ -11,10 +11,10 @@ ghost use Rattle.stripe_plan.specs.Indexed.{stretches_of, Indexes};
 
 use crate::laid_bytes::zeros;
 use crate::new_parity::new_part;
-use crate::plan::{Fetched, Interval, Span};
-use crate::row_index::RowIndex;
+use crate::plan::Interval;
 use crate::rows::{code_of, got_in};
 use crate::touched::own_columns;
+use crate::write::Write;
 use data_map::{DataMap, MAX_FILE_SIZE};
 use osd_lists::{Bytes, Memory, Rows};
 use parity_code::{Code, parity_delta};
@@ -37,40 +37,39 @@ fn change_at(code: Code, unit: u32, old: &[u8], new: &[u8], p: &mut [u8], q: &mu
 // Takes the parity of these columns to the range's new bytes of a unit.
 fn change_unit(
     alloc: Global,
-    map: &DataMap,
-    range: Span,
-    bytes: &[u8],
-    got: &Fetched,
-    index: &RowIndex,
+    write: &Write<'_>,
     stripe: u64,
     unit: u32,
     columns: Interval,
     p: &mut [u8],
     q: &mut [u8],
 ) -> Result<(), Memory>
-    requires inside { range.offset + range.length ≤ MAX_FILE_SIZE }
-    requires bytes { length bytes.now ≡ range.length }
+    requires inside { write.now.range.offset + write.now.range.length ≤ MAX_FILE_SIZE }
+    requires bytes { length write.now.bytes.now ≡ write.now.range.length }
     requires stripe { stripe ≤ MAX_FILE_SIZE }
-    requires unit { unit < data_units map.now }
+    requires unit { unit < data_units write.now.map.now }
     requires low { IsLow columns }
     requires p { length p.old ≡ columns.end - columns.first }
     requires q { length q.old ≡ columns.end - columns.first }
-    requires index { Indexes (stretches_of (columns_of map.now got.now)) index.now }
-    ensures p { 0 < parities map.now → OnOk result
-        (UnitChanged map.now range bytes.now (columns_of map.now got.now) stripe unit 0 columns p.old p.new) }
-    ensures q { 1 < parities map.now → OnOk result
-        (UnitChanged map.now range bytes.now (columns_of map.now got.now) stripe unit 1 columns q.old q.new) }
+    requires index { Indexes (stretches_of (columns_of write.now.map.now write.now.got.now)) write.now.index.now }
+    ensures p { 0 < parities write.now.map.now → OnOk result
+        (UnitChanged write.now.map.now write.now.range write.now.bytes.now
+        (columns_of write.now.map.now write.now.got.now) stripe unit 0 columns p.old p.new) }
+    ensures q { 1 < parities write.now.map.now → OnOk result
+        (UnitChanged write.now.map.now write.now.range write.now.bytes.now
+        (columns_of write.now.map.now write.now.got.now) stripe unit 1 columns q.old q.new) }
     ensures p_long { length p.new ≡ length p.old }
     ensures q_long { length q.new ≡ length q.old }
 {
-    let own = own_columns(map, range, stripe, unit);
+    let map = write.map;
+    let own = own_columns(map, write.range, stripe, unit);
     let both = Interval {
         first: own.first.max(columns.first),
         end: own.end.min(columns.end),
     };
     if both.first < both.end {
-        let old = got_in(alloc, map, got, index, stripe, unit, both)?;
-        let new = new_part(map, range, bytes, stripe, unit, both);
+        let old = got_in(alloc, map, write.got, write.index, stripe, unit, both)?;
+        let new = new_part(map, write.range, write.bytes, stripe, unit, both);
         let at = (both.first - columns.first) as usize;
         change_at(code_of(map), unit, old.as_slice(), new, p, q, at);
     }
@@ -80,34 +79,28 @@ fn change_unit(
 // The parity of these columns, changed by the range's new bytes of each unit.
 pub(crate) fn changed_parity(
     alloc: Global,
-    map: &DataMap,
-    range: Span,
-    bytes: &[u8],
-    got: &Fetched,
-    index: &RowIndex,
+    write: &Write<'_>,
     stripe: u64,
     columns: Interval,
 ) -> Result<Rows, Memory>
-    requires inside { range.offset + range.length ≤ MAX_FILE_SIZE }
-    requires bytes { length bytes.now ≡ range.length }
+    requires inside { write.now.range.offset + write.now.range.length ≤ MAX_FILE_SIZE }
+    requires bytes { length write.now.bytes.now ≡ write.now.range.length }
     requires stripe { stripe ≤ MAX_FILE_SIZE }
     requires low { IsLow columns }
-    requires some { 0 < parities map.now }
-    requires index { Indexes (stretches_of (columns_of map.now got.now)) index.now }
-    ensures { IfOk result (HasParity (parities map.now) columns
-        (changed_parity map.now range bytes.now (columns_of map.now got.now) stripe)) }
+    requires some { 0 < parities write.now.map.now }
+    requires index { Indexes (stretches_of (columns_of write.now.map.now write.now.got.now)) write.now.index.now }
+    ensures { IfOk result (HasParity (parities write.now.map.now) columns
+        (changed_parity write.now.map.now write.now.range write.now.bytes.now
+        (columns_of write.now.map.now write.now.got.now) stripe)) }
 {
+    let map = write.map;
     let units = map.data_units();
-    let mut p = got_in(alloc, map, got, index, stripe, units, columns)?;
-    let mut q = second_parity(alloc, map, got, index, stripe, columns)?;
+    let mut p = got_in(alloc, map, write.got, write.index, stripe, units, columns)?;
+    let mut q = second_parity(alloc, write, stripe, columns)?;
     for unit in 0..units {
         change_unit(
             alloc,
-            map,
-            range,
-            bytes,
-            got,
-            index,
+            write,
             stripe,
             unit,
             columns,
@@ -135,29 +128,22 @@ fn parity_rows(alloc: Global, map: &DataMap, p: Bytes, q: Bytes) -> Result<Rows,
 // What was got of Q in these columns, or 0 without Q.
 fn second_parity(
     alloc: Global,
-    map: &DataMap,
-    got: &Fetched,
-    index: &RowIndex,
+    write: &Write<'_>,
     stripe: u64,
     columns: Interval,
 ) -> Result<Bytes, Memory>
     requires stripe { stripe ≤ MAX_FILE_SIZE }
     requires low { IsLow columns }
-    requires index { Indexes (stretches_of (columns_of map.now got.now)) index.now }
+    requires index { Indexes (stretches_of (columns_of write.now.map.now write.now.got.now)) write.now.index.now }
     ensures long { IfOk result (λ q. length q ≡ columns.end - columns.first) }
-    ensures got { 1 < parities map.now → IfOk result
-        (λ q. q ≡ got_in map.now (columns_of map.now got.now) stripe (data_units map.now + 1) columns) }
+    ensures got { 1 < parities write.now.map.now → IfOk result
+        (λ q. q ≡ got_in write.now.map.now (columns_of write.now.map.now write.now.got.now) stripe
+        (data_units write.now.map.now + 1) columns) }
 {
+    let map = write.map;
     if map.parities() == 2 {
-        let q = got_in(
-            alloc,
-            map,
-            got,
-            index,
-            stripe,
-            map.data_units() + 1,
-            columns,
-        )?;
+        let unit = map.data_units() + 1;
+        let q = got_in(alloc, map, write.got, write.index, stripe, unit, columns)?;
         return Ok(q);
     }
     zeros(alloc, columns.end.saturating_sub(columns.first))

@@ -16,6 +16,18 @@ use data_map::{DataMap, MAX_FILE_SIZE};
 use osd_lists::Memory;
 use std::alloc::Global;
 
+// What a plan is made for: its aim, the map, the range, what is out, and the stretches that are had already, with an
+// index of them by row.
+#[derive(Clone, Copy)]
+struct Request<'a> {
+    aim: Aim,
+    map: &'a DataMap,
+    range: Span,
+    out: &'a Out,
+    had: &'a [Stretch],
+    index: &'a RowIndex,
+}
+
 // These bytes of a component.
 fn push_component(
     asks: &mut Asks,
@@ -84,29 +96,43 @@ fn push_each(
 fn push_place(
     asks: &mut Asks,
     alloc: Global,
-    aim: Aim,
-    map: &DataMap,
-    range: Span,
-    out: &Out,
-    had: &[Stretch],
-    index: &RowIndex,
+    request: &Request<'_>,
     stripe: u64,
     place: u32,
 ) -> Result<(), Memory>
-    requires inside { range.offset + range.length ≤ MAX_FILE_SIZE }
+    requires inside { request.now.range.offset + request.now.range.length ≤ MAX_FILE_SIZE }
     requires stripe { stripe ≤ MAX_FILE_SIZE }
-    requires place { place < group_width map.now }
-    requires index { Indexes had.now index.now }
+    requires place { place < group_width request.now.map.now }
+    requires index { Indexes request.now.had.now request.now.index.now }
     ensures { OnOk result (asks.new ≡ asks.old
-        ++ asks_place aim map.now range out.now.components had.now stripe place) }
+        ++ asks_place request.now.aim request.now.map.now request.now.range request.now.out.now.components
+        request.now.had.now stripe place) }
 {
+    let map = request.map;
     let unit = map.unit_in(stripe, place);
     let position = map.group(stripe) * map.group_width() + place;
-    let columns = needed(alloc, aim, map, range, out, stripe, unit)?;
-    let left = left_of_each(alloc, map, had, index, stripe, position, columns.as_slice())?;
-    match aim {
-        Aim::Reads | Aim::Gathers => push_source(asks, map, out, stripe, position, left.as_slice()),
-        Aim::Scatters => push_each(asks, map, out, stripe, position, left.as_slice()),
+    let columns = needed(
+        alloc,
+        request.aim,
+        map,
+        request.range,
+        request.out,
+        stripe,
+        unit,
+    )?;
+    let left = left_of_each(
+        alloc,
+        map,
+        request.had,
+        request.index,
+        stripe,
+        position,
+        columns.as_slice(),
+    )?;
+    let left = left.as_slice();
+    match request.aim {
+        Aim::Reads | Aim::Gathers => push_source(asks, map, request.out, stripe, position, left),
+        Aim::Scatters => push_each(asks, map, request.out, stripe, position, left),
     }
 }
 
@@ -114,22 +140,18 @@ fn push_place(
 fn push_stripe(
     asks: &mut Asks,
     alloc: Global,
-    aim: Aim,
-    map: &DataMap,
-    range: Span,
-    out: &Out,
-    had: &[Stretch],
-    index: &RowIndex,
+    request: &Request<'_>,
     stripe: u64,
 ) -> Result<(), Memory>
-    requires inside { range.offset + range.length ≤ MAX_FILE_SIZE }
+    requires inside { request.now.range.offset + request.now.range.length ≤ MAX_FILE_SIZE }
     requires stripe { stripe ≤ MAX_FILE_SIZE }
-    requires index { Indexes had.now index.now }
+    requires index { Indexes request.now.had.now request.now.index.now }
     ensures { OnOk result (asks.new ≡ asks.old
-        ++ asks_stripe aim map.now range out.now.components had.now stripe 0 (group_width map.now)) }
+        ++ asks_stripe request.now.aim request.now.map.now request.now.range request.now.out.now.components
+        request.now.had.now stripe 0 (group_width request.now.map.now)) }
 {
-    for place in 0..map.group_width() {
-        push_place(asks, alloc, aim, map, range, out, had, index, stripe, place)?;
+    for place in 0..request.map.group_width() {
+        push_place(asks, alloc, request, stripe, place)?;
     }
     Ok(())
 }
@@ -150,9 +172,17 @@ pub fn asks(
 {
     let index = index_stretches(alloc, map, had)?;
     let (first, end) = touched_stripes(map, range);
+    let request = Request {
+        aim,
+        map,
+        range,
+        out,
+        had,
+        index: &index,
+    };
     let mut all = Asks::new(alloc);
     for stripe in first..end {
-        push_stripe(&mut all, alloc, aim, map, range, out, had, &index, stripe)?;
+        push_stripe(&mut all, alloc, &request, stripe)?;
     }
     Ok(all)
 }

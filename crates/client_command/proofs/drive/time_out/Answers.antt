@@ -1,6 +1,6 @@
 use Rattle.std.proofs.Common.{rules, ◌++◌, ◌∷◌, []}
 use Rattle.client_command.specs.declared.notices.Notice.TheVariants.{TimedOut}
-use Rattle.client_command.specs.Dealing.{dealing}
+use Rattle.client_command.specs.Exchanges.{dealing}
 use Rattle.client_command.proofs.DealingLaws.{is_stepped}
 use Rattle.client_command.proofs.drive.time_out.Goals as goal
 

@@ -1,5 +1,5 @@
 use Rattle.osd_bytes.specs.Asking.{ends_of}
-use Rattle.drive_command.specs.Ends.{streams}
+use Rattle.cluster_text.specs.Outside.{streams}
 use Rattle.server_command.proofs.Stopping.{acting}
 use Rattle.server_command.proofs.command.serve_cluster.Goals as goal
 

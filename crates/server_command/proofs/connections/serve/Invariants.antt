@@ -1,6 +1,6 @@
 use Rattle.std.proofs.Common.{◌≤◌, ◌-◌}
 use Rattle.osd_bytes.specs.Asking.{ends_of}
-use Rattle.server_command.specs.Serving.{ServesAll}
+use Rattle.server_command.specs.Connections.{ServesAll}
 use Rattle.server_command.proofs.connections.serve.Given as goal
 
 abbrev pub invariant-loop-served : goal.invariant-loop-served

@@ -1,7 +1,7 @@
 use Rattle.std.proofs.Common.{rules}
 use Rattle.std.proofs.lemmas.List.{take_all}
 use Rattle.osd_lists.proofs.Slices.{take_more}
-use Rattle.server_command.specs.Work.{ServesRecord}
+use Rattle.server_command.specs.Messages.{ServesRecord}
 use Rattle.server_command.proofs.WorkLaws.{turn_more}
 use Rattle.server_command.proofs.connections.serve_records.Goals as goal
 

@@ -1,6 +1,6 @@
 use Rattle.std.proofs.Common.{[], take}
 use Rattle.osd_bytes.specs.Asking.{ends_of}
-use Rattle.server_command.specs.Work.{InTurn, ServesRecord, serving}
+use Rattle.server_command.specs.Messages.{InTurn, ServesRecord, serving}
 use Rattle.server_command.proofs.connections.serve_records.Given as goal
 
 abbrev pub invariant-loop-i : goal.invariant-loop-i

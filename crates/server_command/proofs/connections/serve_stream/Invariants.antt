@@ -1,6 +1,6 @@
 use Rattle.std.proofs.Common.{[]}
 use Rattle.osd_bytes.specs.Asking.{ends_of}
-use Rattle.server_command.specs.Work.{serving}
+use Rattle.server_command.specs.Messages.{serving}
 use Rattle.server_command.proofs.ConnectionLaws.{HasServed}
 use Rattle.server_command.proofs.connections.serve_stream.Given as goal
 

@@ -1,6 +1,6 @@
 use Rattle.std.proofs.Common.{◌≡◌, ◌∙◌, List, ap, false, sym}
 use Rattle.server_rules.specs.declared.server.Drive.{Drive}
-use Rattle.server_command.specs.Knowing.{has_number}
+use Rattle.server_command.specs.Drives.{has_number}
 use Rattle.server_command.proofs.KnowingLaws.{is_new}
 use Rattle.server_command.proofs.drives.add_drive.Goals as goal
 

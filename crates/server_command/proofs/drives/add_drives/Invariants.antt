@@ -1,5 +1,5 @@
 use Rattle.std.proofs.Common.{◌≡◌, drop}
-use Rattle.server_command.specs.Knowing.{with_drives}
+use Rattle.server_command.specs.Drives.{with_drives}
 use Rattle.server_command.proofs.drives.add_drives.Given as goal
 
 abbrev pub invariant-loop-drive : goal.invariant-loop-drive

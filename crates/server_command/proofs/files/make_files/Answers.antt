@@ -3,7 +3,7 @@ use Rattle.std.proofs.lemmas.Option.{slice_get-get_or}
 use Rattle.osd_lists.proofs.Slices.{take_more}
 use Rattle.cluster_text.specs.declared.cluster.ClusterFile.{ClusterFile}
 use Rattle.server_command.proofs.WorkLaws.{turn_more}
-use Rattle.server_command.specs.Making.{MakesFile}
+use Rattle.server_command.specs.Files.{MakesFile}
 use Rattle.server_command.proofs.MakingLaws.{files_stop}
 use Rattle.server_command.proofs.files.make_files.Goals as goal
 

@@ -1,7 +1,7 @@
 use Rattle.std.proofs.Common.{[], true, take}
 use Rattle.osd_bytes.specs.Asking.{ends_of}
-use Rattle.server_command.specs.Work.{InTurn, serving}
-use Rattle.server_command.specs.Making.{MakesFile}
+use Rattle.server_command.specs.Messages.{InTurn, serving}
+use Rattle.server_command.specs.Files.{MakesFile}
 use Rattle.server_command.proofs.files.make_files.Given as goal
 
 abbrev pub invariant-loop-i : goal.invariant-loop-i

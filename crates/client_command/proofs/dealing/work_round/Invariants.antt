@@ -1,9 +1,0 @@
-use Rattle.std.proofs.Common.{take}
-use Rattle.client_command.specs.Dealing.{InTurn, Works, dealing}
-use Rattle.client_command.proofs.dealing.work_round.Given as goal
-
-abbrev pub invariant-loop-i : goal.invariant-loop-i
-invariant-loop-i g l =
-    InTurn Works (take l.i l.round)
-    (dealing l.initial.core l.initial.waiting l.initial.notices (g.L.Links.told l.initial.links) (g.L.Links.faults l.initial.links))
-    (dealing l.core l.waiting l.notices (g.L.Links.told l.links) (g.L.Links.faults l.links))

@@ -1,0 +1,25 @@
+use Rattle.std.proofs.Common.{rules, refl, suc}
+use Rattle.client_command.specs.Exchanges.{dealing}
+use Rattle.client_command.proofs.DealingLaws.{all_worked, loses_from, turn_from}
+use Rattle.client_command.proofs.exchanges.deal.Goals as goal
+
+pub rounds-init : goal.rounds-init
+rounds-init g c = (0, refl)
+
+pub rounds-preserved : goal.rounds-preserved
+rounds-preserved g c = (
+  suc c.rounds.invariant.0,
+  (_, c.rounds.invariant.1, turn_from _ _ _ _ (search rules) (search rules) c.in-Ok.ensures.works),
+)
+
+pub returns-then-is_empty-clause-works : goal.returns-then-is_empty-clause-works
+returns-then-is_empty-clause-works g c = all_worked c.rounds.invariant.0 _ _ _ _ _ _ c.rounds.invariant.1 (search rules)
+
+pub returns-in-Err-clause-loses : goal.returns-in-Err-clause-loses
+returns-in-Err-clause-loses g c = λ is. (
+  c.rounds.invariant.0,
+  dealing c.rounds.core c.rounds.waiting c.rounds.notices (g.L.Links.told c.rounds.links) (g.L.Links.faults c.rounds.links),
+  c.rounds.invariant.1,
+  c.work_round.new.waiting,
+  loses_from _ _ _ _ (search rules) (search rules) (c.in-Err.ensures.loses is),
+)

@@ -1,0 +1,107 @@
+// An order to the server, and its answer.
+ghost use Rattle.std.specs.Prelude.{◌≡◌, ◌++◌, Some, IfOk};
+ghost use Rattle.layout_ops.specs.Enumerations.{order_result_number};
+ghost use Rattle.layout_ops.specs.Reading.{envelope_of};
+ghost use Rattle.client_command.specs.WorkEnds.{end_by_result};
+ghost use Rattle.client_command.specs.Lines.{next_line, order_line};
+ghost use Rattle.client_command.specs.Orders.{Answers, answer_read, sent_order};
+ghost use Rattle.client_command.specs.Reports.{IsReport, ReportsOrder, links_at};
+
+use crate::lines::{order_text, push_next};
+use crate::work_ends::{Report, end_by_result};
+use command_words::Order;
+use layout_ops::{
+    Envelope, OpErr, Order as SentOrder, OrderKind, OrderResult, read_envelope, write_envelope,
+};
+use osd_bytes::{Links, asked};
+use osd_lists::{Bytes, Memory, Node};
+use std::alloc::Global;
+
+// The order as the server takes it.
+fn sent_order(order: Order) -> SentOrder
+    ensures { result ≡ sent_order order }
+{
+    match order {
+        Order::Recall(file) => SentOrder {
+            order: OrderKind::Recall,
+            target: file.number(),
+        },
+        Order::Revoke(file) => SentOrder {
+            order: OrderKind::Revoke,
+            target: file.number(),
+        },
+        Order::Declare(drive) => SentOrder {
+            order: OrderKind::Declare,
+            target: drive.number(),
+        },
+        Order::Rebuild(file) => SentOrder {
+            order: OrderKind::Rebuild,
+            target: file.number(),
+        },
+        Order::Audit(file) => SentOrder {
+            order: OrderKind::Audit,
+            target: file.number(),
+        },
+    }
+}
+
+// What the bytes of a record answer to an order of this kind, `None` if they aren't its answer.
+fn answer_in(alloc: Global, order: OrderKind, bytes: &[u8]) -> Result<Option<OrderResult>, Memory>
+    ensures { IfOk result (λ answer. answer ≡ answer_read order (envelope_of bytes.now)) }
+{
+    match read_envelope(alloc, bytes) {
+        Ok(Envelope::OrderAnswer(answer)) if answer.order.number() == order.number() => {
+            Ok(Some(answer.result))
+        }
+        Ok(_) => Ok(None),
+        Err(OpErr::Memory) => Err(Memory),
+        Err(_) => Ok(None),
+    }
+}
+
+// Hands the server an order, and gives what the server answers, `None` if its answer doesn't come.
+fn answer_of<L: Links>(
+    alloc: Global,
+    order: SentOrder,
+    links: &mut L,
+) -> Result<Option<OrderResult>, Memory>
+    ensures { IfOk result (Answers order (L.told links.old) (L.told links.new) (L.faults links.old) (L.faults links.new)) }
+{
+    let message = write_envelope(alloc, &Envelope::Order(order))?;
+    match asked(alloc, links, Node::Server, message.as_slice())? {
+        Some(record) => answer_in(alloc, order.order, record.as_slice()),
+        None => Ok(None),
+    }
+}
+
+// The report of an order that was answered so. The order used up no request of the client.
+fn report_answer(alloc: Global, sequence: u32, answer: OrderResult) -> Result<Report, Memory>
+    ensures { IfOk result (IsReport (order_line (order_result_number answer) ++ next_line sequence)
+        (Some (end_by_result answer))) }
+{
+    let mut text = order_text(alloc, answer.number())?;
+    push_next(alloc, &mut text, sequence)?;
+    Ok(Report {
+        text,
+        end: Some(end_by_result(answer)),
+    })
+}
+
+/// Hands the server an order, in one exchange.
+pub(crate) fn report_order<L: Links>(
+    alloc: Global,
+    sequence: u32,
+    order: Order,
+    links: &mut L,
+) -> Result<Report, Memory>
+    ensures { IfOk result (ReportsOrder sequence order
+        (links_at L.Links links.old) (links_at L.Links links.new)) }
+{
+    match answer_of(alloc, sent_order(order), links)? {
+        Some(answer) => report_answer(alloc, sequence, answer),
+        None => Ok(Report {
+            text: Bytes::new(alloc),
+            end: None,
+        }),
+    }
+}

@@ -1,0 +1,62 @@
+// What a drive serves once its links listen, and the lines before and after.
+ghost use Rattle.std.specs.Prelude.{IfErr, OnOk};
+ghost use Rattle.drive_command.specs.Connections.{ServesAll, network_at};
+ghost use Rattle.cluster_text.specs.Lines.{served_line, stop_of_serving};
+ghost use Rattle.drive_command.specs.Ends.{Serves, StopsAccepting, StopsServing};
+
+use crate::connections::serve;
+use cluster_text::{CommandStop, served_line, stop_of_serving};
+use osd_bytes::{Clock, Links, Sink, put_all};
+use osd_drive::DriveCore;
+use std::alloc::Global;
+
+// Serves so many connections over links that listen, without the lines.
+fn serve_all<L: Links, C: Clock>(
+    alloc: Global,
+    core: &mut DriveCore,
+    connections: u32,
+    links: &mut L,
+    clock: &mut C,
+) -> Result<(), CommandStop>
+    ensures served { OnOk result (ServesAll connections core.old core.new
+        (network_at L.Links C.Clock links.old clock.old) (network_at L.Links C.Clock links.new clock.new)) }
+    ensures stops { IfErr result (StopsAccepting
+        (network_at L.Links C.Clock links.old clock.old) (network_at L.Links C.Clock links.new clock.new)) }
+{
+    match serve(alloc, core, links, clock, connections) {
+        Ok(()) => Ok(()),
+        Err(e) => Err(stop_of_serving(e)),
+    }
+}
+
+// Serves so many connections over links that listen, and tells when that begins and when it is over.
+pub(crate) fn serve_core<K: Sink, L: Links, C: Clock>(
+    alloc: Global,
+    core: &mut DriveCore,
+    connections: u32,
+    sink: &mut K,
+    links: &mut L,
+    clock: &mut C,
+) -> Result<(), CommandStop>
+    ensures serves { OnOk result (Serves connections core.old core.new
+        (network_at L.Links C.Clock links.old clock.old) (network_at L.Links C.Clock links.new clock.new)
+        (K.taken sink.old) (K.taken sink.new)) }
+    ensures stops { IfErr result (StopsServing connections
+        (network_at L.Links C.Clock links.old clock.old) (network_at L.Links C.Clock links.new clock.new)
+        (K.taken sink.old) (K.taken sink.new) (K.faults sink.old) (K.faults sink.new)) }
+{
+    let served = served_line(alloc, connections)?;
+    match put_all(sink, b"listening\n") {
+        Ok(()) => {}
+        Err(_) => return Err(CommandStop::WriteFault),
+    }
+    // Here and below, arms in place of `?` or of the bare call are for the prover (docs/PROVER_FORMS.md).
+    match serve_all(alloc, core, connections, links, clock) {
+        Ok(()) => {}
+        Err(stop) => return Err(stop),
+    }
+    match put_all(sink, served.as_bytes()) {
+        Ok(()) => Ok(()),
+        Err(_) => Err(CommandStop::WriteFault),
+    }
+}

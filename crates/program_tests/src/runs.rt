@@ -1,0 +1,196 @@
+// Runs of the program over connections in memory.
+ghost use Rattle.std.specs.Result.{ForOk};
+ghost use Rattle.stripe_repair.specs.Placing.{CanPlace, IsPlacer, Places};
+
+use crate::ends::{copied, lists, numbers};
+use osd_bytes::{Clock, Links, MemClock, MemLinks, MemSink, MemSource, Sink, Source};
+use osd_lists::{Memory, Numbers, Times};
+use osd_replay::fewest_first;
+use pnfs_run::{Status, run};
+use std::alloc::Global;
+use std::process::Abort;
+use stripe_repair::{DriveLoad, Placer};
+
+/// What a run is given, and what has to come of it.
+pub struct Case {
+    pub name: &'static str,
+    pub words: &'static [&'static str],
+    /// What the source gives.
+    pub input: &'static str,
+    /// What comes on each connection that is accepted.
+    pub accepted: &'static [&'static [u8]],
+    /// What comes on each connection that asks.
+    pub asked: &'static [&'static [u8]],
+    /// Which calls of the links fail, from 0.
+    pub fails: &'static [u32],
+    /// What goes out on the connections that ask.
+    pub sent: &'static [&'static [u8]],
+    pub exit_code: u8,
+    pub output: &'static str,
+}
+
+/// The cluster of a drive and a file, without the drive's key.
+pub const KEYLESS: &str = "server = \"h:1\"
+[[drive]]
+number = 0
+address = \"h:2\"
+capacity = 20000000
+[[file]]
+number = 0
+components = 1
+unit = 4
+width = 0
+depth = 0
+mirrors = 0
+algorithm = 1
+";
+
+/// The same with its key.
+pub const CLUSTER: &str = "server = \"h:1\"
+[[drive]]
+number = 0
+address = \"h:2\"
+key = \"0b0b0b0b0b0b0b0b0b0b0b0b0b0b0b0b0b0b0b0b\"
+capacity = 20000000
+[[file]]
+number = 0
+components = 1
+unit = 4
+width = 0
+depth = 0
+mirrors = 0
+algorithm = 1
+";
+
+/// Nothing to do, for a case that names only what differs.
+pub const NOTHING: Case = Case {
+    name: "",
+    words: &[],
+    input: KEYLESS,
+    accepted: &[],
+    asked: &[],
+    fails: &[],
+    sent: &[],
+    exit_code: 0,
+    output: "",
+};
+
+/// The words that memory is left for.
+pub fn strings(alloc: Global, words: &[&str]) -> Vec<String> {
+    let mut strings = Vec::new(alloc);
+    for word in words {
+        add_string(alloc, &mut strings, word);
+    }
+    strings
+}
+
+// Adds a word, if memory is left for it.
+fn add_string(alloc: Global, strings: &mut Vec<String>, word: &str) {
+    match String::from_str(alloc, word) {
+        Ok(string) => {
+            let _ = strings.push(string);
+        }
+        Err(_) => {}
+    }
+}
+
+// How a run of these words ends.
+fn status_of<S: Source, K: Sink, L: Links, C: Clock, F>(
+    alloc: Global,
+    words: &[String],
+    source: &mut S,
+    sink: &mut K,
+    links: &mut L,
+    clock: &mut C,
+    placer: &Placer<F>,
+) -> Status
+where
+    F: Fn(u32, &[DriveLoad]) -> Result<Numbers, Memory>,
+    requires { IsPlacer F.Fn placer.now }
+{
+    run(alloc, words, source, sink, links, clock, placer)
+}
+
+// The exit status of the program for these words. Components are placed as the program places them.
+fn exit_code<S: Source, K: Sink, L: Links, C: Clock>(
+    alloc: Global,
+    words: &[String],
+    source: &mut S,
+    sink: &mut K,
+    links: &mut L,
+    clock: &mut C,
+) -> u8 {
+    let placer = Placer::new(
+        |count: u32, loads: &[DriveLoad]| -> Result<Numbers, Memory>
+            requires { CanPlace count loads.now }
+            ensures { ForOk result (Places count loads.now) }
+        { fewest_first(alloc, count, loads) },
+    );
+    status_of(alloc, words, source, sink, links, clock, &placer).exit_code()
+}
+
+// The same with a clock that stands still.
+fn exit_code_over<S: Source, K: Sink, L: Links>(
+    alloc: Global,
+    words: &[String],
+    source: &mut S,
+    sink: &mut K,
+    links: &mut L,
+) -> u8 {
+    let mut clock = MemClock::new(Times::new(alloc));
+    exit_code(alloc, words, source, sink, links, &mut clock)
+}
+
+/// Runs the command of these words over an input, whose source fails at the calls of the numbers `reads`, into a sink,
+/// and gives the exit status of the program.
+pub fn exit_code_of<K: Sink, L: Links>(
+    alloc: Global,
+    words: &[&str],
+    input: &str,
+    reads: &[u32],
+    sink: &mut K,
+    links: &mut L,
+) -> u8 {
+    let words = strings(alloc, words);
+    let mut source = MemSource::new(copied(alloc, input.as_bytes()), numbers(alloc, reads));
+    exit_code_over(alloc, words.as_slice(), &mut source, sink, links)
+}
+
+// Whether exactly this went out on the connections that asked.
+fn sent_is(links: &MemLinks, sent: &[&[u8]]) -> bool {
+    if links.asked_count() != sent.len() {
+        return false;
+    }
+    for i in 0..sent.len() {
+        if links.sent_on(i) != sent[i] {
+            return false;
+        }
+    }
+    true
+}
+
+// Whether a case comes to what it says over a sink and links.
+fn goes_over(alloc: Global, case: &Case, sink: &mut MemSink, links: &mut MemLinks) -> bool {
+    exit_code_of(alloc, case.words, case.input, &[], sink, links) == case.exit_code
+        && sink.bytes() == case.output.as_bytes()
+        && sent_is(links, case.sent)
+}
+
+// Whether a case comes to what it says.
+fn goes(alloc: Global, case: &Case) -> bool {
+    let mut links = MemLinks::new(
+        alloc,
+        lists(alloc, case.accepted),
+        lists(alloc, case.asked),
+        numbers(alloc, case.fails),
+    );
+    let mut sink = MemSink::new(alloc, Numbers::new(alloc));
+    goes_over(alloc, case, &mut sink, &mut links)
+}
+
+/// Ends the test at the first case that goes otherwise, which it names.
+pub fn play(rt: &impl Abort, alloc: Global, cases: &[Case]) {
+    for case in cases {
+        assert!(rt; goes(alloc, case), "{}", case.name);
+    }
+}

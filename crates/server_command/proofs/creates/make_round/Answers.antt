@@ -1,0 +1,19 @@
+use Rattle.std.proofs.Common.{rules}
+use Rattle.std.proofs.lemmas.List.{take_all}
+use Rattle.osd_lists.proofs.Slices.{take_more}
+use Rattle.server_command.proofs.WorkLaws.{turn_more}
+use Rattle.server_command.specs.Files.{Makes}
+use Rattle.server_command.proofs.MakingLaws.{round_stops}
+use Rattle.server_command.proofs.creates.make_round.Goals as goal
+
+pub loop-i-preserved : goal.loop-i-preserved
+loop-i-preserved g c =
+    rw (take_more c.args.round.now c.loop-i.i c.get.result.now (search rules))
+    (turn_more Makes _ c.get.result.now _ _ _ c.loop-i.invariant c.in-Ok.ensures.makes)
+
+pub returns-clause-makes : goal.returns-clause-makes
+returns-clause-makes g c = rw (take_all c.loop-i.i c.args.round.now (search rules)) at c.loop-i.invariant
+
+pub returns-in-Err-clause-stops : goal.returns-in-Err-clause-stops
+returns-in-Err-clause-stops g c =
+    round_stops c.args.round.now c.loop-i.i c.get.result.now _ _ _ c.in-Err.stop (search rules) c.loop-i.invariant c.in-Err.ensures.stops

@@ -1,0 +1,12 @@
+use Rattle.std.proofs.Common.{true, take}
+use Rattle.osd_bytes.specs.Asking.{ends_of}
+use Rattle.server_command.specs.Messages.{InTurn, serving}
+use Rattle.server_command.specs.Files.{Makes}
+use Rattle.server_command.proofs.creates.make_round.Given as goal
+
+abbrev pub invariant-loop-i : goal.invariant-loop-i
+invariant-loop-i g l =
+    InTurn Makes (take l.i l.round)
+    (serving l.initial.core l.initial.waiting true
+    (ends_of (g.L.Links.told l.initial.links) (g.L.Links.faults l.initial.links) (g.C.Clock.times l.initial.clock)))
+    (serving l.core l.waiting true (ends_of (g.L.Links.told l.links) (g.L.Links.faults l.links) (g.C.Clock.times l.clock)))

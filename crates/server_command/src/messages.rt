@@ -1,0 +1,153 @@
+// The messages that a server has to send, one after the other.
+ghost use Rattle.std.specs.Prelude.{◌≡◌, [], ℕ, List, Option, IfOk};
+ghost use Rattle.cluster_text.specs.Outside.{network_at};
+ghost use Rattle.osd_bytes.specs.Asking.{ends_of};
+ghost use Rattle.server_rules.specs.declared.server.Server.{Server};
+ghost use Rattle.server_requests.specs.declared.outgoing.Sent.{Sent};
+ghost use Rattle.server_command.specs.Messages.{InTurn, PutsIf, Works, WorksAll, is_sender, serving};
+
+use crate::records::ask_drive;
+use layout_server::{Sends, Sent, ServerCore};
+use osd_bytes::{Clock, Links, put_record};
+use osd_lists::{Memory, Node};
+use std::alloc::Global;
+use std::mem;
+use stripe_repair::Place;
+
+// Whether this node sent the record whose messages are sent.
+fn is_sender(sender: Option<Node>, to: Node) -> bool
+    ensures { result ≡ is_sender sender to }
+{
+    match (sender, to) {
+        (Some(Node::Server), Node::Server) => true,
+        (Some(Node::Client(client)), Node::Client(other)) => client == other,
+        _ => false,
+    }
+}
+
+// Puts a message on the accepted connection, if it is meant to go there. Gives whether the connection stands after that.
+fn put_if<L: Links>(
+    alloc: Global,
+    links: &mut L,
+    message: &[u8],
+    is_meant: bool,
+    stands: bool,
+) -> Result<bool, Memory>
+    ensures { IfOk result (λ still. (server : Server) (waiting : List Sent) (times : Option (List ℕ)) →
+        PutsIf is_meant message.now
+        (serving server waiting stands (ends_of (L.told links.old) (L.faults links.old) times))
+        (serving server waiting still (ends_of (L.told links.new) (L.faults links.new) times))) }
+{
+    if !is_meant {
+        return Ok(stands);
+    }
+    let still = put_record(alloc, links, message)?;
+    Ok(still)
+}
+
+// Sends one message. Gives whether the accepted connection stands after that.
+fn work<L: Links, C: Clock, P: Place>(
+    alloc: Global,
+    core: &mut ServerCore,
+    links: &mut L,
+    clock: &mut C,
+    placer: &P,
+    sender: Option<Node>,
+    sent: &Sent,
+    stands: bool,
+    waiting: &mut Sends,
+) -> Result<bool, Memory>
+    requires placer { P.is_placer placer.now }
+    ensures { IfOk result (λ still. Works sender sent.now
+        (serving core.old waiting.old stands (network_at L.Links C.Clock links.old clock.old))
+        (serving core.new waiting.new still (network_at L.Links C.Clock links.new clock.new))) }
+{
+    let message = sent.bytes.as_slice();
+    match sent.to {
+        Node::Drive(drive) => {
+            ask_drive(alloc, core, links, clock, placer, drive, message, waiting)?;
+            Ok(stands)
+        }
+        Node::Server => {
+            let is_meant = is_sender(sender, Node::Server) && stands;
+            let still = put_if(alloc, links, message, is_meant, stands)?;
+            Ok(still)
+        }
+        Node::Client(client) => {
+            let is_meant = is_sender(sender, Node::Client(client)) && stands;
+            let still = put_if(alloc, links, message, is_meant, stands)?;
+            Ok(still)
+        }
+    }
+}
+
+// Sends these messages in order. What they bring waits after that.
+fn work_round<L: Links, C: Clock, P: Place>(
+    alloc: Global,
+    core: &mut ServerCore,
+    links: &mut L,
+    clock: &mut C,
+    placer: &P,
+    sender: Option<Node>,
+    round: &Sends,
+    puts: bool,
+    waiting: &mut Sends,
+) -> Result<bool, Memory>
+    requires placer { P.is_placer placer.now }
+    ensures { IfOk result (λ still. InTurn (Works sender) round.now
+        (serving core.old waiting.old puts (network_at L.Links C.Clock links.old clock.old))
+        (serving core.new waiting.new still (network_at L.Links C.Clock links.new clock.new))) }
+{
+    let mut stands = puts;
+    for i in 0..round.len() {
+        stands = work(
+            alloc,
+            core,
+            links,
+            clock,
+            placer,
+            sender,
+            round.get(i),
+            stands,
+            waiting,
+        )?;
+    }
+    Ok(stands)
+}
+
+/// Sends these messages in order, and then what they bring, until none waits. Gives whether the accepted connection
+/// stands after that: it took whole what was put on it.
+pub fn work_all<L: Links, C: Clock, P: Place>(
+    alloc: Global,
+    core: &mut ServerCore,
+    links: &mut L,
+    clock: &mut C,
+    placer: &P,
+    sender: Option<Node>,
+    sends: Sends,
+    puts: bool,
+) -> Result<bool, Memory>
+    requires placer { P.is_placer placer.now }
+    ensures { IfOk result (λ still. WorksAll sender
+        (serving core.old sends puts (network_at L.Links C.Clock links.old clock.old))
+        (serving core.new [] still (network_at L.Links C.Clock links.new clock.new))) }
+{
+    let mut waiting = sends;
+    let mut stands = puts;
+    // Each round that brings messages raises the server's nonce, so a drive that answers for ever is left at last.
+    'rounds: while !waiting.is_empty() {
+        let round = mem::replace(&mut waiting, Sends::new(alloc));
+        stands = work_round(
+            alloc,
+            core,
+            links,
+            clock,
+            placer,
+            sender,
+            &round,
+            stands,
+            &mut waiting,
+        )?;
+    }
+    Ok(stands)
+}
