@@ -24,7 +24,7 @@ use Rattle.drive_command.specs.Own.{core_from, core_in, keys_of}
 
 -- ---- tests and options
 
-pub bound : {A B : Type 0} (o : Option A) (f : A → Option B) (y : B) → (o >>= f) ≡ Some y → (x : A) × (o ≡ Some x) × (f x ≡ Some y)
+bound : {A B : Type 0} (o : Option A) (f : A → Option B) (y : B) → (o >>= f) ≡ Some y → (x : A) × (o ≡ Some x) × (f x ≡ Some y)
 bound (Some x) f y h = (x, refl, h)
 bound None f y h = cc h
 
@@ -74,7 +74,7 @@ lacks_parts n top ds fs h =
     let c = or_parts _ _ b.0 in
     (c.1, not_false (list_any (is_drive n) ds) a.1)
 
-pub wrong_parts : (top : Members) (ds fs : List Members) → is_wrong top ds fs ≡ false → list_any is_wrong_drive ds ≡ false
+wrong_parts : (top : Members) (ds fs : List Members) → is_wrong top ds fs ≡ false → list_any is_wrong_drive ds ≡ false
 unfolding is_wrong
 wrong_parts top ds fs h = (or_parts _ _ (or_parts _ _ h).0).1
 
@@ -98,13 +98,13 @@ number_is t n h =
     let b = bound (integer_at (codes "number") t) natural_of a.0 a.1 in
     b.1 ∙ ap (λ (z : ℤ). Some z) (natural_is b.0 a.0 b.2 ∙ ap pos (in_range_is 0 (MAX_DRIVES - 1) a.0 n a.2))
 
-pub key_there : (digits : Option (List ℕ)) (key : Option (List ℕ)) → is_none digits ≡ false → key_of digits ≡ Some key → is_some key ≡ true
+key_there : (digits : Option (List ℕ)) (key : Option (List ℕ)) → is_none digits ≡ false → key_of digits ≡ Some key → is_some key ≡ true
 key_there None key there h = cc there
 key_there (Some digits) key there h =
     let a = bound (result_ok (decode_sized digits 20)) (λ k. Some (Some k)) key h in
     let same : Some a.0 ≡ key = cc a.2 in rw (← same) refl
 
-pub has_text : (there none : Bool) → not there ≡ false → (there && none) ≡ false → none ≡ false
+has_text : (there none : Bool) → not there ≡ false → (there && none) ≡ false → none ≡ false
 has_text true none there h = h
 has_text false none there h = cc there
 

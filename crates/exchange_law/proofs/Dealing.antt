@@ -7,7 +7,6 @@ use Rattle.osd_lists.specs.declared.node.Node.TheVariants as node
 use Rattle.osd_objects.proofs.Entries.{lookup_inserted, lookup_beside, lookup_set, lookup_set_beside}
 use Rattle.server_rules.specs.History as server_input
 use Rattle.server_rules.specs.Laws.{In}
-use Rattle.server_rules.proofs.Members.{in_mapped, in_filtered}
 use Rattle.client_rules.specs.Envelopes.{receiver}
 use Rattle.client_rules.specs.Steps.{new_client}
 use Rattle.client_rules.specs.History.{Input, Hears, step}
@@ -18,6 +17,7 @@ use Rattle.world_history.specs.declared.messages.Posted.{Posted}
 use Rattle.world_history.specs.State.{Body, ClientAt, World, at_number, with_number, with_client}
 use Rattle.world_history.specs.Handed.{Post, plain, is_addressed, quiet, server_post, client_posts, client_body, for_client}
 use Rattle.world_history.specs.Moves.{Act, Action, adds_client, acts}
+use Rattle.server_rules.proofs.Members.{in_mapped, in_filtered}
 use Rattle.fencing_law.proofs.Moves.{messages_in}
 use Rattle.move_law.specs.Moves.{IsForClient, MoveCases}
 use Rattle.move_law.proofs.Moves.{each_act}

@@ -11,8 +11,8 @@ use Rattle.world_history.specs.Runs.{world_after, plan_after}
 use Rattle.world_history.specs.Refusals.{refusal, unless_there}
 use Rattle.move_law.specs.Moments.{IsMoment, plan_at}
 pub use Rattle.move_law.proofs.Moments.{IsKept, always}
-use Rattle.world_history.proofs.ReadMessages.{never_opens}
 use Rattle.world_history.proofs.Runs.{no_opening}
+use Rattle.world_history.proofs.ReadMessages.{never_opens}
 
 not_opened : (w : World) (p : Plan) (e : Event) → p.opening ≡ None → due p w ≡ Some (Opens e) → ⊥
 not_opened w p e none d =

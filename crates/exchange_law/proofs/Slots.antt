@@ -1,6 +1,6 @@
 -- No line says that a call is refused since its client has no sequence number left.
 use Rattle.std.specs.List.{AllByRecursion, cons_option, filter_map}
-use Rattle.std.proofs.Common.{◌≡◌, ◌==◌, ◌||◌, ◌&&◌, ℕ, ◌+◌, ◌-◌, ◌≤◌, ◌++◌, ◌∷◌, [], List, Bool, true, false, Option, Some, None, Result, Ok, Err, is_some, length, nat_lt, slice_get, refl, sym, subst, ◌∙◌, arith, if◌then◌else◌}
+use Rattle.std.proofs.Common.{◌≡◌, ◌==◌, ◌||◌, ◌&&◌, ℕ, ◌+◌, ◌-◌, ◌≤◌, ◌++◌, ◌∷◌, [], List, Bool, true, false, Option, Some, None, Result, Ok, Err, is_some, length, nat_lt, refl, sym, subst, ◌∙◌, arith, if◌then◌else◌}
 use Rattle.std.proofs.lemmas.Bool.Decides.{nat_tests}
 use Rattle.server_rules.specs.History as server_input
 use Rattle.client_rules.specs.declared.limits.TheConstants.{GREATEST_SEQUENCE, SPARE_REQUESTS}
@@ -24,10 +24,10 @@ use Rattle.world_history.specs.Names.{where_known, note_line, is_tellable_note, 
 use Rattle.world_history.specs.Handed.{Post, quiet, op_in, end_line, ended_by}
 use Rattle.world_history.specs.Moves.{Act, Action, acts}
 use Rattle.world_history.specs.Sending.{Move, move, sent_lines}
-use Rattle.world_history.proofs.Always.{opening, IsKept}
 use Rattle.move_law.specs.Moves.{AreQuiet, front_of, MoveCases}
 use Rattle.move_law.proofs.Moves.{front_cases, each_act}
 use Rattle.history_law.proofs.Each.{EachBehind, each_more, each_front, at_each_line}
+use Rattle.world_history.proofs.Always.{opening, IsKept}
 use Rattle.history_law.proofs.Histories.{lawful}
 use Rattle.history_law.proofs.DriveEvents.{IsRead, kept as all_read}
 use Rattle.exchange_law.specs.Text.{AreFew}

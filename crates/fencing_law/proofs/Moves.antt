@@ -7,7 +7,6 @@ use Rattle.osd_lists.specs.declared.node.Node.TheVariants as node
 use Rattle.server_rules.specs.Laws.{In}
 use Rattle.server_rules.specs.History.{Input, Hears, step}
 use Rattle.server_rules.specs.History as server_input
-use Rattle.server_rules.proofs.Members.{in_filtered}
 use Rattle.client_rules.specs.History as client_input
 use Rattle.scenario_text.specs.declared.line.Delivery.{Delivery}
 use Rattle.scenario_text.specs.declared.line.Delivery.TheVariants as delivery
@@ -26,6 +25,7 @@ use Rattle.world_history.specs.Names.{where_known, note_line, is_tellable_note, 
 use Rattle.world_history.specs.Handed.{Post, is_addressed, server_post, client_posts, end_line, ended_by, for_server, op_in, wrote_in, data_in}
 use Rattle.world_history.specs.Moves.{Act, Action, known_drive, acts}
 use Rattle.world_history.specs.Sending.{Move, move, sends_all}
+use Rattle.server_rules.proofs.Members.{in_filtered}
 use Rattle.move_law.specs.Moves.{IsForServer, IsQuiet, AreQuiet, front_of, MoveCases}
 use Rattle.move_law.proofs.Moves.{front_cases, each_act}
 

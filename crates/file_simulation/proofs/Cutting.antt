@@ -14,10 +14,9 @@ use Rattle.world_history.specs.Refusals.{refusal}
 use Rattle.world_history.specs.History.{StandsFor, Begins, Lawful}
 use Rattle.world_history.specs.History.Begins.{Nothing, Part}
 use Rattle.history_law.specs.BookMoments.{IsMoment, with_event, lines_in, lines_so_far, plan_at}
-use Rattle.world_history.proofs.Runs.{due_more, world_more, plan_more}
 use Rattle.world_history.proofs.ReadMessages.{never_opens}
-use Rattle.move_law.proofs.Moments.{so_far_more, no_event}
-use Rattle.calm_law.proofs.Events.{later_lines, event_lines}
+use Rattle.world_history.proofs.Runs.{due_more, plan_more, world_more}
+use Rattle.move_law.proofs.Moments.{so_far_more}
 use Rattle.file_simulation.specs.Simulation.{IsNext}
 
 -- the history ends behind the first `count` lines of a move
@@ -79,6 +78,29 @@ cut_here w h k m d x z e = record {
 lines_all : World → List Move → List Line
 lines_all w [] = []
 lines_all w (m ∷ ms) = lines_in w m ++ lines_all (move w m).world ms
+
+later_line : (w : World) (r : Rule) (a : Action) (ls : List Line) → due_by w r ≡ Some a → with_event a ls ≡ ls
+later_line w r (Opens e) ls d = absurd (never_opens w r e d)
+later_line w r (Delivers n) ls d = refl
+later_line w r (TimesOut c k) ls d = refl
+later_line w r (Pends c) ls d = refl
+
+later_lines : (p : Plan) (w : World) (ms : List Move) → p.opening ≡ None → AreDue p w ms → lines_all w ms ≡ lines_of w ms
+unfolding lines_all
+later_lines p w [] o d = refl
+later_lines p w (m ∷ ms) o d =
+    ap (λ (ls : List Line). ls ++ lines_all (move w m).world ms)
+    (later_line w p.rule m.action (move w m).lines (sym (ap (due_in w p.rule) o) ∙ d.0))
+    ∙ ap (λ (ls : List Line). (move w m).lines ++ ls) (later_lines (went_on p m.action) (move w m).world ms refl d.1)
+
+event_lines : (w : World) (e : Event) (m : Move) (ms : List Move) → AreDue (plan_of w e) w (m ∷ ms)
+    → lines_all w (m ∷ ms) ≡ line.Event e ∷ lines_of w (m ∷ ms)
+unfolding lines_all
+event_lines w e m ms d =
+    let opens : Opens e ≡ m.action = cc d.0 in
+    ap (λ (a : Action). with_event a (move w m).lines ++ lines_all (move w m).world ms) (sym opens)
+    ∙ ap (λ (ls : List Line). line.Event e ∷ ((move w m).lines ++ ls))
+    (later_lines (went_on (plan_of w e) m.action) (move w m).world ms refl d.1)
 
 module _ (v : World) (g : List Line) (s : StandsFor v g) (e : Event) (allowed : refusal v e ≡ None) where
   abbrev plan : Plan

@@ -1,5 +1,5 @@
 -- The files of a server behind a step, one by one.
-use Rattle.std.proofs.Common.{◌≡◌, ◌⊎◌, ◌==◌, ℕ, Bool, true, false, nat_lt, List, [], ◌∷◌, Option, Some, None, map, find, is_some, arith, inl, inr, refl, sym, ap, subst, ◌∙◌, if◌then◌else◌}
+use Rattle.std.proofs.Common.{◌≡◌, ◌⊎◌, ◌==◌, ℕ, Bool, true, false, nat_lt, List, [], ◌∷◌, Some, map, inl, inr, refl, sym, subst, ◌∙◌, if◌then◌else◌}
 use Rattle.std.proofs.lemmas.Bool.{cases_eq, eq-eqb, ne_eqb}
 use Rattle.server_rules.specs.Files.{Step, begins, file_at, put_file, add_file, at_file}
 use Rattle.server_rules.specs.Going.{Going}

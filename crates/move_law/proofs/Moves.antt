@@ -34,7 +34,7 @@ use Rattle.world_history.specs.Handed.{Handed, handed_to, server_did, server_tak
 use Rattle.world_history.specs.Moves as world
 use Rattle.world_history.specs.Moves.{Act, Action, Opens, Delivers, TimesOut, Pends, acts, marked, told_delivered}
 use Rattle.move_law.specs.Said.{said}
-use Rattle.move_law.specs.Moves.{number_in, given_in, asked_in, IsForServer, IsForClient, front_of, fronted, IsFileRefusal, Turns, Raised, Timed, Falls, MoveCases}
+use Rattle.move_law.specs.Moves.{number_in, IsForServer, IsForClient, front_of, fronted, IsFileRefusal, Turns, Raised, Timed, Falls, MoveCases}
 
 -- ---- marks
 

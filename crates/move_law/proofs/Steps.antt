@@ -1,5 +1,5 @@
 -- What is so in each case of a step of the server is so of each step. This is the one walk over the server's steps.
-use Rattle.std.proofs.Common.{◌≡◌, ◌≤◌, ◌==◌, ◌&&◌, ℕ, Bool, true, false, nat_le, List, [], ◌∷◌, Option, Some, None, find, is_some, inl, inr, refl, sym, ap, subst, if◌then◌else◌}
+use Rattle.std.proofs.Common.{◌≡◌, ◌≤◌, ◌==◌, ◌&&◌, ℕ, Bool, true, false, nat_le, List, [], ◌∷◌, Option, Some, None, find, is_some, inl, inr, refl, sym, subst, if◌then◌else◌}
 use Rattle.std.proofs.lemmas.Bool.{eqb-true, leb-true}
 use Rattle.osd_lists.specs.declared.node.Node.{Node}
 use Rattle.osd_lists.specs.declared.node.Node.TheVariants.{Server as FromServer, Drive as FromDrive, Client as FromClient}
@@ -18,7 +18,7 @@ use Rattle.server_rules.specs.Rounds.{step_round}
 use Rattle.server_rules.specs.Requests.{by_admit, carries_out, on_request}
 use Rattle.server_rules.specs.Slots.{Admit, New, Again, Misordered, slot_of, admit}
 use Rattle.world_history.specs.ServerNames.{Server, File, Drive, Job, JobKind, Revoking, Rebuilding, Auditing, Awaited, Reply, ClientRequest, OrderKind, ToRecall, ToRevoke, ToDeclare, ToRebuild, ToAudit, HasStarted, IsSpent, Spent, RawMap, Refusal}
-use Rattle.move_law.specs.Steps.{IsAsked, Answering, IsAnswering, answered_file, IsOrder, Here, Sent, IsOrdered, WhileBusy, OnGreatest, new_file, StepCases, RequestCases}
+use Rattle.move_law.specs.Steps.{IsOrder, Here, Sent, IsOrdered, WhileBusy, OnGreatest, new_file, StepCases, RequestCases}
 
 -- ---- a request
 

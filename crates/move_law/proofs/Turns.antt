@@ -1,21 +1,21 @@
 -- What is so in each case of a turn of a client is so of each turn. This is the one walk over the clients' turns.
-use Rattle.std.proofs.Common.{◌≡◌, ◌≢◌, ◌==◌, ◌&&◌, ℕ, zero, suc, Bool, true, false, List, [], ◌∷◌, Option, Some, None, Ok, Err, find, is_some, refl, sym, ap, subst, ◌∙◌, if◌then◌else◌}
+use Rattle.std.proofs.Common.{◌≡◌, ◌≢◌, ◌==◌, ◌&&◌, ℕ, zero, suc, Bool, true, false, List, [], ◌∷◌, Option, Some, None, Ok, Err, find, is_some, refl, sym, subst, ◌∙◌, if◌then◌else◌}
 use Rattle.std.proofs.lemmas.Bool.{eqb-true}
 use Rattle.osd_lists.specs.declared.node.Node.{Node}
 use Rattle.osd_lists.specs.declared.node.Node.TheVariants.{Server as FromServer, Drive as FromDrive}
 use Rattle.layout_ops.specs.declared.messages.Answer.{Answer}
 use Rattle.client_rules.specs.Calls.{file_of, span_of}
 use Rattle.client_rules.specs.Commands.{of_component}
-use Rattle.client_rules.specs.Going.{quiet, moved, begins, phased, starts_with, starts_under, starts_at, starts_call, begun, asks_under, is_held, returns, returns_due, progress_phase, progress_call, progress_free, progressed}
+use Rattle.client_rules.specs.Going.{quiet, moved, begins, starts_with, starts_under, starts_at, starts_call, begun, is_held, returns, returns_due, progress_phase, progress_call, progress_free, progressed}
 use Rattle.client_rules.specs.Grants.{covers, held_of}
 use Rattle.client_rules.specs.History.{Input, Calls, Hears, TimesOut, Leaves, Resends, unless_refused, step}
 use Rattle.client_rules.specs.Io.{awaited_in}
-use Rattle.client_rules.specs.Messages.{Step, Message, Answers, Replies, Recalls, TakesAnswer, TakesRecall, is_awaited, still, finished, on_call, obeys, no_match, recalled, takes, by_taken, hears, answer_taken, reply_taken, awaited_of, reply_call, reply_under}
-use Rattle.client_rules.specs.Replies.{answers, replied, timed_out}
+use Rattle.client_rules.specs.Messages.{Step, Message, Answers, Replies, Recalls, TakesAnswer, TakesRecall, is_awaited, still, finished, obeys, no_match, recalled, takes, by_taken, hears, answer_taken, reply_taken, awaited_of, reply_call, reply_under}
+use Rattle.client_rules.specs.Replies.{answers}
 use Rattle.client_rules.specs.Requests.{grant_in}
 use Rattle.client_rules.specs.Steps.{is_bad_range, is_spent, writes_nothing, starts, calls, timeout_under, timeout_call, times_out, leaves}
-use Rattle.world_history.specs.ClientNames.{Client, Call, CallOp, Busy, BadRange, SlotSpent, Held, Due, Awaited, Request, Recall, Reply, Need, First, Get, Phase, Starts, Needs, Waits, Reads, Probes, Gathers, Scatters, WriteOk, Done}
-use Rattle.move_law.specs.Turns.{IsBeginning, IsNeeding, with_start, IsReplied, IsTimed, IsAnswered, TurnCases, BeginCases, ProgressCases, FinishCases}
+use Rattle.world_history.specs.ClientNames.{Client, Call, CallOp, Busy, BadRange, SlotSpent, Held, Awaited, Request, Recall, Reply, Need, First, Get, Phase, Starts, Needs, Waits, Reads, Probes, Gathers, Scatters, WriteOk, Done}
+use Rattle.move_law.specs.Turns.{IsBeginning, with_start, TurnCases, BeginCases, ProgressCases, FinishCases}
 
 -- ---- what comes to a client
 

@@ -1,6 +1,5 @@
 -- A move by cases: it is a step of one party, with what that tells and sends, or no party goes on.
 use Rattle.std.specs.Prelude.{◌≡◌, ℕ, false, true, List, [], ◌∷◌, ◌++◌, Option, Some, None, Err}
-use Rattle.osd_lists.specs.declared.node.Node.{Node}
 use Rattle.osd_lists.specs.declared.node.Node.TheVariants as node
 use Rattle.osd_commands.specs.Commands as commands
 use Rattle.server_rules.specs.Making.{add_drive}

@@ -1,5 +1,5 @@
 -- What a client's step does to the sizes that it knows, and to its LAYOUTCOMMIT.
-use Rattle.std.proofs.Common.{◌≡◌, ◌≢◌, ◌==◌, ℕ, Bool, true, false, List, [], ◌∷◌, Option, Some, None, find, inl, inr, refl, sym, ap, subst, ◌∙◌, if◌then◌else◌}
+use Rattle.std.proofs.Common.{◌≡◌, ◌≢◌, ◌==◌, ℕ, Bool, List, [], ◌∷◌, Option, Some, None, find, inl, inr, refl, sym, ap, subst, ◌∙◌, if◌then◌else◌}
 use Rattle.layout_ops.specs.declared.args.Args.{Args}
 use Rattle.layout_ops.specs.declared.args.Args.TheVariants as args
 use Rattle.layout_ops.specs.declared.messages.Answer.{Answer}
@@ -14,8 +14,8 @@ use Rattle.client_rules.specs.Messages.{Step, TakesAnswer, finished, on_call, re
 use Rattle.client_rules.specs.Replies.{answers, replied, timed_out}
 use Rattle.client_rules.specs.Requests.{args_of}
 use Rattle.client_rules.specs.Steps.{leaves}
-use Rattle.client_rules.proofs.ReadSteps.{held_file}
 use Rattle.exchange_law.proofs.ClientKeeping.{put_read, without_read}
+use Rattle.client_rules.proofs.ReadSteps.{held_file}
 use Rattle.move_law.specs.Turns.{IsBeginning, TurnCases, FinishCases}
 use Rattle.move_law.proofs.Turns.{each_turn, each_finish}
 use Rattle.party_law.specs.Sizes.{IsCommit}

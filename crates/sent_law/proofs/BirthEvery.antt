@@ -7,8 +7,8 @@ use Rattle.server_rules.specs.Messages.{awaited_by, resend}
 use Rattle.server_rules.specs.Jobs.{making}
 use Rattle.server_rules.specs.Making.{places, unmade, with_file, makes_file}
 use Rattle.server_rules.specs.History.{Input, step}
-use Rattle.server_rules.proofs.Members.{in_either}
 use Rattle.job_law.specs.Names.{Command, ToDrive, Server, File, Drive}
+use Rattle.server_rules.proofs.Members.{in_either}
 use Rattle.job_law.proofs.Files.{in_add, add_there, in_drives}
 use Rattle.sent_law.proofs.Numbers.{in_new}
 use Rattle.sent_law.specs.Standing.{is_running}

@@ -10,6 +10,7 @@ use Rattle.server_rules.specs.Orders.{declares_each, with_offline, offline, decl
 use Rattle.server_rules.specs.Rounds.{Round, step_round}
 use Rattle.server_rules.specs.Jobs.{declares, fence_begins}
 use Rattle.job_law.specs.Names.{Command, ToDrive, Server, File, Drive, Effects, ClientRequest, Awaited, OrderKind}
+use Rattle.server_rules.proofs.Members.{in_either}
 use Rattle.job_law.proofs.Files.{found_file, in_drives}
 use Rattle.job_law.proofs.Steps.{no_answer, no_recall}
 use Rattle.sent_law.proofs.ObjectSteps.{Agree}
@@ -22,7 +23,6 @@ use Rattle.data_map.specs.declared.check.RawMap.{RawMap}
 use Rattle.server_rules.specs.History.{Input}
 use Rattle.server_rules.specs.Making.{makes_file}
 use Rattle.server_rules.specs.Messages.{resend}
-use Rattle.server_rules.proofs.Members.{in_either}
 use Rattle.world_history.specs.ServerNames.{OrderResult}
 use Rattle.sent_law.specs.Standing.{is_running}
 use Rattle.move_law.specs.Steps.{answered_file, new_file, with_answer, RequestCases, StepCases}

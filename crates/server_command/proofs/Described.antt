@@ -21,7 +21,6 @@ use Rattle.cluster_text.specs.Fields.{◌>>=◌, address_at, drive_in, file_in, 
 use Rattle.cluster_text.specs.Document.{all_in, cluster_in, cluster_of, document_of, has_good_counts, judged, judged_document, repeats, unrepeated}
 use Rattle.cluster_text.specs.Shape.{has_unknown, is_wrong, is_wrong_drive, lacks, lacks_drive_key}
 use Rattle.cluster_text.specs.Tables.{has, integer_at, tables_at, text_at}
-use Rattle.drive_command.proofs.Described.{bound, wrong_parts, key_there, has_text}
 
 -- ---- what it says
 
@@ -43,6 +42,10 @@ pub record IsSound (c : Cluster) : Type 0 where
 
 -- ---- tests and options
 
+bound : {A B : Type 0} (o : Option A) (f : A → Option B) (y : B) → (o >>= f) ≡ Some y → (x : A) × (o ≡ Some x) × (f x ≡ Some y)
+bound (Some x) f y h = (x, refl, h)
+bound None f y h = cc h
+
 in_range_is : (least most n m : ℕ) → in_range least most n ≡ Some m → (least ≤ m) × (m ≤ most)
 in_range_is least most n m h = go (nat_le least n) (nat_le n most) refl refl h
   where
@@ -57,6 +60,16 @@ number_fits key least most t n h =
     let a = bound (integer_at key t >>= natural_of) (in_range least most) n h in in_range_is least most a.0 n a.2
 
 -- ---- one table
+
+key_there : (digits : Option (List ℕ)) (key : Option (List ℕ)) → is_none digits ≡ false → key_of digits ≡ Some key → is_some key ≡ true
+key_there None key there h = cc there
+key_there (Some digits) key there h =
+    let a = bound (result_ok (decode_sized digits 20)) (λ k. Some (Some k)) key h in
+    let same : Some a.0 ≡ key = cc a.2 in rw (← same) refl
+
+has_text : (there none : Bool) → not there ≡ false → (there && none) ≡ false → none ≡ false
+has_text true none there h = h
+has_text false none there h = cc there
 
 not_above : (n : ℕ) → n ≤ 63 → nat_le 64 n ≡ false
 not_above n h = grind (arith, nat_tests, h)
@@ -182,6 +195,10 @@ lacks_none : (top : Members) (ds fs : List Members) → lacks Server top ds fs �
 unfolding lacks
 lacks_none top ds fs h = (or_parts _ _ (or_parts _ _ (or_parts _ _ h).0).0).1
 
+wrong_none : (top : Members) (ds fs : List Members) → is_wrong top ds fs ≡ false → list_any is_wrong_drive ds ≡ false
+unfolding is_wrong
+wrong_none top ds fs h = (or_parts _ _ (or_parts _ _ h).0).1
+
 pub sound : (text : List ℕ) (c : Cluster) → cluster_of Server text ≡ Ok c → IsSound c
 sound text c h =
     let d = from_document (document_of text) c h in
@@ -189,7 +206,7 @@ sound text c h =
     let fs = tables_at (codes "file") d.0 in
     let p = from_tests (has_unknown d.0 ds fs) (lacks Server d.0 ds fs) (is_wrong d.0 ds fs) (cluster_in d.0 ds fs) c d.1 in
     let parts = parts_of d.0 ds fs c p.2 in
-    let k = knowable ds c.drives parts.0 (lacks_none d.0 ds fs p.0) (wrong_parts d.0 ds fs p.1) in
+    let k = knowable ds c.drives parts.0 (lacks_none d.0 ds fs p.0) (wrong_none d.0 ds fs p.1) in
     record {
       keys = k.0;
       drives = (p.3).0;
