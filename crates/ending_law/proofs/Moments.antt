@@ -35,7 +35,7 @@ use Rattle.exchange_law.specs.Doing.{IsHeardByClient, OthersGo, ServerGoes, Clie
 use Rattle.exchange_law.specs.InStep.{state_of}
 use Rattle.exchange_law.specs.Taking.{AnswersAreOwn, TakesOwn}
 use Rattle.exchange_law.specs.Made.{WasMade, answer_to}
-use Rattle.exchange_law.proofs.Doing.{moves_are_steps}
+use Rattle.move_law.proofs.Goes.{moves_are_steps}
 use Rattle.exchange_law.proofs.Each.{put_same, put_other, stopped_same, come_same}
 use Rattle.exchange_law.proofs.SlotMoments.{comes_new, always}
 use Rattle.exchange_law.specs.Calls.{Knows, CallFine, ClientFine, GoodAnswer, WaitFine, IsAsking}

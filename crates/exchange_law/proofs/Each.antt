@@ -33,7 +33,7 @@ use Rattle.exchange_law.specs.Doing.{said, posted, IsDelivered, IsHeardByServer,
 use Rattle.exchange_law.specs.Messages.{EachMessage, AsksOf, AnswersOf}
 use Rattle.exchange_law.specs.Made.{WasMade, answer_to}
 use Rattle.exchange_law.specs.InStep.{ClientsAreInStep, state_of}
-use Rattle.exchange_law.proofs.Doing.{moves_are_steps}
+use Rattle.move_law.proofs.Goes.{moves_are_steps}
 use Rattle.exchange_law.proofs.SlotMoments.{comes_new, always}
 use Rattle.exchange_law.proofs.SlotLists.{each_at, said_more, addressed_each, client_asks, client_answers_none}
 use Rattle.exchange_law.proofs.SlotStepping.{step_asks}

@@ -8,7 +8,6 @@ pub mod Covers
 pub mod Had
 pub mod RightMoves
 pub mod RightSteps
-pub mod Doing
 pub mod Few
 pub mod SlotAsking
 pub mod Granted
@@ -107,7 +106,6 @@ pub mod RefusalTelling
 pub mod Gives
 pub mod AnswerRead
 pub mod RefusalGiven
-pub mod RefusalNear
 pub mod Owning
 pub mod RefusalSending
 pub mod Taking

@@ -1,5 +1,5 @@
--- What a message brings to its receiver: what clients then send to drives is placed.
-use Rattle.std.proofs.Common.{◌≡◌, ℕ, ◌∷◌, [], List, Bool, true, false, Option, Some, None, Result, Ok, Err, IsSome, map, filter, slice_get, refl, sym, ap, subst, ◌∙◌, inl, inr, if◌then◌else◌}
+-- What clients send to drives is placed, and what they take of the server is its own.
+use Rattle.std.proofs.Common.{◌≡◌, ℕ, ◌∷◌, [], List, Bool, true, false, Some, Result, Ok, Err, IsSome, map, filter, slice_get, refl, sym, ap, subst, ◌∙◌, inl, inr, if◌then◌else◌}
 use Rattle.std.proofs.lemmas.Bool.{cases_eq}
 use Rattle.osd_lists.specs.declared.node.Node.{Node}
 use Rattle.osd_lists.specs.declared.node.Node.TheVariants as node
@@ -8,28 +8,21 @@ use Rattle.layout_ops.specs.declared.envelope.Envelope.{Envelope}
 use Rattle.layout_ops.specs.declared.envelope.Envelope.TheVariants as envelope
 use Rattle.layout_ops.specs.Reading.{envelope_of}
 use Rattle.osd_objects.proofs.Entries.{lookup_inserted, lookup_beside, lookup_set, lookup_set_beside}
-use Rattle.server_rules.specs.Messages.{Message as ServerMessage}
-use Rattle.server_rules.specs.History.{Hears as ServerHears, step as server_step}
 use Rattle.client_rules.specs.Envelopes.{by_envelope, message_in}
-use Rattle.client_rules.specs.Messages.{Message as ClientMessage, Answers, Step as ClientStep}
-use Rattle.client_rules.specs.History.{Input, step}
-use Rattle.client_rules.specs.History as client_input
-use Rattle.scenario_text.specs.declared.line.Delivery.TheVariants as delivery
+use Rattle.client_rules.specs.Messages.{Message as ClientMessage, Answers}
 use Rattle.world_history.specs.ServerNames as server_rules
 use Rattle.world_history.specs.ClientNames as client_rules
 use Rattle.world_history.specs.declared.messages.Body.{Body}
 use Rattle.world_history.specs.declared.messages.Body.TheVariants.{Command as OfCommand}
-use Rattle.world_history.specs.declared.messages.Message.{Message}
 use Rattle.world_history.specs.declared.messages.Sent.{Sent}
-use Rattle.world_history.specs.State.{DriveAt, ClientAt, World, at_number, with_number, and_number}
+use Rattle.world_history.specs.State.{ClientAt, at_number, with_number, and_number}
 use Rattle.world_history.specs.Spelled.{party_of}
-use Rattle.world_history.specs.Drives.{Judged, judges, command_in}
-use Rattle.world_history.specs.Handed.{Post, Handed, is_addressed, quiet, drive_hears, drive_replies, server_post, server_takes, client_posts, client_did, client_goes, client_hears, client_takes, for_client, for_server, handed_to, op_in, wrote_in, data_in}
+use Rattle.world_history.specs.Handed.{Post, is_addressed, server_post, client_posts}
 use Rattle.world_history.specs.Moves.{Act}
 use Rattle.exchange_law.specs.PlaceAnswers.{SpellsFitting, AnswersFit}
 use Rattle.exchange_law.proofs.Commands.{MaySend}
-use Rattle.exchange_law.proofs.PlaceGoing.{ClientFits, SendsPlaced, StepFits}
-use Rattle.exchange_law.proofs.PlaceSteps.{HeardOwn, InputOwn, step_fits}
+use Rattle.exchange_law.proofs.PlaceGoing.{ClientFits, SendsPlaced}
+use Rattle.exchange_law.proofs.PlaceSteps.{HeardOwn}
 use Rattle.exchange_law.proofs.PlaceTaken.{taken_own}
 
 -- ---- what holds at a moment
@@ -54,10 +47,6 @@ PostsPlaced (p ∷ ps) = PostPlaced p.message.from p.message.to p.message.body �
 pub record ActFits (a : Act) : Type 0 where
   pub clients : ClientsFit a.world.clients
   pub posts : PostsPlaced a.posts
-
-pub record HandFits (h : Handed) : Type 0 where
-  pub clients : ClientsFit h.world.clients
-  pub posts : PostsPlaced h.posts
 
 -- ---- what is sent
 
@@ -87,7 +76,7 @@ client_posts_placed c wrote logged (client_rules.ToDrive d x ∷ os) k = (k.0, c
 client_posts_placed c wrote logged (client_rules.Asks r ∷ os) k = (tt, client_posts_placed c _ logged os k)
 client_posts_placed c wrote logged (client_rules.AnswersRecall a ∷ os) k = (tt, client_posts_placed c _ logged os k)
 
-from_client : (c : ℕ) (wrote : Bool) (logged : ℕ) (os : List client_rules.Outgoing) → SendsPlaced os
+pub from_client : (c : ℕ) (wrote : Bool) (logged : ℕ) (os : List client_rules.Outgoing) → SendsPlaced os
     → PostsPlaced (filter is_addressed (client_posts c wrote logged os))
 from_client c wrote logged os k =
     addressed_placed (client_posts c wrote logged os) (client_posts_placed c wrote logged os k)
@@ -116,65 +105,6 @@ add_client xs c b k now d x there = elim (cases_eq d c) [
       (subst (λ (n : ℕ). ClientFits n b.state) (sym it) now)
   | inr other ↦ k d x (sym (lookup_beside xs c d b other) ∙ there)
 ]
-
--- ---- what a client hears
-
-module _ (w : World) (k : ClientsFit w.clients) where
-  pub client_did_fits : (c : ℕ) (a : ClientAt) (i : Input) (s : ClientStep) → at_number w.clients c ≡ Some a
-      → StepFits c s → HandFits (client_did w c a i s)
-  client_did_fits c a i s found t = record {
-    clients = put_client w.clients c a _ k found t.client;
-    posts = from_client c (wrote_in a i) (data_in (op_in a.state i)) s.sends t.sends;
-  }
-
-  pub client_went : (c : ℕ) (a : ClientAt) (i : Input) → at_number w.clients c ≡ Some a → InputOwn c i
-      → HandFits (client_goes w c a i)
-  client_went c a i found own =
-      client_did_fits c a i (step a.state i) found (step_fits c a.state i (k c a found) own)
-
-  still_hand : HandFits (quiet w delivery.Taken)
-  still_hand = record { clients = k; posts = tt }
-
-  deaf_hand : HandFits (quiet w delivery.Deaf)
-  deaf_hand = record { clients = k; posts = tt }
-
-  either_hand : (b : Bool) (x y : Handed) → HandFits x → HandFits y → HandFits (if b then x else y)
-  either_hand true x y p q = p
-  either_hand false x y p q = q
-
-  -- ---- a message comes to its receiver
-
-  server_hand : (chosen : List ℕ) (from : Node) (m : Option ServerMessage) → HandFits (server_takes w chosen from m)
-  server_hand chosen from None = still_hand
-  server_hand chosen from (Some m) = record {
-    clients = k;
-    posts = from_server (server_step w.server chosen (ServerHears w.clock from m)).sends;
-  }
-
-  drive_said : (d : ℕ) (from : Node) (j : Judged) → HandFits (drive_replies w d from j)
-  drive_said d from j = record { clients = k; posts = (tt, tt) }
-
-  drive_hand : (d : ℕ) (m : Message) (a : Option DriveAt) → HandFits (drive_hears w d m a)
-  drive_hand d m None = deaf_hand
-  drive_hand d m (Some a) = either_hand a.failed _ _ deaf_hand (drive_said d m.from (judges a (command_in m.body)))
-
-  client_hand : (c : ℕ) (a : ClientAt) (from : Node) (m : Option ClientMessage) → at_number w.clients c ≡ Some a
-      → ((x : ClientMessage) → m ≡ Some x → HeardOwn c from x) → HandFits (client_takes w c a from m)
-  client_hand c a from None found own = still_hand
-  client_hand c a from (Some m) found own = client_went c a (client_input.Hears from m) found (own m refl)
-
-  client_heard : (c : ℕ) (m : Message) (a : Option ClientAt) → at_number w.clients c ≡ a
-      → ((x : ClientMessage) → for_client m ≡ Some x → HeardOwn c m.from x) → HandFits (client_hears w c m a)
-  client_heard c m None found own = deaf_hand
-  client_heard c m (Some a) found own =
-      either_hand a.stopped _ _ deaf_hand (client_hand c a m.from (for_client m) found own)
-
-  pub hand_fits : (chosen : List ℕ) (m : Message) (to : Node)
-      → ((c : ℕ) (x : ClientMessage) → to ≡ node.Client c → for_client m ≡ Some x → HeardOwn c m.from x)
-      → HandFits (handed_to w chosen m to)
-  hand_fits chosen m node.Server own = server_hand chosen m.from (for_server m)
-  hand_fits chosen m (node.Drive d) own = drive_hand d m (at_number w.drives d)
-  hand_fits chosen m (node.Client c) own = client_heard c m (at_number w.clients c) refl (λ x e. own c x refl e)
 
 -- ---- an answer that is delivered is the server's
 

@@ -4,7 +4,6 @@ use Rattle.std.proofs.lemmas.Bool.{cases_lt}
 use Rattle.std.proofs.lemmas.Bool.Decides.{nat_tests}
 use Rattle.std.proofs.lemmas.List.{append-nil}
 use Rattle.server_rules.specs.Laws.{In}
-use Rattle.server_rules.proofs.Members.{in_either}
 use Rattle.scenario_text.specs.declared.event.Event.{Event}
 use Rattle.scenario_text.specs.declared.line.Note.TheVariants as note
 use Rattle.scenario_text.specs.declared.line.Line.{Line}
@@ -12,17 +11,19 @@ use Rattle.scenario_text.specs.declared.line.Line.TheVariants as line
 use Rattle.world_history.specs.State.{World}
 use Rattle.world_history.specs.Moves.{Action, Opens, Delivers, TimesOut, Pends, acts}
 use Rattle.world_history.specs.Sending.{Move, move, sent_lines}
-use Rattle.world_history.specs.Plans.{Plan, Rule, due, due_by, went_on, rule_after, rule_of, plan_of}
-use Rattle.world_history.specs.Runs.{world_after, lines_of, AreDue, plan_after}
+use Rattle.world_history.specs.Plans.{due, plan_of}
+use Rattle.world_history.specs.Runs.{world_after, AreDue}
 use Rattle.world_history.specs.Refusals.{refusal}
 use Rattle.world_history.specs.History.{StandsFor}
-use Rattle.world_history.proofs.ReadMessages.{never_opens}
 use Rattle.history_law.specs.Spent.{Spends}
 use Rattle.history_law.proofs.Each.{EachBehind, HoldsAt, each_front}
 use Rattle.history_law.proofs.Histories.{stands, kept_part, lawful}
+use Rattle.move_law.proofs.Moments.{so_far_more}
 use Rattle.history_law.proofs.DriveEvents.{IsRead, kept}
 use Rattle.history_law.proofs.Spending.{all_spend}
 use Rattle.history_law.specs.BookMoments.{IsMoment, with_event, lines_so_far, lines_in, plan_at}
+use Rattle.world_history.proofs.Runs.{due_more, world_more}
+use Rattle.server_rules.proofs.Members.{in_either}
 use Rattle.fencing_law.specs.Reaching.{is_spellable, OwnAt}
 use Rattle.fencing_law.specs.Fenced.{FencesEnd, ReachedRefuses}
 use Rattle.fencing_law.proofs.Moves.{moved}
@@ -30,51 +31,6 @@ use Rattle.fencing_law.proofs.Reaching.{reached_spent}
 use Rattle.fencing_law.proofs.Holding.{Holds, holds, ends_told, no_note}
 
 -- ---- the next moment
-
-later_rule : (r : Rule) (ms : List Move)
-    → (q : Rule) × (plan_after (record { opening = None; rule = r }) ms ≡ record { opening = None; rule = q })
-later_rule r [] = (r, refl)
-later_rule r (m ∷ ms) = later_rule (rule_after r m.action) ms
-
-no_event : (w : World) (r : Rule) (action : Action) (ls : List Line) → due_by w r ≡ Some action
-    → with_event action ls ≡ ls
-no_event w r (Delivers number) ls d = refl
-no_event w r (TimesOut c component) ls d = refl
-no_event w r (Pends c) ls d = refl
-no_event w r (Opens e) ls d = absurd (never_opens w r e d)
-
-pub due_more : (p : Plan) (w : World) (ms : List Move) (m : Move) → AreDue p w ms
-    → due (plan_after p ms) (world_after w ms) ≡ Some m.action → AreDue p w (ms ++ m ∷ [])
-due_more p w [] m d e = (e, tt)
-due_more p w (x ∷ ms) m d e = (d.0, due_more (went_on p x.action) (move w x).world ms m d.1 e)
-
-pub world_more : (w : World) (ms : List Move) (m : Move)
-    → world_after w (ms ++ m ∷ []) ≡ (move (world_after w ms) m).world
-world_more w [] m = refl
-world_more w (x ∷ ms) m = world_more (move w x).world ms m
-
-lines_more : (w : World) (ms : List Move) (m : Move)
-    → lines_of w (ms ++ m ∷ []) ≡ lines_of w ms ++ (move (world_after w ms) m).lines
-lines_more w [] m = append-nil (move w m).lines
-lines_more w (x ∷ ms) m =
-    ap (λ (ls : List Line). (move w x).lines ++ ls) (lines_more (move w x).world ms m)
-    ∙ sym (append_assoc (move w x).lines (lines_of (move w x).world ms) _)
-
-pub so_far_more : (v : World) (e : Event) (ms : List Move) (m : Move)
-    → due (plan_after (plan_of v e) ms) (world_after v ms) ≡ Some m.action
-    → lines_so_far v e (ms ++ m ∷ []) ≡ lines_so_far v e ms ++ lines_in (world_after v ms) m
-so_far_more v e [] m d =
-    ap (λ (ls : List Line). line.Event e ∷ ls) (append-nil (move v m).lines)
-    ∙ ap (λ (a : Action). with_event a (move v m).lines) (same d)
-  where
-    same : Some (Opens e) ≡ Some m.action → Opens e ≡ m.action
-    same x = cc x
-so_far_more v e (x ∷ ms) m d =
-    let r = later_rule (rule_after (rule_of v e) x.action) ms in
-    let w : World = world_after v (x ∷ ms) in
-    ap (λ (ls : List Line). line.Event e ∷ ls) (lines_more v (x ∷ ms) m)
-    ∙ ap (λ (ls : List Line). lines_so_far v e (x ∷ ms) ++ ls)
-    (sym (no_event w r.0 m.action (move w m).lines (sym (ap (λ (q : Plan). due q w) r.1) ∙ d)))
 
 pub next_moment : (w : World) (h : List Line) (k : IsMoment w h) (m : Move) → due (plan_at k) w ≡ Some m.action
     → IsMoment (move w m).world (h ++ lines_in w m)

@@ -20,7 +20,8 @@ use Rattle.history_law.specs.BookMoments.{IsMoment, lines_so_far, lines_in}
 use Rattle.history_law.specs.Read.{AreWritten, BookIsRead}
 use Rattle.fencing_law.specs.Reaching.{HolderIsServer}
 use Rattle.fencing_law.specs.Fenced.{IsFenced, noted, FencedIsFenced, NothingOlder}
-use Rattle.fencing_law.proofs.Ending.{next_moment, so_far_more, fences_end, reached_refuses}
+use Rattle.move_law.proofs.Moments.{so_far_more}
+use Rattle.fencing_law.proofs.Ending.{next_moment, fences_end, reached_refuses}
 
 -- ---- places in lists
 

@@ -4,7 +4,6 @@ use Rattle.std.proofs.lemmas.Bool.{cases_eq, eq-eqb, ne_eqb}
 use Rattle.osd_lists.proofs.Options.{none_there}
 use Rattle.osd_commands.specs.Commands.{reading}
 use Rattle.osd_objects.proofs.Entries.{lookup_inserted, lookup_beside, lookup_set, lookup_set_beside}
-use Rattle.client_rules.specs.Steps.{awaits}
 use Rattle.server_rules.specs.History as server_input
 use Rattle.scenario_text.specs.declared.event.Event.{Event}
 use Rattle.scenario_text.specs.declared.event.Event.TheVariants as event
@@ -22,16 +21,15 @@ use Rattle.world_history.specs.State.{DriveAt, ClientAt, World, at_number, with_
 use Rattle.world_history.specs.Drives.{verdict_on, judges, made_drive, raised, at_time, fallen}
 use Rattle.world_history.specs.Moves.{Act, Action, Opens, Delivers, TimesOut, Pends, by_drive, at_drive, stops, drops_found, injects_at, injects, judged_at, adds_drive, changed, gives, known_drive, knows_drive, op_of, raw_of, begins, acts}
 use Rattle.world_history.specs.Sending.{move, sends_all, sent_lines}
-use Rattle.world_history.specs.Plans.{Rule, Alone, Prompt, when_quiet, quiet_at, due_pending, next_pending, due_by}
+use Rattle.world_history.specs.Plans.{Rule, due_by}
 use Rattle.world_history.specs.Refusals.{refusal, of_drive, unless_failed}
-use Rattle.world_history.specs.Reading.{left_out, changed_by, changed_at}
 use Rattle.world_history.specs.ReadDrives.{DriveSeen, sees_drive, drive_seen, drive_after, hears_bytes, where_it_is}
 use Rattle.world_history.proofs.Always.{opening, IsKept}
-use Rattle.world_history.proofs.ReadMessages.{drops_view, left_pending, quiet_opens, quiet_at_opens, pending_opens, never_opens}
+use Rattle.world_history.proofs.ReadMessages.{drops_view, never_opens}
 use Rattle.history_law.specs.Judging.{Judges, JudgesAt}
 use Rattle.history_law.proofs.Each.{EachBehind, ArisesAt, HoldsAt, each_more, seen, none_quiet}
 use Rattle.history_law.proofs.Replying.{changes_it, changes_another, heard, touches}
-use Rattle.history_law.proofs.DriveLines.{view, seen_at, AreRead, reads_on, drive_read, IsTold, told_reads, IsQuietAct, quiet_told, shown_get, changed_view}
+use Rattle.history_law.proofs.DriveLines.{view, seen_at, AreRead, reads_on, drive_read, IsTold, told_reads, IsQuietAct, quiet_told}
 use Rattle.history_law.proofs.DriveMoves.{delivered_told, nothing, calls_act, timeout_act, leaves_act, resends_act, pends_act, gives_act, makes_act}
 
 -- ---- what holds at each moment

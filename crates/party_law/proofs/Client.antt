@@ -1,23 +1,23 @@
 -- What a client's step does to the sizes that it knows, and to its LAYOUTCOMMIT.
-use Rattle.std.proofs.Common.{◌≡◌, ◌≢◌, ◌==◌, ℕ, Bool, true, false, List, [], ◌∷◌, Option, Some, None, Ok, Err, find, is_some, inl, inr, refl, sym, ap, subst, ◌∙◌, if◌then◌else◌}
-use Rattle.osd_lists.specs.declared.node.Node.{Node}
-use Rattle.osd_lists.specs.declared.node.Node.TheVariants.{Server as FromServer, Drive as FromDrive}
+use Rattle.std.proofs.Common.{◌≡◌, ◌≢◌, ◌==◌, ℕ, Bool, List, [], ◌∷◌, Option, Some, None, find, inl, inr, refl, sym, ap, subst, ◌∙◌, if◌then◌else◌}
 use Rattle.layout_ops.specs.declared.args.Args.{Args}
 use Rattle.layout_ops.specs.declared.args.Args.TheVariants as args
 use Rattle.layout_ops.specs.declared.messages.Answer.{Answer}
-use Rattle.world_history.specs.ClientNames.{Client, Call, CallOp, Busy, BadRange, SlotSpent, Held, Due, Awaited, TimedOut, Request, Recall, Reply, Need, First, Get, Commit, Report, Close, Phase, Starts, Needs, Waits, Reads, Probes, Gathers, Scatters, WriteOk, Turn, Goes, Ends, Forgets, Moved, Done}
-use Rattle.client_rules.specs.Calls.{file_of, span_of}
+use Rattle.world_history.specs.ClientNames.{Client, Call, CallOp, Held, Due, Awaited, TimedOut, Request, Need, First, Get, Commit, Report, Close, Phase, Starts, Needs, Waits, Reads, Probes, Gathers, Scatters, Turn, Goes, Ends, Forgets, Moved, Done}
+use Rattle.client_rules.specs.Calls.{file_of}
 use Rattle.client_rules.specs.Commands.{of_component}
-use Rattle.client_rules.specs.Going.{quiet, by_turn, moved, begins, starts_with, starts_under, starts_at, starts_call, begun, held_after, requests, asks_under, is_held, returns, returns_due, progress_phase, progress_call, progress_free, progressed, with_held}
-use Rattle.client_rules.specs.Grants.{covers, held_of, put_held, without_held}
-use Rattle.client_rules.specs.History.{Input, Calls, Hears, TimesOut, Leaves, Resends, unless_refused, step}
+use Rattle.client_rules.specs.Going.{quiet, by_turn, moved, begins, begun, held_after, requests, asks_under, returns, with_held}
+use Rattle.client_rules.specs.Grants.{held_of, put_held, without_held}
+use Rattle.client_rules.specs.History.{Input, Hears, step}
 use Rattle.client_rules.specs.Io.{awaited_in}
-use Rattle.client_rules.specs.Messages.{Message, Answers, Replies, Recalls, answer_taken, reply_taken, is_awaited, TakesAnswer, TakesRecall, still, finished, on_call, no_match, obeys, recalled, reply_under, reply_call, awaited_of, takes, by_taken, hears}
+use Rattle.client_rules.specs.Messages.{Step, TakesAnswer, finished, on_call, recalled, takes}
 use Rattle.client_rules.specs.Replies.{answers, replied, timed_out}
 use Rattle.client_rules.specs.Requests.{args_of}
-use Rattle.client_rules.specs.Steps.{is_bad_range, is_spent, writes_nothing, starts, calls, timeout_under, timeout_call, times_out, leaves}
-use Rattle.client_rules.proofs.ReadSteps.{held_file}
+use Rattle.client_rules.specs.Steps.{leaves}
 use Rattle.exchange_law.proofs.ClientKeeping.{put_read, without_read}
+use Rattle.client_rules.proofs.ReadSteps.{held_file}
+use Rattle.move_law.specs.Turns.{IsBeginning, TurnCases, FinishCases}
+use Rattle.move_law.proofs.Turns.{each_turn, each_finish}
 use Rattle.party_law.specs.Sizes.{IsCommit}
 use Rattle.party_law.proofs.Kept.{IsKept, replied_kept, timed_out_kept, begins_kept}
 
@@ -119,49 +119,6 @@ module _ (P : (file size : ℕ) → Type 0) (o : Option Request) where
       turn_sized (record (with_held d m.held) { commands = m.sent }) op m.turn
       (put_over d.client.held m.held (λ f x other e. k.helds f x e) it) none k.stays
 
-  either : (b : Bool) (d e : Done) → IsSized d.client → IsSized e.client → IsSized (if b then d else e).client
-  either true d e x y = x
-  either false d e x y = y
-
-  -- ---- a call begins
-
-  with_sized : (d : Done) (op : CallOp) (need : Need) (out : Option Request) → IsSized d.client
-      → NoCommit d.client.outstanding → IsSized (starts_with d op need out).client
-  with_sized d op need None k none = record {
-    helds = k.helds;
-    asked = asked_any d.client.outstanding _ none;
-    stays = k.stays;
-  }
-  with_sized d op need (Some q) k none = k
-
-  under_sized : (d : Done) (op : CallOp) (h : Option Held) → held_of d.client.held (file_of op) ≡ h
-      → IsSized d.client → NoCommit d.client.outstanding → IsSized (starts_under d op h).client
-  under_sized d op None e k none = with_sized d op (Get 0) d.client.outstanding k none
-  under_sized d op (Some h) e k none =
-      either (covers h op) _ _ (moved_sized d op h (begins h op) k none e (begins_kept h op))
-      (with_sized d op First d.client.outstanding k none)
-
-  at_sized : (d : Done) (op : CallOp) (p : Phase) → IsSized d.client
-      → AskedFine d.client.outstanding (Some (record { op = op; phase = p })) → IsSized (starts_at d op p).client
-  at_sized d op Starts k x =
-      under_sized d op (held_of d.client.held (file_of op)) refl k
-      (none_asked d.client.outstanding op Starts tt x)
-  at_sized d op (Needs need) k x = k
-  at_sized d op (Waits need) k x = k
-  at_sized d op (Reads io) k x = k
-  at_sized d op (Probes io) k x = k
-  at_sized d op (Gathers io) k x = k
-  at_sized d op (Scatters io queue) k x = k
-
-  call_sized : (d : Done) (call : Option Call) → IsSized d.client → AskedFine d.client.outstanding call
-      → IsSized (starts_call d call).client
-  call_sized d None k x = k
-  call_sized d (Some call) k x = at_sized d call.op call.phase k x
-
-  begun_sized : (d : Done) → IsSized d.client → IsSized (begun d).client
-  unfolding begun
-  begun_sized d k = call_sized d d.client.call k k.asked
-
   -- ---- a request goes out
 
   new_stays : (out new : Option Request) → out ≡ None → Stays out → Stays new
@@ -211,34 +168,31 @@ module _ (P : (file size : ℕ) → Type 0) (o : Option Request) where
     stays = new_stays d.client.outstanding _ e k.stays;
   }
 
-  due_sized : (d : Done) → d.client.outstanding ≡ None → IsSized d.client → IsSized (returns_due d).client
-  unfolding returns_due
-  due_sized d e k =
-      either (d.client.next == 0) _ _ k (returns_sized d (find (is_held d.client.held) d.client.due) e k)
+  -- ---- to the end of a turn
 
-  phase_goes : (d : Done) (op : CallOp) (p : Phase) → d.client.outstanding ≡ None → IsSized d.client
-      → IsSized (progress_phase d op p).client
-  phase_goes d op (Needs need) e k = asks_sized d op need (held_of d.client.held (file_of op)) e k
-  phase_goes d op Starts e k = k
-  phase_goes d op (Waits need) e k = k
-  phase_goes d op (Reads io) e k = k
-  phase_goes d op (Probes io) e k = k
-  phase_goes d op (Gathers io) e k = k
-  phase_goes d op (Scatters io queue) e k = k
+  none_beginning : (d : Done) (op : CallOp) → IsSized d.client → IsBeginning d.client op → NoCommit d.client.outstanding
+  none_beginning d op k is =
+      none_asked d.client.outstanding op Starts tt (subst (AskedFine d.client.outstanding) is k.asked)
 
-  call_goes : (d : Done) (call : Option Call) → d.client.outstanding ≡ None → IsSized d.client
-      → IsSized (progress_call d call).client
-  call_goes d None e k = due_sized d e k
-  call_goes d (Some call) e k = phase_goes d call.op call.phase e k
+  abbrev SizedDone : Done → Type 0
+  SizedDone d = IsSized d.client
 
-  free_goes : (d : Done) (out : Option Request) → d.client.outstanding ≡ out → IsSized d.client
-      → IsSized (progress_free d out).client
-  free_goes d None e k = call_goes d d.client.call e k
-  free_goes d (Some q) e k = k
+  kept : FinishCases SizedDone
+  kept = record {
+    needs = λ d op n k is out. record {
+      helds = k.helds;
+      asked = asked_any d.client.outstanding _ (none_beginning d op k is);
+      stays = k.stays;
+    };
+    begun = λ d op h k is held covered.
+        moved_sized d op h (begins h op) k (none_beginning d op k is) held (begins_kept h op);
+    asks = λ d op n h k is out held. asks_sized d op n h out k;
+    gives_back = λ d u k none out. returns_sized d u out k;
+  }
 
   pub finished_sized : (d : Done) → IsSized d.client → IsSized (finished d).client
-  unfolding finished progressed
-  finished_sized d k = free_goes (begun d) (begun d).client.outstanding refl (begun_sized d k)
+  unfolding finished
+  finished_sized d k = each_finish SizedDone kept d k
 
   -- ---- replies and timeouts
 
@@ -270,45 +224,6 @@ module _ (P : (file size : ℕ) → Type 0) (o : Option Request) where
   timing (Gathers io) k a xs e = tt
   timing (Scatters io queue) k a xs e = tt
 
-  module _ (c : Client) (k : IsSized c) where
-    reply_held : (call : Call) (a : Awaited) (q : Reply) (h : Option Held) → held_of c.held (file_of call.op) ≡ h
-        → NoCommit c.outstanding → IsSized (reply_under c call a q h).client
-    reply_held call a q None e none = k
-    reply_held call a q (Some h) e none =
-        moved_sized (quiet c) call.op h (replied h call.op call.phase a q) k none e
-        (replied_kept h call.op call.phase a q)
-
-    reply_goes : (f : Awaited → Bool) (a : Awaited) (q : Reply) (call : Option Call) → find f (awaited_of call) ≡ Some a
-        → AskedFine c.outstanding call → IsSized (reply_call c a q call).client
-    reply_goes f a q None e x = k
-    reply_goes f a q (Some call) e x =
-        reply_held call a q (held_of c.held (file_of call.op)) refl
-        (none_asked c.outstanding call.op call.phase (working call.phase f a e) x)
-
-    timeout_held : (call : Call) (j : ℕ) (h : Option Held) (xs : List Awaited)
-        → held_of c.held (file_of call.op) ≡ h → of_component j (awaited_in call.phase) ≡ xs
-        → AskedFine c.outstanding (Some call) → IsSized (timeout_under c call j h xs).client
-    timeout_held call j None xs e f x = k
-    timeout_held call j (Some h) [] e f x = k
-    timeout_held call j (Some h) (a ∷ xs) e f x =
-        finished_sized _
-        (moved_sized (quiet c) call.op h (timed_out h call.op call.phase j a xs) k
-        (none_asked c.outstanding call.op call.phase (timing call.phase j a xs f) x) e
-        (timed_out_kept h call.op call.phase j a xs))
-
-    timeout_goes : (j : ℕ) (call : Option Call) → AskedFine c.outstanding call → IsSized (timeout_call c j call).client
-    timeout_goes j None x = k
-    timeout_goes j (Some call) x =
-        timeout_held call j (held_of c.held (file_of call.op)) (of_component j (awaited_in call.phase)) refl refl x
-
-    either_recall : (q : Recall) (b : Bool) → IsSized (if b then obeys c q else no_match c q).client
-    either_recall q true = record { helds = k.helds; asked = k.asked; stays = k.stays }
-    either_recall q false = k
-
-    recall_goes : (q : Recall) (h : Option Held) → IsSized (recalled c q h).client
-    recall_goes q None = k
-    recall_goes q (Some h) = either_recall q _
-
 -- ---- any step
 
 -- R holds of the client behind a step in which it takes an answer, and of each with the sizes of P
@@ -321,68 +236,46 @@ module _ (P : (file size : ℕ) → Type 0) (R : Client → Type 0) (c : Client)
   abbrev pub behind : Answer → Client
   behind a = (finished (on_call (quiet (record c { outstanding = None })) c.call a)).client
 
-  reply_step : (d : ℕ) (q : Reply) (a : Option Awaited) → find (answers d q) (awaited_of c.call) ≡ a
-      → R (by_taken c (reply_taken q a)).client
-  reply_step d q None e = plain c k
-  reply_step d q (Some a) e =
-      plain _ (finished_sized P c.outstanding _
-      (reply_goes P c.outstanding c k (answers d q) a q c.call e k.asked))
-
-  answer_step : (a : Answer) (b : Bool)
-      → ((if b then Some (TakesAnswer a) else None) ≡ Some (TakesAnswer a) → R (behind a))
-      → R (by_taken c (if b then Some (TakesAnswer a) else None)).client
-  answer_step a true good = good refl
-  answer_step a false good = plain c k
-
-  outstanding_step : (a : Answer) (out : Option Request) → (answer_taken c a out ≡ Some (TakesAnswer a) → R (behind a))
-      → R (by_taken c (answer_taken c a out)).client
-  outstanding_step a None good = plain c k
-  outstanding_step a (Some q) good = answer_step a (is_awaited c a q) good
-
-  recall_step : (q : Recall) (b : Bool) → R (by_taken c (if b then Some (TakesRecall q) else None)).client
-  recall_step q true =
-      plain _ (finished_sized P c.outstanding _ (recall_goes P c.outstanding c k q (held_of c.held q.file)))
-  recall_step q false = plain c k
-
   abbrev pub IsGood : Input → Type 0
   IsGood (Hears from m) = (a : Answer) → takes c from m ≡ Some (TakesAnswer a) → R (behind a)
   IsGood i = Unit {0}
 
-  hears_step : (from : Node) (m : Message) → IsGood (Hears from m) → R (hears c from m).client
-  unfolding hears takes
-  hears_step (FromDrive d) (Replies q) good = reply_step d q (find (answers d q) (awaited_of c.call)) refl
-  hears_step FromServer (Answers a) good = outstanding_step a c.outstanding (good a)
-  hears_step FromServer (Recalls q) good = recall_step q (q.client == c.number)
-  hears_step from m good = plain c k
+  abbrev Keeps : Step → Type 0
+  Keeps t = R t.client
 
-  no_call : (o : Option Call) → is_some o ≡ false → AskedFine c.outstanding o → NoCommit c.outstanding
-  no_call None e x = none_without c.outstanding x
-  no_call (Some call) e x = absurd (cc e)
+  done : (d : Done) → IsSized P c.outstanding d.client → R (finished d).client
+  done d it = plain _ (finished_sized P c.outstanding d it)
 
-  starts_step : (op : CallOp) → is_some c.call ≡ false → (b : Bool)
-      → R (if b then record (still c) { outcome = Some (WriteOk 0) }
-      else finished (quiet (record c { call = Some (record { op = op; phase = Starts }) }))).client
-  starts_step op none true = plain c k
-  starts_step op none false =
-      plain _ (finished_sized P c.outstanding _ (record {
-        helds = k.helds;
-        asked = asked_any c.outstanding _ (no_call c.call none k.asked);
-        stays = k.stays;
-      }))
+  none_working : (call : Call) → c.call ≡ Some call → NotWaiting call.phase → NoCommit c.outstanding
+  none_working call is n =
+      none_asked c.outstanding call.op call.phase n (subst (AskedFine c.outstanding) is k.asked)
 
-  called : (op : CallOp) (a b s : Bool) → is_some c.call ≡ a
-      → R (unless_refused c (if a then Err Busy else if b then Err BadRange else if s then Err SlotSpent
-      else Ok (starts c op))).client
-  called op true b s e = plain c k
-  called op false true s e = plain c k
-  called op false false true e = plain c k
-  called op false false false e = starts_step op e (writes_nothing op)
+  cases : (i : Input) → IsGood i → TurnCases c i Keeps
+  cases i good = record {
+    rests = plain c k;
+    nothing = λ op is e. plain c k;
+    called = λ op is none.
+        done _ (record {
+          helds = k.helds;
+          asked =
+              asked_any c.outstanding _ (none_without c.outstanding (subst (AskedFine c.outstanding) none k.asked));
+          stays = k.stays;
+        });
+    answered = λ a is. subst IsGood is.is good a is.takes_it;
+    replied = λ drive q call h a is.
+        done _ (moved_sized P c.outstanding (quiet c) call.op h (replied h call.op call.phase a q) k
+        (none_working call is.call_is (working P c.outstanding call.phase (answers drive q) a is.awaits)) is.held
+        (replied_kept h call.op call.phase a q));
+    unheld = done (quiet c) k;
+    recalled = λ q is. done _ (record { helds = k.helds; asked = k.asked; stays = k.stays });
+    unmatched = λ q is. done _ k;
+    timed = λ j call h a xs is.
+        done _ (moved_sized P c.outstanding (quiet c) call.op h (timed_out h call.op call.phase j a xs) k
+        (none_working call is.call_is (timing P c.outstanding call.phase j a xs is.awaits)) is.held
+        (timed_out_kept h call.op call.phase j a xs));
+    leaves = λ is. done _ (record { helds = k.helds; asked = k.asked; stays = k.stays });
+    resends = λ is. plain c k;
+  }
 
   pub step_keeps : (i : Input) → IsGood i → R (step c i).client
-  unfolding calls times_out leaves
-  step_keeps (Calls op) good = called op (is_some c.call) (is_bad_range (span_of op)) (is_spent c.next) refl
-  step_keeps (Hears from m) good = hears_step from m good
-  step_keeps (TimesOut j) good = plain _ (timeout_goes P c.outstanding c k j c.call k.asked)
-  step_keeps Leaves good =
-      plain _ (finished_sized P c.outstanding _ (record { helds = k.helds; asked = k.asked; stays = k.stays }))
-  step_keeps Resends good = plain c k
+  step_keeps i good = each_turn c i Keeps (cases i good)

@@ -1,43 +1,21 @@
 -- While a grant of a file is live its components stand where they stood, with the file's map, tag and format.
-use Rattle.std.proofs.Common.{◌≡◌, ◌==◌, ℕ, ◌+◌, Bool, true, false, List, [], ◌∷◌, Option, Some, None, find, length, slice_get, suc, zero, ◌||◌, ◌&&◌, ◌⊎◌, inl, inr, refl, sym, arith, ap, subst, ◌∙◌, if◌then◌else◌}
+use Rattle.std.proofs.Common.{◌≡◌, ◌==◌, ℕ, ◌+◌, Bool, true, false, List, [], ◌∷◌, Option, Some, None, length, slice_get, suc, zero, ◌||◌, ◌&&◌, ◌⊎◌, inl, inr, refl, sym, arith, ap, subst, ◌∙◌, if◌then◌else◌}
 use Rattle.std.proofs.lemmas.Bool.{cases_eq, eq-eqb, ne_eqb, eqb-true}
 use Rattle.server_rules.specs.declared.limits.TheConstants.{GREATEST_TAG}
-use Rattle.world_history.specs.ServerNames.{Kept, Component, Grant, JobKind, Revoking, Job, Awaited, Reply, Reported}
+use Rattle.world_history.specs.ServerNames.{Kept, Component, Grant, JobKind, Revoking, Job, Awaited, Reported}
 use Rattle.server_rules.specs.Grants.{grant_of, without}
 use Rattle.server_rules.specs.Jobs.{is_made, declared_in, targets, making, ending, fences, fence_begins, declares}
 use Rattle.server_rules.specs.Going.{Going, keeping, noting_if, with_components, rests_or}
 use Rattle.server_rules.specs.Commit.{Committed, NoGrant, Wrong, Sizes, by_commit}
-use Rattle.server_rules.specs.Laws.{Rests, IsSafe}
+use Rattle.server_rules.specs.Laws.{IsSafe}
 use Rattle.server_rules.specs.Numbers.{among}
 use Rattle.server_rules.specs.Openings.{is_unsettled, opens_made, opens_fenced, opens}
-use Rattle.server_rules.specs.Replies.{hearing, on_reply, heard_by, heard_in, answers}
 use Rattle.server_rules.specs.Return.{Returned, NoGrant as NotHeld, Clean, Taken, TooMany, Fencing, ends_grant, reports_from, takes_loss, by_return, by_grant, by_loss, loss, bearable, named}
 use Rattle.layout_types.specs.declared.ioerrs.IoErr.{IoErr}
 use Rattle.server_rules.specs.Standing.{lose_from, lose_on, any_on}
 use Rattle.server_rules.proofs.Runs.{ran_fences, ran_declares}
-use Rattle.server_rules.proofs.HandlerLaws.{ran_hears}
 use Rattle.server_rules.specs.Commands.{Creating, All, to_all}
 use Rattle.world_history.specs.ServerNames.{Making, Creates}
-
--- where the reply is heard, a job runs, beside which no grant is live
-abbrev pub HeardNone : Option Going → Type 0
-HeardNone None = Unit {0}
-HeardNone (Some go) = go.file.kept.grants ≡ []
-
-by_none : (go : Going) (r : Reply) (j : Job) (o : Option Awaited) → Rests (Some j) → Rests go.file.job
-    → go.file.kept.grants ≡ [] → HeardNone (heard_by go r j o)
-by_none go r j None w s e = tt
-by_none go r j (Some a) w s e = (ran_hears go j a r (hearing go.file.kept a r) w s).grants ∙ e
-
-in_none : (go : Going) (drive : ℕ) (r : Reply) (j : Option Job) → go.file.job ≡ j → IsSafe go.file
-    → HeardNone (heard_in go drive r j)
-in_none go drive r None e s = tt
-in_none go drive r (Some j) e s =
-    by_none go r j (find (answers drive r) j.awaited) (rw e at s.rests) s.rests (rw e at s.alone)
-
-pub reply_none : (go : Going) (drive : ℕ) (r : Reply) → IsSafe go.file → HeardNone (on_reply go drive r)
-unfolding on_reply
-reply_none go drive r s = in_none go drive r go.file.job refl s
 
 -- drives of which components may get lost
 module _ (Off : ℕ → Type 0) where

@@ -32,7 +32,8 @@ use Rattle.exchange_law.proofs.HeldAsking.{IsItsGet, call_or_not, no_get_asked, 
 use Rattle.party_law.specs.Sizes.{IsCommit}
 use Rattle.party_law.proofs.SizeServing.{MayGive, serves_may}
 use Rattle.party_law.proofs.Server.{IsSize, IsCommitOf, Commits, Stays, Grows, commits_as, size_over, v, t, number, its_file, other_size, slot_stays}
-use Rattle.party_law.proofs.SizeSteps.{Did, Quiet, Asked, step_did}
+use Rattle.party_law.proofs.SizeSteps.{Did, step_did}
+use Rattle.move_law.specs.Files.{Quiet, Asked}
 
 -- its LAYOUTCOMMIT on the file is carried out
 pub record IsLate (s : Server) (c : ℕ) (x : Client) (n : ℕ) : Type 0 where
@@ -244,11 +245,11 @@ unfolding on_request
 did_known s chosen i c x (Quiet all same) safe met own k =
     known_over s (step s chosen i).state c x (ap (λ (ss : List Slot). slot_of ss c) same)
     (λ n size is. size_over s (step s chosen i).state c n size all is) k
-did_known s chosen i c x (Asked now q is named done) safe met own k =
+did_known s chosen i c x (Asked now q is done) safe met own k =
     subst (λ (y : _). Known y.state c x) (sym done)
     (admitted s now chosen q (admit (slot_of s.slots q.client) q.sequence) c x safe met refl
-    (λ same new. own now q (is ∙ ap (λ (n : ℕ). Hears now (FromClient n) (Asks q)) same) same
-    (subst (λ (n : ℕ). n ≤ MAX_CLIENT) same named) new) k)
+    (λ same new. own now q (is.is ∙ ap (λ (n : ℕ). Hears now (FromClient n) (Asks q)) same) same
+    (subst (λ (n : ℕ). n ≤ MAX_CLIENT) same is.named) new) k)
 
 pub step_known : (s : Server) (chosen : List ℕ) (i : Input) (c : ℕ) (x : Client) → AreSafe s.files → IsMet s c x
     → IsOwn s c x i → Known s c x → Known (step s chosen i).state c x

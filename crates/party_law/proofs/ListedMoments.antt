@@ -37,7 +37,7 @@ use Rattle.exchange_law.specs.Messages.{AsksOf, IsAsked}
 use Rattle.exchange_law.specs.Taking.{AnswersAreOwn}
 use Rattle.exchange_law.proofs.Admitting.{is_next}
 use Rattle.exchange_law.proofs.SlotAnswered.{read_of, is_outstanding}
-use Rattle.exchange_law.proofs.Doing.{moves_are_steps}
+use Rattle.move_law.proofs.Goes.{moves_are_steps}
 use Rattle.exchange_law.proofs.Each.{put_same, put_other, stopped_same, come_same, in_step}
 use Rattle.exchange_law.proofs.SlotLists.{each_at}
 use Rattle.exchange_law.proofs.SlotMoments.{comes_new, always}

@@ -16,7 +16,9 @@ use Rattle.server_rules.specs.Served.{Served}
 use Rattle.server_rules.specs.Slots.{Admit, New, Again, Misordered, slot_of, admit, keep}
 use Rattle.server_rules.proofs.FileLaws.{number_at, safe_at, put_other, keep_same, keep_other}
 use Rattle.party_law.proofs.SizeServing.{MayGive, serves_may}
-use Rattle.party_law.proofs.SizeSteps.{FewerAt, AllFewer, put_gives, Did, Quiet, Asked, step_did}
+use Rattle.party_law.proofs.SizeSteps.{FewerAt, AllFewer, Did, step_did}
+use Rattle.move_law.specs.Files.{Quiet, Asked}
+use Rattle.move_law.proofs.Files.{put_gives}
 
 same_some : {A : Type 0} (x y : A) (o : Option A) → o ≡ Some x → o ≡ Some y → x ≡ y
 same_some x y o e f = cc (sym e ∙ f)
@@ -233,7 +235,7 @@ did_sized : (s : Server) (chosen : List ℕ) (i : Input) → Did s chosen i (ste
     → AnswersSized s → AnswersSized (step s chosen i).state
 unfolding on_request
 did_sized s chosen i (Quiet all same) safe k = quiet_sized s (step s chosen i).state all same k
-did_sized s chosen i (Asked now q is named done) safe k =
+did_sized s chosen i (Asked now q is done) safe k =
     subst (λ (x : _). AnswersSized x.state) (sym done)
     (admitted_sized s now chosen q (admit (slot_of s.slots q.client) q.sequence) safe k)
 

@@ -1,22 +1,16 @@
 -- The keys that the server has for drives: each step keeps them, and one drive more brings its own.
-use Rattle.std.proofs.Common.{◌≡◌, ◌==◌, ◌&&◌, ℕ, nat_le, nat_lt, nat_eq, ◌∷◌, [], List, Bool, true, false, Option, Some, None, is_some, find, option_map, refl, sym, ap, ◌∙◌, inl, inr, if◌then◌else◌}
+use Rattle.std.proofs.Common.{◌≡◌, ◌==◌, ℕ, nat_lt, nat_eq, ◌∷◌, [], List, Bool, true, false, Option, Some, None, find, option_map, refl, sym, ap, ◌∙◌, inl, inr, if◌then◌else◌}
 use Rattle.std.specs.List.{list_any}
 use Rattle.std.proofs.lemmas.Bool.{cases_Bool, eq-eqb, ne_eqb}
-use Rattle.osd_lists.specs.declared.node.Node.{Node}
-use Rattle.osd_lists.specs.declared.node.Node.TheVariants as node
 use Rattle.osd_drive.specs.declared.keys.DriveKey.{DriveKey}
-use Rattle.server_rules.specs.declared.limits.TheConstants.{MAX_CLIENT, GREATEST_TAG}
-use Rattle.server_rules.specs.Files.{Step, still, file_at}
-use Rattle.server_rules.specs.Going.{Going}
-use Rattle.server_rules.specs.Slots.{Admit, New, Again, Misordered, admit, slot_of}
-use Rattle.server_rules.specs.Requests.{carries_out, by_admit, on_request}
-use Rattle.server_rules.specs.Making.{refusal, unless_refused, places, unmade, makes_file, create_file, add_drive}
-use Rattle.server_rules.specs.Messages.{Message, Asks, Replies, Orders, counters_have_room, by_heard, heard_at, on_drive_reply, handled, on_message}
-use Rattle.server_rules.specs.Orders.{begins_job, starts, recalls_on, offline, declares_known, declare, ordered}
-use Rattle.server_rules.specs.Openings.{reopen}
-use Rattle.server_rules.specs.History.{Input, Hears, Makes, Obeys, Adds, Opens, step, unless_made}
-use Rattle.world_history.specs.ServerNames.{Server, File, Drive, Job, JobKind, ClientRequest, Reply, OrderKind, ToRecall, ToRevoke, ToDeclare, ToRebuild, ToAudit, Revoking, Rebuilding, Auditing, Refusal}
+use Rattle.server_rules.specs.Files.{Step}
+use Rattle.server_rules.specs.Making.{add_drive}
+use Rattle.server_rules.specs.Orders.{offline, declare}
+use Rattle.server_rules.specs.History.{Input, Adds, step}
+use Rattle.world_history.specs.ServerNames.{Server, Drive}
 use Rattle.world_history.specs.Drives.{first_key}
+use Rattle.move_law.specs.Steps.{StepCases}
+use Rattle.move_law.proofs.Steps.{each_step, each_request}
 
 -- the keys of a drive as the server has them
 abbrev pub keys_for : Option Drive → Option (List DriveKey)
@@ -90,79 +84,30 @@ offline_keys (x ∷ ds) drive d = elim (cases_Bool (x.number == drive)) [
 abbrev Knows : Server → Step → Type 0
 Knows s did = (d : ℕ) → known_keys did.state.drives d ≡ known_keys s.drives d
 
-either : (s : Server) (b : Bool) (x y : Step) → Knows s x → Knows s y → Knows s (if b then x else y)
-either s true x y h g = h
-either s false x y h g = g
-
-knows_carried : (s : Server) (now : ℕ) (chosen : List ℕ) (q : ClientRequest) (o : Option File)
-    → Knows s (carries_out s now chosen q o)
-knows_carried s now chosen q None = λ d. refl
-knows_carried s now chosen q (Some f) = λ d. refl
-
-knows_admitted : (s : Server) (now : ℕ) (chosen : List ℕ) (q : ClientRequest) (a : Admit)
-    → Knows s (by_admit s now chosen q a)
-knows_admitted s now chosen q New = knows_carried s now chosen q (file_at s.files q.file)
-knows_admitted s now chosen q (Again kept) = λ d. refl
-knows_admitted s now chosen q (Misordered expected) = λ d. refl
-
-knows_request : (s : Server) (now : ℕ) (chosen : List ℕ) (q : ClientRequest) → Knows s (on_request s now chosen q)
-unfolding on_request
-knows_request s now chosen q = knows_admitted s now chosen q (admit (slot_of s.slots q.client) q.sequence)
-
-knows_heard : (s : Server) (o : Option Going) → Knows s (by_heard s o)
-knows_heard s None = λ d. refl
-knows_heard s (Some g) = λ d. refl
-
-knows_reply : (s : Server) (chosen : List ℕ) (drive : ℕ) (r : Reply) → Knows s (on_drive_reply s chosen drive r)
-unfolding on_drive_reply
-knows_reply s chosen drive r = knows_heard s (heard_at s chosen drive r s.files)
-
-knows_job : (s : Server) (chosen : List ℕ) (kind : JobKind) (f : File) (j : Option Job)
-    → Knows s (begins_job s chosen kind f j).step
-knows_job s chosen kind f (Some j) = λ d. refl
-knows_job s chosen kind f None = λ d.
-    elim (cases_Bool (f.kept.tag == GREATEST_TAG)) [ inl t ↦ rw t refl | inr z ↦ rw z refl ]
-
-knows_starts : (s : Server) (chosen : List ℕ) (kind : JobKind) (o : Option File) → Knows s (starts s chosen kind o).step
-knows_starts s chosen kind None = λ d. refl
-knows_starts s chosen kind (Some f) = knows_job s chosen kind f f.job
-
-knows_recalls : (s : Server) (o : Option File) → Knows s (recalls_on s o).step
-knows_recalls s None = λ d. refl
-knows_recalls s (Some f) = λ d. refl
-
-knows_declared : (s : Server) (chosen : List ℕ) (drive : ℕ) (b : Bool) → Knows s (declares_known s chosen drive b).step
+-- so it is in each step that adds no drive
+cases : (s : Server) (chosen : List ℕ) (i : Input) → ((x : Drive) → i ≡ Adds x → ⊥) → StepCases s chosen i (Knows s)
 unfolding declare
-knows_declared s chosen drive true = λ d. offline_keys s.drives drive d
-knows_declared s chosen drive false = λ d. refl
-
-knows_ordered : (s : Server) (chosen : List ℕ) (kind : OrderKind) (n : ℕ) → Knows s (ordered s chosen kind n).step
-unfolding ordered
-knows_ordered s chosen ToRecall n = knows_recalls s (file_at s.files n)
-knows_ordered s chosen ToRevoke n = knows_starts s chosen Revoking (file_at s.files n)
-knows_ordered s chosen ToDeclare n = knows_declared s chosen n (is_some (find (λ d. d.number == n) s.drives))
-knows_ordered s chosen ToRebuild n = knows_starts s chosen Rebuilding (file_at s.files n)
-knows_ordered s chosen ToAudit n = knows_starts s chosen Auditing (file_at s.files n)
-
-knows_handled : (s : Server) (now : ℕ) (chosen : List ℕ) (from : Node) (m : Message)
-    → Knows s (handled s now chosen from m)
-knows_handled s now chosen (node.Client c) (Asks q) =
-    either s ((q.client == c) && nat_le c MAX_CLIENT) (on_request s now chosen q) (still s)
-    (knows_request s now chosen q) (λ d. refl)
-knows_handled s now chosen (node.Drive d) (Replies r) = knows_reply s chosen d r
-knows_handled s now chosen node.Server (Orders o) = knows_ordered s chosen o.order o.target
-knows_handled s now chosen from m = λ d. refl
-
-knows_message : (s : Server) (now : ℕ) (chosen : List ℕ) (from : Node) (m : Message)
-    → Knows s (on_message s now chosen from m)
-unfolding on_message
-knows_message s now chosen from m =
-    either s (counters_have_room s) (handled s now chosen from m) (still s) (knows_handled s now chosen from m) (λ d. refl)
-
-knows_unless : (s : Server) (o : Option Refusal) (f : File)
-    → Knows s (unless_made s (unless_refused o (makes_file s f)))
-knows_unless s (Some r) f = λ d. refl
-knows_unless s None f = λ d. refl
+cases s chosen i none = record {
+  rests = λ d. refl;
+  asked = λ now q is. each_request s now chosen q (Knows s) (record {
+    again = λ kept is d. refl;
+    misordered = λ expected is d. refl;
+    without = λ new found d. refl;
+    served = λ new f found d. refl;
+  });
+  answered = λ x is d. refl;
+  recalled = λ f is d. refl;
+  refused = λ f is n why d. refl;
+  fenced = λ f is kind free low d. refl;
+  declared = λ drive known d. offline_keys s.drives drive d;
+  told = λ t now o is result same. same;
+  made = λ n m tag is free d. refl;
+  added = λ x is. absurd (none x is);
+  formats = λ n is d. refl;
+  resends = λ is d. refl;
+  crashes = λ is d. refl;
+  opened = λ is low d. refl;
+}
 
 -- the drives behind a step
 abbrev pub known_then : Input → List Drive → List Drive
@@ -171,10 +116,5 @@ known_then i ds = ds
 
 pub keys_step : (s : Server) (chosen : List ℕ) (i : Input) (d : ℕ)
     → known_keys (step s chosen i).state.drives d ≡ known_keys (known_then i s.drives) d
-unfolding create_file reopen
-keys_step s chosen (Hears now from m) d = knows_message s now chosen from m d
-keys_step s chosen (Makes n m tag) d =
-    knows_unless s (refusal s n m) (unmade s n m tag (places s.drives m.comps chosen)) d
-keys_step s chosen (Obeys kind n) d = knows_ordered s chosen kind n d
-keys_step s chosen Opens d = either s (counters_have_room s) _ (still s) (λ d. refl) (λ d. refl) d
-keys_step s chosen i d = refl
+keys_step s chosen (Adds x) d = refl
+keys_step s chosen i d = each_step s chosen i (Knows s) (cases s chosen i (λ x is. absurd (cc is))) d

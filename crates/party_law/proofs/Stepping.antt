@@ -33,7 +33,8 @@ use Rattle.party_law.proofs.Given.{lists_on, taken_gives, taken_lists}
 use Rattle.party_law.proofs.Keeping.{IsAlike}
 use Rattle.party_law.proofs.Offline.{step_knows}
 use Rattle.party_law.proofs.ListedServing.{MayGive, serves_may}
-use Rattle.party_law.proofs.ListedSteps.{FewerAt, AllFewer, Did, Quiet, Asked, step_did}
+use Rattle.party_law.proofs.ListedSteps.{FewerAt, AllFewer, Did, step_did}
+use Rattle.move_law.specs.Files.{Quiet, Asked}
 
 -- where the server has a grant of client c on the file, these are its components
 abbrev pub ListsAt : Server → (c : ℕ) → (file : ℕ) → Held → Type 0
@@ -284,12 +285,12 @@ did_lists : (s : Server) (chosen : List ℕ) (i : Input) (c : ℕ) (x : Client) 
     → Lists (step s chosen i).state c x.held
 unfolding on_request
 did_lists s chosen i c x (Quiet all same) fit own k l = quiet_lists s (step s chosen i).state c x.held (step_knows s chosen i) all same l
-did_lists s chosen i c x (Asked now q is named done) fit own k l =
+did_lists s chosen i c x (Asked now q is done) fit own k l =
     subst (λ (t : _). Lists t.state c x.held) (sym done)
     (admitted s now chosen q (admit (slot_of s.slots q.client) q.sequence) c x refl k
     (subst (λ (t : _). AllFitting t.state) done fit)
-    (λ same new. own now q (is ∙ ap (λ (n : ℕ). Hears now (FromClient n) (Asks q)) same) same
-    (subst (λ (n : ℕ). n ≤ MAX_CLIENT) same named) new) l)
+    (λ same new. own now q (is.is ∙ ap (λ (n : ℕ). Hears now (FromClient n) (Asks q)) same) same
+    (subst (λ (n : ℕ). n ≤ MAX_CLIENT) same is.named) new) l)
 
 pub step_lists : (s : Server) (chosen : List ℕ) (i : Input) (c : ℕ) (x : Client) → AreSafe s.files
     → AllFitting (step s chosen i).state → IsOwn s c x i → IsMet s c x → Lists s c x.held

@@ -1,22 +1,23 @@
 -- Each step of a server that goes on: what it sends, and what jobs await, is under no earlier tag than its object.
-use Rattle.std.proofs.Common.{◌≡◌, ℕ, true, List, [], ◌∷◌, flat_map, Option, Some, None, refl, sym, subst, ◌∙◌, arith, inl, inr}
+use Rattle.std.proofs.Common.{◌≡◌, ℕ, true, List, [], ◌∷◌, flat_map, refl, sym, subst, ◌∙◌, arith, inl, inr}
 use Rattle.data_map.specs.declared.check.RawMap.{RawMap}
 use Rattle.server_rules.specs.Laws.{In}
-use Rattle.server_rules.specs.Files.{at_file, to_drives}
-use Rattle.server_rules.specs.Messages.{awaited_by, on_message, counters_have_room}
+use Rattle.server_rules.specs.Files.{still, at_file, to_drives}
+use Rattle.server_rules.specs.Messages.{awaited_by, resend}
 use Rattle.server_rules.specs.Jobs.{making}
-use Rattle.server_rules.specs.Making.{refusal, places, unmade, with_file, makes_file, unless_refused, create_file}
-use Rattle.server_rules.specs.History.{Input, Hears, Makes, Obeys, Adds, Formats, Resends, Crashes, Opens, step, unless_made}
+use Rattle.server_rules.specs.Making.{places, unmade, with_file, makes_file}
+use Rattle.server_rules.specs.History.{Input, step}
+use Rattle.job_law.specs.Names.{Command, ToDrive, Server, File, Drive}
 use Rattle.server_rules.proofs.Members.{in_either}
-use Rattle.job_law.specs.Names.{Command, ToDrive, Server, File, Drive, Refusal}
 use Rattle.job_law.proofs.Files.{in_add, add_there, in_drives}
 use Rattle.sent_law.proofs.Numbers.{in_new}
-use Rattle.sent_law.proofs.Going.{with_owner, owner_below, owner_from}
 use Rattle.sent_law.specs.Standing.{is_running}
 use Rattle.sent_law.proofs.BirthEnds.{IsFine, fine_later}
 use Rattle.sent_law.proofs.BirthJobs.{ends_making}
-use Rattle.sent_law.proofs.BirthGoing.{AreFine, IsSent, sent_of, Keeps, idle, stays, either_step, goes_at, begun}
-use Rattle.sent_law.proofs.BirthSteps.{obeyed, heard_message}
+use Rattle.sent_law.proofs.BirthGoing.{AreFine, IsSent, sent_of, Keeps, idle, goes_at, begun}
+use Rattle.sent_law.proofs.BirthSteps.{kept_cases}
+use Rattle.sent_law.proofs.ObjectSteps.{with_owner, owner_below, owner_from}
+use Rattle.move_law.proofs.Steps.{each_step}
 
 -- ---- making
 
@@ -64,10 +65,6 @@ module _ (birth : ℕ → ℕ) (s : Server) (own : AreFine birth s) (number : �
         sent = x.sent;
       }
 
-  unless : (r : Option Refusal) → Keeps birth s.next_object (unless_made s (unless_refused r (makes_file s new_file)))
-  unless None = made
-  unless (Some why) = stays birth s own
-
 -- ---- once more
 
 -- what is awaited
@@ -87,15 +84,9 @@ sent_again birth n ds (f ∷ fs) own drive c i =
 
 pub step_keeps : (birth : ℕ → ℕ) (s : Server) (chosen : List ℕ) (i : Input) → is_running i ≡ true → AreFine birth s
     → Keeps birth s.next_object (step s chosen i)
-unfolding on_message create_file
-step_keeps birth s chosen (Hears now from m) runs own =
-    either_step birth s own (counters_have_room s) _ _ (heard_message birth s own now chosen from m) (stays birth s own)
-step_keeps birth s chosen (Makes n m tag) runs own =
-    unless birth s own n m tag (places s.drives m.comps chosen) (refusal s n m)
-step_keeps birth s chosen (Obeys kind n) runs own = obeyed birth s own chosen kind n
-step_keeps birth s chosen (Adds d) runs own = idle birth s own _ refl refl (λ drive c i. absurd i)
-step_keeps birth s chosen (Formats n) runs own = idle birth s own _ refl refl (λ drive c i. absurd i)
-step_keeps birth s chosen Resends runs own =
-    idle birth s own (step s chosen Resends) refl refl (sent_again birth s.next_object s.drives s.files own)
-step_keeps birth s chosen Crashes runs own = absurd (cc runs)
-step_keeps birth s chosen Opens runs own = absurd (cc runs)
+step_keeps birth s chosen i runs own =
+    each_step s chosen i (Keeps birth s.next_object)
+    (kept_cases birth s own chosen i runs
+    (λ n m tag. made birth s own n m tag (places s.drives m.comps chosen))
+    (idle birth s own (record (still s) { sends = resend s }) refl refl
+    (sent_again birth s.next_object s.drives s.files own)))

@@ -1,30 +1,32 @@
 -- What each request, reply and order leaves of files, and of what was sent.
-use Rattle.std.proofs.Common.{◌≡◌, ◌==◌, ◌&&◌, ◌∙◌, ℕ, ◌≤◌, nat_le, Bool, true, false, List, [], ◌∷◌, find, Option, Some, None, refl, sym, subst, arith, inl, inr, if◌then◌else◌}
-use Rattle.osd_lists.specs.declared.node.Node.{Node}
-use Rattle.osd_lists.specs.declared.node.Node.TheVariants.{Server as FromServer, Client as FromClient, Drive as FromDrive}
-use Rattle.server_rules.specs.declared.limits.TheConstants.{GREATEST_TAG, MAX_CLIENT}
+use Rattle.std.proofs.Common.{◌≡◌, ◌∙◌, ℕ, ◌≤◌, true, List, [], ◌∷◌, refl, sym, subst, arith, inl, inr}
 use Rattle.server_rules.specs.Answers.{recalls_from}
 use Rattle.server_rules.specs.Laws.{In}
 use Rattle.server_rules.specs.Going.{Going, noting}
-use Rattle.server_rules.specs.Get.{lowest}
-use Rattle.server_rules.specs.Files.{Step, still, begins, at_file, step_at, file_at, to_drives}
-use Rattle.server_rules.specs.Slots.{Admit, New, Again, Misordered, admit, slot_of}
-use Rattle.server_rules.specs.Requests.{serves, carried_out, carries_out, by_admit, on_request}
-use Rattle.server_rules.specs.Replies.{answers, hearing, heard_by, heard_in, on_reply}
-use Rattle.server_rules.specs.Messages.{Message, Asks, Replies, Orders, or_else, heard_at, by_heard, on_drive_reply, handled}
-use Rattle.server_rules.specs.Orders.{Ordered, begins_job, starts, recalls_on, declares_each, with_offline, offline, declare, declares_known, ordered, with_result}
+use Rattle.server_rules.specs.Files.{Step, still, begins, at_file, step_at, to_drives}
+use Rattle.server_rules.specs.Requests.{serves, carried_out}
+use Rattle.server_rules.specs.Replies.{answers, hearing}
+use Rattle.server_rules.specs.Orders.{declares_each, with_offline, offline, declare}
 use Rattle.server_rules.specs.Rounds.{Round, step_round}
 use Rattle.server_rules.specs.Jobs.{declares, fence_begins}
+use Rattle.job_law.specs.Names.{Command, ToDrive, Server, File, Drive, Effects, ClientRequest, Awaited, OrderKind}
 use Rattle.server_rules.proofs.Members.{in_either}
-use Rattle.job_law.specs.Names.{Command, ToDrive, Server, File, Drive, Job, JobKind, Revoking, Rebuilding, Auditing, Effects, Reply, ClientRequest, Awaited, OrderKind, ToRecall, ToRevoke, ToDeclare, ToRebuild, ToAudit, Busy, Spent}
 use Rattle.job_law.proofs.Files.{found_file, in_drives}
+use Rattle.job_law.proofs.Steps.{no_answer, no_recall}
 use Rattle.sent_law.proofs.ObjectSteps.{Agree}
-use Rattle.sent_law.proofs.Going.{answers_alone, no_recall}
 use Rattle.sent_law.proofs.PhaseSteps.{found_in}
 use Rattle.sent_law.proofs.BirthEnds.{IsFine, born_later, fine_later, AllSent, Ends, holds_on}
 use Rattle.sent_law.proofs.BirthJobs.{ends_fence, ends_hears, ends_declares}
 use Rattle.sent_law.proofs.BirthServing.{ends_served}
-use Rattle.sent_law.proofs.BirthGoing.{AreFine, sent_of, Keeps, idle, stays, either_step, goes_at, begun}
+use Rattle.sent_law.proofs.BirthGoing.{AreFine, sent_of, Keeps, idle, stays, goes_at, begun}
+use Rattle.data_map.specs.declared.check.RawMap.{RawMap}
+use Rattle.server_rules.specs.History.{Input}
+use Rattle.server_rules.specs.Making.{makes_file}
+use Rattle.server_rules.specs.Messages.{resend}
+use Rattle.world_history.specs.ServerNames.{OrderResult}
+use Rattle.sent_law.specs.Standing.{is_running}
+use Rattle.move_law.specs.Steps.{answered_file, new_file, with_answer, RequestCases, StepCases}
+use Rattle.move_law.proofs.Steps.{each_request}
 
 -- ---- all files, in order
 
@@ -92,109 +94,9 @@ module _ (birth : ℕ → ℕ) (s : Server) (own : AreFine birth s) where
   still_kept : IsKept (still s)
   still_kept = stays birth s own
 
-  -- ---- a request
-
-  carries : (now : ℕ) (chosen : List ℕ) (q : ClientRequest) (o : Option File) → file_at s.files q.file ≡ o
-      → IsKept (carries_out s now chosen q o)
-  carries now chosen q None e = answer_kept _ refl refl (answers_alone _)
-  carries now chosen q (Some f) e =
-      let v = serves (at_file s chosen f) s.next_grant s.format now q.client q.args in
-      goes_at birth s own q.file v.going (carried_out s q v) refl refl
-      (λ drive c i. elim (in_either (ToDrive drive c) (to_drives s.drives v.going.effects.sent) _ i) [
-        | inl j ↦ j
-        | inr j ↦ elim (in_either (ToDrive drive c) (recalls_from s.next_recall v.recalled) _ j) [
-          | inl k ↦ absurd (no_recall s.next_recall v.recalled drive c k)
-          | inr k ↦ absurd (answers_alone _ drive c k)
-        ]
-      ])
-      (ends_served birth s.next_object [] (at_file s chosen f) s.next_grant s.format now q.client q.args
-      (begun birth s own chosen f (found_file s.files q.file f e).0))
-
-  admitted : (now : ℕ) (chosen : List ℕ) (q : ClientRequest) (a : Admit) → IsKept (by_admit s now chosen q a)
-  admitted now chosen q New = carries now chosen q (file_at s.files q.file) refl
-  admitted now chosen q (Again kept) = answer_kept _ refl refl (answers_alone _)
-  admitted now chosen q (Misordered expected) = answer_kept _ refl refl (answers_alone _)
-
-  asked : (now : ℕ) (chosen : List ℕ) (q : ClientRequest) → IsKept (on_request s now chosen q)
-  unfolding on_request
-  asked now chosen q = admitted now chosen q (admit (slot_of s.slots q.client) q.sequence)
-
-  -- ---- a reply
-
-  -- a file goes on by it, if any
-  abbrev HeardBy : Option Going → Type 0
-  HeardBy None = Unit {0}
-  HeardBy (Some h) = Ends birth s.next_object [] h
-
-  heard_one : (chosen : List ℕ) (drive : ℕ) (r : Reply) (f : File) (j : Job) (o : Option Awaited) → In f s.files
-      → f.job ≡ Some j → find (answers drive r) j.awaited ≡ o → HeardBy (heard_by (at_file s chosen f) r j o)
-  heard_one chosen drive r f j None i is found = tt
-  heard_one chosen drive r f j (Some a) i is found =
-      ends_hears birth s.next_object [] (at_file s chosen f) j a r (hearing (at_file s chosen f).file.kept a r) is
-      (found_in (answers drive r) j.awaited a found) (begun birth s own chosen f i)
-
-  heard_file : (chosen : List ℕ) (drive : ℕ) (r : Reply) (f : File) (o : Option Job) → In f s.files → f.job ≡ o
-      → HeardBy (heard_in (at_file s chosen f) drive r o)
-  heard_file chosen drive r f None i is = tt
-  heard_file chosen drive r f (Some j) i is =
-      heard_one chosen drive r f j (find (answers drive r) j.awaited) i is refl
-
-  heard_reply : (chosen : List ℕ) (drive : ℕ) (r : Reply) (f : File) → In f s.files
-      → HeardBy (on_reply (at_file s chosen f) drive r)
-  unfolding on_reply
-  heard_reply chosen drive r f i = heard_file chosen drive r f f.job i refl
-
-  first_heard : (a b : Option Going) → HeardBy a → HeardBy b → HeardBy (or_else a b)
-  first_heard None b h k = k
-  first_heard (Some g) b h k = h
-
-  all_heard : (chosen : List ℕ) (drive : ℕ) (r : Reply) (fs : List File) → ((f : File) → In f fs → In f s.files)
-      → HeardBy (heard_at s chosen drive r fs)
-  unfolding heard_at
-  all_heard chosen drive r [] there = tt
-  all_heard chosen drive r (f ∷ fs) there =
-      first_heard (on_reply (at_file s chosen f) drive r) _ (heard_reply chosen drive r f (there f (inl refl)))
-      (all_heard chosen drive r fs (λ x i. there x (inr i)))
-
-  by_reply : (o : Option Going) → HeardBy o → IsKept (by_heard s o)
-  by_reply None h = still_kept
-  by_reply (Some g) h =
-      goes_at birth s own g.file.kept.number g (step_at s g.file.kept.number g) refl refl (λ drive c i. i) h
-
-  replied : (chosen : List ℕ) (drive : ℕ) (r : Reply) → IsKept (on_drive_reply s chosen drive r)
-  unfolding on_drive_reply
-  replied chosen drive r = by_reply _ (all_heard chosen drive r s.files (λ f i. i))
-
-  -- ---- orders
-
-  either_order : (b : Bool) (x y : Ordered) → IsKept x.step → IsKept y.step → IsKept (if b then x else y).step
-  either_order true x y p q = p
-  either_order false x y p q = q
-
   -- the file goes on like this
   step_kept : (number : ℕ) (g : Going) → Ends birth s.next_object [] g → IsKept (step_at s number g)
   step_kept number g e = goes_at birth s own number g (step_at s number g) refl refl (λ drive c i. i) e
-
-  job_begun : (chosen : List ℕ) (kind : JobKind) (f : File) (j : Option Job) → In f s.files
-      → IsKept (begins_job s chosen kind f j).step
-  job_begun chosen kind f (Some j) i =
-      step_kept f.kept.number (noting (at_file s chosen f) (Busy (lowest j.awaited)))
-      (holds_on birth s.next_object [] (at_file s chosen f) (begun birth s own chosen f i))
-  job_begun chosen kind f None i =
-      either_order (f.kept.tag == GREATEST_TAG) _ _
-      (step_kept f.kept.number (noting (at_file s chosen f) Spent)
-      (holds_on birth s.next_object [] (at_file s chosen f) (begun birth s own chosen f i)))
-      (step_kept f.kept.number (fence_begins kind s.format (at_file s chosen f))
-      (ends_fence birth s.next_object [] kind s.format (at_file s chosen f) (begun birth s own chosen f i).0))
-
-  started : (chosen : List ℕ) (kind : JobKind) (n : ℕ) (o : Option File) → file_at s.files n ≡ o
-      → IsKept (starts s chosen kind o).step
-  started chosen kind n None e = still_kept
-  started chosen kind n (Some f) e = job_begun chosen kind f f.job (found_file s.files n f e).0
-
-  recalled : (o : Option File) → IsKept (recalls_on s o).step
-  recalled None = still_kept
-  recalled (Some f) = answer_kept _ refl refl (no_recall s.next_recall f.kept.grants)
 
   round_kept : (t : Server) (r : Round) → KeepsAll birth s.next_object [] r → IsKept (step_round t r)
   round_kept t r k = record {
@@ -210,39 +112,72 @@ module _ (birth : ℕ → ℕ) (s : Server) (own : AreFine birth s) where
         ];
   }
 
-  declared : (chosen : List ℕ) (n : ℕ) (b : Bool) → IsKept (declares_known s chosen n b).step
-  unfolding declare
-  declared chosen n false = still_kept
-  declared chosen n true =
-      round_kept (with_offline s n) _ (declared_each n (offline s.drives n) s.files (begins s) chosen birth own)
+  -- ---- a request
 
-  pub obeyed : (chosen : List ℕ) (kind : OrderKind) (n : ℕ) → IsKept (ordered s chosen kind n).step
-  unfolding ordered
-  obeyed chosen ToRecall n = recalled (file_at s.files n)
-  obeyed chosen ToRevoke n = started chosen Revoking n (file_at s.files n) refl
-  obeyed chosen ToDeclare n = declared chosen n _
-  obeyed chosen ToRebuild n = started chosen Rebuilding n (file_at s.files n) refl
-  obeyed chosen ToAudit n = started chosen Auditing n (file_at s.files n) refl
+  requests : (now : ℕ) (chosen : List ℕ) (q : ClientRequest) → RequestCases s now chosen q IsKept
+  requests now chosen q = record {
+    again = λ kept is. answer_kept _ refl refl (no_answer _);
+    misordered = λ expected is. answer_kept _ refl refl (no_answer _);
+    without = λ new none. answer_kept _ refl refl (no_answer _);
+    served = λ new f found.
+        let v = serves (at_file s chosen f) s.next_grant s.format now q.client q.args in
+        goes_at birth s own q.file v.going (carried_out s q v) refl refl
+        (λ drive c i. elim (in_either (ToDrive drive c) (to_drives s.drives v.going.effects.sent) _ i) [
+          | inl j ↦ j
+          | inr j ↦ elim (in_either (ToDrive drive c) (recalls_from s.next_recall v.recalled) _ j) [
+            | inl k ↦ absurd (no_recall s.next_recall v.recalled drive c k)
+            | inr k ↦ absurd (no_answer _ drive c k)
+          ]
+        ])
+        (ends_served birth s.next_object [] (at_file s chosen f) s.next_grant s.format now q.client q.args
+        (begun birth s own chosen f (found_file s.files q.file f found).0));
+  }
 
-  -- with the order's answer behind
-  answered : (kind : OrderKind) (o : Ordered) → IsKept o.step → IsKept (with_result kind o)
-  answered kind o x = record {
+  -- the answer to an order behind
+  told_behind : (t : Step) (kind : OrderKind) (result : OrderResult) → IsKept t → IsKept (with_answer t kind result)
+  told_behind t kind result x = record {
     later = x.later;
     agree = x.agree;
     rises = x.rises;
     fine = x.fine;
-    sent = λ drive c i. elim (in_either (ToDrive drive c) o.step.sends _ i) [
+    sent = λ drive c i. elim (in_either (ToDrive drive c) t.sends _ i) [
       | inl j ↦ x.sent drive c j
       | inr (inl e) ↦ absurd (cc e)
       | inr (inr none) ↦ absurd none
     ];
   }
 
-  -- ---- a message
+  -- ---- any step, but for what follows from these
 
-  pub heard_message : (now : ℕ) (chosen : List ℕ) (from : Node) (m : Message) → IsKept (handled s now chosen from m)
-  heard_message now chosen (FromClient c) (Asks q) =
-      either_step birth s own ((q.client == c) && nat_le c MAX_CLIENT) _ _ (asked now chosen q) still_kept
-  heard_message now chosen (FromDrive d) (Replies r) = replied chosen d r
-  heard_message now chosen FromServer (Orders o) = answered o.order _ (obeyed chosen o.order o.target)
-  heard_message now chosen from m = still_kept
+  pub kept_cases : (chosen : List ℕ) (i : Input) → is_running i ≡ true
+      → ((n : ℕ) (m : RawMap) (tag : ℕ) → IsKept (makes_file s (new_file s chosen n m tag)))
+      → IsKept (record (still s) { sends = resend s }) → StepCases s chosen i IsKept
+  unfolding declare
+  kept_cases chosen i runs made again = record {
+    rests = still_kept;
+    asked = λ now q is. each_request s now chosen q IsKept (requests now chosen q);
+    answered = λ x is.
+        step_kept (answered_file s chosen x).file.kept.number (answered_file s chosen x)
+        (ends_hears birth s.next_object [] (at_file s chosen x.file) x.job x.awaited x.reply
+        (hearing x.file.kept x.awaited x.reply) is.runs
+        (found_in (answers x.drive x.reply) x.job.awaited x.awaited is.awaits)
+        (begun birth s own chosen x.file is.there));
+    recalled = λ f is. answer_kept _ refl refl (no_recall s.next_recall f.kept.grants);
+    refused = λ f is n why.
+        step_kept f.kept.number (noting (at_file s chosen f) n)
+        (holds_on birth s.next_object [] (at_file s chosen f)
+        (begun birth s own chosen f (found_file s.files is.target f is.found).0));
+    fenced = λ f is kind none low.
+        step_kept f.kept.number (fence_begins kind s.format (at_file s chosen f))
+        (ends_fence birth s.next_object [] kind s.format (at_file s chosen f)
+        (begun birth s own chosen f (found_file s.files is.target f is.found).0).0);
+    declared = λ d known.
+        round_kept (with_offline s d) _ (declared_each d (offline s.drives d) s.files (begins s) chosen birth own);
+    told = λ t now o is result x. told_behind t o.order result x;
+    made = λ n m tag is none. made n m tag;
+    added = λ d is. idle birth s own _ refl refl (λ drive c j. absurd j);
+    formats = λ n is. idle birth s own _ refl refl (λ drive c j. absurd j);
+    resends = λ is. again;
+    crashes = λ is. absurd (cc (subst (λ (j : Input). is_running j ≡ true) is runs));
+    opened = λ is low. absurd (cc (subst (λ (j : Input). is_running j ≡ true) is runs));
+  }

@@ -1,0 +1,7 @@
+pub mod Moves
+pub mod Goes
+pub mod Steps
+pub mod Files
+pub mod Turns
+pub mod Reached
+pub mod Moments

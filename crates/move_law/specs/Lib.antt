@@ -1,0 +1,7 @@
+pub mod Said
+pub mod Goes
+pub mod Moves
+pub mod Steps
+pub mod Files
+pub mod Turns
+pub mod Moments
