@@ -207,7 +207,7 @@ fn new_bench(alloc: Global) -> Result<Bench, Memory> {
 
 // Whether the server takes the file of a case.
 fn takes(alloc: Global, bench: &mut Bench, setup: Setup, placer: &FirstOnline) -> bool {
-    if !bench.core.counters_have_room() || setup.algorithm == 0 || setup.algorithm > 4 {
+    if !bench.core.counters_low() || setup.algorithm == 0 || setup.algorithm > 4 {
         return false;
     }
     match bench.core.create_file(0, raw_map(setup), setup.tag, placer) {

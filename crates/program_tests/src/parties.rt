@@ -1,5 +1,4 @@
 // A drive and a metadata server as the peers of links.
-
 use crate::commands::{ONE_FILE, OnlyDrive};
 use crate::ends::copied;
 use crate::live::{LiveLinks, Peer};

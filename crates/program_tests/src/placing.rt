@@ -36,6 +36,7 @@ fn highest_first(alloc: Global, count: u32, loads: &[DriveLoad]) -> Result<Numbe
     fewest_first(alloc, count, ranked.as_slice())
 }
 
+// That rule.
 #[derive(Clone, Copy)]
 struct HighestFirst {
     alloc: Global,

@@ -4,6 +4,7 @@ use Rattle.std.specs.Prelude.{min, max, Option, Some, None, Ok}
 use Rattle.std.specs.List.{range_with_len}
 use Rattle.std.proofs.lemmas.Bool.{cases_lt, lt-ltb}
 use Rattle.std.proofs.lemmas.Nat.{div-add-mod', mod_below}
+use Rattle.osd_lists.proofs.Slices.{split_range}
 use Rattle.data_map.specs.declared.check.RawMap.{RawMap}
 use Rattle.data_map.specs.Check.{IsChecked}
 use Rattle.data_map.specs.Striping.{stripe_of, stripe_length, data_units, data_unit_of, column_of}
@@ -17,7 +18,7 @@ use Rattle.stripe_plan.specs.Touched.{end_of, stripes, unit_start, own, touches,
 use Rattle.stripe_plan.specs.Lost.{unreadable}
 use Rattle.stripe_plan.specs.Words.{answer_in, answer_at, answered_in, answered_between, answered}
 use Rattle.stripe_plan.specs.Plans.{columns_of, unless_lost, assemble, Gives}
-use Rattle.stripe_plan.proofs.StripeRows.{same_range, shifted, split_range}
+use Rattle.stripe_plan.proofs.StripeRows.{same_range, shifted}
 
 -- ---- between two bytes
 

@@ -1,5 +1,5 @@
 -- The rows of a stripe and their columns.
-use Rattle.std.proofs.Common.{◌≡◌, ℕ, zero, suc, ◌+◌, ◌-◌, ◌*◌, ◌<◌, ◌≤◌, true, false, List, [], ◌∷◌, length, get_or, map, refl, sym, ap, ◌∙◌, arith, inl, inr}
+use Rattle.std.proofs.Common.{◌≡◌, ℕ, zero, suc, ◌+◌, ◌-◌, ◌*◌, ◌<◌, ◌≤◌, true, false, List, [], ◌∷◌, ◌++◌, length, get_or, map, refl, sym, ap, ◌∙◌, arith, inl, inr}
 use Rattle.std.specs.Prelude.{if◌then◌else◌, slice_get, Some, Ok}
 use Rattle.std.specs.List.{All, range_with_len}
 use Rattle.std.proofs.lemmas.Bool.{cases_Bool, le-ltb}
@@ -32,13 +32,6 @@ shifted f x a zero = refl
 shifted f x a (suc n) =
     let e : x + a + 1 ≡ x + (a + 1) = omega arith in
     ap (λ xs. f (x + a) ∷ xs) (ap (λ (z : ℕ). map f (range_with_len z n)) e ∙ shifted f x (a + 1) n)
-
-pub split_range : {A : Type 0} (f : ℕ → A) (a x y : ℕ) → map f (range_with_len a (x + y)) ≡ map f (range_with_len a x) ++ map f (range_with_len (a + x) y)
-split_range f a zero y = let e : zero + y ≡ y = omega arith in let z : a + zero ≡ a = omega arith in rw (e, z) refl
-split_range f a (suc x) y =
-    let e : suc x + y ≡ suc (x + y) = omega arith in
-    let z : a + suc x ≡ a + 1 + x = omega arith in
-    rw (e, z) (ap (λ xs. f a ∷ xs) (split_range f (a + 1) x y))
 
 -- ---- known rows
 
