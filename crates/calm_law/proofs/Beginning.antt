@@ -34,7 +34,7 @@ use Rattle.calm_law.specs.Harms.{AreLeft}
 use Rattle.calm_law.specs.Performing.{AreDistinct, HaveComponents}
 use Rattle.calm_law.specs.Following.{bytes_in, IsWithin, PerformsAs}
 use Rattle.calm_law.proofs.Tables.{among_end}
-use Rattle.calm_law.proofs.Noting.{fails_alike}
+use Rattle.calm_law.proofs.Noting.{fails_alike, fails_more}
 use Rattle.calm_law.proofs.Performing.{writes_mark}
 
 -- ---- the event
@@ -50,14 +50,10 @@ pub opened_files : (there now : List File) (failed : List ℕ) (c : CalmState) (
 opened_files there now failed c (line.Event e) h = event_files there now failed c e h
 opened_files there now failed c l h = h
 
-among_more : (d e : ℕ) (ds es : List ℕ) → among e ds ≡ among e es → among e (ds ++ d ∷ []) ≡ among e (d ∷ es)
-unfolding among
-among_more d e ds es h = among_end e d ds ∙ ap (λ (b : Bool). (e == d) || b) h
-
 event_stopped : (c : CalmState) (cs : List ℕ) (e : Event) → ((d : ℕ) → among d c.stopped ≡ among d cs)
     → (d : ℕ) → among d (opened_by c e).stopped ≡ among d (stopped_after cs (line.Event e))
 event_stopped c cs (event.Fail d) h k = h k
-event_stopped c cs (event.Stop d) h k = among_more d k c.stopped cs (h k)
+event_stopped c cs (event.Stop d) h k = fails_more d k c.stopped cs (h k)
 event_stopped c cs e h k = h k
 
 pub opened_stopped : (c : CalmState) (cs : List ℕ) (l : Line) → ((d : ℕ) → among d c.stopped ≡ among d cs)
@@ -208,7 +204,7 @@ are_left kept stopped (m ∷ ms) = (refl, are_left kept stopped ms)
 
 -- ---- the server at the beginning of its step
 
-begun_number : (u : Bool) (before : List File) (g : File) → (begun_file u before g).kept.number ≡ g.kept.number
+pub begun_number : (u : Bool) (before : List File) (g : File) → (begun_file u before g).kept.number ≡ g.kept.number
 begun_number u before g = of_untold (untold_file u before g) (untold_number u)
   where
     grants_number : (o : Option File) → (with_grants g o).kept.number ≡ g.kept.number
@@ -227,7 +223,7 @@ begun_number u before g = of_untold (untold_file u before g) (untold_number u)
         → (with_components f (file_at before g.kept.number)).kept.number ≡ g.kept.number
     of_untold f e = parts_number f (file_at before g.kept.number) ∙ e
 
-begun_at : (u : Bool) (before after : List File) (n : ℕ) (g : File) → file_at after n ≡ Some g
+pub begun_at : (u : Bool) (before after : List File) (n : ℕ) (g : File) → file_at after n ≡ Some g
     → file_at (map (begun_file u before) after) n ≡ Some (begun_file u before g)
 unfolding file_at
 begun_at u before [] n g e = absurd (cc e)

@@ -15,27 +15,15 @@ use Rattle.world_history.proofs.Runs.{due_more, plan_more, world_more, lines_mor
 use Rattle.world_watch.specs.Sighted.{Table}
 use Rattle.world_watch.specs.Tied.{AreOf}
 use Rattle.world_calm.specs.Seeing.{CalmState}
+use Rattle.move_law.proofs.Moments.{so_far_more}
 use Rattle.calm_law.specs.Following.{Follows}
 use Rattle.history_law.specs.BookMoments.{IsMoment, with_event, lines_in, lines_so_far, plan_at}
 use Rattle.history_law.specs.Read.{AreWritten}
+use Rattle.history_law.proofs.Staying.{written_front}
 use Rattle.calm_law.specs.Moving.{MoveFollows, EventFollows, sees_one, sees_moves}
 use Rattle.calm_law.proofs.MoveFollowing.{is_opens, next_opens, plain_lines}
 
 -- ---- a moment, and the next one
-
-so_far_more : (w : World) (e : Event) (done : List Move) (m : Move)
-    → due (plan_after (plan_of w e) done) (world_after w done) ≡ Some m.action
-    → lines_so_far w e (done ++ m ∷ []) ≡ lines_so_far w e done ++ lines_in (world_after w done) m
-so_far_more w e [] m n =
-    let opens : Opens e ≡ m.action = cc n in
-    ap (λ (ls : List Line). line.Event e ∷ ls) (append-nil (move w m).lines)
-    ∙ ap (λ (a : Action). with_event a (move w m).lines) opens
-so_far_more w e (d ∷ done) m n =
-    let v : World = world_after w (d ∷ done) in
-    let late : is_opens m.action ≡ false = next_opens (went_on (plan_of w e) d.action) done v m.action refl n in
-    ap (λ (ls : List Line). line.Event e ∷ ls)
-    (lines_more w (d ∷ done) m
-    ∙ ap (λ (ls : List Line). lines_of w (d ∷ done) ++ ls) (sym (plain_lines m.action (move v m).lines late)))
 
 abbrev next_moment : (w : World) (h : List Line) (k : IsMoment w h) (m : Move) → due (plan_at k) w ≡ Some m.action
     → IsMoment (move w m).world (h ++ lines_in w m)
@@ -60,13 +48,9 @@ next_moment w h k m n =
 
 -- ---- several moves
 
-lines_all : World → List Move → List Line
+pub lines_all : World → List Move → List Line
 lines_all w [] = []
 lines_all w (m ∷ ms) = lines_in w m ++ lines_all (move w m).world ms
-
-pub written_front : (xs ys : List Line) → AreWritten (xs ++ ys) → AreWritten xs
-written_front [] ys a = tt
-written_front (x ∷ xs) ys a = (a.0, written_front xs ys a.1)
 
 rest_follows : MoveFollows → (w : World) (h : List Line) (k : IsMoment w h) (ms : List Move) (t : Table) (c : CalmState)
     → AreDue (plan_at k) w ms → AreWritten (h ++ lines_all w ms) → AreOf (guarded k.history).sent t → Follows (seen h) c
@@ -88,7 +72,7 @@ rest_follows one w h k (m ∷ ms) t c d a of f =
 
 -- ---- all moves of an event
 
-later_lines : (p : Plan) (w : World) (ms : List Move) → p.opening ≡ None → AreDue p w ms → lines_all w ms ≡ lines_of w ms
+pub later_lines : (p : Plan) (w : World) (ms : List Move) → p.opening ≡ None → AreDue p w ms → lines_all w ms ≡ lines_of w ms
 unfolding lines_all
 later_lines p w [] o d = refl
 later_lines p w (m ∷ ms) o d =
@@ -96,7 +80,7 @@ later_lines p w (m ∷ ms) o d =
     (plain_lines m.action (move w m).lines (next_opens p [] w m.action o d.0))
     ∙ ap (λ (ls : List Line). (move w m).lines ++ ls) (later_lines (went_on p m.action) (move w m).world ms refl d.1)
 
-event_lines : (w : World) (e : Event) (m : Move) (ms : List Move) → AreDue (plan_of w e) w (m ∷ ms)
+pub event_lines : (w : World) (e : Event) (m : Move) (ms : List Move) → AreDue (plan_of w e) w (m ∷ ms)
     → lines_all w (m ∷ ms) ≡ line.Event e ∷ lines_of w (m ∷ ms)
 unfolding lines_all
 event_lines w e m ms d =

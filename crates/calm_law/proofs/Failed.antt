@@ -55,7 +55,7 @@ failed_in h = by_steps first_seen (steps_of h) ∙ by_lines [] h
 
 -- ---- a drive that failed is among them
 
-abbrev has_failed : Option DriveAt → Bool
+abbrev pub has_failed : Option DriveAt → Bool
 has_failed None = false
 has_failed (Some a) = a.failed
 
@@ -127,7 +127,7 @@ failed_seen h d e =
 
 -- ---- a declaration that isn't refused
 
-not_alive : (o : Option DriveAt) → if_failed o ≡ None → has_failed o ≡ true
+pub not_alive : (o : Option DriveAt) → if_failed o ≡ None → has_failed o ≡ true
 not_alive None e = absurd (cc e)
 not_alive (Some a) e = elim (cases_Bool a.failed) [ inl t ↦ t | inr z ↦ absurd (cc (rw z at e)) ]
 

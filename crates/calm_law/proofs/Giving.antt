@@ -28,6 +28,8 @@ use Rattle.calm_law.specs.Following.{is_opening}
 use Rattle.history_law.specs.BookMoments.{IsMoment, with_event, lines_in, plan_at}
 use Rattle.history_law.specs.Doing.{did_in, ServerMoves}
 use Rattle.history_law.specs.Read.{server_of, AreWritten, ReadsAs, BookIsRead, StepIsRead}
+use Rattle.history_law.proofs.BookLines.{two_steps}
+use Rattle.history_law.proofs.Staying.{written_front, written_behind}
 use Rattle.calm_law.specs.Sightings.{messages_of, GuardsMessages}
 use Rattle.calm_law.specs.Steps.{StepsTell}
 use Rattle.calm_law.specs.Components.{tells_component}
@@ -36,9 +38,8 @@ use Rattle.calm_law.specs.Seeing.{MovesShowFiles}
 use Rattle.calm_law.specs.Moving.{Read, FactsOf, MovesGive, performed_in, reads}
 use Rattle.calm_law.proofs.Shapes.{Bare, Shape, IsHeaded, Nothing, Left, Heads, is_event, sent_bare}
 use Rattle.calm_law.proofs.MoveOpening.{opens_headed, begins_bare}
-use Rattle.calm_law.proofs.MoveStepping.{steps_one, steps_two, reads_plain, reads_behind}
+use Rattle.calm_law.proofs.MoveStepping.{steps_one, reads_plain, reads_behind}
 use Rattle.calm_law.proofs.MoveFollowing.{IsBegun, first_begun, is_opens, plain_lines, acts_shape}
-use Rattle.calm_law.proofs.Events.{written_front}
 use Rattle.calm_law.proofs.MoveNotes.{tells}
 use Rattle.calm_law.proofs.MoveFacts.{IsOf, step_facts, are_named, named_line, named_inside, seen_server}
 
@@ -65,10 +66,6 @@ quiet_head l h = refl
 tells_behind : (head : Line) (rest : List Line) → is_head head ≡ true → tells (head ∷ rest) ≡ tells rest
 tells_behind head rest h =
     ap (λ (b : Bool). if b then head ∷ tells rest else tells rest) (quiet_head head h)
-
-written_back : (xs ys : List Line) → AreWritten (xs ++ ys) → AreWritten ys
-written_back [] ys a = a
-written_back (x ∷ xs) ys a = written_back xs ys a.1
 
 server_now : Given → (w : World) (h : List Line) → IsMoment w h → AreWritten h → (seen h).server ≡ server_of w
 server_now laws w h k a = seen_server first_seen (steps_of h) ∙ laws.book w h k a
@@ -159,7 +156,7 @@ give_alone : Given → (w : World) (h : List Line) (k : IsMoment w h) (m : Move)
 give_alone laws w h k m t r next written e q o begun are bare i =
     let front : AreWritten h = written_front h (lines_in w m) written in
     let own : AreWritten (line.Event e ∷ (move w m).lines) =
-    written_back h (line.Event e ∷ (move w m).lines) (subst (λ (ls : List Line). AreWritten (h ++ ls)) are written) in
+    written_behind h (line.Event e ∷ (move w m).lines) (subst (λ (ls : List Line). AreWritten (h ++ ls)) are written) in
     give_plain laws w h m t r (line.Event e) (move w m).lines refl bare are (record {
       reached = reached w h k;
       others = to_others laws w h k;
@@ -213,7 +210,7 @@ give_behind laws w h k m t r next written of e q o begun lines x i =
     ap (λ (s : Seen). s.server) seen_b ∙ alone_same e (seen h).server o in
     let step_read : ReadsAs (server_seen h) (did_in w m) (own ∷ st ∷ []) =
     subst (λ (ts : List Step). ReadsAs (server_seen h) (did_in w m) ts)
-    (ap (λ (ls : List Line). steps_of ls) are ∙ steps_two e x.head x.rest x.begins x.bare)
+    (ap (λ (ls : List Line). steps_of ls) are ∙ two_steps e x.head x.rest x.begins x.bare)
     (laws.reading w h k m next written) in
     let read : Read = record { before = line.Event e ∷ []; step = st } in
     let same : read ≡ r =

@@ -1,4 +1,4 @@
-mod Lists
+pub mod Lists
 mod Tables
 mod Noting
 mod CalmShowing
@@ -31,7 +31,7 @@ mod Short
 mod Through
 pub mod FileFacts
 mod FileShowing
-mod Failed
+pub mod Failed
 mod Outgoing
 mod Others
 pub mod Drives
@@ -48,7 +48,7 @@ pub mod Shapes
 pub mod MoveOpening
 mod MoveStepping
 mod MoveFollowing
-mod Events
+pub mod Events
 pub mod Inside
 mod Watching
 mod MoveNotes

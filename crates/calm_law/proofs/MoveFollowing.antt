@@ -30,10 +30,11 @@ use Rattle.world_history.proofs.Runs.{no_opening}
 use Rattle.history_law.specs.BookMoments.{IsMoment, with_event, lines_in, lines_so_far, plan_at}
 use Rattle.history_law.specs.Doing.{did_in}
 use Rattle.history_law.specs.Read.{AreWritten}
+use Rattle.history_law.proofs.BookLines.{two_steps}
 use Rattle.calm_law.specs.Moving.{Read, MovesGive, MoveFollows, kept_by, sees_one, performed_in, reads}
 use Rattle.calm_law.proofs.Shapes.{Bare, Shape, IsHeaded, Nothing, Left, Heads, sent_bare, delivers_shape, times_shape, pends_shape}
 use Rattle.calm_law.proofs.MoveOpening.{opens_headed, begins_bare}
-use Rattle.calm_law.proofs.MoveStepping.{steps_one, steps_two, sees_plain, sees_behind, sees_left, reads_plain, reads_behind}
+use Rattle.calm_law.proofs.MoveStepping.{steps_one, sees_plain, sees_behind, sees_left, reads_plain, reads_behind}
 
 -- ---- one step
 
@@ -64,7 +65,7 @@ follows_behind on events goes b e kept rs t ms c head rest o h bare f facts =
     goes b (line.Event e ∷ []) refl ∙ ap (λ (ts : List Step). fold sees (seen b) ts) (steps_one (line.Event e) [] refl tt) in
     let two : seen (b ++ line.Event e ∷ head ∷ rest) ≡ sees (sees (seen b) own) step =
     goes b (line.Event e ∷ head ∷ rest) refl
-    ∙ ap (λ (ts : List Step). fold sees (seen b) ts) (steps_two e head rest h bare) in
+    ∙ ap (λ (ts : List Step). fold sees (seen b) ts) (two_steps e head rest h bare) in
     let there : Follows (seen (b ++ line.Event e ∷ [])) c =
     subst (λ (x : Seen). Follows x c) (sym one) (events (seen b) c e o f) in
     subst (λ (x : Seen). Follows x (sees_move kept rs t ms c (line.Event e ∷ head ∷ rest)))

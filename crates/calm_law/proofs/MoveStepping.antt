@@ -10,36 +10,16 @@ use Rattle.world_history.specs.Reading.{Grouped, is_head, grouped, grouped_with,
 use Rattle.world_watch.specs.Sighted.{Table}
 use Rattle.world_calm.specs.Seeing.{CalmState, KeptOf, sees as sees_step_of}
 use Rattle.world_watch.specs.Steps.{is_headed, injected_at, performed_at, sees_headed, sees_step, sees_from, sees_move}
+use Rattle.history_law.proofs.BookLines.{none_begins, one_step}
 use Rattle.calm_law.specs.Following.{left_pending}
 use Rattle.calm_law.specs.Moving.{reads}
 use Rattle.calm_law.proofs.Shapes.{Bare}
 
 -- ---- as they are read
 
-grouped_bare : (ls : List Line) → Bare ls → grouped ls ≡ record { loose = ls; steps = [] }
-unfolding grouped
-grouped_bare [] b = refl
-grouped_bare (l ∷ ls) b =
-    ap (λ (g : Grouped). grouped_with (is_head l) l g) (grouped_bare ls b.1)
-    ∙ ap (λ (t : Bool). grouped_with t l (record { loose = ls; steps = [] })) b.0
-
-grouped_one : (head : Line) (rest : List Line) → is_head head ≡ true → Bare rest
-    → grouped (head ∷ rest) ≡ record { loose = []; steps = record { head = head; rest = rest } ∷ [] }
-unfolding grouped
-grouped_one head rest h b =
-    ap (λ (g : Grouped). grouped_with (is_head head) head g) (grouped_bare rest b)
-    ∙ ap (λ (t : Bool). grouped_with t head (record { loose = rest; steps = [] })) h
-
 pub steps_one : (head : Line) (rest : List Line) → is_head head ≡ true → Bare rest
     → steps_of (head ∷ rest) ≡ record { head = head; rest = rest } ∷ []
-steps_one head rest h b = ap (λ (g : Grouped). g.steps) (grouped_one head rest h b)
-
-pub steps_two : (e : Event) (head : Line) (rest : List Line) → is_head head ≡ true → Bare rest
-    → steps_of (line.Event e ∷ head ∷ rest)
-    ≡ record { head = line.Event e; rest = [] } ∷ record { head = head; rest = rest } ∷ []
-unfolding grouped
-steps_two e head rest h b =
-    ap (λ (g : Grouped). (grouped_with true (line.Event e) g).steps) (grouped_one head rest h b)
+steps_one head rest h b = ap (λ (g : Grouped). g.steps) (one_step head rest h b)
 
 -- ---- as the code sees them
 

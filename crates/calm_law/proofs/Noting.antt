@@ -45,7 +45,7 @@ short_alike there m t n s f h i e =
 
 -- ---- a drive fails
 
-fails_more : (d e : ℕ) (ds failed : List ℕ) → among e ds ≡ among e failed → among e (ds ++ d ∷ []) ≡ among e (d ∷ failed)
+pub fails_more : (d e : ℕ) (ds failed : List ℕ) → among e ds ≡ among e failed → among e (ds ++ d ∷ []) ≡ among e (d ∷ failed)
 unfolding among
 fails_more d e ds failed h = among_end e d ds ∙ ap (λ (b : Bool). (e == d) || b) h
 

@@ -24,6 +24,7 @@ use Rattle.world_history.specs.Handed.{Post, Handed, end_line, ended_by, server_
 use Rattle.world_history.specs.Moves.{Act, behind, by_client, pends_as, delivers_found, delivers, marked, times_out, pends}
 use Rattle.world_history.specs.Sending.{sent_lines, sends_all}
 use Rattle.world_history.specs.Reading.{is_head}
+use Rattle.history_law.proofs.BookLines.{sent_no_head}
 use Rattle.calm_law.specs.Following.{left_pending}
 
 -- ---- lines of which none begins a step
@@ -35,11 +36,6 @@ Bare (l ∷ ls) = (is_head l ≡ false) × Bare ls
 pub bare_all : (xs ys : List Line) → Bare xs → Bare ys → Bare (xs ++ ys)
 bare_all [] ys a b = b
 bare_all (x ∷ xs) ys a b = (a.0, bare_all xs ys a.1 b)
-
-bare_sent : (n : ℕ) (ps : List Post) → Bare (sent_lines n ps)
-unfolding sent_lines
-bare_sent n [] = tt
-bare_sent n (p ∷ ps) = (refl, bare_sent (n + 1) ps)
 
 bare_note : (known : Bool) (n : server_rules.Note) (ls : List Line) → Bare ls
     → Bare (cons_option (where_known known (note_line n)) ls)
@@ -115,7 +111,7 @@ pub data Shape (ls : List Line) : Type 0 where
 
 pub sent_bare : (a : Act) → Bare a.told → Bare (sends_all a).lines
 sent_bare a b = bare_all a.told (sent_lines (length a.world.network.messages) a.posts) b
-    (bare_sent (length a.world.network.messages) a.posts)
+    (sent_no_head (length a.world.network.messages) a.posts)
 
 pub sent_headed : (a : Act) (head : Line) (told : List Line) → is_head head ≡ true → is_event head ≡ false → Bare told
     → a.told ≡ head ∷ told → IsHeaded (sends_all a).lines
@@ -125,7 +121,7 @@ sent_headed a head told h i b e = record {
   begins = h;
   inside = i;
   bare = bare_all told (sent_lines (length a.world.network.messages) a.posts) b
-      (bare_sent (length a.world.network.messages) a.posts);
+      (sent_no_head (length a.world.network.messages) a.posts);
   are = ap (λ (ls : List Line). ls ++ sent_lines (length a.world.network.messages) a.posts) e;
 }
 

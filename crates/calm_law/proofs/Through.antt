@@ -11,6 +11,7 @@ use Rattle.server_rules.proofs.FileLaws.{number_at}
 use Rattle.world_history.specs.ServerNames.{Server, File, Component, Mended}
 use Rattle.world_history.specs.Calm.{Watched, watches, noted, noted_in, with_components, with_grants, untold_file, begun_file, at_begin}
 use Rattle.calm_law.specs.Components.{told_by, told_in}
+use Rattle.calm_law.proofs.Beginning.{begun_number, begun_at as begun_each}
 
 -- the file with these components
 abbrev pub with_parts : File → List Component → File
@@ -88,23 +89,6 @@ untold_number false before f = refl
 untold_map : (untold : Bool) (before : List File) (f : File) → (untold_file untold before f).kept.map ≡ f.kept.map
 untold_map true before f = grants_map f (file_at before f.kept.number)
 untold_map false before f = refl
-
-begun_number : (untold : Bool) (before : List File) (f : File) → (begun_file untold before f).kept.number ≡ f.kept.number
-begun_number untold before f =
-    components_number (untold_file untold before f) (file_at before f.kept.number) ∙ untold_number untold before f
-
-begun_each : (untold : Bool) (before fs : List File) (n : ℕ) (g : File) → file_at fs n ≡ Some g
-    → file_at (map (begun_file untold before) fs) n ≡ Some (begun_file untold before g)
-unfolding file_at
-begun_each untold before [] n g e = absurd (cc e)
-begun_each untold before (f ∷ fs) n g e = elim (cases_eq f.kept.number n) [
-  | inl i ↦
-      let s : f ≡ g = cc (rw (eq-eqb f.kept.number n i) at e) in
-      rw (eq-eqb (begun_file untold before f).kept.number n (begun_number untold before f ∙ i))
-      (ap (λ (x : File). Some (begun_file untold before x)) s)
-  | inr o ↦ rw (ne_eqb (begun_file untold before f).kept.number n (λ q. o (sym (begun_number untold before f) ∙ q)))
-      (begun_each untold before fs n g (rw (ne_eqb f.kept.number n o) at e))
-]
 
 -- it has the components that it had before, and its map
 parts_of : (f old : File) (o : Option File) → o ≡ Some old → (with_components f o).kept.components ≡ old.kept.components

@@ -12,14 +12,14 @@ use Rattle.exchange_law.specs.PlaceAnswers.{ResultsFit, AnswerFits, SpellsFittin
 use Rattle.exchange_law.specs.Fitting.{ResultsGive, GivesFit, SpellsFit, FitsBetween, AllFit, MessagesFit}
 use Rattle.ending_law.specs.Readable.{AnswersAreFit}
 
-results_fit : (c : ℕ) (r : Results) → ResultsGive c r → ResultsFit c r
+pub results_fit : (c : ℕ) (r : Results) → ResultsGive c r → ResultsFit c r
 results_fit c (results.LayoutGet (get.Granted ok)) g = record { own = g.0; numbers = g.1 }
 results_fit c (results.LayoutGet (get.TryLater signal)) g = tt
 results_fit c (results.LayoutGet (get.Refused status)) g = tt
 results_fit c (results.LayoutCommit v) g = tt
 results_fit c (results.LayoutReturn v) g = tt
 
-answer_fits : (c : ℕ) (e : Envelope) → GivesFit c e → AnswerFits c e
+pub answer_fits : (c : ℕ) (e : Envelope) → GivesFit c e → AnswerFits c e
 answer_fits c (envelope.Answer a) g = results_fit c a.results g
 answer_fits c (envelope.Request r) g = tt
 answer_fits c (envelope.Recall r) g = tt
@@ -27,7 +27,7 @@ answer_fits c (envelope.RecallAnswer r) g = tt
 answer_fits c (envelope.Order o) g = tt
 answer_fits c (envelope.OrderAnswer a) g = tt
 
-spells_fitting : (c : ℕ) (bytes : List ℕ) → SpellsFit c bytes → SpellsFitting c bytes
+pub spells_fitting : (c : ℕ) (bytes : List ℕ) → SpellsFit c bytes → SpellsFitting c bytes
 spells_fitting c bytes s = record {
   message = s.message;
   bytes_are = s.bytes_are;

@@ -20,6 +20,7 @@ use Rattle.world_history.specs.ClientNames.{Client, Call, CallOp, Held, Due, IoE
 use Rattle.exchange_law.proofs.PlaceGoing.{put_all, found_all}
 use Rattle.ending_law.specs.Reports.{IsShort}
 use Rattle.exchange_law.proofs.Kept.{begins_kept}
+use Rattle.exchange_law.proofs.Answering.{rw_fits}
 
 -- ---- what is small
 
@@ -47,13 +48,9 @@ pub record ClientSmall (c : Client) : Type 0 where
 
 -- ---- arguments
 
-iomode_fits : (b : Bool) → (if b then 2 else 1) < 2 ^ 32
-iomode_fits true = omega arith
-iomode_fits false = omega arith
-
 get_small : (op : CallOp) → IsSmall op → IsShort (get_args op) → ArgsFits (get_args op)
 get_small op s short = record {
-  iomode = iomode_fits (is_write op);
+  iomode = rw_fits (is_write op);
   offset = omega arith;
   «length» = omega (arith, s.long);
   minlength = omega (arith, s.long);

@@ -9,8 +9,8 @@ use Rattle.client_rules.specs.Grants.{covers, held_of, without_held}
 use Rattle.client_rules.specs.Requests.{get_args, args_of, return_args, report_of}
 use Rattle.client_rules.specs.Going.{with_held, by_turn, moved, begins, starts_with, starts_under, starts_at, starts_call, begun, held_after, requests, asks_under, returns, returns_due, progress_phase, progress_call, progress_free, progressed}
 use Rattle.client_rules.specs.Messages.{finished}
-use Rattle.exchange_law.proofs.PlaceLists.{all_filter}
 use Rattle.exchange_law.proofs.PlaceGoing.{put_all, found_all}
+use Rattle.exchange_law.proofs.Parts.{each_filtered}
 use Rattle.ending_law.specs.Reports.{IsShort}
 use Rattle.ending_law.proofs.Lengths.{ReportShort}
 use Rattle.ending_law.proofs.Lengths as lengths
@@ -41,7 +41,7 @@ DoneShort d = ClientShort d.client
 without_short : (hs : List Held) (file : ℕ) → AllByRecursion HeldShort hs
     → AllByRecursion HeldShort (without_held hs file)
 unfolding without_held
-without_short hs file k = all_filter HeldShort _ hs k
+without_short hs file k = each_filtered HeldShort _ hs k
 
 after_short : (hs : List Held) (file : ℕ) (a : Args) → AllByRecursion HeldShort hs
     → AllByRecursion HeldShort (held_after hs file a)

@@ -17,10 +17,7 @@ use Rattle.layout_types.specs.Enumerations.{version_of, security_of}
 use Rattle.layout_types.specs.Grammar.{u32_part, u64_part, fixed_part, opaque_part, enum_part, count_part, members, list_part, lifted, whole}
 use Rattle.layout_types.specs.Reading.{objid_in, cred_in, map_in, layout_in}
 use Rattle.client_rules.proofs.KnownMaps.{given, holds}
-
-unlifted : {A : Type 0} (r : Result A XdrErr) (x : A) → lifted r ≡ Ok x → r ≡ Ok x
-unlifted (Ok y) x e = let same : y ≡ x = cc e in ap (λ z. Ok z) same
-unlifted (Err d) x e = absurd (cc e)
+use Rattle.exchange_law.proofs.Fronts.{lifted_ok}
 
 -- ---- bytes of a length that is known
 
@@ -57,7 +54,7 @@ objid_long i x e =
     let partition = bind_ok (u64_part device.0.1) _ x device.2 in
     let object = bind_ok (u64_part partition.0.1) _ x partition.2 in
     holds (λ (y : ObjId × Rest). IsLong y.0) _ x
-    (fixed_long i device.0 (unlifted (fixed_in 16 i) device.0 device.1)) object.2
+    (fixed_long i device.0 (lifted_ok (fixed_in 16 i) device.0 device.1)) object.2
 
 cred_long : (i : Rest) (x : ObjectCred × Rest) → cred_in i ≡ Ok x → CredLong x.0
 unfolding cred_in

@@ -22,6 +22,8 @@ use Rattle.server_rules.specs.Served.{Served}
 use Rattle.server_rules.specs.Slots.{Admit, New, Again, Misordered, slot_of, admit, keep}
 use Rattle.server_rules.proofs.FileLaws.{number_at, put_same, keep_same, keep_other}
 use Rattle.history_law.specs.Granted.{NumbersFit}
+use Rattle.history_law.proofs.IssueTelling.{asked_client}
+use Rattle.history_law.proofs.Running.{server_more}
 use Rattle.exchange_law.specs.Made.{answer_at, answer_to}
 use Rattle.exchange_law.proofs.SlotServing.{ServerDid, Quiet, Asked, step_did, Comes, request_comes}
 use Rattle.exchange_law.specs.Meeting.{IsFitting}
@@ -30,11 +32,6 @@ use Rattle.exchange_law.proofs.HeldServing.{serves_may}
 use Rattle.exchange_law.proofs.HeldTelling.{gets_tells}
 
 -- ---- a grant that is told is the client's on its file
-
-asked_client : (f : Kept) (number client now offset count : ℕ) (b : Bool)
-    → (asked f number client now offset count b).client ≡ client
-unfolding asked
-asked_client f number client now offset count b = refl
 
 told_found : (go : Going) (next format now client : ℕ) (a : RequestArgs) (g : Grant)
     → (serves go next format now client a).told.grant ≡ Some g
@@ -195,11 +192,6 @@ module _ (s : Server) (now : ℕ) (chosen : List ℕ) (q : ClientRequest) where
 
 abbrev pub SlotsGiven : List Act → Server → Type 0
 SlotsGiven acts s = (c : ℕ) (t : Slot) → slot_of s.slots c ≡ Some t → AnswerGiven acts t.kept
-
-server_more : (s : Server) (acts : List Act) (a : Act)
-    → state_after s (acts ++ a ∷ []) ≡ (step (state_after s acts) a.chosen a.input).state
-server_more s [] a = refl
-server_more s (b ∷ acts) a = server_more (step s b.chosen b.input).state acts a
 
 append_none : (xs : List Act) → xs ≡ xs ++ []
 append_none [] = refl

@@ -22,9 +22,10 @@ use Rattle.client_rules.specs.Requests.{id_in, object_of, error_at, report_of}
 use Rattle.client_rules.specs.Reads.{reads_on, reads_unless, reads, probes_on, probes_by, probes}
 use Rattle.client_rules.specs.Writes.{accounted, is_past_size, written, firsts, laters, scatters_on, scatters, next_to, without_next, without_component, scatters_next, gathers_on, gathers_due, gathers, is_too_short}
 use Rattle.client_rules.specs.Replies.{refusal, refused_report, performed, refused, replied, gather_timed, scatter_timed}
-use Rattle.exchange_law.proofs.PlaceLists.{all_more, all_wider, all_map, all_filter, either_all}
+use Rattle.exchange_law.proofs.PlaceLists.{all_wider, all_map, either_all}
 use Rattle.exchange_law.proofs.Plans.{IsAsked, asks_in}
 use Rattle.exchange_law.proofs.PlaceSending.{firsts_fit, laters_fit, next_fit, queue_fit}
+use Rattle.exchange_law.proofs.Parts.{each_more, each_filtered}
 use Rattle.ending_law.proofs.Ids.{IsLong}
 use Rattle.ending_law.proofs.Lengths.{ErrorLong, ReportShort}
 use Rattle.ending_law.proofs.Timed.{components, Rise, are_few, AskApart, StoreApart, AwaitedApart}
@@ -158,7 +159,7 @@ writes_apart h timed ws l = numbered_apart h timed true h.count ws l
 others_apart : (timed : List TimedOut) (xs : List Awaited) (nonce : ℕ) → AllByRecursion (AwaitedApart timed) xs
     → AllByRecursion (AwaitedApart timed) (others xs nonce)
 unfolding others
-others_apart timed xs nonce l = all_filter (AwaitedApart timed) _ xs l
+others_apart timed xs nonce l = each_filtered (AwaitedApart timed) _ xs l
 
 module _ (h : Held) (s : HeldShort h) where
   pub turned_short : (t : Turn) → TurnShort t → MovedShort (turned h t)
@@ -243,7 +244,7 @@ module _ (h : Held) (s : HeldShort h) where
   unfolding scatters_next
   next_short op timed queue n awaited r q w =
       scatters_on_short op timed (without_next n queue) _ _ r (queue_fit (StoreApart timed) n queue q)
-      (all_more (AwaitedApart timed) awaited _ w
+      (each_more (AwaitedApart timed) awaited _ w
       (writes_apart h timed (next_to n queue) (next_fit (StoreApart timed) n queue q)))
 
   gathers_on_short : (op : CallOp) (got : List Column) (timed : List TimedOut) (sent awaited : List Awaited)
@@ -263,7 +264,7 @@ module _ (h : Held) (s : HeldShort h) where
       → Rise 0 timed → AllByRecursion (AwaitedApart timed) awaited → MovedShort (gathers h op got timed awaited)
   unfolding gathers
   gathers_short op got timed awaited r w =
-      gathers_on_short op got timed _ _ r (all_more (AwaitedApart timed) awaited _ w
+      gathers_on_short op got timed _ _ r (each_more (AwaitedApart timed) awaited _ w
       (reads_apart h timed _ (due_apart (span_of op) got timed awaited)))
 
   -- ---- replies

@@ -61,6 +61,7 @@ use Rattle.exchange_law.specs.Text.{AreFew}
 use Rattle.exchange_law.proofs.CountGrowing.{fewer}
 use Rattle.exchange_law.proofs.CountMoments.{at_moment}
 use Rattle.exchange_law.specs.Sent.{message_of}
+use Rattle.exchange_law.proofs.Taking.{answer_in}
 use Rattle.world_history.specs.declared.limits.TheConstants.{MAX_KEPT}
 use Rattle.world_history.proofs.Always.{opening, IsKept}
 use Rattle.ending_law.specs.Readable.{AnswersAreFit, NoncesFit, NoncesAreEnough}
@@ -96,24 +97,13 @@ taken_named client bytes a s read op h e =
     let low : grant_in g.ok.stateid < 2 ^ 32 = given_named client a.results g.ok g.given fits in
     subst (λ (n : ℕ). n < 2 ^ 32) (sym g.fresh.number) low
 
-answer_read : (bytes : List ℕ) (r : Result Envelope OpErr) (a : Answer) → envelope_of bytes ≡ r
-    → by_envelope r ≡ Some (Answers a) → envelope_of bytes ≡ Ok (envelope.Answer a)
-answer_read bytes (Ok (envelope.Answer b)) a read e =
-    let same : b ≡ a = cc e in read ∙ ap (λ (x : Answer). Ok (envelope.Answer x)) same
-answer_read bytes (Ok (envelope.Recall b)) a read e = absurd (cc e)
-answer_read bytes (Ok (envelope.Request b)) a read e = absurd (cc e)
-answer_read bytes (Ok (envelope.RecallAnswer b)) a read e = absurd (cc e)
-answer_read bytes (Ok (envelope.Order b)) a read e = absurd (cc e)
-answer_read bytes (Ok (envelope.OrderAnswer b)) a read e = absurd (cc e)
-answer_read bytes (Err x) a read e = absurd (cc e)
-
 heard_named : (ss : List Sent) (n : ℕ) (m : Sent) → slice_get ss n ≡ Some m → AnswersFit ss → (c : ℕ) (from : Node)
     (bytes : List ℕ) (x : ClientMessage) → m.from ≡ party_of from → m.to ≡ party_of (node.Client c) → m.bytes ≡ bytes
     → message_in from bytes ≡ Some x → HeardNamed from x
 unfolding message_in
 heard_named ss n m there fit c node.Server bytes (Answers a) from to is e =
     let spells : SpellsFitting c bytes = subst (SpellsFitting c) is (fit n c m there from to) in
-    taken_named c bytes a spells (answer_read bytes (envelope_of bytes) a refl e)
+    taken_named c bytes a spells (answer_in bytes (envelope_of bytes) a refl e)
 heard_named ss n m there fit c from bytes x is to same e = tt
 
 input_named : (w : World) (ss : List Sent) → view w ≡ ss → AnswersFit ss → (c : ℕ) (i : Input) → IsHeardByClient w c i

@@ -23,7 +23,7 @@ use Rattle.client_rules.specs.Requests.{grant_in}
 use Rattle.client_rules.specs.Results.{layouts_in}
 use Rattle.client_rules.specs.Layouts.{drive_of, key_of, with_key, with_capability, with_version, listed, all_listed, is_map, first_why, reach_of, fresh, is_lacking, enough, with_listed, unless_why, with_body, one_layout, in_layouts, taken}
 use Rattle.client_rules.proofs.TakenMaps.{taken_checked, last_none, map_taken}
-use Rattle.history_law.proofs.Taking.{both_listed}
+use Rattle.history_law.proofs.Taking.{both_listed, unless_far, same_grant, enough_same}
 use Rattle.ending_law.specs.State.{CallOp, Listed, Reach, Held, Why, Unreadable, Index, Partial, Secured, BadMap, BadCredential, Answer, RawMap}
 use Rattle.ending_law.proofs.Ids.{CredLong, whole_long}
 use Rattle.ending_law.proofs.Moving.{ListedLong, HeldShort}
@@ -45,10 +45,6 @@ by_capability : (o : ObjectCred) (r : Result Capability CapErr) (l : Listed) →
     → with_capability o r ≡ Some l → ListedLong l
 by_capability o (Err x) l long e = absurd (cc e)
 by_capability o (Ok c) l long e = by_key o c (key_of c.format o.oc_capability_key) l long e
-
-unless_far : (b : Bool) (x : Option Listed) (l : Listed) → (if b then None else x) ≡ Some l → x ≡ Some l
-unless_far true x l e = absurd (cc e)
-unless_far false x l e = e
 
 by_version : (o : ObjectCred) (v : OsdVersion) (l : Listed) → CredLong o → with_version o v ≡ Some l → ListedLong l
 by_version o Missing l long e =
@@ -90,14 +86,6 @@ few_map m e = elim (cases_lt MAX_FILE_COMPONENTS m.comps) [
 
 abbrev Made : Held → Type 0
 Made h = (h.map.comps ≤ 64) × AllByRecursion ListedLong h.components
-
-same_grant : (b : Bool) (h k : Held) → (if b then Err BadCredential else Ok h) ≡ Ok k → h ≡ k
-same_grant true h k e = absurd (cc e)
-same_grant false h k e = cc e
-
-enough_same : (h k : Held) (op : CallOp) → enough h op ≡ Ok k → h ≡ k
-unfolding enough
-enough_same h k op e = same_grant ((is_write op || h.reach.rw) && is_lacking h op) h k e
 
 in_listed : (a : Answer) (n : ℕ) (op : CallOp) (g : Reach) (l : Layout) (o : Option (List Listed)) (h : Held)
     → all_listed l.olo_components ≡ o → l.olo_map.comps ≤ 64 → AllByRecursion CredLong l.olo_components

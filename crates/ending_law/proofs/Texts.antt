@@ -19,31 +19,7 @@ use Rattle.exchange_law.specs.Histories.{CommandsArePlaced}
 use Rattle.exchange_law.proofs.PlaceLines.{fits_before}
 use Rattle.ending_law.specs.Endings.{NoCallEndsMisplaced}
 use Rattle.ending_law.specs.Texts.{CommandsOfTextArePlaced, NoCallOfTextEndsMisplaced}
-
-results_fit : (client : ℕ) (r : Results) → ResultsGive client r → ResultsFit client r
-results_fit client (results.LayoutGet (get.Granted ok)) g = record { own = g.0; numbers = g.1 }
-results_fit client (results.LayoutGet (get.TryLater signal)) g = tt
-results_fit client (results.LayoutGet (get.Refused status)) g = tt
-results_fit client (results.LayoutCommit r) g = tt
-results_fit client (results.LayoutReturn r) g = tt
-
-answer_fits : (client : ℕ) (e : Envelope) → GivesFit client e → AnswerFits client e
-answer_fits client (envelope.Answer a) g = results_fit client a.results g
-answer_fits client e g = tt
-
-spells_fitting : (client : ℕ) (bytes : List ℕ) → SpellsFit client bytes → SpellsFitting client bytes
-spells_fitting client bytes s = record {
-  message = s.message;
-  bytes_are = s.bytes_are;
-  fits = s.fits;
-  gives = answer_fits client s.message s.gives;
-}
-
-answers_fit : (ss : List Sent) → AllFit ss → AnswersFit ss
-answers_fit ss all n client m found from to =
-    spells_fitting client m.bytes
-    (subst (λ (p : Party). FitsBetween p (party.Client client) m.bytes) from
-    (subst (λ (p : Party). FitsBetween m.from p m.bytes) to (all n m found)))
+use Rattle.ending_law.proofs.Answers.{results_fit, answer_fits, spells_fitting, answers_fit}
 
 -- so do those of each front
 fits_at : MessagesFit → (h : List Line) → Lawful h → AreOfText h → AreFew h → (before : List Line) (x : Line)

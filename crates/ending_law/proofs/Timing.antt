@@ -12,7 +12,7 @@ use Rattle.client_rules.specs.Commands.{of_component}
 use Rattle.client_rules.specs.Replies.{timed_out}
 use Rattle.client_rules.specs.Answers.{committed, not_committed, on_commit}
 use Rattle.client_rules.specs.Going.{begins}
-use Rattle.exchange_law.proofs.PlaceLists.{all_filter}
+use Rattle.exchange_law.proofs.Parts.{each_filtered}
 use Rattle.ending_law.proofs.Timed.{Rise, Apart, AskApart, AwaitedApart, rise_with, IsOf, all_of, first_holds, rest_apart, queue_apart}
 use Rattle.ending_law.proofs.Moving.{HeldShort, IoShort, PhaseShort, TurnShort, MovedShort, either_moved, either_turn, turned_short, reads_short, probes_short, gathers_short, accounted_short, gather_timed_short, scatter_timed_short}
 
@@ -21,7 +21,7 @@ use Rattle.ending_law.proofs.Moving.{HeldShort, IoShort, PhaseShort, TurnShort, 
 of_apart : (timed : List TimedOut) (k : ℕ) (xs : List Awaited) → AllByRecursion (AwaitedApart timed) xs
     → AllByRecursion (AwaitedApart timed) (of_component k xs)
 unfolding of_component
-of_apart timed k xs l = all_filter (AwaitedApart timed) _ xs l
+of_apart timed k xs l = each_filtered (AwaitedApart timed) _ xs l
 
 -- it is the one of the first command, and didn't time out before
 is_it : (k : ℕ) (ys : List Awaited) (a : Awaited) (xs : List Awaited) → of_component k ys ≡ a ∷ xs

@@ -16,6 +16,8 @@ use Rattle.world_history.proofs.Always.{opening}
 use Rattle.world_history.proofs.ReadMessages.{never_opens}
 use Rattle.world_history.proofs.Runs.{world_more}
 use Rattle.history_law.specs.BookMoments.{IsMoment, lines_so_far, lines_in}
+use Rattle.history_law.proofs.BookMoments.{later_rule}
+use Rattle.history_law.proofs.Histories.{cut_at}
 use Rattle.move_law.proofs.Moments.{so_far_more}
 use Rattle.fencing_law.proofs.Ending.{next_moment}
 
@@ -29,11 +31,6 @@ pub record IsKept (P : World → List Line → Type 0) : Type 0 where
       MayMove w m → P w h → P (move w m).world (h ++ lines_in w m)
 
 -- ---- moves of an event
-
-later_rule : (r : Rule) (ms : List Move)
-    → (q : Rule) × (plan_after (record { opening = None; rule = r }) ms ≡ record { opening = None; rule = q })
-later_rule r [] = (r, refl)
-later_rule r (m ∷ ms) = later_rule (rule_after r m.action) ms
 
 -- only the first move of an event opens it
 pub may_move : (v : World) (e : Event) (front : List Move) (m : Move) → refusal v e ≡ None
@@ -55,12 +52,6 @@ due_split : (p : Plan) (w : World) (front : List Move) (m : Move) (back : List M
 due_split p w [] m back d = (tt, d.0)
 due_split p w (x ∷ front) m back d =
     let r = due_split (went_on p x.action) (move w x).world front m back d.1 in ((d.0, r.0), r.1)
-
--- a history and what a front of the lines behind it leaves out
-cut_at : (h whole last rest lines : List Line) → h ≡ whole ++ last → lines ≡ last ++ rest → whole ++ lines ≡ h ++ rest
-cut_at h whole last rest lines is split =
-    ap (λ (l : List Line). whole ++ l) split ∙ sym (append_assoc whole last rest)
-    ∙ ap (λ (l : List Line). l ++ rest) (sym is)
 
 module _ (further : OneEventMore) (P : World → List Line → Type 0) (k : IsKept P) where
   module _ (v : World) (h : List Line) (e : Event) (s : StandsFor v h) (allowed : refusal v e ≡ None) where

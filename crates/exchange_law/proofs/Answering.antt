@@ -84,7 +84,7 @@ plain_good client (Get iomode offset count) status l not =
 plain_good client (Commit last) status l not = (commit_fits status l, tt)
 plain_good client (Return report) status l not = (return_fits status l, tt)
 
-rw_fits : (b : Bool) → (if b then 2 else 1) < 2 ^ 32
+pub rw_fits : (b : Bool) → (if b then 2 else 1) < 2 ^ 32
 rw_fits true = omega arith
 rw_fits false = omega arith
 

@@ -24,6 +24,7 @@ use Rattle.osd_drive.specs.Effects.{result_of, kept_reply, reply_by, reply_to_re
 use Rattle.client_rules.specs.declared.limits.TheConstants.{PERFORMED}
 use Rattle.world_history.specs.State.{DriveAt}
 use Rattle.world_history.specs.Drives.{judges}
+use Rattle.history_law.proofs.Carried.{unless_either}
 use Rattle.exchange_law.proofs.ReplyRead.{read_64}
 
 -- ---- what is read
@@ -47,12 +48,6 @@ by_action : (bytes : List ℕ) (o : Option Action) (c : Command) → with_action
     → from_be_bytes w64 (slice_range bytes 40 48) ≡ c.nonce
 by_action bytes None c is = absurd (cc is)
 by_action bytes (Some a) c is = by_stray bytes a (stray bytes) c is
-
-unless_either : (b d : Bool) (x y : CommandErr) (r : Result Command CommandErr) (c : Command)
-    → (if b then Err x else if d then Err y else r) ≡ Ok c → r ≡ Ok c
-unless_either true d x y r c is = absurd (cc is)
-unless_either false true x y r c is = absurd (cc is)
-unless_either false false x y r c is = is
 
 nonce_in : (bytes : List ℕ) (c : Command) → reading bytes ≡ Ok c
     → from_be_bytes w64 (slice_range bytes 40 48) ≡ c.nonce

@@ -17,16 +17,16 @@ use Rattle.history_law.proofs.DriveEvents.{IsRead}
 use Rattle.history_law.proofs.Each.{EachBehind}
 use Rattle.exchange_law.specs.Text.{AreOfText, AreFew}
 
-changed_length : (ss : List Sent) (n : ℕ) (change : Sent → Sent) (o : Option Sent)
+pub changed_length : (ss : List Sent) (n : ℕ) (change : Sent → Sent) (o : Option Sent)
     → length (changed_by ss n change o) ≡ length ss
 changed_length ss n change None = refl
 changed_length ss n change (Some s) = length_set ss n (change s)
 
-event_length : (ss : List Sent) (e : Event) → length (sent_after_event ss e) ≡ length ss
+pub event_length : (ss : List Sent) (e : Event) → length (sent_after_event ss e) ≡ length ss
 event_length ss (event.DropMessage n) = changed_length ss n left_out (slice_get ss n)
 event_length ss e = refl
 
-line_longer : (ss : List Sent) (l : Line) → length ss ≤ length (sent_after ss l)
+pub line_longer : (ss : List Sent) (l : Line) → length ss ≤ length (sent_after ss l)
 line_longer ss (line.Event e) = omega (arith, event_length ss e)
 line_longer ss (line.Message n from to bytes) = omega (
   arith,
@@ -35,7 +35,7 @@ line_longer ss (line.Message n from to bytes) = omega (
 line_longer ss (line.Delivered n delivery) = omega (arith, changed_length ss n arrived (slice_get ss n))
 line_longer ss l = omega arith
 
-lines_longer : (ss : List Sent) (ls : List Line) → length ss ≤ length (fold sent_after ss ls)
+pub lines_longer : (ss : List Sent) (ls : List Line) → length ss ≤ length (fold sent_after ss ls)
 lines_longer ss [] = omega arith
 lines_longer ss (l ∷ ls) = joined (length ss) _ _ (line_longer ss l) (lines_longer (sent_after ss l) ls)
   where

@@ -27,16 +27,16 @@ use Rattle.history_law.proofs.Taking.{is_taken}
 abbrev pub IsNear : (drive : ℕ) → Command → Type 0
 IsNear drive c = nat_lt drive DRIVES ≡ true
 
-abbrev NearIn : Option Credential → Type 0
+abbrev pub NearIn : Option Credential → Type 0
 NearIn None = Unit {0}
 NearIn (Some c) = nat_lt c.drive DRIVES ≡ true
 
-near_at : (drive : ℕ) → nat_lt MAX_DRIVE drive ≡ false → nat_lt drive DRIVES ≡ true
+pub near_at : (drive : ℕ) → nat_lt MAX_DRIVE drive ≡ false → nat_lt drive DRIVES ≡ true
 near_at drive e = grind (arith, e, nat_tests)
 
 -- ---- what is listed
 
-near_key : (o : ObjectCred) (c : Capability) (k : Option CapKey) (l : Listed)
+pub near_key : (o : ObjectCred) (c : Capability) (k : Option CapKey) (l : Listed)
     → nat_lt MAX_DRIVE (drive_of o.oc_object_id.oid_device_id) ≡ false → with_key o c k ≡ Some l → NearIn l.credential
 near_key o c None l near e = absurd (cc e)
 near_key o c (Some key) l near e =
@@ -47,19 +47,19 @@ near_key o c (Some key) l near e =
     let same : made ≡ l = cc e in
     subst (λ (x : Listed). NearIn x.credential) same (near_at (drive_of o.oc_object_id.oid_device_id) near)
 
-near_capability : (o : ObjectCred) (r : Result Capability CapErr) (l : Listed)
+pub near_capability : (o : ObjectCred) (r : Result Capability CapErr) (l : Listed)
     → nat_lt MAX_DRIVE (drive_of o.oc_object_id.oid_device_id) ≡ false → with_capability o r ≡ Some l
     → NearIn l.credential
 near_capability o (Err x) l near e = absurd (cc e)
 near_capability o (Ok c) l near e = near_key o c (key_of c.format o.oc_capability_key) l near e
 
-unless_far : (o : ObjectCred) (b : Bool) (r : Result Capability CapErr) (l : Listed)
+pub unless_far : (o : ObjectCred) (b : Bool) (r : Result Capability CapErr) (l : Listed)
     → nat_lt MAX_DRIVE (drive_of o.oc_object_id.oid_device_id) ≡ b
     → (if b then None else with_capability o r) ≡ Some l → NearIn l.credential
 unless_far o true r l is e = absurd (cc e)
 unless_far o false r l is e = near_capability o r l is e
 
-near_version : (o : ObjectCred) (v : OsdVersion) (l : Listed) → with_version o v ≡ Some l → NearIn l.credential
+pub near_version : (o : ObjectCred) (v : OsdVersion) (l : Listed) → with_version o v ≡ Some l → NearIn l.credential
 near_version o Missing l e =
     let made : Listed = record { id = o.oc_object_id; credential = None } in
     let same : made ≡ l = cc e in
@@ -67,28 +67,28 @@ near_version o Missing l e =
 near_version o Version1 l e = absurd (cc e)
 near_version o Version2 l e = unless_far o _ (capabilities.reading o.oc_capability) l refl e
 
-near_listed : (o : ObjectCred) (l : Listed) → listed o ≡ Some l → NearIn l.credential
+pub near_listed : (o : ObjectCred) (l : Listed) → listed o ≡ Some l → NearIn l.credential
 unfolding listed
 near_listed o l e = near_version o o.oc_osd_version l e
 
-abbrev AllNear : List Listed → Type 0
+abbrev pub AllNear : List Listed → Type 0
 AllNear ls = AllByRecursion (λ (l : Listed). NearIn l.credential) ls
 
-both_near : (o : ObjectCred) (x : Option Listed) (r : Option (List Listed)) (ls : List Listed) → listed o ≡ x
+pub both_near : (o : ObjectCred) (x : Option Listed) (r : Option (List Listed)) (ls : List Listed) → listed o ≡ x
     → ((rest : List Listed) → r ≡ Some rest → AllNear rest) → and_listed x r ≡ Some ls → AllNear ls
 both_near o None r ls is rest e = absurd (cc e)
 both_near o (Some l) None ls is rest e = absurd (cc e)
 both_near o (Some l) (Some xs) ls is rest e =
     let same : l ∷ xs ≡ ls = cc e in subst AllNear same (near_listed o l is, rest xs refl)
 
-all_near : (os : List ObjectCred) (ls : List Listed) → all_listed os ≡ Some ls → AllNear ls
+pub all_near : (os : List ObjectCred) (ls : List Listed) → all_listed os ≡ Some ls → AllNear ls
 unfolding all_listed
 all_near [] ls e = let same : [] ≡ ls = cc e in subst AllNear same tt
 all_near (o ∷ os) ls e = both_near o (listed o) (all_listed os) ls refl (all_near os) e
 
 -- ---- what is sent
 
-found_near : (ls : List Listed) (k : ℕ) → AllNear ls
+pub found_near : (ls : List Listed) (k : ℕ) → AllNear ls
     → nat_lt (unwrap_or (credential_in (slice_get ls k)) no_credential).drive DRIVES ≡ true
 found_near [] k all = refl
 found_near (l ∷ ls) zero all = here l.credential all.0
@@ -98,17 +98,17 @@ found_near (l ∷ ls) zero all = here l.credential all.0
     here (Some c) near = near
 found_near (l ∷ ls) (suc k) all = found_near ls k all.1
 
-held_near : (h : Held) → AllNear h.components → HeldKnown IsNear h
+pub held_near : (h : Held) → AllNear h.components → HeldKnown IsNear h
 unfolding credential_of
 held_near h all j same write w nonce =
     subst (λ (ls : List Listed). nat_lt (unwrap_or (credential_in (slice_get ls w.ask.component)) no_credential).drive
     DRIVES ≡ true) (sym same) (found_near h.components w.ask.component all)
 
-answer_near : (a : Answer) → AnswerKnown IsNear a
+pub answer_near : (a : Answer) → AnswerKnown IsNear a
 answer_near a op h e =
     let t = is_taken a op h e in held_near h (all_near t.layout.olo_components h.components t.components)
 
-heard_near : (from : Node) (m : Message) → HeardKnown IsNear from m
+pub heard_near : (from : Node) (m : Message) → HeardKnown IsNear from m
 heard_near FromServer (Answers a) = answer_near a
 heard_near FromServer (Replies r) = tt
 heard_near FromServer (Recalls r) = tt

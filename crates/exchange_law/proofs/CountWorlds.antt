@@ -59,7 +59,7 @@ either_given : (b : Bool) (i j : Option Input) → GivenAny i → GivenAny j →
 either_given true i j h k = h
 either_given false i j h k = k
 
-one_or_two : (n : ℕ) → 1 ≤ n → n ≤ 2 → is_format n ≡ true
+pub one_or_two : (n : ℕ) → 1 ≤ n → n ≤ 2 → is_format n ≡ true
 one_or_two n a b = grind (arith, nat_tests, a, b)
 
 -- with an event of a text

@@ -15,8 +15,9 @@ use Rattle.client_rules.specs.Steps.{is_bad_range}
 use Rattle.world_history.specs.ServerNames.{Kept, Grant, Drive, RawMap}
 use Rattle.server_rules.specs.Grants.{asked}
 use Rattle.server_rules.specs.Layouts.{segment_for}
+use Rattle.history_law.proofs.Ranges.{joined}
 
--- ---- whole stripes
+-- ---- joined stripes
 
 -- a number is at most its quotient by w, rounded up, times w
 pub up_to : (x w : ℕ) → 0 < w → x ≤ ((x + (w - 1)) / w) * w
@@ -24,9 +25,6 @@ up_to x w some = omega (arith, lt-div-mul-add {a = x + (w - 1)} some, some)
 
 pub rises : (o n w : ℕ) → 0 < w → o / w ≤ (o + n + (w - 1)) / w
 rises o n w some = div_mono o (o + n + (w - 1)) w some (omega arith)
-
-whole : (a b w : ℕ) → a ≤ b → a * w + (b - a) * w ≡ b * w
-whole a b w l = let sum : a + (b - a) ≡ b = omega (arith, l) in sym (add-mul a (b - a) w) ∙ ap (λ (n : ℕ). n * w) sum
 
 -- ---- cover
 
@@ -110,7 +108,7 @@ pub record IsReachOf (f : Kept) (g : Grant) (r : Reach) : Type 0 where
   pub first : r.first ≡ g.first * stripe_length f.map
   pub end : r.end ≡ min (g.end * stripe_length f.map) MAX_FILE_SIZE
 
-limit_asked : (o n : ℕ) → o + n ≤ MAX_FILE_SIZE → min o (MAX_FILE_SIZE - 1) + max n 1 ≤ MAX_FILE_SIZE
+pub limit_asked : (o n : ℕ) → o + n ≤ MAX_FILE_SIZE → min o (MAX_FILE_SIZE - 1) + max n 1 ≤ MAX_FILE_SIZE
 limit_asked o n l = omega (arith, l)
 
 -- where it is given on a file of the same map and size
@@ -147,7 +145,7 @@ module _ (ds : List Drive) (f : Kept) (next client now : ℕ) (op : CallOp) (e :
         ap (λ (b : Bool). b && nat_lt f.size ((asked_span op).offset + (asked_span op).length)) (rw_again (is_write op))
         ∙ ap (λ (z : ℕ). is_write op && nat_lt z ((asked_span op).offset + (asked_span op).length)) size_is;
     first = refl;
-    end = ap (λ (z : ℕ). min z MAX_FILE_SIZE) (whole g.first g.end w g_rises);
+    end = ap (λ (z : ℕ). min z MAX_FILE_SIZE) (joined g.first g.end w g_rises);
   }
 
   first_below : g.first * w ≤ (asked_span op).offset

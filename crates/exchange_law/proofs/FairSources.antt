@@ -22,12 +22,11 @@ use Rattle.history_law.specs.Safe.{AtEachLine}
 use Rattle.history_law.specs.Sources.{ComesAt}
 use Rattle.history_law.specs.Listed.{WasGiven}
 use Rattle.history_law.specs.Unforged.{IsUnforged, AreUnforged}
-use Rattle.history_law.proofs.Coming.{opens_clear, sources_hold}
+use Rattle.history_law.proofs.Coming.{opens_clear, sources_hold, sent_behind}
 use Rattle.history_law.proofs.Each.{ArisesAt, HoldsAt, judges_of, arises_of, at_each_line}
 use Rattle.history_law.proofs.Exact.{same_ok}
 use Rattle.history_law.proofs.Growing.{history_grows, still_given}
 use Rattle.history_law.proofs.IssuedLaw.{answered}
-use Rattle.history_law.proofs.Messages.{sent_behind}
 use Rattle.history_law.proofs.Replying.{is_performed}
 use Rattle.history_law.proofs.Unforged.{unforged_front}
 use Rattle.fencing_law.proofs.HolderLaw.{listed_holder, given_named}

@@ -35,7 +35,7 @@ BeginsWithBytes zero xs = Unit {0}
 BeginsWithBytes (suc n) [] = Unit {0}
 BeginsWithBytes (suc n) (x ∷ xs) = (x < 256) × BeginsWithBytes n xs
 
-lifted_ok : {A : Type 0} (r : Result A XdrErr) (x : A) → lifted r ≡ Ok x → r ≡ Ok x
+pub lifted_ok : {A : Type 0} (r : Result A XdrErr) (x : A) → lifted r ≡ Ok x → r ≡ Ok x
 lifted_ok (Ok y) x e = cc
 lifted_ok (Err d) x e = absurd (cc e)
 

@@ -7,6 +7,7 @@ use Rattle.layout_types.specs.Reading.{layout_in}
 use Rattle.layout_ops.specs.declared.results.LayoutSegment.{LayoutSegment}
 use Rattle.layout_ops.specs.declared.results.LayoutGetOk.{LayoutGetOk}
 use Rattle.history_law.specs.State.{CallOp, Listed, Reach, Held, Why, Unreadable, BadCredential, Answer}
+use Rattle.history_law.proofs.Taking.{same_grant, enough_same}
 use Rattle.client_rules.specs.Calls.{file_of, is_write}
 use Rattle.client_rules.specs.Grants.{is_for, covers}
 use Rattle.client_rules.specs.Requests.{grant_in}
@@ -16,14 +17,6 @@ use Rattle.client_rules.specs.Layouts.{first_why, fresh, is_lacking, enough, wit
 -- it is on the call's file, and covers the call
 abbrev pub IsForCall : CallOp → Held → Type 0
 IsForCall op h = (h.file ≡ file_of op) × (covers h op ≡ true)
-
-same_grant : (b : Bool) (h k : Held) → (if b then Err BadCredential else Ok h) ≡ Ok k → h ≡ k
-same_grant true h k e = absurd (cc e)
-same_grant false h k e = cc e
-
-enough_same : (h k : Held) (op : CallOp) → enough h op ≡ Ok k → h ≡ k
-unfolding enough
-enough_same h k op e = same_grant ((is_write op || h.reach.rw) && is_lacking h op) h k e
 
 fresh_covers : (file number size : ℕ) (g : Reach) (op : CallOp) (h : Held) → is_for g size op ≡ true → h.count ≡ 0
     → h.reach ≡ g → h.size ≡ size → covers h op ≡ true

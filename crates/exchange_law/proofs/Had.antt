@@ -155,7 +155,7 @@ none_range : (x a n : ℕ) → x < a → NoneIs x (range_with_len a n)
 none_range x a zero l = tt
 none_range x a (suc n) l = (λ e. omega (arith, l, e), none_range x (a + 1) n (omega (arith, l)))
 
-none_more : (x : ℕ) (xs ys : List ℕ) → NoneIs x xs → NoneIs x ys → NoneIs x (xs ++ ys)
+pub none_more : (x : ℕ) (xs ys : List ℕ) → NoneIs x xs → NoneIs x ys → NoneIs x (xs ++ ys)
 none_more x [] ys d e = e
 none_more x (y ∷ xs) ys d e = (d.0, none_more x xs ys d.1 e)
 

@@ -27,7 +27,7 @@ use Rattle.server_rules.specs.Requests.{serves, no_file, answer_without}
 use Rattle.server_rules.specs.Served.{Served}
 use Rattle.exchange_law.specs.Held.{Agrees}
 use Rattle.exchange_law.specs.Calls.{IsFair, Writes, Passes, IsCall, TurnFair, GoodAnswer}
-use Rattle.exchange_law.proofs.Covered.{inside_limit}
+use Rattle.exchange_law.proofs.Covered.{inside_limit, limit_asked}
 use Rattle.exchange_law.proofs.HeldServing.{IsRefusal, NoFile, Later, Fencing, Unavailable, IsTellable, gets_told}
 
 -- ---- a refusal of a LAYOUTGET
@@ -98,9 +98,6 @@ no_file_good P op tries q is =
 asked_some : (n : ℕ) → 0 < max n 1
 asked_some n = omega arith
 
-asked_short : (o n : ℕ) → o + n ≤ MAX_FILE_SIZE → min o (MAX_FILE_SIZE - 1) + max n 1 ≤ MAX_FILE_SIZE
-asked_short o n l = omega (arith, l)
-
 pub call_told : (go : Going) (next format now : ℕ) (q : ClientRequest) (op : CallOp)
     → is_bad_range (span_of op) ≡ false → asked_in (get_args op) ≡ Some q.args
     → IsTellable (serves go next format now q.client q.args)
@@ -108,7 +105,7 @@ call_told go next format now q op fine is =
     subst (λ (a : RequestArgs). IsTellable (serves go next format now q.client a)) (args_of_get op q is)
     (gets_told go next format now q.client (is_write op) (asked_span op).offset (asked_span op).length
     (asked_some (span_of op).length)
-    (asked_short (span_of op).offset (span_of op).length (inside_limit op fine)))
+    (limit_asked (span_of op).offset (span_of op).length (inside_limit op fine)))
 
 -- ---- a commit
 

@@ -13,6 +13,7 @@ use Rattle.server_rules.specs.Get.{Early, BadMode, Invalid, Unable, Waits, On, b
 use Rattle.server_rules.specs.Commit.{commits, commit_row}
 use Rattle.server_rules.specs.Requests.{serves}
 use Rattle.server_rules.specs.Return.{return_row, returns_on}
+use Rattle.history_law.proofs.IssueTelling.{asked_client}
 use Rattle.exchange_law.proofs.Grants.{Fewer, fewer_itself, fence_fewer, commit_fewer, return_fewer}
 
 -- ---- the grants of the file
@@ -101,11 +102,6 @@ module _ (client next : ℕ) (g : Grant) (its : g.client ≡ client) where
   early_may go format now Unable = gives_none go.file.kept client _ (fewer_itself go.file.kept)
   early_may go format now (Waits k) = gives_none go.file.kept client _ (fewer_itself go.file.kept)
   early_may go format now On = grants_may go format now
-
-asked_client : (f : Kept) (number client now offset count : ℕ) (b : Bool)
-    → (asked f number client now offset count b).client ≡ client
-unfolding asked
-asked_client f number client now offset count b = refl
 
 pub serves_may : (go : Going) (next format now client : ℕ) (a : RequestArgs)
     → MayGive go.file.kept client (serves go next format now client a)

@@ -19,6 +19,7 @@ use Rattle.server_rules.specs.Requests.{on_request}
 use Rattle.server_rules.proofs.FileLaws.{number_at, put_other, add_other}
 use Rattle.server_rules.proofs.Runs.{ran_making}
 use Rattle.server_rules.proofs.SlotLaws.{same_reply, same_ordered, same_created, same_reopened}
+use Rattle.move_law.proofs.Files.{put_gives}
 use Rattle.exchange_law.proofs.Grants.{Fewer, fewer_itself, fence_fewer, declares_fewer, opens_fewer, HeardNone, reply_none}
 
 -- ---- files
@@ -32,15 +33,6 @@ AllFewer fs gs = (n : ℕ) (g : File) → file_at gs n ≡ Some g → FewerAt fs
 
 same_fewer : (fs : List File) → AllFewer fs fs
 same_fewer fs n g e = inl (g, e, fewer_itself g.kept)
-
-pub put_gives : (fs : List File) (n : ℕ) (g f : File) → g.kept.number ≡ n → file_at (put_file fs n g) n ≡ Some f → f ≡ g
-unfolding file_at put_file
-put_gives [] n g f is e = absurd (cc e)
-put_gives (x ∷ xs) n g f is e = elim (cases_eq x.kept.number n) [
-  | inl here ↦ cc (sym (rw (eq-eqb x.kept.number n here, eq-eqb g.kept.number n is) at e))
-  | inr other ↦
-      put_gives xs n g f is (rw (ne_eqb x.kept.number n other, ne_eqb x.kept.number n other) at e)
-]
 
 -- another file in a place
 put_fewer : (fs : List File) (n : ℕ) (g : File) → g.kept.number ≡ n → FewerAt fs n g → AllFewer fs (put_file fs n g)

@@ -73,7 +73,7 @@ below_end : (x w : ℕ) → 0 < w → 0 < x → (x - 1) / w < (x + (w - 1)) / w
 below_end x w some more =
     omega (arith, le-div ((x - 1) / w + 1) (x + (w - 1)) w some (omega (arith, div-mul-le_self (x - 1) w, some, more)))
 
-below_product : (x q w : ℕ) → x < q * w → x / w < q
+pub below_product : (x q w : ℕ) → x < q * w → x / w < q
 below_product x q w less = elim (cases_lt (x / w) q) [
   | inl l ↦ l
   | inr m ↦ absurd (omega (arith, less, mul-le-mul_right w m, div-mul-le_self x w))

@@ -28,6 +28,7 @@ use Rattle.world_history.specs.History.Begins.{Nothing, Part}
 use Rattle.world_history.specs.Laws.{shown}
 use Rattle.world_history.specs.Refusals.{refusal}
 use Rattle.world_history.proofs.Parties.{party_drive, party_client}
+use Rattle.move_law.proofs.Moments.{IsKept}
 use Rattle.history_law.proofs.Histories as histories
 use Rattle.history_law.specs.BookMoments.{IsMoment, lines_so_far}
 use Rattle.fencing_law.proofs.LaneLines.{in_get}
@@ -36,11 +37,11 @@ use Rattle.history_law.proofs.IssueLines.{IsKnown, all_known}
 use Rattle.exchange_law.specs.Sent.{message_of, HasSent}
 use Rattle.exchange_law.proofs.Dealing.{message_by, Acts, Others, Goes, Makes, each_acts}
 use Rattle.exchange_law.proofs.LatestLaw.{sent_split, same_client}
-use Rattle.exchange_law.proofs.LaneMoments.{IsKept, moment}
+use Rattle.exchange_law.proofs.LaneMoments.{moment}
 
 -- ---- a moment's history
 
-known_moves : (v : World) (h : List Line) (e : Event) (ms : List Move) → StandsFor v h → refusal v e ≡ None
+pub known_moves : (v : World) (h : List Line) (e : Event) (ms : List Move) → StandsFor v h → refusal v e ≡ None
     → AreDue (plan_of v e) v ms → IsKnown (world_after v ms) (h ++ lines_so_far v e ms)
 known_moves v h e [] s allowed d = subst (IsKnown v) (sym (append-nil h)) (histories.stands IsKnown all_known v h s)
 known_moves v h e (m ∷ ms) s allowed d =

@@ -33,7 +33,7 @@ pub record StepFine (S : Command → Type 0) (s : Step) : Type 0 where
   pub client : ClientFine (With S commands) s.client.held s.client.call
   pub sends : (d : ℕ) (y : Command) → In (ToDrive d y) s.sends → (x : Awaited) × In x commands × (x.command ≡ y)
 
-phase_still : (p : Phase) → FairPhase p []
+pub phase_still : (p : Phase) → FairPhase p []
 phase_still Starts = refl
 phase_still p = tt
 

@@ -12,12 +12,7 @@ use Rattle.world_history.specs.History.{Step, AreCarried, end_of, lines_of_steps
 use Rattle.world_history.specs.Refusals.{refusal}
 use Rattle.world_history.proofs.Runs.{due_more, plan_more}
 use Rattle.history_law.specs.BookMoments.{IsMoment, plan_at, lines_so_far, lines_in}
-use Rattle.move_law.proofs.Moments.{so_far_more}
-
-pub record IsKept (P : World → List Line → Type 0) : Type 0 where
-  pub starts : P empty_world []
-  pub moves : (w : World) (h : List Line) (k : IsMoment w h) (m : Move) → due (plan_at k) w ≡ Some m.action → P w h
-      → P (move w m).world (h ++ lines_in w m)
+use Rattle.move_law.proofs.Moments.{so_far_more, IsKept}
 
 world_more : (w : World) (ms : List Move) (m : Move) → (move (world_after w ms) m).world ≡ world_after w (ms ++ m ∷ [])
 world_more w [] m = refl

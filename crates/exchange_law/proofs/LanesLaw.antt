@@ -18,13 +18,13 @@ use Rattle.exchange_law.proofs.Sources.{CameFrom, Source, IsOwned, AreKnown, own
 use Rattle.exchange_law.proofs.LaneLines.{LeftBy, AreLeft, lanes_are_left}
 
 -- a letter is a message with its marks
-record IsMarked (ss : List Sent) (x : Sent) : Type 0 where
+pub record IsMarked (ss : List Sent) (x : Sent) : Type 0 where
   number : ℕ
   message : Sent
   there : slice_get ss number ≡ Some message
   is : x ≡ letter message
 
-marked : (ss : List Sent) (x : Sent) → In x (letters ss) → IsMarked ss x
+pub marked : (ss : List Sent) (x : Sent) → In x (letters ss) → IsMarked ss x
 marked [] x i = absurd i
 marked (s ∷ ss) x (inl e) = record { number = zero; message = s; there = refl; is = e }
 marked (s ∷ ss) x (inr i) =

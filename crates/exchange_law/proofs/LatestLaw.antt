@@ -20,6 +20,7 @@ use Rattle.world_history.specs.Handed.{Post}
 use Rattle.world_history.specs.Moves.{Act, acts}
 use Rattle.world_history.specs.Sending.{sends_all}
 use Rattle.world_history.specs.History.{OneEventMore}
+use Rattle.move_law.proofs.Moments.{IsKept}
 use Rattle.history_law.specs.BookMoments.{IsMoment, lines_in}
 use Rattle.fencing_law.proofs.Moves.{messages_in}
 use Rattle.fencing_law.proofs.Numbers.{messages_sent}
@@ -31,7 +32,7 @@ use Rattle.exchange_law.proofs.Fine.{ClientFine, fewer}
 use Rattle.exchange_law.proofs.LaneGoing.{StepFine}
 use Rattle.exchange_law.proofs.LaneSteps.{IsNewIn, InputNew, step_fine}
 use Rattle.exchange_law.proofs.Dealing.{message_by, IsHeard, AreSends, Acts, Others, Goes, Makes, each_acts}
-use Rattle.exchange_law.proofs.LaneMoments.{IsKept, moment}
+use Rattle.exchange_law.proofs.LaneMoments.{moment}
 
 -- ---- what a client sent
 
@@ -130,7 +131,7 @@ new_in w c s h none new = record {
     nonces k y (inl (d, i)) b n = omega (arith, new.later d k y i b n)
     nonces k y (inr (x, i, e)) b n = absurd (subst (In x) none i)
 
-reply_never : (r : Reply) (o : Option Awaited) (x : Answer) → reply_taken r o ≡ Some (TakesAnswer x) → ⊥
+pub reply_never : (r : Reply) (o : Option Awaited) (x : Answer) → reply_taken r o ≡ Some (TakesAnswer x) → ⊥
 reply_never r None x e = cc e
 reply_never r (Some a) x e = cc e
 

@@ -106,7 +106,6 @@ pub mod RefusalTelling
 pub mod Gives
 pub mod AnswerRead
 pub mod RefusalGiven
-pub mod RefusalNear
 pub mod Owning
 pub mod RefusalSending
 pub mod Taking

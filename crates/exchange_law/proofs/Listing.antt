@@ -24,7 +24,7 @@ use Rattle.exchange_law.specs.Held.{credential_of, listed_at, listed_from}
 
 -- ---- the drive
 
-device_read : (xs : List ℕ) → from_be_bytes w128 (replicate 8 0 ++ xs) ≡ from_be_bytes w64 xs
+pub device_read : (xs : List ℕ) → from_be_bytes w128 (replicate 8 0 ++ xs) ≡ from_be_bytes w64 xs
 device_read xs = omega arith
 
 drive_again : (d : ℕ) → d ≤ MAX_DRIVE → drive_of (device_of d) ≡ d

@@ -10,7 +10,8 @@ use Rattle.world_history.specs.declared.messages.Sent.{Sent}
 use Rattle.world_history.specs.Reading.{sent_after, sent_in}
 use Rattle.history_law.proofs.Each.{EachBehind}
 use Rattle.history_law.proofs.Growing.{Grows, line_grows}
-use Rattle.history_law.proofs.Messages.{WasIn, was_itself, arrived_was, event_was, sent_behind}
+use Rattle.history_law.proofs.Messages.{WasIn, was_itself, arrived_was, event_was}
+use Rattle.history_law.proofs.Coming.{sent_behind}
 use Rattle.exchange_law.specs.PlaceAnswers.{AnswersFit}
 use Rattle.exchange_law.proofs.PlaceLines.{Spells, SpellsAt, fits_before}
 

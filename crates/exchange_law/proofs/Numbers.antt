@@ -27,13 +27,9 @@ use Rattle.exchange_law.proofs.Rising.{last_is_new, differ_before, rising_differ
 use Rattle.exchange_law.proofs.Kept.{FairPhase, FairTurn, IsKept, replied_kept, timed_out_kept, begins_kept, on_commit_kept}
 use Rattle.exchange_law.proofs.ClientGiven.{IsGiven, taken_given}
 use Rattle.exchange_law.proofs.ClientKeeping.{IsKeeping, without_keeping, after_keeping, more_keeping, given_keeping, sent_keeping}
+use Rattle.exchange_law.proofs.LaneGoing.{phase_still, turn_still, FairCall, call_still}
 
 -- ---- a client in the middle of a step
-
--- a call that hasn't begun has sent nothing
-abbrev FairCall : Option Call → List Awaited → Type 0
-FairCall None sent = Unit {0}
-FairCall (Some call) sent = FairPhase call.phase sent
 
 -- all nonces, with those of this step
 abbrev all_of : List ℕ → Done → List ℕ
@@ -42,14 +38,6 @@ all_of xs d = xs ++ map nonce_of d.commands
 record IsCounting (before xs : List ℕ) (d : Done) : Type 0 where
   holds : length (all_of xs d) < NONCES → IsKeeping d.client.held before (all_of xs d)
   fair : FairCall d.client.call d.commands
-
-phase_still : (p : Phase) → FairPhase p []
-phase_still Starts = refl
-phase_still p = tt
-
-call_still : (o : Option Call) → FairCall o []
-call_still None = tt
-call_still (Some call) = phase_still call.phase
 
 either_done : (before xs : List ℕ) (b : Bool) (d e : Done) → IsCounting before xs d → IsCounting before xs e → IsCounting before xs (if b then d else e)
 either_done before xs true d e x y = x
@@ -187,10 +175,6 @@ still_counts : (before xs : List ℕ) (c : Client) → (length xs < NONCES → I
 still_counts before xs c k b = rw (append-nil xs) (k (rw (append-nil xs) at b))
 
 -- ---- answers
-
-turn_still : (t : Turn) → FairTurn t []
-turn_still (Goes p) = phase_still p
-turn_still t = tt
 
 not_granted_counts : (before xs : List ℕ) (d : Done) (op : CallOp) (a : Answer) (tries : ℕ) → d.commands ≡ [] → IsCounting before xs d → IsCounting before xs (by_turn d op (not_granted a tries))
 not_granted_counts before xs d op a tries q k = turn_counts before xs d op (not_granted a tries) (rw q (turn_still (not_granted a tries))) k.holds

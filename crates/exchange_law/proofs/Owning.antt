@@ -36,21 +36,11 @@ use Rattle.layout_ops.specs.declared.results.LayoutGetResult.TheVariants as get
 use Rattle.history_law.proofs.Issuing.{PostKnown, PostsKnown}
 use Rattle.history_law.proofs.IssuingMoves.{acts_known}
 use Rattle.history_law.proofs.IssueLines.{IsKnown, all_known}
+use Rattle.history_law.proofs.Exact.{own_given}
 use Rattle.exchange_law.proofs.Along.{at_moment}
 use Rattle.exchange_law.proofs.Turning.{sent_by, posted}
 use Rattle.exchange_law.proofs.Turns.{messages_behind}
-
-known_moves : (v : World) (h : List Line) (e : Event) (ms : List Move) → StandsFor v h → refusal v e ≡ None
-    → AreDue (plan_of v e) v ms → IsKnown (world_after v ms) (h ++ lines_so_far v e ms)
-known_moves v h e [] s allowed d = subst (IsKnown v) (sym (append-nil h)) (stands IsKnown all_known v h s)
-known_moves v h e (m ∷ ms) s allowed d = kept_part IsKnown all_known v h e m ms d allowed
-    (stands IsKnown all_known v h s)
-
-known_at : (w : World) (h : List Line) → IsMoment w h → IsKnown w h
-known_at w h k =
-    subst (λ (v : World). IsKnown v h) (sym k.world_is)
-    (subst (IsKnown (world_after k.before k.moves)) (sym k.lines_are)
-    (known_moves k.before k.history k.event k.moves k.stands k.allowed k.are_due))
+use Rattle.exchange_law.proofs.Knowing.{known_moves, known_at}
 
 -- each message of the server to a client gives it its own
 pub record AreOwn (w : World) (h : List Line) : Type 0 where
@@ -94,15 +84,6 @@ are_own further w h k =
       starts = record { each = λ m i c from to e body. absurd i };
       moves = λ v g m l next may o. own_move v g m _ l o;
     }) w h k
-
-own_given : (client : ℕ) (r : Results) (given : LayoutGetOk) → layouts_in r ≡ Some given → GivesOwn client r
-    → IsGrantOf client given
-own_given client (results.LayoutGet (get.Granted ok)) given e own =
-    let same : ok ≡ given = cc e in subst (IsGrantOf client) same own
-own_given client (results.LayoutGet (get.TryLater signal)) given e own = absurd (cc e)
-own_given client (results.LayoutGet (get.Refused status)) given e own = absurd (cc e)
-own_given client (results.LayoutCommit r) given e own = absurd (cc e)
-own_given client (results.LayoutReturn r) given e own = absurd (cc e)
 
 -- so what names the grant fits its place
 pub name_fits : (c : ℕ) (a : Answer) (ok : LayoutGetOk) → OwnIn c (envelope.Answer a) → layouts_in a.results ≡ Some ok

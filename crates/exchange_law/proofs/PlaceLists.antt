@@ -2,11 +2,6 @@
 use Rattle.std.proofs.Common.{ℕ, zero, suc, ◌+◌, ◌≤◌, ◌<◌, Bool, true, false, List, [], ◌∷◌, ◌++◌, filter, map, arith, if◌then◌else◌}
 use Rattle.std.specs.List.{AllByRecursion, range_with_len}
 
-pub all_more : {A : Type 0} (P : A → Type 0) (xs ys : List A) → AllByRecursion P xs → AllByRecursion P ys
-    → AllByRecursion P (xs ++ ys)
-all_more P [] ys k l = l
-all_more P (x ∷ xs) ys k l = (k.0, all_more P xs ys k.1 l)
-
 pub all_wider : {A : Type 0} (P Q : A → Type 0) → ((x : A) → P x → Q x) → (xs : List A) → AllByRecursion P xs
     → AllByRecursion Q xs
 all_wider P Q w [] k = tt
@@ -26,11 +21,6 @@ one_all : {A : Type 0} (P : A → Type 0) (b : Bool) (x : A) (xs : List A) → P
     → AllByRecursion P (if b then x ∷ xs else xs)
 one_all P true x xs k l = (k, l)
 one_all P false x xs k l = l
-
-pub all_filter : {A : Type 0} (P : A → Type 0) (p : A → Bool) (xs : List A) → AllByRecursion P xs
-    → AllByRecursion P (filter p xs)
-all_filter P p [] k = tt
-all_filter P p (x ∷ xs) k = one_all P (p x) x (filter p xs) k.0 (all_filter P p xs k.1)
 
 -- numbers one after another
 pub all_between : (a n : ℕ) → AllByRecursion (λ (s : ℕ). (a ≤ s) × (s < a + n)) (range_with_len a n)

@@ -24,11 +24,12 @@ use Rattle.client_rules.specs.Replies.{performed, refused, replied, gather_timed
 use Rattle.client_rules.specs.Answers.{committed, not_committed, on_commit}
 use Rattle.client_rules.specs.Going.{begins}
 use Rattle.exchange_law.specs.Kept.{IsOwnGrant}
-use Rattle.exchange_law.proofs.PlaceLists.{all_more, all_map, either_all}
+use Rattle.exchange_law.proofs.PlaceLists.{all_map, either_all}
 use Rattle.exchange_law.specs.Asked.{AskFits, IsHeldIn}
 use Rattle.exchange_law.proofs.Reach.{plan_fits}
 use Rattle.exchange_law.proofs.Probing.{probes_fit}
 use Rattle.exchange_law.proofs.PlaceSending.{AwaitedPlaced, ArePlaced, others_placed, rest_placed, same_grant, Covers, StoreFits, PhaseFits, TurnFits, MovedFits, either_moved, either_turn, accounted_fits, written_fits, firsts_fit, laters_fit, next_fit, queue_fit, without_fit, counted_own, read_placed, write_placed, turned_fits, reads_on_fits, reads_fits, probes_on_fits}
+use Rattle.exchange_law.proofs.Parts.{each_more}
 
 -- ---- what a call is covered by
 
@@ -74,7 +75,7 @@ module _ (c : ℕ) (h : Held) (k : IsOwnGrant c h) where
   probes_by_fits op got timed awaited (Some n) first w =
       let due = read_placed c h k _ (probes_fit k.file k.grant h k.kept timed (had_positions got awaited) n first) in
       either_moved c h op _ _ _ (turned_fits c h k op _ tt)
-      (probes_on_fits c h k op got timed _ _ due (all_more AwaitedPlaced awaited _ w due))
+      (probes_on_fits c h k op got timed _ _ due (each_more AwaitedPlaced awaited _ w due))
 
   probes_fits : (op : CallOp) (got : List Column) (timed : List TimedOut) (awaited : List Awaited) → ArePlaced awaited
       → MovedFits c h op (probes h got timed awaited)
@@ -124,7 +125,7 @@ module _ (c : ℕ) (h : Held) (k : IsOwnGrant c h) where
   next_fits op timed queue n awaited may q w =
       let next = write_placed c h k (next_to n queue) may (next_fit (StoreFits h) n queue q) in
       scatters_on_fits op timed (without_next n queue) _ _ may (queue_fit (StoreFits h) n queue q) next
-      (all_more AwaitedPlaced awaited _ w next)
+      (each_more AwaitedPlaced awaited _ w next)
 
   gathers_on_fits : (op : CallOp) (got : List Column) (timed : List TimedOut) (sent awaited : List Awaited)
       → Covers h op → ArePlaced sent → ArePlaced awaited → MovedFits c h op (gathers_on h op got timed sent awaited)
@@ -149,7 +150,7 @@ module _ (c : ℕ) (h : Held) (k : IsOwnGrant c h) where
   unfolding gathers
   gathers_fits op got timed awaited i w =
       let due = read_placed c h k _ (due_fits (span_of op) got timed awaited i.1) in
-      gathers_on_fits op got timed _ _ i due (all_more AwaitedPlaced awaited _ w due)
+      gathers_on_fits op got timed _ _ i due (each_more AwaitedPlaced awaited _ w due)
 
   -- ---- replies
 

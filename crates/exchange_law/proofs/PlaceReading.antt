@@ -15,6 +15,7 @@ use Rattle.osd_commands.specs.Actions.{number_of, action_of, right_of}
 use Rattle.osd_commands.specs.Commands.{magic, fields, head, spelling, stray, command_at, with_capability, unless_reserved, with_action, reading}
 use Rattle.osd_commands.proofs.Passing.{if_ok}
 use Rattle.history_law.proofs.Carried.{fits_read}
+use Rattle.history_law.proofs.Creating.{numbered}
 use Rattle.exchange_law.specs.Placed.{IsPlaced, SpellsPlaced}
 use Rattle.exchange_law.proofs.Commands.{MaySend}
 
@@ -78,14 +79,6 @@ has_numbers : (c : Command) → HasNumbers c (spelling c)
 unfolding spelling head fields
 has_numbers c = record { action = refl; partition = refl; object = refl; offset = refl; count = refl }
 
-action_again : (a : Action) → action_of (from_be_bytes w16 (to_be_bytes w16 (number_of a))) ≡ Some a
-action_again Create = refl
-action_again Read = refl
-action_again Write = refl
-action_again GetAttr = refl
-action_again SetAttr = refl
-action_again SetTag = refl
-
 again : (n m : ℕ) (bytes : List ℕ) → n ≡ from_be_bytes w64 bytes → bytes ≡ to_be_bytes w64 m → m < 2 ^ 64 → n ≡ m
 again n m bytes read spelled low = read ∙ ap (from_be_bytes w64) spelled ∙ from_be_bytes-to_be_bytes_8 m low
 
@@ -98,7 +91,7 @@ placed_read d x c s is =
     let p = s.placed in
     let capability : c.capability ≡ x.capability = fits_read x c s.capability is in
     let same : c.action ≡ x.action =
-    cc (sym r.action ∙ ap (λ (bytes : List ℕ). action_of (from_be_bytes w16 bytes)) h.action ∙ action_again x.action) in
+    cc (sym r.action ∙ ap (λ (bytes : List ℕ). action_of (from_be_bytes w16 bytes)) h.action ∙ numbered x.action) in
     let fits_partition : x.partition < 2 ^ 64 = rw p.partition s.capability.partition in
     let fits_object : x.object < 2 ^ 64 = rw p.object s.capability.object in
     let partition = again c.partition x.partition _ r.partition h.partition fits_partition in

@@ -12,10 +12,11 @@ use Rattle.client_rules.specs.Commands.{numbered, carrying_none, read_commands, 
 use Rattle.client_rules.specs.Reads.{reads_on, reads_unless, reads, probes_on}
 use Rattle.client_rules.specs.Writes.{accounted, is_past_size, written, firsts, laters, next_to, without_next, without_component}
 use Rattle.exchange_law.specs.Kept.{IsOwnGrant}
-use Rattle.exchange_law.proofs.PlaceLists.{all_more, all_map, all_filter, either_all}
+use Rattle.exchange_law.proofs.PlaceLists.{all_map, either_all}
 use Rattle.exchange_law.specs.Asked.{AskFits, IsHeldIn}
 use Rattle.exchange_law.proofs.Reach.{plan_fits}
 use Rattle.exchange_law.proofs.Commands.{MaySend, command_placed}
+use Rattle.exchange_law.proofs.Parts.{each_more, each_filtered}
 
 -- ---- what is sent and awaited
 
@@ -27,11 +28,11 @@ ArePlaced xs = AllByRecursion AwaitedPlaced xs
 
 pub others_placed : (xs : List Awaited) (nonce : ℕ) → ArePlaced xs → ArePlaced (others xs nonce)
 unfolding others
-others_placed xs nonce k = all_filter AwaitedPlaced _ xs k
+others_placed xs nonce k = each_filtered AwaitedPlaced _ xs k
 
 pub rest_placed : (n : ℕ) (xs : List Awaited) → ArePlaced xs → ArePlaced (not_of n xs)
 unfolding not_of
-rest_placed n xs k = all_filter AwaitedPlaced _ xs k
+rest_placed n xs k = each_filtered AwaitedPlaced _ xs k
 
 placed_placed : (a : Awaited) (xs : List Awaited) → AwaitedPlaced a → ArePlaced xs → ArePlaced (placed a xs)
 unfolding placed
@@ -144,7 +145,7 @@ queue_fit P n (w ∷ ws) k =
 pub without_fit : (P : Store → Type 0) (n : ℕ) (ws : List Store) → AllByRecursion P ws
     → AllByRecursion P (without_component n ws)
 unfolding without_component
-without_fit P n ws k = all_filter P _ ws k
+without_fit P n ws k = each_filtered P _ ws k
 
 module _ (c : ℕ) (h : Held) (k : IsOwnGrant c h) where
   pub counted_own : (sent : List Awaited) → IsOwnGrant c (counted h sent)
@@ -196,7 +197,7 @@ module _ (c : ℕ) (h : Held) (k : IsOwnGrant c h) where
   reads_unless_fits op got timed awaited None i w =
       let due = read_placed _ (plan_fits k.file k.grant h k.kept aim.Reads (clipped h.size (span_of op)) timed
       (had got awaited) i) in
-      reads_on_fits op got timed _ _ i due (all_more AwaitedPlaced awaited _ w due)
+      reads_on_fits op got timed _ _ i due (each_more AwaitedPlaced awaited _ w due)
 
   pub reads_fits : (op : CallOp) (got : List Column) (timed : List TimedOut) (awaited : List Awaited)
       → IsHeldIn h.reach (clipped h.size (span_of op)) → ArePlaced awaited

@@ -35,9 +35,11 @@ use Rattle.server_rules.specs.declared.server.Drive.{Drive}
 use Rattle.server_rules.specs.Layouts.{capability_for, device_of, object_of, credential, no_credential, layout_for, segment_for}
 use Rattle.history_law.proofs.Carried.{same_read}
 use Rattle.history_law.proofs.Exact.{same_ok, one_of, body_read, first_credential, read_in}
-use Rattle.history_law.proofs.Taking.{IsListedAs, is_listed, both_listed, listed_at}
+use Rattle.history_law.proofs.Taking.{IsListedAs, is_listed, both_listed, listed_at, same_grant, enough_same}
 use Rattle.exchange_law.specs.Kept.{IsCredentialOf, IsOwnGrant}
 use Rattle.exchange_law.specs.PlaceAnswers.{GivesFitting, ResultsFit, AnswerFits, SpellsFitting}
+use Rattle.exchange_law.proofs.Covered.{rw_again}
+use Rattle.exchange_law.proofs.Listing.{device_read}
 
 -- ---- what is taken
 
@@ -53,14 +55,6 @@ pub record IsTaken (a : Answer) (op : CallOp) (h : Held) : Type 0 where
   pub map : h.map ≡ layout.olo_map
   pub components : all_listed layout.olo_components ≡ Some h.components
   pub complete : length layout.olo_components ≡ layout.olo_map.comps
-
-same_grant : (b : Bool) (h k : Held) → (if b then Err BadCredential else Ok h) ≡ Ok k → h ≡ k
-same_grant true h k e = absurd (cc e)
-same_grant false h k e = cc e
-
-enough_same : (h k : Held) (op : CallOp) → enough h op ≡ Ok k → h ≡ k
-unfolding enough
-enough_same h k op e = same_grant ((is_write op || h.reach.rw) && is_lacking h op) h k e
 
 -- the grant without its commands
 record IsMade (g : Reach) (l : Layout) (h : Held) : Type 0 where
@@ -163,9 +157,6 @@ as_long (o ∷ os) ls e =
 
 -- ---- a component
 
-device_read : (xs : List ℕ) → from_be_bytes w128 (replicate 8 0 ++ xs) ≡ from_be_bytes w64 xs
-device_read xs = omega arith
-
 drive_again : (d : ℕ) → d < 2 ^ 64 → drive_of (device_of d) ≡ d
 drive_again d low = device_read (to_be_bytes w64 d) ∙ from_be_bytes-to_be_bytes_8 d low
 
@@ -202,10 +193,6 @@ credential_is ds f g os ls k l c are all fits found has =
     }
 
 -- ---- the grant
-
-rw_again : (b : Bool) → ((if b then LAYOUTIOMODE4_RW else LAYOUTIOMODE4_READ) == LAYOUTIOMODE4_RW) ≡ b
-rw_again true = refl
-rw_again false = refl
 
 module _ (client : ℕ) (a : Answer) (op : CallOp) (h : Held) (t : IsTaken a op h) (x : GivesFitting client t.given) where
   abbrev f : Kept

@@ -19,7 +19,8 @@ use Rattle.stripe_plan.specs.declared.plan.Aim.TheVariants.{Reads, Gathers, Scat
 use Rattle.stripe_plan.specs.Touched.{own, unit_start, end_of, touches, columns_between, columns, whole}
 use Rattle.stripe_plan.specs.Lost.{among, source_from, source, is_hit, is_degraded}
 use Rattle.stripe_plan.specs.Asks.{own_columns, changed, gathered, needed, at_row, at_rows, some_of, before, behind, without, without_each, asks_of, asks_source, asks_each, asks_position, asks_place, asks_stripe, asks}
-use Rattle.exchange_law.proofs.PlaceLists.{all_more, all_wider, all_map, either_all}
+use Rattle.exchange_law.proofs.PlaceLists.{all_wider, all_map, either_all}
+use Rattle.exchange_law.proofs.Parts.{each_more}
 
 -- ---- columns end in their unit
 
@@ -95,7 +96,7 @@ unfolding without
 left_parts [] p low high i k = some_part low high i k
 left_parts (t ∷ ts) p low high i k =
     either_all (IsPart low high) (t.position == p) _ _
-    (all_more (IsPart low high) (without ts p (before t i)) (without ts p (behind t i))
+    (each_more (IsPart low high) (without ts p (before t i)) (without ts p (behind t i))
     (left_parts ts p low high (before t i) (k.0, omega (arith, k.1)))
     (left_parts ts p low high (behind t i) (omega (arith, k.0), k.1)))
     (left_parts ts p low high i k)
@@ -105,7 +106,7 @@ each_parts : (ts : List Stretch) (p low high : ℕ) (is : List Interval) → All
 unfolding without_each
 each_parts ts p low high [] k = tt
 each_parts ts p low high (i ∷ is) k =
-    all_more (IsPart low high) (without ts p i) (without_each ts p is) (left_parts ts p low high i k.0)
+    each_more (IsPart low high) (without ts p i) (without_each ts p is) (left_parts ts p low high i k.0)
     (each_parts ts p low high is k.1)
 
 -- ---- components
@@ -192,7 +193,7 @@ module _ (m : RawMap) (out : List ℕ) (s : ℕ) where
         let rest = each_in p (k + 1) n is (omega (arith, from)) (omega (arith, to)) parts in
         elim (cases_Bool (among k out)) [
           | inl gone ↦ rw gone rest
-          | inr there ↦ rw there (all_more (IsInRow m out s) (asks_of s p k is) (asks_each out s p (k + 1) n is)
+          | inr there ↦ rw there (each_more (IsInRow m out s) (asks_of s p k is) (asks_each out s p (k + 1) n is)
               (asks_of_in p k is (place_stands m s i k ch low from (omega (arith, to))) there parts) rest)
         ]
 
@@ -215,7 +216,7 @@ module _ (m : RawMap) (out : List ℕ) (s : ℕ) where
   unfolding asks_stripe
   stripe_in aim r had i zero ch l = tt
   stripe_in aim r had i (suc n) ch l =
-      all_more (IsInRow m out s) (asks_place aim m r out had s i) (asks_stripe aim m r out had s (i + 1) n)
+      each_more (IsInRow m out s) (asks_place aim m r out had s i) (asks_stripe aim m r out had s (i + 1) n)
       (place_in ch i (omega (arith, l)) aim r had) (stripe_in aim r had (i + 1) n ch (omega (arith, l)))
 
 -- so is all that a plan asks, of one of its stripes
@@ -227,7 +228,7 @@ pub asks_in : (P : ℕ → Type 0) (aim : Aim) (m : RawMap) (r : Span) (out : Li
 unfolding asks
 asks_in P aim m r out had [] ch k = tt
 asks_in P aim m r out had (s ∷ ss) ch k =
-    all_more (IsAsked m out P) (asks_stripe aim m r out had s 0 (group_width m)) (asks aim m r out had ss)
+    each_more (IsAsked m out P) (asks_stripe aim m r out had s 0 (group_width m)) (asks aim m r out had ss)
     (all_wider (IsInRow m out s) (IsAsked m out P) (λ a row. (s, k.0, row)) _
     (stripe_in m out s aim r had 0 (group_width m) ch (omega arith)))
     (asks_in P aim m r out had ss ch k.1)

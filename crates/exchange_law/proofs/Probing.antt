@@ -16,11 +16,12 @@ use Rattle.client_rules.specs.Reads.{first_present, probe_of, probe_each, probes
 use Rattle.exchange_law.specs.Kept.{IsGrant}
 use Rattle.server_rules.specs.declared.files.Kept.{Kept}
 use Rattle.server_rules.specs.declared.grants.Grant.{Grant}
-use Rattle.exchange_law.proofs.PlaceLists.{all_more, either_all}
+use Rattle.exchange_law.proofs.PlaceLists.{either_all}
 use Rattle.exchange_law.proofs.Plans.{source_found}
 use Rattle.exchange_law.specs.Asked.{AskFits}
 use Rattle.exchange_law.proofs.Reach.{is_listed}
 use Rattle.exchange_law.proofs.Commands.{credential_found}
+use Rattle.exchange_law.proofs.Parts.{each_more}
 
 -- a component that is present is one of them
 present_below : (ls : List Listed) (k j : ℕ) → first_present ls k ≡ Some j → j < k + length ls
@@ -65,7 +66,7 @@ module _ (f : Kept) (g : Grant) (h : Held) (k : IsGrant f g h) where
   unfolding probe_each
   each_fits timed have p zero low ch = tt
   each_fits timed have p (suc n) low ch =
-      all_more (AskFits h.components) _ _
+      each_more (AskFits h.components) _ _
       (either_all (AskFits h.components) (among p have) [] _ tt
       (probe_fits timed p (source h.map (outs h timed) p) (omega (arith, low)) ch refl))
       (each_fits timed have (p + 1) n (omega (arith, low)) ch)

@@ -27,12 +27,13 @@ use Rattle.exchange_law.specs.Messages.{last_before}
 use Rattle.exchange_law.specs.InStep.{IsAwaiting, StandsAt, IsInStep}
 use Rattle.exchange_law.proofs.Turning.{sent_by, posted, ComesTo}
 use Rattle.exchange_law.proofs.AwaitsSteps.{step_awaits}
-use Rattle.exchange_law.proofs.RefusalNear.{IsNear, input_near}
 use Rattle.exchange_law.proofs.Gives.{last_in}
 use Rattle.exchange_law.proofs.RefusalGiven.{WasSent, AreOrdered}
 use Rattle.exchange_law.proofs.Owning.{AreOwn}
 use Rattle.exchange_law.proofs.RefusalSending.{command_of, among_sent, none_among, one_sent, fewer_nonces, command_posted, posts_command, all_addressed, length_posts, IsOf, resent_awaited}
 use Rattle.exchange_law.proofs.Taking.{TakesGrant, new_grants, answered_low, answered_near, later_request}
+use Rattle.exchange_law.proofs.CountNear.{IsNear, input_near}
+use Rattle.exchange_law.proofs.Had.{none_more}
 
 -- a grant that the client took was given in the answer to an earlier request than the outstanding one
 pub record WasTaken (w : World) (c : ℕ) (x : Client) (n : ℕ) : Type 0 where
@@ -57,10 +58,6 @@ pub record HasRun (w : World) (c : ℕ) (x : Client) : Type 0 where
   pub few : length xs ≤ length (sent_by w)
 
 -- ---- lists
-
-none_more : (x : ℕ) (xs ys : List ℕ) → NoneIs x xs → NoneIs x ys → NoneIs x (xs ++ ys)
-none_more x [] ys n m = m
-none_more x (y ∷ xs) ys n m = (n.0, none_more x xs ys n.1 m)
 
 differ_last : (xs : List ℕ) (n : ℕ) → AllDiffer xs → Each (λ x. x ≢ n) xs → AllDiffer (xs ++ n ∷ [])
 differ_last [] n a e = (tt, tt)

@@ -13,7 +13,7 @@ use Rattle.world_history.specs.declared.messages.Body.TheVariants.{Command as Of
 use Rattle.world_history.specs.declared.messages.Message.{Message}
 use Rattle.world_history.specs.Handed.{Post, is_addressed, is_write_out, client_post, client_posts}
 use Rattle.exchange_law.proofs.Turning.{posted}
-use Rattle.exchange_law.proofs.RefusalNear.{IsNear}
+use Rattle.exchange_law.proofs.CountNear.{IsNear}
 
 -- a client's command to a drive, as a message
 abbrev pub command_of : (client drive : ℕ) → Command → Message

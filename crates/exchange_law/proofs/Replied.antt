@@ -34,6 +34,7 @@ use Rattle.history_law.proofs.Histories.{stands, kept_part}
 use Rattle.history_law.proofs.DriveEvents.{IsRead, kept}
 use Rattle.history_law.proofs.DriveLines.{sent_read}
 use Rattle.history_law.specs.BookMoments.{IsMoment, with_event, lines_so_far, lines_in}
+use Rattle.history_law.proofs.Coming.{sent_behind}
 use Rattle.exchange_law.specs.Awaited.{IsBehind}
 use Rattle.exchange_law.proofs.Along.{at_moment}
 use Rattle.exchange_law.proofs.Turning.{sent_by, posted, DriveDoes, Turn, ByServer, ByClient, ByDrive, Makes, Stops, Rests}
@@ -241,10 +242,6 @@ are_replied further w h k =
     (record { starts = none_replied; moves = λ v g m l next may r. replied_move v g m l r }) w h k
 
 -- ---- in the words of the lines
-
-sent_behind : (before : List Line) (l : Line) → sent_in (before ++ l ∷ []) ≡ sent_after (sent_in before) l
-unfolding sent_in
-sent_behind before l = fold-append sent_after [] before (l ∷ [])
 
 -- the messages before a delivery are those of the moment
 pub sent_before : (w : World) (lines before : List Line) (n : ℕ) → IsMoment w lines → IsBehind before lines n

@@ -10,6 +10,7 @@ use Rattle.client_rules.specs.Grants.{covers, held_of, put_held, without_held}
 use Rattle.client_rules.specs.Requests.{get_args, args_of, return_args}
 use Rattle.client_rules.specs.Going.{phased, with_held, by_turn, moved, begins, starts_with, starts_under, starts_at, starts_call, begun, after_number, request_of, held_after, requests, asks_under, returns, returns_due, is_held, due_behind, progress_phase, progress_call, progress_free, progressed}
 use Rattle.exchange_law.proofs.Few.{rank_behind, IsLate, FewTurn, FewMoved, turn_few, begins_few}
+use Rattle.exchange_law.proofs.ClientKeeping.{none_left}
 
 -- ---- numbers that are left
 
@@ -90,14 +91,6 @@ Asked own first o d = record {
 }
 
 -- ---- held grants
-
-none_left : (hs : List Held) (file : ℕ) → held_of (without_held hs file) file ≡ None
-unfolding held_of without_held
-none_left [] file = refl
-none_left (h ∷ hs) file = elim (cases_Bool (h.file == file)) [
-  | inl t ↦ rw t (none_left hs file)
-  | inr f ↦ rw f (rw f (none_left hs file))
-]
 
 module _ (own first : ℕ) (o : Option Request) where
   abbrev U : Done → Type 0

@@ -20,6 +20,7 @@ use Rattle.exchange_law.specs.Messages.{WasAnswered, IsAnswered, IsSlotOf}
 use Rattle.exchange_law.specs.Made.{WasMade}
 use Rattle.exchange_law.specs.InStep.{IsAwaiting}
 use Rattle.exchange_law.proofs.SlotReading.{client_reads, client_reads_none}
+use Rattle.exchange_law.proofs.LatestLaw.{reply_never}
 
 -- ---- what a client takes
 
@@ -58,10 +59,6 @@ by_outstanding : (x : Client) (a b : Answer) (o : Option Request) → x.outstand
 by_outstanding x a b None out e = absurd (cc e)
 by_outstanding x a b (Some r) out e = by_test x a b r (is_awaited x a r) refl out e
 
-no_reply : (r : Reply) (o : Option Awaited) (b : Answer) → reply_taken r o ≡ Some (TakesAnswer b) → ⊥
-no_reply r None b e = cc e
-no_reply r (Some a) b e = cc e
-
 no_recall : (t : Bool) (k : Taken) (b : Answer) → (k ≡ TakesAnswer b → ⊥)
     → (if t then Some k else None) ≡ Some (TakesAnswer b) → ⊥
 no_recall true k b not e = not (cc e)
@@ -71,7 +68,7 @@ pub is_taken : (x : Client) (from : Node) (m : Message) (b : Answer) → takes x
     → IsTaken x from m b
 unfolding takes
 is_taken x FromServer (Answers a) b e = by_outstanding x a b x.outstanding refl e
-is_taken x (FromDrive d) (Replies r) b e = absurd (no_reply r (find (answers d r) (awaited_of x.call)) b e)
+is_taken x (FromDrive d) (Replies r) b e = absurd (reply_never r (find (answers d r) (awaited_of x.call)) b e)
 is_taken x FromServer (Recalls r) b e = absurd (no_recall (r.client == x.number) (TakesRecall r) b (λ f. cc f) e)
 is_taken x from m b e = absurd (cc e)
 

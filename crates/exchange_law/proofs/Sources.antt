@@ -28,6 +28,7 @@ use Rattle.history_law.specs.Issued.{IsIssued}
 use Rattle.history_law.proofs.IssuedLaw.{issued}
 use Rattle.history_law.proofs.IssueLines.{CarriesAt, IsKnown, all_known}
 use Rattle.history_law.proofs.Messages.{SentCarries, AllCarry, all_carry}
+use Rattle.history_law.proofs.DriveMoves.{same_number}
 use Rattle.fencing_law.proofs.LaneLines.{letter, letters, letters_stay, in_get}
 use Rattle.fencing_law.proofs.Named.{NamedAt, AllNamed, lines_named, messages_named}
 use Rattle.fencing_law.proofs.HolderLaw.{issued_holder, client_named}
@@ -128,16 +129,13 @@ module _ (before : List Line) (l : Line) (known : IsKnownOf before) where
       )
   by_sender d bytes n m (party.Drive k) found from to are who p y read = absurd who
 
-same_drive : (a b : ℕ) → party.Drive a ≡ party.Drive b → a ≡ b
-same_drive a b e = cc e
-
 pub delivered_owned : (before : List Line) (n : ℕ) → IsDelivered before n (Judged Perform)
     → ComesAt before (line.Delivered n (Judged Perform)) → IsKnownOf before
     → SourceAt IsOwned before (line.Delivered n (Judged Perform))
 delivered_owned before n p comes known m d y found to read =
     let same : p.message ≡ m = same_Some p.message m (sym p.sent ∙ found) in
     let here : p.tells.0 ≡ d =
-    same_drive p.tells.0 d (sym p.tells.1 ∙ ap (λ (x : Sent). x.to) same ∙ to) in
+    same_number p.tells.0 d (sym p.tells.1 ∙ ap (λ (x : Sent). x.to) same ∙ to) in
     let l : Line = line.Delivered n (Judged Perform) in
     let judged : Judges before l d m.bytes Perform = subst (λ (k : ℕ). Judges before l k m.bytes Perform) here
     (subst (λ (x : Sent). Judges before l p.tells.0 x.bytes Perform) same p.tells.2) in

@@ -33,7 +33,7 @@ use Rattle.history_law.proofs.DriveLines.{sent_read, drive_read}
 use Rattle.history_law.specs.BookMoments.{IsMoment}
 use Rattle.fencing_law.proofs.Spelled.{command_reads}
 use Rattle.history_law.proofs.Carried.{none_read}
-use Rattle.history_law.proofs.IssuedLaw.{answered}
+use Rattle.history_law.proofs.IssuedLaw.{answered, nothing_allowed}
 use Rattle.history_law.proofs.Issuing.{MaySend}
 use Rattle.history_law.proofs.Known.{AreKnown}
 use Rattle.history_law.proofs.IssueLines.{IsKnown}
@@ -47,16 +47,9 @@ use Rattle.exchange_law.specs.Latest.{AwaitedAreLatest}
 use Rattle.exchange_law.specs.LaneTaken.{is_of_lanes, AwaitedAreTaken}
 use Rattle.exchange_law.proofs.Knowing.{known_at, lawful_at, was_sent}
 use Rattle.exchange_law.proofs.LaneRows.{full_row, stale_row, are_many, is_late}
+use Rattle.exchange_law.proofs.Sources.{below}
 
 -- ---- commands without a capability
-
-nothing_allowed : (a : Action) → nat_eq (bit_and no_capability.rights (right_of a)) 0 ≡ true
-nothing_allowed action.Create = refl
-nothing_allowed action.Read = refl
-nothing_allowed action.Write = refl
-nothing_allowed action.GetAttr = refl
-nothing_allowed action.SetAttr = refl
-nothing_allowed action.SetTag = refl
 
 not_none : (y : Command) → has_no_right y ≡ false → y.capability ≡ no_capability → ⊥
 not_none y allowed none =
@@ -75,9 +68,6 @@ known_in : (Q : ℕ → Command → Type 0) (xs : List Awaited) (x : Awaited) �
 known_in Q [] x k i = absurd i
 known_in Q (z ∷ xs) x k (inl e) = subst (λ (v : Awaited). Q v.drive v.command) (sym e) k.0
 known_in Q (z ∷ xs) x k (inr i) = known_in Q xs x k.1 i
-
-below : (c : ℕ) → nat_lt c CLIENTS ≡ true → c < CLIENTS
-below c e = grind (arith, e, nat_tests)
 
 module _ (further : OneEventMore) (lanes : LanesAreOwn) (latest : AwaitedAreLatest) (w : World) (h : List Line)
     (k : IsMoment w h) (clean : unguessed h ≡ true) (given : GrantsAreNew h) (fit : CommandsFit w) (c : ℕ)

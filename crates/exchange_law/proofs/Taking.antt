@@ -43,6 +43,7 @@ use Rattle.exchange_law.proofs.RefusalTelling.{named}
 use Rattle.exchange_law.proofs.RefusalGiven.{WasSent, AreOrdered}
 use Rattle.exchange_law.proofs.Owning.{AreOwn, name_fits}
 use Rattle.exchange_law.proofs.AnswerRead.{NamedIn, NamedBy, named_read, sequence_read}
+use Rattle.exchange_law.proofs.LatestLaw.{reply_never}
 
 -- ---- an answer that is taken
 
@@ -67,10 +68,6 @@ awaited_answer c x (Some r) a e = either (is_awaited c x r) refl e
         (r, refl, same, eqb-true x.sequence r.sequence next.0)
     either false is f = absurd (cc f)
 
-reply_no_answer : (r : Reply) (o : Option Awaited) (a : Answer) → reply_taken r o ≡ Some (TakesAnswer a) → ⊥
-reply_no_answer r None a e = cc e
-reply_no_answer r (Some b) a e = cc e
-
 recall_no_answer : (b : Bool) (x : Recall) (a : Answer) → (if b then Some (TakesRecall x) else None) ≡ Some
     (TakesAnswer a) → ⊥
 recall_no_answer true x a e = cc e
@@ -80,7 +77,7 @@ is_answer : (c : Client) (from : Node) (x : ClientMessage) (a : Answer) → take
     → IsAnswer c from x a
 unfolding takes
 is_answer c (node.Drive d) (Replies s) a e =
-    absurd (reply_no_answer s (find (answers d s) (awaited_of c.call)) a e)
+    absurd (reply_never s (find (answers d s) (awaited_of c.call)) a e)
 is_answer c node.Server (Answers x) a e =
     let r = awaited_answer c x c.outstanding a e in
     record {
@@ -93,7 +90,7 @@ is_answer c node.Server (Answers x) a e =
 is_answer c node.Server (Recalls x) a e = absurd (recall_no_answer (x.client == c.number) x a e)
 is_answer c from x a e = absurd (cc e)
 
-answer_in : (bytes : List ℕ) (r : Result Envelope OpErr) (a : Answer) → envelope_of bytes ≡ r
+pub answer_in : (bytes : List ℕ) (r : Result Envelope OpErr) (a : Answer) → envelope_of bytes ≡ r
     → by_envelope r ≡ Some (Answers a) → envelope_of bytes ≡ Ok (envelope.Answer a)
 answer_in bytes (Ok (envelope.Answer b)) a read e =
     let both : Answers b ≡ Answers a = cc e in

@@ -19,6 +19,8 @@ use Rattle.world_history.specs.Guesses.{Guarded, guards, guarded, unguessed}
 use Rattle.world_history.specs.Laws.{BeginWithHead, MomentGoesOn, AllLinesGoOn}
 use Rattle.history_law.specs.BookMoments.{with_event, lines_in}
 use Rattle.history_law.specs.Read.{AreWritten}
+use Rattle.history_law.proofs.Coming.{clean_before}
+use Rattle.history_law.proofs.Staying.{written_front}
 use Rattle.exchange_law.proofs.CountGrowing.{fewer, text_front}
 use Rattle.calm_law.specs.Following.{left_pending, PendingIsRead}
 use Rattle.calm_law.proofs.Shapes.{Shape, Nothing, Left, Heads, delivers_shape, times_shape, pends_shape}
@@ -44,19 +46,11 @@ steps_calm : (s : Seen) (ts : List Step) → (fold sees s ts).calm ≡ true → 
 steps_calm s [] e = e
 steps_calm s (t ∷ ts) e = step_calm s t (steps_calm (sees s t) ts e)
 
-lines_unguessed : (g : Guarded) (ls : List Line) → (fold guards g ls).unguessed ≡ true → g.unguessed ≡ true
-lines_unguessed g [] e = e
-lines_unguessed g (l ∷ ls) e = first_true g.unguessed _ (lines_unguessed (guards g l) ls e)
-
 unguessed_before : AllLinesGoOn → (h more : List Line) → unguessed (h ++ more) ≡ true → unguessed h ≡ true
 unguessed_before lines h more e =
-    lines_unguessed (guarded h) more (ap (λ (g : Guarded). g.unguessed) (sym (lines h more).guesses) ∙ e)
+    clean_before (guarded h) more (ap (λ (g : Guarded). g.unguessed) (sym (lines h more).guesses) ∙ e)
 
 -- ---- a scenario's text
-
-written_front : (xs ys : List Line) → AreWritten (xs ++ ys) → AreWritten xs
-written_front [] ys a = tt
-written_front (x ∷ xs) ys a = (a.0, written_front xs ys a.1)
 
 scenario_before : (h more : List Line) → IsOfScenario (h ++ more) → IsOfScenario h
 scenario_before h more s = record {

@@ -27,7 +27,7 @@ use Rattle.history_law.proofs.Leading.{AreFlat, Leads, Silent, Heads, IsPending}
 
 -- ---- steps of lines
 
-abbrev HaveNoHead : List Line → Type 0
+abbrev pub HaveNoHead : List Line → Type 0
 HaveNoHead [] = Unit {0}
 HaveNoHead (l ∷ ls) = (is_head l ≡ false) × HaveNoHead ls
 
@@ -35,24 +35,24 @@ flat_and : (xs ys : List Line) → AreFlat xs → HaveNoHead ys → HaveNoHead (
 flat_and [] ys f h = h
 flat_and (x ∷ xs) ys f h = (f.0, flat_and xs ys f.2 h)
 
-sent_no_head : (n : ℕ) (ps : List Post) → HaveNoHead (sent_lines n ps)
+pub sent_no_head : (n : ℕ) (ps : List Post) → HaveNoHead (sent_lines n ps)
 unfolding sent_lines
 sent_no_head n [] = tt
 sent_no_head n (p ∷ ps) = (refl, sent_no_head (n + 1) ps)
 
-none_begins : (ls : List Line) → HaveNoHead ls → grouped ls ≡ record { loose = ls; steps = [] }
+pub none_begins : (ls : List Line) → HaveNoHead ls → grouped ls ≡ record { loose = ls; steps = [] }
 unfolding grouped
 none_begins [] h = refl
 none_begins (l ∷ ls) h =
     ap (λ (b : Bool). grouped_with b l (grouped ls)) h.0 ∙ ap (grouped_with false l) (none_begins ls h.1)
 
-one_step : (l : Line) (ls : List Line) → is_head l ≡ true → HaveNoHead ls
+pub one_step : (l : Line) (ls : List Line) → is_head l ≡ true → HaveNoHead ls
     → grouped (l ∷ ls) ≡ record { loose = []; steps = record { head = l; rest = ls } ∷ [] }
 unfolding grouped
 one_step l ls head h =
     ap (λ (b : Bool). grouped_with b l (grouped ls)) head ∙ ap (grouped_with true l) (none_begins ls h)
 
-two_steps : (e : Event) (l : Line) (ls : List Line) → is_head l ≡ true → HaveNoHead ls
+pub two_steps : (e : Event) (l : Line) (ls : List Line) → is_head l ≡ true → HaveNoHead ls
     → steps_of (line.Event e ∷ l ∷ ls)
     ≡ record { head = line.Event e; rest = [] } ∷ record { head = l; rest = ls } ∷ []
 unfolding grouped

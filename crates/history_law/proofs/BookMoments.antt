@@ -16,6 +16,7 @@ use Rattle.world_history.specs.Book.{ServerSeen, server_seen}
 use Rattle.world_history.specs.Laws.{ServerGoesOn, AllLinesGoOn}
 use Rattle.world_history.proofs.Always.{opening}
 use Rattle.world_history.proofs.ReadMessages.{never_opens}
+use Rattle.move_law.proofs.Moments.{no_event}
 use Rattle.history_law.proofs.Histories.{stands, kept_part}
 use Rattle.history_law.specs.BookMoments.{IsMoment, lines_so_far, with_event, lines_in}
 use Rattle.history_law.specs.Doing.{did_in}
@@ -24,18 +25,10 @@ use Rattle.history_law.proofs.Staying.{written_front}
 use Rattle.history_law.proofs.Following.{IsServerRead, IsFollowed, followed, is_new, rule_read, opens_read}
 
 -- what an event still has to do behind its first move
-later_rule : (r : Rule) (ms : List Move)
+pub later_rule : (r : Rule) (ms : List Move)
     → (q : Rule) × (plan_after (record { opening = None; rule = r }) ms ≡ record { opening = None; rule = q })
 later_rule r [] = (r, refl)
 later_rule r (m ∷ ms) = later_rule (rule_after r m.action) ms
-
--- no event begins behind it
-no_event : (w : World) (r : Rule) (action : Action) (ls : List Line) → due_by w r ≡ Some action
-    → with_event action ls ≡ ls
-no_event w r (Delivers number) ls d = refl
-no_event w r (TimesOut c component) ls d = refl
-no_event w r (Pends c) ls d = refl
-no_event w r (Opens e) ls d = absurd (never_opens w r e d)
 
 module _ (on : ServerGoesOn) (all : AllLinesGoOn) where
   at_moves : (v : World) (h : List Line) (e : Event) (ms : List Move) → StandsFor v h → refusal v e ≡ None

@@ -53,7 +53,7 @@ by_action : (bytes : List ℕ) (o : Option Action) (c : Command) → with_action
 by_action bytes None c is = absurd (cc is)
 by_action bytes (Some a) c is = by_stray bytes a (stray bytes) c is
 
-unless_either : (b d : Bool) (x y : CommandErr) (r : Result Command CommandErr) (c : Command)
+pub unless_either : (b d : Bool) (x y : CommandErr) (r : Result Command CommandErr) (c : Command)
     → (if b then Err x else if d then Err y else r) ≡ Ok c → r ≡ Ok c
 unless_either true d x y r c is = absurd (cc is)
 unless_either false true x y r c is = absurd (cc is)

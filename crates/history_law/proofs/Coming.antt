@@ -251,7 +251,7 @@ sent_by false sent e o = absurd (cc o)
 -- ---- where nothing was guessed
 
 -- nothing was guessed before
-clean_before : (g : Guarded) (ls : List Line) → (fold guards g ls).unguessed ≡ true → g.unguessed ≡ true
+pub clean_before : (g : Guarded) (ls : List Line) → (fold guards g ls).unguessed ≡ true → g.unguessed ≡ true
 clean_before g [] e = e
 clean_before g (l ∷ ls) e = (and_parts g.unguessed (not (guessed_at g l)) (clean_before (guards g l) ls e)).0
 

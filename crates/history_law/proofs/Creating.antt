@@ -164,7 +164,7 @@ place_create ds f k drive object nonce format named =
 
 -- ---- any other command names none
 
-numbered : (a : Action) → action_of (from_be_bytes w16 (to_be_bytes w16 (number_of a))) ≡ Some a
+pub numbered : (a : Action) → action_of (from_be_bytes w16 (to_be_bytes w16 (number_of a))) ≡ Some a
 numbered Create = refl
 numbered Read = refl
 numbered Write = refl

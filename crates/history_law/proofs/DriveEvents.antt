@@ -1,5 +1,4 @@
 -- The drives are read off every history, and of each line it is told what it may do.
-pub use Rattle.world_history.proofs.ReadMessages.{never_opens}
 use Rattle.std.proofs.Common.{◌≡◌, ◌==◌, ℕ, ◌++◌, ◌∷◌, [], List, Bool, true, false, Option, Some, None, IsSome, is_some, slice_get, option_map, refl, sym, ap, subst, ◌∙◌, append_assoc, inl, inr, if◌then◌else◌}
 use Rattle.std.proofs.lemmas.Bool.{cases_eq, eq-eqb, ne_eqb}
 use Rattle.osd_lists.proofs.Options.{none_there}

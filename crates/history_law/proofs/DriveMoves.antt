@@ -95,7 +95,7 @@ client_heard w c m (Some a) = either a.stopped
     either true = deaf_hand w
     either false = client_hand w c a m.from (for_client m)
 
-same_number : (k d : ℕ) → party.Drive k ≡ party.Drive d → k ≡ d
+pub same_number : (k d : ℕ) → party.Drive k ≡ party.Drive d → k ≡ d
 same_number k d is = cc is
 
 -- what isn't judged is for no drive that stands

@@ -40,7 +40,7 @@ use Rattle.history_law.proofs.Carried.{fits_read, same_read}
 pub same_ok : {A E : Type 0} (x y : A) (r : Result A E) → r ≡ Ok x → r ≡ Ok y → x ≡ y
 same_ok x y r is too = cc (sym is ∙ too)
 
-own_given : (client : ℕ) (r : Results) (given : LayoutGetOk) → layouts_in r ≡ Some given → GivesOwn client r
+pub own_given : (client : ℕ) (r : Results) (given : LayoutGetOk) → layouts_in r ≡ Some given → GivesOwn client r
     → IsGrantOf client given
 own_given client (results.LayoutGet (get.Granted ok)) given e own =
     let same : ok ≡ given = cc e in subst (IsGrantOf client) same own

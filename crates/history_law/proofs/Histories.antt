@@ -15,7 +15,7 @@ use Rattle.world_history.specs.Refusals.{refusal}
 use Rattle.world_history.proofs.Always.{opening, IsKept}
 
 -- a history and what a front of the lines behind it leaves out
-cut_at : (h whole last rest lines : List Line) → h ≡ whole ++ last → lines ≡ last ++ rest → whole ++ lines ≡ h ++ rest
+pub cut_at : (h whole last rest lines : List Line) → h ≡ whole ++ last → lines ≡ last ++ rest → whole ++ lines ≡ h ++ rest
 cut_at h whole last rest lines is split =
     ap (λ (l : List Line). whole ++ l) split ∙ sym (append_assoc whole last rest)
     ∙ ap (λ (l : List Line). l ++ rest) (sym is)

@@ -27,7 +27,7 @@ use Rattle.history_law.proofs.Spending.{free, effect_spent}
 
 -- ---- the row of a verdict applies
 
-row_applies : (p : Verdict → Bool) (b : Bool) (v w : Verdict) (rows : List Row) → p (if b then v else w) ≡ true
+pub row_applies : (p : Verdict → Bool) (b : Bool) (v w : Verdict) (rows : List Row) → p (if b then v else w) ≡ true
     → (p w ≡ true → list_any (λ (r : Row). p r.1 && r.0) rows ≡ true)
     → ((p v && b) || list_any (λ (r : Row). p r.1 && r.0) rows) ≡ true
 row_applies p true v w rows e rest = rw e refl
@@ -38,7 +38,7 @@ row_applies p false v w rows e rest = either (p v) (rest e)
     either true is = is
     either false is = is
 
-first_applies : (p : Verdict → Bool) (rows : List Row) → p verdict.Perform ≡ false → p (first_row rows) ≡ true
+pub first_applies : (p : Verdict → Bool) (rows : List Row) → p verdict.Perform ≡ false → p (first_row rows) ≡ true
     → list_any (λ (r : Row). p r.1 && r.0) rows ≡ true
 first_applies p [] none e = absurd (cc (sym e ∙ none))
 first_applies p (r ∷ rows) none e =
@@ -104,7 +104,7 @@ tag_there c (Some x) t b e =
     same : nat_eq x.tag t ≡ true → x.tag ≡ t
     same is = grind (arith, is, nat_tests)
 
-result_done : (a : Action) (s : StoreState) (c : Command) → (result_of a s c).verdict ≡ 0
+pub result_done : (a : Action) (s : StoreState) (c : Command) → (result_of a s c).verdict ≡ 0
 result_done action.Create s c = refl
 result_done action.Read s c = refl
 result_done action.Write s c = refl

@@ -88,7 +88,7 @@ early_own client go next format now g Unable is = told_none client _ refl
 early_own client go next format now g (Waits k) is = told_none client _ refl
 early_own client go next format now g On is = grants_own client go next format now g is
 
-asked_client : (f : Kept) (number client now offset count : ℕ) (b : Bool)
+pub asked_client : (f : Kept) (number client now offset count : ℕ) (b : Bool)
     → (asked f number client now offset count b).client ≡ client
 unfolding asked
 asked_client f number client now offset count b = refl

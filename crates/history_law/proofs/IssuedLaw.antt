@@ -36,10 +36,11 @@ use Rattle.history_law.proofs.Carried.{read_again, none_read}
 use Rattle.history_law.proofs.Exact.{grant_read, exact_read}
 use Rattle.history_law.proofs.IssueLines.{Carries, CarriesAt, IsKnown, all_known}
 use Rattle.history_law.proofs.Messages.{SentCarries, AllCarry, all_carry}
+use Rattle.history_law.proofs.DriveMoves.{same_number}
 
 -- ---- a capability that allows nothing isn't performed
 
-nothing_allowed : (a : Action) → nat_eq (bit_and no_capability.rights (right_of a)) 0 ≡ true
+pub nothing_allowed : (a : Action) → nat_eq (bit_and no_capability.rights (right_of a)) 0 ≡ true
 nothing_allowed Create = refl
 nothing_allowed Read = refl
 nothing_allowed Write = refl
@@ -110,16 +111,13 @@ by_sender before l d bytes n m (party.Client c) all found from to are who p =
     inr (c, issued before l c d bytes all k p)
 by_sender before l d bytes n m (party.Drive k) all found from to are who p = absurd who
 
-same_drive : (a b : ℕ) → party.Drive a ≡ party.Drive b → a ≡ b
-same_drive a b e = cc e
-
 delivered_issued : (before : List Line) (n : ℕ) → IsDelivered before n (Judged Perform)
     → ComesAt before (line.Delivered n (Judged Perform)) → AllCarry (sent_in before)
     → IssuedAt before (line.Delivered n (Judged Perform))
 delivered_issued before n p comes all m d found to =
     let same : p.message ≡ m = same_Some p.message m (sym p.sent ∙ found) in
     let here : p.tells.0 ≡ d =
-    same_drive p.tells.0 d (sym p.tells.1 ∙ ap (λ (x : Sent). x.to) same ∙ to) in
+    same_number p.tells.0 d (sym p.tells.1 ∙ ap (λ (x : Sent). x.to) same ∙ to) in
     let l : Line = line.Delivered n (Judged Perform) in
     let judged : Judges before l d m.bytes Perform = subst (λ (k : ℕ). Judges before l k m.bytes Perform) here
     (subst (λ (x : Sent). Judges before l p.tells.0 x.bytes Perform) same p.tells.2) in

@@ -15,6 +15,7 @@ use Rattle.history_law.proofs.Each.{EachBehind}
 use Rattle.history_law.specs.Granted.{SpellsOwn}
 use Rattle.history_law.proofs.Growing.{Grows, line_grows}
 use Rattle.history_law.proofs.IssueLines.{Carries, CarriesAt, wider_carries}
+use Rattle.history_law.proofs.Coming.{sent_behind}
 
 -- what a client sent to a drive is such, and what the server sent to a client gives it its own
 abbrev pub SentCarries : List Sent → Party → Party → List ℕ → Type 0
@@ -130,10 +131,6 @@ line_carries before (line.Delivered k del) all here n m found =
 line_carries before l all here n m found = all n m found
 
 -- ---- all lines
-
-pub sent_behind : (before : List Line) (l : Line) → sent_in (before ++ l ∷ []) ≡ sent_after (sent_in before) l
-unfolding sent_in
-sent_behind before l = fold-append sent_after [] before (l ∷ [])
 
 lines_carried : (before lines : List Line) → AllCarry (sent_in before) → EachBehind CarriesAt before lines
     → AllCarry (sent_in (before ++ lines))

@@ -77,7 +77,7 @@ rows_mono m g s t l =
 abbrev IsIn : (unit : ℕ) → Stripes → (x : ℕ) → Type 0
 IsIn unit rows x = (rows.first * unit ≤ x) × (x < rows.first * unit + (rows.end - rows.first) * unit)
 
-joined : (p q u : ℕ) → p ≤ q → p * u + (q - p) * u ≡ q * u
+pub joined : (p q u : ℕ) → p ≤ q → p * u + (q - p) * u ≡ q * u
 joined p q u l =
     let whole : p + (q - p) ≡ q = omega (arith, l) in sym (add-mul p (q - p) u) ∙ ap (λ (n : ℕ). n * u) whole
 

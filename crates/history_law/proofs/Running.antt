@@ -22,7 +22,7 @@ use Rattle.history_law.proofs.HistoryGoing.{Clients, Served, Rests, Steps, Calle
 
 -- ---- one input more
 
-server_more : (s : Server) (acts : List Act) (a : Act)
+pub server_more : (s : Server) (acts : List Act) (a : Act)
     → state_after s (acts ++ a ∷ []) ≡ (step (state_after s acts) a.chosen a.input).state
 server_more s [] a = refl
 server_more s (b ∷ acts) a = server_more (step s b.chosen b.input).state acts a

@@ -63,7 +63,7 @@ by_capability : (o : ObjectCred) (r : Result Capability CapErr) (l : Listed) (cr
 by_capability o (Err x) l cr read e f = absurd (cc e)
 by_capability o (Ok c) l cr read e f = by_key o c (key_of c.format o.oc_capability_key) l cr read refl e f
 
-unless_far : (b : Bool) (x : Option Listed) (l : Listed) → (if b then None else x) ≡ Some l → x ≡ Some l
+pub unless_far : (b : Bool) (x : Option Listed) (l : Listed) → (if b then None else x) ≡ Some l → x ≡ Some l
 unless_far true x l e = absurd (cc e)
 unless_far false x l e = e
 
@@ -191,11 +191,11 @@ pub record IsTaken (a : Answer) (h : Held) : Type 0 where
   pub body : whole layout_in segment.body ≡ Ok layout
   pub components : all_listed layout.olo_components ≡ Some h.components
 
-same_grant : (b : Bool) (h k : Held) → (if b then Err BadCredential else Ok h) ≡ Ok k → h ≡ k
+pub same_grant : (b : Bool) (h k : Held) → (if b then Err BadCredential else Ok h) ≡ Ok k → h ≡ k
 same_grant true h k e = absurd (cc e)
 same_grant false h k e = cc e
 
-enough_same : (h k : Held) (op : CallOp) → enough h op ≡ Ok k → h ≡ k
+pub enough_same : (h k : Held) (op : CallOp) → enough h op ≡ Ok k → h ≡ k
 unfolding enough
 enough_same h k op e = same_grant ((is_write op || h.reach.rw) && is_lacking h op) h k e
 

@@ -19,7 +19,7 @@ use Rattle.world_history.specs.Guesses.{opens_with, unguessed}
 use Rattle.world_history.specs.Reading.{sent_in}
 use Rattle.world_history.specs.ReadDrives.{DriveSeen, sees_drive, drive_seen, drive_after}
 use Rattle.history_law.specs.Judging.{Judges, JudgesAt, injected_in}
-use Rattle.history_law.proofs.Coming.{opens_clear, opened_were_sent}
+use Rattle.history_law.proofs.Coming.{opens_clear, opened_were_sent, sent_behind}
 use Rattle.history_law.proofs.Each.{EachBehind, ArisesAt, HoldsAt, judges_of, arises_of, each_front, at_each_line}
 use Rattle.history_law.proofs.Histories.{lawful}
 use Rattle.history_law.proofs.Replying.{is_performed}
@@ -29,7 +29,7 @@ use Rattle.history_law.proofs.Exact.{same_ok, grant_read, exact_listed}
 use Rattle.history_law.proofs.Growing.{history_grows, still_given}
 use Rattle.history_law.proofs.IssuedLaw.{allowed, answered, by_sender}
 use Rattle.history_law.proofs.IssueLines.{CarriesAt, IsKnown, all_known}
-use Rattle.history_law.proofs.Messages.{AllCarry, all_carry, sent_behind}
+use Rattle.history_law.proofs.Messages.{AllCarry, all_carry}
 
 -- ---- what is performed is opened
 

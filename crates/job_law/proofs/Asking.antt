@@ -177,7 +177,7 @@ in_lost_from ks [] k at i there = absurd i
 in_lost_from ks (x ∷ cs) k at i there =
     lost_or (among k ks) at x (lose_from ks cs (k + 1)) cs (in_lost_from ks cs (k + 1) at) i there
 
-in_lost_on : (drive : ℕ) (cs : List Component) (at : Component) → In at (lose_on drive cs) → at.missing ≡ false
+pub in_lost_on : (drive : ℕ) (cs : List Component) (at : Component) → In at (lose_on drive cs) → at.missing ≡ false
     → In at cs × (at.drive ≡ drive → ⊥)
 unfolding lose_on
 in_lost_on drive [] at i there = absurd i

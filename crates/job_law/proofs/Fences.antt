@@ -190,12 +190,12 @@ raises_each f (at ∷ cs) k nonce a i =
     raises_or (not at.missing && true) f.tag _ _ _ (record { action = refl; tagged = refl; holder = refl })
     (raises_each f cs (k + 1) (nonce + 1)) (raises_each f cs (k + 1) nonce) a i
 
-first_asked : (b : Bool) (x : Awaited) (ws bs : List Awaited) (at : Component) → b ≡ true → x.drive ≡ at.drive
+pub first_asked : (b : Bool) (x : Awaited) (ws bs : List Awaited) (at : Component) → b ≡ true → x.drive ≡ at.drive
     → x.command.object ≡ at.object → IsAsked (if b then x ∷ ws else bs) at
 first_asked true x ws bs at e drive object = (x, inl refl, drive, object)
 first_asked false x ws bs at e drive object = absurd (cc e)
 
-later_asked : (b : Bool) (x : Awaited) (ws bs : List Awaited) (at : Component) → IsAsked ws at → IsAsked bs at
+pub later_asked : (b : Bool) (x : Awaited) (ws bs : List Awaited) (at : Component) → IsAsked ws at → IsAsked bs at
     → IsAsked (if b then x ∷ ws else bs) at
 later_asked true x ws bs at (a, i, drive, object) less = (a, inr i, drive, object)
 later_asked false x ws bs at more less = less

@@ -30,7 +30,7 @@ fences_is (Fills t ps) e = absurd (cc e)
 fences_is Lengths e = absurd (cc e)
 fences_is (Checks ps t) e = absurd (cc e)
 
-found_in : (p : Awaited → Bool) (ws : List Awaited) (a : Awaited) → find p ws ≡ Some a → In a ws × (p a ≡ true)
+pub found_in : (p : Awaited → Bool) (ws : List Awaited) (a : Awaited) → find p ws ≡ Some a → In a ws × (p a ≡ true)
 found_in p [] a e = absurd (cc e)
 found_in p (x ∷ ws) a e = either (p x) refl (found_in p ws a) e
   where
@@ -43,7 +43,7 @@ found_in p (x ∷ ws) a e = either (p x) refl (found_in p ws a) e
     either false is rest f = let r = rest f in (inr r.0, r.1)
 
 -- only a WRITE finds no space
-full_is_write : (f : Kept) (a : Awaited) (r : Reply) → hearing f a r ≡ Full → is_write a.command.action ≡ true
+pub full_is_write : (f : Kept) (a : Awaited) (r : Reply) → hearing f a r ≡ Full → is_write a.command.action ≡ true
 unfolding hearing
 full_is_write f a r e = by_old (r.verdict == 17) e
   where
@@ -62,7 +62,7 @@ full_is_write f a r e = by_old (r.verdict == 17) e
     by_old true x = absurd (cc x)
     by_old false x = by_full (is_write a.command.action) (r.verdict == 11) refl x
 
-done_is_done : (f : Kept) (a : Awaited) (r : Reply) → hearing f a r ≡ Done → is_done f a r ≡ true
+pub done_is_done : (f : Kept) (a : Awaited) (r : Reply) → hearing f a r ≡ Done → is_done f a r ≡ true
 unfolding hearing
 done_is_done f a r e = by_old (r.verdict == 17) e
   where
@@ -111,7 +111,7 @@ goes_renews g j a here there = record {
 }
 
 -- no other command of the job has the nonce of this one
-abbrev IsAlone : List Awaited → Awaited → Type 0
+abbrev pub IsAlone : List Awaited → Awaited → Type 0
 IsAlone ws a = (x : Awaited) → In x ws → x.command.nonce ≡ a.command.nonce → x ≡ a
 
 -- what a fence of this tag waits for

@@ -90,11 +90,11 @@ either_step : (R : Reached) (given : Type 0) (s : Server) (b : Bool) (x y : Step
 either_step R given s true x y p q = p
 either_step R given s false x y p q = q
 
-no_answer : (a : Answer) (drive : ℕ) (c : Command) → In (ToDrive drive c) (Answers a ∷ []) → ⊥
+pub no_answer : (a : Answer) (drive : ℕ) (c : Command) → In (ToDrive drive c) (Answers a ∷ []) → ⊥
 no_answer a drive c (inl e) = cc e
 no_answer a drive c (inr i) = i
 
-no_recall : (n : ℕ) (gs : List Grant) (drive : ℕ) (c : Command) → In (ToDrive drive c) (recalls_from n gs) → ⊥
+pub no_recall : (n : ℕ) (gs : List Grant) (drive : ℕ) (c : Command) → In (ToDrive drive c) (recalls_from n gs) → ⊥
 unfolding recalls_from
 no_recall n [] drive c i = i
 no_recall n (g ∷ gs) drive c (inl e) = cc e

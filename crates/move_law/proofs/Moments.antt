@@ -24,7 +24,7 @@ later_rule : (r : Rule) (ms : List Move)
 later_rule r [] = (r, refl)
 later_rule r (m ∷ ms) = later_rule (rule_after r m.action) ms
 
-no_event : (w : World) (r : Rule) (action : Action) (ls : List Line) → due_by w r ≡ Some action
+pub no_event : (w : World) (r : Rule) (action : Action) (ls : List Line) → due_by w r ≡ Some action
     → with_event action ls ≡ ls
 no_event w r (Delivers number) ls d = refl
 no_event w r (TimesOut c component) ls d = refl

@@ -10,15 +10,13 @@ use Rattle.scenario_text.specs.declared.event.Event.{Event}
 use Rattle.scenario_text.specs.declared.event.Event.TheVariants as event
 use Rattle.scenario_text.specs.Spelling.{Fits}
 use Rattle.history_law.specs.Read.{is_written}
+use Rattle.exchange_law.proofs.CountWorlds.{one_or_two}
 use Rattle.history_claims.specs.Texts.{EventsFit}
 use Rattle.osd_replay.specs.Replay.{HasEvents}
 use Rattle.osd_replay.specs.Generator.{makes_drive, makes_file, call_event, calls_from, next_random, offset_of, length_of, opening, scenario_of}
 
 below_64 : (n : ℕ) → n < 64 → nat_lt n 64 ≡ true
 below_64 n l = grind (arith, nat_tests, l)
-
-one_or_two : (n : ℕ) → 1 ≤ n → n ≤ 2 → is_format n ≡ true
-one_or_two n a b = grind (arith, nat_tests, a, b)
 
 -- what a line spells
 pub fits_written : (e : Event) → Fits e → is_written e ≡ true

@@ -168,7 +168,7 @@ meets u low high b some lt w =
     double e f (inr (inl x)) = inr x.0
     double e f (inr (inr x)) = absurd x
 
-in_is : (r : Span) (p : ℕ) → r.offset ≤ p → p < end_of r → in_range r p ≡ true
+pub in_is : (r : Span) (p : ℕ) → r.offset ≤ p → p < end_of r → in_range r p ≡ true
 in_is r p from to = rw (le-leb r.offset p from, lt-ltb p (end_of r) to) refl
 
 -- a touched stripe has bytes of the range

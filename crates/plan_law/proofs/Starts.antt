@@ -30,6 +30,7 @@ use Rattle.plan_law.proofs.Cells.{with_parity, is_coded, is_plain, col_coded, co
 use Rattle.plan_law.proofs.Codes.{words_same, data_word, all_data}
 use Rattle.plan_law.proofs.Payloads.{changed_low, changed_high, range_means, any_is, payloads_are_right}
 use Rattle.plan_law.proofs.Outs.{one_there, component_there}
+use Rattle.plan_law.proofs.Intervals.{in_is}
 
 -- ---- new bytes
 
@@ -42,9 +43,6 @@ new_inside r bytes p v long e = elim (cases_lt p r.offset) [
     | inr past ↦ absurd (cc (sym (byte_behind r.offset bytes p from (omega (arith, long, past))) ∙ e))
   ]
 ]
-
-in_is : (r : Span) (p : ℕ) → r.offset ≤ p → p < end_of r → in_range r p ≡ true
-in_is r p from to = rw (le-leb r.offset p from, lt-ltb p (end_of r) to) refl
 
 new_range : (r : Span) (bytes : List ℕ) (p v : ℕ) → length bytes ≡ r.length → byte_for r.offset bytes p ≡ Some v →
     in_range r p ≡ true

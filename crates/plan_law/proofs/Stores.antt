@@ -33,7 +33,7 @@ use Rattle.plan_law.specs.Sending.{MayScatter, StoresAreRight}
 use Rattle.plan_law.proofs.Cells.{stands_at, position_again, offset_again, unit_inside}
 use Rattle.plan_law.proofs.Payloads.{changed_low, changed_high, range_means, any_touched, payloads_are_right}
 use Rattle.plan_law.proofs.Intervals.{Every, every_append, IsPart, of_part, changed_parts, range_own, changed_is}
-use Rattle.plan_law.proofs.Written.{place_is, word_for, got_for, written_for, written_got}
+use Rattle.plan_law.proofs.Written.{place_is, word_for, got_for, written_for, written_got, place_at}
 
 -- ---- asks
 
@@ -124,9 +124,6 @@ components m p j c below from to =
       ap (λ x. x / replicas m) at ∙ div-mul-add p (replicas m) (j - p * replicas m) (omega (arith, from, to)),
       omega (arith, to, replicas_inside m p c below),
     )
-
-place_at : (m : RawMap) (s i : ℕ) → i < group_width m → position_of m s (unit_in m s i) ≡ group_of m s * group_width m + i
-place_at m s i lt = omega (arith, turned_again m s i lt)
 
 place_asks : (m : RawMap) (r : Span) (out : List ℕ) (s i : ℕ) → IsChecked m → i < group_width m → IsTouchedStripe m r s →
     Every (IsForAsk m r out) (asks_place Scatters m r out [] s i)

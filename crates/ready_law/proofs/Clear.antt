@@ -26,6 +26,7 @@ use Rattle.osd_drive.specs.State.{DriveState, view_of}
 use Rattle.osd_drive.specs.Table.{is_create, is_write, is_set_attr, is_set_tag, has_range, has_value, of_object, of_lane, has_old_format, has_no_key, fails_check, has_wrong_check, is_expired, has_no_right, is_elsewhere, is_out_of_range, lacks_object, finds_object, has_other_tag, passes_limit, lacks_space, lacks_lane, is_stale, lacks_attribute, is_repeated, is_mutating, tag_of, nonce_of, Row, first_row, NoneApplies, first_fault}
 use Rattle.osd_drive.specs.Effects.{lane_for, effect_of, result_of, kept_reply, reply_by}
 use Rattle.world_history.specs.Told.{told_verdict}
+use Rattle.history_law.proofs.HistoryTelling.{result_done}
 use Rattle.exchange_law.specs.LaneTaken.{is_of_lanes}
 use Rattle.ready_law.specs.Clear.{ReadsOrWrites, IsClear, ClearCommandsAreCarriedOut, HasRoomTo, RoomStays}
 
@@ -214,14 +215,6 @@ module _ (d : DriveState) (now : ℕ) (c : Command) (x : IsClear d now c) where
 
 -- ---- replies
 
-told_performed : (a : Action) (s : StoreState) (c : Command) → (result_of a s c).verdict ≡ 0
-told_performed Create s c = refl
-told_performed Read s c = refl
-told_performed Write s c = refl
-told_performed GetAttr s c = refl
-told_performed SetAttr s c = refl
-told_performed SetTag s c = refl
-
 nonce_performed : (a : Action) (s : StoreState) (c : Command) → (result_of a s c).nonce ≡ c.nonce
 nonce_performed Create s c = refl
 nonce_performed Read s c = refl
@@ -252,7 +245,7 @@ clear_commands_are_carried_out d now c x = elim (cases_Bool (is_repeated (view_o
       fault d now c x ∙ ap (λ (b : Bool). if b then verdict.Again else verdict.Perform) f in
       record {
         verdict = inl performs;
-        told = ap (λ (v : Verdict). (reply_by v d c).verdict) performs ∙ told_performed c.action d.store c;
+        told = ap (λ (v : Verdict). (reply_by v d c).verdict) performs ∙ result_done c.action d.store c;
         nonce = ap (λ (v : Verdict). (reply_by v d c).nonce) performs ∙ nonce_performed c.action d.store c;
       }
 ]

@@ -18,6 +18,7 @@ use Rattle.world_history.specs.ServerNames.{Component}
 use Rattle.server_rules.specs.Maps.{group_with, rows_below, stands_in}
 use Rattle.server_rules.specs.Standing.{replica_from, replica, lacking, is_beyond, lacked_from}
 use Rattle.exchange_law.proofs.PlaceRows.{rows_to, rows_from}
+use Rattle.exchange_law.proofs.HeldTaken.{below_product}
 use Rattle.ready_law.specs.Ready.{Scene, is_lost, lost_from, lost_of}
 use Rattle.ready_law.specs.Enough.{AreMissingAmong, LostAreListed, NoneIsLacked}
 
@@ -93,12 +94,6 @@ there cs k inside = elim (slice_get_cases cs k).1 [
   | inr y ↦ absurd (omega (arith, y.0, inside))
 ]
 
-div_below : (k n r : ℕ) → k < n * r → k / r < n
-div_below k n r l = elim (cases_lt (k / r) n) [
-  | inl less ↦ less
-  | inr more ↦ absurd (omega (arith, mul-le-mul_right r more, div-add-mod' k r, l))
-]
-
 -- ---- a stripe of a group in a range
 
 stripe_there : (m : RawMap) (g first end : ℕ) → IsChecked m → g < groups m → stands_in m g first end ≡ true
@@ -172,8 +167,8 @@ module _ (m : RawMap) (cs : List Component) (lost : List ℕ) (ch : IsChecked m)
   group_below : (k : ℕ) → k < m.comps → group_with m k < groups m
   group_below k l =
       let position : k / replicas m < positions m =
-      div_below k (positions m) (replicas m) (omega (arith, l, whole_positions m ch)) in
-      div_below (k / replicas m) (groups m) (group_width m) (omega (arith, position, whole_groups m ch))
+      below_product k (positions m) (replicas m) (omega (arith, l, whole_positions m ch)) in
+      below_product (k / replicas m) (groups m) (group_width m) (omega (arith, position, whole_groups m ch))
 
   module _ (first end : ℕ) (enough : (s : ℕ) → first ≤ s → s < end → is_short m lost s ≡ false) where
     few_out : (s : ℕ) → is_short m lost s ≡ false → length (positions_out m lost (group_of m s)) ≤ parities m

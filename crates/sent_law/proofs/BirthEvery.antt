@@ -11,12 +11,12 @@ use Rattle.job_law.specs.Names.{Command, ToDrive, Server, File, Drive}
 use Rattle.server_rules.proofs.Members.{in_either}
 use Rattle.job_law.proofs.Files.{in_add, add_there, in_drives}
 use Rattle.sent_law.proofs.Numbers.{in_new}
-use Rattle.sent_law.proofs.Going.{with_owner, owner_below, owner_from}
 use Rattle.sent_law.specs.Standing.{is_running}
 use Rattle.sent_law.proofs.BirthEnds.{IsFine, fine_later}
 use Rattle.sent_law.proofs.BirthJobs.{ends_making}
 use Rattle.sent_law.proofs.BirthGoing.{AreFine, IsSent, sent_of, Keeps, idle, goes_at, begun}
 use Rattle.sent_law.proofs.BirthSteps.{kept_cases}
+use Rattle.sent_law.proofs.ObjectSteps.{with_owner, owner_below, owner_from}
 use Rattle.move_law.proofs.Steps.{each_step}
 
 -- ---- making

@@ -17,9 +17,9 @@ use Rattle.server_rules.proofs.Members.{in_either, in_mapped, in_filtered}
 use Rattle.job_law.specs.Names.{Repairing, Fenced, Component, Awaited, Heard, Piece, Target, Job, JobKind, Making, Revoking, Rebuilding, Auditing, Work, Creates, Fences, Fetches, Stores, Targets, Gathers, Fills, Lengths, Checks, Tally, Rebuilt, NoDrive, NoSpace, Reply}
 use Rattle.sent_law.specs.Objects.{objects_of, target_in, target_of}
 use Rattle.sent_law.proofs.Numbers.{in_set, objects_set, objects_from, objects_on}
-use Rattle.sent_law.proofs.Going.{with_owner, owner_below, owner_from}
 use Rattle.sent_law.proofs.BirthSent.{IsBorn, IsAsked, AllAsked, AllNew, is_creating, one_asked, asked_for, each_asked, stores_asked, repair_asked, sources_asked}
 use Rattle.sent_law.proofs.BirthEnds.{IsAim, born_later, AllSent, Owns, Holds, Ends, holds_on}
+use Rattle.sent_law.proofs.ObjectSteps.{with_owner, owner_below, owner_from}
 
 module _ (birth : ℕ → ℕ) (n : ℕ) (before : List Awaited) where
   abbrev Own : Going → Type 0

@@ -12,8 +12,8 @@ use Rattle.server_rules.specs.Jobs.{declares, fence_begins}
 use Rattle.job_law.specs.Names.{Command, ToDrive, Server, File, Drive, Effects, ClientRequest, Awaited, OrderKind}
 use Rattle.server_rules.proofs.Members.{in_either}
 use Rattle.job_law.proofs.Files.{found_file, in_drives}
+use Rattle.job_law.proofs.Steps.{no_answer, no_recall}
 use Rattle.sent_law.proofs.ObjectSteps.{Agree}
-use Rattle.sent_law.proofs.Going.{answers_alone, no_recall}
 use Rattle.sent_law.proofs.PhaseSteps.{found_in}
 use Rattle.sent_law.proofs.BirthEnds.{IsFine, born_later, fine_later, AllSent, Ends, holds_on}
 use Rattle.sent_law.proofs.BirthJobs.{ends_fence, ends_hears, ends_declares}
@@ -116,9 +116,9 @@ module _ (birth : ℕ → ℕ) (s : Server) (own : AreFine birth s) where
 
   requests : (now : ℕ) (chosen : List ℕ) (q : ClientRequest) → RequestCases s now chosen q IsKept
   requests now chosen q = record {
-    again = λ kept is. answer_kept _ refl refl (answers_alone _);
-    misordered = λ expected is. answer_kept _ refl refl (answers_alone _);
-    without = λ new none. answer_kept _ refl refl (answers_alone _);
+    again = λ kept is. answer_kept _ refl refl (no_answer _);
+    misordered = λ expected is. answer_kept _ refl refl (no_answer _);
+    without = λ new none. answer_kept _ refl refl (no_answer _);
     served = λ new f found.
         let v = serves (at_file s chosen f) s.next_grant s.format now q.client q.args in
         goes_at birth s own q.file v.going (carried_out s q v) refl refl
@@ -126,7 +126,7 @@ module _ (birth : ℕ → ℕ) (s : Server) (own : AreFine birth s) where
           | inl j ↦ j
           | inr j ↦ elim (in_either (ToDrive drive c) (recalls_from s.next_recall v.recalled) _ j) [
             | inl k ↦ absurd (no_recall s.next_recall v.recalled drive c k)
-            | inr k ↦ absurd (answers_alone _ drive c k)
+            | inr k ↦ absurd (no_answer _ drive c k)
           ]
         ])
         (ends_served birth s.next_object [] (at_file s chosen f) s.next_grant s.format now q.client q.args

@@ -6,7 +6,8 @@ use Rattle.server_rules.specs.Messages.{awaited_by}
 use Rattle.job_law.specs.Names.{Kept, Command, Component, Awaited, Target, Job, Work, Fetches, Stores}
 use Rattle.sent_law.specs.Objects.{objects_of, target_of, NoneIs, AllDiffer}
 use Rattle.sent_law.specs.Tagged.{fence_open, IsBehind}
-use Rattle.sent_law.proofs.Sent.{IsUsed, IsMine, AllMine, AllUsed}
+use Rattle.sent_law.proofs.Sent.{IsMine, AllMine, AllUsed}
+use Rattle.sent_law.proofs.ObjectJobs.{IsUsed}
 
 -- ---- what holds in the middle of a step
 

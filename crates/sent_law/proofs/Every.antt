@@ -13,10 +13,10 @@ use Rattle.server_rules.proofs.FileLaws.{not_there}
 use Rattle.server_rules.proofs.Members.{in_either, in_mapped}
 use Rattle.job_law.specs.Names.{Command, ToDrive, Server, File, Drive, Refusal}
 use Rattle.job_law.proofs.Files.{in_add, add_there, in_drives}
-use Rattle.sent_law.proofs.ObjectSteps.{Agree}
+use Rattle.sent_law.proofs.ObjectSteps.{Agree, with_owner, owner_below, owner_from}
 use Rattle.sent_law.proofs.Numbers.{in_new, new_differ}
 use Rattle.sent_law.proofs.PhaseJobs.{ends_making}
-use Rattle.sent_law.proofs.Going.{with_owner, owner_below, owner_from, IsFine, AreFine, fine_later, Mine, mine_fresh, IsFrom, IsSent, sent_of, Steps, idle, stays, either_step, goes_at, begun}
+use Rattle.sent_law.proofs.Going.{IsFine, AreFine, fine_later, Mine, mine_fresh, IsFrom, IsSent, sent_of, Steps, idle, stays, either_step, goes_at, begun}
 use Rattle.sent_law.proofs.PhaseSteps.{opened_each, round_keeps, obeyed, heard_message}
 
 -- ---- making, crashing, opening

@@ -9,24 +9,13 @@ use Rattle.job_law.specs.Names.{Kept, Command, Grant, Answer, Answers, ToDrive, 
 use Rattle.job_law.specs.Numbered.{IsOf}
 use Rattle.job_law.proofs.Files.{in_put, put_there, in_drives}
 use Rattle.sent_law.specs.Objects.{target_of, IsOwned}
-use Rattle.sent_law.proofs.ObjectSteps.{Agree, owned_later}
+use Rattle.sent_law.proofs.ObjectSteps.{Agree, owned_later, with_owner, owner_below, owner_from}
 use Rattle.sent_law.specs.Tagged.{IsBehind}
-use Rattle.sent_law.proofs.Sent.{IsUsed, IsMine, AllMine}
+use Rattle.sent_law.proofs.Sent.{IsMine, AllMine}
 use Rattle.sent_law.proofs.Ends.{IsAim, AreClosed, Ends}
+use Rattle.sent_law.proofs.ObjectJobs.{IsUsed}
 
 -- ---- owners
-
--- numbers from n on are this file's
-unfoldable pub with_owner : (ℕ → ℕ) → (n number : ℕ) → ℕ → ℕ
-with_owner owner n number o = if nat_lt o n then owner o else number
-
-pub owner_below : (owner : ℕ → ℕ) (n number o : ℕ) → o < n → with_owner owner n number o ≡ owner o
-unfolding with_owner
-owner_below owner n number o less = rw (lt-ltb o n less) refl
-
-pub owner_from : (owner : ℕ → ℕ) (n number o : ℕ) → n ≤ o → with_owner owner n number o ≡ number
-unfolding with_owner
-owner_from owner n number o from = rw (le-ltb o n from) refl
 
 -- what a file has, and what its job awaits
 pub record IsFine (owner : ℕ → ℕ) (next : ℕ) (f : File) : Type 0 where
@@ -162,17 +151,6 @@ idle s t next files sent = record {
         (subst (λ (fs : List File). IsSent owner s.next_object fs c) (sym files) (sent owner h drive c i));
   };
 }
-
--- the answer alone
-pub answers_alone : (a : Answer) (drive : ℕ) (c : Command) → In (ToDrive drive c) (Answers a ∷ []) → ⊥
-answers_alone a drive c (inl e) = cc e
-answers_alone a drive c (inr i) = i
-
-pub no_recall : (n : ℕ) (gs : List Grant) (drive : ℕ) (c : Command) → In (ToDrive drive c) (recalls_from n gs) → ⊥
-unfolding recalls_from
-no_recall n [] drive c i = i
-no_recall n (g ∷ gs) drive c (inl e) = cc e
-no_recall n (g ∷ gs) drive c (inr i) = no_recall (n + 1) gs drive c i
 
 pub stays : (s : Server) → Steps s (still s)
 stays s = idle s (still s) refl refl (λ owner h drive c i. absurd i)

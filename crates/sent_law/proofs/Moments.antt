@@ -13,11 +13,13 @@ use Rattle.world_history.specs.State.{World, empty_world}
 use Rattle.world_history.specs.Moves.{Act, Action, Opens, Delivers, TimesOut, Pends, acts}
 use Rattle.world_history.specs.Sending.{Move, move}
 use Rattle.history_law.specs.BookMoments.{with_event, lines_in}
+use Rattle.history_law.proofs.Running.{server_more}
 use Rattle.exchange_law.specs.Doing.{said, posted}
 use Rattle.move_law.proofs.Goes.{moves_are_steps}
 use Rattle.exchange_law.proofs.SlotLists.{said_more}
 use Rattle.exchange_law.proofs.SlotMoments.{always}
 use Rattle.calm_law.specs.Naming.{IsNamed, IsNamedInput, AreNamed}
+use Rattle.calm_law.proofs.Lists.{each_end}
 use Rattle.sent_law.specs.Tagged.{sent_over}
 use Rattle.sent_law.specs.Standing.{is_running}
 use Rattle.sent_law.specs.Sent.{commanded, IsSentByRun, ServerSentItsRun}
@@ -33,16 +35,7 @@ pub each_second : {A : Type 0} (P : A → Type 0) (xs ys : List A) → Each P (x
 each_second P [] ys k = k
 each_second P (x ∷ xs) ys k = each_second P xs ys k.1
 
-each_more : {A : Type 0} (P : A → Type 0) (xs : List A) (y : A) → Each P xs → P y → Each P (xs ++ y ∷ [])
-each_more P [] y k p = (p, tt)
-each_more P (x ∷ xs) y k p = (k.0, each_more P xs y k.1 p)
-
 -- ---- a run with one act more
-
-server_more : (s : Server) (run : List ServerAct) (a : ServerAct)
-    → state_after s (run ++ a ∷ []) ≡ (step (state_after s run) a.chosen a.input).state
-server_more s [] a = refl
-server_more s (b ∷ run) a = server_more (step s b.chosen b.input).state run a
 
 sent_before : (s : Server) (run : List ServerAct) (a : ServerAct) (o : Outgoing) → In o (sent_over s run)
     → In o (sent_over s (run ++ a ∷ []))
@@ -109,8 +102,8 @@ module _ (w : World) (m : Move) (s : IsSentByRun w) where
         server =
             goes ∙ ap (λ (x : Server). (step x m.chosen i).state) s.server
             ∙ sym (server_more (new_server []) s.acts act);
-        named = each_more (λ (x : ServerAct). IsNamedInput x.input) s.acts act s.named comes.named;
-        running = each_more (λ (x : ServerAct). is_running x.input ≡ true) s.acts act s.running comes.runs;
+        named = each_end (λ (x : ServerAct). IsNamedInput x.input) s.acts act s.named comes.named;
+        running = each_end (λ (x : ServerAct). is_running x.input ≡ true) s.acts act s.running comes.runs;
         sends = λ d c j. told d c (s.acts ++ act ∷ []) (step w.server m.chosen i).sends tells
             (λ k. sent_before (new_server []) s.acts act (ToDrive d c) k)
             (λ k. sent_last (new_server []) s.acts act (ToDrive d c)

@@ -15,6 +15,7 @@ use Rattle.server_rules.specs.Openings.{opens_made, opens_spent, opens_fenced, i
 use Rattle.job_law.specs.Names.{Component, Awaited, Heard, Piece, Target, Job, JobKind, Making, Revoking, Rebuilding, Auditing, Work, Creates, Fences, Fetches, Stores, Targets, Gathers, Fills, Lengths, Checks, Tally, Rebuilt, NoDrive, NoSpace, Reply}
 use Rattle.sent_law.specs.Objects.{objects_of, target_in, target_of, NoneIs, AllDiffer}
 use Rattle.sent_law.proofs.Numbers.{none_above, in_set, set_differ, objects_set, objects_from, objects_on}
+use Rattle.sent_law.proofs.Ends.{IsAim}
 
 -- ---- what holds in the middle of a step
 
@@ -28,11 +29,6 @@ Owns P number n g =
     (g.file.kept.number ≡ number) × (n ≤ g.effects.object)
     × ((o : ℕ) → In o (objects_of g.file.kept.components) → IsUsed P g.effects.object o)
     × AllDiffer (objects_of g.file.kept.components)
-
--- and so is that of what is made anew, which is none of theirs
-abbrev pub IsAim : (P : ℕ → Type 0) → (next : ℕ) → List Component → Option Target → Type 0
-IsAim P m cs None = Unit {0}
-IsAim P m cs (Some t) = IsUsed P m t.object × NoneIs t.object (objects_of cs)
 
 abbrev pub Ends : (P : ℕ → Type 0) → (number n : ℕ) → Going → Type 0
 Ends P number n g = Owns P number n g × IsAim P g.effects.object g.file.kept.components (target_of g.file.job)

@@ -23,20 +23,21 @@ use Rattle.job_law.specs.Names.{Server, File, Target, Drive, Job, JobKind, Revok
 use Rattle.job_law.proofs.Files.{found_file, in_put, in_add, add_there}
 use Rattle.sent_law.specs.Objects.{target_of, IsOwned, AreOwned}
 use Rattle.sent_law.proofs.Numbers.{in_new, new_differ}
-use Rattle.sent_law.proofs.ObjectJobs.{IsAim, Ends, ends_making, ends_fence, ends_hears, ends_declares, ends_opens}
+use Rattle.sent_law.proofs.ObjectJobs.{Ends, ends_making, ends_fence, ends_hears, ends_declares, ends_opens}
 use Rattle.sent_law.proofs.ObjectServing.{ends_served}
+use Rattle.sent_law.proofs.Ends.{IsAim}
 
 -- ---- owners
 
 -- numbers from n on are this file's
-unfoldable with_owner : (ℕ → ℕ) → (n number : ℕ) → ℕ → ℕ
+unfoldable pub with_owner : (ℕ → ℕ) → (n number : ℕ) → ℕ → ℕ
 with_owner owner n number o = if nat_lt o n then owner o else number
 
-owner_below : (owner : ℕ → ℕ) (n number o : ℕ) → o < n → with_owner owner n number o ≡ owner o
+pub owner_below : (owner : ℕ → ℕ) (n number o : ℕ) → o < n → with_owner owner n number o ≡ owner o
 unfolding with_owner
 owner_below owner n number o less = rw (lt-ltb o n less) refl
 
-owner_from : (owner : ℕ → ℕ) (n number o : ℕ) → n ≤ o → with_owner owner n number o ≡ number
+pub owner_from : (owner : ℕ → ℕ) (n number o : ℕ) → n ≤ o → with_owner owner n number o ≡ number
 unfolding with_owner
 owner_from owner n number o from = rw (le-ltb o n from) refl
 

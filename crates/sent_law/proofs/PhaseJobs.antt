@@ -19,8 +19,9 @@ use Rattle.job_law.specs.Names.{Kept, Phase, Still, Fencing, Repairing, FencingA
 use Rattle.sent_law.specs.Objects.{objects_of, target_in, target_of, NoneIs, AllDiffer}
 use Rattle.sent_law.proofs.Numbers.{none_above, in_set, set_differ, objects_set, objects_from, objects_on}
 use Rattle.sent_law.specs.Tagged.{is_fence, fence_open, IsBehind}
-use Rattle.sent_law.proofs.Sent.{IsUsed, IsMine, AllMine, is_raising, one_mine, mine_for, each_mine, stores_mine, repair_mine, sources_mine}
+use Rattle.sent_law.proofs.Sent.{IsMine, AllMine, is_raising, one_mine, mine_for, each_mine, stores_mine, repair_mine, sources_mine}
 use Rattle.sent_law.proofs.Ends.{Sends, Owns, IsAim, IsClosed, AreClosed, Ends}
+use Rattle.sent_law.proofs.ObjectJobs.{IsUsed}
 
 module _ (P : ℕ → Type 0) (number n : ℕ) (fresh : (o : ℕ) → n ≤ o → P o) (k0 : Kept) (before : List Awaited) where
   abbrev Own : Going → Type 0

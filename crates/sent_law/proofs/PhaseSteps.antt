@@ -19,17 +19,18 @@ use Rattle.server_rules.specs.Jobs.{declares, fence_begins}
 use Rattle.server_rules.proofs.Members.{in_either}
 use Rattle.job_law.specs.Names.{Command, ToDrive, Server, File, Drive, Job, JobKind, Revoking, Rebuilding, Auditing, Effects, Reply, ClientRequest, Awaited, OrderKind, ToRecall, ToRevoke, ToDeclare, ToRebuild, ToAudit, Busy, Spent}
 use Rattle.job_law.proofs.Files.{found_file, in_drives}
-use Rattle.sent_law.proofs.ObjectSteps.{Agree}
+use Rattle.job_law.proofs.Steps.{no_answer, no_recall}
+use Rattle.sent_law.proofs.ObjectSteps.{Agree, with_owner, owner_below}
 use Rattle.sent_law.proofs.Ends.{Ends}
 use Rattle.sent_law.proofs.PhaseJobs.{ends_fence, ends_hears, ends_declares, ends_opens}
 use Rattle.sent_law.proofs.PhaseServing.{ends_served}
-use Rattle.sent_law.proofs.Going.{with_owner, owner_below, IsFine, mine_later, fine_later, Mine, mine_fresh, into, out, IsFrom, IsSent, Keeps, Steps, idle, answers_alone, no_recall, stays, either_step, goes_at, begun}
+use Rattle.sent_law.proofs.Going.{IsFine, mine_later, fine_later, Mine, mine_fresh, into, out, IsFrom, IsSent, Keeps, Steps, idle, stays, either_step, goes_at, begun}
 
 -- ---- a request
 
 pub carries : (s : Server) (now : ℕ) (chosen : List ℕ) (q : ClientRequest) (o : Option File) → file_at s.files q.file ≡ o
     → Steps s (carries_out s now chosen q o)
-carries s now chosen q None e = idle s _ refl refl (λ owner h drive c i. absurd (answers_alone _ drive c i))
+carries s now chosen q None e = idle s _ refl refl (λ owner h drive c i. absurd (no_answer _ drive c i))
 carries s now chosen q (Some f) e =
     let found = found_file s.files q.file f e in
     let v = serves (at_file s chosen f) s.next_grant s.format now q.client q.args in
@@ -38,7 +39,7 @@ carries s now chosen q (Some f) e =
       | inl j ↦ j
       | inr j ↦ elim (in_either (ToDrive drive c) (recalls_from s.next_recall v.recalled) _ j) [
         | inl k ↦ absurd (no_recall s.next_recall v.recalled drive c k)
-        | inr k ↦ absurd (answers_alone _ drive c k)
+        | inr k ↦ absurd (no_answer _ drive c k)
       ]
     ])
     (λ owner h.
@@ -48,9 +49,9 @@ carries s now chosen q (Some f) e =
 
 pub admitted : (s : Server) (now : ℕ) (chosen : List ℕ) (q : ClientRequest) (a : Admit) → Steps s (by_admit s now chosen q a)
 admitted s now chosen q New = carries s now chosen q (file_at s.files q.file) refl
-admitted s now chosen q (Again kept) = idle s _ refl refl (λ owner h drive c i. absurd (answers_alone _ drive c i))
+admitted s now chosen q (Again kept) = idle s _ refl refl (λ owner h drive c i. absurd (no_answer _ drive c i))
 admitted s now chosen q (Misordered expected) =
-    idle s _ refl refl (λ owner h drive c i. absurd (answers_alone _ drive c i))
+    idle s _ refl refl (λ owner h drive c i. absurd (no_answer _ drive c i))
 
 pub asked : (s : Server) (now : ℕ) (chosen : List ℕ) (q : ClientRequest) → Steps s (on_request s now chosen q)
 unfolding on_request

@@ -14,15 +14,14 @@ use Rattle.server_rules.specs.Standing.{is_beyond, lose_on}
 use Rattle.server_rules.proofs.Members.{in_mapped, in_map, in_filtered, in_filter}
 use Rattle.job_law.specs.Names.{Kept, Piece, Heard, Component, Awaited, Target, Reply}
 use Rattle.job_law.specs.Fencing.{IsAsked}
+use Rattle.job_law.proofs.Fences.{first_asked, later_asked}
+use Rattle.job_law.proofs.Hearing.{IsAlone}
+use Rattle.sent_law.proofs.BirthSent.{is_creating}
 
 -- ---- all that is awaited
 
 abbrev pub AllAre : (Awaited → Type 0) → List Awaited → Type 0
 AllAre P ws = (a : Awaited) → In a ws → P a
-
--- no other command has the nonce of this one
-abbrev pub IsAlone : List Awaited → Awaited → Type 0
-IsAlone ws a = (x : Awaited) → In x ws → x.command.nonce ≡ a.command.nonce → x ≡ a
 
 pub none_are : (P : Awaited → Type 0) → AllAre P []
 none_are P a i = absurd i
@@ -135,10 +134,6 @@ module _ (Q : Awaited → Type 0) (T : (drive object : ℕ) → Bool) where
 abbrev pub IsOther : Awaited → Type 0
 IsOther a = a.command.action ≡ Create → ⊥
 
-abbrev pub is_creating : Ask → Bool
-is_creating Creating = true
-is_creating ask = false
-
 pub other_for : (f : Kept) (ask : Ask) (k drive object nonce : ℕ) → is_creating ask ≡ false
     → IsOther (sent_to f ask k drive object nonce)
 other_for f Creating k drive object nonce own e = cc own
@@ -173,16 +168,6 @@ pub others_each : (f : Kept) (which : Which) (ask : Ask) (cs : List Component) (
     → is_creating ask ≡ false → AllAre IsOther (to_each f which ask cs k nonce)
 others_each f which ask cs k nonce own =
     each_are IsOther f which ask cs k nonce (λ j drive object n. other_for f ask j drive object n own)
-
-first_asked : (b : Bool) (x : Awaited) (ws bs : List Awaited) (at : Component) → b ≡ true → x.drive ≡ at.drive
-    → x.command.object ≡ at.object → IsAsked (if b then x ∷ ws else bs) at
-first_asked true x ws bs at e drive object = (x, inl refl, drive, object)
-first_asked false x ws bs at e drive object = absurd (cc e)
-
-later_asked : (b : Bool) (x : Awaited) (ws bs : List Awaited) (at : Component) → IsAsked ws at → IsAsked bs at
-    → IsAsked (if b then x ∷ ws else bs) at
-later_asked true x ws bs at (a, i, drive, object) less = (a, inr i, drive, object)
-later_asked false x ws bs at more less = less
 
 -- each that isn't missing is asked
 pub asked_each : (f : Kept) (ask : Ask) (cs : List Component) (k nonce : ℕ) (at : Component) → In at cs
@@ -236,42 +221,4 @@ in_set (z ∷ cs) zero y x (inr j) = inr (inr j)
 in_set (z ∷ cs) (suc i) y x (inl e) = inr (inl e)
 in_set (z ∷ cs) (suc i) y x (inr j) = elim (in_set cs i y x j) [ inl e ↦ inl e | inr k ↦ inr (inr k) ]
 
--- one that isn't missing behind a declaration stands on another drive
-pub in_lost_on : (drive : ℕ) (cs : List Component) (at : Component) → In at (lose_on drive cs) → at.missing ≡ false
-    → In at cs × (at.drive ≡ drive → ⊥)
-unfolding lose_on
-in_lost_on drive [] at i there = absurd i
-in_lost_on drive (x ∷ cs) at (inl e) there = here (x.drive == drive) (λ same is. cc (sym same ∙ eq-eqb _ _ is)) e
-  where
-    here : (b : Bool) → (b ≡ false → x.drive ≡ drive → ⊥) → at ≡ (if b then record x { missing = true } else x)
-        → In at (x ∷ cs) × (at.drive ≡ drive → ⊥)
-    here true other e = absurd (cc (sym there ∙ ap (λ (y : Component). y.missing) e))
-    here false other e = (inl e, λ same. other refl (ap (λ (y : Component). y.drive) (sym e) ∙ same))
-in_lost_on drive (x ∷ cs) at (inr i) there =
-    let r = in_lost_on drive cs at i there in (inr r.0, r.1)
-
 -- ---- what a reply is to its command
-
--- only a WRITE finds no space
-pub full_is_write : (f : Kept) (a : Awaited) (r : Reply) → hearing f a r ≡ Full → is_write a.command.action ≡ true
-unfolding hearing
-full_is_write f a r e = elim (cases_Bool (r.verdict == 17)) [
-  | inl t ↦ absurd (cc (rw t at e))
-  | inr z ↦ elim (cases_Bool (is_write a.command.action)) [
-    | inl t ↦ t
-    | inr y ↦ elim (cases_Bool (is_done f a r)) [
-      | inl t ↦ absurd (cc (rw (z, y, t) at e))
-      | inr w ↦ absurd (cc (rw (z, y, w) at e))
-    ]
-  ]
-]
-
-pub done_is_done : (f : Kept) (a : Awaited) (r : Reply) → hearing f a r ≡ Done → is_done f a r ≡ true
-unfolding hearing
-done_is_done f a r e = elim (cases_Bool (r.verdict == 17)) [
-  | inl t ↦ absurd (cc (rw t at e))
-  | inr z ↦ elim (cases_Bool (is_write a.command.action && (r.verdict == 11))) [
-    | inl t ↦ absurd (cc (rw (z, t) at e))
-    | inr y ↦ elim (cases_Bool (is_done f a r)) [ inl t ↦ t | inr w ↦ absurd (cc (rw (z, y, w) at e)) ]
-  ]
-]

@@ -9,9 +9,11 @@ use Rattle.server_rules.specs.Replies.{others, renewed}
 use Rattle.server_rules.specs.Standing.{lose_on}
 use Rattle.job_law.specs.Names.{File, Component, Awaited, Grant, Target, Job, Work, Creates, Fences, Targets, Gathers, Fills}
 use Rattle.job_law.specs.Fencing.{Reached, is_fences, is_fencing, Raises, IsFencing}
+use Rattle.job_law.proofs.Asking.{in_lost_on}
+use Rattle.job_law.proofs.Hearing.{IsAlone}
 use Rattle.sent_law.specs.Objects.{target_in, target_of}
 use Rattle.sent_law.specs.Standing.{IsCreate, makes_objects, is_making, is_creates, is_new, IsStanding}
-use Rattle.sent_law.proofs.StandAwaited.{AllAre, IsAlone, IsOther, filtered_are, renewed_are, IsSought, sought_others, sought_renewed, sought_than, in_lost_on}
+use Rattle.sent_law.proofs.StandAwaited.{AllAre, IsOther, filtered_are, renewed_are, IsSought, sought_others, sought_renewed, sought_than}
 
 -- ---- components
 

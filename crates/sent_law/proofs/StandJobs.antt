@@ -16,9 +16,11 @@ use Rattle.server_rules.specs.Standing.{any_on, lose_on, lose_from}
 use Rattle.job_law.specs.Names.{Kept, Component, Awaited, Heard, Piece, Target, Job, JobKind, Making, Revoking, Rebuilding, Auditing, Work, Creates, Fences, Fetches, Stores, Targets, Gathers, Fills, Lengths, Checks, Tally, Rebuilt, NoDrive, NoSpace, Reply}
 use Rattle.job_law.specs.Fencing.{Reached, Raises, IsAsked}
 use Rattle.job_law.proofs.Asking.{in_lost_from}
+use Rattle.job_law.proofs.Hearing.{full_is_write, done_is_done, IsAlone}
 use Rattle.sent_law.specs.Standing.{IsCreate}
-use Rattle.sent_law.proofs.StandAwaited.{AllAre, IsAlone, IsOther, one_is, sought_asked, sought_none, is_creating, each_are, others_each, asked_each, stores_others, repair_others, sources_others, in_set, full_is_write, done_is_done}
+use Rattle.sent_law.proofs.StandAwaited.{AllAre, IsOther, one_is, sought_asked, sought_none, each_are, others_each, asked_each, stores_others, repair_others, sources_others, in_set}
 use Rattle.sent_law.proofs.StandHeld.{reach, AllReach, IsTagged, Holds, Ends, FileEnds, Lasts, holds_others, holds_renewed, holds_lost, ends_lost, lasts, lasts_declared, ends_declared}
+use Rattle.sent_law.proofs.BirthSent.{is_creating}
 
 module _ (R : Reached) where
   -- each component that isn't missing has reached the file's tag

@@ -20,6 +20,7 @@ use Rattle.server_rules.proofs.FileLaws.{not_there}
 use Rattle.job_law.specs.Names.{Server, File, Drive, Awaited, Job, JobKind, Revoking, Rebuilding, Auditing, Effects, Reply, ClientRequest, OrderKind, ToRecall, ToRevoke, ToDeclare, ToRebuild, ToAudit, Refusal}
 use Rattle.job_law.specs.Fencing.{Reached, TellsRaised, IsHeardTruly}
 use Rattle.job_law.proofs.Files.{found_file, in_put}
+use Rattle.job_law.proofs.Hearing.{found_in}
 use Rattle.sent_law.specs.Standing.{TellsMade, AreMadeTruly, is_running, EachStepStands}
 use Rattle.sent_law.proofs.StandHeld.{Ends, FileEnds, into, out}
 use Rattle.sent_law.proofs.StandJobs.{ends_making, ends_fence, ends_hears, ends_declares}
@@ -46,16 +47,6 @@ in_made (y ∷ fs) f g x e i = elim (cases_Bool (y.kept.number == f.kept.number)
     behind (inr j) rest = elim (rest j) [ inl same ↦ inl same | inr k ↦ inr (inr k) ]
 
 -- ---- a reply
-
-found_in : (p : Awaited → Bool) (ws : List Awaited) (a : Awaited) → find p ws ≡ Some a → In a ws × (p a ≡ true)
-found_in p [] a e = absurd (cc e)
-found_in p (x ∷ ws) a e = elim (cases_Bool (p x)) [
-  | inl t ↦ let is = same (rw t at e) in (inl (sym is), subst (λ (y : Awaited). p y ≡ true) is t)
-  | inr z ↦ let r = found_in p ws a (rw z at e) in (inr r.0, r.1)
-]
-  where
-    same : Some x ≡ Some a → x ≡ a
-    same f = cc f
 
 -- at most one command of the file's job has its nonce, and it tells truly what was raised and made
 record IsTold (R : Reached) (f : File) (drive : ℕ) (r : Reply) : Type 0 where

@@ -21,7 +21,7 @@ use Rattle.osd_drive.specs.Effects.{lane_for, effect_of, reply_by, state_by}
 use Rattle.server_rules.specs.Replies.{is_create, is_set_tag, is_done}
 use Rattle.world_history.specs.ServerNames.{Awaited, Kept}
 use Rattle.world_history.specs.State.{DriveAt}
-use Rattle.history_law.proofs.HistoryTelling.{again_row}
+use Rattle.history_law.proofs.HistoryTelling.{again_row, row_applies, first_applies}
 use Rattle.fencing_law.specs.Reaching.{has_tag, has_reached}
 use Rattle.tag_law.proofs.There.{zero_below}
 
@@ -43,18 +43,6 @@ counts f a r is e =
     by_tests false false x y z = absurd (cc z)
 
 -- ---- the row that finds the object
-
-row_applies : (p : Verdict → Bool) (b : Bool) (v w : Verdict) (rows : List Row) → p (if b then v else w) ≡ true
-    → (p w ≡ true → list_any (λ (r : Row). p r.1 && r.0) rows ≡ true)
-    → ((p v && b) || list_any (λ (r : Row). p r.1 && r.0) rows) ≡ true
-row_applies p true v w rows e rest = rw e refl
-row_applies p false v w rows e rest = or_right (p v && false) _ (rest e)
-
-first_applies : (p : Verdict → Bool) (rows : List Row) → p verdict.Perform ≡ false → p (first_row rows) ≡ true
-    → list_any (λ (r : Row). p r.1 && r.0) rows ≡ true
-first_applies p [] none e = absurd (cc (sym e ∙ none))
-first_applies p (r ∷ rows) none e =
-    row_applies p r.0 r.1 (first_row rows) rows e (λ later. first_applies p rows none later)
 
 abbrev is_exists : Verdict → Bool
 is_exists verdict.Exists = true

@@ -11,21 +11,9 @@ use Rattle.history_law.specs.Issued.{CommandsAreIssued}
 use Rattle.history_law.specs.Unforged.{UnforgedAreIssued}
 use Rattle.history_law.proofs.IssueLines.{IsKnown, all_known}
 use Rattle.fencing_law.proofs.LaneLines.{letter, letters}
+use Rattle.exchange_law.proofs.LanesLaw.{IsMarked, marked}
 use Rattle.tag_law.specs.Origin.{WasGivenTag, EachTagWasSent}
 use Rattle.tag_law.proofs.TagLines.{TagBy, tags_are_given}
-
--- a letter is a message with its marks
-record IsMarked (ss : List Sent) (x : Sent) : Type 0 where
-  number : ℕ
-  message : Sent
-  there : slice_get ss number ≡ Some message
-  is : x ≡ letter message
-
-marked : (ss : List Sent) (x : Sent) → In x (letters ss) → IsMarked ss x
-marked [] x i = absurd i
-marked (s ∷ ss) x (inl e) = record { number = zero; message = s; there = refl; is = e }
-marked (s ∷ ss) x (inr i) =
-    let m = marked ss x i in record { number = suc m.number; message = m.message; there = m.there; is = m.is }
 
 was_given : (h : List Line) (drive object tag : ℕ) → TagBy h drive object tag → WasGivenTag h drive object tag
 was_given h drive object tag b =
