@@ -19,10 +19,10 @@ use Rattle.exchange_law.proofs.LaneLines.{LeftBy, AreLeft, lanes_are_left}
 
 -- a letter is a message with its marks
 pub record IsMarked (ss : List Sent) (x : Sent) : Type 0 where
-  number : ℕ
-  message : Sent
-  there : slice_get ss number ≡ Some message
-  is : x ≡ letter message
+  pub number : ℕ
+  pub message : Sent
+  pub there : slice_get ss number ≡ Some message
+  pub is : x ≡ letter message
 
 pub marked : (ss : List Sent) (x : Sent) → In x (letters ss) → IsMarked ss x
 marked [] x i = absurd i

@@ -6,8 +6,7 @@ use Rattle.server_rules.specs.Messages.{awaited_by}
 use Rattle.job_law.specs.Names.{Kept, Command, Component, Awaited, Target, Job, Work, Fetches, Stores}
 use Rattle.sent_law.specs.Objects.{objects_of, target_of, NoneIs, AllDiffer}
 use Rattle.sent_law.specs.Tagged.{fence_open, IsBehind}
-use Rattle.sent_law.proofs.Sent.{IsMine, AllMine, AllUsed}
-use Rattle.sent_law.proofs.ObjectJobs.{IsUsed}
+use Rattle.sent_law.proofs.Sent.{IsUsed, IsMine, AllMine, AllUsed}
 
 -- ---- what holds in the middle of a step
 

@@ -13,7 +13,7 @@ use Rattle.sent_law.proofs.ObjectSteps.{Agree, owned_later, with_owner, owner_be
 use Rattle.sent_law.specs.Tagged.{IsBehind}
 use Rattle.sent_law.proofs.Sent.{IsMine, AllMine}
 use Rattle.sent_law.proofs.Ends.{IsAim, AreClosed, Ends}
-use Rattle.sent_law.proofs.ObjectJobs.{IsUsed}
+use Rattle.sent_law.proofs.Sent.{IsUsed}
 
 -- ---- owners
 

@@ -15,13 +15,10 @@ use Rattle.server_rules.specs.Openings.{opens_made, opens_spent, opens_fenced, i
 use Rattle.job_law.specs.Names.{Component, Awaited, Heard, Piece, Target, Job, JobKind, Making, Revoking, Rebuilding, Auditing, Work, Creates, Fences, Fetches, Stores, Targets, Gathers, Fills, Lengths, Checks, Tally, Rebuilt, NoDrive, NoSpace, Reply}
 use Rattle.sent_law.specs.Objects.{objects_of, target_in, target_of, NoneIs, AllDiffer}
 use Rattle.sent_law.proofs.Numbers.{none_above, in_set, set_differ, objects_set, objects_from, objects_on}
+use Rattle.sent_law.proofs.Sent.{IsUsed}
 use Rattle.sent_law.proofs.Ends.{IsAim}
 
 -- ---- what holds in the middle of a step
-
--- the number is the file's, and was used
-abbrev pub IsUsed : (ℕ → Type 0) → (next : ℕ) → ℕ → Type 0
-IsUsed P m o = P o × (o < m)
 
 -- so are those of its components, which differ; numbers were used from n on
 abbrev pub Owns : (P : ℕ → Type 0) → (number n : ℕ) → Going → Type 0

@@ -21,7 +21,7 @@ use Rattle.sent_law.proofs.Numbers.{none_above, in_set, set_differ, objects_set,
 use Rattle.sent_law.specs.Tagged.{is_fence, fence_open, IsBehind}
 use Rattle.sent_law.proofs.Sent.{IsMine, AllMine, is_raising, one_mine, mine_for, each_mine, stores_mine, repair_mine, sources_mine}
 use Rattle.sent_law.proofs.Ends.{Sends, Owns, IsAim, IsClosed, AreClosed, Ends}
-use Rattle.sent_law.proofs.ObjectJobs.{IsUsed}
+use Rattle.sent_law.proofs.Sent.{IsUsed}
 
 module _ (P : ℕ → Type 0) (number n : ℕ) (fresh : (o : ℕ) → n ≤ o → P o) (k0 : Kept) (before : List Awaited) where
   abbrev Own : Going → Type 0

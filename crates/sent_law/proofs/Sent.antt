@@ -10,7 +10,10 @@ use Rattle.server_rules.specs.Standing.{is_beyond}
 use Rattle.job_law.specs.Names.{Kept, Piece, Heard, Component, Awaited, Target}
 use Rattle.sent_law.specs.Objects.{objects_of}
 use Rattle.sent_law.specs.Tagged.{fence_open, IsBehind}
-use Rattle.sent_law.proofs.ObjectJobs.{IsUsed}
+
+-- the number is the file's, and was used
+abbrev pub IsUsed : (ℕ → Type 0) → (next : ℕ) → ℕ → Type 0
+IsUsed P m o = P o × (o < m)
 
 -- it goes to such an object, and isn't past the file
 abbrev pub IsMine : (ℕ → Type 0) → (next : ℕ) → Kept → Awaited → Type 0
