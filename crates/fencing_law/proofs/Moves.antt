@@ -19,7 +19,8 @@ use Rattle.world_history.specs.ServerNames as server_rules
 use Rattle.world_history.specs.ClientNames as client_rules
 use Rattle.world_history.specs.declared.messages.Message.{Message}
 use Rattle.world_history.specs.declared.messages.Posted.{Posted}
-use Rattle.world_history.specs.State.{Body, World}
+use Rattle.world_history.specs.declared.messages.Body.{Body}
+use Rattle.world_history.specs.State.{World}
 use Rattle.world_history.specs.Told.{kind_of, told_note}
 use Rattle.world_history.specs.Names.{where_known, note_line, is_tellable_note, known_note_line, known_outcome}
 use Rattle.world_history.specs.Handed.{Post, is_addressed, server_post, client_posts, end_line, ended_by, for_server, op_in, wrote_in, data_in}
