@@ -37,7 +37,7 @@ StepGrows s t =
     (s.next_nonce ≤ t.state.next_nonce)
     × ((t.sends ≡ []) ⊎ ((s.next_nonce < t.state.next_nonce) × (s.next_nonce < COUNTERS_END)))
 
-or_rises : (m : Moved) (o later : Option Going) → RisesIn m o → RisesIn m later → RisesIn m (or_else o later)
+or_rises : (m : Effects) (o later : Option Going) → RisesIn m o → RisesIn m later → RisesIn m (or_else o later)
 or_rises m None later a b = b
 or_rises m (Some g) later a b = a
 
