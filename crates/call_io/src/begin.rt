@@ -1,6 +1,5 @@
 // The begin of a call.
 ghost use Rattle.std.specs.Prelude.{◌≡◌, [], IfOk};
-ghost use Rattle.client_rules.specs.Calls.{is_write};
 ghost use Rattle.client_rules.specs.Going.{begins};
 ghost use Rattle.call_io.specs.Phases.{counted_move, moved_of};
 ghost use Rattle.call_io.specs.Inside.{IsInside};
@@ -11,20 +10,10 @@ use crate::probing::probes;
 use crate::reading::reads;
 use crate::writing::gathers;
 use call_commands::{PendingCommands, count_sent};
-use client_rules::{CallOp, Held, TimedOuts};
+use client_rules::{CallOp, Held, TimedOuts, is_write};
 use osd_lists::Memory;
 use std::alloc::Global;
 use stripe_plan::Columns;
-
-// Whether a call writes.
-fn is_write(op: &CallOp) -> bool
-    ensures { result ≡ is_write op.now }
-{
-    match op {
-        CallOp::Write { .. } => true,
-        CallOp::Read { .. } => false,
-    }
-}
 
 // A call that has had nothing to do with the drives yet.
 fn new_io(alloc: Global) -> CallIo
@@ -62,7 +51,7 @@ fn begin_with(alloc: Global, held: &Held, op: &CallOp) -> Result<CallMove, Memor
 /// # Errors
 ///
 /// Want of memory alone, where the grant and the call are such as the rules of a client make them.
-pub fn begins(alloc: Global, held: &mut Held, op: &CallOp) -> Result<CallMove, Memory>
+pub fn begin_call(alloc: Global, held: &mut Held, op: &CallOp) -> Result<CallMove, Memory>
     requires inside { IsInside op.now }
     ensures { IfOk result (λ m. moved_of held.new m ≡ begins held.old op.now) }
 {

@@ -16,9 +16,9 @@ mod timeouts;
 mod waiting;
 mod writing;
 
-pub use begin::begins;
+pub use begin::begin_call;
 pub use call_commands::{PendingCommands, WriteQueue};
-pub use moves::{accounted, clipped_span, span_of};
+pub use moves::{clipped_span, end_or_report};
 pub use phase::{CallIo, CallMove, CallPhase, CallTurn};
-pub use replies::{errno_of, error_at, replied};
+pub use replies::{errno_of, error_at, take_reply};
 pub use timeouts::{report_of, timed_out};

@@ -10,27 +10,11 @@ ghost use Rattle.call_io.specs.Phases.{turn_of};
 ghost use Rattle.call_io.specs.Inside.{IsInside};
 
 use crate::phase::{CallMove, CallPhase, CallTurn};
-use client_rules::{AwaitedCommands, CallOp, Held, Need, Outcome, TimedOuts};
+use client_rules::{AwaitedCommands, CallOp, Held, Need, Outcome, TimedOuts, span_of};
 use layout_types::IoErr;
 use osd_lists::Sequence;
 use std::alloc::Global;
 use stripe_plan::Span;
-
-/// The range of a call.
-pub fn span_of(op: &CallOp) -> Span
-    ensures { result ≡ span_of op.now }
-{
-    match op {
-        CallOp::Write { offset, bytes, .. } => Span {
-            offset: *offset,
-            length: bytes.len() as u64,
-        },
-        CallOp::Read { offset, length, .. } => Span {
-            offset: *offset,
-            length: *length,
-        },
-    }
-}
 
 /// The range of a call as far as it lies below the size of the file.
 pub fn clipped_span(held: &Held, op: &CallOp) -> Span
@@ -48,7 +32,7 @@ pub fn clipped_span(held: &Held, op: &CallOp) -> Span
 }
 
 // Nothing goes to a drive.
-pub fn turned(alloc: Global, turn: CallTurn) -> CallMove
+pub fn without_sends(alloc: Global, turn: CallTurn) -> CallMove
     ensures turn { result.turn ≡ turn }
     ensures sent { result.sent ≡ [] }
 {
@@ -71,7 +55,7 @@ pub fn closing(outcome: Outcome, report: Sequence<IoErr>) -> CallTurn
 
 /// What becomes of a write whose bytes are written and whose size the server knows: the components that timed out are
 /// reported, and with none the write is over.
-pub fn accounted(op: &CallOp, timed: TimedOuts) -> CallTurn
+pub fn end_or_report(op: &CallOp, timed: TimedOuts) -> CallTurn
     ensures { turn_of result ≡ accounted op.now timed }
 {
     if timed.is_empty() {
@@ -102,5 +86,5 @@ pub fn written(held: &Held, op: &CallOp, timed: TimedOuts) -> CallTurn
             },
         };
     }
-    accounted(op, timed)
+    end_or_report(op, timed)
 }

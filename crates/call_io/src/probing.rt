@@ -9,7 +9,7 @@ ghost use Rattle.client_rules.specs.Reads.{first_present, probe_each, probes_on,
 ghost use Rattle.call_io.specs.Phases.{counted_move};
 ghost use Rattle.call_io.specs.Probes.{probe_unless};
 
-use crate::moves::turned;
+use crate::moves::without_sends;
 use crate::phase::{CallIo, CallMove, CallPhase, CallTurn};
 use crate::sending::send_reads;
 use call_commands::{credential_of, had_positions, out_of};
@@ -221,7 +221,7 @@ fn probes_at(
     if is_out(&held.map, out, position) {
         let positions = lost_beside(alloc, &held.map, out, position)?;
         if positions.len() > held.map.parities() as usize {
-            return Ok(turned(
+            return Ok(without_sends(
                 alloc,
                 CallTurn::Ends {
                     outcome: Outcome::Lost { positions },
@@ -242,7 +242,7 @@ pub fn probes(alloc: Global, held: &Held, io: CallIo) -> Result<CallMove, Memory
         None => {
             let positions = all_positions(alloc, &held.map)?;
             let outcome = Outcome::Lost { positions };
-            return Ok(turned(alloc, CallTurn::Ends { outcome }));
+            return Ok(without_sends(alloc, CallTurn::Ends { outcome }));
         }
     };
     let position = component / held.map.replicas();

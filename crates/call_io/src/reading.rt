@@ -7,7 +7,7 @@ ghost use Rattle.client_rules.specs.Reads.{reads_on, reads_due, reads_sent, read
 ghost use Rattle.call_io.specs.Phases.{counted_move};
 ghost use Rattle.call_io.specs.Emptied.{no_column};
 
-use crate::moves::turned;
+use crate::moves::without_sends;
 use crate::phase::{CallIo, CallMove, CallPhase, CallTurn};
 use crate::sending::send_reads;
 use call_commands::{had, out_of};
@@ -146,7 +146,7 @@ pub fn reads(alloc: Global, held: &Held, range: Span, io: CallIo) -> Result<Call
     let out = out_of(alloc, held, &io.timed)?;
     match check_readable(alloc, &held.map, range, &out) {
         Ok(()) => reads_sent(alloc, held, range, io, &out),
-        Err(PlanErr::TooManyLost { positions }) => Ok(turned(
+        Err(PlanErr::TooManyLost { positions }) => Ok(without_sends(
             alloc,
             CallTurn::Ends {
                 outcome: Outcome::Lost { positions },

@@ -9,7 +9,7 @@ ghost use Rattle.call_io.specs.Inside.{IsInside};
 ghost use Rattle.call_io.specs.Steps.{on_reply, refused_turn};
 ghost use Rattle.call_io.specs.Heard.{answered, goes_on, heard_in, kept_in};
 
-use crate::moves::{clipped_span, closing, turned};
+use crate::moves::{clipped_span, closing, without_sends};
 use crate::phase::{CallMove, CallPhase, CallTurn};
 use crate::probing::probes_on;
 use crate::reading::reads_on;
@@ -117,7 +117,7 @@ fn refused(
     ensures { IfOk result (λ m. counted_move held.now m ≡ refused held.now (phase_of phase.now) awaited.now reply.now) }
 {
     let report = refused_report(alloc, held, phase, awaited, reply)?;
-    Ok(turned(alloc, refused_turn(awaited, reply, report)))
+    Ok(without_sends(alloc, refused_turn(awaited, reply, report)))
 }
 
 // Takes out the command that a reply with that nonce from that drive answers.
@@ -170,12 +170,12 @@ fn goes_on(
         CallPhase::Probes { io } => Ok(probes_on(alloc, held, io, sent)),
         CallPhase::Gathers { io } => gathers_on(alloc, held, op, io, sent),
         CallPhase::Scatters { io, queue } => scatters_next(alloc, held, op, io, queue, component),
-        phase => Ok(turned(alloc, CallTurn::Goes { phase })),
+        phase => Ok(without_sends(alloc, CallTurn::Goes { phase })),
     }
 }
 
 // The reply to a command that isn't awaited any more.
-fn answered(
+fn take_answer(
     alloc: Global,
     held: &Held,
     op: &CallOp,
@@ -209,8 +209,8 @@ fn reply_in(
 {
     let mut phase = phase;
     match take(&mut phase, drive, reply.nonce) {
-        Some(awaited) => answered(alloc, held, op, phase, &awaited, reply),
-        None => Ok(turned(alloc, CallTurn::Goes { phase })),
+        Some(awaited) => take_answer(alloc, held, op, phase, &awaited, reply),
+        None => Ok(without_sends(alloc, CallTurn::Goes { phase })),
     }
 }
 
@@ -220,7 +220,7 @@ fn reply_in(
 /// # Errors
 ///
 /// Want of memory alone, where the grant and the call are such as the rules of a client make them.
-pub fn replied(
+pub fn take_reply(
     alloc: Global,
     held: &mut Held,
     op: &CallOp,

@@ -12,7 +12,7 @@ ghost use Rattle.call_io.specs.Inside.{IsInside};
 ghost use Rattle.call_io.specs.Steps.{on_timeout};
 ghost use Rattle.call_io.specs.Silence.{goes_without, out_in};
 
-use crate::moves::{clipped_span, closing, turned};
+use crate::moves::{clipped_span, closing, without_sends};
 use crate::phase::{CallIo, CallMove, CallPhase, CallTurn};
 use crate::probing::probes;
 use crate::reading::reads;
@@ -88,13 +88,13 @@ fn gathers_without(
 {
     if is_too_short(alloc, held, op, &io.timed)? {
         let outcome = Outcome::Silent { component };
-        return Ok(turned(alloc, CallTurn::Ends { outcome }));
+        return Ok(without_sends(alloc, CallTurn::Ends { outcome }));
     }
     gathers(alloc, held, op, io)
 }
 
 // The grant is returned with a report.
-fn reported(
+fn return_with_report(
     alloc: Global,
     held: &Held,
     timed: &TimedOuts,
@@ -103,7 +103,7 @@ fn reported(
     ensures { IfOk result (λ m. counted_move held.now m ≡ turned held.now (closing (IsSilent component) (report_of held.now timed.now))) }
 {
     let report = report_of(alloc, held, timed)?;
-    Ok(turned(alloc, closing(Outcome::Silent { component }, report)))
+    Ok(without_sends(alloc, closing(Outcome::Silent { component }, report)))
 }
 
 // After it: where too much is out the grant is returned with a report.
@@ -119,7 +119,7 @@ fn scatters_without(
     ensures { IfOk result (λ m. counted_move held.now m ≡ goes_without held.now op.now (IsScatters (io_of io) queue) component) }
 {
     if is_too_short(alloc, held, op, &io.timed)? {
-        return reported(alloc, held, &io.timed, component);
+        return return_with_report(alloc, held, &io.timed, component);
     }
     let mut queue = queue;
     queue.drop_component(component);
@@ -129,7 +129,7 @@ fn scatters_without(
 }
 
 // It goes on without that component, by the phase.
-fn goes_without(
+fn go_on_without(
     alloc: Global,
     held: &Held,
     op: &CallOp,
@@ -146,7 +146,7 @@ fn goes_without(
         CallPhase::Scatters { io, queue } => {
             scatters_without(alloc, held, op, io, queue, component)
         }
-        phase => Ok(turned(alloc, CallTurn::Goes { phase })),
+        phase => Ok(without_sends(alloc, CallTurn::Goes { phase })),
     }
 }
 
@@ -166,9 +166,9 @@ fn timeout_in(
     match first_to(&phase, component) {
         Some(first) => {
             put_out_in(alloc, &mut phase, component, first)?;
-            goes_without(alloc, held, op, phase, component)
+            go_on_without(alloc, held, op, phase, component)
         }
-        None => Ok(turned(alloc, CallTurn::Goes { phase })),
+        None => Ok(without_sends(alloc, CallTurn::Goes { phase })),
     }
 }
 

@@ -11,13 +11,13 @@ ghost use Rattle.call_io.specs.Inside.{IsInside};
 ghost use Rattle.call_io.specs.Emptied.{no_part};
 ghost use Rattle.call_io.specs.Splits.{seen_with, new_first, new_later};
 
-use crate::moves::{span_of, written};
+use crate::moves::written;
 use crate::phase::{CallIo, CallMove, CallPhase, CallTurn};
 use crate::probing::is_among;
 use crate::reading::fetched;
 use crate::sending::{send_reads, send_writes};
 use call_commands::{PendingCommands, WriteQueue, had, out_of};
-use client_rules::{AwaitedCommands, CallOp, Held, TimedOuts};
+use client_rules::{AwaitedCommands, CallOp, Held, TimedOuts, span_of};
 use osd_lists::{Bytes, Memory, Numbers};
 use std::alloc::Global;
 use std::mem;

@@ -33,7 +33,6 @@ use Rattle.calm_law.specs.Marks.{any_marked, IsReal, KeepsMarks, HaveMaps}
 use Rattle.calm_law.specs.Harms.{AreLeft}
 use Rattle.calm_law.specs.Performing.{AreDistinct, HaveComponents}
 use Rattle.calm_law.specs.Following.{bytes_in, IsWithin, PerformsAs}
-use Rattle.calm_law.proofs.Tables.{among_end}
 use Rattle.calm_law.proofs.Noting.{fails_alike, fails_more}
 use Rattle.calm_law.proofs.Performing.{writes_mark}
 

@@ -1,5 +1,5 @@
 -- What is kept follows all moves of an event.
-use Rattle.std.proofs.Common.{◌≡◌, ◌++◌, ◌∷◌, [], List, false, Some, None, refl, sym, ap, subst, ◌∙◌, append_assoc}
+use Rattle.std.proofs.Common.{◌≡◌, ◌++◌, ◌∷◌, [], List, Some, None, refl, sym, ap, subst, ◌∙◌, append_assoc}
 use Rattle.std.proofs.lemmas.List.{append-nil}
 use Rattle.scenario_text.specs.declared.event.Event.{Event}
 use Rattle.scenario_text.specs.declared.line.Line.{Line}
@@ -8,10 +8,10 @@ use Rattle.world_history.specs.State.{World}
 use Rattle.world_history.specs.Moves.{Action, Opens}
 use Rattle.world_history.specs.Sending.{Move, move}
 use Rattle.world_history.specs.Plans.{Plan, due, went_on, plan_of}
-use Rattle.world_history.specs.Runs.{world_after, lines_of, AreDue, plan_after}
+use Rattle.world_history.specs.Runs.{world_after, lines_of, AreDue}
 use Rattle.world_history.specs.Calm.{seen}
 use Rattle.world_history.specs.Guesses.{guarded}
-use Rattle.world_history.proofs.Runs.{due_more, plan_more, world_more, lines_more}
+use Rattle.world_history.proofs.Runs.{due_more, plan_more, world_more}
 use Rattle.world_watch.specs.Sighted.{Table}
 use Rattle.world_watch.specs.Tied.{AreOf}
 use Rattle.world_calm.specs.Seeing.{CalmState}
@@ -21,7 +21,7 @@ use Rattle.history_law.specs.BookMoments.{IsMoment, with_event, lines_in, lines_
 use Rattle.history_law.specs.Read.{AreWritten}
 use Rattle.history_law.proofs.Staying.{written_front}
 use Rattle.calm_law.specs.Moving.{MoveFollows, EventFollows, sees_one, sees_moves}
-use Rattle.calm_law.proofs.MoveFollowing.{is_opens, next_opens, plain_lines}
+use Rattle.calm_law.proofs.MoveFollowing.{next_opens, plain_lines}
 
 -- ---- a moment, and the next one
 

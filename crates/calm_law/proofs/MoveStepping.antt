@@ -1,16 +1,14 @@
 -- The steps in the lines of a move, as they are read and as the code sees them.
-use Rattle.std.proofs.Common.{◌≡◌, ℕ, ◌∷◌, [], List, Bool, true, false, Some, None, refl, ap, ◌∙◌}
-use Rattle.scenario_text.specs.declared.event.Event.{Event}
+use Rattle.std.proofs.Common.{◌≡◌, ℕ, ◌∷◌, [], List, true, false, Some, None, refl, ap}
 use Rattle.scenario_text.specs.declared.line.CallKind.{CallKind}
 use Rattle.scenario_text.specs.declared.line.Line.{Line}
-use Rattle.scenario_text.specs.declared.line.Line.TheVariants as line
 use Rattle.world_history.specs.declared.messages.Sent.{Sent}
 use Rattle.world_history.specs.ServerNames.{Mended}
-use Rattle.world_history.specs.Reading.{Grouped, is_head, grouped, grouped_with, steps_of}
+use Rattle.world_history.specs.Reading.{Grouped, is_head, steps_of}
 use Rattle.world_watch.specs.Sighted.{Table}
 use Rattle.world_calm.specs.Seeing.{CalmState, KeptOf, sees as sees_step_of}
 use Rattle.world_watch.specs.Steps.{is_headed, injected_at, performed_at, sees_headed, sees_step, sees_from, sees_move}
-use Rattle.history_law.proofs.BookLines.{none_begins, one_step}
+use Rattle.history_law.proofs.BookLines.{one_step}
 use Rattle.calm_law.specs.Following.{left_pending}
 use Rattle.calm_law.specs.Moving.{reads}
 use Rattle.calm_law.proofs.Shapes.{Bare}

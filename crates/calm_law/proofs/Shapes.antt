@@ -20,7 +20,7 @@ use Rattle.world_history.specs.Names.{where_known, note_line, is_tellable_note, 
 use Rattle.world_history.specs.declared.messages.Message.{Message}
 use Rattle.world_history.specs.declared.messages.Posted.{Posted}
 use Rattle.world_history.specs.State.{DriveAt, ClientAt, World, at_number}
-use Rattle.world_history.specs.Handed.{Post, Handed, end_line, ended_by, server_takes, drive_hears, client_hears, client_takes, for_client, for_server, handed_to, handed, client_goes, op_in, pending_op}
+use Rattle.world_history.specs.Handed.{Handed, end_line, ended_by, server_takes, drive_hears, client_hears, client_takes, for_client, for_server, handed_to, handed, client_goes, op_in, pending_op}
 use Rattle.world_history.specs.Moves.{Act, behind, by_client, pends_as, delivers_found, delivers, marked, times_out, pends}
 use Rattle.world_history.specs.Sending.{sent_lines, sends_all}
 use Rattle.world_history.specs.Reading.{is_head}

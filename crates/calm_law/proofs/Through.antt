@@ -1,5 +1,5 @@
 -- A file of a moment through the lines of a step.
-use Rattle.std.proofs.Common.{if◌then◌else◌, ◌≡◌, ℕ, ◌==◌, ◌∷◌, [], List, Bool, true, false, Option, Some, None, map, refl, sym, ap, ◌∙◌, inl, inr, eq-eqb, ne_eqb}
+use Rattle.std.proofs.Common.{if◌then◌else◌, ◌≡◌, ℕ, ◌==◌, ◌∷◌, [], List, Bool, true, false, Option, Some, None, refl, ap, ◌∙◌, inl, inr, eq-eqb, ne_eqb}
 use Rattle.std.specs.List.{fold}
 use Rattle.std.proofs.lemmas.Bool.{cases_eq}
 use Rattle.scenario_text.specs.declared.line.Note.{Note as ToldNote}
@@ -11,7 +11,7 @@ use Rattle.server_rules.proofs.FileLaws.{number_at}
 use Rattle.world_history.specs.ServerNames.{Server, File, Component, Mended}
 use Rattle.world_history.specs.Calm.{Watched, watches, noted, noted_in, with_components, with_grants, untold_file, begun_file, at_begin}
 use Rattle.calm_law.specs.Components.{told_by, told_in}
-use Rattle.calm_law.proofs.Beginning.{begun_number, begun_at as begun_each}
+use Rattle.calm_law.proofs.Beginning.{begun_at as begun_each}
 
 -- the file with these components
 abbrev pub with_parts : File → List Component → File

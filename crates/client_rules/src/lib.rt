@@ -10,6 +10,7 @@ mod client;
 mod grants;
 mod laws;
 mod limits;
+mod operation;
 mod outcomes;
 mod steps;
 
@@ -26,5 +27,6 @@ pub use limits::{
     NO_OBJECT, NO_RIGHT, NO_SPACE, NONCES, OTHER_OBJECT, OTHER_TAG, OUT_OF_RANGE, OVER_LIMIT,
     PERFORMED, SPARE_REQUESTS, WHOLE_FILE,
 };
+pub use operation::{is_write, span_of};
 pub use outcomes::{Awaits, CallErr, Outcome, Why};
 pub use steps::{Done, Moved, Turn};

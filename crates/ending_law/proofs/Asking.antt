@@ -2,7 +2,6 @@
 use Rattle.std.specs.List.{AllByRecursion}
 use Rattle.std.proofs.Common.{◌≡◌, ◌==◌, ◌&&◌, ◌||◌, ℕ, ◌+◌, ◌^◌, ◌≤◌, ◌<◌, Bool, true, false, List, [], ◌∷◌, Option, Some, None, find, length, refl, sym, subst, arith, inl, inr, if◌then◌else◌}
 use Rattle.std.proofs.lemmas.Bool.{cases_Bool}
-use Rattle.std.proofs.lemmas.Bool.Decides.{nat_tests}
 use Rattle.osd_lists.proofs.Tests.{same_number}
 use Rattle.data_map.specs.declared.ranges.TheConstants.{MAX_FILE_SIZE}
 use Rattle.xdr_codec.specs.Items.{u32_item}

@@ -1,22 +1,20 @@
 -- The device ids of a layout that was read are as long as all are.
-use Rattle.std.proofs.Common.{◌≡◌, ℕ, zero, suc, Bool, true, false, List, [], nat_lt, length, Option, Some, None, Result, Ok, Err, refl, sym, ap, ◌∙◌, arith, inl, inr, if◌then◌else◌}
+use Rattle.std.proofs.Common.{◌≡◌, ℕ, zero, suc, Bool, true, false, List, [], nat_lt, length, Option, Some, None, Ok, Err, sym, ap, ◌∙◌, arith, inl, inr, if◌then◌else◌}
 use Rattle.std.specs.Prelude.{slice_range}
 use Rattle.std.specs.List.{AllByRecursion}
 use Rattle.std.proofs.lemmas.Bool.{cases_lt, lt-ltb}
 use Rattle.osd_lists.specs.Blocks.{first_nonzero}
 use Rattle.osd_lists.proofs.BlockLaws.{length-range}
-use Rattle.xdr_codec.specs.declared.err.XdrErr.{XdrErr}
 use Rattle.xdr_codec.specs.declared.err.XdrErr.TheVariants.{Short}
-use Rattle.xdr_codec.specs.Reading.{Rest, ◌>>=◌, behind, unless_padding, body_in, fixed_in, end_of}
+use Rattle.xdr_codec.specs.Reading.{Rest, behind, unless_padding, body_in, fixed_in, end_of}
 use Rattle.xdr_codec.proofs.ItemLaws.{bind_ok}
-use Rattle.layout_types.specs.declared.err.LayoutErr.{LayoutErr}
 use Rattle.layout_types.specs.declared.objid.ObjId.{ObjId}
 use Rattle.layout_types.specs.declared.cred.ObjectCred.{ObjectCred}
 use Rattle.layout_types.specs.declared.layout.Layout.{Layout}
 use Rattle.layout_types.specs.Enumerations.{version_of, security_of}
 use Rattle.layout_types.specs.Grammar.{u32_part, u64_part, fixed_part, opaque_part, enum_part, count_part, members, list_part, lifted, whole}
 use Rattle.layout_types.specs.Reading.{objid_in, cred_in, map_in, layout_in}
-use Rattle.client_rules.proofs.KnownMaps.{given, holds}
+use Rattle.client_rules.proofs.KnownMaps.{holds}
 use Rattle.exchange_law.proofs.Fronts.{lifted_ok}
 
 -- ---- bytes of a length that is known

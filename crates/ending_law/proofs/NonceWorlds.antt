@@ -1,13 +1,11 @@
 -- The nonces of clients' commands fit their places.
 use Rattle.std.specs.List.{AllByRecursion}
-use Rattle.std.proofs.Common.{◌≡◌, ℕ, ◌+◌, ◌^◌, ◌≤◌, ◌<◌, ◌++◌, ◌∷◌, Bool, true, false, [], List, Some, Result, Ok, Err, IsSome, filter, length, map, slice_get, refl, sym, ap, subst, ◌∙◌, arith, inl, inr, if◌then◌else◌}
+use Rattle.std.proofs.Common.{◌≡◌, ℕ, ◌+◌, ◌^◌, ◌≤◌, ◌<◌, ◌++◌, ◌∷◌, Bool, true, false, [], List, Some, Ok, IsSome, filter, length, map, slice_get, refl, sym, ap, subst, ◌∙◌, arith, inl, inr, if◌then◌else◌}
 use Rattle.std.proofs.lemmas.Bool.{cases_eq}
 use Rattle.osd_lists.specs.declared.node.Node.{Node}
 use Rattle.osd_lists.specs.declared.node.Node.TheVariants as node
 use Rattle.osd_objects.proofs.Entries.{lookup_inserted, lookup_beside, lookup_set, lookup_set_beside}
 use Rattle.osd_commands.specs.declared.commands.Command.{Command}
-use Rattle.layout_ops.specs.declared.err.OpErr.{OpErr}
-use Rattle.layout_ops.specs.declared.envelope.Envelope.{Envelope}
 use Rattle.layout_ops.specs.declared.envelope.Envelope.TheVariants as envelope
 use Rattle.layout_ops.specs.declared.results.LayoutGetOk.{LayoutGetOk}
 use Rattle.layout_ops.specs.declared.results.LayoutGetResult.TheVariants as get
@@ -19,7 +17,7 @@ use Rattle.server_rules.specs.Laws.{In}
 use Rattle.server_rules.specs.Layouts.{stateid_of}
 use Rattle.server_rules.specs.History.{step as server_step}
 use Rattle.server_rules.proofs.Members.{one_in}
-use Rattle.client_rules.specs.Envelopes.{by_envelope, message_in}
+use Rattle.client_rules.specs.Envelopes.{message_in}
 use Rattle.client_rules.specs.Messages.{Message as ClientMessage, Answers, awaited_of}
 use Rattle.client_rules.specs.Requests.{grant_in}
 use Rattle.client_rules.specs.Results.{layouts_in}

@@ -1,5 +1,5 @@
 -- The grant that a client takes from an answer has few components, with device ids that are as long as all are.
-use Rattle.std.proofs.Common.{◌≡◌, ◌≤◌, ℕ, Bool, true, false, not, ◌&&◌, ◌||◌, nat_lt, List, [], ◌∷◌, Option, Some, None, Result, Ok, Err, refl, subst, inl, inr, if◌then◌else◌}
+use Rattle.std.proofs.Common.{◌≡◌, ◌≤◌, ℕ, Bool, true, false, not, ◌||◌, nat_lt, List, [], ◌∷◌, Option, Some, None, Result, Ok, Err, refl, subst, inl, inr}
 use Rattle.std.specs.Prelude.{is_err}
 use Rattle.std.specs.List.{AllByRecursion}
 use Rattle.std.proofs.lemmas.Bool.{cases_lt, lt-ltb}
@@ -18,13 +18,13 @@ use Rattle.osd_capability.specs.declared.layout.CapErr.{CapErr}
 use Rattle.osd_capability.specs.declared.keys.CapKey.{CapKey}
 use Rattle.osd_capability.specs.Layout as capabilities
 use Rattle.client_rules.specs.declared.limits.TheConstants.{MAX_DRIVE, MAX_FILE_COMPONENTS}
-use Rattle.client_rules.specs.Calls.{file_of, is_write}
+use Rattle.client_rules.specs.Calls.{file_of}
 use Rattle.client_rules.specs.Requests.{grant_in}
 use Rattle.client_rules.specs.Results.{layouts_in}
-use Rattle.client_rules.specs.Layouts.{drive_of, key_of, with_key, with_capability, with_version, listed, all_listed, is_map, first_why, reach_of, fresh, is_lacking, enough, with_listed, unless_why, with_body, one_layout, in_layouts, taken}
-use Rattle.client_rules.proofs.TakenMaps.{taken_checked, last_none, map_taken}
-use Rattle.history_law.proofs.Taking.{both_listed, unless_far, same_grant, enough_same}
-use Rattle.ending_law.specs.State.{CallOp, Listed, Reach, Held, Why, Unreadable, Index, Partial, Secured, BadMap, BadCredential, Answer, RawMap}
+use Rattle.client_rules.specs.Layouts.{drive_of, key_of, with_key, with_capability, with_version, listed, all_listed, is_map, first_why, reach_of, fresh, with_listed, unless_why, with_body, one_layout, in_layouts, taken}
+use Rattle.client_rules.proofs.TakenMaps.{taken_checked, map_taken}
+use Rattle.history_law.proofs.Taking.{both_listed, unless_far, enough_same}
+use Rattle.ending_law.specs.State.{CallOp, Listed, Reach, Held, Why, Answer, RawMap}
 use Rattle.ending_law.proofs.Ids.{CredLong, whole_long}
 use Rattle.ending_law.proofs.Moving.{ListedLong, HeldShort}
 

@@ -1,25 +1,17 @@
 -- What the server sends fits its places, so commands of clients are placed in each history of a text.
-use Rattle.std.proofs.Common.{◌≡◌, ℕ, ◌++◌, ◌∷◌, List, subst}
-use Rattle.layout_ops.specs.declared.envelope.Envelope.{Envelope}
-use Rattle.layout_ops.specs.declared.envelope.Envelope.TheVariants as envelope
-use Rattle.layout_ops.specs.declared.results.LayoutGetResult.TheVariants as get
-use Rattle.layout_ops.specs.declared.results.Results.{Results}
-use Rattle.layout_ops.specs.declared.results.Results.TheVariants as results
-use Rattle.scenario_text.specs.declared.line.Party.{Party}
-use Rattle.scenario_text.specs.declared.line.Party.TheVariants as party
+use Rattle.std.proofs.Common.{◌≡◌, ◌++◌, ◌∷◌, List, subst}
 use Rattle.scenario_text.specs.declared.line.Line.{Line}
-use Rattle.world_history.specs.declared.messages.Sent.{Sent}
 use Rattle.world_history.specs.Reading.{sent_in}
 use Rattle.world_history.specs.History.{Lawful}
 use Rattle.history_law.proofs.Growing.{history_grows}
 use Rattle.exchange_law.specs.Text.{AreOfText, AreFew}
-use Rattle.exchange_law.specs.Fitting.{ResultsGive, GivesFit, SpellsFit, FitsBetween, AllFit, MessagesFit}
-use Rattle.exchange_law.specs.PlaceAnswers.{ResultsFit, AnswerFits, SpellsFitting, AnswersFit}
+use Rattle.exchange_law.specs.Fitting.{MessagesFit}
+use Rattle.exchange_law.specs.PlaceAnswers.{AnswersFit}
 use Rattle.exchange_law.specs.Histories.{CommandsArePlaced}
 use Rattle.exchange_law.proofs.PlaceLines.{fits_before}
 use Rattle.ending_law.specs.Endings.{NoCallEndsMisplaced}
 use Rattle.ending_law.specs.Texts.{CommandsOfTextArePlaced, NoCallOfTextEndsMisplaced}
-use Rattle.ending_law.proofs.Answers.{results_fit, answer_fits, spells_fitting, answers_fit}
+use Rattle.ending_law.proofs.Answers.{answers_fit}
 
 -- so do those of each front
 fits_at : MessagesFit → (h : List Line) → Lawful h → AreOfText h → AreFew h → (before : List Line) (x : Line)

@@ -7,7 +7,7 @@ use Rattle.scenario_text.specs.declared.line.Line.TheVariants as line
 use Rattle.world_history.specs.State.{World, empty_world}
 use Rattle.world_history.specs.Moves.{Action, Opens}
 use Rattle.world_history.specs.Sending.{Move, move}
-use Rattle.world_history.specs.Plans.{Plan, Rule, due, went_on, rule_after, rule_of, plan_of}
+use Rattle.world_history.specs.Plans.{Plan, due, went_on, rule_after, rule_of, plan_of}
 use Rattle.world_history.specs.Runs.{world_after, lines_of, AreDue, plan_after, IsOver, Carries, CarriesPart}
 use Rattle.world_history.specs.History.{Step, AreCarried, end_of, lines_of_steps, StandsFor, OneEventMore, Begins, Lawful}
 use Rattle.world_history.specs.History.Begins.{Nothing, Part}

@@ -1,18 +1,18 @@
 -- A grant that a client takes covers the call for which it was asked.
-use Rattle.std.proofs.Common.{◌≡◌, ◌&&◌, ◌||◌, not, ℕ, Bool, true, false, List, [], ◌∷◌, Option, Some, None, Result, Ok, Err, refl, subst, if◌then◌else◌}
+use Rattle.std.proofs.Common.{◌≡◌, not, ℕ, Bool, true, false, List, [], ◌∷◌, Option, Some, None, Result, Ok, Err, refl, subst, if◌then◌else◌}
 use Rattle.layout_types.specs.declared.err.LayoutErr.{LayoutErr}
 use Rattle.layout_types.specs.declared.layout.Layout.{Layout}
 use Rattle.layout_types.specs.Grammar.{whole}
 use Rattle.layout_types.specs.Reading.{layout_in}
 use Rattle.layout_ops.specs.declared.results.LayoutSegment.{LayoutSegment}
 use Rattle.layout_ops.specs.declared.results.LayoutGetOk.{LayoutGetOk}
-use Rattle.history_law.specs.State.{CallOp, Listed, Reach, Held, Why, Unreadable, BadCredential, Answer}
-use Rattle.history_law.proofs.Taking.{same_grant, enough_same}
-use Rattle.client_rules.specs.Calls.{file_of, is_write}
+use Rattle.history_law.specs.State.{CallOp, Listed, Reach, Held, Why, Unreadable, Answer}
+use Rattle.history_law.proofs.Taking.{enough_same}
+use Rattle.client_rules.specs.Calls.{file_of}
 use Rattle.client_rules.specs.Grants.{is_for, covers}
 use Rattle.client_rules.specs.Requests.{grant_in}
 use Rattle.client_rules.specs.Results.{layouts_in}
-use Rattle.client_rules.specs.Layouts.{first_why, fresh, is_lacking, enough, with_listed, unless_why, with_body, reach_of, one_layout, in_layouts, all_listed, taken}
+use Rattle.client_rules.specs.Layouts.{first_why, fresh, with_listed, unless_why, with_body, reach_of, one_layout, in_layouts, all_listed, taken}
 
 -- it is on the call's file, and covers the call
 abbrev pub IsForCall : CallOp → Held → Type 0

@@ -1,5 +1,5 @@
 -- The answer that the server makes of a call's LAYOUTGET or LAYOUTCOMMIT is good for the call.
-use Rattle.std.proofs.Common.{◌≡◌, ◌⊎◌, ◌<◌, ◌≤◌, ◌==◌, ◌&&◌, ◌||◌, ◌*◌, ◌+◌, ◌-◌, ℕ, min, max, nat_lt, nat_le, length, Bool, true, false, List, Option, Some, None, Result, Ok, Err, inl, inr, arith, refl, sym, ap, subst, ◌∙◌, if◌then◌else◌}
+use Rattle.std.proofs.Common.{◌≡◌, ◌⊎◌, ◌<◌, ◌≤◌, ◌==◌, ◌&&◌, ◌||◌, ◌*◌, ◌+◌, ◌-◌, ℕ, max, nat_lt, nat_le, length, Bool, true, false, List, Option, Some, None, Result, Ok, Err, inl, inr, arith, refl, sym, ap, subst, ◌∙◌, if◌then◌else◌}
 use Rattle.std.proofs.lemmas.Bool.{cases_eq, eq-eqb, ne_eqb, eqb-false, lt-ltb, le-leb, leb-true, ltb-true, and_parts}
 use Rattle.data_map.specs.declared.ranges.TheConstants.{MAX_FILE_SIZE}
 use Rattle.data_map.specs.Striping.{stripe_length}

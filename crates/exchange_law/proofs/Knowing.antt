@@ -2,7 +2,6 @@
 -- sent to drives are commands.
 use Rattle.std.proofs.Common.{◌≡◌, ℕ, ◌∷◌, ◌++◌, [], List, Some, None, map, slice_get, refl, sym, ap, subst, ◌∙◌, inl, inr}
 use Rattle.std.proofs.lemmas.List.{append-nil}
-use Rattle.osd_lists.specs.declared.node.Node.{Node}
 use Rattle.osd_lists.specs.declared.node.Node.TheVariants as node
 use Rattle.osd_commands.specs.declared.commands.Command.{Command}
 use Rattle.server_rules.specs.Laws.{In}
@@ -17,7 +16,7 @@ use Rattle.world_history.specs.declared.messages.Message.{Message}
 use Rattle.world_history.specs.declared.messages.Posted.{Posted}
 use Rattle.world_history.specs.declared.messages.Sent.{Sent}
 use Rattle.world_history.specs.State.{World}
-use Rattle.world_history.specs.Spelled.{spelled, party_of}
+use Rattle.world_history.specs.Spelled.{spelled}
 use Rattle.world_history.specs.Moves.{Act, acts}
 use Rattle.world_history.specs.Sending.{Move, sends_all}
 use Rattle.world_history.specs.Plans.{plan_of}

@@ -1,17 +1,17 @@
 -- What the empty history has, and each move that is due at a moment keeps, holds at each moment of a history.
-use Rattle.std.proofs.Common.{◌≡◌, ◌++◌, ◌∷◌, [], List, Some, None, refl, sym, ap, subst, ◌∙◌, append_assoc}
+use Rattle.std.proofs.Common.{◌≡◌, ◌++◌, ◌∷◌, [], List, None, refl, sym, ap, subst, ◌∙◌, append_assoc}
 use Rattle.std.proofs.lemmas.List.{append-nil}
 use Rattle.scenario_text.specs.declared.event.Event.{Event}
 use Rattle.scenario_text.specs.declared.line.Line.{Line}
 use Rattle.scenario_text.specs.declared.line.Line.TheVariants as line
 use Rattle.world_history.specs.State.{World, empty_world}
 use Rattle.world_history.specs.Sending.{Move, move}
-use Rattle.world_history.specs.Plans.{Plan, due, went_on, plan_of}
+use Rattle.world_history.specs.Plans.{Plan, due, plan_of}
 use Rattle.world_history.specs.Runs.{world_after, lines_of, AreDue, plan_after, IsOver, Carries}
 use Rattle.world_history.specs.History.{Step, AreCarried, end_of, lines_of_steps, StandsFor, OneEventMore}
 use Rattle.world_history.specs.Refusals.{refusal}
 use Rattle.world_history.proofs.Runs.{due_more, plan_more}
-use Rattle.history_law.specs.BookMoments.{IsMoment, plan_at, lines_so_far, lines_in}
+use Rattle.history_law.specs.BookMoments.{IsMoment, lines_so_far, lines_in}
 use Rattle.move_law.proofs.Moments.{so_far_more, IsKept}
 
 world_more : (w : World) (ms : List Move) (m : Move) → (move (world_after w ms) m).world ≡ world_after w (ms ++ m ∷ [])

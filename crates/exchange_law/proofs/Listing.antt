@@ -4,9 +4,7 @@ use Rattle.std.specs.Prelude.{IsTrue}
 use Rattle.std.specs.Int.{w64, w128, from_be_bytes, to_be_bytes}
 use Rattle.std.proofs.lemmas.Bool.{cases_eq, le-ltb, ne_eqb}
 use Rattle.std.proofs.lemmas.Nat.{from_be_bytes-to_be_bytes_8}
-use Rattle.sha1.specs.Sha1.{sha1, digest_bytes as sha1_bytes}
-use Rattle.sha2.specs.Sha256.{sha256, digest_bytes as sha256_bytes}
-use Rattle.hmac_tags.specs.Mac.{hmac, hmac_sha1, hmac_sha256}
+use Rattle.hmac_tags.specs.Mac.{hmac_sha1, hmac_sha256}
 use Rattle.hmac_tags.proofs.Lengths.{long_sha1, long_sha256}
 use Rattle.osd_capability.specs.declared.layout.TheConstants.{FORMAT_SHA256}
 use Rattle.osd_capability.specs.declared.keys.CapKey.{CapKey}

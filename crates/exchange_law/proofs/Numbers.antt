@@ -1,6 +1,5 @@
 -- Whatever comes to a client, its nonces rise in their grants.
-use Rattle.std.proofs.Common.{◌≡◌, ◌<◌, ℕ, ◌+◌, ◌==◌, Bool, true, false, List, [], ◌∷◌, ◌++◌, length, refl, sym, ap, ◌∙◌, inl, inr, arith, eq-eqb, ne_eqb}
-use Rattle.std.proofs.lemmas.Bool.{cases_eq}
+use Rattle.std.proofs.Common.{◌≡◌, ◌<◌, ℕ, ◌+◌, ◌==◌, Bool, true, false, List, [], ◌∷◌, ◌++◌, length, refl, sym, ap, ◌∙◌, arith}
 use Rattle.std.specs.Prelude.{if◌then◌else◌, map, is_some, Option, Some, None, Result, Ok, Err}
 use Rattle.std.proofs.lemmas.List.{append-nil, append_assoc, length-append, length-map}
 use Rattle.layout_ops.specs.declared.args.Args.{Args}
@@ -27,7 +26,7 @@ use Rattle.exchange_law.proofs.Rising.{last_is_new, differ_before, rising_differ
 use Rattle.exchange_law.proofs.Kept.{FairPhase, FairTurn, IsKept, replied_kept, timed_out_kept, begins_kept, on_commit_kept}
 use Rattle.exchange_law.proofs.ClientGiven.{IsGiven, taken_given}
 use Rattle.exchange_law.proofs.ClientKeeping.{IsKeeping, without_keeping, after_keeping, more_keeping, given_keeping, sent_keeping}
-use Rattle.exchange_law.proofs.LaneGoing.{phase_still, turn_still, FairCall, call_still}
+use Rattle.exchange_law.proofs.LaneGoing.{turn_still, FairCall, call_still}
 
 -- ---- a client in the middle of a step
 

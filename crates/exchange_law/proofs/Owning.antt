@@ -1,6 +1,5 @@
 -- What the server gives a client names its grant in the bytes that a name has.
-use Rattle.std.proofs.Common.{◌≡◌, ℕ, List, [], ◌∷◌, ◌++◌, Some, None, refl, sym, ap, subst, ◌∙◌, arith, inl, inr}
-use Rattle.std.proofs.lemmas.List.{append-nil}
+use Rattle.std.proofs.Common.{◌≡◌, ℕ, List, [], ◌∷◌, Some, refl, sym, ap, subst, ◌∙◌, arith, inl, inr}
 use Rattle.osd_lists.specs.declared.node.Node.{Node}
 use Rattle.osd_lists.specs.declared.node.Node.TheVariants as node
 use Rattle.world_history.specs.declared.messages.Sent.{Sent}
@@ -12,7 +11,6 @@ use Rattle.layout_ops.specs.Spelling.{StateIdFits}
 use Rattle.client_rules.specs.Results.{layouts_in}
 use Rattle.server_rules.specs.Laws.{In}
 use Rattle.server_rules.proofs.Members.{in_either}
-use Rattle.scenario_text.specs.declared.event.Event.{Event}
 use Rattle.scenario_text.specs.declared.line.Line.{Line}
 use Rattle.world_history.specs.declared.messages.Body.{Body}
 use Rattle.world_history.specs.declared.messages.Body.TheVariants.{Envelope as OfEnvelope}
@@ -21,26 +19,18 @@ use Rattle.world_history.specs.State.{World}
 use Rattle.world_history.specs.Handed.{Post}
 use Rattle.world_history.specs.Moves.{acts}
 use Rattle.world_history.specs.Sending.{Move, move}
-use Rattle.world_history.specs.Plans.{plan_of}
 use Rattle.world_history.specs.Reading.{sent_in}
-use Rattle.world_history.specs.Refusals.{refusal}
-use Rattle.world_history.specs.Runs.{world_after, AreDue}
-use Rattle.world_history.specs.History.{StandsFor, OneEventMore}
+use Rattle.world_history.specs.History.{OneEventMore}
 use Rattle.history_law.proofs.DriveLines.{sent_read}
-use Rattle.history_law.proofs.Histories.{stands, kept_part}
-use Rattle.history_law.specs.BookMoments.{IsMoment, lines_so_far}
-use Rattle.history_law.specs.Granted.{IsGrantOf, GivesOwn, OwnIn}
-use Rattle.layout_ops.specs.declared.results.Results.{Results}
-use Rattle.layout_ops.specs.declared.results.Results.TheVariants as results
-use Rattle.layout_ops.specs.declared.results.LayoutGetResult.TheVariants as get
+use Rattle.history_law.specs.BookMoments.{IsMoment}
+use Rattle.history_law.specs.Granted.{IsGrantOf, OwnIn}
 use Rattle.history_law.proofs.Issuing.{PostKnown, PostsKnown}
 use Rattle.history_law.proofs.IssuingMoves.{acts_known}
-use Rattle.history_law.proofs.IssueLines.{IsKnown, all_known}
 use Rattle.history_law.proofs.Exact.{own_given}
 use Rattle.exchange_law.proofs.Along.{at_moment}
 use Rattle.exchange_law.proofs.Turning.{sent_by, posted}
 use Rattle.exchange_law.proofs.Turns.{messages_behind}
-use Rattle.exchange_law.proofs.Knowing.{known_moves, known_at}
+use Rattle.exchange_law.proofs.Knowing.{known_at}
 
 -- each message of the server to a client gives it its own
 pub record AreOwn (w : World) (h : List Line) : Type 0 where

@@ -8,7 +8,7 @@ use Rattle.osd_capability.specs.declared.layout.Capability.{Capability}
 use Rattle.osd_capability.specs.declared.layout.CapErr.{CapErr}
 use Rattle.osd_capability.specs.Layout as cap
 use Rattle.osd_commands.specs.declared.actions.Action.{Action}
-use Rattle.osd_commands.specs.declared.actions.Action.TheVariants.{Create, Read, Write, GetAttr, SetAttr, SetTag}
+use Rattle.osd_commands.specs.declared.actions.Action.TheVariants.{Read, Write}
 use Rattle.osd_commands.specs.declared.commands.Command.{Command}
 use Rattle.osd_commands.specs.declared.commands.CommandErr.TheVariants.{Short, Magic}
 use Rattle.osd_commands.specs.Actions.{number_of, action_of, right_of}

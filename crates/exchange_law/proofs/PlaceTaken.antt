@@ -1,6 +1,6 @@
 -- The grant that a client takes from an answer of the server is the one that the server gave.
-use Rattle.std.proofs.Common.{◌≡◌, ◌==◌, ℕ, ◌<◌, ◌^◌, Bool, true, false, not, ◌&&◌, ◌||◌, List, [], ◌∷◌, ◌++◌, Option, Some, None, Result, Ok, Err, length, replicate, slice_get, refl, sym, ap, subst, ◌∙◌, arith, if◌then◌else◌}
-use Rattle.std.specs.Int.{w64, w128, to_be_bytes, from_be_bytes}
+use Rattle.std.proofs.Common.{◌≡◌, ◌==◌, ℕ, ◌<◌, ◌^◌, Bool, true, false, not, List, [], ◌∷◌, Option, Some, None, Result, Ok, Err, length, slice_get, refl, sym, ap, subst, ◌∙◌, arith, if◌then◌else◌}
+use Rattle.std.specs.Int.{w64, to_be_bytes}
 use Rattle.std.proofs.lemmas.Bool.Decides.{nat_tests}
 use Rattle.std.proofs.lemmas.Nat.{from_be_bytes-to_be_bytes_8}
 use Rattle.data_map.specs.Check.{IsChecked}
@@ -10,7 +10,6 @@ use Rattle.layout_types.specs.declared.layout.Layout.{Layout}
 use Rattle.layout_types.specs.declared.objid.ObjId.{ObjId}
 use Rattle.layout_types.specs.Grammar.{whole}
 use Rattle.layout_types.specs.Reading.{layout_in}
-use Rattle.layout_ops.specs.declared.statuses.TheConstants.{LAYOUTIOMODE4_READ, LAYOUTIOMODE4_RW}
 use Rattle.layout_ops.specs.declared.results.LayoutSegment.{LayoutSegment}
 use Rattle.layout_ops.specs.declared.results.LayoutGetOk.{LayoutGetOk}
 use Rattle.layout_ops.specs.declared.results.LayoutGetResult.TheVariants as get
@@ -21,12 +20,12 @@ use Rattle.layout_ops.specs.Reading.{envelope_of}
 use Rattle.layout_ops.proofs.Whole.{all_again}
 use Rattle.osd_capability.specs.Layout as cap
 use Rattle.osd_capability.proofs.LayoutLaws.{reading-spelling}
-use Rattle.exchange_law.specs.PlaceState.{CallOp, Credential, Listed, Reach, Held, Why, Unreadable, Index, Partial, Secured, BadMap, BadCredential, Answer}
-use Rattle.client_rules.specs.Calls.{file_of, is_write}
+use Rattle.exchange_law.specs.PlaceState.{CallOp, Credential, Listed, Reach, Held, Why, Unreadable, Index, Partial, Secured, BadMap, Answer}
+use Rattle.client_rules.specs.Calls.{file_of}
 use Rattle.client_rules.specs.Grants.{is_for}
 use Rattle.client_rules.specs.Requests.{grant_in}
 use Rattle.client_rules.specs.Results.{layouts_in}
-use Rattle.client_rules.specs.Layouts.{drive_of, any_secured, is_map, first_why, reach_of, fresh, is_lacking, enough, listed, all_listed, with_listed, unless_why, with_body, one_layout, in_layouts, taken}
+use Rattle.client_rules.specs.Layouts.{drive_of, any_secured, is_map, first_why, reach_of, fresh, listed, all_listed, with_listed, unless_why, with_body, one_layout, in_layouts, taken}
 use Rattle.client_rules.proofs.TakenMaps.{taken_checked}
 use Rattle.server_rules.specs.declared.files.Component.{Component}
 use Rattle.server_rules.specs.declared.files.Kept.{Kept}
@@ -35,7 +34,7 @@ use Rattle.server_rules.specs.declared.server.Drive.{Drive}
 use Rattle.server_rules.specs.Layouts.{capability_for, device_of, object_of, credential, no_credential, layout_for, segment_for}
 use Rattle.history_law.proofs.Carried.{same_read}
 use Rattle.history_law.proofs.Exact.{same_ok, one_of, body_read, first_credential, read_in}
-use Rattle.history_law.proofs.Taking.{IsListedAs, is_listed, both_listed, listed_at, same_grant, enough_same}
+use Rattle.history_law.proofs.Taking.{IsListedAs, is_listed, both_listed, listed_at, enough_same}
 use Rattle.exchange_law.specs.Kept.{IsCredentialOf, IsOwnGrant}
 use Rattle.exchange_law.specs.PlaceAnswers.{GivesFitting, ResultsFit, AnswerFits, SpellsFitting}
 use Rattle.exchange_law.proofs.Covered.{rw_again}

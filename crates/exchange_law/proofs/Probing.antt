@@ -3,11 +3,10 @@ use Rattle.std.proofs.Common.{◌≡◌, ◌≤◌, ◌<◌, ℕ, zero, suc, Lis
 use Rattle.std.specs.List.{AllByRecursion}
 use Rattle.std.proofs.lemmas.Bool.{cases_Bool}
 use Rattle.std.proofs.lemmas.Nat.{div_below}
-use Rattle.std.proofs.Math.Nat.{add-mul, mul-le-mul_right}
 use Rattle.data_map.specs.declared.check.RawMap.{RawMap}
 use Rattle.data_map.specs.Check.{IsChecked}
-use Rattle.data_map.specs.Striping.{replicas, positions, group_width, groups}
-use Rattle.data_map.proofs.Shape.{whole_positions, whole_groups, replicas_inside, some_width, group_ends}
+use Rattle.data_map.specs.Striping.{replicas, positions}
+use Rattle.data_map.proofs.Shape.{whole_positions, replicas_inside, group_ends}
 use Rattle.stripe_plan.specs.Lost.{among, source, is_out}
 use Rattle.exchange_law.specs.PlaceState.{Held, Listed, Credential, TimedOut}
 use Rattle.client_rules.specs.Io.{outs}

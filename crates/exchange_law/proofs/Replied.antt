@@ -1,7 +1,6 @@
 -- Each message of a drive to a client is its reply to a message of the client that was delivered to it.
-use Rattle.std.proofs.Common.{◌≡◌, ◌⊎◌, ◌||◌, ℕ, Bool, true, false, List, [], ◌∷◌, ◌++◌, Some, None, map, filter, length, slice_get, refl, sym, ap, subst, ◌∙◌, append_assoc, inl, inr, if◌then◌else◌}
+use Rattle.std.proofs.Common.{◌≡◌, ◌||◌, ℕ, Bool, true, false, List, [], ◌∷◌, ◌++◌, Some, None, map, filter, length, slice_get, refl, sym, ap, subst, ◌∙◌, append_assoc, inl, inr, if◌then◌else◌}
 use Rattle.std.proofs.lemmas.List.{append-nil}
-use Rattle.std.proofs.lemmas.List.Sums.{fold-append}
 use Rattle.osd_lists.specs.declared.node.Node.TheVariants as node
 use Rattle.osd_commands.specs.declared.replies.Reply.{Reply}
 use Rattle.server_rules.specs.Laws.{In}
@@ -25,7 +24,7 @@ use Rattle.world_history.specs.Handed.{Post, is_addressed, is_write_out, server_
 use Rattle.world_history.specs.Moves.{Act, Action, acts}
 use Rattle.world_history.specs.Sending.{Move, move, sent_lines}
 use Rattle.world_history.specs.Plans.{plan_of}
-use Rattle.world_history.specs.Reading.{sent_after, sent_in}
+use Rattle.world_history.specs.Reading.{sent_in}
 use Rattle.world_history.specs.Refusals.{refusal}
 use Rattle.world_history.specs.Runs.{world_after, AreDue}
 use Rattle.world_history.specs.History.{StandsFor, OneEventMore}

@@ -8,14 +8,14 @@ use Rattle.osd_lists.specs.declared.node.Node.TheVariants.{Server as FromServer,
 use Rattle.layout_ops.specs.declared.envelope.Envelope.TheVariants as envelope
 use Rattle.client_rules.specs.Replies.{answers}
 use Rattle.client_rules.specs.Envelopes.{message_in}
-use Rattle.client_rules.specs.Messages.{Message, Replies, Answers, Recalls, Taken, TakesAnswer, TakesRecall, names_nobody, is_awaited, answer_taken, reply_taken, awaited_of, takes}
+use Rattle.client_rules.specs.Messages.{Message, Replies, Answers, Recalls, Taken, TakesAnswer, TakesRecall, names_nobody, is_awaited, answer_taken, awaited_of, takes}
 use Rattle.server_rules.specs.declared.server.Slot.{Slot}
 use Rattle.server_rules.specs.Laws.{last_of}
 use Rattle.scenario_text.specs.declared.line.Line.{Line}
 use Rattle.world_history.specs.declared.messages.Body.{Body}
 use Rattle.world_history.specs.declared.messages.Body.TheVariants.{Command as OfCommand, Reply as OfReply, Envelope as OfEnvelope}
 use Rattle.world_history.specs.Spelled.{spelled}
-use Rattle.history_law.specs.State.{Client, Awaited, Request, Answer, Reply}
+use Rattle.history_law.specs.State.{Client, Request, Answer}
 use Rattle.exchange_law.specs.Messages.{WasAnswered, IsAnswered, IsSlotOf}
 use Rattle.exchange_law.specs.Made.{WasMade}
 use Rattle.exchange_law.specs.InStep.{IsAwaiting}

@@ -1,10 +1,7 @@
 -- No drive finds an awaited command stale, or an object without a lane for it.
-use Rattle.std.proofs.Common.{◌≡◌, ℕ, ◌<◌, ◌∷◌, ◌||◌, [], List, Bool, true, false, nat_lt, nat_eq, bit_and, Some, Result, Ok, Err, map, refl, sym, ap, subst, ◌∙◌, arith, inl, inr}
-use Rattle.std.proofs.lemmas.Bool.Decides.{nat_tests}
+use Rattle.std.proofs.Common.{◌≡◌, ℕ, ◌<◌, ◌∷◌, [], List, true, false, nat_eq, bit_and, Some, Result, Ok, Err, map, refl, sym, ap, subst, ◌∙◌, arith, inl, inr}
 use Rattle.osd_lists.proofs.Tests.{first_false}
 use Rattle.osd_capability.specs.declared.layout.Capability.{Capability}
-use Rattle.osd_commands.specs.declared.actions.Action.{Action}
-use Rattle.osd_commands.specs.declared.actions.Action.TheVariants as action
 use Rattle.osd_commands.specs.declared.commands.Command.{Command}
 use Rattle.osd_commands.specs.declared.commands.CommandErr.{CommandErr}
 use Rattle.osd_commands.specs.Actions.{right_of}

@@ -19,13 +19,13 @@ use Rattle.layout_ops.specs.Spelling.{StateIdFits}
 use Rattle.client_rules.specs.Requests.{grant_in}
 use Rattle.client_rules.specs.Results.{layouts_in}
 use Rattle.client_rules.specs.Envelopes.{by_envelope, message_in}
-use Rattle.client_rules.specs.Messages.{Message as ClientMessage, Replies, Answers, Recalls, Taken, TakesAnswer, TakesReply, TakesRecall, takes, reply_taken, answer_taken, is_awaited, names_nobody, awaited_of}
+use Rattle.client_rules.specs.Messages.{Message as ClientMessage, Replies, Answers, Recalls, Taken, TakesAnswer, TakesReply, TakesRecall, takes, answer_taken, is_awaited, names_nobody, awaited_of}
 use Rattle.client_rules.specs.Replies.{answers}
 use Rattle.exchange_law.specs.ClientNonces.{given, granted}
 use Rattle.server_rules.specs.declared.limits.TheConstants.{GREATEST_SEQUENCE}
 use Rattle.server_rules.specs.Laws.{In, last_of}
 use Rattle.server_rules.specs.Slots.{slot_of}
-use Rattle.history_law.specs.State.{Client, Awaited, Request, Recall, Reply}
+use Rattle.history_law.specs.State.{Client, Request, Recall}
 use Rattle.world_history.specs.ServerNames.{Slot}
 use Rattle.world_history.specs.declared.messages.Body.{Body}
 use Rattle.world_history.specs.declared.messages.Body.TheVariants.{Command as OfCommand, Reply as OfReply, Envelope as OfEnvelope}

@@ -1,6 +1,6 @@
 -- A history before a move is calm and unguessed if it is so with the first lines of the move. That isn't so of every front
 -- of a history: one that is cut inside a step of the server may be disturbed where the whole step is calm.
-use Rattle.std.proofs.Common.{◌≡◌, ℕ, ◌&&◌, ◌++◌, ◌∷◌, zero, suc, [], List, Bool, true, false, length, take, refl, sym, ap, subst, ◌∙◌}
+use Rattle.std.proofs.Common.{◌≡◌, ℕ, ◌++◌, ◌∷◌, zero, suc, [], List, true, length, take, refl, sym, ap, subst, ◌∙◌}
 use Rattle.std.specs.List.{fold}
 use Rattle.std.proofs.lemmas.List.{append-nil}
 use Rattle.osd_lists.proofs.Tests.{first_true}
@@ -15,10 +15,9 @@ use Rattle.world_history.specs.Reading.{Step, steps_of}
 use Rattle.world_history.specs.Book.{server_step}
 use Rattle.world_history.specs.Stripes.{is_calm}
 use Rattle.world_history.specs.Calm.{Seen, Watched, watches, watched, begins, mended_in, moment_behind, sees, seen, calm}
-use Rattle.world_history.specs.Guesses.{Guarded, guards, guarded, unguessed}
+use Rattle.world_history.specs.Guesses.{Guarded, guarded, unguessed}
 use Rattle.world_history.specs.Laws.{BeginWithHead, MomentGoesOn, AllLinesGoOn}
 use Rattle.history_law.specs.BookMoments.{with_event, lines_in}
-use Rattle.history_law.specs.Read.{AreWritten}
 use Rattle.history_law.proofs.Coming.{clean_before}
 use Rattle.history_law.proofs.Staying.{written_front}
 use Rattle.exchange_law.proofs.CountGrowing.{fewer, text_front}

@@ -1,11 +1,11 @@
 // What a call asks.
 ghost use Rattle.std.specs.Prelude.{◌≡◌};
-ghost use Rattle.client_rules.specs.Calls.{file_of, span_of, is_write};
+ghost use Rattle.client_rules.specs.Calls.{file_of, span_of};
 ghost use Rattle.client_rules.specs.Grants.{clipped};
 ghost use Rattle.client_rules.specs.Requests.{asked_span};
 ghost use Rattle.held_grants.specs.Ranges.{IsInFile, AsksInFile};
 
-use client_rules::CallOp;
+use client_rules::{CallOp, span_of};
 use data_map::MAX_FILE_SIZE;
 use stripe_plan::Span;
 
@@ -16,32 +16,6 @@ pub fn file_of(op: &CallOp) -> u32
     match op {
         CallOp::Write { file, .. } => *file,
         CallOp::Read { file, .. } => *file,
-    }
-}
-
-/// The range of a call, in bytes of its file.
-pub fn span_of(op: &CallOp) -> Span
-    ensures { result ≡ span_of op.now }
-{
-    match op {
-        CallOp::Write { offset, bytes, .. } => Span {
-            offset: *offset,
-            length: bytes.len() as u64,
-        },
-        CallOp::Read { offset, length, .. } => Span {
-            offset: *offset,
-            length: *length,
-        },
-    }
-}
-
-/// Whether a call writes.
-pub fn is_write(op: &CallOp) -> bool
-    ensures { result ≡ is_write op.now }
-{
-    match op {
-        CallOp::Write { .. } => true,
-        CallOp::Read { .. } => false,
     }
 }
 

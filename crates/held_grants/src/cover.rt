@@ -3,8 +3,8 @@ ghost use Rattle.std.specs.Prelude.{◌≡◌, ◌&&◌, ◌||◌, ◌==◌, nat
 ghost use Rattle.client_rules.specs.Grants.{clipped, contains, covers_write, covers_read, is_for, covers};
 ghost use Rattle.held_grants.specs.Ranges.{IsInFile, AsksInFile};
 
-use crate::calls::{clipped, is_write, span_of};
-use client_rules::{CallOp, Held, MAX_COUNT, Reach};
+use crate::calls::clipped;
+use client_rules::{CallOp, Held, MAX_COUNT, Reach, is_write, span_of};
 use stripe_plan::Span;
 
 // Whether the range is inside the grant's bytes.

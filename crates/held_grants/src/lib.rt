@@ -14,11 +14,11 @@ mod grants;
 mod requests;
 mod taking;
 
-pub use calls::{asked_span, clipped, file_of, is_write, span_of};
+pub use calls::{asked_span, clipped, file_of};
 pub use components::missing_of;
 pub use cover::{covers, is_for};
 pub use credentials::{all_listed, any_secured, listed};
 pub use dues::{Dues, make_due, take_due};
 pub use grants::HeldGrants;
 pub use requests::{commit_args, get_args, return_args};
-pub use taking::{grant_in, taken};
+pub use taking::{grant_from, grant_in};

@@ -9,8 +9,8 @@ ghost use Rattle.layout_ops.specs.declared.args.Args.TheVariants as args;
 ghost use Rattle.held_grants.specs.Ranges.{IsInFile, AsksInFile};
 ghost use Rattle.held_grants.specs.Bodies.{report_item};
 
-use crate::calls::{asked_span, is_write, span_of};
-use client_rules::{CallOp, MAX_LAYOUT, WHOLE_FILE};
+use crate::calls::asked_span;
+use client_rules::{CallOp, MAX_LAYOUT, WHOLE_FILE, is_write, span_of};
 use layout_ops::{
     Args, LAYOUTIOMODE4_ANY, LAYOUTIOMODE4_READ, LAYOUTIOMODE4_RW, LayoutCommitArgs, LayoutGetArgs,
     LayoutReturnArgs, STATEID_OTHER_BYTES, StateId,

@@ -10,11 +10,11 @@ ghost use Rattle.client_rules.specs.Layouts.{is_map, first_why, reach_of, grante
 ghost use Rattle.held_grants.specs.Ranges.{IsInFile, AsksInFile};
 ghost use Rattle.held_grants.specs.Maps.{is_short, map_unless, with_creds};
 
-use crate::calls::{asked_span, file_of, is_write};
+use crate::calls::{asked_span, file_of};
 use crate::components::missing_of;
 use crate::cover::is_for;
 use crate::credentials::{all_listed, any_secured};
-use client_rules::{CallOp, Held, MAX_FILE_COMPONENTS, Reach, Why};
+use client_rules::{CallOp, Held, MAX_FILE_COMPONENTS, Reach, Why, is_write};
 use data_map::{DataMap, MAX_FILE_SIZE, RawMap};
 use layout_ops::{Answer, LAYOUTIOMODE4_RW, LayoutGetResult, LayoutSegment, Results, StateId};
 use layout_types::{Layout, LayoutErr, Structure};
@@ -222,7 +222,7 @@ fn one_layout(
 /// takes none: the first of [`Why`] that holds. The call's range ends at most at
 /// [`MAX_FILE_SIZE`](data_map::MAX_FILE_SIZE).
 #[tactic(auto, unfolding(client_rules::specs::Layouts::taken))]
-pub fn taken(alloc: Global, answer: &Answer, op: &CallOp) -> Result<Result<Held, Why>, Memory>
+pub fn grant_from(alloc: Global, answer: &Answer, op: &CallOp) -> Result<Result<Held, Why>, Memory>
     requires { AsksInFile op.now }
     ensures { IfOk result (λ r. r ≡ taken answer.now op.now) }
 {

@@ -5,7 +5,7 @@ use Rattle.server_rules.specs.Files.{file_at}
 use Rattle.scenario_text.specs.declared.event.Event.{Event}
 use Rattle.scenario_text.specs.declared.line.Line.{Line}
 use Rattle.world_history.specs.State.{World}
-use Rattle.world_history.specs.Moves.{Action, Opens, Delivers, TimesOut, Pends}
+use Rattle.world_history.specs.Moves.{Action, Opens}
 use Rattle.world_history.specs.Sending.{Move, move}
 use Rattle.world_history.specs.Plans.{Plan, Rule, due, due_by, rule_after, rule_of, plan_of}
 use Rattle.world_history.specs.Runs.{world_after, AreDue, plan_after}
@@ -15,10 +15,9 @@ use Rattle.world_history.specs.Reading.{steps_of}
 use Rattle.world_history.specs.Book.{ServerSeen, server_seen}
 use Rattle.world_history.specs.Laws.{ServerGoesOn, AllLinesGoOn}
 use Rattle.world_history.proofs.Always.{opening}
-use Rattle.world_history.proofs.ReadMessages.{never_opens}
 use Rattle.move_law.proofs.Moments.{no_event}
 use Rattle.history_law.proofs.Histories.{stands, kept_part}
-use Rattle.history_law.specs.BookMoments.{IsMoment, lines_so_far, with_event, lines_in}
+use Rattle.history_law.specs.BookMoments.{IsMoment, lines_so_far, lines_in}
 use Rattle.history_law.specs.Doing.{did_in}
 use Rattle.history_law.specs.Read.{AreWritten, BookIsRead, FilesAreRead, ReadsAs, StepIsRead}
 use Rattle.history_law.proofs.Staying.{written_front}

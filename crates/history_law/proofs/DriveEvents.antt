@@ -13,7 +13,6 @@ use Rattle.scenario_text.specs.declared.line.Verdict.{Verdict as ToldVerdict}
 use Rattle.scenario_text.specs.declared.line.Line.{Line}
 use Rattle.scenario_text.specs.declared.line.Line.TheVariants as line
 use Rattle.world_history.specs.ServerNames as server_rules
-use Rattle.world_history.specs.ClientNames as client_rules
 use Rattle.world_history.specs.declared.err.WorldErr.{WorldErr}
 use Rattle.world_history.specs.declared.messages.Posted.{Posted}
 use Rattle.world_history.specs.declared.messages.Sent.{Sent}

@@ -1,5 +1,5 @@
 -- What the empty history has, and each event's beginning and each later move keep, holds of every lawful history.
-use Rattle.std.proofs.Common.{◌≡◌, ℕ, ◌++◌, ◌∷◌, [], List, Some, None, refl, sym, ap, subst, ◌∙◌, append_assoc}
+use Rattle.std.proofs.Common.{◌≡◌, ◌++◌, ◌∷◌, [], List, Some, None, refl, sym, ap, subst, ◌∙◌, append_assoc}
 use Rattle.std.proofs.lemmas.List.{append-nil}
 use Rattle.scenario_text.specs.declared.event.Event.{Event}
 use Rattle.scenario_text.specs.declared.line.Line.{Line}
@@ -7,7 +7,7 @@ use Rattle.scenario_text.specs.declared.line.Line.TheVariants as line
 use Rattle.world_history.specs.State.{World, empty_world}
 use Rattle.world_history.specs.Moves.{Action, Opens}
 use Rattle.world_history.specs.Sending.{Move, move}
-use Rattle.world_history.specs.Plans.{Rule, due_by, rule_after, rule_of, plan_of}
+use Rattle.world_history.specs.Plans.{Rule, rule_after, rule_of, plan_of}
 use Rattle.world_history.specs.Runs.{world_after, lines_of, AreDue, plan_after, IsOver, Carries, CarriesPart}
 use Rattle.world_history.specs.History.{Step, AreCarried, end_of, lines_of_steps, StandsFor, Begins, Lawful}
 use Rattle.world_history.specs.History.Begins.{Nothing, Part}

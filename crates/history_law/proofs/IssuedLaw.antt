@@ -1,5 +1,5 @@
 -- What a drive performs is the server's, or was issued to the client that sent it.
-use Rattle.std.proofs.Common.{◌≡◌, ℕ, ◌∷◌, [], List, Bool, true, false, ◌||◌, Some, Ok, slice_get, bit_and, nat_eq, refl, sym, ap, subst, ◌∙◌, inl, inr}
+use Rattle.std.proofs.Common.{◌≡◌, ℕ, ◌∷◌, [], List, true, false, Some, Ok, slice_get, bit_and, nat_eq, refl, sym, ap, subst, ◌∙◌, inl, inr}
 use Rattle.std.proofs.lemmas.Option.{same_Some}
 use Rattle.osd_lists.proofs.Tests.{first_false}
 use Rattle.layout_types.specs.declared.cred.ObjectCred.{ObjectCred}

@@ -1,7 +1,6 @@
 -- Each message of a client to a drive, at each moment, is under a credential that was given to the client before.
 use Rattle.std.proofs.Common.{◌≡◌, ℕ, ◌++◌, ◌∷◌, [], List, Option, Some, None, slice_get, slice_set, refl, sym, ap, subst, ◌∙◌, zero, suc, inl, inr, ◌⊎◌, append_assoc}
 use Rattle.std.proofs.lemmas.List.{append-nil}
-use Rattle.std.proofs.lemmas.List.Sums.{fold-append}
 use Rattle.osd_lists.proofs.Slices.{found_more}
 use Rattle.scenario_text.specs.declared.event.Event.{Event}
 use Rattle.scenario_text.specs.declared.event.Event.TheVariants as event

@@ -1,9 +1,10 @@
 // The words of the program's commands.
-ghost use Rattle.std.specs.Prelude.{◌≡◌, ◌↔◌, IsTrue, map, string_bytes};
-ghost use Rattle.scenario_text.specs.Reading.{decimal_of, IsPlain};
+ghost use Rattle.std.specs.Prelude.{◌≡◌, map, string_bytes};
+ghost use Rattle.scenario_text.specs.Reading.{decimal_of};
 ghost use Rattle.osd_replay.specs.Commands.{command_of, generates, kind_of, inspection_of};
 
 use layout_types::Kind;
+use scenario_text::decimal;
 
 /// The most calls that `generate` makes.
 pub const MAX_CALLS: u64 = 1000;
@@ -55,33 +56,12 @@ fn inspection_named(word: &str) -> Option<Inspection>
     }
 }
 
-// Whether a word may spell a number: it has no sign and no leading zero.
-fn is_plain(word: &[u8]) -> bool
-    ensures { IsTrue result ↔ IsPlain word.now }
-{
-    match word {
-        [] | [b'+', ..] => false,
-        [b'0', digits @ ..] => digits.is_empty(),
-        _ => true,
-    }
-}
-
-// The number of 64 bits that a word spells in decimal digits, without leading zeros.
-fn number_named(word: &str) -> Option<u64>
-    ensures { result ≡ decimal_of word.now }
-{
-    if !is_plain(word.as_bytes()) {
-        return None;
-    }
-    word.parse().ok()
-}
-
 // `generate N K`, where K is at most 1,000.
 fn generation(seed: &str, calls: &str) -> Option<Command>
     ensures { result ≡ generates (decimal_of seed.now) (decimal_of calls.now) }
 {
-    let seed = number_named(seed)?;
-    let calls = number_named(calls)?;
+    let seed = decimal(seed.as_bytes())?;
+    let calls = decimal(calls.as_bytes())?;
     if calls > MAX_CALLS {
         return None;
     }

@@ -2,7 +2,7 @@
 use Rattle.std.proofs.Common.{◌≡◌, ℕ, ◌+◌, ◌-◌, ◌*◌, ◌/◌, ◌%◌, ◌<◌, ◌≤◌, Bool, true, false, List, length, refl, sym, ap, ◌∙◌}
 use Rattle.std.proofs.Common.{arith, inl, inr}
 use Rattle.std.specs.Prelude.{◌&&◌, not, nat_lt, Some, None}
-use Rattle.std.proofs.lemmas.Bool.{cases_Bool, cases_lt, lt-ltb, le-leb, and_parts}
+use Rattle.std.proofs.lemmas.Bool.{cases_Bool, cases_lt, lt-ltb, and_parts}
 use Rattle.std.proofs.lemmas.Nat.{mod_below, div-mul-add, mod-mul-add}
 use Rattle.osd_lists.proofs.Tests.{nat_less}
 use Rattle.file_log.specs.Judge.{byte_for}

@@ -1,6 +1,6 @@
 -- The WRITEs of a scatter: what each carries, and that each changed byte is carried.
 use Rattle.std.proofs.Common.{◌≡◌, ℕ, zero, suc, ◌+◌, ◌-◌, ◌*◌, ◌/◌, ◌%◌, ◌<◌, ◌≤◌, true, false, List, [], ◌∷◌, ◌++◌, length}
-use Rattle.std.proofs.Common.{get_or, map, refl, sym, ap, ◌∙◌, arith, inl, inr, eq-eqb}
+use Rattle.std.proofs.Common.{get_or, map, refl, sym, ap, ◌∙◌, arith, inl, inr}
 use Rattle.std.specs.Prelude.{◌⊎◌, is_none}
 use Rattle.std.specs.List.{All, range_with_len}
 use Rattle.std.proofs.lemmas.Bool.{cases_Bool, cases_eq, cases_lt, lt-ltb, le-ltb}
@@ -11,7 +11,7 @@ use Rattle.data_map.specs.Check.{IsChecked}
 use Rattle.data_map.specs.Striping.{replicas, positions, group_of, group_width, data_units, stripe_of, position_of, offset_of}
 use Rattle.data_map.specs.Striping.{turned}
 use Rattle.data_map.specs.Inverse.{stripe_at, unit_at, byte_at, unit_in}
-use Rattle.data_map.proofs.Striping.{turned_again, turned_below, unit_again, unit_below, position_in_range, byte_stripe}
+use Rattle.data_map.proofs.Striping.{turned_below, unit_again, unit_below, position_in_range, byte_stripe}
 use Rattle.data_map.proofs.Shape.{replicas_inside}
 use Rattle.stripe_plan.specs.declared.plan.Span.{Span}
 use Rattle.stripe_plan.specs.declared.plan.Interval.{Interval}

@@ -30,3 +30,4 @@ pub use line::{
 pub use line_reader::read_line;
 pub use line_writer::{write_event_line, write_line, write_lines};
 pub use names::{CLIENTS, ClientName, DRIVES, DriveName, FILES, FileName, Name};
+pub use words::decimal;

@@ -23,8 +23,9 @@ fn is_plain(word: &[u8]) -> bool
     }
 }
 
-// A decimal number without leading zeros.
-fn decimal(word: &[u8]) -> Option<u64>
+/// The number of 64 bits that a word spells in decimal digits, without a sign and without leading zeros, `None` if it
+/// spells none.
+pub fn decimal(word: &[u8]) -> Option<u64>
     ensures { result ≡ decimal_of word.now }
 {
     if !is_plain(word) {

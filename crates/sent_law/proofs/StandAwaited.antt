@@ -1,6 +1,6 @@
 -- What a job awaits: the objects that its commands go to, and what answers and declarations leave of it.
 use Rattle.std.proofs.Common.{◌≡◌, ◌⊎◌, ◌&&◌, ◌==◌, ℕ, zero, suc, ◌+◌, Bool, true, false, not, List, [], ◌∷◌, map, filter, slice_set, Option, Some, None, refl, sym, ap, subst, ◌∙◌, inl, inr, if◌then◌else◌}
-use Rattle.std.proofs.lemmas.Bool.{cases_Bool, cases_eq, eq-eqb, ne_eqb}
+use Rattle.std.proofs.lemmas.Bool.{cases_eq, eq-eqb, ne_eqb}
 use Rattle.osd_commands.specs.declared.actions.Action.TheVariants.{Create}
 use Rattle.server_rules.specs.Columns.{row_from, unit_with, wanted}
 use Rattle.server_rules.specs.Commands.{Ask, Creating, Raising, Reading, Writing, Measuring, Which, All, is_meant, command_for, sent_to, to_each, again_in_2}
@@ -9,10 +9,10 @@ use Rattle.server_rules.specs.Laws.{In}
 use Rattle.server_rules.specs.Pieces.{stores_from, is_off}
 use Rattle.server_rules.specs.Rebuild.{sources_by, group_for}
 use Rattle.server_rules.specs.Repair.{is_left, repair_reads}
-use Rattle.server_rules.specs.Replies.{Full, Done, is_write, is_done, hearing, others, renewed}
-use Rattle.server_rules.specs.Standing.{is_beyond, lose_on}
+use Rattle.server_rules.specs.Replies.{others, renewed}
+use Rattle.server_rules.specs.Standing.{is_beyond}
 use Rattle.server_rules.proofs.Members.{in_mapped, in_map, in_filtered, in_filter}
-use Rattle.job_law.specs.Names.{Kept, Piece, Heard, Component, Awaited, Target, Reply}
+use Rattle.job_law.specs.Names.{Kept, Piece, Heard, Component, Awaited, Target}
 use Rattle.job_law.specs.Fencing.{IsAsked}
 use Rattle.job_law.proofs.Fences.{first_asked, later_asked}
 use Rattle.job_law.proofs.Hearing.{IsAlone}

@@ -1,5 +1,5 @@
 -- Each step of the server keeps that components have their objects, or get them.
-use Rattle.std.proofs.Common.{◌≡◌, ◌⊎◌, ◌==◌, ◌&&◌, ℕ, nat_le, nat_lt, Bool, true, false, List, [], ◌∷◌, find, is_some, Option, Some, None, refl, sym, subst, inl, inr, if◌then◌else◌}
+use Rattle.std.proofs.Common.{◌≡◌, ◌⊎◌, ◌==◌, ◌&&◌, ℕ, nat_le, nat_lt, Bool, true, false, List, [], ◌∷◌, find, Option, Some, None, refl, sym, subst, inl, inr, if◌then◌else◌}
 use Rattle.std.proofs.lemmas.Bool.{cases_Bool, eq-eqb}
 use Rattle.data_map.specs.declared.check.RawMap.{RawMap}
 use Rattle.osd_lists.specs.declared.node.Node.{Node}

@@ -12,11 +12,12 @@ ghost use Rattle.stripe_client.specs.Inside.{IsInside};
 
 use crate::state::{Made, State};
 use crate::turning::{apply, end, go_on, turn};
-use call_io::{CallMove, CallPhase, CallTurn, accounted};
+use call_io::{CallMove, CallPhase, CallTurn, end_or_report};
 use client_rules::{
     AwaitedCommands, CallOp, Held, LOSS_TAKEN, MAX_TRIES, NO_COMPONENT, Need, Outcome, TimedOuts,
+    span_of,
 };
-use held_grants::{file_of, span_of, taken};
+use held_grants::{file_of, grant_from};
 use layout_ops::{
     Answer, LayoutCommitResult, LayoutGetResult, LayoutReturnResult, NFS4_OK, NFS4ERR_BADLAYOUT,
     NFS4ERR_LAYOUTTRYLATER, NFS4ERR_LAYOUTUNAVAILABLE, NFS4ERR_NOENT, NFS4ERR_RECALLCONFLICT,
@@ -96,7 +97,7 @@ fn commit(
     let status = status_of(&answer.results);
     let turn = if status == NFS4_OK {
         held.size = answer.size;
-        accounted(op, timed)
+        end_or_report(op, timed)
     } else {
         not_committed(status, answer.detail)
     };
@@ -145,7 +146,7 @@ fn on_get(
         turn(state, made, op, refused_with(status, answer.detail, tries));
         return Ok(());
     }
-    match taken(alloc, answer, &op)? {
+    match grant_from(alloc, answer, &op)? {
         Ok(held) => {
             state.held.put(held)?;
             go_on(state, op, CallPhase::Starts);

@@ -10,7 +10,7 @@ ghost use Rattle.stripe_client.specs.Inside.{IsInside};
 
 use crate::state::{Made, PendingCall, State};
 use crate::turning::{apply, go_on};
-use call_io::{CallPhase, begins};
+use call_io::{CallPhase, begin_call};
 use client_rules::{CallOp, Need};
 use held_grants::{covers, file_of};
 use osd_lists::Memory;
@@ -60,7 +60,7 @@ fn deal(state: &mut State, made: &mut Made, alloc: Global, op: CallOp) -> Result
 {
     match state.held.take(file_of(&op)) {
         Some(mut held) => {
-            let moved = begins(alloc, &mut held, &op)?;
+            let moved = begin_call(alloc, &mut held, &op)?;
             apply(state, made, op, held, moved)
         }
         None => Ok(()),

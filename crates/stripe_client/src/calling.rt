@@ -15,9 +15,9 @@ use crate::stepping::{finish, quiet, still};
 use call_io::CallPhase;
 use client_rules::{
     AwaitedCommands, Awaits, CallErr, CallOp, GREATEST_SEQUENCE, MAX_CALL, Outcome, SPARE_REQUESTS,
+    is_write, span_of,
 };
 use data_map::MAX_FILE_SIZE;
-use held_grants::{is_write, span_of};
 use osd_lists::Memory;
 use std::alloc::Global;
 use stripe_plan::Span;

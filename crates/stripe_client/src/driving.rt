@@ -13,7 +13,7 @@ use crate::sending::CStep;
 use crate::state::{Made, PendingCall, State};
 use crate::stepping::{finish, quiet, still};
 use crate::turning::{apply, go_on};
-use call_io::{replied, timed_out};
+use call_io::{take_reply, timed_out};
 use held_grants::file_of;
 use osd_commands::Reply;
 use osd_lists::Memory;
@@ -38,7 +38,7 @@ fn reply_to(
     let PendingCall { op, phase } = call;
     match state.held.take(file_of(&op)) {
         Some(mut held) => {
-            let done = replied(alloc, &mut held, &op, phase, drive, reply)?;
+            let done = take_reply(alloc, &mut held, &op, phase, drive, reply)?;
             apply(state, made, op, held, done)
         }
         None => {

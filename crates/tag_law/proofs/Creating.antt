@@ -1,6 +1,5 @@
 -- Where a reply counts as the answer to a CREATE of the server, the object is there.
-use Rattle.std.specs.List.{list_any}
-use Rattle.std.proofs.Common.{◌≡◌, ◌⊎◌, ◌==◌, ◌&&◌, ◌||◌, ◌+◌, ℕ, Bool, true, false, nat_eq, ◌∷◌, [], List, is_some, Option, Some, None, option_map, refl, sym, ap, subst, ◌∙◌, arith, inl, inr, if◌then◌else◌}
+use Rattle.std.proofs.Common.{◌≡◌, ◌⊎◌, ◌==◌, ◌&&◌, ◌||◌, ◌+◌, ℕ, Bool, true, false, nat_eq, is_some, Option, Some, None, option_map, refl, ap, subst, ◌∙◌, arith, inl, inr}
 use Rattle.std.proofs.lemmas.Bool.Decides.{nat_tests}
 use Rattle.std.proofs.lemmas.Bool.{and_parts, or_right}
 use Rattle.osd_lists.proofs.Tests.{or_none, same_number}
@@ -16,12 +15,12 @@ use Rattle.osd_objects.proofs.Entries.{lookup_inserted}
 use Rattle.osd_drive.specs.declared.verdict.Verdict.{Verdict}
 use Rattle.osd_drive.specs.declared.verdict.Verdict.TheVariants as verdict
 use Rattle.osd_drive.specs.State.{DriveState}
-use Rattle.osd_drive.specs.Table.{Row, first_row, all_rows, first_fault, is_create as makes, is_mutating, of_lane}
+use Rattle.osd_drive.specs.Table.{all_rows, first_fault, is_create as makes, is_mutating, of_lane}
 use Rattle.osd_drive.specs.Effects.{lane_for, effect_of, reply_by, state_by}
 use Rattle.server_rules.specs.Replies.{is_create, is_set_tag, is_done}
 use Rattle.world_history.specs.ServerNames.{Awaited, Kept}
 use Rattle.world_history.specs.State.{DriveAt}
-use Rattle.history_law.proofs.HistoryTelling.{again_row, row_applies, first_applies}
+use Rattle.history_law.proofs.HistoryTelling.{again_row, first_applies}
 use Rattle.fencing_law.specs.Reaching.{has_tag, has_reached}
 use Rattle.tag_law.proofs.There.{zero_below}
 

@@ -1,7 +1,6 @@
 -- Where the tags of objects come from, in the words of the lines.
-use Rattle.std.proofs.Common.{◌≡◌, ℕ, zero, suc, ◌∷◌, [], List, Some, slice_get, refl, sym, ap, ◌∙◌, inl, inr}
+use Rattle.std.proofs.Common.{ℕ, [], List, sym, ap, ◌∙◌}
 use Rattle.osd_commands.specs.Commands.{reading}
-use Rattle.server_rules.specs.Laws.{In}
 use Rattle.scenario_text.specs.declared.line.Line.{Line}
 use Rattle.world_history.specs.declared.messages.Sent.{Sent}
 use Rattle.world_history.specs.Reading.{sent_in}
@@ -10,8 +9,7 @@ use Rattle.history_law.proofs.Histories.{lawful}
 use Rattle.history_law.specs.Issued.{CommandsAreIssued}
 use Rattle.history_law.specs.Unforged.{UnforgedAreIssued}
 use Rattle.history_law.proofs.IssueLines.{IsKnown, all_known}
-use Rattle.fencing_law.proofs.LaneLines.{letter, letters}
-use Rattle.exchange_law.proofs.LanesLaw.{IsMarked, marked}
+use Rattle.exchange_law.proofs.LanesLaw.{marked}
 use Rattle.tag_law.specs.Origin.{WasGivenTag, EachTagWasSent}
 use Rattle.tag_law.proofs.TagLines.{TagBy, tags_are_given}
 
