@@ -122,18 +122,13 @@ named_given (Opens (event.Declare d)) i e named = on _ i e (tt, refl)
 named_given action i e named = absurd (cc e)
 
 comes : (w : World) (action : Action) (i : Input) → IsForServer w action i → IsNamedAction action → Comes w i
-comes w action (Hears now from m) (d, now_is, from_is, read, number, awake) named = record {
+comes w action (Hears now from m) (d, now_is, from_is, read, number) named = record {
   named = tt;
   runs = refl;
   sent = (d.number, d.posted, d.there, d.receiver, sym from_is, read);
 }
 comes w action i is named =
     let x = named_given action i is named in record { named = x.0; runs = x.1; sent = tt }
-
-drive_named : (d : ℕ) (key : List ℕ) (capacity : ℕ) (stored : Bool)
-    → IsNamedAction (Opens (drive_event d key capacity stored)) → IsNamedInput (Adds (known_drive d key capacity))
-drive_named d key capacity true named = named
-drive_named d key capacity false named = named
 
 cases : (w : World) (chosen : List ℕ) (action : Action) → IsNamedAction action
     → MoveCases w chosen action (Does w chosen)
@@ -146,14 +141,13 @@ cases w chosen action named = record {
       Rests refl (client_tells c (wrote_in a i) (data_in (op_in a.state i)) (client.step a.state i).sends);
   comes = λ c is. Rests refl tells_none;
   stops = λ c a found. Rests refl tells_none;
-  judged = λ ms said d a found hears m number. Rests refl (reply_tells d m.posted.message.from _);
+  judged = λ ms said d a found failed m number. Rests refl (reply_tells d m.posted.message.from _);
   injected = λ d bytes is a found. Rests refl tells_none;
   turns = λ d a b found turns. Rests refl tells_none;
-  known = λ d key capacity stored is knows. Rests refl tells_none;
-  adds = λ d key capacity stored is knows.
+  known = λ d key capacity is knows. Rests refl tells_none;
+  adds = λ d key capacity is knows.
       Serves (Adds (known_drive d key capacity))
-      (record { named = drive_named d key capacity stored (subst IsNamedAction is named); runs = refl; sent = tt }) refl
-      tells_none;
+      (record { named = subst IsNamedAction is named; runs = refl; sent = tt }) refl tells_none;
 }
 
 pub does : (w : World) (chosen : List ℕ) (action : Action) → IsNamedAction action → Does w chosen (acts w chosen action)
