@@ -8,7 +8,8 @@ use Rattle.server_rules.proofs.Members.{in_either}
 use Rattle.job_law.specs.Names.{Server, Command, ToDrive}
 use Rattle.sent_law.proofs.ObjectSteps.{Agree}
 use Rattle.sent_law.specs.Tagged.{sent_over}
-use Rattle.sent_law.specs.Turns.{down_behind, AreInTurn}
+use Rattle.move_law.specs.Moves.{down_behind}
+use Rattle.sent_law.specs.Turns.{AreInTurn}
 use Rattle.sent_law.specs.First.{CreatesAreFirst}
 use Rattle.sent_law.proofs.BirthEnds.{born_later}
 use Rattle.sent_law.proofs.BirthGoing.{AreFine, IsSent}

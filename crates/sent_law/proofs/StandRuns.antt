@@ -14,7 +14,8 @@ use Rattle.job_law.proofs.Steps.{run_numbers, fences_wait}
 use Rattle.job_law.proofs.Recalling.{step_counts}
 use Rattle.history_law.proofs.Running.{server_more}
 use Rattle.sent_law.specs.Objects.{AreOwned}
-use Rattle.sent_law.specs.Turns.{down_behind, in_turn}
+use Rattle.move_law.specs.Moves.{down_behind}
+use Rattle.sent_law.specs.Turns.{in_turn}
 use Rattle.sent_law.specs.Standing.{IsUnmade, IsSettled, StandsBy, AreStanding, AreMadeTruly}
 use Rattle.sent_law.proofs.ObjectSteps.{step_owns}
 use Rattle.sent_law.proofs.StandSteps.{each_step_stands}

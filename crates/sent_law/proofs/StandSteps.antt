@@ -23,7 +23,8 @@ use Rattle.job_law.specs.Names.{Server, File, Drive, Awaited, Job, JobKind, Revo
 use Rattle.job_law.specs.Fencing.{Reached, AreFencing, TellsRaised, IsHeardTruly}
 use Rattle.job_law.proofs.Files.{found_file, in_put}
 use Rattle.job_law.proofs.Hearing.{found_in}
-use Rattle.sent_law.specs.Turns.{down_behind, in_turn}
+use Rattle.move_law.specs.Moves.{down_behind}
+use Rattle.sent_law.specs.Turns.{in_turn}
 use Rattle.sent_law.specs.Standing.{IsUnmade, IsLeft, TellsMade, AreMadeTruly, AreStanding, EachStepStands}
 use Rattle.sent_law.proofs.StandHeld.{Ends, FileEnds, into, out}
 use Rattle.sent_law.proofs.StandJobs.{ends_making, ends_fence, ends_hears, ends_declares}

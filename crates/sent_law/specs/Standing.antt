@@ -11,7 +11,8 @@ use Rattle.server_rules.specs.Laws.{In}
 use Rattle.job_law.specs.Names.{Server, File, Kept, Still, Component, Target, Awaited, Job, Work, Creates, Targets, Reply}
 use Rattle.job_law.specs.Fencing.{Reached, AllRaised, AreFencing, IsHeardTruly}
 use Rattle.sent_law.specs.Objects.{target_of}
-use Rattle.sent_law.specs.Turns.{down_behind, in_turn}
+use Rattle.move_law.specs.Moves.{down_behind}
+use Rattle.sent_law.specs.Turns.{in_turn}
 
 -- ---- a file
 
@@ -59,6 +60,10 @@ IsUnmade k = (k.grants ≡ []) × (k.phase ≡ Still) × (k.tag ≡ k.first_tag)
 pub record IsSettled (R : Reached) (f : File) : Type 0 where
   pub made : f.kept.ready ≡ true → AllRaised R f f.kept.tag
   pub unmade : f.kept.ready ≡ false → IsUnmade f.kept
+
+-- its making was cut off: no job of it runs
+abbrev pub IsCutOff : File → Type 0
+IsCutOff f = (f.kept.ready ≡ false) × (f.job ≡ None)
 
 -- While the server is up, a file that isn't ready is being made. Each component that isn't missing has its object, or its
 -- CREATE is awaited, and so it is of what a rebuild makes anew. Each CREATE that is awaited is under the file's tag, and

@@ -1,21 +1,12 @@
--- Whether a server is up or down in a run of it.
-use Rattle.std.specs.Prelude.{◌≡◌, Bool, true, false, not, List, [], ◌∷◌}
-use Rattle.server_rules.specs.History.{Input, Crashes, Opens, Act}
-
--- ---- an input
-
--- the server is down behind a crash, and up behind an opening
-abbrev pub down_behind : (down : Bool) → Input → Bool
-down_behind down Crashes = true
-down_behind down Opens = false
-down_behind down i = down
+-- Whether a server is up or down in a run of it, and what may come to it then.
+use Rattle.std.specs.Prelude.{◌≡◌, Bool, true, not, List, [], ◌∷◌}
+use Rattle.server_rules.specs.History.{Input, Opens, Act}
+use Rattle.move_law.specs.Moves.{down_behind}
 
 -- a server that is down is opened, and hears nothing; one that is up isn't opened
 abbrev pub in_turn : (down : Bool) → Input → Bool
 in_turn down Opens = down
 in_turn down i = not down
-
--- ---- a run
 
 -- each of these is in its turn
 abbrev pub AreInTurn : (down : Bool) → List Act → Type 0
