@@ -7,13 +7,18 @@ use Rattle.server_rules.specs.History as server
 use Rattle.client_rules.specs.History as client
 use Rattle.move_law.specs.Said.{IsHeardByServer, IsHeardByClient}
 use Rattle.move_law.specs.Moves.{IsForServer, IsForClient, MoveCases}
-use Rattle.move_law.specs.Goes.{Nothing, OneReply, Others, AServer, AClient, Stops, Comes, IsOneStep, MovesAreSteps}
+use Rattle.move_law.specs.Goes.{IsAwake, Nothing, OneReply, Others, AServer, AClient, Stops, Comes, IsOneStep, MovesAreSteps}
 use Rattle.move_law.proofs.Moves.{each_act}
 
 -- what a party is handed, without the action
 pub for_server : (w : World) (action : Action) (i : server.Input) → IsForServer w action i → IsHeardByServer w i
-for_server w action (server.Hears now from m) (d, now_is, from_is, read, number) = (d, now_is, from_is, read)
+for_server w action (server.Hears now from m) (d, now_is, from_is, read, number, awake) = (d, now_is, from_is, read)
 for_server w action i is = tt
+
+-- a message comes to a server that is up
+pub awake_for : (w : World) (action : Action) (i : server.Input) → IsForServer w action i → IsAwake w i
+awake_for w action (server.Hears now from m) (d, now_is, from_is, read, number, awake) = awake
+awake_for w action i is = tt
 
 pub for_client : (w : World) (action : Action) (c : ℕ) (a : ClientAt) (i : client.Input) → IsForClient w action c a i
     → IsHeardByClient w c i
@@ -23,21 +28,23 @@ for_client w action c a i is = tt
 cases : (w : World) (chosen : List ℕ) (action : Action) → MoveCases w chosen action (IsOneStep w chosen action)
 cases w chosen action = record {
   rests = λ ms said told quiet. record {
-    goes = Others (record { server = refl; clients = refl; posts = Nothing refl });
+    goes = Others (record { server = refl; clients = refl; down = refl; posts = Nothing refl });
     said = said;
   };
   refused = λ c a found op is e why. record {
-    goes = Others (record { server = refl; clients = refl; posts = Nothing refl });
+    goes = Others (record { server = refl; clients = refl; down = refl; posts = Nothing refl });
     said = refl;
   };
   clock = λ time. record {
-    goes = Others (record { server = refl; clients = refl; posts = Nothing refl });
+    goes = Others (record { server = refl; clients = refl; down = refl; posts = Nothing refl });
     said = refl;
   };
   serves = λ ms said i is. record {
     goes = AServer (record {
       input = i;
       heard = for_server w action i is;
+      awake = awake_for w action i is;
+      down = refl;
       server = refl;
       clients = refl;
       posts = refl;
@@ -54,6 +61,7 @@ cases w chosen action = record {
       after = _;
       state = refl;
       server = refl;
+      down = refl;
       clients = refl;
       wrote = wrote_in a i;
       logged = data_in (op_in a.state i);
@@ -68,6 +76,7 @@ cases w chosen action = record {
       after = _;
       state = refl;
       server = refl;
+      down = refl;
       clients = refl;
       posts = refl;
     });
@@ -81,31 +90,34 @@ cases w chosen action = record {
       after = _;
       state = refl;
       server = refl;
+      down = refl;
       clients = refl;
       posts = refl;
     });
     said = refl;
   };
-  judged = λ ms said d a found failed m number. record {
-    goes = Others (record { server = refl; clients = refl; posts = OneReply d m.posted.message.from _ refl });
+  judged = λ ms said d a found deaf m number. record {
+    goes = Others (record { server = refl; clients = refl; down = refl; posts = OneReply d m.posted.message.from _ refl });
     said = said;
   };
   injected = λ d bytes is a found. record {
-    goes = Others (record { server = refl; clients = refl; posts = Nothing refl });
+    goes = Others (record { server = refl; clients = refl; down = refl; posts = Nothing refl });
     said = refl;
   };
   turns = λ d a b found turns. record {
-    goes = Others (record { server = refl; clients = refl; posts = Nothing refl });
+    goes = Others (record { server = refl; clients = refl; down = refl; posts = Nothing refl });
     said = refl;
   };
-  known = λ d key capacity is knows. record {
-    goes = Others (record { server = refl; clients = refl; posts = Nothing refl });
+  known = λ d key capacity stored is knows. record {
+    goes = Others (record { server = refl; clients = refl; down = refl; posts = Nothing refl });
     said = refl;
   };
-  adds = λ d key capacity is knows. record {
+  adds = λ d key capacity stored is knows. record {
     goes = AServer (record {
       input = server.Adds (known_drive d key capacity);
       heard = tt;
+      awake = tt;
+      down = refl;
       server = refl;
       clients = refl;
       posts = refl;

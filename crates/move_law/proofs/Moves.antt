@@ -27,14 +27,14 @@ use Rattle.client_rules.specs.History as client
 use Rattle.world_history.specs.ServerNames as server_rules
 use Rattle.world_history.specs.declared.messages.Message.{Message}
 use Rattle.world_history.specs.declared.messages.Posted.{Posted}
-use Rattle.world_history.specs.State.{World, DriveAt, ClientAt, at_number, and_drive}
+use Rattle.world_history.specs.State.{World, DriveAt, ClientAt, at_number, and_drive, with_down}
 use Rattle.world_history.specs.Told.{told_file_refusal}
-use Rattle.world_history.specs.Drives.{judges, command_in, made_drive, raised, at_time, fallen}
-use Rattle.world_history.specs.Handed.{Handed, handed_to, server_did, server_takes, drive_hears, drive_replies, client_did, client_hears, client_takes, for_server, for_client, quiet, pending_op}
+use Rattle.world_history.specs.Drives.{judges, command_in, made_drive, raised, at_time, fallen, crashed, reopened, is_deaf}
+use Rattle.world_history.specs.Handed.{Handed, handed_to, server_did, server_hears, server_takes, drive_hears, drive_replies, client_did, client_hears, client_takes, for_server, for_client, quiet, pending_op}
 use Rattle.world_history.specs.Moves as world
 use Rattle.world_history.specs.Moves.{Act, Action, Opens, Delivers, TimesOut, Pends, acts, marked, told_delivered}
 use Rattle.move_law.specs.Said.{said}
-use Rattle.move_law.specs.Moves.{number_in, IsForServer, IsForClient, front_of, fronted, IsFileRefusal, Turns, Raised, Timed, Falls, MoveCases}
+use Rattle.move_law.specs.Moves.{number_in, IsForServer, IsForClient, front_of, fronted, IsFileRefusal, Turns, Raised, Timed, Falls, Crashed, Reopened, MoveCases, drive_event, down_behind}
 
 -- ---- marks
 
@@ -79,6 +79,8 @@ none_added w (Opens (event.Revoke f)) x is = cc is
 none_added w (Opens (event.Rebuild f)) x is = cc is
 none_added w (Opens (event.Audit f)) x is = cc is
 none_added w (Opens (event.Declare d)) x is = cc is
+none_added w (Opens (event.Crash machine.Server)) x is = cc is
+none_added w (Opens (event.Reopen machine.Server)) x is = cc is
 none_added w action x is = cc is
 
 module _ (w : World) (chosen : List ℕ) (action : Action) (P : Act → Type 0) (k : MoveCases w chosen action P) where
@@ -107,27 +109,32 @@ module _ (w : World) (chosen : List ℕ) (action : Action) (P : Act → Type 0) 
     quiet_hand : (d : Delivery) → OneHand (quiet v d)
     quiet_hand d = k.rests v.network.messages same_said (line.Delivered n d ∷ []) (tt, tt)
 
-    server_hears : (m : Option ServerMessage) → p.message.to ≡ node.Server → for_server p.message ≡ m
+    server_told : p.message.to ≡ node.Server → w.down ≡ false → (m : Option ServerMessage) → for_server p.message ≡ m
         → OneHand (server_takes v chosen p.message.from m)
-    server_hears None to is = quiet_hand delivery.Taken
-    server_hears (Some m) to is =
+    server_told to awake None is = quiet_hand delivery.Taken
+    server_told to awake (Some m) is =
         subst (λ (l : List Line).
         P (fronted l (server_did v (server.step w.server chosen (server.Hears w.clock p.message.from m))))) front
         (k.serves v.network.messages same_said (server.Hears w.clock p.message.from m)
-        (record { number = n; posted = p; there = there; receiver = to }, refl, refl, is, number))
+        (record { number = n; posted = p; there = there; receiver = to }, refl, refl, is, number, awake))
+
+    server_awake : p.message.to ≡ node.Server → (b : Bool) → w.down ≡ b
+        → OneHand (if b then quiet v delivery.Deaf else server_takes v chosen p.message.from (for_server p.message))
+    server_awake to true down = quiet_hand delivery.Deaf
+    server_awake to false down = server_told to down (for_server p.message) refl
 
     drive_told : (d : ℕ) (a : DriveAt) → at_number w.drives d ≡ Some a → p.message.to ≡ node.Drive d
-        → (b : Bool) → a.failed ≡ b
+        → (b : Bool) → is_deaf a ≡ b
         → OneHand (if b then quiet v delivery.Deaf else drive_replies v d p.message.from (judges a (command_in p.message.body)))
-    drive_told d a found to true failed = quiet_hand delivery.Deaf
-    drive_told d a found to false failed =
-        k.judged v.network.messages same_said d a found failed
+    drive_told d a found to true deaf = quiet_hand delivery.Deaf
+    drive_told d a found to false deaf =
+        k.judged v.network.messages same_said d a found deaf
         (record { number = n; posted = p; there = there; receiver = to }) number
 
     drive_heard : (d : ℕ) (a : Option DriveAt) → at_number w.drives d ≡ a → p.message.to ≡ node.Drive d
         → OneHand (drive_hears v d p.message a)
     drive_heard d None found to = quiet_hand delivery.Deaf
-    drive_heard d (Some a) found to = drive_told d a found to a.failed refl
+    drive_heard d (Some a) found to = drive_told d a found to (is_deaf a) refl
 
     client_told : (c : ℕ) (a : ClientAt) → at_number w.clients c ≡ Some a → p.message.to ≡ node.Client c
         → a.stopped ≡ false → (m : Option ClientMessage) → for_client p.message ≡ m
@@ -152,7 +159,7 @@ module _ (w : World) (chosen : List ℕ) (action : Action) (P : Act → Type 0) 
     client_heard c (Some a) found to = client_awake c a found to a.stopped refl
 
     handed_on : (to : Node) → p.message.to ≡ to → OneHand (handed_to v chosen p.message to)
-    handed_on node.Server e = server_hears (for_server p.message) e refl
+    handed_on node.Server e = server_awake e w.down refl
     handed_on (node.Drive d) e = drive_heard d (at_number w.drives d) refl e
     handed_on (node.Client c) e = client_heard c (at_number w.clients c) refl e
 
@@ -236,10 +243,12 @@ module _ (w : World) (chosen : List ℕ) (action : Action) (P : Act → Type 0) 
 
   -- ---- the server
 
-  gives : (i : server.Input) → IsForServer w action i → front_of action delivery.Taken ≡ [] → P (world.gives w chosen i)
+  gives : (i : server.Input) → IsForServer w action i → front_of action delivery.Taken ≡ []
+      → P (world.gives (with_down w (down_behind w.down i)) chosen i)
   unfolding world.gives
   gives i for front =
-      subst (λ (l : List Line). P (fronted l (server_did w (server.step w.server chosen i)))) front
+      subst (λ (l : List Line).
+      P (fronted l (server_did (with_down w (down_behind w.down i)) (server.step w.server chosen i)))) front
       (k.serves w.network.messages refl i for)
 
   made : (f : ℕ) (m : RawMap) (tag : ℕ) → IsForServer w action (server.Makes f m tag)
@@ -277,21 +286,22 @@ module _ (w : World) (chosen : List ℕ) (action : Action) (P : Act → Type 0) 
   unfolding world.injects
   injects d bytes is = injects_at d bytes is (at_number w.drives d) refl
 
-  adds : (d : ℕ) (key : List ℕ) (capacity : ℕ) → action ≡ Opens (event.Drive d key capacity)
+  adds : (d : ℕ) (key : List ℕ) (capacity : ℕ) (stored : Bool) → action ≡ Opens (drive_event d key capacity stored)
       → (b : Bool) → world.knows_drive w.server d ≡ b
-      → P (if b then world.changed (and_drive w d (made_drive d key capacity))
-      else world.gives (and_drive w d (made_drive d key capacity)) []
+      → P (if b then world.changed (and_drive w d (made_drive d key capacity stored))
+      else world.gives (and_drive w d (made_drive d key capacity stored)) []
       (server.Adds (world.known_drive d key capacity)))
   unfolding world.gives
-  adds d key capacity is true knows = k.known d key capacity is knows
-  adds d key capacity is false knows = k.adds d key capacity is knows
+  adds d key capacity stored is true knows = k.known d key capacity stored is knows
+  adds d key capacity stored is false knows = k.adds d key capacity stored is knows
 
 -- ---- moves
 
 module _ (w : World) (chosen : List ℕ) (P : Act → Type 0) where
   begun : (e : Event) → MoveCases w chosen (Opens e) P → P (world.begins w chosen e)
   unfolding world.begins world.delivers
-  begun (event.Drive d key capacity) k = adds w chosen _ P k d key capacity refl (world.knows_drive w.server d) refl
+  begun (event.Drive d key capacity) k = adds w chosen _ P k d key capacity false refl (world.knows_drive w.server d) refl
+  begun (event.Disk d key capacity) k = adds w chosen _ P k d key capacity true refl (world.knows_drive w.server d) refl
   begun (event.Client c) k = k.comes c refl
   begun (event.File f m tag) k = makes w chosen _ P k f (world.raw_of m) tag refl refl
   begun (event.Least d format) k =
@@ -317,6 +327,12 @@ module _ (w : World) (chosen : List ℕ) (P : Act → Type 0) where
   begun (event.Declare d) k = gives w chosen _ P k (server.Obeys server_rules.ToDeclare d) refl refl
   begun (event.Stop c) k = stops w chosen _ P k c (at_number w.clients c) refl
   begun (event.Fail d) k = at_drive w chosen _ P k d fallen (λ a. Falls refl) (at_number w.drives d) refl
+  begun (event.Crash (machine.Drive d)) k =
+      at_drive w chosen _ P k d crashed (λ a. Crashed refl) (at_number w.drives d) refl
+  begun (event.Crash machine.Server) k = gives w chosen _ P k server.Crashes refl refl
+  begun (event.Reopen (machine.Drive d)) k =
+      at_drive w chosen _ P k d reopened (λ a. Reopened refl) (at_number w.drives d) refl
+  begun (event.Reopen machine.Server) k = gives w chosen _ P k server.Opens refl refl
   begun e k = still w chosen _ P k
 
   -- each action

@@ -1,9 +1,9 @@
 -- What a move is: a step of one party, and what it sends.
-use Rattle.std.specs.Prelude.{◌≡◌, ℕ, Bool, List, [], ◌∷◌, map, filter, Some}
+use Rattle.std.specs.Prelude.{◌≡◌, ℕ, Bool, false, List, [], ◌∷◌, map, filter, Some}
 use Rattle.osd_lists.specs.declared.node.Node.{Node}
 use Rattle.osd_lists.specs.declared.node.Node.TheVariants as node
 use Rattle.osd_commands.specs.declared.replies.Reply.{Reply}
-use Rattle.server_rules.specs.History.{Input as ServerInput, step as server_step}
+use Rattle.server_rules.specs.History.{Input as ServerInput, Hears as ServerHears, step as server_step}
 use Rattle.client_rules.specs.Steps.{new_client}
 use Rattle.client_rules.specs.History.{Input, step}
 use Rattle.scenario_text.specs.declared.event.Event.TheVariants as event
@@ -12,6 +12,7 @@ use Rattle.world_history.specs.State.{World, ClientAt, at_number, with_number, a
 use Rattle.world_history.specs.Handed.{Post, is_addressed, plain, server_post, client_posts}
 use Rattle.world_history.specs.Moves.{Act, Action, Opens, acts}
 use Rattle.move_law.specs.Said.{said, IsHeardByServer, IsHeardByClient}
+use Rattle.move_law.specs.Moves.{down_behind}
 
 -- ---- a step of one party
 
@@ -24,12 +25,20 @@ pub data AreReplies (ps : List Post) : Type 0 where
 pub record OthersGo (w : World) (a : Act) : Type 0 where
   pub server : a.world.server ≡ w.server
   pub clients : a.world.clients ≡ w.clients
+  pub down : a.world.down ≡ w.down
   pub posts : AreReplies a.posts
+
+-- a message reaches the server only while it is up
+abbrev pub IsAwake : World → ServerInput → Type 0
+IsAwake w (ServerHears now from m) = w.down ≡ false
+IsAwake w i = Unit {0}
 
 -- the server takes a step
 pub record ServerGoes (w : World) (chosen : List ℕ) (a : Act) : Type 0 where
   pub input : ServerInput
   pub heard : IsHeardByServer w input
+  pub awake : IsAwake w input
+  pub down : a.world.down ≡ down_behind w.down input
   pub server : a.world.server ≡ (server_step w.server chosen input).state
   pub clients : a.world.clients ≡ w.clients
   pub posts : a.posts ≡ filter is_addressed (map server_post (server_step w.server chosen input).sends)
@@ -44,6 +53,7 @@ pub record ClientGoes (w : World) (a : Act) : Type 0 where
   pub after : ClientAt
   pub state : after.state ≡ (step before.state input).client
   pub server : a.world.server ≡ w.server
+  pub down : a.world.down ≡ w.down
   pub clients : a.world.clients ≡ with_number w.clients client after
   pub wrote : Bool
   pub logged : ℕ
@@ -57,6 +67,7 @@ pub record ClientStops (w : World) (a : Act) : Type 0 where
   pub after : ClientAt
   pub state : after.state ≡ before.state
   pub server : a.world.server ≡ w.server
+  pub down : a.world.down ≡ w.down
   pub clients : a.world.clients ≡ with_number w.clients client after
   pub posts : a.posts ≡ []
 
@@ -67,6 +78,7 @@ pub record ClientComes (w : World) (action : Action) (a : Act) : Type 0 where
   pub after : ClientAt
   pub state : after.state ≡ new_client client 1
   pub server : a.world.server ≡ w.server
+  pub down : a.world.down ≡ w.down
   pub clients : a.world.clients ≡ and_number w.clients client after
   pub posts : a.posts ≡ []
 

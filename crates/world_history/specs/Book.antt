@@ -11,10 +11,11 @@ use Rattle.server_rules.specs.Files.{Step as ServerStep, file_at}
 use Rattle.server_rules.specs.Making.{new_server}
 use Rattle.server_rules.specs.Messages.{Message, awaited_by}
 use Rattle.server_rules.specs.Envelopes.{message_in}
-use Rattle.server_rules.specs.History.{Input, Hears, Makes, Obeys, Adds, Formats, step}
+use Rattle.server_rules.specs.History.{Input, Hears, Makes, Obeys, Adds, Formats, Crashes, Opens, step}
 use Rattle.scenario_text.specs.declared.event.Event.{Event}
 use Rattle.scenario_text.specs.declared.event.Event.TheVariants as event
 use Rattle.scenario_text.specs.declared.event.Machine.TheVariants as machine
+use Rattle.scenario_text.specs.declared.line.Delivery.TheVariants as delivery
 use Rattle.scenario_text.specs.declared.line.Party.{Party}
 use Rattle.scenario_text.specs.declared.line.Party.TheVariants as party
 use Rattle.scenario_text.specs.declared.line.Line.{Line}
@@ -72,6 +73,7 @@ made_of f m tag = if has_algorithm m then Some (Makes f m tag) else None
 -- an event that gives it something to do
 abbrev pub input_of : Event → Option Input
 input_of (event.Drive d key capacity) = Some (Adds (known_drive d key capacity))
+input_of (event.Disk d key capacity) = Some (Adds (known_drive d key capacity))
 input_of (event.File f m tag) = made_of f (raw_of m) tag
 input_of (event.Format format) = Some (Formats format)
 input_of (event.Recall f) = Some (Obeys ToRecall f)
@@ -79,12 +81,15 @@ input_of (event.Revoke f) = Some (Obeys ToRevoke f)
 input_of (event.Rebuild f) = Some (Obeys ToRebuild f)
 input_of (event.Audit f) = Some (Obeys ToAudit f)
 input_of (event.Declare d) = Some (Obeys ToDeclare d)
+input_of (event.Crash machine.Server) = Some Crashes
+input_of (event.Reopen machine.Server) = Some Opens
 input_of e = None
 
--- what comes to it at a line
+-- what comes to it at a line; where a delivery is deaf, nothing does
 abbrev pub input_at : ServerSeen → Line → Option Input
 input_at s (line.Event e) = input_of e
-input_at s (line.Delivered number delivery) = heard s.clock (slice_get s.sent number)
+input_at s (line.Delivered number delivery.Deaf) = None
+input_at s (line.Delivered number received) = heard s.clock (slice_get s.sent number)
 input_at s l = None
 
 -- ---- what it does

@@ -1,5 +1,5 @@
 -- What a drive does with a message, or with bytes that are injected.
-use Rattle.std.specs.Prelude.{ℕ, false, true, List, [], ◌∷◌, max, Result, Ok, Err}
+use Rattle.std.specs.Prelude.{ℕ, Bool, false, true, ◌||◌, List, [], ◌∷◌, max, Result, Ok, Err}
 use Rattle.osd_commands.specs.declared.commands.Command.{Command}
 use Rattle.osd_commands.specs.declared.commands.CommandErr.{CommandErr}
 use Rattle.osd_commands.specs.Commands as commands
@@ -49,12 +49,14 @@ judges a reading = record {
 abbrev pub first_key : List ℕ → DriveKey
 first_key key = record { version = KEY_VERSION; key = key }
 
--- a new one
-abbrev pub made_drive : (number : ℕ) → (key : List ℕ) → (capacity : ℕ) → DriveAt
-made_drive number key capacity = record {
+-- a new one, which is stored or not
+abbrev pub made_drive : (number : ℕ) → (key : List ℕ) → (capacity : ℕ) → (stored : Bool) → DriveAt
+made_drive number key capacity stored = record {
   state = new_drive number (first_key key ∷ []) capacity;
   clock = 0;
   failed = false;
+  stored = stored;
+  down = false;
 }
 
 -- its least format only rises
@@ -68,3 +70,14 @@ at_time a time = record a { clock = time }
 -- it has lost everything, and is deaf
 abbrev pub fallen : DriveAt → DriveAt
 fallen a = record a { state = record a.state { store = empty_store a.state.store.capacity }; failed = true }
+
+-- it is down, and deaf until it is opened again; its clock and all that it has stay
+abbrev pub crashed : DriveAt → DriveAt
+crashed a = record a { down = true }
+
+abbrev pub reopened : DriveAt → DriveAt
+reopened a = record a { down = false }
+
+-- nothing that is sent to it reaches it
+abbrev pub is_deaf : DriveAt → Bool
+is_deaf a = a.failed || a.down

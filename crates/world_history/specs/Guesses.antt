@@ -48,6 +48,7 @@ is_guess g d bytes = is_guess_of g d bytes (commands.reading bytes)
 -- a drive and its key
 abbrev pub keys_after : List (ℕ × List DriveKey) → Line → List (ℕ × List DriveKey)
 keys_after keys (line.Event (event.Drive d key capacity)) = and_number keys d (first_key key ∷ [])
+keys_after keys (line.Event (event.Disk d key capacity)) = and_number keys d (first_key key ∷ [])
 keys_after keys l = keys
 
 abbrev pub guessed_at : Guarded → Line → Bool

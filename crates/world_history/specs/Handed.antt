@@ -24,7 +24,7 @@ use Rattle.scenario_text.specs.declared.line.Outcome.{Outcome}
 use Rattle.world_history.specs.Spelled.{spelled}
 use Rattle.world_history.specs.Told.{kind_of}
 use Rattle.world_history.specs.Names.{is_named, known_outcome, known_note_line}
-use Rattle.world_history.specs.Drives.{Judged, command_in, judges}
+use Rattle.world_history.specs.Drives.{Judged, command_in, judges, is_deaf}
 
 -- ---- what is sent
 
@@ -65,11 +65,11 @@ drive_replies w d from j = record {
   posts = plain (node.Drive d) from (OfReply j.reply) ∷ [];
 }
 
--- a drive that failed is deaf
+-- a drive that failed or is down is deaf
 abbrev pub drive_hears : World → (drive : ℕ) → Message → Option DriveAt → Handed
 drive_hears w d m None = quiet w delivery.Deaf
 drive_hears w d m (Some a) =
-    if a.failed then quiet w delivery.Deaf else drive_replies w d m.from (judges a (command_in m.body))
+    if is_deaf a then quiet w delivery.Deaf else drive_replies w d m.from (judges a (command_in m.body))
 
 -- ---- the server
 
@@ -105,6 +105,10 @@ for_server m = server_bytes.message_in m.from (spelled m.body)
 abbrev pub server_takes : World → (chosen : List ℕ) → (from : Node) → Option ServerMessage → Handed
 server_takes w chosen from None = quiet w delivery.Taken
 server_takes w chosen from (Some m) = serves w chosen (ServerHears w.clock from m)
+
+-- a server that is down is deaf
+abbrev pub server_hears : World → (chosen : List ℕ) → Message → Handed
+server_hears w chosen m = if w.down then quiet w delivery.Deaf else server_takes w chosen m.from (for_server m)
 
 -- ---- a client
 
@@ -189,7 +193,7 @@ client_hears w c m (Some a) = if a.stopped then quiet w delivery.Deaf else clien
 -- ---- whoever it is for
 
 abbrev pub handed_to : World → (chosen : List ℕ) → Message → Node → Handed
-handed_to w chosen m node.Server = server_takes w chosen m.from (for_server m)
+handed_to w chosen m node.Server = server_hears w chosen m
 handed_to w chosen m (node.Drive d) = drive_hears w d m (at_number w.drives d)
 handed_to w chosen m (node.Client c) = client_hears w c m (at_number w.clients c)
 

@@ -26,9 +26,9 @@ use Rattle.scenario_text.specs.declared.line.Note.TheVariants as note
 use Rattle.scenario_text.specs.declared.line.MapFault.TheVariants as map_fault
 use Rattle.scenario_text.specs.declared.line.Line.{Line}
 use Rattle.scenario_text.specs.declared.line.Line.TheVariants as line
-use Rattle.world_history.specs.State.{Posted, DriveAt, ClientAt, World, at_number, with_drive, and_drive, and_client, with_client}
+use Rattle.world_history.specs.State.{Posted, DriveAt, ClientAt, World, at_number, with_drive, and_drive, and_client, with_client, with_down}
 use Rattle.world_history.specs.Told.{kind_of, told_refusal, told_file_refusal}
-use Rattle.world_history.specs.Drives.{Judged, judges, made_drive, raised, at_time, fallen}
+use Rattle.world_history.specs.Drives.{Judged, judges, made_drive, raised, at_time, fallen, crashed, reopened}
 use Rattle.world_history.specs.Handed.{Post, Handed, serves, server_did, client_goes, client_did, pending_op, handed}
 
 -- ---- what an action does
@@ -192,10 +192,10 @@ abbrev pub knows_drive : server_rules.Server → (drive : ℕ) → Bool
 knows_drive s d = list_any (λ x. nat_eq x.number d) s.drives
 
 -- a drive is made, and the server knows it from then on
-abbrev pub adds_drive : World → (drive : ℕ) → (key : List ℕ) → (capacity : ℕ) → Act
-adds_drive w d key capacity =
-    if knows_drive w.server d then changed (and_drive w d (made_drive d key capacity))
-    else gives (and_drive w d (made_drive d key capacity)) [] (server_input.Adds (known_drive d key capacity))
+abbrev pub adds_drive : World → (drive : ℕ) → (key : List ℕ) → (capacity : ℕ) → (stored : Bool) → Act
+adds_drive w d key capacity stored =
+    if knows_drive w.server d then changed (and_drive w d (made_drive d key capacity stored))
+    else gives (and_drive w d (made_drive d key capacity stored)) [] (server_input.Adds (known_drive d key capacity))
 
 -- a client is deaf from now on
 abbrev pub stops : World → (client : ℕ) → Option ClientAt → World
@@ -209,7 +209,8 @@ adds_client w c = and_client w c (record { state = new_client c 1; stopped = fal
 -- ---- what an event begins with
 
 unfoldable pub begins : World → (chosen : List ℕ) → Event → Act
-begins w chosen (event.Drive d key capacity) = adds_drive w d key capacity
+begins w chosen (event.Drive d key capacity) = adds_drive w d key capacity false
+begins w chosen (event.Disk d key capacity) = adds_drive w d key capacity true
 begins w chosen (event.Client c) = changed (adds_client w c)
 begins w chosen (event.File f m tag) = makes w chosen f (raw_of m) tag
 begins w chosen (event.Least d format) = changed (at_drive w d (λ a. raised a format))
@@ -233,7 +234,11 @@ begins w chosen (event.Audit f) = gives w chosen (server_input.Obeys server_rule
 begins w chosen (event.Declare d) = gives w chosen (server_input.Obeys server_rules.ToDeclare d)
 begins w chosen (event.Stop c) = changed (stops w c (at_number w.clients c))
 begins w chosen (event.Fail d) = changed (at_drive w d fallen)
--- the world refuses these: it doesn't know them yet
+begins w chosen (event.Crash (machine.Drive d)) = changed (at_drive w d crashed)
+begins w chosen (event.Crash machine.Server) = gives (with_down w true) chosen server_input.Crashes
+begins w chosen (event.Reopen (machine.Drive d)) = changed (at_drive w d reopened)
+begins w chosen (event.Reopen machine.Server) = gives (with_down w false) chosen server_input.Opens
+-- the world refuses these: it doesn't know zones yet
 begins w chosen e = changed w
 
 -- ---- moves

@@ -1,5 +1,5 @@
 -- The state of each drive, read off the lines.
-use Rattle.std.specs.Prelude.{ℕ, ◌==◌, List, [], Option, Some, None, option_map, slice_get, if◌then◌else◌}
+use Rattle.std.specs.Prelude.{ℕ, false, true, ◌==◌, List, [], Option, Some, None, option_map, slice_get, if◌then◌else◌}
 use Rattle.std.specs.List.{fold}
 use Rattle.osd_commands.specs.Commands as commands
 use Rattle.scenario_text.specs.declared.event.Event.{Event}
@@ -9,7 +9,7 @@ use Rattle.scenario_text.specs.declared.event.Machine.TheVariants as machine
 use Rattle.scenario_text.specs.declared.line.Line.{Line}
 use Rattle.scenario_text.specs.declared.line.Line.TheVariants as line
 use Rattle.world_history.specs.State.{DriveAt, Sent}
-use Rattle.world_history.specs.Drives.{judges, made_drive, raised, at_time, fallen}
+use Rattle.world_history.specs.Drives.{judges, made_drive, raised, at_time, fallen, crashed, reopened, is_deaf}
 use Rattle.world_history.specs.Reading.{sent_after, is_drive}
 
 -- drive d, the messages so far, and the bytes that were injected last
@@ -18,9 +18,9 @@ pub record DriveSeen : Type 0 where
   pub injected : List ℕ
   pub drive : Option DriveAt
 
--- the drive after bytes came to it; one that failed is deaf
+-- the drive after bytes came to it; one that failed or is down is deaf
 abbrev pub hears_bytes : (bytes : List ℕ) → DriveAt → DriveAt
-hears_bytes bytes a = if a.failed then a else (judges a (commands.reading bytes)).drive
+hears_bytes bytes a = if is_deaf a then a else (judges a (commands.reading bytes)).drive
 
 -- it takes a message that is for it
 abbrev pub hears_sent : (d : ℕ) → Option DriveAt → Option Sent → Option DriveAt
@@ -36,12 +36,20 @@ abbrev pub clock_set : (d : ℕ) → Machine → (time : ℕ) → Option DriveAt
 clock_set d (machine.Drive k) time a = where_it_is k d (λ x. at_time x time) a
 clock_set d machine.Server time a = a
 
+-- a drive crashes or is opened again
+abbrev pub drive_restarted : (d : ℕ) → Machine → (DriveAt → DriveAt) → Option DriveAt → Option DriveAt
+drive_restarted d (machine.Drive k) becomes a = where_it_is k d becomes a
+drive_restarted d machine.Server becomes a = a
+
 -- the drive after an event
 abbrev pub drive_after_event : (d : ℕ) → Option DriveAt → Event → Option DriveAt
-drive_after_event d a (event.Drive k key capacity) = if k == d then Some (made_drive k key capacity) else a
+drive_after_event d a (event.Drive k key capacity) = if k == d then Some (made_drive k key capacity false) else a
+drive_after_event d a (event.Disk k key capacity) = if k == d then Some (made_drive k key capacity true) else a
 drive_after_event d a (event.Least k format) = where_it_is k d (λ x. raised x format) a
 drive_after_event d a (event.Clock which time) = clock_set d which time a
 drive_after_event d a (event.Fail k) = where_it_is k d fallen a
+drive_after_event d a (event.Crash which) = drive_restarted d which crashed a
+drive_after_event d a (event.Reopen which) = drive_restarted d which reopened a
 drive_after_event d a e = a
 
 -- the bytes that an event injects

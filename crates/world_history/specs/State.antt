@@ -1,5 +1,5 @@
 -- The world: its parties, and the messages between them.
-use Rattle.std.specs.Prelude.{ℕ, Bool, List, [], Option}
+use Rattle.std.specs.Prelude.{ℕ, Bool, false, List, [], Option}
 use Rattle.std.specs.Ordering.{nat_cmp}
 use Rattle.std.specs.BTreeMap.{is_at, insert_entry}
 use Rattle.std.specs.Map.{lookup, set_value, remove_entry}
@@ -15,11 +15,14 @@ pub use Rattle.world_history.specs.declared.messages.Sent.{Sent}
 
 -- ---- parties
 
--- a drive of the world; one that failed has lost its objects and is deaf
+-- a drive of the world; one that failed has lost its objects and is deaf. One that is stored can crash: then it is down, and
+-- deaf, and keeps all that it has
 pub record DriveAt : Type 0 where
   pub state : DriveState
   pub clock : ℕ
   pub failed : Bool
+  pub stored : Bool
+  pub down : Bool
 
 -- a client of the world; one that was stopped is deaf, and `wrote` says that a WRITE of its pending call was sent
 pub record ClientAt : Type 0 where
@@ -50,13 +53,14 @@ pub record Network : Type 0 where
   pub messages : List Posted
   pub kept : ℕ
 
--- drives and clients by number, the server and its clock, and the network
+-- drives and clients by number, the server and its clock, the network, and whether the server is down: then it is deaf
 pub record World : Type 0 where
   pub drives : List (ℕ × DriveAt)
   pub clients : List (ℕ × ClientAt)
   pub server : Server
   pub clock : ℕ
   pub network : Network
+  pub down : Bool
 
 -- nothing was made and nothing was sent
 abbrev pub empty_world : World
@@ -66,6 +70,7 @@ empty_world = record {
   server = new_server [];
   clock = 0;
   network = record { messages = []; kept = 0 };
+  down = false;
 }
 
 -- ---- changes of one party, and further parties
@@ -84,3 +89,7 @@ and_client w c a = record w { clients = and_number w.clients c a }
 
 abbrev pub with_server : World → Server → World
 with_server w s = record w { server = s }
+
+-- the server is down from now on, or no longer
+abbrev pub with_down : World → Bool → World
+with_down w down = record w { down = down }

@@ -6,7 +6,7 @@ use thiserror::Error;
 /// All but the last two change nothing. The last two end the world, and the lines appended stand.
 #[derive(Clone, Copy, Debug, PartialEq, Eq, Error)]
 pub enum WorldErr {
-    /// The world doesn't know yet how to carry this event out.
+    /// The world doesn't know yet how to carry this event out: it is one of zones.
     #[error("the event can't be carried out yet")]
     NotYet,
     /// A drive, client or file that the event names doesn't exist, but for what the event is to make
@@ -22,6 +22,15 @@ pub enum WorldErr {
     /// The drive that is to be declared hasn't failed.
     #[error("the drive hasn't failed")]
     Alive,
+    /// The drive that is to crash or to be opened again keeps nothing: it was made by `drive`.
+    #[error("the drive keeps nothing over a crash")]
+    NotKept,
+    /// The named drive is down, or the server is, which the event needs.
+    #[error("the drive or the server is down")]
+    Down,
+    /// What is to be opened again isn't down.
+    #[error("what is to be opened again isn't down")]
+    Running,
     /// No message of that number was sent.
     #[error("no message of that number was sent")]
     NoMessage { index: u64 },
