@@ -7,7 +7,7 @@ use Rattle.scenario_text.specs.declared.event.Call.TheVariants as call
 use Rattle.scenario_text.specs.declared.event.Sender.TheVariants as sender
 use Rattle.scenario_text.specs.declared.event.Machine.TheVariants as machine
 use Rattle.world_history.specs.declared.err.WorldErr.{WorldErr}
-use Rattle.world_history.specs.declared.err.WorldErr.TheVariants.{NotYet, NoName, Taken, Dead, Alive, NoMessage}
+use Rattle.world_history.specs.declared.err.WorldErr.TheVariants.{NotYet, NoName, Taken, Dead, Alive, NotKept, Running, NoMessage}
 use Rattle.world_history.specs.State.{World, empty_world}
 use Rattle.world_history.specs.Refusals.{refusal}
 use Rattle.world_history.proofs.Played.{played_all, drive, file}
@@ -75,6 +75,21 @@ pub clients : refused (
 unfolding opened opened_server
 clients = refl
 
+-- crashes and openings, while all that lives is up: drive 1 keeps nothing
+pub restarts : refused (
+    event.Crash (machine.Drive 0) ∷
+    event.Crash (machine.Drive 1) ∷
+    event.Crash (machine.Drive 2) ∷
+    event.Reopen (machine.Drive 0) ∷
+    event.Reopen (machine.Drive 1) ∷
+    event.Reopen (machine.Drive 2) ∷
+    event.Crash machine.Server ∷
+    event.Reopen machine.Server ∷
+    [])
+    ≡ Some Dead ∷ Some NotKept ∷ Some NoName ∷ Some Dead ∷ Some NotKept ∷ Some NoName ∷ None ∷ Some Running ∷ []
+unfolding opened opened_server
+restarts = refl
+
 -- messages, and events that aren't known yet
 pub others : refused (
     event.Deliver 0 ∷
@@ -83,9 +98,7 @@ pub others : refused (
     event.Settle ∷
     event.Format 2 ∷
     event.Zone 9 1 ∷
-    event.Crash machine.Server ∷
-    event.Reopen (machine.Drive 9) ∷
     [])
-    ≡ None ∷ Some (NoMessage 1) ∷ Some (NoMessage 1) ∷ None ∷ None ∷ Some NotYet ∷ Some NotYet ∷ Some NotYet ∷ []
+    ≡ None ∷ Some (NoMessage 1) ∷ Some (NoMessage 1) ∷ None ∷ None ∷ Some NotYet ∷ []
 unfolding opened opened_server
 others = refl
