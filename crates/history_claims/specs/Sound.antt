@@ -10,7 +10,7 @@ use Rattle.history_law.specs.Unforged.{AreUnforged, InjectedAt}
 use Rattle.history_law.specs.Ranges.{AreRangesApart}
 use Rattle.history_law.specs.Read.{AreWritten}
 use Rattle.calm_law.specs.Naming.{AreNamed}
-use Rattle.fencing_law.specs.Fenced.{AreFenced, FencesLast}
+use Rattle.fencing_law.specs.Fenced.{FencesLast}
 use Rattle.fencing_law.specs.Holder.{OwnUnlessForged}
 use Rattle.history_claims.specs.Components.{AreComponentsApart}
 use Rattle.history_claims.specs.Lanes.{HaveFairLanes, HaveOwnLanes}
@@ -41,9 +41,9 @@ pub record IsSound (h : List Line) : Type 0 where
   pub fair : unguessed h ≡ true → AreUnforged h
   -- what is performed under the server's holder the server sent, as far as nothing is forged
   pub holders : AtEachLine OwnUnlessForged h
-  -- so in a whole history in which nothing is forged, from each note that a fence is over on, the objects of the file's
-  -- components have the new tag, and no command of an earlier one is performed on them
-  pub fenced : (w : World) → StandsFor w h → AreWritten h → AreUnforged h → AreFenced h × FencesLast h
+  -- so in a whole history in which nothing is forged, behind the step of each note that a fence is over the objects of the
+  -- file's components have the new tag, and from there on no command of an earlier one is performed on them
+  pub fenced : (w : World) → StandsFor w h → AreWritten h → AreUnforged h → FencesLast h
   -- and whatever grants of the file the server gave before that note are of an earlier tag
   pub older : (w : World) → StandsFor w h → AreWritten h → GivenBefore h
   -- at each moment each lane of an object is of a command of the lane's holder, the server or a client, or of one that carries
