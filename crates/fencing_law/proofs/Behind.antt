@@ -12,7 +12,7 @@ use Rattle.scenario_text.specs.declared.line.Line.{Line}
 use Rattle.scenario_text.specs.declared.line.Line.TheVariants as line
 use Rattle.world_history.specs.State.{World}
 use Rattle.world_history.specs.Handed.{Post}
-use Rattle.world_history.specs.Moves.{Act, Action, Opens, Delivers, TimesOut, Pends, begins, acts}
+use Rattle.world_history.specs.Moves.{Act, Action, Opens, Delivers, TimesOut, Pends, begins, pends, acts}
 use Rattle.world_history.specs.Sending.{Move, sent_lines}
 use Rattle.world_history.specs.Reading.{is_head}
 use Rattle.history_law.specs.BookMoments.{lines_in}
@@ -78,13 +78,14 @@ unfolding begins
 begins_first w chosen (event.Deliver number) = leads_first w _ _ (delivers_lead w chosen number)
 begins_first w chosen (event.Timeout c component) = leads_first w _ _ (timeout_leads w c component)
 begins_first w chosen (event.Inject d bytes) = leads_first w _ _ (injects_lead w d bytes)
-begins_first w chosen e = NoHead _ (none_flat _ (begins_flat w chosen e refl))
+begins_first w chosen e =
+    NoHead (begins w chosen e).told (none_flat (begins w chosen e).told (begins_flat w chosen e refl))
 
 acts_first : (w : World) (chosen : List ℕ) (action : Action) → HeadsFirst (acts w chosen action).told
 acts_first w chosen (Opens e) = begins_first w chosen e
 acts_first w chosen (Delivers number) = leads_first w _ _ (delivers_lead w chosen number)
 acts_first w chosen (TimesOut c component) = leads_first w _ _ (timeout_leads w c component)
-acts_first w chosen (Pends c) = pending_first _ (pends_pending w c)
+acts_first w chosen (Pends c) = pending_first (pends w c) (pends_pending w c)
 
 lines_first : (w : World) (chosen : List ℕ) (action : Action)
     → HeadsFirst (lines_in w (record { action = action; chosen = chosen }))
