@@ -25,9 +25,8 @@ use Rattle.history_claims.specs.Texts.{EventsMakeText}
 pub record IsSound (h : List Line) : Type 0 where
   -- grants of one file never conflict, and what is performed touches its own object and range alone
   pub safe : IsSafe h
-  -- what a drive performs was sent to it by the server, or is a command of a client under a credential that an answer of
-  -- the server gave this client before: of each message that is delivered and, as far as nothing was guessed, of injected
-  -- bytes
+  -- what a drive performs of a delivered message the server sent, or a client under a credential that an answer of the
+  -- server gave this client before; injected bytes are, as far as nothing was guessed, the server's or such a client's
   pub issued : AtEachLine IssuedAt h
   -- of two live grants of a file of which one is for writing, no byte of a component is inside the capabilities of both
   pub ranges : AtEachMoment AreRangesApart h
