@@ -15,6 +15,8 @@ use Rattle.fencing_law.specs.Holder.{OwnUnlessForged}
 use Rattle.history_claims.specs.Components.{AreComponentsApart}
 use Rattle.history_claims.specs.Lanes.{HaveFairLanes, HaveOwnLanes}
 use Rattle.tag_law.specs.Given.{GivenBefore}
+use Rattle.exchange_law.specs.Judged.{JudgedAt}
+use Rattle.exchange_law.specs.Awaited.{AwaitedAt}
 use Rattle.exchange_law.specs.Text.{AreOfText, AreFew, WithinTheLimitAreFew}
 use Rattle.exchange_law.specs.Exact.{IssuedExactlyAt, InjectedExactlyAt}
 use Rattle.ending_law.specs.Calls.{EndsAt}
@@ -23,7 +25,8 @@ use Rattle.history_claims.specs.Texts.{EventsMakeText}
 
 -- What the lines of a sound history say.
 pub record IsSound (h : List Line) : Type 0 where
-  -- grants of one file never conflict, and what is performed touches its own object and range alone
+  -- grants of one file never conflict, none is live while a job runs on the file, and what is performed touches its own
+  -- object and range alone
   pub safe : IsSafe h
   -- what a drive performs of a delivered message the server sent, or a client under a credential that an answer of the
   -- server gave this client before; injected bytes are, as far as nothing was guessed, the server's or such a client's
@@ -59,6 +62,11 @@ pub record IsSound (h : List Line) : Type 0 where
   -- object with its file's tag, or with the next one while a fence of the file is open, unless its CREATE is awaited or its
   -- drive has failed
   pub tags : AtEachMoment HaveTagsAt h
+  -- a call that ends as refused by a drive was refused so: a message of its client was delivered to that drive before,
+  -- which judged it so and didn't perform it
+  pub judged : AtEachLine JudgedAt h
+  -- and with few messages it was a command that the client's call awaited at that moment
+  pub awaited : AtEachLine AwaitedAt h
   -- and each call ends in one of the ways that are left to it
   pub ends : AreOfText h → AreFew h → AtEachLine EndsAt h
 
