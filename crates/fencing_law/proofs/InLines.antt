@@ -19,7 +19,8 @@ use Rattle.world_history.specs.History.Begins.{Nothing}
 use Rattle.history_law.specs.BookMoments.{IsMoment, lines_so_far, lines_in}
 use Rattle.history_law.specs.Read.{AreWritten, BookIsRead}
 use Rattle.fencing_law.specs.Reaching.{HolderIsServer}
-use Rattle.fencing_law.specs.Fenced.{IsFenced, noted, FencedIsFenced, NothingOlder}
+use Rattle.fencing_law.specs.Fenced.{IsFenced, noted, BeginNone, AreFenced, FencedIsFenced, NothingOlder}
+use Rattle.fencing_law.proofs.Behind.{none_behind}
 use Rattle.move_law.proofs.Moments.{so_far_more}
 use Rattle.fencing_law.proofs.Ending.{next_moment, fences_end, reached_refuses}
 
@@ -33,8 +34,9 @@ tail_same x y xs ys e = cc e
 
 -- a line of two lists is one of the first, or of the second
 place_of : (h ls before after : List Line) (x : Line) → h ++ ls ≡ before ++ x ∷ after
-    → ((rest : List Line) × (h ≡ before ++ x ∷ rest) × (after ≡ rest ++ ls)) ⊎ In x ls
-place_of [] ls before after x e = inr (subst (In x) (sym e) (in_behind x before (x ∷ after) (inl refl)))
+    → ((rest : List Line) × (h ≡ before ++ x ∷ rest) × (after ≡ rest ++ ls))
+    ⊎ ((front : List Line) × (ls ≡ front ++ x ∷ after))
+place_of [] ls before after x e = inr (before, e)
 place_of (y ∷ h) ls [] after x e =
     inl (h, ap (λ (z : Line). z ∷ h) (head_same y x (h ++ ls) after e), sym (tail_same y x (h ++ ls) after e))
 place_of (y ∷ h) ls (z ∷ before) after x e =
@@ -70,27 +72,30 @@ fine_front h xs ys is f = record {
 
 -- ---- ends of fences
 
--- so it is of each note of these lines
-abbrev Ends : List Line → Type 0
-Ends h =
-    (before after : List Line) (number tag : ℕ) → h ≡ noted before number tag after
-    → (rest : List Line) × (more : List Line) × (after ≡ rest ++ more)
-    × IsFenced (server_after (noted before number tag rest)).files (noted before number tag rest) number tag
-
-ends_more : (h ls : List Line) → Ends h
-    → ((number tag : ℕ) → In (line.Note number (note.Fenced tag)) ls
-    → IsFenced (server_after (h ++ ls)).files (h ++ ls) number tag) → Ends (h ++ ls)
+-- so it is of each note of these lines, and of each note of a further move
+ends_more : (h ls : List Line) → AreFenced h
+    → ((number tag : ℕ) (front after : List Line) → ls ≡ front ++ line.Note number (note.Fenced tag) ∷ after
+    → IsFenced (server_after (h ++ ls)).files (h ++ ls) number tag × BeginNone after) → AreFenced (h ++ ls)
 ends_more h ls ends told before after number tag is =
     elim (place_of h ls before after (line.Note number (note.Fenced tag)) is) [
       | inl (rest, own, behind) ↦
           let e = ends before rest number tag own in
-          (e.0, e.1 ++ ls, behind ∙ ap (λ (l : List Line). l ++ ls) e.2 ∙ append_assoc e.0 e.1 ls, e.3)
-      | inr i ↦ (
-        after,
-        [],
-        sym (append-nil after),
-        subst (λ (l : List Line). IsFenced (server_after l).files l number tag) is (told number tag i),
-      )
+          record {
+            rest = e.rest;
+            more = e.more ++ ls;
+            cut = behind ∙ ap (λ (l : List Line). l ++ ls) e.cut ∙ append_assoc e.rest e.more ls;
+            of_step = e.of_step;
+            fenced = e.fenced;
+          }
+      | inr (front, own) ↦
+          let e = told number tag front after own in
+          record {
+            rest = after;
+            more = [];
+            cut = sym (append-nil after);
+            of_step = e.1;
+            fenced = subst (λ (l : List Line). IsFenced (server_after l).files l number tag) is e.0;
+          }
     ]
 
 due_split : (p : Plan) (w : World) (front : List Move) (m : Move) (back : List Move) → AreDue p w (front ++ m ∷ back)
@@ -115,14 +120,18 @@ so_far_front v e (x ∷ xs) ys =
 module _ (read : BookIsRead) (further : OneEventMore) where
   -- of a move at a moment
   ends_move : (w : World) (h : List Line) (k : IsMoment w h) (m : Move)
-      → due (plan_after (plan_of k.before k.event) k.moves) w ≡ Some m.action → IsFine (h ++ lines_in w m) → Ends h
-      → Ends (h ++ lines_in w m)
+      → due (plan_after (plan_of k.before k.event) k.moves) w ≡ Some m.action → IsFine (h ++ lines_in w m)
+      → AreFenced h → AreFenced (h ++ lines_in w m)
   ends_move w h k m d fine ends =
-      ends_more h (lines_in w m) ends (λ number tag i.
-      subst (λ (s : Server). IsFenced s.files (h ++ lines_in w m) number tag)
-      (sym (ap (λ (s : ServerSeen). s.server) (read (move w m).world (h ++ lines_in w m) (next_moment w h k m d)
-      fine.written)))
-      (fences_end w h k m d fine.own number tag i))
+      ends_more h (lines_in w m) ends (λ number tag front after is. (
+        subst (λ (s : Server). IsFenced s.files (h ++ lines_in w m) number tag)
+        (sym (ap (λ (s : ServerSeen). s.server) (read (move w m).world (h ++ lines_in w m) (next_moment w h k m d)
+        fine.written)))
+        (fences_end w h k m d fine.own number tag
+        (subst (In (line.Note number (note.Fenced tag))) (sym is)
+        (in_behind (line.Note number (note.Fenced tag)) front (line.Note number (note.Fenced tag) ∷ after) (inl refl)))),
+        none_behind w m front after (line.Note number (note.Fenced tag)) is refl,
+      ))
 
   module _ (v : World) (h : List Line) (e : Event) (s : StandsFor v h) (allowed : refusal v e ≡ None) where
     moment_at : (front : List Move) → AreDue (plan_of v e) v front
@@ -140,11 +149,11 @@ module _ (read : BookIsRead) (further : OneEventMore) where
     }
 
     ends_moves : (front back : List Move) → AreDue (plan_of v e) v (front ++ back)
-        → IsFine (h ++ lines_so_far v e (front ++ back)) → Ends (h ++ lines_so_far v e front)
-        → Ends (h ++ lines_so_far v e (front ++ back))
+        → IsFine (h ++ lines_so_far v e (front ++ back)) → AreFenced (h ++ lines_so_far v e front)
+        → AreFenced (h ++ lines_so_far v e (front ++ back))
     unfolding moment_at
     ends_moves front [] d fine ends =
-        subst (λ (ms : List Move). Ends (h ++ lines_so_far v e ms)) (sym (append-nil front)) ends
+        subst (λ (ms : List Move). AreFenced (h ++ lines_so_far v e ms)) (sym (append-nil front)) ends
     ends_moves front (m ∷ back) d fine ends =
         let split = due_split (plan_of v e) v front m back d in
         let again : front ++ m ∷ back ≡ (front ++ m ∷ []) ++ back = sym (append_assoc front (m ∷ []) back) in
@@ -158,56 +167,56 @@ module _ (read : BookIsRead) (further : OneEventMore) where
         ≡ (h ++ lines_so_far v e front) ++ lines_in (world_after v front) m =
         ap (λ (l : List Line). h ++ l) (so_far_more v e front m split.1)
         ∙ sym (append_assoc h (lines_so_far v e front) (lines_in (world_after v front) m)) in
-        subst (λ (ms : List Move). Ends (h ++ lines_so_far v e ms)) (sym again)
+        subst (λ (ms : List Move). AreFenced (h ++ lines_so_far v e ms)) (sym again)
         (ends_moves (front ++ m ∷ []) back (subst (AreDue (plan_of v e) v) again d) all
-        (subst Ends (sym longer)
+        (subst AreFenced (sym longer)
         (ends_move (world_after v front) (h ++ lines_so_far v e front) (moment_at front split.0) m split.1
         (subst IsFine longer one) ends)))
 
   -- an event has a move
   ends_event : (v : World) (h : List Line) (e : Event) (lines : List Line) (u : World) (c : Carries v e lines u) (ms
       : List Move)
-      → c.moves ≡ ms → StandsFor v h → IsFine (h ++ lines) → Ends h → Ends (h ++ lines)
+      → c.moves ≡ ms → StandsFor v h → IsFine (h ++ lines) → AreFenced h → AreFenced (h ++ lines)
   ends_event v h e lines u c [] is s fine ends =
       absurd (cc (subst (λ (l : List Move). IsOver (plan_after (plan_of v e) l) u) is c.over))
   ends_event v h e lines u c (m ∷ ms) is s fine ends =
       let same : lines ≡ lines_so_far v e (m ∷ ms) =
       c.lines_are ∙ ap (λ (l : List Move). line.Event e ∷ lines_of v l) is in
-      subst (λ (l : List Line). Ends (h ++ l)) (sym same)
+      subst (λ (l : List Line). AreFenced (h ++ l)) (sym same)
       (ends_moves v h e s c.allowed [] (m ∷ ms) (subst (AreDue (plan_of v e) v) is c.are_due)
-      (subst (λ (l : List Line). IsFine (h ++ l)) same fine) (subst Ends (sym (append-nil h)) ends))
+      (subst (λ (l : List Line). IsFine (h ++ l)) same fine) (subst AreFenced (sym (append-nil h)) ends))
 
   ends_steps : (v : World) (h : List Line) (steps : List Step) → AreCarried v steps → StandsFor v h
-      → IsFine (h ++ lines_of_steps steps) → Ends h → Ends (h ++ lines_of_steps steps)
-  ends_steps v h [] carried s fine ends = subst Ends (sym (append-nil h)) ends
+      → IsFine (h ++ lines_of_steps steps) → AreFenced h → AreFenced (h ++ lines_of_steps steps)
+  ends_steps v h [] carried s fine ends = subst AreFenced (sym (append-nil h)) ends
   ends_steps v h (t ∷ steps) carried s fine ends =
       let again : h ++ (t.lines ++ lines_of_steps steps) ≡ (h ++ t.lines) ++ lines_of_steps steps =
       sym (append_assoc h t.lines (lines_of_steps steps)) in
-      subst Ends (sym again)
+      subst AreFenced (sym again)
       (ends_steps t.after (h ++ t.lines) steps carried.1 (further v t.after h t.lines t.event s carried.0)
       (subst IsFine again fine)
       (ends_event v h t.event t.lines t.after carried.0 carried.0.moves refl s
       (fine_front _ (h ++ t.lines) (lines_of_steps steps) again fine) ends))
 
-  none_ends : Ends []
+  none_ends : AreFenced []
   none_ends [] after number tag is = absurd (cc is)
   none_ends (x ∷ before) after number tag is = absurd (cc is)
 
   pub fenced_is_fenced : FencedIsFenced
   fenced_is_fenced w h s written own =
       let fine : IsFine h = record { written = written; own = own } in
-      subst Ends (sym s.lines_are)
+      subst AreFenced (sym s.lines_are)
       (ends_steps empty_world [] s.steps s.carried
       (record { steps = []; carried = tt; world_is = refl; lines_are = refl })
       (subst IsFine s.lines_are fine) none_ends)
 
   pub nothing_older : NothingOlder
-  nothing_older w h s written own before after number tag is tag_fits =
+  nothing_older w h s written own before after number tag is =
       let e = fenced_is_fenced w h s written own before after number tag is in
-      let front : List Line = noted before number tag e.0 in
-      let split : h ≡ front ++ e.1 =
-      is ∙ ap (noted before number tag) e.2
-      ∙ sym (append_assoc before (line.Note number (note.Fenced tag) ∷ e.0) e.1) in
+      let front : List Line = noted before number tag e.rest in
+      let split : h ≡ front ++ e.more =
+      is ∙ ap (noted before number tag) e.cut
+      ∙ sym (append_assoc before (line.Note number (note.Fenced tag) ∷ e.rest) e.more) in
       let whole : Lawful h = record {
         world = w;
         whole = h;
@@ -216,13 +225,8 @@ module _ (read : BookIsRead) (further : OneEventMore) where
         begins = Nothing refl;
         lines_are = sym (append-nil h);
       } in (
-        e.0,
-        e.1,
-        e.2,
-        e.3.file,
-        e.3.there,
-        e.3.number_is,
-        λ at i there object_fits middle later l cut bytes c j read own_object.
+        e,
+        λ tag_fits at i there object_fits middle later l cut bytes c j read own_object.
             reached_refuses h whole front middle later l (split ∙ ap (λ (ls : List Line). front ++ ls) cut) at.drive
-            at.object tag object_fits tag_fits (e.3.raised at i there) bytes c j read own_object,
+            at.object tag object_fits tag_fits (e.fenced.raised at i there) bytes c j read own_object,
       )
