@@ -57,8 +57,8 @@ pub record IsSound (h : List Line) : Type 0 where
   -- and so is what is performed of injected bytes, unless the server sent it, as far as nothing is forged
   pub allowed : AreOfText h → AreFew h → AtEachLine InjectedExactlyAt h
   -- between two moves of such a history, as far as nothing is forged, each component that isn't missing has an
-  -- object with its file's tag, or with the next one while a fence of the file is open, unless its CREATE is awaited or its
-  -- drive has failed
+  -- object with its file's tag, or with the next one while a fence of the file is open, unless its CREATE is awaited, its
+  -- drive has failed, or the file isn't ready and no job of it runs
   pub tags : AtEachMoment HaveTagsAt h
   -- and each call ends in one of the ways that are left to it
   pub ends : AreOfText h → AreFew h → AtEachLine EndsAt h
