@@ -7,6 +7,7 @@ use Rattle.osd_capability.specs.Layout.{is_format}
 use Rattle.scenario_text.specs.Spelling.{Fits}
 use Rattle.scenario_text.specs.declared.event.Event.{Event}
 use Rattle.scenario_text.specs.declared.event.Event.TheVariants as event
+use Rattle.scenario_text.specs.declared.event.Machine.TheVariants as machine
 use Rattle.scenario_text.specs.declared.line.Line.{Line}
 use Rattle.scenario_text.specs.declared.line.Line.TheVariants as line
 use Rattle.server_rules.specs.declared.limits.TheConstants.{FIRST_OBJECT}
@@ -46,18 +47,19 @@ given_heard : (now : ℕ) (from : Node) (m : Option ServerMessage) → GivenAny 
 given_heard now from None = tt
 given_heard now from (Some m) = tt
 
-given_to : (now : ℕ) (m : Message) (to : Node) → GivenAny (brought_to now m to)
-given_to now m node.Server = given_heard now m.from (for_server m)
-given_to now m (node.Drive d) = tt
-given_to now m (node.Client c) = tt
-
-given_brought : (now : ℕ) (o : Option Posted) → GivenAny (brought now o)
-given_brought now None = tt
-given_brought now (Some p) = given_to now p.message p.message.to
-
 either_given : (b : Bool) (i j : Option Input) → GivenAny i → GivenAny j → GivenAny (if b then i else j)
 either_given true i j h k = h
 either_given false i j h k = k
+
+given_to : (w : World) (m : Message) (to : Node) → GivenAny (brought_to w m to)
+given_to w m node.Server =
+    either_given w.down None (heard_of w.clock m.from (for_server m)) tt (given_heard w.clock m.from (for_server m))
+given_to w m (node.Drive d) = tt
+given_to w m (node.Client c) = tt
+
+given_brought : (w : World) (o : Option Posted) → GivenAny (brought w o)
+given_brought w None = tt
+given_brought w (Some p) = given_to w p.message p.message.to
 
 pub one_or_two : (n : ℕ) → 1 ≤ n → n ≤ 2 → is_format n ≡ true
 one_or_two n a b = grind (arith, nat_tests, a, b)
@@ -65,15 +67,20 @@ one_or_two n a b = grind (arith, nat_tests, a, b)
 -- with an event of a text
 pub given_event : (w : World) (e : Event) → Fits e → GivenAny (input_in w (Opens e))
 given_event w (event.Drive d key capacity) f = either_given (knows_drive w.server d) None (Some _) tt f.1.0
+given_event w (event.Disk d key capacity) f = either_given (knows_drive w.server d) None (Some _) tt f.1.0
 given_event w (event.File n m tag) f =
     either_given (has_algorithm (raw_of m)) (Some _) None
     (f.1.0, f.1.1.1.1.1.1.1.1.0.1, f.1.1.1.1.1.1.1.0) tt
 given_event w (event.Format n) f = one_or_two n f.1.1.0.0 f.1.1.0.1
-given_event w (event.Deliver number) f = given_brought w.clock (slice_get w.network.messages number)
+given_event w (event.Deliver number) f = given_brought w (slice_get w.network.messages number)
+given_event w (event.Crash (machine.Drive d)) f = tt
+given_event w (event.Crash machine.Server) f = tt
+given_event w (event.Reopen (machine.Drive d)) f = tt
+given_event w (event.Reopen machine.Server) f = tt
 given_event w e f = tt
 
 pub given_rule : (w : World) (r : Rule) (action : Action) → due_by w r ≡ Some action → GivenAny (input_in w action)
-given_rule w r (Delivers number) due = given_brought w.clock (slice_get w.network.messages number)
+given_rule w r (Delivers number) due = given_brought w (slice_get w.network.messages number)
 given_rule w r (TimesOut c component) due = tt
 given_rule w r (Pends c) due = tt
 given_rule w r (Opens e) due = absurd (never_opens w r e due)
