@@ -10,13 +10,13 @@ use Rattle.scenario_text.specs.declared.event.Machine.TheVariants as machine
 use Rattle.scenario_text.specs.declared.line.Line.{Line}
 use Rattle.scenario_text.specs.declared.line.Line.TheVariants as line
 use Rattle.server_rules.specs.Numbers.{among}
-use Rattle.world_history.specs.declared.err.WorldErr.{WorldErr}
 use Rattle.world_history.specs.declared.messages.Sent.{Sent}
 use Rattle.world_history.specs.State.{DriveAt, at_number}
 use Rattle.world_history.specs.Drives.{judges, raised, at_time, fallen, crashed, reopened, is_deaf}
 use Rattle.world_history.specs.Reading.{is_head, is_drive, Step, Grouped, grouped_with, grouped, steps_of}
 use Rattle.world_history.specs.ReadDrives.{DriveSeen, hears_bytes, hears_sent, where_it_is, drive_after_event, drive_after_line, sees_drive, drive_after}
-use Rattle.world_history.specs.Refusals.{refusal, if_failed, first_of, unless_down}
+use Rattle.world_history.specs.Refusals.{refusal, if_failed, unless_down}
+use Rattle.world_history.proofs.Causes.{no_cause}
 use Rattle.world_history.specs.Book.{server_step}
 use Rattle.world_history.specs.Calm.{Seen, seen, sees, first_seen, begins, watched, mended_in, failed_after}
 use Rattle.calm_law.specs.Moments.{DeclaredHaveFailed}
@@ -140,11 +140,7 @@ pub not_alive : (o : Option DriveAt) → if_failed o ≡ None → has_failed o �
 not_alive None e = absurd (cc e)
 not_alive (Some a) e = elim (cases_Bool a.failed) [ inl t ↦ t | inr z ↦ absurd (cc (rw z at e)) ]
 
-first_none : (x y : Option WorldErr) → first_of x y ≡ None → x ≡ None
-first_none None y e = refl
-first_none (Some cause) y e = absurd (cc e)
-
 pub declared_have_failed : DeclaredHaveFailed
 unfolding refusal
 declared_have_failed w h d is e =
-    failed_seen h d (ap (λ (o : Option DriveAt). has_failed o) is ∙ not_alive (at_number w.drives d) (first_none (if_failed (at_number w.drives d)) (unless_down w) e))
+    failed_seen h d (ap (λ (o : Option DriveAt). has_failed o) is ∙ not_alive (at_number w.drives d) (no_cause (if_failed (at_number w.drives d)) (unless_down w) e).0)

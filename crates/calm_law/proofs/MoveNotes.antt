@@ -18,6 +18,7 @@ use Rattle.scenario_text.specs.declared.event.Event.{Event}
 use Rattle.scenario_text.specs.declared.event.Event.TheVariants as event
 use Rattle.scenario_text.specs.declared.event.Sender.TheVariants as sender
 use Rattle.scenario_text.specs.declared.event.Machine.TheVariants as machine
+use Rattle.scenario_text.specs.declared.line.Delivery.TheVariants as delivery
 use Rattle.scenario_text.specs.declared.line.Outcome.{Outcome}
 use Rattle.scenario_text.specs.declared.line.MapFault.TheVariants as map_fault
 use Rattle.scenario_text.specs.declared.line.Note.TheVariants as note

@@ -1,5 +1,5 @@
 -- What each step of a client keeps, given what comes to it, each move keeps.
-use Rattle.std.proofs.Common.{◌≡◌, ℕ, List, Some, IsSome, refl, sym, ap, subst, ◌∙◌, inl, inr}
+use Rattle.std.proofs.Common.{◌≡◌, ℕ, List, Option, Some, None, IsSome, refl, sym, ap, subst, ◌∙◌, inl, inr}
 use Rattle.std.proofs.lemmas.Bool.{cases_eq}
 use Rattle.osd_objects.proofs.Entries.{lookup_inserted, lookup_beside, lookup_set, lookup_set_beside}
 use Rattle.client_rules.specs.Steps.{new_client}
@@ -10,7 +10,7 @@ use Rattle.scenario_text.specs.declared.event.Sender.TheVariants as sender
 use Rattle.world_history.specs.ClientNames.{Client, CallOp}
 use Rattle.world_history.specs.State.{ClientAt, World, at_number, with_number, and_number}
 use Rattle.world_history.specs.Moves.{Act, Action, Opens, op_of, acts}
-use Rattle.move_law.specs.Moves.{asked_in, IsForClient, MoveCases}
+use Rattle.move_law.specs.Moves.{ForClient, asked_in, IsForClient, MoveCases}
 use Rattle.move_law.proofs.Moves.{each_act}
 
 abbrev pub Clients : Type 0
@@ -69,18 +69,21 @@ module _ (N : ℕ → Type 0) (I : CallOp → Type 0) (R : ℕ → Client → Ty
   GoesTo a = All a.world.clients
 
   -- a call that an action asks of a client is such a one
-  call_given : (action : Action) (c : ℕ) (op : CallOp) → Given N I action
-      → asked_in action ≡ Some (record { number = c; input = client_input.Calls op }) → I op
-  call_given (Opens (event.Do n x)) c op g is = let same : op_of x ≡ op = cc is in subst I same g
-  call_given (Opens (event.Call n x)) c op g is = let same : op_of x ≡ op = cc is in subst I same g
-  call_given (Opens (event.Resend (sender.Client n))) c op g is = absurd (cc is)
-  call_given (Opens (event.Resend sender.Server)) c op g is = absurd (cc is)
-  call_given action c op g is = absurd (cc is)
+  abbrev AsksOf : Option ForClient → Type 0
+  AsksOf None = Unit {0}
+  AsksOf (Some x) = Asks I x.input
+
+  call_given : (action : Action) → Given N I action → AsksOf (asked_in action)
+  call_given (Opens (event.Do n x)) g = g
+  call_given (Opens (event.Call n x)) g = g
+  call_given (Opens (event.Resend (sender.Client n))) g = tt
+  call_given (Opens (event.Resend sender.Server)) g = tt
+  call_given action g = tt
 
   asks_given : (w : World) (action : Action) (c : ℕ) (a : ClientAt) (i : Input) → Given N I action
       → IsForClient w action c a i → Asks I i
-  asks_given w action c a (client_input.Calls op) g is = call_given action c op g is
-  asks_given w action c a i g is = tt
+  asks_given w action c a (client_input.Hears from m) g is = tt
+  asks_given w action c a i g is = subst AsksOf is (call_given action g)
 
   cases : (w : World) → All w.clients → (chosen : List ℕ) (action : Action) → Given N I action
       → MoveCases w chosen action GoesTo
