@@ -182,7 +182,7 @@ delivers_none p number l = λ w s.
     let is : delivers w [] number ≡ changed w = ap (λ (x : Option Posted). delivers_found w [] number x) none in
     record {
       chosen = [];
-      shows = subst (λ (o : Option Posted). ShowsWith (mended_in (step_by w.server [] (brought w.clock o))) p
+      shows = subst (λ (o : Option Posted). ShowsWith (mended_in (step_by w.server [] (brought w o))) p
           (delivers w [] number).world) (sym none) (subst (λ (a : WorldAct). Shows p a.world) (sym is) s);
       is = subst (λ (a : WorldAct). IsAct a.told a.posts nothing) (sym is) (nothing_told w);
     }
@@ -199,7 +199,7 @@ told_first w number new q h act a f e =
     ap (λ (x : Option Posted). delivers_found w a.chosen number x) (sym f) in
     record {
       chosen = a.chosen;
-      shows = subst (λ (o : Option Posted). ShowsWith (mended_in (step_by w.server a.chosen (brought w.clock o))) new
+      shows = subst (λ (o : Option Posted). ShowsWith (mended_in (step_by w.server a.chosen (brought w o))) new
           (delivers w a.chosen number).world) (sym f)
           (subst (λ (x : WorldAct). ShowsWith (ends_at w a.chosen q.message q.message.to) new x.world) is a.shows);
       is = subst (λ (x : WorldAct). IsAct x.told x.posts act) is (record {

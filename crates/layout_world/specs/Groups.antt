@@ -2,6 +2,7 @@
 use Rattle.std.specs.Prelude.{Bool, true, false}
 use Rattle.scenario_text.specs.declared.event.Event.{Event}
 use Rattle.scenario_text.specs.declared.event.Event.TheVariants as event
+use Rattle.scenario_text.specs.declared.event.Machine.TheVariants as machine
 
 -- it needs no placer
 abbrev pub is_plain : Event → Bool
@@ -24,6 +25,8 @@ is_change (event.Rebuild f) = false
 is_change (event.Audit f) = false
 is_change (event.Declare d) = false
 is_change (event.Drive d key capacity) = false
+is_change (event.Disk d key capacity) = false
+is_change (event.Reopen machine.Server) = false
 is_change (event.Client c) = false
 is_change (event.Inject d bytes) = false
 is_change (event.Do c x) = false
