@@ -19,7 +19,7 @@ use Rattle.world_history.specs.declared.messages.Posted.{Posted}
 use Rattle.world_history.specs.State.{DriveAt, ClientAt, World, at_number}
 use Rattle.world_history.specs.Handed.{Handed, server_takes, drive_hears, client_hears, client_takes, for_client, for_server, handed_to}
 use Rattle.world_history.specs.Moves.{Act, by_client, by_drive, called, made_file, injects_at, delivers_found, delivers, drops_found, marked, op_of, raw_of, calls_at, times_out, leaves, resends, makes, gives, injects, stops, begins, has_algorithm, knows_drive}
-use Rattle.world_history.specs.Drives.{raised, at_time, fallen}
+use Rattle.world_history.specs.Drives.{raised, at_time, fallen, crashed, reopened, is_deaf}
 
 -- as many messages as in another world
 abbrev SameCount : World → World → Type 0
@@ -39,7 +39,7 @@ either_hand w false x y p q = q
 
 drive_hand : (w : World) (d : ℕ) (m : Message) (a : Option DriveAt) → SameCount w (drive_hears w d m a).world
 drive_hand w d m None = refl
-drive_hand w d m (Some a) = either_hand w a.failed _ _ refl refl
+drive_hand w d m (Some a) = either_hand w (is_deaf a) _ _ refl refl
 
 server_hand : (w : World) (chosen : List ℕ) (from : Node) (m : Option ServerMessage)
     → SameCount w (server_takes w chosen from m).world
@@ -56,7 +56,7 @@ client_heard w c m None = refl
 client_heard w c m (Some a) = either_hand w a.stopped _ _ refl (client_hand w c a m.from (for_client m))
 
 hand_to : (w : World) (chosen : List ℕ) (m : Message) (to : Node) → SameCount w (handed_to w chosen m to).world
-hand_to w chosen m node.Server = server_hand w chosen m.from (for_server m)
+hand_to w chosen m node.Server = either_hand w w.down _ _ refl (server_hand w chosen m.from (for_server m))
 hand_to w chosen m (node.Drive d) = drive_hand w d m (at_number w.drives d)
 hand_to w chosen m (node.Client c) = client_heard w c m (at_number w.clients c)
 
@@ -123,6 +123,7 @@ stops_same w c (Some a) = refl
 pub began : (w : World) (chosen : List ℕ) (e : Event) → SameCount w (begins w chosen e).world
 unfolding begins makes gives injects
 began w chosen (event.Drive d key capacity) = either_act w (knows_drive w.server d) _ _ refl refl
+began w chosen (event.Disk d key capacity) = either_act w (knows_drive w.server d) _ _ refl refl
 began w chosen (event.Client c) = refl
 began w chosen (event.File f m tag) =
     either_act w (has_algorithm (raw_of m)) _ _ (made_same w f (create_file w.server f (raw_of m) tag chosen)) refl
@@ -147,4 +148,8 @@ began w chosen (event.Audit f) = refl
 began w chosen (event.Declare d) = refl
 began w chosen (event.Stop c) = stops_same w c (at_number w.clients c)
 began w chosen (event.Fail d) = drive_same w d fallen (at_number w.drives d)
+began w chosen (event.Crash (machine.Drive d)) = drive_same w d crashed (at_number w.drives d)
+began w chosen (event.Crash machine.Server) = refl
+began w chosen (event.Reopen (machine.Drive d)) = drive_same w d reopened (at_number w.drives d)
+began w chosen (event.Reopen machine.Server) = refl
 began w chosen e = refl

@@ -13,3 +13,4 @@ pub mod ServerActed
 pub mod Knowing
 pub mod Posted
 pub mod Refused
+pub mod Causes
