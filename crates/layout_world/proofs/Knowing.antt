@@ -32,8 +32,8 @@ pub added : (old new : Server) (drive : ℕ) (key : List ℕ) (capacity : ℕ) �
     → new ≡ record old { drives = add_drive old.drives (known_drive drive key capacity) }
     → Adds old drive key capacity new nothing
 unfolding gives
-added old new drive key capacity k f = λ w e. rw (e, k) (record {
-  world = ap (λ s. with_server (and_drive w drive (made_drive drive key capacity)) s) (sym f);
+added old new drive key capacity k f = λ w stored e. rw (e, k) (record {
+  world = ap (λ s. with_server (and_drive w drive (made_drive drive key capacity stored)) s) (sym f);
   act = record { lines = refl; sends = refl };
 })
 

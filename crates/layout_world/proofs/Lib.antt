@@ -12,3 +12,4 @@ pub mod ServerActed
 pub mod Knowing
 pub mod Posted
 pub mod Refused
+pub mod Causes

@@ -9,7 +9,8 @@ use Rattle.server_rules.specs.Envelopes.{message_in, on_message_in, on_bytes}
 use Rattle.server_rules.specs.Making.{set_format}
 use Rattle.server_rules.specs.Messages.{resend}
 use Rattle.server_rules.specs.Orders.{ordered}
-use Rattle.server_rules.specs.History.{Input, Obeys, Formats, Resends, step}
+use Rattle.server_rules.specs.Openings.{crash, reopen}
+use Rattle.server_rules.specs.History.{Input, Obeys, Formats, Resends, Crashes, Opens, step}
 use Rattle.server_requests.specs.declared.outgoing.Sent.{Sent}
 use Rattle.server_requests.specs.Sending.{all_sent}
 use Rattle.server_state.specs.declared.step.Step.{Step}
@@ -132,3 +133,15 @@ pub heard_by : (out : Step) (old core mid : Server) (now : ℕ) (chosen : List �
     → Hears old now from bytes new (record { receipt = delivery.Taken; act = act })
 heard_by out old core mid now chosen from bytes new act e d h =
     heard old now chosen from bytes new act (subst (λ s. Acts (on_bytes s now chosen from bytes) new act) e (h _ d))
+
+pub crashed_by : (old core : Server) (new : WorldServerState) (act : Act) → core ≡ old → new.state ≡ crash core
+    → new.mended ≡ [] → act ≡ nothing → Gives old Crashes new act
+crashed_by old core new act e f m a = given old [] Crashes new act (record {
+  state = f ∙ ap crash e;
+  act_is = subst (λ (x : Act). IsAct [] [] x) (sym a) (record { lines = refl; sends = refl });
+  mended = m;
+})
+
+pub opened_by : (out : Step) (old core mid : Server) (new : WorldServerState) (act : Act) → core ≡ old
+    → Did out mid (reopen core) → ((s : RulesStep) → Did out mid s → Acts s new act) → Gives old Opens new act
+opened_by out old core mid new act e d h = given old [] Opens new act (subst (λ s. Acts (reopen s) new act) e (h _ d))
