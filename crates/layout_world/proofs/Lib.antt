@@ -6,7 +6,6 @@ mod Delivered
 mod Moved
 mod Going
 mod Finishing
-mod Began
 mod Opened
 mod Watched
 pub mod ServerActed
