@@ -12,10 +12,10 @@ use Rattle.world_history.specs.ServerNames.{File, Component}
 use Rattle.world_history.specs.State.{World}
 use Rattle.world_history.specs.Plans.{due}
 use Rattle.world_history.specs.Sending.{Move, move}
-use Rattle.world_history.specs.Reading.{is_head}
 use Rattle.world_history.specs.Book.{server_after}
 use Rattle.world_history.specs.History.{StandsFor, Lawful}
 use Rattle.history_law.specs.Judging.{Judges}
+use Rattle.history_law.specs.StepEnds.{BehindStep}
 use Rattle.job_law.specs.Fencing.{AllRaised}
 use Rattle.history_law.specs.BookMoments.{IsMoment, plan_at, lines_in}
 use Rattle.history_law.specs.Read.{AreWritten}
@@ -44,18 +44,10 @@ FencesEnd =
 abbrev pub noted : (before : List Line) → (number tag : ℕ) → (rest : List Line) → List Line
 noted before number tag rest = before ++ line.Note number (Fenced tag) ∷ rest
 
--- no line of these begins a step
-abbrev pub BeginNone : List Line → Type 0
-BeginNone ls = (l : Line) → In l ls → is_head l ≡ false
-
--- Behind the further lines of the note's step, which are told before anything else happens, the file is so, by the server
--- and the drives that are read off the lines.
-pub record FencedBehind (before after : List Line) (number tag : ℕ) : Type 0 where
-  pub rest : List Line
-  pub more : List Line
-  pub cut : after ≡ rest ++ more
-  pub of_step : BeginNone rest
-  pub fenced : IsFenced (server_after (noted before number tag rest)).files (noted before number tag rest) number tag
+-- Behind the step of the note the file is so, by the server and the drives that are read off the lines.
+abbrev pub FencedBehind : (before after : List Line) (number tag : ℕ) → Type 0
+FencedBehind before after number tag =
+    BehindStep (λ h. IsFenced (server_after h).files h number tag) before (line.Note number (Fenced tag)) after
 
 -- so it is of each note that a fence is over
 abbrev pub AreFenced : List Line → Type 0
@@ -80,7 +72,7 @@ ReachedRefuses =
 -- there.
 abbrev pub RefusesOlder : (before after : List Line) (number tag : ℕ) → FencedBehind before after number tag → Type 0
 RefusesOlder before after number tag f =
-    (at : Component) → In at f.fenced.file.kept.components → at.missing ≡ false → at.object < 2 ^ 64 →
+    (at : Component) → In at f.holds.file.kept.components → at.missing ≡ false → at.object < 2 ^ 64 →
     (middle later : List Line) (l : Line) → f.more ≡ middle ++ l ∷ later → (bytes : List ℕ) (c : Command) →
     Judges (noted before number tag f.rest ++ middle) l at.drive bytes Perform → reading bytes ≡ Ok c →
     c.object ≡ at.object → tag ≤ c.capability.tag

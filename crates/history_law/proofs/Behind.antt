@@ -17,7 +17,7 @@ use Rattle.world_history.specs.Sending.{Move, sent_lines}
 use Rattle.world_history.specs.Reading.{is_head}
 use Rattle.history_law.specs.BookMoments.{lines_in}
 use Rattle.history_law.proofs.Leading.{AreFlat, Leads, Silent, Heads, IsPending, delivers_lead, timeout_leads, injects_lead, pends_pending, begins_flat}
-use Rattle.fencing_law.specs.Fenced.{BeginNone}
+use Rattle.history_law.specs.StepEnds.{BeginNone}
 
 -- ---- lines that begin no step
 
