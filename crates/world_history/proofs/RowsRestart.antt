@@ -7,11 +7,10 @@
 -- crash s
 -- do c0 read f0 0 1
 -- reopen s
+-- resend c0
 -- settle
 -- fail d0
 -- declare d0
--- resend c0
--- settle
 use Rattle.std.specs.Prelude.{true, false, List, [], ◌∷◌, ◌++◌, None, map, refl, ◌≡◌}
 use Rattle.scenario_text.specs.declared.event.Event.{Event}
 use Rattle.scenario_text.specs.declared.event.Event.TheVariants as event
@@ -73,11 +72,10 @@ events =
     event.Crash machine.Server ∷
     event.Do 0 (call.Read 0 0 1) ∷
     event.Reopen machine.Server ∷
+    event.Resend (sender.Client 0) ∷
     event.Settle ∷
     event.Fail 0 ∷
     event.Declare 0 ∷
-    event.Resend (sender.Client 0) ∷
-    event.Settle ∷
     []
 
 abbrev lines : List Line
@@ -90,19 +88,26 @@ lines =
     fails 0 kind.Read ending.Pending ∷
     line.Event (event.Reopen machine.Server) ∷
     sent 1 party.Server (party.Drive 0) ∷
+    line.Event (event.Resend (sender.Client 0)) ∷
+    sent 2 (party.Client 0) party.Server ∷
     line.Event event.Settle ∷
     deaf 1 ∷
+    taken 2 ∷
+    sent 3 party.Server (party.Client 0) ∷
+    taken 3 ∷
+    sent 4 (party.Client 0) party.Server ∷
+    taken 4 ∷
+    sent 5 party.Server (party.Client 0) ∷
+    taken 5 ∷
+    sent 6 (party.Client 0) party.Server ∷
+    taken 6 ∷
+    sent 7 party.Server (party.Client 0) ∷
+    taken 7 ∷
+    fails 0 kind.Read (ending.Fencing 0) ∷
     line.Event (event.Fail 0) ∷
     line.Event (event.Declare 0) ∷
     line.Note 0 (note.Fenced 2) ∷
     line.Note 0 (note.Repaired 1 1) ∷
-    line.Event (event.Resend (sender.Client 0)) ∷
-    sent 2 (party.Client 0) party.Server ∷
-    line.Event event.Settle ∷
-    taken 2 ∷
-    sent 3 party.Server (party.Client 0) ∷
-    taken 3 ∷
-    fails 0 kind.Read (ending.Degraded 0) ∷
     []
 
 pub plays : map without_bytes (played_all first events).lines ≡ lines
