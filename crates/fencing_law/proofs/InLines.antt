@@ -1,7 +1,8 @@
 -- Each note that a fence is over, in the lines of a whole history.
-use Rattle.std.proofs.Common.{◌≡◌, ℕ, false, ◌++◌, ◌∷◌, [], List, Some, refl, sym, ap, subst, ◌∙◌, append_assoc}
+use Rattle.std.proofs.Common.{◌≡◌, ℕ, false, ◌++◌, ◌∷◌, [], List, Some, refl, sym, ap, subst, ◌∙◌, append_assoc, inl}
 use Rattle.std.proofs.lemmas.List.{append-nil}
 use Rattle.server_rules.specs.Laws.{In}
+use Rattle.server_rules.proofs.Members.{in_behind}
 use Rattle.scenario_text.specs.declared.line.Note.TheVariants as note
 use Rattle.scenario_text.specs.declared.line.Line.{Line}
 use Rattle.scenario_text.specs.declared.line.Line.TheVariants as line
@@ -36,18 +37,21 @@ fine_front xs ys f = record { written = written_front xs ys f.written; own = own
 module _ (read : BookIsRead) (further : OneEventMore) (number tag : ℕ) where
   -- behind a move in whose lines the fence is over
   ends_move : (w : World) (h : List Line) (k : IsMoment w h) (m : Move) → due (plan_at k) w ≡ Some m.action
-      → IsFine (h ++ lines_in w m) → (l : Line) → In l (lines_in w m) → l ≡ line.Note number (note.Fenced tag)
+      → IsFine (h ++ lines_in w m) → (front : List Line) (l : Line) (after : List Line)
+      → lines_in w m ≡ front ++ l ∷ after → l ≡ line.Note number (note.Fenced tag)
       → IsFenced (server_after (h ++ lines_in w m)).files (h ++ lines_in w m) number tag
-  ends_move w h k m d fine l there is =
+  ends_move w h k m d fine front l after there is =
       subst (λ (s : Server). IsFenced s.files (h ++ lines_in w m) number tag)
       (sym (ap (λ (s : ServerSeen). s.server) (read (move w m).world (h ++ lines_in w m) (next_moment w h k m d)
       fine.written)))
-      (fences_end w h k m d fine.own number tag (subst (λ (x : Line). In x (lines_in w m)) is there))
+      (fences_end w h k m d fine.own number tag 
+      (subst (In (line.Note number (note.Fenced tag))) (sym there)
+      (in_behind (line.Note number (note.Fenced tag)) front (l ∷ after) (inl (sym is)))))
 
 pub fenced_is_fenced : BookIsRead → OneEventMore → FencedIsFenced
 fenced_is_fenced read further w h s written own before after number tag is =
     at_step_ends IsFine (λ l. l ≡ line.Note number (note.Fenced tag))
-    (λ l g. IsFenced (server_after g).files g number tag)
+    (λ l lines g. IsFenced (server_after g).files g number tag)
     (record {
       fronts = fine_front;
       tells = λ l same. subst (λ (x : Line). is_head x ≡ false) (sym same) refl;

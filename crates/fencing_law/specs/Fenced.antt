@@ -47,7 +47,7 @@ noted before number tag rest = before ++ line.Note number (Fenced tag) ∷ rest
 -- Behind the step of the note the file is so, by the server and the drives that are read off the lines.
 abbrev pub FencedBehind : (before after : List Line) (number tag : ℕ) → Type 0
 FencedBehind before after number tag =
-    BehindStep (λ h. IsFenced (server_after h).files h number tag) before (line.Note number (Fenced tag)) after
+    BehindStep (λ lines h. IsFenced (server_after h).files h number tag) before (line.Note number (Fenced tag)) after
 
 -- so it is of each note that a fence is over
 abbrev pub AreFenced : List Line → Type 0

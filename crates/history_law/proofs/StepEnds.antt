@@ -3,8 +3,6 @@
 use Rattle.std.proofs.Common.{◌≡◌, ◌⊎◌, false, List, [], ◌∷◌, ◌++◌, Some, refl, sym, ap, subst, ◌∙◌, append_assoc, inl, inr}
 use Rattle.std.proofs.lemmas.List.{append-nil}
 use Rattle.osd_lists.proofs.Slices.{head_same, tail_same}
-use Rattle.server_rules.specs.Laws.{In}
-use Rattle.server_rules.proofs.Members.{in_behind}
 use Rattle.scenario_text.specs.declared.line.Line.{Line}
 use Rattle.world_history.specs.State.{World}
 use Rattle.world_history.specs.Reading.{is_head}
@@ -19,8 +17,8 @@ use Rattle.move_law.proofs.Moments.{stands_kept}
 -- a line of two lists is one of the first, or of the second
 place_of : (h ls before after : List Line) (x : Line) → h ++ ls ≡ before ++ x ∷ after
     → ((rest : List Line) × (h ≡ before ++ x ∷ rest) × (after ≡ rest ++ ls))
-    ⊎ ((front : List Line) × (ls ≡ front ++ x ∷ after))
-place_of [] ls before after x e = inr (before, e)
+    ⊎ ((front : List Line) × (before ≡ h ++ front) × (ls ≡ front ++ x ∷ after))
+place_of [] ls before after x e = inr (before, refl, e)
 place_of (y ∷ h) ls [] after x e =
     inl (h, ap (λ (z : Line). z ∷ h) (head_same y x (h ++ ls) after e), sym (tail_same y x (h ++ ls) after e))
 place_of (y ∷ h) ls (z ∷ before) after x e =
@@ -30,18 +28,25 @@ place_of (y ∷ h) ls (z ∷ before) after x e =
         ap (λ (v : Line). v ∷ h) (head_same y z (h ++ ls) (before ++ x ∷ after) e) ∙ ap (λ (l : List Line). z ∷ l) is,
         behind,
       )
-      | inr i ↦ inr i
+      | inr (front, own, is) ↦ inr (
+        front,
+        ap (λ (v : Line). v ∷ before) (sym (head_same y z (h ++ ls) (before ++ x ∷ after) e))
+        ∙ ap (λ (l : List Line). y ∷ l) own,
+        is,
+      )
     ]
 
 -- The lines of this kind, none of which begins a step; what a history has in each of its fronts; and what holds behind
 -- each move of the lines that it tells.
-pub record IsSaid (Fine : List Line → Type 0) (Says : Line → Type 0) (Holds : Line → List Line → Type 0) : Type 0 where
+pub record IsSaid (Fine : List Line → Type 0) (Says : Line → Type 0) (Holds : Line → (before upto : List Line) → Type 0)
+    : Type 0 where
   pub fronts : (xs ys : List Line) → Fine (xs ++ ys) → Fine xs
   pub tells : (l : Line) → Says l → is_head l ≡ false
   pub ends : (w : World) (h : List Line) (k : IsMoment w h) (m : Move) → due (plan_at k) w ≡ Some m.action
-      → Fine (h ++ lines_in w m) → (l : Line) → In l (lines_in w m) → Says l → Holds l (h ++ lines_in w m)
+      → Fine (h ++ lines_in w m) → (front : List Line) (l : Line) (after : List Line) → lines_in w m ≡ front ++ l ∷ after
+      → Says l → Holds l (h ++ front) (h ++ lines_in w m)
 
-module _ (Fine : List Line → Type 0) (Says : Line → Type 0) (Holds : Line → List Line → Type 0)
+module _ (Fine : List Line → Type 0) (Says : Line → Type 0) (Holds : Line → (before upto : List Line) → Type 0)
     (said : IsSaid Fine Says Holds) where
   abbrev So : World → List Line → Type 0
   So w h = Fine h → AtStepEnds Says Holds h
@@ -63,14 +68,14 @@ module _ (Fine : List Line → Type 0) (Says : Line → Type 0) (Holds : Line �
               of_step = e.of_step;
               holds = e.holds;
             }
-        | inr (front, own) ↦ record {
+        | inr (front, own, it) ↦ record {
           rest = after;
           more = [];
           cut = sym (append-nil after);
-          of_step = none_behind w m front after l own (said.tells l says);
+          of_step = none_behind w m front after l it (said.tells l says);
           holds =
-              subst (Holds l) is
-              (said.ends w h k m d fine l (subst (In l) (sym own) (in_behind l front (l ∷ after) (inl refl))) says);
+              subst (λ (ls : List Line). Holds l ls (before ++ l ∷ after)) (sym own)
+              (subst (Holds l (h ++ front)) is (said.ends w h k m d fine front l after it says));
         }
       ]
 
