@@ -3,6 +3,7 @@ mod Shown
 mod Performing
 mod Acted
 mod Delivered
+mod ServerHanded
 mod Moved
 mod Going
 mod Finishing

@@ -1,11 +1,11 @@
 -- A step of the server of the code is what the world does there.
-use Rattle.std.proofs.Common.{◌≡◌, ℕ, Bool, true, false, List, [], ◌∷◌, Option, Some, None, refl, sym, ap, subst, ◌∙◌, map}
-use Rattle.std.specs.List.{filter, filter_map, list_any}
+use Rattle.std.proofs.Common.{◌≡◌, ℕ, List, [], Option, Some, None, refl, sym, ap, subst, ◌∙◌}
+use Rattle.std.specs.List.{filter_map}
 use Rattle.osd_lists.specs.declared.node.Node.{Node}
 use Rattle.server_rules.specs.declared.server.Server.{Server}
 use Rattle.server_rules.specs.Files.{Step as RulesStep}
 use Rattle.server_rules.specs.Messages.{Message as ServerMessage}
-use Rattle.server_rules.specs.Envelopes.{message_in, on_message_in, on_bytes}
+use Rattle.server_rules.specs.Envelopes.{on_message_in, on_bytes}
 use Rattle.server_rules.specs.Making.{set_format}
 use Rattle.server_rules.specs.Messages.{resend}
 use Rattle.server_rules.specs.Orders.{ordered}
@@ -16,13 +16,12 @@ use Rattle.server_requests.specs.Sending.{all_sent}
 use Rattle.server_state.specs.declared.step.Step.{Step}
 use Rattle.server_state.specs.States.{Did}
 use Rattle.scenario_text.specs.declared.line.Delivery.TheVariants as delivery
-use Rattle.world_network.specs.Shows.{posting_of}
 use Rattle.world_history.specs.ServerNames.{OrderKind}
 use Rattle.world_history.specs.declared.messages.Message.{Message}
 use Rattle.world_history.specs.State.{World, with_server}
 use Rattle.world_history.specs.Spelled.{spelled}
 use Rattle.world_history.specs.Names.{known_note_line}
-use Rattle.world_history.specs.Handed.{is_addressed, server_post, server_takes, for_server}
+use Rattle.world_history.specs.Handed.{server_takes, for_server}
 use Rattle.world_history.specs.Moves.{gives}
 use Rattle.world_network.specs.declared.acts.Act.{Act}
 use Rattle.world_network.specs.Acts.{IsAct, IsHanded, IsDone, nothing}

@@ -1,5 +1,5 @@
 -- What a call of the server did, as each world has it in which the server is this one.
-use Rattle.std.specs.Prelude.{ℕ, Bool, true, List, [], map, filter, ◌≡◌, Result, Ok, Err}
+use Rattle.std.specs.Prelude.{ℕ, Bool, true, List, map, filter, ◌≡◌, Result, Ok}
 use Rattle.std.specs.List.{filter_map}
 use Rattle.osd_lists.specs.declared.node.Node.{Node}
 use Rattle.data_map.specs.declared.check.RawMap.{RawMap}
