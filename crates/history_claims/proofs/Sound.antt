@@ -10,6 +10,7 @@ use Rattle.fencing_law.specs.Fences.{UnforgedAreFenced}
 use Rattle.history_claims.specs.Components.{ComponentsStandApart}
 use Rattle.history_claims.specs.Sound.{HistoriesAreSound}
 use Rattle.tag_law.specs.Given.{GrantsAreOlder}
+use Rattle.tag_law.specs.Live.{EachAnswerIsLive}
 use Rattle.exchange_law.specs.Judged.{RefusalsWereJudged}
 use Rattle.exchange_law.specs.Awaited.{RefusalsWereAwaited}
 use Rattle.exchange_law.specs.Text.{WithinTheLimitAreFew}
@@ -21,15 +22,16 @@ use Rattle.tag_law.specs.Tags.{EachTagIsItsFiles}
 use Rattle.history_claims.proofs.Texts.{events_make_text}
 
 pub histories_are_sound : HistoriesAreSafe → CommandsAreIssued → UnforgedAreIssued → UnguessedAreUnforged
-    → RangesAreApart → FrontsAreLawful → ComponentsStandApart → EachHolderIsOwn → UnforgedAreFenced → GrantsAreOlder
-    → CommandsAreIssuedExactly → UnforgedAreIssuedExactly → LanesAreFair → LanesAreOwn
+    → RangesAreApart → FrontsAreLawful → ComponentsStandApart → EachHolderIsOwn → UnforgedAreFenced → EachAnswerIsLive
+    → GrantsAreOlder → CommandsAreIssuedExactly → UnforgedAreIssuedExactly → LanesAreFair → LanesAreOwn
     → RefusalsWereJudged → RefusalsWereAwaited → CallsEndSo → EachTagIsItsFiles → WithinTheLimitAreFew → HistoriesAreSound
-histories_are_sound safe issued listed fair ranges fronts apart own fenced older exact allowed lanes lanes_own judged
-    awaited ends tags few = record {
+histories_are_sound safe issued listed fair ranges fronts apart own fenced live older exact allowed lanes lanes_own
+    judged awaited ends tags few = record {
   sound = λ h l. record {
     safe = safe h l;
     issued = issued h l;
     ranges = λ before after is. ranges before (fronts before after (subst Lawful is l));
+    live = λ w s a. live w h s a;
     apart = apart h l;
     listed = listed h l;
     fair = fair h l;

@@ -3,15 +3,16 @@ use Rattle.std.proofs.Common.{◌≡◌, ◌⊎◌, ℕ, ◌≤◌, List, map, S
 use Rattle.osd_lists.specs.declared.node.Node.TheVariants as node
 use Rattle.layout_ops.specs.declared.envelope.Envelope.{Envelope}
 use Rattle.layout_ops.specs.declared.envelope.Envelope.TheVariants as envelope
+use Rattle.layout_ops.specs.declared.results.LayoutGetOk.{LayoutGetOk}
 use Rattle.layout_ops.specs.declared.results.LayoutGetResult.TheVariants as get
 use Rattle.layout_ops.specs.declared.results.Results.{Results}
 use Rattle.layout_ops.specs.declared.results.Results.TheVariants as results
 use Rattle.server_rules.specs.Files.{Step, file_at}
 use Rattle.server_rules.specs.History.{Input, step}
+use Rattle.server_rules.specs.Layouts.{granted}
 use Rattle.server_rules.specs.Laws.{In, FilesArePut}
 use Rattle.server_rules.proofs.Members.{in_either, in_mapped, in_filtered}
-use Rattle.world_history.specs.ServerNames.{Server, File, Answer, Outgoing, ToDrive, Recalls, Answers, AnswersOrder}
-use Rattle.job_law.specs.Names.{Slot}
+use Rattle.world_history.specs.ServerNames.{Server, Slot, File, Drive, Kept, Grant, Answer, Outgoing, ToDrive, Recalls, Answers, AnswersOrder}
 use Rattle.world_history.specs.declared.messages.Message.{Message}
 use Rattle.world_history.specs.declared.messages.Body.{Body}
 use Rattle.world_history.specs.declared.messages.Body.TheVariants.{Envelope as OfEnvelope}
@@ -23,7 +24,43 @@ use Rattle.calm_law.specs.Sound.{IsSound}
 use Rattle.calm_law.specs.Tags.{EachStepRaisesTags}
 use Rattle.fencing_law.proofs.Moves.{messages_in, posts_of, NoneOfServer, Acts, Others, Serves}
 use Rattle.fencing_law.proofs.Numbers.{messages_sent}
-use Rattle.tag_law.proofs.Saying.{GivesUpTo, UpTo, Says, says_step}
+use Rattle.tag_law.specs.Live.{GivesLive, AnswersLive}
+use Rattle.tag_law.proofs.Saying.{Known, Says, says_step, only_in}
+
+-- ---- what is given
+
+-- a grant of a file that is there still, whose tag hasn't fallen
+pub record IsUpTo (fs : List File) (file : ℕ) (ok : LayoutGetOk) : Type 0 where
+  pub drives : List Drive
+  pub old : Kept
+  pub grant : Grant
+  pub is : ok ≡ granted drives old grant
+  pub now : File
+  pub there : file_at fs file ≡ Some now
+  pub rises : old.tag ≤ now.kept.tag
+
+abbrev pub GivesUpTo : List File → (file : ℕ) → Results → Type 0
+GivesUpTo fs n (results.LayoutGet (get.Granted ok)) = IsUpTo fs n ok
+GivesUpTo fs n r = Unit {0}
+
+abbrev pub UpTo : List File → Answer → Type 0
+UpTo fs a = GivesUpTo fs a.file a.results
+
+-- so is what is live
+live_up : (book : Server) (n c : ℕ) (r : Results) → GivesLive book n c r → GivesUpTo book.files n r
+live_up book n c (results.LayoutGet (get.Granted ok)) k = record {
+  drives = book.drives;
+  old = k.file.kept;
+  grant = k.grant;
+  is = k.is;
+  now = k.file;
+  there = k.found;
+  rises = omega arith;
+}
+live_up book n c (results.LayoutGet (get.TryLater b)) k = tt
+live_up book n c (results.LayoutGet (get.Refused s)) k = tt
+live_up book n c (results.LayoutCommit r) k = tt
+live_up book n c (results.LayoutReturn r) k = tt
 
 -- ---- what is known
 
@@ -75,7 +112,7 @@ envelope_on fs gs (envelope.OrderAnswer r) rise up = tt
 
 -- ---- what is sent
 
-envelopes_only : (o : Outgoing) (c : ℕ) (b : Body) → to_client c b ≡ (server_post o).message
+pub envelopes_only : (o : Outgoing) (c : ℕ) (b : Body) → to_client c b ≡ (server_post o).message
     → (e : Envelope) × (b ≡ OfEnvelope e) × ((a : Answer) → e ≡ envelope.Answer a → o ≡ Answers a)
 envelopes_only (ToDrive d x) c b e = absurd (cc (ap (λ (m : Message). m.to) e))
 envelopes_only (Recalls r) c b e = (envelope.Recall r, ap (λ (m : Message). m.body) e, λ a is. absurd (cc is))
@@ -90,7 +127,7 @@ envelopes_only (Answers x) c b e = (
 envelopes_only (AnswersOrder x) c b e =
     (envelope.OrderAnswer x, ap (λ (m : Message). m.body) e, λ a is. absurd (cc is))
 
-sent_anew : (os : List Outgoing) (c : ℕ) (b : Body) → In (to_client c b) (map (λ (p : Post). p.message) (posts_of os))
+pub sent_anew : (os : List Outgoing) (c : ℕ) (b : Body) → In (to_client c b) (map (λ (p : Post). p.message) (posts_of os))
     → (e : Envelope) × (b ≡ OfEnvelope e) × ((a : Answer) → e ≡ envelope.Answer a → In (Answers a) os)
 sent_anew os c b i =
     let p = in_mapped (λ (p : Post). p.message) (to_client c b) (posts_of os) i in
@@ -98,7 +135,7 @@ sent_anew os c b i =
     let r = envelopes_only o.0 c b (p.2 ∙ ap (λ (x : Post). x.message) o.2) in
     (r.0, r.1, λ a is. subst (λ (x : Outgoing). In x os) (r.2 a is) o.1)
 
-none_anew : (ps : List Post) (c : ℕ) (b : Body) → NoneOfServer ps
+pub none_anew : (ps : List Post) (c : ℕ) (b : Body) → NoneOfServer ps
     → In (to_client c b) (map (λ (p : Post). p.message) ps) → ⊥
 none_anew ps c b none i =
     let p = in_mapped (λ (p : Post). p.message) (to_client c b) ps i in
@@ -114,7 +151,7 @@ by_answer fs (envelope.OrderAnswer r) up = tt
 
 -- ---- a move
 
-split : (w : World) (a : Act) (c : ℕ) (b : Body) → messages_in a.world ≡ messages_in w
+pub split : (w : World) (a : Act) (c : ℕ) (b : Body) → messages_in a.world ≡ messages_in w
     → In (to_client c b) (messages_in (sends_all a).world)
     → In (to_client c b) (messages_in w) ⊎ In (to_client c b) (map (λ (p : Post). p.message) a.posts)
 split w a c b messages i =
@@ -131,10 +168,18 @@ module _ (raise : EachStepRaisesTags) (put : FilesArePut) where
 
   known_up : (s : Server) (t : Step) (a : Answer) → ((x : Slot) → In x s.slots → UpTo s.files x.kept)
       → Rises s.files t.state.files
-      → ((x : Slot) × In x s.slots × (a ≡ x.kept)) ⊎ UpTo t.state.files a → UpTo t.state.files a
+      → Known s t a → UpTo t.state.files a
   known_up s t a slots rise (inl (x, i, e)) =
       subst (UpTo t.state.files) (sym e) (gives_on s.files t.state.files x.kept.file x.kept.results rise (slots x i))
-  known_up s t a slots rise (inr up) = up
+  known_up s t a slots rise (inr live) = live_up t.state a.file a.client a.results live
+
+  -- what a slot keeps behind a step
+  kept_up : (s : Server) (t : Step) (x : Slot) → Says s t → ((y : Slot) → In y s.slots → UpTo s.files y.kept)
+      → Rises s.files t.state.files → In x s.slots ⊎ In (Answers x.kept) t.sends → UpTo t.state.files x.kept
+  kept_up s t x says slots rise (inl i) =
+      gives_on s.files t.state.files x.kept.file x.kept.results rise (slots x i)
+  kept_up s t x says slots rise (inr i) =
+      known_up s t x.kept slots rise (only_in (Known s t) t.sends x.kept says.sends i)
 
   pub aged_by : (w : World) (a : Act) → Aged w → IsSound w.server → Acts w a.world a.told a.posts → Aged (sends_all a).world
   aged_by w a k sound (Others server messages told others) = record {
@@ -155,7 +200,7 @@ module _ (raise : EachStepRaisesTags) (put : FilesArePut) where
       record {
         slots = λ x j.
             subst (λ (s : Server). UpTo s.files x.kept) (sym server)
-            (known_up w.server t x.kept k.slots rise
+            (kept_up w.server t x says k.slots rise
             (says.slots x (subst (λ (s : Server). In x s.slots) server j)));
         sent = λ c b j. elim (split w a c b messages j) [
           | inl old ↦
@@ -172,7 +217,8 @@ module _ (raise : EachStepRaisesTags) (put : FilesArePut) where
                 r.1,
                 subst (λ (s : Server). EnvelopeUpTo s.files r.0) (sym server)
                     (by_answer t.state.files r.0 (λ x is.
-                    known_up w.server t x k.slots rise (says.sends x (r.2 x is)))),
+                    known_up w.server t x k.slots rise
+                    (only_in (Known w.server t) t.sends x says.sends (r.2 x is)))),
               )
         ];
       }

@@ -51,8 +51,7 @@ use Rattle.fencing_law.proofs.Moves.{messages_in, Acts, Others, Serves, each_act
 use Rattle.fencing_law.proofs.Holding.{no_note}
 use Rattle.calm_law.proofs.MoveFacts.{are_named, seen_server}
 use Rattle.tag_law.specs.Given.{GivesOlder, OlderIn, SpellsOlder, GivenBefore, GrantsAreOlder}
-use Rattle.tag_law.proofs.Saying.{GivesUpTo}
-use Rattle.tag_law.proofs.Aging.{to_client, EnvelopeUpTo, Aged, aged_by, aged_first}
+use Rattle.tag_law.proofs.Aging.{GivesUpTo, to_client, EnvelopeUpTo, Aged, aged_by, aged_first}
 
 -- ---- places in lists
 

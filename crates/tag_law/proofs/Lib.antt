@@ -1,6 +1,7 @@
 mod Saying
 mod Aging
 mod Holding
+mod Telling
 pub mod Rights
 pub mod TagLines
 pub mod OriginLaw

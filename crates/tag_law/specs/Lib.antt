@@ -1,3 +1,4 @@
+pub mod Live
 pub mod Given
 pub mod Origin
 pub mod Within

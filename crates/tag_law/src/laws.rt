@@ -1,4 +1,5 @@
 // What holds of every history, for the crates above.
+ghost use Rattle.tag_law.specs.Live.{EachAnswerIsLive};
 ghost use Rattle.tag_law.specs.Given.{GrantsAreOlder};
 ghost use Rattle.tag_law.specs.Origin.{EachTagWasSent};
 ghost use Rattle.tag_law.specs.Within.{NoTagIsAhead};
@@ -12,6 +13,18 @@ use history_law::{book_is_read, commands_are_issued, unforged_are_issued};
 use sent_law::{creates_are_first, each_step_stands, no_command_is_ahead, server_sent_its_run};
 use server_rules::files_are_put;
 use world_history::{one_event_more, reading_goes_on};
+
+/// Each message of the server to a client, in a whole history whose events a text may have: the client was sent the same
+/// bytes before, or where they spell an answer that gives a layout, this is of a grant that is live in the book at the end
+/// of the message's step. The grant is of this client on the answer's file, with the file's tag, map and components and
+/// with the drives' keys as the book has them then. So what clients are told is what the book keeps apart.
+pub fn answers_are_live()
+    ensures { EachAnswerIsLive }
+{
+    files_are_put();
+    book_is_read();
+    one_event_more();
+}
 
 /// In each whole history whose events a text may have, each grant of a file that the server gave a client before a
 /// note that a fence of the file is over has an earlier tag than the note tells.
