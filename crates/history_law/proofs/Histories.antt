@@ -13,7 +13,6 @@ use Rattle.world_history.specs.History.{Step, AreCarried, end_of, lines_of_steps
 use Rattle.world_history.specs.History.Begins.{Nothing, Part}
 use Rattle.world_history.specs.Refusals.{refusal}
 use Rattle.world_history.proofs.Always.{opening, IsKept}
-use Rattle.move_law.specs.Moments.{IsMoment, lines_so_far}
 
 -- a history and what a front of the lines behind it leaves out
 pub cut_at : (h whole last rest lines : List Line) → h ≡ whole ++ last → lines ≡ last ++ rest → whole ++ lines ≡ h ++ rest
@@ -72,18 +71,6 @@ module _ (P : World → List Line → Type 0) (k : IsKept P) where
       subst (λ (x : World). P x h) (sym s.world_is)
       (subst (P (end_of empty_world s.steps)) (sym s.lines_are)
       (kept_steps empty_world [] s.steps s.carried k.starts))
-
-  at_moves : (v : World) (h : List Line) (e : Event) (ms : List Move) → StandsFor v h → refusal v e ≡ None
-      → AreDue (plan_of v e) v ms → P (world_after v ms) (h ++ lines_so_far v e ms)
-  at_moves v h e [] s allowed d = subst (P v) (sym (append-nil h)) (stands v h s)
-  at_moves v h e (m ∷ ms) s allowed d = kept_part v h e m ms d allowed (stands v h s)
-
-  -- and at each moment
-  pub at_moment : (w : World) (h : List Line) → IsMoment w h → P w h
-  at_moment w h m =
-      subst (λ (v : World). P v h) (sym m.world_is)
-      (subst (P (world_after m.before m.moves)) (sym m.lines_are)
-      (at_moves m.before m.history m.event m.moves m.stands m.allowed m.are_due))
 
   part : (w : World) (whole last h : List Line) (e : Event) (c : CarriesPart w e last) (ms : List Move) → c.moves ≡ ms
       → P w whole → h ≡ whole ++ last → (v : World) × (more : List Line) × P v (h ++ more)

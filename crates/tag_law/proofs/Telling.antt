@@ -34,12 +34,12 @@ use Rattle.history_law.specs.BookMoments.{IsMoment, with_event, plan_at, lines_i
 use Rattle.history_law.specs.Read.{AreWritten, BookIsRead}
 use Rattle.history_law.proofs.DriveLines.{sent_read}
 use Rattle.history_law.proofs.Growing.{history_grows}
-use Rattle.history_law.proofs.Histories.{at_moment}
 use Rattle.history_law.proofs.Issuing.{IsSilent, AreSilent}
 use Rattle.history_law.proofs.IssuingMoves.{acts_known}
 use Rattle.history_law.proofs.IssueLines.{IsKnown, all_known}
 use Rattle.history_law.proofs.Staying.{written_front}
 use Rattle.history_law.proofs.StepEnds.{at_step_ends}
+use Rattle.exchange_law.proofs.CountMoments.{at_moment}
 use Rattle.fencing_law.proofs.Moves.{messages_in, posts_of, Acts, Others, Serves, each_acts}
 use Rattle.fencing_law.proofs.Numbers.{messages_sent}
 use Rattle.fencing_law.proofs.Ending.{next_moment}
