@@ -44,9 +44,10 @@ use Rattle.exchange_law.proofs.CountStepping.{FileFits}
 use Rattle.exchange_law.proofs.CountWorlds.{text_written}
 use Rattle.exchange_law.proofs.Fitting.{IsFitting, all_fitting}
 use Rattle.tag_law.specs.Barred.{WasGivenFor, BarsGiven, FencesBar, GivenIsBarred}
-use Rattle.tag_law.specs.Given.{AreShort, IsOlder, GivesOlder, OlderIn, SpellsOlder, GivenBefore, GrantsAreOlder}
+use Rattle.tag_law.specs.Live.{AreShort}
+use Rattle.tag_law.specs.Given.{IsOlder, GivesOlder, OlderIn, SpellsOlder, GivenBefore, GrantsAreOlder}
 use Rattle.tag_law.proofs.Aging.{IsLow}
-use Rattle.tag_law.proofs.Holding.{low_now}
+use Rattle.tag_law.proofs.Bodies.{low_now}
 
 -- ---- at the end of the step
 
