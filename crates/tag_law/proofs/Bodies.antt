@@ -4,7 +4,7 @@ use Rattle.osd_lists.specs.declared.node.Node.{Node}
 use Rattle.osd_lists.specs.declared.node.Node.TheVariants as node
 use Rattle.layout_ops.specs.declared.envelope.Envelope.{Envelope}
 use Rattle.layout_ops.specs.declared.envelope.Envelope.TheVariants as envelope
-use Rattle.layout_ops.specs.Spelling.{EnvelopeFits, AnswerFits, RecallFits}
+use Rattle.layout_ops.specs.Spelling.{EnvelopeFits, RecallFits}
 use Rattle.scenario_text.specs.declared.line.Line.{Line}
 use Rattle.scenario_text.specs.declared.line.Line.TheVariants as line
 use Rattle.server_rules.specs.declared.limits.TheConstants.{FIRST_OBJECT}
@@ -14,9 +14,8 @@ use Rattle.server_rules.specs.Laws.{In}
 use Rattle.server_rules.proofs.Members.{in_mapped, in_filtered, one_in}
 use Rattle.world_history.specs.ServerNames.{Server, Answer, Recall, Outgoing, ToDrive, Recalls, Answers, AnswersOrder}
 use Rattle.world_history.specs.declared.messages.Message.{Message}
-use Rattle.world_history.specs.declared.messages.Body.{Body}
 use Rattle.world_history.specs.declared.messages.Body.TheVariants.{Envelope as OfEnvelope}
-use Rattle.world_history.specs.State.{World, empty_world}
+use Rattle.world_history.specs.State.{World}
 use Rattle.world_history.specs.Handed.{Post, is_addressed, server_post}
 use Rattle.world_history.specs.Moves.{acts}
 use Rattle.world_history.specs.Sending.{Move, move}
@@ -27,7 +26,7 @@ use Rattle.world_history.proofs.Always.{opening, IsKept}
 use Rattle.history_law.specs.Doing.{input_in}
 use Rattle.history_law.proofs.Doing.{acts_serve}
 use Rattle.exchange_law.proofs.Answering.{GoodBelow, SentGood, SlotsGood, StepGood}
-use Rattle.exchange_law.proofs.CountSending.{ReadAny, read_input, IsOther, AreOthers, acts_come}
+use Rattle.exchange_law.proofs.CountSending.{ReadAny, read_input, IsOther, acts_come}
 use Rattle.exchange_law.proofs.CountStepping.{ServerFits}
 use Rattle.exchange_law.proofs.CountTelling.{step_good}
 use Rattle.exchange_law.proofs.CountWorlds.{GivenAny, given_event, given_rule}

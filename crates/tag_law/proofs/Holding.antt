@@ -27,7 +27,7 @@ use Rattle.world_history.specs.declared.messages.Posted.{Posted}
 use Rattle.world_history.specs.declared.messages.Sent.{Sent}
 use Rattle.world_history.specs.declared.messages.Body.{Body}
 use Rattle.world_history.specs.State.{World}
-use Rattle.world_history.specs.Spelled.{party_of, spelled}
+use Rattle.world_history.specs.Spelled.{spelled}
 use Rattle.world_history.specs.Reading.{sent_after, sent_after_event, sent_in, arrived, left_out, changed_by, steps_of}
 use Rattle.world_history.specs.Laws.{shown, ServerGoesOn, AllLinesGoOn}
 use Rattle.world_history.specs.Moves.{Act, acts}
