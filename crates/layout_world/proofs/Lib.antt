@@ -3,6 +3,7 @@ mod Shown
 mod Performing
 mod Acted
 mod Delivered
+mod ServerHanded
 mod Moved
 mod Going
 mod Finishing
@@ -12,3 +13,4 @@ pub mod ServerActed
 pub mod Knowing
 pub mod Posted
 pub mod Refused
+pub mod Causes

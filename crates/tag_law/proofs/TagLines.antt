@@ -40,6 +40,7 @@ use Rattle.history_law.proofs.Each.{EachBehind, HoldsAt, judges_of}
 use Rattle.history_law.proofs.DriveLines.{sent_same}
 use Rattle.history_law.proofs.Spending.{IsFree, free}
 use Rattle.history_law.specs.Issued.{IssuedAt}
+use Rattle.history_law.proofs.IssuedLaw.{source_of}
 use Rattle.history_law.specs.Unforged.{AreUnforged, HasFairSource, InjectedAt}
 use Rattle.history_law.proofs.Unforged.{unforged_front}
 use Rattle.fencing_law.proofs.LaneLines.{SentTo, letters_stay}
@@ -309,7 +310,8 @@ line_tags before (line.Event e) fair says issued injected s d =
     (event_tags before (line.Event e) d (drive_after before d) e (s d))
 line_tags before (line.Delivered n (delivery.Judged v)) fair says issued injected s d =
     judged_line before _ says.tells.0 says.message.bytes v says.tells.2
-    (λ is. inl (delivered_from before n v is issued says.message says.tells.0 says.sent says.tells.1)) s d
+    (λ is. inl (source_of before says.message.from says.tells.0 says.message.bytes
+    (delivered_from before n v is issued says.message says.tells.0 says.sent says.tells.1))) s d
 line_tags before (line.Delivered n delivery.Deaf) fair says issued injected s d =
     deaf_line before n _ says.message says.sent (λ k. refl) says.tells s d
 line_tags before (line.Delivered n delivery.Taken) fair says issued injected s d =
