@@ -12,7 +12,7 @@ use Rattle.world_history.specs.State.{World, DriveAt, at_number}
 use Rattle.move_law.specs.Moves.{drive_event}
 use Rattle.history_law.specs.BookMoments.{IsMoment}
 
--- drive d has the key of the event that made it and no other, and the server has that key for it
+-- drive d has the key of the event that made it, stored or not, and no other, and the server has that key for it
 pub record HasItsKey (w : World) (h : List Line) (d : ℕ) (a : DriveAt) : Type 0 where
   pub key : List ℕ
   pub capacity : ℕ

@@ -140,14 +140,10 @@ unfolding refusal
 named_given w (Opens (event.File f m tag)) i e named allowed = on w _ i e named (up w allowed)
 named_given w (Opens (event.Format format)) i e named allowed = on w _ i e tt (up w allowed)
 named_given w (Opens (event.Resend sender.Server)) i e named allowed = on w _ i e tt (up w allowed)
-named_given w (Opens (event.Recall f)) i e named allowed =
-    on w _ i e tt (up_for w (of_file w f) allowed)
-named_given w (Opens (event.Revoke f)) i e named allowed =
-    on w _ i e tt (up_for w (of_file w f) allowed)
-named_given w (Opens (event.Rebuild f)) i e named allowed =
-    on w _ i e tt (up_for w (of_file w f) allowed)
-named_given w (Opens (event.Audit f)) i e named allowed =
-    on w _ i e tt (up_for w (of_file w f) allowed)
+named_given w (Opens (event.Recall f)) i e named allowed = on w _ i e tt (up_for w (of_file w f) allowed)
+named_given w (Opens (event.Revoke f)) i e named allowed = on w _ i e tt (up_for w (of_file w f) allowed)
+named_given w (Opens (event.Rebuild f)) i e named allowed = on w _ i e tt (up_for w (of_file w f) allowed)
+named_given w (Opens (event.Audit f)) i e named allowed = on w _ i e tt (up_for w (of_file w f) allowed)
 named_given w (Opens (event.Declare d)) i e named allowed =
     on w _ i e tt (up_for w (if_failed (at_number w.drives d)) allowed)
 named_given w (Opens (event.Crash machine.Server)) i e named allowed = on w _ i e tt (up w allowed)
@@ -172,9 +168,9 @@ named_drive w d key capacity false named allowed = record {
 
 comes : (w : World) (action : Action) (i : Input) → IsForServer w action i → IsNamedAction action
     → IsAllowed w action → Comes w i
-comes w action (Hears now from m) (d, now_is, from_is, read, number, up) named allowed = record {
+comes w action (Hears now from m) (d, now_is, from_is, read, number, awake) named allowed = record {
   named = tt;
-  turn = ap not up;
+  turn = ap not awake;
   sent = (d.number, d.posted, d.there, d.receiver, sym from_is, read);
 }
 comes w action i is named allowed =
