@@ -12,10 +12,11 @@ use Rattle.scenario_text.specs.declared.line.Line.TheVariants as line
 use Rattle.server_rules.specs.Numbers.{among}
 use Rattle.world_history.specs.declared.messages.Sent.{Sent}
 use Rattle.world_history.specs.State.{DriveAt, at_number}
-use Rattle.world_history.specs.Drives.{judges, raised, at_time, fallen}
+use Rattle.world_history.specs.Drives.{judges, raised, at_time, fallen, crashed, reopened, is_deaf}
 use Rattle.world_history.specs.Reading.{is_head, is_drive, Step, Grouped, grouped_with, grouped, steps_of}
 use Rattle.world_history.specs.ReadDrives.{DriveSeen, hears_bytes, hears_sent, where_it_is, drive_after_event, drive_after_line, sees_drive, drive_after}
-use Rattle.world_history.specs.Refusals.{refusal, if_failed}
+use Rattle.world_history.specs.Refusals.{refusal, if_failed, unless_down}
+use Rattle.world_history.proofs.Causes.{no_cause}
 use Rattle.world_history.specs.Book.{server_step}
 use Rattle.world_history.specs.Calm.{Seen, seen, sees, first_seen, begins, watched, mended_in, failed_after}
 use Rattle.calm_law.specs.Moments.{DeclaredHaveFailed}
@@ -73,7 +74,7 @@ where_failed k d f h o = elim (cases_Bool (k == d)) [
 
 heard_failed : (bytes : List ℕ) (a : DriveAt) → (hears_bytes bytes a).failed ≡ a.failed
 unfolding judges
-heard_failed bytes a = elim (cases_Bool a.failed) [ inl t ↦ rw t refl | inr z ↦ rw z refl ]
+heard_failed bytes a = elim (cases_Bool (is_deaf a)) [ inl t ↦ rw t refl | inr z ↦ rw z refl ]
 
 sent_failed : (d : ℕ) (a : Option DriveAt) (m : Option Sent) → has_failed (hears_sent d a m) ≡ has_failed a
 sent_failed d a None = refl
@@ -98,12 +99,20 @@ event_failed d ds a (event.Drive k key capacity) h q = elim (cases_Bool (k == d)
   | inl t ↦ absurd (cc (rw t at q))
   | inr z ↦ h (rw z at q)
 ]
+event_failed d ds a (event.Disk k key capacity) h q = elim (cases_Bool (k == d)) [
+  | inl t ↦ absurd (cc (rw t at q))
+  | inr z ↦ h (rw z at q)
+]
 event_failed d ds a (event.Least k format) h q =
     h (sym (where_failed k d (λ x. raised x format) (λ x. refl) a) ∙ q)
 event_failed d ds a (event.Clock (machine.Drive k) time) h q =
     h (sym (where_failed k d (λ x. at_time x time) (λ x. refl) a) ∙ q)
 event_failed d ds a (event.Clock machine.Server time) h q = h q
 event_failed d ds a (event.Fail k) h q = more_failed d k ds a h q
+event_failed d ds a (event.Crash (machine.Drive k)) h q = h (sym (where_failed k d crashed (λ x. refl) a) ∙ q)
+event_failed d ds a (event.Crash machine.Server) h q = h q
+event_failed d ds a (event.Reopen (machine.Drive k)) h q = h (sym (where_failed k d reopened (λ x. refl) a) ∙ q)
+event_failed d ds a (event.Reopen machine.Server) h q = h q
 event_failed d ds a e h q = h q
 
 line_failed : (d : ℕ) (ds : List ℕ) (s : DriveSeen) (l : Line) → (has_failed s.drive ≡ true → among d ds ≡ true)
@@ -134,4 +143,4 @@ not_alive (Some a) e = elim (cases_Bool a.failed) [ inl t ↦ t | inr z ↦ absu
 pub declared_have_failed : DeclaredHaveFailed
 unfolding refusal
 declared_have_failed w h d is e =
-    failed_seen h d (ap (λ (o : Option DriveAt). has_failed o) is ∙ not_alive (at_number w.drives d) e)
+    failed_seen h d (ap (λ (o : Option DriveAt). has_failed o) is ∙ not_alive (at_number w.drives d) (no_cause (if_failed (at_number w.drives d)) (unless_down w) e).0)

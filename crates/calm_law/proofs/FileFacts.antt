@@ -4,6 +4,8 @@ use Rattle.std.specs.List.{list_any}
 use Rattle.std.proofs.lemmas.Bool.{cases_Bool, or_parts}
 use Rattle.scenario_text.specs.declared.event.Event.{Event}
 use Rattle.scenario_text.specs.declared.event.Event.TheVariants as event
+use Rattle.scenario_text.specs.declared.event.Machine.TheVariants as machine
+use Rattle.scenario_text.specs.declared.line.Delivery.TheVariants as delivery
 use Rattle.scenario_text.specs.declared.line.Note.TheVariants as note
 use Rattle.scenario_text.specs.declared.line.Party.{Party}
 use Rattle.scenario_text.specs.declared.line.Party.TheVariants as party
@@ -11,7 +13,7 @@ use Rattle.scenario_text.specs.declared.line.Line.{Line}
 use Rattle.scenario_text.specs.declared.line.Line.TheVariants as line
 use Rattle.server_rules.specs.Messages.{Message}
 use Rattle.server_rules.specs.Envelopes.{message_in}
-use Rattle.server_rules.specs.History.{Input, Hears, Makes, Obeys, Adds, Formats}
+use Rattle.server_rules.specs.History.{Input, Hears, Makes, Obeys, Adds, Formats, Crashes, Opens}
 use Rattle.world_history.specs.declared.messages.Sent.{Sent}
 use Rattle.world_history.specs.ServerNames.{File, Component, RawMap, ToRecall, ToRevoke, ToDeclare, ToRebuild, ToAudit}
 use Rattle.world_history.specs.Spelled.{node_of}
@@ -58,6 +60,7 @@ made_as f m tag i e = elim (cases_Bool (has_algorithm m)) [
 
 named_event : (v : Event) (i : Input) → input_of v ≡ Some i → IsNamed (line.Event v) → IsNamedInput i
 named_event (event.Drive d key capacity) i e h = let s : Adds (known_drive d key capacity) ≡ i = cc e in subst IsNamedInput s h
+named_event (event.Disk d key capacity) i e h = let s : Adds (known_drive d key capacity) ≡ i = cc e in subst IsNamedInput s h
 named_event (event.File f m tag) i e h =
     subst IsNamedInput (sym (made_as f (raw_of m) tag i e)) h
 named_event (event.Format format) i e h = let s : Formats format ≡ i = cc e in subst IsNamedInput s tt
@@ -66,10 +69,15 @@ named_event (event.Revoke f) i e h = let s : Obeys ToRevoke f ≡ i = cc e in su
 named_event (event.Rebuild f) i e h = let s : Obeys ToRebuild f ≡ i = cc e in subst IsNamedInput s tt
 named_event (event.Audit f) i e h = let s : Obeys ToAudit f ≡ i = cc e in subst IsNamedInput s tt
 named_event (event.Declare d) i e h = let s : Obeys ToDeclare d ≡ i = cc e in subst IsNamedInput s tt
+named_event (event.Crash (machine.Drive d)) i e h = absurd (cc e)
+named_event (event.Crash machine.Server) i e h = let s : Crashes ≡ i = cc e in subst IsNamedInput s tt
+named_event (event.Reopen (machine.Drive d)) i e h = absurd (cc e)
+named_event (event.Reopen machine.Server) i e h = let s : Opens ≡ i = cc e in subst IsNamedInput s tt
 named_event v i e h = absurd (cc e)
 
 pub named_input : (s : ServerSeen) (l : Line) (i : Input) → input_at s l ≡ Some i → IsNamed l → IsNamedInput i
 named_input s (line.Event v) i e h = named_event v i e h
+named_input s (line.Delivered number delivery.Deaf) i e h = absurd (cc e)
 named_input s (line.Delivered number d) i e h =
     let a : (m : Sent) × (slice_get s.sent number ≡ Some m) × (m.to ≡ party.Server) × (x : Message) × (i ≡ Hears s.clock (node_of m.from) x) =
     heard_as s.clock (slice_get s.sent number) i e in
@@ -93,18 +101,25 @@ event_declares (event.Declare k) i d e q =
     ap (λ (x : ℕ). event.Declare x) t
 event_declares (event.Drive k key capacity) i d e q =
     let s : Adds (known_drive k key capacity) ≡ i = cc e in absurd (cc (ap declared_in s ∙ q))
+event_declares (event.Disk k key capacity) i d e q =
+    let s : Adds (known_drive k key capacity) ≡ i = cc e in absurd (cc (ap declared_in s ∙ q))
 event_declares (event.File f m tag) i d e q = absurd (cc (ap declared_in (sym (made_as f (raw_of m) tag i e)) ∙ q))
 event_declares (event.Format format) i d e q = let s : Formats format ≡ i = cc e in absurd (cc (ap declared_in s ∙ q))
 event_declares (event.Recall f) i d e q = let s : Obeys ToRecall f ≡ i = cc e in absurd (cc (ap declared_in s ∙ q))
 event_declares (event.Revoke f) i d e q = let s : Obeys ToRevoke f ≡ i = cc e in absurd (cc (ap declared_in s ∙ q))
 event_declares (event.Rebuild f) i d e q = let s : Obeys ToRebuild f ≡ i = cc e in absurd (cc (ap declared_in s ∙ q))
 event_declares (event.Audit f) i d e q = let s : Obeys ToAudit f ≡ i = cc e in absurd (cc (ap declared_in s ∙ q))
+event_declares (event.Crash (machine.Drive k)) i d e q = absurd (cc e)
+event_declares (event.Crash machine.Server) i d e q = let s : Crashes ≡ i = cc e in absurd (cc (ap declared_in s ∙ q))
+event_declares (event.Reopen (machine.Drive k)) i d e q = absurd (cc e)
+event_declares (event.Reopen machine.Server) i d e q = let s : Opens ≡ i = cc e in absurd (cc (ap declared_in s ∙ q))
 event_declares v i d e q = absurd (cc e)
 
 pub declares_at : (s : ServerSeen) (l : Line) (i : Input) (d : ℕ)
     → ((number : ℕ) (m : Sent) → slice_get s.sent number ≡ Some m → m.from ≡ party.Server → m.to ≡ party.Server → ⊥)
     → input_at s l ≡ Some i → declared_in i ≡ Some d → l ≡ line.Event (event.Declare d)
 declares_at s (line.Event v) i d none e q = ap (λ (x : Event). line.Event x) (event_declares v i d e q)
+declares_at s (line.Delivered number delivery.Deaf) i d none e q = absurd (cc e)
 declares_at s (line.Delivered number w) i d none e q =
     let a : (m : Sent) × (slice_get s.sent number ≡ Some m) × (m.to ≡ party.Server) × (x : Message) × (i ≡ Hears s.clock (node_of m.from) x) =
     heard_as s.clock (slice_get s.sent number) i e in
@@ -120,6 +135,8 @@ making_event (event.File f m tag) i n known behind e k t =
     rw (eq-eqb f n s, t) refl
 making_event (event.Drive d key capacity) i n known behind e k t =
     let s : i ≡ Adds (known_drive d key capacity) = cc (sym e) in absurd (subst (λ (x : Input). IsMaking x n) s k)
+making_event (event.Disk d key capacity) i n known behind e k t =
+    let s : i ≡ Adds (known_drive d key capacity) = cc (sym e) in absurd (subst (λ (x : Input). IsMaking x n) s k)
 making_event (event.Format format) i n known behind e k t =
     let s : i ≡ Formats format = cc (sym e) in absurd (subst (λ (x : Input). IsMaking x n) s k)
 making_event (event.Recall f) i n known behind e k t =
@@ -132,11 +149,18 @@ making_event (event.Audit f) i n known behind e k t =
     let s : i ≡ Obeys ToAudit f = cc (sym e) in absurd (subst (λ (x : Input). IsMaking x n) s k)
 making_event (event.Declare d) i n known behind e k t =
     let s : i ≡ Obeys ToDeclare d = cc (sym e) in absurd (subst (λ (x : Input). IsMaking x n) s k)
+making_event (event.Crash (machine.Drive d)) i n known behind e k t = absurd (cc e)
+making_event (event.Crash machine.Server) i n known behind e k t =
+    let s : i ≡ Crashes = cc (sym e) in absurd (subst (λ (x : Input). IsMaking x n) s k)
+making_event (event.Reopen (machine.Drive d)) i n known behind e k t = absurd (cc e)
+making_event (event.Reopen machine.Server) i n known behind e k t =
+    let s : i ≡ Opens = cc (sym e) in absurd (subst (λ (x : Input). IsMaking x n) s k)
 making_event v i n known behind e k t = absurd (cc e)
 
 pub making_at : (s : ServerSeen) (l : Line) (i : Input) (n : ℕ) (known : Bool) (behind : List File)
     → input_at s l ≡ Some i → IsMaking i n → is_there behind n ≡ true → shows_file known behind n l ≡ true
 making_at s (line.Event v) i n known behind e k t = making_event v i n known behind e k t
+making_at s (line.Delivered number delivery.Deaf) i n known behind e k t = absurd (cc e)
 making_at s (line.Delivered number w) i n known behind e k t =
     let a : (m : Sent) × (slice_get s.sent number ≡ Some m) × (m.to ≡ party.Server) × (x : Message) × (i ≡ Hears s.clock (node_of m.from) x) =
     heard_as s.clock (slice_get s.sent number) i e in

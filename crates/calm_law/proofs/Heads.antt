@@ -39,11 +39,11 @@ use Rattle.world_history.specs.ServerNames as server_rules
 use Rattle.world_history.specs.ClientNames as client_rules
 use Rattle.world_history.specs.declared.messages.Message.{Message}
 use Rattle.world_history.specs.declared.messages.Posted.{Posted}
-use Rattle.world_history.specs.State.{Network, DriveAt, ClientAt, World, at_number}
+use Rattle.world_history.specs.State.{Network, DriveAt, ClientAt, World, at_number, with_down}
 use Rattle.world_history.specs.Spelled.{spelled}
 use Rattle.world_history.specs.Told.{kind_of, told_verdict}
 use Rattle.world_history.specs.Names.{where_known, known_outcome, is_tellable_note, note_line, known_note_line}
-use Rattle.world_history.specs.Drives.{verdict_on, command_in, judges, raised, at_time, fallen}
+use Rattle.world_history.specs.Drives.{verdict_on, command_in, judges, raised, at_time, fallen, crashed, reopened, is_deaf}
 use Rattle.world_history.specs.Handed.{Handed, quiet, drive_hears, drive_replies, server_takes, client_hears, client_takes, client_goes, for_client, for_server, handed, handed_to, op_in, pending_op, end_line, ended_by}
 use Rattle.world_history.specs.Moves.{Act, Action, Opens, Delivers, TimesOut, Pends, marked, delivers_found, delivers, drops_found, by_client, called, calls_at, op_of, times_out, leaves, resends, pends_as, pends, raw_of, made_file, makes, gives, has_algorithm, by_drive, at_drive, injects_at, injects, known_drive, knows_drive, adds_drive, stops, begins, acts}
 use Rattle.calm_law.specs.Following.{IsWithin}
@@ -132,7 +132,7 @@ judged_so w d m a = record {
 
 drive_hand : (w : World) (d : ℕ) (m : Message) (a : Option DriveAt) → HandSo w (drive_hears w d m a) m
 drive_hand w d m None = deaf_so w m
-drive_hand w d m (Some a) = either_hand w m a.failed _ _ (deaf_so w m) (judged_so w d m a)
+drive_hand w d m (Some a) = either_hand w m (is_deaf a) _ _ (deaf_so w m) (judged_so w d m a)
 
 server_hand : (w : World) (chosen : List ℕ) (m : Message) (o : Option ServerMessage)
     → HandSo w (server_takes w chosen m.from o) m
@@ -150,7 +150,7 @@ client_heard w c m (Some a) =
     either_hand w m a.stopped _ _ (deaf_so w m) (client_hand w c a m (for_client m))
 
 hand_so : (w : World) (chosen : List ℕ) (m : Message) (to : Node) → HandSo w (handed_to w chosen m to) m
-hand_so w chosen m node.Server = server_hand w chosen m (for_server m)
+hand_so w chosen m node.Server = either_hand w m w.down _ _ (deaf_so w m) (server_hand w chosen m (for_server m))
 hand_so w chosen m (node.Drive d) = drive_hand w d m (at_number w.drives d)
 hand_so w chosen m (node.Client c) = client_heard w c m (at_number w.clients c)
 
@@ -231,9 +231,10 @@ module _ (w : World) (action : Action) where
 
   -- ---- the server
 
-  gives_so : (chosen : List ℕ) (i : server_input.Input) → ActSo w action (gives w chosen i)
+  gives_so : (down : Bool) (chosen : List ℕ) (i : server_input.Input)
+      → ActSo w action (gives (with_down w down) chosen i)
   unfolding gives
-  gives_so chosen i = same_so _ refl (notes_so (server_step w.server chosen i).notes)
+  gives_so down chosen i = same_so _ refl (notes_so (server_step w.server chosen i).notes)
 
   made_so : (f : ℕ) (r : Result ServerStep server_rules.Refusal) → ActSo w action (made_file w f r)
   made_so f (Ok s) = same_so _ refl (notes_so s.notes)
@@ -244,9 +245,10 @@ module _ (w : World) (action : Action) where
   makes_so chosen f m tag =
       either_so (has_algorithm m) _ _ (made_so f (create_file w.server f m tag chosen)) (same_so _ refl tt)
 
-  adds_so : (d : ℕ) (key : List ℕ) (capacity : ℕ) → ActSo w action (adds_drive w d key capacity)
+  adds_so : (d : ℕ) (key : List ℕ) (capacity : ℕ) (stored : Bool)
+      → ActSo w action (adds_drive w d key capacity stored)
   unfolding gives
-  adds_so d key capacity = either_so (knows_drive w.server d) _ _ (same_so _ refl tt) (same_so _ refl
+  adds_so d key capacity stored = either_so (knows_drive w.server d) _ _ (same_so _ refl tt) (same_so _ refl
       (notes_so (server_step w.server [] (server_input.Adds (known_drive d key capacity))).notes))
 
   -- ---- drives and messages
@@ -308,10 +310,11 @@ inject_so w d bytes = injects_so w d bytes (at_number w.drives d)
 
 begins_so : (w : World) (chosen : List ℕ) (e : Event) → ActSo w (Opens e) (begins w chosen e)
 unfolding begins
-begins_so w chosen (event.Drive d key capacity) = adds_so w _ d key capacity
+begins_so w chosen (event.Drive d key capacity) = adds_so w _ d key capacity false
+begins_so w chosen (event.Disk d key capacity) = adds_so w _ d key capacity true
 begins_so w chosen (event.File f m tag) = makes_so w _ chosen f (raw_of m) tag
 begins_so w chosen (event.Least d format) = drive_so w _ d (λ a. raised a format)
-begins_so w chosen (event.Format format) = gives_so w _ chosen (server_input.Formats format)
+begins_so w chosen (event.Format format) = gives_so w _ w.down chosen (server_input.Formats format)
 begins_so w chosen (event.Do c x) = call_so w _ c (op_of x)
 begins_so w chosen (event.Call c x) = call_so w _ c (op_of x)
 begins_so w chosen (event.Deliver number) = delivers_so w _ chosen number
@@ -320,20 +323,24 @@ begins_so w chosen (event.DropMessage number) = record {
   head = tt;
 }
 begins_so w chosen (event.Resend (sender.Client c)) = resend_so w _ c
-begins_so w chosen (event.Resend sender.Server) = gives_so w _ chosen server_input.Resends
+begins_so w chosen (event.Resend sender.Server) = gives_so w _ w.down chosen server_input.Resends
 begins_so w chosen (event.Timeout c component) = timeout_so w _ c component
 begins_so w chosen (event.Leave c) = leave_so w _ c
 begins_so w chosen (event.Inject d bytes) = inject_so w d bytes
 begins_so w chosen (event.Clock (machine.Drive d) time) = drive_so w _ d (λ a. at_time a time)
 begins_so w chosen (event.Clock machine.Server time) = same_so w _ _ refl tt
-begins_so w chosen (event.Recall f) = gives_so w _ chosen (server_input.Obeys server_rules.ToRecall f)
-begins_so w chosen (event.Revoke f) = gives_so w _ chosen (server_input.Obeys server_rules.ToRevoke f)
-begins_so w chosen (event.Rebuild f) = gives_so w _ chosen (server_input.Obeys server_rules.ToRebuild f)
-begins_so w chosen (event.Audit f) = gives_so w _ chosen (server_input.Obeys server_rules.ToAudit f)
-begins_so w chosen (event.Declare d) = gives_so w _ chosen (server_input.Obeys server_rules.ToDeclare d)
+begins_so w chosen (event.Recall f) = gives_so w _ w.down chosen (server_input.Obeys server_rules.ToRecall f)
+begins_so w chosen (event.Revoke f) = gives_so w _ w.down chosen (server_input.Obeys server_rules.ToRevoke f)
+begins_so w chosen (event.Rebuild f) = gives_so w _ w.down chosen (server_input.Obeys server_rules.ToRebuild f)
+begins_so w chosen (event.Audit f) = gives_so w _ w.down chosen (server_input.Obeys server_rules.ToAudit f)
+begins_so w chosen (event.Declare d) = gives_so w _ w.down chosen (server_input.Obeys server_rules.ToDeclare d)
 begins_so w chosen (event.Stop c) =
     same_so w _ _ (stops_network w (Opens (event.Stop c)) c (at_number w.clients c)) tt
 begins_so w chosen (event.Fail d) = drive_so w _ d fallen
+begins_so w chosen (event.Crash (machine.Drive d)) = drive_so w _ d crashed
+begins_so w chosen (event.Crash machine.Server) = gives_so w _ true chosen server_input.Crashes
+begins_so w chosen (event.Reopen (machine.Drive d)) = drive_so w _ d reopened
+begins_so w chosen (event.Reopen machine.Server) = gives_so w _ false chosen server_input.Opens
 begins_so w chosen e = same_so w _ _ refl tt
 
 pub acts_so : (w : World) (chosen : List ℕ) (a : Action) → ActSo w a (acts w chosen a)

@@ -18,6 +18,7 @@ use Rattle.scenario_text.specs.declared.event.Event.{Event}
 use Rattle.scenario_text.specs.declared.event.Event.TheVariants as event
 use Rattle.scenario_text.specs.declared.event.Sender.TheVariants as sender
 use Rattle.scenario_text.specs.declared.event.Machine.TheVariants as machine
+use Rattle.scenario_text.specs.declared.line.Delivery.TheVariants as delivery
 use Rattle.scenario_text.specs.declared.line.Outcome.{Outcome}
 use Rattle.scenario_text.specs.declared.line.MapFault.TheVariants as map_fault
 use Rattle.scenario_text.specs.declared.line.Note.TheVariants as note
@@ -29,9 +30,9 @@ use Rattle.world_history.specs.Told.{kind_of}
 use Rattle.world_history.specs.Names.{known_note_line, known_outcome}
 use Rattle.world_history.specs.declared.messages.Message.{Message}
 use Rattle.world_history.specs.declared.messages.Posted.{Posted}
-use Rattle.world_history.specs.State.{DriveAt, ClientAt, World, at_number, and_drive}
-use Rattle.world_history.specs.Drives.{made_drive}
-use Rattle.world_history.specs.Handed.{Post, Handed, end_line, ended_by, server_takes, drive_hears, client_hears, client_takes, for_client, for_server, handed_to, client_goes, op_in, pending_op}
+use Rattle.world_history.specs.State.{DriveAt, ClientAt, World, at_number, and_drive, with_down}
+use Rattle.world_history.specs.Drives.{made_drive, is_deaf}
+use Rattle.world_history.specs.Handed.{Post, Handed, end_line, ended_by, quiet, server_takes, drive_hears, client_hears, client_takes, for_client, for_server, handed_to, client_goes, op_in, pending_op}
 use Rattle.world_history.specs.Book.{made_of, step_by}
 use Rattle.world_history.specs.Moves.{Act, changed, Action, Opens, Delivers, TimesOut, Pends, by_client, called, pends_as, made_file, injects_at, delivers_found, delivers, marked, op_of, raw_of, calls_at, times_out, leaves, resends, pends, makes, gives, injects, begins, acts, known_drive, has_algorithm, knows_drive, adds_drive}
 use Rattle.world_history.specs.Sending.{Move, move, sent_lines}
@@ -74,7 +75,7 @@ either_hand false x y p q = q
 
 drive_tells : (w : World) (d : ℕ) (m : Message) (a : Option DriveAt) → tells (drive_hears w d m a).told ≡ []
 drive_tells w d m None = refl
-drive_tells w d m (Some a) = either_hand a.failed _ _ refl refl
+drive_tells w d m (Some a) = either_hand (is_deaf a) _ _ refl refl
 
 client_takes_tells : (w : World) (c : ℕ) (a : ClientAt) (from : Node) (m : Option ClientMessage)
     → tells (client_takes w c a from m).told ≡ []
@@ -90,19 +91,27 @@ server_tells : (w : World) (chosen : List ℕ) (from : Node) (m : Option ServerM
 server_tells w chosen from None = refl
 server_tells w chosen from (Some m) = refl
 
+heard_tells : (w : World) (chosen : List ℕ) (b : Bool) (x : Handed) (o : Option server_input.Input)
+    → tells x.told ≡ noted (step_by w.server chosen o)
+    → tells (if b then quiet w delivery.Deaf else x).told ≡ noted (step_by w.server chosen (if b then None else o))
+heard_tells w chosen true x o e = refl
+heard_tells w chosen false x o e = e
+
 hand_tells : (w : World) (chosen : List ℕ) (m : Message) (to : Node)
-    → tells (handed_to w chosen m to).told ≡ noted (step_by w.server chosen (brought_to w.clock m to))
-hand_tells w chosen m node.Server = server_tells w chosen m.from (for_server m)
+    → tells (handed_to w chosen m to).told ≡ noted (step_by w.server chosen (brought_to w m to))
+hand_tells w chosen m node.Server =
+    heard_tells w chosen w.down (server_takes w chosen m.from (for_server m)) (heard_of w.clock m.from (for_server m))
+    (server_tells w chosen m.from (for_server m))
 hand_tells w chosen m (node.Drive d) = drive_tells w d m (at_number w.drives d)
 hand_tells w chosen m (node.Client c) = client_tells w c m (at_number w.clients c)
 
 found_tells : (w : World) (chosen : List ℕ) (n : ℕ) (p : Option Posted)
-    → tells (delivers_found w chosen n p).told ≡ noted (step_by w.server chosen (brought w.clock p))
+    → tells (delivers_found w chosen n p).told ≡ noted (step_by w.server chosen (brought w p))
 found_tells w chosen n None = refl
 found_tells w chosen n (Some p) = hand_tells (marked w n p) chosen p.message p.message.to
 
 delivers_tells : (w : World) (chosen : List ℕ) (n : ℕ)
-    → tells (delivers w chosen n).told ≡ noted (step_by w.server chosen (brought w.clock (slice_get w.network.messages n)))
+    → tells (delivers w chosen n).told ≡ noted (step_by w.server chosen (brought w (slice_get w.network.messages n)))
 unfolding delivers
 delivers_tells w chosen n = found_tells w chosen n (slice_get w.network.messages n)
 
@@ -184,15 +193,15 @@ makes_tells w chosen f m tag = either (has_algorithm m)
     either true = made_tells w f (create_file w.server f m tag chosen)
     either false = refl
 
-adds_tells : (w : World) (chosen : List ℕ) (d : ℕ) (key : List ℕ) (capacity : ℕ)
-    → tells (adds_drive w d key capacity).told
+adds_tells : (w : World) (chosen : List ℕ) (d : ℕ) (key : List ℕ) (capacity : ℕ) (stored : Bool)
+    → tells (adds_drive w d key capacity stored).told
     ≡ noted (step_by w.server chosen (given_by w.server (event.Drive d key capacity)))
 unfolding gives
-adds_tells w chosen d key capacity = either (knows_drive w.server d)
+adds_tells w chosen d key capacity stored = either (knows_drive w.server d)
   where
     either : (b : Bool)
-        → tells (if b then changed (and_drive w d (made_drive d key capacity))
-        else gives (and_drive w d (made_drive d key capacity)) [] (server_input.Adds (known_drive d key capacity))).told
+        → tells (if b then changed (and_drive w d (made_drive d key capacity stored))
+        else gives (and_drive w d (made_drive d key capacity stored)) [] (server_input.Adds (known_drive d key capacity))).told
         ≡ noted (step_by w.server chosen (if b then None else Some (server_input.Adds (known_drive d key capacity))))
     either true = refl
     either false = refl
@@ -202,7 +211,8 @@ adds_tells w chosen d key capacity = either (knows_drive w.server d)
 begins_tells : (w : World) (chosen : List ℕ) (e : Event)
     → tells (begins w chosen e).told ≡ noted (step_by w.server chosen (input_in w (Opens e)))
 unfolding begins
-begins_tells w chosen (event.Drive d key capacity) = adds_tells w chosen d key capacity
+begins_tells w chosen (event.Drive d key capacity) = adds_tells w chosen d key capacity false
+begins_tells w chosen (event.Disk d key capacity) = adds_tells w chosen d key capacity true
 begins_tells w chosen (event.File f m tag) = makes_tells w chosen f (raw_of m) tag
 begins_tells w chosen (event.Format format) = gives_tells w chosen (server_input.Formats format)
 begins_tells w chosen (event.Do c x) = call_tells w c (op_of x)
@@ -220,6 +230,10 @@ begins_tells w chosen (event.Revoke f) = gives_tells w chosen (server_input.Obey
 begins_tells w chosen (event.Rebuild f) = gives_tells w chosen (server_input.Obeys server_rules.ToRebuild f)
 begins_tells w chosen (event.Audit f) = gives_tells w chosen (server_input.Obeys server_rules.ToAudit f)
 begins_tells w chosen (event.Declare d) = gives_tells w chosen (server_input.Obeys server_rules.ToDeclare d)
+begins_tells w chosen (event.Crash (machine.Drive d)) = refl
+begins_tells w chosen (event.Crash machine.Server) = gives_tells (with_down w true) chosen server_input.Crashes
+begins_tells w chosen (event.Reopen (machine.Drive d)) = refl
+begins_tells w chosen (event.Reopen machine.Server) = gives_tells (with_down w false) chosen server_input.Opens
 begins_tells w chosen e = refl
 
 acts_tells : (w : World) (chosen : List ℕ) (a : Action)

@@ -18,10 +18,10 @@ use Rattle.world_history.specs.ServerNames as server_rules
 use Rattle.world_history.specs.ClientNames as client_rules
 use Rattle.world_history.specs.declared.err.WorldErr.{WorldErr}
 use Rattle.world_history.specs.declared.messages.Posted.{Posted}
-use Rattle.world_history.specs.State.{DriveAt, ClientAt, World, at_number}
+use Rattle.world_history.specs.State.{DriveAt, ClientAt, World, at_number, with_down}
 use Rattle.world_history.specs.Moves.{Act, by_client, called, made_file, injects_at, delivers, op_of, raw_of, calls_at, leaves, resends, makes, gives, injects, begins, known_drive, has_algorithm, knows_drive, adds_drive}
 use Rattle.world_history.specs.Sending.{sends_all}
-use Rattle.world_history.specs.Refusals.{unless_stopped, unless_failed, of_message, refusal}
+use Rattle.world_history.specs.Refusals.{unless_stopped, unless_deaf, of_message, refusal}
 use Rattle.calm_law.specs.Following.{is_opening}
 use Rattle.calm_law.proofs.Shapes.{Bare, IsHeaded, bare_notes, bare_ended, bare_goes, sent_headed, found_headed, timed_headed}
 
@@ -31,7 +31,7 @@ has_client : (o : Option ClientAt) → unless_stopped o ≡ None → (a : Client
 has_client None e = absurd (cc e)
 has_client (Some a) e = (a, refl)
 
-has_drive : (o : Option DriveAt) → unless_failed o ≡ None → (a : DriveAt) × (o ≡ Some a)
+has_drive : (o : Option DriveAt) → unless_deaf o ≡ None → (a : DriveAt) × (o ≡ Some a)
 has_drive None e = absurd (cc e)
 has_drive (Some a) e = (a, refl)
 
@@ -110,15 +110,17 @@ unfolding makes
 makes_bare w chosen f m tag =
     either_bare (has_algorithm m) _ _ (made_bare w f (create_file w.server f m tag chosen)) (refl, tt)
 
-adds_bare : (w : World) (d : ℕ) (key : List ℕ) (capacity : ℕ) → Bare (adds_drive w d key capacity).told
+adds_bare : (w : World) (d : ℕ) (key : List ℕ) (capacity : ℕ) (stored : Bool)
+    → Bare (adds_drive w d key capacity stored).told
 unfolding gives
-adds_bare w d key capacity =
+adds_bare w d key capacity stored =
     either_bare (knows_drive w.server d) _ _ tt
     (bare_notes (server_step w.server [] (server_input.Adds (known_drive d key capacity))).notes)
 
 pub begins_bare : (w : World) (chosen : List ℕ) (e : Event) → is_opening e ≡ false → Bare (begins w chosen e).told
 unfolding begins
-begins_bare w chosen (event.Drive d key capacity) o = adds_bare w d key capacity
+begins_bare w chosen (event.Drive d key capacity) o = adds_bare w d key capacity false
+begins_bare w chosen (event.Disk d key capacity) o = adds_bare w d key capacity true
 begins_bare w chosen (event.File f m tag) o = makes_bare w chosen f (raw_of m) tag
 begins_bare w chosen (event.Format format) o = gives_bare w chosen (server_input.Formats format)
 begins_bare w chosen (event.Do c x) o = call_bare w c (op_of x)
@@ -136,4 +138,8 @@ begins_bare w chosen (event.Revoke f) o = gives_bare w chosen (server_input.Obey
 begins_bare w chosen (event.Rebuild f) o = gives_bare w chosen (server_input.Obeys server_rules.ToRebuild f)
 begins_bare w chosen (event.Audit f) o = gives_bare w chosen (server_input.Obeys server_rules.ToAudit f)
 begins_bare w chosen (event.Declare d) o = gives_bare w chosen (server_input.Obeys server_rules.ToDeclare d)
+begins_bare w chosen (event.Crash (machine.Drive d)) o = tt
+begins_bare w chosen (event.Crash machine.Server) o = gives_bare (with_down w true) chosen server_input.Crashes
+begins_bare w chosen (event.Reopen (machine.Drive d)) o = tt
+begins_bare w chosen (event.Reopen machine.Server) o = gives_bare (with_down w false) chosen server_input.Opens
 begins_bare w chosen e o = tt

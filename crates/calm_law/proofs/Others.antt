@@ -5,7 +5,7 @@ use Rattle.osd_lists.specs.declared.node.Node.TheVariants as node
 use Rattle.server_rules.specs.Files.{Step as ServerStep}
 use Rattle.server_rules.specs.Making.{create_file}
 use Rattle.server_rules.specs.Messages.{Message as ServerMessage}
-use Rattle.server_rules.specs.History.{Input, Adds, Formats, Resends, Obeys, Hears, unless_made, step}
+use Rattle.server_rules.specs.History.{Input, Adds, Formats, Resends, Obeys, Hears, Crashes, Opens as OpensAgain, unless_made, step}
 use Rattle.client_rules.specs.Messages.{Message as ClientMessage, Step as ClientStep}
 use Rattle.client_rules.specs.Steps.{calls}
 use Rattle.client_rules.specs.History as client
@@ -20,8 +20,8 @@ use Rattle.world_history.specs.ClientNames as client_rules
 use Rattle.world_history.specs.declared.messages.Message.{Message}
 use Rattle.world_history.specs.declared.messages.Posted.{Posted}
 use Rattle.world_history.specs.declared.messages.Sent.{Sent}
-use Rattle.world_history.specs.State.{DriveAt, ClientAt, World, at_number, and_drive, empty_world}
-use Rattle.world_history.specs.Drives.{judges, command_in, made_drive}
+use Rattle.world_history.specs.State.{DriveAt, ClientAt, World, at_number, and_drive, with_down, empty_world}
+use Rattle.world_history.specs.Drives.{judges, command_in, made_drive, is_deaf}
 use Rattle.world_history.specs.Spelled.{party_of}
 use Rattle.world_history.specs.Laws.{shown}
 use Rattle.world_history.specs.Handed.{Post, Handed, is_addressed, server_post, client_posts, client_did, wrote_in, op_in, data_in, quiet, drive_hears, drive_replies, server_takes, client_hears, client_takes, for_client, for_server, handed_to, pending_op}
@@ -116,7 +116,7 @@ client_heard w c m (Some a) =
 drive_hand : (w : World) (d : ℕ) (m : Message) (a : Option DriveAt) → OutHand w (drive_hears w d m a)
 drive_hand w d m None = (tt, refl)
 drive_hand w d m (Some a) =
-    either_hand w a.failed (quiet w delivery.Deaf) (drive_replies w d m.from (judges a (command_in m.body))) (tt, refl)
+    either_hand w (is_deaf a) (quiet w delivery.Deaf) (drive_replies w d m.from (judges a (command_in m.body))) (tt, refl)
     ((tt, tt), refl)
 
 another : (from : Node) → IsOut from node.Server → IsOther from
@@ -125,7 +125,9 @@ another (node.Drive d) h = tt
 another (node.Client c) h = tt
 
 hand_to : (w : World) (chosen : List ℕ) (m : Message) (to : Node) → IsOut m.from to → OutHand w (handed_to w chosen m to)
-hand_to w chosen m node.Server h = server_hand w chosen m.from (for_server m) (another m.from h)
+hand_to w chosen m node.Server h =
+    either_hand w w.down (quiet w delivery.Deaf) (server_takes w chosen m.from (for_server m)) (tt, refl)
+    (server_hand w chosen m.from (for_server m) (another m.from h))
 hand_to w chosen m (node.Drive d) h = drive_hand w d m (at_number w.drives d)
 hand_to w chosen m (node.Client c) h = client_heard w c m (at_number w.clients c)
 
@@ -235,16 +237,18 @@ injects_out : (w : World) (d : ℕ) (bytes : List ℕ) → AreSent w.network.mes
 unfolding injects
 injects_out w d bytes h = injected w d bytes (at_number w.drives d) h
 
-added : (w : World) (d : ℕ) (key : List ℕ) (capacity : ℕ) → AreSent w.network.messages → Out w (adds_drive w d key capacity)
-added w d key capacity h =
+added : (w : World) (d : ℕ) (key : List ℕ) (capacity : ℕ) (stored : Bool) → AreSent w.network.messages
+    → Out w (adds_drive w d key capacity stored)
+added w d key capacity stored h =
     either_act w (knows_drive w.server d) _ _ (tt, h)
-    (given w (and_drive w d (made_drive d key capacity)) [] (Adds (known_drive d key capacity)) tt refl h)
+    (given w (and_drive w d (made_drive d key capacity stored)) [] (Adds (known_drive d key capacity)) tt refl h)
 
 -- ---- what an event begins with, and moves
 
 begins_out : (w : World) (chosen : List ℕ) (e : Event) → AreSent w.network.messages → Out w (begins w chosen e)
 unfolding begins
-begins_out w chosen (event.Drive d key capacity) h = added w d key capacity h
+begins_out w chosen (event.Drive d key capacity) h = added w d key capacity false h
+begins_out w chosen (event.Disk d key capacity) h = added w d key capacity true h
 begins_out w chosen (event.File f m tag) h = makes_out w chosen f (raw_of m) tag h
 begins_out w chosen (event.Least d format) h = at_drive_out w d _ (at_number w.drives d) h
 begins_out w chosen (event.Format format) h = given w w chosen (Formats format) tt refl h
@@ -266,6 +270,10 @@ begins_out w chosen (event.Audit f) h = given w w chosen (Obeys server_rules.ToA
 begins_out w chosen (event.Declare d) h = given w w chosen (Obeys server_rules.ToDeclare d) tt refl h
 begins_out w chosen (event.Stop c) h = stopped w c (at_number w.clients c) h
 begins_out w chosen (event.Fail d) h = at_drive_out w d _ (at_number w.drives d) h
+begins_out w chosen (event.Crash (machine.Drive d)) h = at_drive_out w d _ (at_number w.drives d) h
+begins_out w chosen (event.Crash machine.Server) h = given w (with_down w true) chosen Crashes tt refl h
+begins_out w chosen (event.Reopen (machine.Drive d)) h = at_drive_out w d _ (at_number w.drives d) h
+begins_out w chosen (event.Reopen machine.Server) h = given w (with_down w false) chosen OpensAgain tt refl h
 begins_out w chosen e h = (tt, h)
 
 acts_out : (w : World) (chosen : List ℕ) (action : Action) → AreSent w.network.messages → Out w (acts w chosen action)

@@ -6,13 +6,15 @@ use Rattle.osd_lists.specs.declared.node.Node.TheVariants as node
 use Rattle.server_rules.specs.declared.limits.TheConstants.{MAX_CLIENT, GREATEST_TAG}
 use Rattle.server_rules.specs.Answers.{recalls_from}
 use Rattle.server_rules.specs.Envelopes.{receiver}
-use Rattle.server_rules.specs.Files.{Step, still, at_file, file_at, to_drives}
+use Rattle.server_rules.specs.Files.{Step, still, begins, at_file, file_at, to_drives}
 use Rattle.server_rules.specs.Going.{Going}
 use Rattle.server_rules.specs.Served.{Served}
 use Rattle.server_rules.specs.Slots.{Admit, New, Again, Misordered, admit, slot_of}
 use Rattle.server_rules.specs.Requests.{serves, carries_out, by_admit, on_request, answer_with}
 use Rattle.server_rules.specs.Messages.{Message, Asks, Replies, counters_have_room, awaited_by, by_heard, heard_at, on_drive_reply, handled, on_message, resend}
 use Rattle.server_rules.specs.Orders.{begins_job, starts, recalls_on, declares_known, declare, ordered}
+use Rattle.server_rules.specs.Rounds.{step_round}
+use Rattle.server_rules.specs.Openings.{opens_each, reopen}
 use Rattle.server_rules.specs.Making.{refusal, unless_refused, makes_file, unmade, places, create_file}
 use Rattle.server_rules.specs.History.{Input, Hears, Makes, Obeys, Adds, Formats, Resends, Crashes, Opens, unless_made, step}
 use Rattle.world_history.specs.ServerNames.{Server, File, Drive, Grant, Reply, Job, JobKind, Awaited, Outgoing, Answers, ClientRequest, OrderKind, ToRecall, ToRevoke, ToDeclare, ToRebuild, ToAudit, Revoking, Rebuilding, Auditing, Refusal, RawMap}
@@ -141,10 +143,15 @@ out_again ds (f ∷ fs) =
 pub out_resent : (s : Server) → GoOut (resend s)
 out_resent s = out_again s.drives s.files
 
+out_opened : (s : Server) → GoOut (reopen s).sends
+unfolding reopen
+out_opened s =
+    either (counters_have_room s) (step_round s (opens_each s.format s.drives s.files (begins s))) (still s)
+    (out_drives s.drives _) tt
+
 -- what an event gives the server to do
 abbrev pub IsOwn : Input → Type 0
 IsOwn (Hears now from m) = ⊥
-IsOwn Opens = ⊥
 IsOwn i = Unit {0}
 
 pub out_given : (s : Server) (chosen : List ℕ) (i : Input) → IsOwn i → GoOut (step s chosen i).sends
@@ -155,4 +162,4 @@ out_given s chosen (Adds d) h = tt
 out_given s chosen (Formats n) h = tt
 out_given s chosen Resends h = out_resent s
 out_given s chosen Crashes h = tt
-out_given s chosen Opens h = absurd h
+out_given s chosen Opens h = out_opened s

@@ -20,6 +20,7 @@ use Rattle.world_history.specs.Names.{where_known, note_line, is_tellable_note, 
 use Rattle.world_history.specs.declared.messages.Message.{Message}
 use Rattle.world_history.specs.declared.messages.Posted.{Posted}
 use Rattle.world_history.specs.State.{DriveAt, ClientAt, World, at_number}
+use Rattle.world_history.specs.Drives.{is_deaf}
 use Rattle.world_history.specs.Handed.{Handed, end_line, ended_by, server_takes, drive_hears, client_hears, client_takes, for_client, for_server, handed_to, handed, client_goes, op_in, pending_op}
 use Rattle.world_history.specs.Moves.{Act, behind, by_client, pends_as, delivers_found, delivers, marked, times_out, pends}
 use Rattle.world_history.specs.Sending.{sent_lines, sends_all}
@@ -67,7 +68,7 @@ either_hand false x y p q = q
 
 drive_hand : (w : World) (d : ℕ) (m : Message) (a : Option DriveAt) → Bare (drive_hears w d m a).told
 drive_hand w d m None = tt
-drive_hand w d m (Some a) = either_hand a.failed _ _ tt tt
+drive_hand w d m (Some a) = either_hand (is_deaf a) _ _ tt tt
 
 server_hand : (w : World) (chosen : List ℕ) (from : Node) (m : Option ServerMessage)
     → Bare (server_takes w chosen from m).told
@@ -84,7 +85,7 @@ client_heard w c m None = tt
 client_heard w c m (Some a) = either_hand a.stopped _ _ tt (client_hand w c a m.from (for_client m))
 
 hand_to : (w : World) (chosen : List ℕ) (m : Message) (to : Node) → Bare (handed_to w chosen m to).told
-hand_to w chosen m node.Server = server_hand w chosen m.from (for_server m)
+hand_to w chosen m node.Server = either_hand w.down _ _ tt (server_hand w chosen m.from (for_server m))
 hand_to w chosen m (node.Drive d) = drive_hand w d m (at_number w.drives d)
 hand_to w chosen m (node.Client c) = client_heard w c m (at_number w.clients c)
 

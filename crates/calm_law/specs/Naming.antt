@@ -10,6 +10,7 @@ use Rattle.calm_law.specs.Words.{Each}
 -- an event makes a drive or a file that lines can name
 abbrev pub IsNamed : Line → Type 0
 IsNamed (line.Event (event.Drive d key capacity)) = d < DRIVES
+IsNamed (line.Event (event.Disk d key capacity)) = d < DRIVES
 IsNamed (line.Event (event.File f m tag)) = f < FILES
 IsNamed l = Unit {0}
 

@@ -148,6 +148,14 @@ fn reacts(
     }
 }
 
+// The words of an opening.
+fn opens(alloc: Global, bench: &mut Bench) -> Result<Bytes, Memory> {
+    match bench.core.reopen() {
+        Ok(step) => told(alloc, &mut bench.questions, &step),
+        Err(e) => Err(e),
+    }
+}
+
 // The words of a move.
 fn plays(
     alloc: Global,
@@ -157,6 +165,10 @@ fn plays(
 ) -> Result<Bytes, Memory> {
     if let Move::Waits(now) = next {
         bench.now = *now;
+    }
+    if let Move::Restarts = next {
+        bench.core.crash()?;
+        return opens(alloc, bench);
     }
     match bytes_of(alloc, next, &bench.questions) {
         Ok(bytes) => reacts(alloc, bench, sender(next), bytes.as_slice(), placer),

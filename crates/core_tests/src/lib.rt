@@ -38,6 +38,8 @@ mod refused;
 #[cfg(test)]
 mod reports;
 #[cfg(test)]
+mod restarts;
+#[cfg(test)]
 mod rows;
 #[cfg(test)]
 mod setting;

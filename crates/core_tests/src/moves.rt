@@ -49,6 +49,8 @@ pub enum Move {
     Refuses(u32, u16, u64),
     /// The server's clock shows this time in seconds.
     Waits(u64),
+    /// The server crashes, and is opened again.
+    Restarts,
 }
 
 /// A command that a drive is to answer.
@@ -218,18 +220,18 @@ fn latest(questions: &Questions, drive: u32) -> (Question, Question) {
     found
 }
 
-/// Who sends a move. A time is nobody's.
+/// Who sends a move. A time and a crash are nobody's.
 pub fn sender(next: &Move) -> Node {
     match next {
         Move::Asks(client, _, _) => Node::Client(*client),
         Move::Performs(drive, _) | Move::PerformsFormer(drive) | Move::Refuses(drive, _, _) => {
             Node::Drive(*drive)
         }
-        Move::Orders(_, _) | Move::Waits(_) => Node::Server,
+        Move::Orders(_, _) | Move::Waits(_) | Move::Restarts => Node::Server,
     }
 }
 
-/// The bytes of a move, none where it is a time.
+/// The bytes of a move, none where it is a time or a crash.
 pub fn bytes_of(alloc: Global, next: &Move, questions: &Questions) -> Result<Bytes, Memory> {
     match next {
         Move::Asks(client, sequence, ask) => request(alloc, *client, *sequence, *ask),
@@ -246,6 +248,6 @@ pub fn bytes_of(alloc: Global, next: &Move, questions: &Questions) -> Result<Byt
             let (question, _) = latest(questions, *drive);
             reply(alloc, question, *verdict, *detail, b"")
         }
-        Move::Waits(_) => Ok(Bytes::new(alloc)),
+        Move::Waits(_) | Move::Restarts => Ok(Bytes::new(alloc)),
     }
 }

@@ -1,32 +1,17 @@
 -- What each step of a client keeps, given what comes to it, each move keeps.
-use Rattle.std.proofs.Common.{◌≡◌, ℕ, [], List, Bool, true, false, Option, Some, None, Result, Ok, Err, IsSome, is_some, slice_get, refl, sym, ap, subst, ◌∙◌, inl, inr, if◌then◌else◌}
+use Rattle.std.proofs.Common.{◌≡◌, ℕ, List, Option, Some, None, IsSome, refl, sym, ap, subst, ◌∙◌, inl, inr}
 use Rattle.std.proofs.lemmas.Bool.{cases_eq}
-use Rattle.osd_lists.specs.declared.node.Node.{Node}
-use Rattle.osd_lists.specs.declared.node.Node.TheVariants as node
 use Rattle.osd_objects.proofs.Entries.{lookup_inserted, lookup_beside, lookup_set, lookup_set_beside}
-use Rattle.server_rules.specs.declared.server.Refusal.{Refusal}
-use Rattle.server_rules.specs.Files.{Step as ServerStep}
-use Rattle.server_rules.specs.Making.{create_file}
-use Rattle.server_rules.specs.Messages.{Message as ServerMessage}
-use Rattle.server_rules.specs.History as server_input
-use Rattle.client_rules.specs.Messages.{Message as ClientMessage, Step as ClientStep}
-use Rattle.client_rules.specs.Steps.{new_client, calls}
-use Rattle.client_rules.specs.History.{Input, step, unless_refused}
+use Rattle.client_rules.specs.Steps.{new_client}
+use Rattle.client_rules.specs.History.{Input, step}
 use Rattle.client_rules.specs.History as client_input
-use Rattle.scenario_text.specs.declared.line.Delivery.TheVariants as delivery
-use Rattle.scenario_text.specs.declared.event.Event.{Event}
 use Rattle.scenario_text.specs.declared.event.Event.TheVariants as event
 use Rattle.scenario_text.specs.declared.event.Sender.TheVariants as sender
-use Rattle.scenario_text.specs.declared.event.Machine.TheVariants as machine
-use Rattle.world_history.specs.ServerNames as server_rules
-use Rattle.world_history.specs.ClientNames as client_rules
 use Rattle.world_history.specs.ClientNames.{Client, CallOp}
-use Rattle.world_history.specs.declared.messages.Message.{Message}
-use Rattle.world_history.specs.declared.messages.Posted.{Posted}
-use Rattle.world_history.specs.State.{DriveAt, ClientAt, World, at_number, with_number, and_number, and_drive}
-use Rattle.world_history.specs.Drives.{judges, command_in, made_drive}
-use Rattle.world_history.specs.Handed.{Handed, quiet, drive_hears, drive_replies, server_takes, client_did, client_goes, client_hears, client_takes, for_client, for_server, handed_to, pending_op}
-use Rattle.world_history.specs.Moves.{Act, Action, Opens, Delivers, TimesOut, Pends, marked, delivers_found, delivers, drops_found, by_client, called, calls_at, times_out, leaves, resends, pends_as, pends, made_file, makes, gives, has_algorithm, by_drive, stops, injects_at, injects, adds_drive, changed, known_drive, knows_drive, op_of, raw_of, begins, acts}
+use Rattle.world_history.specs.State.{ClientAt, World, at_number, with_number, and_number}
+use Rattle.world_history.specs.Moves.{Act, Action, Opens, op_of, acts}
+use Rattle.move_law.specs.Moves.{ForClient, asked_in, IsForClient, MoveCases}
+use Rattle.move_law.proofs.Moves.{each_act}
 
 abbrev pub Clients : Type 0
 Clients = List (ℕ × ClientAt)
@@ -78,187 +63,46 @@ module _ (N : ℕ → Type 0) (I : CallOp → Type 0) (R : ℕ → Client → Ty
     | inr other ↦ all d x (sym (lookup_beside xs c d b other) ∙ there)
   ]
 
-  module _ (w : World) (all : All w.clients) where
-    did : (c : ℕ) (a : ClientAt) (i : Input) (s : ClientStep) → at_number w.clients c ≡ Some a → R c s.client
-        → All (client_did w c a i s).world.clients
-    did c a i s found now = put_client w.clients c a _ all found now
+  -- ---- each move
 
-    went : (c : ℕ) (a : ClientAt) (i : Input) → at_number w.clients c ≡ Some a → Asks I i
-        → All (client_goes w c a i).world.clients
-    went c a i found given = did c a i (step a.state i) found (k.steps c a.state i (all c a found) given)
+  abbrev GoesTo : Act → Type 0
+  GoesTo a = All a.world.clients
 
-    -- ---- a message comes to its receiver
+  -- a call that an action asks of a client is such a one
+  abbrev AsksOf : Option ForClient → Type 0
+  AsksOf None = Unit {0}
+  AsksOf (Some x) = Asks I x.input
 
-    either_hand : (b : Bool) (x y : Handed) → All x.world.clients → All y.world.clients
-        → All (if b then x else y).world.clients
-    either_hand true x y p q = p
-    either_hand false x y p q = q
+  call_given : (action : Action) → Given N I action → AsksOf (asked_in action)
+  call_given (Opens (event.Do n x)) g = g
+  call_given (Opens (event.Call n x)) g = g
+  call_given (Opens (event.Resend (sender.Client n))) g = tt
+  call_given (Opens (event.Resend sender.Server)) g = tt
+  call_given action g = tt
 
-    server_hand : (chosen : List ℕ) (from : Node) (m : Option ServerMessage)
-        → All (server_takes w chosen from m).world.clients
-    server_hand chosen from None = all
-    server_hand chosen from (Some m) = all
+  asks_given : (w : World) (action : Action) (c : ℕ) (a : ClientAt) (i : Input) → Given N I action
+      → IsForClient w action c a i → Asks I i
+  asks_given w action c a (client_input.Hears from m) g is = tt
+  asks_given w action c a i g is = subst AsksOf is (call_given action g)
 
-    client_hand : (c : ℕ) (a : ClientAt) (from : Node) (m : Option ClientMessage) → at_number w.clients c ≡ Some a
-        → All (client_takes w c a from m).world.clients
-    client_hand c a from None found = all
-    client_hand c a from (Some m) found = went c a (client_input.Hears from m) found tt
-
-    client_heard : (c : ℕ) (m : Message) (o : Option ClientAt) → at_number w.clients c ≡ o
-        → All (client_hears w c m o).world.clients
-    client_heard c m None found = all
-    client_heard c m (Some a) found =
-        either_hand a.stopped (quiet w delivery.Deaf) (client_takes w c a m.from (for_client m)) all
-        (client_hand c a m.from (for_client m) found)
-
-    drive_hand : (d : ℕ) (m : Message) (o : Option DriveAt) → All (drive_hears w d m o).world.clients
-    drive_hand d m None = all
-    drive_hand d m (Some a) =
-        either_hand a.failed (quiet w delivery.Deaf) (drive_replies w d m.from (judges a (command_in m.body))) all all
-
-    hand : (chosen : List ℕ) (m : Message) (to : Node) → All (handed_to w chosen m to).world.clients
-    hand chosen m node.Server = server_hand chosen m.from (for_server m)
-    hand chosen m (node.Drive d) = drive_hand d m (at_number w.drives d)
-    hand chosen m (node.Client c) = client_heard c m (at_number w.clients c) refl
-
-    -- ---- a client
-
-    abbrev GoesTo : Act → Type 0
-    GoesTo a = All a.world.clients
-
-    either_act : (b : Bool) (x y : Act) → GoesTo x → GoesTo y → GoesTo (if b then x else y)
-    either_act true x y p q = p
-    either_act false x y p q = q
-
-    at_client : (does : ClientAt → Act) (c : ℕ) (o : Option ClientAt) → at_number w.clients c ≡ o
-        → ((a : ClientAt) → at_number w.clients c ≡ Some a → GoesTo (does a)) → GoesTo (by_client w does o)
-    at_client does c None found each = all
-    at_client does c (Some a) found each = each a found
-
-    called_goes : (c : ℕ) (a : ClientAt) (op : client_rules.CallOp) (r : Result ClientStep client_rules.CallErr)
-        → calls a.state op ≡ r → at_number w.clients c ≡ Some a → I op
-        → GoesTo (called w c a op r)
-    called_goes c a op (Err e) is found given = all
-    called_goes c a op (Ok s) is found given =
-        did c a (client_input.Calls op) s found
-        (subst (λ (r : Result ClientStep client_rules.CallErr). R c (unless_refused a.state r).client) is
-        (k.steps c a.state (client_input.Calls op) (all c a found) given))
-
-    calls_go : (c : ℕ) (op : client_rules.CallOp) → I op → GoesTo (calls_at w c op)
-    unfolding calls_at
-    calls_go c op given =
-        at_client _ c (at_number w.clients c) refl
-        (λ a found. called_goes c a op (calls a.state op) refl found given)
-
-    timeout_goes : (c j : ℕ) → GoesTo (times_out w c j)
-    unfolding times_out
-    timeout_goes c j =
-        at_client _ c (at_number w.clients c) refl
-        (λ a found. went c a (client_input.TimesOut j) found tt)
-
-    leaves_go : (c : ℕ) → GoesTo (leaves w c)
-    unfolding leaves
-    leaves_go c =
-        at_client _ c (at_number w.clients c) refl
-        (λ a found. either_act (is_some a.state.call) _ _ all (went c a client_input.Leaves found tt))
-
-    resends_go : (c : ℕ) → GoesTo (resends w c)
-    unfolding resends
-    resends_go c =
-        at_client _ c (at_number w.clients c) refl
-        (λ a found. went c a client_input.Resends found tt)
-
-    pends_as_go : (c : ℕ) (op : Option client_rules.CallOp) → GoesTo (pends_as w c op)
-    pends_as_go c None = all
-    pends_as_go c (Some op) = all
-
-    pends_go : (c : ℕ) → GoesTo (pends w c)
-    unfolding pends
-    pends_go c = at_client _ c (at_number w.clients c) refl (λ a found. pends_as_go c (pending_op a.state))
-
-    stopped : (c : ℕ) (o : Option ClientAt) → at_number w.clients c ≡ o → GoesTo (changed (stops w c o))
-    stopped c None found = all
-    stopped c (Some a) found = put_client w.clients c a _ all found (all c a found)
-
-    -- ---- the server and drives
-
-    made_goes : (f : ℕ) (r : Result ServerStep Refusal) → GoesTo (made_file w f r)
-    made_goes f (Ok s) = all
-    made_goes f (Err e) = all
-
-    gives_go : (chosen : List ℕ) (i : server_input.Input) → GoesTo (gives w chosen i)
-    unfolding gives
-    gives_go chosen i = all
-
-    makes_go : (chosen : List ℕ) (f : ℕ) (m : server_rules.RawMap) (tag : ℕ) → GoesTo (makes w chosen f m tag)
-    unfolding makes
-    makes_go chosen f m tag =
-        either_act (has_algorithm m) _ _ (made_goes f (create_file w.server f m tag chosen)) all
-
-    turned : (d : ℕ) (becomes : DriveAt → DriveAt) (o : Option DriveAt) → GoesTo (changed (by_drive w d becomes o))
-    turned d becomes None = all
-    turned d becomes (Some a) = all
-
-    injected : (d : ℕ) (bytes : List ℕ) (o : Option DriveAt) → GoesTo (injects_at w d bytes o)
-    injected d bytes None = all
-    injected d bytes (Some a) = all
-
-    injects_go : (d : ℕ) (bytes : List ℕ) → GoesTo (injects w d bytes)
-    unfolding injects
-    injects_go d bytes = injected d bytes (at_number w.drives d)
-
-    added : (d : ℕ) (key : List ℕ) (capacity : ℕ) → GoesTo (adds_drive w d key capacity)
-    unfolding gives
-    added d key capacity =
-        let x = and_drive w d (made_drive d key capacity) in
-        either_act (knows_drive w.server d) (changed x)
-        (gives x [] (server_input.Adds (known_drive d key capacity))) all all
-
-    dropped : (number : ℕ) (o : Option Posted) → GoesTo (changed (drops_found w number o))
-    dropped number None = all
-    dropped number (Some p) = all
-
-  found_goes : (w : World) → All w.clients → (chosen : List ℕ) (number : ℕ) (o : Option Posted)
-      → All (delivers_found w chosen number o).world.clients
-  found_goes w all chosen number None = all
-  found_goes w all chosen number (Some p) = hand (marked w number p) all chosen p.message p.message.to
-
-  delivers_go : (w : World) → All w.clients → (chosen : List ℕ) (number : ℕ)
-      → All (delivers w chosen number).world.clients
-  unfolding delivers
-  delivers_go w all chosen number = found_goes w all chosen number (slice_get w.network.messages number)
-
-  begins_go : (w : World) → All w.clients → (chosen : List ℕ) (e : Event) → Given N I (Opens e)
-      → All (begins w chosen e).world.clients
-  unfolding begins
-  begins_go w all chosen (event.Drive d key capacity) g = added w all d key capacity
-  begins_go w all chosen (event.Client c) g = add_client w.clients c _ all (k.made c g)
-  begins_go w all chosen (event.File f m tag) g = makes_go w all chosen f (raw_of m) tag
-  begins_go w all chosen (event.Least d format) g = turned w all d _ (at_number w.drives d)
-  begins_go w all chosen (event.Format format) g = gives_go w all chosen (server_input.Formats format)
-  begins_go w all chosen (event.Do c x) g = calls_go w all c (op_of x) g
-  begins_go w all chosen (event.Call c x) g = calls_go w all c (op_of x) g
-  begins_go w all chosen (event.Deliver number) g = delivers_go w all chosen number
-  begins_go w all chosen (event.DropMessage number) g = dropped w all number (slice_get w.network.messages number)
-  begins_go w all chosen (event.Resend (sender.Client c)) g = resends_go w all c
-  begins_go w all chosen (event.Resend sender.Server) g = gives_go w all chosen server_input.Resends
-  begins_go w all chosen (event.Timeout c component) g = timeout_goes w all c component
-  begins_go w all chosen (event.Leave c) g = leaves_go w all c
-  begins_go w all chosen (event.Inject d bytes) g = injects_go w all d bytes
-  begins_go w all chosen (event.Clock (machine.Drive d) time) g = turned w all d _ (at_number w.drives d)
-  begins_go w all chosen (event.Clock machine.Server time) g = all
-  begins_go w all chosen (event.Recall f) g = gives_go w all chosen (server_input.Obeys server_rules.ToRecall f)
-  begins_go w all chosen (event.Revoke f) g = gives_go w all chosen (server_input.Obeys server_rules.ToRevoke f)
-  begins_go w all chosen (event.Rebuild f) g = gives_go w all chosen (server_input.Obeys server_rules.ToRebuild f)
-  begins_go w all chosen (event.Audit f) g = gives_go w all chosen (server_input.Obeys server_rules.ToAudit f)
-  begins_go w all chosen (event.Declare d) g = gives_go w all chosen (server_input.Obeys server_rules.ToDeclare d)
-  begins_go w all chosen (event.Stop c) g = stopped w all c (at_number w.clients c) refl
-  begins_go w all chosen (event.Fail d) g = turned w all d _ (at_number w.drives d)
-  begins_go w all chosen e g = all
+  cases : (w : World) → All w.clients → (chosen : List ℕ) (action : Action) → Given N I action
+      → MoveCases w chosen action GoesTo
+  cases w all chosen action g = record {
+    rests = λ ms said told quiet. all;
+    refused = λ c a found op is e why. all;
+    clock = λ time. all;
+    serves = λ ms said i is. all;
+    goes = λ ms said c a found i is.
+        put_client w.clients c a _ all found (k.steps c a.state i (all c a found) (asks_given w action c a i g is));
+    comes = λ c is. add_client w.clients c _ all (k.made c (subst (Given N I) is g));
+    stops = λ c a found. put_client w.clients c a _ all found (all c a found);
+    judged = λ ms said d a found hears m number. all;
+    injected = λ d bytes is a found. all;
+    turns = λ d a b found turns. all;
+    known = λ d key capacity stored is knows. all;
+    adds = λ d key capacity stored is knows. all;
+  }
 
   pub acts_go : (w : World) → All w.clients → (chosen : List ℕ) (action : Action) → Given N I action
       → All (acts w chosen action).world.clients
-  acts_go w all chosen (Opens e) g = begins_go w all chosen e g
-  acts_go w all chosen (Delivers number) g = delivers_go w all chosen number
-  acts_go w all chosen (TimesOut c component) g = timeout_goes w all c component
-  acts_go w all chosen (Pends c) g = pends_go w all c
+  acts_go w all chosen action g = each_act w chosen GoesTo action (cases w all chosen action g)

@@ -101,7 +101,7 @@ took_awaited q w h k few c caller found alive from x comes a r e other =
       bytes_are = ap spelled was.body;
       device = d.device;
       stands = d.stands;
-      lives = d.lives;
+      hears = d.hears;
       verdict = found_verdict d.device d.message.message.body;
     }
 
@@ -123,7 +123,7 @@ awaited_on h more c d v k = record {
   bytes_are = k.bytes_are;
   device = k.device;
   stands = k.stands;
-  lives = k.lives;
+  hears = k.hears;
   verdict = k.verdict;
 }
 

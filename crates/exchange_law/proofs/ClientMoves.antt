@@ -81,11 +81,11 @@ module _ (R : ℕ → Client → Type 0) (k : IsKeptByClients R) (n : ℕ) (w : 
         (k.steps n a.state i c (wrote_in a i) (data_in (op_in a.state i)) (all c a found));
     comes = λ c is. add_client c _ (k.made n c);
     stops = λ c a found. put_client c a _ 0 found (k.more n 0 a.state (all c a found));
-    judged = λ ms said d a found failed m number. stay 1;
+    judged = λ ms said d a found hears m number. stay 1;
     injected = λ d bytes is a found. stay 0;
     turns = λ d a b found turns. stay 0;
-    known = λ d key capacity is knows. stay 0;
-    adds = λ d key capacity is knows. stay 0;
+    known = λ d key capacity stored is knows. stay 0;
+    adds = λ d key capacity stored is knows. stay 0;
   }
 
   acts_go : (chosen : List ℕ) (action : Action) → Goes R n (acts w chosen action).world (acts w chosen action).posts

@@ -26,7 +26,7 @@ use Rattle.world_history.specs.ClientNames as client_rules
 use Rattle.world_history.specs.declared.messages.Message.{Message}
 use Rattle.world_history.specs.declared.messages.Posted.{Posted}
 use Rattle.world_history.specs.State.{DriveAt, ClientAt, World, at_number}
-use Rattle.world_history.specs.Drives.{judges, command_in}
+use Rattle.world_history.specs.Drives.{judges, command_in, is_deaf}
 use Rattle.world_history.specs.Spelled.{spelled}
 use Rattle.world_history.specs.Handed.{Post, Handed, is_addressed, server_post, client_posts, client_goes, wrote_in, data_in, op_in, drive_hears, drive_replies, client_hears, server_takes, client_takes, for_client, for_server, handed_to, pending_op, quiet}
 use Rattle.world_history.specs.Moves.{Act, Action, Opens, Delivers, TimesOut, Pends, marked, delivers_found, delivers, by_client, called, calls_at, times_out, leaves, resends, pends_as, pends, has_algorithm, injects_at, injects, gives, makes, knows_drive, op_of, raw_of, begins, acts}
@@ -83,30 +83,36 @@ read_heard : (now : ℕ) (from : Node) (o : Option ServerMessage)
 read_heard now from None r = tt
 read_heard now from (Some m) r = r m refl
 
-read_to : (now : ℕ) (m : Message) (to : Node) → ReadAny (brought_to now m to)
-read_to now m node.Server =
-    read_heard now m.from (for_server m)
-    (λ x e. read_message now m.from (spelled m.body) x (begins_spelled m.body) e)
-read_to now m (node.Drive d) = tt
-read_to now m (node.Client c) = tt
-
-read_brought : (now : ℕ) (o : Option Posted) → ReadAny (brought now o)
-read_brought now None = tt
-read_brought now (Some p) = read_to now p.message p.message.to
-
 either_read : (b : Bool) (i j : Option Input) → ReadAny i → ReadAny j → ReadAny (if b then i else j)
 either_read true i j p q = p
 either_read false i j p q = q
 
+read_to : (w : World) (m : Message) (to : Node) → ReadAny (brought_to w m to)
+read_to w m node.Server =
+    either_read w.down None (heard_of w.clock m.from (for_server m)) tt
+    (read_heard w.clock m.from (for_server m)
+    (λ x e. read_message w.clock m.from (spelled m.body) x (begins_spelled m.body) e))
+read_to w m (node.Drive d) = tt
+read_to w m (node.Client c) = tt
+
+read_brought : (w : World) (o : Option Posted) → ReadAny (brought w o)
+read_brought w None = tt
+read_brought w (Some p) = read_to w p.message p.message.to
+
 read_event : (w : World) (e : Event) → ReadAny (input_in w (Opens e))
 read_event w (event.Drive d key capacity) = either_read (knows_drive w.server d) None (Some _) tt tt
+read_event w (event.Disk d key capacity) = either_read (knows_drive w.server d) None (Some _) tt tt
 read_event w (event.File f m tag) = either_read (has_algorithm (raw_of m)) (Some _) None tt tt
-read_event w (event.Deliver number) = read_brought w.clock (slice_get w.network.messages number)
+read_event w (event.Deliver number) = read_brought w (slice_get w.network.messages number)
+read_event w (event.Crash (machine.Drive d)) = tt
+read_event w (event.Crash machine.Server) = tt
+read_event w (event.Reopen (machine.Drive d)) = tt
+read_event w (event.Reopen machine.Server) = tt
 read_event w e = tt
 
 pub read_input : (w : World) (action : Action) → ReadAny (input_in w action)
 read_input w (Opens e) = read_event w e
-read_input w (Delivers number) = read_brought w.clock (slice_get w.network.messages number)
+read_input w (Delivers number) = read_brought w (slice_get w.network.messages number)
 read_input w (TimesOut c component) = tt
 read_input w (Pends c) = tt
 
@@ -211,7 +217,7 @@ module _ (w : World) where
   drive_hand : (d : ℕ) (m : Message) (o : Option DriveAt) → AreOthers (drive_hears w d m o).posts
   drive_hand d m None = tt
   drive_hand d m (Some a) =
-      either_hand a.failed (quiet w delivery.Deaf) (drive_replies w d m.from (judges a (command_in m.body))) tt (tt, tt)
+      either_hand (is_deaf a) (quiet w delivery.Deaf) (drive_replies w d m.from (judges a (command_in m.body))) tt (tt, tt)
 
   client_hand : (c : ℕ) (a : ClientAt) (from : Node) (m : Option ClientMessage)
       → AreOthers (client_takes w c a from m).posts
@@ -229,18 +235,23 @@ module _ (w : World) where
   server_hand chosen from None = inl tt
   server_hand chosen from (Some m) = inr (Hears w.clock from m, refl)
 
-  hand : (chosen : List ℕ) (m : Message) (to : Node) → Comes (brought_to w.clock m to) (handed_to w chosen m to).posts
-  hand chosen m node.Server = server_hand chosen m.from (for_server m)
+  either_comes : (b : Bool) (o : Option Input) (x : Handed) → Comes o x.posts
+      → Comes (if b then None else o) (if b then quiet w delivery.Deaf else x).posts
+  either_comes true o x k = inl tt
+  either_comes false o x k = k
+
+  hand : (chosen : List ℕ) (m : Message) (to : Node) → Comes (brought_to w m to) (handed_to w chosen m to).posts
+  hand chosen m node.Server = either_comes w.down _ _ (server_hand chosen m.from (for_server m))
   hand chosen m (node.Drive d) = inl (drive_hand d m (at_number w.drives d))
   hand chosen m (node.Client c) = inl (client_heard c m (at_number w.clients c))
 
 found_comes : (w : World) (chosen : List ℕ) (n : ℕ) (o : Option Posted)
-    → Comes (brought w.clock o) (delivers_found w chosen n o).posts
+    → Comes (brought w o) (delivers_found w chosen n o).posts
 found_comes w chosen n None = inl tt
 found_comes w chosen n (Some p) = hand (marked w n p) chosen p.message p.message.to
 
 delivers_come : (w : World) (chosen : List ℕ) (n : ℕ)
-    → Comes (brought w.clock (slice_get w.network.messages n)) (delivers w chosen n).posts
+    → Comes (brought w (slice_get w.network.messages n)) (delivers w chosen n).posts
 unfolding delivers
 delivers_come w chosen n = found_comes w chosen n (slice_get w.network.messages n)
 
@@ -257,6 +268,7 @@ made_or_not false x y i k = inl k
 begins_come : (w : World) (chosen : List ℕ) (e : Event) → Comes (input_in w (Opens e)) (begins w chosen e).posts
 unfolding begins makes gives
 begins_come w chosen (event.Drive d key capacity) = known_or_new (knows_drive w.server d) _ _ _ tt
+begins_come w chosen (event.Disk d key capacity) = known_or_new (knows_drive w.server d) _ _ _ tt
 begins_come w chosen (event.File f m tag) = made_or_not (has_algorithm (raw_of m)) _ _ _ tt
 begins_come w chosen (event.Format format) = inr (_, refl)
 begins_come w chosen (event.Do c x) = inl (calls_others w c (op_of x))
@@ -275,6 +287,10 @@ begins_come w chosen (event.Revoke f) = inr (_, refl)
 begins_come w chosen (event.Rebuild f) = inr (_, refl)
 begins_come w chosen (event.Audit f) = inr (_, refl)
 begins_come w chosen (event.Declare d) = inr (_, refl)
+begins_come w chosen (event.Crash (machine.Drive d)) = inl tt
+begins_come w chosen (event.Crash machine.Server) = inr (_, refl)
+begins_come w chosen (event.Reopen (machine.Drive d)) = inl tt
+begins_come w chosen (event.Reopen machine.Server) = inr (_, refl)
 begins_come w chosen e = inl tt
 
 pub acts_come : (w : World) (chosen : List ℕ) (action : Action)

@@ -163,12 +163,12 @@ cases w chosen action = record {
   comes = λ c is.
       Makes c (new_state w c) (λ n b other there. sym (lookup_beside w.clients c n _ other) ∙ there) refl none_sent;
   stops = λ c a found. Others (stopped w c a found) refl none_sent;
-  judged = λ ms said d a found failed m number.
+  judged = λ ms said d a found hears m number.
       others w _ _ refl said (reply_none d m.posted.message.from _);
   injected = λ d bytes is a found. quiet_act w _ refl refl;
   turns = λ d a b found turns. quiet_act w _ refl refl;
-  known = λ d key capacity is knows. quiet_act w _ refl refl;
-  adds = λ d key capacity is knows. quiet_act w _ refl refl;
+  known = λ d key capacity stored is knows. quiet_act w _ refl refl;
+  adds = λ d key capacity stored is knows. quiet_act w _ refl refl;
 }
 
 pub each_acts : (w : World) (chosen : List ℕ) (action : Action) → ActsIn w (acts w chosen action)

@@ -18,9 +18,9 @@ use Rattle.scenario_text.specs.declared.line.Line.{Line}
 use Rattle.scenario_text.specs.declared.line.Line.TheVariants as line
 use Rattle.world_history.specs.declared.messages.Sent.{Sent}
 use Rattle.world_history.specs.State.{DriveAt}
-use Rattle.world_history.specs.Drives.{judges, made_drive, raised, at_time, fallen}
+use Rattle.world_history.specs.Drives.{judges, made_drive, raised, at_time, fallen, crashed, reopened, is_deaf}
 use Rattle.world_history.specs.Reading.{is_drive}
-use Rattle.world_history.specs.ReadDrives.{DriveSeen, hears_bytes, hears_sent, where_it_is, clock_set, drive_after_event, drive_after_line, sees_drive, drive_after}
+use Rattle.world_history.specs.ReadDrives.{DriveSeen, hears_bytes, hears_sent, where_it_is, clock_set, drive_restarted, drive_after_event, drive_after_line, sees_drive, drive_after}
 
 -- ---- judging
 
@@ -61,7 +61,7 @@ module _ (d : ℕ) where
   sent_number o None k = k
   sent_number o (Some m) k =
       either_number (is_drive d m.to) _ _
-      (mapped_number (hears_bytes m.bytes) (λ a. heard_number m.bytes a a.failed) o k) k
+      (mapped_number (hears_bytes m.bytes) (λ a. heard_number m.bytes a (is_deaf a)) o k) k
 
   changed_number : (n : ℕ) (f : DriveAt → DriveAt) → ((a : DriveAt) → (f a).state.number ≡ a.state.number)
       → (o : Option DriveAt) → HasNumber d o → HasNumber d (where_it_is n d f o)
@@ -72,9 +72,14 @@ module _ (d : ℕ) where
   clock_number (machine.Drive n) time o k = changed_number n (λ a. at_time a time) (λ a. refl) o k
   clock_number machine.Server time o k = k
 
-  made_number : (n : ℕ) (key : List ℕ) (capacity : ℕ) (o : Option DriveAt) → HasNumber d o
-      → HasNumber d (if n == d then Some (made_drive n key capacity) else o)
-  made_number n key capacity o k = elim (cases_Bool (n == d)) [
+  restart_number : (which : Machine) (f : DriveAt → DriveAt) → ((a : DriveAt) → (f a).state.number ≡ a.state.number)
+      → (o : Option DriveAt) → HasNumber d o → HasNumber d (drive_restarted d which f o)
+  restart_number (machine.Drive n) f same o k = changed_number n f same o k
+  restart_number machine.Server f same o k = k
+
+  made_number : (n : ℕ) (key : List ℕ) (capacity : ℕ) (stored : Bool) (o : Option DriveAt) → HasNumber d o
+      → HasNumber d (if n == d then Some (made_drive n key capacity stored) else o)
+  made_number n key capacity stored o k = elim (cases_Bool (n == d)) [
     | inl it ↦ rw it (equal n d it)
     | inr other ↦ rw other k
   ]
@@ -83,17 +88,20 @@ module _ (d : ℕ) where
       equal a b e = grind (arith, nat_tests, e)
 
   event_number : (o : Option DriveAt) (e : Event) → HasNumber d o → HasNumber d (drive_after_event d o e)
-  event_number o (event.Drive n key capacity) k = made_number n key capacity o k
+  event_number o (event.Drive n key capacity) k = made_number n key capacity false o k
+  event_number o (event.Disk n key capacity) k = made_number n key capacity true o k
   event_number o (event.Least n format) k = changed_number n (λ a. raised a format) (λ a. refl) o k
   event_number o (event.Clock which time) k = clock_number which time o k
   event_number o (event.Fail n) k = changed_number n fallen (λ a. refl) o k
+  event_number o (event.Crash which) k = restart_number which crashed (λ a. refl) o k
+  event_number o (event.Reopen which) k = restart_number which reopened (λ a. refl) o k
   event_number o e k = k
 
   line_number : (s : DriveSeen) (l : Line) → HasNumber d s.drive → HasNumber d (drive_after_line d s l)
   line_number s (line.Event e) k = event_number s.drive e k
   line_number s (line.Delivered n delivery) k = sent_number s.drive (slice_get s.sent n) k
   line_number s (line.Judged n verdict) k =
-      changed_number n (hears_bytes s.injected) (λ a. heard_number s.injected a a.failed) s.drive k
+      changed_number n (hears_bytes s.injected) (λ a. heard_number s.injected a (is_deaf a)) s.drive k
   line_number s l k = k
 
   lines_number : (s : DriveSeen) (h : List Line) → HasNumber d s.drive → HasNumber d (fold (sees_drive d) s h).drive

@@ -26,11 +26,11 @@ use Rattle.world_history.specs.ServerNames as server_rules
 use Rattle.world_history.specs.ClientNames as client_rules
 use Rattle.world_history.specs.declared.messages.Message.{Message}
 use Rattle.world_history.specs.declared.messages.Posted.{Posted}
-use Rattle.world_history.specs.State.{DriveAt, ClientAt, World, at_number, and_drive}
+use Rattle.world_history.specs.State.{DriveAt, ClientAt, World, at_number, and_drive, with_down}
 use Rattle.world_history.specs.Told.{kind_of, told_outcome}
 use Rattle.world_history.specs.Names.{where_known, note_line, is_tellable, is_tellable_note, known_note_line}
-use Rattle.world_history.specs.Drives.{judges, command_in, made_drive}
-use Rattle.world_history.specs.Handed.{Post, Handed, quiet, drive_hears, drive_replies, server_takes, client_hears, client_takes, for_client, for_server, handed_to, pending_op, op_in, end_line, ended_by}
+use Rattle.world_history.specs.Drives.{judges, command_in, made_drive, is_deaf}
+use Rattle.world_history.specs.Handed.{Post, Handed, quiet, drive_hears, drive_replies, server_takes, server_hears, client_hears, client_takes, for_client, for_server, handed_to, pending_op, op_in, end_line, ended_by}
 use Rattle.world_history.specs.Moves.{Act, Action, Opens, Delivers, TimesOut, Pends, marked, delivers_found, delivers, by_client, called, calls_at, times_out, leaves, resends, pends_as, pends, made_file, makes, gives, has_algorithm, injects_at, injects, adds_drive, changed, known_drive, knows_drive, op_of, raw_of, begins, acts}
 use Rattle.world_history.specs.Sending.{sent_lines}
 use Rattle.exchange_law.specs.Doing.{IsHeardByClient}
@@ -117,10 +117,11 @@ injects_fine : (w : World) (d : ℕ) (bytes : List ℕ) → AreFine (injects w d
 unfolding injects
 injects_fine w d bytes = injected_fine w d bytes (at_number w.drives d)
 
-drive_fine : (w : World) (d : ℕ) (key : List ℕ) (capacity : ℕ) → AreFine (adds_drive w d key capacity).told
-drive_fine w d key capacity =
-    either_fine (knows_drive w.server d) (changed (and_drive w d (made_drive d key capacity))) _ tt
-    (gives_fine (and_drive w d (made_drive d key capacity)) [] (server_input.Adds (known_drive d key capacity)))
+drive_fine : (w : World) (d : ℕ) (key : List ℕ) (capacity : ℕ) (stored : Bool)
+    → AreFine (adds_drive w d key capacity stored).told
+drive_fine w d key capacity stored =
+    either_fine (knows_drive w.server d) (changed (and_drive w d (made_drive d key capacity stored))) _ tt
+    (gives_fine (and_drive w d (made_drive d key capacity stored)) [] (server_input.Adds (known_drive d key capacity)))
 
 either_hand : (b : Bool) (x y : Handed) → AreFine x.told → AreFine y.told → AreFine (if b then x else y).told
 either_hand true x y p q = p
@@ -132,10 +133,15 @@ server_hand w chosen from None = tt
 server_hand w chosen from (Some m) =
     notes_fine (server_step w.server chosen (server_input.Hears w.clock from m)).notes
 
+server_heard : (w : World) (chosen : List ℕ) (m : Message) → AreFine (server_hears w chosen m).told
+server_heard w chosen m =
+    either_hand w.down (quiet w delivery.Deaf) (server_takes w chosen m.from (for_server m)) tt
+    (server_hand w chosen m.from (for_server m))
+
 drive_hand : (w : World) (d : ℕ) (m : Message) (o : Option DriveAt) → AreFine (drive_hears w d m o).told
 drive_hand w d m None = tt
 drive_hand w d m (Some a) =
-    either_hand a.failed (quiet w delivery.Deaf) (drive_replies w d m.from (judges a (command_in m.body))) tt tt
+    either_hand (is_deaf a) (quiet w delivery.Deaf) (drive_replies w d m.from (judges a (command_in m.body))) tt tt
 
 -- ---- clients, whose steps end calls fairly
 
@@ -207,7 +213,7 @@ module _ (w : World) (ends : (c : ℕ) (a : ClientAt) → at_number w.clients c 
 
     hand : (chosen : List ℕ) (to : Node) → p.message.to ≡ to
         → AreFine (handed_to (marked w n p) chosen p.message to).told
-    hand chosen node.Server e = server_hand (marked w n p) chosen p.message.from (for_server p.message)
+    hand chosen node.Server e = server_heard (marked w n p) chosen p.message
     hand chosen (node.Drive d) e = drive_hand (marked w n p) d p.message (at_number w.drives d)
     hand chosen (node.Client c) e = client_heard c (at_number w.clients c) refl e
 
@@ -224,7 +230,8 @@ module _ (w : World) (ends : (c : ℕ) (a : ClientAt) → at_number w.clients c 
 
   begins_fine : (chosen : List ℕ) (e : Event) → AreFine (begins w chosen e).told
   unfolding begins
-  begins_fine chosen (event.Drive d key capacity) = drive_fine w d key capacity
+  begins_fine chosen (event.Drive d key capacity) = drive_fine w d key capacity false
+  begins_fine chosen (event.Disk d key capacity) = drive_fine w d key capacity true
   begins_fine chosen (event.File f m tag) = makes_fine w chosen f (raw_of m) tag
   begins_fine chosen (event.Format format) = gives_fine w chosen (server_input.Formats format)
   begins_fine chosen (event.Do c x) = calls_fine c (op_of x)
@@ -242,6 +249,10 @@ module _ (w : World) (ends : (c : ℕ) (a : ClientAt) → at_number w.clients c 
   begins_fine chosen (event.Rebuild f) = gives_fine w chosen (server_input.Obeys server_rules.ToRebuild f)
   begins_fine chosen (event.Audit f) = gives_fine w chosen (server_input.Obeys server_rules.ToAudit f)
   begins_fine chosen (event.Declare d) = gives_fine w chosen (server_input.Obeys server_rules.ToDeclare d)
+  begins_fine chosen (event.Crash (machine.Drive d)) = tt
+  begins_fine chosen (event.Crash machine.Server) = gives_fine (with_down w true) chosen server_input.Crashes
+  begins_fine chosen (event.Reopen (machine.Drive d)) = tt
+  begins_fine chosen (event.Reopen machine.Server) = gives_fine (with_down w false) chosen server_input.Opens
   begins_fine chosen e = tt
 
   pub acts_fine : (chosen : List ℕ) (action : Action) → AreFine (acts w chosen action).told

@@ -33,7 +33,7 @@ use Rattle.scenario_text.specs.declared.line.Line.TheVariants as line
 use Rattle.world_history.specs.declared.messages.Sent.{Sent}
 use Rattle.world_history.specs.State.{DriveAt}
 use Rattle.world_history.specs.Told.{told_verdict}
-use Rattle.world_history.specs.Drives.{verdict_on, judges, made_drive}
+use Rattle.world_history.specs.Drives.{verdict_on, judges, made_drive, is_deaf}
 use Rattle.world_history.specs.Reading.{is_drive, sent_in}
 use Rattle.world_history.specs.ReadDrives.{DriveSeen, sees_drive, drive_seen, drive_after, drive_after_event, drive_after_line, hears_bytes, hears_sent}
 use Rattle.world_history.proofs.DriveLines.{drive_line, same_drive, unheard}
@@ -296,11 +296,16 @@ module _ (S : Source)
 
     event_left : (o : Option DriveAt) (e : Event) → DriveLanes S before d o
         → DriveLanes S (before ++ l ∷ []) d (drive_after_event d o e)
-    event_left o (event.Drive k key capacity) s = made_left (k == d) o (made_drive k key capacity) refl s
+    event_left o (event.Drive k key capacity) s = made_left (k == d) o (made_drive k key capacity false) refl s
+    event_left o (event.Disk k key capacity) s = made_left (k == d) o (made_drive k key capacity true) refl s
     event_left o (event.Least k format) s = where_left (k == d) _ o (λ a. refl) s
     event_left o (event.Clock (machine.Drive k) time) s = where_left (k == d) _ o (λ a. refl) s
     event_left o (event.Clock machine.Server time) s = same_drives before (l ∷ []) d o o refl s
     event_left o (event.Fail k) s = fallen_left (k == d) _ o (λ a. refl) s
+    event_left o (event.Crash (machine.Drive k)) s = where_left (k == d) _ o (λ a. refl) s
+    event_left o (event.Crash machine.Server) s = same_drives before (l ∷ []) d o o refl s
+    event_left o (event.Reopen (machine.Drive k)) s = where_left (k == d) _ o (λ a. refl) s
+    event_left o (event.Reopen machine.Server) s = same_drives before (l ∷ []) d o o refl s
     event_left o e s = same_drives before (l ∷ []) d o o refl s
 
   -- ---- a message that no drive judges
@@ -308,7 +313,7 @@ module _ (S : Source)
   deaf_line : (before : List Line) (n : ℕ) (l : Line) (m : Sent) → slice_get (sent_in before) n ≡ Some m
       → ((d : ℕ) → drive_after_line d (drive_seen d before) l
       ≡ hears_sent d (drive_after before d) (slice_get (drive_seen d before).sent n))
-      → ((d : ℕ) (a : DriveAt) → m.to ≡ party.Drive d → drive_after before d ≡ Some a → a.failed ≡ true)
+      → ((d : ℕ) (a : DriveAt) → m.to ≡ party.Drive d → drive_after before d ≡ Some a → is_deaf a ≡ true)
       → ((d : ℕ) → DriveLanes S before d (drive_after before d)) → (d : ℕ)
       → DriveLanes S (before ++ l ∷ []) d (drive_after (before ++ l ∷ []) d)
   unfolding sent_in

@@ -50,11 +50,11 @@ module _ (ss : List Sent) (fit : AnswersFit ss) where
       posts = tt;
     };
     stops = λ c a found. record { clients = put_client w.clients c a _ k found (k c a found); posts = tt };
-    judged = λ ms said d a found failed m number. record { clients = k; posts = (tt, tt) };
+    judged = λ ms said d a found hears m number. record { clients = k; posts = (tt, tt) };
     injected = λ d bytes is a found. record { clients = k; posts = tt };
     turns = λ d a b found turns. record { clients = k; posts = tt };
-    known = λ d key capacity is knows. record { clients = k; posts = tt };
-    adds = λ d key capacity is knows. record { clients = k; posts = tt };
+    known = λ d key capacity stored is knows. record { clients = k; posts = tt };
+    adds = λ d key capacity stored is knows. record { clients = k; posts = tt };
   }
 
   pub acts_fit : (w : World) → ClientsFit w.clients → view w ≡ ss → (chosen : List ℕ) (action : Action)

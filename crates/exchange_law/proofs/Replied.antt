@@ -19,7 +19,7 @@ use Rattle.world_history.specs.declared.messages.Body.TheVariants.{Reply as OfRe
 use Rattle.world_history.specs.declared.messages.Message.{Message}
 use Rattle.world_history.specs.declared.messages.Posted.{Posted}
 use Rattle.world_history.specs.State.{DriveAt, World, at_number, empty_world}
-use Rattle.world_history.specs.Drives.{judges, command_in}
+use Rattle.world_history.specs.Drives.{judges, command_in, is_deaf}
 use Rattle.world_history.specs.Handed.{Post, is_addressed, is_write_out, server_post, client_posts}
 use Rattle.world_history.specs.Moves.{Act, Action, acts}
 use Rattle.world_history.specs.Sending.{Move, move, sent_lines}
@@ -66,7 +66,7 @@ pub record IsReplied (h : List Line) (client drive : ℕ) (r : Reply) : Type 0 w
   pub receiver : message.message.to ≡ node.Drive drive
   pub device : DriveAt
   pub stands : at_number world.drives drive ≡ Some device
-  pub lives : device.failed ≡ false
+  pub hears : is_deaf device ≡ false
   pub reply : r ≡ (judges device (command_in message.message.body)).reply
   pub before : List Line
   pub behind : IsBehind before lines number
@@ -86,7 +86,7 @@ replied_on h more c d r k = record {
   receiver = k.receiver;
   device = k.device;
   stands = k.stands;
-  lives = k.lives;
+  hears = k.hears;
   reply = k.reply;
   before = k.before;
   behind = k.behind;
@@ -187,7 +187,7 @@ module _ (w : World) (h : List Line) (m : Move) (k : IsMoment w h) where
         receiver = d.receiver;
         device = d.device;
         stands = d.stands;
-        lives = d.lives;
+        hears = d.hears;
         reply = refl;
         before = here.0;
         behind = here.1;

@@ -130,11 +130,11 @@ module _ (w : World) (has : (c : ℕ) (a : ClientAt) → at_number w.clients c �
         fronts_fine action _ _ (ended_fine c (op_in a.state i) (step a.state i).outcome);
     comes = λ c is. tt;
     stops = λ c a found. tt;
-    judged = λ ms said d a found failed m number. (tt, tt);
+    judged = λ ms said d a found hears m number. (tt, tt);
     injected = λ d bytes is a found. (tt, tt);
     turns = λ d a b found turns. tt;
-    known = λ d key capacity is knows. tt;
-    adds = λ d key capacity is knows. tt;
+    known = λ d key capacity stored is knows. tt;
+    adds = λ d key capacity stored is knows. tt;
   }
 
   acts_fine : (chosen : List ℕ) (action : Action) → AreFine (acts w chosen action).told

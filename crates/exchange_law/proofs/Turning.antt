@@ -26,7 +26,7 @@ use Rattle.world_history.specs.declared.messages.Posted.{Posted}
 use Rattle.world_history.specs.State.{DriveAt, ClientAt, World, at_number}
 use Rattle.world_history.specs.Spelled.{spelled}
 use Rattle.world_history.specs.Names.{where_known, note_line, is_tellable_note, known_note_line}
-use Rattle.world_history.specs.Drives.{judges, command_in}
+use Rattle.world_history.specs.Drives.{judges, command_in, is_deaf}
 use Rattle.world_history.specs.Handed.{Post, is_addressed, plain, server_post, client_posts, ended_by, op_in}
 use Rattle.world_history.specs.Moves.{Act, Action, Opens, Delivers}
 use Rattle.world_history.specs.Sending.{fresh}
@@ -151,7 +151,7 @@ pub record ClientDoes (w : World) (a : Act) : Type 0 where
   pub logged : ℕ
   pub posts : a.posts ≡ filter is_addressed (client_posts client wrote logged (client_step caller.state input).sends)
 
--- a drive that stands judges what comes to it, and replies
+-- a drive that hears judges what comes to it, and replies
 pub record DriveDoes (w : World) (action : Action) (a : Act) : Type 0 where
   pub number : ℕ
   pub delivers : (action ≡ Delivers number) ⊎ (action ≡ Opens (event.Deliver number))
@@ -161,7 +161,7 @@ pub record DriveDoes (w : World) (action : Action) (a : Act) : Type 0 where
   pub receiver : message.message.to ≡ node.Drive drive
   pub device : DriveAt
   pub stands : at_number w.drives drive ≡ Some device
-  pub lives : device.failed ≡ false
+  pub hears : is_deaf device ≡ false
   pub server : a.world.server ≡ w.server
   pub clients : AreSame w a.world
   pub told : a.told

@@ -30,10 +30,10 @@ use Rattle.world_history.specs.ServerNames as server_rules
 use Rattle.world_history.specs.ClientNames as client_rules
 use Rattle.world_history.specs.declared.messages.Message.{Message}
 use Rattle.world_history.specs.declared.messages.Posted.{Posted}
-use Rattle.world_history.specs.State.{DriveAt, ClientAt, World, at_number, with_number, and_number}
+use Rattle.world_history.specs.State.{DriveAt, ClientAt, World, at_number, with_number, and_number, with_down}
 use Rattle.world_history.specs.Spelled.{spelled}
 use Rattle.world_history.specs.Names.{known_note_line}
-use Rattle.world_history.specs.Drives.{judges, command_in}
+use Rattle.world_history.specs.Drives.{judges, command_in, is_deaf}
 use Rattle.world_history.specs.Handed.{is_addressed, quiet, drive_hears, drive_replies, server_post, server_takes, client_goes, client_hears, client_takes, for_client, for_server, handed_to, op_in, wrote_in, data_in, pending_op, is_write_out}
 use Rattle.world_history.specs.Moves.{Act, Action, Opens, Delivers, TimesOut, Pends, marked, told_delivered, delivers_found, delivers, drops_found, by_client, called, calls_at, times_out, leaves, resends, pends_as, pends, made_file, makes, gives, has_algorithm, by_drive, stops, injects_at, injects, adds_drive, adds_client, changed, known_drive, knows_drive, op_of, raw_of, begins, acts}
 use Rattle.world_history.specs.Sending.{Move, move}
@@ -209,9 +209,10 @@ module _ (w : World) (action : Action) where
       behind [] q = notes_told (server_step w.server chosen i).notes
       behind (l ∷ ls) q = (q.0, behind ls q.1)
 
-  gives_turn : (chosen : List ℕ) (i : server_input.Input) → ComesToServer w i → IsOne (gives w chosen i)
+  gives_turn : (down : Bool) (chosen : List ℕ) (i : server_input.Input) → ComesToServer w i
+      → IsOne (gives (with_down w down) chosen i)
   unfolding gives
-  gives_turn chosen i comes = server_went w [] chosen i _ refl refl refl comes tt refl refl
+  gives_turn down chosen i comes = server_went w [] chosen i _ refl refl refl comes tt refl refl
 
   made_turn : (chosen : List ℕ) (f : ℕ) (m : RawMap) (tag : ℕ) (r : Result ServerStep Refusal)
       → create_file w.server f m tag chosen ≡ r → IsOne (made_file w f r)
@@ -244,9 +245,9 @@ module _ (w : World) (action : Action) where
   unfolding injects
   injects_turn d bytes = injected_turn d bytes (at_number w.drives d)
 
-  drive_turn : (d : ℕ) (key : List ℕ) (capacity : ℕ) → IsOne (adds_drive w d key capacity)
+  drive_turn : (d : ℕ) (key : List ℕ) (capacity : ℕ) (stored : Bool) → IsOne (adds_drive w d key capacity stored)
   unfolding gives
-  drive_turn d key capacity =
+  drive_turn d key capacity stored =
       either_act (knows_drive w.server d) _ _ (rests _ refl refl refl tt refl)
       (server_went w [] [] (server_input.Adds (known_drive d key capacity)) _ refl refl refl tt tt refl refl)
 
@@ -279,6 +280,12 @@ module _ (w : World) (action : Action) where
         same_messages refl refl
         (spelled p.message.body, was_posted p.message.from node.Server refl to, read) (tt, tt) refl refl
 
+    server_turn : (chosen : List ℕ) → p.message.to ≡ node.Server → (down : Bool)
+        → IsOne (told_delivered n (if down then quiet (marked w n p) delivery.Deaf
+        else server_takes (marked w n p) chosen p.message.from (for_server p.message)))
+    server_turn chosen to true = deaf delivery.Deaf
+    server_turn chosen to false = to_server chosen (for_server p.message) to refl
+
     to_client : (c : ℕ) (a : ClientAt) (m : Option ClientMessage) → p.message.to ≡ node.Client c
         → at_number w.clients c ≡ Some a → a.stopped ≡ false
         → client_bytes.message_in p.message.from (spelled p.message.body) ≡ m
@@ -302,12 +309,12 @@ module _ (w : World) (action : Action) where
     device_turn : (d : ℕ) (o : Option DriveAt) → p.message.to ≡ node.Drive d → at_number w.drives d ≡ o
         → IsOne (told_delivered n (drive_hears (marked w n p) d p.message o))
     device_turn d None to there = deaf delivery.Deaf
-    device_turn d (Some a) to there = either a.failed refl
+    device_turn d (Some a) to there = either (is_deaf a) refl
       where
-        either : (b : Bool) → a.failed ≡ b → IsOne (told_delivered n (if b then quiet (marked w n p) delivery.Deaf
+        either : (b : Bool) → is_deaf a ≡ b → IsOne (told_delivered n (if b then quiet (marked w n p) delivery.Deaf
             else drive_replies (marked w n p) d p.message.from (judges a (command_in p.message.body))))
-        either true failed = deaf delivery.Deaf
-        either false lives = record {
+        either true is = deaf delivery.Deaf
+        either false hears = record {
           messages = same_messages;
           turn = ByDrive (record {
             number = n;
@@ -318,7 +325,7 @@ module _ (w : World) (action : Action) where
             receiver = to;
             device = a;
             stands = there;
-            lives = lives;
+            hears = hears;
             server = refl;
             clients = λ c. refl;
             told = refl;
@@ -328,7 +335,7 @@ module _ (w : World) (action : Action) where
 
     handed_turn : (chosen : List ℕ) (to : Node) → p.message.to ≡ to
         → IsOne (told_delivered n (handed_to (marked w n p) chosen p.message to))
-    handed_turn chosen node.Server to = to_server chosen (for_server p.message) to refl
+    handed_turn chosen node.Server to = server_turn chosen to w.down
     handed_turn chosen (node.Drive d) to = device_turn d (at_number w.drives d) to refl
     handed_turn chosen (node.Client c) to = client_turn c (at_number w.clients c) to refl
 
@@ -351,7 +358,8 @@ module _ (w : World) (action : Action) where
 
 begins_turn : (w : World) (chosen : List ℕ) (e : Event) → IsTurn w (Opens e) (begins w chosen e)
 unfolding begins
-begins_turn w chosen (event.Drive d key capacity) = drive_turn w _ d key capacity
+begins_turn w chosen (event.Drive d key capacity) = drive_turn w _ d key capacity false
+begins_turn w chosen (event.Disk d key capacity) = drive_turn w _ d key capacity true
 begins_turn w chosen (event.Client c) = record {
   messages = refl;
   turn = Makes (record {
@@ -367,26 +375,30 @@ begins_turn w chosen (event.Client c) = record {
 }
 begins_turn w chosen (event.File f m tag) = makes_turn w _ chosen f (raw_of m) tag
 begins_turn w chosen (event.Least d format) = turned_turn w _ d _ (at_number w.drives d)
-begins_turn w chosen (event.Format format) = gives_turn w _ chosen (server_input.Formats format) tt
+begins_turn w chosen (event.Format format) = gives_turn w _ w.down chosen (server_input.Formats format) tt
 begins_turn w chosen (event.Do c x) = calls_turn w _ c (op_of x)
 begins_turn w chosen (event.Call c x) = calls_turn w _ c (op_of x)
 begins_turn w chosen (event.Deliver n) = delivers_turn w _ chosen n (inr refl)
 begins_turn w chosen (event.DropMessage n) = dropped_turn w _ n (slice_get w.network.messages n) refl
 begins_turn w chosen event.Settle = rests w _ (changed w) refl refl refl tt refl
 begins_turn w chosen (event.Resend (sender.Client c)) = resends_turn w _ c
-begins_turn w chosen (event.Resend sender.Server) = gives_turn w _ chosen server_input.Resends tt
+begins_turn w chosen (event.Resend sender.Server) = gives_turn w _ w.down chosen server_input.Resends tt
 begins_turn w chosen (event.Timeout c n) = timeout_turn w _ c n
 begins_turn w chosen (event.Leave c) = leaves_turn w _ c
 begins_turn w chosen (event.Inject d bytes) = injects_turn w _ d bytes
 begins_turn w chosen (event.Clock (machine.Drive d) time) = turned_turn w _ d _ (at_number w.drives d)
 begins_turn w chosen (event.Clock machine.Server time) = rests w _ _ refl refl refl tt refl
-begins_turn w chosen (event.Recall f) = gives_turn w _ chosen (server_input.Obeys server_rules.ToRecall f) tt
-begins_turn w chosen (event.Revoke f) = gives_turn w _ chosen (server_input.Obeys server_rules.ToRevoke f) tt
-begins_turn w chosen (event.Rebuild f) = gives_turn w _ chosen (server_input.Obeys server_rules.ToRebuild f) tt
-begins_turn w chosen (event.Audit f) = gives_turn w _ chosen (server_input.Obeys server_rules.ToAudit f) tt
-begins_turn w chosen (event.Declare d) = gives_turn w _ chosen (server_input.Obeys server_rules.ToDeclare d) tt
+begins_turn w chosen (event.Recall f) = gives_turn w _ w.down chosen (server_input.Obeys server_rules.ToRecall f) tt
+begins_turn w chosen (event.Revoke f) = gives_turn w _ w.down chosen (server_input.Obeys server_rules.ToRevoke f) tt
+begins_turn w chosen (event.Rebuild f) = gives_turn w _ w.down chosen (server_input.Obeys server_rules.ToRebuild f) tt
+begins_turn w chosen (event.Audit f) = gives_turn w _ w.down chosen (server_input.Obeys server_rules.ToAudit f) tt
+begins_turn w chosen (event.Declare d) = gives_turn w _ w.down chosen (server_input.Obeys server_rules.ToDeclare d) tt
 begins_turn w chosen (event.Stop c) = stops_turn w _ c (at_number w.clients c) refl
 begins_turn w chosen (event.Fail d) = turned_turn w _ d _ (at_number w.drives d)
+begins_turn w chosen (event.Crash (machine.Drive d)) = turned_turn w _ d _ (at_number w.drives d)
+begins_turn w chosen (event.Crash machine.Server) = gives_turn w _ true chosen server_input.Crashes tt
+begins_turn w chosen (event.Reopen (machine.Drive d)) = turned_turn w _ d _ (at_number w.drives d)
+begins_turn w chosen (event.Reopen machine.Server) = gives_turn w _ false chosen server_input.Opens tt
 begins_turn w chosen e = rests w _ (changed w) refl refl refl tt refl
 
 pub acts_turn : (w : World) (chosen : List ℕ) (action : Action) → IsTurn w action (acts w chosen action)

@@ -11,7 +11,7 @@ use Rattle.scenario_text.specs.declared.line.Outcome.TheVariants.{Failed}
 use Rattle.scenario_text.specs.declared.line.Line.{Line}
 use Rattle.scenario_text.specs.declared.line.Line.TheVariants as line
 use Rattle.world_history.specs.State.{DriveAt, ClientAt, World, at_number}
-use Rattle.world_history.specs.Drives.{verdict_on}
+use Rattle.world_history.specs.Drives.{verdict_on, is_deaf}
 use Rattle.world_history.specs.Reading.{sent_in}
 use Rattle.world_history.specs.History.{Lawful}
 use Rattle.history_law.specs.Safe.{AtEachLine}
@@ -39,7 +39,7 @@ pub record WasAwaited (h : List Line) (client drive : ℕ) (v : Verdict) : Type 
   pub bytes_are : judged.message.bytes ≡ spelling command.command
   pub device : DriveAt
   pub stands : at_number world.drives drive ≡ Some device
-  pub lives : device.failed ≡ false
+  pub hears : is_deaf device ≡ false
   pub verdict : judged.found ≡ verdict_on device.state device.clock (reading judged.message.bytes)
 
 -- fewer messages were sent than half of the nonces that a grant has, and of the numbers that requests have

@@ -19,7 +19,7 @@ use Rattle.world_history.specs.declared.messages.Message.{Message}
 use Rattle.world_history.specs.declared.messages.Posted.{Posted}
 use Rattle.world_history.specs.State.{World, DriveAt, at_number}
 use Rattle.world_history.specs.Spelled.{spelled}
-use Rattle.world_history.specs.Drives.{command_in, verdict_on}
+use Rattle.world_history.specs.Drives.{command_in, verdict_on, is_deaf}
 use Rattle.world_history.specs.Stripes.{component_at}
 use Rattle.world_history.specs.Moves as moves
 use Rattle.fence_law.specs.State as machine
@@ -91,11 +91,11 @@ judged s w e f d a from (Err cause) = []
 judged s w e f d a from (Ok x) = where_so (is_performed (verdict_on a.state a.clock (Ok x)))
     (performed_on s w e f x from (component_at d x.object f.kept.components 0))
 
--- a drive that has failed is deaf
+-- one that has failed or is down is deaf
 abbrev pub heard : machine.State → World → (e : ℕ → ℕ) → File → (drive : ℕ) → Message → Option DriveAt
     → List machine.Event
 heard s w e f d m None = []
-heard s w e f d m (Some a) = where_so (not a.failed) (judged s w e f d a m.from (command_in m.body))
+heard s w e f d m (Some a) = where_so (not (is_deaf a)) (judged s w e f d a m.from (command_in m.body))
 
 -- ---- a move
 

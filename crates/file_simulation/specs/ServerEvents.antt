@@ -10,7 +10,7 @@ use Rattle.server_rules.specs.Files.{Step, file_at}
 use Rattle.server_rules.specs.Grants.{grant_of}
 use Rattle.server_rules.specs.Slots.{Admit, New, slot_of, admit}
 use Rattle.server_rules.specs.Messages.{Message, Asks as AsksServer}
-use Rattle.server_rules.specs.History.{Input, Hears, Obeys}
+use Rattle.server_rules.specs.History.{Input, Hears, Obeys, Opens}
 use Rattle.server_rules.specs.Laws.{is_taken_of}
 use Rattle.client_rules.specs.Results.{status_of}
 use Rattle.client_rules.specs.Answers.{is_loss_taken}
@@ -99,7 +99,7 @@ heard s server did f g (node.Client c) (AsksServer q) =
     where_so (is_served server c q) (served s q (is_ok (answer_of did.sends)) f g)
 heard s server did f g from m = []
 
--- ---- the `=` line: an order
+-- ---- the `=` line: an order, or the opening of the server
 
 -- components on a drive are declared, from number k on
 unfoldable pub declared_from : (drive : ℕ) → List Component → (k : ℕ) → List machine.Event
@@ -114,10 +114,11 @@ ordered f g ToRevoke n = where_so (n == f.kept.number) (fences f g)
 ordered f g ToRebuild n = where_so (n == f.kept.number) (fences f g)
 ordered f g ToAudit n = where_so (n == f.kept.number) (fences f g)
 
--- the first line of a step
+-- the first line of a step; where the server is opened again, it may begin a fence
 abbrev pub at_first : machine.State → Server → Step → (before after : File) → Input → List machine.Event
 at_first s server did f g (Hears now from m) = heard s server did f g from m
 at_first s server did f g (Obeys kind n) = ordered f g kind n
+at_first s server did f g Opens = fences f g
 at_first s server did f g i = []
 
 -- ---- an `f` line: a component is rebuilt

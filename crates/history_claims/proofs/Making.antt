@@ -1,5 +1,5 @@
 -- In a lawful history no drive is made twice.
-use Rattle.std.proofs.Common.{◌≡◌, ℕ, ◌++◌, ◌∷◌, [], List, Bool, true, false, is_some, map, refl, sym, ap, subst, ◌∙◌, inl, inr}
+use Rattle.std.proofs.Common.{◌≡◌, ℕ, ◌++◌, ◌∷◌, [], List, Bool, true, false, None, is_some, map, refl, sym, ap, subst, ◌∙◌, inl, inr}
 use Rattle.std.proofs.lemmas.Bool.{cases_Bool, cases_eq, eq-eqb, ne_eqb}
 use Rattle.scenario_text.specs.declared.event.Event.TheVariants as event
 use Rattle.scenario_text.specs.declared.line.Line.{Line}
@@ -17,11 +17,13 @@ use Rattle.calm_law.specs.Naming.{IsNamed, AreNamed}
 -- the drive that a line makes is none of these
 abbrev pub IsNew : List ℕ → Line → Type 0
 IsNew ds (line.Event (event.Drive d key capacity)) = among d ds ≡ false
+IsNew ds (line.Event (event.Disk d key capacity)) = among d ds ≡ false
 IsNew ds l = Unit {0}
 
 -- these drives, and the one that a line makes
 abbrev pub made_by : List ℕ → Line → List ℕ
 made_by ds (line.Event (event.Drive d key capacity)) = d ∷ ds
+made_by ds (line.Event (event.Disk d key capacity)) = d ∷ ds
 made_by ds l = ds
 
 -- lines can name what these make, and make no drive twice
@@ -37,11 +39,17 @@ pub none_there : AreThere [] []
 unfolding among
 none_there d e = absurd (cc e)
 
-is_new : (before : List Line) (ds : List ℕ) (l : Line) → ArisesAt before l → AreThere before ds → IsNew ds l
-is_new before ds (line.Event (event.Drive k key capacity)) none there = elim (cases_Bool (among k ds)) [
+-- one that isn't there is none of them
+no_one : (before : List Line) (ds : List ℕ) (k : ℕ) → drive_after before k ≡ None → AreThere before ds
+    → among k ds ≡ false
+no_one before ds k none there = elim (cases_Bool (among k ds)) [
   | inl t ↦ absurd (cc (sym (there k t) ∙ ap is_some none))
   | inr f ↦ f
 ]
+
+is_new : (before : List Line) (ds : List ℕ) (l : Line) → ArisesAt before l → AreThere before ds → IsNew ds l
+is_new before ds (line.Event (event.Drive k key capacity)) none there = no_one before ds k none there
+is_new before ds (line.Event (event.Disk k key capacity)) none there = no_one before ds k none there
 is_new before ds l none there = tt
 
 stays : (h : List Line) (l : Line) (d : ℕ) → is_some (drive_after h d) ≡ true
@@ -60,6 +68,12 @@ there_behind h ds (line.Event (event.Drive k key capacity)) there d e = elim (ca
       (reads_on h (line.Event (event.Drive k key capacity) ∷ []) d (drive_seen d h) refl)
       ∙ rw (eq-eqb k d (sym it)) refl
   | inr o ↦ stays h (line.Event (event.Drive k key capacity)) d (there d (later d k ds o e))
+]
+there_behind h ds (line.Event (event.Disk k key capacity)) there d e = elim (cases_eq d k) [
+  | inl it ↦ ap (λ (s : DriveSeen). is_some s.drive)
+      (reads_on h (line.Event (event.Disk k key capacity) ∷ []) d (drive_seen d h) refl)
+      ∙ rw (eq-eqb k d (sym it)) refl
+  | inr o ↦ stays h (line.Event (event.Disk k key capacity)) d (there d (later d k ds o e))
 ]
 there_behind h ds l there d e = stays h l d (there d e)
 

@@ -3,6 +3,8 @@ use Rattle.std.proofs.Common.{◌≡◌, ℕ, ◌==◌, ◌++◌, ◌∷◌, [],
 use Rattle.std.proofs.lemmas.Bool.{cases_Bool}
 use Rattle.scenario_text.specs.declared.event.Event.{Event}
 use Rattle.scenario_text.specs.declared.event.Event.TheVariants as event
+use Rattle.scenario_text.specs.declared.event.Machine.TheVariants as machine
+use Rattle.scenario_text.specs.declared.line.Delivery.TheVariants as delivery
 use Rattle.scenario_text.specs.declared.line.Party.{Party}
 use Rattle.scenario_text.specs.declared.line.Party.TheVariants as party
 use Rattle.scenario_text.specs.declared.line.Line.{Line}
@@ -11,7 +13,7 @@ use Rattle.server_rules.specs.Numbers.{among}
 use Rattle.server_rules.specs.Files.{file_at}
 use Rattle.server_rules.specs.Messages.{Message}
 use Rattle.server_rules.specs.Envelopes.{message_in}
-use Rattle.server_rules.specs.History.{Input, Hears, Makes, Obeys, Adds, Formats, step}
+use Rattle.server_rules.specs.History.{Input, Hears, Makes, Obeys, Adds, Formats, Crashes, Opens, step}
 use Rattle.world_history.specs.ServerNames.{Server, File, RawMap, ToRecall, ToRevoke, ToDeclare, ToRebuild, ToAudit}
 use Rattle.world_history.specs.declared.messages.Sent.{Sent}
 use Rattle.world_history.specs.Spelled.{node_of}
@@ -62,6 +64,9 @@ given_by : (ds : List ℕ) (v : Event) (i : Input) → input_of v ≡ Some i →
 given_by ds (event.Drive d key capacity) i e new =
     let s : Adds (known_drive d key capacity) ≡ i = cc e in
     subst (IsGiven ds (line.Event (event.Drive d key capacity))) s (refl, new)
+given_by ds (event.Disk d key capacity) i e new =
+    let s : Adds (known_drive d key capacity) ≡ i = cc e in
+    subst (IsGiven ds (line.Event (event.Disk d key capacity))) s (refl, new)
 given_by ds (event.File f m tag) i e new = made_as ds (line.Event (event.File f m tag)) f (raw_of m) tag i e
 given_by ds (event.Format format) i e new =
     let s : Formats format ≡ i = cc e in subst (IsGiven ds (line.Event (event.Format format))) s tt
@@ -75,10 +80,17 @@ given_by ds (event.Audit f) i e new =
     let s : Obeys ToAudit f ≡ i = cc e in subst (IsGiven ds (line.Event (event.Audit f))) s tt
 given_by ds (event.Declare d) i e new =
     let s : Obeys ToDeclare d ≡ i = cc e in subst (IsGiven ds (line.Event (event.Declare d))) s tt
+given_by ds (event.Crash (machine.Drive d)) i e new = absurd (cc e)
+given_by ds (event.Crash machine.Server) i e new =
+    let s : Crashes ≡ i = cc e in subst (IsGiven ds (line.Event (event.Crash machine.Server))) s tt
+given_by ds (event.Reopen (machine.Drive d)) i e new = absurd (cc e)
+given_by ds (event.Reopen machine.Server) i e new =
+    let s : Opens ≡ i = cc e in subst (IsGiven ds (line.Event (event.Reopen machine.Server))) s tt
 given_by ds v i e new = absurd (cc e)
 
 given : (s : ServerSeen) (ds : List ℕ) (l : Line) (i : Input) → input_at s l ≡ Some i → IsNew ds l → IsGiven ds l i
 given s ds (line.Event v) i e new = given_by ds v i e new
+given s ds (line.Delivered number delivery.Deaf) i e new = absurd (cc e)
 given s ds (line.Delivered number d) i e new =
     heard_as ds (line.Delivered number d) s.clock (slice_get s.sent number) i e
 given s ds l i e new = absurd (cc e)
@@ -99,6 +111,7 @@ is_fresh s ds l i g k = tt
 
 not_made : (ds : List ℕ) (l : Line) (n : ℕ) → among n (made_by ds l) ≡ false → among n ds ≡ false
 not_made ds (line.Event (event.Drive d key capacity)) n e = (not_first n d ds e).1
+not_made ds (line.Event (event.Disk d key capacity)) n e = (not_first n d ds e).1
 not_made ds l n e = e
 
 knows_then : (s : Server) (placed ds : List ℕ) (l : Line) (i : Input) → IsGiven ds l i → KnowsNone ds s

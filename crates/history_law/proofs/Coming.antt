@@ -29,7 +29,7 @@ use Rattle.scenario_text.specs.declared.line.Line.{Line}
 use Rattle.scenario_text.specs.declared.line.Line.TheVariants as line
 use Rattle.world_history.specs.declared.messages.Sent.{Sent}
 use Rattle.world_history.specs.State.{DriveAt, at_number, and_number}
-use Rattle.world_history.specs.Drives.{judges, first_key, made_drive}
+use Rattle.world_history.specs.Drives.{judges, first_key, made_drive, is_deaf}
 use Rattle.world_history.specs.Reading.{is_drive, arrived, left_out, changed_by, changed_at, sent_after_event, sent_after, sent_in}
 use Rattle.world_history.specs.ReadDrives.{DriveSeen, sees_drive, drive_seen, drive_after, drive_after_event, drive_after_line, hears_bytes, hears_sent}
 use Rattle.world_history.specs.Guesses.{Guarded, opens_with, opened_by, was_sent, is_guess_of, is_guess, guessed_at, keys_after, guards, guarded, unguessed}
@@ -186,21 +186,34 @@ where_keys false f o each = refl
 sent_keys : (d : ℕ) (o : Option DriveAt) (m : Option Sent) → keys_of o ≡ keys_of (hears_sent d o m)
 sent_keys d o None = refl
 sent_keys d o (Some m) =
-    where_keys (is_drive d m.to) (hears_bytes m.bytes) o (λ a. heard_keys m.bytes a a.failed)
+    where_keys (is_drive d m.to) (hears_bytes m.bytes) o (λ a. heard_keys m.bytes a (is_deaf a))
+
+-- a drive is made with this key
+made_keys : (d : ℕ) (keys : List (ℕ × List DriveKey)) (o : Option DriveAt) (k : ℕ) (key : List ℕ) (a : DriveAt)
+    → a.state.keys ≡ first_key key ∷ [] → at_number keys d ≡ keys_of o
+    → at_number (and_number keys k (first_key key ∷ [])) d ≡ keys_of (if k == d then Some a else o)
+made_keys d keys o k key a first same = elim (cases_eq k d) [
+  | inl it ↦ ap (λ (x : ℕ). at_number (and_number keys k (first_key key ∷ [])) x) (sym it)
+      ∙ lookup_inserted keys k (first_key key ∷ []) ∙ ap (λ (x : List DriveKey). Some x) (sym first)
+      ∙ ap (λ (b : Bool). keys_of (if b then Some a else o)) (sym (eq-eqb k d it))
+  | inr other ↦ lookup_beside keys k d (first_key key ∷ []) (λ (x : d ≡ k). other (sym x)) ∙ same
+      ∙ ap (λ (b : Bool). keys_of (if b then Some a else o)) (sym (ne_eqb k d other))
+]
 
 event_keys : (d : ℕ) (keys : List (ℕ × List DriveKey)) (o : Option DriveAt) (e : Event) → at_number keys d ≡ keys_of o
     → at_number (keys_after keys (line.Event e)) d ≡ keys_of (drive_after_event d o e)
-event_keys d keys o (event.Drive k key capacity) same = elim (cases_eq k d) [
-  | inl it ↦ ap (λ (x : ℕ). at_number (and_number keys k (first_key key ∷ [])) x) (sym it)
-      ∙ lookup_inserted keys k (first_key key ∷ [])
-      ∙ ap (λ (b : Bool). keys_of (if b then Some (made_drive k key capacity) else o)) (sym (eq-eqb k d it))
-  | inr other ↦ lookup_beside keys k d (first_key key ∷ []) (λ (x : d ≡ k). other (sym x)) ∙ same
-      ∙ ap (λ (b : Bool). keys_of (if b then Some (made_drive k key capacity) else o)) (sym (ne_eqb k d other))
-]
+event_keys d keys o (event.Drive k key capacity) same =
+    made_keys d keys o k key (made_drive k key capacity false) refl same
+event_keys d keys o (event.Disk k key capacity) same =
+    made_keys d keys o k key (made_drive k key capacity true) refl same
 event_keys d keys o (event.Least k format) same = same ∙ where_keys (k == d) _ o (λ a. refl)
 event_keys d keys o (event.Clock (machine.Drive k) time) same = same ∙ where_keys (k == d) _ o (λ a. refl)
 event_keys d keys o (event.Clock machine.Server time) same = same
 event_keys d keys o (event.Fail k) same = same ∙ where_keys (k == d) _ o (λ a. refl)
+event_keys d keys o (event.Crash (machine.Drive k)) same = same ∙ where_keys (k == d) _ o (λ a. refl)
+event_keys d keys o (event.Crash machine.Server) same = same
+event_keys d keys o (event.Reopen (machine.Drive k)) same = same ∙ where_keys (k == d) _ o (λ a. refl)
+event_keys d keys o (event.Reopen machine.Server) same = same
 event_keys d keys o e same = same
 
 line_keys : (d : ℕ) (keys : List (ℕ × List DriveKey)) (s : DriveSeen) (l : Line) → at_number keys d ≡ keys_of s.drive
@@ -208,7 +221,7 @@ line_keys : (d : ℕ) (keys : List (ℕ × List DriveKey)) (s : DriveSeen) (l : 
 line_keys d keys s (line.Event e) same = event_keys d keys s.drive e same
 line_keys d keys s (line.Delivered number del) same = same ∙ sent_keys d s.drive (slice_get s.sent number)
 line_keys d keys s (line.Judged k v) same =
-    same ∙ where_keys (k == d) (hears_bytes s.injected) s.drive (λ a. heard_keys s.injected a a.failed)
+    same ∙ where_keys (k == d) (hears_bytes s.injected) s.drive (λ a. heard_keys s.injected a (is_deaf a))
 line_keys d keys s l same = same
 
 fold_keys : (d : ℕ) (g : Guarded) (s : DriveSeen) (h : List Line) → at_number g.keys d ≡ keys_of s.drive

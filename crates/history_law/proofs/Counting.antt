@@ -34,11 +34,11 @@ cases w chosen action = record {
   goes = λ ms said c a found i is. same w _ refl (said_length ms w.network.messages said) refl;
   comes = λ c is. same w _ refl refl refl;
   stops = λ c a found. same w _ refl refl refl;
-  judged = λ ms said d a found failed m number. same w _ refl (said_length ms w.network.messages said) refl;
+  judged = λ ms said d a found deaf m number. same w _ refl (said_length ms w.network.messages said) refl;
   injected = λ d bytes is a found. same w _ refl refl refl;
   turns = λ d a b found turns. same w _ refl refl refl;
-  known = λ d key capacity is knows. same w _ refl refl refl;
-  adds = λ d key capacity is knows. same w _ refl refl refl;
+  known = λ d key capacity stored is knows. same w _ refl refl refl;
+  adds = λ d key capacity stored is knows. same w _ refl refl refl;
 }
 
 pub acts_count : (w : World) (chosen : List ℕ) (action : Action) → Counts w (acts w chosen action)

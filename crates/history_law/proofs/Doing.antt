@@ -23,10 +23,10 @@ use Rattle.world_history.specs.ServerNames.{Server, Outgoing, Refusal}
 use Rattle.world_history.specs.ClientNames as client_rules
 use Rattle.world_history.specs.declared.messages.Message.{Message}
 use Rattle.world_history.specs.declared.messages.Posted.{Posted}
-use Rattle.world_history.specs.State.{DriveAt, ClientAt, World, at_number, and_drive}
-use Rattle.world_history.specs.Drives.{judges, command_in, made_drive}
+use Rattle.world_history.specs.State.{DriveAt, ClientAt, World, at_number, and_drive, with_down}
+use Rattle.world_history.specs.Drives.{judges, command_in, made_drive, is_deaf}
 use Rattle.world_history.specs.Names.{known_note_line}
-use Rattle.world_history.specs.Handed.{Post, Handed, is_addressed, server_post, quiet, drive_hears, drive_replies, server_takes, client_hears, client_takes, for_client, for_server, handed_to, pending_op}
+use Rattle.world_history.specs.Handed.{Post, Handed, is_addressed, server_post, quiet, drive_hears, drive_replies, server_hears, server_takes, client_hears, client_takes, for_client, for_server, handed_to, pending_op}
 use Rattle.world_history.specs.Moves.{Act, Action, Opens, Delivers, TimesOut, Pends, marked, delivers_found, delivers, drops_found, by_client, called, calls_at, times_out, leaves, resends, pends_as, pends, made_file, makes, gives, has_algorithm, by_drive, stops, injects_at, injects, adds_drive, changed, known_drive, knows_drive, op_of, raw_of, begins, acts}
 use Rattle.world_history.specs.Book.{step_by, server_behind, clock_after}
 use Rattle.history_law.specs.Doing.{heard_of, brought_to, brought, given_by, input_in, ServerMoves}
@@ -111,11 +111,20 @@ server_hand w chosen from (Some m) =
     (record { world = h.world; told = h.told; posts = h.posts }) refl refl refl refl ([], refl) in
     record { server = r.server; clock = r.clock; posts = r.posts; told = r.told }
 
+server_heard : (w : World) (chosen : List ℕ) (m : Message)
+    → Hands w chosen (brought_to w m node.Server) (server_hears w chosen m)
+server_heard w chosen m = either w.down
+  where
+    either : (b : Bool) → Hands w chosen (if b then None else heard_of w.clock m.from (for_server m))
+        (if b then quiet w delivery.Deaf else server_takes w chosen m.from (for_server m))
+    either true = idle_hand w chosen (quiet w delivery.Deaf) refl refl
+    either false = server_hand w chosen m.from (for_server m)
+
 drive_hand : (w : World) (chosen : List ℕ) (d : ℕ) (m : Message) (o : Option DriveAt)
     → Hands w chosen None (drive_hears w d m o)
 drive_hand w chosen d m None = idle_hand w chosen (drive_hears w d m None) refl refl
 drive_hand w chosen d m (Some a) =
-    either_hand a.failed w chosen None (quiet w delivery.Deaf) (drive_replies w d m.from (judges a (command_in m.body)))
+    either_hand (is_deaf a) w chosen None (quiet w delivery.Deaf) (drive_replies w d m.from (judges a (command_in m.body)))
     (idle_hand w chosen (quiet w delivery.Deaf) refl refl)
     (idle_hand w chosen (drive_replies w d m.from (judges a (command_in m.body))) refl refl)
 
@@ -132,8 +141,8 @@ client_heard w chosen c m (Some a) =
     (idle_hand w chosen (quiet w delivery.Deaf) refl refl) (client_hand w chosen c a m.from (for_client m))
 
 hand_to : (w : World) (chosen : List ℕ) (m : Message) (to : Node)
-    → Hands w chosen (brought_to w.clock m to) (handed_to w chosen m to)
-hand_to w chosen m node.Server = server_hand w chosen m.from (for_server m)
+    → Hands w chosen (brought_to w m to) (handed_to w chosen m to)
+hand_to w chosen m node.Server = server_heard w chosen m
 hand_to w chosen m (node.Drive d) = drive_hand w chosen d m (at_number w.drives d)
 hand_to w chosen m (node.Client c) = client_heard w chosen c m (at_number w.clients c)
 
@@ -141,11 +150,21 @@ hand_to w chosen m (node.Client c) = client_heard w chosen c m (at_number w.clie
 in_front : (l : Line) (told : List Line) (ns : Notes) → EndsWithNotes told ns → EndsWithNotes (l ∷ told) ns
 in_front l told ns e = (l ∷ e.0, ap (λ (ls : List Line). l ∷ ls) e.1)
 
+brought_marked : (w : World) (n : ℕ) (p : Posted) (to : Node)
+    → brought_to (marked w n p) p.message to ≡ brought_to w p.message to
+brought_marked w n p node.Server = refl
+brought_marked w n p (node.Drive d) = refl
+brought_marked w n p (node.Client c) = refl
+
 found_serves : (w : World) (chosen : List ℕ) (n : ℕ) (o : Option Posted)
-    → Serving w w.clock chosen (brought w.clock o) (delivers_found w chosen n o)
+    → Serving w w.clock chosen (brought w o) (delivers_found w chosen n o)
 found_serves w chosen n None = idle w w.clock chosen (delivers_found w chosen n None) refl refl
 found_serves w chosen n (Some p) =
-    let h = hand_to (marked w n p) chosen p.message p.message.to in
+    let h : Hands (marked w n p) chosen (brought_to w p.message p.message.to)
+    (handed_to (marked w n p) chosen p.message p.message.to) =
+    subst (λ (i : Option Input).
+    Hands (marked w n p) chosen i (handed_to (marked w n p) chosen p.message p.message.to))
+    (brought_marked w n p p.message.to) (hand_to (marked w n p) chosen p.message p.message.to) in
     record {
       server = h.server;
       clock = h.clock;
@@ -154,7 +173,7 @@ found_serves w chosen n (Some p) =
     }
 
 pub delivers_serve : (w : World) (chosen : List ℕ) (n : ℕ)
-    → Serving w w.clock chosen (brought w.clock (slice_get w.network.messages n)) (delivers w chosen n)
+    → Serving w w.clock chosen (brought w (slice_get w.network.messages n)) (delivers w chosen n)
 unfolding delivers
 delivers_serve w chosen n = found_serves w chosen n (slice_get w.network.messages n)
 
@@ -222,6 +241,13 @@ gives_serve : (w : World) (chosen : List ℕ) (i : Input) → Serving w w.clock 
 unfolding gives
 gives_serve w chosen i = served w chosen i (step w.server chosen i) (gives w chosen i) refl refl refl refl ([], refl)
 
+-- it crashes or is opened again
+down_serves : (w : World) (down : Bool) (chosen : List ℕ) (i : Input)
+    → Serving w w.clock chosen (Some i) (gives (with_down w down) chosen i)
+unfolding gives
+down_serves w down chosen i =
+    served w chosen i (step w.server chosen i) (gives (with_down w down) chosen i) refl refl refl refl ([], refl)
+
 -- what is sent again is no step
 resent_serves : (w : World) (chosen : List ℕ) → Serving w w.clock chosen None (gives w chosen server_input.Resends)
 unfolding gives
@@ -260,14 +286,15 @@ injects_serve : (w : World) (chosen : List ℕ) (d : ℕ) (bytes : List ℕ)
 unfolding injects
 injects_serve w chosen d bytes = injected_serves w chosen d bytes (at_number w.drives d)
 
-added_serves : (w : World) (chosen : List ℕ) (d : ℕ) (key : List ℕ) (capacity : ℕ)
-    → Serving w w.clock chosen (given_by w.server (event.Drive d key capacity)) (adds_drive w d key capacity)
+added_serves : (w : World) (chosen : List ℕ) (d : ℕ) (key : List ℕ) (capacity : ℕ) (stored : Bool)
+    → Serving w w.clock chosen (if knows_drive w.server d then None else Some (Adds (known_drive d key capacity)))
+    (adds_drive w d key capacity stored)
 unfolding gives
-added_serves w chosen d key capacity =
+added_serves w chosen d key capacity stored =
     either_act (knows_drive w.server d) w w.clock chosen None (Some (Adds (known_drive d key capacity))) _ _
     (idle w w.clock chosen _ refl refl)
     (served w chosen (Adds (known_drive d key capacity)) (step w.server chosen (Adds (known_drive d key capacity)))
-    (gives (and_drive w d (made_drive d key capacity)) [] (Adds (known_drive d key capacity))) refl refl refl refl
+    (gives (and_drive w d (made_drive d key capacity stored)) [] (Adds (known_drive d key capacity))) refl refl refl refl
     ([], refl))
 
 -- ---- what an event begins with, and moves
@@ -275,7 +302,8 @@ added_serves w chosen d key capacity =
 begins_serve : (w : World) (chosen : List ℕ) (e : Event)
     → Serving w (clock_after w.clock (line.Event e)) chosen (input_in w (Opens e)) (begins w chosen e)
 unfolding begins
-begins_serve w chosen (event.Drive d key capacity) = added_serves w chosen d key capacity
+begins_serve w chosen (event.Drive d key capacity) = added_serves w chosen d key capacity false
+begins_serve w chosen (event.Disk d key capacity) = added_serves w chosen d key capacity true
 begins_serve w chosen (event.File f m tag) = makes_serve w chosen f (raw_of m) tag
 begins_serve w chosen (event.Least d format) = at_drive_serves w chosen d _ (at_number w.drives d)
 begins_serve w chosen (event.Format format) = gives_serve w chosen (Formats format)
@@ -298,6 +326,10 @@ begins_serve w chosen (event.Audit f) = gives_serve w chosen (Obeys server_rules
 begins_serve w chosen (event.Declare d) = gives_serve w chosen (Obeys server_rules.ToDeclare d)
 begins_serve w chosen (event.Stop c) = stopped_serves w chosen c (at_number w.clients c)
 begins_serve w chosen (event.Fail d) = at_drive_serves w chosen d _ (at_number w.drives d)
+begins_serve w chosen (event.Crash (machine.Drive d)) = at_drive_serves w chosen d _ (at_number w.drives d)
+begins_serve w chosen (event.Crash machine.Server) = down_serves w true chosen server_input.Crashes
+begins_serve w chosen (event.Reopen (machine.Drive d)) = at_drive_serves w chosen d _ (at_number w.drives d)
+begins_serve w chosen (event.Reopen machine.Server) = down_serves w false chosen server_input.Opens
 begins_serve w chosen e = idle w w.clock chosen _ refl refl
 
 -- the clock behind an action

@@ -1,7 +1,6 @@
 -- The drives are read off every history, and of each line it is told what it may do.
-use Rattle.std.proofs.Common.{◌≡◌, ◌==◌, ℕ, ◌++◌, ◌∷◌, [], List, Bool, true, false, Option, Some, None, IsSome, is_some, slice_get, option_map, refl, sym, ap, subst, ◌∙◌, append_assoc, inl, inr, if◌then◌else◌}
+use Rattle.std.proofs.Common.{◌≡◌, ◌==◌, ◌||◌, ℕ, ◌++◌, ◌∷◌, [], List, Bool, true, false, Option, Some, None, IsSome, is_some, slice_get, option_map, refl, sym, ap, subst, ◌∙◌, append_assoc, inl, inr, if◌then◌else◌}
 use Rattle.std.proofs.lemmas.Bool.{cases_eq, eq-eqb, ne_eqb}
-use Rattle.osd_lists.proofs.Options.{none_there}
 use Rattle.osd_commands.specs.Commands.{reading}
 use Rattle.osd_objects.proofs.Entries.{lookup_inserted, lookup_beside, lookup_set, lookup_set_beside}
 use Rattle.server_rules.specs.History as server_input
@@ -13,15 +12,15 @@ use Rattle.scenario_text.specs.declared.line.Verdict.{Verdict as ToldVerdict}
 use Rattle.scenario_text.specs.declared.line.Line.{Line}
 use Rattle.scenario_text.specs.declared.line.Line.TheVariants as line
 use Rattle.world_history.specs.ServerNames as server_rules
-use Rattle.world_history.specs.declared.err.WorldErr.{WorldErr}
+use Rattle.world_history.specs.declared.err.WorldErr.TheVariants.{Dead, Down}
 use Rattle.world_history.specs.declared.messages.Posted.{Posted}
 use Rattle.world_history.specs.declared.messages.Sent.{Sent}
-use Rattle.world_history.specs.State.{DriveAt, ClientAt, World, at_number, with_number, and_drive}
-use Rattle.world_history.specs.Drives.{verdict_on, judges, made_drive, raised, at_time, fallen}
+use Rattle.world_history.specs.State.{DriveAt, ClientAt, World, at_number, with_number, and_drive, with_down}
+use Rattle.world_history.specs.Drives.{verdict_on, judges, made_drive, raised, at_time, fallen, crashed, reopened, is_deaf}
 use Rattle.world_history.specs.Moves.{Act, Action, Opens, Delivers, TimesOut, Pends, by_drive, at_drive, stops, drops_found, injects_at, injects, judged_at, adds_drive, changed, gives, known_drive, knows_drive, op_of, raw_of, begins, acts}
 use Rattle.world_history.specs.Sending.{move, sends_all, sent_lines}
 use Rattle.world_history.specs.Plans.{Rule, due_by}
-use Rattle.world_history.specs.Refusals.{refusal, of_drive, unless_failed}
+use Rattle.world_history.specs.Refusals.{refusal, unless_deaf, unless_there, unless_down, first_of}
 use Rattle.world_history.specs.ReadDrives.{DriveSeen, sees_drive, drive_seen, drive_after, hears_bytes, where_it_is}
 use Rattle.world_history.proofs.Always.{opening, IsKept}
 use Rattle.world_history.proofs.ReadMessages.{drops_view, never_opens}
@@ -45,16 +44,13 @@ event_read : (w : World) (i : List ℕ) (h : List Line) (e : Event) → AreRead 
     → drive_seen d (h ++ line.Event e ∷ []) ≡ sees_drive d (seen_at d w i) (line.Event e)
 event_read w i h e r d = reads_on h (line.Event e ∷ []) d (seen_at d w i) (r d)
 
-added : (w : World) (d k : ℕ) (key : List ℕ) (capacity : ℕ)
-    → (if k == d then Some (made_drive k key capacity) else at_number w.drives d)
-    ≡ at_number (and_drive w k (made_drive k key capacity)).drives d
-added w d k key capacity = elim (cases_eq k d) [
-  | inl it ↦ ap (λ (b : Bool). if b then Some (made_drive k key capacity) else at_number w.drives d) (eq-eqb k d it)
-      ∙ sym (lookup_inserted w.drives k (made_drive k key capacity))
-      ∙ ap (λ (x : ℕ). at_number (and_drive w k (made_drive k key capacity)).drives x) it
-  | inr other ↦ ap (λ (b : Bool). if b then Some (made_drive k key capacity) else at_number w.drives d)
-      (ne_eqb k d other)
-      ∙ sym (lookup_beside w.drives k d (made_drive k key capacity) (λ (e : d ≡ k). other (sym e)))
+added : (w : World) (d k : ℕ) (a : DriveAt)
+    → (if k == d then Some a else at_number w.drives d) ≡ at_number (and_drive w k a).drives d
+added w d k a = elim (cases_eq k d) [
+  | inl it ↦ ap (λ (b : Bool). if b then Some a else at_number w.drives d) (eq-eqb k d it)
+      ∙ sym (lookup_inserted w.drives k a) ∙ ap (λ (x : ℕ). at_number (and_drive w k a).drives x) it
+  | inr other ↦ ap (λ (b : Bool). if b then Some a else at_number w.drives d) (ne_eqb k d other)
+      ∙ sym (lookup_beside w.drives k d a (λ (e : d ≡ k). other (sym e)))
 ]
 
 turned : (w : World) (d k : ℕ) (f : DriveAt → DriveAt) (o : Option DriveAt) → at_number w.drives k ≡ o
@@ -114,7 +110,7 @@ dropped_told w i h n r =
 -- ---- bytes are injected
 
 module _ (w : World) (k : ℕ) (bytes : List ℕ) (before : List Line) (r : AreRead w bytes before) (a : DriveAt)
-    (there : at_number w.drives k ≡ Some a) (lives : a.failed ≡ false) where
+    (there : at_number w.drives k ≡ Some a) (hears : is_deaf a ≡ false) where
   injected_behind : (v : ToldVerdict) (d : ℕ)
       → sees_drive d (drive_seen d before) (line.Judged k v)
       ≡ seen (view w) bytes (where_it_is k d (hears_bytes bytes) (at_number w.drives d))
@@ -131,12 +127,12 @@ module _ (w : World) (k : ℕ) (bytes : List ℕ) (before : List Line) (r : AreR
   judges_it v verdict = record {
     there = a;
     stands = drive_read w bytes before k r ∙ there;
-    lives = lives;
+    hears = hears;
     verdict = verdict;
     becomes =
         drive_behind v k ∙ changes_it k k (hears_bytes bytes) (at_number w.drives k) refl
         ∙ ap (λ (o : Option DriveAt). option_map (hears_bytes bytes) o) there
-        ∙ ap (λ (x : DriveAt). Some x) (heard a bytes lives);
+        ∙ ap (λ (x : DriveAt). Some x) (heard a bytes hears);
     others =
         λ d other. drive_behind v d
         ∙ changes_another k d (hears_bytes bytes) (at_number w.drives d) (λ (e : k ≡ d). other (sym e))
@@ -164,23 +160,27 @@ module _ (w : World) (k : ℕ) (bytes : List ℕ) (before : List Line) (r : AreR
         ∙ ap (λ (o : Option DriveAt). seen (view w) bytes o)
         (turned w d k (hears_bytes bytes) (Some a) there
         ∙ ap (λ (b : Bool). at_number (with_number w.drives k
-        (if b then a else (judges a (reading bytes)).drive)) d) lives);
+        (if b then a else (judges a (reading bytes)).drive)) d) hears);
     says = ((says_verdict, (h, bytes, is)), tt);
   }
 
-not_failed : (b : Bool) (e : WorldErr) → (if b then Some e else None) ≡ None → b ≡ false
-not_failed true e is = absurd (cc is)
-not_failed false e is = refl
+-- a drive of which an event is carried out hears
+not_deaf : (failed down : Bool) → (if failed then Some Dead else (if down then Some Down else None)) ≡ None
+    → (failed || down) ≡ false
+not_deaf true down is = absurd (cc is)
+not_deaf false true is = absurd (cc is)
+not_deaf false false is = refl
 
 injected_told : (w : World) (k : ℕ) (bytes : List ℕ) (h before : List Line) (o : Option DriveAt)
-    → before ≡ h ++ line.Event (event.Inject k bytes) ∷ [] → AreRead w bytes before → at_number w.drives k ≡ o → of_drive w k ≡ None → IsTold before (injects_at w k bytes o)
+    → before ≡ h ++ line.Event (event.Inject k bytes) ∷ [] → AreRead w bytes before → at_number w.drives k ≡ o → unless_deaf (at_number w.drives k) ≡ None
+    → IsTold before (injects_at w k bytes o)
 injected_told w k bytes h before None is r none allowed = quiet_told w bytes before _ r (nothing w)
 injected_told w k bytes h before (Some a) is r there allowed =
     judged_told w k bytes before r a there
-    (not_failed a.failed _ (subst (λ (o : Option DriveAt). unless_failed o ≡ None) there allowed)) h is
+    (not_deaf a.failed a.down (subst (λ (o : Option DriveAt). unless_deaf o ≡ None) there allowed)) h is
 
-inject_told : (w : World) (i : List ℕ) (h : List Line) (k : ℕ) (bytes : List ℕ) → AreRead w i h → of_drive w k ≡ None
-    → IsTold (h ++ line.Event (event.Inject k bytes) ∷ []) (injects w k bytes)
+inject_told : (w : World) (i : List ℕ) (h : List Line) (k : ℕ) (bytes : List ℕ) → AreRead w i h
+    → unless_deaf (at_number w.drives k) ≡ None → IsTold (h ++ line.Event (event.Inject k bytes) ∷ []) (injects w k bytes)
 unfolding injects
 inject_told w i h k bytes r allowed =
     injected_told w k bytes h (h ++ line.Event (event.Inject k bytes) ∷ []) (at_number w.drives k) refl
@@ -188,19 +188,21 @@ inject_told w i h k bytes r allowed =
 
 -- ---- what an event begins with
 
-added_told : (w : World) (i : List ℕ) (h : List Line) (k : ℕ) (key : List ℕ) (capacity : ℕ) → AreRead w i h
-    → IsTold (h ++ line.Event (event.Drive k key capacity) ∷ []) (adds_drive w k key capacity)
-added_told w i h k key capacity r =
-    let v = and_drive w k (made_drive k key capacity) in
-    let before = h ++ line.Event (event.Drive k key capacity) ∷ [] in
-    quiet_told v i before _
-    (λ d. event_read w i h (event.Drive k key capacity) r d
-    ∙ ap (λ (a : Option DriveAt). seen (view w) i a) (added w d k key capacity))
+added_told : (w : World) (i : List ℕ) (h : List Line) (e : Event) (k : ℕ) (key : List ℕ) (capacity : ℕ) (stored : Bool)
+    → AreRead w i h
+    → ((d : ℕ) → sees_drive d (seen_at d w i) (line.Event e)
+    ≡ seen (view w) i (if k == d then Some (made_drive k key capacity stored) else at_number w.drives d))
+    → IsTold (h ++ line.Event e ∷ []) (adds_drive w k key capacity stored)
+added_told w i h e k key capacity stored r is =
+    let v = and_drive w k (made_drive k key capacity stored) in
+    quiet_told v i (h ++ line.Event e ∷ []) _
+    (λ d. event_read w i h e r d ∙ is d
+    ∙ ap (λ (a : Option DriveAt). seen (view w) i a) (added w d k (made_drive k key capacity stored)))
     (either (knows_drive w.server k))
   where
-    either : (b : Bool) → IsQuietAct (and_drive w k (made_drive k key capacity))
-        (if b then changed (and_drive w k (made_drive k key capacity))
-        else gives (and_drive w k (made_drive k key capacity)) [] (server_input.Adds (known_drive k key capacity)))
+    either : (b : Bool) → IsQuietAct (and_drive w k (made_drive k key capacity stored))
+        (if b then changed (and_drive w k (made_drive k key capacity stored))
+        else gives (and_drive w k (made_drive k key capacity stored)) [] (server_input.Adds (known_drive k key capacity)))
     either true = nothing _
     either false = gives_act _ [] (server_input.Adds (known_drive k key capacity))
 
@@ -209,10 +211,19 @@ stopped_act : (w : World) (c : ℕ) (o : Option ClientAt)
 stopped_act w c None = nothing w
 stopped_act w c (Some a) = record { messages = refl; drives = refl; told = none_quiet; posts = tt }
 
+down_act : (w : World) (down : Bool) (chosen : List ℕ) (x : server_input.Input)
+    → IsQuietAct w (gives (with_down w down) chosen x)
+down_act w down chosen x =
+    let q = gives_act (with_down w down) chosen x in
+    record { messages = q.messages; drives = q.drives; told = q.told; posts = q.posts }
+
 begins_told : (w : World) (i : List ℕ) (h : List Line) (e : Event) (chosen : List ℕ) → AreRead w i h
     → refusal w e ≡ None → IsTold (h ++ line.Event e ∷ []) (begins w chosen e)
 unfolding begins refusal
-begins_told w i h (event.Drive k key capacity) chosen r allowed = added_told w i h k key capacity r
+begins_told w i h (event.Drive k key capacity) chosen r allowed =
+    added_told w i h (event.Drive k key capacity) k key capacity false r (λ d. refl)
+begins_told w i h (event.Disk k key capacity) chosen r allowed =
+    added_told w i h (event.Disk k key capacity) k key capacity true r (λ d. refl)
 begins_told w i h (event.Client c) chosen r allowed =
     quiet_told w i _ _ (event_read w i h (event.Client c) r)
     (record { messages = refl; drives = refl; told = none_quiet; posts = tt })
@@ -262,6 +273,14 @@ begins_told w i h (event.Declare d) chosen r allowed =
 begins_told w i h (event.Stop c) chosen r allowed =
     quiet_told w i _ _ (event_read w i h (event.Stop c) r) (stopped_act w c (at_number w.clients c))
 begins_told w i h (event.Fail k) chosen r allowed = turned_told w i h (event.Fail k) k fallen r (λ d. refl)
+begins_told w i h (event.Crash (machine.Drive k)) chosen r allowed =
+    turned_told w i h (event.Crash (machine.Drive k)) k crashed r (λ d. refl)
+begins_told w i h (event.Crash machine.Server) chosen r allowed =
+    quiet_told w i _ _ (event_read w i h (event.Crash machine.Server) r) (down_act w true chosen server_input.Crashes)
+begins_told w i h (event.Reopen (machine.Drive k)) chosen r allowed =
+    turned_told w i h (event.Reopen (machine.Drive k)) k reopened r (λ d. refl)
+begins_told w i h (event.Reopen machine.Server) chosen r allowed =
+    quiet_told w i _ _ (event_read w i h (event.Reopen machine.Server) r) (down_act w false chosen server_input.Opens)
 begins_told w i h e chosen r allowed = absurd (cc allowed)
 
 -- ---- moves
@@ -275,12 +294,16 @@ acts_told w i before chosen rule (Opens e) r due = absurd (never_opens w rule e 
 
 -- ---- all histories
 
+pub new_there : (o : Option DriveAt) (w : World) → first_of (unless_there (is_some o)) (unless_down w) ≡ None → o ≡ None
+new_there None w allowed = refl
+new_there (Some a) w allowed = absurd (cc allowed)
+
 -- a drive that is made wasn't there
 arises : (w : World) (i : List ℕ) (h : List Line) (e : Event) → AreRead w i h → refusal w e ≡ None
     → ArisesAt h (line.Event e)
 unfolding refusal
-arises w i h (event.Drive k key capacity) r allowed =
-    drive_read w i h k r ∙ none_there (at_number w.drives k) (not_failed (is_some (at_number w.drives k)) _ allowed)
+arises w i h (event.Drive k key capacity) r allowed = drive_read w i h k r ∙ new_there (at_number w.drives k) w allowed
+arises w i h (event.Disk k key capacity) r allowed = drive_read w i h k r ∙ new_there (at_number w.drives k) w allowed
 arises w i h e r allowed = tt
 
 read_on : (a : Act) (before : List Line) → EachBehind HoldsAt [] before → IsTold before a

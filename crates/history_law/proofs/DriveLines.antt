@@ -12,7 +12,7 @@ use Rattle.world_history.specs.declared.messages.Posted.{Posted}
 use Rattle.world_history.specs.declared.messages.Sent.{Sent}
 use Rattle.world_history.specs.State.{DriveAt, World, at_number}
 use Rattle.world_history.specs.Spelled.{spelled, party_of}
-use Rattle.world_history.specs.Drives.{verdict_on, judges, command_in}
+use Rattle.world_history.specs.Drives.{verdict_on, judges, command_in, is_deaf}
 use Rattle.world_history.specs.Moves.{Act, marked}
 use Rattle.world_history.specs.Sending.{fresh, sent_lines, sends_all}
 use Rattle.world_history.specs.Reading.{arrived, changed_by, changed_at, sent_after, sent_in}
@@ -142,7 +142,7 @@ drive_behind w i before n p del r found d =
 
 module _ (w : World) (i : List ℕ) (before : List Line) (n : ℕ) (p : Posted) (r : AreRead w i before)
     (found : slice_get w.network.messages n ≡ Some p) (k : ℕ) (to : p.message.to ≡ node.Drive k) (a : DriveAt)
-    (there : at_number w.drives k ≡ Some a) (lives : a.failed ≡ false) where
+    (there : at_number w.drives k ≡ Some a) (hears : is_deaf a ≡ false) where
   sent_then : slice_get (sent_in before) n ≡ Some (shown p)
   sent_then =
       ap (λ (ss : List Sent). slice_get ss n) (sent_read w i before r) ∙ shown_get w.network.messages n (Some p) found
@@ -155,14 +155,14 @@ module _ (w : World) (i : List ℕ) (before : List Line) (n : ℕ) (p : Posted) 
   heard_behind del =
       drive_behind w i before n p del r found k ∙ at_it k k (at_number w.drives k) (shown p) (ap party_of to) refl
       ∙ ap (λ (o : Option DriveAt). option_map (hears_bytes (spelled p.message.body)) o) there
-      ∙ ap (λ (x : DriveAt). Some x) (heard a (spelled p.message.body) lives)
+      ∙ ap (λ (x : DriveAt). Some x) (heard a (spelled p.message.body) hears)
 
   judges_it : (v : Verdict) → v ≡ verdict_on a.state a.clock (command_in p.message.body)
       → Judges before (line.Delivered n (delivery.Judged v)) k (spelled p.message.body) v
   judges_it v verdict = record {
     there = a;
     stands = stood;
-    lives = lives;
+    hears = hears;
     verdict = verdict;
     becomes = heard_behind (delivery.Judged v);
     others =

@@ -25,8 +25,8 @@ use Rattle.world_history.specs.declared.messages.Posted.{Posted}
 use Rattle.world_history.specs.declared.messages.Sent.{Sent}
 use Rattle.world_history.specs.State.{DriveAt, ClientAt, World, at_number, with_number}
 use Rattle.world_history.specs.Spelled.{spelled, party_of}
-use Rattle.world_history.specs.Drives.{judges, command_in}
-use Rattle.world_history.specs.Handed.{Handed, quiet, drive_hears, drive_replies, server_takes, client_hears, client_takes, client_goes, for_client, for_server, handed_to, op_in, wrote_in, data_in, pending_op}
+use Rattle.world_history.specs.Drives.{judges, command_in, is_deaf}
+use Rattle.world_history.specs.Handed.{Handed, quiet, drive_hears, drive_replies, server_hears, server_takes, client_hears, client_takes, client_goes, for_client, for_server, handed_to, op_in, wrote_in, data_in, pending_op}
 use Rattle.world_history.specs.Moves.{Act, marked, told_delivered, delivers_found, delivers, by_client, called, calls_at, times_out, leaves, resends, pends_as, pends, made_file, makes, gives, has_algorithm}
 use Rattle.world_history.specs.Sending.{sent_lines}
 use Rattle.world_history.specs.Reading.{sent_in}
@@ -70,6 +70,14 @@ server_hand w chosen from (Some m) = record {
   unjudged = tt;
 }
 
+server_heard : (w : World) (chosen : List ℕ) (m : Message) → IsQuietHand w (server_hears w chosen m)
+server_heard w chosen m = either w.down
+  where
+    either : (b : Bool)
+        → IsQuietHand w (if b then quiet w delivery.Deaf else server_takes w chosen m.from (for_server m))
+    either true = deaf_hand w
+    either false = server_hand w chosen m.from (for_server m)
+
 client_hand : (w : World) (c : ℕ) (a : ClientAt) (from : Node) (m : Option ClientMessage)
     → IsQuietHand w (client_takes w c a from m)
 client_hand w c a from None = record {
@@ -98,9 +106,9 @@ client_heard w c m (Some a) = either a.stopped
 pub same_number : (k d : ℕ) → party.Drive k ≡ party.Drive d → k ≡ d
 same_number k d is = cc is
 
--- what isn't judged is for no drive that stands
+-- what isn't judged is for no drive that hears
 unjudged_tells : (before : List Line) (n : ℕ) (del : Delivery) (m : Sent) → IsUnjudged del
-    → ((d : ℕ) (a : DriveAt) → m.to ≡ party.Drive d → drive_after before d ≡ Some a → a.failed ≡ true)
+    → ((d : ℕ) (a : DriveAt) → m.to ≡ party.Drive d → drive_after before d ≡ Some a → is_deaf a ≡ true)
     → Delivers before n del m
 unjudged_tells before n delivery.Deaf m is none = none
 unjudged_tells before n delivery.Taken m is none = none
@@ -112,9 +120,10 @@ module _ (w : World) (i : List ℕ) (before : List Line) (n : ℕ) (p : Posted) 
   sent_then =
       ap (λ (ss : List Sent). slice_get ss n) (sent_read w i before r) ∙ shown_get w.network.messages n (Some p) found
 
-  -- the message is for no drive that stands
+  -- the message is for no drive that hears
   abbrev IsUnheard : Type 0
-  IsUnheard = (d : ℕ) (a : DriveAt) → party_of p.message.to ≡ party.Drive d → at_number w.drives d ≡ Some a → a.failed ≡ true
+  IsUnheard =
+      (d : ℕ) (a : DriveAt) → party_of p.message.to ≡ party.Drive d → at_number w.drives d ≡ Some a → is_deaf a ≡ true
 
   delivered : (h : Handed) → IsQuietHand (marked w n p) h → IsUnheard → IsDelivered before n h.receipt
   delivered h q unheard = record {
@@ -154,14 +163,14 @@ module _ (w : World) (i : List ℕ) (before : List Line) (n : ℕ) (p : Posted) 
       | inr other ↦ at_another d k (at_number w.drives d) (shown p) (ap party_of to) other
     ]
 
-    becomes : (a : DriveAt) (d : ℕ) → at_number w.drives k ≡ Some a → a.failed ≡ false
+    becomes : (a : DriveAt) (d : ℕ) → at_number w.drives k ≡ Some a → is_deaf a ≡ false
         → hears_sent d (at_number w.drives d) (Some (shown p))
         ≡ at_number (with_number w.drives k (judges a (command_in p.message.body)).drive) d
-    becomes a d there lives = elim (cases_eq k d) [
+    becomes a d there hears = elim (cases_eq k d) [
       | inl it ↦ at_it d k (at_number w.drives d) (shown p) (ap party_of to) it
           ∙ ap (λ (o : Option DriveAt). option_map (hears_bytes (spelled p.message.body)) o)
           (ap (at_number w.drives) (sym it) ∙ there)
-          ∙ ap (λ (b : Bool). Some (if b then a else (judges a (command_in p.message.body)).drive)) lives
+          ∙ ap (λ (b : Bool). Some (if b then a else (judges a (command_in p.message.body)).drive)) hears
           ∙ sym (lookup_set w.drives k (judges a (command_in p.message.body)).drive (subst IsSome (sym there) refl))
           ∙ ap (λ (x : ℕ). at_number (with_number w.drives k (judges a (command_in p.message.body)).drive) x) it
       | inr other ↦ at_another d k (at_number w.drives d) (shown p) (ap party_of to) other
@@ -169,25 +178,25 @@ module _ (w : World) (i : List ℕ) (before : List Line) (n : ℕ) (p : Posted) 
           (λ (e : d ≡ k). other (sym e)))
     ]
 
-    drive_told : (a : DriveAt) (b : Bool) → a.failed ≡ b → at_number w.drives k ≡ Some a
+    drive_told : (a : DriveAt) (b : Bool) → is_deaf a ≡ b → at_number w.drives k ≡ Some a
         → IsTold before (told_delivered n (if b then quiet (marked w n p) delivery.Deaf
         else drive_replies (marked w n p) k p.message.from (judges a (command_in p.message.body))))
     unfolding sent_lines
-    drive_told a true failed there = hand_told _ (deaf_hand (marked w n p)) (λ d. stays d (
+    drive_told a true deaf there = hand_told _ (deaf_hand (marked w n p)) (λ d. stays d (
         ap (option_map (hears_bytes (spelled p.message.body))) there
-        ∙ ap (λ (b : Bool). Some (if b then a else (judges a (command_in p.message.body)).drive)) failed ∙ sym there))
-        (λ d x is stands. subst (λ (y : DriveAt). y.failed ≡ true) (same_Some a x (sym there
-        ∙ ap (at_number w.drives) (same_number k d (sym (ap party_of to) ∙ is)) ∙ stands)) failed)
-    drive_told a false lives there = record {
+        ∙ ap (λ (b : Bool). Some (if b then a else (judges a (command_in p.message.body)).drive)) deaf ∙ sym there))
+        (λ d x is stands. subst (λ (y : DriveAt). is_deaf y ≡ true) (same_Some a x (sym there
+        ∙ ap (at_number w.drives) (same_number k d (sym (ap party_of to) ∙ is)) ∙ stands)) deaf)
+    drive_told a false hears there = record {
       injected = i;
       drives =
           λ d. delivery_read w i before n p (delivery.Judged (judges a (command_in p.message.body)).verdict) r found d
-          ∙ ap (λ (o : Option DriveAt). seen (view (marked w n p)) i o) (becomes a d there lives);
+          ∙ ap (λ (o : Option DriveAt). seen (view (marked w n p)) i o) (becomes a d there hears);
       says = (
-        (says_verdict w i before n p r found k to a there lives, tt),
+        (says_verdict w i before n p r found k to a there hears, tt),
         (
           (
-            replies w i before n p r found k to a there lives
+            replies w i before n p r found k to a there hears
                 (delivery.Judged (judges a (command_in p.message.body)).verdict),
             tt,
           ),
@@ -202,12 +211,12 @@ module _ (w : World) (i : List ℕ) (before : List Line) (n : ℕ) (p : Posted) 
         ap (option_map (hears_bytes (spelled p.message.body))) none ∙ sym none))
         (λ d x is stands. absurd (cc (sym none ∙ ap (at_number w.drives) (same_number k d (sym (ap party_of to) ∙ is))
         ∙ stands)))
-    drive_heard (Some a) there = drive_told a a.failed refl there
+    drive_heard (Some a) there = drive_told a (is_deaf a) refl there
 
   handed_told : (chosen : List ℕ) (to : Node) → p.message.to ≡ to
       → IsTold before (told_delivered n (handed_to (marked w n p) chosen p.message to))
   handed_told chosen node.Server to =
-      hand_told _ (server_hand (marked w n p) chosen p.message.from (for_server p.message))
+      hand_told _ (server_heard (marked w n p) chosen p.message)
       (λ d. at_server d (at_number w.drives d) (shown p) (ap party_of to))
       (λ d x is stands. absurd (cc (sym (ap party_of to) ∙ is)))
   handed_told chosen (node.Client c) to =

@@ -69,6 +69,7 @@ at_each_line P h e before l after is = at_line P [] before l after (subst (EachB
 -- a drive is made only where there is none of that number, and judges outside of a delivery only what was just injected
 abbrev pub ArisesAt : List Line → Line → Type 0
 ArisesAt before (line.Event (event.Drive k key capacity)) = drive_after before k ≡ None
+ArisesAt before (line.Event (event.Disk k key capacity)) = drive_after before k ≡ None
 ArisesAt before (line.Judged d v) =
     (lines : List Line) × (bytes : List ℕ) × (before ≡ lines ++ line.Event (event.Inject d bytes) ∷ [])
 ArisesAt before l = Unit {0}

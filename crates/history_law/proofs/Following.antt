@@ -9,9 +9,9 @@ use Rattle.server_rules.specs.Messages.{Message as ServerMessage}
 use Rattle.server_rules.specs.History.{Input, Adds}
 use Rattle.scenario_text.specs.declared.event.Event.{Event}
 use Rattle.scenario_text.specs.declared.event.Event.TheVariants as event
+use Rattle.scenario_text.specs.declared.event.Machine.TheVariants as machine
 use Rattle.scenario_text.specs.declared.line.Line.{Line}
 use Rattle.scenario_text.specs.declared.line.Line.TheVariants as line
-use Rattle.world_history.specs.declared.err.WorldErr.{WorldErr}
 use Rattle.world_history.specs.declared.messages.Message.{Message}
 use Rattle.world_history.specs.declared.messages.Posted.{Posted}
 use Rattle.world_history.specs.declared.messages.Sent.{Sent}
@@ -21,7 +21,7 @@ use Rattle.world_history.specs.Handed.{for_server}
 use Rattle.world_history.specs.Moves.{Action, Opens, Delivers, TimesOut, Pends, knows_drive, known_drive, has_algorithm, raw_of, delivers, times_out, pends, injects, begins}
 use Rattle.world_history.specs.Sending.{Move, move}
 use Rattle.world_history.specs.Plans.{Rule, due_by}
-use Rattle.world_history.specs.Refusals.{refusal}
+use Rattle.world_history.specs.Refusals.{refusal, of_new_drive}
 use Rattle.world_history.specs.Reading.{grouped, sent_after, steps_of}
 use Rattle.world_history.specs.ReadDrives.{DriveSeen, sees_drive, drive_seen, drive_after}
 use Rattle.world_history.specs.Book.{ServerSeen, input_of, step_by, server_behind, clock_after, sees_server, server_seen}
@@ -29,7 +29,7 @@ use Rattle.world_history.specs.Laws.{ServerGoesOn, AllLinesGoOn}
 use Rattle.world_history.proofs.Always.{opening, IsKept}
 use Rattle.world_history.proofs.ReadMessages.{never_opens}
 use Rattle.history_law.proofs.DriveLines.{sent_read, drive_read}
-use Rattle.history_law.proofs.DriveEvents.{IsRead, kept}
+use Rattle.history_law.proofs.DriveEvents.{IsRead, new_there, kept}
 use Rattle.history_law.specs.Placed.{IsReadable}
 use Rattle.history_law.specs.Doing.{heard_of, brought_to, brought, input_in, did_in}
 use Rattle.history_law.specs.Read.{is_written, AreWritten, server_of, leads}
@@ -50,25 +50,32 @@ fit_heard : (now : ℕ) (from : Node) (m : Option ServerMessage) → FitsAny (he
 fit_heard now from None = tt
 fit_heard now from (Some m) = tt
 
-fit_to : (now : ℕ) (m : Message) (to : Node) → FitsAny (brought_to now m to)
-fit_to now m node.Server = fit_heard now m.from (for_server m)
-fit_to now m (node.Drive d) = tt
-fit_to now m (node.Client c) = tt
-
-fit_brought : (now : ℕ) (o : Option Posted) → FitsAny (brought now o)
-fit_brought now None = tt
-fit_brought now (Some p) = fit_to now p.message p.message.to
-
 either_fits : (b : Bool) (i j : Option Input) → FitsAny i → FitsAny j → FitsAny (if b then i else j)
 either_fits true i j h k = h
 either_fits false i j h k = k
 
+fit_to : (w : World) (m : Message) (to : Node) → FitsAny (brought_to w m to)
+fit_to w m node.Server =
+    either_fits w.down None (heard_of w.clock m.from (for_server m)) tt (fit_heard w.clock m.from (for_server m))
+fit_to w m (node.Drive d) = tt
+fit_to w m (node.Client c) = tt
+
+fit_brought : (w : World) (o : Option Posted) → FitsAny (brought w o)
+fit_brought w None = tt
+fit_brought w (Some p) = fit_to w p.message p.message.to
+
 fit_event : (w : World) (e : Event) → is_written e ≡ true → FitsAny (input_in w (Opens e))
 fit_event w (event.Drive d key capacity) h =
     either_fits (knows_drive w.server d) None (Some _) tt (grind (arith, h, nat_tests))
+fit_event w (event.Disk d key capacity) h =
+    either_fits (knows_drive w.server d) None (Some _) tt (grind (arith, h, nat_tests))
 fit_event w (event.File f m tag) h = either_fits (has_algorithm (raw_of m)) (Some _) None tt tt
 fit_event w (event.Format format) h = h
-fit_event w (event.Deliver number) h = fit_brought w.clock (slice_get w.network.messages number)
+fit_event w (event.Deliver number) h = fit_brought w (slice_get w.network.messages number)
+fit_event w (event.Crash (machine.Drive d)) h = tt
+fit_event w (event.Crash machine.Server) h = tt
+fit_event w (event.Reopen (machine.Drive d)) h = tt
+fit_event w (event.Reopen machine.Server) h = tt
 fit_event w e h = tt
 
 readable_behind : (s : Server) (chosen : List ℕ) (i : Option Input) → IsReadable s → FitsAny i
@@ -91,23 +98,25 @@ heard_tells : (now : ℕ) (from : Node) (m : Option ServerMessage) (d : ℕ) →
 heard_tells now from None d t = t
 heard_tells now from (Some m) d t = t
 
-to_tells : (now : ℕ) (m : Message) (to : Node) (d : ℕ) → TellsAny (brought_to now m to) d → ⊥
-to_tells now m node.Server d t = heard_tells now m.from (for_server m) d t
-to_tells now m (node.Drive k) d t = t
-to_tells now m (node.Client c) d t = t
+not_nothing : (b : Bool) (x : Option Input) (d : ℕ) → TellsAny (if b then None else x) d → TellsAny x d
+not_nothing true x d t = absurd t
+not_nothing false x d t = t
 
-brought_tells : (now : ℕ) (o : Option Posted) (d : ℕ) → TellsAny (brought now o) d → ⊥
-brought_tells now None d t = t
-brought_tells now (Some p) d t = to_tells now p.message p.message.to d t
+to_tells : (w : World) (m : Message) (to : Node) (d : ℕ) → TellsAny (brought_to w m to) d → ⊥
+to_tells w m node.Server d t =
+    heard_tells w.clock m.from (for_server m) d (not_nothing w.down (heard_of w.clock m.from (for_server m)) d t)
+to_tells w m (node.Drive k) d t = t
+to_tells w m (node.Client c) d t = t
+
+brought_tells : (w : World) (o : Option Posted) (d : ℕ) → TellsAny (brought w o) d → ⊥
+brought_tells w None d t = t
+brought_tells w (Some p) d t = to_tells w p.message p.message.to d t
 
 -- only the event that makes a drive tells it of one
 abbrev MakesDrive : Event → (drive : ℕ) → Type 0
 MakesDrive (event.Drive k key capacity) d = k ≡ d
+MakesDrive (event.Disk k key capacity) d = k ≡ d
 MakesDrive e d = ⊥
-
-new_drive : (b : Bool) (x : Option Input) (d : ℕ) → TellsAny (if b then None else x) d → TellsAny x d
-new_drive true x d t = absurd t
-new_drive false x d t = t
 
 no_file : (b : Bool) (x : Input) (d : ℕ) → (Tells x d → ⊥) → TellsAny (if b then Some x else None) d → ⊥
 no_file true x d none t = none t
@@ -115,14 +124,21 @@ no_file false x d none t = t
 
 event_tells : (w : World) (e : Event) (d : ℕ) → TellsAny (input_in w (Opens e)) d → MakesDrive e d
 event_tells w (event.Drive k key capacity) d t =
-    new_drive (knows_drive w.server k) (Some (Adds (known_drive k key capacity))) d t
+    not_nothing (knows_drive w.server k) (Some (Adds (known_drive k key capacity))) d t
+event_tells w (event.Disk k key capacity) d t =
+    not_nothing (knows_drive w.server k) (Some (Adds (known_drive k key capacity))) d t
 event_tells w (event.File f m tag) d t = absurd (no_file (has_algorithm (raw_of m)) _ d (λ x. x) t)
-event_tells w (event.Deliver number) d t = absurd (brought_tells w.clock (slice_get w.network.messages number) d t)
+event_tells w (event.Deliver number) d t = absurd (brought_tells w (slice_get w.network.messages number) d t)
+event_tells w (event.Crash (machine.Drive k)) d t = absurd t
+event_tells w (event.Crash machine.Server) d t = absurd t
+event_tells w (event.Reopen (machine.Drive k)) d t = absurd t
+event_tells w (event.Reopen machine.Server) d t = absurd t
 event_tells w e d t = absurd t
 
 -- so that drive is there then
 made_there : (d : ℕ) (s : DriveSeen) (e : Event) → MakesDrive e d → is_some (sees_drive d s (line.Event e)).drive ≡ true
 made_there d s (event.Drive k key capacity) m = rw (eq-eqb k d m) refl
+made_there d s (event.Disk k key capacity) m = rw (eq-eqb k d m) refl
 made_there d s e m = absurd m
 
 -- ---- the lines of a move
@@ -130,10 +146,13 @@ made_there d s e m = absurd m
 -- a drive that is made isn't known
 abbrev pub IsNew : World → Event → Type 0
 IsNew w (event.Drive d key capacity) = knows_drive w.server d ≡ false
+IsNew w (event.Disk d key capacity) = knows_drive w.server d ≡ false
 IsNew w e = Unit {0}
 
 opened_input : (w : World) (e : Event) → leads e ≡ false → IsNew w e → input_of e ≡ input_in w (Opens e)
 opened_input w (event.Drive d key capacity) p new =
+    ap (λ (b : Bool). if b then None else Some (Adds (known_drive d key capacity))) (sym new)
+opened_input w (event.Disk d key capacity) p new =
     ap (λ (b : Bool). if b then None else Some (Adds (known_drive d key capacity))) (sym new)
 opened_input w (event.Deliver number) p new = absurd (cc p)
 opened_input w e p new = refl
@@ -243,18 +262,18 @@ module _ (on : ServerGoesOn) (all : AllLinesGoOn) where
       }
 
   -- a drive that is made wasn't there, so the server doesn't know it
-  not_there : (b : Bool) (x : WorldErr) → (if b then Some x else None) ≡ None → b ≡ false
-  not_there true x e = absurd (cc e)
-  not_there false x e = refl
+  not_known : (w : World) (h : List Line) (d : ℕ) → IsRead w h → IsServerRead w h → of_new_drive w d ≡ None
+      → knows_drive w.server d ≡ false
+  not_known w h d r s allowed = elim (cases_Bool (knows_drive w.server d)) [
+    | inl t ↦ absurd (cc (sym (s.known d t) ∙ ap (λ (o : Option DriveAt). is_some o)
+        (drive_read w r.injected h d r.drives ∙ new_there (at_number w.drives d) w allowed)))
+    | inr f ↦ f
+  ]
 
   pub is_new : (w : World) (h : List Line) (e : Event) → IsRead w h → IsServerRead w h → refusal w e ≡ None → IsNew w e
   unfolding refusal
-  is_new w h (event.Drive d key capacity) r s allowed = elim (cases_Bool (knows_drive w.server d)) [
-    | inl t ↦ absurd (cc (sym (s.known d t) ∙ ap (λ (o : Option DriveAt). is_some o)
-        (drive_read w r.injected h d r.drives)
-        ∙ not_there (is_some (at_number w.drives d)) _ allowed))
-    | inr f ↦ f
-  ]
+  is_new w h (event.Drive d key capacity) r s allowed = not_known w h d r s allowed
+  is_new w h (event.Disk d key capacity) r s allowed = not_known w h d r s allowed
   is_new w h e r s allowed = tt
 
   opened_tells : (w : World) (h : List Line) (e : Event) (ls : List Line) (d : ℕ) → TellsAny (input_in w (Opens e)) d
@@ -265,14 +284,14 @@ module _ (on : ServerGoesOn) (all : AllLinesGoOn) where
       (made_there d (drive_seen d h) e (event_tells w e d t))
 
   rule_fits : (w : World) (r : Rule) (action : Action) → due_by w r ≡ Some action → FitsAny (input_in w action)
-  rule_fits w r (Delivers number) due = fit_brought w.clock (slice_get w.network.messages number)
+  rule_fits w r (Delivers number) due = fit_brought w (slice_get w.network.messages number)
   rule_fits w r (TimesOut c component) due = tt
   rule_fits w r (Pends c) due = tt
   rule_fits w r (Opens e) due = absurd (never_opens w r e due)
 
   rule_tells : (w : World) (r : Rule) (action : Action) (d : ℕ) → due_by w r ≡ Some action
       → TellsAny (input_in w action) d → ⊥
-  rule_tells w r (Delivers number) d due t = brought_tells w.clock (slice_get w.network.messages number) d t
+  rule_tells w r (Delivers number) d due t = brought_tells w (slice_get w.network.messages number) d t
   rule_tells w r (TimesOut c component) d due t = t
   rule_tells w r (Pends c) d due t = t
   rule_tells w r (Opens e) d due t = absurd (never_opens w r e due)

@@ -58,11 +58,11 @@ cases w m = record {
   };
   comes = λ c is. record { server = Rests refl; clients = More c _ refl refl };
   stops = λ c a found. record { server = Rests refl; clients = One c a _ found (Idles refl) refl };
-  judged = λ ms said d a found failed message number. still w _ refl refl;
+  judged = λ ms said d a found deaf message number. still w _ refl refl;
   injected = λ d bytes is a found. still w _ refl refl;
   turns = λ d a b found turns. still w _ refl refl;
-  known = λ d key capacity is knows. still w _ refl refl;
-  adds = λ d key capacity is knows. record {
+  known = λ d key capacity stored is knows. still w _ refl refl;
+  adds = λ d key capacity stored is knows. record {
     server = Steps (record { input = Adds (world.known_drive d key capacity); chosen = m.chosen }) refl;
     clients = Same refl;
   };

@@ -32,8 +32,8 @@ use Rattle.world_history.specs.State.{DriveAt, ClientAt, World, at_number, with_
 use Rattle.world_history.specs.Spelled.{party_of}
 use Rattle.world_history.specs.Told.{kind_of}
 use Rattle.world_history.specs.Names.{where_known, note_line, is_tellable_note, known_note_line, known_outcome}
-use Rattle.world_history.specs.Drives.{Judged, judges, command_in}
-use Rattle.world_history.specs.Handed.{Post, Handed, is_addressed, quiet, drive_hears, drive_replies, server_post, server_takes, client_posts, client_did, client_goes, client_hears, client_takes, for_client, for_server, handed_to, end_line, ended_by, op_in, wrote_in, data_in}
+use Rattle.world_history.specs.Drives.{Judged, judges, command_in, is_deaf}
+use Rattle.world_history.specs.Handed.{Post, Handed, is_addressed, quiet, drive_hears, drive_replies, server_post, server_hears, server_takes, client_posts, client_did, client_goes, client_hears, client_takes, for_client, for_server, handed_to, end_line, ended_by, op_in, wrote_in, data_in}
 use Rattle.world_history.specs.Moves.{Act}
 use Rattle.history_law.specs.Listed.{Lists, WasGiven}
 use Rattle.history_law.specs.Granted.{OwnIn}
@@ -213,6 +213,9 @@ module _ (ss : List Sent) where
           posts = from_server (server_step w.server chosen (ServerHears w.clock from m)).sends t.sends;
         }
 
+    server_heard : (chosen : List ℕ) (m : Message) → HandKnown ss (server_hears w chosen m)
+    server_heard chosen m = either_hand w.down _ _ deaf_hand (server_hand chosen m.from (for_server m))
+
     drive_said : (d : ℕ) (from : Node) (j : Judged) → HandKnown ss (drive_replies w d from j)
     drive_said d from j = record {
       world = record { clients = k.clients; slots = k.slots };
@@ -222,7 +225,7 @@ module _ (ss : List Sent) where
 
     drive_hand : (d : ℕ) (m : Message) (a : Option DriveAt) → HandKnown ss (drive_hears w d m a)
     drive_hand d m None = deaf_hand
-    drive_hand d m (Some a) = either_hand a.failed _ _ deaf_hand (drive_said d m.from (judges a (command_in m.body)))
+    drive_hand d m (Some a) = either_hand (is_deaf a) _ _ deaf_hand (drive_said d m.from (judges a (command_in m.body)))
 
     client_hand : (c : ℕ) (a : ClientAt) (from : Node) (m : Option ClientMessage) → at_number w.clients c ≡ Some a
         → ((x : ClientMessage) → m ≡ Some x → HeardKnown (MaySend ss c) from x)
@@ -241,7 +244,7 @@ module _ (ss : List Sent) where
         → ((c : ℕ) (x : ClientMessage) → to ≡ node.Client c → for_client m ≡ Some x
         → HeardKnown (MaySend ss c) m.from x)
         → HandKnown ss (handed_to w chosen m to)
-    hand_known chosen m node.Server known = server_hand chosen m.from (for_server m)
+    hand_known chosen m node.Server known = server_heard chosen m
     hand_known chosen m (node.Drive d) known = drive_hand d m (at_number w.drives d)
     hand_known chosen m (node.Client c) known = client_heard c m (at_number w.clients c) refl (λ x e. known c x refl e)
 

@@ -17,7 +17,7 @@ use Rattle.world_history.specs.ServerNames as server_rules
 use Rattle.world_history.specs.ClientNames as client_rules
 use Rattle.world_history.specs.declared.messages.Posted.{Posted}
 use Rattle.world_history.specs.declared.messages.Sent.{Sent}
-use Rattle.world_history.specs.State.{DriveAt, ClientAt, World, at_number, and_drive}
+use Rattle.world_history.specs.State.{DriveAt, ClientAt, World, at_number, and_drive, with_down}
 use Rattle.world_history.specs.Drives.{made_drive}
 use Rattle.world_history.specs.Handed.{pending_op}
 use Rattle.world_history.specs.Spelled.{spelled, party_of}
@@ -152,13 +152,20 @@ module _ (ss : List Sent) where
     unfolding injects
     injects_known d bytes = injected_known d bytes (at_number w.drives d)
 
-  drive_known : (w : World) → WorldKnown ss w → (d : ℕ) (key : List ℕ) (capacity : ℕ)
-      → ActKnown ss (adds_drive w d key capacity)
-  drive_known w k d key capacity =
-      let more : WorldKnown ss (and_drive w d (made_drive d key capacity)) =
+  -- the server crashes or is opened again
+  down_known : (w : World) → WorldKnown ss w → (down : Bool) (chosen : List ℕ) (i : server_input.Input)
+      → ActKnown ss (gives (with_down w down) chosen i)
+  down_known w k down chosen i =
+      gives_known (with_down w down) (record { clients = k.clients; slots = k.slots }) chosen i
+
+  drive_known : (w : World) → WorldKnown ss w → (d : ℕ) (key : List ℕ) (capacity : ℕ) (stored : Bool)
+      → ActKnown ss (adds_drive w d key capacity stored)
+  drive_known w k d key capacity stored =
+      let more : WorldKnown ss (and_drive w d (made_drive d key capacity stored)) =
       record { clients = k.clients; slots = k.slots } in
       either_act (knows_drive w.server d) _ _ (record { world = more; told = tt; posts = tt })
-      (gives_known (and_drive w d (made_drive d key capacity)) more [] (server_input.Adds (known_drive d key capacity)))
+      (gives_known (and_drive w d (made_drive d key capacity stored)) more []
+      (server_input.Adds (known_drive d key capacity)))
 
   -- ---- a message
 
@@ -193,7 +200,8 @@ module _ (ss : List Sent) where
   begins_known : (w : World) → WorldKnown ss w → view w ≡ ss → (chosen : List ℕ) (e : Event)
       → ActKnown ss (begins w chosen e)
   unfolding begins
-  begins_known w k seen chosen (event.Drive d key capacity) = drive_known w k d key capacity
+  begins_known w k seen chosen (event.Drive d key capacity) = drive_known w k d key capacity false
+  begins_known w k seen chosen (event.Disk d key capacity) = drive_known w k d key capacity true
   begins_known w k seen chosen (event.Client c) = record {
     world = record {
       clients = add_client ss w.clients c _ k.clients (record { helds = tt; call = tt });
@@ -228,6 +236,10 @@ module _ (ss : List Sent) where
   begins_known w k seen chosen (event.Declare d) = gives_known w k chosen (server_input.Obeys server_rules.ToDeclare d)
   begins_known w k seen chosen (event.Stop c) = stops_known w k c (at_number w.clients c) refl
   begins_known w k seen chosen (event.Fail d) = turned_known w k d _ (at_number w.drives d)
+  begins_known w k seen chosen (event.Crash (machine.Drive d)) = turned_known w k d _ (at_number w.drives d)
+  begins_known w k seen chosen (event.Crash machine.Server) = down_known w k true chosen server_input.Crashes
+  begins_known w k seen chosen (event.Reopen (machine.Drive d)) = turned_known w k d _ (at_number w.drives d)
+  begins_known w k seen chosen (event.Reopen machine.Server) = down_known w k false chosen server_input.Opens
   begins_known w k seen chosen e = still_act w k
 
   pub acts_known : (w : World) → WorldKnown ss w → view w ≡ ss → (chosen : List ℕ) (action : Action)

@@ -31,12 +31,12 @@ use Rattle.world_history.specs.ServerNames.{Refusal}
 use Rattle.world_history.specs.ClientNames as client_rules
 use Rattle.world_history.specs.declared.messages.Message.{Message}
 use Rattle.world_history.specs.declared.messages.Posted.{Posted}
-use Rattle.world_history.specs.State.{DriveAt, ClientAt, World, at_number, and_drive}
+use Rattle.world_history.specs.State.{DriveAt, ClientAt, World, at_number, and_drive, with_down}
 use Rattle.world_history.specs.Spelled.{spelled, party_of, node_of}
 use Rattle.world_history.specs.Told.{kind_of}
 use Rattle.world_history.specs.Names.{where_known, note_line, is_tellable_note, known_note_line, known_outcome}
-use Rattle.world_history.specs.Drives.{judges, command_in, made_drive}
-use Rattle.world_history.specs.Handed.{Handed, end_line, ended_by, quiet, drive_hears, drive_replies, server_takes, client_hears, client_takes, client_goes, for_client, for_server, handed_to, op_in, pending_op}
+use Rattle.world_history.specs.Drives.{judges, command_in, made_drive, is_deaf}
+use Rattle.world_history.specs.Handed.{Handed, end_line, ended_by, quiet, drive_hears, drive_replies, server_hears, server_takes, client_hears, client_takes, client_goes, for_client, for_server, handed_to, op_in, pending_op}
 use Rattle.world_history.specs.Moves.{Act, marked, delivers_found, delivers, by_client, called, calls_at, times_out, leaves, resends, pends_as, pends, made_file, makes, gives, has_algorithm, injects_at, injects, adds_drive, changed, known_drive, knows_drive, op_of, raw_of, begins}
 use Rattle.world_history.specs.Reading.{is_head}
 use Rattle.world_history.specs.Book.{created_in, heard_from, heard_for, heard, input_at, clock_after}
@@ -84,10 +84,15 @@ server_flat : (w : World) (chosen : List ℕ) (from : Node) (m : Option ServerMe
 server_flat w chosen from None = tt
 server_flat w chosen from (Some m) = flat_notes (step w.server chosen (Hears w.clock from m)).notes
 
+heard_by_server : (w : World) (chosen : List ℕ) (m : Message) → AreFlat (server_hears w chosen m).told
+heard_by_server w chosen m =
+    either_hand w.down (quiet w delivery.Deaf) (server_takes w chosen m.from (for_server m)) tt
+    (server_flat w chosen m.from (for_server m))
+
 drive_flat : (w : World) (d : ℕ) (m : Message) (o : Option DriveAt) → AreFlat (drive_hears w d m o).told
 drive_flat w d m None = tt
 drive_flat w d m (Some a) =
-    either_hand a.failed (quiet w delivery.Deaf) (drive_replies w d m.from (judges a (command_in m.body))) tt tt
+    either_hand (is_deaf a) (quiet w delivery.Deaf) (drive_replies w d m.from (judges a (command_in m.body))) tt tt
 
 client_flat : (w : World) (c : ℕ) (a : ClientAt) (from : Node) (m : Option ClientMessage)
     → AreFlat (client_takes w c a from m).told
@@ -101,7 +106,7 @@ heard_flat w c m (Some a) =
     (client_flat w c a m.from (for_client m))
 
 handed_flat : (w : World) (chosen : List ℕ) (m : Message) (to : Node) → AreFlat (handed_to w chosen m to).told
-handed_flat w chosen m node.Server = server_flat w chosen m.from (for_server m)
+handed_flat w chosen m node.Server = heard_by_server w chosen m
 handed_flat w chosen m (node.Drive d) = drive_flat w d m (at_number w.drives d)
 handed_flat w chosen m (node.Client c) = heard_flat w c m (at_number w.clients c)
 
@@ -116,21 +121,45 @@ named_again node.Server = refl
 named_again (node.Drive d) = refl
 named_again (node.Client c) = refl
 
-brought_for : (now : ℕ) (p : Posted) (to : Node) → heard_for now (shown p) (party_of to) ≡ brought_to now p.message to
-brought_for now p node.Server =
-    from_party now (party_of p.message.from) _
-    ∙ ap (λ (n : Node). heard_of now n (message_in n (spelled p.message.body))) (named_again p.message.from)
-brought_for now p (node.Drive d) = refl
-brought_for now p (node.Client c) = refl
+-- what is delivered to the server, heard or not
+server_takes_it : (w : World) (chosen : List ℕ) (from : Node) (m : Option ServerMessage)
+    → (server_takes w chosen from m).receipt ≡ delivery.Taken
+server_takes_it w chosen from None = refl
+server_takes_it w chosen from (Some m) = refl
 
-brought_with : (now : ℕ) (o : Option Posted) → heard now (option_map shown o) ≡ brought now o
-brought_with now None = refl
-brought_with now (Some p) = brought_for now p p.message.to
+server_input : (w v : World) (n : ℕ) (chosen : List ℕ) (p : Posted) (b : Bool)
+    → heard w.clock (slice_get (server_of w).sent n) ≡ heard_of w.clock p.message.from (for_server p.message)
+    → input_at (server_of w) (line.Delivered n
+    (if b then quiet v delivery.Deaf else server_takes v chosen p.message.from (for_server p.message)).receipt)
+    ≡ (if b then None else heard_of w.clock p.message.from (for_server p.message))
+server_input w v n chosen p true comes = refl
+server_input w v n chosen p false comes =
+    ap (λ (d : Delivery). input_at (server_of w) (line.Delivered n d))
+    (server_takes_it v chosen p.message.from (for_server p.message)) ∙ comes
 
-delivered_input : (w : World) (n : ℕ) (d : Delivery) (o : Option Posted) → slice_get w.network.messages n ≡ o
-    → input_at (server_of w) (line.Delivered n d) ≡ brought w.clock o
-delivered_input w n d o found =
-    ap (heard w.clock) (shown_get w.network.messages n o found) ∙ brought_with w.clock o
+-- what isn't for the server brings it nothing
+no_input : (w : World) (n : ℕ) (d : Delivery) → heard w.clock (slice_get (server_of w).sent n) ≡ None
+    → input_at (server_of w) (line.Delivered n d) ≡ None
+no_input w n delivery.Deaf comes = refl
+no_input w n delivery.Taken comes = comes
+no_input w n (delivery.Judged v) comes = comes
+
+handed_input : (w : World) (chosen : List ℕ) (n : ℕ) (p : Posted) (to : Node)
+    → heard w.clock (slice_get (server_of w).sent n) ≡ heard_for w.clock (shown p) (party_of to)
+    → input_at (server_of w) (line.Delivered n (handed_to (marked w n p) chosen p.message to).receipt)
+    ≡ brought_to w p.message to
+handed_input w chosen n p node.Server comes =
+    server_input w (marked w n p) n chosen p w.down
+    (comes ∙ from_party w.clock (party_of p.message.from) _
+    ∙ ap (λ (x : Node). heard_of w.clock x (message_in x (spelled p.message.body))) (named_again p.message.from))
+handed_input w chosen n p (node.Drive d) comes = no_input w n _ comes
+handed_input w chosen n p (node.Client c) comes = no_input w n _ comes
+
+delivered_input : (w : World) (chosen : List ℕ) (n : ℕ) (p : Posted) → slice_get w.network.messages n ≡ Some p
+    → input_at (server_of w) (line.Delivered n (handed_to (marked w n p) chosen p.message p.message.to).receipt)
+    ≡ brought_to w p.message p.message.to
+delivered_input w chosen n p found =
+    handed_input w chosen n p p.message.to (ap (heard w.clock) (shown_get w.network.messages n (Some p) found))
 
 -- ---- an action that leads a step of its own
 
@@ -142,15 +171,15 @@ pub data Leads (w : World) (i : Option Input) (a : Act) : Type 0 where
       → input_at (server_of w) l ≡ i → AreFlat rest → Leads w i a
 
 found_leads : (w : World) (chosen : List ℕ) (n : ℕ) (o : Option Posted) → slice_get w.network.messages n ≡ o
-    → Leads w (brought w.clock o) (delivers_found w chosen n o)
+    → Leads w (brought w o) (delivers_found w chosen n o)
 found_leads w chosen n None found = Silent refl refl refl
 found_leads w chosen n (Some p) found =
     let h = handed_to (marked w n p) chosen p.message p.message.to in
-    Heads (line.Delivered n h.receipt) h.told refl refl refl (delivered_input w n h.receipt (Some p) found)
+    Heads (line.Delivered n h.receipt) h.told refl refl refl (delivered_input w chosen n p found)
     (handed_flat (marked w n p) chosen p.message p.message.to)
 
 pub delivers_lead : (w : World) (chosen : List ℕ) (n : ℕ)
-    → Leads w (brought w.clock (slice_get w.network.messages n)) (delivers w chosen n)
+    → Leads w (brought w (slice_get w.network.messages n)) (delivers w chosen n)
 unfolding delivers
 delivers_lead w chosen n = found_leads w chosen n (slice_get w.network.messages n) refl
 
@@ -249,14 +278,16 @@ makes_flat w chosen f m tag =
     either_act (has_algorithm m) (made_file w f (create_file w.server f m tag chosen)) _
     (made_flat w f (create_file w.server f m tag chosen)) (refl, refl, tt)
 
-added_flat : (w : World) (d : ℕ) (key : List ℕ) (capacity : ℕ) → AreFlat (adds_drive w d key capacity).told
-added_flat w d key capacity =
-    either_act (knows_drive w.server d) (changed (and_drive w d (made_drive d key capacity))) _ tt
-    (gives_flat (and_drive w d (made_drive d key capacity)) [] (Adds (known_drive d key capacity)))
+added_flat : (w : World) (d : ℕ) (key : List ℕ) (capacity : ℕ) (stored : Bool)
+    → AreFlat (adds_drive w d key capacity stored).told
+added_flat w d key capacity stored =
+    either_act (knows_drive w.server d) (changed (and_drive w d (made_drive d key capacity stored))) _ tt
+    (gives_flat (and_drive w d (made_drive d key capacity stored)) [] (Adds (known_drive d key capacity)))
 
 pub begins_flat : (w : World) (chosen : List ℕ) (e : Event) → leads e ≡ false → AreFlat (begins w chosen e).told
 unfolding begins
-begins_flat w chosen (event.Drive d key capacity) p = added_flat w d key capacity
+begins_flat w chosen (event.Drive d key capacity) p = added_flat w d key capacity false
+begins_flat w chosen (event.Disk d key capacity) p = added_flat w d key capacity true
 begins_flat w chosen (event.File f m tag) p = makes_flat w chosen f (raw_of m) tag
 begins_flat w chosen (event.Format format) p = gives_flat w chosen _
 begins_flat w chosen (event.Do c x) p = calls_flat w c (op_of x)
@@ -274,4 +305,8 @@ begins_flat w chosen (event.Revoke f) p = gives_flat w chosen _
 begins_flat w chosen (event.Rebuild f) p = gives_flat w chosen _
 begins_flat w chosen (event.Audit f) p = gives_flat w chosen _
 begins_flat w chosen (event.Declare d) p = gives_flat w chosen _
+begins_flat w chosen (event.Crash (machine.Drive d)) p = tt
+begins_flat w chosen (event.Crash machine.Server) p = gives_flat (with_down w true) chosen _
+begins_flat w chosen (event.Reopen (machine.Drive d)) p = tt
+begins_flat w chosen (event.Reopen machine.Server) p = gives_flat (with_down w false) chosen _
 begins_flat w chosen e p = tt

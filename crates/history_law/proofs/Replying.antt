@@ -18,7 +18,7 @@ use Rattle.scenario_text.specs.declared.line.Party.TheVariants as party
 use Rattle.world_history.specs.declared.messages.Sent.{Sent}
 use Rattle.world_history.specs.State.{DriveAt}
 use Rattle.world_history.specs.Told.{told_verdict}
-use Rattle.world_history.specs.Drives.{verdict_on, judges}
+use Rattle.world_history.specs.Drives.{verdict_on, judges, is_deaf}
 use Rattle.world_history.specs.Reading.{is_drive}
 use Rattle.world_history.specs.ReadDrives.{hears_bytes, hears_sent, where_it_is}
 use Rattle.history_law.specs.Touching.{TouchesItsOwn}
@@ -55,9 +55,9 @@ changes_another k d f a other = ap (λ (b : Bool). if b then option_map f a else
 
 -- ---- what becomes of it
 
--- a drive that stands judges what it hears
-pub heard : (a : DriveAt) (bytes : List ℕ) → a.failed ≡ false → hears_bytes bytes a ≡ (judges a (reading bytes)).drive
-heard a bytes lives = ap (λ (b : Bool). if b then a else (judges a (reading bytes)).drive) lives
+-- a drive that hears judges what comes to it
+pub heard : (a : DriveAt) (bytes : List ℕ) → is_deaf a ≡ false → hears_bytes bytes a ≡ (judges a (reading bytes)).drive
+heard a bytes hears = ap (λ (b : Bool). if b then a else (judges a (reading bytes)).drive) hears
 
 -- it tells that it performs where it finds no fault
 told_clear : (v : Verdict) → told.Perform ≡ told_verdict v → v ≡ drive.Perform

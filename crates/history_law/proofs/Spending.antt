@@ -7,7 +7,7 @@ use Rattle.std.specs.BTreeMap.{insert_entry}
 use Rattle.std.proofs.lemmas.List.{append-nil}
 use Rattle.std.proofs.lemmas.List.Sums.{fold-append}
 use Rattle.std.proofs.lemmas.Option.{same_Some}
-use Rattle.osd_lists.proofs.Tests.{not_apart}
+use Rattle.osd_lists.proofs.Tests.{first_false, not_apart}
 use Rattle.osd_commands.specs.declared.actions.Action.{Action}
 use Rattle.osd_commands.specs.declared.actions.Action.TheVariants as action
 use Rattle.osd_commands.specs.declared.commands.Command.{Command}
@@ -33,7 +33,7 @@ use Rattle.scenario_text.specs.declared.line.Line.{Line}
 use Rattle.scenario_text.specs.declared.line.Line.TheVariants as line
 use Rattle.world_history.specs.declared.messages.Sent.{Sent}
 use Rattle.world_history.specs.State.{DriveAt}
-use Rattle.world_history.specs.Drives.{judges, made_drive, raised, at_time, fallen}
+use Rattle.world_history.specs.Drives.{judges, made_drive, raised, at_time, fallen, crashed, reopened, is_deaf}
 use Rattle.world_history.specs.Reading.{is_drive}
 use Rattle.world_history.specs.ReadDrives.{DriveSeen, sees_drive, drive_seen, drive_after, drive_after_event, drive_after_line, hears_bytes, hears_sent}
 use Rattle.history_law.specs.Judging.{Judges}
@@ -197,35 +197,54 @@ raised_stays format a = drive_stays a (raised a format) (λ f. f) (grind (arith,
 sent_stays : (d : ℕ) (o : Option DriveAt) (m : Option Sent) → Stays o (hears_sent d o m)
 sent_stays d o None = same_stays o
 sent_stays d o (Some m) =
-    where_stays (is_drive d m.to) (hears_bytes m.bytes) o (λ a. heard_stays m.bytes a a.failed)
+    where_stays (is_drive d m.to) (hears_bytes m.bytes) o (λ a. heard_stays m.bytes a (is_deaf a))
 
 made_stays : (b : Bool) (o : Option DriveAt) (a : DriveAt) → (b ≡ true → o ≡ None) → Stays o (if b then Some a else o)
 made_stays true o a none c spent = absurd (subst (λ (x : Option DriveAt). IsSpent x c) (none refl) spent)
 made_stays false o a none c spent = spent
 
-event_stays : (d : ℕ) (o : Option DriveAt) (e : Event)
-    → ((key : List ℕ) (capacity : ℕ) → e ≡ event.Drive d key capacity → o ≡ None) → Stays o (drive_after_event d o e)
-event_stays d o (event.Drive k key capacity) none =
-    made_stays (k == d) o (made_drive k key capacity) (λ (is : (k == d) ≡ true). none key capacity (elim (cases_eq k d) [
-      | inl same ↦ ap (λ (x : ℕ). event.Drive x key capacity) same
-      | inr other ↦ absurd (cc (sym is ∙ ne_eqb k d other))
-    ]))
-event_stays d o (event.Least k format) none = where_stays (k == d) _ o (raised_stays format)
-event_stays d o (event.Clock (machine.Drive k) time) none =
-    where_stays (k == d) _ o (λ a. drive_stays a (at_time a time) (λ f. f) (omega arith) (same_store a.state.store))
-event_stays d o (event.Clock machine.Server time) none = same_stays o
-event_stays d o (event.Fail k) none = where_stays (k == d) fallen o fallen_stays
-event_stays d o e none = same_stays o
+-- drive d isn't there before it is made
+made_fresh : (before : List Line) (d k : ℕ) → drive_after before k ≡ None → (k == d) ≡ true → drive_after before d ≡ None
+made_fresh before d k none is = elim (cases_eq k d) [
+  | inl same ↦ ap (drive_after before) (sym same) ∙ none
+  | inr other ↦ absurd (cc (sym is ∙ ne_eqb k d other))
+]
 
-line_stays : (d : ℕ) (s : DriveSeen) (l : Line)
-    → ((key : List ℕ) (capacity : ℕ) → l ≡ line.Event (event.Drive d key capacity) → s.drive ≡ None)
-    → Stays s.drive (drive_after_line d s l)
-line_stays d s (line.Event e) none =
-    event_stays d s.drive e (λ key capacity is. none key capacity (ap (λ (x : Event). line.Event x) is))
-line_stays d s (line.Delivered number delivery) none = sent_stays d s.drive (slice_get s.sent number)
-line_stays d s (line.Judged k v) none =
-    where_stays (k == d) (hears_bytes s.injected) s.drive (λ a. heard_stays s.injected a a.failed)
-line_stays d s l none = same_stays s.drive
+-- a change of one drive that leaves its format and its objects
+kept_stays : (a b : DriveAt) → (a.failed ≡ true → b.failed ≡ true) → b.state ≡ a.state → Stays (Some a) (Some b)
+kept_stays a b failed same =
+    drive_stays a b failed (omega (arith, ap (λ (s : DriveState). s.least) same))
+    (subst (λ (s : DriveState). StoreGrows a.state.store s.store) (sym same) (same_store a.state.store))
+
+event_stays : (before : List Line) (d : ℕ) (e : Event) → ArisesAt before (line.Event e)
+    → Stays (drive_after before d) (drive_after_event d (drive_after before d) e)
+event_stays before d (event.Drive k key capacity) arises =
+    made_stays (k == d) (drive_after before d) (made_drive k key capacity false) (made_fresh before d k arises)
+event_stays before d (event.Disk k key capacity) arises =
+    made_stays (k == d) (drive_after before d) (made_drive k key capacity true) (made_fresh before d k arises)
+event_stays before d (event.Least k format) arises =
+    where_stays (k == d) _ (drive_after before d) (raised_stays format)
+event_stays before d (event.Clock (machine.Drive k) time) arises =
+    where_stays (k == d) _ (drive_after before d) (λ a. kept_stays a (at_time a time) (λ f. f) refl)
+event_stays before d (event.Clock machine.Server time) arises = same_stays (drive_after before d)
+event_stays before d (event.Fail k) arises = where_stays (k == d) fallen (drive_after before d) fallen_stays
+event_stays before d (event.Crash (machine.Drive k)) arises =
+    where_stays (k == d) crashed (drive_after before d) (λ a. kept_stays a (crashed a) (λ f. f) refl)
+event_stays before d (event.Crash machine.Server) arises = same_stays (drive_after before d)
+event_stays before d (event.Reopen (machine.Drive k)) arises =
+    where_stays (k == d) reopened (drive_after before d) (λ a. kept_stays a (reopened a) (λ f. f) refl)
+event_stays before d (event.Reopen machine.Server) arises = same_stays (drive_after before d)
+event_stays before d e arises = same_stays (drive_after before d)
+
+line_stays : (before : List Line) (d : ℕ) (l : Line) → ArisesAt before l
+    → Stays (drive_after before d) (drive_after_line d (drive_seen d before) l)
+line_stays before d (line.Event e) arises = event_stays before d e arises
+line_stays before d (line.Delivered number delivery) arises =
+    sent_stays d (drive_after before d) (slice_get (drive_seen d before).sent number)
+line_stays before d (line.Judged k v) arises =
+    where_stays (k == d) (hears_bytes (drive_seen d before).injected) (drive_after before d)
+    (λ a. heard_stays (drive_seen d before).injected a (is_deaf a))
+line_stays before d l arises = same_stays (drive_after before d)
 
 -- ---- all lines
 
@@ -234,7 +253,7 @@ one_stays : (before : List Line) (l : Line) (d : ℕ) → ArisesAt before l
 one_stays before l d arises =
     subst (Stays (drive_after before d))
     (sym (ap (λ (s : DriveSeen). s.drive) (fold-append (sees_drive d) _ before (l ∷ []))))
-    (line_stays d (drive_seen d before) l (λ key capacity is. subst (ArisesAt before) is arises))
+    (line_stays before d l arises)
 
 lines_stay : (before lines : List Line) (d : ℕ) → EachBehind HoldsAt before lines
     → Stays (drive_after before d) (drive_after (before ++ lines) d)
@@ -274,10 +293,10 @@ not_spent_on c (Some x) finds tag stale repeated (inr (inl old)) =
 not_spent_on c (Some x) finds tag stale repeated (inr (inr late)) =
     later_lane (lane_of x.lanes c.capability.holder) c.nonce (rw late.0 at stale) (rw late.0 at repeated) late.1
 
-not_spent : (a : DriveAt) (c : Command) → a.failed ≡ false → IsFree a.state c → IsSpent (Some a) c → ⊥
-not_spent a c lives f (inl failed) = cc (sym failed ∙ lives)
-not_spent a c lives f (inr (inl old)) = grind (arith, f.format, old, nat_tests)
-not_spent a c lives f (inr (inr spent)) =
+not_spent : (a : DriveAt) (c : Command) → is_deaf a ≡ false → IsFree a.state c → IsSpent (Some a) c → ⊥
+not_spent a c hears f (inl failed) = cc (sym failed ∙ first_false a.failed a.down hears)
+not_spent a c hears f (inr (inl old)) = grind (arith, f.format, old, nat_tests)
+not_spent a c hears f (inr (inr spent)) =
     not_spent_on c (object_at a.state.store c.object) f.finds f.tag f.stale f.repeated spent
 
 -- ---- what was performed
@@ -323,7 +342,7 @@ becomes_performed a bytes c read clear =
 refuses : (before : List Line) (l : Line) (d : ℕ) (bytes : List ℕ) (c : Command) → Judges before l d bytes told.Perform
     → reading bytes ≡ Ok c → IsSpent (drive_after before d) c → ⊥
 refuses before l d bytes c j read spent =
-    not_spent j.there c j.lives (free j.there.state j.there.clock c (is_clear j.there bytes c read j.verdict))
+    not_spent j.there c j.hears (free j.there.state j.there.clock c (is_clear j.there bytes c read j.verdict))
     (subst (λ (o : Option DriveAt). IsSpent o c) j.stands spent)
 
 spends : (before : List Line) (l : Line) (d : ℕ) (bytes : List ℕ) (c : Command) → Judges before l d bytes told.Perform

@@ -28,10 +28,15 @@ changed k d f o h = either_drive (k == d) (option_map f o) o (mapped o f h) h
 
 by_event : (d : ℕ) (o : Option DriveAt) (e : Event) → is_some o ≡ true → is_some (drive_after_event d o e) ≡ true
 by_event d o (event.Drive k key capacity) h = either_drive (k == d) _ o refl h
+by_event d o (event.Disk k key capacity) h = either_drive (k == d) _ o refl h
 by_event d o (event.Least k format) h = changed k d _ o h
 by_event d o (event.Clock (machine.Drive k) time) h = changed k d _ o h
 by_event d o (event.Clock machine.Server time) h = h
 by_event d o (event.Fail k) h = changed k d _ o h
+by_event d o (event.Crash (machine.Drive k)) h = changed k d _ o h
+by_event d o (event.Crash machine.Server) h = h
+by_event d o (event.Reopen (machine.Drive k)) h = changed k d _ o h
+by_event d o (event.Reopen machine.Server) h = h
 by_event d o e h = h
 
 by_message : (d : ℕ) (o : Option DriveAt) (s : Option Sent) → is_some o ≡ true → is_some (hears_sent d o s) ≡ true

@@ -26,26 +26,27 @@ abbrev pub heard_of : (now : ℕ) → (from : Node) → Option ServerMessage →
 heard_of now from None = None
 heard_of now from (Some m) = Some (Hears now from m)
 
--- with a message, where it is for the server
-abbrev pub brought_to : (now : ℕ) → Message → Node → Option Input
-brought_to now m node.Server = heard_of now m.from (for_server m)
-brought_to now m to = None
+-- with a message, where it is for the server; one that is down hears nothing
+abbrev pub brought_to : World → Message → Node → Option Input
+brought_to w m node.Server = if w.down then None else heard_of w.clock m.from (for_server m)
+brought_to w m to = None
 
 -- with the delivery of a message that was sent
-abbrev pub brought : (now : ℕ) → Option Posted → Option Input
-brought now None = None
-brought now (Some p) = brought_to now p.message p.message.to
+abbrev pub brought : World → Option Posted → Option Input
+brought w None = None
+brought w (Some p) = brought_to w p.message p.message.to
 
 -- with an event: a drive that it knows is nothing new
 abbrev pub given_by : Server → Event → Option Input
 given_by s (event.Drive d key capacity) = if knows_drive s d then None else Some (Adds (known_drive d key capacity))
+given_by s (event.Disk d key capacity) = if knows_drive s d then None else Some (Adds (known_drive d key capacity))
 given_by s e = input_of e
 
 -- with a move
 abbrev pub input_in : World → Action → Option Input
-input_in w (Opens (event.Deliver number)) = brought w.clock (slice_get w.network.messages number)
+input_in w (Opens (event.Deliver number)) = brought w (slice_get w.network.messages number)
 input_in w (Opens e) = given_by w.server e
-input_in w (Delivers number) = brought w.clock (slice_get w.network.messages number)
+input_in w (Delivers number) = brought w (slice_get w.network.messages number)
 input_in w action = None
 
 -- ---- what it does

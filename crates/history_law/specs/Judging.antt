@@ -16,30 +16,30 @@ use Rattle.scenario_text.specs.declared.line.Line.{Line}
 use Rattle.scenario_text.specs.declared.line.Line.TheVariants as line
 use Rattle.world_history.specs.declared.messages.Sent.{Sent}
 use Rattle.world_history.specs.State.{DriveAt}
-use Rattle.world_history.specs.Drives.{verdict_on, judges}
+use Rattle.world_history.specs.Drives.{verdict_on, judges, is_deaf}
 use Rattle.world_history.specs.Reading.{sent_in}
 use Rattle.world_history.specs.ReadDrives.{drive_seen, drive_after}
 use Rattle.history_law.specs.Touching.{IsInside, TouchesItsOwn}
 
 -- ---- verdicts
 
--- A drive that stands judges bytes at a line: the verdict is the first fault that it finds, and it becomes what its rules
+-- A drive that hears judges bytes at a line: the verdict is the first fault that it finds, and it becomes what its rules
 -- make of them. No other drive changes, and a command that it performs touches its own object and range alone.
 pub record Judges (before : List Line) (l : Line) (drive : ℕ) (bytes : List ℕ) (v : Verdict) : Type 0 where
   pub there : DriveAt
   pub stands : drive_after before drive ≡ Some there
-  pub lives : there.failed ≡ false
+  pub hears : is_deaf there ≡ false
   pub verdict : v ≡ verdict_on there.state there.clock (reading bytes)
   pub becomes : drive_after (before ++ l ∷ []) drive ≡ Some (judges there (reading bytes)).drive
   pub others : (d : ℕ) → (d ≡ drive → ⊥) → drive_after (before ++ l ∷ []) d ≡ drive_after before d
   pub touches : v ≡ Perform → (c : Command) → reading bytes ≡ Ok c → TouchesItsOwn there.state c
 
--- what is judged is for that drive, and what isn't judged is for no drive that stands
+-- what is judged is for that drive, and what isn't judged is for no drive that hears
 abbrev pub Delivers : (before : List Line) → (number : ℕ) → Delivery → Sent → Type 0
 Delivers before number (Judged v) m =
     (d : ℕ) × (m.to ≡ Drive d) × Judges before (line.Delivered number (Judged v)) d m.bytes v
 Delivers before number delivery m =
-    (d : ℕ) (a : DriveAt) → m.to ≡ Drive d → drive_after before d ≡ Some a → a.failed ≡ true
+    (d : ℕ) (a : DriveAt) → m.to ≡ Drive d → drive_after before d ≡ Some a → is_deaf a ≡ true
 
 -- what is delivered was sent
 pub record IsDelivered (before : List Line) (number : ℕ) (delivery : Delivery) : Type 0 where

@@ -3,5 +3,7 @@ pub mod PlacingLaws
 pub mod OrderLaws
 pub mod HearLaws
 pub mod CreateLaws
+pub mod RoundLaws
 pub mod DeclareLaws
+pub mod OpeningLaws
 pub mod ResendLaws

@@ -1,24 +1,22 @@
 ghost use Rattle.std.specs.Prelude.{◌≡◌, ◌==◌, ◌≤◌, ℕ, List, find, is_some, length, IfOk, OnOk};
-ghost use Rattle.std.specs.Ordering.{nat_cmp};
-ghost use Rattle.std.specs.BTreeMap.{insert_entry};
 ghost use Rattle.layout_ops.specs.declared.orders.OrderKind.TheVariants as order;
+ghost use Rattle.server_rules.specs.Jobs.{declares};
 ghost use Rattle.server_rules.specs.Orders.{ordered, declare, offline};
 ghost use Rattle.stripe_repair.specs.Placing.{AreDifferent, drives_of};
 ghost use Rattle.stripe_repair.specs.declared.loads.TheConstants.{MAX_DRIVES};
+ghost use Rattle.file_jobs.specs.Placing.{AreLoadsOf};
 ghost use Rattle.server_state.specs.States.{server_of, Did, IsGood};
-ghost use Rattle.server_state.specs.Tables.{AreEntries};
-ghost use Rattle.layout_server.specs.Declaring.{Declares};
 ghost use Rattle.layout_server.specs.Orders.{Obeys};
 
 use crate::loads::loads_of;
 use crate::orders::{Obeyed, unknown};
+use crate::rounds::{FileStep, at_each_file};
 use file_jobs::{FileState, declare as declare_at};
 use layout_ops::OrderResult;
 use osd_lists::Memory;
-use server_rules::{COUNTERS_END, Drive, Effects};
-use server_state::{Drives, Files, State, Step, finish_step, list_all, no_effects};
+use server_rules::{Drive, Effects};
+use server_state::{Drives, State, Step, finish_step, list_all, no_effects};
 use std::alloc::Global;
-use std::mem;
 use stripe_repair::{DriveLoad, Place};
 
 // The drives, of which one is offline.
@@ -46,38 +44,31 @@ fn is_known(drives: &[Drive], number: u32) -> bool
     false
 }
 
-/// The file stands at its number.
-pub fn put(files: &mut Files, number: u32, file: FileState) -> Result<(), Memory>
-    ensures { OnOk result (files.new.entries ≡ insert_entry nat_cmp files.old.entries number file) }
-{
-    files.insert(number, file)?;
-    Ok(())
+// A drive that is declared. It isn't online any more among the loads.
+#[derive(Drop)]
+struct Declaration<'a, P> {
+    drive: u32,
+    loads: &'a [DriveLoad],
+    placer: &'a P,
 }
 
-// At each file, in order, the components on the drive are missing. There must be room in the counters for each.
-fn declare_each<P: Place>(
-    alloc: Global,
-    files: &mut Files,
-    effects: &mut Effects,
-    drive: u32,
-    loads: &[DriveLoad],
-    placer: &P,
-) -> Result<(), Memory>
-    requires few { length loads.now ≤ MAX_DRIVES }
-    requires different { AreDifferent (drives_of loads.now) }
-    requires placer { P.is_placer placer.now }
-    requires files { AreEntries files.old.entries }
-    ensures { OnOk result (Declares drive loads.now files.old.entries effects.old files.new.entries effects.new) }
-{
-    let left = mem::replace(files, Files::new(alloc));
-    for (number, mut file) in left {
-        if effects.nonce >= COUNTERS_END || effects.object >= COUNTERS_END {
-            return Err(Memory);
-        }
-        declare_at(alloc, &mut file, effects, drive, loads, placer)?;
-        put(files, number, file)?;
+impl<'a, P: Place> FileStep for Declaration<'a, P> {
+    ghost rule = { λ d g. declares g d.drive };
+
+    ghost fits = { λ d ds. AreLoadsOf d.loads.now ds };
+
+    ghost can = { λ d. (length d.loads.now ≤ MAX_DRIVES) × AreDifferent (drives_of d.loads.now)
+        × P.is_placer d.placer.now };
+
+    fn at_file(
+        &self,
+        alloc: Global,
+        file: &mut FileState,
+        effects: &mut Effects,
+    ) -> Result<(), Memory> {
+        declare_at(alloc, file, effects, self.drive, self.loads, self.placer)?;
+        Ok(())
     }
-    Ok(())
 }
 
 // The step of a declaration of a drive that there is.
@@ -95,9 +86,13 @@ fn declare_all<P: Place>(
 {
     state.drives = offline(alloc, state.drives.as_slice(), drive)?;
     let loads = loads_of(alloc, state)?;
-    let loads = loads.as_slice();
+    let declaration = Declaration {
+        drive,
+        loads: loads.as_slice(),
+        placer,
+    };
     let mut effects = no_effects(alloc, state.next_nonce, state.next_object);
-    declare_each(alloc, &mut state.files, &mut effects, drive, loads, placer)?;
+    at_each_file(alloc, &mut state.files, &mut effects, &declaration)?;
     let step = finish_step(alloc, state, effects)?;
     list_all(alloc, state)?;
     Ok(step)

@@ -13,7 +13,7 @@ ghost use Rattle.server_state.specs.States.{server_of, HasRoom, IsGood};
 ghost use Rattle.layout_server.specs.Creating.{map_unless, unmade_by, Creates, IsRefused};
 
 use crate::loads::loads_of;
-use crate::lost_drives::put;
+use crate::rounds::put;
 use data_map::{DataMap, MAX_STRIPE_UNIT, MapErr, RawMap};
 use file_jobs::{FileState, make};
 use osd_lists::{Memory, Numbers, Sequence};

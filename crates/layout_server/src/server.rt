@@ -7,6 +7,7 @@ ghost use Rattle.server_rules.specs.Envelopes.{on_bytes};
 ghost use Rattle.server_rules.specs.Files.{file_at};
 ghost use Rattle.server_rules.specs.Making.{add_drive, new_server, set_format};
 ghost use Rattle.server_rules.specs.Messages.{counters_have_room, resend};
+ghost use Rattle.server_rules.specs.Openings.{crash, reopen};
 ghost use Rattle.server_rules.specs.Orders.{ordered};
 ghost use Rattle.server_requests.specs.Sending.{all_sent};
 ghost use Rattle.server_state.specs.States.{server_of, Did, HasRoom, IsGood};
@@ -19,6 +20,7 @@ use crate::kept_files::{kept_of, numbers_of};
 use crate::lost_drives::order_declare;
 use crate::messages::{hear, obey};
 use crate::new_files::{FileErr, create_file};
+use crate::openings::{crash, reopen};
 use crate::orders::order_recall;
 use crate::resends::{resend, waits};
 use data_map::RawMap;
@@ -242,6 +244,34 @@ impl ServerCore {
         let obeyed = order_declare(self.alloc, &mut state, drive, placer)?;
         self.keep(state);
         Ok(obeyed.step)
+    }
+
+    /// The server crashes: no job runs any more, and no file counts as refused at the last opening. All else that the
+    /// server has is kept.
+    pub fn crash(&mut self) -> Result<(), Memory>
+        ensures { OnOk result (self.new ≡ crash self.old) }
+    {
+        let mut state = self.begin()?;
+        crash(self.alloc, &mut state)?;
+        self.keep(state);
+        Ok(())
+    }
+
+    /// The server is opened after a crash. In the order of their numbers each file that has a grant, or whose fence or
+    /// repair isn't over, is fenced; if its tag is the greatest that is refused, and noted. Any other that isn't ready
+    /// is made, by a CREATE for each present component. Nothing changes where the counters have no room.
+    ///
+    /// # Errors
+    ///
+    /// Want of memory; and, in place of it, a counter of 64 bits without room in the middle of the step.
+    pub fn reopen(&mut self) -> Result<Step, Memory>
+        ensures { IfOk result (λ out. Did out self.new (reopen self.old)) }
+    {
+        let has_room = self.counters_low();
+        let mut state = self.begin()?;
+        let step = reopen(self.alloc, &mut state, has_room)?;
+        self.keep(state);
+        Ok(step)
     }
 
     /// Every command that a job waits for, once more.

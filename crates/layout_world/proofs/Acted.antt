@@ -14,7 +14,7 @@ use Rattle.scenario_text.specs.declared.line.Line.TheVariants as line
 use Rattle.osd_lists.specs.declared.memory.Memory.{Memory}
 use Rattle.osd_commands.specs.Commands as commands
 use Rattle.world_history.specs.ServerNames.{Mended}
-use Rattle.world_history.specs.State.{DriveAt, ClientAt, World, at_number, with_server, and_drive, and_number}
+use Rattle.world_history.specs.State.{DriveAt, ClientAt, World, at_number, with_server, with_down, and_drive, and_number}
 use Rattle.world_history.specs.Book.{step_by}
 use Rattle.world_history.specs.Calm.{mended_in}
 use Rattle.world_history.specs.Drives.{made_drive}
@@ -30,8 +30,8 @@ use Rattle.layout_world.specs.ServerActing as server
 use Rattle.layout_world.specs.declared.parties.Parties.{Parties}
 use Rattle.layout_world.specs.State.{ShowsWith, Shows}
 use Rattle.layout_world.specs.Groups.{is_plain}
-use Rattle.layout_world.specs.Acting.{Doing, Acts, ActsWith, ends_in}
-use Rattle.layout_world.proofs.Shown.{shows_drives, shows_clients, shows_server}
+use Rattle.layout_world.specs.Acting.{Doing, Acts, ActsWith, ends_by, ends_in}
+use Rattle.layout_world.proofs.Shown.{shows_drives, shows_clients, shows_server, shows_down}
 
 -- what is done, with the world that the parties show then
 pub doing : (does : List ℕ → WorldAct) (ends : List ℕ → List Mended) (chosen : List ℕ) (after : World) (new : Parties)
@@ -175,21 +175,37 @@ server_makes old x act f m tag h =
 
 -- a drive is made
 pub server_adds : (old : Parties) (t : List (ℕ × DriveAt)) (x : WorldServerState) (act : Act) (d : ℕ) (key : List ℕ)
-    (capacity : ℕ) → t ≡ and_number old.drives d (made_drive d key capacity)
+    (capacity : ℕ) (stored : Bool) → t ≡ and_number old.drives d (made_drive d key capacity stored)
     → server.Adds old.server.state d key capacity x.state act → x.mended ≡ old.server.mended
-    → Acts (λ w chosen. adds_drive w d key capacity) old (record old { drives = t; server = x }) act
-server_adds old t x act d key capacity e h same = λ w s.
-    let made : List (ℕ × DriveAt) = and_number w.drives d (made_drive d key capacity) in
-    let there : t ≡ made = e ∙ ap (λ (y : List (ℕ × DriveAt)). and_number y d (made_drive d key capacity)) s.drives in
-    doing (λ chosen. adds_drive w d key capacity) (λ chosen. []) []
-    (with_server (and_drive w d (made_drive d key capacity)) x.state) (record old { drives = t; server = x }) act
-    (h w (sym s.server))
+    → Acts (λ w chosen. adds_drive w d key capacity stored) old (record old { drives = t; server = x }) act
+server_adds old t x act d key capacity stored e h same = λ w s.
+    let one : DriveAt = made_drive d key capacity stored in
+    let made : List (ℕ × DriveAt) = and_number w.drives d one in
+    let there : t ≡ made = e ∙ ap (λ (y : List (ℕ × DriveAt)). and_number y d one) s.drives in
+    doing (λ chosen. adds_drive w d key capacity stored) (λ chosen. []) []
+    (with_server (and_drive w d one) x.state) (record old { drives = t; server = x }) act (h w stored (sym s.server))
     (subst (λ (rs : List Mended). ShowsWith rs (record old { drives = t; server = x })
-    (with_server (and_drive w d (made_drive d key capacity)) x.state)) (same ∙ s.mended)
-    (shows_server (record old { drives = t }) x (and_drive w d (made_drive d key capacity))
-    (shows_drives [] old t made w there s)))
+    (with_server (and_drive w d one) x.state)) (same ∙ s.mended)
+    (shows_server (record old { drives = t }) x (and_drive w d one) (shows_drives [] old t made w there s)))
+
+-- it crashes, or is opened again
+pub server_restarts : (old : Parties) (x : WorldServerState) (act : Act) (down : Bool) (i : Input)
+    → server.Gives old.server.state i x act
+    → ActsWith (λ w chosen. gives (with_down w down) chosen i) (ends_by i) old (record old { server = x; down = down }) act
+server_restarts old x act down i h = λ w s.
+    let ended : x.mended ≡ ends_by i w h.chosen = h.mended ∙ ap (λ (v : Server). (step v h.chosen i).mended) s.server in
+    doing (λ chosen. gives (with_down w down) chosen i) (ends_by i w) h.chosen (with_server (with_down w down) x.state)
+    (record old { server = x; down = down }) act (h.done (with_down w down) (sym s.server))
+    (subst (λ (rs : List Mended). ShowsWith rs (record old { server = x; down = down })
+    (with_server (with_down w down) x.state)) ended
+    (shows_server (record old { down = down }) x (with_down w down) (shows_down old down w s)))
 
 -- ---- an event that needs no placer ends no repair
+
+new_drive_ends : (w : World) (chosen : List ℕ) (d : ℕ) (key : List ℕ) (capacity : ℕ) (known : Bool)
+    → mended_in (step_by w.server chosen (if known then None else Some (Adds (known_drive d key capacity)))) ≡ []
+new_drive_ends w chosen d key capacity true = refl
+new_drive_ends w chosen d key capacity false = refl
 
 plain_ends : (w : World) (chosen : List ℕ) (e : Event) → is_plain e ≡ true → ends_in (Opens e) w chosen ≡ []
 plain_ends w chosen (event.Deliver n) p = absurd (true≢false (sym p))
@@ -199,25 +215,27 @@ plain_ends w chosen (event.Revoke f) p = absurd (true≢false (sym p))
 plain_ends w chosen (event.Rebuild f) p = absurd (true≢false (sym p))
 plain_ends w chosen (event.Audit f) p = absurd (true≢false (sym p))
 plain_ends w chosen (event.Declare d) p = absurd (true≢false (sym p))
-plain_ends w chosen (event.Drive d key capacity) p = either (knows_drive w.server d)
-  where
-    either : (b : Bool)
-        → mended_in (step_by w.server chosen (if b then None else Some (Adds (known_drive d key capacity)))) ≡ []
-    either true = refl
-    either false = refl
+plain_ends w chosen (event.Crash m) p = absurd (true≢false (sym p))
+plain_ends w chosen (event.Reopen m) p = absurd (true≢false (sym p))
+plain_ends w chosen (event.Drive d key capacity) p = new_drive_ends w chosen d key capacity (knows_drive w.server d)
+plain_ends w chosen (event.Disk d key capacity) p = new_drive_ends w chosen d key capacity (knows_drive w.server d)
 plain_ends w chosen e p = refl
+
+pub ends_none : (e : Event) (old new : Parties) (act : Act)
+    → ((w : World) (chosen : List ℕ) → ends_in (Opens e) w chosen ≡ []) → Acts (λ w chosen. begins w chosen e) old new act
+    → ActsWith (λ w chosen. begins w chosen e) (ends_in (Opens e)) old new act
+ends_none e old new act none h = λ w s.
+    let d = h w s in
+    record {
+      chosen = d.chosen;
+      shows = subst (λ (rs : List Mended). ShowsWith rs new (begins w d.chosen e).world) (sym (none w d.chosen)) d.shows;
+      is = d.is;
+    }
 
 pub plain_acts : (e : Event) (old new : Parties) (act : Act) → is_plain e ≡ true
     → Acts (λ w chosen. begins w chosen e) old new act
     → ActsWith (λ w chosen. begins w chosen e) (ends_in (Opens e)) old new act
-plain_acts e old new act p h = λ w s.
-    let d = h w s in
-    record {
-      chosen = d.chosen;
-      shows = subst (λ (rs : List Mended). ShowsWith rs new (begins w d.chosen e).world) (sym (plain_ends w d.chosen e p))
-          d.shows;
-      is = d.is;
-    }
+plain_acts e old new act p h = ends_none e old new act (λ w chosen. plain_ends w chosen e p) h
 
 pub plain_ok : (r : Result Act Memory) (e : Event) (old new : Parties) → is_plain e ≡ true
     → IfOk r (λ act. is_plain e ≡ true → Acts (λ w chosen. begins w chosen e) old new act)

@@ -6,8 +6,6 @@ use Rattle.osd_lists.specs.declared.memory.Memory.{Memory}
 use Rattle.osd_lists.proofs.Slices.{get_set}
 use Rattle.osd_commands.specs.Commands as commands
 use Rattle.server_rules.specs.declared.server.Server.{Server}
-use Rattle.server_rules.specs.Messages.{Message as ServerMessage}
-use Rattle.server_rules.specs.Envelopes.{message_in, on_message_in, on_bytes}
 use Rattle.scenario_text.specs.declared.line.Party.{Party}
 use Rattle.scenario_text.specs.declared.line.Party.TheVariants as party
 use Rattle.scenario_text.specs.declared.line.Line.{Line}
@@ -16,8 +14,7 @@ use Rattle.scenario_text.specs.declared.line.Delivery.{Delivery}
 use Rattle.world_history.specs.declared.messages.Message.{Message}
 use Rattle.world_history.specs.declared.messages.Posted.{Posted}
 use Rattle.world_history.specs.declared.messages.Sent.{Sent}
-use Rattle.world_history.specs.ServerNames.{Mended}
-use Rattle.world_history.specs.State.{DriveAt, World, with_server}
+use Rattle.world_history.specs.State.{DriveAt, World}
 use Rattle.world_history.specs.Spelled.{spelled, party_of, node_of}
 use Rattle.world_history.specs.Handed.{Handed as WorldHanded, handed, handed_to}
 use Rattle.world_history.specs.Book.{step_by}
@@ -34,14 +31,12 @@ use Rattle.world_parties.specs.Drives.{Heard as DrivesHeard, heard, Hears as Dri
 use Rattle.world_parties.specs.DriveLaws.{with_drives, DrivesHear}
 use Rattle.world_parties.specs.Clients.{Table, Heard as ClientsHeard, heard_in, Hears as ClientHears}
 use Rattle.world_parties.specs.ClientLaws.{with_clients, ClientsHear}
-use Rattle.layout_world.specs.ServerState.{WorldServerState}
-use Rattle.layout_world.specs.ServerActing.{Hears as ServerHears}
 use Rattle.layout_world.specs.declared.parties.Parties.{Parties}
-use Rattle.history_law.specs.Doing.{heard_of, brought}
+use Rattle.history_law.specs.Doing.{brought}
 use Rattle.layout_world.specs.State.{Settled, ShowsWith, Shows}
 use Rattle.layout_world.specs.Acting.{Doing, Acts, ActsWith, ends_in, ends_at, IsOf, Handing, Hands, HandsAt, HandsTo}
 use Rattle.layout_world.proofs.Settling.{settled_set}
-use Rattle.layout_world.proofs.Shown.{shows_drives, shows_clients, shows_server}
+use Rattle.layout_world.proofs.Shown.{shows_drives, shows_clients}
 use Rattle.layout_world.proofs.Acted.{nothing_told}
 
 -- ---- parties and their names
@@ -52,15 +47,15 @@ node_back (node.Drive d) = refl
 node_back (node.Client c) = refl
 
 -- for whom a message is
-receiver : (s : Sent) (m : Message) (to : Party) → IsOf s m → s.to ≡ to → m.to ≡ node_of to
+pub receiver : (s : Sent) (m : Message) (to : Party) → IsOf s m → s.to ≡ to → m.to ≡ node_of to
 receiver s m to i e = sym (node_back m.to) ∙ ap (λ (p : Party). node_of p) (sym i.to ∙ e)
 
-sender : (s : Sent) (m : Message) → IsOf s m → node_of s.from ≡ m.from
+pub sender : (s : Sent) (m : Message) → IsOf s m → node_of s.from ≡ m.from
 sender s m i = ap (λ (p : Party). node_of p) i.from ∙ node_back m.from
 
 -- ---- a receiver
 
-handing : (w : World) (m : Message) (chosen : List ℕ) (to : Node) (then : World) (new : Parties) (h : Handed) → m.to ≡ to
+pub handing : (w : World) (m : Message) (chosen : List ℕ) (to : Node) (then : World) (new : Parties) (h : Handed) → m.to ≡ to
     → IsHanded (handed_to w chosen m to) then h → ShowsWith (ends_at w chosen m to) new then → Handing w m new h
 handing w m chosen to then new h e i s =
     let is : IsHanded (handed w chosen m) then h =
@@ -103,28 +98,6 @@ client_handed law old t s c from h to by hears = λ w m sh i.
     (subst (λ (x : Handed). IsHanded (handed_to w [] m (node.Client c)) (with_clients w there.clients) x) (sym is) (law w c m))
     (shows_clients [] old t there.clients w (hears.clients ∙ ap (λ (x : ClientsHeard). x.clients) same) sh)
 
--- the repairs that end where the server hears bytes
-heard_mended : (s : Server) (now : ℕ) (chosen : List ℕ) (from : Node) (o : Option ServerMessage)
-    → (on_message_in s now chosen from o).mended ≡ mended_in (step_by s chosen (heard_of now from o))
-heard_mended s now chosen from None = refl
-heard_mended s now chosen from (Some m) = refl
-
-pub server_handed : (old : Parties) (x : WorldServerState) (s : Sent) (from : Node) (h : Handed)
-    → s.to ≡ party.Server → from ≡ node_of s.from → ServerHears old.server.state old.clock from s.bytes x h
-    → Hands s old (record old { server = x }) h
-server_handed old x s from h to by hears = λ w m sh i.
-    let ended : x.mended ≡ ends_at w hears.chosen m node.Server =
-    hears.mended ∙ ap (λ (v : Server). (on_bytes v old.clock hears.chosen from s.bytes).mended) sh.server
-    ∙ ap (λ (n : ℕ). (on_bytes w.server n hears.chosen from s.bytes).mended) sh.clock
-    ∙ ap (λ (n : Node). (on_bytes w.server w.clock hears.chosen n s.bytes).mended) (by ∙ sender s m i)
-    ∙ ap (λ (b : List ℕ). (on_bytes w.server w.clock hears.chosen m.from b).mended) i.bytes
-    ∙ heard_mended w.server w.clock hears.chosen m.from (message_in m.from (spelled m.body)) in
-    handing w m hears.chosen node.Server (with_server w x.state) (record old { server = x }) h
-    (receiver s m party.Server i to)
-    (hears.heard w m (sym sh.server) (sym sh.clock) (sym (by ∙ sender s m i)) (sym i.bytes))
-    (subst (λ (rs : List Mended). ShowsWith rs (record old { server = x }) (with_server w x.state)) ended
-    (shows_server old x w sh))
-
 -- whoever it is for
 pub hands_at : (number : ℕ) (to : Party) (r : Sent) (old new : Parties) (h : Handed)
     → slice_get old.network.messages number ≡ Some r → r.to ≡ to → HandsTo number to old new h → HandsAt number old new h
@@ -166,6 +139,7 @@ marked_shows old n' number w q law s f d = record {
   clients = s.clients;
   server = s.server;
   clock = s.clock;
+  down = s.down;
   network = (law old.network n' w number q s.network f).delivers d;
   settled = subst (λ (x : NetworkState). Settled 0 old.settled x.messages) (sym d.state)
       (settled_set 0 old.settled number old.network.messages (arrived d.message) refl s.settled);
@@ -182,7 +156,7 @@ delivers_none p number l = λ w s.
     let is : delivers w [] number ≡ changed w = ap (λ (x : Option Posted). delivers_found w [] number x) none in
     record {
       chosen = [];
-      shows = subst (λ (o : Option Posted). ShowsWith (mended_in (step_by w.server [] (brought w.clock o))) p
+      shows = subst (λ (o : Option Posted). ShowsWith (mended_in (step_by w.server [] (brought w o))) p
           (delivers w [] number).world) (sym none) (subst (λ (a : WorldAct). Shows p a.world) (sym is) s);
       is = subst (λ (a : WorldAct). IsAct a.told a.posts nothing) (sym is) (nothing_told w);
     }
@@ -199,7 +173,7 @@ told_first w number new q h act a f e =
     ap (λ (x : Option Posted). delivers_found w a.chosen number x) (sym f) in
     record {
       chosen = a.chosen;
-      shows = subst (λ (o : Option Posted). ShowsWith (mended_in (step_by w.server a.chosen (brought w.clock o))) new
+      shows = subst (λ (o : Option Posted). ShowsWith (mended_in (step_by w.server a.chosen (brought w o))) new
           (delivers w a.chosen number).world) (sym f)
           (subst (λ (x : WorldAct). ShowsWith (ends_at w a.chosen q.message q.message.to) new x.world) is a.shows);
       is = subst (λ (x : WorldAct). IsAct x.told x.posts act) is (record {
@@ -256,6 +230,7 @@ drops law old n' number d = λ w s.
       clients = s.clients;
       server = s.server;
       clock = s.clock;
+      down = s.down;
       network = (law old.network n' w number q.0 s.network q.1).drops d;
       settled = subst (λ (x : NetworkState). Settled 0 old.settled x.messages) (sym d.state)
           (settled_set 0 old.settled number old.network.messages (left_out d.message)

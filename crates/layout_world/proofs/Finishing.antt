@@ -4,7 +4,7 @@ use Rattle.scenario_text.specs.declared.event.Event.{Event}
 use Rattle.scenario_text.specs.declared.line.Line.{Line}
 use Rattle.scenario_text.specs.declared.line.Line.TheVariants as line
 use Rattle.world_history.specs.declared.err.WorldErr.{WorldErr}
-use Rattle.world_history.specs.declared.err.WorldErr.TheVariants.{NotYet, NoName, Taken, Dead, Alive, NoMessage, KeptFull, Memory}
+use Rattle.world_history.specs.declared.err.WorldErr.TheVariants.{NotYet, NoName, Taken, Dead, Alive, NotKept, Down, Running, NoMessage, KeptFull, Memory}
 use Rattle.world_history.specs.declared.messages.Sent.{Sent}
 use Rattle.world_history.specs.State.{World}
 use Rattle.world_history.specs.Moves.{Action, Delivers, TimesOut, Pends}
@@ -37,6 +37,9 @@ quiets_err w e before watch first client plan p now after NoName c = absurd c
 quiets_err w e before watch first client plan p now after Taken c = absurd c
 quiets_err w e before watch first client plan p now after Dead c = absurd c
 quiets_err w e before watch first client plan p now after Alive c = absurd c
+quiets_err w e before watch first client plan p now after NotKept c = absurd c
+quiets_err w e before watch first client plan p now after Down c = absurd c
+quiets_err w e before watch first client plan p now after Running c = absurd c
 quiets_err w e before watch first client plan p now after (NoMessage k) c = absurd c
 
 pub finishes_err : (w : World) (e : Event) (before : List Line) (watch : WatchState) (plan : Plan) (p : Parties) (now : WatchState) (after : List Line)
@@ -48,6 +51,9 @@ finishes_err w e before watch plan p now after NoName c = absurd c
 finishes_err w e before watch plan p now after Taken c = absurd c
 finishes_err w e before watch plan p now after Dead c = absurd c
 finishes_err w e before watch plan p now after Alive c = absurd c
+finishes_err w e before watch plan p now after NotKept c = absurd c
+finishes_err w e before watch plan p now after Down c = absurd c
+finishes_err w e before watch plan p now after Running c = absurd c
 finishes_err w e before watch plan p now after (NoMessage k) c = absurd c
 
 pub finishes_quiet : (w : World) (e : Event) (before : List Line) (watch : WatchState) (first : ℕ) (client : Option ℕ) (p : Parties) (now : WatchState)
@@ -59,6 +65,9 @@ finishes_quiet w e before watch first client p now after NoName c = absurd c
 finishes_quiet w e before watch first client p now after Taken c = absurd c
 finishes_quiet w e before watch first client p now after Dead c = absurd c
 finishes_quiet w e before watch first client p now after Alive c = absurd c
+finishes_quiet w e before watch first client p now after NotKept c = absurd c
+finishes_quiet w e before watch first client p now after Down c = absurd c
+finishes_quiet w e before watch first client p now after Running c = absurd c
 finishes_quiet w e before watch first client p now after (NoMessage k) c = absurd c
 
 -- where nothing is due behind a move in any world
@@ -228,6 +237,9 @@ steps_err cut w e before after old new NoName watch middle h = absurd h
 steps_err cut w e before after old new Taken watch middle h = absurd h
 steps_err cut w e before after old new Dead watch middle h = absurd h
 steps_err cut w e before after old new Alive watch middle h = absurd h
+steps_err cut w e before after old new NotKept watch middle h = absurd h
+steps_err cut w e before after old new Down watch middle h = absurd h
+steps_err cut w e before after old new Running watch middle h = absurd h
 steps_err cut w e before after old new (NoMessage k) watch middle h = absurd h
 
 pub steps : OneEventMore → FullIsCut → (w : World) (e : Event) (before after : List Line) (old new : WorldState)
@@ -252,4 +264,7 @@ refuses w e lines s NoName i c = record { cause_is = sym c; state = refl; lines 
 refuses w e lines s Taken i c = record { cause_is = sym c; state = refl; lines = refl }
 refuses w e lines s Dead i c = record { cause_is = sym c; state = refl; lines = refl }
 refuses w e lines s Alive i c = record { cause_is = sym c; state = refl; lines = refl }
+refuses w e lines s NotKept i c = record { cause_is = sym c; state = refl; lines = refl }
+refuses w e lines s Down i c = record { cause_is = sym c; state = refl; lines = refl }
+refuses w e lines s Running i c = record { cause_is = sym c; state = refl; lines = refl }
 refuses w e lines s (NoMessage k) i c = record { cause_is = sym c; state = refl; lines = refl }

@@ -5,7 +5,7 @@ use Rattle.scenario_text.specs.declared.event.Event.{Event}
 use Rattle.scenario_text.specs.declared.line.Line.{Line}
 use Rattle.scenario_text.specs.declared.line.Line.TheVariants as line
 use Rattle.world_history.specs.declared.err.WorldErr.{WorldErr}
-use Rattle.world_history.specs.declared.err.WorldErr.TheVariants.{NotYet, NoName, Taken, Dead, Alive, NoMessage, KeptFull, Memory}
+use Rattle.world_history.specs.declared.err.WorldErr.TheVariants.{NotYet, NoName, Taken, Dead, Alive, NotKept, Down, Running, NoMessage, KeptFull, Memory}
 use Rattle.world_history.specs.State.{World}
 use Rattle.world_history.specs.Moves.{Action, acts}
 use Rattle.world_history.specs.Sending.{Move, move, cut_lines}
@@ -126,4 +126,7 @@ comes w e before watch plan p now_seen lines f action new next after (Err NoName
 comes w e before watch plan p now_seen lines f action new next after (Err Taken) d b = absurd b.performed
 comes w e before watch plan p now_seen lines f action new next after (Err Dead) d b = absurd b.performed
 comes w e before watch plan p now_seen lines f action new next after (Err Alive) d b = absurd b.performed
+comes w e before watch plan p now_seen lines f action new next after (Err NotKept) d b = absurd b.performed
+comes w e before watch plan p now_seen lines f action new next after (Err Down) d b = absurd b.performed
+comes w e before watch plan p now_seen lines f action new next after (Err Running) d b = absurd b.performed
 comes w e before watch plan p now_seen lines f action new next after (Err (NoMessage k)) d b = absurd b.performed

@@ -1,5 +1,5 @@
 -- A drive that the server is to know.
-use Rattle.std.proofs.Common.{◌≡◌, ◌||◌, ℕ, zero, suc, Bool, List, [], ◌∷◌, true, false, nat_eq, refl, sym, ap, ◌∙◌}
+use Rattle.std.proofs.Common.{◌≡◌, ℕ, List, [], ◌∷◌, true, false, nat_eq, refl, sym, ap}
 use Rattle.std.specs.List.{list_any}
 use Rattle.std.proofs.Common.{arith}
 use Rattle.std.proofs.lemmas.Bool.Decides.{nat_tests}
@@ -9,7 +9,7 @@ use Rattle.server_rules.specs.declared.server.Drive.{Drive}
 use Rattle.server_rules.specs.declared.server.Server.{Server}
 use Rattle.server_rules.specs.Making.{add_drive}
 use Rattle.layout_server.specs.Adding.{IsNew}
-use Rattle.world_history.specs.State.{World, with_server, and_drive}
+use Rattle.world_history.specs.State.{with_server, and_drive}
 use Rattle.world_history.specs.Drives.{made_drive}
 use Rattle.world_history.specs.Moves.{gives, knows_drive, known_drive}
 use Rattle.world_network.specs.declared.acts.Act.{Act}
@@ -32,8 +32,8 @@ pub added : (old new : Server) (drive : ℕ) (key : List ℕ) (capacity : ℕ) �
     → new ≡ record old { drives = add_drive old.drives (known_drive drive key capacity) }
     → Adds old drive key capacity new nothing
 unfolding gives
-added old new drive key capacity k f = λ w e. rw (e, k) (record {
-  world = ap (λ s. with_server (and_drive w drive (made_drive drive key capacity)) s) (sym f);
+added old new drive key capacity k f = λ w stored e. rw (e, k) (record {
+  world = ap (λ s. with_server (and_drive w drive (made_drive drive key capacity stored)) s) (sym f);
   act = record { lines = refl; sends = refl };
 })
 

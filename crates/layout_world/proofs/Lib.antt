@@ -3,13 +3,14 @@ mod Shown
 mod Performing
 mod Acted
 mod Delivered
+mod ServerHanded
 mod Moved
 mod Going
 mod Finishing
-mod Began
 mod Opened
 mod Watched
 pub mod ServerActed
 pub mod Knowing
 pub mod Posted
 pub mod Refused
+pub mod Causes

@@ -28,7 +28,7 @@ use Rattle.layout_world.specs.Going.{SeesAct, Sees, Performed, MovesBy, Far, Bro
 use Rattle.layout_world.specs.Watching.{LeavesTold}
 use Rattle.layout_world.proofs.Going.{comes, broken_here}
 use Rattle.layout_world.proofs.Moved.{sees_own, given_act}
-use Rattle.layout_world.proofs.Began.{began}
+use Rattle.history_law.proofs.Counting.{acts_count}
 
 -- its first move
 sees_first : (w : World) (m : Move) (e : Event) (new : Parties) (n : ℕ) (before told after : List Line) (s t : WatchState)
@@ -95,7 +95,8 @@ sent_then e old mid new act (Ok u) does g = λ w s.
     let a : length old.network.messages ≡ length w.network.messages = shown_count old w s in
     let b : length mid.network.messages ≡ length (begins w did.chosen e).world.network.messages =
     ap length did.shows.network.messages ∙ length-map (begins w did.chosen e).world.network.messages shown in
-    let n : length (begins w did.chosen e).world.network.messages ≡ length w.network.messages = began w did.chosen e in
+    let n : length (begins w did.chosen e).world.network.messages ≡ length w.network.messages =
+    (acts_count w did.chosen (Opens e)).messages in
     let m : length new.network.messages ≡ length mid.network.messages + length g.0 = ap length g.1 ∙ length-append mid.network.messages g.0 in
     omega (arith, a, b, n, m)
 

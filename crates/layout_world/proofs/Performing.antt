@@ -4,7 +4,7 @@ use Rattle.std.specs.Prelude.{OnOk, OnErr}
 use Rattle.std.proofs.lemmas.List.{append-nil}
 use Rattle.scenario_text.specs.declared.line.Line.{Line}
 use Rattle.world_history.specs.declared.err.WorldErr.{WorldErr}
-use Rattle.world_history.specs.declared.err.WorldErr.TheVariants.{NotYet, NoName, Taken, Dead, Alive, NoMessage, KeptFull, Memory}
+use Rattle.world_history.specs.declared.err.WorldErr.TheVariants.{NotYet, NoName, Taken, Dead, Alive, NotKept, Down, Running, NoMessage, KeptFull, Memory}
 use Rattle.world_history.specs.declared.messages.Sent.{Sent}
 use Rattle.world_history.specs.ServerNames.{Server, Mended}
 use Rattle.world_history.specs.State.{World}
@@ -65,6 +65,7 @@ performed ended p n' a act before after (Ok u) moves i s h =
         clients = s.clients;
         server = s.server;
         clock = s.clock;
+        down = s.down;
         network = m.0;
         settled = settled_grown 0 p.settled p.network.messages n'.messages (performed_grows p.network n' act before after h)
             s.settled;
@@ -83,6 +84,9 @@ performed ended p n' a act before after (Err NoName) moves i s h = absurd h
 performed ended p n' a act before after (Err Taken) moves i s h = absurd h
 performed ended p n' a act before after (Err Dead) moves i s h = absurd h
 performed ended p n' a act before after (Err Alive) moves i s h = absurd h
+performed ended p n' a act before after (Err NotKept) moves i s h = absurd h
+performed ended p n' a act before after (Err Down) moves i s h = absurd h
+performed ended p n' a act before after (Err Running) moves i s h = absurd h
 performed ended p n' a act before after (Err (NoMessage k)) moves i s h = absurd h
 
 -- the watch changes nothing of that; where it has no memory, the lines stand
@@ -98,6 +102,9 @@ watched ended p q a before after (Err NoName) keeps only h = absurd (cc only)
 watched ended p q a before after (Err Taken) keeps only h = absurd (cc only)
 watched ended p q a before after (Err Dead) keeps only h = absurd (cc only)
 watched ended p q a before after (Err Alive) keeps only h = absurd (cc only)
+watched ended p q a before after (Err NotKept) keeps only h = absurd (cc only)
+watched ended p q a before after (Err Down) keeps only h = absurd (cc only)
+watched ended p q a before after (Err Running) keeps only h = absurd (cc only)
 watched ended p q a before after (Err (NoMessage k)) keeps only h = absurd (cc only)
 
 -- what the watch saw is what the world did

@@ -1,27 +1,27 @@
 -- A step of the server of the code is what the world does there.
-use Rattle.std.proofs.Common.{◌≡◌, ℕ, Bool, true, false, List, [], ◌∷◌, Option, Some, None, refl, sym, ap, subst, ◌∙◌, map}
-use Rattle.std.specs.List.{filter, filter_map, list_any}
+use Rattle.std.proofs.Common.{◌≡◌, ℕ, List, [], Option, Some, None, refl, sym, ap, subst, ◌∙◌}
+use Rattle.std.specs.List.{filter_map}
 use Rattle.osd_lists.specs.declared.node.Node.{Node}
 use Rattle.server_rules.specs.declared.server.Server.{Server}
 use Rattle.server_rules.specs.Files.{Step as RulesStep}
 use Rattle.server_rules.specs.Messages.{Message as ServerMessage}
-use Rattle.server_rules.specs.Envelopes.{message_in, on_message_in, on_bytes}
+use Rattle.server_rules.specs.Envelopes.{on_message_in, on_bytes}
 use Rattle.server_rules.specs.Making.{set_format}
 use Rattle.server_rules.specs.Messages.{resend}
 use Rattle.server_rules.specs.Orders.{ordered}
-use Rattle.server_rules.specs.History.{Input, Obeys, Formats, Resends, step}
+use Rattle.server_rules.specs.Openings.{crash, reopen}
+use Rattle.server_rules.specs.History.{Input, Obeys, Formats, Resends, Crashes, Opens, step}
 use Rattle.server_requests.specs.declared.outgoing.Sent.{Sent}
 use Rattle.server_requests.specs.Sending.{all_sent}
 use Rattle.server_state.specs.declared.step.Step.{Step}
 use Rattle.server_state.specs.States.{Did}
 use Rattle.scenario_text.specs.declared.line.Delivery.TheVariants as delivery
-use Rattle.world_network.specs.Shows.{posting_of}
 use Rattle.world_history.specs.ServerNames.{OrderKind}
 use Rattle.world_history.specs.declared.messages.Message.{Message}
 use Rattle.world_history.specs.State.{World, with_server}
 use Rattle.world_history.specs.Spelled.{spelled}
 use Rattle.world_history.specs.Names.{known_note_line}
-use Rattle.world_history.specs.Handed.{is_addressed, server_post, server_takes, for_server}
+use Rattle.world_history.specs.Handed.{server_takes, for_server}
 use Rattle.world_history.specs.Moves.{gives}
 use Rattle.world_network.specs.declared.acts.Act.{Act}
 use Rattle.world_network.specs.Acts.{IsAct, IsHanded, IsDone, nothing}
@@ -132,3 +132,15 @@ pub heard_by : (out : Step) (old core mid : Server) (now : ℕ) (chosen : List �
     → Hears old now from bytes new (record { receipt = delivery.Taken; act = act })
 heard_by out old core mid now chosen from bytes new act e d h =
     heard old now chosen from bytes new act (subst (λ s. Acts (on_bytes s now chosen from bytes) new act) e (h _ d))
+
+pub crashed_by : (old core : Server) (new : WorldServerState) (act : Act) → core ≡ old → new.state ≡ crash core
+    → new.mended ≡ [] → act ≡ nothing → Gives old Crashes new act
+crashed_by old core new act e f m a = given old [] Crashes new act (record {
+  state = f ∙ ap crash e;
+  act_is = subst (λ (x : Act). IsAct [] [] x) (sym a) (record { lines = refl; sends = refl });
+  mended = m;
+})
+
+pub opened_by : (out : Step) (old core mid : Server) (new : WorldServerState) (act : Act) → core ≡ old
+    → Did out mid (reopen core) → ((s : RulesStep) → Did out mid s → Acts s new act) → Gives old Opens new act
+opened_by out old core mid new act e d h = given old [] Opens new act (subst (λ s. Acts (reopen s) new act) e (h _ d))

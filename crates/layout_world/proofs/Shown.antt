@@ -1,7 +1,7 @@
 -- Parties of which one thing changed show the world of which it changed.
-use Rattle.std.proofs.Common.{◌≡◌, ℕ, List, refl}
+use Rattle.std.proofs.Common.{◌≡◌, ℕ, Bool, List, refl}
 use Rattle.world_history.specs.ServerNames.{Mended}
-use Rattle.world_history.specs.State.{DriveAt, ClientAt, World, with_server}
+use Rattle.world_history.specs.State.{DriveAt, ClientAt, World, with_server, with_down}
 use Rattle.layout_world.specs.ServerState.{WorldServerState}
 use Rattle.layout_world.specs.declared.parties.Parties.{Parties}
 use Rattle.layout_world.specs.State.{ShowsWith, Shows}
@@ -13,6 +13,7 @@ shows_drives ended p t u w e s = record {
   clients = s.clients;
   server = s.server;
   clock = s.clock;
+  down = s.down;
   network = s.network;
   settled = s.settled;
   mended = s.mended;
@@ -25,6 +26,7 @@ shows_clients ended p t u w e s = record {
   clients = e;
   server = s.server;
   clock = s.clock;
+  down = s.down;
   network = s.network;
   settled = s.settled;
   mended = s.mended;
@@ -37,6 +39,7 @@ shows_server p x w s = record {
   clients = s.clients;
   server = refl;
   clock = s.clock;
+  down = s.down;
   network = s.network;
   settled = s.settled;
   mended = refl;
@@ -49,6 +52,19 @@ shows_clock p time w s = record {
   clients = s.clients;
   server = s.server;
   clock = refl;
+  down = s.down;
+  network = s.network;
+  settled = s.settled;
+  mended = s.mended;
+}
+
+pub shows_down : (p : Parties) (b : Bool) (w : World) → Shows p w → Shows (record p { down = b }) (with_down w b)
+shows_down p b w s = record {
+  drives = s.drives;
+  clients = s.clients;
+  server = s.server;
+  clock = s.clock;
+  down = refl;
   network = s.network;
   settled = s.settled;
   mended = s.mended;

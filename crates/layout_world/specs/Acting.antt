@@ -56,7 +56,7 @@ pub record IsOf (s : Sent) (m : Message) : Type 0 where
 
 -- the repairs that the server ends where a message comes to this party
 abbrev pub ends_at : World → (chosen : List ℕ) → Message → Node → List Mended
-ends_at w chosen m to = mended_in (step_by w.server chosen (brought_to w.clock m to))
+ends_at w chosen m to = mended_in (step_by w.server chosen (brought_to w m to))
 
 -- it comes to its receiver in the world, with some drives that the placer names
 pub record Handing (w : World) (m : Message) (new : Parties) (h : Handed) : Type 0 where

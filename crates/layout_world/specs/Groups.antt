@@ -3,7 +3,7 @@ use Rattle.std.specs.Prelude.{Bool, true, false}
 use Rattle.scenario_text.specs.declared.event.Event.{Event}
 use Rattle.scenario_text.specs.declared.event.Event.TheVariants as event
 
--- it needs no placer
+-- it needs no placer, and no part of the code that is for crashes and openings
 abbrev pub is_plain : Event → Bool
 is_plain (event.Deliver number) = false
 is_plain (event.File f m tag) = false
@@ -12,6 +12,8 @@ is_plain (event.Revoke f) = false
 is_plain (event.Rebuild f) = false
 is_plain (event.Audit f) = false
 is_plain (event.Declare d) = false
+is_plain (event.Crash m) = false
+is_plain (event.Reopen m) = false
 is_plain e = true
 
 -- nothing is told and nothing sent
@@ -23,7 +25,10 @@ is_change (event.Revoke f) = false
 is_change (event.Rebuild f) = false
 is_change (event.Audit f) = false
 is_change (event.Declare d) = false
+is_change (event.Crash m) = false
+is_change (event.Reopen m) = false
 is_change (event.Drive d key capacity) = false
+is_change (event.Disk d key capacity) = false
 is_change (event.Client c) = false
 is_change (event.Inject d bytes) = false
 is_change (event.Do c x) = false

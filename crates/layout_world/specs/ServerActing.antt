@@ -1,5 +1,5 @@
 -- What a call of the server did, as each world has it in which the server is this one.
-use Rattle.std.specs.Prelude.{ℕ, Bool, true, List, [], map, filter, ◌≡◌, Result, Ok, Err}
+use Rattle.std.specs.Prelude.{ℕ, Bool, true, List, map, filter, ◌≡◌, Result, Ok}
 use Rattle.std.specs.List.{filter_map}
 use Rattle.osd_lists.specs.declared.node.Node.{Node}
 use Rattle.data_map.specs.declared.check.RawMap.{RawMap}
@@ -62,8 +62,8 @@ pub record Makes (old : WorldServerState) (file : ℕ) (raw : RawMap) (tag : ℕ
   pub done : Does old.state (λ w. makes w chosen file raw tag) new.state act
   pub mended : new.mended ≡ mended_then old.mended (has_algorithm raw) (create_file old.state file raw tag chosen)
 
--- a further drive was made, and the server knows it
+-- a further drive was made, stored or not, and the server knows it
 abbrev pub Adds : (old : Server) → (drive : ℕ) → (key : List ℕ) → (capacity : ℕ) → (new : Server) → Act → Type 0
 Adds old drive key capacity new act =
-    (w : World) → w.server ≡ old → IsDone (adds_drive w drive key capacity)
-    (with_server (and_drive w drive (made_drive drive key capacity)) new) act
+    (w : World) (stored : Bool) → w.server ≡ old → IsDone (adds_drive w drive key capacity stored)
+    (with_server (and_drive w drive (made_drive drive key capacity stored)) new) act

@@ -27,6 +27,7 @@ pub record ShowsWith (ended : List Mended) (p : Parties) (w : World) : Type 0 wh
   pub clients : p.clients ≡ w.clients
   pub server : p.server.state ≡ w.server
   pub clock : p.clock ≡ w.clock
+  pub down : p.down ≡ w.down
   pub network : ShowsNetwork p.network w.network
   pub settled : Settled 0 p.settled p.network.messages
   pub mended : p.server.mended ≡ ended

@@ -7,6 +7,7 @@ ghost use Rattle.layout_world.specs.Groups.{is_plain};
 use crate::changing::change;
 use crate::delivering::deliver;
 use crate::parties::Parties;
+use crate::restarting::{crash, reopen};
 use crate::{by_client, by_server};
 use layout_ops::OrderKind;
 use osd_lists::Memory;
@@ -46,7 +47,12 @@ fn begin_plain(parties: &mut Parties, alloc: Global, event: &Event) -> Result<Ac
             drive,
             key,
             capacity,
-        } => by_server::add_drive(parties, alloc, *drive, *key, *capacity),
+        } => by_server::add_drive(parties, alloc, *drive, *key, *capacity, false),
+        Event::Disk {
+            drive,
+            key,
+            capacity,
+        } => by_server::add_drive(parties, alloc, *drive, *key, *capacity, true),
         Event::Client { client } => by_client::add(parties, alloc, *client),
         Event::Do { client, call } => by_client::call(parties, alloc, *client, call),
         Event::Call { client, call } => by_client::call(parties, alloc, *client, call),
@@ -98,6 +104,8 @@ pub fn begin<P: Place>(
         Event::Declare { drive } => {
             by_server::order(parties, alloc, OrderKind::Declare, drive.number(), placer)
         }
+        Event::Crash { machine } => crash(parties, alloc, *machine),
+        Event::Reopen { machine } => reopen(parties, alloc, *machine),
         _ => begin_plain(parties, alloc, event),
     }
 }

@@ -13,17 +13,18 @@ use std::alloc::Global;
 use stripe_repair::Place;
 use world_network::Act;
 
-/// A drive is made, and the server knows it. There must be none of that number.
+/// A drive is made, stored or not, and the server knows it. There must be none of that number.
 pub fn add_drive(
     parties: &mut Parties,
     alloc: Global,
     drive: DriveName,
     key: [u8; 20],
     capacity: u64,
+    stored: bool,
 ) -> Result<Act, Memory>
-    ensures { IfOk result (λ act. Acts (λ w chosen. adds_drive w drive key capacity) parties.old parties.new act) }
+    ensures { IfOk result (λ act. Acts (λ w chosen. adds_drive w drive key capacity stored) parties.old parties.new act) }
 {
-    parties.drives.add(alloc, drive, key, capacity)?;
+    parties.drives.add(alloc, drive, key, capacity, stored)?;
     let act = parties.server.add_drive(alloc, drive, key, capacity)?;
     Ok(act)
 }

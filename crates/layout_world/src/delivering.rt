@@ -51,7 +51,7 @@ fn hand_client(
     Ok(handed)
 }
 
-// The same to the server.
+// The same to the server, which is deaf while it is down.
 fn hand_server<P: Place>(
     parties: &mut Parties,
     alloc: Global,
@@ -63,6 +63,9 @@ fn hand_server<P: Place>(
     ensures handed { IfOk result (λ h. HandsTo number party.Server parties.old parties.new h) }
     ensures network { parties.new.network ≡ parties.old.network }
 {
+    if parties.down {
+        return Ok(Handed::quiet(alloc, Delivery::Deaf));
+    }
     let now = parties.clock;
     let sent = parties.network.message(number);
     let from = node_of(sent.from);

@@ -18,6 +18,7 @@ mod moving;
 mod parties;
 mod posting;
 mod refusing;
+mod restarting;
 mod rules;
 mod server;
 mod world;

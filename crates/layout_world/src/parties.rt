@@ -17,6 +17,8 @@ pub struct Parties {
     pub server: WorldServer,
     /// The server's clock, in seconds.
     pub clock: u64,
+    /// The server is down: nothing that is sent to it reaches it.
+    pub down: bool,
     pub network: Network,
     /// All messages below this number were delivered or dropped.
     pub settled: usize,
@@ -32,6 +34,7 @@ impl Parties {
             clients: WorldClients::new(alloc),
             server: WorldServer::new(alloc)?,
             clock: 0,
+            down: false,
             network: Network::new(alloc),
             settled: 0,
         })

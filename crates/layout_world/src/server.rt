@@ -1,7 +1,7 @@
 ghost use Rattle.std.specs.Prelude.{◌≡◌, [], not, is_some, IfOk, OnOk};
 ghost use Rattle.server_rules.specs.Files.{file_at, Step as RulesStep};
 ghost use Rattle.server_rules.specs.Making.{new_server};
-ghost use Rattle.server_rules.specs.History.{Obeys, Formats, Resends};
+ghost use Rattle.server_rules.specs.History.{Obeys, Formats, Resends, Crashes, Opens};
 ghost use Rattle.server_state.specs.States.{HasRoom, Did};
 ghost use Rattle.world_history.specs.State.{World};
 ghost use Rattle.world_history.specs.Moves.{raw_of, gives};
@@ -206,6 +206,23 @@ impl WorldServer {
             told: Lines::new(alloc),
             posts: postings(alloc, sends.as_slice())?,
         })
+    }
+
+    /// The server crashes: no job runs any more, and all that is kept stays.
+    pub fn crash(&mut self, alloc: Global) -> Result<Act, Memory>
+        ensures { IfOk result (Gives self.old.state Crashes self.new) }
+    {
+        self.core.crash()?;
+        self.mended = Repairs::new(alloc);
+        Ok(Act::nothing(alloc))
+    }
+
+    /// The server is opened after a crash.
+    pub fn reopen(&mut self, alloc: Global) -> Result<Act, Memory>
+        ensures { IfOk result (Gives self.old.state Opens self.new) }
+    {
+        let step = self.core.reopen()?;
+        self.did(alloc, step)
     }
 
     /// Fences leave files with this format at least, 1 or 2.

@@ -35,6 +35,9 @@ carried_by e lines old new (Err why.NoName) is_full text w steps on full is show
 carried_by e lines old new (Err why.Taken) is_full text w steps on full is shows = absurd (cc full)
 carried_by e lines old new (Err why.Dead) is_full text w steps on full is shows = absurd (cc full)
 carried_by e lines old new (Err why.Alive) is_full text w steps on full is shows = absurd (cc full)
+carried_by e lines old new (Err why.NotKept) is_full text w steps on full is shows = absurd (cc full)
+carried_by e lines old new (Err why.Down) is_full text w steps on full is shows = absurd (cc full)
+carried_by e lines old new (Err why.Running) is_full text w steps on full is shows = absurd (cc full)
 carried_by e lines old new (Err (why.NoMessage n)) is_full text w steps on full is shows = absurd (cc full)
 
 refused_in : (w : World) (e : Event) (cause : WorldErr) (stop : Stop) → refusal w e ≡ Some cause → Refused (WorldKind cause) ≡ stop → StopsIn w e stop
@@ -56,6 +59,9 @@ stopped_by e lines old new (Err why.NoName) stop w steps is shows = refused_in w
 stopped_by e lines old new (Err why.Taken) stop w steps is shows = refused_in w e why.Taken stop (steps w shows).cause_is (cc is)
 stopped_by e lines old new (Err why.Dead) stop w steps is shows = refused_in w e why.Dead stop (steps w shows).cause_is (cc is)
 stopped_by e lines old new (Err why.Alive) stop w steps is shows = refused_in w e why.Alive stop (steps w shows).cause_is (cc is)
+stopped_by e lines old new (Err why.NotKept) stop w steps is shows = refused_in w e why.NotKept stop (steps w shows).cause_is (cc is)
+stopped_by e lines old new (Err why.Down) stop w steps is shows = refused_in w e why.Down stop (steps w shows).cause_is (cc is)
+stopped_by e lines old new (Err why.Running) stop w steps is shows = refused_in w e why.Running stop (steps w shows).cause_is (cc is)
 stopped_by e lines old new (Err (why.NoMessage n)) stop w steps is shows = refused_in w e (why.NoMessage n) stop (steps w shows).cause_is (cc is)
 
 -- ---- the line of an event

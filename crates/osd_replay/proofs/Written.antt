@@ -20,6 +20,7 @@ below_64 n l = grind (arith, nat_tests, l)
 -- what a line spells
 pub fits_written : (e : Event) → Fits e → is_written e ≡ true
 fits_written (event.Drive d key capacity) f = below_64 d f.1.0
+fits_written (event.Disk d key capacity) f = below_64 d f.1.0
 fits_written (event.File n m tag) f = below_64 n f.1.0
 fits_written (event.Format n) f = one_or_two n f.1.1.0.0 f.1.1.0.1
 fits_written e f = refl

@@ -3,7 +3,7 @@ use Rattle.std.specs.Prelude.{ℕ, List, [], ◌∷◌, ◌++◌, codes}
 use Rattle.std.specs.Fmt.{decimal}
 use Rattle.scenario_text.specs.Errors.{event_error_name}
 use Rattle.world_history.specs.declared.err.WorldErr.{WorldErr}
-use Rattle.world_history.specs.declared.err.WorldErr.TheVariants.{NotYet, NoName, Taken, Dead, Alive, NoMessage}
+use Rattle.world_history.specs.declared.err.WorldErr.TheVariants.{NotYet, NoName, Taken, Dead, Alive, NotKept, Down, Running, NoMessage}
 use Rattle.world_history.specs.declared.err.WorldErr.TheVariants.{KeptFull, Memory}
 use Rattle.osd_replay.specs.declared.status.Quantity.{Quantity}
 use Rattle.osd_replay.specs.declared.status.Quantity.TheVariants.{Input, Line, Kept}
@@ -31,6 +31,9 @@ world_error_name NoName = codes "NoName"
 world_error_name Taken = codes "Taken"
 world_error_name Dead = codes "Dead"
 world_error_name Alive = codes "Alive"
+world_error_name NotKept = codes "NotKept"
+world_error_name Down = codes "Down"
+world_error_name Running = codes "Running"
 world_error_name (NoMessage index) = codes "NoMessage"
 world_error_name KeptFull = codes "KeptFull"
 world_error_name Memory = codes "Memory"

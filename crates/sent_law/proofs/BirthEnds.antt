@@ -6,20 +6,21 @@ use Rattle.server_rules.specs.Messages.{awaited_by}
 use Rattle.job_law.specs.Names.{File, Awaited, Target}
 use Rattle.sent_law.specs.Objects.{target_of}
 use Rattle.sent_law.proofs.ObjectSteps.{Agree}
-use Rattle.sent_law.proofs.BirthSent.{IsBorn, AllBorn, IsAsked, AllAsked}
+use Rattle.sent_law.proofs.BirthSent.{IsBorn, AllBorn, AllNew, IsAsked, AllAsked}
 
 -- ---- a file
 
--- and so is the object of what is made anew
-abbrev pub IsAim : (birth : ℕ → ℕ) → (next tag : ℕ) → Option Target → Type 0
-IsAim birth m t None = Unit {0}
-IsAim birth m t (Some x) = IsBorn birth m x.object t
+-- and so is the object of what is made anew, which was given behind the file's first tag
+abbrev pub IsAim : (birth : ℕ → ℕ) → (next first tag : ℕ) → Option Target → Type 0
+IsAim birth m first t None = Unit {0}
+IsAim birth m first t (Some x) = IsBorn birth m x.object t × (first ≤ birth x.object)
 
--- what a file has, and what its job awaits
+-- what a file has, and what its job awaits; none of its objects is older than the file
 abbrev pub IsFine : (birth : ℕ → ℕ) → (next : ℕ) → File → Type 0
 IsFine birth m f =
-    AllBorn birth m f.kept.tag f.kept.components × IsAim birth m f.kept.tag (target_of f.job)
-    × AllAsked birth m f.kept.tag (awaited_by f.job)
+    AllBorn birth m f.kept.tag f.kept.components × IsAim birth m f.kept.first_tag f.kept.tag (target_of f.job)
+    × AllAsked birth m f.kept.tag (awaited_by f.job) × AllNew birth f.kept.first_tag f.kept.components
+    × (f.kept.first_tag ≤ f.kept.tag)
 
 -- ---- numbers that are given later
 
@@ -34,17 +35,20 @@ asked_later birth later n m t a agree le x = (
   λ e. let new : t ≤ birth a.command.object = x.1 e in omega (arith, new, agree a.command.object x.0.0),
 )
 
-aim_later : (birth later : ℕ → ℕ) (n m t : ℕ) (o : Option Target) → Agree birth later n → n ≤ m → IsAim birth n t o
-    → IsAim later m t o
-aim_later birth later n m t None agree le x = tt
-aim_later birth later n m t (Some y) agree le x = born_later birth later n m y.object t agree le x
+aim_later : (birth later : ℕ → ℕ) (n m first t : ℕ) (o : Option Target) → Agree birth later n → n ≤ m
+    → IsAim birth n first t o → IsAim later m first t o
+aim_later birth later n m first t None agree le x = tt
+aim_later birth later n m first t (Some y) agree le x =
+    (born_later birth later n m y.object t agree le x.0, omega (arith, x.1, agree y.object x.0.0))
 
 pub fine_later : (birth later : ℕ → ℕ) (n m : ℕ) (f : File) → Agree birth later n → n ≤ m → IsFine birth n f
     → IsFine later m f
 fine_later birth later n m f agree le h = (
   λ o i. born_later birth later n m o f.kept.tag agree le (h.0 o i),
-  aim_later birth later n m f.kept.tag (target_of f.job) agree le h.1,
+  aim_later birth later n m f.kept.first_tag f.kept.tag (target_of f.job) agree le h.1,
   λ a i. asked_later birth later n m f.kept.tag a agree le (h.2 a i),
+  λ o i. let since : f.kept.first_tag ≤ birth o = h.3 o i in omega (arith, since, agree o (h.0 o i).0),
+  h.4,
 )
 
 -- ---- in the middle of a step, and behind it
@@ -58,12 +62,13 @@ AllSent birth m before sent =
 abbrev pub Owns : (birth : ℕ → ℕ) → (n : ℕ) → (before : List Awaited) → Going → Type 0
 Owns birth n before g =
     (g.effects.object ≡ n) × AllBorn birth g.effects.object g.file.kept.tag g.file.kept.components
-    × AllSent birth g.effects.object before g.effects.sent
+    × AllSent birth g.effects.object before g.effects.sent × AllNew birth g.file.kept.first_tag g.file.kept.components
+    × (g.file.kept.first_tag ≤ g.file.kept.tag)
 
 -- and so it is of its job
 abbrev pub Holds : (birth : ℕ → ℕ) → (n : ℕ) → (before : List Awaited) → Going → Type 0
 Holds birth n before g =
-    Owns birth n before g × IsAim birth g.effects.object g.file.kept.tag (target_of g.file.job)
+    Owns birth n before g × IsAim birth g.effects.object g.file.kept.first_tag g.file.kept.tag (target_of g.file.job)
     × AllAsked birth g.effects.object g.file.kept.tag (awaited_by g.file.job)
 
 -- the step may have given numbers from n on
@@ -75,4 +80,4 @@ Ends birth n before g =
 -- it gave none
 pub holds_on : (birth : ℕ → ℕ) (n : ℕ) (before : List Awaited) (g : Going) → Holds birth n before g
     → Ends birth n before g
-holds_on birth n before g h = (birth, λ o less. refl, omega (arith, h.0.0), (h.0.1, h.1, h.2), h.0.2)
+holds_on birth n before g h = (birth, λ o less. refl, omega (arith, h.0.0), (h.0.1, h.1, h.2, h.0.3, h.0.4), h.0.2)

@@ -1,5 +1,5 @@
--- Each step of a server that goes on: what it sends, and what jobs await, is under no earlier tag than its object.
-use Rattle.std.proofs.Common.{◌≡◌, ℕ, true, List, [], ◌∷◌, flat_map, refl, sym, subst, ◌∙◌, arith, inl, inr}
+-- Each step of a server: what it sends, and what jobs await, is under no earlier tag than its object.
+use Rattle.std.proofs.Common.{ℕ, List, [], ◌∷◌, flat_map, refl, sym, subst, ◌∙◌, arith, inl, inr}
 use Rattle.data_map.specs.declared.check.RawMap.{RawMap}
 use Rattle.server_rules.specs.Laws.{In}
 use Rattle.server_rules.specs.Files.{still, at_file, to_drives}
@@ -11,11 +11,10 @@ use Rattle.job_law.specs.Names.{Command, ToDrive, Server, File, Drive}
 use Rattle.server_rules.proofs.Members.{in_either}
 use Rattle.job_law.proofs.Files.{in_add, add_there, in_drives}
 use Rattle.sent_law.proofs.Numbers.{in_new}
-use Rattle.sent_law.specs.Standing.{is_running}
 use Rattle.sent_law.proofs.BirthEnds.{IsFine, fine_later}
 use Rattle.sent_law.proofs.BirthJobs.{ends_making}
 use Rattle.sent_law.proofs.BirthGoing.{AreFine, IsSent, sent_of, Keeps, idle, goes_at, begun}
-use Rattle.sent_law.proofs.BirthSteps.{kept_cases}
+use Rattle.sent_law.proofs.BirthSteps.{HaveFirst, kept_cases}
 use Rattle.sent_law.proofs.ObjectSteps.{with_owner, owner_below, owner_from}
 use Rattle.move_law.proofs.Steps.{each_step}
 
@@ -39,6 +38,8 @@ module _ (birth : ℕ → ℕ) (s : Server) (own : AreFine birth s) (number : �
         (r.1, omega (arith, owner_from birth s.next_object tag o r.0)),
     tt,
     λ a i. absurd i,
+    λ o i. omega (arith, owner_from birth s.next_object tag o (in_new ds s.next_object o i).0),
+    omega arith,
   )
 
   with_fine : AreFine new_birth server_with
@@ -82,11 +83,12 @@ sent_again birth n ds (f ∷ fs) own drive c i =
 
 -- ---- any step
 
-pub step_keeps : (birth : ℕ → ℕ) (s : Server) (chosen : List ℕ) (i : Input) → is_running i ≡ true → AreFine birth s
+-- where a file that isn't ready has its first tag
+pub step_keeps : (birth : ℕ → ℕ) (s : Server) (chosen : List ℕ) (i : Input) → HaveFirst s.files → AreFine birth s
     → Keeps birth s.next_object (step s chosen i)
-step_keeps birth s chosen i runs own =
+step_keeps birth s chosen i first own =
     each_step s chosen i (Keeps birth s.next_object)
-    (kept_cases birth s own chosen i runs
+    (kept_cases birth s own chosen i first
     (λ n m tag. made birth s own n m tag (places s.drives m.comps chosen))
     (idle birth s own (record (still s) { sends = resend s }) refl refl
     (sent_again birth s.next_object s.drives s.files own)))

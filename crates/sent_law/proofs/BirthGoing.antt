@@ -79,4 +79,4 @@ module _ (birth : ℕ → ℕ) (s : Server) (own : AreFine birth s) where
   }
 
   pub begun : (chosen : List ℕ) (f : File) → In f s.files → Holds birth s.next_object [] (at_file s chosen f)
-  begun chosen f i = let h = own f i in ((refl, h.0, λ a j. absurd j), h.1, h.2)
+  begun chosen f i = let h = own f i in ((refl, h.0, λ a j. absurd j, h.3, h.4), h.1, h.2)

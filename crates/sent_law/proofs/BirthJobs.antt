@@ -1,7 +1,8 @@
 -- What a job sends for its file, function by function: no tag is earlier than its object, and each CREATE is at the
 -- file's present tag.
-use Rattle.std.proofs.Common.{◌≡◌, ◌==◌, ◌||◌, ℕ, ◌+◌, ◌++◌, nat_lt, Bool, true, false, List, [], ◌∷◌, filter, replicate, slice_set, Option, Some, None, refl, sym, ap, subst, arith, inl, inr, if◌then◌else◌}
+use Rattle.std.proofs.Common.{◌≡◌, ◌==◌, ◌||◌, ℕ, ◌+◌, ◌≤◌, ◌++◌, nat_lt, Bool, true, false, List, [], ◌∷◌, filter, replicate, slice_set, Option, Some, None, refl, sym, ap, subst, arith, inl, inr, if◌then◌else◌}
 use Rattle.std.proofs.lemmas.Bool.{cases_Bool}
+use Rattle.server_rules.specs.declared.limits.TheConstants.{GREATEST_TAG}
 use Rattle.server_rules.specs.Columns.{end_of}
 use Rattle.server_rules.specs.Laws.{In}
 use Rattle.server_rules.specs.Going.{Going, over, noting, noting_if, keeping, with_components, rests, rests_or, waits_on}
@@ -13,6 +14,7 @@ use Rattle.server_rules.specs.Replies.{renewed, renews, fills_up, hears, Hearing
 use Rattle.server_rules.specs.Jobs.{making, ending, fenced, fence_begins, fetched, written, gathered, filled_in, audited_on, goes_on, waits_or_on, refills, remakes, loses, declared_in, targets, declares}
 use Rattle.server_rules.specs.Commands.{Ask, Creating, Which, sent_to, to_all, again_in_2}
 use Rattle.server_rules.specs.Messages.{awaited_by}
+use Rattle.server_rules.specs.Openings.{is_unsettled, opens_made, opens_spent, opens_fenced, opens}
 use Rattle.server_rules.proofs.Members.{in_either, in_mapped, in_filtered}
 use Rattle.job_law.specs.Names.{Repairing, Fenced, Component, Awaited, Heard, Piece, Target, Job, JobKind, Making, Revoking, Rebuilding, Auditing, Work, Creates, Fences, Fetches, Stores, Targets, Gathers, Fills, Lengths, Checks, Tally, Rebuilt, NoDrive, NoSpace, Reply}
 use Rattle.sent_law.specs.Objects.{objects_of, target_in, target_of}
@@ -32,7 +34,7 @@ module _ (birth : ℕ → ℕ) (n : ℕ) (before : List Awaited) where
   End g = Ends birth n before g
 
   abbrev Aim : Going → Option Target → Type 0
-  Aim g o = IsAim birth g.effects.object g.file.kept.tag o
+  Aim g o = IsAim birth g.effects.object g.file.kept.first_tag g.file.kept.tag o
 
   abbrev Asked : Going → List Awaited → Type 0
   Asked g ws = AllAsked birth g.effects.object g.file.kept.tag ws
@@ -58,7 +60,11 @@ module _ (birth : ℕ → ℕ) (n : ℕ) (before : List Awaited) where
       → Aim g (target_in work) → Asked g (c ∷ cs) → End (rests g kind work c cs)
   ends_rests g kind work c cs h a asked =
       same (rests g kind work c cs)
-      ((h.0, h.1, sent_more birth g.effects.object g.file.kept.tag g.effects.sent (c ∷ cs) h.2 asked), a, asked)
+      (
+        (h.0, h.1, sent_more birth g.effects.object g.file.kept.tag g.effects.sent (c ∷ cs) h.2 asked, h.3, h.4),
+        a,
+        asked,
+      )
 
   ends_rests_or : (cs : List Awaited) (g : Going) (kind : JobKind) (work : Work) (later : Going) → Own g
       → Aim g (target_in work) → Asked g cs → End later → End (rests_or cs g kind work later)
@@ -116,7 +122,13 @@ module _ (birth : ℕ → ℕ) (n : ℕ) (before : List Awaited) where
         later,
         λ o less. owner_below birth n tag o less,
         omega (arith, e),
-        (λ o i. on o tag (h.1 o i), born, asked),
+        (
+          λ o i. on o tag (h.1 o i),
+          (born, omega (arith, new, h.4)),
+          asked,
+          λ o i. since o i,
+          h.4,
+        ),
         sent_more later (t.object + 1) tag g.effects.sent _
             (λ a i. elim (h.2 a i) [
               | inl old ↦ inl old
@@ -124,6 +136,11 @@ module _ (birth : ℕ → ℕ) (n : ℕ) (before : List Awaited) where
             ]) asked,
       )
     where
+      since : AllNew (with_owner birth n g.file.kept.tag) g.file.kept.first_tag g.file.kept.components
+      since o i =
+          let new : g.file.kept.first_tag ≤ birth o = h.3 o i in
+          omega (arith, new, owner_below birth n g.file.kept.tag o (omega (arith, (h.1 o i).0, h.0)))
+
       on : (o tag : ℕ) → IsBorn birth g.effects.object o tag
           → IsBorn (with_owner birth n g.file.kept.tag) (t.object + 1) o tag
       on o tag x =
@@ -149,10 +166,15 @@ module _ (birth : ℕ → ℕ) (n : ℕ) (before : List Awaited) where
       let is = objects_set g.file.kept.components t.component (stands_at t) in (
         h.0,
         λ o i. elim (in_set (objects_of g.file.kept.components) t.component t.object o (subst (In o) is i)) [
-          | inl e ↦ subst (λ (x : ℕ). IsBorn birth g.effects.object x g.file.kept.tag) (sym e) a
+          | inl e ↦ subst (λ (x : ℕ). IsBorn birth g.effects.object x g.file.kept.tag) (sym e) a.0
           | inr j ↦ h.1 o j
         ],
         h.2,
+        λ o i. elim (in_set (objects_of g.file.kept.components) t.component t.object o (subst (In o) is i)) [
+          | inl e ↦ subst (λ (x : ℕ). g.file.kept.first_tag ≤ birth x) (sym e) a.1
+          | inr j ↦ h.3 o j
+        ],
+        h.4,
       )
 
   from : (g : Going) (t : Target) (p : Piece) → Own g → Asked g (sources g.file.kept t p g.effects.nonce)
@@ -172,7 +194,7 @@ module _ (birth : ℕ → ℕ) (n : ℕ) (before : List Awaited) where
       → End (rests g Rebuilding (Fills t (p ∷ ps)) (to_fill g.file.kept t p bytes g.effects.nonce) [])
   filled g t p ps bytes h a =
       ends_rests g Rebuilding (Fills t (p ∷ ps)) (to_fill g.file.kept t p bytes g.effects.nonce) [] h a
-      (one_asked birth g.effects.object g.file.kept.tag _ (a, λ x. absurd (cc x)))
+      (one_asked birth g.effects.object g.file.kept.tag _ (a.0, λ x. absurd (cc x)))
 
   ends_filling : (g : Going) (t : Target) (p : Piece) (ps : List Piece) (bytes : List ℕ) → Own g → Aim g (Some t)
       → End (filling g t p ps bytes)
@@ -228,7 +250,7 @@ module _ (birth : ℕ → ℕ) (n : ℕ) (before : List Awaited) where
   owns_raised : (g : Going) → Own g
       → Own (noting (keeping g (record g.file.kept { tag = g.file.kept.tag + 1; phase = Repairing }))
       (Fenced (g.file.kept.tag + 1)))
-  owns_raised g h = (h.0, λ o i. let r = h.1 o i in (r.0, omega (arith, r.1)), h.2)
+  owns_raised g h = (h.0, λ o i. let r = h.1 o i in (r.0, omega (arith, r.1)), h.2, h.3, omega (arith, h.4))
 
   ends_fenced : (kind : JobKind) (g : Going) → Own g → End (fenced kind g)
   unfolding fenced repair_begins
@@ -308,7 +330,11 @@ module _ (birth : ℕ → ℕ) (n : ℕ) (before : List Awaited) where
 
   pub holds_same : (g : Going) (ds : List Component) → objects_of ds ≡ objects_of g.file.kept.components → Hold g
       → Hold (with_components g ds)
-  holds_same g ds e h = ((h.0.0, λ o i. h.0.1 o (subst (In o) e i), h.0.2), h.1, h.2)
+  holds_same g ds e h = (
+    (h.0.0, λ o i. h.0.1 o (subst (In o) e i), h.0.2, λ o i. h.0.3 o (subst (In o) e i), h.0.4),
+    h.1,
+    h.2,
+  )
 
   -- ---- a reply
 
@@ -328,7 +354,7 @@ module _ (birth : ℕ → ℕ) (n : ℕ) (before : List Awaited) where
       let cs : List Component = lose_from (a.component ∷ []) g.file.kept.components 0 in
       let e = holds_same g cs (objects_from (a.component ∷ []) g.file.kept.components 0) h in
       ends_loses (noting (with_components g cs) (NoSpace a.component)) j work _ false e
-      (subst (IsAim birth g.effects.object g.file.kept.tag) (sym none) tt) (left_asked g _ j.awaited asked)
+      (subst (IsAim birth g.effects.object g.file.kept.first_tag g.file.kept.tag) (sym none) tt) (left_asked g _ j.awaited asked)
 
   ends_fills_up : (g : Going) (j : Job) (a : Awaited) (work : Work) → Hold g → Aim g (target_in work)
       → Asked g j.awaited → End (fills_up g j a work)
@@ -361,6 +387,8 @@ module _ (birth : ℕ → ℕ) (n : ℕ) (before : List Awaited) where
           h.0.1,
           sent_more birth g.effects.object g.file.kept.tag g.effects.sent (b ∷ []) h.0.2
               (one_asked birth g.effects.object g.file.kept.tag b x),
+          h.0.3,
+          h.0.4,
         ),
         aim_of g j is h,
         λ c l.
@@ -398,3 +426,24 @@ module _ (birth : ℕ → ℕ) (n : ℕ) (before : List Awaited) where
   ends_declares g drive h =
       either_going (any_on drive g.file.kept.components || targets g.file.job drive) _ _
       (ends_declared g drive g.file.job refl h) (same g h)
+
+  -- ---- an opening
+
+  ends_opened : (g : Going) (ready : Bool) → g.file.kept.ready ≡ ready
+      → (g.file.kept.ready ≡ false → g.file.kept.tag ≡ g.file.kept.first_tag) → Hold g → End (opens_made g ready)
+  ends_opened g true is first h = ended g h.0
+  ends_opened g false is first h =
+      ends_making g h.0
+      (λ o i. let new : g.file.kept.first_tag ≤ birth o = h.0.3 o i in omega (arith, new, first is))
+
+  ends_unsettled : (format : ℕ) (g : Going) → Hold g → End (opens_fenced format g)
+  unfolding opens_fenced
+  ends_unsettled format g h =
+      either_going (g.file.kept.tag == GREATEST_TAG) _ _ (same (opens_spent g) h) (ends_fence Revoking format g h.0)
+
+  pub ends_opens : (format : ℕ) (g : Going)
+      → (g.file.kept.ready ≡ false → g.file.kept.tag ≡ g.file.kept.first_tag) → Hold g → End (opens format g)
+  unfolding opens
+  ends_opens format g first h =
+      either_going (is_unsettled g.file.kept) _ _ (ends_unsettled format g h)
+      (ends_opened g g.file.kept.ready refl first h)

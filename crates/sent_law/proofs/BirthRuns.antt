@@ -1,15 +1,20 @@
--- Over any run of a server that goes on, nothing was sent under an earlier tag than that of a CREATE that is awaited.
-use Rattle.std.proofs.Common.{ℕ, ◌≤◌, List, [], ◌∷◌, refl, ap, ◌∙◌, arith, inl, inr}
+-- Over any run of a server in turn, nothing was sent under an earlier tag than that of a CREATE that is awaited.
+use Rattle.std.proofs.Common.{◌≡◌, ℕ, ◌≤◌, Bool, true, false, List, [], ◌∷◌, refl, ap, ◌∙◌, arith, inl, inr}
 use Rattle.server_rules.specs.History.{Act, step, state_after}
 use Rattle.server_rules.specs.Laws.{In}
 use Rattle.server_rules.specs.Making.{new_server}
+use Rattle.server_rules.specs.Messages.{counters_have_room}
 use Rattle.server_rules.proofs.Members.{in_either}
 use Rattle.job_law.specs.Names.{Server, Command, ToDrive}
 use Rattle.sent_law.proofs.ObjectSteps.{Agree}
 use Rattle.sent_law.specs.Tagged.{sent_over}
-use Rattle.sent_law.specs.First.{AreRunning, CreatesAreFirst}
+use Rattle.move_law.specs.Moves.{down_behind}
+use Rattle.sent_law.specs.Turns.{AreInTurn}
+use Rattle.sent_law.specs.First.{CreatesAreFirst}
 use Rattle.sent_law.proofs.BirthEnds.{born_later}
 use Rattle.sent_law.proofs.BirthGoing.{AreFine, IsSent}
+use Rattle.sent_law.proofs.StandRuns.{settled_by, IsAt, starts, goes_on, room_before}
+use Rattle.sent_law.proofs.BirthSteps.{HaveFirst}
 use Rattle.sent_law.proofs.BirthEvery.{step_keeps}
 
 -- what holds at the end of a run
@@ -21,19 +26,25 @@ record Runs (birth : ℕ → ℕ) (s : Server) (acts : List Act) : Type 0 where
   sent : (drive : ℕ) (c : Command) → In (ToDrive drive c) (sent_over s acts)
       → IsSent later (state_after s acts).next_object c
 
-runs : (birth : ℕ → ℕ) (s : Server) (acts : List Act) → AreRunning acts → AreFine birth s → Runs birth s acts
+-- a file that isn't ready has its first tag
+firsts : (down : Bool) (s : Server) → IsAt down s → HaveFirst s.files
+firsts down s at f i e = ((settled_by down _ f (at.standing f i)).unmade e).2
+
+runs : (birth : ℕ → ℕ) (s : Server) (down : Bool) (acts : List Act) → IsAt down s → AreInTurn down acts
+    → counters_have_room (state_after s acts) ≡ true → AreFine birth s → Runs birth s acts
 unfolding sent_over
-runs birth s [] running own = record {
+runs birth s down [] at turns low own = record {
   later = birth;
   agree = λ o less. refl;
   rises = omega arith;
   fine = own;
   sent = λ drive c i. absurd i;
 }
-runs birth s (a ∷ acts) running own =
+runs birth s down (a ∷ acts) at turns low own =
     let t : Server = (step s a.chosen a.input).state in
-    let g = step_keeps birth s a.chosen a.input running.0 own in
-    let r = runs g.later t acts running.1 g.fine in
+    let g = step_keeps birth s a.chosen a.input (firsts down s at) own in
+    let next = goes_on down s a at turns.0 (λ is. room_before down s (a ∷ acts) at low) in
+    let r = runs g.later t (down_behind down a.input) acts next turns.1 low g.fine in
     record {
       later = r.later;
       agree = λ o less. r.agree o (omega (arith, less, g.rises)) ∙ g.agree o less;
@@ -48,8 +59,8 @@ runs birth s (a ∷ acts) running own =
     }
 
 pub creates_are_first : CreatesAreFirst
-creates_are_first acts running f i a w create drive c j object =
-    let r = runs (λ o. o) (new_server []) acts running (λ g k. absurd k) in
+creates_are_first acts turns low f i a w create drive c j object =
+    let r = runs (λ o. o) (new_server []) false acts starts turns low (λ g k. absurd k) in
     let made : f.kept.tag ≤ r.later a.command.object = ((r.fine f i).2 a w).1 create in
     let sent = r.sent drive c j in
     omega (arith, made, ap r.later object, sent.1)

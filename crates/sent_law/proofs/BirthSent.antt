@@ -33,7 +33,7 @@ abbrev pub is_creating : Ask → Bool
 is_creating Creating = true
 is_creating ask = false
 
--- the objects are new at this tag
+-- when the numbers of the objects were given, the file had this tag or a later one
 abbrev pub AllNew : (birth : ℕ → ℕ) → (tag : ℕ) → List Component → Type 0
 AllNew birth t cs = (o : ℕ) → In o (objects_of cs) → t ≤ birth o
 

@@ -1,5 +1,5 @@
 -- What each request, reply and order leaves of files, and of what was sent.
-use Rattle.std.proofs.Common.{◌≡◌, ◌∙◌, ℕ, ◌≤◌, true, List, [], ◌∷◌, refl, sym, subst, arith, inl, inr}
+use Rattle.std.proofs.Common.{◌≡◌, ◌∙◌, ℕ, ◌≤◌, false, List, [], ◌∷◌, refl, sym, subst, arith, inl, inr}
 use Rattle.server_rules.specs.Answers.{recalls_from}
 use Rattle.server_rules.specs.Laws.{In}
 use Rattle.server_rules.specs.Going.{Going, noting}
@@ -7,16 +7,17 @@ use Rattle.server_rules.specs.Files.{Step, still, begins, at_file, step_at, to_d
 use Rattle.server_rules.specs.Requests.{serves, carried_out}
 use Rattle.server_rules.specs.Replies.{answers, hearing}
 use Rattle.server_rules.specs.Orders.{declares_each, with_offline, offline, declare}
+use Rattle.server_rules.specs.Openings.{crashed_file, crash, opens, opens_each}
 use Rattle.server_rules.specs.Rounds.{Round, step_round}
 use Rattle.server_rules.specs.Jobs.{declares, fence_begins}
 use Rattle.job_law.specs.Names.{Command, ToDrive, Server, File, Drive, Effects, ClientRequest, Awaited, OrderKind}
-use Rattle.server_rules.proofs.Members.{in_either}
+use Rattle.server_rules.proofs.Members.{in_either, in_mapped}
 use Rattle.job_law.proofs.Files.{found_file, in_drives}
 use Rattle.job_law.proofs.Steps.{no_answer, no_recall}
 use Rattle.sent_law.proofs.ObjectSteps.{Agree}
 use Rattle.sent_law.proofs.PhaseSteps.{found_in}
 use Rattle.sent_law.proofs.BirthEnds.{IsFine, born_later, fine_later, AllSent, Ends, holds_on}
-use Rattle.sent_law.proofs.BirthJobs.{ends_fence, ends_hears, ends_declares}
+use Rattle.sent_law.proofs.BirthJobs.{ends_fence, ends_hears, ends_declares, ends_opens}
 use Rattle.sent_law.proofs.BirthServing.{ends_served}
 use Rattle.sent_law.proofs.BirthGoing.{AreFine, sent_of, Keeps, idle, stays, goes_at, begun}
 use Rattle.data_map.specs.declared.check.RawMap.{RawMap}
@@ -24,7 +25,6 @@ use Rattle.server_rules.specs.History.{Input}
 use Rattle.server_rules.specs.Making.{makes_file}
 use Rattle.server_rules.specs.Messages.{resend}
 use Rattle.world_history.specs.ServerNames.{OrderResult}
-use Rattle.sent_law.specs.Standing.{is_running}
 use Rattle.move_law.specs.Steps.{answered_file, new_file, with_answer, RequestCases, StepCases}
 use Rattle.move_law.proofs.Steps.{each_request}
 
@@ -77,9 +77,34 @@ declared_each drive ds (f ∷ fs) m chosen birth own =
     let h : Going = declares g drive in
     let w = own f (inl refl) in
     let e : Ends birth m.object m.sent h =
-    ends_declares birth m.object m.sent g drive ((refl, w.0, λ a i. inl i), w.1, w.2) in
+    ends_declares birth m.object m.sent g drive ((refl, w.0, λ a i. inl i, w.3, w.4), w.1, w.2) in
     then_all birth m.object m.sent h _ e
     (declared_each drive ds fs h.effects h.chosen e.0
+    (λ x i. fine_later birth e.0 m.object h.effects.object x e.1 e.2 (own x (inr i))))
+
+-- each file that isn't ready has its first tag
+abbrev pub HaveFirst : List File → Type 0
+HaveFirst fs = (f : File) → In f fs → f.kept.ready ≡ false → f.kept.tag ≡ f.kept.first_tag
+
+opened_each : (format : ℕ) (ds : List Drive) (fs : List File) (m : Effects) (birth : ℕ → ℕ) → HaveFirst fs
+    → ((f : File) → In f fs → IsFine birth m.object f) → KeepsAll birth m.object m.sent (opens_each format ds fs m)
+unfolding opens_each
+opened_each format ds [] m birth first own = record {
+  later = birth;
+  agree = λ o less. refl;
+  rises = omega arith;
+  fine = λ f i. absurd i;
+  sent = λ a i. inl i;
+}
+opened_each format ds (f ∷ fs) m birth first own =
+    let g : Going = record { file = f; effects = m; drives = ds; chosen = [] } in
+    let h : Going = opens format g in
+    let w = own f (inl refl) in
+    let e : Ends birth m.object m.sent h =
+    ends_opens birth m.object m.sent format g (first f (inl refl))
+    ((refl, w.0, λ a i. inl i, w.3, w.4), w.1, w.2) in
+    then_all birth m.object m.sent h _ e
+    (opened_each format ds fs h.effects e.0 (λ x i. first x (inr i))
     (λ x i. fine_later birth e.0 m.object h.effects.object x e.1 e.2 (own x (inr i))))
 
 module _ (birth : ℕ → ℕ) (s : Server) (own : AreFine birth s) where
@@ -110,6 +135,19 @@ module _ (birth : ℕ → ℕ) (s : Server) (own : AreFine birth s) where
           | inl none ↦ absurd none
           | inr y ↦ sent_of k.later r.effects.object drive c x.0 x.1 y
         ];
+  }
+
+  -- all jobs end
+  crash_kept : IsKept (still (crash s))
+  crash_kept = record {
+    later = birth;
+    agree = λ o less. refl;
+    rises = omega arith;
+    fine = λ f i.
+        let r = in_mapped crashed_file f s.files i in
+        let h = own r.0 r.1 in
+        subst (IsFine birth s.next_object) (sym r.2) (h.0, tt, λ a j. absurd j, h.3, h.4);
+    sent = λ drive c i. absurd i;
   }
 
   -- ---- a request
@@ -149,11 +187,11 @@ module _ (birth : ℕ → ℕ) (s : Server) (own : AreFine birth s) where
 
   -- ---- any step, but for what follows from these
 
-  pub kept_cases : (chosen : List ℕ) (i : Input) → is_running i ≡ true
+  pub kept_cases : (chosen : List ℕ) (i : Input) → HaveFirst s.files
       → ((n : ℕ) (m : RawMap) (tag : ℕ) → IsKept (makes_file s (new_file s chosen n m tag)))
       → IsKept (record (still s) { sends = resend s }) → StepCases s chosen i IsKept
   unfolding declare
-  kept_cases chosen i runs made again = record {
+  kept_cases chosen i first made again = record {
     rests = still_kept;
     asked = λ now q is. each_request s now chosen q IsKept (requests now chosen q);
     answered = λ x is.
@@ -178,6 +216,6 @@ module _ (birth : ℕ → ℕ) (s : Server) (own : AreFine birth s) where
     added = λ d is. idle birth s own _ refl refl (λ drive c j. absurd j);
     formats = λ n is. idle birth s own _ refl refl (λ drive c j. absurd j);
     resends = λ is. again;
-    crashes = λ is. absurd (cc (subst (λ (j : Input). is_running j ≡ true) is runs));
-    opened = λ is low. absurd (cc (subst (λ (j : Input). is_running j ≡ true) is runs));
+    crashes = λ is. crash_kept;
+    opened = λ is low. round_kept s _ (opened_each s.format s.drives s.files (begins s) birth first own);
   }

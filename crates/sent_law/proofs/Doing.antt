@@ -1,9 +1,10 @@
--- What a move does at the server: nothing, or a step by what lines can name; and what it sends to drives.
-use Rattle.std.proofs.Common.{◌≡◌, ℕ, Bool, true, false, List, [], ◌∷◌, Some, map, filter, refl, sym, ap, subst, ◌∙◌, inl, inr, if◌then◌else◌}
+-- What a move does at the server: nothing, or a step by what lines can name, in its turn; and what it sends to drives.
+use Rattle.std.proofs.Common.{◌≡◌, ℕ, Bool, true, false, not, List, [], ◌∷◌, Option, Some, None, is_some, map, filter, refl, sym, ap, subst, ◌∙◌, inl, inr, if◌then◌else◌}
 use Rattle.osd_lists.specs.declared.node.Node.{Node}
 use Rattle.osd_lists.specs.declared.node.Node.TheVariants as node
 use Rattle.osd_commands.specs.declared.replies.Reply.{Reply}
 use Rattle.scenario_text.specs.declared.event.Event.TheVariants as event
+use Rattle.scenario_text.specs.declared.event.Machine.TheVariants as machine
 use Rattle.scenario_text.specs.declared.event.Sender.TheVariants as sender
 use Rattle.scenario_text.specs.declared.line.Line.TheVariants as line
 use Rattle.server_rules.specs.History.{Input, Hears, Adds, step}
@@ -13,14 +14,18 @@ use Rattle.job_law.specs.Names.{Command, Outgoing, ToDrive, Recalls, Answers, An
 use Rattle.world_history.specs.ClientNames as client_rules
 use Rattle.world_history.specs.declared.messages.Body.TheVariants.{Command as OfCommand, Reply as OfReply}
 use Rattle.world_history.specs.declared.messages.Message.{Message}
-use Rattle.world_history.specs.State.{World}
+use Rattle.world_history.specs.declared.err.WorldErr.{WorldErr}
+use Rattle.world_history.specs.declared.err.WorldErr.TheVariants.{Running}
+use Rattle.world_history.specs.State.{World, at_number}
 use Rattle.world_history.specs.Handed.{Post, is_addressed, plain, wrote_in, data_in, op_in, server_post, client_posts}
 use Rattle.world_history.specs.Moves.{Act, Action, Opens, known_drive, acts}
+use Rattle.world_history.specs.Refusals.{refusal, first_of, if_failed, of_file, unless_down, unless_there}
 use Rattle.move_law.specs.Said.{posted}
-use Rattle.move_law.specs.Moves.{given_in, IsForServer, MoveCases}
+use Rattle.move_law.specs.Moves.{given_in, IsForServer, MoveCases, drive_event, down_behind}
 use Rattle.move_law.proofs.Moves.{each_act}
 use Rattle.calm_law.specs.Naming.{IsNamed, IsNamedInput}
-use Rattle.sent_law.specs.Standing.{is_running}
+use Rattle.world_history.proofs.Causes.{no_cause, is_up}
+use Rattle.sent_law.specs.Turns.{in_turn}
 use Rattle.fencing_law.proofs.Moves.{IsSent}
 use Rattle.sent_law.specs.Sent.{commanded}
 
@@ -86,69 +91,113 @@ reply_tells n to r d c (inr i) = absurd i
 
 -- ---- what is done
 
--- what comes to the server in a move: lines can name it, it doesn't stop the server, and what is heard was sent
+-- what comes to the server in a move: lines can name it, it is in its turn, and what is heard was sent
 pub record Comes (w : World) (i : Input) : Type 0 where
   pub named : IsNamedInput i
-  pub runs : is_running i ≡ true
+  pub turn : in_turn w.down i ≡ true
   pub sent : IsSent w i
 
 pub data Does (w : World) (chosen : List ℕ) (a : Act) : Type 0 where
-  Rests : a.world.server ≡ w.server → Tells a.posts [] → Does w chosen a
+  Rests : a.world.server ≡ w.server → a.world.down ≡ w.down → Tells a.posts [] → Does w chosen a
   Serves : (i : Input) → Comes w i → a.world.server ≡ (step w.server chosen i).state
-      → Tells a.posts (step w.server chosen i).sends → Does w chosen a
+      → a.world.down ≡ down_behind w.down i → Tells a.posts (step w.server chosen i).sends → Does w chosen a
 
 -- lines can name what the event of an action makes
 abbrev pub IsNamedAction : Action → Type 0
 IsNamedAction (Opens e) = IsNamed (line.Event e)
 IsNamedAction action = Unit {0}
 
+-- the event of an action isn't refused
+abbrev pub IsAllowed : World → Action → Type 0
+IsAllowed w (Opens e) = refusal w e ≡ None
+IsAllowed w action = Unit {0}
+
+-- ---- what is in its turn
+
+-- what comes while the server is up
+up : (w : World) → unless_down w ≡ None → not w.down ≡ true
+up w e = ap not (is_up w e)
+
+up_for : (w : World) (cause : Option WorldErr) → first_of cause (unless_down w) ≡ None → not w.down ≡ true
+up_for w cause e = up w (no_cause cause (unless_down w) e).1
+
+is_opened : (down : Bool) → (if down then None else Some Running) ≡ None → down ≡ true
+is_opened true e = refl
+is_opened false e = absurd (cc e)
+
 -- ---- each action
 
 -- what an action gives the server
-on : (j i : Input) → Some j ≡ Some i → IsNamedInput j × (is_running j ≡ true) → IsNamedInput i × (is_running i ≡ true)
-on j i e x =
-    let same : j ≡ i = cc e in subst (λ (k : Input). IsNamedInput k × (is_running k ≡ true)) same x
+on : (w : World) (j i : Input) → Some j ≡ Some i → IsNamedInput j → in_turn w.down j ≡ true
+    → IsNamedInput i × (in_turn w.down i ≡ true)
+on w j i e named turn =
+    let same : j ≡ i = cc e in
+    subst (λ (k : Input). IsNamedInput k × (in_turn w.down k ≡ true)) same (named, turn)
 
-named_given : (action : Action) (i : Input) → given_in action ≡ Some i → IsNamedAction action
-    → IsNamedInput i × (is_running i ≡ true)
-named_given (Opens (event.File f m tag)) i e named = on _ i e (named, refl)
-named_given (Opens (event.Format format)) i e named = on _ i e (tt, refl)
-named_given (Opens (event.Resend sender.Server)) i e named = on _ i e (tt, refl)
-named_given (Opens (event.Recall f)) i e named = on _ i e (tt, refl)
-named_given (Opens (event.Revoke f)) i e named = on _ i e (tt, refl)
-named_given (Opens (event.Rebuild f)) i e named = on _ i e (tt, refl)
-named_given (Opens (event.Audit f)) i e named = on _ i e (tt, refl)
-named_given (Opens (event.Declare d)) i e named = on _ i e (tt, refl)
-named_given action i e named = absurd (cc e)
+named_given : (w : World) (action : Action) (i : Input) → given_in action ≡ Some i → IsNamedAction action
+    → IsAllowed w action → IsNamedInput i × (in_turn w.down i ≡ true)
+unfolding refusal
+named_given w (Opens (event.File f m tag)) i e named allowed = on w _ i e named (up w allowed)
+named_given w (Opens (event.Format format)) i e named allowed = on w _ i e tt (up w allowed)
+named_given w (Opens (event.Resend sender.Server)) i e named allowed = on w _ i e tt (up w allowed)
+named_given w (Opens (event.Recall f)) i e named allowed = on w _ i e tt (up_for w (of_file w f) allowed)
+named_given w (Opens (event.Revoke f)) i e named allowed = on w _ i e tt (up_for w (of_file w f) allowed)
+named_given w (Opens (event.Rebuild f)) i e named allowed = on w _ i e tt (up_for w (of_file w f) allowed)
+named_given w (Opens (event.Audit f)) i e named allowed = on w _ i e tt (up_for w (of_file w f) allowed)
+named_given w (Opens (event.Declare d)) i e named allowed =
+    on w _ i e tt (up_for w (if_failed (at_number w.drives d)) allowed)
+named_given w (Opens (event.Crash machine.Server)) i e named allowed = on w _ i e tt (up w allowed)
+named_given w (Opens (event.Reopen machine.Server)) i e named allowed = on w _ i e tt (is_opened w.down allowed)
+named_given w action i e named allowed = absurd (cc e)
 
-comes : (w : World) (action : Action) (i : Input) → IsForServer w action i → IsNamedAction action → Comes w i
-comes w action (Hears now from m) (d, now_is, from_is, read, number) named = record {
+-- a drive that is made
+named_drive : (w : World) (d : ℕ) (key : List ℕ) (capacity : ℕ) (stored : Bool)
+    → IsNamedAction (Opens (drive_event d key capacity stored)) → IsAllowed w (Opens (drive_event d key capacity stored))
+    → Comes w (Adds (known_drive d key capacity))
+unfolding refusal
+named_drive w d key capacity true named allowed = record {
+  named = named;
+  turn = up_for w (unless_there (is_some (at_number w.drives d))) allowed;
+  sent = tt;
+}
+named_drive w d key capacity false named allowed = record {
+  named = named;
+  turn = up_for w (unless_there (is_some (at_number w.drives d))) allowed;
+  sent = tt;
+}
+
+comes : (w : World) (action : Action) (i : Input) → IsForServer w action i → IsNamedAction action
+    → IsAllowed w action → Comes w i
+comes w action (Hears now from m) (d, now_is, from_is, read, number, awake) named allowed = record {
   named = tt;
-  runs = refl;
+  turn = ap not awake;
   sent = (d.number, d.posted, d.there, d.receiver, sym from_is, read);
 }
-comes w action i is named =
-    let x = named_given action i is named in record { named = x.0; runs = x.1; sent = tt }
+comes w action i is named allowed =
+    let x = named_given w action i is named allowed in record { named = x.0; turn = x.1; sent = tt }
 
-cases : (w : World) (chosen : List ℕ) (action : Action) → IsNamedAction action
+cases : (w : World) (chosen : List ℕ) (action : Action) → IsNamedAction action → IsAllowed w action
     → MoveCases w chosen action (Does w chosen)
-cases w chosen action named = record {
-  rests = λ ms said told quiet. Rests refl tells_none;
-  refused = λ c a found op is e why. Rests refl tells_none;
-  clock = λ time. Rests refl tells_none;
-  serves = λ ms said i is. Serves i (comes w action i is named) refl (server_tells (step w.server chosen i).sends);
+cases w chosen action named allowed = record {
+  rests = λ ms said told quiet. Rests refl refl tells_none;
+  refused = λ c a found op is e why. Rests refl refl tells_none;
+  clock = λ time. Rests refl refl tells_none;
+  serves = λ ms said i is.
+      Serves i (comes w action i is named allowed) refl refl (server_tells (step w.server chosen i).sends);
   goes = λ ms said c a found i is.
-      Rests refl (client_tells c (wrote_in a i) (data_in (op_in a.state i)) (client.step a.state i).sends);
-  comes = λ c is. Rests refl tells_none;
-  stops = λ c a found. Rests refl tells_none;
-  judged = λ ms said d a found failed m number. Rests refl (reply_tells d m.posted.message.from _);
-  injected = λ d bytes is a found. Rests refl tells_none;
-  turns = λ d a b found turns. Rests refl tells_none;
-  known = λ d key capacity is knows. Rests refl tells_none;
-  adds = λ d key capacity is knows.
+      Rests refl refl (client_tells c (wrote_in a i) (data_in (op_in a.state i)) (client.step a.state i).sends);
+  comes = λ c is. Rests refl refl tells_none;
+  stops = λ c a found. Rests refl refl tells_none;
+  judged = λ ms said d a found hears m number. Rests refl refl (reply_tells d m.posted.message.from _);
+  injected = λ d bytes is a found. Rests refl refl tells_none;
+  turns = λ d a b found turns. Rests refl refl tells_none;
+  known = λ d key capacity stored is knows. Rests refl refl tells_none;
+  adds = λ d key capacity stored is knows.
       Serves (Adds (known_drive d key capacity))
-      (record { named = subst IsNamedAction is named; runs = refl; sent = tt }) refl tells_none;
+      (named_drive w d key capacity stored (subst IsNamedAction is named) (subst (IsAllowed w) is allowed)) refl refl
+      tells_none;
 }
 
-pub does : (w : World) (chosen : List ℕ) (action : Action) → IsNamedAction action → Does w chosen (acts w chosen action)
-does w chosen action named = each_act w chosen (Does w chosen) action (cases w chosen action named)
+pub does : (w : World) (chosen : List ℕ) (action : Action) → IsNamedAction action → IsAllowed w action
+    → Does w chosen (acts w chosen action)
+does w chosen action named allowed = each_act w chosen (Does w chosen) action (cases w chosen action named allowed)

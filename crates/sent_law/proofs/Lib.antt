@@ -13,6 +13,13 @@ pub mod Every
 pub mod PhaseRuns
 pub mod Within
 pub mod BirthSent
+pub mod StandAwaited
+pub mod StandHeld
+pub mod StandJobs
+pub mod StandServing
+pub mod StandOpens
+pub mod StandSteps
+pub mod StandRuns
 pub mod BirthEnds
 pub mod BirthJobs
 pub mod BirthServing
@@ -20,10 +27,5 @@ pub mod BirthGoing
 pub mod BirthSteps
 pub mod BirthEvery
 pub mod BirthRuns
-pub mod StandAwaited
-pub mod StandHeld
-pub mod StandJobs
-pub mod StandServing
-pub mod StandSteps
 pub mod Doing
 pub mod Moments

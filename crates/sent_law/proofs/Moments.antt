@@ -1,5 +1,5 @@
 -- At each moment one run of the server sent what the server sent to drives.
-use Rattle.std.proofs.Common.{◌≡◌, ℕ, true, ◌++◌, ◌∷◌, [], List, inl, inr, refl, sym, ap, subst, ◌∙◌}
+use Rattle.std.proofs.Common.{◌≡◌, ℕ, Bool, true, false, ◌++◌, ◌∷◌, [], List, Some, inl, inr, refl, sym, ap, subst, ◌∙◌}
 use Rattle.scenario_text.specs.declared.line.Line.{Line}
 use Rattle.server_rules.specs.History.{Act as ServerAct, state_after, step}
 use Rattle.server_rules.specs.Laws.{In}
@@ -12,18 +12,21 @@ use Rattle.world_history.specs.declared.messages.Message.{Message}
 use Rattle.world_history.specs.State.{World, empty_world}
 use Rattle.world_history.specs.Moves.{Act, Action, Opens, Delivers, TimesOut, Pends, acts}
 use Rattle.world_history.specs.Sending.{Move, move}
-use Rattle.history_law.specs.BookMoments.{with_event, lines_in}
+use Rattle.world_history.specs.Plans.{due}
+use Rattle.history_law.specs.BookMoments.{IsMoment, with_event, lines_in, plan_at}
 use Rattle.history_law.proofs.Running.{server_more}
 use Rattle.exchange_law.specs.Doing.{said, posted}
+use Rattle.move_law.specs.Moves.{down_behind}
 use Rattle.move_law.proofs.Goes.{moves_are_steps}
 use Rattle.exchange_law.proofs.SlotLists.{said_more}
 use Rattle.exchange_law.proofs.SlotMoments.{always}
 use Rattle.calm_law.specs.Naming.{IsNamed, IsNamedInput, AreNamed}
 use Rattle.calm_law.proofs.Lists.{each_end}
+use Rattle.calm_law.proofs.MoveFollowing.{first_begun}
 use Rattle.sent_law.specs.Tagged.{sent_over}
-use Rattle.sent_law.specs.Standing.{is_running}
+use Rattle.sent_law.specs.Turns.{in_turn, AreInTurn, down_after}
 use Rattle.sent_law.specs.Sent.{commanded, IsSentByRun, ServerSentItsRun}
-use Rattle.sent_law.proofs.Doing.{Tells, Does, Rests, Serves, IsNamedAction, does}
+use Rattle.sent_law.proofs.Doing.{Tells, Does, Rests, Serves, IsNamedAction, IsAllowed, does}
 
 -- ---- lists
 
@@ -64,6 +67,26 @@ named_action (Delivers number) ls named = tt
 named_action (TimesOut c component) ls named = tt
 named_action (Pends c) ls named = tt
 
+-- where an event begins, it isn't refused
+pub allowed_at : (w : World) (h : List Line) (k : IsMoment w h) (action : Action) → due (plan_at k) w ≡ Some action
+    → IsAllowed w action
+allowed_at w h k (Opens e) d = (first_begun w h k e d).allowed
+allowed_at w h k (Delivers number) d = tt
+allowed_at w h k (TimesOut c component) d = tt
+allowed_at w h k (Pends c) d = tt
+
+-- ---- a run in turn with one act more
+
+turns_last : (down : Bool) (run : List ServerAct) (a : ServerAct) → AreInTurn down run
+    → in_turn (down_after down run) a.input ≡ true → AreInTurn down (run ++ a ∷ [])
+turns_last down [] a all last = (last, tt)
+turns_last down (b ∷ run) a all last = (all.0, turns_last (down_behind down b.input) run a all.1 last)
+
+down_last : (down : Bool) (run : List ServerAct) (a : ServerAct)
+    → down_after down (run ++ a ∷ []) ≡ down_behind (down_after down run) a.input
+down_last down [] a = refl
+down_last down (b ∷ run) a = down_last (down_behind down b.input) run a
+
 module _ (w : World) (m : Move) (s : IsSentByRun w) where
   abbrev a : Act
   a = acts w m.chosen m.action
@@ -88,14 +111,15 @@ module _ (w : World) (m : Move) (s : IsSentByRun w) where
       ]
 
   by_does : Does w m.chosen a → IsSentByRun v
-  by_does (Rests same tells) = record {
+  by_does (Rests same as_down tells) = record {
     acts = s.acts;
     server = same ∙ s.server;
     named = s.named;
-    running = s.running;
+    turns = s.turns;
+    down = s.down ∙ sym as_down;
     sends = λ d c i. told d c s.acts [] tells (λ j. j) (λ j. absurd j) i;
   }
-  by_does (Serves i comes goes tells) =
+  by_does (Serves i comes goes as_down tells) =
       let act : ServerAct = record { input = i; chosen = m.chosen } in
       record {
         acts = s.acts ++ act ∷ [];
@@ -103,28 +127,35 @@ module _ (w : World) (m : Move) (s : IsSentByRun w) where
             goes ∙ ap (λ (x : Server). (step x m.chosen i).state) s.server
             ∙ sym (server_more (new_server []) s.acts act);
         named = each_end (λ (x : ServerAct). IsNamedInput x.input) s.acts act s.named comes.named;
-        running = each_end (λ (x : ServerAct). is_running x.input ≡ true) s.acts act s.running comes.runs;
+        turns =
+            turns_last false s.acts act s.turns
+            (subst (λ (b : Bool). in_turn b i ≡ true) (sym s.down) comes.turn);
+        down =
+            down_last false s.acts act ∙ ap (λ (b : Bool). down_behind b i) s.down ∙ sym as_down;
         sends = λ d c j. told d c (s.acts ++ act ∷ []) (step w.server m.chosen i).sends tells
             (λ k. sent_before (new_server []) s.acts act (ToDrive d c) k)
             (λ k. sent_last (new_server []) s.acts act (ToDrive d c)
             (subst (λ (x : Server). In (ToDrive d c) (step x m.chosen i).sends) s.server k)) j;
       }
 
-moved : (w : World) (h : List Line) (m : Move) → Stand w h → Stand (move w m).world (h ++ lines_in w m)
-moved w h m before named =
+moved : (w : World) (h : List Line) (k : IsMoment w h) (m : Move) → due (plan_at k) w ≡ Some m.action → Stand w h
+    → Stand (move w m).world (h ++ lines_in w m)
+moved w h k m d before named =
     by_does w m (before (each_first IsNamed h (lines_in w m) named))
     (does w m.chosen m.action
-    (named_action m.action (move w m).lines (each_second IsNamed h (lines_in w m) named)))
+    (named_action m.action (move w m).lines (each_second IsNamed h (lines_in w m) named))
+    (allowed_at w h k m.action d))
 
 first : Stand empty_world []
 first named = record {
   acts = [];
   server = refl;
   named = tt;
-  running = tt;
+  turns = tt;
+  down = refl;
   sends = λ d c i. absurd i;
 }
 
 pub server_sent_its_run : OneEventMore → ServerSentItsRun
 server_sent_its_run more w h k =
-    always Stand (record { starts = first; moves = λ u g j m d p. moved u g m p }) more w h k
+    always Stand (record { starts = first; moves = λ u g j m d p. moved u g j m d p }) more w h k

@@ -17,24 +17,28 @@ use Rattle.job_law.specs.Names.{Kept, Component, Awaited, Heard, Piece, Target, 
 use Rattle.job_law.specs.Fencing.{Reached, Raises, IsAsked}
 use Rattle.job_law.proofs.Asking.{in_lost_from}
 use Rattle.job_law.proofs.Hearing.{full_is_write, done_is_done, IsAlone}
-use Rattle.sent_law.specs.Standing.{IsCreate}
+use Rattle.sent_law.specs.Standing.{IsCreate, IsUnmade}
 use Rattle.sent_law.proofs.StandAwaited.{AllAre, IsOther, one_is, sought_asked, sought_none, each_are, others_each, asked_each, stores_others, repair_others, sources_others, in_set}
-use Rattle.sent_law.proofs.StandHeld.{reach, AllReach, IsTagged, Holds, Ends, FileEnds, Lasts, holds_others, holds_renewed, holds_lost, ends_lost, lasts, lasts_declared, ends_declared}
+use Rattle.sent_law.proofs.StandHeld.{reach, IsTagged, IsOwn, IsNew, Holds, Ends, FileEnds, Lasts, holds_others, holds_renewed, holds_lost, ends_lost, lasts, lasts_declared, ends_declared}
 use Rattle.sent_law.proofs.BirthSent.{is_creating}
 
 module _ (R : Reached) where
-  -- each component that isn't missing has reached the file's tag
+  -- the file is ready, and each component that isn't missing has reached its tag
   abbrev Own : Going → Type 0
-  Own g = AllReach R g.file.kept.tag g.file.kept.components
+  Own g = IsOwn R g.file.kept.tag g.file.kept.components g.file.kept.ready
+
+  -- or it isn't made yet
+  abbrev New : Going → Type 0
+  New g = IsNew g.file.kept.ready (IsUnmade g.file.kept)
 
   abbrev End : Going → Type 0
   End g = FileEnds R g.file
 
   abbrev Has : Going → Work → List Awaited → Type 0
-  Has g work ws = Holds R g.file.kept.tag g.file.kept.components g.file.kept.grants work ws
+  Has g work ws = Holds R g.file.kept.tag g.file.kept.components g.file.kept.ready (IsUnmade g.file.kept) work ws
 
   abbrev Left : Going → Work → List Awaited → Type 0
-  Left g work ws = Lasts R g.file.kept.tag g.file.kept.components g.file.kept.grants work ws
+  Left g work ws = Lasts R g.file.kept.tag g.file.kept.components g.file.kept.ready (IsUnmade g.file.kept) work ws
 
   abbrev Aim : Going → Target → Type 0
   Aim g t = R t.drive t.object g.file.kept.tag ≡ true
@@ -79,10 +83,13 @@ module _ (R : Reached) where
   -- the component stands on its new drive
   owns_rebuilt : (g : Going) (t : Target) → Own g → Aim g t
       → Own (with_components g (slice_set g.file.kept.components t.component (stands_at t)))
-  owns_rebuilt g t h a at i there = elim (in_set g.file.kept.components t.component (stands_at t) at i) [
-    | inl e ↦ ap (λ (x : Component). R x.drive x.object g.file.kept.tag) e ∙ a
-    | inr j ↦ h at j there
-  ]
+  owns_rebuilt g t h a = (
+    h.0,
+    λ at i there. elim (in_set g.file.kept.components t.component (stands_at t) at i) [
+      | inl e ↦ ap (λ (x : Component). R x.drive x.object g.file.kept.tag) e ∙ a
+      | inr j ↦ h.1 at j there
+    ],
+  )
 
   from : (g : Going) (t : Target) (p : Piece) → AllAre IsOther (sources g.file.kept t p g.effects.nonce)
   unfolding sources
@@ -150,28 +157,28 @@ module _ (R : Reached) where
   AllAsked g ws = (at : Component) → In at g.file.kept.components → at.missing ≡ false → IsAsked ws at
 
   ends_made_or : (ws : List Awaited) (g : Going) → AllAre (IsCreate g.file.kept.tag) ws → AllAsked g ws
-      → g.file.kept.grants ≡ [] → End (rests_or ws g Making Creates (is_made g))
-  ends_made_or [] g creates asked none = λ at i there. absurd (asked at i there).1
-  ends_made_or (c ∷ cs) g creates asked none = (
+      → New g → End (rests_or ws g Making Creates (is_made g))
+  ends_made_or [] g creates asked new = (refl, λ at i there. absurd (asked at i there).1)
+  ends_made_or (c ∷ cs) g creates asked new = (
+    new,
     λ at i there.
         sought_asked (IsCreate g.file.kept.tag) (reach R g.file.kept.tag) (c ∷ cs) at creates (asked at i there),
     λ a i e. creates a i,
-    none,
   )
 
-  pub ends_making : (g : Going) → g.file.kept.grants ≡ [] → End (making g)
+  pub ends_making : (g : Going) → New g → End (making g)
   unfolding making
-  ends_making g none =
+  ends_making g new =
       ends_made_or (to_all g.file.kept All Creating g.effects.nonce) g
       (each_are (IsCreate g.file.kept.tag) g.file.kept All Creating g.file.kept.components 0 g.effects.nonce
       (λ j drive object n. record { action = refl; tagged = refl; holder = refl }))
-      (asked_each g.file.kept Creating g.file.kept.components 0 g.effects.nonce) none
+      (asked_each g.file.kept Creating g.file.kept.components 0 g.effects.nonce) new
 
   -- ---- a fence
 
   -- each component that isn't missing has reached the next tag
   abbrev Next : Going → Type 0
-  Next g = AllReach R (g.file.kept.tag + 1) g.file.kept.components
+  Next g = IsOwn R (g.file.kept.tag + 1) g.file.kept.components g.file.kept.ready
 
   ends_fenced : (kind : JobKind) (g : Going) → Next g → End (fenced kind g)
   unfolding fenced repair_begins
@@ -179,7 +186,7 @@ module _ (R : Reached) where
 
   ends_fences_or : (ws : List Awaited) (kind : JobKind) (g : Going) → Own g → AllAre (Raises g.file.kept.tag) ws
       → AllAsked g ws → End (rests_or ws g kind Fences (fenced kind g))
-  ends_fences_or [] kind g h raises asked = ends_fenced kind g (λ at i there. absurd (asked at i there).1)
+  ends_fences_or [] kind g h raises asked = ends_fenced kind g (h.0, λ at i there. absurd (asked at i there).1)
   ends_fences_or (c ∷ cs) kind g h raises asked = (
     h,
     raises,
@@ -225,11 +232,16 @@ module _ (R : Reached) where
   ends_on : (kind : JobKind) (work : Work) (heard : List Heard) (g : Going) → Has g work []
       → End (goes_on kind work heard g)
   unfolding goes_on
-  ends_on kind Creates heard g h =
-      λ at i there. sought_none (IsCreate g.file.kept.tag) (reach R g.file.kept.tag) at.drive at.object (h.0 at i there)
+  ends_on kind Creates heard g h = (
+    refl,
+    λ at i there. sought_none (IsCreate g.file.kept.tag) (reach R g.file.kept.tag) at.drive at.object (h.1 at i there),
+  )
   ends_on kind Fences heard g h =
-      ends_fenced kind g (λ at i there.
-      sought_none (Raises g.file.kept.tag) (reach R (g.file.kept.tag + 1)) at.drive at.object (h.2 at i there))
+      ends_fenced kind g (
+        h.0.0,
+        λ at i there.
+            sought_none (Raises g.file.kept.tag) (reach R (g.file.kept.tag + 1)) at.drive at.object (h.2 at i there),
+      )
   ends_on kind (Fetches ps short) heard g h = ends_fetched kind g ps short heard h.0
   ends_on kind (Stores ps short broken) heard g h = ends_written kind g ps short broken h.0
   ends_on kind (Targets t) heard g h =
@@ -278,9 +290,9 @@ module _ (R : Reached) where
       let cs : List Component = lose_from (a.component ∷ []) k.components 0 in
       let part = in_lost_from (a.component ∷ []) k.components 0 in
       ends_loses (noting (with_components g cs) (NoSpace a.component)) j work (others j.awaited a.command.nonce) false
-      (ends_lost R k.tag k.components k.grants cs g.file.job part e)
-      (lasts R k.tag cs k.grants work (others j.awaited a.command.nonce)
-      (holds_lost R k.tag k.components k.grants cs work (others j.awaited a.command.nonce) part h))
+      (ends_lost R k.tag k.components k.ready (IsUnmade k) cs g.file.job part e)
+      (lasts R k.tag cs k.ready (IsUnmade k) work (others j.awaited a.command.nonce)
+      (holds_lost R k.tag k.components k.ready (IsUnmade k) cs work (others j.awaited a.command.nonce) part h))
 
   ends_fills_up : (g : Going) (j : Job) (a : Awaited) (work : Work) → End g
       → Has g work (others j.awaited a.command.nonce) → End (fills_up g j a work)
@@ -296,7 +308,7 @@ module _ (R : Reached) where
 
   has_job : (g : Going) (j : Job) → g.file.job ≡ Some j → End g → Has g j.work j.awaited
   has_job g j is e =
-      subst (λ (o : Option Job). Ends R g.file.kept.tag g.file.kept.components g.file.kept.grants o) is e
+      subst (λ (o : Option Job). Ends R g.file.kept.tag g.file.kept.components g.file.kept.ready (IsUnmade g.file.kept) o) is e
 
   none_writes : (a : Action) → is_write a ≡ true → a ≡ SetTag → ⊥
   none_writes a w e = cc (sym w ∙ ap is_write e)
@@ -312,18 +324,19 @@ module _ (R : Reached) where
       → (IsCreate g.file.kept.tag a → is_done g.file.kept a r ≡ true
       → R a.drive a.command.object g.file.kept.tag ≡ true) → End g → End (hears g j a r x)
   ends_hears g j a r Older is job i alone raised made e =
-      holds_renewed R g.file.kept.tag g.file.kept.components g.file.kept.grants j.work j.awaited a g.effects.nonce i alone
+      let k : Kept = g.file.kept in
+      holds_renewed R k.tag k.components k.ready (IsUnmade k) j.work j.awaited a g.effects.nonce i alone
       (has_job g j job e)
   ends_hears g j a r Full is job i alone raised made e =
       let write = full_is_write g.file.kept a r is in
       ends_fills_up g j a j.work e
-      (holds_others R g.file.kept.tag g.file.kept.components g.file.kept.grants j.work j.awaited a alone
+      (holds_others R g.file.kept.tag g.file.kept.components g.file.kept.ready (IsUnmade g.file.kept) j.work j.awaited a alone
       (λ x. absurd (none_writes a.command.action write x.action))
       (λ x. absurd (no_create a.command.action write x.action)) (has_job g j job e))
   ends_hears g j a r Done is job i alone raised made e =
       let done = done_is_done g.file.kept a r is in
       ends_waits g j j.work (others j.awaited a.command.nonce) (heard_with j a r)
-      (holds_others R g.file.kept.tag g.file.kept.components g.file.kept.grants j.work j.awaited a alone
+      (holds_others R g.file.kept.tag g.file.kept.components g.file.kept.ready (IsUnmade g.file.kept) j.work j.awaited a alone
       (λ x. raised x done) (λ x. made x done) (has_job g j job e))
   ends_hears g j a r Nothing is job i alone raised made e = e
 
@@ -332,12 +345,12 @@ module _ (R : Reached) where
   ends_declared_in : (g : Going) (drive : ℕ) (o : Option Job) → g.file.job ≡ o → End g
       → End (declared_in (with_components g (lose_on drive g.file.kept.components)) drive o)
   ends_declared_in g drive None job e =
-      ends_declared R g.file.kept.tag g.file.kept.components g.file.kept.grants drive g.file.job e
+      ends_declared R g.file.kept.tag g.file.kept.components g.file.kept.ready (IsUnmade g.file.kept) drive g.file.job e
   ends_declared_in g drive (Some j) job e =
       ends_loses (with_components g (lose_on drive g.file.kept.components)) j j.work (others_than drive j.awaited)
       (is_target j.work drive)
-      (ends_declared R g.file.kept.tag g.file.kept.components g.file.kept.grants drive g.file.job e)
-      (lasts_declared R g.file.kept.tag g.file.kept.components g.file.kept.grants drive j.work j.awaited
+      (ends_declared R g.file.kept.tag g.file.kept.components g.file.kept.ready (IsUnmade g.file.kept) drive g.file.job e)
+      (lasts_declared R g.file.kept.tag g.file.kept.components g.file.kept.ready (IsUnmade g.file.kept) drive j.work j.awaited
       (has_job g j job e))
 
   either_going : (b : Bool) (x y : Going) → End x → End y → End (if b then x else y)

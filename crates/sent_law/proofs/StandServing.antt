@@ -16,6 +16,7 @@ use Rattle.server_rules.proofs.HandlerLaws.{idle}
 use Rattle.job_law.specs.Names.{Kept, Grant, Component, Job, Revoking, Reported, RequestArgs, Get, Commit, Return}
 use Rattle.job_law.specs.Fencing.{Reached}
 use Rattle.job_law.proofs.Asking.{in_lost_from}
+use Rattle.sent_law.specs.Standing.{IsUnmade}
 use Rattle.sent_law.proofs.StandHeld.{Ends, FileEnds, ends_lost, ends_granted, ends_without}
 use Rattle.sent_law.proofs.StandJobs.{ends_fence}
 
@@ -32,8 +33,8 @@ module _ (R : Reached) where
   abbrev End : Going → Type 0
   End g = FileEnds R g.file
 
-  abbrev EndsWith : Going → List Grant → Option Job → Type 0
-  EndsWith g gs o = Ends R g.file.kept.tag g.file.kept.components gs o
+  abbrev EndsWith : Going → Kept → Option Job → Type 0
+  EndsWith g k o = Ends R g.file.kept.tag g.file.kept.components g.file.kept.ready (IsUnmade k) o
 
   either_served : (b : Bool) (x y : Served) → End x.going → End y.going → End (if b then x else y).going
   either_served true x y p q = p
@@ -47,8 +48,8 @@ module _ (R : Reached) where
   ends_late go g (Lacks k) none h = h
   ends_late go g (Conflict holder) none h = h
   ends_late go g Gives none h =
-      subst (λ (o : Option Job). EndsWith go (by_late go g Gives).going.file.kept.grants o) (sym none)
-      (subst (λ (o : Option Job). EndsWith go go.file.kept.grants o) none h)
+      subst (λ (o : Option Job). EndsWith go (by_late go g Gives).going.file.kept o) (sym none)
+      (subst (λ (o : Option Job). EndsWith go go.file.kept o) none h)
 
   ends_given : (go : Going) (next : ℕ) (g : Grant) → go.file.job ≡ None → End go
       → End (give_or_refuse go next g).going
@@ -66,7 +67,7 @@ module _ (R : Reached) where
   ends_first go next format g none h =
       either_served (go.file.kept.tag == GREATEST_TAG) _ _ h
       (ends_after (fence_begins Revoking format go) next g (fence_begins Revoking format go).file.job refl
-      (ends_fence R Revoking format go (subst (λ (o : Option Job). EndsWith go go.file.kept.grants o) none h)))
+      (ends_fence R Revoking format go (subst (λ (o : Option Job). EndsWith go go.file.kept o) none h)))
 
   ends_grants : (go : Going) (next format now : ℕ) (g : Grant) → go.file.job ≡ None → End go
       → End (on_grants go next format now g).going
@@ -99,15 +100,17 @@ module _ (R : Reached) where
   unfolding takes_loss
   ends_loss go ks h =
       ends_reports (with_components go (lose_from ks go.file.kept.components 0)) ks go.file.kept.components 0
-      (ends_lost R go.file.kept.tag go.file.kept.components go.file.kept.grants
+      (ends_lost R go.file.kept.tag go.file.kept.components go.file.kept.ready (IsUnmade go.file.kept)
       (lose_from ks go.file.kept.components 0) go.file.job (in_lost_from ks go.file.kept.components 0) h)
 
   -- the client's grant goes
   ends_return_grant : (go : Going) (client : ℕ) → End go
-      → EndsWith go (without go.file.kept.grants client) go.file.job
+      → EndsWith go (record go.file.kept { grants = without go.file.kept.grants client }) go.file.job
   ends_return_grant go client h =
-      ends_without R go.file.kept.tag go.file.kept.components go.file.kept.grants
-      (without go.file.kept.grants client) go.file.job (none_without go.file.kept.grants client) h
+      let k : Kept = go.file.kept in
+      ends_without R k.tag k.components k.ready (IsUnmade k)
+      (IsUnmade (record k { grants = without k.grants client })) go.file.job
+      (λ x. (none_without k.grants client x.0, x.1, x.2)) h
 
   ends_return : (go : Going) (format client : ℕ) (r : Returned) → (r ≡ ToFence → go.file.kept.grants ≡ [] → ⊥)
       → End go → End (by_return go format client r).going
@@ -117,7 +120,8 @@ module _ (R : Reached) where
   ends_return go format client TooMany some h = h
   ends_return go format client ToFence some h =
       ends_fence R Revoking format go
-      (ends_granted R go.file.kept.tag go.file.kept.components go.file.kept.grants go.file.job (some refl) h)
+      (ends_granted R go.file.kept.tag go.file.kept.components go.file.kept.ready (IsUnmade go.file.kept) go.file.job
+      (λ x. some refl x.0) h)
 
   pub ends_served : (go : Going) (next format now client : ℕ) (args : RequestArgs) → End go
       → End (serves go next format now client args).going

@@ -1,5 +1,5 @@
 -- Each step of the server keeps that components have their objects, or get them.
-use Rattle.std.proofs.Common.{◌≡◌, ◌⊎◌, ◌==◌, ◌&&◌, ℕ, nat_le, nat_lt, Bool, true, false, List, [], ◌∷◌, find, Option, Some, None, refl, sym, subst, inl, inr, if◌then◌else◌}
+use Rattle.std.proofs.Common.{◌≡◌, ◌⊎◌, ◌==◌, ◌&&◌, ℕ, nat_le, nat_lt, Bool, true, false, List, [], ◌∷◌, find, map, Option, Some, None, refl, sym, subst, inl, inr, if◌then◌else◌}
 use Rattle.std.proofs.lemmas.Bool.{cases_Bool, eq-eqb}
 use Rattle.data_map.specs.declared.check.RawMap.{RawMap}
 use Rattle.osd_lists.specs.declared.node.Node.{Node}
@@ -15,15 +15,20 @@ use Rattle.server_rules.specs.Messages.{Message, Asks, Replies, Orders, awaited_
 use Rattle.server_rules.specs.Orders.{Ordered, begins_job, starts, recalls_on, declares_each, offline, declare, declares_known, ordered}
 use Rattle.server_rules.specs.Replies.{answers, hearing, heard_by, heard_in, on_reply}
 use Rattle.server_rules.specs.Requests.{carries_out, by_admit, on_request}
+use Rattle.server_rules.specs.Openings.{crashed_file, opens, opens_each, reopen}
 use Rattle.server_rules.specs.Slots.{Admit, New, Again, Misordered, admit, slot_of}
 use Rattle.server_rules.proofs.FileLaws.{not_there}
+use Rattle.server_rules.proofs.Members.{in_mapped}
 use Rattle.job_law.specs.Names.{Server, File, Drive, Awaited, Job, JobKind, Revoking, Rebuilding, Auditing, Effects, Reply, ClientRequest, OrderKind, ToRecall, ToRevoke, ToDeclare, ToRebuild, ToAudit, Refusal}
-use Rattle.job_law.specs.Fencing.{Reached, TellsRaised, IsHeardTruly}
+use Rattle.job_law.specs.Fencing.{Reached, AreFencing, TellsRaised, IsHeardTruly}
 use Rattle.job_law.proofs.Files.{found_file, in_put}
 use Rattle.job_law.proofs.Hearing.{found_in}
-use Rattle.sent_law.specs.Standing.{TellsMade, AreMadeTruly, is_running, EachStepStands}
+use Rattle.move_law.specs.Moves.{down_behind}
+use Rattle.sent_law.specs.Turns.{in_turn}
+use Rattle.sent_law.specs.Standing.{IsUnmade, IsLeft, TellsMade, AreMadeTruly, AreStanding, EachStepStands}
 use Rattle.sent_law.proofs.StandHeld.{Ends, FileEnds, into, out}
 use Rattle.sent_law.proofs.StandJobs.{ends_making, ends_fence, ends_hears, ends_declares}
+use Rattle.sent_law.proofs.StandOpens.{ends_opens}
 use Rattle.sent_law.proofs.StandServing.{ends_served}
 
 -- ---- the list of files
@@ -160,7 +165,7 @@ module _ (R : Reached) where
       either_order (f.kept.tag == GREATEST_TAG) _ _ (put_ends s.files f.kept.number f h e)
       (put_ends s.files f.kept.number _ h
       (ends_fence R kind s.format (at_file s chosen f)
-      (subst (λ (o : Option Job). Ends R f.kept.tag f.kept.components f.kept.grants o) is e)))
+      (subst (λ (o : Option Job). Ends R f.kept.tag f.kept.components f.kept.ready (IsUnmade f.kept) o) is e)))
 
   started : (s : Server) (chosen : List ℕ) (kind : JobKind) (n : ℕ) (o : Option File) → file_at s.files n ≡ o
       → AllEnd s.files → AllEnd (starts s chosen kind o).step.state.files
@@ -236,25 +241,78 @@ module _ (R : Reached) where
       let f : File = unmade s number m tag ds in
       let g : Going = making (at_file (with_file s f) [] f) in
       elim (in_made s.files f g.file x (not_there s number m e) i) [
-        | inl same ↦ subst (FileEnds R) (sym same) (ends_making R (at_file (with_file s f) [] f) refl)
+        | inl same ↦ subst (FileEnds R) (sym same) (ends_making R (at_file (with_file s f) [] f) ((refl, refl, refl), refl))
         | inr j ↦ h x j
       ]
 
+  -- ---- any step while the server is up
+
+  step_ends : (s : Server) (chosen : List ℕ) (i : Input) → in_turn false i ≡ true → down_behind false i ≡ false
+      → IsHeardTruly R s i → AreMadeTruly R s i → AllEnd s.files → AllEnd (step s chosen i).state.files
+  unfolding create_file
+  step_ends s chosen (Hears now from m) turn up heard made h = message_ends s now chosen from m heard made h
+  step_ends s chosen (Makes n m tag) turn up heard made h =
+      unless s n m tag (places s.drives m.comps chosen) (refusal s n m) refl h
+  step_ends s chosen (Obeys kind n) turn up heard made h = obeyed s chosen kind n h
+  step_ends s chosen (Adds d) turn up heard made h = h
+  step_ends s chosen (Formats n) turn up heard made h = h
+  step_ends s chosen Resends turn up heard made h = h
+  step_ends s chosen Crashes turn up heard made h = absurd (cc up)
+  step_ends s chosen Opens turn up heard made h = absurd (cc turn)
+
+  -- ---- an opening
+
+  opened_each : (format : ℕ) (ds : List Drive) (fs : List File) (m : Effects) → AreStanding true R fs
+      → AllEnd (opens_each format ds fs m).files
+  unfolding opens_each
+  opened_each format ds [] m left x i = absurd i
+  opened_each format ds (f ∷ fs) m left x i =
+      let g : Going = record { file = f; effects = m; drives = ds; chosen = [] } in
+      let h : IsLeft R f = left f (inl refl) in
+      elim i [
+        | inl same ↦
+            subst (FileEnds R) (sym same) (ends_opens R format g (h.settled.made, h.settled.unmade) h.quiet)
+        | inr j ↦ opened_each format ds fs (opens format g).effects (λ y k. left y (inr k)) x j
+      ]
+
+  opened : (s : Server) → counters_have_room s ≡ true → AreStanding true R s.files → AllEnd (reopen s).state.files
+  unfolding reopen
+  opened s low left = rw low (opened_each s.format s.drives s.files (begins s) left)
+
   -- ---- any step
 
-  step_ends : (s : Server) (chosen : List ℕ) (i : Input) → is_running i ≡ true → IsHeardTruly R s i
-      → AreMadeTruly R s i → AllEnd s.files → AllEnd (step s chosen i).state.files
-  unfolding create_file
-  step_ends s chosen (Hears now from m) runs heard made h = message_ends s now chosen from m heard made h
-  step_ends s chosen (Makes n m tag) runs heard made h =
-      unless s n m tag (places s.drives m.comps chosen) (refusal s n m) refl h
-  step_ends s chosen (Obeys kind n) runs heard made h = obeyed s chosen kind n h
-  step_ends s chosen (Adds d) runs heard made h = h
-  step_ends s chosen (Formats n) runs heard made h = h
-  step_ends s chosen Resends runs heard made h = h
-  step_ends s chosen Crashes runs heard made h = absurd (cc runs)
-  step_ends s chosen Opens runs heard made h = absurd (cc runs)
+  -- while the server is up
+  stands_up : (s : Server) (chosen : List ℕ) (i : Input) → in_turn false i ≡ true → down_behind false i ≡ false
+      → AreFencing R s.files → AreStanding false R s.files → IsHeardTruly R s i → AreMadeTruly R s i
+      → AreStanding false R (step s chosen i).state.files
+  stands_up s chosen i turn up fencing standing heard made f j =
+      out R f (step_ends s chosen i turn up heard made (λ x k. into R x (standing x k) (fencing x k)) f j)
+
+  -- where it crashes
+  crashed : (s : Server) (down : Bool) → in_turn down Crashes ≡ true → AreStanding down R s.files
+      → AreStanding true R (map crashed_file s.files)
+  crashed s true turn standing f i = absurd (cc turn)
+  crashed s false turn standing f i =
+      let r = in_mapped crashed_file f s.files i in
+      let h = (standing r.0 r.1).settled in
+      subst (IsLeft R) (sym r.2)
+      (record { settled = record { made = h.made; unmade = h.unmade }; quiet = refl })
+
+  -- where it is opened
+  reopened : (s : Server) (down : Bool) → in_turn down Opens ≡ true → counters_have_room s ≡ true
+      → AreStanding down R s.files → AreStanding false R (reopen s).state.files
+  reopened s true turn low left f i = out R f (opened s low left f i)
+  reopened s false turn low left f i = absurd (cc turn)
+
+  pub step_stands : (s : Server) (down : Bool) (chosen : List ℕ) (i : Input) → in_turn down i ≡ true
+      → (i ≡ Opens → counters_have_room s ≡ true) → AreFencing R s.files → AreStanding down R s.files
+      → IsHeardTruly R s i → AreMadeTruly R s i → AreStanding (down_behind down i) R (step s chosen i).state.files
+  step_stands s down chosen Crashes turn low fencing standing heard made = crashed s down turn standing
+  step_stands s down chosen Opens turn low fencing standing heard made = reopened s down turn (low refl) standing
+  step_stands s true chosen i turn low fencing standing heard made = absurd (cc turn)
+  step_stands s false chosen i turn low fencing standing heard made =
+      stands_up s chosen i turn refl fencing standing heard made
 
 pub each_step_stands : EachStepStands
-each_step_stands R s chosen i runs fencing standing heard made f j =
-    out R f (step_ends R s chosen i runs heard made (λ x k. into R x (standing x k) (fencing x k)) f j)
+each_step_stands R s down chosen i turn low fencing standing heard made =
+    step_stands R s down chosen i turn low fencing standing heard made

@@ -1,5 +1,5 @@
 -- What the server sent is what a run of it sends.
-use Rattle.std.specs.Prelude.{◌≡◌, ℕ, List, []}
+use Rattle.std.specs.Prelude.{◌≡◌, ℕ, false, List, []}
 use Rattle.osd_lists.specs.declared.node.Node.TheVariants as node
 use Rattle.scenario_text.specs.declared.line.Line.{Line}
 use Rattle.server_rules.specs.History.{Act, state_after}
@@ -13,19 +13,20 @@ use Rattle.history_law.specs.BookMoments.{IsMoment}
 use Rattle.exchange_law.specs.Doing.{said}
 use Rattle.calm_law.specs.Naming.{AreNamed}
 use Rattle.sent_law.specs.Tagged.{sent_over, AreNamedActs}
-use Rattle.sent_law.specs.First.{AreRunning}
+use Rattle.sent_law.specs.Turns.{AreInTurn, down_after}
 
 -- the message of a command to a drive
 abbrev pub commanded : (drive : ℕ) → Command → Message
 commanded d c = record { from = node.Server; to = node.Drive d; body = OfCommand c }
 
--- One run of a new server ends in the world's server, and sends each command that was sent to a drive. Lines can name
--- what comes to the server, and the server never stops.
+-- One run of a new server ends in the world's server, up or down as that is, and sends each command that was sent to a
+-- drive. Lines can name what comes to the server, each in its turn.
 pub record IsSentByRun (w : World) : Type 0 where
   pub acts : List Act
   pub server : w.server ≡ state_after (new_server []) acts
   pub named : AreNamedActs acts
-  pub running : AreRunning acts
+  pub turns : AreInTurn false acts
+  pub down : down_after false acts ≡ w.down
   pub sends : (d : ℕ) (c : Command) → In (commanded d c) (said w.network.messages)
       → In (ToDrive d c) (sent_over (new_server []) acts)
 

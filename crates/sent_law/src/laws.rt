@@ -41,21 +41,22 @@ pub fn tags_stay_within()
 }
 
 /// Each step keeps that each component of a file that isn't missing, and what a rebuild makes anew, has an object with
-/// the file's tag or a later one, or that its CREATE is awaited under this tag: given that replies tell the truth, and
-/// that the server neither stops nor goes on behind that.
+/// the file's tag or a later one, or that its CREATE is awaited under this tag; and while the server is down, that this
+/// is so of each file that is ready, and that no other has a grant or a fence. Given are that replies tell the truth,
+/// that the server hears nothing while it is down, and that its counters have room where it is opened.
 pub fn each_step_stands()
     ensures { EachStepStands }
 {}
 
-/// Over whatever comes to a new server that never stops: all that was sent to an object whose CREATE is awaited has
-/// the file's tag or a later one.
+/// Over whatever comes to a new server, which hears nothing between a crash and the opening behind it: while its
+/// counters have room, all that was sent to an object whose CREATE is awaited has the file's tag or a later one.
 pub fn creates_are_first()
     ensures { CreatesAreFirst }
 {}
 
 /// At each moment of a history whose lines can name what its events make, some run of a new server ends in the
 /// world's server, and sends each command that the server sent to a drive. Lines can name what comes to the server
-/// in that run, and the server never stops in it.
+/// in that run; nothing comes to it between a crash and the opening behind it, and it is down where the world's is.
 pub fn server_sent_its_run()
     ensures { ServerSentItsRun }
 {

@@ -4,8 +4,8 @@
 //! No object number comes twice: each is one file's for ever, and one component's of it. No command is ahead of its
 //! file: none has a later tag than the file whose object it goes to, and a SET TAG has an earlier one, unless the
 //! file's fence is open. Each present component of a file has an object with the file's tag or a later one, or its
-//! CREATE is awaited under that tag; and nothing goes to an object under an earlier tag than its CREATE. What a
-//! world's server sent is what one such run sends.
+//! CREATE is awaited under that tag, unless a crash of the server cut the making of the file off; and nothing goes to
+//! an object under an earlier tag than its CREATE. What a world's server sent is what one such run sends.
 #![tactic(auto)]
 
 mod laws;

@@ -52,8 +52,9 @@ each_tag_is_its_files ahead behind read h w k written text few fair n f is at i 
     let r = read_at w h k in
     elim (behind w h k named text few fair n f there at i present) [
       | inl creating ↦ inl creating
-      | inr reached ↦ inr (subst (λ (o : Option DriveAt). HasTag f.kept o at.object)
+      | inr (inl reached) ↦ inr (inl (subst (λ (o : Option DriveAt). HasTag f.kept o at.object)
           (sym (drive_read w r.injected h at.drive r.drives))
           (has f.kept (at_number w.drives at.drive) at.object
-          (λ a stands x found. ahead w h k named text few fair n f there at i a stands x found) reached))
+          (λ a stands x found. ahead w h k named text few fair n f there at i a stands x found) reached)))
+      | inr (inr off) ↦ inr (inr off)
     ]

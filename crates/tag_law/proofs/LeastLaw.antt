@@ -1,5 +1,6 @@
 -- No object of a component that isn't missing has a tag behind its file's, from each moment to the next.
-use Rattle.std.proofs.Common.{◌≡◌, ◌<◌, ◌^◌, ◌&&◌, ◌||◌, ◌++◌, ◌∷◌, ◌+◌, ℕ, Bool, true, false, not, nat_lt, List, [], Option, Some, None, refl, sym, ap, subst, ◌∙◌, append_assoc, arith, inl, inr}
+use Rattle.std.proofs.Common.{◌≡◌, ◌⊎◌, ◌<◌, ◌^◌, ◌&&◌, ◌||◌, ◌++◌, ◌∷◌, ◌+◌, ℕ, Bool, true, false, not, nat_lt, length, List, [], Option, Some, None, refl, sym, ap, subst, ◌∙◌, append_assoc, arith, inl, inr}
+use Rattle.std.proofs.lemmas.Bool.{cases_Bool}
 use Rattle.std.proofs.lemmas.Bool.Decides.{nat_tests}
 use Rattle.std.proofs.lemmas.List.{append-nil}
 use Rattle.osd_lists.specs.declared.node.Node.TheVariants as node
@@ -7,11 +8,12 @@ use Rattle.scenario_text.specs.declared.event.Event.{Event}
 use Rattle.scenario_text.specs.declared.line.Line.{Line}
 use Rattle.server_rules.specs.History.{Input, Hears}
 use Rattle.server_rules.specs.Laws.{In}
-use Rattle.server_rules.specs.Messages.{Replies as RepliesTo}
+use Rattle.server_rules.specs.Messages.{Replies as RepliesTo, awaited_by, counters_have_room}
 use Rattle.server_rules.proofs.Members.{one_in}
 use Rattle.world_history.specs.ServerNames.{Server, File, Component}
 use Rattle.world_history.specs.State.{World, DriveAt, at_number, empty_world}
 use Rattle.world_history.specs.Moves.{acts}
+use Rattle.move_law.specs.Moves.{down_behind}
 use Rattle.world_history.specs.Sending.{Move, move}
 use Rattle.world_history.specs.Plans.{due, plan_of}
 use Rattle.world_history.specs.Refusals.{refusal}
@@ -41,13 +43,14 @@ use Rattle.exchange_law.specs.Text.{AreOfText, AreFew}
 use Rattle.exchange_law.specs.Files.{ComponentFits, KeptFits, AllFilesFit}
 use Rattle.exchange_law.specs.Counters.{ServerIsCounted}
 use Rattle.exchange_law.proofs.CountGrowing.{as_many, fewer, text_front}
+use Rattle.exchange_law.proofs.CountWorlds.{few_have_room}
 use Rattle.sent_law.specs.Tagged.{NoCommandIsAhead}
 use Rattle.tag_law.specs.Origin.{EachTagWasSent}
-use Rattle.sent_law.specs.Standing.{IsThere, AreStanding, AreMadeTruly, EachStepStands}
+use Rattle.sent_law.specs.Standing.{IsCreating, IsCutOff, IsThere, IsSettled, StandsBy, AreStanding, AreMadeTruly, EachStepStands}
 use Rattle.sent_law.specs.First.{CreatesAreFirst}
 use Rattle.sent_law.specs.Sent.{ServerSentItsRun}
 use Rattle.sent_law.proofs.Doing.{Does, Rests, Serves, does}
-use Rattle.sent_law.proofs.Moments.{each_first, each_second, named_action}
+use Rattle.sent_law.proofs.Moments.{each_first, each_second, named_action, allowed_at}
 use Rattle.tag_law.specs.Least.{NoTagIsBehind}
 use Rattle.tag_law.proofs.There.{any_stays}
 use Rattle.tag_law.proofs.Tags.{made_reached}
@@ -94,7 +97,7 @@ fits_reached object tag b object_fits tag_fits e =
 -- each file stands so behind the lines, where these are of a scenario's text and nothing is forged
 abbrev Stand : World → List Line → Type 0
 Stand w h =
-    AreNamed h → AreOfText h → AreFew h → AreUnforged h → AreStanding (reached_in h) w.server.files
+    AreNamed h → AreOfText h → AreFew h → AreUnforged h → AreStanding w.down (reached_in h) w.server.files
 
 module _ (run : ServerSentItsRun) (given : EachTagWasSent) (ahead : NoCommandIsAhead) (files : AllFilesFit)
     (counted : ServerIsCounted) (holder : UnforgedHolderIsServer) (stands_on : EachStepStands)
@@ -148,17 +151,25 @@ module _ (run : ServerSentItsRun) (given : EachTagWasSent) (ahead : NoCommandIsA
     there_on f drive object (inl asked) = inl asked
     there_on f drive object (inr reached) = inr (stays drive object f.kept.tag reached)
 
-    standing : AreStanding R w.server.files
-    standing f i =
-        let was = before named_before text_before few_before fair_before f i in
-        record {
-          quiet = was.quiet;
-          creates = was.creates;
-          each = λ at j there. there_on f at.drive at.object (was.each at j there);
-          target = λ t is. there_on f t.drive t.object (was.target t is);
-          settled = λ old at j there. stays at.drive at.object f.kept.tag (was.settled old at j there);
-          ungranted = was.ungranted;
-        }
+    settled_on : (f : File) → IsSettled (reached_in h) f → IsSettled R f
+    settled_on f was = record {
+      made = λ ready at j there. stays at.drive at.object f.kept.tag (was.made ready at j there);
+      unmade = was.unmade;
+    }
+
+    stands_by : (down : Bool) (f : File) → StandsBy down (reached_in h) f → StandsBy down R f
+    stands_by true f was = record { settled = settled_on f was.settled; quiet = was.quiet }
+    stands_by false f was = record {
+      settled = settled_on f was.settled;
+      makes = was.makes;
+      quiet = was.quiet;
+      creates = was.creates;
+      each = λ at j there. there_on f at.drive at.object (was.each at j there);
+      target = λ t is. there_on f t.drive t.object (was.target t is);
+    }
+
+    standing : AreStanding w.down R w.server.files
+    standing f i = stands_by w.down f (before named_before text_before few_before fair_before f i)
 
     heard_truly : (i : Input) → IsSent w i → IsHeardTruly R w.server i
     heard_truly i sent = record {
@@ -176,17 +187,28 @@ module _ (run : ServerSentItsRun) (given : EachTagWasSent) (ahead : NoCommandIsA
         (made_reached run given ahead files counted first w h k now.numbers named_before text_before few_before
         fair_before f j a l creates.action low d s.0 s.1 s.2 s.3 s.4 r s.5 answer done)
 
-    by_does : Does w m.chosen (acts w m.chosen m.action) → AreStanding R (move w m).world.server.files
-    by_does (Rests same tells) = subst (λ (s : Server). AreStanding R s.files) (sym same) standing
-    by_does (Serves i comes goes tells) =
-        subst (λ (s : Server). AreStanding R s.files) (sym goes)
-        (stands_on R w.server m.chosen i comes.runs fencing standing (heard_truly i comes.sent)
-        (made_truly i comes.sent))
+    -- the server's counters have room
+    room : counters_have_room w.server ≡ true
+    room =
+        few_have_room w.server (length w.network.messages) (counted w h k text_before)
+        (omega (arith, as_many w h (read_at w h k), few_before))
 
-    stands_behind : AreStanding R (move w m).world.server.files
+    by_does : Does w m.chosen (acts w m.chosen m.action)
+        → AreStanding (move w m).world.down R (move w m).world.server.files
+    by_does (Rests same as_down tells) =
+        subst (λ (b : Bool). AreStanding b R (move w m).world.server.files) (sym as_down)
+        (subst (λ (s : Server). AreStanding w.down R s.files) (sym same) standing)
+    by_does (Serves i comes goes as_down tells) =
+        subst (λ (b : Bool). AreStanding b R (move w m).world.server.files) (sym as_down)
+        (subst (λ (s : Server). AreStanding (down_behind w.down i) R s.files) (sym goes)
+        (stands_on R w.server w.down m.chosen i comes.turn (λ is. room) fencing standing (heard_truly i comes.sent)
+        (made_truly i comes.sent)))
+
+    stands_behind : AreStanding (move w m).world.down R (move w m).world.server.files
     stands_behind =
         by_does (does w m.chosen m.action
-        (named_action m.action (move w m).lines (each_second IsNamed h (lines_in w m) named)))
+        (named_action m.action (move w m).lines (each_second IsNamed h (lines_in w m) named))
+        (allowed_at w h k m.action d))
 
   at_first : Stand empty_world []
   at_first named text few fair f i = absurd i
@@ -210,6 +232,22 @@ module _ (run : ServerSentItsRun) (given : EachTagWasSent) (ahead : NoCommandIsA
         (drive_read w read.injected h at.drive read.drives)
         (fits_reached at.object f.kept.tag _ (omega (arith, object.object, next)) (omega (arith, fits.tag)) e)
 
+    -- up, the component has its object, or gets it; down, it has it once the file is ready
+    is_there : (w : World) (h : List Line) (k : IsMoment w h) → AreOfText h → AreFew h → (f : File)
+        → In f w.server.files → (at : Component) → In at f.kept.components → at.missing ≡ false → (down : Bool)
+        → StandsBy down (reached_in h) f
+        → IsCreating (awaited_by f.job) at.drive at.object f.kept.tag
+        ⊎ (has_reached at.object f.kept.tag (at_number w.drives at.drive) ≡ true) ⊎ IsCutOff f
+    is_there w h k text few f i at j there false stands = elim (stands.each at j there) [
+      | inl creating ↦ inl creating
+      | inr reached ↦ inr (inl (reached_there w h k text few f i at j reached))
+    ]
+    is_there w h k text few f i at j there true stands = elim (cases_Bool f.kept.ready) [
+      | inl ready ↦
+          inr (inl (reached_there w h k text few f i at j (stands.settled.made ready at j there)))
+      | inr unready ↦ inr (inr (unready, stands.quiet))
+    ]
+
     pub no_tag_is_behind : NoTagIsBehind
     no_tag_is_behind w h k named text few fair n f there at j stays_there =
         let i : In f w.server.files = (found_file w.server.files n f there).0 in
@@ -218,7 +256,4 @@ module _ (run : ServerSentItsRun) (given : EachTagWasSent) (ahead : NoCommandIsA
           moves = λ v g l m d before named_g text_g few_g fair_g.
               stands_behind v g l m d before named_g text_g few_g fair_g;
         }) more w h k in
-        elim ((all named text few fair f i).each at j stays_there) [
-          | inl creating ↦ inl creating
-          | inr reached ↦ inr (reached_there w h k text few f i at j reached)
-        ]
+        is_there w h k text few f i at j stays_there w.down (all named text few fair f i)

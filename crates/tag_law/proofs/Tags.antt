@@ -1,6 +1,5 @@
 -- Each object whose CREATE is awaited has the file's tag or a later one, once it is there.
-use Rattle.std.specs.List.{AllByRecursion}
-use Rattle.std.proofs.Common.{◌≡◌, ◌<◌, ◌≤◌, ◌^◌, ◌||◌, ℕ, Bool, true, false, nat_le, List, [], ◌∷◌, Option, Some, None, slice_get, refl, sym, ap, subst, ◌∙◌, arith, inl, inr}
+use Rattle.std.proofs.Common.{◌≡◌, ◌<◌, ◌≤◌, ◌^◌, ◌||◌, ℕ, Bool, true, false, nat_le, List, [], Option, Some, None, slice_get, refl, sym, ap, subst, ◌∙◌, arith, inl, inr}
 use Rattle.std.proofs.lemmas.List.{append-nil}
 use Rattle.std.proofs.lemmas.Bool.Decides.{nat_tests}
 use Rattle.osd_lists.specs.declared.node.Node.TheVariants as node
@@ -70,9 +69,9 @@ module _ (run : ServerSentItsRun) (given : EachTagWasSent) (ahead : NoCommandIsA
       (text : AreOfText h) (few : AreFew h) (fair : AreUnforged h) (f : File) (i : In f w.server.files)
       (a : Awaited) (j : In a (awaited_by f.job)) (makes : a.command.action ≡ Create) where
     -- it has its tag from a command of the server, and this isn't under an earlier tag than the CREATE
-    least_tag : (there : DriveAt) → drive_after h a.drive ≡ Some there → (x : StoredObject)
+    least_tag : counters_have_room w.server ≡ true → (there : DriveAt) → drive_after h a.drive ≡ Some there → (x : StoredObject)
         → object_at there.state.store a.command.object ≡ Some x → f.kept.tag ≤ x.tag
-    least_tag there stands x found =
+    least_tag low there stands x found =
         let r = run w h k named in
         let o = ahead r.acts r.named in
         let both = o.1 r.acts [] (sym (append-nil r.acts)) in
@@ -93,7 +92,8 @@ module _ (run : ServerSentItsRun) (given : EachTagWasSent) (ahead : NoCommandIsA
         omega (arith, (counted w h k text).objects, as_many w h read, few) in
         let same : g.command.object ≡ c.command.object = reads.object (omega (arith, s.used, next)) in
         let tag : f.kept.tag ≤ c.command.capability.tag =
-        first r.acts r.running f (subst (λ (s : Server). In f s.files) r.server i) a j makes a.drive c.command
+        first r.acts r.turns (subst (λ (s : Server). counters_have_room s ≡ true) r.server low) f
+        (subst (λ (s : Server). In f s.files) r.server i) a j makes a.drive c.command
         sent (sym same ∙ g.object_is) in
         let fits : KeptFits w.server.next_object s.file.kept =
         one_in (λ (y : File). KeptFits w.server.next_object y.kept) w.server.files s.file (files w h k text)
@@ -111,4 +111,4 @@ module _ (run : ServerSentItsRun) (given : EachTagWasSent) (ahead : NoCommandIsA
         reached_by h a.drive a.command.object f.kept.tag (λ object_fits tag_fits.
         tag_there (drive_after h a.drive) a.command.object f.kept.tag
         (heard_made w h (read_at w h k) numbers low d n p there to sender x read f i a j makes answer done object_fits)
-        least_tag)
+        (least_tag low))

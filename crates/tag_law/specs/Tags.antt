@@ -14,7 +14,7 @@ use Rattle.history_law.specs.Read.{AreWritten}
 use Rattle.history_law.specs.Unforged.{AreUnforged}
 use Rattle.exchange_law.specs.Text.{AreOfText, AreFew}
 use Rattle.sent_law.specs.Tagged.{fence_open}
-use Rattle.sent_law.specs.Standing.{IsCreating}
+use Rattle.sent_law.specs.Standing.{IsCreating, IsCutOff}
 
 -- a tag is the file's, or the next one while the file's fence is open
 abbrev pub IsTagOf : Kept → (tag : ℕ) → Type 0
@@ -27,13 +27,16 @@ HasTag k (Some a) object =
     (a.failed ≡ true)
     ⊎ ((x : StoredObject) × (object_at a.state.store object ≡ Some x) × IsTagOf k x.tag)
 
--- behind these lines so has each component that isn't missing, unless its CREATE is awaited
+-- behind these lines so has each component that isn't missing, unless its CREATE is awaited, or the file isn't ready and no
+-- job of it runs
 abbrev pub HaveTags : List Line → Type 0
 HaveTags h =
     (n : ℕ) (f : File) → book_of h n ≡ Some f → (at : Component) → In at f.kept.components → at.missing ≡ false →
     IsCreating (awaited_by f.job) at.drive at.object f.kept.tag ⊎ HasTag f.kept (drive_after h at.drive) at.object
+    ⊎ IsCutOff f
 
--- so it is where these are a moment of a history of a scenario's text, with few messages, and nothing that was injected so far is forged
+-- so it is where these are a moment of a history of a scenario's text, with few messages, and nothing that was injected so
+-- far is forged
 abbrev pub HaveTagsAt : List Line → Type 0
 HaveTagsAt h =
     (w : World) → IsMoment w h → AreWritten h → AreOfText h → AreFew h → AreUnforged h → HaveTags h

@@ -47,8 +47,8 @@ pub fn no_tag_is_ahead()
 }
 
 /// At each moment of a lawful history of a scenario's text with few messages in which nothing is forged: each present
-/// component of a file has an object with the file's tag or a later one, unless its CREATE is awaited or its drive has
-/// failed.
+/// component of a file has an object with the file's tag or a later one, unless its CREATE is awaited, its drive has
+/// failed, or the file isn't ready and no job of it runs: then a crash of the server cut its making off.
 pub fn no_tag_is_behind()
     ensures { NoTagIsBehind }
 {
@@ -64,8 +64,8 @@ pub fn no_tag_is_behind()
 }
 
 /// So at each such moment each present component of a file has an object with exactly the file's tag, or with the next
-/// one while a fence of the file is open, unless its CREATE is awaited or its drive has failed: in the words of the
-/// lines, of the server and the drives that are read off them.
+/// one while a fence of the file is open, unless its CREATE is awaited, its drive has failed, or the file isn't ready
+/// and no job of it runs: in the words of the lines, of the server and the drives that are read off them.
 pub fn each_tag_is_its_files()
     ensures { EachTagIsItsFiles }
 {

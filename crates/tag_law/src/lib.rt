@@ -4,7 +4,7 @@
 //! before a fence was over is of an earlier tag. Where nothing is forged, each object has its tag from a command
 //! that the server sent, and none of these is ahead of its file; nor is it behind, since each component has its tag
 //! from its CREATE, which a drive answered, or from the fence that raised it. So it is its file's, or the next one
-//! while a fence is open.
+//! while a fence is open; only a file whose making a crash of the server cut off may lack objects.
 #![tactic(auto)]
 
 mod laws;

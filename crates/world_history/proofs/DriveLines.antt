@@ -8,7 +8,7 @@ use Rattle.world_history.specs.ReadDrives.{DriveSeen, drive_after, drive_after_l
 use Rattle.world_history.specs.State.{DriveAt}
 use Rattle.world_history.specs.declared.messages.Sent.{Sent}
 use Rattle.world_history.specs.Reading.{is_drive}
-use Rattle.world_history.specs.Drives.{judges}
+use Rattle.world_history.specs.Drives.{judges, is_deaf}
 use Rattle.scenario_text.specs.declared.line.Party.{Party}
 use Rattle.scenario_text.specs.declared.line.Party.TheVariants as party
 
@@ -24,15 +24,15 @@ same_drive d (party.Drive k) e = elim (cases_eq k d) [
   | inr other ↦ absurd (cc (sym e ∙ ne_eqb k d other))
 ]
 
--- what was sent to a drive that has failed changes nothing there
+-- what was sent to a deaf drive changes nothing there
 pub unheard : (d : ℕ) (o : Option DriveAt) (m : Sent)
-    → ((a : DriveAt) → m.to ≡ party.Drive d → o ≡ Some a → a.failed ≡ true) → hears_sent d o (Some m) ≡ o
+    → ((a : DriveAt) → m.to ≡ party.Drive d → o ≡ Some a → is_deaf a ≡ true) → hears_sent d o (Some m) ≡ o
 unheard d o m deaf = either (is_drive d m.to) (λ e. same_drive d m.to e) o deaf
   where
     either : (b : Bool) → (b ≡ true → m.to ≡ party.Drive d) → (p : Option DriveAt)
-        → ((a : DriveAt) → m.to ≡ party.Drive d → p ≡ Some a → a.failed ≡ true)
+        → ((a : DriveAt) → m.to ≡ party.Drive d → p ≡ Some a → is_deaf a ≡ true)
         → (if b then option_map (hears_bytes m.bytes) p else p) ≡ p
-    either true to None failed = refl
-    either true to (Some a) failed =
-        ap (λ (f : Bool). Some (if f then a else (judges a (reading m.bytes)).drive)) (failed a (to refl) refl)
-    either false to p failed = refl
+    either true to None deaf = refl
+    either true to (Some a) deaf =
+        ap (λ (f : Bool). Some (if f then a else (judges a (reading m.bytes)).drive)) (deaf a (to refl) refl)
+    either false to p deaf = refl

@@ -6,6 +6,7 @@ mod Closed
 pub mod Always
 mod Going
 pub mod ReadMessages
+pub mod Causes
 pub mod Pending
 mod Played
 mod Opened
@@ -21,3 +22,4 @@ mod RowsTorn
 mod RowsMended
 mod RowsTaken
 mod RowsRefused
+mod RowsRestart

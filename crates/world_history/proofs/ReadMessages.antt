@@ -22,8 +22,8 @@ use Rattle.scenario_text.specs.declared.line.Line.{Line}
 use Rattle.scenario_text.specs.declared.line.Line.TheVariants as line
 use Rattle.world_history.specs.ServerNames as server_rules
 use Rattle.world_history.specs.ClientNames as client_rules
-use Rattle.world_history.specs.State.{Message, Posted, DriveAt, ClientAt, Network, World, at_number, and_drive, Sent}
-use Rattle.world_history.specs.Handed.{Post, Handed, end_line, ended_by, server_takes, drive_hears, client_hears, client_takes, for_client, for_server, handed_to, handed, client_goes, op_in, pending_op}
+use Rattle.world_history.specs.State.{Message, Posted, DriveAt, ClientAt, Network, World, at_number, and_drive, Sent, with_down}
+use Rattle.world_history.specs.Handed.{Post, Handed, end_line, ended_by, server_hears, server_takes, drive_hears, client_hears, client_takes, for_client, for_server, handed_to, handed, client_goes, op_in, pending_op}
 use Rattle.world_history.specs.Moves.{Act, Action, Opens, Delivers, TimesOut, Pends, by_client, by_drive, at_drive, called, pends_as, made_file, injects_at, delivers_found, delivers, drops_found, marked, op_of, raw_of, calls_at, times_out, leaves, resends, pends, makes, gives, injects, stops, begins, acts, known_drive, has_algorithm, knows_drive, adds_drive}
 use Rattle.world_history.specs.Sending.{move, fresh, sent_lines, sends_all}
 use Rattle.world_history.specs.Plans.{Rule, Alone, Prompt, when_quiet, quiet_at, due_pending, next_pending, due_by}
@@ -31,7 +31,7 @@ use Rattle.scenario_text.specs.declared.line.Outcome.{Outcome}
 use Rattle.scenario_text.specs.declared.names.TheConstants.{FILES}
 use Rattle.world_history.specs.Told.{kind_of}
 use Rattle.world_history.specs.Names.{where_known, note_line, is_tellable_note, known_note_line, known_outcome}
-use Rattle.world_history.specs.Drives.{made_drive, raised, at_time, fallen}
+use Rattle.world_history.specs.Drives.{made_drive, raised, at_time, fallen, crashed, reopened, is_deaf}
 use Rattle.world_history.specs.Reading.{arrived, left_out, changed_by, changed_at, sent_after, sent_in}
 use Rattle.world_history.specs.Laws.{shown, MessagesAreRead}
 use Rattle.world_history.proofs.Always.{opening, IsKept, always}
@@ -106,7 +106,7 @@ either_hand w false x y p q = q
 
 drive_hand : (w : World) (d : ℕ) (m : Message) (a : Option DriveAt) → IsQuietHand w (drive_hears w d m a)
 drive_hand w d m None = record { network = refl; told = λ ss. refl }
-drive_hand w d m (Some a) = either_hand w a.failed _ _ (record {
+drive_hand w d m (Some a) = either_hand w (is_deaf a) _ _ (record {
   network = refl;
   told =
       λ ss. refl;
@@ -120,6 +120,10 @@ server_hand w chosen from (Some m) = record {
   told =
       quiet_notes (server_step w.server chosen (ServerHears w.clock from m)).notes;
 }
+
+server_heard : (w : World) (chosen : List ℕ) (m : Message) → IsQuietHand w (server_hears w chosen m)
+server_heard w chosen m =
+    either_hand w w.down _ _ (record { network = refl; told = λ ss. refl }) (server_hand w chosen m.from (for_server m))
 
 client_hand : (w : World) (c : ℕ) (a : ClientAt) (from : Node) (m : Option ClientMessage)
     → IsQuietHand w (client_takes w c a from m)
@@ -135,7 +139,7 @@ client_heard w c m (Some a) = either_hand w a.stopped _ _ (record {
 }) (client_hand w c a m.from (for_client m))
 
 hand_to : (w : World) (chosen : List ℕ) (m : Message) (to : Node) → IsQuietHand w (handed_to w chosen m to)
-hand_to w chosen m node.Server = server_hand w chosen m.from (for_server m)
+hand_to w chosen m node.Server = server_heard w chosen m
 hand_to w chosen m (node.Drive d) = drive_hand w d m (at_number w.drives d)
 hand_to w chosen m (node.Client c) = client_heard w c m (at_number w.clients c)
 
@@ -247,9 +251,11 @@ unfolding makes
 makes_read w chosen f m tag =
     either_reads w (has_algorithm m) _ _ (made_reads w f (create_file w.server f m tag chosen)) refl
 
-adds_read : (w : World) (d : ℕ) (key : List ℕ) (capacity : ℕ) → Reads w (adds_drive w d key capacity)
-adds_read w d key capacity =
-    either_reads w (knows_drive w.server d) _ _ refl (gives_read (and_drive w d (made_drive d key capacity)) [] (server_input.Adds (known_drive d key capacity)))
+adds_read : (w : World) (d : ℕ) (key : List ℕ) (capacity : ℕ) (stored : Bool)
+    → Reads w (adds_drive w d key capacity stored)
+adds_read w d key capacity stored =
+    either_reads w (knows_drive w.server d) _ _ refl
+    (gives_read (and_drive w d (made_drive d key capacity stored)) [] (server_input.Adds (known_drive d key capacity)))
 
 inject_reads : (w : World) (d : ℕ) (bytes : List ℕ) → Reads w (injects w d bytes)
 unfolding injects
@@ -262,7 +268,8 @@ same_network w v e = sym (ap (λ (t : Network). map shown t.messages) e)
 begins_reads : (w : World) (chosen : List ℕ) (e : Event)
     → fold sent_after (sent_after (view w) (line.Event e)) (begins w chosen e).told ≡ view (begins w chosen e).world
 unfolding begins
-begins_reads w chosen (event.Drive d key capacity) = adds_read w d key capacity
+begins_reads w chosen (event.Drive d key capacity) = adds_read w d key capacity false
+begins_reads w chosen (event.Disk d key capacity) = adds_read w d key capacity true
 begins_reads w chosen (event.Client c) = refl
 begins_reads w chosen (event.File f m tag) = makes_read w chosen f (raw_of m) tag
 begins_reads w chosen (event.Least d format) =
@@ -291,6 +298,12 @@ begins_reads w chosen (event.Stop c) =
     same_network w (stops w c (at_number w.clients c)) (stops_view w c (at_number w.clients c))
 begins_reads w chosen (event.Fail d) =
     same_network w (at_drive w d fallen) (drive_view w d fallen (at_number w.drives d))
+begins_reads w chosen (event.Crash (machine.Drive d)) =
+    same_network w (at_drive w d crashed) (drive_view w d crashed (at_number w.drives d))
+begins_reads w chosen (event.Crash machine.Server) = gives_read (with_down w true) chosen server_input.Crashes
+begins_reads w chosen (event.Reopen (machine.Drive d)) =
+    same_network w (at_drive w d reopened) (drive_view w d reopened (at_number w.drives d))
+begins_reads w chosen (event.Reopen machine.Server) = gives_read (with_down w false) chosen server_input.Opens
 begins_reads w chosen e = refl
 
 -- ---- moves

@@ -1,7 +1,7 @@
 -- Performing an act of the world is its move.
 use Rattle.std.proofs.Common.{◌++◌, List, Ok, Err, sym, ap, subst, ◌∙◌}
 use Rattle.scenario_text.specs.declared.line.Line.{Line}
-use Rattle.world_history.specs.declared.err.WorldErr.TheVariants.{NotYet, NoName, Taken, Dead, Alive, NoMessage, KeptFull, Memory}
+use Rattle.world_history.specs.declared.err.WorldErr.TheVariants.{NotYet, NoName, Taken, Dead, Alive, NotKept, Down, Running, NoMessage, KeptFull, Memory}
 use Rattle.world_history.specs.Sending.{sends_all}
 use Rattle.world_network.specs.Network.{NetworkState}
 use Rattle.world_network.specs.Posting.{IsFront}
@@ -27,4 +27,7 @@ acts_are_moves_by shows n n' a before after (Err NoName) s h = absurd h
 acts_are_moves_by shows n n' a before after (Err Taken) s h = absurd h
 acts_are_moves_by shows n n' a before after (Err Dead) s h = absurd h
 acts_are_moves_by shows n n' a before after (Err Alive) s h = absurd h
+acts_are_moves_by shows n n' a before after (Err NotKept) s h = absurd h
+acts_are_moves_by shows n n' a before after (Err Down) s h = absurd h
+acts_are_moves_by shows n n' a before after (Err Running) s h = absurd h
 acts_are_moves_by shows n n' a before after (Err (NoMessage k)) s h = absurd h

@@ -2,7 +2,7 @@
 use Rattle.std.proofs.Common.{◌≡◌, ◌++◌, List, Result, Ok, Err, sym, ap, ◌∙◌, append_assoc}
 use Rattle.scenario_text.specs.declared.line.Line.{Line}
 use Rattle.world_history.specs.declared.err.WorldErr.{WorldErr}
-use Rattle.world_history.specs.declared.err.WorldErr.TheVariants.{NotYet, NoName, Taken, Dead, Alive, NoMessage, KeptFull, Memory}
+use Rattle.world_history.specs.declared.err.WorldErr.TheVariants.{NotYet, NoName, Taken, Dead, Alive, NotKept, Down, Running, NoMessage, KeptFull, Memory}
 use Rattle.world_network.specs.Network.{NetworkState}
 use Rattle.world_network.specs.Posting.{PostsAll, IsFront, lines_in, fitting_in}
 use Rattle.world_network.specs.declared.acts.Act.{Act}
@@ -27,6 +27,9 @@ performs_behind n n' a before middle after (Err NoName) e h = absurd h
 performs_behind n n' a before middle after (Err Taken) e h = absurd h
 performs_behind n n' a before middle after (Err Dead) e h = absurd h
 performs_behind n n' a before middle after (Err Alive) e h = absurd h
+performs_behind n n' a before middle after (Err NotKept) e h = absurd h
+performs_behind n n' a before middle after (Err Down) e h = absurd h
+performs_behind n n' a before middle after (Err Running) e h = absurd h
 performs_behind n n' a before middle after (Err (NoMessage k)) e h = absurd h
 
 -- a front of what is told is one of all lines

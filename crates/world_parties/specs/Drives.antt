@@ -11,7 +11,7 @@ use Rattle.world_network.specs.declared.posting.Posting.{Posting}
 use Rattle.world_network.specs.declared.acts.Handed.{Handed}
 use Rattle.world_network.specs.Acts.{nothing, one_post}
 use Rattle.world_history.specs.State.{DriveAt, at_number, with_number}
-use Rattle.world_history.specs.Drives.{Judged, judges}
+use Rattle.world_history.specs.Drives.{Judged, judges, is_deaf}
 
 -- drives by rising numbers
 abbrev pub Table : Type 0
@@ -38,9 +38,9 @@ pub record HeardOne : Type 0 where
   pub drive : DriveAt
   pub handed : Handed
 
--- it is deaf
-abbrev pub is_deaf : Handed
-is_deaf = record { receipt = delivery.Deaf; act = nothing }
+-- nothing of it is heard
+abbrev pub unheard : Handed
+unheard = record { receipt = delivery.Deaf; act = nothing }
 
 -- it judged the message and replies
 abbrev pub replied : (drive : ℕ) → (from : Party) → Judged → HeardOne
@@ -49,10 +49,10 @@ replied d from j = record {
   handed = record { receipt = delivery.Judged j.verdict; act = one_post (reply_post d from j) };
 }
 
--- one that failed is deaf
+-- one that failed or is down is deaf
 abbrev pub heard_one : (drive : ℕ) → (from : Party) → Result Command CommandErr → DriveAt → HeardOne
 heard_one d from reading a =
-    if a.failed then record { drive = a; handed = is_deaf } else replied d from (judges a reading)
+    if is_deaf a then record { drive = a; handed = unheard } else replied d from (judges a reading)
 
 -- the code does that
 pub record HearsOne (e : HeardOne) (new : DriveAt) (handed : Handed) : Type 0 where
@@ -69,7 +69,7 @@ heard_at t d one = record { drives = with_number t d one.drive; handed = one.han
 
 -- one that there isn't is deaf
 abbrev pub heard_by : Table → (drive : ℕ) → (from : Party) → Result Command CommandErr → Option DriveAt → Heard
-heard_by t d from reading None = record { drives = t; handed = is_deaf }
+heard_by t d from reading None = record { drives = t; handed = unheard }
 heard_by t d from reading (Some a) = heard_at t d (heard_one d from reading a)
 
 -- a message comes to a drive

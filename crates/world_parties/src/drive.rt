@@ -1,6 +1,6 @@
 ghost use Rattle.std.specs.Prelude.{◌≡◌, ◌∷◌, [], length, IsTrue, Ok, IfOk, OnOk, OnErr};
 ghost use Rattle.osd_commands.specs.Commands.{reading, allows};
-ghost use Rattle.world_history.specs.Drives.{judges, first_key, made_drive, raised, at_time, fallen};
+ghost use Rattle.world_history.specs.Drives.{judges, first_key, made_drive, raised, at_time, fallen, crashed, reopened, is_deaf};
 ghost use Rattle.world_parties.specs.Drive.{Judges};
 
 use osd_commands::{Command, CommandErr, Reply, read_command};
@@ -12,7 +12,8 @@ use std::alloc::Global;
 use std::marker::Model;
 use world_network::told_verdict;
 
-/// A drive of a world, its clock in seconds, and whether it failed. One that failed has lost its objects.
+/// A drive of a world and its clock in seconds. One that failed has lost its objects, and is deaf. One that is stored can
+/// crash: then it is down, and deaf, and keeps all that it has.
 #[derive(Drop)]
 pub struct WorldDrive {
     core: DriveCore,
@@ -21,6 +22,8 @@ pub struct WorldDrive {
     capacity: u64,
     clock: u64,
     failed: bool,
+    stored: bool,
+    down: bool,
 }
 
 impl Model for WorldDrive {
@@ -29,7 +32,7 @@ impl Model for WorldDrive {
 
     ghost Value = { DriveAt };
 
-    ghost view = { λ d. record { state = d.core; clock = d.clock; failed = d.failed } };
+    ghost view = { λ d. record { state = d.core; clock = d.clock; failed = d.failed; stored = d.stored; down = d.down } };
 
     ghost invariant = { λ d. IsMadeOf d.number d.key d.capacity d.core };
 }
@@ -57,9 +60,15 @@ fn keys_of(alloc: Global, key: [u8; 20]) -> Result<KeyTable, Memory>
 
 impl WorldDrive {
     /// A drive without objects, with its number, the key that it shares with the server and its capacity in
-    /// bytes. Its clock shows 0.
-    pub fn new(alloc: Global, number: u32, key: [u8; 20], capacity: u64) -> Result<Self, Memory>
-        ensures { IfOk result (λ drive. drive ≡ made_drive number key capacity) }
+    /// bytes. Its clock shows 0. One that is stored keeps over a crash what it has.
+    pub fn new(
+        alloc: Global,
+        number: u32,
+        key: [u8; 20],
+        capacity: u64,
+        stored: bool,
+    ) -> Result<Self, Memory>
+        ensures { IfOk result (λ drive. drive ≡ made_drive number key capacity stored) }
     {
         let keys = keys_of(alloc, key)?;
         Ok(WorldDrive {
@@ -69,6 +78,8 @@ impl WorldDrive {
             capacity,
             clock: 0,
             failed: false,
+            stored,
+            down: false,
         })
     }
 
@@ -77,6 +88,27 @@ impl WorldDrive {
         ensures { result ≡ self.now.failed }
     {
         self.failed
+    }
+
+    /// Whether it keeps over a crash what it has.
+    pub fn is_stored(&self) -> bool
+        ensures { result ≡ self.now.stored }
+    {
+        self.stored
+    }
+
+    /// Whether it crashed and wasn't opened again.
+    pub fn is_down(&self) -> bool
+        ensures { result ≡ self.now.down }
+    {
+        self.down
+    }
+
+    /// Whether nothing that is sent to it reaches it: it failed, or is down.
+    pub fn is_deaf(&self) -> bool
+        ensures { result ≡ is_deaf self.now }
+    {
+        self.failed || self.down
     }
 
     // What it makes of the command that the bytes spell.
@@ -111,7 +143,7 @@ impl WorldDrive {
     }
 
     /// Judges bytes as a command, performs it where nothing stands against it, and says the verdict and the
-    /// reply. A drive that failed would do the same: who delivers a message looks at that first.
+    /// reply. A drive that is deaf would do the same: who delivers a message looks at that first.
     ///
     /// # Errors
     ///
@@ -146,6 +178,20 @@ impl WorldDrive {
         ensures { self.new ≡ at_time self.old time }
     {
         self.clock = time;
+    }
+
+    /// It crashes: it is down until it is opened again. Its clock and all that it has stay.
+    pub fn crash(&mut self)
+        ensures { self.new ≡ crashed self.old }
+    {
+        self.down = true;
+    }
+
+    /// It is opened again after a crash.
+    pub fn reopen(&mut self)
+        ensures { self.new ≡ reopened self.old }
+    {
+        self.down = false;
     }
 
     /// It fails: it loses its objects, and their memory is given back.

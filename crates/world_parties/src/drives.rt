@@ -2,7 +2,7 @@ ghost use Rattle.std.specs.Prelude.{◌≡◌, [], IfOk, OnOk, OnErr};
 ghost use Rattle.std.specs.Option.{option_copied};
 ghost use Rattle.osd_commands.specs.Commands.{reading};
 ghost use Rattle.world_history.specs.State.{at_number, and_number};
-ghost use Rattle.world_history.specs.Drives.{Judged as WorldJudged, made_drive, raised, at_time, fallen};
+ghost use Rattle.world_history.specs.Drives.{Judged as WorldJudged, made_drive, raised, at_time, fallen, crashed, reopened};
 ghost use Rattle.world_parties.specs.Drives.{changed, replied, heard_one, HearsOne, heard, Hears, injected, Injects};
 
 use crate::drive::{Judged, WorldDrive};
@@ -58,7 +58,7 @@ fn hear_at(
 ) -> Result<Handed, Memory>
     ensures { IfOk result (λ h. HearsOne (heard_one drive from (reading bytes.now) found.old) found.new h) }
 {
-    if found.has_failed() {
+    if found.is_deaf() {
         return Ok(Handed::quiet(alloc, Delivery::Deaf));
     }
     let judged = found.judge(alloc, bytes)?;
@@ -82,7 +82,7 @@ impl WorldDrives {
         self.by_number.get(&drive.number())
     }
 
-    /// Makes a drive with its key and its capacity in bytes. There must be none of that number.
+    /// Makes a drive with its key and its capacity in bytes, stored or not. There must be none of that number.
     ///
     /// # Errors
     ///
@@ -93,17 +93,18 @@ impl WorldDrives {
         drive: DriveName,
         key: [u8; 20],
         capacity: u64,
+        stored: bool,
     ) -> Result<(), Memory>
-        ensures ok { OnOk result (self.new ≡ and_number self.old drive (made_drive drive key capacity)) }
+        ensures ok { OnOk result (self.new ≡ and_number self.old drive (made_drive drive key capacity stored)) }
         ensures err { OnErr result (self.new ≡ self.old) }
     {
-        let made = WorldDrive::new(alloc, drive.number(), key, capacity)?;
+        let made = WorldDrive::new(alloc, drive.number(), key, capacity, stored)?;
         self.by_number.insert(drive.number(), made)?;
         Ok(())
     }
 
-    /// A message comes to a drive: it judges it and replies to the sender. One that there isn't or that failed is
-    /// deaf.
+    /// A message comes to a drive: it judges it and replies to the sender. One that there isn't, that
+    /// failed or that is down is deaf.
     pub fn hear(
         &mut self,
         alloc: Global,
@@ -154,6 +155,24 @@ impl WorldDrives {
     {
         if let Some(found) = self.by_number.get_mut(&drive.number()) {
             found.set_clock(time);
+        }
+    }
+
+    /// A drive crashes, and is down.
+    pub fn crash(&mut self, drive: DriveName)
+        ensures { self.new ≡ changed self.old drive crashed }
+    {
+        if let Some(found) = self.by_number.get_mut(&drive.number()) {
+            found.crash();
+        }
+    }
+
+    /// A drive is opened again after a crash.
+    pub fn reopen(&mut self, drive: DriveName)
+        ensures { self.new ≡ changed self.old drive reopened }
+    {
+        if let Some(found) = self.by_number.get_mut(&drive.number()) {
+            found.reopen();
         }
     }
 

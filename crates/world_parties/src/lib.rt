@@ -1,6 +1,6 @@
 //! The drives and the clients of a world.
 //!
-//! [`WorldDrive`] is an object drive with a clock, which may have failed: it judges the bytes that are delivered to it or
+//! [`WorldDrive`] is an object drive with a clock, which may have failed or be down: it judges the bytes that are delivered to it or
 //! injected, and says the verdict as a transcript has it. [`WorldClient`] is a client of striped files, which may have
 //! been stopped: it takes calls, messages and timeouts, and says what it tells and sends. [`WorldDrives`] and
 //! [`WorldClients`] have them by number, and do for one of them what an event or a delivery asks.

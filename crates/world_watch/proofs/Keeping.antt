@@ -140,6 +140,11 @@ on_event g s ms (event.Drive d key capacity) h w = record {
   sightings = h.sightings;
   unguessed = h.unguessed ∙ and_true g.unguessed;
 }
+on_event g s ms (event.Disk d key capacity) h w = record {
+  keys = keys_more g s d key h;
+  sightings = h.sightings;
+  unguessed = h.unguessed ∙ and_true g.unguessed;
+}
 on_event g s ms (event.Inject d bytes) h w = injected g s ms d bytes h w
 on_event g s ms (event.DropMessage n) h w = record {
   keys = h.keys;

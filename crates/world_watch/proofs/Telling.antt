@@ -32,11 +32,11 @@ use Rattle.world_history.specs.Spelled.{spelled, party_of}
 use Rattle.world_history.specs.declared.messages.Sent.{Sent}
 use Rattle.world_history.specs.declared.messages.Message.{Message}
 use Rattle.world_history.specs.declared.messages.Posted.{Posted}
-use Rattle.world_history.specs.State.{DriveAt, ClientAt, Network, World, empty_world, at_number}
+use Rattle.world_history.specs.State.{DriveAt, ClientAt, Network, World, empty_world, at_number, with_down}
 use Rattle.world_history.specs.Handed.{Post, Handed, end_line, ended_by, server_takes, drive_hears, client_hears, client_takes, for_client, for_server, handed_to, handed, client_goes, op_in, pending_op}
 use Rattle.world_history.specs.Moves.{Act, Action, Opens, Delivers, TimesOut, Pends, by_client, by_drive, called, pends_as, made_file, injects_at, delivers_found, delivers, drops_found, marked, op_of, raw_of, calls_at, times_out, leaves, resends, pends, makes, gives, injects, stops, begins, acts, known_drive, has_algorithm, knows_drive, adds_drive}
 use Rattle.world_history.specs.Sending.{Move, move, fresh, sent_lines, sends_all}
-use Rattle.world_history.specs.Drives.{raised, at_time, fallen}
+use Rattle.world_history.specs.Drives.{raised, at_time, fallen, crashed, reopened, is_deaf}
 use Rattle.world_history.specs.Runs.{world_after, lines_of, Carries}
 use Rattle.world_history.specs.History.{Step, AreCarried, end_of, lines_of_steps, StandsFor}
 use Rattle.world_history.specs.Laws.{shown}
@@ -135,7 +135,7 @@ either_hand w false x y p q = q
 drive_hand : (w : World) (d : ℕ) (m : Message) (a : Option DriveAt) → IsSilentHand w (drive_hears w d m a)
 drive_hand w d m None = record { network = refl; told = λ x. refl }
 drive_hand w d m (Some a) =
-    either_hand w a.failed _ _ (record { network = refl; told = λ x. refl }) (record { network = refl; told = λ x. refl })
+    either_hand w (is_deaf a) _ _ (record { network = refl; told = λ x. refl }) (record { network = refl; told = λ x. refl })
 
 server_hand : (w : World) (chosen : List ℕ) (from : Node) (m : Option ServerMessage)
     → IsSilentHand w (server_takes w chosen from m)
@@ -156,7 +156,8 @@ client_heard w c m (Some a) =
     either_hand w a.stopped _ _ (record { network = refl; told = λ x. refl }) (client_hand w c a m.from (for_client m))
 
 hand_to : (w : World) (chosen : List ℕ) (m : Message) (to : Node) → IsSilentHand w (handed_to w chosen m to)
-hand_to w chosen m node.Server = server_hand w chosen m.from (for_server m)
+hand_to w chosen m node.Server =
+    either_hand w w.down _ _ (record { network = refl; told = λ x. refl }) (server_hand w chosen m.from (for_server m))
 hand_to w chosen m (node.Drive d) = drive_hand w d m (at_number w.drives d)
 hand_to w chosen m (node.Client c) = client_heard w c m (at_number w.clients c)
 
@@ -243,9 +244,10 @@ pending_silent : (w : World) (c : ℕ) → IsSilent w (pends w c)
 unfolding pends
 pending_silent w c = client_silent w _ (at_number w.clients c) (λ a. pends_silent w c (pending_op a.state))
 
-gives_silent : (w : World) (chosen : List ℕ) (i : server_input.Input) → IsSilent w (gives w chosen i)
+gives_silent : (w : World) (down : Bool) (chosen : List ℕ) (i : server_input.Input)
+    → IsSilent w (gives (with_down w down) chosen i)
 unfolding gives
-gives_silent w chosen i = same_silent w _ refl (silent_notes (server_step w.server chosen i).notes)
+gives_silent w down chosen i = same_silent w _ refl (silent_notes (server_step w.server chosen i).notes)
 
 makes_silent : (w : World) (chosen : List ℕ) (f : ℕ) (m : server_rules.RawMap) (tag : ℕ)
     → IsSilent w (makes w chosen f m tag)
@@ -254,9 +256,10 @@ makes_silent w chosen f m tag =
     either_silent w (has_algorithm m) _ _ (made_silent w f (create_file w.server f m tag chosen))
     (same_silent w _ refl (λ x. refl))
 
-adds_silent : (w : World) (d : ℕ) (key : List ℕ) (capacity : ℕ) → IsSilent w (adds_drive w d key capacity)
+adds_silent : (w : World) (d : ℕ) (key : List ℕ) (capacity : ℕ) (stored : Bool)
+    → IsSilent w (adds_drive w d key capacity stored)
 unfolding gives
-adds_silent w d key capacity =
+adds_silent w d key capacity stored =
     either_silent w (knows_drive w.server d) _ _ (same_silent w _ refl (λ x. refl))
     (same_silent w _ refl (silent_notes
     (server_step w.server [] (server_input.Adds (known_drive d key capacity))).notes))
@@ -267,11 +270,12 @@ inject_silent w d bytes = injects_silent w d bytes (at_number w.drives d)
 
 begins_silent : (w : World) (chosen : List ℕ) (e : Event) → IsSilent w (begins w chosen e)
 unfolding begins
-begins_silent w chosen (event.Drive d key capacity) = adds_silent w d key capacity
+begins_silent w chosen (event.Drive d key capacity) = adds_silent w d key capacity false
+begins_silent w chosen (event.Disk d key capacity) = adds_silent w d key capacity true
 begins_silent w chosen (event.File f m tag) = makes_silent w chosen f (raw_of m) tag
 begins_silent w chosen (event.Least d format) =
     same_silent w _ (drive_view w d (λ a. raised a format) (at_number w.drives d)) (λ x. refl)
-begins_silent w chosen (event.Format format) = gives_silent w chosen (server_input.Formats format)
+begins_silent w chosen (event.Format format) = gives_silent w w.down chosen (server_input.Formats format)
 begins_silent w chosen (event.Do c x) = call_silent w c (op_of x)
 begins_silent w chosen (event.Call c x) = call_silent w c (op_of x)
 begins_silent w chosen (event.Deliver number) = delivers_silent w chosen number
@@ -280,22 +284,28 @@ begins_silent w chosen (event.DropMessage number) = record {
   told = λ x. refl;
 }
 begins_silent w chosen (event.Resend (sender.Client c)) = resend_silent w c
-begins_silent w chosen (event.Resend sender.Server) = gives_silent w chosen server_input.Resends
+begins_silent w chosen (event.Resend sender.Server) = gives_silent w w.down chosen server_input.Resends
 begins_silent w chosen (event.Timeout c component) = timeout_silent w c component
 begins_silent w chosen (event.Leave c) = leave_silent w c
 begins_silent w chosen (event.Inject d bytes) = inject_silent w d bytes
 begins_silent w chosen (event.Clock (machine.Drive d) time) =
     same_silent w _ (drive_view w d (λ a. at_time a time) (at_number w.drives d)) (λ x. refl)
 begins_silent w chosen (event.Clock machine.Server time) = same_silent w _ refl (λ x. refl)
-begins_silent w chosen (event.Recall f) = gives_silent w chosen (server_input.Obeys server_rules.ToRecall f)
-begins_silent w chosen (event.Revoke f) = gives_silent w chosen (server_input.Obeys server_rules.ToRevoke f)
-begins_silent w chosen (event.Rebuild f) = gives_silent w chosen (server_input.Obeys server_rules.ToRebuild f)
-begins_silent w chosen (event.Audit f) = gives_silent w chosen (server_input.Obeys server_rules.ToAudit f)
-begins_silent w chosen (event.Declare d) = gives_silent w chosen (server_input.Obeys server_rules.ToDeclare d)
+begins_silent w chosen (event.Recall f) = gives_silent w w.down chosen (server_input.Obeys server_rules.ToRecall f)
+begins_silent w chosen (event.Revoke f) = gives_silent w w.down chosen (server_input.Obeys server_rules.ToRevoke f)
+begins_silent w chosen (event.Rebuild f) = gives_silent w w.down chosen (server_input.Obeys server_rules.ToRebuild f)
+begins_silent w chosen (event.Audit f) = gives_silent w w.down chosen (server_input.Obeys server_rules.ToAudit f)
+begins_silent w chosen (event.Declare d) = gives_silent w w.down chosen (server_input.Obeys server_rules.ToDeclare d)
 begins_silent w chosen (event.Stop c) =
     same_silent w _ (stops_view w c (at_number w.clients c)) (λ x. refl)
 begins_silent w chosen (event.Fail d) =
     same_silent w _ (drive_view w d fallen (at_number w.drives d)) (λ x. refl)
+begins_silent w chosen (event.Crash (machine.Drive d)) =
+    same_silent w _ (drive_view w d crashed (at_number w.drives d)) (λ x. refl)
+begins_silent w chosen (event.Crash machine.Server) = gives_silent w true chosen server_input.Crashes
+begins_silent w chosen (event.Reopen (machine.Drive d)) =
+    same_silent w _ (drive_view w d reopened (at_number w.drives d)) (λ x. refl)
+begins_silent w chosen (event.Reopen machine.Server) = gives_silent w false chosen server_input.Opens
 begins_silent w chosen e = same_silent w _ refl (λ x. refl)
 
 acts_silent : (w : World) (chosen : List ℕ) (a : Action) → IsSilent w (acts w chosen a)

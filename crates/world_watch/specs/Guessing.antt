@@ -44,6 +44,7 @@ injects g ms d bytes = injects_read g ms d bytes (commands.reading bytes)
 
 abbrev pub sees_event : GuessState → List Sent → Event → GuessState
 sees_event g ms (event.Drive d key capacity) = record g { keys = and_number g.keys d key }
+sees_event g ms (event.Disk d key capacity) = record g { keys = and_number g.keys d key }
 sees_event g ms (event.Inject d bytes) = injects g ms d bytes
 sees_event g ms e = g
 

@@ -103,7 +103,7 @@ impl Guesses {
         ensures { OnOk result (self.new ≡ sees_event self.old network.now.messages event.now) }
     {
         match event {
-            Event::Drive { drive, key, .. } => {
+            Event::Drive { drive, key, .. } | Event::Disk { drive, key, .. } => {
                 self.keys.insert(drive.number(), *key)?;
                 Ok(())
             }

@@ -32,6 +32,12 @@ pub returns-in-Declare : goal.returns-in-Declare
 unfolding begins
 returns-in-Declare g c = rw (c.in-Declare.is, ← c.number-in-Declare.ensures.number) c.order-in-Declare.ensures
 
+pub returns-in-Crash : goal.returns-in-Crash
+returns-in-Crash g c = rw c.in-Crash.is c.crash.ensures
+
+pub returns-in-Reopen : goal.returns-in-Reopen
+returns-in-Reopen g c = rw c.in-Reopen.is c.reopen.ensures
+
 pub returns-in_default : goal.returns-in_default
 returns-in_default g c =
     let plain : is_plain c.args.event.now ≡ true = search rules in

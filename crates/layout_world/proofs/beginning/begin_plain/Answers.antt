@@ -6,6 +6,10 @@ pub returns-in-Drive : goal.returns-in-Drive
 unfolding begins
 returns-in-Drive c = rw c.in-Drive.is (held c.add_drive.result _ _ c.add_drive.ensures)
 
+pub returns-in-Disk : goal.returns-in-Disk
+unfolding begins
+returns-in-Disk c = rw c.in-Disk.is (held c.add_drive-in-Disk.result _ _ c.add_drive-in-Disk.ensures)
+
 pub returns-in-Client : goal.returns-in-Client
 unfolding begins
 returns-in-Client c = rw c.in-Client.is (held c.add.result _ _ c.add.ensures)

@@ -1,0 +1,16 @@
+use Rattle.std.specs.Prelude.{refl}
+use Rattle.scenario_text.specs.declared.event.Event.TheVariants as event
+use Rattle.scenario_text.specs.declared.event.Machine.TheVariants as machine
+use Rattle.world_history.specs.Moves.{begins}
+use Rattle.layout_world.proofs.Acted.{ends_none}
+use Rattle.layout_world.proofs.restarting.crash.Goals as goal
+
+pub returns-in-Drive : goal.returns-in-Drive
+unfolding begins
+returns-in-Drive c =
+    rw c.in-Drive.is (ends_none (event.Crash (machine.Drive c.in-Drive.drive)) c.args.parties.now c.crash_drive.new.parties
+    c.crash_drive.result (λ w chosen. refl) c.crash_drive.ensures)
+
+pub returns-in-Server : goal.returns-in-Server
+unfolding begins
+returns-in-Server c = rw c.in-Server.is c.crash_server.ensures
