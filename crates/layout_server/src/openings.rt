@@ -48,7 +48,8 @@ pub fn crash(alloc: Global, state: &mut State) -> Result<(), Memory>
     // A crash sends nothing, so its counters may stand anywhere.
     let mut effects = no_effects(alloc, 0, 0);
     at_each_file(alloc, &mut state.files, &mut effects, &Crash)?;
-    list_all(alloc, state)
+    list_all(alloc, state)?;
+    Ok(())
 }
 
 // ---- the opening of a file
