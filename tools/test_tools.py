@@ -90,6 +90,21 @@ TORN = PARTIES + ['do c0 write f0 0 6162636465666768', 'call c0 write f0 0 41424
                   'deliver 19', 'deliver 20', 'stop c0', 'fail d1', 'do c1 read f0 0 8']
 
 
+ONE = ['disk d0 %s 20000000' % KEY, 'client c0', 'client c1', 'file f0 1 4 0 0 0 1 1']
+# runs with crashes and openings, each of which something comes of
+RESTARTS = {
+    'fencing_cut_off': ONE + ['do c0 write f0 0 41', 'revoke f0', 'deliver 8', 'crash s', 'deliver 9', 'reopen s', 'settle'],
+    'deaf_while_down': ONE + ['call c0 write f0 0 41', 'deliver 2', 'deliver 3', 'crash d0', 'deliver 4', 'reopen d0', 'settle',
+                              'deliver 4', 'settle'],
+    'making_cut_off': ['disk d0 %s 20000000' % KEY, 'disk d1 %s 20000000' % KEY, 'client c0', 'crash d1', 'file f0 2 4 0 0 0 1 1',
+                       'crash s', 'do c0 read f0 0 1', 'reopen d1', 'reopen s', 'settle'],
+    'rebuild_cut_off': PARTIES + ['do c0 write f0 0 6162636465666768', 'leave c0', 'settle', 'fail d1', 'declare d1', 'rebuild f0']
+    + ['deliver %d' % n for n in range(18, 27)] + ['crash s', 'deliver 27', 'reopen s', 'rebuild f0', 'settle'],
+    'spent_at_the_opening': ONE[:3] + ['file f0 1 4 0 0 0 1 4294967295', 'do c0 write f0 0 41', 'crash s', 'do c1 read f0 0 1',
+                                       'reopen s', 'resend c1', 'settle', 'crash s', 'do c0 read f0 0 1', 'do c1 read f0 0 1',
+                                       'reopen s']}
+
+
 def forged(guide: Guide, number: int, payload: bytes) -> bytes:
     """The command of a message with another payload, under the drive's key."""
     message = guide.messages[number].line
@@ -110,7 +125,7 @@ class Sound(unittest.TestCase):
 
     def test_the_guide_writes_the_golden_transcripts(self) -> None:
         """The judge's parties, let alone, do what the program does."""
-        for name in ('striped', 'late_acknowledgement', 'lost_drive', 'stopped_writer'):
+        for name in ('striped', 'late_acknowledgement', 'lost_drive', 'stopped_writer', 'crash_in_fence', 'crash_in_repair'):
             lines = read_file(os.path.join(SCENARIOS, name + '.txt')).decode().split('\n')
             guide = guided([line for line in lines if line and not line.startswith('#')])
             self.assertEqual(guide.transcript(), golden(name))
@@ -132,7 +147,7 @@ class Altered(unittest.TestCase):
 
     def test_each_line_left_out(self) -> None:
         """A line that is lost, whichever it is."""
-        for name in ('stopped_writer', 'late_acknowledgement'):
+        for name in ('stopped_writer', 'late_acknowledgement', 'crash_in_fence'):
             lines = golden(name).split(b'\n')
             for n in range(len(lines) - 1):
                 self.refuses(b'\n'.join(lines[:n] + lines[n + 1:]), (name, n + 1))
@@ -189,6 +204,13 @@ class Altered(unittest.TestCase):
                 ('stopped_writer', b'm 44 d2', b'm 45 d2'), ('stopped_writer', b'= stop c0', b'= stop c1'),
                 ('lost_drive', b'rebuilt 1 d3', b'rebuilt 1 d2'), ('lost_drive', b'audit 2 0 0 16', b'audit 2 0 1 16'),
                 ('lost_drive', b'audit 2 0 0 16', b'audit 2 0 0 15'), ('lost_drive', b'= declare d1', b'= declare d0'),
+                ('crash_in_fence', b'd 22 deaf', b'd 22 taken'), ('crash_in_fence', b'd 26 tag 2', b'd 26 perform'),
+                ('crash_in_fence', b'fenced 2', b'fenced 3'), ('crash_in_fence', b'read pending', b'read ok 6162'),
+                ('crash_in_fence', b'= crash s', b'= settle'), ('crash_in_fence', b'= reopen s', b'= revoke f0'),
+                ('crash_in_fence', b'read ok 6162636445464748', b'read ok 6162636465666768'),
+                ('crash_in_repair', b'd 46 perform', b'd 46 tag 3'), ('crash_in_repair', b'd 47 tag 3', b'd 47 perform'),
+                ('crash_in_repair', b'fenced 3', b'fenced 2'), ('crash_in_repair', b'repaired 1 0', b'repaired 0 0'),
+                ('crash_in_repair', b'= reopen s', b'= resend s'),
                 ('striped', b'= client c0', b'= client c1'), ('refused_event', b'error 9 Alive', b'error 9 Sleepy')):
             self.refuses(replaced(golden(name), old, new), (name, old, new))
 
@@ -217,6 +239,19 @@ class Altered(unittest.TestCase):
         self.assertEqual(fault_in(data), '')
         self.assertIn('guess', fault_in(replaced(data, b'unguessed no', b'unguessed yes')))
 
+    def test_crashes_and_openings_left_out(self) -> None:
+        """A crash that is denied shows where something comes to the party."""
+        for name in ('fencing_cut_off', 'deaf_while_down', 'making_cut_off', 'rebuild_cut_off', 'spent_at_the_opening'):
+            data = guided(RESTARTS[name]).transcript()
+            self.assertEqual(fault_in(data), '', name)
+            lines = data.split(b'\n')
+            for n, line in enumerate(lines):
+                if line.startswith((b'= crash', b'= reopen')):
+                    self.refuses(b'\n'.join(lines[:n] + lines[n + 1:]), (name, line))
+                if line.endswith(b' deaf'):
+                    for result in (b'taken', b'perform', b'again'):
+                        self.refuses(changed(data, n, line[:-4] + result), (name, line, result))
+
     def test_no_transcripts(self) -> None:
         """Texts that are none."""
         data = golden('striped')
@@ -224,6 +259,44 @@ class Altered(unittest.TestCase):
                       data.replace(b'm 0 ', b'm 00 ', 1), data.replace(b'= client c0', b'= client  c0'),
                       b'\xff\n', data.replace(b'd 0 perform', b'd 0 performed')):
             self.assertRaises(NoTranscript, judge_transcript, other)
+
+
+class Restarts(unittest.TestCase):
+    """Disks, crashes and openings."""
+
+    def test_causes_in_their_order(self) -> None:
+        """Why an event is refused, of several causes the first."""
+        drive, disk, made = 'drive d0 %s 9' % KEY, 'disk d0 %s 9' % KEY, 'file f0 1 4 0 0 0 1 1'
+        for events, event, cause in (
+                ([], 'crash d0', 'NoName'), ([], 'reopen d0', 'NoName'), ([], 'reopen s', 'Running'),
+                ([drive], 'crash d0', 'NotKept'), ([drive], 'reopen d0', 'NotKept'), ([drive, 'fail d0'], 'crash d0', 'Dead'),
+                ([disk], 'reopen d0', 'Running'), ([disk, 'crash d0'], 'crash d0', 'Down'),
+                ([disk, 'crash d0'], 'inject d0 -', 'Down'), ([disk, 'crash d0'], 'least d0 2', 'Down'),
+                ([disk, 'crash d0'], 'declare d0', 'Alive'), ([disk, 'crash d0', 'fail d0'], 'reopen d0', 'Dead'),
+                (['crash s'], 'crash s', 'Down'), (['crash s'], 'clock s 1', 'Down'), (['crash s'], 'format s 2', 'Down'),
+                (['crash s'], 'resend s', 'Down'), (['crash s'], drive, 'Down'), (['crash s'], disk, 'Down'),
+                (['crash s'], made, 'Down'), ([drive, 'crash s'], disk, 'Taken'), (['crash s'], 'revoke f0', 'NoName'),
+                ([drive, made, 'crash s'], 'revoke f0', 'Down'), ([drive, made, 'crash s'], 'recall f0', 'Down'),
+                ([drive, 'crash s'], 'declare d0', 'Alive'), ([drive, 'crash s', 'fail d0'], 'declare d0', 'Down'),
+                (['crash s'], 'deliver 0', 'NoMessage'), (['crash s'], 'zone d0 1', 'NotYet')):
+            refused = guided(events).goes(event)
+            self.assertEqual(refused and refused[0], cause, (events, event))
+
+    def test_what_goes_on_while_a_party_is_down(self) -> None:
+        """Clocks of drives, failures, deliveries and clients."""
+        guided(['disk d0 %s 9' % KEY, 'client c0', 'file f0 1 4 0 0 0 1 1', 'crash s', 'crash d0', 'client c1', 'clock d0 9',
+                'do c0 read f0 0 1', 'deliver 0', 'drop 1', 'settle', 'stop c1', 'fail d0', 'reopen s', 'declare d0'])
+
+    def test_notes_of_openings(self) -> None:
+        """What an opening tells at once, and what it comes to."""
+        for name, notes in (
+                ('fencing_cut_off', ['f0 ready', 'f0 fenced 2', 'f0 repaired 1 0']),
+                ('making_cut_off', ['f0 ready']), ('deaf_while_down', ['f0 ready']),
+                ('rebuild_cut_off', ['f0 ready', 'f0 fenced 2', 'f0 repaired 0 0', 'f0 fenced 3', 'f0 repaired 0 0',
+                                     'f0 rebuilt 1 d3']),
+                ('spent_at_the_opening', ['f0 ready', 'f0 spent', 'f0 spent'])):
+            lines = guided(RESTARTS[name]).transcript().decode().split('\n')
+            self.assertEqual([line[2:] for line in lines if line.startswith('f ')], notes, name)
 
 
 class Files(unittest.TestCase):
@@ -363,7 +436,8 @@ class Charting(unittest.TestCase):
 
     def test_pictures_are_svg(self) -> None:
         """Each scenario has one, with an arrow for each message that was delivered."""
-        for name in ('striped', 'late_acknowledgement', 'lost_drive', 'stopped_writer', 'refused_event'):
+        for name in ('striped', 'late_acknowledgement', 'lost_drive', 'stopped_writer', 'refused_event', 'crash_in_fence',
+                     'crash_in_repair'):
             chart = chart_of(read_transcript(golden(name)))
             picture = Page(chart).picture()
             self.assertTrue(ElementTree.fromstring(picture).tag.endswith('svg'))
@@ -372,7 +446,7 @@ class Charting(unittest.TestCase):
 
     def test_pictures_of_the_documents(self) -> None:
         """They are those of the scenarios."""
-        for name in ('stopped_writer', 'lost_drive'):
+        for name in ('stopped_writer', 'lost_drive', 'crash_in_fence'):
             picture = Page(chart_of(read_transcript(golden(name)))).picture()
             self.assertEqual(read_file(os.path.join(TOP, 'docs', 'pictures', name + '.svg')).decode(), picture)
 
@@ -383,6 +457,17 @@ class Charting(unittest.TestCase):
         self.assertEqual(late.verdict, 'tag 2, it names 1')
         fence = next(b for b in chart.bars if b.style == 'fence')
         self.assertLess(fence.first, late.delivered)
+
+    def test_parties_that_are_down(self) -> None:
+        """A bar from the crash to the opening, or to the end of the run."""
+        chart = chart_of(read_transcript(golden('crash_in_fence')))
+        bar = next(b for b in chart.bars if b.style == 'down')
+        rows = {words: row for row, words in chart.events}
+        self.assertEqual((bar.party, bar.first, bar.last), ('s', rows['crash s'], rows['reopen s']))
+        self.assertEqual(len([b for b in chart.bars if b.style == 'fence']), 2)
+        data = guided(['disk d0 %s 9' % KEY, 'crash d0', 'client c0']).transcript()
+        bar = next(b for b in chart_of(read_transcript(data)).bars if b.style == 'down')
+        self.assertEqual((bar.party, bar.first, bar.last), ('d0', 1, 2))
 
     def test_pictures_of_storms(self) -> None:
         """Storms have pictures too."""

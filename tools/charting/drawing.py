@@ -18,9 +18,9 @@ ARROWS: Dict[str, Tuple[str, str, float]] = {
 NAMED = {'once': 'message', 'repeated': 'delivered again', 'deaf': 'comes to a deaf party', 'lost': 'lost',
          'waiting': 'never delivered', 'injected': 'injected by a stranger'}
 BARS: Dict[str, str] = {'fence': '#f2a33a', 'repair': '#4c9ed9', 'rebuild': '#8d6cc4', 'audit': '#35a79c',
-                        'dead': '#b9414a', 'grant write': '#8ccf9f', 'grant read': '#a8d3ee'}
+                        'dead': '#b9414a', 'down': '#5c6670', 'grant write': '#8ccf9f', 'grant read': '#a8d3ee'}
 BAR_NAMES = {'fence': 'fence', 'repair': 'repair', 'rebuild': 'rebuild', 'audit': 'audit', 'dead': 'stopped or failed',
-             'grant write': 'grant to write', 'grant read': 'grant to read'}
+             'down': 'down', 'grant write': 'grant to write', 'grant read': 'grant to read'}
 
 
 def words_of(a: Arrow) -> str:
@@ -107,10 +107,11 @@ class Page:
         x = self.places[b.party]
         last = self.chart.rows - 1 if b.last is None else b.last
         top, bottom = self.y(b.first) - 4, self.y(last) + 4
-        opacity = 0.45 if b.style == 'dead' else 1
+        is_deaf = b.style in ('dead', 'down')
+        opacity = 0.45 if is_deaf else 1
         self.middle.append('<rect x="%.1f" y="%.1f" width="%d" height="%.1f" rx="4" fill="%s" fill-opacity="%g"/>' % (
             x - BAR / 2, top, BAR, bottom - top, BARS[b.style], opacity))
-        if b.style == 'dead':
+        if is_deaf:
             self.front.append(self.chip(x + BESIDE, self.y(b.first), b.words, BAD, 'start', 'bold'))
         elif bottom - top > len(b.words) * LETTER + 8:
             ink = '#ffffff' if b.style in ('repair', 'rebuild', 'audit') else INK

@@ -77,6 +77,7 @@ class Reader:
         self.files: Dict[Tuple[str, int], str] = {}
         self.open: Dict[Tuple[str, str], Tuple[int, str]] = {}
         self.grants: Dict[Tuple[str, str], Tuple[int, int, str]] = {}
+        self.down: Dict[str, int] = {}
 
     # ---- rows
 
@@ -109,13 +110,31 @@ class Reader:
         self.is_fresh = e.kind in ('deliver', 'settle', 'inject', 'timeout')
         words = [word if len(word) <= LONGEST_WORD else word[:LONGEST_WORD] + '..' for word in e.text.split(' ')]
         self.chart.events.append((row, ' '.join(words)))
-        if e.kind in ('drive', 'client'):
+        if e.kind in ('drive', 'disk', 'client'):
             self.chart.parties[e.args[0]] = row
         elif e.kind in ('stop', 'fail'):
             words = 'stopped: deaf from now on' if e.kind == 'stop' else 'failed: all is lost'
             self.chart.bars.append(Bar(e.args[0], row, None, 'dead', words))
+        elif e.kind == 'crash':
+            self.crashed(e.args[0])
+        elif e.kind == 'reopen':
+            self.opened(e.args[0])
         elif e.kind == 'drop' and e.args[0] in self.posted:
             self.posted[e.args[0]].dropped = True
+
+    def crashed(self, party: str) -> None:
+        """A party is down; with the server its jobs are gone."""
+        self.down.setdefault(party, self.row)
+        if party == 's':
+            for kind, file in list(self.open):
+                if kind in ('fence', 'repair'):
+                    self.end((kind, file))
+            self.open.clear()
+
+    def opened(self, party: str) -> None:
+        """It is up again, or the run is over."""
+        if party in self.down:
+            self.chart.bars.append(Bar(party, self.down.pop(party), self.row, 'down', 'down'))
 
     def sent(self, m: Sent) -> None:
         """A message leaves in the row of its step."""
@@ -249,6 +268,8 @@ class Reader:
         for kind, file in list(self.open):
             if kind in ('fence', 'repair'):
                 self.end((kind, file))
+        for party in list(self.down):
+            self.opened(party)
         self.chart.rows = self.row + 1
         self.place_strangers()
         return self.chart

@@ -115,6 +115,13 @@ class File:
         self.grants: List[Grant] = []
         self.ended: List[Grant] = []
         self.job: Optional[Job] = None
+        self.ready = False
+        self.is_fencing = False
+        self.spent = False
+
+    def is_unsettled(self) -> bool:
+        """An opening fences it: it has a grant, or a fence or a repair that isn't over."""
+        return bool(self.grants) or self.is_fencing
 
     def grant_of(self, client: int) -> Optional[Grant]:
         """The grant of a client, which has at most one."""

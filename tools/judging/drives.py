@@ -92,8 +92,10 @@ class StoredObject:
 class Drive:
     """A drive with its keys, clock and objects."""
 
-    def __init__(self, number: int, key: bytes, capacity: int) -> None:
+    def __init__(self, number: int, key: bytes, capacity: int, stored: bool) -> None:
         self.number = number
+        self.stored = stored
+        self.down = False
         self.keys = {KEY_VERSION: key}
         self.capacity = capacity
         self.least = 1
@@ -107,6 +109,10 @@ class Drive:
         self.failed = True
         self.objects = {}
         self.used = 0
+
+    def deaf(self) -> str:
+        """Why nothing reaches the drive; empty where it isn't deaf."""
+        return 'has failed' if self.failed else 'is down' if self.down else ''
 
     def raise_least(self, form: int) -> None:
         """The least format only rises."""

@@ -6,8 +6,8 @@ from transcripts.spelling import big
 from transcripts.striping import decoded, parity_of
 from transcripts.structures import map_bytes
 
-from .book import (Ask, Awaited, Component, File, Job, Piece, Stripes, Target, differing, is_beyond, is_short, lacking,
-                   merged, replica)
+from .book import (GREATEST_TAG, Ask, Awaited, Component, File, Job, Piece, Stripes, Target, differing, is_beyond, is_short,
+                   lacking, merged, replica)
 
 LENGTH_ATTRIBUTE, LONGEST_OBJECT = 1, 17825792
 PERFORMED, EXISTS, OTHER_TAG, NO_SPACE, OLD_FORMAT = 0, 8, 9, 11, 17
@@ -107,6 +107,7 @@ class Worker:
     def made(self) -> None:
         """Each object was made, or its component is missing."""
         self.note('ready')
+        self.file.ready = True
         self.file.job = None
 
     def fence(self, kind: str) -> None:
@@ -115,6 +116,7 @@ class Worker:
         f.format = max(f.format, self.counters.format)
         f.ended += f.grants
         f.grants = []
+        f.is_fencing = True
         f.job = Job(kind)
         if not self.rests('Fences', self.to_present(Ask(SET_TAG))):
             self.fenced()
@@ -128,6 +130,20 @@ class Worker:
         f.job.short = []
         f.job.todo = f.pieces(stripe for first, end in f.job.worked for stripe in range(first, end))
         self.repair()
+
+    # ---- an opening of the server
+
+    def opens(self) -> None:
+        """The file of a server that is opened: it is fenced, or refused a fence, or made."""
+        f = self.file
+        if f.is_unsettled():
+            if f.tag == GREATEST_TAG:
+                f.spent = True
+                self.note('spent')
+            else:
+                self.fence('revoke')
+        elif not f.ready:
+            self.make()
 
     # ---- repair
 
@@ -155,6 +171,7 @@ class Worker:
         self.note('repaired %d %d' % (count, len(job.short)))
         self.step.mended.append(Mended(f.number, job.worked, job.short))
         f.ended = []
+        f.is_fencing = False
         if job.kind == 'rebuild':
             self.rebuild(0)
         elif job.kind == 'audit':

@@ -49,6 +49,7 @@ class Server:
         self.slots: Dict[int, Tuple[int, bytes]] = {}
         self.counters = Counters()
         self.clock = 0
+        self.down = False
         self.step = Step()
         self.recalled: List[Grant] = []
 
@@ -174,6 +175,23 @@ class Server:
         """The server's format only rises."""
         self.counters.format = max(self.counters.format, form)
 
+    # ---- crashes and openings
+
+    def crash(self) -> None:
+        """The server is down: its jobs are gone, and that a fence was refused."""
+        self.down = True
+        for f in self.files.values():
+            f.job = None
+            f.spent = False
+
+    def opens(self) -> Did:
+        """It is opened again: each file in order."""
+        self.down = False
+        self.begin()
+        for f in self.files.values():
+            self.worker(f).opens()
+        return self.did()
+
     # ---- replies
 
     def on_reply(self, drive: int, r: Reply) -> Did:
@@ -237,6 +255,8 @@ class Server:
             return BADIOMODE, 0, None
         if a.length == 0 or a.offset + a.length > FILE_END:
             return INVAL, 0, None
+        if f.spent:
+            return UNAVAILABLE, NOTHING_IN_PARTICULAR, None
         if f.job is not None:
             return RECALLCONFLICT, f.job.lowest(), None
         asked = self.asked(f, client, a)

@@ -16,6 +16,10 @@ from .faults import Cut, Fault, due_text, quoted, unlike, verdict_text
 from .files import Fixed, Log, Pending
 from .network import Message, Network
 
+# the events that the server has to carry out, beside those that name it
+ORDERS = ('recall', 'revoke', 'rebuild', 'audit')
+SERVED = ORDERS + ('drive', 'disk', 'file', 'declare')
+
 
 class World:
     """All parties and the network, as the lines so far leave them."""
@@ -101,10 +105,14 @@ class World:
         """The first cause for which an event isn't carried out: its word, and a sentence."""
         if e.kind in LATER:
             return 'NotYet', 'the world doesn\'t know it yet'
-        if e.kind in ('drive', 'client'):
-            there = number_of(e.args[0]) in (self.drives if e.kind == 'drive' else self.clients)
-            return ('Taken', 'the %s exists' % e.kind) if there else None
-        if e.kind in ('recall', 'revoke', 'rebuild', 'audit'):
+        return self.naming_refusal(e) or self.down_refusal(e)
+
+    def naming_refusal(self, e: Event) -> Optional[Tuple[str, str]]:
+        """What an event names isn't there, or is there, or isn't alive."""
+        if e.kind in ('drive', 'disk', 'client'):
+            there = number_of(e.args[0]) in (self.clients if e.kind == 'client' else self.drives)
+            return ('Taken', '%s exists' % e.args[0]) if there else None
+        if e.kind in ORDERS:
             return None if number_of(e.args[0]) in self.server.files else ('NoName', 'there is no such file')
         if e.kind in ('deliver', 'drop'):
             return None if e.args[0] < len(self.messages) else ('NoMessage', 'no message of that number was sent')
@@ -117,6 +125,22 @@ class World:
         if drive not in self.drives:
             return 'NoName', 'there is no such drive'
         return None if self.drives[drive].failed else ('Alive', 'the drive hasn\'t failed')
+
+    def down_refusal(self, e: Event) -> Optional[Tuple[str, str]]:
+        """A drive that is named keeps nothing, or it or the server is down, or isn't."""
+        names_server = bool(e.args) and e.args[0] == 's'
+        if e.kind == 'reopen' and names_server:
+            return None if self.server.down else ('Running', 's isn\'t down')
+        if e.kind in SERVED or names_server:
+            return ('Down', 's is down') if self.server.down else None
+        if e.kind not in ('crash', 'reopen', 'inject', 'least'):
+            return None
+        drive = self.drives[number_of(e.args[0])]
+        if e.kind in ('crash', 'reopen') and not drive.stored:
+            return 'NotKept', 'the drive keeps nothing over a crash'
+        if e.kind == 'reopen':
+            return None if drive.down else ('Running', 'the drive isn\'t down')
+        return ('Down', 'the drive is down') if drive.down else None
 
     def party_refusal(self, party: str) -> Optional[Tuple[str, str]]:
         """A party that an event names exists, and wasn't stopped and didn't fail."""
@@ -182,8 +206,8 @@ class World:
         """A drive judges a message and replies to who sent it."""
         sent = message.line
         drive = self.drives[number_of(sent.receiver)]
-        if drive.failed:
-            self.begins(self.delivered(number, 'deaf', '%s has failed, so it is deaf' % sent.receiver))
+        if drive.deaf():
+            self.begins(self.delivered(number, 'deaf', '%s %s, so it is deaf' % (sent.receiver, drive.deaf())))
             return
         command = message.command()
         verdict, reply = drive.hear(command)
@@ -217,6 +241,9 @@ class World:
 
     def to_server(self, number: int, sent: Sent) -> None:
         """The server takes a message."""
+        if self.server.down:
+            self.begins(self.delivered(number, 'deaf', 's is down, so it is deaf'))
+            return
         at = self.delivered(number, 'taken', 'the server takes what comes to it')
         did = server.NOTHING
         returned = None
@@ -339,8 +366,26 @@ class World:
     def do_drive(self, e: Event) -> None:
         """A drive is made, and the server knows it."""
         number = number_of(e.args[0])
-        self.drives[number] = Drive(number, e.args[1], e.args[2])
+        self.drives[number] = Drive(number, e.args[1], e.args[2], e.kind == 'disk')
         self.server.add_drive(number, e.args[1])
+
+    def do_disk(self, e: Event) -> None:
+        """So is one that may crash."""
+        self.do_drive(e)
+
+    def do_crash(self, e: Event) -> None:
+        """A drive or the server is down from now on."""
+        if e.args[0] == 's':
+            self.server.crash()
+        else:
+            self.drives[number_of(e.args[0])].down = True
+
+    def do_reopen(self, e: Event) -> None:
+        """A drive or the server is opened again."""
+        if e.args[0] == 's':
+            self.server_did(e.at, self.server.opens())
+        else:
+            self.drives[number_of(e.args[0])].down = False
 
     def do_client(self, e: Event) -> None:
         """A client is made."""

@@ -58,6 +58,16 @@ class Guide(World):
         """The drives that didn't fail."""
         return [n for n, drive in self.drives.items() if not drive.failed]
 
+    def crashing(self) -> List[str]:
+        """The server and the stored drives, where they are up."""
+        drives = ['d%d' % n for n, drive in self.drives.items() if drive.stored and not drive.deaf()]
+        return drives if self.server.down else ['s'] + drives
+
+    def down(self) -> List[str]:
+        """The server and the drives that are down and may be opened."""
+        drives = ['d%d' % n for n, drive in self.drives.items() if drive.down and not drive.failed]
+        return ['s'] + drives if self.server.down else drives
+
     def fallen(self) -> List[int]:
         """The drives that failed and weren't declared."""
         return [n for n, drive in self.drives.items() if drive.failed and self.server.drives[n].online]

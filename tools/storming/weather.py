@@ -8,8 +8,10 @@ from transcripts.spelling import in_hex
 from .guide import Guide
 
 MOST_MESSAGES, MOST_EVENTS = 420, 70
-# how often a failed drive is declared behind an event
-DECLARED = 0.2
+# how often a failed drive is declared behind an event, and one of those that are down is opened
+DECLARED, OPENED = 0.2, 0.12
+# how often a drive is stored
+STORED = 0.5
 
 
 class Shape(NamedTuple):
@@ -25,11 +27,14 @@ class Shape(NamedTuple):
 # how often each kind of event comes, by the kind of weather
 WEATHERS: Dict[str, Dict[str, int]] = {
     'prompt': {'do': 30, 'fail': 3, 'stop': 1, 'job': 6, 'declare': 6, 'recall': 2, 'leave': 2, 'settle': 2, 'clock': 1,
-               'client': 1, 'file': 1},
+               'client': 1, 'file': 1, 'crash': 2},
     'late': {'do': 5, 'call': 16, 'deliver': 60, 'drop': 5, 'repeat': 12, 'settle': 3, 'timeout': 6, 'resend': 8,
-             'stop': 2, 'job': 3, 'recall': 3, 'leave': 1, 'fail': 1, 'declare': 2, 'clock': 1},
+             'stop': 2, 'job': 3, 'recall': 3, 'leave': 1, 'fail': 1, 'declare': 2, 'clock': 1, 'crash': 2},
     'torn': {'do': 10, 'call': 24, 'deliver': 50, 'stop': 6, 'job': 6, 'fail': 5, 'declare': 3, 'repeat': 5, 'settle': 3,
              'client': 3, 'timeout': 2, 'resend': 2},
+    'restarting': {'do': 10, 'call': 16, 'deliver': 60, 'repeat': 5, 'crash': 10, 'job': 10, 'resend': 5, 'settle': 4,
+                   'stop': 2, 'fail': 2, 'declare': 1, 'timeout': 2, 'file': 3, 'clock': 1, 'recall': 1, 'leave': 1,
+                   'inject': 2, 'format': 1},
     'stranger': {'do': 20, 'call': 8, 'deliver': 20, 'inject': 20, 'repeat': 6, 'job': 3, 'settle': 3, 'stop': 1,
                  'fail': 1, 'declare': 1, 'format': 1, 'least': 1, 'clock': 1},
     'formats': {'do': 20, 'call': 5, 'deliver': 12, 'job': 6, 'format': 4, 'least': 5, 'settle': 3, 'fail': 1,
@@ -63,7 +68,9 @@ class Weather:
         key = self.some_bytes(20)
         for n in range(r.randint(4, 9)):
             capacity = r.randint(8, 90) if r.random() < 0.06 else 20000000
-            self.guide.goes('drive d%d %s %d' % (n, (key if r.random() < 0.5 else self.some_bytes(20)).hex(), capacity))
+            word = 'disk' if r.random() < STORED else 'drive'
+            own = key if r.random() < 0.5 else self.some_bytes(20)
+            self.guide.goes('%s d%d %s %d' % (word, n, own.hex(), capacity))
         if r.random() < 0.15:
             self.guide.goes('format s 2')
         for n in range(r.randint(2, 4)):
@@ -233,6 +240,18 @@ class Weather:
         if fallen:
             self.guide.goes('declare d%d' % self.pick(fallen))
 
+    def crash(self) -> None:
+        """The server or a stored drive goes down."""
+        crashing = self.guide.crashing()
+        if crashing:
+            self.guide.goes('crash %s' % (crashing[0] if self.random.random() < 0.5 else self.random.choice(crashing)))
+
+    def reopen(self) -> None:
+        """One of those that are down is opened."""
+        down = self.guide.down()
+        if down:
+            self.guide.goes('reopen %s' % self.random.choice(down))
+
     def client(self) -> None:
         """A further client."""
         number = len(self.guide.clients)
@@ -262,6 +281,9 @@ class Weather:
     def ending(self) -> None:
         """All is delivered, failed drives are declared, and a living client reads each file."""
         guide = self.guide
+        for party in guide.down():
+            if self.random.random() < 0.9:
+                guide.goes('reopen %s' % party)
         if self.random.random() < 0.8:
             guide.goes('settle')
         for drive in guide.fallen():
@@ -286,6 +308,8 @@ class Weather:
             act()
             if self.guide.fallen() and self.random.random() < DECLARED:
                 self.declare()
+            if self.guide.down() and self.random.random() < OPENED:
+                self.reopen()
             events -= len(self.guide.scenario) == before
         self.ending()
         return self.guide.scenario
@@ -293,8 +317,16 @@ class Weather:
     def refused_event(self) -> Tuple[str, str]:
         """An event that the world refuses, and the word for why."""
         guide, r = self.guide, self.random
-        choices = ['client c15', 'deliver %d' % len(guide.messages), 'crash s', 'drive d0 %s 1' % ('0b' * 20),
-                   'revoke f62', 'do c14 read f0 0 1', 'stop c14', 'fail d63', 'declare d62', 'clock d61 1', 'zone d0 1']
+        choices = ['client c15', 'deliver %d' % len(guide.messages), 'drive d0 %s 1' % ('0b' * 20), 'revoke f62',
+                   'do c14 read f0 0 1', 'stop c14', 'fail d63', 'declare d62', 'clock d61 1', 'zone d0 1', 'crash d60',
+                   'disk d0 %s 1' % ('0b' * 20)]
+        choices += ['reopen %s' % party for party in guide.crashing()]
+        choices += ['crash d%d' % n for n, drive in guide.drives.items() if not drive.stored]
+        for party in guide.down():
+            choices += ['crash %s' % party] + (['inject %s -' % party, 'least %s 2' % party] if party != 's' else [])
+        if guide.server.down:
+            choices += ['clock s 1', 'resend s', 'format s 1', 'file f61 1 4 0 0 0 1 1', 'drive d59 %s 1' % ('0b' * 20)]
+            choices += ['recall f%d' % n for n in guide.server.files]
         choices += ['declare d%d' % n for n in guide.standing()[:1]]
         choices += ['leave c%d' % n for n, client in guide.clients.items() if client.stopped]
         choices += ['fail d%d' % n for n, drive in guide.drives.items() if drive.failed]

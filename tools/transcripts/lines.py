@@ -21,7 +21,7 @@ EVENTS: Dict[str, str] = {
     'deliver': 'u64', 'drop': 'u64', 'settle': '', 'inject': 'D hex', 'recall': 'F', 'revoke': 'F', 'rebuild': 'F',
     'audit': 'F', 'declare': 'D', 'stop': 'C', 'fail': 'D', 'disk': 'D key u64', 'zone': 'D u32', 'zfile': FILE_PLACES,
     'clock': 'machine u64', 'format': 'server format', 'resend': 'sender', 'crash': 'machine', 'reopen': 'machine'}
-LATER = ('disk', 'zone', 'zfile', 'crash', 'reopen')
+LATER = ('zone', 'zfile')
 
 
 class Event(NamedTuple):
@@ -265,7 +265,7 @@ def read_last(at: int, words: List[str]) -> Last:
 
 
 STOPS = ('UnknownWord', 'BadName', 'BadNumber', 'BadHex', 'Missing', 'Extra', 'NotYet', 'NoName', 'Taken', 'Dead',
-         'Alive', 'NoMessage', 'read', 'memory', 'full input', 'full line', 'full kept')
+         'Alive', 'NotKept', 'Down', 'Running', 'NoMessage', 'read', 'memory', 'full input', 'full line', 'full kept')
 
 
 def read_error(at: int, words: List[str]) -> Error:

@@ -8,13 +8,13 @@ use Rattle.scenario_text.specs.declared.names.TheConstants.{CLIENTS}
 use Rattle.scenario_text.specs.declared.line.Line.{Line}
 use Rattle.server_rules.specs.declared.limits.TheConstants.{MAX_CLIENT}
 use Rattle.server_rules.specs.Making.{new_server}
-use Rattle.world_history.specs.ServerNames.{Server, Outgoing, Answers}
+use Rattle.world_history.specs.ServerNames.{Server, Answer, Outgoing, ToDrive, Recalls, Answers, AnswersOrder}
 use Rattle.world_history.specs.Handed.{Post, is_addressed, server_post}
 use Rattle.world_history.specs.Sending.{sent_line, sent_lines}
 use Rattle.world_history.specs.Calm.{is_told_taken, is_taken_out, sent_taken}
 use Rattle.history_law.specs.Parties.{AllPartiesRun}
 use Rattle.calm_law.specs.Told.{posts_of, LossesAreTold}
-use Rattle.calm_law.proofs.Answering.{SlotsPlain, OutPlain, SendsPlain, step_plain, runs_plain}
+use Rattle.calm_law.proofs.Answering.{IsPlain, SlotsPlain, SendsPlain, step_plain, runs_plain}
 use Rattle.calm_law.proofs.Trimming.{taken_read}
 
 -- ---- lines of messages
@@ -36,22 +36,30 @@ is_named_too : (c : ℕ) → nat_le c MAX_CLIENT ≡ true → nat_lt c CLIENTS �
 is_named_too c e = grind (arith, e, nat_tests)
 
 -- an answer that takes a loss is addressed, and its line says so
-here : (o : Outgoing) (ps : List Post) (number : ℕ) → OutPlain o → is_taken_out o ≡ true
-    → is_told_taken (sent_lines number (if is_addressed (server_post o) then server_post o ∷ ps else ps)) ≡ true
+here : (a : Answer) (ps : List Post) (number : ℕ) → IsPlain a → is_taken_out (Answers a) ≡ true
+    → is_told_taken (sent_lines number (if is_addressed (server_post (Answers a)) then server_post (Answers a) ∷ ps
+    else ps)) ≡ true
 unfolding sent_lines
-here (Answers a) ps number plain e =
-    rw (is_named_too a.client plain.named) (rw (taken_read a plain e) refl)
-here o ps number plain e = absurd (cc e)
+here a ps number plain e = rw (is_named_too a.client plain.named) (rw (taken_read a plain e) refl)
 
 lines_taken : (os : List Outgoing) (number : ℕ) → SendsPlain os → list_any is_taken_out os ≡ true
     → is_told_taken (sent_lines number (filter is_addressed (map server_post os))) ≡ true
 lines_taken [] number h e = absurd (cc e)
-lines_taken (o ∷ os) number h e = elim (cases_Bool (is_taken_out o)) [
-  | inl t ↦ here o (filter is_addressed (map server_post os)) number h.0 t
+lines_taken (Answers a ∷ os) number h e = elim (cases_Bool (is_taken_out (Answers a))) [
+  | inl t ↦ here a (filter is_addressed (map server_post os)) number h.0 t
   | inr f ↦
-      later (is_addressed (server_post o)) (server_post o) (filter is_addressed (map server_post os)) number
-      (λ n. lines_taken os n h.1 (rw f at e))
+      later (is_addressed (server_post (Answers a))) (server_post (Answers a)) (filter is_addressed (map server_post os))
+      number (λ n. lines_taken os n h.1 (rw f at e))
 ]
+lines_taken (ToDrive d c ∷ os) number h e =
+    later (is_addressed (server_post (ToDrive d c))) (server_post (ToDrive d c)) (filter is_addressed (map server_post os))
+    number (λ n. lines_taken os n h e)
+lines_taken (Recalls r ∷ os) number h e =
+    later (is_addressed (server_post (Recalls r))) (server_post (Recalls r)) (filter is_addressed (map server_post os))
+    number (λ n. lines_taken os n h e)
+lines_taken (AnswersOrder a ∷ os) number h e =
+    later (is_addressed (server_post (AnswersOrder a))) (server_post (AnswersOrder a))
+    (filter is_addressed (map server_post os)) number (λ n. lines_taken os n h e)
 
 behind_notes : (told lines : List Line) → is_told_taken lines ≡ true → is_told_taken (told ++ lines) ≡ true
 behind_notes told lines e = list_any-append sent_taken told lines ∙ rw e (or_true (list_any sent_taken told))

@@ -23,7 +23,9 @@ use Rattle.history_law.specs.Granted.{NumbersFit}
 use Rattle.history_law.proofs.IssueTelling.{asked_client}
 use Rattle.history_law.proofs.Running.{server_more}
 use Rattle.exchange_law.specs.Made.{answer_at, answer_to}
-use Rattle.exchange_law.proofs.SlotServing.{ServerDid, Quiet, Asked, step_did, Comes, request_comes}
+use Rattle.move_law.specs.Answers.{ServerDid, Quiet, Asked}
+use Rattle.move_law.proofs.Answers.{step_did}
+use Rattle.exchange_law.proofs.SlotServing.{Comes, request_comes}
 use Rattle.exchange_law.specs.Meeting.{IsFitting}
 use Rattle.exchange_law.proofs.HeldAsking.{NoGetAsked, none_told, found_last}
 use Rattle.exchange_law.proofs.HeldServing.{serves_may}
@@ -264,7 +266,7 @@ module _ (acts : List Act) (s : Server) (is : s ≡ state_after (new_server []) 
 
   did_slots : ServerDid s chosen i (step s chosen i) → SlotsGiven more (step s chosen i).state
   did_slots (Quiet x) = same_slots (step s chosen i).state x.slots
-  did_slots (Asked now q e named done) = asked_slots now q done
+  did_slots (Asked now q is done) = asked_slots now q done
 
   pub step_slots : SlotsGiven more (step s chosen i).state
   step_slots = did_slots (step_did s chosen i)

@@ -1,12 +1,9 @@
 -- Each step of the server leaves what fits, goes to those whom a line can name, and raises no number by more than it
 -- sends messages.
 use Rattle.std.specs.List.{AllByRecursion}
-use Rattle.std.proofs.Common.{◌≡◌, ◌&&◌, ◌==◌, ℕ, suc, ◌+◌, ◌≤◌, ◌<◌, ◌++◌, Bool, true, false, List, [], ◌∷◌, Option, Some, None, find, filter, map, length, nat_lt, nat_le, refl, sym, ap, subst, ◌∙◌, append_assoc, arith, if◌then◌else◌}
+use Rattle.std.proofs.Common.{◌≡◌, ◌==◌, ℕ, suc, ◌+◌, ◌≤◌, ◌<◌, ◌++◌, Bool, true, false, List, [], ◌∷◌, Option, Some, None, find, filter, map, length, nat_lt, refl, sym, ap, subst, ◌∙◌, append_assoc, arith, if◌then◌else◌}
 use Rattle.std.proofs.lemmas.Bool.Decides.{nat_tests}
 use Rattle.std.proofs.lemmas.List.{append-nil, length-append, length-map}
-use Rattle.std.proofs.lemmas.Bool.{and_parts}
-use Rattle.osd_lists.specs.declared.node.Node.{Node}
-use Rattle.osd_lists.specs.declared.node.Node.TheVariants as node
 use Rattle.data_map.specs.declared.check.RawMap.{RawMap}
 use Rattle.data_map.specs.Check.{HasAlgorithm}
 use Rattle.osd_capability.specs.Layout.{is_format}
@@ -14,27 +11,27 @@ use Rattle.scenario_text.specs.declared.names.TheConstants.{DRIVES, FILES}
 use Rattle.layout_ops.specs.declared.messages.Answer.{Answer}
 use Rattle.server_rules.specs.declared.limits.TheConstants.{MAX_CLIENT, GREATEST_TAG}
 use Rattle.server_rules.specs.declared.server.Slot.{Slot}
-use Rattle.world_history.specs.ServerNames.{Server, File, Drive, Grant, Awaited, Job, JobKind, Revoking, Rebuilding, Auditing, Busy, Spent, Outgoing, ToDrive, Recalls, Answers, AnswersOrder, ClientRequest, Reply, HasStarted, IsSpent, OrderKind, ToRecall, ToRevoke, ToDeclare, ToRebuild, ToAudit, Effects}
+use Rattle.world_history.specs.ServerNames.{Server, File, Drive, Grant, Awaited, JobKind, NoteKind, Outgoing, ToDrive, Recalls, Answers, AnswersOrder, ClientRequest, OrderKind, OrderResult, Effects}
 use Rattle.server_rules.specs.Answers.{recalls_from}
 use Rattle.server_rules.specs.Going.{Going, noting}
 use Rattle.server_rules.specs.Jobs.{fence_begins, declares}
 use Rattle.server_rules.specs.Files.{Step, still, begins, file_at, put_file, add_file, at_file, to_drives, step_at}
-use Rattle.server_rules.specs.Rounds.{Round}
+use Rattle.server_rules.specs.Rounds.{Round, then_files, step_round}
 use Rattle.server_rules.specs.Served.{Served}
-use Rattle.server_rules.specs.Get.{lowest}
 use Rattle.server_rules.specs.Slots.{Admit, New, Again, Misordered, slot_of, admit, admit_after, keep}
-use Rattle.server_rules.specs.Requests.{serves, answer_with, answer_without, carried_out, carries_out, by_admit, on_request}
-use Rattle.server_rules.specs.Messages.{Message, Asks, Replies, Orders, or_else, heard_at, by_heard, on_drive_reply, handled}
-use Rattle.server_rules.specs.Orders.{Ordered, begins_job, starts, recalls_on, offline, declares_each, declares_known, declare, ordered, with_result}
-use Rattle.server_rules.specs.Replies.{on_reply}
-use Rattle.server_rules.specs.History.{Input, Makes, Adds, Formats, Crashes, Opens}
+use Rattle.server_rules.specs.Requests.{serves, answer_with, answer_without, carried_out, on_request}
+use Rattle.server_rules.specs.Orders.{recalls, offline, declares_each, declare}
+use Rattle.server_rules.specs.Replies.{answers, hearing}
+use Rattle.server_rules.specs.History.{Input, Makes, Adds, Formats}
 use Rattle.world_history.specs.Handed.{Post, is_addressed, server_post}
 use Rattle.history_law.specs.Placed.{AreNamed}
 use Rattle.history_law.proofs.Steps.{offline_named}
+use Rattle.move_law.specs.Steps.{Answering, IsAnswering, answered_file, with_answer}
+use Rattle.move_law.proofs.Steps.{each_request}
 use Rattle.exchange_law.specs.Files.{GrantFits, KeptFits}
-use Rattle.exchange_law.proofs.Parts.{each_more, each_as, IsNear, AllNear, JobFits, wider_job}
+use Rattle.exchange_law.proofs.Parts.{each_more, each_as, each_in, IsNear, AllNear, JobFits, wider_job}
 use Rattle.exchange_law.proofs.Running.{wider_kept, Sound, From, here, noted}
-use Rattle.exchange_law.proofs.Mending.{fence_runs, declares_run, HeardRuns, reply_runs}
+use Rattle.exchange_law.proofs.Mending.{fence_runs, declares_run, hears_run, found_near}
 use Rattle.exchange_law.proofs.CountServing.{ServedFits}
 use Rattle.exchange_law.proofs.Returning.{serves_fit, served_fits}
 
@@ -58,8 +55,6 @@ abbrev pub IsGiven : Input → Type 0
 IsGiven (Makes n m tag) = (n < FILES) × (tag ≤ GREATEST_TAG) × HasAlgorithm m
 IsGiven (Adds d) = d.number < DRIVES
 IsGiven (Formats n) = is_format n ≡ true
-IsGiven Crashes = ⊥
-IsGiven Opens = ⊥
 IsGiven i = Unit {0}
 
 -- ---- what it sends
@@ -175,15 +170,20 @@ pub either_step : (s : Server) (b : Bool) (x y : Step) → StepFits s x → Step
 either_step s true x y p q = p
 either_step s false x y p q = q
 
-pub still_fits : (s : Server) → ServerFits s → StepFits s (still s)
-still_fits s k = record {
+-- nothing is sent, and no number rises
+pub quiet_fits : (s t : Server) → ServerFits t → t.next_nonce ≡ s.next_nonce → t.next_object ≡ s.next_object
+    → t.next_recall ≡ s.next_recall → StepFits s (still t)
+quiet_fits s t k nonce object recall = record {
   fits = k;
   named = tt;
-  nonces = omega arith;
-  objects = omega arith;
-  recalls = omega arith;
-  grows = omega arith;
+  nonces = omega (arith, nonce);
+  objects = omega (arith, object);
+  recalls = omega (arith, recall);
+  grows = omega (arith, object);
 }
+
+pub still_fits : (s : Server) → ServerFits s → StepFits s (still s)
+still_fits s k = quiet_fits s s k refl refl refl
 
 pub at_sound : (s : Server) (chosen : List ℕ) (f : File) → ServerFits s → FileFits s.next_object f
     → Sound (at_file s chosen f)
@@ -259,21 +259,6 @@ only_fits s t a k nonce object recall c = record {
   grows = omega (arith, object);
 }
 
-carries_fit : (s : Server) (now : ℕ) (chosen : List ℕ) (q : ClientRequest) (o : Option File) → ServerFits s
-    → q.client ≤ MAX_CLIENT → FoundFile s.next_object o → StepFits s (carries_out s now chosen q o)
-carries_fit s now chosen q None k c f =
-    only_fits s _ (answer_without q) (record {
-      drives = k.drives;
-      format = k.format;
-      files = k.files;
-      slots = kept_slots s.slots _ k.slots c;
-    }) refl refl refl c
-carries_fit s now chosen q (Some f) k c x =
-    out_fits s chosen q f (serves (at_file s chosen f) s.next_grant s.format now q.client q.args) k c
-    (served_fits q.args (at_file s chosen f) _
-    (serves_fit (at_file s chosen f) s.next_grant s.format now q.client q.args k.format c (at_sound s chosen f k x)
-    x.1))
-
 abbrev AdmitFits : Admit → Type 0
 AdmitFits (Again kept) = kept.client ≤ MAX_CLIENT
 AdmitFits a = Unit {0}
@@ -304,86 +289,84 @@ admit_fits None sequence k = after_fits 0 sequence
 admit_fits (Some s) sequence k =
     either_admit (sequence == s.last) (Again s.kept) (admit_after s.last sequence) k (after_fits s.last sequence)
 
-admitted_fits : (s : Server) (now : ℕ) (chosen : List ℕ) (q : ClientRequest) (a : Admit) → ServerFits s
-    → q.client ≤ MAX_CLIENT → AdmitFits a → StepFits s (by_admit s now chosen q a)
-admitted_fits s now chosen q New k c f =
-    carries_fit s now chosen q (file_at s.files q.file) k c (found_file s.next_object s.files q.file k.files)
-admitted_fits s now chosen q (Again kept) k c f = only_fits s s kept k refl refl refl f
-admitted_fits s now chosen q (Misordered expected) k c f = only_fits s s _ k refl refl refl c
-
-request_fits : (s : Server) (now : ℕ) (chosen : List ℕ) (q : ClientRequest) → ServerFits s → q.client ≤ MAX_CLIENT
+pub request_fits : (s : Server) (now : ℕ) (chosen : List ℕ) (q : ClientRequest) → ServerFits s → q.client ≤ MAX_CLIENT
     → StepFits s (on_request s now chosen q)
-unfolding on_request
 request_fits s now chosen q k c =
-    admitted_fits s now chosen q _ k c
-    (admit_fits (slot_of s.slots q.client) q.sequence (found_slot _ s.slots k.slots))
+    each_request s now chosen q (StepFits s) (record {
+      again = λ kept is.
+          only_fits s s kept k refl refl refl
+          (subst AdmitFits is (admit_fits (slot_of s.slots q.client) q.sequence (found_slot _ s.slots k.slots)));
+      misordered = λ expected is. only_fits s s _ k refl refl refl c;
+      without = λ new none.
+          only_fits s _ (answer_without q) (record {
+            drives = k.drives;
+            format = k.format;
+            files = k.files;
+            slots = kept_slots s.slots _ k.slots c;
+          }) refl refl refl c;
+      served = λ new f found.
+          let x : FileFits s.next_object f =
+          subst (FoundFile s.next_object) found (found_file s.next_object s.files q.file k.files) in
+          out_fits s chosen q f (serves (at_file s chosen f) s.next_grant s.format now q.client q.args) k c
+          (served_fits q.args (at_file s chosen f) _
+          (serves_fit (at_file s chosen f) s.next_grant s.format now q.client q.args k.format c (at_sound s chosen f k x)
+          x.1));
+    })
 
 -- ---- a reply
 
-abbrev HeardAt : Server → (chosen : List ℕ) → Option Going → Type 0
-HeardAt s chosen None = Unit {0}
-HeardAt s chosen (Some h) = (f : File) × From (at_file s chosen f) h
-
-first_heard : (s : Server) (chosen : List ℕ) (f : File) (o p : Option Going) → HeardRuns (at_file s chosen f) o
-    → HeardAt s chosen p → HeardAt s chosen (or_else o p)
-first_heard s chosen f None p h l = l
-first_heard s chosen f (Some g) p h l = (f, h)
-
-all_heard : (s : Server) (chosen : List ℕ) (drive : ℕ) (r : Reply) (fs : List File) → ServerFits s
-    → AllByRecursion (FileFits s.next_object) fs → HeardAt s chosen (heard_at s chosen drive r fs)
-unfolding heard_at
-all_heard s chosen drive r [] k l = tt
-all_heard s chosen drive r (f ∷ fs) k l =
-    first_heard s chosen f (on_reply (at_file s chosen f) drive r) _
-    (reply_runs (at_file s chosen f) drive r (at_sound s chosen f k l.0) l.0.1) (all_heard s chosen drive r fs k l.1)
-
-heard_fits : (s : Server) (chosen : List ℕ) (o : Option Going) → ServerFits s → HeardAt s chosen o
-    → StepFits s (by_heard s o)
-heard_fits s chosen None k h = still_fits s k
-heard_fits s chosen (Some g) k h = at_fits s chosen g.file.kept.number h.0 g k h.1
+pub answered_fits : (s : Server) (chosen : List ℕ) (i : Input) (x : Answering) → IsAnswering s i x → ServerFits s
+    → StepFits s (step_at s (answered_file s chosen x).file.kept.number (answered_file s chosen x))
+answered_fits s chosen i x is k =
+    let f : FileFits s.next_object x.file = each_in (FileFits s.next_object) s.files x.file k.files is.there in
+    let j : JobFits s.next_object x.file.kept.tag (Some x.job) =
+    subst (JobFits s.next_object x.file.kept.tag) is.runs f.1 in
+    at_fits s chosen (answered_file s chosen x).file.kept.number x.file (answered_file s chosen x) k
+    (hears_run (at_file s chosen x.file) x.job x.awaited x.reply (hearing x.file.kept x.awaited x.reply)
+    (at_sound s chosen x.file k f) f.1 j
+    (found_near (answers x.drive x.reply) x.job.awaited x.awaited j.1 is.awaits))
 
 -- ---- orders
 
-order_by : (s : Server) (b : Bool) (x y : Ordered) → (b ≡ true → StepFits s x.step) → (b ≡ false → StepFits s y.step)
-    → StepFits s (if b then x else y).step
-order_by s true x y p q = p refl
-order_by s false x y p q = q refl
+module _ (s : Server) (chosen : List ℕ) (f : File) (k : ServerFits s) (x : FileFits s.next_object f) where
+  pub recalled_fits : StepFits s (recalls s f).step
+  recalled_fits = record {
+    fits = record { drives = k.drives; format = k.format; files = k.files; slots = k.slots };
+    named = recalls_out s.next_recall f.kept.number f.kept.map f.kept.grants x.0.grants;
+    nonces = omega arith;
+    objects = omega arith;
+    recalls = omega (arith, length_recalls s.next_recall f.kept.grants);
+    grows = omega arith;
+  }
 
-begun_fits : (s : Server) (chosen : List ℕ) (kind : JobKind) (f : File) (j : Option Job) → ServerFits s
-    → FileFits s.next_object f → StepFits s (begins_job s chosen kind f j).step
-begun_fits s chosen kind f (Some j) k x =
-    let g : Going = noting (at_file s chosen f) (Busy (lowest j.awaited)) in
-    at_fits s chosen f.kept.number f g k (here g (noted (at_file s chosen f) _ (at_sound s chosen f k x)) x.1)
-begun_fits s chosen kind f None k x =
-    let g : Going = noting (at_file s chosen f) Spent in
-    order_by s (f.kept.tag == GREATEST_TAG) (record { step = step_at s f.kept.number g; result = IsSpent }) (record {
-      step = step_at s f.kept.number (fence_begins kind s.format (at_file s chosen f));
-      result = HasStarted;
-    }) (λ is.
-    at_fits s chosen f.kept.number f g k (here g (noted (at_file s chosen f) Spent (at_sound s chosen f k x)) x.1))
-    (λ is.
-    at_fits s chosen f.kept.number f (fence_begins kind s.format (at_file s chosen f)) k
-    (fence_runs kind s.format (at_file s chosen f) k.format (at_sound s chosen f k x)
-    (grind (arith, is, x.0.tag, nat_tests))))
+  pub refused_fits : (n : NoteKind) → StepFits s (step_at s f.kept.number (noting (at_file s chosen f) n))
+  refused_fits n =
+      let g : Going = noting (at_file s chosen f) n in
+      at_fits s chosen f.kept.number f g k (here g (noted (at_file s chosen f) n (at_sound s chosen f k x)) x.1)
 
-started_fits : (s : Server) (chosen : List ℕ) (kind : JobKind) (o : Option File) → ServerFits s
-    → FoundFile s.next_object o → StepFits s (starts s chosen kind o).step
-started_fits s chosen kind None k f = still_fits s k
-started_fits s chosen kind (Some f) k x = begun_fits s chosen kind f f.job k x
+  pub fenced_fits : (kind : JobKind) → (f.kept.tag == GREATEST_TAG) ≡ false
+      → StepFits s (step_at s f.kept.number (fence_begins kind s.format (at_file s chosen f)))
+  fenced_fits kind low =
+      at_fits s chosen f.kept.number f (fence_begins kind s.format (at_file s chosen f)) k
+      (fence_runs kind s.format (at_file s chosen f) k.format (at_sound s chosen f k x)
+      (grind (arith, low, x.0.tag, nat_tests)))
 
-recalled_fits : (s : Server) (o : Option File) → ServerFits s → FoundFile s.next_object o
-    → StepFits s (recalls_on s o).step
-recalled_fits s None k f = still_fits s k
-recalled_fits s (Some f) k x = record {
-  fits = record { drives = k.drives; format = k.format; files = k.files; slots = k.slots };
-  named = recalls_out s.next_recall f.kept.number f.kept.map f.kept.grants x.0.grants;
-  nonces = omega arith;
-  objects = omega arith;
-  recalls = omega (arith, length_recalls s.next_recall f.kept.grants);
-  grows = omega arith;
-}
+-- with the answer to an order
+pub told_fits : (s : Server) (kind : OrderKind) (result : OrderResult) (t : Step) → StepFits s t
+    → StepFits s (with_answer t kind result)
+told_fits s kind result t k =
+    let long : length (t.sends ++ AnswersOrder (record { order = kind; result = result }) ∷ []) ≡ length t.sends + 1 =
+    length-append t.sends _ in
+    record {
+      fits = record { drives = k.fits.drives; format = k.fits.format; files = k.fits.files; slots = k.fits.slots };
+      named = each_more IsNamedOut t.sends _ k.named (tt, tt);
+      nonces = omega (arith, k.nonces, long);
+      objects = omega (arith, k.objects, long);
+      recalls = omega (arith, k.recalls, long);
+      grows = k.grows;
+    }
 
--- ---- a drive is declared
+-- ---- a step through all files
 
 pub record RoundFits (nonce object : ℕ) (sent : List Awaited) (r : Round) : Type 0 where
   pub more : List Awaited
@@ -394,11 +377,9 @@ pub record RoundFits (nonce object : ℕ) (sent : List Awaited) (r : Round) : Ty
   pub near : AllNear more
   pub files : AllByRecursion (FileFits r.effects.object) r.files
 
-each_declared : (drive : ℕ) (ds : List Drive) (fs : List File) (m : Effects) (chosen : List ℕ) → AreNamed ds
-    → AllByRecursion (FileFits m.object) fs
-    → RoundFits m.nonce m.object m.sent (declares_each drive ds fs m chosen)
-unfolding declares_each
-each_declared drive ds [] m chosen named k = record {
+pub no_files_fit : (m : Effects) (chosen : List ℕ)
+    → RoundFits m.nonce m.object m.sent (record { files = []; effects = m; chosen = chosen })
+no_files_fit m chosen = record {
   more = [];
   sent_is = sym (append-nil m.sent);
   rises = omega arith;
@@ -407,36 +388,30 @@ each_declared drive ds [] m chosen named k = record {
   near = tt;
   files = tt;
 }
-each_declared drive ds (f ∷ fs) m chosen named k =
-    let g : Going = record { file = f; effects = m; drives = ds; chosen = chosen } in
-    let h : Going = declares g drive in
-    let a = declares_run g drive (record { kept = k.0.0; drives = named }) k.0.1 in
-    let b = each_declared drive ds fs h.effects h.chosen named (wider_files m.object h.effects.object fs a.objects k.1) in
-    record {
-      more = a.more ++ b.more;
-      sent_is = b.sent_is ∙ ap (λ (ws : List Awaited). ws ++ b.more) a.sent_is ∙ append_assoc m.sent a.more b.more;
-      rises = omega (arith, a.rises, b.rises, length-append a.more b.more);
-      objects = omega (arith, a.objects, b.objects);
-      given = omega (arith, a.given, b.given, length-append a.more b.more);
-      near = each_more IsNear a.more b.more a.near b.near;
-      files = (
-        (
-          wider_kept h.effects.object _ h.file.kept b.objects a.kept,
-          wider_job h.effects.object _ h.file.kept.tag h.file.job b.objects a.job,
-        ),
-        b.files,
-      );
-    }
 
-declared_fits : (s : Server) (chosen : List ℕ) (n : ℕ) (b : Bool) → ServerFits s
-    → StepFits s (declares_known s chosen n b).step
-unfolding declare
-declared_fits s chosen n false k = still_fits s k
-declared_fits s chosen n true k =
-    let ds = offline s.drives n in
-    let named = offline_named s.drives n k.drives in
-    let r = declares_each n ds s.files (begins s) chosen in
-    let x = each_declared n ds s.files (begins s) chosen named k.files in
+-- one file, and then the others
+pub then_fits : (g h : Going) (r : Round) → From g h → RoundFits h.effects.nonce h.effects.object h.effects.sent r
+    → RoundFits g.effects.nonce g.effects.object g.effects.sent (then_files h r)
+then_fits g h r a b = record {
+  more = a.more ++ b.more;
+  sent_is = b.sent_is ∙ ap (λ (ws : List Awaited). ws ++ b.more) a.sent_is ∙ append_assoc g.effects.sent a.more b.more;
+  rises = omega (arith, a.rises, b.rises, length-append a.more b.more);
+  objects = omega (arith, a.objects, b.objects);
+  given = omega (arith, a.given, b.given, length-append a.more b.more);
+  near = each_more IsNear a.more b.more a.near b.near;
+  files = (
+    (
+      wider_kept h.effects.object r.effects.object h.file.kept b.objects a.kept,
+      wider_job h.effects.object r.effects.object h.file.kept.tag h.file.job b.objects a.job,
+    ),
+    b.files,
+  );
+}
+
+-- the step of it, with these drives
+pub round_fits : (s : Server) (ds : List Drive) (r : Round) → ServerFits s → AreNamed ds
+    → RoundFits s.next_nonce s.next_object [] r → StepFits s (step_round (record s { drives = ds }) r)
+round_fits s ds r k named x =
     let long : length (to_drives ds r.effects.sent) ≡ length x.more =
     length_drives ds r.effects.sent ∙ ap (λ (ws : List Awaited). length ws) x.sent_is in
     record {
@@ -448,53 +423,24 @@ declared_fits s chosen n true k =
       grows = x.objects;
     }
 
-pub obeyed_fits : (s : Server) (chosen : List ℕ) (kind : OrderKind) (n : ℕ) → ServerFits s
-    → StepFits s (ordered s chosen kind n).step
-unfolding ordered
-obeyed_fits s chosen ToRecall n k =
-    recalled_fits s (file_at s.files n) k (found_file s.next_object s.files n k.files)
-obeyed_fits s chosen ToRevoke n k =
-    started_fits s chosen Revoking (file_at s.files n) k (found_file s.next_object s.files n k.files)
-obeyed_fits s chosen ToDeclare n k = declared_fits s chosen n _ k
-obeyed_fits s chosen ToRebuild n k =
-    started_fits s chosen Rebuilding (file_at s.files n) k (found_file s.next_object s.files n k.files)
-obeyed_fits s chosen ToAudit n k =
-    started_fits s chosen Auditing (file_at s.files n) k (found_file s.next_object s.files n k.files)
+-- ---- a drive is declared
 
-answered_fits : (s : Server) (kind : OrderKind) (o : Ordered) → StepFits s o.step → StepFits s (with_result kind o)
-answered_fits s kind o k =
-    let long : length (o.step.sends ++ AnswersOrder (record { order = kind; result = o.result }) ∷ [])
-    ≡ length o.step.sends + 1 = length-append o.step.sends _ in
-    record {
-      fits = record {
-        drives = k.fits.drives;
-        format = k.fits.format;
-        files = k.fits.files;
-        slots = k.fits.slots;
-      };
-      named = each_more IsNamedOut o.step.sends _ k.named (tt, tt);
-      nonces = omega (arith, k.nonces, long);
-      objects = omega (arith, k.objects, long);
-      recalls = omega (arith, k.recalls, long);
-      grows = k.grows;
-    }
+each_declared : (drive : ℕ) (ds : List Drive) (fs : List File) (m : Effects) (chosen : List ℕ) → AreNamed ds
+    → AllByRecursion (FileFits m.object) fs
+    → RoundFits m.nonce m.object m.sent (declares_each drive ds fs m chosen)
+unfolding declares_each
+each_declared drive ds [] m chosen named k = no_files_fit m chosen
+each_declared drive ds (f ∷ fs) m chosen named k =
+    let g : Going = record { file = f; effects = m; drives = ds; chosen = chosen } in
+    let h : Going = declares g drive in
+    let a = declares_run g drive (record { kept = k.0.0; drives = named }) k.0.1 in
+    then_fits g h _ a
+    (each_declared drive ds fs h.effects h.chosen named (wider_files m.object h.effects.object fs a.objects k.1))
 
--- ---- a message
-
-asked_fits : (s : Server) (now : ℕ) (chosen : List ℕ) (c : ℕ) (q : ClientRequest) (b : Bool) → ServerFits s
-    → ((q.client == c) && nat_le c MAX_CLIENT) ≡ b → StepFits s (if b then on_request s now chosen q else still s)
-asked_fits s now chosen c q false k is = still_fits s k
-asked_fits s now chosen c q true k is =
-    let both = and_parts (q.client == c) (nat_le c MAX_CLIENT) is in
-    request_fits s now chosen q k (grind (arith, both.0, both.1, nat_tests))
-
-pub message_fits : (s : Server) (now : ℕ) (chosen : List ℕ) (from : Node) (m : Message) → ServerFits s
-    → StepFits s (handled s now chosen from m)
-unfolding on_drive_reply
-message_fits s now chosen (node.Client c) (Asks q) k =
-    asked_fits s now chosen c q ((q.client == c) && nat_le c MAX_CLIENT) k refl
-message_fits s now chosen (node.Drive d) (Replies r) k =
-    heard_fits s chosen (heard_at s chosen d r s.files) k (all_heard s chosen d r s.files k k.files)
-message_fits s now chosen node.Server (Orders o) k =
-    answered_fits s o.order (ordered s chosen o.order o.target) (obeyed_fits s chosen o.order o.target k)
-message_fits s now chosen from m k = still_fits s k
+pub declared_fits : (s : Server) (chosen : List ℕ) (n : ℕ) → ServerFits s → StepFits s (declare s chosen n)
+unfolding declare
+declared_fits s chosen n k =
+    let ds = offline s.drives n in
+    let named = offline_named s.drives n k.drives in
+    round_fits s ds (declares_each n ds s.files (begins s) chosen) k named
+    (each_declared n ds s.files (begins s) chosen named k.files)

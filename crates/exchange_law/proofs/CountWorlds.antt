@@ -1,5 +1,5 @@
 -- At each moment of a history of a scenario's text the server's files fit, and its numbers are counted.
-use Rattle.std.proofs.Common.{◌≡◌, ◌∷◌, ℕ, ◌+◌, ◌≤◌, Bool, true, false, List, Option, Some, None, length, slice_get, refl, sym, ap, subst, ◌∙◌, arith, if◌then◌else◌}
+use Rattle.std.proofs.Common.{◌≡◌, ◌∷◌, ◌&&◌, ℕ, ◌+◌, ◌≤◌, ◌<◌, Bool, true, false, List, Option, Some, None, length, nat_lt, slice_get, refl, sym, ap, subst, ◌∙◌, arith, if◌then◌else◌}
 use Rattle.std.proofs.lemmas.Bool.Decides.{nat_tests}
 use Rattle.osd_lists.specs.declared.node.Node.{Node}
 use Rattle.osd_lists.specs.declared.node.Node.TheVariants as node
@@ -10,10 +10,11 @@ use Rattle.scenario_text.specs.declared.event.Event.TheVariants as event
 use Rattle.scenario_text.specs.declared.event.Machine.TheVariants as machine
 use Rattle.scenario_text.specs.declared.line.Line.{Line}
 use Rattle.scenario_text.specs.declared.line.Line.TheVariants as line
-use Rattle.server_rules.specs.declared.limits.TheConstants.{FIRST_OBJECT}
-use Rattle.server_rules.specs.Messages.{Message as ServerMessage}
+use Rattle.server_rules.specs.declared.limits.TheConstants.{FIRST_OBJECT, COUNTERS_END}
+use Rattle.server_rules.specs.Messages.{Message as ServerMessage, counters_have_room}
 use Rattle.server_rules.specs.History.{Input, step}
 use Rattle.world_history.specs.ServerNames.{Server, File}
+use Rattle.world_history.specs.declared.limits.TheConstants.{MAX_KEPT}
 use Rattle.world_history.specs.declared.messages.Message.{Message}
 use Rattle.world_history.specs.declared.messages.Posted.{Posted}
 use Rattle.world_history.specs.State.{World, empty_world}
@@ -27,14 +28,15 @@ use Rattle.world_history.proofs.ReadMessages.{never_opens}
 use Rattle.history_law.specs.Counters.{GrantsAreCounted}
 use Rattle.history_law.specs.Doing.{heard_of, brought_to, brought, input_in}
 use Rattle.history_law.proofs.Doing.{acts_serve}
+use Rattle.history_law.proofs.DriveEvents.{IsRead, kept}
 use Rattle.exchange_law.specs.Text.{AreOfText}
-use Rattle.exchange_law.specs.Counters.{ServerIsCounted}
+use Rattle.exchange_law.specs.Counters.{ServerCounts, ServerIsCounted, CountersStayLow}
 use Rattle.exchange_law.specs.Files.{KeptFits, AllFilesFit}
 use Rattle.exchange_law.proofs.Parts.{each_as}
 use Rattle.exchange_law.proofs.CountStepping.{FileFits, ServerFits, IsGiven, all_counted}
 use Rattle.exchange_law.proofs.Making.{step_fits}
 use Rattle.exchange_law.proofs.ClientMoves.{longer_by}
-use Rattle.exchange_law.proofs.CountGrowing.{text_front, text_behind}
+use Rattle.exchange_law.proofs.CountGrowing.{as_many, text_front, text_behind}
 use Rattle.exchange_law.proofs.CountMoments.{at_moment, reached}
 
 -- ---- what comes to the server
@@ -166,6 +168,27 @@ server_is_counted grants w h m text =
       recalls = k.recalls;
       objects = k.objects;
     }
+
+-- few messages leave the counters room
+pub few_have_room : (s : Server) (sent : ℕ) → ServerCounts s sent → sent ≤ MAX_KEPT → counters_have_room s ≡ true
+unfolding counters_have_room
+few_have_room s sent c few =
+    all_less (nat_lt s.next_nonce COUNTERS_END) (nat_lt s.next_object COUNTERS_END) (nat_lt s.next_recall COUNTERS_END)
+    (less s.next_nonce (omega (arith, c.nonces, few))) (less s.next_object (omega (arith, c.objects, few)))
+    (less s.next_recall (omega (arith, c.recalls, few)))
+  where
+    less : (n : ℕ) → n < COUNTERS_END → nat_lt n COUNTERS_END ≡ true
+    less n l = grind (arith, l, nat_tests)
+
+    all_less : (a b c : Bool) → a ≡ true → b ≡ true → c ≡ true → (a && (b && c)) ≡ true
+    all_less true true c x y z = z
+    all_less true false c x y z = absurd (cc y)
+    all_less false b c x y z = absurd (cc x)
+
+pub counters_stay_low : ServerIsCounted → CountersStayLow
+counters_stay_low counted w h m text few =
+    few_have_room w.server (length w.network.messages) (counted w h m text)
+    (omega (arith, as_many w h (at_moment IsRead kept w h m), few))
 
 pub all_files_fit : AllFilesFit
 all_files_fit w h m text =

@@ -37,7 +37,8 @@ use Rattle.move_law.proofs.Goes.{moves_are_steps}
 use Rattle.exchange_law.proofs.SlotMoments.{comes_new, always}
 use Rattle.exchange_law.proofs.SlotLists.{each_at, said_more, addressed_each, client_asks, client_answers_none}
 use Rattle.exchange_law.proofs.SlotStepping.{step_asks}
-use Rattle.exchange_law.proofs.SlotServing.{ServerDid, Quiet, Asked, step_did}
+use Rattle.move_law.specs.Answers.{ServerDid, Quiet, Asked}
+use Rattle.move_law.proofs.Answers.{step_did}
 use Rattle.exchange_law.proofs.Standing.{Parts, stays}
 use Rattle.exchange_law.proofs.SlotAnswered.{sent_by, quiet_keeps, IsReadOf, read_of, own_request, other_request}
 use Rattle.exchange_law.proofs.SlotKeeping.{InStep, own_step}
@@ -263,9 +264,9 @@ module _ (kept : SlotsAreKept) (w : World) (h : List Line) (k : IsMoment w h) (m
       by_did (Quiet q) =
           quiet_keeps ms h ls w.server (server_step w.server m.chosen g.input) c
           (state_of c (at_number w.clients c)) (p c) q
-      by_did (Asked now q is named does) =
-          asked_kept now q (server_step w.server m.chosen g.input) named (subst (IsHeardByServer w) is g.heard) does
-          g.server c
+      by_did (Asked now q is does) =
+          asked_kept now q (server_step w.server m.chosen g.input) is.named (subst (IsHeardByServer w) is.is g.heard)
+          does g.server c
 
   by_goes : Goes w m.chosen m.action a → (c : ℕ) → Goal c
   by_goes (Others g) c = others g c

@@ -20,12 +20,12 @@ use Rattle.world_history.specs.Reading.{sent_in}
 use Rattle.world_history.specs.History.{Lawful, FrontsAreLawful}
 use Rattle.history_law.specs.Granted.{IsGrantOf, NumbersFit}
 use Rattle.history_law.specs.Listed.{Lists, WasGiven}
-use Rattle.history_law.specs.Issued.{IsIssued, HasSource, IssuedAt, CommandsAreIssued}
+use Rattle.history_law.specs.Issued.{IsIssued, HasSource, IsFrom, IssuedAt, CommandsAreIssued}
 use Rattle.history_law.specs.Unforged.{IsListed, InjectedAt, UnforgedAreIssued}
 use Rattle.history_law.proofs.Exact.{same_ok}
 use Rattle.exchange_law.specs.Text.{AreOfText, AreFew}
 use Rattle.exchange_law.specs.Fitting.{ResultsGive, GivesFit, SpellsFit, FitsBetween, AllFit, MessagesFit}
-use Rattle.exchange_law.specs.Exact.{IsIssuedExactly, HasExactSource, IssuedExactlyAt, CommandsAreIssuedExactly, IsListedExactly, InjectedExactlyAt, UnforgedAreIssuedExactly}
+use Rattle.exchange_law.specs.Exact.{IsIssuedExactly, HasExactSource, IsExactlyFrom, IssuedExactlyAt, CommandsAreIssuedExactly, IsListedExactly, InjectedExactlyAt, UnforgedAreIssuedExactly}
 use Rattle.exchange_law.proofs.CountGrowing.{fewer, text_front}
 
 -- what is given in a message that fits
@@ -74,9 +74,15 @@ sourced : (before : List Line) (drive : ℕ) (bytes : List ℕ) → AllFit (sent
 sourced before drive bytes all (inl s) = inl s
 sourced before drive bytes all (inr (client, i)) = inr (client, exactly before client drive bytes all i)
 
+exactly_from : (before : List Line) (from : Party) (drive : ℕ) (bytes : List ℕ) → AllFit (sent_in before)
+    → IsFrom before from drive bytes → IsExactlyFrom before from drive bytes
+exactly_from before party.Server drive bytes all s = s
+exactly_from before (party.Client client) drive bytes all i = exactly before client drive bytes all i
+exactly_from before (party.Drive d) drive bytes all none = absurd none
+
 at_line : (before : List Line) (l : Line) → AllFit (sent_in before) → IssuedAt before l → IssuedExactlyAt before l
 at_line before (line.Delivered n (Judged Perform)) all i =
-    λ m drive found to. sourced before drive m.bytes all (i m drive found to)
+    λ m drive found to. exactly_from before m.from drive m.bytes all (i m drive found to)
 at_line before (line.Judged drive Perform) all i = λ clean. sourced before drive _ all (i clean)
 at_line before l all i = tt
 

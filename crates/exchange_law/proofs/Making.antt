@@ -1,6 +1,6 @@
 -- A file that is made fits, and so does what any step of the server leaves.
 use Rattle.std.specs.List.{AllByRecursion}
-use Rattle.std.proofs.Common.{◌≡◌, ◌&&◌, ◌==◌, ℕ, zero, suc, ◌+◌, ◌≤◌, ◌<◌, ◌++◌, Bool, true, false, List, [], ◌∷◌, Option, Some, None, Result, Ok, Err, is_some, flat_map, map, take, length, nat_lt, refl, ap, ◌∙◌, arith, if◌then◌else◌}
+use Rattle.std.proofs.Common.{◌≡◌, ◌==◌, ℕ, zero, suc, ◌+◌, ◌≤◌, ◌<◌, ◌++◌, Bool, true, false, List, [], ◌∷◌, Option, Some, None, Result, Ok, Err, is_some, flat_map, map, take, length, nat_lt, refl, ap, subst, ◌∙◌, arith, if◌then◌else◌}
 use Rattle.std.proofs.lemmas.Bool.Decides.{nat_tests}
 use Rattle.data_map.specs.declared.check.RawMap.{RawMap}
 use Rattle.data_map.specs.declared.check.MapErr.{MapErr}
@@ -9,22 +9,28 @@ use Rattle.data_map.specs.Check.{HasAlgorithm, bad_unit, checked, IsChecked}
 use Rattle.data_map.proofs.Checks.{checked_is_checked}
 use Rattle.scenario_text.specs.declared.names.TheConstants.{FILES}
 use Rattle.server_rules.specs.declared.limits.TheConstants.{MAX_FILE_COMPONENTS, GREATEST_TAG}
-use Rattle.world_history.specs.ServerNames.{Server, Kept, File, Drive, Awaited, Job, JobKind, Work, Making, Creates, Refusal}
+use Rattle.osd_capability.specs.Layout.{is_format}
+use Rattle.world_history.specs.ServerNames.{Server, Kept, File, Drive, Awaited, Effects, Job, JobKind, Revoking, Work, Making, Creates, Refusal}
 use Rattle.server_rules.specs.Commands.{Creating, All, is_meant, to_each, to_all}
 use Rattle.server_rules.specs.Going.{Going, rests_or}
-use Rattle.server_rules.specs.Jobs.{is_made, making}
-use Rattle.server_rules.specs.Files.{file_at, at_file, to_drives}
-use Rattle.server_rules.specs.Messages.{counters_have_room, on_message, awaited_by}
-use Rattle.server_rules.specs.Making.{checked_64, online, by_check, refusal, are_of, places, components_on, unmade, with_file, makes_file, unless_refused, create_file}
-use Rattle.server_rules.specs.History.{Input, Hears, Makes, Obeys, Adds, Formats, Resends, Crashes, Opens, unless_made, step}
+use Rattle.server_rules.specs.Jobs.{is_made, making, fence_begins}
+use Rattle.server_rules.specs.Files.{still, begins, file_at, at_file, to_drives}
+use Rattle.server_rules.specs.Openings.{crashed_file, is_unsettled, opens_made, opens_spent, opens_fenced, opens, opens_each, crash}
+use Rattle.server_rules.specs.Messages.{awaited_by}
+use Rattle.server_rules.specs.Making.{checked_64, online, by_check, refusal, places, components_on, unmade, with_file, makes_file, set_format}
+use Rattle.server_rules.specs.History.{Input, Makes, Adds, Formats, step}
 use Rattle.server_rules.proofs.Components.{length_components, length_placed}
+use Rattle.move_law.specs.Steps.{IsOrdered, with_added, new_file, StepCases}
+use Rattle.move_law.proofs.Steps.{each_step}
+use Rattle.history_law.specs.Placed.{AreNamed}
 use Rattle.history_law.proofs.Placing.{greater_format}
 use Rattle.history_law.proofs.Made.{AllNamed, places_named}
 use Rattle.history_law.proofs.Inputs.{added_named}
 use Rattle.exchange_law.specs.Files.{KeptFits}
 use Rattle.exchange_law.proofs.Parts.{each_more, PartsFit, AllNear, JobFits}
-use Rattle.exchange_law.proofs.Mending.{making_runs}
-use Rattle.exchange_law.proofs.CountStepping.{FileFits, ServerFits, IsGiven, IsNamedOut, AreNamedOut, drives_out, length_drives, sent_near, wider_files, put_fits, add_fits, StepFits, either_step, still_fits, message_fits, obeyed_fits}
+use Rattle.exchange_law.proofs.Running.{Sound, From, here, over_runs}
+use Rattle.exchange_law.proofs.Mending.{fence_runs, making_runs}
+use Rattle.exchange_law.proofs.CountStepping.{FileFits, ServerFits, IsGiven, IsNamedOut, AreNamedOut, drives_out, length_drives, sent_near, wider_files, put_fits, add_fits, FoundFile, found_file, StepFits, quiet_fits, still_fits, RoundFits, no_files_fit, then_fits, round_fits, request_fits, answered_fits, recalled_fits, refused_fits, fenced_fits, told_fits, declared_fits}
 
 -- ---- the map that a file is made with
 
@@ -117,7 +123,7 @@ module _ (s : Server) (number : ℕ) (m : RawMap) (tag : ℕ) (chosen : List ℕ
   made_sent =
       sent_or (to_all new.kept All Creating s.next_nonce) start Making Creates (is_made start) refl refl
 
-  made_file_fits : IsGood m → StepFits s (makes_file s new)
+  pub made_file_fits : IsGood m → StepFits s (makes_file s new)
   made_file_fits good =
       let kept = made_kept good in
       let r = making_runs start (record { kept = kept; drives = k.drives }) in
@@ -153,15 +159,6 @@ module _ (s : Server) (number : ℕ) (m : RawMap) (tag : ℕ) (chosen : List ℕ
         grows = rises;
       }
 
-  made_or_not : (o : Option Refusal) → (o ≡ None → IsGood m)
-      → StepFits s (unless_made s (unless_refused o (makes_file s new)))
-  made_or_not None good = made_file_fits (good refl)
-  made_or_not (Some e) good = still_fits s k
-
-  pub makes_fit : StepFits s (unless_made s (create_file s number m tag chosen))
-  unfolding create_file
-  makes_fit = made_or_not (refusal s number m) (good_map s number m given.2)
-
 -- ---- what jobs wait for, again
 
 awaited_near : (n tag : ℕ) (f : File) → JobFits n tag f.job → AllNear (awaited_by f.job)
@@ -178,47 +175,105 @@ resent_out ds n (f ∷ fs) k =
     each_more IsNamedOut (to_drives ds (awaited_by f.job)) _
     (drives_out ds (awaited_by f.job) (awaited_near n f.kept.tag f k.0.1)) (resent_out ds n fs k.1)
 
+-- ---- a crash, and an opening
+
+crashed_fit : (n : ℕ) (fs : List File) → AllByRecursion (FileFits n) fs
+    → AllByRecursion (FileFits n) (map crashed_file fs)
+crashed_fit n [] k = tt
+crashed_fit n (f ∷ fs) k = ((k.0.0, tt), crashed_fit n fs k.1)
+
+opens_run : (format : ℕ) (g : Going) → is_format format ≡ true → Sound g
+    → JobFits g.effects.object g.file.kept.tag g.file.job → From g (opens format g)
+unfolding opens opens_fenced
+opens_run format g known s j = either (is_unsettled g.file.kept) (g.file.kept.tag == GREATEST_TAG) refl
+  where
+    made : (ready : Bool) → From g (opens_made g ready)
+    made true = over_runs g s
+    made false = making_runs g s
+
+    either : (b spent : Bool) → (g.file.kept.tag == GREATEST_TAG) ≡ spent
+        → From g (if b then (if spent then opens_spent g else fence_begins Revoking format g)
+        else opens_made g g.file.kept.ready)
+    either true true is = here (opens_spent g) (record { kept = s.kept; drives = s.drives }) j
+    either true false is = fence_runs Revoking format g known s (grind (arith, is, s.kept.tag, nat_tests))
+    either false spent is = made g.file.kept.ready
+
+-- each file sends one command for a component at most, and a number goes with each
+each_opened : (format : ℕ) (ds : List Drive) (fs : List File) (m : Effects) → is_format format ≡ true → AreNamed ds
+    → AllByRecursion (FileFits m.object) fs → RoundFits m.nonce m.object m.sent (opens_each format ds fs m)
+unfolding opens_each
+each_opened format ds [] m known named k = no_files_fit m []
+each_opened format ds (f ∷ fs) m known named k =
+    let g : Going = record { file = f; effects = m; drives = ds; chosen = [] } in
+    let h : Going = opens format g in
+    let a = opens_run format g known (record { kept = k.0.0; drives = named }) k.0.1 in
+    then_fits g h _ a
+    (each_opened format ds fs h.effects known named (wider_files m.object h.effects.object fs a.objects k.1))
+
 -- ---- any step
 
-pub step_fits : (s : Server) (chosen : List ℕ) (i : Input) → ServerFits s → IsGiven i → StepFits s (step s chosen i)
-unfolding on_message
-step_fits s chosen (Hears now from m) k g =
-    either_step s (counters_have_room s) _ _ (message_fits s now chosen from m k) (still_fits s k)
-step_fits s chosen (Makes n m tag) k g = makes_fit s n m tag chosen k g
-step_fits s chosen (Obeys kind n) k g = obeyed_fits s chosen kind n k
-step_fits s chosen (Adds d) k g = record {
-  fits = record {
-    drives = added_named s.drives d k.drives g;
-    format = k.format;
-    files = k.files;
-    slots = k.slots;
-  };
-  named = tt;
-  nonces = omega arith;
-  objects = omega arith;
-  recalls = omega arith;
-  grows = omega arith;
-}
-step_fits s chosen (Formats n) k g = record {
-  fits = record {
-    drives = k.drives;
-    format = greater_format s.format n k.format g;
-    files = k.files;
-    slots = k.slots;
-  };
-  named = tt;
-  nonces = omega arith;
-  objects = omega arith;
-  recalls = omega arith;
-  grows = omega arith;
-}
-step_fits s chosen Resends k g = record {
-  fits = k;
-  named = resent_out s.drives s.next_object s.files k.files;
-  nonces = omega arith;
-  objects = omega arith;
-  recalls = omega arith;
-  grows = omega arith;
-}
-step_fits s chosen Crashes k g = absurd g
-step_fits s chosen Opens k g = absurd g
+module _ (s : Server) (chosen : List ℕ) (i : Input) (k : ServerFits s) (g : IsGiven i) where
+  pub ordered_fits : (f : File) → IsOrdered s i f → FileFits s.next_object f
+  ordered_fits f is = subst (FoundFile s.next_object) is.found (found_file s.next_object s.files is.target k.files)
+
+  made_fits : (n : ℕ) (m : RawMap) (tag : ℕ) → i ≡ Makes n m tag → refusal s n m ≡ None
+      → StepFits s (makes_file s (new_file s chosen n m tag))
+  made_fits n m tag is none =
+      let given : IsGiven (Makes n m tag) = subst IsGiven is g in
+      made_file_fits s n m tag chosen k given (good_map s n m given.2 none)
+
+  added_fits : (d : Drive) → i ≡ Adds d → StepFits s (still (with_added s d))
+  added_fits d is =
+      let given : IsGiven (Adds d) = subst IsGiven is g in
+      quiet_fits s (with_added s d) (record {
+        drives = added_named s.drives d k.drives given;
+        format = k.format;
+        files = k.files;
+        slots = k.slots;
+      }) refl refl refl
+
+  format_fits : (n : ℕ) → i ≡ Formats n → StepFits s (still (set_format s n))
+  format_fits n is =
+      let given : IsGiven (Formats n) = subst IsGiven is g in
+      quiet_fits s (set_format s n) (record {
+        drives = k.drives;
+        format = greater_format s.format n k.format given;
+        files = k.files;
+        slots = k.slots;
+      }) refl refl refl
+
+  pub step_cases : StepCases s chosen i (StepFits s)
+  step_cases = record {
+    rests = still_fits s k;
+    asked = λ now q is. request_fits s now chosen q k is.named;
+    answered = λ x is. answered_fits s chosen i x is k;
+    recalled = λ f is. recalled_fits s chosen f k (ordered_fits f is);
+    refused = λ f is n why. refused_fits s chosen f k (ordered_fits f is) n;
+    fenced = λ f is kind none low. fenced_fits s chosen f k (ordered_fits f is) kind low;
+    declared = λ d known. declared_fits s chosen d k;
+    told = λ t now o is result fits. told_fits s o.order result t fits;
+    made = made_fits;
+    added = added_fits;
+    formats = format_fits;
+    resends = λ is. record {
+      fits = k;
+      named = resent_out s.drives s.next_object s.files k.files;
+      nonces = omega arith;
+      objects = omega arith;
+      recalls = omega arith;
+      grows = omega arith;
+    };
+    crashes = λ is.
+        quiet_fits s (crash s) (record {
+          drives = k.drives;
+          format = k.format;
+          files = crashed_fit s.next_object s.files k.files;
+          slots = k.slots;
+        }) refl refl refl;
+    opened = λ is low.
+        round_fits s s.drives (opens_each s.format s.drives s.files (begins s)) k k.drives
+        (each_opened s.format s.drives s.files (begins s) k.format k.drives k.files);
+  }
+
+  pub step_fits : StepFits s (step s chosen i)
+  step_fits = each_step s chosen i (StepFits s) step_cases

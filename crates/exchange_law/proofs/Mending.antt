@@ -1,5 +1,5 @@
 -- Repairs, fences and what comes behind them leave a file that fits.
-use Rattle.std.proofs.Common.{◌≡◌, ◌||◌, ◌==◌, ℕ, ◌+◌, ◌≤◌, ◌<◌, Bool, true, false, List, [], ◌∷◌, Option, Some, None, length, map, find, refl, sym, arith, if◌then◌else◌}
+use Rattle.std.proofs.Common.{◌≡◌, ◌||◌, ◌==◌, ℕ, ◌+◌, ◌≤◌, ◌<◌, Bool, true, false, List, [], ◌∷◌, Option, Some, None, length, map, find, refl, sym, subst, arith, if◌then◌else◌}
 use Rattle.std.proofs.lemmas.List.{append-nil}
 use Rattle.osd_capability.specs.Layout.{is_format}
 use Rattle.world_history.specs.ServerNames.{Kept, Awaited, Piece, Heard, Target, Job, JobKind, Making, Revoking, Rebuilding, Auditing, Work, Creates, Fences, Fetches, Stores, Targets, Gathers, Fills, Lengths, Checks, Repairing, NoSpace, Reply}
@@ -9,7 +9,7 @@ use Rattle.server_rules.specs.Commands.{again_in_2}
 use Rattle.server_rules.specs.Going.{Going, keeping, with_components, noting}
 use Rattle.server_rules.specs.Repair.{after_repair, mended, is_left, repair_reads, repairs, storing, stored, repair_begins}
 use Rattle.server_rules.specs.Jobs.{is_made, making, ending, fenced, fences, fence_begins, fetched, written, goes_on, waits_or_on, is_target, refills, remakes, loses, others_than, declared_in, targets, declares}
-use Rattle.server_rules.specs.Replies.{Hearing, Older, Full, Done, Nothing, hearing, others, renewed, renews, fills_up, heard_with, hears, answers, heard_by, heard_in, on_reply}
+use Rattle.server_rules.specs.Replies.{Hearing, Older, Full, Done, Nothing, others, renewed, renews, fills_up, heard_with, hears}
 use Rattle.server_rules.proofs.Components.{length_lost, length_lost_on}
 use Rattle.history_law.proofs.Placing.{greater_format}
 use Rattle.exchange_law.proofs.Parts.{each_filtered, PartsFit, fit_lost_on, fit_lost, IsNear, AllNear, either_near, each_near, stores_near, TargetFits, WorkFits, JobFits}
@@ -289,7 +289,7 @@ fills_up_run g j a (Stores todo short broken) s k w n = full_or_lost g j a (Stor
 fills_up_run g j a Lengths s k w n = full_or_lost g j a Lengths s k w n
 fills_up_run g j a (Checks todo t) s k w n = full_or_lost g j a (Checks todo t) s k w n
 
-hears_run : (g : Going) (j : Job) (a : Awaited) (r : Reply) (x : Hearing) → Sound g
+pub hears_run : (g : Going) (j : Job) (a : Awaited) (r : Reply) (x : Hearing) → Sound g
     → JobFits g.effects.object g.file.kept.tag g.file.job → JobFits g.effects.object g.file.kept.tag (Some j)
     → IsNear a → From g (hears g j a r x)
 hears_run g j a r Older s k l n = renews_run g j a s n l.0 l.1
@@ -299,10 +299,7 @@ hears_run g j a r Done s k l n =
     (each_filtered IsNear _ j.awaited l.1)
 hears_run g j a r Nothing s k l n = here g s k
 
--- so where a file's job hears it
-abbrev pub HeardRuns : Going → Option Going → Type 0
-HeardRuns g None = Unit {0}
-HeardRuns g (Some h) = From g h
+-- ---- commands that are found
 
 abbrev FoundNear : Option Awaited → Type 0
 FoundNear None = Unit {0}
@@ -316,20 +313,5 @@ find_near p (a ∷ ws) k = either (p a) (find_near p ws k.1)
     either true l = k.0
     either false l = l
 
-by_job_runs : (g : Going) (r : Reply) (j : Job) (o : Option Awaited) → Sound g
-    → JobFits g.effects.object g.file.kept.tag g.file.job → JobFits g.effects.object g.file.kept.tag (Some j)
-    → FoundNear o → HeardRuns g (heard_by g r j o)
-by_job_runs g r j None s k l n = tt
-by_job_runs g r j (Some a) s k l n = hears_run g j a r (hearing g.file.kept a r) s k l n
-
-in_job_runs : (g : Going) (drive : ℕ) (r : Reply) (o : Option Job) → Sound g
-    → JobFits g.effects.object g.file.kept.tag g.file.job → JobFits g.effects.object g.file.kept.tag o
-    → HeardRuns g (heard_in g drive r o)
-in_job_runs g drive r None s k l = tt
-in_job_runs g drive r (Some j) s k l =
-    by_job_runs g r j (find (answers drive r) j.awaited) s k l (find_near (answers drive r) j.awaited l.1)
-
-pub reply_runs : (g : Going) (drive : ℕ) (r : Reply) → Sound g → JobFits g.effects.object g.file.kept.tag g.file.job
-    → HeardRuns g (on_reply g drive r)
-unfolding on_reply
-reply_runs g drive r s k = in_job_runs g drive r g.file.job s k k
+pub found_near : (p : Awaited → Bool) (ws : List Awaited) (a : Awaited) → AllNear ws → find p ws ≡ Some a → IsNear a
+found_near p ws a k e = subst FoundNear e (find_near p ws k)

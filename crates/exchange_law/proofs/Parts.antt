@@ -1,9 +1,10 @@
 -- The components of a file, and what jobs send to them, as they change.
 use Rattle.std.specs.List.{AllByRecursion}
-use Rattle.std.proofs.Common.{◌≡◌, ◌&&◌, ◌==◌, ℕ, zero, suc, ◌+◌, ◌≤◌, ◌<◌, ◌++◌, Bool, true, false, not, List, [], ◌∷◌, Option, Some, None, length, filter, slice_set, refl, ap, arith, if◌then◌else◌}
+use Rattle.std.proofs.Common.{◌≡◌, ◌&&◌, ◌==◌, ℕ, zero, suc, ◌+◌, ◌≤◌, ◌<◌, ◌++◌, Bool, true, false, not, List, [], ◌∷◌, Option, Some, None, length, filter, slice_set, inl, inr, refl, sym, ap, subst, arith, if◌then◌else◌}
 use Rattle.scenario_text.specs.declared.names.TheConstants.{DRIVES}
 use Rattle.world_history.specs.ServerNames.{Kept, Component, Awaited, Piece, Heard, Target, Work, Creates, Fences, Fetches, Stores, Targets, Gathers, Fills, Lengths, Checks, Job}
 use Rattle.server_rules.specs.declared.limits.TheConstants.{GREATEST_TAG, MAX_FILE_COMPONENTS}
+use Rattle.server_rules.specs.Laws.{In}
 use Rattle.server_rules.specs.Numbers.{among}
 use Rattle.server_rules.specs.Standing.{lose_on, lose_from}
 use Rattle.server_rules.specs.Columns.{row_from, unit_with, wanted}
@@ -32,6 +33,11 @@ pub each_as : {A : Type 0} (P Q : A → Type 0) (xs : List A) → ((x : A) → P
     → AllByRecursion Q xs
 each_as P Q [] f k = tt
 each_as P Q (x ∷ xs) f k = (f x k.0, each_as P Q xs f k.1)
+
+pub each_in : {A : Type 0} (P : A → Type 0) (xs : List A) (x : A) → AllByRecursion P xs → In x xs → P x
+each_in P [] x k i = absurd i
+each_in P (y ∷ ys) x k (inl e) = subst P (sym e) k.0
+each_in P (y ∷ ys) x k (inr i) = each_in P ys x k.1 i
 
 -- ---- components
 

@@ -1,6 +1,5 @@
 -- In every history each command of a client is placed, and no drive gives a verdict on where it lies.
-use Rattle.std.proofs.Common.{◌≡◌, ℕ, ◌∷◌, [], List, Some, Result, Ok, Err, refl, sym, ap, subst, ◌∙◌, inl, inr}
-use Rattle.std.specs.List.{AllByRecursion}
+use Rattle.std.proofs.Common.{◌≡◌, ℕ, ◌∷◌, [], List, Result, Ok, Err, refl, sym, ap, subst, ◌∙◌}
 use Rattle.std.proofs.lemmas.Option.{same_Some}
 use Rattle.osd_commands.specs.declared.commands.Command.{Command}
 use Rattle.osd_commands.specs.declared.commands.CommandErr.{CommandErr}
@@ -13,8 +12,6 @@ use Rattle.scenario_text.specs.declared.line.Verdict.{Verdict}
 use Rattle.scenario_text.specs.declared.line.Party.TheVariants as party
 use Rattle.scenario_text.specs.declared.line.Line.{Line}
 use Rattle.scenario_text.specs.declared.line.Line.TheVariants as line
-use Rattle.client_rules.specs.declared.grants.Held.{Held}
-use Rattle.server_rules.specs.Laws.{In}
 use Rattle.world_history.specs.declared.messages.Sent.{Sent}
 use Rattle.world_history.specs.State.{DriveAt}
 use Rattle.world_history.specs.Drives.{verdict_on}
@@ -28,6 +25,7 @@ use Rattle.exchange_law.specs.Placed as rules
 use Rattle.exchange_law.specs.Placed.{IsPlaced}
 use Rattle.exchange_law.specs.PlaceAnswers.{AnswersFit}
 use Rattle.exchange_law.specs.Histories.{IsMisplaced, PlacedAt, CommandsArePlaced, HeldGrantsAreGiven}
+use Rattle.exchange_law.proofs.Parts.{each_in}
 use Rattle.exchange_law.proofs.PlaceVerdicts.{never_misplaced}
 use Rattle.exchange_law.proofs.DriveNumbers.{drive_number}
 use Rattle.exchange_law.proofs.PlaceReading.{placed_read, spells_placed}
@@ -85,12 +83,7 @@ commands_placed h l before x after is =
 
 -- ---- what is held
 
-one_of : (P : Held → Type 0) (hs : List Held) (x : Held) → AllByRecursion P hs → In x hs → P x
-one_of P [] x k i = absurd i
-one_of P (h ∷ hs) x k (inl e) = subst P (sym e) k.0
-one_of P (h ∷ hs) x k (inr i) = one_of P hs x k.1 i
-
 pub held_given : HeldGrantsAreGiven
 held_given w h s fit c a found x i =
     let here = stands IsPlacedWorld all_placed w h s in
-    one_of (IsOwnGrant c) a.state.held x ((here.clients fit) c a found).helds i
+    each_in (IsOwnGrant c) a.state.held x ((here.clients fit) c a found).helds i

@@ -9,7 +9,6 @@ use Rattle.server_rules.specs.History as server_input
 use Rattle.server_rules.specs.History.{step as server_step}
 use Rattle.client_rules.specs.Envelopes as client_bytes
 use Rattle.client_rules.specs.Steps.{new_client}
-use Rattle.client_rules.specs.History.{unless_refused}
 use Rattle.client_rules.specs.History as client_input
 use Rattle.client_rules.specs.History.{step as client_step}
 use Rattle.scenario_text.specs.declared.event.Event.TheVariants as event

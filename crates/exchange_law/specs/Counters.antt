@@ -1,15 +1,16 @@
 -- How far the numbers have risen with which parties count.
-use Rattle.std.specs.Prelude.{◌≡◌, ℕ, ◌+◌, ◌≤◌, List, length, Some}
+use Rattle.std.specs.Prelude.{◌≡◌, ℕ, ◌+◌, ◌≤◌, true, List, length, Some}
 use Rattle.scenario_text.specs.declared.line.Line.{Line}
 use Rattle.server_rules.specs.declared.limits.TheConstants.{FIRST_OBJECT}
 use Rattle.client_rules.specs.declared.limits.TheConstants.{GREATEST_SEQUENCE}
 use Rattle.server_rules.specs.Laws.{In}
+use Rattle.server_rules.specs.Messages.{counters_have_room}
 use Rattle.world_history.specs.ServerNames.{Server}
 use Rattle.world_history.specs.ClientNames.{Client, Held}
 use Rattle.world_history.specs.State.{ClientAt, World, at_number}
 use Rattle.history_law.specs.HistoryMoments.{IsReached}
 use Rattle.history_law.specs.BookMoments.{IsMoment}
-use Rattle.exchange_law.specs.Text.{AreOfText}
+use Rattle.exchange_law.specs.Text.{AreOfText, AreFew}
 
 -- Where so many messages were sent, the server has used no more grant numbers, nonces, counts of recalls and object
 -- numbers: each is in a message of its own.
@@ -36,3 +37,8 @@ ClientsAreCounted =
 abbrev pub ServerIsCounted : Type 0
 ServerIsCounted =
     (w : World) (h : List Line) → IsMoment w h → AreOfText h → ServerCounts w.server (length w.network.messages)
+
+-- So its counters have room wherever few messages were sent: it takes what comes, and an opening opens its files.
+abbrev pub CountersStayLow : Type 0
+CountersStayLow =
+    (w : World) (h : List Line) → IsMoment w h → AreOfText h → AreFew h → counters_have_room w.server ≡ true

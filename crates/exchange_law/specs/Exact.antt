@@ -4,6 +4,7 @@ use Rattle.osd_commands.specs.declared.commands.Command.{Command}
 use Rattle.osd_commands.specs.Commands.{reading}
 use Rattle.scenario_text.specs.declared.line.Delivery.TheVariants.{Judged}
 use Rattle.scenario_text.specs.declared.line.Verdict.TheVariants.{Perform}
+use Rattle.scenario_text.specs.declared.line.Party.{Party}
 use Rattle.scenario_text.specs.declared.line.Party.TheVariants as party
 use Rattle.scenario_text.specs.declared.line.Line.{Line}
 use Rattle.scenario_text.specs.declared.line.Line.TheVariants as line
@@ -31,11 +32,18 @@ abbrev pub HasExactSource : List Line → (drive : ℕ) → List ℕ → Type 0
 HasExactSource before drive bytes =
     IsOfServer before drive bytes ⊎ ((client : ℕ) × IsIssuedExactly before client drive bytes)
 
--- So is what a drive performs: each message that is delivered, and, where nothing was guessed so far, injected bytes.
+-- the server sends its own, and a client what was issued to this client
+abbrev pub IsExactlyFrom : List Line → Party → (drive : ℕ) → List ℕ → Type 0
+IsExactlyFrom before party.Server drive bytes = IsOfServer before drive bytes
+IsExactlyFrom before (party.Client client) drive bytes = IsIssuedExactly before client drive bytes
+IsExactlyFrom before (party.Drive d) drive bytes = ⊥
+
+-- So is what a drive performs: each message that is delivered is of its sender, and, where nothing was guessed so far,
+-- injected bytes have a source.
 abbrev pub IssuedExactlyAt : List Line → Line → Type 0
 IssuedExactlyAt before (line.Delivered number (Judged Perform)) =
     (message : Sent) (drive : ℕ) → slice_get (sent_in before) number ≡ Some message → message.to ≡ party.Drive drive
-    → HasExactSource before drive message.bytes
+    → IsExactlyFrom before message.from drive message.bytes
 IssuedExactlyAt before (line.Judged drive Perform) =
     unguessed before ≡ true → HasExactSource before drive (injected_in before drive)
 IssuedExactlyAt before l = Unit {0}

@@ -8,7 +8,7 @@ ghost use Rattle.exchange_law.specs.Taking.{AnswersAreOwn};
 ghost use Rattle.exchange_law.specs.Asked.{PlansStayInside};
 ghost use Rattle.exchange_law.specs.Placed.{PlacedAreNeverMisplaced};
 ghost use Rattle.exchange_law.specs.Histories.{CommandsArePlaced, HeldGrantsAreGiven};
-ghost use Rattle.exchange_law.specs.Counters.{ClientsAreCounted, ServerIsCounted};
+ghost use Rattle.exchange_law.specs.Counters.{ClientsAreCounted, CountersStayLow, ServerIsCounted};
 ghost use Rattle.exchange_law.specs.Exact.{CommandsAreIssuedExactly, UnforgedAreIssuedExactly};
 ghost use Rattle.exchange_law.specs.Files.{AllFilesFit};
 ghost use Rattle.exchange_law.specs.Fitting.{MessagesFit};
@@ -129,6 +129,14 @@ pub fn server_is_counted()
     ensures { ServerIsCounted }
 {
     grants_are_counted();
+}
+
+/// So the server's counters have room at each moment with few messages: it takes what comes, and where it is opened it
+/// opens all of its files.
+pub fn counters_stay_low()
+    ensures { CountersStayLow }
+{
+    server_is_counted();
 }
 
 /// At each moment of a history of a scenario's text the numbers of each file fit their places.

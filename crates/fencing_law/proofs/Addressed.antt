@@ -58,11 +58,11 @@ cases w chosen action = record {
       addressed (client_posts c (wrote_in a i) (data_in (op_in a.state i)) (client_input.step a.state i).sends);
   comes = λ c is. tt;
   stops = λ c a found. tt;
-  judged = λ ms said d a found failed m number. (tt, tt);
+  judged = λ ms said d a found hears m number. (tt, tt);
   injected = λ d bytes is a found. tt;
   turns = λ d a b found turns. tt;
-  known = λ d key capacity is knows. tt;
-  adds = λ d key capacity is knows. tt;
+  known = λ d key capacity stored is knows. tt;
+  adds = λ d key capacity stored is knows. tt;
 }
 
 pub acts_to : (w : World) (chosen : List ℕ) (action : Action) → AreNamedTo (acts w chosen action).posts

@@ -5,7 +5,7 @@ use Rattle.scenario_text.specs.declared.line.Line.{Line}
 use Rattle.world_history.specs.State.{World}
 use Rattle.world_history.specs.History.{StandsFor, Lawful}
 use Rattle.world_history.specs.History.Begins.{Nothing}
-use Rattle.fencing_law.specs.Fenced.{FencedIsFenced, NothingOlder}
+use Rattle.fencing_law.specs.Fenced.{NothingOlder}
 use Rattle.fencing_law.specs.Holder.{UnforgedHolderIsServer}
 use Rattle.fencing_law.specs.Fences.{UnforgedAreFenced}
 
@@ -19,6 +19,5 @@ whole w h s = record {
   lines_are = sym (append-nil h);
 }
 
-pub unforged_are_fenced : UnforgedHolderIsServer → FencedIsFenced → NothingOlder → UnforgedAreFenced
-unforged_are_fenced own fenced older w h s written fair =
-    let server = own h (whole w h s) fair in (fenced w h s written server, older w h s written server)
+pub unforged_are_fenced : UnforgedHolderIsServer → NothingOlder → UnforgedAreFenced
+unforged_are_fenced own older w h s written fair = older w h s written (own h (whole w h s) fair)

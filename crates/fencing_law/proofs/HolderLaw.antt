@@ -22,6 +22,7 @@ use Rattle.history_law.specs.Listed.{WasGiven, IsUnder}
 use Rattle.history_law.specs.Granted.{SpellsOwn}
 use Rattle.history_law.specs.Issued.{IsIssued, HasSource, IssuedAt, CommandsAreIssued}
 use Rattle.history_law.specs.Unforged.{AreUnforged, HasFairSource, InjectedAt, UnforgedAreIssued}
+use Rattle.history_law.proofs.IssuedLaw.{source_of}
 use Rattle.history_law.proofs.Carried.{read_spelled}
 use Rattle.history_law.proofs.Unforged.{unforged_front}
 use Rattle.fencing_law.specs.Reaching.{ServerSent, OwnAt}
@@ -98,7 +99,8 @@ fairly_sent before d bytes y all (inr listed) read holds =
 at_line : (before : List Line) (l : Line) → AllNamed (sent_in before) → IssuedAt before l → InjectedAt before l
     → OwnUnlessForged before l
 at_line before (line.Delivered n (Judged Perform)) all issued injected =
-    λ m d y found to read holds. servers_sent before d m.bytes y all (issued m d found to) read holds
+    λ m d y found to read holds.
+        servers_sent before d m.bytes y all (source_of before m.from d m.bytes (issued m d found to)) read holds
 at_line before (line.Judged d Perform) all issued injected =
     λ fair y read holds. fairly_sent before d (injected_in before d) y all (injected fair) read holds
 at_line before l all issued injected = tt

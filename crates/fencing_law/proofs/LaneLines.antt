@@ -32,10 +32,10 @@ use Rattle.scenario_text.specs.declared.line.Line.TheVariants as line
 use Rattle.world_history.specs.declared.messages.Sent.{Sent}
 use Rattle.world_history.specs.State.{DriveAt}
 use Rattle.world_history.specs.Told.{told_verdict}
-use Rattle.world_history.specs.Drives.{verdict_on, judges, made_drive}
-use Rattle.world_history.specs.Reading.{is_drive, arrived, left_out, changed_by, sent_after_event, sent_after, sent_in}
-use Rattle.world_history.specs.ReadDrives.{DriveSeen, sees_drive, drive_seen, drive_after, drive_after_event, drive_after_line, hears_bytes, hears_sent}
-use Rattle.world_history.proofs.DriveLines.{same_drive}
+use Rattle.world_history.specs.Drives.{verdict_on, judges, made_drive, is_deaf}
+use Rattle.world_history.specs.Reading.{arrived, left_out, changed_by, sent_after_event, sent_after, sent_in}
+use Rattle.world_history.specs.ReadDrives.{DriveSeen, sees_drive, drive_seen, drive_after, drive_after_event, drive_after_line, hears_sent}
+use Rattle.world_history.proofs.DriveLines.{unheard}
 use Rattle.history_law.specs.Judging.{Judges, JudgesAt, injected_in}
 use Rattle.history_law.proofs.Spending.{free}
 use Rattle.history_law.proofs.Each.{EachBehind, HoldsAt, judges_of}
@@ -273,31 +273,24 @@ module _ (before : List Line) (l : Line) (d : ℕ) where
 
   event_servers : (o : Option DriveAt) (e : Event) → AreServers before d o
       → AreServers (before ++ l ∷ []) d (drive_after_event d o e)
-  event_servers o (event.Drive k key capacity) s = made_servers (k == d) o (made_drive k key capacity) refl s
+  event_servers o (event.Drive k key capacity) s = made_servers (k == d) o (made_drive k key capacity false) refl s
+  event_servers o (event.Disk k key capacity) s = made_servers (k == d) o (made_drive k key capacity true) refl s
   event_servers o (event.Least k format) s = where_servers (k == d) _ o (λ a. refl) s
   event_servers o (event.Clock (machine.Drive k) time) s = where_servers (k == d) _ o (λ a. refl) s
   event_servers o (event.Clock machine.Server time) s = same_drives before (l ∷ []) d o o refl s
   event_servers o (event.Fail k) s = fallen_servers (k == d) _ o (λ a. refl) s
+  event_servers o (event.Crash (machine.Drive k)) s = where_servers (k == d) _ o (λ a. refl) s
+  event_servers o (event.Crash machine.Server) s = same_drives before (l ∷ []) d o o refl s
+  event_servers o (event.Reopen (machine.Drive k)) s = where_servers (k == d) _ o (λ a. refl) s
+  event_servers o (event.Reopen machine.Server) s = same_drives before (l ∷ []) d o o refl s
   event_servers o e s = same_drives before (l ∷ []) d o o refl s
 
 -- ---- a message that no drive judges
 
-unheard : (d : ℕ) (o : Option DriveAt) (m : Sent)
-    → ((a : DriveAt) → m.to ≡ party.Drive d → o ≡ Some a → a.failed ≡ true) → hears_sent d o (Some m) ≡ o
-unheard d o m deaf = either (is_drive d m.to) (λ e. same_drive d m.to e) o deaf
-  where
-    either : (b : Bool) → (b ≡ true → m.to ≡ party.Drive d) → (p : Option DriveAt)
-        → ((a : DriveAt) → m.to ≡ party.Drive d → p ≡ Some a → a.failed ≡ true)
-        → (if b then option_map (hears_bytes m.bytes) p else p) ≡ p
-    either true to None failed = refl
-    either true to (Some a) failed =
-        ap (λ (f : Bool). Some (if f then a else (judges a (reading m.bytes)).drive)) (failed a (to refl) refl)
-    either false to p failed = refl
-
 deaf_line : (before : List Line) (n : ℕ) (l : Line) (m : Sent) → slice_get (sent_in before) n ≡ Some m
     → ((d : ℕ) → drive_after_line d (drive_seen d before) l
     ≡ hears_sent d (drive_after before d) (slice_get (drive_seen d before).sent n))
-    → ((d : ℕ) (a : DriveAt) → m.to ≡ party.Drive d → drive_after before d ≡ Some a → a.failed ≡ true)
+    → ((d : ℕ) (a : DriveAt) → m.to ≡ party.Drive d → drive_after before d ≡ Some a → is_deaf a ≡ true)
     → ((d : ℕ) → AreServers before d (drive_after before d)) → (d : ℕ)
     → AreServers (before ++ l ∷ []) d (drive_after (before ++ l ∷ []) d)
 unfolding sent_in

@@ -173,7 +173,7 @@ drive_sends d to body logged p (inr i) e = i
 -- ---- each action
 
 sent_to_it : (w : World) (action : Action) (i : Input) → IsForServer w action i → IsSent w i
-sent_to_it w action (Hears now from m) (d, now_is, from_is, read, number) =
+sent_to_it w action (Hears now from m) (d, now_is, from_is, read, number, awake) =
     (d.number, d.posted, d.there, d.receiver, sym from_is, read)
 sent_to_it w action i is = tt
 
@@ -193,11 +193,11 @@ cases w chosen action = record {
       (addressed _ (clients_send c (wrote_in a i) (data_in (op_in a.state i)) (client_input.step a.state i).sends));
   comes = λ c is. Others refl refl none_told none_sent;
   stops = λ c a found. Others refl refl none_told none_sent;
-  judged = λ ms said d a found failed m number. Others refl said (alone _ (λ f tag e. cc e)) (drive_sends _ _ _ _);
+  judged = λ ms said d a found hears m number. Others refl said (alone _ (λ f tag e. cc e)) (drive_sends _ _ _ _);
   injected = λ d bytes is a found. Others refl refl (alone _ (λ f tag e. cc e)) none_sent;
   turns = λ d a b found turns. Others refl refl none_told none_sent;
-  known = λ d key capacity is knows. Others refl refl none_told none_sent;
-  adds = λ d key capacity is knows.
+  known = λ d key capacity stored is knows. Others refl refl none_told none_sent;
+  adds = λ d key capacity stored is knows.
       Serves chosen (server_input.Adds (known_drive d key capacity)) tt refl refl (λ f tag i. absurd i) refl;
 }
 

@@ -15,6 +15,7 @@ use Rattle.world_history.specs.Sending.{Move, move}
 use Rattle.world_history.specs.Book.{server_after}
 use Rattle.world_history.specs.History.{StandsFor, Lawful}
 use Rattle.history_law.specs.Judging.{Judges}
+use Rattle.history_law.specs.StepEnds.{BehindStep}
 use Rattle.job_law.specs.Fencing.{AllRaised}
 use Rattle.history_law.specs.BookMoments.{IsMoment, plan_at, lines_in}
 use Rattle.history_law.specs.Read.{AreWritten}
@@ -43,13 +44,15 @@ FencesEnd =
 abbrev pub noted : (before : List Line) → (number tag : ℕ) → (rest : List Line) → List Line
 noted before number tag rest = before ++ line.Note number (Fenced tag) ∷ rest
 
--- Of each note that a fence is over the file is so behind the lines of the note's step, by the server and the drives that
--- are read off the lines.
+-- Behind the step of the note the file is so, by the server and the drives that are read off the lines.
+abbrev pub FencedBehind : (before after : List Line) (number tag : ℕ) → Type 0
+FencedBehind before after number tag =
+    BehindStep (λ lines h. IsFenced (server_after h).files h number tag) before (line.Note number (Fenced tag)) after
+
+-- so it is of each note that a fence is over
 abbrev pub AreFenced : List Line → Type 0
 AreFenced h =
-    (before after : List Line) (number tag : ℕ) → h ≡ noted before number tag after →
-    (rest : List Line) × (more : List Line) × (after ≡ rest ++ more) ×
-    IsFenced (server_after (noted before number tag rest)).files (noted before number tag rest) number tag
+    (before after : List Line) (number tag : ℕ) → h ≡ noted before number tag after → FencedBehind before after number tag
 
 -- In the words of the lines that is so of each whole history.
 abbrev pub FencedIsFenced : Type 0
@@ -65,17 +68,20 @@ ReachedRefuses =
     (bytes : List ℕ) (c : Command) → Judges (first ++ middle) l drive bytes Perform → reading bytes ≡ Ok c →
     c.object ≡ object → tag ≤ c.capability.tag
 
--- From each note that a fence is over on, behind the lines of the note's step, no command of an earlier tag is performed on
--- the object of any component of the file that isn't missing then.
+-- From there on no command of an earlier tag is performed on the object of any component of the file that isn't missing
+-- there.
+abbrev pub RefusesOlder : (before after : List Line) (number tag : ℕ) → FencedBehind before after number tag → Type 0
+RefusesOlder before after number tag f =
+    (at : Component) → In at f.holds.file.kept.components → at.missing ≡ false → at.object < 2 ^ 64 →
+    (middle later : List Line) (l : Line) → f.more ≡ middle ++ l ∷ later → (bytes : List ℕ) (c : Command) →
+    Judges (noted before number tag f.rest ++ middle) l at.drive bytes Perform → reading bytes ≡ Ok c →
+    c.object ≡ at.object → tag ≤ c.capability.tag
+
+-- A fence that is over lasts: both are so behind the step of each note that says that it is over.
 abbrev pub FencesLast : List Line → Type 0
 FencesLast h =
-    (before after : List Line) (number tag : ℕ) → h ≡ noted before number tag after → tag < 2 ^ 32 →
-    (rest : List Line) × (more : List Line) × (after ≡ rest ++ more) × (f : File) ×
-    In f (server_after (noted before number tag rest)).files × (f.kept.number ≡ number) ×
-    ((at : Component) → In at f.kept.components → at.missing ≡ false → at.object < 2 ^ 64 →
-    (middle later : List Line) (l : Line) → more ≡ middle ++ l ∷ later → (bytes : List ℕ) (c : Command) →
-    Judges (noted before number tag rest ++ middle) l at.drive bytes Perform → reading bytes ≡ Ok c →
-    c.object ≡ at.object → tag ≤ c.capability.tag)
+    (before after : List Line) (number tag : ℕ) → h ≡ noted before number tag after →
+    (f : FencedBehind before after number tag) × (tag < 2 ^ 32 → RefusesOlder before after number tag f)
 
 -- so it is in each whole history
 abbrev pub NothingOlder : Type 0

@@ -5,11 +5,11 @@ use Rattle.world_history.specs.State.{World}
 use Rattle.world_history.specs.History.{StandsFor}
 use Rattle.history_law.specs.Read.{AreWritten}
 use Rattle.history_law.specs.Unforged.{AreUnforged}
-use Rattle.fencing_law.specs.Fenced.{AreFenced, FencesLast}
+use Rattle.fencing_law.specs.Fenced.{FencesLast}
 
 -- Of each note that a fence is over the file is so behind the lines of the note's step, by the server and the drives
 -- that are read off the lines; and from there on no command of an earlier tag is performed on the object of any component
 -- of the file that isn't missing then.
 abbrev pub UnforgedAreFenced : Type 0
 UnforgedAreFenced =
-    (w : World) (h : List Line) → StandsFor w h → AreWritten h → AreUnforged h → AreFenced h × FencesLast h
+    (w : World) (h : List Line) → StandsFor w h → AreWritten h → AreUnforged h → FencesLast h

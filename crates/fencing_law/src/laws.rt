@@ -61,6 +61,5 @@ pub fn unforged_are_fenced()
     ensures { UnforgedAreFenced }
 {
     holder_is_server();
-    fenced_is_fenced();
     nothing_older();
 }

@@ -10,6 +10,8 @@ use Rattle.fencing_law.specs.Fences.{UnforgedAreFenced}
 use Rattle.history_claims.specs.Components.{ComponentsStandApart}
 use Rattle.history_claims.specs.Sound.{HistoriesAreSound}
 use Rattle.tag_law.specs.Given.{GrantsAreOlder}
+use Rattle.exchange_law.specs.Judged.{RefusalsWereJudged}
+use Rattle.exchange_law.specs.Awaited.{RefusalsWereAwaited}
 use Rattle.exchange_law.specs.Text.{WithinTheLimitAreFew}
 use Rattle.exchange_law.specs.Exact.{CommandsAreIssuedExactly, UnforgedAreIssuedExactly}
 use Rattle.exchange_law.specs.Lanes.{LanesAreOwn}
@@ -20,9 +22,10 @@ use Rattle.history_claims.proofs.Texts.{events_make_text}
 
 pub histories_are_sound : HistoriesAreSafe → CommandsAreIssued → UnforgedAreIssued → UnguessedAreUnforged
     → RangesAreApart → FrontsAreLawful → ComponentsStandApart → EachHolderIsOwn → UnforgedAreFenced → GrantsAreOlder
-    → CommandsAreIssuedExactly → UnforgedAreIssuedExactly → LanesAreFair → LanesAreOwn → CallsEndSo → EachTagIsItsFiles → WithinTheLimitAreFew
-    → HistoriesAreSound
-histories_are_sound safe issued listed fair ranges fronts apart own fenced older exact allowed lanes lanes_own ends tags few = record {
+    → CommandsAreIssuedExactly → UnforgedAreIssuedExactly → LanesAreFair → LanesAreOwn
+    → RefusalsWereJudged → RefusalsWereAwaited → CallsEndSo → EachTagIsItsFiles → WithinTheLimitAreFew → HistoriesAreSound
+histories_are_sound safe issued listed fair ranges fronts apart own fenced older exact allowed lanes lanes_own judged
+    awaited ends tags few = record {
   sound = λ h l. record {
     safe = safe h l;
     issued = issued h l;
@@ -38,6 +41,8 @@ histories_are_sound safe issued listed fair ranges fronts apart own fenced older
     exact = exact h l;
     allowed = allowed h l;
     tags = λ before after is. tags before;
+    judged = judged h l;
+    awaited = awaited h l;
     ends = ends h l;
   };
   text = events_make_text;

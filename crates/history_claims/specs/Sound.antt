@@ -10,11 +10,13 @@ use Rattle.history_law.specs.Unforged.{AreUnforged, InjectedAt}
 use Rattle.history_law.specs.Ranges.{AreRangesApart}
 use Rattle.history_law.specs.Read.{AreWritten}
 use Rattle.calm_law.specs.Naming.{AreNamed}
-use Rattle.fencing_law.specs.Fenced.{AreFenced, FencesLast}
+use Rattle.fencing_law.specs.Fenced.{FencesLast}
 use Rattle.fencing_law.specs.Holder.{OwnUnlessForged}
 use Rattle.history_claims.specs.Components.{AreComponentsApart}
 use Rattle.history_claims.specs.Lanes.{HaveFairLanes, HaveOwnLanes}
 use Rattle.tag_law.specs.Given.{GivenBefore}
+use Rattle.exchange_law.specs.Judged.{JudgedAt}
+use Rattle.exchange_law.specs.Awaited.{AwaitedAt}
 use Rattle.exchange_law.specs.Text.{AreOfText, AreFew, WithinTheLimitAreFew}
 use Rattle.exchange_law.specs.Exact.{IssuedExactlyAt, InjectedExactlyAt}
 use Rattle.ending_law.specs.Calls.{EndsAt}
@@ -23,11 +25,11 @@ use Rattle.history_claims.specs.Texts.{EventsMakeText}
 
 -- What the lines of a sound history say.
 pub record IsSound (h : List Line) : Type 0 where
-  -- grants of one file never conflict, and what is performed touches its own object and range alone
+  -- grants of one file never conflict, none is live while a job runs on the file, and what is performed touches its own
+  -- object and range alone
   pub safe : IsSafe h
-  -- what a drive performs was sent to it by the server, or is a command of a client under a credential that an answer of
-  -- the server gave this client before: of each message that is delivered and, as far as nothing was guessed, of injected
-  -- bytes
+  -- what a drive performs of a delivered message the server sent, or a client under a credential that an answer of the
+  -- server gave this client before; injected bytes are, as far as nothing was guessed, the server's or such a client's
   pub issued : AtEachLine IssuedAt h
   -- of two live grants of a file of which one is for writing, no byte of a component is inside the capabilities of both
   pub ranges : AtEachMoment AreRangesApart h
@@ -41,9 +43,9 @@ pub record IsSound (h : List Line) : Type 0 where
   pub fair : unguessed h ≡ true → AreUnforged h
   -- what is performed under the server's holder the server sent, as far as nothing is forged
   pub holders : AtEachLine OwnUnlessForged h
-  -- so in a whole history in which nothing is forged, from each note that a fence is over on, the objects of the file's
-  -- components have the new tag, and no command of an earlier one is performed on them
-  pub fenced : (w : World) → StandsFor w h → AreWritten h → AreUnforged h → AreFenced h × FencesLast h
+  -- so in a whole history in which nothing is forged, behind the step of each note that a fence is over the objects of the
+  -- file's components have the new tag, and from there on no command of an earlier one is performed on them
+  pub fenced : (w : World) → StandsFor w h → AreWritten h → AreUnforged h → FencesLast h
   -- and whatever grants of the file the server gave before that note are of an earlier tag
   pub older : (w : World) → StandsFor w h → AreWritten h → GivenBefore h
   -- at each moment each lane of an object is of a command of the lane's holder, the server or a client, or of one that carries
@@ -60,6 +62,11 @@ pub record IsSound (h : List Line) : Type 0 where
   -- object with its file's tag, or with the next one while a fence of the file is open, unless its CREATE is awaited, its
   -- drive has failed, or the file isn't ready and no job of it runs
   pub tags : AtEachMoment HaveTagsAt h
+  -- a call that ends as refused by a drive was refused so: a message of its client was delivered to that drive before,
+  -- which judged it so and didn't perform it
+  pub judged : AtEachLine JudgedAt h
+  -- and with few messages it was a command that the client's call awaited at that moment
+  pub awaited : AtEachLine AwaitedAt h
   -- and each call ends in one of the ways that are left to it
   pub ends : AreOfText h → AreFew h → AtEachLine EndsAt h
 

@@ -1,40 +1,30 @@
 -- A step of the server gives one grant at most, and then it answers.
-use Rattle.std.proofs.Common.{◌≡◌, ◌==◌, ℕ, ◌+◌, ◌≤◌, ◌++◌, ◌∷◌, [], List, Bool, true, false, ◌&&◌, nat_le, nat_lt, Option, Some, None, length, map, filter, refl, sym, ap, subst, arith, if◌then◌else◌}
+use Rattle.std.proofs.Common.{◌≡◌, ◌==◌, ℕ, ◌+◌, ◌≤◌, ◌++◌, ◌∷◌, [], List, Bool, true, false, nat_lt, Option, Some, None, length, map, filter, refl, sym, ap, subst, arith, if◌then◌else◌}
 use Rattle.std.proofs.lemmas.Bool.Decides.{nat_tests}
 use Rattle.std.proofs.lemmas.List.{append_assoc}
-use Rattle.std.proofs.lemmas.Bool.{and_parts}
-use Rattle.osd_lists.specs.declared.node.Node.{Node}
-use Rattle.osd_lists.specs.declared.node.Node.TheVariants as node
 use Rattle.scenario_text.specs.declared.names.TheConstants.{CLIENTS}
 use Rattle.server_rules.specs.declared.limits.TheConstants.{MAX_CLIENT, GREATEST_TAG}
 use Rattle.server_rules.specs.declared.requests.RequestArgs.{RequestArgs}
 use Rattle.server_rules.specs.declared.requests.RequestArgs.TheVariants.{Get, Commit, Return}
 use Rattle.server_rules.specs.declared.requests.ClientRequest.{ClientRequest}
 use Rattle.server_rules.specs.declared.server.Server.{Server}
-use Rattle.server_rules.specs.declared.server.Refusal.{Refusal}
 use Rattle.server_rules.specs.declared.server.Outgoing.{Outgoing}
-use Rattle.server_rules.specs.declared.files.File.{File}
 use Rattle.server_rules.specs.declared.grants.Grant.{Grant}
 use Rattle.server_rules.specs.declared.jobs.Job.{Job}
-use Rattle.server_rules.specs.declared.jobs.JobKind.{JobKind}
-use Rattle.layout_ops.specs.declared.orders.OrderKind.{OrderKind}
-use Rattle.layout_ops.specs.declared.orders.OrderKind.TheVariants as order
 use Rattle.server_rules.specs.declared.server.Outgoing.TheVariants.{Answers}
 use Rattle.server_rules.specs.Answers.{recalls_from}
-use Rattle.server_rules.specs.Files.{Step, still, at_file, file_at, to_drives}
+use Rattle.server_rules.specs.Files.{Step, at_file, to_drives}
 use Rattle.server_rules.specs.Going.{Going}
 use Rattle.server_rules.specs.Served.{Served}
 use Rattle.server_rules.specs.Get.{Early, BadMode, Invalid, Unable, Waits, On, Late, NoNumber, Lacks, Conflict, Gives, by_late, late, give_or_refuse, after_fence, fence_first, on_grants, must_fence, by_early, gets}
 use Rattle.server_rules.specs.Commit.{Committed, NoGrant, Wrong, Sizes, by_commit, commits}
 use Rattle.server_rules.specs.Return.{Returned, NoGrant as NotHeld, Clean, Taken, TooMany, Fencing, by_return, returns_on}
-use Rattle.server_rules.specs.Slots.{Admit, New, Again, Misordered}
-use Rattle.server_rules.specs.Requests.{serves, answer_with, carried_out, carries_out, by_admit, on_request}
-use Rattle.server_rules.specs.Messages.{Message, Asks, Replies, Orders, counters_have_room, by_heard, on_drive_reply, handled, on_message}
-use Rattle.server_rules.specs.Orders.{Ordered, begins_job, starts, recalls_on, declares_known, declare, ordered}
-use Rattle.server_rules.specs.Making.{refusal, unless_refused, makes_file, create_file}
-use Rattle.server_rules.specs.Openings.{reopen}
-use Rattle.server_rules.specs.History.{Input, Hears, Makes, Obeys, Adds, Formats, Resends, Crashes, Opens, unless_made, step}
+use Rattle.server_rules.specs.Requests.{serves, answer_with, carried_out, on_request}
+use Rattle.server_rules.specs.History.{Input, step}
 use Rattle.world_history.specs.Handed.{Post, is_addressed, server_post}
+use Rattle.move_law.specs.Answers.{ServerDid, Quiet, Asked}
+use Rattle.move_law.proofs.Answers.{step_did}
+use Rattle.move_law.proofs.Steps.{each_request}
 
 -- ---- one grant at most
 
@@ -121,11 +111,7 @@ pub record Counted (s : Server) (t : Step) : Type 0 where
 none_given : (s : Server) (t : Step) → t.state.next_grant ≡ s.next_grant → Counted s t
 none_given s t same = record { grants = omega (arith, same) }
 
-either_step : (s : Server) (b : Bool) (x y : Step) → Counted s x → Counted s y → Counted s (if b then x else y)
-either_step s true x y p q = p
-either_step s false x y p q = q
-
-out_counted : (s : Server) (q : ClientRequest) (v : Served) → AtMostOne v → nat_le q.client MAX_CLIENT ≡ true
+out_counted : (s : Server) (q : ClientRequest) (v : Served) → AtMostOne v → q.client ≤ MAX_CLIENT
     → Counted s (carried_out s q v)
 out_counted s q v one named =
     let front = to_drives s.drives v.going.effects.sent in
@@ -137,97 +123,26 @@ out_counted s q v one named =
     ap (λ (os : List Outgoing). length (posts_of os)) (append_assoc front recalled (Answers (answer_with s q v) ∷ [])) in
     record { grants = omega (arith, one, sent, same) }
   where
-    named_too : (c : ℕ) → nat_le c MAX_CLIENT ≡ true → nat_lt c CLIENTS ≡ true
+    named_too : (c : ℕ) → c ≤ MAX_CLIENT → nat_lt c CLIENTS ≡ true
     named_too c is = grind (arith, is, nat_tests)
 
-carried : (s : Server) (now : ℕ) (chosen : List ℕ) (q : ClientRequest) (f : Option File)
-    → nat_le q.client MAX_CLIENT ≡ true → Counted s (carries_out s now chosen q f)
-carried s now chosen q None named = none_given s _ refl
-carried s now chosen q (Some f) named =
-    out_counted s q (serves (at_file s chosen f) s.next_grant s.format now q.client q.args)
-    (served_one (at_file s chosen f) s.next_grant s.format now q.client q.args) named
-
-admitted : (s : Server) (now : ℕ) (chosen : List ℕ) (q : ClientRequest) (a : Admit) → nat_le q.client MAX_CLIENT ≡ true
-    → Counted s (by_admit s now chosen q a)
-admitted s now chosen q New named = carried s now chosen q (file_at s.files q.file) named
-admitted s now chosen q (Again kept) named = none_given s _ refl
-admitted s now chosen q (Misordered expected) named = none_given s _ refl
-
-asked : (s : Server) (now : ℕ) (chosen : List ℕ) (c : ℕ) (q : ClientRequest) (b : Bool)
-    → ((q.client == c) && nat_le c MAX_CLIENT) ≡ b → Counted s (if b then on_request s now chosen q else still s)
-unfolding on_request
-asked s now chosen c q false is = none_given s _ refl
-asked s now chosen c q true is =
-    let both = and_parts (q.client == c) (nat_le c MAX_CLIENT) is in
-    admitted s now chosen q _ (subst (λ (n : ℕ). nat_le n MAX_CLIENT ≡ true) (same q.client c both.0) both.1)
-  where
-    same : (a b : ℕ) → (a == b) ≡ true → b ≡ a
-    same a b e = grind (arith, e, nat_tests)
-
-heard : (s : Server) (o : Option Going) → Counted s (by_heard s o)
-heard s None = none_given s _ refl
-heard s (Some g) = none_given s _ refl
-
--- ---- orders
-
-either_order : (s : Server) (b : Bool) (x y : Ordered) → x.step.state.next_grant ≡ s.next_grant
-    → y.step.state.next_grant ≡ s.next_grant → (if b then x else y).step.state.next_grant ≡ s.next_grant
-either_order s true x y p q = p
-either_order s false x y p q = q
-
-begun : (s : Server) (chosen : List ℕ) (kind : JobKind) (f : File) (j : Option Job)
-    → (begins_job s chosen kind f j).step.state.next_grant ≡ s.next_grant
-begun s chosen kind f (Some j) = refl
-begun s chosen kind f None = either_order s (f.kept.tag == GREATEST_TAG) _ _ refl refl
-
-started : (s : Server) (chosen : List ℕ) (kind : JobKind) (f : Option File)
-    → (starts s chosen kind f).step.state.next_grant ≡ s.next_grant
-started s chosen kind None = refl
-started s chosen kind (Some f) = begun s chosen kind f f.job
-
-recalled : (s : Server) (f : Option File) → (recalls_on s f).step.state.next_grant ≡ s.next_grant
-recalled s None = refl
-recalled s (Some f) = refl
-
-declared : (s : Server) (chosen : List ℕ) (n : ℕ) (b : Bool)
-    → (declares_known s chosen n b).step.state.next_grant ≡ s.next_grant
-unfolding declare
-declared s chosen n true = refl
-declared s chosen n false = refl
-
-obeyed : (s : Server) (chosen : List ℕ) (kind : OrderKind) (n : ℕ)
-    → (ordered s chosen kind n).step.state.next_grant ≡ s.next_grant
-unfolding ordered
-obeyed s chosen order.Recall n = recalled s (file_at s.files n)
-obeyed s chosen order.Revoke n = started s chosen _ (file_at s.files n)
-obeyed s chosen order.Declare n = declared s chosen n _
-obeyed s chosen order.Rebuild n = started s chosen _ (file_at s.files n)
-obeyed s chosen order.Audit n = started s chosen _ (file_at s.files n)
+asked_counted : (s : Server) (now : ℕ) (chosen : List ℕ) (q : ClientRequest) → q.client ≤ MAX_CLIENT
+    → Counted s (on_request s now chosen q)
+asked_counted s now chosen q named = each_request s now chosen q (Counted s) (record {
+  again = λ kept is. none_given s _ refl;
+  misordered = λ expected is. none_given s _ refl;
+  without = λ new none. none_given s _ refl;
+  served = λ new f found.
+      out_counted s q (serves (at_file s chosen f) s.next_grant s.format now q.client q.args)
+      (served_one (at_file s chosen f) s.next_grant s.format now q.client q.args) named;
+})
 
 -- ---- any step
 
-message_counted : (s : Server) (now : ℕ) (chosen : List ℕ) (from : Node) (m : Message)
-    → Counted s (handled s now chosen from m)
-unfolding on_drive_reply
-message_counted s now chosen (node.Client c) (Asks q) =
-    asked s now chosen c q ((q.client == c) && nat_le c MAX_CLIENT) refl
-message_counted s now chosen (node.Drive d) (Replies r) = heard s _
-message_counted s now chosen node.Server (Orders o) = none_given s _ (obeyed s chosen o.order o.target)
-message_counted s now chosen from m = none_given s _ refl
+module _ (s : Server) (chosen : List ℕ) (i : Input) where
+  by_did : (t : Step) → ServerDid s chosen i t → Counted s t
+  by_did t (Quiet q) = none_given s t q.grants
+  by_did t (Asked now q is done) = subst (Counted s) (sym done) (asked_counted s now chosen q is.named)
 
-pub made_same : (s : Server) (n : ℕ) (f : File) (r : Option Refusal)
-    → (unless_made s (unless_refused r (makes_file s f))).state.next_grant ≡ s.next_grant
-made_same s n f None = refl
-made_same s n f (Some why) = refl
-
-pub step_counted : (s : Server) (chosen : List ℕ) (i : Input) → Counted s (step s chosen i)
-unfolding on_message create_file reopen
-step_counted s chosen (Hears now from m) =
-    either_step s (counters_have_room s) _ _ (message_counted s now chosen from m) (none_given s _ refl)
-step_counted s chosen (Makes n m tag) = none_given s _ (made_same s n _ (refusal s n m))
-step_counted s chosen (Obeys kind n) = none_given s _ (obeyed s chosen kind n)
-step_counted s chosen (Adds d) = none_given s _ refl
-step_counted s chosen (Formats n) = none_given s _ refl
-step_counted s chosen Resends = none_given s _ refl
-step_counted s chosen Crashes = none_given s _ refl
-step_counted s chosen Opens = either_step s (counters_have_room s) _ _ (none_given s _ refl) (none_given s _ refl)
+  pub step_counted : Counted s (step s chosen i)
+  step_counted = by_did (step s chosen i) (step_did s chosen i)

@@ -1,17 +1,26 @@
 -- Any step of the server, with the drives of the CREATEs that it sends.
 use Rattle.std.specs.List.{list_any}
-use Rattle.std.proofs.Common.{◌≡◌, ℕ, ◌<◌, ◌∷◌, [], List, Bool, true, false, ◌||◌, ◌⊎◌, inl, nat_eq, nat_lt, refl, sym, ◌∙◌, arith, if◌then◌else◌}
+use Rattle.std.proofs.Common.{◌≡◌, ◌==◌, ℕ, ◌<◌, ◌∷◌, [], List, Bool, true, false, ◌||◌, ◌⊎◌, inl, nat_eq, nat_lt, map, refl, sym, ap, ◌∙◌, arith, if◌then◌else◌}
 use Rattle.std.proofs.lemmas.Bool.Decides.{nat_tests}
 use Rattle.world_history.specs.Moves.{knows_drive}
 use Rattle.osd_capability.specs.Layout.{is_format}
 use Rattle.scenario_text.specs.declared.names.TheConstants.{DRIVES}
-use Rattle.world_history.specs.ServerNames.{Server, Drive}
+use Rattle.world_history.specs.ServerNames.{Server, File, Drive, Effects, Revoking}
+use Rattle.server_rules.specs.declared.limits.TheConstants.{GREATEST_TAG}
+use Rattle.server_rules.specs.Files.{Step, still, begins}
+use Rattle.server_rules.specs.Going.{Going}
+use Rattle.server_rules.specs.Jobs.{fence_begins}
 use Rattle.server_rules.specs.Making.{add_drive}
+use Rattle.server_rules.specs.Messages.{counters_have_room}
+use Rattle.server_rules.specs.Openings.{crashed_file, is_unsettled, opens_made, opens_spent, opens_fenced, opens, opens_each, reopen}
+use Rattle.server_rules.specs.Rounds.{step_round}
 use Rattle.server_rules.specs.History.{Input, Hears, Makes, Obeys, Adds, Formats, Resends, Crashes, Opens, step}
-use Rattle.history_law.specs.Placed.{AreNamed, IsReadable, PlacedIsChosen}
-use Rattle.history_law.proofs.Placing.{greater_format}
+use Rattle.history_law.specs.Placed.{AreNamed, HaveFormats, IsReadable, PlacedIsChosen}
+use Rattle.history_law.proofs.Placing.{Fit, greater_format}
+use Rattle.history_law.proofs.BookGoing.{fence_placed}
+use Rattle.history_law.proofs.Stepping.{IsPlaced, placed_always, placed_either}
 use Rattle.history_law.proofs.Steps.{order_placed, message_placed}
-use Rattle.history_law.proofs.Made.{file_placed}
+use Rattle.history_law.proofs.Made.{making_format, file_placed}
 
 pub placed_is_chosen : PlacedIsChosen
 placed_is_chosen s chosen (Hears now from m) n r = (message_placed s now chosen from m r).same n
@@ -34,13 +43,54 @@ added_named (e ∷ ds) d a h = either (nat_lt e.number d.number) (added_named ds
     either true rest = (a.0, rest)
     either false rest = (h, a)
 
--- a drive that comes can be named, and a format is one of the two; a server of a scenario isn't opened again
+-- a drive that comes can be named, and a format is one of the two
 abbrev pub IsFit : Input → Type 0
 IsFit (Adds d) = d.number < DRIVES
 IsFit (Formats format) = is_format format ≡ true
-IsFit Crashes = ⊥
-IsFit Opens = ⊥
 IsFit i = Unit {0}
+
+-- a crash keeps the formats, and a file that is opened takes no other than the server's
+formats_crashed : (fs : List File) → HaveFormats fs → HaveFormats (map crashed_file fs)
+formats_crashed [] h = tt
+formats_crashed (f ∷ fs) h = (h.0, formats_crashed fs h.1)
+
+opens_format : (format : ℕ) (g : Going) → is_format format ≡ true → Fit g
+    → is_format (opens format g).file.kept.format ≡ true
+unfolding opens opens_fenced
+opens_format format g known h = either (is_unsettled g.file.kept) (g.file.kept.tag == GREATEST_TAG)
+  where
+    made : (ready : Bool) → is_format (opens_made g ready).file.kept.format ≡ true
+    made true = h.format
+    made false = ap (λ (n : ℕ). is_format n) (making_format g) ∙ h.format
+
+    either : (b spent : Bool)
+        → is_format (if b then (if spent then opens_spent g else fence_begins Revoking format g)
+        else opens_made g g.file.kept.ready).file.kept.format ≡ true
+    either true true = h.format
+    either true false = (fence_placed Revoking format g known h).format
+    either false spent = made g.file.kept.ready
+
+formats_opened : (format : ℕ) (ds : List Drive) (fs : List File) (m : Effects) → is_format format ≡ true → AreNamed ds
+    → HaveFormats fs → HaveFormats (opens_each format ds fs m).files
+unfolding opens_each
+formats_opened format ds [] m known named h = tt
+formats_opened format ds (f ∷ fs) m known named h =
+    let g : Going = record { file = f; effects = m; drives = ds; chosen = [] } in (
+      opens_format format g known (record { format = h.0; drives = named }),
+      formats_opened format ds fs (opens format g).effects known named h.1,
+    )
+
+opened_placed : (s : Server) → IsReadable s → IsPlaced s (reopen s) (λ x. reopen s)
+unfolding reopen
+opened_placed s r =
+    let t : Step = step_round s (opens_each s.format s.drives s.files (begins s)) in
+    placed_either (counters_have_room s) s t (still s) (λ x. t) (λ x. still s)
+    (placed_always s t (record {
+      drives = r.drives;
+      format = r.format;
+      files = formats_opened s.format s.drives s.files (begins s) r.format r.drives r.files;
+    }) (λ d. refl))
+    (placed_always s (still s) r (λ d. refl))
 
 pub stays_readable : (s : Server) (chosen : List ℕ) (i : Input) → IsReadable s → IsFit i
     → IsReadable (step s chosen i).state
@@ -52,8 +102,9 @@ stays_readable s chosen (Adds d) r h =
 stays_readable s chosen (Formats format) r h =
     record { drives = r.drives; format = greater_format s.format format r.format h; files = r.files }
 stays_readable s chosen Resends r h = r
-stays_readable s chosen Crashes r h = absurd h
-stays_readable s chosen Opens r h = absurd h
+stays_readable s chosen Crashes r h =
+    record { drives = r.drives; format = r.format; files = formats_crashed s.files r.files }
+stays_readable s chosen Opens r h = (opened_placed s r).readable
 
 -- ---- the drives that it knows
 
@@ -85,5 +136,5 @@ knows_behind s chosen (Obeys kind target) d r h e = inl (sym ((order_placed s ch
 knows_behind s chosen (Adds x) d r h e = added_known s.drives x d e
 knows_behind s chosen (Formats format) d r h e = inl e
 knows_behind s chosen Resends d r h e = inl e
-knows_behind s chosen Crashes d r h e = absurd h
-knows_behind s chosen Opens d r h e = absurd h
+knows_behind s chosen Crashes d r h e = inl e
+knows_behind s chosen Opens d r h e = inl (sym ((opened_placed s r).knows d) ∙ e)

@@ -30,7 +30,7 @@ use Rattle.history_law.proofs.Each.{EachBehind, HoldsAt, judges_of, each_front, 
 use Rattle.history_law.proofs.Histories.{lawful}
 use Rattle.history_law.specs.Listed.{WasGiven}
 use Rattle.history_law.specs.Granted.{SpellsOwn}
-use Rattle.history_law.specs.Issued.{IsIssued, HasSource, IssuedAt, CommandsAreIssued}
+use Rattle.history_law.specs.Issued.{IsIssued, HasSource, IsFrom, IssuedAt, CommandsAreIssued}
 use Rattle.history_law.proofs.BytesRead.{bytes_listed}
 use Rattle.history_law.proofs.Carried.{read_again, none_read}
 use Rattle.history_law.proofs.Exact.{grant_read, exact_read}
@@ -100,16 +100,24 @@ issued before l c d bytes all (x, spells, inr none) p =
 -- what was sent to the drive, by who sent it
 pub by_sender : (before : List Line) (l : Line) (d : ℕ) (bytes : List ℕ) (n : ℕ) (m : Sent) (from : Party)
     → AllCarry (sent_in before) → slice_get (sent_in before) n ≡ Some m → m.from ≡ from → m.to ≡ party.Drive d
-    → m.bytes ≡ bytes → IsServerOrClient from → Judges before l d bytes Perform → HasSource before d bytes
+    → m.bytes ≡ bytes → IsServerOrClient from → Judges before l d bytes Perform
+    → IsFrom before from d bytes
 by_sender before l d bytes n m party.Server all found from to are who p =
-    inl (record { number = n; message = m; there = found; sender = from; receiver = to; bytes_are = are })
+    record { number = n; message = m; there = found; sender = from; receiver = to; bytes_are = are }
 by_sender before l d bytes n m (party.Client c) all found from to are who p =
     let k : SentCarries (sent_in before) (party.Client c) (party.Drive d) bytes =
     subst (λ (x : Party). SentCarries (sent_in before) x (party.Drive d) bytes) from
     (subst (λ (x : Party). SentCarries (sent_in before) m.from x bytes) to
     (subst (λ (x : List ℕ). SentCarries (sent_in before) m.from m.to x) are (all n m found))) in
-    inr (c, issued before l c d bytes all k p)
+    issued before l c d bytes all k p
 by_sender before l d bytes n m (party.Drive k) all found from to are who p = absurd who
+
+-- whoever sent it, it has a source
+pub source_of : (before : List Line) (from : Party) (d : ℕ) (bytes : List ℕ) → IsFrom before from d bytes
+    → HasSource before d bytes
+source_of before party.Server d bytes s = inl s
+source_of before (party.Client c) d bytes i = inr (c, i)
+source_of before (party.Drive k) d bytes none = absurd none
 
 delivered_issued : (before : List Line) (n : ℕ) → IsDelivered before n (Judged Perform)
     → ComesAt before (line.Delivered n (Judged Perform)) → AllCarry (sent_in before)
@@ -128,8 +136,9 @@ injected_issued : (before : List Line) (d : ℕ)
     → ComesAt before (line.Judged d Perform) → AllCarry (sent_in before) → IssuedAt before (line.Judged d Perform)
 injected_issued before d p comes all clean =
     let w : WasSent before d (injected_in before d) = comes clean in
-    by_sender before (line.Judged d Perform) d (injected_in before d) w.number w.message w.message.from all w.sent refl
-    w.receiver w.bytes_are w.sender p
+    source_of before w.message.from d (injected_in before d)
+    (by_sender before (line.Judged d Perform) d (injected_in before d) w.number w.message w.message.from all w.sent
+    refl w.receiver w.bytes_are w.sender p)
 
 at_line : (before : List Line) (l : Line) → JudgesAt before l → ComesAt before l → AllCarry (sent_in before)
     → IssuedAt before l

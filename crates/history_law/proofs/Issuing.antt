@@ -15,7 +15,7 @@ use Rattle.server_rules.specs.Messages.{Message as ServerMessage}
 use Rattle.server_rules.specs.History.{Hears as ServerHears, step as server_step}
 use Rattle.client_rules.specs.Envelopes.{by_envelope, message_in}
 use Rattle.client_rules.specs.Messages.{Message as ClientMessage, Answers, Step as ClientStep}
-use Rattle.client_rules.specs.History.{Input, step, unless_refused}
+use Rattle.client_rules.specs.History.{Input, step}
 use Rattle.client_rules.specs.History as client_input
 use Rattle.scenario_text.specs.declared.names.TheConstants.{FILES}
 use Rattle.scenario_text.specs.declared.line.Delivery.TheVariants as delivery

@@ -48,3 +48,5 @@ pub mod Messages
 pub mod IssuedLaw
 pub mod Ranges
 pub mod Unforged
+pub mod Behind
+pub mod StepEnds

@@ -107,6 +107,10 @@ format_or : (cs : List Awaited) (g : Going) (kind : JobKind) (work : Work) (late
 format_or [] g kind work later e = e
 format_or (c ∷ cs) g kind work later e = refl
 
+pub making_format : (g : Going) → (making g).file.kept.format ≡ g.file.kept.format
+unfolding making
+making_format g = format_or (to_all g.file.kept All Creating g.effects.nonce) g Making Creates (is_made g) refl
+
 -- ---- the step
 
 module _ (s : Server) (number : ℕ) (m : RawMap) (tag : ℕ) (r : IsReadable s) where
@@ -125,12 +129,8 @@ module _ (s : Server) (number : ℕ) (m : RawMap) (tag : ℕ) (r : IsReadable s)
       sent_or (to_all (on ns).kept All Creating s.next_nonce) g Making Creates (is_made g) refl
 
   made_format : (ns : List ℕ) → is_format (making (at_file (with_file s (on ns)) [] (on ns))).file.kept.format ≡ true
-  unfolding making
   made_format ns =
-      let g : Going = at_file (with_file s (on ns)) [] (on ns) in
-      ap (λ (n : ℕ). is_format n)
-      (format_or (to_all (on ns).kept All Creating s.next_nonce) g Making Creates (is_made g) refl)
-      ∙ r.format
+      ap (λ (n : ℕ). is_format n) (making_format (at_file (with_file s (on ns)) [] (on ns))) ∙ r.format
 
   told_on : (ns : List ℕ) → AllNamed ns → (n : ℕ) → placed_by n (makes_on ns).sends ≡ ns
   told_on ns a n =

@@ -27,7 +27,7 @@ use Rattle.history_law.specs.Listed.{WasGiven}
 use Rattle.history_law.specs.Unforged.{IsUnforged, AreUnforged, UnguessedAreUnforged, IsListed, HasFairSource, InjectedAt, UnforgedAreIssued}
 use Rattle.history_law.proofs.Exact.{same_ok, grant_read, exact_listed}
 use Rattle.history_law.proofs.Growing.{history_grows, still_given}
-use Rattle.history_law.proofs.IssuedLaw.{allowed, answered, by_sender}
+use Rattle.history_law.proofs.IssuedLaw.{allowed, answered, by_sender, source_of}
 use Rattle.history_law.proofs.IssueLines.{CarriesAt, IsKnown, all_known}
 use Rattle.history_law.proofs.Messages.{AllCarry, all_carry}
 
@@ -100,9 +100,10 @@ module _ (lines : List Line) (d : ℕ) (bytes : List ℕ) where
       let fair : IsUnforged lines injection = unforged lines injection [] refl in
       elim (fair p.there done.command stood (ap reading (sym injected) ∙ done.read)
       (opened p.there.state p.there.clock done.command done.clear)) [
-        | inl w ↦ inl (by_sender behind (line.Judged d Perform) d (injected_in behind d) w.number w.message w.message.from
+        | inl w ↦ inl (source_of behind w.message.from d (injected_in behind d)
+            (by_sender behind (line.Judged d Perform) d (injected_in behind d) w.number w.message w.message.from
             all (ap (λ (ss : List Sent). slice_get ss w.number) sent_same ∙ w.sent) refl w.receiver
-            (w.bytes_are ∙ sym injected) w.sender p)
+            (w.bytes_are ∙ sym injected) w.sender p))
         | inr w ↦ inr (λ c read.
             let same : done.command ≡ c = same_ok done.command c (reading (injected_in behind d)) done.read read in
             let given =

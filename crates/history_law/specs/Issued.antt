@@ -8,6 +8,7 @@ use Rattle.osd_commands.specs.declared.commands.Command.{Command}
 use Rattle.osd_commands.specs.Commands.{reading, spelling}
 use Rattle.scenario_text.specs.declared.line.Delivery.TheVariants.{Judged}
 use Rattle.scenario_text.specs.declared.line.Verdict.TheVariants.{Perform}
+use Rattle.scenario_text.specs.declared.line.Party.{Party}
 use Rattle.scenario_text.specs.declared.line.Party.TheVariants as party
 use Rattle.scenario_text.specs.declared.line.Line.{Line}
 use Rattle.scenario_text.specs.declared.line.Line.TheVariants as line
@@ -50,11 +51,18 @@ pub record IsOfServer (before : List Line) (drive : ℕ) (bytes : List ℕ) : Ty
 abbrev pub HasSource : List Line → (drive : ℕ) → List ℕ → Type 0
 HasSource before drive bytes = IsOfServer before drive bytes ⊎ ((client : ℕ) × IsIssued before client drive bytes)
 
--- So is what a drive performs: each message that is delivered, and, where nothing was guessed so far, injected bytes.
+-- whoever sent such a message had it to send: the server sends its own, and a client what was issued to this client
+abbrev pub IsFrom : List Line → Party → (drive : ℕ) → List ℕ → Type 0
+IsFrom before party.Server drive bytes = IsOfServer before drive bytes
+IsFrom before (party.Client client) drive bytes = IsIssued before client drive bytes
+IsFrom before (party.Drive d) drive bytes = ⊥
+
+-- So is what a drive performs: each message that is delivered is of its sender, and, where nothing was guessed so far,
+-- injected bytes have a source.
 abbrev pub IssuedAt : List Line → Line → Type 0
 IssuedAt before (line.Delivered number (Judged Perform)) =
     (message : Sent) (drive : ℕ) → slice_get (sent_in before) number ≡ Some message → message.to ≡ party.Drive drive
-    → HasSource before drive message.bytes
+    → IsFrom before message.from drive message.bytes
 IssuedAt before (line.Judged drive Perform) =
     unguessed before ≡ true → HasSource before drive (injected_in before drive)
 IssuedAt before l = Unit {0}

@@ -20,3 +20,4 @@ pub mod Granted
 pub mod Issued
 pub mod Ranges
 pub mod Unforged
+pub mod StepEnds

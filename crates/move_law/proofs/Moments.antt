@@ -120,7 +120,8 @@ module _ (P : World → List Line → Type 0) (kept : IsKept P) (more : OneEvent
   nothing : StandsFor empty_world []
   nothing = record { steps = []; carried = tt; world_is = refl; lines_are = refl }
 
-  stands_kept : (w : World) (h : List Line) → StandsFor w h → P w h
+  -- so it is of each world that stands for a history
+  pub stands_kept : (w : World) (h : List Line) → StandsFor w h → P w h
   stands_kept w h s =
       subst (λ (x : World). P x h) (sym s.world_is)
       (subst (P (end_of empty_world s.steps)) (sym s.lines_are)

@@ -1,6 +1,6 @@
 -- Each move leaves the keys of drives, and those that the server has for them, as they were, but for an event that
 -- makes a drive.
-use Rattle.std.proofs.Common.{◌≡◌, ℕ, List, Option, Some, Result, Ok, Err, IsSome, option_map, refl, sym, ap, subst, ◌∙◌, inl, inr}
+use Rattle.std.proofs.Common.{◌≡◌, ℕ, Bool, true, false, List, Option, Some, Result, Ok, Err, IsSome, option_map, refl, sym, ap, subst, ◌∙◌, inl, inr}
 use Rattle.std.proofs.lemmas.Bool.{cases_eq}
 use Rattle.osd_commands.specs.declared.commands.Command.{Command}
 use Rattle.osd_commands.specs.declared.commands.CommandErr.{CommandErr}
@@ -17,7 +17,7 @@ use Rattle.world_history.specs.ServerNames as server_rules
 use Rattle.world_history.specs.State.{DriveAt, World, at_number, with_number}
 use Rattle.world_history.specs.Drives.{judges, command_in}
 use Rattle.world_history.specs.Moves.{Act, Action, Opens, acts}
-use Rattle.move_law.specs.Moves.{Turns, Raised, Timed, Falls, IsForServer, MoveCases}
+use Rattle.move_law.specs.Moves.{Turns, Raised, Timed, Falls, Crashed, Reopened, drive_event, IsForServer, MoveCases}
 use Rattle.move_law.proofs.Moves.{none_added, each_act}
 use Rattle.party_law.proofs.Servers.{known_keys, keys_step, known_then}
 
@@ -45,11 +45,19 @@ turned_keys : (a b : DriveAt) → Turns a b → b.state.keys ≡ a.state.keys
 turned_keys a b (Raised format is) = ap (λ (x : DriveAt). x.state.keys) is
 turned_keys a b (Timed time is) = ap (λ (x : DriveAt). x.state.keys) is
 turned_keys a b (Falls is) = ap (λ (x : DriveAt). x.state.keys) is
+turned_keys a b (Crashed is) = ap (λ (x : DriveAt). x.state.keys) is
+turned_keys a b (Reopened is) = ap (λ (x : DriveAt). x.state.keys) is
 
 -- an action that makes no drive
 abbrev pub MakesNone : Action → Type 0
 MakesNone (Opens (event.Drive d key capacity)) = ⊥
+MakesNone (Opens (event.Disk d key capacity)) = ⊥
 MakesNone action = Unit {0}
+
+makes_one : (d : ℕ) (key : List ℕ) (capacity : ℕ) (stored : Bool)
+    → MakesNone (Opens (drive_event d key capacity stored)) → ⊥
+makes_one d key capacity true none = none
+makes_one d key capacity false none = none
 
 -- an input that adds no drive leaves them
 known_before : (i : server_input.Input) (ds : List server_rules.Drive)
@@ -96,14 +104,14 @@ module _ (w : World) where
     goes = λ ms said c a found i is. same _ refl refl;
     comes = λ c is. same _ refl refl;
     stops = λ c a found. same _ refl refl;
-    judged = λ ms said d a found failed m number.
+    judged = λ ms said d a found deaf m number.
         put_drive d a (judges a (command_in m.posted.message.body)).drive found
         (judged_keys a (command_in m.posted.message.body)) _ refl refl;
     injected = λ d bytes is a found.
         put_drive d a (judges a (reading bytes)).drive found (judged_keys a (reading bytes)) _ refl refl;
     turns = λ d a b found turns. put_drive d a b found (turned_keys a b turns) _ refl refl;
-    known = λ d key capacity is knows. absurd (subst MakesNone is none);
-    adds = λ d key capacity is knows. absurd (subst MakesNone is none);
+    known = λ d key capacity stored is knows. absurd (makes_one d key capacity stored (subst MakesNone is none));
+    adds = λ d key capacity stored is knows. absurd (makes_one d key capacity stored (subst MakesNone is none));
   }
 
   pub acts_stay : (chosen : List ℕ) (action : Action) → MakesNone action → Stays w (acts w chosen action).world

@@ -63,15 +63,16 @@ has_its_key w h d a found k =
     let m : Made h d (Some a.state.keys) = subst (λ (o : Option DriveAt). Made h d (keys_of o)) found (k.made d) in
     let known : key_at w.server.drives d ≡ m.0 =
     key_known w.server.drives d m.0
-    (sym (ap (λ (ks : List DriveKey). Some ks) m.3) ∙ sym (ap keys_of found) ∙ k.same d) in
+    (sym (ap (λ (ks : List DriveKey). Some ks) m.4) ∙ sym (ap keys_of found) ∙ k.same d) in
     record {
       key = m.0;
       capacity = m.1;
-      made = m.2;
-      keys = m.3;
+      stored = m.2;
+      made = m.3;
+      keys = m.4;
       known = known;
-      has = λ c version. has_key a.state w.server.drives m.0 m.3 c version;
-      opens = λ c to version. opens_it a.state w.server.drives m.0 m.3 c version
+      has = λ c version. has_key a.state w.server.drives m.0 m.4 c version;
+      opens = λ c to version. opens_it a.state w.server.drives m.0 m.4 c version
           (ap (λ (n : ℕ). key_at w.server.drives n) to ∙ known);
     }
 

@@ -41,7 +41,13 @@ file_with m size cs gs = record {
 
 -- drive 0 has failed, or not
 abbrev pub drive_where : (failed : Bool) → (number : ℕ) → DriveAt
-drive_where failed d = record { state = new_drive d [] 1000; clock = 0; failed = if d == 0 then failed else false }
+drive_where failed d = record {
+  state = new_drive d [] 1000;
+  clock = 0;
+  failed = if d == 0 then failed else false;
+  stored = false;
+  down = false;
+}
 
 -- each client holds this
 abbrev pub client_with : List Held → (number : ℕ) → ClientAt

@@ -1,5 +1,5 @@
 -- Each step of a server: what it sends, and what jobs await, is under no earlier tag than its object.
-use Rattle.std.proofs.Common.{◌≡◌, ℕ, List, [], ◌∷◌, flat_map, refl, sym, subst, ◌∙◌, arith, inl, inr}
+use Rattle.std.proofs.Common.{ℕ, List, [], ◌∷◌, flat_map, refl, sym, subst, ◌∙◌, arith, inl, inr}
 use Rattle.data_map.specs.declared.check.RawMap.{RawMap}
 use Rattle.server_rules.specs.Laws.{In}
 use Rattle.server_rules.specs.Files.{still, at_file, to_drives}

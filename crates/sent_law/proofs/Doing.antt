@@ -15,7 +15,7 @@ use Rattle.world_history.specs.ClientNames as client_rules
 use Rattle.world_history.specs.declared.messages.Body.TheVariants.{Command as OfCommand, Reply as OfReply}
 use Rattle.world_history.specs.declared.messages.Message.{Message}
 use Rattle.world_history.specs.declared.err.WorldErr.{WorldErr}
-use Rattle.world_history.specs.declared.err.WorldErr.TheVariants.{Down, Running}
+use Rattle.world_history.specs.declared.err.WorldErr.TheVariants.{Running}
 use Rattle.world_history.specs.State.{World, at_number}
 use Rattle.world_history.specs.Handed.{Post, is_addressed, plain, wrote_in, data_in, op_in, server_post, client_posts}
 use Rattle.world_history.specs.Moves.{Act, Action, Opens, known_drive, acts}
@@ -24,6 +24,7 @@ use Rattle.move_law.specs.Said.{posted}
 use Rattle.move_law.specs.Moves.{given_in, IsForServer, MoveCases, drive_event, down_behind}
 use Rattle.move_law.proofs.Moves.{each_act}
 use Rattle.calm_law.specs.Naming.{IsNamed, IsNamedInput}
+use Rattle.world_history.proofs.Causes.{no_cause, is_up}
 use Rattle.sent_law.specs.Turns.{in_turn}
 use Rattle.fencing_law.proofs.Moves.{IsSent}
 use Rattle.sent_law.specs.Sent.{commanded}
@@ -113,13 +114,12 @@ IsAllowed w action = Unit {0}
 
 -- ---- what is in its turn
 
-is_up : (down : Bool) → (if down then Some Down else None) ≡ None → not down ≡ true
-is_up true e = absurd (cc e)
-is_up false e = refl
+-- what comes while the server is up
+up : (w : World) → unless_down w ≡ None → not w.down ≡ true
+up w e = ap not (is_up w e)
 
-second_of : (o p : Option WorldErr) → first_of o p ≡ None → p ≡ None
-second_of None p e = e
-second_of (Some why) p e = absurd (cc e)
+up_for : (w : World) (cause : Option WorldErr) → first_of cause (unless_down w) ≡ None → not w.down ≡ true
+up_for w cause e = up w (no_cause cause (unless_down w) e).1
 
 is_opened : (down : Bool) → (if down then None else Some Running) ≡ None → down ≡ true
 is_opened true e = refl
@@ -137,20 +137,16 @@ on w j i e named turn =
 named_given : (w : World) (action : Action) (i : Input) → given_in action ≡ Some i → IsNamedAction action
     → IsAllowed w action → IsNamedInput i × (in_turn w.down i ≡ true)
 unfolding refusal
-named_given w (Opens (event.File f m tag)) i e named allowed = on w _ i e named (is_up w.down allowed)
-named_given w (Opens (event.Format format)) i e named allowed = on w _ i e tt (is_up w.down allowed)
-named_given w (Opens (event.Resend sender.Server)) i e named allowed = on w _ i e tt (is_up w.down allowed)
-named_given w (Opens (event.Recall f)) i e named allowed =
-    on w _ i e tt (is_up w.down (second_of (of_file w f) (unless_down w) allowed))
-named_given w (Opens (event.Revoke f)) i e named allowed =
-    on w _ i e tt (is_up w.down (second_of (of_file w f) (unless_down w) allowed))
-named_given w (Opens (event.Rebuild f)) i e named allowed =
-    on w _ i e tt (is_up w.down (second_of (of_file w f) (unless_down w) allowed))
-named_given w (Opens (event.Audit f)) i e named allowed =
-    on w _ i e tt (is_up w.down (second_of (of_file w f) (unless_down w) allowed))
+named_given w (Opens (event.File f m tag)) i e named allowed = on w _ i e named (up w allowed)
+named_given w (Opens (event.Format format)) i e named allowed = on w _ i e tt (up w allowed)
+named_given w (Opens (event.Resend sender.Server)) i e named allowed = on w _ i e tt (up w allowed)
+named_given w (Opens (event.Recall f)) i e named allowed = on w _ i e tt (up_for w (of_file w f) allowed)
+named_given w (Opens (event.Revoke f)) i e named allowed = on w _ i e tt (up_for w (of_file w f) allowed)
+named_given w (Opens (event.Rebuild f)) i e named allowed = on w _ i e tt (up_for w (of_file w f) allowed)
+named_given w (Opens (event.Audit f)) i e named allowed = on w _ i e tt (up_for w (of_file w f) allowed)
 named_given w (Opens (event.Declare d)) i e named allowed =
-    on w _ i e tt (is_up w.down (second_of (if_failed (at_number w.drives d)) (unless_down w) allowed))
-named_given w (Opens (event.Crash machine.Server)) i e named allowed = on w _ i e tt (is_up w.down allowed)
+    on w _ i e tt (up_for w (if_failed (at_number w.drives d)) allowed)
+named_given w (Opens (event.Crash machine.Server)) i e named allowed = on w _ i e tt (up w allowed)
 named_given w (Opens (event.Reopen machine.Server)) i e named allowed = on w _ i e tt (is_opened w.down allowed)
 named_given w action i e named allowed = absurd (cc e)
 
@@ -161,20 +157,20 @@ named_drive : (w : World) (d : ℕ) (key : List ℕ) (capacity : ℕ) (stored : 
 unfolding refusal
 named_drive w d key capacity true named allowed = record {
   named = named;
-  turn = is_up w.down (second_of (unless_there (is_some (at_number w.drives d))) (unless_down w) allowed);
+  turn = up_for w (unless_there (is_some (at_number w.drives d))) allowed;
   sent = tt;
 }
 named_drive w d key capacity false named allowed = record {
   named = named;
-  turn = is_up w.down (second_of (unless_there (is_some (at_number w.drives d))) (unless_down w) allowed);
+  turn = up_for w (unless_there (is_some (at_number w.drives d))) allowed;
   sent = tt;
 }
 
 comes : (w : World) (action : Action) (i : Input) → IsForServer w action i → IsNamedAction action
     → IsAllowed w action → Comes w i
-comes w action (Hears now from m) (d, now_is, from_is, read, number, up) named allowed = record {
+comes w action (Hears now from m) (d, now_is, from_is, read, number, awake) named allowed = record {
   named = tt;
-  turn = ap not up;
+  turn = ap not awake;
   sent = (d.number, d.posted, d.there, d.receiver, sym from_is, read);
 }
 comes w action i is named allowed =

@@ -161,7 +161,8 @@ module _ (R : Reached) (tag : ℕ) (cs : List Component) (ready : Bool) (unmade 
   holds_lost ds (Fills t todo) ws part h = (own_part ds part h.0, h.1, h.2)
   holds_lost ds work ws part h = (own_part ds part h.0, h.1)
 
-  pub ends_lost : (ds : List Component) (o : Option Job) → IsPart ds cs → Ends R tag cs ready unmade o → Ends R tag ds ready unmade o
+  pub ends_lost : (ds : List Component) (o : Option Job) → IsPart ds cs → Ends R tag cs ready unmade o
+      → Ends R tag ds ready unmade o
   ends_lost ds None part h = own_part ds part h
   ends_lost ds (Some j) part h = holds_lost ds j.work j.awaited part h
 

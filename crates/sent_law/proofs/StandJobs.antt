@@ -19,7 +19,7 @@ use Rattle.job_law.proofs.Asking.{in_lost_from}
 use Rattle.job_law.proofs.Hearing.{full_is_write, done_is_done, IsAlone}
 use Rattle.sent_law.specs.Standing.{IsCreate, IsUnmade}
 use Rattle.sent_law.proofs.StandAwaited.{AllAre, IsOther, one_is, sought_asked, sought_none, each_are, others_each, asked_each, stores_others, repair_others, sources_others, in_set}
-use Rattle.sent_law.proofs.StandHeld.{reach, AllReach, IsTagged, IsOwn, IsNew, Holds, Ends, FileEnds, Lasts, holds_others, holds_renewed, holds_lost, ends_lost, lasts, lasts_declared, ends_declared}
+use Rattle.sent_law.proofs.StandHeld.{reach, IsTagged, IsOwn, IsNew, Holds, Ends, FileEnds, Lasts, holds_others, holds_renewed, holds_lost, ends_lost, lasts, lasts_declared, ends_declared}
 use Rattle.sent_law.proofs.BirthSent.{is_creating}
 
 module _ (R : Reached) where
@@ -324,7 +324,8 @@ module _ (R : Reached) where
       → (IsCreate g.file.kept.tag a → is_done g.file.kept a r ≡ true
       → R a.drive a.command.object g.file.kept.tag ≡ true) → End g → End (hears g j a r x)
   ends_hears g j a r Older is job i alone raised made e =
-      holds_renewed R g.file.kept.tag g.file.kept.components g.file.kept.ready (IsUnmade g.file.kept) j.work j.awaited a g.effects.nonce i alone
+      let k : Kept = g.file.kept in
+      holds_renewed R k.tag k.components k.ready (IsUnmade k) j.work j.awaited a g.effects.nonce i alone
       (has_job g j job e)
   ends_hears g j a r Full is job i alone raised made e =
       let write = full_is_write g.file.kept a r is in

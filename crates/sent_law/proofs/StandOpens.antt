@@ -1,8 +1,7 @@
 -- What the opening of a server leaves of a file.
-use Rattle.std.proofs.Common.{◌≡◌, ◌==◌, ◌||◌, ℕ, nat_lt, Bool, true, false, not, List, [], length, Option, None, refl, sym, ap, subst, ◌∙◌, if◌then◌else◌}
+use Rattle.std.proofs.Common.{◌≡◌, ◌==◌, ◌||◌, ℕ, nat_lt, Bool, true, false, not, List, length, Option, None, refl, sym, ap, subst, ◌∙◌, if◌then◌else◌}
 use Rattle.server_rules.specs.declared.limits.TheConstants.{GREATEST_TAG}
 use Rattle.server_rules.specs.Going.{Going}
-use Rattle.server_rules.specs.Jobs.{fence_begins}
 use Rattle.server_rules.specs.Openings.{is_still, is_unsettled, opens_made, opens_spent, opens_fenced, opens}
 use Rattle.job_law.specs.Names.{Kept, Grant, Job, Phase, Revoking}
 use Rattle.job_law.specs.Fencing.{Reached}

@@ -1,5 +1,5 @@
 -- Over any run of a server in turn whose counters have room, what is kept of a file says whether it was made.
-use Rattle.std.proofs.Common.{◌≡◌, ◌⊎◌, ◌&&◌, ◌≤◌, ◌<◌, ℕ, Bool, true, false, nat_lt, List, [], ◌∷◌, ◌++◌, refl, sym, ap, subst, ◌∙◌, arith, inl, inr}
+use Rattle.std.proofs.Common.{◌≡◌, ◌⊎◌, ◌&&◌, ◌≤◌, ℕ, Bool, true, false, nat_lt, List, [], ◌∷◌, ◌++◌, refl, sym, ap, subst, ◌∙◌, arith, inl, inr}
 use Rattle.std.proofs.lemmas.Bool.Decides.{nat_tests}
 use Rattle.server_rules.specs.declared.limits.TheConstants.{COUNTERS_END}
 use Rattle.server_rules.specs.History.{Input, Opens, Act, step, state_after}
@@ -16,7 +16,7 @@ use Rattle.history_law.proofs.Running.{server_more}
 use Rattle.sent_law.specs.Objects.{AreOwned}
 use Rattle.move_law.specs.Moves.{down_behind}
 use Rattle.sent_law.specs.Turns.{in_turn}
-use Rattle.sent_law.specs.Standing.{IsUnmade, IsSettled, StandsBy, AreStanding, AreMadeTruly}
+use Rattle.sent_law.specs.Standing.{IsSettled, StandsBy, AreStanding, AreMadeTruly}
 use Rattle.sent_law.proofs.ObjectSteps.{step_owns}
 use Rattle.sent_law.proofs.StandSteps.{each_step_stands}
 

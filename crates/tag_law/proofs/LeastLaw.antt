@@ -1,5 +1,5 @@
 -- No object of a component that isn't missing has a tag behind its file's, from each moment to the next.
-use Rattle.std.proofs.Common.{◌≡◌, ◌⊎◌, ◌<◌, ◌≤◌, ◌^◌, ◌&&◌, ◌||◌, ◌++◌, ◌∷◌, ◌+◌, ℕ, Bool, true, false, not, nat_lt, length, List, [], Option, Some, None, refl, sym, ap, subst, ◌∙◌, append_assoc, arith, inl, inr}
+use Rattle.std.proofs.Common.{◌≡◌, ◌⊎◌, ◌<◌, ◌^◌, ◌&&◌, ◌||◌, ◌++◌, ◌∷◌, ◌+◌, ℕ, Bool, true, false, not, nat_lt, length, List, [], Option, Some, None, refl, sym, ap, subst, ◌∙◌, append_assoc, arith, inl, inr}
 use Rattle.std.proofs.lemmas.Bool.{cases_Bool}
 use Rattle.std.proofs.lemmas.Bool.Decides.{nat_tests}
 use Rattle.std.proofs.lemmas.List.{append-nil}
@@ -8,10 +8,8 @@ use Rattle.scenario_text.specs.declared.event.Event.{Event}
 use Rattle.scenario_text.specs.declared.line.Line.{Line}
 use Rattle.server_rules.specs.History.{Input, Hears}
 use Rattle.server_rules.specs.Laws.{In}
-use Rattle.server_rules.specs.declared.limits.TheConstants.{COUNTERS_END}
 use Rattle.server_rules.specs.Messages.{Replies as RepliesTo, awaited_by, counters_have_room}
 use Rattle.server_rules.proofs.Members.{one_in}
-use Rattle.world_history.specs.declared.limits.TheConstants.{MAX_KEPT}
 use Rattle.world_history.specs.ServerNames.{Server, File, Component}
 use Rattle.world_history.specs.State.{World, DriveAt, at_number, empty_world}
 use Rattle.world_history.specs.Moves.{acts}
@@ -43,8 +41,9 @@ use Rattle.exchange_law.proofs.SlotMoments.{always}
 use Rattle.calm_law.specs.Naming.{IsNamed, AreNamed}
 use Rattle.exchange_law.specs.Text.{AreOfText, AreFew}
 use Rattle.exchange_law.specs.Files.{ComponentFits, KeptFits, AllFilesFit}
-use Rattle.exchange_law.specs.Counters.{ServerCounts, ServerIsCounted}
+use Rattle.exchange_law.specs.Counters.{ServerIsCounted}
 use Rattle.exchange_law.proofs.CountGrowing.{as_many, fewer, text_front}
+use Rattle.exchange_law.proofs.CountWorlds.{few_have_room}
 use Rattle.sent_law.specs.Tagged.{NoCommandIsAhead}
 use Rattle.tag_law.specs.Origin.{EachTagWasSent}
 use Rattle.sent_law.specs.Standing.{IsCreating, IsCutOff, IsThere, IsSettled, StandsBy, AreStanding, AreMadeTruly, EachStepStands}
@@ -92,25 +91,6 @@ fits_reached object tag b object_fits tag_fits e =
     both : (p q : Bool) → p ≡ true → q ≡ true → (p && q) ≡ true
     both true q x y = y
     both false q x y = absurd (cc x)
-
--- ---- the server's counters
-
--- few messages leave them room
-few_have_room : (w : World) → ServerCounts w.server (length w.network.messages)
-    → length w.network.messages ≤ MAX_KEPT → counters_have_room w.server ≡ true
-unfolding counters_have_room
-few_have_room w c few =
-    all_less (nat_lt w.server.next_nonce COUNTERS_END) (nat_lt w.server.next_object COUNTERS_END)
-    (nat_lt w.server.next_recall COUNTERS_END) (less w.server.next_nonce (omega (arith, c.nonces, few)))
-    (less w.server.next_object (omega (arith, c.objects, few))) (less w.server.next_recall (omega (arith, c.recalls, few)))
-  where
-    less : (n : ℕ) → n < COUNTERS_END → nat_lt n COUNTERS_END ≡ true
-    less n l = grind (arith, l, nat_tests)
-
-    all_less : (a b c : Bool) → a ≡ true → b ≡ true → c ≡ true → (a && (b && c)) ≡ true
-    all_less true true c x y z = z
-    all_less true false c x y z = absurd (cc y)
-    all_less false b c x y z = absurd (cc x)
 
 -- ---- all moves
 
@@ -209,7 +189,9 @@ module _ (run : ServerSentItsRun) (given : EachTagWasSent) (ahead : NoCommandIsA
 
     -- the server's counters have room
     room : counters_have_room w.server ≡ true
-    room = few_have_room w (counted w h k text_before) (omega (arith, as_many w h (read_at w h k), few_before))
+    room =
+        few_have_room w.server (length w.network.messages) (counted w h k text_before)
+        (omega (arith, as_many w h (read_at w h k), few_before))
 
     by_does : Does w m.chosen (acts w m.chosen m.action)
         → AreStanding (move w m).world.down R (move w m).world.server.files

@@ -2,7 +2,6 @@
 use Rattle.std.proofs.Common.{◌≡◌, ◌==◌, ℕ, ◌+◌, ◌++◌, ◌∷◌, [], List, Bool, true, false, Option, Some, None, Result, Ok, Err, IsSome, slice_get, option_map, refl, sym, ap, subst, ◌∙◌, append_assoc, inl, inr, if◌then◌else◌}
 use Rattle.std.proofs.lemmas.Bool.{cases_eq}
 use Rattle.std.proofs.lemmas.List.{append-nil}
-use Rattle.std.proofs.lemmas.List.Sums.{fold-append}
 use Rattle.std.proofs.lemmas.Option.{same_Some}
 use Rattle.osd_commands.specs.declared.actions.Action.{Action}
 use Rattle.osd_commands.specs.declared.actions.Action.TheVariants as action
@@ -31,16 +30,17 @@ use Rattle.scenario_text.specs.declared.line.Line.TheVariants as line
 use Rattle.world_history.specs.declared.messages.Sent.{Sent}
 use Rattle.world_history.specs.State.{DriveAt}
 use Rattle.world_history.specs.Told.{told_verdict}
-use Rattle.world_history.specs.Drives.{verdict_on, judges, made_drive}
-use Rattle.world_history.specs.Reading.{is_drive, sent_in}
-use Rattle.world_history.specs.ReadDrives.{DriveSeen, sees_drive, drive_seen, drive_after, drive_after_event, drive_after_line, hears_bytes, hears_sent}
-use Rattle.world_history.proofs.DriveLines.{drive_line, same_drive, unheard}
+use Rattle.world_history.specs.Drives.{verdict_on, judges, made_drive, is_deaf}
+use Rattle.world_history.specs.Reading.{sent_in}
+use Rattle.world_history.specs.ReadDrives.{drive_seen, drive_after, drive_after_event, drive_after_line, hears_sent}
+use Rattle.world_history.proofs.DriveLines.{drive_line, unheard}
 use Rattle.history_law.specs.Judging.{Judges, JudgesAt, injected_in}
 use Rattle.history_law.specs.Safe.{AtEachLine}
 use Rattle.history_law.proofs.Each.{EachBehind, HoldsAt, judges_of}
 use Rattle.history_law.proofs.DriveLines.{sent_same}
 use Rattle.history_law.proofs.Spending.{IsFree, free}
 use Rattle.history_law.specs.Issued.{IssuedAt}
+use Rattle.history_law.proofs.IssuedLaw.{source_of}
 use Rattle.history_law.specs.Unforged.{AreUnforged, HasFairSource, InjectedAt}
 use Rattle.history_law.proofs.Unforged.{unforged_front}
 use Rattle.fencing_law.proofs.LaneLines.{SentTo, letters_stay}
@@ -263,11 +263,16 @@ module _ (before : List Line) (l : Line) (d : ℕ) where
 
   event_tags : (o : Option DriveAt) (e : Event) → DriveTags before d o
       → DriveTags (before ++ l ∷ []) d (drive_after_event d o e)
-  event_tags o (event.Drive k key capacity) s = made_tags (k == d) o (made_drive k key capacity) refl s
+  event_tags o (event.Drive k key capacity) s = made_tags (k == d) o (made_drive k key capacity false) refl s
+  event_tags o (event.Disk k key capacity) s = made_tags (k == d) o (made_drive k key capacity true) refl s
   event_tags o (event.Least k format) s = where_tags (k == d) _ o (λ a. refl) s
   event_tags o (event.Clock (machine.Drive k) time) s = where_tags (k == d) _ o (λ a. refl) s
   event_tags o (event.Clock machine.Server time) s = same_drives before (l ∷ []) d o o refl s
   event_tags o (event.Fail k) s = fallen_tags (k == d) _ o (λ a. refl) s
+  event_tags o (event.Crash (machine.Drive k)) s = where_tags (k == d) _ o (λ a. refl) s
+  event_tags o (event.Crash machine.Server) s = same_drives before (l ∷ []) d o o refl s
+  event_tags o (event.Reopen (machine.Drive k)) s = where_tags (k == d) _ o (λ a. refl) s
+  event_tags o (event.Reopen machine.Server) s = same_drives before (l ∷ []) d o o refl s
   event_tags o e s = same_drives before (l ∷ []) d o o refl s
 
 -- ---- a message that no drive judges
@@ -275,7 +280,7 @@ module _ (before : List Line) (l : Line) (d : ℕ) where
 deaf_line : (before : List Line) (n : ℕ) (l : Line) (m : Sent) → slice_get (sent_in before) n ≡ Some m
     → ((d : ℕ) → drive_after_line d (drive_seen d before) l
     ≡ hears_sent d (drive_after before d) (slice_get (drive_seen d before).sent n))
-    → ((d : ℕ) (a : DriveAt) → m.to ≡ party.Drive d → drive_after before d ≡ Some a → a.failed ≡ true)
+    → ((d : ℕ) (a : DriveAt) → m.to ≡ party.Drive d → drive_after before d ≡ Some a → is_deaf a ≡ true)
     → ((d : ℕ) → DriveTags before d (drive_after before d)) → (d : ℕ)
     → DriveTags (before ++ l ∷ []) d (drive_after (before ++ l ∷ []) d)
 unfolding sent_in
@@ -305,7 +310,8 @@ line_tags before (line.Event e) fair says issued injected s d =
     (event_tags before (line.Event e) d (drive_after before d) e (s d))
 line_tags before (line.Delivered n (delivery.Judged v)) fair says issued injected s d =
     judged_line before _ says.tells.0 says.message.bytes v says.tells.2
-    (λ is. inl (delivered_from before n v is issued says.message says.tells.0 says.sent says.tells.1)) s d
+    (λ is. inl (source_of before says.message.from says.tells.0 says.message.bytes
+    (delivered_from before n v is issued says.message says.tells.0 says.sent says.tells.1))) s d
 line_tags before (line.Delivered n delivery.Deaf) fair says issued injected s d =
     deaf_line before n _ says.message says.sent (λ k. refl) says.tells s d
 line_tags before (line.Delivered n delivery.Taken) fair says issued injected s d =

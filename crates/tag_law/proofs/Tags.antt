@@ -1,6 +1,5 @@
 -- Each object whose CREATE is awaited has the file's tag or a later one, once it is there.
-use Rattle.std.specs.List.{AllByRecursion}
-use Rattle.std.proofs.Common.{◌≡◌, ◌<◌, ◌≤◌, ◌^◌, ◌||◌, ℕ, Bool, true, false, nat_le, List, [], ◌∷◌, Option, Some, None, slice_get, refl, sym, ap, subst, ◌∙◌, arith, inl, inr}
+use Rattle.std.proofs.Common.{◌≡◌, ◌<◌, ◌≤◌, ◌^◌, ◌||◌, ℕ, Bool, true, false, nat_le, List, [], Option, Some, None, slice_get, refl, sym, ap, subst, ◌∙◌, arith, inl, inr}
 use Rattle.std.proofs.lemmas.List.{append-nil}
 use Rattle.std.proofs.lemmas.Bool.Decides.{nat_tests}
 use Rattle.osd_lists.specs.declared.node.Node.TheVariants as node
@@ -93,7 +92,8 @@ module _ (run : ServerSentItsRun) (given : EachTagWasSent) (ahead : NoCommandIsA
         omega (arith, (counted w h k text).objects, as_many w h read, few) in
         let same : g.command.object ≡ c.command.object = reads.object (omega (arith, s.used, next)) in
         let tag : f.kept.tag ≤ c.command.capability.tag =
-        first r.acts r.turns (subst (λ (s : Server). counters_have_room s ≡ true) r.server low) f (subst (λ (s : Server). In f s.files) r.server i) a j makes a.drive c.command
+        first r.acts r.turns (subst (λ (s : Server). counters_have_room s ≡ true) r.server low) f
+        (subst (λ (s : Server). In f s.files) r.server i) a j makes a.drive c.command
         sent (sym same ∙ g.object_is) in
         let fits : KeptFits w.server.next_object s.file.kept =
         one_in (λ (y : File). KeptFits w.server.next_object y.kept) w.server.files s.file (files w h k text)

@@ -35,7 +35,8 @@ HaveTags h =
     IsCreating (awaited_by f.job) at.drive at.object f.kept.tag ⊎ HasTag f.kept (drive_after h at.drive) at.object
     ⊎ IsCutOff f
 
--- so it is where these are a moment of a history of a scenario's text, with few messages, and nothing that was injected so far is forged
+-- so it is where these are a moment of a history of a scenario's text, with few messages, and nothing that was injected so
+-- far is forged
 abbrev pub HaveTagsAt : List Line → Type 0
 HaveTagsAt h =
     (w : World) → IsMoment w h → AreWritten h → AreOfText h → AreFew h → AreUnforged h → HaveTags h

@@ -22,3 +22,4 @@ mod RowsTorn
 mod RowsMended
 mod RowsTaken
 mod RowsRefused
+mod RowsRestart

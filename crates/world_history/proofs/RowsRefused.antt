@@ -7,7 +7,7 @@ use Rattle.scenario_text.specs.declared.event.Call.TheVariants as call
 use Rattle.scenario_text.specs.declared.event.Sender.TheVariants as sender
 use Rattle.scenario_text.specs.declared.event.Machine.TheVariants as machine
 use Rattle.world_history.specs.declared.err.WorldErr.{WorldErr}
-use Rattle.world_history.specs.declared.err.WorldErr.TheVariants.{NotYet, NoName, Taken, Dead, Alive, NotKept, Running, NoMessage}
+use Rattle.world_history.specs.declared.err.WorldErr.TheVariants.{NotYet, NoName, Taken, Dead, Alive, NotKept, Down, Running, NoMessage}
 use Rattle.world_history.specs.State.{World, empty_world}
 use Rattle.world_history.specs.Refusals.{refusal}
 use Rattle.world_history.proofs.Played.{played_all, drive, file}
@@ -102,3 +102,75 @@ pub others : refused (
     ≡ None ∷ Some (NoMessage 1) ∷ Some (NoMessage 1) ∷ None ∷ None ∷ Some NotYet ∷ []
 unfolding opened opened_server
 others = refl
+
+-- ---- while the server is down
+
+-- The world: drive 0, which is kept, is down, drive 1 failed and is kept, client 0, file 0, one message.
+abbrev down : World
+down = (played_all empty_world (
+    event.Disk 0 [] 20000 ∷
+    event.Disk 1 [] 20000 ∷
+    event.Client 0 ∷
+    event.Crash (machine.Drive 0) ∷
+    event.Fail 1 ∷
+    file 0 1 1 ∷
+    event.Crash machine.Server ∷
+    [])).world
+
+abbrev refused_then : List Event → List (Option WorldErr)
+refused_then events = map (refusal down) events
+
+-- drives: what is said of each of them comes before the server
+pub drives_then : refused_then (
+    drive 0 ∷
+    drive 2 ∷
+    event.Disk 1 [] 20000 ∷
+    event.Disk 2 [] 20000 ∷
+    event.Crash (machine.Drive 0) ∷
+    event.Crash (machine.Drive 1) ∷
+    event.Reopen (machine.Drive 0) ∷
+    event.Reopen (machine.Drive 1) ∷
+    event.Inject 0 [] ∷
+    event.Least 0 2 ∷
+    event.Clock (machine.Drive 0) 1 ∷
+    event.Fail 0 ∷
+    event.Declare 0 ∷
+    event.Declare 1 ∷
+    event.Declare 2 ∷
+    [])
+    ≡ Some Taken ∷ Some Down ∷ Some Taken ∷ Some Down ∷ Some Down ∷ Some Dead ∷ None ∷ Some Dead ∷ Some Down ∷ Some Down
+    ∷ None ∷ None ∷ Some Alive ∷ Some Down ∷ Some NoName ∷ []
+unfolding opened opened_server
+drives_then = refl
+
+-- the server and its files
+pub server_then : refused_then (
+    file 1 1 1 ∷
+    event.Recall 0 ∷
+    event.Recall 1 ∷
+    event.Revoke 0 ∷
+    event.Rebuild 0 ∷
+    event.Audit 0 ∷
+    event.Format 2 ∷
+    event.Resend sender.Server ∷
+    event.Clock machine.Server 1 ∷
+    event.Crash machine.Server ∷
+    event.Reopen machine.Server ∷
+    [])
+    ≡ Some Down ∷ Some Down ∷ Some NoName ∷ Some Down ∷ Some Down ∷ Some Down ∷ Some Down ∷ Some Down ∷ Some Down
+    ∷ Some Down ∷ None ∷ []
+unfolding opened opened_server
+server_then = refl
+
+-- clients and messages
+pub others_then : refused_then (
+    event.Client 1 ∷
+    event.Do 0 (call.Read 0 0 1) ∷
+    event.Resend (sender.Client 0) ∷
+    event.Deliver 0 ∷
+    event.DropMessage 0 ∷
+    event.Settle ∷
+    [])
+    ≡ None ∷ None ∷ None ∷ None ∷ None ∷ None ∷ []
+unfolding opened opened_server
+others_then = refl
