@@ -93,11 +93,7 @@ fn fence(
 }
 
 // The file is made if it isn't ready.
-fn make_unready(
-    alloc: Global,
-    file: &mut FileState,
-    effects: &mut Effects,
-) -> Result<(), Memory>
+fn make_unready(alloc: Global, file: &mut FileState, effects: &mut Effects) -> Result<(), Memory>
     requires sound { IsSoundFile file.old }
     requires alone { file.old.kept.grants ≡ [] }
     requires low { effects.old.nonce < 2 ^ 63 }
