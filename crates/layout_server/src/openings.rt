@@ -159,7 +159,12 @@ fn open_all(alloc: Global, state: &mut State) -> Result<Step, Memory>
 {
     let format = state.format;
     let mut effects = no_effects(alloc, state.next_nonce, state.next_object);
-    at_each_file(alloc, &mut state.files, &mut effects, &FileOpening { format })?;
+    at_each_file(
+        alloc,
+        &mut state.files,
+        &mut effects,
+        &FileOpening { format },
+    )?;
     let step = finish_step(alloc, state, effects)?;
     list_all(alloc, state)?;
     Ok(step)
