@@ -25,7 +25,7 @@ use Rattle.scenario_text.specs.declared.line.Note.TheVariants as note
 use Rattle.scenario_text.specs.declared.line.Party.TheVariants as party
 use Rattle.world_history.specs.ServerNames.{File, Still}
 use Rattle.world_history.specs.State.{World, empty_world}
-use Rattle.world_history.proofs.Played.{played_all, without_bytes, shown, sent, taken, deaf, fails, file}
+use Rattle.world_history.proofs.Played.{played_all, without_bytes, sent, taken, deaf, fails}
 use Rattle.world_history.proofs.Opened.{opened}
 use Rattle.world_history.proofs.OpenedText.{opened_text}
 use Rattle.world_history.proofs.OpenedServer.{opened_server}
@@ -113,50 +113,3 @@ lines =
 pub plays : map without_bytes (played_all first events).lines ≡ lines
 unfolding opened opened_server opened_client opened_text
 plays = refl
-
--- ---- a file whose making was cut off: the opening sends each CREATE again
-
--- The scenario:
--- disk d0 0b..0b 20000
--- disk d1 0b..0b 20000
--- crash d0
--- crash d1
--- file f0 2 4 0 0 0 2 1
--- crash s
--- reopen s
--- settle
-abbrev unmade : List Event
-unmade =
-    event.Disk 0 [] 20000 ∷
-    event.Disk 1 [] 20000 ∷
-    event.Crash (machine.Drive 0) ∷
-    event.Crash (machine.Drive 1) ∷
-    file 0 2 2 ∷
-    event.Crash machine.Server ∷
-    event.Reopen machine.Server ∷
-    event.Settle ∷
-    []
-
-abbrev unmade_lines : List Line
-unmade_lines =
-    line.Event (event.Disk 0 [] 20000) ∷
-    line.Event (event.Disk 1 [] 20000) ∷
-    line.Event (event.Crash (machine.Drive 0)) ∷
-    line.Event (event.Crash (machine.Drive 1)) ∷
-    line.Event (file 0 2 2) ∷
-    sent 0 party.Server (party.Drive 0) ∷
-    sent 1 party.Server (party.Drive 1) ∷
-    deaf 0 ∷
-    deaf 1 ∷
-    line.Event (event.Crash machine.Server) ∷
-    line.Event (event.Reopen machine.Server) ∷
-    sent 2 party.Server (party.Drive 0) ∷
-    sent 3 party.Server (party.Drive 1) ∷
-    line.Event event.Settle ∷
-    deaf 2 ∷
-    deaf 3 ∷
-    []
-
-pub makes_again : shown unmade ≡ unmade_lines
-unfolding opened opened_server opened_client opened_text
-makes_again = refl
