@@ -8,11 +8,10 @@ use Rattle.server_rules.specs.Files.{Step, at_file, to_drives}
 use Rattle.server_rules.specs.Jobs.{fence_begins}
 use Rattle.server_rules.specs.Served.{Served}
 use Rattle.server_rules.specs.Requests.{serves, on_request}
-use Rattle.server_rules.specs.Messages.{Message, awaited_by, on_message}
+use Rattle.server_rules.specs.Messages.{awaited_by}
 use Rattle.server_rules.specs.Orders.{declare}
-use Rattle.server_rules.specs.Making.{create_file}
-use Rattle.server_rules.specs.History.{Input, Hears, Makes, unless_made, step}
-use Rattle.world_history.specs.ServerNames.{Server, File, Drive, Grant, Awaited, Outgoing, ClientRequest, RawMap}
+use Rattle.server_rules.specs.History.{Input, Hears, step}
+use Rattle.world_history.specs.ServerNames.{Server, File, Drive, Grant, Awaited, Outgoing, ClientRequest}
 use Rattle.move_law.specs.Steps.{answered_file}
 use Rattle.move_law.proofs.Steps.{each_request, each_step}
 use Rattle.calm_law.specs.Words.{Each}
@@ -63,11 +62,11 @@ unfolding declare
 out_declared s chosen drive = out_drives _ _
 
 -- it isn't an order that the server sent to itself
-abbrev IsOutward : Input → Type 0
+abbrev pub IsOutward : Input → Type 0
 IsOutward (Hears now from m) = IsOther from
 IsOutward i = Unit {0}
 
-out_step : (s : Server) (chosen : List ℕ) (i : Input) → IsOutward i → GoOut (step s chosen i).sends
+pub out_step : (s : Server) (chosen : List ℕ) (i : Input) → IsOutward i → GoOut (step s chosen i).sends
 out_step s chosen i outward = each_step s chosen i (λ (t : Step). GoOut t.sends) (record {
   rests = tt;
   asked = λ now q is. out_request s now chosen q;
@@ -84,25 +83,3 @@ out_step s chosen i outward = each_step s chosen i (λ (t : Step). GoOut t.sends
   crashes = λ is. tt;
   opened = λ is low. out_drives s.drives _;
 })
-
--- a message of another
-pub out_message : (s : Server) (now : ℕ) (chosen : List ℕ) (from : Node) (m : Message) → IsOther from
-    → GoOut (on_message s now chosen from m).sends
-out_message s now chosen from m h = out_step s chosen (Hears now from m) h
-
--- a file that is made
-pub out_created : (s : Server) (n : ℕ) (m : RawMap) (tag : ℕ) (chosen : List ℕ)
-    → GoOut (unless_made s (create_file s n m tag chosen)).sends
-out_created s n m tag chosen = out_step s chosen (Makes n m tag) tt
-
--- what an event gives the server to do
-abbrev pub IsOwn : Input → Type 0
-IsOwn (Hears now from m) = ⊥
-IsOwn i = Unit {0}
-
-own_outward : (i : Input) → IsOwn i → IsOutward i
-own_outward (Hears now from m) h = absurd h
-own_outward i h = tt
-
-pub out_given : (s : Server) (chosen : List ℕ) (i : Input) → IsOwn i → GoOut (step s chosen i).sends
-out_given s chosen i h = out_step s chosen i (own_outward i h)
