@@ -143,4 +143,5 @@ not_alive (Some a) e = elim (cases_Bool a.failed) [ inl t ↦ t | inr z ↦ absu
 pub declared_have_failed : DeclaredHaveFailed
 unfolding refusal
 declared_have_failed w h d is e =
-    failed_seen h d (ap (λ (o : Option DriveAt). has_failed o) is ∙ not_alive (at_number w.drives d) (no_cause (if_failed (at_number w.drives d)) (unless_down w) e).0)
+    failed_seen h d (ap (λ (o : Option DriveAt). has_failed o) is
+    ∙ not_alive (at_number w.drives d) (no_cause (if_failed (at_number w.drives d)) (unless_down w) e).0)

@@ -18,7 +18,7 @@ use Rattle.osd_drive.proofs.Clear.{clear_early, clear_late}
 use Rattle.server_rules.specs.Files.{Step as ServerStep}
 use Rattle.server_rules.specs.Making.{create_file}
 use Rattle.server_rules.specs.Messages.{Message as ServerMessage}
-use Rattle.server_rules.specs.History.{Hears as ServerHears, step as server_step}
+use Rattle.server_rules.specs.History.{step as server_step}
 use Rattle.server_rules.specs.History as server_input
 use Rattle.client_rules.specs.Messages.{Message as ClientMessage, Step as ClientStep}
 use Rattle.client_rules.specs.Steps.{calls}

@@ -47,7 +47,7 @@ pub mod Stepping
 pub mod Shapes
 pub mod MoveOpening
 mod MoveStepping
-mod MoveFollowing
+pub mod MoveFollowing
 pub mod Events
 pub mod Inside
 mod Watching

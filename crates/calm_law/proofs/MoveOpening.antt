@@ -1,5 +1,5 @@
 -- The lines of an event's first move.
-use Rattle.std.proofs.Common.{◌≡◌, ℕ, zero, suc, ◌<◌, ◌∷◌, [], List, Bool, true, false, true≢false, Option, Some, None, Result, Ok, Err, is_some, length, slice_get, nat_lt, arith, refl, sym, if◌then◌else◌}
+use Rattle.std.proofs.Common.{◌≡◌, ℕ, [], List, Bool, true, false, true≢false, Option, Some, None, Result, Ok, Err, is_some, length, slice_get, nat_lt, arith, refl, sym, if◌then◌else◌}
 use Rattle.std.proofs.lemmas.Bool.Decides.{nat_tests}
 use Rattle.osd_lists.proofs.Slices.{some_at}
 use Rattle.server_rules.specs.Files.{Step as ServerStep}

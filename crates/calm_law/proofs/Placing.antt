@@ -1,22 +1,16 @@
 -- The drives on which files are made, and those that the server knows.
-use Rattle.std.proofs.Common.{◌≡◌, ℕ, zero, suc, ◌+◌, ◌==◌, ◌&&◌, not, nat_le, nat_lt, ◌∷◌, [], List, Bool, true, false, Option, Some, None, is_some, find, map, filter, take, length, refl, sym, ap, subst, ◌∙◌, inl, inr, if◌then◌else◌}
+use Rattle.std.proofs.Common.{◌≡◌, ◌⊎◌, ℕ, zero, suc, ◌+◌, ◌==◌, ◌&&◌, not, nat_lt, ◌∷◌, [], List, Bool, true, false, Option, Some, None, is_some, find, map, filter, take, length, refl, sym, ap, subst, ◌∙◌, inl, inr}
 use Rattle.std.proofs.lemmas.Bool.{cases_Bool}
-use Rattle.osd_lists.specs.declared.node.Node.{Node}
-use Rattle.osd_lists.specs.declared.node.Node.TheVariants as node
 use Rattle.osd_lists.proofs.Tests.{second_true}
-use Rattle.server_rules.specs.declared.limits.TheConstants.{MAX_CLIENT, GREATEST_TAG}
 use Rattle.server_rules.specs.Numbers.{among}
-use Rattle.server_rules.specs.Files.{Step, still, file_at, add_file}
-use Rattle.server_rules.specs.Going.{Going}
-use Rattle.server_rules.specs.Slots.{Admit, New, Again, Misordered, admit, slot_of}
-use Rattle.server_rules.specs.Requests.{carries_out, by_admit, on_request}
+use Rattle.server_rules.specs.Files.{Step, add_file}
+use Rattle.server_rules.specs.Requests.{on_request}
 use Rattle.server_rules.specs.Making.{online, refusal, unless_refused, are_of, places, components_on, unmade, makes_file, create_file, add_drive, new_server}
-use Rattle.server_rules.specs.Messages.{Message, Asks, Replies, Orders, counters_have_room, by_heard, heard_at, on_drive_reply, handled, on_message}
-use Rattle.server_rules.specs.Orders.{begins_job, starts, recalls_on, offline, declares_known, declare, ordered}
-use Rattle.server_rules.specs.Openings.{reopen}
-use Rattle.server_rules.specs.History.{Input, Hears, Makes, Obeys, Adds, Opens, Act, step, state_after, unless_made}
+use Rattle.server_rules.specs.Orders.{offline, declare}
+use Rattle.server_rules.specs.History.{Input, Makes, Adds, Act, step, state_after, unless_made}
 use Rattle.server_rules.proofs.FileLaws.{not_there}
-use Rattle.world_history.specs.ServerNames.{Server, File, Drive, Job, JobKind, ClientRequest, Reply, OrderKind, ToRecall, ToRevoke, ToDeclare, ToRebuild, ToAudit, Revoking, Rebuilding, Auditing, Refusal, RawMap}
+use Rattle.world_history.specs.ServerNames.{Server, File, Drive, ClientRequest, Refusal, RawMap}
+use Rattle.move_law.proofs.Steps.{each_request, each_step}
 use Rattle.calm_law.specs.Words.{Each}
 use Rattle.calm_law.specs.Naming.{IsNamedInput}
 use Rattle.calm_law.specs.Sound.{IsSound}
@@ -117,116 +111,67 @@ different_added (e ∷ ds) d h a = elim (cases_Bool (nat_lt e.number d.number)) 
   | inr z ↦ rw z (a, h)
 ]
 
--- the same drives
-abbrev Knows : Server → Step → Type 0
-Knows s did = numbers did.state.drives ≡ numbers s.drives
+-- the same drives, or one more
+abbrev Knows : Server → Input → Step → Type 0
+Knows s i did =
+    (numbers did.state.drives ≡ numbers s.drives)
+    ⊎ ((d : Drive) × (i ≡ Adds d) × (did.state.drives ≡ add_drive s.drives d))
 
-either : (s : Server) (b : Bool) (x y : Step) → Knows s x → Knows s y → Knows s (if b then x else y)
-either s true x y h g = h
-either s false x y h g = g
+knows_request : (s : Server) (now : ℕ) (chosen : List ℕ) (q : ClientRequest)
+    → numbers (on_request s now chosen q).state.drives ≡ numbers s.drives
+knows_request s now chosen q =
+    each_request s now chosen q (λ (t : Step). numbers t.state.drives ≡ numbers s.drives) (record {
+      again = λ kept is. refl;
+      misordered = λ expected is. refl;
+      without = λ new none. refl;
+      served = λ new f found. refl;
+    })
 
-knows_carried : (s : Server) (now : ℕ) (chosen : List ℕ) (q : ClientRequest) (o : Option File)
-    → Knows s (carries_out s now chosen q o)
-knows_carried s now chosen q None = refl
-knows_carried s now chosen q (Some f) = refl
-
-knows_admitted : (s : Server) (now : ℕ) (chosen : List ℕ) (q : ClientRequest) (a : Admit) → Knows s (by_admit s now chosen q a)
-knows_admitted s now chosen q New = knows_carried s now chosen q (file_at s.files q.file)
-knows_admitted s now chosen q (Again kept) = refl
-knows_admitted s now chosen q (Misordered expected) = refl
-
-knows_request : (s : Server) (now : ℕ) (chosen : List ℕ) (q : ClientRequest) → Knows s (on_request s now chosen q)
-unfolding on_request
-knows_request s now chosen q = knows_admitted s now chosen q (admit (slot_of s.slots q.client) q.sequence)
-
-knows_heard : (s : Server) (o : Option Going) → Knows s (by_heard s o)
-knows_heard s None = refl
-knows_heard s (Some g) = refl
-
-knows_reply : (s : Server) (chosen : List ℕ) (drive : ℕ) (r : Reply) → Knows s (on_drive_reply s chosen drive r)
-unfolding on_drive_reply
-knows_reply s chosen drive r = knows_heard s (heard_at s chosen drive r s.files)
-
-knows_job : (s : Server) (chosen : List ℕ) (kind : JobKind) (f : File) (j : Option Job)
-    → Knows s (begins_job s chosen kind f j).step
-knows_job s chosen kind f (Some j) = refl
-knows_job s chosen kind f None = elim (cases_Bool (f.kept.tag == GREATEST_TAG)) [ inl t ↦ rw t refl | inr z ↦ rw z refl ]
-
-knows_starts : (s : Server) (chosen : List ℕ) (kind : JobKind) (o : Option File) → Knows s (starts s chosen kind o).step
-knows_starts s chosen kind None = refl
-knows_starts s chosen kind (Some f) = knows_job s chosen kind f f.job
-
-knows_recalls : (s : Server) (o : Option File) → Knows s (recalls_on s o).step
-knows_recalls s None = refl
-knows_recalls s (Some f) = refl
-
-knows_declared : (s : Server) (chosen : List ℕ) (drive : ℕ) (b : Bool) → Knows s (declares_known s chosen drive b).step
+knows_declared : (s : Server) (chosen : List ℕ) (drive : ℕ)
+    → numbers (declare s chosen drive).state.drives ≡ numbers s.drives
 unfolding declare
-knows_declared s chosen drive true = numbers_offline s.drives drive
-knows_declared s chosen drive false = refl
+knows_declared s chosen drive = numbers_offline s.drives drive
 
-knows_ordered : (s : Server) (chosen : List ℕ) (kind : OrderKind) (n : ℕ) → Knows s (ordered s chosen kind n).step
-unfolding ordered
-knows_ordered s chosen ToRecall n = knows_recalls s (file_at s.files n)
-knows_ordered s chosen ToRevoke n = knows_starts s chosen Revoking (file_at s.files n)
-knows_ordered s chosen ToDeclare n = knows_declared s chosen n (is_some (find (λ d. d.number == n) s.drives))
-knows_ordered s chosen ToRebuild n = knows_starts s chosen Rebuilding (file_at s.files n)
-knows_ordered s chosen ToAudit n = knows_starts s chosen Auditing (file_at s.files n)
-
-knows_handled : (s : Server) (now : ℕ) (chosen : List ℕ) (from : Node) (m : Message) → Knows s (handled s now chosen from m)
-knows_handled s now chosen (node.Client c) (Asks q) =
-    either s ((q.client == c) && nat_le c MAX_CLIENT) (on_request s now chosen q) (still s) (knows_request s now chosen q) refl
-knows_handled s now chosen (node.Drive d) (Replies r) = knows_reply s chosen d r
-knows_handled s now chosen node.Server (Orders o) = knows_ordered s chosen o.order o.target
-knows_handled s now chosen from m = refl
-
-knows_message : (s : Server) (now : ℕ) (chosen : List ℕ) (from : Node) (m : Message) → Knows s (on_message s now chosen from m)
-unfolding on_message
-knows_message s now chosen from m =
-    either s (counters_have_room s) (handled s now chosen from m) (still s) (knows_handled s now chosen from m) refl
-
-knows_unless : (s : Server) (o : Option Refusal) (f : File) → Knows s (unless_made s (unless_refused o (makes_file s f)))
-knows_unless s (Some r) f = refl
-knows_unless s None f = refl
-
--- those that it knows behind a step
-abbrev known_then : Input → List Drive → List Drive
-known_then (Adds d) ds = add_drive ds d
-known_then i ds = ds
-
-knows_step : (s : Server) (chosen : List ℕ) (i : Input)
-    → numbers (step s chosen i).state.drives ≡ numbers (known_then i s.drives)
-unfolding create_file reopen
-knows_step s chosen (Hears now from m) = knows_message s now chosen from m
-knows_step s chosen (Makes n m tag) =
-    knows_unless s (refusal s n m) (unmade s n m tag (places s.drives m.comps chosen))
-knows_step s chosen (Obeys kind n) = knows_ordered s chosen kind n
-knows_step s chosen Opens = either s (counters_have_room s) _ (still s) refl refl
-knows_step s chosen i = refl
+knows_step : (s : Server) (chosen : List ℕ) (i : Input) → Knows s i (step s chosen i)
+knows_step s chosen i = each_step s chosen i (Knows s i) (record {
+  rests = inl refl;
+  asked = λ now q is. inl (knows_request s now chosen q);
+  answered = λ x is. inl refl;
+  recalled = λ f is. inl refl;
+  refused = λ f is n why. inl refl;
+  fenced = λ f is kind none low. inl refl;
+  declared = λ d known. inl (knows_declared s chosen d);
+  told = λ t now o is result knows. knows;
+  made = λ n m tag is none. inl refl;
+  added = λ d is. inr (d, is, refl);
+  formats = λ n is. inl refl;
+  resends = λ is. inl refl;
+  crashes = λ is. inl refl;
+  opened = λ is low. inl refl;
+})
 
 -- another drive than the one that is added, if any
 abbrev pub IsOther : ℕ → Input → Type 0
 IsOther n (Adds d) = n ≡ d.number → ⊥
 IsOther n i = Unit {0}
 
-not_then : (n : ℕ) (i : Input) (ds : List Drive) → IsOther n i → among n (numbers ds) ≡ false
-    → among n (numbers (known_then i ds)) ≡ false
-not_then n (Adds d) ds o h = not_added n ds d o h
-not_then n i ds o h = h
-
 -- behind a step, too, it doesn't know such a drive
 pub not_known : (s : Server) (chosen : List ℕ) (i : Input) (n : ℕ) → IsOther n i → among n (numbers s.drives) ≡ false
     → among n (numbers (step s chosen i).state.drives) ≡ false
-not_known s chosen i n o h = ap (λ (ns : List ℕ). among n ns) (knows_step s chosen i) ∙ not_then n i s.drives o h
-
-different_then : (s : Server) (i : Input) → AreDifferent (numbers s.drives) → IsFresh s i
-    → AreDifferent (numbers (known_then i s.drives))
-different_then s (Adds d) h a = different_added s.drives d h a
-different_then s i h a = h
+not_known s chosen i n o h = elim (knows_step s chosen i) [
+  | inl same ↦ ap (λ (ns : List ℕ). among n ns) same ∙ h
+  | inr (d, is, more) ↦
+      ap (λ (ds : List Drive). among n (numbers ds)) more ∙ not_added n s.drives d (subst (IsOther n) is o) h
+]
 
 different_drives : (s : Server) (chosen : List ℕ) (i : Input) → AreDifferent (numbers s.drives) → IsFresh s i
     → AreDifferent (numbers (step s chosen i).state.drives)
-different_drives s chosen i h a = subst AreDifferent (sym (knows_step s chosen i)) (different_then s i h a)
+different_drives s chosen i h a = elim (knows_step s chosen i) [
+  | inl same ↦ subst AreDifferent (sym same) h
+  | inr (d, is, more) ↦
+      subst (λ (ds : List Drive). AreDifferent (numbers ds)) (sym more)
+      (different_added s.drives d h (subst (IsFresh s) is a))
+]
 
 -- ---- each step
 

@@ -1,5 +1,5 @@
 -- What becomes of the grants of a file: they stay or end, and a LAYOUTGET may give its client one.
-use Rattle.std.proofs.Common.{◌≡◌, ◌==◌, ℕ, ◌+◌, Bool, true, false, List, [], ◌∷◌, Option, Some, None, find, inl, inr, refl, sym, ap, subst, ◌∙◌, if◌then◌else◌}
+use Rattle.std.proofs.Common.{◌≡◌, ◌==◌, ℕ, ◌+◌, Bool, true, false, List, [], ◌∷◌, Some, inl, inr, refl, sym, ap, subst, ◌∙◌, if◌then◌else◌}
 use Rattle.std.proofs.lemmas.Bool.{cases_eq, eq-eqb, ne_eqb}
 use Rattle.server_rules.specs.declared.limits.TheConstants.{GREATEST_TAG}
 use Rattle.world_history.specs.ServerNames.{Kept, Component, Grant, JobKind, Revoking, Job, Awaited, Reply, Reported}
@@ -7,10 +7,10 @@ use Rattle.server_rules.specs.Grants.{grant_of, without}
 use Rattle.server_rules.specs.Jobs.{making, ending, fences, fence_begins, declares}
 use Rattle.server_rules.specs.Going.{Going, keeping, noting_if}
 use Rattle.server_rules.specs.Commit.{Committed, NoGrant, Wrong, Sizes, by_commit}
-use Rattle.server_rules.specs.Laws.{Ran, Rests, IsSafe}
+use Rattle.server_rules.specs.Laws.{Ran, IsSafe}
 use Rattle.server_rules.specs.Numbers.{among}
 use Rattle.server_rules.specs.Openings.{is_unsettled, opens_made, opens_fenced, opens}
-use Rattle.server_rules.specs.Replies.{hearing, on_reply, heard_by, heard_in, answers}
+use Rattle.server_rules.specs.Replies.{hearing, hears}
 use Rattle.server_rules.specs.Return.{Returned, NoGrant as NotHeld, Clean, Taken, TooMany, Fencing, ends_grant, reports_from, takes_loss, by_return}
 use Rattle.server_rules.specs.Standing.{lose_from}
 use Rattle.server_rules.proofs.Runs.{ran_making, ran_fences, ran_declares}
@@ -86,24 +86,10 @@ opens_fewer format go =
     (made_fewer go go.file.kept.ready)
 
 -- where the reply is heard, a job runs, beside which no grant is live
-abbrev pub HeardNone : Option Going → Type 0
-HeardNone None = Unit {0}
-HeardNone (Some go) = go.file.kept.grants ≡ []
-
-by_none : (go : Going) (r : Reply) (j : Job) (o : Option Awaited) → Rests (Some j) → Rests go.file.job
-    → go.file.kept.grants ≡ [] → HeardNone (heard_by go r j o)
-by_none go r j None w s e = tt
-by_none go r j (Some a) w s e = (ran_hears go j a r (hearing go.file.kept a r) w s).grants ∙ e
-
-in_none : (go : Going) (drive : ℕ) (r : Reply) (j : Option Job) → go.file.job ≡ j → IsSafe go.file
-    → HeardNone (heard_in go drive r j)
-in_none go drive r None e s = tt
-in_none go drive r (Some j) e s =
-    by_none go r j (find (answers drive r) j.awaited) (rw e at s.rests) s.rests (rw e at s.alone)
-
-pub reply_none : (go : Going) (drive : ℕ) (r : Reply) → IsSafe go.file → HeardNone (on_reply go drive r)
-unfolding on_reply
-reply_none go drive r s = in_none go drive r go.file.job refl s
+pub hears_none : (go : Going) (r : Reply) (j : Job) (a : Awaited) → go.file.job ≡ Some j → IsSafe go.file
+    → (hears go j a r (hearing go.file.kept a r)).file.kept.grants ≡ []
+hears_none go r j a e s =
+    (ran_hears go j a r (hearing go.file.kept a r) (rw e at s.rests) s.rests).grants ∙ (rw e at s.alone)
 
 -- ---- commits and returns
 

@@ -39,7 +39,8 @@ use Rattle.exchange_law.specs.HeldTaken.{IsGetOf}
 use Rattle.exchange_law.specs.Calls.{Knows, IsNoGet, Writes, Passes, IsCall, PhaseFine, CallFine, IsAsking, GoodAnswer}
 use Rattle.exchange_law.specs.Meeting.{AgreesAt, KeptGood, IsMet, Reads, FilesSound}
 use Rattle.exchange_law.proofs.HeldServing.{MayGive, serves_may, IsTellable}
-use Rattle.exchange_law.proofs.HeldSteps.{Did, Quiet, Asked, step_did}
+use Rattle.move_law.specs.Files.{FilesGo, Quiet, Asked}
+use Rattle.exchange_law.proofs.HeldSteps.{IsFewer, HasNone, step_did}
 use Rattle.exchange_law.proofs.HeldAnswered.{none_good, no_file_good, call_told, args_of_commit, commit_good, no_file_commit}
 use Rattle.exchange_law.proofs.HeldTaken.{its_grant, told_for, given_is_taken}
 use Rattle.exchange_law.proofs.Meeting.{good_over, client_over, quiet_met}
@@ -391,16 +392,17 @@ admitted s now chosen q New c x e k sound own = elim (cases_eq q.client c) [
   | inr other ↦ others_carried s now chosen q c x (ne_eqb q.client c other) k (file_at s.files q.file) refl
 ]
 
-did_met : (s : Server) (chosen : List ℕ) (i : Input) (c : ℕ) (x : Client) → Did s chosen i (step s chosen i)
-    → FilesSound (step s chosen i).state → IsOwn s c x i → IsMet s c x → IsMet (step s chosen i).state c x
+did_met : (s : Server) (chosen : List ℕ) (i : Input) (c : ℕ) (x : Client)
+    → FilesGo IsFewer HasNone s chosen i (step s chosen i) → FilesSound (step s chosen i).state → IsOwn s c x i
+    → IsMet s c x → IsMet (step s chosen i).state c x
 unfolding on_request
 did_met s chosen i c x (Quiet all same) sound own k = quiet_met s (step s chosen i).state c x all same k
-did_met s chosen i c x (Asked now q is named done) sound own k =
+did_met s chosen i c x (Asked now q is done) sound own k =
     subst (λ (t : _). IsMet t.state c x) (sym done)
     (admitted s now chosen q (admit (slot_of s.slots q.client) q.sequence) c x refl k
     (subst (λ (t : _). FilesSound t.state) done sound)
-    (λ same new. own now q (is ∙ ap (λ (n : ℕ). Hears now (FromClient n) (Asks q)) same) same
-    (subst (λ (n : ℕ). n ≤ MAX_CLIENT) same named) new))
+    (λ same new. own now q (is.is ∙ ap (λ (n : ℕ). Hears now (FromClient n) (Asks q)) same) same
+    (subst (λ (n : ℕ). n ≤ MAX_CLIENT) same is.named) new))
 
 -- whatever comes to the server
 pub step_met : (s : Server) (chosen : List ℕ) (i : Input) (c : ℕ) (x : Client) → AreSafe s.files

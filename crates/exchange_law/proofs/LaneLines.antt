@@ -2,7 +2,6 @@
 use Rattle.std.proofs.Common.{◌≡◌, ◌⊎◌, ◌==◌, ℕ, ◌++◌, ◌∷◌, [], List, Bool, true, false, Option, Some, None, Result, Ok, Err, IsSome, slice_get, option_map, refl, sym, ap, subst, ◌∙◌, append_assoc, inl, inr, if◌then◌else◌}
 use Rattle.std.proofs.lemmas.Bool.{cases_eq}
 use Rattle.std.proofs.lemmas.List.{append-nil}
-use Rattle.std.proofs.lemmas.List.Sums.{fold-append}
 use Rattle.std.proofs.lemmas.Option.{same_Some}
 use Rattle.osd_commands.specs.declared.actions.Action.{Action}
 use Rattle.osd_commands.specs.declared.actions.Action.TheVariants as action
@@ -34,9 +33,9 @@ use Rattle.world_history.specs.declared.messages.Sent.{Sent}
 use Rattle.world_history.specs.State.{DriveAt}
 use Rattle.world_history.specs.Told.{told_verdict}
 use Rattle.world_history.specs.Drives.{verdict_on, judges, made_drive, is_deaf}
-use Rattle.world_history.specs.Reading.{is_drive, sent_in}
-use Rattle.world_history.specs.ReadDrives.{DriveSeen, sees_drive, drive_seen, drive_after, drive_after_event, drive_after_line, hears_bytes, hears_sent}
-use Rattle.world_history.proofs.DriveLines.{drive_line, same_drive, unheard}
+use Rattle.world_history.specs.Reading.{sent_in}
+use Rattle.world_history.specs.ReadDrives.{drive_seen, drive_after, drive_after_event, drive_after_line, hears_sent}
+use Rattle.world_history.proofs.DriveLines.{drive_line, unheard}
 use Rattle.history_law.specs.Judging.{Judges, JudgesAt, injected_in}
 use Rattle.history_law.specs.Safe.{AtEachLine}
 use Rattle.history_law.proofs.Each.{EachBehind, HoldsAt, judges_of}

@@ -91,17 +91,17 @@ module _ (P Q : ℕ → Held → Type 0) (K L : Knows) (x : Client) where
 
 -- ---- a step without a new request
 
-fewer_agrees : (s t : Server) (c file : ℕ) (h : Held) → AllFewer s.files t.files → AgreesAt s c file h
+fewer_agrees : (s t : Server) (c file : ℕ) (h : Held) → AllFewer t.drives s.files t.files → AgreesAt s c file h
     → AgreesAt t c file h
 fewer_agrees s t c file h all agrees f g at has = by (all file f at)
   where
-    by : FewerAt s.files file f → Agrees f.kept.map g h
+    by : FewerAt t.drives s.files file f → Agrees f.kept.map g h
     by (inl (e, there, fewer)) =
         subst (λ (m : _). Agrees m g h) (sym fewer.map) (agrees e g there (fewer.grants c g has))
     by (inr none) = absurd (cc (ap (λ (gs : List Grant). grant_of gs c) (sym none) ∙ has))
 
-pub quiet_met : (s t : Server) (c : ℕ) (x : Client) → AllFewer s.files t.files → t.slots ≡ s.slots → IsMet s c x
-    → IsMet t c x
+pub quiet_met : (s t : Server) (c : ℕ) (x : Client) → AllFewer t.drives s.files t.files → t.slots ≡ s.slots
+    → IsMet s c x → IsMet t c x
 quiet_met s t c x all same k =
     client_over (AgreesAt s c) (AgreesAt t c) (KeptGood s c) (KeptGood t c) x
     (λ file h e agrees. fewer_agrees s t c file h all agrees)

@@ -100,7 +100,7 @@ at_line : (before : List Line) (l : Line) → AllNamed (sent_in before) → Issu
     → OwnUnlessForged before l
 at_line before (line.Delivered n (Judged Perform)) all issued injected =
     λ m d y found to read holds.
-        servers_sent before d m.bytes y all (source_of before m.from d m.bytes (issued m d found to)) read holds
+    servers_sent before d m.bytes y all (source_of before m.from d m.bytes (issued m d found to)) read holds
 at_line before (line.Judged d Perform) all issued injected =
     λ fair y read holds. fairly_sent before d (injected_in before d) y all (injected fair) read holds
 at_line before l all issued injected = tt

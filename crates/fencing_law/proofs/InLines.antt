@@ -44,7 +44,7 @@ module _ (read : BookIsRead) (further : OneEventMore) (number tag : ℕ) where
       subst (λ (s : Server). IsFenced s.files (h ++ lines_in w m) number tag)
       (sym (ap (λ (s : ServerSeen). s.server) (read (move w m).world (h ++ lines_in w m) (next_moment w h k m d)
       fine.written)))
-      (fences_end w h k m d fine.own number tag 
+      (fences_end w h k m d fine.own number tag
       (subst (In (line.Note number (note.Fenced tag))) (sym there)
       (in_behind (line.Note number (note.Fenced tag)) front (l ∷ after) (inl (sym is)))))
 

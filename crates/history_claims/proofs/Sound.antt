@@ -25,10 +25,11 @@ use Rattle.history_claims.proofs.Texts.{events_make_text}
 
 pub histories_are_sound : HistoriesAreSafe → CommandsAreIssued → UnforgedAreIssued → UnguessedAreUnforged
     → RangesAreApart → FrontsAreLawful → ComponentsStandApart → EachHolderIsOwn → UnforgedAreFenced → EachAnswerIsLive
-    → EachGivenWasLive → GrantsAreOlder → GivenIsBarred → CommandsAreIssuedExactly → UnforgedAreIssuedExactly → LanesAreFair → LanesAreOwn
-    → RefusalsWereJudged → RefusalsWereAwaited → CallsEndSo → EachTagIsItsFiles → WithinTheLimitAreFew → HistoriesAreSound
-histories_are_sound safe issued listed fair ranges fronts apart own fenced live given older barred exact allowed lanes lanes_own
-    judged awaited ends tags few = record {
+    → EachGivenWasLive → GrantsAreOlder → GivenIsBarred → CommandsAreIssuedExactly → UnforgedAreIssuedExactly
+    → LanesAreFair → LanesAreOwn → RefusalsWereJudged → RefusalsWereAwaited → CallsEndSo → EachTagIsItsFiles
+    → WithinTheLimitAreFew → HistoriesAreSound
+histories_are_sound safe issued listed fair ranges fronts apart own fenced live given older barred exact allowed lanes
+    lanes_own judged awaited ends tags few = record {
   sound = λ h l. record {
     safe = safe h l;
     issued = issued h l;

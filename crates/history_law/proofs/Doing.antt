@@ -29,7 +29,7 @@ use Rattle.world_history.specs.Names.{known_note_line}
 use Rattle.world_history.specs.Handed.{Post, Handed, is_addressed, server_post, quiet, drive_hears, drive_replies, server_hears, server_takes, client_hears, client_takes, for_client, for_server, handed_to, pending_op}
 use Rattle.world_history.specs.Moves.{Act, Action, Opens, Delivers, TimesOut, Pends, marked, delivers_found, delivers, drops_found, by_client, called, calls_at, times_out, leaves, resends, pends_as, pends, made_file, makes, gives, has_algorithm, by_drive, stops, injects_at, injects, adds_drive, changed, known_drive, knows_drive, op_of, raw_of, begins, acts}
 use Rattle.world_history.specs.Book.{step_by, server_behind, clock_after}
-use Rattle.history_law.specs.Doing.{heard_of, brought_to, brought, given_by, input_in, ServerMoves}
+use Rattle.history_law.specs.Doing.{heard_of, brought_to, brought, input_in, ServerMoves}
 
 -- ---- an act
 

@@ -1,6 +1,6 @@
 -- What a move tells: a line with which a step begins comes first, if at all.
 use Rattle.std.specs.List.{cons_option, filter_map}
-use Rattle.std.proofs.Common.{◌≡◌, ℕ, ◌∷◌, [], List, Bool, true, false, nat_lt, ◌&&◌, Option, Some, None, Result, Ok, Err, is_some, slice_get, option_map, refl, ap, ◌∙◌, ◌⊎◌, inl, inr, if◌then◌else◌}
+use Rattle.std.proofs.Common.{◌≡◌, ℕ, ◌∷◌, [], List, Bool, true, false, nat_lt, ◌&&◌, Option, Some, None, Result, Ok, Err, is_some, slice_get, refl, ap, ◌∙◌, ◌⊎◌, inl, inr, if◌then◌else◌}
 use Rattle.osd_lists.specs.declared.node.Node.{Node}
 use Rattle.osd_lists.specs.declared.node.Node.TheVariants as node
 use Rattle.data_map.specs.declared.check.RawMap.{RawMap}

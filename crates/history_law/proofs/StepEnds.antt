@@ -31,7 +31,7 @@ place_of (y ∷ h) ls (z ∷ before) after x e =
       | inr (front, own, is) ↦ inr (
         front,
         ap (λ (v : Line). v ∷ before) (sym (head_same y z (h ++ ls) (before ++ x ∷ after) e))
-        ∙ ap (λ (l : List Line). y ∷ l) own,
+            ∙ ap (λ (l : List Line). y ∷ l) own,
         is,
       )
     ]

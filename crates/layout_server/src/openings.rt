@@ -21,18 +21,17 @@ use std::alloc::Global;
 
 // A file whose job is gone.
 #[derive(Drop)]
-struct Crash;
+struct FileCrash;
 
-impl FileStep for Crash {
+impl FileStep for FileCrash {
     ghost rule = { λ _. crashes_at };
 
     fn at_file(
         &self,
-        alloc: Global,
+        _alloc: Global,
         file: &mut FileState,
-        effects: &mut Effects,
+        _effects: &mut Effects,
     ) -> Result<(), Memory> {
-        let _ = (alloc, effects);
         file.spent = false;
         file.job = None;
         Ok(())
@@ -47,8 +46,9 @@ pub fn crash(alloc: Global, state: &mut State) -> Result<(), Memory>
 {
     // A crash sends nothing, so its counters may stand anywhere.
     let mut effects = no_effects(alloc, 0, 0);
-    at_each_file(alloc, &mut state.files, &mut effects, &Crash)?;
-    list_all(alloc, state)
+    at_each_file(alloc, &mut state.files, &mut effects, &FileCrash)?;
+    list_all(alloc, state)?;
+    Ok(())
 }
 
 // ---- the opening of a file
@@ -93,11 +93,7 @@ fn fence(
 }
 
 // The file is made if it isn't ready.
-fn make_unready(
-    alloc: Global,
-    file: &mut FileState,
-    effects: &mut Effects,
-) -> Result<(), Memory>
+fn make_unready(alloc: Global, file: &mut FileState, effects: &mut Effects) -> Result<(), Memory>
     requires sound { IsSoundFile file.old }
     requires alone { file.old.kept.grants ≡ [] }
     requires low { effects.old.nonce < 2 ^ 63 }
@@ -114,11 +110,11 @@ fn make_unready(
 
 // A file that is opened, and takes this format if a fence begins.
 #[derive(Drop)]
-struct Opening {
+struct FileOpening {
     format: u8,
 }
 
-impl FileStep for Opening {
+impl FileStep for FileOpening {
     ghost rule = { λ o. unasked (opens o.format) };
 
     fn at_file(
@@ -162,7 +158,12 @@ fn open_all(alloc: Global, state: &mut State) -> Result<Step, Memory>
 {
     let format = state.format;
     let mut effects = no_effects(alloc, state.next_nonce, state.next_object);
-    at_each_file(alloc, &mut state.files, &mut effects, &Opening { format })?;
+    at_each_file(
+        alloc,
+        &mut state.files,
+        &mut effects,
+        &FileOpening { format },
+    )?;
     let step = finish_step(alloc, state, effects)?;
     list_all(alloc, state)?;
     Ok(step)

@@ -1,5 +1,5 @@
 -- Each move is a step of one party, and what that sends.
-use Rattle.std.proofs.Common.{◌≡◌, ℕ, List, refl}
+use Rattle.std.proofs.Common.{ℕ, List, refl}
 use Rattle.world_history.specs.State.{World, ClientAt}
 use Rattle.world_history.specs.Handed.{wrote_in, data_in, op_in}
 use Rattle.world_history.specs.Moves.{Action, known_drive}

@@ -3,7 +3,6 @@ use Rattle.std.proofs.Common.{◌≡◌, ℕ, zero, suc, Bool, true, false, List
 use Rattle.std.specs.Prelude.{slice_get, slice_set, is_some, if◌then◌else◌}
 use Rattle.osd_lists.specs.declared.node.Node.{Node}
 use Rattle.osd_lists.specs.declared.node.Node.TheVariants as node
-use Rattle.osd_commands.specs.Commands as commands
 use Rattle.data_map.specs.declared.check.RawMap.{RawMap}
 use Rattle.scenario_text.specs.declared.event.Event.{Event}
 use Rattle.scenario_text.specs.declared.event.Event.TheVariants as event
@@ -30,7 +29,7 @@ use Rattle.world_history.specs.declared.messages.Posted.{Posted}
 use Rattle.world_history.specs.State.{World, DriveAt, ClientAt, at_number, and_drive, with_down}
 use Rattle.world_history.specs.Told.{told_file_refusal}
 use Rattle.world_history.specs.Drives.{judges, command_in, made_drive, raised, at_time, fallen, crashed, reopened, is_deaf}
-use Rattle.world_history.specs.Handed.{Handed, handed_to, server_did, server_hears, server_takes, drive_hears, drive_replies, client_did, client_hears, client_takes, for_server, for_client, quiet, pending_op}
+use Rattle.world_history.specs.Handed.{Handed, handed_to, server_did, server_takes, drive_hears, drive_replies, client_did, client_hears, client_takes, for_server, for_client, quiet, pending_op}
 use Rattle.world_history.specs.Moves as world
 use Rattle.world_history.specs.Moves.{Act, Action, Opens, Delivers, TimesOut, Pends, acts, marked, told_delivered}
 use Rattle.move_law.specs.Said.{said}

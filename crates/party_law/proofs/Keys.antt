@@ -1,5 +1,5 @@
 -- At each moment the keys of drives are those that the server has, and come from the events that made them.
-use Rattle.std.proofs.Common.{◌≡◌, ℕ, Bool, true, false, ◌++◌, [], ◌∷◌, List, Option, Some, None, is_some, refl, sym, ap, subst, ◌∙◌, inl, inr}
+use Rattle.std.proofs.Common.{◌≡◌, ℕ, ◌++◌, [], ◌∷◌, List, Bool, true, false, Option, Some, None, refl, sym, ap, subst, ◌∙◌, inl, inr}
 use Rattle.std.proofs.lemmas.Bool.{cases_eq}
 use Rattle.osd_objects.proofs.Entries.{lookup_inserted, lookup_beside}
 use Rattle.osd_drive.specs.declared.keys.DriveKey.{DriveKey}
@@ -17,11 +17,11 @@ use Rattle.world_history.specs.Sending.{Move, move}
 use Rattle.world_history.specs.Plans.{Plan, due, due_in, went_on, plan_of}
 use Rattle.world_history.specs.Runs.{world_after, plan_after}
 use Rattle.world_history.specs.History.{OneEventMore}
-use Rattle.world_history.specs.Refusals.{refusal, unless_there, unless_down}
-use Rattle.world_history.proofs.Causes.{no_cause}
+use Rattle.world_history.specs.Refusals.{refusal}
 use Rattle.world_history.proofs.ReadMessages.{never_opens}
 use Rattle.move_law.specs.Moves.{drive_event}
 use Rattle.history_law.specs.BookMoments.{IsMoment, with_event, lines_in, plan_at}
+use Rattle.history_law.proofs.DriveEvents.{new_there}
 use Rattle.exchange_law.proofs.SlotMoments.{always}
 use Rattle.party_law.proofs.Servers.{known_keys, added_here, added_other, not_known}
 use Rattle.party_law.proofs.Moves.{keys_of, Stays, acts_stay}
@@ -35,17 +35,11 @@ no_opening p (m ∷ ms) e = no_opening (went_on p m.action) ms refl
 not_opened : (w : World) (p : Plan) (e : Event) → p.opening ≡ None → due p w ≡ Some (Opens e) → ⊥
 not_opened w p e none d = never_opens w p.rule e (sym (ap (due_in w p.rule) none) ∙ d)
 
-not_there : {X : Type 0} (o : Option X) → unless_there (is_some o) ≡ None → o ≡ None
-not_there None e = refl
-not_there (Some x) e = absurd (cc e)
-
 new_at : (w : World) (d : ℕ) (key : List ℕ) (capacity : ℕ) (stored : Bool)
     → refusal w (drive_event d key capacity stored) ≡ None → at_number w.drives d ≡ None
 unfolding refusal
-new_at w d key capacity true e =
-    not_there (at_number w.drives d) (no_cause (unless_there (is_some (at_number w.drives d))) (unless_down w) e).0
-new_at w d key capacity false e =
-    not_there (at_number w.drives d) (no_cause (unless_there (is_some (at_number w.drives d))) (unless_down w) e).0
+new_at w d key capacity true e = new_there (at_number w.drives d) w e
+new_at w d key capacity false e = new_there (at_number w.drives d) w e
 
 new_by : (v w : World) (e : Event) (ms : List Move) (d : ℕ) (key : List ℕ) (capacity : ℕ) (stored : Bool)
     → w ≡ world_after v ms → refusal v e ≡ None
@@ -97,8 +91,8 @@ stayed w v h ls s k = record {
 
 -- ---- a drive more
 
-module _ (w : World) (h : List Line) (k : AreKnown w h) (d : ℕ) (key : List ℕ) (capacity : ℕ) (stored : Bool)
-    (new : at_number w.drives d ≡ None) where
+module _ (w : World) (h : List Line) (k : AreKnown w h) (d : ℕ) (key : List ℕ) (capacity : ℕ)
+    (stored : Bool) (new : at_number w.drives d ≡ None) where
   abbrev drives : List (ℕ × DriveAt)
   drives = and_number w.drives d (made_drive d key capacity stored)
 
@@ -134,30 +128,22 @@ module _ (w : World) (h : List Line) (k : AreKnown w h) (d : ℕ) (key : List �
         (made_longer h _ q (keys_of (at_number w.drives q)) (k.made q))
   ]
 
-  added : (ls : List Line)
-      → AreKnown (adds_drive w d key capacity stored).world (h ++ line.Event (drive_event d key capacity stored) ∷ ls)
+  pub comes : (ls : List Line) → AreKnown (adds_drive w d key capacity stored).world
+      (h ++ line.Event (drive_event d key capacity stored) ∷ ls)
   unfolding gives
-  added ls = rw (not_known w.server.drives d unknown) (record { same = alike; made = made_more ls })
-
-comes : (w : World) (h : List Line) → AreKnown w h → (d : ℕ) (key : List ℕ) (capacity : ℕ) (stored : Bool)
-    → at_number w.drives d ≡ None → (chosen : List ℕ) (ls : List Line)
-    → AreKnown (begins w chosen (drive_event d key capacity stored)).world
-    (h ++ line.Event (drive_event d key capacity stored) ∷ ls)
-unfolding begins
-comes w h k d key capacity true new chosen ls = added w h k d key capacity true new ls
-comes w h k d key capacity false new chosen ls = added w h k d key capacity false new ls
+  comes ls =
+      rw (not_known w.server.drives d unknown) (record { same = alike; made = made_more ls })
 
 -- ---- a move
 
 module _ (w : World) (h : List Line) (k : IsMoment w h) where
   pub goes : (chosen : List ℕ) (action : Action) (ls : List Line) → due (plan_at k) w ≡ Some action → AreKnown w h
       → AreKnown (acts w chosen action).world (h ++ with_event action ls)
+  unfolding begins
   goes chosen (Opens (event.Drive d key capacity)) ls s a =
-      comes w h a d key capacity false
-      (new_by k.before w k.event k.moves d key capacity false k.world_is k.allowed s) chosen ls
+      comes w h a d key capacity false (new_by k.before w k.event k.moves d key capacity false k.world_is k.allowed s) ls
   goes chosen (Opens (event.Disk d key capacity)) ls s a =
-      comes w h a d key capacity true
-      (new_by k.before w k.event k.moves d key capacity true k.world_is k.allowed s) chosen ls
+      comes w h a d key capacity true (new_by k.before w k.event k.moves d key capacity true k.world_is k.allowed s) ls
   goes chosen (Opens e) ls s a = stayed w _ h _ (acts_stay w chosen (Opens e) tt) a
   goes chosen (Delivers number) ls s a = stayed w _ h _ (acts_stay w chosen (Delivers number) tt) a
   goes chosen (TimesOut c component) ls s a = stayed w _ h _ (acts_stay w chosen (TimesOut c component) tt) a

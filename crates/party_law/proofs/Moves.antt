@@ -104,7 +104,7 @@ module _ (w : World) where
     goes = λ ms said c a found i is. same _ refl refl;
     comes = λ c is. same _ refl refl;
     stops = λ c a found. same _ refl refl;
-    judged = λ ms said d a found hears m number.
+    judged = λ ms said d a found deaf m number.
         put_drive d a (judges a (command_in m.posted.message.body)).drive found
         (judged_keys a (command_in m.posted.message.body)) _ refl refl;
     injected = λ d bytes is a found.

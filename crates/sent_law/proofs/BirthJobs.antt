@@ -59,8 +59,7 @@ module _ (birth : ℕ → ℕ) (n : ℕ) (before : List Awaited) where
   ends_rests : (g : Going) (kind : JobKind) (work : Work) (c : Awaited) (cs : List Awaited) → Own g
       → Aim g (target_in work) → Asked g (c ∷ cs) → End (rests g kind work c cs)
   ends_rests g kind work c cs h a asked =
-      same (rests g kind work c cs)
-      (
+      same (rests g kind work c cs) (
         (h.0, h.1, sent_more birth g.effects.object g.file.kept.tag g.effects.sent (c ∷ cs) h.2 asked, h.3, h.4),
         a,
         asked,

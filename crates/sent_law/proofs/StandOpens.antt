@@ -1,5 +1,5 @@
 -- What the opening of a server leaves of a file.
-use Rattle.std.proofs.Common.{◌≡◌, ◌==◌, ◌||◌, ℕ, nat_lt, Bool, true, false, not, List, [], length, Option, None, refl, sym, ap, subst, ◌∙◌, if◌then◌else◌}
+use Rattle.std.proofs.Common.{◌≡◌, ◌==◌, ◌||◌, ℕ, nat_lt, Bool, true, false, not, List, length, Option, None, refl, sym, ap, subst, ◌∙◌, if◌then◌else◌}
 use Rattle.server_rules.specs.declared.limits.TheConstants.{GREATEST_TAG}
 use Rattle.server_rules.specs.Going.{Going}
 use Rattle.server_rules.specs.Openings.{is_still, is_unsettled, opens_made, opens_spent, opens_fenced, opens}

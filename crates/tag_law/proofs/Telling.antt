@@ -198,8 +198,8 @@ module _ (put : FilesArePut) (read : BookIsRead) (more : OneEventMore) where
         (sent_lines (length a.world.network.messages) a.posts)
         (behind_event m.action (move w m).lines n party.Server (party.Client c) bytes i)) [
           | inl told ↦ absurd (not_silent a.told
-          (acts_known (sent_in h) w known.world (sym messages_are) m.chosen m.action).told n party.Server (party.Client c)
-          bytes told)
+              (acts_known (sent_in h) w known.world (sym messages_are) m.chosen m.action).told n party.Server (party.Client c)
+              bytes told)
           | inr sent ↦ post_of (length a.world.network.messages) n a.posts party.Server (party.Client c) bytes sent
         ]
 

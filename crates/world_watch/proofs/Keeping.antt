@@ -1,5 +1,5 @@
 -- What is kept of a run's lines, line by line.
-use Rattle.std.proofs.Common.{◌≡◌, ℕ, ◌∷◌, ◌&&◌, [], List, Bool, true, false, not, Option, Some, None, is_none, Result, Ok, Err, length, slice_get, slice_set, refl, sym, ap, subst, ◌∙◌, inl, inr}
+use Rattle.std.proofs.Common.{◌≡◌, ℕ, ◌∷◌, ◌&&◌, [], List, false, not, Option, Some, None, is_none, Result, Ok, Err, length, slice_get, slice_set, refl, sym, ap, subst, ◌∙◌, inl, inr}
 use Rattle.std.specs.Prelude.{nat_eq}
 use Rattle.std.proofs.lemmas.Bool.{cases_Bool, cases_eq}
 use Rattle.osd_lists.proofs.Tests.{and_true}

@@ -34,7 +34,7 @@ use Rattle.world_history.specs.declared.messages.Message.{Message}
 use Rattle.world_history.specs.declared.messages.Posted.{Posted}
 use Rattle.world_history.specs.State.{DriveAt, ClientAt, Network, World, empty_world, at_number, with_down}
 use Rattle.world_history.specs.Handed.{Post, Handed, end_line, ended_by, server_takes, drive_hears, client_hears, client_takes, for_client, for_server, handed_to, handed, client_goes, op_in, pending_op}
-use Rattle.world_history.specs.Moves.{Act, Action, Opens, Delivers, TimesOut, Pends, by_client, by_drive, called, pends_as, made_file, injects_at, delivers_found, delivers, drops_found, marked, op_of, raw_of, calls_at, times_out, leaves, resends, pends, makes, gives, injects, stops, begins, acts, known_drive, has_algorithm, knows_drive, adds_drive}
+use Rattle.world_history.specs.Moves.{Act, Action, Opens, Delivers, TimesOut, Pends, by_client, called, pends_as, made_file, injects_at, delivers_found, delivers, drops_found, marked, op_of, raw_of, calls_at, times_out, leaves, resends, pends, makes, gives, injects, begins, acts, known_drive, has_algorithm, knows_drive, adds_drive}
 use Rattle.world_history.specs.Sending.{Move, move, fresh, sent_lines, sends_all}
 use Rattle.world_history.specs.Drives.{raised, at_time, fallen, crashed, reopened, is_deaf}
 use Rattle.world_history.specs.Runs.{world_after, lines_of, Carries}
