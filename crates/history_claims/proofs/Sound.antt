@@ -1,6 +1,7 @@
 -- Each lawful history is sound.
 use Rattle.std.proofs.Common.{subst}
 use Rattle.world_history.specs.History.{Lawful, FrontsAreLawful}
+use Rattle.history_law.specs.Answered.{VerdictsAreAnswered}
 use Rattle.history_law.specs.Safe.{HistoriesAreSafe}
 use Rattle.history_law.specs.Issued.{CommandsAreIssued}
 use Rattle.history_law.specs.Unforged.{UnforgedAreIssued, UnguessedAreUnforged}
@@ -20,14 +21,15 @@ use Rattle.ending_law.specs.Calls.{CallsEndSo}
 use Rattle.tag_law.specs.Tags.{EachTagIsItsFiles}
 use Rattle.history_claims.proofs.Texts.{events_make_text}
 
-pub histories_are_sound : HistoriesAreSafe → CommandsAreIssued → UnforgedAreIssued → UnguessedAreUnforged
-    → RangesAreApart → FrontsAreLawful → ComponentsStandApart → EachHolderIsOwn → UnforgedAreFenced → GrantsAreOlder
-    → CommandsAreIssuedExactly → UnforgedAreIssuedExactly → LanesAreFair → LanesAreOwn
+pub histories_are_sound : HistoriesAreSafe → VerdictsAreAnswered → CommandsAreIssued → UnforgedAreIssued
+    → UnguessedAreUnforged → RangesAreApart → FrontsAreLawful → ComponentsStandApart → EachHolderIsOwn
+    → UnforgedAreFenced → GrantsAreOlder → CommandsAreIssuedExactly → UnforgedAreIssuedExactly → LanesAreFair → LanesAreOwn
     → RefusalsWereJudged → RefusalsWereAwaited → CallsEndSo → EachTagIsItsFiles → WithinTheLimitAreFew → HistoriesAreSound
-histories_are_sound safe issued listed fair ranges fronts apart own fenced older exact allowed lanes lanes_own judged
+histories_are_sound safe answered issued listed fair ranges fronts apart own fenced older exact allowed lanes lanes_own judged
     awaited ends tags few = record {
       sound = λ h l. record {
         safe = safe h l;
+        answered = λ w s. answered w h s;
         issued = issued h l;
         ranges = λ before after is. ranges before (fronts before after (subst Lawful is l));
         apart = apart h l;
