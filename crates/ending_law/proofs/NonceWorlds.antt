@@ -22,6 +22,7 @@ use Rattle.client_rules.specs.Messages.{Message as ClientMessage, Answers, await
 use Rattle.client_rules.specs.Requests.{grant_in}
 use Rattle.client_rules.specs.Results.{layouts_in}
 use Rattle.client_rules.specs.History.{Input, Calls, Hears, TimesOut, Leaves, Resends, step}
+use Rattle.move_law.specs.Said.{posted}
 use Rattle.exchange_law.proofs.ClientGiven.{taken_given}
 use Rattle.history_law.specs.State.{Client, Awaited, Answer}
 use Rattle.history_law.proofs.Exact.{same_ok}
@@ -50,7 +51,7 @@ use Rattle.move_law.proofs.Goes.{moves_are_steps}
 use Rattle.exchange_law.specs.PlaceAnswers.{ResultsFit, AnswerFits, SpellsFitting, AnswersFit}
 use Rattle.exchange_law.proofs.PlaceLines.{fits_before}
 use Rattle.exchange_law.proofs.AwaitsSteps.{step_awaits}
-use Rattle.exchange_law.proofs.Turning.{sent_by, posted}
+use Rattle.exchange_law.proofs.Turning.{sent_by}
 use Rattle.exchange_law.proofs.Turns.{messages_behind}
 use Rattle.exchange_law.proofs.ClientMoves.{InWorld, none_there, move_goes, longer_by}
 use Rattle.exchange_law.proofs.ClientsCounted.{Fits, fits_kept}

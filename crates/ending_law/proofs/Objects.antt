@@ -1,6 +1,6 @@
 -- The objects of clients' commands have numbers that fit their places.
 use Rattle.std.specs.List.{AllByRecursion}
-use Rattle.std.proofs.Common.{◌≡◌, ℕ, ◌<◌, ◌^◌, ◌++◌, ◌∷◌, [], List, Option, Some, None, map, refl, sym, ap, subst, arith, inl, inr}
+use Rattle.std.proofs.Common.{◌≡◌, ℕ, ◌<◌, ◌^◌, ◌++◌, ◌∷◌, [], List, Option, Some, None, map, refl, sym, ap, subst, arith}
 use Rattle.osd_commands.specs.declared.commands.Command.{Command}
 use Rattle.scenario_text.specs.declared.line.Line.{Line}
 use Rattle.scenario_text.specs.declared.line.Line.TheVariants as line
@@ -21,6 +21,7 @@ use Rattle.world_history.proofs.Always.{opening, IsKept}
 use Rattle.history_law.proofs.DriveLines.{sent_read}
 use Rattle.history_law.proofs.Growing.{history_grows}
 use Rattle.history_law.specs.BookMoments.{IsMoment}
+use Rattle.move_law.specs.Said.{posted}
 use Rattle.exchange_law.specs.PlaceAnswers.{AnswersFit}
 use Rattle.exchange_law.proofs.Commands.{MaySend}
 use Rattle.exchange_law.proofs.PlaceSending.{AwaitedPlaced}
@@ -28,7 +29,7 @@ use Rattle.exchange_law.proofs.PlaceGoing.{CallFits}
 use Rattle.exchange_law.proofs.PlaceWorlds.{PostPlaced, PostsPlaced, ActFits}
 use Rattle.exchange_law.proofs.PlaceMoves.{acts_fit}
 use Rattle.exchange_law.proofs.PlaceLines.{fits_before, IsPlacedWorld, all_placed}
-use Rattle.exchange_law.proofs.Turning.{bodies, sent_by, posted}
+use Rattle.exchange_law.proofs.Turning.{bodies, sent_by}
 use Rattle.exchange_law.proofs.Turns.{messages_behind}
 use Rattle.exchange_law.proofs.CountMoments.{at_moment}
 use Rattle.exchange_law.specs.Sent.{message_of}

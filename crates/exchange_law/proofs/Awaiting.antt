@@ -7,6 +7,7 @@ use Rattle.osd_commands.specs.declared.replies.Reply.{Reply}
 use Rattle.client_rules.specs.declared.limits.TheConstants.{NONCES, PERFORMED}
 use Rattle.client_rules.specs.Messages.{awaited_of}
 use Rattle.client_rules.specs.History.{step as client_step}
+use Rattle.move_law.specs.Said.{posted}
 use Rattle.exchange_law.specs.ClientNonces.{grant_of}
 use Rattle.exchange_law.proofs.Rising.{Each, IsAmong}
 use Rattle.server_rules.specs.Laws.{In}
@@ -24,7 +25,7 @@ use Rattle.world_history.specs.Moves.{Act, acts}
 use Rattle.world_history.specs.Sending.{Move, move}
 use Rattle.history_law.specs.BookMoments.{IsMoment, lines_in}
 use Rattle.exchange_law.proofs.Along.{at_moment}
-use Rattle.exchange_law.proofs.Turning.{sent_by, posted, body_in, AreSame, Turn, ByServer, ByClient, ByDrive, Makes, Stops, Rests, ClientDoes, DriveDoes}
+use Rattle.exchange_law.proofs.Turning.{sent_by, body_in, AreSame, Turn, ByServer, ByClient, ByDrive, Makes, Stops, Rests, ClientDoes, DriveDoes}
 use Rattle.exchange_law.proofs.Turns.{acts_turn, messages_behind}
 use Rattle.exchange_law.proofs.Replied.{IsReplied, replied_on, drive_replied, addressed, from_server, from_client, none_posted}
 use Rattle.exchange_law.proofs.CommandRead.{nonce_read, reply_carries}

@@ -1,5 +1,5 @@
 -- What a move sends from the server to clients is what the server's step sends.
-use Rattle.std.proofs.Common.{◌≡◌, ◌⊎◌, ℕ, ◌∷◌, [], List, Bool, true, false, Option, Some, None, Result, Ok, Err, is_some, ◌++◌, filter, flat_map, map, slice_get, refl, subst, inl, inr, if◌then◌else◌}
+use Rattle.std.proofs.Common.{◌≡◌, ◌⊎◌, ℕ, ◌∷◌, [], List, Bool, true, false, Option, Some, None, Result, Ok, Err, ◌++◌, filter, flat_map, map, slice_get, refl, sym, ap, subst, ◌∙◌, inl, inr, if◌then◌else◌}
 use Rattle.std.specs.List.{AllByRecursion}
 use Rattle.osd_lists.specs.declared.node.Node.{Node}
 use Rattle.osd_lists.specs.declared.node.Node.TheVariants as node
@@ -10,13 +10,11 @@ use Rattle.layout_ops.specs.declared.envelope.Envelope.TheVariants as envelope
 use Rattle.layout_ops.specs.Reading.{envelope_of}
 use Rattle.osd_commands.specs.declared.commands.CommandErr.{CommandErr}
 use Rattle.server_rules.specs.Envelopes.{asked_in, request_with, by_envelope, by_reply, message_in}
-use Rattle.server_rules.specs.Messages.{Message as ServerMessage, Replies, Orders}
-use Rattle.server_rules.specs.History.{Input, Hears}
-use Rattle.client_rules.specs.Messages.{Message as ClientMessage, Step as ClientStep}
-use Rattle.client_rules.specs.Steps.{calls}
-use Rattle.client_rules.specs.History as client_input
+use Rattle.server_rules.specs.Files.{to_drives}
+use Rattle.server_rules.specs.Making.{refusal, places, unmade, makes_file, unless_refused, create_file}
+use Rattle.server_rules.specs.Messages.{Message as ServerMessage, Replies, Orders, resend, awaited_by}
+use Rattle.server_rules.specs.History.{Input, Hears, Makes, Obeys, Adds, Formats, Resends, Crashes, Opens as Opened, unless_made, step as server_step}
 use Rattle.client_rules.specs.History.{step as client_step}
-use Rattle.scenario_text.specs.declared.line.Delivery.TheVariants as delivery
 use Rattle.scenario_text.specs.declared.event.Event.{Event}
 use Rattle.scenario_text.specs.declared.event.Event.TheVariants as event
 use Rattle.scenario_text.specs.declared.event.Machine.TheVariants as machine
@@ -25,13 +23,13 @@ use Rattle.world_history.specs.ServerNames as server_rules
 use Rattle.world_history.specs.ClientNames as client_rules
 use Rattle.world_history.specs.declared.messages.Message.{Message}
 use Rattle.world_history.specs.declared.messages.Posted.{Posted}
-use Rattle.world_history.specs.State.{DriveAt, ClientAt, World, at_number}
-use Rattle.world_history.specs.Drives.{judges, command_in, is_deaf}
+use Rattle.world_history.specs.State.{World}
 use Rattle.world_history.specs.Spelled.{spelled}
-use Rattle.world_history.specs.Handed.{Post, Handed, is_addressed, server_post, client_posts, client_goes, wrote_in, data_in, op_in, drive_hears, drive_replies, client_hears, server_takes, client_takes, for_client, for_server, handed_to, pending_op, quiet}
-use Rattle.world_history.specs.Moves.{Act, Action, Opens, Delivers, TimesOut, Pends, marked, delivers_found, delivers, by_client, called, calls_at, times_out, leaves, resends, pends_as, pends, has_algorithm, injects_at, injects, gives, makes, knows_drive, op_of, raw_of, begins, acts}
-use Rattle.server_rules.specs.Messages.{resend, awaited_by}
-use Rattle.server_rules.specs.Files.{to_drives}
+use Rattle.world_history.specs.Handed.{Post, is_addressed, server_post, client_posts, wrote_in, data_in, op_in, for_server}
+use Rattle.world_history.specs.Moves.{Act, Action, Opens, Delivers, TimesOut, Pends, has_algorithm, knows_drive, raw_of, acts}
+use Rattle.move_law.specs.Said.{IsDelivered}
+use Rattle.move_law.specs.Moves.{MoveCases, IsForServer, given_in, number_in}
+use Rattle.move_law.proofs.Moves.{each_act}
 use Rattle.history_law.specs.Doing.{heard_of, brought_to, brought, input_in}
 use Rattle.exchange_law.proofs.CountTelling.{ReadsWell}
 use Rattle.exchange_law.proofs.Fronts.{BeginsWithBytes, NumbersFit, request_read, begins_spelled}
@@ -154,148 +152,84 @@ resent_others ds (f ∷ fs) =
 abbrev pub Comes : Option Input → List Post → Type 0
 Comes o ps = AreOthers ps ⊎ ((i : Input) × (o ≡ Some i))
 
-module _ (w : World) where
-  goes_others : (c : ℕ) (a : ClientAt) (i : client_input.Input) → AreOthers (client_goes w c a i).posts
-  goes_others c a i =
-      sent_others _ (clients_others c (wrote_in a i) (data_in (op_in a.state i)) (client_step a.state i).sends)
+-- a file that is made sends to drives alone
+made_others : (s : server_rules.Server) (chosen : List ℕ) (n : ℕ) (m : server_rules.RawMap) (tag : ℕ)
+    → AreOthers (map server_post (server_step s chosen (Makes n m tag)).sends)
+unfolding create_file
+made_others s chosen n m tag = made (refusal s n m)
+  where
+    made : (o : Option server_rules.Refusal)
+        → AreOthers (map server_post
+        (unless_made s (unless_refused o (makes_file s (unmade s n m tag (places s.drives m.comps chosen))))).sends)
+    made (Some why) = tt
+    made None = drives_others s.drives _
 
-  either_others : (b : Bool) (x y : Act) → AreOthers x.posts → AreOthers y.posts
-      → AreOthers (if b then x else y).posts
-  either_others true x y p q = p
-  either_others false x y p q = q
+module _ (w : World) (chosen : List ℕ) (action : Action) where
+  -- what is given to the server comes to it, but for a file, which may be refused, and what is sent once more
+  abbrev IsSeen : Input → Type 0
+  IsSeen (Makes n m tag) = ⊥
+  IsSeen Resends = ⊥
+  IsSeen i = Unit {0}
 
-  at_client : (does : ClientAt → Act) (o : Option ClientAt) → ((a : ClientAt) → AreOthers (does a).posts)
-      → AreOthers (by_client w does o).posts
-  at_client does None each = tt
-  at_client does (Some a) each = each a
+  given_is : (a : Action) (i : Input) → IsSeen i → given_in a ≡ Some i → input_in w a ≡ Some i
+  given_is (Opens (event.File f m tag)) i seen e =
+      let same : Makes f (raw_of m) tag ≡ i = cc e in absurd (subst IsSeen (sym same) seen)
+  given_is (Opens (event.Resend sender.Server)) i seen e =
+      let same : Resends ≡ i = cc e in absurd (subst IsSeen (sym same) seen)
+  given_is (Opens (event.Format format)) i seen e = e
+  given_is (Opens (event.Recall f)) i seen e = e
+  given_is (Opens (event.Revoke f)) i seen e = e
+  given_is (Opens (event.Rebuild f)) i seen e = e
+  given_is (Opens (event.Audit f)) i seen e = e
+  given_is (Opens (event.Declare d)) i seen e = e
+  given_is (Opens (event.Crash machine.Server)) i seen e = e
+  given_is (Opens (event.Reopen machine.Server)) i seen e = e
+  given_is a i seen e = absurd (cc e)
 
-  called_others : (c : ℕ) (a : ClientAt) (op : client_rules.CallOp) (r : Result ClientStep client_rules.CallErr)
-      → AreOthers (called w c a op r).posts
-  called_others c a op (Err e) = tt
-  called_others c a op (Ok s) = sent_others _ (clients_others c false (data_in (Some op)) s.sends)
+  delivered_is : (a : Action) (n : ℕ) → number_in a ≡ Some n → input_in w a ≡ brought w (slice_get w.network.messages n)
+  delivered_is (Opens (event.Deliver k)) n e =
+      let same : k ≡ n = cc e in ap (λ (j : ℕ). brought w (slice_get w.network.messages j)) same
+  delivered_is (Delivers k) n e =
+      let same : k ≡ n = cc e in ap (λ (j : ℕ). brought w (slice_get w.network.messages j)) same
+  delivered_is a n e = absurd (cc e)
 
-  calls_others : (c : ℕ) (op : client_rules.CallOp) → AreOthers (calls_at w c op).posts
-  unfolding calls_at
-  calls_others c op = at_client _ (at_number w.clients c) (λ a. called_others c a op (calls a.state op))
+  heard_is : (d : IsDelivered w node.Server) (m : ServerMessage) → for_server d.posted.message ≡ Some m
+      → number_in action ≡ Some d.number → w.down ≡ false
+      → input_in w action ≡ Some (Hears w.clock d.posted.message.from m)
+  heard_is d m read number up =
+      delivered_is action d.number number ∙ ap (brought w) d.there
+      ∙ ap (λ (n : Node). brought_to w d.posted.message n) d.receiver
+      ∙ ap (λ (b : Bool). if b then None else heard_of w.clock d.posted.message.from (for_server d.posted.message)) up
+      ∙ ap (heard_of w.clock d.posted.message.from) read
 
-  timeout_others : (c j : ℕ) → AreOthers (times_out w c j).posts
-  unfolding times_out
-  timeout_others c j = at_client _ (at_number w.clients c) (λ a. goes_others c a (client_input.TimesOut j))
+  served : (i : Input) → IsForServer w action i
+      → Comes (input_in w action) (filter is_addressed (map server_post (server_step w.server chosen i).sends))
+  served (Hears now from m) (d, time, sender, read, number, up) =
+      inr (Hears w.clock d.posted.message.from m, heard_is d m read number up)
+  served (Makes n m tag) is = inl (sent_others _ (made_others w.server chosen n m tag))
+  served Resends is = inl (sent_others (map server_post (resend w.server)) (resent_others w.server.drives w.server.files))
+  served (Obeys kind n) is = inr (Obeys kind n, given_is action (Obeys kind n) tt is)
+  served (Adds d) is = inr (Adds d, given_is action (Adds d) tt is)
+  served (Formats n) is = inr (Formats n, given_is action (Formats n) tt is)
+  served Crashes is = inr (Crashes, given_is action Crashes tt is)
+  served Opened is = inr (Opened, given_is action Opened tt is)
 
-  leaves_others : (c : ℕ) → AreOthers (leaves w c).posts
-  unfolding leaves
-  leaves_others c =
-      at_client _ (at_number w.clients c)
-      (λ a. either_others (is_some a.state.call) _ _ tt (goes_others c a client_input.Leaves))
+  cases : MoveCases w chosen action (λ (a : Act). Comes (input_in w action) a.posts)
+  cases = record {
+    rests = λ ms said told quiet. inl tt;
+    refused = λ c a found op is e why. inl tt;
+    clock = λ time. inl tt;
+    serves = λ ms said i is. served i is;
+    goes = λ ms said c a found i is.
+        inl (sent_others _ (clients_others c (wrote_in a i) (data_in (op_in a.state i)) (client_step a.state i).sends));
+    comes = λ c is. inl tt;
+    stops = λ c a found. inl tt;
+    judged = λ ms said d a found hears m number. inl (tt, tt);
+    injected = λ d bytes is a found. inl tt;
+    turns = λ d a b found turns. inl tt;
+    known = λ d key capacity stored is knows. inl tt;
+    adds = λ d key capacity stored is knows. inl tt;
+  }
 
-  resends_others : (c : ℕ) → AreOthers (resends w c).posts
-  unfolding resends
-  resends_others c = at_client _ (at_number w.clients c) (λ a. goes_others c a client_input.Resends)
-
-  pends_as_others : (c : ℕ) (o : Option client_rules.CallOp) → AreOthers (pends_as w c o).posts
-  pends_as_others c None = tt
-  pends_as_others c (Some op) = tt
-
-  pends_others : (c : ℕ) → AreOthers (pends w c).posts
-  unfolding pends
-  pends_others c = at_client _ (at_number w.clients c) (λ a. pends_as_others c (pending_op a.state))
-
-  injected_others : (d : ℕ) (bytes : List ℕ) (o : Option DriveAt) → AreOthers (injects_at w d bytes o).posts
-  injected_others d bytes None = tt
-  injected_others d bytes (Some a) = tt
-
-  injects_others : (d : ℕ) (bytes : List ℕ) → AreOthers (injects w d bytes).posts
-  unfolding injects
-  injects_others d bytes = injected_others d bytes (at_number w.drives d)
-
-  -- ---- a message comes to its receiver
-
-  either_hand : (b : Bool) (x y : Handed) → AreOthers x.posts → AreOthers y.posts → AreOthers (if b then x else y).posts
-  either_hand true x y p q = p
-  either_hand false x y p q = q
-
-  drive_hand : (d : ℕ) (m : Message) (o : Option DriveAt) → AreOthers (drive_hears w d m o).posts
-  drive_hand d m None = tt
-  drive_hand d m (Some a) =
-      either_hand (is_deaf a) (quiet w delivery.Deaf) (drive_replies w d m.from (judges a (command_in m.body))) tt (tt, tt)
-
-  client_hand : (c : ℕ) (a : ClientAt) (from : Node) (m : Option ClientMessage)
-      → AreOthers (client_takes w c a from m).posts
-  client_hand c a from None = tt
-  client_hand c a from (Some m) = goes_others c a (client_input.Hears from m)
-
-  client_heard : (c : ℕ) (m : Message) (o : Option ClientAt) → AreOthers (client_hears w c m o).posts
-  client_heard c m None = tt
-  client_heard c m (Some a) =
-      either_hand a.stopped (quiet w delivery.Deaf) (client_takes w c a m.from (for_client m)) tt
-      (client_hand c a m.from (for_client m))
-
-  server_hand : (chosen : List ℕ) (from : Node) (m : Option ServerMessage)
-      → Comes (heard_of w.clock from m) (server_takes w chosen from m).posts
-  server_hand chosen from None = inl tt
-  server_hand chosen from (Some m) = inr (Hears w.clock from m, refl)
-
-  either_comes : (b : Bool) (o : Option Input) (x : Handed) → Comes o x.posts
-      → Comes (if b then None else o) (if b then quiet w delivery.Deaf else x).posts
-  either_comes true o x k = inl tt
-  either_comes false o x k = k
-
-  hand : (chosen : List ℕ) (m : Message) (to : Node) → Comes (brought_to w m to) (handed_to w chosen m to).posts
-  hand chosen m node.Server = either_comes w.down _ _ (server_hand chosen m.from (for_server m))
-  hand chosen m (node.Drive d) = inl (drive_hand d m (at_number w.drives d))
-  hand chosen m (node.Client c) = inl (client_heard c m (at_number w.clients c))
-
-found_comes : (w : World) (chosen : List ℕ) (n : ℕ) (o : Option Posted)
-    → Comes (brought w o) (delivers_found w chosen n o).posts
-found_comes w chosen n None = inl tt
-found_comes w chosen n (Some p) = hand (marked w n p) chosen p.message p.message.to
-
-delivers_come : (w : World) (chosen : List ℕ) (n : ℕ)
-    → Comes (brought w (slice_get w.network.messages n)) (delivers w chosen n).posts
-unfolding delivers
-delivers_come w chosen n = found_comes w chosen n (slice_get w.network.messages n)
-
-known_or_new : (b : Bool) (x y : Act) (i : Input) → AreOthers x.posts
-    → Comes (if b then None else Some i) (if b then x else y).posts
-known_or_new true x y i k = inl k
-known_or_new false x y i k = inr (i, refl)
-
-made_or_not : (b : Bool) (x y : Act) (i : Input) → AreOthers y.posts
-    → Comes (if b then Some i else None) (if b then x else y).posts
-made_or_not true x y i k = inr (i, refl)
-made_or_not false x y i k = inl k
-
-begins_come : (w : World) (chosen : List ℕ) (e : Event) → Comes (input_in w (Opens e)) (begins w chosen e).posts
-unfolding begins makes gives
-begins_come w chosen (event.Drive d key capacity) = known_or_new (knows_drive w.server d) _ _ _ tt
-begins_come w chosen (event.Disk d key capacity) = known_or_new (knows_drive w.server d) _ _ _ tt
-begins_come w chosen (event.File f m tag) = made_or_not (has_algorithm (raw_of m)) _ _ _ tt
-begins_come w chosen (event.Format format) = inr (_, refl)
-begins_come w chosen (event.Do c x) = inl (calls_others w c (op_of x))
-begins_come w chosen (event.Call c x) = inl (calls_others w c (op_of x))
-begins_come w chosen (event.Deliver number) = delivers_come w chosen number
-begins_come w chosen (event.Resend (sender.Client c)) = inl (resends_others w c)
-begins_come w chosen (event.Resend sender.Server) =
-    inl (sent_others (map server_post (resend w.server)) (resent_others w.server.drives w.server.files))
-begins_come w chosen (event.Timeout c component) = inl (timeout_others w c component)
-begins_come w chosen (event.Leave c) = inl (leaves_others w c)
-begins_come w chosen (event.Inject d bytes) = inl (injects_others w d bytes)
-begins_come w chosen (event.Clock (machine.Drive d) time) = inl tt
-begins_come w chosen (event.Clock machine.Server time) = inl tt
-begins_come w chosen (event.Recall f) = inr (_, refl)
-begins_come w chosen (event.Revoke f) = inr (_, refl)
-begins_come w chosen (event.Rebuild f) = inr (_, refl)
-begins_come w chosen (event.Audit f) = inr (_, refl)
-begins_come w chosen (event.Declare d) = inr (_, refl)
-begins_come w chosen (event.Crash (machine.Drive d)) = inl tt
-begins_come w chosen (event.Crash machine.Server) = inr (_, refl)
-begins_come w chosen (event.Reopen (machine.Drive d)) = inl tt
-begins_come w chosen (event.Reopen machine.Server) = inr (_, refl)
-begins_come w chosen e = inl tt
-
-pub acts_come : (w : World) (chosen : List ℕ) (action : Action)
-    → Comes (input_in w action) (acts w chosen action).posts
-acts_come w chosen (Opens e) = begins_come w chosen e
-acts_come w chosen (Delivers number) = delivers_come w chosen number
-acts_come w chosen (TimesOut c component) = inl (timeout_others w c component)
-acts_come w chosen (Pends c) = inl (pends_others w c)
+  pub acts_come : Comes (input_in w action) (acts w chosen action).posts
+  acts_come = each_act w chosen (λ (a : Act). Comes (input_in w action) a.posts) action cases

@@ -1,9 +1,10 @@
 -- At each moment of a history of a scenario's text the server's files fit, and its numbers are counted.
-use Rattle.std.proofs.Common.{◌≡◌, ◌∷◌, ◌&&◌, ℕ, ◌+◌, ◌≤◌, ◌<◌, Bool, true, false, List, Option, Some, None, length, nat_lt, slice_get, refl, sym, ap, subst, ◌∙◌, arith, if◌then◌else◌}
+use Rattle.std.proofs.Common.{◌≡◌, [], ◌∷◌, ◌&&◌, ℕ, ◌+◌, ◌≤◌, ◌<◌, Bool, true, false, List, Option, Some, None, length, nat_lt, slice_get, refl, sym, ap, subst, ◌∙◌, arith, if◌then◌else◌}
 use Rattle.std.proofs.lemmas.Bool.Decides.{nat_tests}
 use Rattle.osd_lists.specs.declared.node.Node.{Node}
 use Rattle.osd_lists.specs.declared.node.Node.TheVariants as node
 use Rattle.osd_capability.specs.Layout.{is_format}
+use Rattle.scenario_text.specs.declared.names.TheConstants.{DRIVES, FILES}
 use Rattle.scenario_text.specs.Spelling.{Fits}
 use Rattle.scenario_text.specs.declared.event.Event.{Event}
 use Rattle.scenario_text.specs.declared.event.Event.TheVariants as event
@@ -29,7 +30,8 @@ use Rattle.history_law.specs.Counters.{GrantsAreCounted}
 use Rattle.history_law.specs.Doing.{heard_of, brought_to, brought, input_in}
 use Rattle.history_law.proofs.Doing.{acts_serve}
 use Rattle.history_law.proofs.DriveEvents.{IsRead, kept}
-use Rattle.exchange_law.specs.Text.{AreOfText}
+use Rattle.history_law.specs.Read.{is_written, is_written_line, AreWritten}
+use Rattle.exchange_law.specs.Text.{IsOfText, AreOfText}
 use Rattle.exchange_law.specs.Counters.{ServerCounts, ServerIsCounted, CountersStayLow}
 use Rattle.exchange_law.specs.Files.{KeptFits, AllFilesFit}
 use Rattle.exchange_law.proofs.Parts.{each_as}
@@ -80,6 +82,24 @@ given_event w (event.Crash machine.Server) f = tt
 given_event w (event.Reopen (machine.Drive d)) f = tt
 given_event w (event.Reopen machine.Server) f = tt
 given_event w e f = tt
+
+less_than : (a b : ℕ) → a < b → nat_lt a b ≡ true
+less_than a b l = grind (arith, nat_tests, l)
+
+event_written : (e : Event) → Fits e → is_written e ≡ true
+event_written (event.Drive d key capacity) f = less_than d DRIVES f.1.0
+event_written (event.Disk d key capacity) f = less_than d DRIVES f.1.0
+event_written (event.File n m tag) f = less_than n FILES f.1.0
+event_written (event.Format n) f = one_or_two n f.1.1.0.0 f.1.1.0.1
+event_written e f = refl
+
+line_written : (l : Line) → IsOfText l → is_written_line l ≡ true
+line_written (line.Event e) f = event_written e f
+line_written l f = refl
+
+pub text_written : (h : List Line) → AreOfText h → AreWritten h
+text_written [] f = tt
+text_written (l ∷ h) f = (line_written l f.0, text_written h f.1)
 
 pub given_rule : (w : World) (r : Rule) (action : Action) → due_by w r ≡ Some action → GivenAny (input_in w action)
 given_rule w r (Delivers number) due = given_brought w (slice_get w.network.messages number)

@@ -44,12 +44,12 @@ use Rattle.exchange_law.proofs.CountWorlds.{GivenAny, given_event, given_rule, W
 -- ---- lines
 
 -- where few messages were sent before
-abbrev FitsFew : List Line → Line → Type 0
+abbrev pub FitsFew : List Line → Line → Type 0
 FitsFew before (line.Message n from to bytes) = AreFew before → FitsBetween from to bytes
 FitsFew before l = Unit {0}
 
 -- and the history is of a text
-abbrev FitsAt : List Line → Line → Type 0
+abbrev pub FitsAt : List Line → Line → Type 0
 FitsAt before l = AreOfText before → FitsFew before l
 
 each_text : (before ls : List Line) → (AreOfText before → EachBehind FitsFew before ls) → EachBehind FitsAt before ls
@@ -114,11 +114,11 @@ sent_fit first last k sent n before (o ∷ os) l m g = (
 
 -- ---- a move
 
-record IsFitting (w : World) (h : List Line) : Type 0 where
-  known : IsKnown w h
-  there : FitsThere w h
-  slots : AreOfText h → SlotsGood w.server.next_object w.server.slots
-  lines : EachBehind FitsAt [] h
+pub record IsFitting (w : World) (h : List Line) : Type 0 where
+  pub known : IsKnown w h
+  pub there : FitsThere w h
+  pub slots : AreOfText h → SlotsGood w.server.next_object w.server.slots
+  pub lines : EachBehind FitsAt [] h
 
 posts_fit : (w : World) (h before : List Line) (k : WorldFits w) (m : Move) (n : ℕ) (o : Option Input)
     → input_in w m.action ≡ o → GivenAny o → ReadAny o → SlotsGood w.server.next_object w.server.slots
@@ -161,7 +161,7 @@ move_slots w h k m g text =
     subst (λ (s : Server). SlotsGood s.next_object s.slots) (sym (acts_serve w m.chosen m.action).server)
     (slots_by w m (input_in w m.action) (k.there text) g (read_input w m.action) (k.slots text))
 
-all_fitting : IsKept IsFitting
+pub all_fitting : IsKept IsFitting
 all_fitting = record {
   starts = record { known = all_known.starts; there = all_fit.starts; slots = λ text. tt; lines = tt };
   opens =

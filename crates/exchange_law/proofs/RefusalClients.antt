@@ -10,6 +10,7 @@ use Rattle.server_rules.specs.History.{step as server_step}
 use Rattle.server_rules.proofs.Members.{in_either}
 use Rattle.client_rules.specs.Messages.{awaited_of}
 use Rattle.client_rules.specs.History.{step as client_step}
+use Rattle.move_law.specs.Said.{posted}
 use Rattle.exchange_law.specs.Requests.{OneRequest}
 use Rattle.history_law.specs.State.{Client, Awaited, Command}
 use Rattle.scenario_text.specs.declared.event.Event.TheVariants as event
@@ -29,7 +30,7 @@ use Rattle.history_law.specs.HistoryMoments.{IsReached}
 use Rattle.history_law.specs.BookMoments.{IsMoment, lines_in}
 use Rattle.exchange_law.specs.InStep.{IsInStep, state_of, ClientsAreInStep}
 use Rattle.exchange_law.proofs.Along.{MayMove, at_moment}
-use Rattle.exchange_law.proofs.Turning.{sent_by, bodies, posted, AreSame, Becomes, Turn, ByServer, ByClient, ByDrive, Makes, Stops, Rests, ClientDoes, ClientMade}
+use Rattle.exchange_law.proofs.Turning.{sent_by, bodies, AreSame, Becomes, Turn, ByServer, ByClient, ByDrive, Makes, Stops, Rests, ClientDoes, ClientMade}
 use Rattle.exchange_law.proofs.Turns.{acts_turn, messages_behind}
 use Rattle.exchange_law.proofs.Replied.{from_server, from_client, none_posted}
 use Rattle.exchange_law.proofs.RefusalGiven.{AreOrdered, ordered_move, none_ordered}

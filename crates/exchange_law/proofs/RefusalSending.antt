@@ -5,6 +5,7 @@ use Rattle.server_rules.specs.Laws.{In}
 use Rattle.client_rules.specs.Commands.{placed, before, in_order}
 use Rattle.client_rules.specs.Messages.{to_drive, awaited_of}
 use Rattle.client_rules.specs.Steps.{outstanding_sends, resent}
+use Rattle.move_law.specs.Said.{posted}
 use Rattle.exchange_law.specs.ClientNonces.{nonces_in, NoneIs, AllDiffer}
 use Rattle.exchange_law.proofs.Rising.{IsAmong}
 use Rattle.history_law.specs.State.{Client, Awaited, Outgoing, AnswersRecall, Asks, ToDrive, Request, Command}
@@ -12,7 +13,6 @@ use Rattle.history_law.proofs.KnownGoing.{SendsKnown}
 use Rattle.world_history.specs.declared.messages.Body.TheVariants.{Command as OfCommand}
 use Rattle.world_history.specs.declared.messages.Message.{Message}
 use Rattle.world_history.specs.Handed.{Post, is_addressed, is_write_out, client_post, client_posts}
-use Rattle.exchange_law.proofs.Turning.{posted}
 use Rattle.exchange_law.proofs.CountNear.{IsNear}
 
 -- a client's command to a drive, as a message

@@ -1,6 +1,6 @@
 -- What each move is: a step of the server, of a client or of a drive, with all that it tells and sends.
 use Rattle.std.specs.List.{cons_option, filter_map}
-use Rattle.std.proofs.Common.{◌≡◌, ◌⊎◌, ◌&&◌, ℕ, Bool, true, false, List, [], ◌∷◌, ◌++◌, Some, map, filter, nat_lt, slice_get, slice_set, refl, sym, ap, ◌∙◌, inl, inr, zero, suc}
+use Rattle.std.proofs.Common.{◌≡◌, ◌⊎◌, ◌&&◌, ℕ, Bool, true, false, List, [], ◌∷◌, ◌++◌, Some, map, filter, nat_lt, slice_get, refl, sym, ap, inl, inr, zero, suc}
 use Rattle.osd_lists.specs.declared.node.Node.{Node}
 use Rattle.osd_lists.specs.declared.node.Node.TheVariants as node
 use Rattle.server_rules.specs.Laws.{In}
@@ -29,35 +29,21 @@ use Rattle.world_history.specs.Drives.{judges, command_in, is_deaf}
 use Rattle.world_history.specs.Handed.{Post, is_addressed, plain, server_post, client_posts, ended_by, op_in}
 use Rattle.world_history.specs.Moves.{Act, Action, Opens, Delivers}
 use Rattle.world_history.specs.Sending.{fresh}
+use Rattle.move_law.specs.Said.{said, posted}
 
 -- ---- messages
 
 -- those of a network, without their marks
 abbrev pub bodies : List Posted → List Message
-bodies [] = []
-bodies (p ∷ ps) = p.message ∷ bodies ps
+bodies ps = said ps
 
 abbrev pub sent_by : World → List Message
 sent_by w = bodies w.network.messages
-
--- those that are posted
-abbrev pub posted : List Post → List Message
-posted [] = []
-posted (p ∷ ps) = p.message ∷ posted ps
 
 pub bodies_more : (xs : List Posted) (ps : List Post) → bodies (xs ++ map fresh ps) ≡ bodies xs ++ posted ps
 bodies_more [] [] = refl
 bodies_more [] (p ∷ ps) = ap (λ (l : List Message). p.message ∷ l) (bodies_more [] ps)
 bodies_more (x ∷ xs) ps = ap (λ (l : List Message). x.message ∷ l) (bodies_more xs ps)
-
-pub bodies_marked : (xs : List Posted) (n : ℕ) (p q : Posted) → slice_get xs n ≡ Some p → q.message ≡ p.message
-    → bodies (slice_set xs n q) ≡ bodies xs
-bodies_marked [] n p q found same = absurd (cc found)
-bodies_marked (x ∷ xs) zero p q found same =
-    let it : x ≡ p = cc found in
-    ap (λ (m : Message). m ∷ bodies xs) (same ∙ ap (λ (y : Posted). y.message) (sym it))
-bodies_marked (x ∷ xs) (suc n) p q found same =
-    ap (λ (l : List Message). x.message ∷ l) (bodies_marked xs n p q found same)
 
 pub body_in : (xs : List Posted) (n : ℕ) (p : Posted) → slice_get xs n ≡ Some p → In p.message (bodies xs)
 body_in [] n p found = absurd (cc found)

@@ -11,6 +11,8 @@ use Rattle.fencing_law.specs.Fences.{UnforgedAreFenced}
 use Rattle.history_claims.specs.Components.{ComponentsStandApart}
 use Rattle.history_claims.specs.Sound.{HistoriesAreSound}
 use Rattle.tag_law.specs.Given.{GrantsAreOlder}
+use Rattle.tag_law.specs.Live.{EachAnswerIsLive}
+use Rattle.tag_law.specs.Barred.{GivenIsBarred}
 use Rattle.exchange_law.specs.Judged.{RefusalsWereJudged}
 use Rattle.exchange_law.specs.Awaited.{RefusalsWereAwaited}
 use Rattle.exchange_law.specs.Text.{WithinTheLimitAreFew}
@@ -23,21 +25,24 @@ use Rattle.history_claims.proofs.Texts.{events_make_text}
 
 pub histories_are_sound : HistoriesAreSafe → VerdictsAreAnswered → CommandsAreIssued → UnforgedAreIssued
     → UnguessedAreUnforged → RangesAreApart → FrontsAreLawful → ComponentsStandApart → EachHolderIsOwn
-    → UnforgedAreFenced → GrantsAreOlder → CommandsAreIssuedExactly → UnforgedAreIssuedExactly → LanesAreFair → LanesAreOwn
-    → RefusalsWereJudged → RefusalsWereAwaited → CallsEndSo → EachTagIsItsFiles → WithinTheLimitAreFew → HistoriesAreSound
-histories_are_sound safe answered issued listed fair ranges fronts apart own fenced older exact allowed lanes lanes_own judged
-    awaited ends tags few = record {
+    → UnforgedAreFenced → EachAnswerIsLive → GrantsAreOlder → GivenIsBarred → CommandsAreIssuedExactly
+    → UnforgedAreIssuedExactly → LanesAreFair → LanesAreOwn → RefusalsWereJudged → RefusalsWereAwaited → CallsEndSo
+    → EachTagIsItsFiles → WithinTheLimitAreFew → HistoriesAreSound
+histories_are_sound safe answered issued listed fair ranges fronts apart own fenced live older barred exact allowed lanes
+    lanes_own judged awaited ends tags few = record {
       sound = λ h l. record {
         safe = safe h l;
         answered = λ w s. answered w h s;
         issued = issued h l;
         ranges = λ before after is. ranges before (fronts before after (subst Lawful is l));
+        live = λ w s a. live w h s a;
         apart = apart h l;
         listed = listed h l;
         fair = fair h l;
         holders = own h l;
         fenced = λ w s a u. fenced w h s a u;
         older = λ w s a. older w h s a;
+        barred = λ w s text few u. barred w h s text few u;
         lanes = λ before after is. lanes before (fronts before after (subst Lawful is l));
         own = λ before after is. lanes_own before (fronts before after (subst Lawful is l));
         exact = exact h l;

@@ -16,6 +16,8 @@ use Rattle.fencing_law.specs.Holder.{OwnUnlessForged}
 use Rattle.history_claims.specs.Components.{AreComponentsApart}
 use Rattle.history_claims.specs.Lanes.{HaveFairLanes, HaveOwnLanes}
 use Rattle.tag_law.specs.Given.{GivenBefore}
+use Rattle.tag_law.specs.Live.{AnswersAreLive}
+use Rattle.tag_law.specs.Barred.{FencesBar}
 use Rattle.exchange_law.specs.Judged.{JudgedAt}
 use Rattle.exchange_law.specs.Awaited.{AwaitedAt}
 use Rattle.exchange_law.specs.Text.{AreOfText, AreFew, WithinTheLimitAreFew}
@@ -37,6 +39,9 @@ pub record IsSound (h : List Line) : Type 0 where
   pub issued : AtEachLine IssuedAt h
   -- of two live grants of a file of which one is for writing, no byte of a component is inside the capabilities of both
   pub ranges : AtEachMoment AreRangesApart h
+  -- each layout that the server sends a client is of a grant of this client that is live in the file's book at the end of
+  -- the message's step, with the file's tag, map and components as they are there, or the client was sent the same before
+  pub live : (w : World) → StandsFor w h → AreWritten h → AnswersAreLive h
   -- where lines can name the drives and files that events make, the components of each file stand on different drives, and
   -- one that is made anew comes onto a further drive
   pub apart : AreNamed h → AtEachMoment AreComponentsApart h
@@ -52,6 +57,9 @@ pub record IsSound (h : List Line) : Type 0 where
   pub fenced : (w : World) → StandsFor w h → AreWritten h → AreUnforged h → FencesLast h
   -- and whatever grants of the file the server gave before that note are of an earlier tag
   pub older : (w : World) → StandsFor w h → AreWritten h → GivenBefore h
+  -- so in a whole history of a scenario's text with few messages in which nothing is forged, behind the step of that note no
+  -- command is performed on the file's components that aren't missing whose capability was given for the file before it
+  pub barred : (w : World) → StandsFor w h → AreOfText h → AreFew h → AreUnforged h → FencesBar h
   -- at each moment each lane of an object is of a command of the lane's holder, the server or a client, or of one that carries
   -- what the server gave that client, as far as nothing is forged; where nothing was guessed it is of one that the holder
   -- sent; and no two lanes of an object have one holder

@@ -13,7 +13,7 @@ use history_law::{
     commands_are_issued, histories_are_safe, ranges_are_apart, unforged_are_issued,
     unguessed_are_unforged, verdicts_are_answered,
 };
-use tag_law::{each_tag_is_its_files, grants_are_older};
+use tag_law::{answers_are_live, each_tag_is_its_files, given_is_barred, grants_are_older};
 use world_history::fronts_are_lawful;
 
 /// At each moment of a lawful history whose events lines can name, the components of each file, present or missing,
@@ -28,10 +28,11 @@ pub fn components_stand_apart()
 /// Each lawful history is sound, in the words of its lines: it is safe; in a whole one the line behind each verdict on
 /// a delivered message is the drive's reply; what a drive performs is the server's, or
 /// was issued to the client whose command it is; no byte of a component is inside the capabilities of two live
-/// grants of which one is for writing; the components of a file stand on different drives. As far as nothing is
+/// grants of which one is for writing, and each layout that the server sends a client is of a live grant of this client or
+/// repeats what it was sent; the components of a file stand on different drives. As far as nothing is
 /// forged, injected bytes that are performed carry a capability that the server gave a client, or are its own; what
 /// is performed under the server's holder is its own, and each lane of an object its holder's; and a fence that is
-/// over lasts. In a history of a scenario's text with few messages each performed command that isn't the server's is
+/// over lasts, and bars what was given before it. In a history of a scenario's text with few messages each performed command that isn't the server's is
 /// for a component under a grant of a client; as far as nothing is forged, the object of each present component has
 /// its file's tag, or the next one while a fence is open; no call ends since its layout can't be used or since a
 /// command lies outside its capability, and none is refused since its client has no sequence number left.
@@ -48,7 +49,9 @@ pub fn histories_are_sound()
     components_stand_apart();
     holders_are_own();
     unforged_are_fenced();
+    answers_are_live();
     grants_are_older();
+    given_is_barred();
     commands_are_issued_exactly();
     unforged_are_issued_exactly();
     lanes_are_fair();

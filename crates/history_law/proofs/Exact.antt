@@ -69,16 +69,14 @@ body_read ds f g fits = layout_again layout_in layout_item LayoutFits layout_cod
 pub one_of : (a b : LayoutSegment) (xs : List LayoutSegment) → xs ≡ a ∷ [] → xs ≡ b ∷ [] → a ≡ b
 one_of a b xs is too = cc (sym is ∙ too)
 
-layout_read : (client : ℕ) (bytes : List ℕ) (k : ℕ) (o : ObjectCred) (l : Lists bytes k o)
-    (x : IsGrantOf client l.given)
-    → NumbersFit x.drives x.file x.grant → l.layout ≡ layout_for x.drives x.file x.grant
-layout_read client bytes k o l x fits =
-    let there : (granted x.drives x.file x.grant).layouts ≡ l.segment ∷ [] =
-    ap (λ (y : LayoutGetOk). y.layouts) (sym x.is) ∙ l.one in
-    let body : body_of (layout_for x.drives x.file x.grant) ≡ l.segment.body =
+layout_read : (bytes : List ℕ) (k : ℕ) (o : ObjectCred) (l : Lists bytes k o) (ds : List Drive) (f : Kept) (g : Grant)
+    → l.given ≡ granted ds f g → LayoutFits (layout_for ds f g) → l.layout ≡ layout_for ds f g
+layout_read bytes k o l ds f g is fits =
+    let there : (granted ds f g).layouts ≡ l.segment ∷ [] = ap (λ (y : LayoutGetOk). y.layouts) (sym is) ∙ l.one in
+    let body : body_of (layout_for ds f g) ≡ l.segment.body =
     ap (λ (y : LayoutSegment). y.body) (one_of _ l.segment _ refl there) in
-    same_ok l.layout (layout_for x.drives x.file x.grant) (whole layout_in l.segment.body) l.body
-    (ap (whole layout_in) (sym body) ∙ body_read x.drives x.file x.grant fits.layout)
+    same_ok l.layout (layout_for ds f g) (whole layout_in l.segment.body) l.body
+    (ap (whole layout_in) (sym body) ∙ body_read ds f g fits)
 
 -- ---- its credentials
 
@@ -141,31 +139,29 @@ may_write f g at k c is has writes =
     ∙ ap (λ (a : Action). nat_eq (bit_and c.capability.rights (right_of a)) 0) (sym writes) ∙ has)
 
 -- where its numbers fit, what is read of the credential is the capability of a component under the grant
-record IsCapability (f : Kept) (g : Grant) (k : ℕ) (x : Capability) : Type 0 where
-  at : Component
-  found : slice_get f.components k ≡ Some at
-  present : at.missing ≡ false
-  fits : cap.Fits (capability_for f g at k)
-  is : x ≡ capability_for f g at k
+pub record IsCapability (f : Kept) (g : Grant) (k : ℕ) (x : Capability) : Type 0 where
+  pub at : Component
+  pub found : slice_get f.components k ≡ Some at
+  pub present : at.missing ≡ false
+  pub fits : cap.Fits (capability_for f g at k)
+  pub is : x ≡ capability_for f g at k
 
-capability_read : (client : ℕ) (bytes : List ℕ) (k : ℕ) (o : ObjectCred) (l : Lists bytes k o)
-    (x : IsGrantOf client l.given)
-    → NumbersFit x.drives x.file x.grant → (y : Capability) → cap.reading o.oc_capability ≡ Ok y
-    → IsCapability x.file x.grant k y
-capability_read client bytes k o l x fits y read =
-    let layout = layout_read client bytes k o l x fits in
-    let at = first_credential x.drives x.file x.grant x.file.components k o
+pub capability_read : (bytes : List ℕ) (k : ℕ) (o : ObjectCred) (l : Lists bytes k o) (ds : List Drive) (f : Kept)
+    (g : Grant)
+    → l.given ≡ granted ds f g → NumbersFit ds f g → (y : Capability) → cap.reading o.oc_capability ≡ Ok y
+    → IsCapability f g k y
+capability_read bytes k o l ds f g is fits y read =
+    let layout = layout_read bytes k o l ds f g is fits.layout in
+    let at = first_credential ds f g f.components k o
     (ap (λ (z : Layout). slice_get z.olo_components k) (sym layout) ∙ l.found) in
-    let here = read_in x.drives x.file x.grant at.0 k at.0.missing o y at.2 read in
-    let known : cap.Fits (capability_for x.file x.grant at.0 k) = fits.capabilities k at.0 at.1 in
+    let here = read_in ds f g at.0 k at.0.missing o y at.2 read in
+    let known : cap.Fits (capability_for f g at.0 k) = fits.capabilities k at.0 at.1 in
     record {
       at = at.0;
       found = at.1;
       present = here.0;
       fits = known;
-      is =
-          same_read y (capability_for x.file x.grant at.0 k) _ here.1
-          (reading-spelling (capability_for x.file x.grant at.0 k) known);
+      is = same_read y (capability_for f g at.0 k) _ here.1 (reading-spelling (capability_for f g at.0 k) known);
     }
 
 of_grant : (f : Kept) (g : Grant) (k : ℕ) (x : Capability) (i : IsCapability f g k x) (c : Command) → c.capability ≡ x
@@ -184,7 +180,8 @@ pub exact_listed : (client : ℕ) (bytes : List ℕ) (k : ℕ) (o : ObjectCred) 
     → NumbersFit x.drives x.file x.grant → (c : Command) → cap.reading o.oc_capability ≡ Ok c.capability
     → nat_eq (bit_and c.capability.rights (right_of c.action)) 0 ≡ false → IsOfGrant x.file x.grant k c
 exact_listed client bytes k o l x fits c read allowed =
-    of_grant x.file x.grant k c.capability (capability_read client bytes k o l x fits c.capability read) c refl allowed
+    of_grant x.file x.grant k c.capability
+    (capability_read bytes k o l x.drives x.file x.grant x.is fits c.capability read) c refl allowed
 
 -- where its numbers fit, the command that the drive reads is for a component under the grant
 pub exact_read : (client : ℕ) (bytes : List ℕ) (k : ℕ) (o : ObjectCred) (l : Lists bytes k o)
@@ -193,5 +190,5 @@ pub exact_read : (client : ℕ) (bytes : List ℕ) (k : ℕ) (o : ObjectCred) (l
     → reading (spelling y) ≡ Ok c → nat_eq (bit_and c.capability.rights (right_of c.action)) 0 ≡ false
     → IsOfGrant x.file x.grant k c
 exact_read client bytes k o l x fits y c read spelled allowed =
-    let i = capability_read client bytes k o l x fits y.capability read in
+    let i = capability_read bytes k o l x.drives x.file x.grant x.is fits y.capability read in
     of_grant x.file x.grant k y.capability i c (fits_read y c (subst cap.Fits (sym i.is) i.fits) spelled) allowed

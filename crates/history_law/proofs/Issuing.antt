@@ -11,14 +11,10 @@ use Rattle.layout_ops.specs.declared.envelope.Envelope.TheVariants as envelope
 use Rattle.layout_ops.specs.Reading.{envelope_of}
 use Rattle.osd_commands.specs.declared.commands.Command.{Command}
 use Rattle.osd_objects.proofs.Entries.{lookup_inserted, lookup_beside, lookup_set, lookup_set_beside}
-use Rattle.server_rules.specs.Messages.{Message as ServerMessage}
-use Rattle.server_rules.specs.History.{Hears as ServerHears, step as server_step}
 use Rattle.client_rules.specs.Envelopes.{by_envelope, message_in}
 use Rattle.client_rules.specs.Messages.{Message as ClientMessage, Answers, Step as ClientStep}
 use Rattle.client_rules.specs.History.{Input, step}
-use Rattle.client_rules.specs.History as client_input
 use Rattle.scenario_text.specs.declared.names.TheConstants.{FILES}
-use Rattle.scenario_text.specs.declared.line.Delivery.TheVariants as delivery
 use Rattle.scenario_text.specs.declared.line.Outcome.{Outcome}
 use Rattle.scenario_text.specs.declared.line.Line.{Line}
 use Rattle.scenario_text.specs.declared.line.Line.TheVariants as line
@@ -26,18 +22,16 @@ use Rattle.world_history.specs.ServerNames as server_rules
 use Rattle.world_history.specs.ClientNames as client_rules
 use Rattle.world_history.specs.declared.messages.Body.{Body}
 use Rattle.world_history.specs.declared.messages.Body.TheVariants.{Command as OfCommand, Envelope as OfEnvelope}
-use Rattle.world_history.specs.declared.messages.Message.{Message}
 use Rattle.world_history.specs.declared.messages.Sent.{Sent}
-use Rattle.world_history.specs.State.{DriveAt, ClientAt, World, at_number, with_number, and_number}
+use Rattle.world_history.specs.State.{ClientAt, World, at_number, with_number, and_number}
 use Rattle.world_history.specs.Spelled.{party_of}
 use Rattle.world_history.specs.Told.{kind_of}
 use Rattle.world_history.specs.Names.{where_known, note_line, is_tellable_note, known_note_line, known_outcome}
-use Rattle.world_history.specs.Drives.{Judged, judges, command_in, is_deaf}
-use Rattle.world_history.specs.Handed.{Post, Handed, is_addressed, quiet, drive_hears, drive_replies, server_post, server_hears, server_takes, client_posts, client_did, client_goes, client_hears, client_takes, for_client, for_server, handed_to, end_line, ended_by, op_in, wrote_in, data_in}
+use Rattle.world_history.specs.Handed.{Post, Handed, is_addressed, server_post, client_posts, client_did, client_goes, end_line, ended_by, op_in, wrote_in, data_in}
 use Rattle.world_history.specs.Moves.{Act}
 use Rattle.history_law.specs.Listed.{Lists, WasGiven}
 use Rattle.history_law.specs.Granted.{OwnIn}
-use Rattle.history_law.proofs.Granting.{SlotsOwn, SendsOwn, step_own}
+use Rattle.history_law.proofs.Granting.{SlotsOwn, SendsOwn}
 use Rattle.history_law.proofs.KnownGoing.{ClientKnown, SendsKnown, StepKnown}
 use Rattle.history_law.proofs.KnownSteps.{HeardKnown, InputKnown, step_known}
 use Rattle.history_law.proofs.Taking.{IsUnderOne, IsTaken, answer_known}
@@ -177,7 +171,7 @@ module _ (ss : List Sent) where
   -- ---- what a client hears
 
   module _ (w : World) (k : WorldKnown ss w) where
-    pub client_did_known : (c : ℕ) (a : ClientAt) (i : Input) (s : ClientStep) → at_number w.clients c ≡ Some a
+    client_did_known : (c : ℕ) (a : ClientAt) (i : Input) (s : ClientStep) → at_number w.clients c ≡ Some a
         → StepKnown (MaySend ss c) s → HandKnown ss (client_did w c a i s)
     client_did_known c a i s found t = record {
       world = record { clients = put_client w.clients c a _ k.clients found t.client; slots = k.slots };
@@ -189,64 +183,6 @@ module _ (ss : List Sent) where
         → HandKnown ss (client_goes w c a i)
     client_went c a i found known =
         client_did_known c a i (step a.state i) found (step_known (MaySend ss c) a.state i (k.clients c a found) known)
-
-    still_hand : HandKnown ss (quiet w delivery.Taken)
-    still_hand = record { world = k; told = tt; posts = tt }
-
-    deaf_hand : HandKnown ss (quiet w delivery.Deaf)
-    deaf_hand = record { world = k; told = tt; posts = tt }
-
-    either_hand : (b : Bool) (x y : Handed) → HandKnown ss x → HandKnown ss y → HandKnown ss (if b then x else y)
-    either_hand true x y p q = p
-    either_hand false x y p q = q
-
-    -- ---- a message comes to its receiver
-
-    server_hand : (chosen : List ℕ) (from : Node) (m : Option ServerMessage)
-        → HandKnown ss (server_takes w chosen from m)
-    server_hand chosen from None = still_hand
-    server_hand chosen from (Some m) =
-        let t = step_own w.server chosen (ServerHears w.clock from m) k.slots in
-        record {
-          world = record { clients = k.clients; slots = t.slots };
-          told = notes_silent (server_step w.server chosen (ServerHears w.clock from m)).notes;
-          posts = from_server (server_step w.server chosen (ServerHears w.clock from m)).sends t.sends;
-        }
-
-    server_heard : (chosen : List ℕ) (m : Message) → HandKnown ss (server_hears w chosen m)
-    server_heard chosen m = either_hand w.down _ _ deaf_hand (server_hand chosen m.from (for_server m))
-
-    drive_said : (d : ℕ) (from : Node) (j : Judged) → HandKnown ss (drive_replies w d from j)
-    drive_said d from j = record {
-      world = record { clients = k.clients; slots = k.slots };
-      told = tt;
-      posts = (tt, tt);
-    }
-
-    drive_hand : (d : ℕ) (m : Message) (a : Option DriveAt) → HandKnown ss (drive_hears w d m a)
-    drive_hand d m None = deaf_hand
-    drive_hand d m (Some a) = either_hand (is_deaf a) _ _ deaf_hand (drive_said d m.from (judges a (command_in m.body)))
-
-    client_hand : (c : ℕ) (a : ClientAt) (from : Node) (m : Option ClientMessage) → at_number w.clients c ≡ Some a
-        → ((x : ClientMessage) → m ≡ Some x → HeardKnown (MaySend ss c) from x)
-        → HandKnown ss (client_takes w c a from m)
-    client_hand c a from None found known = still_hand
-    client_hand c a from (Some m) found known = client_went c a (client_input.Hears from m) found (known m refl)
-
-    client_heard : (c : ℕ) (m : Message) (a : Option ClientAt) → at_number w.clients c ≡ a
-        → ((x : ClientMessage) → for_client m ≡ Some x → HeardKnown (MaySend ss c) m.from x)
-        → HandKnown ss (client_hears w c m a)
-    client_heard c m None found known = deaf_hand
-    client_heard c m (Some a) found known =
-        either_hand a.stopped _ _ deaf_hand (client_hand c a m.from (for_client m) found known)
-
-    pub hand_known : (chosen : List ℕ) (m : Message) (to : Node)
-        → ((c : ℕ) (x : ClientMessage) → to ≡ node.Client c → for_client m ≡ Some x
-        → HeardKnown (MaySend ss c) m.from x)
-        → HandKnown ss (handed_to w chosen m to)
-    hand_known chosen m node.Server known = server_heard chosen m
-    hand_known chosen m (node.Drive d) known = drive_hand d m (at_number w.drives d)
-    hand_known chosen m (node.Client c) known = client_heard c m (at_number w.clients c) refl (λ x e. known c x refl e)
 
   -- an answer that is delivered was given
   answer_read : (bytes : List ℕ) (r : Result Envelope OpErr) (a : client_rules.Answer) → envelope_of bytes ≡ r

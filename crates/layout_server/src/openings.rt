@@ -28,11 +28,10 @@ impl FileStep for FileCrash {
 
     fn at_file(
         &self,
-        alloc: Global,
+        _alloc: Global,
         file: &mut FileState,
-        effects: &mut Effects,
+        _effects: &mut Effects,
     ) -> Result<(), Memory> {
-        let _ = (alloc, effects);
         file.spent = false;
         file.job = None;
         Ok(())

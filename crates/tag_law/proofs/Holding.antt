@@ -1,5 +1,5 @@
 -- At each moment, and in the lines: what was given before a fence was over is of an earlier tag.
-use Rattle.std.proofs.Common.{◌≡◌, ℕ, zero, suc, ◌<◌, ◌++◌, ◌∷◌, [], List, length, map, slice_get, slice_set, Option, Some, None, refl, sym, ap, subst, ◌∙◌, append_assoc, arith, inl, inr}
+use Rattle.std.proofs.Common.{◌≡◌, ℕ, zero, suc, ◌+◌, ◌≤◌, ◌^◌, ◌<◌, ◌++◌, ◌∷◌, [], List, length, map, slice_get, slice_set, Option, Some, None, refl, sym, ap, subst, ◌∙◌, append_assoc, arith, inl, inr}
 use Rattle.std.proofs.lemmas.List.Sums.{fold-append}
 use Rattle.std.specs.List.{fold}
 use Rattle.std.proofs.lemmas.Option.{same_Some}
@@ -43,16 +43,22 @@ use Rattle.history_law.proofs.Staying.{written_front}
 use Rattle.history_law.proofs.Following.{IsFollowed, followed}
 use Rattle.history_law.proofs.Issuing.{IsSilent, AreSilent}
 use Rattle.history_law.proofs.IssuingMoves.{acts_known}
-use Rattle.history_law.proofs.IssueLines.{IsKnown, all_known}
+use Rattle.history_law.proofs.IssueLines.{IsKnown}
+use Rattle.history_law.specs.Doing.{input_in}
+use Rattle.exchange_law.proofs.CountGrowing.{as_many, fewer, text_front, text_behind}
+use Rattle.exchange_law.proofs.CountWorlds.{GivenAny, given_event, given_rule}
+use Rattle.exchange_law.proofs.Fitting.{IsFitting, all_fitting}
+use Rattle.server_rules.specs.declared.limits.TheConstants.{FIRST_OBJECT}
+use Rattle.world_history.specs.declared.limits.TheConstants.{MAX_KEPT}
 use Rattle.calm_law.specs.Sound.{IsSound}
 use Rattle.calm_law.specs.Seeing.{SeenIsSound}
 use Rattle.calm_law.specs.Tags.{fence_note, EachStepRaisesTags}
 use Rattle.fencing_law.proofs.Moves.{messages_in, Acts, Others, Serves, each_acts}
 use Rattle.fencing_law.proofs.Holding.{no_note}
 use Rattle.calm_law.proofs.MoveFacts.{are_named, seen_server}
-use Rattle.tag_law.specs.Given.{GivesOlder, OlderIn, SpellsOlder, GivenBefore, GrantsAreOlder}
-use Rattle.tag_law.proofs.Saying.{GivesUpTo}
-use Rattle.tag_law.proofs.Aging.{to_client, EnvelopeUpTo, Aged, aged_by, aged_first}
+use Rattle.tag_law.specs.Given.{AreShort, GivesOlder, OlderIn, SpellsOlder, GivenBefore, GrantsAreOlder}
+use Rattle.tag_law.proofs.Aging.{IsLow, GivesUpTo, to_client, EnvelopeUpTo, Aged, aged_by, aged_first}
+use Rattle.tag_law.proofs.Bodies.{BodiesFit, bodies_fit}
 
 -- ---- places in lists
 
@@ -200,15 +206,16 @@ in_world w n client x e from to =
 
 -- ---- a fence that is over
 
-module _ (raise : EachStepRaisesTags) where
+module _ (Short Later : Type 0) (back : Later → Short) where
   older_by : (fs : List File) (n tag : ℕ) (r : Results)
-      → ((f : File) → file_at fs n ≡ Some f → f.kept.tag < tag) → GivesUpTo fs n r → GivesOlder tag r
+      → ((f : File) → file_at fs n ≡ Some f → f.kept.tag < tag) → GivesUpTo Short fs n r → GivesOlder Later tag r
   older_by fs n tag (results.LayoutGet (get.Granted ok)) later up = record {
     drives = up.drives;
     file = up.old;
     grant = up.grant;
     is = up.is;
     older = let l = later up.now up.there in omega (arith, l, up.rises);
+    numbers = λ short. up.numbers (back short);
   }
   older_by fs n tag (results.LayoutGet (get.TryLater b)) later up = tt
   older_by fs n tag (results.LayoutGet (get.Refused s)) later up = tt
@@ -216,15 +223,16 @@ module _ (raise : EachStepRaisesTags) where
   older_by fs n tag (results.LayoutReturn r) later up = tt
 
   older_in : (fs : List File) (n tag : ℕ) (e : Envelope) → ((f : File) → file_at fs n ≡ Some f → f.kept.tag < tag)
-      → EnvelopeUpTo fs e → OlderIn n tag e
+      → EnvelopeUpTo Short fs e → OlderIn Later n tag e
   older_in fs n tag (envelope.Answer a) later up =
-      λ same. older_by fs n tag a.results later (subst (λ (k : ℕ). GivesUpTo fs k a.results) same up)
+      λ same. older_by fs n tag a.results later (subst (λ (k : ℕ). GivesUpTo Short fs k a.results) same up)
   older_in fs n tag (envelope.Recall r) later up = tt
   older_in fs n tag (envelope.Request r) later up = tt
   older_in fs n tag (envelope.RecallAnswer r) later up = tt
   older_in fs n tag (envelope.Order r) later up = tt
   older_in fs n tag (envelope.OrderAnswer r) later up = tt
 
+module _ (raise : EachStepRaisesTags) where
   -- the notes of a step name the fence
   note_in : (ns : List server_rules.Note) (x : server_rules.Note) (n tag : ℕ) → In x ns → x.file ≡ n
       → x.kind ≡ server_rules.Fenced tag → In (fence_note n tag) ns
@@ -233,18 +241,23 @@ module _ (raise : EachStepRaisesTags) where
       (ap (λ (k : ℕ). record { file = k; kind = x.kind }) file
       ∙ ap (λ (k : server_rules.NoteKind). record { file = n; kind = k }) kind) i
 
-  older_told : (w : World) (a : Act) → Aged w → IsSound w.server → Acts w a.world a.told a.posts → (n tag : ℕ)
-      → In (line.Note n (note.Fenced tag)) a.told → (c : ℕ) (m : Sent) → IsToClient w c m → SpellsOlder n tag m.bytes
-  older_told w a k sound (Others server messages told others) n tag i c m is = absurd (told n tag i)
-  older_told w a k sound (Serves chosen j sent server messages told posts) n tag i c m is =
+  older_told : (Short : Type 0) (before : List Line) → (AreShort before → Short) → (w : World) (a : Act) → Aged Short w
+      → (Short → BodiesFit w) → IsSound w.server → Acts w a.world a.told a.posts → (n tag : ℕ)
+      → In (line.Note n (note.Fenced tag)) a.told → (c : ℕ) (m : Sent) → IsToClient w c m
+      → SpellsOlder before n tag m.bytes
+  older_told Short before back w a k bodies sound (Others server messages told others) n tag i c m is =
+      absurd (told n tag i)
+  older_told Short before back w a k bodies sound (Serves chosen j sent server messages told posts) n tag i c m is =
       let t = told n tag i in
       let x = note_in (step w.server chosen j).notes t.0 n tag t.1 t.2 t.3 in
       let r = k.sent c is.body is.there in
       record {
         message = r.0;
         bytes_are = is.bytes_are ∙ ap spelled r.1;
-        older = older_in w.server.files n tag r.0
+        older = older_in Short (AreShort before) back w.server.files n tag r.0
             (λ f there. (raise w.server chosen j sound n f there).later tag x) r.2;
+        fits = λ short.
+            bodies (back short) c r.0 (subst (λ (b : Body). In (to_client c b) (messages_in w)) r.1 is.there);
       }
 
 -- ---- a move
@@ -252,9 +265,25 @@ module _ (raise : EachStepRaisesTags) where
 -- what is known behind some lines
 record Holds (w : World) (h : List Line) : Type 0 where
   followed : IsFollowed w h
-  known : IsKnown w h
-  aged : AreWritten h → Aged w
+  fitting : IsFitting w h
+  aged : AreWritten h → Aged (AreShort h) w
+  bodies : AreShort h → BodiesFit w
   given : AreWritten h → GivenBefore h
+
+shorter : (h ls : List Line) → AreShort (h ++ ls) → AreShort h
+shorter h ls s = record { text = text_front h ls s.text; few = fewer h ls s.few }
+
+pub low_now : (w : World) (h : List Line) → IsFitting w h → AreShort h → IsLow w.server
+low_now w h k s =
+    let f = k.there s.text in
+    record {
+      fits = f.server;
+      objects = low w.server.next_object (length w.network.messages) (length (sent_in h)) f.objects
+          (as_many w h k.known.read) s.few;
+    }
+  where
+    low : (o n m : ℕ) → o ≤ n + FIRST_OBJECT → m ≡ n → m ≤ MAX_KEPT → o ≤ 2 ^ 63
+    low o n m l e f = omega (arith, l, e, f)
 
 module _ (raise : EachStepRaisesTags) (put : FilesArePut) (on : ServerGoesOn) (all : AllLinesGoOn) (seen : SeenIsSound)
   where
@@ -279,7 +308,7 @@ module _ (raise : EachStepRaisesTags) (put : FilesArePut) (on : ServerGoesOn) (a
         a = acts w m.chosen m.action
 
         quiet : AreSilent (pre ++ a.told)
-        quiet = both pre a.told silent (told_at w h k.known m)
+        quiet = both pre a.told silent (told_at w h k.fitting.known m)
           where
             both : (xs ys : List Line) → AreSilent xs → AreSilent ys → AreSilent (xs ++ ys)
             both [] ys s t = t
@@ -295,7 +324,7 @@ module _ (raise : EachStepRaisesTags) (put : FilesArePut) (on : ServerGoesOn) (a
         in_told (l ∷ xs) none_in (inr i) = in_told xs (λ p q j. none_in p q (inr j)) i
 
         in_front : (front rest : List Line) → before ≡ h ++ front
-            → pre ++ a.told ≡ front ++ line.Note n (note.Fenced tag) ∷ rest → SpellsOlder n tag y.bytes
+            → pre ++ a.told ≡ front ++ line.Note n (note.Fenced tag) ∷ rest → SpellsOlder before n tag y.bytes
         in_front front rest at split =
             let told : In (line.Note n (note.Fenced tag)) a.told =
             in_told pre none (subst (In (line.Note n (note.Fenced tag))) (sym split)
@@ -305,32 +334,42 @@ module _ (raise : EachStepRaisesTags) (put : FilesArePut) (on : ServerGoesOn) (a
             (ap (λ (ls : List Line). slice_get (sent_in ls) number) (sym at) ∙ found) in
             let there : slice_get (view w) number ≡ Some was.message =
             ap (λ (ss : List Sent). slice_get ss number)
-            (sym (sent_read w k.known.read.injected h k.known.read.drives)) ∙ was.there in
+            (sym (sent_read w k.fitting.known.read.injected h k.fitting.known.read.drives)) ∙ was.there in
             let mine = in_world w number client was.message there (sym was.from_is ∙ from) (sym was.to_is ∙ to) in
-            subst (SpellsOlder n tag) (sym was.bytes_are)
-            (older_told raise w a (k.aged x) (sound_now w h k.followed x) (each_acts w m.chosen m.action) n tag told client
+            subst (SpellsOlder before n tag) (sym was.bytes_are)
+            (older_told raise (AreShort h) before
+            (λ short. shorter h front (subst AreShort at short)) w a (k.aged x) k.bodies (sound_now w h k.followed x) (each_acts w m.chosen m.action) n tag told client
             was.message mine)
 
         by_told : (front : List Line) → before ≡ h ++ front
             → Place (pre ++ a.told) (sent_lines (length a.world.network.messages) a.posts) front after (line.Note n (note.Fenced tag))
-            → SpellsOlder n tag y.bytes
+            → SpellsOlder before n tag y.bytes
         by_told front at (InFirst rest split) = in_front front rest at split
         by_told front at (InSecond more behind split) =
             absurd (not_sent n tag (subst (In (line.Note n (note.Fenced tag))) (sym split)
             (in_middle (line.Note n (note.Fenced tag)) more after)))
 
         by_place : Place h (pre ++ (move w m).lines) before after (line.Note n (note.Fenced tag))
-            → SpellsOlder n tag y.bytes
+            → SpellsOlder before n tag y.bytes
         by_place (InFirst rest own) = given before rest n tag own number client y found from to
         by_place (InSecond front at split) =
             by_told front at
             (place_of (pre ++ a.told) (sent_lines (length a.world.network.messages) a.posts) front after (line.Note n (note.Fenced tag))
             (append_assoc pre a.told (sent_lines (length a.world.network.messages) a.posts) ∙ split))
 
-    aged_move : (w : World) (h : List Line) (m : Move) → Holds w h → AreWritten h → Aged (move w m).world
-    aged_move w h m k x =
-        aged_by raise put w (acts w m.chosen m.action) (k.aged x) (sound_now w h k.followed x)
+    aged_move : (w : World) (h ls : List Line) (m : Move) → Holds w h → AreWritten h → IsFitting (move w m).world (h ++ ls)
+        → Aged (AreShort (h ++ ls)) (move w m).world
+    aged_move w h ls m k x next =
+        aged_by raise put (AreShort h) (AreShort (h ++ ls)) (shorter h ls) w (acts w m.chosen m.action) (k.aged x)
+        (sound_now w h k.followed x) (λ short. low_now (move w m).world (h ++ ls) next short)
         (each_acts w m.chosen m.action)
+
+    bodies_move : (w : World) (h ls : List Line) (m : Move) → Holds w h → IsFitting (move w m).world (h ++ ls)
+        → AreShort (h ++ ls) → GivenAny (input_in w m.action) → BodiesFit (move w m).world
+    bodies_move w h ls m k next short given =
+        let s = shorter h ls short in
+        bodies_fit w m (k.fitting.there s.text).server given (k.fitting.slots s.text)
+        (low_now (move w m).world (h ++ ls) next short).objects (k.bodies s)
 
     -- ---- all moves
 
@@ -338,28 +377,37 @@ module _ (raise : EachStepRaisesTags) (put : FilesArePut) (on : ServerGoesOn) (a
     holds = record {
       starts = record {
         followed = (followed on all).starts;
-        known = all_known.starts;
-        aged = λ x. aged_first;
+        fitting = all_fitting.starts;
+        aged = λ x. aged_first (AreShort []);
+        bodies = λ short c e i. absurd i;
         given = λ x. none_given;
       };
       opens = λ w h e chosen k allowed.
-          let lines : List Line = line.Event e ∷ (move w (opening e chosen)).lines in
+          let m : Move = opening e chosen in
+          let lines : List Line = line.Event e ∷ (move w m).lines in
+          let next = all_fitting.opens w h e chosen k.fitting allowed in
           record {
             followed = (followed on all).opens w h e chosen k.followed allowed;
-            known = all_known.opens w h e chosen k.known allowed;
-            aged = λ x. aged_move w h (opening e chosen) k (written_front h lines x);
+            fitting = next;
+            aged = λ x. aged_move w h lines m k (written_front h lines x) next;
+            bodies = λ short.
+                bodies_move w h lines m k next short (given_event w e (text_behind h lines short.text).0);
             given = λ x.
                 let y = written_front h lines x in
-                given_more w h (line.Event e ∷ []) (opening e chosen) k y (tt, tt) (no_event e) (k.given y);
+                given_more w h (line.Event e ∷ []) m k y (tt, tt) (no_event e) (k.given y);
           };
-      moves = λ w h r m k due. record {
-        followed = (followed on all).moves w h r m k.followed due;
-        known = all_known.moves w h r m k.known due;
-        aged = λ x. aged_move w h m k (written_front h (move w m).lines x);
-        given = λ x.
-            let y = written_front h (move w m).lines x in
-            given_more w h [] m k y tt (λ n tag i. i) (k.given y);
-      };
+      moves = λ w h r m k due.
+          let next = all_fitting.moves w h r m k.fitting due in
+          record {
+            followed = (followed on all).moves w h r m k.followed due;
+            fitting = next;
+            aged = λ x. aged_move w h (move w m).lines m k (written_front h (move w m).lines x) next;
+            bodies = λ short.
+                bodies_move w h (move w m).lines m k next short (given_rule w r m.action due);
+            given = λ x.
+                let y = written_front h (move w m).lines x in
+                given_more w h [] m k y tt (λ n tag i. i) (k.given y);
+          };
     }
       where
         none_given : GivenBefore []

@@ -1,6 +1,9 @@
 mod Saying
 mod Aging
+mod Bodies
 mod Holding
+mod Telling
+mod BarredLaw
 pub mod Rights
 pub mod TagLines
 pub mod OriginLaw

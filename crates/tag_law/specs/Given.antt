@@ -6,7 +6,7 @@ use Rattle.layout_ops.specs.declared.results.Results.{Results}
 use Rattle.layout_ops.specs.declared.results.Results.TheVariants as results
 use Rattle.layout_ops.specs.declared.envelope.Envelope.{Envelope}
 use Rattle.layout_ops.specs.declared.envelope.Envelope.TheVariants as envelope
-use Rattle.layout_ops.specs.Spelling.{envelope_item}
+use Rattle.layout_ops.specs.Spelling.{envelope_item, EnvelopeFits}
 use Rattle.server_rules.specs.Layouts.{granted}
 use Rattle.scenario_text.specs.declared.line.Line.{Line}
 use Rattle.scenario_text.specs.declared.line.Party.TheVariants as party
@@ -16,31 +16,40 @@ use Rattle.world_history.specs.Reading.{sent_in}
 use Rattle.world_history.specs.State.{World}
 use Rattle.world_history.specs.History.{StandsFor}
 use Rattle.history_law.specs.Read.{AreWritten}
+use Rattle.history_law.specs.Granted.{NumbersFit}
+use Rattle.exchange_law.specs.Text.{AreOfText, AreFew}
 use Rattle.fencing_law.specs.Fenced.{noted}
 
--- what a LAYOUTGET gives is a grant of a file whose tag was below this one then
-pub record IsOlder (tag : ℕ) (ok : LayoutGetOk) : Type 0 where
+-- they are of a scenario's text, with few messages: so numbers fit their places
+pub record AreShort (h : List Line) : Type 0 where
+  pub text : AreOfText h
+  pub few : AreFew h
+
+-- What a LAYOUTGET gives is a grant of a file whose tag was below this one then. Where Short holds, its numbers fit.
+pub record IsOlder (Short : Type 0) (tag : ℕ) (ok : LayoutGetOk) : Type 0 where
   pub drives : List Drive
   pub file : Kept
   pub grant : Grant
   pub is : ok ≡ granted drives file grant
   pub older : file.tag < tag
+  pub numbers : Short → NumbersFit drives file grant
 
 -- so it is of an answer's results, where they give a layout
-abbrev pub GivesOlder : (tag : ℕ) → Results → Type 0
-GivesOlder tag (results.LayoutGet (get.Granted ok)) = IsOlder tag ok
-GivesOlder tag r = Unit {0}
+abbrev pub GivesOlder : Type 0 → (tag : ℕ) → Results → Type 0
+GivesOlder Short tag (results.LayoutGet (get.Granted ok)) = IsOlder Short tag ok
+GivesOlder Short tag r = Unit {0}
 
 -- and of any message that is an answer to a request on this file
-abbrev pub OlderIn : (file tag : ℕ) → Envelope → Type 0
-OlderIn n tag (envelope.Answer a) = a.file ≡ n → GivesOlder tag a.results
-OlderIn n tag e = Unit {0}
+abbrev pub OlderIn : Type 0 → (file tag : ℕ) → Envelope → Type 0
+OlderIn Short n tag (envelope.Answer a) = a.file ≡ n → GivesOlder Short tag a.results
+OlderIn Short n tag e = Unit {0}
 
--- these bytes spell such a message
-pub record SpellsOlder (file tag : ℕ) (bytes : List ℕ) : Type 0 where
+-- these bytes spell such a message, which is read as it was spelled if the lines are short
+pub record SpellsOlder (before : List Line) (file tag : ℕ) (bytes : List ℕ) : Type 0 where
   pub message : Envelope
   pub bytes_are : bytes ≡ envelope_item message
-  pub older : OlderIn file tag message
+  pub older : OlderIn (AreShort before) file tag message
+  pub fits : AreShort before → EnvelopeFits message
 
 -- Of each note that a fence is over: whatever the server sent clients before, the grants of the file that it gave are of
 -- an earlier tag.
@@ -48,7 +57,7 @@ abbrev pub GivenBefore : List Line → Type 0
 GivenBefore h =
     (before after : List Line) (file tag : ℕ) → h ≡ noted before file tag after → (number client : ℕ) (m : Sent)
     → slice_get (sent_in before) number ≡ Some m → m.from ≡ party.Server → m.to ≡ party.Client client
-    → SpellsOlder file tag m.bytes
+    → SpellsOlder before file tag m.bytes
 
 -- so it is in each history whose events a text may have
 abbrev pub GrantsAreOlder : Type 0

@@ -1,4 +1,6 @@
+pub mod Live
 pub mod Given
+pub mod Barred
 pub mod Origin
 pub mod Within
 pub mod Least

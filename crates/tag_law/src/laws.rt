@@ -1,5 +1,7 @@
 // What holds of every history, for the crates above.
+ghost use Rattle.tag_law.specs.Live.{EachAnswerIsLive};
 ghost use Rattle.tag_law.specs.Given.{GrantsAreOlder};
+ghost use Rattle.tag_law.specs.Barred.{GivenIsBarred};
 ghost use Rattle.tag_law.specs.Origin.{EachTagWasSent};
 ghost use Rattle.tag_law.specs.Within.{NoTagIsAhead};
 ghost use Rattle.tag_law.specs.Least.{NoTagIsBehind};
@@ -7,11 +9,23 @@ ghost use Rattle.tag_law.specs.Tags.{EachTagIsItsFiles};
 
 use calm_law::{each_step_raises_tags, seen_is_sound};
 use exchange_law::{all_files_fit, server_is_counted};
-use fencing_law::holder_is_server;
+use fencing_law::{fences_end, holder_is_server, reached_refuses};
 use history_law::{book_is_read, commands_are_issued, unforged_are_issued};
 use sent_law::{creates_are_first, each_step_stands, no_command_is_ahead, server_sent_its_run};
 use server_rules::files_are_put;
 use world_history::{one_event_more, reading_goes_on};
+
+/// Each message of the server to a client, in a whole history whose events a text may have: the client was sent the same
+/// bytes before, or where they spell an answer that gives a layout, this is of a grant that is live in the book at the end
+/// of the message's step. The grant is of this client on the answer's file, with the file's tag, map and components and
+/// with the drives' keys as the book has them then. So what clients are told is what the book keeps apart.
+pub fn answers_are_live()
+    ensures { EachAnswerIsLive }
+{
+    files_are_put();
+    book_is_read();
+    one_event_more();
+}
 
 /// In each whole history whose events a text may have, each grant of a file that the server gave a client before a
 /// note that a fence of the file is over has an earlier tag than the note tells.
@@ -22,6 +36,21 @@ pub fn grants_are_older()
     files_are_put();
     reading_goes_on();
     seen_is_sound();
+}
+
+/// So a fence that is over bars what was given before it. In each whole history of a scenario's text with few messages in
+/// which nothing is forged, behind the step of each note that a fence of a file is over: no command is performed on the
+/// object of any component of the file that isn't missing there, if its capability is one that an answer of the server
+/// gave a client for this file before the note.
+pub fn given_is_barred()
+    ensures { GivenIsBarred }
+{
+    book_is_read();
+    one_event_more();
+    fences_end();
+    reached_refuses();
+    holder_is_server();
+    grants_are_older();
 }
 
 /// In a lawful history in which nothing is forged each object of each drive has its tag from a CREATE or a SET TAG

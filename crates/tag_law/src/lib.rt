@@ -1,7 +1,8 @@
-//! Tags of files, of the grants that the server gives, and of objects on drives.
+//! The grants that the server gives, and the tags of files, of these grants and of objects on drives.
 //!
-//! A history is that of `world_history`. The tag of a file never falls, and a fence raises it: so what was given
-//! before a fence was over is of an earlier tag. Where nothing is forged, each object has its tag from a command
+//! A history is that of `world_history`. Each layout that the server gives is of a grant that is live then, or repeats
+//! what the client was told before. The tag of a file never falls, and a fence raises it: so what was given
+//! before a fence was over is of an earlier tag, and isn't performed behind it. Where nothing is forged, each object has its tag from a command
 //! that the server sent, and none of these is ahead of its file; nor is it behind, since each component has its tag
 //! from its CREATE, which a drive answered, or from the fence that raised it. So it is its file's, or the next one
 //! while a fence is open; only a file whose making a crash of the server cut off may lack objects.
@@ -10,5 +11,6 @@
 mod laws;
 
 pub use laws::{
-    each_tag_is_its_files, each_tag_was_sent, grants_are_older, no_tag_is_ahead, no_tag_is_behind,
+    answers_are_live, each_tag_is_its_files, each_tag_was_sent, given_is_barred, grants_are_older,
+    no_tag_is_ahead, no_tag_is_behind,
 };
