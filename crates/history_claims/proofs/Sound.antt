@@ -1,6 +1,7 @@
 -- Each lawful history is sound.
 use Rattle.std.proofs.Common.{subst}
 use Rattle.world_history.specs.History.{Lawful, FrontsAreLawful}
+use Rattle.history_law.specs.Answered.{VerdictsAreAnswered}
 use Rattle.history_law.specs.Safe.{HistoriesAreSafe}
 use Rattle.history_law.specs.Issued.{CommandsAreIssued}
 use Rattle.history_law.specs.Unforged.{UnforgedAreIssued, UnguessedAreUnforged}
@@ -23,35 +24,36 @@ use Rattle.ending_law.specs.Calls.{CallsEndSo}
 use Rattle.tag_law.specs.Tags.{EachTagIsItsFiles}
 use Rattle.history_claims.proofs.Texts.{events_make_text}
 
-pub histories_are_sound : HistoriesAreSafe → CommandsAreIssued → UnforgedAreIssued → UnguessedAreUnforged
-    → RangesAreApart → FrontsAreLawful → ComponentsStandApart → EachHolderIsOwn → UnforgedAreFenced → EachAnswerIsLive
-    → EachGivenWasLive → GrantsAreOlder → GivenIsBarred → CommandsAreIssuedExactly → UnforgedAreIssuedExactly
-    → LanesAreFair → LanesAreOwn → RefusalsWereJudged → RefusalsWereAwaited → CallsEndSo → EachTagIsItsFiles
-    → WithinTheLimitAreFew → HistoriesAreSound
-histories_are_sound safe issued listed fair ranges fronts apart own fenced live given older barred exact allowed lanes
-    lanes_own judged awaited ends tags few = record {
-  sound = λ h l. record {
-    safe = safe h l;
-    issued = issued h l;
-    ranges = λ before after is. ranges before (fronts before after (subst Lawful is l));
-    live = λ w s a. live w h s a;
-    given = λ w s text few. given w h s text few;
-    apart = apart h l;
-    listed = listed h l;
-    fair = fair h l;
-    holders = own h l;
-    fenced = λ w s a u. fenced w h s a u;
-    older = λ w s a. older w h s a;
-    barred = λ w s text few u. barred w h s text few u;
-    lanes = λ before after is. lanes before (fronts before after (subst Lawful is l));
-    own = λ before after is. lanes_own before (fronts before after (subst Lawful is l));
-    exact = exact h l;
-    allowed = allowed h l;
-    tags = λ before after is. tags before;
-    judged = judged h l;
-    awaited = awaited h l;
-    ends = ends h l;
-  };
-  text = events_make_text;
-  few = few;
-}
+pub histories_are_sound : HistoriesAreSafe → VerdictsAreAnswered → CommandsAreIssued → UnforgedAreIssued
+    → UnguessedAreUnforged → RangesAreApart → FrontsAreLawful → ComponentsStandApart → EachHolderIsOwn
+    → UnforgedAreFenced → EachAnswerIsLive → EachGivenWasLive → GrantsAreOlder → GivenIsBarred
+    → CommandsAreIssuedExactly → UnforgedAreIssuedExactly → LanesAreFair → LanesAreOwn → RefusalsWereJudged
+    → RefusalsWereAwaited → CallsEndSo → EachTagIsItsFiles → WithinTheLimitAreFew → HistoriesAreSound
+histories_are_sound safe answered issued listed fair ranges fronts apart own fenced live given older barred exact allowed
+    lanes lanes_own judged awaited ends tags few = record {
+      sound = λ h l. record {
+        safe = safe h l;
+        answered = λ w s. answered w h s;
+        issued = issued h l;
+        ranges = λ before after is. ranges before (fronts before after (subst Lawful is l));
+        live = λ w s a. live w h s a;
+        given = λ w s text few. given w h s text few;
+        apart = apart h l;
+        listed = listed h l;
+        fair = fair h l;
+        holders = own h l;
+        fenced = λ w s a u. fenced w h s a u;
+        older = λ w s a. older w h s a;
+        barred = λ w s text few u. barred w h s text few u;
+        lanes = λ before after is. lanes before (fronts before after (subst Lawful is l));
+        own = λ before after is. lanes_own before (fronts before after (subst Lawful is l));
+        exact = exact h l;
+        allowed = allowed h l;
+        tags = λ before after is. tags before;
+        judged = judged h l;
+        awaited = awaited h l;
+        ends = ends h l;
+      };
+      text = events_make_text;
+      few = few;
+    }

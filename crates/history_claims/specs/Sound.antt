@@ -4,6 +4,7 @@ use Rattle.scenario_text.specs.declared.line.Line.{Line}
 use Rattle.world_history.specs.State.{World}
 use Rattle.world_history.specs.Guesses.{unguessed}
 use Rattle.world_history.specs.History.{StandsFor, Lawful}
+use Rattle.history_law.specs.Answered.{AreAnswered}
 use Rattle.history_law.specs.Safe.{AtEachMoment, AtEachLine, IsSafe}
 use Rattle.history_law.specs.Issued.{IssuedAt}
 use Rattle.history_law.specs.Unforged.{AreUnforged, InjectedAt}
@@ -31,6 +32,9 @@ pub record IsSound (h : List Line) : Type 0 where
   -- grants of one file never conflict, none is live while a job runs on the file, and what is performed touches its own
   -- object and range alone
   pub safe : IsSafe h
+  -- in a whole history the line behind each verdict on a delivered message is the drive's reply, as its rules give it, to who
+  -- sent the message; no other message is in the step, and none in that of a verdict on injected bytes
+  pub answered : (w : World) → StandsFor w h → AreAnswered h
   -- what a drive performs of a delivered message the server sent, or a client under a credential that an answer of the
   -- server gave this client before; injected bytes are, as far as nothing was guessed, the server's or such a client's
   pub issued : AtEachLine IssuedAt h

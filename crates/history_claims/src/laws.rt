@@ -11,7 +11,7 @@ use exchange_law::{
 use fencing_law::{holders_are_own, unforged_are_fenced};
 use history_law::{
     commands_are_issued, histories_are_safe, ranges_are_apart, unforged_are_issued,
-    unguessed_are_unforged,
+    unguessed_are_unforged, verdicts_are_answered,
 };
 use tag_law::{
     answers_are_live, each_tag_is_its_files, given_is_barred, given_was_live, grants_are_older,
@@ -27,7 +27,8 @@ pub fn components_stand_apart()
     each_step_is_apart();
 }
 
-/// Each lawful history is sound, in the words of its lines: it is safe; what a drive performs is the server's, or
+/// Each lawful history is sound, in the words of its lines: it is safe; in a whole one the line behind each verdict on
+/// a delivered message is the drive's reply; what a drive performs is the server's, or
 /// was issued to the client whose command it is; no byte of a component is inside the capabilities of two live
 /// grants of which one is for writing; each layout that the server sends a client is of a grant of this client that is
 /// live then, or repeats what it was sent; the components of a file stand on different drives. As far as nothing is
@@ -42,6 +43,7 @@ pub fn histories_are_sound()
     ensures { HistoriesAreSound }
 {
     histories_are_safe();
+    verdicts_are_answered();
     commands_are_issued();
     unforged_are_issued();
     unguessed_are_unforged();

@@ -66,7 +66,7 @@ flat_end : (c : ℕ) (o : Option Outcome) → AreFlat (end_line c o)
 flat_end c None = tt
 flat_end c (Some o) = (refl, refl, tt)
 
-flat_ended : (c : ℕ) (op : Option client_rules.CallOp) (o : Option client_rules.Outcome) → AreFlat (ended_by c op o)
+pub flat_ended : (c : ℕ) (op : Option client_rules.CallOp) (o : Option client_rules.Outcome) → AreFlat (ended_by c op o)
 flat_ended c None o = tt
 flat_ended c (Some op) None = tt
 flat_ended c (Some op) (Some o) = flat_end c (known_outcome (kind_of op) o)
@@ -105,7 +105,7 @@ heard_flat w c m (Some a) =
     either_hand a.stopped (quiet w delivery.Deaf) (client_takes w c a m.from (for_client m)) tt
     (client_flat w c a m.from (for_client m))
 
-handed_flat : (w : World) (chosen : List ℕ) (m : Message) (to : Node) → AreFlat (handed_to w chosen m to).told
+pub handed_flat : (w : World) (chosen : List ℕ) (m : Message) (to : Node) → AreFlat (handed_to w chosen m to).told
 handed_flat w chosen m node.Server = heard_by_server w chosen m
 handed_flat w chosen m (node.Drive d) = drive_flat w d m (at_number w.drives d)
 handed_flat w chosen m (node.Client c) = heard_flat w c m (at_number w.clients c)

@@ -50,3 +50,4 @@ pub mod Ranges
 pub mod Unforged
 pub mod Behind
 pub mod StepEnds
+pub mod Answering

@@ -21,3 +21,4 @@ pub mod Issued
 pub mod Ranges
 pub mod Unforged
 pub mod StepEnds
+pub mod Answered

@@ -1,4 +1,5 @@
 // What holds of every history, for the crates above.
+ghost use Rattle.history_law.specs.Answered.{VerdictsAreAnswered};
 ghost use Rattle.history_law.specs.Counters.{GrantsAreCounted};
 ghost use Rattle.history_law.specs.Drives.{DrivesAreRead};
 ghost use Rattle.history_law.specs.Grants.{GrantsAreSafe};
@@ -54,6 +55,15 @@ pub fn histories_are_safe()
     ensures { HistoriesAreSafe }
 {
     each_step_is_safe();
+}
+
+/// In a whole history the line behind each verdict on a delivered message is the drive's reply: it goes to who sent
+/// the message, and its bytes spell what the drive's rules reply, as the drive stood before. No other message is in
+/// the step, and none in that of a verdict on injected bytes. So no drive performs a delivered command and stays silent.
+pub fn verdicts_are_answered()
+    ensures { VerdictsAreAnswered }
+{
+    histories_are_safe();
 }
 
 /// What a reply tells of its drive, as it is behind the line of the message to which it replies: a change that was

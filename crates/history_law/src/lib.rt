@@ -12,5 +12,5 @@ pub use laws::{
     book_is_read, commands_are_issued, drives_are_read, files_are_read, grants_are_counted,
     grants_are_safe, histories_are_safe, parties_run, performed_touches_its_own, placed_is_chosen,
     ranges_are_apart, replies_tell, server_moves, step_is_read, unforged_are_issued,
-    unguessed_are_unforged,
+    unguessed_are_unforged, verdicts_are_answered,
 };
