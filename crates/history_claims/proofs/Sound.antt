@@ -30,28 +30,28 @@ pub histories_are_sound : HistoriesAreSafe → CommandsAreIssued → UnforgedAre
     → WithinTheLimitAreFew → HistoriesAreSound
 histories_are_sound safe issued listed fair ranges fronts apart own fenced live given older barred exact allowed lanes
     lanes_own judged awaited ends tags few = record {
-  sound = λ h l. record {
-    safe = safe h l;
-    issued = issued h l;
-    ranges = λ before after is. ranges before (fronts before after (subst Lawful is l));
-    live = λ w s a. live w h s a;
-    given = λ w s text few. given w h s text few;
-    apart = apart h l;
-    listed = listed h l;
-    fair = fair h l;
-    holders = own h l;
-    fenced = λ w s a u. fenced w h s a u;
-    older = λ w s a. older w h s a;
-    barred = λ w s text few u. barred w h s text few u;
-    lanes = λ before after is. lanes before (fronts before after (subst Lawful is l));
-    own = λ before after is. lanes_own before (fronts before after (subst Lawful is l));
-    exact = exact h l;
-    allowed = allowed h l;
-    tags = λ before after is. tags before;
-    judged = judged h l;
-    awaited = awaited h l;
-    ends = ends h l;
-  };
-  text = events_make_text;
-  few = few;
-}
+      sound = λ h l. record {
+        safe = safe h l;
+        issued = issued h l;
+        ranges = λ before after is. ranges before (fronts before after (subst Lawful is l));
+        live = λ w s a. live w h s a;
+        given = λ w s text few. given w h s text few;
+        apart = apart h l;
+        listed = listed h l;
+        fair = fair h l;
+        holders = own h l;
+        fenced = λ w s a u. fenced w h s a u;
+        older = λ w s a. older w h s a;
+        barred = λ w s text few u. barred w h s text few u;
+        lanes = λ before after is. lanes before (fronts before after (subst Lawful is l));
+        own = λ before after is. lanes_own before (fronts before after (subst Lawful is l));
+        exact = exact h l;
+        allowed = allowed h l;
+        tags = λ before after is. tags before;
+        judged = judged h l;
+        awaited = awaited h l;
+        ends = ends h l;
+      };
+      text = events_make_text;
+      few = few;
+    }
