@@ -13,6 +13,7 @@ use Rattle.history_claims.specs.Sound.{HistoriesAreSound}
 use Rattle.tag_law.specs.Given.{GrantsAreOlder}
 use Rattle.tag_law.specs.Live.{EachAnswerIsLive}
 use Rattle.tag_law.specs.Barred.{GivenIsBarred}
+use Rattle.tag_law.specs.Handed.{EachGivenWasLive}
 use Rattle.exchange_law.specs.Judged.{RefusalsWereJudged}
 use Rattle.exchange_law.specs.Awaited.{RefusalsWereAwaited}
 use Rattle.exchange_law.specs.Text.{WithinTheLimitAreFew}
@@ -26,17 +27,18 @@ use Rattle.history_claims.proofs.Cutting.{cuts_go_on}
 
 pub histories_are_sound : HistoriesAreSafe → VerdictsAreAnswered → CommandsAreIssued → UnforgedAreIssued
     → UnguessedAreUnforged → RangesAreApart → FrontsAreLawful → ComponentsStandApart → EachHolderIsOwn
-    → UnforgedAreFenced → EachAnswerIsLive → GrantsAreOlder → GivenIsBarred → CommandsAreIssuedExactly
-    → UnforgedAreIssuedExactly → LanesAreFair → LanesAreOwn → RefusalsWereJudged → RefusalsWereAwaited → CallsEndSo
-    → EachTagIsItsFiles → WithinTheLimitAreFew → HistoriesAreSound
-histories_are_sound safe answered issued listed fair ranges fronts apart own fenced live older barred exact allowed lanes
-    lanes_own judged awaited ends tags few = record {
+    → UnforgedAreFenced → EachAnswerIsLive → EachGivenWasLive → GrantsAreOlder → GivenIsBarred
+    → CommandsAreIssuedExactly → UnforgedAreIssuedExactly → LanesAreFair → LanesAreOwn → RefusalsWereJudged
+    → RefusalsWereAwaited → CallsEndSo → EachTagIsItsFiles → WithinTheLimitAreFew → HistoriesAreSound
+histories_are_sound safe answered issued listed fair ranges fronts apart own fenced live given older barred exact allowed
+    lanes lanes_own judged awaited ends tags few = record {
       sound = λ h l. record {
         safe = safe h l;
         answered = λ w s. answered w h s;
         issued = issued h l;
         ranges = λ before after is. ranges before (fronts before after (subst Lawful is l));
         live = λ w s a. live w h s a;
+        given = λ w s text few. given w h s text few;
         apart = apart h l;
         listed = listed h l;
         fair = fair h l;

@@ -18,6 +18,7 @@ use Rattle.history_claims.specs.Lanes.{HaveFairLanes, HaveOwnLanes}
 use Rattle.tag_law.specs.Given.{GivenBefore}
 use Rattle.tag_law.specs.Live.{AnswersAreLive}
 use Rattle.tag_law.specs.Barred.{FencesBar}
+use Rattle.tag_law.specs.Handed.{GivenWasLive}
 use Rattle.exchange_law.specs.Judged.{JudgedAt}
 use Rattle.exchange_law.specs.Awaited.{AwaitedAt}
 use Rattle.exchange_law.specs.Text.{AreOfText, AreFew, WithinTheLimitAreFew}
@@ -42,6 +43,10 @@ pub record IsSound (h : List Line) : Type 0 where
   -- each layout that the server sends a client is of a grant of this client that is live in the file's book at the end of
   -- the message's step, with the file's tag, map and components as they are there, or the client was sent the same before
   pub live : (w : World) → StandsFor w h → AreWritten h → AnswersAreLive h
+  -- so in a whole history of a scenario's text with few messages whatever credential was given to a client leads back to the
+  -- line at which its answer was first sent: the book at the end of that line's step has the grant live, and the capability
+  -- is for a present component of the file as it is there, with the file's tag
+  pub given : (w : World) → StandsFor w h → AreOfText h → AreFew h → GivenWasLive h
   -- where lines can name the drives and files that events make, the components of each file stand on different drives, and
   -- one that is made anew comes onto a further drive
   pub apart : AreNamed h → AtEachMoment AreComponentsApart h

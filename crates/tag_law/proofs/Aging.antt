@@ -29,7 +29,7 @@ use Rattle.exchange_law.proofs.CountStepping.{FileFits, ServerFits}
 use Rattle.exchange_law.proofs.Layouts.{numbers_fit}
 use Rattle.fencing_law.proofs.Moves.{messages_in, posts_of, NoneOfServer, Acts, Others, Serves}
 use Rattle.fencing_law.proofs.Numbers.{messages_sent}
-use Rattle.tag_law.specs.Live.{IsLive, GivesLive}
+use Rattle.tag_law.specs.Live.{GivesLive, GrantsFit}
 use Rattle.tag_law.proofs.Saying.{Known, Says, says_step, only_in}
 
 -- ---- what is given
@@ -57,13 +57,12 @@ pub record IsLow (s : Server) : Type 0 where
   pub fits : ServerFits s
   pub objects : s.next_object ≤ 2 ^ 63
 
-pub numbers_low : (book : Server) (n c : ℕ) (ok : LayoutGetOk) → IsLow book → (k : IsLive book n c ok)
-    → NumbersFit book.drives k.file.kept k.grant
-numbers_low book n c ok low k =
-    let f : KeptFits book.next_object k.file.kept =
-    (one_in (FileFits book.next_object) book.files k.file low.fits.files (found_file book.files n k.file k.found).0).0 in
-    numbers_fit book.drives book.next_object k.file.kept k.grant low.objects f
-    (one_in (GrantFits k.file.kept.number k.file.kept.map) k.file.kept.grants k.grant f.grants k.live)
+pub grants_fit : (book : Server) → IsLow book → GrantsFit book
+grants_fit book low n f g found live =
+    let k : KeptFits book.next_object f.kept =
+    (one_in (FileFits book.next_object) book.files f low.fits.files (found_file book.files n f found).0).0 in
+    numbers_fit book.drives book.next_object f.kept g low.objects k
+    (one_in (GrantFits f.kept.number f.kept.map) f.kept.grants g k.grants live)
 
 -- so is what is live
 live_up : (Short : Type 0) (book : Server) (n c : ℕ) (r : Results) → (Short → IsLow book) → GivesLive book n c r
@@ -76,7 +75,7 @@ live_up Short book n c (results.LayoutGet (get.Granted ok)) low k = record {
   now = k.file;
   there = k.found;
   rises = omega arith;
-  numbers = λ short. numbers_low book n c ok (low short) k;
+  numbers = λ short. grants_fit book (low short) n k.file k.grant k.found k.live;
 }
 live_up Short book n c (results.LayoutGet (get.TryLater b)) low k = tt
 live_up Short book n c (results.LayoutGet (get.Refused s)) low k = tt

@@ -2,7 +2,6 @@
 -- performed.
 use Rattle.std.proofs.Common.{◌≡◌, ℕ, ◌≤◌, ◌<◌, ◌^◌, ◌∷◌, [], ◌++◌, List, false, Some, Ok, refl, sym, ap, subst, ◌∙◌, append_assoc, arith, inl}
 use Rattle.std.proofs.lemmas.List.{append-nil}
-use Rattle.layout_types.specs.declared.cred.ObjectCred.{ObjectCred}
 use Rattle.layout_ops.specs.declared.envelope.Envelope.TheVariants as envelope
 use Rattle.layout_ops.specs.declared.results.LayoutGetOk.{LayoutGetOk}
 use Rattle.layout_ops.specs.declared.results.LayoutGetResult.TheVariants as get
@@ -12,7 +11,6 @@ use Rattle.layout_ops.specs.Reading.{envelope_of}
 use Rattle.layout_ops.proofs.Whole.{all_again}
 use Rattle.osd_capability.specs.declared.layout.Capability.{Capability}
 use Rattle.client_rules.specs.Results.{layouts_in}
-use Rattle.server_rules.specs.declared.limits.TheConstants.{GREATEST_TAG}
 use Rattle.server_rules.specs.Laws.{In}
 use Rattle.server_rules.proofs.Members.{in_behind, one_in}
 use Rattle.scenario_text.specs.declared.line.Note.TheVariants as note
@@ -27,14 +25,13 @@ use Rattle.world_history.specs.Book.{ServerSeen, server_after}
 use Rattle.world_history.specs.History.{StandsFor, OneEventMore, Lawful}
 use Rattle.world_history.specs.History.Begins.{Nothing}
 use Rattle.history_law.specs.BookMoments.{IsMoment, plan_at, lines_in}
-use Rattle.history_law.specs.Read.{AreWritten, BookIsRead}
+use Rattle.history_law.specs.Read.{BookIsRead}
 use Rattle.history_law.specs.StepEnds.{BehindStep}
 use Rattle.history_law.proofs.Exact.{same_ok, capability_read}
 use Rattle.history_law.proofs.StepEnds.{at_step_ends}
-use Rattle.history_law.proofs.Staying.{written_front}
 use Rattle.fencing_law.specs.Reaching.{HolderIsServer}
 use Rattle.fencing_law.specs.Holder.{UnforgedHolderIsServer}
-use Rattle.fencing_law.specs.Fenced.{IsFenced, noted, FencedBehind, FencesEnd, ReachedRefuses}
+use Rattle.fencing_law.specs.Fenced.{IsFenced, noted, FencesEnd, ReachedRefuses}
 use Rattle.fencing_law.proofs.Ending.{next_moment}
 use Rattle.exchange_law.specs.Files.{ComponentFits, KeptFits}
 use Rattle.exchange_law.specs.Text.{AreOfText, AreFew}
@@ -43,10 +40,11 @@ use Rattle.exchange_law.proofs.CountMoments.{at_moment}
 use Rattle.exchange_law.proofs.CountStepping.{FileFits}
 use Rattle.exchange_law.proofs.CountWorlds.{text_written}
 use Rattle.exchange_law.proofs.Fitting.{IsFitting, all_fitting}
-use Rattle.tag_law.specs.Barred.{WasGivenFor, BarsGiven, FencesBar, GivenIsBarred}
-use Rattle.tag_law.specs.Given.{AreShort, IsOlder, GivesOlder, OlderIn, SpellsOlder, GivenBefore, GrantsAreOlder}
+use Rattle.tag_law.specs.Barred.{WasGivenFor, GivenIsBarred}
+use Rattle.tag_law.specs.Live.{AreShort}
+use Rattle.tag_law.specs.Given.{IsOlder, GivesOlder, OlderIn, SpellsOlder, GrantsAreOlder}
 use Rattle.tag_law.proofs.Aging.{IsLow}
-use Rattle.tag_law.proofs.Holding.{low_now}
+use Rattle.tag_law.proofs.Bodies.{low_now}
 
 -- ---- at the end of the step
 

@@ -1,32 +1,40 @@
 -- What the server sent clients spells messages whose numbers fit their places, and so is read as it was spelled.
-use Rattle.std.proofs.Common.{◌≡◌, ℕ, ◌+◌, ◌≤◌, ◌^◌, ◌∷◌, [], List, Option, Some, None, map, refl, sym, ap, subst, ◌∙◌, inl, inr}
+use Rattle.std.proofs.Common.{◌≡◌, ℕ, ◌+◌, ◌≤◌, ◌^◌, ◌∷◌, ◌++◌, [], List, length, arith, Option, Some, None, map, refl, sym, ap, subst, ◌∙◌, inl, inr}
 use Rattle.osd_lists.specs.declared.node.Node.{Node}
 use Rattle.osd_lists.specs.declared.node.Node.TheVariants as node
 use Rattle.layout_ops.specs.declared.envelope.Envelope.{Envelope}
 use Rattle.layout_ops.specs.declared.envelope.Envelope.TheVariants as envelope
-use Rattle.layout_ops.specs.Spelling.{EnvelopeFits, AnswerFits, RecallFits}
+use Rattle.layout_ops.specs.Spelling.{EnvelopeFits, RecallFits}
+use Rattle.scenario_text.specs.declared.line.Line.{Line}
+use Rattle.scenario_text.specs.declared.line.Line.TheVariants as line
+use Rattle.server_rules.specs.declared.limits.TheConstants.{FIRST_OBJECT}
 use Rattle.server_rules.specs.Files.{Step}
 use Rattle.server_rules.specs.History.{Input, step}
 use Rattle.server_rules.specs.Laws.{In}
 use Rattle.server_rules.proofs.Members.{in_mapped, in_filtered, one_in}
 use Rattle.world_history.specs.ServerNames.{Server, Answer, Recall, Outgoing, ToDrive, Recalls, Answers, AnswersOrder}
 use Rattle.world_history.specs.declared.messages.Message.{Message}
-use Rattle.world_history.specs.declared.messages.Body.{Body}
 use Rattle.world_history.specs.declared.messages.Body.TheVariants.{Envelope as OfEnvelope}
-use Rattle.world_history.specs.State.{World, empty_world}
+use Rattle.world_history.specs.State.{World}
 use Rattle.world_history.specs.Handed.{Post, is_addressed, server_post}
 use Rattle.world_history.specs.Moves.{acts}
 use Rattle.world_history.specs.Sending.{Move, move}
 use Rattle.world_history.specs.Book.{step_by, server_behind}
+use Rattle.world_history.specs.Reading.{sent_in}
+use Rattle.world_history.specs.declared.limits.TheConstants.{MAX_KEPT}
+use Rattle.world_history.proofs.Always.{opening, IsKept}
 use Rattle.history_law.specs.Doing.{input_in}
 use Rattle.history_law.proofs.Doing.{acts_serve}
 use Rattle.exchange_law.proofs.Answering.{GoodBelow, SentGood, SlotsGood, StepGood}
-use Rattle.exchange_law.proofs.CountSending.{ReadAny, read_input, IsOther, AreOthers, acts_come}
+use Rattle.exchange_law.proofs.CountSending.{ReadAny, read_input, IsOther, acts_come}
 use Rattle.exchange_law.proofs.CountStepping.{ServerFits}
 use Rattle.exchange_law.proofs.CountTelling.{step_good}
-use Rattle.exchange_law.proofs.CountWorlds.{GivenAny}
+use Rattle.exchange_law.proofs.CountWorlds.{GivenAny, given_event, given_rule}
+use Rattle.exchange_law.proofs.CountGrowing.{as_many, fewer, text_front, text_behind}
+use Rattle.exchange_law.proofs.Fitting.{IsFitting, all_fitting}
 use Rattle.fencing_law.proofs.Moves.{messages_in, Acts, Others, Serves, each_acts}
-use Rattle.tag_law.proofs.Aging.{to_client, split}
+use Rattle.tag_law.specs.Live.{AreShort}
+use Rattle.tag_law.proofs.Aging.{IsLow, to_client, split}
 
 -- ---- what is sent
 
@@ -124,3 +132,52 @@ module _ (w : World) (m : Move) (fits : ServerFits w.server) (given : GivenAny (
               (subst (λ (s : Server). s.next_object ≤ 2 ^ 63) (acts_serve w m.chosen m.action).server low) j is c e new
         ]
       ]
+
+-- ---- at each moment
+
+pub shorter : (h ls : List Line) → AreShort (h ++ ls) → AreShort h
+shorter h ls s = record { text = text_front h ls s.text; few = fewer h ls s.few }
+
+pub low_now : (w : World) (h : List Line) → IsFitting w h → AreShort h → IsLow w.server
+low_now w h k s =
+    let f = k.there s.text in
+    record {
+      fits = f.server;
+      objects = low w.server.next_object (length w.network.messages) (length (sent_in h)) f.objects
+          (as_many w h k.known.read) s.few;
+    }
+  where
+    low : (o n m : ℕ) → o ≤ n + FIRST_OBJECT → m ≡ n → m ≤ MAX_KEPT → o ≤ 2 ^ 63
+    low o n m l e f = omega (arith, l, e, f)
+
+-- what is known behind some lines
+pub record HasBodies (w : World) (h : List Line) : Type 0 where
+  pub fitting : IsFitting w h
+  pub bodies : AreShort h → BodiesFit w
+
+bodies_move : (w : World) (h ls : List Line) (m : Move) → HasBodies w h → IsFitting (move w m).world (h ++ ls)
+    → AreShort (h ++ ls) → GivenAny (input_in w m.action) → BodiesFit (move w m).world
+bodies_move w h ls m k next short given =
+    let s = shorter h ls short in
+    bodies_fit w m (k.fitting.there s.text).server given (k.fitting.slots s.text)
+    (low_now (move w m).world (h ++ ls) next short).objects (k.bodies s)
+
+pub all_bodies : IsKept HasBodies
+all_bodies = record {
+  starts = record { fitting = all_fitting.starts; bodies = λ short c e i. absurd i };
+  opens = λ w h e chosen k allowed.
+      let m : Move = opening e chosen in
+      let lines : List Line = line.Event e ∷ (move w m).lines in
+      let next = all_fitting.opens w h e chosen k.fitting allowed in
+      record {
+        fitting = next;
+        bodies = λ short.
+            bodies_move w h lines m k next short (given_event w e (text_behind h lines short.text).0);
+      };
+  moves = λ w h r m k due.
+      let next = all_fitting.moves w h r m k.fitting due in
+      record {
+        fitting = next;
+        bodies = λ short. bodies_move w h (move w m).lines m k next short (given_rule w r m.action due);
+      };
+}

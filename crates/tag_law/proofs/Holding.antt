@@ -1,5 +1,5 @@
 -- At each moment, and in the lines: what was given before a fence was over is of an earlier tag.
-use Rattle.std.proofs.Common.{◌≡◌, ℕ, zero, suc, ◌+◌, ◌≤◌, ◌^◌, ◌<◌, ◌++◌, ◌∷◌, [], List, length, map, slice_get, slice_set, Option, Some, None, refl, sym, ap, subst, ◌∙◌, append_assoc, arith, inl, inr}
+use Rattle.std.proofs.Common.{◌≡◌, ℕ, zero, suc, ◌<◌, ◌++◌, ◌∷◌, [], List, length, map, slice_get, slice_set, Option, Some, None, refl, sym, ap, subst, ◌∙◌, append_assoc, arith, inl, inr}
 use Rattle.std.proofs.lemmas.List.Sums.{fold-append}
 use Rattle.std.specs.List.{fold}
 use Rattle.std.proofs.lemmas.Option.{same_Some}
@@ -27,7 +27,7 @@ use Rattle.world_history.specs.declared.messages.Posted.{Posted}
 use Rattle.world_history.specs.declared.messages.Sent.{Sent}
 use Rattle.world_history.specs.declared.messages.Body.{Body}
 use Rattle.world_history.specs.State.{World}
-use Rattle.world_history.specs.Spelled.{party_of, spelled}
+use Rattle.world_history.specs.Spelled.{spelled}
 use Rattle.world_history.specs.Reading.{sent_after, sent_after_event, sent_in, arrived, left_out, changed_by, steps_of}
 use Rattle.world_history.specs.Laws.{shown, ServerGoesOn, AllLinesGoOn}
 use Rattle.world_history.specs.Moves.{Act, acts}
@@ -44,21 +44,17 @@ use Rattle.history_law.proofs.Following.{IsFollowed, followed}
 use Rattle.history_law.proofs.Issuing.{IsSilent, AreSilent}
 use Rattle.history_law.proofs.IssuingMoves.{acts_known}
 use Rattle.history_law.proofs.IssueLines.{IsKnown}
-use Rattle.history_law.specs.Doing.{input_in}
-use Rattle.exchange_law.proofs.CountGrowing.{as_many, fewer, text_front, text_behind}
-use Rattle.exchange_law.proofs.CountWorlds.{GivenAny, given_event, given_rule}
-use Rattle.exchange_law.proofs.Fitting.{IsFitting, all_fitting}
-use Rattle.server_rules.specs.declared.limits.TheConstants.{FIRST_OBJECT}
-use Rattle.world_history.specs.declared.limits.TheConstants.{MAX_KEPT}
+use Rattle.exchange_law.proofs.Fitting.{IsFitting}
 use Rattle.calm_law.specs.Sound.{IsSound}
 use Rattle.calm_law.specs.Seeing.{SeenIsSound}
 use Rattle.calm_law.specs.Tags.{fence_note, EachStepRaisesTags}
 use Rattle.fencing_law.proofs.Moves.{messages_in, Acts, Others, Serves, each_acts}
 use Rattle.fencing_law.proofs.Holding.{no_note}
 use Rattle.calm_law.proofs.MoveFacts.{are_named, seen_server}
-use Rattle.tag_law.specs.Given.{AreShort, GivesOlder, OlderIn, SpellsOlder, GivenBefore, GrantsAreOlder}
-use Rattle.tag_law.proofs.Aging.{IsLow, GivesUpTo, to_client, EnvelopeUpTo, Aged, aged_by, aged_first}
-use Rattle.tag_law.proofs.Bodies.{BodiesFit, bodies_fit}
+use Rattle.tag_law.specs.Live.{AreShort}
+use Rattle.tag_law.specs.Given.{GivesOlder, OlderIn, SpellsOlder, GivenBefore, GrantsAreOlder}
+use Rattle.tag_law.proofs.Aging.{GivesUpTo, to_client, EnvelopeUpTo, Aged, aged_by, aged_first}
+use Rattle.tag_law.proofs.Bodies.{BodiesFit, shorter, low_now, HasBodies, all_bodies}
 
 -- ---- places in lists
 
@@ -265,25 +261,9 @@ module _ (raise : EachStepRaisesTags) where
 -- what is known behind some lines
 record Holds (w : World) (h : List Line) : Type 0 where
   followed : IsFollowed w h
-  fitting : IsFitting w h
+  sent : HasBodies w h
   aged : AreWritten h → Aged (AreShort h) w
-  bodies : AreShort h → BodiesFit w
   given : AreWritten h → GivenBefore h
-
-shorter : (h ls : List Line) → AreShort (h ++ ls) → AreShort h
-shorter h ls s = record { text = text_front h ls s.text; few = fewer h ls s.few }
-
-pub low_now : (w : World) (h : List Line) → IsFitting w h → AreShort h → IsLow w.server
-low_now w h k s =
-    let f = k.there s.text in
-    record {
-      fits = f.server;
-      objects = low w.server.next_object (length w.network.messages) (length (sent_in h)) f.objects
-          (as_many w h k.known.read) s.few;
-    }
-  where
-    low : (o n m : ℕ) → o ≤ n + FIRST_OBJECT → m ≡ n → m ≤ MAX_KEPT → o ≤ 2 ^ 63
-    low o n m l e f = omega (arith, l, e, f)
 
 module _ (raise : EachStepRaisesTags) (put : FilesArePut) (on : ServerGoesOn) (all : AllLinesGoOn) (seen : SeenIsSound)
   where
@@ -308,7 +288,7 @@ module _ (raise : EachStepRaisesTags) (put : FilesArePut) (on : ServerGoesOn) (a
         a = acts w m.chosen m.action
 
         quiet : AreSilent (pre ++ a.told)
-        quiet = both pre a.told silent (told_at w h k.fitting.known m)
+        quiet = both pre a.told silent (told_at w h k.sent.fitting.known m)
           where
             both : (xs ys : List Line) → AreSilent xs → AreSilent ys → AreSilent (xs ++ ys)
             both [] ys s t = t
@@ -334,11 +314,11 @@ module _ (raise : EachStepRaisesTags) (put : FilesArePut) (on : ServerGoesOn) (a
             (ap (λ (ls : List Line). slice_get (sent_in ls) number) (sym at) ∙ found) in
             let there : slice_get (view w) number ≡ Some was.message =
             ap (λ (ss : List Sent). slice_get ss number)
-            (sym (sent_read w k.fitting.known.read.injected h k.fitting.known.read.drives)) ∙ was.there in
+            (sym (sent_read w k.sent.fitting.known.read.injected h k.sent.fitting.known.read.drives)) ∙ was.there in
             let mine = in_world w number client was.message there (sym was.from_is ∙ from) (sym was.to_is ∙ to) in
             subst (SpellsOlder before n tag) (sym was.bytes_are)
             (older_told raise (AreShort h) before
-            (λ short. shorter h front (subst AreShort at short)) w a (k.aged x) k.bodies (sound_now w h k.followed x) (each_acts w m.chosen m.action) n tag told client
+            (λ short. shorter h front (subst AreShort at short)) w a (k.aged x) k.sent.bodies (sound_now w h k.followed x) (each_acts w m.chosen m.action) n tag told client
             was.message mine)
 
         by_told : (front : List Line) → before ≡ h ++ front
@@ -364,46 +344,34 @@ module _ (raise : EachStepRaisesTags) (put : FilesArePut) (on : ServerGoesOn) (a
         (sound_now w h k.followed x) (λ short. low_now (move w m).world (h ++ ls) next short)
         (each_acts w m.chosen m.action)
 
-    bodies_move : (w : World) (h ls : List Line) (m : Move) → Holds w h → IsFitting (move w m).world (h ++ ls)
-        → AreShort (h ++ ls) → GivenAny (input_in w m.action) → BodiesFit (move w m).world
-    bodies_move w h ls m k next short given =
-        let s = shorter h ls short in
-        bodies_fit w m (k.fitting.there s.text).server given (k.fitting.slots s.text)
-        (low_now (move w m).world (h ++ ls) next short).objects (k.bodies s)
-
     -- ---- all moves
 
     holds : IsKept Holds
     holds = record {
       starts = record {
         followed = (followed on all).starts;
-        fitting = all_fitting.starts;
+        sent = all_bodies.starts;
         aged = λ x. aged_first (AreShort []);
-        bodies = λ short c e i. absurd i;
         given = λ x. none_given;
       };
       opens = λ w h e chosen k allowed.
           let m : Move = opening e chosen in
           let lines : List Line = line.Event e ∷ (move w m).lines in
-          let next = all_fitting.opens w h e chosen k.fitting allowed in
+          let next = all_bodies.opens w h e chosen k.sent allowed in
           record {
             followed = (followed on all).opens w h e chosen k.followed allowed;
-            fitting = next;
-            aged = λ x. aged_move w h lines m k (written_front h lines x) next;
-            bodies = λ short.
-                bodies_move w h lines m k next short (given_event w e (text_behind h lines short.text).0);
+            sent = next;
+            aged = λ x. aged_move w h lines m k (written_front h lines x) next.fitting;
             given = λ x.
                 let y = written_front h lines x in
                 given_more w h (line.Event e ∷ []) m k y (tt, tt) (no_event e) (k.given y);
           };
       moves = λ w h r m k due.
-          let next = all_fitting.moves w h r m k.fitting due in
+          let next = all_bodies.moves w h r m k.sent due in
           record {
             followed = (followed on all).moves w h r m k.followed due;
-            fitting = next;
-            aged = λ x. aged_move w h (move w m).lines m k (written_front h (move w m).lines x) next;
-            bodies = λ short.
-                bodies_move w h (move w m).lines m k next short (given_rule w r m.action due);
+            sent = next;
+            aged = λ x. aged_move w h (move w m).lines m k (written_front h (move w m).lines x) next.fitting;
             given = λ x.
                 let y = written_front h (move w m).lines x in
                 given_more w h [] m k y tt (λ n tag i. i) (k.given y);

@@ -4,6 +4,7 @@ mod Bodies
 mod Holding
 mod Telling
 mod BarredLaw
+mod HandedLaw
 pub mod Rights
 pub mod TagLines
 pub mod OriginLaw

@@ -1,5 +1,5 @@
 -- What the server answers in a step: what it kept, or what gives a grant that is live as the step leaves its files.
-use Rattle.std.proofs.Common.{◌≡◌, ◌⊎◌, ◌==◌, ℕ, ◌+◌, ◌++◌, ◌∷◌, [], List, Bool, true, false, find, Option, Some, None, refl, sym, ap, subst, ◌∙◌, inl, inr, if◌then◌else◌}
+use Rattle.std.proofs.Common.{◌≡◌, ◌⊎◌, ◌==◌, ℕ, ◌∷◌, [], List, Bool, true, false, find, Option, Some, None, refl, sym, subst, ◌∙◌, inl, inr, if◌then◌else◌}
 use Rattle.std.proofs.lemmas.Bool.{cases_Bool}
 use Rattle.layout_ops.specs.declared.results.LayoutGetResult.TheVariants as get
 use Rattle.layout_ops.specs.declared.results.Results.TheVariants as results

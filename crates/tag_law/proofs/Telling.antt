@@ -1,6 +1,6 @@
 -- What a slot keeps was sent to its client. So each message of the server to a client was sent before, or gives a grant
 -- that is live at the end of its step.
-use Rattle.std.proofs.Common.{◌≡◌, ◌⊎◌, ℕ, zero, suc, ◌+◌, true, false, List, [], ◌∷◌, ◌++◌, length, map, filter, slice_get, Some, refl, sym, ap, subst, ◌∙◌, inl, inr}
+use Rattle.std.proofs.Common.{◌≡◌, ◌⊎◌, ℕ, zero, suc, ◌+◌, true, false, List, [], ◌∷◌, ◌++◌, length, map, slice_get, Some, refl, sym, ap, subst, ◌∙◌, inl, inr}
 use Rattle.osd_lists.specs.declared.node.Node.{Node}
 use Rattle.osd_lists.specs.declared.node.Node.TheVariants as node
 use Rattle.layout_ops.specs.declared.envelope.Envelope.TheVariants as envelope
@@ -43,9 +43,10 @@ use Rattle.exchange_law.proofs.CountMoments.{at_moment}
 use Rattle.fencing_law.proofs.Moves.{messages_in, posts_of, Acts, Others, Serves, each_acts}
 use Rattle.fencing_law.proofs.Numbers.{messages_sent}
 use Rattle.fencing_law.proofs.Ending.{next_moment}
-use Rattle.tag_law.specs.Live.{AnswersLive, SpellsLive, WasTold, IsToClient, TellsLive, EachAnswerIsLive}
+use Rattle.tag_law.specs.Live.{AnswersLive, AreShort, GrantsFit, SpellsLive, WasTold, IsToClient, TellsLive, EachAnswerIsLive}
 use Rattle.tag_law.proofs.Saying.{Known, Says, says_step, only_in}
-use Rattle.tag_law.proofs.Aging.{to_client}
+use Rattle.tag_law.proofs.Aging.{to_client, grants_fit}
+use Rattle.tag_law.proofs.Bodies.{low_now, HasBodies, all_bodies}
 
 -- ---- at each moment
 
@@ -177,6 +178,15 @@ module _ (put : FilesArePut) (read : BookIsRead) (more : OneEventMore) where
     known : IsKnown w h
     known = at_moment IsKnown all_known w h k
 
+    then : HasBodies (move w m).world (h ++ lines_in w m)
+    then = at_moment HasBodies all_bodies (move w m).world (h ++ lines_in w m) (next_moment w h k m d)
+
+    grants_then : AreShort (h ++ lines_in w m) → GrantsFit (server_after (h ++ lines_in w m))
+    grants_then short =
+        subst GrantsFit (sym book_is)
+        (grants_fit (move w m).world.server
+        (low_now (move w m).world (h ++ lines_in w m) then.fitting short))
+
     messages_are : sent_in h ≡ map shown w.network.messages
     messages_are = sent_read w known.read.injected h known.read.drives
 
@@ -193,40 +203,63 @@ module _ (put : FilesArePut) (read : BookIsRead) (more : OneEventMore) where
           | inr sent ↦ post_of (length a.world.network.messages) n a.posts party.Server (party.Client c) bytes sent
         ]
 
+    -- what is sent stands among the messages then
+    sent_then : (c : ℕ) (x : Message) → x.to ≡ node.Client c → (p : Post)
+        → In p (acts w m.chosen m.action).posts → p.message ≡ x → x.from ≡ node.Server
+        → In (to_client c x.body) (messages_in (move w m).world)
+    sent_then c x to p i is from =
+        let a : Act = acts w m.chosen m.action in
+        let same : x ≡ to_client c x.body =
+        ap (λ (n : Node). record { from = n; to = x.to; body = x.body }) from
+        ∙ ap (λ (n : Node). record { from = node.Server; to = n; body = x.body }) to in
+        subst (λ (y : Message). In y (messages_in (move w m).world)) (is ∙ same)
+        (subst (In p.message) (sym (messages_sent a.world.network.messages a.posts))
+        (in_behind p.message (messages_in a.world) (map (λ (q : Post). q.message) a.posts)
+        (in_map (λ (q : Post). q.message) p a.posts i)))
+
     -- what is sent in a step of the server
     told_by : (front : List Line) (t : Step) → Says w.server t → (move w m).world.server ≡ t.state → (c : ℕ) (o : Outgoing)
         → In o t.sends → is_addressed (server_post o) ≡ true → (server_post o).message.to ≡ node.Client c
+        → In (to_client c (server_post o).message.body) (messages_in (move w m).world)
         → WasTold (h ++ front) c (spelled (server_post o).message.body)
-        ⊎ SpellsLive (server_after (h ++ lines_in w m)) c (spelled (server_post o).message.body)
-    told_by front t says state c (ToDrive drive command) i addressed to = absurd (cc to)
-    told_by front t says state c (Recalls r) i addressed to =
-        inr (record { message = envelope.Recall r; bytes_are = refl; live = tt })
-    told_by front t says state c (Answers a) i addressed to =
+        ⊎ SpellsLive (AreShort (h ++ lines_in w m)) (server_after (h ++ lines_in w m)) c (spelled (server_post o).message.body)
+    told_by front t says state c (ToDrive drive command) i addressed to there = absurd (cc to)
+    told_by front t says state c (Recalls r) i addressed to there = inr (record {
+      message = envelope.Recall r;
+      bytes_are = refl;
+      live = tt;
+      fits = λ short. then.bodies short c (envelope.Recall r) there;
+      grants = grants_then;
+    })
+    told_by front t says state c (Answers a) i addressed to there =
         let client : a.client ≡ c = same to in
         elim (only_in (Known w.server t) t.sends a says.sends i) [
-          | inl (s, there, kept) ↦
+          | inl (s, slot, kept) ↦
               let named : is_named (node.Client s.kept.client) ≡ true =
               ap (λ (y : Answer). is_named (node.Client y.client)) (sym kept) ∙ addressed in
               inl (subst (λ (y : Answer). WasTold (h ++ front) c (spelled (OfEnvelope (envelope.Answer y)))) (sym kept)
               (subst (λ (n : ℕ). WasTold (h ++ front) n (spelled (OfEnvelope (envelope.Answer s.kept))))
               (ap (λ (y : Answer). y.client) (sym kept) ∙ client)
               (was_told w h front messages_are s.kept.client (OfEnvelope (envelope.Answer s.kept))
-              (keeps_at put more w h k s there named))))
+              (keeps_at put more w h k s slot named))))
           | inr live ↦ inr (record {
             message = envelope.Answer a;
             bytes_are = refl;
             live = (client, subst (λ (s : Server). AnswersLive s a) (sym (book_is ∙ state)) live);
+            fits = λ short. then.bodies short c (envelope.Answer a) there;
+            grants = grants_then;
           })
         ]
       where
         same : node.Client a.client ≡ node.Client c → a.client ≡ c
         same e = cc e
-    told_by front t says state c (AnswersOrder r) i addressed to = absurd (cc to)
+    told_by front t says state c (AnswersOrder r) i addressed to there = absurd (cc to)
 
     told_post : (front : List Line) (c : ℕ) (bytes : List ℕ)
         → (p : IsPost (acts w m.chosen m.action).posts party.Server (party.Client c) bytes)
         → Acts w (acts w m.chosen m.action).world (acts w m.chosen m.action).told (acts w m.chosen m.action).posts
-        → WasTold (h ++ front) c bytes ⊎ SpellsLive (server_after (h ++ lines_in w m)) c bytes
+        → WasTold (h ++ front) c bytes
+        ⊎ SpellsLive (AreShort (h ++ lines_in w m)) (server_after (h ++ lines_in w m)) c bytes
     told_post front c bytes p (Others server messages told others) =
         absurd (others p.post p.among (party_server p.post.message.from p.from_is))
     told_post front c bytes p (Serves chosen j sent server messages told posts) =
@@ -234,11 +267,16 @@ module _ (put : FilesArePut) (read : BookIsRead) (more : OneEventMore) where
         let f = in_filtered is_addressed p.post (map server_post t.sends)
         (subst (λ (ps : List Post). In p.post ps) posts p.among) in
         let o = in_mapped server_post p.post t.sends f.0 in
-        subst (λ (bs : List ℕ). WasTold (h ++ front) c bs ⊎ SpellsLive (server_after (h ++ lines_in w m)) c bs)
+        let to : (server_post o.0).message.to ≡ node.Client c =
+        ap (λ (q : Post). q.message.to) (sym o.2) ∙ party_client p.post.message.to c p.to_is in
+        subst (λ (bs : List ℕ). WasTold (h ++ front) c bs
+        ⊎ SpellsLive (AreShort (h ++ lines_in w m)) (server_after (h ++ lines_in w m)) c bs)
         (sym (p.bytes_are ∙ ap (λ (q : Post). spelled q.message.body) o.2))
         (told_by front t (says_step put w.server chosen j) server c o.0 o.1
         (ap is_addressed (sym o.2) ∙ f.1)
-        (ap (λ (q : Post). q.message.to) (sym o.2) ∙ party_client p.post.message.to c p.to_is))
+        to
+        (sent_then c (server_post o.0).message to (server_post o.0)
+        (subst (λ (q : Post). In q (acts w m.chosen m.action).posts) o.2 p.among) refl refl))
 
     told_line : (front : List Line) (l : Line) → In l (lines_in w m) → IsToClient l
         → TellsLive l (h ++ front) (h ++ lines_in w m)

@@ -17,13 +17,8 @@ use Rattle.world_history.specs.State.{World}
 use Rattle.world_history.specs.History.{StandsFor}
 use Rattle.history_law.specs.Read.{AreWritten}
 use Rattle.history_law.specs.Granted.{NumbersFit}
-use Rattle.exchange_law.specs.Text.{AreOfText, AreFew}
 use Rattle.fencing_law.specs.Fenced.{noted}
-
--- they are of a scenario's text, with few messages: so numbers fit their places
-pub record AreShort (h : List Line) : Type 0 where
-  pub text : AreOfText h
-  pub few : AreFew h
+use Rattle.tag_law.specs.Live.{AreShort}
 
 -- What a LAYOUTGET gives is a grant of a file whose tag was below this one then. Where Short holds, its numbers fit.
 pub record IsOlder (Short : Type 0) (tag : ℕ) (ok : LayoutGetOk) : Type 0 where

@@ -1,6 +1,7 @@
 pub mod Live
 pub mod Given
 pub mod Barred
+pub mod Handed
 pub mod Origin
 pub mod Within
 pub mod Least

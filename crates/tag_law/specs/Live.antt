@@ -7,7 +7,7 @@ use Rattle.layout_ops.specs.declared.results.Results.{Results}
 use Rattle.layout_ops.specs.declared.results.Results.TheVariants as results
 use Rattle.layout_ops.specs.declared.envelope.Envelope.{Envelope}
 use Rattle.layout_ops.specs.declared.envelope.Envelope.TheVariants as envelope
-use Rattle.layout_ops.specs.Spelling.{envelope_item}
+use Rattle.layout_ops.specs.Spelling.{envelope_item, EnvelopeFits}
 use Rattle.server_rules.specs.Files.{file_at}
 use Rattle.server_rules.specs.Laws.{In}
 use Rattle.server_rules.specs.Layouts.{granted}
@@ -20,8 +20,10 @@ use Rattle.world_history.specs.Reading.{sent_in}
 use Rattle.world_history.specs.Book.{server_after}
 use Rattle.world_history.specs.State.{World}
 use Rattle.world_history.specs.History.{StandsFor}
+use Rattle.history_law.specs.Granted.{NumbersFit}
 use Rattle.history_law.specs.Read.{AreWritten}
 use Rattle.history_law.specs.StepEnds.{AtStepEnds}
+use Rattle.exchange_law.specs.Text.{AreOfText, AreFew}
 
 -- ---- a live grant
 
@@ -49,11 +51,26 @@ abbrev pub LiveIn : Server → (client : ℕ) → Envelope → Type 0
 LiveIn book c (envelope.Answer a) = (a.client ≡ c) × AnswersLive book a
 LiveIn book c e = Unit {0}
 
--- these bytes spell such a message
-pub record SpellsLive (book : Server) (client : ℕ) (bytes : List ℕ) : Type 0 where
+-- ---- numbers
+
+-- these lines are of a scenario's text, with few messages: so numbers fit their places
+pub record AreShort (h : List Line) : Type 0 where
+  pub text : AreOfText h
+  pub few : AreFew h
+
+-- the numbers of each live grant fit
+abbrev pub GrantsFit : Server → Type 0
+GrantsFit book =
+    (number : ℕ) (f : File) (g : Grant) → file_at book.files number ≡ Some f → In g f.kept.grants
+    → NumbersFit book.drives f.kept g
+
+-- These bytes spell such a message. If Short holds, it is read as it was spelled, and so is what it gives.
+pub record SpellsLive (Short : Type 0) (book : Server) (client : ℕ) (bytes : List ℕ) : Type 0 where
   pub message : Envelope
   pub bytes_are : bytes ≡ envelope_item message
   pub live : LiveIn book client message
+  pub fits : Short → EnvelopeFits message
+  pub grants : Short → GrantsFit book
 
 -- ---- in the lines
 
@@ -74,7 +91,7 @@ IsToClient l = ⊥
 -- was sent to the client before, or gives no layout but of a grant that the book has live at the end of its step
 abbrev pub TellsLive : Line → (before upto : List Line) → Type 0
 TellsLive (line.Message n party.Server (party.Client c) bytes) before upto =
-    WasTold before c bytes ⊎ SpellsLive (server_after upto) c bytes
+    WasTold before c bytes ⊎ SpellsLive (AreShort upto) (server_after upto) c bytes
 TellsLive l before upto = Unit {0}
 
 -- so it is of each

@@ -1,5 +1,6 @@
 // What holds of every history, for the crates above.
 ghost use Rattle.tag_law.specs.Live.{EachAnswerIsLive};
+ghost use Rattle.tag_law.specs.Handed.{EachGivenWasLive};
 ghost use Rattle.tag_law.specs.Given.{GrantsAreOlder};
 ghost use Rattle.tag_law.specs.Barred.{GivenIsBarred};
 ghost use Rattle.tag_law.specs.Origin.{EachTagWasSent};
@@ -25,6 +26,16 @@ pub fn answers_are_live()
     files_are_put();
     book_is_read();
     one_event_more();
+}
+
+/// So whatever credential an answer of the server gave a client before some place of a whole history of a scenario's text
+/// with few messages: its answer was first sent at a line before that place, and at the end of this line's step the book
+/// has the grant live, of this client on the answer's file. The credential's capability is for a present component of the
+/// file as the book has it there, under this grant: so it has the tag that the file had when the grant was given.
+pub fn given_was_live()
+    ensures { EachGivenWasLive }
+{
+    answers_are_live();
 }
 
 /// In each whole history whose events a text may have, each grant of a file that the server gave a client before a
