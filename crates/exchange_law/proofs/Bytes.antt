@@ -64,7 +64,7 @@ some_reply r =
     (some_first replies.magic (to_be_bytes w16 r.action ++ (to_be_bytes w16 r.verdict ++ (to_be_bytes w64 r.object
     ++ (to_be_bytes w64 r.nonce ++ (to_be_bytes w64 r.detail ++ (to_be_bytes w32 (length r.payload) ++ replicate 4 0)))))))
 
-some_byte : (b : Body) → 1 ≤ length (spelled b)
+pub some_byte : (b : Body) → 1 ≤ length (spelled b)
 some_byte (OfCommand c) = some_command c
 some_byte (OfReply r) = some_reply r
 some_byte (OfEnvelope e) = some_envelope e

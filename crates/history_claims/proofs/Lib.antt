@@ -1,4 +1,5 @@
 pub mod Making
 pub mod Standing
 pub mod Texts
+pub mod Cutting
 pub mod Sound

@@ -23,6 +23,7 @@ use Rattle.exchange_law.specs.FairLanes.{LanesAreFair}
 use Rattle.ending_law.specs.Calls.{CallsEndSo}
 use Rattle.tag_law.specs.Tags.{EachTagIsItsFiles}
 use Rattle.history_claims.proofs.Texts.{events_make_text}
+use Rattle.history_claims.proofs.Cutting.{cuts_go_on}
 
 pub histories_are_sound : HistoriesAreSafe → VerdictsAreAnswered → CommandsAreIssued → UnforgedAreIssued
     → UnguessedAreUnforged → RangesAreApart → FrontsAreLawful → ComponentsStandApart → EachHolderIsOwn
@@ -56,4 +57,5 @@ histories_are_sound safe answered issued listed fair ranges fronts apart own fen
       };
       text = events_make_text;
       few = few;
+      cuts = cuts_go_on;
     }

@@ -15,7 +15,7 @@ use Rattle.calm_law.proofs.Shapes.{is_event}
 use Rattle.calm_law.proofs.Inside.{all_each, event_each}
 use Rattle.history_claims.specs.Texts.{EventsFit, EventsMakeText}
 
-text_inside : (l : Line) → is_event l ≡ false → IsOfText l
+pub text_inside : (l : Line) → is_event l ≡ false → IsOfText l
 text_inside (line.Event e) i = absurd (true≢false i)
 text_inside l i = tt
 
@@ -36,7 +36,7 @@ steps_text w (s ∷ steps) carried f =
     (event_text w s.after s.event s.lines carried.0 carried.0.moves refl f.0)
     (steps_text s.after steps carried.1 f.1)
 
-each_text : (ls : List Line) → Each IsOfText ls → AreOfText ls
+pub each_text : (ls : List Line) → Each IsOfText ls → AreOfText ls
 each_text [] e = tt
 each_text (l ∷ ls) e = (e.0, each_text ls e.1)
 

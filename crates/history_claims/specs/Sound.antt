@@ -25,7 +25,7 @@ use Rattle.exchange_law.specs.Text.{AreOfText, AreFew, WithinTheLimitAreFew}
 use Rattle.exchange_law.specs.Exact.{IssuedExactlyAt, InjectedExactlyAt}
 use Rattle.ending_law.specs.Calls.{EndsAt}
 use Rattle.tag_law.specs.Tags.{HaveTagsAt}
-use Rattle.history_claims.specs.Texts.{EventsMakeText}
+use Rattle.history_claims.specs.Texts.{EventsMakeText, CutsGoOn}
 
 -- What the lines of a sound history say.
 pub record IsSound (h : List Line) : Type 0 where
@@ -88,8 +88,10 @@ pub record IsSound (h : List Line) : Type 0 where
   pub ends : AreOfText h → AreFew h → AtEachLine EndsAt h
 
 -- Each lawful history is sound, whatever its events name. Where a text may have the events, it is one of a scenario's text;
--- and where a world that stands for it is within the limit of kept bytes, it has few messages.
+-- and where a world that stands for it is within the limit of kept bytes, it has few messages. A history that is cut at that
+-- limit goes on being of a text.
 pub record HistoriesAreSound : Type 0 where
   pub sound : (h : List Line) → Lawful h → IsSound h
   pub text : EventsMakeText
   pub few : WithinTheLimitAreFew
+  pub cuts : CutsGoOn

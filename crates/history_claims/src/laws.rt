@@ -28,17 +28,17 @@ pub fn components_stand_apart()
 }
 
 /// Each lawful history is sound, in the words of its lines: it is safe; in a whole one the line behind each verdict on
-/// a delivered message is the drive's reply; what a drive performs is the server's, or
-/// was issued to the client whose command it is; no byte of a component is inside the capabilities of two live
-/// grants of which one is for writing; each layout that the server sends a client is of a grant of this client that is
-/// live then, or repeats what it was sent; the components of a file stand on different drives. As far as nothing is
-/// forged, injected bytes that are performed carry a capability that the server gave a client, or are its own; what
-/// is performed under the server's holder is its own, and each lane of an object its holder's; and a fence that is
-/// over lasts, and bars what was given before it. In a history of a scenario's text with few messages each performed
-/// command that isn't the server's is for a component under a grant of a client, which the book had live as the answer
-/// was first sent; as far as nothing is forged, the object of each present component has its file's tag, or the next
-/// one while a fence is open; no call ends since its layout can't be used or since a command lies outside its
-/// capability, and none is refused since its client has no sequence number left.
+/// a delivered message is the drive's reply; what a drive performs is the server's, or was issued to the client whose
+/// command it is; no byte of a component is inside the capabilities of two live grants of which one is for writing;
+/// each layout that the server sends a client is of a grant of this client that is live then, or repeats what it was
+/// sent; the components of a file stand on different drives. As far as nothing is forged, injected bytes that are
+/// performed carry a capability that the server gave a client, or are its own; what is performed under the server's
+/// holder is its own, and each lane of an object its holder's; and a fence that is over lasts, and bars what was given
+/// before it. In a history of a scenario's text with few messages each performed command that isn't the server's is for
+/// a component under a grant of a client, which the book had live as the answer was first sent; as far as nothing is
+/// forged, the object of each present component has its file's tag, or the next one while a fence is open; no call ends
+/// since its layout can't be used or since a command lies outside its capability, and none is refused since its client
+/// has no sequence number left. A history that is cut at the limit of kept bytes goes on being of a text.
 pub fn histories_are_sound()
     ensures { HistoriesAreSound }
 {
