@@ -19,4 +19,6 @@ mod lines;
 #[cfg(test)]
 mod links;
 #[cfg(test)]
+mod stores;
+#[cfg(test)]
 mod xdr;

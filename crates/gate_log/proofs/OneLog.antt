@@ -1,0 +1,106 @@
+-- Contents are a log in one way at most.
+use Rattle.std.proofs.Common.{◌≡◌, ◌⊎◌, inl, inr, ⊎_elim, ℕ, ◌+◌, ◌<◌, ◌≤◌, ◌^◌, List, [], ◌∷◌, ◌++◌, length, take, drop, refl, sym, ◌∙◌, ap, subst, arith, append_assoc, length-append}
+use Rattle.std.proofs.lemmas.List.{take_at, drop_at}
+use Rattle.std.proofs.lemmas.Nat.{from_be_bytes-to_be_bytes_4}
+use Rattle.std.specs.Int.{w32, to_be_bytes, from_be_bytes}
+use Rattle.osd_lists.proofs.Slices.{head_same, tail_same}
+use Rattle.gate_log.specs.declared.entry.TheConstants.{MAX_BODY}
+use Rattle.gate_log.specs.declared.header.TheConstants.{HEADER_SIZE}
+use Rattle.gate_log.specs.Broken.{IsNoRecord, HasNoRecord, IsBrokenAt, length_behind}
+use Rattle.gate_log.specs.Logs.{Gated, records_of, IsRecord, AreRecords, bodies_of, IsFront, IsLog}
+
+-- two parts of the same bytes, the first of them as long
+one_split : (a b c d : List ℕ) → length a ≡ length b → a ++ c ≡ b ++ d → (a ≡ b) × (c ≡ d)
+one_split a b c d same e = (
+  sym (take_at a c (length a) refl) ∙ ap (λ (l : List ℕ). take (length a) l) e ∙ take_at b d (length a) (sym same),
+  sym (drop_at a c (length a) refl) ∙ ap (λ (l : List ℕ). drop (length a) l) e ∙ drop_at b d (length a) (sym same),
+)
+
+-- a record's number and its body, one behind the other
+apart : (r : Gated) (rs : List Gated) (x : List ℕ) →
+    (to_be_bytes w32 (length r.1) ++ (r.1 ++ records_of rs)) ++ x ≡ to_be_bytes w32 (length r.1) ++ (r.1 ++ (records_of rs ++ x))
+apart r rs x =
+    append_assoc (to_be_bytes w32 (length r.1)) (r.1 ++ records_of rs) x
+    ∙ ap (λ (l : List ℕ). to_be_bytes w32 (length r.1) ++ l) (append_assoc r.1 (records_of rs) x)
+
+below : (r : Gated) → IsRecord r → length r.1 < 2 ^ 32
+below r is = omega (arith, is.fits)
+
+-- two records that stand at one place
+same_record : (r s : Gated) (x y : List ℕ) → IsRecord r → IsRecord s
+    → to_be_bytes w32 (length r.1) ++ (r.1 ++ x) ≡ to_be_bytes w32 (length s.1) ++ (s.1 ++ y) → (r.1 ≡ s.1) × (x ≡ y)
+same_record r s x y is other e =
+    let numbers = one_split (to_be_bytes w32 (length r.1)) (to_be_bytes w32 (length s.1)) (r.1 ++ x) (s.1 ++ y) refl e in
+    let lengths : length r.1 ≡ length s.1 =
+    sym (from_be_bytes-to_be_bytes_4 (length r.1) (below r is)) ∙ ap (λ (l : List ℕ). from_be_bytes w32 l) numbers.0 ∙ from_be_bytes-to_be_bytes_4 (length s.1) (below s other) in
+    one_split r.1 s.1 x y lengths numbers.1
+
+one_list : (rs ss : List Gated) (x y : List ℕ) → AreRecords rs → AreRecords ss → records_of rs ++ 0 ∷ x ≡ records_of ss ++ 0 ∷ y → bodies_of rs ≡ bodies_of ss
+one_list [] [] x y are others e = refl
+one_list [] (s ∷ ss) x y are others e = absurd (omega (arith, others.0.open_gate, head_same 0 s.0 _ _ e))
+one_list (r ∷ rs) [] x y are others e = absurd (omega (arith, are.0.open_gate, head_same r.0 0 _ _ e))
+one_list (r ∷ rs) (s ∷ ss) x y are others e =
+    let same = same_record r s (records_of rs ++ 0 ∷ x) (records_of ss ++ 0 ∷ y) are.0 others.0 (sym (apart r rs (0 ∷ x)) ∙ tail_same r.0 s.0 _ _ e ∙ apart s ss (0 ∷ y)) in
+    ap (λ (l : List (List ℕ)). r.1 ∷ l) (one_list rs ss x y are.1 others.1 same.1) ∙ ap (λ (b : List ℕ). b ∷ bodies_of ss) same.0
+
+pub one_log : (header : List ℕ) (bodies : List (List ℕ)) (other : List ℕ) (others : List (List ℕ)) (c : List ℕ) → IsLog header bodies c → IsLog other others c
+    → (header ≡ other) × (bodies ≡ others)
+one_log header bodies other others c is also =
+    let f = is.is_front in
+    let g = also.is_front in
+    let one : c ≡ header ++ (records_of f.records ++ 0 ∷ is.rest) = is.contents ∙ ap (λ (l : List ℕ). l ++ 0 ∷ is.rest) f.front_is ∙ append_assoc header (records_of f.records) (0 ∷ is.rest) in
+    let two : c ≡ other ++ (records_of g.records ++ 0 ∷ also.rest) = also.contents ∙ ap (λ (l : List ℕ). l ++ 0 ∷ also.rest) g.front_is ∙ append_assoc other (records_of g.records) (0 ∷ also.rest) in
+    let parts = one_split header other _ _ (f.whole ∙ sym g.whole) (sym one ∙ two) in
+    (parts.0, sym f.bodies_are ∙ one_list f.records g.records is.rest also.rest f.are_records g.are_records parts.1 ∙ g.bodies_are)
+
+-- a whole record isn't none
+record_is_some : (s : Gated) (y rest : List ℕ) (gate : ℕ) → IsRecord s → rest ≡ to_be_bytes w32 (length s.1) ++ (s.1 ++ gate ∷ y) → IsNoRecord rest → ⊥
+record_is_some s y rest gate is e none = by_cause none
+  where
+    number : List ℕ
+    number = to_be_bytes w32 (length s.1)
+
+    behind : length_behind rest ≡ length s.1
+    behind = ap (λ (l : List ℕ). from_be_bytes w32 (take 4 l)) e ∙ ap (λ (l : List ℕ). from_be_bytes w32 l) (take_at number (s.1 ++ gate ∷ y) 4 refl) ∙ from_be_bytes-to_be_bytes_4 (length s.1) (below s is)
+
+    four : length number ≡ 4
+    four = refl
+
+    long : length rest ≡ 4 + (length s.1 + (length y + 1))
+    long = omega (arith, ap length e, four, length-append number (s.1 ++ gate ∷ y), length-append s.1 (gate ∷ y))
+
+    by_cause : IsNoRecord rest → ⊥
+    by_cause (inl short) = omega (arith, short, long)
+    by_cause (inr (inl zero)) = omega (arith, zero, behind, is.some)
+    by_cause (inr (inr (inl great))) = omega (arith, great, behind, is.fits)
+    by_cause (inr (inr (inr cut))) = omega (arith, cut, behind, long)
+
+-- the bytes behind the records up to a gate, where a log goes on
+first_gate : (ss : List Gated) (y : List ℕ) → (g : ℕ) × (z : List ℕ) × (records_of ss ++ 0 ∷ y ≡ g ∷ z)
+first_gate [] y = (0, y, refl)
+first_gate (s ∷ ss) y = (s.0, _, refl)
+
+none_there : (rs ss : List Gated) (gate : ℕ) (x y : List ℕ) → AreRecords rs → AreRecords ss → 0 < gate → IsNoRecord x → records_of rs ++ gate ∷ x ≡ records_of ss ++ 0 ∷ y → ⊥
+none_there [] [] gate x y are others lo none e = omega (arith, lo, head_same gate 0 _ _ e)
+none_there (r ∷ rs) [] gate x y are others lo none e = omega (arith, are.0.open_gate, head_same r.0 0 _ _ e)
+none_there [] (s ∷ ss) gate x y are others lo none e =
+    let next = first_gate ss y in
+    let is : x ≡ to_be_bytes w32 (length s.1) ++ (s.1 ++ next.0 ∷ next.1) =
+    tail_same gate s.0 _ _ e ∙ apart s ss (0 ∷ y) ∙ ap (λ (l : List ℕ). to_be_bytes w32 (length s.1) ++ (s.1 ++ l)) next.2 in
+    record_is_some s next.1 x next.0 others.0 is none
+none_there (r ∷ rs) (s ∷ ss) gate x y are others lo none e =
+    let same = same_record r s (records_of rs ++ gate ∷ x) (records_of ss ++ 0 ∷ y) are.0 others.0 (sym (apart r rs (gate ∷ x)) ∙ tail_same r.0 s.0 _ _ e ∙ apart s ss (0 ∷ y)) in
+    none_there rs ss gate x y are.1 others.1 lo none same.1
+
+pub broken_is_none : (header : List ℕ) (bodies : List (List ℕ)) (c : List ℕ) (at : ℕ) → IsBrokenAt c at → IsLog header bodies c → ⊥
+broken_is_none header bodies c at (inl short) is =
+    let f = is.is_front in
+    omega (arith, short.0, ap length is.contents, ap length f.front_is, f.whole, length-append is.front (0 ∷ is.rest), length-append header (records_of f.records))
+broken_is_none header bodies c at (inr cut) is =
+    let f = is.is_front in
+    let g = cut.is_front in
+    let one : c ≡ header ++ (records_of f.records ++ 0 ∷ is.rest) = is.contents ∙ ap (λ (l : List ℕ). l ++ 0 ∷ is.rest) f.front_is ∙ append_assoc header (records_of f.records) (0 ∷ is.rest) in
+    let two : c ≡ cut.header ++ (records_of g.records ++ cut.gate ∷ cut.rest) =
+    cut.contents ∙ ap (λ (l : List ℕ). l ++ cut.gate ∷ cut.rest) g.front_is ∙ append_assoc cut.header (records_of g.records) (cut.gate ∷ cut.rest) in
+    let parts = one_split cut.header header _ _ (g.whole ∙ sym f.whole) (sym two ∙ one) in
+    none_there g.records f.records cut.gate cut.rest is.rest g.are_records f.are_records cut.open_gate cut.no_record parts.1
