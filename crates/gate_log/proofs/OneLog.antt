@@ -104,3 +104,23 @@ broken_is_none header bodies c at (inr cut) is =
     cut.contents ∙ ap (λ (l : List ℕ). l ++ cut.gate ∷ cut.rest) g.front_is ∙ append_assoc cut.header (records_of g.records) (cut.gate ∷ cut.rest) in
     let parts = one_split cut.header header _ _ (g.whole ∙ sym f.whole) (sym two ∙ one) in
     none_there g.records f.records cut.gate cut.rest is.rest g.are_records f.are_records cut.open_gate cut.no_record parts.1
+
+-- records before a gate, whatever it is, are the first ones of the log that stands there
+starts : (rs ss : List Gated) (gate : ℕ) (x y : List ℕ) → AreRecords rs → AreRecords ss → records_of rs ++ gate ∷ x ≡ records_of ss ++ 0 ∷ y → (more : List (List ℕ)) × (bodies_of ss ≡ bodies_of rs ++ more)
+starts [] ss gate x y are others e = (bodies_of ss, refl)
+starts (r ∷ rs) [] gate x y are others e = absurd (omega (arith, are.0.open_gate, head_same r.0 0 _ _ e))
+starts (r ∷ rs) (s ∷ ss) gate x y are others e =
+    let same = same_record r s (records_of rs ++ gate ∷ x) (records_of ss ++ 0 ∷ y) are.0 others.0 (sym (apart r rs (gate ∷ x)) ∙ tail_same r.0 s.0 _ _ e ∙ apart s ss (0 ∷ y)) in
+    let rest = starts rs ss gate x y are.1 others.1 same.1 in
+    (rest.0, ap (λ (l : List (List ℕ)). s.1 ∷ l) rest.1 ∙ ap (λ (b : List ℕ). b ∷ (bodies_of rs ++ rest.0)) (sym same.0))
+
+-- a header and bodies before a gate are how the log begins
+pub front_begins : (header : List ℕ) (bodies : List (List ℕ)) (front : List ℕ) (gate : ℕ) (rest other : List ℕ) (others : List (List ℕ)) (c : List ℕ) → IsFront header bodies front → c ≡ front ++ gate ∷ rest
+    → IsLog other others c → (header ≡ other) × ((more : List (List ℕ)) × (others ≡ bodies ++ more))
+front_begins header bodies front gate rest other others c f contents also =
+    let g = also.is_front in
+    let one : c ≡ header ++ (records_of f.records ++ gate ∷ rest) = contents ∙ ap (λ (l : List ℕ). l ++ gate ∷ rest) f.front_is ∙ append_assoc header (records_of f.records) (gate ∷ rest) in
+    let two : c ≡ other ++ (records_of g.records ++ 0 ∷ also.rest) = also.contents ∙ ap (λ (l : List ℕ). l ++ 0 ∷ also.rest) g.front_is ∙ append_assoc other (records_of g.records) (0 ∷ also.rest) in
+    let parts = one_split header other _ _ (f.whole ∙ sym g.whole) (sym one ∙ two) in
+    let begins = starts f.records g.records gate rest also.rest f.are_records g.are_records parts.1 in
+    (parts.0, (begins.0, sym g.bodies_are ∙ begins.1 ∙ ap (λ (l : List (List ℕ)). l ++ begins.0) f.bodies_are))

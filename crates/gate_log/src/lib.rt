@@ -10,6 +10,7 @@ mod errors;
 mod header;
 mod laws;
 mod log;
+mod opening;
 mod reader;
 mod record;
 

@@ -1,15 +1,11 @@
+//! Logs on disks in memory, which crash and of which calls fail.
 use crate::lines::{copied, numbers};
 use gate_log::{Entry, GateLog, LogErr, LogReader, MAX_BODY};
-use osd_disk::MemDisk;
+use osd_disk::{Disk, MemDisk};
 use osd_lists::Bytes;
 use std::alloc::Global;
 
-const HEADER: [u8; 24] = [7; 24];
-
-// The calls of a disk that `create` takes, and those of one `append`.
-const CREATE: usize = 3;
-
-const APPEND: usize = 4;
+const HEADER: &[u8; 24] = &[7; 24];
 
 // Two records, of which the second is added last.
 const BODIES: &[&[u8]] = &[b"abc", b"defgh"];
@@ -19,38 +15,45 @@ const WHOLE: &[u8] =
     b"\x07\x07\x07\x07\x07\x07\x07\x07\x07\x07\x07\x07\x07\x07\x07\x07\x07\x07\x07\x07\x07\x07\x07\x07\
     \x01\x00\x00\x00\x03abc\x01\x00\x00\x00\x05defgh\x00";
 
-// The bytes with one of them changed, where there is such a one.
-fn with_byte(alloc: Global, bytes: &[u8], at: usize, value: u8) -> Bytes {
-    let mut changed = copied(alloc, bytes);
-    if at < changed.len() {
-        *changed.get_mut(at) = value;
-    }
-    changed
-}
+// How many calls of a disk a new log takes, and a record that is added.
+const CREATE: u32 = 3;
 
-// A disk after a log was made and these bodies added, as far as that went: the calls with these numbers fail.
-fn logged(alloc: Global, fails: &[u32], bodies: &[&[u8]]) -> MemDisk {
-    let disk = MemDisk::new(alloc, numbers(alloc, fails));
-    let mut log = match GateLog::create(disk, &HEADER) {
-        Ok(log) => log,
-        Err((_, disk)) => return disk,
-    };
+const APPEND: u32 = 4;
+
+// How many calls the opening of that log takes: a sync, the size, the header, the first gate, and two reads a record.
+const OPEN: u32 = 8;
+
+// Adds bodies to a log, as far as that goes.
+fn add_all<D: Disk>(alloc: Global, log: &mut GateLog<D>, bodies: &[&[u8]]) {
     for body in bodies {
         if log.is_over() || body.is_empty() || body.len() > MAX_BODY {
-            return log.into_disk();
+            return;
         }
         if let Ok(entry) = Entry::new(alloc, body) {
             let _ = log.append(&entry);
         }
     }
-    log.into_disk()
 }
 
-// How a disk is opened: as a log with so many records, or refused at a place. `None` for another error.
-#[derive(Clone, Copy, Debug, PartialEq, Eq)]
+// A disk after a log was made and both records added, as far as that went: the calls with these numbers fail.
+fn logged(alloc: Global, fails: &[u32]) -> MemDisk {
+    match GateLog::create(MemDisk::new(alloc, numbers(alloc, fails)), HEADER) {
+        Ok(mut log) => {
+            add_all(alloc, &mut log, BODIES);
+            log.into_disk()
+        }
+        Err((_, disk)) => disk,
+    }
+}
+
+// How a disk is opened.
+#[derive(Clone, Copy, PartialEq, Eq)]
 enum Opened {
+    /// As a log with so many records.
     Records(u32),
+    /// It is refused at this place.
     Refused(u64),
+    /// A call of the disk failed.
     Failed,
 }
 
@@ -61,11 +64,7 @@ fn refusal(e: LogErr) -> Opened {
     }
 }
 
-fn opened(alloc: Global, disk: MemDisk) -> Opened {
-    let mut reader = match LogReader::open(disk) {
-        Ok(reader) => reader,
-        Err((e, _)) => return refusal(e),
-    };
+fn read_all<D: Disk>(alloc: Global, reader: &mut LogReader<D>) -> Opened {
     for count in 0..1000u32 {
         match reader.next(alloc) {
             Ok(Some(_)) => {}
@@ -76,12 +75,19 @@ fn opened(alloc: Global, disk: MemDisk) -> Opened {
     Opened::Failed
 }
 
-// How a disk of these bytes is opened.
-fn opened_bytes(alloc: Global, bytes: Bytes) -> Opened {
-    opened(alloc, MemDisk::holding(alloc, bytes, numbers(alloc, &[])))
+fn opened<D: Disk + Drop>(alloc: Global, disk: D) -> Opened {
+    match LogReader::open(disk) {
+        Ok(mut reader) => read_all(alloc, &mut reader),
+        Err((e, _)) => refusal(e),
+    }
 }
 
-// How the disk is opened after a crash that left all that was written, or this byte in it.
+// How a disk of these bytes is opened, of which the calls with these numbers fail.
+fn opened_bytes(alloc: Global, bytes: Bytes, fails: &[u32]) -> Opened {
+    opened(alloc, MemDisk::holding(alloc, bytes, numbers(alloc, fails)))
+}
+
+// How a disk is opened after a crash that left all that was written, or this byte in it.
 fn opened_after_crash(alloc: Global, disk: MemDisk, fill: Option<u8>) -> Opened {
     match fill {
         None => opened(alloc, disk.crash()),
@@ -92,8 +98,8 @@ fn opened_after_crash(alloc: Global, disk: MemDisk, fill: Option<u8>) -> Opened 
     }
 }
 
-// The first call of the second `append` that fails, what the crash leaves in what was written since the last sync, and how
-// many records are found.
+// How many calls of the second record are done before one fails, what the crash leaves in what was written since the last
+// sync, and how many records are found.
 const CRASHES: &[(u32, Option<u8>, u32)] = &[
     (0, None, 1),
     (0, Some(0), 1),
@@ -115,19 +121,25 @@ const CRASHES: &[(u32, Option<u8>, u32)] = &[
 #[test]
 fn a_crash_leaves_a_record_whole_or_not_at_all(rt: HostRuntime) {
     let alloc = rt.alloc();
-    for (call, fill, records) in CRASHES.iter() {
-        let disk = logged(alloc, &[7 + *call], BODIES);
+    for (calls, fill, records) in CRASHES.iter() {
+        let disk = logged(alloc, &[CREATE + APPEND + *calls]);
         assert!(rt; opened_after_crash(alloc, disk, *fill) == Opened::Records(*records));
     }
 }
 
+fn is_whole(disk: &MemDisk) -> bool {
+    disk.bytes() == WHOLE && disk.calls() as u64 == u64::from(CREATE + 2 * APPEND)
+}
+
+// Whether the log's bytes, and the number of the disk's calls, are as its page says.
+fn is_written_whole(alloc: Global) -> bool {
+    let disk = logged(alloc, &[]);
+    is_whole(&disk)
+}
+
 #[test]
 fn a_log_is_written_as_its_page_says(rt: HostRuntime) {
-    let alloc = rt.alloc();
-    let disk = logged(alloc, &[], BODIES);
-    assert!(rt; disk.bytes() == WHOLE);
-    assert!(rt; disk.calls() == CREATE + 2 * APPEND);
-    assert!(rt; opened(alloc, disk) == Opened::Records(2));
+    assert!(rt; is_written_whole(rt.alloc()));
 }
 
 // Where a log of so many bytes is refused.
@@ -139,25 +151,37 @@ fn place_of_prefix(len: usize) -> u64 {
 fn a_log_cut_short_is_refused_at_its_place(rt: HostRuntime) {
     let alloc = rt.alloc();
     for len in 0..WHOLE.len() {
-        let (front, _) = WHOLE.split_at(len);
-        assert!(rt;
-            opened_bytes(alloc, copied(alloc, front)) == Opened::Refused(place_of_prefix(len))
-        );
+        let front = copied(alloc, WHOLE.split_at(len).0);
+        assert!(rt; opened_bytes(alloc, front, &[]) == Opened::Refused(place_of_prefix(len)));
     }
 }
 
-// A place, the byte that stands there now, and how the log is opened.
+// A log's bytes with one of them changed.
+fn with_byte(alloc: Global, at: usize, value: u8) -> Bytes {
+    let mut changed = copied(alloc, WHOLE);
+    if at < changed.len() {
+        *changed.get_mut(at) = value;
+    }
+    changed
+}
+
+// A place, the byte that stands there now, and how the log is opened: gates, lengths, and a byte of a body.
 const CHANGED: &[(usize, u8, Opened)] = &[
-    (0, 0, Opened::Records(2)),
     (24, 0, Opened::Records(0)),
     (24, 255, Opened::Records(2)),
     (25, 1, Opened::Refused(24)),
     (26, 1, Opened::Refused(24)),
     (27, 1, Opened::Refused(24)),
     (28, 0, Opened::Refused(24)),
-    (28, 15, Opened::Refused(24)),
+    (28, 14, Opened::Refused(24)),
+    (28, 13, Opened::Records(1)),
     (29, 0, Opened::Records(2)),
     (32, 0, Opened::Records(1)),
+    (32, 255, Opened::Records(2)),
+    (33, 1, Opened::Refused(32)),
+    (34, 1, Opened::Refused(32)),
+    (35, 1, Opened::Refused(32)),
+    (36, 0, Opened::Refused(32)),
     (36, 6, Opened::Refused(32)),
     (36, 4, Opened::Refused(41)),
     (42, 7, Opened::Refused(42)),
@@ -167,22 +191,50 @@ const CHANGED: &[(usize, u8, Opened)] = &[
 fn a_changed_byte_shows_where_it_says(rt: HostRuntime) {
     let alloc = rt.alloc();
     for (at, value, how) in CHANGED.iter() {
-        assert!(rt; opened_bytes(alloc, with_byte(alloc, WHOLE, *at, *value)) == *how);
+        assert!(rt; opened_bytes(alloc, with_byte(alloc, *at, *value), &[]) == *how);
+    }
+    for at in 0..24usize {
+        assert!(rt; opened_bytes(alloc, with_byte(alloc, at, 0), &[]) == Opened::Records(2));
     }
 }
 
 #[test]
-fn an_opening_that_fails_changes_nothing(rt: HostRuntime) {
+fn an_opening_of_which_a_call_fails_fails(rt: HostRuntime) {
     let alloc = rt.alloc();
-    for call in 0..9u32 {
-        let disk = MemDisk::holding(alloc, copied(alloc, WHOLE), numbers(alloc, &[call]));
-        let how = opened(alloc, disk);
-        assert!(rt;
-            how == if call < 8 {
-                Opened::Failed
-            } else {
-                Opened::Records(2)
-            }
-        );
+    for call in 0..OPEN {
+        let bytes = copied(alloc, WHOLE);
+        assert!(rt; opened_bytes(alloc, bytes, &[call]) == Opened::Failed);
     }
+    assert!(rt; opened_bytes(alloc, copied(alloc, WHOLE), &[OPEN]) == Opened::Records(2));
+}
+
+// Whether a log is opened with these bodies.
+fn opens_with<D: Disk + Drop>(alloc: Global, disk: D, bodies: &[&[u8]]) -> bool {
+    let Ok((_, header, found)) = GateLog::open(alloc, disk) else {
+        return false;
+    };
+    let mut same = header.bytes == *HEADER && found.len() == bodies.len();
+    for (i, body) in bodies.iter().enumerate() {
+        same = same && i < found.len() && found.get(i).as_slice() == *body;
+    }
+    same
+}
+
+#[test]
+fn an_opened_log_has_its_header_and_its_bodies(rt: HostRuntime) {
+    let alloc = rt.alloc();
+    assert!(rt; opens_with(alloc, logged(alloc, &[]), BODIES));
+}
+
+// Whether no log is made on a disk that has a byte.
+fn is_full_disk_refused(alloc: Global) -> bool {
+    match GateLog::create(MemDisk::holding(alloc, copied(alloc, b"x"), numbers(alloc, &[])), HEADER) {
+        Ok(_) => false,
+        Err((e, _)) => e == LogErr::NotEmpty { size: 1 },
+    }
+}
+
+#[test]
+fn a_log_is_made_on_an_empty_disk_alone(rt: HostRuntime) {
+    assert!(rt; is_full_disk_refused(rt.alloc()));
 }

@@ -1,4 +1,4 @@
-pub mod Images
+pub mod ImageLaws
 pub mod Media
 pub mod Moments
 pub mod Outcomes

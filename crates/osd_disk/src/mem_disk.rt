@@ -22,6 +22,7 @@ pub struct MemDisk {
 }
 
 impl Model for MemDisk {
+    ghost use Rattle.std.specs.Prelude.{◌≡◌};
     ghost use Rattle.osd_disk.specs.Calls.{all_done};
     ghost use Rattle.osd_disk.specs.Medium.{Medium, first_or};
 
@@ -83,13 +84,19 @@ impl MemDisk {
     pub fn crash_filled(self, fill: u8) -> Result<Self, Memory>
         ensures { IfOk result (λ left. may_hold self (bytes_of left)) }
     {
-        let alloc = self.alloc;
-        let first = match self.first {
-            Some(first) => first,
-            None => self.bytes,
-        };
-        let left = image_after(alloc, first.as_slice(), self.calls.as_slice(), fill)?;
-        Ok(MemDisk::holding(alloc, left, Numbers::new(alloc)))
+        let first = self.first_bytes();
+        let left = image_after(self.alloc, first, self.calls.as_slice(), fill)?;
+        Ok(MemDisk::holding(self.alloc, left, Numbers::new(self.alloc)))
+    }
+
+    // The bytes before the first call.
+    fn first_bytes(&self) -> &[u8]
+        ensures { result.now ≡ self.now.first }
+    {
+        match &self.first {
+            Some(first) => first.as_slice(),
+            None => self.bytes.as_slice(),
+        }
     }
 
     // Notes a call that writes nothing.

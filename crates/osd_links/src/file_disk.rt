@@ -1,11 +1,11 @@
 // A disk that is a file of the system.
-ghost use Rattle.std.specs.Prelude.{◌≡◌, ◌<◌, ◌≤◌, ◌+◌, ◌^◌, length, IfOk, IfErr};
+ghost use Rattle.std.specs.Prelude.{◌≡◌, ◌<◌, ◌≤◌, ◌+◌, ◌^◌, length, IfOk};
 ghost use Rattle.osd_bytes.specs.Causes.{Rose};
-ghost use Rattle.osd_disk.specs.Errors.{HasDiskCause};
 
 use crate::file_causes::FileCause;
 use osd_disk::{Disk, DiskErr};
 use std::fs::{File, OpenOptions, TryLockError};
+use std::io;
 use std::io::ErrorKind;
 use std::os::fd::AsRawFd;
 use std::os::unix::fs::{FileExt, OpenOptionsExt};
@@ -17,10 +17,16 @@ const OWNER_ALONE: u32 = 0o600;
 // No file has bytes from this place on.
 const MAX_SIZE: u64 = 1 << 63;
 
+// The greatest number of a standard stream.
+const STANDARD_ERROR: i32 = 2;
+
+// How often a read is tried that signals interrupt.
+const TRIES: u32 = 1_000;
+
 /// A disk that is a file. It tells nothing of its bytes: that the system's file is a disk as the
 /// trait says is trusted.
 ///
-/// From a call on that failed each call fails, since what a failed sync left behind isn't known. The
+/// After a call that failed each call fails, since what a failed sync left behind isn't known. The
 /// file is locked against other processes as long as the disk is open.
 #[derive(Drop)]
 pub struct FileDisk<R> {
@@ -31,6 +37,8 @@ pub struct FileDisk<R> {
 }
 
 impl<R> FileDisk<R> {
+    ghost use Rattle.osd_disk.specs.declared.disk.DiskErr.TheVariants.{Fault};
+
     /// A disk whose file isn't opened yet, by a handle of the runtime.
     pub fn new(runtime: R) -> Self {
         FileDisk {
@@ -46,19 +54,16 @@ impl<R> FileDisk<R> {
         self.last.as_ref()
     }
 
-    // What a call got from the system. Where it failed the file is closed, and the fault counted.
-    fn counted<T: Drop>(&mut self, got: Result<T, FileCause>) -> Result<T, DiskErr>
-        ensures { HasDiskCause self.old.faults self.new.faults result }
+    // Closes the file, counts the fault, and keeps its cause.
+    fn fail(&mut self, cause: FileCause) -> DiskErr
+        ensures error { result ≡ Fault }
+        ensures count { Rose self.old.faults self.new.faults }
+        ensures later { self.old.faults ≤ self.new.faults }
     {
-        match got {
-            Ok(value) => Ok(value),
-            Err(cause) => {
-                self.file = None;
-                self.faults = self.faults.saturating_add(1);
-                self.last = Some(cause);
-                Err(DiskErr::Fault)
-            }
-        }
+        self.file = None;
+        self.faults = self.faults.saturating_add(1);
+        self.last = Some(cause);
+        DiskErr::Fault
     }
 }
 
@@ -71,33 +76,49 @@ fn folder_of(name: &str) -> &str {
     }
 }
 
-// Opens a file, which is made where there is none, and locks it. All of it is made to last, with its
-// name in its folder, and is read from the device from then on.
-fn open_file<R: Files<File = File>>(runtime: &R, name: &str) -> Result<File, FileCause> {
-    let file = OpenOptions::new()
+// Opens a plain file, which is made if there is none, and locks it.
+fn open_locked<R: Files<File = File>>(runtime: &R, name: &str) -> Result<File, FileCause> {
+    let opened = OpenOptions::new()
         .read(true)
         .write(true)
         .create(true)
         .mode(OWNER_ALONE)
-        .open(runtime, name)
-        .map_err(FileCause::of)?;
+        .open(runtime, name);
+    let mut file = opened.map_err(FileCause::of)?;
+    // What is printed to a standard stream that was closed must not land in the file.
+    if file.as_raw_fd() <= STANDARD_ERROR {
+        file = file.try_clone().map_err(FileCause::of)?;
+    }
     if !file.metadata().map_err(FileCause::of)?.is_file() {
         return Err(FileCause::NotAFile);
     }
     match file.try_lock() {
-        Ok(()) => {}
-        Err(TryLockError::WouldBlock) => return Err(FileCause::InUse),
-        Err(TryLockError::Error(e)) => return Err(FileCause::of(e)),
+        Ok(()) => Ok(file),
+        Err(TryLockError::WouldBlock) => Err(FileCause::InUse),
+        Err(TryLockError::Error(e)) => Err(FileCause::of(e)),
     }
-    file.sync_all().map_err(FileCause::of)?;
+}
+
+// Makes a file and its name in its folder last. From then on the file is read from the device: the
+// system's own copy may be newer than the device's, where an earlier process had a sync that failed.
+fn settle<R: Files<File = File>>(runtime: &R, file: &File, name: &str) -> io::Result<()> {
+    file.sync_all()?;
     let folder = OpenOptions::new()
         .read(true)
-        .open(runtime, folder_of(name))
-        .map_err(FileCause::of)?;
-    folder.sync_all().map_err(FileCause::of)?;
-    // Where the system keeps its copy all the same, that is no fault.
-    let _ = libc::posix_fadvise(file.as_raw_fd(), 0, 0, libc::POSIX_FADV_DONTNEED);
-    Ok(file)
+        .open(runtime, folder_of(name))?;
+    folder.sync_all()?;
+    match libc::posix_fadvise(file.as_raw_fd(), 0, 0, libc::POSIX_FADV_DONTNEED) {
+        0 => Ok(()),
+        error => Err(io::Error::from_raw_os_error(error)),
+    }
+}
+
+fn open_file<R: Files<File = File>>(runtime: &R, name: &str) -> Result<File, FileCause> {
+    let file = open_locked(runtime, name)?;
+    match settle(runtime, &file, name) {
+        Ok(()) => Ok(file),
+        Err(e) => Err(FileCause::of(e)),
+    }
 }
 
 // How many bytes a file has.
@@ -121,14 +142,14 @@ fn read_some(file: &Option<File>, at: u64, buf: &mut [u8]) -> Result<usize, File
     let Some(file) = file else {
         return Err(FileCause::NotOpen);
     };
-    for _ in 0..u64::MAX {
+    for _ in 0..TRIES {
         match file.read_at(buf, at) {
             Ok(n) => return Ok(n),
             Err(e) if e.kind() == ErrorKind::Interrupted => {}
             Err(e) => return Err(FileCause::of(e)),
         }
     }
-    Err(FileCause::NotOpen)
+    Err(FileCause::System(ErrorKind::Interrupted.into()))
 }
 
 // Writes all bytes to a file.
@@ -141,14 +162,20 @@ fn write_whole(file: &Option<File>, at: u64, bytes: &[u8]) -> Result<(), FileCau
     if at >= MAX_SIZE || bytes.len() as u64 >= MAX_SIZE - at {
         return Err(FileCause::TooLong);
     }
-    file.write_all_at(bytes, at).map_err(FileCause::of)
+    match file.write_all_at(bytes, at) {
+        Ok(()) => Ok(()),
+        Err(e) => Err(FileCause::of(e)),
+    }
 }
 
 // Makes all that was written last.
 fn sync_data(file: &Option<File>) -> Result<(), FileCause> {
-    match file {
-        Some(file) => file.sync_data().map_err(FileCause::of),
-        None => Err(FileCause::NotOpen),
+    let Some(file) = file else {
+        return Err(FileCause::NotOpen);
+    };
+    match file.sync_data() {
+        Ok(()) => Ok(()),
+        Err(e) => Err(FileCause::of(e)),
     }
 }
 
@@ -174,28 +201,40 @@ impl<R: Files<File = File> + Drop> Disk for FileDisk<R> {
     ghost seen_may_stay = { λ d told. absurd told };
 
     fn open(&mut self, name: &str) -> Result<(), DiskErr> {
-        let opened = open_file(&self.runtime, name);
-        self.file = Some(self.counted(opened)?);
-        Ok(())
+        match open_file(&self.runtime, name) {
+            Ok(file) => {
+                self.file = Some(file);
+                Ok(())
+            }
+            Err(cause) => Err(self.fail(cause)),
+        }
     }
 
     fn size(&mut self) -> Result<u64, DiskErr> {
-        let size = size_of(&self.file);
-        self.counted(size)
+        match size_of(&self.file) {
+            Ok(size) => Ok(size),
+            Err(cause) => Err(self.fail(cause)),
+        }
     }
 
     fn read(&mut self, at: u64, buf: &mut [u8]) -> Result<usize, DiskErr> {
-        let count = read_some(&self.file, at, buf);
-        self.counted(count)
+        match read_some(&self.file, at, buf) {
+            Ok(count) => Ok(count),
+            Err(cause) => Err(self.fail(cause)),
+        }
     }
 
     fn write_at(&mut self, at: u64, bytes: &[u8]) -> Result<(), DiskErr> {
-        let written = write_whole(&self.file, at, bytes);
-        self.counted(written)
+        match write_whole(&self.file, at, bytes) {
+            Ok(()) => Ok(()),
+            Err(cause) => Err(self.fail(cause)),
+        }
     }
 
     fn sync(&mut self) -> Result<(), DiskErr> {
-        let synced = sync_data(&self.file);
-        self.counted(synced)
+        match sync_data(&self.file) {
+            Ok(()) => Ok(()),
+            Err(cause) => Err(self.fail(cause)),
+        }
     }
 }
