@@ -73,7 +73,11 @@ impl<D: Disk> GateLog<D> {
     {
         let mut disk = disk;
         match write_first(&mut disk, header) {
-            Ok(()) => Ok(GateLog::ending_at(disk, HEADER_SIZE as u64)),
+            Ok(()) => Ok(GateLog {
+                disk,
+                end: HEADER_SIZE as u64,
+                is_over: false,
+            }),
             Err(e) => Err((e, disk)),
         }
     }

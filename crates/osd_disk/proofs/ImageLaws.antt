@@ -20,6 +20,6 @@ image_more first calls call left now stays leaves =
     last_left calls call first (λ d. d ≡ first) now (leaves_by call (all_done calls first) left now (λ d. left_after calls first (λ e. e ≡ first) d) stays leaves)
 
 -- a range that holds other bytes, as many as were written
-pub torn_filled : (at : ℕ) (bytes filled old new : List ℕ) → length filled ≡ length bytes → new ≡ overwritten old at filled → Torn at (length bytes) old new
-torn_filled at bytes filled old new same is =
-    subst (λ (n : ℕ). Torn at n old new) same (subst (λ (l : List ℕ). Torn at (length filled) old l) (sym is) (torn_whole at filled old))
+pub torn_filled : (at n : ℕ) (filled old new : List ℕ) → length filled ≡ n → new ≡ overwritten old at filled → Torn at n old new
+torn_filled at n filled old new same is =
+    subst (λ (k : ℕ). Torn at k old new) same (subst (λ (l : List ℕ). Torn at (length filled) old l) (sym is) (torn_whole at filled old))

@@ -18,6 +18,36 @@ pub done_last : (calls : List Call) (call : Call) (seen : List ℕ) → all_done
 done_last [] call seen = refl
 done_last (x ∷ calls) call seen = done_last calls call (done x seen)
 
+-- a call that writes nothing
+pub stays_done : (calls more : List Call) (call : Call) (seen first : List ℕ) → (call ≡ Idle) ⊎ (call ≡ Sync) → seen ≡ all_done calls first → more ≡ calls ++ call ∷ [] → seen ≡ all_done more first
+stays_done calls more call seen first (inl idle) was pushed =
+    was ∙ ap (λ (c : Call). done c (all_done calls first)) (sym idle) ∙ sym (done_last calls call first) ∙ ap (λ (cs : List Call). all_done cs first) (sym pushed)
+stays_done calls more call seen first (inr sync) was pushed =
+    was ∙ ap (λ (c : Call). done c (all_done calls first)) (sym sync) ∙ sym (done_last calls call first) ∙ ap (λ (cs : List Call). all_done cs first) (sym pushed)
+
+-- one that writes
+pub written_over : (calls more : List Call) (at : ℕ) (copy bytes seen now first : List ℕ) → copy ≡ bytes → seen ≡ all_done calls first
+    → more ≡ calls ++ Write at copy ∷ [] → now ≡ overwritten seen at bytes → now ≡ all_done more first
+written_over calls more at copy bytes seen now first same was pushed is =
+    is
+    ∙ ap (λ (l : List ℕ). overwritten l at bytes) was
+    ∙ ap (λ (l : List ℕ). overwritten (all_done calls first) at l) (sym same)
+    ∙ sym (done_last calls (Write at copy) first)
+    ∙ ap (λ (cs : List Call). all_done cs first) (sym pushed)
+
+-- a disk that is the old one, but for one call more
+pub did_more : (m : Medium) (call : Call) (first : List ℕ) (calls : List Call) (fails : List ℕ) (faults : ℕ)
+    → first ≡ m.first → calls ≡ m.calls ++ call ∷ [] → fails ≡ m.fails → faults ≡ m.faults
+    → Did call m (record { first = first; calls = calls; fails = fails; faults = faults })
+did_more m call first calls fails faults a b c d =
+    ap (λ (x : List ℕ). the_medium x calls fails faults) a
+    ∙ ap (λ (x : List Call). the_medium m.first x fails faults) b
+    ∙ ap (λ (x : List ℕ). the_medium m.first (m.calls ++ call ∷ []) x faults) c
+    ∙ ap (λ (x : ℕ). the_medium m.first (m.calls ++ call ∷ []) m.fails x) d
+  where
+    the_medium : List ℕ → List Call → List ℕ → ℕ → Medium
+    the_medium f cs ns n = record { first = f; calls = cs; fails = ns; faults = n }
+
 -- what a crash may leave after one more
 left_last : (calls : List Call) (call : Call) (seen : List ℕ) (before : Outcomes) (c : List ℕ) →
     left_after (calls ++ call ∷ []) seen before c → left_by call (all_done calls seen) (λ d. left_after calls seen before d) c
@@ -82,6 +112,7 @@ holds_whole at bytes old le =
     let none : at - length old ≡ 0 = omega (arith, le) in
     ap (λ (k : ℕ). (take at old ++ replicate k 0) ++ (bytes ++ drop (at + length bytes) old)) none
     ∙ ap (λ (l : List ℕ). l ++ (bytes ++ drop (at + length bytes) old)) (append-nil (take at old))
+    ∙ sym (append_assoc (take at old) bytes (drop (at + length bytes) old))
 
 -- ---- a call was done
 

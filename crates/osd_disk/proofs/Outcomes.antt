@@ -8,10 +8,8 @@ use Rattle.osd_disk.specs.declared.disk.DiskErr.{DiskErr}
 use Rattle.osd_disk.proofs.Media.{IsCalm, failed_is_calm, failed_follows, failed_torn, did_elapse, did_bytes, idle_narrows, sync_only, sync_narrows, write_follows, write_torn, write_holds}
 
 module _ {T : Type 0} (m n : Medium) where
-  abbrev Time : Type 0
-  Time = Elapses (length m.calls) (length n.calls) (might_hold m) (might_hold n) (may_hold n)
-
-  pub time_after : (call : Call) (r : Result T DiskErr) → OnOk r (Did call m n) → OnErr r (Failed m n) → Time
+  pub time_after : (call : Call) (r : Result T DiskErr) → OnOk r (Did call m n) → OnErr r (Failed m n)
+      → Elapses (length m.calls) (length n.calls) (might_hold m) (might_hold n) (may_hold n)
   time_after call (Ok x) did failed = did_elapse m n call did
   time_after call (Err e) did failed = (failed_is_calm m n failed).time
 

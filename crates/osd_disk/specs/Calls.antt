@@ -51,12 +51,13 @@ pub from_last_is_after : (calls : List Call) (seen : List ℕ) (before : List �
 from_last_is_after [] seen before c left = left
 from_last_is_after (call ∷ calls) seen before c left = from_last_is_after calls (done call seen) (left_by call seen before) c left
 
-seen_stays : (call : Call) (seen : List ℕ) (before : List ℕ → Type 0) → before seen → left_by call seen before (done call seen)
+-- a crash may leave what is seen after a call
+pub seen_stays : (call : Call) (seen : List ℕ) (before : List ℕ → Type 0) → before seen → left_by call seen before (done call seen)
 seen_stays (Write at bytes) seen before stays = inl (refl, stays)
 seen_stays Sync seen before stays = refl
 seen_stays Idle seen before stays = stays
 
--- a crash may leave what is seen
+-- and after these calls
 pub all_seen_stays : (calls : List Call) (seen : List ℕ) (before : List ℕ → Type 0) →
     before seen → left_after calls seen before (all_done calls seen)
 all_seen_stays [] seen before stays = stays

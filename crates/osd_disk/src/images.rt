@@ -1,11 +1,27 @@
 // What a crash leaves of a disk in memory.
 ghost use Rattle.std.specs.Prelude.{◌≡◌, IfOk, OnOk};
 ghost use Rattle.osd_disk.specs.Calls.{done, left_after};
+ghost use Rattle.osd_disk.specs.Crashes.{Torn};
 ghost use Rattle.osd_disk.specs.Images.{Leaves};
 
 use crate::calls::{Call, write_over};
 use osd_lists::{Bytes, Memory};
 use std::alloc::Global;
+
+// Writes one byte again and again from a place on, so many times.
+fn fill_over(
+    alloc: Global,
+    bytes: &mut Bytes,
+    at: u64,
+    len: usize,
+    fill: u8,
+) -> Result<(), Memory>
+    ensures { OnOk result (Torn at len bytes.old bytes.new) }
+{
+    let filled = vec![in alloc; fill; len]?;
+    write_over(bytes, at, &filled)?;
+    Ok(())
+}
 
 // Does a call once more: on the bytes as they were seen, and on those that a crash leaves, where it
 // puts `fill` into each byte that the call wrote.
@@ -22,8 +38,7 @@ fn do_again(
     match call {
         Call::Write { at, bytes } => {
             write_over(seen, *at, bytes.as_slice())?;
-            let filled = vec![in alloc; fill; bytes.len()]?;
-            write_over(left, *at, &filled)
+            fill_over(alloc, left, *at, bytes.len(), fill)
         }
         Call::Sync => {
             *left = Bytes::copied(alloc, seen.as_slice())?;

@@ -1,4 +1,5 @@
-ghost use Rattle.std.specs.Prelude.{◌≡◌, ◌⊎◌, ◌<◌, ◌≤◌, ◌+◌, ◌^◌, ◌↔◌, ◌∷◌, [], ◌++◌, List, ℕ, length, take, drop, min, Contains, IsTrue, OnOk, OnErr, IfOk};
+ghost use Rattle.std.specs.Prelude.{◌≡◌, ◌⊎◌, ◌<◌, ◌≤◌, ◌+◌, ◌^◌, ◌↔◌, ◌∷◌, [], ◌++◌, List, ℕ, length, take, drop, min, Contains, IsTrue, Some, OnOk, OnErr, IfOk};
+ghost use Rattle.osd_disk.specs.Medium.{first_or};
 ghost use Rattle.osd_disk.specs.Crashes.{Elapses, Narrows};
 ghost use Rattle.osd_disk.specs.Errors.{Gives, HasDiskCause};
 
@@ -134,16 +135,6 @@ impl MemDisk {
         Err(DiskErr::Fault)
     }
 
-    // Keeps the first bytes, before others are written over them.
-    fn keep_first(&mut self) -> Result<(), Memory>
-        ensures { self.new ≡ self.old }
-    {
-        if self.first.is_none() {
-            self.first = Some(Bytes::copied(self.alloc, self.bytes.as_slice())?);
-        }
-        Ok(())
-    }
-
     // A call that writes bytes from a place on.
     fn write(&mut self, at: u64, bytes: &[u8]) -> Result<(), DiskErr>
         ensures ok { OnOk result (Did (Write at bytes.now) self.old self.new) }
@@ -154,7 +145,7 @@ impl MemDisk {
         if is_listed(self.fails.as_slice(), self.calls.len()) {
             return self.fail();
         }
-        self.keep_first()?;
+        keep_first(self.alloc, &mut self.first, &self.bytes)?;
         let place = self.calls.len();
         let copy = Bytes::copied(self.alloc, bytes)?;
         self.calls.push(Call::Write { at, bytes: copy })?;
@@ -212,6 +203,20 @@ impl Disk for MemDisk {
 
     fn sync(&mut self) -> Result<(), DiskErr> {
         self.note(Call::Sync)
+    }
+}
+
+// Keeps the first bytes, before others are written over them.
+fn keep_first(alloc: Global, first: &mut Option<Bytes>, bytes: &Bytes) -> Result<(), Memory>
+    ensures kept { OnOk result (first.new ≡ Some (first_or bytes.now first.old)) }
+    ensures same { first_or bytes.now first.new ≡ first_or bytes.now first.old }
+{
+    match first {
+        Some(_) => Ok(()),
+        None => {
+            *first = Some(Bytes::copied(alloc, bytes.as_slice())?);
+            Ok(())
+        }
     }
 }
 
