@@ -75,19 +75,23 @@ record_is_some s y rest gate is e none = by_cause none
     by_cause (inr (inr (inl great))) = omega (arith, great, behind, is.fits)
     by_cause (inr (inr (inr cut))) = omega (arith, cut, behind, long)
 
--- the bytes behind the records up to a gate, where a log goes on
-first_gate : (ss : List Gated) (y : List ℕ) → (g : ℕ) × (z : List ℕ) × (records_of ss ++ 0 ∷ y ≡ g ∷ z)
-first_gate [] y = (0, y, refl)
-first_gate (s ∷ ss) y = (s.0, _, refl)
+-- behind records and a gate the bytes begin with a gate
+first_gate : (ss : List Gated) (gate : ℕ) (y : List ℕ) → (g : ℕ) × (z : List ℕ) × (records_of ss ++ gate ∷ y ≡ g ∷ z)
+first_gate [] gate y = (gate, y, refl)
+first_gate (s ∷ ss) gate y = (s.0, _, refl)
+
+-- behind one gate stands no record, or one
+no_record_there : (s : Gated) (ss : List Gated) (gate next : ℕ) (x y : List ℕ) → IsRecord s → IsNoRecord x → gate ∷ x ≡ records_of (s ∷ ss) ++ next ∷ y → ⊥
+no_record_there s ss gate next x y is none e =
+    let more = first_gate ss next y in
+    let whole : x ≡ to_be_bytes w32 (length s.1) ++ (s.1 ++ more.0 ∷ more.1) =
+    tail_same gate s.0 _ _ e ∙ apart s ss (next ∷ y) ∙ ap (λ (l : List ℕ). to_be_bytes w32 (length s.1) ++ (s.1 ++ l)) more.2 in
+    record_is_some s more.1 x more.0 is whole none
 
 none_there : (rs ss : List Gated) (gate : ℕ) (x y : List ℕ) → AreRecords rs → AreRecords ss → 0 < gate → IsNoRecord x → records_of rs ++ gate ∷ x ≡ records_of ss ++ 0 ∷ y → ⊥
 none_there [] [] gate x y are others lo none e = omega (arith, lo, head_same gate 0 _ _ e)
 none_there (r ∷ rs) [] gate x y are others lo none e = omega (arith, are.0.open_gate, head_same r.0 0 _ _ e)
-none_there [] (s ∷ ss) gate x y are others lo none e =
-    let next = first_gate ss y in
-    let is : x ≡ to_be_bytes w32 (length s.1) ++ (s.1 ++ next.0 ∷ next.1) =
-    tail_same gate s.0 _ _ e ∙ apart s ss (0 ∷ y) ∙ ap (λ (l : List ℕ). to_be_bytes w32 (length s.1) ++ (s.1 ++ l)) next.2 in
-    record_is_some s next.1 x next.0 others.0 is none
+none_there [] (s ∷ ss) gate x y are others lo none e = no_record_there s ss gate 0 x y others.0 none e
 none_there (r ∷ rs) (s ∷ ss) gate x y are others lo none e =
     let same = same_record r s (records_of rs ++ gate ∷ x) (records_of ss ++ 0 ∷ y) are.0 others.0 (sym (apart r rs (gate ∷ x)) ∙ tail_same r.0 s.0 _ _ e ∙ apart s ss (0 ∷ y)) in
     none_there rs ss gate x y are.1 others.1 lo none same.1
@@ -104,6 +108,44 @@ broken_is_none header bodies c at (inr cut) is =
     cut.contents ∙ ap (λ (l : List ℕ). l ++ cut.gate ∷ cut.rest) g.front_is ∙ append_assoc cut.header (records_of g.records) (cut.gate ∷ cut.rest) in
     let parts = one_split cut.header header _ _ (g.whole ∙ sym f.whole) (sym two ∙ one) in
     none_there g.records f.records cut.gate cut.rest is.rest g.are_records f.are_records cut.open_gate cut.no_record parts.1
+
+-- ---- the place where contents are broken
+
+length_records : (r : Gated) (rs : List Gated) → length (records_of (r ∷ rs)) ≡ 5 + length r.1 + length (records_of rs)
+length_records r rs =
+    let four : length (to_be_bytes w32 (length r.1)) ≡ 4 = refl in
+    omega (arith, four, length-append (to_be_bytes w32 (length r.1)) (r.1 ++ records_of rs), length-append r.1 (records_of rs))
+
+one_place : (rs ss : List Gated) (g h : ℕ) (x y : List ℕ) → AreRecords rs → AreRecords ss → IsNoRecord x → IsNoRecord y → records_of rs ++ g ∷ x ≡ records_of ss ++ h ∷ y
+    → length (records_of rs) ≡ length (records_of ss)
+one_place [] [] g h x y are others no none e = refl
+one_place [] (s ∷ ss) g h x y are others no none e = absurd (no_record_there s ss g h x y others.0 no e)
+one_place (r ∷ rs) [] g h x y are others no none e = absurd (no_record_there r rs h g y x are.0 none (sym e))
+one_place (r ∷ rs) (s ∷ ss) g h x y are others no none e =
+    let same = same_record r s (records_of rs ++ g ∷ x) (records_of ss ++ h ∷ y) are.0 others.0 (sym (apart r rs (g ∷ x)) ∙ tail_same r.0 s.0 _ _ e ∙ apart s ss (h ∷ y)) in
+    omega (arith, length_records r rs, length_records s ss, ap length same.0, one_place rs ss g h x y are.1 others.1 no none same.1)
+
+behind_header : (c : List ℕ) (at : ℕ) → HasNoRecord c at → length c ≤ HEADER_SIZE → ⊥
+behind_header c at cut short =
+    let f = cut.is_front in
+    omega (arith, short, ap length cut.contents, ap length f.front_is, f.whole, length-append cut.front (cut.gate ∷ cut.rest), length-append cut.header (records_of f.records))
+
+pub broken_at_one_place : (c : List ℕ) (at other : ℕ) → IsBrokenAt c at → IsBrokenAt c other → at ≡ other
+broken_at_one_place c at other (inl short) (inl also) = short.1 ∙ sym also.1
+broken_at_one_place c at other (inl short) (inr cut) = absurd (behind_header c other cut short.0)
+broken_at_one_place c at other (inr cut) (inl short) = absurd (behind_header c at cut short.0)
+broken_at_one_place c at other (inr cut) (inr also) =
+    let f = cut.is_front in
+    let g = also.is_front in
+    let one : c ≡ cut.header ++ (records_of f.records ++ cut.gate ∷ cut.rest) =
+    cut.contents ∙ ap (λ (l : List ℕ). l ++ cut.gate ∷ cut.rest) f.front_is ∙ append_assoc cut.header (records_of f.records) (cut.gate ∷ cut.rest) in
+    let two : c ≡ also.header ++ (records_of g.records ++ also.gate ∷ also.rest) =
+    also.contents ∙ ap (λ (l : List ℕ). l ++ also.gate ∷ also.rest) g.front_is ∙ append_assoc also.header (records_of g.records) (also.gate ∷ also.rest) in
+    let parts = one_split cut.header also.header _ _ (f.whole ∙ sym g.whole) (sym one ∙ two) in
+    let same = one_place f.records g.records cut.gate also.gate cut.rest also.rest f.are_records g.are_records cut.no_record also.no_record parts.1 in
+    omega (arith, same, cut.place, also.place, ap length f.front_is, ap length g.front_is, f.whole, g.whole, length-append cut.header (records_of f.records), length-append also.header (records_of g.records))
+
+-- ---- how a log begins
 
 -- records before a gate, whatever it is, are the first ones of the log that stands there
 starts : (rs ss : List Gated) (gate : ℕ) (x y : List ℕ) → AreRecords rs → AreRecords ss → records_of rs ++ gate ∷ x ≡ records_of ss ++ 0 ∷ y → (more : List (List ℕ)) × (bodies_of ss ≡ bodies_of rs ++ more)

@@ -13,3 +13,7 @@ ContentsAreOneLog =
 abbrev pub BrokenIsNoLog : Type 0
 BrokenIsNoLog =
     (header : List ℕ) (bodies : List (List ℕ)) (c : List ℕ) (at : ℕ) → IsBrokenAt c at → IsLog header bodies c → ⊥
+
+-- contents are refused at one place
+abbrev pub BrokenAtOnePlace : Type 0
+BrokenAtOnePlace = (c : List ℕ) (at other : ℕ) → IsBrokenAt c at → IsBrokenAt c other → at ≡ other

@@ -1,12 +1,12 @@
 -- An image of a crash after one call more.
-use Rattle.std.proofs.Common.{◌≡◌, inl, inr, ℕ, ◌+◌, ◌<◌, List, [], ◌∷◌, ◌++◌, length, take, get_or, sym, ◌∙◌, ap, subst}
+use Rattle.std.proofs.Common.{◌≡◌, inr, ℕ, List, [], ◌∷◌, ◌++◌, length, sym, subst}
 use Rattle.osd_lists.specs.Overwrite.{overwritten}
 use Rattle.osd_disk.specs.Calls.{all_done, left_by, left_after}
 use Rattle.osd_disk.specs.Crashes.{Torn}
 use Rattle.osd_disk.specs.Images.{Leaves}
 use Rattle.osd_disk.specs.declared.calls.Call.{Call}
 use Rattle.osd_disk.specs.declared.calls.Call.TheVariants.{Write, Sync, Idle}
-use Rattle.osd_disk.proofs.Media.{last_left, done_last, torn_whole}
+use Rattle.osd_disk.proofs.Media.{last_left, torn_whole}
 
 leaves_by : (call : Call) (seen left now : List ℕ) (before : List ℕ → Type 0) → before left → Leaves call seen left now → left_by call seen before now
 leaves_by (Write at bytes) seen left now before stays torn = inr (left, stays, torn)

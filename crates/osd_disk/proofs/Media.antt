@@ -1,9 +1,9 @@
 -- One call more of a disk in memory.
-use Rattle.std.proofs.Common.{◌≡◌, ◌⊎◌, inl, inr, ⊎_elim, ℕ, zero, suc, ◌+◌, ◌-◌, ◌≤◌, min, max, List, [], ◌∷◌, ◌++◌, length, take, drop, replicate, refl, sym, ◌∙◌, ap, subst, arith, append_assoc, length-append, take-append-drop}
+use Rattle.std.proofs.Common.{◌≡◌, ◌⊎◌, inl, inr, ⊎_elim, ℕ, zero, suc, ◌+◌, ◌-◌, ◌≤◌, min, List, [], ◌∷◌, ◌++◌, length, take, drop, replicate, refl, sym, ◌∙◌, ap, subst, arith, append_assoc, length-append, take-append-drop}
 use Rattle.std.proofs.lemmas.List.{append-nil, take_at, drop_at, length-take, length-replicate}
 use Rattle.osd_lists.specs.Overwrite.{overwritten}
 use Rattle.osd_lists.proofs.Overwritten.{length-overwritten}
-use Rattle.osd_disk.specs.Calls.{done, all_done, left_by, left_after, left_from, seen_stays, all_seen_stays}
+use Rattle.osd_disk.specs.Calls.{done, all_done, left_by, left_after, left_from, all_seen_stays}
 use Rattle.osd_disk.specs.Crashes.{Holds, Torn, Follows, Narrows, Only, Elapses}
 use Rattle.osd_disk.specs.Medium.{Medium, bytes_of, may_hold, might_hold, Did, Failed}
 use Rattle.osd_disk.specs.declared.calls.Call.{Call}

@@ -1,11 +1,11 @@
 -- What is known after a call of a disk in memory that did what it should, or failed.
-use Rattle.std.proofs.Common.{◌≡◌, ℕ, ◌≤◌, List, length, Result, Ok, Err, OnOk, OnErr, IsTrue, Bool, true}
+use Rattle.std.proofs.Common.{◌≡◌, ℕ, ◌≤◌, List, length, Result, Ok, Err, OnOk, OnErr, IsTrue, true}
 use Rattle.osd_disk.specs.Crashes.{Holds, Torn, Follows, Narrows, Only, Elapses}
 use Rattle.osd_disk.specs.Medium.{Medium, bytes_of, may_hold, might_hold, Did, Failed}
 use Rattle.osd_disk.specs.declared.calls.Call.{Call}
 use Rattle.osd_disk.specs.declared.calls.Call.TheVariants.{Write, Sync, Idle}
 use Rattle.osd_disk.specs.declared.disk.DiskErr.{DiskErr}
-use Rattle.osd_disk.proofs.Media.{IsCalm, failed_is_calm, failed_follows, failed_torn, did_elapse, did_bytes, idle_narrows, sync_only, sync_narrows, write_follows, write_torn, write_holds}
+use Rattle.osd_disk.proofs.Media.{failed_is_calm, failed_follows, failed_torn, did_elapse, did_bytes, idle_narrows, sync_only, sync_narrows, write_follows, write_torn, write_holds}
 
 module _ {T : Type 0} (m n : Medium) where
   pub time_after : (call : Call) (r : Result T DiskErr) → OnOk r (Did call m n) → OnErr r (Failed m n)

@@ -9,13 +9,7 @@ use osd_lists::{Bytes, Memory};
 use std::alloc::Global;
 
 // Writes one byte again and again from a place on, so many times.
-fn fill_over(
-    alloc: Global,
-    bytes: &mut Bytes,
-    at: u64,
-    len: usize,
-    fill: u8,
-) -> Result<(), Memory>
+fn fill_over(alloc: Global, bytes: &mut Bytes, at: u64, len: usize, fill: u8) -> Result<(), Memory>
     ensures { OnOk result (Torn at len bytes.old bytes.new) }
 {
     let filled = vec![in alloc; fill; len]?;

@@ -1,4 +1,4 @@
-use Rattle.std.proofs.Common.{◌≡◌, ◌≤◌, ◌+◌, ◌-◌, IsTrue, length, take, drop}
+use Rattle.std.proofs.Common.{◌≡◌, ◌≤◌, ◌-◌, IsTrue, length, take, drop}
 use Rattle.osd_disk.specs.Crashes.{OnlyRead}
 use Rattle.osd_disk.proofs.whole.read_whole.Given as goal
 
