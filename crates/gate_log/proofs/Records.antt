@@ -1,6 +1,15 @@
 -- What is read behind a gate.
-use Rattle.std.proofs.Common.{◌≡◌, ℕ, ◌+◌, List, [], ◌∷◌, ◌++◌, length, take, drop, get_or, sym, ◌∙◌, ap, arith, append_assoc, length-append, take-append-drop}
-use Rattle.std.proofs.lemmas.List.{drop_at, drop_more, drop_all}
+use Rattle.std.proofs.Common.{◌≡◌, ◌⊎◌, inl, inr, ℕ, ◌+◌, ◌<◌, ◌≤◌, ◌^◌, Bool, List, [], ◌∷◌, ◌++◌, length, take, drop, get_or, slice_get, Some, IsTrue, refl, sym, ◌∙◌, ap, subst, arith, append_assoc, length-append, take-append-drop}
+use Rattle.std.proofs.lemmas.List.{drop_at, drop_more, drop_all, drop-drop, length-drop, take_all}
+use Rattle.std.proofs.lemmas.Nat.{be_bytes_4, from_be_bytes-to_be_bytes_4}
+use Rattle.std.proofs.lemmas.Option.{slice_get-get_or}
+use Rattle.std.specs.Int.{w32, to_be_bytes, from_be_bytes}
+use Rattle.osd_lists.specs.Blocks.{IsBytes}
+use Rattle.gate_log.specs.declared.entry.TheConstants.{MAX_BODY}
+use Rattle.gate_log.specs.declared.errors.LogErr.{LogErr}
+use Rattle.gate_log.specs.declared.errors.LogErr.TheVariants.{NotEmpty, NotALog, DiskFault, Memory}
+use Rattle.gate_log.specs.Broken.{IsNoRecord, length_behind}
+use Rattle.gate_log.specs.Errors.{NotALogSays}
 
 -- behind the gate at a place stand the bytes that follow it
 pub behind_gate : (front rest c : List ℕ) (gate at : ℕ) → c ≡ front ++ gate ∷ rest → at ≡ length front → drop (at + 1) c ≡ rest
@@ -23,11 +32,87 @@ last_apart block n next long is =
     ∙ ap (λ (l : List ℕ). take n block ++ l)
     (drop_more block n 0 (omega (arith, long)) ∙ ap (λ (l : List ℕ). get_or block n 0 ∷ l) (drop_all (n + 1) block (omega (arith, long))) ∙ ap (λ (g : ℕ). g ∷ []) (sym is))
 
+-- a read that filled its buffer
+pub whole_read : (buf bytes : List ℕ) (n k : ℕ) → length buf ≡ k → k ≤ n → n ≤ length buf → take n buf ≡ take n bytes → buf ≡ take k bytes
+whole_read buf bytes n k long all within front =
+    let same : n ≡ k = omega (arith, long, all, within) in
+    sym (take_all k buf (omega (arith, long))) ∙ subst (λ (m : ℕ). take m buf ≡ take m bytes) same front
+
 -- a block that begins the bytes, and the byte behind it
-pub header_parts : (c header block : List ℕ) (n gate : ℕ) → header ≡ take n c → length block ≡ 1 → block ≡ take 1 (drop n c) → gate ≡ get_or block 0 0
-    → c ≡ header ++ gate ∷ drop 1 (drop n c)
-header_parts c header block n gate first one second is =
+pub header_parts : (c header : List ℕ) (n gate : ℕ) → header ≡ take n c → gate ∷ [] ≡ take 1 (drop n c) → c ≡ header ++ gate ∷ drop 1 (drop n c)
+header_parts c header n gate first second =
     sym (take-append-drop n c)
     ∙ ap (λ (l : List ℕ). l ++ drop n c) (sym first)
-    ∙ ap (λ (l : List ℕ). header ++ l)
-    (sym (take-append-drop 1 (drop n c)) ∙ ap (λ (l : List ℕ). l ++ drop 1 (drop n c)) (sym second ∙ last_apart block 0 gate (omega (arith, one)) is))
+    ∙ ap (λ (l : List ℕ). header ++ l) (sym (take-append-drop 1 (drop n c)) ∙ ap (λ (l : List ℕ). l ++ drop 1 (drop n c)) (sym second))
+
+-- one byte that was read
+pub one_byte : (buf bytes : List ℕ) (n byte : ℕ) → length buf ≡ 1 → 1 ≤ n → n ≤ length buf → take n buf ≡ take n bytes → byte ≡ get_or buf 0 0 → byte ∷ [] ≡ take 1 bytes
+one_byte buf bytes n byte long all within front is = sym (last_apart buf 0 byte (omega (arith, long)) is) ∙ whole_read buf bytes n 1 long all within front
+
+-- ---- a record
+
+-- a number that was read
+pub number_read : (buf bytes : List ℕ) (n : ℕ) → IsBytes buf → length buf ≡ 4 → 4 ≤ n → n ≤ length buf → take n buf ≡ take n bytes → to_be_bytes w32 (from_be_bytes w32 buf) ≡ take 4 bytes
+number_read buf bytes n fits long all within front = be_bytes_4 buf _ long fits refl ∙ whole_read buf bytes n 4 long all within front
+
+-- a body that was read, with the gate behind it
+pub body_parts : (buf bytes body : List ℕ) (n len next : ℕ) → length buf ≡ len + 1 → len < n → n ≤ length buf → take n buf ≡ take n bytes → body ≡ take len buf → slice_get buf len ≡ Some next
+    → take (len + 1) bytes ≡ body ++ next ∷ []
+body_parts buf bytes body n len next long all within front is gate =
+    let there : Some next ≡ Some (get_or buf len 0) = sym gate ∙ slice_get-get_or buf len 0 (omega (arith, long)) in
+    sym (whole_read buf bytes n (len + 1) long (omega (arith, all)) within front)
+    ∙ last_apart buf len next long (cc there)
+    ∙ ap (λ (l : List ℕ). l ++ next ∷ []) (sym is)
+
+-- the number, the body and the gate behind it, where they were read one after another
+pub record_parts : (c body : List ℕ) (next at len : ℕ) → to_be_bytes w32 len ≡ take 4 (drop (at + 1) c) → take (len + 1) (drop (at + 5) c) ≡ body ++ next ∷ [] → length body ≡ len
+    → (rest : List ℕ) × (drop (at + 1) c ≡ to_be_bytes w32 (length body) ++ (body ++ next ∷ rest))
+record_parts c body next at len number block size =
+    let bytes = drop (at + 1) c in
+    let five : at + 1 + 4 ≡ at + 5 = omega arith in
+    let there : drop 4 (drop (at + 1) c) ≡ drop (at + 5) c = drop-drop 4 (at + 1) c ∙ ap (λ (k : ℕ). drop k c) five in (
+      drop (len + 1) (drop 4 bytes),
+      three_parts bytes (to_be_bytes w32 len) (take (len + 1) (drop (at + 5) c)) body next len number (ap (λ (l : List ℕ). take (len + 1) l) (sym there)) block
+          ∙ ap (λ (k : ℕ). to_be_bytes w32 k ++ (body ++ next ∷ drop (len + 1) (drop 4 bytes))) (sym size),
+    )
+
+-- ---- no record
+
+number_is : (bytes : List ℕ) (len : ℕ) → len < 2 ^ 32 → to_be_bytes w32 len ≡ take 4 bytes → length_behind bytes ≡ len
+number_is bytes len low number = ap (λ (l : List ℕ). from_be_bytes w32 l) (sym number) ∙ from_be_bytes-to_be_bytes_4 len low
+
+module _ (told : Bool) (c : List ℕ) (at size : ℕ) where
+  abbrev pub NoRecordThere : ℕ → Type 0
+  NoRecordThere place = (place ≡ at) × (IsTrue told → size ≡ length c → IsNoRecord (drop (at + 1) c))
+
+  -- the bytes end before the length does
+  pub no_number : (e : LogErr) → NotALogSays (λ place. (place ≡ at) × (IsTrue told → length c < at + 5)) e → NotALogSays NoRecordThere e
+  no_number (NotEmpty n) says = says
+  no_number (NotALog place) says = (says.0, λ t sized. let short = says.1 t in inl (omega (arith, short, length-drop (at + 1) c)))
+  no_number DiskFault says = says
+  no_number Memory says = says
+
+  module _ (len : ℕ) (low : len < 2 ^ 32) (number : IsTrue told → to_be_bytes w32 len ≡ take 4 (drop (at + 1) c)) where
+    -- no record has this length
+    pub no_length : (e : LogErr) → (e ≡ NotALog at) × ((len ≡ 0) ⊎ (MAX_BODY < len) ⊎ (size < at + 5 + (len + 1))) → NotALogSays NoRecordThere e
+    no_length e refused = subst (λ (x : LogErr). NotALogSays NoRecordThere x) (sym refused.0) (refl, λ t sized. by_cause sized (number_is (drop (at + 1) c) len low (number t)) refused.1)
+      where
+        by_cause : size ≡ length c → length_behind (drop (at + 1) c) ≡ len → (len ≡ 0) ⊎ (MAX_BODY < len) ⊎ (size < at + 5 + (len + 1)) → IsNoRecord (drop (at + 1) c)
+        by_cause sized is (inl none) = inr (inl (is ∙ none))
+        by_cause sized is (inr (inl great)) = inr (inr (inl (omega (arith, great, is))))
+        by_cause sized is (inr (inr cut)) = inr (inr (inr (omega (arith, cut, is, sized, length-drop (at + 1) c))))
+
+    -- the bytes end before the next gate
+    pub no_body : (e : LogErr) → NotALogSays (λ place. (place ≡ at) × (IsTrue told → length c < at + 5 + (len + 1))) e → NotALogSays NoRecordThere e
+    no_body (NotEmpty n) says = says
+    no_body (NotALog place) says =
+        (says.0, λ t sized. let short = says.1 t in let is = number_is (drop (at + 1) c) len low (number t) in inr (inr (inr (omega (arith, short, is, length-drop (at + 1) c)))))
+    no_body DiskFault says = says
+    no_body Memory says = says
+
+-- the same of a disk that was only read meanwhile
+pub cut_same : (told now : Bool) (bytes seen : List ℕ) (at len : ℕ) (e : LogErr) → now ≡ told → seen ≡ bytes
+    → NotALogSays (λ place. (place ≡ at) × (IsTrue now → length seen < at + 5 + (len + 1))) e → NotALogSays (λ place. (place ≡ at) × (IsTrue told → length bytes < at + 5 + (len + 1))) e
+cut_same told now bytes seen at len e same is says =
+    subst (λ (b : Bool). NotALogSays (λ place. (place ≡ at) × (IsTrue b → length bytes < at + 5 + (len + 1))) e) same
+    (subst (λ (l : List ℕ). NotALogSays (λ place. (place ≡ at) × (IsTrue now → length l < at + 5 + (len + 1))) e) is says)

@@ -25,10 +25,14 @@ fn read_bodies<D: Disk>(alloc: Global, reader: &mut LogReader<D>) -> Result<Byte
     ensures cause { HasLogCause (D.faults (read_disk reader.old)) (D.faults (read_disk reader.new)) result }
 {
     let mut bodies = ByteLists::new(alloc);
-    while let Some(body) = reader.next(alloc)? {
+    'records: loop {
+        let body = match reader.next(alloc) {
+            Ok(Some(body)) => body,
+            Ok(None) => return Ok(bodies),
+            Err(e) => return Err(e),
+        };
         bodies.push(body)?;
     }
-    Ok(bodies)
 }
 
 impl<D: Disk> GateLog<D> {

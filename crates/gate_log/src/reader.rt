@@ -104,7 +104,10 @@ impl<D: Disk> LogReader<D> {
         if self.gate == 0 {
             return Ok(None);
         }
-        let record = read_record(alloc, &mut self.disk, self.at, self.size)?;
+        let record = match read_record(alloc, &mut self.disk, self.at, self.size) {
+            Ok(record) => record,
+            Err(e) => return Err(e),
+        };
         self.at += 5 + record.body.len() as u64;
         self.gate = record.next_gate;
         Ok(Some(record.body))

@@ -1,9 +1,10 @@
 // Reads and writes of a log's parts on its disk.
-ghost use Rattle.std.specs.Prelude.{◌≡◌, ◌<◌, ◌≤◌, ◌+◌, ◌^◌, ◌⊎◌, ◌∷◌, [], ◌++◌, List, ℕ, IsTrue, take, drop, length, None, OnOk, IfOk, IfErr, IfSome};
+ghost use Rattle.std.specs.Prelude.{◌≡◌, ◌<◌, ◌≤◌, ◌+◌, ◌^◌, ◌⊎◌, ◌∷◌, [], ◌++◌, List, ℕ, IsTrue, take, drop, length, OnOk, IfOk, IfErr};
 ghost use Rattle.std.specs.Int.{w32, to_be_bytes};
 ghost use Rattle.osd_disk.specs.Crashes.{Only, OnlyRead};
 ghost use Rattle.gate_log.specs.Broken.{IsNoRecord};
-ghost use Rattle.gate_log.specs.Errors.{HasLogCause, IsOfDisk, NotALogSays, NotEmptySays};
+ghost use Rattle.gate_log.specs.Errors.{HasLogCause, NotALogSays, NotEmptySays};
+ghost use Rattle.gate_log.specs.declared.errors.LogErr.TheVariants.{NotALog};
 ghost use Rattle.gate_log.specs.declared.entry.TheConstants.{MAX_BODY};
 ghost use Rattle.gate_log.specs.declared.header.TheConstants.{HEADER_SIZE};
 
@@ -33,6 +34,7 @@ pub struct Record {
 pub fn write_first<D: Disk>(disk: &mut D, header: &[u8; HEADER_SIZE]) -> Result<(), LogErr>
     ensures refused { IfErr result (λ e. NotEmptySays (λ size. IsTrue (D.tells disk.old) → (size ≡ length (D.seen disk.old)) × (0 < size)) e) }
     ensures tells { OnOk result (D.tells disk.new ≡ D.tells disk.old) }
+    ensures whole { OnOk result (length header.now ≡ HEADER_SIZE) }
     ensures empty { OnOk result (IsTrue (D.tells disk.old) → D.seen disk.old ≡ []) }
     ensures bytes { OnOk result (IsTrue (D.tells disk.old) → D.seen disk.new ≡ header.now ++ 0 ∷ []) }
     ensures durable { OnOk result (IsTrue (D.tells disk.old) → Only (D.seen disk.new) (D.may_leave disk.new)) }
@@ -48,88 +50,146 @@ pub fn write_first<D: Disk>(disk: &mut D, header: &[u8; HEADER_SIZE]) -> Result<
     Ok(disk.sync()?)
 }
 
+// Syncs a disk, so that a crash leaves what is read then, and asks for its size.
+fn sized_log<D: Disk>(disk: &mut D) -> Result<u64, LogErr>
+    ensures durable { IfOk result (λ _. IsTrue (D.tells disk.old) → Only (D.seen disk.new) (D.may_leave disk.new)) }
+    ensures size { IfOk result (λ size. (HEADER_SIZE < size) × (size < 2 ^ 63)) }
+    ensures sized { IfOk result (λ size. IsTrue (D.tells disk.old) → size ≡ length (D.seen disk.old)) }
+    ensures refused { IfErr result (λ e. NotALogSays (λ at. (at ≡ HEADER_SIZE)
+        × (IsTrue (D.tells disk.old) → length (D.seen disk.old) ≤ HEADER_SIZE)) e) }
+    ensures disk { OnlyRead D.tells D.seen D.may_leave D.moment D.left_since disk.old disk.new }
+    ensures cause { HasLogCause (D.faults disk.old) (D.faults disk.new) result }
+{
+    disk.sync()?;
+    let size = disk.size()?;
+    if size <= HEADER_SIZE as u64 {
+        return Err(LogErr::NotALog {
+            at: HEADER_SIZE as u64,
+        });
+    }
+    Ok(size)
+}
+
+// Reads the header of a log.
+fn read_header<D: Disk>(disk: &mut D) -> Result<Header, LogErr>
+    ensures bytes { IfOk result (λ header. IsTrue (D.tells disk.old) → header.bytes ≡ take HEADER_SIZE (D.seen disk.old)) }
+    ensures whole { IfOk result (λ header. length header.bytes ≡ HEADER_SIZE) }
+    ensures refused { IfErr result (λ e. NotALogSays (λ at. (at ≡ HEADER_SIZE)
+        × (IsTrue (D.tells disk.old) → length (D.seen disk.old) ≤ HEADER_SIZE)) e) }
+    ensures disk { OnlyRead D.tells D.seen D.may_leave D.moment D.left_since disk.old disk.new }
+    ensures cause { HasLogCause (D.faults disk.old) (D.faults disk.new) result }
+{
+    let mut bytes = [0; HEADER_SIZE];
+    let count = read_whole(disk, 0, &mut bytes)?;
+    if count < HEADER_SIZE {
+        return Err(LogErr::NotALog {
+            at: HEADER_SIZE as u64,
+        });
+    }
+    Ok(Header { bytes })
+}
+
+// Reads the first gate of a log.
+fn read_gate<D: Disk>(disk: &mut D) -> Result<u8, LogErr>
+    ensures byte { IfOk result (λ gate. IsTrue (D.tells disk.old) → gate ∷ [] ≡ take 1 (drop HEADER_SIZE (D.seen disk.old))) }
+    ensures refused { IfErr result (λ e. NotALogSays (λ at. (at ≡ HEADER_SIZE)
+        × (IsTrue (D.tells disk.old) → length (D.seen disk.old) ≤ HEADER_SIZE)) e) }
+    ensures disk { OnlyRead D.tells D.seen D.may_leave D.moment D.left_since disk.old disk.new }
+    ensures cause { HasLogCause (D.faults disk.old) (D.faults disk.new) result }
+{
+    let mut gate = [0; 1];
+    let count = read_whole(disk, HEADER_SIZE as u64, &mut gate)?;
+    if count < 1 {
+        return Err(LogErr::NotALog {
+            at: HEADER_SIZE as u64,
+        });
+    }
+    Ok(gate[0])
+}
+
 /// Syncs a disk, and reads its header and its first gate.
 pub fn read_first<D: Disk>(disk: &mut D) -> Result<First, LogErr>
     ensures bytes { IfOk result (λ first. IsTrue (D.tells disk.old)
         → (rest : List ℕ) × (D.seen disk.old ≡ first.header.bytes ++ first.gate ∷ rest)) }
+    ensures whole { IfOk result (λ first. length first.header.bytes ≡ HEADER_SIZE) }
     ensures durable { IfOk result (λ first. IsTrue (D.tells disk.old) → Only (D.seen disk.new) (D.may_leave disk.new)) }
     ensures size { IfOk result (λ first. (HEADER_SIZE < first.size) × (first.size < 2 ^ 63)) }
     ensures sized { IfOk result (λ first. IsTrue (D.tells disk.old) → first.size ≡ length (D.seen disk.old)) }
-    ensures refused { IfErr result (λ e. NotALogSays (λ at. (at ≡ HEADER_SIZE) × (IsTrue (D.tells disk.old) → length (D.seen disk.old) ≤ HEADER_SIZE)) e) }
+    ensures refused { IfErr result (λ e. NotALogSays (λ at. (at ≡ HEADER_SIZE)
+        × (IsTrue (D.tells disk.old) → length (D.seen disk.old) ≤ HEADER_SIZE)) e) }
     ensures disk { OnlyRead D.tells D.seen D.may_leave D.moment D.left_since disk.old disk.new }
     ensures cause { HasLogCause (D.faults disk.old) (D.faults disk.new) result }
 {
-    let broken = LogErr::NotALog {
-        at: HEADER_SIZE as u64,
+    let size = match sized_log(disk) {
+        Ok(size) => size,
+        Err(e) => return Err(e),
     };
-    disk.sync()?;
-    let size = disk.size()?;
-    if size <= HEADER_SIZE as u64 {
-        return Err(broken);
-    }
-    let mut header = Header {
-        bytes: [0; HEADER_SIZE],
+    let header = match read_header(disk) {
+        Ok(header) => header,
+        Err(e) => return Err(e),
     };
-    if read_whole(disk, 0, &mut header.bytes)? < HEADER_SIZE {
-        return Err(broken);
+    match read_gate(disk) {
+        Ok(gate) => Ok(First { header, gate, size }),
+        Err(e) => Err(e),
     }
-    let mut gate = [0; 1];
-    if read_whole(disk, HEADER_SIZE as u64, &mut gate)? < 1 {
-        return Err(broken);
-    }
-    Ok(First {
-        header,
-        gate: gate[0],
-        size,
-    })
 }
 
-// Reads the length behind an open gate at a place.
-fn read_length<D: Disk>(disk: &mut D, at: u64, size: u64) -> Result<usize, LogErr>
-    requires { (at < size) × (size < 2 ^ 63) }
-    ensures number { IfOk result (λ len. IsTrue (D.tells disk.old) → to_be_bytes w32 len ≡ take 4 (drop (at + 1) (D.seen disk.old))) }
-    ensures range { IfOk result (λ len. (0 < len) × (len ≤ MAX_BODY)) }
-    ensures inside { IfOk result (λ len. at + 5 + len < size) }
-    ensures refused { IfErr result (λ e. NotALogSays (λ place. (place ≡ at)
-        × (IsTrue (D.tells disk.old) → size ≡ length (D.seen disk.old) → IsNoRecord (drop (at + 1) (D.seen disk.old)))) e) }
+// Reads the number that stands behind the gate at a place.
+fn read_number<D: Disk>(disk: &mut D, at: u64) -> Result<usize, LogErr>
+    requires { at < 2 ^ 63 }
+    ensures number { IfOk result (λ n. IsTrue (D.tells disk.old) → to_be_bytes w32 n ≡ take 4 (drop (at + 1) (D.seen disk.old))) }
+    ensures range { IfOk result (λ n. n < 2 ^ 32) }
+    ensures refused { IfErr result (λ e. NotALogSays (λ place. (place ≡ at) × (IsTrue (D.tells disk.old) → length (D.seen disk.old) < at + 5)) e) }
     ensures disk { OnlyRead D.tells D.seen D.may_leave D.moment D.left_since disk.old disk.new }
     ensures cause { HasLogCause (D.faults disk.old) (D.faults disk.new) result }
 {
     let mut number = [0; 4];
-    if read_whole(disk, at + 1, &mut number)? < number.len() {
+    let count = read_whole(disk, at + 1, &mut number)?;
+    if count < number.len() {
         return Err(LogErr::NotALog { at });
     }
-    let len = u32::from_be_bytes(number) as usize;
-    if len == 0 || len > MAX_BODY || size - at <= 5 + len as u64 {
+    Ok(u32::from_be_bytes(number) as usize)
+}
+
+// The number behind the gate at a place, where it is the length of a body that ends before the last of so many bytes.
+fn checked_length(len: usize, at: u64, size: u64) -> Result<usize, LogErr>
+    requires { (at < size) × (size < 2 ^ 63) × (len < 2 ^ 32) }
+    ensures same { IfOk result (λ n. n ≡ len) }
+    ensures range { IfOk result (λ n. (0 < n) × (n ≤ MAX_BODY)) }
+    ensures inside { IfOk result (λ n. at + 5 + n < size) }
+    ensures refused { IfErr result (λ e. (e ≡ NotALog at) × ((len ≡ 0) ⊎ (MAX_BODY < len) ⊎ (size < at + 5 + (len + 1)))) }
+{
+    if len == 0 {
+        return Err(LogErr::NotALog { at });
+    }
+    if len > MAX_BODY {
+        return Err(LogErr::NotALog { at });
+    }
+    if size - at <= 5 + len as u64 {
         return Err(LogErr::NotALog { at });
     }
     Ok(len)
 }
 
-// Reads a body of this length from a place on, and the gate behind it. None where they aren't whole.
-fn read_body<D: Disk>(
-    alloc: Global,
-    disk: &mut D,
-    at: u64,
-    len: usize,
-) -> Result<Option<Record>, LogErr>
-    requires { (at < 2 ^ 63) × (len < 2 ^ 32) }
-    ensures bytes { IfOk result (λ found. IfSome found (λ kept. IsTrue (D.tells disk.old)
-        → take (len + 1) (drop at (D.seen disk.old)) ≡ kept.body ++ kept.next_gate ∷ [])) }
-    ensures size { IfOk result (λ found. IfSome found (λ kept. length kept.body ≡ len)) }
-    ensures short { IfOk result (λ found. found ≡ None → IsTrue (D.tells disk.old) → length (D.seen disk.old) < at + (len + 1)) }
-    ensures error { IfErr result (λ e. IsOfDisk e) }
+// Reads the body of this length behind the gate at a place, and the gate behind it.
+fn read_body<D: Disk>(alloc: Global, disk: &mut D, at: u64, len: usize) -> Result<Record, LogErr>
+    requires { (at < 2 ^ 63) × (len ≤ MAX_BODY) }
+    ensures bytes { IfOk result (λ kept. IsTrue (D.tells disk.old)
+        → take (len + 1) (drop (at + 5) (D.seen disk.old)) ≡ kept.body ++ kept.next_gate ∷ []) }
+    ensures size { IfOk result (λ kept. length kept.body ≡ len) }
+    ensures refused { IfErr result (λ e. NotALogSays (λ place. (place ≡ at) × (IsTrue (D.tells disk.old) → length (D.seen disk.old) < at + 5 + (len + 1))) e) }
     ensures disk { OnlyRead D.tells D.seen D.may_leave D.moment D.left_since disk.old disk.new }
     ensures cause { HasLogCause (D.faults disk.old) (D.faults disk.new) result }
 {
     let mut body = Bytes::new(alloc);
     body.grow(len + 1)?;
-    if read_whole(disk, at, body.as_mut_slice())? <= len {
-        return Ok(None);
+    let count = read_whole(disk, at + 5, body.as_mut_slice())?;
+    if count <= len {
+        return Err(LogErr::NotALog { at });
     }
     let next_gate = *body.get(len);
     body.truncate(len);
-    Ok(Some(Record { body, next_gate }))
+    Ok(Record { body, next_gate })
 }
 
 /// Reads the record behind an open gate at a place.
@@ -149,9 +209,16 @@ pub fn read_record<D: Disk>(
     ensures disk { OnlyRead D.tells D.seen D.may_leave D.moment D.left_since disk.old disk.new }
     ensures cause { HasLogCause (D.faults disk.old) (D.faults disk.new) result }
 {
-    let len = read_length(disk, at, size)?;
-    match read_body(alloc, disk, at + 5, len)? {
-        Some(record) => Ok(record),
-        None => Err(LogErr::NotALog { at }),
+    let number = match read_number(disk, at) {
+        Ok(number) => number,
+        Err(e) => return Err(e),
+    };
+    let len = match checked_length(number, at, size) {
+        Ok(len) => len,
+        Err(e) => return Err(e),
+    };
+    match read_body(alloc, disk, at, len) {
+        Ok(record) => Ok(record),
+        Err(e) => Err(e),
     }
 }
