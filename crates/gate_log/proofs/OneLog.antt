@@ -118,12 +118,12 @@ length_records r rs =
 
 one_place : (rs ss : List Gated) (g h : ℕ) (x y : List ℕ) → AreRecords rs → AreRecords ss → IsNoRecord x → IsNoRecord y → records_of rs ++ g ∷ x ≡ records_of ss ++ h ∷ y
     → length (records_of rs) ≡ length (records_of ss)
-one_place [] [] g h x y are others no none e = refl
-one_place [] (s ∷ ss) g h x y are others no none e = absurd (no_record_there s ss g h x y others.0 no e)
-one_place (r ∷ rs) [] g h x y are others no none e = absurd (no_record_there r rs h g y x are.0 none (sym e))
-one_place (r ∷ rs) (s ∷ ss) g h x y are others no none e =
+one_place [] [] g h x y are others here none e = refl
+one_place [] (s ∷ ss) g h x y are others here none e = absurd (no_record_there s ss g h x y others.0 here e)
+one_place (r ∷ rs) [] g h x y are others here none e = absurd (no_record_there r rs h g y x are.0 none (sym e))
+one_place (r ∷ rs) (s ∷ ss) g h x y are others here none e =
     let same = same_record r s (records_of rs ++ g ∷ x) (records_of ss ++ h ∷ y) are.0 others.0 (sym (apart r rs (g ∷ x)) ∙ tail_same r.0 s.0 _ _ e ∙ apart s ss (h ∷ y)) in
-    omega (arith, length_records r rs, length_records s ss, ap length same.0, one_place rs ss g h x y are.1 others.1 no none same.1)
+    omega (arith, length_records r rs, length_records s ss, ap length same.0, one_place rs ss g h x y are.1 others.1 here none same.1)
 
 behind_header : (c : List ℕ) (at : ℕ) → HasNoRecord c at → length c ≤ HEADER_SIZE → ⊥
 behind_header c at cut short =

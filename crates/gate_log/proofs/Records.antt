@@ -1,10 +1,10 @@
 -- What is read behind a gate.
-use Rattle.std.proofs.Common.{◌≡◌, ◌⊎◌, inl, inr, ℕ, ◌+◌, ◌<◌, ◌≤◌, ◌^◌, Bool, List, [], ◌∷◌, ◌++◌, length, take, drop, get_or, slice_get, Some, IsTrue, refl, sym, ◌∙◌, ap, subst, arith, append_assoc, length-append, take-append-drop}
-use Rattle.std.proofs.lemmas.List.{drop_at, drop_more, drop_all, drop-drop, length-drop, take_all}
-use Rattle.std.proofs.lemmas.Nat.{be_bytes_4, from_be_bytes-to_be_bytes_4}
+use Rattle.std.proofs.Common.{◌≡◌, ◌⊎◌, inl, inr, ℕ, ◌+◌, ◌-◌, ◌<◌, ◌≤◌, ◌^◌, Bool, List, [], ◌∷◌, ◌++◌, length, take, drop, replicate, get_or, slice_get, Some, IsTrue, refl, sym, ◌∙◌, ap, subst, arith, append_assoc, length-append, take-append-drop}
+use Rattle.std.proofs.lemmas.List.{take_at, drop_at, drop_more, drop_all, drop-drop, length-drop, length-take-le, length-replicate, take_all}
+use Rattle.std.proofs.lemmas.Nat.{from_be_bytes-to_be_bytes_4}
 use Rattle.std.proofs.lemmas.Option.{slice_get-get_or}
 use Rattle.std.specs.Int.{w32, to_be_bytes, from_be_bytes}
-use Rattle.osd_lists.specs.Blocks.{IsBytes}
+use Rattle.std.specs.List.{refill}
 use Rattle.gate_log.specs.declared.entry.TheConstants.{MAX_BODY}
 use Rattle.gate_log.specs.declared.errors.LogErr.{LogErr}
 use Rattle.gate_log.specs.declared.errors.LogErr.TheVariants.{NotEmpty, NotALog, DiskFault, Memory}
@@ -51,18 +51,28 @@ one_byte buf bytes n byte long all within front is = sym (last_apart buf 0 byte 
 
 -- ---- a record
 
--- a number that was read
-pub number_read : (buf bytes : List ℕ) (n : ℕ) → IsBytes buf → length buf ≡ 4 → 4 ≤ n → n ≤ length buf → take n buf ≡ take n bytes → to_be_bytes w32 (from_be_bytes w32 buf) ≡ take 4 bytes
-number_read buf bytes n fits long all within front = be_bytes_4 buf _ long fits refl ∙ whole_read buf bytes n 4 long all within front
+-- a list that was made as long as this
+pub room_long : (empty room : List ℕ) (len : ℕ) → empty ≡ [] → room ≡ empty ++ replicate (len - length empty) 0 → length room ≡ len
+room_long empty room len none is =
+    omega (arith, ap (λ (l : List ℕ). length l) is, ap (λ (l : List ℕ). length l) none, length-append empty (replicate (len - length empty) 0), length-replicate {A = ℕ} (len - length empty) 0)
 
--- a body that was read, with the gate behind it
-pub body_parts : (buf bytes body : List ℕ) (n len next : ℕ) → length buf ≡ len + 1 → len < n → n ≤ length buf → take n buf ≡ take n bytes → body ≡ take len buf → slice_get buf len ≡ Some next
-    → take (len + 1) bytes ≡ body ++ next ∷ []
-body_parts buf bytes body n len next long all within front is gate =
-    let there : Some next ≡ Some (get_or buf len 0) = sym gate ∙ slice_get-get_or buf len 0 (omega (arith, long)) in
+-- what a whole list is after other members, as many, were put into it
+pub refilled : (old new : List ℕ) → length new ≡ length old → refill (length old) old new ≡ new
+refilled old new same = take_at new (drop (length new) old) (length old) same
+
+-- a body that was read, with the gate behind it, where `whole` is what was read
+pub body_parts : (whole buf bytes body : List ℕ) (n len next : ℕ) → whole ≡ buf → length buf ≡ len + 1 → len < n → n ≤ length buf → take n buf ≡ take n bytes
+    → body ≡ take len whole → slice_get whole len ≡ Some next → take (len + 1) bytes ≡ body ++ next ∷ []
+body_parts whole buf bytes body n len next same long all within front is gate =
+    let found : slice_get buf len ≡ Some next = subst (λ (l : List ℕ). slice_get l len ≡ Some next) same gate in
+    let there : Some next ≡ Some (get_or buf len 0) = sym found ∙ slice_get-get_or buf len 0 (omega (arith, long)) in
     sym (whole_read buf bytes n (len + 1) long (omega (arith, all)) within front)
     ∙ last_apart buf len next long (cc there)
+    ∙ ap (λ (l : List ℕ). take len l ++ next ∷ []) (sym same)
     ∙ ap (λ (l : List ℕ). l ++ next ∷ []) (sym is)
+
+pub body_long : (whole buf body : List ℕ) (len : ℕ) → whole ≡ buf → length buf ≡ len + 1 → body ≡ take len whole → length body ≡ len
+body_long whole buf body len same long is = ap (λ (l : List ℕ). length l) (is ∙ ap (λ (l : List ℕ). take len l) same) ∙ length-take-le len buf (omega (arith, long))
 
 -- the number, the body and the gate behind it, where they were read one after another
 pub record_parts : (c body : List ℕ) (next at len : ℕ) → to_be_bytes w32 len ≡ take 4 (drop (at + 1) c) → take (len + 1) (drop (at + 5) c) ≡ body ++ next ∷ [] → length body ≡ len

@@ -12,7 +12,7 @@ use crate::entry::MAX_BODY;
 use crate::errors::LogErr;
 use crate::header::{HEADER_SIZE, Header};
 use osd_disk::{Disk, read_whole};
-use osd_lists::Bytes;
+use osd_lists::{Bytes, Memory};
 use std::alloc::Global;
 
 /// What stands at the start of a log: its header and its first gate. Beside them the disk's size.
@@ -134,6 +134,13 @@ pub fn read_first<D: Disk>(disk: &mut D) -> Result<First, LogErr>
     }
 }
 
+// The number that four bytes spell.
+fn number_in(bytes: &[u8; 4]) -> u32
+    ensures { to_be_bytes w32 result ≡ bytes.now }
+{
+    u32::from_be_bytes(*bytes)
+}
+
 // Reads the number that stands behind the gate at a place.
 fn read_number<D: Disk>(disk: &mut D, at: u64) -> Result<usize, LogErr>
     requires { at < 2 ^ 63 }
@@ -148,7 +155,7 @@ fn read_number<D: Disk>(disk: &mut D, at: u64) -> Result<usize, LogErr>
     if count < number.len() {
         return Err(LogErr::NotALog { at });
     }
-    Ok(u32::from_be_bytes(number) as usize)
+    Ok(number_in(&number) as usize)
 }
 
 // The number behind the gate at a place, where it is the length of a body that ends before the last of so many bytes.
@@ -171,6 +178,16 @@ fn checked_length(len: usize, at: u64, size: u64) -> Result<usize, LogErr>
     Ok(len)
 }
 
+// A list of so many bytes, to be read into.
+fn room_for(alloc: Global, len: usize) -> Result<Bytes, Memory>
+    requires { len < 2 ^ 63 }
+    ensures { IfOk result (λ room. length room ≡ len) }
+{
+    let mut room = Bytes::new(alloc);
+    room.grow(len)?;
+    Ok(room)
+}
+
 // Reads the body of this length behind the gate at a place, and the gate behind it.
 fn read_body<D: Disk>(alloc: Global, disk: &mut D, at: u64, len: usize) -> Result<Record, LogErr>
     requires { (at < 2 ^ 63) × (len ≤ MAX_BODY) }
@@ -181,8 +198,7 @@ fn read_body<D: Disk>(alloc: Global, disk: &mut D, at: u64, len: usize) -> Resul
     ensures disk { OnlyRead D.tells D.seen D.may_leave D.moment D.left_since disk.old disk.new }
     ensures cause { HasLogCause (D.faults disk.old) (D.faults disk.new) result }
 {
-    let mut body = Bytes::new(alloc);
-    body.grow(len + 1)?;
+    let mut body = room_for(alloc, len + 1)?;
     let count = read_whole(disk, at + 5, body.as_mut_slice())?;
     if count <= len {
         return Err(LogErr::NotALog { at });

@@ -2,8 +2,8 @@ use Rattle.std.proofs.Common.{rules, ℕ, ◌+◌, List, length, sym, ◌∙◌,
 use Rattle.gate_log.proofs.Reading.{steps_on, refused_there}
 use Rattle.gate_log.proofs.reader.LogReader.next.Goals as goal
 
-pub returns-in-Ok-clause-body : goal.returns-in-Ok-clause-body
-returns-in-Ok-clause-body g c header bodies h =
+pub returns-clause-body : goal.returns-clause-body
+returns-clause-body g c header bodies h =
     let self = c.args.self.now in
     let kept = c.in-Ok.record in
     let found = c.in-Ok.ensures.bytes h.stands.told in
