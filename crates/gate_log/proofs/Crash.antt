@@ -5,7 +5,7 @@ use Rattle.std.specs.Int.{w32, to_be_bytes}
 use Rattle.osd_disk.specs.Crashes.{Holds, Torn, Follows, Only}
 use Rattle.gate_log.specs.declared.entry.TheConstants.{MAX_BODY}
 use Rattle.gate_log.specs.Entries.{piece_of}
-use Rattle.gate_log.specs.Logs.{IsFront, IsLog, IsRecord}
+use Rattle.gate_log.specs.Logs.{IsFront, IsLog}
 use Rattle.gate_log.proofs.Fronts.{closed, opened}
 
 -- a body that a record may have

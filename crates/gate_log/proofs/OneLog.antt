@@ -1,10 +1,9 @@
 -- Contents are a log in one way at most.
-use Rattle.std.proofs.Common.{◌≡◌, ◌⊎◌, inl, inr, ⊎_elim, ℕ, ◌+◌, ◌<◌, ◌≤◌, ◌^◌, List, [], ◌∷◌, ◌++◌, length, take, drop, refl, sym, ◌∙◌, ap, subst, arith, append_assoc, length-append}
+use Rattle.std.proofs.Common.{◌≡◌, inl, inr, ℕ, ◌+◌, ◌<◌, ◌≤◌, ◌^◌, List, [], ◌∷◌, ◌++◌, length, take, drop, refl, sym, ◌∙◌, ap, arith, append_assoc, length-append}
 use Rattle.std.proofs.lemmas.List.{take_at, drop_at}
 use Rattle.std.proofs.lemmas.Nat.{from_be_bytes-to_be_bytes_4}
 use Rattle.std.specs.Int.{w32, to_be_bytes, from_be_bytes}
 use Rattle.osd_lists.proofs.Slices.{head_same, tail_same}
-use Rattle.gate_log.specs.declared.entry.TheConstants.{MAX_BODY}
 use Rattle.gate_log.specs.declared.header.TheConstants.{HEADER_SIZE}
 use Rattle.gate_log.specs.Broken.{IsNoRecord, HasNoRecord, IsBrokenAt, length_behind}
 use Rattle.gate_log.specs.Logs.{Gated, records_of, IsRecord, AreRecords, bodies_of, IsFront, IsLog}

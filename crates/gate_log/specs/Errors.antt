@@ -1,5 +1,5 @@
 -- When the calls of a log may answer an error.
-use Rattle.std.specs.Prelude.{◌≡◌, ◌<◌, ◌≤◌, ℕ, List, Result, Ok, Err, OnOk, IsErrOf, IfErr}
+use Rattle.std.specs.Prelude.{◌≡◌, ◌≤◌, ℕ, Result, OnOk, IsErrOf}
 use Rattle.osd_bytes.specs.Causes.{Rose}
 use Rattle.gate_log.specs.declared.errors.LogErr.{LogErr}
 use Rattle.gate_log.specs.declared.errors.LogErr.TheVariants.{NotEmpty, NotALog, DiskFault, Memory}

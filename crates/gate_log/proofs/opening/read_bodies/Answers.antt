@@ -1,4 +1,4 @@
-use Rattle.std.proofs.Common.{rules, List, ℕ, [], sym, ◌∙◌, subst, arith}
+use Rattle.std.proofs.Common.{rules, List, ℕ, sym, ◌∙◌, subst}
 use Rattle.osd_disk.proofs.Moments.{read_again}
 use Rattle.gate_log.specs.Standing.{HasRead, read_disk}
 use Rattle.gate_log.proofs.Reading.{refused_later}

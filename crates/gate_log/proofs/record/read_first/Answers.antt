@@ -1,4 +1,4 @@
-use Rattle.std.proofs.Common.{◌≡◌, ◌∷◌, [], ℕ, List, IsTrue, take, drop, sym, ◌∙◌, ap, subst}
+use Rattle.std.proofs.Common.{ℕ, List, IsTrue, take, drop, sym, ◌∙◌, ap, subst}
 use Rattle.osd_disk.proofs.Moments.{read_again}
 use Rattle.gate_log.specs.declared.header.TheConstants.{HEADER_SIZE}
 use Rattle.gate_log.proofs.Reading.{refused_same}

@@ -1,4 +1,4 @@
-use Rattle.std.proofs.Common.{rules, [], IsTrue, refl, sym, subst}
+use Rattle.std.proofs.Common.{[], IsTrue, refl, sym, subst}
 use Rattle.gate_log.specs.declared.header.TheConstants.{HEADER_SIZE}
 use Rattle.gate_log.proofs.Reading.{begins}
 use Rattle.gate_log.proofs.log.GateLog.create.Goals as goal

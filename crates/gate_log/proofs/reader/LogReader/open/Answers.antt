@@ -1,4 +1,4 @@
-use Rattle.std.proofs.Common.{[], IsTrue, length, refl, sym, ◌∙◌, ap, subst, List, ℕ}
+use Rattle.std.proofs.Common.{IsTrue, length, refl, sym, ◌∙◌, ap, subst, List, ℕ}
 use Rattle.gate_log.specs.declared.header.TheConstants.{HEADER_SIZE}
 use Rattle.gate_log.proofs.Reading.{begins, refused_short}
 use Rattle.gate_log.proofs.reader.LogReader.open.Goals as goal
