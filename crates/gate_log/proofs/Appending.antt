@@ -1,0 +1,94 @@
+-- The four calls of an `append`, one after another.
+use Rattle.std.proofs.Common.{◌≡◌, ◌⊎◌, inl, ℕ, ◌+◌, ◌≤◌, List, [], ◌∷◌, ◌++◌, length, drop, Bool, IsTrue, sym, ◌∙◌, ap, subst, arith, length-append}
+use Rattle.std.specs.Int.{w32, to_be_bytes}
+use Rattle.osd_disk.specs.Crashes.{Holds, Torn, Follows, Narrows, Only, Elapses, LeavesOnly}
+use Rattle.osd_disk.proofs.Moments.{started, goes_on}
+use Rattle.gate_log.specs.Entries.{piece_of}
+use Rattle.gate_log.specs.Logs.{IsLog}
+use Rattle.gate_log.specs.Standing.{StandsAt}
+use Rattle.gate_log.proofs.Fronts.{closed, front_grows, piece_behind}
+use Rattle.gate_log.proofs.Crash.{IsBody, stage_crash, gate_crash, written_behind, written_gate, next_place}
+
+module _ {D : Type 0} (tells : D → Bool) (seen : D → List ℕ) (may_leave : D → List ℕ → Type 0) (moment : D → ℕ) (left_since : D → ℕ → List ℕ → Type 0)
+    (only_now : (d : D) (c : List ℕ) → left_since d (moment d) c → may_leave d c)
+    (header : List ℕ) (bodies : List (List ℕ)) (body : List ℕ) (is_body : IsBody body) (old : D) (end : ℕ)
+    (s : StandsAt tells seen may_leave header bodies old end 0) where
+  abbrev pub P : List ℕ → Type 0
+  P c = IsLog header bodies c ⊎ IsLog header (bodies ++ body ∷ []) c
+
+  abbrev pub Left : D → Type 0
+  Left d = LeavesOnly moment left_since old d P
+
+  only : Only (s.front ++ 0 ∷ s.rest) (may_leave old)
+  only = subst (λ f. Only f (may_leave old)) s.contents s.durable
+
+  pub begun : Left old
+  begun = started moment left_since old P
+      (λ c left. inl (closed header bodies s.front s.is_front c s.rest (only c (only_now old c left))))
+
+  module _ (n : ℕ) (one : D) (crash : Follows (Torn (end + 1) n) (may_leave old) (may_leave one))
+      (time : Elapses (moment old) (moment one) (left_since old) (left_since one) (may_leave one)) where
+    first : (c : List ℕ) → may_leave one c → IsLog header bodies c
+    first = stage_crash header bodies s.front s.is_front end s.place n s.rest (may_leave old) (may_leave one) only crash
+
+    pub staged : Left one
+    staged = goes_on moment left_since old old one P (may_leave one) begun time (λ c now. inl (first c now))
+
+    module _ (two : D) (keeps : Narrows (may_leave one) (may_leave two))
+        (time2 : Elapses (moment one) (moment two) (left_since one) (left_since two) (may_leave two)) where
+      pub settled : Left two
+      settled = goes_on moment left_since old one two P (may_leave two) staged time2 (λ c now. inl (first c (keeps c now)))
+
+      module _ (piece : List ℕ) (is : piece ≡ piece_of body)
+          (written : IsTrue (tells old) → end + 1 ≤ length (seen old) → Holds (seen old) (end + 1) piece (seen one))
+          (told1 : tells one ≡ tells old) (same : seen two ≡ seen one) (durable : IsTrue (tells one) → Only (seen one) (may_leave two)) where
+        abbrev pub tail : List ℕ
+        tail = drop (length piece) s.rest
+
+        fits : end + 1 ≤ length (seen old)
+        fits = omega (arith, ap length s.contents, s.place, length-append s.front (0 ∷ s.rest))
+
+        pub stage_is : seen one ≡ s.front ++ 0 ∷ (piece_of body ++ tail)
+        stage_is =
+            written_behind header bodies s.front s.is_front end s.place piece s.rest (seen one)
+            (subst (λ f. Holds f (end + 1) piece (seen one)) s.contents (written s.told fits))
+            ∙ ap (λ (l : List ℕ). s.front ++ 0 ∷ (l ++ tail)) is
+
+        gate_fits : end ≤ length (seen two)
+        gate_fits = omega (arith, ap length (same ∙ stage_is), s.place, length-append s.front (0 ∷ (piece_of body ++ tail)))
+
+        only_staged : Only (s.front ++ 0 ∷ (piece_of body ++ tail)) (may_leave two)
+        only_staged = subst (λ f. Only f (may_leave two)) stage_is (durable (subst IsTrue (sym told1) s.told))
+
+        module _ (three : D) (crash3 : Follows (Torn end 1) (may_leave two) (may_leave three))
+            (time3 : Elapses (moment two) (moment three) (left_since two) (left_since three) (may_leave three)) where
+          second : (c : List ℕ) → may_leave three c → P c
+          second = gate_crash header bodies s.front s.is_front end s.place body tail (may_leave two) (may_leave three) is_body only_staged crash3
+
+          pub gated : Left three
+          gated = goes_on moment left_since old two three P (may_leave three) settled time3 second
+
+          module _ (four : D) (keeps4 : Narrows (may_leave three) (may_leave four))
+              (time4 : Elapses (moment three) (moment four) (left_since three) (left_since four) (may_leave four)) where
+            pub done : Left four
+            done = goes_on moment left_since old three four P (may_leave four) gated time4 (λ c now. second c (keeps4 c now))
+
+            pub at_rest : (next : ℕ) → next ≡ end + length piece → tells two ≡ tells one → tells three ≡ tells two → tells four ≡ tells three
+                → (IsTrue (tells two) → end ≤ length (seen two) → Holds (seen two) end (1 ∷ []) (seen three))
+                → seen four ≡ seen three → (IsTrue (tells three) → Only (seen three) (may_leave four))
+                → StandsAt tells seen may_leave header (bodies ++ body ∷ []) four next 0
+            at_rest next ends told2 told3 told4 holds same4 durable4 =
+                let two_tells : IsTrue (tells two) = subst IsTrue (sym (told2 ∙ told1)) s.told in
+                let three_tells : IsTrue (tells three) = subst IsTrue (sym told3) two_tells in
+                let opened : seen three ≡ s.front ++ 1 ∷ (piece_of body ++ tail) =
+                written_gate header bodies s.front s.is_front end s.place body tail (seen three)
+                (subst (λ f. Holds f end (1 ∷ []) (seen three)) (same ∙ stage_is) (holds two_tells gate_fits)) in
+                record {
+                  told = subst IsTrue (sym told4) three_tells;
+                  front = s.front ++ 1 ∷ (to_be_bytes w32 (length body) ++ body);
+                  is_front = front_grows header bodies s.front s.is_front 1 body (record { open_gate = omega arith; some = is_body.some; fits = is_body.fits });
+                  rest = tail;
+                  contents = same4 ∙ opened ∙ piece_behind header bodies s.front s.is_front 1 body tail;
+                  place = ends ∙ ap (λ (l : List ℕ). end + length l) is ∙ next_place header bodies s.front s.is_front end s.place body;
+                  durable = subst (λ f. Only f (may_leave four)) (sym same4) (durable4 three_tells);
+                }

@@ -1,0 +1,10 @@
+// What holds of the contents of every disk.
+ghost use Rattle.gate_log.specs.Laws.{BrokenAtOnePlace, BrokenIsNoLog, ContentsAreOneLog};
+
+/// Contents are a log in one way at most, and those that are refused are none, and are refused at one
+/// place. It does nothing.
+pub fn contents_are_one_log()
+    ensures one { ContentsAreOneLog }
+    ensures broken { BrokenIsNoLog }
+    ensures place { BrokenAtOnePlace }
+{}

@@ -1,0 +1,5 @@
+pub mod ImageLaws
+pub mod Media
+pub mod Moments
+pub mod Outcomes
+pub mod Reading

@@ -1,0 +1,9 @@
+use Rattle.std.proofs.Common.{inl, refl}
+use Rattle.osd_disk.specs.Medium.{first_or}
+use Rattle.osd_disk.specs.declared.calls.Call.TheVariants.{Idle}
+use Rattle.osd_disk.proofs.Media.{stays_done}
+use Rattle.osd_disk.proofs.mem_disk.MemDisk.fail.Goals as goal
+
+pub invariant_of-self-2 : goal.invariant_of-self-2
+invariant_of-self-2 c =
+    stays_done c.self.inside.calls c.push.new.self Idle c.self.inside.bytes (first_or c.self.inside.bytes c.self.inside.first) (inl refl) c.self.invariant c.in_ok-push.ensures.ok
