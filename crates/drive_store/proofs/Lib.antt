@@ -1,0 +1,5 @@
+pub mod ContentLaws
+pub mod HeaderLaws
+pub mod OpeningLaws
+pub mod RecordLaws
+pub mod StoreLaws
