@@ -19,4 +19,8 @@ mod lines;
 #[cfg(test)]
 mod links;
 #[cfg(test)]
+mod stored_drives;
+#[cfg(test)]
+mod stores;
+#[cfg(test)]
 mod xdr;
