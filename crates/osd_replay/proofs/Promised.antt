@@ -218,7 +218,7 @@ cuts_next b now next taken more middle number old new line carried s y t c cut =
   sound = s.law.sound (s.history ++ cut.lines) (cut.lawful s.history s.tells.stands);
   written = s.law.cuts.written s.world s.history cut.lines c.event cut.fills s.watches.written (fits_written c.event c.fits);
   text = s.law.cuts.text s.world s.history cut.lines c.event cut.fills (told_text s.law s.events s.world s.history s.tells (events_fit s.lines s.events s.spelled)) c.fits;
-  few = λ within. s.law.cuts.few s.world s.history cut.lines c.event s.tells.stands cut.fills within;
+  few = s.law.cuts.few s.world s.history cut.lines c.event s.tells.stands cut.fills;
 }
 
 -- the sink fails in the lines of an event
