@@ -17,6 +17,7 @@ use Rattle.tag_law.specs.Barred.{GivenIsBarred}
 use Rattle.tag_law.specs.Handed.{EachGivenWasLive}
 use Rattle.exchange_law.specs.Judged.{RefusalsWereJudged}
 use Rattle.exchange_law.specs.Awaited.{RefusalsWereAwaited}
+use Rattle.exchange_law.specs.Counters.{CountersStayLow}
 use Rattle.exchange_law.specs.Text.{WithinTheLimitAreFew}
 use Rattle.exchange_law.specs.Exact.{CommandsAreIssuedExactly, UnforgedAreIssuedExactly}
 use Rattle.exchange_law.specs.Lanes.{LanesAreOwn}
@@ -30,9 +31,9 @@ pub histories_are_sound : HistoriesAreSafe → VerdictsAreAnswered → CommandsA
     → UnguessedAreUnforged → RangesAreApart → FrontsAreLawful → ComponentsStandApart → EachFileIsCreated
     → EachHolderIsOwn → UnforgedAreFenced → EachAnswerIsLive → EachGivenWasLive → GrantsAreOlder → GivenIsBarred
     → CommandsAreIssuedExactly → UnforgedAreIssuedExactly → LanesAreFair → LanesAreOwn → RefusalsWereJudged
-    → RefusalsWereAwaited → CallsEndSo → EachTagIsItsFiles → WithinTheLimitAreFew → HistoriesAreSound
+    → RefusalsWereAwaited → CountersStayLow → CallsEndSo → EachTagIsItsFiles → WithinTheLimitAreFew → HistoriesAreSound
 histories_are_sound safe answered issued listed fair ranges fronts apart created own fenced live given older barred exact
-    allowed lanes lanes_own judged awaited ends tags few = record {
+    allowed lanes lanes_own judged awaited low ends tags few = record {
       sound = λ h l. record {
         safe = safe h l;
         answered = λ w s. answered w h s;
@@ -55,6 +56,7 @@ histories_are_sound safe answered issued listed fair ranges fronts apart created
         tags = λ before after is. tags before;
         judged = judged h l;
         awaited = awaited h l;
+        room = λ before after is w m text few. low w before m text few;
         ends = ends h l;
       };
       text = events_make_text;

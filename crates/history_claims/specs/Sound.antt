@@ -22,6 +22,7 @@ use Rattle.tag_law.specs.Barred.{FencesBar}
 use Rattle.tag_law.specs.Handed.{GivenWasLive}
 use Rattle.exchange_law.specs.Judged.{JudgedAt}
 use Rattle.exchange_law.specs.Awaited.{AwaitedAt}
+use Rattle.exchange_law.specs.Counters.{HaveRoomAt}
 use Rattle.exchange_law.specs.Text.{AreOfText, AreFew, WithinTheLimitAreFew}
 use Rattle.exchange_law.specs.Exact.{IssuedExactlyAt, InjectedExactlyAt}
 use Rattle.ending_law.specs.Calls.{EndsAt}
@@ -88,6 +89,9 @@ pub record IsSound (h : List Line) : Type 0 where
   pub judged : AtEachLine JudgedAt h
   -- and with few messages it was a command that the client's call awaited at that moment
   pub awaited : AtEachLine AwaitedAt h
+  -- at each moment of a history of a scenario's text with few messages the server's counters have room: it lets no message
+  -- and no opening be since a number has come to its end
+  pub room : AtEachMoment HaveRoomAt h
   -- and each call ends in one of the ways that are left to it
   pub ends : AreOfText h → AreFew h → AtEachLine EndsAt h
 

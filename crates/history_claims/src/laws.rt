@@ -6,7 +6,7 @@ ghost use Rattle.history_claims.specs.Sound.{HistoriesAreSound};
 use calm_law::{each_step_is_apart, each_step_is_sound};
 use ending_law::calls_end_so;
 use exchange_law::{
-    commands_are_issued_exactly, lanes_are_fair, lanes_are_own, refusals_were_awaited,
+    commands_are_issued_exactly, counters_stay_low, lanes_are_fair, lanes_are_own, refusals_were_awaited,
     refusals_were_judged, unforged_are_issued_exactly, within_the_limit_are_few,
 };
 use fencing_law::{holders_are_own, unforged_are_fenced};
@@ -51,7 +51,7 @@ pub fn files_are_created()
 /// that isn't the server's is for a component under a grant of a client, which the book had live as the answer was
 /// first sent; as far as nothing is forged, the object of each present component has its file's tag, or the next one
 /// while a fence is open; no call ends since its layout can't be used or since a command lies outside its capability,
-/// and none is refused since its client has no sequence number left. A history that is cut at the limit of kept bytes
+/// none is refused since its client has no sequence number left, and the server's counters have room. A history that is cut at the limit of kept bytes
 /// goes on being of a text.
 pub fn histories_are_sound()
     ensures { HistoriesAreSound }
@@ -77,6 +77,7 @@ pub fn histories_are_sound()
     lanes_are_own();
     refusals_were_judged();
     refusals_were_awaited();
+    counters_stay_low();
     calls_end_so();
     each_tag_is_its_files();
     within_the_limit_are_few();
