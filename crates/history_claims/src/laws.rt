@@ -51,8 +51,8 @@ pub fn files_are_created()
 /// that isn't the server's is for a component under a grant of a client, which the book had live as the answer was
 /// first sent; as far as nothing is forged, the object of each present component has its file's tag, or the next one
 /// while a fence is open; no call ends since its layout can't be used or since a command lies outside its capability,
-/// none is refused since its client has no sequence number left, and the server's counters have room. A history that is cut at the limit of kept bytes
-/// goes on being of a text.
+/// none is refused since its client has no sequence number left, and the server's counters have room. A history that is
+/// cut at the limit of kept bytes goes on being of a text.
 pub fn histories_are_sound()
     ensures { HistoriesAreSound }
 {
