@@ -1,4 +1,4 @@
--- Where no further connection could be accepted, the count rose in the whole call.
+-- If no further connection could be accepted, the count rose in the whole call.
 use Rattle.std.proofs.Common.{◌≡◌, ◌≤◌, ℕ, zero, suc, ap, arith, refl}
 use Rattle.osd_bytes.specs.Causes.{Rose}
 use Rattle.osd_bytes.specs.Counts.{Faults}
@@ -17,9 +17,9 @@ no_fewer (suc n) old new a b s =
     let more = s.5.serves.faults.listening in
     omega (arith, first, same, more)
 
-rose : (n : ℕ) (old new : DriveState) (a b : Ends) → IsRefused n old new a b → Rose a.faults.listening b.faults.listening
+pub rose : (n : ℕ) (old new : DriveState) (a b : Ends) → IsRefused n old new a b → Rose a.faults.listening b.faults.listening
 rose n old new a b r = omega (arith, no_fewer r.0 old new a r.2 r.3, r.4)
 
-pub stops : (n : ℕ) (old new : DriveState) (a b : Ends) (e : ServeErr) → (e ≡ NoConnection → IsRefused n old new a b) → StopsAccepting a b (stop_of_serving e)
-stops n old new a b NoConnection refused = rose n old new a b (refused refl)
+pub stops : (n : ℕ) (old new : DriveState) (a b : Ends) (e : ServeErr) → (e ≡ NoConnection → IsRefused n old new a b) → StopsAccepting n old new a b (stop_of_serving e)
+stops n old new a b NoConnection refused = refused refl
 stops n old new a b NoMemory refused = tt

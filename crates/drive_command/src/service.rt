@@ -20,7 +20,7 @@ fn serve_all<L: Links, C: Clock>(
 ) -> Result<(), CommandStop>
     ensures served { OnOk result (ServesAll connections core.old core.new
         (network_at L.Links C.Clock links.old clock.old) (network_at L.Links C.Clock links.new clock.new)) }
-    ensures stops { IfErr result (StopsAccepting
+    ensures stops { IfErr result (StopsAccepting connections core.old core.new
         (network_at L.Links C.Clock links.old clock.old) (network_at L.Links C.Clock links.new clock.new)) }
 {
     match serve(alloc, core, links, clock, connections) {
@@ -41,7 +41,7 @@ pub(crate) fn serve_core<K: Sink, L: Links, C: Clock>(
     ensures serves { OnOk result (Serves connections core.old core.new
         (network_at L.Links C.Clock links.old clock.old) (network_at L.Links C.Clock links.new clock.new)
         (K.taken sink.old) (K.taken sink.new)) }
-    ensures stops { IfErr result (StopsServing connections
+    ensures stops { IfErr result (StopsServing connections core.old core.new
         (network_at L.Links C.Clock links.old clock.old) (network_at L.Links C.Clock links.new clock.new)
         (K.taken sink.old) (K.taken sink.new) (K.faults sink.old) (K.faults sink.new)) }
 {
