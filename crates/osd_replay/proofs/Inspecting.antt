@@ -13,7 +13,7 @@ use Rattle.layout_types.specs.declared.kind.Kind.{Kind}
 use Rattle.osd_replay.specs.Errors.{error_line, full_name, kind_name}
 use Rattle.osd_replay.specs.Puts.{Puts}
 use Rattle.osd_replay.specs.Stops.{error_of, status_of, stop_of_line}
-use Rattle.osd_replay.specs.Ends.{Ends}
+use Rattle.osd_replay.specs.Ends.{Ends, IsLineAt}
 use Rattle.osd_replay.specs.Inspect.{Answers, HasAnswers, Inspected, IsNoLine, RefusesLine, StopsInspection, Stops, Promises}
 use Rattle.osd_replay.specs.declared.command.Inspection.{Inspection}
 use Rattle.osd_replay.specs.declared.status.Quantity.TheVariants.{Input, Line as LineQuantity}
@@ -88,7 +88,7 @@ stops_at inspection kind b a now taken middle number failed reason whole s write
 }
 
 pub no_line_inspected : (inspection : Inspection) (kind : Kind) (b a : Ends) (now : Option (List ℕ)) (taken : ℕ) (middle : Option (List ℕ)) (number failed : ℕ) (whole : Bool) (e : LineErr) → Inspecting inspection kind b.left now taken b.taken middle number →
-    NextIs taken now (Err e) → (e ≡ LineFault → Rose b.reads_failed a.reads_failed) → failed ≡ b.writes_failed → Puts middle a.taken failed a.writes_failed (error_of (stop_of_line e) (number + 1)) whole →
+    NextIs taken now (Err e) → (e ≡ LineFault → Rose b.reads_failed a.reads_failed × IsLineAt (number + 1) b.left a.left) → failed ≡ b.writes_failed → Puts middle a.taken failed a.writes_failed (error_of (stop_of_line e) (number + 1)) whole →
     Promises inspection kind b a (status_of (stop_of_line e) (number + 1))
 unfolding stops_at
 no_line_inspected inspection kind b a now taken middle number failed whole TooLong s next fault writes put = record {
@@ -104,7 +104,8 @@ no_line_inspected inspection kind b a now taken middle number failed whole Input
 no_line_inspected inspection kind b a now taken middle number failed whole LineFault s next fault writes put = record {
   number = number + 1;
   stops = stops_at inspection kind b a now taken middle number failed (codes "read") whole s writes put;
-  rose = fault refl;
+  line = (fault refl).1;
+  rose = (fault refl).0;
 }
 no_line_inspected inspection kind b a now taken middle number failed whole LineMemory s next fault writes put = record {
   number = number + 1;

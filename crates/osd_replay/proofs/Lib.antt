@@ -1,6 +1,7 @@
 pub mod Pieces
 pub mod Telling
 pub mod Written
+pub mod Counting
 pub mod SoFar
 pub mod Promised
 pub mod Words

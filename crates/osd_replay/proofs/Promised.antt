@@ -23,7 +23,7 @@ use Rattle.osd_replay.specs.Puts.{Puts}
 use Rattle.osd_replay.specs.Finish.{Finishes}
 use Rattle.osd_replay.specs.Stops.{error_of, status_of, stop_of_line}
 use Rattle.osd_replay.specs.LineCarried.{CarriesLine, CarriesSpelled, CarriesBy, CarriesCut, StopsLine, StopsLineIn}
-use Rattle.osd_replay.specs.Ends.{Ends, Begins, IsAll, PassesNext, PutsError, IsLimitPassed}
+use Rattle.osd_replay.specs.Ends.{Ends, Begins, IsAll, IsLineAt, PassesNext, PutsError, IsLimitPassed}
 use Rattle.osd_replay.specs.Replay.{Runs, IsRefused, RefusesNext, CutsNext, IsTranscript, IsWriteFault, Promises, Stops}
 use Rattle.osd_replay.specs.Replay.IsTranscript.{Whole, Cut, Ended}
 use Rattle.osd_replay.specs.declared.carry_out.Carried.{Carried}
@@ -166,7 +166,7 @@ no_memory b a now taken middle number failed state whole s writes put = record {
 }
 
 pub no_line : (b a : Ends) (now : Option (List ℕ)) (taken : ℕ) (middle : Option (List ℕ)) (number failed : ℕ) (state : WorldState) (whole : Bool) (e : LineErr) → SoFar b.left now taken b.taken middle number state →
-    NextIs taken now (Err e) → (e ≡ LineFault → Rose b.reads_failed a.reads_failed) → failed ≡ b.writes_failed → Puts middle a.taken failed a.writes_failed (error_of (stop_of_line e) (number + 1)) whole →
+    NextIs taken now (Err e) → (e ≡ LineFault → Rose b.reads_failed a.reads_failed × IsLineAt (number + 1) b.left a.left) → failed ≡ b.writes_failed → Puts middle a.taken failed a.writes_failed (error_of (stop_of_line e) (number + 1)) whole →
     Promises b a (status_of (stop_of_line e) (number + 1))
 unfolding stops_at
 no_line b a now taken middle number failed state whole TooLong s next fault writes put = record {
@@ -182,7 +182,8 @@ no_line b a now taken middle number failed state whole InputFull s next fault wr
 no_line b a now taken middle number failed state whole LineFault s next fault writes put = record {
   number = number + 1;
   stops = stops_at b a now taken middle number failed state (codes "read") whole s writes put;
-  rose = fault refl;
+  line = (fault refl).1;
+  rose = (fault refl).0;
 }
 no_line b a now taken middle number failed state whole LineMemory s next fault writes put = no_memory b a now taken middle number failed state whole s writes put
 

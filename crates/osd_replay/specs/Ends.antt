@@ -1,8 +1,8 @@
 -- The ends of a run, what is read of its input, and what goes out before an error line.
-use Rattle.std.specs.Prelude.{◌≡◌, ℕ, ◌⊎◌, List, ◌++◌, length, take, ⊤, Option, Some, None, Err}
-use Rattle.std.specs.Io.KnownBytes.{Appends}
+use Rattle.std.specs.Prelude.{◌≡◌, ℕ, ◌+◌, ◌⊎◌, List, ◌++◌, length, take, ⊤, Option, Some, None, Err}
+use Rattle.std.specs.Io.KnownBytes.{Appends, Consumes}
 use Rattle.osd_bytes.specs.Causes.{Rose}
-use Rattle.osd_bytes.specs.Lines.{lines_of, next_of}
+use Rattle.osd_bytes.specs.Lines.{lines_of, newlines, next_of}
 use Rattle.osd_bytes.specs.declared.lines.LineErr.{LineErr}
 use Rattle.osd_bytes.specs.declared.lines.LineErr.TheVariants.{TooLong, InputFull}
 use Rattle.osd_replay.specs.declared.status.Quantity.{Quantity}
@@ -45,6 +45,10 @@ PassesNext None lines quantity = ⊤
 PassesNext (Some input) lines quantity =
     (front rest : List ℕ) × (input ≡ front ++ rest) × (lines_of input ≡ lines ++ lines_of rest)
     × (e : LineErr) × IsLimitPassed quantity e × (next_of (length front) rest ≡ Err e)
+
+-- the number is one more than the newlines among the bytes that were taken
+abbrev pub IsLineAt : (number : ℕ) → (before now : Option (List ℕ)) → Type 0
+IsLineAt number before now = (bytes : List ℕ) × Consumes before now bytes × (number ≡ newlines bytes + 1)
 
 -- the bytes went out, and then an error line, cut only where the sink failed
 pub record PutsError (before after : Ends) (bytes error : List ℕ) : Type 0 where

@@ -17,7 +17,7 @@ use Rattle.layout_types.specs.declared.kind.Kind.{Kind}
 use Rattle.layout_types.specs.Leaves.{leaves_of}
 use Rattle.layout_types.specs.Again.{written_of}
 use Rattle.osd_replay.specs.Errors.{error_line, full_name, kind_name}
-use Rattle.osd_replay.specs.Ends.{Ends, Begins, IsAll, PassesNext, PutsError}
+use Rattle.osd_replay.specs.Ends.{Ends, Begins, IsAll, IsLineAt, PassesNext, PutsError}
 use Rattle.osd_replay.specs.declared.command.Inspection.{Inspection}
 use Rattle.osd_replay.specs.declared.command.Inspection.TheVariants.{Show, Check}
 use Rattle.osd_replay.specs.declared.status.Quantity.{Quantity}
@@ -135,6 +135,7 @@ pub record IsBadLine (inspection : Inspection) (kind : Kind) (before after : End
 pub record IsReadFault (inspection : Inspection) (kind : Kind) (before after : Ends) : Type 0 where
   pub number : ℕ
   pub stops : Stops inspection kind before after number (codes "read")
+  pub line : IsLineAt number before.left after.left
   pub rose : Rose before.reads_failed after.reads_failed
 
 -- the sink failed: what went out is a part of the answers to the input's first lines

@@ -15,7 +15,7 @@ use Rattle.world_history.specs.History.{Lawful}
 use Rattle.history_law.specs.Read.{AreWritten}
 use Rattle.exchange_law.specs.Text.{AreOfText, AreFew}
 use Rattle.history_claims.specs.Sound.{IsSound}
-use Rattle.osd_replay.specs.Ends.{Ends, Begins, IsAll, PassesNext, PutsError}
+use Rattle.osd_replay.specs.Ends.{Ends, Begins, IsAll, IsLineAt, PassesNext, PutsError}
 use Rattle.osd_replay.specs.Errors.{error_line, full_name, kind_name}
 use Rattle.osd_replay.specs.LineCarried.{IsRefusedIn}
 use Rattle.osd_replay.specs.Transcript.{Tells, EndsWith, final_text}
@@ -110,6 +110,7 @@ pub record IsBadScenario (before after : Ends) (number : ℕ) (kind : ScenarioKi
 pub record IsReadFault (before after : Ends) : Type 0 where
   pub number : ℕ
   pub stops : Stops before after number (codes "read")
+  pub line : IsLineAt number before.left after.left
   pub rose : Rose before.reads_failed after.reads_failed
 
 -- A transcript of the input's first lines: a history whose events are theirs; such a history and the lines of a

@@ -1,5 +1,7 @@
 use Rattle.std.proofs.Common.{arith, refl, ap, Err, ◌≡◌, ◌∙◌}
 use Rattle.osd_bytes.specs.Put.{written_of}
+use Rattle.osd_bytes.specs.Reading.{known_of}
+use Rattle.osd_replay.proofs.Counting.{counted_none, counted_more, fails_at}
 use Rattle.osd_replay.proofs.Promised.{nothing_ahead, at_end}
 use Rattle.osd_replay.proofs.Inspecting.{nothing_inspected, inspects_on, all_inspected, no_line_inspected, inspection_stopped, part_answered}
 use Rattle.osd_replay.proofs.inspect.inspect.Goals as goal
@@ -12,6 +14,7 @@ lines-init g c = rw c.new-reader.ensures record {
   ended = λ h. absurd (cc h);
   reads = refl;
   writes = refl;
+  newlines = rw (nothing_ahead (g.S.Source.left c.args.source.now)) (counted_none (g.S.Source.left c.args.source.now));
   so_far = rw (nothing_ahead (g.S.Source.left c.args.source.now)) (nothing_inspected c.args.inspection c.args.kind (g.S.Source.left c.args.source.now) (g.K.Sink.taken c.args.sink.now));
 }
 
@@ -26,7 +29,7 @@ returns-in-Err g c =
     let inv = c.lines.invariant in
     rw (c.stopped.ensures.status, c.stop_of.ensures)
     (no_line_inspected c.args.inspection c.args.kind _ _ _ c.lines.reader.taken (g.K.Sink.taken c.lines.sink) c.lines.number (g.K.Sink.faults c.lines.sink) c.stopped.ensures.puts.0 c.in-Err.e inv.so_far c.in-Err.ensures.answer
-    (λ h. rw inv.reads at (c.in-Err.ensures.cause.fault (ap (λ x. Err x) h))) inv.writes (rw c.stop_of.ensures at c.stopped.ensures.puts.1))
+    (λ h. (rw inv.reads at (c.in-Err.ensures.cause.fault (ap (λ x. Err x) h)), fails_at _ c.next_line.new.self.ahead.ended _ _ _ (known_of c.next_line.new.self.ahead (g.S.Source.left c.next_line.new.s)) _ c.in-Err.e inv.newlines c.in-Err.ensures.newlines h)) inv.writes (rw c.stop_of.ensures at c.stopped.ensures.puts.1))
 
 pub returns-in-Err-inspect_line : goal.returns-in-Err-inspect_line
 returns-in-Err-inspect_line g c =
@@ -54,6 +57,7 @@ lines-preserved g c =
       within = here.within;
       number = omega (arith, inv.number, here.counts tt);
       ended = at_end _ _ _ _ here.at_end inv.ended;
+      newlines = counted_more _ _ _ _ _ _ (g.S.Source.left c.next_line.new.s) c.in-Ok-Some.line inv.newlines here.newlines;
       reads = here.cause.same ∙ inv.reads;
       writes = c.in-Ok-put_all.ensures.cause.same ∙ inv.writes;
       so_far = inspects_on c.args.inspection c.args.kind _ _ _ c.lines.reader.taken c.next_line.new.self.taken _ (g.K.Sink.taken c.lines.sink) _ c.lines.number c.in-Ok-Some.line c.in-Ok.text
