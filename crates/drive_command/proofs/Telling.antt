@@ -4,9 +4,12 @@ use Rattle.std.specs.Prelude.{take}
 use Rattle.std.specs.Io.KnownBytes.{Appends}
 use Rattle.osd_bytes.proofs.Known.{Appends-then}
 use Rattle.cluster_text.specs.Lines.{listening_line, served_line}
-use Rattle.drive_command.specs.Ends.{TellsPart}
+use Rattle.osd_drive.specs.State.{DriveState}
+use Rattle.drive_command.specs.Connections.{Ends, ServesAll}
+use Rattle.drive_command.specs.Ends.{CutsLine}
 
-pub second_part : (connections : ℕ) (before between now : Option (List ℕ)) (upto : ℕ) → Appends before between listening_line
-    → Appends between now (take upto (served_line connections)) → TellsPart connections before now
-second_part connections before between now upto a b =
-    inr (upto, Appends-then before between now listening_line (take upto (served_line connections)) a b)
+pub second_part : (connections : ℕ) (old new : DriveState) (first last : Ends) (before between now : Option (List ℕ)) (upto : ℕ)
+    → ServesAll connections old new first last → Appends before between listening_line → Appends between now (take upto (served_line connections))
+    → CutsLine connections old new first last before now
+second_part connections old new first last before between now upto served a b =
+    inr (served, upto, Appends-then before between now listening_line (take upto (served_line connections)) a b)

@@ -1,11 +1,12 @@
 // What a drive serves once its links listen, and the lines before and after.
 ghost use Rattle.std.specs.Prelude.{IfErr, OnOk};
 ghost use Rattle.drive_command.specs.Connections.{ServesAll, network_at};
-ghost use Rattle.cluster_text.specs.Lines.{served_line, stop_of_serving};
+ghost use Rattle.cluster_text.specs.Lines.{served_line};
 ghost use Rattle.drive_command.specs.Ends.{Serves, StopsAccepting, StopsServing};
 
 use crate::connections::serve;
-use cluster_text::{CommandStop, served_line, stop_of_serving};
+use crate::serve_err::DriveServeErr;
+use cluster_text::{CommandStop, served_line};
 use osd_bytes::{Clock, Links, Sink, put_all};
 use osd_drive::DriveCore;
 use std::alloc::Global;
@@ -20,12 +21,15 @@ fn serve_all<L: Links, C: Clock>(
 ) -> Result<(), CommandStop>
     ensures served { OnOk result (ServesAll connections core.old core.new
         (network_at L.Links C.Clock links.old clock.old) (network_at L.Links C.Clock links.new clock.new)) }
-    ensures stops { IfErr result (StopsAccepting
+    ensures stops { IfErr result (StopsAccepting connections core.old core.new
         (network_at L.Links C.Clock links.old clock.old) (network_at L.Links C.Clock links.new clock.new)) }
 {
     match serve(alloc, core, links, clock, connections) {
         Ok(()) => Ok(()),
-        Err(e) => Err(stop_of_serving(e)),
+        Err(DriveServeErr::LinkFault) => Err(CommandStop::LinkFault),
+        Err(DriveServeErr::Memory) => Err(CommandStop::Memory),
+        // A drive in memory alone has no disk.
+        Err(DriveServeErr::DiskFault) => unreachable!(),
     }
 }
 
@@ -41,7 +45,7 @@ pub(crate) fn serve_core<K: Sink, L: Links, C: Clock>(
     ensures serves { OnOk result (Serves connections core.old core.new
         (network_at L.Links C.Clock links.old clock.old) (network_at L.Links C.Clock links.new clock.new)
         (K.taken sink.old) (K.taken sink.new)) }
-    ensures stops { IfErr result (StopsServing connections
+    ensures stops { IfErr result (StopsServing connections core.old core.new
         (network_at L.Links C.Clock links.old clock.old) (network_at L.Links C.Clock links.new clock.new)
         (K.taken sink.old) (K.taken sink.new) (K.faults sink.old) (K.faults sink.new)) }
 {
