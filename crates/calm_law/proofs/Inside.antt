@@ -32,7 +32,7 @@ module _ (P : Line → Type 0) (inside : (l : Line) → is_event l ≡ false →
   headed_each ls x =
       subst (λ (ys : List Line). Each P ys) (sym x.are) (inside x.head x.inside, bare_each x.rest x.bare)
 
-  shape_each : (ls : List Line) → Shape ls → Each P ls
+  pub shape_each : (ls : List Line) → Shape ls → Each P ls
   shape_each ls (Nothing e) = subst (λ (ys : List Line). Each P ys) (sym e) tt
   shape_each ls (Left c k e) = subst (λ (ys : List Line). Each P ys) (sym e) (inside (left_pending c k) refl, tt)
   shape_each ls (Heads x) = headed_each ls x
@@ -50,7 +50,7 @@ module _ (P : Line → Type 0) (inside : (l : Line) → is_event l ≡ false →
       (shape_each (move w m).lines (acts_shape w m.chosen m.action (next_opens p [] w m.action o d.0)))
       (later_each (went_on p m.action) (move w m).world ms refl d.1)
 
-  opens_each : (w : World) (chosen : List ℕ) (e : Event) → refusal w e ≡ None
+  pub opens_each : (w : World) (chosen : List ℕ) (e : Event) → refusal w e ≡ None
       → Each P (sends_all (begins w chosen e)).lines
   opens_each w chosen e r = elim (cases_Bool (is_opening e)) [
     | inl o ↦ headed_each (sends_all (begins w chosen e)).lines (opens_headed w chosen e o r)

@@ -62,7 +62,7 @@ StopsWork words before now taken_before taken failed_before failed LinkFault =
 StopsWork words before now taken_before taken failed_before failed WriteFault =
     (report : Report) × ReportsFor words before now report × ToldPart report taken_before taken
     × Rose failed_before failed
-StopsWork words before now taken_before taken failed_before failed Memory = ⊤
+StopsWork words before now taken_before taken failed_before failed Memory = taken ≡ taken_before
 StopsWork words before now taken_before taken failed_before failed other = ⊥
 
 -- ---- the command
@@ -86,7 +86,8 @@ StopsClient words in_before in_now before now ReadFault =
     Rose in_before.reads_failed in_now.reads_failed × (in_now.taken ≡ in_before.taken) × (now ≡ before)
 StopsClient words in_before in_now before now Full =
     IsTooLong in_before.left in_now.left × (in_now.taken ≡ in_before.taken) × (now ≡ before)
-StopsClient words in_before in_now before now Memory = ⊤
+StopsClient words in_before in_now before now Memory =
+    (in_now.taken ≡ in_before.taken) × ((now ≡ before) ⊎ HasCluster in_before in_now)
 StopsClient words in_before in_now before now LinkFault =
     HasCluster in_before in_now
     × StopsWork words before now in_before.taken in_now.taken in_before.writes_failed in_now.writes_failed LinkFault

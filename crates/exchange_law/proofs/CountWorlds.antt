@@ -86,7 +86,7 @@ given_event w e f = tt
 less_than : (a b : ℕ) → a < b → nat_lt a b ≡ true
 less_than a b l = grind (arith, nat_tests, l)
 
-event_written : (e : Event) → Fits e → is_written e ≡ true
+pub event_written : (e : Event) → Fits e → is_written e ≡ true
 event_written (event.Drive d key capacity) f = less_than d DRIVES f.1.0
 event_written (event.Disk d key capacity) f = less_than d DRIVES f.1.0
 event_written (event.File n m tag) f = less_than n FILES f.1.0

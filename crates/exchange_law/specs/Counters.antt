@@ -42,3 +42,7 @@ ServerIsCounted =
 abbrev pub CountersStayLow : Type 0
 CountersStayLow =
     (w : World) (h : List Line) → IsMoment w h → AreOfText h → AreFew h → counters_have_room w.server ≡ true
+
+-- the same of the lines up to a place
+abbrev pub HaveRoomAt : List Line → Type 0
+HaveRoomAt h = (w : World) → IsMoment w h → AreOfText h → AreFew h → counters_have_room w.server ≡ true

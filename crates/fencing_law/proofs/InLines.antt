@@ -12,7 +12,7 @@ use Rattle.world_history.specs.Sending.{Move, move}
 use Rattle.world_history.specs.Plans.{due}
 use Rattle.world_history.specs.Reading.{is_head}
 use Rattle.world_history.specs.Book.{ServerSeen, server_after}
-use Rattle.world_history.specs.History.{StandsFor, OneEventMore, Lawful}
+use Rattle.world_history.specs.History.{OneEventMore, Lawful}
 use Rattle.world_history.specs.History.Begins.{Nothing}
 use Rattle.history_law.specs.BookMoments.{IsMoment, plan_at, lines_in}
 use Rattle.history_law.specs.Read.{AreWritten, BookIsRead}
@@ -22,7 +22,7 @@ use Rattle.fencing_law.specs.Reaching.{HolderIsServer}
 use Rattle.fencing_law.specs.Fenced.{IsFenced, noted, FencedIsFenced, NothingOlder}
 use Rattle.fencing_law.proofs.Ending.{next_moment, fences_end, reached_refuses}
 
-own_front : (xs ys : List Line) → HolderIsServer (xs ++ ys) → HolderIsServer xs
+pub own_front : (xs ys : List Line) → HolderIsServer (xs ++ ys) → HolderIsServer xs
 own_front xs ys own before l after is =
     own before l (after ++ ys) (ap (λ (h : List Line). h ++ ys) is ∙ append_assoc before (l ∷ after) ys)
 

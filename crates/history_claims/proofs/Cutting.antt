@@ -150,8 +150,8 @@ module _ (w : World) (h cut : List Line) (e : Event) (s : StandsFor w h) (f : Fi
     longer_by now f.last,
   )
 
-  few_cut : now.network.kept ≤ MAX_KEPT → AreFew (h ++ cut)
-  few_cut within =
+  few_cut : AreFew (h ++ cut)
+  few_cut =
       let room = MAX_KEPT - act.world.network.kept in
       let fit = fitting room act.posts in
       let lines : h ++ cut ≡ front ++ sent_lines (length act.world.network.messages) fit =
@@ -162,10 +162,10 @@ module _ (w : World) (h cut : List Line) (e : Event) (s : StandsFor w h) (f : Fi
       (joined (length (sent_in (front ++ sent_lines (length act.world.network.messages) fit))) (length (sent_in front))
       (length fit) (length now.network.messages) now.network.kept act.world.network.kept
       (sent_longer front (length act.world.network.messages) fit) front_sent (few_fit room act.posts) kept
-      (acts_count now f.last.chosen f.last.action).kept within)
+      (acts_count now f.last.chosen f.last.action).kept f.passes.0)
     where
       joined : (all sent fit many k then_kept : ℕ) → all ≡ sent + fit → sent ≡ many → fit ≤ MAX_KEPT - then_kept → many ≤ k
-          → then_kept ≡ k → k ≤ MAX_KEPT → all ≤ MAX_KEPT
+          → then_kept ≡ k → then_kept ≤ MAX_KEPT → all ≤ MAX_KEPT
       joined all sent fit many k then_kept a b c d same l = omega (arith, a, b, c, d, same, l)
 
 pub cuts_go_on : CutsGoOn
@@ -175,5 +175,5 @@ cuts_go_on = record {
       (each_written cut (cut_each (λ (l : Line). is_written_line l ≡ true) written_inside w e cut f own));
   text = λ w h cut e f before own.
       text_all h cut before (each_text cut (cut_each IsOfText text_inside w e cut f own));
-  few = λ w h cut e s f within. few_cut w h cut e s f within;
+  few = few_cut;
 }

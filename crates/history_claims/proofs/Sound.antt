@@ -9,6 +9,7 @@ use Rattle.history_law.specs.Ranges.{RangesAreApart}
 use Rattle.fencing_law.specs.Holder.{EachHolderIsOwn}
 use Rattle.fencing_law.specs.Fences.{UnforgedAreFenced}
 use Rattle.history_claims.specs.Components.{ComponentsStandApart}
+use Rattle.history_claims.specs.Created.{EachFileIsCreated}
 use Rattle.history_claims.specs.Sound.{HistoriesAreSound}
 use Rattle.tag_law.specs.Given.{GrantsAreOlder}
 use Rattle.tag_law.specs.Live.{EachAnswerIsLive}
@@ -16,6 +17,7 @@ use Rattle.tag_law.specs.Barred.{GivenIsBarred}
 use Rattle.tag_law.specs.Handed.{EachGivenWasLive}
 use Rattle.exchange_law.specs.Judged.{RefusalsWereJudged}
 use Rattle.exchange_law.specs.Awaited.{RefusalsWereAwaited}
+use Rattle.exchange_law.specs.Counters.{CountersStayLow}
 use Rattle.exchange_law.specs.Text.{WithinTheLimitAreFew}
 use Rattle.exchange_law.specs.Exact.{CommandsAreIssuedExactly, UnforgedAreIssuedExactly}
 use Rattle.exchange_law.specs.Lanes.{LanesAreOwn}
@@ -26,12 +28,12 @@ use Rattle.history_claims.proofs.Texts.{events_make_text}
 use Rattle.history_claims.proofs.Cutting.{cuts_go_on}
 
 pub histories_are_sound : HistoriesAreSafe → VerdictsAreAnswered → CommandsAreIssued → UnforgedAreIssued
-    → UnguessedAreUnforged → RangesAreApart → FrontsAreLawful → ComponentsStandApart → EachHolderIsOwn
-    → UnforgedAreFenced → EachAnswerIsLive → EachGivenWasLive → GrantsAreOlder → GivenIsBarred
+    → UnguessedAreUnforged → RangesAreApart → FrontsAreLawful → ComponentsStandApart → EachFileIsCreated
+    → EachHolderIsOwn → UnforgedAreFenced → EachAnswerIsLive → EachGivenWasLive → GrantsAreOlder → GivenIsBarred
     → CommandsAreIssuedExactly → UnforgedAreIssuedExactly → LanesAreFair → LanesAreOwn → RefusalsWereJudged
-    → RefusalsWereAwaited → CallsEndSo → EachTagIsItsFiles → WithinTheLimitAreFew → HistoriesAreSound
-histories_are_sound safe answered issued listed fair ranges fronts apart own fenced live given older barred exact allowed
-    lanes lanes_own judged awaited ends tags few = record {
+    → RefusalsWereAwaited → CountersStayLow → CallsEndSo → EachTagIsItsFiles → WithinTheLimitAreFew → HistoriesAreSound
+histories_are_sound safe answered issued listed fair ranges fronts apart created own fenced live given older barred exact
+    allowed lanes lanes_own judged awaited low ends tags few = record {
       sound = λ h l. record {
         safe = safe h l;
         answered = λ w s. answered w h s;
@@ -40,6 +42,7 @@ histories_are_sound safe answered issued listed fair ranges fronts apart own fen
         live = λ w s a. live w h s a;
         given = λ w s text few. given w h s text few;
         apart = apart h l;
+        created = λ w s a. created w h s a;
         listed = listed h l;
         fair = fair h l;
         holders = own h l;
@@ -53,6 +56,7 @@ histories_are_sound safe answered issued listed fair ranges fronts apart own fen
         tags = λ before after is. tags before;
         judged = judged h l;
         awaited = awaited h l;
+        room = λ before after is w m text few. low w before m text few;
         ends = ends h l;
       };
       text = events_make_text;

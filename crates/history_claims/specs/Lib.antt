@@ -1,4 +1,5 @@
 pub mod Lanes
 pub mod Components
+pub mod Created
 pub mod Texts
 pub mod Sound

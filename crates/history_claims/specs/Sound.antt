@@ -14,6 +14,7 @@ use Rattle.calm_law.specs.Naming.{AreNamed}
 use Rattle.fencing_law.specs.Fenced.{FencesLast}
 use Rattle.fencing_law.specs.Holder.{OwnUnlessForged}
 use Rattle.history_claims.specs.Components.{AreComponentsApart}
+use Rattle.history_claims.specs.Created.{FilesAreCreated}
 use Rattle.history_claims.specs.Lanes.{HaveFairLanes, HaveOwnLanes}
 use Rattle.tag_law.specs.Given.{GivenBefore}
 use Rattle.tag_law.specs.Live.{AnswersAreLive}
@@ -21,6 +22,7 @@ use Rattle.tag_law.specs.Barred.{FencesBar}
 use Rattle.tag_law.specs.Handed.{GivenWasLive}
 use Rattle.exchange_law.specs.Judged.{JudgedAt}
 use Rattle.exchange_law.specs.Awaited.{AwaitedAt}
+use Rattle.exchange_law.specs.Counters.{HaveRoomAt}
 use Rattle.exchange_law.specs.Text.{AreOfText, AreFew, WithinTheLimitAreFew}
 use Rattle.exchange_law.specs.Exact.{IssuedExactlyAt, InjectedExactlyAt}
 use Rattle.ending_law.specs.Calls.{EndsAt}
@@ -50,6 +52,9 @@ pub record IsSound (h : List Line) : Type 0 where
   -- where lines can name the drives and files that events make, the components of each file stand on different drives, and
   -- one that is made anew comes onto a further drive
   pub apart : AreNamed h → AtEachMoment AreComponentsApart h
+  -- in a whole history the CREATEs of the step in which a file is made go to the drives of its components, in order and one
+  -- each, as the book has the file behind the step
+  pub created : (w : World) → StandsFor w h → AreWritten h → FilesAreCreated h
   -- what a drive performs of injected bytes is the server's, or was issued to a client, or carries a capability that the
   -- server gave a client, as far as nothing is forged
   pub listed : AtEachLine InjectedAt h
@@ -84,6 +89,9 @@ pub record IsSound (h : List Line) : Type 0 where
   pub judged : AtEachLine JudgedAt h
   -- and with few messages it was a command that the client's call awaited at that moment
   pub awaited : AtEachLine AwaitedAt h
+  -- at each moment of a history of a scenario's text with few messages the server's counters have room: it lets no message
+  -- and no opening be since a number has come to its end
+  pub room : AtEachMoment HaveRoomAt h
   -- and each call ends in one of the ways that are left to it
   pub ends : AreOfText h → AreFew h → AtEachLine EndsAt h
 

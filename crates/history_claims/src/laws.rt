@@ -1,11 +1,12 @@
 // What holds of every history, for the crates above.
 ghost use Rattle.history_claims.specs.Components.{ComponentsStandApart};
+ghost use Rattle.history_claims.specs.Created.{EachFileIsCreated};
 ghost use Rattle.history_claims.specs.Sound.{HistoriesAreSound};
 
 use calm_law::{each_step_is_apart, each_step_is_sound};
 use ending_law::calls_end_so;
 use exchange_law::{
-    commands_are_issued_exactly, lanes_are_fair, lanes_are_own, refusals_were_awaited,
+    commands_are_issued_exactly, counters_stay_low, lanes_are_fair, lanes_are_own, refusals_were_awaited,
     refusals_were_judged, unforged_are_issued_exactly, within_the_limit_are_few,
 };
 use fencing_law::{holders_are_own, unforged_are_fenced};
@@ -13,10 +14,11 @@ use history_law::{
     commands_are_issued, histories_are_safe, ranges_are_apart, unforged_are_issued,
     unguessed_are_unforged, verdicts_are_answered,
 };
+use server_rules::files_are_put;
 use tag_law::{
     answers_are_live, each_tag_is_its_files, given_is_barred, given_was_live, grants_are_older,
 };
-use world_history::fronts_are_lawful;
+use world_history::{fronts_are_lawful, one_event_more, reading_goes_on};
 
 /// At each moment of a lawful history whose events lines can name, the components of each file, present or missing,
 /// stand on different drives, and where a rebuild makes one anew it does so on a further drive.
@@ -27,18 +29,30 @@ pub fn components_stand_apart()
     each_step_is_apart();
 }
 
+/// In a whole history whose events a text may have, of each event that makes a file which isn't there: the CREATEs of the
+/// event's step go to the drives of the file's components, in order and one each, as the book has the file behind the
+/// step. Where the file is refused, there are none.
+pub fn files_are_created()
+    ensures { EachFileIsCreated }
+{
+    files_are_put();
+    reading_goes_on();
+    one_event_more();
+}
+
 /// Each lawful history is sound, in the words of its lines: it is safe; in a whole one the line behind each verdict on
 /// a delivered message is the drive's reply; what a drive performs is the server's, or was issued to the client whose
 /// command it is; no byte of a component is inside the capabilities of two live grants of which one is for writing;
 /// each layout that the server sends a client is of a grant of this client that is live then, or repeats what it was
-/// sent; the components of a file stand on different drives. As far as nothing is forged, injected bytes that are
-/// performed carry a capability that the server gave a client, or are its own; what is performed under the server's
-/// holder is its own, and each lane of an object its holder's; and a fence that is over lasts, and bars what was given
-/// before it. In a history of a scenario's text with few messages each performed command that isn't the server's is for
-/// a component under a grant of a client, which the book had live as the answer was first sent; as far as nothing is
-/// forged, the object of each present component has its file's tag, or the next one while a fence is open; no call ends
-/// since its layout can't be used or since a command lies outside its capability, and none is refused since its client
-/// has no sequence number left. A history that is cut at the limit of kept bytes goes on being of a text.
+/// sent; the components of a file stand on different drives, to which its CREATEs went. As far as nothing is forged,
+/// injected bytes that are performed carry a capability that the server gave a client, or are its own; what is
+/// performed under the server's holder is its own, and each lane of an object its holder's; and a fence that is over
+/// lasts, and bars what was given before it. In a history of a scenario's text with few messages each performed command
+/// that isn't the server's is for a component under a grant of a client, which the book had live as the answer was
+/// first sent; as far as nothing is forged, the object of each present component has its file's tag, or the next one
+/// while a fence is open; no call ends since its layout can't be used or since a command lies outside its capability,
+/// none is refused since its client has no sequence number left, and the server's counters have room. A history that is
+/// cut at the limit of kept bytes goes on being of a text.
 pub fn histories_are_sound()
     ensures { HistoriesAreSound }
 {
@@ -50,6 +64,7 @@ pub fn histories_are_sound()
     ranges_are_apart();
     fronts_are_lawful();
     components_stand_apart();
+    files_are_created();
     holders_are_own();
     unforged_are_fenced();
     answers_are_live();
@@ -62,6 +77,7 @@ pub fn histories_are_sound()
     lanes_are_own();
     refusals_were_judged();
     refusals_were_awaited();
+    counters_stay_low();
     calls_end_so();
     each_tag_is_its_files();
     within_the_limit_are_few();

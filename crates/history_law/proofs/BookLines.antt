@@ -97,7 +97,7 @@ alike_end (x ∷ h) c o = alike_with (is_head x) x _ _ (alike_end h c o)
 
 -- ---- a step
 
-flat_placed : (xs ys : List Line) → AreFlat xs → placed_in (xs ++ ys) ≡ placed_in ys
+pub flat_placed : (xs ys : List Line) → AreFlat xs → placed_in (xs ++ ys) ≡ placed_in ys
 flat_placed [] ys f = refl
 flat_placed (x ∷ xs) ys f = ap (λ (ns : List ℕ). ns ++ placed_in (xs ++ ys)) f.1 ∙ flat_placed xs ys f.2
 

@@ -132,7 +132,7 @@ module _ (s : Server) (number : ℕ) (m : RawMap) (tag : ℕ) (r : IsReadable s)
   made_format ns =
       ap (λ (n : ℕ). is_format n) (making_format (at_file (with_file s (on ns)) [] (on ns))) ∙ r.format
 
-  told_on : (ns : List ℕ) → AllNamed ns → (n : ℕ) → placed_by n (makes_on ns).sends ≡ ns
+  pub told_on : (ns : List ℕ) → AllNamed ns → (n : ℕ) → placed_by n (makes_on ns).sends ≡ ns
   told_on ns a n =
       placed_sent s.drives (making (at_file (with_file s (on ns)) [] (on ns))).effects.sent n
       ∙ ap (placed_of s.drives) (made_sent ns)

@@ -15,7 +15,7 @@ use Rattle.history_law.proofs.Behind.{none_behind}
 use Rattle.move_law.proofs.Moments.{stands_kept}
 
 -- a line of two lists is one of the first, or of the second
-place_of : (h ls before after : List Line) (x : Line) → h ++ ls ≡ before ++ x ∷ after
+pub place_of : (h ls before after : List Line) (x : Line) → h ++ ls ≡ before ++ x ∷ after
     → ((rest : List Line) × (h ≡ before ++ x ∷ rest) × (after ≡ rest ++ ls))
     ⊎ ((front : List Line) × (before ≡ h ++ front) × (ls ≡ front ++ x ∷ after))
 place_of [] ls before after x e = inr (before, refl, e)

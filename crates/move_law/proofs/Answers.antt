@@ -49,7 +49,7 @@ module _ (P : Answer → Type 0) where
       more_only (to_drives ds (awaited_by f.job)) _ (drives_only ds (awaited_by f.job)) (resend_only ds fs)
 
   -- where nobody is answered
-  none_only : (os : List Outgoing) → AnswersOnly Never os → AnswersOnly P os
+  pub none_only : (os : List Outgoing) → AnswersOnly Never os → AnswersOnly P os
   none_only [] k = tt
   none_only (ToDrive d c ∷ os) k = none_only os k
   none_only (Recalls r ∷ os) k = none_only os k

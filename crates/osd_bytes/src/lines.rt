@@ -3,7 +3,7 @@ ghost use Rattle.std.specs.Option.{option_to_list};
 ghost use Rattle.std.specs.Io.KnownBytes.{Consumes, Keeps, IsAtEnd};
 ghost use Rattle.osd_bytes.specs.Reading.{known_of, SeesEnd};
 ghost use Rattle.osd_bytes.specs.Causes.{HasCause, Rose};
-ghost use Rattle.osd_bytes.specs.Lines.{NextIs, Leaves, GivesLine, TakesLine, Yields, HasReadCause};
+ghost use Rattle.osd_bytes.specs.Lines.{NextIs, Leaves, GivesLine, TakesLine, CountsNewlines, Yields, HasReadCause};
 
 use crate::source::{Fault, Source};
 use osd_lists::Bytes;
@@ -99,7 +99,8 @@ impl Window {
         ensures bytes { OnOk result (Consumes (known_of self.old (S.left s.old)) (known_of self.new (S.left s.new)) []) }
         ensures end { OnOk result (self.new.bytes ≡ [] → self.new.ended ≡ true) }
         ensures at_end { OnOk result (SeesEnd self.old.ended (S.left s.old) self.new.ended (S.left s.new)) }
-        ensures err { OnErr result ((self.new ≡ self.old) × Keeps (S.left s.old) (S.left s.new)) }
+        ensures open { self.new.ended ≡ false → self.old.ended ≡ false }
+        ensures err { OnErr result ((self.new ≡ record { bytes = []; ended = false }) × Keeps (S.left s.old) (S.left s.new)) }
         ensures cause { HasCause (S.faults s.old) (S.faults s.new) result }
         ensures loan { S.loan s.new ≡ S.loan s.old }
     {
@@ -120,6 +121,8 @@ fn next_byte<S: Source>(window: &mut Window, s: &mut S) -> Result<Option<u8>, Fa
         (option_to_list b)) }
     ensures end { IfOk result (λ b. IfNone b (window.new ≡ record { bytes = []; ended = true })) }
     ensures at_end { OnOk result (SeesEnd window.old.ended (S.left s.old) window.new.ended (S.left s.new)) }
+    ensures open { window.new.ended ≡ false → window.old.ended ≡ false }
+    ensures err { OnErr result ((window.old ≡ record { bytes = []; ended = false }) × Keeps (S.left s.old) (S.left s.new)) }
     ensures cause { HasCause (S.faults s.old) (S.faults s.new) result }
     ensures loan { S.loan s.new ≡ S.loan s.old }
 {
@@ -145,6 +148,8 @@ fn line_from<S: Source>(
     ensures taken { taken.new ≤ MAX_INPUT }
     ensures takes { TakesLine taken.old taken.new (known_of window.old (S.left s.old))
         (known_of window.new (S.left s.new)) result }
+    ensures newlines { CountsNewlines window.old.ended window.new.ended (known_of window.old (S.left s.old))
+        (known_of window.new (S.left s.new)) (S.left s.new) result }
     ensures counts { GivesLine result → taken.old < taken.new }
     ensures end { result ≡ Ok None → window.new.ended ≡ true }
     ensures at_end { OnOk result (SeesEnd window.old.ended (S.left s.old) window.new.ended (S.left s.new)) }
@@ -226,6 +231,8 @@ impl LineReader {
         ensures over { (self.new.over ≡ false) ↔ GivesLine result }
         ensures takes { TakesLine self.old.taken self.new.taken (known_of self.old.ahead (S.left s.old))
             (known_of self.new.ahead (S.left s.new)) result }
+        ensures newlines { CountsNewlines self.old.ahead.ended self.new.ahead.ended (known_of self.old.ahead (S.left s.old))
+            (known_of self.new.ahead (S.left s.new)) (S.left s.new) result }
         ensures counts { GivesLine result → self.old.taken < self.new.taken }
         ensures end { result ≡ Ok None → self.new.ahead.ended ≡ true }
         ensures at_end { OnOk result (SeesEnd self.old.ahead.ended (S.left s.old) self.new.ahead.ended (S.left s.new)) }

@@ -27,7 +27,8 @@ use Rattle.osd_replay.specs.declared.stop.Stop.TheVariants.{Refused, Read, Memor
 use Rattle.osd_replay.proofs.Telling.{told_sound, told_text, told_few, tells_none, tells_more, last_said}
 use Rattle.osd_replay.proofs.SoFar.{appends_none}
 use Rattle.osd_replay.proofs.Promised.{tells}
-use Rattle.osd_replay.proofs.Written.{fits_written, scenario_fits}
+use Rattle.exchange_law.proofs.CountWorlds.{event_written}
+use Rattle.osd_replay.proofs.Written.{scenario_fits}
 
 -- ---- one event more
 
@@ -39,7 +40,7 @@ made_by front e old new text false whole may m by holds = record {
   history = m.history ++ by.lines;
   shows = by.shows;
   tells = tells_more front m.world by.world m.history by.lines e m.tells by.carries by.fits;
-  watches = by.watches m.history m.tells.stands (fits_written e may) m.watches;
+  watches = by.watches m.history m.tells.stands (event_written e may) m.watches;
   holds = subst (λ (x : List ℕ). Holds new.digest x) (sym (lines_text_more m.history by.lines ∙ ap (λ (x : List ℕ). lines_text m.history ++ x) (sym by.text_is))) (holds (lines_text m.history) m.holds);
 }
 

@@ -35,7 +35,8 @@ use Rattle.osd_replay.specs.declared.status.Status.TheVariants.{Done, BadWords, 
 use Rattle.osd_replay.specs.declared.stop.Stop.{Stop}
 use Rattle.osd_replay.specs.declared.stop.Stop.TheVariants.{Refused, Read, Memory as WantsMemory, Full as StopsFull}
 use Rattle.osd_replay.proofs.Telling.{told_sound, told_text, told_few, tells_none, tells_more}
-use Rattle.osd_replay.proofs.Written.{fits_written, fit_more, events_fit}
+use Rattle.exchange_law.proofs.CountWorlds.{event_written}
+use Rattle.osd_replay.proofs.Written.{fit_more, events_fit}
 use Rattle.osd_replay.proofs.SoFar.{SoFar, Reached, events_more, reached_more, reached_none, appends_none}
 
 -- what went out before an error line, and that line
@@ -216,9 +217,9 @@ cuts_next b now next taken more middle number old new line carried s y t c cut =
   fills = cut.fills;
   lawful = cut.lawful s.history s.tells.stands;
   sound = s.law.sound (s.history ++ cut.lines) (cut.lawful s.history s.tells.stands);
-  written = s.law.cuts.written s.world s.history cut.lines c.event cut.fills s.watches.written (fits_written c.event c.fits);
+  written = s.law.cuts.written s.world s.history cut.lines c.event cut.fills s.watches.written (event_written c.event c.fits);
   text = s.law.cuts.text s.world s.history cut.lines c.event cut.fills (told_text s.law s.events s.world s.history s.tells (events_fit s.lines s.events s.spelled)) c.fits;
-  few = λ within. s.law.cuts.few s.world s.history cut.lines c.event s.tells.stands cut.fills within;
+  few = s.law.cuts.few s.world s.history cut.lines c.event s.tells.stands cut.fills;
 }
 
 -- the sink fails in the lines of an event
@@ -236,7 +237,7 @@ part_by b a now next taken more middle number upto old new line carried false s 
       spelled = events_more s.lines s.events line (c.event ∷ []) s.spelled (inr (c.event, [], refl, c.fits, c.spells, refl));
       tells = told;
       sound = told_sound s.law (s.events ++ c.event ∷ []) by.world (s.history ++ by.lines) told;
-      written = (by.watches s.history s.tells.stands (fits_written c.event c.fits) s.watches).written;
+      written = (by.watches s.history s.tells.stands (event_written c.event c.fits) s.watches).written;
       text = told_text s.law (s.events ++ c.event ∷ []) by.world (s.history ++ by.lines) told (fit_more s.events (c.event ∷ []) (events_fit s.lines s.events s.spelled) (c.fits, tt));
       few = told_few s.law (s.events ++ c.event ∷ []) by.world (s.history ++ by.lines) told;
     } in

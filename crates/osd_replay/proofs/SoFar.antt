@@ -18,7 +18,7 @@ use Rattle.osd_replay.specs.Replay.{HasEvents}
 use Rattle.osd_replay.specs.LineCarried.{CarriesLine, CarriesSpelled, CarriesBy}
 use Rattle.osd_replay.specs.declared.carry_out.Carried.{Carried}
 use Rattle.osd_replay.proofs.Telling.{tells_none, tells_more}
-use Rattle.osd_replay.proofs.Written.{fits_written}
+use Rattle.exchange_law.proofs.CountWorlds.{event_written}
 
 -- the input's bytes up to those that are still to come, and their lines
 abbrev pub Reached : Option (List ℕ) → List (List ℕ) → ℕ → Option (List ℕ) → Type 0
@@ -83,7 +83,7 @@ spells_more lines events w h line old new carried false whole spelled tells watc
   spelled = events_more lines events line (c.event ∷ []) spelled (inr (c.event, [], refl, c.fits, c.spells, refl));
   tells = tells_more events w by.world h by.lines c.event tells by.carries by.fits;
   shows = by.shows;
-  watches = by.watches h tells.stands (fits_written c.event c.fits) watches;
+  watches = by.watches h tells.stands (event_written c.event c.fits) watches;
   text_is = lines_text_more h by.lines ∙ ap (λ (x : List ℕ). lines_text h ++ x) (sym by.text_is);
 }
 

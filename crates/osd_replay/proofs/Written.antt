@@ -1,29 +1,14 @@
 -- Events that the text of a scenario may have.
-use Rattle.std.proofs.Common.{◌≡◌, ◌<◌, ◌≤◌, ◌==◌, ◌%◌, ℕ, zero, suc, ◌+◌, ◌++◌, ◌∷◌, [], List, Bool, true, false, replicate, if◌then◌else◌, refl, sym, subst, arith, inl, inr}
-use Rattle.std.specs.Prelude.{nat_lt}
-use Rattle.std.proofs.lemmas.Bool.Decides.{nat_tests}
+use Rattle.std.proofs.Common.{◌<◌, ◌≤◌, ◌==◌, ◌%◌, ℕ, zero, suc, ◌+◌, ◌++◌, ◌∷◌, [], List, Bool, true, false, replicate, if◌then◌else◌, refl, sym, subst, arith, inl, inr}
 use Rattle.osd_lists.specs.Blocks.{IsBytes}
 use Rattle.scenario_text.specs.declared.event.Call.{Call}
 use Rattle.scenario_text.specs.declared.event.Call.TheVariants as call
 use Rattle.scenario_text.specs.declared.event.Event.{Event}
 use Rattle.scenario_text.specs.declared.event.Event.TheVariants as event
 use Rattle.scenario_text.specs.Spelling.{Fits}
-use Rattle.history_law.specs.Read.{is_written}
-use Rattle.exchange_law.proofs.CountWorlds.{one_or_two}
 use Rattle.history_claims.specs.Texts.{EventsFit}
 use Rattle.osd_replay.specs.Replay.{HasEvents}
 use Rattle.osd_replay.specs.Generator.{makes_drive, makes_file, call_event, calls_from, next_random, offset_of, length_of, opening, scenario_of}
-
-below_64 : (n : ℕ) → n < 64 → nat_lt n 64 ≡ true
-below_64 n l = grind (arith, nat_tests, l)
-
--- what a line spells
-pub fits_written : (e : Event) → Fits e → is_written e ≡ true
-fits_written (event.Drive d key capacity) f = below_64 d f.1.0
-fits_written (event.Disk d key capacity) f = below_64 d f.1.0
-fits_written (event.File n m tag) f = below_64 n f.1.0
-fits_written (event.Format n) f = one_or_two n f.1.1.0.0 f.1.1.0.1
-fits_written e f = refl
 
 -- the lines of a scenario spell such events
 pub events_fit : (lines : List (List ℕ)) (events : List Event) → HasEvents lines events → EventsFit events

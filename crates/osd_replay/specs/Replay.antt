@@ -1,5 +1,5 @@
 -- What a replay promises.
-use Rattle.std.specs.Prelude.{◌≡◌, ℕ, ◌+◌, ◌≤◌, ◌<◌, ◌⊎◌, List, [], ◌∷◌, ◌++◌, length, take, codes, ⊤, Option, Some}
+use Rattle.std.specs.Prelude.{◌≡◌, ℕ, ◌+◌, ◌<◌, ◌⊎◌, List, [], ◌∷◌, ◌++◌, length, take, codes, ⊤, Option, Some}
 use Rattle.std.specs.Prelude.{None, Ok, Err, Result}
 use Rattle.std.specs.Io.KnownBytes.{Appends, IsAtEnd}
 use Rattle.osd_bytes.specs.Causes.{Rose}
@@ -9,9 +9,8 @@ use Rattle.scenario_text.specs.declared.event.Event.{Event}
 use Rattle.scenario_text.specs.declared.line.Line.{Line}
 use Rattle.scenario_text.specs.Spelling.{Fits, Spells, IsSkipped}
 use Rattle.scenario_text.specs.LineSpelling.{lines_text}
-use Rattle.world_history.specs.declared.limits.TheConstants.{MAX_KEPT}
 use Rattle.world_history.specs.State.{World}
-use Rattle.world_history.specs.Runs.{world_after, FillsUp}
+use Rattle.world_history.specs.Runs.{FillsUp}
 use Rattle.world_history.specs.History.{Lawful}
 use Rattle.history_law.specs.Read.{AreWritten}
 use Rattle.exchange_law.specs.Text.{AreOfText, AreFew}
@@ -63,7 +62,7 @@ RefusesNext (Some input) lines w kind =
 
 -- The event of the line behind these lines stops just before what would pass the limit of kept bytes. Its lines up to
 -- there are lawful behind the history, so what holds of every history holds of all these lines, also what holds where
--- events are such as a text has them. The messages are few where the moves before the one that is cut keep the limit.
+-- events are such as a text has them and messages are few.
 pub record CutsNext (input : Option (List ℕ)) (lines : List (List ℕ)) (w : World) (h cut : List Line) : Type 0 where
   pub line : List ℕ
   pub begins : Begins input (lines ++ line ∷ [])
@@ -75,7 +74,7 @@ pub record CutsNext (input : Option (List ℕ)) (lines : List (List ℕ)) (w : W
   pub sound : IsSound (h ++ cut)
   pub written : AreWritten (h ++ cut)
   pub text : AreOfText (h ++ cut)
-  pub few : (world_after w fills.moves).network.kept ≤ MAX_KEPT → AreFew (h ++ cut)
+  pub few : AreFew (h ++ cut)
 
 -- ---- what each status promises
 

@@ -46,7 +46,7 @@ module _ (connections : ℕ) (cluster : Cluster) (before now : Ends) (taken_befo
         },
         s.0,
       ))
-  serving_in Memory made last between has s = tt
+  serving_in Memory made last between has s = s
   serving_in (BadCluster kind) made last between has s = absurd s
   serving_in ReadFault made last between has s = absurd s
   serving_in Full made last between has s = absurd s
@@ -60,6 +60,6 @@ module _ (connections : ℕ) (in_before in_now : Streams) (before now : Ends) wh
   acting (BadCluster kind) c gives s = absurd (is_served c before kind (sound gives.text c gives.is) s)
   acting LinkFault c gives s = (c, gives, s)
   acting WriteFault c gives s = (c, gives, s.0, s.1)
-  acting Memory c gives s = tt
+  acting Memory c gives s = inr ((c, gives), s)
   acting ReadFault c gives s = absurd s
   acting Full c gives s = absurd s

@@ -36,6 +36,10 @@ CutsLine connections old new before now taken_before taken =
     ⊎ (ServesAll connections old new before now
     × (upto : ℕ) × Appends taken_before taken (listening_line ++ take upto (served_line connections)))
 
+-- no line went out, or the first
+abbrev pub TellsFirst : (before now : Option (List ℕ)) → Type 0
+TellsFirst before now = (now ≡ before) ⊎ Appends before now listening_line
+
 -- why not all were accepted, served and told, and what was told
 abbrev pub StopsServing : (connections : ℕ) → (old new : Server) → (before now : Ends)
     → (taken_before taken : Option (List ℕ)) → (failed_before failed : ℕ) → CommandStop → Type 0
@@ -43,7 +47,7 @@ StopsServing connections old new before now taken_before taken failed_before fai
     CutsLine connections old new before now taken_before taken × Rose failed_before failed
 StopsServing connections old new before now taken_before taken failed_before failed LinkFault =
     Appends taken_before taken listening_line × IsRefused connections old new before now
-StopsServing connections old new before now taken_before taken failed_before failed Memory = ⊤
+StopsServing connections old new before now taken_before taken failed_before failed Memory = TellsFirst taken_before taken
 StopsServing connections old new before now taken_before taken failed_before failed other = ⊥
 
 -- ---- as the server of a cluster
@@ -116,7 +120,7 @@ StopsIn connections cluster before now taken_before taken failed_before failed L
     LosesLinks connections cluster before now taken_before taken
 StopsIn connections cluster before now taken_before taken failed_before failed WriteFault =
     CutsLineIn connections cluster before now taken_before taken × Rose failed_before failed
-StopsIn connections cluster before now taken_before taken failed_before failed Memory = ⊤
+StopsIn connections cluster before now taken_before taken failed_before failed Memory = TellsFirst taken_before taken
 StopsIn connections cluster before now taken_before taken failed_before failed other = ⊥
 
 -- ---- the command
@@ -127,15 +131,21 @@ pub record ServesAs (connections : ℕ) (in_before in_now : Streams) (before now
   pub gives : GivesCluster ServerReads in_before.left in_now.left cluster
   pub serves : ServesIn connections cluster before now in_before.taken in_now.taken
 
--- why it hasn't, and what it told till then
+-- the text describes a cluster
+abbrev pub HasCluster : (before now : Streams) → Type 0
+HasCluster before now = (c : Cluster) × GivesCluster ServerReads before.left now.left c
+
+-- Why it hasn't, and what it told till then. Links and clock are asked for nothing before there is a cluster.
 abbrev pub StopsServer : (connections : ℕ) → (in_before in_now : Streams) → (before now : Ends) → CommandStop → Type 0
 StopsServer connections in_before in_now before now (BadCluster kind) =
-    RefusesCluster ServerReads in_before.left in_now.left kind × (in_now.taken ≡ in_before.taken)
+    RefusesCluster ServerReads in_before.left in_now.left kind × (in_now.taken ≡ in_before.taken) × (now ≡ before)
 StopsServer connections in_before in_now before now ReadFault =
-    Rose in_before.reads_failed in_now.reads_failed × (in_now.taken ≡ in_before.taken)
+    Rose in_before.reads_failed in_now.reads_failed × (in_now.taken ≡ in_before.taken) × (now ≡ before)
 StopsServer connections in_before in_now before now Full =
-    IsTooLong in_before.left in_now.left × (in_now.taken ≡ in_before.taken)
-StopsServer connections in_before in_now before now Memory = ⊤
+    IsTooLong in_before.left in_now.left × (in_now.taken ≡ in_before.taken) × (now ≡ before)
+StopsServer connections in_before in_now before now Memory =
+    ((in_now.taken ≡ in_before.taken) × (now ≡ before))
+    ⊎ (HasCluster in_before in_now × TellsFirst in_before.taken in_now.taken)
 StopsServer connections in_before in_now before now LinkFault =
     (c : Cluster) × GivesCluster ServerReads in_before.left in_now.left c
     × LosesLinks connections c before now in_before.taken in_now.taken

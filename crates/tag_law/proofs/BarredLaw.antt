@@ -33,6 +33,7 @@ use Rattle.fencing_law.specs.Reaching.{HolderIsServer}
 use Rattle.fencing_law.specs.Holder.{UnforgedHolderIsServer}
 use Rattle.fencing_law.specs.Fenced.{IsFenced, noted, FencesEnd, ReachedRefuses}
 use Rattle.fencing_law.proofs.Ending.{next_moment}
+use Rattle.fencing_law.proofs.InLines.{own_front}
 use Rattle.exchange_law.specs.Files.{ComponentFits, KeptFits}
 use Rattle.exchange_law.specs.Text.{AreOfText, AreFew}
 use Rattle.exchange_law.proofs.CountGrowing.{fewer, text_front}
@@ -58,10 +59,6 @@ record IsFine (h : List Line) : Type 0 where
   text : AreOfText h
   few : AreFew h
   own : HolderIsServer h
-
-own_front : (xs ys : List Line) → HolderIsServer (xs ++ ys) → HolderIsServer xs
-own_front xs ys own before l after is =
-    own before l (after ++ ys) (ap (λ (h : List Line). h ++ ys) is ∙ append_assoc before (l ∷ after) ys)
 
 fine_front : (xs ys : List Line) → IsFine (xs ++ ys) → IsFine xs
 fine_front xs ys f = record { text = text_front xs ys f.text; few = fewer xs ys f.few; own = own_front xs ys f.own }

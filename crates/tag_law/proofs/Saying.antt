@@ -15,8 +15,8 @@ use Rattle.server_rules.proofs.Members.{in_behind}
 use Rattle.world_history.specs.ServerNames.{Server, Slot, File, Grant, Answer, ClientRequest, RequestArgs, Get, Commit, Return, Outgoing, ToDrive, Recalls, Answers, AnswersOrder}
 use Rattle.job_law.proofs.Files.{found_file}
 use Rattle.job_law.proofs.Asking.{handled_served}
-use Rattle.move_law.specs.Answers.{AnswersOnly, Never, ServerDid, Quiet, Asked}
-use Rattle.move_law.proofs.Answers.{more_only, drives_only, recalls_only, IsAdmitted, is_admitted, step_did}
+use Rattle.move_law.specs.Answers.{AnswersOnly, ServerDid, Quiet, Asked}
+use Rattle.move_law.proofs.Answers.{more_only, drives_only, recalls_only, none_only, IsAdmitted, is_admitted, step_did}
 use Rattle.move_law.proofs.Steps.{each_request}
 use Rattle.history_law.proofs.IssueTelling.{IsOwn, TellsOwn, served_own}
 use Rattle.tag_law.specs.Live.{GivesLive, AnswersLive}
@@ -46,13 +46,6 @@ only_in P (Answers x ∷ os) a k (inr i) = only_in P os a k.1 i
 only_in P (ToDrive d c ∷ os) a k (inr i) = only_in P os a k i
 only_in P (Recalls r ∷ os) a k (inr i) = only_in P os a k i
 only_in P (AnswersOrder r ∷ os) a k (inr i) = only_in P os a k i
-
-none_only : (P : Answer → Type 0) (os : List Outgoing) → AnswersOnly Never os → AnswersOnly P os
-none_only P [] k = tt
-none_only P (ToDrive d c ∷ os) k = none_only P os k
-none_only P (Recalls r ∷ os) k = none_only P os k
-none_only P (Answers a ∷ os) k = absurd k.0
-none_only P (AnswersOrder a ∷ os) k = none_only P os k
 
 -- ---- slots
 

@@ -1,5 +1,5 @@
 -- Sending: numbers, lines, and the bytes that are kept.
-use Rattle.std.specs.Prelude.{ℕ, false, ◌+◌, ◌-◌, ◌<◌, nat_lt, List, [], ◌∷◌, ◌++◌, length, map, sum_by, if◌then◌else◌}
+use Rattle.std.specs.Prelude.{ℕ, false, ◌+◌, ◌-◌, ◌<◌, ◌≤◌, nat_lt, List, [], ◌∷◌, ◌++◌, length, map, sum_by, if◌then◌else◌}
 use Rattle.scenario_text.specs.declared.line.Line.{Line}
 use Rattle.scenario_text.specs.declared.line.Line.TheVariants as line
 use Rattle.world_history.specs.declared.limits.TheConstants.{MAX_KEPT}
@@ -65,9 +65,9 @@ fitting room (p ∷ ps) = if nat_lt room (cost p) then [] else p ∷ fitting (ro
 abbrev pub fitting_in : Network → List Post → List Post
 fitting_in n ps = fitting (MAX_KEPT - n.kept) ps
 
--- the move would pass the limit
+-- the move would pass the limit, which the moves before it keep
 abbrev pub Passes : Act → Type 0
-Passes a = MAX_KEPT < a.world.network.kept + sum_by cost a.posts
+Passes a = (a.world.network.kept ≤ MAX_KEPT) × (MAX_KEPT < a.world.network.kept + sum_by cost a.posts)
 
 -- its lines up to the message, or the write that it begins, that would pass it
 abbrev pub cut_lines : Act → List Line

@@ -16,8 +16,8 @@ acts_are_moves_by shows n n' a before after (Ok u) s h =
     )
 acts_are_moves_by shows n n' a before after (Err KeptFull) s h =
     let p = shows n a.world.network a.posts s in (
-      rw (← s.kept, ← p.costs) h.0,
-      h.1 ∙ ap (λ (l : List Line). before ++ (a.told ++ l)) p.cut_lines_are,
+      (rw (← s.kept) h.0, rw (← s.kept, ← p.costs) h.1),
+      h.2 ∙ ap (λ (l : List Line). before ++ (a.told ++ l)) p.cut_lines_are,
     )
 acts_are_moves_by shows n n' a before after (Err Memory) s h =
     let p = shows n a.world.network a.posts s in

@@ -16,7 +16,7 @@ performs_behind n n' a before middle after (Ok u) e h =
     (h.0, h.1 ∙ ap (λ (l : List Line). l ++ lines_in n a.posts) e ∙ append_assoc before a.told (lines_in n a.posts))
 performs_behind n n' a before middle after (Err KeptFull) e h =
     let posted : List Line = lines_in n (fitting_in n a.posts) in
-    (h.0, h.1 ∙ ap (λ (l : List Line). l ++ posted) e ∙ append_assoc before a.told posted)
+    (h.0, h.1, h.2 ∙ ap (λ (l : List Line). l ++ posted) e ∙ append_assoc before a.told posted)
 performs_behind n n' a before middle after (Err Memory) e h = (
   a.told ++ h.0,
   h.1 ∙ ap (λ (l : List Line). l ++ h.0) e ∙ append_assoc before a.told h.0,

@@ -1,5 +1,5 @@
 -- What performing an act leaves, and that it is a move of the world.
-use Rattle.std.specs.Prelude.{◌≡◌, ◌<◌, ◌+◌, ◌++◌, true, List, map, sum_by, Result, Ok, Err}
+use Rattle.std.specs.Prelude.{◌≡◌, ◌<◌, ◌≤◌, ◌+◌, ◌++◌, true, List, map, sum_by, Result, Ok, Err}
 use Rattle.scenario_text.specs.declared.line.Line.{Line}
 use Rattle.scenario_text.specs.declared.line.Line.TheVariants as line
 use Rattle.world_history.specs.declared.limits.TheConstants.{MAX_KEPT}
@@ -27,7 +27,8 @@ abbrev pub Performs : NetworkState → Act → List Line → List Line → Netwo
     → Result (Unit {0}) WorldErr → Type 0
 Performs n a before after n' (Ok u) = (n' ≡ all_posted n a.posts) × (after ≡ before ++ lines_of n a)
 Performs n a before after n' (Err KeptFull) =
-    (MAX_KEPT < n.kept + sum_by cost a.posts) × (after ≡ before ++ (a.told ++ lines_in n (fitting_in n a.posts)))
+    (n.kept ≤ MAX_KEPT) × (MAX_KEPT < n.kept + sum_by cost a.posts)
+    × (after ≡ before ++ (a.told ++ lines_in n (fitting_in n a.posts)))
 Performs n a before after n' (Err Memory) =
     (front : List Line) × (after ≡ before ++ front) × IsFront front (lines_of n a)
 Performs n a before after n' (Err other) = ⊥

@@ -1,5 +1,5 @@
 -- Several messages that are sent one after another.
-use Rattle.std.specs.Prelude.{◌≡◌, ℕ, ◌+◌, ◌-◌, ◌<◌, ◌++◌, nat_lt, List, [], ◌∷◌, length, map, sum_by, Result, Ok, Err, if◌then◌else◌}
+use Rattle.std.specs.Prelude.{◌≡◌, ℕ, ◌+◌, ◌-◌, ◌<◌, ◌≤◌, ◌++◌, nat_lt, List, [], ◌∷◌, length, map, sum_by, Result, Ok, Err, if◌then◌else◌}
 use Rattle.scenario_text.specs.declared.line.Line.{Line}
 use Rattle.scenario_text.specs.declared.line.Line.TheVariants as line
 use Rattle.world_history.specs.declared.limits.TheConstants.{MAX_KEPT}
@@ -52,7 +52,7 @@ abbrev pub PostsAll : NetworkState → List Posting → List Line → List Line 
     → Result (Unit {0}) WorldErr → Type 0
 PostsAll n ps before after n' (Ok u) = (n' ≡ all_posted n ps) × (after ≡ before ++ lines_in n ps)
 PostsAll n ps before after n' (Err KeptFull) =
-    (MAX_KEPT < n.kept + sum_by cost ps) × (after ≡ before ++ lines_in n (fitting_in n ps))
+    (n.kept ≤ MAX_KEPT) × (MAX_KEPT < n.kept + sum_by cost ps) × (after ≡ before ++ lines_in n (fitting_in n ps))
 PostsAll n ps before after n' (Err Memory) =
     (front : List Line) × (after ≡ before ++ front) × IsFront front (lines_in n ps)
 PostsAll n ps before after n' (Err other) = ⊥

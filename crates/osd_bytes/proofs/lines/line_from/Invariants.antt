@@ -1,4 +1,4 @@
-use Rattle.std.proofs.Common.{◌≡◌, ◌+◌, ◌≤◌, length}
+use Rattle.std.proofs.Common.{◌≡◌, ◌+◌, ◌≤◌, length, false}
 use Rattle.std.specs.Io.KnownBytes.{Consumes}
 use Rattle.osd_bytes.specs.Reading.{known_of, SeesEnd}
 use Rattle.osd_bytes.specs.declared.lines.TheConstants.{MAX_INPUT}
@@ -15,3 +15,4 @@ invariant-loop g l =
     × Consumes (known_of l.initial.window (g.S.Source.left l.initial.s)) (known_of l.window (g.S.Source.left l.s)) l.line
     × (g.S.Source.loan l.s ≡ g.S.Source.loan l.initial.s)
     × SeesEnd l.initial.window.ended (g.S.Source.left l.initial.s) l.window.ended (g.S.Source.left l.s)
+    × (l.window.ended ≡ false → l.initial.window.ended ≡ false)
