@@ -32,7 +32,6 @@ module _ (number connections : ℕ) (cluster : Cluster) (before now : Ends) (tak
 
 -- ---- the command
 
-
 module _ (number connections : ℕ) (in_before in_now : Streams) (before now : Ends) where
   pub acting : (stop : CommandStop) (c : Cluster) → GivesCluster (Drive number) in_before.left in_now.left c
       → StopsIn number connections c before now in_before.taken in_now.taken in_before.writes_failed in_now.writes_failed stop

@@ -6,8 +6,9 @@ ghost use Rattle.history_claims.specs.Sound.{HistoriesAreSound};
 use calm_law::{each_step_is_apart, each_step_is_sound};
 use ending_law::calls_end_so;
 use exchange_law::{
-    commands_are_issued_exactly, counters_stay_low, lanes_are_fair, lanes_are_own, refusals_were_awaited,
-    refusals_were_judged, unforged_are_issued_exactly, within_the_limit_are_few,
+    commands_are_issued_exactly, counters_stay_low, lanes_are_fair, lanes_are_own,
+    refusals_were_awaited, refusals_were_judged, unforged_are_issued_exactly,
+    within_the_limit_are_few,
 };
 use fencing_law::{holders_are_own, unforged_are_fenced};
 use history_law::{
