@@ -79,6 +79,7 @@ class Marks:
         self.status: Optional[str] = None
         self.given: Optional[str] = None
         self.within: Optional[float] = None
+        self.room: Optional[int] = None
         self.words = ""
         for line in below:
             if line.strip():
@@ -98,6 +99,8 @@ class Marks:
             self.given = (self.given or "") + rest + ("\n" if mark == "<" else "")
         elif mark == "within":
             self.within = float(rest)
+        elif mark == "room":
+            self.room = int(rest)
         elif mark == "\\":
             self.words += " " + rest
         else:

@@ -49,7 +49,7 @@ class Party:
     """A process of a case."""
 
     def __init__(
-        self, words: List[str], command: Command, given: Optional[str], folder: str, environment: Dict[str, str]
+        self, words: List[str], command: Command, marks: Marks, given: Optional[str], folder: str, environment: Dict[str, str]
     ) -> None:
         self._news = threading.Condition()
         self.any_status = False
@@ -58,7 +58,7 @@ class Party:
             stdout = subprocess.PIPE
             if command.stdout is not None:
                 stdout = files.enter_context(open(os.path.join(folder, command.stdout), "wb"))  # type: ignore[assignment]
-            self.process = processes.start(words, stdin, stdout, folder, environment)
+            self.process = processes.start(words, stdin, stdout, folder, environment, marks.room)
         self.output = Heard(self.process.stdout, self._news)
         self.errors = Heard(self.process.stderr, self._news)
 

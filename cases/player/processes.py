@@ -2,10 +2,11 @@
 
 import contextlib
 import os
+import resource
 import signal
 import subprocess
 import threading
-from typing import IO, Dict, List, Optional, Tuple, Union
+from typing import IO, Callable, Dict, List, Optional, Tuple, Union
 
 from .case import Fault
 
@@ -15,13 +16,26 @@ _RUNNING: Dict[int, "subprocess.Popen[bytes]"] = {}
 Stream = Union[int, IO[bytes], None]
 
 
+def _leave_room(size: int) -> Callable[[], None]:
+    """Has a write past a file's first bytes, so many, fail as one for which a disk has no room."""
+
+    def leave() -> None:
+        signal.signal(signal.SIGXFSZ, signal.SIG_IGN)
+        resource.setrlimit(resource.RLIMIT_FSIZE, (size, size))
+
+    return leave
+
+
 def start(
-    words: List[str], stdin: Stream, stdout: Stream, folder: Optional[str] = None, environment: Optional[Dict[str, str]] = None
+    words: List[str], stdin: Stream, stdout: Stream, folder: Optional[str] = None, environment: Optional[Dict[str, str]] = None,
+    room: Optional[int] = None,
 ) -> "subprocess.Popen[bytes]":
-    """Starts a process whose standard error is a pipe."""
+    """Starts a process whose standard error is a pipe, and whose files may have `room` bytes each."""
+    before = None if room is None else _leave_room(room)
     with _LOCK:
         process = subprocess.Popen(
-            words, stdin=stdin, stdout=stdout, stderr=subprocess.PIPE, cwd=folder, env=environment, start_new_session=True
+            words, stdin=stdin, stdout=stdout, stderr=subprocess.PIPE, cwd=folder, env=environment, start_new_session=True,
+            preexec_fn=before,
         )
         _RUNNING[process.pid] = process
     return process

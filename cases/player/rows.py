@@ -81,6 +81,16 @@ class Run:
                 content = content[:-1]
         self._write(name, content)
 
+    def _cut(self, words: List[str], _: Row) -> None:
+        name, count = words
+        self._write(name, self._read(name)[:int(count)])
+
+    def _change(self, words: List[str], _: Row) -> None:
+        name, place, digits = words
+        at, put = int(place), bytes.fromhex(digits)
+        content = self._read(name)
+        self._write(name, content[:at] + put + content[at + len(put):])
+
     def _same(self, words: List[str], _: Row) -> None:
         first, second = (self._read(name) for name in words)
         if first != second:
@@ -109,7 +119,7 @@ class Run:
         else:
             raise Fault("%s is no tool of the repository" % tool)
         given = None if marks.given is None else self._values.put_in(marks.given)
-        return Party(begin + asked.words, asked, given, self._folder, self._environment)
+        return Party(begin + asked.words, asked, marks, given, self._folder, self._environment)
 
     def _run(self, words: List[str], row: Row, text: str) -> None:
         marks = Marks(row.below)
@@ -253,6 +263,7 @@ class Run:
     def _plain(self, word: str) -> Callable[[List[str], Row], None]:
         rows: Dict[str, Callable[[List[str], Row], None]] = {
             "cluster": self._cluster, "text": self._text, "bytes": self._bytes, "filled": self._filled,
+            "cut": self._cut, "change": self._change,
             "same": self._same, "has": self._has, "digest": self._digest,
             "says": self._says, "end": self._end, "sleep": self._sleep, "limit": self._set_limit, "let": self._let,
             "proxy": self._proxy, "held": self._held, "ask": self._ask, "connect": self._connect, "close": self._close,

@@ -152,13 +152,6 @@ pub more-none : (puts : Bool) (old : DriveState) (before : Ends) → ServesMore 
 more-none puts old before = λ first begin taken handled s.
     ([], refl, subst (λ (hs : List Handled). Serves puts first old begin before taken hs) (sym (append-nil handled)) s)
 
-pub all-then : (d e f : DriveState) (hs gs : List Handled) → e ≡ after_all d hs → f ≡ after_all e gs → (ks : List Handled) × (f ≡ after_all d ks)
-all-then d e f hs gs p q = (hs ++ gs, q ∙ ap (λ (x : DriveState). after_all x gs) p ∙ joined d hs)
-  where
-    joined : (d : DriveState) (hs : List Handled) → after_all (after_all d hs) gs ≡ after_all d (hs ++ gs)
-    joined d [] = refl
-    joined d (h ∷ hs) = joined (drive_after d h.time h.message) hs
-
 pub take-got : (records : List (List ℕ)) (i : ℕ) (x : List ℕ) → slice_get records i ≡ Some x → take (i + 1) records ≡ take i records ++ x ∷ []
 take-got records i x e = rw add-one (got records i x e)
   where

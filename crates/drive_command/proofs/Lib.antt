@@ -4,3 +4,7 @@ pub mod Stopping
 pub mod Telling
 pub mod ShortRecords
 pub mod ConnectionLaws
+pub mod KeptLaws
+pub mod StoredLaws
+pub mod OpenedLaws
+pub mod StoredStopping

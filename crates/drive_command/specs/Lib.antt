@@ -1,4 +1,11 @@
-pub mod Own
-pub mod Ends
-pub mod Refusals
 pub mod Connections
+pub mod Ends
+pub mod GoesOn
+pub mod Kept
+pub mod Opened
+pub mod Own
+pub mod Refusals
+pub mod StoredServer
+pub mod StoredService
+pub mod StoredEnds
+pub mod StoredStops

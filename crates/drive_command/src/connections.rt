@@ -1,35 +1,42 @@
-ghost use Rattle.std.specs.Prelude.{◌≡◌, List, IfOk, IsErrOf, OnOk};
-ghost use Rattle.osd_bytes.specs.declared.serve_err.ServeErr.TheVariants.{LinkFault};
+ghost use Rattle.std.specs.Prelude.{◌≡◌, false, List, IfOk, IsErrOf, OnOk};
+ghost use Rattle.osd_bytes.specs.Causes.{Rose};
+ghost use Rattle.drive_command.specs.declared.serve_err.DriveServeErr.TheVariants.{DiskFault, LinkFault};
 ghost use Rattle.drive_command.specs.Connections.{Answers, Handled, IsRefused, ServesAll, ServesConnection, ServesMore};
 ghost use Rattle.drive_command.specs.Connections.{after_all, network_at, network_since};
+ghost use Rattle.drive_command.specs.Kept.{HasHandleCause};
+ghost use Rattle.drive_command.specs.GoesOn.{HandlesSome, WentOn};
 
+use crate::device_server::{DeviceServer, HandleErr};
 use crate::refusals::tell_refusal;
-use osd_bytes::{Clock, Inbox, Links, ServeErr, put_record};
+use crate::serve_err::DriveServeErr;
+use osd_bytes::{Clock, Inbox, Links, put_record};
 use osd_commands::write_reply;
-use osd_drive::DriveCore;
-use osd_lists::{ByteLists, Memory};
+use osd_lists::ByteLists;
 use std::alloc::Global;
 
 // Handles a record at the next time of the clock, tells of it if the drive refused it, and puts the reply if the
 // connection still stands. Gives whether the connection stands after that.
-fn answer_record<L: Links, C: Clock>(
+fn answer_record<H: DeviceServer, L: Links, C: Clock>(
     alloc: Global,
-    core: &mut DriveCore,
+    server: &mut H,
     links: &mut L,
     clock: &mut C,
     last: &mut Option<u64>,
     message: &[u8],
     puts: bool,
-) -> Result<bool, Memory>
-    ensures answers { IfOk result (λ still. Answers puts still core.old core.new
+) -> Result<bool, HandleErr>
+    requires { H.is_over server.old ≡ false }
+    ensures answers { IfOk result (λ still. Answers puts still (H.drive server.old) (H.drive server.new)
         (network_since L.Links C.Clock links.old clock.old last.old)
         (network_since L.Links C.Clock links.new clock.new last.new) message.now) }
-    ensures state { (handled : List Handled) × (core.new ≡ after_all core.old handled) }
+    ensures carries { HandlesSome H.DeviceServer server.old server.new }
+    ensures went_on { OnOk result (WentOn H.DeviceServer server.old server.new) }
+    ensures cause { HasHandleCause (H.faults server.old) (H.faults server.new) result }
     ensures standing { L.standing links.new ≡ L.standing links.old }
 {
-    let number = core.number();
+    let number = server.number();
     let now = clock.now();
-    let reply = core.handle(alloc, now, message)?;
+    let reply = server.handle(alloc, now, message)?;
     tell_refusal(alloc, links, last, number, now, &reply)?;
     if !puts {
         return Ok(false);
@@ -40,26 +47,29 @@ fn answer_record<L: Links, C: Clock>(
 }
 
 // Handles these records in order. Gives whether the connection stands after them.
-fn answer_all<L: Links, C: Clock>(
+fn answer_all<H: DeviceServer, L: Links, C: Clock>(
     alloc: Global,
-    core: &mut DriveCore,
+    server: &mut H,
     links: &mut L,
     clock: &mut C,
     last: &mut Option<u64>,
     records: &ByteLists,
     puts: bool,
-) -> Result<bool, Memory>
-    ensures serves { IfOk result (λ still. ServesMore puts still core.old core.new
+) -> Result<bool, HandleErr>
+    requires { H.is_over server.old ≡ false }
+    ensures serves { IfOk result (λ still. ServesMore puts still (H.drive server.old) (H.drive server.new)
         (network_since L.Links C.Clock links.old clock.old last.old)
         (network_since L.Links C.Clock links.new clock.new last.new) records.now) }
-    ensures state { (handled : List Handled) × (core.new ≡ after_all core.old handled) }
+    ensures carries { HandlesSome H.DeviceServer server.old server.new }
+    ensures went_on { OnOk result (WentOn H.DeviceServer server.old server.new) }
+    ensures cause { HasHandleCause (H.faults server.old) (H.faults server.new) result }
     ensures standing { L.standing links.new ≡ L.standing links.old }
 {
     let mut stands = puts;
     for i in 0..records.len() {
         stands = answer_record(
             alloc,
-            core,
+            server,
             links,
             clock,
             last,
@@ -71,17 +81,20 @@ fn answer_all<L: Links, C: Clock>(
 }
 
 // Serves the connection that was accepted.
-fn serve_connection<L: Links, C: Clock>(
+fn serve_connection<H: DeviceServer, L: Links, C: Clock>(
     alloc: Global,
-    core: &mut DriveCore,
+    server: &mut H,
     links: &mut L,
     clock: &mut C,
     last: &mut Option<u64>,
-) -> Result<(), Memory>
-    ensures serves { OnOk result (ServesConnection core.old core.new
+) -> Result<(), HandleErr>
+    requires { H.is_over server.old ≡ false }
+    ensures serves { OnOk result (ServesConnection (H.drive server.old) (H.drive server.new)
         (network_since L.Links C.Clock links.old clock.old last.old)
         (network_since L.Links C.Clock links.new clock.new last.new)) }
-    ensures state { (handled : List Handled) × (core.new ≡ after_all core.old handled) }
+    ensures carries { HandlesSome H.DeviceServer server.old server.new }
+    ensures went_on { OnOk result (WentOn H.DeviceServer server.old server.new) }
+    ensures cause { HasHandleCause (H.faults server.old) (H.faults server.new) result }
     ensures standing { L.standing links.new ≡ L.standing links.old }
 {
     let mut inbox = Inbox::new(alloc);
@@ -90,7 +103,7 @@ fn serve_connection<L: Links, C: Clock>(
         match inbox.more(links)? {
             None => return Ok(()),
             Some(records) => stands = answer_all(
-                alloc, core, links, clock, last, &records, stands,
+                alloc, server, links, clock, last, &records, stands,
             )?,
         }
     }
@@ -105,28 +118,36 @@ fn serve_connection<L: Links, C: Clock>(
 /// performed nor performed before. There is at most one such line in a second, by the times at which records were
 /// handled.
 ///
+/// If the drive is kept on a disk, a crash at any moment leaves it there as some of the records that were handled left
+/// it, none of them left out before another; and at the end it is there as it is.
+///
 /// # Errors
 ///
-/// [`ServeErr::LinkFault`] if no further connection could be accepted, after those before it were
-/// served whole; [`ServeErr::Memory`]. The drive then is as the handled records leave it.
-pub fn serve<L: Links, C: Clock>(
+/// [`DriveServeErr::LinkFault`] if no further connection could be accepted, after those before it were
+/// served whole; [`DriveServeErr::DiskFault`] only if the count of faults of the disk that keeps the drive rose;
+/// [`DriveServeErr::Memory`]. The drive then is as the handled records leave it.
+pub fn serve<H: DeviceServer, L: Links, C: Clock>(
     alloc: Global,
-    core: &mut DriveCore,
+    server: &mut H,
     links: &mut L,
     clock: &mut C,
     connections: u32,
-) -> Result<(), ServeErr>
-    ensures served { OnOk result (ServesAll connections core.old core.new
+) -> Result<(), DriveServeErr>
+    requires { H.is_over server.old ≡ false }
+    ensures served { OnOk result (ServesAll connections (H.drive server.old) (H.drive server.new)
         (network_at L.Links C.Clock links.old clock.old) (network_at L.Links C.Clock links.new clock.new)) }
-    ensures refused { IsErrOf result LinkFault → IsRefused connections core.old core.new
+    ensures refused { IsErrOf result LinkFault → IsRefused connections (H.drive server.old) (H.drive server.new)
         (network_at L.Links C.Clock links.old clock.old) (network_at L.Links C.Clock links.new clock.new) }
-    ensures state { (handled : List Handled) × (core.new ≡ after_all core.old handled) }
+    ensures state { (handled : List Handled) × (H.drive server.new ≡ after_all (H.drive server.old) handled) }
+    ensures carries { HandlesSome H.DeviceServer server.old server.new }
+    ensures went_on { OnOk result (WentOn H.DeviceServer server.old server.new) }
+    ensures failed { IsErrOf result DiskFault → Rose (H.faults server.old) (H.faults server.new) }
 {
     let mut last = None;
     let mut served = 0;
     while served < connections {
         links.accept()?;
-        serve_connection(alloc, core, links, clock, &mut last)?;
+        serve_connection(alloc, server, links, clock, &mut last)?;
         served += 1;
     }
     Ok(())

@@ -4,10 +4,21 @@
 
 mod command;
 mod connections;
+mod device_server;
+mod opened;
 mod own;
 mod refusals;
+mod serve_err;
 mod service;
+mod stored_command;
+mod stored_server;
+mod stored_service;
+mod stored_stop;
 
 pub use command::drive_command;
 pub use connections::serve;
+pub use device_server::{DeviceServer, HandleErr};
 pub use own::KEY_VERSION;
+pub use serve_err::DriveServeErr;
+pub use stored_command::stored_drive_command;
+pub use stored_stop::StoredStop;

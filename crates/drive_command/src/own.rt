@@ -20,6 +20,18 @@ pub(crate) fn own_drive(drives: &[ClusterDrive], number: u32) -> Option<&Cluster
     drives.iter().find(|drive| drive.number == number)
 }
 
+// The table of this one key.
+pub(crate) fn keys_with(alloc: Global, key: [u8; 20]) -> Result<KeyTable, Memory>
+    ensures { IfOk result (λ keys. keys ≡ keys_of key) }
+{
+    let mut keys = KeyTable::new(alloc);
+    keys.push(DriveKey {
+        version: KEY_VERSION,
+        key,
+    })?;
+    Ok(keys)
+}
+
 // A drive without objects that has this one key.
 pub(crate) fn new_core(
     alloc: Global,
@@ -29,10 +41,6 @@ pub(crate) fn new_core(
 ) -> Result<DriveCore, Memory>
     ensures { IfOk result (λ core. core ≡ new_drive number (keys_of key) capacity) }
 {
-    let mut keys = KeyTable::new(alloc);
-    keys.push(DriveKey {
-        version: KEY_VERSION,
-        key,
-    })?;
+    let keys = keys_with(alloc, key)?;
     Ok(DriveCore::new(alloc, number, keys, capacity))
 }

@@ -1,11 +1,12 @@
 // What a drive serves once its links listen, and the lines before and after.
 ghost use Rattle.std.specs.Prelude.{IfErr, OnOk};
 ghost use Rattle.drive_command.specs.Connections.{ServesAll, network_at};
-ghost use Rattle.cluster_text.specs.Lines.{served_line, stop_of_serving};
+ghost use Rattle.cluster_text.specs.Lines.{served_line};
 ghost use Rattle.drive_command.specs.Ends.{Serves, StopsAccepting, StopsServing};
 
 use crate::connections::serve;
-use cluster_text::{CommandStop, served_line, stop_of_serving};
+use crate::serve_err::DriveServeErr;
+use cluster_text::{CommandStop, served_line};
 use osd_bytes::{Clock, Links, Sink, put_all};
 use osd_drive::DriveCore;
 use std::alloc::Global;
@@ -25,7 +26,10 @@ fn serve_all<L: Links, C: Clock>(
 {
     match serve(alloc, core, links, clock, connections) {
         Ok(()) => Ok(()),
-        Err(e) => Err(stop_of_serving(e)),
+        Err(DriveServeErr::LinkFault) => Err(CommandStop::LinkFault),
+        Err(DriveServeErr::Memory) => Err(CommandStop::Memory),
+        // A drive in memory alone has no disk.
+        Err(DriveServeErr::DiskFault) => unreachable!(),
     }
 }
 

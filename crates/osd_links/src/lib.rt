@@ -1,4 +1,4 @@
-//! The real ends: standard input and output, the system's clock, and connections over TCP.
+//! The real ends: standard input and output, the system's clock, connections over TCP, and a file as a disk.
 //!
 //! They are the trusted edge of the program. They tell nothing of the bytes that they hand on; they
 //! only count the calls that failed.
@@ -6,6 +6,8 @@
 
 mod clock;
 mod faults;
+mod file_causes;
+mod file_disk;
 mod patience;
 mod printable;
 mod resting;
@@ -16,6 +18,8 @@ mod timed;
 
 pub use clock::SystemClock;
 pub use faults::{Cause, LinkFault, Party};
+pub use file_causes::FileCause;
+pub use file_disk::FileDisk;
 pub use patience::{
     CALLER_PATIENCE_SECONDS, CLIENT_PATIENCE_SECONDS, DRIVE_PATIENCE_SECONDS, Limits, Patience,
     RECORD_SECONDS, REST_SECONDS, SERVER_PATIENCE_SECONDS,
