@@ -5,11 +5,13 @@ use Rattle.clap.specs.Simple.{HasMatchesOf}
 use Rattle.clap.specs.declared.parser.matches.ArgMatches.{ArgMatches}
 use Rattle.command_words.specs.Options.{client_options, drive_options, server_options, text_of}
 use Rattle.command_words.specs.Asked.{AsksClient, client_gives, drive_words_from, drive_words_of, server_words_from, server_words_of}
+use Rattle.command_words.specs.StoredAsked.{AsksStored, stored_drive_gives, stored_drive_options}
 use Rattle.command_words.specs.Work.{Gives}
 use Rattle.command_words.specs.declared.words.ClientWords.{ClientWords}
 use Rattle.command_words.specs.declared.words.DriveWords.{DriveWords}
 use Rattle.command_words.specs.declared.words.ServerWords.{ServerWords}
-use Rattle.command_words.proofs.Parsed.{client_simple, drive_simple, server_simple, value}
+use Rattle.command_words.specs.declared.stored_words.StoredDriveWords.{StoredDriveWords}
+use Rattle.command_words.proofs.Parsed.{client_simple, drive_simple, server_simple, stored_drive_simple, value}
 
 module _ (a : App) (words : List Text) (m : ArgMatches) where
   pub drive_asked : (n k : Option Text) (r : Option DriveWords) → a ≡ drive_options → HasMatchesOf a words m
@@ -34,3 +36,14 @@ module _ (a : App) (words : List Text) (m : ArgMatches) where
       subst (λ (w : Option Text). Gives (AsksClient (text_of client_options (codes "number") words) (text_of client_options (codes "sequence") words) w) r) z
       (subst (λ (w : Option Text). Gives (AsksClient (text_of client_options (codes "number") words) w t) r) y
       (subst (λ (w : Option Text). Gives (AsksClient w q t) r) x g))
+
+  pub stored_drive_asked : (n k t : Option Text) (r : Option StoredDriveWords) → a ≡ stored_drive_options → HasMatchesOf a words m
+      → n ≡ first_value (found_of m) (codes "number") → k ≡ first_value (found_of m) (codes "connections") → t ≡ first_value (found_of m) (codes "store")
+      → Gives (AsksStored n k t) r → stored_drive_gives words r
+  stored_drive_asked n k t r same h number count name g =
+      let x = number ∙ value a stored_drive_options words m (codes "number") same stored_drive_simple h in
+      let y = count ∙ value a stored_drive_options words m (codes "connections") same stored_drive_simple h in
+      let z = name ∙ value a stored_drive_options words m (codes "store") same stored_drive_simple h in
+      subst (λ (w : Option Text). Gives (AsksStored (text_of stored_drive_options (codes "number") words) (text_of stored_drive_options (codes "connections") words) w) r) z
+      (subst (λ (w : Option Text). Gives (AsksStored (text_of stored_drive_options (codes "number") words) w t) r) y
+      (subst (λ (w : Option Text). Gives (AsksStored w k t) r) x g))

@@ -12,6 +12,7 @@ use Rattle.clap.proofs.OnLiterals.{clap_on_literals}
 use Rattle.clap.proofs.WalkLemmas.{first_value-rows}
 use Rattle.command_words.specs.Options.{client_options, drive_options, faults_of, server_options, text_of}
 use Rattle.command_words.specs.Asked.{Refuses}
+use Rattle.command_words.specs.StoredAsked.{stored_drive_options}
 use Rattle.command_words.specs.declared.words.WordsErr.{WordsErr}
 use Rattle.command_words.specs.declared.words.WordsErr.TheVariants.{Bad, Memory}
 
@@ -22,6 +23,14 @@ drive_free = refl
 pub drive_simple : is_simple drive_options ≡ true
 unfolding clap_on_literals
 drive_simple = refl
+
+pub stored_drive_free : is_simple_and_free stored_drive_options ≡ true
+unfolding clap_on_literals
+stored_drive_free = refl
+
+pub stored_drive_simple : is_simple stored_drive_options ≡ true
+unfolding clap_on_literals
+stored_drive_simple = refl
 
 pub server_free : is_simple_and_free server_options ≡ true
 unfolding clap_on_literals

@@ -1,3 +1,4 @@
 pub mod Options
 pub mod Work
 pub mod Asked
+pub mod StoredAsked

@@ -1,14 +1,16 @@
-//! The words of the commands over a network: `drive`, `server` and `client`, whose options are read by one simple
+//! The words of the commands over a network: `drive`, `stored-drive`, `server` and `client`, whose options are read by one simple
 //! command of `clap` each. Of words that name no command at all, [`refusal_text`] has what `clap` says.
 #![tactic(auto)]
 
 mod numbers;
 mod options;
 mod program;
+mod stored_words;
 mod words;
 mod work;
 
 pub use program::refusal_text;
+pub use stored_words::{StoredDriveWords, stored_drive_words};
 pub use words::{
     ClientWords, DriveWords, MAX_CLIENT, MAX_DRIVE, ServerWords, WordsErr, client_words,
     drive_words, server_words,

@@ -2,6 +2,7 @@
 ghost use Rattle.std.specs.Prelude.{◌≡◌, false, IfOk};
 ghost use Rattle.clap.specs.Words.{app_of, rule_of, with_rule};
 ghost use Rattle.command_words.specs.Options.{client_options, drive_options, option_rule, server_options};
+ghost use Rattle.command_words.specs.StoredAsked.{stored_drive_options};
 
 use clap::{Arg, ArgAction, Command};
 use std::alloc::{AllocError, Global};
@@ -34,6 +35,15 @@ pub(crate) fn drive_options<'a>(alloc: Global) -> Result<Command<'a>, AllocError
 {
     let command = with_option(alloc, Command::new(alloc, "drive"), "number")?;
     with_option(alloc, command, "connections")
+}
+
+// `stored-drive --number N --connections K --store NAME`
+pub(crate) fn stored_drive_options<'a>(alloc: Global) -> Result<Command<'a>, AllocError>
+    ensures { IfOk result (λ c. app_of c ≡ stored_drive_options) }
+{
+    let command = with_option(alloc, Command::new(alloc, "stored-drive"), "number")?;
+    let command = with_option(alloc, command, "connections")?;
+    with_option(alloc, command, "store")
 }
 
 // `server --connections K`

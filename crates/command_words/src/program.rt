@@ -59,6 +59,13 @@ fn drive<'a>(alloc: Global) -> Result<Command<'a>, AllocError> {
         .arg(number(alloc, "connections", "K", 0, MAX_U32))
 }
 
+fn stored_drive<'a>(alloc: Global) -> Result<Command<'a>, AllocError> {
+    Command::new(alloc, "stored-drive")
+        .arg(number(alloc, "number", "N", 0, u64::from(MAX_DRIVE)))?
+        .arg(number(alloc, "connections", "K", 0, MAX_U32))?
+        .arg(option(alloc, "store").value_name("NAME"))
+}
+
 fn server<'a>(alloc: Global) -> Result<Command<'a>, AllocError> {
     Command::new(alloc, "server").arg(number(alloc, "connections", "K", 0, MAX_U32))
 }
@@ -78,6 +85,7 @@ fn program<'a>(alloc: Global) -> Result<Command<'a>, AllocError> {
         .subcommand(inspection(alloc, "show")?)?
         .subcommand(inspection(alloc, "check")?)?
         .subcommand(drive(alloc)?)?
+        .subcommand(stored_drive(alloc)?)?
         .subcommand(server(alloc)?)?
         .subcommand(client(alloc)?)
 }
@@ -90,6 +98,7 @@ fn usage_of(command: &str) -> &'static str {
         "show" => "pnfs_osd show KIND < LINES",
         "check" => "pnfs_osd check KIND < LINES",
         "drive" => "pnfs_osd drive --number N --connections K < CLUSTER",
+        "stored-drive" => "pnfs_osd stored-drive --number N --connections K --store NAME < CLUSTER",
         "server" => "pnfs_osd server --connections K < CLUSTER",
         "client" => "pnfs_osd client --number N --sequence Q --call TEXT < CLUSTER",
         _ => "pnfs_osd <COMMAND>",
@@ -99,7 +108,7 @@ fn usage_of(command: &str) -> &'static str {
 // What `clap` says if the words name no command at all.
 const NO_COMMAND: &str = "\
 error: 'pnfs_osd' requires a subcommand but one was not provided
-  [subcommands: replay, generate, show, check, drive, server, client, help]
+  [subcommands: replay, generate, show, check, drive, stored-drive, server, client, help]
 
 Usage: pnfs_osd <COMMAND>
 

@@ -81,7 +81,7 @@ impl From<Memory> for WordsErr {
     }
 }
 
-fn stop_of(kind: ErrorKind) -> WordsErr
+pub(crate) fn stop_of(kind: ErrorKind) -> WordsErr
     ensures { result ≡ Bad → kind ≢ ErrorKind.OutOfMemory }
 {
     match kind {
@@ -100,7 +100,7 @@ fn number_in(word: Option<&str>, least: u32, most: u32) -> Option<u32>
     }
 }
 
-fn drive_from(drive: Option<&str>, count: Option<&str>) -> Option<DriveWords>
+pub(crate) fn drive_from(drive: Option<&str>, count: Option<&str>) -> Option<DriveWords>
     ensures { result ≡ drive_words_from (option_map (λ w. w.now) drive.entry) (option_map (λ w. w.now) count.entry) }
 {
     Some(DriveWords {

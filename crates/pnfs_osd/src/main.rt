@@ -12,10 +12,10 @@ ghost use Rattle.stripe_repair.specs.Placing.{CanPlace, Places};
 
 use advice::Kept;
 use osd_bytes::put_all;
-use osd_links::{StdSink, StdSource, SystemClock, TcpLinks};
+use osd_links::{FileDisk, StdSink, StdSource, SystemClock, TcpLinks};
 use osd_lists::{Memory, Numbers};
 use osd_replay::{Stop, fewest_first, stopped};
-use people::tell;
+use people::{Causes, tell};
 use pnfs_run::{Status, run};
 use std::io::ErrorKind;
 use std::process::ExitCode;
@@ -58,22 +58,21 @@ fn main(rt: HostRuntime) -> ExitCode {
     );
     let mut links = TcpLinks::new(rt, alloc);
     let mut clock = SystemClock::new(rt);
-    let status = run(
+    let (status, disk) = run(
         alloc,
         words,
         &mut source,
         &mut sink,
         &mut links,
         &mut clock,
+        FileDisk::new(rt),
         &placer,
     );
-    tell(
-        rt,
-        alloc,
-        &status,
-        words,
-        source.bytes(),
-        links.last_fault(),
-    );
+    let causes = Causes {
+        input: source.bytes(),
+        links: links.last_fault(),
+        disk: disk.last_fault(),
+    };
+    tell(rt, alloc, &status, words, causes);
     ExitCode::from(status.exit_code())
 }

@@ -1,37 +1,60 @@
 // What a person is told on standard error of how a run ended.
 use crate::refused_line::refused_line;
 use crate::usage::PROGRAM;
-use advice::{Asker, failed_links, refused_cluster, refused_words};
+use advice::{Asker, failed_disk, failed_links, refused_cluster, refused_store, refused_words};
 use cluster_text::Reader;
-use osd_links::LinkFault;
+use osd_links::{FileCause, LinkFault};
 use osd_replay::Quantity;
 use pnfs_run::Status;
 use std::alloc::{AllocError, Global};
 use std::io::Eprint;
 
+/// What the ends of a run know of why it stopped.
+#[derive(Clone, Copy)]
+pub struct Causes<'a> {
+    /// What was read, as far as it was kept.
+    pub input: Option<&'a [u8]>,
+    /// What failed last on the links.
+    pub links: Option<LinkFault<'a>>,
+    /// What failed last on the disk.
+    pub disk: Option<&'a FileCause>,
+}
+
 // The party that the words name.
 fn asker_of(words: &[String]) -> Asker {
     match words.first() {
-        Some(word) if word.as_str() == "drive" => Asker::Drive,
+        Some(word) if matches!(word.as_str(), "drive" | "stored-drive") => Asker::Drive,
         Some(word) if word.as_str() == "server" => Asker::Server,
         _ => Asker::Client,
     }
 }
 
-// The value of `--number`.
-fn number_in(words: &[String]) -> Option<u32> {
+// The value of an option of this name, as in `--number 1` or `--number=1`.
+fn value_of<'a>(words: &'a [String], name: &str) -> Option<&'a str> {
     let mut is_next = false;
     for word in words {
         let word = word.as_str();
         if is_next {
-            return word.parse().ok();
+            return Some(word);
         }
-        if let Some(number) = word.strip_prefix("--number=") {
-            return number.parse().ok();
+        if let Some(rest) = word.strip_prefix(name) {
+            if let Some(value) = rest.strip_prefix('=') {
+                return Some(value);
+            }
+            is_next = rest.is_empty();
         }
-        is_next = word == "--number";
     }
     None
+}
+
+// The value of `--number`.
+fn number_in(words: &[String]) -> Option<u32> {
+    value_of(words, "--number")?.parse().ok()
+}
+
+// The value of `--store`.
+fn store_in(words: &[String]) -> &str {
+    value_of(words, "--store").unwrap_or("")
 }
 
 // Who reads the cluster text.
@@ -64,13 +87,12 @@ fn text_of(
     alloc: Global,
     status: &Status,
     words: &[String],
-    input: Option<&[u8]>,
-    fault: Option<LinkFault<'_>>,
+    causes: Causes<'_>,
 ) -> Result<String, AllocError> {
     match status {
         Status::Done | Status::Refused { .. } => Ok(String::new(alloc)),
         Status::BadWords => words_text(alloc, words),
-        Status::BadScenario { line, kind } => refused_line(alloc, *line, *kind, input),
+        Status::BadScenario { line, kind } => refused_line(alloc, *line, *kind, causes.input),
         Status::ReadFault => String::from_str(
             alloc,
             "pnfs_osd: standard input could not be read\n",
@@ -81,8 +103,12 @@ fn text_of(
         ),
         Status::Memory => String::from_str(alloc, "pnfs_osd: there was no memory\n"),
         Status::Full { quantity } => String::from_str(alloc, full_text(*quantity)),
-        Status::LinkFault => failed_links(alloc, asker_of(words), fault),
-        Status::BadCluster { kind } => refused_cluster(alloc, reader_of(words), *kind, input),
+        Status::LinkFault => failed_links(alloc, asker_of(words), causes.links),
+        Status::BadCluster { kind } => {
+            refused_cluster(alloc, reader_of(words), *kind, causes.input)
+        }
+        Status::DiskFault => failed_disk(alloc, store_in(words), causes.disk),
+        Status::BadStore { at } => refused_store(alloc, store_in(words), *at),
     }
 }
 
@@ -92,10 +118,9 @@ pub fn tell<R: Eprint + Drop>(
     alloc: Global,
     status: &Status,
     words: &[String],
-    input: Option<&[u8]>,
-    fault: Option<LinkFault<'_>>,
+    causes: Causes<'_>,
 ) {
-    if let Ok(text) = text_of(alloc, status, words, input, fault) {
+    if let Ok(text) = text_of(alloc, status, words, causes) {
         if !text.is_empty() {
             let _told = rt.eprint(text);
         }

@@ -12,22 +12,25 @@ usage: pnfs_osd replay < SCENARIO
        pnfs_osd show KIND < LINES
        pnfs_osd check KIND < LINES
        pnfs_osd drive --number N --connections K < CLUSTER
+       pnfs_osd stored-drive --number N --connections K --store NAME < CLUSTER
        pnfs_osd server --connections K < CLUSTER
        pnfs_osd client --number N --sequence Q --call TEXT < CLUSTER
        pnfs_osd help [COMMAND] | --help | --version
        pnfs_osd COMMAND --help
 
-replay    carries out a scenario and writes its transcript (docs/SCENARIO.md)
-generate  makes a scenario of K calls from the number N, carries it out and writes what it came to
-show      writes the fields of the structure that each line spells in hexadecimal digits (docs/STRUCTURES.md)
-check     says whether the structure that each line spells is well formed
-drive     serves K connections as drive N of a cluster (docs/OPERATIONS.md)
-server    makes the files of a cluster, and serves K connections as its metadata server
-client    carries out one call as client N of a cluster, or hands its server one order
+replay        carries out a scenario and writes its transcript (docs/SCENARIO.md)
+generate      makes a scenario of K calls from the number N, carries it out and writes what it came to
+show          writes the fields of the structure that each line spells in hexadecimal digits (docs/STRUCTURES.md)
+check         says whether the structure that each line spells is well formed
+drive         serves K connections as drive N of a cluster, which it keeps in memory (docs/OPERATIONS.md)
+stored-drive  does the same, and keeps the drive in the file NAME
+server        makes the files of a cluster, and serves K connections as its metadata server
+client        carries out one call as client N of a cluster, or hands its server one order
 
 Exit status: 0 done, 2 the words name no command, 3 a line was refused, 4 the input failed, 5 the output failed,
 6 no memory, 7 the input, a line or the bytes that are kept pass their limit, 8 the network failed or the server didn't
-answer, 9 the cluster text was refused, 10 the call or the order was refused.
+answer, 9 the cluster text was refused, 10 the call or the order was refused, 11 a file failed that keeps a drive, 12 such a
+file isn't the drive's store.
 ";
 
 const REPLAY: &str = "\
@@ -65,6 +68,14 @@ Serves K connections as drive N (0 to 63) of the cluster that the text describes
 'listening' once it listens at its address, and 'served K' at the end. All options are required.
 ";
 
+const STORED_DRIVE: &str = "\
+usage: pnfs_osd stored-drive --number N --connections K --store NAME < CLUSTER
+
+Serves K connections as drive N (0 to 63) of the cluster that the text describes, and keeps the drive in the file NAME: what
+it answered is there when it is started again, whatever stopped it (docs/OPERATIONS.md). A file that isn't there, or is
+empty, is made. Writes 'listening' once it listens at its address, and 'served K' at the end. All options are required.
+";
+
 const SERVER: &str = "\
 usage: pnfs_osd server --connections K < CLUSTER
 
@@ -92,6 +103,7 @@ fn usage_of(command: &str) -> Option<&'static str> {
         "show" => Some(SHOW),
         "check" => Some(CHECK),
         "drive" => Some(DRIVE),
+        "stored-drive" => Some(STORED_DRIVE),
         "server" => Some(SERVER),
         "client" => Some(CLIENT),
         _ => None,

@@ -4,12 +4,14 @@ use Rattle.cluster_text.specs.declared.stop.CommandStop.{CommandStop}
 use Rattle.cluster_text.specs.declared.stop.CommandStop.TheVariants as stop
 use Rattle.client_command.specs.declared.work_ends.ClientEnd.{ClientEnd}
 use Rattle.client_command.specs.declared.work_ends.ClientEnd.TheVariants as client
+use Rattle.drive_command.specs.declared.stored_stop.StoredStop.{StoredStop}
+use Rattle.drive_command.specs.declared.stored_stop.StoredStop.TheVariants as stored
 use Rattle.osd_replay.specs.declared.status.Quantity.TheVariants.{Input}
 use Rattle.osd_replay.specs.declared.status.Status.{Status as ReplayStatus}
 use Rattle.osd_replay.specs.declared.status.Status.TheVariants as replay
 use Rattle.pnfs_run.specs.declared.status.Status.{Status}
 use Rattle.pnfs_run.specs.declared.status.Status.TheVariants.{Done, BadWords, BadScenario, ReadFault, WriteFault, Memory}
-use Rattle.pnfs_run.specs.declared.status.Status.TheVariants.{Full, LinkFault, BadCluster, Refused}
+use Rattle.pnfs_run.specs.declared.status.Status.TheVariants.{Full, LinkFault, BadCluster, Refused, DiskFault, BadStore}
 
 -- a command without a network
 abbrev pub by_replay : ReplayStatus → Status
@@ -30,6 +32,12 @@ by_stop stop.Memory = Memory
 by_stop stop.Full = Full Input
 by_stop stop.LinkFault = LinkFault
 
+-- a drive with a store that stopped before its work was done
+abbrev pub by_stored : StoredStop → Status
+by_stored (stored.Command stop) = by_stop stop
+by_stored stored.DiskFault = DiskFault
+by_stored (stored.BadStore at) = BadStore at
+
 -- the work of a client that was told
 abbrev pub by_client : ClientEnd → Status
 by_client client.Done = Done
@@ -46,3 +54,5 @@ exit_code_of (Full quantity) = 7
 exit_code_of LinkFault = 8
 exit_code_of (BadCluster kind) = 9
 exit_code_of (Refused outcome) = 10
+exit_code_of DiskFault = 11
+exit_code_of (BadStore at) = 12

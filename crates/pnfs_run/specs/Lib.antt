@@ -3,3 +3,4 @@ pub mod Exit
 pub mod Ends
 pub mod Network
 pub mod Run
+pub mod Stored

@@ -1,10 +1,11 @@
-//! Runs the program's commands over any source, sink, links and clock: scenarios, structures, and the parties of a
-//! cluster over a network.
+//! Runs the program's commands over any source, sink, links, clock and disk: scenarios, structures, and the parties of
+//! a cluster over a network.
 #![tactic(auto)]
 
 mod network;
 mod party;
 mod status;
+mod stored;
 mod top_call;
 
 pub use status::Status;

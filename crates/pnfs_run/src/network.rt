@@ -35,7 +35,7 @@ fn put_words_error<K: Sink>(sink: &mut K)
 }
 
 /// Tells that the words aren't those of a command, or that there was no memory to read them.
-fn words_refused<K: Sink>(sink: &mut K, e: WordsErr) -> Status
+pub(crate) fn words_refused<K: Sink>(sink: &mut K, e: WordsErr) -> Status
     ensures { TellsWords e (K.taken sink.old) (K.taken sink.new) (K.faults sink.old) (K.faults sink.new) result }
 {
     match e {

@@ -6,6 +6,7 @@ ghost use Rattle.pnfs_run.specs.Party.{party_of, party_of_word};
 #[derive(Clone, Copy, Debug, PartialEq, Eq)]
 pub enum Party {
     Drive,
+    StoredDrive,
     Server,
     Client,
 }
@@ -16,6 +17,7 @@ fn party_of_word(word: &str) -> Option<Party>
 {
     match word {
         "drive" => Some(Party::Drive),
+        "stored-drive" => Some(Party::StoredDrive),
         "server" => Some(Party::Server),
         "client" => Some(Party::Client),
         _ => None,

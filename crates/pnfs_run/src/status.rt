@@ -4,6 +4,7 @@ ghost use Rattle.pnfs_run.specs.Exit.{exit_code_of};
 
 use client_command::{ClientEnd, Refusal};
 use cluster_text::{ClusterKind, CommandStop};
+use drive_command::StoredStop;
 use osd_replay::{Quantity, ScenarioKind, Status as ReplayStatus};
 
 /// How a run ended.
@@ -29,6 +30,10 @@ pub enum Status {
     BadCluster { kind: ClusterKind },
     /// What the client was asked to do was refused.
     Refused { outcome: Refusal },
+    /// The disk of a drive's store failed.
+    DiskFault,
+    /// What the disk has isn't in the form of a store from this byte on, or with 8 may be the store of another number.
+    BadStore { at: u64 },
 }
 
 impl From<ReplayStatus> for Status {
@@ -68,6 +73,20 @@ impl From<CommandStop> for Status {
     }
 }
 
+impl From<StoredStop> for Status {
+    ghost use Rattle.pnfs_run.specs.Exit.{by_stored};
+
+    ghost from_gives = { λ from status. status ≡ by_stored from };
+
+    fn from(stop: StoredStop) -> Self {
+        match stop {
+            StoredStop::Command(stop) => Status::from(stop),
+            StoredStop::DiskFault => Status::DiskFault,
+            StoredStop::BadStore { at } => Status::BadStore { at },
+        }
+    }
+}
+
 impl From<ClientEnd> for Status {
     ghost use Rattle.pnfs_run.specs.Exit.{by_client};
 
@@ -97,6 +116,8 @@ impl Status {
             Status::LinkFault => 8,
             Status::BadCluster { .. } => 9,
             Status::Refused { .. } => 10,
+            Status::DiskFault => 11,
+            Status::BadStore { .. } => 12,
         }
     }
 }

@@ -4,37 +4,52 @@ ghost use Rattle.stripe_repair.specs.Placing.{IsPlacer};
 ghost use Rattle.pnfs_run.specs.Ends.{ends_at};
 ghost use Rattle.pnfs_run.specs.Party.{party_of};
 ghost use Rattle.pnfs_run.specs.Run.{AreBad, JudgesWords, Promises, RunsAlone};
+ghost use Rattle.pnfs_run.specs.Stored.{KeepsDisk};
 
 use crate::network::{run_client, run_drive, run_server};
 use crate::party::{Party, party_named};
 use crate::status::Status;
+use crate::stored::run_stored_drive;
 use osd_bytes::{Clock, Links, Sink, Source};
+use osd_disk::Disk;
 use osd_lists::{Memory, Numbers};
 use std::alloc::Global;
 use stripe_repair::{DriveLoad, Placer};
 
-/// Runs the command that the words name over a source, a sink, links and a clock, and tells how it ended.
-pub fn run<S: Source, K: Sink, L: Links, C: Clock, F>(
+/// Runs the command that the words name over a source, a sink, links, a clock and a disk, and tells how it ended. The disk
+/// comes back; a command without a store asks it nothing.
+pub fn run<S: Source, K: Sink, L: Links, C: Clock, D: Disk, F>(
     alloc: Global,
     words: &[String],
     source: &mut S,
     sink: &mut K,
     links: &mut L,
     clock: &mut C,
+    disk: D,
     placer: &Placer<F>,
-) -> Status
+) -> (Status, D)
 where
     F: Fn(u32, &[DriveLoad]) -> Result<Numbers, Memory>,
     requires { IsPlacer F.Fn placer.now }
-    ensures promise { Promises (party_of (map string_bytes words.now)) (map string_bytes words.now)
+    ensures promise { Promises D.Disk disk result.1 (party_of (map string_bytes words.now)) (map string_bytes words.now)
         (ends_at S.Source K.Sink L.Links C.Clock source.old sink.old links.old clock.old)
-        (ends_at S.Source K.Sink L.Links C.Clock source.new sink.new links.new clock.new) result }
-    ensures words { JudgesWords (AreBad (party_of (map string_bytes words.now)) (map string_bytes words.now)) result }
+        (ends_at S.Source K.Sink L.Links C.Clock source.new sink.new links.new clock.new) result.0 }
+    ensures words { JudgesWords (AreBad (party_of (map string_bytes words.now)) (map string_bytes words.now)) result.0 }
+    ensures disk { KeepsDisk (party_of (map string_bytes words.now)) disk result.1 result.0 }
 {
     match party_named(words) {
-        Some(Party::Drive) => run_drive(alloc, words, source, sink, links, clock),
-        Some(Party::Server) => run_server(alloc, words, source, sink, links, clock, placer),
-        Some(Party::Client) => run_client(alloc, words, source, sink, links),
-        None => Status::from(osd_replay::run(alloc, words, source, sink, placer)),
+        Some(Party::Drive) => (run_drive(alloc, words, source, sink, links, clock), disk),
+        Some(Party::StoredDrive) => run_stored_drive(
+            alloc, words, source, sink, links, clock, disk,
+        ),
+        Some(Party::Server) => (
+            run_server(alloc, words, source, sink, links, clock, placer),
+            disk,
+        ),
+        Some(Party::Client) => (run_client(alloc, words, source, sink, links), disk),
+        None => (
+            Status::from(osd_replay::run(alloc, words, source, sink, placer)),
+            disk,
+        ),
     }
 }

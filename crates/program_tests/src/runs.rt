@@ -4,6 +4,7 @@ ghost use Rattle.stripe_repair.specs.Placing.{CanPlace, IsPlacer, Places};
 
 use crate::ends::{copied, lists, numbers};
 use osd_bytes::{Clock, Links, MemClock, MemLinks, MemSink, MemSource, Sink, Source};
+use osd_disk::MemDisk;
 use osd_lists::{Memory, Numbers, Times};
 use osd_replay::fewest_first;
 use pnfs_run::{Status, run};
@@ -108,7 +109,9 @@ where
     F: Fn(u32, &[DriveLoad]) -> Result<Numbers, Memory>,
     requires { IsPlacer F.Fn placer.now }
 {
-    run(alloc, words, source, sink, links, clock, placer)
+    let disk = MemDisk::new(alloc, Numbers::new(alloc));
+    let (status, _disk) = run(alloc, words, source, sink, links, clock, disk, placer);
+    status
 }
 
 // The exit status of the program for these words. Components are placed as the program places them.

@@ -7,7 +7,7 @@ use Rattle.pnfs_run.proofs.top_call.run.Goals as goal
 pub returns-in-Some-Client-clause-promise : goal.returns-in-Some-Client-clause-promise
 returns-in-Some-Client-clause-promise g c =
     subst
-    (λ (p : Option Party). Promises p (map string_bytes c.args.words.now)
+    (λ (p : Option Party). Promises g.D.Disk c.args.disk c.args.disk p (map string_bytes c.args.words.now)
     (ends (g.S.Source.left c.args.source.now) (g.S.Source.faults c.args.source.now)
     (g.K.Sink.taken c.args.sink.now) (g.K.Sink.faults c.args.sink.now) (g.L.Links.told c.args.links.now)
     (g.L.Links.faults c.args.links.now) (g.C.Clock.times c.args.clock.now))

@@ -1,0 +1,54 @@
+// Why a drive doesn't serve from its store.
+use osd_links::{FileCause, Printable};
+use std::alloc::{AllocError, Global};
+
+// The place of a drive's number in its store.
+const NUMBER_PLACE: u64 = 8;
+
+// What may be done about it.
+fn rest_for(cause: &FileCause) -> &'static str {
+    match cause {
+        FileCause::NoFolder => "The file is made where there is none, but its folder isn't.\n",
+        FileCause::InUse =>
+            "One drive at a time can serve from a store: end the other one first.\n",
+        FileCause::Full => {
+            "All that was answered is in the store. Make room, and start the drive again: it goes on from there.\n"
+        }
+        FileCause::System(_) => {
+            "If the disk itself fails, don't start the drive on it again: declare it, and rebuild its files.\n"
+        }
+        _ => "",
+    }
+}
+
+/// What a person is told if the file of a store can't be opened, read, written or synced.
+pub fn failed_disk(
+    alloc: Global,
+    store: &str,
+    cause: Option<&FileCause>,
+) -> Result<String, AllocError> {
+    let file = Printable::new(store.as_bytes());
+    match cause {
+        Some(cause) => {
+            let rest = rest_for(cause);
+            format!(in alloc; "pnfs_osd: the file {file}: {cause}\n{rest}")
+        }
+        None => format!(in alloc; "pnfs_osd: the file {file} failed\n"),
+    }
+}
+
+// What is wrong with a file that is no store from this place on.
+fn fault_at(at: u64) -> &'static str {
+    match at {
+        0 => "isn't the store of a drive",
+        NUMBER_PLACE => "is the store of a drive with another number",
+        _ => "was cut short or changed (docs/STORES.md)",
+    }
+}
+
+/// What a person is told if a file is no store of the drive from this place on.
+pub fn refused_store(alloc: Global, store: &str, at: u64) -> Result<String, AllocError> {
+    let file = Printable::new(store.as_bytes());
+    let fault = fault_at(at);
+    format!(in alloc; "pnfs_osd: the file {file} {fault}. It is left as it is\n")
+}

@@ -1,0 +1,32 @@
+-- What the command of a drive with a store does, and what the others leave of the disk.
+use Rattle.std.specs.Prelude.{◌≡◌, ◌⊎◌, Option, Some, None}
+use Rattle.command_words.specs.declared.stored_words.StoredDriveWords.{StoredDriveWords}
+use Rattle.drive_command.specs.declared.stored_stop.StoredStop.{StoredStop}
+use Rattle.drive_command.specs.StoredEnds.{EndsStored, ServesStoredAs}
+use Rattle.osd_disk.specs.declared.disk.Disk.{Ghosts as DiskGhosts}
+use Rattle.pnfs_run.specs.declared.party.Party.{Party}
+use Rattle.pnfs_run.specs.declared.party.Party.TheVariants.{Drive, StoredDrive, Server, Client}
+use Rattle.pnfs_run.specs.declared.status.Status.{Status}
+use Rattle.pnfs_run.specs.declared.status.Status.TheVariants.{Done, BadWords}
+use Rattle.pnfs_run.specs.Exit.{by_stored}
+use Rattle.pnfs_run.specs.Ends.{Ends, drive_ends, streams_of}
+
+-- the drive serves all connections from its store, or stops
+abbrev pub StoredDriveEnds : {D : Type 0} → DiskGhosts D → (disk left : D) → StoredDriveWords → (before now : Ends) → Status → Type 0
+StoredDriveEnds s disk left w before now status =
+    ((status ≡ Done)
+    × ServesStoredAs s w.drive.number w.drive.connections (streams_of before) (streams_of now) (drive_ends before) (drive_ends now) disk left)
+    ⊎ ((why : StoredStop) × (status ≡ by_stored why)
+    × EndsStored s w.drive.number w.drive.connections (streams_of before) (streams_of now) (drive_ends before) (drive_ends now) disk left why)
+
+-- where words are refused, the disk is as it was given
+abbrev pub LeavesDisk : {D : Type 0} → (disk left : D) → Status → Type 0
+LeavesDisk disk left status = status ≡ BadWords → left ≡ disk
+
+-- and so it is behind a command without a store
+abbrev pub KeepsDisk : {D : Type 0} → Option Party → (disk left : D) → Status → Type 0
+KeepsDisk None disk left status = left ≡ disk
+KeepsDisk (Some Drive) disk left status = left ≡ disk
+KeepsDisk (Some StoredDrive) disk left status = LeavesDisk disk left status
+KeepsDisk (Some Server) disk left status = left ≡ disk
+KeepsDisk (Some Client) disk left status = left ≡ disk

@@ -1,0 +1,55 @@
+// The command of a drive with a store.
+ghost use Rattle.std.specs.Prelude.{map, string_bytes};
+ghost use Rattle.command_words.specs.declared.words.WordsErr.TheVariants as words_err;
+ghost use Rattle.command_words.specs.Asked.{Refuses};
+ghost use Rattle.command_words.specs.StoredAsked.{stored_drive_gives, stored_drive_options};
+ghost use Rattle.pnfs_run.specs.Ends.{ends_at};
+ghost use Rattle.pnfs_run.specs.Network.{Runs};
+ghost use Rattle.pnfs_run.specs.Run.{JudgesWords};
+ghost use Rattle.pnfs_run.specs.Stored.{LeavesDisk, StoredDriveEnds};
+
+use crate::network::words_refused;
+use crate::status::Status;
+use command_words::stored_drive_words;
+use drive_command::stored_drive_command;
+use osd_bytes::{Clock, Links, Sink, Source};
+use osd_disk::Disk;
+use std::alloc::Global;
+
+/// Serves as a drive that is kept on the disk, which comes back.
+pub(crate) fn run_stored_drive<S: Source, K: Sink, L: Links, C: Clock, D: Disk>(
+    alloc: Global,
+    words: &[String],
+    source: &mut S,
+    sink: &mut K,
+    links: &mut L,
+    clock: &mut C,
+    disk: D,
+) -> (Status, D)
+    ensures promise { Runs stored_drive_options stored_drive_gives (StoredDriveEnds D.Disk disk result.1) (map string_bytes words.now)
+        (ends_at S.Source K.Sink L.Links C.Clock source.old sink.old links.old clock.old)
+        (ends_at S.Source K.Sink L.Links C.Clock source.new sink.new links.new clock.new) result.0 }
+    ensures words { JudgesWords (Refuses stored_drive_options stored_drive_gives (map string_bytes words.now) words_err.Bad) result.0 }
+    ensures disk { LeavesDisk disk result.1 result.0 }
+{
+    let asked = match stored_drive_words(alloc, words) {
+        Ok(asked) => asked,
+        Err(e) => return (words_refused(sink, e), disk),
+    };
+    let (number, connections) = (asked.drive.number, asked.drive.connections);
+    let name = asked.store.as_str();
+    match stored_drive_command(
+        alloc,
+        number,
+        connections,
+        name,
+        source,
+        sink,
+        links,
+        clock,
+        disk,
+    ) {
+        Ok(disk) => (Status::Done, disk),
+        Err(refusal) => (Status::from(refusal.0), refusal.1),
+    }
+}
