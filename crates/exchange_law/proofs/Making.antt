@@ -53,7 +53,7 @@ by_name : (m : RawMap) (b : Bool) (x : Refusal) (o : Option Refusal) → (if b t
 by_name m true x o e good = absurd (cc e)
 by_name m false x o e good = good e
 
-good_map : (s : Server) (number : ℕ) (m : RawMap) → HasAlgorithm m → refusal s number m ≡ None → IsGood m
+pub good_map : (s : Server) (number : ℕ) (m : RawMap) → HasAlgorithm m → refusal s number m ≡ None → IsGood m
 unfolding refusal checked_64
 good_map s number m h none =
     by_name m (is_some (file_at s.files number)) _ _ none

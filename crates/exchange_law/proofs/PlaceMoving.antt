@@ -41,14 +41,14 @@ is_in g r e =
     at_most : (a b : ℕ) → nat_le a b ≡ true → a ≤ b
     at_most a b e = grind (arith, nat_tests, e)
 
-write_in : (g : Reach) (size : ℕ) (r : Span) → covers_write g size r ≡ true → (g.rw ≡ true) × IsHeldIn g r
+pub write_in : (g : Reach) (size : ℕ) (r : Span) → covers_write g size r ≡ true → (g.rw ≡ true) × IsHeldIn g r
 unfolding covers_write
 write_in g size r e =
     let s = and_parts g.rw (contains g r && (g.extending || nat_le (r.offset + r.length) size)) e in
     let t = and_parts (contains g r) (g.extending || nat_le (r.offset + r.length) size) s.1 in
     (s.0, is_in g r t.0)
 
-read_in : (g : Reach) (size : ℕ) (r : Span) → covers_read g size r ≡ true → ((clipped size r).length == 0) ≡ false
+pub read_in : (g : Reach) (size : ℕ) (r : Span) → covers_read g size r ≡ true → ((clipped size r).length == 0) ≡ false
     → IsHeldIn g (clipped size r)
 unfolding covers_read
 read_in g size r e some =

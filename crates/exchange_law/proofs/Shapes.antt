@@ -21,7 +21,7 @@ use Rattle.server_rules.specs.Orders.{offline, declare}
 use Rattle.server_rules.specs.Replies.{Hearing, Older, Full, Done, Nothing, hearing, hears, fills_up}
 use Rattle.server_rules.specs.Requests.{serves, on_request}
 use Rattle.server_rules.specs.Making.{new_server, online, checked_64, by_online, by_check, refusal, makes_file, with_file, are_of, places}
-use Rattle.server_rules.specs.History.{Input, Act, step, state_after}
+use Rattle.server_rules.specs.History.{Input, Makes, Act, step, state_after}
 use Rattle.server_rules.proofs.Components.{length_lost, length_components}
 use Rattle.move_law.specs.Steps.{answered_file, new_file}
 use Rattle.move_law.proofs.Steps.{each_request, each_step}
@@ -138,14 +138,12 @@ serves_long go next format now client (Return report) = return_long go format cl
 
 -- ---- all files
 
-abbrev IsShape : RawMap × ℕ → Type 0
-IsShape p = (p.1 ≡ p.0.comps) × (p.0.comps ≤ MAX_FILE_COMPONENTS)
+-- so P is of the map of a file and the number of its components
+abbrev pub Shaped : (RawMap × ℕ → Type 0) → File → Type 0
+Shaped P f = P (shape f.kept)
 
-abbrev Shaped : File → Type 0
-Shaped f = IsShape (shape f.kept)
-
-over : (g h : Going) → Long g h → Shaped g.file → Shaped h.file
-over g h same x = subst IsShape (sym same) x
+over : (P : RawMap × ℕ → Type 0) (g h : Going) → Long g h → Shaped P g.file → Shaped P h.file
+over P g h same x = subst P (sym same) x
 
 -- ---- a file that is made
 
@@ -190,7 +188,7 @@ unfolding checked
 checked_same m n e =
     same_map (bad_unit m) (too_many m) (too_few m) (bad_multiple m) (bad_width m) (bad_depth m) _ _ _ _ _ _ m n e
 
-checked_64_same : (m n : RawMap) → checked_64 m ≡ Ok n → m ≡ n
+pub checked_64_same : (m n : RawMap) → checked_64 m ≡ Ok n → m ≡ n
 unfolding checked_64
 checked_64_same m n e = by (bad_unit m) (nat_lt MAX_FILE_COMPONENTS m.comps) e
   where
@@ -227,14 +225,19 @@ not_refused s n m e = by (is_some (file_at s.files n)) e
 
 -- ---- whatever comes
 
-module _ (s : Server) (chosen : List ℕ) (i : Input) (all : Each Shaped s.files) where
+-- a file that is made has a component for each that its map has, so P need only hold of that
+abbrev pub IsOfMade : (RawMap × ℕ → Type 0) → Server → Input → Type 0
+IsOfMade P s i = (n : ℕ) (m : RawMap) (tag : ℕ) → i ≡ Makes n m tag → refusal s n m ≡ None → P (m, m.comps)
+
+module _ (P : RawMap × ℕ → Type 0) (s : Server) (chosen : List ℕ) (i : Input) (new : IsOfMade P s i)
+    (all : Each (Shaped P) s.files) where
   -- at a file that is there
   put_shaped : (n : ℕ) (f : File) (g : Going) → In f s.files → Long (at_file s chosen f) g
-      → Each Shaped (put_file s.files n g.file)
-  put_shaped n f g there same = put_each Shaped s.files n g.file all (over (at_file s chosen f) g same (all f there))
+      → Each (Shaped P) (put_file s.files n g.file)
+  put_shaped n f g there same = put_each (Shaped P) s.files n g.file all (over P (at_file s chosen f) g same (all f there))
 
-  asked_shaped : (now : ℕ) (q : ClientRequest) → Each Shaped (on_request s now chosen q).state.files
-  asked_shaped now q = each_request s now chosen q (λ (t : Step). Each Shaped t.state.files) (record {
+  asked_shaped : (now : ℕ) (q : ClientRequest) → Each (Shaped P) (on_request s now chosen q).state.files
+  asked_shaped now q = each_request s now chosen q (λ (t : Step). Each (Shaped P) t.state.files) (record {
     again = λ kept is. all;
     misordered = λ expected is. all;
     without = λ new none. all;
@@ -243,28 +246,27 @@ module _ (s : Server) (chosen : List ℕ) (i : Input) (all : Each Shaped s.files
         (in_at s.files q.file f found) (serves_long (at_file s chosen f) s.next_grant s.format now q.client q.args);
   })
 
-  declared_shaped : (d : ℕ) → Each Shaped (declare s chosen d).state.files
+  declared_shaped : (d : ℕ) → Each (Shaped P) (declare s chosen d).state.files
   unfolding declare
   declared_shaped d =
-      declared_each Shaped d (offline s.drives d) s.files (begins s) chosen (λ f there m placed.
+      declared_each (Shaped P) d (offline s.drives d) s.files (begins s) chosen (λ f there m placed.
       let g : Going = record { file = f; effects = m; drives = offline s.drives d; chosen = placed } in
-      over g (declares g d) (long_declares g d) (all f there))
+      over P g (declares g d) (long_declares g d) (all f there))
 
-  made_shaped : (n : ℕ) (m : RawMap) (tag : ℕ) → refusal s n m ≡ None
-      → Each Shaped (makes_file s (new_file s chosen n m tag)).state.files
-  made_shaped n m tag none =
+  made_shaped : (n : ℕ) (m : RawMap) (tag : ℕ) → i ≡ Makes n m tag → refusal s n m ≡ None
+      → Each (Shaped P) (makes_file s (new_file s chosen n m tag)).state.files
+  made_shaped n m tag is none =
       let f : File = new_file s chosen n m tag in
       let it = not_refused s n m none in
-      let new : Shaped f = (
-        length_components (places s.drives m.comps chosen) s.next_object ∙ length_places s.drives m.comps chosen it.1,
-        it.0,
-      ) in
+      let count : length f.kept.components ≡ m.comps =
+      length_components (places s.drives m.comps chosen) s.next_object ∙ length_places s.drives m.comps chosen it.1 in
+      let fresh : Shaped P f = subst (λ (k : ℕ). P (m, k)) (sym count) (new n m tag is none) in
       let g : Going = making (at_file (with_file s f) [] f) in
-      put_each Shaped (add_file s.files f) n g.file (add_each Shaped s.files f all new)
-      (over (at_file (with_file s f) [] f) g (long_making (at_file (with_file s f) [] f)) new)
+      put_each (Shaped P) (add_file s.files f) n g.file (add_each (Shaped P) s.files f all fresh)
+      (over P (at_file (with_file s f) [] f) g (long_making (at_file (with_file s f) [] f)) fresh)
 
-  step_shaped : Each Shaped (step s chosen i).state.files
-  step_shaped = each_step s chosen i (λ (t : Step). Each Shaped t.state.files) (record {
+  pub step_shaped : Each (Shaped P) (step s chosen i).state.files
+  step_shaped = each_step s chosen i (λ (t : Step). Each (Shaped P) t.state.files) (record {
     rests = all;
     asked = λ now q is. asked_shaped now q;
     answered = λ x is.
@@ -278,26 +280,32 @@ module _ (s : Server) (chosen : List ℕ) (i : Input) (all : Each Shaped s.files
         (in_at s.files is.target f is.found) (long_fence kind s.format (at_file s chosen f));
     declared = λ d known. declared_shaped d;
     told = λ t now o is result shaped. shaped;
-    made = λ n m tag is none. made_shaped n m tag none;
+    made = λ n m tag is none. made_shaped n m tag is none;
     added = λ d is. all;
     formats = λ n is. all;
     resends = λ is. all;
-    crashes = λ is. crashed_each Shaped s.files all;
+    crashes = λ is. crashed_each (Shaped P) s.files all;
     opened = λ is low.
-        opened_each Shaped s.format s.drives s.files (begins s) (λ f there m.
+        opened_each (Shaped P) s.format s.drives s.files (begins s) (λ f there m.
         let g : Going = record { file = f; effects = m; drives = s.drives; chosen = [] } in
-        over g (opens s.format g) (long_opens s.format g) (all f there));
+        over P g (opens s.format g) (long_opens s.format g) (all f there));
   })
 
-run_shaped : (s : Server) (acts : List Act) → Each Shaped s.files → Each Shaped (state_after s acts).files
+abbrev IsShape : RawMap × ℕ → Type 0
+IsShape p = (p.1 ≡ p.0.comps) × (p.0.comps ≤ MAX_FILE_COMPONENTS)
+
+run_shaped : (s : Server) (acts : List Act) → Each (Shaped IsShape) s.files → Each (Shaped IsShape) (state_after s acts).files
 run_shaped s [] all = all
-run_shaped s (a ∷ acts) all = run_shaped (step s a.chosen a.input).state acts (step_shaped s a.chosen a.input all)
+run_shaped s (a ∷ acts) all =
+    run_shaped (step s a.chosen a.input).state acts
+    (step_shaped IsShape s a.chosen a.input (λ n m tag is none. (refl, (not_refused s n m none).0)) all)
 
 -- at each moment the server is a new one after some inputs
 pub files_have_shape : AllPartiesRun → FilesHaveShape
 files_have_shape run w r n f at =
     let it = (run w r).server in
-    let all : Each Shaped w.server.files =
-    subst (λ (s : Server). Each Shaped s.files) (sym it.is) (run_shaped (new_server []) it.acts (λ g i. absurd i)) in
-    let x : Shaped f = all f (in_at w.server.files n f at) in
+    let all : Each (Shaped IsShape) w.server.files =
+    subst (λ (s : Server). Each (Shaped IsShape) s.files) (sym it.is)
+    (run_shaped (new_server []) it.acts (λ g i. absurd i)) in
+    let x : Shaped IsShape f = all f (in_at w.server.files n f at) in
     record { components = x.0; few = x.1 }

@@ -48,7 +48,7 @@ use Rattle.exchange_law.proofs.Sources.{below}
 
 -- ---- commands without a capability
 
-not_none : (y : Command) → has_no_right y ≡ false → y.capability ≡ no_capability → ⊥
+pub not_none : (y : Command) → has_no_right y ≡ false → y.capability ≡ no_capability → ⊥
 not_none y allowed none =
     let nothing : nat_eq (bit_and y.capability.rights (right_of y.action)) 0 ≡ true =
     ap (λ (x : Capability). nat_eq (bit_and x.rights (right_of y.action)) 0) none ∙ nothing_allowed y.action in

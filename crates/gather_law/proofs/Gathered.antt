@@ -45,10 +45,10 @@ each_from top [] e a i = absurd i
 each_from top (x ∷ xs) e a (inl i) = rw i e.0
 each_from top (x ∷ xs) e a (inr i) = each_from top xs e.1 a i
 
-below_to : (top : ℕ) (xs : List Awaited) → AreBelow top xs → WereBelow top xs
+pub below_to : (top : ℕ) (xs : List Awaited) → AreBelow top xs → WereBelow top xs
 below_to top xs b = record { differ = b.differ; below = each_to top xs b.below }
 
-below_from : (top : ℕ) (xs : List Awaited) → WereBelow top xs → AreBelow top xs
+pub below_from : (top : ℕ) (xs : List Awaited) → WereBelow top xs → AreBelow top xs
 below_from top xs b = record { differ = b.differ; below = each_from top xs b.below }
 
 in_to : (a : Awaited) (xs : List Awaited) → In a xs → IsIn a xs
@@ -59,7 +59,7 @@ in_to a (x ∷ xs) (inr i) = inr (in_to a xs i)
 -- ---- a gather goes on
 
 -- where nothing is awaited all was fetched
-fetched : (m : RawMap) (r : Span) (out : List ℕ) (got : List Column) (top : ℕ) → IsReady m r out got [] top →
+pub fetched : (m : RawMap) (r : Span) (out : List ℕ) (got : List Column) (top : ℕ) → IsReady m r out got [] top →
     0 < parities m → IsFetched ToGather m r got out
 fetched m r out got top x some = λ s b c t l n w.
     had_got got (position_of m s c) (offset_of m s b)
@@ -91,7 +91,7 @@ due_is : (h : Held) (r : Span) (got : List Column) (timed : List TimedOut) (awai
 unfolding gathers_due
 due_is h r got timed awaited some = rw (ne_eqb (parities h.map) 0 (λ e. absurd (omega (arith, e, some)))) refl
 
-ready_sent : (h : Held) (r : Span) (got : List Column) (timed : List TimedOut) (awaited : List Awaited) → 0 < r.length →
+pub ready_sent : (h : Held) (r : Span) (got : List Column) (timed : List TimedOut) (awaited : List Awaited) → 0 < r.length →
     unwritable h.map (outs h timed) (stripes h.map r) ≡ None → AreBelow (nonce_at h h.count) awaited →
     IsReady h.map r (outs h timed) got (awaited ++ read_commands h (gathers_due h r got timed awaited))
     (nonce_at h (h.count + length (read_commands h (gathers_due h r got timed awaited))))
@@ -119,7 +119,7 @@ gather_begins h op got timed awaited ch is can b =
 
 -- ---- replies and timeouts
 
-ready_replied : (m : RawMap) (r : Span) (out : List ℕ) (got : List Column) (awaited : List Awaited) (a : Awaited)
+pub ready_replied : (m : RawMap) (r : Span) (out : List ℕ) (got : List Column) (awaited : List Awaited) (a : Awaited)
     (reply : Reply) (top : ℕ) → In a awaited → IsReady m r out got awaited top →
     IsReady m r out (got ++ got_of a reply ∷ []) (others awaited a.command.nonce) top
 ready_replied m r out got awaited a reply top i x = record {
@@ -131,7 +131,7 @@ ready_replied m r out got awaited a reply top i x = record {
   nonces = below_from _ _ (others_below top a.command.nonce awaited (below_to top awaited x.nonces));
 }
 
-no_more : (h : Held) → nonce_at h h.count ≡ nonce_at h (h.count + 0)
+pub no_more : (h : Held) → nonce_at h h.count ≡ nonce_at h (h.count + 0)
 no_more h = omega arith
 
 gather_hears : (h : Held) (op : CallOp) (io : Io) (a : Awaited) (r : Reply) → IsChecked h.map → IsSome op →
@@ -141,7 +141,7 @@ gather_hears h op io a r ch is i x =
     goes_on h op (io.got ++ got_of a r ∷ []) io.timed [] (others io.awaited a.command.nonce) ch is (rw (no_more h) at
     (ready_replied h.map (span_of op) (outs h io.timed) io.got io.awaited a r (nonce_at h h.count) i x))
 
-long_enough : (h : Held) (op : CallOp) (timed : List TimedOut) → is_too_short h op timed ≡ false →
+pub long_enough : (h : Held) (op : CallOp) (timed : List TimedOut) → is_too_short h op timed ≡ false →
     unwritable h.map (outs h timed) (stripes h.map (span_of op)) ≡ None
 unfolding is_too_short
 long_enough h op timed e = none_there (unwritable h.map (outs h timed) (stripes h.map (span_of op))) e

@@ -293,7 +293,7 @@ not_spent_on c (Some x) finds tag stale repeated (inr (inl old)) =
 not_spent_on c (Some x) finds tag stale repeated (inr (inr late)) =
     later_lane (lane_of x.lanes c.capability.holder) c.nonce (rw late.0 at stale) (rw late.0 at repeated) late.1
 
-not_spent : (a : DriveAt) (c : Command) → is_deaf a ≡ false → IsFree a.state c → IsSpent (Some a) c → ⊥
+pub not_spent : (a : DriveAt) (c : Command) → is_deaf a ≡ false → IsFree a.state c → IsSpent (Some a) c → ⊥
 not_spent a c hears f (inl failed) = cc (sym failed ∙ first_false a.failed a.down hears)
 not_spent a c hears f (inr (inl old)) = grind (arith, f.format, old, nat_tests)
 not_spent a c hears f (inr (inr spent)) =

@@ -79,7 +79,7 @@ byte_any m r l c e =
     any_is m r (stripe_of m l) (column_of m l) 0 (data_units m) (data_unit_of m l) (omega arith)
     (omega (arith, data_unit_below m l c)) (rw whole e)
 
-touch_is : (m : RawMap) (r : Span) (l : ℕ) → IsChecked m → in_range r l ≡ true → touches_column m r (column_at m l) ≡ true
+pub touch_is : (m : RawMap) (r : Span) (l : ℕ) → IsChecked m → in_range r l ≡ true → touches_column m r (column_at m l) ≡ true
 touch_is m r l c e = elim (with_parity m) [
   | inl some ↦ ap (touches_column m r) (col_coded m l some) ∙ touch_coded m r (stripe_of m l) (column_of m l) some
       (column_below m l c) ∙ byte_any m r l c e

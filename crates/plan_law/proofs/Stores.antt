@@ -66,17 +66,18 @@ rows_are m r s c p (i ∷ is) h = every_append (IsRow m r s c) (without [] p (at
     ]
 
 -- an ask for a component that isn't out, of changed bytes of one unit of a touched stripe
-record IsForAsk (m : RawMap) (r : Span) (out : List ℕ) (a : Ask) : Type 0 where
-  stripe : ℕ
-  unit : ℕ
-  wide : unit < group_width m
-  touched : IsTouchedStripe m r stripe
-  position : position_of m stripe unit ≡ a.position
-  component : a.component / replicas m ≡ a.position
-  below : a.component < m.comps
-  there : among a.component out ≡ false
-  some : 0 < a.length
-  each : (j : ℕ) → j < a.length → (b : ℕ) × (offset_of m stripe b ≡ a.offset + j) × IsWithin b (changed m r stripe unit) ×
+pub record IsForAsk (m : RawMap) (r : Span) (out : List ℕ) (a : Ask) : Type 0 where
+  pub stripe : ℕ
+  pub unit : ℕ
+  pub told : a.stripe ≡ stripe
+  pub wide : unit < group_width m
+  pub touched : IsTouchedStripe m r stripe
+  pub position : position_of m stripe unit ≡ a.position
+  pub component : a.component / replicas m ≡ a.position
+  pub below : a.component < m.comps
+  pub there : among a.component out ≡ false
+  pub some : 0 < a.length
+  pub each : (j : ℕ) → j < a.length → (b : ℕ) × (offset_of m stripe b ≡ a.offset + j) × IsWithin b (changed m r stripe unit) ×
       (offset_of m stripe (interval_start b (changed m r stripe unit)) ≡ a.offset) ×
       (offset_of m stripe (interval_end b (changed m r stripe unit)) ≡ a.offset + a.length)
 
@@ -88,6 +89,7 @@ asks_of_are m r out s c p k (i ∷ is) wide t is_p is_k below there h = (
   record {
     stripe = s;
     unit = c;
+    told = refl;
     wide = wide;
     touched = t;
     position = is_p;
@@ -117,7 +119,7 @@ asks_each_are m r out s c p k (suc n) is wide t is_p at h =
     ]
 
 -- the components of a position
-components : (m : RawMap) (p j : ℕ) → IsChecked m → p < positions m → p * replicas m ≤ j → j < p * replicas m + replicas m →
+pub components : (m : RawMap) (p j : ℕ) → IsChecked m → p < positions m → p * replicas m ≤ j → j < p * replicas m + replicas m →
     (j / replicas m ≡ p) × (j < m.comps)
 components m p j c below from to =
     let at : j ≡ p * replicas m + (j - p * replicas m) = omega (arith, from) in (
@@ -147,7 +149,7 @@ stripe_asks m r out s i (suc n) ch le t = every_append (IsForAsk m r out) (asks_
     (asks_stripe Scatters m r out [] s (i + 1) n) (place_asks m r out s i ch (omega (arith, le)) t)
     (stripe_asks m r out s (i + 1) n ch (omega (arith, le)) t)
 
-all_asks : (m : RawMap) (r : Span) (out : List ℕ) (a n : ℕ) → IsChecked m →
+pub all_asks : (m : RawMap) (r : Span) (out : List ℕ) (a n : ℕ) → IsChecked m →
     ((s : ℕ) → a ≤ s → s < a + n → IsTouchedStripe m r s) →
     Every (IsForAsk m r out) (asks Scatters m r out [] (range_with_len a n))
 unfolding asks
