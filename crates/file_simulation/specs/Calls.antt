@@ -17,6 +17,7 @@ use Rattle.fence_law.specs.State.Call.{Idle, Broken, Writes as AtWrite, Reads as
 use Rattle.fence_law.specs.State.Commit.{NoCommit, CommitAsked, CommitDone, CommitRefused}
 use Rattle.fence_law.specs.State.PartState.{NotSent, Sent, Done}
 use Rattle.fence_law.specs.Words.{In as InRun}
+use Rattle.file_simulation.specs.EventLists.{write_of}
 use Rattle.file_simulation.specs.Grants.{LayoutIs}
 use Rattle.plan_law.specs.Writes.{touches_column}
 
@@ -56,6 +57,8 @@ pub record IsWriteOf (s : machine.State) (op : CallOp) (j : ℕ) : Type 0 where
   pub write : (s.start j).is_write ≡ true
   pub bytes : (p : ℕ) → (s.start j).data_at p ≡ byte_for (span_of op).offset (bytes_of op) p
   pub past : (s.start j).end_ ≡ (span_of op).offset + (span_of op).length
+  -- nothing of it is for a component that its layout leaves out
+  pub listed : (k z v : ℕ) → (s.start j).content k z ≡ Some v → (s.start j).left k ≡ false
 
 -- ---- the WRITEs of a call
 
@@ -83,12 +86,23 @@ pub record AreOut (s : machine.State) (c j : ℕ) (awaited : List Awaited) (queu
     pub others : (k z v : ℕ) → (s.start j).content k z ≡ Some v →
         IsAwaited awaited k ((s.start j).part k z) ⊎ (IsQueued queue k ((s.start j).part k z)
         ⊎ IsOver s c j timed k ((s.start j).part k z))
+    -- and none is under way of which the client doesn't know
+    pub known : (k i v : ℕ) → s.out c k i ≡ Sent v → IsAwaited awaited k i ⊎ IsTimedOut timed k
 
--- what is queued carries the entry's content, as its part
+-- no two of these are for one part
+abbrev pub PartsDiffer : List Store → Type 0
+PartsDiffer [] = Unit {0}
+PartsDiffer (w ∷ ws) =
+    ((q : Store) → In q ws → q.ask.component ≡ w.ask.component → q.ask.offset ≡ w.ask.offset → ⊥) × PartsDiffer ws
+
+-- what is queued carries the entry's content, as its part and all of it, to a component that the layout lists
 pub record CarriesContent (e : machine.Start) (q : Store) : Type 0 where
   pub bytes : (i : ℕ) → i < length q.bytes →
       e.content q.ask.component (q.ask.offset + i) ≡ Some (slice_index q.bytes i)
   pub part : (i : ℕ) → i < length q.bytes → e.part q.ask.component (q.ask.offset + i) ≡ q.ask.offset
+  pub just : (z v : ℕ) → e.content q.ask.component z ≡ Some v → e.part q.ask.component z ≡ q.ask.offset →
+      (q.ask.offset ≤ z) × (z < q.ask.offset + length q.bytes)
+  pub listed : e.left q.ask.component ≡ false
 
 -- ---- writes
 
@@ -98,6 +112,7 @@ pub record IsWriting (s : machine.State) (c : ℕ) (op : CallOp) (commit : machi
   pub commit_is : s.commit c ≡ commit
   pub running : IsRunning s c j
   pub write : IsWriteOf s op j
+  pub last : write_of s c ≡ j
 
 -- it sends WRITEs, at the size that it knows
 pub record IsScattering (s : machine.State) (c : ℕ) (op : CallOp) (io : Io) (queue : List Store) (j : ℕ) : Type 0 where
@@ -105,6 +120,7 @@ pub record IsScattering (s : machine.State) (c : ℕ) (op : CallOp) (io : Io) (q
   pub clip : (s.start j).clip ≡ s.known_size c
   pub out : AreOut s c j io.awaited queue io.timed
   pub content : (q : Store) → In q queue → CarriesContent (s.start j) q
+  pub differ : PartsDiffer queue
 
 -- the write lies below the size that its client knew, or its commit was carried out
 abbrev pub Fits : machine.State → (j : ℕ) → Type 0
@@ -146,6 +162,7 @@ pub record IsTaken (s : machine.State) (c : ℕ) (op : CallOp) (j : ℕ) : Type 
   pub below : j < s.count
   pub client : (s.start j).client ≡ c
   pub write : IsWriteOf s op j
+  pub last : write_of s c ≡ j
   pub acknowledged : s.acknowledged j ≡ true
 
 -- the report waits for its answer, was answered without a loss, or was taken
@@ -244,10 +261,11 @@ HeldIs file m s c x o (Some h) = IsHolding m s c h
 HeldIs file m s c x o None = HoldsNone s c x.outstanding (reports_on file x.call && not (is_taken o))
 
 -- What the machine has of a client: the grant that it holds, the call that it is at, and nonces that are below those of a
--- grant that it is to take. `o` is the server's answer to its outstanding request, where there is one.
+-- grant that it is to take and of each that is still to be given. `o` is the server's answer to its outstanding request, where there is one.
 pub record IsClient (file : ℕ) (m : RawMap) (s : machine.State) (c : ℕ) (x : Client) (o : Option Answer) : Type 0 where
   pub held : HeldIs file m s c x o (held_of x.held file)
   pub call : CallAt file m s c o x.call
   pub fresh : (g : machine.Grant) (size : ℕ) → s.waiting c ≡ true →
       InRun (record { client = c; sequence = s.sequence c; grant = Some g; size = size }) s.answers →
       s.nonce c < g.number * NONCES
+  pub used : s.nonce c < s.next * NONCES

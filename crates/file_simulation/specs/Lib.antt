@@ -3,13 +3,13 @@ pub mod Grants
 pub mod Components
 pub mod Phases
 pub mod Requests
+pub mod EventLists
 pub mod Calls
 pub mod Messages
 pub mod Relation
 pub mod Jobs
 pub mod Creation
 pub mod Showing
-pub mod EventLists
 pub mod ClientEvents
 pub mod ServerEvents
 pub mod DriveEvents

@@ -65,8 +65,10 @@ abbrev pub HasReplied : World → (drive client : ℕ) → Reply → Type 0
 HasReplied w d c r =
     In (record { from = node.Drive d; to = node.Client c; body = OfReply r }) (said w.network.messages)
 
--- component k has shown these bytes to entry j
+-- component k has shown these bytes of its position to entry j
 pub record WasShown (s : machine.State) (j k : ℕ) (col : Column) : Type 0 where
+  pub below : k < s.layout.components
+  pub position : s.layout.position k ≡ col.position
   pub reply : machine.ReadReply
   pub shown : InRun reply s.shown
   pub entry : reply.entry ≡ j

@@ -65,6 +65,8 @@ pub record IsKept (s : machine.State) (server : Server) (f : File) : Type 0 wher
   pub size : s.size ≡ f.kept.size
   pub phase : PhaseIs s f f.kept.phase
   pub next : s.next ≤ server.next_grant
+  -- no grant is given before the file is made
+  pub unready : f.kept.ready ≡ false → s.granted_since ≡ false
 
 -- ---- how high grants reach
 
