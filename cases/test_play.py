@@ -162,6 +162,19 @@ class Rows(Playing):
         self.assertIn("could be sent", self.rows(begin + "drip x 0102 0.1\n"))
         self.assertIn("something comes back", self.rows(begin + "drip x 8000000101 0.1\n"))
 
+    def test_impostors_in_turn(self) -> None:
+        begin = "limit 20\nimpostor i x aa bbbb -\nask x {3*80000001cc}\n"
+        self.assertEqual(self.rows(begin + "  > 80000001aa80000002bbbb\nheard i\n  > cc\n  > cc\n  > cc\n"), "")
+        self.assertIn("number 3 has to be", self.rows(begin + "  > 80000001aa80000002bbbb\nheard i\n  > cc\n  > cc\n"))
+        self.assertEqual(self.rows("impostor i x aa\nimpostor i x dd\nask x 80000001cc\n  > 80000001dd\nheard i\n  > cc\n"), "")
+
+    def test_cut_connections(self) -> None:
+        begin = "limit 20\nstart s: serve {port s} 9\n  > listening\ncuts c x to s 2 %s\nask x 80000001aa\n  > 80000001aa\n"
+        for place, left in (("unheard", "-"), ("half", "-"), ("unanswered", "-"), ("halfway", "8000")):
+            self.assertEqual(self.rows(begin % place + "ask x 80000001aa\n  > %s\nclose c\n" % left), "")
+        self.assertEqual(self.rows(begin % "half" + "cuts c x to s 0 half\nask x 80000001aa\n  > 80000001aa\n"), "")
+        self.assertIn("and not there", self.rows("cuts c x to s 1 there\n"))
+
     def test_signals(self) -> None:
         begin = "start s: serve {port s} 9\n  > listening\nstop s\n"
         self.assertEqual(self.rows(begin + "continue s\nask s aa\n  > aa\ninterrupt s\n"), "")

@@ -17,6 +17,7 @@ class _Cluster:
         self.settings: Dict[str, str] = {}
         self.left_out: Set[int] = set()
         self.names: Dict[int, str] = {}
+        self.server = "s"
         self.files: List[List[str]] = []
         self.keyless = False
         for line in below:
@@ -31,7 +32,10 @@ class _Cluster:
         elif words[0] == "without" and len(words) == 2:
             self.left_out.add(int(words[1]))
         elif words[0] == "at" and len(words) == 3:
-            self.names[int(words[1])] = words[2]
+            if words[1] == "s":
+                self.server = words[2]
+            else:
+                self.names[int(words[1])] = words[2]
         elif words == ["keyless"]:
             self.keyless = True
         else:
@@ -45,7 +49,7 @@ class _Cluster:
 
     def text(self, values: Values, drives: int) -> str:
         """The text of a cluster of so many drives."""
-        parts = ['server = "127.0.0.1:%d"\n' % values.port("s")]
+        parts = ['server = "127.0.0.1:%d"\n' % values.port(self.server)]
         if "format" in self.settings:
             parts.append("format = %s\n" % self.settings["format"])
         for number in range(drives):

@@ -16,6 +16,9 @@ _FIRST, _LAST = 10_000, 31_999
 
 _TRIES = 1_000
 
+# How many seconds what listens has to end.
+CLOSING = 5
+
 ACTIONS = {"create": 1, "read": 2, "write": 3, "getattr": 4, "setattr": 5, "settag": 6}
 
 _LOCK = threading.Lock()
@@ -37,6 +40,15 @@ def free_port() -> int:
             except OSError:
                 continue
     raise Fault("no port of the loopback is free")
+
+
+def listening(port: int) -> socket.socket:
+    """What listens at a port."""
+    listener = socket.socket()
+    listener.setsockopt(socket.SOL_SOCKET, socket.SO_REUSEADDR, 1)
+    listener.bind((HOST, port))
+    listener.listen()
+    return listener
 
 
 def ask(port: int, sent: bytes, seconds: float) -> bytes:
@@ -97,7 +109,7 @@ def _receive(connection: socket.socket, count: int) -> Optional[bytes]:
     return got
 
 
-def _record(connection: socket.socket) -> Optional[bytes]:
+def record_of(connection: socket.socket) -> Optional[bytes]:
     """The next record, with the four bytes before it."""
     head = _receive(connection, 4)
     if head is None:
@@ -117,10 +129,7 @@ class Proxy:
         self._is_over = False
         self._kept = 0
         self._news = threading.Condition()
-        self._listener = socket.socket()
-        self._listener.setsockopt(socket.SOL_SOCKET, socket.SO_REUSEADDR, 1)
-        self._listener.bind((HOST, port))
-        self._listener.listen()
+        self._listener = listening(port)
         threading.Thread(target=self._accept, daemon=True).start()
 
     def _accept(self) -> None:
@@ -139,7 +148,7 @@ class Proxy:
         with contextlib.suppress(OSError):
             onward: Optional[socket.socket] = None
             while True:
-                record = _record(connection)
+                record = record_of(connection)
                 if record is not None and self._keeps_back(record):
                     with self._news:
                         self._kept += 1
@@ -187,26 +196,38 @@ class Proxy:
 
 
 class Impostor:
-    """Listens in a party's place, and answers each record with the same bytes."""
+    """Listens in a party's place, and answers the records that come with these bytes in turn, each further one with the last of them."""
 
-    def __init__(self, port: int, answer: bytes) -> None:
-        self._answer = answer
-        self._listener = socket.socket()
-        self._listener.setsockopt(socket.SOL_SOCKET, socket.SO_REUSEADDR, 1)
-        self._listener.bind((HOST, port))
-        self._listener.listen()
-        threading.Thread(target=self._accept, daemon=True).start()
+    def __init__(self, port: int, answers: List[bytes]) -> None:
+        self._answers = answers
+        self._heard: List[bytes] = []
+        self._listener = listening(port)
+        self._thread = threading.Thread(target=self._accept, daemon=True)
+        self._thread.start()
 
     def _accept(self) -> None:
         with contextlib.suppress(OSError):
             while True:
                 connection, _ = self._listener.accept()
                 with connection, contextlib.suppress(OSError):
-                    while _record(connection) is not None:
-                        connection.sendall(self._answer)
+                    while True:
+                        record = record_of(connection)
+                        if record is None:
+                            break
+                        self._heard.append(record)
+                        answer = self._answers[min(len(self._heard), len(self._answers)) - 1]
+                        if not answer:
+                            break
+                        connection.sendall(answer)
+
+    def heard(self) -> List[bytes]:
+        """The records that came."""
+        return list(self._heard)
 
     def close(self) -> None:
         """Ends it."""
         with contextlib.suppress(OSError):
             self._listener.shutdown(socket.SHUT_RDWR)
         self._listener.close()
+        # The port is free once nobody waits at it.
+        self._thread.join(CLOSING)

@@ -10,7 +10,7 @@ import tempfile
 import time
 from typing import Callable, Dict, List, Union
 
-from . import clusters, drives, network
+from . import clusters, cutting, drives, network
 from .case import Case, Fault, compare, lines_of
 from .marks import Marks, Row, Unlike, Values, command, read, take_lines
 from .parties import Party
@@ -33,7 +33,7 @@ class Run:
         self._program, self._folder, self._top = program, folder, top
         self._values = Values(network.free_port, {"dir": folder, "top": top})
         self._parties: Dict[str, Party] = {}
-        self._others: Dict[str, Union[network.Connection, network.Impostor, network.Proxy]] = {}
+        self._others: Dict[str, Union[network.Connection, network.Impostor, network.Proxy, cutting.Cutter]] = {}
         self._limit = _LIMIT
         home = os.path.join(folder, ".home")
         os.mkdir(home)
@@ -215,12 +215,32 @@ class Run:
         if taken < len(fields) and not any_may_follow:
             raise Fault("it also has the field\n  %s" % fields[taken])
 
-    def _impostor(self, words: List[str], _: Row) -> None:
-        name, port, answer = words
+    def _end_former(self, name: str) -> None:
+        """Ends what has the name, so that its port is free."""
         if name in self._others:
             self._others.pop(name).close()
-        answers = drives.framed(bytes.fromhex(answer.replace("-", "")))
-        self._others[name] = network.Impostor(self._values.port(port), answers)
+
+    def _cuts(self, words: List[str], _: Row) -> None:
+        name, port, to, onward, number, place = words
+        if to != "to":
+            raise Fault("what cuts is `cuts NAME PORT to PORT NUMBER PLACE`")
+        self._end_former(name)
+        ports = self._values.port(port), self._values.port(onward)
+        self._others[name] = cutting.Cutter(ports[0], ports[1], int(number), place)
+
+    def _impostor(self, words: List[str], _: Row) -> None:
+        name, port, answers = words[0], words[1], words[2:]
+        sent = [b"" if answer == "-" else drives.framed(bytes.fromhex(answer)) for answer in answers]
+        self._end_former(name)
+        self._others[name] = network.Impostor(self._values.port(port), sent)
+
+    def _heard(self, words: List[str], row: Row) -> None:
+        impostor = self._others.get(words[0])
+        if not isinstance(impostor, network.Impostor):
+            raise Fault("there is no impostor %s" % words[0])
+        wanted = [self._values.put_in(text) for _, text in Marks(row.below).output]
+        heard = [record for bytes_ in impostor.heard() for record in drives.records_in(bytes_)]
+        compare(wanted, [record.hex() for record in heard], "of the records that came, number")
 
     def _drip(self, words: List[str], _: Row) -> None:
         port, sent, pause = words
@@ -268,7 +288,7 @@ class Run:
             "says": self._says, "end": self._end, "sleep": self._sleep, "limit": self._set_limit, "let": self._let,
             "proxy": self._proxy, "held": self._held, "ask": self._ask, "connect": self._connect, "close": self._close,
             "command": self._command, "sealed": self._sealed, "spoilt": self._spoilt, "message": self._message,
-            "drip": self._drip, "impostor": self._impostor,
+            "drip": self._drip, "impostor": self._impostor, "heard": self._heard, "cuts": self._cuts,
             "stop": self._signal(signal.SIGSTOP), "continue": self._signal(signal.SIGCONT),
             "interrupt": self._signal(signal.SIGINT), "kill": self._signal(signal.SIGKILL),
         }
