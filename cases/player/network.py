@@ -196,7 +196,7 @@ class Proxy:
 
 
 class Impostor:
-    """Listens in a party's place, and answers the records that come with these bytes in turn, each further one with the last of them."""
+    """Listens in a party's place, and answers the records that come with these bytes in turn, with the last from then on."""
 
     def __init__(self, port: int, answers: List[bytes]) -> None:
         self._answers = answers
