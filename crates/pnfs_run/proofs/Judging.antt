@@ -27,14 +27,15 @@ module _ {W : Type 0} (options : App) (gives : List Text → Option W → Type 0
       → TellsWords e before.taken now.taken before.writes_failed now.writes_failed status
       → LeavesInput before now → AsksNobody before now → Runs options gives Does words before now status
   refused Bad status r t left nobody =
-      subst (λ (s : Status). Runs options gives Does words before now s) (sym t.0) (r, record { line = t.1; input = left; nobody = nobody })
-  refused NoMemory status r t left nobody = subst (λ (s : Status). Runs options gives Does words before now s) (sym t) tt
+      subst (λ (s : Status). Runs options gives Does words before now s) (sym t.0) (r, record { put = t.1; input = left; nobody = nobody })
+  refused NoMemory status r t left nobody =
+      subst (λ (s : Status). Runs options gives Does words before now s) (sym t.0) (inl (record { put = t.1; input = left; nobody = nobody }))
 
   pub judged : (e : WordsErr) (status : Status) → Refuses options gives words e
       → TellsWords e before.taken now.taken before.writes_failed now.writes_failed status
       → JudgesWords (Refuses options gives words Bad) status
   judged Bad status r t = record { bad = λ is. r; only = λ b. inl t.0 }
-  judged NoMemory status r t = record { bad = λ is. absurd (cc (sym is ∙ t)); only = λ b. inr t }
+  judged NoMemory status r t = record { bad = λ is. absurd (cc (sym is ∙ t.0)); only = λ b. inr t.0 }
 
   -- ---- words that are read
 
@@ -46,7 +47,7 @@ module _ {W : Type 0} (options : App) (gives : List Text → Option W → Type 0
       go (stop.BadCluster kind) d = (asked, asks, d)
       go stop.ReadFault d = (asked, asks, d)
       go stop.WriteFault d = (asked, asks, d)
-      go stop.Memory d = tt
+      go stop.Memory d = inr (asked, asks, d)
       go stop.Full d = (asked, asks, d)
       go stop.LinkFault d = (asked, asks, d)
 

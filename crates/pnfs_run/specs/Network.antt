@@ -2,8 +2,9 @@
 use Rattle.std.specs.Prelude.{◌≡◌, ◌⊎◌, ℕ, List, ⊤, Option}
 use Rattle.clap.specs.Walk.{Text}
 use Rattle.clap.specs.Simple.{App}
-use Rattle.cluster_text.specs.Lines.{PutsLine}
+use Rattle.cluster_text.specs.Lines.{PutsLine, stop_line}
 use Rattle.cluster_text.specs.declared.stop.CommandStop.{CommandStop}
+use Rattle.cluster_text.specs.declared.stop.CommandStop.TheVariants as stop
 use Rattle.command_words.specs.declared.words.ClientWords.{ClientWords}
 use Rattle.command_words.specs.declared.words.DriveWords.{DriveWords}
 use Rattle.command_words.specs.declared.words.ServerWords.{ServerWords}
@@ -50,8 +51,8 @@ ClientEnds w before now status =
 -- ---- words
 
 -- nothing happens but the line that says so
-pub record RefusesWords (before now : Ends) : Type 0 where
-  pub line : PutsLine before.taken now.taken before.writes_failed now.writes_failed words_error
+pub record RefusesWords (line : List ℕ) (before now : Ends) : Type 0 where
+  pub put : PutsLine before.taken now.taken before.writes_failed now.writes_failed line
   pub input : LeavesInput before now
   pub nobody : AsksNobody before now
 
@@ -59,12 +60,15 @@ pub record RefusesWords (before now : Ends) : Type 0 where
 abbrev pub TellsWords : WordsErr → (before now : Option (List ℕ)) → (failed_before failed : ℕ) → Status → Type 0
 TellsWords Bad before now failed_before failed status =
     (status ≡ BadWords) × PutsLine before now failed_before failed words_error
-TellsWords NoMemory before now failed_before failed status = status ≡ Memory
+TellsWords NoMemory before now failed_before failed status =
+    (status ≡ Memory) × PutsLine before now failed_before failed (stop_line stop.Memory)
 
 -- the words are refused, or what they ask for is done; there may be no memory to read them
 abbrev pub Runs : {W : Type 0} → App → (List Text → Option W → Type 0) → (W → (before now : Ends) → Status → Type 0)
     → List Text → (before now : Ends) → Status → Type 0
-Runs options gives Does words before now BadWords = Refuses options gives words Bad × RefusesWords before now
-Runs options gives Does words before now Memory = ⊤
+Runs options gives Does words before now BadWords = Refuses options gives words Bad × RefusesWords words_error before now
+Runs {W} options gives Does words before now Memory =
+    RefusesWords (stop_line stop.Memory) before now
+    ⊎ ((asked : W) × Asks options gives words asked × Does asked before now Memory)
 Runs {W} options gives Does words before now status =
     (asked : W) × Asks options gives words asked × Does asked before now status
