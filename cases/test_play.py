@@ -6,6 +6,7 @@ The last line is `cases: N passed, M failed`.
 
 import os
 import shutil
+import signal
 import sys
 import tempfile
 import unittest
@@ -196,6 +197,8 @@ class Rows(Playing):
 
 def main() -> int:
     """Runs the tests, and counts them."""
+    # A shell starts what runs in the background with SIGINT ignored, and children would inherit that.
+    signal.signal(signal.SIGINT, signal.default_int_handler)
     tests = unittest.defaultTestLoader.loadTestsFromModule(sys.modules[__name__])
     result = unittest.TextTestRunner(stream=sys.stdout, verbosity=0).run(tests)
     failed = len(result.failures) + len(result.errors)
