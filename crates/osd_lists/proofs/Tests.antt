@@ -1,5 +1,5 @@
 -- What the answer of a test tells: of the two that it joins, and of the numbers that it compares.
-use Rattle.std.proofs.Common.{◌≡◌, ◌==◌, ◌||◌, ◌&&◌, ℕ, ◌<◌, Bool, true, false, not, nat_eq, nat_lt, refl, sym, arith, if◌then◌else◌}
+use Rattle.std.proofs.Common.{◌≡◌, ◌==◌, ◌||◌, ◌&&◌, ℕ, ◌<◌, Bool, true, false, not, nat_eq, nat_lt, refl, arith, if◌then◌else◌}
 use Rattle.std.specs.Ordering.{nat_cmp}
 use Rattle.std.specs.BTreeMap.{is_at}
 use Rattle.std.proofs.lemmas.Bool.{le-ltb, eq-eqb}
