@@ -1,60 +1,14 @@
 -- The records of a piece, byte by byte.
-use Rattle.std.proofs.Common.{◌≡◌, ℕ, suc, ◌+◌, ◌<◌, Bool, true, false, List, [], ◌∷◌, ◌++◌, length, take, drop, Option, None, Some, Ok, Err, refl, sym, ap, subst, ◌∙◌, append_assoc}
+use Rattle.std.proofs.Common.{◌≡◌, ℕ, ◌<◌, Bool, true, false, List, [], ◌∷◌, ◌++◌, length, take, drop, Option, None, Some, Ok, Err, refl, sym, ap, subst, ◌∙◌, append_assoc}
 use Rattle.std.proofs.lemmas.List.{append-nil, take-append-drop}
-use Rattle.std.proofs.Math.Seq.{drop-cons}
-use Rattle.std.proofs.Math.Numerals.{add-one}
-use Rattle.std.specs.Prelude.{slice_index, IsSome}
+use Rattle.std.specs.Prelude.{IsSome}
 use Rattle.osd_bytes.specs.Connections.{Talk, Traffic, Comes, Puts, Takes, after_putting, after_taking, newest, with_newest}
 use Rattle.osd_bytes.specs.declared.source.Fault.{Fault}
 use Rattle.osd_bytes.proofs.ExchangeLaws.{newest-last, with_newest-last}
 use Rattle.osd_bytes.proofs.EndLaws.{newest-with}
 use Rattle.osd_bytes.specs.Inboxes.{IsAtEnd, WasPut, WasTaken, begun_or_broken, with_newest_talk}
-use Rattle.osd_bytes.specs.Records.{Begun, Split, Step, after, fresh, split, then_split}
-use Rattle.osd_bytes.specs.Records.Step.{Goes, Gives, Breaks}
-use Rattle.osd_bytes.proofs.RecordLaws.{behind, carried, split-append, split-nil}
-
--- the piece from a byte on: the byte, and what follows
-from_byte : (b : Begun) (piece : List ℕ) (i : ℕ) → i < length piece
-    → split b (drop i piece) ≡ carried (split b (slice_index piece i ∷ [])).records (split b (slice_index piece i ∷ [])).begun (drop (i + 1) piece)
-from_byte b piece i inside = rw (drop-cons piece i 0 inside, add-one) (split-append b (slice_index piece i ∷ []) (drop (suc i) piece))
-
--- one byte gives one record at most, and then nothing came of the next
-one_record : (s : Step) (r : List ℕ) (rs : List (List ℕ)) → (then_split s (λ c. split c [])).records ≡ r ∷ rs
-    → then_split s (λ c. split c []) ≡ record { records = r ∷ []; begun = Some fresh }
-unfolding split
-one_record (Goes c) r rs e = absurd (cc e)
-one_record (Gives q) r rs e = ap (λ (x : List ℕ). record { records = x ∷ []; begun = Some fresh }) (cc e)
-one_record Breaks r rs e = absurd (cc e)
-
-whole_byte : (b : Begun) (x : ℕ) (r : List ℕ) (rs : List (List ℕ)) → (split b (x ∷ [])).records ≡ r ∷ rs
-    → split b (x ∷ []) ≡ record { records = r ∷ []; begun = Some fresh }
-unfolding split
-whole_byte b x r rs e = one_record (after b x) r rs e
-
-pub byte-none : (b c : Begun) (x : ℕ) → split b (x ∷ []) ≡ split c [] → split b (x ∷ []) ≡ record { records = []; begun = Some c }
-byte-none b c x e = e ∙ split-nil c
-
-pub byte-record : (b : Begun) (x : ℕ) (r : List ℕ) → ((rs : List (List ℕ)) × ((split b (x ∷ [])).records ≡ r ∷ rs))
-    → split b (x ∷ []) ≡ record { records = r ∷ []; begun = Some fresh }
-byte-record b x r found = whole_byte b x r found.0 found.1
-
-pub byte-breaks : (b : Begun) (x : ℕ) → ((split b (x ∷ [])).records ≡ []) × ((split b (x ∷ [])).begun ≡ None)
-    → split b (x ∷ []) ≡ record { records = []; begun = None }
-byte-breaks b x e = ap (λ (rs : List (List ℕ)). record { records = rs; begun = (split b (x ∷ [])).begun }) e.0
-    ∙ ap (λ (c : Option Begun). record { records = []; begun = c }) e.1
-
-pub gives-more : (whole : Split) (records more : List (List ℕ)) (b c : Begun) (piece : List ℕ) (i : ℕ) → i < length piece
-    → whole ≡ behind records (split b (drop i piece)) → split b (slice_index piece i ∷ []) ≡ record { records = more; begun = Some c }
-    → whole ≡ behind (records ++ more) (split c (drop (i + 1) piece))
-gives-more whole records more b c piece i inside e found =
-    e ∙ ap (behind records) (from_byte b piece i inside ∙ ap (λ (s : Split). carried s.records s.begun (drop (i + 1) piece)) found)
-    ∙ ap (λ (qs : List (List ℕ)). record { records = qs; begun = (split c (drop (i + 1) piece)).begun }) (sym (append_assoc records more (split c (drop (i + 1) piece)).records))
-
-pub gives-break : (whole : Split) (records more : List (List ℕ)) (b : Begun) (piece : List ℕ) (i : ℕ) → i < length piece
-    → whole ≡ behind records (split b (drop i piece)) → split b (slice_index piece i ∷ []) ≡ record { records = more; begun = None }
-    → whole ≡ record { records = records ++ more; begun = None }
-gives-break whole records more b piece i inside e found =
-    e ∙ ap (behind records) (from_byte b piece i inside ∙ ap (λ (s : Split). carried s.records s.begun (drop (i + 1) piece)) found)
+use Rattle.osd_bytes.specs.Records.{Begun, Split, fresh, split}
+use Rattle.osd_bytes.proofs.RecordLaws.{behind, carried, split-append}
 
 pub unbroken : (is_broken : Bool) (b : Begun) → IsSome (begun_or_broken is_broken b) → begun_or_broken is_broken b ≡ Some b
 unbroken false b some = refl

@@ -1,17 +1,15 @@
 -- Records of bytes that come in pieces.
-use Rattle.std.proofs.Common.{◌≡◌, ℕ, suc, ◌+◌, ◌-◌, ◌^◌, ◌<◌, ◌≤◌, Bool, true, false, List, [], ◌∷◌, ◌++◌, length, drop, Option, None, Some, Ok, Err, refl, sym, ap, ◌∙◌, append_assoc, arith}
-use Rattle.osd_bytes.specs.Records.{Begun, fresh, Step, Split, Advances, Grows, FindsFirst, after, split, then_split, in_front, HasRead, JoinsFragments, fragment, fragmented, joined, framed, front, closed, opened}
+use Rattle.std.proofs.Common.{◌≡◌, ℕ, zero, suc, ◌+◌, ◌-◌, ◌^◌, ◌<◌, ◌≤◌, Bool, true, false, List, [], ◌∷◌, ◌++◌, length, drop, Option, None, Some, Ok, Err, refl, sym, ap, ◌∙◌, append_assoc, arith}
+use Rattle.osd_bytes.specs.Records.{Begun, fresh, Step, Split, Advances, Grows, FindsFirst, GoTogether, IsStretch, after, after_together, split, then_split, in_front, HasRead, JoinsFragments, fragment, fragmented, joined, framed, front, closed, opened}
 use Rattle.osd_bytes.specs.declared.records.TheConstants.{MAX_RECORD, MAX_FRAGMENTS}
 use Rattle.std.proofs.lemmas.Bool.{lt-leb, le-leb, le-ltb}
-use Rattle.std.proofs.lemmas.List.{append-nil, length-append, drop_all}
+use Rattle.std.proofs.lemmas.List.{append-nil, length-append, drop_all, drop-drop, take-append-drop}
 use Rattle.std.proofs.lemmas.Nat.{from_be_bytes-to_be_bytes_4}
 use Rattle.std.specs.Int.{w32, to_be_bytes, from_be_bytes}
 use Rattle.std.specs.Option.{option_to_list}
-use Rattle.std.specs.Prelude.{if◌then◌else◌, slice_index}
+use Rattle.std.specs.Prelude.{if◌then◌else◌}
 use Rattle.osd_bytes.specs.declared.records.RecordErr.{RecordErr}
 use Rattle.osd_bytes.specs.declared.records.RecordErr.TheVariants.{TooLong, Memory}
-use Rattle.std.proofs.Math.Seq.{drop-cons}
-use Rattle.std.proofs.Math.Numerals.{add-one}
 use Rattle.std.proofs.Math.Dec.{eqb-suc-zero}
 use Rattle.osd_bytes.specs.Records.Step.{Goes, Gives, Breaks}
 
@@ -116,46 +114,88 @@ joins_fragments p ps few short = fragments_read [] p ps 0 (omega (arith, few)) (
 pub framed_read : (message : List ℕ) → length message ≤ MAX_RECORD → HasRead (framed message) (message ∷ []) fresh
 framed_read message short = fragment_read true [] message 0 (omega arith) (omega (arith, short))
 
--- ---- a piece, byte by byte
+-- ---- a piece, as its bytes go together
 
--- what is whole before a byte, and what comes with it and after it
-step_at : (b : Begun) (piece : List ℕ) (i : ℕ) → i < length piece → split b (drop i piece) ≡ then_split (after b (slice_index piece i)) (λ c. split c (drop (i + 1) piece))
-unfolding split
-step_at b piece i inside = rw (drop-cons piece i 0 inside, add-one) refl
+-- bytes of a payload are taken at once as they are one by one
+payload_together : (p h : List ℕ) (n : ℕ) (last : Bool) (k x : ℕ) (xs ys : List ℕ) → length xs ≤ k
+    → split (record { payload = p; fragments = n; header = h; last = last; left = suc k }) (x ∷ (xs ++ ys))
+    ≡ then_split (closed (record { payload = p ++ x ∷ xs; fragments = n; header = h; last = last; left = suc k - length (x ∷ xs) })) (λ c. split c ys)
+unfolding split after
+payload_together p h n last k x [] ys short = rw (eqb-suc-zero k) refl
+payload_together p h n last zero x (y ∷ zs) ys short = absurd (omega (arith, short))
+payload_together p h n last (suc j) x (y ∷ zs) ys short =
+    let less : suc (suc j) - 1 ≡ suc j = omega arith in
+    let same : suc j - length (y ∷ zs) ≡ suc (suc j) - length (x ∷ y ∷ zs) = omega arith in
+    rw (eqb-suc-zero (suc j), less, eqb-suc-zero j) (
+    payload_together (p ++ x ∷ []) h n last j y zs ys (omega (arith, short))
+    ∙ ap (λ (q : List ℕ). then_split (closed (record { payload = q; fragments = n; header = h; last = last; left = suc j - length (y ∷ zs) })) (λ c. split c ys)) (append_assoc p (x ∷ []) (y ∷ zs))
+    ∙ ap (λ (l : ℕ). then_split (closed (record { payload = p ++ x ∷ y ∷ zs; fragments = n; header = h; last = last; left = l })) (λ c. split c ys)) same
+    )
 
--- a byte that is taken
-pub piece-step : (whole : Split) (rs : List (List ℕ)) (b c : Begun) (r : Option (List ℕ)) (piece : List ℕ) (i : ℕ) → i < length piece
-    → whole ≡ behind rs (split b (drop i piece)) → Advances (after b (slice_index piece i)) (Ok r) b c → whole ≡ behind (rs ++ option_to_list r) (split c (drop (i + 1) piece))
-piece-step whole rs b c None piece i inside e step =
-    rw (append-nil rs) (e ∙ ap (behind rs) (step_at b piece i inside ∙ ap (λ (s : Step). then_split s (λ d. split d (drop (i + 1) piece))) step))
-piece-step whole rs b c (Some r) piece i inside e step =
-    rw step.1 (e ∙ ap (behind rs) (step_at b piece i inside ∙ ap (λ (s : Step). then_split s (λ d. split d (drop (i + 1) piece))) step.0)
-    ∙ ap (λ (qs : List (List ℕ)). record { records = qs; begun = (split fresh (drop (i + 1) piece)).begun }) (sym (append_assoc rs (r ∷ []) (split fresh (drop (i + 1) piece)).records)))
+together_at : (p h : List ℕ) (n : ℕ) (last : Bool) (left : ℕ) (xs ys : List ℕ)
+    → GoTogether (record { payload = p; fragments = n; header = h; last = last; left = left }) xs
+    → split (record { payload = p; fragments = n; header = h; last = last; left = left }) (xs ++ ys)
+    ≡ then_split (after_together (record { payload = p; fragments = n; header = h; last = last; left = left }) xs) (λ c. split c ys)
+unfolding split after after_together
+together_at p h n last left [] ys fits = absurd (omega (arith, fits.0))
+together_at p h n last zero (x ∷ []) ys fits = refl
+together_at p h n last zero (x ∷ y ∷ zs) ys fits = absurd (omega (arith, fits.1))
+together_at p h n last (suc k) (x ∷ xs) ys fits =
+    let short = rw (eqb-suc-zero k) at fits.1 in
+    let b : Begun = record { payload = p; fragments = n; header = h; last = last; left = suc k } in
+    let same : after_together b (x ∷ xs) ≡ closed (record b { payload = p ++ x ∷ xs; left = suc k - length (x ∷ xs) }) = rw (eqb-suc-zero k) refl in
+    payload_together p h n last k x xs ys (omega (arith, short)) ∙ ap (λ (s : Step). then_split s (λ c. split c ys)) (sym same)
 
--- a byte with which the record in work is too long
-pub piece-breaks : (whole : Split) (rs : List (List ℕ)) (b : Begun) (piece : List ℕ) (i : ℕ) → i < length piece
-    → whole ≡ behind rs (split b (drop i piece)) → after b (slice_index piece i) ≡ Breaks → whole ≡ record { records = rs; begun = None }
-piece-breaks whole rs b piece i inside e step =
-    e ∙ ap (behind rs) (step_at b piece i inside ∙ ap (λ (s : Step). then_split s (λ d. split d (drop (i + 1) piece))) step)
+-- what comes of bytes that go together, and of what follows them
+together : (b : Begun) (xs ys : List ℕ) → GoTogether b xs → split b (xs ++ ys) ≡ then_split (after_together b xs) (λ c. split c ys)
+together b xs ys fits = together_at b.payload b.header b.fragments b.last b.left xs ys fits
+
+-- a step over a piece: these bytes stand at this place of it, and go together
+abbrev pub Steps : Begun → (piece : List ℕ) → (at : ℕ) → (bytes : List ℕ) → Type 0
+Steps b piece at bytes = IsStretch b bytes (drop at piece)
+
+-- what is whole before a step, and what comes with it and after it
+step_at : (b : Begun) (piece : List ℕ) (at : ℕ) (bytes : List ℕ) → Steps b piece at bytes
+    → split b (drop at piece) ≡ then_split (after_together b bytes) (λ c. split c (drop (at + length bytes) piece))
+step_at b piece at bytes fits =
+    ap (split b) (sym (take-append-drop (length bytes) (drop at piece)))
+    ∙ ap (λ (xs : List ℕ). split b (xs ++ drop (length bytes) (drop at piece))) (sym fits.2)
+    ∙ ap (λ (ys : List ℕ). split b (bytes ++ ys)) (drop-drop (length bytes) at piece)
+    ∙ together b bytes (drop (at + length bytes) piece) fits.0
+
+-- bytes that are taken
+pub piece-step : (whole : Split) (rs : List (List ℕ)) (b c : Begun) (r : Option (List ℕ)) (piece : List ℕ) (at : ℕ) (bytes : List ℕ) → Steps b piece at bytes
+    → whole ≡ behind rs (split b (drop at piece)) → Advances (after_together b bytes) (Ok r) b c → whole ≡ behind (rs ++ option_to_list r) (split c (drop (at + length bytes) piece))
+piece-step whole rs b c None piece at bytes fits e step =
+    rw (append-nil rs) (e ∙ ap (behind rs) (step_at b piece at bytes fits ∙ ap (λ (s : Step). then_split s (λ d. split d (drop (at + length bytes) piece))) step))
+piece-step whole rs b c (Some r) piece at bytes fits e step =
+    rw step.1 (e ∙ ap (behind rs) (step_at b piece at bytes fits ∙ ap (λ (s : Step). then_split s (λ d. split d (drop (at + length bytes) piece))) step.0)
+    ∙ ap (λ (qs : List (List ℕ)). record { records = qs; begun = (split fresh (drop (at + length bytes) piece)).begun }) (sym (append_assoc rs (r ∷ []) (split fresh (drop (at + length bytes) piece)).records)))
+
+-- bytes with which the record in work is too long
+piece-breaks : (whole : Split) (rs : List (List ℕ)) (b : Begun) (piece : List ℕ) (at : ℕ) (bytes : List ℕ) → Steps b piece at bytes
+    → whole ≡ behind rs (split b (drop at piece)) → after_together b bytes ≡ Breaks → whole ≡ record { records = rs; begun = None }
+piece-breaks whole rs b piece at bytes fits e step =
+    e ∙ ap (behind rs) (step_at b piece at bytes fits ∙ ap (λ (s : Step). then_split s (λ d. split d (drop (at + length bytes) piece))) step)
     ∙ ap (λ (qs : List (List ℕ)). record { records = qs; begun = None }) (append-nil rs)
 
-pub piece-refused : (whole end : Split) (b c : Begun) (e : RecordErr) (piece : List ℕ) (i : ℕ) → i < length piece
-    → whole ≡ behind [] (split b (drop i piece)) → Advances (after b (slice_index piece i)) (Err e) b c → FindsFirst whole end (Err e)
-piece-refused whole end b c TooLong piece i inside e step =
-    let broken = piece-breaks whole [] b piece i inside e step.0 in
+pub piece-refused : (whole end : Split) (b c : Begun) (e : RecordErr) (piece : List ℕ) (at : ℕ) (bytes : List ℕ) → Steps b piece at bytes
+    → whole ≡ behind [] (split b (drop at piece)) → Advances (after_together b bytes) (Err e) b c → FindsFirst whole end (Err e)
+piece-refused whole end b c TooLong piece at bytes fits e step =
+    let broken = piece-breaks whole [] b piece at bytes fits e step.0 in
     (ap (λ (s : Split). s.records) broken, ap (λ (s : Split). s.begun) broken)
-piece-refused whole end b c Memory piece i inside e step = tt
+piece-refused whole end b c Memory piece at bytes fits e step = tt
 
-pub piece-long : (whole : Split) (rs : List (List ℕ)) (b c : Begun) (e : RecordErr) (piece : List ℕ) (i : ℕ) → i < length piece
-    → whole ≡ behind rs (split b (drop i piece)) → Advances (after b (slice_index piece i)) (Err e) b c → e ≡ TooLong → whole.begun ≡ None
-piece-long whole rs b c TooLong piece i inside e step is = ap (λ (s : Split). s.begun) (piece-breaks whole rs b piece i inside e step.0)
-piece-long whole rs b c Memory piece i inside e step is = absurd (cc is)
+pub piece-long : (whole : Split) (rs : List (List ℕ)) (b c : Begun) (e : RecordErr) (piece : List ℕ) (at : ℕ) (bytes : List ℕ) → Steps b piece at bytes
+    → whole ≡ behind rs (split b (drop at piece)) → Advances (after_together b bytes) (Err e) b c → e ≡ TooLong → whole ≡ record { records = rs; begun = None }
+piece-long whole rs b c TooLong piece at bytes fits e step is = piece-breaks whole rs b piece at bytes fits e step.0
+piece-long whole rs b c Memory piece at bytes fits e step is = absurd (cc is)
 
-pub piece-first : (whole : Split) (b c : Begun) (r : List ℕ) (piece : List ℕ) (i : ℕ) → i < length piece
-    → whole ≡ behind [] (split b (drop i piece)) → Advances (after b (slice_index piece i)) (Ok (Some r)) b c → (rs : List (List ℕ)) × (whole.records ≡ r ∷ rs)
-piece-first whole b c r piece i inside e step =
-    let given = piece-step whole [] b c (Some r) piece i inside e step in
-    ((split c (drop (i + 1) piece)).records, ap (λ (s : Split). s.records) given)
+pub piece-first : (whole : Split) (b c : Begun) (r : List ℕ) (piece : List ℕ) (at : ℕ) (bytes : List ℕ) → Steps b piece at bytes
+    → whole ≡ behind [] (split b (drop at piece)) → Advances (after_together b bytes) (Ok (Some r)) b c → (rs : List (List ℕ)) × (whole.records ≡ r ∷ rs)
+piece-first whole b c r piece at bytes fits e step =
+    let given = piece-step whole [] b c (Some r) piece at bytes fits e step in
+    ((split c (drop (at + length bytes) piece)).records, ap (λ (s : Split). s.records) given)
 
 -- at the end of the piece
 pub piece-ends : (whole : Split) (rs : List (List ℕ)) (b : Begun) (piece : List ℕ) (i : ℕ) → length piece ≤ i

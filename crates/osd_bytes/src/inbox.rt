@@ -6,7 +6,7 @@ ghost use Rattle.osd_bytes.specs.declared.inbox.TheConstants.{MAX_TAKEN};
 
 use crate::links::Links;
 use crate::records::{RecordErr, Records};
-use osd_lists::{ByteLists, Memory};
+use osd_lists::{ByteLists, Bytes, Memory};
 use std::alloc::Global;
 use std::marker::Model;
 
@@ -14,66 +14,17 @@ use std::marker::Model;
 pub const MAX_TAKEN: usize = 67_108_864;
 
 // How many bytes are taken at once at most.
-const PIECE: usize = 4096;
-
-// Adds the record that a byte completes, if it does, and tells whether the byte makes a record too long.
-fn read_byte(
-    alloc: Global,
-    stream: &mut Records,
-    byte: u8,
-    records: &mut ByteLists,
-) -> Result<bool, Memory>
-    ensures { IfOk result (λ broken. ReadsByte broken stream.old byte stream.new records.old records.new) }
-{
-    match stream.first_of(&[byte]) {
-        Ok(Some(record)) => {
-            records.push(record)?;
-            *stream = Records::new(alloc);
-            Ok(false)
-        }
-        Ok(None) => Ok(false),
-        Err(RecordErr::TooLong) => Ok(true),
-        Err(RecordErr::Memory) => Err(Memory),
-    }
-}
-
-// Reads the records of a piece byte by byte, up to one that is too long, and tells whether there is such a record.
-fn read_bytewise(
-    alloc: Global,
-    stream: &mut Records,
-    piece: &[u8],
-    records: &mut ByteLists,
-) -> Result<bool, Memory>
-    requires { records.old ≡ [] }
-    ensures { IfOk result (λ broken. split stream.old piece.now ≡
-        record { records = records.new; begun = begun_or_broken broken stream.new }) }
-{
-    for i in 0..piece.len() {
-        if read_byte(alloc, stream, piece[i], records)? {
-            return Ok(true);
-        }
-    }
-    Ok(false)
-}
+const PIECE: usize = 65_536;
 
 // Reads the records of a piece, up to one that is too long, and tells whether there is such a record.
-fn read_piece(
-    alloc: Global,
-    stream: &mut Records,
-    piece: &[u8],
-    records: &mut ByteLists,
-) -> Result<bool, Memory>
+fn read_piece(stream: &mut Records, piece: &[u8], records: &mut ByteLists) -> Result<bool, Memory>
     requires { records.old ≡ [] }
     ensures { IfOk result (λ broken. split stream.old piece.now ≡
         record { records = records.new; begun = begun_or_broken broken stream.new }) }
 {
-    match stream.feed(piece) {
-        Ok(all) => {
-            *records = all;
-            Ok(false)
-        }
-        // After a refusal the stream is as it was, and the piece is read again in the smallest parts.
-        Err(RecordErr::TooLong) => read_bytewise(alloc, stream, piece, records),
+    match stream.feed_into(piece, records) {
+        Ok(()) => Ok(false),
+        Err(RecordErr::TooLong) => Ok(true),
         Err(RecordErr::Memory) => Err(Memory),
     }
 }
@@ -85,6 +36,8 @@ pub struct Inbox {
     stream: Records,
     is_broken: bool,
     room: usize,
+    // Where pieces are taken to. It is kept from one to the next, and made for the first.
+    space: Bytes,
 }
 
 impl Model for Inbox {
@@ -105,23 +58,7 @@ impl Inbox {
             stream: Records::new(alloc),
             is_broken: false,
             room: MAX_TAKEN,
-        }
-    }
-
-    // The records of a piece that was taken, where no record was too long before.
-    fn read(&mut self, piece: &[u8]) -> Result<Option<ByteLists>, Memory>
-        requires { IsSome self.old.begun }
-        ensures some { IfOk result (λ more. IsSome more) }
-        ensures read { IfOk result (λ more. IfSome more (λ records. Reads piece.now records self.old self.new)) }
-        ensures room { self.new.room ≡ self.old.room }
-    {
-        let mut records = ByteLists::new(self.alloc);
-        match read_piece(self.alloc, &mut self.stream, piece, &mut records) {
-            Ok(is_broken) => {
-                self.is_broken = is_broken;
-                Ok(Some(records))
-            }
-            Err(Memory) => Err(Memory),
+            space: Bytes::new(alloc),
         }
     }
 
@@ -146,14 +83,16 @@ impl Inbox {
         if self.is_broken || self.room == 0 {
             return Ok(None);
         }
-        let mut piece = [0; PIECE];
-        let (space, _) = piece.split_at_mut(self.room.min(PIECE));
+        self.space.grow(PIECE)?;
+        let (space, _) = self.space.as_mut_slice().split_at_mut(self.room.min(PIECE));
         match links.take(space) {
             Ok(0) => Ok(None),
             Ok(count) => {
                 self.room -= count;
                 let (came, _) = space.split_at(count);
-                self.read(came)
+                let mut records = ByteLists::new(self.alloc);
+                self.is_broken = read_piece(&mut self.stream, came, &mut records)?;
+                Ok(Some(records))
             }
             Err(_) => Ok(None),
         }

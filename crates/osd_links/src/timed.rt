@@ -5,19 +5,22 @@ ghost use Rattle.std.specs.Io.{ReadsAtMost, WritesAtMost};
 use crate::faults::Cause;
 use crate::patience::Limits;
 use crate::stopwatch::Stopwatch;
-use std::io::{ErrorKind, Read, Write};
+use std::io::{self, ErrorKind, Read, Write};
 use std::net::OpenStream;
 use std::time::Duration;
 
 // How many times a call that a signal interrupts is made.
 const MOST_TRIES: u32 = 64;
 
-// A stream with its limits, and the time that its record or exchange has taken so far.
+// A stream with its limits, and the time that its record or exchange has taken so far. How long its reads and its
+// writes wait is set again only where it changes, as it seldom does: each setting is a call of the system.
 #[derive(Drop)]
 pub(crate) struct Timed<S> {
     stream: S,
     limits: Limits,
     watch: Stopwatch,
+    read_wait: Option<Duration>,
+    write_wait: Option<Duration>,
 }
 
 // Reads some bytes. A signal, as one that lets a stopped process go on, ends no connection.
@@ -57,6 +60,8 @@ impl<S: OpenStream + Read + Write + Drop> Timed<S> {
             stream,
             limits,
             watch,
+            read_wait: None,
+            write_wait: None,
         }
     }
 
@@ -74,6 +79,24 @@ impl<S: OpenStream + Read + Write + Drop> Timed<S> {
         Ok(left.min(self.limits.silence))
     }
 
+    // The stream's reads wait so long from now on.
+    fn let_reads_wait(&mut self, wait: Duration) -> io::Result<()> {
+        if self.read_wait != Some(wait) {
+            self.stream.set_read_timeout(Some(wait))?;
+            self.read_wait = Some(wait);
+        }
+        Ok(())
+    }
+
+    // The stream's writes wait so long from now on.
+    fn let_writes_wait(&mut self, wait: Duration) -> io::Result<()> {
+        if self.write_wait != Some(wait) {
+            self.stream.set_write_timeout(Some(wait))?;
+            self.write_wait = Some(wait);
+        }
+        Ok(())
+    }
+
     // Reads some bytes at this time of the clock.
     pub(crate) fn read(&mut self, buf: &mut [u8], now: Option<Duration>) -> Result<usize, Cause>
         ensures { ReadsAtMost result buf.new }
@@ -82,7 +105,7 @@ impl<S: OpenStream + Read + Write + Drop> Timed<S> {
             Ok(wait) => wait,
             Err(cause) => return Err(cause),
         };
-        match self.stream.set_read_timeout(Some(wait)) {
+        match self.let_reads_wait(wait) {
             Ok(()) => read_some(&mut self.stream, buf),
             Err(e) => Err(Cause::of(e)),
         }
@@ -97,7 +120,7 @@ impl<S: OpenStream + Read + Write + Drop> Timed<S> {
             Ok(wait) => wait,
             Err(cause) => return Err(cause),
         };
-        match self.stream.set_write_timeout(Some(wait)) {
+        match self.let_writes_wait(wait) {
             Ok(()) => write_some(&mut self.stream, bytes),
             Err(e) => Err(Cause::of(e)),
         }
