@@ -16,11 +16,55 @@ fn key_block(key: &[u8]) -> [u8; BLOCK]
     }
 }
 
+// The same hash in the making once more. It takes no memory, so it can't fail.
+fn copy_of(state: &Sha1) -> Sha1
+    ensures { result ≡ state.now }
+{
+    match state.clone() {
+        Ok(copy) => copy,
+        Err(_) => unreachable!(),
+    }
+}
+
+/// A key of HMAC-SHA1 (RFC 2104), made ready once for many texts: the hashes of its two pads, with
+/// which each tag begins.
+#[derive(Clone, Drop)]
+pub struct HmacKey {
+    inner: Sha1,
+    outer: Sha1,
+}
+
+impl HmacKey {
+    ghost use Rattle.hmac_tags.specs.InTheMaking.{Holds, IsKeyed};
+
+    /// Takes a key of any length.
+    pub fn new(key: &[u8]) -> Self
+        ensures { IsKeyed result key.now }
+    {
+        let block = key_block(key);
+        let mut inner = Sha1::new();
+        inner.update(&xored(&block, INNER_PAD));
+        let mut outer = Sha1::new();
+        outer.update(&xored(&block, OUTER_PAD));
+        HmacKey { inner, outer }
+    }
+
+    /// Begins a tag under the key, with the empty text.
+    pub fn begin(&self) -> Hmac
+        ensures { (key : List ℕ) → IsKeyed self.now key → Holds result key [] }
+    {
+        Hmac {
+            inner: copy_of(&self.inner),
+            outer: copy_of(&self.outer),
+        }
+    }
+}
+
 /// HMAC-SHA1 (RFC 2104) in the making: the text comes in pieces.
 #[derive(Drop)]
 pub struct Hmac {
     inner: Sha1,
-    outer: [u8; BLOCK],
+    outer: Sha1,
 }
 
 impl Hmac {
@@ -30,13 +74,8 @@ impl Hmac {
     pub fn new(key: &[u8]) -> Self
         ensures { Holds result key.now [] }
     {
-        let block = key_block(key);
-        let mut inner = Sha1::new();
-        inner.update(&xored(&block, INNER_PAD));
-        Hmac {
-            inner,
-            outer: xored(&block, OUTER_PAD),
-        }
+        let HmacKey { inner, outer } = HmacKey::new(key);
+        Hmac { inner, outer }
     }
 
     /// Goes on with the text.
@@ -52,8 +91,7 @@ impl Hmac {
     {
         let Hmac { inner, outer } = self;
         let first = inner.finalize();
-        let mut last = Sha1::new();
-        last.update(&outer);
+        let mut last = outer;
         last.update(&first);
         last.finalize()
     }

@@ -16,11 +16,55 @@ fn key_block(key: &[u8]) -> [u8; BLOCK]
     }
 }
 
+// The same hash in the making once more. It takes no memory, so it can't fail.
+fn copy_of(state: &Sha256) -> Sha256
+    ensures { result ≡ state.now }
+{
+    match state.clone() {
+        Ok(copy) => copy,
+        Err(_) => unreachable!(),
+    }
+}
+
+/// A key of HMAC-SHA256 (RFC 2104), made ready once for many texts: the hashes of its two pads, with
+/// which each tag begins.
+#[derive(Clone, Drop)]
+pub struct HmacKey256 {
+    inner: Sha256,
+    outer: Sha256,
+}
+
+impl HmacKey256 {
+    ghost use Rattle.hmac_tags.specs.InTheMaking.{Holds256, IsKeyed256};
+
+    /// Takes a key of any length.
+    pub fn new(key: &[u8]) -> Self
+        ensures { IsKeyed256 result key.now }
+    {
+        let block = key_block(key);
+        let mut inner = Sha256::new();
+        inner.update(xored(&block, INNER_PAD));
+        let mut outer = Sha256::new();
+        outer.update(xored(&block, OUTER_PAD));
+        HmacKey256 { inner, outer }
+    }
+
+    /// Begins a tag under the key, with the empty text.
+    pub fn begin(&self) -> Hmac256
+        ensures { (key : List ℕ) → IsKeyed256 self.now key → Holds256 result key [] }
+    {
+        Hmac256 {
+            inner: copy_of(&self.inner),
+            outer: copy_of(&self.outer),
+        }
+    }
+}
+
 /// HMAC-SHA256 (RFC 2104) in the making: the text comes in pieces.
 #[derive(Drop)]
 pub struct Hmac256 {
     inner: Sha256,
-    outer: [u8; BLOCK],
+    outer: Sha256,
 }
 
 impl Hmac256 {
@@ -30,13 +74,8 @@ impl Hmac256 {
     pub fn new(key: &[u8]) -> Self
         ensures { Holds256 result key.now [] }
     {
-        let block = key_block(key);
-        let mut inner = Sha256::new();
-        inner.update(xored(&block, INNER_PAD));
-        Hmac256 {
-            inner,
-            outer: xored(&block, OUTER_PAD),
-        }
+        let HmacKey256 { inner, outer } = HmacKey256::new(key);
+        Hmac256 { inner, outer }
     }
 
     /// Goes on with the text.
@@ -52,8 +91,7 @@ impl Hmac256 {
     {
         let Hmac256 { inner, outer } = self;
         let first = inner.finalize();
-        let mut last = Sha256::new();
-        last.update(outer);
+        let mut last = outer;
         last.update(first);
         last.finalize()
     }
