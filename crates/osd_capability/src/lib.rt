@@ -14,7 +14,9 @@ mod keys;
 mod layout;
 mod rights;
 
-pub use keys::{CHECK_BYTES, CapKey, DRIVE_KEY_BYTES, SHA1_TAG_BYTES, capability_key, check_value};
+pub use keys::{
+    CHECK_BYTES, CapKey, DRIVE_KEY_BYTES, SHA1_TAG_BYTES, SealingKey, capability_key, check_value,
+};
 pub use layout::{CAPABILITY_BYTES, CapErr, Capability, FORMAT_SHA1, FORMAT_SHA256};
 pub use rights::{
     RIGHT_CREATE, RIGHT_GET_ATTR, RIGHT_READ, RIGHT_SET_ATTR, RIGHT_SET_TAG, RIGHT_WRITE,
