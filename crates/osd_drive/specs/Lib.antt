@@ -3,3 +3,4 @@ pub mod Table
 pub mod Effects
 pub mod Repeats
 pub mod Short
+pub mod Known

@@ -1,21 +1,22 @@
 ghost use Rattle.std.specs.Prelude.{◌≡◌, ◌≤◌, ◌↔◌, max, IfOk, OnOk, OnErr, IsTrue, length};
 ghost use Rattle.osd_commands.specs.declared.actions.Action.TheVariants.{SetAttr, Write};
-ghost use Rattle.osd_commands.specs.Commands.{allows, Holds};
+ghost use Rattle.osd_commands.specs.Commands.{allows};
 ghost use Rattle.osd_objects.specs.declared.attributes.TheConstants.{FIRST_USER_ATTRIBUTE};
 ghost use Rattle.osd_drive.specs.declared.limits.TheConstants.{MAX_LENGTH};
 ghost use Rattle.osd_drive.specs.declared.verdict.Verdict.TheVariants.{Perform};
 ghost use Rattle.osd_drive.specs.State.{new_drive, key_of_version};
-ghost use Rattle.osd_drive.specs.Table.{is_mutating, has_old_format, has_no_key, has_wrong_check, is_checked, rows_on_object, late_fault, all_rows, first_fault, NoneApplies, IsReady};
+ghost use Rattle.osd_drive.specs.Table.{is_mutating, has_old_format, has_no_key, has_wrong_check, rows_on_object, late_fault, all_rows, first_fault, NoneApplies, IsReady};
 ghost use Rattle.osd_drive.specs.Effects.{performed, performed_reply, reply_by, state_by, reply_to, drive_after};
 
 use crate::effects::perform_on;
 use crate::keys::{DriveKey, KeyTable, key_in};
+use crate::known::{KnownCapability, is_checked, is_known};
 use crate::limits::FIRST_FORMAT;
 use crate::replies::{format_reply, kept_reply, refused_reply};
 use crate::rows::{has_no_right, is_elsewhere, is_out_of_range, late_verdict};
 use crate::store_view::StoreView;
 use crate::verdict::Verdict;
-use osd_commands::{Command, CommandErr, Reply, holds, read_command};
+use osd_commands::{Command, CommandErr, Reply, read_command};
 use osd_lists::Memory;
 use osd_objects::Store;
 use std::alloc::Global;
@@ -28,6 +29,8 @@ pub struct DriveCore {
     keys: KeyTable,
     least: u8,
     store: Store,
+    // The capability of the last command that was judged for good.
+    last: Option<KnownCapability>,
 }
 
 impl Model for DriveCore {
@@ -52,6 +55,7 @@ impl DriveCore {
             keys,
             least: FIRST_FORMAT,
             store: Store::new(alloc, capacity),
+            last: None,
         }
     }
 
@@ -96,7 +100,7 @@ impl DriveCore {
         let Some(key) = self.key(c) else {
             return Verdict::NoKey;
         };
-        if !is_checked(&key, c) {
+        if !is_checked(&self.last, &key, c) {
             Verdict::CheckValue
         } else if now > c.capability.expiry {
             Verdict::Expired
@@ -119,6 +123,33 @@ impl DriveCore {
         ensures ready { result ≡ Perform → IsReady self.now c.now }
     {
         self.first_verdict(now, c)
+    }
+
+    // Keeps the command's capability as the known one, unless it is that, or its format or its key is none of the drive's.
+    fn know(&mut self, c: &Command)
+        ensures { self.new ≡ self.old }
+    {
+        if c.capability.format < self.least {
+            return;
+        }
+        let Some(key) = self.key(c) else {
+            return;
+        };
+        if !is_known(&self.last, &key, &c.capability) {
+            self.last = Some(KnownCapability::new(&key, &c.capability));
+        }
+    }
+
+    /// As [`DriveCore::verdict`], for a drive that then takes the command in earnest: it keeps the key of the
+    /// command's capability, so that the verdict on the next command with this capability costs less.
+    pub fn judge(&mut self, now: u64, c: &Command) -> Verdict
+        ensures row { result ≡ first_fault self.old now c.now }
+        ensures none { (result ≡ Perform) ↔ NoneApplies (all_rows self.old now c.now) }
+        ensures ready { result ≡ Perform → IsReady self.old c.now }
+        ensures state { self.new ≡ self.old }
+    {
+        self.know(c);
+        self.verdict(now, c)
     }
 
     /// The least format of capabilities that the drive takes, 1 or 2 where it was raised to these alone.
@@ -188,17 +219,12 @@ impl DriveCore {
         ensures err { OnErr result (self.new ≡ self.old) }
     {
         match read_command(alloc, message) {
-            Ok(c) => self.answer(alloc, now, &c),
+            Ok(c) => {
+                self.know(&c);
+                self.answer(alloc, now, &c)
+            }
             Err(CommandErr::Memory) => Err(Memory),
             Err(_) => Ok(format_reply(alloc)),
         }
     }
-}
-
-// Whether the check value is the one that a key gives.
-fn is_checked(key: &DriveKey, c: &Command) -> bool
-    ensures row { result ≡ is_checked key.now.key c.now }
-    ensures law { IsTrue result ↔ Holds key.now.key c.now }
-{
-    holds(&key.key, c)
 }

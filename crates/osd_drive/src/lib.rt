@@ -12,6 +12,7 @@
 mod drive;
 mod effects;
 mod keys;
+mod known;
 mod laws;
 mod limits;
 mod replies;
