@@ -1,12 +1,13 @@
-ghost use Rattle.std.specs.Prelude.{◌≡◌, ◌⊎◌, ◌+◌, ◌++◌, ◌≤◌, ◌<◌, ◌↔◌, true, false, [], IfOk, IfNone, OnOk, OnErr, IsErrOf, IsNone, length};
-ghost use Rattle.std.specs.Option.{option_to_list};
-ghost use Rattle.std.specs.Io.KnownBytes.{Consumes, Keeps, IsAtEnd};
+ghost use Rattle.std.specs.Prelude.{◌≡◌, ◌+◌, ◌≤◌, ◌<◌, ◌↔◌, true, false, [], take, drop, length, IfOk, IfErr, OnOk, IsErrOf};
+ghost use Rattle.std.specs.Io.KnownBytes.{Consumes, IsAtEnd};
 ghost use Rattle.osd_bytes.specs.Reading.{known_of, SeesEnd};
-ghost use Rattle.osd_bytes.specs.Causes.{HasCause, Rose};
-ghost use Rattle.osd_bytes.specs.Lines.{NextIs, Leaves, GivesLine, TakesLine, CountsNewlines, Yields, HasReadCause};
+ghost use Rattle.osd_bytes.specs.Causes.{Rose};
+ghost use Rattle.osd_bytes.specs.Lines.{NextIs, Leaves, GivesLine, TakesLine, TakesPiece, CountsNewlines, Yields, FailsUnread, KeepsUnread, HasReadCause};
+ghost use Rattle.osd_bytes.specs.declared.lines.LineErr.TheVariants.{ReadFault};
 
-use crate::source::{Fault, Source};
-use osd_lists::Bytes;
+use crate::source::Source;
+use memchr::memchr;
+use osd_lists::{Bytes, Memory};
 use std::alloc::Global;
 use std::marker::Model;
 use thiserror::Error;
@@ -34,103 +35,142 @@ pub enum LineErr {
     Memory,
 }
 
-impl From<crate::Memory> for LineErr {
+impl From<Memory> for LineErr {
     ghost use Rattle.osd_bytes.specs.declared.lines.LineErr.TheVariants.{Memory};
 
     ghost from_gives = { λ _ e. e ≡ Memory };
 
-    fn from(_: crate::Memory) -> Self {
+    fn from(_: Memory) -> Self {
         LineErr::Memory
     }
 }
 
 // How many bytes are read ahead at most.
-const WINDOW: usize = 4096;
+const WINDOW: usize = 65_536;
 
-/// Bytes that were read ahead, and whether the source has come to its end.
+/// Bytes that were read ahead, and whether the source has come to its end. The buffer has no room before the first read.
 #[derive(Drop)]
 struct Window {
-    buf: [u8; WINDOW],
+    buffer: Bytes,
     at: usize,
     end: usize,
     ended: bool,
 }
 
 impl Model for Window {
-    ghost use Rattle.std.specs.Prelude.{◌≤◌, drop, take};
+    ghost use Rattle.std.specs.Prelude.{◌≤◌, drop, take, length};
     ghost use Rattle.osd_bytes.specs.Reading.{Ahead};
-    ghost use Rattle.osd_bytes.specs.declared.lines.TheConstants.{WINDOW};
 
     ghost Value = { Ahead };
 
-    ghost view = { λ w. record { bytes = drop w.at (take w.end w.buf); ended = w.ended } };
+    ghost view = { λ w. record { bytes = drop w.at (take w.end w.buffer); ended = w.ended } };
 
-    ghost invariant = { λ w. (w.at ≤ w.end) × (w.end ≤ WINDOW) };
+    ghost invariant = { λ w. (w.at ≤ w.end) × (w.end ≤ length w.buffer) };
 }
 
 impl Window {
-    fn new() -> Self
+    fn new(alloc: Global) -> Self
         ensures { result ≡ record { bytes = []; ended = false } }
     {
         Window {
-            buf: [0; WINDOW],
+            buffer: Bytes::new(alloc),
             at: 0,
             end: 0,
             ended: false,
         }
     }
 
-    fn pop(&mut self) -> Option<u8>
-        ensures bytes { self.old.bytes ≡ option_to_list result ++ self.new.bytes }
-        ensures none { IsNone result ↔ (self.old.bytes ≡ []) }
+    fn len(&self) -> usize
+        ensures { result ≡ length self.now.bytes }
+    {
+        self.end - self.at
+    }
+
+    // The first bytes that were read ahead, `most` of them, or all where there are no more.
+    fn front(&self, most: usize) -> &[u8]
+        ensures { result.now ≡ take most self.now.bytes }
+    {
+        let (read, _) = self.buffer.as_slice().split_at(self.end);
+        let (_, ahead) = read.split_at(self.at);
+        let (front, _) = ahead.split_at(most.min(ahead.len()));
+        front
+    }
+
+    fn advance(&mut self, count: usize)
+        requires { count ≤ length self.old.bytes }
+        ensures bytes { self.new.bytes ≡ drop count self.old.bytes }
         ensures same { self.new.ended ≡ self.old.ended }
     {
-        if self.at == self.end {
-            return None;
-        }
-        let byte = self.buf[self.at];
-        self.at += 1;
-        Some(byte)
+        self.at += count;
     }
 
     // Reads on where all bytes were taken. A source that has ended is asked no more.
-    fn fill<S: Source>(&mut self, s: &mut S) -> Result<(), Fault>
-        requires { self.old.bytes ≡ [] }
+    fn fill<S: Source>(&mut self, s: &mut S) -> Result<(), LineErr>
         ensures bytes { OnOk result (Consumes (known_of self.old (S.left s.old)) (known_of self.new (S.left s.new)) []) }
-        ensures end { OnOk result (self.new.bytes ≡ [] → self.new.ended ≡ true) }
+        ensures end { OnOk result (length self.new.bytes ≡ 0 → self.new.ended ≡ true) }
         ensures at_end { OnOk result (SeesEnd self.old.ended (S.left s.old) self.new.ended (S.left s.new)) }
         ensures open { self.new.ended ≡ false → self.old.ended ≡ false }
-        ensures err { OnErr result ((self.new ≡ record { bytes = []; ended = false }) × Keeps (S.left s.old) (S.left s.new)) }
-        ensures cause { HasCause (S.faults s.old) (S.faults s.new) result }
+        ensures err { IfErr result (FailsUnread self.old (S.left s.old) (S.left s.new)) }
+        ensures later { S.faults s.old ≤ S.faults s.new }
+        ensures fault { IsErrOf result ReadFault → Rose (S.faults s.old) (S.faults s.new) }
+        ensures same { OnOk result (S.faults s.new ≡ S.faults s.old) }
         ensures loan { S.loan s.new ≡ S.loan s.old }
     {
-        if self.ended {
+        if self.len() > 0 || self.ended {
             return Ok(());
         }
         self.at = 0;
         self.end = 0;
-        self.end = s.take(&mut self.buf)?;
+        self.end = read_into(&mut self.buffer, s)?;
         self.ended = self.end == 0;
         Ok(())
     }
 }
 
-// The next byte, read ahead or from the source.
-fn next_byte<S: Source>(window: &mut Window, s: &mut S) -> Result<Option<u8>, Fault>
-    ensures bytes { IfOk result (λ b. Consumes (known_of window.old (S.left s.old)) (known_of window.new (S.left s.new))
-        (option_to_list b)) }
-    ensures end { IfOk result (λ b. IfNone b (window.new ≡ record { bytes = []; ended = true })) }
-    ensures at_end { OnOk result (SeesEnd window.old.ended (S.left s.old) window.new.ended (S.left s.new)) }
-    ensures open { window.new.ended ≡ false → window.old.ended ≡ false }
-    ensures err { OnErr result ((window.old ≡ record { bytes = []; ended = false }) × Keeps (S.left s.old) (S.left s.new)) }
-    ensures cause { HasCause (S.faults s.old) (S.faults s.new) result }
+// Reads from a source to the front of a buffer, which gets its room first.
+fn read_into<S: Source>(buffer: &mut Bytes, s: &mut S) -> Result<usize, LineErr>
+    ensures bound { IfOk result (λ count. count ≤ length buffer.new) }
+    ensures bytes { IfOk result (λ count. Consumes (S.left s.old) (S.left s.new) (take count buffer.new)) }
+    ensures end { IfOk result (λ count. count ≡ 0 → IsAtEnd (S.left s.new)) }
+    ensures err { IfErr result (KeepsUnread (S.left s.old) (S.left s.new)) }
+    ensures later { S.faults s.old ≤ S.faults s.new }
+    ensures fault { IsErrOf result ReadFault → Rose (S.faults s.old) (S.faults s.new) }
+    ensures same { OnOk result (S.faults s.new ≡ S.faults s.old) }
     ensures loan { S.loan s.new ≡ S.loan s.old }
 {
-    match window.pop() {
-        Some(byte) => Ok(Some(byte)),
+    buffer.grow(WINDOW)?;
+    match s.take(buffer.as_mut_slice()) {
+        Ok(count) => Ok(count),
+        Err(_) => Err(LineErr::ReadFault),
+    }
+}
+
+// Adds the bytes before the next newline to a line, as far as they are read ahead and the limits let them come. The
+// newline is taken too. Tells whether it came.
+fn take_piece(window: &mut Window, taken: &mut u64, line: &mut Bytes) -> Result<bool, Memory>
+    requires room { taken.old < MAX_INPUT }
+    requires short { length line.old ≤ MAX_LINE }
+    requires some { 0 < length window.old.bytes }
+    ensures piece { IfOk result (TakesPiece line.old line.new window.old.bytes window.new.bytes taken.old taken.new) }
+    ensures bound { taken.new ≤ MAX_INPUT }
+    ensures same { window.new.ended ≡ window.old.ended }
+{
+    let line_room = u64::from(MAX_LINE) + 1 - line.len() as u64;
+    let front = window.front(line_room.min(MAX_INPUT - *taken) as usize);
+    match memchr(b'\n', front) {
+        Some(at) => {
+            let (piece, _) = front.split_at(at);
+            line.extend_from_slice(piece)?;
+            window.advance(at + 1);
+            *taken += at as u64 + 1;
+            Ok(true)
+        }
         None => {
-            window.fill(s)?;
-            Ok(window.pop())
+            let count = front.len();
+            line.extend_from_slice(front)?;
+            window.advance(count);
+            *taken += count as u64;
+            Ok(false)
         }
     }
 }
@@ -157,22 +197,19 @@ fn line_from<S: Source>(
     ensures loan { S.loan s.new ≡ S.loan s.old }
 {
     let mut line = Bytes::new(alloc);
-    for _ in 0..MAX_LINE + 1 {
-        match next_byte(window, s) {
-            Err(_) => return Err(LineErr::ReadFault),
-            Ok(None) => {
-                return Ok(if line.len() == 0 { None } else { Some(line) });
-            }
-            Ok(Some(byte)) => {
-                if *taken == MAX_INPUT {
-                    return Err(LineErr::InputFull);
-                }
-                *taken += 1;
-                if byte == b'\n' {
-                    return Ok(Some(line));
-                }
-                line.push(byte)?;
-            }
+    'pieces: while line.len() <= MAX_LINE as usize {
+        match window.fill(s) {
+            Ok(()) => {}
+            Err(e) => return Err(e),
+        }
+        if window.len() == 0 {
+            return Ok(if line.is_empty() { None } else { Some(line) });
+        }
+        if *taken == MAX_INPUT {
+            return Err(LineErr::InputFull);
+        }
+        if take_piece(window, taken, &mut line)? {
+            return Ok(Some(line));
         }
     }
     Err(LineErr::TooLong)
@@ -207,7 +244,7 @@ impl LineReader {
     {
         LineReader {
             alloc,
-            window: Window::new(),
+            window: Window::new(alloc),
             taken: 0,
             over: false,
         }
