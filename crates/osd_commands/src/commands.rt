@@ -169,7 +169,8 @@ pub fn write_command(alloc: Global, c: &Command) -> Result<Bytes, Memory>
     ensures read_back { IfOk result (λ bytes. IsWhole c.now → reading bytes ≡ Ok c.now) }
 {
     let size = check_len(c.capability.format);
-    let mut bytes = Bytes::copied(alloc, &head_of(c)[..BLOCK - size])?;
+    let mut bytes = Bytes::with_capacity(alloc, BLOCK.saturating_add(c.payload.len()))?;
+    bytes.extend_from_slice(&head_of(c)[..BLOCK - size])?;
     bytes.extend_from_slice(&c.check[..size])?;
     bytes.extend_from_slice(c.payload.as_slice())?;
     Ok(bytes)

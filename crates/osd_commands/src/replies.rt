@@ -82,7 +82,8 @@ pub fn write_reply(alloc: Global, r: &Reply) -> Result<Bytes, Memory>
     ensures spelled { IfOk result (λ bytes. bytes ≡ spelling r.now) }
     ensures read_back { IfOk result (λ bytes. IsWhole r.now → reading bytes ≡ Ok r.now) }
 {
-    let mut bytes = Bytes::copied(alloc, &fields_of(r))?;
+    let mut bytes = Bytes::with_capacity(alloc, BLOCK.saturating_add(r.payload.len()))?;
+    bytes.extend_from_slice(&fields_of(r))?;
     bytes.extend_from_slice(r.payload.as_slice())?;
     Ok(bytes)
 }

@@ -4,6 +4,7 @@ pub mod Without
 pub mod Results
 pub mod Positions
 pub mod Behind
+pub mod Digits
 pub mod Forms
 pub mod PartLaws
 pub mod PlaceLaws

@@ -13,9 +13,8 @@ use crate::names::DriveName;
 use crate::write::Word::{Fixed, Hex, Key, Number};
 use crate::write::{Word, named, put, small};
 use osd_lists::{Bytes, Memory};
-use std::alloc::Global;
 
-fn put_call(alloc: Global, out: &mut Bytes, call: &Call) -> Result<(), Memory>
+fn put_call(out: &mut Bytes, call: &Call) -> Result<(), Memory>
     ensures { OnOk result (out.new ≡ out.old ++ behind 32 (map word_of (call_parts call.now))) }
 {
     match call {
@@ -26,7 +25,7 @@ fn put_call(alloc: Global, out: &mut Bytes, call: &Call) -> Result<(), Memory>
         } => {
             let hex = Hex(bytes.as_slice());
             let words = [Fixed(b"write"), named(file), Number(*offset), hex];
-            put(alloc, out, &words)
+            put(out, &words)
         }
         Call::Read {
             file,
@@ -35,12 +34,12 @@ fn put_call(alloc: Global, out: &mut Bytes, call: &Call) -> Result<(), Memory>
         } => {
             let count = Number(*length);
             let words = [Fixed(b"read"), named(file), Number(*offset), count];
-            put(alloc, out, &words)
+            put(out, &words)
         }
     }
 }
 
-fn put_map(alloc: Global, out: &mut Bytes, file_map: &FileMap) -> Result<(), Memory>
+fn put_map(out: &mut Bytes, file_map: &FileMap) -> Result<(), Memory>
     ensures { OnOk result (out.new ≡ out.old ++ behind 32 (map word_of (map_parts file_map.now))) }
 {
     let words = [
@@ -51,7 +50,7 @@ fn put_map(alloc: Global, out: &mut Bytes, file_map: &FileMap) -> Result<(), Mem
         small(file_map.mirrors),
         small(file_map.algorithm),
     ];
-    put(alloc, out, &words)
+    put(out, &words)
 }
 
 fn sender_word<'a>(sender: &Sender) -> Word<'a>
@@ -74,7 +73,6 @@ fn machine_word<'a>(machine: &Machine) -> Word<'a>
 
 // Adds a word and what a drive is made with.
 fn put_drive<'x>(
-    alloc: Global,
     out: &mut Bytes,
     word: &'x [u8],
     drive: &DriveName,
@@ -84,26 +82,20 @@ fn put_drive<'x>(
     ensures { OnOk result (out.new ≡ out.old ++ spelled (WordPart word.now ∷ drive_parts drive.now key.now capacity)) }
 {
     put(
-        alloc,
         out,
         &[Fixed(word), named(drive), Key(key), Number(capacity)],
     )
 }
 
 // Adds the data map and the tag of a file.
-fn put_map_and_tag(
-    alloc: Global,
-    out: &mut Bytes,
-    file_map: &FileMap,
-    tag: u32,
-) -> Result<(), Memory>
+fn put_map_and_tag(out: &mut Bytes, file_map: &FileMap, tag: u32) -> Result<(), Memory>
     ensures { OnOk result (out.new ≡ out.old ++ behind 32 (map word_of (map_parts file_map.now ++ tag_part tag ∷ []))) }
 {
-    put_map(alloc, out, file_map)?;
-    put(alloc, out, &[small(tag)])
+    put_map(out, file_map)?;
+    put(out, &[small(tag)])
 }
 
-fn put_setup(alloc: Global, out: &mut Bytes, event: &Event) -> Result<(), Memory>
+fn put_setup(out: &mut Bytes, event: &Event) -> Result<(), Memory>
     requires { group_of event.now ≡ Setup }
     ensures { OnOk result (out.new ≡ out.old ++ behind 32 (map word_of (event_parts event.now))) }
 {
@@ -112,95 +104,93 @@ fn put_setup(alloc: Global, out: &mut Bytes, event: &Event) -> Result<(), Memory
             drive,
             key,
             capacity,
-        } => put_drive(alloc, out, b"drive", drive, key, *capacity),
+        } => put_drive(out, b"drive", drive, key, *capacity),
         Event::Disk {
             drive,
             key,
             capacity,
-        } => put_drive(alloc, out, b"disk", drive, key, *capacity),
-        Event::Client { client } => put(alloc, out, &[Fixed(b"client"), named(client)]),
+        } => put_drive(out, b"disk", drive, key, *capacity),
+        Event::Client { client } => put(out, &[Fixed(b"client"), named(client)]),
         Event::File { file, map, tag } => {
-            put(alloc, out, &[Fixed(b"file"), named(file)])?;
-            put_map_and_tag(alloc, out, map, *tag)
+            put(out, &[Fixed(b"file"), named(file)])?;
+            put_map_and_tag(out, map, *tag)
         }
         Event::ZonedFile { file, map, tag } => {
-            put(alloc, out, &[Fixed(b"zfile"), named(file)])?;
-            put_map_and_tag(alloc, out, map, *tag)
+            put(out, &[Fixed(b"zfile"), named(file)])?;
+            put_map_and_tag(out, map, *tag)
         }
-        Event::Zone { drive, zone } => {
-            put(alloc, out, &[Fixed(b"zone"), named(drive), small(*zone)])
-        }
+        Event::Zone { drive, zone } => { put(out, &[Fixed(b"zone"), named(drive), small(*zone)]) }
         Event::Least { drive, format } => {
             let format = Number(u64::from(*format));
-            put(alloc, out, &[Fixed(b"least"), named(drive), format])
+            put(out, &[Fixed(b"least"), named(drive), format])
         }
         Event::Format { format } => {
             let format = Number(u64::from(*format));
-            put(alloc, out, &[Fixed(b"format"), Fixed(b"s"), format])
+            put(out, &[Fixed(b"format"), Fixed(b"s"), format])
         }
         _ => unreachable!(),
     }
 }
 
-fn put_traffic(alloc: Global, out: &mut Bytes, event: &Event) -> Result<(), Memory>
+fn put_traffic(out: &mut Bytes, event: &Event) -> Result<(), Memory>
     requires { group_of event.now ≡ Traffic }
     ensures { OnOk result (out.new ≡ out.old ++ behind 32 (map word_of (event_parts event.now))) }
 {
     match event {
         Event::Do { client, call } => {
-            put(alloc, out, &[Fixed(b"do"), named(client)])?;
-            put_call(alloc, out, call)
+            put(out, &[Fixed(b"do"), named(client)])?;
+            put_call(out, call)
         }
         Event::Call { client, call } => {
-            put(alloc, out, &[Fixed(b"call"), named(client)])?;
-            put_call(alloc, out, call)
+            put(out, &[Fixed(b"call"), named(client)])?;
+            put_call(out, call)
         }
-        Event::Deliver { message } => { put(alloc, out, &[Fixed(b"deliver"), Number(*message)]) }
-        Event::DropMessage { message } => put(alloc, out, &[Fixed(b"drop"), Number(*message)]),
-        Event::Settle => put(alloc, out, &[Fixed(b"settle")]),
-        Event::Resend { sender } => put(alloc, out, &[Fixed(b"resend"), sender_word(sender)]),
+        Event::Deliver { message } => { put(out, &[Fixed(b"deliver"), Number(*message)]) }
+        Event::DropMessage { message } => put(out, &[Fixed(b"drop"), Number(*message)]),
+        Event::Settle => put(out, &[Fixed(b"settle")]),
+        Event::Resend { sender } => put(out, &[Fixed(b"resend"), sender_word(sender)]),
         Event::Timeout { client, component } => {
             let words = [Fixed(b"timeout"), named(client), small(*component)];
-            put(alloc, out, &words)
+            put(out, &words)
         }
-        Event::Leave { client } => put(alloc, out, &[Fixed(b"leave"), named(client)]),
+        Event::Leave { client } => put(out, &[Fixed(b"leave"), named(client)]),
         Event::Inject { drive, bytes } => {
             let hex = Hex(bytes.as_slice());
-            put(alloc, out, &[Fixed(b"inject"), named(drive), hex])
+            put(out, &[Fixed(b"inject"), named(drive), hex])
         }
         _ => unreachable!(),
     }
 }
 
-fn put_upkeep(alloc: Global, out: &mut Bytes, event: &Event) -> Result<(), Memory>
+fn put_upkeep(out: &mut Bytes, event: &Event) -> Result<(), Memory>
     requires { group_of event.now ≡ Upkeep }
     ensures { OnOk result (out.new ≡ out.old ++ behind 32 (map word_of (event_parts event.now))) }
 {
     match event {
         Event::Clock { machine, time } => {
             let time = Number(*time);
-            put(alloc, out, &[Fixed(b"clock"), machine_word(machine), time])
+            put(out, &[Fixed(b"clock"), machine_word(machine), time])
         }
-        Event::Recall { file } => put(alloc, out, &[Fixed(b"recall"), named(file)]),
-        Event::Revoke { file } => put(alloc, out, &[Fixed(b"revoke"), named(file)]),
-        Event::Rebuild { file } => put(alloc, out, &[Fixed(b"rebuild"), named(file)]),
-        Event::Audit { file } => put(alloc, out, &[Fixed(b"audit"), named(file)]),
-        Event::Declare { drive } => put(alloc, out, &[Fixed(b"declare"), named(drive)]),
-        Event::Stop { client } => put(alloc, out, &[Fixed(b"stop"), named(client)]),
-        Event::Fail { drive } => put(alloc, out, &[Fixed(b"fail"), named(drive)]),
-        Event::Crash { machine } => put(alloc, out, &[Fixed(b"crash"), machine_word(machine)]),
-        Event::Reopen { machine } => put(alloc, out, &[Fixed(b"reopen"), machine_word(machine)]),
+        Event::Recall { file } => put(out, &[Fixed(b"recall"), named(file)]),
+        Event::Revoke { file } => put(out, &[Fixed(b"revoke"), named(file)]),
+        Event::Rebuild { file } => put(out, &[Fixed(b"rebuild"), named(file)]),
+        Event::Audit { file } => put(out, &[Fixed(b"audit"), named(file)]),
+        Event::Declare { drive } => put(out, &[Fixed(b"declare"), named(drive)]),
+        Event::Stop { client } => put(out, &[Fixed(b"stop"), named(client)]),
+        Event::Fail { drive } => put(out, &[Fixed(b"fail"), named(drive)]),
+        Event::Crash { machine } => put(out, &[Fixed(b"crash"), machine_word(machine)]),
+        Event::Reopen { machine } => put(out, &[Fixed(b"reopen"), machine_word(machine)]),
         _ => unreachable!(),
     }
 }
 
 // Adds the words of an event, each behind a space.
-pub(crate) fn put_event(alloc: Global, out: &mut Bytes, event: &Event) -> Result<(), Memory>
+pub(crate) fn put_event(out: &mut Bytes, event: &Event) -> Result<(), Memory>
     ensures { OnOk result (out.new ≡ out.old ++ behind 32 (map word_of (event_parts event.now))) }
 {
     match event_group(event) {
-        Group::Setup => put_setup(alloc, out, event),
-        Group::Traffic => put_traffic(alloc, out, event),
-        Group::Upkeep => put_upkeep(alloc, out, event),
+        Group::Setup => put_setup(out, event),
+        Group::Traffic => put_traffic(out, event),
+        Group::Upkeep => put_upkeep(out, event),
     }
 }

@@ -79,175 +79,175 @@ fn yes_or_no_text(yes: bool) -> &'static [u8]
     if yes { b"yes" } else { b"no" }
 }
 
-fn put_verdict(alloc: Global, out: &mut Bytes, verdict: Verdict) -> Result<(), Memory>
+fn put_verdict(out: &mut Bytes, verdict: Verdict) -> Result<(), Memory>
     ensures { OnOk result (out.new ≡ out.old ++ behind 32 (map word_of (verdict_parts verdict))) }
 {
     match verdict {
-        Verdict::Perform => put(alloc, out, &[Fixed(b"perform")]),
-        Verdict::Again => put(alloc, out, &[Fixed(b"again")]),
-        Verdict::NoKey => put(alloc, out, &[Fixed(b"nokey")]),
-        Verdict::CheckValue => put(alloc, out, &[Fixed(b"checkvalue")]),
-        Verdict::Expired => put(alloc, out, &[Fixed(b"expired")]),
-        Verdict::Rights => put(alloc, out, &[Fixed(b"rights")]),
-        Verdict::WrongObject => put(alloc, out, &[Fixed(b"wrongobject")]),
-        Verdict::Range => put(alloc, out, &[Fixed(b"range")]),
-        Verdict::NoObject => put(alloc, out, &[Fixed(b"noobject")]),
-        Verdict::Exists => put(alloc, out, &[Fixed(b"exists")]),
-        Verdict::Tag { current } => put(alloc, out, &[Fixed(b"tag"), small(current)]),
-        Verdict::Limit => put(alloc, out, &[Fixed(b"limit")]),
-        Verdict::NoSpace { free } => put(alloc, out, &[Fixed(b"nospace"), Number(free)]),
-        Verdict::LaneFull => put(alloc, out, &[Fixed(b"lanefull")]),
-        Verdict::Stale { last } => put(alloc, out, &[Fixed(b"stale"), Number(last)]),
-        Verdict::AttrFull => put(alloc, out, &[Fixed(b"attrfull")]),
-        Verdict::Format => put(alloc, out, &[Fixed(b"format")]),
-        Verdict::OldFormat => put(alloc, out, &[Fixed(b"oldformat")]),
+        Verdict::Perform => put(out, &[Fixed(b"perform")]),
+        Verdict::Again => put(out, &[Fixed(b"again")]),
+        Verdict::NoKey => put(out, &[Fixed(b"nokey")]),
+        Verdict::CheckValue => put(out, &[Fixed(b"checkvalue")]),
+        Verdict::Expired => put(out, &[Fixed(b"expired")]),
+        Verdict::Rights => put(out, &[Fixed(b"rights")]),
+        Verdict::WrongObject => put(out, &[Fixed(b"wrongobject")]),
+        Verdict::Range => put(out, &[Fixed(b"range")]),
+        Verdict::NoObject => put(out, &[Fixed(b"noobject")]),
+        Verdict::Exists => put(out, &[Fixed(b"exists")]),
+        Verdict::Tag { current } => put(out, &[Fixed(b"tag"), small(current)]),
+        Verdict::Limit => put(out, &[Fixed(b"limit")]),
+        Verdict::NoSpace { free } => put(out, &[Fixed(b"nospace"), Number(free)]),
+        Verdict::LaneFull => put(out, &[Fixed(b"lanefull")]),
+        Verdict::Stale { last } => put(out, &[Fixed(b"stale"), Number(last)]),
+        Verdict::AttrFull => put(out, &[Fixed(b"attrfull")]),
+        Verdict::Format => put(out, &[Fixed(b"format")]),
+        Verdict::OldFormat => put(out, &[Fixed(b"oldformat")]),
     }
 }
 
-fn put_delivery(alloc: Global, out: &mut Bytes, delivery: &Delivery) -> Result<(), Memory>
+fn put_delivery(out: &mut Bytes, delivery: &Delivery) -> Result<(), Memory>
     ensures { OnOk result (out.new ≡ out.old ++ behind 32 (map word_of (delivery_parts delivery.now))) }
 {
     match delivery {
-        Delivery::Deaf => put(alloc, out, &[Fixed(b"deaf")]),
-        Delivery::Taken => put(alloc, out, &[Fixed(b"taken")]),
-        Delivery::Judged { verdict } => put_verdict(alloc, out, *verdict),
+        Delivery::Deaf => put(out, &[Fixed(b"deaf")]),
+        Delivery::Taken => put(out, &[Fixed(b"taken")]),
+        Delivery::Judged { verdict } => put_verdict(out, *verdict),
     }
 }
 
-fn put_ending(alloc: Global, out: &mut Bytes, ending: &Ending) -> Result<(), Memory>
+fn put_ending(out: &mut Bytes, ending: &Ending) -> Result<(), Memory>
     ensures { OnOk result (out.new ≡ out.old ++ behind 32 (map word_of (ending_parts ending.now))) }
 {
     match ending {
-        Ending::NoFile => put(alloc, out, &[Fixed(b"nofile")]),
-        Ending::Held { client } => put(alloc, out, &[Fixed(b"held"), named(client)]),
-        Ending::Fencing { component } => put_count(alloc, out, b"fencing", *component),
-        Ending::Degraded { component } => put_count(alloc, out, b"degraded", *component),
-        Ending::Spent => put(alloc, out, &[Fixed(b"spent")]),
+        Ending::NoFile => put(out, &[Fixed(b"nofile")]),
+        Ending::Held { client } => put(out, &[Fixed(b"held"), named(client)]),
+        Ending::Fencing { component } => put_count(out, b"fencing", *component),
+        Ending::Degraded { component } => put_count(out, b"degraded", *component),
+        Ending::Spent => put(out, &[Fixed(b"spent")]),
         Ending::Status { status, detail } => {
             let words = [Fixed(b"status"), small(*status), small(*detail)];
-            put(alloc, out, &words)
+            put(out, &words)
         }
         Ending::Refused { drive, verdict } => {
-            put(alloc, out, &[Fixed(b"refused"), named(drive)])?;
-            put_verdict(alloc, out, *verdict)
+            put(out, &[Fixed(b"refused"), named(drive)])?;
+            put_verdict(out, *verdict)
         }
-        Ending::Silent { component } => put_count(alloc, out, b"silent", *component),
+        Ending::Silent { component } => put_count(out, b"silent", *component),
         Ending::Lost { positions } => {
             let lost = Positions(positions.as_slice());
-            put(alloc, out, &[Fixed(b"lost"), lost])
+            put(out, &[Fixed(b"lost"), lost])
         }
         Ending::BadLayout { why } => {
             let why = Fixed(layout_fault_text(*why));
-            put(alloc, out, &[Fixed(b"badlayout"), why])
+            put(out, &[Fixed(b"badlayout"), why])
         }
-        Ending::Pending => put(alloc, out, &[Fixed(b"pending")]),
+        Ending::Pending => put(out, &[Fixed(b"pending")]),
     }
 }
 
-fn put_outcome(alloc: Global, out: &mut Bytes, outcome: &Outcome) -> Result<(), Memory>
+fn put_outcome(out: &mut Bytes, outcome: &Outcome) -> Result<(), Memory>
     ensures { OnOk result (out.new ≡ out.old ++ behind 32 (map word_of (outcome_parts outcome.now))) }
 {
     match outcome {
         Outcome::WriteOk { length } => {
             let count = Number(*length);
-            put(alloc, out, &[Fixed(b"write"), Fixed(b"ok"), count])
+            put(out, &[Fixed(b"write"), Fixed(b"ok"), count])
         }
         Outcome::ReadOk { bytes } => {
             let hex = Hex(bytes.as_slice());
-            put(alloc, out, &[Fixed(b"read"), Fixed(b"ok"), hex])
+            put(out, &[Fixed(b"read"), Fixed(b"ok"), hex])
         }
         Outcome::Failed { call, ending } => {
-            put(alloc, out, &[Fixed(kind_text(*call))])?;
-            put_ending(alloc, out, ending)
+            put(out, &[Fixed(kind_text(*call))])?;
+            put_ending(out, ending)
         }
     }
 }
 
 // Adds a word and a number.
-fn put_count(alloc: Global, out: &mut Bytes, word: &[u8], n: u32) -> Result<(), Memory>
+fn put_count(out: &mut Bytes, word: &[u8], n: u32) -> Result<(), Memory>
     ensures { OnOk result (out.new ≡ out.old ++ behind 32 (word.now ∷ decimal n ∷ [])) }
 {
-    put(alloc, out, &[Fixed(word), small(n)])
+    put(out, &[Fixed(word), small(n)])
 }
 
 // Adds a word and two numbers.
-fn put_sums(alloc: Global, out: &mut Bytes, word: &[u8], m: u64, n: u64) -> Result<(), Memory>
+fn put_sums(out: &mut Bytes, word: &[u8], m: u64, n: u64) -> Result<(), Memory>
     ensures { OnOk result (out.new ≡ out.old ++ behind 32 (word.now ∷ decimal m ∷ decimal n ∷ [])) }
 {
-    put(alloc, out, &[Fixed(word), Number(m), Number(n)])
+    put(out, &[Fixed(word), Number(m), Number(n)])
 }
 
 // Adds why a file wasn't made.
-fn put_refused(alloc: Global, out: &mut Bytes, why: &[u8]) -> Result<(), Memory>
+fn put_refused(out: &mut Bytes, why: &[u8]) -> Result<(), Memory>
     ensures { OnOk result (out.new ≡ out.old ++ behind 32 (codes "refused" ∷ why.now ∷ [])) }
 {
-    put(alloc, out, &[Fixed(b"refused"), Fixed(why)])
+    put(out, &[Fixed(b"refused"), Fixed(why)])
 }
 
 // Adds why a file wasn't made, and how many drives there are.
-fn put_few(alloc: Global, out: &mut Bytes, why: &[u8], online: u32) -> Result<(), Memory>
+fn put_few(out: &mut Bytes, why: &[u8], online: u32) -> Result<(), Memory>
     ensures { OnOk result (out.new ≡ out.old ++ behind 32 (codes "refused" ∷ why.now ∷ decimal online ∷ [])) }
 {
-    put_refused(alloc, out, why)?;
-    put(alloc, out, &[small(online)])
+    put_refused(out, why)?;
+    put(out, &[small(online)])
 }
 
-fn put_note(alloc: Global, out: &mut Bytes, note: &Note) -> Result<(), Memory>
+fn put_note(out: &mut Bytes, note: &Note) -> Result<(), Memory>
     ensures { OnOk result (out.new ≡ out.old ++ behind 32 (map word_of (note_parts note.now))) }
 {
     match note {
-        Note::Ready => put(alloc, out, &[Fixed(b"ready")]),
-        Note::Fenced { tag } => put_count(alloc, out, b"fenced", *tag),
-        Note::Repaired { stripes, short } => put_sums(alloc, out, b"repaired", *stripes, *short),
+        Note::Ready => put(out, &[Fixed(b"ready")]),
+        Note::Fenced { tag } => put_count(out, b"fenced", *tag),
+        Note::Repaired { stripes, short } => put_sums(out, b"repaired", *stripes, *short),
         Note::Rebuilt { component, drive } => {
-            put_count(alloc, out, b"rebuilt", *component)?;
-            put(alloc, out, &[named(drive)])
+            put_count(out, b"rebuilt", *component)?;
+            put(out, &[named(drive)])
         }
-        Note::NoDrive { component } => put_count(alloc, out, b"nodrive", *component),
+        Note::NoDrive { component } => put_count(out, b"nodrive", *component),
         Note::Lost {
             component,
             positions,
         } => {
-            put_count(alloc, out, b"lost", *component)?;
-            put(alloc, out, &[Positions(positions.as_slice())])
+            put_count(out, b"lost", *component)?;
+            put(out, &[Positions(positions.as_slice())])
         }
-        Note::NoSpace { component } => put_count(alloc, out, b"nospace", *component),
+        Note::NoSpace { component } => put_count(out, b"nospace", *component),
         Note::Audited {
             stripes,
             short,
             bad,
             bytes,
         } => {
-            put_sums(alloc, out, b"audit", *stripes, *short)?;
-            put(alloc, out, &[Number(*bad), Number(*bytes)])
+            put_sums(out, b"audit", *stripes, *short)?;
+            put(out, &[Number(*bad), Number(*bytes)])
         }
-        Note::Busy { component } => put_count(alloc, out, b"busy", *component),
-        Note::Spent => put(alloc, out, &[Fixed(b"spent")]),
-        Note::Reported { component } => put_count(alloc, out, b"reported", *component),
-        Note::Exists => put_refused(alloc, out, b"exists"),
+        Note::Busy { component } => put_count(out, b"busy", *component),
+        Note::Spent => put(out, &[Fixed(b"spent")]),
+        Note::Reported { component } => put_count(out, b"reported", *component),
+        Note::Exists => put_refused(out, b"exists"),
         Note::BadMap { why } => {
-            put_refused(alloc, out, b"badmap")?;
-            put(alloc, out, &[Fixed(map_fault_text(*why))])
+            put_refused(out, b"badmap")?;
+            put(out, &[Fixed(map_fault_text(*why))])
         }
-        Note::TooFew { online } => put_few(alloc, out, b"toofew", *online),
-        Note::NoSpread { online } => put_few(alloc, out, b"nospread", *online),
+        Note::TooFew { online } => put_few(out, b"toofew", *online),
+        Note::NoSpread { online } => put_few(out, b"nospread", *online),
     }
 }
 
-fn put_last(alloc: Global, out: &mut Bytes, calm: bool, unguessed: bool) -> Result<(), Memory>
+fn put_last(out: &mut Bytes, calm: bool, unguessed: bool) -> Result<(), Memory>
     ensures { OnOk result (out.new ≡ out.old ++ behind 32 (last_words calm unguessed)) }
 {
     let calm = Fixed(yes_or_no_text(calm));
     let unguessed = Fixed(yes_or_no_text(unguessed));
-    put(alloc, out, &[calm, Fixed(b"unguessed"), unguessed])
+    put(out, &[calm, Fixed(b"unguessed"), unguessed])
 }
 
 // Adds the words behind the first one.
-fn put_line(alloc: Global, out: &mut Bytes, line: &Line) -> Result<(), Memory>
+fn put_line(out: &mut Bytes, line: &Line) -> Result<(), Memory>
     ensures { OnOk result (out.new ≡ out.old ++ behind 32 (map word_of (tail_parts line.now))) }
 {
     match line {
-        Line::Event { event } => put_event(alloc, out, event),
+        Line::Event { event } => put_event(out, event),
         Line::Message {
             message,
             from,
@@ -256,34 +256,30 @@ fn put_line(alloc: Global, out: &mut Bytes, line: &Line) -> Result<(), Memory>
         } => {
             let (from, to) = (party_word(from), party_word(to));
             let hex = Hex(bytes.as_slice());
-            put(alloc, out, &[Number(*message), from, to, hex])
+            put(out, &[Number(*message), from, to, hex])
         }
         Line::Delivered { message, delivery } => {
-            put(alloc, out, &[Number(*message)])?;
-            put_delivery(alloc, out, delivery)
+            put(out, &[Number(*message)])?;
+            put_delivery(out, delivery)
         }
         Line::Judged { drive, verdict } => {
-            put(alloc, out, &[named(drive)])?;
-            put_verdict(alloc, out, *verdict)
+            put(out, &[named(drive)])?;
+            put_verdict(out, *verdict)
         }
-        Line::TimedOut { client, component } => put(
-            alloc,
-            out,
-            &[named(client), small(*component)],
-        ),
+        Line::TimedOut { client, component } => put(out, &[named(client), small(*component)]),
         Line::Ended { client, outcome } => {
-            put(alloc, out, &[named(client)])?;
-            put_outcome(alloc, out, outcome)
+            put(out, &[named(client)])?;
+            put_outcome(out, outcome)
         }
         Line::Refused { client, refusal } => {
             let why = Fixed(refusal_text(*refusal));
-            put(alloc, out, &[named(client), why])
+            put(out, &[named(client), why])
         }
         Line::Note { file, note } => {
-            put(alloc, out, &[named(file)])?;
-            put_note(alloc, out, note)
+            put(out, &[named(file)])?;
+            put_note(out, note)
         }
-        Line::Last { calm, unguessed } => put_last(alloc, out, *calm, *unguessed),
+        Line::Last { calm, unguessed } => put_last(out, *calm, *unguessed),
     }
 }
 
@@ -303,19 +299,31 @@ fn head(line: &Line) -> &'static [u8]
     }
 }
 
+// The room that the text of one line is given at first: most lines that show no bytes are shorter.
+const LINE: usize = 64;
+
+// Adds the text of a line, without its newline.
+fn append_line(out: &mut Bytes, line: &Line) -> Result<(), Memory>
+    ensures { OnOk result (out.new ≡ out.old ++ (head_word line.now ++ behind 32 (map word_of (tail_parts line.now)))) }
+{
+    out.extend_from_slice(head(line))?;
+    put_line(out, line)
+}
+
 fn line_bytes(alloc: Global, line: &Line) -> Result<Bytes, Memory>
     ensures { IfOk result (λ text. text ≡ head_word line.now ++ behind 32 (map word_of (tail_parts line.now))) }
 {
-    let mut out = Bytes::copied(alloc, head(line))?;
-    put_line(alloc, &mut out, line)?;
+    let mut out = Bytes::with_capacity(alloc, LINE)?;
+    append_line(&mut out, line)?;
     Ok(out)
 }
 
 fn event_bytes(alloc: Global, event: &Event) -> Result<Bytes, Memory>
     ensures { IfOk result (λ text. text ≡ codes "=" ++ behind 32 (map word_of (event_parts event.now))) }
 {
-    let mut out = Bytes::copied(alloc, b"=")?;
-    put_event(alloc, &mut out, event)?;
+    let mut out = Bytes::with_capacity(alloc, LINE)?;
+    out.extend_from_slice(b"=")?;
+    put_event(&mut out, event)?;
     Ok(out)
 }
 
@@ -338,15 +346,28 @@ pub fn write_event_line(alloc: Global, event: &Event) -> Result<Bytes, Memory>
     event_bytes(alloc, event)
 }
 
+/// A text, and behind it the text of the lines of a history, each with its newline.
+///
+/// The text goes on in the memory that it has, so a text that was emptied by
+/// [`truncate`](osd_lists::Sequence::truncate) lends its room to the next one.
+///
+/// # Errors
+///
+/// `Memory`, where the text can't grow. It is given up then.
+pub fn append_lines(text: Bytes, lines: &[Line]) -> Result<Bytes, Memory>
+    ensures { IfOk result (λ longer. longer ≡ text ++ lines_text lines.now) }
+{
+    let mut longer = text;
+    for line in lines {
+        append_line(&mut longer, line)?;
+        longer.push(b'\n')?;
+    }
+    Ok(longer)
+}
+
 /// The text of the lines of a history, each with its newline.
 pub fn write_lines(alloc: Global, lines: &[Line]) -> Result<Bytes, Memory>
     ensures { IfOk result (λ text. text ≡ lines_text lines.now) }
 {
-    let mut text = Bytes::new(alloc);
-    for line in lines {
-        let one = write_line(alloc, line)?;
-        text.extend_from_slice(one.as_slice())?;
-        text.push(b'\n')?;
-    }
-    Ok(text)
+    append_lines(Bytes::new(alloc), lines)
 }

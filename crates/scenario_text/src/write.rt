@@ -1,4 +1,4 @@
-ghost use Rattle.std.specs.Prelude.{◌≡◌, ◌++◌, ◌∷◌, OnOk, decimal, map};
+ghost use Rattle.std.specs.Prelude.{◌≡◌, ◌≤◌, ◌++◌, ◌∷◌, OnOk, decimal, length, map};
 ghost use Rattle.hex.specs.Hex.{encode_lower};
 ghost use Rattle.scenario_text.specs.Words.{behind};
 ghost use Rattle.scenario_text.specs.Parts.{hex_word, positions_word};
@@ -7,7 +7,6 @@ ghost use Rattle.scenario_text.specs.Written.{written};
 use crate::names::Name;
 use itoa::Buffer;
 use osd_lists::{Bytes, Memory};
-use std::alloc::Global;
 
 // A word to be written.
 #[derive(Clone, Copy)]
@@ -32,21 +31,43 @@ pub(crate) fn named<'a, const LETTER: u8, const COUNT: u32>(name: &Name<LETTER, 
     Word::Named(LETTER, name.number())
 }
 
-fn put_hex(alloc: Global, out: &mut Bytes, bytes: &[u8]) -> Result<(), Memory>
+// The bytes whose digits are made at a time.
+const BLOCK: usize = 256;
+
+// Adds the digits of some of a word's bytes.
+fn put_block(out: &mut Bytes, block: &[u8]) -> Result<(), Memory>
+    requires { length block.now ≤ BLOCK }
+    ensures { OnOk result (out.new ≡ out.old ++ encode_lower block.now) }
+{
+    let mut digits = [0u8; 2 * BLOCK];
+    let text = &mut digits[..2 * block.len()];
+    match hex::encode_to_slice(block, text) {
+        Ok(()) => out.extend_from_slice(text),
+        Err(_) => unreachable!(),
+    }
+}
+
+// Adds the digits of bytes, a block at a time: nothing is filled by zeros that would be written over.
+fn put_digits(out: &mut Bytes, bytes: &[u8]) -> Result<(), Memory>
+    ensures { OnOk result (out.new ≡ out.old ++ encode_lower bytes.now) }
+{
+    out.reserve(2 * bytes.len())?;
+    let mut rest = bytes;
+    while !rest.is_empty() {
+        let (block, later) = rest.split_at(rest.len().min(BLOCK));
+        put_block(out, block)?;
+        rest = later;
+    }
+    Ok(())
+}
+
+fn put_hex(out: &mut Bytes, bytes: &[u8]) -> Result<(), Memory>
     ensures { OnOk result (out.new ≡ out.old ++ hex_word bytes.now) }
 {
     if bytes.is_empty() {
         return out.extend_from_slice(b"-");
     }
-    let text = hex::encode(alloc, bytes)?;
-    out.extend_from_slice(text.as_bytes())
-}
-
-fn put_key(alloc: Global, out: &mut Bytes, key: &[u8; 20]) -> Result<(), Memory>
-    ensures { OnOk result (out.new ≡ out.old ++ encode_lower key.now) }
-{
-    let text = hex::encode(alloc, key.as_slice())?;
-    out.extend_from_slice(text.as_bytes())
+    put_digits(out, bytes)
 }
 
 // Adds the positions behind the first one, each behind a comma.
@@ -73,7 +94,7 @@ fn put_positions(out: &mut Bytes, positions: &[u32]) -> Result<(), Memory>
     }
 }
 
-fn put_word(alloc: Global, out: &mut Bytes, word: &Word) -> Result<(), Memory>
+fn put_word(out: &mut Bytes, word: &Word) -> Result<(), Memory>
     ensures { OnOk result (out.new ≡ out.old ++ written word.now) }
 {
     match word {
@@ -83,19 +104,19 @@ fn put_word(alloc: Global, out: &mut Bytes, word: &Word) -> Result<(), Memory>
             out.push(*letter)?;
             out.extend_from_slice(Buffer::new().format(*n).as_bytes())
         }
-        Word::Key(key) => put_key(alloc, out, key),
-        Word::Hex(bytes) => put_hex(alloc, out, bytes),
+        Word::Key(key) => put_digits(out, key.as_slice()),
+        Word::Hex(bytes) => put_hex(out, bytes),
         Word::Positions(positions) => put_positions(out, positions),
     }
 }
 
 // Adds words, each behind a space.
-pub(crate) fn put(alloc: Global, out: &mut Bytes, words: &[Word]) -> Result<(), Memory>
+pub(crate) fn put(out: &mut Bytes, words: &[Word]) -> Result<(), Memory>
     ensures { OnOk result (out.new ≡ out.old ++ behind 32 (map written words.now)) }
 {
     for word in words {
         out.push(b' ')?;
-        put_word(alloc, out, word)?;
+        put_word(out, word)?;
     }
     Ok(())
 }
