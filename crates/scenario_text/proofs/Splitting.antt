@@ -1,11 +1,13 @@
 -- The first part of a text, by the place of the first separator.
-use Rattle.std.proofs.Common.{◌≡◌, ℕ, ◌+◌, ◌-◌, ◌<◌, ltb, Bool, true, false, cond, List, [], ◌∷◌, length, take, drop, Some, None, Err, refl, arith}
+use Rattle.std.proofs.Common.{◌≡◌, ℕ, ◌+◌, ◌-◌, ◌<◌, ltb, Bool, true, false, cond, List, [], ◌∷◌, length, take, drop, Option, Some, None, Err, refl, arith}
+use Rattle.std.specs.Prelude.{◌==◌}
 use Rattle.std.specs.List.{slice_split, position, position_or_len}
-use Rattle.std.proofs.lemmas.Bool.{ltb-true, ltb-false}
+use Rattle.std.proofs.lemmas.Bool.{ltb-true, ltb-false, lt-ltb, le-ltb, false_from_ne_true}
 use Rattle.std.proofs.lemmas.List.{take_all, length-drop}
 use Rattle.std.proofs.lemmas.List.Elements.{All-from_get_or}
 use Rattle.std.proofs.lemmas.List.Splits.{slice_split_first, slice_split_none, length-slice_split}
-use Rattle.std.proofs.lemmas.List.Sums.{fails_before_first}
+use Rattle.std.proofs.lemmas.List.Sums.{fails_before_first, position_or_len_is}
+use Rattle.memchr.specs.Find.{IsFirstByte, is_byte}
 use Rattle.scenario_text.specs.declared.event.EventErr.TheVariants.{Extra}
 use Rattle.scenario_text.specs.Reading.{nothing}
 
@@ -16,6 +18,17 @@ by_test false m i h = cc h
 none_by_test : (b : Bool) (m : ℕ) → cond b (Some m) None ≡ None → b ≡ false
 none_by_test true m h = cc h
 none_by_test false m h = refl
+
+-- the first place by a search is the first by the test
+pub found_first : (separator : ℕ) (line : List ℕ) (r : Option ℕ) → IsFirstByte (is_byte separator) line r → r ≡ position (λ b. b == separator) line
+found_first separator line None none =
+    let all : position_or_len (λ (b : ℕ). b == separator) line ≡ length line =
+    position_or_len_is (λ (b : ℕ). b == separator) line (length line) 0 (omega arith) (λ k lt. false_from_ne_true _ (none k (omega arith) lt)) (λ lt. absurd (omega arith)) in
+    rw (all, le-ltb (length line) (length line) (omega arith)) refl
+found_first separator line (Some k) found =
+    let here : position_or_len (λ (b : ℕ). b == separator) line ≡ k =
+    position_or_len_is (λ (b : ℕ). b == separator) line k 0 (omega (arith, found.0.high)) (λ j lt. false_from_ne_true _ (found.0.before j (omega arith) lt)) (λ lt. found.1) in
+    rw (here, lt-ltb k (length line) found.0.high) refl
 
 -- the first separator ends the first part
 pub split_at_first : (p : ℕ → Bool) (line : List ℕ) (i : ℕ) → position p line ≡ Some i

@@ -9,6 +9,7 @@ use crate::event::{EventErr, Machine, Sender};
 use crate::hexadecimal::{Digits, bytes, key};
 use crate::line::Party;
 use crate::names::{ClientName, DriveName, Name};
+use memchr::memchr;
 use osd_lists::{Bytes, Numbers};
 use std::alloc::Global;
 use std::marker::Model;
@@ -117,7 +118,7 @@ fn party(word: &[u8]) -> Result<Party, EventErr>
 fn first_place(line: &[u8], separator: u8) -> Option<usize>
     ensures { result ≡ position (λ b. b == separator) line.now }
 {
-    line.iter().position(|byte| *byte == separator)
+    memchr(separator, line)
 }
 
 // What stands before the first separator, and what follows it, if there is one.
