@@ -124,7 +124,7 @@ impl WorldDrive {
         ensures judged { IfOk result (λ told. Judges (judges self.old (Ok command.now)) self.new told) }
         ensures err { OnErr result (self.new ≡ self.old) }
     {
-        match self.core.verdict(self.clock, command) {
+        match self.core.judge(self.clock, command) {
             DriveVerdict::Perform => {
                 let reply = self.core.perform(alloc, command)?;
                 Ok(Judged {
