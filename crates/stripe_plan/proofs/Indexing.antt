@@ -107,11 +107,11 @@ found_list x p i ts list lists ns k w is_lists is_list lt is =
     (sifted (stands_in (length x.lists) x.unit (list_of (length x.lists) p (i.first / x.unit))) p i ts 0
     (all_weaker (IsInRow x.unit) (λ (t : Stretch). stands_in (length x.lists) x.unit (list_of (length x.lists) p (i.first / x.unit)) t ≡ false → IsApart p i t) (λ t inside. row_apart (length x.lists) x.unit p i t w.1.1 inside) ts (k.rows w.0)))
 
-pub fresh : (unit n : ℕ) (every : List ℕ) (lists : List (List ℕ)) → 0 < unit → 0 < n → n ≤ MOST_LISTS → every ≡ [] → AreEmpty n lists →
-    Indexes [] (record { unit = unit; is_regular = true; every = every; lists = lists })
+pub fresh : (unit n : ℕ) (regular : Bool) (every : List ℕ) (lists : List (List ℕ)) → 0 < unit → (regular ≡ true → 0 < n) → n ≤ MOST_LISTS → every ≡ [] → AreEmpty n lists →
+    Indexes [] (record { unit = unit; is_regular = regular; every = every; lists = lists })
 unfolding numbers_from
-fresh unit n every lists some one most none empty = record {
-  sound = (some, omega (arith, one, empty.count), omega (arith, most, empty.count));
+fresh unit n regular every lists some one most none empty = record {
+  sound = (some, λ e. omega (arith, one e, empty.count), omega (arith, most, empty.count));
   every = none;
   each = λ k lt. empty.each k (omega (arith, lt, empty.count));
   rows = λ e. All-nil (IsInRow unit);
@@ -132,15 +132,24 @@ one_list ts t x list number j k at is_list lt l = elim (cases_eq list j) [
       (get_or-set_other x.lists list j (get_or x.lists list [] ++ number ∷ []) [] (λ e. other (sym e)) ∙ k.each j l ∙ sym (append-nil (numbers_from (stands_in (length x.lists) x.unit j) ts 0)))
 ]
 
-pub pushed : (ts : List Stretch) (t : Stretch) (x : RowIndex) (regular : Bool) (every : List ℕ) (lists : List (List ℕ)) (list number : ℕ) → Indexes ts x →
-    (regular ≡ true → (x.is_regular ≡ true) × IsInRow x.unit t) → number ≡ length x.every → every ≡ x.every ++ number ∷ [] → list ≡ list_of (length x.lists) t.position (t.first / x.unit) →
-    list < length x.lists → lists ≡ set x.lists list (get_or x.lists list [] ++ number ∷ []) → Indexes (ts ++ t ∷ []) (record { unit = x.unit; is_regular = regular; every = every; lists = lists })
-pushed ts t x regular every lists list number k keeps is_number is_every is_list lt is_lists =
-    let long : length lists ≡ length x.lists = ap length is_lists ∙ length-set x.lists list (get_or x.lists list [] ++ number ∷ []) in
+pub pushed : (ts : List Stretch) (t : Stretch) (x : RowIndex) (regular : Bool) (every : List ℕ) (lists : List (List ℕ)) (number : ℕ) → Indexes ts x →
+    (regular ≡ true → (x.is_regular ≡ true) × IsInRow x.unit t) → number ≡ length x.every → every ≡ x.every ++ number ∷ [] →
+    (length x.lists ≡ 0 → lists ≡ x.lists) →
+    (0 < length x.lists → lists ≡ set x.lists (list_of (length x.lists) t.position (t.first / x.unit)) (get_or x.lists (list_of (length x.lists) t.position (t.first / x.unit)) [] ++ number ∷ [])) →
+    (0 < length x.lists → list_of (length x.lists) t.position (t.first / x.unit) < length x.lists) →
+    Indexes (ts ++ t ∷ []) (record { unit = x.unit; is_regular = regular; every = every; lists = lists })
+pushed ts t x regular every lists number k keeps is_number is_every no_lists is_lists lt =
+    let list : ℕ = list_of (length x.lists) t.position (t.first / x.unit) in
+    let long : length lists ≡ length x.lists = elim (cases_lt 0 (length x.lists)) [
+      | inl some ↦ ap length (is_lists some) ∙ length-set x.lists list (get_or x.lists list [] ++ number ∷ [])
+      | inr le ↦ ap length (no_lists (omega (arith, le)))
+    ] in
     let at : number ≡ 0 + length ts = omega (arith, is_number, ap length k.every, every_count ts 0) in
     record {
-      sound = (k.sound.0, omega (arith, long, k.sound.1), omega (arith, long, k.sound.2));
+      sound = (k.sound.0, λ e. omega (arith, long, k.sound.1 (keeps e).0), omega (arith, long, k.sound.2));
       every = is_every ∙ ap (λ (ns : List ℕ). ns ++ number ∷ []) k.every ∙ ap (λ (z : ℕ). numbers_from (λ t. true) ts 0 ++ z ∷ []) at ∙ sym (numbers_more (λ t. true) ts t 0);
-      each = λ j l. rw long (ap (λ (ls : List (List ℕ)). get_or ls j []) is_lists ∙ one_list ts t x list number j k at is_list lt (omega (arith, l, long)) ∙ sym (numbers_more (stands_in (length x.lists) x.unit j) ts t 0));
+      each = λ j l.
+          let some : 0 < length x.lists = omega (arith, l, long) in
+          rw long (ap (λ (ls : List (List ℕ)). get_or ls j []) (is_lists some) ∙ one_list ts t x list number j k at refl (lt some) (omega (arith, l, long)) ∙ sym (numbers_more (stands_in (length x.lists) x.unit j) ts t 0));
       rows = λ e. All-append (IsInRow x.unit) ts (t ∷ []) (k.rows (keeps e).0) (All-cons (IsInRow x.unit) t [] (keeps e).1 (All-nil (IsInRow x.unit)));
     }

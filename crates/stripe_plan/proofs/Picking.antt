@@ -7,11 +7,11 @@ use Rattle.stripe_plan.specs.declared.plan.Interval.{Interval}
 use Rattle.stripe_plan.specs.declared.plan.Stretch.{Stretch}
 use Rattle.stripe_plan.specs.declared.plan.Column.{Column}
 use Rattle.stripe_plan.specs.Words.{byte_over, byte_at}
-use Rattle.stripe_plan.specs.Asks.{before, behind, without}
+use Rattle.stripe_plan.specs.Asks.{before, behind, some_of, without}
 use Rattle.stripe_plan.specs.Indexed.{stretch_of, stretches_of, IsApart, Sifts}
 use Rattle.stripe_plan.proofs.Indexing.{next, here}
 use Rattle.std.proofs.Common.{take, drop, ◌-◌}
-use Rattle.std.proofs.lemmas.List.{drop_more, get_or_default, get_or-map, length-map, map-append, take_more, take_all}
+use Rattle.std.proofs.lemmas.List.{drop_more, get_or_default, get_or-map, length-map, map-append, nil_from_length, take_more, take_all}
 use Rattle.stripe_plan.specs.declared.plan.Part.{Part}
 use Rattle.stripe_plan.specs.declared.row_index.RowIndex.{RowIndex}
 use Rattle.stripe_plan.specs.Plans.{part_column, columns_of}
@@ -105,6 +105,11 @@ sifted_without all (t ∷ ts) n at p i ns s j inside = elim s [
 
 pub same_without : (ts : List Stretch) (p : ℕ) (i : Interval) (ns : List ℕ) → Sifts p i ts 0 ns → without (chosen ts ns) p i ≡ without ts p i
 same_without ts p i ns s = sifted_without ts ts 0 (λ k. let z : 0 + k ≡ k = omega arith in ap (λ (y : ℕ). get_or ts y no_stretch) z) p i ns s i (omega arith, omega arith)
+
+-- what isn't had, where no stretch has any
+pub none_had : (ts : List Stretch) (p : ℕ) (i : Interval) (e : ℕ) (ns : List ℕ) → e ≡ i.end → length ns ≡ 0 → Sifts p (record { first = i.first; end = e }) ts 0 ns → some_of i ≡ without ts p i
+unfolding without
+none_had ts p i e ns is none s = ap (λ (ks : List ℕ). without (chosen ts ks) p i) (sym (nil_from_length ns none)) ∙ same_without ts p i ns (rw is at s)
 
 -- ---- a loop over numbers from the last to the first
 

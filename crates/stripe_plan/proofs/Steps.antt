@@ -1,6 +1,6 @@
 -- One step of each definition that goes up to an end.
-use Rattle.std.proofs.Common.{◌≡◌, ℕ, ◌+◌, ◌-◌, ◌*◌, ◌<◌, ◌≤◌, Bool, true, false, List, [], ◌∷◌, ◌++◌, refl, sym, ap, ◌∙◌, arith, append_assoc, append-nil}
-use Rattle.std.specs.Prelude.{◌&&◌, ◌||◌, if◌then◌else◌, Option, Some, None, map}
+use Rattle.std.proofs.Common.{◌≡◌, ℕ, ◌+◌, ◌-◌, ◌*◌, ◌<◌, ◌≤◌, Bool, true, false, List, [], ◌∷◌, ◌++◌, refl, sym, ap, ◌∙◌, inl, inr, arith, append_assoc, append-nil}
+use Rattle.std.specs.Prelude.{◌&&◌, ◌||◌, if◌then◌else◌, Option, Some, None, Ok, map}
 use Rattle.std.specs.List.{range_with_len}
 use Rattle.data_map.specs.declared.check.RawMap.{RawMap}
 use Rattle.data_map.specs.Striping.{replicas, group_width, group_of, position_of}
@@ -8,7 +8,12 @@ use Rattle.stripe_plan.specs.declared.plan.Span.{Span}
 use Rattle.stripe_plan.specs.declared.plan.Interval.{Interval}
 use Rattle.stripe_plan.specs.declared.plan.Stretch.{Stretch}
 use Rattle.stripe_plan.specs.declared.plan.Aim.{Aim}
-use Rattle.stripe_plan.specs.Touched.{touches}
+use Rattle.stripe_plan.specs.declared.plan.Ask.{Ask}
+use Rattle.stripe_plan.specs.declared.plan.Column.{Column}
+use Rattle.stripe_plan.specs.declared.plan.Part.{Part}
+use Rattle.stripe_plan.specs.declared.plan.Store.{Store}
+use Rattle.stripe_plan.specs.Touched.{stripes, touches}
+use Rattle.stripe_plan.specs.Plans.{filled, filled_each, part_of, parts_of, plan_scatter, unless_lost, writes, writes_of, Gives}
 use Rattle.stripe_plan.specs.Words.{lost_from}
 use Rattle.stripe_plan.specs.Asks.{asks_of, asks_each, asks_place, asks_stripe, asks}
 use Rattle.stripe_plan.specs.Lost.{among, source_from, source, is_out, out_from, positions_out, is_short, hit_from, is_hit, when, unreadable, unwritable}
@@ -127,3 +132,21 @@ found_when false x y rest e = absurd (cc e)
 pub rest_when : {X : Type 0} (t : Bool) (x : X) (rest : Option X) → None ≡ when t x → (if t then Some x else rest) ≡ rest
 rest_when true x rest e = absurd (cc e)
 rest_when false x rest e = refl
+
+-- the writes of a plan are those of its stores
+pub parts_told : (cols : List Column) (xs : List Ask) → parts_of (filled_each cols xs) ≡ writes_of cols xs
+parts_told cols [] = refl
+parts_told cols (a ∷ xs) = ap (λ (ws : List Part). part_of (filled cols a) ∷ ws) (parts_told cols xs)
+
+-- where no stripe lacks too many positions there is a plan
+given : {X Y : Type 0} (lost : Option (List ℕ)) (x : X) (y z : Y) → Gives (unless_lost lost y) (Ok z) → Gives (unless_lost lost x) (Ok x)
+given None x y z g = inr refl
+given (Some ps) x y z (inl e) = absurd (cc e)
+given (Some ps) x y z (inr e) = absurd (cc e)
+
+pub scattered : {Y : Type 0} (m : RawMap) (r : Span) (cols : List Column) (out : List ℕ) (y z : Y) (xs : List Ask) (stores : List Store) (ws : List Part) →
+    Gives (unless_lost (unwritable m out (stripes m r)) y) (Ok z) → xs ≡ writes m r out → stores ≡ filled_each cols xs → ws ≡ parts_of stores → Gives (plan_scatter m r cols out) (Ok ws)
+unfolding plan_scatter
+scattered m r cols out y z xs stores ws g asked made is =
+    let all : ws ≡ writes_of cols (writes m r out) = is ∙ ap parts_of made ∙ parts_told cols xs ∙ ap (writes_of cols) asked in
+    rw all (given (unwritable m out (stripes m r)) (writes_of cols (writes m r out)) y z g)

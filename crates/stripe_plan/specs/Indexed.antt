@@ -31,9 +31,9 @@ stands_in lists unit list t = list_of lists t.position (t.first / unit) == list
 abbrev pub IsInRow : (unit : ℕ) → Stretch → Type 0
 IsInRow unit t = (t.first ≤ t.end) × (t.end ≤ (t.first / unit + 1) * unit)
 
--- an index with a list at least
+-- an index that has lists, if what is in it ends in the row in which it begins
 abbrev pub IsSound : RowIndex → Type 0
-IsSound x = (0 < x.unit) × (0 < length x.lists) × (length x.lists ≤ MOST_LISTS)
+IsSound x = (0 < x.unit) × (x.is_regular ≡ true → 0 < length x.lists) × (length x.lists ≤ MOST_LISTS)
 
 -- so many empty lists
 pub record AreEmpty (n : ℕ) (lists : List (List ℕ)) : Type 0 where

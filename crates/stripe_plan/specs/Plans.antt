@@ -83,6 +83,9 @@ written m r bytes got out (s ∷ ss) =
 abbrev pub filled : List Column → Ask → Store
 filled cols a = record { ask = a; bytes = bytes_at cols a.position a.offset a.length }
 
+abbrev pub filled_each : List Column → List Ask → List Store
+filled_each cols xs = map (filled cols) xs
+
 -- every write of a scatter with its bytes
 unfoldable pub stores : RawMap → Span → List ℕ → List Column → List ℕ → List Store
 stores m r bytes got out = map (filled (written m r bytes got out (stripes m r))) (writes m r out)
@@ -119,6 +122,9 @@ apply_and_encode m r bytes got out =
 abbrev pub part_of : Store → Part
 part_of w = record { component = w.ask.component; offset = w.ask.offset; bytes = w.bytes }
 
+abbrev pub parts_of : List Store → List Part
+parts_of ws = map part_of ws
+
 abbrev pub writes_of : List Column → List Ask → List Part
 writes_of cols xs = map (λ (a : Ask). part_of (filled cols a)) xs
 
@@ -126,6 +132,11 @@ writes_of cols xs = map (λ (a : Ask). part_of (filled cols a)) xs
 unfoldable pub plan_scatter : RawMap → Span → List Column → List ℕ → Result (List Part) PlanErr
 plan_scatter m r cols out =
     unless_lost (unwritable m out (stripes m r)) (writes_of cols (writes m r out))
+
+-- the same with their stripes and positions
+unfoldable pub plan_stores : RawMap → Span → List Column → List ℕ → Result (List Store) PlanErr
+plan_stores m r cols out =
+    unless_lost (unwritable m out (stripes m r)) (filled_each cols (writes m r out))
 
 -- the bytes of a read, by what was fetched
 unfoldable pub assemble : RawMap → Span → List Part → List ℕ → Result (List ℕ) PlanErr

@@ -95,25 +95,30 @@ fn left_among(
     Ok(left)
 }
 
-// The bytes of an interval of a position that aren't had.
-fn left_of(
+// Adds the bytes of an interval of a position that aren't had.
+fn push_left(
+    left: &mut Intervals,
     alloc: Global,
     had: &[Stretch],
     index: &RowIndex,
     position: u32,
     interval: Interval,
-) -> Result<Intervals, Memory>
+) -> Result<(), Memory>
     requires { Indexes had.now index.now }
-    ensures { IfOk result (λ is. is ≡ without had.now position interval) }
+    ensures { OnOk result (left.new ≡ left.old ++ without had.now position interval) }
 {
     let numbers = index.find(position, interval.first, u128::from(interval.end));
-    let left = left_among(alloc, had, numbers, position, interval)?;
-    Ok(left)
+    if numbers.is_empty() {
+        return push_some(left, interval);
+    }
+    let some = left_among(alloc, had, numbers, position, interval)?;
+    left.extend_from_slice(some.as_slice())
 }
 
-// The bytes of these columns of a stripe, at a position, that aren't had.
+// Adds the bytes of these columns of a stripe, at a position, that aren't had.
 #[tactic(auto, unfolding(crate::specs::Asks::without_each))]
-pub(crate) fn left_of_each(
+pub(crate) fn push_left_of_each(
+    left: &mut Intervals,
     alloc: Global,
     map: &DataMap,
     had: &[Stretch],
@@ -121,16 +126,15 @@ pub(crate) fn left_of_each(
     stripe: u64,
     position: u32,
     columns: &[Interval],
-) -> Result<Intervals, Memory>
+) -> Result<(), Memory>
     requires stripe { stripe ≤ MAX_FILE_SIZE }
     requires low { All IsLow columns.now }
     requires index { Indexes had.now index.now }
-    ensures { IfOk result (λ is. is ≡ without_each had.now position (at_rows map.now stripe columns.now)) }
+    ensures { OnOk result (left.new ≡ left.old ++ without_each had.now position (at_rows map.now stripe columns.now)) }
 {
-    let mut all = Intervals::new(alloc);
     for interval in columns {
-        let left = left_of(alloc, had, index, position, at_row(map, stripe, *interval))?;
-        all.extend_from_slice(left.as_slice())?;
+        let bytes = at_row(map, stripe, *interval);
+        push_left(left, alloc, had, index, position, bytes)?;
     }
-    Ok(all)
+    Ok(())
 }

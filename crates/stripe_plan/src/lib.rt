@@ -30,7 +30,7 @@ pub use plan::{
     Aim, Ask, Asks, Column, Columns, Fetched, Interval, Intervals, Out, Part, Piece, Pieces,
     PlanErr, Span, Store, Stretch, Writes,
 };
-pub use plans::{plan_gather, plan_read, plan_scatter};
+pub use plans::{plan_gather, plan_read, plan_scatter, plan_stores};
 pub use read_answer::assemble;
 pub use requests::asks;
 pub use rows::code_of;

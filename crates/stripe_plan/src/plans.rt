@@ -1,11 +1,12 @@
 // The plans of reads and writes.
-ghost use Rattle.std.specs.Prelude.{◌≡◌, ◌+◌, ◌≤◌, ◌++◌, IfOk};
-ghost use Rattle.stripe_plan.specs.Plans.{gathers, pieces_of, plan_gather, plan_read, plan_scatter};
-ghost use Rattle.stripe_plan.specs.Plans.{span, writes_of, Gives};
+ghost use Rattle.std.specs.Prelude.{◌≡◌, ◌⊎◌, ◌+◌, ◌≤◌, ◌++◌, Ok, Err, IfOk, IfErr};
+ghost use Rattle.stripe_plan.specs.declared.plan.PlanErr.TheVariants.{Memory as NoMemory};
+ghost use Rattle.stripe_plan.specs.Plans.{filled_each, gathers, parts_of, pieces_of, plan_gather, plan_read, plan_scatter};
+ghost use Rattle.stripe_plan.specs.Plans.{plan_stores, span, Gives};
 
 use crate::laid_bytes::{bytes_of, index_columns};
 use crate::lost::{check_readable, check_writable};
-use crate::plan::{Aim, Asks, Columns, Out, Part, Piece, Pieces, PlanErr, Span, Writes};
+use crate::plan::{Aim, Asks, Columns, Out, Part, Piece, Pieces, PlanErr, Span, Store, Writes};
 use crate::requests::asks;
 use data_map::{DataMap, MAX_FILE_SIZE};
 use osd_lists::Memory;
@@ -15,7 +16,7 @@ use std::alloc::Global;
 fn pieces(alloc: Global, asks: &Asks) -> Result<Pieces, Memory>
     ensures { IfOk result (λ ps. ps ≡ pieces_of asks.now) }
 {
-    let mut pieces = Pieces::new(alloc);
+    let mut pieces = Pieces::with_capacity(alloc, asks.len())?;
     for ask in asks.as_slice() {
         pieces.push(Piece {
             component: ask.component,
@@ -88,13 +89,18 @@ pub fn plan_gather(
     Ok(pieces(alloc, &gathers(alloc, map, range, out)?)?)
 }
 
-// The bytes that each write has of these columns.
-fn filled(alloc: Global, map: &DataMap, asks: &Asks, columns: &Columns) -> Result<Writes, Memory>
-    ensures { IfOk result (λ ws. ws ≡ writes_of columns.now asks.now) }
+// The writes that are asked, each with its bytes of these columns.
+fn filled(
+    alloc: Global,
+    map: &DataMap,
+    asks: &Asks,
+    columns: &Columns,
+) -> Result<Vec<Store>, Memory>
+    ensures { IfOk result (λ ws. ws.items ≡ filled_each columns.now asks.now) }
 {
     map.known();
     let index = index_columns(alloc, map.raw().unit, columns.as_slice())?;
-    let mut writes = Writes::new(alloc);
+    let mut stores = Vec::with_capacity(alloc, asks.len())?;
     for ask in asks.as_slice() {
         let bytes = bytes_of(
             alloc,
@@ -104,13 +110,48 @@ fn filled(alloc: Global, map: &DataMap, asks: &Asks, columns: &Columns) -> Resul
             ask.offset,
             ask.length,
         )?;
-        writes.push(Part {
-            component: ask.component,
-            offset: ask.offset,
-            bytes,
+        stores.push(Store { ask: *ask, bytes })?;
+    }
+    Ok(stores)
+}
+
+// Writes by their components.
+fn parts(alloc: Global, stores: Vec<Store>) -> Result<Writes, Memory>
+    ensures { IfOk result (λ ws. ws ≡ parts_of stores.items) }
+{
+    let mut parts = Writes::new(alloc);
+    for store in stores {
+        parts.push(Part {
+            component: store.ask.component,
+            offset: store.ask.offset,
+            bytes: store.bytes,
         })?;
     }
-    Ok(writes)
+    Ok(parts)
+}
+
+/// The same writes as [`plan_scatter`]'s, with their stripes and positions, and each error as there.
+#[tactic(auto, unfolding(crate::specs::Plans::plan_stores))]
+pub fn plan_stores(
+    alloc: Global,
+    map: &DataMap,
+    off: u64,
+    len: u64,
+    columns: &Columns,
+    out: &Out,
+) -> Result<Vec<Store>, PlanErr>
+    requires { off + len ≤ MAX_FILE_SIZE }
+    ensures ok { IfOk result (λ ws. plan_stores map.now (span off len) columns.now out.now.components ≡ Ok ws.items) }
+    ensures err { IfErr result
+        (λ e. (e ≡ NoMemory) ⊎ (plan_stores map.now (span off len) columns.now out.now.components ≡ Err e)) }
+{
+    let range = Span {
+        offset: off,
+        length: len,
+    };
+    check_writable(alloc, map, range, out)?;
+    let asks = asks(alloc, Aim::Scatters, map, range, out, &[])?;
+    Ok(filled(alloc, map, &asks, columns)?)
 }
 
 /// What a write of a range writes: its own bytes and the touched columns of each parity position, out of these columns
@@ -135,10 +176,7 @@ pub fn plan_scatter(
         length: len,
     };
     check_writable(alloc, map, range, out)?;
-    Ok(filled(
-        alloc,
-        map,
-        &asks(alloc, Aim::Scatters, map, range, out, &[])?,
-        columns,
-    )?)
+    let asks = asks(alloc, Aim::Scatters, map, range, out, &[])?;
+    let stores = filled(alloc, map, &asks, columns)?;
+    Ok(parts(alloc, stores)?)
 }

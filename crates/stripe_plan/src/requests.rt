@@ -6,10 +6,10 @@ ghost use Rattle.stripe_plan.specs.Touched.{stripes};
 ghost use Rattle.stripe_plan.specs.Indexed.{Indexes};
 ghost use Rattle.stripe_plan.specs.Asks.{asks_of, asks_position, asks_place, asks_stripe, asks};
 
-use crate::left::{index_stretches, left_of_each};
+use crate::left::{index_stretches, push_left_of_each};
 use crate::lost::{is_among, source};
-use crate::needed::needed;
-use crate::plan::{Aim, Ask, Asks, Interval, Out, Span, Stretch};
+use crate::needed::push_needed;
+use crate::plan::{Aim, Ask, Asks, Interval, Intervals, Out, Span, Stretch};
 use crate::row_index::RowIndex;
 use crate::touched::touched_stripes;
 use data_map::{DataMap, MAX_FILE_SIZE};
@@ -26,6 +26,15 @@ struct Request<'a> {
     out: &'a Out,
     had: &'a [Stretch],
     index: &'a RowIndex,
+}
+
+// Lists that are made anew for each place of a stripe's group, in memory that is taken once.
+#[derive(Drop)]
+struct Drafts {
+    // The columns that the plan needs.
+    columns: Intervals,
+    // Their bytes that aren't had.
+    left: Intervals,
 }
 
 // These bytes of a component.
@@ -95,6 +104,7 @@ fn push_each(
 #[tactic(auto, unfolding(crate::specs::Asks::asks_place))]
 fn push_place(
     asks: &mut Asks,
+    drafts: &mut Drafts,
     alloc: Global,
     request: &Request<'_>,
     stripe: u64,
@@ -111,7 +121,9 @@ fn push_place(
     let map = request.map;
     let unit = map.unit_in(stripe, place);
     let position = map.group(stripe) * map.group_width() + place;
-    let columns = needed(
+    drafts.columns.truncate(0);
+    push_needed(
+        &mut drafts.columns,
         alloc,
         request.aim,
         map,
@@ -120,16 +132,18 @@ fn push_place(
         stripe,
         unit,
     )?;
-    let left = left_of_each(
+    drafts.left.truncate(0);
+    push_left_of_each(
+        &mut drafts.left,
         alloc,
         map,
         request.had,
         request.index,
         stripe,
         position,
-        columns.as_slice(),
+        drafts.columns.as_slice(),
     )?;
-    let left = left.as_slice();
+    let left = drafts.left.as_slice();
     match request.aim {
         Aim::Reads | Aim::Gathers => push_source(asks, map, request.out, stripe, position, left),
         Aim::Scatters => push_each(asks, map, request.out, stripe, position, left),
@@ -139,6 +153,7 @@ fn push_place(
 // What a plan needs and hasn't of a stripe.
 fn push_stripe(
     asks: &mut Asks,
+    drafts: &mut Drafts,
     alloc: Global,
     request: &Request<'_>,
     stripe: u64,
@@ -151,7 +166,7 @@ fn push_stripe(
         request.now.had.now stripe 0 (group_width request.now.map.now)) }
 {
     for place in 0..request.map.group_width() {
-        push_place(asks, alloc, request, stripe, place)?;
+        push_place(asks, drafts, alloc, request, stripe, place)?;
     }
     Ok(())
 }
@@ -180,9 +195,13 @@ pub fn asks(
         had,
         index: &index,
     };
+    let mut drafts = Drafts {
+        columns: Intervals::new(alloc),
+        left: Intervals::new(alloc),
+    };
     let mut all = Asks::new(alloc);
     for stripe in first..end {
-        push_stripe(&mut all, alloc, &request, stripe)?;
+        push_stripe(&mut all, &mut drafts, alloc, &request, stripe)?;
     }
     Ok(all)
 }

@@ -13,13 +13,17 @@ pub(crate) type Marks = Sequence<usize>;
 // The most lists that an index has.
 const MOST_LISTS: usize = 65_536;
 
+// So many pieces are gone through one by one, since lists of them would cost more than they spare.
+const FEW_PIECES: usize = 8;
+
 // The numbers of pieces in the order in which they were added, in lists: those of one row of a position stand in one
-// list, maybe with those of some others. So what is had of a row is found without going through all pieces.
+// list, maybe with those of some others. So what is had of a row is found without going through all pieces. An index that
+// is made for few pieces has no lists.
 #[derive(Debug, Drop)]
 pub(crate) struct RowIndex {
     // the length of a row
     unit: u64,
-    // whether each piece ends in the row in which it begins
+    // whether there are lists, and each piece ends in the row in which it begins
     is_regular: bool,
     every: Marks,
     lists: Sequence<Marks>,
@@ -34,6 +38,17 @@ fn list_of(lists: usize, position: u32, row: u64) -> usize
 {
     let lists = lists as u64;
     ((row % lists * 67 + u64::from(position)) % lists) as usize
+}
+
+// How many lists an index for about so many pieces has.
+fn lists_for(count: usize) -> usize
+    ensures { result ≤ MOST_LISTS }
+{
+    if count > FEW_PIECES {
+        count.min(MOST_LISTS)
+    } else {
+        0
+    }
 }
 
 // So many empty lists.
@@ -57,18 +72,39 @@ fn add(lists: &mut Sequence<Marks>, list: usize, number: usize) -> Result<(), Me
     Ok(())
 }
 
+// Adds a number to the list in which a row of a position stands, if there are lists.
+fn add_in_row(
+    lists: &mut Sequence<Marks>,
+    position: u32,
+    row: u64,
+    number: usize,
+) -> Result<(), Memory>
+    requires { length lists.old ≤ MOST_LISTS }
+    ensures none { length lists.old ≡ 0 → OnOk result (lists.new ≡ lists.old) }
+    ensures one { 0 < length lists.old → OnOk result (lists.new
+        ≡ slice_set lists.old (list_of (length lists.old) position row)
+        (slice_index_or lists.old (list_of (length lists.old) position row) [] ++ number ∷ [])) }
+    ensures list { 0 < length lists.old → list_of (length lists.old) position row < length lists.old }
+{
+    if lists.is_empty() {
+        return Ok(());
+    }
+    let list = list_of(lists.len(), position, row);
+    add(lists, list, number)
+}
+
 impl RowIndex {
     // An index of no piece, for about `count` of them.
     pub(crate) fn new(alloc: Global, unit: u64, count: usize) -> Result<Self, Memory>
         requires { 0 < unit }
         ensures { IfOk result (Indexes []) }
     {
-        let lists = empty_lists(alloc, count.clamp(1, MOST_LISTS))?;
+        let lists = lists_for(count);
         Ok(RowIndex {
             unit,
-            is_regular: true,
-            every: Marks::new(alloc),
-            lists,
+            is_regular: lists > 0,
+            every: Marks::with_capacity(alloc, count)?,
+            lists: empty_lists(alloc, lists)?,
         })
     }
 
@@ -89,9 +125,8 @@ impl RowIndex {
             (Indexes (ts ++ record { position = position; first = first; end = end } ∷ []) self.new) }
     {
         let is_regular = self.keeps_rows(first, end);
-        let list = list_of(self.lists.len(), position, first / self.unit);
         let number = self.every.len();
-        add(&mut self.lists, list, number)?;
+        add_in_row(&mut self.lists, position, first / self.unit, number)?;
         self.every.push(number)?;
         self.is_regular = is_regular;
         Ok(())

@@ -1,5 +1,5 @@
 // The stripes and columns that a range of a file touches.
-ghost use Rattle.std.specs.Prelude.{◌≡◌, ◌+◌, ◌-◌, ◌*◌, ◌<◌, ◌≤◌, IfOk};
+ghost use Rattle.std.specs.Prelude.{◌≡◌, ◌+◌, ◌-◌, ◌*◌, ◌<◌, ◌≤◌, [], IfOk, OnOk};
 ghost use Rattle.std.specs.List.{All, range_with_len};
 ghost use Rattle.data_map.specs.Striping.{stripe_of, stripe_length, group_width};
 ghost use Rattle.stripe_plan.specs.Touched.{end_of, stripes, unit_start, own, IsLow, low, high, columns_between};
@@ -81,40 +81,57 @@ pub fn touched_columns(
     ensures low { IfOk result (λ is. All IsLow is) }
     ensures unit { IfOk result (λ is. All (λ i. i.end ≤ map.now.unit) is) }
 {
+    let mut intervals = Intervals::new(alloc);
+    push_touched(&mut intervals, map, range, stripe)?;
+    Ok(intervals)
+}
+
+// The same, put into an empty list.
+#[tactic(auto, unfolding(crate::specs::Touched::columns))]
+pub(crate) fn push_touched(
+    intervals: &mut Intervals,
+    map: &DataMap,
+    range: Span,
+    stripe: u64,
+) -> Result<(), Memory>
+    requires inside { range.offset + range.length ≤ MAX_FILE_SIZE }
+    requires stripe { stripe ≤ MAX_FILE_SIZE }
+    requires none { intervals.old ≡ [] }
+    ensures value { OnOk result (intervals.new ≡ columns map.now range stripe) }
+    ensures low { OnOk result (All IsLow intervals.new) }
+    ensures unit { OnOk result (All (λ i. i.end ≤ map.now.unit) intervals.new) }
+{
     let start = stripe_start(map, stripe);
     let next = stripe_start(map, stripe + 1);
     let low = range.offset.max(start) - start;
     let high = (range.offset + range.length)
         .min(next)
         .saturating_sub(start);
-    columns_between(alloc, map.raw().unit, low, high)
+    push_between(intervals, map.raw().unit, low, high)
 }
 
-// The columns of bytes `low` to `high` of a stripe's data.
+// The columns of bytes `low` to `high` of a stripe's data, put into an empty list.
 #[tactic(auto, unfolding(crate::specs::Touched::columns_between))]
-fn columns_between(alloc: Global, unit: u64, low: u64, high: u64) -> Result<Intervals, Memory>
-    requires { (0 < unit) × (unit ≤ MAX_STRIPE_UNIT) }
-    ensures value { IfOk result (λ is. is ≡ columns_between unit low high) }
-    ensures low { IfOk result (λ is. All IsLow is) }
-    ensures unit { IfOk result (λ is. All (λ i. i.end ≤ unit) is) }
+fn push_between(intervals: &mut Intervals, unit: u64, low: u64, high: u64) -> Result<(), Memory>
+    requires unit { (0 < unit) × (unit ≤ MAX_STRIPE_UNIT) }
+    requires none { intervals.old ≡ [] }
+    ensures value { OnOk result (intervals.new ≡ columns_between unit low high) }
+    ensures low { OnOk result (All IsLow intervals.new) }
+    ensures unit { OnOk result (All (λ i. i.end ≤ unit) intervals.new) }
 {
-    let mut intervals = Intervals::new(alloc);
     if high.saturating_sub(low) >= unit {
-        intervals.push(Interval {
+        return intervals.push(Interval {
             first: 0,
             end: unit,
-        })?;
-        return Ok(intervals);
+        });
     }
     let first = low % unit;
     let end = high.saturating_sub(1) % unit + 1;
     if first < end {
-        intervals.push(Interval { first, end })?;
-        return Ok(intervals);
+        return intervals.push(Interval { first, end });
     }
     intervals.push(Interval { first: 0, end })?;
-    intervals.push(Interval { first, end: unit })?;
-    Ok(intervals)
+    intervals.push(Interval { first, end: unit })
 }
 
 /// Whether all data bytes of a stripe are in a range.

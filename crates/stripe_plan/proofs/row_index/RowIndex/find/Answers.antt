@@ -1,7 +1,10 @@
-use Rattle.std.proofs.Common.{◌∙◌, sym, []}
+use Rattle.std.proofs.Common.{◌∙◌, sym, [], arith}
 use Rattle.std.proofs.lemmas.Option.{get_or_from_slice_get}
 use Rattle.stripe_plan.proofs.Indexing.{found_list, found_every}
 use Rattle.stripe_plan.proofs.row_index.RowIndex.find.Goals as goal
+
+pub list_of-list-requires : goal.list_of-list-requires
+list_of-list-requires c = (omega (arith, c.requires.1 (c.keeps_rows.ensures c.if-keeps_rows.true).0, c.len.ensures), omega (arith, c.requires.2, c.len.ensures))
 
 pub returns-then-keeps_rows : goal.returns-then-keeps_rows
 returns-then-keeps_rows c = λ ts x.

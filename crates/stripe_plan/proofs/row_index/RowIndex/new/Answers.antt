@@ -1,6 +1,6 @@
-use Rattle.std.proofs.Common.{arith}
+use Rattle.std.proofs.Common.{rules, tests}
 use Rattle.stripe_plan.proofs.Indexing.{fresh}
 use Rattle.stripe_plan.proofs.row_index.RowIndex.new.Goals as goal
 
 pub returns : goal.returns
-returns c = fresh c.args.unit c.clamp.result c.new.result c.in_ok-lists.lists c.requires (omega (arith, c.clamp.ensures)) (omega (arith, c.clamp.ensures)) c.new.ensures c.in_ok-lists.ensures
+returns c = fresh c.args.unit c.lists_for-lists.result _ _ _ c.requires (λ e. search (rules, tests, e)) c.lists_for-lists.ensures c.in_ok-with_capacity.ensures c.in_ok-empty_lists.ensures
