@@ -13,6 +13,7 @@ use Rattle.osd_commands.specs.declared.actions.Action.{Action}
 use Rattle.osd_commands.specs.declared.actions.Action.TheVariants.{Create, Read, Write, GetAttr, SetAttr, SetTag}
 use Rattle.osd_commands.specs.declared.commands.TheConstants.{MAGIC, BLOCK, FIELDS, CAPABILITY_END, TAIL}
 use Rattle.osd_commands.specs.declared.commands.Command.{Command}
+use Rattle.osd_commands.specs.declared.commands.CommandBlock.{CommandBlock}
 use Rattle.osd_commands.specs.declared.commands.CommandErr.{CommandErr}
 use Rattle.osd_commands.specs.declared.commands.CommandErr.TheVariants.{Short, Magic, BadAction, Reserved, BadCapability, Length, Memory}
 use Rattle.osd_commands.specs.Actions.{number_of, action_of}
@@ -120,6 +121,28 @@ ReadsAs (Err (Reserved at)) whole = whole ≡ Err (Reserved at)
 ReadsAs (Err (BadCapability e)) whole = whole ≡ Err (BadCapability e)
 ReadsAs (Err (Length n)) whole = whole ≡ Err (Length n)
 ReadsAs (Err Memory) whole = ⊤
+
+-- ---- the block alone
+
+-- the command of a block and its payload
+abbrev pub with_payload : CommandBlock → (payload : List ℕ) → Command
+with_payload b payload = record {
+  action = b.action;
+  partition = b.partition;
+  object = b.object;
+  offset = b.offset;
+  length = b.length;
+  nonce = b.nonce;
+  attribute = b.attribute;
+  capability = b.capability;
+  payload = payload;
+  check = b.check;
+}
+
+-- the same where there is a block
+abbrev pub with_payload_in : (payload : List ℕ) → Result CommandBlock CommandErr → Result Command CommandErr
+with_payload_in payload (Ok b) = Ok (with_payload b payload)
+with_payload_in payload (Err e) = Err e
 
 -- ---- what has a spelling that is read
 

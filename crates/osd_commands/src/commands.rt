@@ -1,8 +1,8 @@
-ghost use Rattle.std.specs.Prelude.{◌≡◌, ◌≤◌, ◌<◌, ◌++◌, length, slice_range, replicate, IfOk, IfSome, Ok};
+ghost use Rattle.std.specs.Prelude.{◌≡◌, ◌≤◌, ◌<◌, ◌++◌, drop, length, slice_range, replicate, IfOk, IfSome, Ok};
 ghost use Rattle.std.specs.Int.{w64, from_be_bytes};
 ghost use Rattle.osd_capability.specs.Layout.{spelling as capability_bytes};
 ghost use Rattle.osd_commands.specs.declared.commands.Command.{Command as Cmd};
-ghost use Rattle.osd_commands.specs.Commands.{fields, spelling, reading, stray, allows, is_sized, sized, command_at, check_at, check_len, NumbersFit, Fits, IsWhole, ReadsAs, BeginsNoOther};
+ghost use Rattle.osd_commands.specs.Commands.{fields, spelling, reading, stray, allows, is_sized, sized, command_at, check_at, check_len, with_payload, with_payload_in, NumbersFit, Fits, IsWhole, ReadsAs, BeginsNoOther};
 
 use crate::actions::Action;
 use osd_capability::{CHECK_BYTES, CapErr, Capability, FORMAT_SHA256, SHA1_TAG_BYTES};
@@ -68,6 +68,20 @@ pub struct Command {
     /// The bytes to write, the value of the attribute, or the label of a new object.
     pub payload: Bytes,
     /// The check value. In format 1 it has 20 bytes, and the last 12 of the 32 are 0.
+    pub check: [u8; CHECK_BYTES],
+}
+
+/// The block of a command: all of it but its payload, as [`Command`] has it.
+#[derive(Clone, Copy, Debug)]
+pub struct CommandBlock {
+    pub action: Action,
+    pub partition: u64,
+    pub object: u64,
+    pub offset: u64,
+    pub length: u64,
+    pub nonce: u64,
+    pub attribute: u32,
+    pub capability: Capability,
     pub check: [u8; CHECK_BYTES],
 }
 
@@ -219,23 +233,22 @@ fn check_at(bytes: &[u8], format: u8) -> [u8; CHECK_BYTES]
     check
 }
 
-// The command, if its payload has the right length, by the places of the table of [`Command`].
+// The block, if the payload has the right length, by the places of the table of [`Command`].
 #[tactic(auto, unfolding(crate::specs::Commands::command_at))]
-fn sized_command(
-    alloc: Global,
+fn sized_block(
     bytes: &[u8],
     action: Action,
     capability: Capability,
-) -> Result<Command, CommandErr>
+) -> Result<CommandBlock, CommandErr>
     requires { BLOCK ≤ length bytes.now }
-    ensures { ReadsAs result (sized bytes.now (command_at action capability bytes.now)) }
+    ensures { sized bytes.now (command_at action capability bytes.now) ≡ with_payload_in (drop BLOCK bytes.now) result }
 {
     let (_, payload) = bytes.split_at(BLOCK);
     let size = payload.len() as u64;
     if !is_sized(bytes, action, size) {
         return Err(CommandErr::Length { bytes: size });
     }
-    Ok(Command {
+    Ok(CommandBlock {
         action,
         partition: u64_at(bytes, 8),
         object: u64_at(bytes, 16),
@@ -244,15 +257,19 @@ fn sized_command(
         nonce: u64_at(bytes, 40),
         attribute: u32_at(bytes, 48),
         capability,
-        payload: Bytes::copied(alloc, payload)?,
         check: check_at(bytes, capability.format),
     })
 }
 
-// The command, or the first refusal.
+/// The block of the command that the bytes spell: the rest of them is the payload, which isn't copied. It takes no memory.
+///
+/// # Errors
+///
+/// As those of [`read_command`], but for `Memory`.
 #[tactic(auto, unfolding(crate::specs::Commands::reading))]
-fn read(alloc: Global, bytes: &[u8]) -> Result<Command, CommandErr>
-    ensures { ReadsAs result (reading bytes.now) }
+pub fn read_block(bytes: &[u8]) -> Result<CommandBlock, CommandErr>
+    ensures long { IfOk result (λ _. BLOCK ≤ length bytes.now) }
+    ensures exact { reading bytes.now ≡ with_payload_in (drop BLOCK bytes.now) result }
 {
     if bytes.len() < BLOCK {
         return Err(CommandErr::Short);
@@ -268,7 +285,38 @@ fn read(alloc: Global, bytes: &[u8]) -> Result<Command, CommandErr>
         return Err(CommandErr::Reserved { at: at as u32 });
     }
     let capability = Capability::from_bytes(&bytes[FIELDS..CAPABILITY_END])?;
-    sized_command(alloc, bytes, action, capability)
+    sized_block(bytes, action, capability)
+}
+
+// A command of its block and its payload.
+fn with_payload(block: &CommandBlock, payload: Bytes) -> Command
+    ensures { result ≡ with_payload block.now payload }
+{
+    Command {
+        action: block.action,
+        partition: block.partition,
+        object: block.object,
+        offset: block.offset,
+        length: block.length,
+        nonce: block.nonce,
+        attribute: block.attribute,
+        capability: block.capability,
+        payload,
+        check: block.check,
+    }
+}
+
+// The command, or the first refusal.
+fn read(alloc: Global, bytes: &[u8]) -> Result<Command, CommandErr>
+    ensures { ReadsAs result (reading bytes.now) }
+{
+    match read_block(bytes) {
+        Ok(block) => {
+            let (_, payload) = bytes.split_at(BLOCK);
+            Ok(with_payload(&block, Bytes::copied(alloc, payload)?))
+        }
+        Err(refusal) => Err(refusal),
+    }
 }
 
 /// The command that the bytes spell.

@@ -1,9 +1,10 @@
-ghost use Rattle.std.specs.Prelude.{◌≡◌, length, slice_get, OnOk, IfOk};
+ghost use Rattle.std.specs.Prelude.{◌≡◌, ℕ, List, length, slice_get, OnOk, IfOk};
 ghost use Rattle.std.specs.List.{fold};
+ghost use Rattle.osd_commands.specs.Commands.{with_payload};
 ghost use Rattle.world_history.specs.State.{at_number, without_number};
 ghost use Rattle.world_calm.specs.Log.{begun_for, called, finished, forgot, is_for, no_log, number_for, reads, sends, sent_as, started, under_with, write_by};
 
-use osd_commands::{Action, Command};
+use osd_commands::{Action, CommandBlock};
 use osd_lists::{Memory, Sequence};
 use std::alloc::Global;
 use std::collections::BTreeMap;
@@ -226,13 +227,14 @@ impl WriteLog {
         }
     }
 
-    /// A client sends a command to a drive: its call's entry starts with the first WRITE or READ.
-    pub fn send(&mut self, client: u32, message: usize, command: &Command) -> Result<(), Memory>
-        ensures { OnOk result (self.new ≡ sent_as self.old client message command.now command.now.action) }
+    /// A client sends a command with this block to a drive: its call's entry starts with the first WRITE or READ.
+    pub fn send(&mut self, client: u32, message: usize, block: &CommandBlock) -> Result<(), Memory>
+        ensures { OnOk result ((payload : List ℕ)
+            → self.new ≡ sent_as self.old client message (with_payload block.now payload) block.now.action) }
     {
-        match command.action {
-            Action::Write => self.write(client, message, command.capability.grant),
-            Action::Read => self.read(client, command.capability.grant),
+        match block.action {
+            Action::Write => self.write(client, message, block.capability.grant),
+            Action::Read => self.read(client, block.capability.grant),
             _ => Ok(()),
         }
     }

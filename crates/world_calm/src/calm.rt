@@ -1,14 +1,15 @@
-ghost use Rattle.std.specs.Prelude.{◌≡◌, ◌∷◌, slice_get, OnOk};
+ghost use Rattle.std.specs.Prelude.{◌≡◌, ◌∷◌, ℕ, List, slice_get, OnOk};
 ghost use Rattle.std.specs.List.{fold};
+ghost use Rattle.osd_commands.specs.Commands.{with_payload};
 ghost use Rattle.world_calm.specs.Seeing.{acknowledged, all_finished, begins, begun, calm_at_first, ended, follows, harms, loses, looked, looked_at, logs, marks_all, marks_for, marks_one, mended_by, noted, notes, opened, performs, performs_command, refused, sees, sent, shows, shows_all, shows_changed, takes, taken_under};
 
 use crate::calls::{LogEntry, WriteLog, finish_all as finish_writes};
 use crate::files::{FileStripes, SeenFiles};
 use crate::looking::{is_fail, mark_of, mended_of, returned_at, sent_at, writes};
 use crate::marks::{Marks, NewMark, finish_all as unmark_writes, is_of_left};
-use crate::reading::{command_in, is_told_taken};
+use crate::reading::{block_in, is_told_taken};
 use crate::view::KeptFiles;
-use osd_commands::{Action, Command};
+use osd_commands::{Action, CommandBlock};
 use osd_lists::{Memory, Numbers};
 use scenario_text::{Call, DriveName, Ending, Event, Line, Note, Outcome, Party, Refusal};
 use server_rules::Mended;
@@ -151,19 +152,18 @@ impl Calm {
         &mut self,
         server: &S,
         drive: u32,
-        command: &Command,
+        block: &CommandBlock,
         write: usize,
     ) -> Result<(), Memory>
-        ensures { OnOk result (self.new ≡ marks_for (S.kept_of server.now) self.old drive command.now write (slice_get self.old.log.entries write)) }
+        ensures { OnOk result ((payload : List ℕ) → self.new ≡ marks_for (S.kept_of server.now) self.old drive
+            (with_payload block.now payload) write (slice_get self.old.log.entries write)) }
     {
         match self.log.entry(write) {
             Some(entry) => {
                 if entry.finished {
                     return Ok(());
                 }
-                let stripes = self
-                    .files
-                    .stripes_at(drive, command.object, command.offset)?;
+                let stripes = self.files.stripes_at(drive, block.object, block.offset)?;
                 self.mark_all(server, write, entry, &stripes)
             }
             None => Ok(()),
@@ -191,10 +191,10 @@ impl Calm {
             Some(sent) => sent,
             None => return Ok(()),
         };
-        match command_in(self.alloc, sent.bytes.as_slice())? {
-            Some(command) => {
-                if command.action == Action::Write {
-                    self.mark_for(server, performed.drive.number(), &command, write)
+        match block_in(sent.bytes.as_slice()) {
+            Some(block) => {
+                if block.action == Action::Write {
+                    self.mark_for(server, performed.drive.number(), &block, write)
                 } else {
                     Ok(())
                 }
@@ -338,8 +338,8 @@ impl Calm {
             Party::Drive { .. } => {}
             _ => return Ok(()),
         }
-        match command_in(self.alloc, bytes)? {
-            Some(command) => self.log.send(client.number(), message, &command),
+        match block_in(bytes) {
+            Some(block) => self.log.send(client.number(), message, &block),
             None => Ok(()),
         }
     }

@@ -1,31 +1,31 @@
-ghost use Rattle.std.specs.Prelude.{◌≡◌, ◌==◌, IfOk};
+ghost use Rattle.std.specs.Prelude.{◌≡◌, ◌==◌, drop, IfOk};
 ghost use Rattle.client_rules.specs.Answers.{is_loss_taken};
 ghost use Rattle.client_rules.specs.Requests.{grant_in};
 ghost use Rattle.client_rules.specs.Results.{status_of};
 ghost use Rattle.layout_ops.specs.Reading.{envelope_of};
 ghost use Rattle.layout_ops.specs.declared.statuses.TheConstants.{NFS4_OK};
+ghost use Rattle.osd_commands.specs.declared.commands.TheConstants.{BLOCK};
 ghost use Rattle.osd_commands.specs.Commands.{reading};
 ghost use Rattle.world_history.specs.Calm.{is_told_taken, return_in, sent_taken};
-ghost use Rattle.world_calm.specs.Read.{command_of, message_of};
+ghost use Rattle.world_calm.specs.Read.{command_of, command_with, message_of};
 
 use client_rules::LOSS_TAKEN;
 use layout_ops::{
     Answer, Args, Envelope, LayoutCommitResult, LayoutGetResult, LayoutReturnResult, NFS4_OK,
     OpErr, Results, StateId, read_envelope,
 };
-use osd_commands::{Command, CommandErr, read_command};
+use osd_commands::{CommandBlock, read_block};
 use osd_lists::{Memory, u32_at};
 use scenario_text::{Line, Party};
 use std::alloc::Global;
 
-/// The command that bytes spell.
-pub fn command_in(alloc: Global, bytes: &[u8]) -> Result<Option<Command>, Memory>
-    ensures { IfOk result (λ c. c ≡ command_of (reading bytes.now)) }
+/// The block of the command that bytes spell: the rest of them is its payload. It takes no memory.
+pub fn block_in(bytes: &[u8]) -> Option<CommandBlock>
+    ensures { command_of (reading bytes.now) ≡ command_with (drop BLOCK bytes.now) result }
 {
-    match read_command(alloc, bytes) {
-        Ok(command) => Ok(Some(command)),
-        Err(CommandErr::Memory) => Err(Memory),
-        Err(_) => Ok(None),
+    match read_block(bytes) {
+        Ok(block) => Some(block),
+        Err(_) => None,
     }
 }
 
