@@ -15,17 +15,17 @@ mod Ending
 mod CalmFollowing
 mod CalmOpening
 mod Pending
-mod Components
+pub mod Components
 mod FileNotes
 mod Targets
 mod Jobs
 mod Reports
 mod Serving
-mod Rounds
+pub mod Rounds
 mod Lines
 mod Steps
 mod Finding
-mod Making
+pub mod Making
 mod Tags
 mod Short
 mod Through

@@ -18,7 +18,7 @@ use Rattle.client_rules.specs.Laws.{nonce_of, IsNumbered, NoncesRise}
 abbrev AreNext : Held → List Awaited → Type 0
 AreNext h sent = map nonce_of sent ≡ range_with_len (nonce_at h h.count + 1) (length sent)
 
-numbered_from : (h : Held) (write : Bool) (count a : ℕ) (ws : List Store) → a ≡ nonce_at h count + 1 → map nonce_of (numbered h write count ws) ≡ range_with_len a (length (numbered h write count ws))
+pub numbered_from : (h : Held) (write : Bool) (count a : ℕ) (ws : List Store) → a ≡ nonce_at h count + 1 → map nonce_of (numbered h write count ws) ≡ range_with_len a (length (numbered h write count ws))
 unfolding numbered command sealed
 numbered_from h write count a [] e = refl
 numbered_from h write count a (w ∷ ws) e =

@@ -159,7 +159,7 @@ pub none_more : (x : ℕ) (xs ys : List ℕ) → NoneIs x xs → NoneIs x ys →
 none_more x [] ys d e = e
 none_more x (y ∷ xs) ys d e = (d.0, none_more x xs ys d.1 e)
 
-differ_range : (a n : ℕ) (xs : List ℕ) → AllDiffer xs → Each (λ x. x < a) xs → AllDiffer (xs ++ range_with_len a n)
+pub differ_range : (a n : ℕ) (xs : List ℕ) → AllDiffer xs → Each (λ x. x < a) xs → AllDiffer (xs ++ range_with_len a n)
 differ_range a n [] d e = rising_differ (range_with_len a n) (range_rises a n)
 differ_range a n (x ∷ xs) d e = (none_more x xs (range_with_len a n) d.0 (none_range x a n e.0), differ_range a n xs d.1 e.1)
 

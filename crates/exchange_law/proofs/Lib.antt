@@ -71,7 +71,7 @@ pub mod Fitting
 pub mod Exact
 mod Fences
 pub mod HeldTelling
-mod Covered
+pub mod Covered
 mod Listing
 mod HeldRows
 mod Enough
@@ -89,7 +89,7 @@ pub mod HeldWorlds
 mod HeldLines
 mod Ending
 mod Lengths
-mod Shapes
+pub mod Shapes
 pub mod Along
 pub mod Turning
 pub mod Turns

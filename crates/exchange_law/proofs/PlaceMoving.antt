@@ -62,7 +62,7 @@ unless : (b c : Bool) → (if b then false else c) ≡ true → c ≡ true
 unless true c e = absurd (cc e)
 unless false c e = e
 
-covered : (h : Held) (op : CallOp) → covers h op ≡ true → is_for h.reach h.size op ≡ true
+pub covered : (h : Held) (op : CallOp) → covers h op ≡ true → is_for h.reach h.size op ≡ true
 unfolding covers
 covered h op e = unless (nat_lt MAX_COUNT h.count) (is_for h.reach h.size op) e
 

@@ -110,7 +110,7 @@ served_next go next format now client (Return report) low = return_next next go 
 
 -- ---- its answer
 
-grant_read : (n : ℕ) → n < 2 ^ 32 → grant_in (stateid_of n) ≡ n
+pub grant_read : (n : ℕ) → n < 2 ^ 32 → grant_in (stateid_of n) ≡ n
 grant_read n low = from_be_bytes-to_be_bytes_4 n low
 
 pub refused_names : (a : RequestArgs) (status : ℕ) → named (result_of a status) ≡ None

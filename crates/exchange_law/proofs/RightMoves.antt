@@ -145,12 +145,12 @@ turned_good h op t got x = record { file = refl; map = refl; turn = x }
 
 -- ---- reads
 
-counted_outs : (h : Held) (sent : List Awaited) (timed : List TimedOut) → outs (counted h sent) timed ≡ outs h timed
+pub counted_outs : (h : Held) (sent : List Awaited) (timed : List TimedOut) → outs (counted h sent) timed ≡ outs h timed
 unfolding outs
 counted_outs h sent timed = refl
 
 -- where nothing is awaited, all was fetched
-fetched : (m : RawMap) (r : Span) (out : List ℕ) (got : List Column) (top : ℕ) → IsReady m r out got [] top → IsFetched ToRead m r got out
+pub fetched : (m : RawMap) (r : Span) (out : List ℕ) (got : List Column) (top : ℕ) → IsReady m r out got [] top → IsFetched ToRead m r got out
 fetched m r out got top x = λ s b c t l n w. had_got got (position_of m s c) (offset_of m s b) (x.needs s b c t l n w)
 
 reads_on_good : (h : Held) (op : CallOp) (got : List Column) (timed : List TimedOut) (sent awaited : List Awaited) → IsChecked h.map →
@@ -167,7 +167,7 @@ reads_on_good h op got timed sent [] ch some n rs top e x =
 reads_on_good h op got timed sent (a ∷ xs) ch some n rs top e x =
     record { file = refl; map = refl; turn = goes _ _ _ _ _ (some, refl, rs, rw (counted_outs h sent timed) (rw e at x)) }
 
-ready_sent : (h : Held) (r : Span) (got : List Column) (timed : List TimedOut) (awaited : List Awaited) → 0 < r.length →
+pub ready_sent : (h : Held) (r : Span) (got : List Column) (timed : List TimedOut) (awaited : List Awaited) → 0 < r.length →
     unreadable h.map r (outs h timed) (stripes h.map r) ≡ None → AreBelow (nonce_at h h.count) awaited →
     IsReady h.map r (outs h timed) got (awaited ++ read_commands h (reads_due h r got timed awaited)) (nonce_at h (h.count + length (read_commands h (reads_due h r got timed awaited))))
 ready_sent h r got timed awaited some u b = record {
@@ -177,7 +177,7 @@ ready_sent h r got timed awaited some u b = record {
 }
 
 -- the plan of a read asks something
-asked_some : (h : Held) (op : CallOp) (got : List Column) (timed : List TimedOut) (awaited : List Awaited) → IsChecked h.map → 0 < (clipped h.size (span_of op)).length →
+pub asked_some : (h : Held) (op : CallOp) (got : List Column) (timed : List TimedOut) (awaited : List Awaited) → IsChecked h.map → 0 < (clipped h.size (span_of op)).length →
     unreadable h.map (clipped h.size (span_of op)) (outs h timed) (stripes h.map (clipped h.size (span_of op))) ≡ None →
     awaited ++ read_commands h (reads_due h (clipped h.size (span_of op)) got timed awaited) ≡ [] → got ≢ []
 unfolding had
@@ -280,12 +280,12 @@ refused_good h op p a r got =
     either h op got _ (turned h (Forgets (refusal a r))) (turned h (closing (refusal a r) (refused_report h p a r)))
     (turned_good h op _ got (forgets _ _ _ _ _ tt)) (turned_good h op _ got (goes _ _ _ _ _ tt))
 
-grown : {A : Type 0} (x : A) (xs : List A) → xs ++ x ∷ [] ≢ []
+pub grown : {A : Type 0} (x : A) (xs : List A) → xs ++ x ∷ [] ≢ []
 grown x [] e = cc e
 grown x (y ∷ xs) e = cc e
 
 -- a reply leaves all had or awaited
-ready_replied : (m : RawMap) (r : Span) (out : List ℕ) (got : List Column) (awaited : List Awaited) (a : Awaited) (reply : Reply) (top : ℕ) → IsIn a awaited → IsReady m r out got awaited top →
+pub ready_replied : (m : RawMap) (r : Span) (out : List ℕ) (got : List Column) (awaited : List Awaited) (a : Awaited) (reply : Reply) (top : ℕ) → IsIn a awaited → IsReady m r out got awaited top →
     IsReady m r out (got ++ got_of a reply ∷ []) (others awaited a.command.nonce) top
 ready_replied m r out got awaited a reply top i x = record {
   readable = x.readable;

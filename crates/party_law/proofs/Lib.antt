@@ -9,7 +9,7 @@ mod SizeServing
 mod Server
 mod Kept
 mod Client
-mod Answering
+pub mod Answering
 mod Knowing
 pub mod SizeMoments
 pub mod Listing

@@ -21,7 +21,7 @@ use Rattle.plan_law.proofs.Codes.{word_local, copies_are, lies_copy}
 
 -- ---- replicas
 
-first_is : (lost : ℕ → Bool) (k n : ℕ) → some_stands lost k n ≡ true →
+pub first_is : (lost : ℕ → Bool) (k n : ℕ) → some_stands lost k n ≡ true →
     (k ≤ first_standing lost k n) × (first_standing lost k n < k + n) × (lost (first_standing lost k n) ≡ false)
 unfolding some_stands first_standing
 first_is lost k zero e = absurd (cc e)
@@ -41,7 +41,7 @@ none_stand lost k (suc n) j e le lt = elim (cases_Bool (lost k)) [
   | inr f ↦ absurd (cc (rw f at e))
 ]
 
-each_stands : (m : RawMap) (lost : ℕ → Bool) (s c n k : ℕ) → units_stand m lost s c n ≡ true → c ≤ k → k < c + n →
+pub each_stands : (m : RawMap) (lost : ℕ → Bool) (s c n k : ℕ) → units_stand m lost s c n ≡ true → c ≤ k → k < c + n →
     position_stands m lost (position_of m s k) ≡ true
 unfolding units_stand
 each_stands m lost s c zero k e le lt = absurd (omega (arith, le, lt))
