@@ -7,6 +7,9 @@ use std::marker::Model;
 /// The most bytes of a record's body.
 pub const MAX_BODY: usize = 300_000;
 
+// The bytes of a piece besides the body: the length, and a closed gate.
+const AROUND_BODY: usize = 5;
+
 /// A record that is to be added to a log: its length, its body and a closed gate, as they are
 /// written. Contracts see it as the body.
 #[derive(Drop)]
@@ -36,7 +39,7 @@ impl Entry {
         requires fits { length body.now ≤ MAX_BODY }
         ensures { IfOk result (λ entry. entry ≡ body.now) }
     {
-        let mut piece = Bytes::new(alloc);
+        let mut piece = Bytes::with_capacity(alloc, AROUND_BODY + body.len())?;
         piece.extend_from_slice(&(body.len() as u32).to_be_bytes())?;
         piece.extend_from_slice(body)?;
         piece.push(0)?;
