@@ -3,10 +3,11 @@ ghost use Rattle.std.specs.Prelude.{◌≡◌, ◌<◌, ◌≤◌, ◌+◌, ◌^
 ghost use Rattle.osd_bytes.specs.Causes.{Rose};
 
 use crate::file_causes::FileCause;
+use crate::read_ahead::ReadAhead;
 use osd_disk::{Disk, DiskErr};
+use std::alloc::AllocGlobal;
 use std::fs::{File, OpenOptions, TryLockError};
 use std::io;
-use std::io::ErrorKind;
 use std::os::fd::AsRawFd;
 use std::os::unix::fs::{FileExt, OpenOptionsExt};
 use std::rt::Files;
@@ -20,34 +21,41 @@ const MAX_SIZE: u64 = 1 << 63;
 // The greatest number of a standard stream.
 const STANDARD_ERROR: i32 = 2;
 
-// How often a read is tried that signals interrupt.
-const TRIES: u32 = 1_000;
-
 /// A disk that is a file. It tells nothing of its bytes: that the system's file is a disk as the
 /// trait says is trusted.
 ///
 /// After a call that failed each call fails, since what a failed sync left behind isn't known. The
 /// file is locked against other processes as long as the disk is open.
+///
+/// What is read is read ahead: reads that follow one another, as those of a log, cost few calls of the system.
 #[derive(Drop)]
 pub struct FileDisk<R> {
     runtime: R,
     file: Option<File>,
+    ahead: ReadAhead,
+    // Nothing was written since the last sync.
+    is_synced: bool,
     faults: u64,
     last: Option<FileCause>,
 }
 
-impl<R> FileDisk<R> {
-    ghost use Rattle.osd_disk.specs.declared.disk.DiskErr.TheVariants.{Fault};
-
+impl<R: AllocGlobal> FileDisk<R> {
     /// A disk whose file isn't opened yet, by a handle of the runtime.
     pub fn new(runtime: R) -> Self {
+        let ahead = ReadAhead::new(runtime.alloc());
         FileDisk {
             runtime,
             file: None,
+            ahead,
+            is_synced: false,
             faults: 0,
             last: None,
         }
     }
+}
+
+impl<R> FileDisk<R> {
+    ghost use Rattle.osd_disk.specs.declared.disk.DiskErr.TheVariants.{Fault};
 
     /// Why the call failed that failed last.
     pub fn last_fault(&self) -> Option<&FileCause> {
@@ -61,6 +69,7 @@ impl<R> FileDisk<R> {
         ensures later { self.old.faults ≤ self.new.faults }
     {
         self.file = None;
+        self.ahead.forget();
         self.faults = self.faults.saturating_add(1);
         self.last = Some(cause);
         DiskErr::Fault
@@ -136,20 +145,21 @@ fn size_of(file: &Option<File>) -> Result<u64, FileCause>
 }
 
 // Reads some bytes of a file.
-fn read_some(file: &Option<File>, at: u64, buf: &mut [u8]) -> Result<usize, FileCause>
+fn read_some(
+    file: &Option<File>,
+    ahead: &mut ReadAhead,
+    at: u64,
+    buf: &mut [u8],
+) -> Result<usize, FileCause>
     ensures { IfOk result (λ n. n ≤ length buf.old) }
 {
     let Some(file) = file else {
         return Err(FileCause::NotOpen);
     };
-    for _ in 0..TRIES {
-        match file.read_at(buf, at) {
-            Ok(n) => return Ok(n),
-            Err(e) if e.kind() == ErrorKind::Interrupted => {}
-            Err(e) => return Err(FileCause::of(e)),
-        }
+    match ahead.read(file, at, buf) {
+        Ok(count) => Ok(count),
+        Err(cause) => Err(cause),
     }
-    Err(FileCause::System(ErrorKind::Interrupted.into()))
 }
 
 // Writes all bytes to a file.
@@ -205,6 +215,8 @@ impl<R: Files<File = File> + Drop> Disk for FileDisk<R> {
         match open_file(&self.runtime, name) {
             Ok(file) => {
                 self.file = Some(file);
+                self.ahead.forget();
+                self.is_synced = true;
                 Ok(())
             }
             Err(cause) => Err(self.fail(cause)),
@@ -219,13 +231,15 @@ impl<R: Files<File = File> + Drop> Disk for FileDisk<R> {
     }
 
     fn read(&mut self, at: u64, buf: &mut [u8]) -> Result<usize, DiskErr> {
-        match read_some(&self.file, at, buf) {
+        match read_some(&self.file, &mut self.ahead, at, buf) {
             Ok(count) => Ok(count),
             Err(cause) => Err(self.fail(cause)),
         }
     }
 
     fn write_at(&mut self, at: u64, bytes: &[u8]) -> Result<(), DiskErr> {
+        self.ahead.forget();
+        self.is_synced = false;
         match write_whole(&self.file, at, bytes) {
             Ok(()) => Ok(()),
             Err(cause) => Err(self.fail(cause)),
@@ -233,8 +247,15 @@ impl<R: Files<File = File> + Drop> Disk for FileDisk<R> {
     }
 
     fn sync(&mut self) -> Result<(), DiskErr> {
+        // What was synced when it was opened needs no second sync.
+        if self.is_synced && self.file.is_some() {
+            return Ok(());
+        }
         match sync_data(&self.file) {
-            Ok(()) => Ok(()),
+            Ok(()) => {
+                self.is_synced = true;
+                Ok(())
+            }
             Err(cause) => Err(self.fail(cause)),
         }
     }

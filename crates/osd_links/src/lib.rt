@@ -10,6 +10,7 @@ mod file_causes;
 mod file_disk;
 mod patience;
 mod printable;
+mod read_ahead;
 mod resting;
 mod stopwatch;
 mod streams;
