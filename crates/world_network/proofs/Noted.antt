@@ -1,17 +1,11 @@
 -- Notes that are taken out of a list one after another.
-use Rattle.std.proofs.Common.{◌≡◌, ℕ, zero, suc, ◌+◌, ◌<◌, Option, Some, None, List, [], ◌∷◌, ◌++◌, drop, length, slice_get, slice_set, refl, sym, ap, ◌∙◌, add-one, append_assoc}
+use Rattle.std.proofs.Common.{◌≡◌, ℕ, ◌+◌, Option, Some, None, List, [], ◌∷◌, ◌++◌, drop, slice_get, slice_set, append_assoc}
 use Rattle.std.specs.List.{filter_map, cons_option}
 use Rattle.scenario_text.specs.declared.line.Line.{Line}
 use Rattle.server_rules.specs.declared.notes.Note.{Note}
 use Rattle.world_history.specs.Names.{known_note_line}
 use Rattle.world_network.specs.Telling.{told_as}
-
--- a member that is taken out stands before those behind its place
-rest_of : (ns : List Note) (i : ℕ) (n other : Note) → slice_get ns i ≡ Some n
-    → drop i ns ≡ n ∷ drop (suc i) (slice_set ns i other)
-rest_of [] i n other e = absurd (cc e)
-rest_of (m ∷ ns) zero n other e = let same : m ≡ n = cc in ap (λ z. z ∷ ns) same
-rest_of (m ∷ ns) (suc i) n other e = rest_of ns i n other e
+use Rattle.world_network.proofs.Taking.{taken_out}
 
 told_more : (told : List Line) (l : Option Line) (ns : List Note)
     → (told ++ told_as l) ++ filter_map known_note_line ns ≡ told ++ cons_option l (filter_map known_note_line ns)
@@ -24,4 +18,4 @@ pub one_more : (before after : List Line) (ns : List Note) (i : ℕ) (n other : 
     → after ++ filter_map known_note_line (drop (i + 1) (slice_set ns i other))
     ≡ before ++ filter_map known_note_line (drop i ns)
 one_more before after ns i n other e f =
-    rw (add-one, f, rest_of ns i n other e) (told_more before (known_note_line n) (drop (suc i) (slice_set ns i other)))
+    rw (f, taken_out ns i n other e) (told_more before (known_note_line n) (drop (i + 1) (slice_set ns i other)))

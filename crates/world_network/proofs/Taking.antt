@@ -35,7 +35,18 @@ pub same_rest : {X : Type 0} (xs ys : List X) (i : ℕ) (x : X) → drop i xs �
     → drop (suc i) (slice_set xs i x) ≡ drop (suc i) ys
 same_rest xs ys i x e = rest_of xs i x ∙ further xs i ∙ ap (λ l. drop 1 l) e ∙ sym (further ys i)
 
+-- a member that is taken out stands before those behind its place
+out_of : {X : Type 0} (xs : List X) (i : ℕ) (x other : X) → slice_get xs i ≡ Some x
+    → drop i xs ≡ x ∷ drop (suc i) (slice_set xs i other)
+out_of [] i x other e = absurd (cc e)
+out_of (y ∷ xs) zero x other e = let same : y ≡ x = cc in ap (λ z. z ∷ xs) same
+out_of (y ∷ xs) (suc i) x other e = out_of xs i x other e
+
 -- ---- the same, counted up by one
+
+pub taken_out : {X : Type 0} (xs : List X) (i : ℕ) (x other : X) → slice_get xs i ≡ Some x
+    → drop i xs ≡ x ∷ drop (i + 1) (slice_set xs i other)
+taken_out xs i x other e = rw add-one (out_of xs i x other e)
 
 pub rest_stays : {X : Type 0} (xs ys : List X) (i : ℕ) (x : X) → drop i xs ≡ drop i ys
     → drop (i + 1) (slice_set xs i x) ≡ drop (i + 1) ys

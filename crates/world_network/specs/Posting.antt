@@ -1,5 +1,6 @@
 -- Several messages that are sent one after another.
 use Rattle.std.specs.Prelude.{◌≡◌, ℕ, ◌+◌, ◌-◌, ◌<◌, ◌≤◌, ◌++◌, nat_lt, List, [], ◌∷◌, length, map, sum_by, Result, Ok, Err, if◌then◌else◌}
+use Rattle.scenario_text.specs.declared.line.Party.TheVariants as party
 use Rattle.scenario_text.specs.declared.line.Line.{Line}
 use Rattle.scenario_text.specs.declared.line.Line.TheVariants as line
 use Rattle.world_history.specs.declared.limits.TheConstants.{MAX_KEPT}
@@ -8,6 +9,10 @@ use Rattle.world_history.specs.declared.err.WorldErr.TheVariants.{KeptFull, Memo
 use Rattle.world_history.specs.declared.messages.Sent.{Sent}
 use Rattle.world_network.specs.declared.posting.Posting.{Posting}
 use Rattle.world_network.specs.Network.{NetworkState, fresh}
+
+-- what stands where a message was taken out
+abbrev pub no_posting : Posting
+no_posting = record { from = party.Server; to = party.Server; bytes = []; logged = 0 }
 
 -- the message, once it is sent
 abbrev pub sent : Posting → Sent

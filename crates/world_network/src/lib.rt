@@ -10,6 +10,7 @@
 
 mod acts;
 mod laws;
+mod members;
 mod move_laws;
 mod network;
 mod notes;
@@ -22,6 +23,7 @@ mod verdicts;
 
 pub use acts::{Act, Handed, Postings};
 pub use laws::network_shows;
+pub use members::take_member;
 pub use move_laws::acts_are_moves;
 pub use network::{Lines, Network};
 pub use notes::{told_file_refusal, told_map_err, told_note};

@@ -3,6 +3,8 @@ ghost use Rattle.world_history.specs.declared.limits.TheConstants.{MAX_KEPT};
 ghost use Rattle.world_network.specs.Posting.{PostsAll};
 ghost use Rattle.world_network.specs.Network.{is_pending, Delivers, Drops, PendingIs, empty_network};
 
+use crate::acts::Postings;
+use crate::members::take_member;
 use crate::posting::Posting;
 use osd_lists::{Bytes, Sequence};
 use scenario_text::{Line, Party};
@@ -104,7 +106,7 @@ impl Network {
         None
     }
 
-    /// Sends messages in order, each with its line.
+    /// Sends messages in order, each with its line. Their bytes are moved here, and copied for the line.
     ///
     /// # Errors
     ///
@@ -113,31 +115,40 @@ impl Network {
     pub fn post_all(
         &mut self,
         alloc: Global,
-        postings: &[Posting],
+        postings: Postings,
         lines: &mut Lines,
     ) -> Result<(), WorldErr>
-        ensures { PostsAll self.old postings.now lines.old lines.new self.new result }
+        ensures { PostsAll self.old postings lines.old lines.new self.new result }
     {
-        for posting in postings {
-            let cost = u128::from(posting.logged) + posting.bytes.len() as u128;
+        let mut left = postings;
+        let mut place = 0;
+        while place < left.len() {
+            let Posting {
+                from,
+                to,
+                bytes,
+                logged,
+            } = take_member(&mut left, place, Posting::none(alloc));
+            let cost = u128::from(logged) + bytes.len() as u128;
             if cost > u128::from(MAX_KEPT - self.kept) {
                 return Err(WorldErr::KeptFull);
             }
-            let number = self.messages.len() as u64;
+            let told = Line::Message {
+                message: self.messages.len() as u64,
+                from,
+                to,
+                bytes: Bytes::copied(alloc, bytes.as_slice())?,
+            };
             self.messages.push(Sent {
-                from: posting.from,
-                to: posting.to,
-                bytes: Bytes::copied(alloc, posting.bytes.as_slice())?,
+                from,
+                to,
+                bytes,
                 delivered: false,
                 dropped: false,
             })?;
             self.kept += cost as u64;
-            lines.push(Line::Message {
-                message: number,
-                from: posting.from,
-                to: posting.to,
-                bytes: Bytes::copied(alloc, posting.bytes.as_slice())?,
-            })?;
+            lines.push(told)?;
+            place += 1;
         }
         Ok(())
     }

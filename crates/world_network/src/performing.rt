@@ -71,7 +71,7 @@ pub fn perform(
 {
     let Act { told, posts } = act;
     match append(lines, told) {
-        Ok(()) => network.post_all(alloc, posts.as_slice(), lines),
+        Ok(()) => network.post_all(alloc, posts, lines),
         Err(Memory) => Err(WorldErr::Memory),
     }
 }

@@ -4,9 +4,9 @@ use Rattle.world_network.proofs.performing.perform.Goals as goal
 pub returns-in-Ok : goal.returns-in-Ok
 returns-in-Ok c =
     performs_behind c.args.network.now c.post_all.new.self c.args.act c.args.lines.now c.append.new.lines c.post_all.new.lines
-    c.post_all.result c.in-Ok.ensures.all (rw c.as_slice.ensures at c.post_all.ensures)
+    c.post_all.result c.in-Ok.ensures.all c.post_all.ensures
 
-pub returns : goal.returns
-returns c =
+pub returns-in-Err : goal.returns-in-Err
+returns-in-Err c =
     let f = c.append.ensures.front in
     (f.0, f.1, told_front c.args.network.now c.args.act f.0 f.2)
