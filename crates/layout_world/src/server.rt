@@ -90,7 +90,7 @@ impl WorldServer {
             mended,
         } = step;
         let told = lines_of(alloc, notes)?;
-        let posts = postings(alloc, sends.as_slice())?;
+        let posts = postings(alloc, sends)?;
         self.mended = mended;
         Ok(Act { told, posts })
     }
@@ -204,7 +204,7 @@ impl WorldServer {
         let sends = self.core.resend()?;
         Ok(Act {
             told: Lines::new(alloc),
-            posts: postings(alloc, sends.as_slice())?,
+            posts: postings(alloc, sends)?,
         })
     }
 

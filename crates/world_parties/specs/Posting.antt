@@ -37,6 +37,10 @@ posting_to c logged bytes (Some p) = record { from = party.Client c; to = p; byt
 abbrev pub posting : (client logged : ℕ) → Sent → List Posting
 posting c logged s = posting_to c logged s.bytes (named_party s.to)
 
+-- what stands where a message was taken out
+abbrev pub no_message : Sent
+no_message = record { to = node.Server; bytes = [] }
+
 -- several in order
 abbrev pub postings : (client : ℕ) → (wrote : Bool) → (logged : ℕ) → List Sent → List Posting
 postings c wrote logged [] = []

@@ -152,8 +152,8 @@ impl WorldClient {
             Some(call) => call.bytes,
             None => 0,
         };
-        let posts = postings(alloc, client, wrote, logged, sends.as_slice())?;
         self.wrote = wrote || any_write(sends.as_slice());
+        let posts = postings(alloc, client, wrote, logged, sends)?;
         tell_end(&mut told, client, call, outcome)?;
         Ok(Act { told, posts })
     }

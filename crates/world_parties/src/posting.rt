@@ -2,15 +2,15 @@
 ghost use Rattle.std.specs.Prelude.{◌≡◌, ◌++◌, Some, IfOk, OnOk};
 ghost use Rattle.std.specs.List.{list_any};
 ghost use Rattle.world_history.specs.Handed.{data_in};
-ghost use Rattle.world_parties.specs.Posting.{is_write, logged_with, posting, postings};
+ghost use Rattle.world_parties.specs.Posting.{is_write, logged_with, no_message, posting, postings};
 
 use client_rules::CallOp;
 use osd_commands::Action;
 use osd_lists::{Bytes, Memory, Node, u16_at};
 use scenario_text::{ClientName, Party};
 use std::alloc::Global;
-use stripe_client::Sent;
-use world_network::{Posting, Postings, party_of};
+use stripe_client::{Sends, Sent};
+use world_network::{Posting, Postings, party_of, take_member};
 
 // Where a command has the number of its action (two bytes).
 pub const ACTION_AT: usize = 4;
@@ -56,52 +56,52 @@ fn logged_with(writes: bool, wrote: bool, logged: u64) -> u64
 }
 
 // A message to a party that a line can name.
-fn post(
-    posts: &mut Postings,
-    alloc: Global,
-    client: ClientName,
-    logged: u64,
-    sent: &Sent,
-) -> Result<(), Memory>
-    ensures { OnOk result (posts.new ≡ posts.old ++ posting client logged sent.now) }
+fn post(posts: &mut Postings, client: ClientName, logged: u64, sent: Sent) -> Result<(), Memory>
+    ensures { OnOk result (posts.new ≡ posts.old ++ posting client logged sent) }
 {
-    match party_of(sent.to) {
-        Some(to) => {
-            let bytes = Bytes::copied(alloc, sent.bytes.as_slice())?;
-            posts.push(Posting {
-                from: Party::Client { client },
-                to,
-                bytes,
-                logged,
-            })
-        }
+    let Sent { to, bytes } = sent;
+    match party_of(to) {
+        Some(to) => posts.push(Posting {
+            from: Party::Client { client },
+            to,
+            bytes,
+            logged,
+        }),
         None => Ok(()),
     }
 }
 
-/// Messages of a client, in order. The first WRITE of a call, before which none was sent, begins the write whose
-/// data has `logged` bytes. A message to a drive that no line can name isn't sent.
+// A message without bytes, which stands where another was taken out.
+fn no_message(alloc: Global) -> Sent
+    ensures { result ≡ no_message }
+{
+    Sent {
+        to: Node::Server,
+        bytes: Bytes::new(alloc),
+    }
+}
+
+/// Messages of a client, in order, with the bytes of what it sends. The first WRITE of a call, before which none was
+/// sent, begins the write whose data has `logged` bytes. A message to a drive that no line can name isn't sent.
 pub fn postings(
     alloc: Global,
     client: ClientName,
     wrote: bool,
     logged: u64,
-    sends: &[Sent],
+    sends: Sends,
 ) -> Result<Postings, Memory>
-    ensures { IfOk result (λ posts. posts ≡ postings client wrote logged sends.now) }
+    ensures { IfOk result (λ posts. posts ≡ postings client wrote logged sends) }
 {
-    let mut posts = Postings::new(alloc);
+    let mut left = sends;
+    let mut posts = Postings::with_capacity(alloc, left.len())?;
     let mut begun = wrote;
-    for sent in sends {
-        let writes = is_write(sent);
-        post(
-            &mut posts,
-            alloc,
-            client,
-            logged_with(writes, begun, logged),
-            sent,
-        )?;
+    let mut place = 0;
+    while place < left.len() {
+        let sent = take_member(&mut left, place, no_message(alloc));
+        let writes = is_write(&sent);
+        post(&mut posts, client, logged_with(writes, begun, logged), sent)?;
         begun = begun || writes;
+        place += 1;
     }
     Ok(posts)
 }

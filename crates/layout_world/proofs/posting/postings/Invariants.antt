@@ -1,6 +1,9 @@
-use Rattle.std.proofs.Common.{◌≡◌, ◌++◌, drop}
+use Rattle.std.proofs.Common.{◌≡◌, ◌++◌, ◌-◌, drop, length}
 use Rattle.layout_world.specs.Posting.{postings}
 use Rattle.layout_world.proofs.posting.postings.Given as goal
 
-abbrev pub invariant-loop-sent : goal.invariant-loop-sent
-invariant-loop-sent l = l.posts ++ postings (drop l.sent-index l.fn.sends) ≡ postings l.fn.sends
+abbrev pub invariant-loop-place : goal.invariant-loop-place
+invariant-loop-place l = l.posts ++ postings (drop l.place l.left) ≡ postings l.fn.sends
+
+abbrev pub decreases-loop-place : goal.decreases-loop-place
+decreases-loop-place l = length l.left - l.place
