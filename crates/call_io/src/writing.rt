@@ -1,14 +1,12 @@
 // Writes: the gather, the scatter, and what follows the last WRITE.
-ghost use Rattle.std.specs.Prelude.{◌≡◌, ◌<◌, [], ◌++◌, length, map, option_to_list, slice_get, slice_set, List, Some, IfOk, OnOk};
-ghost use Rattle.stripe_plan.specs.Plans.{filled, stores, writes_of};
-ghost use Rattle.call_io.specs.State.{Column as AColumn};
+ghost use Rattle.std.specs.Prelude.{◌≡◌, [], ◌++◌, option_to_list, IfOk, OnOk};
+ghost use Rattle.stripe_plan.specs.Plans.{stores};
 ghost use Rattle.client_rules.specs.Calls.{span_of, bytes_of};
 ghost use Rattle.client_rules.specs.Io.{outs};
 ghost use Rattle.client_rules.specs.Commands.{write_commands};
 ghost use Rattle.client_rules.specs.Writes.{firsts, laters, next_to, without_next, scatters_on, scatters, scatters_next, gathers_on, gathers_due, gathers, is_too_short};
 ghost use Rattle.call_io.specs.Phases.{counted_move};
 ghost use Rattle.call_io.specs.Inside.{IsInside};
-ghost use Rattle.call_io.specs.Emptied.{no_part};
 ghost use Rattle.call_io.specs.Splits.{seen_with, new_first, new_later};
 
 use crate::moves::written;
@@ -18,50 +16,11 @@ use crate::reading::fetched;
 use crate::sending::{send_reads, send_writes};
 use call_commands::{PendingCommands, WriteQueue, had, out_of};
 use client_rules::{AwaitedCommands, CallOp, Held, TimedOuts, span_of};
-use osd_lists::{Bytes, Memory, Numbers};
+use osd_lists::{Memory, Numbers};
 use std::alloc::Global;
-use std::mem;
 use stripe_plan::{
-    Aim, Asks, Columns, Out, Part, PlanErr, Span, Store, Writes, apply_and_encode, asks,
-    check_writable, plan_scatter,
+    Aim, Asks, Columns, Out, PlanErr, Store, apply_and_encode, asks, check_writable, plan_stores,
 };
-
-// A write without bytes.
-fn no_part(alloc: Global) -> Part
-    ensures { result ≡ no_part }
-{
-    Part {
-        component: 0,
-        offset: 0,
-        bytes: Bytes::new(alloc),
-    }
-}
-
-// A write of a plan, for which one without bytes is left.
-fn take_part(alloc: Global, writes: &mut Writes, i: usize) -> Part
-    requires { i < length writes.old }
-    ensures taken { slice_get writes.old i ≡ Some result }
-    ensures left { writes.new ≡ slice_set writes.old i no_part }
-{
-    mem::replace(writes.get_mut(i), no_part(alloc))
-}
-
-// The writes of a plan with their stripes and positions.
-fn joined(alloc: Global, asks: &Asks, writes: Writes) -> Result<Vec<Store>, Memory>
-    requires { length writes ≡ length asks.now }
-    ensures { (cols : List AColumn) → writes ≡ writes_of cols asks.now → IfOk result (λ ws. ws.items ≡ map (filled cols) asks.now) }
-{
-    let mut left = writes;
-    let mut stores = Vec::new(alloc);
-    for i in 0..asks.len() {
-        let part = take_part(alloc, &mut left, i);
-        stores.push(Store {
-            ask: *asks.get(i),
-            bytes: part.bytes,
-        })?;
-    }
-    Ok(stores)
-}
 
 // All writes of a scatter with their bytes. Only a write has any, and none that lacks too much is begun.
 #[tactic(auto, unfolding(stripe_plan::specs::Plans::stores))]
@@ -79,19 +38,14 @@ fn stores(
         return Err(Memory);
     };
     let map = &held.map;
-    let range = Span {
-        offset: *offset,
-        length: bytes.len() as u64,
-    };
     let parts = fetched(alloc, map, got)?;
     let Ok(columns) = apply_and_encode(alloc, map, *offset, bytes.as_slice(), &parts, out) else {
         return Err(Memory);
     };
-    let Ok(writes) = plan_scatter(alloc, map, *offset, range.length, &columns, out) else {
+    let Ok(stores) = plan_stores(alloc, map, *offset, bytes.len() as u64, &columns, out) else {
         return Err(Memory);
     };
-    let asks = asks(alloc, Aim::Scatters, map, range, out, &[])?;
-    joined(alloc, &asks, writes)
+    Ok(stores)
 }
 
 // A write to a component that has none is one of the first; any other is queued.
