@@ -146,7 +146,7 @@ impl<D: Disk> StoredDrive<D> {
         ensures fault { IsErrOf result DiskFault → is_over_in self.new ≡ true }
         ensures cause { HasStoreCause (D.faults (disk_in self.old)) (D.faults (disk_in self.new)) result }
     {
-        let Some(c) = change_in(alloc, &self.core, now, message)? else {
+        let Some(c) = change_in(alloc, &mut self.core, now, message)? else {
             return Ok(self.core.handle(alloc, now, message)?);
         };
         self.keep_change(alloc, now, message, &c)
