@@ -1,12 +1,12 @@
 // One line of a scenario.
-ghost use Rattle.std.specs.Prelude.{◌≡◌, IfOk, IfErr};
+ghost use Rattle.std.specs.Prelude.{◌≡◌, [], IfOk, IfErr};
 ghost use Rattle.osd_replay.specs.LineCarried.{CarriesEvent, CarriesLine, StopsEvent, StopsLine, step_gives};
 
 use crate::status::ScenarioKind;
 use crate::stop::Stop;
 use layout_world::{Lines, World, WorldErr};
 use osd_lists::{Bytes, Memory};
-use scenario_text::{Event, EventErr, read_event, write_lines};
+use scenario_text::{Event, EventErr, append_lines, read_event};
 use std::alloc::Global;
 use stripe_repair::Place;
 
@@ -31,7 +31,16 @@ fn is_cut(step: Result<(), WorldErr>) -> Result<bool, Stop>
     }
 }
 
-/// Carries out an event, and gives its lines.
+// A text without a byte, in the memory of one that is done with.
+fn emptied(mut text: Bytes) -> Bytes
+    ensures { result ≡ [] }
+{
+    text.truncate(0);
+    text
+}
+
+/// Carries out an event, and gives its lines. Their text is made in `room`, the text of an earlier event: so its memory
+/// is asked for once, and not at each event.
 ///
 /// # Errors
 ///
@@ -41,6 +50,7 @@ pub fn carry_out_event<P: Place>(
     world: &mut World,
     event: Event,
     placer: &P,
+    room: Bytes,
 ) -> Result<Carried, Stop>
     requires { P.is_placer placer.now }
     ensures ok { IfOk result (CarriesEvent event world.old world.new) }
@@ -52,11 +62,11 @@ pub fn carry_out_event<P: Place>(
         Ok(is_full) => is_full,
         Err(stop) => return Err(stop),
     };
-    let text = write_lines(alloc, lines.as_slice())?;
+    let text = append_lines(emptied(room), lines.as_slice())?;
     Ok(Carried { text, is_full })
 }
 
-/// Carries out a line of a scenario, and gives the lines of its event.
+/// Carries out a line of a scenario, and gives the lines of its event, whose text is made in `room`.
 ///
 /// # Errors
 ///
@@ -66,15 +76,16 @@ pub fn carry_out<P: Place>(
     world: &mut World,
     line: &[u8],
     placer: &P,
+    room: Bytes,
 ) -> Result<Carried, Stop>
     requires { P.is_placer placer.now }
     ensures ok { IfOk result (CarriesLine line.now world.old world.new) }
     ensures err { IfErr result (StopsLine line.now world.old) }
 {
     match read_event(alloc, line) {
-        Ok(Some(event)) => carry_out_event(alloc, world, event, placer),
+        Ok(Some(event)) => carry_out_event(alloc, world, event, placer, room),
         Ok(None) => Ok(Carried {
-            text: Bytes::new(alloc),
+            text: emptied(room),
             is_full: false,
         }),
         Err(EventErr::Memory) => Err(Stop::Memory),

@@ -7,7 +7,7 @@ ghost use Rattle.history_claims.specs.Texts.{EventsFit};
 ghost use Rattle.osd_replay.specs.Generate.{Made, MakesMore, StopsMaking, StopsAmong, ComesTo, Promises};
 ghost use Rattle.osd_replay.specs.Generator.{scenario_of};
 
-use crate::carry_out::carry_out_event;
+use crate::carry_out::{Carried, carry_out_event};
 use crate::generator::scenario;
 use crate::status::{Quantity, Status};
 use crate::stop::{Stop, stopped};
@@ -63,22 +63,29 @@ struct Digested {
 }
 
 impl Digested {
-    // Carries out an event.
-    fn step<P: Place>(&mut self, alloc: Global, event: Event, placer: &P) -> Result<(), Stop>
+    // Carries out an event, and gives its text, which is made in `room`.
+    fn step<P: Place>(
+        &mut self,
+        alloc: Global,
+        event: Event,
+        placer: &P,
+        room: Bytes,
+    ) -> Result<Bytes, Stop>
         requires { P.is_placer placer.now }
         ensures ok { OnOk result (MakesMore event self.old self.new) }
         ensures err { IfErr result (StopsMaking event self.old) }
     {
         // Here and below, arms in place of `?` or of the bare call are for the prover (docs/PROVER_FORMS.md).
-        let carried = match carry_out_event(alloc, &mut self.world, event, placer) {
+        let carried = match carry_out_event(alloc, &mut self.world, event, placer, room) {
             Ok(carried) => carried,
             Err(stop) => return Err(stop),
         };
-        if carried.is_full {
+        let Carried { text, is_full } = carried;
+        if is_full {
             return Err(Stop::Full(Quantity::Kept));
         }
-        self.digest.update(carried.text.as_slice());
-        Ok(())
+        self.digest.update(text.as_slice());
+        Ok(text)
     }
 
     // Carries out all events.
@@ -92,11 +99,12 @@ impl Digested {
         ensures ok { OnOk result (Made [] self.old → EventsFit events.items → Made events.items self.new) }
         ensures err { IfErr result (λ stop. Made [] self.old → EventsFit events.items → StopsAmong events.items stop) }
     {
+        let mut room = Bytes::new(alloc);
         for event in events {
-            match self.step(alloc, event, placer) {
-                Ok(()) => {}
+            room = match self.step(alloc, event, placer, room) {
+                Ok(text) => text,
                 Err(stop) => return Err(stop),
-            }
+            };
         }
         Ok(())
     }

@@ -8,13 +8,13 @@ ghost use Rattle.osd_replay.specs.Ends.{ends};
 ghost use Rattle.osd_replay.specs.Finish.{Finishes};
 ghost use Rattle.osd_replay.specs.Replay.{Promises};
 
-use crate::carry_out::carry_out;
+use crate::carry_out::{Carried, carry_out};
 use crate::status::{Quantity, Status};
 use crate::stop::{Stop, stop_of, stopped};
 use history_claims::histories_are_sound;
 use layout_world::World;
 use osd_bytes::{LineReader, Sink, Source, put_all};
-use osd_lists::Memory;
+use osd_lists::{Bytes, Memory};
 use scenario_text::write_lines;
 use std::alloc::Global;
 use stripe_repair::Place;
@@ -52,6 +52,7 @@ fn carry_out_lines<S: Source, K: Sink, P: Place>(
 {
     histories_are_sound();
     let mut reader = LineReader::new(alloc);
+    let mut room = Bytes::new(alloc);
     let mut number = 0;
     'lines: loop {
         let line = match reader.next_line(source) {
@@ -59,17 +60,19 @@ fn carry_out_lines<S: Source, K: Sink, P: Place>(
             Ok(None) => return finish(alloc, world, sink),
             Err(e) => return stopped(sink, stop_of(e), number + 1),
         };
-        let carried = match carry_out(alloc, world, line.as_slice(), placer) {
+        let carried = match carry_out(alloc, world, line.as_slice(), placer, room) {
             Ok(carried) => carried,
             Err(stop) => return stopped(sink, stop, number + 1),
         };
-        match put_all(sink, carried.text.as_slice()) {
+        let Carried { text, is_full } = carried;
+        match put_all(sink, text.as_slice()) {
             Ok(()) => number += 1,
             Err(_) => return Status::WriteFault,
         }
-        if carried.is_full {
+        if is_full {
             return stopped(sink, Stop::Full(Quantity::Kept), number);
         }
+        room = text;
     }
 }
 

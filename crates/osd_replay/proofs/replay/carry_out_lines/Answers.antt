@@ -68,15 +68,15 @@ lines-preserved g c =
       reads = here.cause.same ∙ inv.reads;
       writes = c.in-Ok-put_all.ensures.cause.same ∙ inv.writes;
       so_far = goes_on _ _ _ c.lines.reader.taken c.next_line.new.self.taken _ (g.K.Sink.taken c.lines.sink) _ c.lines.number c.lines.world c.carry_out.new.world c.in-Ok-Some.line c.in-Ok.carried
-          inv.so_far here.lines here.takes carried c.if-carried.false (rw bytes at c.in-Ok-put_all.ensures.ok);
+          inv.so_far here.lines here.takes carried c.if-is_full.false (rw bytes at c.in-Ok-put_all.ensures.ok);
     }
 
-pub returns-then-carried : goal.returns-then-carried
-returns-then-carried g c =
+pub returns-then-is_full : goal.returns-then-is_full
+returns-then-is_full g c =
     let here = rw c.in-Ok-Some.field-0-is at c.in-Ok-Some.ensures in
     let inv = c.lines.invariant in
     let carried : CarriesLine c.in-Ok-Some.line c.lines.world c.carry_out.new.world c.in-Ok.carried = rw c.as_slice.ensures at c.in-Ok.ensures.ok in
     let bytes : c.as_slice-in-lines.result.now ≡ c.in-Ok.carried.text = c.as_slice-in-lines.ensures in
-    rw c.stopped-then-carried.ensures.status
-    (cut_put _ _ _ _ c.lines.reader.taken c.next_line.new.self.taken (g.K.Sink.taken c.lines.sink) _ c.lines.number _ c.stopped-then-carried.ensures.puts.0 c.lines.world c.carry_out.new.world c.in-Ok-Some.line c.in-Ok.carried
-    inv.so_far here.lines here.takes carried c.if-carried.true (rw bytes at c.in-Ok-put_all.ensures.ok) (c.in-Ok-put_all.ensures.cause.same ∙ inv.writes) c.stopped-then-carried.ensures.puts.1)
+    rw c.stopped-then-is_full.ensures.status
+    (cut_put _ _ _ _ c.lines.reader.taken c.next_line.new.self.taken (g.K.Sink.taken c.lines.sink) _ c.lines.number _ c.stopped-then-is_full.ensures.puts.0 c.lines.world c.carry_out.new.world c.in-Ok-Some.line c.in-Ok.carried
+    inv.so_far here.lines here.takes carried c.if-is_full.true (rw bytes at c.in-Ok-put_all.ensures.ok) (c.in-Ok-put_all.ensures.cause.same ∙ inv.writes) c.stopped-then-is_full.ensures.puts.1)
