@@ -1,0 +1,35 @@
+"""What the benchmarks measure: figures with a name and a unit, and the file that keeps those of a former state."""
+import pathlib
+from typing import Dict, Iterable, NamedTuple
+
+# Units of which more is better; of all others less is.
+RATES = "MB/s", "/s"
+
+
+class Figure(NamedTuple):
+    """What was measured, for example the milliseconds of a run."""
+
+    name: str
+    value: float
+    unit: str
+
+    def gain(self, former: "Figure") -> float:
+        """How many times as good it is as a former one: above 1 it is better."""
+        if self.unit in RATES:
+            return self.value / former.value
+        return former.value / self.value
+
+
+def kept(path: pathlib.Path) -> Dict[str, Figure]:
+    """The figures of a file by name: a line is NAME, a tab, the figure, a space and its unit."""
+    found = {}
+    for line in path.read_text().splitlines():
+        name, measured = line.split("\t")
+        value, unit = measured.split(" ")
+        found[name] = Figure(name, float(value), unit)
+    return found
+
+
+def keep(path: pathlib.Path, figures: Iterable[Figure]) -> None:
+    """Writes such a file."""
+    path.write_text("".join(f"{figure.name}\t{figure.value:.4g} {figure.unit}\n" for figure in figures))
