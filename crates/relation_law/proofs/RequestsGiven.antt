@@ -1,0 +1,101 @@
+-- What the server gives for a client's LAYOUTGET is what the client takes, or it says why it gives nothing.
+use Rattle.std.proofs.Common.{◌≡◌, ◌⊎◌, ◌==◌, ℕ, Bool, true, false, List, [], ◌∷◌, ◌++◌, Option, Some, None, Ok, length, refl, sym, ap, subst, ◌∙◌, inl, inr, arith, if◌then◌else◌}
+use Rattle.std.proofs.lemmas.Bool.{cases_eq, eq-eqb, ne_eqb, true≢false}
+use Rattle.data_map.specs.declared.check.RawMap.{RawMap}
+use Rattle.layout_ops.specs.declared.args.Args.{Args}
+use Rattle.layout_ops.specs.declared.args.Args.TheVariants as args
+use Rattle.layout_ops.specs.declared.statuses.TheConstants.{NFS4_OK, NFS4ERR_LAYOUTTRYLATER, LAYOUTIOMODE4_RW, LAYOUTIOMODE4_READ}
+use Rattle.layout_ops.specs.declared.messages.Answer.{Answer}
+use Rattle.server_rules.specs.Answers.{get_refused, result_of, result_with, file_answer}
+use Rattle.server_rules.specs.Envelopes.{asked_in}
+use Rattle.server_rules.specs.Files.{file_at, at_file}
+use Rattle.server_rules.specs.Going.{Going}
+use Rattle.server_rules.specs.Grants.{grant_of, asked}
+use Rattle.server_rules.specs.Requests.{serves}
+use Rattle.server_rules.specs.Served.{Served}
+use Rattle.server_rules.proofs.FileLaws.{number_at}
+use Rattle.client_rules.specs.Calls.{file_of, span_of, is_write}
+use Rattle.client_rules.specs.Layouts.{taken}
+use Rattle.client_rules.specs.Requests.{get_args}
+use Rattle.client_rules.specs.Results.{status_of, get_status}
+use Rattle.client_rules.specs.Steps.{is_bad_range}
+use Rattle.world_history.specs.ServerNames.{Server, File, Grant, Kept, ClientRequest, RequestArgs, Get as AsksGet}
+use Rattle.world_history.specs.ClientNames.{CallOp, Held}
+use Rattle.exchange_law.specs.Held.{IsGiven}
+use Rattle.exchange_law.specs.HeldTaken.{IsShaped, OnDrives, IsGetOf}
+use Rattle.exchange_law.specs.Meeting.{IsSoundFile}
+use Rattle.exchange_law.proofs.HeldAnswered.{args_of_get, call_told}
+use Rattle.exchange_law.proofs.HeldAsking.{found_last}
+use Rattle.exchange_law.proofs.HeldServing.{IsRefusal, NoFile, Later, Fencing, Unavailable, IsTellable}
+use Rattle.exchange_law.proofs.HeldTaken.{its_grant, told_for, given_is_taken}
+use Rattle.relation_law.specs.RequestsGoing.{GivesGrant}
+
+refused_not_ok : (status : ℕ) → IsRefusal status → status ≡ NFS4_OK → ⊥
+refused_not_ok status (NoFile e) ok = absurd (omega (arith, e, ok))
+refused_not_ok status (Later e) ok = absurd (omega (arith, e, ok))
+refused_not_ok status (Fencing e) ok = absurd (omega (arith, e, ok))
+refused_not_ok status (Unavailable e) ok = absurd (omega (arith, e, ok))
+
+status_again : (status : ℕ) → get_status (get_refused status) ≡ status
+status_again status = elim (cases_eq status NFS4ERR_LAYOUTTRYLATER) [
+  | inl e ↦ rw (eq-eqb status NFS4ERR_LAYOUTTRYLATER e) (sym e)
+  | inr other ↦ rw (ne_eqb status NFS4ERR_LAYOUTTRYLATER other) refl
+]
+
+module _ (s : Server) (now : ℕ) (chosen : List ℕ) (q : ClientRequest) (f : File) (at : file_at s.files q.file ≡ Some f)
+    (op : CallOp) (is_get : IsGetOf op q) (fine : is_bad_range (span_of op) ≡ false) where
+  abbrev go : Going
+  go = at_file s chosen f
+
+  abbrev v : Served
+  v = serves go s.next_grant s.format now q.client q.args
+
+  abbrev a : Answer
+  a = file_answer s.drives v.going.file.kept q v.told
+
+  abbrev its : Grant
+  its = its_grant go s.next_grant s.format now q op is_get
+
+  its_client : its.client ≡ q.client
+  unfolding asked
+  its_client = refl
+
+  -- the grant that is told is the client's then
+  has_told : (gr : Grant) → v.told.grant ≡ Some gr → grant_of v.going.file.kept.grants q.client ≡ Some gr
+  has_told gr told =
+      let tell = told_for go s.next_grant s.format now q op is_get v refl gr told in
+      ap (λ (y : Kept). grant_of y.grants q.client) tell.1.file
+      ∙ found_last tell.1.at.grants its q.client (ap (grant_of tell.1.at.grants) (sym its_client) ∙ tell.1.own) its_client
+      ∙ ap (λ (y : Grant). Some y) (sym tell.0)
+
+  its_rw : its.rw ≡ is_write op
+  unfolding asked
+  its_rw = refl
+
+  its_writes : (gr : Grant) → v.told.grant ≡ Some gr → gr.rw ≡ is_write op
+  its_writes gr told =
+      ap (λ (y : Grant). y.rw) (told_for go s.next_grant s.format now q op is_get v refl gr told).0 ∙ its_rw
+
+  gives : (gr : Grant) → v.told.grant ≡ Some gr → IsSoundFile s v.going.file → GivesGrant s v.going.file a op q.client
+  gives gr told sound =
+      let has = has_told gr told in
+      let it =
+      given_is_taken go s.next_grant s.format now q op gr v fine is_get (number_at s.files q.file f at) refl told
+      sound.shaped sound.drives s.drives (sound.fits q.client gr has) in
+      record { grant = gr; has = has; writes = its_writes gr told; held = it.0; taken_is = it.1; given = it.2 }
+
+  none_told : v.told.grant ≡ None → IsRefusal v.told.status → status_of a.results ≡ NFS4_OK → ⊥
+  none_told none refusal ok =
+      let status : status_of a.results ≡ v.told.status =
+      ap (λ (o : Option Grant). status_of (result_with s.drives v.going.file.kept q.args v.told.status o)) none
+      ∙ ap (λ (b : RequestArgs). status_of (result_of b v.told.status)) (sym (args_of_get op q is_get.args))
+      ∙ status_again v.told.status in
+      refused_not_ok v.told.status refusal (sym status ∙ ok)
+
+  -- of success is only an answer that gives a grant, which the client takes
+  pub ok_gives : IsSoundFile s v.going.file → status_of a.results ≡ NFS4_OK → GivesGrant s v.going.file a op q.client
+  ok_gives sound ok = by_told (call_told go s.next_grant s.format now q op fine is_get.args)
+    where
+      by_told : IsTellable v → GivesGrant s v.going.file a op q.client
+      by_told (inl g) = gives g.0 g.1 sound
+      by_told (inr n) = absurd (none_told n.0 n.1 ok)

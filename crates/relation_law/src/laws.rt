@@ -1,0 +1,35 @@
+// What is proved on the way to the induction over the moves of a calm history.
+ghost use Rattle.file_simulation.specs.Conclusion.{FilesAreShaped};
+ghost use Rattle.relation_law.specs.Pending.{PendingIfTold};
+ghost use Rattle.relation_law.specs.RequestsGoing.{RequestsFollow};
+
+use ending_law::files_and_answers_are_readable;
+use exchange_law::{answers_are_own, clients_agree, clients_are_in_step};
+use world_history::one_event_more;
+
+/// Each file that is read off the lines of a history, also where it is cut inside a step, has a map that can be used, and
+/// a component for each that the map has.
+pub fn files_are_shaped()
+    ensures { FilesAreShaped }
+{}
+
+/// If a line can tell each outcome of a call, the calls that are pending by the lines of a history are at each moment
+/// those of the world's clients.
+pub fn calls_are_pending()
+    ensures { PendingIfTold }
+{
+    one_event_more();
+}
+
+/// Behind each move of a calm history the machine of a file has the clients' requests as they are: their sequence
+/// numbers, the server's slots, and the outstanding request with its answer. Three things are asked: that each move keeps
+/// what the machine has of what the server keeps, and of the components, and that a client that returns the file's grant
+/// holds it in the machine.
+pub fn requests_go_on()
+    ensures { RequestsFollow }
+{
+    clients_are_in_step();
+    clients_agree();
+    files_and_answers_are_readable();
+    answers_are_own();
+}
