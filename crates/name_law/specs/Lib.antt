@@ -1,0 +1,2 @@
+pub mod ServerNamed
+pub mod ServerTells
