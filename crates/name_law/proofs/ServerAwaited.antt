@@ -1,25 +1,20 @@
 -- What jobs wait for goes to drives of the file's components.
-use Rattle.std.proofs.Common.{◌≡◌, ◌⊎◌, ◌&&◌, ◌==◌, ℕ, ◌+◌, ◌<◌, zero, suc, Bool, true, false, not, List, [], ◌∷◌, ◌++◌, map, filter, slice_set, Option, Some, None, refl, sym, subst, inl, inr, if◌then◌else◌}
+use Rattle.std.proofs.Common.{◌&&◌, ◌==◌, ℕ, ◌+◌, ◌<◌, Bool, true, false, not, List, [], ◌∷◌, ◌++◌, map, filter, slice_set, Option, Some, None, refl, sym, subst, inl, inr, if◌then◌else◌}
 use Rattle.scenario_text.specs.declared.names.TheConstants.{DRIVES}
 use Rattle.server_rules.specs.Columns.{row_from, unit_with, wanted}
 use Rattle.server_rules.specs.Commands.{Ask, Which, is_meant, sent_to, to_each, again_in_2}
-use Rattle.server_rules.specs.Jobs.{others_than}
-use Rattle.server_rules.specs.Laws.{In}
 use Rattle.server_rules.specs.Numbers.{among}
 use Rattle.server_rules.specs.Pieces.{stores_from, is_off}
 use Rattle.server_rules.specs.Rebuild.{sources, sources_by, group_for, position_for}
 use Rattle.server_rules.specs.Repair.{is_left, repair_reads}
-use Rattle.server_rules.specs.Replies.{others, renewed}
+use Rattle.server_rules.specs.Replies.{renewed}
 use Rattle.server_rules.specs.Standing.{is_beyond, lose_on, lose_from, replica}
 use Rattle.server_rules.proofs.Members.{in_either, in_filtered}
 use Rattle.world_history.specs.ServerNames.{Kept, Piece, Heard, Component, Awaited, Target}
-use Rattle.sent_law.proofs.StandAwaited.{AllAre, none_are, one_is, filtered_are, renewed_are, in_set}
+use Rattle.sent_law.proofs.StandAwaited.{renewed_are, in_set}
 use Rattle.name_law.specs.ServerNamed.{AreOnNamed, AreForNamed}
 
 -- ---- lists of commands
-
-pub IsFor : Awaited → Type 0
-IsFor a = a.drive < DRIVES
 
 pub both_for : (xs ys : List Awaited) → AreForNamed xs → AreForNamed ys → AreForNamed (xs ++ ys)
 both_for xs ys p q a i = elim (in_either a xs ys i) [ inl j ↦ p a j | inr j ↦ q a j ]

@@ -1,19 +1,19 @@
 -- What a job leaves of a file, sends and notes, function by function: lines can name it all.
-use Rattle.std.proofs.Common.{◌≡◌, ◌⊎◌, ◌==◌, ◌||◌, ◌&&◌, ℕ, ◌+◌, ◌<◌, nat_lt, Bool, true, false, List, [], ◌∷◌, ◌++◌, replicate, slice_set, Option, Some, None, refl, sym, ap, subst, arith, inl, inr, if◌then◌else◌}
+use Rattle.std.proofs.Common.{◌≡◌, ◌==◌, ◌||◌, ◌&&◌, ℕ, ◌+◌, ◌<◌, nat_lt, Bool, true, false, List, [], ◌∷◌, ◌++◌, replicate, slice_set, Option, Some, None, refl, sym, subst, arith, inl, inr, if◌then◌else◌}
 use Rattle.std.proofs.lemmas.Bool.{cases_Bool}
 use Rattle.std.proofs.lemmas.Bool.Decides.{nat_tests}
 use Rattle.scenario_text.specs.declared.names.TheConstants.{DRIVES, FILES}
 use Rattle.server_rules.specs.declared.limits.TheConstants.{GREATEST_TAG}
 use Rattle.server_rules.specs.Columns.{end_of}
 use Rattle.server_rules.specs.Laws.{In}
-use Rattle.server_rules.specs.Commands.{All, Raising, Creating, to_all}
+use Rattle.server_rules.specs.Commands.{All, Raising, Creating}
 use Rattle.server_rules.specs.Going.{Going, noting, noting_if, keeping, with_components, sending, rests_or}
 use Rattle.server_rules.specs.Standing.{any_on, lose_on, lose_from, free_drives}
 use Rattle.server_rules.specs.Audit.{audits, audit_begins}
 use Rattle.server_rules.specs.Rebuild.{picked, or_first, target_on, target_for, makes_or, rebuilds, stands_at, fills, filling, target_gone, target_full}
 use Rattle.server_rules.specs.Repair.{after_repair, mended, repairs, storing, stored, repair_begins}
 use Rattle.server_rules.specs.Replies.{fills_up, hears, Hearing, Older, Full, Done, Nothing, others}
-use Rattle.server_rules.specs.Jobs.{making, ending, fenced, fence_begins, fetched, written, gathered, filled_in, audited_on, goes_on, waits_or_on, refills, remakes, loses, declared_in, targets, declares, others_than}
+use Rattle.server_rules.specs.Jobs.{making, ending, fenced, fence_begins, fetched, written, gathered, filled_in, audited_on, goes_on, waits_or_on, refills, remakes, loses, declared_in, targets, declares}
 use Rattle.server_rules.specs.Messages.{awaited_by}
 use Rattle.server_rules.specs.Openings.{opens_made, opens_spent, opens_fenced, is_unsettled, opens}
 use Rattle.server_rules.proofs.Members.{in_either}
@@ -129,7 +129,8 @@ ends_audit g h =
 
 -- ---- rebuild
 
-picked_named : (chosen : List ℕ) (ds : List Drive) (n : ℕ) → AreNamedDrives ds → picked chosen ds ≡ Some n → n < DRIVES
+picked_named : (chosen : List ℕ) (ds : List Drive) (n : ℕ) → AreNamedDrives ds → picked chosen ds ≡ Some n
+    → n < DRIVES
 picked_named chosen [] n a e = absurd (cc e)
 picked_named chosen (d ∷ ds) n a e =
     let is : or_first chosen d ds ≡ n = cc e in subst (λ (k : ℕ). k < DRIVES) is (first_named chosen d ds a)

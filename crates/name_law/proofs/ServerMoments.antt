@@ -5,7 +5,6 @@ use Rattle.osd_lists.specs.declared.node.Node.{Node}
 use Rattle.osd_lists.specs.declared.node.Node.TheVariants as node
 use Rattle.data_map.specs.declared.check.RawMap.{RawMap}
 use Rattle.scenario_text.specs.declared.names.TheConstants.{DRIVES, FILES}
-use Rattle.scenario_text.specs.declared.event.Event.{Event}
 use Rattle.scenario_text.specs.declared.event.Event.TheVariants as event
 use Rattle.scenario_text.specs.declared.event.Machine.TheVariants as machine
 use Rattle.scenario_text.specs.declared.event.Sender.TheVariants as sender
@@ -24,17 +23,19 @@ use Rattle.world_history.specs.State.{World}
 use Rattle.world_history.specs.Names.{note_line, known_note_line}
 use Rattle.world_history.specs.Handed.{Post, is_addressed, server_post, for_server}
 use Rattle.world_history.specs.History.{OneEventMore}
-use Rattle.world_history.specs.Moves.{Action, Opens, Delivers, TimesOut, Pends, begins, gives, known_drive, knows_drive, raw_of, has_algorithm, acts}
+use Rattle.world_history.specs.Moves.{Action, Opens, Delivers, begins, gives, known_drive, knows_drive, raw_of, has_algorithm, acts}
 use Rattle.world_history.specs.Sending.{Move, move}
-use Rattle.world_history.specs.Plans.{due}
-use Rattle.history_law.specs.BookMoments.{IsMoment, plan_at, lines_in}
-use Rattle.history_law.specs.Doing.{heard_of, brought_to, brought, given_by, input_in, did_in, ServerMoves}
-use Rattle.calm_law.specs.Naming.{IsNamed, IsNamedInput, AreNamed}
+use Rattle.move_law.specs.Moves.{given_in, IsForServer}
+use Rattle.move_law.proofs.Moves.{none_added}
+use Rattle.history_law.specs.BookMoments.{lines_in}
+use Rattle.history_law.specs.Doing.{heard_of, brought_to, brought, input_in, did_in, ServerMoves}
+use Rattle.exchange_law.specs.Text.{IsOfText}
+use Rattle.calm_law.specs.Naming.{IsNamed, IsNamedInput}
 use Rattle.sent_law.specs.Tagged.{AreNamedActs}
 use Rattle.sent_law.proofs.Doing.{IsNamedAction}
 use Rattle.sent_law.proofs.Moments.{each_first, each_second, named_action, server_sent_its_run}
 use Rattle.name_law.specs.ServerNamed.{IsNamedServer, SendsToNamed}
-use Rattle.name_law.specs.ServerTells.{given_to_server, LeavesNothingOut, ServerIsNamed, ServerLeavesNothingOut}
+use Rattle.name_law.specs.ServerTells.{given_to_server, LeavesNothingOut, TextsAreNamed, ServerIsNamed, ServerSendsToNamed, ServerLeavesNothingOut}
 use Rattle.name_law.proofs.ServerSteps.{each_server_step_is_named}
 
 -- ---- over a run
@@ -109,13 +110,55 @@ comes_named w (Opens (event.Crash machine.Server)) i e named = plain _ i tt e
 comes_named w (Opens (event.Reopen machine.Server)) i e named = plain _ i tt e
 comes_named w action i e named = absurd (cc e)
 
+-- whatever a move may hand it
+made_named : (w : World) (action : Action) (n : ℕ) (m : RawMap) (tag : ℕ) → given_in action ≡ Some (Makes n m tag)
+    → IsNamedAction action → n < FILES
+made_named w (Opens (event.File f x t)) n m tag e named =
+    let same : Makes f (raw_of x) t ≡ Makes n m tag = cc e in subst IsNamedInput same named
+made_named w (Opens (event.Format format)) n m tag e named = absurd (cc e)
+made_named w (Opens (event.Resend sender.Server)) n m tag e named = absurd (cc e)
+made_named w (Opens (event.Recall f)) n m tag e named = absurd (cc e)
+made_named w (Opens (event.Revoke f)) n m tag e named = absurd (cc e)
+made_named w (Opens (event.Rebuild f)) n m tag e named = absurd (cc e)
+made_named w (Opens (event.Audit f)) n m tag e named = absurd (cc e)
+made_named w (Opens (event.Declare d)) n m tag e named = absurd (cc e)
+made_named w (Opens (event.Crash machine.Server)) n m tag e named = absurd (cc e)
+made_named w (Opens (event.Reopen machine.Server)) n m tag e named = absurd (cc e)
+made_named w action n m tag e named = absurd (cc e)
+
+handed_named : (w : World) (action : Action) (i : Input) → IsForServer w action i → IsNamedAction action
+    → IsNamedInput i
+handed_named w action (Makes n m tag) is named = made_named w action n m tag is named
+handed_named w action (Adds d) is named = absurd (none_added w action d is)
+handed_named w action i is named = tt
+
+pub server_sends_to_named : OneEventMore → ServerSendsToNamed
+server_sends_to_named more w h k m d named i is =
+    (each_server_step_is_named w.server m.chosen i
+    (server_is_named more w h k (each_first IsNamed h (lines_in w m) named))
+    (handed_named w m.action i is
+    (named_action m.action (move w m).lines (each_second IsNamed h (lines_in w m) named)))).1
+
+-- ---- a scenario's text
+
+line_named : (l : Line) → IsOfText l → IsNamed l
+line_named (line.Event (event.Drive d key capacity)) fits = fits.1.0
+line_named (line.Event (event.Disk d key capacity)) fits = fits.1.0
+line_named (line.Event (event.File f m tag)) fits = fits.1.0
+line_named l fits = tt
+
+pub texts_are_named : TextsAreNamed
+texts_are_named [] text = tt
+texts_are_named (l ∷ h) text = (line_named l text.0, texts_are_named h text.1)
+
 -- ---- nothing is left out
 
 all_sent : (os : List Outgoing) → ((o : Outgoing) → In o os → is_addressed (server_post o) ≡ true)
     → filter is_addressed (map server_post os) ≡ map server_post os
 all_sent [] all = refl
 all_sent (o ∷ os) all =
-    first (is_addressed (server_post o)) (all o (inl refl)) ∙ ap (λ (ps : List Post). server_post o ∷ ps) (all_sent os (λ x i. all x (inr i)))
+    first (is_addressed (server_post o)) (all o (inl refl))
+    ∙ ap (λ (ps : List Post). server_post o ∷ ps) (all_sent os (λ x i. all x (inr i)))
   where
     first : (b : Bool) → b ≡ true
         → (if b then server_post o ∷ filter is_addressed (map server_post os) else filter is_addressed (map server_post os))
@@ -126,10 +169,12 @@ all_sent (o ∷ os) all =
 all_told : (ns : List Note) → ((n : Note) → In n ns → known_note_line n ≡ Some (note_line n))
     → filter_map known_note_line ns ≡ map note_line ns
 all_told [] all = refl
-all_told (n ∷ ns) all = rw (all n (inl refl)) (ap (λ (ls : List Line). note_line n ∷ ls) (all_told ns (λ x i. all x (inr i))))
+all_told (n ∷ ns) all =
+    rw (all n (inl refl)) (ap (λ (ls : List Line). note_line n ∷ ls) (all_told ns (λ x i. all x (inr i))))
 
 -- a step that the server takes as `history_law` has it
-by_move : ServerMoves → (w : World) (m : Move) (t : Step) → did_in w m ≡ Some t → SendsToNamed t → LeavesNothingOut w m t
+by_move : ServerMoves → (w : World) (m : Move) (t : Step) → did_in w m ≡ Some t → SendsToNamed t
+    → LeavesNothingOut w m t
 by_move moves w m t did s =
     let k = moves w m in
     let f = k.told t did in

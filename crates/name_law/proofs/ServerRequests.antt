@@ -5,7 +5,7 @@ use Rattle.server_rules.specs.declared.limits.TheConstants.{GREATEST_TAG}
 use Rattle.server_rules.specs.Laws.{In}
 use Rattle.server_rules.specs.Numbers.{among}
 use Rattle.server_rules.specs.Going.{Going, noting_if, with_components, keeping}
-use Rattle.server_rules.specs.Grants.{asked, conflicts, without}
+use Rattle.server_rules.specs.Grants.{asked, conflicts}
 use Rattle.server_rules.specs.Standing.{lose_from}
 use Rattle.server_rules.specs.Jobs.{fence_begins}
 use Rattle.server_rules.specs.Served.{Served}
@@ -79,7 +79,11 @@ served_late go g NoNumber own h = (h, none_recalled)
 served_late go g (Lacks k) own h = (h, none_recalled)
 served_late go g (Conflict holder) own h = (h, filtered_of (conflicts g) go.file.kept.grants h.0.grants)
 served_late go g Gives own h = (
-  (owns_grants go (go.file.kept.grants ++ g ∷ []) (high_after go.file.kept.high g) (more_of go.file.kept.grants g h.0.grants own) h.0, h.1),
+  (
+    owns_grants go (go.file.kept.grants ++ g ∷ []) (high_after go.file.kept.high g)
+        (more_of go.file.kept.grants g h.0.grants own) h.0,
+    h.1,
+  ),
   none_recalled,
 )
 
@@ -115,9 +119,10 @@ served_early go next format now g Unable own h = (h, none_recalled)
 served_early go next format now g (Waits k) own h = (h, none_recalled)
 served_early go next format now g On own h = served_grants go next format now g own h
 
-asker : (f : Kept) (number client now offset count : ℕ) (rw_ : Bool) → (asked f number client now offset count rw_).client ≡ client
+asker : (f : Kept) (number client now offset count : ℕ) (writes : Bool)
+    → (asked f number client now offset count writes).client ≡ client
 unfolding asked
-asker f number client now offset count rw_ = refl
+asker f number client now offset count writes = refl
 
 -- ---- LAYOUTCOMMIT and LAYOUTRETURN
 

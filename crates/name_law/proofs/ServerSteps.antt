@@ -1,5 +1,5 @@
 -- Each step of the server leaves it, sends and notes what lines can name.
-use Rattle.std.proofs.Common.{◌≡◌, ◌==◌, ◌&&◌, ℕ, ◌+◌, ◌<◌, ◌≤◌, nat_lt, Bool, true, false, List, [], ◌∷◌, ◌++◌, map, flat_map, find, is_some, Option, Some, None, refl, sym, ap, subst, ◌∙◌, arith, inl, inr, if◌then◌else◌}
+use Rattle.std.proofs.Common.{◌≡◌, ◌==◌, ◌&&◌, ℕ, ◌+◌, ◌<◌, ◌≤◌, nat_lt, Bool, true, false, List, [], ◌∷◌, ◌++◌, map, flat_map, Option, Some, None, refl, sym, subst, arith, inl, inr, if◌then◌else◌}
 use Rattle.std.proofs.lemmas.Bool.Decides.{nat_tests}
 use Rattle.data_map.specs.declared.check.RawMap.{RawMap}
 use Rattle.layout_ops.specs.declared.statuses.TheConstants.{NFS4ERR_SEQ_MISORDERED}
@@ -8,16 +8,15 @@ use Rattle.scenario_text.specs.declared.line.Line.{Line}
 use Rattle.server_rules.specs.declared.limits.TheConstants.{MAX_CLIENT}
 use Rattle.server_rules.specs.Answers.{recalls_from, plain_answer}
 use Rattle.server_rules.specs.Envelopes.{receiver}
-use Rattle.server_rules.specs.Files.{Step, still, begins, file_at, put_file, add_file, at_file, step_at, to_drives}
-use Rattle.server_rules.specs.Get.{lowest}
+use Rattle.server_rules.specs.Files.{Step, still, begins, file_at, put_file, at_file, step_at, to_drives}
 use Rattle.server_rules.specs.Going.{Going, noting}
-use Rattle.server_rules.specs.History.{Input, Hears, Makes, Adds, Formats, Resends, Crashes, Opens, step}
+use Rattle.server_rules.specs.History.{Input, Makes, Adds}
 use Rattle.server_rules.specs.Jobs.{making, declares, fence_begins}
 use Rattle.server_rules.specs.Laws.{In}
-use Rattle.server_rules.specs.Making.{refusal, places, components_on, with_file, makes_file}
-use Rattle.server_rules.specs.Messages.{awaited_by, resend}
+use Rattle.server_rules.specs.Making.{places, components_on, with_file, makes_file}
+use Rattle.server_rules.specs.Messages.{awaited_by}
 use Rattle.server_rules.specs.Openings.{crashed_file, opens, opens_each, crash}
-use Rattle.server_rules.specs.Orders.{recalls, offline, declares_each, declare}
+use Rattle.server_rules.specs.Orders.{offline, declares_each, declare}
 use Rattle.server_rules.specs.Replies.{answers, hearing}
 use Rattle.server_rules.specs.Requests.{serves, only_answers, keeps, carried_out, answer_with, answer_without, size_in}
 use Rattle.server_rules.specs.Rounds.{Round, step_round}
@@ -25,19 +24,19 @@ use Rattle.server_rules.specs.Served.{Served, tells}
 use Rattle.server_rules.specs.Slots.{Again, New, Misordered, slot_of, admit, admit_after, keep}
 use Rattle.server_rules.proofs.Members.{in_either, in_mapped}
 use Rattle.world_history.specs.Names.{is_named, note_line, known_note_line, is_tellable_note, where_known}
-use Rattle.world_history.specs.ServerNames.{Server, File, Drive, Component, Grant, Slot, Answer, Awaited, Effects, Note, NoteKind, Outgoing, ToDrive, Recalls, Answers, AnswersOrder, ClientRequest, JobKind, Busy, Spent}
+use Rattle.world_history.specs.ServerNames.{Server, File, Drive, Component, Grant, Slot, Answer, Awaited, Effects, Note, NoteKind, Outgoing, Answers, AnswersOrder, ClientRequest}
 use Rattle.job_law.proofs.Hearing.{found_in}
 use Rattle.history_law.specs.Placed.{AreNamed as AreNamedDrives}
 use Rattle.history_law.proofs.Inputs.{added_named}
 use Rattle.history_law.proofs.Made.{AllNamed, places_named}
 use Rattle.history_law.proofs.Steps.{offline_named}
 use Rattle.calm_law.specs.Naming.{IsNamedInput}
-use Rattle.move_law.specs.Steps.{IsAsked, Answering, IsAnswering, answered_file, IsOrdered, Refuses, WhileBusy, OnGreatest, with_answer, with_added, new_file, StepCases, RequestCases}
+use Rattle.move_law.specs.Steps.{answered_file, IsOrdered, Refuses, WhileBusy, OnGreatest, with_added, new_file, StepCases, RequestCases}
 use Rattle.move_law.proofs.Steps.{each_step, each_request}
 use Rattle.move_law.proofs.Files.{in_at, in_put, in_add}
 use Rattle.name_law.specs.ServerNamed.{AreOnNamed, AreOfNamed, AreForNamed, IsNamedFile, IsNamedServer, SendsToNamed, EachServerStepIsNamed}
 use Rattle.name_law.proofs.ServerAwaited.{none_for}
-use Rattle.name_law.proofs.ServerJobs.{AreTold, Owns, Ends, owns_noting, ends_making, ends_fence, ends_hears, ends_declares, ends_opens}
+use Rattle.name_law.proofs.ServerJobs.{AreTold, Ends, owns_noting, ends_making, ends_fence, ends_hears, ends_declares, ends_opens}
 use Rattle.name_law.proofs.ServerRequests.{IsServed, served}
 
 -- ---- files in the middle of a step, and behind it

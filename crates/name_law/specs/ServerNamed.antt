@@ -1,12 +1,11 @@
 -- What a server has whose files, drives and clients lines can name, and what its steps send and note.
 use Rattle.std.specs.Prelude.{◌≡◌, ℕ, ◌<◌, true, List, Option, Some, None}
-use Rattle.scenario_text.specs.declared.names.TheConstants.{CLIENTS, FILES}
+use Rattle.scenario_text.specs.declared.names.TheConstants.{CLIENTS, DRIVES, FILES}
 use Rattle.server_rules.specs.Envelopes.{receiver}
 use Rattle.server_rules.specs.Files.{Step}
 use Rattle.server_rules.specs.History.{Input, step}
 use Rattle.server_rules.specs.Laws.{In}
 use Rattle.server_rules.specs.Messages.{awaited_by}
-use Rattle.scenario_text.specs.declared.names.TheConstants.{DRIVES}
 use Rattle.world_history.specs.Names.{is_named, note_line, known_note_line}
 use Rattle.world_history.specs.ServerNames.{Server, File, Component, Grant, Slot, Awaited, Target, Note, Outgoing}
 use Rattle.history_law.specs.Placed.{AreNamed as AreNamedDrives}

@@ -11,8 +11,10 @@ use Rattle.world_history.specs.Handed.{server_post}
 use Rattle.world_history.specs.Moves.{Action, Opens, acts}
 use Rattle.world_history.specs.Sending.{Move}
 use Rattle.world_history.specs.Plans.{due}
+use Rattle.move_law.specs.Moves.{IsForServer}
 use Rattle.history_law.specs.BookMoments.{IsMoment, plan_at, lines_in}
 use Rattle.history_law.specs.Doing.{input_in}
+use Rattle.exchange_law.specs.Text.{AreOfText}
 use Rattle.calm_law.specs.Naming.{AreNamed}
 use Rattle.name_law.specs.ServerNamed.{IsNamedServer, SendsToNamed}
 
@@ -32,6 +34,17 @@ pub record LeavesNothingOut (w : World) (m : Move) (t : Step) : Type 0 where
 -- the server has.
 abbrev pub ServerIsNamed : Type 0
 ServerIsNamed = (w : World) (h : List Line) → IsMoment w h → AreNamed h → IsNamedServer w.server
+
+-- A history of a scenario's text is such a one.
+abbrev pub TextsAreNamed : Type 0
+TextsAreNamed = (h : List Line) → AreOfText h → AreNamed h
+
+-- Lines can name each party to which a step sends, and tell each note of it, whatever a move that is due at a moment may
+-- hand the server.
+abbrev pub ServerSendsToNamed : Type 0
+ServerSendsToNamed =
+    (w : World) (h : List Line) (k : IsMoment w h) (m : Move) → due (plan_at k) w ≡ Some m.action →
+    AreNamed (h ++ lines_in w m) → (i : Input) → IsForServer w m.action i → SendsToNamed (step w.server m.chosen i)
 
 -- So its step in each move that is due there leaves nothing out.
 abbrev pub ServerLeavesNothingOut : Type 0

@@ -6,4 +6,7 @@
 
 mod laws;
 
-pub use laws::{each_server_step_is_named, server_is_named, server_leaves_nothing_out};
+pub use laws::{
+    each_server_step_is_named, server_is_named, server_leaves_nothing_out, server_sends_to_named,
+    texts_are_named,
+};
