@@ -1,7 +1,6 @@
-//! In a history of a scenario's text no party has anything to tell or send that no line can name.
-//!
-//! What no line can name isn't told and isn't sent, by definition (`world_history`). The laws of this crate say that it
-//! never comes to that.
+//! What no line can name isn't told and isn't sent, by definition (`world_history`). The laws of this crate say that at
+//! the server it never comes to that: in a history of a scenario's text lines can name all that the server has, each
+//! party that a step of it sends to, and each note of the step.
 #![tactic(auto)]
 
 mod laws;
