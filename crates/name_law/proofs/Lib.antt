@@ -3,3 +3,14 @@ pub mod ServerJobs
 pub mod ServerRequests
 pub mod ServerSteps
 pub mod ServerMoments
+pub mod ClientOutcomes
+pub mod ClientSteps
+pub mod ClientAnswers
+pub mod ClientHolders
+pub mod DriveTags
+pub mod DriveWorlds
+pub mod ClientTells
+pub mod ClientCalls
+pub mod ClientSends
+pub mod DriveReplies
+pub mod DriveNames
