@@ -1,24 +1,16 @@
 -- The machine of a file that was just made: a lawful and calm run has reached it, and nothing was started in it.
 -- Towards `EachFileIsCreated` (`file_simulation/specs/Simulation.antt`).
-use Rattle.std.proofs.Common.{◌≡◌, ◌<◌, ℕ, zero, suc, ◌+◌, Bool, true, false, List, [], ◌∷◌, ◌++◌, Option, Some, None, flat_map, refl, sym, ap, subst, ◌∙◌, arith, inl, inr, if◌then◌else◌}
-use Rattle.std.specs.List.{range_with_len}
-use Rattle.std.proofs.lemmas.Bool.{cases_eq}
-use Rattle.scenario_text.specs.declared.names.TheConstants.{CLIENTS}
-use Rattle.layout_ops.specs.declared.messages.Answer.{Answer as Told}
+use Rattle.std.proofs.Common.{◌≡◌, ◌<◌, ℕ, zero, suc, ◌+◌, Bool, true, false, List, [], ◌∷◌, ◌++◌, Option, None, refl, sym, ap, subst, ◌∙◌, arith, inl, inr, if◌then◌else◌}
 use Rattle.fence_law.specs.Words.{In, updated}
-use Rattle.fence_law.specs.State.{State, Layout, Event, Answer, Request}
-use Rattle.fence_law.specs.State.RequestKind.{Get, Return}
+use Rattle.fence_law.specs.State.{State, Layout, Event, Answer}
+use Rattle.fence_law.specs.State.RequestKind.{Get}
 use Rattle.fence_law.specs.State.Event.{Asks, Refuses, AsksOther, ServesOther, TakesOther, Fails}
 use Rattle.fence_law.specs.State.Call.{Idle}
 use Rattle.fence_law.specs.State.Commit.{NoCommit}
 use Rattle.fence_law.specs.Columns.{IsCalm}
 use Rattle.fence_law.specs.Machine.{Allowed, Lawful as IsLawfulRun, after, after_all, new_file_state}
 use Rattle.fence_law.specs.Law.{Calms}
-use Rattle.fence_law.proofs.Words.{updated_same, updated_other}
-use Rattle.world_history.specs.ServerNames.{File, Component, Server}
-use Rattle.world_history.specs.ClientNames.{Client, Request as Asked}
-use Rattle.world_history.specs.State.{World}
-use Rattle.file_simulation.specs.Requests.{RequestClass, Own, Other, class_of, kept_by}
+use Rattle.fence_law.proofs.Words.{updated_same}
 use Rattle.file_simulation.specs.Creation.{earlier, asked}
 
 -- ---- what stays as it was

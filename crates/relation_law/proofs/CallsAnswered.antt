@@ -1,37 +1,25 @@
 -- An answer to a client's request is taken: what the machine has of the client behind the events of that line.
 -- Towards `CallsGoOn` (`specs/Steps.antt`).
-use Rattle.std.proofs.Common.{◌≡◌, ◌≢◌, ◌⊎◌, ◌==◌, ◌&&◌, not, ℕ, ◌+◌, ◌*◌, ◌<◌, ◌≤◌, Bool, true, false, List, [], ◌∷◌, ◌++◌, Option, Some, None, Result, Ok, Err, refl, sym, ap, subst, ◌∙◌, inl, inr, if◌then◌else◌}
-use Rattle.std.proofs.lemmas.Bool.{true≢false, cases_Bool, cases_eq, eqb-true, eq-eqb, ne_eqb}
+use Rattle.std.proofs.Common.{◌≡◌, ◌==◌, ◌&&◌, ℕ, ◌+◌, Bool, true, false, [], Option, Some, None, refl, sym, ap, subst, ◌∙◌, inl, inr, if◌then◌else◌}
+use Rattle.std.proofs.lemmas.Bool.{cases_Bool}
 use Rattle.std.proofs.lemmas.List.{append-nil}
 use Rattle.data_map.specs.declared.check.RawMap.{RawMap}
-use Rattle.layout_ops.specs.declared.args.Args.{Args}
-use Rattle.layout_ops.specs.declared.args.Args.TheVariants as args
 use Rattle.layout_ops.specs.declared.messages.Answer.{Answer}
-use Rattle.layout_ops.specs.declared.statuses.TheConstants.{NFS4_OK, NFS4ERR_BADLAYOUT, NFS4ERR_NOENT, NFS4ERR_LAYOUTTRYLATER, NFS4ERR_RECALLCONFLICT, NFS4ERR_LAYOUTUNAVAILABLE}
+use Rattle.layout_ops.specs.declared.statuses.TheConstants.{NFS4ERR_NOENT, NFS4ERR_LAYOUTTRYLATER, NFS4ERR_RECALLCONFLICT, NFS4ERR_LAYOUTUNAVAILABLE}
 use Rattle.std.specs.Prelude.{nat_lt}
 use Rattle.client_rules.specs.Turns.{needing}
-use Rattle.client_rules.specs.declared.limits.TheConstants.{NONCES, MAX_TRIES, NO_COMPONENT}
-use Rattle.client_rules.specs.Answers.{busy, unavailable, not_granted, on_commit, on_report, is_loss_taken}
-use Rattle.client_rules.specs.Calls.{file_of, span_of}
-use Rattle.client_rules.specs.Going.{quiet, phased, over, by_turn, moved, with_held}
-use Rattle.client_rules.specs.Grants.{held_of, put_held}
-use Rattle.client_rules.specs.Layouts.{taken}
-use Rattle.client_rules.specs.Messages.{answered_get, commit_under, on_get, on_need, on_phase, on_call}
+use Rattle.client_rules.specs.declared.limits.TheConstants.{MAX_TRIES, NO_COMPONENT}
+use Rattle.client_rules.specs.Answers.{busy, unavailable, not_granted}
+use Rattle.client_rules.specs.Calls.{file_of}
+use Rattle.client_rules.specs.Going.{quiet, phased, over}
+use Rattle.client_rules.specs.Grants.{held_of}
 use Rattle.client_rules.specs.Results.{status_of}
-use Rattle.exchange_law.proofs.ClientKeeping.{put_other}
-use Rattle.exchange_law.proofs.Kept.{on_commit_kept}
-use Rattle.world_history.specs.ClientNames.{Client, Call, CallOp, Held, Request, TimedOut, IoErr, Why, BadLayout, HeldBy, Fencing, Need, First, Get, Commit, Report, Close, Phase, Starts, Needs, Waits, Reads, Probes, Gathers, Scatters, Outcome, Turn, Goes, Ends, Forgets, Done}
+use Rattle.world_history.specs.ClientNames.{Client, Call, CallOp, HeldBy, Fencing, Need, Get, Phase, Starts, Needs, Waits, Reads, Probes, Gathers, Scatters, Outcome, Turn, Goes, Ends, Forgets}
 use Rattle.world_history.specs.Handed.{pending_op}
-use Rattle.fence_law.specs.Words.{In as InRun}
-use Rattle.fence_law.specs.State.{State, Grant}
-use Rattle.fence_law.specs.State.{Event as event}
-use Rattle.fence_law.specs.Machine.{after, after_all}
-use Rattle.file_simulation.specs.Calls.{IsIdle, IsClient, CallIs, CallOn, CallAt, HeldIs, IsHolding, HoldsNone, reports_on, waits_report, is_taken}
-use Rattle.relation_law.specs.CallsTurns.{PhasePends, PhaseOn, OutcomeIs, PendsAt, IsMid, NeedHas, stores_of}
-use Rattle.relation_law.proofs.CallsFrames.{spares}
-use Rattle.relation_law.proofs.CallsSpared.{client_spared}
-use Rattle.relation_law.proofs.CallsMid.{held_plain, moved_other, IsReady}
-use Rattle.relation_law.proofs.CallsTaken.{taken_file}
+use Rattle.fence_law.specs.State.{State}
+use Rattle.file_simulation.specs.Calls.{IsIdle, IsClient, CallIs, CallOn, CallAt, HeldIs, reports_on, waits_report}
+use Rattle.relation_law.specs.CallsTurns.{PhasePends, PhaseOn, OutcomeIs, PendsAt, IsMid, NeedHas}
+use Rattle.relation_law.proofs.CallsMid.{held_plain, IsReady}
 
 -- ---- a call that goes on as it was
 

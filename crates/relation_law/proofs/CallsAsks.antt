@@ -1,38 +1,31 @@
 -- The request of a client's turn: the machine behind its events.
 -- Towards `CallsGoOn` (`specs/Steps.antt`).
-use Rattle.std.proofs.Common.{◌≡◌, ◌⊎◌, ◌==◌, ◌&&◌, not, ℕ, ◌+◌, ◌*◌, ◌^◌, ◌<◌, ◌≤◌, Bool, true, false, List, [], ◌∷◌, ◌++◌, Option, Some, None, refl, sym, ap, subst, ◌∙◌, inl, inr, arith, if◌then◌else◌}
-use Rattle.std.proofs.lemmas.Bool.{true≢false, cases_Bool, eqb-true, eq-eqb, ne_eqb}
+use Rattle.std.proofs.Common.{◌≡◌, ◌==◌, ◌&&◌, ℕ, ◌+◌, ◌*◌, ◌^◌, ◌<◌, Bool, true, false, List, [], ◌∷◌, Option, Some, None, refl, sym, ap, subst, ◌∙◌, arith}
+use Rattle.std.proofs.lemmas.Bool.{true≢false, eqb-true}
 use Rattle.data_map.specs.declared.check.RawMap.{RawMap}
 use Rattle.layout_ops.specs.declared.args.Args.{Args}
-use Rattle.layout_ops.specs.declared.args.Args.TheVariants as args
 use Rattle.layout_ops.specs.declared.messages.Answer.{Answer}
-use Rattle.layout_ops.specs.declared.statuses.TheConstants.{LAYOUTIOMODE4_RW}
 use Rattle.client_rules.specs.declared.limits.TheConstants.{NONCES}
 use Rattle.client_rules.specs.Calls.{file_of}
 use Rattle.client_rules.specs.Going.{held_after, after_number, request_of}
 use Rattle.client_rules.specs.Grants.{held_of, without_held}
-use Rattle.client_rules.specs.Requests.{args_of, get_args, commit_args, return_args, report_of, stateid_of}
+use Rattle.client_rules.specs.Requests.{args_of, get_args, commit_args, return_args, report_of}
 use Rattle.exchange_law.proofs.ClientKeeping.{none_left}
-use Rattle.world_history.specs.ClientNames.{Client, Call, CallOp, Held, Request, TimedOut, IoErr, Outcome, Need, First, Get, Commit, Report, Close, Phase, Needs, Waits}
+use Rattle.world_history.specs.ClientNames.{Client, CallOp, Held, Request, TimedOut, IoErr, Outcome, Need, First, Get, Commit, Report, Close, Needs, Waits}
 use Rattle.world_history.specs.Calm.{returned_in}
 use Rattle.fence_law.specs.Words.{updated, In as InRun}
 use Rattle.fence_law.specs.State.{State, Grant, Event}
-use Rattle.fence_law.specs.State as machine
 use Rattle.fence_law.specs.State.{Event as event}
-use Rattle.fence_law.specs.State.RequestKind.{Get as Gets, Return}
-use Rattle.fence_law.specs.State.Call.{Idle}
-use Rattle.fence_law.specs.State.Commit.{NoCommit, CommitAsked}
 use Rattle.fence_law.specs.Machine.{after, after_all}
 use Rattle.fence_law.proofs.Slots.{Slots}
 use Rattle.fence_law.proofs.Words.{updated_same}
 use Rattle.file_simulation.specs.EventLists.{entry_of, of_grant}
 use Rattle.file_simulation.specs.ClientEvents as table
-use Rattle.file_simulation.specs.Calls.{IsIdle, IsBroken, IsReporting, NeedsCommit, WaitsCommit, NeedIs, WaitIs, CallIs, CallOn, CallAt, IsHolding, HoldsReported, HoldsNone, HeldIs, IsClient, reports_on, waits_report, is_taken}
-use Rattle.relation_law.specs.CallsFrames.{IsCarried}
+use Rattle.file_simulation.specs.Calls.{IsIdle, IsReporting, NeedsCommit, WaitsCommit, NeedIs, WaitIs, CallAt, IsHolding, HeldIs, IsClient, reports_on, waits_report}
 use Rattle.relation_law.specs.CallsTurns.{NeedHas}
 use Rattle.relation_law.proofs.CallsSpared.{held_spared, idle_spared, reporting_spared, needs_commit_spared}
 use Rattle.relation_law.proofs.CallsSends.{asks_carried, asks_other_carried, gives_back_idle, gives_back_none, reports_idle, reports_none, commit_asked, commit_asked_out}
-use Rattle.relation_law.proofs.CallsMid.{without_other, held_plain}
+use Rattle.relation_law.proofs.CallsMid.{held_plain}
 use Rattle.relation_law.proofs.CallsGuards.{entry_writes}
 use Rattle.exchange_law.proofs.RefusalTelling.{grant_read}
 

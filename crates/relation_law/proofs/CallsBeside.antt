@@ -1,13 +1,13 @@
 -- An answer to a client's request on another file: the machine of the file has of the client what it had.
 -- Towards `CallsGoOn` (`specs/Steps.antt`).
-use Rattle.std.proofs.Common.{◌≡◌, ◌≢◌, ◌⊎◌, ◌==◌, ◌&&◌, not, ℕ, Bool, true, false, List, [], ◌∷◌, Option, Some, None, Result, Ok, Err, refl, sym, ap, subst, ◌∙◌, inl, inr, if◌then◌else◌}
+use Rattle.std.proofs.Common.{◌≡◌, ◌≢◌, ◌==◌, ℕ, Bool, true, false, List, Option, Some, None, Result, Ok, Err, refl, sym, ap, subst, ◌∙◌, inl, inr}
 use Rattle.std.proofs.lemmas.Bool.{true≢false, cases_Bool, eq-eqb}
 use Rattle.data_map.specs.declared.check.RawMap.{RawMap}
 use Rattle.layout_ops.specs.declared.messages.Answer.{Answer}
 use Rattle.layout_ops.specs.declared.statuses.TheConstants.{NFS4_OK}
 use Rattle.client_rules.specs.Answers.{not_granted, on_commit, on_report}
 use Rattle.client_rules.specs.Calls.{file_of}
-use Rattle.client_rules.specs.Going.{quiet, phased, over, by_turn, moved, with_held}
+use Rattle.client_rules.specs.Going.{quiet, phased, over, by_turn, with_held}
 use Rattle.client_rules.specs.Grants.{held_of, put_held}
 use Rattle.client_rules.specs.Layouts.{taken}
 use Rattle.client_rules.specs.Messages.{answered_get, commit_under, on_get, on_need, on_phase, on_call}
@@ -18,7 +18,7 @@ use Rattle.world_history.specs.ClientNames.{Client, Call, CallOp, Held, TimedOut
 use Rattle.world_history.specs.Handed.{pending_op}
 use Rattle.fence_law.specs.State.{State}
 use Rattle.file_simulation.specs.Calls.{IsIdle, IsClient, CallOn, CallAt, HeldIs, reports_on}
-use Rattle.relation_law.specs.CallsTurns.{PhaseOn, PendsAt, IsMid, NeedHas}
+use Rattle.relation_law.specs.CallsTurns.{IsMid, NeedHas}
 use Rattle.relation_law.proofs.CallsMid.{held_plain, moved_other, IsReady}
 use Rattle.relation_law.proofs.CallsAnswered.{IsUnasked, answered_client, stays_mid, over_now, phased_now, IsBusyTurn, not_granted_is}
 use Rattle.relation_law.proofs.CallsTaken.{taken_file}

@@ -1,25 +1,24 @@
 -- The line that tells how a call has ended: behind its events the client is at nothing.
 -- Towards `CallsGoOn` (`specs/Steps.antt`).
-use Rattle.std.proofs.Common.{◌≡◌, ◌⊎◌, ◌==◌, not, ℕ, ◌+◌, ◌-◌, ◌*◌, ◌<◌, Bool, true, false, List, [], ◌∷◌, Option, Some, None, length, slice_get, refl, sym, ap, subst, ◌∙◌, inl, inr, if◌then◌else◌}
+use Rattle.std.proofs.Common.{◌≡◌, ◌==◌, not, ℕ, ◌-◌, ◌*◌, ◌<◌, Bool, true, false, [], ◌∷◌, Option, Some, None, length, refl, sym, subst, ◌∙◌, inl, inr}
 use Rattle.std.specs.Prelude.{nat_lt}
-use Rattle.std.proofs.lemmas.Bool.{true≢false, cases_Bool, eq-eqb, ne_eqb}
+use Rattle.std.proofs.lemmas.Bool.{cases_Bool, eq-eqb, ne_eqb}
 use Rattle.data_map.specs.declared.check.RawMap.{RawMap}
 use Rattle.layout_ops.specs.declared.messages.Answer.{Answer}
 use Rattle.file_log.specs.Judge.{byte_for}
 use Rattle.client_rules.specs.declared.limits.TheConstants.{NONCES}
 use Rattle.client_rules.specs.Calls.{file_of, span_of, bytes_of}
 use Rattle.client_rules.specs.Grants.{held_of}
-use Rattle.world_history.specs.ClientNames.{Client, Call, CallOp, Write, Read, Held, Outcome, WriteOk, ReadOk, Done}
+use Rattle.world_history.specs.ClientNames.{Call, CallOp, Write, Read, Outcome, WriteOk, ReadOk, Done}
 use Rattle.fence_law.specs.Words.{In as InRun}
-use Rattle.fence_law.specs.State.{State, Grant, Start, Event}
-use Rattle.fence_law.specs.State as machine
+use Rattle.fence_law.specs.State.{State, Grant}
 use Rattle.fence_law.specs.State.{Event as event}
 use Rattle.fence_law.specs.Machine.{after, after_all}
 use Rattle.fence_law.proofs.Formed.{Formed}
-use Rattle.file_simulation.specs.EventLists.{where_so, write_of, entry_of}
+use Rattle.file_simulation.specs.EventLists.{where_so, entry_of}
 use Rattle.file_simulation.specs.ClientEvents as table
-use Rattle.file_simulation.specs.Calls.{IsWriteOf, IsIdle, IsTaken}
-use Rattle.relation_law.specs.CallsTurns.{IsWritten, WriteEnds, OutcomeIs, OutcomeOn, EndIs, PendsAt, IsMid}
+use Rattle.file_simulation.specs.Calls.{IsWriteOf, IsIdle}
+use Rattle.relation_law.specs.CallsTurns.{WriteEnds, OutcomeIs, OutcomeOn, EndIs, PendsAt, IsMid}
 use Rattle.relation_law.proofs.CallsFirst.{answers_idle, acknowledges_idle, tells_idle}
 use Rattle.relation_law.proofs.CallsMid.{held_as}
 

@@ -1,22 +1,19 @@
 -- The first line of a client's turn: what its events make of what the machine has of the client.
 -- Towards `CallsGoOn` (`specs/Steps.antt`).
-use Rattle.std.proofs.Common.{◌≡◌, ◌⊎◌, ℕ, ◌+◌, ◌*◌, ◌<◌, ◌≤◌, max, Bool, true, false, List, [], ◌∷◌, ◌++◌, Option, Some, None, Ok, refl, sym, ap, subst, ◌∙◌, inl, inr, arith}
-use Rattle.std.proofs.lemmas.Bool.{true≢false}
+use Rattle.std.proofs.Common.{◌≡◌, ℕ, ◌+◌, ◌*◌, ◌<◌, ◌≤◌, max, List, [], Option, Some, None, sym, subst, ◌∙◌, inr, arith}
 use Rattle.data_map.specs.declared.check.RawMap.{RawMap}
 use Rattle.layout_ops.specs.declared.statuses.TheConstants.{NFS4_OK}
 use Rattle.layout_ops.specs.declared.messages.Answer.{Answer}
 use Rattle.client_rules.specs.declared.limits.TheConstants.{NONCES}
 use Rattle.client_rules.specs.Results.{status_of}
-use Rattle.world_history.specs.ClientNames.{CallOp, Held, Awaited, TimedOut, Store, Io}
-use Rattle.fence_law.specs.Words.{updated, In as InRun}
-use Rattle.fence_law.specs.State.{State, Grant, Start, PartState}
-use Rattle.fence_law.specs.State.Call.{Idle, Broken, Writes as AtWrite, Reads as AtRead}
-use Rattle.fence_law.specs.State.Commit.{NoCommit, CommitAsked, CommitDone, CommitRefused}
-use Rattle.fence_law.specs.State.PartState.{NotSent, Sent, Done}
-use Rattle.fence_law.specs.State.Event.{Takes, TakesOther, Forgets, Acknowledges, Breaks, Answers, EndsRead, Tells, TakesCommit, TakesRefusal}
+use Rattle.world_history.specs.ClientNames.{CallOp, Held, TimedOut}
+use Rattle.fence_law.specs.State.{State, Grant}
+use Rattle.fence_law.specs.State.Call.{Idle, Broken}
+use Rattle.fence_law.specs.State.Commit.{NoCommit}
+use Rattle.fence_law.specs.State.Event.{Takes, Forgets, Acknowledges, Breaks, Answers, EndsRead, Tells, TakesCommit, TakesRefusal}
 use Rattle.fence_law.specs.Machine.{after}
 use Rattle.fence_law.proofs.Words.{updated_same}
-use Rattle.file_simulation.specs.Calls.{IsRunning, IsWriteOf, AreOut, IsWriting, Fits, CommittedAs, WaitsCommit, IsIdle, IsBroken, IsHolding, IsTaken}
+use Rattle.file_simulation.specs.Calls.{AreOut, IsWriting, Fits, WaitsCommit, IsIdle, IsBroken, IsHolding}
 use Rattle.file_simulation.specs.Grants.{LayoutIs}
 
 -- ---- the call

@@ -1,17 +1,17 @@
 -- Events that aren't of a client leave what the machine has of it.
 -- Towards `CallsGoOn` (`specs/Steps.antt`).
-use Rattle.std.proofs.Common.{◌≡◌, ℕ, zero, suc, ◌+◌, ◌<◌, ◌≤◌, ◌==◌, ◌&&◌, Bool, true, false, max, List, [], ◌∷◌, Option, Some, None, ◌⊎◌, refl, sym, ap, subst, ◌∙◌, inl, inr, arith, add-one, if◌then◌else◌}
-use Rattle.std.proofs.lemmas.Bool.{ne_eqb, cases_eq}
+use Rattle.std.proofs.Common.{◌≡◌, ℕ, zero, suc, ◌+◌, ◌<◌, ◌≤◌, ◌==◌, ◌&&◌, Bool, true, false, max, List, [], ◌∷◌, Option, Some, None, refl, sym, ap, subst, ◌∙◌, inl, inr, arith, add-one, if◌then◌else◌}
+use Rattle.std.proofs.lemmas.Bool.{ne_eqb}
 use Rattle.fence_law.specs.Words.{updated, In as InRun}
 use Rattle.fence_law.specs.State.{State, Grant, Event, Start, Answer, Call, Commit, PartState}
 use Rattle.fence_law.specs.State.Call.{Idle, Writes, Reads, Broken}
 use Rattle.fence_law.specs.State.Commit.{NoCommit, CommitAsked, CommitDone, CommitRefused}
 use Rattle.fence_law.specs.State.PartState.{NotSent, Sent, Done}
-use Rattle.fence_law.specs.State.Event.{Asks, Grants, Refuses, Takes, AsksOther, ServesOther, TakesOther, GivesBack, Reports, Forgets, Frees, StartsWrite, Sends, Learns, Acknowledges, Breaks, StartsRead, Answers, EndsRead, Leaves, AsksCommit, Commits, RefusesCommit, TakesCommit, TakesRefusal, Repairs, Rebuilds}
+use Rattle.fence_law.specs.State.Event.{Asks, Grants, Refuses, Takes, AsksOther, GivesBack, Reports, Forgets, Frees, StartsWrite, Sends, Learns, Acknowledges, Breaks, StartsRead, Answers, EndsRead, Leaves, AsksCommit, Commits, RefusesCommit, TakesCommit, TakesRefusal, Repairs, Rebuilds}
 use Rattle.fence_law.specs.Machine.{after, after_all}
 use Rattle.fence_law.specs.Starts.{written_start, read_start, repair_start, rebuilt_start, granted}
-use Rattle.fence_law.proofs.Words.{updated_read, updated_same, updated_other, up_on}
-use Rattle.file_simulation.specs.EventLists.{last_write, write_of}
+use Rattle.fence_law.proofs.Words.{updated_same, updated_other, up_on}
+use Rattle.file_simulation.specs.EventLists.{last_write}
 use Rattle.relation_law.specs.CallsFrames.{IsSpared, IsBeside, AreBeside}
 
 -- ---- the same

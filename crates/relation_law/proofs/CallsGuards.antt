@@ -1,20 +1,19 @@
 -- The guards of the events by which a client's call goes on: each of one event, at the machine before it.
 -- Towards `EventsAreLawful` (`specs/Steps.antt`).
-use Rattle.std.proofs.Common.{◌≡◌, ◌⊎◌, ℕ, ◌<◌, ◌≤◌, Bool, true, false, List, [], Option, Some, None, refl, sym, ap, subst, ◌∙◌, inl, inr}
+use Rattle.std.proofs.Common.{◌≡◌, ℕ, ◌<◌, true, false, List, [], Some, sym, ap, ◌∙◌, inl, inr}
 use Rattle.std.proofs.lemmas.Bool.{false_from_ne_true, true≢false, eq-eqb, ne_eqb}
 use Rattle.layout_ops.specs.declared.statuses.TheConstants.{NFS4_OK}
 use Rattle.layout_ops.specs.declared.messages.Answer.{Answer}
 use Rattle.client_rules.specs.Results.{status_of}
-use Rattle.world_history.specs.ClientNames.{CallOp, Awaited, TimedOut, Store}
-use Rattle.fence_law.specs.State.{State, Grant, Start, Call}
-use Rattle.fence_law.specs.State.Call.{Idle, Broken, Writes as AtWrite, Reads as AtRead}
-use Rattle.fence_law.specs.State.Commit.{NoCommit, CommitAsked, CommitDone, CommitRefused}
-use Rattle.fence_law.specs.State.PartState.{NotSent, Sent, Done}
+use Rattle.world_history.specs.ClientNames.{CallOp, TimedOut}
+use Rattle.fence_law.specs.State.{State, Grant}
+use Rattle.fence_law.specs.State.Call.{Idle, Writes as AtWrite, Reads as AtRead}
+use Rattle.fence_law.specs.State.Commit.{NoCommit, CommitDone, CommitRefused}
 use Rattle.fence_law.specs.State.Event.{GivesBack, Reports, Forgets, Acknowledges, Breaks, EndsRead, Tells, Leaves, AsksCommit, TakesCommit, TakesRefusal}
 use Rattle.fence_law.specs.Machine.{Allowed}
 use Rattle.fence_law.proofs.Commands.{Calls}
-use Rattle.file_simulation.specs.EventLists.{entry_in, entry_of, write_of}
-use Rattle.file_simulation.specs.Calls.{IsWriting, AreOut, IsTimedOut, Fits, WaitsCommit, IsReporting, IsTaken, IsIdle, IsBroken, commit_at}
+use Rattle.file_simulation.specs.EventLists.{entry_in, entry_of}
+use Rattle.file_simulation.specs.Calls.{IsWriting, AreOut, IsTimedOut, Fits, WaitsCommit, IsReporting, IsIdle, IsBroken, commit_at}
 
 -- ---- the entry that a call is at
 

@@ -1,23 +1,22 @@
 -- A client in the middle of its turn: what its dealings with the drives make of it, and its call that begins.
 -- Towards `CallsGoOn` (`specs/Steps.antt`).
-use Rattle.std.proofs.Common.{◌≡◌, ◌≢◌, ◌⊎◌, ◌==◌, ◌&&◌, not, ℕ, ◌+◌, ◌*◌, ◌<◌, ◌≤◌, Bool, true, false, List, [], ◌∷◌, Option, Some, None, refl, sym, ap, subst, ◌∙◌, inl, inr, arith, if◌then◌else◌}
-use Rattle.std.proofs.lemmas.Bool.{true≢false, cases_Bool, cases_eq, eq-eqb, ne_eqb, eqb-true}
+use Rattle.std.proofs.Common.{◌≡◌, ◌≢◌, ◌==◌, ◌&&◌, not, ℕ, ◌+◌, ◌*◌, ◌<◌, ◌≤◌, Bool, true, false, List, [], ◌∷◌, Option, Some, None, refl, sym, ap, subst, ◌∙◌, inl, inr, arith, if◌then◌else◌}
+use Rattle.std.proofs.lemmas.Bool.{true≢false, cases_eq, eq-eqb, ne_eqb, eqb-true}
 use Rattle.data_map.specs.declared.check.RawMap.{RawMap}
 use Rattle.layout_ops.specs.declared.messages.Answer.{Answer}
 use Rattle.client_rules.specs.declared.limits.TheConstants.{NONCES}
-use Rattle.client_rules.specs.Calls.{file_of, span_of, is_write}
+use Rattle.client_rules.specs.Calls.{file_of, is_write}
 use Rattle.client_rules.specs.Going.{begins, begun, by_turn, forgotten, moved, over, phased, starts_at, starts_call, starts_under, starts_with, with_held}
 use Rattle.client_rules.specs.Grants.{covers, held_of, put_held, without_held}
 use Rattle.client_rules.proofs.ReadSteps.{held_file, put_at}
 use Rattle.exchange_law.proofs.ClientKeeping.{put_other, none_left}
 use Rattle.exchange_law.proofs.Kept.{IsKept, begins_kept}
-use Rattle.world_history.specs.ClientNames.{Client, Call, CallOp, Held, Request, Awaited, Need, First, Get, Commit, Report, Close, Phase, Starts, Needs, Waits, Reads, Probes, Gathers, Scatters, Outcome, Turn, Goes, Ends, Forgets, Moved, Done}
+use Rattle.world_history.specs.ClientNames.{Client, Call, CallOp, Held, Request, Need, First, Get, Commit, Report, Close, Phase, Starts, Needs, Waits, Reads, Probes, Gathers, Scatters, Outcome, Turn, Goes, Ends, Forgets, Moved, Done}
 use Rattle.fence_law.specs.Words.{In as InRun}
 use Rattle.fence_law.specs.State.{State, Grant}
 use Rattle.fence_law.specs.State as machine
-use Rattle.file_simulation.specs.Grants.{LayoutIs}
-use Rattle.file_simulation.specs.Calls.{IsIdle, IsHolding, HoldsReported, HoldsNone, HeldIs, NeedIs, reports_on, waits_report, is_taken}
-use Rattle.relation_law.specs.CallsTurns.{PhasePends, OutcomeIs, PhaseOn, OutcomeOn, EndIs, PendsAt, IsMid, NeedHas, TurnIs, IsCounted, MovedIs, WritesSome, ReadsWait}
+use Rattle.file_simulation.specs.Calls.{IsIdle, IsHolding, HoldsNone, HeldIs, NeedIs, reports_on, waits_report, is_taken}
+use Rattle.relation_law.specs.CallsTurns.{PhaseOn, PendsAt, IsMid, NeedHas, TurnIs, IsCounted, MovedIs, WritesSome, ReadsWait}
 use Rattle.relation_law.proofs.CallsMoved.{begins_is}
 
 -- ---- grants of other files

@@ -1,29 +1,27 @@
 -- How a call goes on with the drives: its begin, and the commands that are still to be sent.
 -- Towards `CallsGoOn` (`specs/Steps.antt`).
-use Rattle.std.proofs.Common.{◌≡◌, ◌⊎◌, ◌==◌, not, ℕ, ◌+◌, ◌/◌, ◌<◌, ◌≤◌, Bool, true, false, List, [], ◌∷◌, ◌++◌, map, length, Option, Some, None, refl, sym, ap, subst, ◌∙◌, inl, inr, arith, filter, if◌then◌else◌}
+use Rattle.std.proofs.Common.{◌≡◌, ◌⊎◌, ◌==◌, ℕ, ◌+◌, ◌/◌, ◌≤◌, Bool, true, false, List, [], ◌∷◌, ◌++◌, map, length, Option, Some, None, refl, sym, subst, inl, inr, arith, if◌then◌else◌}
 use Rattle.std.specs.Prelude.{nat_lt}
-use Rattle.std.proofs.lemmas.Bool.{true≢false, cases_Bool, cases_eq, eq-eqb, ne_eqb}
 use Rattle.std.proofs.lemmas.Bool.Decides.{nat_tests}
 use Rattle.data_map.specs.declared.check.RawMap.{RawMap}
-use Rattle.data_map.specs.Striping.{parities, replicas, group_width, positions}
+use Rattle.data_map.specs.Striping.{replicas}
 use Rattle.layout_ops.specs.declared.messages.Answer.{Answer}
-use Rattle.stripe_plan.specs.Lost.{among, positions_out}
 use Rattle.stripe_plan.specs.Plans.{stores}
 use Rattle.server_rules.specs.Laws.{In}
-use Rattle.client_rules.specs.Calls.{file_of, span_of, bytes_of, is_write}
+use Rattle.client_rules.specs.Calls.{span_of, bytes_of, is_write}
 use Rattle.client_rules.specs.Commands.{read_commands, write_commands, numbered, counted}
 use Rattle.client_rules.specs.Going.{begins}
 use Rattle.client_rules.specs.Grants.{clipped}
 use Rattle.client_rules.specs.Io.{outs}
 use Rattle.client_rules.specs.Laws.{Awaiting}
-use Rattle.client_rules.specs.Reads.{reads_on, reads_unless, reads, reads_due, probes_on, is_probe_lost, probes_sent, probes_by, probes_due, probes}
-use Rattle.client_rules.specs.Turns.{turned, ended}
+use Rattle.client_rules.specs.Reads.{reads_on, reads_unless, reads, reads_due, probes_on, probes_sent, probes_by, probes}
+use Rattle.client_rules.specs.Turns.{ended}
 use Rattle.client_rules.specs.Writes.{accounted, is_past_size, written, firsts, laters, scatters_on, scatters, gathers_on, gathers, gathers_due}
-use Rattle.world_history.specs.ClientNames.{CallOp, Held, Awaited, TimedOut, Store, Ask, Column, Span, Io, Need, Commit, Needs, Phase, Scatters, Reads, Probes, Gathers, Outcome, ReadOk, Lost, WriteOk, Turn, Goes, Ends, Forgets, Moved}
+use Rattle.world_history.specs.ClientNames.{CallOp, Held, Awaited, TimedOut, Store, Column, Span, Commit, Needs, ReadOk, Lost, Goes, Ends}
 use Rattle.fence_law.specs.State.{State}
 use Rattle.fence_law.specs.State.Commit.{NoCommit}
-use Rattle.file_simulation.specs.Calls.{IsReading, IsGathering, IsWriting, IsScattering, AreOut, Fits, IsIdle}
-use Rattle.relation_law.specs.CallsTurns.{PendsRead, PendsGather, PendsWrite, IsSending, IsStarting, PhasePends, IsWritten, OutcomeIs, TurnIs, IsCounted, MovedIs, WritesSome, ReadsWait, stores_of}
+use Rattle.file_simulation.specs.Calls.{IsReading, IsGathering, IsWriting, AreOut, Fits, IsIdle}
+use Rattle.relation_law.specs.CallsTurns.{PendsRead, PendsGather, IsSending, TurnIs, IsCounted, MovedIs, WritesSome, ReadsWait, stores_of}
 
 -- ---- the grant
 

@@ -1,6 +1,6 @@
 -- What the relation says of a client stays in each move of a drive, of another client, and of the server on another's request.
 -- Towards `CallsGoOn` (`specs/Steps.antt`).
-use Rattle.std.proofs.Common.{◌≡◌, ◌==◌, ℕ, ◌<◌, Bool, true, false, List, [], ◌∷◌, Option, Some, None, refl, sym, ap, subst, ◌∙◌}
+use Rattle.std.proofs.Common.{◌≡◌, ℕ, ◌<◌, List, [], ◌∷◌, Option, Some, None, refl, sym, ap, ◌∙◌}
 use Rattle.std.proofs.lemmas.Bool.{ne_eqb}
 use Rattle.layout_ops.specs.declared.messages.Answer.{Answer}
 use Rattle.data_map.specs.declared.check.RawMap.{RawMap}
@@ -9,10 +9,9 @@ use Rattle.scenario_text.specs.declared.line.Line.{Line}
 use Rattle.server_rules.specs.Slots.{slot_of}
 use Rattle.server_rules.specs.History.{Input, step as server_step}
 use Rattle.server_rules.proofs.SlotLaws.{other_slot}
-use Rattle.world_history.specs.ClientNames.{Client, Request}
+use Rattle.world_history.specs.ClientNames.{Client}
 use Rattle.world_history.specs.ServerNames.{Server, File, Slot, ClientRequest}
 use Rattle.world_history.specs.State.{World}
-use Rattle.world_history.specs.Moves.{acts}
 use Rattle.world_history.specs.Sending.{Move, move}
 use Rattle.history_law.specs.Doing.{input_in}
 use Rattle.move_law.specs.Answers.{ServerDid}
@@ -20,7 +19,7 @@ use Rattle.move_law.specs.Answers.ServerDid.{Quiet, Asked}
 use Rattle.move_law.proofs.Answers.{step_did}
 use Rattle.fence_law.specs.State.{State, Event}
 use Rattle.fence_law.specs.State.Event.{Asks, Grants, Refuses, Takes, AsksOther, ServesOther, TakesOther, GivesBack, Reports, Forgets, Frees, Fences, SetsTag, Fenced, Refenced, StartsWrite, Sends, Performs, Learns, Acknowledges, Breaks, StartsRead, Shows, Answers, EndsRead, Fails, Drops, Declares, Loses, Leaves, Tells, AsksCommit, Commits, RefusesCommit, TakesCommit, TakesRefusal, Repairs, Repaired, Rebuilds}
-use Rattle.fence_law.specs.Machine.{Allowed, Lawful, after, after_all}
+use Rattle.fence_law.specs.Machine.{Allowed, Lawful, after}
 use Rattle.fence_law.proofs.Safe.{Safe, keep_safe}
 use Rattle.file_simulation.specs.Requests.{kept_for}
 use Rattle.file_simulation.specs.Calls.{IsClient}
@@ -28,8 +27,8 @@ use Rattle.file_simulation.specs.Relation.{client_of}
 use Rattle.file_simulation.specs.ClientEvents.{Going, going_in}
 use Rattle.file_simulation.specs.ServerEvents.{asker}
 use Rattle.file_simulation.specs.Events.{joined, events_of}
-use Rattle.relation_law.specs.Steps.{Follows, FollowsWhole, AreCalls, whole_behind, owed}
-use Rattle.relation_law.specs.Frames.{AreAll, IsOfClient, IsOfServer, IsOfDrive, ByClient}
+use Rattle.relation_law.specs.Steps.{FollowsWhole, AreCalls, whole_behind, owed}
+use Rattle.relation_law.specs.Frames.{AreAll, IsOfClient, IsOfServer, IsOfDrive}
 use Rattle.relation_law.specs.CallsFrames.{IsSpared, IsBeside, AreBeside}
 use Rattle.relation_law.proofs.FramesStay.{all_joined}
 use Rattle.relation_law.proofs.FramesParties.{by_client_lines, by_server_lines, by_drive_lines, client_goes, clients_rest, client_beside, client_alone, server_alone, server_rests, server_steps}

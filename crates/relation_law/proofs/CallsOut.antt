@@ -1,20 +1,19 @@
 -- The WRITEs of a running write: one more is sent.
 -- Towards `CallsGoOn` (`specs/Steps.antt`).
-use Rattle.std.proofs.Common.{◌≡◌, ◌⊎◌, ◌==◌, not, ℕ, ◌+◌, ◌*◌, ◌<◌, ◌≤◌, Bool, true, false, List, [], ◌∷◌, ◌++◌, Option, Some, None, refl, sym, ap, subst, ◌∙◌, inl, inr, arith, filter, if◌then◌else◌}
-use Rattle.std.proofs.lemmas.Bool.{true≢false, eq-eqb, ne_eqb, cases_eq, eqb-true}
+use Rattle.std.proofs.Common.{◌≡◌, ◌⊎◌, ℕ, ◌+◌, Bool, true, false, List, [], ◌∷◌, ◌++◌, refl, sym, ap, ◌∙◌, inl, inr, filter, if◌then◌else◌}
+use Rattle.std.proofs.lemmas.Bool.{true≢false, cases_eq}
 use Rattle.server_rules.specs.Laws.{In}
 use Rattle.server_rules.proofs.Members.{in_either, in_front, in_behind, in_filtered}
-use Rattle.client_rules.specs.Commands.{others, not_of, is_of}
-use Rattle.client_rules.specs.Writes.{without_component}
-use Rattle.world_history.specs.ClientNames.{CallOp, Held, Awaited, TimedOut, Store, Io, Column}
+use Rattle.client_rules.specs.Commands.{others}
+use Rattle.world_history.specs.ClientNames.{CallOp, Awaited, TimedOut, Store, Column}
 use Rattle.fence_law.specs.Words.{updated}
-use Rattle.fence_law.specs.State.{State, Grant, Start, PartState}
+use Rattle.fence_law.specs.State.{State, Grant, PartState}
 use Rattle.fence_law.specs.State.Commit.{NoCommit}
 use Rattle.fence_law.specs.State.PartState.{NotSent, Sent, Done}
-use Rattle.fence_law.specs.State.Event.{Sends, Learns}
+use Rattle.fence_law.specs.State.Event.{Sends}
 use Rattle.fence_law.specs.Machine.{after}
-use Rattle.fence_law.proofs.Words.{updated_same, updated_other, updated_read}
-use Rattle.file_simulation.specs.Calls.{IsAwaited, IsQueued, IsTimedOut, IsOver, AreOut, PartsDiffer, CarriesContent, IsWriting, IsScattering}
+use Rattle.fence_law.proofs.Words.{updated_same, updated_other}
+use Rattle.file_simulation.specs.Calls.{IsAwaited, IsQueued, IsTimedOut, IsOver, PartsDiffer, IsWriting, IsScattering}
 
 -- ---- lists
 

@@ -1,17 +1,17 @@
 -- The queue of a running write: what goes out next is taken from it, and the rest stays.
 -- Towards `CallsGoOn` (`specs/Steps.antt`).
-use Rattle.std.proofs.Common.{◌≡◌, ◌⊎◌, ◌==◌, not, ℕ, ◌+◌, Bool, true, false, List, [], ◌∷◌, ◌++◌, map, Option, Some, None, refl, sym, ap, subst, ◌∙◌, inl, inr, filter, if◌then◌else◌}
-use Rattle.std.proofs.lemmas.Bool.{true≢false, cases_Bool, cases_eq, eq-eqb, ne_eqb, eqb-true}
+use Rattle.std.proofs.Common.{◌≡◌, ◌==◌, not, ℕ, ◌+◌, true, false, List, [], ◌∷◌, ◌++◌, refl, sym, ap, subst, ◌∙◌, inl, inr}
+use Rattle.std.proofs.lemmas.Bool.{true≢false, cases_Bool, cases_eq, eq-eqb, ne_eqb}
 use Rattle.server_rules.specs.Laws.{In}
 use Rattle.server_rules.proofs.Members.{in_either, in_front, in_behind, in_filtered}
 use Rattle.client_rules.specs.Commands.{write_commands, numbered, command, sealed, others, not_of, is_of}
 use Rattle.client_rules.specs.Writes.{next_to, without_next, without_component}
-use Rattle.world_history.specs.ClientNames.{CallOp, Held, Awaited, TimedOut, Store, Io}
+use Rattle.world_history.specs.ClientNames.{CallOp, Held, Awaited, Store, Io}
 use Rattle.fence_law.specs.State.{State}
-use Rattle.file_simulation.specs.Calls.{IsQueued, AreOut, PartsDiffer, IsScattering}
-use Rattle.relation_law.specs.CallsTurns.{store_of, stores_of, IsQueueBehind}
+use Rattle.file_simulation.specs.Calls.{PartsDiffer, IsScattering}
+use Rattle.relation_law.specs.CallsTurns.{stores_of, IsQueueBehind}
 use Rattle.relation_law.proofs.CallsMoved.{none_in}
-use Rattle.relation_law.proofs.CallsDone.{in_others, from_others}
+use Rattle.relation_law.proofs.CallsDone.{in_others}
 use Rattle.relation_law.proofs.CallsOut.{in_passed}
 
 -- ---- what commands carry

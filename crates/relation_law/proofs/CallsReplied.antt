@@ -1,36 +1,34 @@
 -- A reply comes to a running call, or a component times out: how the call goes on, behind the events of that line.
 -- Towards `CallsGoOn` (`specs/Steps.antt`).
-use Rattle.std.proofs.Common.{◌≡◌, ◌⊎◌, ◌==◌, not, ℕ, ◌+◌, ◌/◌, ◌<◌, ◌≤◌, Bool, true, false, List, [], ◌∷◌, ◌++◌, map, Option, Some, None, refl, sym, ap, subst, ◌∙◌, inl, inr, if◌then◌else◌}
-use Rattle.std.proofs.lemmas.Bool.{true≢false, cases_Bool, cases_eq, eqb-true}
+use Rattle.std.proofs.Common.{◌≡◌, ◌==◌, ℕ, ◌+◌, Bool, true, false, List, [], ◌∷◌, ◌++◌, Option, Some, None, refl, sym, ap, subst, ◌∙◌, inl, inr, if◌then◌else◌}
+use Rattle.std.proofs.lemmas.Bool.{cases_Bool, eqb-true}
 use Rattle.data_map.specs.declared.check.RawMap.{RawMap}
-use Rattle.data_map.specs.Striping.{replicas, group_width}
 use Rattle.layout_ops.specs.declared.messages.Answer.{Answer}
 use Rattle.osd_commands.specs.declared.replies.Reply.{Reply}
-use Rattle.stripe_plan.specs.Lost.{positions_out}
 use Rattle.server_rules.specs.Laws.{In}
 use Rattle.client_rules.specs.declared.limits.TheConstants.{PERFORMED, OTHER_TAG}
 use Rattle.client_rules.specs.Calls.{span_of}
-use Rattle.client_rules.specs.Commands.{others, not_of, of_component, is_of, before, read_commands, write_commands}
+use Rattle.client_rules.specs.Commands.{others, not_of, of_component, is_of, before, write_commands}
 use Rattle.std.specs.Prelude.{nat_lt}
 use Rattle.std.proofs.lemmas.List.{append-nil}
 use Rattle.server_rules.proofs.Members.{in_filtered}
 use Rattle.client_rules.specs.Grants.{clipped}
-use Rattle.client_rules.specs.Io.{outs, got_of, first_of, timed_with, awaited_in}
+use Rattle.client_rules.specs.Io.{got_of, first_of, timed_with, awaited_in}
 use Rattle.client_rules.specs.Laws.{Awaiting}
-use Rattle.client_rules.specs.Reads.{reads_on, reads_unless, reads_due, reads, probes_on, probes_sent, is_probe_lost, probes_by, probes}
+use Rattle.client_rules.specs.Reads.{reads_on, reads_unless, reads, probes_on, probes_sent, probes_by, probes}
 use Rattle.client_rules.specs.Replies.{refusal, refused_report, refused, performed, replied, gather_timed, scatter_timed, timed_out, timed_after}
 use Rattle.client_rules.specs.Requests.{report_of}
 use Rattle.client_rules.specs.Turns.{turned, ended, closing}
-use Rattle.client_rules.specs.Writes.{scatters_on, scatters_next, next_to, without_next, without_component, is_too_short, gathers_on, gathers, gathers_due, scatters, accounted, written, is_past_size}
-use Rattle.world_history.specs.ClientNames.{CallOp, Held, Awaited, TimedOut, IoErr, Store, Column, Span, Io, Need, Close, Phase, Needs, Reads, Probes, Gathers, Scatters, Outcome, Lost, Silent, ReadOk, Turn, Goes, Ends, Forgets, Moved}
-use Rattle.fence_law.specs.State.{State, Event}
+use Rattle.client_rules.specs.Writes.{scatters_on, scatters_next, next_to, without_next, without_component, is_too_short, gathers_on, gathers, scatters, accounted, written, is_past_size}
+use Rattle.world_history.specs.ClientNames.{CallOp, Held, Awaited, TimedOut, IoErr, Store, Column, Span, Io, Phase, Reads, Probes, Gathers, Scatters, Lost, Silent, Forgets, Moved}
+use Rattle.fence_law.specs.State.{State}
 use Rattle.fence_law.specs.State.{Event as event}
 use Rattle.fence_law.specs.State.Commit.{NoCommit}
 use Rattle.fence_law.specs.Machine.{after, after_all}
 use Rattle.file_simulation.specs.EventLists.{where_so, entry_of}
 use Rattle.file_simulation.specs.ClientEvents as table
-use Rattle.file_simulation.specs.Calls.{IsReading, IsGathering, IsWriting, IsScattering, IsIdle, IsBroken, IsTimedOut, CallIs}
-use Rattle.relation_law.specs.CallsTurns.{PendsRead, PendsGather, IsSending, MovedIs, TurnIs, WritesSome, IsQueueBehind, IsWorking, ReplyFits, TimeFits, stores_of}
+use Rattle.file_simulation.specs.Calls.{IsReading, IsGathering, IsScattering, IsTimedOut, CallIs}
+use Rattle.relation_law.specs.CallsTurns.{IsSending, MovedIs, WritesSome, IsQueueBehind, IsWorking, ReplyFits, TimeFits, stores_of}
 use Rattle.relation_law.proofs.CallsFirst.{ends_idle, breaks_broken, forgets_idle, forgets_none}
 use Rattle.relation_law.proofs.CallsMoved.{counted_same, counted_is, none_front, none_behind, reads_on_is, probes_on_is, gathers_on_is, scatters_on_is, scatters_begin, first_sent}
 use Rattle.relation_law.proofs.CallsDone.{write_performed, write_timed}

@@ -1,33 +1,31 @@
 -- An answer to a LAYOUTCOMMIT of the file, or to a report that may be taken as a loss.
 -- Towards `CallsGoOn` (`specs/Steps.antt`).
-use Rattle.std.proofs.Common.{◌≡◌, ◌≢◌, ◌⊎◌, ◌==◌, ◌&&◌, not, ℕ, ◌+◌, ◌*◌, ◌<◌, Bool, true, false, List, [], ◌∷◌, Option, Some, None, refl, sym, ap, subst, ◌∙◌, inl, inr, if◌then◌else◌}
-use Rattle.std.proofs.lemmas.Bool.{true≢false, cases_Bool, eqb-true, eq-eqb, ne_eqb}
+use Rattle.std.proofs.Common.{◌≡◌, ◌≢◌, ◌⊎◌, ◌==◌, ◌&&◌, not, ℕ, Bool, true, false, List, Option, Some, None, refl, sym, ap, subst, ◌∙◌, inl, inr}
+use Rattle.std.proofs.lemmas.Bool.{true≢false, eqb-true, eq-eqb}
 use Rattle.data_map.specs.declared.check.RawMap.{RawMap}
 use Rattle.layout_ops.specs.declared.messages.Answer.{Answer}
 use Rattle.layout_ops.specs.declared.statuses.TheConstants.{NFS4_OK, NFS4ERR_BADLAYOUT}
-use Rattle.client_rules.specs.declared.limits.TheConstants.{NONCES}
-use Rattle.client_rules.specs.Answers.{committed, not_committed, on_commit, on_report, is_loss_taken}
-use Rattle.client_rules.specs.Calls.{file_of, span_of}
-use Rattle.client_rules.specs.Going.{quiet, over, moved, by_turn}
+use Rattle.client_rules.specs.Answers.{not_committed, on_commit, on_report, is_loss_taken}
+use Rattle.client_rules.specs.Calls.{file_of}
+use Rattle.client_rules.specs.Going.{quiet, over, moved}
 use Rattle.client_rules.specs.Grants.{held_of, put_held, without_held}
-use Rattle.client_rules.specs.Messages.{commit_under, on_need}
+use Rattle.client_rules.specs.Messages.{on_need}
 use Rattle.client_rules.specs.Results.{status_of}
 use Rattle.client_rules.specs.Turns.{turned}
-use Rattle.client_rules.specs.Writes.{accounted, lowest}
+use Rattle.client_rules.specs.Writes.{accounted}
 use Rattle.client_rules.proofs.ReadSteps.{held_file}
 use Rattle.exchange_law.proofs.ClientKeeping.{none_left}
-use Rattle.world_history.specs.ClientNames.{Client, Call, CallOp, Held, TimedOut, Need, Commit, Report, Phase, Waits, Outcome, Status, Silent, Turn, Goes, Ends, Forgets, Moved}
-use Rattle.fence_law.specs.Words.{In as InRun}
-use Rattle.fence_law.specs.State.{State, Grant}
+use Rattle.world_history.specs.ClientNames.{Client, CallOp, Held, TimedOut, Commit, Report, Waits, Outcome, Status, Forgets}
+use Rattle.fence_law.specs.State.{State}
 use Rattle.fence_law.specs.State.{Event as event}
 use Rattle.fence_law.specs.Machine.{after, after_all}
 use Rattle.fence_law.proofs.Commands.{Calls}
 use Rattle.file_simulation.specs.EventLists.{entry_of}
 use Rattle.file_simulation.specs.ClientEvents.{commit_answered, report_answered}
-use Rattle.file_simulation.specs.Calls.{IsIdle, IsClient, IsHolding, HoldsNone, HeldIs, IsWriting, WaitsCommit, IsReporting, IsTaken, ReportIs, reports_on, waits_report, is_taken}
-use Rattle.relation_law.specs.CallsTurns.{OutcomeIs, PendsAt, IsMid, MovedIs, TurnIs}
+use Rattle.file_simulation.specs.Calls.{IsIdle, IsClient, IsHolding, HoldsNone, HeldIs, WaitsCommit, ReportIs, reports_on, waits_report, is_taken}
+use Rattle.relation_law.specs.CallsTurns.{OutcomeIs, IsMid}
 use Rattle.relation_law.proofs.CallsFrames.{spares}
-use Rattle.relation_law.proofs.CallsSpared.{carried, held_spared, waits_commit_spared, reporting_spared, taken_spared}
+use Rattle.relation_law.proofs.CallsSpared.{carried, waits_commit_spared, taken_spared}
 use Rattle.relation_law.proofs.CallsGuards.{entry_writes}
 use Rattle.relation_law.proofs.CallsFirst.{commit_taken, commit_out, commit_fits, commit_holding, refusal_idle, refusal_none, forgets_idle, forgets_none}
 use Rattle.relation_law.proofs.CallsMoved.{counted_same, account}

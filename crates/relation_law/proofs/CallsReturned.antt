@@ -1,7 +1,7 @@
 -- An answer to a return of the file, or to a LAYOUTGET: the machine's client takes what comes.
 -- Towards `CallsGoOn` (`specs/Steps.antt`).
-use Rattle.std.proofs.Common.{◌≡◌, ◌≢◌, ◌⊎◌, ◌==◌, ◌&&◌, not, ℕ, ◌+◌, ◌*◌, ◌<◌, Bool, true, false, List, [], ◌∷◌, Option, Some, None, Result, Ok, Err, refl, sym, ap, subst, ◌∙◌, inl, inr, if◌then◌else◌}
-use Rattle.std.proofs.lemmas.Bool.{true≢false, cases_Bool, eqb-true, eq-eqb}
+use Rattle.std.proofs.Common.{◌≡◌, ◌≢◌, ◌==◌, ℕ, ◌*◌, ◌<◌, Bool, true, false, [], ◌∷◌, Option, Some, None, Result, Ok, Err, refl, sym, ap, subst, ◌∙◌, inl, inr}
+use Rattle.std.proofs.lemmas.Bool.{true≢false, cases_Bool, eqb-true}
 use Rattle.data_map.specs.declared.check.RawMap.{RawMap}
 use Rattle.layout_ops.specs.declared.messages.Answer.{Answer}
 use Rattle.layout_ops.specs.declared.results.LayoutGetOk.{LayoutGetOk}
@@ -12,13 +12,11 @@ use Rattle.client_rules.specs.Calls.{file_of}
 use Rattle.client_rules.specs.Going.{quiet, phased, over, by_turn, with_held}
 use Rattle.client_rules.specs.Grants.{held_of, put_held}
 use Rattle.client_rules.specs.Layouts.{in_layouts, taken}
-use Rattle.client_rules.specs.Messages.{answered_get, on_get, on_need, on_phase, on_call}
+use Rattle.client_rules.specs.Messages.{answered_get, on_get}
 use Rattle.client_rules.specs.Results.{layouts_in, status_of}
 use Rattle.client_rules.proofs.ReadSteps.{put_at}
 use Rattle.party_law.proofs.Answering.{taken_size}
-use Rattle.world_history.specs.ClientNames.{Client, Call, CallOp, Held, Why, Unreadable, BadLayout, Need, First, Get, Commit, Report, Close, Phase, Starts, Needs, Waits, Reads, Probes, Gathers, Scatters, Outcome, Turn, Goes, Ends, Forgets}
-use Rattle.world_history.specs.Handed.{pending_op}
-use Rattle.fence_law.specs.Words.{In as InRun}
+use Rattle.world_history.specs.ClientNames.{Client, Call, CallOp, Held, Why, BadLayout, Need, First, Get, Commit, Report, Close, Phase, Starts, Needs, Waits, Reads, Probes, Gathers, Scatters, Outcome, Turn, Goes, Ends, Forgets}
 use Rattle.fence_law.specs.State.{State, Grant}
 use Rattle.fence_law.specs.State.{Event as event}
 use Rattle.fence_law.specs.State.Call.{Idle}
@@ -28,9 +26,9 @@ use Rattle.fence_law.proofs.Holds.{Holds}
 use Rattle.fence_law.proofs.Commands.{Calls}
 use Rattle.file_simulation.specs.ClientEvents.{grant_with}
 use Rattle.file_simulation.specs.Grants.{LayoutIs}
-use Rattle.file_simulation.specs.Requests.{Gives, GivesIn}
-use Rattle.file_simulation.specs.Calls.{IsIdle, IsClient, CallIs, CallOn, CallAt, IsHolding, HoldsNone, HeldIs, NeedIs, reports_on, is_taken}
-use Rattle.relation_law.specs.CallsTurns.{OutcomeIs, PhaseOn, PendsAt, IsMid, NeedHas}
+use Rattle.file_simulation.specs.Requests.{GivesIn}
+use Rattle.file_simulation.specs.Calls.{IsIdle, IsClient, CallIs, CallOn, CallAt, IsHolding, HeldIs, reports_on}
+use Rattle.relation_law.specs.CallsTurns.{OutcomeIs, IsMid, NeedHas}
 use Rattle.relation_law.proofs.CallsFirst.{takes_idle, takes_none, takes_holding}
 use Rattle.relation_law.proofs.CallsMid.{IsReady}
 use Rattle.relation_law.proofs.CallsAnswered.{IsUnasked, answered_client, unasked_plain, over_now, phased_now, IsBusyTurn, not_granted_is}

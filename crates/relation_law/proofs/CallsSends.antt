@@ -1,29 +1,26 @@
 -- The messages of a client's turn: what their events make of what the machine has of the client.
 -- Towards `CallsGoOn` (`specs/Steps.antt`).
-use Rattle.std.proofs.Common.{◌≡◌, ◌⊎◌, ◌==◌, ◌&&◌, not, ℕ, suc, ◌+◌, ◌*◌, ◌<◌, ◌≤◌, Bool, true, false, List, [], ◌∷◌, ◌++◌, map, Option, Some, None, refl, sym, ap, subst, ◌∙◌, inl, inr, arith, add-one, if◌then◌else◌}
-use Rattle.std.proofs.lemmas.Bool.{true≢false, eq-eqb, cases_eq}
+use Rattle.std.proofs.Common.{◌≡◌, ◌⊎◌, ℕ, ◌+◌, Bool, true, false, List, [], Option, Some, None, refl, sym, ap, subst, ◌∙◌, inl, inr, arith, add-one}
+use Rattle.std.proofs.lemmas.Bool.{eq-eqb}
 use Rattle.std.proofs.lemmas.Option.{same_Some}
 use Rattle.data_map.specs.declared.check.RawMap.{RawMap}
 use Rattle.file_log.specs.Judge.{byte_for}
 use Rattle.server_rules.specs.Laws.{In}
-use Rattle.server_rules.proofs.Members.{in_either}
-use Rattle.client_rules.specs.declared.limits.TheConstants.{NONCES}
 use Rattle.client_rules.specs.Calls.{span_of, bytes_of}
-use Rattle.world_history.specs.ClientNames.{CallOp, Held, Awaited, TimedOut, Store, Io, Column}
-use Rattle.fence_law.specs.Words.{updated, In as InRun}
+use Rattle.world_history.specs.ClientNames.{CallOp, TimedOut, Store, Column}
+use Rattle.fence_law.specs.Words.{updated}
 use Rattle.fence_law.specs.State.{State, Grant, Start, PartState}
-use Rattle.fence_law.specs.State.Call.{Idle, Broken, Writes as AtWrite, Reads as AtRead}
-use Rattle.fence_law.specs.State.Commit.{NoCommit, CommitAsked, CommitDone, CommitRefused}
-use Rattle.fence_law.specs.State.PartState.{NotSent, Sent, Done}
-use Rattle.fence_law.specs.State.Event.{Asks, AsksOther, GivesBack, Reports, StartsWrite, Sends, StartsRead, AsksCommit}
-use Rattle.fence_law.specs.Columns.{only, payload}
+use Rattle.fence_law.specs.State.Call.{Idle, Writes as AtWrite, Reads as AtRead}
+use Rattle.fence_law.specs.State.Commit.{NoCommit, CommitAsked}
+use Rattle.fence_law.specs.State.PartState.{NotSent}
+use Rattle.fence_law.specs.State.Event.{Asks, AsksOther, GivesBack, Reports, StartsWrite, StartsRead, AsksCommit}
 use Rattle.fence_law.specs.Starts.{written_start, read_start}
 use Rattle.fence_law.specs.Machine.{after}
-use Rattle.fence_law.proofs.Words.{updated_same, updated_other, updated_read}
+use Rattle.fence_law.proofs.Words.{updated_same}
 use Rattle.plan_law.specs.Writes.{touches_column}
-use Rattle.file_simulation.specs.EventLists.{write_of, last_write}
-use Rattle.file_simulation.specs.Calls.{IsOfGrant, IsRunning, IsReading, IsGathering, IsWriteOf, IsAwaited, IsQueued, IsTimedOut, IsOver, AreOut, PartsDiffer, CarriesContent, IsWriting, IsScattering, IsIdle, IsBroken, IsHolding}
-use Rattle.relation_law.specs.CallsFrames.{IsSpared, IsCarried}
+use Rattle.file_simulation.specs.EventLists.{last_write}
+use Rattle.file_simulation.specs.Calls.{IsOfGrant, IsRunning, IsReading, IsGathering, IsQueued, IsTimedOut, AreOut, PartsDiffer, CarriesContent, IsWriting, IsScattering, IsIdle, IsBroken}
+use Rattle.relation_law.specs.CallsFrames.{IsCarried}
 
 -- ---- requests
 

@@ -1,21 +1,21 @@
 -- A request of a client is carried out: what the server's events make of what the machine has of the client.
 -- Towards `CallsGoOn` (`specs/Steps.antt`).
-use Rattle.std.proofs.Common.{◌≡◌, ◌⊎◌, ℕ, ◌+◌, ◌*◌, ◌<◌, ◌≤◌, max, Bool, true, false, List, [], ◌∷◌, Option, Some, None, refl, sym, ap, subst, ◌∙◌, inl, inr, arith}
+use Rattle.std.proofs.Common.{◌≡◌, ℕ, ◌*◌, ◌<◌, ◌≤◌, max, Bool, true, List, Some, None, refl, sym, ap, subst, ◌∙◌, inl, inr, arith}
 use Rattle.std.proofs.lemmas.Bool.{eq-eqb, ne_eqb}
 use Rattle.layout_ops.specs.declared.statuses.TheConstants.{NFS4_OK}
 use Rattle.layout_ops.specs.declared.messages.Answer.{Answer as ServerAnswer}
 use Rattle.client_rules.specs.declared.limits.TheConstants.{NONCES}
 use Rattle.client_rules.specs.Results.{status_of}
 use Rattle.world_history.specs.ClientNames.{CallOp, TimedOut}
-use Rattle.fence_law.specs.Words.{updated, In as InRun}
-use Rattle.fence_law.specs.State.{State, Grant, Start, Answer}
+use Rattle.fence_law.specs.Words.{In as InRun}
+use Rattle.fence_law.specs.State.{State, Grant, Answer}
 use Rattle.fence_law.specs.State.Call.{Idle}
-use Rattle.fence_law.specs.State.Commit.{NoCommit, CommitAsked, CommitDone, CommitRefused}
+use Rattle.fence_law.specs.State.Commit.{CommitDone, CommitRefused}
 use Rattle.fence_law.specs.State.Event.{Grants, Acknowledges, Leaves, Commits, RefusesCommit}
 use Rattle.fence_law.specs.Starts.{granted}
-use Rattle.fence_law.specs.Machine.{Allowed, after}
+use Rattle.fence_law.specs.Machine.{after}
 use Rattle.fence_law.proofs.Words.{updated_same}
-use Rattle.file_simulation.specs.Calls.{IsRunning, IsWriteOf, AreOut, IsWriting, WaitsCommit, CommittedAs, IsReporting, IsTaken, commit_at}
+use Rattle.file_simulation.specs.Calls.{WaitsCommit, IsReporting, IsTaken}
 use Rattle.relation_law.specs.CallsFrames.{IsCarried}
 
 -- ---- a grant

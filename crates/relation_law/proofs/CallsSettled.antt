@@ -1,7 +1,6 @@
 -- The end of a client's turn that asks nothing of the server: behind its commands the machine has of the client what it has.
 -- Towards `CallsGoOn` (`specs/Steps.antt`).
-use Rattle.std.proofs.Common.{◌≡◌, ◌⊎◌, ◌==◌, ◌&&◌, not, ℕ, ◌+◌, ◌*◌, ◌<◌, ◌≤◌, Bool, true, false, List, [], ◌∷◌, ◌++◌, map, Option, Some, None, refl, sym, ap, subst, ◌∙◌, inl, inr, arith, if◌then◌else◌}
-use Rattle.std.proofs.lemmas.Bool.{true≢false, cases_Bool, eqb-true}
+use Rattle.std.proofs.Common.{◌≡◌, ◌==◌, ℕ, ◌+◌, ◌*◌, ◌<◌, ◌≤◌, Bool, true, false, List, [], ◌++◌, map, Option, Some, None, refl, sym, ap, subst, ◌∙◌, arith}
 use Rattle.data_map.specs.declared.check.RawMap.{RawMap}
 use Rattle.layout_ops.specs.declared.messages.Answer.{Answer}
 use Rattle.osd_commands.specs.declared.commands.Command.{Command}
@@ -9,12 +8,11 @@ use Rattle.client_rules.specs.declared.limits.TheConstants.{NONCES}
 use Rattle.client_rules.specs.Calls.{file_of, is_write}
 use Rattle.client_rules.specs.Grants.{held_of}
 use Rattle.client_rules.specs.Messages.{to_drive, sends_of}
-use Rattle.world_history.specs.ClientNames.{Client, Call, CallOp, Held, Awaited, Store, Io, Phase, Starts, Needs, Waits, Reads, Probes, Gathers, Scatters, Outcome, Done, Outgoing, Asks, AnswersRecall}
+use Rattle.world_history.specs.ClientNames.{Client, Call, CallOp, Held, Awaited, Phase, Starts, Needs, Waits, Reads, Probes, Gathers, Scatters, Done, Outgoing, Asks, AnswersRecall}
 use Rattle.fence_law.specs.State.{State, Grant}
 use Rattle.fence_law.proofs.Holds.{Holds}
-use Rattle.file_simulation.specs.EventLists.{where_so}
 use Rattle.file_simulation.specs.ClientEvents as table
-use Rattle.file_simulation.specs.Calls.{IsReading, IsGathering, IsScattering, IsIdle, CallIs, CallOn, CallAt, IsHolding, HeldIs, IsClient}
+use Rattle.file_simulation.specs.Calls.{IsIdle, CallIs, CallAt, IsHolding, HeldIs, IsClient}
 use Rattle.relation_law.specs.CallsTurns.{PhasePends, PhaseOn, EndIs, PendsAt, IsMid, IsStarting}
 use Rattle.relation_law.proofs.CallsEnded.{IsUnmoved, fresh_unmoved}
 use Rattle.relation_law.proofs.CallsMid.{held_as}

@@ -1,18 +1,16 @@
 -- What the relation says of a client stays, if the machine keeps what it has of the client.
 -- Towards `CallsGoOn` (`specs/Steps.antt`).
-use Rattle.std.proofs.Common.{◌≡◌, ◌⊎◌, ℕ, ◌+◌, ◌*◌, ◌<◌, ◌≤◌, ◌==◌, ◌&&◌, not, Bool, true, false, List, [], ◌∷◌, Option, Some, None, length, refl, sym, ap, subst, ◌∙◌, inl, inr, arith}
+use Rattle.std.proofs.Common.{◌≡◌, ℕ, ◌*◌, ◌<◌, ◌≤◌, ◌==◌, ◌&&◌, not, Bool, true, false, List, [], ◌∷◌, Option, Some, None, sym, ap, subst, ◌∙◌, inl, inr, arith}
 use Rattle.data_map.specs.declared.check.RawMap.{RawMap}
 use Rattle.layout_ops.specs.declared.messages.Answer.{Answer}
 use Rattle.client_rules.specs.declared.limits.TheConstants.{NONCES}
 use Rattle.client_rules.specs.Calls.{file_of}
 use Rattle.client_rules.specs.Grants.{held_of}
-use Rattle.client_rules.specs.Results.{status_of}
 use Rattle.world_history.specs.ClientNames.{Client, Call, CallOp, Held, Request, Awaited, TimedOut, Store, Io, Need, First, Get, Commit, Report, Close, Phase, Starts, Needs, Waits, Reads, Probes, Gathers, Scatters}
 use Rattle.fence_law.specs.Words.{In as InRun}
 use Rattle.fence_law.specs.State.{State, Grant, Start, PartState}
 use Rattle.fence_law.specs.State as machine
-use Rattle.file_simulation.specs.EventLists.{write_of}
-use Rattle.file_simulation.specs.Calls.{IsOfGrant, IsRunning, IsReading, IsGathering, IsWriteOf, IsOver, AreOut, CarriesContent, IsWriting, IsScattering, Fits, NeedsCommit, CommittedAs, WaitsCommit, IsReporting, IsTaken, ReportIs, IsIdle, IsBroken, NeedIs, WaitIs, CallIs, CallOn, CallAt, IsHolding, HoldsReported, HoldsNone, HeldIs, IsClient, commit_at, is_taken, reports_on}
+use Rattle.file_simulation.specs.Calls.{IsOfGrant, IsRunning, IsReading, IsGathering, IsWriteOf, IsOver, AreOut, CarriesContent, IsWriting, IsScattering, Fits, NeedsCommit, CommittedAs, WaitsCommit, IsReporting, IsTaken, ReportIs, IsIdle, IsBroken, NeedIs, WaitIs, CallIs, CallOn, CallAt, HoldsNone, HeldIs, IsClient, is_taken, reports_on}
 use Rattle.relation_law.specs.CallsFrames.{IsSpared, IsCarried}
 
 module _ (s t : State) (c : ℕ) (k : IsCarried s t c) where

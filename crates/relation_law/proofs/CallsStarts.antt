@@ -1,6 +1,6 @@
 -- A write starts: the machine behind the first WRITEs of a call.
 -- Towards `CallsGoOn` (`specs/Steps.antt`).
-use Rattle.std.proofs.Common.{◌≡◌, ◌⊎◌, ◌==◌, ◌&&◌, not, ℕ, ◌+◌, ◌*◌, ◌<◌, ◌≤◌, Bool, true, false, List, [], ◌∷◌, ◌++◌, map, Option, Some, None, refl, sym, ap, subst, ◌∙◌, inl, inr, arith, if◌then◌else◌}
+use Rattle.std.proofs.Common.{◌≡◌, ◌⊎◌, ◌==◌, ℕ, ◌+◌, ◌*◌, ◌≤◌, true, List, [], ◌∷◌, ◌++◌, map, Some, refl, sym, ap, ◌∙◌, inl, inr, if◌then◌else◌}
 use Rattle.data_map.specs.declared.check.RawMap.{RawMap}
 use Rattle.file_log.specs.Judge.{byte_for}
 use Rattle.client_rules.specs.declared.limits.TheConstants.{NONCES}
@@ -8,11 +8,11 @@ use Rattle.client_rules.specs.Calls.{file_of, span_of, bytes_of}
 use Rattle.client_rules.specs.Grants.{held_of}
 use Rattle.client_rules.specs.Laws.{Awaiting}
 use Rattle.client_rules.specs.Messages.{to_drive}
-use Rattle.world_history.specs.ClientNames.{Client, Call, CallOp, Held, Awaited, TimedOut, Store, Io}
-use Rattle.fence_law.specs.State.{State, Grant, Event, Start}
+use Rattle.world_history.specs.ClientNames.{Client, Call, CallOp, Held, Awaited, Store, Io}
+use Rattle.fence_law.specs.State.{State, Grant, Start}
 use Rattle.fence_law.specs.State as machine
 use Rattle.fence_law.specs.State.{Event as event}
-use Rattle.fence_law.specs.State.Call.{Idle, Writes as AtWrite, Reads as AtRead}
+use Rattle.fence_law.specs.State.Call.{Idle, Reads as AtRead}
 use Rattle.fence_law.specs.Machine.{after, after_all}
 use Rattle.fence_law.specs.Starts.{written_start}
 use Rattle.fence_law.specs.Law.{byte_before}
@@ -22,7 +22,7 @@ use Rattle.file_simulation.specs.ClientEvents as table
 use Rattle.file_simulation.specs.Calls.{IsGathering, IsScattering, IsIdle}
 use Rattle.relation_law.specs.CallsTurns.{PendsWrite, IsSending, IsStarting, stores_of}
 use Rattle.relation_law.proofs.CallsSends.{IsPlanned, gather_starts, write_starts}
-use Rattle.relation_law.proofs.CallsTells.{told, told_by, CommandsFit, CommandFits, IsBeyond, write_command, one_sent, all_sent, beyond_more}
+use Rattle.relation_law.proofs.CallsTells.{told, told_by, CommandsFit, IsBeyond, write_command, one_sent, all_sent, beyond_more}
 
 -- the entry of the call's write, behind the gather that its client is at
 abbrev pub entry_started : State → (c : ℕ) → Held → CallOp → Grant → Start

@@ -1,6 +1,6 @@
 -- The grant that a client takes from an answer is one on its call's file.
 -- Towards `CallsGoOn` (`specs/Steps.antt`).
-use Rattle.std.proofs.Common.{◌≡◌, ◌||◌, ◌&&◌, ℕ, List, [], ◌∷◌, Option, Some, None, Result, Ok, Err, refl, sym, ap}
+use Rattle.std.proofs.Common.{◌≡◌, ℕ, List, [], ◌∷◌, Option, Some, None, Result, Ok, Err, sym, ap}
 use Rattle.layout_types.specs.declared.err.LayoutErr.{LayoutErr}
 use Rattle.layout_types.specs.declared.layout.Layout.{Layout}
 use Rattle.layout_types.specs.Grammar.{whole}

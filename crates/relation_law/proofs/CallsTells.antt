@@ -1,37 +1,32 @@
 -- What a client's turn sends: the machine behind the events of its messages.
 -- Towards `CallsGoOn` (`specs/Steps.antt`).
-use Rattle.std.proofs.Common.{◌≡◌, ◌⊎◌, ◌==◌, ◌&&◌, not, ℕ, ◌+◌, ◌*◌, ◌<◌, ◌≤◌, Bool, true, false, List, [], ◌∷◌, ◌++◌, map, Option, Some, None, append_assoc, refl, sym, ap, subst, ◌∙◌, inl, inr, arith, if◌then◌else◌}
-use Rattle.std.proofs.lemmas.Bool.{true≢false, cases_Bool}
+use Rattle.std.proofs.Common.{◌≡◌, ◌==◌, ℕ, ◌+◌, ◌*◌, ◌≤◌, Bool, true, false, List, [], ◌∷◌, ◌++◌, map, Option, Some, append_assoc, refl, sym, ap, subst, ◌∙◌, inl, inr, if◌then◌else◌}
+use Rattle.std.proofs.lemmas.Bool.{true≢false}
 use Rattle.std.proofs.lemmas.List.{append-nil}
 use Rattle.fence_law.proofs.Words.{updated_same}
 use Rattle.data_map.specs.declared.check.RawMap.{RawMap}
 use Rattle.osd_drive.specs.Table.{is_write as is_write_action}
 use Rattle.osd_commands.specs.declared.commands.Command.{Command}
-use Rattle.server_rules.specs.Laws.{In}
-use Rattle.file_log.specs.Judge.{byte_for}
 use Rattle.client_rules.specs.declared.limits.TheConstants.{NONCES}
-use Rattle.client_rules.specs.Calls.{file_of, span_of, bytes_of, is_write}
+use Rattle.client_rules.specs.Calls.{file_of, span_of, is_write}
 use Rattle.client_rules.specs.Grants.{held_of, clipped}
-use Rattle.client_rules.specs.Laws.{Awaiting}
 use Rattle.client_rules.specs.Messages.{to_drive}
 use Rattle.client_rules.specs.Steps.{awaited_component}
-use Rattle.world_history.specs.ClientNames.{Client, Call, CallOp, Held, Awaited, TimedOut, Store, Io, Column, RecallAnswer, Outgoing, AnswersRecall, Asks, ToDrive}
+use Rattle.world_history.specs.ClientNames.{Client, Call, Held, Awaited, Store, Io, RecallAnswer, Outgoing, AnswersRecall}
 use Rattle.fence_law.specs.State.{State, Grant, Event}
 use Rattle.fence_law.specs.State as machine
 use Rattle.fence_law.specs.State.{Event as event}
 use Rattle.fence_law.specs.State.Call.{Idle, Writes as AtWrite, Reads as AtRead}
 use Rattle.fence_law.specs.Machine.{after, after_all}
-use Rattle.fence_law.specs.Starts.{written_start}
-use Rattle.fence_law.specs.Law.{byte_before}
-use Rattle.plan_law.specs.Writes.{touches_column, hits_cell, part_of}
-use Rattle.file_simulation.specs.EventLists.{where_so, of_grant, entry_of, is_idle, is_writing}
+use Rattle.plan_law.specs.Writes.{touches_column}
+use Rattle.file_simulation.specs.EventLists.{where_so, entry_of, is_idle, is_writing}
 use Rattle.file_simulation.specs.Events.{joined}
 use Rattle.file_simulation.specs.ClientEvents as table
-use Rattle.file_simulation.specs.Calls.{IsReading, IsGathering, IsScattering, IsIdle}
-use Rattle.relation_law.specs.CallsTurns.{PendsRead, PendsGather, PendsWrite, IsSending, IsStarting, store_of, stores_of}
+use Rattle.file_simulation.specs.Calls.{IsReading, IsGathering, IsScattering}
+use Rattle.relation_law.specs.CallsTurns.{PendsRead, PendsGather, IsSending, store_of, stores_of}
 use Rattle.relation_law.proofs.FramesGrow.{after_more}
 use Rattle.relation_law.proofs.CallsEnded.{IsUnmoved}
-use Rattle.relation_law.proofs.CallsSends.{IsPlanned, read_starts, gather_starts, write_starts}
+use Rattle.relation_law.proofs.CallsSends.{read_starts, gather_starts}
 use Rattle.relation_law.proofs.CallsOut.{write_sent}
 
 -- ---- messages, one behind the other

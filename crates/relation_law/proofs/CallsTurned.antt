@@ -1,31 +1,28 @@
 -- The end of a client's turn: a request may go out, and behind all its messages the machine has of the client what it has.
 -- Towards `CallsGoOn` (`specs/Steps.antt`).
-use Rattle.std.proofs.Common.{◌≡◌, ◌≢◌, ◌⊎◌, ◌==◌, ◌&&◌, not, ℕ, ◌+◌, ◌*◌, ◌^◌, ◌<◌, ◌≤◌, Bool, true, false, List, [], ◌∷◌, ◌++◌, map, find, Option, Some, None, refl, sym, ap, subst, ◌∙◌, inl, inr, if◌then◌else◌}
+use Rattle.std.proofs.Common.{◌≡◌, ◌≢◌, ◌==◌, ℕ, ◌+◌, ◌^◌, ◌<◌, Bool, true, false, List, [], ◌∷◌, ◌++◌, map, Option, Some, None, refl, sym, ap, subst, ◌∙◌}
 use Rattle.std.proofs.lemmas.Bool.{true≢false, eqb-true, eq-eqb}
 use Rattle.data_map.specs.declared.check.RawMap.{RawMap}
 use Rattle.layout_ops.specs.declared.args.Args.{Args}
 use Rattle.layout_ops.specs.declared.args.Args.TheVariants as args
-use Rattle.layout_ops.specs.declared.messages.Answer.{Answer}
-use Rattle.osd_commands.specs.declared.commands.Command.{Command}
-use Rattle.client_rules.specs.declared.limits.TheConstants.{NONCES}
 use Rattle.client_rules.specs.Calls.{file_of}
-use Rattle.client_rules.specs.Going.{after_number, asks_server, asks_under, due_behind, held_after, is_held, phased, progressed, request_of, requests, returns}
+use Rattle.client_rules.specs.Going.{after_number, asks_server, asks_under, due_behind, held_after, progressed, request_of, requests, returns}
 use Rattle.client_rules.specs.Grants.{held_of, without_held}
 use Rattle.client_rules.specs.Messages.{to_drive, sends_of}
 use Rattle.client_rules.specs.Requests.{return_args}
 use Rattle.exchange_law.proofs.ClientKeeping.{none_left}
 use Rattle.move_law.proofs.Turns.{each_progress}
 use Rattle.world_history.specs.ServerNames.{Slot}
-use Rattle.world_history.specs.ClientNames.{Client, Call, CallOp, Held, Due, Request, Awaited, RecallAnswer, Need, Phase, Needs, Waits, Done, Outgoing, Asks, AnswersRecall}
-use Rattle.fence_law.specs.State.{State, Grant, Event}
+use Rattle.world_history.specs.ClientNames.{Client, CallOp, Held, Due, Request, Awaited, RecallAnswer, Need, Phase, Needs, Waits, Done, Asks, AnswersRecall}
+use Rattle.fence_law.specs.State.{State, Event}
 use Rattle.fence_law.specs.State.{Event as event}
 use Rattle.fence_law.specs.Machine.{after, after_all}
 use Rattle.fence_law.proofs.Slots.{Slots}
 use Rattle.fence_law.proofs.Holds.{Holds}
 use Rattle.file_simulation.specs.EventLists.{of_grant}
 use Rattle.file_simulation.specs.ClientEvents as table
-use Rattle.file_simulation.specs.Requests.{kept_for, kept_by, phase_of}
-use Rattle.file_simulation.specs.Calls.{IsIdle, IsHolding, NeedIs, HeldIs, CallAt, IsClient, reports_on, waits_report}
+use Rattle.file_simulation.specs.Requests.{kept_for, kept_by}
+use Rattle.file_simulation.specs.Calls.{IsIdle, IsHolding, HeldIs, IsClient, reports_on}
 use Rattle.relation_law.specs.CallsTurns.{PhaseOn, EndIs, PendsAt, IsMid, NeedHas}
 use Rattle.relation_law.proofs.CallsSpared.{idle_spared}
 use Rattle.relation_law.proofs.CallsSends.{asks_other_carried, gives_back_idle}

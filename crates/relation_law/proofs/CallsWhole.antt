@@ -1,17 +1,16 @@
 -- The rest of a client's turn behind its first line: its call may begin, how it ended is told, a request may go out.
 -- Towards `CallsGoOn` (`specs/Steps.antt`).
-use Rattle.std.proofs.Common.{◌≡◌, ◌⊎◌, ◌==◌, ℕ, Bool, true, false, List, [], ◌∷◌, ◌++◌, map, find, is_some, Option, Some, None, refl, sym, ap, subst, ◌∙◌, inl, inr, if◌then◌else◌}
-use Rattle.std.proofs.lemmas.Bool.{cases_Bool}
+use Rattle.std.proofs.Common.{◌≡◌, ◌==◌, ℕ, Bool, true, false, find, Option, Some, None, refl, sym, ap, subst, ◌∙◌, if◌then◌else◌}
 use Rattle.data_map.specs.declared.check.RawMap.{RawMap}
-use Rattle.client_rules.specs.Going.{asks_under, begins, begun, by_turn, is_held, moved, phased, progress_call, progress_free, progress_phase, progressed, requests, returns, returns_due, with_held}
+use Rattle.client_rules.specs.Going.{asks_under, begins, begun, by_turn, is_held, progress_call, progress_free, progress_phase, progressed, requests, returns, returns_due, with_held}
 use Rattle.client_rules.specs.Grants.{held_of}
 use Rattle.client_rules.specs.Calls.{file_of}
 use Rattle.client_rules.specs.Messages.{Step, finished, sends_of}
 use Rattle.move_law.proofs.Turns.{each_begin}
 use Rattle.world_history.specs.ServerNames.{Slot}
-use Rattle.world_history.specs.ClientNames.{Client, Call, CallOp, Held, Due, Request, Need, Phase, Starts, Needs, Waits, Reads, Probes, Gathers, Scatters, Outcome, Turn, Goes, Ends, Forgets, Moved, Done}
-use Rattle.fence_law.specs.State.{State, Event}
-use Rattle.fence_law.specs.Machine.{after, after_all}
+use Rattle.world_history.specs.ClientNames.{Call, CallOp, Held, Due, Request, Need, Phase, Starts, Needs, Waits, Reads, Probes, Gathers, Scatters, Outcome, Turn, Goes, Ends, Forgets, Done}
+use Rattle.fence_law.specs.State.{State}
+use Rattle.fence_law.specs.Machine.{after_all}
 use Rattle.fence_law.proofs.Formed.{Formed}
 use Rattle.fence_law.proofs.Slots.{Slots}
 use Rattle.fence_law.proofs.Holds.{Holds}

@@ -1,19 +1,17 @@
 -- A move of a client: the components are as they were, where each WRITE that it newly sends has a nonce above all that the
 -- machine's client had used.
 -- Towards `ComponentsGoOn` (`specs/Steps.antt`).
-use Rattle.std.proofs.Common.{◌≡◌, ◌⊎◌, ℕ, ◌<◌, ◌≤◌, ◌||◌, Bool, true, false, List, [], ◌∷◌, slice_get, Option, Some, None, refl, sym, ap, subst, ◌∙◌, inl, inr, arith}
-use Rattle.osd_commands.specs.declared.actions.Action.TheVariants.{Write as WriteAction}
+use Rattle.std.proofs.Common.{◌≡◌, ◌⊎◌, ℕ, ◌<◌, ◌≤◌, ◌||◌, Bool, false, List, [], ◌∷◌, slice_get, Some, sym, ap, subst, ◌∙◌, inl, inr, arith}
 use Rattle.osd_commands.specs.declared.commands.Command.{Command}
-use Rattle.scenario_text.specs.declared.names.TheConstants.{CLIENTS}
 use Rattle.world_history.specs.ServerNames.{File, Component}
 use Rattle.world_history.specs.State.{World, at_number}
 use Rattle.exchange_law.specs.Sent.{HasSent}
-use Rattle.fence_law.specs.Words.{updated, In}
-use Rattle.fence_law.specs.State.{State, Event, Write, Grant}
+use Rattle.fence_law.specs.Words.{In}
+use Rattle.fence_law.specs.State.{State, Event, Write}
 use Rattle.fence_law.specs.State.Event.{Sends}
 use Rattle.fence_law.specs.Machine.{Allowed, Lawful, after, after_all}
 use Rattle.fence_law.proofs.Words.{updated_read}
-use Rattle.file_simulation.specs.Components.{IsComponent, AreComponents, object_on, has_failed, object_of}
+use Rattle.file_simulation.specs.Components.{AreComponents, object_on, has_failed}
 use Rattle.file_simulation.specs.Messages.{AreSent, WasSent}
 use Rattle.relation_law.specs.DriveHearing.{WereSent, DifferByNonce}
 use Rattle.relation_law.specs.Frames.{ServerStays}

@@ -1,40 +1,32 @@
 -- The first line of a step of the server, and the lines of its messages: which events stand there, and what they leave of
 -- the components.
 -- Towards `ComponentsGoOn` (`specs/Steps.antt`).
-use Rattle.std.proofs.Common.{◌≡◌, ◌⊎◌, ◌==◌, ◌&&◌, ◌||◌, ◌++◌, ℕ, ◌+◌, ◌<◌, Bool, true, false, not, zero, suc, List, [], ◌∷◌, slice_get, Option, Some, None, refl, sym, ap, subst, ◌∙◌, inl, inr, arith, eq-eqb, if◌then◌else◌}
-use Rattle.std.proofs.lemmas.Bool.{cases_eq, cases_Bool, ne_eqb}
-use Rattle.std.proofs.lemmas.Option.{same_Some}
+use Rattle.std.proofs.Common.{◌≡◌, ◌==◌, ◌&&◌, ℕ, Bool, true, false, List, [], ◌∷◌, Option, Some, None, refl, sym, ap, ◌∙◌}
 use Rattle.osd_lists.specs.declared.node.Node.{Node}
 use Rattle.osd_lists.specs.declared.node.Node.TheVariants as node
-use Rattle.data_map.specs.declared.check.RawMap.{RawMap}
 use Rattle.layout_ops.specs.declared.messages.Answer.{Answer}
 use Rattle.layout_ops.specs.declared.statuses.TheConstants.{NFS4_OK, LAYOUTIOMODE4_RW}
 use Rattle.server_rules.specs.Files.{Step}
 use Rattle.server_rules.specs.Grants.{grant_of}
 use Rattle.server_rules.specs.History.{Input, Hears, Makes, Obeys, Adds, Formats, Resends, Crashes, Opens}
 use Rattle.server_rules.specs.Messages.{Message, Asks as AsksServer, Replies as RepliesServer, Orders as OrdersServer}
-use Rattle.server_rules.specs.Standing.{lose_on}
 use Rattle.client_rules.specs.Results.{status_of}
 use Rattle.client_rules.specs.Answers.{is_loss_taken}
 use Rattle.world_history.specs.ServerNames as server_rules
-use Rattle.world_history.specs.ServerNames.{Server, File, Kept, Component, ClientRequest, RequestArgs, Get as Gets, Commit as Commits, Return as Returns, Outgoing, Answers, OrderKind, ToRecall, ToRevoke, ToDeclare, ToRebuild, ToAudit}
-use Rattle.world_history.specs.State.{World, at_number}
+use Rattle.world_history.specs.ServerNames.{Server, File, RequestArgs, Get as Gets, Commit as Commits, Return as Returns, Outgoing, Answers, ToRecall, ToRevoke, ToDeclare, ToRebuild, ToAudit}
 use Rattle.fence_law.specs.State as machine
 use Rattle.fence_law.specs.State.{State, Event}
 use Rattle.fence_law.specs.State.{Event as event}
 use Rattle.fence_law.specs.State.RequestKind.{Get, Return}
 use Rattle.fence_law.specs.Machine.{after, after_all}
-use Rattle.fence_law.proofs.Words.{updated_other, updated_at}
-use Rattle.file_simulation.specs.Components.{has_failed, is_lost_in, AreComponents}
-use Rattle.file_simulation.specs.Grants.{covers_column}
-use Rattle.file_simulation.specs.EventLists.{where_so, of_grant, entry_of}
+use Rattle.file_simulation.specs.EventLists.{entry_of}
 use Rattle.file_simulation.specs.Events.{joined}
 use Rattle.file_simulation.specs.ServerEvents as table
-use Rattle.relation_law.specs.Frames.{AreAll, LinesAre}
+use Rattle.relation_law.specs.Frames.{AreAll}
 use Rattle.relation_law.specs.ComponentsWalk.{IsPlain}
 use Rattle.relation_law.proofs.FramesStay.{all_more}
 use Rattle.relation_law.proofs.FramesClient.{where_all, grant_all, either_all}
-use Rattle.relation_law.proofs.ComponentsNotes.{Leaves, Told, WasKept, AreTold, leaves_as}
+use Rattle.relation_law.proofs.ComponentsNotes.{Leaves, leaves_as}
 
 -- ---- which events there are
 

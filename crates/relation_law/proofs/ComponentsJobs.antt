@@ -1,22 +1,22 @@
 -- What lasts through each part of a job lasts through the job's functions, one by one: of a file's components and notes.
 -- Towards `ComponentsGoOn` (`specs/Steps.antt`).
-use Rattle.std.proofs.Common.{◌≡◌, ◌==◌, ◌||◌, ℕ, ◌+◌, Bool, true, false, nat_lt, List, [], ◌∷◌, length, slice_set, Option, Some, None, refl, sym, ap, subst, ◌∙◌, if◌then◌else◌}
+use Rattle.std.proofs.Common.{◌≡◌, ◌==◌, ◌||◌, ℕ, ◌+◌, Bool, true, false, nat_lt, List, [], ◌∷◌, length, Option, Some, None, refl, if◌then◌else◌}
 use Rattle.std.specs.Prelude.{replicate}
 use Rattle.server_rules.specs.declared.limits.TheConstants.{GREATEST_TAG}
 use Rattle.server_rules.specs.Audit.{audits, audit_begins}
 use Rattle.server_rules.specs.Columns.{end_of}
-use Rattle.server_rules.specs.Going.{Going, over, keeping, noting, noting_if, with_components, rests, rests_or}
+use Rattle.server_rules.specs.Going.{Going, over, keeping, noting, noting_if, with_components, rests_or}
 use Rattle.server_rules.specs.Grants.{merged, count_stripes}
-use Rattle.server_rules.specs.Jobs.{making, fencing, ending, fenced, fences, fence_begins, fetched, written, gathered, filled_in, audited_on, goes_on, waits_or_on, refills, remakes, loses, declared_in, targets, declares}
-use Rattle.server_rules.specs.Openings.{opens_made, opens_spent, opens_fenced, opens, is_unsettled}
-use Rattle.server_rules.specs.Rebuild.{makes_or, rebuilds, stands_at, fills, filling, target_gone, target_full, target_for}
+use Rattle.server_rules.specs.Jobs.{making, fenced, fences, fence_begins, fetched, written, gathered, filled_in, audited_on, goes_on, waits_or_on, refills, remakes, loses, declared_in, targets, declares}
+use Rattle.server_rules.specs.Openings.{opens_made, opens_fenced, opens, is_unsettled}
+use Rattle.server_rules.specs.Rebuild.{makes_or, rebuilds, fills, filling, target_gone, target_full, target_for}
 use Rattle.server_rules.specs.Repair.{after_repair, mended, repairs, storing, stored, repair_begins}
-use Rattle.server_rules.specs.Replies.{renews, fills_up, hears, Hearing, Older, Full, Done, Nothing, others}
+use Rattle.server_rules.specs.Replies.{fills_up, hears, Hearing, Older, Full, Done, Nothing, others}
 use Rattle.server_rules.specs.Standing.{lose_from, lose_on, any_on}
 use Rattle.calm_law.specs.Components.{is_lacking}
 use Rattle.calm_law.specs.Sound.{target_in}
-use Rattle.world_history.specs.ServerNames.{File, Kept, Note, NoteKind, Ready, Fenced, Repaired, NoDrive, NoSpace, Lost, Audit, Rebuilt, Spent, Job, JobKind, Making, Revoking, Rebuilding, Auditing, Work, Creates, Fences, Fetches, Stores, Targets, Gathers, Fills, Lengths, Checks, Awaited, Heard, Piece, Target, Tally, Component, Reply}
-use Rattle.relation_law.specs.ComponentsWalk.{is_silent, and_note, IsWalked}
+use Rattle.world_history.specs.ServerNames.{Kept, Note, NoteKind, Ready, Fenced, Repaired, NoDrive, NoSpace, Spent, Job, JobKind, Making, Revoking, Rebuilding, Auditing, Work, Creates, Fences, Fetches, Stores, Targets, Gathers, Fills, Lengths, Checks, Awaited, Heard, Piece, Target, Tally, Component, Reply}
+use Rattle.relation_law.specs.ComponentsWalk.{is_silent, IsWalked}
 
 module _ (Q : Kept → List Note → Type 0) (w : IsWalked Q) where
   -- in a step

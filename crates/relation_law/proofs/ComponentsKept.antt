@@ -1,6 +1,6 @@
 -- A component that a step leaves as it is, or of which it changes only what its object is.
 -- Towards `ComponentsGoOn` (`specs/Steps.antt`).
-use Rattle.std.proofs.Common.{◌≡◌, ◌⊎◌, ℕ, ◌+◌, ◌<◌, ◌≤◌, Bool, true, false, slice_get, Option, Some, None, refl, sym, ap, subst, ◌∙◌, inl, inr, arith}
+use Rattle.std.proofs.Common.{◌≡◌, ◌⊎◌, ℕ, ◌+◌, ◌<◌, ◌≤◌, false, slice_get, Option, Some, None, refl, sym, ap, subst, ◌∙◌, inl, inr, arith}
 use Rattle.osd_objects.specs.declared.lanes.LaneEntry.{LaneEntry}
 use Rattle.osd_objects.specs.declared.object.StoredObject.{StoredObject}
 use Rattle.osd_objects.specs.Store.{lane_or_none}
@@ -12,7 +12,7 @@ use Rattle.world_history.specs.State.{World}
 use Rattle.exchange_law.specs.Sent.{HasSent}
 use Rattle.fence_law.specs.State.{State}
 use Rattle.fence_law.specs.Words.{In as InRun}
-use Rattle.file_simulation.specs.Components.{IsMade, IsUnmade, ObjectIs, LaneIs, StandsAs, IsComponent, is_lost_in, object_of}
+use Rattle.file_simulation.specs.Components.{IsUnmade, ObjectIs, LaneIs, StandsAs, IsComponent, is_lost_in, object_of}
 
 -- no client sent a new WRITE to the object, but with a nonce above the last
 abbrev pub SendsAbove : (w v : World) → State → (k object : ℕ) → Type 0

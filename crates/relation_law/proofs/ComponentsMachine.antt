@@ -1,12 +1,12 @@
 -- What holds of the machine of a run, whatever stands for it: its invariants, and that WRITEs of one client differ by their
 -- nonces.
 -- Towards `ComponentsGoOn` (`specs/Steps.antt`).
-use Rattle.std.proofs.Common.{◌≡◌, ℕ, ◌<◌, ◌≤◌, Bool, true, false, List, [], ◌∷◌, refl, sym, ap, subst, ◌∙◌, inl, inr, arith}
+use Rattle.std.proofs.Common.{◌≡◌, ℕ, List, [], ◌∷◌, sym, ap, subst, ◌∙◌, inl, inr, arith}
 use Rattle.fence_law.specs.Words.{In}
-use Rattle.fence_law.specs.State.{State, Layout, Event, Write, Grant}
+use Rattle.fence_law.specs.State.{State, Event, Write, Grant}
 use Rattle.fence_law.specs.State.Event.{Sends}
 use Rattle.fence_law.specs.Machine.{Allowed, Lawful, after, after_all, new_file_state}
-use Rattle.fence_law.specs.Law.{IsCode, reached}
+use Rattle.fence_law.specs.Law.{IsCode}
 use Rattle.fence_law.proofs.Judge.{Right, right_end}
 use Rattle.fence_law.proofs.Open.{Known}
 use Rattle.fence_law.proofs.Safe.{Safe, keep_safe, safe_first}

@@ -1,61 +1,43 @@
 -- Each whole move keeps what the machine has of the components.
 -- Towards `ComponentsGoOn` (`specs/Steps.antt`).
-use Rattle.std.proofs.Common.{◌≡◌, ◌⊎◌, ◌==◌, ◌||◌, ◌++◌, ℕ, ◌+◌, ◌<◌, ◌≤◌, Bool, true, false, List, [], ◌∷◌, length, slice_get, Option, Some, None, refl, sym, ap, subst, ◌∙◌, inl, inr, arith, if◌then◌else◌}
+use Rattle.std.proofs.Common.{◌≡◌, ◌==◌, ◌++◌, ℕ, ◌+◌, Bool, true, false, List, [], ◌∷◌, slice_get, Some, refl, sym, ap, subst, ◌∙◌, if◌then◌else◌}
 use Rattle.std.specs.Prelude.{find, is_some}
 use Rattle.std.proofs.lemmas.List.{append-nil}
 use Rattle.std.proofs.Common.{append_assoc}
-use Rattle.std.proofs.lemmas.Option.{same_Some, slice_get_within}
 use Rattle.osd_lists.specs.declared.node.Node.{Node}
 use Rattle.osd_lists.specs.declared.node.Node.TheVariants as node
 use Rattle.server_rules.specs.Files.{Step, file_at}
 use Rattle.server_rules.specs.History.{Input, Hears, Makes, Obeys, Adds, Formats, Resends, Crashes, Opens, step}
 use Rattle.server_rules.specs.Messages.{Message, Asks, Replies, Orders}
 use Rattle.server_rules.specs.Orders.{offline, ordered}
-use Rattle.server_rules.specs.Standing.{lose_on}
 use Rattle.world_history.specs.ServerNames.{File, Component, Note, Drive, ToRecall, ToRevoke, ToDeclare, ToRebuild, ToAudit}
-use Rattle.world_history.specs.State.{World, at_number}
+use Rattle.world_history.specs.State.{World}
 use Rattle.world_history.specs.Moves as moves
-use Rattle.world_history.specs.Moves.{acts}
-use Rattle.world_history.specs.Sending.{Move, move, sends_all}
-use Rattle.history_law.specs.Doing.{input_in, did_in}
+use Rattle.world_history.specs.Sending.{sends_all}
 use Rattle.history_law.specs.Read.{leads}
-use Rattle.sent_law.proofs.Doing.{IsAllowed}
 use Rattle.calm_law.specs.Performing.{AreDistinct}
 use Rattle.fence_law.specs.Words.{In as InRun}
 use Rattle.fence_law.specs.State.{State, Event}
 use Rattle.fence_law.specs.State.{Event as event}
-use Rattle.fence_law.specs.Machine.{Lawful, after_all}
+use Rattle.fence_law.specs.Machine.{after_all}
 use Rattle.fence_law.proofs.Safe.{Safe}
-use Rattle.plan_law.specs.FileLayout.{layout_of}
 use Rattle.file_simulation.specs.Components.{AreComponents}
-use Rattle.file_simulation.specs.Relation.{IsRelated}
 use Rattle.file_simulation.specs.EventLists.{Lines, where_so}
-use Rattle.file_simulation.specs.Events.{joined, led_by, events_at, events_of}
-use Rattle.file_simulation.specs.ClientEvents.{Going, going_in, client_events}
+use Rattle.file_simulation.specs.Events.{joined, led_by}
 use Rattle.file_simulation.specs.ServerEvents as table
-use Rattle.file_simulation.specs.ServerEvents.{server_events}
-use Rattle.file_simulation.specs.DriveEvents.{drive_events}
 use Rattle.relation_law.specs.ComponentsBehind.{RebuiltStand}
-use Rattle.relation_law.specs.ComponentsFacts.{OfClients, OfDrives, IsFair, OfServer, AreReplied}
+use Rattle.relation_law.specs.ComponentsFacts.{IsFair, OfServer, AreReplied}
 use Rattle.relation_law.specs.ComponentsWalk.{noted_after, IsPlain}
-use Rattle.relation_law.specs.DriveHearing.{IsLaidOut, AwaitedAreSent, NoneIsGuessed}
-use Rattle.relation_law.specs.Frames.{AreAll, LinesAre, IsOfClient, IsOfServer, ServerStays, ClientsStay, RepliesStay}
-use Rattle.relation_law.proofs.FramesStay.{all_more, all_joined, server_stays_all}
+use Rattle.relation_law.specs.Frames.{AreAll, LinesAre, IsOfServer}
+use Rattle.relation_law.proofs.FramesStay.{all_more, all_joined}
 use Rattle.relation_law.proofs.FramesClient.{where_all}
 use Rattle.relation_law.proofs.FramesServer.{at_first, noted_all}
 use Rattle.relation_law.proofs.FramesOthers.{clients_by_server, replies_by_server}
 use Rattle.relation_law.proofs.FramesGrow.{after_more}
-use Rattle.relation_law.proofs.FramesParties.{by_client_lines, by_server_lines, drive_quiet}
-use Rattle.relation_law.proofs.ComponentsMachine.{AreSingle}
-use Rattle.relation_law.proofs.ComponentsClients.{client_components, sends_above}
 use Rattle.relation_law.proofs.ComponentsFirst.{first_such, sends_such, Spares, spared, such_spares, IssuesNone, unissued, such_issue}
-use Rattle.relation_law.proofs.ComponentsKept.{LanesGo}
-use Rattle.relation_law.proofs.ComponentsNotes.{Leaves, Told, AreTold, told_left}
+use Rattle.relation_law.proofs.ComponentsNotes.{Told, AreTold, told_left}
 use Rattle.relation_law.proofs.ComponentsServer.{start_told, declared_told, notes_state, notes_unissued, IsGone, server_components, server_lanes}
 use Rattle.relation_law.proofs.ComponentsSteps.{AreAimed, tells_step, declared}
-use Rattle.relation_law.proofs.DriveAlike.{server_move_alike}
-use Rattle.relation_law.proofs.DriveMoves.{drives_go}
-use Rattle.relation_law.proofs.DrivePerformed.{GoWell, IsReady}
 use Rattle.relation_law.proofs.DriveStays.{IsAlike}
 
 -- ---- lists

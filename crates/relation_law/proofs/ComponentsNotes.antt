@@ -1,10 +1,9 @@
 -- What the notes of a step make of the components of a file, and their events of the machine: the same.
 -- Towards `ComponentsGoOn` (`specs/Steps.antt`).
-use Rattle.std.proofs.Common.{◌≡◌, ◌⊎◌, ◌==◌, ◌||◌, ◌++◌, ℕ, ◌+◌, ◌<◌, ◌≤◌, Bool, true, false, zero, suc, List, [], ◌∷◌, length, slice_get, slice_set, Option, Some, None, refl, sym, ap, subst, ◌∙◌, inl, inr, arith, add-one, eq-eqb, if◌then◌else◌}
-use Rattle.std.proofs.lemmas.Bool.{cases_eq, cases_Bool, ne_eqb, eqb-true}
+use Rattle.std.proofs.Common.{◌≡◌, ◌⊎◌, ◌||◌, ◌++◌, ℕ, ◌+◌, ◌<◌, Bool, true, false, zero, suc, List, [], ◌∷◌, length, slice_get, slice_set, Some, refl, sym, ap, subst, ◌∙◌, inl, inr, arith, eq-eqb, if◌then◌else◌}
+use Rattle.std.proofs.lemmas.Bool.{cases_eq, ne_eqb}
 use Rattle.std.proofs.lemmas.Option.{same_Some, slice_get_within}
 use Rattle.osd_lists.proofs.Slices.{get_set}
-use Rattle.server_rules.specs.Laws.{In}
 use Rattle.server_rules.proofs.Members.{in_front, in_behind}
 use Rattle.server_rules.specs.History.{Input}
 use Rattle.server_rules.specs.Numbers.{among}
@@ -13,10 +12,10 @@ use Rattle.server_rules.specs.Standing.{lose_from}
 use Rattle.calm_law.specs.Components.{is_lacking}
 use Rattle.world_history.specs.ServerNames.{File, Kept, Component, Note, NoteKind, Ready, Fenced as FencedNote, Repaired as RepairedNote, Rebuilt, NoDrive, Lost, NoSpace, Audit, Busy, Spent, Reported, Target}
 use Rattle.world_history.specs.State.{World, at_number}
-use Rattle.fence_law.specs.State.{State, Event}
-use Rattle.fence_law.specs.State.Event.{Fenced, Refenced, Repaired, Fails, Drops, Declares, Loses, Rebuilds}
+use Rattle.fence_law.specs.State.{State}
+use Rattle.fence_law.specs.State.Event.{Fenced, Refenced, Fails, Rebuilds}
 use Rattle.fence_law.specs.Machine.{after, after_all}
-use Rattle.fence_law.proofs.Words.{updated_same, updated_other, updated_at}
+use Rattle.fence_law.proofs.Words.{updated_same, updated_other}
 use Rattle.file_simulation.specs.Components.{has_failed, is_lost_in}
 use Rattle.file_simulation.specs.EventLists.{where_so}
 use Rattle.file_simulation.specs.ServerEvents as table

@@ -1,22 +1,20 @@
 -- Reported components in the machine, and notes of another file.
 -- Towards `ComponentsGoOn` (`specs/Steps.antt`).
-use Rattle.std.proofs.Common.{◌≡◌, ◌⊎◌, ◌==◌, ◌||◌, ◌++◌, ℕ, ◌+◌, ◌<◌, ◌≤◌, Bool, true, false, zero, suc, List, [], ◌∷◌, length, slice_get, Option, Some, None, refl, sym, ap, subst, ◌∙◌, inl, inr, arith, append_assoc, if◌then◌else◌}
-use Rattle.std.proofs.lemmas.Bool.{cases_eq, cases_Bool, ne_eqb}
+use Rattle.std.proofs.Common.{◌≡◌, ◌==◌, ◌++◌, ℕ, ◌+◌, ◌<◌, Bool, true, false, zero, suc, List, [], ◌∷◌, slice_get, Option, Some, refl, sym, ap, subst, ◌∙◌, inl, inr, arith, append_assoc, if◌then◌else◌}
+use Rattle.std.proofs.lemmas.Bool.{cases_Bool, ne_eqb}
 use Rattle.std.proofs.lemmas.List.{append-nil}
-use Rattle.std.proofs.lemmas.Option.{same_Some}
 use Rattle.server_rules.specs.History.{Input}
 use Rattle.server_rules.specs.Numbers.{among}
-use Rattle.server_rules.specs.Standing.{lose_from}
 use Rattle.world_history.specs.ServerNames.{File, Kept, Component, Note, NoteKind, Reported}
-use Rattle.world_history.specs.State.{World, at_number}
+use Rattle.world_history.specs.State.{World}
 use Rattle.fence_law.specs.State.{State}
 use Rattle.fence_law.specs.State.Event.{Loses}
 use Rattle.fence_law.specs.Machine.{after, after_all}
 use Rattle.fence_law.proofs.Words.{updated_same, updated_other}
 use Rattle.file_simulation.specs.EventLists.{where_so}
 use Rattle.file_simulation.specs.ServerEvents as table
-use Rattle.relation_law.specs.ComponentsWalk.{noted_after, is_silent, and_note, reports_of, IsWalked, TakesReports}
-use Rattle.relation_law.proofs.ComponentsNotes.{noted_more, own_note, Told, AreTold, Leaves, leaves_as, Falls, LostAt, lost_at, told_left, told_lost}
+use Rattle.relation_law.specs.ComponentsWalk.{noted_after, reports_of, IsWalked, TakesReports}
+use Rattle.relation_law.proofs.ComponentsNotes.{noted_more, own_note, Told, AreTold, Leaves, leaves_as, Falls, lost_at, told_left, told_lost}
 
 -- ---- reports
 

@@ -1,36 +1,35 @@
 -- A move of the server: the components are behind it as the machine has them.
 -- Towards `ComponentsGoOn` (`specs/Steps.antt`).
-use Rattle.std.proofs.Common.{◌≡◌, ◌⊎◌, ◌==◌, ◌||◌, ◌++◌, ℕ, ◌+◌, ◌<◌, ◌≤◌, Bool, true, false, zero, suc, List, [], ◌∷◌, length, slice_get, Option, Some, None, refl, sym, ap, subst, ◌∙◌, inl, inr, arith, eq-eqb, if◌then◌else◌}
-use Rattle.std.proofs.lemmas.Bool.{cases_eq, cases_Bool, ne_eqb, eqb-true}
-use Rattle.std.proofs.lemmas.Option.{same_Some, slice_get_within}
+use Rattle.std.proofs.Common.{◌≡◌, ◌==◌, ◌||◌, ◌++◌, ℕ, ◌+◌, ◌<◌, ◌≤◌, Bool, true, false, zero, suc, List, [], ◌∷◌, length, slice_get, Option, Some, None, refl, sym, ap, subst, ◌∙◌, inl, inr, arith, if◌then◌else◌}
+use Rattle.std.proofs.lemmas.Bool.{cases_Bool, eqb-true}
+use Rattle.std.proofs.lemmas.Option.{slice_get_within}
 use Rattle.osd_lists.proofs.Slices.{some_at}
 use Rattle.osd_lists.proofs.Tests.{first_false}
 use Rattle.osd_objects.specs.declared.lanes.LaneEntry.{LaneEntry}
 use Rattle.osd_objects.specs.declared.object.StoredObject.{StoredObject}
 use Rattle.osd_objects.specs.Store.{lane_or_none}
 use Rattle.scenario_text.specs.declared.names.TheConstants.{CLIENTS}
-use Rattle.server_rules.specs.Files.{Step, file_at}
 use Rattle.server_rules.specs.History.{Input}
 use Rattle.server_rules.specs.Standing.{lose_on}
-use Rattle.world_history.specs.ServerNames.{Server, File, Kept, Component, Note, NoteKind, Ready, Fenced, Repaired, Rebuilt, NoDrive, Lost, NoSpace, Audit, Busy, Spent, Reported, Outgoing}
+use Rattle.world_history.specs.ServerNames.{File, Component, Note, NoteKind, Ready, Fenced, Repaired, Rebuilt, NoDrive, Lost, NoSpace, Audit, Busy, Spent, Reported, Outgoing}
 use Rattle.world_history.specs.State.{World, at_number}
 use Rattle.fence_law.specs.Words.{In as InRun}
-use Rattle.fence_law.specs.State.{State, Event}
+use Rattle.fence_law.specs.State.{State}
 use Rattle.fence_law.specs.State.{Event as event}
 use Rattle.fence_law.specs.Machine.{after, after_all}
 use Rattle.fence_law.proofs.Tags.{Tags}
 use Rattle.fence_law.proofs.Words.{updated_other, updated_at}
-use Rattle.file_simulation.specs.Components.{StandsAs, IsUnmade, IsComponent, AreComponents, has_failed, is_lost_in, object_of}
+use Rattle.file_simulation.specs.Components.{StandsAs, AreComponents, has_failed, is_lost_in, object_of}
 use Rattle.file_simulation.specs.EventLists.{where_so}
 use Rattle.file_simulation.specs.Events.{joined}
 use Rattle.file_simulation.specs.ServerEvents as table
-use Rattle.relation_law.specs.ComponentsBehind.{WasRebuilt, AreUnready, RebuiltStand}
+use Rattle.relation_law.specs.ComponentsBehind.{AreUnready, RebuiltStand}
 use Rattle.relation_law.specs.ComponentsWalk.{noted_after}
 use Rattle.relation_law.specs.Frames.{AreAll, ClientsStay, RepliesStay}
 use Rattle.relation_law.proofs.FramesClient.{where_all}
 use Rattle.relation_law.proofs.FramesGrow.{after_more}
-use Rattle.relation_law.proofs.ComponentsFirst.{spared, sends_such, such_spares, IssuesNone, unissued, such_issue}
-use Rattle.relation_law.proofs.ComponentsKept.{KeepsObject, stands_kept, LanesKept, LanesGo}
+use Rattle.relation_law.proofs.ComponentsFirst.{spared, IssuesNone, unissued}
+use Rattle.relation_law.proofs.ComponentsKept.{stands_kept}
 use Rattle.relation_law.proofs.ComponentsNotes.{Leaves, Told, WasKept, AreTold}
 use Rattle.relation_law.proofs.DriveStays.{IsAlike}
 

@@ -1,16 +1,16 @@
 -- What lasts through each part of a job lasts through a client's request.
 -- Towards `ComponentsGoOn` (`specs/Steps.antt`).
-use Rattle.std.proofs.Common.{◌≡◌, ◌==◌, ℕ, ◌+◌, ◌++◌, Bool, true, false, List, [], ◌∷◌, Option, Some, None, refl, sym, ap, subst, ◌∙◌, append_assoc, inl, inr, if◌then◌else◌}
+use Rattle.std.proofs.Common.{◌≡◌, ◌==◌, ℕ, ◌+◌, ◌++◌, Bool, true, false, List, [], ◌∷◌, Option, Some, None, refl, sym, subst, ◌∙◌, append_assoc, inl, inr, if◌then◌else◌}
 use Rattle.std.proofs.lemmas.Bool.{cases_Bool}
 use Rattle.std.proofs.lemmas.List.{append-nil}
 use Rattle.server_rules.specs.declared.limits.TheConstants.{GREATEST_TAG}
 use Rattle.server_rules.specs.Commit.{Committed, NoGrant as NoneCommits, Wrong, Sizes, by_commit, commit_row, commits}
-use Rattle.server_rules.specs.Get.{Early, BadMode, Invalid, Unable, Waits, On, Late, NoNumber, Lacks, Conflict, Gives, late, early, must_fence, by_late, give_or_refuse, after_fence, fence_then, fence_first, on_grants, by_early, gets}
-use Rattle.server_rules.specs.Going.{Going, keeping, noting, noting_if}
+use Rattle.server_rules.specs.Get.{Early, BadMode, Invalid, Unable, Waits, On, Late, NoNumber, Lacks, Conflict, Gives, late, early, must_fence, by_late, give_or_refuse, after_fence, fence_first, on_grants, by_early, gets}
+use Rattle.server_rules.specs.Going.{Going, keeping, noting_if}
 use Rattle.server_rules.specs.Jobs.{fence_begins}
 use Rattle.server_rules.specs.Numbers.{among}
 use Rattle.server_rules.specs.Requests.{serves}
-use Rattle.server_rules.specs.Return.{Returned, NoGrant, Clean, Taken, TooMany, Fencing, by_return, return_row, reports_from, takes_loss, ends_grant, returns_on}
+use Rattle.server_rules.specs.Return.{Returned, NoGrant, Clean, Taken, TooMany, Fencing, by_return, return_row, reports_from, takes_loss, returns_on}
 use Rattle.server_rules.specs.Standing.{lose_from}
 use Rattle.world_history.specs.ServerNames.{IoErr, RequestArgs, Get, Commit, Return, Reported, Spent, Grant, Kept, Component, Job, Note, Revoking}
 use Rattle.relation_law.specs.ComponentsWalk.{reports_of, IsWalked, TakesReports}

@@ -1,8 +1,8 @@
 -- A step of the server: its notes make of each component of a file what their events make of the machine's.
 -- Towards `ComponentsGoOn` (`specs/Steps.antt`).
-use Rattle.std.proofs.Common.{◌≡◌, ◌⊎◌, ◌==◌, ◌&&◌, ◌||◌, ◌++◌, ℕ, ◌+◌, Bool, true, false, nat_le, List, [], ◌∷◌, map, Option, Some, None, Result, Ok, Err, refl, sym, ap, subst, ◌∙◌, inl, inr, eq-eqb, if◌then◌else◌}
-use Rattle.std.specs.Prelude.{find, is_some}
-use Rattle.std.proofs.lemmas.Bool.{cases_eq, cases_Bool, ne_eqb}
+use Rattle.std.proofs.Common.{◌≡◌, ◌==◌, ◌&&◌, ℕ, Bool, true, false, nat_le, List, [], ◌∷◌, map, Option, Some, None, refl, sym, ap, subst, ◌∙◌, inl, inr, eq-eqb, if◌then◌else◌}
+use Rattle.std.specs.Prelude.{find}
+use Rattle.std.proofs.lemmas.Bool.{cases_eq, ne_eqb}
 use Rattle.std.proofs.lemmas.Option.{same_Some}
 use Rattle.osd_lists.specs.declared.node.Node.{Node}
 use Rattle.osd_lists.specs.declared.node.Node.TheVariants as node
@@ -11,17 +11,16 @@ use Rattle.server_rules.specs.declared.limits.TheConstants.{MAX_CLIENT, GREATEST
 use Rattle.server_rules.specs.declared.server.Refusal.{Refusal}
 use Rattle.server_rules.specs.Files.{Step, still, begins, file_at, put_file, at_file, step_at}
 use Rattle.server_rules.specs.Get.{lowest}
-use Rattle.server_rules.specs.Going.{Going, noting, with_components}
+use Rattle.server_rules.specs.Going.{Going, noting}
 use Rattle.server_rules.specs.History.{Input, Hears, Makes, Obeys, Adds, Formats, Resends, Crashes, Opens, step, unless_made}
 use Rattle.server_rules.specs.Jobs.{fence_begins, declares, making}
 use Rattle.server_rules.specs.Laws.{In}
 use Rattle.server_rules.specs.Making.{refusal, makes_file, with_file, create_file, unless_refused}
 use Rattle.server_rules.specs.Messages.{Message, Asks, Replies, Orders, counters_have_room, handled, by_heard, heard_at, on_drive_reply, or_else, on_message}
-use Rattle.server_rules.specs.Openings.{crashed_file, crash, opens, opens_each, reopen}
+use Rattle.server_rules.specs.Openings.{crashed_file, opens, opens_each, reopen}
 use Rattle.server_rules.specs.Orders.{Ordered, starts, begins_job, recalls_on, declares_known, declare, declares_each, offline, ordered}
 use Rattle.server_rules.specs.Replies.{answers, hearing, hears, on_reply, heard_in, heard_by}
-use Rattle.server_rules.specs.Requests.{serves, on_request, carried_out}
-use Rattle.server_rules.specs.Rounds.{step_round}
+use Rattle.server_rules.specs.Requests.{serves, on_request}
 use Rattle.server_rules.specs.Standing.{lose_on, any_on}
 use Rattle.server_rules.proofs.FileLaws.{number_at, put_same, put_other, add_other, not_there}
 use Rattle.calm_law.specs.Components.{is_lacking}
@@ -29,15 +28,14 @@ use Rattle.calm_law.specs.Performing.{AreDistinct}
 use Rattle.calm_law.specs.Sound.{target_in}
 use Rattle.calm_law.specs.Words.{Each}
 use Rattle.calm_law.proofs.Components.{none_lost_on}
-use Rattle.move_law.proofs.Files.{in_at}
 use Rattle.move_law.proofs.Steps.{each_request}
 use Rattle.move_law.specs.Steps.{new_file}
-use Rattle.world_history.specs.ServerNames.{Server, File, Kept, Component, Note, NoteKind, Busy, Spent, Drive, Job, JobKind, Revoking, Rebuilding, Auditing, Awaited, Target, Effects, ClientRequest, Reply, Order, OrderKind, IsSpent, HasStarted, ToRecall, ToRevoke, ToDeclare, ToRebuild, ToAudit}
+use Rattle.world_history.specs.ServerNames.{Server, File, Kept, Note, NoteKind, Busy, Spent, Drive, Job, JobKind, Revoking, Rebuilding, Auditing, Awaited, Target, Effects, ClientRequest, Reply, OrderKind, IsSpent, HasStarted, ToRecall, ToRevoke, ToDeclare, ToRebuild, ToAudit}
 use Rattle.world_history.specs.State.{World}
 use Rattle.fence_law.specs.State.{State}
 use Rattle.file_simulation.specs.ServerEvents as table
 use Rattle.relation_law.specs.ComponentsWalk.{is_silent, IsPlain, IsWalked, TakesReports}
-use Rattle.relation_law.proofs.ComponentsJobs.{Own, Aims, own_hears, own_fence, own_declares, own_opens, own_making}
+use Rattle.relation_law.proofs.ComponentsJobs.{own_hears, own_fence, own_declares, own_opens, own_making}
 use Rattle.relation_law.proofs.ComponentsServes.{own_serves}
 use Rattle.relation_law.proofs.ComponentsNotes.{AreTold, told_walked}
 use Rattle.relation_law.proofs.ComponentsReports.{Alone, alone_walked, alone_reports, alone_first, quiet_told, takes_reports}

@@ -1,14 +1,8 @@
 -- A drive performs a command: all components of a file are behind it as the machine has them, and its events may happen.
 -- Towards `ComponentsGoOn` (`specs/Steps.antt`).
-use Rattle.std.proofs.Common.{◌≡◌, ◌⊎◌, ℕ, ◌+◌, ◌<◌, ◌≤◌, ◌||◌, Bool, true, false, not, List, [], ◌∷◌, length, slice_get, Option, Some, None, refl, sym, ap, subst, ◌∙◌, inl, inr, arith}
-use Rattle.std.specs.Prelude.{find}
-use Rattle.std.proofs.lemmas.Bool.{cases_eq, cases_Bool}
-use Rattle.std.proofs.lemmas.Option.{slice_get_within}
-use Rattle.osd_lists.specs.declared.node.Node.{Node}
-use Rattle.osd_lists.specs.declared.node.Node.TheVariants as node
+use Rattle.std.proofs.Common.{◌≡◌, ℕ, ◌+◌, ◌<◌, ◌≤◌, Bool, false, slice_get, Some, refl, sym, ap, subst, ◌∙◌, inl, inr, arith}
+use Rattle.std.proofs.lemmas.Bool.{cases_eq}
 use Rattle.osd_lists.proofs.Tests.{first_false}
-use Rattle.osd_commands.specs.declared.actions.Action.{Action}
-use Rattle.osd_commands.specs.declared.actions.Action.TheVariants as action
 use Rattle.osd_commands.specs.declared.commands.Command.{Command}
 use Rattle.osd_objects.specs.Store.{object_at}
 use Rattle.osd_drive.specs.State.{DriveState}
@@ -16,32 +10,18 @@ use Rattle.osd_drive.specs.Effects.{performed}
 use Rattle.scenario_text.specs.declared.names.TheConstants.{CLIENTS}
 use Rattle.world_history.specs.ServerNames.{File, Component}
 use Rattle.world_history.specs.State.{World, DriveAt}
-use Rattle.world_history.specs.Stripes.{component_at}
-use Rattle.exchange_law.specs.Sent.{HasSent}
 use Rattle.sent_law.proofs.Within.{performed_stay_within}
 use Rattle.fence_law.specs.Words.{updated, In as InRun}
-use Rattle.fence_law.specs.State.{State, Event, Write}
+use Rattle.fence_law.specs.State.{State, Write}
 use Rattle.fence_law.specs.State.Event.{Performs, SetsTag, Repairs, Shows}
-use Rattle.fence_law.specs.Machine.{Allowed, Lawful, after, after_all}
+use Rattle.fence_law.specs.Machine.{after}
 use Rattle.fence_law.proofs.Words.{updated_other, updated_at}
 use Rattle.fence_law.proofs.Open.{Known}
-use Rattle.fence_law.proofs.Safe.{Safe}
-use Rattle.plan_law.specs.FileLayout.{layout_of}
-use Rattle.file_simulation.specs.Components.{IsUnmade, StandsAs, IsComponent, AreComponents, has_failed, object_of}
-use Rattle.file_simulation.specs.Messages.{AreSent, WasSent}
-use Rattle.file_simulation.specs.Phases.{PhaseIs}
-use Rattle.file_simulation.specs.Jobs.{AreOwned, OweWords}
-use Rattle.file_simulation.specs.Relation.{client_of}
-use Rattle.file_simulation.specs.EventLists.{where_so, entry_of}
-use Rattle.file_simulation.specs.DriveEvents.{is_running, is_write, performs, of_client, of_server, cells_of, performed_of, performed_on}
-use Rattle.relation_law.specs.DriveHearing.{IsPerformed, IsOfClient, IsOfServer, IsOfSender, IsLaidOut, AreFirst}
-use Rattle.relation_law.proofs.ComponentsMachine.{AreSingle}
-use Rattle.relation_law.proofs.ComponentsKept.{KeepsObject, KeepsPlace, stands_kept, place_kept, LanesKept, lanes_same, LanesGo}
-use Rattle.relation_law.proofs.DriveFinding.{IsAt, found, none_there, sent_found}
-use Rattle.relation_law.proofs.DriveObjects.{rests}
+use Rattle.file_simulation.specs.Components.{StandsAs, AreComponents, object_of}
+use Rattle.relation_law.specs.DriveHearing.{IsPerformed, IsLaidOut}
+use Rattle.relation_law.proofs.ComponentsKept.{stands_kept, place_kept, LanesKept, lanes_same, LanesGo}
+use Rattle.relation_law.proofs.DriveFinding.{IsAt}
 use Rattle.relation_law.proofs.DriveWorld.{IsBehind, lost_kept, object_kept}
-use Rattle.relation_law.proofs.DrivePerforms.{PerformsWrite, performs_allowed, performs_stands}
-use Rattle.relation_law.proofs.DriveServer.{PerformsServer, sets_allowed, sets_stands, repairs_allowed, repairs_stands, created_stands, created_unready}
 
 -- ---- what an event on component k leaves of the others
 

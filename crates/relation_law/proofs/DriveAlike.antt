@@ -1,8 +1,8 @@
 -- Moves in which no client goes on and no drive hears or fails: all drives have what they had, and no client sends anything
 -- that it hadn't sent.
 -- Towards `ComponentsGoOn` (`specs/Steps.antt`).
-use Rattle.std.proofs.Common.{◌≡◌, ◌⊎◌, ℕ, ◌<◌, Bool, true, false, cond, List, [], ◌∷◌, ◌++◌, map, filter, length, slice_get, Option, Some, None, Result, Ok, Err, IsSome, is_some, refl, sym, ap, subst, ◌∙◌, inl, inr, if◌then◌else◌}
-use Rattle.std.proofs.lemmas.Bool.{cases_eq, cases_Bool}
+use Rattle.std.proofs.Common.{◌≡◌, ℕ, Bool, true, false, cond, List, [], ◌∷◌, map, filter, slice_get, Option, Some, None, Result, Ok, Err, is_some, refl, sym, ap, subst, ◌∙◌, inl, inr, if◌then◌else◌}
+use Rattle.std.proofs.lemmas.Bool.{cases_eq}
 use Rattle.osd_lists.specs.declared.node.Node.{Node}
 use Rattle.osd_lists.specs.declared.node.Node.TheVariants as node
 use Rattle.osd_commands.specs.declared.commands.Command.{Command}
@@ -25,20 +25,17 @@ use Rattle.server_rules.specs.Making.{create_file}
 use Rattle.server_rules.specs.Messages.{Message as ServerMessage}
 use Rattle.server_rules.specs.History as server
 use Rattle.client_rules.specs.declared.calls.CallOp.{CallOp}
-use Rattle.client_rules.specs.declared.calls.Awaited.{Awaited}
-use Rattle.client_rules.specs.Messages.{Message as ClientMessage, Step as ClientStep, awaited_of}
+use Rattle.client_rules.specs.Messages.{Message as ClientMessage}
 use Rattle.client_rules.specs.Steps.{resent}
 use Rattle.client_rules.specs.History as client
 use Rattle.world_history.specs.ServerNames as server_rules
-use Rattle.world_history.specs.ClientNames as client_rules
 use Rattle.world_history.specs.declared.messages.Message.{Message}
 use Rattle.world_history.specs.declared.messages.Posted.{Posted}
-use Rattle.world_history.specs.declared.messages.Body.TheVariants.{Command as OfCommand}
 use Rattle.world_history.specs.State.{World, DriveAt, ClientAt, at_number, and_number, with_number, and_drive, with_client, with_server, with_down}
 use Rattle.world_history.specs.Drives.{made_drive, raised, at_time, crashed, reopened}
 use Rattle.sent_law.proofs.Doing.{IsAllowed}
 use Rattle.history_law.specs.Doing.{brought_to, brought, input_in}
-use Rattle.world_history.specs.Handed.{Handed, Post, handed_to, is_addressed, server_post, client_posts, server_hears, server_takes, client_hears, client_takes, client_goes, for_server, for_client, quiet, pending_op, wrote_in, data_in, op_in}
+use Rattle.world_history.specs.Handed.{Post, handed_to, is_addressed, server_post, client_posts, server_hears, server_takes, client_hears, client_takes, client_goes, for_server, for_client, quiet, pending_op, wrote_in, data_in, op_in}
 use Rattle.world_history.specs.Moves as world
 use Rattle.world_history.specs.Moves.{Act, marked, told_delivered}
 use Rattle.world_history.specs.Sending.{sends_all, with_posts}
@@ -49,7 +46,7 @@ use Rattle.move_law.specs.Said.{said, posted}
 use Rattle.move_law.proofs.Moves.{said_marked}
 use Rattle.exchange_law.specs.Sent.{HasSent, message_of}
 use Rattle.exchange_law.proofs.LatestLaw.{sent_split}
-use Rattle.exchange_law.proofs.Replied.{from_server, from_client, addressed}
+use Rattle.exchange_law.proofs.Replied.{from_server, addressed}
 use Rattle.exchange_law.proofs.RefusalSending.{command_posted, resent_awaited}
 use Rattle.file_simulation.specs.Components.{object_on, has_failed}
 use Rattle.file_simulation.specs.ClientEvents.{Going, going, hearing, opened, leaving, going_in}

@@ -1,10 +1,10 @@
 -- A move in which neither a client goes on nor anything comes to the server: a drive hears a message or injected bytes, or
 -- fails, or no component of any file is touched.
 -- Towards `ComponentsGoOn` (`specs/Steps.antt`).
-use Rattle.std.proofs.Common.{◌≡◌, ◌⊎◌, ℕ, ◌+◌, ◌<◌, ◌≤◌, ◌==◌, ◌||◌, ◌++◌, Bool, true, false, not, List, [], ◌∷◌, length, zero, suc, map, slice_get, Option, Some, None, Result, Ok, Err, IsSome, refl, sym, ap, subst, ◌∙◌, inl, inr, arith, if◌then◌else◌}
+use Rattle.std.proofs.Common.{◌≡◌, ℕ, ◌+◌, ◌||◌, ◌++◌, Bool, true, false, not, List, [], ◌∷◌, zero, suc, slice_get, Option, Some, None, Result, Ok, Err, refl, sym, ap, subst, ◌∙◌, inl, inr, if◌then◌else◌}
 use Rattle.std.specs.Prelude.{find, nat_eq}
 use Rattle.std.specs.Cmp.Lexicographic.{pointwise}
-use Rattle.std.proofs.lemmas.Bool.{cases_eq, cases_Bool, and_parts, eqb-true}
+use Rattle.std.proofs.lemmas.Bool.{cases_Bool, and_parts, eqb-true}
 use Rattle.std.proofs.lemmas.List.{append-nil}
 use Rattle.std.proofs.lemmas.Option.{same_Some}
 use Rattle.osd_lists.specs.declared.node.Node.{Node}
@@ -35,7 +35,7 @@ use Rattle.world_history.specs.Told.{told_verdict}
 use Rattle.world_history.specs.Drives.{command_in, verdict_on, judges, is_deaf, fallen}
 use Rattle.world_history.specs.Handed.{Post, plain, drive_hears, drive_replies, quiet, handed_to}
 use Rattle.world_history.specs.Moves as world
-use Rattle.world_history.specs.Moves.{Act, marked, told_delivered}
+use Rattle.world_history.specs.Moves.{marked, told_delivered}
 use Rattle.world_history.specs.Sending.{sends_all}
 use Rattle.world_history.specs.Refusals as refusals
 use Rattle.world_history.specs.Refusals.{unless_deaf, unless_failed}
@@ -151,7 +151,7 @@ module _ (s : State) (w v : World) (f : File) (r : IsReady s w f) (d : ℕ) (a :
 
 -- ---- a message
 
-pub got_in : (xs : List Posted) (n : ℕ) (x : Posted) → slice_get xs n ≡ Some x → In x xs
+pub got_in : {A : Type 0} (xs : List A) (n : ℕ) (x : A) → slice_get xs n ≡ Some x → In x xs
 got_in [] n x e = absurd (cc e)
 got_in (y ∷ xs) zero x e = inl (sym (same_Some y x e))
 got_in (y ∷ xs) (suc n) x e = inr (got_in xs n x e)

@@ -1,15 +1,12 @@
 -- What a drive performs, by who sent it: the file's events may happen, and lead to a machine that has the components.
 -- Towards `ComponentsGoOn` (`specs/Steps.antt`).
-use Rattle.std.proofs.Common.{◌≡◌, ◌⊎◌, ℕ, ◌+◌, ◌<◌, ◌≤◌, ◌||◌, Bool, true, false, not, List, [], ◌∷◌, length, slice_get, Option, Some, None, refl, sym, ap, subst, ◌∙◌, inl, inr, arith}
+use Rattle.std.proofs.Common.{◌≡◌, ◌⊎◌, ℕ, ◌<◌, ◌≤◌, Bool, true, false, not, List, [], ◌∷◌, slice_get, Option, Some, None, refl, sym, ap, subst, ◌∙◌, inl, inr}
 use Rattle.std.specs.Prelude.{find}
-use Rattle.std.proofs.lemmas.Bool.{cases_eq, cases_Bool}
-use Rattle.std.proofs.lemmas.Option.{slice_get_within}
 use Rattle.osd_lists.specs.declared.node.Node.{Node}
 use Rattle.osd_lists.specs.declared.node.Node.TheVariants as node
 use Rattle.osd_commands.specs.declared.actions.Action.{Action}
 use Rattle.osd_commands.specs.declared.actions.Action.TheVariants as action
 use Rattle.osd_commands.specs.declared.commands.Command.{Command}
-use Rattle.osd_objects.specs.Store.{object_at}
 use Rattle.osd_drive.specs.Effects.{performed}
 use Rattle.scenario_text.specs.declared.names.TheConstants.{CLIENTS}
 use Rattle.world_history.specs.ServerNames.{File, Component}
@@ -17,7 +14,7 @@ use Rattle.world_history.specs.State.{World, DriveAt}
 use Rattle.world_history.specs.Stripes.{component_at}
 use Rattle.fence_law.specs.State.{State, Event, Write}
 use Rattle.fence_law.specs.State.Event.{Performs, SetsTag, Repairs, Shows}
-use Rattle.fence_law.specs.Machine.{Allowed, Lawful, after, after_all}
+use Rattle.fence_law.specs.Machine.{Lawful, after, after_all}
 use Rattle.fence_law.proofs.Safe.{Safe}
 use Rattle.file_simulation.specs.Components.{StandsAs, IsComponent, AreComponents}
 use Rattle.file_simulation.specs.Messages.{AreSent, WasSent}
@@ -34,7 +31,7 @@ use Rattle.relation_law.proofs.DriveObjects.{rests}
 use Rattle.relation_law.proofs.DriveWorld.{IsBehind}
 use Rattle.relation_law.proofs.DrivePerforms.{PerformsWrite, performs_allowed, performs_stands, performs_lanes}
 use Rattle.relation_law.proofs.DriveServer.{PerformsServer, sets_allowed, sets_stands, repairs_allowed, repairs_stands, created_stands, created_unready, attr_stands, sets_lanes, repairs_lanes, attr_lanes, created_lanes}
-use Rattle.relation_law.proofs.DriveActs.{Touches, touches_performs, touches_sets, touches_repairs, Rests, rests_same, rests_shows, all_go, none_go, idle_go, lanes_all, lanes_none, lanes_idle}
+use Rattle.relation_law.proofs.DriveActs.{Touches, touches_performs, touches_sets, touches_repairs, rests_same, rests_shows, all_go, none_go, idle_go, lanes_all, lanes_none, lanes_idle}
 
 -- these events may happen, and lead to a machine that has the components of the file
 pub record GoWell (s : State) (w v : World) (f : File) (events : List Event) : Type 0 where

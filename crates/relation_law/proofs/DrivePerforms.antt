@@ -1,9 +1,9 @@
 -- A drive performs a client's WRITE on a component that isn't lost: the machine's WRITE may be performed, and the component
 -- is behind it as the machine has it.
 -- Towards `ComponentsGoOn` (`specs/Steps.antt`).
-use Rattle.std.proofs.Common.{◌≡◌, ◌⊎◌, ℕ, ◌+◌, ◌-◌, ◌<◌, ◌≤◌, ◌==◌, Bool, true, false, List, length, slice_get, Option, Some, None, refl, sym, ap, subst, ◌∙◌, inl, inr, arith, eq-eqb}
+use Rattle.std.proofs.Common.{◌≡◌, ℕ, ◌+◌, ◌-◌, ◌<◌, ◌≤◌, ◌==◌, Bool, true, false, length, slice_get, Option, Some, None, refl, sym, ap, subst, ◌∙◌, inl, inr, arith, eq-eqb}
 use Rattle.std.specs.Prelude.{get_or, slice_index}
-use Rattle.std.proofs.lemmas.Bool.{cases_lt, cases_eq, cases_Bool, ne_eqb, eqb-true}
+use Rattle.std.proofs.lemmas.Bool.{cases_lt, cases_eq, eqb-true}
 use Rattle.osd_commands.specs.declared.actions.Action.TheVariants as action
 use Rattle.osd_commands.specs.declared.commands.Command.{Command}
 use Rattle.osd_objects.specs.declared.lanes.LaneEntry.{LaneEntry}
@@ -20,16 +20,15 @@ use Rattle.world_history.specs.ServerNames.{File, Component}
 use Rattle.world_history.specs.State.{World, DriveAt}
 use Rattle.history_law.proofs.Lanes.{lane_beside}
 use Rattle.history_law.proofs.Spending.{IsFree, free}
-use Rattle.exchange_law.specs.Sent.{HasSent}
 use Rattle.fence_law.specs.Words.{updated, over}
 use Rattle.fence_law.specs.State.{State, Write, WriteReply}
 use Rattle.fence_law.specs.State.Event.{Performs}
 use Rattle.fence_law.specs.Machine.{Allowed, after}
-use Rattle.fence_law.proofs.Words.{updated_same, updated_other, updated_at}
+use Rattle.fence_law.proofs.Words.{updated_other, updated_at}
 use Rattle.fence_law.proofs.Formed.{not_gone}
 use Rattle.fence_law.proofs.Safe.{Safe}
-use Rattle.file_simulation.specs.Components.{IsMade, IsUnmade, ObjectIs, LaneIs, StandsAs, IsComponent, object_of}
-use Rattle.file_simulation.specs.Messages.{Carries, WasSent}
+use Rattle.file_simulation.specs.Components.{IsMade, ObjectIs, LaneIs, StandsAs, object_of}
+use Rattle.file_simulation.specs.Messages.{WasSent}
 use Rattle.relation_law.specs.DriveHearing.{IsPerformed, IsOfClient}
 use Rattle.relation_law.proofs.DriveObjects.{Leaves, writes, lane_below, written_at, written_outside}
 use Rattle.relation_law.proofs.DriveWorld.{IsBehind, object_before, object_behind}

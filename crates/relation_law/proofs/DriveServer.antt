@@ -1,8 +1,8 @@
 -- A drive performs a command of the server on a component that isn't lost: a SET TAG, a repair's WRITE, or a CREATE.
 -- Towards `ComponentsGoOn` (`specs/Steps.antt`).
-use Rattle.std.proofs.Common.{◌≡◌, ◌⊎◌, ℕ, ◌+◌, ◌-◌, ◌<◌, ◌≤◌, ◌&&◌, Bool, true, false, cond, nat_le, nat_lt, List, [], ◌∷◌, length, slice_get, Option, Some, None, refl, sym, ap, subst, ◌∙◌, inl, inr, arith}
-use Rattle.std.specs.Prelude.{get_or, slice_index}
-use Rattle.std.proofs.lemmas.Bool.{cases_lt, cases_Bool}
+use Rattle.std.proofs.Common.{◌≡◌, ℕ, ◌+◌, ◌-◌, ◌<◌, ◌≤◌, Bool, true, false, cond, [], length, slice_get, Option, Some, None, refl, sym, ap, subst, ◌∙◌, inl, inr, arith}
+use Rattle.std.specs.Prelude.{get_or}
+use Rattle.std.proofs.lemmas.Bool.{cases_Bool}
 use Rattle.std.proofs.lemmas.Bool.Decides.{nat_tests}
 use Rattle.osd_commands.specs.declared.actions.Action.TheVariants as action
 use Rattle.osd_commands.specs.declared.commands.Command.{Command}
@@ -20,16 +20,15 @@ use Rattle.world_history.specs.State.{World, DriveAt, at_number}
 use Rattle.history_law.specs.Spent.{IsSpent}
 use Rattle.history_law.proofs.Lanes.{lane_beside}
 use Rattle.history_law.proofs.Spending.{IsFree, free, not_spent}
-use Rattle.exchange_law.specs.Sent.{HasSent}
-use Rattle.fence_law.specs.Words.{updated, In as InRun}
+use Rattle.fence_law.specs.Words.{In as InRun}
 use Rattle.fence_law.specs.State.{State}
 use Rattle.fence_law.specs.State.Event.{SetsTag, Repairs}
 use Rattle.fence_law.specs.Machine.{Allowed, after}
 use Rattle.fence_law.proofs.Words.{updated_same}
-use Rattle.file_simulation.specs.Components.{IsMade, IsUnmade, ObjectIs, LaneIs, StandsAs, IsComponent, object_of}
+use Rattle.file_simulation.specs.Components.{IsMade, IsUnmade, ObjectIs, LaneIs, StandsAs, object_of}
 use Rattle.file_simulation.specs.Messages.{AreSent, HasCommanded}
 use Rattle.file_simulation.specs.Phases.{PhaseIs}
-use Rattle.file_simulation.specs.Jobs.{IsFresh, IsOfPhase, AreOwned, OweWords, AreWords, AreSourced}
+use Rattle.file_simulation.specs.Jobs.{IsFresh, IsOfPhase, AreOwned, OweWords}
 use Rattle.file_simulation.specs.DriveEvents.{cells_of}
 use Rattle.relation_law.specs.DriveHearing.{IsPerformed, IsOfServer}
 use Rattle.relation_law.proofs.DriveObjects.{Leaves, writes, sets_tag, sets_attr, creates, creates_none, written_at, written_outside}

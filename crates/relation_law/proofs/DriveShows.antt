@@ -1,6 +1,6 @@
 -- A drive performs a READ that a client's call awaits: component k may show its cells to the entry that the client is at.
 -- Towards `EventsAreLawful` (`specs/Steps.antt`).
-use Rattle.std.proofs.Common.{◌≡◌, ◌⊎◌, ℕ, ◌<◌, ◌==◌, ◌&&◌, Bool, true, false, not, List, [], ◌∷◌, slice_get, Option, Some, None, refl, sym, ap, subst, ◌∙◌, inl, inr, arith, if◌then◌else◌}
+use Rattle.std.proofs.Common.{◌≡◌, ◌⊎◌, ℕ, ◌<◌, ◌==◌, ◌&&◌, Bool, true, false, List, [], ◌∷◌, slice_get, Option, Some, None, refl, sym, ap, subst, ◌∙◌, inl, inr}
 use Rattle.std.specs.Prelude.{unwrap_or}
 use Rattle.std.proofs.lemmas.Bool.{cases_Bool, and_parts, eqb-true}
 use Rattle.std.proofs.lemmas.Option.{same_Some}
@@ -8,19 +8,17 @@ use Rattle.data_map.specs.declared.check.RawMap.{RawMap}
 use Rattle.layout_ops.specs.declared.messages.Answer.{Answer}
 use Rattle.osd_commands.specs.declared.actions.Action.TheVariants as action
 use Rattle.osd_commands.specs.declared.commands.Command.{Command}
-use Rattle.osd_objects.specs.declared.object.StoredObject.{StoredObject}
 use Rattle.osd_objects.specs.Store.{object_at}
-use Rattle.osd_drive.specs.Table.{has_no_right}
 use Rattle.osd_drive.proofs.Clear.{all_told}
 use Rattle.server_rules.specs.Laws.{In}
 use Rattle.client_rules.specs.Calls.{file_of}
 use Rattle.client_rules.specs.Commands.{no_capability, no_credential, credential_in, credential_of}
 use Rattle.client_rules.specs.Grants.{held_of}
 use Rattle.client_rules.specs.Io.{awaited_in}
-use Rattle.world_history.specs.ClientNames.{Client, Call, Awaited, Held, Listed, Credential, Phase, Starts, Needs, Waits, Reads, Probes, Gathers, Scatters}
+use Rattle.world_history.specs.ClientNames.{Call, Awaited, Held, Listed, Credential, Phase, Starts, Needs, Waits, Reads, Probes, Gathers, Scatters}
 use Rattle.world_history.specs.ServerNames.{File, Component}
 use Rattle.world_history.specs.State.{World, DriveAt, at_number}
-use Rattle.history_law.proofs.Spending.{IsFree, free}
+use Rattle.history_law.proofs.Spending.{free}
 use Rattle.exchange_law.proofs.TakenLaw.{not_none}
 use Rattle.fence_law.specs.State.{State, Grant}
 use Rattle.fence_law.specs.State.Call.{Reads as AtRead, Writes as AtWrite}
@@ -29,8 +27,7 @@ use Rattle.fence_law.specs.Machine.{Allowed}
 use Rattle.fence_law.proofs.Commands.{Runs}
 use Rattle.fence_law.proofs.Safe.{Safe}
 use Rattle.file_simulation.specs.Components.{IsMade, ObjectIs, StandsAs, object_on, object_of}
-use Rattle.file_simulation.specs.Grants.{LayoutIs}
-use Rattle.file_simulation.specs.Calls.{IsClient, IsHolding, HeldIs, CallIs, CallOn, CallAt, reports_on, is_taken}
+use Rattle.file_simulation.specs.Calls.{IsClient, IsHolding, HeldIs, CallIs, CallOn, CallAt, reports_on}
 use Rattle.file_simulation.specs.DriveEvents.{awaits, is_running}
 use Rattle.file_simulation.specs.EventLists.{entry_in, entry_of}
 use Rattle.file_simulation.specs.Relation.{client_of}

@@ -1,8 +1,7 @@
 -- A world in which all drives have the same objects, or in which one failed.
 -- Towards `ComponentsGoOn` (`specs/Steps.antt`).
-use Rattle.std.proofs.Common.{◌≡◌, ◌⊎◌, ℕ, ◌+◌, ◌<◌, ◌≤◌, ◌==◌, ◌||◌, Bool, true, false, List, [], ◌∷◌, ◌++◌, zero, suc, slice_get, Option, Some, None, IsSome, refl, sym, ap, subst, ◌∙◌, inl, inr, arith, add-one, eq-eqb, if◌then◌else◌}
-use Rattle.std.proofs.lemmas.Bool.{cases_eq, cases_Bool, ne_eqb}
-use Rattle.osd_lists.proofs.Tests.{first_false}
+use Rattle.std.proofs.Common.{◌≡◌, ℕ, ◌+◌, ◌<◌, ◌==◌, ◌||◌, Bool, true, false, List, [], ◌∷◌, ◌++◌, zero, suc, slice_get, Some, IsSome, refl, sym, ap, subst, ◌∙◌, inl, inr, arith, eq-eqb}
+use Rattle.std.proofs.lemmas.Bool.{cases_eq, ne_eqb}
 use Rattle.osd_commands.specs.declared.commands.Command.{Command}
 use Rattle.osd_objects.specs.Store.{object_at}
 use Rattle.osd_objects.proofs.Entries.{lookup_set, lookup_set_beside}
@@ -11,14 +10,14 @@ use Rattle.world_history.specs.ServerNames.{File, Component}
 use Rattle.world_history.specs.State.{World, DriveAt, at_number, with_number}
 use Rattle.exchange_law.specs.Sent.{HasSent}
 use Rattle.fence_law.specs.Words.{In as InRun}
-use Rattle.fence_law.specs.State.{State, Event}
+use Rattle.fence_law.specs.State.{State}
 use Rattle.fence_law.specs.State.Event.{Fails}
 use Rattle.fence_law.specs.Machine.{Lawful, after, after_all}
-use Rattle.fence_law.proofs.Words.{updated_same, updated_other, updated_at}
-use Rattle.file_simulation.specs.Components.{StandsAs, IsComponent, AreComponents, object_on, has_failed, is_lost_in, object_of}
+use Rattle.fence_law.proofs.Words.{updated_other, updated_at}
+use Rattle.file_simulation.specs.Components.{IsComponent, AreComponents, object_on, has_failed}
 use Rattle.file_simulation.specs.EventLists.{where_so}
 use Rattle.file_simulation.specs.DriveEvents.{fails_from}
-use Rattle.relation_law.proofs.ComponentsKept.{KeepsObject, stands_kept, place_kept, lanes_same, LanesGo}
+use Rattle.relation_law.proofs.ComponentsKept.{stands_kept, place_kept, lanes_same, LanesGo}
 
 -- each drive has the same objects, and failed if it had; no client sent anything
 pub record IsAlike (w v : World) : Type 0 where

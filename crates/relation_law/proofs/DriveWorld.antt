@@ -1,12 +1,11 @@
 -- The world behind what a drive does: another drive stands in one place, and no party but drives sent anything.
 -- Towards `ComponentsGoOn` (`specs/Steps.antt`).
-use Rattle.std.proofs.Common.{◌≡◌, ◌⊎◌, ℕ, ◌||◌, Bool, true, false, List, Option, Some, None, IsSome, refl, sym, ap, subst, ◌∙◌, inl, inr}
+use Rattle.std.proofs.Common.{◌≡◌, ℕ, ◌||◌, Bool, Option, Some, IsSome, refl, sym, ap, subst, ◌∙◌, inl, inr}
 use Rattle.std.proofs.lemmas.Bool.{cases_eq}
 use Rattle.osd_commands.specs.declared.commands.Command.{Command}
-use Rattle.osd_objects.specs.declared.object.StoredObject.{StoredObject}
 use Rattle.osd_objects.specs.Store.{object_at}
 use Rattle.osd_objects.proofs.Entries.{lookup_set, lookup_set_beside}
-use Rattle.world_history.specs.ServerNames.{File, Component}
+use Rattle.world_history.specs.ServerNames.{Component}
 use Rattle.world_history.specs.State.{World, DriveAt, at_number, with_number}
 use Rattle.exchange_law.specs.Sent.{HasSent}
 use Rattle.file_simulation.specs.Components.{object_on, has_failed, is_lost_in, object_of}

@@ -1,6 +1,6 @@
 -- All events that come of what a drive is told, or of its failure, are of a drive.
-use Rattle.std.proofs.Common.{◌≡◌, ℕ, Bool, true, false, List, [], ◌∷◌, ◌++◌, Option, Some, None, Result, Ok, Err, refl}
-use Rattle.std.specs.Prelude.{◌+◌, ◌==◌, not, find, slice_get, if◌then◌else◌}
+use Rattle.std.proofs.Common.{ℕ, List, [], ◌∷◌, Option, Some, None, Result, Ok, Err}
+use Rattle.std.specs.Prelude.{◌+◌, ◌==◌, not, find, slice_get}
 use Rattle.osd_lists.specs.declared.node.Node.{Node}
 use Rattle.osd_lists.specs.declared.node.Node.TheVariants as node
 use Rattle.osd_commands.specs.declared.actions.Action.{Action}
@@ -21,7 +21,7 @@ use Rattle.file_simulation.specs.Relation.{client_of}
 use Rattle.file_simulation.specs.DriveEvents as table
 use Rattle.relation_law.specs.Frames.{AreAll, LinesAre, IsOfDrive}
 use Rattle.relation_law.proofs.FramesStay.{all_more}
-use Rattle.relation_law.proofs.FramesClient.{where_all, either_all}
+use Rattle.relation_law.proofs.FramesClient.{where_all}
 
 abbrev Own_all : List Event → Type 0
 Own_all = AreAll IsOfDrive

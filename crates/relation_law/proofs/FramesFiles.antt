@@ -1,41 +1,40 @@
 -- A file that is there before a move and behind it keeps its number, its map, its first tag and its number of components.
-use Rattle.std.proofs.Common.{◌≡◌, ◌⊎◌, ◌==◌, nat_lt, ℕ, Bool, true, false, List, [], ◌∷◌, ◌++◌, Option, Some, None, map, length, inl, inr, refl, sym, ap, subst, ◌∙◌, if◌then◌else◌}
+use Rattle.std.proofs.Common.{◌≡◌, nat_lt, ℕ, List, [], ◌∷◌, ◌++◌, Option, Some, None, map, inl, inr, refl, sym, ap, subst, ◌∙◌}
 use Rattle.std.proofs.lemmas.Bool.{cases_Bool, cases_eq, eq-eqb, ne_eqb}
 use Rattle.scenario_text.specs.declared.line.Line.{Line}
 use Rattle.data_map.specs.declared.check.RawMap.{RawMap}
-use Rattle.osd_lists.specs.declared.node.Node.TheVariants.{Server as FromServer}
-use Rattle.server_rules.specs.Files.{Step, still, begins, file_at, put_file, add_file, at_file, step_at}
-use Rattle.server_rules.specs.Going.{Going, noting}
-use Rattle.server_rules.specs.History.{Input, Hears, step}
+use Rattle.server_rules.specs.Files.{Step, begins, file_at, put_file, add_file, at_file}
+use Rattle.server_rules.specs.Going.{Going}
+use Rattle.server_rules.specs.History.{Input, step}
 use Rattle.server_rules.specs.Jobs.{making, declares, fence_begins}
 use Rattle.server_rules.specs.Laws.{In}
 use Rattle.server_rules.specs.Making.{with_file, makes_file}
 use Rattle.server_rules.specs.Openings.{crashed_file, opens, opens_each}
 use Rattle.server_rules.specs.Orders.{offline, declare, declares_each}
 use Rattle.server_rules.specs.Replies.{hearing}
-use Rattle.server_rules.specs.Requests.{serves, on_request}
-use Rattle.server_rules.proofs.FileLaws.{number_at, put_same, put_other, add_other, not_there}
+use Rattle.server_rules.specs.Requests.{on_request}
+use Rattle.server_rules.proofs.FileLaws.{number_at, put_other, add_other, not_there}
 use Rattle.world_history.specs.ServerNames.{Server, File, Drive, Effects, ClientRequest}
-use Rattle.world_history.specs.State.{World, empty_world}
+use Rattle.world_history.specs.State.{World}
 use Rattle.world_history.specs.Sending.{Move, move}
 use Rattle.world_history.specs.Plans.{due}
 use Rattle.history_law.specs.BookMoments.{IsMoment, plan_at, lines_in}
 use Rattle.history_law.specs.Doing.{input_in}
 use Rattle.move_law.specs.Moments.{IsReached}
-use Rattle.move_law.specs.Steps.{IsAnswering, answered_file, new_file, with_answer, StepCases, RequestCases}
+use Rattle.move_law.specs.Steps.{answered_file, new_file, StepCases}
 use Rattle.move_law.proofs.Files.{in_at}
-use Rattle.move_law.proofs.Reached.{IsKept, always}
+use Rattle.move_law.proofs.Reached.{always}
 use Rattle.move_law.proofs.Steps.{each_step, each_request}
 use Rattle.calm_law.specs.Words.{Each}
 use Rattle.calm_law.specs.Performing.{AreDistinct}
 use Rattle.calm_law.proofs.Making.{none_there, distinct_added}
-use Rattle.exchange_law.specs.Shapes.{HasShape, FilesHaveShape}
+use Rattle.exchange_law.specs.Shapes.{FilesHaveShape}
 use Rattle.exchange_law.proofs.CountMoments.{reached}
 use Rattle.exchange_law.proofs.HeldWorlds.{next_moment}
 use Rattle.exchange_law.proofs.Shapes.{files_have_shape}
 use Rattle.history_law.proofs.Running.{parties_run}
 use Rattle.relation_law.specs.Frames.{FileStays, IsSameFile}
-use Rattle.relation_law.proofs.FramesRan.{Same, same_making, same_hears, same_fence, same_declares, same_opens, same_serves}
+use Rattle.relation_law.proofs.FramesRan.{same_making, same_hears, same_fence, same_declares, same_opens, same_serves}
 use Rattle.relation_law.proofs.FramesParties.{server_rests, server_steps}
 
 same_file : (f : File) → IsSameFile f f

@@ -1,5 +1,5 @@
 -- Whatever happens to the machine, its log and what was sent only grow.
-use Rattle.std.proofs.Common.{◌≡◌, ◌<◌, ◌≤◌, ℕ, List, [], ◌∷◌, ◌++◌, refl, ◌∙◌, inr, arith}
+use Rattle.std.proofs.Common.{◌≡◌, List, [], ◌∷◌, ◌++◌, refl, ◌∙◌, inr, arith}
 use Rattle.fence_law.specs.State.{State, Event}
 use Rattle.fence_law.specs.State.Event.{Asks, Grants, Refuses, GivesBack, Reports, Frees, StartsWrite, Sends, StartsRead, Repairs, Rebuilds}
 use Rattle.fence_law.specs.Machine.{after, after_all}

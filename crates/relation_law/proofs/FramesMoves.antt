@@ -20,12 +20,11 @@ use Rattle.server_rules.specs.History as server
 use Rattle.client_rules.specs.declared.calls.CallOp.{CallOp}
 use Rattle.client_rules.specs.declared.outcomes.CallErr.{CallErr}
 use Rattle.client_rules.specs.Messages.{Message as ClientMessage, Step as ClientStep}
-use Rattle.client_rules.specs.Steps.{calls, new_client}
+use Rattle.client_rules.specs.Steps.{calls}
 use Rattle.client_rules.specs.History as client
 use Rattle.world_history.specs.ServerNames as server_rules
-use Rattle.world_history.specs.declared.messages.Message.{Message}
 use Rattle.world_history.specs.declared.messages.Posted.{Posted}
-use Rattle.world_history.specs.State.{World, DriveAt, ClientAt, at_number, with_number, and_number, with_down}
+use Rattle.world_history.specs.State.{World, DriveAt, ClientAt, at_number, with_down}
 use Rattle.world_history.specs.Drives.{judges, command_in, raised, at_time, fallen, crashed, reopened, is_deaf}
 use Rattle.world_history.specs.Handed.{Handed, is_addressed, client_posts, handed_to, server_takes, drive_hears, drive_replies, client_did, client_hears, client_takes, for_server, for_client, quiet, pending_op, op_in, wrote_in, data_in, client_goes}
 use Rattle.world_history.specs.Moves as world
@@ -35,7 +34,7 @@ use Rattle.move_law.specs.Moves.{IsForClient, number_in}
 use Rattle.move_law.proofs.Moves.{said_marked}
 use Rattle.exchange_law.specs.InStep.{state_of}
 use Rattle.exchange_law.proofs.Each.{stopped_same, come_same}
-use Rattle.file_simulation.specs.ClientEvents.{Going, going, hearing, hearing_at, delivered, leaving, opened, going_in}
+use Rattle.file_simulation.specs.ClientEvents.{going, hearing, hearing_at, delivered, leaving, opened, going_in}
 use Rattle.relation_law.specs.Frames.{ByClient, ByNone, ByGoing}
 
 -- ---- no client goes on

@@ -1,19 +1,17 @@
 -- A move by its party: a client goes on, or the server takes a step, or a drive hears something, or nobody does anything.
-use Rattle.std.proofs.Common.{◌≡◌, ℕ, Bool, true, false, List, [], ◌∷◌, ◌++◌, Option, Some, None, refl, sym, ap, subst, ◌∙◌}
-use Rattle.std.specs.Prelude.{slice_get, if◌then◌else◌}
-use Rattle.std.proofs.lemmas.List.{append-nil}
+use Rattle.std.proofs.Common.{◌≡◌, ℕ, List, Option, Some, None, refl, sym, ap, subst, ◌∙◌}
+use Rattle.std.specs.Prelude.{slice_get}
 use Rattle.osd_lists.specs.declared.node.Node.{Node}
 use Rattle.osd_lists.specs.declared.node.Node.TheVariants as node
 use Rattle.scenario_text.specs.declared.event.Event.{Event as Told}
 use Rattle.scenario_text.specs.declared.event.Event.TheVariants as scenario
 use Rattle.scenario_text.specs.declared.line.Line.{Line}
-use Rattle.server_rules.specs.Files.{Step}
 use Rattle.server_rules.specs.History.{Input, step as server_step}
 use Rattle.client_rules.specs.History.{step}
 use Rattle.world_history.specs.ServerNames.{Server, File}
 use Rattle.world_history.specs.declared.messages.Message.{Message}
 use Rattle.world_history.specs.declared.messages.Posted.{Posted}
-use Rattle.world_history.specs.State.{World, ClientAt, at_number}
+use Rattle.world_history.specs.State.{World}
 use Rattle.world_history.specs.Moves.{Act, Action, Opens, Delivers, TimesOut, Pends, acts}
 use Rattle.world_history.specs.Book.{server_behind, step_by}
 use Rattle.world_history.specs.Plans.{due}
@@ -24,9 +22,8 @@ use Rattle.history_law.proofs.Doing.{server_moves}
 use Rattle.exchange_law.specs.InStep.{state_of}
 use Rattle.exchange_law.proofs.SlotMoments.{comes_new}
 use Rattle.fence_law.specs.State.{State, Event}
-use Rattle.file_simulation.specs.EventLists.{Lines}
 use Rattle.file_simulation.specs.Relation.{client_of}
-use Rattle.file_simulation.specs.Events.{joined, events_of}
+use Rattle.file_simulation.specs.Events.{events_of}
 use Rattle.file_simulation.specs.ClientEvents as client
 use Rattle.file_simulation.specs.ClientEvents.{Going, going_in}
 use Rattle.file_simulation.specs.ServerEvents.{asker, server_events}

@@ -14,11 +14,10 @@ use Rattle.server_rules.specs.Repair.{repairs, after_repair, mended, storing, st
 use Rattle.server_rules.specs.Jobs.{fence_begins, making, fenced, fences, goes_on, fetched, written, gathered, filled_in, audited_on, waits_or_on, loses, refills, remakes, declares, declared_in, targets}
 use Rattle.server_rules.specs.Replies.{Hearing, Older, Full, Done, Nothing, others, heard_with, fills_up, hears}
 use Rattle.server_rules.specs.Get.{Early, BadMode, Invalid, Unable, Waits, On, Late, NoNumber, Lacks, Conflict, Gives, late, early, must_fence, by_late, give_or_refuse, after_fence, fence_then, fence_first, on_grants, by_early, gets}
-use Rattle.server_rules.specs.Grants.{asked}
 use Rattle.server_rules.specs.Commit.{Committed, NoGrant as NoneCommits, Wrong, Sizes, by_commit, commit_row, commits}
 use Rattle.server_rules.specs.Return.{Returned, NoGrant, Clean, Taken, TooMany, Fencing, by_return, return_row, reports_from, takes_loss, ends_grant, returns_on}
 use Rattle.server_rules.specs.Requests.{serves}
-use Rattle.server_rules.specs.Openings.{opens_made, opens_spent, opens_fenced, opens, is_unsettled}
+use Rattle.server_rules.specs.Openings.{opens_made, opens_fenced, opens, is_unsettled}
 
 -- the file that was k is still that file
 abbrev pub Same : Kept → Going → Type 0

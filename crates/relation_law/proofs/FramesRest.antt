@@ -1,10 +1,9 @@
 -- What the events of the server and of drives leave as it was: what clients sent, what the server keeps, what drives told.
-use Rattle.std.proofs.Common.{◌≡◌, ℕ, List, Option, Some, refl, sym, ap, ◌∙◌}
+use Rattle.std.proofs.Common.{ℕ, List, Option, refl, ◌∙◌}
 use Rattle.fence_law.specs.State.{State, Event}
-use Rattle.fence_law.specs.State.Event.{Asks, Grants, Refuses, Takes, AsksOther, ServesOther, TakesOther, GivesBack, Reports, Forgets, Frees, Fences, SetsTag, Fenced, Refenced, StartsWrite, Sends, Performs, Learns, Acknowledges, Breaks, StartsRead, Shows, Answers, EndsRead, Fails, Drops, Declares, Loses, Leaves, Tells, PerformsLost, AsksCommit, Commits, RefusesCommit, TakesCommit, TakesRefusal, Repairs, Repaired, Rebuilds}
+use Rattle.fence_law.specs.State.Event.{Asks, Grants, Refuses, Takes, AsksOther, ServesOther, TakesOther, GivesBack, Reports, Forgets, Frees, Fences, SetsTag, Fenced, Refenced, StartsWrite, Sends, Performs, Learns, Acknowledges, Breaks, StartsRead, Shows, Answers, EndsRead, Drops, Declares, Loses, Leaves, Tells, PerformsLost, AsksCommit, Commits, RefusesCommit, TakesCommit, TakesRefusal, Repairs, Repaired, Rebuilds}
 use Rattle.fence_law.specs.Machine.{after, after_all}
-use Rattle.fence_law.proofs.Words.{updated_other}
-use Rattle.relation_law.specs.Frames.{AreAll, IsOfClient, IsOfServer, IsOfDrive, ClientStays, SlotStays, ClientsStay, KeptStays, RepliesStay}
+use Rattle.relation_law.specs.Frames.{AreAll, IsOfServer, IsOfDrive, ClientsStay, KeptStays, RepliesStay}
 use Rattle.relation_law.proofs.FramesStay.{related_by_all}
 
 -- ---- what clients sent and asked

@@ -1,6 +1,6 @@
 -- All events of a step of the server are of the server, and those of a client are of the client whose request it is on.
-use Rattle.std.proofs.Common.{◌≡◌, ℕ, Bool, true, false, List, [], ◌∷◌, ◌++◌, Option, Some, None, refl, sym, ap, ◌∙◌}
-use Rattle.std.specs.Prelude.{◌+◌, ◌==◌, ◌&&◌, nat_le, not, if◌then◌else◌}
+use Rattle.std.proofs.Common.{◌≡◌, ℕ, Bool, true, false, List, [], ◌∷◌, Option, Some, None, refl, ap}
+use Rattle.std.specs.Prelude.{◌+◌, ◌==◌, ◌&&◌, nat_le, if◌then◌else◌}
 use Rattle.std.proofs.lemmas.Bool.{eqb-true, and_parts}
 use Rattle.osd_lists.specs.declared.node.Node.{Node}
 use Rattle.osd_lists.specs.declared.node.Node.TheVariants as node
@@ -24,7 +24,7 @@ use Rattle.fence_law.specs.State.RequestKind.{Get, Return}
 use Rattle.fence_law.specs.State.Event.{Fences, Fenced, Refenced}
 use Rattle.fence_law.specs.Machine.{after_all}
 use Rattle.file_simulation.specs.Components.{has_failed}
-use Rattle.file_simulation.specs.EventLists.{Lines, where_so, of_grant}
+use Rattle.file_simulation.specs.EventLists.{where_so}
 use Rattle.file_simulation.specs.ServerEvents as table
 use Rattle.relation_law.specs.Frames.{AreAll, LinesAre, IsOfServer, asker_in}
 use Rattle.relation_law.proofs.FramesStay.{all_more}

@@ -1,14 +1,12 @@
 -- What the events of each party leave as it was, one by one and over lists.
-use Rattle.std.proofs.Common.{◌≡◌, ◌<◌, ◌≤◌, ℕ, List, [], ◌∷◌, ◌++◌, Option, Some, None, refl, sym, ap, subst, ◌∙◌, inl, inr, arith}
+use Rattle.std.proofs.Common.{ℕ, List, [], ◌∷◌, ◌++◌, refl, ◌∙◌}
 use Rattle.std.specs.Prelude.{take, zero, suc}
-use Rattle.fence_law.specs.Words.{In}
-use Rattle.fence_law.specs.State.{State, Event, Start, Request, Answer, Write}
-use Rattle.fence_law.specs.State.Event.{Asks, Grants, Refuses, Takes, AsksOther, ServesOther, TakesOther, GivesBack, Reports, Forgets, Frees, Fences, SetsTag, Fenced, Refenced, StartsWrite, Sends, Performs, Learns, Acknowledges, Breaks, StartsRead, Shows, Answers, EndsRead, Fails, Drops, Declares, Loses, Leaves, Tells, PerformsLost, AsksCommit, Commits, RefusesCommit, TakesCommit, TakesRefusal, Repairs, Repaired, Rebuilds}
+use Rattle.fence_law.specs.State.{State, Event}
+use Rattle.fence_law.specs.State.Event.{Grants, Refuses, ServesOther, Frees, Fences, SetsTag, Fenced, Refenced, Performs, Shows, Fails, Drops, Declares, Loses, Leaves, PerformsLost, Commits, RefusesCommit, Repairs, Repaired, Rebuilds}
 use Rattle.fence_law.specs.Machine.{after, after_all, Lawful, Allowed}
-use Rattle.fence_law.proofs.Words.{updated_other}
 use Rattle.file_simulation.specs.EventLists.{Lines}
 use Rattle.file_simulation.specs.Events.{joined}
-use Rattle.relation_law.specs.Frames.{AreAll, LinesAre, IsOfClient, IsOfServer, IsOfDrive, ServerStays, ClientStays, SlotStays, ClientsStay, KeptStays, RepliesStay, LogGrows}
+use Rattle.relation_law.specs.Frames.{AreAll, LinesAre, IsOfClient, ServerStays}
 
 -- ---- lists
 

@@ -1,53 +1,28 @@
 -- A client's request on a file: what the machine has behind its step.
 -- Towards `KeptGoesOn` (`specs/Steps.antt`).
-use Rattle.std.proofs.Common.{◌≡◌, ◌⊎◌, ◌==◌, ◌&&◌, ◌||◌, ℕ, ◌+◌, ◌<◌, ◌≤◌, max, Bool, true, false, not, List, [], ◌∷◌, ◌++◌, find, is_some, Option, Some, None, refl, sym, ap, subst, ◌∙◌, arith, inl, inr, if◌then◌else◌}
-use Rattle.std.proofs.lemmas.Bool.{true≢false, cases_Bool, cases_eq, eqb-true, eq-eqb, ne_eqb, eqb-false}
-use Rattle.std.proofs.lemmas.List.{append-nil}
+use Rattle.std.proofs.Common.{◌≡◌, ◌==◌, ℕ, ◌+◌, Bool, false, List, [], ◌∷◌, ◌++◌, Some, None, refl, sym, subst, arith, inl, inr}
+use Rattle.std.proofs.lemmas.Bool.{cases_Bool, eq-eqb}
 use Rattle.layout_ops.specs.declared.statuses.TheConstants.{LAYOUTIOMODE4_RW, NFS4_OK}
-use Rattle.layout_ops.specs.declared.messages.Answer.{Answer}
-use Rattle.server_rules.specs.declared.limits.TheConstants.{GREATEST_TAG}
-use Rattle.sent_law.specs.Tagged.{is_fence, fence_open}
-use Rattle.client_rules.specs.Answers.{is_loss_taken}
 use Rattle.client_rules.specs.Results.{status_of}
-use Rattle.server_rules.specs.Answers.{result_of, file_answer}
-use Rattle.server_rules.specs.Commit.{Committed, NoGrant as NotCommitted, Wrong, Sizes, may_commit, commit_under, commit_row, by_commit, commits}
-use Rattle.server_rules.specs.Files.{at_file}
-use Rattle.server_rules.specs.Get.{gives, gets}
-use Rattle.server_rules.specs.Going.{Going, noting, noting_if, keeping, with_components}
-use Rattle.server_rules.specs.Grants.{grant_of, without}
+use Rattle.server_rules.specs.Get.{gives}
+use Rattle.server_rules.specs.Grants.{grant_of}
 use Rattle.server_rules.specs.History.{Input}
-use Rattle.server_rules.specs.Jobs.{ending, fence_begins}
-use Rattle.server_rules.specs.Numbers.{among}
-use Rattle.server_rules.specs.Requests.{serves, answer_with}
-use Rattle.server_rules.specs.Return.{Returned, NoGrant, Clean, Taken, TooMany, Fencing, return_row, by_grant, by_report, by_loss, loss, ends_grant, reports_from, takes_loss, by_return, returns_on}
-use Rattle.server_rules.specs.Served.{Served, says}
-use Rattle.server_rules.specs.Standing.{lose_from}
-use Rattle.world_history.specs.ServerNames.{Server, File, Kept, Phase, Still, Grant, Note, NoteKind, Spent, Reported, Component, Job, Revoking, ClientRequest, RequestArgs, Get as Gets, Commit as Commits_, Return as Returns}
+use Rattle.server_rules.specs.Requests.{answer_with}
+use Rattle.server_rules.specs.Served.{Served}
+use Rattle.world_history.specs.ServerNames.{Server, File, Grant, Note, ClientRequest, Get as Gets}
 use Rattle.world_history.specs.State.{World}
-use Rattle.fence_law.specs.State as machine
 use Rattle.fence_law.specs.State.{State, Event}
 use Rattle.fence_law.specs.State.{Event as event}
-use Rattle.fence_law.specs.State.RequestKind.{Get, Return}
-use Rattle.fence_law.specs.Machine.{Allowed, Lawful, after, after_all}
-use Rattle.fence_law.proofs.Safe.{Safe, keep_safe, safe_all}
-use Rattle.file_simulation.specs.EventLists.{where_so, of_grant, entry_of}
+use Rattle.fence_law.specs.Machine.{Lawful, after_all}
+use Rattle.fence_law.proofs.Safe.{Safe, safe_all}
 use Rattle.file_simulation.specs.Grants.{covers_column}
-use Rattle.file_simulation.specs.ServerEvents.{begins_fence, fences, returned, return_served, committed, served_here, answered_here, get_answered, granted, loss_answered, noted_here, reported, asker}
-use Rattle.relation_law.specs.KeptAsked.{AsksAs, ReturnIs, IsClean, IsNothing, IsBroken, IsReport, CommitIs}
+use Rattle.file_simulation.specs.ServerEvents.{answered_here}
+use Rattle.relation_law.specs.KeptAsked.{AsksAs}
 use Rattle.relation_law.specs.KeptGets.{IsRefused, IsGiven, GetsAs, Refused, Given_}
-use Rattle.relation_law.specs.KeptSteps.{AllLight, notes_events, behind_notes, core, IsSoFar, IsKeptAt, IsDone}
-use Rattle.relation_law.specs.KeptWalk.{AreAlike, noted_of, IsWalked, FileFits}
-use Rattle.relation_law.proofs.KeptJobs.{ends_fence}
-use Rattle.relation_law.proofs.KeptHigh.{high_after}
-use Rattle.relation_law.proofs.KeptLight.{so_far_light}
-use Rattle.relation_law.proofs.KeptNotes.{AreSupplied, IsBehind, walked}
-use Rattle.relation_law.proofs.KeptEnds.{so_far_from, kept_from, begins_so_far, fence_shows}
+use Rattle.relation_law.specs.KeptSteps.{AllLight, notes_events, behind_notes, IsKeptAt}
 use Rattle.relation_law.proofs.KeptGrants.{grants_kept}
-use Rattle.relation_law.proofs.KeptOpens.{none_shows}
-use Rattle.relation_law.proofs.KeptReturns.{frees_dropped, leaves_dropped, none_kept, left_kept, granted_still, commits_kept}
-use Rattle.relation_law.proofs.KeptRounds.{begun, done}
+use Rattle.relation_law.proofs.KeptRounds.{done}
 use Rattle.relation_law.proofs.KeptServer.{light_kept}
-use Rattle.relation_law.proofs.KeptGets.{GetsOn, gets_on}
 
 -- ---- the answer to a LAYOUTGET
 

@@ -1,7 +1,7 @@
 -- A commit on a file: what the machine has behind its step.
 -- Towards `KeptGoesOn` (`specs/Steps.antt`).
-use Rattle.std.proofs.Common.{◌≡◌, ◌⊎◌, ◌==◌, ◌&&◌, ◌||◌, ℕ, ◌+◌, ◌*◌, ◌<◌, ◌≤◌, max, Bool, true, false, not, List, [], ◌∷◌, ◌++◌, Option, Some, None, refl, sym, ap, subst, ◌∙◌, arith, inl, inr, if◌then◌else◌}
-use Rattle.std.proofs.lemmas.Bool.{true≢false, cases_Bool}
+use Rattle.std.proofs.Common.{◌≡◌, ◌==◌, ◌&&◌, ℕ, ◌+◌, max, Bool, true, false, List, [], ◌∷◌, Option, Some, None, refl, sym, subst, arith, inl, inr}
+use Rattle.std.proofs.lemmas.Bool.{cases_Bool}
 use Rattle.layout_ops.specs.declared.statuses.TheConstants.{NFS4_OK, NFS4ERR_BADLAYOUT, NFS4ERR_INVAL}
 use Rattle.data_map.specs.Striping.{stripe_length}
 use Rattle.client_rules.specs.Results.{status_of}
@@ -12,18 +12,18 @@ use Rattle.server_rules.specs.Grants.{grant_of}
 use Rattle.server_rules.specs.History.{Input}
 use Rattle.server_rules.specs.Requests.{answer_with}
 use Rattle.server_rules.specs.Served.{Served, says}
-use Rattle.world_history.specs.ServerNames.{Server, File, Kept, Still, Grant, Note, ClientRequest, RequestArgs, Commit as Commits_}
+use Rattle.world_history.specs.ServerNames.{File, Kept, Still, Grant, Note, ClientRequest, Commit as Commits_}
 use Rattle.world_history.specs.State.{World}
 use Rattle.fence_law.specs.State as machine
 use Rattle.fence_law.specs.State.{State, Event}
 use Rattle.fence_law.specs.State.{Event as event}
-use Rattle.fence_law.specs.Machine.{Allowed, Lawful, after, after_all}
-use Rattle.fence_law.proofs.Safe.{Safe, keep_safe, safe_all}
-use Rattle.file_simulation.specs.EventLists.{of_grant, entry_of}
+use Rattle.fence_law.specs.Machine.{Lawful, after, after_all}
+use Rattle.fence_law.proofs.Safe.{Safe, keep_safe}
+use Rattle.file_simulation.specs.EventLists.{entry_of}
 use Rattle.file_simulation.specs.Phases.{OutstandingIs, IsStill, PhaseIs}
-use Rattle.file_simulation.specs.ServerEvents.{served_here, committed, answered_here}
+use Rattle.file_simulation.specs.ServerEvents.{served_here, answered_here}
 use Rattle.relation_law.specs.KeptAsked.{AsksAs, CommitIs}
-use Rattle.relation_law.specs.KeptSteps.{AllLight, notes_events, behind_notes, IsKeptAt}
+use Rattle.relation_law.specs.KeptSteps.{notes_events, IsKeptAt}
 use Rattle.relation_law.proofs.KeptReturns.{granted_still, commits_kept, sized}
 use Rattle.relation_law.proofs.KeptServer.{light_kept}
 

@@ -1,30 +1,28 @@
 -- What the machine has of what is kept of a file, between two steps and in the middle of one.
 -- Towards `KeptGoesOn` (`specs/Steps.antt`).
-use Rattle.std.proofs.Common.{◌≡◌, ◌⊎◌, ◌==◌, ◌&&◌, ◌||◌, ℕ, ◌+◌, ◌<◌, ◌≤◌, Bool, true, false, not, List, [], ◌∷◌, ◌++◌, find, Option, Some, None, refl, sym, ap, subst, ◌∙◌, arith, inl, inr, if◌then◌else◌}
-use Rattle.std.proofs.lemmas.Bool.{true≢false, cases_Bool, eqb-true, eq-eqb, ne_eqb}
+use Rattle.std.proofs.Common.{◌≡◌, ◌⊎◌, ◌==◌, ◌||◌, ℕ, ◌<◌, ◌≤◌, Bool, true, false, not, List, [], ◌∷◌, Option, Some, None, refl, sym, ap, subst, ◌∙◌, arith, inl, inr}
+use Rattle.std.proofs.lemmas.Bool.{cases_Bool, eqb-true, ne_eqb}
 use Rattle.data_map.specs.declared.check.RawMap.{RawMap}
 use Rattle.plan_law.specs.FileLayout.{stripe_of_column}
 use Rattle.sent_law.specs.Tagged.{is_fence, fence_open}
-use Rattle.server_rules.specs.Files.{at_file}
-use Rattle.server_rules.specs.Going.{Going, keeping}
+use Rattle.server_rules.specs.Going.{Going}
 use Rattle.server_rules.specs.Grants.{grant_of}
 use Rattle.server_rules.specs.Jobs.{ending, fencing, fence_begins}
 use Rattle.server_rules.specs.Laws.{In}
 use Rattle.server_rules.proofs.Members.{in_front, in_behind}
-use Rattle.world_history.specs.ServerNames.{File, Kept, Grant, Phase, Still, Fencing, Repairing, FencingAgain, Note, NoteKind, JobKind}
+use Rattle.world_history.specs.ServerNames.{File, Kept, Grant, Phase, Still, Fencing, Repairing, FencingAgain, Note, JobKind}
 use Rattle.fence_law.specs.State as machine
-use Rattle.fence_law.specs.State.{State, Event}
+use Rattle.fence_law.specs.State.{State}
 use Rattle.fence_law.specs.State.Event.{Fences}
-use Rattle.fence_law.specs.Machine.{Allowed, Lawful, after, after_all}
+use Rattle.fence_law.specs.Machine.{Lawful, after, after_all}
 use Rattle.fence_law.proofs.Safe.{Safe}
 use Rattle.file_simulation.specs.EventLists.{where_so}
-use Rattle.file_simulation.specs.Phases.{OutstandingIs, IsStill, IsEnded, IsFencing, IsRepairing, PhaseIs, IsEndedAt, AreBelowHigh}
+use Rattle.file_simulation.specs.Phases.{OutstandingIs, IsStill, IsEnded, IsFencing, IsRepairing, PhaseIs, AreBelowHigh}
 use Rattle.file_simulation.specs.ServerEvents.{begins_fence, fences}
-use Rattle.relation_law.specs.KeptHigh.{HighNeeds}
 use Rattle.relation_law.specs.KeptSteps.{core, IsSoFar, IsKeptAt}
-use Rattle.relation_law.specs.KeptWalk.{AreAlike, noted_of, IsWalked, FileFits}
+use Rattle.relation_law.specs.KeptWalk.{IsWalked}
 use Rattle.relation_law.proofs.KeptHigh.{high_after}
-use Rattle.relation_law.proofs.KeptJobs.{Own, End, ends_fence}
+use Rattle.relation_law.proofs.KeptJobs.{ends_fence}
 
 -- ---- in and out of a step
 
@@ -185,8 +183,7 @@ begins_so_far next s k format Still is l safe busy h =
       next_is = h.next_is;
       unused = λ b q. absurd (cc (sym (ap fencing is) ∙ q));
       unready = h.unready;
-      low =
-          low_of (after s Fences) (core k) (core (ending k format)) refl (omega arith)
+      low = low_of (after s Fences) (core k) (core (ending k format)) refl (omega arith)
           (λ m x i. in_front x k.ended k.grants i) low;
     }
 begins_so_far next s k format Fencing is l safe busy h =
@@ -230,8 +227,7 @@ begins_so_far next s k format Repairing is l safe busy h =
       next_is = h.next_is;
       unused = λ b q. absurd (cc (sym (ap fencing is) ∙ q));
       unready = h.unready;
-      low =
-          low_of (after s Fences) (core k) (core (ending k format)) refl (omega arith)
+      low = low_of (after s Fences) (core k) (core (ending k format)) refl (omega arith)
           (λ m x i. in_front x k.ended k.grants i) low;
     }
 begins_so_far next s k format FencingAgain is l safe busy h =

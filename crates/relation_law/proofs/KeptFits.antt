@@ -1,31 +1,29 @@
 -- At each moment of a run the work of each file's job fits its phase, while the server is up.
 -- Towards `KeptGoesOn` (`specs/Steps.antt`).
-use Rattle.std.proofs.Common.{◌≡◌, ◌⊎◌, ◌==◌, ◌&&◌, ◌||◌, ℕ, ◌+◌, Bool, true, false, not, map, List, [], ◌∷◌, ◌++◌, find, is_some, Option, Some, None, refl, sym, ap, subst, ◌∙◌, arith, inl, inr, if◌then◌else◌}
-use Rattle.std.proofs.lemmas.Bool.{true≢false, cases_Bool}
-use Rattle.osd_lists.specs.declared.node.Node.TheVariants.{Server as FromServer}
+use Rattle.std.proofs.Common.{◌≡◌, ◌==◌, ℕ, ◌+◌, Bool, true, false, List, [], ◌∷◌, Option, Some, None, refl, sym, if◌then◌else◌}
+use Rattle.std.proofs.lemmas.Bool.{true≢false}
 use Rattle.server_rules.specs.declared.limits.TheConstants.{GREATEST_TAG}
 use Rattle.server_rules.specs.Commit.{Committed, NoGrant as NotCommitted, Wrong, Sizes, by_commit, commit_row, commits}
-use Rattle.server_rules.specs.Files.{Step, still, begins, file_at, put_file, at_file, step_at}
+use Rattle.server_rules.specs.Files.{Step, begins, at_file}
 use Rattle.server_rules.specs.Get.{Early, BadMode, Invalid, Unable, Waits, On, Late, NoNumber, Lacks, Conflict, Gives, by_late, late, give_or_refuse, after_fence, fence_first, on_grants, must_fence, by_early, gets}
-use Rattle.server_rules.specs.Going.{Going, noting, noting_if, with_components}
-use Rattle.server_rules.specs.History.{Input, Hears, Crashes, Opens, Act, step, state_after}
-use Rattle.server_rules.specs.Jobs.{making, fence_begins, declares}
+use Rattle.server_rules.specs.Going.{Going, noting_if, with_components}
+use Rattle.server_rules.specs.History.{Input, Crashes, Opens, Act, step, state_after}
+use Rattle.server_rules.specs.Jobs.{making, fence_begins}
 use Rattle.server_rules.specs.Laws.{In}
-use Rattle.server_rules.specs.Making.{with_file, makes_file, new_server}
-use Rattle.server_rules.specs.Messages.{Orders, counters_have_room}
+use Rattle.server_rules.specs.Making.{with_file}
+use Rattle.server_rules.specs.Messages.{counters_have_room}
 use Rattle.server_rules.specs.Numbers.{among}
-use Rattle.server_rules.specs.Openings.{crash, crashed_file, opens, opens_each, reopen}
-use Rattle.server_rules.specs.Orders.{offline, declare, declares_each}
-use Rattle.server_rules.specs.Requests.{serves, on_request}
+use Rattle.server_rules.specs.Openings.{crash, reopen}
+use Rattle.server_rules.specs.Orders.{offline, declare}
+use Rattle.server_rules.specs.Requests.{serves}
 use Rattle.server_rules.specs.Return.{Returned, NoGrant, Clean, Taken, TooMany, Fencing, return_row, by_return, reports_from, takes_loss, returns_on}
-use Rattle.server_rules.specs.Rounds.{step_round}
 use Rattle.server_rules.specs.Served.{Served}
 use Rattle.server_rules.specs.Standing.{lose_from}
 use Rattle.move_law.specs.Moves.{down_behind}
-use Rattle.move_law.specs.Steps.{StepCases, RequestCases, with_answer, new_file, answered_file}
+use Rattle.move_law.specs.Steps.{StepCases, RequestCases, new_file, answered_file}
 use Rattle.move_law.proofs.Steps.{each_step, each_request}
 use Rattle.move_law.proofs.Files.{put_each, add_each, crashed_each, declared_each, opened_each, in_at}
-use Rattle.world_history.specs.ServerNames.{Server, File, Kept, Grant, Note, Effects, Drive, Job, JobKind, Revoking, Component, Reported, Order, OrderResult, ClientRequest, RequestArgs, Get as Gets, Commit as Commits_, Return as Returns}
+use Rattle.world_history.specs.ServerNames.{Server, File, Kept, Grant, Note, Job, Revoking, Component, Reported, ClientRequest, RequestArgs, Get as Gets, Commit as Commits_, Return as Returns}
 use Rattle.sent_law.specs.Turns.{in_turn, AreInTurn, down_after}
 use Rattle.sent_law.proofs.StandRuns.{IsAt, goes_on, room_before}
 use Rattle.relation_law.specs.KeptWalk.{IsWalked, FileFits}

@@ -1,15 +1,15 @@
 -- A LAYOUTGET on a file: it is refused, or a grant is given on the file as it is so far.
 -- Towards `KeptGoesOn` (`specs/Steps.antt`).
-use Rattle.std.proofs.Common.{◌≡◌, ◌⊎◌, ◌==◌, ◌&&◌, ◌||◌, ℕ, ◌+◌, ◌<◌, ◌≤◌, min, Bool, true, false, not, nat_lt, List, [], ◌∷◌, ◌++◌, find, is_some, Option, Some, None, refl, sym, ap, subst, ◌∙◌, arith, inl, inr, if◌then◌else◌}
-use Rattle.std.proofs.lemmas.Bool.{true≢false, cases_Bool, cases_eq, eqb-true, eq-eqb, ne_eqb, eqb-false, or_cases}
+use Rattle.std.proofs.Common.{◌≡◌, ◌==◌, ◌||◌, ℕ, ◌+◌, min, Bool, true, false, not, nat_lt, List, [], ◌∷◌, find, is_some, Option, Some, None, refl, sym, ap, subst, ◌∙◌, arith, inl, inr, if◌then◌else◌}
+use Rattle.std.proofs.lemmas.Bool.{true≢false, cases_Bool, eq-eqb}
 use Rattle.std.proofs.lemmas.Bool.Decides.{nat_tests}
 use Rattle.layout_ops.specs.declared.statuses.TheConstants.{LAYOUTIOMODE4_READ, LAYOUTIOMODE4_RW, NFS4_OK}
 use Rattle.server_rules.specs.declared.limits.TheConstants.{GREATEST_TAG, GREATEST_GRANT}
-use Rattle.sent_law.specs.Tagged.{is_fence, fence_open}
+use Rattle.sent_law.specs.Tagged.{fence_open}
 use Rattle.client_rules.specs.Results.{status_of}
 use Rattle.server_rules.specs.Answers.{result_of}
 use Rattle.server_rules.specs.Files.{at_file}
-use Rattle.server_rules.specs.Get.{lowest, Early, BadMode, Invalid, Unable, Waits, On, by_job, early, must_fence, Late, NoNumber, Lacks, Conflict, Gives, by_first, by_lacked, lacked, late, gives, by_late, give_or_refuse, after_fence, fence_then, fence_first, on_grants, by_early, gets}
+use Rattle.server_rules.specs.Get.{Early, BadMode, Invalid, Unable, Waits, On, by_job, early, must_fence, Late, NoNumber, Lacks, Conflict, Gives, by_first, by_lacked, lacked, late, by_late, give_or_refuse, after_fence, fence_first, on_grants, by_early, gets}
 use Rattle.server_rules.specs.Going.{Going, noting}
 use Rattle.server_rules.specs.Grants.{conflicts, grant_of, against, any_expired, asked}
 use Rattle.server_rules.specs.History.{Input}
@@ -25,11 +25,10 @@ use Rattle.file_simulation.specs.EventLists.{where_so}
 use Rattle.file_simulation.specs.ServerEvents.{begins_fence, fences}
 use Rattle.data_map.specs.declared.ranges.TheConstants.{MAX_FILE_SIZE}
 use Rattle.relation_law.proofs.KeptOpens.{none_shows}
-use Rattle.relation_law.specs.KeptGets.{IsRefused, IsGiven, GetsAs, Refused, Given_}
-use Rattle.relation_law.specs.KeptGrants.{CanGrant}
+use Rattle.relation_law.specs.KeptGets.{GetsAs, Refused, Given_}
 use Rattle.relation_law.specs.KeptSteps.{notes_events, behind_notes, IsSoFar, IsKeptAt, IsDone}
-use Rattle.relation_law.specs.KeptWalk.{AreAlike, IsWalked, FileFits, JobFits}
-use Rattle.relation_law.proofs.KeptJobs.{OwnBy, EndBy, fence_by}
+use Rattle.relation_law.specs.KeptWalk.{IsWalked, FileFits, JobFits}
+use Rattle.relation_law.proofs.KeptJobs.{fence_by}
 use Rattle.relation_law.proofs.KeptNotes.{AreSupplied, IsBehind, walked}
 use Rattle.relation_law.proofs.KeptEnds.{so_far_from, begins_so_far, fence_shows}
 use Rattle.relation_law.proofs.KeptRounds.{begun, done}
@@ -60,27 +59,24 @@ module _ (next : ℕ) (t : State) (w : World) (f : File) (i : Input) (Given : Li
         (rw_is : x.rw ≡ rw_) (client : x.client ≡ c) (number : x.number ≡ min next GREATEST_GRANT) (free : IsFree c G) where
       by_row : (l : Late) → late G.file.kept next x ≡ l → Gets (by_late G x l)
       unfolding late
-      by_row NoNumber is =
-          Refused (record {
-            done = record { number = d.number; lawful = d.lawful; kept = d.kept };
-            none = refl;
-            status = refl;
-            numbers = refl;
-          })
-      by_row (Lacks k) is =
-          Refused (record {
-            done = record { number = d.number; lawful = d.lawful; kept = d.kept };
-            none = refl;
-            status = refl;
-            numbers = refl;
-          })
-      by_row (Conflict holder) is =
-          Refused (record {
-            done = record { number = d.number; lawful = d.lawful; kept = d.kept };
-            none = refl;
-            status = refl;
-            numbers = refl;
-          })
+      by_row NoNumber is = Refused (record {
+        done = record { number = d.number; lawful = d.lawful; kept = d.kept };
+        none = refl;
+        status = refl;
+        numbers = refl;
+      })
+      by_row (Lacks k) is = Refused (record {
+        done = record { number = d.number; lawful = d.lawful; kept = d.kept };
+        none = refl;
+        status = refl;
+        numbers = refl;
+      })
+      by_row (Conflict holder) is = Refused (record {
+        done = record { number = d.number; lawful = d.lawful; kept = d.kept };
+        none = refl;
+        status = refl;
+        numbers = refl;
+      })
       by_row Gives is =
           let r = room (nat_lt GREATEST_GRANT next) refl is in
           Given_ (record {
@@ -214,7 +210,7 @@ module _ (next : ℕ) (s : State) (w : World) (f : File) (i : Input) (Given : St
         fresh,
         made none fresh,
         refl,
-        begun next t w f i (Given t) (λ b. supplied b t) true (ending f.kept format) [] refl refl
+        begun next t w f i (Given t) (λ b. supplied b t) true (ending f.kept format) [] refl refl refl
             (begins_so_far next s f.kept format f.kept.phase refl l safe false
             (so_far_from next false s f (λ b. absurd (true≢false (sym b))) h)),
       )

@@ -1,14 +1,14 @@
 -- The machine grants what the server gives.
 -- Towards `KeptGoesOn` (`specs/Steps.antt`).
-use Rattle.std.proofs.Common.{◌≡◌, ◌⊎◌, ◌==◌, ◌&&◌, ◌||◌, ℕ, ◌+◌, ◌<◌, ◌≤◌, max, Bool, true, false, nat_le, nat_lt, List, [], ◌∷◌, ◌++◌, find, Option, Some, None, refl, sym, ap, subst, ◌∙◌, arith, inl, inr, if◌then◌else◌}
-use Rattle.std.proofs.lemmas.Bool.{true≢false, cases_Bool, cases_eq, eqb-true, eq-eqb, ne_eqb, eqb-false, false_from_ne_true, leb-true}
+use Rattle.std.proofs.Common.{◌≡◌, ◌==◌, ◌||◌, ℕ, ◌+◌, ◌<◌, ◌≤◌, max, Bool, true, false, List, [], ◌∷◌, ◌++◌, Option, Some, None, refl, sym, ap, subst, ◌∙◌, arith, inl, inr, if◌then◌else◌}
+use Rattle.std.proofs.lemmas.Bool.{true≢false, cases_Bool, eq-eqb, ne_eqb}
 use Rattle.std.proofs.lemmas.Bool.Decides.{nat_tests}
 use Rattle.data_map.specs.declared.check.RawMap.{RawMap}
 use Rattle.server_rules.specs.Get.{high_after}
 use Rattle.server_rules.specs.Grants.{conflicts, grant_of}
 use Rattle.server_rules.specs.Laws.{In}
 use Rattle.server_rules.proofs.GrantLaws.{nobody, reads_both, none_extends}
-use Rattle.world_history.specs.ServerNames.{File, Kept, Grant, Still, Job}
+use Rattle.world_history.specs.ServerNames.{File, Kept, Grant, Job}
 use Rattle.fence_law.specs.State as machine
 use Rattle.fence_law.specs.State.{State, Event}
 use Rattle.fence_law.specs.State.RequestKind.{Get}

@@ -1,24 +1,23 @@
 -- The guards of the server's events, by what the machine has of what is kept.
 -- Towards `EventsAreLawful` (`specs/Steps.antt`).
-use Rattle.std.proofs.Common.{◌≡◌, ◌⊎◌, ◌==◌, ◌&&◌, ◌||◌, ℕ, ◌+◌, ◌<◌, ◌≤◌, Bool, true, false, not, length, List, [], ◌∷◌, ◌++◌, Option, Some, None, refl, sym, ap, subst, ◌∙◌, arith, inl, inr, if◌then◌else◌}
-use Rattle.std.proofs.lemmas.Bool.{true≢false, cases_Bool, false_from_ne_true, eq-eqb, ne_eqb, eqb-true}
+use Rattle.std.proofs.Common.{◌≡◌, ◌⊎◌, ◌&&◌, ℕ, ◌<◌, Bool, true, false, not, length, List, [], ◌∷◌, Option, Some, None, refl, sym, ap, subst, ◌∙◌, arith, inl, inr, if◌then◌else◌}
+use Rattle.std.proofs.lemmas.Bool.{true≢false, cases_Bool, ne_eqb}
 use Rattle.sent_law.specs.Tagged.{is_fence, fence_open}
 use Rattle.server_rules.specs.Grants.{grant_of}
 use Rattle.server_rules.specs.Laws.{In}
 use Rattle.world_history.specs.ServerNames.{File, Kept, Grant, Phase, Still, Fencing, Repairing, FencingAgain}
 use Rattle.fence_law.specs.State as machine
-use Rattle.fence_law.specs.State.{State, Event}
+use Rattle.fence_law.specs.State.{State}
 use Rattle.fence_law.specs.State.Commit.{CommitAsked}
-use Rattle.fence_law.specs.State.Event.{Fences, Fenced, Refenced, Drops, Declares, Loses, Commits, RefusesCommit, Repaired}
-use Rattle.fence_law.specs.Columns.{HaveNextTag, Short, Stands, AreBytes}
-use Rattle.fence_law.specs.Law.{IsWholeAt, IsUnsettled, byte_before}
-use Rattle.fence_law.specs.Machine.{Allowed, Lawful, after}
-use Rattle.plan_law.specs.Guards.{RepairsStand, IsRepaired}
+use Rattle.fence_law.specs.State.Event.{Fences, Fenced, Refenced, Drops, Loses, Commits, Repaired}
+use Rattle.fence_law.specs.Columns.{HaveNextTag, Stands}
+use Rattle.fence_law.specs.Law.{IsWholeAt, byte_before}
+use Rattle.fence_law.specs.Machine.{Allowed, Lawful}
 use Rattle.plan_law.specs.Standing.{column_stands, standing_byte}
 use Rattle.plan_law.proofs.Repairing.{repairs_stand}
-use Rattle.file_simulation.specs.Grants.{GrantIs, covers_column}
+use Rattle.file_simulation.specs.Grants.{covers_column}
 use Rattle.file_simulation.specs.Jobs.{AreDone}
-use Rattle.file_simulation.specs.Phases.{OutstandingIs, IsStill, IsFencing, IsRepairing, PhaseIs, IsEndedAt, AreBelowHigh}
+use Rattle.file_simulation.specs.Phases.{OutstandingIs, IsStill, IsRepairing, PhaseIs, IsEndedAt}
 use Rattle.file_simulation.specs.ServerEvents.{begins_fence}
 use Rattle.relation_law.specs.KeptGuards.{StandingColumnsAreNotShort, HasLayout}
 use Rattle.relation_law.specs.KeptSteps.{core, IsSoFar, IsKeptAt}

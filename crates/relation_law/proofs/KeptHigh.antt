@@ -1,20 +1,19 @@
 -- Grants in use and writes stay below `high` through each event.
 -- Towards `HighGoesOn` (`specs/Steps.antt`).
-use Rattle.std.proofs.Common.{◌≡◌, ℕ, ◌+◌, ◌<◌, ◌≤◌, Bool, true, false, ◌==◌, List, [], ◌∷◌, Option, Some, None, ◌⊎◌, refl, sym, ap, ◌∙◌, inl, inr, arith}
+use Rattle.std.proofs.Common.{◌≡◌, ℕ, ◌+◌, ◌<◌, Bool, true, false, List, [], ◌∷◌, Option, Some, None, ◌⊎◌, refl, sym, ap, ◌∙◌, inl, inr, arith}
 use Rattle.std.proofs.lemmas.Bool.{true≢false, eqb-true}
 use Rattle.std.proofs.lemmas.Option.{same_Some}
 use Rattle.world_history.specs.ServerNames.{File}
 use Rattle.fence_law.specs.Words.{updated, In}
-use Rattle.fence_law.specs.State.{State, Event, Grant, Answer, Start, RequestKind}
+use Rattle.fence_law.specs.State.{State, Event, Grant, Answer, Start}
 use Rattle.fence_law.specs.Starts.{granted, written_start, read_start, repair_start, rebuilt_start}
 use Rattle.fence_law.specs.Machine.{Allowed, after, after_all, Lawful}
 use Rattle.fence_law.specs.State.Event.{Asks, Grants, Refuses, Takes, AsksOther, GivesBack, Reports, Forgets, Frees, Fenced, Refenced, StartsWrite, StartsRead, Acknowledges, Leaves, TakesRefusal, Repairs, Repaired, Rebuilds}
 use Rattle.fence_law.specs.Law.{IsUnsettled}
 use Rattle.fence_law.proofs.Words.{updated_read}
 use Rattle.fence_law.proofs.Slots.{Slots}
-use Rattle.fence_law.proofs.Holds.{Holds}
 use Rattle.fence_law.proofs.Formed.{added}
-use Rattle.fence_law.proofs.Later.{gathered_covers, open_unsettled, unsettled_added, unsettled_acks, unsettled_fenced, unsettled_refenced}
+use Rattle.fence_law.proofs.Later.{gathered_covers, unsettled_added, unsettled_acks, unsettled_fenced, unsettled_refenced}
 use Rattle.fence_law.proofs.Safe.{Safe, keep_safe}
 use Rattle.plan_law.specs.FileLayout.{stripe_of_column}
 use Rattle.file_simulation.specs.Phases.{IsBelowHigh, IsInUse, Outstanding, Held, Answered, IsEndedAt, AreBelowHigh}

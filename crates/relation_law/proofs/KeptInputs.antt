@@ -1,29 +1,27 @@
 -- A step of the server on anything but a client's request, by what comes to it.
 -- Towards `KeptGoesOn` (`specs/Steps.antt`).
-use Rattle.std.proofs.Common.{◌≡◌, ◌⊎◌, ◌==◌, ◌&&◌, ◌||◌, ℕ, ◌+◌, ◌≤◌, Bool, true, false, not, map, List, [], ◌∷◌, ◌++◌, Option, Some, None, Result, Ok, Err, is_some, find, refl, sym, ap, subst, ◌∙◌, arith, inl, inr, if◌then◌else◌}
-use Rattle.std.proofs.lemmas.Bool.{true≢false, cases_Bool, cases_eq, eqb-true, eq-eqb, ne_eqb, eqb-false}
+use Rattle.std.proofs.Common.{◌≡◌, ◌==◌, ◌&&◌, ◌||◌, ℕ, Bool, true, false, not, map, List, [], ◌∷◌, Option, Some, None, is_some, find, refl, sym, ap, subst, ◌∙◌, inl, inr, if◌then◌else◌}
+use Rattle.std.proofs.lemmas.Bool.{true≢false, cases_Bool, ne_eqb}
 use Rattle.std.proofs.lemmas.Option.{same_Some}
 use Rattle.osd_lists.specs.declared.node.Node.{Node}
 use Rattle.osd_lists.specs.declared.node.Node.TheVariants.{Server as FromServer, Client as FromClient, Drive as FromDrive}
 use Rattle.server_rules.specs.declared.limits.TheConstants.{GREATEST_TAG}
-use Rattle.sent_law.specs.Tagged.{is_fence, fence_open}
-use Rattle.server_rules.specs.Files.{Step, still, begins, file_at, put_file, add_file, at_file, step_at}
+use Rattle.sent_law.specs.Tagged.{fence_open}
+use Rattle.server_rules.specs.Files.{Step, still, begins, file_at, at_file}
 use Rattle.server_rules.specs.Going.{Going}
 use Rattle.server_rules.specs.History.{Input, Hears, Makes, Obeys, Adds, Formats, Resends, Crashes, Opens, step, unless_made}
 use Rattle.server_rules.specs.Jobs.{ending, making}
-use Rattle.server_rules.specs.Laws.{In}
 use Rattle.server_rules.specs.Making.{refusal, unless_refused, with_file, makes_file, create_file}
-use Rattle.server_rules.specs.Messages.{Message, Asks, Replies, Orders, counters_have_room, on_message, handled, on_drive_reply}
-use Rattle.server_rules.specs.Openings.{crash, crashed_file, opens, opens_each, reopen, opens_made, opens_fenced, opens_spent, is_unsettled}
+use Rattle.server_rules.specs.Messages.{Message, Asks, Replies, Orders, counters_have_room, on_message}
+use Rattle.server_rules.specs.Openings.{crash, crashed_file, opens, opens_each, reopen, opens_fenced, is_unsettled}
 use Rattle.server_rules.specs.Orders.{ordered}
 use Rattle.server_rules.specs.Rounds.{step_round}
-use Rattle.server_rules.proofs.FileLaws.{number_at, put_same, put_other, add_other, not_there}
+use Rattle.server_rules.proofs.FileLaws.{put_other, add_other, not_there}
 use Rattle.move_law.specs.Steps.{IsOrder, Here, Sent, StepCases, new_file}
 use Rattle.move_law.proofs.Steps.{each_step}
-use Rattle.move_law.proofs.Files.{put_gives}
 use Rattle.calm_law.proofs.Rounds.{each_at}
 use Rattle.calm_law.specs.Words.{Each}
-use Rattle.world_history.specs.ServerNames.{Server, File, Kept, Still, Note, Effects, Drive, Job, Revoking, Rebuilding, Auditing, Reply, OrderKind, ToRecall, ToRevoke, ToDeclare, ToRebuild, ToAudit, RawMap, Refusal}
+use Rattle.world_history.specs.ServerNames.{Server, File, Note, Effects, Drive, Revoking, Rebuilding, Auditing, Reply, OrderKind, ToRecall, ToRevoke, ToDeclare, ToRebuild, ToAudit, RawMap, Refusal}
 use Rattle.world_history.specs.State.{World}
 use Rattle.fence_law.specs.State.{State, Event}
 use Rattle.fence_law.specs.State.Event.{Fences}
@@ -31,12 +29,12 @@ use Rattle.fence_law.specs.Machine.{Lawful, after_all}
 use Rattle.fence_law.proofs.Safe.{Safe, safe_all}
 use Rattle.file_simulation.specs.EventLists.{where_so}
 use Rattle.file_simulation.specs.ServerEvents.{begins_fence, fences, declared_from}
-use Rattle.relation_law.specs.KeptSteps.{AllLight, notes_events, behind_notes, core, IsSoFar, IsKeptAt, GoesAs, IsDone, first_of, HearsNoOrder}
-use Rattle.relation_law.specs.KeptWalk.{noted_of, IsWalked, FileFits}
-use Rattle.relation_law.proofs.KeptJobs.{Own, End, ends_making}
+use Rattle.relation_law.specs.KeptSteps.{AllLight, notes_events, IsSoFar, IsKeptAt, GoesAs, IsDone, first_of, HearsNoOrder}
+use Rattle.relation_law.specs.KeptWalk.{FileFits}
+use Rattle.relation_law.proofs.KeptJobs.{ends_making}
 use Rattle.relation_law.proofs.KeptNotes.{AreSupplied, IsBehind, walked}
 use Rattle.relation_law.proofs.KeptEnds.{so_far_from, kept_from, begins_so_far}
-use Rattle.relation_law.proofs.KeptRounds.{IsFrom, Quiet, quiet_walked, begun, done, goes_as}
+use Rattle.relation_law.proofs.KeptRounds.{Quiet, quiet_walked, begun, done, goes_as}
 use Rattle.relation_law.proofs.KeptOpens.{IsIdle, has_to_fence, ends_opens, opening_fences, opening_shows, opened_round}
 use Rattle.relation_law.proofs.KeptServer.{IsReady, light_first, HasNumber, number_walked, Makes_, quiet_goes, stays_goes, answered_goes, starts_goes, recalls_goes, known_goes}
 
@@ -49,6 +47,11 @@ IsNoRequest i = Unit {0}
 abbrev pub IsIdleAt : Input → List File → Type 0
 IsIdleAt Opens fs = Each IsIdle fs
 IsIdleAt i fs = Unit {0}
+
+-- where it is up, the work of each file fits its phase
+abbrev pub FitsAt : Input → List File → Type 0
+FitsAt Opens fs = Unit {0}
+FitsAt i fs = Each FileFits fs
 
 crashed_at : (fs : List File) (n : ℕ) (f : File) → file_at fs n ≡ Some f → file_at (map crashed_file fs) n ≡ Some (crashed_file f)
 unfolding file_at
@@ -70,17 +73,17 @@ module _ (next : ℕ) (s : State) (w : World) (f : File) (chosen : List ℕ) (sa
 
     -- ---- a reply
 
-    reply_cases : (now drive : ℕ) (r : Reply) → i ≡ Hears now (FromDrive drive) (Replies r)
+    reply_cases : Each FileFits w.server.files → (now drive : ℕ) (r : Reply) → i ≡ Hears now (FromDrive drive) (Replies r)
         → StepCases w.server chosen i Goes
-    reply_cases now drive r is = record {
+    reply_cases fit now drive r is = record {
       rests = stays (still w.server) refl refl;
       asked = λ n q a. absurd (cc (sym is ∙ a.is));
-      answered = λ x a. answered_goes next s w f chosen safe h ready i Given supplied x a (λ g. rw is refl);
+      answered = λ x a. answered_goes next s w f chosen safe h ready i Given supplied fit x a (λ g. rw is refl);
       recalled = λ x o. absurd (no_order o.order);
       refused = λ x o. absurd (no_order o.order);
       fenced = λ x o. absurd (no_order o.order);
       declared = λ d e.
-          known_goes next s w f chosen safe h ready i Given supplied d true (λ g. rw is tt) (λ g. rw is refl);
+          known_goes next s w f chosen safe h ready i Given supplied fit d true (λ g. rw is tt) (λ g. rw is refl);
       told = λ t n o e. absurd (cc (sym is ∙ e));
       made = λ n m tag e. absurd (cc (sym is ∙ e));
       added = λ d e. absurd (cc (sym is ∙ e));
@@ -94,8 +97,9 @@ module _ (next : ℕ) (s : State) (w : World) (f : File) (chosen : List ℕ) (sa
         no_order (Here e) = cc (sym is ∙ e)
         no_order (Sent n o e k t) = cc (sym is ∙ e)
 
-    replied : (now drive : ℕ) (r : Reply) → i ≡ Hears now (FromDrive drive) (Replies r) → Goes (step w.server chosen i)
-    replied now drive r is = each_step w.server chosen i Goes (reply_cases now drive r is)
+    replied : Each FileFits w.server.files → (now drive : ℕ) (r : Reply) → i ≡ Hears now (FromDrive drive) (Replies r)
+        → Goes (step w.server chosen i)
+    replied fit now drive r is = each_step w.server chosen i Goes (reply_cases fit now drive r is)
 
     -- nothing happens, whether the counters have room or not
     either_still : (b : Bool) → Goes (if b then still w.server else still w.server)
@@ -162,12 +166,12 @@ module _ (next : ℕ) (s : State) (w : World) (f : File) (chosen : List ℕ) (sa
         format g idle
         (λ n.
         begun next t w f i (Given t) (λ c. supplied c t) busy g.file.kept g.effects.notes
-        (ap (λ (x : File). x.kept.number) is) none
+        (ap (λ (x : File). x.kept.number) is) (ap (λ (x : File). x.kept.map) is) none
         (subst (λ (x : File). IsSoFar next busy t x.kept) (sym is)
         (rests (sym (ap (λ (x : File). has_to_fence x.kept) is) ∙ n))))
         (λ n.
         begun next t w f i (Given t) (λ c. supplied c t) busy (ending g.file.kept format) g.effects.notes
-        (ap (λ (x : File). x.kept.number) is) none
+        (ap (λ (x : File). x.kept.number) is) (ap (λ (x : File). x.kept.map) is) none
         (subst (λ (x : File). IsSoFar next busy t (ending x.kept format)) (sym is)
         (fences_ (sym (ap (λ (x : File). has_to_fence x.kept) is) ∙ n)))) in
         done next t w f i (Given t) (λ c. supplied c t) busy (opens format g) last e.0
@@ -260,17 +264,18 @@ module _ (next : ℕ) (s : State) (w : World) (f : File) (chosen : List ℕ) (sa
     -- ---- an order
 
     -- the first line of an order on files, which perhaps begins a fence of this one
-    ordered_goes : (kind : OrderKind) (n : ℕ) → i ≡ Obeys kind n → Goes (ordered w.server chosen kind n).step
+    ordered_goes : Each FileFits w.server.files → (kind : OrderKind) (n : ℕ) → i ≡ Obeys kind n
+        → Goes (ordered w.server chosen kind n).step
     unfolding ordered
-    ordered_goes ToRecall n is = recalls_goes next s w f chosen safe h ready i Given supplied (file_at w.server.files n)
-    ordered_goes ToRevoke n is =
+    ordered_goes fit ToRecall n is = recalls_goes next s w f chosen safe h ready i Given supplied (file_at w.server.files n)
+    ordered_goes fit ToRevoke n is =
         starts_goes next s w f chosen safe h ready i Given supplied n (λ g. rw is refl) Revoking (file_at w.server.files n) refl
-    ordered_goes ToRebuild n is =
+    ordered_goes fit ToRebuild n is =
         starts_goes next s w f chosen safe h ready i Given supplied n (λ g. rw is refl) Rebuilding (file_at w.server.files n) refl
-    ordered_goes ToAudit n is =
+    ordered_goes fit ToAudit n is =
         starts_goes next s w f chosen safe h ready i Given supplied n (λ g. rw is refl) Auditing (file_at w.server.files n) refl
-    ordered_goes ToDeclare n is =
-        known_goes next s w f chosen safe h ready i Given supplied n
+    ordered_goes fit ToDeclare n is =
+        known_goes next s w f chosen safe h ready i Given supplied fit n
         (is_some (find (λ (d : Drive). d.number == n) w.server.drives)) (λ g. rw is (light_declared n)) (λ g. rw is refl)
       where
         light_declared : (d : ℕ) → AllLight (declared_from d f.kept.components 0)
@@ -278,32 +283,34 @@ module _ (next : ℕ) (s : State) (w : World) (f : File) (chosen : List ℕ) (sa
 
     -- ---- a message
 
-    message_goes : (now : ℕ) (from : Node) (m : Message) → i ≡ Hears now from m → IsNoRequest (Hears now from m)
+    message_goes : Each FileFits w.server.files → (now : ℕ) (from : Node) (m : Message) → i ≡ Hears now from m
+        → IsNoRequest (Hears now from m)
         → HearsNoOrder i → Goes (step w.server chosen (Hears now from m))
     unfolding on_message
-    message_goes now (FromClient c) (Asks q) is plain orders = absurd plain
-    message_goes now FromServer (Orders o) is plain orders = absurd (orders now o is)
-    message_goes now (FromDrive d) (Replies r) is plain orders =
-        subst (λ (j : Input). Goes (step w.server chosen j)) is (replied now d r is)
-    message_goes now from m is plain orders = either_still (counters_have_room w.server)
+    message_goes fit now (FromClient c) (Asks q) is plain orders = absurd plain
+    message_goes fit now FromServer (Orders o) is plain orders = absurd (orders now o is)
+    message_goes fit now (FromDrive d) (Replies r) is plain orders =
+        subst (λ (j : Input). Goes (step w.server chosen j)) is (replied fit now d r is)
+    message_goes fit now from m is plain orders = either_still (counters_have_room w.server)
 
   -- ---- by what comes
 
   pub no_request_goes : (i : Input) (Given : State → List Note → Type 0)
       (supplied : (busy : Bool) (t : State) → AreSupplied next busy t w f i (Given t)) → IsNoRequest i → HearsNoOrder i
-      → IsIdleAt i w.server.files → Makes_ next s w f chosen safe h ready i Given supplied (step w.server chosen i)
+      → IsIdleAt i w.server.files → FitsAt i w.server.files
+      → Makes_ next s w f chosen safe h ready i Given supplied (step w.server chosen i)
   unfolding create_file
-  no_request_goes (Hears now from m) Given supplied plain orders idle =
-      message_goes (Hears now from m) Given supplied now from m refl plain orders
-  no_request_goes (Makes n m tag) Given supplied plain orders idle =
+  no_request_goes (Hears now from m) Given supplied plain orders idle fit =
+      message_goes (Hears now from m) Given supplied fit now from m refl plain orders
+  no_request_goes (Makes n m tag) Given supplied plain orders idle fit =
       made (Makes n m tag) Given supplied n m tag (refusal w.server n m) refl
-  no_request_goes (Obeys kind n) Given supplied plain orders idle =
-      ordered_goes (Obeys kind n) Given supplied kind n refl
-  no_request_goes (Adds d) Given supplied plain orders idle =
+  no_request_goes (Obeys kind n) Given supplied plain orders idle fit =
+      ordered_goes (Obeys kind n) Given supplied fit kind n refl
+  no_request_goes (Adds d) Given supplied plain orders idle fit =
       stays (Adds d) Given supplied (step w.server chosen (Adds d)) refl refl
-  no_request_goes (Formats n) Given supplied plain orders idle =
+  no_request_goes (Formats n) Given supplied plain orders idle fit =
       stays (Formats n) Given supplied (step w.server chosen (Formats n)) refl refl
-  no_request_goes Resends Given supplied plain orders idle =
+  no_request_goes Resends Given supplied plain orders idle fit =
       stays Resends Given supplied (step w.server chosen Resends) refl refl
-  no_request_goes Crashes Given supplied plain orders idle = crashes Crashes Given supplied (λ g. refl)
-  no_request_goes Opens Given supplied plain orders idle = reopened Opens Given supplied idle (λ g. refl)
+  no_request_goes Crashes Given supplied plain orders idle fit = crashes Crashes Given supplied (λ g. refl)
+  no_request_goes Opens Given supplied plain orders idle fit = reopened Opens Given supplied idle (λ g. refl)

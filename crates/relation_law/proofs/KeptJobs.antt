@@ -1,12 +1,12 @@
 -- What lasts through each part of a job lasts through the job's functions, one by one.
 -- Towards `KeptGoesOn` (`specs/Steps.antt`).
-use Rattle.std.proofs.Common.{◌≡◌, ◌==◌, ◌||◌, ℕ, ◌+◌, Bool, true, false, nat_lt, List, [], ◌∷◌, length, slice_set, Option, Some, None, refl, sym, ap, subst, ◌∙◌, if◌then◌else◌}
+use Rattle.std.proofs.Common.{◌≡◌, ◌||◌, ℕ, ◌+◌, Bool, true, false, nat_lt, List, [], ◌∷◌, length, slice_set, Option, Some, None, refl, subst, if◌then◌else◌}
 use Rattle.std.proofs.lemmas.Bool.{true≢false}
 use Rattle.sent_law.specs.Tagged.{is_fence}
 use Rattle.server_rules.specs.Audit.{audits, audit_begins}
-use Rattle.server_rules.specs.Going.{Going, over, keeping, noting, noting_if, with_components, rests, rests_or}
+use Rattle.server_rules.specs.Going.{Going, over, keeping, noting, noting_if, with_components, rests_or}
 use Rattle.server_rules.specs.Grants.{merged, count_stripes}
-use Rattle.server_rules.specs.Jobs.{making, fencing, ending, fenced, fences, fence_begins, fetched, written, gathered, filled_in, audited_on, goes_on, waits_or_on, refills, remakes, loses, declared_in, targets, declares}
+use Rattle.server_rules.specs.Jobs.{making, fencing, ending, fenced, fence_begins, fetched, written, gathered, filled_in, audited_on, goes_on, waits_or_on, refills, remakes, loses, declared_in, targets, declares}
 use Rattle.server_rules.specs.Openings.{opens_made}
 use Rattle.server_rules.specs.Rebuild.{makes_or, rebuilds, stands_at, fills, filling, target_gone, target_full, target_for}
 use Rattle.server_rules.specs.Repair.{after_repair, mended, repairs, storing, stored, repair_begins}
@@ -14,8 +14,8 @@ use Rattle.server_rules.specs.Replies.{renews, fills_up, hears, Hearing, Older, 
 use Rattle.server_rules.specs.Standing.{lose_from, lose_on, any_on}
 use Rattle.server_rules.specs.Columns.{end_of}
 use Rattle.std.specs.Prelude.{replicate}
-use Rattle.world_history.specs.ServerNames.{File, Kept, Phase, Still, Fencing, Repairing, FencingAgain, Note, NoteKind, Ready, Fenced, Repaired, NoDrive, NoSpace, Lost, Audit, Rebuilt, Reported, Job, JobKind, Making, Revoking, Rebuilding, Auditing, Work, Creates, Fences, Fetches, Stores, Targets, Gathers, Fills, Lengths, Checks, Awaited, Heard, Piece, Target, Tally, Component, Reply}
-use Rattle.relation_law.specs.KeptWalk.{WorkFits, JobFits, FileFits, is_plain, AreAlike, noted_of, IsWalked}
+use Rattle.world_history.specs.ServerNames.{Kept, Phase, Still, Fencing, Repairing, FencingAgain, Note, NoteKind, Ready, Fenced, NoDrive, NoSpace, Rebuilt, Job, JobKind, Making, Revoking, Rebuilding, Auditing, Work, Creates, Fences, Fetches, Stores, Targets, Gathers, Fills, Lengths, Checks, Awaited, Heard, Piece, Target, Tally, Component, Reply}
+use Rattle.relation_law.specs.KeptWalk.{WorkFits, JobFits, FileFits, is_plain, IsWalked}
 
 module _ (Q : Bool → Kept → List Note → Type 0) (w : (spent : Bool) → IsWalked (Q spent)) where
   -- in the middle of a step

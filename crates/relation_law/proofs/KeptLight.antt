@@ -1,13 +1,13 @@
 -- Most events leave what the machine has of what the server keeps.
 -- Towards `KeptGoesOn` (`specs/Steps.antt`).
-use Rattle.std.proofs.Common.{◌≡◌, ℕ, ◌≤◌, Bool, true, false, List, [], ◌∷◌, ◌++◌, Option, Some, None, refl, sym, ap, subst, ◌∙◌, arith}
+use Rattle.std.proofs.Common.{◌≡◌, ℕ, Bool, true, List, [], ◌∷◌, Option, refl, sym, ap, subst, ◌∙◌, arith}
 use Rattle.std.proofs.lemmas.Bool.{true≢false}
 use Rattle.world_history.specs.ServerNames.{File, Kept, Phase, Still, Fencing, Repairing, FencingAgain}
 use Rattle.fence_law.specs.State.{State, Event, Grant}
 use Rattle.fence_law.specs.State.Event.{Grants, Frees, Fences, Fenced, Refenced, Leaves, Commits, Repaired}
-use Rattle.fence_law.specs.Machine.{Allowed, Lawful, after, after_all}
-use Rattle.fence_law.proofs.Safe.{Safe, keep_safe, safe_all}
-use Rattle.file_simulation.specs.Phases.{OutstandingIs, IsStill, IsEnded, IsFencing, IsRepairing, PhaseIs, IsEndedAt, AreBelowHigh}
+use Rattle.fence_law.specs.Machine.{Lawful, after, after_all}
+use Rattle.fence_law.proofs.Safe.{Safe}
+use Rattle.file_simulation.specs.Phases.{OutstandingIs, PhaseIs, AreBelowHigh}
 use Rattle.server_rules.specs.Grants.{grant_of}
 use Rattle.relation_law.specs.KeptHigh.{HighNeeds}
 use Rattle.relation_law.specs.KeptSteps.{is_light, AllLight, core, IsSoFar}
@@ -90,7 +90,8 @@ phase_same s t f Still e h = record {
   fencing = e.fencing ∙ h.fencing;
   repairing = e.repairing ∙ h.repairing;
   outstanding = λ c.
-      subst (λ (o : ℕ → Option Grant). OutstandingIs f.kept.map f.kept.tag (grant_of f.kept.grants c) (o c)) (sym e.outstanding)
+      subst (λ (o : ℕ
+      → Option Grant). OutstandingIs f.kept.map f.kept.tag (grant_of f.kept.grants c) (o c)) (sym e.outstanding)
       (h.outstanding c);
   ended = h.ended;
   unused = λ u. e.granted_since ∙ h.unused u;

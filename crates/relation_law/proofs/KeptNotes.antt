@@ -1,24 +1,23 @@
 -- What the machine has of what is kept of a file lasts through each note of a step.
 -- Towards `KeptGoesOn` (`specs/Steps.antt`).
-use Rattle.std.proofs.Common.{◌≡◌, ◌==◌, ℕ, ◌+◌, ◌≤◌, Bool, true, false, List, [], ◌∷◌, ◌++◌, Option, Some, None, refl, sym, ap, subst, ◌∙◌, arith, append_assoc, if◌then◌else◌}
-use Rattle.std.proofs.lemmas.Bool.{true≢false, cases_Bool, eq-eqb}
+use Rattle.std.proofs.Common.{◌≡◌, ℕ, ◌+◌, Bool, true, false, List, [], ◌∷◌, ◌++◌, Option, Some, None, refl, sym, ap, subst, ◌∙◌, arith, append_assoc, if◌then◌else◌}
+use Rattle.std.proofs.lemmas.Bool.{true≢false, eq-eqb}
 use Rattle.std.proofs.lemmas.List.{append-nil}
 use Rattle.sent_law.specs.Tagged.{is_fence}
 use Rattle.server_rules.specs.History.{Input}
-use Rattle.world_history.specs.ServerNames.{File, Kept, Phase, Still, Fencing, Repairing, FencingAgain, Note, NoteKind, Ready, Fenced as IsFenced, Repaired as IsRepaired, Rebuilt, NoDrive, Lost, NoSpace, Audit, Busy, Spent, Reported}
+use Rattle.world_history.specs.ServerNames.{File, Kept, Phase, Still, Fencing, Repairing, FencingAgain, Note, NoteKind, Fenced as IsFenced, Repaired as IsRepaired, Rebuilt, NoSpace, Reported}
 use Rattle.world_history.specs.State.{World, at_number}
 use Rattle.fence_law.specs.State.{State, Event, Grant}
-use Rattle.fence_law.specs.State.Event.{Fenced, Refenced, Repaired, Rebuilds, Fails}
+use Rattle.fence_law.specs.State.Event.{Fenced, Refenced, Repaired, Fails}
 use Rattle.fence_law.specs.Machine.{Allowed, Lawful, after, after_all}
-use Rattle.fence_law.proofs.Safe.{Safe, keep_safe, safe_all}
+use Rattle.fence_law.proofs.Safe.{Safe, safe_all}
 use Rattle.plan_law.specs.Standing.{column_stands, standing_byte}
 use Rattle.file_simulation.specs.Components.{has_failed}
 use Rattle.file_simulation.specs.EventLists.{where_so}
-use Rattle.file_simulation.specs.Phases.{OutstandingIs, IsStill, IsEnded, IsFencing, IsRepairing, PhaseIs, IsEndedAt, AreBelowHigh}
-use Rattle.file_simulation.specs.ServerEvents.{noted, noted_here, lacks_space, reported, asker, rebuilt}
-use Rattle.relation_law.specs.KeptHigh.{HighNeeds}
-use Rattle.relation_law.specs.KeptSteps.{is_light, AllLight, notes_events, behind_notes, core, IsSoFar}
-use Rattle.relation_law.specs.KeptWalk.{is_plain, AreAlike, noted_of, IsWalked}
+use Rattle.file_simulation.specs.Phases.{IsFencing, IsRepairing, PhaseIs, IsEndedAt, AreBelowHigh}
+use Rattle.file_simulation.specs.ServerEvents.{noted, noted_here, lacks_space, reported, asker}
+use Rattle.relation_law.specs.KeptSteps.{AllLight, notes_events, behind_notes, core, IsSoFar}
+use Rattle.relation_law.specs.KeptWalk.{is_plain, noted_of, IsWalked}
 use Rattle.relation_law.proofs.KeptHigh.{high_after}
 use Rattle.relation_law.proofs.KeptLight.{so_far_light, so_far_alike}
 
@@ -206,8 +205,8 @@ plain_fits k kind p = tt
 pub record AreSupplied (next : ℕ) (busy : Bool) (t : State) (w : World) (f : File) (i : Input) (Given : List Note → Type 0)
     : Type 0 where
   pub front : (ns : List Note) (n : Note) → Given (ns ++ (n ∷ [])) → Given ns
-  pub last : (k : Kept) (ns : List Note) (kind : NoteKind) → k.number ≡ f.kept.number → NoteFits k kind
-      → Given (noted_of k ns kind) → Lawful t (notes_events t w f i ns)
+  pub last : (k : Kept) (ns : List Note) (kind : NoteKind) → k.number ≡ f.kept.number → k.map ≡ f.kept.map
+      → NoteFits k kind → Given (noted_of k ns kind) → Lawful t (notes_events t w f i ns)
       → IsSoFar next busy (behind_notes t w f i ns) k
       → Lawful (behind_notes t w f i ns) (noted_here (behind_notes t w f i ns) w f i kind)
 
@@ -215,6 +214,7 @@ pub record AreSupplied (next : ℕ) (busy : Bool) (t : State) (w : World) (f : F
 pub record IsBehind (next : ℕ) (busy : Bool) (t : State) (w : World) (f : File) (i : Input) (Given : List Note → Type 0)
     (k : Kept) (ns : List Note) : Type 0 where
   pub number : k.number ≡ f.kept.number
+  pub map : k.map ≡ f.kept.map
   pub lawful : Given ns → Lawful t (notes_events t w f i ns)
   pub so_far : Given ns → IsSoFar next busy (behind_notes t w f i ns) k
 
@@ -235,19 +235,21 @@ module _ (next : ℕ) (busy : Bool) (t : State) (w : World) (f : File) (i : Inpu
       events_more t w f i ns (record { file = k.number; kind = kind }) ∙ ap (λ (x : List Event). es ++ x) here
 
   -- one note more
-  more : (k l : Kept) (ns : List Note) (kind : NoteKind) → l.number ≡ k.number → NoteFits k kind → Behind k ns
+  more : (k l : Kept) (ns : List Note) (kind : NoteKind) → l.number ≡ k.number → l.map ≡ k.map → NoteFits k kind
+      → Behind k ns
       → ((s : State) → Lawful s (noted_here s w f i kind) → Safe s → IsSoFar next busy s k
       → IsSoFar next busy (after_all s (noted_here s w f i kind)) l) → Behind l (noted_of k ns kind)
-  more k l ns kind same fits h on =
+  more k l ns kind same map fits h on =
       let es : List Event = notes_events t w f i ns in
       let u : State = after_all t es in
       let is = here_more k ns kind h.number in
       let here : Given (noted_of k ns kind) → Lawful u (noted_here u w f i kind) =
       λ given.
       let front : Given ns = supplied.front ns (record { file = k.number; kind = kind }) given in
-      supplied.last k ns kind h.number fits given (h.lawful front) (h.so_far front) in
+      supplied.last k ns kind h.number h.map fits given (h.lawful front) (h.so_far front) in
       record {
         number = same ∙ h.number;
+        map = map ∙ h.map;
         lawful = λ given.
             let front : Given ns = supplied.front ns (record { file = k.number; kind = kind }) given in
             subst (Lawful t) (sym is)
@@ -263,17 +265,18 @@ module _ (next : ℕ) (busy : Bool) (t : State) (w : World) (f : File) (i : Inpu
   walked = record {
     alike = λ k l ns a h. record {
       number = a.number ∙ h.number;
+      map = a.map ∙ h.map;
       lawful = h.lawful;
       so_far = λ given. so_far_alike next busy (behind_notes t w f i ns) k l a (h.so_far given);
     };
     plain = λ k ns kind p h.
-        more k k ns kind refl (plain_fits k kind p) h (λ s l safe_ x.
+        more k k ns kind refl refl (plain_fits k kind p) h (λ s l safe_ x.
         so_far_light next busy s (noted_here s w f i kind) k (here_light s w f i kind p) l safe_ x);
     fenced = λ k ns p h.
-        more k (record k { tag = k.tag + 1; phase = Repairing }) ns (IsFenced (k.tag + 1)) refl p h
+        more k (record k { tag = k.tag + 1; phase = Repairing }) ns (IsFenced (k.tag + 1)) refl refl p h
         (λ s l safe_ x. fence_kind next busy s w f i k k.phase (k.tag + 1) refl p l safe_ x);
     mended = λ k ns stripes short p h.
-        more k (record k { ended = []; phase = Still }) ns (IsRepaired stripes short) refl p h
+        more k (record k { ended = []; phase = Still }) ns (IsRepaired stripes short) refl refl p h
         (λ s l safe_ x.
         mended_so_far next busy s k (column_stands f.kept.map s.lost) (standing_byte f.kept.map s.lost s.cell) p
         l.0 safe_ x);
@@ -286,7 +289,7 @@ lawful_supplies next busy t w f i = record {
   front = λ ns n l.
       lawful_front t (notes_events t w f i ns) (noted (behind_notes t w f i ns) w f i n)
       (subst (Lawful t) (events_more t w f i ns n) l);
-  last = λ k ns kind number fits l front h.
+  last = λ k ns kind number map fits l front h.
       let u : State = behind_notes t w f i ns in
       let here : noted u w f i (record { file = k.number; kind = kind }) ≡ noted_here u w f i kind =
       rw (eq-eqb k.number f.kept.number number) refl in

@@ -1,31 +1,26 @@
 -- The opening of a server: what the machine of one file has behind it.
 -- Towards `KeptGoesOn` (`specs/Steps.antt`).
-use Rattle.std.proofs.Common.{◌≡◌, ◌⊎◌, ◌==◌, ◌&&◌, ◌||◌, ℕ, ◌+◌, Bool, true, false, not, nat_lt, length, List, [], ◌∷◌, ◌++◌, Option, Some, None, is_some, refl, sym, ap, subst, ◌∙◌, arith, inl, inr, if◌then◌else◌}
-use Rattle.std.proofs.lemmas.Bool.{true≢false, cases_Bool, eqb-true, eq-eqb, ne_eqb, eqb-false}
+use Rattle.std.proofs.Common.{◌≡◌, ◌==◌, ◌&&◌, ◌||◌, ℕ, Bool, true, false, not, nat_lt, length, List, [], ◌∷◌, Some, None, refl, sym, ap, subst, ◌∙◌, inl, inr}
+use Rattle.std.proofs.lemmas.Bool.{true≢false, cases_Bool, eqb-true, eq-eqb, eqb-false}
 use Rattle.std.proofs.lemmas.List.{append-nil}
 use Rattle.server_rules.specs.declared.limits.TheConstants.{GREATEST_TAG}
 use Rattle.sent_law.specs.Tagged.{is_fence, fence_open}
 use Rattle.server_rules.specs.Files.{file_at}
-use Rattle.server_rules.specs.Going.{Going, noting, over}
+use Rattle.server_rules.specs.Going.{Going}
 use Rattle.server_rules.specs.History.{Input}
-use Rattle.server_rules.specs.Jobs.{ending, fence_begins, making}
-use Rattle.server_rules.specs.Openings.{is_still, is_unsettled, opens_made, opens_spent, opens_fenced, opens, opens_each}
+use Rattle.server_rules.specs.Jobs.{ending}
+use Rattle.server_rules.specs.Openings.{is_unsettled, opens_made, opens_fenced, opens, opens_each}
 use Rattle.calm_law.specs.Words.{Each}
 use Rattle.calm_law.specs.Performing.{AreDistinct}
-use Rattle.world_history.specs.ServerNames.{File, Kept, Phase, Still, Fencing, Repairing, FencingAgain, Note, NoteKind, Spent, Effects, Drive, Job, Revoking}
+use Rattle.world_history.specs.ServerNames.{File, Kept, Phase, Still, Fencing, Repairing, FencingAgain, Note, Spent, Effects, Drive, Revoking}
 use Rattle.world_history.specs.State.{World}
 use Rattle.fence_law.specs.State.{State, Event}
-use Rattle.fence_law.specs.State.Event.{Fences}
-use Rattle.fence_law.specs.Machine.{Lawful, after_all}
-use Rattle.fence_law.proofs.Safe.{Safe, safe_all}
-use Rattle.file_simulation.specs.EventLists.{where_so}
 use Rattle.file_simulation.specs.ServerEvents.{begins_fence}
-use Rattle.relation_law.specs.KeptSteps.{notes_events, behind_notes, IsSoFar, IsKeptAt, GoesAs}
-use Rattle.relation_law.specs.KeptWalk.{AreAlike, noted_of, IsWalked, FileFits}
-use Rattle.relation_law.proofs.KeptJobs.{Own, End, ends_fence, ends_making, ends_opened}
-use Rattle.relation_law.proofs.KeptNotes.{events_more, AreSupplied, IsBehind, walked}
-use Rattle.relation_law.proofs.KeptEnds.{so_far_from, kept_from, begins_so_far, fence_shows}
-use Rattle.relation_law.proofs.KeptRounds.{IsFrom, from_more, Quiet, quiet_walked, AllOther, HasGone, AddsNone, front_is, behind_is}
+use Rattle.relation_law.specs.KeptSteps.{notes_events}
+use Rattle.relation_law.specs.KeptWalk.{IsWalked}
+use Rattle.relation_law.proofs.KeptJobs.{Own, End, ends_fence, ends_opened}
+use Rattle.relation_law.proofs.KeptEnds.{fence_shows}
+use Rattle.relation_law.proofs.KeptRounds.{IsFrom, Quiet, quiet_walked, AllOther, HasGone, AddsNone, front_is, behind_is}
 
 -- ---- a file is opened
 

@@ -1,51 +1,43 @@
 -- A return on a file: what the machine has behind its step.
 -- Towards `KeptGoesOn` (`specs/Steps.antt`).
-use Rattle.std.proofs.Common.{◌≡◌, ◌⊎◌, ◌==◌, ◌&&◌, ◌||◌, ℕ, ◌+◌, ◌<◌, ◌≤◌, max, Bool, true, false, not, List, [], ◌∷◌, ◌++◌, find, is_some, Option, Some, None, refl, sym, ap, subst, ◌∙◌, arith, inl, inr, if◌then◌else◌}
-use Rattle.std.proofs.lemmas.Bool.{true≢false, cases_Bool, cases_eq, eqb-true, eq-eqb, ne_eqb, eqb-false}
+use Rattle.std.proofs.Common.{◌≡◌, ◌==◌, ℕ, ◌+◌, Bool, true, false, not, List, [], ◌∷◌, ◌++◌, is_some, Option, Some, None, refl, sym, ap, subst, ◌∙◌, arith, inl, inr}
+use Rattle.std.proofs.lemmas.Bool.{true≢false, cases_Bool, eq-eqb}
 use Rattle.std.proofs.lemmas.List.{append-nil}
-use Rattle.layout_ops.specs.declared.statuses.TheConstants.{LAYOUTIOMODE4_RW, NFS4_OK, NFS4ERR_LAYOUTUNAVAILABLE}
-use Rattle.layout_ops.specs.declared.messages.Answer.{Answer}
+use Rattle.layout_ops.specs.declared.statuses.TheConstants.{NFS4_OK, NFS4ERR_LAYOUTUNAVAILABLE}
 use Rattle.server_rules.specs.declared.limits.TheConstants.{GREATEST_TAG, NO_COMPONENT, LOSS_TAKEN}
-use Rattle.sent_law.specs.Tagged.{is_fence, fence_open}
+use Rattle.sent_law.specs.Tagged.{fence_open}
 use Rattle.client_rules.specs.Answers.{is_loss_taken}
-use Rattle.client_rules.specs.Results.{status_of}
-use Rattle.server_rules.specs.Answers.{result_of, file_answer}
-use Rattle.server_rules.specs.Commit.{Committed, NoGrant as NotCommitted, Wrong, Sizes, may_commit, commit_under, commit_row, by_commit, commits}
 use Rattle.server_rules.specs.Files.{at_file}
-use Rattle.server_rules.specs.Get.{gives, gets}
-use Rattle.server_rules.specs.Going.{Going, noting, noting_if, keeping, with_components}
-use Rattle.server_rules.specs.Grants.{grant_of, without}
+use Rattle.server_rules.specs.Going.{Going, noting, noting_if, with_components}
+use Rattle.server_rules.specs.Grants.{grant_of}
 use Rattle.server_rules.specs.History.{Input}
 use Rattle.server_rules.specs.Jobs.{ending, fence_begins}
 use Rattle.server_rules.specs.Numbers.{among}
-use Rattle.server_rules.specs.Requests.{serves, answer_with}
+use Rattle.server_rules.specs.Requests.{answer_with}
 use Rattle.server_rules.specs.Return.{Returned, NoGrant, Clean, Taken, TooMany, Fencing, return_row, by_grant, by_report, by_loss, loss, ends_grant, reports_from, takes_loss, by_return, returns_on}
 use Rattle.server_rules.specs.Served.{Served, says}
 use Rattle.server_rules.specs.Standing.{lose_from}
-use Rattle.world_history.specs.ServerNames.{Server, File, Kept, Phase, Still, Grant, Note, NoteKind, Spent, Reported, NoSpace, Rebuilt, Fenced as IsFenced, Repaired as IsRepaired, Component, Job, Revoking, IoErr, ClientRequest, RequestArgs, Get as Gets, Commit as Commits_, Return as Returns}
+use Rattle.world_history.specs.ServerNames.{Server, File, Kept, Still, Grant, Note, NoteKind, Spent, Reported, NoSpace, Rebuilt, Fenced as IsFenced, Repaired as IsRepaired, Component, Revoking, IoErr, ClientRequest, Return as Returns}
 use Rattle.world_history.specs.State.{World, at_number}
 use Rattle.file_simulation.specs.Components.{has_failed}
 use Rattle.fence_law.specs.State as machine
 use Rattle.fence_law.specs.State.{State, Event}
 use Rattle.fence_law.specs.State.{Event as event}
-use Rattle.fence_law.specs.State.RequestKind.{Get, Return}
-use Rattle.fence_law.specs.Machine.{Allowed, Lawful, after, after_all}
+use Rattle.fence_law.specs.State.RequestKind.{Return}
+use Rattle.fence_law.specs.Machine.{Lawful, after, after_all}
 use Rattle.fence_law.proofs.Safe.{Safe, keep_safe, safe_all}
-use Rattle.file_simulation.specs.EventLists.{where_so, of_grant, entry_of}
-use Rattle.file_simulation.specs.Grants.{covers_column}
-use Rattle.file_simulation.specs.ServerEvents.{begins_fence, fences, returned, return_served, committed, served_here, answered_here, get_answered, granted, loss_answered, noted, noted_here, reported, asker, lacks_space, cells_made}
-use Rattle.relation_law.specs.KeptAsked.{AsksAs, ReturnIs, IsClean, IsNothing, IsBroken, IsReport, CommitIs}
-use Rattle.relation_law.specs.KeptGets.{IsRefused, IsGiven, GetsAs, Refused, Given_}
-use Rattle.relation_law.specs.KeptSteps.{AllLight, notes_events, behind_notes, core, IsSoFar, IsKeptAt, IsDone}
-use Rattle.relation_law.specs.KeptWalk.{AreAlike, is_plain, noted_of, IsWalked, FileFits}
+use Rattle.file_simulation.specs.EventLists.{where_so, entry_of}
+use Rattle.file_simulation.specs.ServerEvents.{fences, returned, answered_here, noted, noted_here, reported, asker, lacks_space, cells_made}
+use Rattle.relation_law.specs.KeptAsked.{AsksAs, ReturnIs, IsClean, IsNothing, IsBroken, IsReport}
+use Rattle.relation_law.specs.KeptSteps.{AllLight, notes_events, behind_notes, IsSoFar, IsKeptAt, IsDone}
+use Rattle.relation_law.specs.KeptWalk.{AreAlike, is_plain, noted_of}
 use Rattle.relation_law.proofs.KeptJobs.{ends_fence}
 use Rattle.relation_law.proofs.KeptHigh.{high_after}
 use Rattle.relation_law.proofs.KeptLight.{so_far_light}
 use Rattle.relation_law.proofs.KeptNotes.{AreSupplied, IsBehind, walked, events_more, after_both, lawful_front, lawful_back}
 use Rattle.relation_law.proofs.KeptEnds.{so_far_from, kept_from, begins_so_far, fence_shows}
-use Rattle.relation_law.proofs.KeptGrants.{grants_kept}
 use Rattle.relation_law.proofs.KeptOpens.{none_shows}
-use Rattle.relation_law.proofs.KeptReturns.{frees_dropped, leaves_dropped, none_kept, left_kept, granted_still, commits_kept}
+use Rattle.relation_law.proofs.KeptReturns.{frees_dropped, leaves_dropped, none_kept, left_kept, granted_still}
 use Rattle.relation_law.proofs.KeptRounds.{begun, done}
 use Rattle.relation_law.proofs.KeptServer.{light_kept, busy_some}
 
@@ -327,7 +319,7 @@ module _ (next : ℕ) (s : State) (w : World) (f : File) (i : Input) (Given : St
         let st : Safe t = safe_all s es a safe in
         let e = ends_fence (IsBehind next true t w f i (Given t)) (walked next true t w f i (Given t) (supplied true t) st)
         Revoking w.server.format go
-        (begun next t w f i (Given t) (λ b. supplied b t) true (ending f.kept w.server.format) [] refl refl
+        (begun next t w f i (Given t) (λ b. supplied b t) true (ending f.kept w.server.format) [] refl refl refl
         (subst (λ (x : State). IsSoFar next true x (ending f.kept w.server.format)) (sym same) last)) in
         plain_asks next t w f i (Given t) st w.server q report is
         (says (fence_begins Revoking w.server.format go) NFS4_OK 0)
@@ -368,7 +360,7 @@ module _ (next : ℕ) (s : State) (w : World) (f : File) (i : Input) (Given : St
             let k : IsKeptAt next t f = light_kept next s (event.ServesOther c ∷ []) f (refl, tt) a safe h in
             let walk = walked next busy t w f i (Given t) (supplied busy t) st in
             let e = loss_walked (IsBehind next busy t w f i (Given t)) walk.alike walk.plain go ks
-            (begun next t w f i (Given t) (λ z. supplied z t) busy f.kept [] refl refl (so_far_from next busy t f b.0 k)) in
+            (begun next t w f i (Given t) (λ z. supplied z t) busy f.kept [] refl refl refl (so_far_from next busy t f b.0 k)) in
             let held : (behind_notes t w f i G.effects.notes).held ≡ t.held =
             loss_walked (Holds_ t w f i) (λ n l ns z m. m) (holds_more t w f i) go ks refl in
             record {
@@ -388,8 +380,7 @@ module _ (next : ℕ) (s : State) (w : World) (f : File) (i : Input) (Given : St
                   let km : IsKeptAt next m G.file =
                   light_kept next u (event.Acknowledges c (entry_of u c) ∷ []) G.file (refl, tt) (l2.0, tt) su ku in
                   let still : G.file.kept.phase ≡ Still =
-                  granted_still m G.file c g (ap (λ (gs : List Grant). grant_of gs c) same.2 ∙ has)
-                  G.file.kept.phase km.phase in
+                  granted_still m G.file c g (ap (λ (gs : List Grant). grant_of gs c) same.2 ∙ has) G.file.kept.phase km.phase in
                   let last : IsKeptAt next (after m (event.Leaves c x)) (ends_grant G c).file =
                   left_kept next m (after m (event.Leaves c x)) G.file c (leaves_dropped m c x) still
                   (high_after G.file m (event.Leaves c x) l2.1.0 tt sm km.low) km in

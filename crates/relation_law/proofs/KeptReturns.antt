@@ -1,19 +1,18 @@
 -- Grants that are given back, and commits: the machine behind them has what is kept.
 -- Towards `KeptGoesOn` (`specs/Steps.antt`).
-use Rattle.std.proofs.Common.{◌≡◌, ◌⊎◌, ◌==◌, ◌&&◌, ◌||◌, ℕ, ◌+◌, ◌<◌, ◌≤◌, max, Bool, true, false, not, List, [], ◌∷◌, ◌++◌, find, filter, Option, Some, None, refl, sym, ap, subst, ◌∙◌, arith, inl, inr, if◌then◌else◌}
-use Rattle.std.proofs.lemmas.Bool.{true≢false, cases_Bool, cases_eq, eqb-true, eq-eqb, ne_eqb, eqb-false}
+use Rattle.std.proofs.Common.{◌≡◌, ◌==◌, ℕ, ◌+◌, max, List, [], ◌∷◌, Option, Some, None, refl, sym, ap, subst, ◌∙◌, arith, inl, inr}
+use Rattle.std.proofs.lemmas.Bool.{cases_Bool, eqb-true, ne_eqb}
 use Rattle.server_rules.specs.Grants.{grant_of, without}
-use Rattle.server_rules.specs.Laws.{In}
-use Rattle.world_history.specs.ServerNames.{File, Kept, Grant, Phase, Still, Fencing, Repairing, FencingAgain}
+use Rattle.world_history.specs.ServerNames.{File, Grant, Phase, Still, Fencing, Repairing, FencingAgain}
 use Rattle.fence_law.specs.State as machine
-use Rattle.fence_law.specs.State.{State, Event}
+use Rattle.fence_law.specs.State.{State}
 use Rattle.fence_law.specs.State.Event.{Frees, Leaves, Commits}
 use Rattle.fence_law.specs.Words.{updated}
 use Rattle.fence_law.specs.Machine.{Allowed, after}
 use Rattle.fence_law.proofs.Words.{updated_read}
 use Rattle.fence_law.proofs.Safe.{Safe}
-use Rattle.file_simulation.specs.Phases.{OutstandingIs, IsStill, IsEnded, IsFencing, IsRepairing, PhaseIs, AreBelowHigh}
-use Rattle.relation_law.specs.KeptSteps.{core, IsSoFar, IsKeptAt}
+use Rattle.file_simulation.specs.Phases.{OutstandingIs, IsStill, PhaseIs, AreBelowHigh}
+use Rattle.relation_law.specs.KeptSteps.{IsKeptAt}
 use Rattle.relation_law.proofs.KeptHigh.{high_after}
 use Rattle.relation_law.proofs.KeptEnds.{low_of}
 

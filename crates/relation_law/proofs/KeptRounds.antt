@@ -1,29 +1,25 @@
 -- A step that goes through all files: what the machine of one file has behind it. Notes on other files have no event.
 -- Towards `KeptGoesOn` (`specs/Steps.antt`).
-use Rattle.std.proofs.Common.{◌≡◌, ◌⊎◌, ◌==◌, ℕ, ◌+◌, Bool, true, false, List, [], ◌∷◌, ◌++◌, Option, Some, None, is_some, refl, sym, ap, subst, ◌∙◌, arith, inl, inr, append_assoc, if◌then◌else◌}
-use Rattle.std.proofs.lemmas.Bool.{true≢false, cases_Bool, eqb-true, eq-eqb, ne_eqb, eqb-false}
+use Rattle.std.proofs.Common.{◌≡◌, ◌==◌, ℕ, ◌+◌, Bool, true, false, List, [], ◌∷◌, ◌++◌, Some, None, refl, sym, ap, subst, ◌∙◌, inl, inr, append_assoc}
+use Rattle.std.proofs.lemmas.Bool.{cases_Bool, eqb-true, eq-eqb, ne_eqb, eqb-false}
 use Rattle.std.proofs.lemmas.List.{append-nil}
 use Rattle.server_rules.specs.Files.{file_at}
 use Rattle.server_rules.specs.Going.{Going}
 use Rattle.server_rules.specs.History.{Input}
 use Rattle.server_rules.specs.Jobs.{declares}
-use Rattle.server_rules.specs.Openings.{opens, opens_each}
 use Rattle.server_rules.specs.Orders.{declares_each}
-use Rattle.server_rules.specs.Rounds.{Round}
-use Rattle.server_rules.specs.Laws.{In}
 use Rattle.calm_law.specs.Words.{Each}
 use Rattle.calm_law.specs.Performing.{AreDistinct}
-use Rattle.world_history.specs.ServerNames.{File, Kept, Still, Repairing, Note, NoteKind, Fenced, Repaired, Effects, Drive, Job}
+use Rattle.world_history.specs.ServerNames.{File, Kept, Still, Repairing, Note, NoteKind, Fenced, Repaired, Effects, Drive}
 use Rattle.world_history.specs.State.{World}
 use Rattle.fence_law.specs.State.{State, Event}
 use Rattle.fence_law.specs.Machine.{Lawful, after_all}
-use Rattle.fence_law.proofs.Safe.{Safe}
 use Rattle.file_simulation.specs.ServerEvents.{noted}
 use Rattle.relation_law.specs.KeptSteps.{notes_events, behind_notes, IsSoFar, IsKeptAt, GoesAs, IsDone}
-use Rattle.relation_law.specs.KeptWalk.{AreAlike, noted_of, IsWalked, FileFits}
-use Rattle.relation_law.proofs.KeptJobs.{Own, End, ends_declares}
-use Rattle.relation_law.proofs.KeptNotes.{events_more, AreSupplied, IsBehind, walked}
-use Rattle.relation_law.proofs.KeptEnds.{so_far_from, kept_from}
+use Rattle.relation_law.specs.KeptWalk.{noted_of, IsWalked, FileFits}
+use Rattle.relation_law.proofs.KeptJobs.{ends_declares}
+use Rattle.relation_law.proofs.KeptNotes.{events_more, AreSupplied, IsBehind}
+use Rattle.relation_law.proofs.KeptEnds.{kept_from}
 
 -- ---- notes on other files
 
@@ -74,10 +70,12 @@ given_front next busy t w f i Given sup base (m ∷ more) g =
 module _ (next : ℕ) (t : State) (w : World) (f : File) (i : Input) (Given : List Note → Type 0)
     (supplied : (busy : Bool) → AreSupplied next busy t w f i Given) where
   -- as it begins
-  pub begun : (busy : Bool) (k : Kept) (ns : List Note) → k.number ≡ f.kept.number → notes_events t w f i ns ≡ []
+  pub begun : (busy : Bool) (k : Kept) (ns : List Note) → k.number ≡ f.kept.number → k.map ≡ f.kept.map
+      → notes_events t w f i ns ≡ []
       → IsSoFar next busy t k → IsBehind next busy t w f i Given k ns
-  begun busy k ns number none h = record {
+  begun busy k ns number map none h = record {
     number = number;
+    map = map;
     lawful = λ g. subst (Lawful t) (sym none) tt;
     so_far = λ g. subst (λ (x : List Event). IsSoFar next busy (after_all t x) k) (sym none) h;
   }

@@ -1,33 +1,26 @@
 -- A step of the server on anything but a client's request: what the machine of a file has behind it.
 -- Towards `KeptGoesOn` (`specs/Steps.antt`).
-use Rattle.std.proofs.Common.{◌≡◌, ◌⊎◌, ◌==◌, ◌&&◌, ◌||◌, ℕ, ◌+◌, ◌≤◌, Bool, true, false, not, map, List, [], ◌∷◌, ◌++◌, Option, Some, None, is_some, find, refl, sym, ap, subst, ◌∙◌, arith, inl, inr, if◌then◌else◌}
-use Rattle.std.proofs.lemmas.Bool.{true≢false, cases_Bool, cases_eq, eqb-true, eq-eqb, ne_eqb, eqb-false}
-use Rattle.std.proofs.lemmas.List.{append-nil}
+use Rattle.std.proofs.Common.{◌≡◌, ◌==◌, ◌||◌, ℕ, ◌+◌, Bool, true, false, not, List, [], ◌∷◌, Option, Some, None, is_some, refl, sym, ap, subst, ◌∙◌, inl, inr, if◌then◌else◌}
+use Rattle.std.proofs.lemmas.Bool.{true≢false, cases_Bool, cases_eq, eq-eqb, ne_eqb}
 use Rattle.std.proofs.lemmas.Option.{same_Some}
-use Rattle.osd_lists.specs.declared.node.Node.TheVariants.{Server as FromServer, Client as FromClient, Drive as FromDrive}
 use Rattle.server_rules.specs.declared.limits.TheConstants.{GREATEST_TAG}
-use Rattle.sent_law.specs.Tagged.{is_fence, fence_open}
-use Rattle.server_rules.specs.Files.{Step, still, begins, file_at, put_file, add_file, at_file, step_at}
+use Rattle.sent_law.specs.Tagged.{fence_open}
+use Rattle.server_rules.specs.Files.{Step, still, begins, file_at, put_file, at_file, step_at}
 use Rattle.server_rules.specs.Get.{lowest}
 use Rattle.server_rules.specs.Going.{Going, noting, with_components}
-use Rattle.server_rules.specs.History.{Input, Hears, Makes, Obeys, Adds, Formats, Resends, Crashes, Opens, step, unless_made}
-use Rattle.server_rules.specs.Jobs.{ending, fence_begins, declares, declared_in, targets, making}
+use Rattle.server_rules.specs.History.{Input, Hears, Makes, Obeys, Adds, Formats, Resends, Crashes, Opens, step}
+use Rattle.server_rules.specs.Jobs.{ending, fence_begins, declares, declared_in, targets}
 use Rattle.server_rules.specs.Laws.{In}
-use Rattle.server_rules.specs.Making.{refusal, unless_refused, with_file, makes_file, create_file}
-use Rattle.server_rules.specs.Messages.{Message, Asks, Replies, Orders, counters_have_room}
-use Rattle.server_rules.specs.Openings.{crashed_file, opens, opens_each, reopen, opens_made, opens_fenced, is_unsettled}
-use Rattle.server_rules.specs.Orders.{offline, declare, declares_each, begins_job, starts, recalls_on, declares_known, ordered, Ordered}
+use Rattle.server_rules.specs.Orders.{offline, declare, begins_job, starts, recalls_on, declares_known}
 use Rattle.server_rules.specs.Replies.{hears, hearing, Hearing}
-use Rattle.server_rules.specs.Rounds.{step_round}
 use Rattle.server_rules.specs.Standing.{any_on, lose_on}
-use Rattle.server_rules.proofs.FileLaws.{number_at, put_same, put_other, add_other, not_there}
-use Rattle.move_law.specs.Steps.{IsAnswering, answered_file, Answering, IsOrder, Here, Sent, StepCases, new_file}
-use Rattle.move_law.proofs.Steps.{each_step}
-use Rattle.move_law.proofs.Files.{put_gives, in_at}
+use Rattle.server_rules.proofs.FileLaws.{number_at, put_same, put_other}
+use Rattle.move_law.specs.Steps.{IsAnswering, answered_file, Answering}
+use Rattle.move_law.proofs.Files.{put_gives}
 use Rattle.calm_law.proofs.Rounds.{each_at}
 use Rattle.calm_law.specs.Words.{Each}
 use Rattle.calm_law.specs.Performing.{AreDistinct}
-use Rattle.world_history.specs.ServerNames.{Server, File, Kept, Phase, Note, NoteKind, Busy, Spent, Effects, Drive, Job, JobKind, Revoking, Rebuilding, Auditing, Awaited, Reply, Order, OrderKind, ToRecall, ToRevoke, ToDeclare, ToRebuild, ToAudit, HasStarted, IsSpent, RawMap, Refusal, Component}
+use Rattle.world_history.specs.ServerNames.{File, Kept, Note, NoteKind, Busy, Spent, Effects, Drive, Job, JobKind, Awaited, Reply, ToRecall, ToRevoke, ToDeclare, ToRebuild, ToAudit, Component}
 use Rattle.world_history.specs.State.{World}
 use Rattle.fence_law.specs.State.{State, Event}
 use Rattle.fence_law.specs.State.Event.{Fences, Declares}
@@ -35,14 +28,14 @@ use Rattle.fence_law.specs.Machine.{Lawful, after_all}
 use Rattle.fence_law.proofs.Safe.{Safe, safe_all}
 use Rattle.file_simulation.specs.EventLists.{where_so}
 use Rattle.file_simulation.specs.ServerEvents.{begins_fence, fences, declared_from, noted_here}
-use Rattle.relation_law.specs.KeptSteps.{AllLight, notes_events, behind_notes, IsSoFar, IsKeptAt, GoesAs, IsDone, first_of, HearsNoOrder}
-use Rattle.relation_law.specs.KeptWalk.{noted_of, IsWalked, FileFits}
-use Rattle.relation_law.proofs.KeptJobs.{Own, End, ends_hears, ends_declares, ends_fence, ends_making}
+use Rattle.relation_law.specs.KeptSteps.{AllLight, notes_events, IsKeptAt, GoesAs, IsDone, first_of}
+use Rattle.relation_law.specs.KeptWalk.{IsWalked, FileFits}
+use Rattle.relation_law.proofs.KeptJobs.{ends_hears, ends_declares, ends_fence}
 use Rattle.relation_law.proofs.KeptLight.{so_far_light}
 use Rattle.relation_law.proofs.KeptNotes.{AreSupplied, IsBehind, walked, both_light, where_light}
 use Rattle.relation_law.proofs.KeptEnds.{so_far_from, kept_from, begins_so_far, fence_shows}
-use Rattle.relation_law.proofs.KeptRounds.{IsFrom, Quiet, quiet_walked, begun, done, goes_as, HasGone, AddsNone, declared_round}
-use Rattle.relation_law.proofs.KeptOpens.{IsIdle, none_shows, has_to_fence, ends_opens, opening_fences, opening_shows, opened_round}
+use Rattle.relation_law.proofs.KeptRounds.{Quiet, quiet_walked, begun, done, goes_as, declared_round}
+use Rattle.relation_law.proofs.KeptOpens.{none_shows}
 
 -- ---- the first line
 
@@ -115,12 +108,11 @@ number_walked n = record {
 pub record IsReady (w : World) (f : File) : Type 0 where
   pub there : file_at w.server.files f.kept.number ≡ Some f
   pub apart : AreDistinct w.server.files
-  pub fit : Each FileFits w.server.files
 
 module _ (next : ℕ) (s : State) (w : World) (f : File) (chosen : List ℕ) (safe : Safe s) (h : IsKeptAt next s f)
     (ready : IsReady w f) where
-  fits : FileFits f
-  fits = each_at FileFits w.server.files f.kept.number f ready.fit ready.there
+  fits : Each FileFits w.server.files → FileFits f
+  fits fit = each_at FileFits w.server.files f.kept.number f fit ready.there
 
   module _ (i : Input) (Given : State → List Note → Type 0)
       (supplied : (busy : Bool) (t : State) → AreSupplied next busy t w f i (Given t)) where
@@ -175,16 +167,16 @@ module _ (next : ℕ) (s : State) (w : World) (f : File) (chosen : List ℕ) (sa
     -- ---- a job goes on
 
     -- by a reply
-    hears_goes : (j : Job) (a : Awaited) (r : Reply) (x : Hearing) → f.job ≡ Some j
+    hears_goes : Each FileFits w.server.files → (j : Job) (a : Awaited) (r : Reply) (x : Hearing) → f.job ≡ Some j
         → ((g : File) → first_of f g i ≡ []) → Makes_ (step_at w.server f.kept.number (hears (at_file w.server chosen f) j a r x))
     unfolding notes_events
-    hears_goes j a r x is first =
+    hears_goes fit j a r x is first =
         let G : Going = hears (at_file w.server chosen f) j a r x in
         let e = ends_hears (IsBehind next true s w f i (Given s)) (walked next true s w f i (Given s) (supplied true s) safe)
         (at_file w.server chosen f) j a r x is (
-          begun next s w f i (Given s) (λ busy. supplied busy s) true f.kept [] refl refl
+          begun next s w f i (Given s) (λ busy. supplied busy s) true f.kept [] refl refl refl
               (so_far_from next true s f (λ b n. absurd (cc (sym is ∙ n))) h),
-          fits,
+          fits fit,
         ) in
         own_goes G e.0.number (λ l.
         subst (λ (es : List Event). IsDone next (after_all s es) w f i (Given (after_all s es)) G) (sym (first G.file))
@@ -207,7 +199,7 @@ module _ (next : ℕ) (s : State) (w : World) (f : File) (chosen : List ℕ) (sa
         let t : State = after_all s (where_so (not (fence_open f.kept)) (Fences ∷ [])) in
         let ended : Lawful s (where_so (not (fence_open f.kept)) (Fences ∷ []))
         → IsBehind next true t w f i (Given t) (ending f.kept w.server.format) [] = λ l.
-        begun next t w f i (Given t) (λ busy. supplied busy t) true (ending f.kept w.server.format) [] refl refl
+        begun next t w f i (Given t) (λ busy. supplied busy t) true (ending f.kept w.server.format) [] refl refl refl
         (begins_so_far next s f.kept w.server.format f.kept.phase refl l safe false
         (so_far_from next false s f (λ b. absurd (true≢false (sym b))) h)) in
         let number : G.file.kept.number ≡ f.kept.number =
@@ -229,14 +221,15 @@ module _ (next : ℕ) (s : State) (w : World) (f : File) (chosen : List ℕ) (sa
         → Makes_ (step_at w.server x.kept.number G)
     other_quiet x G found ne q number = other_goes x G found ne number (λ t. (q t).2)
 
-    pub answered_goes : (x : Answering) → IsAnswering w.server i x → ((g : File) → first_of f g i ≡ [])
+    pub answered_goes : Each FileFits w.server.files → (x : Answering) → IsAnswering w.server i x → ((g : File)
+        → first_of f g i ≡ [])
         → Makes_ (step_at w.server (answered_file w.server chosen x).file.kept.number (answered_file w.server chosen x))
     unfolding notes_events
-    answered_goes x is first =
+    answered_goes fit x is first =
         let G : Going = answered_file w.server chosen x in
         let found : file_at w.server.files x.file.kept.number ≡ Some x.file =
         at_place w.server.files x.file ready.apart is.there in
-        let fits_ : FileFits x.file = each_at FileFits w.server.files x.file.kept.number x.file ready.fit found in
+        let fits_ : FileFits x.file = each_at FileFits w.server.files x.file.kept.number x.file fit found in
         let number : G.file.kept.number ≡ x.file.kept.number =
         (ends_hears (HasNumber x.file.kept.number) (number_walked x.file.kept.number) (at_file w.server chosen x.file)
         x.job x.awaited x.reply _ is.runs (refl, fits_)).0 in
@@ -248,7 +241,7 @@ module _ (next : ℕ) (s : State) (w : World) (f : File) (chosen : List ℕ) (sa
               (subst (λ (y : File).
               (f.job ≡ Some x.job → Makes_ (step_at w.server f.kept.number
               (hears (at_file w.server chosen y) x.job x.awaited x.reply (hearing y.kept x.awaited x.reply))))) (sym same)
-              (λ runs. hears_goes x.job x.awaited x.reply _ runs first)
+              (λ runs. hears_goes fit x.job x.awaited x.reply _ runs first)
               (sym (ap (λ (y : File). y.job) same) ∙ is.runs))
           | inr ne ↦
               other_quiet x.file G found ne
@@ -265,8 +258,8 @@ module _ (next : ℕ) (s : State) (w : World) (f : File) (chosen : List ℕ) (sa
         → Makes_ (step_at w.server x.kept.number (noting (at_file w.server chosen x) n))
     unfolding notes_events
     refused_goes x n found none =
-        quiet_goes (step_at w.server x.kept.number (noting (at_file w.server chosen x) n))
-        (elim (cases_eq x.kept.number f.kept.number) [
+        quiet_goes (step_at w.server x.kept.number (noting (at_file w.server chosen x) n)) (elim
+        (cases_eq x.kept.number f.kept.number) [
           | inl here ↦
               let same : x ≡ f = same_Some x f (sym found ∙ ap (file_at w.server.files) here ∙ ready.there) in
               subst (λ (y : File). file_at (put_file w.server.files y.kept.number y) f.kept.number ≡ Some f) (sym same)
@@ -343,40 +336,41 @@ module _ (next : ℕ) (s : State) (w : World) (f : File) (chosen : List ℕ) (sa
         stays None is = is
         stays (Some j) is = absurd (cc (sym is ∙ none))
 
-    declares_done : (t : State) → Safe t → IsKeptAt next t f → (drive : ℕ) (ds : List Drive) (m : Effects) (placed : List ℕ)
+    declares_done : Each FileFits w.server.files → (t : State) → Safe t → IsKeptAt next t f
+        → (drive : ℕ) (ds : List Drive) (m : Effects) (placed : List ℕ)
         → notes_events t w f i m.notes ≡ []
         → IsDone next t w f i (Given t) (declares (record { file = f; effects = m; drives = ds; chosen = placed }) drive)
-    declares_done t safe_ k drive ds m placed none =
+    declares_done fit t safe_ k drive ds m placed none =
         let busy : Bool = is_some f.job in
         let b = busy_some f.job in
         let e = ends_declares (IsBehind next busy t w f i (Given t)) (walked next busy t w f i (Given t) (supplied busy t) safe_)
         (record { file = f; effects = m; drives = ds; chosen = placed }) drive (
-          begun next t w f i (Given t) (λ c. supplied c t) busy f.kept m.notes refl none
+          begun next t w f i (Given t) (λ c. supplied c t) busy f.kept m.notes refl refl none
               (so_far_from next busy t f b.0 k),
-          fits,
+          fits fit,
         ) in
         done next t w f i (Given t) (λ c. supplied c t) busy
         (declares (record { file = f; effects = m; drives = ds; chosen = placed }) drive)
         (λ x. job_stays (record { file = f; effects = m; drives = ds; chosen = placed }) drive (b.1 x)) e.0
 
-    declare_goes : (drive : ℕ) → ((g : File) → AllLight (first_of f g i))
+    declare_goes : Each FileFits w.server.files → (drive : ℕ) → ((g : File) → AllLight (first_of f g i))
         → ((g : File) → first_of f g i ≡ first_of f f i) → Makes_ (declare w.server chosen drive)
     unfolding declare notes_events
-    declare_goes drive light same g found law =
+    declare_goes fit drive light same g found law =
         let t : State = after_all s (first_of f f i) in
         let law_ : Lawful s (first_of f f i) = subst (Lawful s) (same g) law in
         let safe_ : Safe t = safe_all s (first_of f f i) law_ safe in
         let k : IsKeptAt next t f = light_kept next s (first_of f f i) f (light f) law_ safe h in
         let r = declared_round w f i t drive (offline w.server.drives drive) (IsDone next t w f i (Given t)) (λ x d. d.number)
-        (λ m placed none. declares_done t safe_ k drive (offline w.server.drives drive) m placed none)
-        w.server.files (begins w.server) chosen ready.there ready.apart ready.fit refl in
+        (λ m placed none. declares_done fit t safe_ k drive (offline w.server.drives drive) m placed none)
+        w.server.files (begins w.server) chosen ready.there ready.apart fit refl in
         let is : r.going.file ≡ g = same_Some r.going.file g (sym r.found ∙ found) in
         let ns : List Note = (declare w.server chosen drive).notes in
         subst (λ (es : List Event). GoesAs next (after_all s es) w f i (Given (after_all s es) ns) ns g) (sym (same g))
         (subst (GoesAs next t w f i (Given t ns) ns) is
         (goes_as next t w f i (Given t) (λ c. supplied c t) r.going ns r.is r.behind.0 r.behind.1))
 
-    pub known_goes : (drive : ℕ) (b : Bool) → ((g : File) → AllLight (first_of f g i))
+    pub known_goes : Each FileFits w.server.files → (drive : ℕ) (b : Bool) → ((g : File) → AllLight (first_of f g i))
         → ((g : File) → first_of f g i ≡ first_of f f i) → Makes_ (declares_known w.server chosen drive b).step
-    known_goes drive true light same = declare_goes drive light same
-    known_goes drive false light same = stays_goes (still w.server) refl refl
+    known_goes fit drive true light same = declare_goes fit drive light same
+    known_goes fit drive false light same = stays_goes (still w.server) refl refl

@@ -1,18 +1,15 @@
 -- A column of which each position has a replica that isn't lost isn't short.
 -- Towards `EventsAreLawful` (`specs/Steps.antt`).
-use Rattle.std.proofs.Common.{◌≡◌, ◌⊎◌, ℕ, zero, suc, ◌+◌, ◌-◌, ◌*◌, ◌/◌, ◌%◌, ◌<◌, ◌≤◌, Bool, true, false, refl, sym, ap, ◌∙◌, arith, inl, inr}
-use Rattle.std.specs.Prelude.{nat_lt}
-use Rattle.std.proofs.lemmas.Bool.{cases_Bool, cases_eq, lt-ltb, true≢false}
-use Rattle.std.proofs.lemmas.Nat.{div-add-mod', mod_below, div-mul-add}
+use Rattle.std.proofs.Common.{◌≡◌, ℕ, ◌+◌, ◌-◌, ◌*◌, ◌/◌, ◌%◌, ◌<◌, Bool, true, refl, sym, ap, ◌∙◌, arith, inl, inr}
+use Rattle.std.proofs.lemmas.Bool.{lt-ltb, true≢false}
+use Rattle.std.proofs.lemmas.Nat.{mod_below, div-mul-add}
 use Rattle.osd_lists.proofs.Tests.{nat_less}
 use Rattle.data_map.specs.declared.check.RawMap.{RawMap}
 use Rattle.data_map.specs.Check.{IsChecked}
-use Rattle.data_map.specs.Striping.{replicas, parities, group_width, data_units, position_of, place_of, positions}
+use Rattle.data_map.specs.Striping.{replicas, group_width, data_units, place_of, positions}
 use Rattle.data_map.specs.Inverse.{stripe_at, unit_at, byte_at}
 use Rattle.data_map.proofs.Shape.{replicas_inside}
-use Rattle.fence_law.specs.State.{State}
-use Rattle.fence_law.specs.Columns.{Short}
-use Rattle.plan_law.specs.FileLayout.{layout_of, column_of_cell, position_in}
+use Rattle.plan_law.specs.FileLayout.{column_of_cell}
 use Rattle.plan_law.specs.Standing.{first_standing, position_stands, units_stand, column_stands}
 use Rattle.plan_law.proofs.Cells.{with_parity, is_coded, is_plain, cell_coded, cell_plain, stands_at, position_again, unit_inside, lies_there}
 use Rattle.plan_law.proofs.Repairing.{first_is, each_stands}

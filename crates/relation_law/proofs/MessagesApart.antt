@@ -1,7 +1,7 @@
 -- No two WRITEs of a scatter are for one part of one component.
 -- Towards `EventsAreLawful` (`specs/Steps.antt`).
-use Rattle.std.proofs.Common.{◌≡◌, ℕ, zero, suc, ◌+◌, ◌-◌, ◌*◌, ◌/◌, ◌%◌, ◌<◌, ◌≤◌, Bool, true, false, List, [], ◌∷◌, ◌++◌, length, map, refl, sym, ap, ◌∙◌, inl, inr, ◌⊎◌, arith}
-use Rattle.std.specs.Prelude.{nat_lt, nat_le, if◌then◌else◌}
+use Rattle.std.proofs.Common.{◌≡◌, ℕ, zero, suc, ◌+◌, ◌-◌, ◌*◌, ◌/◌, ◌%◌, ◌<◌, ◌≤◌, List, [], ◌∷◌, ◌++◌, length, map, refl, sym, ap, ◌∙◌, inl, inr, arith}
+use Rattle.std.specs.Prelude.{nat_lt, nat_le}
 use Rattle.std.specs.List.{range_with_len}
 use Rattle.std.proofs.lemmas.Bool.{cases_Bool, cases_lt, lt-ltb, le-ltb}
 use Rattle.std.proofs.Math.Nat.{add-mul, mul-le-mul_right}
@@ -15,9 +15,9 @@ use Rattle.stripe_plan.specs.declared.plan.Column.{Column}
 use Rattle.stripe_plan.specs.declared.plan.Ask.{Ask}
 use Rattle.stripe_plan.specs.declared.plan.Store.{Store}
 use Rattle.stripe_plan.specs.declared.plan.Aim.TheVariants.{Scatters}
-use Rattle.stripe_plan.specs.Touched.{end_of, stripes, IsTouchedStripe, touches, own, columns, columns_between, low, high}
+use Rattle.stripe_plan.specs.Touched.{end_of, stripes, touches, columns, columns_between, low, high}
 use Rattle.stripe_plan.specs.Lost.{among}
-use Rattle.stripe_plan.specs.Asks.{own_columns, changed, at_row, at_rows, some_of, without, without_each, asks_of, asks_each, asks_place, asks_stripe, asks}
+use Rattle.stripe_plan.specs.Asks.{own_columns, changed, at_rows, without, without_each, asks_of, asks_each, asks_place, asks_stripe, asks}
 use Rattle.stripe_plan.specs.Plans.{writes, written, filled, stores}
 use Rattle.stripe_plan.proofs.ReadLaws.{stripes_are}
 use Rattle.stripe_plan.proofs.WriteFollows.{within_changed}

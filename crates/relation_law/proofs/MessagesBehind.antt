@@ -1,12 +1,12 @@
 -- What the machine knows behind the WRITEs that a client sends in a step.
 -- Towards `SentGoesOn` (`specs/Steps.antt`).
-use Rattle.std.proofs.Common.{◌≡◌, ℕ, ◌+◌, ◌*◌, ◌<◌, ◌≤◌, Bool, true, false, List, [], ◌∷◌, ◌++◌, length, refl, sym, ap, subst, ◌∙◌, inl, inr, ◌⊎◌, arith}
+use Rattle.std.proofs.Common.{◌≡◌, ℕ, ◌+◌, ◌≤◌, Bool, true, List, [], ◌∷◌, length, refl, sym, ap, ◌∙◌, inl, inr, arith}
 use Rattle.server_rules.specs.Laws.{In}
 use Rattle.client_rules.specs.Commands.{nonce_at, numbered, awaited_for, command, sealed}
 use Rattle.client_rules.specs.Laws.{NoneTo, AreApart}
 use Rattle.world_history.specs.ClientNames.{Held, Awaited, Store}
-use Rattle.fence_law.specs.State.{State, Grant, Write, PartState}
-use Rattle.fence_law.specs.State.PartState.{Sent, NotSent}
+use Rattle.fence_law.specs.State.{Grant, Write, PartState}
+use Rattle.fence_law.specs.State.PartState.{Sent}
 use Rattle.fence_law.specs.Words.{updated, In as InRun}
 use Rattle.fence_law.proofs.Words.{updated_same, updated_other, updated_read}
 use Rattle.relation_law.specs.MessagesSending.{nonce_behind, out_behind, write_sent, writes_behind, AreParts, RiseFrom}

@@ -1,7 +1,7 @@
 -- What a client's call has of the drives, whatever came to the client since it was new: a read has all that it needs got or
 -- awaited, and so has a gather.
 -- Towards `EventsAreLawful` (`specs/Steps.antt`).
-use Rattle.std.specs.Prelude.{◌≡◌, ◌≢◌, ◌⊎◌, ℕ, ◌/◌, ◌<◌, true, false, List, [], length, Option, Some, None}
+use Rattle.std.specs.Prelude.{◌≡◌, ◌≢◌, ◌⊎◌, ℕ, ◌/◌, ◌<◌, true, false, List, [], length, Some, None}
 use Rattle.data_map.specs.declared.check.RawMap.{RawMap}
 use Rattle.data_map.specs.Check.{IsChecked}
 use Rattle.data_map.specs.Striping.{replicas}
@@ -11,12 +11,12 @@ use Rattle.stripe_plan.specs.Words.{answered}
 use Rattle.stripe_plan.specs.Laws.{IsFetched}
 use Rattle.stripe_plan.specs.declared.plan.Aim.TheVariants.{Reads as ToRead}
 use Rattle.server_rules.specs.Laws.{In}
-use Rattle.client_rules.specs.Calls.{file_of, span_of, is_write}
+use Rattle.client_rules.specs.Calls.{span_of, is_write}
 use Rattle.client_rules.specs.Commands.{awaited_for, nonce_at}
 use Rattle.client_rules.specs.Grants.{held_of, clipped, is_for, missing_of}
 use Rattle.client_rules.specs.Io.{outs}
 use Rattle.client_rules.specs.Layouts.{granted_span}
-use Rattle.world_history.specs.ClientNames.{Client, Call, CallOp, Held, Ask, Store, Column, Awaited, Io, Phase, Starts, Needs, Waits, Reads, Probes, Gathers, Scatters, Outcome, ReadOk, Turn, Goes, Ends, Forgets, Moved}
+use Rattle.world_history.specs.ClientNames.{CallOp, Held, Ask, Store, Column, Awaited, Io, Phase, Reads, Probes, Gathers, Outcome, Turn, Goes, Ends, Forgets, Moved}
 use Rattle.client_rules.proofs.ReadMoves.{FitsOutcome, AnswersNone}
 use Rattle.gather_law.specs.Ready.{IsSome, IsReady as IsGatherReady}
 use Rattle.exchange_law.proofs.Had.{AreBelow}

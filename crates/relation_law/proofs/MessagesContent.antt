@@ -1,7 +1,7 @@
 -- Each Store of a scatter carries the content of the write's entry.
 -- Towards `EventsAreLawful` (`specs/Steps.antt`).
-use Rattle.std.proofs.Common.{◌≡◌, ℕ, suc, ◌+◌, ◌<◌, ◌≤◌, Bool, true, false, List, [], ◌∷◌, length, get_or, refl, sym, ap, ◌∙◌, inl, inr, arith}
-use Rattle.std.specs.Prelude.{Option, Some, None, ◌&&◌, not, nat_lt, slice_index}
+use Rattle.std.proofs.Common.{◌≡◌, ℕ, suc, ◌+◌, ◌<◌, Bool, true, false, List, [], ◌∷◌, length, refl, sym, ◌∙◌, inl, inr, arith}
+use Rattle.std.specs.Prelude.{Some, ◌&&◌, not, nat_lt, slice_index}
 use Rattle.std.specs.List.{All}
 use Rattle.std.proofs.lemmas.Bool.{cases_Bool, and_parts}
 use Rattle.std.proofs.lemmas.Bool.Decides.{nat_tests}
@@ -16,7 +16,7 @@ use Rattle.client_rules.specs.Calls.{span_of, bytes_of}
 use Rattle.client_rules.specs.Io.{outs}
 use Rattle.world_history.specs.ClientNames.{CallOp, Held, TimedOut}
 use Rattle.fence_law.specs.Columns.{only, payload}
-use Rattle.fence_law.specs.State.{State, Start, Layout}
+use Rattle.fence_law.specs.State.{State, Start}
 use Rattle.fence_law.specs.Starts.{written_start}
 use Rattle.fence_law.specs.Law.{byte_before, IsWholeAt}
 use Rattle.plan_law.specs.FileLayout.{layout_of}

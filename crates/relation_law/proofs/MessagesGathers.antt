@@ -1,7 +1,7 @@
 -- Gathers go on, or their scatter may begin; and a call begins.
 -- Towards `EventsAreLawful` (`specs/Steps.antt`).
-use Rattle.std.proofs.Common.{◌≡◌, ◌≢◌, ℕ, ◌+◌, ◌-◌, ◌/◌, ◌<◌, ◌≤◌, ◌==◌, Bool, true, false, List, [], ◌∷◌, ◌++◌, length, refl, sym, ap, subst, ◌∙◌, inl, inr, ◌⊎◌, arith, eq-eqb, ne_eqb}
-use Rattle.std.specs.Prelude.{Option, Some, None, if◌then◌else◌, is_some}
+use Rattle.std.proofs.Common.{◌≡◌, ℕ, ◌+◌, ◌-◌, ◌/◌, ◌<◌, ◌==◌, Bool, true, false, List, [], ◌∷◌, ◌++◌, length, refl, sym, subst, inl, inr, ◌⊎◌, arith, eq-eqb, ne_eqb}
+use Rattle.std.specs.Prelude.{Some, None, if◌then◌else◌, is_some}
 use Rattle.std.proofs.lemmas.Bool.{cases_Bool, cases_eq}
 use Rattle.std.proofs.lemmas.List.{append-nil}
 use Rattle.std.proofs.lemmas.Nat.{div_below}
@@ -9,31 +9,30 @@ use Rattle.data_map.specs.Check.{IsChecked}
 use Rattle.data_map.specs.Striping.{replicas, positions, parities}
 use Rattle.data_map.proofs.Shape.{whole_positions}
 use Rattle.stripe_plan.specs.declared.plan.Aim.TheVariants.{Gathers as ToGather}
-use Rattle.stripe_plan.specs.Touched.{stripes, end_of}
+use Rattle.stripe_plan.specs.Touched.{stripes}
 use Rattle.stripe_plan.specs.Lost.{unwritable}
 use Rattle.stripe_plan.specs.Asks.{asks}
 use Rattle.server_rules.specs.Laws.{In}
 use Rattle.client_rules.specs.Calls.{span_of, is_write, bytes_of}
-use Rattle.client_rules.specs.Commands.{nonce_at, read_commands, others, not_of, counted}
+use Rattle.client_rules.specs.Commands.{nonce_at, read_commands, others, not_of}
 use Rattle.client_rules.specs.Grants.{clipped, is_for, covers, missing_of}
 use Rattle.client_rules.specs.Going.{begins}
 use Rattle.client_rules.specs.Io.{outs, had, got_of}
 use Rattle.client_rules.specs.Layouts.{granted_span}
 use Rattle.client_rules.specs.Reads.{reads, probes, first_present}
-use Rattle.client_rules.specs.Replies.{performed, gather_timed, timed_out, timed_after}
+use Rattle.client_rules.specs.Replies.{performed, gather_timed}
 use Rattle.client_rules.specs.Writes.{gathers, gathers_on, gathers_due, scatters, is_too_short}
-use Rattle.world_history.specs.ClientNames.{CallOp, Held, Listed, Awaited, TimedOut, Io, Column, Reply, Silent, Phase, Reads, Probes, Gathers, Moved}
+use Rattle.world_history.specs.ClientNames.{CallOp, Held, Listed, Awaited, TimedOut, Io, Column, Reply, Gathers, Moved}
 use Rattle.gather_law.specs.Ready.{IsSome, IsReady as IsGatherReady, AreBelow as AreAllBelow}
 use Rattle.gather_law.proofs.Gathered as gather
-use Rattle.exchange_law.specs.Asked.{IsHeldIn}
-use Rattle.exchange_law.proofs.Had.{AreBelow, rest_below}
+use Rattle.exchange_law.proofs.Had.{rest_below}
 use Rattle.exchange_law.proofs.RightMoves.{counted_outs}
 use Rattle.exchange_law.proofs.PlaceMoving.{covered, write_in}
 use Rattle.plan_law.specs.Sending.{MayScatter}
 use Rattle.plan_law.proofs.Within.{writable_within}
 use Rattle.relation_law.proofs.MessagesClients.{AreReadsUnder, ReadsSome, ReadsNone, GathersFor, MovedFits, IsUsable}
 use Rattle.relation_law.proofs.MessagesMoves.{ArePlaced, plan_placed, commands_under, more_under, others_under, rest_under}
-use Rattle.relation_law.proofs.MessagesReads.{same_counted, same_itself, counted_under, ReadsOn, reads_fit, probes_fit}
+use Rattle.relation_law.proofs.MessagesReads.{same_counted, same_itself, counted_under, reads_fit, probes_fit}
 
 -- ---- what a gather does
 

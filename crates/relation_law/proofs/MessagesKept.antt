@@ -1,6 +1,6 @@
 -- The WRITEs that clients sent, behind a move in which none is sent.
 -- Towards `SentGoesOn` (`specs/Steps.antt`).
-use Rattle.std.proofs.Common.{◌≡◌, ◌⊎◌, ℕ, ◌<◌, false, List, Some, refl, sym, ap, subst, ◌∙◌, inl, inr}
+use Rattle.std.proofs.Common.{◌≡◌, ℕ, false, Some, sym, ◌∙◌, inl, inr}
 use Rattle.std.specs.Prelude.{slice_get}
 use Rattle.osd_commands.specs.declared.actions.Action.TheVariants.{Write as ToWrite}
 use Rattle.osd_commands.specs.declared.commands.Command.{Command}
@@ -12,7 +12,7 @@ use Rattle.fence_law.proofs.Open.{Known}
 use Rattle.file_simulation.specs.Components.{AreComponents, is_lost_in}
 use Rattle.file_simulation.specs.Messages.{WasSent}
 use Rattle.relation_law.specs.Frames.{LogGrows}
-use Rattle.relation_law.specs.MessagesWrites.{WritesAreSent, ObjectStays, ObjectsStay}
+use Rattle.relation_law.specs.MessagesWrites.{WritesAreSent, ObjectsStay}
 use Rattle.relation_law.proofs.MessagesSent.{sent_stays}
 
 -- An old WRITE stays sent to each component that has its object and stands behind the move.

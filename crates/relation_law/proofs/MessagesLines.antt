@@ -1,7 +1,7 @@
 -- The lines of a client's commands in a step: which events they have, and that these may happen.
 -- Towards `EventsAreLawful` (`specs/Steps.antt`).
-use Rattle.std.proofs.Common.{◌≡◌, ℕ, ◌+◌, ◌<◌, ◌==◌, Bool, true, false, List, [], ◌∷◌, ◌++◌, refl, sym, ap, subst, ◌∙◌, inl, inr, ◌⊎◌, arith}
-use Rattle.std.specs.Prelude.{map, Option, Some, None}
+use Rattle.std.proofs.Common.{◌≡◌, ℕ, ◌+◌, true, false, List, [], ◌∷◌, ◌++◌, refl, ap, ◌∙◌, inl, inr}
+use Rattle.std.specs.Prelude.{map, Option, Some}
 use Rattle.data_map.specs.declared.check.RawMap.{RawMap}
 use Rattle.osd_drive.specs.Table.{is_write as is_write_action}
 use Rattle.stripe_plan.specs.declared.plan.Column.{Column}
@@ -19,13 +19,13 @@ use Rattle.plan_law.specs.Writes.{touches_column}
 use Rattle.client_rules.specs.Grants.{is_for}
 use Rattle.file_simulation.specs.Calls.{IsHolding}
 use Rattle.relation_law.proofs.ReadsStarts.{gather_may_start}
-use Rattle.fence_law.specs.Machine.{Allowed, after, after_all, Lawful}
+use Rattle.fence_law.specs.Machine.{after, after_all, Lawful}
 use Rattle.fence_law.proofs.Words.{updated_same}
 use Rattle.file_simulation.specs.EventLists.{entry_in}
 use Rattle.file_simulation.specs.Events.{joined}
-use Rattle.file_simulation.specs.ClientEvents.{sends, sends_all, commands, commands_in, commands_under, sends_write, sends_first, sends_behind, sends_on, sends_part, sends_read, starts, starts_read, starts_gather, starts_write}
-use Rattle.relation_law.specs.MessagesSending.{sends_of, AreParts, MaySendAll, IsAwaiting}
-use Rattle.relation_law.proofs.MessagesSends.{component_is, one_sent, all_sent, sends_lawful}
+use Rattle.file_simulation.specs.ClientEvents.{sends, sends_all, commands_in, starts, starts_read}
+use Rattle.relation_law.specs.MessagesSending.{sends_of, AreParts, IsAwaiting}
+use Rattle.relation_law.proofs.MessagesSends.{component_is, all_sent, sends_lawful}
 use Rattle.relation_law.proofs.MessagesScatter.{Begins, write_starts, started, first_writes, start_allowed, first_may}
 
 -- ---- READs

@@ -1,31 +1,29 @@
 -- What a call does with the drives keeps all that a read or a gather needs got or awaited.
 -- Towards `EventsAreLawful` (`specs/Steps.antt`).
-use Rattle.std.proofs.Common.{◌≡◌, ◌≢◌, ℕ, zero, suc, ◌+◌, ◌*◌, ◌/◌, ◌<◌, ◌≤◌, ◌==◌, Bool, true, false, List, [], ◌∷◌, ◌++◌, length, map, refl, sym, ap, subst, ◌∙◌, inl, inr, ◌⊎◌, arith, eq-eqb, ne_eqb}
-use Rattle.std.specs.Prelude.{Option, Some, None, filter, if◌then◌else◌, is_none}
-use Rattle.std.specs.List.{range_with_len}
-use Rattle.std.proofs.lemmas.Bool.{cases_Bool, cases_eq}
+use Rattle.std.proofs.Common.{◌≡◌, ℕ, zero, suc, ◌+◌, ◌*◌, ◌/◌, ◌<◌, ◌≤◌, Bool, true, false, List, [], ◌∷◌, ◌++◌, map, refl, inl, inr, arith}
+use Rattle.std.specs.Prelude.{Option, Some, None, filter, if◌then◌else◌}
+use Rattle.std.proofs.lemmas.Bool.{cases_Bool}
 use Rattle.data_map.specs.declared.check.RawMap.{RawMap}
 use Rattle.data_map.specs.Check.{IsChecked}
 use Rattle.data_map.specs.Striping.{replicas, positions, group_of, group_width}
 use Rattle.data_map.specs.Inverse.{unit_in}
-use Rattle.data_map.proofs.Shape.{group_ends, some_width}
+use Rattle.data_map.proofs.Shape.{group_ends}
 use Rattle.data_map.proofs.Striping.{unit_below, position_in_range}
 use Rattle.stripe_plan.specs.declared.plan.Span.{Span}
 use Rattle.stripe_plan.specs.declared.plan.Interval.{Interval}
 use Rattle.stripe_plan.specs.declared.plan.Stretch.{Stretch}
 use Rattle.stripe_plan.specs.declared.plan.Aim.{Aim}
 use Rattle.stripe_plan.specs.declared.plan.Aim.TheVariants.{Reads as ToRead, Gathers as ToGather, Scatters as ToScatter}
-use Rattle.stripe_plan.specs.Touched.{stripes}
 use Rattle.stripe_plan.specs.Lost.{among, source_from, source, is_out}
-use Rattle.stripe_plan.specs.Asks.{asks_of, asks_source, asks_place, asks_stripe, asks, at_rows, needed, without_each}
+use Rattle.stripe_plan.specs.Asks.{asks_of, asks_source, asks_place, asks_stripe, asks}
 use Rattle.server_rules.specs.Laws.{In}
 use Rattle.server_rules.proofs.Members.{in_either}
 use Rattle.plan_law.proofs.Stores.{components}
 use Rattle.plan_law.proofs.Written.{place_at}
-use Rattle.client_rules.specs.Commands.{awaited_for, numbered, carrying_none, read_commands, others, not_of}
-use Rattle.client_rules.specs.Reads.{first_present, probe_of, probe_each, probes_due}
-use Rattle.world_history.specs.ClientNames.{Held, Listed, Ask, Store, Awaited}
-use Rattle.relation_law.proofs.MessagesClients.{IsPlaced, IsReadUnder, AreReadsUnder}
+use Rattle.client_rules.specs.Commands.{numbered, carrying_none, read_commands, others, not_of}
+use Rattle.client_rules.specs.Reads.{probe_of, probe_each, probes_due}
+use Rattle.world_history.specs.ClientNames.{Held, Ask, Awaited}
+use Rattle.relation_law.proofs.MessagesClients.{IsPlaced, AreReadsUnder}
 
 -- ---- the asks of a plan
 

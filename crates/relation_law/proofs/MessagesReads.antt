@@ -1,37 +1,31 @@
 -- Reads and gathers go on, at their begin, at a reply and at a timeout.
 -- Towards `EventsAreLawful` (`specs/Steps.antt`).
-use Rattle.std.proofs.Common.{◌≡◌, ◌≢◌, ℕ, ◌+◌, ◌/◌, ◌<◌, ◌≤◌, ◌==◌, Bool, true, false, List, [], ◌∷◌, ◌++◌, length, refl, sym, ap, subst, ◌∙◌, inl, inr, ◌⊎◌, arith, eq-eqb, ne_eqb}
-use Rattle.std.specs.Prelude.{Option, Some, None, if◌then◌else◌}
-use Rattle.std.proofs.lemmas.Bool.{cases_Bool, cases_eq}
+use Rattle.std.proofs.Common.{◌≡◌, ◌≢◌, ℕ, ◌+◌, ◌/◌, ◌<◌, true, false, List, [], ◌∷◌, ◌++◌, length, refl, subst, inl, inr, arith}
+use Rattle.std.specs.Prelude.{Option, Some, None}
+use Rattle.std.proofs.lemmas.Bool.{cases_Bool}
 use Rattle.data_map.specs.Check.{IsChecked}
-use Rattle.data_map.specs.Striping.{replicas, positions, parities}
-use Rattle.data_map.proofs.Shape.{whole_positions}
-use Rattle.stripe_plan.specs.declared.plan.Span.{Span}
-use Rattle.stripe_plan.specs.declared.plan.Aim.TheVariants.{Reads as ToRead, Gathers as ToGather}
+use Rattle.data_map.specs.Striping.{replicas, positions}
+use Rattle.stripe_plan.specs.declared.plan.Aim.TheVariants.{Reads as ToRead}
 use Rattle.stripe_plan.specs.Touched.{stripes}
-use Rattle.stripe_plan.specs.Lost.{unreadable, unwritable}
+use Rattle.stripe_plan.specs.Lost.{unreadable}
 use Rattle.stripe_plan.specs.Words.{answered}
 use Rattle.server_rules.specs.Laws.{In}
-use Rattle.client_rules.specs.Calls.{span_of, is_write, bytes_of}
-use Rattle.client_rules.specs.Commands.{nonce_at, read_commands, others, not_of, counted, command, sealed, credential_of}
+use Rattle.client_rules.specs.Calls.{span_of, is_write}
+use Rattle.client_rules.specs.Commands.{nonce_at, others, counted, command, sealed, credential_of}
 use Rattle.client_rules.specs.Grants.{clipped, is_for, covers}
-use Rattle.client_rules.specs.Going.{begins}
 use Rattle.client_rules.specs.Io.{outs, had, had_positions, got_of}
 use Rattle.client_rules.specs.Requests.{object_of}
-use Rattle.client_rules.specs.Reads.{reads_on, reads_due, reads_unless, reads, probes_on, probes_due, is_probe_lost, probes_sent, probes_at, probes_by, probes, first_present}
-use Rattle.client_rules.specs.Replies.{performed, timed_out, gather_timed, timed_after}
-use Rattle.client_rules.specs.Writes.{gathers, gathers_on, gathers_due, scatters, is_too_short}
+use Rattle.client_rules.specs.Reads.{reads_on, reads_due, reads_unless, reads, probes_on, probes_due, is_probe_lost, probes_sent, probes_by, probes, first_present}
+use Rattle.client_rules.specs.Replies.{performed}
 use Rattle.client_rules.proofs.Apart.{IsIn}
 use Rattle.client_rules.proofs.Asked.{front_none, rest_none}
 use Rattle.client_rules.proofs.Probed.{no_commands, due_some}
-use Rattle.world_history.specs.ClientNames.{CallOp, Held, Awaited, TimedOut, Io, Column, Reply, Lost, ReadOk, Silent, Phase, Reads, Probes, Gathers, Moved, Goes, Ends}
-use Rattle.gather_law.specs.Ready.{IsSome, IsReady as IsGatherReady, AreBelow as AreAllBelow}
+use Rattle.world_history.specs.ClientNames.{CallOp, Held, Awaited, TimedOut, Io, Column, Reply, Reads, Probes}
 use Rattle.gather_law.proofs.Gathered as gather
-use Rattle.exchange_law.proofs.Had.{AreBelow, others_below, rest_below, sent_below}
+use Rattle.exchange_law.proofs.Had.{AreBelow, others_below, sent_below}
 use Rattle.exchange_law.proofs.RightMoves.{IsReady as IsReadReady, counted_outs, fetched, ready_sent, asked_some, ready_replied, grown}
-use Rattle.plan_law.specs.Sending.{MayScatter}
-use Rattle.relation_law.proofs.MessagesClients.{IsPlaced, AreReadsUnder, IsReadUnder, ReadsSome, ReadsNone, GathersFor, IsFit, HasGot, HasRead, EndsFit, TurnFits, IsSameGrant, MovedFits}
-use Rattle.relation_law.proofs.MessagesMoves.{plan_placed, probes_placed, commands_under, more_under, others_under, rest_under}
+use Rattle.relation_law.proofs.MessagesClients.{AreReadsUnder, ReadsSome, ReadsNone, IsSameGrant, MovedFits}
+use Rattle.relation_law.proofs.MessagesMoves.{plan_placed, probes_placed, commands_under, more_under, others_under}
 
 -- ---- lists
 

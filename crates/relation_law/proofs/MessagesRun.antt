@@ -1,38 +1,29 @@
 -- Whatever comes to a client, a read and a gather have what they need, and a read is answered by what it got.
 -- Towards `EventsAreLawful` (`specs/Steps.antt`).
-use Rattle.std.proofs.Common.{◌≡◌, ◌≢◌, ℕ, ◌+◌, ◌<◌, ◌==◌, ◌&&◌, Bool, true, false, List, [], ◌∷◌, ◌++◌, length, Option, Some, None, Result, Ok, Err, refl, sym, ap, subst, ◌∙◌, inl, inr, ◌⊎◌, arith, eqb-true}
-use Rattle.std.specs.Prelude.{find, if◌then◌else◌, is_some}
+use Rattle.std.proofs.Common.{◌≡◌, ℕ, ◌==◌, Bool, true, false, List, [], ◌∷◌, Option, Some, None, Result, Ok, Err, refl, sym, subst, ◌∙◌, inl, inr}
+use Rattle.std.specs.Prelude.{if◌then◌else◌}
 use Rattle.std.proofs.lemmas.Bool.{cases_Bool}
-use Rattle.osd_lists.specs.declared.node.Node.TheVariants.{Drive as FromDrive}
 use Rattle.layout_ops.specs.declared.args.Args.{Args}
 use Rattle.layout_ops.specs.declared.args.Args.TheVariants as args
 use Rattle.layout_ops.specs.declared.statuses.TheConstants.{NFS4_OK, NFS4ERR_BADLAYOUT}
 use Rattle.layout_ops.specs.declared.messages.Answer.{Answer}
-use Rattle.server_rules.specs.Laws.{In}
-use Rattle.server_rules.proofs.Members.{in_either}
-use Rattle.client_rules.specs.declared.limits.TheConstants.{PERFORMED}
-use Rattle.client_rules.specs.Calls.{file_of, span_of, bytes_of, is_write}
-use Rattle.client_rules.specs.Grants.{held_of, put_held, without_held, covers, clipped}
-use Rattle.client_rules.specs.Io.{awaited_in, got_of}
+use Rattle.client_rules.specs.Calls.{file_of}
+use Rattle.client_rules.specs.Grants.{held_of, put_held, without_held}
 use Rattle.client_rules.specs.Layouts.{taken}
-use Rattle.client_rules.specs.Replies.{answers, replied, performed, refused, timed_out}
 use Rattle.client_rules.specs.Requests.{args_of, get_args, return_args}
 use Rattle.client_rules.specs.Results.{status_of}
-use Rattle.client_rules.specs.Answers.{on_commit, committed, not_committed, refused_with, not_granted, on_report}
-use Rattle.client_rules.specs.Going.{quiet, phased, over, with_held, forgotten, by_turn, moved, begins, begun, held_after, requests, asks_server, asks_under, returns, progressed}
-use Rattle.client_rules.specs.Messages.{Step, Replies, still, finished, closed, answered_get, on_get, commit_under, on_need, on_phase, on_call, obeys, no_match}
-use Rattle.client_rules.specs.Steps.{writes_nothing, is_bad_range, is_spent, all_due, starts, calls}
-use Rattle.client_rules.specs.History.{Input, Calls, Hears, unless_refused, step}
-use Rattle.client_rules.proofs.ReadMoves.{FitsOutcome, AnswersNone, weaker}
-use Rattle.client_rules.proofs.ReadSteps.{held_file, put_at, Fits, Refuses, refused_with_refuses, report_fits}
-use Rattle.world_history.specs.ClientNames.{Client, Call, CallOp, Held, Due, Write, Read, Awaited, TimedOut, Column, Reply, Recall, Need, First, Get, Commit, Report, Close, Phase, Starts, Needs, Waits, Outcome, ReadOk, Status, Why, Turn, Goes, Ends, Forgets, Moved, Done}
-use Rattle.gather_law.specs.Ready.{IsSome}
+use Rattle.client_rules.specs.Answers.{on_commit, committed, not_committed, refused_with, not_granted}
+use Rattle.client_rules.specs.Going.{phased, over, with_held, by_turn, moved, begins, begun, held_after, requests, asks_server, asks_under, returns}
+use Rattle.client_rules.specs.Messages.{Step, finished, answered_get, on_get, commit_under}
+use Rattle.client_rules.proofs.ReadMoves.{FitsOutcome, weaker}
+use Rattle.client_rules.proofs.ReadSteps.{held_file, put_at, Fits, Refuses, refused_with_refuses}
+use Rattle.world_history.specs.ClientNames.{Client, Call, CallOp, Held, Due, TimedOut, Column, Need, Get, Commit, Phase, Needs, Outcome, Status, Why, Turn, Goes, Ends, Forgets, Moved, Done}
 use Rattle.exchange_law.proofs.ClientKeeping.{put_read, without_read}
-use Rattle.move_law.specs.Turns.{TurnCases, IsReplied, IsTimed, IsBeginning, FinishCases, with_start}
-use Rattle.move_law.proofs.Turns.{each_turn, each_finish}
-use Rattle.relation_law.proofs.MessagesClients.{IsUsable, AreUsable, IsFit, HasRead, ReadEnds, TurnFits, IsSameGrant, MovedFits}
+use Rattle.move_law.specs.Turns.{FinishCases}
+use Rattle.move_law.proofs.Turns.{each_finish}
+use Rattle.relation_law.proofs.MessagesClients.{IsUsable, AreUsable, IsFit, ReadEnds, TurnFits, IsSameGrant, MovedFits}
 use Rattle.relation_law.proofs.MessagesGathers.{HasBytes}
-use Rattle.relation_law.proofs.MessagesTurns.{got_by, replied_fits, performed_fits, timed_fits, begun_fits}
+use Rattle.relation_law.proofs.MessagesTurns.{begun_fits}
 
 -- ---- held grants
 
@@ -68,24 +59,24 @@ pub record IsFine (c : Client) : Type 0 where
   pub usable : AreUsable c.held
   pub call : CallFits c.held c.call
 
-record FineDone (Fit : List ℕ → Type 0) (d : Done) : Type 0 where
-  usable : AreUsable d.client.held
-  call : CallFits d.client.held d.client.call
-  outcome : Fits Fit d.outcome
+pub record FineDone (Fit : List ℕ → Type 0) (d : Done) : Type 0 where
+  pub usable : AreUsable d.client.held
+  pub call : CallFits d.client.held d.client.call
+  pub outcome : Fits Fit d.outcome
 
-record FineStep (Fit : List ℕ → Type 0) (s : Step) : Type 0 where
-  client : IsFine s.client
-  outcome : Fits Fit s.outcome
+pub record FineStep (Fit : List ℕ → Type 0) (s : Step) : Type 0 where
+  pub client : IsFine s.client
+  pub outcome : Fits Fit s.outcome
 
 -- a phase that awaits nothing of the drives
-abbrev IsFree : Phase → Type 0
+abbrev pub IsFree : Phase → Type 0
 IsFree p = (h : Held) (op : CallOp) → IsFit h op p
 
-phased_fine : (Fit : List ℕ → Type 0) (d : Done) (op : CallOp) (p : Phase) → FineDone Fit d → HasBytes op → IsFree p →
+pub phased_fine : (Fit : List ℕ → Type 0) (d : Done) (op : CallOp) (p : Phase) → FineDone Fit d → HasBytes op → IsFree p →
     FineDone Fit (phased d op p)
 phased_fine Fit d op p f b free = record { usable = f.usable; call = (b, λ h e. free h op); outcome = f.outcome }
 
-over_fine : (Fit : List ℕ → Type 0) (d : Done) (o : Outcome) → FineDone Fit d → FitsOutcome Fit o → FineDone Fit (over d o)
+pub over_fine : (Fit : List ℕ → Type 0) (d : Done) (o : Outcome) → FineDone Fit d → FitsOutcome Fit o → FineDone Fit (over d o)
 over_fine Fit d o f x = record { usable = f.usable; call = tt; outcome = x }
 
 -- ---- what the call does with the drives
@@ -113,7 +104,7 @@ ends_same h k op got bytes s x = (
   record { some = x.2.some; all = rw (s.map, s.size) at x.2.all },
 )
 
-moved_fine : (Fit : List ℕ → Type 0) (d : Done) (op : CallOp) (h : Held) (m : Moved) (got : List Column) → FineDone Fit d →
+pub moved_fine : (Fit : List ℕ → Type 0) (d : Done) (op : CallOp) (h : Held) (m : Moved) (got : List Column) → FineDone Fit d →
     held_of d.client.held (file_of op) ≡ Some h → HasBytes op → MovedFits h op got m →
     ((bytes : List ℕ) → ReadEnds h op got bytes → Fit bytes) → FineDone Fit (moved d op m)
 moved_fine Fit d op h m got f e b x fit =
@@ -134,7 +125,7 @@ requests_fine Fit d file a n op f b = record {
   outcome = f.outcome;
 }
 
-call_bytes : (hs : List Held) (o : Option Call) (call : Call) → o ≡ Some call → CallFits hs o → HasBytes call.op
+pub call_bytes : (hs : List Held) (o : Option Call) (call : Call) → o ≡ Some call → CallFits hs o → HasBytes call.op
 call_bytes hs None call e x = absurd (cc e)
 call_bytes hs (Some q) call e x = let same : q ≡ call = cc e in rw same at x.0
 
@@ -163,7 +154,7 @@ finishes Fit = record {
       outcome = f.outcome;
     }
 
-finished_fine : (Fit : List ℕ → Type 0) (d : Done) → FineDone Fit d → FineStep Fit (finished d)
+pub finished_fine : (Fit : List ℕ → Type 0) (d : Done) → FineDone Fit d → FineStep Fit (finished d)
 unfolding finished
 finished_fine Fit d f =
     let e = each_finish (FineDone Fit) (finishes Fit) d f in
@@ -211,7 +202,7 @@ commit_fine Fit d op h a timed f e b = elim (cases_Bool (status_of a.results == 
     refused_commit false =
         record { usable = usable_put d.client.held h f.usable (f.usable (file_of op) h e); call = tt; outcome = tt }
 
-held_gives : (d : Done) (op : CallOp) (a : Answer) (timed : List TimedOut) (Fit : List ℕ → Type 0) (o : Option Held) →
+pub held_gives : (d : Done) (op : CallOp) (a : Answer) (timed : List TimedOut) (Fit : List ℕ → Type 0) (o : Option Held) →
     held_of d.client.held (file_of op) ≡ o → FineDone Fit d → HasBytes op → FineDone Fit (commit_under d op a (Commit timed) o)
 held_gives d op a timed Fit None e f b = f
 held_gives d op a timed Fit (Some h) e f b = commit_fine Fit d op h a timed f e b
@@ -235,7 +226,7 @@ refusal_fine Fit d op (Goes (Needs (Get tries))) x f b = phased_fine Fit d op (N
 refusal_fine Fit d op (Ends o) x f b = over_fine Fit d o f (weaker (λ bytes. ⊥) Fit (λ bytes z. absurd z) o x)
 refusal_fine Fit d op t x f b = absurd x
 
-on_get_fine : TakesUsable → (Fit : List ℕ → Type 0) (d : Done) (op : CallOp) (tries : ℕ) (a : Answer) → FineDone Fit d →
+pub on_get_fine : TakesUsable → (Fit : List ℕ → Type 0) (d : Done) (op : CallOp) (tries : ℕ) (a : Answer) → FineDone Fit d →
     HasBytes op →
     FineDone Fit (on_get d op tries a)
 unfolding not_granted

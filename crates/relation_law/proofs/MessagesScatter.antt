@@ -1,36 +1,33 @@
 -- A scatter begins: its plan is that of the entry that starts, and its first WRITEs may be sent.
 -- Towards `EventsAreLawful` (`specs/Steps.antt`).
-use Rattle.std.proofs.Common.{◌≡◌, ℕ, ◌+◌, ◌-◌, ◌<◌, ◌≤◌, ◌==◌, Bool, true, false, List, [], ◌∷◌, ◌++◌, length, refl, sym, ap, subst, ◌∙◌, inl, inr, ◌⊎◌, arith, eq-eqb, ne_eqb, eqb-true}
-use Rattle.std.specs.Prelude.{Option, Some, None, ◌||◌, map, is_none, is_some, slice_get, zero, suc}
+use Rattle.std.proofs.Common.{◌≡◌, ℕ, ◌+◌, ◌-◌, ◌<◌, ◌≤◌, ◌==◌, Bool, true, false, List, [], ◌∷◌, ◌++◌, length, refl, sym, ap, ◌∙◌, inl, inr, ◌⊎◌, arith, ne_eqb, eqb-true}
+use Rattle.std.specs.Prelude.{Option, Some, None, map, is_none, is_some, slice_get, zero, suc}
 use Rattle.std.proofs.lemmas.Bool.{cases_Bool, cases_eq}
 use Rattle.data_map.specs.declared.check.RawMap.{RawMap}
 use Rattle.file_log.specs.Judge.{byte_for}
 use Rattle.stripe_plan.specs.declared.plan.Column.{Column}
 use Rattle.stripe_plan.specs.Lost.{among}
-use Rattle.stripe_plan.specs.Plans.{stores}
 use Rattle.server_rules.specs.Laws.{In}
 use Rattle.client_rules.specs.Calls.{span_of, bytes_of}
-use Rattle.client_rules.specs.Commands.{nonce_at, numbered, write_commands, awaited_for}
+use Rattle.client_rules.specs.Commands.{nonce_at, numbered, write_commands}
 use Rattle.client_rules.specs.Grants.{is_for, missing_from, missing_of}
 use Rattle.client_rules.specs.Io.{outs}
-use Rattle.client_rules.specs.Laws.{AreApart}
 use Rattle.client_rules.specs.Writes.{firsts, next_to}
 use Rattle.client_rules.proofs.Apart.{firsts_apart, next_apart}
 use Rattle.world_history.specs.ClientNames.{CallOp, Held, Io, Listed, Awaited, TimedOut, Store}
-use Rattle.fence_law.specs.State.{State, Event, Start, PartState, Grant}
+use Rattle.fence_law.specs.State.{State, Event, PartState, Grant}
 use Rattle.fence_law.specs.State.PartState.{NotSent}
 use Rattle.fence_law.specs.State.Call.{Writes as AtWrite}
 use Rattle.fence_law.specs.State.Event.{StartsWrite}
 use Rattle.fence_law.specs.Machine.{Allowed, after}
 use Rattle.fence_law.specs.Law.{byte_before, IsWholeAt}
-use Rattle.fence_law.specs.Words.{updated}
-use Rattle.fence_law.proofs.Words.{updated_same, updated_other}
+use Rattle.fence_law.proofs.Words.{updated_same}
 use Rattle.plan_law.specs.FileLayout.{layout_of}
-use Rattle.plan_law.specs.Writes.{touches_column, touches_cell, hits_cell, part_of, IsCarried, IsRightStore}
+use Rattle.plan_law.specs.Writes.{touches_column, touches_cell, hits_cell, part_of, IsCarried}
 use Rattle.plan_law.proofs.Stores.{stores_are_right}
 use Rattle.file_simulation.specs.Grants.{LayoutIs}
 use Rattle.file_simulation.specs.Calls.{IsHolding, IsScattering, CarriesContent, IsQueued, IsTimedOut}
-use Rattle.relation_law.specs.MessagesSending.{RiseFrom, MaySend, MaySendAll}
+use Rattle.relation_law.specs.MessagesSending.{MaySendAll}
 use Rattle.relation_law.proofs.CallsSends.{IsPlanned}
 use Rattle.relation_law.proofs.MessagesStarts.{WritesBytes, HasGathered, write_may_start}
 use Rattle.relation_law.proofs.MessagesBehind.{rise_lower, numbered_rise, numbered_made}

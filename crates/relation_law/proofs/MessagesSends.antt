@@ -1,29 +1,26 @@
 -- The WRITEs that a client sends in a step may be sent, and what they change.
 -- Towards `EventsAreLawful` (`specs/Steps.antt`).
-use Rattle.std.proofs.Common.{◌≡◌, ℕ, ◌<◌, ◌==◌, Bool, true, false, List, [], ◌∷◌, ◌++◌, refl, sym, ap, subst, ◌∙◌, inl, inr, ◌⊎◌, arith, eq-eqb, ne_eqb, eqb-true}
-use Rattle.std.specs.Prelude.{map, find, option_map, Option, Some, None, if◌then◌else◌}
-use Rattle.std.proofs.lemmas.Bool.{cases_Bool}
+use Rattle.std.proofs.Common.{◌≡◌, ℕ, ◌==◌, true, List, [], ◌∷◌, refl, sym, ap, subst, ◌∙◌, inl, inr, eq-eqb, ne_eqb}
+use Rattle.std.specs.Prelude.{map, find, option_map, Option, Some}
 use Rattle.osd_drive.specs.Table.{is_write as is_write_action}
 use Rattle.server_rules.specs.Laws.{In}
-use Rattle.client_rules.specs.Calls.{file_of}
-use Rattle.client_rules.specs.Grants.{held_of}
 use Rattle.client_rules.specs.Io.{awaited_in}
-use Rattle.client_rules.specs.Laws.{nonce_of, NoneTo, AreApart}
-use Rattle.client_rules.specs.Messages.{to_drive, awaited_of}
+use Rattle.client_rules.specs.Laws.{nonce_of, NoneTo}
+use Rattle.client_rules.specs.Messages.{to_drive}
 use Rattle.client_rules.specs.Steps.{awaited_component}
 use Rattle.exchange_law.specs.ClientNonces.{NoneIs, AllDiffer}
 use Rattle.world_history.specs.ClientNames.{Client, Call, Held, Awaited}
-use Rattle.fence_law.specs.State.{State, Grant, Event, Write, PartState, Start}
+use Rattle.fence_law.specs.State.{State, Grant, Event, PartState}
 use Rattle.fence_law.specs.State.Call.{Writes as AtWrite}
 use Rattle.fence_law.specs.State.Event.{Sends}
-use Rattle.fence_law.specs.State.PartState.{Sent, NotSent}
-use Rattle.fence_law.specs.Words.{updated, In as InRun}
-use Rattle.fence_law.specs.Machine.{Allowed, after, after_all, Lawful}
-use Rattle.fence_law.proofs.Words.{updated_same, updated_other, updated_read}
+use Rattle.fence_law.specs.State.PartState.{Sent}
+use Rattle.fence_law.specs.Words.{updated}
+use Rattle.fence_law.specs.Machine.{after, after_all, Lawful}
+use Rattle.fence_law.proofs.Words.{updated_same, updated_other}
 use Rattle.file_simulation.specs.EventLists.{entry_in}
 use Rattle.file_simulation.specs.Events.{joined}
-use Rattle.file_simulation.specs.ClientEvents.{sends, sends_all, commands, commands_in, commands_under, sends_write, sends_part}
-use Rattle.relation_law.specs.MessagesSending.{sends_of, nonce_behind, out_behind, write_sent, writes_behind, sent_behind, AreParts, RiseFrom, MaySend, MaySendAll, IsAwaiting}
+use Rattle.file_simulation.specs.ClientEvents.{sends, sends_all, commands_in}
+use Rattle.relation_law.specs.MessagesSending.{sends_of, nonce_behind, out_behind, writes_behind, sent_behind, AreParts, RiseFrom, MaySendAll, IsAwaiting}
 
 -- ---- which component
 

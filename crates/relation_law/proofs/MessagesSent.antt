@@ -1,26 +1,17 @@
 -- What clients sent: it stays sent in the machine, and each new WRITE is sent in it.
 -- Towards `SentGoesOn` (`specs/Steps.antt`).
-use Rattle.std.proofs.Common.{◌≡◌, ℕ, ◌+◌, ◌<◌, ◌≤◌, ◌==◌, Bool, true, false, List, [], ◌∷◌, ◌++◌, length, refl, sym, ap, subst, ◌∙◌, inl, inr, ◌⊎◌, arith}
-use Rattle.std.specs.Prelude.{Option, Some, None, slice_get, slice_index}
-use Rattle.data_map.specs.declared.check.RawMap.{RawMap}
-use Rattle.osd_commands.specs.declared.actions.Action.TheVariants.{Write as ToWrite}
+use Rattle.std.proofs.Common.{◌≡◌, ℕ, true, List, refl, sym}
 use Rattle.osd_commands.specs.declared.commands.Command.{Command}
 use Rattle.server_rules.specs.Laws.{In}
 use Rattle.client_rules.specs.Commands.{awaited_for, command, sealed, credential_of}
-use Rattle.world_history.specs.ServerNames.{File, Component}
-use Rattle.world_history.specs.State.{World}
 use Rattle.world_history.specs.ClientNames.{Held, Awaited, Store}
-use Rattle.exchange_law.specs.Sent.{HasSent}
-use Rattle.fence_law.specs.State.{State, Grant, Write, Start}
+use Rattle.fence_law.specs.State.{State, Grant}
 use Rattle.fence_law.specs.Words.{In as InRun}
-use Rattle.fence_law.specs.Machine.{after_all}
 use Rattle.fence_law.proofs.Open.{Known}
-use Rattle.file_simulation.specs.Calls.{IsHolding, CarriesContent}
-use Rattle.file_simulation.specs.Components.{AreComponents, IsComponent, is_lost_in}
-use Rattle.file_simulation.specs.Messages.{Carries, WasSent}
+use Rattle.file_simulation.specs.Calls.{CarriesContent}
+use Rattle.file_simulation.specs.Messages.{WasSent}
 use Rattle.relation_law.specs.Frames.{LogGrows}
-use Rattle.relation_law.specs.MessagesSending.{sends_of, sent_behind, write_sent, writes_behind}
-use Rattle.relation_law.proofs.MessagesSends.{behind_sends}
+use Rattle.relation_law.specs.MessagesSending.{sent_behind, write_sent, writes_behind}
 use Rattle.relation_law.proofs.MessagesBehind.{write_there}
 
 -- ---- what was sent stays sent

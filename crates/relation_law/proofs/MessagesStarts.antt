@@ -1,33 +1,30 @@
 -- The guard of a write's start.
 -- Towards `EventsAreLawful` (`specs/Steps.antt`).
-use Rattle.std.proofs.Common.{◌≡◌, ℕ, ◌+◌, ◌<◌, ◌≤◌, Bool, true, false, List, length, refl, sym, ap, subst, ◌∙◌, inl, inr, arith, ◌⊎◌}
-use Rattle.std.specs.Prelude.{nat_le, ◌&&◌, ◌||◌, is_none, is_some, Option, Some, None, slice_get}
+use Rattle.std.proofs.Common.{◌≡◌, ℕ, ◌+◌, ◌<◌, ◌≤◌, Bool, true, false, List, length, refl, sym, ap, ◌∙◌, inl, inr, arith, ◌⊎◌}
+use Rattle.std.specs.Prelude.{nat_le, ◌&&◌, ◌||◌, is_none}
 use Rattle.std.specs.List.{All}
 use Rattle.std.proofs.lemmas.Bool.{cases_Bool, and_parts}
 use Rattle.std.proofs.lemmas.Bool.Decides.{nat_tests}
 use Rattle.data_map.specs.declared.check.RawMap.{RawMap}
-use Rattle.data_map.specs.Check.{IsChecked}
 use Rattle.file_log.specs.Judge.{byte_for}
 use Rattle.stripe_plan.specs.declared.plan.Column.{Column}
-use Rattle.stripe_plan.specs.declared.plan.Span.{Span}
 use Rattle.stripe_plan.specs.Lost.{among}
 use Rattle.client_rules.specs.Calls.{span_of, bytes_of, is_write}
 use Rattle.client_rules.specs.Grants.{is_for, covers_write, contains}
 use Rattle.client_rules.specs.Io.{outs}
-use Rattle.world_history.specs.ClientNames.{CallOp, Held, Listed, TimedOut}
+use Rattle.world_history.specs.ClientNames.{CallOp, Held, TimedOut}
 use Rattle.fence_law.specs.Columns.{AreBytes, Agrees}
-use Rattle.fence_law.specs.State.{State, Grant, Start}
+use Rattle.fence_law.specs.State.{State, Grant}
 use Rattle.fence_law.specs.State.Event.{StartsWrite}
 use Rattle.fence_law.specs.Machine.{Allowed}
 use Rattle.fence_law.specs.Law.{byte_before, IsWholeAt}
 use Rattle.plan_law.specs.FileLayout.{layout_of, column_at}
 use Rattle.plan_law.specs.Writes.{touches_column, hits_cell, part_of}
 use Rattle.plan_law.specs.Sending.{MayScatter}
-use Rattle.plan_law.specs.Guards.{AreOut, IsGathered, MayStart, IsStart}
+use Rattle.plan_law.specs.Guards.{AreOut, IsGathered}
 use Rattle.plan_law.proofs.Intervals.{in_is}
 use Rattle.plan_law.proofs.Machine.{writes_may_start}
 use Rattle.plan_law.proofs.Starts.{touch_is}
-use Rattle.exchange_law.proofs.PlaceMoving.{write_in}
 use Rattle.exchange_law.proofs.Reach.{is_listed}
 use Rattle.file_simulation.specs.Grants.{LayoutIs}
 use Rattle.file_simulation.specs.Calls.{IsHolding, IsGathering}

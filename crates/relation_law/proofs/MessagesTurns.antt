@@ -1,21 +1,19 @@
 -- Each move of a call with the drives keeps what a read and a gather have.
 -- Towards `EventsAreLawful` (`specs/Steps.antt`).
-use Rattle.std.proofs.Common.{◌≡◌, ◌≢◌, ℕ, ◌+◌, ◌<◌, ◌≤◌, ◌==◌, Bool, true, false, List, [], ◌∷◌, ◌++◌, length, refl, sym, ap, subst, ◌∙◌, inl, inr, ◌⊎◌, arith}
-use Rattle.std.specs.Prelude.{Option, Some, None, if◌then◌else◌}
-use Rattle.std.proofs.lemmas.Bool.{cases_Bool}
+use Rattle.std.proofs.Common.{◌≡◌, ℕ, ◌+◌, ◌==◌, Bool, true, false, List, [], ◌∷◌, ◌++◌, inl, inr}
+use Rattle.std.specs.Prelude.{if◌then◌else◌}
 use Rattle.server_rules.specs.Laws.{In}
 use Rattle.client_rules.specs.declared.limits.TheConstants.{PERFORMED, OTHER_TAG}
-use Rattle.client_rules.specs.Calls.{span_of, is_write}
 use Rattle.client_rules.specs.Commands.{counted, others, not_of}
-use Rattle.client_rules.specs.Grants.{clipped, covers}
+use Rattle.client_rules.specs.Grants.{covers}
 use Rattle.client_rules.specs.Going.{begins}
 use Rattle.client_rules.specs.Io.{got_of, awaited_in}
 use Rattle.client_rules.specs.Requests.{report_of}
 use Rattle.client_rules.specs.Replies.{performed, refused, replied, refusal, refused_report, timed_out, timed_after, scatter_timed}
-use Rattle.client_rules.specs.Turns.{turned, ended, closing, needing}
+use Rattle.client_rules.specs.Turns.{turned, closing, needing}
 use Rattle.client_rules.specs.Writes.{accounted, is_past_size, written, scatters_on, scatters, scatters_next, is_too_short, without_component}
-use Rattle.world_history.specs.ClientNames.{CallOp, Held, Awaited, TimedOut, Io, Store, Column, Reply, Need, Commit, Report, Phase, Starts, Needs, Waits, Reads, Probes, Gathers, Scatters, Outcome, WriteOk, ReadOk, Silent, Turn, Goes, Ends, Forgets, Moved}
-use Rattle.relation_law.proofs.MessagesClients.{IsFit, HasGot, TurnFits, IsSameGrant, MovedFits, IsUsable}
+use Rattle.world_history.specs.ClientNames.{CallOp, Held, Awaited, TimedOut, Io, Store, Column, Reply, Commit, Phase, Starts, Needs, Waits, Reads, Probes, Gathers, Scatters, Silent, Turn, Forgets, Moved}
+use Rattle.relation_law.proofs.MessagesClients.{IsFit, TurnFits, MovedFits, IsUsable}
 use Rattle.relation_law.proofs.MessagesReads.{same_counted, same_itself, read_replied, probe_replied}
 use Rattle.relation_law.proofs.MessagesGathers.{GatherFits, gather_replied, gather_timed_fits, HasBytes, begins_fit, read_timed, probe_timed}
 

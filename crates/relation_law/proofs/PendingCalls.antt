@@ -1,25 +1,20 @@
 -- At each moment the calls that are pending by the log are those of the world's clients.
-use Rattle.std.proofs.Common.{◌≡◌, ℕ, Bool, true, false, List, [], ◌∷◌, ◌++◌, Option, Some, None, Result, Ok, Err, is_some, refl, sym, ap, subst, ◌∙◌, inl, inr, if◌then◌else◌}
+use Rattle.std.proofs.Common.{◌≡◌, ℕ, Bool, true, false, Option, Some, None, Ok, Err, is_some, refl, sym, ap, subst, ◌∙◌, inl, inr, if◌then◌else◌}
 use Rattle.std.specs.Prelude.{option_map}
 use Rattle.std.specs.List.{fold}
 use Rattle.std.proofs.lemmas.Bool.{cases_eq}
-use Rattle.std.proofs.lemmas.List.Sums.{fold-append}
 use Rattle.osd_objects.proofs.Entries.{lookup_inserted, lookup_beside, removed_again}
 use Rattle.scenario_text.specs.declared.event.Call.{Call as ToldCall}
-use Rattle.scenario_text.specs.declared.event.Event.{Event}
-use Rattle.scenario_text.specs.declared.event.Event.TheVariants as event
-use Rattle.scenario_text.specs.declared.line.Line.{Line}
-use Rattle.scenario_text.specs.declared.line.Line.TheVariants as line
 use Rattle.client_rules.specs.Messages.{Step as ClientStep}
 use Rattle.client_rules.specs.Steps.{is_bad_range, is_spent, starts, calls}
 use Rattle.client_rules.specs.Calls.{span_of}
-use Rattle.world_history.specs.ClientNames.{Client, Call, CallOp, CallErr, Busy, BadRange, SlotSpent, Outcome}
-use Rattle.world_history.specs.State.{World, ClientAt, at_number, with_number, and_number, without_number, with_client}
+use Rattle.world_history.specs.ClientNames.{Call, CallOp, CallErr, Busy, BadRange, SlotSpent, Outcome}
+use Rattle.world_history.specs.State.{World, ClientAt, at_number, and_number, without_number, with_client}
 use Rattle.world_history.specs.Names.{is_tellable}
-use Rattle.world_history.specs.Told.{told_refusal, told_outcome, kind_of}
+use Rattle.world_history.specs.Told.{told_refusal}
 use Rattle.world_history.specs.Handed.{pending_op, ended_by}
 use Rattle.world_history.specs.Moves.{op_of}
-use Rattle.world_history.specs.ReadLog.{Pending, Log, called, called_beside, refused, ends, log_after}
+use Rattle.world_history.specs.ReadLog.{Pending, Log, called, called_beside, refused, log_after}
 use Rattle.exchange_law.specs.InStep.{state_of}
 use Rattle.exchange_law.proofs.Each.{put_same, put_other}
 use Rattle.file_simulation.specs.Relation.{client_of}

@@ -1,5 +1,5 @@
 -- What lines make of the calls that are pending by the log.
-use Rattle.std.proofs.Common.{◌≡◌, ℕ, ◌+◌, Bool, true, false, List, [], ◌∷◌, ◌++◌, Option, Some, None, Result, Ok, Err, refl, sym, ap, subst, ◌∙◌, inl, inr}
+use Rattle.std.proofs.Common.{◌≡◌, ℕ, ◌+◌, true, List, [], ◌∷◌, Option, Some, None, Result, Ok, Err, refl, sym, ap, ◌∙◌, inl, inr}
 use Rattle.std.specs.List.{fold}
 use Rattle.std.proofs.lemmas.Bool.{cases_eq}
 use Rattle.osd_objects.proofs.Entries.{lookup_inserted, lookup_beside}
@@ -20,10 +20,10 @@ use Rattle.scenario_text.specs.declared.line.Line.{Line}
 use Rattle.scenario_text.specs.declared.line.Line.TheVariants as line
 use Rattle.world_history.specs.ClientNames as client_rules
 use Rattle.world_history.specs.ClientNames.{CallOp, Outcome}
-use Rattle.world_history.specs.State.{at_number, and_number}
+use Rattle.world_history.specs.State.{at_number}
 use Rattle.world_history.specs.Told.{told_outcome, kind_of}
-use Rattle.world_history.specs.Names.{is_tellable, known_outcome}
-use Rattle.world_history.specs.Handed.{Post, end_line, ended_by}
+use Rattle.world_history.specs.Names.{is_tellable}
+use Rattle.world_history.specs.Handed.{Post, ended_by}
 use Rattle.world_history.specs.ReadLog.{Pending, Log, starts, begins, begins_beside, sends_write, sends_read, sends_command, sends_in, sends_as, sends, ends, ended, log_after}
 use Rattle.world_history.specs.Sending.{sent_line, sent_lines}
 use Rattle.move_law.specs.Moves.{IsQuiet, AreQuiet}

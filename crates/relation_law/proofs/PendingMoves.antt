@@ -7,11 +7,9 @@ use Rattle.scenario_text.specs.declared.event.Call.{Call as ToldCall}
 use Rattle.scenario_text.specs.declared.event.Event.{Event}
 use Rattle.scenario_text.specs.declared.event.Event.TheVariants as event
 use Rattle.scenario_text.specs.declared.event.Sender.TheVariants as sender
-use Rattle.scenario_text.specs.declared.event.Machine.TheVariants as machine
 use Rattle.scenario_text.specs.declared.line.Delivery.{Delivery}
 use Rattle.scenario_text.specs.declared.line.Delivery.TheVariants as delivery
 use Rattle.scenario_text.specs.declared.line.Line.{Line}
-use Rattle.scenario_text.specs.declared.line.Line.TheVariants as line
 use Rattle.scenario_text.specs.declared.names.TheConstants.{FILES}
 use Rattle.client_rules.specs.Messages.{Step as ClientStep}
 use Rattle.osd_commands.specs.Commands as commands
@@ -21,23 +19,23 @@ use Rattle.server_rules.specs.History as server
 use Rattle.client_rules.specs.Steps.{new_client, calls}
 use Rattle.client_rules.specs.History.{Input, Calls as Called, Hears, TimesOut as Times, Leaves, Resends, unless_refused, step}
 use Rattle.world_history.specs.ServerNames.{Note}
-use Rattle.world_history.specs.ClientNames.{Client, CallOp, CallErr, Outcome}
+use Rattle.world_history.specs.ClientNames.{Client, CallOp, CallErr}
 use Rattle.world_history.specs.declared.messages.Posted.{Posted}
-use Rattle.world_history.specs.State.{World, ClientAt, at_number, with_client, with_drive, empty_world}
-use Rattle.world_history.specs.Names.{is_tellable, is_tellable_note, where_known, note_line, known_note_line}
+use Rattle.world_history.specs.State.{World, ClientAt, at_number, with_client, with_drive}
+use Rattle.world_history.specs.Names.{is_tellable_note, where_known, note_line, known_note_line}
 use Rattle.world_history.specs.Drives.{judges, command_in}
 use Rattle.world_history.specs.Handed.{Post, Handed, pending_op, op_in, wrote_in, is_write_out, ended_by, server_did, client_did, drive_replies}
 use Rattle.world_history.specs.Moves.{Act, Action, Opens, Delivers, TimesOut, Pends, acts, begins, calls_at, by_client, called, op_of, changed, told_delivered, judged_at, known_drive, adds_client}
 use Rattle.world_history.specs.Refusals.{refusal, unless_stopped}
 use Rattle.world_history.specs.ReadLog.{Log, called as logs_call, log_after_event, log_after, empty_log, log_in}
-use Rattle.world_history.specs.Sending.{Move, move, sends_all, sent_lines}
+use Rattle.world_history.specs.Sending.{Move, move, sent_lines}
 use Rattle.world_history.specs.Plans.{Plan, due, due_in, went_on, plan_of}
 use Rattle.world_history.specs.Runs.{world_after, plan_after}
 use Rattle.world_history.specs.History.{OneEventMore}
 use Rattle.world_history.proofs.Runs.{no_opening}
 use Rattle.world_history.proofs.ReadMessages.{never_opens}
 use Rattle.move_law.specs.Said.{with_marks}
-use Rattle.move_law.specs.Moves.{ForClient, IsForClient, asked_in, front_of, fronted, serving, drive_more, MoveCases}
+use Rattle.move_law.specs.Moves.{ForClient, IsForClient, asked_in, front_of, fronted, serving, drive_more}
 use Rattle.move_law.proofs.Moves.{each_act, front_cases}
 use Rattle.history_law.specs.BookMoments.{IsMoment, with_event, lines_in, plan_at}
 use Rattle.exchange_law.specs.InStep.{state_of}

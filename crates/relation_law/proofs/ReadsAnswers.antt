@@ -1,26 +1,21 @@
 -- The guards of a read's answer, and of what a client learns of its WRITEs.
 -- Towards `EventsAreLawful` (`specs/Steps.antt`).
-use Rattle.std.proofs.Common.{◌≡◌, ◌≢◌, ℕ, ◌+◌, ◌-◌, ◌<◌, ◌≤◌, Bool, true, false, List, [], ◌∷◌, refl, sym, ap, subst, ◌∙◌, inl, inr, arith}
-use Rattle.std.specs.Prelude.{Some, None, min, nat_le, nat_lt, ◌&&◌, slice_index}
-use Rattle.std.proofs.lemmas.Bool.{and_parts}
+use Rattle.std.proofs.Common.{◌≡◌, ◌≢◌, ℕ, ◌+◌, ◌-◌, ◌<◌, ◌≤◌, true, List, [], ◌∷◌, refl, sym, ap, ◌∙◌, inl, inr, arith}
+use Rattle.std.specs.Prelude.{min}
 use Rattle.std.proofs.lemmas.Bool.Decides.{nat_tests}
 use Rattle.std.proofs.lemmas.List.FromFn.{get_or-map-range_with_len}
 use Rattle.data_map.specs.declared.check.RawMap.{RawMap}
 use Rattle.data_map.specs.Check.{IsChecked}
 use Rattle.stripe_plan.specs.declared.plan.Column.{Column}
 use Rattle.stripe_plan.specs.declared.plan.Span.{Span}
-use Rattle.stripe_plan.specs.declared.plan.Aim.TheVariants.{Reads as ToRead}
-use Rattle.stripe_plan.specs.Touched.{end_of, stripes}
-use Rattle.stripe_plan.specs.Lost.{unreadable}
+use Rattle.stripe_plan.specs.Touched.{end_of}
 use Rattle.stripe_plan.specs.Words.{answer_at, answered}
-use Rattle.stripe_plan.specs.Laws.{IsFetched}
 use Rattle.server_rules.specs.Laws.{In}
 use Rattle.client_rules.specs.Calls.{span_of}
 use Rattle.client_rules.specs.Grants.{clipped}
 use Rattle.world_history.specs.ClientNames.{CallOp, Held, Awaited, Io, Store}
-use Rattle.fence_law.specs.Columns.{spans, AreBytes, Agrees}
-use Rattle.fence_law.specs.State.{State, ReadReply, WriteReply}
-use Rattle.fence_law.specs.State.Call.{Reads as AtRead, Writes as AtWrite}
+use Rattle.fence_law.specs.Columns.{spans}
+use Rattle.fence_law.specs.State.{State, ReadReply}
 use Rattle.fence_law.specs.State.Event.{Answers, Learns}
 use Rattle.fence_law.specs.Machine.{Allowed}
 use Rattle.fence_law.specs.Words.{In as InRun}

@@ -1,6 +1,6 @@
 -- What the reads of a client were shown, behind a move that isn't the client's.
 -- Towards `ReadsGoOn` (`specs/Steps.antt`).
-use Rattle.std.proofs.Common.{◌≡◌, ◌⊎◌, ℕ, ◌<◌, ◌==◌, ◌&&◌, Bool, true, false, List, [], ◌∷◌, Option, Some, None, Result, Ok, Err, refl, sym, ap, subst, ◌∙◌, inl, inr, eqb-true}
+use Rattle.std.proofs.Common.{◌≡◌, ℕ, ◌==◌, true, Some, Result, Ok, Err, refl, sym, ap, subst, ◌∙◌, inl, inr, eqb-true}
 use Rattle.std.specs.Prelude.{map}
 use Rattle.std.proofs.lemmas.Bool.{and_parts}
 use Rattle.world_history.specs.declared.messages.Posted.{Posted}
@@ -16,7 +16,7 @@ use Rattle.server_rules.proofs.Members.{in_map}
 use Rattle.client_rules.specs.Calls.{file_of}
 use Rattle.client_rules.specs.Io.{awaited_in, got_of}
 use Rattle.client_rules.specs.Replies.{answers}
-use Rattle.world_history.specs.ClientNames.{Call, Awaited, Io, Phase, Starts, Needs, Waits, Reads, Probes, Gathers, Scatters}
+use Rattle.world_history.specs.ClientNames.{Call, Awaited, Phase, Starts, Needs, Waits, Reads, Probes, Gathers, Scatters}
 use Rattle.world_history.specs.ServerNames.{File}
 use Rattle.world_history.specs.State.{World}
 use Rattle.world_history.specs.Drives.{command_in, judges}
@@ -27,10 +27,10 @@ use Rattle.fence_law.specs.Machine.{after_all}
 use Rattle.file_simulation.specs.Components.{AreComponents}
 use Rattle.file_simulation.specs.DriveEvents.{judged}
 use Rattle.file_simulation.specs.Events.{joined, events_of}
-use Rattle.file_simulation.specs.Messages.{WasShown, AreShown, ShownIn, HasReplied}
+use Rattle.file_simulation.specs.Messages.{WasShown, ShownIn}
 use Rattle.file_simulation.specs.Relation.{client_of}
-use Rattle.relation_law.specs.DriveHearing.{IsPerformed, AwaitsOwn}
-use Rattle.relation_law.specs.ReadsShown.{WasPerformed, NewAreShown}
+use Rattle.relation_law.specs.DriveHearing.{AwaitsOwn}
+use Rattle.relation_law.specs.ReadsShown.{NewAreShown}
 use Rattle.relation_law.specs.ReadsDrive.{IsAwaitedBy, StandsThere, AwaitWell}
 use Rattle.relation_law.proofs.DriveMoves.{got_in}
 use Rattle.relation_law.proofs.ReadsStay.{shown_grows, are_shown_stay}

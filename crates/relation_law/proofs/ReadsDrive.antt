@@ -1,45 +1,42 @@
 -- A drive replies that it performed a READ that a client's call awaits: what it read is shown to the call's entry.
 -- Towards `ReadsGoOn` (`specs/Steps.antt`).
-use Rattle.std.proofs.Common.{nat_eq, ◌≡◌, ◌⊎◌, ℕ, ◌+◌, ◌<◌, ◌==◌, ◌&&◌, Bool, true, false, not, List, [], ◌∷◌, length, take, drop, slice_get, Option, Some, None, Ok, refl, sym, ap, subst, ◌∙◌, inl, inr, arith, eq-eqb, eqb-true, if◌then◌else◌}
-use Rattle.std.proofs.lemmas.Bool.{cases_Bool, cases_eq, and_parts, true≢false}
+use Rattle.std.proofs.Common.{nat_eq, ◌≡◌, ℕ, ◌==◌, Bool, true, false, List, [], ◌∷◌, length, take, drop, Option, Some, None, Ok, refl, sym, ap, subst, ◌∙◌, inl, inr, eq-eqb, eqb-true}
+use Rattle.std.proofs.lemmas.Bool.{cases_Bool, and_parts, true≢false}
 use Rattle.osd_lists.specs.declared.node.Node.TheVariants as node
 use Rattle.osd_commands.specs.declared.actions.Action.{Action}
 use Rattle.osd_commands.specs.declared.actions.Action.TheVariants as action
 use Rattle.osd_commands.specs.declared.commands.Command.{Command}
-use Rattle.osd_commands.specs.declared.replies.Reply.{Reply}
-use Rattle.osd_objects.specs.Store.{object_at, bytes_at, bytes_or_none, lane_or_none}
+use Rattle.osd_objects.specs.Store.{object_at, bytes_or_none, lane_or_none}
 use Rattle.osd_objects.specs.declared.object.StoredObject.{StoredObject}
 use Rattle.osd_objects.specs.declared.lanes.LaneEntry.{LaneEntry}
 use Rattle.osd_drive.specs.declared.verdict.Verdict.{Verdict}
 use Rattle.osd_drive.specs.declared.verdict.Verdict.TheVariants as verdict
 use Rattle.osd_drive.specs.Table.{first_fault, is_mutating, of_lane}
 use Rattle.osd_drive.specs.State.{DriveState}
-use Rattle.osd_drive.specs.Effects.{reply_by, verdict_number, result_of, kept_reply}
+use Rattle.osd_drive.specs.Effects.{reply_by, result_of, kept_reply}
 use Rattle.history_law.proofs.HistoryTelling.{again_row}
 use Rattle.history_law.proofs.Spending.{free}
 use Rattle.server_rules.specs.Laws.{In}
 use Rattle.client_rules.specs.Calls.{file_of}
 use Rattle.client_rules.specs.Io.{awaited_in, got_of}
-use Rattle.client_rules.specs.Replies.{answers}
-use Rattle.world_history.specs.ClientNames.{Call, Awaited}
-use Rattle.world_history.specs.ServerNames.{File, Component}
+use Rattle.world_history.specs.ClientNames.{Awaited}
+use Rattle.world_history.specs.ServerNames.{File}
 use Rattle.world_history.specs.State.{World, DriveAt, at_number}
 use Rattle.world_history.specs.Stripes.{component_at}
-use Rattle.world_history.specs.Told.{told_verdict}
-use Rattle.world_history.specs.Drives.{verdict_on, judges, is_deaf}
-use Rattle.fence_law.specs.State.{State, Event}
+use Rattle.world_history.specs.Drives.{judges}
+use Rattle.fence_law.specs.State.{State}
 use Rattle.fence_law.specs.State.Call.{Reads as AtRead}
 use Rattle.fence_law.specs.State.Event.{Shows}
-use Rattle.fence_law.specs.Machine.{after, after_all}
-use Rattle.file_simulation.specs.Components.{IsMade, ObjectIs, IsComponent, StandsAs, object_on, object_of}
-use Rattle.file_simulation.specs.EventLists.{where_so, entry_of, entry_in}
-use Rattle.file_simulation.specs.DriveEvents.{awaits, is_running, of_client, performed_of, performed_on, is_performed, judged}
+use Rattle.fence_law.specs.Machine.{after_all}
+use Rattle.file_simulation.specs.Components.{IsMade, ObjectIs, IsComponent, object_on, object_of}
+use Rattle.file_simulation.specs.EventLists.{entry_of, entry_in}
+use Rattle.file_simulation.specs.DriveEvents.{awaits, is_running, judged}
 use Rattle.file_simulation.specs.Messages.{WasShown}
 use Rattle.file_simulation.specs.Relation.{client_of}
-use Rattle.relation_law.specs.DriveHearing.{IsPerformed, AwaitsOwn}
+use Rattle.relation_law.specs.DriveHearing.{AwaitsOwn}
 use Rattle.relation_law.specs.ReadsDrive.{IsAwaitedBy, IsReadOf, StandsThere}
 use Rattle.relation_law.proofs.DriveObjects.{Leaves, reads}
-use Rattle.relation_law.proofs.ReadsStay.{ReadsCells, shown_now}
+use Rattle.relation_law.proofs.ReadsStay.{shown_now}
 
 -- ---- verdicts
 

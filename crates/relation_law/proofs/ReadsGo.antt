@@ -1,6 +1,6 @@
 -- What the reads of clients were shown goes on: of each client but the one that the move is of.
 -- Towards `ReadsGoOn` (`specs/Steps.antt`).
-use Rattle.std.proofs.Common.{◌≡◌, ◌⊎◌, ℕ, ◌<◌, List, [], ◌∷◌, Option, Some, None, refl, sym, ap, subst, ◌∙◌, inl, inr, arith}
+use Rattle.std.proofs.Common.{◌≡◌, ℕ, List, Option, Some, None, refl, sym, ap, ◌∙◌, arith}
 use Rattle.server_rules.specs.History.{Input}
 use Rattle.client_rules.specs.Calls.{file_of}
 use Rattle.scenario_text.specs.declared.line.Line.{Line}
@@ -21,7 +21,7 @@ use Rattle.file_simulation.specs.Components.{AreComponents}
 use Rattle.file_simulation.specs.Events.{joined, events_of}
 use Rattle.file_simulation.specs.Messages.{ShownIn}
 use Rattle.file_simulation.specs.Relation.{client_of}
-use Rattle.relation_law.specs.Frames.{IsOfClient, IsOfServer, IsOfDrive, AreAll, ByClient}
+use Rattle.relation_law.specs.Frames.{IsOfClient, IsOfServer, IsOfDrive, AreAll}
 use Rattle.relation_law.specs.ReadsDrive.{AwaitWell}
 use Rattle.relation_law.proofs.FramesStay.{all_joined, related_by_all}
 use Rattle.relation_law.proofs.FramesOthers.{client_by_clients, client_by_drives}

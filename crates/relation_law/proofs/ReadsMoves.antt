@@ -1,6 +1,6 @@
 -- A move in which a drive replies to a client: a message came to the drive, which judged it so.
 -- Towards `ReadsGoOn` (`specs/Steps.antt`).
-use Rattle.std.proofs.Common.{◌≡◌, ◌⊎◌, ℕ, ◌++◌, Bool, true, false, not, List, [], ◌∷◌, map, slice_get, Option, Some, None, Result, Ok, Err, refl, sym, ap, subst, ◌∙◌, inl, inr}
+use Rattle.std.proofs.Common.{◌≡◌, ◌⊎◌, ℕ, ◌++◌, Bool, true, false, List, [], ◌∷◌, slice_get, Option, Some, None, refl, sym, ap, subst, ◌∙◌, inl, inr}
 use Rattle.std.specs.Prelude.{if◌then◌else◌}
 use Rattle.std.proofs.lemmas.List.{append-nil}
 use Rattle.std.proofs.lemmas.Option.{same_Some}
@@ -9,9 +9,7 @@ use Rattle.osd_commands.specs.declared.replies.Reply.{Reply}
 use Rattle.scenario_text.specs.declared.event.Event.TheVariants as event
 use Rattle.server_rules.specs.Laws.{In}
 use Rattle.world_history.specs.declared.messages.Message.{Message}
-use Rattle.world_history.specs.declared.messages.Posted.{Posted}
 use Rattle.world_history.specs.declared.messages.Body.TheVariants.{Reply as OfReply}
-use Rattle.world_history.specs.ServerNames as server_rules
 use Rattle.world_history.specs.ServerNames.{File}
 use Rattle.world_history.specs.State.{World, DriveAt, at_number}
 use Rattle.world_history.specs.Drives.{command_in, judges, is_deaf}
@@ -19,7 +17,7 @@ use Rattle.world_history.specs.Handed.{Post, wrote_in, data_in, op_in}
 use Rattle.server_rules.specs.History as server
 use Rattle.client_rules.specs.History as client
 use Rattle.world_history.specs.Moves.{Act, Action, Opens, Delivers, TimesOut, Pends, acts}
-use Rattle.world_history.specs.Sending.{Move, move, sends_all}
+use Rattle.world_history.specs.Sending.{Move, move}
 use Rattle.move_law.specs.Said.{said, posted, IsDelivered}
 use Rattle.move_law.specs.Moves.{MoveCases, number_in}
 use Rattle.move_law.proofs.Moves.{each_act}

@@ -1,7 +1,7 @@
 -- The guards of a read's and a gather's start.
 -- Towards `EventsAreLawful` (`specs/Steps.antt`).
-use Rattle.std.proofs.Common.{ne_eqb, ◌≡◌, ℕ, ◌+◌, ◌-◌, ◌*◌, ◌/◌, ◌%◌, ◌<◌, ◌≤◌, Bool, true, false, refl, sym, ap, ◌∙◌, inl, inr, arith}
-use Rattle.std.specs.Prelude.{min, nat_le, nat_lt, ◌==◌, ◌&&◌, ◌||◌, if◌then◌else◌, Some}
+use Rattle.std.proofs.Common.{ne_eqb, ◌≡◌, ℕ, ◌+◌, ◌-◌, ◌*◌, ◌/◌, ◌%◌, ◌<◌, ◌≤◌, true, false, refl, ◌∙◌, inl, inr, arith}
+use Rattle.std.specs.Prelude.{min, ◌==◌}
 use Rattle.std.proofs.lemmas.Bool.{lt-ltb, le-leb}
 use Rattle.std.proofs.Math.Nat.{min-le_left}
 use Rattle.std.proofs.lemmas.Bool.Decides.{nat_tests}
@@ -17,16 +17,15 @@ use Rattle.client_rules.specs.Calls.{span_of, is_write}
 use Rattle.client_rules.specs.Grants.{clipped, is_for}
 use Rattle.world_history.specs.ClientNames.{CallOp, Held}
 use Rattle.fence_law.specs.Columns.{spans}
-use Rattle.fence_law.specs.State.{State, Layout}
+use Rattle.fence_law.specs.State.{State}
 use Rattle.fence_law.specs.State.Call.{Idle}
 use Rattle.fence_law.specs.State.Event.{StartsRead}
 use Rattle.fence_law.specs.Machine.{Allowed}
-use Rattle.plan_law.specs.FileLayout.{layout_of, column_at, stripe_of_column}
+use Rattle.plan_law.specs.FileLayout.{layout_of, stripe_of_column}
 use Rattle.plan_law.specs.Writes.{touches_column, in_range}
 use Rattle.plan_law.proofs.Cells.{with_parity, is_coded, is_plain}
 use Rattle.plan_law.proofs.Payloads.{range_means, any_touched}
 use Rattle.plan_law.proofs.StripeColumns.{columns_have_stripes}
-use Rattle.plan_law.proofs.Intervals.{in_is}
 use Rattle.plan_law.proofs.Starts.{touch_is}
 use Rattle.exchange_law.specs.Asked.{IsHeldIn}
 use Rattle.exchange_law.proofs.PlaceMoving.{write_in, read_in}

@@ -1,5 +1,5 @@
 -- What the machine has of a client's requests stays, where the machine, the server's slot and the client stay.
-use Rattle.std.proofs.Common.{◌≡◌, ◌⊎◌, ◌==◌, ℕ, Bool, true, false, List, [], ◌∷◌, Option, Some, None, refl, sym, ap, subst, ◌∙◌, inl, inr, if◌then◌else◌}
+use Rattle.std.proofs.Common.{◌≡◌, ◌==◌, ℕ, Bool, true, false, Option, Some, None, refl, sym, ap, subst, ◌∙◌, inl, inr, if◌then◌else◌}
 use Rattle.std.proofs.lemmas.Bool.{true≢false}
 use Rattle.data_map.specs.declared.check.RawMap.{RawMap}
 use Rattle.layout_ops.specs.declared.args.Args.{Args}
@@ -13,12 +13,12 @@ use Rattle.world_history.specs.ServerNames.{Server, Slot}
 use Rattle.world_history.specs.ClientNames.{Client, Call, CallOp, Request, Phase, Starts, Needs, Waits, Reads, Probes, Gathers, Scatters}
 use Rattle.world_history.specs.Handed.{pending_op}
 use Rattle.exchange_law.specs.Messages.{last_before}
-use Rattle.fence_law.specs.State.{State, Grant, RequestKind, Request as MachineRequest, Answer as MachineAnswer}
+use Rattle.fence_law.specs.State.{State, Grant, RequestKind}
 use Rattle.fence_law.specs.State.RequestKind.{Return}
 use Rattle.fence_law.specs.Words.{In as InRun}
 use Rattle.exchange_law.specs.Calls.{IsNoGet}
 use Rattle.file_simulation.specs.Showing.{IsRun}
-use Rattle.file_simulation.specs.Requests.{RequestClass, Own, Other, phase_of, return_class, class_by, class_of, kept_by, Gives, GivesIn, IsAnswered, AnswerIs, IsWaiting, IsAway, ClassIs, AwaitsNothing, IsOutstanding, RequestIs, RequestsAgree}
+use Rattle.file_simulation.specs.Requests.{RequestClass, Own, Other, phase_of, return_class, class_by, class_of, kept_by, GivesIn, AnswerIs, IsWaiting, ClassIs, IsOutstanding, RequestIs, RequestsAgree}
 use Rattle.relation_law.specs.Requests.{Works, WorksCall, IsAsBefore, HasStayed}
 use Rattle.relation_law.proofs.RequestsRuns.{return_gives_none}
 

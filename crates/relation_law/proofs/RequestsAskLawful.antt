@@ -1,17 +1,17 @@
 -- The events of a request that a client sends can happen, if it waits for nothing and its call is as the request needs.
 -- Towards `EventsAreLawful` (`specs/Steps.antt`).
-use Rattle.std.proofs.Common.{◌≡◌, ◌==◌, ℕ, Bool, true, false, List, [], ◌∷◌, Option, Some, None, refl, sym, subst, inl, inr, if◌then◌else◌}
+use Rattle.std.proofs.Common.{◌≡◌, ◌==◌, ℕ, Bool, true, false, [], ◌∷◌, Option, Some, None, refl, sym, subst, inl, inr, if◌then◌else◌}
 use Rattle.std.proofs.lemmas.Bool.{cases_eq, eq-eqb, ne_eqb}
 use Rattle.layout_ops.specs.declared.args.Args.{Args}
 use Rattle.layout_ops.specs.declared.args.Args.TheVariants as args
 use Rattle.layout_ops.specs.declared.statuses.TheConstants.{LAYOUTIOMODE4_RW}
 use Rattle.world_history.specs.ClientNames.{Client, Request, Phase}
-use Rattle.fence_law.specs.State.{State, Event, Grant}
+use Rattle.fence_law.specs.State.{State, Grant}
 use Rattle.fence_law.specs.State.{Event as event}
 use Rattle.fence_law.specs.State.Call.{Idle, Broken}
 use Rattle.fence_law.specs.State.RequestKind.{Get, Return}
-use Rattle.fence_law.specs.Machine.{Allowed, Lawful, after}
-use Rattle.file_simulation.specs.EventLists.{of_grant, entry_of}
+use Rattle.fence_law.specs.Machine.{Lawful}
+use Rattle.file_simulation.specs.EventLists.{of_grant}
 use Rattle.file_simulation.specs.Requests.{RequestClass, Own, Other, phase_of, return_class, AwaitsNothing}
 use Rattle.file_simulation.specs.ClientEvents as table
 use Rattle.relation_law.specs.Requests.{CallAllows}

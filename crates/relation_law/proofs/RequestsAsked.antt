@@ -1,36 +1,25 @@
 -- A client's own request goes out, and an answer is taken: what the machine then has of it.
-use Rattle.std.proofs.Common.{◌≡◌, ◌⊎◌, ◌==◌, ◌≤◌, ◌<◌, ◌+◌, ℕ, Bool, true, false, List, [], ◌∷◌, ◌++◌, Option, Some, None, refl, sym, ap, subst, ◌∙◌, inl, inr, arith, if◌then◌else◌}
-use Rattle.std.specs.Prelude.{not, find}
-use Rattle.std.proofs.lemmas.Bool.{cases_eq, eq-eqb, ne_eqb, eqb-true}
+use Rattle.std.proofs.Common.{◌≡◌, ◌==◌, ◌+◌, ℕ, Bool, true, false, [], ◌∷◌, Option, Some, None, refl, sym, ap, subst, ◌∙◌, inl, inr, arith, if◌then◌else◌}
+use Rattle.std.proofs.lemmas.Bool.{cases_eq, eq-eqb, ne_eqb}
 use Rattle.data_map.specs.declared.check.RawMap.{RawMap}
-use Rattle.osd_lists.specs.declared.node.Node.{Node}
-use Rattle.osd_lists.specs.declared.node.Node.TheVariants as node
 use Rattle.layout_ops.specs.declared.args.Args.{Args}
 use Rattle.layout_ops.specs.declared.args.Args.TheVariants as args
-use Rattle.layout_ops.specs.declared.statuses.TheConstants.{NFS4_OK, LAYOUTIOMODE4_RW}
-use Rattle.layout_ops.specs.declared.messages.Answer.{Answer}
-use Rattle.server_rules.specs.Slots.{slot_of}
+use Rattle.layout_ops.specs.declared.statuses.TheConstants.{LAYOUTIOMODE4_RW}
 use Rattle.server_rules.specs.Laws.{last_of}
 use Rattle.client_rules.specs.declared.limits.TheConstants.{GREATEST_SEQUENCE}
-use Rattle.client_rules.specs.Answers.{is_loss_taken}
 use Rattle.client_rules.specs.Going.{after_number}
-use Rattle.client_rules.specs.Messages.{Message, Replies, Answers, Recalls, Taken, TakesAnswer, TakesReply, TakesRecall, takes, answer_taken, reply_taken, awaited_of, is_awaited}
-use Rattle.client_rules.specs.Replies.{answers}
-use Rattle.client_rules.specs.Results.{status_of}
-use Rattle.world_history.specs.ServerNames.{Server, Slot}
-use Rattle.world_history.specs.ClientNames.{Client, Request, Phase, Starts, Needs, Waits, Reads, Probes, Gathers, Scatters, First, Get as Gets, Commit, Report, Close, Awaited, Reply, Recall}
+use Rattle.world_history.specs.ServerNames.{Slot}
+use Rattle.world_history.specs.ClientNames.{Client, Request, Phase, Starts, Needs, Waits, Reads, Probes, Gathers, Scatters, First, Get as Gets, Commit, Report, Close}
 use Rattle.exchange_law.specs.Messages.{last_before}
-use Rattle.fence_law.specs.State.{State, Event, Grant, RequestKind}
+use Rattle.fence_law.specs.State.{State, Grant, RequestKind}
 use Rattle.fence_law.specs.State.RequestKind.{Get, Return}
 use Rattle.fence_law.specs.State.{Event as event}
-use Rattle.fence_law.specs.Machine.{Allowed, Lawful, after, after_all}
+use Rattle.fence_law.specs.Machine.{after, after_all}
 use Rattle.fence_law.proofs.Words.{updated_same}
-use Rattle.fence_law.proofs.Slots.{Slots}
 use Rattle.file_simulation.specs.EventLists.{of_grant, entry_of}
-use Rattle.file_simulation.specs.Requests.{RequestClass, Own, Other, phase_of, return_class, class_by, class_of, kept_by, AnswerIs, IsWaiting, IsAway, ClassIs, AwaitsNothing, IsOutstanding, RequestIs, RequestsAgree}
+use Rattle.file_simulation.specs.Requests.{RequestClass, Own, Other, phase_of, return_class, class_by, class_of, kept_by, AnswerIs, ClassIs, AwaitsNothing, IsOutstanding}
 use Rattle.file_simulation.specs.ClientEvents as table
-use Rattle.relation_law.specs.Requests.{AskingStays, HoldsWhatReturns}
-use Rattle.relation_law.proofs.RequestsPlain.{asking_stays}
+use Rattle.relation_law.specs.Requests.{HoldsWhatReturns}
 
 -- ---- numbers
 

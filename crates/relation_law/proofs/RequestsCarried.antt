@@ -1,5 +1,5 @@
 -- The server has carried out a client's outstanding request: what the machine then has of it.
-use Rattle.std.proofs.Common.{◌≡◌, ◌==◌, ◌+◌, ℕ, Bool, true, false, List, Option, Some, None, refl, sym, ap, subst, ◌∙◌, if◌then◌else◌}
+use Rattle.std.proofs.Common.{◌≡◌, ◌+◌, ℕ, Bool, Option, Some, None, sym, ap, subst, ◌∙◌, if◌then◌else◌}
 use Rattle.std.proofs.lemmas.Bool.{eq-eqb}
 use Rattle.data_map.specs.declared.check.RawMap.{RawMap}
 use Rattle.layout_ops.specs.declared.messages.Answer.{Answer}
@@ -11,7 +11,7 @@ use Rattle.world_history.specs.Handed.{pending_op}
 use Rattle.exchange_law.specs.Messages.{last_before}
 use Rattle.fence_law.specs.Words.{In}
 use Rattle.fence_law.specs.State.{State, Grant, RequestKind, Request as MachineRequest}
-use Rattle.file_simulation.specs.Requests.{RequestClass, Own, Other, class_of, kept_by, Gives, AnswerIs, ClassIs, IsOutstanding, RequestIs, RequestsAgree}
+use Rattle.file_simulation.specs.Requests.{Own, Other, class_of, kept_by, Gives, ClassIs, IsOutstanding, RequestIs, RequestsAgree}
 
 module _ (file : ℕ) (m : RawMap) (s t : State) (c : ℕ) (x : Client) (p : Option Slot) (r : Request) (server : Server)
     (out : x.outstanding ≡ Some r) (numbers : s.sequence c ≡ last_before x.next) (slot : s.slot c ≡ last_of p)

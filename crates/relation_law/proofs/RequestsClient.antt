@@ -1,5 +1,5 @@
 -- A client's own move keeps what the machine has of its requests.
-use Rattle.std.proofs.Common.{◌≡◌, ◌⊎◌, ℕ, Bool, true, false, List, [], ◌∷◌, ◌++◌, Option, Some, None, map, refl, sym, ap, subst, ◌∙◌, inl, inr, if◌then◌else◌}
+use Rattle.std.proofs.Common.{◌≡◌, ℕ, Bool, List, [], ◌∷◌, ◌++◌, Option, Some, None, map, refl, sym, ap, subst, ◌∙◌, inl, inr, if◌then◌else◌}
 use Rattle.std.specs.Prelude.{is_some, option_map}
 use Rattle.data_map.specs.declared.check.RawMap.{RawMap}
 use Rattle.osd_lists.specs.declared.node.Node.{Node}
@@ -7,24 +7,23 @@ use Rattle.layout_ops.specs.declared.messages.Answer.{Answer}
 use Rattle.layout_ops.specs.declared.results.LayoutGetOk.{LayoutGetOk}
 use Rattle.server_rules.specs.Slots.{slot_of}
 use Rattle.server_rules.specs.Laws.{last_of}
-use Rattle.client_rules.specs.History.{Input, Calls, Hears, TimesOut, Leaves, Resends, step}
+use Rattle.client_rules.specs.History.{Input, Hears, Resends, step}
 use Rattle.client_rules.specs.Going.{after_number}
-use Rattle.client_rules.specs.Messages.{Step, Message, Taken, TakesAnswer, takes, to_drive, sends_of}
+use Rattle.client_rules.specs.Messages.{Message, Taken, TakesAnswer, takes, to_drive, sends_of}
 use Rattle.client_rules.specs.Results.{layouts_in}
-use Rattle.world_history.specs.ServerNames.{Server, Slot}
+use Rattle.world_history.specs.ServerNames.{Server}
 use Rattle.world_history.specs.ClientNames.{Client, Call, CallOp, Outcome, Outgoing, AnswersRecall, Asks, RecallAnswer, Request, Awaited, Done}
 use Rattle.world_history.specs.Handed.{op_in, pending_op}
 use Rattle.exchange_law.specs.Calls.{IsNoGet}
 use Rattle.exchange_law.specs.Messages.{last_before}
 use Rattle.fence_law.specs.Words.{In}
-use Rattle.fence_law.specs.State.{State, Event, RequestKind, Request as MachineRequest, Answer as MachineAnswer}
+use Rattle.fence_law.specs.State.{State, RequestKind, Request as MachineRequest, Answer as MachineAnswer}
 use Rattle.fence_law.specs.Machine.{after_all}
-use Rattle.file_simulation.specs.EventLists.{Lines}
 use Rattle.file_simulation.specs.Events.{joined}
-use Rattle.file_simulation.specs.Requests.{Own, phase_of, class_of, kept_by, AwaitsNothing, IsOutstanding, RequestIs, RequestsAgree}
+use Rattle.file_simulation.specs.Requests.{Own, class_of, kept_by, AwaitsNothing, IsOutstanding, RequestIs, RequestsAgree}
 use Rattle.file_simulation.specs.Showing.{IsRun}
 use Rattle.file_simulation.specs.ClientEvents as table
-use Rattle.relation_law.specs.Requests.{WorksCall, IsAsBefore, Turned, NothingAsked, OneAsked, HasTurned, AskingStays, HasStayed, HasRested, HoldsWhatReturns, AsksWell}
+use Rattle.relation_law.specs.Requests.{WorksCall, IsAsBefore, Turned, NothingAsked, OneAsked, HasTurned, AskingStays, HasStayed, HasRested, AsksWell}
 use Rattle.relation_law.proofs.FramesGrow.{after_more}
 use Rattle.relation_law.proofs.RequestsPlain.{asking_same, asking_more, asking_stays_all, first_plain, ended_plain, commanded_in}
 use Rattle.relation_law.proofs.RequestsSteps.{freed, step_turned, answer_turned}

@@ -1,12 +1,9 @@
 -- Each new request of a client, by its file and by what it asks.
-use Rattle.std.proofs.Common.{◌≡◌, ◌⊎◌, ◌==◌, ◌<◌, ℕ, Bool, true, false, List, [], ◌∷◌, ◌++◌, Option, Some, None, Result, Ok, Err, refl, sym, ap, subst, ◌∙◌, inl, inr, if◌then◌else◌}
-use Rattle.std.specs.Prelude.{◌&&◌, slice_get, option_map}
+use Rattle.std.proofs.Common.{◌≡◌, ◌==◌, ◌<◌, ℕ, Bool, true, false, List, [], ◌∷◌, Option, Some, None, refl, sym, ap, subst, ◌∙◌, inl, inr, if◌then◌else◌}
+use Rattle.std.specs.Prelude.{option_map}
 use Rattle.std.proofs.lemmas.Bool.{cases_eq, eqb-true, eq-eqb, ne_eqb, true≢false}
 use Rattle.data_map.specs.declared.check.RawMap.{RawMap}
-use Rattle.layout_types.specs.declared.err.LayoutErr.{LayoutErr}
 use Rattle.layout_types.specs.declared.ioerrs.IoErr.{IoErr}
-use Rattle.layout_types.specs.declared.ioerrs.IoErrs.{IoErrs}
-use Rattle.layout_types.specs.declared.update.LayoutUpdate.{LayoutUpdate}
 use Rattle.osd_lists.specs.declared.node.Node.TheVariants as node
 use Rattle.scenario_text.specs.declared.line.Line.{Line}
 use Rattle.scenario_text.specs.declared.names.TheConstants.{CLIENTS}
@@ -15,36 +12,33 @@ use Rattle.layout_ops.specs.declared.args.Args.TheVariants as args
 use Rattle.layout_ops.specs.declared.statuses.TheConstants.{NFS4_OK, LAYOUTIOMODE4_RW, LAYOUTIOMODE4_READ}
 use Rattle.layout_ops.specs.declared.messages.Answer.{Answer}
 use Rattle.layout_ops.specs.declared.results.LayoutGetOk.{LayoutGetOk}
-use Rattle.server_rules.specs.Answers.{result_of, result_with, file_answer}
-use Rattle.server_rules.specs.Envelopes.{asked_in, commit_in, return_in}
-use Rattle.server_rules.specs.Files.{Step, file_at, at_file}
-use Rattle.server_rules.specs.Grants.{grant_of}
-use Rattle.server_rules.specs.History.{Input, Hears}
+use Rattle.server_rules.specs.Answers.{result_of, result_with}
+use Rattle.server_rules.specs.Envelopes.{asked_in}
+use Rattle.server_rules.specs.Files.{file_at, at_file}
+use Rattle.server_rules.specs.History.{Hears}
 use Rattle.server_rules.specs.Messages.{Asks}
 use Rattle.server_rules.specs.Slots.{slot_of}
 use Rattle.server_rules.specs.Requests.{serves, answer_with}
 use Rattle.server_rules.specs.Served.{Served}
-use Rattle.client_rules.specs.Answers.{is_loss_taken}
-use Rattle.client_rules.specs.Calls.{file_of, is_write, span_of}
+use Rattle.client_rules.specs.Calls.{file_of, is_write}
 use Rattle.client_rules.specs.Grants.{held_of}
 use Rattle.client_rules.specs.Requests.{get_args}
 use Rattle.client_rules.specs.Results.{status_of, layouts_in}
-use Rattle.client_rules.specs.Steps.{is_bad_range}
 use Rattle.world_history.specs.ServerNames as server_rules
-use Rattle.world_history.specs.ServerNames.{Server, File, Component, Drive, ClientRequest, RequestArgs, Get as Gets, Commit as Commits, Return as Returns}
-use Rattle.world_history.specs.ClientNames.{Client, Call, CallOp, Held, Request, Phase, Starts, Needs, Waits, Reads as ReadsOn, Probes, Gathers, Scatters, Need, First, Get as GetsLayout, Commit, Report, Close}
+use Rattle.world_history.specs.ServerNames.{Server, File, Drive, ClientRequest, RequestArgs, Get as Gets, Commit as Commits, Return as Returns}
+use Rattle.world_history.specs.ClientNames.{Client, Call, CallOp, Held, Request, Phase, Starts, Needs, Waits, Reads as ReadsOn, Probes, Gathers, Scatters, First, Get as GetsLayout, Commit, Report, Close}
 use Rattle.world_history.specs.State.{World}
 use Rattle.world_history.specs.Handed.{pending_op}
 use Rattle.world_history.specs.Sending.{Move, move}
 use Rattle.history_law.specs.Doing.{input_in}
 use Rattle.exchange_law.specs.Calls.{IsNoGet, IsCall, Knows, CallFine, PhaseFine, IsAsking}
 use Rattle.history_law.specs.Granted.{NumbersFit}
-use Rattle.exchange_law.specs.HeldTaken.{IsGetOf, IsShaped}
+use Rattle.exchange_law.specs.HeldTaken.{IsGetOf}
 use Rattle.exchange_law.specs.Meeting.{IsSoundFile, KeptGood}
 use Rattle.exchange_law.specs.Shapes.{HasShape}
 use Rattle.exchange_law.proofs.CountMoments.{reached}
 use Rattle.exchange_law.proofs.Covered.{rw_again}
-use Rattle.exchange_law.proofs.HeldAsking.{none_told, no_get_asked, NoGetAsked}
+use Rattle.exchange_law.proofs.HeldAsking.{none_told, NoGetAsked}
 use Rattle.exchange_law.proofs.HeldWorlds.{next_moment}
 use Rattle.exchange_law.proofs.Shapes.{files_have_shape}
 use Rattle.history_law.proofs.Running.{parties_run}
@@ -56,14 +50,14 @@ use Rattle.fence_law.specs.Machine.{after, after_all}
 use Rattle.file_simulation.specs.EventLists.{where_so}
 use Rattle.file_simulation.specs.Grants.{covers_column}
 use Rattle.file_simulation.specs.Relation.{client_of}
-use Rattle.file_simulation.specs.Requests.{RequestClass, Own, Other, phase_of, return_class, class_by, class_of, Gives, GivesIn, IsWaiting, IsAway, ClassIs, kept_by, RequestsAgree}
+use Rattle.file_simulation.specs.Requests.{RequestClass, Own, Other, phase_of, return_class, class_by, class_of, Gives, GivesIn, IsWaiting, IsAway, ClassIs, kept_by}
 use Rattle.file_simulation.specs.ServerEvents as table
 use Rattle.relation_law.specs.Frames.{AreAll}
 use Rattle.relation_law.specs.Requests.{IsPlain, IsSteady}
 use Rattle.relation_law.specs.RequestsGoing.{GivesGrant, OwnLaws}
 use Rattle.relation_law.specs.Steps.{FollowsWhole, whole_behind}
 use Rattle.relation_law.proofs.FramesFiles.{file_stays}
-use Rattle.relation_law.proofs.FramesStay.{all_as, all_more}
+use Rattle.relation_law.proofs.FramesStay.{all_as}
 use Rattle.relation_law.proofs.RequestsAsked.{return_no_get}
 use Rattle.relation_law.proofs.RequestsGiven.{ok_gives}
 use Rattle.relation_law.proofs.RequestsGuards.{layouts_ok}

@@ -1,28 +1,21 @@
 -- What the server gives for a client's LAYOUTGET is what the client takes, or it says why it gives nothing.
-use Rattle.std.proofs.Common.{◌≡◌, ◌⊎◌, ◌==◌, ℕ, Bool, true, false, List, [], ◌∷◌, ◌++◌, Option, Some, None, Ok, length, refl, sym, ap, subst, ◌∙◌, inl, inr, arith, if◌then◌else◌}
-use Rattle.std.proofs.lemmas.Bool.{cases_eq, eq-eqb, ne_eqb, true≢false}
-use Rattle.data_map.specs.declared.check.RawMap.{RawMap}
-use Rattle.layout_ops.specs.declared.args.Args.{Args}
-use Rattle.layout_ops.specs.declared.args.Args.TheVariants as args
-use Rattle.layout_ops.specs.declared.statuses.TheConstants.{NFS4_OK, NFS4ERR_LAYOUTTRYLATER, LAYOUTIOMODE4_RW, LAYOUTIOMODE4_READ}
+use Rattle.std.proofs.Common.{◌≡◌, ℕ, false, List, Option, Some, None, refl, sym, ap, ◌∙◌, inl, inr, arith}
+use Rattle.std.proofs.lemmas.Bool.{cases_eq, eq-eqb, ne_eqb}
+use Rattle.layout_ops.specs.declared.statuses.TheConstants.{NFS4_OK, NFS4ERR_LAYOUTTRYLATER}
 use Rattle.layout_ops.specs.declared.messages.Answer.{Answer}
 use Rattle.server_rules.specs.Answers.{get_refused, result_of, result_with, file_answer}
-use Rattle.server_rules.specs.Envelopes.{asked_in}
 use Rattle.server_rules.specs.Files.{file_at, at_file}
 use Rattle.server_rules.specs.Going.{Going}
 use Rattle.server_rules.specs.Grants.{grant_of, asked}
 use Rattle.server_rules.specs.Requests.{serves}
 use Rattle.server_rules.specs.Served.{Served}
 use Rattle.server_rules.proofs.FileLaws.{number_at}
-use Rattle.client_rules.specs.Calls.{file_of, span_of, is_write}
-use Rattle.client_rules.specs.Layouts.{taken}
-use Rattle.client_rules.specs.Requests.{get_args}
+use Rattle.client_rules.specs.Calls.{span_of, is_write}
 use Rattle.client_rules.specs.Results.{status_of, get_status}
 use Rattle.client_rules.specs.Steps.{is_bad_range}
-use Rattle.world_history.specs.ServerNames.{Server, File, Grant, Kept, ClientRequest, RequestArgs, Get as AsksGet}
-use Rattle.world_history.specs.ClientNames.{CallOp, Held}
-use Rattle.exchange_law.specs.Held.{IsGiven}
-use Rattle.exchange_law.specs.HeldTaken.{IsShaped, OnDrives, IsGetOf}
+use Rattle.world_history.specs.ServerNames.{Server, File, Grant, Kept, ClientRequest, RequestArgs}
+use Rattle.world_history.specs.ClientNames.{CallOp}
+use Rattle.exchange_law.specs.HeldTaken.{IsGetOf}
 use Rattle.exchange_law.specs.Meeting.{IsSoundFile}
 use Rattle.exchange_law.proofs.HeldAnswered.{args_of_get, call_told}
 use Rattle.exchange_law.proofs.HeldAsking.{found_last}

@@ -5,7 +5,6 @@ use Rattle.data_map.specs.declared.check.RawMap.{RawMap}
 use Rattle.layout_ops.specs.declared.statuses.TheConstants.{NFS4_OK}
 use Rattle.layout_ops.specs.declared.messages.Answer.{Answer}
 use Rattle.layout_ops.specs.declared.results.LayoutGetOk.{LayoutGetOk}
-use Rattle.layout_ops.specs.declared.results.LayoutGetResult.{LayoutGetResult}
 use Rattle.layout_ops.specs.declared.results.LayoutGetResult.TheVariants as get
 use Rattle.layout_ops.specs.declared.results.Results.{Results}
 use Rattle.layout_ops.specs.declared.results.Results.TheVariants as results
@@ -19,10 +18,10 @@ use Rattle.fence_law.specs.Columns.{NotClean}
 use Rattle.fence_law.specs.State.{State, Grant, RequestKind, Request as MachineRequest}
 use Rattle.fence_law.specs.State.{Event as event}
 use Rattle.fence_law.specs.State.Call.{Idle, Broken}
-use Rattle.fence_law.specs.State.RequestKind.{Get, Return}
+use Rattle.fence_law.specs.State.RequestKind.{Return}
 use Rattle.fence_law.specs.Machine.{Allowed}
 use Rattle.file_simulation.specs.Showing.{IsRun}
-use Rattle.file_simulation.specs.Requests.{RequestClass, Own, Other, class_of, kept_by, GivesIn, IsAnswered, AnswerIs, IsWaiting, IsAway, ClassIs, AwaitsNothing, IsOutstanding}
+use Rattle.file_simulation.specs.Requests.{Own, Other, class_of, kept_by, GivesIn, IsAnswered, AnswerIs, IsWaiting, IsAway, ClassIs, AwaitsNothing, IsOutstanding}
 use Rattle.file_simulation.specs.ClientEvents.{grant_with}
 use Rattle.relation_law.specs.Requests.{AskingStays}
 use Rattle.relation_law.proofs.RequestsRuns.{slots_of_run, return_gives_none}

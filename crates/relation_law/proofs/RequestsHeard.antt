@@ -1,11 +1,8 @@
 -- A request that the server carries out is the one that its client awaits the answer to.
-use Rattle.std.proofs.Common.{◌≡◌, ◌≤◌, ◌+◌, ℕ, Bool, true, false, List, [], ◌∷◌, ◌++◌, Option, Some, None, length, take, refl, sym, ap, subst, ◌∙◌, arith, if◌then◌else◌}
+use Rattle.std.proofs.Common.{◌≡◌, ◌≤◌, ℕ, Bool, true, false, List, Option, Some, None, refl, sym, ap, subst, ◌∙◌, if◌then◌else◌}
 use Rattle.std.specs.Prelude.{slice_get}
-use Rattle.std.proofs.lemmas.List.{append-nil}
 use Rattle.osd_lists.specs.declared.node.Node.{Node}
 use Rattle.osd_lists.specs.declared.node.Node.TheVariants as node
-use Rattle.data_map.specs.declared.check.RawMap.{RawMap}
-use Rattle.layout_ops.specs.declared.envelope.Envelope.TheVariants as envelope
 use Rattle.scenario_text.specs.declared.event.Event.{Event}
 use Rattle.scenario_text.specs.declared.event.Event.TheVariants as event
 use Rattle.scenario_text.specs.declared.event.Machine.TheVariants as machine
@@ -16,30 +13,25 @@ use Rattle.server_rules.specs.Messages.{Message, Asks}
 use Rattle.server_rules.specs.Envelopes.{message_in}
 use Rattle.server_rules.specs.History.{Input, Hears}
 use Rattle.server_rules.specs.Slots.{New, slot_of, admit}
-use Rattle.server_rules.specs.Laws.{last_of}
-use Rattle.client_rules.specs.declared.limits.TheConstants.{GREATEST_SEQUENCE}
 use Rattle.world_history.specs.ServerNames.{ClientRequest}
-use Rattle.world_history.specs.ClientNames.{Client, Request}
-use Rattle.world_history.specs.declared.messages.Message.{Message as Posting}
+use Rattle.world_history.specs.ClientNames.{Client}
 use Rattle.world_history.specs.declared.messages.Posted.{Posted}
 use Rattle.world_history.specs.declared.messages.Body.{Body}
-use Rattle.world_history.specs.declared.messages.Body.TheVariants.{Envelope as OfEnvelope}
 use Rattle.world_history.specs.State.{World}
 use Rattle.world_history.specs.Handed.{for_server}
 use Rattle.world_history.specs.Spelled.{spelled}
 use Rattle.world_history.specs.Moves.{Action, Opens, Delivers, TimesOut, Pends, knows_drive, raw_of, has_algorithm}
 use Rattle.history_law.specs.BookMoments.{IsMoment}
-use Rattle.history_law.specs.Doing.{heard_of, brought_to, brought, input_in, given_by}
-use Rattle.move_law.specs.Said.{IsDelivered, IsHeardByServer}
+use Rattle.history_law.specs.Doing.{heard_of, brought_to, brought, input_in}
+use Rattle.move_law.specs.Said.{IsHeardByServer}
 use Rattle.exchange_law.specs.InStep.{IsInStep}
-use Rattle.exchange_law.specs.Messages.{last_before, WasAsked, AsksOf}
-use Rattle.exchange_law.specs.Meeting.{IsReadable, Reads}
+use Rattle.exchange_law.specs.Messages.{AsksOf}
+use Rattle.exchange_law.specs.Meeting.{IsReadable}
 use Rattle.exchange_law.proofs.Admitting.{is_next}
 use Rattle.exchange_law.proofs.HeldWorlds.{reads_fit}
 use Rattle.exchange_law.proofs.SlotAnswered.{IsReadOf, read_of, is_outstanding}
 use Rattle.exchange_law.proofs.SlotLists.{each_at}
 use Rattle.file_simulation.specs.Relation.{client_of}
-use Rattle.file_simulation.specs.ServerEvents.{is_served, is_new}
 use Rattle.relation_law.specs.RequestsGoing.{IsItsRequest}
 
 -- ---- what comes to the server it reads in a message

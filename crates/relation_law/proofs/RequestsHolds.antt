@@ -1,9 +1,7 @@
 -- A client returns a grant only while it holds one on that file.
 -- Towards `ReturnsAreHeld` (`specs/RequestsGoing.antt`).
-use Rattle.std.proofs.Common.{◌≡◌, ◌≢◌, ◌==◌, ℕ, Bool, true, false, List, [], ◌∷◌, ◌++◌, Option, Some, None, find, refl, sym, ap, subst, ◌∙◌, inl, inr, if◌then◌else◌}
-use Rattle.std.specs.Prelude.{◌&&◌}
-use Rattle.std.specs.List.{list_any}
-use Rattle.std.proofs.lemmas.Bool.{cases_Bool, and_parts, eqb-true, eq-eqb, true≢false}
+use Rattle.std.proofs.Common.{◌≡◌, ◌≢◌, ◌==◌, ℕ, true, List, [], ◌∷◌, ◌++◌, Option, Some, None, find, refl, sym, ap, subst, ◌∙◌, inl, inr}
+use Rattle.std.proofs.lemmas.Bool.{cases_Bool, true≢false}
 use Rattle.data_map.specs.declared.check.RawMap.{RawMap}
 use Rattle.layout_ops.specs.declared.messages.Answer.{Answer}
 use Rattle.layout_ops.specs.declared.args.Args.{Args}
@@ -11,11 +9,10 @@ use Rattle.layout_ops.specs.declared.args.Args.TheVariants as args
 use Rattle.client_rules.specs.Calls.{file_of}
 use Rattle.client_rules.specs.Going.{asks_under, returns, requests, progressed, is_held}
 use Rattle.client_rules.specs.Grants.{held_of}
-use Rattle.world_history.specs.ClientNames.{Client, Call, CallOp, Held, Due, Request, Need, Waits, Done}
-use Rattle.move_law.specs.Turns.{IsNeeding, ProgressCases}
+use Rattle.world_history.specs.ClientNames.{Client, CallOp, Held, Due, Request, Need, Done}
 use Rattle.move_law.proofs.Turns.{each_progress}
-use Rattle.fence_law.specs.State.{State, Grant}
-use Rattle.file_simulation.specs.Calls.{HeldIs, IsHolding}
+use Rattle.fence_law.specs.State.{State}
+use Rattle.file_simulation.specs.Calls.{HeldIs}
 use Rattle.file_simulation.specs.Requests.{phase_of}
 use Rattle.relation_law.specs.Requests.{IsReturning, HoldsWhatReturns}
 

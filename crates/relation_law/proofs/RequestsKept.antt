@@ -1,63 +1,38 @@
 -- A new request of a client on a file or on another: the machine has it as the server answered it.
-use Rattle.std.proofs.Common.{◌≡◌, ◌⊎◌, ◌==◌, ◌+◌, ◌<◌, ◌≤◌, ℕ, Bool, true, false, List, [], ◌∷◌, ◌++◌, Option, Some, None, take, length, refl, sym, ap, subst, ◌∙◌, inl, inr, arith, append_assoc, if◌then◌else◌}
-use Rattle.std.specs.Prelude.{◌&&◌, slice_get}
-use Rattle.std.proofs.lemmas.Bool.{cases_eq, eq-eqb, ne_eqb, true≢false}
+use Rattle.std.proofs.Common.{◌≡◌, ◌==◌, ◌+◌, ◌<◌, ℕ, Bool, true, List, [], ◌∷◌, ◌++◌, Option, Some, take, length, refl, sym, ap, subst, ◌∙◌, append_assoc}
+use Rattle.std.specs.Prelude.{◌&&◌}
 use Rattle.std.proofs.lemmas.List.{append-nil}
-use Rattle.data_map.specs.declared.check.RawMap.{RawMap}
 use Rattle.osd_lists.specs.declared.node.Node.TheVariants as node
 use Rattle.scenario_text.specs.declared.line.Line.{Line}
 use Rattle.scenario_text.specs.declared.names.TheConstants.{CLIENTS}
-use Rattle.layout_ops.specs.declared.args.Args.{Args}
-use Rattle.layout_ops.specs.declared.args.Args.TheVariants as args
-use Rattle.layout_ops.specs.declared.statuses.TheConstants.{NFS4_OK, LAYOUTIOMODE4_RW, LAYOUTIOMODE4_READ}
-use Rattle.layout_ops.specs.declared.messages.Answer.{Answer}
-use Rattle.layout_ops.specs.declared.results.LayoutGetOk.{LayoutGetOk}
-use Rattle.server_rules.specs.Answers.{result_of, result_with}
-use Rattle.server_rules.specs.Envelopes.{asked_in}
-use Rattle.server_rules.specs.Files.{Step, file_at, at_file}
-use Rattle.server_rules.specs.Grants.{grant_of}
+use Rattle.server_rules.specs.Files.{Step}
 use Rattle.server_rules.specs.History.{Input, Hears, step as server_step}
-use Rattle.server_rules.specs.Laws.{last_of}
 use Rattle.server_rules.specs.Messages.{Asks}
-use Rattle.server_rules.specs.Requests.{serves, answer_with}
-use Rattle.server_rules.specs.Served.{Served}
 use Rattle.server_rules.specs.Slots.{slot_of, keep}
 use Rattle.server_rules.proofs.FileLaws.{keep_same}
-use Rattle.client_rules.specs.Answers.{is_loss_taken}
-use Rattle.client_rules.specs.Calls.{file_of, is_write}
-use Rattle.client_rules.specs.Grants.{held_of}
-use Rattle.client_rules.specs.Requests.{get_args}
-use Rattle.client_rules.specs.Results.{status_of, layouts_in}
-use Rattle.world_history.specs.ServerNames as server_rules
-use Rattle.world_history.specs.ServerNames.{Server, File, Component, Slot, ClientRequest, RequestArgs, Get as Gets, Commit as Commits, Return as Returns}
-use Rattle.world_history.specs.ClientNames.{Client, Call, CallOp, Held, Request, Phase, Starts, Needs, Waits, Reads as ReadsOn, Probes, Gathers, Scatters, First, Get as GetsLayout, Commit, Report, Close}
+use Rattle.world_history.specs.ServerNames.{Server, File, Slot, ClientRequest}
+use Rattle.world_history.specs.ClientNames.{Client, Request}
 use Rattle.world_history.specs.State.{World}
 use Rattle.world_history.specs.Handed.{pending_op}
 use Rattle.world_history.specs.Sending.{Move, move}
 use Rattle.history_law.specs.BookMoments.{IsMoment, lines_in}
 use Rattle.history_law.specs.Doing.{input_in}
-use Rattle.exchange_law.specs.Calls.{IsNoGet, IsCall, Knows, CallFine, PhaseFine, IsAsking}
-use Rattle.exchange_law.specs.Meeting.{IsReadable, IsReadableThrough, IsMet, KeptGood}
-use Rattle.exchange_law.specs.Messages.{last_before}
+use Rattle.exchange_law.specs.Meeting.{IsReadable, IsReadableThrough, IsMet}
 use Rattle.exchange_law.specs.Text.{AreOfText, AreFew}
-use Rattle.exchange_law.proofs.CountGrowing.{fewer, text_front}
 use Rattle.exchange_law.proofs.HeldWorlds.{next_moment}
 use Rattle.exchange_law.proofs.Knowing.{lawful_at}
 use Rattle.fence_law.specs.State.{State, Event, RequestKind, Grant as MachineGrant}
 use Rattle.fence_law.specs.State.{Event as event}
-use Rattle.fence_law.specs.State.RequestKind.{Get, Return}
 use Rattle.fence_law.specs.Machine.{after, after_all}
 use Rattle.file_simulation.specs.EventLists.{where_so}
 use Rattle.file_simulation.specs.Relation.{client_of}
-use Rattle.file_simulation.specs.Requests.{RequestClass, Own, Other, phase_of, class_by, class_of, Gives, GivesIn, IsOutstanding, RequestIs, RequestsAgree}
+use Rattle.file_simulation.specs.Requests.{Own, Other, class_of, Gives, IsOutstanding, RequestIs, RequestsAgree}
 use Rattle.file_simulation.specs.ServerEvents as table
 use Rattle.relation_law.specs.Frames.{AreAll}
 use Rattle.relation_law.specs.Requests.{IsPlain, IsSteady, AskingStays, SteadyStays, TellsAnswer}
 use Rattle.relation_law.specs.RequestsGoing.{IsItsRequest, IsAnsweredBy, OwnLaws}
 use Rattle.relation_law.specs.Steps.{FollowsWhole, whole_behind}
-use Rattle.relation_law.proofs.FramesFiles.{file_stays}
 use Rattle.relation_law.proofs.FramesGrow.{after_more}
-use Rattle.relation_law.proofs.FramesParties as parties
 use Rattle.relation_law.proofs.RequestsHeard.{heard_in, its_request}
 use Rattle.relation_law.proofs.RequestsLines.{answered_behind, steady_same, steady_more, steady_stays}
 use Rattle.relation_law.proofs.RequestsOn.{IsServed, served_answered}

@@ -1,19 +1,14 @@
 -- The events of a client's new request can happen, if the fences, commits and losses among them can.
 -- Towards `EventsAreLawful` (`specs/Steps.antt`).
-use Rattle.std.proofs.Common.{◌≡◌, ◌==◌, ◌+◌, ℕ, Bool, true, false, List, [], ◌∷◌, ◌++◌, Option, Some, None, Result, refl, sym, ap, subst, ◌∙◌, inl, inr, if◌then◌else◌}
-use Rattle.std.proofs.lemmas.Bool.{cases_eq, eq-eqb, ne_eqb, true≢false}
+use Rattle.std.proofs.Common.{◌≡◌, ◌==◌, ◌+◌, ℕ, Bool, true, false, List, [], ◌∷◌, ◌++◌, Some, refl, sym, ap, subst, ◌∙◌, inl, inr, if◌then◌else◌}
+use Rattle.std.proofs.lemmas.Bool.{cases_eq, eq-eqb, ne_eqb}
 use Rattle.layout_ops.specs.declared.args.Args.{Args}
 use Rattle.layout_ops.specs.declared.args.Args.TheVariants as args
-use Rattle.layout_ops.specs.declared.statuses.TheConstants.{NFS4_OK, LAYOUTIOMODE4_RW}
+use Rattle.layout_ops.specs.declared.statuses.TheConstants.{LAYOUTIOMODE4_RW}
 use Rattle.layout_ops.specs.declared.messages.Answer.{Answer}
-use Rattle.layout_types.specs.declared.ioerrs.IoErr.{IoErr}
 use Rattle.server_rules.specs.Envelopes.{asked_in}
-use Rattle.server_rules.specs.Laws.{last_of}
 use Rattle.server_rules.specs.Slots.{slot_of}
-use Rattle.client_rules.specs.Answers.{is_loss_taken}
-use Rattle.client_rules.specs.Results.{status_of}
-use Rattle.world_history.specs.ServerNames as server_rules
-use Rattle.world_history.specs.ServerNames.{File, ClientRequest, RequestArgs, Get as Gets, Commit as Commits, Return as Returns}
+use Rattle.world_history.specs.ServerNames.{File, ClientRequest, RequestArgs, Get as Gets}
 use Rattle.world_history.specs.ClientNames.{Client, Request}
 use Rattle.world_history.specs.State.{World}
 use Rattle.fence_law.specs.Words.{In}
@@ -21,7 +16,6 @@ use Rattle.fence_law.specs.State.{State, Event, RequestKind}
 use Rattle.fence_law.specs.State.{Event as event}
 use Rattle.fence_law.specs.State.RequestKind.{Get, Return}
 use Rattle.fence_law.specs.Machine.{Allowed, Lawful, after, after_all}
-use Rattle.file_simulation.specs.EventLists.{where_so}
 use Rattle.file_simulation.specs.Relation.{client_of}
 use Rattle.file_simulation.specs.Requests.{RequestClass, Own, Other, phase_of, return_class, class_by, class_of, kept_by, ClassIs, IsWaiting, IsAway}
 use Rattle.file_simulation.specs.ServerEvents as table

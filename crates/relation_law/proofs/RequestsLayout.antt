@@ -1,13 +1,12 @@
 -- The grant that a client takes from an answer is the machine's: for the same columns, without the components that are missing.
-use Rattle.std.proofs.Common.{◌≡◌, ◌==◌, ℕ, zero, suc, Bool, true, false, List, [], ◌∷◌, Option, Some, None, Ok, refl, sym, ap, subst, ◌∙◌, if◌then◌else◌}
+use Rattle.std.proofs.Common.{◌≡◌, ℕ, zero, suc, Bool, true, false, List, [], ◌∷◌, Option, Some, None, Ok, refl, sym, ap, subst, ◌∙◌, if◌then◌else◌}
 use Rattle.std.specs.Prelude.{◌+◌, slice_get, is_none}
-use Rattle.data_map.specs.declared.check.RawMap.{RawMap}
 use Rattle.layout_ops.specs.declared.messages.Answer.{Answer}
 use Rattle.layout_ops.specs.declared.results.LayoutGetOk.{LayoutGetOk}
 use Rattle.client_rules.specs.Layouts.{taken, in_layouts}
 use Rattle.client_rules.specs.Results.{layouts_in}
 use Rattle.world_history.specs.ServerNames.{Server, File, Component, Drive, Kept, Grant}
-use Rattle.world_history.specs.ClientNames.{CallOp, Held, Listed, Credential}
+use Rattle.world_history.specs.ClientNames.{CallOp, Listed, Credential}
 use Rattle.exchange_law.specs.Held.{credential_of, listed_at, listed_from}
 use Rattle.fence_law.specs.Starts.{granted}
 use Rattle.fence_law.specs.State as machine

@@ -4,24 +4,24 @@ use Rattle.std.proofs.Common.{◌≡◌, ℕ, Bool, true, false, List, [], ◌�
 use Rattle.std.specs.Prelude.{◌+◌, ◌==◌, ◌&&◌}
 use Rattle.osd_lists.specs.declared.node.Node.{Node}
 use Rattle.osd_lists.specs.declared.node.Node.TheVariants as node
-use Rattle.server_rules.specs.Files.{Step, file_at}
+use Rattle.server_rules.specs.Files.{Step}
 use Rattle.server_rules.specs.Messages.{Message, Asks as AsksServer, Replies as RepliesServer, Orders as OrdersServer}
 use Rattle.server_rules.specs.History.{Input, Hears, Makes, Obeys, Adds, Formats, Resends, Crashes, Opens}
 use Rattle.client_rules.specs.Answers.{is_loss_taken}
 use Rattle.layout_ops.specs.declared.messages.Answer.{Answer}
 use Rattle.world_history.specs.ServerNames as server_rules
-use Rattle.world_history.specs.ServerNames.{Server, File, Component, ClientRequest, Note, NoteKind, Outgoing, ToDrive, Recalls, Answers, AnswersOrder, OrderKind, ToRecall, ToRevoke, ToDeclare, ToRebuild, ToAudit}
+use Rattle.world_history.specs.ServerNames.{Server, File, Component, Note, NoteKind, Outgoing, ToDrive, Recalls, Answers, AnswersOrder, OrderKind, ToRecall, ToRevoke, ToDeclare, ToRebuild, ToAudit}
 use Rattle.world_history.specs.State.{World, at_number}
 use Rattle.fence_law.specs.State.{State, Event}
 use Rattle.fence_law.specs.State.Event.{Commits, Fences, Fenced, Refenced}
 use Rattle.fence_law.specs.Machine.{after, after_all}
 use Rattle.move_law.specs.Answers.{AnswersOnly, Never}
 use Rattle.file_simulation.specs.Components.{has_failed}
-use Rattle.file_simulation.specs.EventLists.{Lines, where_so, of_grant}
+use Rattle.file_simulation.specs.EventLists.{where_so}
 use Rattle.file_simulation.specs.Events.{joined}
 use Rattle.file_simulation.specs.ServerEvents as table
 use Rattle.relation_law.specs.Frames.{AreAll, LinesAre}
-use Rattle.relation_law.specs.Requests.{IsPlain, IsSteady, AskingStays, SteadyStays}
+use Rattle.relation_law.specs.Requests.{IsPlain, IsSteady, SteadyStays}
 use Rattle.relation_law.specs.RequestsGoing.{is_served_in}
 use Rattle.relation_law.proofs.FramesGrow.{after_more}
 use Rattle.relation_law.proofs.FramesStay.{all_more, all_as}

@@ -1,7 +1,7 @@
 -- What a move of a calm history gives for the events of requests: the client waits for nothing where it asks, the answer that
 -- it takes is the server's, and what the server carries out is the client's outstanding request.
 -- Towards `EventsAreLawful` (`specs/Steps.antt`).
-use Rattle.std.proofs.Common.{◌≡◌, ◌⊎◌, ◌<◌, ◌≤◌, ◌==◌, ◌+◌, ◌-◌, ℕ, Bool, true, false, List, [], ◌∷◌, ◌++◌, Option, Some, None, take, length, refl, sym, ap, subst, ◌∙◌, inl, inr, arith, if◌then◌else◌}
+use Rattle.std.proofs.Common.{◌≡◌, ◌<◌, ◌==◌, ◌-◌, ℕ, Bool, true, false, List, [], ◌∷◌, Option, Some, None, take, refl, sym, ap, subst, ◌∙◌, inl, inr, arith, if◌then◌else◌}
 use Rattle.std.proofs.lemmas.Bool.{cases_eq, eq-eqb, ne_eqb}
 use Rattle.std.proofs.lemmas.List.{append-nil}
 use Rattle.scenario_text.specs.declared.line.Line.{Line}
@@ -9,11 +9,10 @@ use Rattle.scenario_text.specs.declared.names.TheConstants.{CLIENTS}
 use Rattle.layout_ops.specs.declared.args.Args.{Args}
 use Rattle.layout_ops.specs.declared.args.Args.TheVariants as args
 use Rattle.layout_ops.specs.declared.messages.Answer.{Answer}
-use Rattle.layout_ops.specs.declared.envelope.Envelope.TheVariants as envelope
 use Rattle.layout_ops.specs.declared.statuses.TheConstants.{NFS4_OK}
 use Rattle.osd_lists.specs.declared.node.Node.{Node}
 use Rattle.osd_lists.specs.declared.node.Node.TheVariants as node
-use Rattle.server_rules.specs.History.{Input as ServerInput, Hears as ServerHears}
+use Rattle.server_rules.specs.History.{Hears as ServerHears}
 use Rattle.server_rules.specs.Messages.{Asks}
 use Rattle.server_rules.specs.Slots.{slot_of}
 use Rattle.server_rules.specs.Laws.{last_of}
@@ -23,11 +22,11 @@ use Rattle.client_rules.specs.Messages.{Message, Taken, TakesAnswer, TakesReply,
 use Rattle.client_rules.specs.History.{Input, Calls, Hears, TimesOut, Leaves, Resends, step}
 use Rattle.client_rules.specs.Results.{status_of}
 use Rattle.world_history.specs.ServerNames.{File, Slot, ClientRequest}
-use Rattle.world_history.specs.ClientNames.{Client, Request, Phase, Done}
+use Rattle.world_history.specs.ClientNames.{Client, Request, Done}
 use Rattle.world_history.specs.State.{World}
 use Rattle.world_history.specs.Handed.{op_in}
 use Rattle.world_history.specs.Moves.{acts}
-use Rattle.world_history.specs.Sending.{Move, move}
+use Rattle.world_history.specs.Sending.{Move}
 use Rattle.history_law.specs.BookMoments.{lines_in}
 use Rattle.history_law.specs.Doing.{input_in}
 use Rattle.exchange_law.specs.Meeting.{IsReadable, IsReadableThrough}
@@ -36,7 +35,7 @@ use Rattle.exchange_law.specs.Taking.{TakesOwn}
 use Rattle.exchange_law.proofs.CountGrowing.{fewer, text_front}
 use Rattle.exchange_law.proofs.Knowing.{lawful_at}
 use Rattle.move_law.specs.Moves.{IsForClient}
-use Rattle.fence_law.specs.State.{State, Event, Grant, RequestKind}
+use Rattle.fence_law.specs.State.{State}
 use Rattle.fence_law.specs.State.{Event as event}
 use Rattle.fence_law.specs.Machine.{Allowed, after_all}
 use Rattle.fence_law.specs.State.RequestKind.{Get, Return}
@@ -55,8 +54,8 @@ use Rattle.relation_law.proofs.RequestsGuards.{takes_other_may, takes_get_may, t
 use Rattle.relation_law.proofs.RequestsHeard.{heard_in, its_request}
 use Rattle.relation_law.proofs.RequestsOn.{IsServed}
 use Rattle.relation_law.proofs.RequestsPlain.{asking_more, asking_stays_all, first_plain, ended_plain}
-use Rattle.relation_law.proofs.RequestsSteps.{freed, step_turned, answer_turned}
-use Rattle.relation_law.proofs.RequestsTaken.{answered_one, answer_taken_rests}
+use Rattle.relation_law.proofs.RequestsSteps.{step_turned}
+use Rattle.relation_law.proofs.RequestsTaken.{answer_taken_rests}
 
 -- the last number isn't the next one
 last_other : (n : ℕ) → last_before n ≡ n → ⊥

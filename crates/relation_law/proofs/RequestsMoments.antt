@@ -1,5 +1,5 @@
 -- Each move keeps what the machine has of the requests of clients.
-use Rattle.std.proofs.Common.{◌≡◌, ◌⊎◌, ◌<◌, ◌≤◌, ℕ, Bool, true, false, List, [], ◌∷◌, ◌++◌, Option, Some, None, take, length, refl, sym, ap, subst, ◌∙◌, inl, inr, arith, if◌then◌else◌}
+use Rattle.std.proofs.Common.{◌≡◌, ◌<◌, ℕ, Bool, true, false, List, [], ◌∷◌, ◌++◌, Option, Some, None, take, length, refl, sym, ap, subst, ◌∙◌, inl, inr, arith, if◌then◌else◌}
 use Rattle.std.proofs.lemmas.Bool.{cases_eq, true≢false}
 use Rattle.scenario_text.specs.declared.line.Line.{Line}
 use Rattle.scenario_text.specs.declared.names.TheConstants.{CLIENTS}
@@ -12,15 +12,14 @@ use Rattle.client_rules.specs.Messages.{Message, Taken, TakesAnswer, TakesReply,
 use Rattle.client_rules.specs.History.{Input, Calls, Hears, TimesOut, Leaves, Resends, step}
 use Rattle.world_history.specs.ServerNames.{Server, File, Slot}
 use Rattle.world_history.specs.ClientNames.{Client, Call, Phase, Starts, Needs, Waits, Reads, Probes, Gathers, Scatters, Held, Request}
-use Rattle.world_history.specs.State.{World, ClientAt, at_number}
+use Rattle.world_history.specs.State.{World}
 use Rattle.world_history.specs.Moves as moves
 use Rattle.world_history.specs.Moves.{acts}
-use Rattle.world_history.specs.Plans.{due}
 use Rattle.world_history.specs.Sending.{Move, move}
-use Rattle.history_law.specs.BookMoments.{IsMoment, plan_at, lines_in}
-use Rattle.history_law.specs.Doing.{input_in, did_in}
+use Rattle.history_law.specs.BookMoments.{lines_in}
+use Rattle.history_law.specs.Doing.{input_in}
 use Rattle.history_law.specs.Read.{leads}
-use Rattle.exchange_law.specs.Calls.{IsNoGet, NoGet, Knows, CallFine, PhaseFine}
+use Rattle.exchange_law.specs.Calls.{IsNoGet, Knows, CallFine, PhaseFine}
 use Rattle.data_map.specs.declared.check.RawMap.{RawMap}
 use Rattle.move_law.specs.Moves.{IsForClient}
 use Rattle.exchange_law.specs.InStep.{StandsAt}
@@ -38,13 +37,13 @@ use Rattle.file_simulation.specs.Relation.{client_of}
 use Rattle.file_simulation.specs.Requests.{RequestsAgree}
 use Rattle.file_simulation.specs.ClientEvents.{Going, going_in, client_goes}
 use Rattle.file_simulation.specs.ServerEvents.{asker}
-use Rattle.relation_law.specs.Frames.{ByClient, FileStays, IsSameFile}
+use Rattle.relation_law.specs.Frames.{ByClient, IsSameFile}
 use Rattle.client_rules.specs.Calls.{file_of}
 use Rattle.client_rules.specs.Grants.{held_of}
 use Rattle.fence_law.specs.State.{Event}
 use Rattle.relation_law.specs.Requests.{waits_in, WorksCall, AsksWell}
 use Rattle.relation_law.specs.RequestsGoing.{ended_behind, RequestsLaws}
-use Rattle.relation_law.specs.Steps.{Follows, FollowsWhole, whole_behind, owed, AreRequests, RequestsGoOn}
+use Rattle.relation_law.specs.Steps.{FollowsWhole, whole_behind, owed, AreRequests, RequestsGoOn}
 use Rattle.relation_law.proofs.FramesFiles.{file_stays}
 use Rattle.relation_law.proofs.FramesParties as parties
 use Rattle.relation_law.proofs.FramesStay.{all_joined}

@@ -1,22 +1,21 @@
 -- The step of a new request, and the slot that it leaves; of any other message a client's slot stays.
-use Rattle.std.proofs.Common.{◌≡◌, ◌≤◌, ◌==◌, ℕ, Bool, true, false, List, [], ◌∷◌, ◌++◌, Option, Some, None, refl, sym, ap, subst, ◌∙◌, append_assoc, if◌then◌else◌}
+use Rattle.std.proofs.Common.{◌≡◌, ◌≤◌, ◌==◌, ℕ, true, false, List, [], ◌∷◌, ◌++◌, Some, refl, sym, ap, subst, ◌∙◌, append_assoc}
 use Rattle.std.specs.Prelude.{◌&&◌, nat_le}
 use Rattle.std.proofs.lemmas.Bool.{and_parts, and_from, eqb-true, eq-eqb, leb-true, le-leb, true≢false}
-use Rattle.osd_lists.specs.declared.node.Node.{Node}
 use Rattle.osd_lists.specs.declared.node.Node.TheVariants as node
 use Rattle.server_rules.specs.declared.limits.TheConstants.{MAX_CLIENT}
 use Rattle.server_rules.specs.Answers.{recalls_from}
-use Rattle.server_rules.specs.Files.{Step, still, file_at, put_file, at_file, to_drives}
+use Rattle.server_rules.specs.Files.{Step, file_at, put_file, at_file, to_drives}
 use Rattle.server_rules.specs.History.{Input, Hears, step}
 use Rattle.server_rules.specs.Laws.{is_taken_of}
-use Rattle.server_rules.specs.Messages.{Message, Asks, counters_have_room, on_message}
+use Rattle.server_rules.specs.Messages.{Asks, counters_have_room, on_message}
 use Rattle.server_rules.specs.Requests.{on_request, serves, answer_without, answer_with}
 use Rattle.server_rules.specs.Served.{Served}
-use Rattle.server_rules.specs.Slots.{Admit, New, Again, Misordered, slot_of, admit, keep}
+use Rattle.server_rules.specs.Slots.{Admit, New, Again, Misordered, slot_of, admit}
 use Rattle.server_rules.proofs.FileLaws.{number_at, put_same}
-use Rattle.world_history.specs.ServerNames.{Server, File, Slot, Answer, ClientRequest, Answers}
-use Rattle.move_law.specs.Answers.{AnswersOnly, Never, ServerDid, Quiet, Asked}
-use Rattle.move_law.specs.Steps.{IsAsked, RequestCases}
+use Rattle.world_history.specs.ServerNames.{Server, File, Slot, ClientRequest, Answers}
+use Rattle.move_law.specs.Answers.{Never, ServerDid, Quiet, Asked}
+use Rattle.move_law.specs.Steps.{IsAsked}
 use Rattle.move_law.proofs.Answers.{more_only, drives_only, recalls_only, step_did}
 use Rattle.move_law.proofs.Steps.{each_request}
 use Rattle.file_simulation.specs.ServerEvents.{is_served, is_new}

@@ -1,23 +1,17 @@
 -- A move of another party keeps what the machine has of a client's requests.
-use Rattle.std.proofs.Common.{◌≡◌, ◌⊎◌, ℕ, Bool, true, false, List, [], ◌∷◌, ◌++◌, Option, Some, None, refl, sym, ap, subst, ◌∙◌, inl, inr}
-use Rattle.std.proofs.lemmas.Bool.{cases_eq, ne_eqb}
-use Rattle.osd_lists.specs.declared.node.Node.TheVariants.{Client as FromClient}
+use Rattle.std.proofs.Common.{◌≡◌, ℕ, List, Option, Some, refl, ap, ◌∙◌}
+use Rattle.std.proofs.lemmas.Bool.{ne_eqb}
 use Rattle.server_rules.specs.Files.{Step}
-use Rattle.server_rules.specs.History.{Input, Hears, step}
-use Rattle.server_rules.specs.Messages.{Asks}
+use Rattle.server_rules.specs.History.{Input, step}
 use Rattle.server_rules.specs.Requests.{on_request}
 use Rattle.server_rules.specs.Slots.{slot_of}
 use Rattle.server_rules.proofs.FileLaws.{keep_other}
-use Rattle.data_map.specs.declared.check.RawMap.{RawMap}
 use Rattle.world_history.specs.ServerNames.{Server, Slot, ClientRequest}
-use Rattle.world_history.specs.ClientNames.{Client}
 use Rattle.move_law.specs.Answers.{ServerDid, Quiet, Asked}
-use Rattle.move_law.specs.Steps.{RequestCases}
 use Rattle.move_law.proofs.Answers.{step_did}
 use Rattle.move_law.proofs.Steps.{each_request}
 use Rattle.fence_law.specs.State.{State, Event}
 use Rattle.fence_law.specs.Machine.{after_all}
-use Rattle.file_simulation.specs.Requests.{RequestsAgree}
 use Rattle.file_simulation.specs.ServerEvents.{asker}
 use Rattle.relation_law.specs.Frames.{AreAll, IsOfClient, IsOfServer, IsOfDrive}
 use Rattle.relation_law.specs.Requests.{HasStayed}

@@ -1,60 +1,24 @@
 -- A step of the server on a client's request keeps what the machine has of this client's requests.
-use Rattle.std.proofs.Common.{◌≡◌, ◌⊎◌, ◌==◌, ◌+◌, ◌<◌, ◌≤◌, ℕ, Bool, true, false, List, [], ◌∷◌, ◌++◌, Option, Some, None, take, length, refl, sym, ap, subst, ◌∙◌, inl, inr, arith, append_assoc, if◌then◌else◌}
-use Rattle.std.specs.Prelude.{◌&&◌, slice_get}
-use Rattle.std.proofs.lemmas.Bool.{cases_eq, eq-eqb, ne_eqb, true≢false}
+use Rattle.std.proofs.Common.{◌≡◌, ◌+◌, ℕ, List, [], ◌∷◌, ◌++◌, Option, Some, refl, sym, ap, ◌∙◌, append_assoc}
 use Rattle.std.proofs.lemmas.List.{append-nil}
-use Rattle.data_map.specs.declared.check.RawMap.{RawMap}
-use Rattle.osd_lists.specs.declared.node.Node.{Node}
-use Rattle.osd_lists.specs.declared.node.Node.TheVariants as node
 use Rattle.scenario_text.specs.declared.line.Line.{Line}
-use Rattle.scenario_text.specs.declared.names.TheConstants.{CLIENTS}
-use Rattle.layout_ops.specs.declared.args.Args.{Args}
-use Rattle.layout_ops.specs.declared.args.Args.TheVariants as args
-use Rattle.layout_ops.specs.declared.statuses.TheConstants.{NFS4_OK, LAYOUTIOMODE4_RW}
-use Rattle.layout_ops.specs.declared.messages.Answer.{Answer}
-use Rattle.layout_ops.specs.declared.results.LayoutGetOk.{LayoutGetOk}
-use Rattle.server_rules.specs.Files.{Step, file_at, at_file}
-use Rattle.server_rules.specs.Grants.{grant_of}
-use Rattle.server_rules.specs.History.{Input, Hears, step as server_step}
-use Rattle.server_rules.specs.Laws.{last_of}
-use Rattle.server_rules.specs.Messages.{Message, Asks}
-use Rattle.server_rules.specs.Requests.{serves, answer_with}
-use Rattle.server_rules.specs.Served.{Served}
-use Rattle.server_rules.specs.Slots.{slot_of}
-use Rattle.server_rules.proofs.FileLaws.{keep_same}
-use Rattle.client_rules.specs.Answers.{is_loss_taken}
-use Rattle.client_rules.specs.Results.{status_of, layouts_in}
-use Rattle.world_history.specs.ServerNames as server_rules
-use Rattle.world_history.specs.ServerNames.{Server, File, Component, Slot, ClientRequest, RequestArgs, Get as Gets, Commit as Commits, Return as Returns}
-use Rattle.world_history.specs.ClientNames.{Client, CallOp, Request}
+use Rattle.server_rules.specs.Files.{Step, file_at}
+use Rattle.server_rules.specs.History.{Input, step as server_step}
+use Rattle.world_history.specs.ServerNames.{Server, File}
 use Rattle.world_history.specs.State.{World}
-use Rattle.world_history.specs.Handed.{pending_op}
-use Rattle.world_history.specs.Moves as moves
 use Rattle.world_history.specs.Sending.{Move, move}
-use Rattle.history_law.specs.BookMoments.{IsMoment, lines_in}
 use Rattle.history_law.specs.Doing.{input_in, did_in}
 use Rattle.world_history.specs.Book.{step_by}
 use Rattle.file_simulation.specs.ClientEvents.{Going}
-use Rattle.exchange_law.specs.Meeting.{IsReadable}
-use Rattle.exchange_law.specs.Messages.{last_before}
-use Rattle.exchange_law.proofs.CountGrowing.{fewer, text_front}
-use Rattle.exchange_law.proofs.HeldWorlds.{next_moment}
-use Rattle.exchange_law.proofs.Knowing.{lawful_at}
 use Rattle.fence_law.specs.State.{State, Event}
-use Rattle.fence_law.specs.Machine.{after, after_all}
-use Rattle.file_simulation.specs.EventLists.{Lines, where_so}
+use Rattle.file_simulation.specs.EventLists.{Lines}
 use Rattle.file_simulation.specs.Events.{joined, events_of, events_at, led_by}
-use Rattle.file_simulation.specs.Relation.{client_of}
-use Rattle.file_simulation.specs.Requests.{RequestsAgree}
 use Rattle.file_simulation.specs.ServerEvents as table
 use Rattle.file_simulation.specs.DriveEvents.{drive_events}
 use Rattle.relation_law.specs.Frames.{AreAll, LinesAre}
-use Rattle.relation_law.specs.RequestsGoing.{is_served_in, IsItsRequest, IsAnsweredBy, OwnLaws}
-use Rattle.relation_law.specs.Steps.{FollowsWhole, whole_behind, owed}
+use Rattle.relation_law.specs.Steps.{FollowsWhole, owed}
 use Rattle.relation_law.proofs.FramesParties as parties
-use Rattle.relation_law.proofs.RequestsHeard.{heard_in, its_request}
 use Rattle.relation_law.proofs.RequestsMoments.{joined_led}
-use Rattle.relation_law.proofs.RequestsOn.{IsServed, served_is, served_answered}
 
 -- ---- the lines of a step of the server
 

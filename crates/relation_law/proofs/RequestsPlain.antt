@@ -1,6 +1,6 @@
 -- Events of no request leave what the machine has of requests, and of which lines all events are such.
-use Rattle.std.proofs.Common.{◌≡◌, ℕ, Bool, true, false, List, [], ◌∷◌, ◌++◌, Option, Some, None, refl, ◌∙◌}
-use Rattle.std.specs.Prelude.{◌==◌, not, is_some}
+use Rattle.std.proofs.Common.{◌≡◌, ℕ, List, [], ◌∷◌, Option, Some, None, refl, ◌∙◌}
+use Rattle.std.specs.Prelude.{◌==◌, not}
 use Rattle.osd_drive.specs.Table.{is_write as is_write_action}
 use Rattle.osd_commands.specs.declared.commands.Command.{Command}
 use Rattle.osd_commands.specs.declared.replies.Reply.{Reply}
@@ -10,13 +10,12 @@ use Rattle.client_rules.specs.Grants.{held_of}
 use Rattle.client_rules.specs.Commands.{of_component}
 use Rattle.client_rules.specs.Io.{awaited_in}
 use Rattle.client_rules.specs.Replies.{timed_out}
-use Rattle.client_rules.specs.Messages.{Message, Taken, TakesAnswer, TakesReply, TakesRecall, takes, to_drive}
+use Rattle.client_rules.specs.Messages.{Message, Taken, TakesAnswer, TakesReply, TakesRecall, takes}
 use Rattle.client_rules.specs.Steps.{awaited_component}
 use Rattle.client_rules.specs.History.{Input, Calls, Hears, TimesOut, Leaves, Resends}
 use Rattle.layout_ops.specs.declared.messages.Answer.{Answer}
 use Rattle.osd_lists.specs.declared.node.Node.{Node}
-use Rattle.world_history.specs.ClientNames as client_rules
-use Rattle.world_history.specs.ClientNames.{Client, Call, CallOp, Held, Awaited, Phase, Needs, Close, Scatters, Turn, Goes, Ends, Outcome, WriteOk, ReadOk, Silent, Lost, RecallAnswer}
+use Rattle.world_history.specs.ClientNames.{Client, Call, CallOp, Held, Awaited, Phase, Needs, Close, Scatters, Turn, Goes, Ends, Outcome, WriteOk, ReadOk, Silent, Lost}
 use Rattle.fence_law.specs.State.{State, Event, Grant}
 use Rattle.fence_law.specs.State.Event.{Asks, Grants, Refuses, Takes, AsksOther, ServesOther, TakesOther, GivesBack, Reports, Frees}
 use Rattle.fence_law.specs.Machine.{after, after_all}

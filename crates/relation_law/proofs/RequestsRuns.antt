@@ -1,10 +1,9 @@
 -- What a run of the machine says of requests: a client's slot is near its last request, and only a LAYOUTGET gets a grant.
-use Rattle.std.proofs.Common.{◌≡◌, ◌⊎◌, ℕ, ◌+◌, ◌≤◌, Bool, true, false, List, [], ◌∷◌, Some, None, refl, sym, ap, subst, ◌∙◌, inl, inr, arith}
+use Rattle.std.proofs.Common.{◌≡◌, ℕ, ◌+◌, Bool, true, false, List, [], ◌∷◌, Some, None, refl, sym, ap, subst, ◌∙◌, inl, inr}
 use Rattle.fence_law.specs.Words.{In}
 use Rattle.fence_law.specs.State.{State, Layout, Event, Grant, Request, Answer}
 use Rattle.fence_law.specs.State.RequestKind.{Get, Return}
 use Rattle.fence_law.specs.State.Event.{Asks, Grants, Refuses, GivesBack, Reports, Frees}
-use Rattle.fence_law.specs.Starts.{granted}
 use Rattle.fence_law.specs.Machine.{Allowed, Lawful, after, after_all, new_file_state}
 use Rattle.fence_law.proofs.Slots.{Slots, keep_slots}
 use Rattle.file_simulation.specs.Showing.{IsRun}

@@ -1,25 +1,14 @@
 -- The server carries out a client's new request on a file that is there, or on another: what the machine then has of it.
-use Rattle.std.proofs.Common.{◌≡◌, ◌⊎◌, ◌==◌, ◌+◌, ℕ, Bool, true, false, List, [], ◌∷◌, ◌++◌, Option, Some, None, Result, Ok, Err, refl, sym, ap, subst, ◌∙◌, inl, inr, if◌then◌else◌}
-use Rattle.std.specs.Prelude.{◌&&◌}
-use Rattle.std.proofs.lemmas.Bool.{cases_eq, eq-eqb, ne_eqb}
+use Rattle.std.proofs.Common.{◌≡◌, ◌+◌, ℕ, Bool, List, Option, Some, None, Result, Ok, Err, refl, sym, ap, subst, ◌∙◌, inl}
 use Rattle.data_map.specs.declared.check.RawMap.{RawMap}
 use Rattle.layout_types.specs.declared.err.LayoutErr.{LayoutErr}
 use Rattle.layout_types.specs.declared.ioerrs.IoErrs.{IoErrs}
 use Rattle.layout_types.specs.declared.update.LayoutUpdate.{LayoutUpdate}
-use Rattle.layout_ops.specs.declared.args.Args.{Args}
-use Rattle.layout_ops.specs.declared.args.Args.TheVariants as args
-use Rattle.layout_ops.specs.declared.statuses.TheConstants.{NFS4_OK, LAYOUTIOMODE4_RW}
-use Rattle.layout_ops.specs.declared.messages.Answer.{Answer}
-use Rattle.layout_ops.specs.declared.results.LayoutGetOk.{LayoutGetOk}
 use Rattle.server_rules.specs.Slots.{slot_of}
 use Rattle.server_rules.specs.Laws.{last_of}
-use Rattle.server_rules.specs.Envelopes.{asked_in, commit_in, return_in}
-use Rattle.server_rules.specs.Grants.{grant_of}
-use Rattle.client_rules.specs.Answers.{is_loss_taken}
-use Rattle.client_rules.specs.Results.{status_of, layouts_in}
-use Rattle.world_history.specs.ServerNames as server_rules
-use Rattle.world_history.specs.ServerNames.{Server, File, Slot, IoErr, ClientRequest, RequestArgs, Get as Gets, Commit as Commits, Return as Returns}
-use Rattle.world_history.specs.ClientNames.{Client, CallOp, Request}
+use Rattle.server_rules.specs.Envelopes.{commit_in, return_in}
+use Rattle.world_history.specs.ServerNames.{Server, Slot, IoErr, RequestArgs, Commit as Commits, Return as Returns}
+use Rattle.world_history.specs.ClientNames.{Client, Request}
 use Rattle.world_history.specs.Handed.{pending_op}
 use Rattle.exchange_law.specs.Messages.{last_before}
 use Rattle.fence_law.specs.Words.{In}
@@ -27,18 +16,11 @@ use Rattle.fence_law.specs.Starts.{granted}
 use Rattle.fence_law.specs.State.{State, Grant, RequestKind, Request as MachineRequest, Answer as MachineAnswer}
 use Rattle.fence_law.specs.State.{Event as event}
 use Rattle.fence_law.specs.State.{Event}
-use Rattle.fence_law.specs.State.RequestKind.{Get, Return}
-use Rattle.fence_law.specs.Machine.{after, after_all}
+use Rattle.fence_law.specs.Machine.{after}
 use Rattle.fence_law.proofs.Words.{updated_same}
-use Rattle.file_simulation.specs.EventLists.{where_so}
-use Rattle.file_simulation.specs.Grants.{covers_column}
-use Rattle.file_simulation.specs.Requests.{RequestClass, Own, Other, phase_of, return_class, class_by, class_of, kept_by, Gives, GivesIn, ClassIs, IsWaiting, IsAway, IsOutstanding, RequestsAgree}
-use Rattle.file_simulation.specs.ServerEvents as table
+use Rattle.file_simulation.specs.Requests.{Own, Other, class_of, Gives, IsOutstanding, RequestsAgree}
 use Rattle.relation_law.specs.Requests.{AskingStays, SteadyStays, TellsAnswer}
-use Rattle.relation_law.proofs.FramesGrow.{after_more}
 use Rattle.relation_law.proofs.RequestsCarried.{agree_other, agree_own}
-use Rattle.relation_law.proofs.RequestsLines.{steady_same, steady_more, steady_stays, fences_plain, loss_plain, committed_plain}
-use Rattle.relation_law.proofs.RequestsPlain.{asking_same, asking_more, asking_stays_all}
 
 -- ---- what is read of a request
 

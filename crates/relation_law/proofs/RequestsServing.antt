@@ -1,5 +1,5 @@
 -- A step of the server on a client's request keeps what the machine has of this client's requests.
-use Rattle.std.proofs.Common.{◌≡◌, ◌<◌, ℕ, Bool, true, false, List, [], ◌∷◌, Option, Some, None, refl, sym, ap, subst, ◌∙◌}
+use Rattle.std.proofs.Common.{◌≡◌, ◌<◌, ℕ, Bool, true, false, List, Some, refl, sym, ap, subst, ◌∙◌}
 use Rattle.std.proofs.lemmas.Bool.{true≢false}
 use Rattle.osd_lists.specs.declared.node.Node.{Node}
 use Rattle.osd_lists.specs.declared.node.Node.TheVariants as node
@@ -8,7 +8,7 @@ use Rattle.scenario_text.specs.declared.names.TheConstants.{CLIENTS}
 use Rattle.server_rules.specs.History.{Input, Hears, Makes, Obeys, Adds, Formats, Resends, Crashes, Opens, step as server_step}
 use Rattle.server_rules.specs.Messages.{Message, Asks, Replies, Orders}
 use Rattle.server_rules.specs.Slots.{slot_of}
-use Rattle.world_history.specs.ServerNames.{Server, File, ClientRequest}
+use Rattle.world_history.specs.ServerNames.{Server, File}
 use Rattle.world_history.specs.ClientNames.{Client}
 use Rattle.world_history.specs.State.{World}
 use Rattle.world_history.specs.Sending.{Move, move}
@@ -21,7 +21,7 @@ use Rattle.file_simulation.specs.Relation.{client_of}
 use Rattle.file_simulation.specs.Requests.{RequestsAgree}
 use Rattle.file_simulation.specs.ServerEvents as table
 use Rattle.relation_law.specs.Requests.{IsSteady, AskingStays}
-use Rattle.relation_law.specs.RequestsGoing.{is_served_in, OwnLaws, OwnRequestsGoOn, RequestsLaws, ReturnsAreHeld}
+use Rattle.relation_law.specs.RequestsGoing.{is_served_in, OwnLaws, OwnRequestsGoOn, ReturnsAreHeld}
 use Rattle.relation_law.specs.Steps.{FollowsWhole, whole_behind, RequestsGoOn}
 use Rattle.relation_law.proofs.FramesParties as parties
 use Rattle.relation_law.proofs.FramesStay.{all_joined}

@@ -1,31 +1,30 @@
 -- What a step of a client asks: without an answer as from the client before, and with one as if nothing had been outstanding.
-use Rattle.std.proofs.Common.{◌≡◌, ◌⊎◌, ◌==◌, ℕ, Bool, true, false, List, [], ◌∷◌, Option, Some, None, Result, Ok, Err, find, refl, sym, ap, subst, ◌∙◌, inl, inr, if◌then◌else◌}
+use Rattle.std.proofs.Common.{◌≡◌, ◌==◌, ℕ, Bool, true, false, List, [], ◌∷◌, Option, Some, None, Result, Ok, Err, find, refl, sym, subst, ◌∙◌, inl, inr, if◌then◌else◌}
 use Rattle.layout_ops.specs.declared.messages.Answer.{Answer}
 use Rattle.layout_ops.specs.declared.statuses.TheConstants.{NFS4_OK}
 use Rattle.osd_lists.specs.declared.node.Node.{Node}
-use Rattle.osd_lists.specs.declared.node.Node.TheVariants.{Server as FromServer}
-use Rattle.client_rules.specs.Answers.{not_granted, on_commit, on_report}
+use Rattle.client_rules.specs.Answers.{not_granted, on_commit}
 use Rattle.client_rules.specs.Calls.{file_of}
 use Rattle.client_rules.specs.Commands.{of_component}
-use Rattle.client_rules.specs.Going.{quiet, moved, phased, by_turn, over, with_held}
+use Rattle.client_rules.specs.Going.{quiet, moved, by_turn, with_held}
 use Rattle.client_rules.specs.Grants.{held_of}
-use Rattle.client_rules.specs.History.{Input, Calls, Hears, TimesOut, Leaves, Resends, step}
+use Rattle.client_rules.specs.History.{Input, Hears, Resends, step}
 use Rattle.client_rules.specs.Io.{awaited_in}
 use Rattle.client_rules.specs.Layouts.{taken}
-use Rattle.client_rules.specs.Messages.{Step, Message, Recalls, TakesAnswer, takes, finished, still, by_taken, on_call, on_phase, on_need, on_get, answered_get, commit_under, obeys, no_match, hears}
+use Rattle.client_rules.specs.Messages.{Step, Message, TakesAnswer, takes, finished, still, on_call, on_phase, on_need, answered_get, commit_under, obeys, no_match, hears}
 use Rattle.client_rules.specs.Replies.{answers, replied, timed_out}
 use Rattle.client_rules.specs.Results.{status_of}
-use Rattle.client_rules.specs.Steps.{all_due, writes_nothing, resent}
-use Rattle.world_history.specs.ClientNames.{Client, Call, CallOp, Held, Awaited, Request, Recall, Reply, Need, First, Get, Commit, Report, Close, Phase, Starts, Needs, Waits, Reads, Probes, Gathers, Scatters, Turn, Why, Done}
-use Rattle.move_law.specs.Turns.{IsReplied, IsTimed, IsAnswered, with_start, TurnCases}
+use Rattle.client_rules.specs.Steps.{all_due}
+use Rattle.world_history.specs.ClientNames.{Client, Call, CallOp, Held, Awaited, Reply, Need, First, Get, Commit, Report, Close, Phase, Starts, Needs, Waits, Reads, Probes, Gathers, Scatters, Turn, Why, Done}
+use Rattle.move_law.specs.Turns.{IsReplied, IsTimed, with_start, TurnCases}
 use Rattle.move_law.proofs.Turns.{each_turn}
-use Rattle.relation_law.specs.Requests.{Works, WorksCall, IsAsBefore, Turned, NothingAsked, OneAsked, HasTurned}
+use Rattle.relation_law.specs.Requests.{Works, WorksCall, Turned, NothingAsked, HasTurned}
 use Rattle.relation_law.proofs.RequestsMoves.{replied_works, timed_out_works}
 use Rattle.relation_law.proofs.RequestsTurns.{turn_stays, moved_turned, finished_turned, quiet_turned}
 
 -- ---- a phase that awaits a command waits for no answer
 
-found_works : (f : Awaited → Bool) (p : Phase) (a : Awaited) → find f (awaited_in p) ≡ Some a → Works p
+pub found_works : (f : Awaited → Bool) (p : Phase) (a : Awaited) → find f (awaited_in p) ≡ Some a → Works p
 found_works f (Waits n) a is = absurd (cc is)
 found_works f Starts a is = refl
 found_works f (Needs n) a is = refl
@@ -34,7 +33,7 @@ found_works f (Probes io) a is = refl
 found_works f (Gathers io) a is = refl
 found_works f (Scatters io queue) a is = refl
 
-awaits_works : (k : ℕ) (p : Phase) (a : Awaited) (xs : List Awaited) → of_component k (awaited_in p) ≡ a ∷ xs → Works p
+pub awaits_works : (k : ℕ) (p : Phase) (a : Awaited) (xs : List Awaited) → of_component k (awaited_in p) ≡ a ∷ xs → Works p
 unfolding of_component
 awaits_works k (Waits n) a xs is = absurd (cc is)
 awaits_works k Starts a xs is = refl

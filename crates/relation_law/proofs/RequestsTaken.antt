@@ -1,5 +1,5 @@
 -- An answer is taken: the machine's client waits for nothing then.
-use Rattle.std.proofs.Common.{◌≡◌, ◌==◌, ℕ, Bool, true, false, List, [], ◌∷◌, ◌++◌, Option, Some, None, refl, sym, ap, subst, ◌∙◌, inl, inr, if◌then◌else◌}
+use Rattle.std.proofs.Common.{◌≡◌, ◌==◌, ℕ, Bool, true, false, [], ◌∷◌, Option, Some, None, refl, sym, ap, subst, ◌∙◌, inl, inr, if◌then◌else◌}
 use Rattle.std.proofs.lemmas.Bool.{cases_eq, eq-eqb, ne_eqb}
 use Rattle.data_map.specs.declared.check.RawMap.{RawMap}
 use Rattle.osd_lists.specs.declared.node.Node.{Node}
@@ -8,21 +8,19 @@ use Rattle.layout_ops.specs.declared.args.Args.{Args}
 use Rattle.layout_ops.specs.declared.args.Args.TheVariants as args
 use Rattle.layout_ops.specs.declared.statuses.TheConstants.{NFS4_OK}
 use Rattle.layout_ops.specs.declared.messages.Answer.{Answer}
-use Rattle.server_rules.specs.Slots.{slot_of}
 use Rattle.server_rules.specs.Laws.{last_of}
 use Rattle.client_rules.specs.Answers.{is_loss_taken}
-use Rattle.client_rules.specs.Messages.{Message, Replies, Answers, Recalls, Taken, TakesAnswer, TakesReply, TakesRecall, takes, answer_taken, reply_taken, awaited_of, is_awaited}
-use Rattle.client_rules.specs.Replies.{answers}
+use Rattle.client_rules.specs.Messages.{Message, Replies, Answers, Recalls, TakesAnswer, TakesRecall, takes, answer_taken}
 use Rattle.client_rules.specs.Results.{status_of}
 use Rattle.world_history.specs.ServerNames.{Slot}
-use Rattle.world_history.specs.ClientNames.{Client, Request, Phase, Awaited, Reply, Recall}
+use Rattle.world_history.specs.ClientNames.{Client, Request, Phase, Recall}
 use Rattle.fence_law.specs.State.{State, Grant, RequestKind}
 use Rattle.fence_law.specs.State.{Event as event}
 use Rattle.fence_law.specs.Machine.{after, after_all}
 use Rattle.fence_law.proofs.Words.{updated_same}
 use Rattle.exchange_law.proofs.LatestLaw.{reply_never}
 use Rattle.file_simulation.specs.EventLists.{entry_of}
-use Rattle.file_simulation.specs.Requests.{RequestClass, Own, Other, phase_of, return_class, class_by, class_of, kept_by, IsWaiting, IsAway, ClassIs, AwaitsNothing, IsOutstanding}
+use Rattle.file_simulation.specs.Requests.{RequestClass, Own, Other, phase_of, return_class, class_by, class_of, kept_by, ClassIs, IsOutstanding}
 use Rattle.file_simulation.specs.ClientEvents as table
 use Rattle.relation_law.specs.Requests.{HasRested}
 

@@ -1,23 +1,16 @@
 -- What a turn of a client asks: nothing, or one request with the next number.
-use Rattle.std.proofs.Common.{◌≡◌, ◌⊎◌, ◌≢◌, ℕ, Bool, true, false, List, [], ◌∷◌, ◌++◌, Option, Some, None, Result, Ok, Err, find, refl, sym, ap, subst, ◌∙◌, inl, inr, if◌then◌else◌}
+use Rattle.std.proofs.Common.{◌≡◌, ℕ, true, List, [], ◌∷◌, ◌++◌, Option, Some, None, refl, sym, ap, subst, ◌∙◌, inl, inr}
 use Rattle.layout_ops.specs.declared.args.Args.{Args}
-use Rattle.layout_ops.specs.declared.messages.Answer.{Answer}
-use Rattle.osd_lists.specs.declared.node.Node.{Node}
 use Rattle.client_rules.specs.Calls.{file_of}
-use Rattle.client_rules.specs.Commands.{of_component}
-use Rattle.client_rules.specs.Going.{quiet, moved, phased, by_turn, over, forgotten, begins, begun, progressed, asks_under, returns, requests, due_behind, request_of, after_number}
+use Rattle.client_rules.specs.Going.{quiet, moved, phased, by_turn, begins, begun, progressed, asks_under, returns, requests, due_behind, request_of, after_number}
 use Rattle.client_rules.specs.Grants.{covers, held_of, put_held}
-use Rattle.client_rules.specs.History.{Input, Calls, Hears, TimesOut, Leaves, Resends, step}
-use Rattle.client_rules.specs.Io.{awaited_in}
-use Rattle.client_rules.specs.Messages.{Step, Message, Taken, TakesAnswer, takes, finished, closed, still, on_call, obeys, no_match, hears}
-use Rattle.client_rules.specs.Replies.{answers, replied, timed_out}
+use Rattle.client_rules.specs.Messages.{finished}
 use Rattle.client_rules.specs.Requests.{args_of, get_args, return_args}
-use Rattle.client_rules.specs.Steps.{all_due}
-use Rattle.world_history.specs.ClientNames.{Client, Call, CallOp, Held, Due, Awaited, Request, Recall, Reply, Need, Phase, Starts, Needs, Waits, Reads, Probes, Gathers, Scatters, Turn, Goes, Ends, Forgets, Moved, WriteOk, Done}
-use Rattle.move_law.specs.Turns.{IsBeginning, IsNeeding, IsReplied, IsTimed, IsAnswered, with_start, TurnCases, FinishCases}
-use Rattle.move_law.proofs.Turns.{each_turn, each_finish}
-use Rattle.relation_law.specs.Requests.{waits_in, Works, WorksCall, IsAsBefore, Turned, NothingAsked, OneAsked, HasTurned}
-use Rattle.relation_law.proofs.RequestsMoves.{WorksTurn, WorksMoved, turn_of, begins_works, replied_works, timed_out_works}
+use Rattle.world_history.specs.ClientNames.{Client, Call, CallOp, Held, Due, Request, Need, Needs, Waits, Turn, Goes, Ends, Forgets, Moved, Done}
+use Rattle.move_law.specs.Turns.{IsBeginning, IsNeeding, FinishCases}
+use Rattle.move_law.proofs.Turns.{each_finish}
+use Rattle.relation_law.specs.Requests.{WorksCall, IsAsBefore, Turned, NothingAsked, OneAsked, HasTurned}
+use Rattle.relation_law.proofs.RequestsMoves.{WorksTurn, WorksMoved, turn_of, begins_works}
 
 -- ---- a call goes on
 

@@ -1,13 +1,13 @@
 -- A turn of a client by cases, with the events of its first line.
-use Rattle.std.specs.Prelude.{◌≡◌, ◌==◌, ℕ, true, false, List, [], ◌∷◌, Option, Some, None, find}
-use Rattle.osd_lists.specs.declared.node.Node.TheVariants.{Drive as FromDrive, Server as FromServer}
+use Rattle.std.specs.Prelude.{◌≡◌, ◌==◌, ℕ, true, List, [], Some, None, find}
+use Rattle.osd_lists.specs.declared.node.Node.TheVariants.{Server as FromServer}
 use Rattle.layout_ops.specs.declared.messages.Answer.{Answer}
 use Rattle.client_rules.specs.Calls.{file_of}
 use Rattle.client_rules.specs.Going.{quiet, moved}
 use Rattle.client_rules.specs.Grants.{held_of}
-use Rattle.client_rules.specs.History.{Input, Calls, Hears, TimesOut, Leaves, Resends}
+use Rattle.client_rules.specs.History.{Input, Calls, Hears, Leaves, Resends}
 use Rattle.client_rules.specs.Io.{awaited_in}
-use Rattle.client_rules.specs.Messages.{Step, Replies, Recalls, still, finished, on_call, obeys, no_match}
+use Rattle.client_rules.specs.Messages.{Step, Recalls, still, finished, on_call, obeys, no_match}
 use Rattle.client_rules.specs.Replies.{answers, replied, timed_out}
 use Rattle.client_rules.specs.Steps.{writes_nothing, all_due}
 use Rattle.world_history.specs.ClientNames.{Client, Call, CallOp, Held, Awaited, Recall, Reply, WriteOk}

@@ -1,5 +1,5 @@
 -- What the proof that calls go on asks of the world: of a client's requests and of the answers to them.
-use Rattle.std.specs.Prelude.{◌≡◌, ◌⊎◌, ◌==◌, ℕ, true, List, Option, Some, None}
+use Rattle.std.specs.Prelude.{◌≡◌, ◌⊎◌, ◌==◌, ℕ, true, List, Some, None}
 use Rattle.layout_ops.specs.declared.args.Args.{Args}
 use Rattle.layout_ops.specs.declared.args.Args.TheVariants as args
 use Rattle.layout_ops.specs.declared.messages.Answer.{Answer}
@@ -7,7 +7,7 @@ use Rattle.layout_ops.specs.declared.statuses.TheConstants.{NFS4_OK, NFS4ERR_BAD
 use Rattle.client_rules.specs.Calls.{file_of}
 use Rattle.client_rules.specs.Grants.{held_of}
 use Rattle.client_rules.specs.Results.{status_of}
-use Rattle.world_history.specs.ClientNames.{Client, CallOp, Request, TimedOut, IoErr, Need, First, Get, Commit, Report, Close, Needs, Waits, Outcome}
+use Rattle.world_history.specs.ClientNames.{Client, CallOp, Request, TimedOut, IoErr, Need, Get, Commit, Report, Close, Needs, Waits, Outcome}
 use Rattle.fence_law.specs.State.{State}
 use Rattle.file_simulation.specs.Calls.{IsIdle}
 use Rattle.relation_law.specs.CallsTurns.{NeedHas, OutcomeIs}

@@ -2,7 +2,7 @@
 use Rattle.std.specs.Prelude.{◌≡◌, ℕ, ◌<◌, ◌≤◌, true, List, [], ◌∷◌, Some}
 use Rattle.fence_law.specs.Words.{In as InRun}
 use Rattle.fence_law.specs.State.{State, Grant, Event}
-use Rattle.fence_law.specs.State.Event.{Asks, Grants, Takes, AsksOther, TakesOther, GivesBack, Reports, Forgets, StartsWrite, Sends, Learns, Acknowledges, Breaks, StartsRead, Answers, EndsRead, Leaves, AsksCommit, Commits, RefusesCommit, TakesCommit, TakesRefusal}
+use Rattle.fence_law.specs.State.Event.{Asks, Grants, Takes, AsksOther, GivesBack, Reports, Forgets, StartsWrite, Sends, Learns, Acknowledges, Breaks, StartsRead, Answers, EndsRead, Leaves, AsksCommit, Commits, RefusesCommit, TakesCommit, TakesRefusal}
 use Rattle.fence_law.specs.Machine.{after}
 use Rattle.file_simulation.specs.EventLists.{write_of}
 

@@ -1,5 +1,5 @@
 -- What the machine has of a client in the middle of its turn: behind the first line of the turn, and before what it sends.
-use Rattle.std.specs.Prelude.{◌≡◌, ◌⊎◌, ◌==◌, ◌++◌, ◌*◌, ◌<◌, ◌≤◌, ◌+◌, ℕ, Bool, true, false, List, [], ◌∷◌, map, Option, Some, None}
+use Rattle.std.specs.Prelude.{◌≡◌, ◌⊎◌, ◌==◌, ◌++◌, ◌*◌, ◌<◌, ◌≤◌, ◌+◌, ℕ, Bool, true, false, List, [], map, Option, Some, None}
 use Rattle.data_map.specs.declared.check.RawMap.{RawMap}
 use Rattle.layout_ops.specs.declared.messages.Answer.{Answer}
 use Rattle.server_rules.specs.Laws.{In}
@@ -13,7 +13,7 @@ use Rattle.client_rules.specs.Io.{outs}
 use Rattle.client_rules.specs.Replies.{timed_after}
 use Rattle.client_rules.specs.Writes.{is_too_short}
 use Rattle.stripe_plan.specs.Plans.{stores}
-use Rattle.world_history.specs.ClientNames.{Client, Call, CallOp, Held, Awaited, TimedOut, Store, Io, Need, First, Get, Column, Moved, Phase, Starts, Needs, Waits, Reads, Probes, Gathers, Scatters, Outcome, WriteOk, ReadOk, Turn, Goes, Ends, Forgets, Done}
+use Rattle.world_history.specs.ClientNames.{Call, CallOp, Held, Awaited, TimedOut, Store, Io, Need, First, Get, Column, Moved, Phase, Starts, Needs, Waits, Reads, Probes, Gathers, Scatters, Outcome, WriteOk, ReadOk, Turn, Goes, Ends, Forgets, Done}
 use Rattle.fence_law.specs.State as machine
 use Rattle.fence_law.specs.State.{State}
 use Rattle.fence_law.specs.State.Commit.{NoCommit}

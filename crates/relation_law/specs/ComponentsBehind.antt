@@ -1,5 +1,5 @@
 -- What the components' part needs of the world and of the jobs behind a step of the server.
-use Rattle.std.specs.Prelude.{◌≡◌, ◌⊎◌, ℕ, ◌≤◌, ◌<◌, false, List, [], length, slice_get, Some, None}
+use Rattle.std.specs.Prelude.{◌≡◌, ◌⊎◌, ℕ, ◌<◌, false, List, [], slice_get, Some, None}
 use Rattle.osd_objects.specs.declared.lanes.LaneEntry.{LaneEntry}
 use Rattle.osd_objects.specs.Store.{lane_or_none}
 use Rattle.scenario_text.specs.declared.names.TheConstants.{CLIENTS}

@@ -1,8 +1,8 @@
 -- What the components' part needs of the world at a move, by whom the move is of. Each fact says which law gives it.
-use Rattle.std.specs.Prelude.{◌≡◌, ◌==◌, ℕ, ◌<◌, ◌≤◌, true, false, List, length, slice_get, find, is_some, Some}
+use Rattle.std.specs.Prelude.{◌≡◌, ◌⊎◌, ◌==◌, ℕ, ◌<◌, ◌≤◌, true, false, length, slice_get, find, is_some, Some}
 use Rattle.osd_lists.specs.declared.node.Node.TheVariants as node
+use Rattle.osd_commands.specs.declared.actions.Action.TheVariants.{SetTag}
 use Rattle.osd_commands.specs.declared.commands.Command.{Command}
-use Rattle.server_rules.specs.Files.{file_at}
 use Rattle.server_rules.specs.History.{Input, Hears, Obeys}
 use Rattle.server_rules.specs.Laws.{In}
 use Rattle.server_rules.specs.Messages.{Orders}
@@ -19,8 +19,9 @@ use Rattle.scenario_text.specs.declared.names.TheConstants.{CLIENTS}
 use Rattle.fence_law.specs.State.{State}
 use Rattle.fence_law.specs.Words.{In as InRun}
 use Rattle.file_simulation.specs.Components.{has_failed, object_of}
-use Rattle.file_simulation.specs.Messages.{AreSent}
-use Rattle.relation_law.specs.DriveHearing.{IsLaidOut, AreFirst, AwaitedAreSent, AreOfSenders, WereSent, DifferByNonce}
+use Rattle.sent_law.specs.Tagged.{fence_open}
+use Rattle.file_simulation.specs.Messages.{AreSent, HasCommanded}
+use Rattle.relation_law.specs.DriveHearing.{AreFirst, AreOfSenders, WereSent, DifferByNonce}
 use Rattle.relation_law.specs.ComponentsBehind.{AreUnready}
 
 -- ---- a client's move
@@ -72,3 +73,28 @@ AreReplied s w f =
     (c k : ℕ) (at : Component) (l : LaneEntry) → c < CLIENTS → slice_get f.kept.components k ≡ Some at →
     s.lost k ≡ false → lane_or_none (object_of w at) c ≡ Some l →
     InRun (record { holder = c; nonce = l.nonce; at = k }) s.replies
+
+-- ---- SET TAGs
+
+-- A SET TAG is under no earlier tag than the file's first, and under the present one only while a fence is open.
+pub record IsRaising (f : File) (tag : ℕ) : Type 0 where
+  pub low : f.kept.first_tag ≤ tag
+  pub high : (tag ≤ f.kept.tag) × ((tag < f.kept.tag) ⊎ (fence_open f.kept ≡ true))
+
+-- so is each that the server sent to an object of the file (`sent_law::no_command_is_ahead`)
+abbrev pub AreRaising : World → File → Type 0
+AreRaising w f =
+    (d k : ℕ) (x : Command) (at : Component) → HasCommanded w d x → x.action ≡ SetTag →
+    slice_get f.kept.components k ≡ Some at → x.object ≡ at.object → IsRaising f x.capability.tag
+
+-- none is under an earlier tag than the file's first; no law says it yet
+abbrev pub NoneIsEarlier : World → File → Type 0
+NoneIsEarlier w f =
+    (d k : ℕ) (x : Command) (at : Component) → HasCommanded w d x → x.action ≡ SetTag →
+    slice_get f.kept.components k ≡ Some at → x.object ≡ at.object → f.kept.first_tag ≤ x.capability.tag
+
+-- the machine has each of them (`raised` of `AreSent`)
+abbrev pub AreRaisedIn : State → World → File → Type 0
+AreRaisedIn s w f =
+    (d k : ℕ) (x : Command) (at : Component) → HasCommanded w d x → x.action ≡ SetTag →
+    slice_get f.kept.components k ≡ Some at → x.object ≡ at.object → InRun x.capability.tag s.set_tags

@@ -1,5 +1,5 @@
 -- How the components of a file go on in a step of the server, note by note.
-use Rattle.std.specs.Prelude.{◌≡◌, ℕ, ◌+◌, Bool, true, false, List, [], ◌∷◌, ◌++◌, slice_set, Option, Some, if◌then◌else◌}
+use Rattle.std.specs.Prelude.{◌≡◌, ℕ, ◌+◌, Bool, true, false, List, [], ◌∷◌, ◌++◌, slice_set, if◌then◌else◌}
 use Rattle.server_rules.specs.Numbers.{among}
 use Rattle.server_rules.specs.Standing.{lose_from}
 use Rattle.server_rules.specs.Rebuild.{stands_at}

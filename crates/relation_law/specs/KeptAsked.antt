@@ -1,8 +1,8 @@
 -- What the machine has of what is kept, behind a client's request.
-use Rattle.std.specs.Prelude.{◌≡◌, ℕ, ◌+◌, true, false, List, [], Option, Some, None}
+use Rattle.std.specs.Prelude.{◌≡◌, ℕ, ◌+◌, true, false, List, Option, Some, None}
 use Rattle.server_rules.specs.History.{Input}
-use Rattle.server_rules.specs.Return.{Returned, NoGrant, Clean, Taken}
-use Rattle.world_history.specs.ServerNames.{File, Note}
+use Rattle.server_rules.specs.Return.{Returned, NoGrant, Clean, Taken, return_row}
+use Rattle.world_history.specs.ServerNames.{File, Note, ClientRequest, IoErr, Commit as Commits, Return as Returns}
 use Rattle.world_history.specs.State.{World}
 use Rattle.fence_law.specs.State as machine
 use Rattle.fence_law.specs.State.{State, Event}
@@ -31,3 +31,8 @@ pub data ReturnIs (s : State) (c : ℕ) (row : Returned) : Type 0 where
 abbrev pub CommitIs : State → (c : ℕ) → Option ℕ → Type 0
 CommitIs s c None = Unit {0}
 CommitIs s c (Some last) = last + 1 ≡ (s.start (entry_of s c)).end_
+
+-- what the machine has of a request on the file, in the parts of calls and of requests
+pub record AsksRightly (s : State) (f : File) (q : ClientRequest) : Type 0 where
+  pub commits : (last : Option ℕ) → q.args ≡ Commits last → CommitIs s q.client last
+  pub returns : (report : List IoErr) → q.args ≡ Returns report → ReturnIs s q.client (return_row f.kept q.client report)

@@ -1,5 +1,5 @@
 -- What a LAYOUTGET comes to, for what the machine has of what is kept.
-use Rattle.std.specs.Prelude.{◌≡◌, ℕ, ◌+◌, ◌==◌, Bool, true, false, not, None, Some}
+use Rattle.std.specs.Prelude.{◌≡◌, ℕ, ◌==◌, Bool, false, None}
 use Rattle.layout_ops.specs.declared.statuses.TheConstants.{NFS4_OK}
 use Rattle.client_rules.specs.Results.{status_of}
 use Rattle.server_rules.specs.Answers.{result_of}

@@ -1,5 +1,5 @@
 -- When the server can give a grant on a file, by what it keeps of it.
-use Rattle.std.specs.Prelude.{◌≡◌, ℕ, true, List, [], ◌∷◌, ◌++◌, find, None}
+use Rattle.std.specs.Prelude.{◌≡◌, ℕ, true, [], ◌∷◌, ◌++◌, find, None}
 use Rattle.server_rules.specs.Get.{high_after}
 use Rattle.server_rules.specs.Grants.{conflicts, grant_of}
 use Rattle.world_history.specs.ServerNames.{Kept, Grant, Still}

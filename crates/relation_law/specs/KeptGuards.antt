@@ -1,14 +1,12 @@
 -- What the guards of the server's events need besides what the machine has of what is kept.
-use Rattle.std.specs.Prelude.{◌≡◌, ℕ, true, false}
+use Rattle.std.specs.Prelude.{◌≡◌, ℕ, true}
 use Rattle.data_map.specs.Check.{IsChecked}
 use Rattle.data_map.specs.declared.check.RawMap.{RawMap}
 use Rattle.world_history.specs.ServerNames.{Kept}
 use Rattle.fence_law.specs.State.{State}
-use Rattle.fence_law.specs.Columns.{Short, Stands}
+use Rattle.fence_law.specs.Columns.{Short}
 use Rattle.plan_law.specs.FileLayout.{layout_of}
 use Rattle.plan_law.specs.Standing.{column_stands}
-use Rattle.file_simulation.specs.Jobs.{AreDone}
-use Rattle.relation_law.specs.KeptSteps.{core}
 
 -- A column of which each position has a replica that isn't lost isn't short. This is a statement.
 abbrev pub StandingColumnsAreNotShort : Type 0

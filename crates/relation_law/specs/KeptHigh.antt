@@ -1,11 +1,10 @@
 -- How high grants reach, event by event.
-use Rattle.std.specs.Prelude.{◌≡◌, ℕ, ◌<◌, Bool, true, false, Some, None}
+use Rattle.std.specs.Prelude.{◌≡◌, ℕ, ◌<◌, true, false, Some, None}
 use Rattle.world_history.specs.ServerNames.{File, Kept}
 use Rattle.fence_law.specs.State.{State, Event, Grant}
 use Rattle.fence_law.specs.State.Event.{Grants, Fenced}
-use Rattle.fence_law.specs.Machine.{Allowed, after}
 use Rattle.plan_law.specs.FileLayout.{stripe_of_column}
-use Rattle.file_simulation.specs.Phases.{AreBelowHigh, IsEndedAt}
+use Rattle.file_simulation.specs.Phases.{IsEndedAt}
 
 -- a file of which no more is said than what is kept
 abbrev pub as_file : Kept → File

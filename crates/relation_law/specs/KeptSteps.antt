@@ -1,5 +1,5 @@
 -- What the machine has of a file in the middle of a step of the server.
-use Rattle.std.specs.Prelude.{◌≡◌, ℕ, ◌≤◌, Bool, true, false, List, [], ◌∷◌, ◌++◌, None}
+use Rattle.std.specs.Prelude.{◌≡◌, ℕ, ◌≤◌, Bool, true, false, List, [], ◌∷◌, ◌++◌}
 use Rattle.osd_lists.specs.declared.node.Node.TheVariants.{Server as FromServer}
 use Rattle.server_rules.specs.Going.{Going}
 use Rattle.server_rules.specs.History.{Input, Hears, Obeys, Opens}

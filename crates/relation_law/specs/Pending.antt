@@ -1,5 +1,5 @@
 -- The calls that are pending by the lines of a history are those of the clients of the world.
-use Rattle.std.specs.Prelude.{◌≡◌, ℕ, true, List, Option, Some, None, option_map}
+use Rattle.std.specs.Prelude.{◌≡◌, ℕ, true, List, Option, Some, option_map}
 use Rattle.scenario_text.specs.declared.line.Line.{Line}
 use Rattle.client_rules.specs.History.{Input, step}
 use Rattle.world_history.specs.ClientNames.{CallOp, Outcome}

@@ -1,9 +1,7 @@
 -- The requests of clients: what a turn of a client asks, and which events touch what the machine has of them.
-use Rattle.std.specs.Prelude.{◌≡◌, ◌⊎◌, ◌≢◌, ◌+◌, ℕ, ◌<◌, Bool, true, false, List, [], ◌∷◌, Option, Some, None}
+use Rattle.std.specs.Prelude.{◌≡◌, ◌⊎◌, ◌+◌, ℕ, Bool, true, false, List, [], ◌∷◌, Option, Some, None}
 use Rattle.layout_ops.specs.declared.args.Args.{Args}
 use Rattle.layout_ops.specs.declared.args.Args.TheVariants as args
-use Rattle.scenario_text.specs.declared.line.Line.{Line}
-use Rattle.scenario_text.specs.declared.names.TheConstants.{CLIENTS}
 use Rattle.client_rules.specs.Going.{after_number}
 use Rattle.client_rules.specs.Messages.{Step, sends_of}
 use Rattle.world_history.specs.ClientNames.{Client, Call, Done, Phase, Request, Waits}

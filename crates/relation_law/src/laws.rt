@@ -1,10 +1,11 @@
 // What is proved on the way to the induction over the moves of a calm history.
 ghost use Rattle.file_simulation.specs.Conclusion.{FilesAreShaped};
+ghost use Rattle.relation_law.specs.KeptFollows.{KeptFollows};
 ghost use Rattle.relation_law.specs.Pending.{PendingIfTold};
 ghost use Rattle.relation_law.specs.RequestsGoing.{RequestsFollow};
 
 use ending_law::files_and_answers_are_readable;
-use exchange_law::{answers_are_own, clients_agree, clients_are_in_step};
+use exchange_law::{answers_are_own, clients_agree, clients_are_in_step, counters_stay_low};
 use world_history::one_event_more;
 
 /// Each file that is read off the lines of a history, also where it is cut inside a step, has a map that can be used, and
@@ -32,4 +33,17 @@ pub fn requests_go_on()
     clients_agree();
     files_and_answers_are_readable();
     answers_are_own();
+}
+
+/// What the server keeps of a file, and how high its grants reach, is as the machine has it behind each move of a calm
+/// history. One thing is asked: that the machine has of each return on the file that the server carries out what the row
+/// that applies needs.
+pub fn kept_goes_on()
+    ensures { KeptFollows }
+{
+    one_event_more();
+    counters_stay_low();
+    files_and_answers_are_readable();
+    clients_are_in_step();
+    clients_agree();
 }

@@ -10,4 +10,4 @@
 
 mod laws;
 
-pub use laws::{calls_are_pending, files_are_shaped, requests_go_on};
+pub use laws::{calls_are_pending, files_are_shaped, kept_goes_on, requests_go_on};

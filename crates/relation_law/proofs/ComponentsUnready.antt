@@ -1,0 +1,53 @@
+-- The object of a component that isn't lost is there, or its file isn't ready and makes it, or was cut off while it did.
+-- Towards `ComponentsGoOn` (`specs/Steps.antt`).
+use Rattle.std.proofs.Common.{◌≡◌, ◌||◌, ℕ, Bool, true, false, slice_get, Some, None, refl, inl, inr}
+use Rattle.std.proofs.lemmas.Bool.{cases_Bool}
+use Rattle.world_history.specs.ServerNames.{File, Component}
+use Rattle.world_history.specs.State.{World, at_number}
+use Rattle.job_law.specs.Fencing.{Reached}
+use Rattle.sent_law.specs.Standing.{StandsBy, IsSettled, IsStanding, IsLeft}
+use Rattle.file_simulation.specs.Components.{has_failed, object_on, object_of}
+use Rattle.relation_law.specs.ComponentsBehind.{IsUnready, AreUnready}
+use Rattle.relation_law.proofs.DriveMoves.{got_in}
+
+-- what was reached is there
+abbrev pub ReachedAreThere : Reached → World → Type 0
+ReachedAreThere R v = (d o tag : ℕ) → R d o tag ≡ true → object_on (at_number v.drives d) o ≡ None → ⊥
+
+unless_missing : (a b : Bool) → (a || b) ≡ false → a ≡ false
+unless_missing true b e = absurd (cc e)
+unless_missing false b e = refl
+
+module _ (R : Reached) (v : World) (g : File) (there : ReachedAreThere R v) (k : ℕ) (at : Component)
+    (found : slice_get g.kept.components k ≡ Some at) (present : at.missing ≡ false) (none : object_of v at ≡ None) where
+  unready : (is : IsSettled R g) → g.kept.ready ≡ false
+  unready is = elim (cases_Bool g.kept.ready) [
+    | inl made ↦ absurd (there at.drive at.object g.kept.tag (is.made made at (got_in g.kept.components k at found) present) none)
+    | inr unmade ↦ unmade
+  ]
+
+  pub left : IsLeft R g → IsUnready g at
+  left is =
+      let unmade = unready is.settled in
+      record { unready = unmade; ungranted = (is.settled.unmade unmade).0; due = inr is.quiet }
+
+  pub standing : IsStanding R g → IsUnready g at
+  standing is =
+      let unmade = unready is.settled in
+      record {
+        unready = unmade;
+        ungranted = (is.settled.unmade unmade).0;
+        due = elim (is.each at (got_in g.kept.components k at found) present) [
+          | inl creates ↦ inl creates
+          | inr reached ↦ absurd (there at.drive at.object g.kept.tag reached none)
+        ];
+      }
+
+  pub by_down : (down : Bool) → StandsBy down R g → IsUnready g at
+  by_down true is = left is
+  by_down false is = standing is
+
+-- so it is of a file that stands as its server has it
+pub are_unready : (R : Reached) (v : World) (g : File) → StandsBy v.down R g → ReachedAreThere R v → AreUnready v g
+are_unready R v g is there k at found lost none =
+    by_down R v g there k at found (unless_missing at.missing (has_failed (at_number v.drives at.drive)) lost) none v.down is
