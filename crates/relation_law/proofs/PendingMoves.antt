@@ -19,10 +19,10 @@ use Rattle.server_rules.specs.History as server
 use Rattle.client_rules.specs.Steps.{new_client, calls}
 use Rattle.client_rules.specs.History.{Input, Calls as Called, Hears, TimesOut as Times, Leaves, Resends, unless_refused, step}
 use Rattle.world_history.specs.ServerNames.{Note}
-use Rattle.world_history.specs.ClientNames.{Client, CallOp, CallErr}
+use Rattle.world_history.specs.ClientNames.{Client, CallOp, CallErr, Outcome}
 use Rattle.world_history.specs.declared.messages.Posted.{Posted}
 use Rattle.world_history.specs.State.{World, ClientAt, at_number, with_client, with_drive}
-use Rattle.world_history.specs.Names.{is_tellable_note, where_known, note_line, known_note_line}
+use Rattle.world_history.specs.Names.{is_tellable, is_tellable_note, where_known, note_line, known_note_line}
 use Rattle.world_history.specs.Drives.{judges, command_in}
 use Rattle.world_history.specs.Handed.{Post, Handed, pending_op, op_in, wrote_in, is_write_out, ended_by, server_did, client_did, drive_replies}
 use Rattle.world_history.specs.Moves.{Act, Action, Opens, Delivers, TimesOut, Pends, acts, begins, calls_at, by_client, called, op_of, changed, told_delivered, judged_at, known_drive, adds_client}
@@ -127,8 +127,10 @@ opening_allowed w h k e d = allowed_by k.before w k.event e k.moves k.world_is k
 
 -- ---- a move
 
-module _ (told : OutcomesAreTold) (w : World) (h : List Line) (k : IsMoment w h) (m : Move)
-    (d : due (plan_at k) w ≡ Some m.action) (before : Agree w (log_in h).pending) where
+-- of which a line can tell each outcome
+module _ (w : World) (h : List Line) (k : IsMoment w h) (m : Move) (d : due (plan_at k) w ≡ Some m.action)
+    (told : (c : ℕ) (a : ClientAt) → at_number w.clients c ≡ Some a → (i : Input) → IsForClient w m.action c a i
+    → (o : Outcome) → (step a.state i).outcome ≡ Some o → is_tellable o ≡ true) (before : Agree w (log_in h).pending) where
   abbrev l : Log
   l = log_in h
 
@@ -181,7 +183,7 @@ module _ (told : OutcomesAreTold) (w : World) (h : List Line) (k : IsMoment w h)
       (going_agrees (with_marks w ms) c a b found l (pending_op a.state) (step a.state i).outcome (but ms c a found)
       (subst (λ (x : Client). EndsAs (pending_op a.state) (step a.state i).outcome x.call) (sym state)
       (turn_ends a.state i op.1))
-      (λ o e. told w h k m d c a found i is o e)))
+      (λ o e. told c a found i is o e)))
 
   no_call : NoCall m.action → Tells m.action (acts w m.chosen m.action)
   no_call n = each_act w m.chosen (Tells m.action) m.action (record {
@@ -240,7 +242,7 @@ module _ (told : OutcomesAreTold) (w : World) (h : List Line) (k : IsMoment w h)
         (Some (op_of x)) s.outcome
         (called_agrees w l c a found x before s r)
         (calls_end a.state (op_of x) s r)
-        (λ o out. told w h k m d c a found (Called (op_of x)) (ap asked_in is ∙ asks) o
+        (λ o out. told c a found (Called (op_of x)) (ap asked_in is ∙ asks) o
         (ap (λ (q : Result ClientStep CallErr). (unless_refused a.state q).outcome) r ∙ out))
 
     at_client_told : (o : Option ClientAt) → at_number w.clients c ≡ o → unless_stopped o ≡ None →
@@ -298,5 +300,5 @@ pub calls_are_pending : OutcomesAreTold → OneEventMore → CallsArePending
 calls_are_pending told more w h at =
     (always (λ w h. Agree w (log_in h).pending) (record {
       starts = (tt, λ c. refl);
-      moves = λ v g k m d x. move_agrees told v g k m d x;
+      moves = λ v g k m d x. move_agrees v g k m d (told v g k m d) x;
     }) more w h at).1
