@@ -43,7 +43,8 @@ use Rattle.relation_law.proofs.FramesStay.{all_joined, server_stays_all}
 use Rattle.relation_law.proofs.FramesParties.{by_client_lines, by_drive_lines, client_goes, server_alone, server_rests, server_steps, drive_quiet}
 use Rattle.relation_law.proofs.ComponentsClients.{client_components, sends_above}
 use Rattle.relation_law.proofs.ComponentsMachine.{right_run, single_run}
-use Rattle.relation_law.proofs.ComponentsMoves.{joined_led, none_joined, joined_more, step_components, step_replied}
+use Rattle.relation_law.proofs.RequestsMoments.{joined_led}
+use Rattle.relation_law.proofs.ComponentsMoves.{none_joined, joined_more, step_components, step_replied}
 use Rattle.relation_law.proofs.DriveAlike.{server_move_alike}
 use Rattle.relation_law.proofs.DriveMoves.{drives_go}
 use Rattle.relation_law.proofs.DrivePerformed.{GoWell, IsReady}

@@ -42,16 +42,6 @@ use Rattle.relation_law.proofs.DriveStays.{IsAlike}
 
 -- ---- lists
 
-pub joined_led : (a : moves.Action) (lines : Lines) → joined (led_by a lines) ≡ joined lines
-joined_led (moves.Opens e) lines = either (leads e)
-  where
-    either : (b : Bool) → joined (if b then [] ∷ lines else lines) ≡ joined lines
-    either true = refl
-    either false = refl
-joined_led (moves.Delivers n) lines = refl
-joined_led (moves.TimesOut c k) lines = refl
-joined_led (moves.Pends c) lines = refl
-
 abbrev Never : Event → Type 0
 Never e = ⊥
 

@@ -35,26 +35,13 @@ use Rattle.world_history.specs.State.{World}
 use Rattle.fence_law.specs.State.{State}
 use Rattle.file_simulation.specs.ServerEvents as table
 use Rattle.relation_law.specs.ComponentsWalk.{is_silent, IsPlain, IsWalked, TakesReports}
+use Rattle.relation_law.proofs.KeptServer.{at_place}
 use Rattle.relation_law.proofs.ComponentsJobs.{own_hears, own_fence, own_declares, own_opens, own_making}
 use Rattle.relation_law.proofs.ComponentsServes.{own_serves}
 use Rattle.relation_law.proofs.ComponentsNotes.{AreTold, told_walked}
 use Rattle.relation_law.proofs.ComponentsReports.{Alone, alone_walked, alone_reports, alone_first, quiet_told, takes_reports}
 
 -- ---- places
-
--- where no two files have one number, each is found under its own
-at_place : (fs : List File) (x : File) → AreDistinct fs → In x fs → file_at fs x.kept.number ≡ Some x
-unfolding file_at
-at_place [] x d i = absurd i
-at_place (y ∷ fs) x d (inl e) = rw (e, eq-eqb y.kept.number y.kept.number refl) refl
-at_place (y ∷ fs) x d (inr i) =
-    rw (ne_eqb y.kept.number x.kept.number (λ e. absurd (none_of fs x y.kept.number d.0 i (sym e)))) (at_place fs x d.1 i)
-  where
-    none_of : (gs : List File) (z : File) (n : ℕ) → Each (λ (g : File). g.kept.number ≡ n → ⊥) gs → In z gs
-        → z.kept.number ≡ n → ⊥
-    none_of [] z n e j is = absurd j
-    none_of (g ∷ gs) z n e (inl same) is = e.0 (sym (ap (λ (v : File). v.kept.number) same) ∙ is)
-    none_of (g ∷ gs) z n e (inr j) is = none_of gs z n e.1 j is
 
 -- what a rebuild makes anew is missing, of each file
 abbrev pub AreAimed : List File → Type 0

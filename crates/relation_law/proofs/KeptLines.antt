@@ -28,16 +28,6 @@ pub joined_both : (x y : Lines) → joined (x ++ y) ≡ joined x ++ joined y
 joined_both [] y = refl
 joined_both (es ∷ x) y = ap (λ (l : List Event). es ++ l) (joined_both x y) ∙ sym (append_assoc es (joined x) (joined y))
 
-pub joined_led : (a : moves.Action) (x : Lines) → joined (led_by a x) ≡ joined x
-joined_led (moves.Opens e) x = by (leads e)
-  where
-    by : (b : Bool) → joined (if b then [] ∷ x else x) ≡ joined x
-    by true = refl
-    by false = refl
-joined_led (moves.Delivers number) x = refl
-joined_led (moves.TimesOut c k) x = refl
-joined_led (moves.Pends c) x = refl
-
 abbrev pub NoEvent : Event → Type 0
 NoEvent e = ⊥
 

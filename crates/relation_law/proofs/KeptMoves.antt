@@ -23,7 +23,8 @@ use Rattle.relation_law.specs.KeptSteps.{is_light, AllLight, notes_events, behin
 use Rattle.relation_law.proofs.FramesParties.{client_alone, server_alone, by_client_lines, by_drive_lines, drive_quiet, server_rests}
 use Rattle.relation_law.proofs.FramesStay.{all_joined}
 use Rattle.relation_law.proofs.KeptInputs.{IsNoRequest, IsIdleAt, FitsAt, no_request_goes}
-use Rattle.relation_law.proofs.KeptLines.{joined_both, joined_led, joined_never, plain_joined}
+use Rattle.relation_law.proofs.KeptLines.{joined_both, joined_never, plain_joined}
+use Rattle.relation_law.proofs.RequestsMoments.{joined_led}
 use Rattle.relation_law.proofs.KeptNotes.{lawful_supplies, after_both, lawful_front, lawful_back}
 use Rattle.relation_law.proofs.KeptServer.{IsReady, light_kept}
 

@@ -66,7 +66,7 @@ light_first f Crashes = tt
 
 -- ---- places in the list of files
 
-at_place : (fs : List File) (x : File) → AreDistinct fs → In x fs → file_at fs x.kept.number ≡ Some x
+pub at_place : (fs : List File) (x : File) → AreDistinct fs → In x fs → file_at fs x.kept.number ≡ Some x
 unfolding file_at
 at_place [] x d i = absurd i
 at_place (y ∷ fs) x d (inl e) = rw (e, eq-eqb y.kept.number y.kept.number refl) refl
