@@ -1,6 +1,6 @@
 -- Each whole move keeps what the machine has of the components.
 -- Towards `ComponentsGoOn` (`specs/Steps.antt`).
-use Rattle.std.proofs.Common.{◌≡◌, ◌==◌, ◌++◌, ℕ, ◌+◌, Bool, true, false, List, [], ◌∷◌, slice_get, Some, refl, sym, ap, subst, ◌∙◌, if◌then◌else◌}
+use Rattle.std.proofs.Common.{◌≡◌, ◌==◌, ◌++◌, ℕ, ◌+◌, false, List, [], ◌∷◌, slice_get, Some, refl, sym, ap, subst, ◌∙◌}
 use Rattle.std.specs.Prelude.{find, is_some}
 use Rattle.std.proofs.lemmas.List.{append-nil}
 use Rattle.std.proofs.Common.{append_assoc}
@@ -12,9 +12,7 @@ use Rattle.server_rules.specs.Messages.{Message, Asks, Replies, Orders}
 use Rattle.server_rules.specs.Orders.{offline, ordered}
 use Rattle.world_history.specs.ServerNames.{File, Component, Note, Drive, ToRecall, ToRevoke, ToDeclare, ToRebuild, ToAudit}
 use Rattle.world_history.specs.State.{World}
-use Rattle.world_history.specs.Moves as moves
 use Rattle.world_history.specs.Sending.{sends_all}
-use Rattle.history_law.specs.Read.{leads}
 use Rattle.calm_law.specs.Performing.{AreDistinct}
 use Rattle.fence_law.specs.Words.{In as InRun}
 use Rattle.fence_law.specs.State.{State, Event}
@@ -23,7 +21,7 @@ use Rattle.fence_law.specs.Machine.{after_all}
 use Rattle.fence_law.proofs.Safe.{Safe}
 use Rattle.file_simulation.specs.Components.{AreComponents}
 use Rattle.file_simulation.specs.EventLists.{Lines, where_so}
-use Rattle.file_simulation.specs.Events.{joined, led_by}
+use Rattle.file_simulation.specs.Events.{joined}
 use Rattle.file_simulation.specs.ServerEvents as table
 use Rattle.relation_law.specs.ComponentsBehind.{RebuiltStand}
 use Rattle.relation_law.specs.ComponentsFacts.{IsFair, OfServer, AreReplied}

@@ -1,6 +1,6 @@
 -- The lines of a step of the server as one list of events: those of the first line, of the notes, and of the answer.
 -- Towards `KeptGoesOn` (`specs/Steps.antt`).
-use Rattle.std.proofs.Common.{◌≡◌, ℕ, ◌+◌, Bool, true, false, List, [], ◌∷◌, ◌++◌, Some, refl, sym, ap, ◌∙◌, append_assoc, if◌then◌else◌}
+use Rattle.std.proofs.Common.{◌≡◌, ℕ, ◌+◌, List, [], ◌∷◌, ◌++◌, Some, refl, sym, ap, ◌∙◌, append_assoc}
 use Rattle.std.proofs.lemmas.List.{append-nil}
 use Rattle.layout_ops.specs.declared.messages.Answer.{Answer}
 use Rattle.osd_lists.specs.declared.node.Node.TheVariants.{Server as FromServer, Client as FromClient, Drive as FromDrive}
@@ -10,12 +10,10 @@ use Rattle.server_rules.specs.History.{Input, Hears, Makes, Obeys, Adds, Formats
 use Rattle.server_rules.specs.Messages.{Asks, Replies, Orders}
 use Rattle.world_history.specs.ServerNames.{Server, File, Drive, Grant, Awaited, Note, Outgoing, ToDrive, Recalls, Answers, AnswersOrder}
 use Rattle.world_history.specs.State.{World}
-use Rattle.world_history.specs.Moves as moves
-use Rattle.history_law.specs.Read.{leads}
 use Rattle.fence_law.specs.State.{State, Event}
 use Rattle.fence_law.specs.Machine.{after_all}
 use Rattle.file_simulation.specs.EventLists.{Lines}
-use Rattle.file_simulation.specs.Events.{joined, led_by}
+use Rattle.file_simulation.specs.Events.{joined}
 use Rattle.file_simulation.specs.ServerEvents.{answered_to, sends_all, notes_all, noted, at_first, server_goes}
 use Rattle.relation_law.specs.Frames.{AreAll, LinesAre}
 use Rattle.relation_law.specs.KeptSteps.{notes_events, behind_notes, first_of}
