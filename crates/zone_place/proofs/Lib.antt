@@ -1,0 +1,12 @@
+pub mod Zoning
+pub mod Counting
+pub mod Turns
+pub mod Spreading
+pub mod Placing
+pub mod Lines
+pub mod Firsts
+pub mod Picked
+pub mod Steps
+pub mod Dealt
+pub mod Members
+pub mod Rows

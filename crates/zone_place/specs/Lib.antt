@@ -1,0 +1,5 @@
+pub mod Zones
+pub mod Law
+pub mod Dealing
+pub mod Choosing
+pub mod Picking
