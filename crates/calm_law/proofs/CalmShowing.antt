@@ -1,5 +1,5 @@
 -- Files behind a step.
-use Rattle.std.proofs.Common.{◌≡◌, ◌⊎◌, ℕ, ◌==◌, ◌&&◌, ◌∷◌, [], List, Bool, true, false, Option, Some, None, is_some, map, refl, sym, ap, subst, ◌∙◌, inl, inr, eq-eqb, ne_eqb}
+use Rattle.std.proofs.Common.{◌≡◌, ◌⊎◌, ℕ, ◌==◌, ◌&&◌, ◌∷◌, [], List, true, false, Option, Some, None, is_some, map, refl, sym, ap, subst, ◌∙◌, inl, inr, eq-eqb, ne_eqb}
 use Rattle.std.specs.List.{fold, list_any}
 use Rattle.std.proofs.lemmas.Bool.{cases_Bool, cases_eq, and_parts}
 use Rattle.osd_objects.proofs.Entries.{is_at_other, lookup_inserted, lookup_beside, some_there}
@@ -148,6 +148,7 @@ among_keys (e ∷ es) n h = elim (cases_eq n e.0) [
 may_line : (behind : List File) (kept : KeptOf) → IsKeptOf behind kept → (c : CalmState) (l : Line) (n : ℕ)
     → Either behind c.files (follows kept c l).files n
 may_line behind kept h c (line.Event (event.File f m tag)) n = may_show behind kept h c f n
+may_line behind kept h c (line.Event (event.ZonedFile f m tag)) n = may_show behind kept h c f n
 may_line behind kept h c (line.Event (event.Declare d)) n =
     may_show_all behind kept h c (map (λ (e : ℕ × SeenFile). e.0) c.files.files) n
 may_line behind kept h c (line.Note f (note.Rebuilt k d)) n = may_show behind kept h c f n
@@ -166,6 +167,7 @@ must_line : (behind : List File) (kept : KeptOf) → IsKeptOf behind kept → (c
     (x : Option SeenFile) → at_number c.files.files n ≡ x → shows_file (is_some x) behind n l ≡ true
     → at_number (follows kept c l).files.files n ≡ seen_in (file_at behind n)
 must_line behind kept h c (line.Event (event.File f m tag)) n x e t = here behind kept h c f n t
+must_line behind kept h c (line.Event (event.ZonedFile f m tag)) n x e t = here behind kept h c f n t
 must_line behind kept h c (line.Event (event.Declare d)) n x e t =
     let b : (is_some x ≡ true) × (is_there behind n ≡ true) = and_parts (is_some x) (is_there behind n) t in
     must_show_all behind kept h c (map (λ (e : ℕ × SeenFile). e.0) c.files.files) n b.1
@@ -212,6 +214,7 @@ sorted_all kept c (n ∷ ns) h = sorted_all kept (shows kept c n) ns (sorted_sho
 sorted_line : (kept : KeptOf) (c : CalmState) (l : Line) → IsSorted c.files.files
     → IsSorted (follows kept c l).files.files
 sorted_line kept c (line.Event (event.File f m tag)) h = sorted_shown c.files (kept f) h
+sorted_line kept c (line.Event (event.ZonedFile f m tag)) h = sorted_shown c.files (kept f) h
 sorted_line kept c (line.Event (event.Declare d)) h =
     sorted_all kept c (map (λ (e : ℕ × SeenFile). e.0) c.files.files) h
 sorted_line kept c (line.Note f (note.Rebuilt k d)) h = sorted_shown c.files (kept f) h
@@ -238,6 +241,7 @@ failed_all kept c (n ∷ ns) = failed_all kept (shows kept c n) ns ∙ failed_sh
 
 failed_line : (kept : KeptOf) (c : CalmState) (l : Line) → (follows kept c l).files.failed ≡ c.files.failed
 failed_line kept c (line.Event (event.File f m tag)) = failed_shown c.files (kept f)
+failed_line kept c (line.Event (event.ZonedFile f m tag)) = failed_shown c.files (kept f)
 failed_line kept c (line.Event (event.Declare d)) =
     failed_all kept c (map (λ (e : ℕ × SeenFile). e.0) c.files.files)
 failed_line kept c (line.Note f (note.Rebuilt k d)) = failed_shown c.files (kept f)

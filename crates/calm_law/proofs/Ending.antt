@@ -130,6 +130,7 @@ shows_each kept c (n ∷ ns) =
 
 shows_line : (kept : KeptOf) (c : CalmState) (l : Line) → Shows c (shows_changed kept c l)
 shows_line kept c (line.Event (event.File f m tag)) = shows_one kept c f
+shows_line kept c (line.Event (event.ZonedFile f m tag)) = shows_one kept c f
 shows_line kept c (line.Event (event.Declare d)) =
     shows_each kept c (map (λ (e : ℕ × SeenFile). e.0) c.files.files)
 shows_line kept c (line.Note f (note.Rebuilt k d)) = shows_one kept c f

@@ -13,7 +13,7 @@ use Rattle.scenario_text.specs.declared.line.Line.{Line}
 use Rattle.scenario_text.specs.declared.line.Line.TheVariants as line
 use Rattle.server_rules.specs.Messages.{Message}
 use Rattle.server_rules.specs.Envelopes.{message_in}
-use Rattle.server_rules.specs.History.{Input, Hears, Makes, Obeys, Adds, Formats, Crashes, Opens}
+use Rattle.server_rules.specs.History.{Input, Hears, Makes, Obeys, Adds, Zones, Formats, Crashes, Opens}
 use Rattle.world_history.specs.declared.messages.Sent.{Sent}
 use Rattle.world_history.specs.ServerNames.{File, Component, RawMap, ToRecall, ToRevoke, ToDeclare, ToRebuild, ToAudit}
 use Rattle.world_history.specs.Spelled.{node_of}
@@ -50,9 +50,10 @@ heard_as now (Some m) i e =
     (m, refl, h.0, h.1, h.2)
 
 -- a file that is to be made
-made_as : (f : ℕ) (m : RawMap) (tag : ℕ) (i : Input) → made_of f m tag ≡ Some i → i ≡ Makes f m tag
-made_as f m tag i e = elim (cases_Bool (has_algorithm m)) [
-  | inl t ↦ let s : Makes f m tag ≡ i = cc (rw t at e) in sym s
+made_as : (f : ℕ) (m : RawMap) (tag : ℕ) (zoned : Bool) (i : Input) → made_of f m tag zoned ≡ Some i
+    → i ≡ Makes f m tag zoned
+made_as f m tag zoned i e = elim (cases_Bool (has_algorithm m)) [
+  | inl t ↦ let s : Makes f m tag zoned ≡ i = cc (rw t at e) in sym s
   | inr z ↦ absurd (cc (rw z at e))
 ]
 
@@ -62,8 +63,11 @@ named_event : (v : Event) (i : Input) → input_of v ≡ Some i → IsNamed (lin
 named_event (event.Drive d key capacity) i e h = let s : Adds (known_drive d key capacity) ≡ i = cc e in subst IsNamedInput s h
 named_event (event.Disk d key capacity) i e h = let s : Adds (known_drive d key capacity) ≡ i = cc e in subst IsNamedInput s h
 named_event (event.File f m tag) i e h =
-    subst IsNamedInput (sym (made_as f (raw_of m) tag i e)) h
+    subst IsNamedInput (sym (made_as f (raw_of m) tag false i e)) h
+named_event (event.ZonedFile f m tag) i e h =
+    subst IsNamedInput (sym (made_as f (raw_of m) tag true i e)) h
 named_event (event.Format format) i e h = let s : Formats format ≡ i = cc e in subst IsNamedInput s tt
+named_event (event.Zone d zone) i e h = let s : Zones d zone ≡ i = cc e in subst IsNamedInput s tt
 named_event (event.Recall f) i e h = let s : Obeys ToRecall f ≡ i = cc e in subst IsNamedInput s tt
 named_event (event.Revoke f) i e h = let s : Obeys ToRevoke f ≡ i = cc e in subst IsNamedInput s tt
 named_event (event.Rebuild f) i e h = let s : Obeys ToRebuild f ≡ i = cc e in subst IsNamedInput s tt
@@ -103,8 +107,10 @@ event_declares (event.Drive k key capacity) i d e q =
     let s : Adds (known_drive k key capacity) ≡ i = cc e in absurd (cc (ap declared_in s ∙ q))
 event_declares (event.Disk k key capacity) i d e q =
     let s : Adds (known_drive k key capacity) ≡ i = cc e in absurd (cc (ap declared_in s ∙ q))
-event_declares (event.File f m tag) i d e q = absurd (cc (ap declared_in (sym (made_as f (raw_of m) tag i e)) ∙ q))
+event_declares (event.File f m tag) i d e q = absurd (cc (ap declared_in (sym (made_as f (raw_of m) tag false i e)) ∙ q))
+event_declares (event.ZonedFile f m tag) i d e q = absurd (cc (ap declared_in (sym (made_as f (raw_of m) tag true i e)) ∙ q))
 event_declares (event.Format format) i d e q = let s : Formats format ≡ i = cc e in absurd (cc (ap declared_in s ∙ q))
+event_declares (event.Zone k zone) i d e q = let s : Zones k zone ≡ i = cc e in absurd (cc (ap declared_in s ∙ q))
 event_declares (event.Recall f) i d e q = let s : Obeys ToRecall f ≡ i = cc e in absurd (cc (ap declared_in s ∙ q))
 event_declares (event.Revoke f) i d e q = let s : Obeys ToRevoke f ≡ i = cc e in absurd (cc (ap declared_in s ∙ q))
 event_declares (event.Rebuild f) i d e q = let s : Obeys ToRebuild f ≡ i = cc e in absurd (cc (ap declared_in s ∙ q))
@@ -131,7 +137,10 @@ declares_at s l i d none e q = absurd (cc e)
 making_event : (v : Event) (i : Input) (n : ℕ) (known : Bool) (behind : List File) → input_of v ≡ Some i → IsMaking i n
     → is_there behind n ≡ true → shows_file known behind n (line.Event v) ≡ true
 making_event (event.File f m tag) i n known behind e k t =
-    let s : f ≡ n = subst (λ (x : Input). IsMaking x n) (made_as f (raw_of m) tag i e) k in
+    let s : f ≡ n = subst (λ (x : Input). IsMaking x n) (made_as f (raw_of m) tag false i e) k in
+    rw (eq-eqb f n s, t) refl
+making_event (event.ZonedFile f m tag) i n known behind e k t =
+    let s : f ≡ n = subst (λ (x : Input). IsMaking x n) (made_as f (raw_of m) tag true i e) k in
     rw (eq-eqb f n s, t) refl
 making_event (event.Drive d key capacity) i n known behind e k t =
     let s : i ≡ Adds (known_drive d key capacity) = cc (sym e) in absurd (subst (λ (x : Input). IsMaking x n) s k)
@@ -139,6 +148,8 @@ making_event (event.Disk d key capacity) i n known behind e k t =
     let s : i ≡ Adds (known_drive d key capacity) = cc (sym e) in absurd (subst (λ (x : Input). IsMaking x n) s k)
 making_event (event.Format format) i n known behind e k t =
     let s : i ≡ Formats format = cc (sym e) in absurd (subst (λ (x : Input). IsMaking x n) s k)
+making_event (event.Zone d zone) i n known behind e k t =
+    let s : i ≡ Zones d zone = cc (sym e) in absurd (subst (λ (x : Input). IsMaking x n) s k)
 making_event (event.Recall f) i n known behind e k t =
     let s : i ≡ Obeys ToRecall f = cc (sym e) in absurd (subst (λ (x : Input). IsMaking x n) s k)
 making_event (event.Revoke f) i n known behind e k t =

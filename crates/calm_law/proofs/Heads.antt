@@ -240,10 +240,11 @@ module _ (w : World) (action : Action) where
   made_so f (Ok s) = same_so _ refl (notes_so s.notes)
   made_so f (Err e) = same_so _ refl tt
 
-  makes_so : (chosen : List ℕ) (f : ℕ) (m : server_rules.RawMap) (tag : ℕ) → ActSo w action (makes w chosen f m tag)
+  makes_so : (chosen : List ℕ) (f : ℕ) (m : server_rules.RawMap) (tag : ℕ) (zoned : Bool)
+      → ActSo w action (makes w chosen f m tag zoned)
   unfolding makes
-  makes_so chosen f m tag =
-      either_so (has_algorithm m) _ _ (made_so f (create_file w.server f m tag chosen)) (same_so _ refl tt)
+  makes_so chosen f m tag zoned =
+      either_so (has_algorithm m) _ _ (made_so f (create_file w.server f m tag zoned chosen)) (same_so _ refl tt)
 
   adds_so : (d : ℕ) (key : List ℕ) (capacity : ℕ) (stored : Bool)
       → ActSo w action (adds_drive w d key capacity stored)
@@ -312,7 +313,9 @@ begins_so : (w : World) (chosen : List ℕ) (e : Event) → ActSo w (Opens e) (b
 unfolding begins
 begins_so w chosen (event.Drive d key capacity) = adds_so w _ d key capacity false
 begins_so w chosen (event.Disk d key capacity) = adds_so w _ d key capacity true
-begins_so w chosen (event.File f m tag) = makes_so w _ chosen f (raw_of m) tag
+begins_so w chosen (event.File f m tag) = makes_so w _ chosen f (raw_of m) tag false
+begins_so w chosen (event.ZonedFile f m tag) = makes_so w _ chosen f (raw_of m) tag true
+begins_so w chosen (event.Zone d zone) = gives_so w _ w.down chosen (server_input.Zones d zone)
 begins_so w chosen (event.Least d format) = drive_so w _ d (λ a. raised a format)
 begins_so w chosen (event.Format format) = gives_so w _ w.down chosen (server_input.Formats format)
 begins_so w chosen (event.Do c x) = call_so w _ c (op_of x)

@@ -1,17 +1,17 @@
 -- A file is made; and what each step leaves.
-use Rattle.std.proofs.Common.{◌≡◌, ℕ, suc, ◌+◌, ◌≤◌, ◌<◌, ◌==◌, ◌&&◌, ◌∷◌, [], List, Bool, true, false, Option, Some, None, is_some, map, nat_lt, length, take, refl, sym, ap, subst, ◌∙◌, arith, inl, inr, eq-eqb, ne_eqb}
+use Rattle.std.proofs.Common.{◌≡◌, ℕ, ◌≤◌, ◌<◌, ◌==◌, ◌∷◌, [], List, Bool, true, false, Option, Some, None, map, nat_lt, length, take, refl, sym, ap, subst, ◌∙◌, arith, inl, inr, eq-eqb, ne_eqb}
 use Rattle.std.proofs.lemmas.Bool.{cases_Bool, cases_eq}
-use Rattle.std.proofs.lemmas.Bool.Decides.{nat_tests}
 use Rattle.std.proofs.lemmas.List.{length-take}
 use Rattle.scenario_text.specs.declared.names.TheConstants.{FILES}
 use Rattle.scenario_text.specs.declared.line.Line.{Line}
 use Rattle.server_rules.specs.Files.{Step, file_at, add_file, at_file}
 use Rattle.server_rules.specs.Jobs.{making}
-use Rattle.server_rules.specs.Making.{online, refusal, unless_refused, are_of, places, components_on, unmade, with_file, makes_file, create_file}
+use Rattle.server_rules.specs.Making.{refusal, unless_refused, drives_for, unmade, with_file, makes_file, create_file}
 use Rattle.server_rules.specs.History.{Input, Makes, step, unless_made}
-use Rattle.server_rules.proofs.Components.{length_components, length_placed}
+use Rattle.server_rules.proofs.Components.{length_components}
+use Rattle.server_rules.proofs.Placed.{length_made}
 use Rattle.server_rules.proofs.FileLaws.{not_there}
-use Rattle.world_history.specs.ServerNames.{Server, File, Drive, RawMap, Refusal, Note}
+use Rattle.world_history.specs.ServerNames.{Server, File, RawMap, Refusal, Note}
 use Rattle.calm_law.specs.Words.{Each}
 use Rattle.calm_law.specs.Performing.{AreDistinct}
 use Rattle.calm_law.specs.Naming.{IsNamedInput}
@@ -138,43 +138,45 @@ tells_went i s did h w n =
     (at_number w.out n s.files did.state.files [] did.notes h.distinct h.files w.each)
 
 -- a file that is made, or refused
-sound_unless : (s : Server) (n : ℕ) (m : RawMap) (tag : ℕ) (ds : List ℕ) (o : Option Refusal) → refusal s n m ≡ o
-    → IsSound s → n < FILES → length ds ≤ m.comps
-    → IsSound (unless_made s (unless_refused o (makes_file s (unmade s n m tag ds)))).state
-sound_unless s n m tag ds (Some r) e h named few = h
-sound_unless s n m tag ds None e h named few =
-    sound_made s (unmade s n m tag ds) h (none_there s.files n (not_there s n m e)) tt named
-    (rw (length_components ds s.next_object) few)
+sound_unless : (s : Server) (n : ℕ) (m : RawMap) (tag : ℕ) (zoned : Bool) (ds : List ℕ) (o : Option Refusal)
+    → refusal s n m zoned ≡ o → IsSound s → n < FILES → (refusal s n m zoned ≡ None → length ds ≡ m.comps)
+    → IsSound (unless_made s (unless_refused o (makes_file s (unmade s n m tag zoned ds)))).state
+sound_unless s n m tag zoned ds (Some r) e h named many = h
+sound_unless s n m tag zoned ds None e h named many =
+    sound_made s (unmade s n m tag zoned ds) h (none_there s.files n (not_there s n m zoned e)) tt named
+    (rw (length_components ds s.next_object) (omega (arith, many e)))
 
-tells_unless : (s : Server) (n : ℕ) (m : RawMap) (tag : ℕ) (ds : List ℕ) (o : Option Refusal) → refusal s n m ≡ o
-    → IsSound s → n < FILES → (k : ℕ)
-    → Goes (Makes n m tag) (lines_of (unless_made s (unless_refused o (makes_file s (unmade s n m tag ds)))).notes) k
-    (file_at s.files k) (file_at (unless_made s (unless_refused o (makes_file s (unmade s n m tag ds)))).state.files k)
-tells_unless s n m tag ds (Some r) e h named k =
-    goes (Makes n m tag) None k [] (file_at s.files k) (file_at s.files k) tt
+tells_unless : (s : Server) (n : ℕ) (m : RawMap) (tag : ℕ) (zoned : Bool) (ds : List ℕ) (o : Option Refusal)
+    → refusal s n m zoned ≡ o → IsSound s → n < FILES → (k : ℕ)
+    → Goes (Makes n m tag zoned)
+    (lines_of (unless_made s (unless_refused o (makes_file s (unmade s n m tag zoned ds)))).notes) k (file_at s.files k)
+    (file_at (unless_made s (unless_refused o (makes_file s (unmade s n m tag zoned ds)))).state.files k)
+tells_unless s n m tag zoned ds (Some r) e h named k =
+    goes (Makes n m tag zoned) None k [] (file_at s.files k) (file_at s.files k) tt
     (at_number None k s.files s.files [] [] h.distinct h.files (stays_each s.files [] h.aimed))
-tells_unless s n m tag ds None e h named k =
-    tells_made s (Makes n m tag) (unmade s n m tag ds) h (none_there s.files n (not_there s n m e)) tt named
-    (not_there s n m e) refl k
+tells_unless s n m tag zoned ds None e h named k =
+    tells_made s (Makes n m tag zoned) (unmade s n m tag zoned ds) h (none_there s.files n (not_there s n m zoned e)) tt
+    named (not_there s n m zoned e) refl k
 
-sound_created : (s : Server) (chosen : List ℕ) (n : ℕ) (m : RawMap) (tag : ℕ) → IsSound s → n < FILES
-    → IsSound (step s chosen (Makes n m tag)).state
+sound_created : (s : Server) (chosen : List ℕ) (n : ℕ) (m : RawMap) (tag : ℕ) (zoned : Bool) → IsSound s → n < FILES
+    → IsSound (step s chosen (Makes n m tag zoned)).state
 unfolding create_file
-sound_created s chosen n m tag h named =
-    sound_unless s n m tag (places s.drives m.comps chosen) (refusal s n m) refl h named
-    (length_placed s.drives m.comps chosen)
+sound_created s chosen n m tag zoned h named =
+    sound_unless s n m tag zoned (drives_for zoned s.drives m chosen) (refusal s n m zoned) refl h named
+    (length_made s n m zoned chosen)
 
-tells_created : (s : Server) (chosen : List ℕ) (n : ℕ) (m : RawMap) (tag : ℕ) → IsSound s → n < FILES → (k : ℕ)
-    → Goes (Makes n m tag) (lines_of (step s chosen (Makes n m tag)).notes) k (file_at s.files k)
-    (file_at (step s chosen (Makes n m tag)).state.files k)
+tells_created : (s : Server) (chosen : List ℕ) (n : ℕ) (m : RawMap) (tag : ℕ) (zoned : Bool) → IsSound s → n < FILES
+    → (k : ℕ)
+    → Goes (Makes n m tag zoned) (lines_of (step s chosen (Makes n m tag zoned)).notes) k (file_at s.files k)
+    (file_at (step s chosen (Makes n m tag zoned)).state.files k)
 unfolding create_file
-tells_created s chosen n m tag h named k =
-    tells_unless s n m tag (places s.drives m.comps chosen) (refusal s n m) refl h named k
+tells_created s chosen n m tag zoned h named k =
+    tells_unless s n m tag zoned (drives_for zoned s.drives m chosen) (refusal s n m zoned) refl h named k
 
 -- each step
 sound_by : (b : Bool) (s : Server) (chosen : List ℕ) (i : Input) → makes i ≡ b → IsSound s → IsNamedInput i
     → IsSound (step s chosen i).state
-sound_by true s chosen (Makes n m tag) e h named = sound_created s chosen n m tag h named
+sound_by true s chosen (Makes n m tag zoned) e h named = sound_created s chosen n m tag zoned h named
 sound_by true s chosen i e h named = absurd (cc e)
 sound_by false s chosen i e h named = sound_went (declared_in i) s (step s chosen i) h (went s chosen i h named e)
 
@@ -183,7 +185,7 @@ each_step_is_sound s chosen i h named = sound_by (makes i) s chosen i refl h nam
 
 tells_by : (b : Bool) (s : Server) (chosen : List ℕ) (i : Input) → makes i ≡ b → IsSound s → IsNamedInput i → (n : ℕ)
     → Goes i (lines_of (step s chosen i).notes) n (file_at s.files n) (file_at (step s chosen i).state.files n)
-tells_by true s chosen (Makes k m tag) e h named n = tells_created s chosen k m tag h named n
+tells_by true s chosen (Makes k m tag zoned) e h named n = tells_created s chosen k m tag zoned h named n
 tells_by true s chosen i e h named n = absurd (cc e)
 tells_by false s chosen i e h named n = tells_went i s (step s chosen i) h (went s chosen i h named e) n
 

@@ -39,6 +39,7 @@ pub named_line : (l : Line) → is_written_line l ≡ true → IsNamed l
 named_line (line.Event (event.Drive d key capacity)) e = let test : nat_lt d DRIVES ≡ true = e in grind (arith, nat_tests, test)
 named_line (line.Event (event.Disk d key capacity)) e = let test : nat_lt d DRIVES ≡ true = e in grind (arith, nat_tests, test)
 named_line (line.Event (event.File f m tag)) e = let test : nat_lt f FILES ≡ true = e in grind (arith, nat_tests, test)
+named_line (line.Event (event.ZonedFile f m tag)) e = let test : nat_lt f FILES ≡ true = e in grind (arith, nat_tests, test)
 named_line l e = tt
 
 pub are_named : (h : List Line) → AreWritten h → AreNamed h

@@ -175,22 +175,23 @@ refusal_tells : (w : World) (f : ℕ) (e : server_rules.Refusal) → tells (made
 refusal_tells w f server_rules.FileExists = refl
 refusal_tells w f (server_rules.BadMap e) = refl
 refusal_tells w f (server_rules.TooFewDrives n) = refl
+refusal_tells w f (server_rules.NoSpread n) = refl
 
 made_tells : (w : World) (f : ℕ) (r : Result ServerStep server_rules.Refusal)
     → tells (made_file w f r).told ≡ noted (Some (unless_made w.server r))
 made_tells w f (Ok s) = refl
 made_tells w f (Err e) = refusal_tells w f e
 
-makes_tells : (w : World) (chosen : List ℕ) (f : ℕ) (m : server_rules.RawMap) (tag : ℕ)
-    → tells (makes w chosen f m tag).told ≡ noted (step_by w.server chosen (made_of f m tag))
+makes_tells : (w : World) (chosen : List ℕ) (f : ℕ) (m : server_rules.RawMap) (tag : ℕ) (zoned : Bool)
+    → tells (makes w chosen f m tag zoned).told ≡ noted (step_by w.server chosen (made_of f m tag zoned))
 unfolding makes
-makes_tells w chosen f m tag = either (has_algorithm m)
+makes_tells w chosen f m tag zoned = either (has_algorithm m)
   where
     either : (b : Bool)
-        → tells (if b then made_file w f (create_file w.server f m tag chosen)
+        → tells (if b then made_file w f (create_file w.server f m tag zoned chosen)
         else record { world = w; told = line.Note f (note.BadMap map_fault.Width) ∷ []; posts = [] }).told
-        ≡ noted (step_by w.server chosen (if b then Some (server_input.Makes f m tag) else None))
-    either true = made_tells w f (create_file w.server f m tag chosen)
+        ≡ noted (step_by w.server chosen (if b then Some (server_input.Makes f m tag zoned) else None))
+    either true = made_tells w f (create_file w.server f m tag zoned chosen)
     either false = refl
 
 adds_tells : (w : World) (chosen : List ℕ) (d : ℕ) (key : List ℕ) (capacity : ℕ) (stored : Bool)
@@ -213,7 +214,9 @@ begins_tells : (w : World) (chosen : List ℕ) (e : Event)
 unfolding begins
 begins_tells w chosen (event.Drive d key capacity) = adds_tells w chosen d key capacity false
 begins_tells w chosen (event.Disk d key capacity) = adds_tells w chosen d key capacity true
-begins_tells w chosen (event.File f m tag) = makes_tells w chosen f (raw_of m) tag
+begins_tells w chosen (event.File f m tag) = makes_tells w chosen f (raw_of m) tag false
+begins_tells w chosen (event.ZonedFile f m tag) = makes_tells w chosen f (raw_of m) tag true
+begins_tells w chosen (event.Zone d zone) = gives_tells w chosen (server_input.Zones d zone)
 begins_tells w chosen (event.Format format) = gives_tells w chosen (server_input.Formats format)
 begins_tells w chosen (event.Do c x) = call_tells w c (op_of x)
 begins_tells w chosen (event.Call c x) = call_tells w c (op_of x)

@@ -105,10 +105,11 @@ gives_bare : (w : World) (chosen : List ℕ) (i : server_input.Input) → Bare (
 unfolding gives
 gives_bare w chosen i = bare_notes (server_step w.server chosen i).notes
 
-makes_bare : (w : World) (chosen : List ℕ) (f : ℕ) (m : server_rules.RawMap) (tag : ℕ) → Bare (makes w chosen f m tag).told
+makes_bare : (w : World) (chosen : List ℕ) (f : ℕ) (m : server_rules.RawMap) (tag : ℕ) (zoned : Bool)
+    → Bare (makes w chosen f m tag zoned).told
 unfolding makes
-makes_bare w chosen f m tag =
-    either_bare (has_algorithm m) _ _ (made_bare w f (create_file w.server f m tag chosen)) (refl, tt)
+makes_bare w chosen f m tag zoned =
+    either_bare (has_algorithm m) _ _ (made_bare w f (create_file w.server f m tag zoned chosen)) (refl, tt)
 
 adds_bare : (w : World) (d : ℕ) (key : List ℕ) (capacity : ℕ) (stored : Bool)
     → Bare (adds_drive w d key capacity stored).told
@@ -121,7 +122,9 @@ pub begins_bare : (w : World) (chosen : List ℕ) (e : Event) → is_opening e �
 unfolding begins
 begins_bare w chosen (event.Drive d key capacity) o = adds_bare w d key capacity false
 begins_bare w chosen (event.Disk d key capacity) o = adds_bare w d key capacity true
-begins_bare w chosen (event.File f m tag) o = makes_bare w chosen f (raw_of m) tag
+begins_bare w chosen (event.File f m tag) o = makes_bare w chosen f (raw_of m) tag false
+begins_bare w chosen (event.ZonedFile f m tag) o = makes_bare w chosen f (raw_of m) tag true
+begins_bare w chosen (event.Zone d zone) o = gives_bare w chosen (server_input.Zones d zone)
 begins_bare w chosen (event.Format format) o = gives_bare w chosen (server_input.Formats format)
 begins_bare w chosen (event.Do c x) o = call_bare w c (op_of x)
 begins_bare w chosen (event.Call c x) o = call_bare w c (op_of x)

@@ -1,12 +1,17 @@
 -- The drives on which files are made, and those that the server knows.
-use Rattle.std.proofs.Common.{◌≡◌, ◌⊎◌, ℕ, zero, suc, ◌+◌, ◌==◌, ◌&&◌, not, nat_lt, ◌∷◌, [], List, Bool, true, false, Option, Some, None, is_some, find, map, filter, take, length, refl, sym, ap, subst, ◌∙◌, inl, inr}
-use Rattle.std.proofs.lemmas.Bool.{cases_Bool}
+use Rattle.std.proofs.Common.{◌≡◌, ◌⊎◌, ℕ, zero, suc, ◌+◌, ◌==◌, ◌&&◌, not, nat_lt, ◌∷◌, [], List, Bool, true, false, Option, Some, None, is_some, find, map, filter, take, length, true≢false, refl, sym, ap, subst, ◌∙◌, inl, inr}
+use Rattle.std.specs.List.{list_any}
+use Rattle.std.proofs.lemmas.Bool.{cases_Bool, eq-eqb, ne_eqb, or_parts}
 use Rattle.osd_lists.proofs.Tests.{second_true}
 use Rattle.server_rules.specs.Numbers.{among}
 use Rattle.server_rules.specs.Files.{Step, add_file}
 use Rattle.server_rules.specs.Requests.{on_request}
-use Rattle.server_rules.specs.Making.{online, refusal, unless_refused, are_of, places, components_on, unmade, makes_file, create_file, add_drive, new_server}
+use Rattle.server_rules.specs.Making.{online, refusal, unless_refused, are_of, places, drives_for, components_on, unmade, makes_file, create_file, add_drive, new_server}
 use Rattle.server_rules.specs.Orders.{offline, declare}
+use Rattle.server_rules.specs.Zoning.{and_in_zone, in_zones}
+use Rattle.zone_place.specs.Zones as zones
+use Rattle.zone_place.proofs.Members.{spread_different}
+use Rattle.server_rules.proofs.Zoned.{map_zoned}
 use Rattle.server_rules.specs.History.{Input, Makes, Adds, Act, step, state_after, unless_made}
 use Rattle.server_rules.proofs.FileLaws.{not_there}
 use Rattle.world_history.specs.ServerNames.{Server, File, Drive, ClientRequest, Refusal, RawMap}
@@ -73,6 +78,51 @@ different_placed ds count chosen h = elim (cases_Bool ((length chosen == count) 
   | inl t ↦ rw t (different_chosen (online ds) chosen (second_true (length chosen == count) (are_of (online ds) chosen) t))
   | inr z ↦ rw z (different_taken count (numbers (online ds)) (different_filtered (λ (d : Drive). d.online) ds h))
 ]
+
+-- drives in zones are different too
+none_in_zones : (n : ℕ) (ds : List Drive) → among n (numbers ds) ≡ false → list_any (λ x. x.drive == n) (in_zones ds) ≡ false
+unfolding in_zones among
+none_in_zones n [] h = refl
+none_in_zones n (d ∷ ds) h =
+    let other : (n ≡ d.number → ⊥) × (among n (numbers ds) ≡ false) = not_first n d.number (numbers ds) h in
+    either other.0 (none_in_zones n ds other.1) d.zone
+  where
+    either : (n ≡ d.number → ⊥) → list_any (λ x. x.drive == n) (in_zones ds) ≡ false → (o : Option ℕ)
+        → list_any (λ x. x.drive == n) (and_in_zone d.number o (in_zones ds)) ≡ false
+    either other rest None = rest
+    either other rest (Some z) = rw (ne_eqb d.number n (λ q. other (sym q))) rest
+
+different_in_zones : (ds : List Drive) → AreDifferent (numbers ds) → zones.AreDifferent (in_zones ds)
+unfolding in_zones zones.AreDifferent
+different_in_zones [] h = tt
+different_in_zones (d ∷ ds) h = either (different_in_zones ds h.1) d.zone
+  where
+    either : zones.AreDifferent (in_zones ds) → (o : Option ℕ) → zones.AreDifferent (and_in_zone d.number o (in_zones ds))
+    either rest None = rest
+    either rest (Some z) = (none_in_zones d.number ds h.0, rest)
+
+same_test : (n : ℕ) (ns : List ℕ) → list_any (λ k. k == n) ns ≡ false → among n ns ≡ false
+unfolding among
+same_test n [] e = e
+same_test n (k ∷ ns) e =
+    let p = or_parts (k == n) (list_any (λ j. j == n) ns) e in
+    not_among n k ns (λ q. true≢false (sym (eq-eqb k n (sym q)) ∙ p.0)) (same_test n ns p.1)
+
+different_among : (ds : List zones.InZone) (ns : List ℕ) → zones.are_among ds ns ≡ true → AreDifferent ns
+unfolding zones.are_among
+different_among ds [] e = tt
+different_among ds (n ∷ ns) e =
+    let p : (list_any (λ k. k == n) ns ≡ false) × (zones.are_among ds ns ≡ true) =
+    both (list_any (λ d. d.drive == n) ds) (list_any (λ k. k == n) ns) (zones.are_among ds ns) e in
+    (same_test n ns p.0, different_among ds ns p.1)
+
+different_for : (zoned : Bool) (ds : List Drive) (m : RawMap) (chosen : List ℕ) → AreDifferent (numbers ds)
+    → AreDifferent (drives_for zoned ds m chosen)
+different_for false ds m chosen h = different_placed ds m.comps chosen h
+different_for true ds m chosen h =
+    different_among (in_zones (online ds)) _
+    (spread_different (zones.ask_of m) (in_zones (online ds)) chosen
+    (different_in_zones (online ds) (different_filtered (λ (d : Drive). d.online) ds h)))
 
 drives_made : (ds : List ℕ) (object : ℕ) → drives (components_on ds object) ≡ ds
 unfolding components_on
@@ -142,8 +192,9 @@ knows_step s chosen i = each_step s chosen i (Knows s i) (record {
   fenced = λ f is kind none low. inl refl;
   declared = λ d known. inl (knows_declared s chosen d);
   told = λ t now o is result knows. knows;
-  made = λ n m tag is none. inl refl;
+  made = λ n m tag zoned is none. inl refl;
   added = λ d is. inr (d, is, refl);
+  zoned = λ d zone is. inl (map_zoned (λ (x : Drive). x.number) (λ x z. refl) s.drives d zone);
   formats = λ n is. inl refl;
   resends = λ is. inl refl;
   crashes = λ is. inl refl;
@@ -178,27 +229,27 @@ different_drives s chosen i h a = elim (knows_step s chosen i) [
 abbrev AllApart : List File → Type 0
 AllApart fs = Each (λ (f : File). AreApart f.kept.components) fs
 
-files_unless : (s : Server) (n : ℕ) (m : RawMap) (tag : ℕ) (ds : List ℕ) (o : Option Refusal) → refusal s n m ≡ o → IsSound s
-    → AllApart s.files → AreDifferent ds
-    → AllApart (unless_made s (unless_refused o (makes_file s (unmade s n m tag ds)))).state.files
-files_unless s n m tag ds (Some r) e h a d = a
-files_unless s n m tag ds None e h a d =
-    let f : File = unmade s n m tag ds in
+files_unless : (s : Server) (n : ℕ) (m : RawMap) (tag : ℕ) (zoned : Bool) (ds : List ℕ) (o : Option Refusal)
+    → refusal s n m zoned ≡ o → IsSound s → AllApart s.files → AreDifferent ds
+    → AllApart (unless_made s (unless_refused o (makes_file s (unmade s n m tag zoned ds)))).state.files
+files_unless s n m tag zoned ds (Some r) e h a d = a
+files_unless s n m tag zoned ds None e h a d =
+    let f : File = unmade s n m tag zoned ds in
     apart_went None (add_file s.files f) (makes_file s f).state.files [] (makes_file s f).notes
     (each_added (λ (x : File). AreApart x.kept.components) s.files f a
     (subst AreDifferent (sym (drives_made ds s.next_object)) d))
-    (went_made s f h (none_there s.files n (not_there s n m e)) tt)
+    (went_made s f h (none_there s.files n (not_there s n m zoned e)) tt)
 
-files_created : (s : Server) (chosen : List ℕ) (n : ℕ) (m : RawMap) (tag : ℕ) → IsSound s → IsApart s
-    → AllApart (step s chosen (Makes n m tag)).state.files
+files_created : (s : Server) (chosen : List ℕ) (n : ℕ) (m : RawMap) (tag : ℕ) (zoned : Bool) → IsSound s → IsApart s
+    → AllApart (step s chosen (Makes n m tag zoned)).state.files
 unfolding create_file
-files_created s chosen n m tag h a =
-    files_unless s n m tag (places s.drives m.comps chosen) (refusal s n m) refl h a.files
-    (different_placed s.drives m.comps chosen a.drives)
+files_created s chosen n m tag zoned h a =
+    files_unless s n m tag zoned (drives_for zoned s.drives m chosen) (refusal s n m zoned) refl h a.files
+    (different_for zoned s.drives m chosen a.drives)
 
 files_by : (b : Bool) (s : Server) (chosen : List ℕ) (i : Input) → makes i ≡ b → IsSound s → IsApart s → IsNamedInput i
     → AllApart (step s chosen i).state.files
-files_by true s chosen (Makes n m tag) e h a named = files_created s chosen n m tag h a
+files_by true s chosen (Makes n m tag zoned) e h a named = files_created s chosen n m tag zoned h a
 files_by true s chosen i e h a named = absurd (cc e)
 files_by false s chosen i e h a named =
     let w = went s chosen i h named e in

@@ -1,7 +1,6 @@
 -- What becomes of the files in each step.
-use Rattle.std.proofs.Common.{◌≡◌, ℕ, ◌<◌, ◌==◌, ◌&&◌, ◌∷◌, [], List, Bool, true, false, Option, Some, None, find, is_some, map, nat_le, nat_lt, refl, sym, ap, ◌∙◌, arith, inl, inr, eq-eqb, ne_eqb}
+use Rattle.std.proofs.Common.{◌≡◌, ℕ, ◌<◌, ◌==◌, ◌&&◌, ◌∷◌, [], List, Bool, true, false, Option, Some, None, find, is_some, map, nat_le, nat_lt, refl, sym, ap, ◌∙◌, inl, inr, eq-eqb, ne_eqb}
 use Rattle.std.proofs.lemmas.Bool.{cases_Bool}
-use Rattle.std.proofs.lemmas.Bool.Decides.{nat_tests}
 use Rattle.osd_lists.specs.declared.node.Node.{Node}
 use Rattle.osd_lists.specs.declared.node.Node.TheVariants.{Server as FromServer, Drive as FromDrive, Client as FromClient}
 use Rattle.scenario_text.specs.declared.names.TheConstants.{DRIVES}
@@ -14,9 +13,10 @@ use Rattle.server_rules.specs.Get.{lowest}
 use Rattle.server_rules.specs.Files.{Step, file_at, put_file, at_file, begins}
 use Rattle.server_rules.specs.Requests.{serves, carries_out, by_admit, on_request}
 use Rattle.server_rules.specs.Making.{add_drive}
+use Rattle.server_rules.specs.Zoning.{put_in_zone}
 use Rattle.server_rules.specs.Messages.{heard_at, or_else, by_heard, on_drive_reply, Message, Asks, Replies, Orders, handled, on_message, counters_have_room}
 use Rattle.server_rules.specs.Orders.{begins_job, starts, recalls_on, offline, declares_each, declare, declares_known, ordered}
-use Rattle.server_rules.specs.History.{Input, Hears, Makes, Obeys, Adds, Formats, Resends, Crashes, Opens, step}
+use Rattle.server_rules.specs.History.{Input, Hears, Makes, Obeys, Adds, Zones, Formats, Resends, Crashes, Opens, step}
 use Rattle.server_rules.specs.Openings.{crashed_file, opens, opens_each, reopen}
 use Rattle.server_rules.proofs.FileLaws.{number_at}
 use Rattle.world_history.specs.ServerNames.{Server, File, Drive, Note, Effects, Job, JobKind, ClientRequest, Reply, OrderKind, ToRecall, ToRevoke, ToDeclare, ToRebuild, ToAudit, Revoking, Rebuilding, Auditing, Busy, Spent}
@@ -241,6 +241,14 @@ known_added (e ∷ ds) d h n = elim (cases_Bool (nat_lt e.number d.number)) [
   | inr z ↦ rw z (n, h)
 ]
 
+known_zoned : (ds : List Drive) (n z : ℕ) → AreKnown ds → AreKnown (put_in_zone ds n z)
+unfolding put_in_zone
+known_zoned [] n z h = tt
+known_zoned (d ∷ ds) n z h = elim (cases_Bool (d.number == n)) [
+  | inl t ↦ rw t (h.0, known_zoned ds n z h.1)
+  | inr o ↦ rw o (h.0, known_zoned ds n z h.1)
+]
+
 went_crashes : (fs : List File) → WentEach None fs [] (map crashed_file fs) []
 went_crashes [] = refl
 went_crashes (f ∷ fs) = (
@@ -287,19 +295,25 @@ went_reopened s h = elim (cases_Bool (counters_have_room s)) [
 
 -- a file is made
 abbrev pub makes : Input → Bool
-makes (Makes n m tag) = true
+makes (Makes n m tag zoned) = true
 makes i = false
 
 pub went : (s : Server) (chosen : List ℕ) (i : Input) → IsSound s → IsNamedInput i → makes i ≡ false
     → Went (declared_in i) s (step s chosen i)
 went s chosen (Hears now from m) h n e = went_message s now chosen from m h
-went s chosen (Makes k m tag) h n e = absurd (cc e)
+went s chosen (Makes k m tag zoned) h n e = absurd (cc e)
 went s chosen (Obeys kind k) h n e = went_ordered s chosen kind k h
 went s chosen (Adds d) h n e = record {
   out = None;
   takes = tt;
   each = stays_each s.files [] h.aimed;
   known = known_added s.drives d h.drives n;
+}
+went s chosen (Zones d zone) h n e = record {
+  out = None;
+  takes = tt;
+  each = stays_each s.files [] h.aimed;
+  known = known_zoned s.drives d zone h.drives;
 }
 went s chosen (Formats k) h n e = record { out = None; takes = tt; each = stays_each s.files [] h.aimed; known = h.drives }
 went s chosen Resends h n e = record { out = None; takes = tt; each = stays_each s.files [] h.aimed; known = h.drives }

@@ -1,11 +1,11 @@
 -- The tag of each file through a step.
-use Rattle.std.proofs.Common.{◌≡◌, ◌⊎◌, ℕ, ◌<◌, ◌≤◌, ◌++◌, ◌∷◌, [], List, Option, Some, None, refl, sym, ap, subst, ◌∙◌, arith, inl, inr, eq-eqb, ne_eqb}
+use Rattle.std.proofs.Common.{◌≡◌, ◌⊎◌, ℕ, ◌<◌, ◌≤◌, ◌++◌, ◌∷◌, [], List, Option, Some, None, refl, sym, ap, subst, ◌∙◌, arith, inl, inr, eq-eqb, ne_eqb, Bool}
 use Rattle.std.proofs.lemmas.Bool.{cases_eq}
 use Rattle.data_map.specs.declared.check.RawMap.{RawMap}
 use Rattle.server_rules.specs.Files.{Step, file_at, add_file}
-use Rattle.server_rules.specs.History.{Input, Hears, Makes, Obeys, Adds, Formats, Resends, Crashes, Opens, step, unless_made}
+use Rattle.server_rules.specs.History.{Input, Hears, Makes, Obeys, Adds, Zones, Formats, Resends, Crashes, Opens, step, unless_made}
 use Rattle.server_rules.specs.Laws.{In}
-use Rattle.server_rules.specs.Making.{refusal, unless_refused, makes_file, unmade, places, create_file}
+use Rattle.server_rules.specs.Making.{refusal, unless_refused, makes_file, unmade, drives_for, create_file}
 use Rattle.server_rules.proofs.FileLaws.{not_there}
 use Rattle.world_history.specs.ServerNames.{Server, File, Note, NoteKind, Refusal, Fenced}
 use Rattle.calm_law.specs.Performing.{AreDistinct}
@@ -135,28 +135,28 @@ rises_in n f gs after r = record {
 rises_still : (n : ℕ) (f : File) (fs : List File) → file_at fs n ≡ Some f → TagRises n f fs []
 rises_still n f fs e = record { behind = f; there = e; rises = omega arith; later = λ tag i. absurd i }
 
-rises_made : (s : Server) (n : ℕ) (m : RawMap) (tag : ℕ) (ds : List ℕ) (o : Option Refusal) → refusal s n m ≡ o
-    → IsSound s → (k : ℕ) (f : File) → file_at s.files k ≡ Some f
-    → TagRises k f (unless_made s (unless_refused o (makes_file s (unmade s n m tag ds)))).state.files
-    (unless_made s (unless_refused o (makes_file s (unmade s n m tag ds)))).notes
-rises_made s n m tag ds (Some r) e h k f at_k = rises_still k f s.files at_k
-rises_made s n m tag ds None e h k f at_k =
-    let made : File = unmade s n m tag ds in
-    let none : NoneHas n s.files = none_there s.files n (not_there s n m e) in
+rises_made : (s : Server) (n : ℕ) (m : RawMap) (tag : ℕ) (zoned : Bool) (ds : List ℕ) (o : Option Refusal)
+    → refusal s n m zoned ≡ o → IsSound s → (k : ℕ) (f : File) → file_at s.files k ≡ Some f
+    → TagRises k f (unless_made s (unless_refused o (makes_file s (unmade s n m tag zoned ds)))).state.files
+    (unless_made s (unless_refused o (makes_file s (unmade s n m tag zoned ds)))).notes
+rises_made s n m tag zoned ds (Some r) e h k f at_k = rises_still k f s.files at_k
+rises_made s n m tag zoned ds None e h k f at_k =
+    let made : File = unmade s n m tag zoned ds in
+    let none : NoneHas n s.files = none_there s.files n (not_there s n m zoned e) in
     rises_in k f (makes_file s made).state.files (makes_file s made).notes
     (raised_each None k f (add_file s.files made) _ [] _ (distinct_added s.files made h.distinct none)
     (went_made s made h none tt)
-    (beside s.files made k (ne_eqb n k (λ q. there k n (sym q) at_k (not_there s n m e))) ∙ at_k))
+    (beside s.files made k (ne_eqb n k (λ q. there k n (sym q) at_k (not_there s n m zoned e))) ∙ at_k))
   where
     there : (k n : ℕ) → k ≡ n → file_at s.files k ≡ Some f → file_at s.files n ≡ None → ⊥
     there k n same one other = cc (sym one ∙ ap (λ (x : ℕ). file_at s.files x) same ∙ other)
 
-rises_created : (s : Server) (chosen : List ℕ) (n : ℕ) (m : RawMap) (tag : ℕ) → IsSound s → (k : ℕ) (f : File)
-    → file_at s.files k ≡ Some f
-    → TagRises k f (step s chosen (Makes n m tag)).state.files (step s chosen (Makes n m tag)).notes
+rises_created : (s : Server) (chosen : List ℕ) (n : ℕ) (m : RawMap) (tag : ℕ) (zoned : Bool) → IsSound s → (k : ℕ)
+    (f : File) → file_at s.files k ≡ Some f
+    → TagRises k f (step s chosen (Makes n m tag zoned)).state.files (step s chosen (Makes n m tag zoned)).notes
 unfolding create_file
-rises_created s chosen n m tag h k f e =
-    rises_made s n m tag (places s.drives m.comps chosen) (refusal s n m) refl h k f e
+rises_created s chosen n m tag zoned h k f e =
+    rises_made s n m tag zoned (drives_for zoned s.drives m chosen) (refusal s n m zoned) refl h k f e
 
 -- where files go on as in any step that makes none
 rises_went : (o : Option ℕ) (s : Server) (did : Step) → IsSound s → Went o s did → (n : ℕ) (f : File)
@@ -169,8 +169,9 @@ rises_step : (s : Server) (chosen : List ℕ) (i : Input) → IsSound s → Went
 rises_step s chosen i h w n f e = rises_went (declared_in i) s (step s chosen i) h w n f e
 
 pub each_step_raises_tags : EachStepRaisesTags
-each_step_raises_tags s chosen (Makes k m tag) h n f e = rises_created s chosen k m tag h n f e
+each_step_raises_tags s chosen (Makes k m tag zoned) h n f e = rises_created s chosen k m tag zoned h n f e
 each_step_raises_tags s chosen (Adds d) h n f e = rises_still n f s.files e
+each_step_raises_tags s chosen (Zones d zone) h n f e = rises_still n f s.files e
 each_step_raises_tags s chosen (Hears now from m) h n f e =
     rises_step s chosen (Hears now from m) h (went s chosen (Hears now from m) h tt refl) n f e
 each_step_raises_tags s chosen (Obeys kind k) h n f e =

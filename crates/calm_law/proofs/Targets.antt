@@ -1,11 +1,13 @@
 -- Where a rebuild makes a component anew.
-use Rattle.std.proofs.Common.{◌≡◌, ℕ, ◌<◌, ◌==◌, ◌&&◌, not, ◌∷◌, [], List, Bool, true, false, Option, Some, None, is_some, find, refl, sym, ap, subst, arith, inl, inr}
+use Rattle.std.proofs.Common.{◌≡◌, ℕ, ◌<◌, ◌==◌, ◌&&◌, not, ◌∷◌, [], List, Bool, true, false, Option, Some, None, is_some, find, filter, refl, sym, ap, subst, arith, inl, inr}
 use Rattle.std.proofs.lemmas.Bool.{cases_Bool}
 use Rattle.std.proofs.lemmas.Bool.Decides.{nat_tests}
 use Rattle.osd_lists.proofs.Tests.{without_second}
 use Rattle.scenario_text.specs.declared.names.TheConstants.{DRIVES}
 use Rattle.server_rules.specs.Going.{Going}
 use Rattle.server_rules.specs.Standing.{stood_on, free_drives, lose_from, lose_on}
+use Rattle.server_rules.specs.Zoning.{takers}
+use Rattle.server_rules.proofs.Zoned.{of_takers}
 use Rattle.server_rules.specs.Rebuild.{or_first, picked, target_on, target_for}
 use Rattle.world_history.specs.ServerNames.{Component, Drive, Target}
 use Rattle.calm_law.specs.Words.{Each}
@@ -29,6 +31,13 @@ free_known cs [] h = tt
 free_known cs (d ∷ ds) h = elim (cases_Bool (d.online && not (stood_on d.number cs))) [
   | inl t ↦ rw t ((h.0, without_second d.online (stood_on d.number cs) t), free_known cs ds h.1)
   | inr z ↦ rw z (free_known cs ds h.1)
+]
+
+free_part : (cs : List Component) (p : Drive → Bool) (ds : List Drive) → AreFree cs ds → AreFree cs (filter p ds)
+free_part cs p [] h = tt
+free_part cs p (d ∷ ds) h = elim (cases_Bool (p d)) [
+  | inl t ↦ rw t (h.0, free_part cs p ds h.1)
+  | inr z ↦ rw z (free_part cs p ds h.1)
 ]
 
 free_found : (cs : List Component) (c : ℕ) (ds : List Drive) → AreFree cs ds
@@ -72,8 +81,10 @@ aim_for g at k t known e = elim (cases_Bool at.missing) [
   | inl m ↦
       let cs : List Component = g.file.kept.components in
       let r : (t.component ≡ k) × (t.drive < DRIVES) × (stood_on t.drive cs ≡ false) =
-      target_free g k (picked g.chosen (free_drives g.drives cs)) t
-      (λ n q. free_picked cs g.chosen (free_drives g.drives cs) n (free_known cs g.drives known) q) (rw m at e) in
+      target_free g k (picked g.chosen (takers g.drives g.file.kept k)) t
+      (λ n q.
+      free_picked cs g.chosen (takers g.drives g.file.kept k) n
+      (of_takers (AreFree cs) (free_part cs) g.drives g.file.kept k (free_known cs g.drives known)) q) (rw m at e) in
       (m, r.0, r.1, r.2)
   | inr p ↦ absurd (cc (rw p at e))
 ]

@@ -32,6 +32,7 @@ pub record KeepsFiles (there now : List File) (fallen : List ℕ) (t : FilesStat
 -- file n, at a line: it is made, or a component of it was rebuilt; a declaration shows every file that is kept
 abbrev pub shows_file : (known : Bool) → (behind : List File) → (n : ℕ) → Line → Bool
 shows_file known behind n (line.Event (event.File f m tag)) = (f == n) && is_there behind n
+shows_file known behind n (line.Event (event.ZonedFile f m tag)) = (f == n) && is_there behind n
 shows_file known behind n (line.Event (event.Declare d)) = known && is_there behind n
 shows_file known behind n (line.Note f (note.Rebuilt k d)) = (f == n) && is_there behind n
 shows_file known behind n l = false

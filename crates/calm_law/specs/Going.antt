@@ -40,7 +40,7 @@ pub record GoesOn (i : Input) (lines : List Line) (n : ℕ) (f g : File) : Type 
 
 -- the file of that number is made
 abbrev pub IsMaking : Input → (file : ℕ) → Type 0
-IsMaking (Makes k m tag) n = k ≡ n
+IsMaking (Makes k m tag zoned) n = k ≡ n
 IsMaking i n = ⊥
 
 -- of file n before and behind a step with these lines

@@ -12,6 +12,7 @@ abbrev pub IsNamed : Line → Type 0
 IsNamed (line.Event (event.Drive d key capacity)) = d < DRIVES
 IsNamed (line.Event (event.Disk d key capacity)) = d < DRIVES
 IsNamed (line.Event (event.File f m tag)) = f < FILES
+IsNamed (line.Event (event.ZonedFile f m tag)) = f < FILES
 IsNamed l = Unit {0}
 
 -- so do all events of a history. Those of a text do: it has no other numbers of drives and files.
@@ -20,6 +21,6 @@ AreNamed h = Each IsNamed h
 
 -- what comes to the server makes a file, or adds a drive, that lines can name
 abbrev pub IsNamedInput : Input → Type 0
-IsNamedInput (Makes n m tag) = n < FILES
+IsNamedInput (Makes n m tag zoned) = n < FILES
 IsNamedInput (Adds d) = d.number < DRIVES
 IsNamedInput i = Unit {0}

@@ -7,7 +7,7 @@ use Rattle.scenario_text.specs.declared.event.Call.{Call}
 use Rattle.scenario_text.specs.declared.event.Event.{Event}
 use Rattle.scenario_text.specs.declared.event.Event.TheVariants as event
 use Rattle.scenario_text.specs.declared.event.EventErr.{EventErr}
-use Rattle.scenario_text.specs.declared.event.EventErr.TheVariants.{Memory, NotYet, UnknownWord, BadName, BadNumber, BadHex, Missing, Extra}
+use Rattle.scenario_text.specs.declared.event.EventErr.TheVariants.{Memory, UnknownWord, BadName, BadNumber, BadHex, Missing, Extra}
 use Rattle.command_words.specs.Work.{Gives, IsCall, IsLine, IsOrder, IsWork, call_of, event_of, order_of}
 use Rattle.command_words.specs.declared.work.ClientWork.TheVariants as work
 use Rattle.command_words.specs.declared.work.Order.{Order}
@@ -19,7 +19,6 @@ never e = cc e
 -- an event isn't refused for another cause than memory where a line spells it
 pub refused : (why : EventErr) (e : Event) → why ≢ Memory → GivesEvent e (Err why) → ⊥
 refused Memory e other given = other refl
-refused NotYet e other given = given
 refused UnknownWord e other given = given
 refused BadName e other given = given
 refused BadNumber e other given = given

@@ -11,9 +11,9 @@ use Rattle.layout_ops.specs.Reading.{envelope_of}
 use Rattle.osd_commands.specs.declared.commands.CommandErr.{CommandErr}
 use Rattle.server_rules.specs.Envelopes.{asked_in, request_with, by_envelope, by_reply, message_in}
 use Rattle.server_rules.specs.Files.{to_drives}
-use Rattle.server_rules.specs.Making.{refusal, places, unmade, makes_file, unless_refused, create_file}
+use Rattle.server_rules.specs.Making.{refusal, drives_for, unmade, makes_file, unless_refused, create_file}
 use Rattle.server_rules.specs.Messages.{Message as ServerMessage, Replies, Orders, resend, awaited_by}
-use Rattle.server_rules.specs.History.{Input, Hears, Makes, Obeys, Adds, Formats, Resends, Crashes, Opens as Opened, unless_made, step as server_step}
+use Rattle.server_rules.specs.History.{Input, Hears, Makes, Obeys, Adds, Zones, Formats, Resends, Crashes, Opens as Opened, unless_made, step as server_step}
 use Rattle.client_rules.specs.History.{step as client_step}
 use Rattle.scenario_text.specs.declared.event.Event.{Event}
 use Rattle.scenario_text.specs.declared.event.Event.TheVariants as event
@@ -101,6 +101,7 @@ read_event : (w : World) (e : Event) → ReadAny (input_in w (Opens e))
 read_event w (event.Drive d key capacity) = either_read (knows_drive w.server d) None (Some _) tt tt
 read_event w (event.Disk d key capacity) = either_read (knows_drive w.server d) None (Some _) tt tt
 read_event w (event.File f m tag) = either_read (has_algorithm (raw_of m)) (Some _) None tt tt
+read_event w (event.ZonedFile f m tag) = either_read (has_algorithm (raw_of m)) (Some _) None tt tt
 read_event w (event.Deliver number) = read_brought w (slice_get w.network.messages number)
 read_event w (event.Crash (machine.Drive d)) = tt
 read_event w (event.Crash machine.Server) = tt
@@ -153,30 +154,33 @@ abbrev pub Comes : Option Input → List Post → Type 0
 Comes o ps = AreOthers ps ⊎ ((i : Input) × (o ≡ Some i))
 
 -- a file that is made sends to drives alone
-made_others : (s : server_rules.Server) (chosen : List ℕ) (n : ℕ) (m : server_rules.RawMap) (tag : ℕ)
-    → AreOthers (map server_post (server_step s chosen (Makes n m tag)).sends)
+made_others : (s : server_rules.Server) (chosen : List ℕ) (n : ℕ) (m : server_rules.RawMap) (tag : ℕ) (zoned : Bool)
+    → AreOthers (map server_post (server_step s chosen (Makes n m tag zoned)).sends)
 unfolding create_file
-made_others s chosen n m tag = made (refusal s n m)
+made_others s chosen n m tag zoned = made (refusal s n m zoned)
   where
     made : (o : Option server_rules.Refusal)
         → AreOthers (map server_post
-        (unless_made s (unless_refused o (makes_file s (unmade s n m tag (places s.drives m.comps chosen))))).sends)
+        (unless_made s (unless_refused o (makes_file s (unmade s n m tag zoned (drives_for zoned s.drives m chosen))))).sends)
     made (Some why) = tt
     made None = drives_others s.drives _
 
 module _ (w : World) (chosen : List ℕ) (action : Action) where
   -- what is given to the server comes to it, but for a file, which may be refused, and what is sent once more
   abbrev IsSeen : Input → Type 0
-  IsSeen (Makes n m tag) = ⊥
+  IsSeen (Makes n m tag zoned) = ⊥
   IsSeen Resends = ⊥
   IsSeen i = Unit {0}
 
   given_is : (a : Action) (i : Input) → IsSeen i → given_in a ≡ Some i → input_in w a ≡ Some i
   given_is (Opens (event.File f m tag)) i seen e =
-      let same : Makes f (raw_of m) tag ≡ i = cc e in absurd (subst IsSeen (sym same) seen)
+      let same : Makes f (raw_of m) tag false ≡ i = cc e in absurd (subst IsSeen (sym same) seen)
+  given_is (Opens (event.ZonedFile f m tag)) i seen e =
+      let same : Makes f (raw_of m) tag true ≡ i = cc e in absurd (subst IsSeen (sym same) seen)
   given_is (Opens (event.Resend sender.Server)) i seen e =
       let same : Resends ≡ i = cc e in absurd (subst IsSeen (sym same) seen)
   given_is (Opens (event.Format format)) i seen e = e
+  given_is (Opens (event.Zone d zone)) i seen e = e
   given_is (Opens (event.Recall f)) i seen e = e
   given_is (Opens (event.Revoke f)) i seen e = e
   given_is (Opens (event.Rebuild f)) i seen e = e
@@ -206,10 +210,11 @@ module _ (w : World) (chosen : List ℕ) (action : Action) where
       → Comes (input_in w action) (filter is_addressed (map server_post (server_step w.server chosen i).sends))
   served (Hears now from m) (d, time, sender, read, number, up) =
       inr (Hears w.clock d.posted.message.from m, heard_is d m read number up)
-  served (Makes n m tag) is = inl (sent_others _ (made_others w.server chosen n m tag))
+  served (Makes n m tag zoned) is = inl (sent_others _ (made_others w.server chosen n m tag zoned))
   served Resends is = inl (sent_others (map server_post (resend w.server)) (resent_others w.server.drives w.server.files))
   served (Obeys kind n) is = inr (Obeys kind n, given_is action (Obeys kind n) tt is)
   served (Adds d) is = inr (Adds d, given_is action (Adds d) tt is)
+  served (Zones d zone) is = inr (Zones d zone, given_is action (Zones d zone) tt is)
   served (Formats n) is = inr (Formats n, given_is action (Formats n) tt is)
   served Crashes is = inr (Crashes, given_is action Crashes tt is)
   served Opened is = inr (Opened, given_is action Opened tt is)

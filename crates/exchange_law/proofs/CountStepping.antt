@@ -52,7 +52,7 @@ pub record ServerFits (s : Server) : Type 0 where
 
 -- what may come to it
 abbrev pub IsGiven : Input → Type 0
-IsGiven (Makes n m tag) = (n < FILES) × (tag ≤ GREATEST_TAG) × HasAlgorithm m
+IsGiven (Makes n m tag zoned) = (n < FILES) × (tag ≤ GREATEST_TAG) × HasAlgorithm m
 IsGiven (Adds d) = d.number < DRIVES
 IsGiven (Formats n) = is_format n ≡ true
 IsGiven i = Unit {0}

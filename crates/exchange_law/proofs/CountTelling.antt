@@ -89,11 +89,12 @@ step_good s chosen i k g r slots =
         slots = good.slots;
         sends = more_plain t.sends _ s.next_object t.state.next_object 0 good.sends (λ first last n. tt);
       };
-      made = λ n m tag is none.
-          let f : File = new_file s chosen n m tag in
-          silent_good s _ slots (fit.made n m tag is none) refl
+      made = λ n m tag zoned is none.
+          let f : File = new_file s chosen n m tag zoned in
+          silent_good s _ slots (fit.made n m tag zoned is none) refl
           (drives_plain s.drives (making (at_file (with_file s f) [] f)).effects.sent);
       added = λ d is. silent_good s _ slots (fit.added d is) refl none_plain;
+      zoned = λ d zone is. silent_good s _ slots (fit.zoned d zone is) refl none_plain;
       formats = λ n is. silent_good s _ slots (fit.formats n is) refl none_plain;
       resends = λ is. silent_good s _ slots (fit.resends is) refl (resent_plain s.drives s.files);
       crashes = λ is. silent_good s _ slots (fit.crashes is) refl none_plain;

@@ -75,6 +75,9 @@ given_event w (event.Disk d key capacity) f = either_given (knows_drive w.server
 given_event w (event.File n m tag) f =
     either_given (has_algorithm (raw_of m)) (Some _) None
     (f.1.0, f.1.1.1.1.1.1.1.1.0.1, f.1.1.1.1.1.1.1.0) tt
+given_event w (event.ZonedFile n m tag) f =
+    either_given (has_algorithm (raw_of m)) (Some _) None
+    (f.1.0, f.1.1.1.1.1.1.1.1.0.1, f.1.1.1.1.1.1.1.0) tt
 given_event w (event.Format n) f = one_or_two n f.1.1.0.0 f.1.1.0.1
 given_event w (event.Deliver number) f = given_brought w (slice_get w.network.messages number)
 given_event w (event.Crash (machine.Drive d)) f = tt
@@ -90,6 +93,7 @@ pub event_written : (e : Event) → Fits e → is_written e ≡ true
 event_written (event.Drive d key capacity) f = less_than d DRIVES f.1.0
 event_written (event.Disk d key capacity) f = less_than d DRIVES f.1.0
 event_written (event.File n m tag) f = less_than n FILES f.1.0
+event_written (event.ZonedFile n m tag) f = less_than n FILES f.1.0
 event_written (event.Format n) f = one_or_two n f.1.1.0.0 f.1.1.0.1
 event_written e f = refl
 

@@ -17,15 +17,16 @@ use Rattle.server_rules.specs.Jobs.{is_made, making, fence_begins}
 use Rattle.server_rules.specs.Files.{still, begins, file_at, at_file, to_drives}
 use Rattle.server_rules.specs.Openings.{crashed_file, is_unsettled, opens_made, opens_spent, opens_fenced, opens, opens_each, crash}
 use Rattle.server_rules.specs.Messages.{awaited_by}
-use Rattle.server_rules.specs.Making.{checked_64, online, by_check, refusal, places, components_on, unmade, with_file, makes_file, set_format}
-use Rattle.server_rules.specs.History.{Input, Makes, Adds, Formats, step}
-use Rattle.server_rules.proofs.Components.{length_components, length_placed}
-use Rattle.move_law.specs.Steps.{IsOrdered, with_added, new_file, StepCases}
+use Rattle.server_rules.specs.Making.{checked_64, by_check, refusal, drives_for, components_on, unmade, with_file, makes_file, set_format}
+use Rattle.server_rules.specs.History.{Input, Makes, Adds, Zones, Formats, step}
+use Rattle.server_rules.proofs.Components.{length_components}
+use Rattle.server_rules.proofs.Placed.{length_made}
+use Rattle.move_law.specs.Steps.{IsOrdered, with_added, with_zoned, new_file, StepCases}
 use Rattle.move_law.proofs.Steps.{each_step}
 use Rattle.history_law.specs.Placed.{AreNamed}
 use Rattle.history_law.proofs.Placing.{greater_format}
-use Rattle.history_law.proofs.Made.{AllNamed, places_named}
-use Rattle.history_law.proofs.Inputs.{added_named}
+use Rattle.history_law.proofs.Made.{AllNamed, for_named}
+use Rattle.history_law.proofs.Inputs.{added_named, zoned_named}
 use Rattle.exchange_law.specs.Files.{KeptFits}
 use Rattle.exchange_law.proofs.Parts.{each_more, PartsFit, AllNear, JobFits}
 use Rattle.exchange_law.proofs.Running.{Sound, From, here, over_runs}
@@ -43,21 +44,22 @@ by_tests m n true b h is e = absurd (cc e)
 by_tests m n false true h is e = absurd (cc e)
 by_tests m n false false h is e = (checked_is_checked m n h e, grind (arith, is, nat_tests))
 
-by_result : (m : RawMap) (count : ℕ) (r : Result RawMap MapErr) → ((n : RawMap) → r ≡ Ok n → IsGood m)
-    → by_check count r ≡ None → IsGood m
-by_result m count (Err e) good none = absurd (cc none)
-by_result m count (Ok n) good none = good n refl
+by_result : (m : RawMap) (zoned : Bool) (ds : List Drive) (r : Result RawMap MapErr) → ((n : RawMap) → r ≡ Ok n → IsGood m)
+    → by_check zoned ds r ≡ None → IsGood m
+by_result m zoned ds (Err e) good none = absurd (cc none)
+by_result m zoned ds (Ok n) good none = good n refl
 
 by_name : (m : RawMap) (b : Bool) (x : Refusal) (o : Option Refusal) → (if b then Some x else o) ≡ None
     → (o ≡ None → IsGood m) → IsGood m
 by_name m true x o e good = absurd (cc e)
 by_name m false x o e good = good e
 
-pub good_map : (s : Server) (number : ℕ) (m : RawMap) → HasAlgorithm m → refusal s number m ≡ None → IsGood m
+pub good_map : (s : Server) (number : ℕ) (m : RawMap) (zoned : Bool) → HasAlgorithm m → refusal s number m zoned ≡ None
+    → IsGood m
 unfolding refusal checked_64
-good_map s number m h none =
+good_map s number m zoned h none =
     by_name m (is_some (file_at s.files number)) _ _ none
-    (by_result m (length (online s.drives)) (checked_64 m)
+    (by_result m zoned s.drives (checked_64 m)
     (λ n e. by_tests m n (bad_unit m) (nat_lt MAX_FILE_COMPONENTS m.comps) h refl e))
 
 -- ---- its components
@@ -92,28 +94,28 @@ sent_or (c ∷ cs) g kind work later e o = (refl, refl)
 
 -- ---- the step
 
-module _ (s : Server) (number : ℕ) (m : RawMap) (tag : ℕ) (chosen : List ℕ) (k : ServerFits s)
+module _ (s : Server) (number : ℕ) (m : RawMap) (tag : ℕ) (zoned : Bool) (chosen : List ℕ) (k : ServerFits s)
     (given : (number < FILES) × (tag ≤ GREATEST_TAG) × HasAlgorithm m) where
   abbrev new : File
-  new = unmade s number m tag (places s.drives m.comps chosen)
+  new = unmade s number m tag zoned (drives_for zoned s.drives m chosen)
 
   abbrev start : Going
-  start = at_file (with_file s (unmade s number m tag (places s.drives m.comps chosen))) []
-      (unmade s number m tag (places s.drives m.comps chosen))
+  start = at_file (with_file s (unmade s number m tag zoned (drives_for zoned s.drives m chosen))) []
+      (unmade s number m tag zoned (drives_for zoned s.drives m chosen))
 
-  made_kept : IsGood m → KeptFits (s.next_object + length new.kept.components) new.kept
-  made_kept good =
-      let many = length_components (places s.drives m.comps chosen) s.next_object in
+  made_kept : IsGood m → refusal s number m zoned ≡ None → KeptFits (s.next_object + length new.kept.components) new.kept
+  made_kept good none =
+      let many = length_components (drives_for zoned s.drives m chosen) s.next_object in
       record {
         number = given.0;
         map = good.0;
-        few = omega (arith, many, length_placed s.drives m.comps chosen, good.1);
+        few = omega (arith, many, length_made s number m zoned chosen none, good.1);
         format = k.format;
         tag = given.1;
         size = omega arith;
         components =
-            components_fit (places s.drives m.comps chosen) s.next_object _ (omega (arith, many))
-            (places_named s.drives m.comps chosen k.drives);
+            components_fit (drives_for zoned s.drives m chosen) s.next_object _ (omega (arith, many))
+            (for_named zoned s.drives m chosen k.drives);
         grants = tt;
       }
 
@@ -123,19 +125,19 @@ module _ (s : Server) (number : ℕ) (m : RawMap) (tag : ℕ) (chosen : List ℕ
   made_sent =
       sent_or (to_all new.kept All Creating s.next_nonce) start Making Creates (is_made start) refl refl
 
-  pub made_file_fits : IsGood m → StepFits s (makes_file s new)
-  made_file_fits good =
-      let kept = made_kept good in
+  pub made_file_fits : IsGood m → refusal s number m zoned ≡ None → StepFits s (makes_file s new)
+  made_file_fits good none =
+      let kept = made_kept good none in
       let r = making_runs start (record { kept = kept; drives = k.drives }) in
       let sent = made_sent in
       let long : length (to_drives s.drives (making start).effects.sent) ≡ length r.more =
       length_drives s.drives (making start).effects.sent ∙ ap (λ (ws : List Awaited). length ws) r.sent_is in
-      let creates : length (making start).effects.sent ≡ length (places s.drives m.comps chosen) =
+      let creates : length (making start).effects.sent ≡ length (drives_for zoned s.drives m chosen) =
       ap (λ (ws : List Awaited). length ws) sent.0
-      ∙ creates_all new.kept (places s.drives m.comps chosen) s.next_object 0 s.next_nonce in
+      ∙ creates_all new.kept (drives_for zoned s.drives m chosen) s.next_object 0 s.next_nonce in
       let same : length (to_drives s.drives (making start).effects.sent) ≡ length (making start).effects.sent =
       length_drives s.drives (making start).effects.sent in
-      let many = length_components (places s.drives m.comps chosen) s.next_object in
+      let many = length_components (drives_for zoned s.drives m chosen) s.next_object in
       let rises : s.next_object ≤ (making start).effects.object = omega (arith, sent.1) in
       let whole : s.next_object + length new.kept.components ≤ (making start).effects.object = omega (arith, sent.1) in
       record {
@@ -216,17 +218,26 @@ module _ (s : Server) (chosen : List ℕ) (i : Input) (k : ServerFits s) (g : Is
   pub ordered_fits : (f : File) → IsOrdered s i f → FileFits s.next_object f
   ordered_fits f is = subst (FoundFile s.next_object) is.found (found_file s.next_object s.files is.target k.files)
 
-  made_fits : (n : ℕ) (m : RawMap) (tag : ℕ) → i ≡ Makes n m tag → refusal s n m ≡ None
-      → StepFits s (makes_file s (new_file s chosen n m tag))
-  made_fits n m tag is none =
-      let given : IsGiven (Makes n m tag) = subst IsGiven is g in
-      made_file_fits s n m tag chosen k given (good_map s n m given.2 none)
+  made_fits : (n : ℕ) (m : RawMap) (tag : ℕ) (zoned : Bool) → i ≡ Makes n m tag zoned → refusal s n m zoned ≡ None
+      → StepFits s (makes_file s (new_file s chosen n m tag zoned))
+  made_fits n m tag zoned is none =
+      let given : IsGiven (Makes n m tag zoned) = subst IsGiven is g in
+      made_file_fits s n m tag zoned chosen k given (good_map s n m zoned given.2 none) none
 
   added_fits : (d : Drive) → i ≡ Adds d → StepFits s (still (with_added s d))
   added_fits d is =
       let given : IsGiven (Adds d) = subst IsGiven is g in
       quiet_fits s (with_added s d) (record {
         drives = added_named s.drives d k.drives given;
+        format = k.format;
+        files = k.files;
+        slots = k.slots;
+      }) refl refl refl
+
+  zoned_fits : (d zone : ℕ) → i ≡ Zones d zone → StepFits s (still (with_zoned s d zone))
+  zoned_fits d zone is =
+      quiet_fits s (with_zoned s d zone) (record {
+        drives = zoned_named s.drives d zone k.drives;
         format = k.format;
         files = k.files;
         slots = k.slots;
@@ -254,6 +265,7 @@ module _ (s : Server) (chosen : List ℕ) (i : Input) (k : ServerFits s) (g : Is
     told = λ t now o is result fits. told_fits s o.order result t fits;
     made = made_fits;
     added = added_fits;
+    zoned = zoned_fits;
     formats = format_fits;
     resends = λ is. record {
       fits = k;

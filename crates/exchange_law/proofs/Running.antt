@@ -5,14 +5,15 @@ use Rattle.std.proofs.lemmas.List.{append-nil, length-drop}
 use Rattle.data_map.specs.declared.check.RawMap.{RawMap}
 use Rattle.world_history.specs.ServerNames.{Kept, Component, Drive, Awaited, Piece, Heard, Target, Tally, JobKind, Rebuilding, Work, Fills, NoteKind}
 use Rattle.server_rules.specs.declared.limits.TheConstants.{MAX_FILE_COMPONENTS}
-use Rattle.server_rules.specs.Standing.{free_drives, is_beyond}
+use Rattle.server_rules.specs.Standing.{is_beyond}
+use Rattle.server_rules.specs.Zoning.{takers}
 use Rattle.server_rules.specs.Columns.{end_of}
 use Rattle.server_rules.specs.Going.{Going, over, with_components, noting, noting_if, rests, rests_or}
 use Rattle.server_rules.specs.Audit.{audits, audit_begins}
 use Rattle.server_rules.specs.Rebuild.{or_first, picked, target_on, target_for, makes, makes_or, rebuilds, goes_past, stands_at, sources, sources_by, fills, filling, target_gone, target_full, group_for}
 use Rattle.server_rules.specs.Jobs.{gathered, filled_in, audited_on}
 use Rattle.history_law.specs.Placed.{AreNamed}
-use Rattle.history_law.proofs.Rebuilding.{first_named, free_named}
+use Rattle.history_law.proofs.Rebuilding.{first_named, takers_named}
 use Rattle.exchange_law.specs.Files.{KeptFits}
 use Rattle.exchange_law.proofs.Parts.{PartsFit, wider_parts, fit_set, length_set, AllNear, either_near, each_near, TargetFits, WorkFits, JobFits}
 
@@ -166,8 +167,8 @@ pub rebuilds_run : (g : Going) (cs : List Component) (k : ℕ) → Sound g → l
 unfolding rebuilds target_for
 rebuilds_run g [] k s l = over_runs g s
 rebuilds_run g (at ∷ cs) k s l =
-    made_or g at.missing k (free_drives g.drives g.file.kept.components) _ s (omega (arith, l))
-    (free_named g.drives g.file.kept.components s.drives)
+    made_or g at.missing k (takers g.drives g.file.kept k) _ s (omega (arith, l))
+    (takers_named g.drives g.file.kept k s.drives)
     (rebuilds_run (noting_if at.missing g _) cs (k + 1) (record { kept = s.kept; drives = s.drives })
     (omega (arith, l)))
 

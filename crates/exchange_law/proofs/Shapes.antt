@@ -1,14 +1,9 @@
 -- Each file has as many components as its map, whatever comes to the server.
-use Rattle.std.proofs.Common.{◌≡◌, ◌≤◌, ◌==◌, ◌&&◌, ℕ, ◌+◌, Bool, true, false, List, [], ◌∷◌, Option, Some, None, Result, Ok, Err, length, map, is_some, nat_lt, inl, inr, arith, refl, sym, ap, subst, ◌∙◌, if◌then◌else◌}
-use Rattle.std.proofs.lemmas.Bool.{cases_Bool, eqb-true, ltb-false}
-use Rattle.std.proofs.lemmas.List.{length-take, length-map}
-use Rattle.data_map.specs.declared.check.MapErr.{MapErr}
-use Rattle.data_map.specs.declared.check.MapErr.TheVariants.{Unit as BadUnit, TooMany}
-use Rattle.data_map.specs.Check.{bad_unit, too_many, too_few, bad_multiple, bad_width, bad_depth, checked}
+use Rattle.std.proofs.Common.{◌≡◌, ◌≤◌, ◌==◌, ℕ, ◌+◌, Bool, true, false, List, [], ◌∷◌, Option, Some, None, length, map, refl, sym, ap, subst, ◌∙◌, if◌then◌else◌}
 use Rattle.server_rules.specs.declared.limits.TheConstants.{MAX_FILE_COMPONENTS, GREATEST_TAG}
-use Rattle.world_history.specs.ServerNames.{Server, File, Component, Drive, Job, JobKind, Work, Awaited, Grant, RequestArgs, Get, Commit, Return, ClientRequest, Reply, RawMap, FileExists, TooFewDrives, Revoking, Targets, Gathers, Fills, Reported}
+use Rattle.world_history.specs.ServerNames.{Server, File, Component, Job, JobKind, Work, Awaited, Grant, RequestArgs, Get, Commit, Return, ClientRequest, Reply, RawMap, Revoking, Targets, Gathers, Fills, Reported}
 use Rattle.server_rules.specs.Numbers.{among}
-use Rattle.server_rules.specs.Files.{Step, file_at, put_file, add_file, at_file, begins}
+use Rattle.server_rules.specs.Files.{Step, put_file, add_file, at_file, begins}
 use Rattle.server_rules.specs.Laws.{In}
 use Rattle.server_rules.specs.Going.{Going, keeping, noting, noting_if}
 use Rattle.server_rules.specs.Served.{Served}
@@ -20,9 +15,10 @@ use Rattle.server_rules.specs.Openings.{is_unsettled, opens_made, opens_fenced, 
 use Rattle.server_rules.specs.Orders.{offline, declare}
 use Rattle.server_rules.specs.Replies.{Hearing, Older, Full, Done, Nothing, hearing, hears, fills_up}
 use Rattle.server_rules.specs.Requests.{serves, on_request}
-use Rattle.server_rules.specs.Making.{new_server, online, checked_64, by_online, by_check, refusal, makes_file, with_file, are_of, places}
+use Rattle.server_rules.specs.Making.{new_server, refusal, makes_file, with_file, drives_for}
 use Rattle.server_rules.specs.History.{Input, Makes, Act, step, state_after}
 use Rattle.server_rules.proofs.Components.{length_lost, length_components}
+use Rattle.server_rules.proofs.Placed.{not_refused, length_made}
 use Rattle.move_law.specs.Steps.{answered_file, new_file}
 use Rattle.move_law.proofs.Steps.{each_request, each_step}
 use Rattle.move_law.proofs.Files.{Each, in_at, put_each, add_each, crashed_each, declared_each, opened_each}
@@ -147,87 +143,12 @@ over P g h same x = subst P (sym same) x
 
 -- ---- a file that is made
 
-length_places : (ds : List Drive) (count : ℕ) (chosen : List ℕ) → count ≤ length (online ds)
-    → length (places ds count chosen) ≡ count
-unfolding places
-length_places ds count chosen many = elim (cases_Bool ((length chosen == count) && are_of (online ds) chosen)) [
-  | inl t ↦ rw t (eqb-true (length chosen) count (first _ _ t))
-  | inr z ↦
-      rw z
-      (length-take count (map (λ (d : Drive). d.number) (online ds))
-      ∙ omega (arith, many, length-map (online ds) (λ (d : Drive). d.number)))
-]
-  where
-    first : (a b : Bool) → (a && b) ≡ true → a ≡ true
-    first true b e = refl
-    first false b e = absurd (cc e)
-
-checked_few : (m n : RawMap) → checked_64 m ≡ Ok n → m.comps ≤ MAX_FILE_COMPONENTS
-unfolding checked_64
-checked_few m n e = by (bad_unit m) (nat_lt MAX_FILE_COMPONENTS m.comps) refl e
-  where
-    by : (a b : Bool) → nat_lt MAX_FILE_COMPONENTS m.comps ≡ b
-        → (if a then Err BadUnit else if b then Err TooMany else checked m) ≡ Ok n → m.comps ≤ MAX_FILE_COMPONENTS
-    by true b f g = absurd (cc g)
-    by false true f g = absurd (cc g)
-    by false false f g = ltb-false MAX_FILE_COMPONENTS m.comps f
-
-same_map : (a b c d e f : Bool) (v w x y z u : MapErr) (m n : RawMap)
-    → (if a then Err v else if b then Err w else if c then Err x else if d then Err y else if e then Err z
-    else if f then Err u else Ok m) ≡ Ok n → m ≡ n
-same_map true b c d e f v w x y z u m n g = absurd (cc g)
-same_map false true c d e f v w x y z u m n g = absurd (cc g)
-same_map false false true d e f v w x y z u m n g = absurd (cc g)
-same_map false false false true e f v w x y z u m n g = absurd (cc g)
-same_map false false false false true f v w x y z u m n g = absurd (cc g)
-same_map false false false false false true v w x y z u m n g = absurd (cc g)
-same_map false false false false false false v w x y z u m n g = cc g
-
-checked_same : (m n : RawMap) → checked m ≡ Ok n → m ≡ n
-unfolding checked
-checked_same m n e =
-    same_map (bad_unit m) (too_many m) (too_few m) (bad_multiple m) (bad_width m) (bad_depth m) _ _ _ _ _ _ m n e
-
-pub checked_64_same : (m n : RawMap) → checked_64 m ≡ Ok n → m ≡ n
-unfolding checked_64
-checked_64_same m n e = by (bad_unit m) (nat_lt MAX_FILE_COMPONENTS m.comps) e
-  where
-    by : (a b : Bool) → (if a then Err BadUnit else if b then Err TooMany else checked m) ≡ Ok n → m ≡ n
-    by true b g = absurd (cc g)
-    by false true g = absurd (cc g)
-    by false false g = checked_same m n g
-
-many_online : (m : RawMap) (n : ℕ) → by_online m n ≡ None → m.comps ≤ n
-many_online m n e = by (nat_lt n m.comps) refl e
-  where
-    by : (b : Bool) → nat_lt n m.comps ≡ b → (if b then Some (TooFewDrives n) else None) ≡ None → m.comps ≤ n
-    by true f g = absurd (cc g)
-    by false f g = ltb-false n m.comps f
-
--- its map has few components, for each of which there is a drive
-by_result : (m : RawMap) (n : ℕ) (r : Result RawMap MapErr) → checked_64 m ≡ r → by_check n r ≡ None
-    → (m.comps ≤ MAX_FILE_COMPONENTS) × (m.comps ≤ n)
-by_result m n (Err e) is none = absurd (cc none)
-by_result m n (Ok k) is none = (
-  checked_few m k is,
-  subst (λ (x : RawMap). x.comps ≤ n) (sym (checked_64_same m k is)) (many_online k n none),
-)
-
-not_refused : (s : Server) (n : ℕ) (m : RawMap) → refusal s n m ≡ None
-    → (m.comps ≤ MAX_FILE_COMPONENTS) × (m.comps ≤ length (online s.drives))
-unfolding refusal
-not_refused s n m e = by (is_some (file_at s.files n)) e
-  where
-    by : (b : Bool) → (if b then Some FileExists else by_check (length (online s.drives)) (checked_64 m)) ≡ None
-        → (m.comps ≤ MAX_FILE_COMPONENTS) × (m.comps ≤ length (online s.drives))
-    by true f = absurd (cc f)
-    by false f = by_result m (length (online s.drives)) (checked_64 m) refl f
-
 -- ---- whatever comes
 
 -- a file that is made has a component for each that its map has, so P need only hold of that
 abbrev pub IsOfMade : (RawMap × ℕ → Type 0) → Server → Input → Type 0
-IsOfMade P s i = (n : ℕ) (m : RawMap) (tag : ℕ) → i ≡ Makes n m tag → refusal s n m ≡ None → P (m, m.comps)
+IsOfMade P s i =
+    (n : ℕ) (m : RawMap) (tag : ℕ) (zoned : Bool) → i ≡ Makes n m tag zoned → refusal s n m zoned ≡ None → P (m, m.comps)
 
 module _ (P : RawMap × ℕ → Type 0) (s : Server) (chosen : List ℕ) (i : Input) (new : IsOfMade P s i)
     (all : Each (Shaped P) s.files) where
@@ -253,14 +174,13 @@ module _ (P : RawMap × ℕ → Type 0) (s : Server) (chosen : List ℕ) (i : In
       let g : Going = record { file = f; effects = m; drives = offline s.drives d; chosen = placed } in
       over P g (declares g d) (long_declares g d) (all f there))
 
-  made_shaped : (n : ℕ) (m : RawMap) (tag : ℕ) → i ≡ Makes n m tag → refusal s n m ≡ None
-      → Each (Shaped P) (makes_file s (new_file s chosen n m tag)).state.files
-  made_shaped n m tag is none =
-      let f : File = new_file s chosen n m tag in
-      let it = not_refused s n m none in
+  made_shaped : (n : ℕ) (m : RawMap) (tag : ℕ) (zoned : Bool) → i ≡ Makes n m tag zoned → refusal s n m zoned ≡ None
+      → Each (Shaped P) (makes_file s (new_file s chosen n m tag zoned)).state.files
+  made_shaped n m tag zoned is none =
+      let f : File = new_file s chosen n m tag zoned in
       let count : length f.kept.components ≡ m.comps =
-      length_components (places s.drives m.comps chosen) s.next_object ∙ length_places s.drives m.comps chosen it.1 in
-      let fresh : Shaped P f = subst (λ (k : ℕ). P (m, k)) (sym count) (new n m tag is none) in
+      length_components (drives_for zoned s.drives m chosen) s.next_object ∙ length_made s n m zoned chosen none in
+      let fresh : Shaped P f = subst (λ (k : ℕ). P (m, k)) (sym count) (new n m tag zoned is none) in
       let g : Going = making (at_file (with_file s f) [] f) in
       put_each (Shaped P) (add_file s.files f) n g.file (add_each (Shaped P) s.files f all fresh)
       (over P (at_file (with_file s f) [] f) g (long_making (at_file (with_file s f) [] f)) fresh)
@@ -280,8 +200,9 @@ module _ (P : RawMap × ℕ → Type 0) (s : Server) (chosen : List ℕ) (i : In
         (in_at s.files is.target f is.found) (long_fence kind s.format (at_file s chosen f));
     declared = λ d known. declared_shaped d;
     told = λ t now o is result shaped. shaped;
-    made = λ n m tag is none. made_shaped n m tag is none;
+    made = λ n m tag zoned is none. made_shaped n m tag zoned is none;
     added = λ d is. all;
+    zoned = λ d zone is. all;
     formats = λ n is. all;
     resends = λ is. all;
     crashes = λ is. crashed_each (Shaped P) s.files all;
@@ -298,7 +219,7 @@ run_shaped : (s : Server) (acts : List Act) → Each (Shaped IsShape) s.files �
 run_shaped s [] all = all
 run_shaped s (a ∷ acts) all =
     run_shaped (step s a.chosen a.input).state acts
-    (step_shaped IsShape s a.chosen a.input (λ n m tag is none. (refl, (not_refused s n m none).0)) all)
+    (step_shaped IsShape s a.chosen a.input (λ n m tag zoned is none. (refl, (not_refused s n m zoned none).few)) all)
 
 -- at each moment the server is a new one after some inputs
 pub files_have_shape : AllPartiesRun → FilesHaveShape

@@ -1,7 +1,6 @@
 -- What a reply does to a job.
-use Rattle.std.specs.Prelude.{ℕ, List, [], ◌∷◌, ◌++◌, Option, Some, None, ◌≡◌, ◌<◌, length, map, slice_get, find, refl}
-use Rattle.std.proofs.Common.{arith, ap, sym, ◌∙◌, get_or}
-use Rattle.std.proofs.lemmas.Option.{slice_get-get_or}
+use Rattle.std.specs.Prelude.{ℕ, List, [], ◌∷◌, ◌++◌, Option, Some, None, ◌≡◌, map, slice_get, find, refl}
+use Rattle.std.proofs.Common.{ap, sym, ◌∙◌}
 use Rattle.osd_lists.proofs.Slices.{some_at}
 use Rattle.osd_commands.specs.declared.replies.Reply.{Reply}
 use Rattle.server_rules.specs.declared.files.Kept.{Kept}

@@ -3,6 +3,7 @@ pub mod Missing
 pub mod Rising
 pub mod Finding
 pub mod Placed
+pub mod Zoned
 pub mod Placements
 pub mod Mends
 pub mod Losses

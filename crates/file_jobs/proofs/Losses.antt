@@ -1,6 +1,6 @@
 -- A component that becomes missing in the middle of a job.
-use Rattle.std.specs.Prelude.{ℕ, Bool, true, false, List, [], ◌∷◌, Option, Some, None, refl, ◌≡◌, ◌==◌, ◌||◌, ◌+◌, length}
-use Rattle.std.proofs.Common.{arith, ap, sym, ◌∙◌}
+use Rattle.std.specs.Prelude.{ℕ, Bool, true, false, List, [], ◌∷◌, Option, Some, None, refl, ◌≡◌, ◌==◌, ◌||◌, length}
+use Rattle.std.proofs.Common.{ap, sym, ◌∙◌}
 use Rattle.server_rules.specs.declared.files.Component.{Component}
 use Rattle.server_rules.specs.declared.files.Kept.{Kept}
 use Rattle.server_rules.specs.declared.jobs.Awaited.{Awaited}

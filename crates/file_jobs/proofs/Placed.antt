@@ -1,5 +1,5 @@
 -- The drives that are free for a file, by their loads and by the drives.
-use Rattle.std.specs.Prelude.{ℕ, Bool, true, false, List, [], ◌∷◌, Some, refl, ◌≡◌, ◌+◌, ◌≤◌, ◌<◌, ◌==◌, ◌&&◌, ◌||◌, not, nat_eq, cond, find, is_some, length, count_by, slice_get, All}
+use Rattle.std.specs.Prelude.{ℕ, Bool, true, false, List, [], ◌∷◌, Option, Some, refl, ◌≡◌, ◌+◌, ◌≤◌, ◌<◌, ◌==◌, ◌&&◌, not, nat_eq, cond, find, is_some, length, count_by, slice_get, All}
 use Rattle.std.proofs.Common.{arith, inl, inr, ap, subst, ◌∙◌}
 use Rattle.std.proofs.lemmas.List.{length-map}
 use Rattle.std.proofs.lemmas.Bool.{cases_Bool, and_right}
@@ -9,15 +9,17 @@ use Rattle.server_rules.specs.declared.files.Component.{Component}
 use Rattle.server_rules.specs.declared.server.Drive.{Drive}
 use Rattle.server_rules.specs.Standing.{free_drives, stood_on}
 use Rattle.stripe_repair.specs.declared.loads.DriveLoad.{DriveLoad}
-use Rattle.stripe_repair.specs.declared.loads.TheConstants.{MAX_DRIVES}
+use Rattle.zone_place.specs.declared.loads.TheConstants.{MAX_DRIVES}
 use Rattle.stripe_repair.specs.Placing.{AreDifferent, CanPlace, FitsLoad, Places, drives_of, is_online}
-use Rattle.file_jobs.specs.Placing.{AreLoadsOf, free_load, free_loads, IsPick}
+use Rattle.file_jobs.specs.Placing.{AreLoadsOf, free_load, free_loads, IsAmong}
 
 -- one load more
-pub tail_of : (l : DriveLoad) (ls : List DriveLoad) (d : Drive) (ds : List Drive) → AreLoadsOf (l ∷ ls) (d ∷ ds) → (l.drive ≡ d.number) × (l.online ≡ d.online) × AreLoadsOf ls ds
+pub tail_of : (l : DriveLoad) (ls : List DriveLoad) (d : Drive) (ds : List Drive) → AreLoadsOf (l ∷ ls) (d ∷ ds) →
+    (l.drive ≡ d.number) × (l.online ≡ d.online) × AreLoadsOf ls ds × (l.zone ≡ d.zone)
 tail_of l ls d ds e =
-    let h : (l.drive, l.online) ≡ (d.number, d.online) = cc e in
-    (ap (λ (p : ℕ × Bool). p.0) h, ap (λ (p : ℕ × Bool). p.1) h, cc e)
+    let h : (l.drive, l.online, l.zone) ≡ (d.number, d.online, d.zone) = cc e in
+    let rest : AreLoadsOf ls ds = cc e in
+    (ap (λ (p : ℕ × Bool × Option ℕ). p.0) h, ap (λ (p : ℕ × Bool × Option ℕ). p.1) h, rest, ap (λ (p : ℕ × Bool × Option ℕ). p.2) h)
 
 -- how many are online
 counted : (b : Bool) (n m : ℕ) → n ≡ cond b 1 0 + m → n ≡ 0 → (b ≡ false) × (m ≡ 0)
@@ -70,9 +72,9 @@ can_place cs loads few fits different some = record {
     same_drives cs (l ∷ ls) = ap (λ (xs : List ℕ). l.drive ∷ xs) (same_drives cs ls)
 
 -- the one that was chosen
-pub chosen_is_free : (cs : List Component) (loads : List DriveLoad) (ds : List Drive) (chosen : List ℕ) (drive : ℕ) → AreLoadsOf loads ds → Places 1 (free_loads cs loads) (drive ∷ chosen) → IsPick ds cs (Some drive)
+pub chosen_is_free : (cs : List Component) (loads : List DriveLoad) (ds : List Drive) (chosen : List ℕ) (drive : ℕ) → AreLoadsOf loads ds → Places 1 (free_loads cs loads) (drive ∷ chosen) → IsAmong (free_drives ds cs) (Some drive)
 chosen_is_free cs loads ds chosen drive e p = free_found cs loads ds drive e (first_true _ _ p.online)
 
-pub picked_free : (cs : List Component) (loads : List DriveLoad) (ds : List Drive) (chosen : List ℕ) (drive : ℕ) → AreLoadsOf loads ds → Places 1 (free_loads cs loads) chosen → slice_get chosen 0 ≡ Some drive → IsPick ds cs (Some drive)
+pub picked_free : (cs : List Component) (loads : List DriveLoad) (ds : List Drive) (chosen : List ℕ) (drive : ℕ) → AreLoadsOf loads ds → Places 1 (free_loads cs loads) chosen → slice_get chosen 0 ≡ Some drive → IsAmong (free_drives ds cs) (Some drive)
 picked_free cs loads ds [] drive e p g = absurd (cc g)
 picked_free cs loads ds (x ∷ xs) drive e p g = chosen_is_free cs loads ds xs drive e (subst (λ y. Places 1 (free_loads cs loads) (y ∷ xs)) (cc g) p)

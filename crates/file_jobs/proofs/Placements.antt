@@ -14,7 +14,7 @@ use Rattle.server_rules.specs.Commands.{Creating, sent_to}
 use Rattle.server_rules.specs.declared.jobs.Work.TheVariants.{Targets}
 use Rattle.server_rules.specs.Going.{Going, over, noting_if, rests_or}
 use Rattle.server_rules.specs.Rebuild.{picked, target_for, makes, rebuilds}
-use Rattle.server_rules.specs.Standing.{free_drives}
+use Rattle.server_rules.specs.Zoning.{takers}
 use Rattle.file_jobs.specs.declared.job.Work.TheVariants.{Targets as Placing}
 use Rattle.file_jobs.specs.declared.job.Turn.{Turn}
 use Rattle.file_jobs.specs.Works.{noted}
@@ -36,13 +36,13 @@ picked_is [] drive rest e = absurd (cc e)
 picked_is (d ∷ ds) drive rest e = rw e refl
 
 -- it is made on the drive that was picked
-one_made : (g : Going) (at : Component) (cs : List Component) (k drive : ℕ) → at.missing ≡ true → picked g.chosen (free_drives g.drives g.file.kept.components) ≡ Some drive →
+one_made : (g : Going) (at : Component) (cs : List Component) (k drive : ℕ) → at.missing ≡ true → picked g.chosen (takers g.drives g.file.kept k) ≡ Some drive →
     rebuilds g (at ∷ cs) k ≡ makes g (record { component = k; drive = drive; object = g.effects.object })
 unfolding rebuilds target_for
 one_made g at cs k drive t e = rw (t, e) refl
 
 -- no drive can take it
-one_passed : (g : Going) (at : Component) (cs : List Component) (k : ℕ) → at.missing ≡ true → free_drives g.drives g.file.kept.components ≡ [] →
+one_passed : (g : Going) (at : Component) (cs : List Component) (k : ℕ) → at.missing ≡ true → takers g.drives g.file.kept k ≡ [] →
     rebuilds g (at ∷ cs) k ≡ rebuilds (noting_if true g (NoDrive k)) cs (k + 1)
 unfolding rebuilds target_for
 one_passed g at cs k t e = rw (t, e) refl
@@ -63,16 +63,16 @@ is_present kept m a k at l e f =
     sym (one_present (going kept m a) at (drop (k + 1) kept.components) k f) ∙ ap (λ (cs : List Component). rebuilds (going kept m a) cs k) (sym (here kept.components k at l e))
 
 pub is_passed : (kept : Kept) (m : Effects) (a : Around) (k : ℕ) (at : Component) → k < length kept.components → slice_get kept.components k ≡ Some at → at.missing ≡ true →
-    IsPick a.drives kept.components None →
+    IsPick a.drives kept k None →
     rebuilds (going kept (noted m kept.number (NoDrive k)) a) (drop (k + 1) kept.components) (k + 1) ≡ rebuilds (going kept m a) (drop k kept.components) k
 is_passed kept m a k at l e t p =
     sym (one_passed (going kept m a) at (drop (k + 1) kept.components) k t p) ∙ ap (λ (cs : List Component). rebuilds (going kept m a) cs k) (sym (here kept.components k at l e))
 
 pub is_made_on : (kept : Kept) (m : Effects) (a : Around) (k drive : ℕ) (at : Component) → k < length kept.components → slice_get kept.components k ≡ Some at → at.missing ≡ true →
-    IsPick a.drives kept.components (Some drive) →
+    IsPick a.drives kept k (Some drive) →
     makes (going kept m (record a { chosen = drive ∷ a.chosen })) (record { component = k; drive = drive; object = m.object })
     ≡ rebuilds (going kept m (record a { chosen = drive ∷ a.chosen })) (drop k kept.components) k
 is_made_on kept m a k drive at l e t p =
     let g : Going = going kept m (record a { chosen = drive ∷ a.chosen }) in
-    sym (one_made g at (drop (k + 1) kept.components) k drive t (picked_is (free_drives a.drives kept.components) drive a.chosen p))
+    sym (one_made g at (drop (k + 1) kept.components) k drive t (picked_is (takers a.drives kept k) drive a.chosen p))
     ∙ ap (λ (cs : List Component). rebuilds g cs k) (sym (here kept.components k at l e))

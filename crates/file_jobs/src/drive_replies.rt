@@ -1,7 +1,7 @@
 // A drive's reply at a whole file.
 ghost use Rattle.std.specs.Prelude.{◌<◌, ◌≤◌, ◌^◌, length, IfOk, IfSome, IfNone, OnOk};
 ghost use Rattle.stripe_repair.specs.Placing.{AreDifferent, drives_of};
-ghost use Rattle.stripe_repair.specs.declared.loads.TheConstants.{MAX_DRIVES};
+ghost use Rattle.zone_place.specs.declared.loads.TheConstants.{MAX_DRIVES};
 ghost use Rattle.file_jobs.specs.Heard.{FoundIn, FoundNowhere, HearsReply};
 ghost use Rattle.file_jobs.specs.Sound.{IsSoundFile, Leaves};
 

@@ -2,7 +2,7 @@
 ghost use Rattle.std.specs.Prelude.{◌≡◌, ◌<◌, ◌≤◌, ◌+◌, ◌^◌, Some, length, IfOk, OnOk};
 ghost use Rattle.server_rules.specs.Jobs.{declares, is_target, loses, others_than, targets};
 ghost use Rattle.stripe_repair.specs.Placing.{AreDifferent, drives_of};
-ghost use Rattle.stripe_repair.specs.declared.loads.TheConstants.{MAX_DRIVES};
+ghost use Rattle.zone_place.specs.declared.loads.TheConstants.{MAX_DRIVES};
 ghost use Rattle.file_jobs.specs.Losing.{TurnsIn, target_in};
 ghost use Rattle.file_jobs.specs.Sound.{FitsAfterLoss, IsSound, IsSoundFile, Leaves, RestsSound};
 ghost use Rattle.file_jobs.specs.Steps.{StepsOn};

@@ -1,7 +1,7 @@
 // The job that rests at the end of a step: where a repair, or the rebuild of a component, is over, the placer is asked.
 ghost use Rattle.std.specs.Prelude.{◌<◌, ◌≤◌, ◌^◌, length, IfOk};
 ghost use Rattle.stripe_repair.specs.Placing.{AreDifferent, drives_of};
-ghost use Rattle.stripe_repair.specs.declared.loads.TheConstants.{MAX_DRIVES};
+ghost use Rattle.zone_place.specs.declared.loads.TheConstants.{MAX_DRIVES};
 ghost use Rattle.file_jobs.specs.declared.job.Turn.TheVariants.{Mended as IsMended};
 ghost use Rattle.file_jobs.specs.Sound.{HasSoundJob, IsSound, RestsLow};
 ghost use Rattle.file_jobs.specs.Steps.{Settles};

@@ -1,12 +1,12 @@
 // Steps at a whole file.
-ghost use Rattle.std.specs.Prelude.{[], ◌≡◌, ◌<◌, ◌≤◌, ◌^◌, length, IfOk, OnOk};
+ghost use Rattle.std.specs.Prelude.{[], ◌≡◌, ◌<◌, ◌≤◌, ◌^◌, length, OnOk};
 ghost use Rattle.server_rules.specs.declared.files.Kept.{Kept};
 ghost use Rattle.server_rules.specs.declared.jobs.JobKind.TheVariants.{Revoking};
 ghost use Rattle.server_rules.specs.declared.limits.TheConstants.{GREATEST_TAG};
 ghost use Rattle.server_rules.specs.declared.server.Effects.{Effects as TheEffects};
 ghost use Rattle.server_rules.specs.Jobs.{fence_begins, making};
 ghost use Rattle.stripe_repair.specs.Placing.{AreDifferent, drives_of};
-ghost use Rattle.stripe_repair.specs.declared.loads.TheConstants.{MAX_DRIVES};
+ghost use Rattle.zone_place.specs.declared.loads.TheConstants.{MAX_DRIVES};
 ghost use Rattle.file_jobs.specs.Sound.{HasSoundJob, IsSound, IsSoundFile, Leaves, RestsSound};
 ghost use Rattle.file_jobs.specs.Steps.{GoesOnAs, IsSettled, SetsJob, Steps, StepsOn};
 

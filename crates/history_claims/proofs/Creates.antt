@@ -15,7 +15,7 @@ use Rattle.server_rules.specs.Files.{file_at, put_file, add_file, at_file}
 use Rattle.server_rules.specs.Going.{Going, rests_or}
 use Rattle.server_rules.specs.Jobs.{is_made, making}
 use Rattle.server_rules.specs.Laws.{In, FilesArePut}
-use Rattle.server_rules.specs.Making.{places, components_on, unmade, with_file, makes_file, unless_refused, refusal, create_file}
+use Rattle.server_rules.specs.Making.{drives_for, components_on, unmade, with_file, makes_file, unless_refused, refusal, create_file}
 use Rattle.server_rules.proofs.Members.{in_behind}
 use Rattle.world_history.specs.ServerNames.{File, Kept, Component, Awaited, JobKind, Work, Making as MakesIt, Creates, RawMap, Refusal}
 use Rattle.world_history.specs.State.{World}
@@ -37,17 +37,18 @@ use Rattle.history_law.specs.StepEnds.{BeginNone}
 use Rattle.history_law.proofs.BookLines.{flat_placed}
 use Rattle.history_law.proofs.Following.{IsServerRead, IsFollowed, followed}
 use Rattle.history_law.proofs.Leading.{begins_flat}
-use Rattle.history_law.proofs.Made.{places_named, told_on}
+use Rattle.history_law.proofs.Made.{for_named, told_on}
 use Rattle.history_law.proofs.Staying.{written_front}
 use Rattle.history_law.proofs.StepEnds.{place_of}
 use Rattle.calm_law.specs.Words.{Each}
+use Rattle.calm_law.specs.Following.{is_opening}
 use Rattle.calm_law.proofs.Shapes.{Bare, is_event, sent_bare}
 use Rattle.calm_law.proofs.Inside.{shape_each, opens_each}
 use Rattle.calm_law.proofs.MoveFollowing.{acts_shape, next_opens, plain_lines}
 use Rattle.calm_law.proofs.MoveOpening.{begins_bare}
 use Rattle.exchange_law.proofs.CountMoments.{at_moment}
 use Rattle.fencing_law.proofs.Ending.{next_moment}
-use Rattle.history_claims.specs.Created.{ArePlaced, FilesAreCreated, EachFileIsCreated}
+use Rattle.history_claims.specs.Created.{file_event, ArePlaced, FilesAreCreated, EachFileIsCreated}
 
 -- ---- the file
 
@@ -93,13 +94,13 @@ abbrev ActPlaced : (number k : ℕ) → Act → Type 0
 ActPlaced n k a = ArePlaced (placed_in (sent_lines k a.posts)) (file_at a.world.server.files n)
 
 module _ (put : FilesArePut) (w : World) (readable : IsReadable w.server) (chosen : List ℕ) (n : ℕ) (m : RawMap)
-    (tag k : ℕ)
+    (tag k : ℕ) (zoned : Bool)
     (none : file_at w.server.files n ≡ None) where
   abbrev drives : List ℕ
-  drives = places w.server.drives m.comps chosen
+  drives = drives_for zoned w.server.drives m chosen
 
   abbrev new : File
-  new = unmade w.server n m tag drives
+  new = unmade w.server n m tag zoned drives
 
   abbrev going : Going
   going = making (at_file (with_file w.server new) [] new)
@@ -122,45 +123,55 @@ module _ (put : FilesArePut) (w : World) (readable : IsReadable w.server) (chose
   by_refusal (Some e) = nothing_placed
   by_refusal None =
       subst (ArePlaced _) (sym found)
-      (told_on w.server n m tag readable drives (places_named w.server.drives m.comps chosen readable.drives) k
+      (told_on w.server n m tag zoned readable drives (for_named zoned w.server.drives m chosen readable.drives) k
       ∙ sym components)
 
-  makes_placed : ActPlaced n k (makes w chosen n m tag)
+  makes_placed : ActPlaced n k (makes w chosen n m tag zoned)
   unfolding makes create_file sent_lines
   makes_placed = either (has_algorithm m)
     where
       either : (b : Bool)
-          → ActPlaced n k (if b then made_file w n (unless_refused (refusal w.server n m) (makes_file w.server new))
+          → ActPlaced n k (if b then made_file w n (unless_refused (refusal w.server n m zoned) (makes_file w.server new))
           else tells w (line.Note n (note.BadMap map_fault.Width)))
-      either true = by_refusal (refusal w.server n m)
+      either true = by_refusal (refusal w.server n m zoned)
       either false = nothing_placed
 
 -- ---- the move
 
 -- in the lines of a move that makes a file
 new_placed : FilesArePut → (w : World) → IsReadable w.server → (chosen : List ℕ) (n : ℕ) (m : FileMap) (tag : ℕ)
-    → file_at w.server.files n ≡ None
-    → ArePlaced (placed_in (move w (opening (event.File n m tag) chosen)).lines)
-    (file_at (move w (opening (event.File n m tag) chosen)).world.server.files n)
+    (zoned : Bool) → file_at w.server.files n ≡ None
+    → ArePlaced (placed_in (move w (opening (file_event n m tag zoned) chosen)).lines)
+    (file_at (move w (opening (file_event n m tag zoned) chosen)).world.server.files n)
 unfolding begins
-new_placed put w readable chosen n m tag none =
-    let a : Act = makes w chosen n (raw_of m) tag in
+new_placed put w readable chosen n m tag false none =
+    let a : Act = makes w chosen n (raw_of m) tag false in
     let k : ℕ = length a.world.network.messages in
     subst (λ (ds : List ℕ). ArePlaced ds (file_at a.world.server.files n))
     (sym (flat_placed a.told (sent_lines k a.posts) (begins_flat w chosen (event.File n m tag) refl)))
-    (makes_placed put w readable chosen n (raw_of m) tag k none)
+    (makes_placed put w readable chosen n (raw_of m) tag k false none)
+new_placed put w readable chosen n m tag true none =
+    let a : Act = makes w chosen n (raw_of m) tag true in
+    let k : ℕ = length a.world.network.messages in
+    subst (λ (ds : List ℕ). ArePlaced ds (file_at a.world.server.files n))
+    (sym (flat_placed a.told (sent_lines k a.posts) (begins_flat w chosen (event.ZonedFile n m tag) refl)))
+    (makes_placed put w readable chosen n (raw_of m) tag k true none)
 
 bare_none : (ls : List Line) → Bare ls → BeginNone ls
 bare_none [] b l i = absurd i
 bare_none (x ∷ ls) b l (inl e) = ap is_head e ∙ b.0
 bare_none (x ∷ ls) b l (inr i) = bare_none ls b.1 l i
 
-new_bare : (w : World) (chosen : List ℕ) (n : ℕ) (m : FileMap) (tag : ℕ)
-    → BeginNone (move w (opening (event.File n m tag) chosen)).lines
-new_bare w chosen n m tag =
-    bare_none (move w (opening (event.File n m tag) chosen)).lines
-    (sent_bare (acts w chosen (opening (event.File n m tag) chosen).action)
-    (begins_bare w chosen (event.File n m tag) refl))
+no_opening : (n : ℕ) (m : FileMap) (tag : ℕ) (zoned : Bool) → is_opening (file_event n m tag zoned) ≡ false
+no_opening n m tag true = refl
+no_opening n m tag false = refl
+
+new_bare : (w : World) (chosen : List ℕ) (n : ℕ) (m : FileMap) (tag : ℕ) (zoned : Bool)
+    → BeginNone (move w (opening (file_event n m tag zoned) chosen)).lines
+new_bare w chosen n m tag zoned =
+    bare_none (move w (opening (file_event n m tag zoned) chosen)).lines
+    (sent_bare (acts w chosen (opening (file_event n m tag zoned) chosen).action)
+    (begins_bare w chosen (file_event n m tag zoned) (no_opening n m tag zoned)))
 
 -- ---- where the line of an event stands
 
@@ -218,8 +229,8 @@ by_moves v w e (z ∷ ms) m is allowed d front after x there =
 -- ---- the lines of a history
 
 none_created : FilesAreCreated []
-none_created [] after n m tag is none = absurd (cc is)
-none_created (x ∷ before) after n m tag is none = absurd (cc is)
+none_created [] after n m tag zoned is none = absurd (cc is)
+none_created (x ∷ before) after n m tag zoned is none = absurd (cc is)
 
 module _ (put : FilesArePut) (on : ServerGoesOn) (all : AllLinesGoOn) where
   abbrev So : World → List Line → Type 0
@@ -233,12 +244,12 @@ module _ (put : FilesArePut) (on : ServerGoesOn) (all : AllLinesGoOn) where
 
   one_more : (w : World) (h : List Line) (k : IsMoment w h) (m : Move) → due (plan_at k) w ≡ Some m.action → So w h
       → So (move w m).world (h ++ lines_in w m)
-  one_more w h k m d so written before after n map tag is none =
-      let l : Line = line.Event (event.File n map tag) in
+  one_more w h k m d so written before after n map tag zoned is none =
+      let l : Line = line.Event (file_event n map tag zoned) in
       let front_written = written_front h (lines_in w m) written in
       elim (place_of h (lines_in w m) before after l is) [
         | inl (rest, own, behind) ↦
-            let r = so front_written before rest n map tag own none in
+            let r = so front_written before rest n map tag zoned own none in
             record {
               rest = r.rest;
               more = r.more ++ lines_in w m;
@@ -249,7 +260,7 @@ module _ (put : FilesArePut) (on : ServerGoesOn) (all : AllLinesGoOn) where
               placed = r.placed;
             }
         | inr (front, own, it) ↦
-            let f = by_moves k.before w k.event k.moves m k.world_is k.allowed d front after (event.File n map tag) it in
+            let f = by_moves k.before w k.event k.moves m k.world_is k.allowed d front after (file_event n map tag zoned) it in
             let same : before ≡ h = own ∙ ap (λ (ls : List Line). h ++ ls) f.first ∙ append-nil h in
             let there = read_there w h k front_written in
             let next = read_there (move w m).world (h ++ lines_in w m) (next_moment w h k m d) written in
@@ -258,10 +269,10 @@ module _ (put : FilesArePut) (on : ServerGoesOn) (all : AllLinesGoOn) where
             let placed : ArePlaced (placed_in (move w m).lines) (file_at (move w m).world.server.files n) =
             subst (λ (a : Action). ArePlaced (placed_in (move w (record { action = a; chosen = m.chosen })).lines)
             (file_at (move w (record { action = a; chosen = m.chosen })).world.server.files n)) (sym f.action)
-            (new_placed put w there.readable m.chosen n map tag missing) in
+            (new_placed put w there.readable m.chosen n map tag zoned missing) in
             let bare : BeginNone (move w m).lines =
             subst (λ (a : Action). BeginNone (move w (record { action = a; chosen = m.chosen })).lines) (sym f.action)
-            (new_bare w m.chosen n map tag) in
+            (new_bare w m.chosen n map tag zoned) in
             record {
               rest = after;
               more = [];

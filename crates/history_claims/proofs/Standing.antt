@@ -13,7 +13,7 @@ use Rattle.server_rules.specs.Numbers.{among}
 use Rattle.server_rules.specs.Files.{file_at}
 use Rattle.server_rules.specs.Messages.{Message}
 use Rattle.server_rules.specs.Envelopes.{message_in}
-use Rattle.server_rules.specs.History.{Input, Hears, Makes, Obeys, Adds, Formats, Crashes, Opens, step}
+use Rattle.server_rules.specs.History.{Input, Hears, Makes, Obeys, Adds, Zones, Formats, Crashes, Opens, step}
 use Rattle.world_history.specs.ServerNames.{Server, File, RawMap, ToRecall, ToRevoke, ToDeclare, ToRebuild, ToAudit}
 use Rattle.world_history.specs.declared.messages.Sent.{Sent}
 use Rattle.world_history.specs.Spelled.{node_of}
@@ -53,9 +53,9 @@ module _ (ds : List ℕ) (l : Line) where
   heard_as now None i e = absurd (cc e)
   heard_as now (Some m) i e = heard_by now m m.to i e
 
-  made_as : (f : ℕ) (m : RawMap) (tag : ℕ) (i : Input) → made_of f m tag ≡ Some i → IsGiven ds l i
-  made_as f m tag i e = elim (cases_Bool (has_algorithm m)) [
-    | inl t ↦ let s : Makes f m tag ≡ i = cc (rw t at e) in subst (IsGiven ds l) s tt
+  made_as : (f : ℕ) (m : RawMap) (tag : ℕ) (zoned : Bool) (i : Input) → made_of f m tag zoned ≡ Some i → IsGiven ds l i
+  made_as f m tag zoned i e = elim (cases_Bool (has_algorithm m)) [
+    | inl t ↦ let s : Makes f m tag zoned ≡ i = cc (rw t at e) in subst (IsGiven ds l) s tt
     | inr z ↦ absurd (cc (rw z at e))
   ]
 
@@ -67,9 +67,12 @@ given_by ds (event.Drive d key capacity) i e new =
 given_by ds (event.Disk d key capacity) i e new =
     let s : Adds (known_drive d key capacity) ≡ i = cc e in
     subst (IsGiven ds (line.Event (event.Disk d key capacity))) s (refl, new)
-given_by ds (event.File f m tag) i e new = made_as ds (line.Event (event.File f m tag)) f (raw_of m) tag i e
+given_by ds (event.File f m tag) i e new = made_as ds (line.Event (event.File f m tag)) f (raw_of m) tag false i e
+given_by ds (event.ZonedFile f m tag) i e new = made_as ds (line.Event (event.ZonedFile f m tag)) f (raw_of m) tag true i e
 given_by ds (event.Format format) i e new =
     let s : Formats format ≡ i = cc e in subst (IsGiven ds (line.Event (event.Format format))) s tt
+given_by ds (event.Zone d zone) i e new =
+    let s : Zones d zone ≡ i = cc e in subst (IsGiven ds (line.Event (event.Zone d zone))) s tt
 given_by ds (event.Recall f) i e new =
     let s : Obeys ToRecall f ≡ i = cc e in subst (IsGiven ds (line.Event (event.Recall f))) s tt
 given_by ds (event.Revoke f) i e new =

@@ -1,5 +1,6 @@
 -- On which drives the components of a file are made, in the words of the lines.
-use Rattle.std.specs.Prelude.{◌≡◌, ℕ, List, [], ◌∷◌, ◌++◌, map, Option, Some, None}
+use Rattle.std.specs.Prelude.{◌≡◌, ℕ, Bool, true, false, List, [], ◌∷◌, ◌++◌, map, Option, Some, None}
+use Rattle.scenario_text.specs.declared.event.Event.{Event}
 use Rattle.scenario_text.specs.declared.event.Event.TheVariants as event
 use Rattle.scenario_text.specs.declared.event.FileMap.{FileMap}
 use Rattle.scenario_text.specs.declared.line.Line.{Line}
@@ -24,12 +25,17 @@ pub record CreatesIts (before : List Line) (l : Line) (after : List Line) (numbe
   pub of_step : BeginNone rest
   pub placed : ArePlaced (placed_in rest) (book_of (before ++ l ∷ rest) number)
 
+-- the event that makes a file, which is spread over zones or not
+abbrev pub file_event : (file : ℕ) → FileMap → (tag : ℕ) → (zoned : Bool) → Event
+file_event f m tag true = event.ZonedFile f m tag
+file_event f m tag false = event.File f m tag
+
 -- of each event that makes a file which isn't there
 abbrev pub FilesAreCreated : List Line → Type 0
 FilesAreCreated h =
-    (before after : List Line) (number : ℕ) (m : FileMap) (tag : ℕ)
-    → h ≡ before ++ line.Event (event.File number m tag) ∷ after → book_of before number ≡ None
-    → CreatesIts before (line.Event (event.File number m tag)) after number
+    (before after : List Line) (number : ℕ) (m : FileMap) (tag : ℕ) (zoned : Bool)
+    → h ≡ before ++ line.Event (file_event number m tag zoned) ∷ after → book_of before number ≡ None
+    → CreatesIts before (line.Event (file_event number m tag zoned)) after number
 
 -- in each whole history whose events a text may have
 abbrev pub EachFileIsCreated : Type 0

@@ -7,7 +7,7 @@ use Rattle.data_map.specs.declared.check.RawMap.{RawMap}
 use Rattle.server_rules.specs.Files.{Step as ServerStep, still}
 use Rattle.server_rules.specs.Making.{create_file}
 use Rattle.server_rules.specs.Messages.{Message as ServerMessage}
-use Rattle.server_rules.specs.History.{Input, Hears, Makes, Obeys, Adds, Formats, step, unless_made}
+use Rattle.server_rules.specs.History.{Input, Hears, Makes, Obeys, Adds, Zones, Formats, step, unless_made}
 use Rattle.server_rules.specs.History as server_input
 use Rattle.client_rules.specs.Messages.{Message as ClientMessage, Step as ClientStep}
 use Rattle.client_rules.specs.Steps.{calls}
@@ -253,21 +253,23 @@ resent_serves : (w : World) (chosen : List ℕ) → Serving w w.clock chosen Non
 unfolding gives
 resent_serves w chosen = idle w w.clock chosen (gives w chosen server_input.Resends) refl refl
 
-made_serves : (w : World) (chosen : List ℕ) (f : ℕ) (m : RawMap) (tag : ℕ) (r : Result ServerStep Refusal)
-    → create_file w.server f m tag chosen ≡ r → Serving w w.clock chosen (Some (Makes f m tag)) (made_file w f r)
-made_serves w chosen f m tag (Ok s) is =
-    served w chosen (Makes f m tag) s (made_file w f (Ok s)) (ap (unless_made w.server) is) refl refl refl ([], refl)
-made_serves w chosen f m tag (Err e) is =
-    served w chosen (Makes f m tag) (still w.server) (made_file w f (Err e))
+made_serves : (w : World) (chosen : List ℕ) (f : ℕ) (m : RawMap) (tag : ℕ) (zoned : Bool) (r : Result ServerStep Refusal)
+    → create_file w.server f m tag zoned chosen ≡ r
+    → Serving w w.clock chosen (Some (Makes f m tag zoned)) (made_file w f r)
+made_serves w chosen f m tag zoned (Ok s) is =
+    served w chosen (Makes f m tag zoned) s (made_file w f (Ok s)) (ap (unless_made w.server) is) refl refl refl ([], refl)
+made_serves w chosen f m tag zoned (Err e) is =
+    served w chosen (Makes f m tag zoned) (still w.server) (made_file w f (Err e))
     (ap (unless_made w.server) is) refl refl refl
     ((made_file w f (Err e)).told, refl)
 
-makes_serve : (w : World) (chosen : List ℕ) (f : ℕ) (m : RawMap) (tag : ℕ)
-    → Serving w w.clock chosen (if has_algorithm m then Some (Makes f m tag) else None) (makes w chosen f m tag)
+makes_serve : (w : World) (chosen : List ℕ) (f : ℕ) (m : RawMap) (tag : ℕ) (zoned : Bool)
+    → Serving w w.clock chosen (if has_algorithm m then Some (Makes f m tag zoned) else None)
+    (makes w chosen f m tag zoned)
 unfolding makes
-makes_serve w chosen f m tag =
-    either_act (has_algorithm m) w w.clock chosen _ _ (made_file w f (create_file w.server f m tag chosen)) _
-    (made_serves w chosen f m tag (create_file w.server f m tag chosen) refl) (idle w w.clock chosen _ refl refl)
+makes_serve w chosen f m tag zoned =
+    either_act (has_algorithm m) w w.clock chosen _ _ (made_file w f (create_file w.server f m tag zoned chosen)) _
+    (made_serves w chosen f m tag zoned (create_file w.server f m tag zoned chosen) refl) (idle w w.clock chosen _ refl refl)
 
 -- ---- drives
 
@@ -304,7 +306,9 @@ begins_serve : (w : World) (chosen : List ℕ) (e : Event)
 unfolding begins
 begins_serve w chosen (event.Drive d key capacity) = added_serves w chosen d key capacity false
 begins_serve w chosen (event.Disk d key capacity) = added_serves w chosen d key capacity true
-begins_serve w chosen (event.File f m tag) = makes_serve w chosen f (raw_of m) tag
+begins_serve w chosen (event.File f m tag) = makes_serve w chosen f (raw_of m) tag false
+begins_serve w chosen (event.ZonedFile f m tag) = makes_serve w chosen f (raw_of m) tag true
+begins_serve w chosen (event.Zone d zone) = gives_serve w chosen (Zones d zone)
 begins_serve w chosen (event.Least d format) = at_drive_serves w chosen d _ (at_number w.drives d)
 begins_serve w chosen (event.Format format) = gives_serve w chosen (Formats format)
 begins_serve w chosen (event.Do c x) = calls_serve w chosen c (op_of x)

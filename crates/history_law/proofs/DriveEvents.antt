@@ -228,7 +228,11 @@ begins_told w i h (event.Client c) chosen r allowed =
     quiet_told w i _ _ (event_read w i h (event.Client c) r)
     (record { messages = refl; drives = refl; told = none_quiet; posts = tt })
 begins_told w i h (event.File f m tag) chosen r allowed =
-    quiet_told w i _ _ (event_read w i h (event.File f m tag) r) (makes_act w chosen f (raw_of m) tag)
+    quiet_told w i _ _ (event_read w i h (event.File f m tag) r) (makes_act w chosen f (raw_of m) tag false)
+begins_told w i h (event.ZonedFile f m tag) chosen r allowed =
+    quiet_told w i _ _ (event_read w i h (event.ZonedFile f m tag) r) (makes_act w chosen f (raw_of m) tag true)
+begins_told w i h (event.Zone d zone) chosen r allowed =
+    quiet_told w i _ _ (event_read w i h (event.Zone d zone) r) (gives_act w chosen (server_input.Zones d zone))
 begins_told w i h (event.Least k format) chosen r allowed =
     turned_told w i h (event.Least k format) k (λ a. raised a format) r (λ d. refl)
 begins_told w i h (event.Format format) chosen r allowed =
@@ -281,7 +285,6 @@ begins_told w i h (event.Reopen (machine.Drive k)) chosen r allowed =
     turned_told w i h (event.Reopen (machine.Drive k)) k reopened r (λ d. refl)
 begins_told w i h (event.Reopen machine.Server) chosen r allowed =
     quiet_told w i _ _ (event_read w i h (event.Reopen machine.Server) r) (down_act w false chosen server_input.Opens)
-begins_told w i h e chosen r allowed = absurd (cc allowed)
 
 -- ---- moves
 

@@ -332,9 +332,9 @@ made_act w f (Ok s) = record {
 }
 made_act w f (Err e) = record { messages = refl; drives = refl; told = noted_quiet f _; posts = tt }
 
-pub makes_act : (w : World) (chosen : List ℕ) (f : ℕ) (m : server_rules.RawMap) (tag : ℕ)
-    → IsQuietAct w (makes w chosen f m tag)
+pub makes_act : (w : World) (chosen : List ℕ) (f : ℕ) (m : server_rules.RawMap) (tag : ℕ) (zoned : Bool)
+    → IsQuietAct w (makes w chosen f m tag zoned)
 unfolding makes
-makes_act w chosen f m tag =
-    either_act w (has_algorithm m) _ _ (made_act w f (create_file w.server f m tag chosen))
+makes_act w chosen f m tag zoned =
+    either_act w (has_algorithm m) _ _ (made_act w f (create_file w.server f m tag zoned chosen))
     (record { messages = refl; drives = refl; told = noted_quiet f _; posts = tt })

@@ -70,6 +70,7 @@ fit_event w (event.Drive d key capacity) h =
 fit_event w (event.Disk d key capacity) h =
     either_fits (knows_drive w.server d) None (Some _) tt (grind (arith, h, nat_tests))
 fit_event w (event.File f m tag) h = either_fits (has_algorithm (raw_of m)) (Some _) None tt tt
+fit_event w (event.ZonedFile f m tag) h = either_fits (has_algorithm (raw_of m)) (Some _) None tt tt
 fit_event w (event.Format format) h = h
 fit_event w (event.Deliver number) h = fit_brought w (slice_get w.network.messages number)
 fit_event w (event.Crash (machine.Drive d)) h = tt
@@ -128,6 +129,7 @@ event_tells w (event.Drive k key capacity) d t =
 event_tells w (event.Disk k key capacity) d t =
     not_nothing (knows_drive w.server k) (Some (Adds (known_drive k key capacity))) d t
 event_tells w (event.File f m tag) d t = absurd (no_file (has_algorithm (raw_of m)) _ d (λ x. x) t)
+event_tells w (event.ZonedFile f m tag) d t = absurd (no_file (has_algorithm (raw_of m)) _ d (λ x. x) t)
 event_tells w (event.Deliver number) d t = absurd (brought_tells w (slice_get w.network.messages number) d t)
 event_tells w (event.Crash (machine.Drive k)) d t = absurd t
 event_tells w (event.Crash machine.Server) d t = absurd t

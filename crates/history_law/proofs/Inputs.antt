@@ -14,7 +14,9 @@ use Rattle.server_rules.specs.Making.{add_drive}
 use Rattle.server_rules.specs.Messages.{counters_have_room}
 use Rattle.server_rules.specs.Openings.{crashed_file, is_unsettled, opens_made, opens_spent, opens_fenced, opens, opens_each, reopen}
 use Rattle.server_rules.specs.Rounds.{step_round}
-use Rattle.server_rules.specs.History.{Input, Hears, Makes, Obeys, Adds, Formats, Resends, Crashes, Opens, step}
+use Rattle.server_rules.specs.Zoning.{zone_or, put_in_zone}
+use Rattle.server_rules.proofs.Zoned.{any_zoned}
+use Rattle.server_rules.specs.History.{Input, Hears, Makes, Obeys, Adds, Zones, Formats, Resends, Crashes, Opens, step}
 use Rattle.history_law.specs.Placed.{AreNamed, HaveFormats, IsReadable, PlacedIsChosen}
 use Rattle.history_law.proofs.Placing.{Fit, greater_format}
 use Rattle.history_law.proofs.BookGoing.{fence_placed}
@@ -24,9 +26,10 @@ use Rattle.history_law.proofs.Made.{making_format, file_placed}
 
 pub placed_is_chosen : PlacedIsChosen
 placed_is_chosen s chosen (Hears now from m) n r = (message_placed s now chosen from m r).same n
-placed_is_chosen s chosen (Makes f m tag) n r = (file_placed s f m tag r chosen).same n
+placed_is_chosen s chosen (Makes f m tag zoned) n r = (file_placed s f m tag zoned r chosen).same n
 placed_is_chosen s chosen (Obeys kind target) n r = (order_placed s chosen kind target r).same n
 placed_is_chosen s chosen (Adds d) n r = refl
+placed_is_chosen s chosen (Zones d zone) n r = refl
 placed_is_chosen s chosen (Formats format) n r = refl
 placed_is_chosen s chosen Resends n r = refl
 placed_is_chosen s chosen Crashes n r = refl
@@ -42,6 +45,15 @@ added_named (e ∷ ds) d a h = either (nat_lt e.number d.number) (added_named ds
     either : (b : Bool) → AreNamed (add_drive ds d) → AreNamed (if b then e ∷ add_drive ds d else d ∷ e ∷ ds)
     either true rest = (a.0, rest)
     either false rest = (h, a)
+
+pub zoned_named : (ds : List Drive) (n z : ℕ) → AreNamed ds → AreNamed (put_in_zone ds n z)
+unfolding put_in_zone
+zoned_named [] n z a = tt
+zoned_named (d ∷ ds) n z a = (either (d.number == n), zoned_named ds n z a.1)
+  where
+    either : (b : Bool) → (if b then record d { zone = zone_or z d.zone } else d).number < DRIVES
+    either true = a.0
+    either false = a.0
 
 -- a drive that comes can be named, and a format is one of the two
 abbrev pub IsFit : Input → Type 0
@@ -95,10 +107,12 @@ opened_placed s r =
 pub stays_readable : (s : Server) (chosen : List ℕ) (i : Input) → IsReadable s → IsFit i
     → IsReadable (step s chosen i).state
 stays_readable s chosen (Hears now from m) r h = (message_placed s now chosen from m r).readable
-stays_readable s chosen (Makes f m tag) r h = (file_placed s f m tag r chosen).readable
+stays_readable s chosen (Makes f m tag zoned) r h = (file_placed s f m tag zoned r chosen).readable
 stays_readable s chosen (Obeys kind target) r h = (order_placed s chosen kind target r).readable
 stays_readable s chosen (Adds d) r h =
     record { drives = added_named s.drives d r.drives h; format = r.format; files = r.files }
+stays_readable s chosen (Zones d zone) r h =
+    record { drives = zoned_named s.drives d zone r.drives; format = r.format; files = r.files }
 stays_readable s chosen (Formats format) r h =
     record { drives = r.drives; format = greater_format s.format format r.format h; files = r.files }
 stays_readable s chosen Resends r h = r
@@ -131,9 +145,11 @@ added_known (y ∷ ds) x d e = either (nat_lt y.number x.number) e (added_known 
 pub knows_behind : (s : Server) (chosen : List ℕ) (i : Input) (d : ℕ) → IsReadable s → IsFit i
     → knows_drive (step s chosen i).state d ≡ true → (knows_drive s d ≡ true) ⊎ Tells i d
 knows_behind s chosen (Hears now from m) d r h e = inl (sym ((message_placed s now chosen from m r).knows d) ∙ e)
-knows_behind s chosen (Makes f m tag) d r h e = inl (sym ((file_placed s f m tag r chosen).knows d) ∙ e)
+knows_behind s chosen (Makes f m tag zoned) d r h e = inl (sym ((file_placed s f m tag zoned r chosen).knows d) ∙ e)
 knows_behind s chosen (Obeys kind target) d r h e = inl (sym ((order_placed s chosen kind target r).knows d) ∙ e)
 knows_behind s chosen (Adds x) d r h e = added_known s.drives x d e
+knows_behind s chosen (Zones n zone) d r h e =
+    inl (sym (any_zoned (λ (x : Drive). nat_eq x.number d) (λ x z. refl) s.drives n zone) ∙ e)
 knows_behind s chosen (Formats format) d r h e = inl e
 knows_behind s chosen Resends d r h e = inl e
 knows_behind s chosen Crashes d r h e = inl e

@@ -272,11 +272,12 @@ made_flat : (w : World) (f : ℕ) (r : Result ServerStep Refusal) → AreFlat (m
 made_flat w f (Ok s) = flat_notes s.notes
 made_flat w f (Err e) = (refl, refl, tt)
 
-makes_flat : (w : World) (chosen : List ℕ) (f : ℕ) (m : RawMap) (tag : ℕ) → AreFlat (makes w chosen f m tag).told
+makes_flat : (w : World) (chosen : List ℕ) (f : ℕ) (m : RawMap) (tag : ℕ) (zoned : Bool)
+    → AreFlat (makes w chosen f m tag zoned).told
 unfolding makes
-makes_flat w chosen f m tag =
-    either_act (has_algorithm m) (made_file w f (create_file w.server f m tag chosen)) _
-    (made_flat w f (create_file w.server f m tag chosen)) (refl, refl, tt)
+makes_flat w chosen f m tag zoned =
+    either_act (has_algorithm m) (made_file w f (create_file w.server f m tag zoned chosen)) _
+    (made_flat w f (create_file w.server f m tag zoned chosen)) (refl, refl, tt)
 
 added_flat : (w : World) (d : ℕ) (key : List ℕ) (capacity : ℕ) (stored : Bool)
     → AreFlat (adds_drive w d key capacity stored).told
@@ -288,7 +289,9 @@ pub begins_flat : (w : World) (chosen : List ℕ) (e : Event) → leads e ≡ fa
 unfolding begins
 begins_flat w chosen (event.Drive d key capacity) p = added_flat w d key capacity false
 begins_flat w chosen (event.Disk d key capacity) p = added_flat w d key capacity true
-begins_flat w chosen (event.File f m tag) p = makes_flat w chosen f (raw_of m) tag
+begins_flat w chosen (event.File f m tag) p = makes_flat w chosen f (raw_of m) tag false
+begins_flat w chosen (event.ZonedFile f m tag) p = makes_flat w chosen f (raw_of m) tag true
+begins_flat w chosen (event.Zone d zone) p = gives_flat w chosen _
 begins_flat w chosen (event.Format format) p = gives_flat w chosen _
 begins_flat w chosen (event.Do c x) p = calls_flat w c (op_of x)
 begins_flat w chosen (event.Call c x) p = calls_flat w c (op_of x)

@@ -1,6 +1,7 @@
 -- A file is made on the drives that a placer named, which its CREATEs tell.
-use Rattle.std.proofs.Common.{◌≡◌, ℕ, ◌+◌, ◌==◌, ◌<◌, ◌∷◌, [], List, ◌++◌, Bool, true, false, ◌&&◌, not, Option, Some, None, is_some, find, map, take, length, zero, suc, refl, ap, ◌∙◌, if◌then◌else◌}
-use Rattle.std.proofs.lemmas.Bool.{and_parts}
+use Rattle.std.proofs.Common.{◌≡◌, ℕ, ◌+◌, ◌==◌, ◌<◌, ◌∷◌, [], List, ◌++◌, Bool, true, false, ◌&&◌, not, Option, Some, None, is_some, find, map, take, length, zero, suc, refl, ap, subst, ◌∙◌, inl, inr, if◌then◌else◌}
+use Rattle.std.specs.List.{list_any}
+use Rattle.std.proofs.lemmas.Bool.{and_parts, cases_Bool, eqb-true}
 use Rattle.osd_capability.specs.Layout.{is_format}
 use Rattle.scenario_text.specs.declared.names.TheConstants.{DRIVES}
 use Rattle.world_history.specs.ServerNames.{Server, Kept, File, Drive, Awaited, RawMap, Refusal, JobKind, Work, Making, Creates}
@@ -9,12 +10,16 @@ use Rattle.server_rules.specs.Commands.{Creating, All, is_meant, to_each, to_all
 use Rattle.server_rules.specs.Going.{Going, rests_or}
 use Rattle.server_rules.specs.Jobs.{is_made, making}
 use Rattle.server_rules.specs.Files.{Step, still, at_file}
-use Rattle.server_rules.specs.Making.{online, are_of, places, components_on, unmade, with_file, makes_file, unless_refused, refusal, create_file}
+use Rattle.zone_place.specs.Zones.{ask_of}
+use Rattle.zone_place.proofs.Members.{are_there, spread_there}
+use Rattle.zone_place.proofs.Spreading.{spread_again}
+use Rattle.server_rules.specs.Zoning.{and_in_zone, in_zones}
+use Rattle.server_rules.specs.Making.{online, are_of, places, drives_for, components_on, unmade, with_file, makes_file, unless_refused, refusal, create_file}
 use Rattle.server_rules.specs.History.{unless_made}
 use Rattle.history_law.specs.Placed.{AreNamed, IsReadable, placed_by}
 use Rattle.history_law.proofs.Creating.{place_create}
 use Rattle.history_law.proofs.Placing.{placed_of}
-use Rattle.history_law.proofs.Rebuilding.{found_named}
+use Rattle.history_law.proofs.Rebuilding.{found_named, named_part}
 use Rattle.history_law.proofs.Stepping.{IsPlaced, placed_always, placed_sent, formats_put, formats_add}
 
 -- ---- the drives
@@ -23,14 +28,6 @@ use Rattle.history_law.proofs.Stepping.{IsPlaced, placed_always, placed_sent, fo
 abbrev pub AllNamed : List ℕ → Type 0
 AllNamed [] = Unit {0}
 AllNamed (n ∷ ns) = (n < DRIVES) × AllNamed ns
-
-online_named : (ds : List Drive) → AreNamed ds → AreNamed (online ds)
-online_named [] a = tt
-online_named (d ∷ ds) a = either d.online (online_named ds a.1)
-  where
-    either : (b : Bool) → AreNamed (online ds) → AreNamed (if b then d ∷ online ds else online ds)
-    either true rest = (a.0, rest)
-    either false rest = rest
 
 chosen_named : (ds : List Drive) (ns : List ℕ) → AreNamed ds → are_of ds ns ≡ true → AllNamed ns
 unfolding are_of
@@ -45,17 +42,44 @@ first_named zero ds a = tt
 first_named (suc n) [] a = tt
 first_named (suc n) (d ∷ ds) a = (a.0, first_named n ds a.1)
 
-pub places_named : (ds : List Drive) (count : ℕ) (chosen : List ℕ) → AreNamed ds → AllNamed (places ds count chosen)
+places_named : (ds : List Drive) (count : ℕ) (chosen : List ℕ) → AreNamed ds → AllNamed (places ds count chosen)
 unfolding places
 places_named ds count chosen a = either ((length chosen == count) && are_of (online ds) chosen) refl
   where
     named : AreNamed (online ds)
-    named = online_named ds a
+    named = named_part (λ (d : Drive). d.online) ds a
 
     either : (b : Bool) → ((length chosen == count) && are_of (online ds) chosen) ≡ b
         → AllNamed (if b then chosen else take count (map (λ d. d.number) (online ds)))
     either true e = chosen_named (online ds) chosen named (and_parts (length chosen == count) _ e).1
     either false e = first_named count (online ds) named
+
+-- so it can each drive in a zone
+number_named : (ds : List Drive) (n : ℕ) → AreNamed ds → list_any (λ x. x.drive == n) (in_zones ds) ≡ true → n < DRIVES
+unfolding in_zones
+number_named [] n a e = absurd (cc e)
+number_named (d ∷ ds) n a e = either (number_named ds n a.1) d.zone e
+  where
+    either : (list_any (λ x. x.drive == n) (in_zones ds) ≡ true → n < DRIVES) → (o : Option ℕ)
+        → list_any (λ x. x.drive == n) (and_in_zone d.number o (in_zones ds)) ≡ true → n < DRIVES
+    either rest None f = rest f
+    either rest (Some z) f = elim (cases_Bool (d.number == n)) [
+      | inl t ↦ subst (λ (k : ℕ). k < DRIVES) (eqb-true d.number n t) a.0
+      | inr o ↦ rest (rw o at f)
+    ]
+
+there_named : (ds : List Drive) (ns : List ℕ) → AreNamed ds → are_there (in_zones ds) ns ≡ true → AllNamed ns
+there_named ds [] a e = tt
+there_named ds (n ∷ ns) a e =
+    let p = and_parts (list_any (λ x. x.drive == n) (in_zones ds)) (are_there (in_zones ds) ns) e in
+    (number_named ds n a p.0, there_named ds ns a p.1)
+
+pub for_named : (zoned : Bool) (ds : List Drive) (m : RawMap) (chosen : List ℕ) → AreNamed ds
+    → AllNamed (drives_for zoned ds m chosen)
+for_named false ds m chosen a = places_named ds m.comps chosen a
+for_named true ds m chosen a =
+    there_named (online ds) _ (named_part (λ (d : Drive). d.online) ds a)
+    (spread_there (ask_of m) (in_zones (online ds)) chosen)
 
 -- what was taken is taken again
 either_same : (b : Bool) (xs : List ℕ) → (if b then xs else xs) ≡ xs
@@ -81,6 +105,11 @@ places_again ds count chosen = either ((length chosen == count) && are_of (onlin
         (if b then chosen else first)
     either true e = kept true e refl
     either false e = either_same (ok first) first
+
+for_again : (zoned : Bool) (ds : List Drive) (m : RawMap) (chosen : List ℕ)
+    → drives_for zoned ds m (drives_for zoned ds m chosen) ≡ drives_for zoned ds m chosen
+for_again false ds m chosen = places_again ds m.comps chosen
+for_again true ds m chosen = spread_again (ask_of m) (in_zones (online ds)) chosen
 
 -- ---- its CREATEs
 
@@ -113,10 +142,10 @@ making_format g = format_or (to_all g.file.kept All Creating g.effects.nonce) g 
 
 -- ---- the step
 
-module _ (s : Server) (number : ℕ) (m : RawMap) (tag : ℕ) (r : IsReadable s) where
+module _ (s : Server) (number : ℕ) (m : RawMap) (tag : ℕ) (zoned : Bool) (r : IsReadable s) where
   -- the file on these drives
   abbrev on : List ℕ → File
-  on ns = unmade s number m tag ns
+  on ns = unmade s number m tag zoned ns
 
   abbrev makes_on : List ℕ → Step
   makes_on ns = makes_file s (on ns)
@@ -139,14 +168,14 @@ module _ (s : Server) (number : ℕ) (m : RawMap) (tag : ℕ) (r : IsReadable s)
       ∙ creates_told s.drives (on ns).kept ns s.next_object 0 s.next_nonce r.format a
 
   made_placed : (o : Option Refusal) (chosen : List ℕ)
-      → IsPlaced s (unless_made s (unless_refused o (makes_on (places s.drives m.comps chosen))))
-      (λ x. unless_made s (unless_refused o (makes_on (places s.drives m.comps x))))
+      → IsPlaced s (unless_made s (unless_refused o (makes_on (drives_for zoned s.drives m chosen))))
+      (λ x. unless_made s (unless_refused o (makes_on (drives_for zoned s.drives m x))))
   made_placed (Some e) chosen = placed_always s (still s) r (λ d. refl)
   made_placed None chosen =
-      let ns = places s.drives m.comps chosen in record {
-        same = λ n. ap (λ (x : List ℕ). makes_on (places s.drives m.comps x))
-            (told_on ns (places_named s.drives m.comps chosen r.drives) n)
-            ∙ ap makes_on (places_again s.drives m.comps chosen);
+      let ns = drives_for zoned s.drives m chosen in record {
+        same = λ n. ap (λ (x : List ℕ). makes_on (drives_for zoned s.drives m x))
+            (told_on ns (for_named zoned s.drives m chosen r.drives) n)
+            ∙ ap makes_on (for_again zoned s.drives m chosen);
         readable = record {
           drives = r.drives;
           format = r.format;
@@ -156,7 +185,7 @@ module _ (s : Server) (number : ℕ) (m : RawMap) (tag : ℕ) (r : IsReadable s)
       }
 
   pub file_placed : (chosen : List ℕ)
-      → IsPlaced s (unless_made s (create_file s number m tag chosen))
-      (λ x. unless_made s (create_file s number m tag x))
+      → IsPlaced s (unless_made s (create_file s number m tag zoned chosen))
+      (λ x. unless_made s (create_file s number m tag zoned x))
   unfolding create_file
-  file_placed chosen = made_placed (refusal s number m) chosen
+  file_placed chosen = made_placed (refusal s number m zoned) chosen

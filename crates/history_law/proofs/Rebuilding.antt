@@ -1,9 +1,11 @@
 -- Audits, rebuilds and repairs go with the placer's drives as the CREATEs that they send.
-use Rattle.std.proofs.Common.{◌≡◌, ℕ, ◌+◌, ◌<◌, ◌==◌, ◌∷◌, [], List, ◌++◌, Bool, true, false, Option, Some, None, is_some, find, nat_lt, refl, ap, ◌∙◌, arith, replicate, slice_set, if◌then◌else◌}
+use Rattle.std.proofs.Common.{◌≡◌, ℕ, ◌+◌, ◌<◌, ◌==◌, ◌∷◌, [], List, ◌++◌, Bool, true, false, Option, Some, None, is_some, find, filter, nat_lt, refl, ap, ◌∙◌, arith, replicate, slice_set, if◌then◌else◌}
 use Rattle.scenario_text.specs.declared.names.TheConstants.{DRIVES}
 use Rattle.data_map.specs.Striping.{offset_of}
 use Rattle.world_history.specs.ServerNames.{Kept, Piece, Component, Target, Drive, Heard, Tally, JobKind, Making, Revoking, Rebuilding, Auditing, Rebuilt, NoDrive, NoSpace, Fills}
-use Rattle.server_rules.specs.Standing.{free_drives, is_beyond, replica}
+use Rattle.server_rules.specs.Standing.{is_beyond, replica}
+use Rattle.server_rules.specs.Zoning.{takers}
+use Rattle.server_rules.proofs.Zoned.{of_takers}
 use Rattle.server_rules.specs.Columns.{end_of}
 use Rattle.server_rules.specs.Commands.{Creating, Reading, Measuring, All, FirstsOf, sent_to, to_all}
 use Rattle.server_rules.specs.Going.{Going, over, noting, noting_if, with_components, rests}
@@ -68,14 +70,16 @@ first_again (c ∷ cs) d ds rest = either (is_some (find (λ e. e.number == c) (
     either true is = chosen_again c d ds rest is
     either false is = either_same _ d.number
 
-pub free_named : (ds : List Drive) (cs : List Component) → AreNamed ds → AreNamed (free_drives ds cs)
-free_named [] cs a = tt
-free_named (d ∷ ds) cs a = either _ (free_named ds cs a.1)
+pub named_part : (p : Drive → Bool) (ds : List Drive) → AreNamed ds → AreNamed (filter p ds)
+named_part p [] a = tt
+named_part p (d ∷ ds) a = either (p d) (named_part p ds a.1)
   where
-    either : (b : Bool) → AreNamed (free_drives ds cs)
-        → AreNamed (if b then d ∷ free_drives ds cs else free_drives ds cs)
+    either : (b : Bool) → AreNamed (filter p ds) → AreNamed (if b then d ∷ filter p ds else filter p ds)
     either true rest = (a.0, rest)
     either false rest = rest
+
+pub takers_named : (ds : List Drive) (f : Kept) (k : ℕ) → AreNamed ds → AreNamed (takers ds f k)
+takers_named ds f k a = of_takers AreNamed named_part ds f k (named_part _ ds a)
 
 -- ---- a component is made anew
 
@@ -118,9 +122,9 @@ pub rebuilds_placed : (g : Going) (cs : List Component) (k : ℕ) → Fit g
 unfolding rebuilds target_for
 rebuilds_placed g [] k h = placed_here (over g) h
 rebuilds_placed g (at ∷ cs) k h =
-    made_or g at.missing k (free_drives g.drives g.file.kept.components) _
+    made_or g at.missing k (takers g.drives g.file.kept k) _
     (λ x. rebuilds (noting_if at.missing (choosing g x) (NoDrive k)) cs (k + 1)) h
-    (free_named g.drives g.file.kept.components h.drives)
+    (takers_named g.drives g.file.kept k h.drives)
     (rebuilds_placed (noting_if at.missing g (NoDrive k)) cs (k + 1) h)
 
 pub past_placed : (g : Going) (t : Target) → Fit g

@@ -25,6 +25,7 @@ abbrev pub is_written : Event → Bool
 is_written (event.Drive d key capacity) = nat_lt d DRIVES
 is_written (event.Disk d key capacity) = nat_lt d DRIVES
 is_written (event.File f m tag) = nat_lt f FILES
+is_written (event.ZonedFile f m tag) = nat_lt f FILES
 is_written (event.Format format) = is_format format
 is_written e = true
 

@@ -14,9 +14,9 @@ use Rattle.server_rules.specs.Files.{Step, still, file_at, at_file, to_drive, to
 use Rattle.server_rules.specs.Requests.{serves, carried_out, carries_out, by_admit, on_request}
 use Rattle.server_rules.specs.Messages.{Message, Asks, Replies, Orders, counters_have_room, heard_at, by_heard, on_drive_reply, handled, on_message, awaited_by}
 use Rattle.server_rules.specs.Orders.{Ordered, begins_job, starts, recalls_on, declare, declares_known, ordered, with_result}
-use Rattle.server_rules.specs.Making.{refusal, unless_refused, makes_file, unmade, places, create_file}
+use Rattle.server_rules.specs.Making.{refusal, unless_refused, makes_file, unmade, drives_for, create_file}
 use Rattle.server_rules.specs.Openings.{reopen}
-use Rattle.server_rules.specs.History.{Hears, Makes, Obeys, Adds, Formats, Resends, Crashes, Opens, unless_made}
+use Rattle.server_rules.specs.History.{Hears, Makes, Obeys, Adds, Zones, Formats, Resends, Crashes, Opens, unless_made}
 use Rattle.server_rules.specs.Laws.{In}
 use Rattle.server_rules.proofs.Members.{in_either, in_mapped}
 use Rattle.job_law.specs.Recalled.{CountsRecalls, EachStepCounts}
@@ -171,10 +171,11 @@ pub step_counts : EachStepCounts
 unfolding on_message create_file reopen
 step_counts s chosen (Hears now from m) =
     either_step s (counters_have_room s) _ _ (handled_counts s now chosen from m) (still_counts s)
-step_counts s chosen (Makes n m tag) =
-    made_counts s (unmade s n m tag (places s.drives m.comps chosen)) (refusal s n m)
+step_counts s chosen (Makes n m tag zoned) =
+    made_counts s (unmade s n m tag zoned (drives_for zoned s.drives m chosen)) (refusal s n m zoned)
 step_counts s chosen (Obeys kind n) = obeyed_counts s chosen kind n
 step_counts s chosen (Adds d) = none_counted s _ refl (λ r i. i)
+step_counts s chosen (Zones d zone) = none_counted s _ refl (λ r i. i)
 step_counts s chosen (Formats n) = none_counted s _ refl (λ r i. i)
 step_counts s chosen Resends = none_counted s _ refl (none_resent s.drives s.files)
 step_counts s chosen Crashes = none_counted s _ refl (λ r i. i)

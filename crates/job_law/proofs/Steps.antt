@@ -16,9 +16,9 @@ use Rattle.server_rules.specs.Replies.{on_reply}
 use Rattle.server_rules.specs.Requests.{carried_out, carries_out, by_admit, on_request}
 use Rattle.server_rules.specs.Messages.{Message, Asks, Replies, Orders, counters_have_room, or_else, heard_at, by_heard, on_drive_reply, handled, on_message, awaited_by, resend}
 use Rattle.server_rules.specs.Orders.{Ordered, begins_job, starts, recalls_on, offline, with_offline, declare, declares_known, ordered, with_result}
-use Rattle.server_rules.specs.Making.{refusal, unless_refused, makes_file, with_file, unmade, places, create_file}
+use Rattle.server_rules.specs.Making.{refusal, unless_refused, makes_file, with_file, unmade, drives_for, create_file}
 use Rattle.server_rules.specs.Openings.{crashed_file, reopen}
-use Rattle.server_rules.specs.History.{Input, Hears, Makes, Obeys, Adds, Formats, Resends, Crashes, Opens, unless_made, step}
+use Rattle.server_rules.specs.History.{Input, Hears, Makes, Obeys, Adds, Zones, Formats, Resends, Crashes, Opens, unless_made, step}
 use Rattle.server_rules.specs.Laws.{In}
 use Rattle.server_rules.proofs.Members.{in_front, in_behind, in_either, in_mapped}
 use Rattle.job_law.specs.Numbered.{Awaits, IsOf, NumbersOn, EachStepNumbers, EachRunNumbers}
@@ -361,11 +361,11 @@ made R given s f None none =
       sends = λ drive c i. i;
     }
 
-created : (R : Reached) (given : Type 0) (s : Server) (n : ℕ) (m : RawMap) (tag : ℕ) (chosen : List ℕ)
-    → Both R given s (unless_made s (create_file s n m tag chosen))
+created : (R : Reached) (given : Type 0) (s : Server) (n : ℕ) (m : RawMap) (tag : ℕ) (zoned : Bool) (chosen : List ℕ)
+    → Both R given s (unless_made s (create_file s n m tag zoned chosen))
 unfolding create_file
-created R given s n m tag chosen =
-    made R given s (unmade s n m tag (places s.drives m.comps chosen)) (refusal s n m) refl
+created R given s n m tag zoned chosen =
+    made R given s (unmade s n m tag zoned (drives_for zoned s.drives m chosen)) (refusal s n m zoned) refl
 
 in_flat : (ds : List Drive) (fs : List File) (drive : ℕ) (c : Command)
     → In (ToDrive drive c) (flat_map (λ (f : File). to_drives ds (awaited_by f.job)) fs)
@@ -410,9 +410,11 @@ opened R given s =
 
 both_step : (R : Reached) (s : Server) (chosen : List ℕ) (i : Input) → Both R (IsHeardTruly R s i) s (step s chosen i)
 both_step R s chosen (Hears now from m) = message_both R s now chosen from m
-both_step R s chosen (Makes n m tag) = created R _ s n m tag chosen
+both_step R s chosen (Makes n m tag zoned) = created R _ s n m tag zoned chosen
 both_step R s chosen (Obeys kind n) = obeyed R _ s chosen kind n
 both_step R s chosen (Adds d) =
+    both_idle R _ s _ (record { files = λ f i. inl i; nonce = refl; notes = refl; sends = λ drive c i. i })
+both_step R s chosen (Zones d zone) =
     both_idle R _ s _ (record { files = λ f i. inl i; nonce = refl; notes = refl; sends = λ drive c i. i })
 both_step R s chosen (Formats n) =
     both_idle R _ s _ (record { files = λ f i. inl i; nonce = refl; notes = refl; sends = λ drive c i. i })

@@ -1,5 +1,5 @@
 -- A file is made.
-use Rattle.std.specs.Prelude.{ℕ, true, false, List, [], ◌∷◌, Option, Some, None, Ok, Err, ◌≡◌, ◌==◌, ◌+◌, ◌≤◌, nat_lt, is_some, length, suc, if◌then◌else◌, refl}
+use Rattle.std.specs.Prelude.{ℕ, Bool, true, false, List, [], ◌∷◌, Option, Some, None, Ok, ◌≡◌, ◌==◌, ◌+◌, ◌≤◌, nat_lt, is_some, length, if◌then◌else◌, refl}
 use Rattle.std.specs.Option.{option_map}
 use Rattle.std.specs.Ordering.{nat_cmp}
 use Rattle.std.specs.declared.cmp.Ordering.TheVariants.{Less, Equal, Greater}
@@ -20,7 +20,7 @@ use Rattle.server_rules.specs.declared.server.Effects.{Effects}
 use Rattle.server_rules.specs.Going.{Going}
 use Rattle.server_rules.specs.Jobs.{making}
 use Rattle.server_rules.specs.Files.{file_at, put_file, add_file, at_file, step_at}
-use Rattle.server_rules.specs.Making.{by_check, checked_64, components_on, create_file, makes_file, online, places, refusal, unless_refused, unmade, with_file}
+use Rattle.server_rules.specs.Making.{components_on, create_file, drives_for, makes_file, refusal, unless_refused, unmade, with_file}
 use Rattle.server_rules.proofs.Components.{length_components}
 use Rattle.server_rules.proofs.FileLaws.{not_there}
 use Rattle.file_jobs.specs.declared.job.FileState.{FileState}
@@ -31,8 +31,8 @@ use Rattle.server_state.specs.Tables.{Table, files_in, entry_at, without, IsEntr
 use Rattle.server_state.specs.States.{server_of, Did, IsGood, IsGoodBut, Settles}
 use Rattle.server_state.specs.Replies.{file_awaits, AreListed, AreListedBut, OthersStay}
 use Rattle.server_state.specs.Index.{Keys}
-use Rattle.layout_server.specs.declared.new_files.FileErr.{FileErr}
-use Rattle.layout_server.specs.Creating.{Creates, cause_of, map_unless}
+use Rattle.layout_server.specs.declared.new_files.NewFile.{NewFile}
+use Rattle.layout_server.specs.Creating.{Creates}
 use Rattle.server_state.proofs.TableLaws.{file_at-files}
 use Rattle.server_state.proofs.CountLaws.{none_off}
 use Rattle.server_state.proofs.StepLaws.{after_settling}
@@ -103,22 +103,22 @@ new_files old n u g good none e h =
     ∙ add_file-files old.files.entries n g good (no_entry old.files.entries n good none) h
 
 -- what comes of a file that is made
-pub made_at : (old : State) (files : BTreeMap ℕ FileState) (new : State) (m : Effects) (n tag : ℕ) (raw : RawMap) (ds : List ℕ) (u g : FileState) (out : Step) →
-    AreEntries old.files.entries → refusal (server_of old) n raw ≡ None → places old.drives raw.comps ds ≡ ds →
-    file_of u ≡ unmade (server_of old) n raw tag ds → g.kept.number ≡ u.kept.number →
-    files.entries ≡ insert_entry nat_cmp old.files.entries n g →
+pub made_at : (old : State) (files : BTreeMap ℕ FileState) (new : State) (m : Effects) (f : NewFile) (ds : List ℕ) (u g : FileState) (out : Step) →
+    AreEntries old.files.entries → refusal (server_of old) f.number f.map f.zoned ≡ None → drives_for f.zoned old.drives f.map ds ≡ ds →
+    file_of u ≡ unmade (server_of old) f.number f.map f.tag f.zoned ds → g.kept.number ≡ u.kept.number →
+    files.entries ≡ insert_entry nat_cmp old.files.entries f.number g →
     Steps making u (record { nonce = old.next_nonce; object = old.next_object + length ds; sent = []; notes = []; mended = [] }) g m →
-    Settles (record old { files = files }) m new out → Creates n raw tag old new out
+    Settles (record old { files = files }) m new out → Creates f old new out
 unfolding create_file
-made_at old files new m n tag raw ds u g out good none chosen same left put_in steps fin =
+made_at old files new m f ds u g out good none chosen same left put_in steps fin =
     let s : Server = server_of old in
     let w : Server = with_file s (file_of u) in
-    let number : u.kept.number ≡ n = ap (λ (f : File). f.kept.number) same in
-    let many : length ds ≡ length u.kept.components = sym (ap (λ (f : File). length f.kept.components) same ∙ length_components ds old.next_object) in
+    let number : u.kept.number ≡ f.number = ap (λ (x : File). x.kept.number) same in
+    let many : length ds ≡ length u.kept.components = sym (ap (λ (x : File). length x.kept.components) same ∙ length_components ds old.next_object) in
     let go : at g m old.drives [] ≡ making (at_file w [] (file_of u)) =
     steps old.drives [] ∙ ap (λ (k : ℕ). making (at u (record { nonce = old.next_nonce; object = old.next_object + k; sent = []; notes = []; mended = [] }) old.drives [])) many in
     let put : files_in files.entries ≡ put_file (add_file s.files (file_of u)) u.kept.number (file_of g) =
-    ap files_in put_in ∙ sym (new_files old n u g good (not_there s n raw none) number (left ∙ number)) in
+    ap files_in put_in ∙ sym (new_files old f.number u g good (not_there s f.number f.map f.zoned none) number (left ∙ number)) in
     let did : Did out (server_of new) (makes_file s (file_of u)) =
     subst (λ (z : Going). Did out (server_of new) (step_at w u.kept.number z)) go (record {
       state = ap server_of fin.state ∙ ap (λ (fs : List File). after_settling old fs m) put;
@@ -128,9 +128,9 @@ made_at old files new m n tag raw ds u g out good none chosen same left put_in s
     }) in (
       ds,
       makes_file s (file_of u),
-      ap (λ (r : Option Refusal). unless_refused r (makes_file s (unmade s n raw tag (places s.drives raw.comps ds)))) none
-          ∙ ap (λ (p : List ℕ). Ok (makes_file s (unmade s n raw tag p))) chosen
-          ∙ ap (λ (f : File). Ok (makes_file s f)) (sym same),
+      ap (λ (r : Option Refusal). unless_refused r (makes_file s (unmade s f.number f.map f.tag f.zoned (drives_for f.zoned s.drives f.map ds)))) none
+          ∙ ap (λ (p : List ℕ). Ok (makes_file s (unmade s f.number f.map f.tag f.zoned p))) chosen
+          ∙ ap (λ (x : File). Ok (makes_file s x)) (sym same),
       did,
     )
 
@@ -142,15 +142,6 @@ has_entry t n a = mapped_alike (entry_at t n) ∙ ap is_some (sym (file_at-files
     mapped_alike : (o : Option FileState) → is_some o ≡ is_some (option_map file_of o)
     mapped_alike None = refl
     mapped_alike (Some f) = refl
-
--- the map is used where nothing refuses it, and else there is a cause
-pub usable_as : (o : Option Refusal) (raw map : RawMap) → Ok map ≡ map_unless o raw → (o ≡ None) × (map ≡ raw)
-usable_as None raw map e = (refl, cc e)
-usable_as (Some r) raw map e = absurd (cc e)
-
-pub refused_as : (o : Option Refusal) (raw : RawMap) (e : FileErr) → Err e ≡ map_unless o raw → (r : Refusal) × (o ≡ Some r) × (e ≡ cause_of r)
-refused_as None raw e p = absurd (cc p)
-refused_as (Some r) raw e p = (r, refl, cc p)
 
 -- the new file is one of few components
 pub sound_new : (k : Kept) (ds : List ℕ) (object : ℕ) → k.components ≡ components_on ds object → length ds ≡ k.map.comps → k.map.comps ≤ MAX_FILE_COMPONENTS →
@@ -217,17 +208,17 @@ unlisted t ks n none a = λ x d m. elim (cases_Bool (n == m)) [
   | inr there ↦ a x d m ∙ rw there refl
 ]
 
-pub none_before : (old : State) (n : ℕ) (raw : RawMap) → IsGood old → refusal (server_of old) n raw ≡ None → entry_at old.files.entries n ≡ None
-none_before old n raw good none = no_entry old.files.entries n good.files (not_there (server_of old) n raw none)
+pub none_before : (old : State) (n : ℕ) (raw : RawMap) (zoned : Bool) → IsGood old → refusal (server_of old) n raw zoned ≡ None → entry_at old.files.entries n ≡ None
+none_before old n raw zoned good none = no_entry old.files.entries n good.files (not_there (server_of old) n raw zoned none)
 
-pub good_before : (old : State) (n : ℕ) (raw : RawMap) → IsGood old → refusal (server_of old) n raw ≡ None → IsGoodBut n old
-good_before old n raw good none = record {
+pub good_before : (old : State) (n : ℕ) (raw : RawMap) (zoned : Bool) → IsGood old → refusal (server_of old) n raw zoned ≡ None → IsGoodBut n old
+good_before old n raw zoned good none = record {
   files = good.files;
   grants = good.grants;
   drives = good.drives;
-  replies = unlisted old.files.entries old.replies n (none_before old n raw good none) good.replies;
-  counts = none_off old.files.entries old.counts n (none_before old n raw good none) good.counts;
+  replies = unlisted old.files.entries old.replies n (none_before old n raw zoned good none) good.replies;
+  counts = none_off old.files.entries old.counts n (none_before old n raw zoned good none) good.counts;
 }
 
-pub created_too : (n : ℕ) (raw : RawMap) (tag : ℕ) (old is new : State) (out : Step) → server_of new ≡ server_of is → Creates n raw tag old is out → Creates n raw tag old new out
-created_too n raw tag old is new out e h = (h.0, h.1, h.2, subst (λ (s : Server). Did out s h.1) (sym e) h.3)
+pub created_too : (f : NewFile) (old is new : State) (out : Step) → server_of new ≡ server_of is → Creates f old is out → Creates f old new out
+created_too f old is new out e h = (h.0, h.1, h.2, subst (λ (s : Server). Did out s h.1) (sym e) h.3)

@@ -1,5 +1,6 @@
 pub mod DriveLaws
 pub mod PlacingLaws
+pub mod ZoneLaws
 pub mod OrderLaws
 pub mod HearLaws
 pub mod CreateLaws

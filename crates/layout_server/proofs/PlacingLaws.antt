@@ -1,5 +1,5 @@
 -- Drives for a new file's components, by their loads and by the drives.
-use Rattle.std.specs.Prelude.{ℕ, Bool, true, false, List, [], ◌∷◌, ◌≡◌, ◌≢◌, ◌+◌, ◌≤◌, ◌<◌, ◌==◌, ◌&&◌, ◌||◌, nat_eq, cond, suc, zero, find, is_some, map, length, count_by, slice_index, slice_index_or, All, min, ◌^◌, ◌-◌, Result, Ok, Err, IfOk, refl}
+use Rattle.std.specs.Prelude.{ℕ, true, false, List, [], ◌∷◌, ◌≡◌, ◌≢◌, ◌+◌, ◌≤◌, ◌<◌, ◌==◌, ◌&&◌, nat_eq, cond, suc, zero, find, is_some, map, length, count_by, slice_index, slice_index_or, All, min, ◌^◌, ◌-◌, Result, Ok, Err, IfOk, refl}
 use Rattle.std.specs.List.{list_all}
 use Rattle.std.specs.Result.{ForOk}
 use Rattle.std.proofs.Common.{arith, inl, inr, ap, sym, subst, ◌∙◌}
@@ -13,7 +13,7 @@ use Rattle.server_rules.specs.declared.server.Drive.{Drive}
 use Rattle.server_rules.specs.Numbers.{among}
 use Rattle.server_rules.specs.Making.{online, are_of, places}
 use Rattle.stripe_repair.specs.declared.loads.DriveLoad.{DriveLoad}
-use Rattle.stripe_repair.specs.declared.loads.TheConstants.{MAX_DRIVES}
+use Rattle.zone_place.specs.declared.loads.TheConstants.{MAX_DRIVES}
 use Rattle.stripe_repair.specs.Placing.{AreDifferent, CanPlace, FitsLoad, Places, drives_of, is_online}
 use Rattle.file_jobs.specs.Placing.{AreLoadsOf}
 use Rattle.file_jobs.proofs.Placed.{tail_of}

@@ -1,7 +1,7 @@
 -- A further drive.
-use Rattle.std.specs.Prelude.{ℕ, List, [], ◌∷◌, ◌≡◌, ◌<◌, true, suc, nat_lt, if◌then◌else◌}
+use Rattle.std.specs.Prelude.{ℕ, List, [], ◌∷◌, ◌≡◌, ◌<◌, true, None, suc, nat_lt, if◌then◌else◌}
 use Rattle.server_rules.specs.declared.server.Drive.{Drive}
-use Rattle.stripe_repair.specs.declared.loads.TheConstants.{MAX_DRIVES}
+use Rattle.zone_place.specs.declared.loads.TheConstants.{MAX_DRIVES}
 use Rattle.server_rules.specs.Making.{add_drive}
 use Rattle.layout_server.specs.declared.drives.DriveInfo.{DriveInfo}
 
@@ -12,7 +12,7 @@ IsNew number (d ∷ ds) = (d.number ≡ number → ⊥) × IsNew number ds
 
 -- a drive that wasn't declared
 abbrev pub drive_of : DriveInfo → Drive
-drive_of i = record { number = i.number; key = i.key; capacity = i.capacity; online = true }
+drive_of i = record { number = i.number; key = i.key; capacity = i.capacity; online = true; zone = None }
 
 -- the drives and further ones, in order of their numbers
 abbrev pub and_drives : List Drive → List DriveInfo → List Drive

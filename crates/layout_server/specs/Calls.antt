@@ -1,5 +1,5 @@
 -- What a call did to the server.
-use Rattle.std.specs.Prelude.{ℕ, List, Some, Ok, ◌≡◌, ◌≢◌}
+use Rattle.std.specs.Prelude.{ℕ, Bool, List, Some, Ok, ◌≡◌, ◌≢◌}
 use Rattle.data_map.specs.declared.check.RawMap.{RawMap}
 use Rattle.server_rules.specs.declared.server.Server.{Server}
 use Rattle.server_rules.specs.Files.{Step as RulesStep}
@@ -12,11 +12,11 @@ use Rattle.layout_server.specs.declared.new_files.FileErr.TheVariants.{Memory}
 use Rattle.layout_server.specs.Creating.{cause_of}
 
 -- a file was made, on some drives
-abbrev pub Makes : (number : ℕ) → RawMap → (tag : ℕ) → Server → Server → Step → Type 0
-Makes number raw tag old new out =
-    (chosen : List ℕ) × (s : RulesStep) × (create_file old number raw tag chosen ≡ Ok s) × Did out new s
+abbrev pub Makes : (number : ℕ) → RawMap → (tag : ℕ) → (zoned : Bool) → Server → Server → Step → Type 0
+Makes number raw tag zoned old new out =
+    (chosen : List ℕ) × (s : RulesStep) × (create_file old number raw tag zoned chosen ≡ Ok s) × Did out new s
 
 -- the file is refused as the rules say, and nothing changed; that there is no memory says nothing
-abbrev pub IsRefused : (number : ℕ) → RawMap → Server → Server → FileErr → Type 0
-IsRefused number raw old new e =
-    e ≢ Memory → (r : Refusal) × (refusal old number raw ≡ Some r) × (e ≡ cause_of r) × (new ≡ old)
+abbrev pub IsRefused : (number : ℕ) → RawMap → (zoned : Bool) → Server → Server → FileErr → Type 0
+IsRefused number raw zoned old new e =
+    e ≢ Memory → (r : Refusal) × (refusal old number raw zoned ≡ Some r) × (e ≡ cause_of r) × (new ≡ old)

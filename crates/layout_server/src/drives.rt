@@ -1,6 +1,6 @@
-ghost use Rattle.std.specs.Prelude.{◌≡◌, ◌<◌, ◌≤◌, length, IfOk, OnOk, OnErr};
+ghost use Rattle.std.specs.Prelude.{◌≡◌, ◌<◌, ◌≤◌, length, OnOk, OnErr};
 ghost use Rattle.server_rules.specs.Making.{add_drive};
-ghost use Rattle.stripe_repair.specs.declared.loads.TheConstants.{MAX_DRIVES};
+ghost use Rattle.zone_place.specs.declared.loads.TheConstants.{MAX_DRIVES};
 ghost use Rattle.server_state.specs.Drives.{AreDrives};
 ghost use Rattle.layout_server.specs.Adding.{IsNew, CanAdd, and_drives, drive_of, rank_in};
 
@@ -38,6 +38,7 @@ fn drive_of(info: DriveInfo) -> Drive
         key,
         capacity,
         online: true,
+        zone: None,
     }
 }
 

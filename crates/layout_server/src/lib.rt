@@ -17,6 +17,7 @@ mod replies;
 mod resends;
 mod rounds;
 mod server;
+mod zones;
 
 pub use drives::{DriveInfo, DriveTable, add_drive, add_drives};
 pub use loads::loads_of;
@@ -29,3 +30,4 @@ pub use resends::{resend, waits};
 pub use server::ServerCore;
 pub use server_requests::{Sends, Sent};
 pub use server_state::{Notes, Repairs, Step};
+pub use zones::ZoneErr;

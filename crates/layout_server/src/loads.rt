@@ -1,7 +1,7 @@
 ghost use Rattle.std.specs.Prelude.{◌≡◌, ◌≤◌, All, length, IfOk};
 ghost use Rattle.server_state.specs.Counts.{told};
 ghost use Rattle.stripe_repair.specs.Placing.{AreDifferent, FitsLoad, drives_of};
-ghost use Rattle.stripe_repair.specs.declared.loads.TheConstants.{MAX_DRIVES};
+ghost use Rattle.zone_place.specs.declared.loads.TheConstants.{MAX_DRIVES};
 ghost use Rattle.file_jobs.specs.Placing.{AreLoadsOf};
 ghost use Rattle.server_state.specs.Drives.{AreDrives};
 ghost use Rattle.server_state.specs.Standing.{AreCounted};
@@ -14,14 +14,15 @@ use std::alloc::Global;
 use stripe_repair::DriveLoad;
 
 // A drive as the placer sees it.
-fn load_of(drive: u32, online: bool, objects: u32) -> DriveLoad
-    ensures value { result ≡ record { drive = drive; online = online; objects = objects } }
+fn load_of(drive: u32, online: bool, objects: u32, zone: Option<u32>) -> DriveLoad
+    ensures value { result ≡ record { drive = drive; online = online; objects = objects; zone = zone } }
     ensures fits { FitsLoad result }
 {
     DriveLoad {
         drive,
         online,
         objects,
+        zone,
     }
 }
 
@@ -38,7 +39,7 @@ fn loads_with(
     let mut loads = Sequence::new(alloc);
     for drive in drives {
         let objects = counts.on(drive.number);
-        loads.push(load_of(drive.number, drive.online, objects))?;
+        loads.push(load_of(drive.number, drive.online, objects, drive.zone))?;
     }
     Ok(loads)
 }

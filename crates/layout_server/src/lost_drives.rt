@@ -3,7 +3,7 @@ ghost use Rattle.layout_ops.specs.declared.orders.OrderKind.TheVariants as order
 ghost use Rattle.server_rules.specs.Jobs.{declares};
 ghost use Rattle.server_rules.specs.Orders.{ordered, declare, offline};
 ghost use Rattle.stripe_repair.specs.Placing.{AreDifferent, drives_of};
-ghost use Rattle.stripe_repair.specs.declared.loads.TheConstants.{MAX_DRIVES};
+ghost use Rattle.zone_place.specs.declared.loads.TheConstants.{MAX_DRIVES};
 ghost use Rattle.file_jobs.specs.Placing.{AreLoadsOf};
 ghost use Rattle.server_state.specs.States.{server_of, Did, IsGood};
 ghost use Rattle.layout_server.specs.Orders.{Obeys};

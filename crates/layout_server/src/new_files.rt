@@ -1,27 +1,28 @@
-ghost use Rattle.std.specs.Prelude.{◌≡◌, ◌≤◌, ◌^◌, ◌<◌, [], None, length, count_by, is_some, IfErr, IfOk, OnOk};
+ghost use Rattle.std.specs.Prelude.{◌≡◌, ◌≤◌, ◌^◌, ◌<◌, ◌&&◌, [], true, None, length, count_by, is_none, is_some, IsTrue, IfErr, IfOk, OnOk};
 ghost use Rattle.data_map.specs.Check.{HasAlgorithm};
 ghost use Rattle.server_rules.specs.declared.limits.TheConstants.{MAX_FILE_COMPONENTS};
+ghost use Rattle.zone_place.specs.Zones.{ask_of, has_room};
 ghost use Rattle.server_rules.specs.Files.{file_at};
-ghost use Rattle.server_rules.specs.Making.{checked_64, components_on, online, places, refusal};
-ghost use Rattle.stripe_repair.specs.Placing.{FitsLoad};
-ghost use Rattle.stripe_repair.specs.declared.loads.TheConstants.{MAX_DRIVES};
-ghost use Rattle.file_jobs.specs.Placing.{AreLoadsOf};
+ghost use Rattle.server_rules.specs.Making.{by_zones, checked_64, components_on, drives_for, online, places, refusal, usable};
+ghost use Rattle.server_rules.specs.Zoning.{in_zones};
+ghost use Rattle.zone_place.specs.declared.loads.TheConstants.{MAX_DRIVES};
 ghost use Rattle.file_jobs.specs.Sound.{IsSound};
 ghost use Rattle.server_state.specs.Drives.{AreDrives};
 ghost use Rattle.server_state.specs.Tables.{AreEntries, files_in};
 ghost use Rattle.server_state.specs.States.{server_of, HasRoom, IsGood};
-ghost use Rattle.layout_server.specs.Creating.{map_unless, unmade_by, Creates, IsRefused};
+ghost use Rattle.layout_server.specs.Creating.{unmade_by, Creates, HasDrives, IsRefused, RefusedFor};
 
 use crate::loads::loads_of;
 use crate::rounds::put;
 use data_map::{DataMap, MAX_STRIPE_UNIT, MapErr, RawMap};
 use file_jobs::{FileState, make};
-use osd_lists::{Memory, Numbers, Sequence};
+use osd_lists::{Memory, Numbers};
 use server_rules::{Component, Components, Drive, Grants, Kept, MAX_FILE_COMPONENTS, Phase};
 use server_state::{Files, State, Step, finish_step, list, no_effects};
 use std::alloc::Global;
-use stripe_repair::Place;
+use stripe_repair::{Place, zone_loads};
 use thiserror::Error;
+use zone_place::{zone_ask, zone_room};
 
 /// Why a file isn't made; of several reasons the first in this order.
 #[derive(Clone, Copy, Debug, PartialEq, Eq, Error)]
@@ -32,9 +33,13 @@ pub enum FileErr {
     /// The map can't be used, or has more than 64 components.
     #[error("the map can't be used: {0}")]
     BadMap(MapErr),
-    /// There are fewer drives online than the map has components.
+    /// There are fewer drives online than the map has components. For a file that is spread over zones those in a zone
+    /// count.
     #[error("only {online} drives are online")]
     TooFewDrives { online: u32 },
+    /// The online drives in zones have no room for a file that is spread over them.
+    #[error("{online} online drives in zones have no room for it")]
+    NoSpread { online: u32 },
     /// There is no memory for it.
     #[error("no memory for a file")]
     Memory,
@@ -57,6 +62,8 @@ pub struct NewFile {
     pub map: DataMap,
     /// The tag that its components are made with.
     pub tag: u32,
+    /// Its components are spread over zones of drives.
+    pub zoned: bool,
 }
 
 // A map as it is checked, with at most 64 components.
@@ -92,22 +99,57 @@ fn count_by_online(drives: &[Drive]) -> u32
     drives.iter().filter(|drive| drive.online).count() as u32
 }
 
-// How many drives weren't declared.
-fn count_online(drives: &[Drive]) -> u32
-    requires { AreDrives drives.now }
-    ensures { result ≡ length (online drives.now) }
+// How many online drives are in a zone.
+fn count_by_zone(drives: &[Drive]) -> u32
+    requires { length drives.now ≤ MAX_DRIVES }
+    ensures { result ≡ count_by (λ d. d.online && is_some d.zone) drives.now }
 {
+    drives
+        .iter()
+        .filter(|drive| drive.online && drive.zone.is_some())
+        .count() as u32
+}
+
+// How many drives may take components of such a file.
+fn count_usable(zoned: bool, drives: &[Drive]) -> u32
+    requires { AreDrives drives.now }
+    ensures { result ≡ usable zoned drives.now }
+{
+    if zoned {
+        return count_by_zone(drives);
+    }
     count_by_online(drives)
+}
+
+// The drives have room for such a file.
+fn has_room(alloc: Global, state: &State, zoned: bool, map: &DataMap) -> Result<bool, Memory>
+    requires { IsGood state.now }
+    ensures { IfOk result (λ room. room ≡ is_none (by_zones map.now zoned state.now.drives)) }
+{
+    if zoned {
+        let loads = loads_of(alloc, state)?;
+        let zones = zone_loads(alloc, loads.as_slice())?;
+        return Ok(zone_room(&zone_ask(map), zones.as_slice()));
+    }
+    Ok(true)
 }
 
 // The map of a file that may be made.
 #[tactic(auto, unfolding(server_rules::specs::Making::refusal))]
-fn usable(state: &State, number: u32, raw: RawMap) -> Result<DataMap, FileErr>
+fn usable(
+    alloc: Global,
+    state: &State,
+    number: u32,
+    raw: RawMap,
+    zoned: bool,
+) -> Result<DataMap, FileErr>
     requires good { IsGood state.now }
     requires algorithm { HasAlgorithm raw }
-    ensures value { result ≡ map_unless (refusal (server_of state.now) number raw) raw }
+    ensures usable { IfOk result (λ map. refusal (server_of state.now) number raw zoned ≡ None) }
+    ensures refused { IfErr result (RefusedFor (refusal (server_of state.now) number raw zoned)) }
+    ensures same { IfOk result (λ map. map ≡ raw) }
     ensures few { IfOk result (λ map. map.comps ≤ MAX_FILE_COMPONENTS) }
-    ensures enough { IfOk result (λ map. map.comps ≤ length (online state.now.drives)) }
+    ensures drives { IfOk result (HasDrives zoned state.now.drives) }
 {
     if has_file(&state.files, number) {
         return Err(FileErr::FileExists);
@@ -116,9 +158,12 @@ fn usable(state: &State, number: u32, raw: RawMap) -> Result<DataMap, FileErr>
         Ok(map) => map,
         Err(cause) => return Err(FileErr::BadMap(cause)),
     };
-    let online = count_online(state.drives.as_slice());
+    let online = count_usable(zoned, state.drives.as_slice());
     if online < raw.comps {
         return Err(FileErr::TooFewDrives { online });
+    }
+    if !has_room(alloc, state, zoned, &map)? {
+        return Err(FileErr::NoSpread { online });
     }
     Ok(map)
 }
@@ -153,6 +198,7 @@ fn unmade(alloc: Global, state: &State, file: NewFile, drives: &[u32]) -> Result
     let kept = Kept {
         number: file.number,
         map: file.map,
+        zoned: file.zoned,
         first_tag: file.tag,
         tag: file.tag,
         format: state.format,
@@ -188,6 +234,44 @@ fn chosen_for<P: Place>(
     placer.place(count, loads.as_slice())
 }
 
+// Different online drives for the components, spread over their zones by the placer.
+fn spread_for<P: Place>(
+    alloc: Global,
+    state: &State,
+    map: &DataMap,
+    placer: &P,
+) -> Result<Numbers, Memory>
+    requires good { IsGood state.now }
+    requires placer { P.is_placer placer.now }
+    requires room { IsTrue (has_room (ask_of map.now) (in_zones (online state.now.drives))) }
+    ensures placed { IfOk result (λ chosen. drives_for true state.now.drives map.now chosen ≡ chosen) }
+    ensures many { IfOk result (λ chosen. length chosen ≡ map.now.comps) }
+{
+    map.known();
+    let loads = loads_of(alloc, state)?;
+    let zones = zone_loads(alloc, loads.as_slice())?;
+    placer.spread(alloc, &zone_ask(map), zones.as_slice())
+}
+
+// The drives for the components of such a file.
+fn drives_for<P: Place>(
+    alloc: Global,
+    state: &State,
+    file: &NewFile,
+    placer: &P,
+) -> Result<Numbers, Memory>
+    requires good { IsGood state.now }
+    requires placer { P.is_placer placer.now }
+    requires drives { HasDrives file.now.zoned state.now.drives file.now.map }
+    ensures placed { IfOk result (λ chosen. drives_for file.now.zoned state.now.drives file.now.map chosen ≡ chosen) }
+    ensures many { IfOk result (λ chosen. length chosen ≡ file.now.map.comps) }
+{
+    if file.zoned {
+        return spread_for(alloc, state, &file.map, placer);
+    }
+    chosen_for(alloc, state, file.map.raw().comps, placer)
+}
+
 // A file is made that may be made.
 fn create<P: Place>(
     alloc: Global,
@@ -199,12 +283,12 @@ fn create<P: Place>(
     requires room { HasRoom (server_of state.old) }
     requires placer { P.is_placer placer.now }
     requires few { file.map.comps ≤ MAX_FILE_COMPONENTS }
-    requires enough { file.map.comps ≤ length (online state.old.drives) }
-    requires usable { refusal (server_of state.old) file.number file.map ≡ None }
-    ensures made { IfOk result (λ out. Creates file.number file.map file.tag state.old state.new out) }
+    requires drives { HasDrives file.zoned state.old.drives file.map }
+    requires usable { refusal (server_of state.old) file.number file.map file.zoned ≡ None }
+    ensures made { IfOk result (λ out. Creates file state.old state.new out) }
     ensures good { OnOk result (IsGood state.new) }
 {
-    let drives = chosen_for(alloc, state, file.map.raw().comps, placer)?;
+    let drives = drives_for(alloc, state, &file, placer)?;
     let mut made = unmade(alloc, state, file, drives.as_slice())?;
     let object = state.next_object + drives.len() as u64;
     let mut effects = no_effects(alloc, state.next_nonce, object);
@@ -215,7 +299,7 @@ fn create<P: Place>(
     Ok(step)
 }
 
-/// A file is made on drives that the placer names, and its components are sent CREATE.
+/// A file is made on drives that the placer names, spread over zones or not, and its components are sent CREATE.
 ///
 /// # Errors
 ///
@@ -226,17 +310,24 @@ pub fn create_file<P: Place>(
     number: u32,
     raw: RawMap,
     tag: u32,
+    zoned: bool,
     placer: &P,
 ) -> Result<Step, FileErr>
     requires good { IsGood state.old }
     requires room { HasRoom (server_of state.old) }
     requires placer { P.is_placer placer.now }
     requires algorithm { HasAlgorithm raw }
-    ensures refused { IfErr result (IsRefused number raw state.old state.new) }
-    ensures made { IfOk result (λ out. Creates number raw tag state.old state.new out) }
+    ensures refused { IfErr result (IsRefused number raw zoned state.old state.new) }
+    ensures made { IfOk result (λ out. Creates (record { number = number; map = raw; tag = tag; zoned = zoned })
+        state.old state.new out) }
     ensures good { OnOk result (IsGood state.new) }
 {
-    let map = usable(state, number, raw)?;
-    let file = NewFile { number, map, tag };
+    let map = usable(alloc, state, number, raw, zoned)?;
+    let file = NewFile {
+        number,
+        map,
+        tag,
+        zoned,
+    };
     Ok(create(alloc, state, file, placer)?)
 }

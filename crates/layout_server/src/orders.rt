@@ -5,7 +5,7 @@ ghost use Rattle.server_requests.specs.Sending.{all_sent};
 ghost use Rattle.server_rules.specs.Files.{file_at};
 ghost use Rattle.server_rules.specs.Orders.{ordered, starts, unknown};
 ghost use Rattle.stripe_repair.specs.Placing.{AreDifferent, drives_of};
-ghost use Rattle.stripe_repair.specs.declared.loads.TheConstants.{MAX_DRIVES};
+ghost use Rattle.zone_place.specs.declared.loads.TheConstants.{MAX_DRIVES};
 ghost use Rattle.server_state.specs.declared.state.State.{State as AState};
 ghost use Rattle.file_jobs.specs.Placing.{AreLoadsOf};
 ghost use Rattle.file_jobs.specs.Sound.{IsSoundFile};

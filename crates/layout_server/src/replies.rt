@@ -1,10 +1,10 @@
-ghost use Rattle.std.specs.Prelude.{◌≡◌, ◌<◌, ◌≤◌, ◌^◌, ℕ, List, length, IfSome, IfNone, IfOk, OnOk};
+ghost use Rattle.std.specs.Prelude.{◌<◌, ◌≤◌, ◌^◌, ℕ, List, length, IfSome, IfNone, IfOk, OnOk};
 ghost use Rattle.std.specs.Ordering.{nat_cmp};
 ghost use Rattle.std.specs.List.Sorted.{IsStrictlySortedBy};
 ghost use Rattle.std.specs.Map.{keys_of};
 ghost use Rattle.server_rules.specs.Messages.{on_drive_reply};
 ghost use Rattle.stripe_repair.specs.Placing.{AreDifferent, drives_of};
-ghost use Rattle.stripe_repair.specs.declared.loads.TheConstants.{MAX_DRIVES};
+ghost use Rattle.zone_place.specs.declared.loads.TheConstants.{MAX_DRIVES};
 ghost use Rattle.file_jobs.specs.Placing.{AreLoadsOf};
 ghost use Rattle.server_state.specs.Tables.{AreEntries};
 ghost use Rattle.server_state.specs.States.{server_of, Did, HasRoom, IsGood, IsGoodBut};

@@ -1,11 +1,12 @@
-ghost use Rattle.std.specs.Prelude.{◌≡◌, ◌↔◌, ◌<◌, [], List, ℕ, IsTrue, map, option_map, IfOk, IfErr, OnOk};
+ghost use Rattle.std.specs.Prelude.{◌≡◌, ◌↔◌, ◌<◌, [], List, ℕ, true, false, IsTrue, map, option_map, IfOk, IfErr, IsErr, OnOk, OnErr};
 ghost use Rattle.std.specs.Option.{option_copied};
 ghost use Rattle.layout_ops.specs.declared.orders.OrderKind.TheVariants as order;
 ghost use Rattle.data_map.specs.Check.{HasAlgorithm};
-ghost use Rattle.stripe_repair.specs.declared.loads.TheConstants.{MAX_DRIVES};
+ghost use Rattle.zone_place.specs.declared.loads.TheConstants.{MAX_DRIVES};
 ghost use Rattle.server_rules.specs.Envelopes.{on_bytes};
 ghost use Rattle.server_rules.specs.Files.{file_at};
 ghost use Rattle.server_rules.specs.Making.{add_drive, new_server, set_format};
+ghost use Rattle.server_rules.specs.Zoning.{put_in_zone};
 ghost use Rattle.server_rules.specs.Messages.{counters_have_room, resend};
 ghost use Rattle.server_rules.specs.Openings.{crash, reopen};
 ghost use Rattle.server_rules.specs.Orders.{ordered};
@@ -14,6 +15,7 @@ ghost use Rattle.server_state.specs.States.{server_of, Did, HasRoom, IsGood};
 ghost use Rattle.layout_server.specs.Adding.{IsNew, CanAdd, and_drives, drive_of};
 ghost use Rattle.layout_server.specs.Resending.{waited_of};
 ghost use Rattle.layout_server.specs.Calls.{Makes, IsRefused};
+ghost use Rattle.layout_server.specs.Zones.{is_in_zone, is_known};
 
 use crate::drives::{DriveInfo, DriveTable, add_drive, add_drives};
 use crate::kept_files::{kept_of, numbers_of};
@@ -23,6 +25,7 @@ use crate::new_files::{FileErr, create_file};
 use crate::openings::{crash, reopen};
 use crate::orders::order_recall;
 use crate::resends::{resend, waits};
+use crate::zones::{ZoneErr, set_zone};
 use data_map::RawMap;
 use layout_ops::OrderKind;
 use osd_lists::{Memory, Node, Numbers};
@@ -106,7 +109,7 @@ impl ServerCore {
         add_drive(self.alloc, &mut self.state.drives, info)
     }
 
-    /// A file is made on drives that the placer names, and its components are sent CREATE.
+    /// A file is made on drives that the placer names, and its components are sent CREATE. Zones count for nothing.
     ///
     /// # Errors
     ///
@@ -121,16 +124,70 @@ impl ServerCore {
         requires room { HasRoom self.old }
         requires placer { P.is_placer placer.now }
         requires algorithm { HasAlgorithm raw }
-        ensures refused { IfErr result (IsRefused file raw self.old self.new) }
-        ensures made { IfOk result (λ out. Makes file raw tag self.old self.new out) }
+        ensures refused { IfErr result (IsRefused file raw false self.old self.new) }
+        ensures made { IfOk result (λ out. Makes file raw tag false self.old self.new out) }
+    {
+        self.create(file, raw, tag, false, placer)
+    }
+
+    /// A file is made on drives that the placer spreads over zones, and its components are sent CREATE. Drives that are
+    /// in no zone count for nothing.
+    ///
+    /// # Errors
+    ///
+    /// As [`FileErr`] says. Then nothing is changed, want of memory excepted.
+    pub fn create_zoned<P: Place>(
+        &mut self,
+        file: u32,
+        raw: RawMap,
+        tag: u32,
+        placer: &P,
+    ) -> Result<Step, FileErr>
+        requires room { HasRoom self.old }
+        requires placer { P.is_placer placer.now }
+        requires algorithm { HasAlgorithm raw }
+        ensures refused { IfErr result (IsRefused file raw true self.old self.new) }
+        ensures made { IfOk result (λ out. Makes file raw tag true self.old self.new out) }
+    {
+        self.create(file, raw, tag, true, placer)
+    }
+
+    // A file is made, spread over zones or not.
+    fn create<P: Place>(
+        &mut self,
+        file: u32,
+        raw: RawMap,
+        tag: u32,
+        zoned: bool,
+        placer: &P,
+    ) -> Result<Step, FileErr>
+        requires room { HasRoom self.old }
+        requires placer { P.is_placer placer.now }
+        requires algorithm { HasAlgorithm raw }
+        ensures refused { IfErr result (IsRefused file raw zoned self.old self.new) }
+        ensures made { IfOk result (λ out. Makes file raw tag zoned self.old self.new out) }
     {
         let mut state = self.begin()?;
-        let made = create_file(self.alloc, &mut state, file, raw, tag, placer);
+        let made = create_file(self.alloc, &mut state, file, raw, tag, zoned, placer);
         if let Err(FileErr::Memory) = made {
             return Err(FileErr::Memory);
         }
         self.keep(state);
         made
+    }
+
+    /// A drive that is in no zone is put into one. There has to be such a drive.
+    ///
+    /// # Errors
+    ///
+    /// [`ZoneErr::Taken`] exactly where the drive is in a zone. Then it stays there.
+    pub fn set_zone(&mut self, drive: u32, zone: u32) -> Result<(), ZoneErr>
+        requires known { IsTrue (is_known drive self.old.drives) }
+        ensures put { self.new ≡ record self.old { drives = put_in_zone self.old.drives drive zone } }
+        ensures taken { IsErr result ↔ IsTrue (is_in_zone drive self.old.drives) }
+        ensures stays { OnErr result (self.new ≡ self.old) }
+    {
+        set_zone(&mut self.state.drives, drive, zone)
     }
 
     /// Fences leave files with this format at least, 1 or 2: the server's format becomes the greater of

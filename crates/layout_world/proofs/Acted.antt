@@ -6,7 +6,6 @@ use Rattle.server_rules.specs.declared.server.Refusal.{Refusal}
 use Rattle.server_rules.specs.Files.{Step}
 use Rattle.server_rules.specs.Making.{create_file}
 use Rattle.server_rules.specs.History.{Input, Makes, Adds, step, unless_made}
-use Rattle.scenario_text.specs.declared.event.FileMap.{FileMap}
 use Rattle.scenario_text.specs.declared.event.Event.{Event}
 use Rattle.scenario_text.specs.declared.event.Event.TheVariants as event
 use Rattle.scenario_text.specs.declared.line.Verdict.{Verdict}
@@ -18,7 +17,7 @@ use Rattle.world_history.specs.State.{DriveAt, ClientAt, World, at_number, with_
 use Rattle.world_history.specs.Book.{step_by}
 use Rattle.world_history.specs.Calm.{mended_in}
 use Rattle.world_history.specs.Drives.{made_drive}
-use Rattle.world_history.specs.Moves.{Act as WorldAct, Opens, changed as only_changed, at_drive, injects, adds_drive, stops, pends, makes, gives, begins, raw_of, has_algorithm, knows_drive, known_drive}
+use Rattle.world_history.specs.Moves.{Act as WorldAct, Opens, changed as only_changed, at_drive, injects, adds_drive, stops, pends, makes, gives, begins, has_algorithm, knows_drive, known_drive}
 use Rattle.world_network.specs.declared.acts.Act.{Act}
 use Rattle.world_network.specs.Acts.{IsAct, IsDone, nothing, line_alone}
 use Rattle.world_parties.specs.Drives.{Injects, injected, changed}
@@ -30,7 +29,7 @@ use Rattle.layout_world.specs.ServerActing as server
 use Rattle.layout_world.specs.declared.parties.Parties.{Parties}
 use Rattle.layout_world.specs.State.{ShowsWith, Shows}
 use Rattle.layout_world.specs.Groups.{is_plain}
-use Rattle.layout_world.specs.Acting.{Doing, Acts, ActsWith, ends_by, ends_in}
+use Rattle.layout_world.specs.Acting.{Doing, Acts, ActsWith, ends_by, ends_in, ends_made}
 use Rattle.layout_world.proofs.Shown.{shows_drives, shows_clients, shows_server, shows_down}
 
 -- what is done, with the world that the parties show then
@@ -153,25 +152,22 @@ server_gives old x act i e same h =
     (λ w s. h.mended ∙ ap (λ (v : Server). (step v h.chosen i).mended) s.server ∙ sym (same w h.chosen))
 
 -- a file is made
-made_mended : (s : Server) (chosen : List ℕ) (n : ℕ) (m : RawMap) (tag : ℕ) (known : Bool) (r : Result Step Refusal)
-    → create_file s n m tag chosen ≡ r
-    → server.mended_then [] known r ≡ mended_in (step_by s chosen (if known then Some (Makes n m tag) else None))
-made_mended s chosen n m tag true (Ok x) e = ap (λ (r : Result Step Refusal). (unless_made s r).mended) (sym e)
-made_mended s chosen n m tag true (Err x) e = ap (λ (r : Result Step Refusal). (unless_made s r).mended) (sym e)
-made_mended s chosen n m tag false r e = refl
+made_mended : (s : Server) (chosen : List ℕ) (n : ℕ) (m : RawMap) (tag : ℕ) (zoned known : Bool) (r : Result Step Refusal)
+    → create_file s n m tag zoned chosen ≡ r
+    → server.mended_then [] known r ≡ mended_in (step_by s chosen (if known then Some (Makes n m tag zoned) else None))
+made_mended s chosen n m tag zoned true (Ok x) e = ap (λ (r : Result Step Refusal). (unless_made s r).mended) (sym e)
+made_mended s chosen n m tag zoned true (Err x) e = ap (λ (r : Result Step Refusal). (unless_made s r).mended) (sym e)
+made_mended s chosen n m tag zoned false r e = refl
 
-pub server_makes : (old : Parties) (x : WorldServerState) (act : Act) (f : ℕ) (m : FileMap) (tag : ℕ)
-    → server.Makes old.server f (raw_of m) tag x act
-    → ActsWith (λ w chosen. makes w chosen f (raw_of m) tag) (ends_in (Opens (event.File f m tag))) old
-    (record old { server = x }) act
-server_makes old x act f m tag h =
-    server_does old x act (λ w chosen. makes w chosen f (raw_of m) tag) (ends_in (Opens (event.File f m tag))) h.chosen h.done
+pub server_makes : (old : Parties) (x : WorldServerState) (act : Act) (f : ℕ) (m : RawMap) (tag : ℕ) (zoned : Bool)
+    → server.Makes old.server f m tag zoned x act
+    → ActsWith (λ w chosen. makes w chosen f m tag zoned) (ends_made f m tag zoned) old (record old { server = x }) act
+server_makes old x act f m tag zoned h =
+    server_does old x act (λ w chosen. makes w chosen f m tag zoned) (ends_made f m tag zoned) h.chosen h.done
     (λ w s. h.mended
-    ∙ ap (λ (rs : List Mended). server.mended_then rs (has_algorithm (raw_of m))
-    (create_file old.server.state f (raw_of m) tag h.chosen)) s.mended
-    ∙ ap (λ (v : Server). server.mended_then [] (has_algorithm (raw_of m)) (create_file v f (raw_of m) tag h.chosen)) s.server
-    ∙ made_mended w.server h.chosen f (raw_of m) tag (has_algorithm (raw_of m))
-    (create_file w.server f (raw_of m) tag h.chosen) refl)
+    ∙ ap (λ (rs : List Mended). server.mended_then rs (has_algorithm m) (create_file old.server.state f m tag zoned h.chosen)) s.mended
+    ∙ ap (λ (v : Server). server.mended_then [] (has_algorithm m) (create_file v f m tag zoned h.chosen)) s.server
+    ∙ made_mended w.server h.chosen f m tag zoned (has_algorithm m) (create_file w.server f m tag zoned h.chosen) refl)
 
 -- a drive is made
 pub server_adds : (old : Parties) (t : List (ℕ × DriveAt)) (x : WorldServerState) (act : Act) (d : ℕ) (key : List ℕ)
@@ -210,6 +206,7 @@ new_drive_ends w chosen d key capacity false = refl
 plain_ends : (w : World) (chosen : List ℕ) (e : Event) → is_plain e ≡ true → ends_in (Opens e) w chosen ≡ []
 plain_ends w chosen (event.Deliver n) p = absurd (true≢false (sym p))
 plain_ends w chosen (event.File f m tag) p = absurd (true≢false (sym p))
+plain_ends w chosen (event.ZonedFile f m tag) p = absurd (true≢false (sym p))
 plain_ends w chosen (event.Recall f) p = absurd (true≢false (sym p))
 plain_ends w chosen (event.Revoke f) p = absurd (true≢false (sym p))
 plain_ends w chosen (event.Rebuild f) p = absurd (true≢false (sym p))

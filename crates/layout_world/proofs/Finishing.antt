@@ -4,7 +4,7 @@ use Rattle.scenario_text.specs.declared.event.Event.{Event}
 use Rattle.scenario_text.specs.declared.line.Line.{Line}
 use Rattle.scenario_text.specs.declared.line.Line.TheVariants as line
 use Rattle.world_history.specs.declared.err.WorldErr.{WorldErr}
-use Rattle.world_history.specs.declared.err.WorldErr.TheVariants.{NotYet, NoName, Taken, Dead, Alive, NotKept, Down, Running, NoMessage, KeptFull, Memory}
+use Rattle.world_history.specs.declared.err.WorldErr.TheVariants.{NoName, Taken, Dead, Alive, NotKept, Down, Running, NoMessage, KeptFull, Memory}
 use Rattle.world_history.specs.declared.messages.Sent.{Sent}
 use Rattle.world_history.specs.State.{World}
 use Rattle.world_history.specs.Moves.{Action, Delivers, TimesOut, Pends}
@@ -32,7 +32,6 @@ pub quiets_err : (w : World) (e : Event) (before : List Line) (watch : WatchStat
     (after : List Line) (x : WorldErr) → Comes w e before watch plan p now after (Err x) → Quiets w e before watch first client p now after (Err x)
 quiets_err w e before watch first client plan p now after KeptFull c = c
 quiets_err w e before watch first client plan p now after Memory c = c
-quiets_err w e before watch first client plan p now after NotYet c = absurd c
 quiets_err w e before watch first client plan p now after NoName c = absurd c
 quiets_err w e before watch first client plan p now after Taken c = absurd c
 quiets_err w e before watch first client plan p now after Dead c = absurd c
@@ -46,7 +45,6 @@ pub finishes_err : (w : World) (e : Event) (before : List Line) (watch : WatchSt
     (x : WorldErr) → Comes w e before watch plan p now after (Err x) → Finishes w e before watch p now after (Err x)
 finishes_err w e before watch plan p now after KeptFull c = c
 finishes_err w e before watch plan p now after Memory c = c
-finishes_err w e before watch plan p now after NotYet c = absurd c
 finishes_err w e before watch plan p now after NoName c = absurd c
 finishes_err w e before watch plan p now after Taken c = absurd c
 finishes_err w e before watch plan p now after Dead c = absurd c
@@ -60,7 +58,6 @@ pub finishes_quiet : (w : World) (e : Event) (before : List Line) (watch : Watch
     (after : List Line) (x : WorldErr) → Quiets w e before watch first client p now after (Err x) → Finishes w e before watch p now after (Err x)
 finishes_quiet w e before watch first client p now after KeptFull c = c
 finishes_quiet w e before watch first client p now after Memory c = c
-finishes_quiet w e before watch first client p now after NotYet c = absurd c
 finishes_quiet w e before watch first client p now after NoName c = absurd c
 finishes_quiet w e before watch first client p now after Taken c = absurd c
 finishes_quiet w e before watch first client p now after Dead c = absurd c
@@ -232,7 +229,6 @@ pub steps_err : FullIsCut → (w : World) (e : Event) (before after : List Line)
     → Steps w e before after old new (Err x)
 steps_err cut w e before after old new KeptFull watch middle h = stops cut w e before after h
 steps_err cut w e before after old new Memory watch middle h = breaks_off w e before after h
-steps_err cut w e before after old new NotYet watch middle h = absurd h
 steps_err cut w e before after old new NoName watch middle h = absurd h
 steps_err cut w e before after old new Taken watch middle h = absurd h
 steps_err cut w e before after old new Dead watch middle h = absurd h
@@ -259,7 +255,6 @@ pub refuses : (w : World) (e : Event) (lines : List Line) (s : WorldState) (x : 
     → Some x ≡ refusal w e → Steps w e lines lines s s (Err x)
 refuses w e lines s KeptFull i c = absurd i
 refuses w e lines s Memory i c = absurd i
-refuses w e lines s NotYet i c = record { cause_is = sym c; state = refl; lines = refl }
 refuses w e lines s NoName i c = record { cause_is = sym c; state = refl; lines = refl }
 refuses w e lines s Taken i c = record { cause_is = sym c; state = refl; lines = refl }
 refuses w e lines s Dead i c = record { cause_is = sym c; state = refl; lines = refl }

@@ -5,7 +5,7 @@ use Rattle.scenario_text.specs.declared.event.Event.{Event}
 use Rattle.scenario_text.specs.declared.line.Line.{Line}
 use Rattle.scenario_text.specs.declared.line.Line.TheVariants as line
 use Rattle.world_history.specs.declared.err.WorldErr.{WorldErr}
-use Rattle.world_history.specs.declared.err.WorldErr.TheVariants.{NotYet, NoName, Taken, Dead, Alive, NotKept, Down, Running, NoMessage, KeptFull, Memory}
+use Rattle.world_history.specs.declared.err.WorldErr.TheVariants.{NoName, Taken, Dead, Alive, NotKept, Down, Running, NoMessage, KeptFull, Memory}
 use Rattle.world_history.specs.State.{World}
 use Rattle.world_history.specs.Moves.{Action, acts}
 use Rattle.world_history.specs.Sending.{Move, move, cut_lines}
@@ -121,7 +121,6 @@ comes w e before watch plan p now_seen lines f action new next after (Err Memory
         );
       });
     }
-comes w e before watch plan p now_seen lines f action new next after (Err NotYet) d b = absurd b.performed
 comes w e before watch plan p now_seen lines f action new next after (Err NoName) d b = absurd b.performed
 comes w e before watch plan p now_seen lines f action new next after (Err Taken) d b = absurd b.performed
 comes w e before watch plan p now_seen lines f action new next after (Err Dead) d b = absurd b.performed

@@ -4,7 +4,7 @@ use Rattle.std.specs.Prelude.{OnOk, OnErr}
 use Rattle.std.proofs.lemmas.List.{append-nil}
 use Rattle.scenario_text.specs.declared.line.Line.{Line}
 use Rattle.world_history.specs.declared.err.WorldErr.{WorldErr}
-use Rattle.world_history.specs.declared.err.WorldErr.TheVariants.{NotYet, NoName, Taken, Dead, Alive, NotKept, Down, Running, NoMessage, KeptFull, Memory}
+use Rattle.world_history.specs.declared.err.WorldErr.TheVariants.{NoName, Taken, Dead, Alive, NotKept, Down, Running, NoMessage, KeptFull, Memory}
 use Rattle.world_history.specs.declared.messages.Sent.{Sent}
 use Rattle.world_history.specs.ServerNames.{Server, Mended}
 use Rattle.world_history.specs.State.{World}
@@ -79,7 +79,6 @@ performed ended p n' a act before after (Err KeptFull) moves i s h =
 performed ended p n' a act before after (Err Memory) moves i s h =
     moves p.network n' a before after (Err Memory) s.network (subst (λ
     (x : Act). Performs p.network x before after n' (Err Memory)) (the_act a act i) h)
-performed ended p n' a act before after (Err NotYet) moves i s h = absurd h
 performed ended p n' a act before after (Err NoName) moves i s h = absurd h
 performed ended p n' a act before after (Err Taken) moves i s h = absurd h
 performed ended p n' a act before after (Err Dead) moves i s h = absurd h
@@ -97,7 +96,6 @@ watched ended p q a before after (Ok u) keeps only h = (keeps (sends_all a).worl
 watched ended p q a before after (Err Memory) keeps only h =
     ((sends_all a).lines, h.1, ([], sym (append-nil (sends_all a).lines)))
 watched ended p q a before after (Err KeptFull) keeps only h = absurd (cc only)
-watched ended p q a before after (Err NotYet) keeps only h = absurd (cc only)
 watched ended p q a before after (Err NoName) keeps only h = absurd (cc only)
 watched ended p q a before after (Err Taken) keeps only h = absurd (cc only)
 watched ended p q a before after (Err Dead) keeps only h = absurd (cc only)

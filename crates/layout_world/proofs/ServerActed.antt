@@ -10,7 +10,8 @@ use Rattle.server_rules.specs.Making.{set_format}
 use Rattle.server_rules.specs.Messages.{resend}
 use Rattle.server_rules.specs.Orders.{ordered}
 use Rattle.server_rules.specs.Openings.{crash, reopen}
-use Rattle.server_rules.specs.History.{Input, Obeys, Formats, Resends, Crashes, Opens, step}
+use Rattle.server_rules.specs.Zoning.{put_in_zone}
+use Rattle.server_rules.specs.History.{Input, Obeys, Zones, Formats, Resends, Crashes, Opens, step}
 use Rattle.server_requests.specs.declared.outgoing.Sent.{Sent}
 use Rattle.server_requests.specs.Sending.{all_sent}
 use Rattle.server_state.specs.declared.step.Step.{Step}
@@ -113,6 +114,14 @@ pub formatted : (old new : Server) (format : ℕ) → new ≡ set_format old for
 unfolding gives
 formatted old new format e = λ w f. record {
   world = ap (λ s. with_server w (set_format s format)) f ∙ ap (λ s. with_server w s) (sym e);
+  act = record { lines = refl; sends = refl };
+}
+
+pub zoned : (old new : Server) (drive zone : ℕ) → new ≡ record old { drives = put_in_zone old.drives drive zone }
+    → Does old (λ w. gives w [] (Zones drive zone)) new nothing
+unfolding gives
+zoned old new drive zone e = λ w f. record {
+  world = ap (λ s. with_server w (record s { drives = put_in_zone s.drives drive zone })) f ∙ ap (λ s. with_server w s) (sym e);
   act = record { lines = refl; sends = refl };
 }
 

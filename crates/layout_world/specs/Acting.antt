@@ -1,7 +1,8 @@
 -- What the code does in an action is what the world does.
-use Rattle.std.specs.Prelude.{◌≡◌, ◌<◌, ◌++◌, ℕ, List, [], Some, length, slice_get}
+use Rattle.std.specs.Prelude.{◌≡◌, ◌<◌, ◌++◌, ℕ, Bool, List, [], Some, length, slice_get}
 use Rattle.osd_lists.specs.declared.node.Node.{Node}
 use Rattle.scenario_text.specs.declared.line.Party.{Party}
+use Rattle.data_map.specs.declared.check.RawMap.{RawMap}
 use Rattle.server_rules.specs.History.{Input}
 use Rattle.world_history.specs.declared.messages.Message.{Message}
 use Rattle.world_history.specs.declared.messages.Sent.{Sent}
@@ -10,7 +11,7 @@ use Rattle.world_history.specs.State.{World}
 use Rattle.world_history.specs.Spelled.{spelled, party_of}
 use Rattle.world_history.specs.Handed.{handed}
 use Rattle.world_history.specs.Moves.{Act as WorldAct, Action}
-use Rattle.world_history.specs.Book.{step_by}
+use Rattle.world_history.specs.Book.{step_by, made_of}
 use Rattle.world_history.specs.Calm.{mended_in}
 use Rattle.world_network.specs.Network.{NetworkState, Delivers}
 use Rattle.world_network.specs.declared.acts.Act.{Act}
@@ -29,6 +30,10 @@ ends_in action w chosen = mended_in (did_in w (record { action = action; chosen 
 -- the repairs that the server ends where this comes to it
 abbrev pub ends_by : Input → World → (chosen : List ℕ) → List Mended
 ends_by i w chosen = mended_in (step_by w.server chosen (Some i))
+
+-- those that it ends where a file is made, spread over zones or not
+abbrev pub ends_made : (file : ℕ) → RawMap → (tag : ℕ) → (zoned : Bool) → World → (chosen : List ℕ) → List Mended
+ends_made f m tag zoned w chosen = mended_in (step_by w.server chosen (made_of f m tag zoned))
 
 -- The world does this and ends these repairs, with some drives that the placer names: the parties show it then, and the
 -- act is the code's.

@@ -7,6 +7,7 @@ use Rattle.scenario_text.specs.declared.event.Event.TheVariants as event
 abbrev pub is_plain : Event → Bool
 is_plain (event.Deliver number) = false
 is_plain (event.File f m tag) = false
+is_plain (event.ZonedFile f m tag) = false
 is_plain (event.Recall f) = false
 is_plain (event.Revoke f) = false
 is_plain (event.Rebuild f) = false
@@ -20,6 +21,7 @@ is_plain e = true
 abbrev pub is_change : Event → Bool
 is_change (event.Deliver number) = false
 is_change (event.File f m tag) = false
+is_change (event.ZonedFile f m tag) = false
 is_change (event.Recall f) = false
 is_change (event.Revoke f) = false
 is_change (event.Rebuild f) = false
@@ -29,6 +31,7 @@ is_change (event.Crash m) = false
 is_change (event.Reopen m) = false
 is_change (event.Drive d key capacity) = false
 is_change (event.Disk d key capacity) = false
+is_change (event.Zone d zone) = false
 is_change (event.Client c) = false
 is_change (event.Inject d bytes) = false
 is_change (event.Do c x) = false

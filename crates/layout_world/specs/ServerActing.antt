@@ -55,12 +55,12 @@ abbrev pub mended_then : (before : List Mended) → (known : Bool) → Result St
 mended_then before true (Ok s) = s.mended
 mended_then before known r = before
 
--- a file was made on drives that the placer named, or is refused
-pub record Makes (old : WorldServerState) (file : ℕ) (raw : RawMap) (tag : ℕ) (new : WorldServerState) (act : Act)
-    : Type 0 where
+-- a file was made on drives that the placer named, spread over zones or not, or is refused
+pub record Makes (old : WorldServerState) (file : ℕ) (raw : RawMap) (tag : ℕ) (zoned : Bool) (new : WorldServerState)
+    (act : Act) : Type 0 where
   pub chosen : List ℕ
-  pub done : Does old.state (λ w. makes w chosen file raw tag) new.state act
-  pub mended : new.mended ≡ mended_then old.mended (has_algorithm raw) (create_file old.state file raw tag chosen)
+  pub done : Does old.state (λ w. makes w chosen file raw tag zoned) new.state act
+  pub mended : new.mended ≡ mended_then old.mended (has_algorithm raw) (create_file old.state file raw tag zoned chosen)
 
 -- a further drive was made, stored or not, and the server knows it
 abbrev pub Adds : (old : Server) → (drive : ℕ) → (key : List ℕ) → (capacity : ℕ) → (new : Server) → Act → Type 0

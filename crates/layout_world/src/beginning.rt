@@ -53,6 +53,7 @@ fn begin_plain(parties: &mut Parties, alloc: Global, event: &Event) -> Result<Ac
             key,
             capacity,
         } => by_server::add_drive(parties, alloc, *drive, *key, *capacity, true),
+        Event::Zone { drive, zone } => Ok(by_server::set_zone(parties, alloc, *drive, *zone)),
         Event::Client { client } => by_client::add(parties, alloc, *client),
         Event::Do { client, call } => by_client::call(parties, alloc, *client, call),
         Event::Call { client, call } => by_client::call(parties, alloc, *client, call),
@@ -87,7 +88,10 @@ pub fn begin<P: Place>(
     match event {
         Event::Deliver { message } => deliver(parties, alloc, *message as usize, placer),
         Event::File { file, map, tag } => {
-            by_server::make_file(parties, alloc, *file, map, *tag, placer)
+            by_server::make_file(parties, alloc, *file, map, *tag, false, placer)
+        }
+        Event::ZonedFile { file, map, tag } => {
+            by_server::make_file(parties, alloc, *file, map, *tag, true, placer)
         }
         Event::Recall { file } => {
             by_server::order(parties, alloc, OrderKind::Recall, file.number(), placer)

@@ -1,9 +1,8 @@
 // What the server does in an event.
 ghost use Rattle.std.specs.Prelude.{IfOk};
-ghost use Rattle.scenario_text.specs.declared.event.Event.TheVariants as event;
-ghost use Rattle.server_rules.specs.History.{Obeys, Resends as ResendsAt, Formats as FormatsAt};
-ghost use Rattle.world_history.specs.Moves.{Opens, adds_drive, makes, raw_of, gives};
-ghost use Rattle.layout_world.specs.Acting.{Acts, ActsWith, ends_by, ends_in};
+ghost use Rattle.server_rules.specs.History.{Obeys, Zones, Resends as ResendsAt, Formats as FormatsAt};
+ghost use Rattle.world_history.specs.Moves.{adds_drive, makes, raw_of, gives};
+ghost use Rattle.layout_world.specs.Acting.{Acts, ActsWith, ends_by, ends_made};
 
 use crate::parties::Parties;
 use layout_ops::OrderKind;
@@ -29,21 +28,32 @@ pub fn add_drive(
     Ok(act)
 }
 
-/// A file is made, or it is noted why it isn't.
+/// A file is made, spread over zones or not, or it is noted why it isn't.
 pub fn make_file<P: Place>(
     parties: &mut Parties,
     alloc: Global,
     file: FileName,
     map: &FileMap,
     tag: u32,
+    zoned: bool,
     placer: &P,
 ) -> Result<Act, Memory>
     requires placer { P.is_placer placer.now }
-    ensures { IfOk result (λ act. ActsWith (λ w chosen. makes w chosen file (raw_of map.now) tag)
-        (ends_in (Opens (event.File file map.now tag))) parties.old parties.new act) }
+    ensures { IfOk result (λ act. ActsWith (λ w chosen. makes w chosen file (raw_of map.now) tag zoned)
+        (ends_made file (raw_of map.now) tag zoned) parties.old parties.new act) }
 {
-    let act = parties.server.make_file(alloc, file, map, tag, placer)?;
+    let act = parties
+        .server
+        .make_file(alloc, file, map, tag, zoned, placer)?;
     Ok(act)
+}
+
+/// A drive is put into a zone, of which the server is told.
+pub fn set_zone(parties: &mut Parties, alloc: Global, drive: DriveName, zone: u32) -> Act
+    ensures { Acts (λ w chosen. gives w chosen (Zones drive zone)) parties.old parties.new result }
+{
+    parties.server.set_zone(drive, zone);
+    Act::nothing(alloc)
 }
 
 /// The server is given an order on a file, or on a failed drive that is taken out.

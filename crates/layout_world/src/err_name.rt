@@ -3,7 +3,6 @@ use world_history::WorldErr;
 /// The name of the cause, as an error line has it.
 pub fn error_name(e: WorldErr) -> &'static str {
     match e {
-        WorldErr::NotYet => "NotYet",
         WorldErr::NoName => "NoName",
         WorldErr::Taken => "Taken",
         WorldErr::Dead => "Dead",

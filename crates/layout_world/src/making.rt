@@ -1,5 +1,5 @@
 // What is asked before a drive or a file is made, and how it is told that a file isn't.
-ghost use Rattle.std.specs.Prelude.{◌≡◌, ◌↔◌, nat_eq, IfOk, IsTrue};
+ghost use Rattle.std.specs.Prelude.{◌≡◌, ◌↔◌, ◌==◌, ◌&&◌, nat_eq, is_some, IfOk, IsTrue};
 ghost use Rattle.std.specs.List.{list_any};
 ghost use Rattle.data_map.specs.Check.{HasAlgorithm};
 ghost use Rattle.world_history.specs.Moves.{raw_of, has_algorithm};
@@ -42,6 +42,15 @@ pub fn has_number(drives: &[Drive], number: u32) -> bool
     drives.iter().any(|drive| drive.number == number)
 }
 
+/// Whether one of the drives has that number and is in a zone.
+pub fn is_in_zone(drives: &[Drive], number: u32) -> bool
+    ensures { result ≡ list_any (λ d. (d.number == number) && is_some d.zone) drives.now }
+{
+    drives
+        .iter()
+        .any(|drive| drive.number == number && drive.zone.is_some())
+}
+
 /// Tells why a file isn't made.
 ///
 /// # Errors
@@ -56,6 +65,7 @@ pub fn tell_refusal(alloc: Global, file: FileName, why: FileErr) -> Result<Act, 
             why: told_map_err(error),
         },
         FileErr::TooFewDrives { online } => Note::TooFew { online },
+        FileErr::NoSpread { online } => Note::NoSpread { online },
         FileErr::Memory => return Err(Memory),
     };
     Act::line(alloc, Line::Note { file, note })

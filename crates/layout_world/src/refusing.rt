@@ -1,6 +1,6 @@
 // Which events aren't carried out.
 ghost use Rattle.std.specs.Prelude.{◌≡◌, is_some, IfSome};
-ghost use Rattle.world_history.specs.Refusals.{of_client, of_drive, if_failed, of_file, of_message, unless_there, unless_deaf, if_up, if_down, unless_down, first_of, of_served_file, of_new_drive, refusal};
+ghost use Rattle.world_history.specs.Refusals.{of_client, of_drive, if_failed, of_file, of_message, unless_there, unless_deaf, if_up, if_down, unless_down, first_of, of_served_file, of_new_drive, is_zoned, unless_zoned, of_zone, refusal};
 ghost use Rattle.world_history.specs.State.{at_number};
 ghost use Rattle.layout_world.specs.Refusing.{IsCause, IsRefusal, clock_cause, sender_cause, crash_cause, if_server_down, reopen_cause};
 
@@ -166,6 +166,27 @@ fn of_new_drive(parties: &Parties, drive: DriveName) -> Option<WorldErr>
     first_of(of_unmade_drive(parties, drive), unless_down(parties))
 }
 
+// A drive that is put into a zone stands, and is in none.
+fn of_unzoned(parties: &Parties, drive: DriveName) -> Option<WorldErr>
+    ensures cause { IsCause parties.now (λ w. unless_zoned (is_zoned w.server drive) (at_number w.drives drive)) result }
+    ensures refusal { IfSome result IsRefusal }
+{
+    match parties.drives.get(drive) {
+        None => Some(WorldErr::NoName),
+        Some(_) if parties.server.is_zoned(drive) => Some(WorldErr::Taken),
+        Some(found) if found.has_failed() => Some(WorldErr::Dead),
+        Some(_) => None,
+    }
+}
+
+// The same, and the server is told of it.
+fn of_zone(parties: &Parties, drive: DriveName) -> Option<WorldErr>
+    ensures cause { IsCause parties.now (λ w. of_zone w drive) result }
+    ensures refusal { IfSome result IsRefusal }
+{
+    first_of(of_unzoned(parties, drive), unless_down(parties))
+}
+
 // An event of a message.
 fn of_message(parties: &Parties, message: u64) -> Option<WorldErr>
     ensures cause { IsCause parties.now (λ w. of_message w message) result }
@@ -258,11 +279,11 @@ pub fn refusal(parties: &Parties, event: &Event) -> Option<WorldErr>
         Event::Audit { file } => of_served_file(parties, *file),
         Event::Declare { drive } => of_declared(parties, *drive),
         Event::File { .. } => unless_down(parties),
+        Event::ZonedFile { .. } => unless_down(parties),
+        Event::Zone { drive, .. } => of_zone(parties, *drive),
         Event::Format { .. } => unless_down(parties),
         Event::Settle => None,
         Event::Crash { machine } => of_crash(parties, *machine),
         Event::Reopen { machine } => of_reopening(parties, *machine),
-        Event::ZonedFile { .. } => Some(WorldErr::NotYet),
-        Event::Zone { .. } => Some(WorldErr::NotYet),
     }
 }

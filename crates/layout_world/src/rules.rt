@@ -65,7 +65,7 @@ pub fn rule_of(parties: &Parties, alloc: Global, event: &Event) -> Result<Rule, 
 {
     match event {
         Event::Do { client, call } => prompt_call(parties, alloc, *client, call),
-        Event::File { .. } => Ok(Rule::Prompt {
+        Event::File { .. } | Event::ZonedFile { .. } => Ok(Rule::Prompt {
             first: parties.network.len(),
             client: None,
         }),

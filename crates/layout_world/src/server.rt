@@ -1,18 +1,20 @@
-ghost use Rattle.std.specs.Prelude.{◌≡◌, [], not, is_some, IfOk, OnOk};
+ghost use Rattle.std.specs.Prelude.{◌≡◌, [], not, is_some, IfOk, IfErr, OnOk};
 ghost use Rattle.server_rules.specs.Files.{file_at, Step as RulesStep};
 ghost use Rattle.server_rules.specs.Making.{new_server};
-ghost use Rattle.server_rules.specs.History.{Obeys, Formats, Resends, Crashes, Opens};
+ghost use Rattle.data_map.specs.Check.{HasAlgorithm};
+ghost use Rattle.server_rules.specs.History.{Obeys, Zones, Formats, Resends, Crashes, Opens};
 ghost use Rattle.server_state.specs.States.{HasRoom, Did};
 ghost use Rattle.world_history.specs.State.{World};
 ghost use Rattle.world_history.specs.Moves.{raw_of, gives};
-ghost use Rattle.world_history.specs.Refusals.{lacks_file};
+ghost use Rattle.layout_server.specs.Calls.{IsRefused, Makes as MakesAt};
+ghost use Rattle.world_history.specs.Refusals.{lacks_file, is_zoned};
 ghost use Rattle.world_network.specs.Acts.{nothing};
 ghost use Rattle.layout_world.specs.ServerActing.{Acts, Adds, Does, Gives, Hears, Makes};
 
-use crate::making::{has_algorithm, has_number, raw_map, tell_refusal};
+use crate::making::{has_algorithm, has_number, is_in_zone, raw_map, tell_refusal};
 use crate::posting::postings;
 use layout_ops::OrderKind;
-use layout_server::{DriveInfo, DriveTable, Repairs, ServerCore, Step};
+use layout_server::{DriveInfo, DriveTable, FileErr, Repairs, ServerCore, Step};
 use osd_lists::{Memory, Node};
 use scenario_text::{Delivery, DriveName, FileMap, FileName, Line, MapFault, Note};
 use server_rules::Kept;
@@ -148,18 +150,43 @@ impl WorldServer {
         Ok(Act::nothing(alloc))
     }
 
-    /// A file is made, or it is noted why it isn't. A map that names no parity algorithm is told as one whose groups
-    /// have no width.
+    // A file is made on drives that the placer names, which for a zoned file are spread over their zones.
+    fn create<P: Place>(
+        &mut self,
+        file: FileName,
+        map: &FileMap,
+        tag: u32,
+        zoned: bool,
+        placer: &P,
+    ) -> Result<Step, FileErr>
+        requires room { HasRoom self.old.state }
+        requires placer { P.is_placer placer.now }
+        requires algorithm { HasAlgorithm (raw_of map.now) }
+        ensures refused { IfErr result (IsRefused file (raw_of map.now) zoned self.old.state self.new.state) }
+        ensures made { IfOk result (MakesAt file (raw_of map.now) tag zoned self.old.state self.new.state) }
+        ensures mended { self.new.mended ≡ self.old.mended }
+    {
+        let (number, raw) = (file.number(), raw_map(map));
+        if zoned {
+            self.core.create_zoned(number, raw, tag, placer)
+        } else {
+            self.core.create_file(number, raw, tag, placer)
+        }
+    }
+
+    /// A file is made, spread over zones or not, or it is noted why it isn't. A map that names no parity algorithm is
+    /// told as one whose groups have no width.
     pub fn make_file<P: Place>(
         &mut self,
         alloc: Global,
         file: FileName,
         map: &FileMap,
         tag: u32,
+        zoned: bool,
         placer: &P,
     ) -> Result<Act, Memory>
         requires { P.is_placer placer.now }
-        ensures { IfOk result (Makes self.old file (raw_of map.now) tag self.new) }
+        ensures { IfOk result (Makes self.old file (raw_of map.now) tag zoned self.new) }
     {
         self.ready()?;
         if !has_algorithm(map) {
@@ -172,12 +199,27 @@ impl WorldServer {
                 },
             );
         }
-        match self
-            .core
-            .create_file(file.number(), raw_map(map), tag, placer)
-        {
+        match self.create(file, map, tag, zoned, placer) {
             Ok(step) => self.did(alloc, step),
             Err(why) => tell_refusal(alloc, file, why),
+        }
+    }
+
+    /// Whether the drive is in a zone, by the server.
+    pub fn is_zoned(&self, drive: DriveName) -> bool
+        ensures { result ≡ is_zoned self.now.state drive }
+    {
+        is_in_zone(self.core.drives(), drive.number())
+    }
+
+    /// A drive is put into a zone. One that is in a zone stays there, and one that the server doesn't know changes
+    /// nothing.
+    pub fn set_zone(&mut self, drive: DriveName, zone: u32)
+        ensures state { Does self.old.state (λ w. gives w [] (Zones drive zone)) self.new.state nothing }
+        ensures mended { self.new.mended ≡ self.old.mended }
+    {
+        if has_number(self.core.drives(), drive.number()) {
+            let _is_there = self.core.set_zone(drive.number(), zone);
         }
     }
 

@@ -165,14 +165,14 @@ impl World {
     ///
     /// # Errors
     ///
-    /// The first of these that applies: `NotYet` where the event is one of zones; `NoName` where a named drive, client or
-    /// file doesn't exist, but for what the event is to make and for the files of calls; `Taken` where the drive or client
-    /// to be made exists; `Dead` where the named client was stopped or the named drive failed, but for a declared one;
+    /// The first of these that applies: `NoName` where a named drive, client or file doesn't exist, but for what the event
+    /// is to make and for the files of calls; `Taken` where the drive or client to be made exists, or the drive to be put
+    /// into a zone is in one; `Dead` where the named client was stopped or the named drive failed, but for a declared one;
     /// `Alive` where a drive that is declared hasn't failed; `NotKept` where a drive that crashes or is opened again isn't
     /// stored; `Down` where a drive is down that crashes, takes injected bytes or a least format, or where the server is
     /// down and is to be told something, crashes, or has its clock set; `Running` where what is opened again isn't down;
-    /// `NoMessage` where the message wasn't sent. They change nothing. `KeptFull`, where a message would pass the limit of kept bytes, and `Memory` end the world; the lines
-    /// appended stand.
+    /// `NoMessage` where the message wasn't sent. They change nothing. `KeptFull`, where a message would pass the limit of
+    /// kept bytes, and `Memory` end the world; the lines appended stand.
     pub fn step<P: Place>(
         &mut self,
         event: Event,

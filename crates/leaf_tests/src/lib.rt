@@ -24,3 +24,5 @@ mod stored_drives;
 mod stores;
 #[cfg(test)]
 mod xdr;
+#[cfg(test)]
+mod zones;

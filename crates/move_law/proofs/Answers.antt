@@ -103,14 +103,15 @@ module _ (s : Server) (chosen : List ℕ) (i : Input) where
         });
     declared = λ d known. declared_did d;
     told = told_did;
-    made = λ n m tag is none.
-        let f : File = new_file s chosen n m tag in
+    made = λ n m tag zoned is none.
+        let f : File = new_file s chosen n m tag zoned in
         Quiet (record {
           slots = refl;
           grants = refl;
           sends = drives_only Never s.drives (making (at_file (with_file s f) [] f)).effects.sent;
         });
     added = λ d is. Quiet (record { slots = refl; grants = refl; sends = tt });
+    zoned = λ d zone is. Quiet (record { slots = refl; grants = refl; sends = tt });
     formats = λ n is. Quiet (record { slots = refl; grants = refl; sends = tt });
     resends = λ is. Quiet (record { slots = refl; grants = refl; sends = resend_only Never s.drives s.files });
     crashes = λ is. Quiet (record { slots = refl; grants = refl; sends = tt });

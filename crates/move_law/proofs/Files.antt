@@ -14,7 +14,7 @@ use Rattle.server_rules.specs.Orders.{offline, declare, declares_each}
 use Rattle.server_rules.proofs.FileLaws.{number_at, put_other, add_other}
 use Rattle.server_rules.proofs.Runs.{ran_making}
 use Rattle.world_history.specs.ServerNames.{Server, File, Drive, Effects, Order, OrderResult}
-use Rattle.move_law.specs.Steps.{answered_file, new_file, with_added, with_answer, StepCases}
+use Rattle.move_law.specs.Steps.{answered_file, new_file, with_added, with_zoned, with_answer, StepCases}
 use Rattle.move_law.specs.Files.{GoesAt, AllGo, FilesGo, Quiet, Asked, FileCases}
 use Rattle.move_law.proofs.Steps.{each_step}
 
@@ -228,11 +228,12 @@ module _ (R : List Drive → File → File → Type 0) (N : File → Type 0) (s 
         Quiet (declared_go R N (offline s.drives d) (k.same (offline s.drives d)) (k.number (offline s.drives d)) d
         s.files (begins s) chosen (k.declared d known)) refl;
     told = told;
-    made = λ n m tag is none.
-        let f : File = new_file s chosen n m tag in
+    made = λ n m tag zoned is none.
+        let f : File = new_file s chosen n m tag zoned in
         Quiet (add_go R N s.drives (k.same s.drives) (k.number s.drives) s.files f
         (making (at_file (with_file s f) [] f)).file (ran_making (at_file (with_file s f) [] f)).number (k.made f refl)) refl;
     added = λ d is. Quiet (stay (with_added s d).drives) refl;
+    zoned = λ d zone is. Quiet (stay (with_zoned s d zone).drives) refl;
     formats = λ n is. Quiet (stay s.drives) refl;
     resends = λ is. Quiet (stay s.drives) refl;
     crashes = λ is. Quiet (crashed_go R N s.drives (k.same s.drives) (k.number s.drives) s.files k.crashed) refl;

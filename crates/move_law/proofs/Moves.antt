@@ -58,6 +58,7 @@ refusal_is : (e : Refusal) → IsFileRefusal (told_file_refusal e)
 refusal_is server_rules.FileExists = tt
 refusal_is (server_rules.BadMap why) = tt
 refusal_is (server_rules.TooFewDrives online) = tt
+refusal_is (server_rules.NoSpread online) = tt
 
 -- what stands in front of what a party tells: nothing, or one of two lines
 pub front_cases : (Q : List Line → Type 0) → Q [] → ((number : ℕ) (d : Delivery) → Q (line.Delivered number d ∷ []))
@@ -71,6 +72,8 @@ front_cases Q none delivered timed action d = none
 -- no action hands the server a drive: that is a case of its own
 pub none_added : (w : World) (action : Action) (x : server_rules.Drive) → IsForServer w action (server.Adds x) → ⊥
 none_added w (Opens (event.File f m tag)) x is = cc is
+none_added w (Opens (event.ZonedFile f m tag)) x is = cc is
+none_added w (Opens (event.Zone d zone)) x is = cc is
 none_added w (Opens (event.Format format)) x is = cc is
 none_added w (Opens (event.Resend sender.Server)) x is = cc is
 none_added w (Opens (event.Recall f)) x is = cc is
@@ -250,23 +253,23 @@ module _ (w : World) (chosen : List ℕ) (action : Action) (P : Act → Type 0) 
       P (fronted l (server_did (with_down w (down_behind w.down i)) (server.step w.server chosen i)))) front
       (k.serves w.network.messages refl i for)
 
-  made : (f : ℕ) (m : RawMap) (tag : ℕ) → IsForServer w action (server.Makes f m tag)
-      → front_of action delivery.Taken ≡ [] → (r : Result Step Refusal) → create_file w.server f m tag chosen ≡ r
+  made : (f : ℕ) (m : RawMap) (tag : ℕ) (zoned : Bool) → IsForServer w action (server.Makes f m tag zoned)
+      → front_of action delivery.Taken ≡ [] → (r : Result Step Refusal) → create_file w.server f m tag zoned chosen ≡ r
       → P (world.made_file w f r)
-  made f m tag for front (Err e) is =
+  made f m tag zoned for front (Err e) is =
       k.rests w.network.messages refl (line.Note f (told_file_refusal e) ∷ []) (refusal_is e, tt)
-  made f m tag for front (Ok s) is =
+  made f m tag zoned for front (Ok s) is =
       subst (λ (r : Result Step Refusal). P (world.acted (server_did w (server.unless_made w.server r)))) is
       (subst (λ (l : List Line).
-      P (fronted l (server_did w (server.step w.server chosen (server.Makes f m tag))))) front
-      (k.serves w.network.messages refl (server.Makes f m tag) for))
+      P (fronted l (server_did w (server.step w.server chosen (server.Makes f m tag zoned))))) front
+      (k.serves w.network.messages refl (server.Makes f m tag zoned) for))
 
-  makes : (f : ℕ) (m : RawMap) (tag : ℕ) → IsForServer w action (server.Makes f m tag)
-      → front_of action delivery.Taken ≡ [] → P (world.makes w chosen f m tag)
+  makes : (f : ℕ) (m : RawMap) (tag : ℕ) (zoned : Bool) → IsForServer w action (server.Makes f m tag zoned)
+      → front_of action delivery.Taken ≡ [] → P (world.makes w chosen f m tag zoned)
   unfolding world.makes
-  makes f m tag for front =
-      either_act (world.has_algorithm m) (world.made_file w f (create_file w.server f m tag chosen)) _
-      (made f m tag for front (create_file w.server f m tag chosen) refl)
+  makes f m tag zoned for front =
+      either_act (world.has_algorithm m) (world.made_file w f (create_file w.server f m tag zoned chosen)) _
+      (made f m tag zoned for front (create_file w.server f m tag zoned chosen) refl)
       (k.rests w.network.messages refl (line.Note f _ ∷ []) (tt, tt))
 
   -- ---- drives
@@ -302,7 +305,9 @@ module _ (w : World) (chosen : List ℕ) (P : Act → Type 0) where
   begun (event.Drive d key capacity) k = adds w chosen _ P k d key capacity false refl (world.knows_drive w.server d) refl
   begun (event.Disk d key capacity) k = adds w chosen _ P k d key capacity true refl (world.knows_drive w.server d) refl
   begun (event.Client c) k = k.comes c refl
-  begun (event.File f m tag) k = makes w chosen _ P k f (world.raw_of m) tag refl refl
+  begun (event.File f m tag) k = makes w chosen _ P k f (world.raw_of m) tag false refl refl
+  begun (event.ZonedFile f m tag) k = makes w chosen _ P k f (world.raw_of m) tag true refl refl
+  begun (event.Zone d zone) k = gives w chosen _ P k (server.Zones d zone) refl refl
   begun (event.Least d format) k =
       at_drive w chosen _ P k d (λ a. raised a format) (λ a. Raised format refl) (at_number w.drives d) refl
   begun (event.Format format) k = gives w chosen _ P k (server.Formats format) refl refl

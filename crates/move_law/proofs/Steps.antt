@@ -6,7 +6,7 @@ use Rattle.osd_lists.specs.declared.node.Node.TheVariants.{Server as FromServer,
 use Rattle.server_rules.specs.declared.limits.TheConstants.{MAX_CLIENT, GREATEST_TAG}
 use Rattle.server_rules.specs.Files.{Step, still, begins, file_at, at_file, step_at}
 use Rattle.server_rules.specs.Going.{Going, noting}
-use Rattle.server_rules.specs.History.{Input, Hears, Makes, Obeys, Adds, Formats, Resends, Crashes, Opens, step, unless_made}
+use Rattle.server_rules.specs.History.{Input, Hears, Makes, Obeys, Adds, Zones, Formats, Resends, Crashes, Opens, step, unless_made}
 use Rattle.server_rules.specs.Jobs.{fence_begins}
 use Rattle.server_rules.specs.Laws.{In}
 use Rattle.server_rules.specs.Making.{refusal, unless_refused, makes_file, create_file}
@@ -153,10 +153,11 @@ module _ (s : Server) (chosen : List ℕ) (i : Input) (P : Step → Type 0) (k :
   hears_it now from m is true low = handles now from m is low
   hears_it now from m is false low = k.rests
 
-  made : (n : ℕ) (m : RawMap) (tag : ℕ) → i ≡ Makes n m tag → (o : Option Refusal) → refusal s n m ≡ o
-      → P (unless_made s (unless_refused o (makes_file s (new_file s chosen n m tag))))
-  made n m tag is (Some why) refused = k.rests
-  made n m tag is None refused = k.made n m tag is refused
+  made : (n : ℕ) (m : RawMap) (tag : ℕ) (zoned : Bool) → i ≡ Makes n m tag zoned → (o : Option Refusal)
+      → refusal s n m zoned ≡ o
+      → P (unless_made s (unless_refused o (makes_file s (new_file s chosen n m tag zoned))))
+  made n m tag zoned is (Some why) refused = k.rests
+  made n m tag zoned is None refused = k.made n m tag zoned is refused
 
   opened : i ≡ Opens → (b : Bool) → counters_have_room s ≡ b
       → P (if b then step_round s (opens_each s.format s.drives s.files (begins s)) else still s)
@@ -166,9 +167,10 @@ module _ (s : Server) (chosen : List ℕ) (i : Input) (P : Step → Type 0) (k :
   by_input : (j : Input) → i ≡ j → P (step s chosen j)
   unfolding on_message create_file reopen
   by_input (Hears now from m) is = hears_it now from m is (counters_have_room s) refl
-  by_input (Makes n m tag) is = made n m tag is (refusal s n m) refl
+  by_input (Makes n m tag zoned) is = made n m tag zoned is (refusal s n m zoned) refl
   by_input (Obeys kind n) is = obeyed kind n (Here is)
   by_input (Adds d) is = k.added d is
+  by_input (Zones d zone) is = k.zoned d zone is
   by_input (Formats n) is = k.formats n is
   by_input Resends is = k.resends is
   by_input Crashes is = k.crashes is

@@ -39,7 +39,9 @@ number_in action = None
 
 -- what is given to the server, where it isn't a message
 abbrev pub given_in : Action → Option server.Input
-given_in (Opens (event.File f m tag)) = Some (server.Makes f (raw_of m) tag)
+given_in (Opens (event.File f m tag)) = Some (server.Makes f (raw_of m) tag false)
+given_in (Opens (event.ZonedFile f m tag)) = Some (server.Makes f (raw_of m) tag true)
+given_in (Opens (event.Zone d zone)) = Some (server.Zones d zone)
 given_in (Opens (event.Format format)) = Some (server.Formats format)
 given_in (Opens (event.Resend sender.Server)) = Some server.Resends
 given_in (Opens (event.Recall f)) = Some (server.Obeys server_rules.ToRecall f)
@@ -98,6 +100,7 @@ abbrev pub IsFileRefusal : Note → Type 0
 IsFileRefusal note.Exists = Unit {0}
 IsFileRefusal (note.BadMap why) = Unit {0}
 IsFileRefusal (note.TooFew online) = Unit {0}
+IsFileRefusal (note.NoSpread online) = Unit {0}
 IsFileRefusal n = ⊥
 
 -- what is told where no party goes on: what became of a message, that a client with a call can't leave, that a file is

@@ -1,5 +1,5 @@
 -- A step of the server by cases: what comes to it, and the file at which that is done.
-use Rattle.std.specs.Prelude.{◌≡◌, ◌≤◌, ◌==◌, ℕ, false, true, List, [], ◌∷◌, ◌++◌, Some, None, find, is_some}
+use Rattle.std.specs.Prelude.{◌≡◌, ◌≤◌, ◌==◌, ℕ, Bool, false, true, List, [], ◌∷◌, ◌++◌, Some, None, find, is_some}
 use Rattle.osd_lists.specs.declared.node.Node.TheVariants.{Server as FromServer, Drive as FromDrive, Client as FromClient}
 use Rattle.layout_ops.specs.declared.statuses.TheConstants.{NFS4ERR_SEQ_MISORDERED}
 use Rattle.server_rules.specs.declared.limits.TheConstants.{MAX_CLIENT, GREATEST_TAG}
@@ -7,10 +7,10 @@ use Rattle.server_rules.specs.Answers.{plain_answer}
 use Rattle.server_rules.specs.Files.{Step, still, begins, file_at, at_file, step_at}
 use Rattle.server_rules.specs.Get.{lowest}
 use Rattle.server_rules.specs.Going.{Going, noting}
-use Rattle.server_rules.specs.History.{Input, Hears, Makes, Obeys, Adds, Formats, Resends, Crashes, Opens}
+use Rattle.server_rules.specs.History.{Input, Hears, Makes, Obeys, Adds, Zones, Formats, Resends, Crashes, Opens}
 use Rattle.server_rules.specs.Jobs.{fence_begins}
 use Rattle.server_rules.specs.Laws.{In}
-use Rattle.server_rules.specs.Making.{refusal, places, unmade, makes_file, add_drive, set_format}
+use Rattle.server_rules.specs.Making.{refusal, drives_for, unmade, makes_file, add_drive, set_format}
 use Rattle.server_rules.specs.Messages.{Asks, Replies, Orders, counters_have_room, resend}
 use Rattle.server_rules.specs.Openings.{opens_each, crash}
 use Rattle.server_rules.specs.Orders.{recalls, declare}
@@ -18,6 +18,7 @@ use Rattle.server_rules.specs.Replies.{answers, hearing, hears}
 use Rattle.server_rules.specs.Requests.{serves, keeps, answer_without, carried_out, only_answers, size_in, on_request}
 use Rattle.server_rules.specs.Rounds.{step_round}
 use Rattle.server_rules.specs.Served.{tells}
+use Rattle.server_rules.specs.Zoning.{put_in_zone}
 use Rattle.server_rules.specs.Slots.{New, Again, Misordered, slot_of, admit}
 use Rattle.world_history.specs.ServerNames.{Server, File, Drive, Job, JobKind, Awaited, NoteKind, Busy, Spent, ClientRequest, Answer, Reply, RawMap, Order, OrderKind, OrderResult, AnswersOrder}
 
@@ -79,9 +80,13 @@ with_answer t kind result =
 abbrev pub with_added : Server → Drive → Server
 with_added s d = record s { drives = add_drive s.drives d }
 
+-- a drive is put into a zone
+abbrev pub with_zoned : Server → (drive zone : ℕ) → Server
+with_zoned s d zone = record s { drives = put_in_zone s.drives d zone }
+
 -- the file that is made
-abbrev pub new_file : Server → (chosen : List ℕ) → (number : ℕ) → RawMap → (tag : ℕ) → File
-new_file s chosen n m tag = unmade s n m tag (places s.drives m.comps chosen)
+abbrev pub new_file : Server → (chosen : List ℕ) → (number : ℕ) → RawMap → (tag : ℕ) → (zoned : Bool) → File
+new_file s chosen n m tag zoned = unmade s n m tag zoned (drives_for zoned s.drives m chosen)
 
 -- So is P of a step, where it is in each of these cases.
 pub record StepCases (s : Server) (chosen : List ℕ) (i : Input) (P : Step → Type 0) : Type 0 where
@@ -107,9 +112,10 @@ pub record StepCases (s : Server) (chosen : List ℕ) (i : Input) (P : Step → 
   pub told : (t : Step) (now : ℕ) (o : Order) → i ≡ Hears now FromServer (Orders o) → (result : OrderResult) → P t
       → P (with_answer t o.order result)
   -- a file is made
-  pub made : (n : ℕ) (m : RawMap) (tag : ℕ) → i ≡ Makes n m tag → refusal s n m ≡ None
-      → P (makes_file s (new_file s chosen n m tag))
+  pub made : (n : ℕ) (m : RawMap) (tag : ℕ) (zoned : Bool) → i ≡ Makes n m tag zoned → refusal s n m zoned ≡ None
+      → P (makes_file s (new_file s chosen n m tag zoned))
   pub added : (d : Drive) → i ≡ Adds d → P (still (with_added s d))
+  pub zoned : (d zone : ℕ) → i ≡ Zones d zone → P (still (with_zoned s d zone))
   pub formats : (n : ℕ) → i ≡ Formats n → P (still (set_format s n))
   pub resends : i ≡ Resends → P (record (still s) { sends = resend s })
   -- the server crashes, and is opened

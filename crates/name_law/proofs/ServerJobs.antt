@@ -8,7 +8,8 @@ use Rattle.server_rules.specs.Columns.{end_of}
 use Rattle.server_rules.specs.Laws.{In}
 use Rattle.server_rules.specs.Commands.{All, Raising, Creating}
 use Rattle.server_rules.specs.Going.{Going, noting, noting_if, keeping, with_components, sending, rests_or}
-use Rattle.server_rules.specs.Standing.{any_on, lose_on, lose_from, free_drives}
+use Rattle.server_rules.specs.Standing.{any_on, lose_on, lose_from}
+use Rattle.server_rules.specs.Zoning.{takers}
 use Rattle.server_rules.specs.Audit.{audits, audit_begins}
 use Rattle.server_rules.specs.Rebuild.{picked, or_first, target_on, target_for, makes_or, rebuilds, stands_at, fills, filling, target_gone, target_full}
 use Rattle.server_rules.specs.Repair.{after_repair, mended, repairs, storing, stored, repair_begins}
@@ -20,7 +21,7 @@ use Rattle.server_rules.proofs.Members.{in_either}
 use Rattle.world_history.specs.Names.{is_tellable_note}
 use Rattle.world_history.specs.ServerNames.{Component, Awaited, Heard, Piece, Target, Drive, Job, JobKind, Making, Revoking, Rebuilding, Auditing, Work, Creates, Fences, Fetches, Stores, Targets, Gathers, Fills, Lengths, Checks, Tally, Note, NoteKind, Rebuilt, NoDrive, NoSpace, Reply, Repairing}
 use Rattle.history_law.specs.Placed.{AreNamed as AreNamedDrives}
-use Rattle.history_law.proofs.Rebuilding.{first_named, free_named}
+use Rattle.history_law.proofs.Rebuilding.{first_named, takers_named}
 use Rattle.sent_law.specs.Objects.{target_in, target_of}
 use Rattle.name_law.specs.ServerNamed.{AreOnNamed, AreOfNamed, AreForNamed, IsNamedTarget}
 use Rattle.name_law.proofs.ServerAwaited.{both_for, none_for, one_for, filtered_for, renewed_for, each_for, stores_for, repair_for, sources_for, set_on, lost_on, lost_from}
@@ -148,9 +149,8 @@ aims_at : (g : Going) (at : Component) (k : ℕ) → Owns g → IsNamedTarget (t
 unfolding target_for
 aims_at g at k h =
     either_target at.missing _
-    (target_named g k (picked g.chosen (free_drives g.drives g.file.kept.components)) (λ n e.
-    picked_named g.chosen (free_drives g.drives g.file.kept.components) n
-    (free_named g.drives g.file.kept.components h.drives) e))
+    (target_named g k (picked g.chosen (takers g.drives g.file.kept k)) (λ n e.
+    picked_named g.chosen (takers g.drives g.file.kept k) n (takers_named g.drives g.file.kept k h.drives) e))
 
 ends_makes_or : (g : Going) (o : Option Target) (later : Going) → IsNamedTarget o → Owns g → Ends later
     → Ends (makes_or g o later)

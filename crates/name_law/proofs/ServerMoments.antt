@@ -80,11 +80,12 @@ drive_named : (b : Bool) (d : Drive) (i : Input) → d.number < DRIVES → (if b
 drive_named true d i less e = absurd (cc e)
 drive_named false d i less e = let same : Adds d ≡ i = cc e in subst IsNamedInput same less
 
-file_named : (n : ℕ) (m : RawMap) (tag : ℕ) (i : Input) → n < FILES → made_of n m tag ≡ Some i → IsNamedInput i
-file_named n m tag i less e = either (has_algorithm m) e
+file_named : (n : ℕ) (m : RawMap) (tag : ℕ) (zoned : Bool) (i : Input) → n < FILES → made_of n m tag zoned ≡ Some i
+    → IsNamedInput i
+file_named n m tag zoned i less e = either (has_algorithm m) e
   where
-    either : (b : Bool) → (if b then Some (Makes n m tag) else None) ≡ Some i → IsNamedInput i
-    either true x = let same : Makes n m tag ≡ i = cc x in subst IsNamedInput same less
+    either : (b : Bool) → (if b then Some (Makes n m tag zoned) else None) ≡ Some i → IsNamedInput i
+    either true x = let same : Makes n m tag zoned ≡ i = cc x in subst IsNamedInput same less
     either false x = absurd (cc x)
 
 plain : (j i : Input) → IsNamedInput j → Some j ≡ Some i → IsNamedInput i
@@ -98,7 +99,9 @@ comes_named w (Opens (event.Drive d key capacity)) i e named =
     drive_named (knows_drive w.server d) (known_drive d key capacity) i named e
 comes_named w (Opens (event.Disk d key capacity)) i e named =
     drive_named (knows_drive w.server d) (known_drive d key capacity) i named e
-comes_named w (Opens (event.File f m tag)) i e named = file_named f (raw_of m) tag i named e
+comes_named w (Opens (event.File f m tag)) i e named = file_named f (raw_of m) tag false i named e
+comes_named w (Opens (event.ZonedFile f m tag)) i e named = file_named f (raw_of m) tag true i named e
+comes_named w (Opens (event.Zone d zone)) i e named = plain _ i tt e
 comes_named w (Opens (event.Format format)) i e named = plain _ i tt e
 comes_named w (Opens (event.Resend sender.Server)) i e named = plain _ i tt e
 comes_named w (Opens (event.Recall f)) i e named = plain _ i tt e
@@ -111,24 +114,27 @@ comes_named w (Opens (event.Reopen machine.Server)) i e named = plain _ i tt e
 comes_named w action i e named = absurd (cc e)
 
 -- whatever a move may hand it
-made_named : (w : World) (action : Action) (n : ℕ) (m : RawMap) (tag : ℕ) → given_in action ≡ Some (Makes n m tag)
-    → IsNamedAction action → n < FILES
-made_named w (Opens (event.File f x t)) n m tag e named =
-    let same : Makes f (raw_of x) t ≡ Makes n m tag = cc e in subst IsNamedInput same named
-made_named w (Opens (event.Format format)) n m tag e named = absurd (cc e)
-made_named w (Opens (event.Resend sender.Server)) n m tag e named = absurd (cc e)
-made_named w (Opens (event.Recall f)) n m tag e named = absurd (cc e)
-made_named w (Opens (event.Revoke f)) n m tag e named = absurd (cc e)
-made_named w (Opens (event.Rebuild f)) n m tag e named = absurd (cc e)
-made_named w (Opens (event.Audit f)) n m tag e named = absurd (cc e)
-made_named w (Opens (event.Declare d)) n m tag e named = absurd (cc e)
-made_named w (Opens (event.Crash machine.Server)) n m tag e named = absurd (cc e)
-made_named w (Opens (event.Reopen machine.Server)) n m tag e named = absurd (cc e)
-made_named w action n m tag e named = absurd (cc e)
+made_named : (w : World) (action : Action) (n : ℕ) (m : RawMap) (tag : ℕ) (zoned : Bool)
+    → given_in action ≡ Some (Makes n m tag zoned) → IsNamedAction action → n < FILES
+made_named w (Opens (event.File f x t)) n m tag zoned e named =
+    let same : Makes f (raw_of x) t false ≡ Makes n m tag zoned = cc e in subst IsNamedInput same named
+made_named w (Opens (event.ZonedFile f x t)) n m tag zoned e named =
+    let same : Makes f (raw_of x) t true ≡ Makes n m tag zoned = cc e in subst IsNamedInput same named
+made_named w (Opens (event.Format format)) n m tag zoned e named = absurd (cc e)
+made_named w (Opens (event.Zone d zone)) n m tag zoned e named = absurd (cc e)
+made_named w (Opens (event.Resend sender.Server)) n m tag zoned e named = absurd (cc e)
+made_named w (Opens (event.Recall f)) n m tag zoned e named = absurd (cc e)
+made_named w (Opens (event.Revoke f)) n m tag zoned e named = absurd (cc e)
+made_named w (Opens (event.Rebuild f)) n m tag zoned e named = absurd (cc e)
+made_named w (Opens (event.Audit f)) n m tag zoned e named = absurd (cc e)
+made_named w (Opens (event.Declare d)) n m tag zoned e named = absurd (cc e)
+made_named w (Opens (event.Crash machine.Server)) n m tag zoned e named = absurd (cc e)
+made_named w (Opens (event.Reopen machine.Server)) n m tag zoned e named = absurd (cc e)
+made_named w action n m tag zoned e named = absurd (cc e)
 
 handed_named : (w : World) (action : Action) (i : Input) → IsForServer w action i → IsNamedAction action
     → IsNamedInput i
-handed_named w action (Makes n m tag) is named = made_named w action n m tag is named
+handed_named w action (Makes n m tag zoned) is named = made_named w action n m tag zoned is named
 handed_named w action (Adds d) is named = absurd (none_added w action d is)
 handed_named w action i is named = tt
 
@@ -145,6 +151,7 @@ line_named : (l : Line) → IsOfText l → IsNamed l
 line_named (line.Event (event.Drive d key capacity)) fits = fits.1.0
 line_named (line.Event (event.Disk d key capacity)) fits = fits.1.0
 line_named (line.Event (event.File f m tag)) fits = fits.1.0
+line_named (line.Event (event.ZonedFile f m tag)) fits = fits.1.0
 line_named l fits = tt
 
 pub texts_are_named : TextsAreNamed

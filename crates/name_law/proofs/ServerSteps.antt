@@ -13,7 +13,7 @@ use Rattle.server_rules.specs.Going.{Going, noting}
 use Rattle.server_rules.specs.History.{Input, Makes, Adds}
 use Rattle.server_rules.specs.Jobs.{making, declares, fence_begins}
 use Rattle.server_rules.specs.Laws.{In}
-use Rattle.server_rules.specs.Making.{places, components_on, with_file, makes_file}
+use Rattle.server_rules.specs.Making.{drives_for, components_on, with_file, makes_file}
 use Rattle.server_rules.specs.Messages.{awaited_by}
 use Rattle.server_rules.specs.Openings.{crashed_file, opens, opens_each, crash}
 use Rattle.server_rules.specs.Orders.{offline, declares_each, declare}
@@ -27,11 +27,11 @@ use Rattle.world_history.specs.Names.{is_named, note_line, known_note_line, is_t
 use Rattle.world_history.specs.ServerNames.{Server, File, Drive, Component, Grant, Slot, Answer, Awaited, Effects, Note, NoteKind, Outgoing, Answers, AnswersOrder, ClientRequest}
 use Rattle.job_law.proofs.Hearing.{found_in}
 use Rattle.history_law.specs.Placed.{AreNamed as AreNamedDrives}
-use Rattle.history_law.proofs.Inputs.{added_named}
-use Rattle.history_law.proofs.Made.{AllNamed, places_named}
+use Rattle.history_law.proofs.Inputs.{added_named, zoned_named}
+use Rattle.history_law.proofs.Made.{AllNamed, for_named}
 use Rattle.history_law.proofs.Steps.{offline_named}
 use Rattle.calm_law.specs.Naming.{IsNamedInput}
-use Rattle.move_law.specs.Steps.{answered_file, IsOrdered, Refuses, WhileBusy, OnGreatest, with_added, new_file, StepCases, RequestCases}
+use Rattle.move_law.specs.Steps.{answered_file, IsOrdered, Refuses, WhileBusy, OnGreatest, with_added, with_zoned, new_file, StepCases, RequestCases}
 use Rattle.move_law.proofs.Steps.{each_step, each_request}
 use Rattle.move_law.proofs.Files.{in_at, in_put, in_add}
 use Rattle.name_law.specs.ServerNamed.{AreOnNamed, AreOfNamed, AreForNamed, IsNamedFile, IsNamedServer, SendsToNamed, EachServerStepIsNamed}
@@ -289,11 +289,11 @@ placed_on [] object a x i = absurd i
 placed_on (n ∷ ns) object a x (inl e) = subst (λ (z : Component). z.drive < DRIVES) (sym e) a.0
 placed_on (n ∷ ns) object a x (inr i) = placed_on ns (object + 1) a.1 x i
 
-new_named : (s : Server) (chosen : List ℕ) (n : ℕ) (m : RawMap) (tag : ℕ) → AreNamedDrives s.drives → n < FILES
-    → IsNamedFile (new_file s chosen n m tag)
-new_named s chosen n m tag a less = record {
+new_named : (s : Server) (chosen : List ℕ) (n : ℕ) (m : RawMap) (tag : ℕ) (zoned : Bool) → AreNamedDrives s.drives
+    → n < FILES → IsNamedFile (new_file s chosen n m tag zoned)
+new_named s chosen n m tag zoned a less = record {
   number = less;
-  components = placed_on (places s.drives m.comps chosen) s.next_object (places_named s.drives m.comps chosen a);
+  components = placed_on (drives_for zoned s.drives m chosen) s.next_object (for_named zoned s.drives m chosen a);
   grants = λ g i. absurd i;
   awaited = none_for;
   target = tt;
@@ -354,8 +354,8 @@ module _ (s : Server) (chosen : List ℕ) (i : Input) (h : IsNamedServer s) (nam
   file_of : (f : File) → IsOrdered s i f → In f s.files
   file_of f is = in_at s.files is.target f is.found
 
-  making_named : (n : ℕ) (m : RawMap) (tag : ℕ) → i ≡ Makes n m tag → n < FILES
-  making_named n m tag is = subst IsNamedInput is named
+  making_named : (n : ℕ) (m : RawMap) (tag : ℕ) (zoned : Bool) → i ≡ Makes n m tag zoned → n < FILES
+  making_named n m tag zoned is = subst IsNamedInput is named
 
   adding_named : (d : Drive) → i ≡ Adds d → d.number < DRIVES
   adding_named d is = subst IsNamedInput is named
@@ -390,8 +390,9 @@ module _ (s : Server) (chosen : List ℕ) (i : Input) (h : IsNamedServer s) (nam
         (declared_round d (offline s.drives d) s.files (begins s) chosen (offline_named s.drives d h.drives) h.files
         (none_for, none_told));
     told = λ t now o is result k. with_answered t (AnswersOrder (record { order = o.order; result = result })) refl k;
-    made = λ n m tag is none.
-        made s (new_file s chosen n m tag) h (new_named s chosen n m tag h.drives (making_named n m tag is));
+    made = λ n m tag zoned is none.
+        made s (new_file s chosen n m tag zoned) h
+        (new_named s chosen n m tag zoned h.drives (making_named n m tag zoned is));
     added = λ d is.
         quietly (with_added s d)
         (record {
@@ -399,6 +400,9 @@ module _ (s : Server) (chosen : List ℕ) (i : Input) (h : IsNamedServer s) (nam
           files = h.files;
           slots = h.slots;
         });
+    zoned = λ d zone is.
+        quietly (with_zoned s d zone)
+        (record { drives = zoned_named s.drives d zone h.drives; files = h.files; slots = h.slots });
     formats = λ n is. quietly _ (record { drives = h.drives; files = h.files; slots = h.slots });
     resends = λ is. (h, record { receivers = resent_to s.drives s.files h.files; notes = λ n j. absurd j });
     crashes = λ is.

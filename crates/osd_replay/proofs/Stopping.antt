@@ -30,7 +30,6 @@ carried_by e lines old new (Err why.KeptFull) true text w steps on full is shows
     let s = steps w shows in
     record { lines = s.lines; fills = s.fills; lawful = s.lawful; text_is = is ∙ ap lines_text s.appended }
 carried_by e lines old new (Err why.Memory) is_full text w steps on full is shows = absurd (cc full)
-carried_by e lines old new (Err why.NotYet) is_full text w steps on full is shows = absurd (cc full)
 carried_by e lines old new (Err why.NoName) is_full text w steps on full is shows = absurd (cc full)
 carried_by e lines old new (Err why.Taken) is_full text w steps on full is shows = absurd (cc full)
 carried_by e lines old new (Err why.Dead) is_full text w steps on full is shows = absurd (cc full)
@@ -54,7 +53,6 @@ stopped_by e lines old new (Err why.Memory) (Refused kind) w steps is shows = ab
 stopped_by e lines old new (Err why.Memory) Read w steps is shows = absurd (cc is)
 stopped_by e lines old new (Err why.Memory) (Full q) w steps is shows = absurd (cc is)
 stopped_by e lines old new (Err why.Memory) Memory w steps is shows = tt
-stopped_by e lines old new (Err why.NotYet) stop w steps is shows = refused_in w e why.NotYet stop (steps w shows).cause_is (cc is)
 stopped_by e lines old new (Err why.NoName) stop w steps is shows = refused_in w e why.NoName stop (steps w shows).cause_is (cc is)
 stopped_by e lines old new (Err why.Taken) stop w steps is shows = refused_in w e why.Taken stop (steps w shows).cause_is (cc is)
 stopped_by e lines old new (Err why.Dead) stop w steps is shows = refused_in w e why.Dead stop (steps w shows).cause_is (cc is)

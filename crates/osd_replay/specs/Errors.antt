@@ -3,7 +3,7 @@ use Rattle.std.specs.Prelude.{ℕ, List, [], ◌∷◌, ◌++◌, codes}
 use Rattle.std.specs.Fmt.{decimal}
 use Rattle.scenario_text.specs.Errors.{event_error_name}
 use Rattle.world_history.specs.declared.err.WorldErr.{WorldErr}
-use Rattle.world_history.specs.declared.err.WorldErr.TheVariants.{NotYet, NoName, Taken, Dead, Alive, NotKept, Down, Running, NoMessage}
+use Rattle.world_history.specs.declared.err.WorldErr.TheVariants.{NoName, Taken, Dead, Alive, NotKept, Down, Running, NoMessage}
 use Rattle.world_history.specs.declared.err.WorldErr.TheVariants.{KeptFull, Memory}
 use Rattle.osd_replay.specs.declared.status.Quantity.{Quantity}
 use Rattle.osd_replay.specs.declared.status.Quantity.TheVariants.{Input, Line, Kept}
@@ -26,7 +26,6 @@ full_name Kept = codes "full kept"
 
 -- the name of why the world doesn't carry an event out
 abbrev pub world_error_name : WorldErr → List ℕ
-world_error_name NotYet = codes "NotYet"
 world_error_name NoName = codes "NoName"
 world_error_name Taken = codes "Taken"
 world_error_name Dead = codes "Dead"

@@ -49,7 +49,6 @@ fn world_error_name(e: WorldErr) -> &'static str
     ensures { result.now ≡ world_error_name e }
 {
     match e {
-        WorldErr::NotYet => "NotYet",
         WorldErr::NoName => "NoName",
         WorldErr::Taken => "Taken",
         WorldErr::Dead => "Dead",

@@ -1,11 +1,12 @@
 -- A drive that is offline stays so.
-use Rattle.std.proofs.Common.{◌≡◌, ◌==◌, ◌&&◌, not, ℕ, Bool, true, false, List, [], ◌∷◌, is_some, find, nat_lt, inl, inr, refl, if◌then◌else◌}
+use Rattle.std.proofs.Common.{◌≡◌, ◌==◌, ◌&&◌, not, ℕ, Bool, true, false, List, [], ◌∷◌, is_some, find, nat_lt, inl, inr, refl, ◌∙◌, if◌then◌else◌}
 use Rattle.std.proofs.lemmas.Bool.{cases_Bool}
 use Rattle.world_history.specs.ServerNames.{Server, Drive}
 use Rattle.server_rules.specs.Files.{Step}
 use Rattle.server_rules.specs.History.{Input, step}
 use Rattle.server_rules.specs.Making.{add_drive}
 use Rattle.server_rules.specs.Orders.{offline, declare}
+use Rattle.server_rules.specs.Zoning.{put_in_zone}
 use Rattle.move_law.specs.Steps.{StepCases}
 use Rattle.move_law.proofs.Steps.{each_step, each_request}
 use Rattle.party_law.specs.Listed.{is_offline, IsOffline}
@@ -42,6 +43,15 @@ unfolding is_offline offline
 kept_out [] drive n e = e
 kept_out (d ∷ ds) drive n e = one_kept d (d.number == drive) n _ _ (kept_out ds drive n) e
 
+-- and none is by being put into a zone
+pub zoned_out : (ds : List Drive) (d z n : ℕ) → is_offline n (put_in_zone ds d z) ≡ is_offline n ds
+unfolding is_offline put_in_zone
+zoned_out [] d z n = refl
+zoned_out (x ∷ ds) d z n = elim (cases_Bool (x.number == d)) [
+  | inl t ↦ rw (t, zoned_out ds d z n) refl
+  | inr o ↦ rw (o, zoned_out ds d z n) refl
+]
+
 -- one that is declared is offline
 pub now_out : (ds : List Drive) (drive : ℕ) → is_some (find (λ (d : Drive). d.number == drive) ds) ≡ true
     → IsOffline (offline ds drive) drive
@@ -73,8 +83,9 @@ cases s chosen i = record {
   fenced = λ f is kind free low n o. o;
   declared = λ d known. kept_out s.drives d;
   told = λ t now order is result out. out;
-  made = λ k m tag is free n o. o;
+  made = λ k m tag zoned is free n o. o;
   added = λ d is. added s.drives d;
+  zoned = λ d zone is n o. zoned_out s.drives d zone n ∙ o;
   formats = λ k is n o. o;
   resends = λ is n o. o;
   crashes = λ is n o. o;

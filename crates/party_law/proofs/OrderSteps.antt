@@ -60,13 +60,14 @@ cases s chosen i h = record {
       let g : Going = record { file = f; effects = m; drives = offline s.drives d; chosen = placed } in
       same_order s.next_grant f (declares g d).file (stays_declared g d) (h f there));
   told = λ t now o is result kept. kept;
-  made = λ n m tag is none.
-      let f : File = new_file s chosen n m tag in
+  made = λ n m tag zoned is none.
+      let f : File = new_file s chosen n m tag zoned in
       let g : Going = at_file (with_file s f) [] f in
       put_each (IsInOrder s.next_grant) (add_file s.files f) n (making g).file
       (add_each (IsInOrder s.next_grant) s.files f h (none_order s.next_grant f refl))
       (none_order s.next_grant (making g).file (ran_making g).grants);
   added = λ d is. h;
+  zoned = λ d zone is. h;
   formats = λ n is. h;
   resends = λ is. h;
   crashes = λ is.

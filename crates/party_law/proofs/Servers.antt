@@ -6,6 +6,7 @@ use Rattle.osd_drive.specs.declared.keys.DriveKey.{DriveKey}
 use Rattle.server_rules.specs.Files.{Step}
 use Rattle.server_rules.specs.Making.{add_drive}
 use Rattle.server_rules.specs.Orders.{offline, declare}
+use Rattle.server_rules.specs.Zoning.{put_in_zone}
 use Rattle.server_rules.specs.History.{Input, Adds, step}
 use Rattle.world_history.specs.ServerNames.{Server, Drive}
 use Rattle.world_history.specs.Drives.{first_key}
@@ -80,6 +81,14 @@ offline_keys (x ∷ ds) drive d = elim (cases_Bool (x.number == drive)) [
   | inr z ↦ rw z (pick _ x (x.number == d) _ _ refl (offline_keys ds drive d))
 ]
 
+zoned_keys : (ds : List Drive) (n z d : ℕ) → known_keys (put_in_zone ds n z) d ≡ known_keys ds d
+unfolding put_in_zone
+zoned_keys [] n z d = refl
+zoned_keys (x ∷ ds) n z d = elim (cases_Bool (x.number == n)) [
+  | inl t ↦ rw t (pick _ x (x.number == d) _ _ refl (zoned_keys ds n z d))
+  | inr o ↦ rw o (pick _ x (x.number == d) _ _ refl (zoned_keys ds n z d))
+]
+
 -- the same keys
 abbrev Knows : Server → Step → Type 0
 Knows s did = (d : ℕ) → known_keys did.state.drives d ≡ known_keys s.drives d
@@ -101,8 +110,9 @@ cases s chosen i none = record {
   fenced = λ f is kind free low d. refl;
   declared = λ drive known d. offline_keys s.drives drive d;
   told = λ t now o is result same. same;
-  made = λ n m tag is free d. refl;
+  made = λ n m tag zoned is free d. refl;
   added = λ x is. absurd (none x is);
+  zoned = λ n zone is d. zoned_keys s.drives n zone d;
   formats = λ n is d. refl;
   resends = λ is d. refl;
   crashes = λ is d. refl;

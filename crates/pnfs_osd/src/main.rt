@@ -9,6 +9,7 @@ mod usage;
 
 ghost use Rattle.std.specs.Result.{ForOk};
 ghost use Rattle.stripe_repair.specs.Placing.{CanPlace, Places};
+ghost use Rattle.zone_place.specs.Choosing.{CanSpread, Spreads};
 
 use advice::Kept;
 use osd_bytes::put_all;
@@ -22,6 +23,7 @@ use std::process::ExitCode;
 use std::{env, io};
 use stripe_repair::{DriveLoad, Placer};
 use usage::text_asked;
+use zone_place::{ZoneAsk, ZoneLoad, ZonePlacer, deal};
 
 // The program's name and its words.
 fn all_words(rt: HostRuntime) -> io::Result<Vec<String>> {
@@ -56,6 +58,12 @@ fn main(rt: HostRuntime) -> ExitCode {
             ensures { ForOk result (Places count loads.now) }
         { fewest_first(alloc, count, loads) },
     );
+    let zones = ZonePlacer::new(
+        |ask: &ZoneAsk, loads: &[ZoneLoad]| -> Result<Numbers, Memory>
+            requires { CanSpread ask.now loads.now }
+            ensures { ForOk result (Spreads ask.now loads.now) }
+        { deal(alloc, ask, loads) },
+    );
     let mut links = TcpLinks::new(rt, alloc);
     let mut clock = SystemClock::new(rt);
     let (status, disk) = run(
@@ -67,6 +75,7 @@ fn main(rt: HostRuntime) -> ExitCode {
         &mut clock,
         FileDisk::new(rt),
         &placer,
+        &zones,
     );
     let causes = Causes {
         input: source.bytes(),

@@ -10,7 +10,6 @@ const MOST_SHOWN: usize = 120;
 
 fn event_text(e: EventErr) -> &'static str {
     match e {
-        EventErr::NotYet => "the event isn't carried out yet",
         EventErr::UnknownWord => "a word stands here that isn't one of its place",
         EventErr::BadName => "a name is wanted, as d0 (to d63), c0 (to c15), f0 (to f63) or s",
         EventErr::BadNumber =>

@@ -1,6 +1,7 @@
 // The top call: any command of the program, by its words.
 ghost use Rattle.std.specs.Prelude.{◌≡◌, map, string_bytes};
 ghost use Rattle.stripe_repair.specs.Placing.{IsPlacer};
+ghost use Rattle.zone_place.specs.Choosing.{IsZonePlacer};
 ghost use Rattle.pnfs_run.specs.Ends.{ends_at};
 ghost use Rattle.pnfs_run.specs.Party.{party_of};
 ghost use Rattle.pnfs_run.specs.Run.{AreBad, JudgesWords, Promises, RunsAlone};
@@ -14,11 +15,13 @@ use osd_bytes::{Clock, Links, Sink, Source};
 use osd_disk::Disk;
 use osd_lists::{Memory, Numbers};
 use std::alloc::Global;
-use stripe_repair::{DriveLoad, Placer};
+use stripe_repair::{DriveLoad, Placement, Placer};
+use zone_place::{ZoneAsk, ZoneLoad, ZonePlacer};
 
 /// Runs the command that the words name over a source, a sink, links, a clock and a disk, and tells how it ended. The disk
-/// comes back; a command without a store asks it nothing.
-pub fn run<S: Source, K: Sink, L: Links, C: Clock, D: Disk, F>(
+/// comes back; a command without a store asks it nothing. The two placers choose the drives of files: `zones` those of
+/// files that are spread over zones, and `placer` those of all others.
+pub fn run<S: Source, K: Sink, L: Links, C: Clock, D: Disk, F, Z>(
     alloc: Global,
     words: &[String],
     source: &mut S,
@@ -27,28 +30,35 @@ pub fn run<S: Source, K: Sink, L: Links, C: Clock, D: Disk, F>(
     clock: &mut C,
     disk: D,
     placer: &Placer<F>,
+    zones: &ZonePlacer<Z>,
 ) -> (Status, D)
 where
     F: Fn(u32, &[DriveLoad]) -> Result<Numbers, Memory>,
-    requires { IsPlacer F.Fn placer.now }
+    Z: Fn(&ZoneAsk, &[ZoneLoad]) -> Result<Numbers, Memory>,
+    requires placer { IsPlacer F.Fn placer.now }
+    requires zones { IsZonePlacer Z.Fn zones.now }
     ensures promise { Promises D.Disk disk result.1 (party_of (map string_bytes words.now)) (map string_bytes words.now)
         (ends_at S.Source K.Sink L.Links C.Clock source.old sink.old links.old clock.old)
         (ends_at S.Source K.Sink L.Links C.Clock source.new sink.new links.new clock.new) result.0 }
     ensures words { JudgesWords (AreBad (party_of (map string_bytes words.now)) (map string_bytes words.now)) result.0 }
     ensures disk { KeepsDisk (party_of (map string_bytes words.now)) disk result.1 result.0 }
 {
+    let placement = Placement {
+        drives: placer,
+        zones,
+    };
     match party_named(words) {
         Some(Party::Drive) => (run_drive(alloc, words, source, sink, links, clock), disk),
         Some(Party::StoredDrive) => run_stored_drive(
             alloc, words, source, sink, links, clock, disk,
         ),
         Some(Party::Server) => (
-            run_server(alloc, words, source, sink, links, clock, placer),
+            run_server(alloc, words, source, sink, links, clock, &placement),
             disk,
         ),
         Some(Party::Client) => (run_client(alloc, words, source, sink, links), disk),
         None => (
-            Status::from(osd_replay::run(alloc, words, source, sink, placer)),
+            Status::from(osd_replay::run(alloc, words, source, sink, &placement)),
             disk,
         ),
     }

@@ -29,7 +29,7 @@ same_count (l ∷ ls) =
     ∙ sym (sum_by-cons (λ (x : DriveLoad). cond x.online 1 0) l ls)
 
 ranked_fits : (l : DriveLoad) → FitsLoad l → FitsLoad (ranked l)
-ranked_fits l h = (h.0, omega arith)
+ranked_fits l h = (h.0, omega arith, h.2)
 
 -- so many may be placed on them too
 pub may_rank : (n : ℕ) (loads given : List DriveLoad) → given ≡ map ranked loads → CanPlace n loads → CanPlace n given

@@ -34,3 +34,5 @@ mod servers;
 mod serving;
 #[cfg(test)]
 mod streams;
+#[cfg(test)]
+mod zoning;

@@ -1,6 +1,7 @@
 // Runs of the program over connections in memory.
 ghost use Rattle.std.specs.Result.{ForOk};
 ghost use Rattle.stripe_repair.specs.Placing.{CanPlace, IsPlacer, Places};
+ghost use Rattle.zone_place.specs.Choosing.{CanSpread, IsZonePlacer, Spreads};
 
 use crate::ends::{copied, lists, numbers};
 use osd_bytes::{Clock, Links, MemClock, MemLinks, MemSink, MemSource, Sink, Source};
@@ -11,6 +12,7 @@ use pnfs_run::{Status, run};
 use std::alloc::Global;
 use std::process::Abort;
 use stripe_repair::{DriveLoad, Placer};
+use zone_place::{ZoneAsk, ZoneLoad, ZonePlacer, deal};
 
 /// What a run is given, and what has to come of it.
 pub struct Case {
@@ -96,7 +98,7 @@ fn add_string(alloc: Global, strings: &mut Vec<String>, word: &str) {
 }
 
 // How a run of these words ends.
-fn status_of<S: Source, K: Sink, L: Links, C: Clock, F>(
+fn status_of<S: Source, K: Sink, L: Links, C: Clock, F, Z>(
     alloc: Global,
     words: &[String],
     source: &mut S,
@@ -104,17 +106,46 @@ fn status_of<S: Source, K: Sink, L: Links, C: Clock, F>(
     links: &mut L,
     clock: &mut C,
     placer: &Placer<F>,
+    zones: &ZonePlacer<Z>,
 ) -> Status
 where
     F: Fn(u32, &[DriveLoad]) -> Result<Numbers, Memory>,
-    requires { IsPlacer F.Fn placer.now }
+    Z: Fn(&ZoneAsk, &[ZoneLoad]) -> Result<Numbers, Memory>,
+    requires placer { IsPlacer F.Fn placer.now }
+    requires zones { IsZonePlacer Z.Fn zones.now }
 {
     let disk = MemDisk::new(alloc, Numbers::new(alloc));
-    let (status, _disk) = run(alloc, words, source, sink, links, clock, disk, placer);
+    let (status, _disk) = run(
+        alloc, words, source, sink, links, clock, disk, placer, zones,
+    );
     status
 }
 
-// The exit status of the program for these words. Components are placed as the program places them.
+/// The exit status of the program for these words, where components are spread over zones by this rule. Those of other
+/// files are placed as the program places them.
+pub fn exit_code_by<S: Source, K: Sink, L: Links, C: Clock, Z>(
+    alloc: Global,
+    words: &[String],
+    source: &mut S,
+    sink: &mut K,
+    links: &mut L,
+    clock: &mut C,
+    zones: &ZonePlacer<Z>,
+) -> u8
+where
+    Z: Fn(&ZoneAsk, &[ZoneLoad]) -> Result<Numbers, Memory>,
+    requires { IsZonePlacer Z.Fn zones.now }
+{
+    let placer = Placer::new(
+        |count: u32, loads: &[DriveLoad]| -> Result<Numbers, Memory>
+            requires { CanPlace count loads.now }
+            ensures { ForOk result (Places count loads.now) }
+        { fewest_first(alloc, count, loads) },
+    );
+    status_of(alloc, words, source, sink, links, clock, &placer, zones).exit_code()
+}
+
+// The same where they are spread as the program spreads them.
 fn exit_code<S: Source, K: Sink, L: Links, C: Clock>(
     alloc: Global,
     words: &[String],
@@ -123,13 +154,13 @@ fn exit_code<S: Source, K: Sink, L: Links, C: Clock>(
     links: &mut L,
     clock: &mut C,
 ) -> u8 {
-    let placer = Placer::new(
-        |count: u32, loads: &[DriveLoad]| -> Result<Numbers, Memory>
-            requires { CanPlace count loads.now }
-            ensures { ForOk result (Places count loads.now) }
-        { fewest_first(alloc, count, loads) },
+    let zones = ZonePlacer::new(
+        |ask: &ZoneAsk, loads: &[ZoneLoad]| -> Result<Numbers, Memory>
+            requires { CanSpread ask.now loads.now }
+            ensures { ForOk result (Spreads ask.now loads.now) }
+        { deal(alloc, ask, loads) },
     );
-    status_of(alloc, words, source, sink, links, clock, &placer).exit_code()
+    exit_code_by(alloc, words, source, sink, links, clock, &zones)
 }
 
 // The same with a clock that stands still.

@@ -7,14 +7,15 @@ use Rattle.server_rules.specs.declared.limits.TheConstants.{MAX_CLIENT, GREATEST
 use Rattle.world_history.specs.ServerNames.{Server, File, Drive, Job, JobKind, ClientRequest, Reply, Refusal, Revoking, Rebuilding, Auditing, OrderKind, ToRecall, ToRevoke, ToDeclare, ToRebuild, ToAudit}
 use Rattle.server_rules.specs.Files.{Step, file_at, still}
 use Rattle.server_rules.specs.Going.{Going}
-use Rattle.server_rules.specs.History.{Input, Hears, Makes, Obeys, Adds, Opens, step, unless_made}
-use Rattle.server_rules.specs.Making.{add_drive, refusal, unless_refused, makes_file, unmade, places, create_file}
+use Rattle.server_rules.specs.History.{Input, Hears, Makes, Obeys, Adds, Zones, Opens, step, unless_made}
+use Rattle.server_rules.specs.Making.{add_drive, refusal, unless_refused, makes_file, unmade, drives_for, create_file}
 use Rattle.server_rules.specs.Messages.{Message, Asks, Replies, Orders, heard_at, by_heard, on_drive_reply, handled, on_message, counters_have_room}
 use Rattle.server_rules.specs.Openings.{reopen}
 use Rattle.server_rules.specs.Orders.{begins_job, starts, recalls_on, offline, declare, declares_known, ordered}
 use Rattle.server_rules.specs.Requests.{carries_out, by_admit, on_request}
 use Rattle.server_rules.specs.Slots.{Admit, New, Again, Misordered, slot_of, admit}
 use Rattle.party_law.specs.Listed.{is_offline, IsOffline}
+use Rattle.party_law.proofs.Offline.{zoned_out}
 
 -- ---- the server's drives
 
@@ -136,11 +137,12 @@ DeclaresNone i = Unit {0}
 pub step_back : (s : Server) (chosen : List ℕ) (i : Input) → DeclaresNone i → Knows s (step s chosen i)
 unfolding create_file reopen
 step_back s chosen (Hears now from m) none = knows_message s now chosen from m none
-step_back s chosen (Makes n m tag) none =
-    knows_unless s (refusal s n m) (unmade s n m tag (places s.drives m.comps chosen))
+step_back s chosen (Makes n m tag zoned) none =
+    knows_unless s (refusal s n m zoned) (unmade s n m tag zoned (drives_for zoned s.drives m chosen))
 step_back s chosen (Obeys kind n) none = knows_ordered s chosen kind n none
 step_back s chosen Opens none = either_step s (counters_have_room s) _ (still s) (λ n o. o) (λ n o. o)
 step_back s chosen (Adds d) none = λ n o. added_back s.drives d n none o
+step_back s chosen (Zones d zone) none = λ n o. sym (zoned_out s.drives d zone n) ∙ o
 step_back s chosen i none = λ n o. o
 
 -- what a declaration leaves offline

@@ -24,6 +24,7 @@ file_with m size cs gs = record {
   kept = record {
     number = 0;
     map = m;
+    zoned = false;
     first_tag = 1;
     tag = 1;
     format = FIRST_FORMAT;

@@ -35,7 +35,7 @@ IsFine p = IsChecked p.0 × (p.1 ≡ p.0.comps)
 
 -- a file that is to be made has a map with a parity algorithm
 abbrev HasIt : Input → Type 0
-HasIt (Makes n m tag) = HasAlgorithm m
+HasIt (Makes n m tag zoned) = HasAlgorithm m
 HasIt i = Unit {0}
 
 abbrev HaveIt : Option Input → Type 0
@@ -45,15 +45,17 @@ HaveIt (Some i) = HasIt i
 algorithm_in : (m : RawMap) → has_algorithm m ≡ true → HasAlgorithm m
 algorithm_in m e = grind (arith, nat_tests, e)
 
-made_has : (f : ℕ) (m : RawMap) (tag : ℕ) → HaveIt (made_of f m tag)
-made_has f m tag = by (has_algorithm m) (algorithm_in m)
+made_has : (f : ℕ) (m : RawMap) (tag : ℕ) (zoned : Bool) → HaveIt (made_of f m tag zoned)
+made_has f m tag zoned = by (has_algorithm m) (algorithm_in m)
   where
-    by : (b : Bool) → (b ≡ true → HasAlgorithm m) → HaveIt (if b then Some (Makes f m tag) else None)
+    by : (b : Bool) → (b ≡ true → HasAlgorithm m) → HaveIt (if b then Some (Makes f m tag zoned) else None)
     by true k = k refl
     by false k = tt
 
 event_has : (e : Event) → HaveIt (input_of e)
-event_has (event.File f m tag) = made_has f (raw_of m) tag
+event_has (event.File f m tag) = made_has f (raw_of m) tag false
+event_has (event.ZonedFile f m tag) = made_has f (raw_of m) tag true
+event_has (event.Zone d zone) = tt
 event_has (event.Drive d key capacity) = tt
 event_has (event.Disk d key capacity) = tt
 event_has (event.Format format) = tt
@@ -87,9 +89,9 @@ line_has s l = tt
 
 -- so what is made of it is fine
 fine_made : (s : Server) (i : Input) → HasIt i → IsOfMade IsFine s i
-fine_made s i has n m tag is none =
+fine_made s i has n m tag zoned is none =
     let k : HasAlgorithm m = subst HasIt is has in
-    ((good_map s n m k none).0, refl)
+    ((good_map s n m zoned k none).0, refl)
 
 -- ---- step by step
 

@@ -8,7 +8,7 @@ use Rattle.layout_ops.specs.declared.messages.Answer.{Answer}
 use Rattle.layout_ops.specs.declared.statuses.TheConstants.{NFS4_OK, LAYOUTIOMODE4_RW}
 use Rattle.server_rules.specs.Files.{Step}
 use Rattle.server_rules.specs.Grants.{grant_of}
-use Rattle.server_rules.specs.History.{Input, Hears, Makes, Obeys, Adds, Formats, Resends, Crashes, Opens}
+use Rattle.server_rules.specs.History.{Input, Hears, Makes, Obeys, Adds, Zones, Formats, Resends, Crashes, Opens}
 use Rattle.server_rules.specs.Messages.{Message, Asks as AsksServer, Replies as RepliesServer, Orders as OrdersServer}
 use Rattle.client_rules.specs.Results.{status_of}
 use Rattle.client_rules.specs.Answers.{is_loss_taken}
@@ -86,8 +86,9 @@ module _ (P : Event → Type 0) (s : State) (server : Server) (did : Step) (f g 
   first_such (Obeys ToRebuild n) none = where_all P (n == f.kept.number) _ fence_such
   first_such (Obeys ToAudit n) none = where_all P (n == f.kept.number) _ fence_such
   first_such Opens none = fence_such
-  first_such (Makes n m tag) none = tt
+  first_such (Makes n m tag zoned) none = tt
   first_such (Adds d) none = tt
+  first_such (Zones d zone) none = tt
   first_such (Formats n) none = tt
   first_such Resends none = tt
   first_such Crashes none = tt
@@ -121,8 +122,9 @@ module _ (P : Event → Type 0) (server : Server) (g : File) (k : AreSuch g P) w
   to_such s a (Hears now (node.Drive d) m) = tt
   to_such s a (Obeys kind n) = tt
   to_such s a Opens = tt
-  to_such s a (Makes n m tag) = tt
+  to_such s a (Makes n m tag zoned) = tt
   to_such s a (Adds d) = tt
+  to_such s a (Zones d zone) = tt
   to_such s a (Formats n) = tt
   to_such s a Resends = tt
   to_such s a Crashes = tt

@@ -7,7 +7,7 @@ use Rattle.std.proofs.Common.{append_assoc}
 use Rattle.osd_lists.specs.declared.node.Node.{Node}
 use Rattle.osd_lists.specs.declared.node.Node.TheVariants as node
 use Rattle.server_rules.specs.Files.{Step, file_at}
-use Rattle.server_rules.specs.History.{Input, Hears, Makes, Obeys, Adds, Formats, Resends, Crashes, Opens, step}
+use Rattle.server_rules.specs.History.{Input, Hears, Makes, Obeys, Adds, Zones, Formats, Resends, Crashes, Opens, step}
 use Rattle.server_rules.specs.Messages.{Message, Asks, Replies, Orders}
 use Rattle.server_rules.specs.Orders.{offline, ordered}
 use Rattle.world_history.specs.ServerNames.{File, Component, Note, Drive, ToRecall, ToRevoke, ToDeclare, ToRebuild, ToAudit}
@@ -95,8 +95,9 @@ module _ (s : State) (w : World) (f g : File) (chosen : List ℕ) (is : AreCompo
   step_told (Obeys ToRebuild n) fair = plain_told (Obeys ToRebuild n) tt
   step_told (Obeys ToAudit n) fair = plain_told (Obeys ToAudit n) tt
   step_told (Hears now from m) fair = plain_told (Hears now from m) (plain_hears now from m fair)
-  step_told (Makes n m tag) fair = plain_told (Makes n m tag) tt
+  step_told (Makes n m tag zoned) fair = plain_told (Makes n m tag zoned) tt
   step_told (Adds d) fair = plain_told (Adds d) tt
+  step_told (Zones d zone) fair = plain_told (Zones d zone) tt
   step_told (Formats n) fair = plain_told (Formats n) tt
   step_told Resends fair = plain_told Resends tt
   step_told Crashes fair = plain_told Crashes tt
@@ -123,8 +124,9 @@ module _ (s : State) (w : World) (f g : File) (chosen : List ℕ) (is : AreCompo
       first_such IssuesNone s w.server (step w.server chosen (Obeys ToRebuild n)) f g (such_issue g none) (Obeys ToRebuild n) tt
   first_none none (Obeys ToAudit n) fair =
       first_such IssuesNone s w.server (step w.server chosen (Obeys ToAudit n)) f g (such_issue g none) (Obeys ToAudit n) tt
-  first_none none (Makes n m tag) fair = tt
+  first_none none (Makes n m tag zoned) fair = tt
   first_none none (Adds d) fair = tt
+  first_none none (Zones d zone) fair = tt
   first_none none (Formats n) fair = tt
   first_none none Resends fair = tt
   first_none none Crashes fair = tt

@@ -12,7 +12,7 @@ use Rattle.server_rules.specs.declared.server.Refusal.{Refusal}
 use Rattle.server_rules.specs.Files.{Step, still, begins, file_at, put_file, at_file, step_at}
 use Rattle.server_rules.specs.Get.{lowest}
 use Rattle.server_rules.specs.Going.{Going, noting}
-use Rattle.server_rules.specs.History.{Input, Hears, Makes, Obeys, Adds, Formats, Resends, Crashes, Opens, step, unless_made}
+use Rattle.server_rules.specs.History.{Input, Hears, Makes, Obeys, Adds, Zones, Formats, Resends, Crashes, Opens, step, unless_made}
 use Rattle.server_rules.specs.Jobs.{fence_begins, declares, making}
 use Rattle.server_rules.specs.Laws.{In}
 use Rattle.server_rules.specs.Making.{refusal, makes_file, with_file, create_file, unless_refused}
@@ -224,22 +224,22 @@ module _ (s t : State) (w : World) (f : File) (i : Input) (there : file_at w.ser
 
     -- ---- a new file
 
-    pub made : (chosen : List ℕ) (n : ℕ) (m : RawMap) (tag : ℕ) → refusal server n m ≡ None →
-        Tells (makes_file server (new_file server chosen n m tag))
-    made chosen n m tag ok =
-        let x : File = new_file server chosen n m tag in
+    pub made : (chosen : List ℕ) (n : ℕ) (m : RawMap) (tag : ℕ) (zoned : Bool) → refusal server n m zoned ≡ None →
+        Tells (makes_file server (new_file server chosen n m tag zoned))
+    made chosen n m tag zoned ok =
+        let x : File = new_file server chosen n m tag zoned in
         let G : Going =
-        making (at_file (with_file server (new_file server chosen n m tag)) [] (new_file server chosen n m tag)) in
+        making (at_file (with_file server (new_file server chosen n m tag zoned)) [] (new_file server chosen n m tag zoned)) in
         let ne : n ≡ f.kept.number → ⊥ =
-        λ e. cc (sym (ap (file_at server.files) e ∙ there) ∙ not_there server n m ok) in
+        λ e. cc (sym (ap (file_at server.files) e ∙ there) ∙ not_there server n m zoned ok) in
         let alone : Alone n [] G.file.kept G.effects.notes =
         own_making (λ k ns. Alone n [] k ns) (alone_walked n [])
-        (at_file (with_file server (new_file server chosen n m tag)) [] (new_file server chosen n m tag))
-        (alone_first (new_file server chosen n m tag).kept []) in
+        (at_file (with_file server (new_file server chosen n m tag zoned)) [] (new_file server chosen n m tag zoned))
+        (alone_first (new_file server chosen n m tag zoned).kept []) in
         other n G.file.kept G.effects.notes ne alone _
-        (put_other (with_file server (new_file server chosen n m tag)).files n G.file alone.number f.kept.number
+        (put_other (with_file server (new_file server chosen n m tag zoned)).files n G.file alone.number f.kept.number
         (ne_eqb n f.kept.number ne)
-        ∙ add_other server.files (new_file server chosen n m tag) f.kept.number (ne_eqb n f.kept.number ne) ∙ there)
+        ∙ add_other server.files (new_file server chosen n m tag zoned) f.kept.number (ne_eqb n f.kept.number ne) ∙ there)
 
   -- ---- rounds
 
@@ -428,22 +428,23 @@ module _ (s t : State) (w : World) (f : File) (i : Input) (there : file_at w.ser
     handles now node.Server (Asks q) is plain = none_done
     handles now node.Server (Replies r) is plain = none_done
 
-    made_or : (n : ℕ) (m : RawMap) (tag : ℕ) (o : Option Refusal) → refusal server n m ≡ o →
-        Tells (unless_made server (unless_refused o (makes_file server (new_file server chosen n m tag))))
-    made_or n m tag (Some why) refused = none_done
-    made_or n m tag None refused = made start chosen n m tag refused
+    made_or : (n : ℕ) (m : RawMap) (tag : ℕ) (zoned : Bool) (o : Option Refusal) → refusal server n m zoned ≡ o →
+        Tells (unless_made server (unless_refused o (makes_file server (new_file server chosen n m tag zoned))))
+    made_or n m tag zoned (Some why) refused = none_done
+    made_or n m tag zoned None refused = made start chosen n m tag zoned refused
 
     pub tells_step : (j : Input) → i ≡ j → IsPlain j → Tells (step server chosen j)
     unfolding on_message create_file reopen
     tells_step (Hears now from m) is plain =
         either (counters_have_room server) _ _ (handles now from m is plain) none_done
-    tells_step (Makes n m tag) is plain = made_or n m tag (refusal server n m) refl
+    tells_step (Makes n m tag zoned) is plain = made_or n m tag zoned (refusal server n m zoned) refl
     tells_step (Obeys ToDeclare n) is plain = absurd plain
     tells_step (Obeys ToRecall n) is plain = obeyed start chosen ToRecall n (λ e. cc e)
     tells_step (Obeys ToRevoke n) is plain = obeyed start chosen ToRevoke n (λ e. cc e)
     tells_step (Obeys ToRebuild n) is plain = obeyed start chosen ToRebuild n (λ e. cc e)
     tells_step (Obeys ToAudit n) is plain = obeyed start chosen ToAudit n (λ e. cc e)
     tells_step (Adds d) is plain = stays start server.files there
+    tells_step (Zones d zone) is plain = stays start server.files there
     tells_step (Formats n) is plain = stays start server.files there
     tells_step Resends is plain = stays start server.files there
     tells_step Crashes is plain =

@@ -129,13 +129,13 @@ either : (w : World) (b : Bool) (x y : Act) → IsAlike w (sends_all x).world �
 either w true x y p q = p
 either w false x y p q = q
 
-makes : (w : World) (chosen : List ℕ) (f : ℕ) (m : RawMap) (tag : ℕ) →
-    IsAlike w (sends_all (world.makes w chosen f m tag)).world
+makes : (w : World) (chosen : List ℕ) (f : ℕ) (m : RawMap) (tag : ℕ) (zoned : Bool) →
+    IsAlike w (sends_all (world.makes w chosen f m tag zoned)).world
 unfolding world.makes
-makes w chosen f m tag =
-    either w (world.has_algorithm m) (world.made_file w f (create_file w.server f m tag chosen))
+makes w chosen f m tag zoned =
+    either w (world.has_algorithm m) (world.made_file w f (create_file w.server f m tag zoned chosen))
     (world.tells w (line.Note f (note.BadMap map_fault.Width)))
-    (made_file w f (create_file w.server f m tag chosen)) (still w)
+    (made_file w f (create_file w.server f m tag zoned chosen)) (still w)
 
 -- ---- clients
 
@@ -303,7 +303,10 @@ unfolding world.begins refusals.refusal
 begun_alike w chosen sent (event.Drive d key capacity) q none ok = adds w d key capacity false (new_drive w d ok)
 begun_alike w chosen sent (event.Disk d key capacity) q none ok = adds w d key capacity true (new_drive w d ok)
 begun_alike w chosen sent (event.Client c) q none ok = rests w (world.adds_client w c) refl refl
-begun_alike w chosen sent (event.File f m tag) q none ok = makes w chosen f (world.raw_of m) tag
+begun_alike w chosen sent (event.File f m tag) q none ok = makes w chosen f (world.raw_of m) tag false
+begun_alike w chosen sent (event.ZonedFile f m tag) q none ok = makes w chosen f (world.raw_of m) tag true
+begun_alike w chosen sent (event.Zone d zone) q none ok =
+    serves w w chosen (server.Zones d zone) (drives_kept w w refl) refl
 begun_alike w chosen sent (event.Least d format) q none ok =
     at_drive w d (λ a. raised a format) (λ a. refl) (λ a o. refl) (at_number w.drives d) refl
 begun_alike w chosen sent (event.Format format) q none ok =

@@ -206,8 +206,9 @@ module _ (s : Server) (chosen : List ℕ) where
         (at_own f is.target is.found) (same_fence kind s.format (at_file s chosen f));
     declared = λ d known. by_pairs s.files _ (λ x. pairs_declared d (offline s.drives d) s.files (begins s) chosen);
     told = λ t now o is result h. h;
-    made = λ n m tag is none. on_made (new_file s chosen n m tag) (not_there s n m none);
+    made = λ n m tag zoned is none. on_made (new_file s chosen n m tag zoned) (not_there s n m zoned none);
     added = λ d is. stay s.files;
+    zoned = λ d zone is. stay s.files;
     formats = λ n is. stay s.files;
     resends = λ is. stay s.files;
     crashes = λ is. by_pairs s.files _ (λ x. pairs_crashed s.files);

@@ -73,11 +73,12 @@ none_made : (w : World) (f : ℕ) (r : Result ServerStep Refusal) → ByNone w (
 none_made w f (Err e) = none_same w _ refl
 none_made w f (Ok s) = none_same w _ refl
 
-none_makes : (w : World) (chosen : List ℕ) (f : ℕ) (m : RawMap) (tag : ℕ) → ByNone w (world.makes w chosen f m tag)
+none_makes : (w : World) (chosen : List ℕ) (f : ℕ) (m : RawMap) (tag : ℕ) (zoned : Bool)
+    → ByNone w (world.makes w chosen f m tag zoned)
 unfolding world.makes
-none_makes w chosen f m tag =
-    either_none w (world.has_algorithm m) (world.made_file w f (create_file w.server f m tag chosen)) _
-    (none_made w f (create_file w.server f m tag chosen)) (none_same w _ refl)
+none_makes w chosen f m tag zoned =
+    either_none w (world.has_algorithm m) (world.made_file w f (create_file w.server f m tag zoned chosen)) _
+    (none_made w f (create_file w.server f m tag zoned chosen)) (none_same w _ refl)
 
 none_gives : (w v : World) (chosen : List ℕ) (i : server.Input) → v.clients ≡ w.clients → ByNone w (world.gives v chosen i)
 unfolding world.gives
@@ -300,7 +301,9 @@ module _ (w : World) (chosen : List ℕ) where
   begun (event.Drive d key capacity) new = none_adds w d key capacity false
   begun (event.Disk d key capacity) new = none_adds w d key capacity true
   begun (event.Client c) new = record { states = λ d. come_same w.clients c d _ (new c refl) refl }
-  begun (event.File f m tag) new = none_makes w chosen f (world.raw_of m) tag
+  begun (event.File f m tag) new = none_makes w chosen f (world.raw_of m) tag false
+  begun (event.ZonedFile f m tag) new = none_makes w chosen f (world.raw_of m) tag true
+  begun (event.Zone d zone) new = none_gives w w chosen (server.Zones d zone) refl
   begun (event.Least d format) new = none_at_drive w d (λ a. raised a format) (at_number w.drives d)
   begun (event.Format format) new = none_gives w w chosen (server.Formats format) refl
   begun (event.Do c x) new = calls_at w chosen _ c (world.op_of x) (λ a. refl)

@@ -12,7 +12,7 @@ use Rattle.server_rules.specs.Grants.{grant_of}
 use Rattle.server_rules.specs.Slots.{slot_of, admit}
 use Rattle.server_rules.specs.declared.limits.TheConstants.{MAX_CLIENT}
 use Rattle.server_rules.specs.Messages.{counters_have_room, Message, Asks as AsksServer, Replies as RepliesServer, Orders as OrdersServer}
-use Rattle.server_rules.specs.History.{Input, Hears, Makes, Obeys, Adds, Formats, Resends, Crashes, Opens}
+use Rattle.server_rules.specs.History.{Input, Hears, Makes, Obeys, Adds, Zones, Formats, Resends, Crashes, Opens}
 use Rattle.server_rules.specs.Laws.{is_taken_of}
 use Rattle.client_rules.specs.Results.{status_of}
 use Rattle.client_rules.specs.Answers.{is_loss_taken}
@@ -165,8 +165,9 @@ pub at_first : (s : State) (server : Server) (did : Step) (f g : File) (i : Inpu
 at_first s server did f g (Hears now from m) = heard s server did f g now from m
 at_first s server did f g (Obeys kind n) = ordered None f g kind n
 at_first s server did f g Opens = fences None f g
-at_first s server did f g (Makes n m tag) = tt
+at_first s server did f g (Makes n m tag zoned) = tt
 at_first s server did f g (Adds d) = tt
+at_first s server did f g (Zones d zone) = tt
 at_first s server did f g (Formats n) = tt
 at_first s server did f g Resends = tt
 at_first s server did f g Crashes = tt
@@ -183,8 +184,9 @@ answered_to s server g a (Hears now node.Server m) = tt
 answered_to s server g a (Hears now (node.Drive d) m) = tt
 answered_to s server g a (Obeys kind n) = tt
 answered_to s server g a Opens = tt
-answered_to s server g a (Makes n m tag) = tt
+answered_to s server g a (Makes n m tag zoned) = tt
 answered_to s server g a (Adds d) = tt
+answered_to s server g a (Zones d zone) = tt
 answered_to s server g a (Formats n) = tt
 answered_to s server g a Resends = tt
 answered_to s server g a Crashes = tt

@@ -170,12 +170,13 @@ module _ (s : Server) (chosen : List ℕ) (i : Input) (all : AllFit s.files) (up
           (ends_declares Any any_walked (record { file = f; effects = m; drives = offline s.drives d; chosen = placed }) d
           (tt, all f there)).1);
       told = λ t now o is result h. h;
-      made = λ n m tag is none.
-          let f : File = new_file s chosen n m tag in
+      made = λ n m tag zoned is none.
+          let f : File = new_file s chosen n m tag zoned in
           put_each FileFits (with_file s f).files f.kept.number (making (at_file (with_file s f) [] f)).file
           (add_each FileFits s.files f all (λ e. refl))
           (ends_making Any any_walked (at_file (with_file s f) [] f) (refl, tt)).1;
       added = λ d is. all;
+      zoned = λ d zone is. all;
       formats = λ n is. all;
       resends = λ is. all;
       crashes = λ is. absurd (up is);

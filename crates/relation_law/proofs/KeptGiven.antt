@@ -23,7 +23,7 @@ use Rattle.world_history.specs.History.{OneEventMore}
 use Rattle.world_history.specs.State.{World, at_number}
 use Rattle.world_history.specs.Handed.{for_server}
 use Rattle.world_history.specs.Moves.{Action, Opens, Delivers, TimesOut, Pends, knows_drive, raw_of, has_algorithm}
-use Rattle.world_history.specs.Refusals.{unless_down, unless_there, of_file, if_failed, refusal}
+use Rattle.world_history.specs.Refusals.{unless_down, unless_there, unless_zoned, is_zoned, of_file, if_failed, refusal}
 use Rattle.world_history.specs.Sending.{Move}
 use Rattle.world_history.proofs.Causes.{no_cause, is_up}
 use Rattle.history_law.specs.BookMoments.{lines_in}
@@ -62,6 +62,7 @@ line_named : (l : Line) → IsOfText l → IsNamed l
 line_named (line.Event (event.Drive d key capacity)) t = t.1.0
 line_named (line.Event (event.Disk d key capacity)) t = t.1.0
 line_named (line.Event (event.File f m tag)) t = t.1.0
+line_named (line.Event (event.ZonedFile f m tag)) t = t.1.0
 line_named l t = tt
 
 lines_named : (h : List Line) → AreOfText h → AreNamed h
@@ -119,7 +120,11 @@ opened_turn w (event.Disk d key capacity) i ok e =
     unless_given w (knows_drive w.server d) _ i e
     (up w (no_cause (unless_there (is_some (at_number w.drives d))) (unless_down w) ok).1)
 opened_turn w (event.File f m tag) i ok e = if_given w (has_algorithm (raw_of m)) _ i e (up w ok)
+opened_turn w (event.ZonedFile f m tag) i ok e = if_given w (has_algorithm (raw_of m)) _ i e (up w ok)
 opened_turn w (event.Format format) i ok e = given w _ i e (up w ok)
+opened_turn w (event.Zone d zone) i ok e =
+    given w _ i e
+    (up w (no_cause (unless_zoned (is_zoned w.server d) (at_number w.drives d)) (unless_down w) ok).1)
 opened_turn w (event.Recall f) i ok e = given w _ i e (up w (no_cause (of_file w f) (unless_down w) ok).1)
 opened_turn w (event.Revoke f) i ok e = given w _ i e (up w (no_cause (of_file w f) (unless_down w) ok).1)
 opened_turn w (event.Rebuild f) i ok e = given w _ i e (up w (no_cause (of_file w f) (unless_down w) ok).1)

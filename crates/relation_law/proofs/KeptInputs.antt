@@ -9,7 +9,7 @@ use Rattle.server_rules.specs.declared.limits.TheConstants.{GREATEST_TAG}
 use Rattle.sent_law.specs.Tagged.{fence_open}
 use Rattle.server_rules.specs.Files.{Step, still, begins, file_at, at_file}
 use Rattle.server_rules.specs.Going.{Going}
-use Rattle.server_rules.specs.History.{Input, Hears, Makes, Obeys, Adds, Formats, Resends, Crashes, Opens, step, unless_made}
+use Rattle.server_rules.specs.History.{Input, Hears, Makes, Obeys, Adds, Zones, Formats, Resends, Crashes, Opens, step, unless_made}
 use Rattle.server_rules.specs.Jobs.{ending, making}
 use Rattle.server_rules.specs.Making.{refusal, unless_refused, with_file, makes_file, create_file}
 use Rattle.server_rules.specs.Messages.{Message, Asks, Replies, Orders, counters_have_room, on_message}
@@ -85,8 +85,9 @@ module _ (next : ℕ) (s : State) (w : World) (f : File) (chosen : List ℕ) (sa
       declared = λ d e.
           known_goes next s w f chosen safe h ready i Given supplied fit d true (λ g. rw is tt) (λ g. rw is refl);
       told = λ t n o e. absurd (cc (sym is ∙ e));
-      made = λ n m tag e. absurd (cc (sym is ∙ e));
+      made = λ n m tag zoned e. absurd (cc (sym is ∙ e));
       added = λ d e. absurd (cc (sym is ∙ e));
+      zoned = λ d zone e. absurd (cc (sym is ∙ e));
       formats = λ n e. absurd (cc (sym is ∙ e));
       resends = λ e. absurd (cc (sym is ∙ e));
       crashes = λ e. absurd (cc (sym is ∙ e));
@@ -108,16 +109,16 @@ module _ (next : ℕ) (s : State) (w : World) (f : File) (chosen : List ℕ) (sa
 
     -- ---- a file is made
 
-    made : (n : ℕ) (m : RawMap) (tag : ℕ) (o : Option Refusal) → refusal w.server n m ≡ o
-        → Goes (unless_made w.server (unless_refused o (makes_file w.server (new_file w.server chosen n m tag))))
+    made : (n : ℕ) (m : RawMap) (tag : ℕ) (zoned : Bool) (o : Option Refusal) → refusal w.server n m zoned ≡ o
+        → Goes (unless_made w.server (unless_refused o (makes_file w.server (new_file w.server chosen n m tag zoned))))
     unfolding notes_events
-    made n m tag (Some why) refused = stays (still w.server) refl refl
-    made n m tag None refused =
-        let x : File = new_file w.server chosen n m tag in
+    made n m tag zoned (Some why) refused = stays (still w.server) refl refl
+    made n m tag zoned None refused =
+        let x : File = new_file w.server chosen n m tag zoned in
         let t : Server = with_file w.server x in
         let G : Going = making (at_file t [] x) in
         let ne : n ≡ f.kept.number → ⊥ = λ e.
-        absurd (cc (sym (ap (file_at w.server.files) (sym e) ∙ not_there w.server n m refused) ∙ ready.there)) in
+        absurd (cc (sym (ap (file_at w.server.files) (sym e) ∙ not_there w.server n m zoned refused) ∙ ready.there)) in
         let number : G.file.kept.number ≡ n =
         (ends_making (HasNumber n) (number_walked n) (at_file t [] x) (refl, refl)).0 in
         quiet_goes next s w f chosen safe h ready i Given supplied (makes_file w.server x)
@@ -302,12 +303,14 @@ module _ (next : ℕ) (s : State) (w : World) (f : File) (chosen : List ℕ) (sa
   unfolding create_file
   no_request_goes (Hears now from m) Given supplied plain orders idle fit =
       message_goes (Hears now from m) Given supplied fit now from m refl plain orders
-  no_request_goes (Makes n m tag) Given supplied plain orders idle fit =
-      made (Makes n m tag) Given supplied n m tag (refusal w.server n m) refl
+  no_request_goes (Makes n m tag zoned) Given supplied plain orders idle fit =
+      made (Makes n m tag zoned) Given supplied n m tag zoned (refusal w.server n m zoned) refl
   no_request_goes (Obeys kind n) Given supplied plain orders idle fit =
       ordered_goes (Obeys kind n) Given supplied fit kind n refl
   no_request_goes (Adds d) Given supplied plain orders idle fit =
       stays (Adds d) Given supplied (step w.server chosen (Adds d)) refl refl
+  no_request_goes (Zones d zone) Given supplied plain orders idle fit =
+      stays (Zones d zone) Given supplied (step w.server chosen (Zones d zone)) refl refl
   no_request_goes (Formats n) Given supplied plain orders idle fit =
       stays (Formats n) Given supplied (step w.server chosen (Formats n)) refl refl
   no_request_goes Resends Given supplied plain orders idle fit =

@@ -3,7 +3,7 @@
 use Rattle.std.proofs.Common.{◌≡◌, ◌==◌, ℕ, ◌+◌, Bool, true, false, List, Some, sym, subst}
 use Rattle.layout_ops.specs.declared.statuses.TheConstants.{LAYOUTIOMODE4_RW}
 use Rattle.server_rules.specs.Files.{Step, file_at}
-use Rattle.server_rules.specs.History.{Input, Hears, Makes, Obeys, Adds, Formats, Resends, Crashes, Opens, step}
+use Rattle.server_rules.specs.History.{Input, Hears, Makes, Obeys, Adds, Zones, Formats, Resends, Crashes, Opens, step}
 use Rattle.server_rules.specs.Served.{Served}
 use Rattle.world_history.specs.ServerNames.{File, Note, ToRecall, ToRevoke, ToDeclare, ToRebuild, ToAudit}
 use Rattle.world_history.specs.State.{World}
@@ -48,8 +48,9 @@ first_lawful next s f g (Obeys ToAudit n) lost h =
     where_lawful s (n == f.kept.number) (fences f g) (fences_lawful next s f g h)
 first_lawful next s f g Opens lost h = fences_lawful next s f g h
 first_lawful next s f g (Hears now from m) lost h = tt
-first_lawful next s f g (Makes n m tag) lost h = tt
+first_lawful next s f g (Makes n m tag zoned) lost h = tt
 first_lawful next s f g (Adds d) lost h = tt
+first_lawful next s f g (Zones d zone) lost h = tt
 first_lawful next s f g (Formats n) lost h = tt
 first_lawful next s f g Resends lost h = tt
 first_lawful next s f g Crashes lost h = tt

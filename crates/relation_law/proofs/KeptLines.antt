@@ -6,7 +6,7 @@ use Rattle.layout_ops.specs.declared.messages.Answer.{Answer}
 use Rattle.osd_lists.specs.declared.node.Node.TheVariants.{Server as FromServer, Client as FromClient, Drive as FromDrive}
 use Rattle.server_rules.specs.Answers.{recalls_from}
 use Rattle.server_rules.specs.Files.{Step, to_drives}
-use Rattle.server_rules.specs.History.{Input, Hears, Makes, Obeys, Adds, Formats, Resends, Crashes, Opens}
+use Rattle.server_rules.specs.History.{Input, Hears, Makes, Obeys, Adds, Zones, Formats, Resends, Crashes, Opens}
 use Rattle.server_rules.specs.Messages.{Asks, Replies, Orders}
 use Rattle.world_history.specs.ServerNames.{Server, File, Drive, Grant, Awaited, Note, Outgoing, ToDrive, Recalls, Answers, AnswersOrder}
 use Rattle.world_history.specs.State.{World}
@@ -65,9 +65,10 @@ quiet_answer s server g a (Hears now (FromClient c) (Replies r)) n = refl
 quiet_answer s server g a (Hears now (FromClient c) (Orders o)) n = refl
 quiet_answer s server g a (Hears now FromServer m) n = refl
 quiet_answer s server g a (Hears now (FromDrive d) m) n = refl
-quiet_answer s server g a (Makes number m tag) n = refl
+quiet_answer s server g a (Makes number m tag zoned) n = refl
 quiet_answer s server g a (Obeys kind target) n = refl
 quiet_answer s server g a (Adds d) n = refl
+quiet_answer s server g a (Zones d zone) n = refl
 quiet_answer s server g a (Formats format) n = refl
 quiet_answer s server g a Resends n = refl
 quiet_answer s server g a Crashes n = refl
@@ -107,9 +108,10 @@ first_is s server did f g (Hears now (FromClient c) (Replies r)) n = refl
 first_is s server did f g (Hears now (FromClient c) (Orders o)) n = refl
 first_is s server did f g (Hears now FromServer m) n = refl
 first_is s server did f g (Hears now (FromDrive d) m) n = refl
-first_is s server did f g (Makes number m tag) n = refl
+first_is s server did f g (Makes number m tag zoned) n = refl
 first_is s server did f g (Obeys kind target) n = refl
 first_is s server did f g (Adds d) n = refl
+first_is s server did f g (Zones d zone) n = refl
 first_is s server did f g (Formats format) n = refl
 first_is s server did f g Resends n = refl
 first_is s server did f g Crashes n = refl

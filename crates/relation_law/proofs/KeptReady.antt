@@ -4,7 +4,7 @@ use Rattle.std.proofs.Common.{◌≡◌, ℕ, Bool, true, false, not, List, [], 
 use Rattle.std.proofs.lemmas.Bool.{true≢false}
 use Rattle.osd_lists.specs.declared.node.Node.TheVariants.{Client as FromClient}
 use Rattle.server_rules.specs.Files.{file_at}
-use Rattle.server_rules.specs.History.{Input, Hears, Makes, Obeys, Adds, Formats, Resends, Crashes, Opens, state_after}
+use Rattle.server_rules.specs.History.{Input, Hears, Makes, Obeys, Adds, Zones, Formats, Resends, Crashes, Opens, state_after}
 use Rattle.server_rules.specs.Laws.{In}
 use Rattle.server_rules.specs.Making.{new_server}
 use Rattle.server_rules.specs.Messages.{Asks, counters_have_room}
@@ -88,9 +88,10 @@ idle_by w true is fit Opens turn =
     each_of IsIdle w.server.files (subst (λ (b : Bool). FitsBy b w.server.files) is fit.fits)
 idle_by w false is fit Opens turn = absurd (true≢false (sym turn))
 idle_by w down is fit (Hears now from m) turn = tt
-idle_by w down is fit (Makes n m tag) turn = tt
+idle_by w down is fit (Makes n m tag zoned) turn = tt
 idle_by w down is fit (Obeys kind n) turn = tt
 idle_by w down is fit (Adds d) turn = tt
+idle_by w down is fit (Zones d zone) turn = tt
 idle_by w down is fit (Formats n) turn = tt
 idle_by w down is fit Resends turn = tt
 idle_by w down is fit Crashes turn = tt

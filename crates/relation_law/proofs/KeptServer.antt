@@ -8,7 +8,7 @@ use Rattle.sent_law.specs.Tagged.{fence_open}
 use Rattle.server_rules.specs.Files.{Step, still, begins, file_at, put_file, at_file, step_at}
 use Rattle.server_rules.specs.Get.{lowest}
 use Rattle.server_rules.specs.Going.{Going, noting, with_components}
-use Rattle.server_rules.specs.History.{Input, Hears, Makes, Obeys, Adds, Formats, Resends, Crashes, Opens, step}
+use Rattle.server_rules.specs.History.{Input, Hears, Makes, Obeys, Adds, Zones, Formats, Resends, Crashes, Opens, step}
 use Rattle.server_rules.specs.Jobs.{ending, fence_begins, declares, declared_in, targets}
 use Rattle.server_rules.specs.Laws.{In}
 use Rattle.server_rules.specs.Orders.{offline, declare, begins_job, starts, recalls_on, declares_known}
@@ -58,8 +58,9 @@ light_first f (Obeys ToRebuild n) = where_light (n == f.kept.number) (fences f f
 light_first f (Obeys ToAudit n) = where_light (n == f.kept.number) (fences f f) (rw (no_fence f) tt)
 light_first f Opens = rw (no_fence f) tt
 light_first f (Hears now from m) = tt
-light_first f (Makes n m tag) = tt
+light_first f (Makes n m tag zoned) = tt
 light_first f (Adds d) = tt
+light_first f (Zones d zone) = tt
 light_first f (Formats n) = tt
 light_first f Resends = tt
 light_first f Crashes = tt

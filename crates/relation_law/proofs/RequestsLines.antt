@@ -6,7 +6,7 @@ use Rattle.osd_lists.specs.declared.node.Node.{Node}
 use Rattle.osd_lists.specs.declared.node.Node.TheVariants as node
 use Rattle.server_rules.specs.Files.{Step}
 use Rattle.server_rules.specs.Messages.{Message, Asks as AsksServer, Replies as RepliesServer, Orders as OrdersServer}
-use Rattle.server_rules.specs.History.{Input, Hears, Makes, Obeys, Adds, Formats, Resends, Crashes, Opens}
+use Rattle.server_rules.specs.History.{Input, Hears, Makes, Obeys, Adds, Zones, Formats, Resends, Crashes, Opens}
 use Rattle.client_rules.specs.Answers.{is_loss_taken}
 use Rattle.layout_ops.specs.declared.messages.Answer.{Answer}
 use Rattle.world_history.specs.ServerNames as server_rules
@@ -127,8 +127,9 @@ first_plain s server did f g (Hears now from m) no_ =
     none_heard s server did f g from m (served_at server now from m ∙ no_)
 first_plain s server did f g (Obeys kind n) no_ = ordered f g kind n
 first_plain s server did f g Opens no_ = fences_plain f g
-first_plain s server did f g (Makes n m tag) no_ = tt
+first_plain s server did f g (Makes n m tag zoned) no_ = tt
 first_plain s server did f g (Adds d) no_ = tt
+first_plain s server did f g (Zones d zone) no_ = tt
 first_plain s server did f g (Formats n) no_ = tt
 first_plain s server did f g Resends no_ = tt
 first_plain s server did f g Crashes no_ = tt
@@ -143,8 +144,9 @@ none_answered s server g a (Hears now node.Server m) no_ = tt
 none_answered s server g a (Hears now (node.Drive d) m) no_ = tt
 none_answered s server g a (Obeys kind n) no_ = tt
 none_answered s server g a Opens no_ = tt
-none_answered s server g a (Makes n m tag) no_ = tt
+none_answered s server g a (Makes n m tag zoned) no_ = tt
 none_answered s server g a (Adds d) no_ = tt
+none_answered s server g a (Zones d zone) no_ = tt
 none_answered s server g a (Formats n) no_ = tt
 none_answered s server g a Resends no_ = tt
 none_answered s server g a Crashes no_ = tt

@@ -5,7 +5,7 @@ use Rattle.osd_lists.specs.declared.node.Node.{Node}
 use Rattle.osd_lists.specs.declared.node.Node.TheVariants as node
 use Rattle.scenario_text.specs.declared.line.Line.{Line}
 use Rattle.scenario_text.specs.declared.names.TheConstants.{CLIENTS}
-use Rattle.server_rules.specs.History.{Input, Hears, Makes, Obeys, Adds, Formats, Resends, Crashes, Opens, step as server_step}
+use Rattle.server_rules.specs.History.{Input, Hears, Makes, Obeys, Adds, Zones, Formats, Resends, Crashes, Opens, step as server_step}
 use Rattle.server_rules.specs.Messages.{Message, Asks, Replies, Orders}
 use Rattle.server_rules.specs.Slots.{slot_of}
 use Rattle.world_history.specs.ServerNames.{Server, File}
@@ -80,8 +80,9 @@ module _ (laws : OwnLaws) (w : World) (h : List Line) (m : Move) (f g : File) (s
   by_input (Hears now from b) is yes_ = by_message now from b is yes_
   by_input (Obeys kind n) is yes_ = absurd (true≢false (sym yes_ ∙ ap (is_served_in w.server) is))
   by_input Opens is yes_ = absurd (true≢false (sym yes_ ∙ ap (is_served_in w.server) is))
-  by_input (Makes n x tag) is yes_ = absurd (true≢false (sym yes_ ∙ ap (is_served_in w.server) is))
+  by_input (Makes n x tag zoned) is yes_ = absurd (true≢false (sym yes_ ∙ ap (is_served_in w.server) is))
   by_input (Adds d) is yes_ = absurd (true≢false (sym yes_ ∙ ap (is_served_in w.server) is))
+  by_input (Zones d zone) is yes_ = absurd (true≢false (sym yes_ ∙ ap (is_served_in w.server) is))
   by_input (Formats n) is yes_ = absurd (true≢false (sym yes_ ∙ ap (is_served_in w.server) is))
   by_input Resends is yes_ = absurd (true≢false (sym yes_ ∙ ap (is_served_in w.server) is))
   by_input Crashes is yes_ = absurd (true≢false (sym yes_ ∙ ap (is_served_in w.server) is))

@@ -44,9 +44,9 @@ behind_notes t w f i ns = after_all t (notes_events t w f i ns)
 
 -- ---- in the middle of a step
 
--- what is kept of a file, but for its components, its format, and whether it is made
+-- what is kept of a file, but for its components, its format, and whether it is zoned and made
 abbrev pub core : Kept → File
-core k = as_file (record k { components = []; format = 0; ready = false })
+core k = as_file (record k { zoned = false; components = []; format = 0; ready = false })
 
 -- What the machine has of what is kept of the file so far. If a job runs, no grant was issued since the last fence.
 pub record IsSoFar (next : ℕ) (busy : Bool) (s : State) (k : Kept) : Type 0 where

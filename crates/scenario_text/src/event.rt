@@ -185,9 +185,6 @@ pub enum Event {
 /// Why a line gave no event.
 #[derive(Clone, Copy, Debug, PartialEq, Eq, Error)]
 pub enum EventErr {
-    /// The event isn't carried out yet.
-    #[error("the event isn't carried out yet")]
-    NotYet,
     /// No event, call or line has this word in its place.
     #[error("an unknown word")]
     UnknownWord,
@@ -217,7 +214,6 @@ impl EventErr {
         ensures { result.now ≡ event_error_name self }
     {
         match self {
-            EventErr::NotYet => "NotYet",
             EventErr::UnknownWord => "UnknownWord",
             EventErr::BadName => "BadName",
             EventErr::BadNumber => "BadNumber",

@@ -179,7 +179,7 @@ fn is_skipped(line: &[u8]) -> bool
 ///
 /// Errors: the first wrong word from the left decides. `UnknownWord`, `BadName`, `BadNumber` and `BadHex`
 /// say that the word isn't one of its place, `Missing` that it is lacking, `Extra` that it is one too
-/// many. `Memory` is want of memory; `NotYet` doesn't come.
+/// many. `Memory` is want of memory.
 pub fn read_event(alloc: Global, line: &[u8]) -> Result<Option<Event>, EventErr>
     ensures skipped { IsSkipped line.now ↔ (result ≡ Ok None) }
     ensures found { IfOk result (λ o. IfSome o (λ e. Fits e × Spells e line.now)) }

@@ -1,11 +1,11 @@
 -- Each step of a server: what it sends, and what jobs await, is under no earlier tag than its object.
-use Rattle.std.proofs.Common.{ℕ, List, [], ◌∷◌, flat_map, refl, sym, subst, ◌∙◌, arith, inl, inr}
+use Rattle.std.proofs.Common.{ℕ, List, [], ◌∷◌, flat_map, refl, sym, subst, ◌∙◌, arith, inl, inr, Bool}
 use Rattle.data_map.specs.declared.check.RawMap.{RawMap}
 use Rattle.server_rules.specs.Laws.{In}
 use Rattle.server_rules.specs.Files.{still, at_file, to_drives}
 use Rattle.server_rules.specs.Messages.{awaited_by, resend}
 use Rattle.server_rules.specs.Jobs.{making}
-use Rattle.server_rules.specs.Making.{places, unmade, with_file, makes_file}
+use Rattle.server_rules.specs.Making.{drives_for, unmade, with_file, makes_file}
 use Rattle.server_rules.specs.History.{Input, step}
 use Rattle.job_law.specs.Names.{Command, ToDrive, Server, File, Drive}
 use Rattle.server_rules.proofs.Members.{in_either}
@@ -20,13 +20,14 @@ use Rattle.move_law.proofs.Steps.{each_step}
 
 -- ---- making
 
-module _ (birth : ℕ → ℕ) (s : Server) (own : AreFine birth s) (number : ℕ) (m : RawMap) (tag : ℕ) (ds : List ℕ) where
+module _ (birth : ℕ → ℕ) (s : Server) (own : AreFine birth s) (number : ℕ) (m : RawMap) (tag : ℕ) (zoned : Bool)
+    (ds : List ℕ) where
   -- the numbers of the new file are given at its first tag
   abbrev new_birth : ℕ → ℕ
   new_birth = with_owner birth s.next_object tag
 
   abbrev new_file : File
-  new_file = unmade s number m tag ds
+  new_file = unmade s number m tag zoned ds
 
   abbrev server_with : Server
   server_with = with_file s new_file
@@ -89,6 +90,6 @@ pub step_keeps : (birth : ℕ → ℕ) (s : Server) (chosen : List ℕ) (i : Inp
 step_keeps birth s chosen i first own =
     each_step s chosen i (Keeps birth s.next_object)
     (kept_cases birth s own chosen i first
-    (λ n m tag. made birth s own n m tag (places s.drives m.comps chosen))
+    (λ n m tag zoned. made birth s own n m tag zoned (drives_for zoned s.drives m chosen))
     (idle birth s own (record (still s) { sends = resend s }) refl refl
     (sent_again birth s.next_object s.drives s.files own)))

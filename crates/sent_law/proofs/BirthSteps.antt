@@ -1,5 +1,5 @@
 -- What each request, reply and order leaves of files, and of what was sent.
-use Rattle.std.proofs.Common.{◌≡◌, ◌∙◌, ℕ, ◌≤◌, false, List, [], ◌∷◌, refl, sym, subst, arith, inl, inr}
+use Rattle.std.proofs.Common.{◌≡◌, ◌∙◌, ℕ, ◌≤◌, false, List, [], ◌∷◌, refl, sym, subst, arith, inl, inr, Bool}
 use Rattle.server_rules.specs.Answers.{recalls_from}
 use Rattle.server_rules.specs.Laws.{In}
 use Rattle.server_rules.specs.Going.{Going, noting}
@@ -188,7 +188,7 @@ module _ (birth : ℕ → ℕ) (s : Server) (own : AreFine birth s) where
   -- ---- any step, but for what follows from these
 
   pub kept_cases : (chosen : List ℕ) (i : Input) → HaveFirst s.files
-      → ((n : ℕ) (m : RawMap) (tag : ℕ) → IsKept (makes_file s (new_file s chosen n m tag)))
+      → ((n : ℕ) (m : RawMap) (tag : ℕ) (zoned : Bool) → IsKept (makes_file s (new_file s chosen n m tag zoned)))
       → IsKept (record (still s) { sends = resend s }) → StepCases s chosen i IsKept
   unfolding declare
   kept_cases chosen i first made again = record {
@@ -212,8 +212,9 @@ module _ (birth : ℕ → ℕ) (s : Server) (own : AreFine birth s) where
     declared = λ d known.
         round_kept (with_offline s d) _ (declared_each d (offline s.drives d) s.files (begins s) chosen birth own);
     told = λ t now o is result x. told_behind t o.order result x;
-    made = λ n m tag is none. made n m tag;
+    made = λ n m tag zoned is none. made n m tag zoned;
     added = λ d is. idle birth s own _ refl refl (λ drive c j. absurd j);
+    zoned = λ d zone is. idle birth s own _ refl refl (λ drive c j. absurd j);
     formats = λ n is. idle birth s own _ refl refl (λ drive c j. absurd j);
     resends = λ is. again;
     crashes = λ is. crash_kept;

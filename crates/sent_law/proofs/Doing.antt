@@ -19,7 +19,7 @@ use Rattle.world_history.specs.declared.err.WorldErr.TheVariants.{Running}
 use Rattle.world_history.specs.State.{World, at_number}
 use Rattle.world_history.specs.Handed.{Post, is_addressed, plain, wrote_in, data_in, op_in, server_post, client_posts}
 use Rattle.world_history.specs.Moves.{Act, Action, Opens, known_drive, acts}
-use Rattle.world_history.specs.Refusals.{refusal, first_of, if_failed, of_file, unless_down, unless_there}
+use Rattle.world_history.specs.Refusals.{refusal, first_of, if_failed, is_zoned, of_file, unless_down, unless_there, unless_zoned}
 use Rattle.move_law.specs.Said.{posted}
 use Rattle.move_law.specs.Moves.{given_in, IsForServer, MoveCases, drive_event, down_behind}
 use Rattle.move_law.proofs.Moves.{each_act}
@@ -138,7 +138,10 @@ named_given : (w : World) (action : Action) (i : Input) → given_in action ≡ 
     → IsAllowed w action → IsNamedInput i × (in_turn w.down i ≡ true)
 unfolding refusal
 named_given w (Opens (event.File f m tag)) i e named allowed = on w _ i e named (up w allowed)
+named_given w (Opens (event.ZonedFile f m tag)) i e named allowed = on w _ i e named (up w allowed)
 named_given w (Opens (event.Format format)) i e named allowed = on w _ i e tt (up w allowed)
+named_given w (Opens (event.Zone d zone)) i e named allowed =
+    on w _ i e tt (up_for w (unless_zoned (is_zoned w.server d) (at_number w.drives d)) allowed)
 named_given w (Opens (event.Resend sender.Server)) i e named allowed = on w _ i e tt (up w allowed)
 named_given w (Opens (event.Recall f)) i e named allowed = on w _ i e tt (up_for w (of_file w f) allowed)
 named_given w (Opens (event.Revoke f)) i e named allowed = on w _ i e tt (up_for w (of_file w f) allowed)

@@ -1,13 +1,13 @@
 -- What each step of the server sends goes to objects of files, and isn't past them; nor is what jobs await.
-use Rattle.std.proofs.Common.{◌≡◌, ℕ, ◌+◌, ◌≤◌, ◌⊎◌, List, [], ◌∷◌, length, flat_map, Option, Some, None, refl, sym, ap, subst, ◌∙◌, arith, inl, inr}
+use Rattle.std.proofs.Common.{◌≡◌, ℕ, ◌+◌, ◌≤◌, ◌⊎◌, List, [], ◌∷◌, length, flat_map, Option, Some, None, refl, sym, ap, subst, ◌∙◌, arith, inl, inr, Bool}
 use Rattle.data_map.specs.declared.check.RawMap.{RawMap}
 use Rattle.server_rules.specs.Laws.{In}
 use Rattle.server_rules.specs.Files.{Step, still, begins, at_file, file_at, to_drives}
 use Rattle.server_rules.specs.Messages.{awaited_by, on_message, counters_have_room}
 use Rattle.server_rules.specs.Openings.{crashed_file, reopen}
 use Rattle.server_rules.specs.Jobs.{making}
-use Rattle.server_rules.specs.Making.{components_on, refusal, places, unmade, with_file, makes_file, unless_refused, create_file}
-use Rattle.server_rules.specs.History.{Input, Hears, Makes, Obeys, Adds, Formats, Resends, Crashes, Opens, step, unless_made}
+use Rattle.server_rules.specs.Making.{components_on, refusal, drives_for, unmade, with_file, makes_file, unless_refused, create_file}
+use Rattle.server_rules.specs.History.{Input, Hears, Makes, Obeys, Adds, Zones, Formats, Resends, Crashes, Opens, step, unless_made}
 use Rattle.server_rules.proofs.FileLaws.{not_there}
 use Rattle.server_rules.proofs.Members.{in_either, in_mapped}
 use Rattle.job_law.specs.Names.{Command, ToDrive, Server, File, Drive, Refusal}
@@ -21,10 +21,10 @@ use Rattle.sent_law.proofs.PhaseSteps.{opened_each, round_keeps, obeyed, heard_m
 -- ---- making, crashing, opening
 
 -- a file that isn't made yet has numbers of its own
-new_fine : (s : Server) (number : ℕ) (m : RawMap) (tag : ℕ) (ds : List ℕ) (owner : ℕ → ℕ)
+new_fine : (s : Server) (number : ℕ) (m : RawMap) (tag : ℕ) (zoned : Bool) (ds : List ℕ) (owner : ℕ → ℕ)
     → IsFine (with_owner owner s.next_object number) (s.next_object + length (components_on ds s.next_object))
-    (unmade s number m tag ds)
-new_fine s number m tag ds owner = record {
+    (unmade s number m tag zoned ds)
+new_fine s number m tag zoned ds owner = record {
   owned = record {
     components = λ o i.
         let r = in_new ds s.next_object o i in (r.1, owner_from owner s.next_object number o r.0);
@@ -37,21 +37,21 @@ new_fine s number m tag ds owner = record {
 }
 
 -- the server with the file
-with_fine : (s : Server) (number : ℕ) (m : RawMap) (tag : ℕ) (ds : List ℕ) (owner : ℕ → ℕ) → AreFine owner s
-    → AreFine (with_owner owner s.next_object number) (with_file s (unmade s number m tag ds))
-with_fine s number m tag ds owner own x i = elim (in_add s.files (unmade s number m tag ds) x i) [
+with_fine : (s : Server) (number : ℕ) (m : RawMap) (tag : ℕ) (zoned : Bool) (ds : List ℕ) (owner : ℕ → ℕ) → AreFine owner s
+    → AreFine (with_owner owner s.next_object number) (with_file s (unmade s number m tag zoned ds))
+with_fine s number m tag zoned ds owner own x i = elim (in_add s.files (unmade s number m tag zoned ds) x i) [
   | inl same ↦
       subst (IsFine (with_owner owner s.next_object number) (s.next_object + length (components_on ds
-      s.next_object))) (sym same) (new_fine s number m tag ds owner)
+      s.next_object))) (sym same) (new_fine s number m tag zoned ds owner)
   | inr j ↦
       fine_later owner (with_owner owner s.next_object number) s.next_object _ x
       (λ o less. owner_below owner s.next_object number o less) (omega arith) (own x j)
 ]
 
-made : (s : Server) (number : ℕ) (m : RawMap) (tag : ℕ) (ds : List ℕ)
-    → Steps (with_file s (unmade s number m tag ds)) (makes_file s (unmade s number m tag ds))
-made s number m tag ds =
-    let f : File = unmade s number m tag ds in
+made : (s : Server) (number : ℕ) (m : RawMap) (tag : ℕ) (zoned : Bool) (ds : List ℕ)
+    → Steps (with_file s (unmade s number m tag zoned ds)) (makes_file s (unmade s number m tag zoned ds))
+made s number m tag zoned ds =
+    let f : File = unmade s number m tag zoned ds in
     let t : Server = with_file s f in
     goes_at t number f (making (at_file t [] f)) (makes_file s f) (add_there s.files f) refl refl (λ e. refl)
     (λ drive c i. i) (λ o h.
@@ -80,12 +80,12 @@ plain owner s t own k =
       sent = x.sent;
     }
 
-goes_made : (owner : ℕ → ℕ) (s : Server) (number : ℕ) (m : RawMap) (tag : ℕ) (ds : List ℕ) → AreFine owner s
-    → file_at s.files number ≡ None → Goes owner s (makes_file s (unmade s number m tag ds))
-goes_made owner s number m tag ds own none =
-    let f : File = unmade s number m tag ds in
+goes_made : (owner : ℕ → ℕ) (s : Server) (number : ℕ) (m : RawMap) (tag : ℕ) (zoned : Bool) (ds : List ℕ) → AreFine owner s
+    → file_at s.files number ≡ None → Goes owner s (makes_file s (unmade s number m tag zoned ds))
+goes_made owner s number m tag zoned ds own none =
+    let f : File = unmade s number m tag zoned ds in
     let mid = with_owner owner s.next_object number in
-    let x = (made s number m tag ds).keeps mid (with_fine s number m tag ds owner own) in
+    let x = (made s number m tag zoned ds).keeps mid (with_fine s number m tag zoned ds owner own) in
     record {
       later = x.later;
       agree = λ o less.
@@ -103,11 +103,11 @@ goes_made owner s number m tag ds own none =
       sent = x.sent;
     }
 
-unless : (owner : ℕ → ℕ) (s : Server) (number : ℕ) (m : RawMap) (tag : ℕ) (ds : List ℕ) (r : Option Refusal)
-    → refusal s number m ≡ r → AreFine owner s
-    → Goes owner s (unless_made s (unless_refused r (makes_file s (unmade s number m tag ds))))
-unless owner s number m tag ds None e own = goes_made owner s number m tag ds own (not_there s number m e)
-unless owner s number m tag ds (Some why) e own = plain owner s (still s) own (stays s)
+unless : (owner : ℕ → ℕ) (s : Server) (number : ℕ) (m : RawMap) (tag : ℕ) (zoned : Bool) (ds : List ℕ) (r : Option Refusal)
+    → refusal s number m zoned ≡ r → AreFine owner s
+    → Goes owner s (unless_made s (unless_refused r (makes_file s (unmade s number m tag zoned ds))))
+unless owner s number m tag zoned ds None e own = goes_made owner s number m tag zoned ds own (not_there s number m zoned e)
+unless owner s number m tag zoned ds (Some why) e own = plain owner s (still s) own (stays s)
 
 crashed : (s : Server) (chosen : List ℕ) → Steps s (step s chosen Crashes)
 crashed s chosen = record {
@@ -158,10 +158,12 @@ pub step_goes : (owner : ℕ → ℕ) (s : Server) (chosen : List ℕ) (i : Inpu
 unfolding on_message create_file reopen
 step_goes owner s chosen (Hears now from m) own =
     plain owner s _ own (either_step s (counters_have_room s) _ _ (heard_message s now chosen from m) (stays s))
-step_goes owner s chosen (Makes n m tag) own =
-    unless owner s n m tag (places s.drives m.comps chosen) (refusal s n m) refl own
+step_goes owner s chosen (Makes n m tag zoned) own =
+    unless owner s n m tag zoned (drives_for zoned s.drives m chosen) (refusal s n m zoned) refl own
 step_goes owner s chosen (Obeys kind n) own = plain owner s _ own (obeyed s chosen kind n)
 step_goes owner s chosen (Adds d) own =
+    plain owner s _ own (idle s _ refl refl (λ o h drive c i. absurd i))
+step_goes owner s chosen (Zones d zone) own =
     plain owner s _ own (idle s _ refl refl (λ o h drive c i. absurd i))
 step_goes owner s chosen (Formats n) own =
     plain owner s _ own (idle s _ refl refl (λ o h drive c i. absurd i))

@@ -16,8 +16,8 @@ use Rattle.server_rules.specs.Orders.{Ordered, begins_job, starts, recalls_on, d
 use Rattle.server_rules.specs.Openings.{crashed_file, opens, opens_each, reopen}
 use Rattle.server_rules.specs.Rounds.{Round, step_round}
 use Rattle.server_rules.specs.Jobs.{declares, fence_begins, making}
-use Rattle.server_rules.specs.Making.{components_on, refusal, places, unmade, with_file, makes_file, unless_refused, create_file}
-use Rattle.server_rules.specs.History.{Input, Hears, Makes, Obeys, Adds, Formats, Resends, Crashes, Opens, step, unless_made}
+use Rattle.server_rules.specs.Making.{components_on, refusal, drives_for, unmade, with_file, makes_file, unless_refused, create_file}
+use Rattle.server_rules.specs.History.{Input, Hears, Makes, Obeys, Adds, Zones, Formats, Resends, Crashes, Opens, step, unless_made}
 use Rattle.server_rules.proofs.Members.{in_mapped}
 use Rattle.job_law.specs.Names.{Server, File, Target, Drive, Job, JobKind, Revoking, Rebuilding, Auditing, Effects, Reply, ClientRequest, Awaited, Refusal, OrderKind, ToRecall, ToRevoke, ToDeclare, ToRebuild, ToAudit, Busy, Spent}
 use Rattle.job_law.proofs.Files.{found_file, in_put, in_add, add_there}
@@ -369,10 +369,10 @@ heard_message s now chosen from m = stays s
 -- ---- making, crashing, opening
 
 -- a file that isn't made yet has numbers of its own
-new_owned : (s : Server) (number : ℕ) (m : RawMap) (tag : ℕ) (ds : List ℕ) (owner : ℕ → ℕ)
+new_owned : (s : Server) (number : ℕ) (m : RawMap) (tag : ℕ) (zoned : Bool) (ds : List ℕ) (owner : ℕ → ℕ)
     → IsOwned (with_owner owner s.next_object number) (s.next_object + length (components_on ds s.next_object))
-    (unmade s number m tag ds)
-new_owned s number m tag ds owner = record {
+    (unmade s number m tag zoned ds)
+new_owned s number m tag zoned ds owner = record {
   components = λ o i.
       let r = in_new ds s.next_object o i in (r.1, owner_from owner s.next_object number o r.0);
   target = λ t e. absurd (cc e);
@@ -381,16 +381,16 @@ new_owned s number m tag ds owner = record {
 }
 
 -- the server with the file
-with_keeps : (s : Server) (number : ℕ) (m : RawMap) (tag : ℕ) (ds : List ℕ) (owner : ℕ → ℕ) → AreOwned owner s
-    → Keeps owner s (with_file s (unmade s number m tag ds))
-with_keeps s number m tag ds owner own = record {
+with_keeps : (s : Server) (number : ℕ) (m : RawMap) (tag : ℕ) (zoned : Bool) (ds : List ℕ) (owner : ℕ → ℕ) → AreOwned owner s
+    → Keeps owner s (with_file s (unmade s number m tag zoned ds))
+with_keeps s number m tag zoned ds owner own = record {
   later = with_owner owner s.next_object number;
   agree = λ o less. owner_below owner s.next_object number o less;
   rises = omega arith;
-  owned = λ x i. elim (in_add s.files (unmade s number m tag ds) x i) [
+  owned = λ x i. elim (in_add s.files (unmade s number m tag zoned ds) x i) [
     | inl same ↦
         subst (IsOwned (with_owner owner s.next_object number) (s.next_object + length (components_on ds
-        s.next_object))) (sym same) (new_owned s number m tag ds owner)
+        s.next_object))) (sym same) (new_owned s number m tag zoned ds owner)
     | inr j ↦
         owned_later owner (with_owner owner s.next_object number) s.next_object _ x
         (λ o less. owner_below owner s.next_object number o less) (omega arith) (own x j)
@@ -406,10 +406,10 @@ keeps_then owner s t u k l = record {
   owned = l.owned;
 }
 
-made : (s : Server) (number : ℕ) (m : RawMap) (tag : ℕ) (ds : List ℕ)
-    → Steps s (makes_file s (unmade s number m tag ds))
-made s number m tag ds =
-    let f : File = unmade s number m tag ds in
+made : (s : Server) (number : ℕ) (m : RawMap) (tag : ℕ) (zoned : Bool) (ds : List ℕ)
+    → Steps s (makes_file s (unmade s number m tag zoned ds))
+made s number m tag zoned ds =
+    let f : File = unmade s number m tag zoned ds in
     let t : Server = with_file s f in
     let goes : Steps t (makes_file s f) =
     goes_at t number f (making (at_file t [] f)) (makes_file s f) (add_there s.files f) refl refl (λ o h.
@@ -417,14 +417,14 @@ made s number m tag ds =
     (begun t [] f o h).0) in
     record {
       keeps = λ owner own.
-          let k = with_keeps s number m tag ds owner own in
+          let k = with_keeps s number m tag zoned ds owner own in
           keeps_then owner s t (makes_file s f).state k (goes.keeps k.later k.owned);
     }
 
-unless : (s : Server) (number : ℕ) (m : RawMap) (tag : ℕ) (ds : List ℕ) (r : Option Refusal)
-    → Steps s (unless_made s (unless_refused r (makes_file s (unmade s number m tag ds))))
-unless s number m tag ds None = made s number m tag ds
-unless s number m tag ds (Some why) = stays s
+unless : (s : Server) (number : ℕ) (m : RawMap) (tag : ℕ) (zoned : Bool) (ds : List ℕ) (r : Option Refusal)
+    → Steps s (unless_made s (unless_refused r (makes_file s (unmade s number m tag zoned ds))))
+unless s number m tag zoned ds None = made s number m tag zoned ds
+unless s number m tag zoned ds (Some why) = stays s
 
 crashed : (s : Server) (chosen : List ℕ) → Steps s (step s chosen Crashes)
 crashed s chosen = record {
@@ -450,9 +450,10 @@ pub step_owns : (s : Server) (chosen : List ℕ) (i : Input) → Steps s (step s
 unfolding on_message create_file reopen
 step_owns s chosen (Hears now from m) =
     either_step s (counters_have_room s) _ _ (heard_message s now chosen from m) (stays s)
-step_owns s chosen (Makes n m tag) = unless s n m tag (places s.drives m.comps chosen) (refusal s n m)
+step_owns s chosen (Makes n m tag zoned) = unless s n m tag zoned (drives_for zoned s.drives m chosen) (refusal s n m zoned)
 step_owns s chosen (Obeys kind n) = obeyed s chosen kind n
 step_owns s chosen (Adds d) = idle s _ refl (λ f i. i)
+step_owns s chosen (Zones d zone) = idle s _ refl (λ f i. i)
 step_owns s chosen (Formats n) = idle s _ refl (λ f i. i)
 step_owns s chosen Resends = idle s _ refl (λ f i. i)
 step_owns s chosen Crashes = crashed s chosen

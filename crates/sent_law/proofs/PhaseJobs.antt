@@ -5,7 +5,8 @@ use Rattle.server_rules.specs.declared.limits.TheConstants.{GREATEST_TAG}
 use Rattle.server_rules.specs.Columns.{end_of}
 use Rattle.server_rules.specs.Laws.{In}
 use Rattle.server_rules.specs.Going.{Going, over, noting, noting_if, keeping, with_components, rests, rests_or}
-use Rattle.server_rules.specs.Standing.{any_on, lose_on, lose_from, free_drives}
+use Rattle.server_rules.specs.Standing.{any_on, lose_on, lose_from}
+use Rattle.server_rules.specs.Zoning.{takers}
 use Rattle.server_rules.specs.Audit.{audits, audit_begins}
 use Rattle.server_rules.specs.Rebuild.{picked, target_on, target_for, makes_or, rebuilds, stands_at, sources, to_fill, fills, filling, target_gone, target_full}
 use Rattle.server_rules.specs.Repair.{after_repair, mended, repairs, storing, stored, repair_begins}
@@ -112,7 +113,7 @@ module _ (P : ℕ → Type 0) (number n : ℕ) (fresh : (o : ℕ) → n ≤ o �
       → t.object ≡ g.effects.object
   unfolding target_for
   aims_at g at k t e = elim (cases_Bool at.missing) [
-    | inl m ↦ target_object g k (picked g.chosen (free_drives g.drives g.file.kept.components)) t (rw m at e)
+    | inl m ↦ target_object g k (picked g.chosen (takers g.drives g.file.kept k)) t (rw m at e)
     | inr p ↦ absurd (cc (rw p at e))
   ]
 

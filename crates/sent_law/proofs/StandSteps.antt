@@ -7,10 +7,10 @@ use Rattle.osd_lists.specs.declared.node.Node.TheVariants.{Server as FromServer,
 use Rattle.server_rules.specs.declared.limits.TheConstants.{GREATEST_TAG, MAX_CLIENT}
 use Rattle.server_rules.specs.Files.{Step, still, begins, file_at, put_file, add_file, at_file}
 use Rattle.server_rules.specs.Going.{Going}
-use Rattle.server_rules.specs.History.{Input, Hears, Makes, Obeys, Adds, Formats, Resends, Crashes, Opens, step, unless_made}
+use Rattle.server_rules.specs.History.{Input, Hears, Makes, Obeys, Adds, Zones, Formats, Resends, Crashes, Opens, step, unless_made}
 use Rattle.server_rules.specs.Jobs.{making, declares}
 use Rattle.server_rules.specs.Laws.{In}
-use Rattle.server_rules.specs.Making.{refusal, places, unmade, with_file, makes_file, unless_refused, create_file}
+use Rattle.server_rules.specs.Making.{refusal, drives_for, unmade, with_file, makes_file, unless_refused, create_file}
 use Rattle.server_rules.specs.Messages.{Message, Asks, Replies, Orders, awaited_by, counters_have_room, or_else, heard_at, by_heard, on_drive_reply, handled, on_message}
 use Rattle.server_rules.specs.Orders.{Ordered, begins_job, starts, recalls_on, declares_each, offline, declare, declares_known, ordered}
 use Rattle.server_rules.specs.Replies.{answers, hearing, heard_by, heard_in, on_reply}
@@ -233,14 +233,14 @@ module _ (R : Reached) where
 
   -- ---- a file is made
 
-  unless : (s : Server) (number : ℕ) (m : RawMap) (tag : ℕ) (ds : List ℕ) (r : Option Refusal)
-      → refusal s number m ≡ r → AllEnd s.files
-      → AllEnd (unless_made s (unless_refused r (makes_file s (unmade s number m tag ds)))).state.files
-  unless s number m tag ds (Some why) e h x i = h x i
-  unless s number m tag ds None e h x i =
-      let f : File = unmade s number m tag ds in
+  unless : (s : Server) (number : ℕ) (m : RawMap) (tag : ℕ) (zoned : Bool) (ds : List ℕ) (r : Option Refusal)
+      → refusal s number m zoned ≡ r → AllEnd s.files
+      → AllEnd (unless_made s (unless_refused r (makes_file s (unmade s number m tag zoned ds)))).state.files
+  unless s number m tag zoned ds (Some why) e h x i = h x i
+  unless s number m tag zoned ds None e h x i =
+      let f : File = unmade s number m tag zoned ds in
       let g : Going = making (at_file (with_file s f) [] f) in
-      elim (in_made s.files f g.file x (not_there s number m e) i) [
+      elim (in_made s.files f g.file x (not_there s number m zoned e) i) [
         | inl same ↦ subst (FileEnds R) (sym same) (ends_making R (at_file (with_file s f) [] f) ((refl, refl, refl), refl))
         | inr j ↦ h x j
       ]
@@ -251,10 +251,11 @@ module _ (R : Reached) where
       → IsHeardTruly R s i → AreMadeTruly R s i → AllEnd s.files → AllEnd (step s chosen i).state.files
   unfolding create_file
   step_ends s chosen (Hears now from m) turn up heard made h = message_ends s now chosen from m heard made h
-  step_ends s chosen (Makes n m tag) turn up heard made h =
-      unless s n m tag (places s.drives m.comps chosen) (refusal s n m) refl h
+  step_ends s chosen (Makes n m tag zoned) turn up heard made h =
+      unless s n m tag zoned (drives_for zoned s.drives m chosen) (refusal s n m zoned) refl h
   step_ends s chosen (Obeys kind n) turn up heard made h = obeyed s chosen kind n h
   step_ends s chosen (Adds d) turn up heard made h = h
+  step_ends s chosen (Zones d zone) turn up heard made h = h
   step_ends s chosen (Formats n) turn up heard made h = h
   step_ends s chosen Resends turn up heard made h = h
   step_ends s chosen Crashes turn up heard made h = absurd (cc up)

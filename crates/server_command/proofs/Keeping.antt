@@ -126,12 +126,12 @@ unrefused : (o : Option Refusal) (made step : Step) → unless_refused o made �
 unrefused None made step e = cc e
 unrefused (Some r) made step e = absurd (cc e)
 
-created_keeps : (s : Server) (number : ℕ) (map : RawMap) (tag : ℕ) (chosen : List ℕ) (step : Step) → create_file s number map tag chosen ≡ Ok step
+created_keeps : (s : Server) (number : ℕ) (map : RawMap) (tag : ℕ) (chosen : List ℕ) (step : Step) → create_file s number map tag false chosen ≡ Ok step
     → KeepsBut number s step.state
 unfolding create_file
 created_keeps s number map tag chosen step e =
-    let f : File = unmade s number map tag (places s.drives map.comps chosen) in
-    subst (λ (x : Step). KeepsBut number s x.state) (unrefused (refusal s number map) (makes_file s f) step e) (makes_keeps s f)
+    let f : File = unmade s number map tag false (places s.drives map.comps chosen) in
+    subst (λ (x : Step). KeepsBut number s x.state) (unrefused (refusal s number map false) (makes_file s f) step e) (makes_keeps s f)
 
 file_keeps : (file : ClusterFile) (s t : Serving) → MakesFile file s t → KeepsBut file.number s.server t.server
 file_keeps file s t h =

@@ -138,12 +138,12 @@ checked_as m h few =
     let c = checked_is m h in rw (c.0, few_enough m.comps 64 few) c.1
 
 unrefused : (s : Server) (number : ℕ) (m : RawMap) (n : ℕ) → file_at s.files number ≡ None → length (online s.drives) ≡ n → is_good_map n m ≡ true
-    → refusal s number m ≡ None
+    → refusal s number m false ≡ None
 unfolding refusal
 unrefused s number m n none drives good =
     let a = and_parts (is_ok (checked m) && nat_le m.comps 64) (nat_le m.comps n) good in
     let b = and_parts (is_ok (checked m)) (nat_le m.comps 64) a.0 in
-    rw (none, drives, checked_as m b.0 b.1, few_enough m.comps n a.1) refl
+    rw (none, checked_as m b.0 b.1, drives, few_enough m.comps n a.1) refl
 
 unrepeated : (done : List ClusterFile) (next : ClusterFile) (left : List ClusterFile) → repeats (map (λ f. f.number) (done ++ next ∷ left)) ≡ false
     → has_file done next.number ≡ false
@@ -173,7 +173,7 @@ none_refused c first ends sound drives files r =
     let many : length (online (r.before).server.drives) ≡ length c.drives = ap (λ (ds : List Drive). length (online ds)) kept.drives ∙ drives in
     go (unrefused (r.before).server (r.next).number (r.next).map (length c.drives) none many maps.0) maps.1 r.stops
   where
-    go : refusal (r.before).server (r.next).number (r.next).map ≡ None → HasAlgorithm (r.next).map → RefusesFile r.next (r.before).server → ⊥
+    go : refusal (r.before).server (r.next).number (r.next).map false ≡ None → HasAlgorithm (r.next).map → RefusesFile r.next (r.before).server → ⊥
     go none algorithm (inl some) = cc (sym none ∙ some.1)
     go none algorithm (inr without) = without algorithm
 

@@ -1,7 +1,7 @@
 -- The server of a cluster before it makes a file: it knows the cluster's drives.
 use Rattle.std.specs.Prelude.{◌≡◌, ℕ, Bool, true, List, [], ◌∷◌, nat_eq, nat_le, Option, Some, None, Result, Ok, Err, ⊤, if◌then◌else◌}
 use Rattle.std.specs.List.{list_any}
-use Rattle.stripe_repair.specs.declared.loads.TheConstants.{MAX_DRIVES}
+use Rattle.zone_place.specs.declared.loads.TheConstants.{MAX_DRIVES}
 use Rattle.cluster_text.specs.declared.cluster.Cluster.{Cluster}
 use Rattle.cluster_text.specs.declared.cluster.ClusterDrive.{ClusterDrive}
 use Rattle.cluster_text.specs.declared.errors.ClusterKind.{ClusterKind}
@@ -22,7 +22,7 @@ has_number ds number = list_any (λ d. nat_eq d.number number) ds
 
 -- a drive of the cluster with its key, as the server has it
 abbrev pub drive_with : ClusterDrive → (key : List ℕ) → Drive
-drive_with d key = record { number = d.number; key = key; capacity = d.capacity; online = true }
+drive_with d key = record { number = d.number; key = key; capacity = d.capacity; online = true; zone = None }
 
 abbrev pub with_key : Server → ClusterDrive → (key : Option (List ℕ)) → Known
 with_key s d None = Err Missing

@@ -1,5 +1,5 @@
 -- How the server of a cluster makes its files, and where it stops.
-use Rattle.std.specs.Prelude.{◌≡◌, ◌⊎◌, ℕ, true, List, [], ◌∷◌, ◌++◌, Option, Some, None, Ok, ⊤}
+use Rattle.std.specs.Prelude.{◌≡◌, ◌⊎◌, ℕ, true, false, List, [], ◌∷◌, ◌++◌, Option, Some, None, Ok, ⊤}
 use Rattle.osd_bytes.specs.Connections.{after_notes}
 use Rattle.osd_lists.specs.declared.node.Node.{Node}
 use Rattle.osd_lists.specs.declared.node.Node.TheVariants.{Server as TheServer, Drive, Client}
@@ -86,7 +86,7 @@ LosesAll s server ends =
 pub record Begins (file : ClusterFile) (s t : Serving) : Type 0 where
   pub chosen : List ℕ
   pub step : Step
-  pub is : create_file s.server file.number file.map FIRST_TAG chosen ≡ Ok step
+  pub is : create_file s.server file.number file.map FIRST_TAG false chosen ≡ Ok step
   pub begun : t ≡ record s {
     server = step.state;
     waiting = all_sent step.sends;
@@ -103,7 +103,7 @@ LosesFile file s server ends = (u : Serving) × Begins file s u × LosesAll u se
 -- the server refuses the file, or its map has no algorithm
 abbrev pub RefusesFile : ClusterFile → Server → Type 0
 RefusesFile file server =
-    ((r : Refusal) × (refusal server file.number file.map ≡ Some r)) ⊎ (HasAlgorithm file.map → ⊥)
+    ((r : Refusal) × (refusal server file.number file.map false ≡ Some r)) ⊎ (HasAlgorithm file.map → ⊥)
 
 -- one after the other
 abbrev pub MakesFiles : List ClusterFile → (s t : Serving) → Type 0

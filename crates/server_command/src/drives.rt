@@ -6,7 +6,7 @@ use cluster_text::{Cluster, ClusterDrive, ClusterKind, CommandStop};
 use layout_server::{DriveInfo, DriveTable, ServerCore};
 use server_rules::Drive;
 use std::alloc::Global;
-use stripe_repair::MAX_DRIVES;
+use zone_place::MAX_DRIVES;
 
 fn has_number(drives: &[Drive], number: u32) -> bool
     ensures { result ≡ has_number drives.now number }

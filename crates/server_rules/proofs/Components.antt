@@ -1,12 +1,8 @@
 -- How many components a file has, whatever is lost.
-use Rattle.std.proofs.Common.{◌≡◌, ◌≤◌, ◌==◌, ◌&&◌, ℕ, suc, ◌+◌, List, [], ◌∷◌, length, map, refl, ap, arith, inl, inr}
-use Rattle.std.proofs.lemmas.Bool.{cases_Bool}
-use Rattle.std.proofs.lemmas.Bool.Decides.{nat_tests}
-use Rattle.osd_lists.proofs.Slices.{length_taken}
+use Rattle.std.proofs.Common.{◌≡◌, ℕ, suc, ◌+◌, List, [], ◌∷◌, length, refl, ap, arith}
 use Rattle.server_rules.specs.declared.files.Component.{Component}
-use Rattle.server_rules.specs.declared.server.Drive.{Drive}
 use Rattle.server_rules.specs.Standing.{lose_from, lose_on}
-use Rattle.server_rules.specs.Making.{components_on, are_of, online, places}
+use Rattle.server_rules.specs.Making.{components_on}
 
 pub length_lost : (ks : List ℕ) (cs : List Component) (k : ℕ) → length (lose_from ks cs k) ≡ length cs
 unfolding lose_from
@@ -22,10 +18,3 @@ pub length_components : (ds : List ℕ) (object : ℕ) → length (components_on
 unfolding components_on
 length_components [] object = refl
 length_components (d ∷ ds) object = ap (λ (n : ℕ). suc n) (length_components ds (object + 1))
-
-pub length_placed : (ds : List Drive) (count : ℕ) (chosen : List ℕ) → length (places ds count chosen) ≤ count
-unfolding places
-length_placed ds count chosen = elim (cases_Bool ((length chosen == count) && are_of (online ds) chosen)) [
-  | inl t ↦ rw t (grind (arith, nat_tests, t))
-  | inr z ↦ rw z (length_taken count (map (λ (d : Drive). d.number) (online ds)))
-]

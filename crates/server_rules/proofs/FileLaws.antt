@@ -1,6 +1,6 @@
 -- The list of files.
 use Rattle.std.specs.Prelude.{ℕ, false, List, [], ◌∷◌, Some, refl, ◌≡◌, ◌==◌, nat_lt}
-use Rattle.std.proofs.Common.{arith, inl, inr, eq-eqb, subst, sym, None, is_some}
+use Rattle.std.proofs.Common.{arith, inl, inr, eq-eqb, subst, sym, None, is_some, Bool}
 use Rattle.std.proofs.lemmas.Bool.{cases_Bool}
 use Rattle.std.proofs.lemmas.Bool.Decides.{nat_tests}
 use Rattle.osd_lists.proofs.Options.{none_there}
@@ -105,9 +105,9 @@ file_in (g ∷ fs) n f e = elim (cases_Bool (g.kept.number == n)) [
 ]
 
 -- a number under which a file may be made is no file's
-pub not_there : (s : Server) (n : ℕ) (m : RawMap) → refusal s n m ≡ None → file_at s.files n ≡ None
+pub not_there : (s : Server) (n : ℕ) (m : RawMap) (zoned : Bool) → refusal s n m zoned ≡ None → file_at s.files n ≡ None
 unfolding refusal
-not_there s n m e = elim (cases_Bool (is_some (file_at s.files n))) [
+not_there s n m zoned e = elim (cases_Bool (is_some (file_at s.files n))) [
   | inl t ↦ absurd (cc (rw t at e))
   | inr z ↦ none_there (file_at s.files n) z
 ]

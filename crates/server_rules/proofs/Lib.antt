@@ -1,5 +1,7 @@
 pub mod Members
 pub mod Components
+pub mod Zoned
+pub mod Placed
 pub mod Runs
 pub mod GrantLaws
 pub mod FileLaws
@@ -25,3 +27,4 @@ mod RowsRepair
 mod RowsRestart
 mod RowsSpent
 mod RowsTwoLost
+mod RowsZones

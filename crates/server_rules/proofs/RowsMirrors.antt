@@ -13,7 +13,7 @@
 -- deliver 10
 -- revoke f0
 -- settle
-use Rattle.std.specs.Prelude.{List, [], ◌∷◌, refl, ◌≡◌, Some, true}
+use Rattle.std.specs.Prelude.{List, [], ◌∷◌, refl, ◌≡◌, Some, true, None, false}
 use Rattle.osd_commands.specs.declared.actions.Action.TheVariants.{Create, Read, SetTag}
 use Rattle.layout_ops.specs.declared.statuses.TheConstants.{NFS4ERR_BADLAYOUT}
 use Rattle.server_rules.specs.State.{Server, RawMap, Fenced, Ready, Repaired, Commit, Get, ToRevoke}
@@ -27,11 +27,11 @@ abbrev striping : RawMap
 striping = record { comps = 4; unit = 2; width = 0; depth = 0; mirrors = 1; algorithm = 1 }
 
 abbrev first : Server
-first = new_server ((record { number = 0; key = []; capacity = 20000; online = true }) ∷ (record { number = 1; key = []; capacity = 20000; online = true }) ∷ (record { number = 2; key = []; capacity = 20000; online = true }) ∷ (record { number = 3; key = []; capacity = 20000; online = true }) ∷ [])
+first = new_server ((record { number = 0; key = []; capacity = 20000; online = true; zone = None }) ∷ (record { number = 1; key = []; capacity = 20000; online = true; zone = None }) ∷ (record { number = 2; key = []; capacity = 20000; online = true; zone = None }) ∷ (record { number = 3; key = []; capacity = 20000; online = true; zone = None }) ∷ [])
 
 abbrev events : List Event
 events =
-    placing (0 ∷ 1 ∷ 2 ∷ 3 ∷ []) (on (Makes 0 striping 1) [] (creates 0 65536 1 1 1 (label striping 0 0) ∷ creates 1 65537 1 1 2 (label striping 0 1) ∷ creates 2 65538 1 1 3 (label striping 0 2) ∷ creates 3 65539 1 1 4 (label striping 0 3) ∷ [])) ∷
+    placing (0 ∷ 1 ∷ 2 ∷ 3 ∷ []) (on (Makes 0 striping 1 false) [] (creates 0 65536 1 1 1 (label striping 0 0) ∷ creates 1 65537 1 1 2 (label striping 0 1) ∷ creates 2 65538 1 1 3 (label striping 0 2) ∷ creates 3 65539 1 1 4 (label striping 0 3) ∷ [])) ∷
     on (performed 0 Create 65536 1 0 []) [] [] ∷
     on (performed 1 Create 65537 2 0 []) [] [] ∷
     on (performed 2 Create 65538 3 0 []) [] [] ∷

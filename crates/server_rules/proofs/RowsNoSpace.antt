@@ -12,7 +12,7 @@
 -- stop c0
 -- revoke f0
 -- settle
-use Rattle.std.specs.Prelude.{List, [], ◌∷◌, refl, ◌≡◌, true}
+use Rattle.std.specs.Prelude.{List, [], ◌∷◌, refl, ◌≡◌, true, None, false}
 use Rattle.osd_commands.specs.declared.actions.Action.TheVariants.{Create, Read, SetTag, Write}
 use Rattle.server_rules.specs.declared.limits.TheConstants.{NO_SPACE}
 use Rattle.server_rules.specs.State.{Server, RawMap, Fenced, NoSpace, Ready, Repaired, Get, ToRevoke}
@@ -26,11 +26,11 @@ abbrev striping : RawMap
 striping = record { comps = 3; unit = 2; width = 0; depth = 0; mirrors = 0; algorithm = 3 }
 
 abbrev first : Server
-first = new_server ((record { number = 0; key = []; capacity = 20000; online = true }) ∷ (record { number = 1; key = []; capacity = 20000; online = true }) ∷ (record { number = 2; key = []; capacity = 1; online = true }) ∷ [])
+first = new_server ((record { number = 0; key = []; capacity = 20000; online = true; zone = None }) ∷ (record { number = 1; key = []; capacity = 20000; online = true; zone = None }) ∷ (record { number = 2; key = []; capacity = 1; online = true; zone = None }) ∷ [])
 
 abbrev events : List Event
 events =
-    placing (0 ∷ 1 ∷ 2 ∷ []) (on (Makes 0 striping 1) [] (creates 0 65536 1 1 1 (label striping 0 0) ∷ creates 1 65537 1 1 2 (label striping 0 1) ∷ creates 2 65538 1 1 3 (label striping 0 2) ∷ [])) ∷
+    placing (0 ∷ 1 ∷ 2 ∷ []) (on (Makes 0 striping 1 false) [] (creates 0 65536 1 1 1 (label striping 0 0) ∷ creates 1 65537 1 1 2 (label striping 0 1) ∷ creates 2 65538 1 1 3 (label striping 0 2) ∷ [])) ∷
     on (performed 0 Create 65536 1 0 []) [] [] ∷
     on (performed 1 Create 65537 2 0 []) [] [] ∷
     on (performed 2 Create 65538 3 0 []) (note 0 Ready ∷ []) [] ∷

@@ -9,7 +9,7 @@
 -- revoke f0
 -- settle
 -- do c0 read f0 0 1
-use Rattle.std.specs.Prelude.{List, [], ◌∷◌, refl, ◌≡◌, Some, true, false}
+use Rattle.std.specs.Prelude.{List, [], ◌∷◌, refl, ◌≡◌, Some, true, false, None}
 use Rattle.osd_commands.specs.declared.actions.Action.TheVariants.{Create, SetTag}
 use Rattle.server_rules.specs.declared.limits.TheConstants.{OLD_FORMAT}
 use Rattle.server_rules.specs.State.{Server, RawMap, Fenced, Ready, Repaired, Commit, Get, Return, ToRevoke}
@@ -23,11 +23,11 @@ abbrev striping : RawMap
 striping = record { comps = 1; unit = 4; width = 0; depth = 0; mirrors = 0; algorithm = 1 }
 
 abbrev first : Server
-first = new_server ((record { number = 0; key = []; capacity = 20000; online = true }) ∷ [])
+first = new_server ((record { number = 0; key = []; capacity = 20000; online = true; zone = None }) ∷ [])
 
 abbrev events : List Event
 events =
-    placing (0 ∷ []) (on (Makes 0 striping 1) [] (creates 0 65536 1 1 1 (label striping 0 0) ∷ [])) ∷
+    placing (0 ∷ []) (on (Makes 0 striping 1 false) [] (creates 0 65536 1 1 1 (label striping 0 0) ∷ [])) ∷
     on (performed 0 Create 65536 1 0 []) (note 0 Ready ∷ []) [] ∷
     on (asks_at 0 0 1 0 (Get 2 0 1)) [] (answers 0 1 0 0 0 (gives_layout (record { number = 1; client = 0; writes = true; expiry = 90; tag = 1; format = 1; offset = 0; len = 4; map = striping; components = Usable 0 65536 0 4 ∷ [] })) ∷ []) ∷
     on (asks_at 0 0 2 0 (Commit (Some 0))) [] (answers 0 2 0 0 1 committed ∷ []) ∷

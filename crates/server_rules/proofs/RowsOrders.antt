@@ -1,5 +1,5 @@
 -- Orders that come as messages: a file that isn't there, a job that is refused as busy, a drive that isn't there, a recall.
-use Rattle.std.specs.Prelude.{List, [], ◌∷◌, refl, ◌≡◌, true}
+use Rattle.std.specs.Prelude.{List, [], ◌∷◌, refl, ◌≡◌, true, None, false}
 use Rattle.osd_lists.specs.declared.node.Node.TheVariants.{Server as FromServer, Client as FromClient}
 use Rattle.osd_commands.specs.declared.actions.Action.TheVariants.{Create}
 use Rattle.server_rules.specs.declared.limits.TheConstants.{EXISTS}
@@ -15,11 +15,11 @@ abbrev striping : RawMap
 striping = record { comps = 1; unit = 4; width = 0; depth = 0; mirrors = 0; algorithm = 1 }
 
 abbrev first : Server
-first = new_server (record { number = 0; key = []; capacity = 20000; online = true } ∷ [])
+first = new_server (record { number = 0; key = []; capacity = 20000; online = true; zone = None } ∷ [])
 
 abbrev events : List Event
 events =
-    placing (0 ∷ []) (on (Makes 0 striping 1) [] (creates 0 65536 1 1 1 (label striping 0 0) ∷ [])) ∷
+    placing (0 ∷ []) (on (Makes 0 striping 1 false) [] (creates 0 65536 1 1 1 (label striping 0 0) ∷ [])) ∷
     on (Hears 0 FromServer (Orders (record { order = ToRevoke; target = 0 }))) (note 0 (Busy 0) ∷ []) (answers_order ToRevoke IsBusy ∷ []) ∷
     on (replied 0 Create EXISTS 65536 1 0) (note 0 Ready ∷ []) [] ∷
     on (asks_at 0 5 1 0 (Get 2 0 1)) [] (answers 5 1 0 0 0 (gives_layout (record { number = 1; client = 5; writes = true; expiry = 90; tag = 1; format = 1; offset = 0; len = 4; map = striping; components = Usable 0 65536 0 4 ∷ [] })) ∷ []) ∷

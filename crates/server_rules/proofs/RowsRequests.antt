@@ -24,11 +24,11 @@ abbrev striping : RawMap
 striping = record { comps = 3; unit = 4; width = 0; depth = 0; mirrors = 0; algorithm = 3 }
 
 abbrev first : Server
-first = new_server ((record { number = 0; key = []; capacity = 1000; online = true }) ∷ (record { number = 1; key = []; capacity = 1000; online = true }) ∷ (record { number = 2; key = []; capacity = 1000; online = true }) ∷ [])
+first = new_server ((record { number = 0; key = []; capacity = 1000; online = true; zone = None }) ∷ (record { number = 1; key = []; capacity = 1000; online = true; zone = None }) ∷ (record { number = 2; key = []; capacity = 1000; online = true; zone = None }) ∷ [])
 
 abbrev events : List Event
 events =
-    placing (0 ∷ 1 ∷ 2 ∷ []) (on (Makes 0 striping 4294967294) [] (creates 0 65536 4294967294 1 1 (label striping 0 0) ∷ creates 1 65537 4294967294 1 2 (label striping 0 1) ∷ creates 2 65538 4294967294 1 3 (label striping 0 2) ∷ [])) ∷
+    placing (0 ∷ 1 ∷ 2 ∷ []) (on (Makes 0 striping 4294967294 false) [] (creates 0 65536 4294967294 1 1 (label striping 0 0) ∷ creates 1 65537 4294967294 1 2 (label striping 0 1) ∷ creates 2 65538 4294967294 1 3 (label striping 0 2) ∷ [])) ∷
     on (performed 0 Create 65536 1 0 []) [] [] ∷
     on (replied 1 Create EXISTS 65537 2 0) [] [] ∷
     on (asks_at 0 0 1 0 (Get 2 0 1)) [] (answers 0 1 0 2 0 (no_layout NFS4ERR_RECALLCONFLICT) ∷ []) ∷

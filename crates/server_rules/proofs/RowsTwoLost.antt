@@ -16,7 +16,7 @@
 -- drive d5 0b..0b 20000
 -- rebuild f0
 -- settle
-use Rattle.std.specs.Prelude.{List, [], ◌∷◌, refl, ◌≡◌, Some, true}
+use Rattle.std.specs.Prelude.{List, [], ◌∷◌, refl, ◌≡◌, Some, true, None, false}
 use Rattle.osd_commands.specs.declared.actions.Action.TheVariants.{Create, Read, SetTag, Write}
 use Rattle.server_rules.specs.State.{Server, RawMap, Fenced, Ready, Rebuilt, Repaired, Commit, Get, ToDeclare, ToRebuild}
 use Rattle.server_rules.specs.Commands.{label}
@@ -29,11 +29,11 @@ abbrev striping : RawMap
 striping = record { comps = 4; unit = 2; width = 0; depth = 0; mirrors = 0; algorithm = 4 }
 
 abbrev first : Server
-first = new_server ((record { number = 0; key = []; capacity = 20000; online = true }) ∷ (record { number = 1; key = []; capacity = 20000; online = true }) ∷ (record { number = 2; key = []; capacity = 20000; online = true }) ∷ (record { number = 3; key = []; capacity = 20000; online = true }) ∷ [])
+first = new_server ((record { number = 0; key = []; capacity = 20000; online = true; zone = None }) ∷ (record { number = 1; key = []; capacity = 20000; online = true; zone = None }) ∷ (record { number = 2; key = []; capacity = 20000; online = true; zone = None }) ∷ (record { number = 3; key = []; capacity = 20000; online = true; zone = None }) ∷ [])
 
 abbrev events : List Event
 events =
-    placing (0 ∷ 1 ∷ 2 ∷ 3 ∷ []) (on (Makes 0 striping 1) [] (creates 0 65536 1 1 1 (label striping 0 0) ∷ creates 1 65537 1 1 2 (label striping 0 1) ∷ creates 2 65538 1 1 3 (label striping 0 2) ∷ creates 3 65539 1 1 4 (label striping 0 3) ∷ [])) ∷
+    placing (0 ∷ 1 ∷ 2 ∷ 3 ∷ []) (on (Makes 0 striping 1 false) [] (creates 0 65536 1 1 1 (label striping 0 0) ∷ creates 1 65537 1 1 2 (label striping 0 1) ∷ creates 2 65538 1 1 3 (label striping 0 2) ∷ creates 3 65539 1 1 4 (label striping 0 3) ∷ [])) ∷
     on (performed 0 Create 65536 1 0 []) [] [] ∷
     on (performed 1 Create 65537 2 0 []) [] [] ∷
     on (performed 2 Create 65538 3 0 []) [] [] ∷
@@ -42,8 +42,8 @@ events =
     on (asks_at 0 0 2 0 (Commit (Some 3))) [] (answers 0 2 0 0 4 committed ∷ []) ∷
     on (Obeys ToDeclare 0) [] [] ∷
     on (Obeys ToDeclare 1) [] [] ∷
-    on (Adds (record { number = 4; key = []; capacity = 20000; online = true })) [] [] ∷
-    on (Adds (record { number = 5; key = []; capacity = 20000; online = true })) [] [] ∷
+    on (Adds (record { number = 4; key = []; capacity = 20000; online = true; zone = None })) [] [] ∷
+    on (Adds (record { number = 5; key = []; capacity = 20000; online = true; zone = None })) [] [] ∷
     on (Obeys ToRebuild 0) [] (raises_tag 2 65538 1 1 5 ∷ raises_tag 3 65539 1 1 6 ∷ []) ∷
     on (performed 2 SetTag 65538 5 2 []) [] [] ∷
     placing (4 ∷ []) (on (performed 3 SetTag 65539 6 2 []) (note 0 (Fenced 2) ∷ note 0 (Repaired 1 1) ∷ []) (creates 4 65540 2 1 7 (label striping 0 0) ∷ [])) ∷

@@ -14,11 +14,11 @@ use Rattle.server_rules.specs.Served.{Served}
 use Rattle.server_rules.specs.Files.{Step, file_at, at_file, to_drives}
 use Rattle.server_rules.specs.Requests.{serves, carries_out, by_admit, on_request, answer_with, answer_without}
 use Rattle.server_rules.specs.Answers.{recalls_from}
-use Rattle.server_rules.specs.Making.{refusal, unless_refused, makes_file, unmade, places, create_file}
+use Rattle.server_rules.specs.Making.{refusal, unless_refused, makes_file, unmade, drives_for, create_file}
 use Rattle.server_rules.specs.Messages.{heard_at, by_heard, on_drive_reply, Message, Asks, Replies, Orders, handled, on_message, counters_have_room}
 use Rattle.server_rules.specs.Orders.{begins_job, starts, recalls_on, declare, declares_known, ordered}
 use Rattle.server_rules.specs.Openings.{reopen}
-use Rattle.server_rules.specs.History.{Input, Hears, Makes, Obeys, Adds, Formats, Resends, Crashes, Opens, Act, step, state_after, unless_made}
+use Rattle.server_rules.specs.History.{Input, Hears, Makes, Obeys, Adds, Zones, Formats, Resends, Crashes, Opens, Act, step, state_after, unless_made}
 use Rattle.server_rules.specs.Laws.{last_of, where_new, carried_for, carried_by, carried, CountOnFrom, IsAnsweredAgain, OtherRequestsChangeNothing, RepeatsAreAnsweredAlike, RequestsAreCarriedOutInOrder}
 use Rattle.server_rules.proofs.FileLaws.{keep_same, keep_other}
 
@@ -57,14 +57,14 @@ same_ordered s chosen ToDeclare n = same_declared s chosen n (is_some (find (λ 
 same_ordered s chosen ToRebuild n = same_start s chosen Rebuilding (file_at s.files n)
 same_ordered s chosen ToAudit n = same_start s chosen Auditing (file_at s.files n)
 
-pub same_made : (s : Server) (n : ℕ) (m : RawMap) (tag : ℕ) (ds : List ℕ) (o : Option Refusal) →
-    (unless_made s (unless_refused o (makes_file s (unmade s n m tag ds)))).state.slots ≡ s.slots
-same_made s n m tag ds None = refl
-same_made s n m tag ds (Some r) = refl
+pub same_made : (s : Server) (n : ℕ) (m : RawMap) (tag : ℕ) (zoned : Bool) (ds : List ℕ) (o : Option Refusal) →
+    (unless_made s (unless_refused o (makes_file s (unmade s n m tag zoned ds)))).state.slots ≡ s.slots
+same_made s n m tag zoned ds None = refl
+same_made s n m tag zoned ds (Some r) = refl
 
-pub same_created : (s : Server) (n : ℕ) (m : RawMap) (tag : ℕ) (chosen : List ℕ) → (unless_made s (create_file s n m tag chosen)).state.slots ≡ s.slots
+pub same_created : (s : Server) (n : ℕ) (m : RawMap) (tag : ℕ) (zoned : Bool) (chosen : List ℕ) → (unless_made s (create_file s n m tag zoned chosen)).state.slots ≡ s.slots
 unfolding create_file
-same_created s n m tag chosen = same_made s n m tag (places s.drives m.comps chosen) (refusal s n m)
+same_created s n m tag zoned chosen = same_made s n m tag zoned (drives_for zoned s.drives m chosen) (refusal s n m zoned)
 
 pub same_reopened : (s : Server) → (reopen s).state.slots ≡ s.slots
 unfolding reopen
@@ -202,8 +202,9 @@ message_counts s now client chosen from m =
 
 pub step_counts : (s : Server) (client : ℕ) (chosen : List ℕ) (i : Input) → Counts s client (carried_by s client i) (step s chosen i).state
 step_counts s client chosen (Hears now from m) = message_counts s now client chosen from m
-step_counts s client chosen (Makes n m tag) = none_counts s client (step s chosen (Makes n m tag)).state (same_created s n m tag chosen)
+step_counts s client chosen (Makes n m tag zoned) = none_counts s client (step s chosen (Makes n m tag zoned)).state (same_created s n m tag zoned chosen)
 step_counts s client chosen (Obeys kind n) = none_counts s client (step s chosen (Obeys kind n)).state (same_ordered s chosen kind n)
+step_counts s client chosen (Zones d z) = none_counts s client (step s chosen (Zones d z)).state refl
 step_counts s client chosen (Adds d) = none_counts s client (step s chosen (Adds d)).state refl
 step_counts s client chosen (Formats n) = none_counts s client (step s chosen (Formats n)).state refl
 step_counts s client chosen Resends = none_counts s client s refl

@@ -12,11 +12,11 @@ use Rattle.server_rules.specs.Jobs.{making, declares, fence_begins}
 use Rattle.server_rules.specs.Replies.{on_reply}
 use Rattle.server_rules.specs.Files.{file_at, at_file}
 use Rattle.server_rules.specs.Requests.{serves, carries_out, by_admit, on_request}
-use Rattle.server_rules.specs.Making.{new_server, refusal, unless_refused, makes_file, with_file, unmade, places, create_file}
+use Rattle.server_rules.specs.Making.{new_server, refusal, unless_refused, makes_file, with_file, unmade, drives_for, create_file}
 use Rattle.server_rules.specs.Messages.{heard_at, or_else, by_heard, on_drive_reply, Message, Asks, Replies, Orders, handled, on_message, counters_have_room}
 use Rattle.server_rules.specs.Orders.{begins_job, starts, recalls_on, declares_each, declare, declares_known, ordered}
 use Rattle.server_rules.specs.Openings.{crashed_file, opens, opens_each, reopen}
-use Rattle.server_rules.specs.History.{Input, Hears, Makes, Obeys, Adds, Formats, Resends, Crashes, Opens, Act, step, state_after, unless_made}
+use Rattle.server_rules.specs.History.{Input, Hears, Makes, Obeys, Adds, Zones, Formats, Resends, Crashes, Opens, Act, step, state_after, unless_made}
 use Rattle.server_rules.specs.Laws.{IsSafe, AreSafe, Leaves, OthersStay, declares_one, tells_to_declare, goes_through_all}
 use Rattle.server_rules.proofs.GrantLaws.{apart_none}
 use Rattle.server_rules.proofs.FileLaws.{number_at, put_other, add_other, safe_at, safe_put, safe_add}
@@ -150,15 +150,15 @@ safe_message s now chosen from m h = elim (cases_Bool (counters_have_room s)) [
 
 -- ---- making and opening
 
-pub safe_made : (s : Server) (n : ℕ) (m : RawMap) (tag : ℕ) (ds : List ℕ) (o : Option Refusal) → AreSafe s.files →
-    AreSafe (unless_made s (unless_refused o (makes_file s (unmade s n m tag ds)))).state.files
-safe_made s n m tag ds (Some r) h = h
-safe_made s n m tag ds None h =
-    safe_put _ n _ (safe_add s.files _ h (record { rests = tt; apart = apart_none; alone = tt })) (leaves_new (at_file (with_file s (unmade s n m tag ds)) [] (unmade s n m tag ds)) refl).safe
+pub safe_made : (s : Server) (n : ℕ) (m : RawMap) (tag : ℕ) (zoned : Bool) (ds : List ℕ) (o : Option Refusal) → AreSafe s.files →
+    AreSafe (unless_made s (unless_refused o (makes_file s (unmade s n m tag zoned ds)))).state.files
+safe_made s n m tag zoned ds (Some r) h = h
+safe_made s n m tag zoned ds None h =
+    safe_put _ n _ (safe_add s.files _ h (record { rests = tt; apart = apart_none; alone = tt })) (leaves_new (at_file (with_file s (unmade s n m tag zoned ds)) [] (unmade s n m tag zoned ds)) refl).safe
 
-pub safe_create : (s : Server) (n : ℕ) (m : RawMap) (tag : ℕ) (chosen : List ℕ) → AreSafe s.files → AreSafe (unless_made s (create_file s n m tag chosen)).state.files
+pub safe_create : (s : Server) (n : ℕ) (m : RawMap) (tag : ℕ) (zoned : Bool) (chosen : List ℕ) → AreSafe s.files → AreSafe (unless_made s (create_file s n m tag zoned chosen)).state.files
 unfolding create_file
-safe_create s n m tag chosen h = safe_made s n m tag _ (refusal s n m) h
+safe_create s n m tag zoned chosen h = safe_made s n m tag zoned _ (refusal s n m zoned) h
 
 pub safe_crashed : (fs : List File) → AreSafe fs → AreSafe (map crashed_file fs)
 safe_crashed [] h = tt
@@ -179,9 +179,10 @@ safe_reopened s h = elim (cases_Bool (counters_have_room s)) [ inl t ↦ rw t (s
 
 pub safe_step : (s : Server) (chosen : List ℕ) (i : Input) → AreSafe s.files → AreSafe (step s chosen i).state.files
 safe_step s chosen (Hears now from m) h = safe_message s now chosen from m h
-safe_step s chosen (Makes n m tag) h = safe_create s n m tag chosen h
+safe_step s chosen (Makes n m tag zoned) h = safe_create s n m tag zoned chosen h
 safe_step s chosen (Obeys kind n) h = safe_ordered s chosen kind n h
 safe_step s chosen (Adds d) h = h
+safe_step s chosen (Zones d z) h = h
 safe_step s chosen (Formats n) h = h
 safe_step s chosen Resends h = h
 safe_step s chosen Crashes h = safe_crashed s.files h
@@ -247,22 +248,23 @@ one_message s now chosen from m h d = elim (cases_Bool (counters_have_room s)) [
   | inr z ↦ rw z (one_of_none s.files)
 ]
 
-pub one_made : (s : Server) (n : ℕ) (m : RawMap) (tag : ℕ) (ds : List ℕ) (o : Option Refusal) → One s.files (unless_made s (unless_refused o (makes_file s (unmade s n m tag ds)))).state.files
-one_made s n m tag ds (Some r) = one_of_none s.files
-one_made s n m tag ds None =
-    let f : File = unmade s n m tag ds
+pub one_made : (s : Server) (n : ℕ) (m : RawMap) (tag : ℕ) (zoned : Bool) (ds : List ℕ) (o : Option Refusal) → One s.files (unless_made s (unless_refused o (makes_file s (unmade s n m tag zoned ds)))).state.files
+one_made s n m tag zoned ds (Some r) = one_of_none s.files
+one_made s n m tag zoned ds None =
+    let f : File = unmade s n m tag zoned ds
     in let made : Leaves f.kept (making (at_file (with_file s f) [] f)) = leaves_new (at_file (with_file s f) [] f) refl
     in (n, λ k z. put_other (with_file s f).files n (making (at_file (with_file s f) [] f)).file made.number k z ∙ add_other s.files f k z)
 
-pub one_created : (s : Server) (n : ℕ) (m : RawMap) (tag : ℕ) (chosen : List ℕ) → One s.files (unless_made s (create_file s n m tag chosen)).state.files
+pub one_created : (s : Server) (n : ℕ) (m : RawMap) (tag : ℕ) (zoned : Bool) (chosen : List ℕ) → One s.files (unless_made s (create_file s n m tag zoned chosen)).state.files
 unfolding create_file
-one_created s n m tag chosen = one_made s n m tag (places s.drives m.comps chosen) (refusal s n m)
+one_created s n m tag zoned chosen = one_made s n m tag zoned (drives_for zoned s.drives m chosen) (refusal s n m zoned)
 
 pub one_step : (s : Server) (chosen : List ℕ) (i : Input) → AreSafe s.files → goes_through_all i ≡ false → One s.files (step s chosen i).state.files
 one_step s chosen (Hears now from m) h d = one_message s now chosen from m h d
-one_step s chosen (Makes n m tag) h d = one_created s n m tag chosen
+one_step s chosen (Makes n m tag zoned) h d = one_created s n m tag zoned chosen
 one_step s chosen (Obeys kind n) h d = one_ordered s chosen kind n d
 one_step s chosen (Adds drive) h d = one_of_none s.files
+one_step s chosen (Zones drive z) h d = one_of_none s.files
 one_step s chosen (Formats n) h d = one_of_none s.files
 one_step s chosen Resends h d = one_of_none s.files
 one_step s chosen Crashes h d = absurd (cc d)

@@ -1,9 +1,10 @@
 -- What comes to a server, and the one function of all its steps.
-use Rattle.std.specs.Prelude.{ℕ, List, [], ◌∷◌, Result, Ok, Err, ◌≡◌, map}
+use Rattle.std.specs.Prelude.{ℕ, Bool, List, [], ◌∷◌, Result, Ok, Err, ◌≡◌, map}
 use Rattle.osd_lists.specs.declared.node.Node.{Node}
 use Rattle.server_rules.specs.State.{Server, RawMap, Drive, OrderKind, Outgoing, Note, Refusal}
 use Rattle.server_rules.specs.Files.{Step, still}
 use Rattle.server_rules.specs.Making.{add_drive, set_format, create_file}
+use Rattle.server_rules.specs.Zoning.{put_in_zone}
 use Rattle.server_rules.specs.Messages.{Message, on_message, resend}
 use Rattle.server_rules.specs.Orders.{ordered}
 use Rattle.server_rules.specs.Openings.{crash, reopen}
@@ -12,12 +13,14 @@ use Rattle.server_rules.specs.Openings.{crash, reopen}
 pub data Input : Type 0 where
   -- a message of a node, at a time of the server's clock
   Hears : (now : ℕ) → Node → Message → Input
-  -- a file is to be made, with this tag
-  Makes : (file : ℕ) → RawMap → (tag : ℕ) → Input
+  -- a file is to be made, with this tag, spread over zones or not
+  Makes : (file : ℕ) → RawMap → (tag : ℕ) → (zoned : Bool) → Input
   -- an order that is given at the server
   Obeys : OrderKind → (target : ℕ) → Input
   -- there is a further drive
   Adds : Drive → Input
+  -- a drive that is in no zone is put into one
+  Zones : (drive zone : ℕ) → Input
   -- fences are to leave files with this format at least
   Formats : (format : ℕ) → Input
   -- what jobs wait for is sent once more
@@ -39,9 +42,10 @@ unless_made s (Err r) = still s
 -- `chosen` are the drives that the placer names, in the order in which it is asked
 abbrev pub step : Server → (chosen : List ℕ) → Input → Step
 step s chosen (Hears now from message) = on_message s now chosen from message
-step s chosen (Makes n m tag) = unless_made s (create_file s n m tag chosen)
+step s chosen (Makes n m tag zoned) = unless_made s (create_file s n m tag zoned chosen)
 step s chosen (Obeys kind n) = (ordered s chosen kind n).step
 step s chosen (Adds d) = changed (record s { drives = add_drive s.drives d })
+step s chosen (Zones d zone) = changed (record s { drives = put_in_zone s.drives d zone })
 step s chosen (Formats n) = changed (set_format s n)
 step s chosen Resends = record (still s) { sends = resend s }
 step s chosen Crashes = changed (crash s)

@@ -5,8 +5,10 @@ use Rattle.data_map.specs.declared.check.MapErr.{MapErr}
 use Rattle.data_map.specs.declared.check.MapErr.TheVariants.{Unit as BadUnit, TooMany}
 use Rattle.server_rules.specs.declared.limits.TheConstants.{MAX_FILE_COMPONENTS, FIRST_OBJECT}
 use Rattle.osd_capability.specs.declared.layout.TheConstants.{FORMAT_SHA1}
-use Rattle.server_rules.specs.State.{Server, File, RawMap, Component, Drive, Still, Refusal, FileExists, BadMap, TooFewDrives}
+use Rattle.server_rules.specs.State.{Server, File, RawMap, Component, Drive, Still, Refusal, FileExists, BadMap, TooFewDrives, NoSpread}
+use Rattle.zone_place.specs.Zones.{ask_of, has_room, spread}
 use Rattle.server_rules.specs.Numbers.{among}
+use Rattle.server_rules.specs.Zoning.{in_zones}
 use Rattle.server_rules.specs.Files.{Step, file_at, add_file, at_file, step_at}
 use Rattle.server_rules.specs.Jobs.{making}
 
@@ -42,20 +44,30 @@ checked_64 m = if bad_unit m then Err BadUnit else if nat_lt MAX_FILE_COMPONENTS
 abbrev pub online : List Drive → List Drive
 online ds = filter (λ d. d.online) ds
 
--- fewer drives are online than the map has components
-abbrev pub by_online : RawMap → (online : ℕ) → Option Refusal
-by_online m n = if nat_lt n m.comps then Some (TooFewDrives n) else None
+-- how many drives may take components: online ones, and for a zoned file those in a zone
+abbrev pub usable : (zoned : Bool) → List Drive → ℕ
+usable false ds = length (online ds)
+usable true ds = length (in_zones (online ds))
 
--- the map is refused, or there are too few drives
-abbrev pub by_check : (online : ℕ) → Result RawMap MapErr → Option Refusal
-by_check n (Err e) = Some (BadMap e)
-by_check n (Ok m) = by_online m n
+-- the components of a zoned file can't be spread over the zones
+abbrev pub by_zones : RawMap → (zoned : Bool) → List Drive → Option Refusal
+by_zones m false ds = None
+by_zones m true ds = if has_room (ask_of m) (in_zones (online ds)) then None else Some (NoSpread (usable true ds))
+
+-- fewer drives may be taken than the map has components
+abbrev pub by_online : RawMap → (zoned : Bool) → List Drive → Option Refusal
+by_online m zoned ds = if nat_lt (usable zoned ds) m.comps then Some (TooFewDrives (usable zoned ds)) else by_zones m zoned ds
+
+-- the map is refused, or the drives don't do
+abbrev pub by_check : (zoned : Bool) → List Drive → Result RawMap MapErr → Option Refusal
+by_check zoned ds (Err e) = Some (BadMap e)
+by_check zoned ds (Ok m) = by_online m zoned ds
 
 -- why no file of that number and map is made
-unfoldable pub refusal : Server → (number : ℕ) → RawMap → Option Refusal
-refusal s number m =
+unfoldable pub refusal : Server → (number : ℕ) → RawMap → (zoned : Bool) → Option Refusal
+refusal s number m zoned =
     if is_some (file_at s.files number) then Some FileExists
-    else by_check (length (online s.drives)) (checked_64 m)
+    else by_check zoned s.drives (checked_64 m)
 
 -- ---- where it is made
 
@@ -70,17 +82,23 @@ places ds count chosen =
     if (length chosen == count) && are_of (online ds) chosen then chosen
     else take count (map (λ d. d.number) (online ds))
 
+-- those on which a file's components are put: of a zoned file they are spread over the zones
+abbrev pub drives_for : (zoned : Bool) → List Drive → RawMap → (chosen : List ℕ) → List ℕ
+drives_for false ds m chosen = places ds m.comps chosen
+drives_for true ds m chosen = spread (ask_of m) (in_zones (online ds)) chosen
+
 -- components on these drives, with object numbers from one on
 unfoldable pub components_on : List ℕ → (object : ℕ) → List Component
 components_on [] object = []
 components_on (d ∷ ds) object = record { drive = d; object = object; missing = false } ∷ components_on ds (object + 1)
 
 -- a file that isn't made yet
-abbrev pub unmade : Server → (number : ℕ) → RawMap → (tag : ℕ) → (drives : List ℕ) → File
-unmade s number m tag ds = record {
+abbrev pub unmade : Server → (number : ℕ) → RawMap → (tag : ℕ) → (zoned : Bool) → (drives : List ℕ) → File
+unmade s number m tag zoned ds = record {
   kept = record {
     number = number;
     map = m;
+    zoned = zoned;
     first_tag = tag;
     tag = tag;
     format = s.format;
@@ -110,6 +128,7 @@ unless_refused (Some r) step = Err r
 unless_refused None step = Ok step
 
 -- a file is made, and its components are sent CREATE
-unfoldable pub create_file : Server → (number : ℕ) → RawMap → (tag : ℕ) → (chosen : List ℕ) → Result Step Refusal
-create_file s number m tag chosen =
-    unless_refused (refusal s number m) (makes_file s (unmade s number m tag (places s.drives m.comps chosen)))
+unfoldable pub create_file : Server → (number : ℕ) → RawMap → (tag : ℕ) → (zoned : Bool) → (chosen : List ℕ) → Result Step Refusal
+create_file s number m tag zoned chosen =
+    unless_refused (refusal s number m zoned)
+    (makes_file s (unmade s number m tag zoned (drives_for zoned s.drives m chosen)))

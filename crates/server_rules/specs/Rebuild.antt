@@ -3,7 +3,8 @@ use Rattle.std.specs.Prelude.{ℕ, false, List, [], ◌∷◌, Option, Some, Non
 use Rattle.data_map.specs.Striping.{replicas, offset_of}
 use Rattle.server_rules.specs.State.{Kept, Piece, Heard, Component, Awaited, Target, Drive, Rebuilding, Targets, Gathers, Fills, Rebuilt, NoDrive, Lost, NoSpace}
 use Rattle.server_rules.specs.Maps.{group_with, pieces_in}
-use Rattle.server_rules.specs.Standing.{replica, lacking, is_beyond, free_drives}
+use Rattle.server_rules.specs.Standing.{replica, lacking, is_beyond}
+use Rattle.server_rules.specs.Zoning.{takers}
 use Rattle.server_rules.specs.Columns.{row_from, unit_rows, unit_with, first_unlike, end_of}
 use Rattle.server_rules.specs.Decoding.{lost_units, restored}
 use Rattle.server_rules.specs.Commands.{Creating, Reading, Writing, Only, FirstsOf, sent_to, to_all}
@@ -29,7 +30,7 @@ target_on g k (Some drive) = Some (record { component = k; drive = drive; object
 -- where component k is made anew: None where it isn't missing, or where no drive can take it
 unfoldable pub target_for : Going → Component → (k : ℕ) → Option Target
 target_for g at k =
-    if at.missing then target_on g k (picked g.chosen (free_drives g.drives g.file.kept.components)) else None
+    if at.missing then target_on g k (picked g.chosen (takers g.drives g.file.kept k)) else None
 
 -- the target's object is made: its number is used up, and so is the placer's answer
 abbrev pub makes : Going → Target → Going

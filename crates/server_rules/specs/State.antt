@@ -31,7 +31,7 @@ pub use Rattle.server_rules.specs.declared.server.Outgoing.{Outgoing}
 pub use Rattle.server_rules.specs.declared.server.Outgoing.TheVariants.{ToDrive, Recalls, Answers, AnswersOrder}
 pub use Rattle.server_rules.specs.declared.server.Effects.{Effects}
 pub use Rattle.server_rules.specs.declared.server.Refusal.{Refusal}
-pub use Rattle.server_rules.specs.declared.server.Refusal.TheVariants.{FileExists, BadMap, TooFewDrives}
+pub use Rattle.server_rules.specs.declared.server.Refusal.TheVariants.{FileExists, BadMap, TooFewDrives, NoSpread}
 pub use Rattle.layout_ops.specs.declared.messages.Answer.{Answer}
 pub use Rattle.layout_ops.specs.declared.recalls.Recall.{Recall}
 pub use Rattle.layout_ops.specs.declared.orders.OrderKind.{OrderKind}

@@ -15,6 +15,8 @@ pub struct Drive {
     pub capacity: u64,
     /// It wasn't declared.
     pub online: bool,
+    /// The zone that it was put into: a room, a rack or a power supply that fails as one.
+    pub zone: Option<u32>,
 }
 
 /// The slot of a client: its last sequence number, and the answer to that.
@@ -65,8 +67,10 @@ pub enum Refusal {
     FileExists,
     /// The map can't be used.
     BadMap(MapErr),
-    /// There are fewer drives online than the map has components.
+    /// There are fewer drives online than the map has components; for a zoned file those in a zone count.
     TooFewDrives { online: u32 },
+    /// So many online drives in zones can't spread a zoned file's components.
+    NoSpread { online: u32 },
 }
 
 /// A message that the server sends.

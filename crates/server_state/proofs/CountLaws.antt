@@ -6,7 +6,7 @@ use Rattle.std.specs.Map.{values_of}
 use Rattle.std.proofs.Common.{arith, ap, sym, subst, ◌∙◌}
 use Rattle.std.proofs.lemmas.List.Sums.{sum_by-cons}
 use Rattle.std.proofs.lemmas.Map.Entries.{sum_by-remove_entry}
-use Rattle.stripe_repair.specs.declared.loads.TheConstants.{MAX_DRIVES}
+use Rattle.zone_place.specs.declared.loads.TheConstants.{MAX_DRIVES}
 use Rattle.file_jobs.specs.declared.job.FileState.{FileState}
 use Rattle.server_state.specs.Counts.{Counts, AreCounts, standing}
 use Rattle.server_state.specs.Replies.{OthersStay}

@@ -1,10 +1,9 @@
 -- A file stays sound where a request changes it.
-use Rattle.std.specs.Prelude.{ℕ, Bool, true, false, List, [], ◌∷◌, ◌++◌, Option, Some, None, ◌≡◌, ◌≤◌, ◌==◌, ◌||◌, ◌+◌, not, nat_lt, length, suc, refl, if◌then◌else◌}
-use Rattle.std.proofs.Common.{arith, inl, inr, ap}
+use Rattle.std.specs.Prelude.{ℕ, Bool, true, false, List, [], ◌∷◌, ◌++◌, Option, Some, None, ◌≡◌, ◌≤◌, ◌==◌, ◌||◌, ◌+◌, not, nat_lt, length, refl, if◌then◌else◌}
+use Rattle.std.proofs.Common.{arith, inl, inr}
 use Rattle.std.proofs.lemmas.Bool.{cases_Bool}
 use Rattle.data_map.specs.declared.ranges.TheConstants.{MAX_FILE_SIZE}
 use Rattle.server_rules.specs.declared.grants.Grant.{Grant}
-use Rattle.server_rules.specs.declared.files.Component.{Component}
 use Rattle.server_rules.specs.declared.files.Kept.{Kept}
 use Rattle.server_rules.specs.declared.jobs.Job.{Job}
 use Rattle.server_rules.specs.Grants.{without}

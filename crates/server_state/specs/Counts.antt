@@ -1,7 +1,7 @@
 -- How many present components stand on each drive.
 use Rattle.std.specs.Prelude.{ℕ, Bool, List, cond, min, not, count_by, slice_index, ◌≡◌, ◌<◌, ◌==◌, ◌&&◌, ◌-◌, ◌^◌}
 use Rattle.server_rules.specs.declared.files.Component.{Component}
-use Rattle.stripe_repair.specs.declared.loads.TheConstants.{MAX_DRIVES}
+use Rattle.zone_place.specs.declared.loads.TheConstants.{MAX_DRIVES}
 
 -- a count for each drive of a number below MAX_DRIVES
 abbrev pub Counts : Type 0

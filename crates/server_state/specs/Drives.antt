@@ -1,7 +1,7 @@
 -- The server's drives: at most one for each number below 64, in order of their numbers.
 use Rattle.std.specs.Prelude.{ℕ, List, [], ◌∷◌, ◌<◌, ◌≤◌, ◌+◌}
 use Rattle.server_rules.specs.declared.server.Drive.{Drive}
-use Rattle.stripe_repair.specs.declared.loads.TheConstants.{MAX_DRIVES}
+use Rattle.zone_place.specs.declared.loads.TheConstants.{MAX_DRIVES}
 
 -- their numbers rise from this one on, and are below 64
 abbrev pub RiseFrom : (least : ℕ) → List Drive → Type 0

@@ -1,11 +1,11 @@
 ghost use Rattle.std.specs.Prelude.{◌≡◌, ◌+◌, ◌<◌, ◌≤◌, ℕ, slice_index, OnOk};
-ghost use Rattle.stripe_repair.specs.declared.loads.TheConstants.{MAX_DRIVES};
+ghost use Rattle.zone_place.specs.declared.loads.TheConstants.{MAX_DRIVES};
 ghost use Rattle.server_state.specs.Counts.{AreCounts, told, one, standing};
 
 use osd_lists::Memory;
 use server_rules::Component;
 use std::marker::Model;
-use stripe_repair::MAX_DRIVES;
+use zone_place::MAX_DRIVES;
 
 /// How many present components stand on each drive of a number below 64. Contracts see a list, by these numbers.
 #[derive(Drop)]

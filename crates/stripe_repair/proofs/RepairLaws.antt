@@ -1,5 +1,5 @@
 -- How a repair goes on from piece to piece.
-use Rattle.std.proofs.Common.{◌≡◌, ◌↔◌, ℕ, true, false, List, [], ◌∷◌, Option, Some, None, drop, refl, sym, ap, ◌∙◌, true≢false}
+use Rattle.std.proofs.Common.{◌≡◌, ◌↔◌, ℕ, true, false, List, [], ◌∷◌, Some, None, drop, refl, sym, ap, ◌∙◌, true≢false}
 use Rattle.std.specs.Prelude.{Bool, Result, Ok, Err, IfOk, IsTrue, slice_get}
 use Rattle.osd_lists.specs.declared.memory.Memory.{Memory}
 use Rattle.server_rules.specs.declared.files.Kept.{Kept}

@@ -1,4 +1,5 @@
 pub mod Placing
+pub mod Loads
 pub mod Cursor
 pub mod GroupCursor
 pub mod Asks

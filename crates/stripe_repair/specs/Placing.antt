@@ -1,5 +1,5 @@
 -- What is asked of a placement, and what it gives.
-use Rattle.std.specs.Prelude.{◌≡◌, ◌≢◌, ℕ, ◌<◌, ◌≤◌, ◌^◌, nat_eq, ◌&&◌, Bool, List, length, slice_index, count_by, map, All, IsTrue}
+use Rattle.std.specs.Prelude.{◌≡◌, ◌≢◌, ℕ, ◌<◌, ◌≤◌, ◌^◌, nat_eq, ◌&&◌, Bool, List, Option, Some, None, length, slice_index, count_by, map, All, IsTrue}
 use Rattle.std.specs.List.{list_any, list_all}
 use Rattle.std.specs.Result.{ForOk}
 use Rattle.std.specs.Prelude.{Result}
@@ -7,7 +7,7 @@ use Rattle.std.specs.Fn.{Shared}
 use Rattle.std.specs.Borrow.{Bor}
 use Rattle.osd_lists.specs.declared.memory.Memory.{Memory}
 use Rattle.stripe_repair.specs.declared.loads.DriveLoad.{DriveLoad}
-use Rattle.stripe_repair.specs.declared.loads.TheConstants.{MAX_DRIVES}
+use Rattle.zone_place.specs.declared.loads.TheConstants.{MAX_DRIVES}
 
 abbrev pub drives_of : List DriveLoad → List ℕ
 drives_of loads = map (λ l. l.drive) loads
@@ -16,8 +16,13 @@ drives_of loads = map (λ l. l.drive) loads
 abbrev pub AreDifferent : List ℕ → Type 0
 AreDifferent xs = (i j : ℕ) → i < j → j < length xs → slice_index xs i ≢ slice_index xs j
 
+-- the number of a zone fits its type
+abbrev pub FitsZone : Option ℕ → Type 0
+FitsZone None = Unit {0}
+FitsZone (Some z) = z < 2 ^ 32
+
 abbrev pub FitsLoad : DriveLoad → Type 0
-FitsLoad l = (l.drive < 2 ^ 32) × (l.objects < 2 ^ 32)
+FitsLoad l = (l.drive < 2 ^ 32) × (l.objects < 2 ^ 32) × FitsZone l.zone
 
 -- n places may be asked of these drives
 pub record CanPlace (n : ℕ) (loads : List DriveLoad) : Type 0 where

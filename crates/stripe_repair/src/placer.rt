@@ -1,13 +1,16 @@
 ghost use Rattle.std.specs.Prelude.{◌≡◌};
 ghost use Rattle.std.specs.Result.{ForOk};
+ghost use Rattle.zone_place.specs.Choosing.{CanSpread, Spreads};
 ghost use Rattle.stripe_repair.specs.Placing.{CanPlace, Places, IsPlacer};
 
 use crate::loads::DriveLoad;
 use osd_lists::{Memory, Numbers};
+use std::alloc::Global;
 use std::marker::Model;
+use zone_place::{ZoneAsk, ZoneLoad, deal};
 
-/// A rule that chooses drives for components. Contracts of callers ask [`place`](Place::place) alone, so a rule may be
-/// a struct of its own, or a closure behind [`Placer`].
+/// A rule that chooses drives for components. Contracts of callers ask [`place`](Place::place) and
+/// [`spread`](Place::spread) alone, so a rule may be a struct of its own, or a closure behind [`Placer`].
 pub trait Place {
     /// The value keeps what its method promises. A type whose every value does leaves this as it is; [`Placer`] has
     /// here what its closure must keep, since a type can't keep a fact about a closure.
@@ -18,6 +21,16 @@ pub trait Place {
         requires placer { is_placer self.now }
         requires asked { CanPlace count loads.now }
         ensures { ForOk result (Places count loads.now) };
+
+    /// Chooses different online drives of these, spread over their zones as is asked. A rule that doesn't say how
+    /// deals them to the groups by turns.
+    fn spread(&self, alloc: Global, ask: &ZoneAsk, loads: &[ZoneLoad]) -> Result<Numbers, Memory>
+        requires placer { is_placer self.now }
+        requires asked { CanSpread ask.now loads.now }
+        ensures { ForOk result (Spreads ask.now loads.now) }
+    {
+        deal(alloc, ask, loads)
+    }
 }
 
 /// A placement rule that is a closure. Contracts see it as the closure.

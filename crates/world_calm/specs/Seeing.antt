@@ -229,6 +229,7 @@ shows_all kept c ns = fold (shows kept) c ns
 -- those whose components change
 abbrev pub shows_changed : KeptOf → CalmState → Line → CalmState
 shows_changed kept c (line.Event (event.File f m tag)) = shows kept c f
+shows_changed kept c (line.Event (event.ZonedFile f m tag)) = shows kept c f
 shows_changed kept c (line.Event (event.Declare d)) = shows_all kept c (map (λ e. e.0) c.files.files)
 shows_changed kept c (line.Note f (note.Rebuilt k d)) = shows kept c f
 shows_changed kept c l = c

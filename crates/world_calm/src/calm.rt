@@ -401,7 +401,7 @@ impl Calm {
     {
         match line {
             Line::Event {
-                event: Event::File { file, .. },
+                event: Event::File { file, .. } | Event::ZonedFile { file, .. },
             } => self.show(server, file.number()),
             Line::Event {
                 event: Event::Declare { .. },

@@ -245,11 +245,11 @@ gives_read : (w : World) (chosen : List ℕ) (i : server_input.Input) → Reads 
 unfolding gives
 gives_read w chosen i = quiet_notes (server_step w.server chosen i).notes (view w)
 
-makes_read : (w : World) (chosen : List ℕ) (f : ℕ) (m : server_rules.RawMap) (tag : ℕ)
-    → Reads w (makes w chosen f m tag)
+makes_read : (w : World) (chosen : List ℕ) (f : ℕ) (m : server_rules.RawMap) (tag : ℕ) (zoned : Bool)
+    → Reads w (makes w chosen f m tag zoned)
 unfolding makes
-makes_read w chosen f m tag =
-    either_reads w (has_algorithm m) _ _ (made_reads w f (create_file w.server f m tag chosen)) refl
+makes_read w chosen f m tag zoned =
+    either_reads w (has_algorithm m) _ _ (made_reads w f (create_file w.server f m tag zoned chosen)) refl
 
 adds_read : (w : World) (d : ℕ) (key : List ℕ) (capacity : ℕ) (stored : Bool)
     → Reads w (adds_drive w d key capacity stored)
@@ -271,7 +271,9 @@ unfolding begins
 begins_reads w chosen (event.Drive d key capacity) = adds_read w d key capacity false
 begins_reads w chosen (event.Disk d key capacity) = adds_read w d key capacity true
 begins_reads w chosen (event.Client c) = refl
-begins_reads w chosen (event.File f m tag) = makes_read w chosen f (raw_of m) tag
+begins_reads w chosen (event.File f m tag) = makes_read w chosen f (raw_of m) tag false
+begins_reads w chosen (event.ZonedFile f m tag) = makes_read w chosen f (raw_of m) tag true
+begins_reads w chosen (event.Zone d zone) = gives_read w chosen (server_input.Zones d zone)
 begins_reads w chosen (event.Least d format) =
     same_network w (at_drive w d (λ a. raised a format)) (drive_view w d (λ a. raised a format)
     (at_number w.drives d))
@@ -304,7 +306,6 @@ begins_reads w chosen (event.Crash machine.Server) = gives_read (with_down w tru
 begins_reads w chosen (event.Reopen (machine.Drive d)) =
     same_network w (at_drive w d reopened) (drive_view w d reopened (at_number w.drives d))
 begins_reads w chosen (event.Reopen machine.Server) = gives_read (with_down w false) chosen server_input.Opens
-begins_reads w chosen e = refl
 
 -- ---- moves
 

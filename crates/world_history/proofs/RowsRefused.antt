@@ -6,8 +6,9 @@ use Rattle.scenario_text.specs.declared.event.Event.TheVariants as event
 use Rattle.scenario_text.specs.declared.event.Call.TheVariants as call
 use Rattle.scenario_text.specs.declared.event.Sender.TheVariants as sender
 use Rattle.scenario_text.specs.declared.event.Machine.TheVariants as machine
+use Rattle.server_rules.specs.Zoning.{put_in_zone}
 use Rattle.world_history.specs.declared.err.WorldErr.{WorldErr}
-use Rattle.world_history.specs.declared.err.WorldErr.TheVariants.{NotYet, NoName, Taken, Dead, Alive, NotKept, Down, Running, NoMessage}
+use Rattle.world_history.specs.declared.err.WorldErr.TheVariants.{NoName, Taken, Dead, Alive, NotKept, Down, Running, NoMessage}
 use Rattle.world_history.specs.State.{World, empty_world}
 use Rattle.world_history.specs.Refusals.{refusal}
 use Rattle.world_history.proofs.Played.{played_all, drive, file}
@@ -90,7 +91,7 @@ pub restarts : refused (
 unfolding opened opened_server
 restarts = refl
 
--- messages, and events that aren't known yet
+-- messages, formats, and a drive that there isn't
 pub others : refused (
     event.Deliver 0 ∷
     event.Deliver 1 ∷
@@ -99,7 +100,7 @@ pub others : refused (
     event.Format 2 ∷
     event.Zone 9 1 ∷
     [])
-    ≡ None ∷ Some (NoMessage 1) ∷ Some (NoMessage 1) ∷ None ∷ None ∷ Some NotYet ∷ []
+    ≡ None ∷ Some (NoMessage 1) ∷ Some (NoMessage 1) ∷ None ∷ None ∷ Some NoName ∷ []
 unfolding opened opened_server
 others = refl
 
@@ -174,3 +175,42 @@ pub others_then : refused_then (
     ≡ None ∷ None ∷ None ∷ None ∷ None ∷ None ∷ []
 unfolding opened opened_server
 others_then = refl
+
+-- ---- zones
+
+-- The world: drives 0 to 3, of which 0 and 1 are in a zone, and 1 and 2 failed.
+abbrev zoned : World
+zoned = (played_all empty_world (
+    drive 0 ∷
+    drive 1 ∷
+    drive 2 ∷
+    drive 3 ∷
+    event.Zone 0 5 ∷
+    event.Zone 1 5 ∷
+    event.Fail 1 ∷
+    event.Fail 2 ∷
+    [])).world
+
+-- a drive is put into a zone once, also into the same; of a failed one that is in a zone this is said first
+pub zones : map (refusal zoned) (
+    event.Zone 0 6 ∷
+    event.Zone 0 5 ∷
+    event.Zone 1 6 ∷
+    event.Zone 2 6 ∷
+    event.Zone 3 6 ∷
+    event.Zone 4 6 ∷
+    [])
+    ≡ Some Taken ∷ Some Taken ∷ Some Taken ∷ Some Dead ∷ None ∷ Some NoName ∷ []
+unfolding opened opened_server put_in_zone
+zones = refl
+
+-- the same while the server is down
+pub zones_then : map (refusal (played_all zoned (event.Crash machine.Server ∷ [])).world) (
+    event.Zone 0 6 ∷
+    event.Zone 2 6 ∷
+    event.Zone 3 6 ∷
+    event.Zone 4 6 ∷
+    [])
+    ≡ Some Taken ∷ Some Dead ∷ Some Down ∷ Some NoName ∷ []
+unfolding opened opened_server put_in_zone
+zones_then = refl

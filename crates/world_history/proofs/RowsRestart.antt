@@ -36,6 +36,7 @@ granted = record {
   kept = record {
     number = 0;
     map = record { comps = 1; unit = 4; width = 0; depth = 0; mirrors = 0; algorithm = 1 };
+    zoned = false;
     first_tag = 1;
     tag = 1;
     format = 1;

@@ -1,5 +1,5 @@
 -- The server and the book of a file, read off the lines: its part of the state to which the steps of the lines lead.
-use Rattle.std.specs.Prelude.{ℕ, List, [], ◌∷◌, Option, Some, None, Result, Ok, Err, slice_get, flat_map, if◌then◌else◌}
+use Rattle.std.specs.Prelude.{ℕ, Bool, true, false, List, [], ◌∷◌, Option, Some, None, Result, Ok, Err, slice_get, flat_map, if◌then◌else◌}
 use Rattle.std.specs.List.{fold}
 use Rattle.data_map.specs.declared.check.RawMap.{RawMap}
 use Rattle.osd_commands.specs.declared.commands.Command.{Command}
@@ -11,7 +11,7 @@ use Rattle.server_rules.specs.Files.{Step as ServerStep, file_at}
 use Rattle.server_rules.specs.Making.{new_server}
 use Rattle.server_rules.specs.Messages.{Message, awaited_by}
 use Rattle.server_rules.specs.Envelopes.{message_in}
-use Rattle.server_rules.specs.History.{Input, Hears, Makes, Obeys, Adds, Formats, Crashes, Opens, step}
+use Rattle.server_rules.specs.History.{Input, Hears, Makes, Obeys, Adds, Zones, Formats, Crashes, Opens, step}
 use Rattle.scenario_text.specs.declared.event.Event.{Event}
 use Rattle.scenario_text.specs.declared.event.Event.TheVariants as event
 use Rattle.scenario_text.specs.declared.event.Machine.TheVariants as machine
@@ -67,14 +67,16 @@ heard now None = None
 heard now (Some s) = heard_for now s s.to
 
 -- a file whose map has no parity algorithm isn't made
-abbrev pub made_of : (file : ℕ) → RawMap → (tag : ℕ) → Option Input
-made_of f m tag = if has_algorithm m then Some (Makes f m tag) else None
+abbrev pub made_of : (file : ℕ) → RawMap → (tag : ℕ) → (zoned : Bool) → Option Input
+made_of f m tag zoned = if has_algorithm m then Some (Makes f m tag zoned) else None
 
 -- an event that gives it something to do
 abbrev pub input_of : Event → Option Input
 input_of (event.Drive d key capacity) = Some (Adds (known_drive d key capacity))
 input_of (event.Disk d key capacity) = Some (Adds (known_drive d key capacity))
-input_of (event.File f m tag) = made_of f (raw_of m) tag
+input_of (event.File f m tag) = made_of f (raw_of m) tag false
+input_of (event.ZonedFile f m tag) = made_of f (raw_of m) tag true
+input_of (event.Zone d zone) = Some (Zones d zone)
 input_of (event.Format format) = Some (Formats format)
 input_of (event.Recall f) = Some (Obeys ToRecall f)
 input_of (event.Revoke f) = Some (Obeys ToRevoke f)

@@ -153,9 +153,9 @@ has_algorithm m = nat_le RAID_0 m.algorithm && nat_le m.algorithm RAID_PQ
 
 -- a file is made, on the drives that the placer names. The text of a scenario has no map without a parity algorithm; one
 -- that had none would be told as one whose groups have no width
-unfoldable pub makes : World → (chosen : List ℕ) → (file : ℕ) → RawMap → (tag : ℕ) → Act
-makes w chosen f m tag =
-    if has_algorithm m then made_file w f (create_file w.server f m tag chosen)
+unfoldable pub makes : World → (chosen : List ℕ) → (file : ℕ) → RawMap → (tag : ℕ) → (zoned : Bool) → Act
+makes w chosen f m tag zoned =
+    if has_algorithm m then made_file w f (create_file w.server f m tag zoned chosen)
     else tells w (line.Note f (note.BadMap map_fault.Width))
 
 -- the server is given something to do
@@ -185,7 +185,7 @@ injects w d bytes = injects_at w d bytes (at_number w.drives d)
 
 -- a drive as the server knows it
 abbrev pub known_drive : (drive : ℕ) → (key : List ℕ) → (capacity : ℕ) → server_rules.Drive
-known_drive d key capacity = record { number = d; key = key; capacity = capacity; online = true }
+known_drive d key capacity = record { number = d; key = key; capacity = capacity; online = true; zone = None }
 
 -- the server knows a drive of that number
 abbrev pub knows_drive : server_rules.Server → (drive : ℕ) → Bool
@@ -212,7 +212,9 @@ unfoldable pub begins : World → (chosen : List ℕ) → Event → Act
 begins w chosen (event.Drive d key capacity) = adds_drive w d key capacity false
 begins w chosen (event.Disk d key capacity) = adds_drive w d key capacity true
 begins w chosen (event.Client c) = changed (adds_client w c)
-begins w chosen (event.File f m tag) = makes w chosen f (raw_of m) tag
+begins w chosen (event.File f m tag) = makes w chosen f (raw_of m) tag false
+begins w chosen (event.ZonedFile f m tag) = makes w chosen f (raw_of m) tag true
+begins w chosen (event.Zone d zone) = gives w chosen (server_input.Zones d zone)
 begins w chosen (event.Least d format) = changed (at_drive w d (λ a. raised a format))
 begins w chosen (event.Format format) = gives w chosen (server_input.Formats format)
 begins w chosen (event.Do c x) = calls_at w c (op_of x)
@@ -238,8 +240,6 @@ begins w chosen (event.Crash (machine.Drive d)) = changed (at_drive w d crashed)
 begins w chosen (event.Crash machine.Server) = gives (with_down w true) chosen server_input.Crashes
 begins w chosen (event.Reopen (machine.Drive d)) = changed (at_drive w d reopened)
 begins w chosen (event.Reopen machine.Server) = gives (with_down w false) chosen server_input.Opens
--- the world refuses these: it doesn't know zones yet
-begins w chosen e = changed w
 
 -- ---- moves
 

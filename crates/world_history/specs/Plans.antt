@@ -93,6 +93,7 @@ prompt_call w c op =
 unfoldable pub rule_of : World → Event → Rule
 rule_of w (event.Do c x) = prompt_call w c (op_of x)
 rule_of w (event.File f m tag) = Prompt (length w.network.messages) None
+rule_of w (event.ZonedFile f m tag) = Prompt (length w.network.messages) None
 rule_of w event.Settle = Prompt 0 None
 rule_of w e = Alone
 

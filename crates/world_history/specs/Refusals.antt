@@ -1,12 +1,14 @@
 -- When an event isn't carried out: the first cause that applies.
-use Rattle.std.specs.Prelude.{ℕ, Bool, nat_lt, length, Option, Some, None, is_some, is_none, if◌then◌else◌}
+use Rattle.std.specs.Prelude.{ℕ, Bool, ◌==◌, ◌&&◌, nat_lt, length, Option, Some, None, is_some, is_none, if◌then◌else◌}
+use Rattle.std.specs.List.{list_any}
+use Rattle.server_rules.specs.declared.server.Server.{Server}
 use Rattle.server_rules.specs.Files.{file_at}
 use Rattle.scenario_text.specs.declared.event.Sender.TheVariants as sender
 use Rattle.scenario_text.specs.declared.event.Machine.TheVariants as machine
 use Rattle.scenario_text.specs.declared.event.Event.{Event}
 use Rattle.scenario_text.specs.declared.event.Event.TheVariants as event
 use Rattle.world_history.specs.declared.err.WorldErr.{WorldErr}
-use Rattle.world_history.specs.declared.err.WorldErr.TheVariants.{NotYet, NoName, Taken, Dead, Alive, NotKept, Down, Running, NoMessage}
+use Rattle.world_history.specs.declared.err.WorldErr.TheVariants.{NoName, Taken, Dead, Alive, NotKept, Down, Running, NoMessage}
 use Rattle.world_history.specs.State.{DriveAt, ClientAt, World, at_number}
 
 -- ---- tests
@@ -55,6 +57,10 @@ if_down (Some a) =
 abbrev pub unless_down : World → Option WorldErr
 unless_down w = if w.down then Some Down else None
 
+-- by the server the drive is in a zone
+abbrev pub is_zoned : Server → (drive : ℕ) → Bool
+is_zoned s d = list_any (λ x. (x.number == d) && is_some x.zone) s.drives
+
 -- the first cause of two
 abbrev pub first_of : Option WorldErr → Option WorldErr → Option WorldErr
 first_of (Some cause) next = Some cause
@@ -81,6 +87,15 @@ of_served_file w f = first_of (of_file w f) (unless_down w)
 -- of a drive that is to be made, which the server is told of
 abbrev pub of_new_drive : World → (drive : ℕ) → Option WorldErr
 of_new_drive w d = first_of (unless_there (is_some (at_number w.drives d))) (unless_down w)
+
+-- only a drive that is in no zone, and stands, is put into one
+abbrev pub unless_zoned : (zoned : Bool) → Option DriveAt → Option WorldErr
+unless_zoned zoned None = Some NoName
+unless_zoned zoned (Some a) = if zoned then Some Taken else if a.failed then Some Dead else None
+
+-- of a drive that is to be put into a zone, which the server is told of
+abbrev pub of_zone : World → (drive : ℕ) → Option WorldErr
+of_zone w d = first_of (unless_zoned (is_zoned w.server d) (at_number w.drives d)) (unless_down w)
 
 -- of a message
 abbrev pub of_message : World → (number : ℕ) → Option WorldErr
@@ -117,5 +132,5 @@ refusal w (event.Crash (machine.Drive d)) = if_up (at_number w.drives d)
 refusal w (event.Crash machine.Server) = unless_down w
 refusal w (event.Reopen (machine.Drive d)) = if_down (at_number w.drives d)
 refusal w (event.Reopen machine.Server) = if w.down then None else Some Running
-refusal w (event.ZonedFile f m tag) = Some NotYet
-refusal w (event.Zone d zone) = Some NotYet
+refusal w (event.ZonedFile f m tag) = unless_down w
+refusal w (event.Zone d zone) = of_zone w d

@@ -133,3 +133,4 @@ abbrev pub told_file_refusal : server_rules.Refusal → Note
 told_file_refusal server_rules.FileExists = note.Exists
 told_file_refusal (server_rules.BadMap e) = note.BadMap (told_map_err e)
 told_file_refusal (server_rules.TooFewDrives online) = note.TooFew online
+told_file_refusal (server_rules.NoSpread online) = note.NoSpread online

@@ -6,15 +6,12 @@ use thiserror::Error;
 /// All but the last two change nothing. The last two end the world, and the lines appended stand.
 #[derive(Clone, Copy, Debug, PartialEq, Eq, Error)]
 pub enum WorldErr {
-    /// The world doesn't know yet how to carry this event out: it is one of zones.
-    #[error("the event can't be carried out yet")]
-    NotYet,
     /// A drive, client or file that the event names doesn't exist, but for what the event is to make
     /// and for the files of calls.
     #[error("a drive, client or file of that name doesn't exist")]
     NoName,
-    /// The drive or client that the event is to make exists.
-    #[error("a drive or client of that name exists")]
+    /// The drive or client that the event is to make exists, or the drive that it is to put into a zone is in one.
+    #[error("a drive or client of that name exists, or the drive is in a zone")]
     Taken,
     /// The named client was stopped, or the named drive has failed.
     #[error("the client was stopped, or the drive has failed")]

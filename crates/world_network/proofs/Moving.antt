@@ -1,7 +1,7 @@
 -- Performing an act of the world is its move.
 use Rattle.std.proofs.Common.{◌++◌, List, Ok, Err, sym, ap, subst, ◌∙◌}
 use Rattle.scenario_text.specs.declared.line.Line.{Line}
-use Rattle.world_history.specs.declared.err.WorldErr.TheVariants.{NotYet, NoName, Taken, Dead, Alive, NotKept, Down, Running, NoMessage, KeptFull, Memory}
+use Rattle.world_history.specs.declared.err.WorldErr.TheVariants.{NoName, Taken, Dead, Alive, NotKept, Down, Running, NoMessage, KeptFull, Memory}
 use Rattle.world_history.specs.Sending.{sends_all}
 use Rattle.world_network.specs.Network.{NetworkState}
 use Rattle.world_network.specs.Posting.{IsFront}
@@ -22,7 +22,6 @@ acts_are_moves_by shows n n' a before after (Err KeptFull) s h =
 acts_are_moves_by shows n n' a before after (Err Memory) s h =
     let p = shows n a.world.network a.posts s in
     (h.0, h.1, subst (λ (l : List Line). IsFront h.0 (a.told ++ l)) p.lines_are h.2)
-acts_are_moves_by shows n n' a before after (Err NotYet) s h = absurd h
 acts_are_moves_by shows n n' a before after (Err NoName) s h = absurd h
 acts_are_moves_by shows n n' a before after (Err Taken) s h = absurd h
 acts_are_moves_by shows n n' a before after (Err Dead) s h = absurd h

@@ -2,7 +2,7 @@
 use Rattle.std.proofs.Common.{◌≡◌, ◌++◌, List, Result, Ok, Err, sym, ap, ◌∙◌, append_assoc}
 use Rattle.scenario_text.specs.declared.line.Line.{Line}
 use Rattle.world_history.specs.declared.err.WorldErr.{WorldErr}
-use Rattle.world_history.specs.declared.err.WorldErr.TheVariants.{NotYet, NoName, Taken, Dead, Alive, NotKept, Down, Running, NoMessage, KeptFull, Memory}
+use Rattle.world_history.specs.declared.err.WorldErr.TheVariants.{NoName, Taken, Dead, Alive, NotKept, Down, Running, NoMessage, KeptFull, Memory}
 use Rattle.world_network.specs.Network.{NetworkState}
 use Rattle.world_network.specs.Posting.{PostsAll, IsFront, lines_in, fitting_in}
 use Rattle.world_network.specs.declared.acts.Act.{Act}
@@ -22,7 +22,6 @@ performs_behind n n' a before middle after (Err Memory) e h = (
   h.1 ∙ ap (λ (l : List Line). l ++ h.0) e ∙ append_assoc before a.told h.0,
   (h.2.0, ap (λ (l : List Line). a.told ++ l) h.2.1 ∙ sym (append_assoc a.told h.0 h.2.0)),
 )
-performs_behind n n' a before middle after (Err NotYet) e h = absurd h
 performs_behind n n' a before middle after (Err NoName) e h = absurd h
 performs_behind n n' a before middle after (Err Taken) e h = absurd h
 performs_behind n n' a before middle after (Err Dead) e h = absurd h

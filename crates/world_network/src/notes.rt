@@ -79,5 +79,6 @@ pub fn told_file_refusal(refusal: Refusal) -> Note
             why: told_map_err(error),
         },
         Refusal::TooFewDrives { online } => Note::TooFew { online },
+        Refusal::NoSpread { online } => Note::NoSpread { online },
     }
 }

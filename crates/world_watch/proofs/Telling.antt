@@ -249,11 +249,11 @@ gives_silent : (w : World) (down : Bool) (chosen : List ℕ) (i : server_input.I
 unfolding gives
 gives_silent w down chosen i = same_silent w _ refl (silent_notes (server_step w.server chosen i).notes)
 
-makes_silent : (w : World) (chosen : List ℕ) (f : ℕ) (m : server_rules.RawMap) (tag : ℕ)
-    → IsSilent w (makes w chosen f m tag)
+makes_silent : (w : World) (chosen : List ℕ) (f : ℕ) (m : server_rules.RawMap) (tag : ℕ) (zoned : Bool)
+    → IsSilent w (makes w chosen f m tag zoned)
 unfolding makes
-makes_silent w chosen f m tag =
-    either_silent w (has_algorithm m) _ _ (made_silent w f (create_file w.server f m tag chosen))
+makes_silent w chosen f m tag zoned =
+    either_silent w (has_algorithm m) _ _ (made_silent w f (create_file w.server f m tag zoned chosen))
     (same_silent w _ refl (λ x. refl))
 
 adds_silent : (w : World) (d : ℕ) (key : List ℕ) (capacity : ℕ) (stored : Bool)
@@ -272,7 +272,9 @@ begins_silent : (w : World) (chosen : List ℕ) (e : Event) → IsSilent w (begi
 unfolding begins
 begins_silent w chosen (event.Drive d key capacity) = adds_silent w d key capacity false
 begins_silent w chosen (event.Disk d key capacity) = adds_silent w d key capacity true
-begins_silent w chosen (event.File f m tag) = makes_silent w chosen f (raw_of m) tag
+begins_silent w chosen (event.File f m tag) = makes_silent w chosen f (raw_of m) tag false
+begins_silent w chosen (event.ZonedFile f m tag) = makes_silent w chosen f (raw_of m) tag true
+begins_silent w chosen (event.Zone d zone) = gives_silent w w.down chosen (server_input.Zones d zone)
 begins_silent w chosen (event.Least d format) =
     same_silent w _ (drive_view w d (λ a. raised a format) (at_number w.drives d)) (λ x. refl)
 begins_silent w chosen (event.Format format) = gives_silent w w.down chosen (server_input.Formats format)

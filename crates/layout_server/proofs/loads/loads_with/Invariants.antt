@@ -1,16 +1,16 @@
 use Rattle.std.proofs.Common.{◌≡◌, ◌++◌, drop}
-use Rattle.std.specs.Prelude.{ℕ, Bool, List, All, map}
+use Rattle.std.specs.Prelude.{ℕ, Bool, List, Option, All, map}
 use Rattle.server_rules.specs.declared.server.Drive.{Drive}
 use Rattle.stripe_repair.specs.declared.loads.DriveLoad.{DriveLoad}
 use Rattle.stripe_repair.specs.Placing.{FitsLoad}
 use Rattle.server_state.specs.Counts.{Counts, told}
 use Rattle.layout_server.proofs.loads.loads_with.Given as goal
 
-abbrev pub in_load : DriveLoad → ℕ × Bool
-in_load l = (l.drive, l.online)
+abbrev pub in_load : DriveLoad → ℕ × Bool × Option ℕ
+in_load l = (l.drive, l.online, l.zone)
 
-abbrev pub in_drive : Drive → ℕ × Bool
-in_drive d = (d.number, d.online)
+abbrev pub in_drive : Drive → ℕ × Bool × Option ℕ
+in_drive d = (d.number, d.online, d.zone)
 
 pub record Loaded (counts : Counts) (loads : List DriveLoad) (rest all : List Drive) : Type 0 where
   pub value : map in_load loads ++ map in_drive rest ≡ map in_drive all

@@ -12,6 +12,10 @@ pub returns-in-File : goal.returns-in-File
 unfolding begins
 returns-in-File g c = rw c.in-File.is c.make_file.ensures
 
+pub returns-in-ZonedFile : goal.returns-in-ZonedFile
+unfolding begins
+returns-in-ZonedFile g c = rw c.in-ZonedFile.is c.make_file-in-ZonedFile.ensures
+
 pub returns-in-Recall : goal.returns-in-Recall
 unfolding begins
 returns-in-Recall g c = rw (c.in-Recall.is, ← c.number.ensures.number) c.order.ensures

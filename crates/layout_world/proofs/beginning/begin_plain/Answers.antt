@@ -10,6 +10,10 @@ pub returns-in-Disk : goal.returns-in-Disk
 unfolding begins
 returns-in-Disk c = rw c.in-Disk.is (held c.add_drive-in-Disk.result _ _ c.add_drive-in-Disk.ensures)
 
+pub returns-in-Zone : goal.returns-in-Zone
+unfolding begins
+returns-in-Zone c = rw c.in-Zone.is (λ _. c.set_zone.ensures)
+
 pub returns-in-Client : goal.returns-in-Client
 unfolding begins
 returns-in-Client c = rw c.in-Client.is (held c.add.result _ _ c.add.ensures)

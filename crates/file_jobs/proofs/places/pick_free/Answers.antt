@@ -2,7 +2,7 @@ use Rattle.std.specs.Prelude.{count_by, refl}
 use Rattle.std.proofs.Common.{arith, ap, sym, ◌∙◌}
 use Rattle.stripe_repair.specs.declared.loads.DriveLoad.{DriveLoad}
 use Rattle.file_jobs.proofs.Placed.{none_free, can_place, picked_free}
-use Rattle.file_jobs.proofs.places.pick.Goals as goal
+use Rattle.file_jobs.proofs.places.pick_free.Goals as goal
 
 pub returns-then-online_count-eq0 : goal.returns-then-online_count-eq0
 returns-then-online_count-eq0 g c = λ ds e. none_free c.args.components.now c.args.loads.now ds e

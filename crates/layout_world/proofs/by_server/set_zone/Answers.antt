@@ -1,0 +1,12 @@
+use Rattle.std.proofs.Common.{[]}
+use Rattle.server_rules.specs.History.{Zones}
+use Rattle.world_history.specs.Moves.{gives}
+use Rattle.world_network.specs.Acts.{nothing}
+use Rattle.layout_world.proofs.Acted.{server_keeps}
+use Rattle.layout_world.proofs.by_server.set_zone.Goals as goal
+
+pub returns : goal.returns
+returns c =
+    rw c.nothing.ensures
+    (server_keeps c.args.parties.now c.set_zone.new.self nothing (λ w chosen. gives w chosen (Zones c.args.drive c.args.zone)) []
+    c.set_zone.ensures.state c.set_zone.ensures.mended)
