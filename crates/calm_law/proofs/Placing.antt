@@ -39,7 +39,7 @@ not_filtered n p (d ∷ ds) h = elim (cases_Bool (p d)) [
   | inr z ↦ rw z (not_filtered n p ds (not_first n d.number (numbers ds) h).1)
 ]
 
-different_filtered : (p : Drive → Bool) (ds : List Drive) → AreDifferent (numbers ds) → AreDifferent (numbers (filter p ds))
+pub different_filtered : (p : Drive → Bool) (ds : List Drive) → AreDifferent (numbers ds) → AreDifferent (numbers (filter p ds))
 different_filtered p [] h = tt
 different_filtered p (d ∷ ds) h = elim (cases_Bool (p d)) [
   | inl t ↦ rw t (not_filtered d.number p ds h.0, different_filtered p ds h.1)
@@ -131,7 +131,7 @@ drives_made (d ∷ ds) object = ap (λ (x : List ℕ). d ∷ x) (drives_made ds 
 
 -- ---- the drives that the server knows
 
-numbers_offline : (ds : List Drive) (drive : ℕ) → numbers (offline ds drive) ≡ numbers ds
+pub numbers_offline : (ds : List Drive) (drive : ℕ) → numbers (offline ds drive) ≡ numbers ds
 unfolding offline
 numbers_offline [] drive = refl
 numbers_offline (d ∷ ds) drive = elim (cases_Bool (d.number == drive)) [

@@ -70,7 +70,7 @@ found_from out k (suc n) (suc i) less there = elim (cases_Bool (among k out)) [
 ]
 
 -- so is one of the replicas
-not_out : (m : RawMap) (out : List ℕ) (p i : ℕ) → i / replicas m ≡ p → among i out ≡ false → is_out m out p ≡ false
+pub not_out : (m : RawMap) (out : List ℕ) (p i : ℕ) → i / replicas m ≡ p → among i out ≡ false → is_out m out p ≡ false
 unfolding source
 not_out m out p i is there =
     let whole : p * replicas m + i % replicas m ≡ i =

@@ -74,7 +74,8 @@ pub mod HeldTelling
 pub mod Covered
 mod Listing
 mod HeldRows
-mod Enough
+pub mod Missing
+pub mod Enough
 pub mod HeldTaken
 pub mod HeldMoving
 pub mod HeldGoing

@@ -9,6 +9,7 @@ use Rattle.history_law.specs.Ranges.{RangesAreApart}
 use Rattle.fencing_law.specs.Holder.{EachHolderIsOwn}
 use Rattle.fencing_law.specs.Fences.{UnforgedAreFenced}
 use Rattle.history_claims.specs.Components.{ComponentsStandApart}
+use Rattle.history_claims.specs.Spread.{ComponentsStandSpread}
 use Rattle.history_claims.specs.Created.{EachFileIsCreated}
 use Rattle.history_claims.specs.Sound.{HistoriesAreSound}
 use Rattle.tag_law.specs.Given.{GrantsAreOlder}
@@ -28,11 +29,12 @@ use Rattle.history_claims.proofs.Texts.{events_make_text}
 use Rattle.history_claims.proofs.Cutting.{cuts_go_on}
 
 pub histories_are_sound : HistoriesAreSafe → VerdictsAreAnswered → CommandsAreIssued → UnforgedAreIssued
-    → UnguessedAreUnforged → RangesAreApart → FrontsAreLawful → ComponentsStandApart → EachFileIsCreated
+    → UnguessedAreUnforged → RangesAreApart → FrontsAreLawful → ComponentsStandApart → ComponentsStandSpread
+    → EachFileIsCreated
     → EachHolderIsOwn → UnforgedAreFenced → EachAnswerIsLive → EachGivenWasLive → GrantsAreOlder → GivenIsBarred
     → CommandsAreIssuedExactly → UnforgedAreIssuedExactly → LanesAreFair → LanesAreOwn → RefusalsWereJudged
     → RefusalsWereAwaited → CountersStayLow → CallsEndSo → EachTagIsItsFiles → WithinTheLimitAreFew → HistoriesAreSound
-histories_are_sound safe answered issued listed fair ranges fronts apart created own fenced live given older barred exact
+histories_are_sound safe answered issued listed fair ranges fronts apart spread created own fenced live given older barred exact
     allowed lanes lanes_own judged awaited low ends tags few = record {
       sound = λ h l. record {
         safe = safe h l;
@@ -42,6 +44,7 @@ histories_are_sound safe answered issued listed fair ranges fronts apart created
         live = λ w s a. live w h s a;
         given = λ w s text few. given w h s text few;
         apart = apart h l;
+        spread = spread h l;
         created = λ w s a. created w h s a;
         listed = listed h l;
         fair = fair h l;

@@ -14,6 +14,7 @@ use Rattle.calm_law.specs.Naming.{AreNamed}
 use Rattle.fencing_law.specs.Fenced.{FencesLast}
 use Rattle.fencing_law.specs.Holder.{OwnUnlessForged}
 use Rattle.history_claims.specs.Components.{AreComponentsApart}
+use Rattle.history_claims.specs.Spread.{AreComponentsSpread}
 use Rattle.history_claims.specs.Created.{FilesAreCreated}
 use Rattle.history_claims.specs.Lanes.{HaveFairLanes, HaveOwnLanes}
 use Rattle.tag_law.specs.Given.{GivenBefore}
@@ -52,6 +53,9 @@ pub record IsSound (h : List Line) : Type 0 where
   -- where lines can name the drives and files that events make, the components of each file stand on different drives, and
   -- one that is made anew comes onto a further drive
   pub apart : AreNamed h → AtEachMoment AreComponentsApart h
+  -- so those of a zoned file are spread over the zones into which events put drives: no zone has more of a group than its code
+  -- brings back. If all lost ones were of one zone, each stripe can be read and written
+  pub spread : AreNamed h → AtEachMoment AreComponentsSpread h
   -- in a whole history the CREATEs of the step in which a file is made go to the drives of its components, in order and one
   -- each, as the book has the file behind the step
   pub created : (w : World) → StandsFor w h → AreWritten h → FilesAreCreated h

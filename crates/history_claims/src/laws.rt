@@ -2,6 +2,7 @@
 ghost use Rattle.history_claims.specs.Components.{ComponentsStandApart};
 ghost use Rattle.history_claims.specs.Created.{EachFileIsCreated};
 ghost use Rattle.history_claims.specs.Sound.{HistoriesAreSound};
+ghost use Rattle.history_claims.specs.Spread.{ComponentsStandSpread};
 
 use calm_law::{each_step_is_apart, each_step_is_sound};
 use ending_law::calls_end_so;
@@ -20,6 +21,7 @@ use tag_law::{
     answers_are_live, each_tag_is_its_files, given_is_barred, given_was_live, grants_are_older,
 };
 use world_history::{fronts_are_lawful, one_event_more, reading_goes_on};
+use zone_law::{each_step_spreads, each_step_zones, one_zone_is_borne};
 
 /// At each moment of a lawful history whose events lines can name, the components of each file, present or missing,
 /// stand on different drives, and where a rebuild makes one anew it does so on a further drive.
@@ -28,6 +30,19 @@ pub fn components_stand_apart()
 {
     each_step_is_sound();
     each_step_is_apart();
+}
+
+/// So the components of each zoned file are spread over zones: no zone has more of a group than the code brings back, each
+/// counted, present or missing, on the drive on which it stands or last stood. If all lost ones were of one zone, each
+/// stripe can be read and written.
+pub fn components_stand_spread()
+    ensures { ComponentsStandSpread }
+{
+    each_step_is_sound();
+    each_step_is_apart();
+    each_step_spreads();
+    each_step_zones();
+    one_zone_is_borne();
 }
 
 /// In a whole history whose events a text may have, of each event that makes a file which isn't there: the CREATEs of the
@@ -45,7 +60,8 @@ pub fn files_are_created()
 /// a delivered message is the drive's reply; what a drive performs is the server's, or was issued to the client whose
 /// command it is; no byte of a component is inside the capabilities of two live grants of which one is for writing;
 /// each layout that the server sends a client is of a grant of this client that is live then, or repeats what it was
-/// sent; the components of a file stand on different drives, to which its CREATEs went. As far as nothing is forged,
+/// sent; the components of a file stand on different drives, to which its CREATEs went, and those of a zoned file are
+/// spread over zones. As far as nothing is forged,
 /// injected bytes that are performed carry a capability that the server gave a client, or are its own; what is
 /// performed under the server's holder is its own, and each lane of an object its holder's; and a fence that is over
 /// lasts, and bars what was given before it. In a history of a scenario's text with few messages each performed command
@@ -65,6 +81,7 @@ pub fn histories_are_sound()
     ranges_are_apart();
     fronts_are_lawful();
     components_stand_apart();
+    components_stand_spread();
     files_are_created();
     holders_are_own();
     unforged_are_fenced();

@@ -7,4 +7,6 @@
 
 mod laws;
 
-pub use laws::{components_stand_apart, files_are_created, histories_are_sound};
+pub use laws::{
+    components_stand_apart, components_stand_spread, files_are_created, histories_are_sound,
+};

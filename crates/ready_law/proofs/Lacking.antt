@@ -1,11 +1,9 @@
 -- Where enough is left of each stripe of a range, a writer there lacks no component.
-use Rattle.std.proofs.Common.{◌≡◌, ◌==◌, ◌<◌, ◌≤◌, ℕ, zero, suc, ◌+◌, ◌*◌, ◌/◌, ◌&&◌, not, Bool, true, false, List, [], ◌∷◌, Option, Some, None, length, slice_get, filter, refl, sym, ap, subst, ◌∙◌, arith, inl, inr}
+use Rattle.std.proofs.Common.{◌≡◌, ◌==◌, ◌<◌, ◌≤◌, ℕ, zero, suc, ◌+◌, ◌*◌, ◌/◌, ◌&&◌, Bool, true, false, List, [], ◌∷◌, Some, None, length, slice_get, filter, refl, ap, subst, ◌∙◌, arith, inl, inr}
 use Rattle.std.specs.Prelude.{is_none}
 use Rattle.std.specs.List.{range_with_len}
 use Rattle.std.proofs.lemmas.Bool.{cases_Bool, cases_lt, le-ltb, ltb-true, eq-eqb, or_right}
 use Rattle.std.proofs.lemmas.Bool.Decides.{nat_tests}
-use Rattle.std.proofs.lemmas.Nat.{div-mul-add}
-use Rattle.std.proofs.lemmas.Option.{slice_get_cases}
 use Rattle.std.proofs.Math.Nat.{add-mul, mul-le-mul_right}
 use Rattle.data_map.specs.declared.check.RawMap.{RawMap}
 use Rattle.data_map.specs.Check.{IsChecked}
@@ -16,7 +14,8 @@ use Rattle.data_map.proofs.Striping.{group_again, row_again}
 use Rattle.stripe_plan.specs.Lost.{among, source_from, source, is_out, out_from, positions_out, is_short}
 use Rattle.world_history.specs.ServerNames.{Component}
 use Rattle.server_rules.specs.Maps.{group_with, rows_below, stands_in}
-use Rattle.server_rules.specs.Standing.{replica_from, replica, lacking, is_beyond, lacked_from}
+use Rattle.server_rules.specs.Standing.{replica, lacking, is_beyond, lacked_from}
+use Rattle.exchange_law.proofs.Missing.{missing_replica, component_at}
 use Rattle.exchange_law.proofs.PlaceRows.{rows_to, rows_from}
 use Rattle.exchange_law.proofs.HeldTaken.{below_product}
 use Rattle.ready_law.specs.Ready.{Scene, is_lost, lost_from, lost_of}
@@ -48,35 +47,6 @@ lost_are_listed s f k at e l =
 
 -- ---- a position without a present replica
 
-missing_by : (a b : Bool) → (not a && b) ≡ false → b ≡ true → a ≡ true
-missing_by true b e t = refl
-missing_by false true e t = absurd (cc e)
-missing_by false false e t = absurd (cc t)
-
-none_there : (o : Option ℕ) → is_none o ≡ true → o ≡ None
-none_there None e = refl
-none_there (Some n) e = absurd (cc e)
-
-all_missing : (m : RawMap) (p : ℕ) (cs : List Component) (k : ℕ) → replica_from m p cs k ≡ None
-    → (i : ℕ) (at : Component) → slice_get cs i ≡ Some at → (k + i) / replicas m ≡ p → at.missing ≡ true
-unfolding replica_from
-all_missing m p [] k e i at found here = absurd (cc found)
-all_missing m p (c ∷ cs) k e zero at found here = elim (cases_Bool (not c.missing && (k / replicas m == p))) [
-  | inl t ↦ absurd (cc (rw t at e))
-  | inr z ↦
-      let same : c ≡ at = cc found in
-      let at0 : k + 0 ≡ k = omega arith in
-      let its : (k / replicas m == p) ≡ true =
-      eq-eqb (k / replicas m) p (ap (λ (x : ℕ). x / replicas m) (sym at0) ∙ here) in
-      ap (λ (x : Component). x.missing) (sym same) ∙ missing_by c.missing (k / replicas m == p) z its
-]
-all_missing m p (c ∷ cs) k e (suc i) at found here = elim (cases_Bool (not c.missing && (k / replicas m == p))) [
-  | inl t ↦ absurd (cc (rw t at e))
-  | inr z ↦
-      let on : k + 1 + i ≡ k + suc i = omega arith in
-      all_missing m p cs (k + 1) (rw z at e) i at found (ap (λ (x : ℕ). x / replicas m) on ∙ here)
-]
-
 no_source : (lost : List ℕ) (k n : ℕ) → ((i : ℕ) → i < n → among (k + i) lost ≡ true)
     → is_none (source_from lost k n) ≡ true
 unfolding source_from
@@ -87,12 +57,6 @@ no_source lost k (suc n) h =
     rw here (no_source lost (k + 1) n (λ i l.
     let on : k + suc i ≡ k + 1 + i = omega arith in
     subst (λ (x : ℕ). among x lost ≡ true) on (h (suc i) (omega (arith, l)))))
-
-there : (cs : List Component) (k : ℕ) → k < length cs → (at : Component) × (slice_get cs k ≡ Some at)
-there cs k inside = elim (slice_get_cases cs k).1 [
-  | inl x ↦ (x.0, x.2)
-  | inr y ↦ absurd (omega (arith, y.0, inside))
-]
 
 -- ---- a stripe of a group in a range
 
@@ -129,10 +93,8 @@ module _ (m : RawMap) (cs : List Component) (lost : List ℕ) (ch : IsChecked m)
   out_there p less none =
       no_source lost (p * replicas m) (replicas m) (λ i l.
       let k : ℕ = p * replicas m + i in
-      let at = there cs k (omega (arith, replicas_inside m p ch less, l, long)) in
-      let z : 0 + k ≡ k = omega arith in
-      gone k at.0 at.1 (all_missing m p cs 0 (none_there (replica m cs p) none) k at.0 at.1
-      (ap (λ (x : ℕ). x / replicas m) z ∙ div-mul-add p (replicas m) i l)))
+      let at = component_at cs k (omega (arith, replicas_inside m p ch less, l, long)) in
+      gone k at.0 at.1 (missing_replica m p cs i at.0 none at.1 l))
 
   fewer_lacking : (p n : ℕ) → ((i : ℕ) → i < n → p + i < positions m)
       → length (filter (λ (q : ℕ). is_none (replica m cs q)) (range_with_len p n)) ≤ length (out_from m lost p n)

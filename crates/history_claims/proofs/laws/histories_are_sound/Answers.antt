@@ -5,7 +5,8 @@ pub returns : goal.returns
 returns c =
     histories_are_sound c.histories_are_safe.ensures c.verdicts_are_answered.ensures c.commands_are_issued.ensures
     c.unforged_are_issued.ensures c.unguessed_are_unforged.ensures c.ranges_are_apart.ensures
-    c.fronts_are_lawful.ensures c.components_stand_apart.ensures c.files_are_created.ensures c.holders_are_own.ensures
+    c.fronts_are_lawful.ensures c.components_stand_apart.ensures c.components_stand_spread.ensures
+    c.files_are_created.ensures c.holders_are_own.ensures
     c.unforged_are_fenced.ensures c.answers_are_live.ensures c.given_was_live.ensures c.grants_are_older.ensures
     c.given_is_barred.ensures c.commands_are_issued_exactly.ensures c.unforged_are_issued_exactly.ensures
     c.lanes_are_fair.ensures c.lanes_are_own.ensures c.refusals_were_judged.ensures c.refusals_were_awaited.ensures
