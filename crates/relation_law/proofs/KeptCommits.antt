@@ -1,6 +1,6 @@
 -- A commit that the server carries out names the end of the write that its client is at.
 -- Towards `KeptGoesOn` (`specs/Steps.antt`).
-use Rattle.std.proofs.Common.{◌≡◌, ◌==◌, ◌&&◌, ◌+◌, ◌-◌, ◌<◌, ℕ, Bool, true, false, List, ◌∷◌, Option, Some, None, refl, sym, ap, subst, ◌∙◌, arith}
+use Rattle.std.proofs.Common.{◌≡◌, ◌==◌, ◌&&◌, ◌+◌, ◌-◌, ◌<◌, ℕ, Bool, true, false, List, [], ◌∷◌, Option, Some, None, refl, sym, ap, subst, ◌∙◌, arith}
 use Rattle.std.proofs.lemmas.Bool.{true≢false, eq-eqb, eqb-false}
 use Rattle.data_map.specs.declared.check.RawMap.{RawMap}
 use Rattle.layout_types.specs.Grammar.{whole}
@@ -37,8 +37,8 @@ use Rattle.ending_law.proofs.Moves.{AllClients, IsKeptGiven, Given, acts_go}
 use Rattle.fence_law.specs.State.{State}
 use Rattle.file_simulation.specs.Calls.{CallAt, CallOn, WaitsCommit}
 use Rattle.file_simulation.specs.EventLists.{entry_in, entry_of}
-use Rattle.relation_law.specs.Requests.{Works, IsReturning}
-use Rattle.relation_law.specs.RequestsClients.{AsksBy, AsksFor}
+use Rattle.relation_law.specs.Requests.{Works}
+use Rattle.relation_law.specs.RequestsClients.{IsReturnOf, AsksBy, AsksFor}
 use Rattle.relation_law.proofs.RequestsAsking.{works_due}
 use Rattle.relation_law.proofs.RequestsServed.{commit_read, return_read}
 
@@ -89,6 +89,11 @@ all_numbered = record {
       move_numbers w m (given_rule w r m.action due) (k (text_front h (move w m).lines text));
 }
 
+-- a client that there is has a number that lines can name
+pub client_low : (w : World) (h : List Line) → IsMoment w h → AreOfText h → (c : ℕ) (a : ClientAt)
+    → at_number w.clients c ≡ Some a → c < CLIENTS
+client_low w h m text c a found = at_moment AreNumbered all_numbered w h m text c a found
+
 -- so has one of whom a request is outstanding
 pub asker_low : (w : World) (h : List Line) → IsMoment w h → AreOfText h → (c : ℕ) (r : Request)
     → (state_of c (at_number w.clients c)).outstanding ≡ Some r → c < CLIENTS
@@ -121,8 +126,8 @@ module _ (file : ℕ) (m : RawMap) (s : State) (c : ℕ) (x : Client) (o : Optio
   abbrev EndsAt : Type 0
   EndsAt = (last : ℕ) → a.last_write_offset ≡ Some last → last + 1 ≡ (s.start (entry_of s c)).end_
 
-  no_return : IsReturning r.args → EndsAt
-  no_return back = absurd (subst IsReturning commits back)
+  no_return : IsReturnOf [] r.args → EndsAt
+  no_return back = absurd (cc (sym commits ∙ back.1))
 
   works : (op : CallOp) (p : Phase) → x.call ≡ Some (record { op = op; phase = p }) → Works p → EndsAt
   works op p is free = no_return (works_due x op p is free asks r out)
@@ -174,11 +179,11 @@ module _ (file : ℕ) (m : RawMap) (s : State) (c : ℕ) (x : Client) (o : Optio
   by_need : (op : CallOp) (n : Need) → x.call ≡ Some (record { op = op; phase = Waits n }) → AsksBy n (args.LayoutCommit a)
       → IsCall op → PhaseFine K (held_of x.held (file_of op)) (Some r) op (Waits n)
       → CallOn (file_of op == file) m s c (record { op = op; phase = Waits n }) o → EndsAt
-  by_need op First is asked call fine at = absurd asked
+  by_need op First is asked call fine at = absurd (cc asked.1)
   by_need op (Get tries) is asked call fine at = absurd asked
   by_need op (Commit timed) is asked call fine at = ends_write op timed call fine at
-  by_need op (Report timed) is asked call fine at = absurd asked
-  by_need op (Close u report) is asked call fine at = absurd asked
+  by_need op (Report timed) is asked call fine at = absurd (cc asked.1.1)
+  by_need op (Close u report) is asked call fine at = absurd (cc asked.1)
 
   by_phase : (op : CallOp) (p : Phase) → x.call ≡ Some (record { op = op; phase = p }) → IsCall op
       → PhaseFine K (held_of x.held (file_of op)) (Some r) op p

@@ -161,3 +161,14 @@ pub mod MessagesSent
 pub mod MessagesKept
 pub mod MessagesScatter
 pub mod MessagesLines
+pub mod ReturnsShort
+pub mod ReturnsNamed
+pub mod ReturnsMoves
+pub mod ReturnsRun
+pub mod ReturnsServer
+pub mod ReturnsStands
+pub mod ReturnsRead
+pub mod ReturnsRight
+pub mod RequestsHeld
+pub mod CallsFitting
+pub mod RequestsReturns

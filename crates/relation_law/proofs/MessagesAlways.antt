@@ -26,7 +26,7 @@ use Rattle.relation_law.proofs.MessagesRun.{CallFits, IsFine, FineDone, FineStep
 use Rattle.relation_law.proofs.MessagesTaken.{taken_usable}
 
 -- nothing is said of how a call ends
-abbrev Any : List ℕ → Type 0
+abbrev pub Any : List ℕ → Type 0
 Any bytes = Unit {0}
 
 -- ---- answers
@@ -48,7 +48,7 @@ on_phase_fine d op (Probes io) a f b = f
 on_phase_fine d op (Gathers io) a f b = f
 on_phase_fine d op (Scatters io queue) a f b = f
 
-on_call_fine : (d : Done) (o : Option Call) (a : Answer) → d.client.call ≡ o → FineDone Any d → FineDone Any (on_call d o a)
+pub on_call_fine : (d : Done) (o : Option Call) (a : Answer) → d.client.call ≡ o → FineDone Any d → FineDone Any (on_call d o a)
 on_call_fine d None a e f = f
 on_call_fine d (Some call) a e f = on_phase_fine d call.op call.phase a f (call_bytes d.client.held d.client.call call e f.call)
 
@@ -95,11 +95,11 @@ call_fit hs None call h e x held = absurd (cc e)
 call_fit hs (Some q) call h e x held = let same : q ≡ call = cc e in
     subst (λ (y : Call). IsFit h y.op y.phase) same (x.1 h (ap (λ (y : Call). held_of hs (file_of y.op)) same ∙ held))
 
-quiet_fine : (Fit : List ℕ → Type 0) (c : Client) → IsFine c → FineDone Fit (quiet c)
+pub quiet_fine : (Fit : List ℕ → Type 0) (c : Client) → IsFine c → FineDone Fit (quiet c)
 quiet_fine Fit c f = record { usable = f.usable; call = f.call; outcome = tt }
 
 module _ (c : Client) (i : Input) (f : IsFine c) where
-  replied_done : (Fit : List ℕ → Type 0) (drive : ℕ) (q : Reply) (call : Call) (h : Held) (a : Awaited) →
+  pub replied_done : (Fit : List ℕ → Type 0) (drive : ℕ) (q : Reply) (call : Call) (h : Held) (a : Awaited) →
       IsReplied c i drive q call h a →
       ((bytes : List ℕ) → ReadEnds h call.op (got_by call.phase ++ got_of a q ∷ []) bytes → Fit bytes) →
       FineDone Fit (moved (quiet c) call.op (replied h call.op call.phase a q))
@@ -111,7 +111,7 @@ module _ (c : Client) (i : Input) (f : IsFine c) where
       (found_one (answers drive q) (awaited_in call.phase) a k.awaits)
       (call_fit c.held c.call call h k.call_is f.call k.held)) fit
 
-  timed_done : (Fit : List ℕ → Type 0) (n : ℕ) (call : Call) (h : Held) (a : Awaited) (xs : List Awaited) →
+  pub timed_done : (Fit : List ℕ → Type 0) (n : ℕ) (call : Call) (h : Held) (a : Awaited) (xs : List Awaited) →
       IsTimed c i n call h a xs →
       ((bytes : List ℕ) → ReadEnds h call.op (got_by call.phase) bytes → Fit bytes) →
       FineDone Fit (moved (quiet c) call.op (timed_out h call.op call.phase n a xs))
@@ -172,7 +172,7 @@ all_fine : (c : Client) (is : List Input) → IsFine c → IsFine (state_after c
 all_fine c [] f = f
 all_fine c (i ∷ is) f = all_fine (step c i).client is (turn_is_fine c i f)
 
-new_fine : (number sequence : ℕ) → IsFine (new_client number sequence)
+pub new_fine : (number sequence : ℕ) → IsFine (new_client number sequence)
 unfolding held_of
 new_fine number sequence = record { usable = λ file h e. absurd (cc e); call = tt }
 

@@ -125,7 +125,7 @@ gather_timed_fits h op io k timed ch g = elim (cases_Bool (is_too_short h op tim
 -- ---- a call begins
 
 -- what a held grant can write, each call that it covers can
-begin_writable : (h : Held) (op : CallOp) → IsUsable h → is_write op ≡ true → is_for h.reach h.size op ≡ true →
+pub begin_writable : (h : Held) (op : CallOp) → IsUsable h → is_write op ≡ true → is_for h.reach h.size op ≡ true →
     unwritable h.map (outs h []) (stripes h.map (span_of op)) ≡ None
 unfolding outs is_for
 begin_writable h op u is covers =

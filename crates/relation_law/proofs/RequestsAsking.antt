@@ -13,7 +13,7 @@ use Rattle.world_history.specs.ClientNames.{Client, Call, CallOp, Held, Due, Req
 use Rattle.exchange_law.specs.Calls.{Has}
 use Rattle.exchange_law.proofs.ClientKeeping.{put_other, none_left, without_read}
 use Rattle.relation_law.specs.Requests.{waits_in, Works, IsReturning}
-use Rattle.relation_law.specs.RequestsClients.{AsksBy, NeedsHeld, IsCommit, AsksFor}
+use Rattle.relation_law.specs.RequestsClients.{IsReturnOf, AsksBy, NeedsHeld, IsCommit, AsksFor}
 use Rattle.relation_law.proofs.RequestsDealt.{file_of_moved, begins_file}
 use Rattle.relation_law.proofs.RequestsMoves.{WorksTurn, WorksMoved, turn_of, needs, begins_works}
 
@@ -62,7 +62,7 @@ none_by (Some h) none = absurd (none h refl)
 -- ---- where nothing is outstanding, or only a return
 
 -- a client without a call
-pub no_call : (x : Client) → x.call ≡ None → ((r : Request) → x.outstanding ≡ Some r → IsReturning r.args)
+pub no_call : (x : Client) → x.call ≡ None → ((r : Request) → x.outstanding ≡ Some r → IsReturnOf [] r.args)
     → ((r : Request) → x.outstanding ≡ Some r → IsReturning r.args → held_of x.held r.file ≡ None) → AsksFor x
 no_call x none due gone = record {
   waits = λ op n at. absurd (cc (sym none ∙ at));
@@ -74,7 +74,7 @@ no_call x none due gone = record {
 
 -- one whose call works
 pub works_on : (x : Client) (op : CallOp) (p : Phase) → x.call ≡ Some (record { op = op; phase = p }) → Works p
-    → ((r : Request) → x.outstanding ≡ Some r → IsReturning r.args)
+    → ((r : Request) → x.outstanding ≡ Some r → IsReturnOf [] r.args)
     → ((r : Request) → x.outstanding ≡ Some r → IsReturning r.args → held_of x.held r.file ≡ None)
     → ((n : Need) → p ≡ Needs n → NeedsHeld n (held_of x.held (file_of op))) → AsksFor x
 works_on x op p is works due gone need = record {
@@ -103,7 +103,7 @@ alike x y call out held k = record {
 -- ---- a call goes on with the drives
 
 module _ (d : Done) (op : CallOp) (h : Held) (held : held_of d.client.held (file_of op) ≡ Some h)
-    (due : (r : Request) → d.client.outstanding ≡ Some r → IsReturning r.args)
+    (due : (r : Request) → d.client.outstanding ≡ Some r → IsReturnOf [] r.args)
     (gone : (r : Request) → d.client.outstanding ≡ Some r → IsReturning r.args → held_of d.client.held r.file ≡ None)
     (m : Moved) (file : m.held.file ≡ h.file) where
   abbrev hs : List Held
@@ -134,7 +134,7 @@ module _ (d : Done) (op : CallOp) (h : Held) (held : held_of d.client.held (file
 
 -- what is known of a client whose call works
 pub works_due : (x : Client) (op : CallOp) (p : Phase) → x.call ≡ Some (record { op = op; phase = p }) → Works p → AsksFor x
-    → (r : Request) → x.outstanding ≡ Some r → IsReturning r.args
+    → (r : Request) → x.outstanding ≡ Some r → IsReturnOf [] r.args
 works_due x op p is works k = k.due (λ b n at. not_waiting op b p n works (sym is ∙ at))
 
 -- ---- a call begins
@@ -184,11 +184,10 @@ module _ (d : Done) (k : AsksFor d.client) where
 -- ---- a request goes out
 
 -- behind a return nothing is held on its file
-returned_asks : (d : Done) (file number : ℕ) (report : List IoErr) → d.client.call ≡ None
-    → AsksFor (requests d file (return_args number report)).client
+returned_asks : (d : Done) (file number : ℕ) → d.client.call ≡ None → AsksFor (requests d file (return_args number [])).client
 unfolding requests
-returned_asks d file number report none =
-    no_call _ none (λ r out. subst (λ (q : Request). IsReturning q.args) (some_same out) tt)
+returned_asks d file number none =
+    no_call _ none (λ r out. subst (λ (q : Request). IsReturnOf [] q.args) (some_same out) (number, refl))
     (λ r out back. subst (λ (q : Request). held_of (without_held d.client.held file) q.file ≡ None) (some_same out)
     (none_left d.client.held file))
   where
@@ -279,11 +278,12 @@ module _ (d : Done) (op : CallOp) where
   asks_it (Commit timed) None held has = absurd has
   asks_it (Report timed) None held has = absurd has
   asks_it (Close u report) None held has = absurd has
-  asks_it First (Some h) held has = waits_return d op First h.number [] tt (λ z. z)
+  asks_it First (Some h) held has = waits_return d op First h.number [] (h.number, refl) (λ z. z)
   asks_it (Get tries) (Some h) held has = waits_get tries
   asks_it (Commit timed) (Some h) held has = waits_commit timed h held
-  asks_it (Report timed) (Some h) held has = waits_return d op (Report timed) h.number (report_of h timed) tt (λ z. z)
-  asks_it (Close u report) (Some h) held has = waits_return d op (Close u report) h.number report tt (λ z. z)
+  asks_it (Report timed) (Some h) held has =
+      waits_return d op (Report timed) h.number (report_of h timed) (h, (h.number, refl)) (λ z. z)
+  asks_it (Close u report) (Some h) held has = waits_return d op (Close u report) h.number report (h.number, refl) (λ z. z)
 
 -- ---- to the end of a step
 
@@ -300,7 +300,7 @@ module _ (d : Done) (k : AsksFor d.client) where
 
   gives_back : d.client.call ≡ None → (u : Option Due) → AsksFor (returns d u).client
   gives_back none None = alike d.client _ refl refl refl k
-  gives_back none (Some u) = returned_asks _ u.file u.number [] none
+  gives_back none (Some u) = returned_asks _ u.file u.number none
 
   due_back : d.client.call ≡ None → AsksFor (returns_due d).client
   unfolding returns_due

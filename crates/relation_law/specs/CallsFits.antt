@@ -32,7 +32,7 @@ AskedFor n a = IsReturn a
 
 -- What is asked of a client whose outstanding request r is answered by a: the request is its call's, or a return that was
 -- due; a commit is carried out or its grant is over; behind a report no grant is held; a call that closes has not ended
--- well; and what a call needs it needs under its grant. Nothing is proved of this yet.
+-- well; and what a call needs it needs under its grant. So it is of each answer that is taken (`proofs/CallsFitting.antt`).
 pub record AnswerFits (file : ℕ) (x : Client) (a : Answer) (r : Request) : Type 0 where
   pub waits : (op : CallOp) (n : Need) → x.call ≡ Some (record { op = op; phase = Waits n }) →
       (r.file ≡ file_of op) × AskedFor n r.args

@@ -27,6 +27,6 @@ pub record KeptParts : Type 0 where
   pub kept : KeptGoesOn
   pub high : HighGoesOn
 
--- They follow from it.
+-- They follow from it, which is proved (`proofs/ReturnsRight.antt`).
 abbrev pub KeptFollows : Type 0
 KeptFollows = ReturnsAreRight → KeptParts

@@ -26,3 +26,4 @@ pub mod KeptSupplies
 pub mod RequestsClients
 pub mod ComponentsMove
 pub mod KeptFollows
+pub mod Returns

@@ -134,6 +134,6 @@ pub record CarriesOut (w : World) (s : State) (f : File) (c : ℕ) (q : ClientRe
   pub next : last_of (slot_of w.server.slots c) + 1 ≡ request.sequence
   pub waits : IsOutstanding f.kept.number f.kept.map s (slot_of w.server.slots c) c (client_of w c) request
 
--- Requests follow from what the server keeps, the components, and returns that are held.
+-- Requests follow from the components.
 abbrev pub RequestsFollow : Type 0
-RequestsFollow = KeptGoesOn → ComponentsGoOn → ReturnsAreHeld → RequestsGoOn
+RequestsFollow = ComponentsGoOn → RequestsGoOn
