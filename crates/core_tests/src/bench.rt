@@ -2,9 +2,8 @@
 ghost use Rattle.std.specs.Prelude.{[], ◌≡◌, IfOk};
 ghost use Rattle.layout_server.specs.Adding.{CanAdd};
 
-use crate::moves::{Move, Questions, bytes_of, sender};
+use crate::moves::{Move, Questions, put_move, sender};
 use crate::placing::FirstOnline;
-use crate::starts::{Start, moves_of};
 use crate::words::{put_note, put_sent};
 use data_map::RawMap;
 use layout_server::{DriveInfo, DriveTable, ServerCore, Step};
@@ -14,21 +13,7 @@ use std::process::Abort;
 
 /// The file of a case, whose number is 0, on a server with drives 0 to 5, and units of four bytes.
 #[derive(Clone, Copy)]
-pub enum File {
-    /// Three components with a rotating parity.
-    Raid5,
-    /// The same, with the greatest tag.
-    Spent,
-    /// The same, of which no object is made yet.
-    Unmade,
-    /// Two positions with two replicas each.
-    Mirrors,
-    /// Two data units and two parities.
-    RaidPq,
-}
-
-#[derive(Clone, Copy)]
-struct Setup {
+pub struct File {
     comps: u32,
     // From RAID_0 (1) to RAID_PQ (4).
     algorithm: u32,
@@ -38,31 +23,47 @@ struct Setup {
     is_made: bool,
 }
 
-fn setup_with(comps: u32, algorithm: u32, mirrors: u32, tag: u32, is_made: bool) -> Setup {
-    Setup {
-        comps,
-        algorithm,
-        mirrors,
-        tag,
-        is_made,
-    }
-}
+/// Three components with a rotating parity.
+pub const RAID5: File = File {
+    comps: 3,
+    algorithm: 3,
+    mirrors: 0,
+    tag: 1,
+    is_made: true,
+};
 
-fn setup_of(file: File) -> Setup {
-    match file {
-        File::Raid5 => setup_with(3, 3, 0, 1, true),
-        File::Spent => setup_with(3, 3, 0, u32::MAX, true),
-        File::Unmade => setup_with(3, 3, 0, 1, false),
-        File::Mirrors => setup_with(4, 1, 1, 1, true),
-        File::RaidPq => setup_with(4, 4, 0, 1, true),
-    }
-}
+/// The same, with the greatest tag.
+pub const SPENT: File = File {
+    tag: u32::MAX,
+    ..RAID5
+};
+
+/// The same, of which no object is made yet.
+pub const UNMADE: File = File {
+    is_made: false,
+    ..RAID5
+};
+
+/// Two positions with two replicas each.
+pub const MIRRORS: File = File {
+    comps: 4,
+    algorithm: 1,
+    mirrors: 1,
+    ..RAID5
+};
+
+/// Two data units and two parities.
+pub const RAID_PQ: File = File {
+    comps: 4,
+    algorithm: 4,
+    ..RAID5
+};
 
 /// Moves, each beside what the server then notes and sends.
 pub type Steps = &'static [(Move, &'static str)];
 
 /// What is shown, the file, what the case begins with, and its own moves.
-pub type Case = (&'static str, File, &'static [Start], Steps);
+pub type Case = (&'static str, File, &'static [Steps], Steps);
 
 // A server, the time of its clock, and what drives are to answer.
 #[derive(Drop)]
@@ -70,6 +71,10 @@ struct Bench {
     core: ServerCore,
     now: u64,
     questions: Questions,
+    // What comes.
+    message: Bytes,
+    // What comes of it, in words.
+    told: Bytes,
 }
 
 // The key of each drive.
@@ -112,189 +117,155 @@ fn drives(alloc: Global) -> Result<DriveTable, Memory>
     Ok(table)
 }
 
-fn puts(
-    alloc: Global,
-    text: &mut Bytes,
-    questions: &mut Questions,
-    step: &Step,
-) -> Result<(), Memory> {
+// What a step notes and sends, in words.
+fn tell(told: &mut Bytes, questions: &mut Questions, step: &Step) -> Result<(), Memory> {
     for note in step.notes.as_slice() {
-        put_note(text, note)?;
+        put_note(told, note)?;
     }
     for sent in step.sends.as_slice() {
-        put_sent(alloc, text, questions, sent)?;
+        put_sent(told, questions, sent)?;
     }
     Ok(())
 }
 
-// What a step notes and sends, in words.
-fn told(alloc: Global, questions: &mut Questions, step: &Step) -> Result<Bytes, Memory> {
-    let mut text = Bytes::new(alloc);
-    puts(alloc, &mut text, questions, step)?;
-    Ok(text)
-}
-
-// The words of what comes of a message.
-fn reacts(
-    alloc: Global,
-    bench: &mut Bench,
-    from: Node,
-    bytes: &[u8],
-    placer: &FirstOnline,
-) -> Result<Bytes, Memory> {
-    match bench.core.on_message(bench.now, from, bytes, placer) {
-        Ok(step) => told(alloc, &mut bench.questions, &step),
+// The words of a step.
+fn tell_step(bench: &mut Bench, step: Result<Step, Memory>) -> Result<(), Memory> {
+    match step {
+        Ok(step) => tell(&mut bench.told, &mut bench.questions, &step),
         Err(e) => Err(e),
     }
+}
+
+// The words of what comes of the message.
+fn react(bench: &mut Bench, from: Node, placer: &FirstOnline) -> Result<(), Memory> {
+    let step = bench
+        .core
+        .on_message(bench.now, from, bench.message.as_slice(), placer);
+    tell_step(bench, step)
 }
 
 // The words of an opening.
-fn opens(alloc: Global, bench: &mut Bench) -> Result<Bytes, Memory> {
-    match bench.core.reopen() {
-        Ok(step) => told(alloc, &mut bench.questions, &step),
-        Err(e) => Err(e),
-    }
+fn restart(bench: &mut Bench) -> Result<(), Memory> {
+    bench.core.crash()?;
+    let step = bench.core.reopen();
+    tell_step(bench, step)
 }
 
 // The words of a move.
-fn plays(
-    alloc: Global,
-    bench: &mut Bench,
-    next: &Move,
-    placer: &FirstOnline,
-) -> Result<Bytes, Memory> {
-    if let Move::Waits(now) = next {
-        bench.now = *now;
-    }
-    if let Move::Restarts = next {
-        bench.core.crash()?;
-        return opens(alloc, bench);
-    }
-    match bytes_of(alloc, next, &bench.questions) {
-        Ok(bytes) => reacts(alloc, bench, sender(next), bytes.as_slice(), placer),
-        Err(e) => Err(e),
+fn play_move(bench: &mut Bench, next: &Move, placer: &FirstOnline) -> Result<(), Memory> {
+    bench.told.truncate(0);
+    bench.message.truncate(0);
+    match next {
+        Move::Waits(now) => {
+            bench.now = *now;
+            Ok(())
+        }
+        Move::Restarts => restart(bench),
+        _ => {
+            put_move(&mut bench.message, next, &bench.questions)?;
+            react(bench, sender(next), placer)
+        }
     }
 }
 
 // Whether the words of a move are these.
-fn says(alloc: Global, bench: &mut Bench, next: &Move, wanted: &str, placer: &FirstOnline) -> bool {
-    match plays(alloc, bench, next, placer) {
-        Ok(came) => came.as_slice() == wanted.as_bytes(),
-        Err(_) => false,
-    }
+fn says(bench: &mut Bench, next: &Move, wanted: &str, placer: &FirstOnline) -> bool {
+    play_move(bench, next, placer).is_ok() && bench.told.as_slice() == wanted.as_bytes()
 }
 
 // The CREATE of each component is performed.
-fn makes(alloc: Global, bench: &mut Bench, comps: u32, placer: &FirstOnline) -> bool {
+fn makes(bench: &mut Bench, comps: u32, placer: &FirstOnline) -> bool {
     for drive in 0..comps {
-        if plays(alloc, bench, &Move::Performs(drive, b""), placer).is_err() {
+        if play_move(bench, &Move::Performs(drive, b""), placer).is_err() {
             return false;
         }
     }
     true
 }
 
-fn raw_map(setup: Setup) -> RawMap
-    ensures { result.algorithm ≡ setup.algorithm }
+fn raw_map(file: File) -> RawMap
+    ensures { result.algorithm ≡ file.algorithm }
 {
     RawMap {
-        comps: setup.comps,
+        comps: file.comps,
         unit: 4,
         width: 0,
         depth: 0,
-        mirrors: setup.mirrors,
-        algorithm: setup.algorithm,
+        mirrors: file.mirrors,
+        algorithm: file.algorithm,
     }
-}
-
-// A server without files.
-fn new_bench(alloc: Global) -> Result<Bench, Memory> {
-    let core = ServerCore::new(alloc, drives(alloc)?)?;
-    Ok(Bench {
-        core,
-        now: 0,
-        questions: Questions::new(alloc),
-    })
 }
 
 // Whether the server takes the file of a case.
-fn takes(alloc: Global, bench: &mut Bench, setup: Setup, placer: &FirstOnline) -> bool {
-    if !bench.core.counters_low() || setup.algorithm == 0 || setup.algorithm > 4 {
+fn takes(bench: &mut Bench, file: File, placer: &FirstOnline) -> bool {
+    if !bench.core.counters_low() || file.algorithm == 0 || file.algorithm > 4 {
         return false;
     }
-    match bench.core.create_file(0, raw_map(setup), setup.tag, placer) {
-        Ok(step) => told(alloc, &mut bench.questions, &step).is_ok(),
+    match bench.core.create_file(0, raw_map(file), file.tag, placer) {
+        Ok(step) => tell(&mut bench.told, &mut bench.questions, &step).is_ok(),
         Err(_) => false,
     }
 }
 
 // Whether the server takes the file of a case, and its objects are made where they are to be.
-fn begins(alloc: Global, bench: &mut Bench, setup: Setup, placer: &FirstOnline) -> bool {
-    takes(alloc, bench, setup, placer)
-        && (!setup.is_made || makes(alloc, bench, setup.comps, placer))
+fn begins(bench: &mut Bench, file: File, placer: &FirstOnline) -> bool {
+    takes(bench, file, placer) && (!file.is_made || makes(bench, file.comps, placer))
 }
 
 // The words that were wanted at the first move at which others came.
-fn first_other(
-    alloc: Global,
-    bench: &mut Bench,
-    steps: Steps,
-    placer: &FirstOnline,
-) -> Option<&'static str> {
+fn first_other(bench: &mut Bench, steps: Steps, placer: &FirstOnline) -> Option<&'static str> {
     for (next, wanted) in steps {
-        if !says(alloc, bench, next, wanted, placer) {
+        if !says(bench, next, wanted, placer) {
             return Some(wanted);
         }
     }
     None
 }
 
-// The same of what a case begins with.
-fn first_other_start(
-    alloc: Global,
-    bench: &mut Bench,
-    starts: &[Start],
-    placer: &FirstOnline,
-) -> Option<&'static str> {
+// The same of a whole case.
+fn other_of(bench: &mut Bench, case: &Case, placer: &FirstOnline) -> Option<&'static str> {
+    let (_, file, starts, steps) = *case;
+    if !begins(bench, file, placer) {
+        return Some("a file");
+    }
     for start in starts {
-        let other = first_other(alloc, bench, moves_of(*start), placer);
+        let other = first_other(bench, start, placer);
         if other.is_some() {
             return other;
         }
     }
-    None
-}
-
-// The same of a whole case.
-fn other_of(
-    alloc: Global,
-    bench: &mut Bench,
-    case: &Case,
-    placer: &FirstOnline,
-) -> Option<&'static str> {
-    let (_, file, starts, steps) = *case;
-    if !begins(alloc, bench, setup_of(file), placer) {
-        return Some("a file");
-    }
-    let other = first_other_start(alloc, bench, starts, placer);
-    if other.is_some() {
-        return other;
-    }
-    first_other(alloc, bench, steps, placer)
+    first_other(bench, steps, placer)
 }
 
 // The same on a server of its own.
-fn other_in(alloc: Global, case: &Case, placer: &FirstOnline) -> Option<&'static str> {
-    match new_bench(alloc) {
-        Ok(mut bench) => other_of(alloc, &mut bench, case, placer),
-        Err(_) => Some("a server"),
-    }
+fn other_on(
+    alloc: Global,
+    core: ServerCore,
+    case: &Case,
+    placer: &FirstOnline,
+) -> Option<&'static str> {
+    let mut bench = Bench {
+        core,
+        now: 0,
+        questions: Questions::new(alloc),
+        message: Bytes::new(alloc),
+        told: Bytes::new(alloc),
+    };
+    other_of(&mut bench, case, placer)
+}
+
+// A server without files.
+fn new_server(alloc: Global) -> Result<ServerCore, Memory> {
+    ServerCore::new(alloc, drives(alloc)?)
 }
 
 // The same with the rule by which the tests place components.
 fn other_of_case(alloc: Global, case: &Case) -> Option<&'static str> {
     let placer = FirstOnline { alloc };
-    other_in(alloc, case, &placer)
+    match new_server(alloc) {
+        Ok(core) => other_on(alloc, core, case, &placer),
+        Err(_) => Some("a server"),
+    }
 }
 
 /// Ends the test at the first case that goes otherwise, with its name and the words that were wanted.

@@ -1,13 +1,15 @@
-use crate::bench::{Case, File, play};
+use crate::bench::{Case, MIRRORS, RAID_PQ, RAID5, UNMADE, play};
 use crate::moves::Move;
-use crate::starts::Start;
+use crate::starts::{
+    CHECKS, FENCES, FETCHES, FILLS, GATHERS, LENGTHS, MIRRORS_FETCHES, STORES, TARGETS, WRITTEN,
+};
 use layout_ops::OrderKind;
 
 // When a drive is declared, the file, and the moves.
 const CASES: &[Case] = &[
     (
         "while its objects are made",
-        File::Unmade,
+        UNMADE,
         &[],
         &[
             (Move::Orders(OrderKind::Declare, 9), "order 3"),
@@ -18,7 +20,7 @@ const CASES: &[Case] = &[
     ),
     (
         "the last of them",
-        File::Unmade,
+        UNMADE,
         &[],
         &[
             (Move::Performs(0, b""), ""),
@@ -28,8 +30,8 @@ const CASES: &[Case] = &[
     ),
     (
         "in a fence",
-        File::Raid5,
-        &[Start::Fences],
+        RAID5,
+        &[FENCES],
         &[
             (Move::Orders(OrderKind::Declare, 1), "order 0"),
             (Move::Performs(0, b""), ""),
@@ -38,8 +40,8 @@ const CASES: &[Case] = &[
     ),
     (
         "the last that a fence waits for",
-        File::Raid5,
-        &[Start::Fences],
+        RAID5,
+        &[FENCES],
         &[
             (Move::Performs(0, b""), ""),
             (Move::Performs(2, b""), ""),
@@ -51,8 +53,8 @@ const CASES: &[Case] = &[
     ),
     (
         "while a piece is read",
-        File::Raid5,
-        &[Start::Fences, Start::Fetches],
+        RAID5,
+        &[FENCES, FETCHES],
         &[
             (Move::Performs(0, b"abcd"), ""),
             (Move::Orders(OrderKind::Declare, 1), "repaired 1 1; order 0"),
@@ -60,8 +62,8 @@ const CASES: &[Case] = &[
     ),
     (
         "while a piece is read and written, with another replica",
-        File::Mirrors,
-        &[Start::MirrorsFetches],
+        MIRRORS,
+        &[MIRRORS_FETCHES],
         &[
             (Move::Performs(0, b"abcd"), ""),
             (
@@ -80,14 +82,14 @@ const CASES: &[Case] = &[
     ),
     (
         "the one that is written",
-        File::Raid5,
-        &[Start::Fences, Start::Fetches, Start::Stores],
+        RAID5,
+        &[FENCES, FETCHES, STORES],
         &[(Move::Orders(OrderKind::Declare, 2), "repaired 1 1; order 0")],
     ),
     (
         "another than the one that is written",
-        File::Raid5,
-        &[Start::Fences, Start::Fetches, Start::Stores],
+        RAID5,
+        &[FENCES, FETCHES, STORES],
         &[
             (Move::Orders(OrderKind::Declare, 0), "order 0"),
             (Move::Performs(2, b""), "repaired 1 1"),
@@ -95,8 +97,8 @@ const CASES: &[Case] = &[
     ),
     (
         "the target while it is made",
-        File::Raid5,
-        &[Start::Written, Start::Targets],
+        RAID5,
+        &[WRITTEN, TARGETS],
         &[
             (Move::Orders(OrderKind::Declare, 4), "order 0"),
             (Move::Orders(OrderKind::Declare, 3), "nodrive 1; order 0"),
@@ -104,8 +106,8 @@ const CASES: &[Case] = &[
     ),
     (
         "a source while the target is made",
-        File::Raid5,
-        &[Start::Written, Start::Targets],
+        RAID5,
+        &[WRITTEN, TARGETS],
         &[
             (Move::Orders(OrderKind::Declare, 0), "order 0"),
             (Move::Performs(3, b""), "lost 1 0 1"),
@@ -113,32 +115,32 @@ const CASES: &[Case] = &[
     ),
     (
         "a source while it is read",
-        File::Raid5,
-        &[Start::Written, Start::Targets, Start::Gathers],
+        RAID5,
+        &[WRITTEN, TARGETS, GATHERS],
         &[(Move::Orders(OrderKind::Declare, 0), "lost 1 0 1; order 0")],
     ),
     (
         "the target while its sources are read",
-        File::Raid5,
-        &[Start::Written, Start::Targets, Start::Gathers],
+        RAID5,
+        &[WRITTEN, TARGETS, GATHERS],
         &[(Move::Orders(OrderKind::Declare, 3), "nodrive 1; order 0")],
     ),
     (
         "a source while the target is written",
-        File::Raid5,
-        &[Start::Written, Start::Targets, Start::Gathers, Start::Fills],
+        RAID5,
+        &[WRITTEN, TARGETS, GATHERS, FILLS],
         &[(Move::Orders(OrderKind::Declare, 0), "lost 1 0 1; order 0")],
     ),
     (
         "the target while it is written",
-        File::Raid5,
-        &[Start::Written, Start::Targets, Start::Gathers, Start::Fills],
+        RAID5,
+        &[WRITTEN, TARGETS, GATHERS, FILLS],
         &[(Move::Orders(OrderKind::Declare, 3), "nodrive 1; order 0")],
     ),
     (
         "a source beside which others are left",
-        File::RaidPq,
-        &[Start::Written],
+        RAID_PQ,
+        &[WRITTEN],
         &[
             (Move::Orders(OrderKind::Declare, 1), "order 0"),
             (
@@ -163,8 +165,8 @@ const CASES: &[Case] = &[
     ),
     (
         "while lengths are read",
-        File::Raid5,
-        &[Start::Written, Start::Lengths],
+        RAID5,
+        &[WRITTEN, LENGTHS],
         &[
             (Move::Performs(0, b"\0\0\0\0\0\0\0\x08"), ""),
             (Move::Orders(OrderKind::Declare, 1), "order 0"),
@@ -178,8 +180,8 @@ const CASES: &[Case] = &[
     ),
     (
         "while stripes are read",
-        File::Raid5,
-        &[Start::Written, Start::Lengths, Start::Checks],
+        RAID5,
+        &[WRITTEN, LENGTHS, CHECKS],
         &[
             (Move::Performs(0, b"abcd"), ""),
             (

@@ -1,6 +1,6 @@
-use crate::bench::{Case, File, play};
+use crate::bench::{Case, RAID5, UNMADE, play};
 use crate::moves::{Ask, Move, RW};
-use crate::starts::Start;
+use crate::starts::{CHECKS, FENCES, FETCHES, FILLS, GATHERS, LENGTHS, STORES, TARGETS, WRITTEN};
 use layout_ops::OrderKind;
 use server_rules::OLD_FORMAT;
 
@@ -8,7 +8,7 @@ use server_rules::OLD_FORMAT;
 const CASES: &[Case] = &[
     (
         "to a CREATE",
-        File::Unmade,
+        UNMADE,
         &[],
         &[
             (Move::Refuses(1, OLD_FORMAT, 0), "create d1 f2"),
@@ -27,8 +27,8 @@ const CASES: &[Case] = &[
     ),
     (
         "in a fence",
-        File::Raid5,
-        &[Start::Fences],
+        RAID5,
+        &[FENCES],
         &[
             (Move::Refuses(1, OLD_FORMAT, 0), "settag d1 f2"),
             (Move::PerformsFormer(1), ""),
@@ -42,8 +42,8 @@ const CASES: &[Case] = &[
     ),
     (
         "while a piece is read",
-        File::Raid5,
-        &[Start::Fences, Start::Fetches],
+        RAID5,
+        &[FENCES, FETCHES],
         &[
             (Move::Refuses(0, OLD_FORMAT, 0), "read d0 0 4 f2"),
             (Move::Performs(1, b"efgh"), ""),
@@ -53,8 +53,8 @@ const CASES: &[Case] = &[
     ),
     (
         "while a piece is written",
-        File::Raid5,
-        &[Start::Fences, Start::Fetches, Start::Stores],
+        RAID5,
+        &[FENCES, FETCHES, STORES],
         &[
             (
                 Move::Refuses(2, OLD_FORMAT, 0),
@@ -65,8 +65,8 @@ const CASES: &[Case] = &[
     ),
     (
         "while a target is made",
-        File::Raid5,
-        &[Start::Written, Start::Targets],
+        RAID5,
+        &[WRITTEN, TARGETS],
         &[
             (Move::Refuses(3, OLD_FORMAT, 0), "create d3 f2"),
             (Move::Performs(3, b""), "read d0 0 4 f2; read d2 0 4 f2"),
@@ -74,8 +74,8 @@ const CASES: &[Case] = &[
     ),
     (
         "while sources are read",
-        File::Raid5,
-        &[Start::Written, Start::Targets, Start::Gathers],
+        RAID5,
+        &[WRITTEN, TARGETS, GATHERS],
         &[
             (Move::Refuses(0, OLD_FORMAT, 0), "read d0 0 4 f2"),
             (Move::Performs(2, b"\x04\x04\x04\x0c"), ""),
@@ -84,8 +84,8 @@ const CASES: &[Case] = &[
     ),
     (
         "while a target is written",
-        File::Raid5,
-        &[Start::Written, Start::Targets, Start::Gathers, Start::Fills],
+        RAID5,
+        &[WRITTEN, TARGETS, GATHERS, FILLS],
         &[
             (Move::Refuses(3, OLD_FORMAT, 0), "write d3 0 efgh f2"),
             (Move::Performs(3, b""), "rebuilt 1 3"),
@@ -93,8 +93,8 @@ const CASES: &[Case] = &[
     ),
     (
         "while lengths are read",
-        File::Raid5,
-        &[Start::Written, Start::Lengths],
+        RAID5,
+        &[WRITTEN, LENGTHS],
         &[
             (Move::Refuses(1, OLD_FORMAT, 0), "getattr d1 f2"),
             (Move::Performs(0, b"\0\0\0\0\0\0\0\x08"), ""),
@@ -107,8 +107,8 @@ const CASES: &[Case] = &[
     ),
     (
         "while stripes are read",
-        File::Raid5,
-        &[Start::Written, Start::Lengths, Start::Checks],
+        RAID5,
+        &[WRITTEN, LENGTHS, CHECKS],
         &[
             (Move::Refuses(1, OLD_FORMAT, 0), "read d1 0 4 f2"),
             (Move::Performs(0, b"abcd"), ""),

@@ -1,19 +1,19 @@
-use crate::bench::{Case, File, play};
-use crate::moves::{Ask, Move, RW};
-use crate::starts::Start;
+use crate::bench::{Case, MIRRORS, RAID_PQ, RAID5, play};
+use crate::moves::{Ask, Move, RW, UNREACHABLE};
+use crate::starts::{FENCES, FETCHES, FILLS, GATHERS, MIRRORS_FETCHES, STORES, TARGETS, WRITTEN};
 use layout_ops::OrderKind;
-use layout_types::Errno;
 use server_rules::{EXISTS, NO_SPACE, OTHER_TAG};
 
 // A verdict that no rule of the server names.
 const EXPIRED: u16 = 3;
 
-// What each shows, the file, and the moves.
-const CASES: &[Case] = &[
+// What each shows, the file, and the moves. The rows are in four tables, since one of all of them is more than a check of a
+// single function takes.
+const FENCES_AND_REPAIRS: &[Case] = &[
     (
         "a fence waits for each present component, for the next tag or a missing one",
-        File::Raid5,
-        &[Start::Fences],
+        RAID5,
+        &[FENCES],
         &[
             (Move::Orders(OrderKind::Revoke, 0), "busy 0; order 1"),
             (Move::Orders(OrderKind::Revoke, 9), "order 3"),
@@ -30,8 +30,8 @@ const CASES: &[Case] = &[
     ),
     (
         "what differs from the codeword of the first replicas is written",
-        File::Raid5,
-        &[Start::Fences, Start::Fetches],
+        RAID5,
+        &[FENCES, FETCHES],
         &[
             (Move::Performs(0, b"abcd"), ""),
             (Move::Performs(1, b"efgh"), ""),
@@ -46,7 +46,7 @@ const CASES: &[Case] = &[
     ),
     (
         "both parities of a torn stripe are written where they differ",
-        File::RaidPq,
+        RAID_PQ,
         &[],
         &[
             (
@@ -74,7 +74,7 @@ const CASES: &[Case] = &[
     ),
     (
         "the first replica that is there decides",
-        File::Mirrors,
+        MIRRORS,
         &[],
         &[
             (Move::Orders(OrderKind::Declare, 0), "order 0"),
@@ -98,10 +98,13 @@ const CASES: &[Case] = &[
             (Move::Performs(3, b""), "repaired 1 0"),
         ],
     ),
+];
+
+const LOSSES: &[Case] = &[
     (
         "a component without parity or a replica is lost with its drive",
-        File::Mirrors,
-        &[Start::Written],
+        MIRRORS,
+        &[WRITTEN],
         &[
             (Move::Orders(OrderKind::Declare, 0), "order 0"),
             (Move::Orders(OrderKind::Declare, 1), "order 0"),
@@ -117,8 +120,8 @@ const CASES: &[Case] = &[
     ),
     (
         "two components are made from one unit and Q",
-        File::RaidPq,
-        &[Start::Written],
+        RAID_PQ,
+        &[WRITTEN],
         &[
             (Move::Orders(OrderKind::Declare, 0), "order 0"),
             (Move::Orders(OrderKind::Declare, 2), "order 0"),
@@ -144,14 +147,14 @@ const CASES: &[Case] = &[
     ),
     (
         "a repair without space leaves the stripe short",
-        File::Raid5,
-        &[Start::Fences, Start::Fetches, Start::Stores],
+        RAID5,
+        &[FENCES, FETCHES, STORES],
         &[(Move::Refuses(2, NO_SPACE, 0), "nospace 2; repaired 1 1")],
     ),
     (
         "or goes on with the other replica",
-        File::Mirrors,
-        &[Start::MirrorsFetches],
+        MIRRORS,
+        &[MIRRORS_FETCHES],
         &[
             (Move::Performs(0, b"abcd"), ""),
             (Move::Performs(1, b"abxy"), ""),
@@ -166,10 +169,13 @@ const CASES: &[Case] = &[
             (Move::Performs(3, b"efgh"), "repaired 1 0"),
         ],
     ),
+];
+
+const REBUILDS: &[Case] = &[
     (
         "a component is made from the others",
-        File::Raid5,
-        &[Start::Written, Start::Targets, Start::Gathers, Start::Fills],
+        RAID5,
+        &[WRITTEN, TARGETS, GATHERS, FILLS],
         &[
             (Move::Performs(3, b""), "rebuilt 1 3"),
             (
@@ -180,8 +186,8 @@ const CASES: &[Case] = &[
     ),
     (
         "bytes that are 0 are not written",
-        File::Raid5,
-        &[Start::Written, Start::Targets, Start::Gathers],
+        RAID5,
+        &[WRITTEN, TARGETS, GATHERS],
         &[
             (Move::Performs(0, b"abcd"), ""),
             (Move::Performs(2, b"acbd"), "write d3 1 \x01\x01"),
@@ -190,8 +196,8 @@ const CASES: &[Case] = &[
     ),
     (
         "nor is a piece of them",
-        File::Raid5,
-        &[Start::Written, Start::Targets, Start::Gathers],
+        RAID5,
+        &[WRITTEN, TARGETS, GATHERS],
         &[
             (Move::Performs(0, b"abcd"), ""),
             (Move::Performs(2, b"abcd"), "rebuilt 1 3"),
@@ -199,8 +205,8 @@ const CASES: &[Case] = &[
     ),
     (
         "or from the other replica",
-        File::Mirrors,
-        &[Start::Written],
+        MIRRORS,
+        &[WRITTEN],
         &[
             (Move::Orders(OrderKind::Declare, 2), "order 0"),
             (
@@ -217,8 +223,8 @@ const CASES: &[Case] = &[
     ),
     (
         "what the code does not bring back is lost",
-        File::Raid5,
-        &[Start::Written],
+        RAID5,
+        &[WRITTEN],
         &[
             (Move::Orders(OrderKind::Declare, 0), "order 0"),
             (Move::Orders(OrderKind::Declare, 1), "order 0"),
@@ -228,15 +234,18 @@ const CASES: &[Case] = &[
             (Move::Performs(3, b""), "lost 1 0 1"),
         ],
     ),
+];
+
+const ENDS: &[Case] = &[
     (
         "a target without space is left",
-        File::Raid5,
-        &[Start::Written, Start::Targets, Start::Gathers, Start::Fills],
+        RAID5,
+        &[WRITTEN, TARGETS, GATHERS, FILLS],
         &[(Move::Refuses(3, NO_SPACE, 0), "nospace 1")],
     ),
     (
         "no drive is taken on which a component last stood",
-        File::Raid5,
+        RAID5,
         &[],
         &[
             (Move::Orders(OrderKind::Declare, 3), "order 0"),
@@ -247,7 +256,7 @@ const CASES: &[Case] = &[
                 "answer c0 1 0 0 0 layout",
             ),
             (
-                Move::Asks(0, 2, Ask::Return(&[(1, 65537, Errno::Unreachable)])),
+                Move::Asks(0, 2, Ask::Return(&[(1, 65537, UNREACHABLE)])),
                 "reported 1; answer c0 2 0 1 0",
             ),
             (
@@ -260,7 +269,7 @@ const CASES: &[Case] = &[
     ),
     (
         "an audit counts bad stripes and lengths",
-        File::Raid5,
+        RAID5,
         &[],
         &[
             (
@@ -298,6 +307,21 @@ const CASES: &[Case] = &[
 ];
 
 #[test]
-fn jobs_go_on_by_the_replies_of_drives(rt: HostRuntime) {
-    play(&rt, rt.alloc(), CASES);
+fn fences_and_repairs_go_on_by_the_replies_of_drives(rt: HostRuntime) {
+    play(&rt, rt.alloc(), FENCES_AND_REPAIRS);
+}
+
+#[test]
+fn components_are_lost_or_brought_back(rt: HostRuntime) {
+    play(&rt, rt.alloc(), LOSSES);
+}
+
+#[test]
+fn missing_components_are_made_anew(rt: HostRuntime) {
+    play(&rt, rt.alloc(), REBUILDS);
+}
+
+#[test]
+fn jobs_end_by_the_replies_of_drives(rt: HostRuntime) {
+    play(&rt, rt.alloc(), ENDS);
 }

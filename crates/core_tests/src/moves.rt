@@ -1,18 +1,7 @@
-// What comes to the server, as bytes.
-ghost use Rattle.std.specs.Prelude.{IsTrue};
-ghost use Rattle.layout_ops.specs.Spelling.{ArgsWritable};
-
-use layout_ops::{
-    Args, Envelope, LayoutCommitArgs, LayoutGetArgs, LayoutReturnArgs, MAX_BODY, Order, OrderKind,
-    Request, StateId, write_envelope,
-};
-use layout_types::{Errno, IoErr, IoErrs, LayoutUpdate, MAX_MEMBERS, ObjId, Structure};
-use osd_commands::{Reply, write_reply};
+// What comes to the server, as bytes: spelled number by number, apart from the codecs of the project.
+use crate::wire::{COMMIT, GET, RETURN, put_numbers, put_reply, size_of};
+use layout_ops::OrderKind;
 use osd_lists::{Bytes, Memory, Node, Sequence};
-use std::alloc::Global;
-
-/// Layouts of any mode, which LAYOUTGET doesn't take.
-pub const ANY: u32 = 3;
 
 /// Layouts for reading.
 pub const READ: u32 = 1;
@@ -20,16 +9,33 @@ pub const READ: u32 = 1;
 /// Layouts for reading and writing.
 pub const RW: u32 = 2;
 
+/// Layouts of any mode, which LAYOUTGET doesn't take.
+pub const ANY: u32 = 3;
+
+/// Errors of `pnfs_osd_errno4`.
+pub const EIO: u32 = 1;
+
+/// Another of them.
+pub const ENOSPC: u32 = 3;
+
+/// A drive that can't be reached.
+pub const UNREACHABLE: u32 = 6;
+
+const LAYOUT4_OSD2_OBJECTS: u32 = 2;
+
+// How many bytes an error of a report has.
+const ERROR_BYTES: u32 = 56;
+
 /// An error that a client reports: the drive and the object at which it came, and which it is.
-pub type Trouble = (u32, u64, Errno);
+pub type Trouble = (u32, u32, u32);
 
 /// What a client asks of the server.
 #[derive(Clone, Copy)]
 pub enum Ask {
     /// LAYOUTGET: the file, the iomode, the offset and the length.
-    Get(u32, u32, u64, u64),
+    Get(u32, u32, u32, u32),
     /// LAYOUTCOMMIT on file 0: the last byte that was written, if any was.
-    Commit(Option<u64>),
+    Commit(Option<u32>),
     /// LAYOUTRETURN on file 0, with these errors.
     Return(&'static [Trouble]),
 }
@@ -46,7 +52,7 @@ pub enum Move {
     /// It performs the one that was sent to it before that.
     PerformsFormer(u32),
     /// A drive answers the latest command that was sent to it by another verdict, with a detail.
-    Refuses(u32, u16, u64),
+    Refuses(u32, u16, u32),
     /// The server's clock shows this time in seconds.
     Waits(u64),
     /// The server crashes, and is opened again.
@@ -57,149 +63,72 @@ pub enum Move {
 #[derive(Clone, Copy)]
 pub struct Question {
     pub drive: u32,
-    pub action: u16,
-    pub object: u64,
-    pub nonce: u64,
+    pub action: u32,
+    pub object: u32,
+    pub nonce: [u32; 2],
 }
 
 /// Commands in the order in which they were sent.
 pub type Questions = Sequence<Question>;
 
-const NO_STATE: StateId = StateId {
-    seqid: 0,
-    other: [0; 12],
-};
-
-// The error at an object.
-fn error_at(trouble: Trouble) -> IoErr {
-    let (drive, object, errno) = trouble;
-    let mut device = [0u8; 16];
-    device[12..].copy_from_slice(&drive.to_be_bytes());
-    IoErr {
-        oer_component: ObjId {
-            oid_device_id: device,
-            oid_partition_id: 65_536 + u64::from(drive),
-            oid_object_id: object,
-        },
-        oer_comp_offset: 0,
-        oer_comp_length: 1,
-        oer_iswrite: true,
-        oer_errno: errno,
-    }
+// The arguments of a LAYOUTGET: no signal, the length as the least one, and no stateid.
+#[rattlefmt::skip]
+fn put_get(bytes: &mut Bytes, iomode: u32, offset: u32, length: u32) -> Result<(), Memory> {
+    put_numbers(
+        bytes,
+        &[0, LAYOUT4_OSD2_OBJECTS, iomode, 0, offset, 0, length, 0, length, 0, 0, 0, 0, 65_536],
+    )
 }
 
-// A report of errors.
-fn errors_of(alloc: Global, troubles: &[Trouble]) -> IoErrs {
-    let mut errors = Sequence::new(alloc);
+// Those of a LAYOUTCOMMIT: no range, no reclaim and no stateid; behind the last byte no time, and an update without a delta
+// or errors.
+fn put_commit(bytes: &mut Bytes, last: Option<u32>) -> Result<(), Memory> {
+    put_numbers(bytes, &[0, 0, 0, 0, 0, 0, 0, 0, 0])?;
+    match last {
+        Some(last) => put_numbers(bytes, &[1, 0, last])?,
+        None => put_numbers(bytes, &[0])?,
+    }
+    put_numbers(bytes, &[0, LAYOUT4_OSD2_OBJECTS, 8, 0, 0])
+}
+
+// An error at an object, of a WRITE of one byte.
+#[rattlefmt::skip]
+fn put_trouble(bytes: &mut Bytes, (drive, object, errno): Trouble) -> Result<(), Memory> {
+    let partition = drive.wrapping_add(65_536);
+    put_numbers(bytes, &[0, 0, 0, drive, 0, partition, 0, object, 0, 0, 0, 1, 1, errno])
+}
+
+// Those of a LAYOUTRETURN of the whole file, for any iomode.
+#[rattlefmt::skip]
+fn put_return(bytes: &mut Bytes, troubles: &[Trouble]) -> Result<(), Memory> {
+    let count = size_of(troubles.len());
+    let size = count.wrapping_mul(ERROR_BYTES).wrapping_add(4);
+    put_numbers(
+        bytes,
+        &[0, LAYOUT4_OSD2_OBJECTS, ANY, 1, 0, 0, u32::MAX, u32::MAX, 0, 0, 0, 0, size, count],
+    )?;
     for trouble in troubles {
-        let _ = errors.push(error_at(*trouble));
+        put_trouble(bytes, *trouble)?;
     }
-    IoErrs {
-        olr_ioerr_report: errors,
+    Ok(())
+}
+
+// A client's request.
+fn put_request(bytes: &mut Bytes, client: u32, sequence: u32, ask: Ask) -> Result<(), Memory> {
+    match ask {
+        Ask::Get(file, iomode, offset, length) => {
+            put_numbers(bytes, &[1, client, sequence, file, GET])?;
+            put_get(bytes, iomode, offset, length)
+        }
+        Ask::Commit(last) => {
+            put_numbers(bytes, &[1, client, sequence, 0, COMMIT])?;
+            put_commit(bytes, last)
+        }
+        Ask::Return(troubles) => {
+            put_numbers(bytes, &[1, client, sequence, 0, RETURN])?;
+            put_return(bytes, troubles)
+        }
     }
-}
-
-// The same as the body of a LAYOUTRETURN.
-fn report(alloc: Global, troubles: &[Trouble]) -> Result<Bytes, Memory> {
-    let errors = errors_of(alloc, troubles);
-    if errors.olr_ioerr_report.len() <= MAX_MEMBERS as usize {
-        errors.write(alloc)
-    } else {
-        Err(Memory)
-    }
-}
-
-fn get_args(iomode: u32, offset: u64, length: u64) -> Args {
-    Args::LayoutGet(LayoutGetArgs {
-        signal_layout_avail: false,
-        iomode,
-        offset,
-        length,
-        minlength: length,
-        stateid: NO_STATE,
-        maxcount: 65_536,
-    })
-}
-
-fn commit_args(alloc: Global, last: Option<u64>) -> Result<Args, Memory> {
-    let update = LayoutUpdate {
-        dsu_delta: None,
-        olu_ioerr_flag: false,
-    };
-    Ok(Args::LayoutCommit(LayoutCommitArgs {
-        offset: 0,
-        length: 0,
-        reclaim: false,
-        stateid: NO_STATE,
-        last_write_offset: last,
-        time: None,
-        body: update.write(alloc)?,
-    }))
-}
-
-fn return_args(alloc: Global, troubles: &[Trouble]) -> Result<Args, Memory> {
-    Ok(Args::LayoutReturn(LayoutReturnArgs {
-        reclaim: false,
-        iomode: ANY,
-        offset: 0,
-        length: u64::MAX,
-        stateid: NO_STATE,
-        body: report(alloc, troubles)?,
-    }))
-}
-
-// Whether a body isn't too long to be sent.
-fn is_short(args: &Args) -> bool
-    ensures { IsTrue result → ArgsWritable args.now }
-{
-    match args {
-        Args::LayoutGet(_) => true,
-        Args::LayoutCommit(args) => args.body.len() <= MAX_BODY as usize,
-        Args::LayoutReturn(args) => args.body.len() <= MAX_BODY as usize,
-    }
-}
-
-// The bytes of a client's request.
-fn request(alloc: Global, client: u32, sequence: u32, ask: Ask) -> Result<Bytes, Memory> {
-    let (file, args) = match ask {
-        Ask::Get(file, iomode, offset, length) => (file, get_args(iomode, offset, length)),
-        Ask::Commit(last) => (0, commit_args(alloc, last)?),
-        Ask::Return(troubles) => (0, return_args(alloc, troubles)?),
-    };
-    if !is_short(&args) {
-        return Err(Memory);
-    }
-    let request = Request {
-        client,
-        sequence,
-        file,
-        args,
-    };
-    write_envelope(alloc, &Envelope::Request(request))
-}
-
-// The bytes of an order.
-fn order(alloc: Global, order: OrderKind, target: u32) -> Result<Bytes, Memory> {
-    write_envelope(alloc, &Envelope::Order(Order { order, target }))
-}
-
-// The bytes of a drive's reply to a command.
-fn reply(
-    alloc: Global,
-    question: Question,
-    verdict: u16,
-    detail: u64,
-    payload: &[u8],
-) -> Result<Bytes, Memory> {
-    let reply = Reply {
-        action: question.action,
-        verdict,
-        object: question.object,
-        nonce: question.nonce,
-        detail,
-        payload: Bytes::copied(alloc, payload)?,
-    };
-    write_reply(alloc, &reply)
 }
 
 // The latest two commands that were sent to a drive, the last one first; before there are any, such as the server
@@ -209,7 +138,7 @@ fn latest(questions: &Questions, drive: u32) -> (Question, Question) {
         drive,
         action: 0,
         object: 0,
-        nonce: 0,
+        nonce: [0, 0],
     };
     let mut found = (none, none);
     for question in questions.as_slice() {
@@ -218,6 +147,25 @@ fn latest(questions: &Questions, drive: u32) -> (Question, Question) {
         }
     }
     found
+}
+
+// A drive's answer to a command.
+fn put_answer(
+    bytes: &mut Bytes,
+    question: Question,
+    verdict: u16,
+    detail: u32,
+    payload: &[u8],
+) -> Result<(), Memory> {
+    let doing = [question.action, u32::from(verdict)];
+    put_reply(
+        bytes,
+        doing,
+        question.object,
+        question.nonce,
+        detail,
+        payload,
+    )
 }
 
 /// Who sends a move. A time and a crash are nobody's.
@@ -232,22 +180,17 @@ pub fn sender(next: &Move) -> Node {
 }
 
 /// The bytes of a move, none where it is a time or a crash.
-pub fn bytes_of(alloc: Global, next: &Move, questions: &Questions) -> Result<Bytes, Memory> {
+pub fn put_move(bytes: &mut Bytes, next: &Move, questions: &Questions) -> Result<(), Memory> {
     match next {
-        Move::Asks(client, sequence, ask) => request(alloc, *client, *sequence, *ask),
-        Move::Orders(kind, target) => order(alloc, *kind, *target),
+        Move::Asks(client, sequence, ask) => put_request(bytes, *client, *sequence, *ask),
+        Move::Orders(kind, target) => put_numbers(bytes, &[5, kind.number(), *target]),
         Move::Performs(drive, payload) => {
-            let (question, _) = latest(questions, *drive);
-            reply(alloc, question, 0, 0, payload)
+            put_answer(bytes, latest(questions, *drive).0, 0, 0, payload)
         }
-        Move::PerformsFormer(drive) => {
-            let (_, former) = latest(questions, *drive);
-            reply(alloc, former, 0, 0, b"")
-        }
+        Move::PerformsFormer(drive) => put_answer(bytes, latest(questions, *drive).1, 0, 0, b""),
         Move::Refuses(drive, verdict, detail) => {
-            let (question, _) = latest(questions, *drive);
-            reply(alloc, question, *verdict, *detail, b"")
+            put_answer(bytes, latest(questions, *drive).0, *verdict, *detail, b"")
         }
-        Move::Waits(_) | Move::Restarts => Ok(Bytes::new(alloc)),
+        Move::Waits(_) | Move::Restarts => Ok(()),
     }
 }

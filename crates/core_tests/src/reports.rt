@@ -1,12 +1,11 @@
-use crate::bench::{Case, File, play};
-use crate::moves::{Ask, Move, READ, RW};
-use layout_types::Errno;
+use crate::bench::{Case, RAID5, play};
+use crate::moves::{Ask, ENOSPC, Move, READ, RW, UNREACHABLE};
 
 // What each shows, the file, and the moves.
 const CASES: &[Case] = &[
     (
         "a writer alone tells that a drive is lost",
-        File::Raid5,
+        RAID5,
         &[],
         &[
             (
@@ -14,7 +13,7 @@ const CASES: &[Case] = &[
                 "answer c0 1 0 0 0 layout",
             ),
             (
-                Move::Asks(0, 2, Ask::Return(&[(1, 65537, Errno::Unreachable)])),
+                Move::Asks(0, 2, Ask::Return(&[(1, 65537, UNREACHABLE)])),
                 "reported 1; answer c0 2 0 1 0",
             ),
             (
@@ -22,7 +21,7 @@ const CASES: &[Case] = &[
                 "answer c0 3 0 0 0 layout",
             ),
             (
-                Move::Asks(0, 4, Ask::Return(&[(1, 65537, Errno::Unreachable)])),
+                Move::Asks(0, 4, Ask::Return(&[(1, 65537, UNREACHABLE)])),
                 "reported 1; answer c0 4 0 1 0",
             ),
             (
@@ -30,14 +29,14 @@ const CASES: &[Case] = &[
                 "answer c0 5 0 0 0 layout",
             ),
             (
-                Move::Asks(0, 6, Ask::Return(&[(2, 65538, Errno::Unreachable)])),
+                Move::Asks(0, 6, Ask::Return(&[(2, 65538, UNREACHABLE)])),
                 "settag d0; settag d2; answer c0 6 0 0 0",
             ),
         ],
     ),
     (
         "of another error, or of two that are too many, no loss is taken",
-        File::Raid5,
+        RAID5,
         &[],
         &[
             (
@@ -48,7 +47,7 @@ const CASES: &[Case] = &[
                 Move::Asks(
                     0,
                     2,
-                    Ask::Return(&[(1, 65537, Errno::Unreachable), (1, 65537, Errno::NoSpace)]),
+                    Ask::Return(&[(1, 65537, UNREACHABLE), (1, 65537, ENOSPC)]),
                 ),
                 "settag d0; settag d1; settag d2; answer c0 2 0 0 0",
             ),
@@ -56,7 +55,7 @@ const CASES: &[Case] = &[
     ),
     (
         "nor where the code brings fewer back",
-        File::Raid5,
+        RAID5,
         &[],
         &[
             (
@@ -67,10 +66,7 @@ const CASES: &[Case] = &[
                 Move::Asks(
                     0,
                     2,
-                    Ask::Return(&[
-                        (2, 65538, Errno::Unreachable),
-                        (1, 65537, Errno::Unreachable),
-                    ]),
+                    Ask::Return(&[(2, 65538, UNREACHABLE), (1, 65537, UNREACHABLE)]),
                 ),
                 "settag d0; settag d1; settag d2; answer c0 2 0 0 0",
             ),
@@ -78,7 +74,7 @@ const CASES: &[Case] = &[
     ),
     (
         "nor of an object that the file never had there",
-        File::Raid5,
+        RAID5,
         &[],
         &[
             (
@@ -86,14 +82,14 @@ const CASES: &[Case] = &[
                 "answer c0 1 0 0 0 layout",
             ),
             (
-                Move::Asks(0, 2, Ask::Return(&[(1, 65536, Errno::Unreachable)])),
+                Move::Asks(0, 2, Ask::Return(&[(1, 65536, UNREACHABLE)])),
                 "settag d0; settag d1; settag d2; answer c0 2 0 0 0",
             ),
         ],
     ),
     (
         "nor from a reader",
-        File::Raid5,
+        RAID5,
         &[],
         &[
             (
@@ -101,14 +97,14 @@ const CASES: &[Case] = &[
                 "answer c0 1 0 0 0 layout",
             ),
             (
-                Move::Asks(0, 2, Ask::Return(&[(1, 65537, Errno::Unreachable)])),
+                Move::Asks(0, 2, Ask::Return(&[(1, 65537, UNREACHABLE)])),
                 "settag d0; settag d1; settag d2; answer c0 2 0 0 0",
             ),
         ],
     ),
     (
         "nor beside another grant",
-        File::Raid5,
+        RAID5,
         &[],
         &[
             (
@@ -126,18 +122,18 @@ const CASES: &[Case] = &[
                 "answer c1 1 0 0 8 layout",
             ),
             (
-                Move::Asks(0, 5, Ask::Return(&[(1, 65537, Errno::Unreachable)])),
+                Move::Asks(0, 5, Ask::Return(&[(1, 65537, UNREACHABLE)])),
                 "settag d0; settag d1; settag d2; answer c0 5 0 0 8",
             ),
         ],
     ),
     (
         "of a client without a grant nothing is taken",
-        File::Raid5,
+        RAID5,
         &[],
         &[
             (
-                Move::Asks(0, 1, Ask::Return(&[(1, 65537, Errno::Unreachable)])),
+                Move::Asks(0, 1, Ask::Return(&[(1, 65537, UNREACHABLE)])),
                 "answer c0 1 0 0 0",
             ),
             (

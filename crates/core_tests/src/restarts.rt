@@ -1,6 +1,6 @@
-use crate::bench::{Case, File, play};
+use crate::bench::{Case, RAID5, SPENT, UNMADE, play};
 use crate::moves::{Ask, Move, READ, RW};
-use crate::starts::Start;
+use crate::starts::{FENCES, FETCHES, LENGTHS, WRITTEN};
 use layout_ops::OrderKind;
 use server_rules::EXISTS;
 
@@ -8,7 +8,7 @@ use server_rules::EXISTS;
 const CASES: &[Case] = &[
     (
         "a grant that nothing ended is fenced, and one that was returned isn't",
-        File::Raid5,
+        RAID5,
         &[],
         &[
             (
@@ -39,8 +39,8 @@ const CASES: &[Case] = &[
     ),
     (
         "a fence that was cut off goes to the same tag, and late replies to it count for nothing",
-        File::Raid5,
-        &[Start::Fences],
+        RAID5,
+        &[FENCES],
         &[
             (Move::Performs(0, b""), ""),
             (Move::Restarts, "settag d0; settag d1; settag d2"),
@@ -56,8 +56,8 @@ const CASES: &[Case] = &[
     ),
     (
         "a repair that was cut off begins again behind a fence to the next tag",
-        File::Raid5,
-        &[Start::Fences, Start::Fetches],
+        RAID5,
+        &[FENCES, FETCHES],
         &[
             (Move::Performs(0, b"abcd"), ""),
             (Move::Restarts, "settag d0; settag d1; settag d2"),
@@ -74,8 +74,8 @@ const CASES: &[Case] = &[
     ),
     (
         "an audit is gone without a note",
-        File::Raid5,
-        &[Start::Written, Start::Lengths],
+        RAID5,
+        &[WRITTEN, LENGTHS],
         &[
             (Move::Restarts, ""),
             (
@@ -86,7 +86,7 @@ const CASES: &[Case] = &[
     ),
     (
         "a file that isn't ready is made again, and one that is there by now is taken",
-        File::Unmade,
+        UNMADE,
         &[],
         &[
             (Move::Performs(0, b""), ""),
@@ -100,7 +100,7 @@ const CASES: &[Case] = &[
     ),
     (
         "a component that is missing isn't made again",
-        File::Unmade,
+        UNMADE,
         &[],
         &[
             (Move::Orders(OrderKind::Declare, 1), "order 0"),
@@ -111,7 +111,7 @@ const CASES: &[Case] = &[
     ),
     (
         "with the greatest tag the fence is refused, and so are layouts until the next opening",
-        File::Spent,
+        SPENT,
         &[],
         &[
             (

@@ -1,13 +1,12 @@
-use crate::bench::{Case, File, play};
-use crate::moves::{ANY, Ask, Move, READ, RW};
+use crate::bench::{Case, RAID5, SPENT, play};
+use crate::moves::{ANY, Ask, EIO, Move, READ, RW, UNREACHABLE};
 use layout_ops::OrderKind;
-use layout_types::Errno;
 
 // What each shows, the file, and the moves.
 const CASES: &[Case] = &[
     (
         "no file, then a bad iomode, then a bad range",
-        File::Raid5,
+        RAID5,
         &[],
         &[
             (
@@ -34,7 +33,7 @@ const CASES: &[Case] = &[
     ),
     (
         "these come before a job that waits",
-        File::Raid5,
+        RAID5,
         &[],
         &[
             (
@@ -68,7 +67,7 @@ const CASES: &[Case] = &[
     ),
     (
         "a client that asks again is fenced first",
-        File::Raid5,
+        RAID5,
         &[],
         &[
             (
@@ -83,7 +82,7 @@ const CASES: &[Case] = &[
     ),
     (
         "a holder is recalled until its grant has expired, and then fenced",
-        File::Raid5,
+        RAID5,
         &[],
         &[
             (
@@ -104,7 +103,7 @@ const CASES: &[Case] = &[
     ),
     (
         "the oldest holder is named, and each is recalled",
-        File::Raid5,
+        RAID5,
         &[],
         &[
             (
@@ -123,7 +122,7 @@ const CASES: &[Case] = &[
     ),
     (
         "a writer needs what the code brings back, whoever holds a grant",
-        File::Raid5,
+        RAID5,
         &[],
         &[
             (Move::Orders(OrderKind::Declare, 0), "order 0"),
@@ -149,7 +148,7 @@ const CASES: &[Case] = &[
     ),
     (
         "a fence that waits for nobody is over at once, and the later rows answer",
-        File::Raid5,
+        RAID5,
         &[],
         &[
             (
@@ -171,7 +170,7 @@ const CASES: &[Case] = &[
     ),
     (
         "with the greatest tag nobody is fenced",
-        File::Spent,
+        SPENT,
         &[],
         &[
             (
@@ -190,7 +189,7 @@ const CASES: &[Case] = &[
             (Move::Orders(OrderKind::Rebuild, 0), "spent; order 2"),
             (Move::Orders(OrderKind::Audit, 0), "spent; order 2"),
             (
-                Move::Asks(0, 3, Ask::Return(&[(1, 65537, Errno::Eio)])),
+                Move::Asks(0, 3, Ask::Return(&[(1, 65537, EIO)])),
                 "spent; answer c0 3 10059 4294967295 0",
             ),
             (
@@ -198,7 +197,7 @@ const CASES: &[Case] = &[
                 "recall c0; answer c1 2 10058 0 0",
             ),
             (
-                Move::Asks(0, 4, Ask::Return(&[(1, 65537, Errno::Unreachable)])),
+                Move::Asks(0, 4, Ask::Return(&[(1, 65537, UNREACHABLE)])),
                 "reported 1; answer c0 4 0 1 0",
             ),
             (

@@ -2,7 +2,6 @@
 use crate::line::{Field, Line, NUMBERS};
 use crate::wire::{CLIENT, put_numbers, size_of};
 use osd_lists::{Bytes, Memory};
-use std::alloc::Global;
 
 /// Component 0 stands on this drive, component 1 on the next, and so on.
 const FIRST_DRIVE: u32 = 10;
@@ -10,7 +9,8 @@ const FIRST_DRIVE: u32 = 10;
 // A drive that no client knows.
 const FAR_DRIVE: u32 = 64;
 
-const FIRST_OBJECT: u32 = 70_000;
+/// The object of component 0 on its drive.
+pub const FIRST_OBJECT: u32 = 70_000;
 
 // The lowest partition that a drive may have for objects; each drive has one of its own.
 const FIRST_PARTITION: u32 = 65_536;
@@ -246,8 +246,9 @@ fn put_components(bytes: &mut Bytes, setting: &Setting<'_>, grant: &Grant) -> Re
     Ok(())
 }
 
+/// The layout of a grant on a file (RFC 5664 5.2).
 #[rattlefmt::skip]
-fn put_layout(bytes: &mut Bytes, setting: &Setting<'_>, grant: &Grant) -> Result<(), Memory> {
+pub fn put_layout(bytes: &mut Bytes, setting: &Setting<'_>, grant: &Grant) -> Result<(), Memory> {
     let [comps, unit, width, depth, mirrors, algorithm] = setting.map;
     let count = size_of(setting.letters.len());
     put_numbers(
@@ -259,11 +260,4 @@ fn put_layout(bytes: &mut Bytes, setting: &Setting<'_>, grant: &Grant) -> Result
         put_numbers(bytes, &[0])?;
     }
     Ok(())
-}
-
-/// The layout of a grant on a file (RFC 5664 5.2).
-pub fn layout(alloc: Global, setting: &Setting<'_>, grant: &Grant) -> Result<Bytes, Memory> {
-    let mut bytes = Bytes::new(alloc);
-    put_layout(&mut bytes, setting, grant)?;
-    Ok(bytes)
 }

@@ -1,11 +1,11 @@
-use crate::bench::{Case, File, play};
+use crate::bench::{Case, RAID5, play};
 use crate::moves::{Ask, Move, READ, RW};
 
 // What each shows, the file, and the moves.
 const CASES: &[Case] = &[
     (
         "a request has the number behind the last one",
-        File::Raid5,
+        RAID5,
         &[],
         &[
             (
@@ -29,7 +29,7 @@ const CASES: &[Case] = &[
     ),
     (
         "one with the last number gets the kept answer and does nothing",
-        File::Raid5,
+        RAID5,
         &[],
         &[
             (
@@ -61,7 +61,7 @@ const CASES: &[Case] = &[
     ),
     (
         "there are sixteen clients",
-        File::Raid5,
+        RAID5,
         &[],
         &[
             (Move::Asks(16, 1, Ask::Get(0, RW, 0, 8)), ""),
@@ -73,7 +73,7 @@ const CASES: &[Case] = &[
     ),
     (
         "a commit makes a file longer, never shorter, and inside its grant",
-        File::Raid5,
+        RAID5,
         &[],
         &[
             (

@@ -3,48 +3,8 @@ use crate::bench::Steps;
 use crate::moves::{Ask, Move, RW};
 use layout_ops::OrderKind;
 
-/// What a case begins with.
-#[derive(Clone, Copy)]
-pub enum Start {
-    /// A writer has a grant, and a fence begins.
-    Fences,
-    /// Behind [`Start::Fences`]: the stripe is read for its repair.
-    Fetches,
-    /// Behind [`Start::Fetches`]: its parity is wrong, and is written.
-    Stores,
-    /// A writer's grant is given and returned.
-    Written,
-    /// Behind [`Start::Written`]: drive 1 is lost, and an object for component 1 is made on drive 3.
-    Targets,
-    /// Behind [`Start::Targets`]: the sources of the stripe are read.
-    Gathers,
-    /// Behind [`Start::Gathers`]: what they make is written.
-    Fills,
-    /// Behind [`Start::Written`]: an audit asks for lengths.
-    Lengths,
-    /// Behind [`Start::Lengths`]: the stripe is read.
-    Checks,
-    /// A writer of mirrors has a grant, a fence begins, and the stripe is read.
-    MirrorsFetches,
-}
-
-/// The moves of a start.
-pub fn moves_of(start: Start) -> Steps {
-    match start {
-        Start::Fences => FENCES,
-        Start::Fetches => FETCHES,
-        Start::Stores => STORES,
-        Start::Written => WRITTEN,
-        Start::Targets => TARGETS,
-        Start::Gathers => GATHERS,
-        Start::Fills => FILLS,
-        Start::Lengths => LENGTHS,
-        Start::Checks => CHECKS,
-        Start::MirrorsFetches => MIRRORS_FETCHES,
-    }
-}
-
-const FENCES: Steps = &[
+/// A writer has a grant, and a fence begins.
+pub const FENCES: Steps = &[
     (
         Move::Asks(0, 1, Ask::Get(0, RW, 0, 8)),
         "answer c0 1 0 0 0 layout",
@@ -55,7 +15,8 @@ const FENCES: Steps = &[
     ),
 ];
 
-const FETCHES: Steps = &[
+/// Behind [`FENCES`]: the stripe is read for its repair.
+pub const FETCHES: Steps = &[
     (Move::Performs(0, b""), ""),
     (Move::Performs(1, b""), ""),
     (
@@ -64,7 +25,8 @@ const FETCHES: Steps = &[
     ),
 ];
 
-const STORES: Steps = &[
+/// Behind [`FETCHES`]: its parity is wrong, and is written.
+pub const STORES: Steps = &[
     (Move::Performs(0, b"abcd"), ""),
     (Move::Performs(1, b"efgh"), ""),
     (
@@ -73,7 +35,8 @@ const STORES: Steps = &[
     ),
 ];
 
-const WRITTEN: Steps = &[
+/// A writer's grant is given and returned.
+pub const WRITTEN: Steps = &[
     (
         Move::Asks(0, 1, Ask::Get(0, RW, 0, 8)),
         "answer c0 1 0 0 0 layout",
@@ -81,7 +44,8 @@ const WRITTEN: Steps = &[
     (Move::Asks(0, 2, Ask::Return(&[])), "answer c0 2 0 0 0"),
 ];
 
-const TARGETS: Steps = &[
+/// Behind [`WRITTEN`]: drive 1 is lost, and an object for component 1 is made on drive 3.
+pub const TARGETS: Steps = &[
     (Move::Orders(OrderKind::Declare, 1), "order 0"),
     (
         Move::Orders(OrderKind::Rebuild, 0),
@@ -91,14 +55,17 @@ const TARGETS: Steps = &[
     (Move::Performs(2, b""), "fenced 2; repaired 0 0; create d3"),
 ];
 
-const GATHERS: Steps = &[(Move::Performs(3, b""), "read d0 0 4; read d2 0 4")];
+/// Behind [`TARGETS`]: the sources of the stripe are read.
+pub const GATHERS: Steps = &[(Move::Performs(3, b""), "read d0 0 4; read d2 0 4")];
 
-const FILLS: Steps = &[
+/// Behind [`GATHERS`]: what they make is written.
+pub const FILLS: Steps = &[
     (Move::Performs(0, b"abcd"), ""),
     (Move::Performs(2, b"\x04\x04\x04\x0c"), "write d3 0 efgh"),
 ];
 
-const LENGTHS: Steps = &[
+/// Behind [`WRITTEN`]: an audit asks for lengths.
+pub const LENGTHS: Steps = &[
     (
         Move::Orders(OrderKind::Audit, 0),
         "settag d0; settag d1; settag d2; order 0",
@@ -111,7 +78,8 @@ const LENGTHS: Steps = &[
     ),
 ];
 
-const CHECKS: Steps = &[
+/// Behind [`LENGTHS`]: the stripe is read.
+pub const CHECKS: Steps = &[
     (Move::Performs(0, b"\0\0\0\0\0\0\0\x08"), ""),
     (Move::Performs(1, b"\0\0\0\0\0\0\0\x08"), ""),
     (
@@ -120,7 +88,8 @@ const CHECKS: Steps = &[
     ),
 ];
 
-const MIRRORS_FETCHES: Steps = &[
+/// A writer of mirrors has a grant, a fence begins, and the stripe is read.
+pub const MIRRORS_FETCHES: Steps = &[
     (
         Move::Asks(0, 1, Ask::Get(0, RW, 0, 8)),
         "answer c0 1 0 0 0 layout",

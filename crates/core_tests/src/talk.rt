@@ -1,16 +1,28 @@
 // A client, and what it does as lines come to it.
 use crate::line::{Answer, Call, Line, Question, Verb, Word, line_of};
-use crate::setting::{Grant, STRIPED, Setting, with_field};
-use crate::told::{told, told_awaits, told_number, told_refusal, told_sends};
-use crate::wire::{self, CLIENT, COMMIT, GET, Head, RETURN};
+use crate::places::{put, put_word};
+use crate::setting::{FIRST_OBJECT, Grant, STRIPED, Setting, put_layout, with_field};
+use crate::told::{tell_awaits, tell_refusal, tell_sends, tell_step};
+use crate::wire::{
+    CLIENT, COMMIT, GET, Head, RETURN, put_answered, put_granted, put_recall, put_reply,
+};
 use client_rules::{CallErr, CallOp};
 use osd_lists::{Bytes, Memory, Node};
 use std::alloc::Global;
 use std::process::Abort;
 use stripe_client::{CStep, ClientCore, Sends};
 
-// What comes of a line with any other word: no line of a case, so that a word that is misspelled fails.
-const UNKNOWN: &[u8] = b"unknown";
+// A client, and what comes to it and of it.
+#[derive(Drop)]
+struct Talk {
+    alloc: Global,
+    client: ClientCore,
+    // What comes, and the layout in it.
+    message: Bytes,
+    layout: Bytes,
+    // What came of the last line, as text.
+    came: Bytes,
+}
 
 // The bytes of a line, behind an `x`.
 fn bytes_of(alloc: Global, line: &Line<'_>) -> Result<Bytes, Memory> {
@@ -82,121 +94,167 @@ fn grant_of(line: &Line<'_>) -> Grant {
 }
 
 // A message of the server.
-fn served(
-    alloc: Global,
+fn put_served(
+    message: &mut Bytes,
+    layout: &mut Bytes,
     setting: &Setting<'_>,
     answer: Answer,
     line: &Line<'_>,
-) -> Result<Bytes, Memory> {
+) -> Result<(), Memory> {
     let head = head_of(answer, line);
     match answer {
-        Answer::Grant => wire::granted(alloc, setting, &head, &grant_of(line)),
-        Answer::Recall => wire::recalled(alloc, head.sequence, setting.file, head.status),
-        _ => wire::answered(alloc, setting, &head),
+        Answer::Grant => {
+            let grant = grant_of(line);
+            put_layout(layout, setting, &grant)?;
+            put_granted(message, setting, &head, &grant, layout.as_slice())
+        }
+        Answer::Recall => put_recall(message, head.sequence, setting.file, head.status),
+        _ => put_answered(message, setting, &head),
     }
 }
 
-// A message of a drive: a READ is action 2, a WRITE 3.
-fn replied(alloc: Global, verb: Verb, line: &Line<'_>) -> Result<Bytes, Memory> {
+// A message of a drive, with this payload: a READ is action 2, a WRITE 3.
+fn put_replied(
+    message: &mut Bytes,
+    verb: Verb,
+    line: &Line<'_>,
+    payload: &[u8],
+) -> Result<(), Memory> {
     let [_, grant, place, verdict, detail, _] = line.numbers;
     let action = match verb {
         Verb::Give => 2,
         Verb::Take | Verb::Refuse => 3,
     };
-    let payload = bytes_of(alloc, line)?;
-    wire::reply(
-        alloc,
-        [action, verdict],
+    let doing = [action, verdict];
+    put_reply(
+        message,
+        doing,
+        FIRST_OBJECT,
         [grant, place],
         detail,
-        payload.as_slice(),
+        payload,
     )
 }
 
 // The text of a step.
-fn tell(alloc: Global, step: Result<CStep, Memory>, digits: bool) -> Result<Bytes, Memory> {
-    told(alloc, &step?, digits)
-}
-
-fn tell_call(alloc: Global, step: Result<CStep, CallErr>, digits: bool) -> Result<Bytes, Memory> {
+fn tell(
+    came: &mut Bytes,
+    alloc: Global,
+    step: Result<CStep, Memory>,
+    digits: bool,
+) -> Result<(), Memory> {
     match step {
-        Ok(step) => told(alloc, &step, digits),
-        Err(refusal) => told_refusal(alloc, refusal),
+        Ok(step) => tell_step(came, alloc, &step, digits),
+        Err(e) => Err(e),
     }
 }
 
-fn tell_sends(alloc: Global, sends: Result<Sends, Memory>, digits: bool) -> Result<Bytes, Memory> {
-    told_sends(alloc, sends?.as_slice(), digits)
+fn tell_call(
+    came: &mut Bytes,
+    alloc: Global,
+    step: Result<CStep, CallErr>,
+    digits: bool,
+) -> Result<(), Memory> {
+    match step {
+        Ok(step) => tell_step(came, alloc, &step, digits),
+        Err(refusal) => tell_refusal(came, refusal),
+    }
+}
+
+fn tell_sent(
+    came: &mut Bytes,
+    alloc: Global,
+    sends: Result<Sends, Memory>,
+    digits: bool,
+) -> Result<(), Memory> {
+    match sends {
+        Ok(sends) => tell_sends(came, alloc, sends.as_slice(), digits),
+        Err(e) => Err(e),
+    }
 }
 
 // Only an idle client may leave.
-fn leave(client: &mut ClientCore, alloc: Global, digits: bool) -> Result<Bytes, Memory> {
-    if client.pending().is_some() {
-        return told_refusal(alloc, CallErr::Busy);
+fn leave(talk: &mut Talk, digits: bool) -> Result<(), Memory> {
+    if talk.client.pending().is_some() {
+        return tell_refusal(&mut talk.came, CallErr::Busy);
     }
-    tell_sends(alloc, client.leave(), digits)
-}
-
-// What the client tells of itself.
-fn say(
-    client: &ClientCore,
-    alloc: Global,
-    question: Question,
-    line: &Line<'_>,
-) -> Result<Bytes, Memory> {
-    let [grant, place, ..] = line.numbers;
-    match question {
-        Question::Awaits => told_awaits(alloc, client.awaits()),
-        Question::Next => told_number(alloc, client.next_sequence()),
-        Question::Awaited => match client.awaited(nonce_of(grant, place)) {
-            Some(component) => told_number(alloc, component),
-            None => Ok(Bytes::new(alloc)),
-        },
-    }
+    let sends = talk.client.leave();
+    tell_sent(&mut talk.came, talk.alloc, sends, digits)
 }
 
 fn nonce_of(grant: u32, place: u32) -> u64 {
     u64::from(grant) * 4_294_967_296 + u64::from(place)
 }
 
-// A message comes.
-fn hear(
-    client: &mut ClientCore,
-    alloc: Global,
-    from: Node,
-    bytes: Bytes,
-    digits: bool,
-) -> Result<Bytes, Memory> {
-    tell(alloc, client.on_message(from, bytes.as_slice()), digits)
+// What the client tells of itself.
+fn say(talk: &mut Talk, question: Question, line: &Line<'_>) -> Result<(), Memory> {
+    let [grant, place, ..] = line.numbers;
+    match question {
+        Question::Awaits => tell_awaits(&mut talk.came, talk.client.awaits()),
+        Question::Next => put(&mut talk.came, "", u64::from(talk.client.next_sequence())),
+        Question::Awaited => match talk.client.awaited(nonce_of(grant, place)) {
+            Some(component) => put(&mut talk.came, "", u64::from(component)),
+            None => Ok(()),
+        },
+    }
+}
+
+// The message comes.
+fn hear(talk: &mut Talk, from: Node, digits: bool) -> Result<(), Memory> {
+    let step = talk.client.on_message(from, talk.message.as_slice());
+    tell(&mut talk.came, talk.alloc, step, digits)
+}
+
+fn call(talk: &mut Talk, op: CallOp, digits: bool) -> Result<(), Memory> {
+    let step = talk.client.call(op);
+    tell_call(&mut talk.came, talk.alloc, step, digits)
+}
+
+fn time_out(talk: &mut Talk, component: u32, digits: bool) -> Result<(), Memory> {
+    let step = talk.client.timeout(component);
+    tell(&mut talk.came, talk.alloc, step, digits)
+}
+
+fn resend(talk: &mut Talk, digits: bool) -> Result<(), Memory> {
+    let sends = talk.client.resend();
+    tell_sent(&mut talk.came, talk.alloc, sends, digits)
+}
+
+// A message of the server comes.
+fn serve(
+    talk: &mut Talk,
+    setting: &Setting<'_>,
+    answer: Answer,
+    line: &Line<'_>,
+) -> Result<(), Memory> {
+    put_served(&mut talk.message, &mut talk.layout, setting, answer, line)?;
+    hear(talk, Node::Server, setting.digits)
+}
+
+// A message of a drive comes.
+fn reply(talk: &mut Talk, verb: Verb, line: &Line<'_>, digits: bool) -> Result<(), Memory> {
+    let payload = bytes_of(talk.alloc, line)?;
+    put_replied(&mut talk.message, verb, line, payload.as_slice())?;
+    hear(talk, Node::Drive(line.numbers[0]), digits)
 }
 
 // What the client does, as text.
-fn react(
-    client: &mut ClientCore,
-    alloc: Global,
-    setting: &Setting<'_>,
-    line: &Line<'_>,
-) -> Result<Bytes, Memory> {
+fn react(talk: &mut Talk, setting: &Setting<'_>, line: &Line<'_>) -> Result<(), Memory> {
     let digits = setting.digits;
     match line.word {
-        Word::Calls(call) => {
-            let op = op_of(alloc, setting.file, call, line)?;
-            tell_call(alloc, client.call(op), digits)
-        }
-        Word::Serves(answer) => {
-            let bytes = served(alloc, setting, answer, line)?;
-            hear(client, alloc, Node::Server, bytes, digits)
-        }
-        Word::Replies(verb) => {
-            let bytes = replied(alloc, verb, line)?;
-            hear(client, alloc, Node::Drive(line.numbers[0]), bytes, digits)
-        }
-        Word::Tells(question) => say(client, alloc, question, line),
-        Word::Timeout => tell(alloc, client.timeout(line.numbers[0]), digits),
-        Word::Leave => leave(client, alloc, digits),
-        Word::Resend => tell_sends(alloc, client.resend(), digits),
-        Word::Sets(_) => Ok(Bytes::new(alloc)),
-        Word::Unknown => Bytes::copied(alloc, UNKNOWN),
+        Word::Calls(kind) => match op_of(talk.alloc, setting.file, kind, line) {
+            Ok(op) => call(talk, op, digits),
+            Err(e) => Err(e),
+        },
+        Word::Serves(answer) => serve(talk, setting, answer, line),
+        Word::Replies(verb) => reply(talk, verb, line, digits),
+        Word::Tells(question) => say(talk, question, line),
+        Word::Timeout => time_out(talk, line.numbers[0], digits),
+        Word::Leave => leave(talk, digits),
+        Word::Resend => resend(talk, digits),
+        Word::Sets(_) => Ok(()),
+        // No line of a case has this below it, so that a word that is misspelled fails.
+        Word::Unknown => put_word(&mut talk.came, "unknown"),
     }
 }
 
@@ -207,9 +265,23 @@ fn set<'a>(setting: &mut Setting<'a>, line: &Line<'a>) {
     }
 }
 
-// Begins a case.
-fn renew(client: &mut ClientCore, alloc: Global, first: u32) {
-    *client = ClientCore::new(alloc, CLIENT, first.max(1));
+// A case begins, or a line comes.
+fn go_on<'a>(
+    talk: &mut Talk,
+    first: u32,
+    setting: &mut Setting<'a>,
+    text: &'a str,
+) -> Result<(), Memory> {
+    if text.starts_with('#') {
+        talk.client = ClientCore::new(talk.alloc, CLIENT, first.max(1));
+        *setting = STRIPED;
+        return Ok(());
+    }
+    let line = line_of(text);
+    set(setting, &line);
+    talk.message.truncate(0);
+    talk.layout.truncate(0);
+    react(talk, setting, &line)
 }
 
 // Whether what came is what is wanted. It is done with.
@@ -219,105 +291,42 @@ fn is_told(came: &mut Bytes, wanted: &str) -> bool {
     is_wanted
 }
 
-// What comes of a line is kept.
-fn keep(came: &mut Bytes, told: Result<Bytes, Memory>) -> Result<(), Memory> {
-    *came = told?;
-    Ok(())
-}
-
-// A line comes.
-fn take<'a>(
-    client: &mut ClientCore,
-    alloc: Global,
-    setting: &mut Setting<'a>,
-    came: &mut Bytes,
-    text: &'a str,
-) -> Result<(), Memory> {
-    let line = line_of(text);
-    set(setting, &line);
-    keep(came, react(client, alloc, setting, &line))
-}
-
-// A case begins, or a line comes.
-fn go_on<'a>(
-    client: &mut ClientCore,
-    alloc: Global,
-    first: u32,
-    setting: &mut Setting<'a>,
-    came: &mut Bytes,
-    text: &'a str,
-) -> Result<(), Memory> {
-    if text.starts_with('#') {
-        renew(client, alloc, first);
-        *setting = STRIPED;
-        return Ok(());
-    }
-    take(client, alloc, setting, came, text)
-}
-
 // Whether what came of the line before is what stands below it.
-fn agrees<'a>(
-    client: &mut ClientCore,
-    alloc: Global,
-    first: u32,
-    setting: &mut Setting<'a>,
-    came: &mut Bytes,
-    text: &'a str,
-) -> Result<bool, Memory> {
+fn agrees<'a>(talk: &mut Talk, first: u32, setting: &mut Setting<'a>, text: &'a str) -> bool {
     if let Some(wanted) = text.strip_prefix("  ") {
-        return Ok(is_told(came, wanted));
+        return is_told(&mut talk.came, wanted);
     }
-    if !came.is_empty() {
-        return Ok(false);
-    }
-    go_on(client, alloc, first, setting, came, text)?;
-    Ok(true)
+    talk.came.is_empty() && go_on(talk, first, setting, text).is_ok()
 }
 
-// How many lines from the front on a client agrees with.
-fn agreeing(
-    client: &mut ClientCore,
-    alloc: Global,
-    first: u32,
-    came: &mut Bytes,
-    text: &str,
-) -> Result<usize, Memory> {
+// The first line, from 0 on, at which the client does something else, if any.
+fn first_wrong_of(talk: &mut Talk, first: u32, text: &str) -> Option<usize> {
     let mut setting = STRIPED;
     let mut count = 0usize;
     for line in text.lines() {
-        if !agrees(client, alloc, first, &mut setting, came, line)? {
-            return Ok(count);
+        if !agrees(talk, first, &mut setting, line) {
+            return Some(count);
         }
         count = count.wrapping_add(1);
     }
     // What comes of the last line stands below it too.
-    if came.is_empty() {
-        Ok(count)
+    if talk.came.is_empty() {
+        None
     } else {
-        Ok(count.wrapping_sub(1))
+        Some(count)
     }
 }
 
-// The first line at which it does not, if any.
-fn first_wrong_of(
-    client: &mut ClientCore,
-    alloc: Global,
-    first: u32,
-    came: &mut Bytes,
-    text: &str,
-) -> Option<usize> {
-    match agreeing(client, alloc, first, came, text) {
-        Ok(count) if count >= text.lines().count() => None,
-        Ok(count) => Some(count),
-        Err(_) => Some(usize::MAX),
-    }
-}
-
-// The first line, from 0 on, of a text at which a client does something else, or `None`.
+// The same of a client of its own.
 fn first_wrong(alloc: Global, first: u32, text: &str) -> Option<usize> {
-    let mut client = ClientCore::new(alloc, CLIENT, first.max(1));
-    let mut came = Bytes::new(alloc);
-    first_wrong_of(&mut client, alloc, first, &mut came, text)
+    let mut talk = Talk {
+        alloc,
+        client: ClientCore::new(alloc, CLIENT, first.max(1)),
+        message: Bytes::new(alloc),
+        layout: Bytes::new(alloc),
+        came: Bytes::new(alloc),
+    };
+    first_wrong_of(&mut talk, first, text)
 }
 
 /// Ends the test at the first line, from 0 on, at which a client does something else.

@@ -1,13 +1,10 @@
 // What a client sends and says, as text.
+use crate::places::{Form, PAYLOAD, from, number, put, put_form, put_word};
 use crate::wire::{COMMIT, GET, RECALL, RETURN};
 use client_rules::{Awaits, CallErr, Outcome, Why};
-use itoa::Buffer;
-use osd_lists::{Bytes, Memory, Node, u32_at};
+use osd_lists::{Bytes, Memory, Node};
 use std::alloc::Global;
 use stripe_client::{CStep, Sent};
-
-// The places of numbers in a message, each behind what stands before it in the text.
-type Form = &'static [(&'static str, usize)];
 
 const GETS_TO_READ: Form = &[("asks ", 8), (" f", 12), (" to read ", 36), ("+", 44)];
 
@@ -52,38 +49,9 @@ const ERRNOS: &[&str] = &[
     " Resource",
 ];
 
-// Where the payload of a command begins.
-const PAYLOAD: usize = 256;
-
-// Text and a number.
-fn put(text: &mut Bytes, before: &str, number: u64) -> Result<(), Memory> {
-    text.extend_from_slice(before.as_bytes())?;
-    text.extend_from_slice(Buffer::new().format(number).as_bytes())
-}
-
 fn put_all(text: &mut Bytes, parts: &[(&str, u64)]) -> Result<(), Memory> {
     for (before, number) in parts {
         put(text, before, *number)?;
-    }
-    Ok(())
-}
-
-fn put_word(text: &mut Bytes, word: &str) -> Result<(), Memory> {
-    text.extend_from_slice(word.as_bytes())
-}
-
-// The number at a place, or 0 where a message has none.
-fn number(bytes: &[u8], at: usize) -> u32 {
-    if at < bytes.len() && bytes.len() - at >= 4 {
-        u32_at(bytes, at)
-    } else {
-        0
-    }
-}
-
-fn put_form(text: &mut Bytes, bytes: &[u8], form: Form) -> Result<(), Memory> {
-    for (before, at) in form {
-        put(text, before, u64::from(number(bytes, *at)))?;
     }
     Ok(())
 }
@@ -100,11 +68,6 @@ fn put_digits(text: &mut Bytes, alloc: Global, bytes: &[u8]) -> Result<(), Memor
     }
     let digits = hex::encode(alloc, bytes)?;
     put_behind_blank(text, digits.as_bytes())
-}
-
-// The bytes from a place on.
-fn from(bytes: &[u8], at: usize) -> &[u8] {
-    if at <= bytes.len() { &bytes[at..] } else { &[] }
 }
 
 fn tell_command(text: &mut Bytes, alloc: Global, drive: u32, bytes: &[u8]) -> Result<(), Memory> {
@@ -192,18 +155,17 @@ fn tell_sent(text: &mut Bytes, alloc: Global, sent: &Sent, digits: bool) -> Resu
     }
 }
 
-fn tell_sends(text: &mut Bytes, alloc: Global, sends: &[Sent], digits: bool) -> Result<(), Memory> {
+/// What is sent, in order.
+pub fn tell_sends(
+    text: &mut Bytes,
+    alloc: Global,
+    sends: &[Sent],
+    digits: bool,
+) -> Result<(), Memory> {
     for sent in sends {
         tell_sent(text, alloc, sent, digits)?;
     }
     Ok(())
-}
-
-/// What is sent, in order.
-pub fn told_sends(alloc: Global, sends: &[Sent], digits: bool) -> Result<Bytes, Memory> {
-    let mut text = Bytes::new(alloc);
-    tell_sends(&mut text, alloc, sends, digits)?;
-    Ok(text)
 }
 
 fn name_of(why: Why) -> &'static str {
@@ -267,7 +229,13 @@ fn tell_outcome(text: &mut Bytes, alloc: Global, outcome: &Outcome) -> Result<()
     }
 }
 
-fn tell_step(text: &mut Bytes, alloc: Global, step: &CStep, digits: bool) -> Result<(), Memory> {
+/// What is sent, in order, and how a call ended.
+pub fn tell_step(
+    text: &mut Bytes,
+    alloc: Global,
+    step: &CStep,
+    digits: bool,
+) -> Result<(), Memory> {
     tell_sends(text, alloc, step.sends.as_slice(), digits)?;
     match &step.outcome {
         Some(outcome) => {
@@ -278,42 +246,22 @@ fn tell_step(text: &mut Bytes, alloc: Global, step: &CStep, digits: bool) -> Res
     }
 }
 
-/// What is sent, in order, and how a call ended.
-pub fn told(alloc: Global, step: &CStep, digits: bool) -> Result<Bytes, Memory> {
-    let mut text = Bytes::new(alloc);
-    tell_step(&mut text, alloc, step, digits)?;
-    Ok(text)
-}
-
 /// Why a call isn't taken.
-pub fn told_refusal(alloc: Global, refusal: CallErr) -> Result<Bytes, Memory> {
-    let word: &str = match refusal {
+pub fn tell_refusal(text: &mut Bytes, refusal: CallErr) -> Result<(), Memory> {
+    let word = match refusal {
         CallErr::Busy => "busy",
         CallErr::BadRange => "badrange",
         CallErr::SlotSpent => "slotspent",
         CallErr::Memory => "memory",
     };
-    Bytes::copied(alloc, word.as_bytes())
+    put_word(text, word)
 }
 
-fn tell_awaits(text: &mut Bytes, awaits: Awaits) -> Result<(), Memory> {
+/// Whose answer is awaited.
+pub fn tell_awaits(text: &mut Bytes, awaits: Awaits) -> Result<(), Memory> {
     match awaits {
         Awaits::Nothing => put_word(text, "nothing"),
         Awaits::Server => put_word(text, "server"),
         Awaits::Drive { component } => put(text, "component ", u64::from(component)),
     }
-}
-
-/// Whose answer is awaited.
-pub fn told_awaits(alloc: Global, awaits: Awaits) -> Result<Bytes, Memory> {
-    let mut text = Bytes::new(alloc);
-    tell_awaits(&mut text, awaits)?;
-    Ok(text)
-}
-
-/// A number.
-pub fn told_number(alloc: Global, number: u32) -> Result<Bytes, Memory> {
-    let mut text = Bytes::new(alloc);
-    put(&mut text, "", u64::from(number))?;
-    Ok(text)
 }

@@ -1,7 +1,6 @@
-// What comes to a client, as bytes: spelled number by number, apart from the codecs of the project.
-use crate::setting::{Grant, Setting, layout};
+// What comes to a client and from drives, as bytes: spelled number by number, apart from the codecs of the project.
+use crate::setting::{Grant, Setting};
 use osd_lists::{Bytes, Memory};
-use std::alloc::Global;
 
 /// The number of the client.
 pub const CLIENT: u32 = 3;
@@ -102,7 +101,8 @@ fn put_layouts(
     Ok(())
 }
 
-fn put_granted(
+/// A LAYOUTGET that is answered with a grant, and so many layouts with this body.
+pub fn put_granted(
     bytes: &mut Bytes,
     setting: &Setting<'_>,
     head: &Head,
@@ -113,86 +113,42 @@ fn put_granted(
     put_layouts(bytes, setting, grant, body)
 }
 
-fn granted_with(
-    alloc: Global,
-    setting: &Setting<'_>,
-    head: &Head,
-    grant: &Grant,
-    body: &[u8],
-) -> Result<Bytes, Memory> {
-    let mut bytes = Bytes::new(alloc);
-    put_granted(&mut bytes, setting, head, grant, body)?;
-    Ok(bytes)
-}
-
-/// A LAYOUTGET that is answered with a grant.
-pub fn granted(
-    alloc: Global,
-    setting: &Setting<'_>,
-    head: &Head,
-    grant: &Grant,
-) -> Result<Bytes, Memory> {
-    let body = layout(alloc, setting, grant)?;
-    granted_with(alloc, setting, head, grant, body.as_slice())
-}
-
 /// Any other answer. A number follows the status where the operation was carried out, or a layout may be given later:
 /// that no new size is told, that there is no stateid, or that there will be no signal.
-pub fn answered(alloc: Global, setting: &Setting<'_>, head: &Head) -> Result<Bytes, Memory> {
-    let mut bytes = Bytes::new(alloc);
-    put_numbers(&mut bytes, &head_of(setting.file, head))?;
+pub fn put_answered(bytes: &mut Bytes, setting: &Setting<'_>, head: &Head) -> Result<(), Memory> {
+    put_numbers(bytes, &head_of(setting.file, head))?;
     if head.status == 0 || (head.operation == GET && head.status == NFS4ERR_LAYOUTTRYLATER) {
-        put_numbers(&mut bytes, &[0])?;
+        put_numbers(bytes, &[0])?;
     }
-    Ok(bytes)
+    Ok(())
 }
 
 /// The recall with a number of the client's grant on a file: not because the file was changed, and of one file.
 #[rattlefmt::skip]
-pub fn recalled(alloc: Global, number: u32, file: u32, grant: u32) -> Result<Bytes, Memory> {
-    let mut bytes = Bytes::new(alloc);
+pub fn put_recall(bytes: &mut Bytes, number: u32, file: u32, grant: u32) -> Result<(), Memory> {
     put_numbers(
-        &mut bytes,
+        bytes,
         &[
-            3,
-            CLIENT,
-            number,
-            file,
-            RECALL,
-            LAYOUT4_OSD2_OBJECTS,
-            LAYOUTIOMODE4_ANY,
-            0,
-            1,
-            4,
-            file,
-            0,
-            0,
-            u32::MAX,
-            u32::MAX,
-            1,
-            0,
-            0,
-            grant,
+            3, CLIENT, number, file, RECALL, LAYOUT4_OSD2_OBJECTS, LAYOUTIOMODE4_ANY, 0, 1, 4, file,
+            0, 0, u32::MAX, u32::MAX, 1, 0, 0, grant,
         ],
-    )?;
-    Ok(bytes)
+    )
 }
 
-/// The reply of a drive: its action and verdict, the grant and the place of the command, the detail, and the payload.
-pub fn reply(
-    alloc: Global,
+/// The reply of a drive: its action and verdict, the object and the nonce of the command, the detail, and the payload.
+pub fn put_reply(
+    bytes: &mut Bytes,
     [action, verdict]: [u32; 2],
+    object: u32,
     [grant, place]: [u32; 2],
     detail: u32,
     payload: &[u8],
-) -> Result<Bytes, Memory> {
+) -> Result<(), Memory> {
     let doing = action.wrapping_mul(65_536).wrapping_add(verdict);
     let size = size_of(payload.len());
-    let mut bytes = Bytes::new(alloc);
     put_numbers(
-        &mut bytes,
-        &[REPLY, doing, 0, 70_000, grant, place, 0, detail, size, 0],
+        bytes,
+        &[REPLY, doing, 0, object, grant, place, 0, detail, size, 0],
     )?;
-    bytes.extend_from_slice(payload)?;
-    Ok(bytes)
+    bytes.extend_from_slice(payload)
 }

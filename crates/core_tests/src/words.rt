@@ -1,189 +1,167 @@
-// What the server notes and sends, in words.
+// What the server notes and sends, in words: by what stands at the places of a message, apart from the codecs.
 use crate::moves::{Question, Questions};
-use itoa::Buffer;
-use layout_ops::{
-    Answer, Envelope, LayoutCommitResult, LayoutGetResult, LayoutReturnResult, OrderAnswer,
-    Results, read_envelope,
-};
-use osd_commands::{Action, Command, read_command};
+use crate::places::{Form, PAYLOAD, from, number, put, put_form, put_word};
+use crate::wire::GET;
 use osd_lists::{Bytes, Memory, Node};
 use server_requests::Sent;
 use server_rules::{Note, NoteKind};
-use std::alloc::Global;
 
-// The first word of something, behind what came before.
-fn begin(text: &mut Bytes, word: &str) -> Result<(), Memory> {
-    if !text.is_empty() {
-        text.extend_from_slice(b"; ")?;
+// The client, the number of its request, the status, the detail and the file's size.
+const ANSWER: Form = &[("answer c", 4), (" ", 8), (" ", 32), (" ", 20), (" ", 28)];
+
+const RECALL: Form = &[("recall c", 4)];
+
+const ORDER: Form = &[("order ", 8)];
+
+const UNREADABLE: Form = &[("unreadable ", 0)];
+
+// The actions of commands, from 1 on.
+const ACTIONS: &[&str] = &[
+    "",
+    "create d",
+    "read d",
+    "write d",
+    "getattr d",
+    "setattr d",
+    "settag d",
+];
+
+const READ_ACTION: u32 = 2;
+
+const WRITE_ACTION: u32 = 3;
+
+// The offset and the length of a READ.
+const READ_RANGE: Form = &[(" ", 28), (" ", 36)];
+
+const WRITE_OFFSET: Form = &[(" ", 28)];
+
+// Parts what comes from what came before.
+fn part(text: &mut Bytes) -> Result<(), Memory> {
+    if text.is_empty() {
+        Ok(())
+    } else {
+        put_word(text, "; ")
     }
-    text.extend_from_slice(word.as_bytes())
-}
-
-// A number behind a word.
-fn put_number(text: &mut Bytes, before: &str, number: u64) -> Result<(), Memory> {
-    text.push(b' ')?;
-    text.extend_from_slice(before.as_bytes())?;
-    text.extend_from_slice(Buffer::new().format(number).as_bytes())
 }
 
 // A word and numbers.
-fn put(text: &mut Bytes, word: &str, numbers: &[u64]) -> Result<(), Memory> {
-    begin(text, word)?;
+fn put_numbers(text: &mut Bytes, word: &str, numbers: &[u64]) -> Result<(), Memory> {
+    put_word(text, word)?;
     for number in numbers {
-        put_number(text, "", *number)?;
+        put(text, " ", *number)?;
     }
     Ok(())
 }
 
-// A note, by the words of its kind.
+// The component that can't be made, and the lost positions.
+fn put_lost(text: &mut Bytes, component: u32, positions: &[u32]) -> Result<(), Memory> {
+    put(text, "lost ", u64::from(component))?;
+    for position in positions {
+        put(text, " ", u64::from(*position))?;
+    }
+    Ok(())
+}
+
+/// A note, by the words of its kind.
 pub fn put_note(text: &mut Bytes, note: &Note) -> Result<(), Memory> {
+    part(text)?;
     match &note.kind {
-        NoteKind::Ready => put(text, "ready", &[]),
-        NoteKind::Fenced { tag } => put(text, "fenced", &[u64::from(*tag)]),
-        NoteKind::Repaired { stripes, short } => put(text, "repaired", &[*stripes, *short]),
-        NoteKind::Rebuilt { component, drive } => {
-            put(text, "rebuilt", &[u64::from(*component), u64::from(*drive)])
-        }
-        NoteKind::NoDrive { component } => put(text, "nodrive", &[u64::from(*component)]),
+        NoteKind::Ready => put_word(text, "ready"),
+        NoteKind::Fenced { tag } => put(text, "fenced ", u64::from(*tag)),
+        NoteKind::Repaired { stripes, short } => put_numbers(text, "repaired", &[*stripes, *short]),
+        NoteKind::Rebuilt { component, drive } => put_numbers(
+            text,
+            "rebuilt",
+            &[u64::from(*component), u64::from(*drive)],
+        ),
+        NoteKind::NoDrive { component } => put(text, "nodrive ", u64::from(*component)),
         NoteKind::Lost {
             component,
             positions,
         } => put_lost(text, *component, positions.as_slice()),
-        NoteKind::NoSpace { component } => put(text, "nospace", &[u64::from(*component)]),
+        NoteKind::NoSpace { component } => put(text, "nospace ", u64::from(*component)),
         NoteKind::Audit {
             stripes,
             short,
             bad,
             bytes,
-        } => put(text, "audit", &[*stripes, *short, *bad, *bytes]),
-        NoteKind::Busy { component } => put(text, "busy", &[u64::from(*component)]),
-        NoteKind::Spent => put(text, "spent", &[]),
-        NoteKind::Reported { component } => put(text, "reported", &[u64::from(*component)]),
-    }
-}
-
-// The component that can't be made, and the lost positions.
-fn put_lost(text: &mut Bytes, component: u32, positions: &[u32]) -> Result<(), Memory> {
-    put(text, "lost", &[u64::from(component)])?;
-    for position in positions {
-        put_number(text, "", u64::from(*position))?;
-    }
-    Ok(())
-}
-
-fn name_of(action: Action) -> &'static str {
-    match action {
-        Action::Create => "create",
-        Action::Read => "read",
-        Action::Write => "write",
-        Action::GetAttr => "getattr",
-        Action::SetAttr => "setattr",
-        Action::SetTag => "settag",
+        } => put_numbers(text, "audit", &[*stripes, *short, *bad, *bytes]),
+        NoteKind::Busy { component } => put(text, "busy ", u64::from(*component)),
+        NoteKind::Spent => put_word(text, "spent"),
+        NoteKind::Reported { component } => put(text, "reported ", u64::from(*component)),
     }
 }
 
 // The range of a READ; the offset and the bytes of a WRITE.
-fn put_range(text: &mut Bytes, command: &Command) -> Result<(), Memory> {
-    match command.action {
-        Action::Read => {
-            put_number(text, "", command.offset)?;
-            put_number(text, "", command.length)
-        }
-        Action::Write => {
-            put_number(text, "", command.offset)?;
+fn put_range(text: &mut Bytes, action: u32, bytes: &[u8]) -> Result<(), Memory> {
+    match action {
+        READ_ACTION => put_form(text, bytes, READ_RANGE),
+        WRITE_ACTION => {
+            put_form(text, bytes, WRITE_OFFSET)?;
             text.push(b' ')?;
-            text.extend_from_slice(command.payload.as_slice())
+            text.extend_from_slice(from(bytes, PAYLOAD))
         }
         _ => Ok(()),
     }
 }
 
 // A command to a drive, with the format of its capability where that is 2.
-fn put_command(text: &mut Bytes, drive: u32, command: &Command) -> Result<(), Memory> {
-    begin(text, name_of(command.action))?;
-    put_number(text, "d", u64::from(drive))?;
-    put_range(text, command)?;
-    if command.capability.format == 2 {
-        text.extend_from_slice(b" f2")?;
+fn put_command(text: &mut Bytes, drive: u32, bytes: &[u8]) -> Result<(), Memory> {
+    let action = number(bytes, 4) >> 16;
+    let word = ACTIONS.get(action as usize).copied().unwrap_or("?");
+    put(text, word, u64::from(drive))?;
+    put_range(text, action, bytes)?;
+    if bytes.get(64) == Some(&2) {
+        put_word(text, " f2")?;
     }
     Ok(())
 }
 
-// The status of an answer, and whether it has a layout.
-fn status_of(results: &Results) -> (u32, bool) {
-    match results {
-        Results::LayoutGet(LayoutGetResult::Granted(granted)) => (0, !granted.layouts.is_empty()),
-        Results::LayoutGet(LayoutGetResult::TryLater { .. }) => (10_058, false),
-        Results::LayoutGet(LayoutGetResult::Refused { status }) => (*status, false),
-        Results::LayoutCommit(LayoutCommitResult::Committed { .. }) => (0, false),
-        Results::LayoutCommit(LayoutCommitResult::Refused { status }) => (*status, false),
-        Results::LayoutReturn(LayoutReturnResult::Returned { .. }) => (0, false),
-        Results::LayoutReturn(LayoutReturnResult::Refused { status }) => (*status, false),
+// What a message to a client or an operator has, by its kind.
+fn form_of(bytes: &[u8]) -> Form {
+    match number(bytes, 0) {
+        2 => ANSWER,
+        3 => RECALL,
+        6 => ORDER,
+        _ => UNREADABLE,
     }
 }
 
-// An answer: the client, the number of its request, the status, the detail and the file's size.
-fn put_answer(text: &mut Bytes, answer: &Answer) -> Result<(), Memory> {
-    let (status, has_layout) = status_of(&answer.results);
-    begin(text, "answer")?;
-    put_number(text, "c", u64::from(answer.client))?;
-    put_number(text, "", u64::from(answer.sequence))?;
-    put_number(text, "", u64::from(status))?;
-    put_number(text, "", u64::from(answer.detail))?;
-    put_number(text, "", answer.size)?;
-    if has_layout {
-        text.extend_from_slice(b" layout")?;
+// Whether a message is an answer with a layout.
+fn has_layout(bytes: &[u8]) -> bool {
+    number(bytes, 0) == 2
+        && number(bytes, 16) == GET
+        && number(bytes, 32) == 0
+        && number(bytes, 56) != 0
+}
+
+fn put_message(text: &mut Bytes, bytes: &[u8]) -> Result<(), Memory> {
+    put_form(text, bytes, form_of(bytes))?;
+    if has_layout(bytes) {
+        put_word(text, " layout")?;
     }
     Ok(())
 }
 
-fn put_result(text: &mut Bytes, answer: OrderAnswer) -> Result<(), Memory> {
-    put(text, "order", &[u64::from(answer.result.number())])
-}
-
-fn put_recall(text: &mut Bytes, client: u32) -> Result<(), Memory> {
-    begin(text, "recall")?;
-    put_number(text, "c", u64::from(client))
-}
-
-// A message to a client or an operator.
-fn put_envelope(alloc: Global, text: &mut Bytes, bytes: &[u8]) -> Result<(), Memory> {
-    match read_envelope(alloc, bytes) {
-        Ok(Envelope::Answer(answer)) => put_answer(text, &answer),
-        Ok(Envelope::Recall(recall)) => put_recall(text, recall.client),
-        Ok(Envelope::OrderAnswer(answer)) => put_result(text, answer),
-        _ => begin(text, "unreadable"),
-    }
-}
-
-// A command is one more that a drive is to answer.
-fn put_question(
-    text: &mut Bytes,
-    questions: &mut Questions,
-    drive: u32,
-    command: &Command,
-) -> Result<(), Memory> {
-    questions.push(Question {
+// What a drive is to answer in a command.
+fn question_in(drive: u32, bytes: &[u8]) -> Question {
+    Question {
         drive,
-        action: command.action.number(),
-        object: command.object,
-        nonce: command.nonce,
-    })?;
-    put_command(text, drive, command)
+        action: number(bytes, 4) >> 16,
+        object: number(bytes, 20),
+        nonce: [number(bytes, 40), number(bytes, 44)],
+    }
 }
 
-/// A message that the server sends.
-pub fn put_sent(
-    alloc: Global,
-    text: &mut Bytes,
-    questions: &mut Questions,
-    sent: &Sent,
-) -> Result<(), Memory> {
-    let Node::Drive(drive) = sent.to else {
-        return put_envelope(alloc, text, sent.bytes.as_slice());
-    };
-    match read_command(alloc, sent.bytes.as_slice()) {
-        Ok(command) => put_question(text, questions, drive, &command),
-        Err(_) => begin(text, "unreadable"),
+/// A message that the server sends. A command is one more that a drive is to answer.
+pub fn put_sent(text: &mut Bytes, questions: &mut Questions, sent: &Sent) -> Result<(), Memory> {
+    part(text)?;
+    let bytes = sent.bytes.as_slice();
+    match sent.to {
+        Node::Drive(drive) => {
+            questions.push(question_in(drive, bytes))?;
+            put_command(text, drive, bytes)
+        }
+        _ => put_message(text, bytes),
     }
 }

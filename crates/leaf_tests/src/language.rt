@@ -1,8 +1,5 @@
-//! The language of scenarios and of transcripts: lines as they are read and written, those of transcripts, which the program
-//! only writes, above all.
-use scenario_text::{
-    Event, EventErr, Line, read_event, read_line, write_event_line, write_line, write_lines,
-};
+//! The language of transcripts, which the program only writes: lines as they are read and written.
+use scenario_text::{EventErr, Line, read_line, write_line};
 use std::alloc::Global;
 
 // Lines of a transcript, with each event.
@@ -155,50 +152,4 @@ fn lines_that_are_none(rt: HostRuntime) {
     for (text, kind) in WRONG.iter() {
         assert!(rt; is_no_line(rt.alloc(), text, *kind));
     }
-}
-
-fn are_lines_of(alloc: Global, lines: &[Line], text: &[u8]) -> bool {
-    match write_lines(alloc, lines) {
-        Ok(written) => written.as_slice() == text,
-        Err(_) => false,
-    }
-}
-
-// Whether two lines that are read give this text together.
-fn give_both(alloc: Global, first: &[u8], last: &[u8], text: &[u8]) -> bool {
-    match read_line(alloc, first) {
-        Ok(first) => match read_line(alloc, last) {
-            Ok(last) => are_lines_of(alloc, &[first, last], text),
-            Err(_) => false,
-        },
-        Err(_) => false,
-    }
-}
-
-// Whether an event is written as this line.
-fn is_line(alloc: Global, event: &Event, line: &[u8]) -> bool {
-    match write_event_line(alloc, event) {
-        Ok(written) => written.as_slice() == line,
-        Err(_) => false,
-    }
-}
-
-fn is_event_of(alloc: Global, text: &[u8], line: &[u8]) -> bool {
-    match read_event(alloc, text) {
-        Ok(Some(event)) => is_line(alloc, &event, line),
-        _ => false,
-    }
-}
-
-#[test]
-fn events_and_histories_are_written(rt: HostRuntime) {
-    assert!(rt; is_event_of(rt.alloc(), b"inject d2 0AfF", b"= inject d2 0aff"));
-    assert!(rt;
-        give_both(
-            rt.alloc(),
-            b"t c0 3",
-            b"f f0 ready",
-            b"t c0 3\nf f0 ready\n"
-        )
-    );
 }

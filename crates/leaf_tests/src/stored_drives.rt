@@ -1,5 +1,5 @@
 //! Drives whose store is on a disk in memory, which crashes and of which calls fail.
-use crate::lines::{copied, numbers};
+use crate::ends::{copied, numbers};
 use drive_store::{SECOND_FORMAT, StoreErr, StoreHeader, StoredDrive};
 use gate_log::{Entry, GateLog, MAX_BODY};
 use osd_capability::{CHECK_BYTES, Capability, DRIVE_KEY_BYTES, FORMAT_SHA1, capability_key};

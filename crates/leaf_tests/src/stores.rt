@@ -1,5 +1,5 @@
 //! Logs on disks in memory, which crash and of which calls fail.
-use crate::lines::{copied, numbers};
+use crate::ends::{copied, numbers};
 use gate_log::{Entry, GateLog, LogErr, LogReader, MAX_BODY};
 use osd_disk::{Disk, MemDisk};
 use osd_lists::Bytes;

@@ -1,7 +1,7 @@
 -- Where the first two of drives that are spread change places, they are as well spread, if there is one group.
-use Rattle.std.specs.Prelude.{◌≡◌, ◌≢◌, ◌*◌, ◌+◌, ◌==◌, ◌&&◌, ◌||◌, not, ℕ, Bool, true, false, List, [], ◌∷◌, length, filter, nat_le, slice_range, IsTrue, if◌then◌else◌, refl}
+use Rattle.std.specs.Prelude.{◌≡◌, ◌*◌, ◌+◌, ◌==◌, ◌&&◌, ◌||◌, not, ℕ, Bool, true, false, List, [], ◌∷◌, length, filter, nat_le, if◌then◌else◌, refl}
 use Rattle.std.specs.List.{list_any, list_all}
-use Rattle.std.proofs.Common.{arith, ap, sym, subst, ◌∙◌, ◌-◌, eq-eqb}
+use Rattle.std.proofs.Common.{arith, ap, subst, ◌∙◌, ◌-◌, eq-eqb}
 use Rattle.std.proofs.lemmas.Bool.Decides.{nat_tests}
 use Rattle.std.proofs.lemmas.List.{take_all}
 use Rattle.zone_place.specs.declared.asks.ZoneAsk.{ZoneAsk}

@@ -1,4 +1,4 @@
-// The command of a client.
+// The command of a client, also by streams that are cut.
 use crate::runs::{Case, NOTHING, play};
 use crate::scripts::{
     AUDIT_BUSY, AUDIT_STARTED, COMMIT, COMMITTED, DATA, DECLARE_UNKNOWN, GET_MISORDERED, GET_READ,
@@ -13,6 +13,10 @@ pub const WRITES: &[&str] = &["client", "--number", "0", "--sequence", "1", "--c
 #[rattlefmt::skip]
 const AUDITS: &[&str] = &["client", "--number", "3", "--sequence", "7", "--call", "audit f0"];
 
+/// The words of a client that reads them with its fourth request.
+#[rattlefmt::skip]
+pub const READS: &[&str] = &["client", "--number=0", "--call=read f0 0 2", "--sequence=4"];
+
 const CALLS: &[Case] = &[
     Case {
         name: "a write is granted, done and committed, and the grant goes back",
@@ -24,7 +28,7 @@ const CALLS: &[Case] = &[
     },
     Case {
         name: "a read",
-        words: &["client", "--number=0", "--call=read f0 0 2", "--sequence=4"],
+        words: READS,
         asked: &[GRANTED_READ, DATA, RETURNED_READ],
         sent: &[GET_READ, READ, RETURN_READ],
         output: "o c0 read ok 4142\nnext 6\n",
@@ -130,25 +134,6 @@ const LOSSES: &[Case] = &[
         output: "error link\n",
         ..NOTHING
     },
-    Case {
-        // Call 0 settles the links; 1 to 9 are three exchanges of three calls each; 10 would connect again.
-        name: "what came of a call is told where a return behind it is lost",
-        words: WRITES,
-        asked: &[GRANTED_WRITE, WRITTEN, COMMITTED],
-        fails: &[10],
-        sent: &[GET_WRITE, WRITE, COMMIT],
-        exit_code: 8,
-        output: "o c0 write ok 2\nerror link\n",
-        ..NOTHING
-    },
-    Case {
-        name: "links that can't be settled",
-        words: WRITES,
-        fails: &[0],
-        exit_code: 8,
-        output: "error link\n",
-        ..NOTHING
-    },
 ];
 
 const ORDERS: &[Case] = &[
@@ -215,17 +200,89 @@ const ORDERS: &[Case] = &[
     },
 ];
 
+// What comes in the place of the answer to an order.
+const STREAMS: &[Case] = &[
+    Case {
+        name: "the first record is taken, and what follows isn't looked at",
+        words: AUDITS,
+        asked: &[b"\x80\0\0\x0c\0\0\0\x06\0\0\0\x05\0\0\0\0\x80\x04\x93\xe1"],
+        sent: &[ORDER_AUDIT],
+        output: "order 0\nnext 7\n",
+        ..NOTHING
+    },
+    Case {
+        name: "in two fragments, with a part of another behind it",
+        words: AUDITS,
+        asked: &[b"\0\0\0\x04\0\0\0\x06\x80\0\0\x08\0\0\0\x05\0\0\0\0\x80\0\0\x01"],
+        sent: &[ORDER_AUDIT],
+        output: "order 0\nnext 7\n",
+        ..NOTHING
+    },
+    Case {
+        name: "no record",
+        words: AUDITS,
+        asked: &[b""],
+        sent: &[ORDER_AUDIT],
+        exit_code: 8,
+        output: "error link\n",
+        ..NOTHING
+    },
+    Case {
+        name: "a part of one",
+        words: AUDITS,
+        asked: &[b"\x80\0\0\x01"],
+        sent: &[ORDER_AUDIT],
+        exit_code: 8,
+        output: "error link\n",
+        ..NOTHING
+    },
+    Case {
+        name: "a fragment that isn't the last",
+        words: AUDITS,
+        asked: &[b"\0\0\0\x01a"],
+        sent: &[ORDER_AUDIT],
+        exit_code: 8,
+        output: "error link\n",
+        ..NOTHING
+    },
+    Case {
+        name: "one that is too long",
+        words: AUDITS,
+        asked: &[b"\x80\x04\x93\xe1"],
+        sent: &[ORDER_AUDIT],
+        exit_code: 8,
+        output: "error link\n",
+        ..NOTHING
+    },
+    Case {
+        name: "two fragments that are too long together",
+        words: AUDITS,
+        asked: &[b"\0\0\0\x01a\x80\x04\x93\xe0"],
+        sent: &[ORDER_AUDIT],
+        exit_code: 8,
+        output: "error link\n",
+        ..NOTHING
+    },
+    Case {
+        name: "the second part of a record isn't received",
+        words: AUDITS,
+        fails: &[4],
+        asked: &[b"\x80\0\0\x01"],
+        sent: &[ORDER_AUDIT],
+        exit_code: 8,
+        output: "error link\n",
+        ..NOTHING
+    },
+];
+
 #[test]
 fn calls_of_a_client(rt: HostRuntime) {
     play(&rt, rt.alloc(), CALLS);
-}
-
-#[test]
-fn a_client_that_misses_an_answer(rt: HostRuntime) {
     play(&rt, rt.alloc(), LOSSES);
 }
 
 #[test]
 fn orders_of_a_client(rt: HostRuntime) {
     play(&rt, rt.alloc(), ORDERS);
+    play(&rt, rt.alloc(), STREAMS);
 }

@@ -1,127 +1,270 @@
-// Each call of the links of a client that writes fails in turn. Call 0 settles them; then each exchange connects, sends
-// and receives.
-use crate::clients::WRITES;
-use crate::ends::{lists, numbers};
-use crate::runs::{KEYLESS, exit_code_of};
+// Clients of whose calls of links each fails in turn. Call 0 settles them; then each exchange connects, sends and receives.
+use crate::clients::{READS, WRITES};
+use crate::runs::{Case, NOTHING, play};
 use crate::scripts::{
-    COMMIT, COMMITTED, GET_WRITE, GRANTED_WRITE, REPORT, REPORTED, RETURN, RETURNED, WRITE, WRITTEN,
+    COMMIT, COMMITTED, DATA, GET_READ, GET_WRITE, GRANTED_READ, GRANTED_WRITE, READ, REPORT,
+    REPORTED, RETURN, RETURN_READ, RETURNED, RETURNED_READ, WRITE, WRITTEN,
 };
-use osd_bytes::{MemLinks, MemSink};
-use std::alloc::Global;
 
-// The calls from `first` below `end`: what comes on each connection, also on one that fails, what goes out on those that
-// were made, and what comes of the run.
-struct Fault {
-    name: &'static str,
-    first: u32,
-    end: u32,
-    asked: &'static [&'static [u8]],
-    sent: &'static [&'static [u8]],
-    exit_code: u8,
-    output: &'static str,
-}
-
-const ANSWERS: &[&[u8]] = &[GRANTED_WRITE, WRITTEN, COMMITTED, RETURNED];
-
-const MESSAGES: &[&[u8]] = &[GET_WRITE, WRITE, COMMIT, RETURN];
-
-const FAULTS: &[Fault] = &[
-    Fault {
-        name: "settling, or the exchange for a grant",
-        first: 0,
-        end: 4,
-        asked: ANSWERS,
-        sent: MESSAGES,
+// Those of a write.
+const FAULTS: &[Case] = &[
+    Case {
+        name: "settling",
+        words: WRITES,
+        fails: &[0],
+        asked: &[GRANTED_WRITE, WRITTEN, COMMITTED, RETURNED],
         exit_code: 8,
         output: "error link\n",
+        ..NOTHING
     },
-    Fault {
-        name: "the connection to the drive",
-        first: 4,
-        end: 5,
+    Case {
+        name: "connecting for a grant",
+        words: WRITES,
+        fails: &[1],
+        asked: &[GRANTED_WRITE, WRITTEN, COMMITTED, RETURNED],
+        exit_code: 8,
+        output: "error link\n",
+        ..NOTHING
+    },
+    Case {
+        name: "asking for it",
+        words: WRITES,
+        fails: &[2],
+        asked: &[GRANTED_WRITE, WRITTEN, COMMITTED, RETURNED],
+        sent: &[b""],
+        exit_code: 8,
+        output: "error link\n",
+        ..NOTHING
+    },
+    Case {
+        name: "receiving it",
+        words: WRITES,
+        fails: &[3],
+        asked: &[GRANTED_WRITE, WRITTEN, COMMITTED, RETURNED],
+        sent: &[GET_WRITE],
+        exit_code: 8,
+        output: "error link\n",
+        ..NOTHING
+    },
+    Case {
+        name: "connecting to the drive",
+        words: WRITES,
+        fails: &[4],
         asked: &[GRANTED_WRITE, WRITTEN, REPORTED],
         sent: &[GET_WRITE, REPORT],
         exit_code: 10,
         output: "t c0 0\no c0 write silent 0\nnext 3\n",
+        ..NOTHING
     },
-    Fault {
-        name: "the rest of the exchange with the drive",
-        first: 5,
-        end: 7,
+    Case {
+        name: "sending the WRITE",
+        words: WRITES,
+        fails: &[5],
+        asked: &[GRANTED_WRITE, WRITTEN, REPORTED],
+        sent: &[GET_WRITE, b"", REPORT],
+        exit_code: 10,
+        output: "t c0 0\no c0 write silent 0\nnext 3\n",
+        ..NOTHING
+    },
+    Case {
+        name: "receiving its reply",
+        words: WRITES,
+        fails: &[6],
         asked: &[GRANTED_WRITE, WRITTEN, REPORTED],
         sent: &[GET_WRITE, WRITE, REPORT],
         exit_code: 10,
         output: "t c0 0\no c0 write silent 0\nnext 3\n",
-    },
-    Fault {
-        name: "the exchange for the commit",
-        first: 7,
-        end: 10,
-        asked: ANSWERS,
-        sent: MESSAGES,
-        exit_code: 8,
-        output: "error link\n",
-    },
-    Fault {
-        name: "the exchange for the return",
-        first: 10,
-        end: 13,
-        asked: ANSWERS,
-        sent: MESSAGES,
-        exit_code: 8,
-        output: "o c0 write ok 2\nerror link\n",
-    },
-    Fault {
-        name: "none of the calls that are made",
-        first: 13,
-        end: 14,
-        asked: ANSWERS,
-        sent: MESSAGES,
-        exit_code: 0,
-        output: "o c0 write ok 2\nnext 4\n",
+        ..NOTHING
     },
 ];
 
-// Whether on each connection that asked the whole of its message went out, or nothing.
-fn sends_whole(links: &MemLinks, sent: &[&[u8]]) -> bool {
-    if links.asked_count() > sent.len() {
-        return false;
-    }
-    for i in 0..links.asked_count() {
-        if !links.sent_on(i).is_empty() && links.sent_on(i) != sent[i] {
-            return false;
-        }
-    }
-    true
-}
+// The later ones: a constant has a limit, and the messages count.
+const LATER_FAULTS: &[Case] = &[
+    Case {
+        name: "connecting for the commit",
+        words: WRITES,
+        fails: &[7],
+        asked: &[GRANTED_WRITE, WRITTEN, COMMITTED, RETURNED],
+        sent: &[GET_WRITE, WRITE],
+        exit_code: 8,
+        output: "error link\n",
+        ..NOTHING
+    },
+    Case {
+        name: "sending it",
+        words: WRITES,
+        fails: &[8],
+        asked: &[GRANTED_WRITE, WRITTEN, COMMITTED, RETURNED],
+        sent: &[GET_WRITE, WRITE, b""],
+        exit_code: 8,
+        output: "error link\n",
+        ..NOTHING
+    },
+    Case {
+        name: "receiving its answer",
+        words: WRITES,
+        fails: &[9],
+        asked: &[GRANTED_WRITE, WRITTEN, COMMITTED, RETURNED],
+        sent: &[GET_WRITE, WRITE, COMMIT],
+        exit_code: 8,
+        output: "error link\n",
+        ..NOTHING
+    },
+    Case {
+        name: "connecting for the return",
+        words: WRITES,
+        fails: &[10],
+        asked: &[GRANTED_WRITE, WRITTEN, COMMITTED, RETURNED],
+        sent: &[GET_WRITE, WRITE, COMMIT],
+        exit_code: 8,
+        output: "o c0 write ok 2\nerror link\n",
+        ..NOTHING
+    },
+    Case {
+        name: "sending it, with the write acknowledged",
+        words: WRITES,
+        fails: &[11],
+        asked: &[GRANTED_WRITE, WRITTEN, COMMITTED, RETURNED],
+        sent: &[GET_WRITE, WRITE, COMMIT, b""],
+        exit_code: 8,
+        output: "o c0 write ok 2\nerror link\n",
+        ..NOTHING
+    },
+    Case {
+        name: "receiving its answer, with the write acknowledged",
+        words: WRITES,
+        fails: &[12],
+        asked: &[GRANTED_WRITE, WRITTEN, COMMITTED, RETURNED],
+        sent: &[GET_WRITE, WRITE, COMMIT, RETURN],
+        exit_code: 8,
+        output: "o c0 write ok 2\nerror link\n",
+        ..NOTHING
+    },
+    Case {
+        name: "a call behind the last one",
+        words: WRITES,
+        fails: &[13],
+        asked: &[GRANTED_WRITE, WRITTEN, COMMITTED, RETURNED],
+        sent: &[GET_WRITE, WRITE, COMMIT, RETURN],
+        output: "o c0 write ok 2\nnext 4\n",
+        ..NOTHING
+    },
+];
 
-fn goes_over(alloc: Global, fault: &Fault, sink: &mut MemSink, links: &mut MemLinks) -> bool {
-    exit_code_of(alloc, WRITES, KEYLESS, &[], sink, links) == fault.exit_code
-        && sink.bytes() == fault.output.as_bytes()
-        && sends_whole(links, fault.sent)
-}
-
-// Whether the run comes to that where this call fails.
-fn goes(alloc: Global, fault: &Fault, call: u32) -> bool {
-    let mut links = MemLinks::new(
-        alloc,
-        lists(alloc, &[]),
-        lists(alloc, fault.asked),
-        numbers(alloc, &[call]),
-    );
-    let mut sink = MemSink::new(alloc, numbers(alloc, &[]));
-    goes_over(alloc, fault, &mut sink, &mut links)
-}
+// Those of a read. It reports nothing: a reader's grant goes back clean.
+const READ_FAULTS: &[Case] = &[
+    Case {
+        name: "settling",
+        words: READS,
+        fails: &[0],
+        asked: &[GRANTED_READ, DATA, RETURNED_READ],
+        exit_code: 8,
+        output: "error link\n",
+        ..NOTHING
+    },
+    Case {
+        name: "connecting for a grant",
+        words: READS,
+        fails: &[1],
+        asked: &[GRANTED_READ, DATA, RETURNED_READ],
+        exit_code: 8,
+        output: "error link\n",
+        ..NOTHING
+    },
+    Case {
+        name: "asking for it",
+        words: READS,
+        fails: &[2],
+        asked: &[GRANTED_READ, DATA, RETURNED_READ],
+        sent: &[b""],
+        exit_code: 8,
+        output: "error link\n",
+        ..NOTHING
+    },
+    Case {
+        name: "receiving it",
+        words: READS,
+        fails: &[3],
+        asked: &[GRANTED_READ, DATA, RETURNED_READ],
+        sent: &[GET_READ],
+        exit_code: 8,
+        output: "error link\n",
+        ..NOTHING
+    },
+    Case {
+        name: "connecting to the drive",
+        words: READS,
+        fails: &[4],
+        asked: &[GRANTED_READ, DATA, RETURNED_READ],
+        sent: &[GET_READ, RETURN_READ],
+        exit_code: 10,
+        output: "t c0 0\no c0 read lost 0\nnext 6\n",
+        ..NOTHING
+    },
+    Case {
+        name: "sending the READ",
+        words: READS,
+        fails: &[5],
+        asked: &[GRANTED_READ, DATA, RETURNED_READ],
+        sent: &[GET_READ, b"", RETURN_READ],
+        exit_code: 10,
+        output: "t c0 0\no c0 read lost 0\nnext 6\n",
+        ..NOTHING
+    },
+    Case {
+        name: "receiving its reply",
+        words: READS,
+        fails: &[6],
+        asked: &[GRANTED_READ, DATA, RETURNED_READ],
+        sent: &[GET_READ, READ, RETURN_READ],
+        exit_code: 10,
+        output: "t c0 0\no c0 read lost 0\nnext 6\n",
+        ..NOTHING
+    },
+    Case {
+        name: "connecting for the return",
+        words: READS,
+        fails: &[7],
+        asked: &[GRANTED_READ, DATA, RETURNED_READ],
+        sent: &[GET_READ, READ],
+        exit_code: 8,
+        output: "o c0 read ok 4142\nerror link\n",
+        ..NOTHING
+    },
+    Case {
+        name: "sending it, with the bytes read",
+        words: READS,
+        fails: &[8],
+        asked: &[GRANTED_READ, DATA, RETURNED_READ],
+        sent: &[GET_READ, READ, b""],
+        exit_code: 8,
+        output: "o c0 read ok 4142\nerror link\n",
+        ..NOTHING
+    },
+    Case {
+        name: "receiving its answer, with the bytes read",
+        words: READS,
+        fails: &[9],
+        asked: &[GRANTED_READ, DATA, RETURNED_READ],
+        sent: &[GET_READ, READ, RETURN_READ],
+        exit_code: 8,
+        output: "o c0 read ok 4142\nerror link\n",
+        ..NOTHING
+    },
+    Case {
+        name: "a call behind the last one",
+        words: READS,
+        fails: &[10],
+        asked: &[GRANTED_READ, DATA, RETURNED_READ],
+        sent: &[GET_READ, READ, RETURN_READ],
+        output: "o c0 read ok 4142\nnext 6\n",
+        ..NOTHING
+    },
+];
 
 #[test]
-fn each_call_of_a_write_fails_in_turn(rt: HostRuntime) {
-    for fault in FAULTS {
-        for call in fault.first..fault.end {
-            assert!(rt;
-                goes(rt.alloc(), fault, call),
-                "{}, call {call}",
-                fault.name
-            );
-        }
-    }
+fn each_call_of_a_client_fails_in_turn(rt: HostRuntime) {
+    play(&rt, rt.alloc(), FAULTS);
+    play(&rt, rt.alloc(), LATER_FAULTS);
+    play(&rt, rt.alloc(), READ_FAULTS);
 }

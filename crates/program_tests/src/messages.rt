@@ -1,178 +1,155 @@
-// What comes to the server on a connection, and what goes out on one.
-ghost use Rattle.layout_ops.specs.Spelling.{ArgsWritable, EnvelopeWritable};
+// Messages of a drive and of the metadata server, each as a record of a connection, or several. They were made from the tables of
+// `docs/MESSAGES.md` and `docs/DRIVE.md` by a script, and are no output of the program.
 
-use crate::ends::copied;
-use layout_ops::{
-    Args, Envelope, LayoutGetArgs, Order, OrderKind, Request, StateId, read_envelope,
-    write_envelope,
-};
-use osd_bytes::{MAX_RECORD, MemLinks, Records, frame};
-use osd_lists::{ByteLists, Bytes};
-use std::alloc::Global;
+/// The frame of a drive's reply to a message that is no command: verdict 16, and zeros.
+#[rattlefmt::skip]
+pub const NO_COMMAND: &[u8] =
+    b"\x80\0\0\x28OSDr\0\0\0\x10\0\0\0\0\0\0\0\0\0\0\0\0\0\0\0\0\0\0\0\0\0\0\0\0\0\0\0\0\0\0\0\0";
 
-/// What comes to the server.
-#[derive(Clone, Copy)]
-pub enum Came {
-    /// A LAYOUTGET of file 0: the client and the sequence number.
-    Asks(u32, u32),
-    /// A revoke of a file.
-    Revokes(u32),
-    /// An audit of a file.
-    Audits(u32),
-    /// Bytes that spell nothing.
-    Noise,
-}
+/// Two of them.
+#[rattlefmt::skip]
+pub const TWICE_NO_COMMAND: &[u8] =
+    b"\x80\0\0\x28OSDr\0\0\0\x10\0\0\0\0\0\0\0\0\0\0\0\0\0\0\0\0\0\0\0\0\0\0\0\0\0\0\0\0\0\0\0\0\
+    \x80\0\0\x28OSDr\0\0\0\x10\0\0\0\0\0\0\0\0\0\0\0\0\0\0\0\0\0\0\0\0\0\0\0\0\0\0\0\0\0\0\0\0";
 
-/// Stands for the client in what is told of an order's answer.
-pub const ORDER: u32 = 99;
+/// Clients 0 and 1 ask with their first requests for a layout of file 0, which there isn't.
+#[rattlefmt::skip]
+pub const TWO_ASK: &[u8] =
+    b"\x80\0\0L\0\0\0\x01\0\0\0\0\0\0\0\x01\0\0\0\0\0\0\02\0\0\0\0\0\0\0\x02\0\0\0\x01\0\0\0\0\0\0\0\0\0\0\0\0\0\0\0\x08\0\0\
+    \0\0\0\0\0\x08\0\0\0\0\0\0\0\0\0\0\0\0\0\0\0\0\0\x01\0\0\x80\0\0L\0\0\0\x01\0\0\0\x01\0\0\0\x01\0\0\0\0\0\0\02\0\0\0\0\
+    \0\0\0\x02\0\0\0\x01\0\0\0\0\0\0\0\0\0\0\0\0\0\0\0\x08\0\0\0\0\0\0\0\x08\0\0\0\0\0\0\0\0\0\0\0\0\0\0\0\0\0\x01\0\0";
 
-fn get_args() -> Args
-    ensures { ArgsWritable result }
-{
-    Args::LayoutGet(LayoutGetArgs {
-        signal_layout_avail: false,
-        iomode: 1,
-        offset: 0,
-        length: 8,
-        minlength: 8,
-        stateid: StateId {
-            seqid: 0,
-            other: [0; 12],
-        },
-        maxcount: 65_536,
-    })
-}
+/// There is no such file, both are told.
+#[rattlefmt::skip]
+pub const BOTH_ARE_TOLD: &[u8] =
+    b"\x80\0\0$\0\0\0\x02\0\0\0\0\0\0\0\x01\0\0\0\0\0\0\02\0\0\0\0\0\0\0\0\0\0\0\0\0\0\0\x02\x80\0\0$\0\0\0\x02\0\0\0\x01\0\
+    \0\0\x01\0\0\0\0\0\0\02\0\0\0\0\0\0\0\0\0\0\0\0\0\0\0\x02";
 
-fn spelled(alloc: Global, envelope: &Envelope) -> Bytes
-    requires { EnvelopeWritable envelope.now }
-{
-    match write_envelope(alloc, envelope) {
-        Ok(bytes) => bytes,
-        Err(_) => Bytes::new(alloc),
-    }
-}
+/// An order to revoke file 5, and the second request of client 0.
+#[rattlefmt::skip]
+pub const REVOKES_AND_ASKS: &[u8] =
+    b"\x80\0\0\x0c\0\0\0\x05\0\0\0\x02\0\0\0\x05\x80\0\0L\0\0\0\x01\0\0\0\0\0\0\0\x02\0\0\0\0\0\0\02\0\0\0\0\0\0\0\x02\0\0\0\
+    \x01\0\0\0\0\0\0\0\0\0\0\0\0\0\0\0\x08\0\0\0\0\0\0\0\x08\0\0\0\0\0\0\0\0\0\0\0\0\0\0\0\0\0\x01\0\0";
 
-fn request(alloc: Global, client: u32, sequence: u32) -> Bytes {
-    let request = Request {
-        client,
-        sequence,
-        file: 0,
-        args: get_args(),
-    };
-    spelled(alloc, &Envelope::Request(request))
-}
+/// There is no file 5, and no file 0.
+#[rattlefmt::skip]
+pub const NEITHER_IS: &[u8] =
+    b"\x80\0\0\x0c\0\0\0\x06\0\0\0\x02\0\0\0\x03\x80\0\0$\0\0\0\x02\0\0\0\0\0\0\0\x02\0\0\0\0\0\0\02\0\0\0\0\0\0\0\0\0\0\0\0\
+    \0\0\0\x02";
 
-fn order_bytes(alloc: Global, order: OrderKind, target: u32) -> Bytes {
-    spelled(alloc, &Envelope::Order(Order { order, target }))
-}
+/// Bytes that spell no message, and the first request of client 0.
+#[rattlefmt::skip]
+pub const NOISE_AND_ASKS: &[u8] =
+    b"\x80\0\0\x0ano message\x80\0\0L\0\0\0\x01\0\0\0\0\0\0\0\x01\0\0\0\0\0\0\02\0\0\0\0\0\0\0\x02\0\0\0\x01\0\0\0\0\0\0\0\0\
+    \0\0\0\0\0\0\0\x08\0\0\0\0\0\0\0\x08\0\0\0\0\0\0\0\0\0\0\0\0\0\0\0\0\0\x01\0\0";
 
-fn bytes_of(alloc: Global, came: Came) -> Bytes {
-    match came {
-        Came::Asks(client, sequence) => request(alloc, client, sequence),
-        Came::Revokes(target) => order_bytes(alloc, OrderKind::Revoke, target),
-        Came::Audits(target) => order_bytes(alloc, OrderKind::Audit, target),
-        Came::Noise => copied(alloc, b"no message"),
-    }
-}
+/// There is no such file.
+#[rattlefmt::skip]
+pub const ONE_IS_TOLD: &[u8] = b"\x80\0\0$\0\0\0\x02\0\0\0\0\0\0\0\x01\0\0\0\0\0\0\02\0\0\0\0\0\0\0\0\0\0\0\0\0\0\0\x02";
 
-/// The frame of a message, and nothing where it is longer than a record may be.
-pub fn framed(alloc: Global, message: &[u8]) -> Bytes {
-    if message.len() > MAX_RECORD {
-        return Bytes::new(alloc);
-    }
-    match frame(alloc, message) {
-        Ok(framed) => framed,
-        Err(_) => Bytes::new(alloc),
-    }
-}
+/// The first request of client 0 twice, and one under sequence number 7.
+#[rattlefmt::skip]
+pub const ASKS_AGAIN: &[u8] =
+    b"\x80\0\0L\0\0\0\x01\0\0\0\0\0\0\0\x01\0\0\0\0\0\0\02\0\0\0\0\0\0\0\x02\0\0\0\x01\0\0\0\0\0\0\0\0\0\0\0\0\0\0\0\x08\0\0\
+    \0\0\0\0\0\x08\0\0\0\0\0\0\0\0\0\0\0\0\0\0\0\0\0\x01\0\0\x80\0\0L\0\0\0\x01\0\0\0\0\0\0\0\x01\0\0\0\0\0\0\02\0\0\0\0\0\
+    \0\0\x02\0\0\0\x01\0\0\0\0\0\0\0\0\0\0\0\0\0\0\0\x08\0\0\0\0\0\0\0\x08\0\0\0\0\0\0\0\0\0\0\0\0\0\0\0\0\0\x01\0\0\x80\0\
+    \0L\0\0\0\x01\0\0\0\0\0\0\0\x07\0\0\0\0\0\0\02\0\0\0\0\0\0\0\x02\0\0\0\x01\0\0\0\0\0\0\0\0\0\0\0\0\0\0\0\x08\0\0\0\0\0\
+    \0\0\x08\0\0\0\0\0\0\0\0\0\0\0\0\0\0\0\0\0\x01\0\0";
 
-fn add_frame(alloc: Global, bytes: &mut Bytes, message: &[u8]) {
-    let framed = framed(alloc, message);
-    let _ = bytes.extend_from_slice(framed.as_slice());
-}
+/// There is no such file, twice, and 2 is the number that is next.
+#[rattlefmt::skip]
+pub const TOLD_AGAIN: &[u8] =
+    b"\x80\0\0$\0\0\0\x02\0\0\0\0\0\0\0\x01\0\0\0\0\0\0\02\0\0\0\0\0\0\0\0\0\0\0\0\0\0\0\x02\x80\0\0$\0\0\0\x02\0\0\0\0\0\0\
+    \0\x01\0\0\0\0\0\0\02\0\0\0\0\0\0\0\0\0\0\0\0\0\0\0\x02\x80\0\0$\0\0\0\x02\0\0\0\0\0\0\0\x07\0\0\0\0\0\0\02\0\0\0\x02\
+    \0\0\0\0\0\0\0\0\0\0'O";
 
-fn add(alloc: Global, bytes: &mut Bytes, came: Came) {
-    let message = bytes_of(alloc, came);
-    add_frame(alloc, bytes, message.as_slice());
-}
+/// Three requests of client 0.
+#[rattlefmt::skip]
+pub const ASKS_THRICE: &[u8] =
+    b"\x80\0\0L\0\0\0\x01\0\0\0\0\0\0\0\x01\0\0\0\0\0\0\02\0\0\0\0\0\0\0\x02\0\0\0\x01\0\0\0\0\0\0\0\0\0\0\0\0\0\0\0\x08\0\0\
+    \0\0\0\0\0\x08\0\0\0\0\0\0\0\0\0\0\0\0\0\0\0\0\0\x01\0\0\x80\0\0L\0\0\0\x01\0\0\0\0\0\0\0\x02\0\0\0\0\0\0\02\0\0\0\0\0\
+    \0\0\x02\0\0\0\x01\0\0\0\0\0\0\0\0\0\0\0\0\0\0\0\x08\0\0\0\0\0\0\0\x08\0\0\0\0\0\0\0\0\0\0\0\0\0\0\0\0\0\x01\0\0\x80\0\
+    \0L\0\0\0\x01\0\0\0\0\0\0\0\x03\0\0\0\0\0\0\02\0\0\0\0\0\0\0\x02\0\0\0\x01\0\0\0\0\0\0\0\0\0\0\0\0\0\0\0\x08\0\0\0\0\0\
+    \0\0\x08\0\0\0\0\0\0\0\0\0\0\0\0\0\0\0\0\0\x01\0\0";
 
-/// The frames of all that comes on a connection.
-pub fn stream(alloc: Global, comes: &[Came]) -> Bytes {
-    let mut bytes = Bytes::new(alloc);
-    for came in comes {
-        add(alloc, &mut bytes, *came);
-    }
-    bytes
-}
+/// Its fourth.
+#[rattlefmt::skip]
+pub const ASKS_ON: &[u8] =
+    b"\x80\0\0L\0\0\0\x01\0\0\0\0\0\0\0\x04\0\0\0\0\0\0\02\0\0\0\0\0\0\0\x02\0\0\0\x01\0\0\0\0\0\0\0\0\0\0\0\0\0\0\0\x08\0\0\
+    \0\0\0\0\0\x08\0\0\0\0\0\0\0\0\0\0\0\0\0\0\0\0\0\x01\0\0";
 
-/// What comes on each connection.
-pub fn streams(alloc: Global, connections: &[&[Came]]) -> ByteLists {
-    let mut streams = ByteLists::new(alloc);
-    for comes in connections {
-        let _ = streams.push(stream(alloc, comes));
-    }
-    streams
-}
+/// There is no such file.
+#[rattlefmt::skip]
+pub const TOLD_ON: &[u8] = b"\x80\0\0$\0\0\0\x02\0\0\0\0\0\0\0\x04\0\0\0\0\0\0\02\0\0\0\0\0\0\0\0\0\0\0\0\0\0\0\x02";
 
-/// What went out: a client, the sequence number and the detail; or [`ORDER`], 0 and the order's result.
-pub type Told = (u32, u32, u32);
+/// The server asks the drive for the object of file 0.
+#[rattlefmt::skip]
+pub const CREATE: &[u8] =
+    b"\x80\0\x01$OSD2\0\x01\0\0\0\0\0\0\0\x01\0\0\0\0\0\0\0\x01\0\0\0\0\0\0\0\0\0\0\0\0\0\0\0\0\0\0\0\0\0\0\0\0\0\x01\0\0\0\
+    \0\0\0\0\0\0\0\0$\0\0\0\0\x01\0\0\x01\0\0\0?\xff\xff\xff\xff\xff\xff\xff\xff\0\0\0\0\xff\xff\xff\xff\0\0\0\x01\0\0\0\0\
+    \0\0\0\0\0\x01\0\0\0\0\0\0\0\x01\0\0\0\0\0\0\0\0\0\0\xff\xff\xff\xff\xff\xff\xff\xff\0\0\0\0\0\0\0\0\0\0\0\0\0\0\0\0\0\
+    \0\0\0\0\0\0\0\0\0\0\0\0\0\0\0\0\0\0\0\0\0\0\0\0\0\0\0\0\0\0\0\0\0\0\0\0\0\0\0\0\0\0\0\0\0\0\0\0\0\0\0\0\0\0\0\0\0\0\0\
+    \0\0\0\0\0\0\0\0\0\0\0\0\0\0\0\0\0\0\0\0\0\0\0\0\0\0\0\0\0\0\0\0\xef\x8fR\xffK8(>\xc8v#\xb4\xf1h\xb7\xb9,\x86N\0\0\0\0\
+    \0\0\0\0\0\0\0\0\x01\0\0\0\0\0\0\0\x04\0\0\0\0\0\0\0\0\0\0\0\0\0\0\0\x01";
 
-// What a record that went out tells.
-fn told_in(alloc: Global, record: &[u8]) -> Option<Told> {
-    match read_envelope(alloc, record) {
-        Ok(Envelope::Answer(answer)) => Some((answer.client, answer.sequence, answer.detail)),
-        Ok(Envelope::OrderAnswer(answer)) => Some((ORDER, 0, answer.result as u32)),
-        _ => None,
-    }
-}
+/// It is made.
+#[rattlefmt::skip]
+pub const CREATED: &[u8] = b"\x80\0\0(OSDr\0\x01\0\0\0\0\0\0\0\x01\0\0\0\0\0\0\0\0\0\x01\0\0\0\0\0\0\0\0\0\0\0\0\0\0\0\0";
 
-// What stands behind the frame of a record.
-fn behind<'a>(alloc: Global, record: &[u8], put: &'a [u8]) -> Option<&'a [u8]> {
-    let bytes = framed(alloc, record);
-    put.strip_prefix(bytes.as_slice())
-}
+/// There is such an object.
+#[rattlefmt::skip]
+pub const EXISTS: &[u8] = b"\x80\0\0(OSDr\0\x01\0\x08\0\0\0\0\0\x01\0\0\0\0\0\0\0\0\0\x01\0\0\0\0\0\0\0\0\0\0\0\0\0\0\0\0";
 
-// What stands behind the frame of an answer that tells this, `None` where there is another.
-fn behind_told<'a>(alloc: Global, record: &[u8], put: &'a [u8], told: Told) -> Option<&'a [u8]> {
-    if told_in(alloc, record) == Some(told) {
-        behind(alloc, record, put)
-    } else {
-        None
-    }
-}
+/// The objects of file 9 and of file 3, in format 2.
+#[rattlefmt::skip]
+pub const CREATE_NINE: &[u8] =
+    b"\x80\0\x01$OSD2\0\x01\0\0\0\0\0\0\0\x01\0\0\0\0\0\0\0\x01\0\0\0\0\0\0\0\0\0\0\0\0\0\0\0\0\0\0\0\0\0\0\0\0\0\x01\0\0\0\
+    \0\0\0\0\0\0\0\0$\0\0\0\0\x02\0\0\x01\0\0\0?\xff\xff\xff\xff\xff\xff\xff\xff\0\0\0\0\xff\xff\xff\xff\0\0\0\x01\0\0\0\0\
+    \0\0\0\0\0\x01\0\0\0\0\0\0\0\x01\0\0\0\0\0\0\0\0\0\0\xff\xff\xff\xff\xff\xff\xff\xff\0\0\0\0\0\0\0\0\0\0\0\0\0\0\0\0\0\
+    \0\0\0\0\0\0\0\0\0\0\0\0\0\0\0\0\0\0\0\0\0\0\0\0\0\0\0\0\0\0\0\0\0\0\0\0\0\0\0\0\0\0\0\0\0\0\0\0\0\0\0\0\0\0\0\0\0\0\0\
+    \0\0\0\0\0\0\0\0\0\0\0\0\0\0\0\0\0\0\0\0\x9cR\xeeTX\xef\xf8\xbd\x0f\x08o\xf6\xaf\xee@S\xbf\xd9/\xb8\xfc\xbd\xe2\x81\
+    \xc9\x18\xd7\x0c\x07\xa6\xc5L\0\0\0\x09\0\0\0\0\0\0\0\x01\0\0\0\0\0\0\0\x04\0\0\0\0\0\0\0\0\0\0\0\0\0\0\0\x01";
 
-fn are_told(alloc: Global, records: &ByteLists, put: &[u8], told: &[Told]) -> bool {
-    if records.len() != told.len() {
-        return false;
-    }
-    let mut rest = put;
-    for i in 0..records.len() {
-        match behind_told(alloc, records.get(i).as_slice(), rest, told[i]) {
-            Some(more) => rest = more,
-            None => return false,
-        }
-    }
-    rest.is_empty()
-}
+/// Behind it.
+#[rattlefmt::skip]
+pub const CREATE_THREE: &[u8] =
+    b"\x80\0\x01$OSD2\0\x01\0\0\0\0\0\0\0\x01\0\0\0\0\0\0\0\x01\0\x01\0\0\0\0\0\0\0\0\0\0\0\0\0\0\0\0\0\0\0\0\0\0\0\x02\0\0\
+    \0\0\0\0\0\0\0\0\0$\0\0\0\0\x02\0\0\x01\0\0\0?\xff\xff\xff\xff\xff\xff\xff\xff\0\0\0\0\xff\xff\xff\xff\0\0\0\x01\0\0\0\
+    \0\0\0\0\0\0\x01\0\0\0\0\0\0\0\x01\0\x01\0\0\0\0\0\0\0\0\xff\xff\xff\xff\xff\xff\xff\xff\0\0\0\0\0\0\0\0\0\0\0\0\0\0\0\
+    \0\0\0\0\0\0\0\0\0\0\0\0\0\0\0\0\0\0\0\0\0\0\0\0\0\0\0\0\0\0\0\0\0\0\0\0\0\0\0\0\0\0\0\0\0\0\0\0\0\0\0\0\0\0\0\0\0\0\0\
+    \0\0\0\0\0\0\0\0\0\0\0\0\0\0\0\0\0\0\0\0\0\0\xe43L\xa0dh^Db\xe9m\xf5\x97\x94\x0f\xbe'/\x92v\xc8\xf7\xb0O\x81\x9e\xc2\
+    \xc5\xd9\x89\x05\xad\0\0\0\x03\0\0\0\0\0\0\0\x01\0\0\0\0\0\0\0\x04\0\0\0\0\0\0\0\0\0\0\0\0\0\0\0\x01";
 
-// Whether these bytes are the frames of answers that tell this, and nothing else.
-fn tells(alloc: Global, put: &[u8], told: &[Told]) -> bool {
-    let mut stream = Records::new(alloc);
-    match stream.feed(put) {
-        Ok(records) => are_told(alloc, &records, put, told),
-        Err(_) => false,
-    }
-}
+/// The second one is made.
+#[rattlefmt::skip]
+pub const CREATED_TOO: &[u8] =
+    b"\x80\0\0(OSDr\0\x01\0\0\0\0\0\0\0\x01\0\x01\0\0\0\0\0\0\0\x02\0\0\0\0\0\0\0\0\0\0\0\0\0\0\0\0";
 
-/// Whether on each connection that was accepted the frames of answers that tell this went out, and nothing else.
-pub fn went_out(alloc: Global, links: &MemLinks, told: &[&[Told]]) -> bool {
-    if links.accepts() != told.len() {
-        return false;
-    }
-    for i in 0..told.len() {
-        if !tells(alloc, links.put_on(i), told[i]) {
-            return false;
-        }
-    }
-    true
-}
+/// An audit begins with a fence.
+#[rattlefmt::skip]
+pub const SET_TAG: &[u8] =
+    b"\x80\0\x01\0OSD2\0\x06\0\0\0\0\0\0\0\x01\0\0\0\0\0\0\0\x01\0\0\0\0\0\0\0\0\0\0\0\0\0\0\0\0\0\0\0\0\0\0\0\0\0\x02\0\0\0\
+    \0\0\0\0\0\0\0\0\0\0\0\0\0\x01\0\0\x01\0\0\0?\xff\xff\xff\xff\xff\xff\xff\xff\0\0\0\0\xff\xff\xff\xff\0\0\0\x01\0\0\0\
+    \0\0\0\0\0\0\x01\0\0\0\0\0\0\0\x01\0\0\0\0\0\0\0\0\0\0\xff\xff\xff\xff\xff\xff\xff\xff\0\0\0\0\0\0\0\0\0\0\0\0\0\0\0\0\
+    \0\0\0\0\0\0\0\0\0\0\0\0\0\0\0\0\0\0\0\0\0\0\0\0\0\0\0\0\0\0\0\0\0\0\0\0\0\0\0\0\0\0\0\0\0\0\0\0\0\0\0\0\0\0\0\0\0\0\0\
+    \0\0\0\0\0\0\0\0\0\0\0\0\0\0\0\0\0\0\0\0\0\0\0\0\0\0\0\0\0\0\0\0\0\xb5\x9e/\x11\xf9\xbbN\x9e1\x0a*K\xb9\x80\x1a/c\xd8y\
+    \x12";
+
+/// The tag is 2 now.
+#[rattlefmt::skip]
+pub const TAG_SET: &[u8] =
+    b"\x80\0\0(OSDr\0\x06\0\0\0\0\0\0\0\x01\0\0\0\0\0\0\0\0\0\x02\0\0\0\0\0\0\0\x02\0\0\0\0\0\0\0\0";
+
+/// It asks how long the object is.
+#[rattlefmt::skip]
+pub const ASK_LENGTH: &[u8] =
+    b"\x80\0\x01\0OSD2\0\x04\0\0\0\0\0\0\0\x01\0\0\0\0\0\0\0\x01\0\0\0\0\0\0\0\0\0\0\0\0\0\0\0\0\0\0\0\0\0\0\0\0\0\x03\0\0\0\
+    \x01\0\0\0\0\0\0\0\0\0\0\0\0\x01\0\0\x01\0\0\0?\xff\xff\xff\xff\xff\xff\xff\xff\0\0\0\0\xff\xff\xff\xff\0\0\0\x02\0\0\
+    \0\0\0\0\0\0\0\x01\0\0\0\0\0\0\0\x01\0\0\0\0\0\0\0\0\0\0\xff\xff\xff\xff\xff\xff\xff\xff\0\0\0\0\0\0\0\0\0\0\0\0\0\0\0\
+    \0\0\0\0\0\0\0\0\0\0\0\0\0\0\0\0\0\0\0\0\0\0\0\0\0\0\0\0\0\0\0\0\0\0\0\0\0\0\0\0\0\0\0\0\0\0\0\0\0\0\0\0\0\0\0\0\0\0\0\
+    \0\0\0\0\0\0\0\0\0\0\0\0\0\0\0\0\0\0\0\0\0\0\0\0\0\0\0\0\0\0\0\0\0\0}T\xab\xba\x82a:.\xdd\xb5\xb4z\xeeZ\xc6\xd1WH,p";
+
+/// It has no bytes.
+#[rattlefmt::skip]
+pub const LENGTH: &[u8] =
+    b"\x80\0\00OSDr\0\x04\0\0\0\0\0\0\0\x01\0\0\0\0\0\0\0\0\0\x03\0\0\0\0\0\0\0\x01\0\0\0\x08\0\0\0\0\0\0\0\0\0\0\0\0";

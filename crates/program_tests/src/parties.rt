@@ -1,218 +1,393 @@
-// A drive and a metadata server as the peers of links.
-use crate::commands::{ONE_FILE, OnlyDrive};
-use crate::ends::copied;
-use crate::live::{LiveLinks, Peer};
-use cluster_text::{Cluster, ClusterFile, Reader, read_cluster};
-use layout_server::ServerCore;
-use osd_bytes::{Clock, Links, MemClock};
-use osd_drive::{DriveCore, DriveKey, KeyTable};
-use osd_lists::{Bytes, Node, Times};
-use server_command::{make_files, serve, server_of};
-use std::alloc::Global;
+// The commands of a drive and of the metadata server over links of which calls fail.
+use crate::messages::{
+    ASK_LENGTH, ASKS_AGAIN, ASKS_ON, ASKS_THRICE, BOTH_ARE_TOLD, CREATE, CREATE_NINE, CREATE_THREE,
+    CREATED, CREATED_TOO, EXISTS, LENGTH, NEITHER_IS, NO_COMMAND, NOISE_AND_ASKS, ONE_IS_TOLD,
+    REVOKES_AND_ASKS, SET_TAG, TAG_SET, TOLD_AGAIN, TOLD_ON, TWICE_NO_COMMAND, TWO_ASK,
+};
+use crate::runs::{CLUSTER, Case, FILELESS, KEYLESS, NOTHING, TWO_FILES, play};
+use crate::scripts::{AUDIT_STARTED, ORDER_AUDIT};
 
-const KEY: [u8; 20] = [11; 20];
+// What a drive tells of it, at most once a second.
+const REFUSED: &str = "drive 0 refused: format (detail 0, object 0, nonce 0)";
 
-const CAPACITY: u64 = 20_000_000;
+// Messages of which none is a command come to a drive.
+const DRIVES: &[Case] = &[
+    Case {
+        name: "each record of each connection is answered, at its own time",
+        words: &["drive", "--number", "0", "--connections", "2"],
+        input: FILELESS,
+        accepted: &[
+            b"\x80\0\0\x01a\x80\0\0\0",
+            b"\x80\0\0\x0ano command\x80\0\0\x02no",
+        ],
+        put: &[TWICE_NO_COMMAND, TWICE_NO_COMMAND],
+        notes: &[REFUSED, REFUSED, REFUSED, REFUSED],
+        next_time: 9,
+        output: "listening\nserved 2\n",
+        ..NOTHING
+    },
+    Case {
+        name: "a record that doesn't come whole is none",
+        words: &["drive", "--number", "0", "--connections", "1"],
+        input: FILELESS,
+        accepted: &[b"\x80\0\0\x01a\x80\0\0\x09part"],
+        put: &[NO_COMMAND],
+        notes: &[REFUSED],
+        next_time: 6,
+        output: "listening\nserved 1\n",
+        ..NOTHING
+    },
+    Case {
+        // Call 0 settles the links, 1 and 2 accept and take, 3 puts the first answer, 4 would put the second.
+        name: "behind an answer that failed a drive handles records without one",
+        words: &["drive", "--number", "0", "--connections", "1"],
+        input: FILELESS,
+        accepted: &[b"\x80\0\0\x01a\x80\0\0\0\x80\0\0\x0ano command"],
+        fails: &[4],
+        put: &[NO_COMMAND],
+        notes: &[REFUSED, REFUSED, REFUSED],
+        next_time: 8,
+        output: "listening\nserved 1\n",
+        ..NOTHING
+    },
+    Case {
+        name: "records before one that is too long are answered, and none behind it",
+        words: &["drive", "--number", "0", "--connections", "1"],
+        input: FILELESS,
+        accepted: &[b"\x80\0\0\x01a\0\0\0\x01b\x80\0\0\x01c\x80\x04\x93\xe1\x80\0\0\x01a"],
+        put: &[TWICE_NO_COMMAND],
+        notes: &[REFUSED, REFUSED],
+        next_time: 7,
+        output: "listening\nserved 1\n",
+        ..NOTHING
+    },
+    Case {
+        // Call 0 settles the links. Of two connections with two records each 1 and 6 accept, 2 and 7 take, 3, 4, 8 and 9 put.
+        name: "a connection of which nothing can be taken",
+        words: &["drive", "--number", "0", "--connections", "2"],
+        input: FILELESS,
+        accepted: &[b"\x80\0\0\x01a\x80\0\0\0", b"\x80\0\0\x01a\x80\0\0\0"],
+        fails: &[2],
+        put: &[b"", TWICE_NO_COMMAND],
+        notes: &[REFUSED, REFUSED],
+        next_time: 7,
+        output: "listening\nserved 2\n",
+        ..NOTHING
+    },
+    Case {
+        name: "one on which no answer goes out",
+        words: &["drive", "--number", "0", "--connections", "2"],
+        input: FILELESS,
+        accepted: &[b"\x80\0\0\x01a\x80\0\0\0", b"\x80\0\0\x01a\x80\0\0\0"],
+        fails: &[3],
+        put: &[b"", TWICE_NO_COMMAND],
+        notes: &[REFUSED, REFUSED, REFUSED, REFUSED],
+        next_time: 9,
+        output: "listening\nserved 2\n",
+        ..NOTHING
+    },
+    Case {
+        name: "one whose end can't be taken, behind its records",
+        words: &["drive", "--number", "0", "--connections", "2"],
+        input: FILELESS,
+        accepted: &[b"\x80\0\0\x01a\x80\0\0\0", b"\x80\0\0\x01a\x80\0\0\0"],
+        fails: &[5],
+        put: &[TWICE_NO_COMMAND, TWICE_NO_COMMAND],
+        notes: &[REFUSED, REFUSED, REFUSED, REFUSED],
+        next_time: 9,
+        output: "listening\nserved 2\n",
+        ..NOTHING
+    },
+    Case {
+        name: "no second connection can be accepted",
+        words: &["drive", "--number", "0", "--connections", "2"],
+        input: FILELESS,
+        accepted: &[b"\x80\0\0\x01a\x80\0\0\0", b"\x80\0\0\x01a\x80\0\0\0"],
+        fails: &[6],
+        put: &[TWICE_NO_COMMAND],
+        notes: &[REFUSED, REFUSED],
+        next_time: 7,
+        exit_code: 8,
+        output: "listening\nerror link\n",
+        ..NOTHING
+    },
+    Case {
+        // Calls 1 and 2 serve the first connection, which is empty; 3 would accept the next.
+        name: "a drive that can accept no further connection",
+        words: &["drive", "--number", "0", "--connections", "2"],
+        input: FILELESS,
+        accepted: &[b""],
+        fails: &[3],
+        put: &[b""],
+        exit_code: 8,
+        output: "listening\nerror link\n",
+        ..NOTHING
+    },
+    Case {
+        name: "a drive that can accept none",
+        words: &["drive", "--number", "0", "--connections", "1"],
+        input: FILELESS,
+        fails: &[1],
+        exit_code: 8,
+        output: "listening\nerror link\n",
+        ..NOTHING
+    },
+    Case {
+        name: "a drive whose links can't be settled",
+        words: &["drive", "--number", "0", "--connections", "1"],
+        input: FILELESS,
+        fails: &[0],
+        exit_code: 8,
+        output: "error link\n",
+        ..NOTHING
+    },
+];
 
-/// How many calls of links were made, and the number of the one that fails, from 0.
-#[derive(Clone, Copy, Drop)]
-pub struct Calls {
-    pub alloc: Global,
-    pub made: u32,
-    pub failing: u32,
+// Requests come to a server without files.
+const SERVERS: &[Case] = &[
+    Case {
+        name: "each record of each connection is answered in order, at its own time",
+        words: &["server", "--connections", "2"],
+        input: FILELESS,
+        accepted: &[TWO_ASK, REVOKES_AND_ASKS],
+        put: &[BOTH_ARE_TOLD, NEITHER_IS],
+        next_time: 9,
+        output: "listening\nserved 2\n",
+        ..NOTHING
+    },
+    Case {
+        name: "a record that spells nothing takes a time and no answer",
+        words: &["server", "--connections", "1"],
+        input: FILELESS,
+        accepted: &[NOISE_AND_ASKS],
+        put: &[ONE_IS_TOLD],
+        next_time: 7,
+        output: "listening\nserved 1\n",
+        ..NOTHING
+    },
+    Case {
+        name: "a request that comes again is answered again, and one out of order is told the next number",
+        words: &["server", "--connections", "1"],
+        input: FILELESS,
+        accepted: &[ASKS_AGAIN],
+        put: &[TOLD_AGAIN],
+        next_time: 8,
+        output: "listening\nserved 1\n",
+        ..NOTHING
+    },
+    Case {
+        // Call 0 settles the links, 1 and 2 accept and take, 3 puts the first answer, 4 would put the second.
+        name: "behind an answer that failed a server handles records without one",
+        words: &["server", "--connections", "2"],
+        input: FILELESS,
+        accepted: &[ASKS_THRICE, ASKS_ON],
+        fails: &[4],
+        put: &[ONE_IS_TOLD, TOLD_ON],
+        next_time: 9,
+        output: "listening\nserved 2\n",
+        ..NOTHING
+    },
+    Case {
+        // Call 0 settles the links. Of two connections with two records each 1 and 6 accept, 2 and 7 take, 3, 4, 8 and 9 put.
+        name: "a connection of which nothing can be taken",
+        words: &["server", "--connections", "2"],
+        input: FILELESS,
+        accepted: &[TWO_ASK, TWO_ASK],
+        fails: &[2],
+        put: &[b"", BOTH_ARE_TOLD],
+        next_time: 7,
+        output: "listening\nserved 2\n",
+        ..NOTHING
+    },
+    Case {
+        name: "one on which no answer goes out: the kept ones do on the next",
+        words: &["server", "--connections", "2"],
+        input: FILELESS,
+        accepted: &[TWO_ASK, TWO_ASK],
+        fails: &[3],
+        put: &[b"", BOTH_ARE_TOLD],
+        next_time: 9,
+        output: "listening\nserved 2\n",
+        ..NOTHING
+    },
+    Case {
+        name: "one whose end can't be taken, behind its records",
+        words: &["server", "--connections", "2"],
+        input: FILELESS,
+        accepted: &[TWO_ASK, TWO_ASK],
+        fails: &[5],
+        put: &[BOTH_ARE_TOLD, BOTH_ARE_TOLD],
+        next_time: 9,
+        output: "listening\nserved 2\n",
+        ..NOTHING
+    },
+    Case {
+        name: "no second connection can be accepted",
+        words: &["server", "--connections", "2"],
+        input: FILELESS,
+        accepted: &[TWO_ASK, TWO_ASK],
+        fails: &[6],
+        put: &[BOTH_ARE_TOLD],
+        next_time: 7,
+        exit_code: 8,
+        output: "listening\nerror link\n",
+        ..NOTHING
+    },
+    Case {
+        // Calls 1 and 2 serve the first connection, which is empty; 3 would accept the next.
+        name: "a server that can accept no further connection",
+        words: &["server", "--connections", "2"],
+        input: FILELESS,
+        accepted: &[b""],
+        fails: &[3],
+        put: &[b""],
+        exit_code: 8,
+        output: "listening\nerror link\n",
+        ..NOTHING
+    },
+    Case {
+        name: "a server that can accept none",
+        words: &["server", "--connections", "1"],
+        input: FILELESS,
+        fails: &[1],
+        exit_code: 8,
+        output: "listening\nerror link\n",
+        ..NOTHING
+    },
+    Case {
+        name: "a server whose links can't be settled",
+        words: &["server", "--connections", "0"],
+        input: CLUSTER,
+        fails: &[0],
+        exit_code: 8,
+        output: "error link\n",
+        ..NOTHING
+    },
+    Case {
+        name: "a server that can't ask a drive while it makes its files",
+        words: &["server", "--connections", "0"],
+        input: CLUSTER,
+        asked: &[CREATED],
+        fails: &[2],
+        sent: &[b""],
+        notes: &["d0 gave no answer while the files were made"],
+        exit_code: 8,
+        output: "error link\n",
+        ..NOTHING
+    },
+    Case {
+        name: "a server that gets no reply while it makes its files",
+        words: &["server", "--connections", "0"],
+        input: CLUSTER,
+        asked: &[CREATED],
+        fails: &[3],
+        sent: &[CREATE],
+        notes: &["d0 gave no answer while the files were made"],
+        exit_code: 8,
+        output: "error link\n",
+        ..NOTHING
+    },
+    Case {
+        // Call 1 would connect to the drive.
+        name: "a server that doesn't reach a drive while it makes its files",
+        words: &["server", "--connections", "0"],
+        input: CLUSTER,
+        asked: &[b""],
+        fails: &[1],
+        notes: &["d0 gave no answer while the files were made"],
+        exit_code: 8,
+        output: "error link\n",
+        ..NOTHING
+    },
+];
+
+// A server makes its files, by commands of whose replies some come.
+const MAKERS: &[Case] = &[
+    Case {
+        name: "each file has a command of its own, in the format of the cluster",
+        words: &["server", "--connections", "0"],
+        input: TWO_FILES,
+        asked: &[CREATED, CREATED_TOO],
+        sent: &[CREATE_NINE, CREATE_THREE],
+        notes: &["f f9 ready", "f f3 ready"],
+        next_time: 7,
+        output: "listening\nserved 0\n",
+        ..NOTHING
+    },
+    Case {
+        name: "the drive gives no record for the second file",
+        words: &["server", "--connections", "0"],
+        input: TWO_FILES,
+        asked: &[CREATED, b""],
+        sent: &[CREATE_NINE, CREATE_THREE],
+        notes: &["f f9 ready", "d0 gave no answer while the files were made"],
+        next_time: 6,
+        exit_code: 8,
+        output: "error link\n",
+        ..NOTHING
+    },
+    Case {
+        name: "the drive holds the object of an earlier run",
+        words: &["server", "--connections", "0"],
+        input: CLUSTER,
+        asked: &[EXISTS],
+        sent: &[CREATE],
+        notes: &[
+            "d0 holds object 65536 already: end the drives of an earlier run before the server is started again",
+        ],
+        exit_code: 8,
+        output: "error link\n",
+        ..NOTHING
+    },
+    Case {
+        name: "what an audit finds is told, and what the server notes before it",
+        words: &["server", "--connections", "1"],
+        input: CLUSTER,
+        accepted: &[ORDER_AUDIT],
+        asked: &[CREATED, TAG_SET, LENGTH],
+        put: &[AUDIT_STARTED],
+        sent: &[CREATE, SET_TAG, ASK_LENGTH],
+        notes: &[
+            "f f0 ready",
+            "f f0 fenced 2",
+            "f f0 repaired 0 0",
+            "f f0 audit 0 0 0 0",
+        ],
+        next_time: 9,
+        output: "listening\nserved 1\n",
+        ..NOTHING
+    },
+    Case {
+        // Call 0 settles, 1 to 3 are the exchange with the drive, and 4 would accept a connection.
+        name: "no connection can be accepted",
+        words: &["server", "--connections", "1"],
+        input: CLUSTER,
+        asked: &[CREATED],
+        fails: &[4],
+        sent: &[CREATE],
+        notes: &["f f0 ready"],
+        next_time: 6,
+        exit_code: 8,
+        output: "listening\nerror link\n",
+        ..NOTHING
+    },
+    Case {
+        name: "a server needs the key of each drive",
+        words: &["server", "--connections", "0"],
+        input: KEYLESS,
+        exit_code: 9,
+        output: "error cluster missing\n",
+        ..NOTHING
+    },
+];
+
+#[test]
+fn a_drive_serves_connections(rt: HostRuntime) {
+    play(&rt, rt.alloc(), DRIVES);
 }
 
-// A drive asks nobody.
-impl Peer for Calls {
-    fn fails(&mut self) -> bool {
-        let fails = self.made == self.failing;
-        self.made = self.made.saturating_add(1);
-        fails
-    }
-
-    fn answer(&mut self, _to: Node, _bytes: &[u8]) -> Bytes {
-        Bytes::new(self.alloc)
-    }
-}
-
-/// Drive 0.
-#[derive(Drop)]
-pub struct DriveEnd {
-    pub calls: Calls,
-    drive: DriveCore,
-}
-
-/// The metadata server, and the drive behind it.
-#[derive(Drop)]
-pub struct ServerEnd {
-    alloc: Global,
-    server: ServerCore,
-    drive: Option<DriveEnd>,
-}
-
-// What a drive does with a connection.
-fn drive_serves<L: Links, C: Clock>(
-    alloc: Global,
-    drive: &mut DriveCore,
-    links: &mut L,
-    clock: &mut C,
-) {
-    let _ = drive_command::serve(alloc, drive, links, clock, 1);
-}
-
-// What a server does with one.
-fn server_serves<L: Links, C: Clock>(
-    alloc: Global,
-    server: &mut ServerCore,
-    links: &mut L,
-    clock: &mut C,
-    placer: &OnlyDrive,
-) {
-    let _ = serve(alloc, server, links, clock, placer, 1);
-}
-
-// Whether a server makes its files.
-fn server_makes<L: Links, C: Clock>(
-    alloc: Global,
-    server: &mut ServerCore,
-    links: &mut L,
-    clock: &mut C,
-    placer: &OnlyDrive,
-    files: &[ClusterFile],
-) -> bool {
-    make_files(alloc, server, links, clock, placer, files).is_ok()
-}
-
-impl Peer for DriveEnd {
-    fn fails(&mut self) -> bool {
-        self.calls.fails()
-    }
-
-    fn answer(&mut self, to: Node, bytes: &[u8]) -> Bytes {
-        let alloc = self.calls.alloc;
-        if to != Node::Drive(0) {
-            return Bytes::new(alloc);
-        }
-        let mut links = LiveLinks::new(alloc, self.calls, copied(alloc, bytes));
-        let mut clock = MemClock::new(Times::new(alloc));
-        drive_serves(alloc, &mut self.drive, &mut links, &mut clock);
-        let (calls, put) = links.into_parts();
-        self.calls = calls;
-        put
-    }
-}
-
-impl ServerEnd {
-    // What the server puts on a connection, and the drive afterwards.
-    fn serve(&mut self, drive: DriveEnd, bytes: &[u8]) -> (DriveEnd, Bytes) {
-        let alloc = self.alloc;
-        let mut links = LiveLinks::new(alloc, drive, copied(alloc, bytes));
-        let mut clock = MemClock::new(Times::new(alloc));
-        let placer = OnlyDrive { alloc };
-        server_serves(alloc, &mut self.server, &mut links, &mut clock, &placer);
-        links.into_parts()
-    }
-
-    /// How many calls of links were made.
-    pub fn calls(&self) -> u32 {
-        match &self.drive {
-            Some(drive) => drive.calls.made,
-            None => 0,
-        }
-    }
-}
-
-impl Peer for ServerEnd {
-    fn fails(&mut self) -> bool {
-        match &mut self.drive {
-            Some(drive) => drive.fails(),
-            None => true,
-        }
-    }
-
-    fn answer(&mut self, to: Node, bytes: &[u8]) -> Bytes {
-        let Some(mut drive) = self.drive.take() else {
-            return Bytes::new(self.alloc);
-        };
-        let (drive, put) = match to {
-            Node::Server => self.serve(drive, bytes),
-            _ => {
-                let put = drive.answer(to, bytes);
-                (drive, put)
-            }
-        };
-        self.drive = Some(drive);
-        put
-    }
-}
-
-fn keys(alloc: Global) -> KeyTable {
-    let mut keys = KeyTable::new(alloc);
-    let _ = keys.push(DriveKey {
-        version: 1,
-        key: KEY,
-    });
-    keys
-}
-
-fn new_drive(alloc: Global) -> DriveEnd {
-    let calls = Calls {
-        alloc,
-        made: 0,
-        failing: u32::MAX,
-    };
-    DriveEnd {
-        calls,
-        drive: DriveCore::new(alloc, 0, keys(alloc), CAPACITY),
-    }
-}
-
-// The drive after the server made its files on it, `None` where it didn't.
-fn with_files(
-    alloc: Global,
-    server: &mut ServerCore,
-    drive: DriveEnd,
-    files: &[ClusterFile],
-) -> Option<DriveEnd> {
-    let mut links = LiveLinks::new(alloc, drive, Bytes::new(alloc));
-    let mut clock = MemClock::new(Times::new(alloc));
-    let placer = OnlyDrive { alloc };
-    let makes = server_makes(alloc, server, &mut links, &mut clock, &placer, files);
-    let (drive, _) = links.into_parts();
-    if makes { Some(drive) } else { None }
-}
-
-fn with_server(
-    alloc: Global,
-    mut server: ServerCore,
-    files: &[ClusterFile],
-    failing: u32,
-) -> Option<ServerEnd> {
-    match with_files(alloc, &mut server, new_drive(alloc), files) {
-        Some(mut drive) => {
-            drive.calls.made = 0;
-            drive.calls.failing = failing;
-            Some(ServerEnd {
-                alloc,
-                server,
-                drive: Some(drive),
-            })
-        }
-        None => None,
-    }
-}
-
-fn with_cluster(alloc: Global, cluster: &Cluster, failing: u32) -> Option<ServerEnd> {
-    match server_of(alloc, cluster) {
-        Ok(server) => with_server(alloc, server, cluster.files.as_slice(), failing),
-        Err(_) => None,
-    }
-}
-
-/// A server that has made file 0 on drive 0. Of the calls of links from now on the one of that number, from 0, fails.
-pub fn server_with_a_file(alloc: Global, failing: u32) -> Option<ServerEnd> {
-    match read_cluster(alloc, Reader::Server, ONE_FILE.as_bytes()) {
-        Ok(cluster) => with_cluster(alloc, &cluster, failing),
-        Err(_) => None,
-    }
+#[test]
+fn a_server_serves_connections(rt: HostRuntime) {
+    play(&rt, rt.alloc(), SERVERS);
+    play(&rt, rt.alloc(), MAKERS);
 }

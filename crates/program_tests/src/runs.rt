@@ -1,4 +1,4 @@
-// Runs of the program over connections in memory.
+// Runs of the program over streams and connections in memory.
 ghost use Rattle.std.specs.Result.{ForOk};
 ghost use Rattle.stripe_repair.specs.Placing.{CanPlace, IsPlacer, Places};
 ghost use Rattle.zone_place.specs.Choosing.{CanSpread, IsZonePlacer, Spreads};
@@ -6,7 +6,7 @@ ghost use Rattle.zone_place.specs.Choosing.{CanSpread, IsZonePlacer, Spreads};
 use crate::ends::{copied, lists, numbers};
 use osd_bytes::{Clock, Links, MemClock, MemLinks, MemSink, MemSource, Sink, Source};
 use osd_disk::MemDisk;
-use osd_lists::{Memory, Numbers, Times};
+use osd_lists::{Bytes, Memory, Numbers, Times};
 use osd_replay::fewest_first;
 use pnfs_run::{Status, run};
 use std::alloc::Global;
@@ -20,14 +20,24 @@ pub struct Case {
     pub words: &'static [&'static str],
     /// What the source gives.
     pub input: &'static str,
+    /// Which calls of the source fail, from 0.
+    pub reads: &'static [u32],
+    /// Which calls of the sink fail.
+    pub writes: &'static [u32],
+    /// Which calls of the links fail.
+    pub fails: &'static [u32],
     /// What comes on each connection that is accepted.
     pub accepted: &'static [&'static [u8]],
     /// What comes on each connection that asks.
     pub asked: &'static [&'static [u8]],
-    /// Which calls of the links fail, from 0.
-    pub fails: &'static [u32],
+    /// What goes out on the connections that are accepted.
+    pub put: &'static [&'static [u8]],
     /// What goes out on the connections that ask.
     pub sent: &'static [&'static [u8]],
+    /// What is told beside.
+    pub notes: &'static [&'static str],
+    /// What the clock tells behind the run. It tells 5 first, then 6, and so on to 9.
+    pub next_time: u64,
     pub exit_code: u8,
     pub output: &'static str,
 }
@@ -48,7 +58,16 @@ mirrors = 0
 algorithm = 1
 ";
 
-/// The same with its key.
+/// The cluster of a drive without files.
+pub const FILELESS: &str = "server = \"h:1\"
+[[drive]]
+number = 0
+address = \"h:2\"
+key = \"0b0b0b0b0b0b0b0b0b0b0b0b0b0b0b0b0b0b0b0b\"
+capacity = 20000000
+";
+
+/// The cluster of a drive and a file.
 pub const CLUSTER: &str = "server = \"h:1\"
 [[drive]]
 number = 0
@@ -65,15 +84,46 @@ mirrors = 0
 algorithm = 1
 ";
 
+/// The cluster of a drive and of two files, in the second format of capabilities.
+pub const TWO_FILES: &str = "server = \"h:1\"
+format = 2
+[[drive]]
+number = 0
+address = \"h:2\"
+key = \"0b0b0b0b0b0b0b0b0b0b0b0b0b0b0b0b0b0b0b0b\"
+capacity = 20000000
+[[file]]
+number = 9
+components = 1
+unit = 4
+width = 0
+depth = 0
+mirrors = 0
+algorithm = 1
+[[file]]
+number = 3
+components = 1
+unit = 4
+width = 0
+depth = 0
+mirrors = 0
+algorithm = 1
+";
+
 /// Nothing to do, for a case that names only what differs.
 pub const NOTHING: Case = Case {
     name: "",
     words: &[],
     input: KEYLESS,
+    reads: &[],
+    writes: &[],
+    fails: &[],
     accepted: &[],
     asked: &[],
-    fails: &[],
+    put: &[],
     sent: &[],
+    notes: &[],
+    next_time: 5,
     exit_code: 0,
     output: "",
 };
@@ -163,31 +213,31 @@ fn exit_code<S: Source, K: Sink, L: Links, C: Clock>(
     exit_code_by(alloc, words, source, sink, links, clock, &zones)
 }
 
-// The same with a clock that stands still.
-fn exit_code_over<S: Source, K: Sink, L: Links>(
+// The same of a case.
+fn exit_code_of<K: Sink, L: Links, C: Clock>(
     alloc: Global,
-    words: &[String],
-    source: &mut S,
+    case: &Case,
     sink: &mut K,
     links: &mut L,
+    clock: &mut C,
 ) -> u8 {
-    let mut clock = MemClock::new(Times::new(alloc));
-    exit_code(alloc, words, source, sink, links, &mut clock)
+    let words = strings(alloc, case.words);
+    let input = copied(alloc, case.input.as_bytes());
+    let mut source = MemSource::new(input, numbers(alloc, case.reads));
+    exit_code(alloc, words.as_slice(), &mut source, sink, links, clock)
 }
 
-/// Runs the command of these words over an input, whose source fails at the calls of the numbers `reads`, into a sink,
-/// and gives the exit status of the program.
-pub fn exit_code_of<K: Sink, L: Links>(
-    alloc: Global,
-    words: &[&str],
-    input: &str,
-    reads: &[u32],
-    sink: &mut K,
-    links: &mut L,
-) -> u8 {
-    let words = strings(alloc, words);
-    let mut source = MemSource::new(copied(alloc, input.as_bytes()), numbers(alloc, reads));
-    exit_code_over(alloc, words.as_slice(), &mut source, sink, links)
+// Whether exactly this went out on the connections that were accepted.
+fn put_is(links: &MemLinks, put: &[&[u8]]) -> bool {
+    if links.accepts() != put.len() {
+        return false;
+    }
+    for i in 0..put.len() {
+        if links.put_on(i) != put[i] {
+            return false;
+        }
+    }
+    true
 }
 
 // Whether exactly this went out on the connections that asked.
@@ -203,11 +253,40 @@ fn sent_is(links: &MemLinks, sent: &[&[u8]]) -> bool {
     true
 }
 
-// Whether a case comes to what it says over a sink and links.
-fn goes_over(alloc: Global, case: &Case, sink: &mut MemSink, links: &mut MemLinks) -> bool {
-    exit_code_of(alloc, case.words, case.input, &[], sink, links) == case.exit_code
+// Whether exactly these notes were told.
+fn are_noted(notes: &[Bytes], told: &[&str]) -> bool {
+    if notes.len() != told.len() {
+        return false;
+    }
+    for i in 0..told.len() {
+        if notes[i].as_slice() != told[i].as_bytes() {
+            return false;
+        }
+    }
+    true
+}
+
+// Whether a case comes to what it says over a sink, links and a clock.
+fn goes_over(
+    alloc: Global,
+    case: &Case,
+    sink: &mut MemSink,
+    links: &mut MemLinks,
+    clock: &mut MemClock,
+) -> bool {
+    exit_code_of(alloc, case, sink, links, clock) == case.exit_code
         && sink.bytes() == case.output.as_bytes()
+        && put_is(links, case.put)
         && sent_is(links, case.sent)
+        && are_noted(links.notes(), case.notes)
+        && clock.now() == case.next_time
+}
+
+fn clock(alloc: Global) -> MemClock {
+    match Times::copied(alloc, &[5, 6, 7, 8, 9]) {
+        Ok(times) => MemClock::new(times),
+        Err(_) => MemClock::new(Times::new(alloc)),
+    }
 }
 
 // Whether a case comes to what it says.
@@ -218,8 +297,9 @@ fn goes(alloc: Global, case: &Case) -> bool {
         lists(alloc, case.asked),
         numbers(alloc, case.fails),
     );
-    let mut sink = MemSink::new(alloc, Numbers::new(alloc));
-    goes_over(alloc, case, &mut sink, &mut links)
+    let mut sink = MemSink::new(alloc, numbers(alloc, case.writes));
+    let mut clock = clock(alloc);
+    goes_over(alloc, case, &mut sink, &mut links, &mut clock)
 }
 
 /// Ends the test at the first case that goes otherwise, which it names.

@@ -78,9 +78,19 @@ fn exit_code<S: Source, K: Sink, L: Links, C: Clock>(
 }
 
 // The same over no connections and with a clock that stands still.
-fn exit_code_over(alloc: Global, words: &[String], source: &mut MemSource, sink: &mut MemSink) -> u8 {
+fn exit_code_over(
+    alloc: Global,
+    words: &[String],
+    source: &mut MemSource,
+    sink: &mut MemSink,
+) -> u8 {
     let mut clock = MemClock::new(Times::new(alloc));
-    let mut links = MemLinks::new(alloc, lists(alloc, &[]), lists(alloc, &[]), Numbers::new(alloc));
+    let mut links = MemLinks::new(
+        alloc,
+        lists(alloc, &[]),
+        lists(alloc, &[]),
+        Numbers::new(alloc),
+    );
     exit_code(alloc, words, source, sink, &mut links, &mut clock)
 }
 

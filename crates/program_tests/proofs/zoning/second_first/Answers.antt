@@ -1,4 +1,4 @@
-use Rattle.std.proofs.Common.{arith, ◌≡◌, true, refl, subst, sym, ◌∙◌, ap}
+use Rattle.std.proofs.Common.{arith, ◌≡◌, true, refl}
 use Rattle.zone_place.specs.Choosing.{online_placed}
 use Rattle.zone_place.specs.Zones.{spreads}
 use Rattle.program_tests.specs.Swapped.{swapped}
