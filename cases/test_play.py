@@ -163,6 +163,30 @@ class Rows(Playing):
         self.assertIn("could be sent", self.rows(begin + "drip x 0102 0.1\n"))
         self.assertIn("something comes back", self.rows(begin + "drip x 8000000101 0.1\n"))
 
+    def test_strangers(self) -> None:
+        begin = "limit 20\nimpostor i x aabb\n"
+        self.assertEqual(self.rows(begin + "crowd x 30 80000001cc\n  > 80000002aabb\n"), "")
+        self.assertIn("number 1 has to be", self.rows(begin + "crowd x 30 80000001cc\n  > 80000002aabc\n"))
+        self.assertIn("this record comes back", self.rows(begin + "noise x 9 1\n"))
+        self.assertEqual(self.rows(begin + "noise x 9 1\n  > aabb\n"), "")
+
+    def test_turned_bytes(self) -> None:
+        reply = "4f534472000300020000000000010000{8*00}{8*00}{8*00}"
+        begin = "limit 20\nimpostor d0 d0 " + reply + "\n"
+        self.assertEqual(self.rows(begin + "flipped d0 abcdef\n  > 0..2 checkvalue\n  > 2 checkvalue\n"), "")
+        self.assertIn("number 3 has to be", self.rows(begin + "flipped d0 abcdef\n  > 0..2 checkvalue\n  > 2 format\n"))
+        self.assertIn("number 3 has to be", self.rows(begin + "flipped d0 abcdef\n  > 0..2 checkvalue\n"))
+
+    def test_replays_in_a_loop(self) -> None:
+        begin = "repeated s\n  2 # {1*61}\n  1 settle\n"
+        self.assertEqual(self.rows(begin + "has s\n  > # 61\n  > # 61\n  > settle\n"), "")
+        self.assertEqual(self.rows(begin + "last s\n  > = settle\n  > calm yes unguessed yes\n"), "")
+        self.assertIn("number 1 has to be", self.rows(begin + "last s\n  > = settle c0\n  > calm yes unguessed yes\n"))
+        self.assertIn("exit status", self.rows(begin + "last s\n  > calm yes unguessed yes\n  = 7\n"))
+        # This program takes each line, and doesn't say that it couldn't write.
+        self.assertEqual(self.rows(begin + "prefixes s\n"), "")
+        self.assertIn("with room for", self.rows(begin + "fills s\n"))
+
     def test_impostors_in_turn(self) -> None:
         begin = "limit 20\nimpostor i x aa bbbb -\nask x {3*80000001cc}\n"
         self.assertEqual(self.rows(begin + "  > 80000001aa80000002bbbb\nheard i\n  > cc\n  > cc\n  > cc\n"), "")
@@ -179,7 +203,7 @@ class Rows(Playing):
     def test_signals(self) -> None:
         begin = "start s: serve {port s} 9\n  > listening\nstop s\n"
         self.assertEqual(self.rows(begin + "continue s\nask s aa\n  > aa\ninterrupt s\n"), "")
-        self.assertIn("doesn't end", self.rows("limit 1\n" + begin + "ask s aa\n  > aa\n"))
+        self.assertIn("doesn't end", self.rows(begin + "limit 1\nask s aa\n  > aa\n"))
 
     def test_proxies(self) -> None:
         write = "800000064f5344320003"

@@ -19,6 +19,8 @@ _FIRST_OBJECT = 65_536
 
 _FRAME = 0x8000_0000
 
+COMMAND_BEGINS = commands.COMMAND_MAGIC
+
 
 def key_of(number: int) -> bytes:
     """The key of a drive."""
@@ -126,3 +128,13 @@ def spoilt(content: bytes, changes: List[str]) -> List[bytes]:
     """What is nearly these bytes: each prefix of them, and each of these changes, `AT=HEX` or `FIRST..END=HEX`."""
     prefixes = [content[:length] for length in range(len(content))]
     return prefixes + [content[:at] + put + content[at + len(put):] for at, put in _changes(changes)]
+
+
+def verdict_of(record: bytes) -> str:
+    """The word of the verdict in a drive's reply."""
+    return reply_in_words(record).split()[1]
+
+
+def flipped(content: bytes) -> List[bytes]:
+    """These bytes with all bits of one byte turned, for each byte."""
+    return [content[:at] + bytes([content[at] ^ 0xff]) + content[at + 1:] for at in range(len(content))]

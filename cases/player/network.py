@@ -54,7 +54,9 @@ def listening(port: int) -> socket.socket:
 def ask(port: int, sent: bytes, seconds: float) -> bytes:
     """Sends bytes, ends its side, and gives all that comes back."""
     with socket.create_connection((HOST, port), timeout=seconds) as connection:
-        connection.sendall(sent)
+        # Who ends the connection in the middle of what is sent is judged by what came back.
+        with contextlib.suppress(ConnectionError):
+            connection.sendall(sent)
         with contextlib.suppress(OSError):
             connection.shutdown(socket.SHUT_WR)
         got = b""

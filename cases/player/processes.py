@@ -15,6 +15,8 @@ _RUNNING: Dict[int, "subprocess.Popen[bytes]"] = {}
 
 Stream = Union[int, IO[bytes], None]
 
+PIPE = subprocess.PIPE
+
 
 def _leave_room(size: int) -> Callable[[], None]:
     """Has a write past a file's first bytes, so many, fail as one for which a disk has no room."""

@@ -10,8 +10,8 @@ import tempfile
 import time
 from typing import Callable, Dict, List, Union
 
-from . import clusters, cutting, drives, network
-from .case import Case, Fault, compare, lines_of
+from . import clusters, cutting, drives, network, strangers, streams
+from .case import Case, Fault, compare, lines_of, shown
 from .marks import Marks, Row, Unlike, Values, command, read, take_lines
 from .parties import Party
 
@@ -80,6 +80,11 @@ class Run:
             if line.split()[3:] == ["open"]:
                 content = content[:-1]
         self._write(name, content)
+
+    def _repeated(self, words: List[str], row: Row) -> None:
+        (name,) = words
+        counted = (line.split(" ", 1) for line in row.below)
+        self._write(name, "".join((self._values.put_in(text) + "\n") * int(count) for count, text in counted).encode())
 
     def _cut(self, words: List[str], _: Row) -> None:
         name, count = words
@@ -164,6 +169,23 @@ class Run:
 
         return tell
 
+    # Replays in a loop
+
+    def _prefixes(self, words: List[str], _: Row) -> None:
+        (name,) = words
+        streams.prefixes(self._program, self._read(name))
+
+    def _fills(self, words: List[str], _: Row) -> None:
+        (name,) = words
+        streams.fills(self._program, self._path(name), self._folder)
+
+    def _last(self, words: List[str], row: Row) -> None:
+        (name,), marks = words, Marks(row.below)
+        last = streams.Last([self._program, "replay"], self._path(name), len(marks.output))
+        compare([self._values.put_in(text) for _, text in marks.output], last.lines, "of the last lines, number")
+        if last.status != (marks.status or "0"):
+            raise Fault("the exit status has to be %s and is %s" % (marks.status or "0", last.status))
+
     # The network
 
     def _proxy(self, words: List[str], _: Row) -> None:
@@ -202,6 +224,29 @@ class Run:
         sent = drives.spoilt(bytes.fromhex(words[1]), words[2:])
         wanted = [self._values.put_in(text) for _, text in Marks(row.below).output] * len(sent)
         compare(wanted, [reply.hex() for reply in self._answers(words[0], sent)], "of the records that come back, number")
+
+    def _flipped(self, words: List[str], row: Row) -> None:
+        sent = drives.flipped(bytes.fromhex(words[1]))
+        wanted = [""] * len(sent)
+        for _, text in Marks(row.below).output:
+            places, verdict = text.split()
+            first, _, end = places.partition("..")
+            for at in range(int(first), int(end or int(first) + 1)):
+                wanted[at] = verdict
+        compare(wanted, [drives.verdict_of(reply) for reply in self._answers(words[0], sent)], "of the verdicts, number")
+
+    def _crowd(self, words: List[str], row: Row) -> None:
+        port, count, sent = words
+        got = strangers.crowd(self._values.port(port), int(count), bytes.fromhex(sent.replace("-", "")), self._limit)
+        wanted = "".join(self._values.put_in(text) for _, text in Marks(row.below).output)
+        compare([wanted] * int(count), [answer.hex() for answer in got], "of the answers, number")
+
+    def _noise(self, words: List[str], row: Row) -> None:
+        port, count, seed = words
+        taken = [self._values.put_in(text) for _, text in Marks(row.below).output]
+        for record in strangers.noise(self._values.port(port), int(count), int(seed), self._limit):
+            if record.hex() not in taken:
+                raise Fault("this record comes back:\n  %s" % shown(record.hex()))
 
     def _message(self, words: List[str], row: Row) -> None:
         answers = self._answers(words[0], [bytes.fromhex(words[1])])
@@ -276,18 +321,20 @@ class Run:
             (self._run if word == "run" else self._start)(head.split()[1:], row, text)
         else:
             self._plain(word)(self._values.put_in(row.head).split()[1:], row)
-        within = None if word in ("cluster", "text", "filled") else Marks(row.below).within
+        within = None if word in ("cluster", "text", "filled", "repeated") else Marks(row.below).within
         if within is not None and time.monotonic() - begun > within:
             raise Fault("it takes %.1f seconds, and may take %g" % (time.monotonic() - begun, within))
 
     def _plain(self, word: str) -> Callable[[List[str], Row], None]:
         rows: Dict[str, Callable[[List[str], Row], None]] = {
             "cluster": self._cluster, "text": self._text, "bytes": self._bytes, "filled": self._filled,
-            "cut": self._cut, "change": self._change,
+            "repeated": self._repeated, "cut": self._cut, "change": self._change,
+            "prefixes": self._prefixes, "fills": self._fills, "last": self._last,
             "same": self._same, "has": self._has, "digest": self._digest,
             "says": self._says, "end": self._end, "sleep": self._sleep, "limit": self._set_limit, "let": self._let,
             "proxy": self._proxy, "held": self._held, "ask": self._ask, "connect": self._connect, "close": self._close,
-            "command": self._command, "sealed": self._sealed, "spoilt": self._spoilt, "message": self._message,
+            "command": self._command, "sealed": self._sealed, "spoilt": self._spoilt, "flipped": self._flipped,
+            "message": self._message, "crowd": self._crowd, "noise": self._noise,
             "drip": self._drip, "impostor": self._impostor, "heard": self._heard, "cuts": self._cuts,
             "stop": self._signal(signal.SIGSTOP), "continue": self._signal(signal.SIGCONT),
             "interrupt": self._signal(signal.SIGINT), "kill": self._signal(signal.SIGKILL),
