@@ -125,7 +125,8 @@ class Sound(unittest.TestCase):
 
     def test_the_guide_writes_the_golden_transcripts(self) -> None:
         """The judge's parties, let alone, do what the program does."""
-        for name in ('striped', 'late_acknowledgement', 'lost_drive', 'stopped_writer', 'crash_in_fence', 'crash_in_repair'):
+        for name in ('striped', 'late_acknowledgement', 'lost_drive', 'stopped_writer', 'crash_in_fence', 'crash_in_repair',
+                     'burning_rack'):
             lines = read_file(os.path.join(SCENARIOS, name + '.txt')).decode().split('\n')
             guide = guided([line for line in lines if line and not line.startswith('#')])
             self.assertEqual(guide.transcript(), golden(name))
@@ -278,7 +279,12 @@ class Restarts(unittest.TestCase):
                 (['crash s'], made, 'Down'), ([drive, 'crash s'], disk, 'Taken'), (['crash s'], 'revoke f0', 'NoName'),
                 ([drive, made, 'crash s'], 'revoke f0', 'Down'), ([drive, made, 'crash s'], 'recall f0', 'Down'),
                 ([drive, 'crash s'], 'declare d0', 'Alive'), ([drive, 'crash s', 'fail d0'], 'declare d0', 'Down'),
-                (['crash s'], 'deliver 0', 'NoMessage'), (['crash s'], 'zone d0 1', 'NotYet')):
+                (['crash s'], 'deliver 0', 'NoMessage'), ([], 'zone d0 1', 'NoName'), (['crash s'], 'zone d0 1', 'NoName'),
+                ([drive, 'zone d0 1'], 'zone d0 1', 'Taken'), ([drive, 'zone d0 1'], 'zone d0 2', 'Taken'),
+                ([drive, 'zone d0 1', 'fail d0'], 'zone d0 1', 'Taken'), ([drive, 'fail d0'], 'zone d0 1', 'Dead'),
+                ([drive, 'zone d0 1', 'crash s'], 'zone d0 1', 'Taken'), ([drive, 'crash s', 'fail d0'], 'zone d0 1', 'Dead'),
+                ([drive, 'crash s'], 'zone d0 1', 'Down'), (['crash s'], 'z' + made, 'Down'),
+                ([drive, made, 'crash s'], 'z' + made, 'Down')):
             refused = guided(events).goes(event)
             self.assertEqual(refused and refused[0], cause, (events, event))
 
@@ -437,7 +443,7 @@ class Charting(unittest.TestCase):
     def test_pictures_are_svg(self) -> None:
         """Each scenario has one, with an arrow for each message that was delivered."""
         for name in ('striped', 'late_acknowledgement', 'lost_drive', 'stopped_writer', 'refused_event', 'crash_in_fence',
-                     'crash_in_repair'):
+                     'crash_in_repair', 'burning_rack'):
             chart = chart_of(read_transcript(golden(name)))
             picture = Page(chart).picture()
             self.assertTrue(ElementTree.fromstring(picture).tag.endswith('svg'))
@@ -477,9 +483,9 @@ class Charting(unittest.TestCase):
             ElementTree.fromstring(Page(chart_of(read_transcript(weather.guide.transcript()))).picture())
 
 
-def main() -> int:
-    """Runs all tests, and counts them."""
-    suite = unittest.defaultTestLoader.loadTestsFromModule(sys.modules[__name__])
+def main(module: str) -> int:
+    """Runs all tests of a module, and counts them."""
+    suite = unittest.defaultTestLoader.loadTestsFromModule(sys.modules[module])
     result = unittest.TextTestRunner(stream=sys.stdout, verbosity=1).run(suite)
     failed = len({str(case).split(' (path')[0] for case, _ in result.failures + result.errors})
     print('tools: %d passed, %d failed' % (result.testsRun - failed, failed))
@@ -487,4 +493,4 @@ def main() -> int:
 
 
 if __name__ == '__main__':
-    sys.exit(main())
+    sys.exit(main(__name__))

@@ -93,12 +93,14 @@ class Page:
         self.front.append(self.text(self.width / 2, self.height - BOTTOM / 2, self.chart.last, INK, 'middle', 11, 'bold'))
 
     def header(self, party: str, x: float) -> None:
-        """The name of a party, above its line."""
+        """The name of a party, above its line, and the zone of a drive that has one."""
         kind = {'c': ('client', '#e4f3e8'), 's': ('server', '#fdf0dc'), 'd': ('drive', '#e3edf8')}[party[0]]
         words = kind[0] if party == 's' else '%s %s' % (kind[0], party)
         self.front.append('<rect x="%.1f" y="%d" width="92" height="22" rx="6" fill="%s" stroke="#c3ccd4"/>'
                           % (x - 46, TOP - 30, kind[1]))
         self.front.append(self.text(x, TOP - 19, words, INK, 'middle', 11, 'bold'))
+        if party in self.chart.zones:
+            self.front.append(self.text(x, TOP - 2, 'zone %d' % self.chart.zones[party], INK, 'middle', 8.5))
 
     # ---- bars and words
 

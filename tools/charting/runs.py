@@ -45,6 +45,7 @@ class Chart:
     def __init__(self) -> None:
         self.rows = 0
         self.parties: Dict[str, int] = {'s': 0}
+        self.zones: Dict[str, int] = {}
         self.events: List[Tuple[int, str]] = []
         self.arrows: List[Arrow] = []
         self.bars: List[Bar] = []
@@ -112,6 +113,8 @@ class Reader:
         self.chart.events.append((row, ' '.join(words)))
         if e.kind in ('drive', 'disk', 'client'):
             self.chart.parties[e.args[0]] = row
+        elif e.kind == 'zone':
+            self.chart.zones[e.args[0]] = e.args[1]
         elif e.kind in ('stop', 'fail'):
             words = 'stopped: deaf from now on' if e.kind == 'stop' else 'failed: all is lost'
             self.chart.bars.append(Bar(e.args[0], row, None, 'dead', words))

@@ -118,6 +118,7 @@ class File:
         self.ready = False
         self.is_fencing = False
         self.spent = False
+        self.zoned = False
 
     def is_unsettled(self) -> bool:
         """An opening fences it: it has a grant, or a fence or a repair that isn't over."""

@@ -44,7 +44,7 @@ class Worker:
     """A file whose job goes on in a step."""
 
     def __init__(self, f: File, counters: Counters, step: Step,
-                 place: Callable[[List[int]], Optional[int]]) -> None:
+                 place: Callable[[File, int], Optional[int]]) -> None:
         self.file = f
         self.counters = counters
         self.step = step
@@ -221,7 +221,7 @@ class Worker:
         for k in range(first, len(f.components)):
             if not f.components[k].missing:
                 continue
-            drive = self.place([at.drive for at in f.components])
+            drive = self.place(f, k)
             if drive is None:
                 self.note('nodrive %d' % k)
                 continue

@@ -11,6 +11,7 @@ from transcripts.spelling import big
 from transcripts.striping import Map
 from transcripts.structures import Credential, Layout, ObjectId
 
+from . import zones
 from .book import GREATEST_TAG, LEASE, NO_EXPIRY, Awaited, Component, File, Grant, is_beyond
 from .jobs import Counters, Mended, Step, Worker, least_loaded
 
@@ -46,6 +47,7 @@ class Server:
     def __init__(self) -> None:
         self.files: Dict[int, File] = {}
         self.drives: Dict[int, KnownDrive] = {}
+        self.zones: Dict[int, int] = {}
         self.slots: Dict[int, Tuple[int, bytes]] = {}
         self.counters = Counters()
         self.clock = 0
@@ -101,40 +103,65 @@ class Server:
         """The drives that weren't declared."""
         return [number for number, drive in self.drives.items() if drive.online]
 
-    def place(self, taken: List[int]) -> Optional[int]:
-        """The drive for a component that is made anew: none of the taken ones."""
-        free = [d for d in self.online() if d not in taken]
+    def online_for(self, zoned: bool) -> List[int]:
+        """Those on which a file may be made: of a zoned one the drive has a zone."""
+        return [d for d in self.online() if d in self.zones or not zoned]
+
+    def place(self, f: File, k: int) -> Optional[int]:
+        """The drive on which component k of a file is made anew."""
+        taken = [at.drive for at in f.components]
+        free = [d for d in self.online_for(f.zoned) if d not in taken]
+        if f.zoned:
+            spread = zones.spread_of(f.map)
+            free = [d for d in free if zones.takes(spread, f.components, k, self.zones[d], self.zones)]
         return least_loaded(free, self.load())[0] if free else None
 
     def add_drive(self, number: int, key: bytes) -> None:
         """There is a further drive."""
         self.drives[number] = KnownDrive(key)
 
-    def refusal(self, number: int, m: Map) -> Optional[str]:
+    def refusal(self, number: int, m: Map, zoned: bool) -> Optional[str]:
         """Why a file isn't made."""
         if number in self.files:
             return 'exists'
         fault = m.fault(MOST_COMPONENTS)
         if fault:
             return 'badmap %s' % fault
-        online = len(self.online())
-        return 'toofew %d' % online if online < m.components else None
+        online = self.online_for(zoned)
+        if len(online) < m.components:
+            return 'toofew %d' % len(online)
+        if zoned and not zones.has_room(zones.spread_of(m), online, self.zones):
+            return 'nospread %d' % len(online)
+        return None
 
-    def make_file(self, number: int, m: Map, tag: int) -> Did:
+    def placed(self, m: Map, zoned: bool) -> List[int]:
+        """The drives of a new file, in the order of its components."""
+        online = self.online_for(zoned)
+        if zoned:
+            return zones.dealt(zones.spread_of(m), online, self.zones)
+        return least_loaded(online, self.load())[:m.components]
+
+    def make_file(self, number: int, m: Map, tag: int, zoned: bool = False) -> Did:
         """A file is made, or a note says why not."""
         self.begin()
-        refused = self.refusal(number, m)
+        refused = self.refusal(number, m, zoned)
         if refused:
             return Did([(number, 'refused %s' % refused)], [], [], False)
-        drives = least_loaded(self.online(), self.load())[:m.components]
+        drives = self.placed(m, zoned)
         first = self.counters.object
         self.counters.object += m.components
         components = [Component(d, first + k, False) for k, d in enumerate(drives)]
         f = File(number, m, tag, self.counters.format, components)
+        f.zoned = zoned
         self.files[number] = f
         self.files = dict(sorted(self.files.items()))
         self.worker(f).make()
         return self.did()
+
+    def crowded(self, number: int) -> Optional[str]:
+        """How the components of a zoned file aren't spread over zones; nothing where they are."""
+        f = self.files.get(number)
+        return None if f is None or not f.zoned else zones.crowded(f.map, f.components, self.zones)
 
     # ---- orders
 

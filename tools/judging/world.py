@@ -4,7 +4,7 @@ from typing import Dict, List, Optional, Tuple
 
 from transcripts import commands, envelopes
 from transcripts.commands import READ, WRITE, Command, maybe_command
-from transcripts.lines import (LATER, Delivered, Error, Event, Judged, Last, Line, Note, Refused, Sent, TimedOut,
+from transcripts.lines import (Delivered, Error, Event, Judged, Last, Line, Note, Refused, Sent, TimedOut,
                                number_of, read_ended)
 from transcripts.spelling import Unreadable
 from transcripts.striping import Map
@@ -18,7 +18,7 @@ from .network import Message, Network
 
 # the events that the server has to carry out, beside those that name it
 ORDERS = ('recall', 'revoke', 'rebuild', 'audit')
-SERVED = ORDERS + ('drive', 'disk', 'file', 'declare')
+SERVED = ORDERS + ('drive', 'disk', 'zone', 'file', 'zfile', 'declare')
 
 
 class World:
@@ -103,8 +103,6 @@ class World:
 
     def refusal(self, e: Event) -> Optional[Tuple[str, str]]:
         """The first cause for which an event isn't carried out: its word, and a sentence."""
-        if e.kind in LATER:
-            return 'NotYet', 'the world doesn\'t know it yet'
         return self.naming_refusal(e) or self.down_refusal(e)
 
     def naming_refusal(self, e: Event) -> Optional[Tuple[str, str]]:
@@ -112,13 +110,15 @@ class World:
         if e.kind in ('drive', 'disk', 'client'):
             there = number_of(e.args[0]) in (self.clients if e.kind == 'client' else self.drives)
             return ('Taken', '%s exists' % e.args[0]) if there else None
+        if e.kind == 'zone' and number_of(e.args[0]) in self.server.zones:
+            return 'Taken', 'the drive has a zone'
         if e.kind in ORDERS:
             return None if number_of(e.args[0]) in self.server.files else ('NoName', 'there is no such file')
         if e.kind in ('deliver', 'drop'):
             return None if e.args[0] < len(self.messages) else ('NoMessage', 'no message of that number was sent')
         if e.kind == 'declare':
             return self.declare_refusal(number_of(e.args[0]))
-        return self.party_refusal(e.args[0]) if e.args and e.kind not in ('file', 'format') else None
+        return self.party_refusal(e.args[0]) if e.args and e.kind not in ('file', 'zfile', 'format') else None
 
     def declare_refusal(self, drive: int) -> Optional[Tuple[str, str]]:
         """A drive that is declared has failed."""
@@ -278,6 +278,7 @@ class World:
         """The next line is this note."""
         line = self.must(Note(self.at(), 'f%d' % file, tuple(text.split(' '))))
         self.moments.noted(line.at, file, line.words, did.mended)
+        self.is_spread(line.at, file)
 
     # ---- clients
 
@@ -392,11 +393,25 @@ class World:
         number = number_of(e.args[0])
         self.clients[number] = clients.Client(number)
 
+    def do_zone(self, e: Event) -> None:
+        """A drive is in a zone from now on."""
+        self.server.zones[number_of(e.args[0])] = e.args[1]
+
     def do_file(self, e: Event) -> None:
         """The server makes a file, and what is sent is delivered."""
         first = len(self.messages)
-        self.server_did(e.at, self.server.make_file(number_of(e.args[0]), Map(*e.args[1:7]), e.args[7]))
+        made = self.server.make_file(number_of(e.args[0]), Map(*e.args[1:7]), e.args[7], e.kind == 'zfile')
+        self.server_did(e.at, made)
+        self.is_spread(e.at, number_of(e.args[0]))
         self.deliver_all(first)
+
+    do_zfile = do_file
+
+    def is_spread(self, at: int, number: int) -> None:
+        """The components of a zoned file are spread over zones, whatever the rules made of it."""
+        why = self.server.crowded(number)
+        if why:
+            raise Fault(at, 'f%d isn\'t spread over zones: %s' % (number, why))
 
     def do_least(self, e: Event) -> None:
         """A drive's least format rises."""

@@ -58,6 +58,10 @@ class Guide(World):
         """The drives that didn't fail."""
         return [n for n, drive in self.drives.items() if not drive.failed]
 
+    def zoneless(self) -> List[int]:
+        """The drives that may be given a zone."""
+        return [n for n in self.standing() if n not in self.server.zones]
+
     def crashing(self) -> List[str]:
         """The server and the stored drives, where they are up."""
         drives = ['d%d' % n for n, drive in self.drives.items() if drive.stored and not drive.deaf()]

@@ -4,14 +4,18 @@ from typing import Callable, Dict, List, NamedTuple, Set, Tuple
 
 from transcripts import commands
 from transcripts.spelling import in_hex
+from transcripts.striping import Map
 
 from .guide import Guide
 
 MOST_MESSAGES, MOST_EVENTS = 420, 70
+MOST_DRIVES, MOST_FILES = 16, 64
 # how often a failed drive is declared behind an event, and one of those that are down is opened
 DECLARED, OPENED = 0.2, 0.12
 # how often a drive is stored
 STORED = 0.5
+# how often the drives of a storm have zones, how often a drive then has none, and how often a file is zoned there
+ZONES, ZONELESS, ZONED = 0.35, 0.1, 0.7
 
 
 class Shape(NamedTuple):
@@ -39,6 +43,8 @@ WEATHERS: Dict[str, Dict[str, int]] = {
                  'fail': 1, 'declare': 1, 'format': 1, 'least': 1, 'clock': 1},
     'formats': {'do': 20, 'call': 5, 'deliver': 12, 'job': 6, 'format': 4, 'least': 5, 'settle': 3, 'fail': 1,
                 'declare': 2, 'inject': 3, 'resend': 2, 'clock': 3},
+    'burning': {'do': 26, 'burn': 8, 'fail': 2, 'declare': 6, 'rebuild': 8, 'job': 3, 'settle': 4, 'zone': 3, 'drive': 2,
+                'file': 4, 'call': 4, 'deliver': 10, 'crash': 2, 'leave': 1, 'stop': 1},
 }
 
 
@@ -49,6 +55,8 @@ class Weather:
         self.random = Random('storm %d' % seed)
         self.guide = Guide()
         self.kind = self.random.choice(sorted(WEATHERS))
+        self.has_zones = self.kind == 'burning' or self.random.random() < ZONES
+        self.key = self.some_bytes(20)
         self.files: Dict[int, Shape] = {}
         self.far: Set[int] = set()
 
@@ -65,18 +73,42 @@ class Weather:
     def parties(self) -> None:
         """Drives, clients and files."""
         r = self.random
-        key = self.some_bytes(20)
-        for n in range(r.randint(4, 9)):
-            capacity = r.randint(8, 90) if r.random() < 0.06 else 20000000
-            word = 'disk' if r.random() < STORED else 'drive'
-            own = key if r.random() < 0.5 else self.some_bytes(20)
-            self.guide.goes('%s d%d %s %d' % (word, n, own.hex(), capacity))
+        for _ in range(r.randint(7, 14) if self.has_zones else r.randint(4, 9)):
+            self.drive()
+        if self.has_zones:
+            self.zones()
         if r.random() < 0.15:
             self.guide.goes('format s 2')
         for n in range(r.randint(2, 4)):
             self.guide.goes('client c%d' % n)
         for _ in range(r.randint(1, 2)):
             self.file()
+        while not self.files:
+            self.file()
+
+    def drive(self) -> None:
+        """A further drive."""
+        r = self.random
+        capacity = r.randint(8, 90) if r.random() < 0.06 else 20000000
+        word = 'disk' if r.random() < STORED else 'drive'
+        own = self.key if r.random() < 0.5 else self.some_bytes(20)
+        number = len(self.guide.drives)
+        if number < MOST_DRIVES:
+            self.guide.goes('%s d%d %s %d' % (word, number, own.hex(), capacity))
+
+    def zones(self) -> None:
+        """Most drives get a zone."""
+        count = self.random.randint(3, 5) if self.kind == 'burning' else self.random.randint(2, 5)
+        for n in self.guide.zoneless():
+            if self.random.random() >= ZONELESS:
+                self.guide.goes('zone d%d %d' % (n, self.random.randrange(count)))
+
+    def zone(self) -> None:
+        """A drive that has no zone gets one, a new one or one that others are in."""
+        zoneless = self.guide.zoneless()
+        if zoneless:
+            zone = self.random.choice(sorted(self.guide.server.zones.values()) + [7])
+            self.guide.goes('zone d%d %d' % (self.pick(zoneless), zone))
 
     def shape(self) -> Shape:
         """A map that the drives suffice for."""
@@ -94,13 +126,24 @@ class Weather:
             if (fine and shape.components <= drives) or drives < 3:
                 return shape
 
+    def spread_shape(self) -> Shape:
+        """A map for a zoned file, most often one for which the zones have room; where it burns, a wide one."""
+        shape = self.shape()
+        for _ in range(60):
+            has_room = self.guide.server.refusal(MOST_FILES, Map(*shape), True) is None
+            if has_room and (self.kind != 'burning' or shape.components > 3):
+                break
+            shape = self.shape()
+        return shape
+
     def file(self) -> None:
         """A file, now and then one that is refused."""
         number = self.random.randrange(4)
-        shape = self.shape()
+        zoned = self.has_zones and self.random.random() < ZONED
+        shape = self.spread_shape() if zoned and self.random.random() < 0.8 else self.shape()
         tag = 4294967294 if self.random.random() < 0.03 else self.random.randint(1, 9)
         fresh = number not in self.files
-        self.guide.goes('file f%d %d %d %d %d %d %d %d' % ((number,) + shape + (tag,)))
+        self.guide.goes('%s f%d %d %d %d %d %d %d %d' % (('zfile' if zoned else 'file', number) + shape + (tag,)))
         if fresh and number in self.guide.server.files:
             self.files[number] = shape
 
@@ -234,6 +277,28 @@ class Weather:
         if len(standing) > 2 and (failed < 2 or self.random.random() < 0.2):
             self.guide.goes('fail d%d' % self.pick(standing))
 
+    def burn(self) -> None:
+        """All drives of a zone fail, if others are left; seldom those of a second zone."""
+        guide = self.guide
+        standing = guide.standing()
+        zones = sorted({guide.server.zones[n] for n in standing if n in guide.server.zones})
+        if not zones or (len(standing) < len(guide.drives) and self.random.random() < 0.7):
+            return
+        zone = self.pick(zones)
+        burning = [n for n in standing if guide.server.zones.get(n) == zone]
+        if len(standing) - len(burning) > 2:
+            for n in burning:
+                guide.goes('fail d%d' % n)
+
+    def rebuild(self) -> None:
+        """All failed drives are declared, and a file is rebuilt."""
+        for drive in self.guide.fallen():
+            self.guide.goes('declare d%d' % drive)
+        near = [file for file in sorted(self.files) if file not in self.far]
+        if near:
+            self.guide.goes('rebuild f%d' % self.pick(near))
+            self.guide.goes('settle')
+
     def declare(self) -> None:
         """A failed drive is taken out."""
         fallen = self.guide.fallen()
@@ -286,6 +351,10 @@ class Weather:
                 guide.goes('reopen %s' % party)
         if self.random.random() < 0.8:
             guide.goes('settle')
+        if self.kind == 'burning':
+            self.burn()
+            self.do()
+            self.rebuild()
         for drive in guide.fallen():
             if self.random.random() < 0.8:
                 guide.goes('declare d%d' % drive)
@@ -301,7 +370,7 @@ class Weather:
         self.parties()
         weights = WEATHERS[self.kind]
         kinds, chances = list(weights), list(weights.values())
-        events = self.random.randint(12, MOST_EVENTS)
+        events = self.random.randint(12, MOST_EVENTS) + len(self.guide.server.zones)
         while self.files and len(self.guide.scenario) < events and len(self.guide.messages) < MOST_MESSAGES:
             before = len(self.guide.scenario)
             act: Callable[[], None] = getattr(self, self.random.choices(kinds, chances)[0])
@@ -318,14 +387,18 @@ class Weather:
         """An event that the world refuses, and the word for why."""
         guide, r = self.guide, self.random
         choices = ['client c15', 'deliver %d' % len(guide.messages), 'drive d0 %s 1' % ('0b' * 20), 'revoke f62',
-                   'do c14 read f0 0 1', 'stop c14', 'fail d63', 'declare d62', 'clock d61 1', 'zone d0 1', 'crash d60',
+                   'do c14 read f0 0 1', 'stop c14', 'fail d63', 'declare d62', 'clock d61 1', 'zone d60 1', 'crash d60',
                    'disk d0 %s 1' % ('0b' * 20)]
+        choices += ['zone d%d %d' % zone for zone in guide.server.zones.items()]
+        choices += ['zone d%d 1' % n for n, drive in guide.drives.items() if drive.failed]
         choices += ['reopen %s' % party for party in guide.crashing()]
         choices += ['crash d%d' % n for n, drive in guide.drives.items() if not drive.stored]
         for party in guide.down():
             choices += ['crash %s' % party] + (['inject %s -' % party, 'least %s 2' % party] if party != 's' else [])
         if guide.server.down:
-            choices += ['clock s 1', 'resend s', 'format s 1', 'file f61 1 4 0 0 0 1 1', 'drive d59 %s 1' % ('0b' * 20)]
+            choices += ['clock s 1', 'resend s', 'format s 1', 'file f61 1 4 0 0 0 1 1', 'zfile f61 1 4 0 0 0 1 1',
+                        'drive d59 %s 1' % ('0b' * 20)]
+            choices += ['zone d%d 1' % n for n in guide.zoneless()]
             choices += ['recall f%d' % n for n in guide.server.files]
         choices += ['declare d%d' % n for n in guide.standing()[:1]]
         choices += ['leave c%d' % n for n, client in guide.clients.items() if client.stopped]

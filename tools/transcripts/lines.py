@@ -21,7 +21,6 @@ EVENTS: Dict[str, str] = {
     'deliver': 'u64', 'drop': 'u64', 'settle': '', 'inject': 'D hex', 'recall': 'F', 'revoke': 'F', 'rebuild': 'F',
     'audit': 'F', 'declare': 'D', 'stop': 'C', 'fail': 'D', 'disk': 'D key u64', 'zone': 'D u32', 'zfile': FILE_PLACES,
     'clock': 'machine u64', 'format': 'server format', 'resend': 'sender', 'crash': 'machine', 'reopen': 'machine'}
-LATER = ('zone', 'zfile')
 
 
 class Event(NamedTuple):
@@ -264,7 +263,7 @@ def read_last(at: int, words: List[str]) -> Last:
     return Last(at, words[0] == 'yes', words[2] == 'yes')
 
 
-STOPS = ('UnknownWord', 'BadName', 'BadNumber', 'BadHex', 'Missing', 'Extra', 'NotYet', 'NoName', 'Taken', 'Dead',
+STOPS = ('UnknownWord', 'BadName', 'BadNumber', 'BadHex', 'Missing', 'Extra', 'NoName', 'Taken', 'Dead',
          'Alive', 'NotKept', 'Down', 'Running', 'NoMessage', 'read', 'memory', 'full input', 'full line', 'full kept')
 
 
