@@ -27,6 +27,7 @@ use Rattle.exchange_law.specs.Counters.{HaveRoomAt}
 use Rattle.exchange_law.specs.Text.{AreOfText, AreFew, WithinTheLimitAreFew}
 use Rattle.exchange_law.specs.Exact.{IssuedExactlyAt, InjectedExactlyAt}
 use Rattle.ending_law.specs.Calls.{EndsAt}
+use Rattle.cause_law.specs.Answers.{RequestsAreAnswered}
 use Rattle.tag_law.specs.Tags.{HaveTagsAt}
 use Rattle.history_claims.specs.Texts.{EventsMakeText, CutsGoOn}
 
@@ -98,6 +99,9 @@ pub record IsSound (h : List Line) : Type 0 where
   pub room : AtEachMoment HaveRoomAt h
   -- and each call ends in one of the ways that are left to it
   pub ends : AreOfText h → AreFew h → AtEachLine EndsAt h
+  -- in a whole history each request that is new to the server is answered in its step, and the answer tells the first row that
+  -- applies to what the book has of the file then
+  pub causes : (w : World) → StandsFor w h → AreWritten h → RequestsAreAnswered h
 
 -- Each lawful history is sound, whatever its events name. Where a text may have the events, it is one of a scenario's text;
 -- and where a world that stands for it is within the limit of kept bytes, it has few messages. A history that is cut at that

@@ -1,0 +1,4 @@
+pub mod Gets
+pub mod Commits
+pub mod Returns
+pub mod Answers
