@@ -1,13 +1,12 @@
 -- In each whole history each request that is new to the server has its answer.
-use Rattle.std.proofs.Common.{◌≡◌, ◌==◌, ◌&&◌, ℕ, ◌+◌, Bool, true, false, nat_lt, nat_le, List, [], ◌∷◌, ◌++◌, length, map, filter, Option, Some, refl, sym, ap, subst, ◌∙◌, arith, inl, inr, append_assoc, if◌then◌else◌}
+use Rattle.std.proofs.Common.{◌≡◌, ◌==◌, ◌&&◌, ℕ, ◌+◌, Bool, true, false, nat_lt, nat_le, List, [], ◌∷◌, ◌++◌, length, map, filter, Some, refl, sym, ap, subst, ◌∙◌, arith, append_assoc, if◌then◌else◌}
 use Rattle.std.proofs.lemmas.Bool.{false≢true}
 use Rattle.std.proofs.lemmas.Bool.Decides.{nat_tests}
 use Rattle.osd_lists.proofs.Slices.{head_same, tail_same}
 use Rattle.osd_lists.specs.declared.node.Node.TheVariants as node
 use Rattle.server_rules.specs.Files.{Step}
-use Rattle.server_rules.proofs.Members.{in_front}
 use Rattle.server_rules.specs.History.{Input, Hears, step}
-use Rattle.server_rules.specs.Laws.{In, ConflictsAreExact, FilesArePut, AreSafe, is_taken_of}
+use Rattle.server_rules.specs.Laws.{ConflictsAreExact, FilesArePut, AreSafe, is_taken_of}
 use Rattle.server_rules.specs.Messages.{Asks, counters_have_room, on_message}
 use Rattle.server_rules.specs.Requests.{on_request}
 use Rattle.server_rules.specs.declared.limits.TheConstants.{MAX_CLIENT}
@@ -21,20 +20,17 @@ use Rattle.world_history.specs.Moves.{Act, Action, Opens, Delivers, TimesOut, Pe
 use Rattle.world_history.specs.Sending.{Move, move, sent_line, sent_lines}
 use Rattle.world_history.specs.Plans.{due}
 use Rattle.world_history.specs.Reading.{is_head}
-use Rattle.world_history.specs.Book.{ServerSeen, placed_in, step_by, server_behind, server_seen, server_after}
+use Rattle.world_history.specs.Book.{placed_in, server_after}
 use Rattle.world_history.specs.History.{OneEventMore}
 use Rattle.world_history.specs.Laws.{ServerGoesOn}
-use Rattle.move_law.proofs.Moments.{stands_kept}
 use Rattle.history_law.specs.BookMoments.{IsMoment, with_event, plan_at, lines_in}
-use Rattle.history_law.specs.Doing.{did_in, ServerMoves}
+use Rattle.history_law.specs.Doing.{ServerMoves}
 use Rattle.history_law.specs.Grants.{GrantsAreSafe}
-use Rattle.history_law.specs.Read.{AreWritten, BookIsRead, StepIsRead}
-use Rattle.history_law.proofs.Staying.{written_front}
-use Rattle.history_law.proofs.StepEnds.{place_of}
+use Rattle.history_law.specs.Read.{BookIsRead, StepIsRead}
 use Rattle.fencing_law.proofs.Ending.{next_moment}
-use Rattle.cause_law.specs.Answers.{IsCaused, IsNew, answer_line, IsAnswered, RequestsAreAnswered, EachRequestIsAnswered}
+use Rattle.cause_law.specs.Answers.{IsCaused, IsNew, answer_line, IsAnswered, AnswersIt, EachRequestIsAnswered}
 use Rattle.cause_law.proofs.Causing.{Answered, request_answered}
-use Rattle.cause_law.proofs.Reading.{IsRead, input_head, line_read}
+use Rattle.cause_law.proofs.Inputs.{IsMoved, IsShown, at_inputs}
 
 -- ---- the last line
 
@@ -100,61 +96,45 @@ named s q e =
     let r = taken_parts (q.client == q.client) (counters_have_room s) (q.client == q.client) (nat_le q.client MAX_CLIENT) e in
     grind (arith, nat_tests, r.2)
 
-module _ (exact : ConflictsAreExact) (put : FilesArePut) (safe : GrantsAreSafe) (read : BookIsRead) (step_read : StepIsRead)
-    (moves : ServerMoves) (more : OneEventMore) (on : ServerGoesOn) where
+none_head : (x : Line) (n : ℕ) (a : Answer) → is_head x ≡ true → x ≡ answer_line n a → ⊥
+none_head x n a head same = false≢true (sym (ap is_head same) ∙ head)
+
+-- the server of a moment is safe
+pub safe_at : GrantsAreSafe → (w : World) (h : List Line) → IsMoment w h → AreSafe w.server.files
+safe_at safe w h k =
+    safe w (record { before = k.before; history = k.history; stands = k.stands; moves = k.moves; world_is = k.world_is })
+
+module _ (exact : ConflictsAreExact) (put : FilesArePut) (safe : GrantsAreSafe) (moves : ServerMoves) where
   module _ (w : World) (h : List Line) (k : IsMoment w h) (m : Move) (d : due (plan_at k) w ≡ Some m.action)
-      (written : AreWritten (h ++ lines_in w m)) (front : List Line) (l : Line) (after : List Line)
-      (is : lines_in w m ≡ front ++ l ∷ after) (q : ClientRequest) (new : IsNew (h ++ front) l q) where
-    abbrev at : ServerSeen
-    at = server_seen (h ++ front)
-
-    abbrev input : Input
-    input = Hears at.clock (node.Client q.client) (Asks q)
-
+      (front : List Line) (l : Line) (after : List Line) (is : lines_in w m ≡ front ++ l ∷ after) (i : Input)
+      (moved : IsMoved w h m front l after i) (now : ℕ) (q : ClientRequest) (new : IsNew w.server i now q) where
     -- the step that is read at the line
-    abbrev chosen : List ℕ
-    chosen = placed_in after
-
     abbrev did : Step
-    did = on_request at.server at.clock chosen q
+    did = on_request w.server now (placed_in after) q
 
-    read_there : IsRead w h front l after m
-    read_there = line_read on w h m front l after is (input, new.comes) (step_read w h k m d written)
-
-    does : did_in w m ≡ Some did
-    does =
-        sym read_there.does ∙ ap (step_by at.server chosen) new.comes
-        ∙ ap (λ (t : Step). Some t) (request_step at.server at.clock chosen q new.taken)
-
-    there : at.server ≡ w.server
-    there = read_there.server ∙ ap (λ (s : ServerSeen). s.server) (read w h k (written_front h (lines_in w m) written))
-
-    state_is : (move w m).world.server ≡ did.state
-    state_is = (moves w m).server ∙ ap (λ (t : Option Step). server_behind w.server t) does
-
-    safe_at : (v : World) (g : List Line) → IsMoment v g → AreSafe v.server.files
-    safe_at v g j =
-        safe v (record { before = j.before; history = j.history; stands = j.stands; moves = j.moves; world_is = j.world_is })
+    its_step : step w.server (placed_in after) i ≡ did
+    its_step =
+        ap (λ (x : Input). step w.server (placed_in after) x) new.comes
+        ∙ request_step w.server now (placed_in after) q new.taken
 
     behind : AreSafe did.state.files
     behind =
-        subst (λ (s : Server). AreSafe s.files) state_is
-        (safe_at (move w m).world (h ++ lines_in w m) (next_moment w h k m d))
+        subst (λ (s : Server). AreSafe s.files) (moved.state ∙ ap (λ (t : Step). t.state) its_step)
+        (safe_at safe (move w m).world (h ++ lines_in w m) (next_moment w h k m d))
 
-    answered : Answered at.server at.clock q did
-    answered =
-        request_answered exact put at.server at.clock chosen q new.new
-        (subst (λ (s : Server). AreSafe s.files) (sym there) (safe_at w h k)) behind
+    answered : Answered w.server now q did
+    answered = request_answered exact put w.server now (placed_in after) q new.new (safe_at safe w h k) behind
 
     abbrev post : Post
     post = server_post (Answers answered.answer)
 
     addressed : is_addressed post ≡ true
-    addressed = ap (λ (c : ℕ). nat_lt c CLIENTS) answered.client_is ∙ named at.server q new.taken
+    addressed = ap (λ (c : ℕ). nat_lt c CLIENTS) answered.client_is ∙ named w.server q new.taken
 
     posted : (acts w m.chosen m.action).posts ≡ filter is_addressed (map server_post answered.front) ++ post ∷ []
     posted =
-        (moves w m).posts did does ∙ ap (λ (os : List Outgoing). filter is_addressed (map server_post os)) answered.sends_are
+        (moves w m).posts did (moved.did ∙ ap (λ (t : Step). Some t) its_step)
+        ∙ ap (λ (os : List Outgoing). filter is_addressed (map server_post os)) answered.sends_are
         ∙ kept_last answered.front (Answers answered.answer) addressed
 
     -- the answer's line ends the move's lines
@@ -169,65 +149,29 @@ module _ (exact : ConflictsAreExact) (put : FilesArePut) (safe : GrantsAreSafe) 
               ∙ ap (λ (ls : List Line). with_event m.action (a.told ++ ls)) r.2 ∙ e.1,
         )
 
-    none_head : (x : Line) (n : ℕ) (a : Answer) → is_head x ≡ true → x ≡ answer_line n a → ⊥
-    none_head x n a head same = false≢true (sym (ap is_head same) ∙ head)
-
-    book_is : (rest : List Line) → after ≡ rest → server_after ((h ++ front) ++ l ∷ rest) ≡ did.state
-    book_is rest same =
-        ap (λ (ls : List Line). server_after ((h ++ front) ++ l ∷ ls)) (sym same)
-        ∙ ap server_after (append_assoc h front (l ∷ after))
-        ∙ ap (λ (ls : List Line). server_after (h ++ ls)) (sym is)
-        ∙ ap (λ (s : ServerSeen). s.server) (read (move w m).world (h ++ lines_in w m) (next_moment w h k m d) written)
-        ∙ state_is
-
-    line_answered : IsAnswered (h ++ front) l after q
+    line_answered : IsAnswered (h ++ front) l now q after
     line_answered =
-        let head : is_head l ≡ true = input_head at l input new.comes in
-        let r = last_behind l (answer_line ended.1 answered.answer) (none_head l ended.1 answered.answer head) front after ended.0
-        (sym is ∙ ended.2) in
+        let r = last_behind l (answer_line ended.1 answered.answer) (none_head l ended.1 answered.answer moved.head) front after
+        ended.0 (sym is ∙ ended.2) in
         record {
-          middle = r.0;
+          front = r.0;
           number = ended.1;
           answer = answered.answer;
-          more = [];
           lines_are = r.1;
-          of_step =
-              λ x i. read_there.alone x (subst (In x) (sym r.1) (in_front x r.0 (answer_line ended.1 answered.answer ∷ []) i));
           caused =
-              subst (λ (s : Server). IsCaused at.server s at.clock q answered.answer)
-              (sym (book_is (r.0 ++ answer_line ended.1 answered.answer ∷ []) r.1)) answered.caused;
+              subst (λ (s : Server). IsCaused s (server_after ((h ++ front) ++ l ∷ after)) now q answered.answer)
+              (sym moved.server)
+              (subst (λ (s : Server). IsCaused w.server s now q answered.answer)
+              (sym (moved.behind ∙ ap (λ (t : Step). t.state) its_step)) answered.caused);
         }
 
-  -- ---- each
+  shown : IsShown AnswersIt
+  shown = record {
+    shows = λ w h k m d written front l after is i moved now q new.
+        line_answered w h k m d front l after is i moved now q
+        (subst (λ (s : Server). IsNew s i now q) moved.server new);
+  }
 
-  abbrev So : World → List Line → Type 0
-  So w h = AreWritten h → RequestsAreAnswered h
-
-  nothing : RequestsAreAnswered []
-  nothing [] l after q is new = absurd (cc is)
-  nothing (x ∷ before) l after q is new = absurd (cc is)
-
-  one_more : (w : World) (h : List Line) (k : IsMoment w h) (m : Move) → due (plan_at k) w ≡ Some m.action → So w h
-      → So (move w m).world (h ++ lines_in w m)
-  one_more w h k m d so written before l after q is new =
-      elim (place_of h (lines_in w m) before after l is) [
-        | inl (rest, own, behind) ↦
-            let e = so (written_front h (lines_in w m) written) before l rest q own new in
-            record {
-              middle = e.middle;
-              number = e.number;
-              answer = e.answer;
-              more = e.more ++ lines_in w m;
-              lines_are = behind ∙ ap (λ (ls : List Line). ls ++ lines_in w m) e.lines_are
-                  ∙ append_assoc e.middle (answer_line e.number e.answer ∷ e.more) (lines_in w m);
-              of_step = e.of_step;
-              caused = e.caused;
-            }
-        | inr (front, own, it) ↦
-            subst (λ (ls : List Line). IsAnswered ls l after q) (sym own)
-            (line_answered w h k m d written front l after it q (subst (λ (ls : List Line). IsNew ls l q) own new))
-      ]
-
-  pub each_request_is_answered : EachRequestIsAnswered
-  each_request_is_answered w h s written =
-      stands_kept So (record { starts = λ none. nothing; moves = one_more }) more w h s written
+  pub each_request_is_answered : BookIsRead → StepIsRead → OneEventMore → ServerGoesOn → EachRequestIsAnswered
+  each_request_is_answered read step_read more on w h s written =
+      at_inputs read step_read moves more on AnswersIt shown w h s written

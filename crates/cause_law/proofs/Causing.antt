@@ -69,6 +69,8 @@ module _ (exact : ConflictsAreExact) (put : FilesArePut) (s : Server) (now : ℕ
       record {
         row = c.row;
         first = c.first;
+        live = c.live;
+        size = c.size;
         alone = λ r x. first_alone (asking f v.going.file s.next_grant now q.client iomode offset count) c.row r c.first x;
         is = ap (λ (a : RequestArgs). answer q v.told.detail k.size (result_with s.drives k a v.told.status v.told.grant)) is
             ∙ ap (λ t. answer q t.detail k.size (result_with s.drives k (Get iomode offset count) t.status t.grant)) c.told

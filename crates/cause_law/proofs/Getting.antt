@@ -9,14 +9,16 @@ use Rattle.server_rules.specs.declared.limits.TheConstants.{GREATEST_TAG, GREATE
 use Rattle.server_rules.specs.Get as rows
 use Rattle.server_rules.specs.Get.{lowest, by_job, early, must_fence, by_first, by_lacked, lacked, late, by_late, give_or_refuse, after_fence, fence_then, fence_first, on_grants, by_early, gets}
 use Rattle.server_rules.specs.Grants.{conflicts, asked}
-use Rattle.server_rules.specs.Going.{Going, noting}
-use Rattle.server_rules.specs.Jobs.{fence_begins}
+use Rattle.server_rules.specs.Going.{Going, keeping, noting}
+use Rattle.server_rules.specs.Jobs.{ending, fence_begins}
+use Rattle.server_rules.proofs.HandlerLaws.{fence_leaves_none}
+use Rattle.server_rules.proofs.Runs.{ran_fences}
 use Rattle.server_rules.specs.Laws.{ConflictsAreExact, Rests}
 use Rattle.server_rules.specs.Messages.{awaited_by}
 use Rattle.server_rules.specs.Served.{Served, Told, tells, says}
 use Rattle.server_rules.specs.Standing.{lacked_from}
 use Rattle.world_history.specs.ServerNames.{File, Kept, Component, Grant, Awaited, Job, Revoking, Spent}
-use Rattle.cause_law.specs.Gets.{AreOpposed, IsLowest, NeedsFence, IsLackedFirst, Asking, Row, BadMode, BadRange, LeftOpen, Waits, TagSpent, Fences, NoNumber, Lacks, Held, Gives, place, Applies, IsFirst}
+use Rattle.cause_law.specs.Gets.{AreOpposed, IsLowest, NeedsFence, IsLackedFirst, Asking, Row, BadMode, BadRange, LeftOpen, Waits, TagSpent, Fences, NoNumber, Lacks, Held, Gives, place, Applies, IsFirst, Left, AsTheyWere, Ended, LeavesLive}
 use Rattle.cause_law.specs.Answers.{asking}
 use Rattle.cause_law.proofs.Words.{job_waits, same_cut, needs, needs_none, held, none_held_more, lacked_first, lacked_none}
 
@@ -132,15 +134,19 @@ module _ (exact : ConflictsAreExact) (start : Going) (next format now client iom
     pub row : Row
     pub first : IsFirst (ask v.going.file) row
     pub told : v.told ≡ told_by wanted row
+    pub live : LeavesLive (ask v.going.file) row
+    pub size : v.going.file.kept.size ≡ start.file.kept.size
 
   is_told : (v : Served) (r : Row) → Applies (ask v.going.file) r → NoneUpto (ask v.going.file) (place r)
-      → v.told ≡ told_by wanted r
+      → v.told ≡ told_by wanted r → LeavesLive (ask v.going.file) r → v.going.file.kept.size ≡ start.file.kept.size
       → Comes v
-  is_told v r applies none told = record { row = r; first = record { applies = applies; none = none }; told = told }
+  is_told v r applies none told live size =
+      record { row = r; first = record { applies = applies; none = none }; told = told; live = live; size = size }
 
   -- ---- the late rows
 
-  module _ (go : Going) (upto : (g : File) → g.job ≡ go.file.job → NoneUpto (ask g) 6) where
+  module _ (go : Going) (left : (g : File) → Left (ask g) go.file.kept.grants)
+      (same : go.file.kept.size ≡ start.file.kept.size) (upto : (g : File) → g.job ≡ go.file.job → NoneUpto (ask g) 6) where
     lacks_none : (g : Kept) (k : ℕ) → g.map ≡ go.file.kept.map → g.components ≡ go.file.kept.components
         → lacked go.file.kept wanted ≡ None → wanted.rw ≡ true → IsLackedFirst g wanted k → ⊥
     lacks_none g k map components e rw_is l =
@@ -160,13 +166,14 @@ module _ (exact : ConflictsAreExact) (start : Going) (next format now client iom
         (numbered x (λ more. absurd (grind (arith, nat_tests, n, more)))))
         (no_lack x (λ k y. lacks_none v.going.file.kept k refl refl l y.0 y.1)))
         (no_holder x (λ c y. none_held_more exact go.file.kept.grants wanted c e y))) refl
+        (go.file.kept.grants, left v.going.file, refl) same
     by_holder (Some d) e n l =
         let v : Served = by_late go wanted (rows.Conflict d.client) in
         let x : Asking = ask v.going.file in
         is_told v (Held d.client) (held exact go.file.kept.grants wanted d e)
         (none_more x 7 (none_more x 6 (upto v.going.file refl)
         (numbered x (λ more. absurd (grind (arith, nat_tests, n, more)))))
-        (no_lack x (λ k y. lacks_none v.going.file.kept k refl refl l y.0 y.1))) refl
+        (no_lack x (λ k y. lacks_none v.going.file.kept k refl refl l y.0 y.1))) refl (left v.going.file) same
 
     by_rw : (b : Bool) → wanted.rw ≡ b → (o : Option ℕ)
         → lacked_from go.file.kept.map go.file.kept.components wanted.first wanted.end go.file.kept.components 0 ≡ o
@@ -178,14 +185,14 @@ module _ (exact : ConflictsAreExact) (start : Going) (next format now client iom
         let v : Served = by_late go wanted (rows.Lacks k) in
         let x : Asking = ask v.going.file in
         is_told v (Lacks k) (w, lacked_first go.file.kept wanted k e) (none_more x 6 (upto v.going.file refl)
-        (numbered x (λ more. absurd (grind (arith, nat_tests, n, more))))) refl
+        (numbered x (λ more. absurd (grind (arith, nat_tests, n, more))))) refl (left v.going.file) same
 
     by_number : (b : Bool) → nat_lt GREATEST_GRANT next ≡ b
         → Comes (by_late go wanted
         (if b then rows.NoNumber else by_lacked (lacked go.file.kept wanted) (find (conflicts wanted) go.file.kept.grants)))
     by_number true e =
         let v : Served = by_late go wanted rows.NoNumber in
-        is_told v NoNumber (grind (arith, nat_tests, e)) (upto v.going.file refl) refl
+        is_told v NoNumber (grind (arith, nat_tests, e)) (upto v.going.file refl) refl (left v.going.file) same
     by_number false e = by_rw wanted.rw refl _ refl e
 
     comes_late : Comes (give_or_refuse go next wanted)
@@ -199,32 +206,35 @@ module _ (exact : ConflictsAreExact) (start : Going) (next format now client iom
 
   module _ (upto : (g : File) → NoneUpto (ask g) 4) where
     by_fence : (go : Going) (o : Option Job) → go.file.job ≡ o → NeedsFence now start.file.kept.grants wanted
-        → start.file.kept.tag ≢ GREATEST_TAG → Rests (after_fence go next wanted o).going.file.job
-        → Comes (after_fence go next wanted o)
-    by_fence go None e fence tag rests =
-        comes_late go (λ g job. none_more (ask g) 5 (none_more (ask g) 4 (upto g)
+        → start.file.kept.tag ≢ GREATEST_TAG → go.file.kept.grants ≡ [] → go.file.kept.size ≡ start.file.kept.size
+        → Rests (after_fence go next wanted o).going.file.job → Comes (after_fence go next wanted o)
+    by_fence go None e fence tag none same rests =
+        comes_late go (λ g. subst (Left (ask g)) (sym none) (Ended fence)) same
+        (λ g job. none_more (ask g) 5 (none_more (ask g) 4 (upto g)
         (not_spent (ask g) (λ x. tag x.1)))
         (no_fence (ask g) (λ k x. none_awaited k (subst (λ (j : Option Job). IsLowest (awaited_by j) k) (job ∙ e) x.1))))
-    by_fence go (Some j) e fence tag rests =
+    by_fence go (Some j) e fence tag none same rests =
         let v : Served = after_fence go next wanted (Some j) in
         let x : Asking = ask v.going.file in
         is_told v (Fences (lowest j.awaited)) (
           fence,
           subst (λ (i : Option Job). IsLowest (awaited_by i) (lowest j.awaited)) (sym e) (job_waits j (subst Rests e rests)),
         )
-        (none_more x 4 (upto v.going.file) (not_spent x (λ y. tag y.1))) refl
+        (none_more x 4 (upto v.going.file) (not_spent x (λ y. tag y.1))) refl none same
 
     by_tag : (b : Bool) → (start.file.kept.tag == GREATEST_TAG) ≡ b → NeedsFence now start.file.kept.grants wanted
         → Rests (if b then says (noting start Spent) NFS4ERR_LAYOUTUNAVAILABLE NO_COMPONENT
         else fence_then (fence_begins Revoking format start) next wanted).going.file.job
         → Comes (if b then says (noting start Spent) NFS4ERR_LAYOUTUNAVAILABLE NO_COMPONENT
         else fence_then (fence_begins Revoking format start) next wanted)
+    unfolding fence_begins
     by_tag true e fence rests =
         let v : Served = says (noting start Spent) NFS4ERR_LAYOUTUNAVAILABLE NO_COMPONENT in
-        is_told v TagSpent (fence, grind (arith, nat_tests, e)) (upto v.going.file) refl
+        is_told v TagSpent (fence, grind (arith, nat_tests, e)) (upto v.going.file) refl refl refl
     by_tag false e fence rests =
         by_fence (fence_begins Revoking format start) (fence_begins Revoking format start).file.job refl fence
-        (λ same. absurd (grind (arith, nat_tests, e, same))) rests
+        (λ same. absurd (grind (arith, nat_tests, e, same))) (fence_leaves_none Revoking format start)
+        (ran_fences Revoking (keeping start (ending start.file.kept format))).size rests
 
     by_need : (b : Bool) → must_fence now start.file.kept.grants wanted ≡ b
         → Rests (if b then fence_first start next format wanted else give_or_refuse start next wanted).going.file.job
@@ -234,7 +244,7 @@ module _ (exact : ConflictsAreExact) (start : Going) (next format now client iom
         by_tag (start.file.kept.tag == GREATEST_TAG) refl (needs exact now start.file.kept.grants wanted e) rests
     by_need false e rests =
         let none : NeedsFence now start.file.kept.grants wanted → ⊥ = needs_none exact now start.file.kept.grants wanted e in
-        comes_late start (λ g job. none_more (ask g) 5 (none_more (ask g) 4 (upto g)
+        comes_late start (λ g. AsTheyWere none) refl (λ g job. none_more (ask g) 5 (none_more (ask g) 4 (upto g)
         (not_spent (ask g) (λ x. none x.0))) (no_fence (ask g) (λ k x. none x.0)))
 
     comes_on : Rests (on_grants start next format now wanted).going.file.job → Comes (on_grants start next format now wanted)
@@ -270,7 +280,7 @@ module _ (exact : ConflictsAreExact) (start : Going) (next format now client iom
       let v : Served = by_early start next format now wanted (by_job (Some j)) in
       is_told v (Waits (lowest j.awaited))
       (subst (λ (i : Option Job). IsLowest (awaited_by i) (lowest j.awaited)) (sym e) (job_waits j (subst Rests e before)))
-      (upto_open v.going.file m r s) refl
+      (upto_open v.going.file m r s) refl refl refl
 
   by_tests : (b c d : Bool) → is_mode ≡ b → is_empty ≡ c → start.file.spent ≡ d → Rests start.file.job
       → Rests (by_early start next format now wanted
@@ -281,13 +291,13 @@ module _ (exact : ConflictsAreExact) (start : Going) (next format now client iom
   by_tests false c d m r s before rests =
       let v : Served = by_early start next format now wanted rows.BadMode in
       is_told v BadMode (λ x. absurd (grind (arith, nat_tests, m, x)), λ x. absurd (grind (arith, nat_tests, m, x)))
-      (none_yet (ask v.going.file)) refl
+      (none_yet (ask v.going.file)) refl refl refl
   by_tests true true d m r s before rests =
       let v : Served = by_early start next format now wanted rows.Invalid in
-      is_told v BadRange (grind (arith, nat_tests, r)) (upto_mode v.going.file m) refl
+      is_told v BadRange (grind (arith, nat_tests, r)) (upto_mode v.going.file m) refl refl refl
   by_tests true false true m r s before rests =
       let v : Served = by_early start next format now wanted rows.Unable in
-      is_told v LeftOpen s (upto_range v.going.file m r) refl
+      is_told v LeftOpen s (upto_range v.going.file m r) refl refl refl
   by_tests true false false m r s before rests = by_the_job start.file.job refl m r s before rests
 
   pub comes : Rests start.file.job → Rests (gets start next format now client iomode offset count).going.file.job

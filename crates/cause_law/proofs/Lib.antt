@@ -3,4 +3,7 @@ pub mod Getting
 pub mod Returning
 pub mod Causing
 pub mod Reading
+pub mod Inputs
 pub mod Answering
+pub mod Changing
+pub mod Grants

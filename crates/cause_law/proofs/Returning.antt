@@ -8,15 +8,19 @@ use Rattle.server_rules.specs.declared.limits.TheConstants.{GREATEST_TAG}
 use Rattle.server_rules.specs.Answers.{result_with}
 use Rattle.server_rules.specs.Commit as committing
 use Rattle.server_rules.specs.Commit.{may_commit, commit_under, by_commit, commits}
-use Rattle.server_rules.specs.Going.{Going}
-use Rattle.server_rules.specs.Grants.{grant_of}
+use Rattle.server_rules.specs.Going.{Going, keeping, noting_if}
+use Rattle.server_rules.specs.Grants.{grant_of, without}
+use Rattle.server_rules.specs.Jobs.{ending, fence_begins}
+use Rattle.server_rules.specs.Numbers.{among}
+use Rattle.server_rules.proofs.HandlerLaws.{fence_leaves_none}
+use Rattle.server_rules.proofs.Runs.{ran_fences}
 use Rattle.server_rules.specs.Laws.{In, Apart}
 use Rattle.server_rules.specs.Return as returning
-use Rattle.server_rules.specs.Return.{named, none_beyond, is_sole, bearable, loss, by_loss, by_grant, return_row, by_return, returns_on}
+use Rattle.server_rules.specs.Return.{named, none_beyond, is_sole, bearable, loss, reports_from, takes_loss, by_loss, by_grant, return_row, by_return, returns_on}
 use Rattle.server_rules.specs.Served.{Served}
 use Rattle.server_rules.specs.Standing.{lose_from}
 use Rattle.server_rules.proofs.GrantLaws.{nobody}
-use Rattle.world_history.specs.ServerNames.{Drive, Kept, Grant, IoErr, Commit, Return}
+use Rattle.world_history.specs.ServerNames.{File, Component, Drive, Kept, Grant, IoErr, Commit, Return, Revoking, Reported}
 use Rattle.cause_law.specs.Commits as commit_rows
 use Rattle.cause_law.specs.Commits.{HasGrant, MayCommit, Commits}
 use Rattle.cause_law.specs.Returns as return_rows
@@ -83,13 +87,13 @@ module _ (ds : List Drive) (go : Going) (client : ℕ) (apart : Apart go.file.ke
       commit_rows.Wrong (Some last) (has f client g e) (λ h n is x.
       let same : last ≡ n = cc is in
       may_not f g last m (subst (λ (y : Grant). MayCommit f y last) (its f client g e apart h)
-      (subst (MayCommit f h.grant) (sym same) x)))
+      (subst (MayCommit f h.grant) (sym same) x))) refl
 
   by_held : (last : Option ℕ) (o : Option Grant) → grant_of f.grants client ≡ o
       → CommitComes last (by_commit go (commit_under (stripe_length f.map) f.size last o))
   unfolding commit_under
-  by_held last None e = commit_rows.NoGrant last (has_none f client e)
-  by_held None (Some g) e = commit_rows.Wrong None (has f client g e) (λ h n is x. absurd (cc is))
+  by_held last None e = commit_rows.NoGrant last (has_none f client e) refl
+  by_held None (Some g) e = commit_rows.Wrong None (has f client g e) (λ h n is x. absurd (cc is)) refl
   by_held (Some last) (Some g) e = by_may last g e (may_commit (stripe_length f.map) g last) refl
 
   pub commit_comes : (last : Option ℕ) → CommitComes last (commits go client last)
@@ -136,9 +140,16 @@ module _ (ds : List Drive) (go : Going) (client : ℕ) (apart : Apart go.file.ke
   unfolding loss
   loss_is g report ks l = rw (l.writes, l.sole, l.names, l.borne) refl
 
+  -- notes change no file
+  reports_same : (g : Going) (ks : List ℕ) (cs : List Component) (k : ℕ) → (reports_from g ks cs k).file ≡ g.file
+  unfolding reports_from
+  reports_same g ks [] k = refl
+  reports_same g ks (at ∷ cs) k = reports_same (noting_if (among k ks) g (Reported k)) ks cs (k + 1)
+
   abbrev ReturnComes : List IoErr → Served → Type 0
   ReturnComes report v =
-      Returns f client report v.told.detail (result_with ds v.going.file.kept (Return report) v.told.status v.told.grant)
+      Returns f v.going.file.kept client report v.told.detail
+      (result_with ds v.going.file.kept (Return report) v.told.status v.told.grant)
 
   none_lost : (report : List IoErr) (g : Grant) → grant_of f.grants client ≡ Some g → loss f g report ≡ None
       → LosesSome f client report → ⊥
@@ -149,26 +160,29 @@ module _ (ds : List Drive) (go : Going) (client : ℕ) (apart : Apart go.file.ke
   by_tag : (format : ℕ) (report : List IoErr) → report ≢ [] → HasGrant f client → (LosesSome f client report → ⊥) → (b : Bool)
       → (f.tag == GREATEST_TAG) ≡ b
       → ReturnComes report (by_return go format client (if b then returning.TooMany else returning.Fencing))
-  by_tag format report some h none true e = return_rows.TagSpent report some h none (grind (arith, nat_tests, e))
+  unfolding fence_begins
+  by_tag format report some h none true e = return_rows.TagSpent report some h none (grind (arith, nat_tests, e)) refl
   by_tag format report some h none false e =
       return_rows.Fences report some h none (λ same. absurd (grind (arith, nat_tests, e, same)))
+      (fence_leaves_none Revoking format go) (ran_fences Revoking (keeping go (ending go.file.kept format))).size
 
   by_loss_of : (format : ℕ) (report : List IoErr) (g : Grant) → report ≢ [] → grant_of f.grants client ≡ Some g
       → (o : Option (List ℕ)) → loss f g report ≡ o → ReturnComes report (by_return go format client (by_loss f o))
-  unfolding has
+  unfolding has takes_loss
   by_loss_of format report g some e (Some ks) l =
       return_rows.Taken report some (record {
         has = has f client g e;
         components = ks;
         loss = a_loss g report ks (has f client g e).live l;
-      })
+      }) (ap (λ (x : File). record x.kept { grants = without x.kept.grants client })
+      (reports_same (keeping go (record f { components = lose_from ks f.components 0 })) ks f.components 0))
   by_loss_of format report g some e None l =
       by_tag format report some (has f client g e) (none_lost report g e l) (f.tag == GREATEST_TAG) refl
 
   by_own : (format : ℕ) (report : List IoErr) (o : Option Grant) → grant_of f.grants client ≡ o
       → ReturnComes report (by_return go format client (by_grant f report o))
-  by_own format report None e = return_rows.NoGrant report (has_none f client e)
-  by_own format [] (Some g) e = return_rows.Clean (has f client g e)
+  by_own format report None e = return_rows.NoGrant report (has_none f client e) refl
+  by_own format [] (Some g) e = return_rows.Clean (has f client g e) refl
   by_own format (x ∷ xs) (Some g) e =
       by_loss_of format (x ∷ xs) g (λ none. absurd (cc none)) e (loss f g (x ∷ xs)) refl
 

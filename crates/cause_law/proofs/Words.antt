@@ -1,9 +1,9 @@
 -- The words of the book, and the tests of the rules.
-use Rattle.std.proofs.Common.{◌≡◌, ◌≢◌, ◌≤◌, ◌⊎◌, ◌==◌, ◌&&◌, ℕ, zero, suc, ◌+◌, Bool, true, false, nat_lt, min, List, [], ◌∷◌, ◌++◌, find, slice_get, is_some, Some, None, refl, sym, ap, subst, ◌∙◌, arith, inl, inr}
+use Rattle.std.proofs.Common.{◌≡◌, ◌≤◌, ◌⊎◌, ◌==◌, ◌&&◌, ℕ, zero, suc, ◌+◌, Bool, true, false, nat_lt, min, List, [], ◌∷◌, ◌++◌, find, slice_get, is_some, Some, None, refl, sym, ap, subst, ◌∙◌, arith, inl, inr}
 use Rattle.std.proofs.lemmas.Bool.{cases_Bool, false≢true}
 use Rattle.std.proofs.lemmas.Bool.Decides.{nat_tests}
 use Rattle.data_map.specs.declared.check.RawMap.{RawMap}
-use Rattle.server_rules.specs.Get.{lowest_after, or_zero, lowest, must_fence, lacked, late}
+use Rattle.server_rules.specs.Get.{lowest_after, or_zero, lowest, must_fence, late}
 use Rattle.server_rules.specs.Grants.{conflicts, grant_of, against}
 use Rattle.server_rules.specs.Laws.{In, ConflictsAreExact, Rests}
 use Rattle.server_rules.specs.Maps.{group_with, stands_in}

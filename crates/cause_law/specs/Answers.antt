@@ -8,7 +8,7 @@ use Rattle.layout_ops.specs.Spelling.{envelope_item}
 use Rattle.server_rules.specs.Answers.{answer}
 use Rattle.server_rules.specs.Files.{file_at}
 use Rattle.server_rules.specs.Grants.{asked}
-use Rattle.server_rules.specs.History.{Hears}
+use Rattle.server_rules.specs.History.{Input, Hears}
 use Rattle.server_rules.specs.Laws.{is_taken_of}
 use Rattle.server_rules.specs.Messages.{Asks}
 use Rattle.server_rules.specs.Requests.{answer_without}
@@ -17,14 +17,14 @@ use Rattle.scenario_text.specs.declared.line.Line.{Line}
 use Rattle.scenario_text.specs.declared.line.Line.TheVariants as line
 use Rattle.scenario_text.specs.declared.line.Party.TheVariants as party
 use Rattle.world_history.specs.ServerNames.{Server, File, Answer, ClientRequest, RequestArgs, Get, Commit, Return}
-use Rattle.world_history.specs.Book.{input_at, server_seen, server_after}
+use Rattle.world_history.specs.Book.{server_after}
 use Rattle.world_history.specs.State.{World}
 use Rattle.world_history.specs.History.{StandsFor}
 use Rattle.history_law.specs.Read.{AreWritten}
-use Rattle.history_law.specs.StepEnds.{BeginNone}
-use Rattle.cause_law.specs.Gets.{Asking, Row, IsFirst, detail_of, result_of}
+use Rattle.cause_law.specs.Gets.{Asking, Row, IsFirst, LeavesLive, detail_of, result_of}
 use Rattle.cause_law.specs.Commits.{Commits}
 use Rattle.cause_law.specs.Returns.{Returns}
+use Rattle.cause_law.specs.Steps.{AtInputs}
 
 -- ---- the cause of an answer
 
@@ -41,12 +41,15 @@ asking before behind next now client iomode offset count = record {
   now = now;
 }
 
--- The answer tells the first row that applies, and the size of the file behind the step. No other row is the first.
+-- The answer tells the first row that applies, and the size of the file behind the step, which stays. No other row is the
+-- first. The row says which grants are live then.
 pub record GetIsCaused (s : Server) (q : ClientRequest) (x : Asking) (a : Answer) : Type 0 where
   pub row : Row
   pub first : IsFirst x row
   pub alone : (r : Row) → IsFirst x r → r ≡ row
   pub is : a ≡ answer q (detail_of row) x.behind.kept.size (result_of s.drives x.behind.kept x.wanted row)
+  pub live : LeavesLive x row
+  pub size : x.behind.kept.size ≡ x.before.kept.size
 
 -- the answer to what is asked of a file
 abbrev pub IsCausedAt : Server → (now : ℕ) → ClientRequest → (before behind : File) → Answer → RequestArgs → Type 0
@@ -55,7 +58,7 @@ IsCausedAt s now q f g a (Get iomode offset count) =
 IsCausedAt s now q f g a (Commit last) =
     (detail : ℕ) × (r : Results) × Commits f.kept g.kept q.client last detail r × (a ≡ answer q detail g.kept.size r)
 IsCausedAt s now q f g a (Return report) =
-    (detail : ℕ) × (r : Results) × Returns f.kept q.client report detail r × (a ≡ answer q detail g.kept.size r)
+    (detail : ℕ) × (r : Results) × Returns f.kept g.kept q.client report detail r × (a ≡ answer q detail g.kept.size r)
 
 -- Of a server when a request comes, and behind its step: its file isn't there, and the answer is NOENT to a LAYOUTGET, BADLAYOUT
 -- to a LAYOUTCOMMIT, and nothing to a LAYOUTRETURN; or the answer is caused by what the file's book has.
@@ -66,33 +69,31 @@ pub data IsCaused (s t : Server) (now : ℕ) (q : ClientRequest) (a : Answer) : 
 
 -- ---- in the lines
 
--- a request of a client comes to the server at the line; the server takes it, and it is new
-pub record IsNew (before : List Line) (l : Line) (q : ClientRequest) : Type 0 where
-  pub comes : input_at (server_seen before) l ≡ Some (Hears (server_seen before).clock (FromClient q.client) (Asks q))
-  pub taken : is_taken_of (server_after before) q.client q.client q ≡ true
-  pub new : admit (slot_of (server_after before).slots q.client) q.sequence ≡ New
+-- a request of a client that the server takes, and that is new
+pub record IsNew (s : Server) (i : Input) (now : ℕ) (q : ClientRequest) : Type 0 where
+  pub comes : i ≡ Hears now (FromClient q.client) (Asks q)
+  pub taken : is_taken_of s q.client q.client q ≡ true
+  pub new : admit (slot_of s.slots q.client) q.sequence ≡ New
 
 -- the line of an answer that is sent
 abbrev pub answer_line : (number : ℕ) → Answer → Line
 answer_line number a = line.Message number party.Server (party.Client a.client) (envelope_item (envelope.Answer a))
 
--- The answer is sent in the request's step, behind all else that the step tells and sends. It is caused by what the book has
--- when the request comes, and behind the answer.
-pub record IsAnswered (before : List Line) (l : Line) (after : List Line) (q : ClientRequest) : Type 0 where
-  pub middle : List Line
+-- These lines of the request's step end with the answer. It is caused by what the book has when the request comes, and behind
+-- these lines.
+pub record IsAnswered (before : List Line) (l : Line) (now : ℕ) (q : ClientRequest) (rest : List Line) : Type 0 where
+  pub front : List Line
   pub number : ℕ
   pub answer : Answer
-  pub more : List Line
-  pub lines_are : after ≡ middle ++ answer_line number answer ∷ more
-  pub of_step : BeginNone middle
-  pub caused : IsCaused (server_after before) (server_after (before ++ l ∷ (middle ++ answer_line number answer ∷ [])))
-      (server_seen before).clock q answer
+  pub lines_are : rest ≡ front ++ answer_line number answer ∷ []
+  pub caused : IsCaused (server_after before) (server_after (before ++ l ∷ rest)) now q answer
 
--- so it is of each
+-- so it is of each that comes
+abbrev pub AnswersIt : (before : List Line) → Line → Input → (rest : List Line) → Type 0
+AnswersIt before l i rest = (now : ℕ) (q : ClientRequest) → IsNew (server_after before) i now q → IsAnswered before l now q rest
+
 abbrev pub RequestsAreAnswered : List Line → Type 0
-RequestsAreAnswered h =
-    (before : List Line) (l : Line) (after : List Line) (q : ClientRequest) → h ≡ before ++ l ∷ after → IsNew before l q
-    → IsAnswered before l after q
+RequestsAreAnswered h = AtInputs AnswersIt h
 
 -- in each whole history whose events a text may have
 abbrev pub EachRequestIsAnswered : Type 0

@@ -23,12 +23,13 @@ pub record MayCommit (f : Kept) (g : Grant) (last : ℕ) : Type 0 where
   pub limit : last < MAX_FILE_SIZE
 
 -- What it comes to, of the file as the book has it when the request comes and behind its step: the client has no grant; the
--- last offset is committed; or it may not be, or there is none.
+-- last offset is committed, and the size is at least so much; or it may not be, or there is none. Nothing else changes.
 pub data Commits (before behind : Kept) (client : ℕ) : (last : Option ℕ) → (detail : ℕ) → Results → Type 0 where
-  NoGrant : (last : Option ℕ) → (HasGrant before client → ⊥)
+  NoGrant : (last : Option ℕ) → (HasGrant before client → ⊥) → behind ≡ before
       → Commits before behind client last 0 (results.LayoutCommit (commit.Refused NFS4ERR_BADLAYOUT))
-  Sizes : (last : ℕ) → (h : HasGrant before client) → MayCommit before h.grant last → behind.size ≡ max before.size (last + 1)
+  Sizes : (last : ℕ) → (h : HasGrant before client) → MayCommit before h.grant last
+      → behind ≡ record before { size = max before.size (last + 1) }
       → Commits before behind client (Some last) 0 (results.LayoutCommit (commit.Committed None))
   Wrong : (last : Option ℕ) → HasGrant before client
-      → ((h : HasGrant before client) (n : ℕ) → last ≡ Some n → MayCommit before h.grant n → ⊥)
+      → ((h : HasGrant before client) (n : ℕ) → last ≡ Some n → MayCommit before h.grant n → ⊥) → behind ≡ before
       → Commits before behind client last 0 (results.LayoutCommit (commit.Refused NFS4ERR_INVAL))

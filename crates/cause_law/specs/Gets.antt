@@ -1,5 +1,5 @@
 -- Why a LAYOUTGET is answered as it is: rows in order, in the words of the file's book.
-use Rattle.std.specs.Prelude.{◌≡◌, ◌≢◌, ◌<◌, ◌≤◌, ◌+◌, ◌⊎◌, ℕ, false, true, List, ◌∷◌, ◌++◌, slice_get, Some}
+use Rattle.std.specs.Prelude.{◌≡◌, ◌≢◌, ◌<◌, ◌≤◌, ◌+◌, ◌⊎◌, ℕ, false, true, List, [], ◌∷◌, ◌++◌, slice_get, Some}
 use Rattle.data_map.specs.declared.ranges.TheConstants.{MAX_FILE_SIZE}
 use Rattle.layout_ops.specs.declared.results.LayoutGetResult.TheVariants as get
 use Rattle.layout_ops.specs.declared.results.Results.{Results}
@@ -118,6 +118,22 @@ Applies a Gives = Unit {0}
 pub record IsFirst (a : Asking) (r : Row) : Type 0 where
   pub applies : Applies a r
   pub none : (s : Row) → place s < place r → Applies a s → ⊥
+
+-- ---- what else happens
+
+-- the live grants at which the later rows look: those that were live, or none where a fence came first
+pub data Left (a : Asking) : List Grant → Type 0 where
+  AsTheyWere : (NeedsFence a.now a.before.kept.grants a.wanted → ⊥) → Left a a.before.kept.grants
+  Ended : NeedsFence a.now a.before.kept.grants a.wanted → Left a []
+
+-- those that are live behind the step
+abbrev pub LeavesLive : Asking → Row → Type 0
+LeavesLive a (Fences k) = a.behind.kept.grants ≡ []
+LeavesLive a NoNumber = Left a a.behind.kept.grants
+LeavesLive a (Lacks k) = Left a a.behind.kept.grants
+LeavesLive a (Held c) = Left a a.behind.kept.grants
+LeavesLive a Gives = (left : List Grant) × Left a left × (a.behind.kept.grants ≡ left ++ (a.wanted ∷ []))
+LeavesLive a r = a.behind.kept.grants ≡ a.before.kept.grants
 
 -- ---- what is answered
 

@@ -1,4 +1,6 @@
+pub mod Steps
 pub mod Gets
 pub mod Commits
 pub mod Returns
 pub mod Answers
+pub mod Changes

@@ -5,6 +5,7 @@ use Rattle.layout_ops.specs.declared.results.Results.{Results}
 use Rattle.layout_ops.specs.declared.results.Results.TheVariants as results
 use Rattle.layout_ops.specs.declared.statuses.TheConstants.{NFS4ERR_LAYOUTUNAVAILABLE}
 use Rattle.server_rules.specs.declared.limits.TheConstants.{GREATEST_TAG, NO_COMPONENT, LOSS_TAKEN}
+use Rattle.server_rules.specs.Grants.{without}
 use Rattle.server_rules.specs.Return.{named, none_beyond}
 use Rattle.server_rules.specs.Standing.{lose_from}
 use Rattle.world_history.specs.ServerNames.{Kept, Grant, IoErr}
@@ -25,16 +26,23 @@ pub record LosesSome (f : Kept) (client : ℕ) (report : List IoErr) : Type 0 wh
   pub components : List ℕ
   pub loss : IsLoss f has.grant report components
 
--- What it comes to: the client has no grant; the report is empty; it is taken as a loss; or a fence is needed, and begins
--- unless there is no further tag.
-pub data Returns (before : Kept) (client : ℕ) : (report : List IoErr) → (detail : ℕ) → Results → Type 0 where
-  NoGrant : (report : List IoErr) → (HasGrant before client → ⊥)
-      → Returns before client report 0 (results.LayoutReturn (return.Returned None))
-  Clean : HasGrant before client → Returns before client [] 0 (results.LayoutReturn (return.Returned None))
-  Taken : (report : List IoErr) → report ≢ [] → LosesSome before client report
-      → Returns before client report LOSS_TAKEN (results.LayoutReturn (return.Returned None))
+-- What it comes to: the client has no grant; the report is empty, and the grant goes; it is taken as a loss, and the grant and
+-- the components go; or a fence is needed, and begins and ends all grants unless there is no further tag. Of the file as the book
+-- has it when the request comes, and behind its step.
+pub data Returns (before behind : Kept) (client : ℕ) : (report : List IoErr) → (detail : ℕ) → Results → Type 0 where
+  NoGrant : (report : List IoErr) → (HasGrant before client → ⊥) → behind ≡ before
+      → Returns before behind client report 0 (results.LayoutReturn (return.Returned None))
+  Clean : HasGrant before client → behind ≡ record before { grants = without before.grants client }
+      → Returns before behind client [] 0 (results.LayoutReturn (return.Returned None))
+  Taken : (report : List IoErr) → report ≢ [] → (l : LosesSome before client report)
+      → behind ≡ record before {
+        components = lose_from l.components before.components 0;
+        grants = without before.grants client;
+      }
+      → Returns before behind client report LOSS_TAKEN (results.LayoutReturn (return.Returned None))
   TagSpent : (report : List IoErr) → report ≢ [] → HasGrant before client → (LosesSome before client report → ⊥)
-      → before.tag ≡ GREATEST_TAG
-      → Returns before client report NO_COMPONENT (results.LayoutReturn (return.Refused NFS4ERR_LAYOUTUNAVAILABLE))
+      → before.tag ≡ GREATEST_TAG → behind ≡ before
+      → Returns before behind client report NO_COMPONENT (results.LayoutReturn (return.Refused NFS4ERR_LAYOUTUNAVAILABLE))
   Fences : (report : List IoErr) → report ≢ [] → HasGrant before client → (LosesSome before client report → ⊥)
-      → before.tag ≢ GREATEST_TAG → Returns before client report 0 (results.LayoutReturn (return.Returned None))
+      → before.tag ≢ GREATEST_TAG → behind.grants ≡ [] → behind.size ≡ before.size
+      → Returns before behind client report 0 (results.LayoutReturn (return.Returned None))

@@ -1,9 +1,9 @@
 //! Laws of causes: of each answer, when exactly it comes, in the words of the lines.
 //!
 //! Each request that is new to the server is answered in its step, and its answer tells the first row that applies to
-//! what the book of the file has.
+//! what the book of the file has. Nothing else makes a grant live or ends one but a fence that an order or an opening begins.
 #![tactic(auto)]
 
 mod laws;
 
-pub use laws::requests_are_answered;
+pub use laws::{grants_have_causes, requests_are_answered};

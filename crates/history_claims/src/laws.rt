@@ -5,7 +5,7 @@ ghost use Rattle.history_claims.specs.Sound.{HistoriesAreSound};
 ghost use Rattle.history_claims.specs.Spread.{ComponentsStandSpread};
 
 use calm_law::{each_step_is_apart, each_step_is_sound};
-use cause_law::requests_are_answered;
+use cause_law::{grants_have_causes, requests_are_answered};
 use ending_law::calls_end_so;
 use exchange_law::{
     commands_are_issued_exactly, counters_stay_low, lanes_are_fair, lanes_are_own,
@@ -70,8 +70,8 @@ pub fn files_are_created()
 /// first sent; as far as nothing is forged, the object of each present component has its file's tag, or the next one
 /// while a fence is open; no call ends since its layout can't be used or since a command lies outside its capability,
 /// none is refused since its client has no sequence number left, and the server's counters have room. In a whole history
-/// each new request is answered in its step by the first row that applies to its file's book. A history that is cut at
-/// the limit of kept bytes goes on being of a text.
+/// each new request is answered in its step by the first row that applies to its file's book, and nothing else makes a
+/// grant live or ends one but a fence. A history that is cut at the limit of kept bytes goes on being of a text.
 pub fn histories_are_sound()
     ensures { HistoriesAreSound }
 {
@@ -101,5 +101,6 @@ pub fn histories_are_sound()
     calls_end_so();
     each_tag_is_its_files();
     requests_are_answered();
+    grants_have_causes();
     within_the_limit_are_few();
 }
