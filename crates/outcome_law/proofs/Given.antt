@@ -1,8 +1,6 @@
 -- What the answer to a LAYOUTGET says.
-use Rattle.std.proofs.Common.{◌≡◌, ◌≢◌, ◌<◌, ◌≤◌, ◌⊎◌, ℕ, zero, suc, ◌+◌, ◌==◌, nat_lt, Bool, true, false, not, List, [], ◌∷◌, Option, Some, None, Result, Ok, Err, length, refl, sym, ap, subst, ◌∙◌, arith, inl, inr, if◌then◌else◌}
-use Rattle.std.specs.Prelude.{◌&&◌, ◌||◌}
-use Rattle.std.specs.Option.{option_or}
-use Rattle.std.proofs.lemmas.Bool.{cases_Bool, cases_eq, eqb-true, eq-eqb, ne_eqb}
+use Rattle.std.proofs.Common.{◌≡◌, ◌<◌, ℕ, ◌+◌, ◌==◌, nat_lt, Bool, true, false, not, List, [], ◌∷◌, Option, Some, None, Result, Ok, Err, length, refl, sym, ap, subst, ◌∙◌, arith, inl, inr, if◌then◌else◌}
+use Rattle.std.proofs.lemmas.Bool.{cases_eq, eq-eqb, ne_eqb}
 use Rattle.std.proofs.lemmas.Bool.Decides.{nat_tests}
 use Rattle.layout_types.specs.declared.err.LayoutErr.{LayoutErr}
 use Rattle.layout_types.specs.declared.layout.Layout.{Layout}
@@ -14,7 +12,7 @@ use Rattle.layout_ops.specs.declared.results.LayoutSegment.{LayoutSegment}
 use Rattle.layout_ops.specs.declared.results.LayoutGetOk.{LayoutGetOk}
 use Rattle.layout_ops.specs.declared.statuses.TheConstants.{NFS4_OK, NFS4ERR_NOENT, NFS4ERR_LAYOUTTRYLATER, NFS4ERR_LAYOUTUNAVAILABLE, NFS4ERR_RECALLCONFLICT}
 use Rattle.client_rules.specs.declared.limits.TheConstants.{NO_COMPONENT, MAX_TRIES}
-use Rattle.client_rules.specs.State.{CallOp, Held, Listed, Reach, Why, Outcome, NoFile, HeldBy, Fencing, Degraded, Spent, Status, Turn, Goes, Ends, Request, Answer}
+use Rattle.client_rules.specs.State.{CallOp, Held, Listed, Reach, Why, Outcome, NoFile, HeldBy, Fencing, Degraded, Spent, Status, Ends, Request, Answer}
 use Rattle.client_rules.specs.Calls.{file_of}
 use Rattle.client_rules.specs.Grants.{is_for, covers}
 use Rattle.client_rules.specs.Requests.{grant_in}
@@ -22,7 +20,7 @@ use Rattle.client_rules.specs.Results.{status_of, layouts_in}
 use Rattle.client_rules.specs.Layouts.{first_why, fresh, with_listed, unless_why, with_body, reach_of, one_layout, in_layouts, taken}
 use Rattle.client_rules.specs.Answers.{busy, unavailable, refused_with}
 use Rattle.client_rules.proofs.TakenMaps.{enough_same}
-use Rattle.outcome_law.specs.Met.{Met, Answered, busy_status, busy_args, busy_at, busy_in, last_busy, timed_in, given_args, given_in, why_in, status_failure, failure_args}
+use Rattle.outcome_law.specs.Met.{Met, Answered, busy_status, busy_args, busy_in, last_busy, timed_in, given_args, given_in, why_in, status_failure, failure_args}
 use Rattle.outcome_law.specs.Caused.{failure_of}
 use Rattle.outcome_law.proofs.Trace.{Works, or_none, refusal_same, beyond_same}
 

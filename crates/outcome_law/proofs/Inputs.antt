@@ -1,41 +1,27 @@
 -- So it is where the server answers.
-use Rattle.std.proofs.Common.{◌≡◌, ◌≢◌, ◌<◌, ◌≤◌, ◌⊎◌, ℕ, zero, suc, ◌+◌, ◌==◌, nat_lt, Bool, true, false, List, [], ◌∷◌, Option, Some, None, Result, Ok, Err, length, find, is_some, refl, sym, ap, subst, ◌∙◌, arith, inl, inr, if◌then◌else◌}
-use Rattle.std.specs.Prelude.{option_map}
+use Rattle.std.proofs.Common.{◌≡◌, ℕ, ◌+◌, ◌==◌, nat_lt, Bool, true, false, List, [], ◌∷◌, Option, Some, None, Result, Ok, Err, length, refl, sym, ap, subst, ◌∙◌, inl, inr, if◌then◌else◌}
 use Rattle.std.specs.Option.{option_or}
-use Rattle.std.proofs.lemmas.Bool.{cases_Bool, cases_eq, eqb-true, eq-eqb, ne_eqb}
-use Rattle.std.proofs.lemmas.Bool.Decides.{nat_tests}
-use Rattle.osd_lists.specs.declared.node.Node.{Node}
-use Rattle.osd_lists.specs.declared.node.Node.TheVariants.{Server as FromServer, Drive as FromDrive, Client as FromClient}
+use Rattle.std.proofs.lemmas.Bool.{eqb-true}
 use Rattle.layout_ops.specs.declared.args.Args.{Args}
 use Rattle.layout_ops.specs.declared.args.Args.TheVariants as args
-use Rattle.layout_ops.specs.declared.statuses.TheConstants.{NFS4_OK, NFS4ERR_NOENT, NFS4ERR_BADLAYOUT, NFS4ERR_LAYOUTTRYLATER, NFS4ERR_LAYOUTUNAVAILABLE, NFS4ERR_RECALLCONFLICT}
-use Rattle.client_rules.specs.declared.limits.TheConstants.{NO_COMPONENT, MAX_TRIES}
-use Rattle.client_rules.specs.State.{Client, Call, CallOp, CallErr, Busy, BadRange, SlotSpent, Held, Due, Awaited, TimedOut, Need, First, Get, Commit, Report, Close, Phase, Starts, Needs, Waits, Reads, Probes, Gathers, Scatters, Outcome, WriteOk, NoFile, HeldBy, Fencing, Degraded, Spent, Status, Silent, BadLayout, Why, Turn, Goes, Ends, Forgets, Moved, Done, Request, Answer, Recall, Reply, IoErr}
-use Rattle.client_rules.specs.Calls.{file_of, span_of, is_write}
-use Rattle.client_rules.specs.Commands.{of_component}
-use Rattle.client_rules.specs.Grants.{covers, held_of, put_held}
-use Rattle.client_rules.specs.Requests.{grant_in, args_of}
+use Rattle.layout_ops.specs.declared.statuses.TheConstants.{NFS4_OK, NFS4ERR_BADLAYOUT}
+use Rattle.client_rules.specs.declared.limits.TheConstants.{MAX_TRIES}
+use Rattle.client_rules.specs.State.{CallOp, Held, TimedOut, Need, First, Get, Commit, Report, Close, Starts, Outcome, WriteOk, Status, Silent, BadLayout, Why, Turn, Ends, Done, Request, Answer}
+use Rattle.client_rules.specs.Calls.{file_of, span_of}
+use Rattle.client_rules.specs.Grants.{held_of, put_held}
 use Rattle.client_rules.specs.Results.{status_of}
 use Rattle.client_rules.specs.Layouts.{taken}
-use Rattle.client_rules.specs.Io.{awaited_in}
 use Rattle.client_rules.specs.Turns.{turned, needing}
-use Rattle.client_rules.specs.Replies.{answers, replied, timed_out}
-use Rattle.client_rules.specs.Answers.{busy, unavailable, refused_with, not_granted, committed, not_committed, on_commit, is_loss_taken, on_report}
-use Rattle.client_rules.specs.Going.{quiet, phased, over, with_held, by_turn, moved, begins, starts_with, starts_under, starts_at, starts_call, begun, held_after, requests, asks_under, returns, progressed}
-use Rattle.client_rules.specs.Messages.{Message, Replies, Answers, Recalls, Step, still, finished, answered_get, on_get, commit_under, on_need, on_phase, on_call, no_match, obeys, recalled, reply_under, reply_call, Taken, TakesAnswer, TakesReply, TakesRecall, answer_taken, is_awaited, reply_taken, awaited_of, takes, by_taken, hears}
-use Rattle.client_rules.specs.Steps.{timeout_under, timeout_call, times_out, is_bad_range, is_spent, writes_nothing, starts, calls, all_due, leaves, new_client}
-use Rattle.client_rules.specs.History.{Input, Calls, Hears, TimesOut, Leaves, Resends, unless_refused, step, state_after}
-use Rattle.client_rules.proofs.Apart.{IsIn}
-use Rattle.client_rules.proofs.ReadMoves.{found_in}
-use Rattle.client_rules.proofs.ReadSteps.{held_file, put_at}
-use Rattle.move_law.proofs.Turns.{each_progress}
-use Rattle.outcome_law.specs.Met as met
-use Rattle.outcome_law.specs.Met.{Met, Answered, Replied, since, with_answer, with_taken, with_timeout, with_silence, met_after, met_by, busy_status, busy_args, busy_in, last_busy, timed_in, given_args, given_in, grant_under, why_in, status_failure, failure_args, failure_at, cut_short, failure_in, lost_under, first_refusal, first_beyond}
-use Rattle.outcome_law.specs.Caused.{failure_of, IsWhole, call_in, IsCaused, OutcomesAreCaused}
-use Rattle.outcome_law.proofs.Trace.{Works, whole_failed, IsReturn, IsPlain, return_plain, return_gives, return_fails, return_quiet, busy_same, answered_works, answered_decided, EndsSo, uncut, last_says, lost_write, Decided, decided_ends}
-use Rattle.outcome_law.proofs.Working.{ReadsOn, WritesOn, GoodNeed, GoodPhase, GoodTurn, GoodMoved, either_turn, turned_good, write_ends, accounted_good, begins_good, replied_good, timed_good}
+use Rattle.client_rules.specs.Answers.{busy, refused_with, not_granted, committed, not_committed, on_commit, is_loss_taken, on_report}
+use Rattle.client_rules.specs.Going.{phased, over, by_turn}
+use Rattle.client_rules.specs.Messages.{answered_get, on_get, commit_under, on_need}
+use Rattle.client_rules.proofs.ReadSteps.{put_at}
+use Rattle.outcome_law.specs.Met.{Met, Answered, busy_status, busy_args, given_args, grant_under, failure_args, failure_at, lost_under, first_refusal, first_beyond}
+use Rattle.outcome_law.specs.Caused.{failure_of}
+use Rattle.outcome_law.proofs.Trace.{whole_failed, IsReturn, IsPlain, return_plain, return_gives, return_fails, return_quiet, busy_same, answered_works, answered_decided, EndsSo, last_says, lost_write, Decided, decided_ends}
+use Rattle.outcome_law.proofs.Working.{WritesOn, GoodTurn, GoodMoved, either_turn, turned_good, write_ends, accounted_good}
 use Rattle.outcome_law.proofs.Given.{IsGet, get_busy, get_gives, get_fails, NotGiven, Says, Again, not_given, taken_covers, again_works, again_ends, again_count, last_try, first_tries}
-use Rattle.outcome_law.proofs.Steps.{ReturnsOnly, Started, Asking, Returning, HasGrant, NeedsGood, WaitsGood, IsCommit, IsFor, AsksFor, Working, PhaseTraced, CallTraced, IsTraced, Fresh, DoneCall, Told, GoodDone, GoodStep, either_done, over_good, by_turn_good, moved_good, finished_good}
+use Rattle.outcome_law.proofs.Steps.{ReturnsOnly, Asking, Returning, WaitsGood, IsCommit, IsFor, Told, GoodDone, either_done, over_good, moved_good}
 
 -- ---- answers
 
@@ -60,12 +46,19 @@ module _ (before : List Held) (mine : Option CallOp) (ms : List Met) where
         let same : grant_under d.client.held op now ≡ held_of d.client.held (file_of op) =
         ap (λ (o : Option Held). option_or o (held_of d.client.held (file_of op))) (return_gives op r.args a return) in
         record {
-          call = (is, (nothing_out, record {
-            works = answered_works op r a ms [] (return_plain r.args a return) x.works;
-            says = return_quiet op r.args a ms return x.works.silent;
-            next = inl (ap length (busy_same r a ms (return_plain r.args a return)) ∙ x.count);
-            under = same;
-          }), subst (λ (hs : List Held). grant_under hs op now ≡ held_of d.client.held (file_of op)) held same);
+          call = (
+            is,
+            (
+              nothing_out,
+              record {
+                works = answered_works op r a ms [] (return_plain r.args a return) x.works;
+                says = return_quiet op r.args a ms return x.works.silent;
+                next = inl (ap length (busy_same r a ms (return_plain r.args a return)) ∙ x.count);
+                under = same;
+              },
+            ),
+            subst (λ (hs : List Held). grant_under hs op now ≡ held_of d.client.held (file_of op)) held same,
+          );
           outcome = none_told;
         }
 
@@ -106,24 +99,38 @@ module _ (before : List Held) (mine : Option CallOp) (ms : List Met) where
           let under : (hs : List Held) → grant_under hs op now ≡ Some h =
           λ hs. ap (λ (o : Option Held). option_or o (held_of hs (file_of op))) gives in
           record {
-            call = (is, (nothing_out, record {
-              works = answered_works op r a ms [] (plain e) x.works;
-              says = get_fails op r.args a ms get ∙ rw (ok, took) refl;
-              next = inr (h, there, c.1);
-              under = under (put_held d.client.held h) ∙ sym there;
-            }), under before ∙ sym there);
+            call = (
+              is,
+              (
+                nothing_out,
+                record {
+                  works = answered_works op r a ms [] (plain e) x.works;
+                  says = get_fails op r.args a ms get ∙ rw (ok, took) refl;
+                  next = inr (h, there, c.1);
+                  under = under (put_held d.client.held h) ∙ sym there;
+                },
+              ),
+              under before ∙ sym there,
+            );
             outcome = none_told;
           }
 
       asks_again : (o : Outcome) → busy_args r.args a ≡ Some o → (b : Bool) → nat_lt (tries + 1) MAX_TRIES ≡ b
           → failure_of o ≡ Some o → Good (by_turn d op (if b then needing (Get (tries + 1)) else Ends o))
       asks_again o says true less fails = record {
-        call = (is, (nothing_out, record {
-          works = again_works op r a ms o tries x.count (first_tries tries less) x.works;
-          count = again_count r a ms o tries says x.count;
-          less = first_tries tries less;
-          none = subst (λ (hs : List Held). held_of hs (file_of op) ≡ None) (sym held) x.none;
-        }), tt);
+        call = (
+          is,
+          (
+            nothing_out,
+            record {
+              works = again_works op r a ms o tries x.count (first_tries tries less) x.works;
+              count = again_count r a ms o tries says x.count;
+              less = first_tries tries less;
+              none = subst (λ (hs : List Held). held_of hs (file_of op) ≡ None) (sym held) x.none;
+            },
+          ),
+          tt,
+        );
         outcome = none_told;
       }
       asks_again o says false less fails =

@@ -4,3 +4,7 @@ pub mod Given
 pub mod Steps
 pub mod Inputs
 pub mod Runs
+pub mod CallLines
+pub mod CallMoves
+pub mod CallEvents
+pub mod CallHistories

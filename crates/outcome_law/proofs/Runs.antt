@@ -1,41 +1,29 @@
 -- So it is of each input, and of all of a client's.
-use Rattle.std.proofs.Common.{◌≡◌, ◌≢◌, ◌<◌, ◌≤◌, ◌⊎◌, ℕ, zero, suc, ◌+◌, ◌==◌, nat_lt, Bool, true, false, List, [], ◌∷◌, Option, Some, None, Result, Ok, Err, length, find, is_some, refl, sym, ap, subst, ◌∙◌, arith, inl, inr, if◌then◌else◌}
+use Rattle.std.proofs.Common.{◌≡◌, ◌≢◌, ℕ, ◌==◌, Bool, true, false, List, [], ◌∷◌, Option, Some, None, Ok, Err, length, find, is_some, refl, sym, ap, subst, ◌∙◌, inl, inr, if◌then◌else◌}
 use Rattle.std.specs.Prelude.{option_map, ◌&&◌}
 use Rattle.std.specs.Option.{option_or}
-use Rattle.std.proofs.lemmas.Bool.{cases_Bool, cases_eq, eqb-true, eq-eqb, ne_eqb}
-use Rattle.std.proofs.lemmas.Bool.Decides.{nat_tests}
+use Rattle.std.proofs.lemmas.Bool.{eqb-true}
 use Rattle.osd_lists.specs.declared.node.Node.{Node}
 use Rattle.osd_lists.specs.declared.node.Node.TheVariants.{Server as FromServer, Drive as FromDrive, Client as FromClient}
-use Rattle.layout_ops.specs.declared.args.Args.{Args}
-use Rattle.layout_ops.specs.declared.args.Args.TheVariants as args
-use Rattle.layout_ops.specs.declared.statuses.TheConstants.{NFS4_OK, NFS4ERR_NOENT, NFS4ERR_BADLAYOUT, NFS4ERR_LAYOUTTRYLATER, NFS4ERR_LAYOUTUNAVAILABLE, NFS4ERR_RECALLCONFLICT}
-use Rattle.client_rules.specs.declared.limits.TheConstants.{NO_COMPONENT, MAX_TRIES}
-use Rattle.client_rules.specs.State.{Client, Call, CallOp, Write, Read, CallErr, Busy, BadRange, SlotSpent, Held, Due, Awaited, TimedOut, Need, First, Get, Commit, Report, Close, Phase, Starts, Needs, Waits, Reads, Probes, Gathers, Scatters, Outcome, WriteOk, NoFile, HeldBy, Fencing, Degraded, Spent, Status, Silent, BadLayout, Why, Turn, Goes, Ends, Forgets, Moved, Done, Request, Answer, Recall, Reply, IoErr}
+use Rattle.client_rules.specs.State.{Client, Call, CallOp, Write, Read, CallErr, Busy, BadRange, SlotSpent, Held, Awaited, TimedOut, Need, First, Get, Commit, Report, Close, Phase, Starts, Needs, Waits, Reads, Probes, Gathers, Scatters, Outcome, WriteOk, Done, Request, Answer, Recall, Reply}
 use Rattle.client_rules.specs.Calls.{file_of, span_of, is_write}
 use Rattle.client_rules.specs.Commands.{of_component}
-use Rattle.client_rules.specs.Grants.{covers, held_of, put_held}
-use Rattle.client_rules.specs.Requests.{grant_in, args_of}
-use Rattle.client_rules.specs.Results.{status_of}
-use Rattle.client_rules.specs.Layouts.{taken}
+use Rattle.client_rules.specs.Grants.{held_of}
+use Rattle.client_rules.specs.Requests.{grant_in}
 use Rattle.client_rules.specs.Io.{awaited_in}
-use Rattle.client_rules.specs.Turns.{turned, needing}
-use Rattle.client_rules.specs.Replies.{answers, replied, timed_out}
-use Rattle.client_rules.specs.Answers.{busy, unavailable, refused_with, not_granted, committed, not_committed, on_commit, is_loss_taken, on_report}
-use Rattle.client_rules.specs.Going.{quiet, phased, over, with_held, by_turn, moved, begins, starts_with, starts_under, starts_at, starts_call, begun, held_after, requests, asks_under, returns, progressed}
-use Rattle.client_rules.specs.Messages.{Message, Replies, Answers, Recalls, Step, still, finished, answered_get, on_get, commit_under, on_need, on_phase, on_call, no_match, obeys, recalled, reply_under, reply_call, Taken, TakesAnswer, TakesReply, TakesRecall, answer_taken, is_awaited, reply_taken, awaited_of, takes, by_taken, hears}
+use Rattle.client_rules.specs.Replies.{answers}
+use Rattle.client_rules.specs.Going.{quiet}
+use Rattle.client_rules.specs.Messages.{Message, Replies, Answers, Recalls, Step, still, finished, on_phase, on_call, no_match, obeys, recalled, reply_under, reply_call, TakesAnswer, TakesRecall, answer_taken, is_awaited, reply_taken, awaited_of, takes, by_taken, hears}
 use Rattle.client_rules.specs.Steps.{timeout_under, timeout_call, times_out, is_bad_range, is_spent, writes_nothing, starts, calls, all_due, leaves, new_client}
 use Rattle.client_rules.specs.History.{Input, Calls, Hears, TimesOut, Leaves, Resends, unless_refused, step, state_after}
 use Rattle.client_rules.proofs.Apart.{IsIn}
 use Rattle.client_rules.proofs.ReadMoves.{found_in}
-use Rattle.client_rules.proofs.ReadSteps.{held_file, put_at}
-use Rattle.move_law.proofs.Turns.{each_progress}
 use Rattle.outcome_law.specs.Met as met
 use Rattle.outcome_law.specs.Met.{Met, Answered, Replied, since, with_answer, with_taken, with_timeout, with_silence, met_after, met_by, busy_status, busy_args, busy_in, last_busy, timed_in, given_args, given_in, grant_under, why_in, status_failure, failure_args, failure_at, cut_short, failure_in, lost_under, first_refusal, first_beyond, as_lost}
-use Rattle.outcome_law.specs.Caused.{failure_of, IsWhole, call_in, client_by, call_met, IsCaused, OutcomesAreCaused}
-use Rattle.outcome_law.proofs.Trace.{Works, whole_failed, IsReturn, IsPlain, return_plain, return_gives, return_fails, return_quiet, busy_same, answered_works, answered_decided, EndsSo, uncut, last_says, lost_write, Decided, decided_ends}
-use Rattle.outcome_law.proofs.Working.{ReadsOn, WritesOn, GoodNeed, GoodPhase, GoodTurn, GoodMoved, either_turn, turned_good, write_ends, accounted_good, begins_good, replied_good, timed_good}
-use Rattle.outcome_law.proofs.Given.{IsGet, get_busy, get_gives, get_fails, NotGiven, Says, Again, not_given, taken_covers, again_works, again_ends, again_count, last_try, first_tries}
-use Rattle.outcome_law.proofs.Steps.{ReturnsOnly, Started, Asking, Returning, HasGrant, NeedsGood, WaitsGood, IsCommit, IsFor, AsksFor, Working, PhaseTraced, CallTraced, IsTraced, Fresh, DoneCall, Told, GoodDone, GoodStep, either_done, over_good, by_turn_good, moved_good, finished_good}
+use Rattle.outcome_law.specs.Caused.{IsWhole, call_in, client_by, call_met, IsCaused, OutcomesAreCaused}
+use Rattle.outcome_law.proofs.Trace.{Works, IsReturn, IsPlain, return_plain, return_gives, return_quiet, busy_same, answered_works, answered_decided, uncut, last_says, lost_write}
+use Rattle.outcome_law.proofs.Working.{ReadsOn, WritesOn, GoodNeed, GoodPhase, replied_good, timed_good}
+use Rattle.outcome_law.proofs.Steps.{ReturnsOnly, Started, NeedsGood, Working, PhaseTraced, CallTraced, IsTraced, Fresh, DoneCall, Told, GoodDone, GoodStep, moved_good, finished_good}
 use Rattle.outcome_law.proofs.Inputs.{on_need_good}
 
 -- ---- more was met, and the call stays as it is
@@ -256,7 +244,8 @@ module _ (c : Client) (ms : List Met) (x : IsTraced c ms) where
       → GoodOn (with_taken c (if b then Some (TakesAnswer a) else None) ms)
       (by_taken c (if b then Some (TakesAnswer a) else None))
   by_awaited a r out true =
-      subst (λ (o : Option Request). GoodOn (with_answer o a ms) (finished (on_call (quiet (record c { outstanding = None })) c.call a)))
+      subst (λ (o : Option Request).
+      GoodOn (with_answer o a ms) (finished (on_call (quiet (record c { outstanding = None })) c.call a)))
       (sym out) (answered_good r out a)
   by_awaited a r out false = rests
 
@@ -296,7 +285,8 @@ none_met : (op : CallOp) → Works op [] []
 unfolding last_busy first_refusal first_beyond timed_in
 none_met op = record { busy = refl; refusal = refl; beyond = refl; silent = refl }
 
-no_bytes : (op : CallOp) → (is_write op && ((span_of op).length == 0)) ≡ true → (is_write op ≡ true) × IsWhole op (WriteOk 0)
+no_bytes : (op : CallOp) → (is_write op && ((span_of op).length == 0)) ≡ true
+    → (is_write op ≡ true) × IsWhole op (WriteOk 0)
 no_bytes (Write file offset bytes) e = (refl, sym (eqb-true (length bytes) 0 e))
 no_bytes (Read file offset count) e = absurd (cc e)
 
@@ -310,11 +300,15 @@ module _ (c : Client) (op : CallOp) where
       let w = no_bytes op e in
       record {
         client = subst (λ (o : Option Call). CallTraced c.held c.outstanding o []) (sym free) r;
-        outcome = (op, refl, record {
-          cause = last_says (grant_under c.held op []) op [] [] (none_met op)
-              (lost_write (grant_under c.held op []) op [] w.0);
-          whole = w.1;
-        });
+        outcome = (
+          op,
+          refl,
+          record {
+            cause = last_says (grant_under c.held op []) op [] [] (none_met op)
+                (lost_write (grant_under c.held op []) op [] w.0);
+            whole = w.1;
+          },
+        );
       }
   starts_good r free false e =
       finished_good c.held (Some op) [] _ (record {
@@ -345,7 +339,11 @@ module _ (c : Client) (op : CallOp) where
 
 -- ---- any step
 
-step_good : (c : Client) (ms : List Met) (i : Input) → IsTraced c ms
+-- a new client has no call
+pub traced_new : (number sequence : ℕ) (ms : List Met) → IsTraced (new_client number sequence) ms
+traced_new number sequence ms = tt
+
+pub step_good : (c : Client) (ms : List Met) (i : Input) → IsTraced c ms
     → GoodStep c.held (call_in c i) (met_after c ms i) (step c i)
 unfolding times_out leaves
 step_good c ms (Calls op) x = calls_good c op ms (since_traced c.held c.outstanding c.call ms x)

@@ -1,40 +1,19 @@
 -- Whatever comes to a client, its call goes on as what it met allows, or ends as that tells.
-use Rattle.std.proofs.Common.{◌≡◌, ◌≢◌, ◌<◌, ◌≤◌, ◌⊎◌, ℕ, zero, suc, ◌+◌, ◌==◌, nat_lt, Bool, true, false, List, [], ◌∷◌, Option, Some, None, Result, Ok, Err, length, find, is_some, refl, sym, ap, subst, ◌∙◌, arith, inl, inr, if◌then◌else◌}
-use Rattle.std.specs.Prelude.{option_map}
-use Rattle.std.specs.Option.{option_or}
-use Rattle.std.proofs.lemmas.Bool.{cases_Bool, cases_eq, eqb-true, eq-eqb, ne_eqb}
-use Rattle.std.proofs.lemmas.Bool.Decides.{nat_tests}
-use Rattle.osd_lists.specs.declared.node.Node.{Node}
-use Rattle.osd_lists.specs.declared.node.Node.TheVariants.{Server as FromServer, Drive as FromDrive, Client as FromClient}
+use Rattle.std.proofs.Common.{◌≡◌, ◌<◌, ◌⊎◌, ℕ, Bool, true, false, List, [], Option, Some, None, length, refl, sym, ap, subst, ◌∙◌, arith, inl, inr, if◌then◌else◌}
 use Rattle.layout_ops.specs.declared.args.Args.{Args}
 use Rattle.layout_ops.specs.declared.args.Args.TheVariants as args
-use Rattle.layout_ops.specs.declared.statuses.TheConstants.{NFS4_OK, NFS4ERR_NOENT, NFS4ERR_BADLAYOUT, NFS4ERR_LAYOUTTRYLATER, NFS4ERR_LAYOUTUNAVAILABLE, NFS4ERR_RECALLCONFLICT}
-use Rattle.client_rules.specs.declared.limits.TheConstants.{NO_COMPONENT}
-use Rattle.client_rules.specs.State.{Client, Call, CallOp, CallErr, Busy, BadRange, SlotSpent, Held, Due, Awaited, TimedOut, Need, First, Get, Commit, Report, Close, Phase, Starts, Needs, Waits, Reads, Probes, Gathers, Scatters, Outcome, WriteOk, NoFile, HeldBy, Fencing, Degraded, Spent, Status, Silent, BadLayout, Why, Turn, Goes, Ends, Forgets, Moved, Done, Request, Answer, Recall, Reply, IoErr}
-use Rattle.client_rules.specs.Calls.{file_of, span_of, is_write}
-use Rattle.client_rules.specs.Commands.{of_component}
+use Rattle.client_rules.specs.State.{Client, Call, CallOp, Held, Due, Need, First, Get, Commit, Report, Close, Phase, Starts, Needs, Waits, Reads, Probes, Gathers, Scatters, Outcome, Turn, Goes, Ends, Forgets, Moved, Done, Request}
+use Rattle.client_rules.specs.Calls.{file_of}
 use Rattle.client_rules.specs.Grants.{covers, held_of, put_held}
-use Rattle.client_rules.specs.Requests.{grant_in, args_of}
-use Rattle.client_rules.specs.Results.{status_of}
-use Rattle.client_rules.specs.Layouts.{taken}
-use Rattle.client_rules.specs.Io.{awaited_in}
-use Rattle.client_rules.specs.Turns.{turned}
-use Rattle.client_rules.specs.Replies.{answers, replied, timed_out}
-use Rattle.client_rules.specs.Answers.{busy, unavailable, refused_with, not_granted, not_committed, on_commit, is_loss_taken, on_report}
-use Rattle.client_rules.specs.Going.{quiet, phased, over, with_held, by_turn, moved, begins, starts_with, starts_under, starts_at, starts_call, begun, held_after, requests, asks_under, returns, progressed}
-use Rattle.client_rules.specs.Messages.{Message, Replies, Answers, Recalls, Step, still, finished, answered_get, commit_under, on_need, on_phase, on_call, no_match, obeys, recalled, reply_under, reply_call, Taken, TakesAnswer, TakesReply, TakesRecall, answer_taken, is_awaited, reply_taken, awaited_of, takes, by_taken, hears}
-use Rattle.client_rules.specs.Steps.{timeout_under, timeout_call, times_out, is_bad_range, is_spent, writes_nothing, starts, calls, all_due, leaves, new_client}
-use Rattle.client_rules.specs.History.{Input, Calls, Hears, TimesOut, Leaves, Resends, unless_refused, step, state_after}
-use Rattle.client_rules.proofs.Apart.{IsIn}
-use Rattle.client_rules.proofs.ReadMoves.{found_in}
+use Rattle.client_rules.specs.Requests.{args_of}
+use Rattle.client_rules.specs.Going.{over, with_held, by_turn, moved, begins, starts_with, starts_under, starts_at, starts_call, begun, held_after, requests, asks_under, returns, progressed}
+use Rattle.client_rules.specs.Messages.{Step, finished}
 use Rattle.client_rules.proofs.ReadSteps.{held_file, put_at}
 use Rattle.move_law.proofs.Turns.{each_progress}
-use Rattle.outcome_law.specs.Met as met
-use Rattle.outcome_law.specs.Met.{Met, Answered, Replied, since, with_answer, with_taken, with_timeout, with_silence, met_after, met_by, busy_status, busy_args, busy_in, last_busy, timed_in, given_args, given_in, grant_under, why_in, status_failure, failure_args, failure_at, cut_short, failure_in, lost_under}
-use Rattle.outcome_law.specs.Caused.{failure_of, IsWhole, call_in, IsCaused, OutcomesAreCaused}
-use Rattle.outcome_law.proofs.Trace.{Works, IsReturn, IsPlain, return_plain, return_gives, return_fails, return_quiet, busy_same, answered_works, answered_decided, EndsSo, uncut, last_says, lost_write, Decided, decided_ends}
-use Rattle.outcome_law.proofs.Working.{ReadsOn, WritesOn, GoodNeed, GoodPhase, GoodTurn, GoodMoved, either_turn, turned_good, write_ends, accounted_good, begins_good, replied_good, timed_good}
-use Rattle.outcome_law.proofs.Given.{IsGet, get_busy, get_gives, get_fails, NotGiven, Says, Again, not_given, taken_covers, again_works, again_ends, again_count, last_try, first_tries}
+use Rattle.outcome_law.specs.Met.{Met, busy_in, grant_under, failure_at}
+use Rattle.outcome_law.proofs.Trace.{Works, IsReturn, EndsSo}
+use Rattle.outcome_law.proofs.Working.{GoodNeed, GoodPhase, GoodTurn, GoodMoved, begins_good}
+use Rattle.outcome_law.proofs.Given.{IsGet}
 
 -- ---- a client between steps
 
@@ -219,13 +198,16 @@ module _ (before : List Held) (mine : Option CallOp) (ms : List Met) where
   starts_under_good d op (Some h) e is r s under g =
       either_done (covers h op) _ _
       (λ yes. moved_good d op h (begins h op) is (under ∙ e) e r (begins_good h op ms s.works s.says) g.outcome)
-      (λ no_. starts_with_good d op First _ refl is ((h, e), record {
-        works = s.works;
-        count = elim s.next [
-          | inl none ↦ none
-          | inr k ↦ absurd (cc (sym k.2 ∙ ap (λ (x : Held). covers x op) (same_held k.0 h (sym k.1 ∙ e)) ∙ no_))
-        ];
-      }) g)
+      (λ no_. starts_with_good d op First _ refl is (
+        (h, e),
+        record {
+          works = s.works;
+          count = elim s.next [
+            | inl none ↦ none
+            | inr k ↦ absurd (cc (sym k.2 ∙ ap (λ (x : Held). covers x op) (same_held k.0 h (sym k.1 ∙ e)) ∙ no_))
+          ];
+        },
+      ) g)
 
   starts_at_good : (d : Done) (op : CallOp) (p : Phase) → mine ≡ Some op
       → PhaseTraced d.client.held d.client.outstanding op p ms → Fresh d.client.held op p → GoodDone d

@@ -1,5 +1,5 @@
 -- What a further answer, reply or timeout makes of what a call has met.
-use Rattle.std.proofs.Common.{◌≡◌, ◌≢◌, ◌<◌, ◌⊎◌, ℕ, zero, suc, ◌+◌, ◌==◌, nat_lt, Bool, true, false, List, [], ◌∷◌, ◌++◌, Option, Some, None, length, map, filter, refl, sym, ap, subst, ◌∙◌, arith, inl, inr, if◌then◌else◌}
+use Rattle.std.proofs.Common.{◌≡◌, ℕ, ◌+◌, ◌==◌, nat_lt, Bool, true, false, List, [], ◌∷◌, ◌++◌, Option, Some, None, length, map, refl, sym, ap, subst, ◌∙◌, inl, inr, if◌then◌else◌}
 use Rattle.std.specs.Prelude.{is_some}
 use Rattle.std.specs.Option.{option_or}
 use Rattle.std.proofs.lemmas.Bool.{cases_Bool, eqb-true}
@@ -7,19 +7,17 @@ use Rattle.stripe_plan.specs.Lost.{unwritable}
 use Rattle.stripe_plan.specs.Touched.{stripes}
 use Rattle.layout_ops.specs.declared.args.Args.{Args}
 use Rattle.layout_ops.specs.declared.args.Args.TheVariants as args
-use Rattle.layout_ops.specs.declared.statuses.TheConstants.{NFS4_OK, NFS4ERR_LAYOUTTRYLATER, NFS4ERR_RECALLCONFLICT}
 use Rattle.client_rules.specs.declared.limits.TheConstants.{PERFORMED}
 use Rattle.client_rules.specs.State.{CallOp, Held, Awaited, TimedOut, Outcome, Refused, Silent, WriteOk, ReadOk, Request, Answer, Reply}
 use Rattle.client_rules.specs.Calls.{span_of, is_write}
-use Rattle.client_rules.specs.Commands.{is_of, of_component, before}
+use Rattle.client_rules.specs.Commands.{of_component, before}
 use Rattle.client_rules.specs.Grants.{missing_of}
 use Rattle.client_rules.specs.Io.{outs, first_of, timed_with}
-use Rattle.client_rules.specs.Results.{status_of}
 use Rattle.client_rules.specs.Answers.{is_loss_taken}
 use Rattle.client_rules.specs.Writes.{is_too_short}
 use Rattle.client_rules.specs.Replies.{timed_after}
 use Rattle.outcome_law.specs.Met as met
-use Rattle.outcome_law.specs.Met.{Met, Answered, Replied, busy_args, busy_status, busy_in, last_busy, last_busy_at, refusal_at, first_refusal, rising_with, timed_in, out_in, is_beyond, beyond_at, first_beyond, lost_under, given_args, silent_first, failure_args, failure_at, cut_short, failure_in}
+use Rattle.outcome_law.specs.Met.{Met, Answered, Replied, busy_args, busy_at, busy_status, busy_in, last_busy, last_busy_at, refusal_at, first_refusal, rising_with, timed_in, out_in, is_beyond, beyond_at, first_beyond, lost_under, given_args, silent_first, failure_args, failure_at, cut_short, failure_in}
 use Rattle.outcome_law.specs.Caused.{failure_of, IsWhole}
 
 -- ---- options
@@ -57,7 +55,8 @@ filtered k (a ∷ xs) = elim (cases_Bool (a.ask.component == k)) [
   | inr n ↦ rw n (filtered k xs)
 ]
 
-first_is : (k : ℕ) (a : Awaited) (xs : List Awaited) → a.ask.component ≡ k → AreOf k xs → (first_of a xs).ask.component ≡ k
+first_is : (k : ℕ) (a : Awaited) (xs : List Awaited) → a.ask.component ≡ k → AreOf k xs
+    → (first_of a xs).ask.component ≡ k
 unfolding first_of
 first_is k a [] is all = is
 first_is k a (b ∷ bs) is all = elim (cases_Bool (before b.ask a.ask)) [
@@ -128,11 +127,15 @@ pub busy_same : (r : Request) (a : Answer) (ms : List Met) → IsPlain r a → b
 unfolding busy_in
 busy_same r a ms is = rw is refl
 
-pub last_same : (r : Request) (a : Answer) (ms : List Met) → IsPlain r a → last_busy (Answered r a ∷ ms) ≡ last_busy ms
+-- what isn't that the server is busy
+last_other : (m : Met) (ms : List Met) → busy_at m ≡ None → last_busy (m ∷ ms) ≡ last_busy ms
 unfolding last_busy
-last_same r a ms is =
-    ap (option_or (last_busy ms)) (both_none (length (busy_in ms) + 1 == 3) (busy_args r.args a) None is refl)
+last_other m ms is =
+    ap (option_or (last_busy ms)) (both_none (length (busy_in ms) + 1 == 3) (busy_at m) None is refl)
     ∙ or_none (last_busy ms)
+
+pub last_same : (r : Request) (a : Answer) (ms : List Met) → IsPlain r a → last_busy (Answered r a ∷ ms) ≡ last_busy ms
+last_same r a ms is = last_other (Answered r a) ms is
 
 pub refusal_same : (r : Request) (a : Answer) (ms : List Met) → first_refusal (Answered r a ∷ ms) ≡ first_refusal ms
 unfolding first_refusal
@@ -155,17 +158,16 @@ answered_works op r a ms timed is w = record {
 
 pub performed_works : (op : CallOp) (a : Awaited) (r : Reply) (ms : List Met) (timed : List TimedOut)
     → (r.verdict == PERFORMED) ≡ true → Works op ms timed → Works op (Replied a r ∷ ms) timed
-unfolding timed_in last_busy first_refusal first_beyond
+unfolding timed_in first_refusal first_beyond
 performed_works op a r ms timed is w = record {
-  busy = ap (option_or (last_busy ms)) (both_none (length (busy_in ms) + 1 == 3) None None refl refl) ∙ or_none (last_busy ms) ∙ w.busy;
+  busy = last_other (Replied a r) ms refl ∙ w.busy;
   refusal = rw is (or_none (first_refusal ms) ∙ w.refusal);
   beyond = or_none (first_beyond op ms) ∙ w.beyond;
   silent = w.silent;
 }
 
 busy_timed : (h : Held) (k : ℕ) (ms : List Met) → last_busy (met.TimedOut h k ∷ ms) ≡ last_busy ms
-unfolding last_busy
-busy_timed h k ms = ap (option_or (last_busy ms)) (both_none (length (busy_in ms) + 1 == 3) None None refl refl) ∙ or_none (last_busy ms)
+busy_timed h k ms = last_other (met.TimedOut h k) ms refl
 
 refusal_timed : (h : Held) (k : ℕ) (ms : List Met) → first_refusal (met.TimedOut h k ∷ ms) ≡ first_refusal ms
 unfolding first_refusal
@@ -209,7 +211,8 @@ pub record EndsSo (g : Option Held) (op : CallOp) (ms : List Met) (o : Outcome) 
 pub uncut : (g : Option Held) (op : CallOp) (ms : List Met) (timed : List TimedOut) → Works op ms timed
     → lost_under op ms g ≡ None → cut_short g op ms ≡ None
 uncut g op ms timed w none =
-    ap (λ (o : Option Outcome). option_or o (option_or (first_refusal ms) (option_or (first_beyond op ms) (lost_under op ms g)))) w.busy
+    ap (λ (o : Option Outcome).
+    option_or o (option_or (first_refusal ms) (option_or (first_beyond op ms) (lost_under op ms g)))) w.busy
     ∙ ap (λ (o : Option Outcome). option_or o (option_or (first_beyond op ms) (lost_under op ms g))) w.refusal
     ∙ ap (λ (o : Option Outcome). option_or o (lost_under op ms g)) w.beyond ∙ none
 
@@ -262,9 +265,9 @@ answered_decided op r a ms o is d = record {
 pub refused_decided : (op : CallOp) (a : Awaited) (r : Reply) (ms : List Met) (timed : List TimedOut)
     → (r.verdict == PERFORMED) ≡ false → Works op ms timed
     → Decided op (Replied a r ∷ ms) (Refused a.drive r.verdict r.detail)
-unfolding last_busy first_refusal first_beyond
+unfolding first_refusal first_beyond
 refused_decided op a r ms timed is w = record {
-  busy = ap (option_or (last_busy ms)) (both_none (length (busy_in ms) + 1 == 3) None None refl refl) ∙ or_none (last_busy ms) ∙ w.busy;
+  busy = last_other (Replied a r) ms refl ∙ w.busy;
   by = rw (is, w.refusal) refl;
   fails = refl;
 }

@@ -1,28 +1,21 @@
 -- What a call does with the drives goes on, or ends as what it met tells.
-use Rattle.std.proofs.Common.{◌≡◌, ◌≢◌, ◌<◌, ◌⊎◌, ℕ, zero, suc, ◌+◌, ◌/◌, ◌==◌, nat_lt, Bool, true, false, List, [], ◌∷◌, ◌++◌, Option, Some, None, length, map, filter, refl, sym, ap, subst, ◌∙◌, arith, inl, inr, if◌then◌else◌}
-use Rattle.std.specs.Option.{option_or}
-use Rattle.std.proofs.lemmas.Bool.{cases_Bool}
-use Rattle.data_map.specs.Striping.{replicas, group_width}
-use Rattle.stripe_plan.specs.Touched.{stripes}
-use Rattle.stripe_plan.specs.Lost.{positions_out, unreadable}
-use Rattle.layout_ops.specs.declared.statuses.TheConstants.{NFS4_OK, NFS4ERR_BADLAYOUT}
+use Rattle.std.proofs.Common.{◌≡◌, ℕ, ◌/◌, ◌==◌, Bool, true, false, List, [], ◌∷◌, Option, Some, None, length, refl, ap, ◌∙◌, if◌then◌else◌}
+use Rattle.data_map.specs.Striping.{replicas}
 use Rattle.client_rules.specs.declared.limits.TheConstants.{PERFORMED, OTHER_TAG}
-use Rattle.client_rules.specs.State.{CallOp, Write, Read, Held, Listed, Awaited, TimedOut, Io, Need, First, Get, Commit, Report, Close, Phase, Starts, Needs, Waits, Reads, Probes, Gathers, Scatters, Outcome, WriteOk, ReadOk, Lost, Silent, Turn, Goes, Ends, Forgets, Moved, Reply, Span, Ask, Column, Store, IoErr}
+use Rattle.client_rules.specs.State.{CallOp, Write, Read, Held, Awaited, TimedOut, Io, Need, First, Get, Commit, Report, Close, Phase, Starts, Needs, Waits, Reads, Probes, Gathers, Scatters, Outcome, WriteOk, ReadOk, Lost, Silent, Turn, Goes, Ends, Forgets, Moved, Reply, Column, Store}
 use Rattle.client_rules.specs.Calls.{span_of, is_write, bytes_of}
-use Rattle.client_rules.specs.Commands.{of_component, read_commands, write_commands, counted, others, not_of}
-use Rattle.client_rules.specs.Grants.{clipped, missing_of}
-use Rattle.client_rules.specs.Io.{outs, got_of, had, had_positions, awaited_in}
-use Rattle.client_rules.specs.Reads.{reads_on, reads_due, reads_unless, reads, first_present, probes_on, probes_due, probes_at, probes_by, probes, is_probe_lost}
-use Rattle.client_rules.specs.Requests.{report_of}
-use Rattle.client_rules.specs.Turns.{turned, ended, closing}
-use Rattle.client_rules.specs.Writes.{accounted, is_past_size, written, scatters_on, scatters, scatters_next, without_component, gathers_on, gathers, is_too_short, next_to, without_next, firsts, laters}
-use Rattle.client_rules.specs.Replies.{refusal, refused_report, refused, performed, replied, timed_after, gather_timed, scatter_timed, timed_out}
+use Rattle.client_rules.specs.Commands.{of_component, counted}
+use Rattle.client_rules.specs.Grants.{clipped}
+use Rattle.client_rules.specs.Io.{outs, awaited_in}
+use Rattle.client_rules.specs.Reads.{reads_on, reads_unless, reads, probes_on, probes_by, probes, is_probe_lost}
+use Rattle.client_rules.specs.Turns.{turned}
+use Rattle.client_rules.specs.Writes.{accounted, is_past_size, written, scatters_on, scatters, scatters_next, gathers_on, gathers, is_too_short}
+use Rattle.client_rules.specs.Replies.{refusal, refused, performed, replied, timed_after, gather_timed, scatter_timed, timed_out}
 use Rattle.client_rules.specs.Going.{begins}
 use Rattle.client_rules.proofs.Apart.{IsIn}
 use Rattle.outcome_law.specs.Met as met
 use Rattle.outcome_law.specs.Met.{Met, Answered, Replied, timed_in, out_in, probe_lost, range_lost, as_lost, lost_under, beyond_at, rising_with, failure_at}
-use Rattle.outcome_law.specs.Caused.{failure_of, IsWhole}
-use Rattle.outcome_law.proofs.Trace.{comps, timed_more, outs_are, Works, performed_works, timed_works, read_beyond, write_beyond, EndsSo, uncut, last_says, lost_write, Decided, decided_ends, refused_decided, timed_decided}
+use Rattle.outcome_law.proofs.Trace.{comps, timed_more, outs_are, Works, performed_works, timed_works, read_beyond, write_beyond, EndsSo, last_says, lost_write, Decided, decided_ends, refused_decided, timed_decided}
 
 -- ---- a phase under a grant
 
@@ -120,7 +113,8 @@ reads_on_good : (h : Held) (op : CallOp) (got : List Column) (timed : List Timed
     (ms : List Met) → ReadsOn h op ms timed false → failure_at op ms ≡ None
     → GoodMoved h op (reads_on h (clipped h.size (span_of op)) got timed sent awaited) ms
 unfolding reads_on
-reads_on_good h op got timed sent [] ms r none = record { file = refl; turn = ends _ _ _ _ _ (read_ends h op ms timed false _ r none) }
+reads_on_good h op got timed sent [] ms r none =
+    record { file = refl; turn = ends _ _ _ _ _ (read_ends h op ms timed false _ r none) }
 reads_on_good h op got timed sent (a ∷ xs) ms r none =
     record { file = refl; turn = goes _ _ _ _ _ (counted_reads h op ms timed false sent r) }
 
@@ -147,7 +141,8 @@ probes_on_good : (h : Held) (op : CallOp) (got : List Column) (timed : List Time
     (ms : List Met) → ReadsOn h op ms timed true → failure_at op ms ≡ None
     → GoodMoved h op (probes_on h got timed sent awaited) ms
 unfolding probes_on
-probes_on_good h op got timed sent [] ms r none = record { file = refl; turn = ends _ _ _ _ _ (read_ends h op ms timed true _ r none) }
+probes_on_good h op got timed sent [] ms r none =
+    record { file = refl; turn = ends _ _ _ _ _ (read_ends h op ms timed true _ r none) }
 probes_on_good h op got timed sent (a ∷ xs) ms r none =
     record { file = refl; turn = goes _ _ _ _ _ (counted_reads h op ms timed true sent r) }
 

@@ -1,8 +1,7 @@
 -- What a call meets: the answers and replies that it takes, and the timeouts of what it awaits. The newest stands first.
-use Rattle.std.specs.Prelude.{ℕ, Bool, List, [], ◌∷◌, ◌++◌, Option, Some, None, ◌+◌, ◌/◌, ◌==◌, ◌&&◌, nat_lt, length, is_some, if◌then◌else◌}
+use Rattle.std.specs.Prelude.{ℕ, Bool, List, [], ◌∷◌, ◌++◌, Option, Some, None, ◌+◌, ◌/◌, ◌==◌, nat_lt, length, is_some, if◌then◌else◌}
 use Rattle.std.specs.List.{filter_map, range_with_len}
 use Rattle.std.specs.Option.{option_or}
-use Rattle.osd_lists.specs.declared.node.Node.{Node}
 use Rattle.data_map.specs.Striping.{replicas, positions, group_width}
 use Rattle.stripe_plan.specs.Touched.{stripes}
 use Rattle.stripe_plan.specs.Lost.{positions_out, unreadable, unwritable}
@@ -10,7 +9,7 @@ use Rattle.layout_ops.specs.declared.args.Args.{Args}
 use Rattle.layout_ops.specs.declared.args.Args.TheVariants as args
 use Rattle.layout_ops.specs.declared.statuses.TheConstants.{NFS4_OK, NFS4ERR_NOENT, NFS4ERR_LAYOUTTRYLATER, NFS4ERR_LAYOUTUNAVAILABLE, NFS4ERR_RECALLCONFLICT}
 use Rattle.client_rules.specs.declared.limits.TheConstants.{PERFORMED, MAX_TRIES}
-use Rattle.client_rules.specs.State.{Client, Call, CallOp, Held, Listed, Awaited, Outcome, NoFile, HeldBy, Fencing, Status, Refused, Silent, Lost, BadLayout, Why, Request, Answer, Reply, Span}
+use Rattle.client_rules.specs.State.{Client, Call, CallOp, Held, Awaited, Outcome, NoFile, HeldBy, Fencing, Status, Refused, Silent, Lost, BadLayout, Why, Request, Answer, Reply, Span}
 use Rattle.client_rules.specs.Calls.{file_of, span_of, is_write}
 use Rattle.client_rules.specs.Grants.{clipped, held_of, missing_of}
 use Rattle.client_rules.specs.Commands.{of_component}
@@ -18,7 +17,7 @@ use Rattle.client_rules.specs.Reads.{first_present, is_probe_lost}
 use Rattle.client_rules.specs.Results.{status_of}
 use Rattle.client_rules.specs.Layouts.{taken}
 use Rattle.client_rules.specs.Answers.{unavailable, is_loss_taken}
-use Rattle.client_rules.specs.Messages.{Message, Taken, TakesAnswer, TakesReply, TakesRecall, awaited_of, takes}
+use Rattle.client_rules.specs.Messages.{Taken, TakesAnswer, TakesReply, TakesRecall, awaited_of, takes}
 use Rattle.client_rules.specs.History.{Input, Calls, Hears, TimesOut, Leaves, Resends, step}
 use Rattle.std.specs.Prelude.{Result, Ok, Err}
 
