@@ -1,0 +1,5 @@
+pub mod Met
+pub mod Caused
+pub mod ReadClients
+pub mod ReadCalls
+pub mod Ended
