@@ -25,6 +25,7 @@ use Rattle.exchange_law.specs.Lanes.{LanesAreOwn}
 use Rattle.exchange_law.specs.FairLanes.{LanesAreFair}
 use Rattle.ending_law.specs.Calls.{CallsEndSo}
 use Rattle.outcome_law.specs.Ended.{EndsAreCaused}
+use Rattle.outcome_law.specs.Read.{AnswersAreOfReplies}
 use Rattle.tag_law.specs.Tags.{EachTagIsItsFiles}
 use Rattle.history_claims.proofs.Texts.{events_make_text}
 use Rattle.history_claims.proofs.Cutting.{cuts_go_on}
@@ -34,10 +35,10 @@ pub histories_are_sound : HistoriesAreSafe → VerdictsAreAnswered → CommandsA
     → EachFileIsCreated
     → EachHolderIsOwn → UnforgedAreFenced → EachAnswerIsLive → EachGivenWasLive → GrantsAreOlder → GivenIsBarred
     → CommandsAreIssuedExactly → UnforgedAreIssuedExactly → LanesAreFair → LanesAreOwn → RefusalsWereJudged
-    → RefusalsWereAwaited → CountersStayLow → CallsEndSo → EndsAreCaused → EachTagIsItsFiles → WithinTheLimitAreFew
-    → HistoriesAreSound
+    → RefusalsWereAwaited → CountersStayLow → CallsEndSo → EndsAreCaused → AnswersAreOfReplies
+    → EachTagIsItsFiles → WithinTheLimitAreFew → HistoriesAreSound
 histories_are_sound safe answered issued listed fair ranges fronts apart spread created own fenced live given older barred exact
-    allowed lanes lanes_own judged awaited low ends caused tags few = record {
+    allowed lanes lanes_own judged awaited low ends caused read tags few = record {
       sound = λ h l. record {
         safe = safe h l;
         answered = λ w s. answered w h s;
@@ -64,6 +65,7 @@ histories_are_sound safe answered issued listed fair ranges fronts apart spread 
         room = λ before after is w m text few. low w before m text few;
         ends = ends h l;
         caused = caused h l;
+        read = read h l;
       };
       text = events_make_text;
       few = few;
