@@ -27,6 +27,7 @@ use Rattle.ending_law.specs.Calls.{CallsEndSo}
 use Rattle.cause_law.specs.Answers.{EachRequestIsAnswered}
 use Rattle.cause_law.specs.Changes.{EachGrantHasItsCauses}
 use Rattle.outcome_law.specs.Ended.{EndsAreCaused}
+use Rattle.outcome_law.specs.Read.{AnswersAreOfReplies}
 use Rattle.tag_law.specs.Tags.{EachTagIsItsFiles}
 use Rattle.history_claims.proofs.Texts.{events_make_text}
 use Rattle.history_claims.proofs.Cutting.{cuts_go_on}
@@ -36,10 +37,10 @@ pub histories_are_sound : HistoriesAreSafe → VerdictsAreAnswered → CommandsA
     → EachFileIsCreated
     → EachHolderIsOwn → UnforgedAreFenced → EachAnswerIsLive → EachGivenWasLive → GrantsAreOlder → GivenIsBarred
     → CommandsAreIssuedExactly → UnforgedAreIssuedExactly → LanesAreFair → LanesAreOwn → RefusalsWereJudged
-    → RefusalsWereAwaited → CountersStayLow → CallsEndSo → EndsAreCaused → EachTagIsItsFiles → EachRequestIsAnswered
-    → EachGrantHasItsCauses → WithinTheLimitAreFew → HistoriesAreSound
+    → RefusalsWereAwaited → CountersStayLow → CallsEndSo → EndsAreCaused → AnswersAreOfReplies
+    → EachTagIsItsFiles → EachRequestIsAnswered → EachGrantHasItsCauses → WithinTheLimitAreFew → HistoriesAreSound
 histories_are_sound safe answered issued listed fair ranges fronts apart spread created own fenced live given older barred exact
-    allowed lanes lanes_own judged awaited low ends outcomes tags caused changed few = record {
+    allowed lanes lanes_own judged awaited low ends outcomes read tags caused changed few = record {
       sound = λ h l. record {
         safe = safe h l;
         answered = λ w s. answered w h s;
@@ -68,6 +69,7 @@ histories_are_sound safe answered issued listed fair ranges fronts apart spread 
         causes = λ w s a. caused w h s a;
         changes = λ w s a. changed w h s a;
         caused = outcomes h l;
+        read = read h l;
       };
       text = events_make_text;
       few = few;

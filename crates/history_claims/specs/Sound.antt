@@ -30,6 +30,7 @@ use Rattle.ending_law.specs.Calls.{EndsAt}
 use Rattle.cause_law.specs.Answers.{RequestsAreAnswered}
 use Rattle.cause_law.specs.Changes.{GrantsHaveCauses}
 use Rattle.outcome_law.specs.Ended.{CausedAt}
+use Rattle.outcome_law.specs.Read.{AnswersAt}
 use Rattle.tag_law.specs.Tags.{HaveTagsAt}
 use Rattle.history_claims.specs.Texts.{EventsMakeText, CutsGoOn}
 
@@ -110,6 +111,9 @@ pub record IsSound (h : List Line) : Type 0 where
   -- a call ends as what it met says, read off the lines before: the answers and replies that its client took in it, and the
   -- timeouts of what it awaited
   pub caused : AtEachLine CausedAt h
+  -- an answered read took a reply to a READ that was performed, and for any file that agrees with what was read so in its call
+  -- the answer is the file's bytes
+  pub read : AtEachLine AnswersAt h
 
 -- Each lawful history is sound, whatever its events name. Where a text may have the events, it is one of a scenario's text;
 -- and where a world that stands for it is within the limit of kept bytes, it has few messages. A history that is cut at that

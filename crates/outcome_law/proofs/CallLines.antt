@@ -1,8 +1,8 @@
 -- What is read of a client's call is what its rules make of what comes to it in the lines.
 use Rattle.std.proofs.Common.{◌≡◌, ◌⊎◌, ℕ, ◌∷◌, [], List, Bool, true, false, Option, Some, None, Result, Ok, Err, ◌==◌, fold, slice_get, option_map, is_some, refl, sym, ap, subst, ◌∙◌, inl, inr, if◌then◌else◌}
-use Rattle.client_rules.specs.State.{CallOp, CallErr, Outcome}
+use Rattle.client_rules.specs.State.{Client, CallOp, CallErr, Outcome}
 use Rattle.client_rules.specs.Messages.{Message, Step}
-use Rattle.client_rules.specs.Steps.{calls}
+use Rattle.client_rules.specs.Steps.{new_client, calls}
 use Rattle.client_rules.specs.Envelopes.{message_in}
 use Rattle.client_rules.specs.History.{Input, Calls, TimesOut, Leaves, Resends, unless_refused, step}
 use Rattle.scenario_text.specs.declared.event.Event.{Event}
@@ -23,10 +23,17 @@ use Rattle.outcome_law.proofs.Runs.{step_good, traced_new}
 
 -- ---- one line
 
+-- a client that has done nothing
+abbrev pub IsNew : ClientAt → Type 0
+IsNew b = (k : ℕ) × (b.state ≡ new_client k 1)
+
+traced_at_first : (b : ClientAt) (ms : List Met) → IsNew b → IsTraced b.state ms
+traced_at_first b ms new = subst (λ (x : Client). IsTraced x ms) (sym new.1) (traced_new new.0 1 ms)
+
 -- what a line makes of a client to which this comes, or nothing
 abbrev pub Becomes : ClientAt → Option Input → Option ClientAt → Type 0
 Becomes a (Some i) o = o ≡ Some (went a i (step a.state i))
-Becomes a None o = (b : ClientAt) × (o ≡ Some b) × ((b.state ≡ a.state) ⊎ ((met : List Met) → IsTraced b.state met))
+Becomes a None o = (b : ClientAt) × (o ≡ Some b) × ((b.state ≡ a.state) ⊎ IsNew b)
 
 stays : (a : ClientAt) → Becomes a None (Some a)
 stays a = (a, refl, inl refl)
@@ -69,7 +76,7 @@ sent_it c a (Some s) = by_test (is_client c s.to)
     by_test true = hears_it a s a.stopped
     by_test false = stays a
 
-comes_it : (k c : ℕ) (a b : ClientAt) → ((met : List Met) → IsTraced b.state met)
+comes_it : (k c : ℕ) (a b : ClientAt) → IsNew b
     → Becomes a None (if k == c then Some b else Some a)
 comes_it k c a b new = by_test (k == c)
   where
@@ -86,7 +93,7 @@ stops_it k c a b f is same = by_test (k == c)
     by_test false = stays a
 
 event_becomes : (c : ℕ) (a : ClientAt) (e : Event) → Becomes a (event_input c a e) (client_after_event c (Some a) e)
-event_becomes c a (event.Client k) = comes_it k c a _ (λ met. traced_new k 1 met)
+event_becomes c a (event.Client k) = comes_it k c a _ (k, refl)
 event_becomes c a (event.Do k x) = only k c a (called (op_of x)) _ (calls_it a (op_of x) (calls a.state (op_of x)) refl)
 event_becomes c a (event.Call k x) = only k c a (called (op_of x)) _ (calls_it a (op_of x) (calls a.state (op_of x)) refl)
 event_becomes c a (event.Resend (sender.Client k)) = only k c a (goes Resends) (Some Resends) refl
@@ -95,7 +102,7 @@ event_becomes c a (event.Stop k) = stops_it k c a _ halted refl refl
 event_becomes c a (event.Resend sender.Server) = stays a
 event_becomes c a e = stays a
 
-line_becomes : (c : ℕ) (sent : List Sent) (a : ClientAt) (l : Line)
+pub line_becomes : (c : ℕ) (sent : List Sent) (a : ClientAt) (l : Line)
     → Becomes a (line_input c sent l a) (client_after_line c (record { sent = sent; client = Some a }) l)
 line_becomes c sent a (line.Event e) = event_becomes c a e
 line_becomes c sent a (line.Delivered number delivery) = sent_it c a (slice_get sent number)
@@ -105,8 +112,8 @@ line_becomes c sent a l = stays a
 -- ---- a client that isn't there
 
 -- it comes, and has met nothing, or stays away
-abbrev Arrives : Option ClientAt → Type 0
-Arrives o = (b : ClientAt) → o ≡ Some b → (met : List Met) → IsTraced b.state met
+abbrev pub Arrives : Option ClientAt → Type 0
+Arrives o = (b : ClientAt) → o ≡ Some b → IsNew b
 
 away : Arrives None
 away b e = absurd (cc e)
@@ -126,18 +133,18 @@ none_hears c (Some s) = by_test (is_client c s.to)
     by_test true = away
     by_test false = away
 
-none_comes : (k c : ℕ) (b : ClientAt) → ((met : List Met) → IsTraced b.state met) → Arrives (if k == c then Some b else None)
+none_comes : (k c : ℕ) (b : ClientAt) → IsNew b → Arrives (if k == c then Some b else None)
 none_comes k c b new = by_test (k == c)
   where
     same : (x y : ClientAt) → Some x ≡ Some y → x ≡ y
     same x y e = cc e
 
     by_test : (t : Bool) → Arrives (if t then Some b else None)
-    by_test true = λ x e met. subst (λ (y : ClientAt). IsTraced y.state met) (same b x e) (new met)
+    by_test true = λ x e. subst IsNew (same b x e) new
     by_test false = away
 
 event_arrives : (c : ℕ) (e : Event) → Arrives (client_after_event c None e)
-event_arrives c (event.Client k) = none_comes k c _ (λ met. traced_new k 1 met)
+event_arrives c (event.Client k) = none_comes k c _ (k, refl)
 event_arrives c (event.Do k x) = none_where k c (called (op_of x))
 event_arrives c (event.Call k x) = none_where k c (called (op_of x))
 event_arrives c (event.Resend (sender.Client k)) = none_where k c (goes Resends)
@@ -146,7 +153,7 @@ event_arrives c (event.Stop k) = none_where k c halted
 event_arrives c (event.Resend sender.Server) = away
 event_arrives c e = away
 
-line_arrives : (c : ℕ) (sent : List Sent) (l : Line) → Arrives (client_after_line c (record { sent = sent; client = None }) l)
+pub line_arrives : (c : ℕ) (sent : List Sent) (l : Line) → Arrives (client_after_line c (record { sent = sent; client = None }) l)
 line_arrives c sent (line.Event e) = event_arrives c e
 line_arrives c sent (line.Delivered number delivery) = none_hears c (slice_get sent number)
 line_arrives c sent (line.TimedOut k component) = none_where k c (goes (TimesOut component))
@@ -176,7 +183,8 @@ module _ (c : ℕ) (sent : List Sent) (t : LastStep) (ends : (o : Outcome) → t
     traced = λ d e. elim b.2 [
       | inl same ↦ subst (λ (y : ClientAt). IsTraced y.state t.met) (same_client b.0 d (sym b.1 ∙ e))
           (subst (λ (z : _). IsTraced z t.met) (sym same) x)
-      | inr new ↦ subst (λ (y : ClientAt). IsTraced y.state t.met) (same_client b.0 d (sym b.1 ∙ e)) (new t.met)
+      | inr new ↦ subst (λ (y : ClientAt). IsTraced y.state t.met) (same_client b.0 d (sym b.1 ∙ e))
+          (traced_at_first b.0 t.met new)
     ];
     ends = ends;
   }
@@ -197,7 +205,7 @@ module _ (c : ℕ) (sent : List Sent) (t : LastStep) (ends : (o : Outcome) → t
 
   on_line : (o : Option ClientAt) → ((a : ClientAt) → o ≡ Some a → IsTraced a.state t.met)
       → IsRight (sees_call c (record { seen = record { sent = sent; client = o }; last = t }) l)
-  on_line None x = record { traced = λ d e. line_arrives c sent l d e t.met; ends = ends }
+  on_line None x = record { traced = λ d e. traced_at_first d t.met (line_arrives c sent l d e); ends = ends }
   on_line (Some a) x =
       let r = by_input a (x a refl) (line_input c sent l a) _ (line_becomes c sent a l) in
       record { traced = r.traced; ends = r.ends }

@@ -8,3 +8,4 @@ pub mod CallLines
 pub mod CallMoves
 pub mod CallEvents
 pub mod CallHistories
+pub mod Read

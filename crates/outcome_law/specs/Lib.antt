@@ -3,3 +3,4 @@ pub mod Caused
 pub mod ReadClients
 pub mod ReadCalls
 pub mod Ended
+pub mod Read
