@@ -26,6 +26,7 @@ use Rattle.exchange_law.specs.FairLanes.{LanesAreFair}
 use Rattle.ending_law.specs.Calls.{CallsEndSo}
 use Rattle.cause_law.specs.Answers.{EachRequestIsAnswered}
 use Rattle.cause_law.specs.Changes.{EachGrantHasItsCauses}
+use Rattle.cause_law.specs.Ends.{EachEndIsSaid}
 use Rattle.tag_law.specs.Tags.{EachTagIsItsFiles}
 use Rattle.history_claims.proofs.Texts.{events_make_text}
 use Rattle.history_claims.proofs.Cutting.{cuts_go_on}
@@ -36,9 +37,9 @@ pub histories_are_sound : HistoriesAreSafe → VerdictsAreAnswered → CommandsA
     → EachHolderIsOwn → UnforgedAreFenced → EachAnswerIsLive → EachGivenWasLive → GrantsAreOlder → GivenIsBarred
     → CommandsAreIssuedExactly → UnforgedAreIssuedExactly → LanesAreFair → LanesAreOwn → RefusalsWereJudged
     → RefusalsWereAwaited → CountersStayLow → CallsEndSo → EachTagIsItsFiles → EachRequestIsAnswered
-    → EachGrantHasItsCauses → WithinTheLimitAreFew → HistoriesAreSound
+    → EachGrantHasItsCauses → EachEndIsSaid → WithinTheLimitAreFew → HistoriesAreSound
 histories_are_sound safe answered issued listed fair ranges fronts apart spread created own fenced live given older barred exact
-    allowed lanes lanes_own judged awaited low ends tags caused changed few = record {
+    allowed lanes lanes_own judged awaited low ends tags caused changed said few = record {
       sound = λ h l. record {
         safe = safe h l;
         answered = λ w s. answered w h s;
@@ -66,6 +67,7 @@ histories_are_sound safe answered issued listed fair ranges fronts apart spread 
         ends = ends h l;
         causes = λ w s a. caused w h s a;
         changes = λ w s a. changed w h s a;
+        said = λ w g k m rest d is. said w g k m d;
       };
       text = events_make_text;
       few = few;

@@ -29,6 +29,7 @@ use Rattle.exchange_law.specs.Exact.{IssuedExactlyAt, InjectedExactlyAt}
 use Rattle.ending_law.specs.Calls.{EndsAt}
 use Rattle.cause_law.specs.Answers.{RequestsAreAnswered}
 use Rattle.cause_law.specs.Changes.{GrantsHaveCauses}
+use Rattle.cause_law.specs.Ends.{CallsEndAsSaid}
 use Rattle.tag_law.specs.Tags.{HaveTagsAt}
 use Rattle.history_claims.specs.Texts.{EventsMakeText, CutsGoOn}
 
@@ -106,6 +107,8 @@ pub record IsSound (h : List Line) : Type 0 where
   -- nothing else makes a grant of a file live or ends one, or changes the file's size, but a fence that an order or an opening
   -- begins, and that ends all
   pub changes : (w : World) → StandsFor w h → AreWritten h → GrantsHaveCauses h
+  -- in each move a call ends as only an answer says exactly if its client takes an answer that says so
+  pub said : CallsEndAsSaid h
 
 -- Each lawful history is sound, whatever its events name. Where a text may have the events, it is one of a scenario's text;
 -- and where a world that stands for it is within the limit of kept bytes, it has few messages. A history that is cut at that

@@ -5,7 +5,7 @@ ghost use Rattle.history_claims.specs.Sound.{HistoriesAreSound};
 ghost use Rattle.history_claims.specs.Spread.{ComponentsStandSpread};
 
 use calm_law::{each_step_is_apart, each_step_is_sound};
-use cause_law::{grants_have_causes, requests_are_answered};
+use cause_law::{ends_are_said, grants_have_causes, requests_are_answered};
 use ending_law::calls_end_so;
 use exchange_law::{
     commands_are_issued_exactly, counters_stay_low, lanes_are_fair, lanes_are_own,
@@ -102,5 +102,6 @@ pub fn histories_are_sound()
     each_tag_is_its_files();
     requests_are_answered();
     grants_have_causes();
+    ends_are_said();
     within_the_limit_are_few();
 }
