@@ -7,3 +7,6 @@ pub mod Inputs
 pub mod Answering
 pub mod Changing
 pub mod Grants
+pub mod Dealing
+pub mod Turning
+pub mod Saying

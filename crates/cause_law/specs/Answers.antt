@@ -61,7 +61,7 @@ IsCausedAt s now q f g a (Return report) =
     (detail : ℕ) × (r : Results) × Returns f.kept g.kept q.client report detail r × (a ≡ answer q detail g.kept.size r)
 
 -- Of a server when a request comes, and behind its step: its file isn't there, and the answer is NOENT to a LAYOUTGET, BADLAYOUT
--- to a LAYOUTCOMMIT, and nothing to a LAYOUTRETURN; or the answer is caused by what the file's book has.
+-- to a LAYOUTCOMMIT, and OK to a LAYOUTRETURN; or the answer is caused by what the file's book has.
 pub data IsCaused (s t : Server) (now : ℕ) (q : ClientRequest) (a : Answer) : Type 0 where
   NoFile : file_at s.files q.file ≡ None → a ≡ answer_without q → IsCaused s t now q a
   OnFile : (f g : File) → file_at s.files q.file ≡ Some f → file_at t.files q.file ≡ Some g

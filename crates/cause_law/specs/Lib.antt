@@ -4,3 +4,4 @@ pub mod Commits
 pub mod Returns
 pub mod Answers
 pub mod Changes
+pub mod Ends

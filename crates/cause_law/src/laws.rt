@@ -1,6 +1,7 @@
 // Why each answer comes and what changes, for the crates above.
 ghost use Rattle.cause_law.specs.Answers.{EachRequestIsAnswered};
 ghost use Rattle.cause_law.specs.Changes.{EachGrantHasItsCauses};
+ghost use Rattle.cause_law.specs.Ends.{EachEndIsSaid};
 
 use calm_law::{each_step_raises_tags, seen_is_sound};
 use history_law::{book_is_read, grants_are_safe, server_moves, step_is_read};
@@ -37,3 +38,9 @@ pub fn grants_have_causes()
     one_event_more();
     reading_goes_on();
 }
+
+/// In each move of a history a call of a client ends with `nofile`, `spent`, `degraded` or a status exactly if the client
+/// takes an answer for which the call waits, and which says so: of its LAYOUTGET, or with a status of its LAYOUTCOMMIT.
+pub fn ends_are_said()
+    ensures { EachEndIsSaid }
+{}

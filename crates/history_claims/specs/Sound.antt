@@ -29,6 +29,7 @@ use Rattle.exchange_law.specs.Exact.{IssuedExactlyAt, InjectedExactlyAt}
 use Rattle.ending_law.specs.Calls.{EndsAt}
 use Rattle.cause_law.specs.Answers.{RequestsAreAnswered}
 use Rattle.cause_law.specs.Changes.{GrantsHaveCauses}
+use Rattle.cause_law.specs.Ends.{CallsEndAsSaid}
 use Rattle.outcome_law.specs.Ended.{CausedAt}
 use Rattle.outcome_law.specs.Read.{AnswersAt}
 use Rattle.tag_law.specs.Tags.{HaveTagsAt}
@@ -114,6 +115,8 @@ pub record IsSound (h : List Line) : Type 0 where
   -- an answered read took a reply to a READ that was performed, and for any file that agrees with what was read so in its call
   -- the answer is the file's bytes
   pub read : AtEachLine AnswersAt h
+  -- in each move a call ends as only an answer says exactly if its client takes an answer that says so
+  pub said : CallsEndAsSaid h
 
 -- Each lawful history is sound, whatever its events name. Where a text may have the events, it is one of a scenario's text;
 -- and where a world that stands for it is within the limit of kept bytes, it has few messages. A history that is cut at that

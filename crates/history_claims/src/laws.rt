@@ -5,7 +5,7 @@ ghost use Rattle.history_claims.specs.Sound.{HistoriesAreSound};
 ghost use Rattle.history_claims.specs.Spread.{ComponentsStandSpread};
 
 use calm_law::{each_step_is_apart, each_step_is_sound};
-use cause_law::{grants_have_causes, requests_are_answered};
+use cause_law::{ends_are_said, grants_have_causes, requests_are_answered};
 use ending_law::calls_end_so;
 use exchange_law::{
     commands_are_issued_exactly, counters_stay_low, lanes_are_fair, lanes_are_own,
@@ -73,7 +73,8 @@ pub fn files_are_created()
 /// none is refused since its client has no sequence number left, and the server's counters have room. Each call ends as
 /// what it met says: the answers and replies that it took, and timeouts; and a read is answered by what was read of
 /// drives in its call. In a whole history each new request is answered in its step by the first row that applies to its
-/// file's book, and nothing else makes a grant live or ends one but a fence. A history that is cut at the limit of kept bytes goes on being of a text.
+/// file's book, and nothing else makes a grant live or ends one but a fence. A history that is cut at the limit of kept
+/// bytes goes on being of a text.
 pub fn histories_are_sound()
     ensures { HistoriesAreSound }
 {
@@ -106,5 +107,6 @@ pub fn histories_are_sound()
     each_tag_is_its_files();
     requests_are_answered();
     grants_have_causes();
+    ends_are_said();
     within_the_limit_are_few();
 }
