@@ -2,7 +2,7 @@
 use Rattle.std.proofs.Common.{◌≡◌, ℕ, ◌++◌, ◌∷◌, [], List, Bool, true, false, Option, Some, None, Result, Ok, Err, ◌==◌, map, is_some, refl, sym, ap, subst, ◌∙◌, inl, inr, if◌then◌else◌}
 use Rattle.std.proofs.lemmas.Bool.{cases_eq, eq-eqb, ne_eqb}
 use Rattle.osd_objects.proofs.Entries.{lookup_inserted, lookup_beside}
-use Rattle.client_rules.specs.State.{CallOp, CallErr}
+use Rattle.world_history.specs.ClientNames.{CallOp, CallErr}
 use Rattle.client_rules.specs.Messages.{Step as ClientStep}
 use Rattle.client_rules.specs.Steps.{new_client, calls}
 use Rattle.client_rules.specs.History as client

@@ -1,6 +1,6 @@
 -- What is read of a client's call is what its rules make of what comes to it in the lines.
 use Rattle.std.proofs.Common.{◌≡◌, ◌⊎◌, ℕ, ◌∷◌, [], List, Bool, true, false, Option, Some, None, Result, Ok, Err, ◌==◌, fold, slice_get, option_map, is_some, refl, sym, ap, subst, ◌∙◌, inl, inr, if◌then◌else◌}
-use Rattle.client_rules.specs.State.{Client, CallOp, CallErr, Outcome}
+use Rattle.world_history.specs.ClientNames.{Client, CallOp, CallErr, Outcome}
 use Rattle.client_rules.specs.Messages.{Message, Step}
 use Rattle.client_rules.specs.Steps.{new_client, calls}
 use Rattle.client_rules.specs.Envelopes.{message_in}
@@ -11,7 +11,8 @@ use Rattle.scenario_text.specs.declared.event.Sender.TheVariants as sender
 use Rattle.scenario_text.specs.declared.line.Party.{Party}
 use Rattle.scenario_text.specs.declared.line.Line.{Line}
 use Rattle.scenario_text.specs.declared.line.Line.TheVariants as line
-use Rattle.world_history.specs.State.{ClientAt, Sent}
+use Rattle.world_history.specs.State.{ClientAt}
+use Rattle.world_history.specs.declared.messages.Sent.{Sent}
 use Rattle.world_history.specs.Spelled.{node_of}
 use Rattle.world_history.specs.Moves.{op_of}
 use Rattle.outcome_law.specs.Met.{Met, met_after, grant_under, failure_in}

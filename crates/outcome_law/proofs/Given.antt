@@ -12,7 +12,7 @@ use Rattle.layout_ops.specs.declared.results.LayoutSegment.{LayoutSegment}
 use Rattle.layout_ops.specs.declared.results.LayoutGetOk.{LayoutGetOk}
 use Rattle.layout_ops.specs.declared.statuses.TheConstants.{NFS4_OK, NFS4ERR_NOENT, NFS4ERR_LAYOUTTRYLATER, NFS4ERR_LAYOUTUNAVAILABLE, NFS4ERR_RECALLCONFLICT}
 use Rattle.client_rules.specs.declared.limits.TheConstants.{NO_COMPONENT, MAX_TRIES}
-use Rattle.client_rules.specs.State.{CallOp, Held, Listed, Reach, Why, Outcome, NoFile, HeldBy, Fencing, Degraded, Spent, Status, Ends, Request, Answer}
+use Rattle.world_history.specs.ClientNames.{CallOp, Held, Listed, Reach, Why, Outcome, NoFile, HeldBy, Fencing, Degraded, Spent, Status, Ends, Request, Answer}
 use Rattle.client_rules.specs.Calls.{file_of}
 use Rattle.client_rules.specs.Grants.{is_for, covers}
 use Rattle.client_rules.specs.Requests.{grant_in}

@@ -6,7 +6,7 @@ use Rattle.layout_ops.specs.declared.args.Args.{Args}
 use Rattle.layout_ops.specs.declared.args.Args.TheVariants as args
 use Rattle.layout_ops.specs.declared.statuses.TheConstants.{NFS4_OK, NFS4ERR_BADLAYOUT}
 use Rattle.client_rules.specs.declared.limits.TheConstants.{MAX_TRIES}
-use Rattle.client_rules.specs.State.{CallOp, Held, TimedOut, Need, First, Get, Commit, Report, Close, Starts, Outcome, WriteOk, Status, Silent, BadLayout, Why, Turn, Ends, Done, Request, Answer}
+use Rattle.world_history.specs.ClientNames.{CallOp, Held, TimedOut, Need, First, Get, Commit, Report, Close, Starts, Outcome, WriteOk, Status, Silent, BadLayout, Why, Turn, Ends, Done, Request, Answer}
 use Rattle.client_rules.specs.Calls.{file_of, span_of}
 use Rattle.client_rules.specs.Grants.{held_of, put_held}
 use Rattle.client_rules.specs.Results.{status_of}

@@ -6,7 +6,7 @@ use Rattle.scenario_text.specs.declared.line.Outcome.TheVariants as outcome
 use Rattle.scenario_text.specs.declared.line.CallKind.{CallKind}
 use Rattle.scenario_text.specs.declared.line.Line.{Line}
 use Rattle.scenario_text.specs.declared.line.Line.TheVariants as line
-use Rattle.client_rules.specs.State.{Client, Call, CallOp, Busy, BadRange, SlotSpent, Awaited, Outcome, WriteOk, ReadOk, NoFile, HeldBy, Fencing, Degraded, Spent, Status, Refused, Silent, Lost, BadLayout, Request, Answer, Column, Held}
+use Rattle.world_history.specs.ClientNames.{Client, Call, CallOp, Busy, BadRange, SlotSpent, Awaited, Outcome, WriteOk, ReadOk, NoFile, HeldBy, Fencing, Degraded, Spent, Status, Refused, Silent, Lost, BadLayout, Request, Answer, Column, Held}
 use Rattle.client_rules.specs.Commands.{of_component}
 use Rattle.client_rules.specs.Grants.{held_of}
 use Rattle.client_rules.specs.Calls.{file_of, span_of}

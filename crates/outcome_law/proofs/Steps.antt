@@ -2,7 +2,7 @@
 use Rattle.std.proofs.Common.{◌≡◌, ◌<◌, ◌⊎◌, ℕ, Bool, true, false, List, [], Option, Some, None, length, refl, sym, ap, subst, ◌∙◌, arith, inl, inr, if◌then◌else◌}
 use Rattle.layout_ops.specs.declared.args.Args.{Args}
 use Rattle.layout_ops.specs.declared.args.Args.TheVariants as args
-use Rattle.client_rules.specs.State.{Client, Call, CallOp, Held, Due, Need, First, Get, Commit, Report, Close, Phase, Starts, Needs, Waits, Reads, Probes, Gathers, Scatters, Outcome, Turn, Goes, Ends, Forgets, Moved, Done, Request}
+use Rattle.world_history.specs.ClientNames.{Client, Call, CallOp, Held, Due, Need, First, Get, Commit, Report, Close, Phase, Starts, Needs, Waits, Reads, Probes, Gathers, Scatters, Outcome, Turn, Goes, Ends, Forgets, Moved, Done, Request}
 use Rattle.client_rules.specs.Calls.{file_of}
 use Rattle.client_rules.specs.Grants.{covers, held_of, put_held}
 use Rattle.client_rules.specs.Requests.{args_of}

@@ -8,7 +8,7 @@ use Rattle.stripe_plan.specs.Touched.{stripes}
 use Rattle.layout_ops.specs.declared.args.Args.{Args}
 use Rattle.layout_ops.specs.declared.args.Args.TheVariants as args
 use Rattle.client_rules.specs.declared.limits.TheConstants.{PERFORMED}
-use Rattle.client_rules.specs.State.{CallOp, Held, Awaited, TimedOut, Outcome, Refused, Silent, WriteOk, ReadOk, Request, Answer, Reply}
+use Rattle.world_history.specs.ClientNames.{CallOp, Held, Awaited, TimedOut, Outcome, Refused, Silent, WriteOk, ReadOk, Request, Answer, Reply}
 use Rattle.client_rules.specs.Calls.{span_of, is_write}
 use Rattle.client_rules.specs.Commands.{of_component, before}
 use Rattle.client_rules.specs.Grants.{missing_of}

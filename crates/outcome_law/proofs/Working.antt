@@ -2,7 +2,7 @@
 use Rattle.std.proofs.Common.{◌≡◌, ℕ, ◌/◌, ◌==◌, Bool, true, false, List, [], ◌∷◌, Option, Some, None, length, refl, ap, ◌∙◌, if◌then◌else◌}
 use Rattle.data_map.specs.Striping.{replicas}
 use Rattle.client_rules.specs.declared.limits.TheConstants.{PERFORMED, OTHER_TAG}
-use Rattle.client_rules.specs.State.{CallOp, Write, Read, Held, Awaited, TimedOut, Io, Need, First, Get, Commit, Report, Close, Phase, Starts, Needs, Waits, Reads, Probes, Gathers, Scatters, Outcome, WriteOk, ReadOk, Lost, Silent, Turn, Goes, Ends, Forgets, Moved, Reply, Column, Store}
+use Rattle.world_history.specs.ClientNames.{CallOp, Write, Read, Held, Awaited, TimedOut, Io, Need, First, Get, Commit, Report, Close, Phase, Starts, Needs, Waits, Reads, Probes, Gathers, Scatters, Outcome, WriteOk, ReadOk, Lost, Silent, Turn, Goes, Ends, Forgets, Moved, Reply, Column, Store}
 use Rattle.client_rules.specs.Calls.{span_of, is_write, bytes_of}
 use Rattle.client_rules.specs.Commands.{of_component, counted}
 use Rattle.client_rules.specs.Grants.{clipped}

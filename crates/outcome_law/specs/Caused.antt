@@ -1,6 +1,6 @@
 -- How a call ends follows from what it met.
 use Rattle.std.specs.Prelude.{◌≡◌, ◌≢◌, ℕ, List, [], length, Option, Some, None, option_map}
-use Rattle.client_rules.specs.State.{Client, Call, CallOp, Outcome, WriteOk, ReadOk}
+use Rattle.world_history.specs.ClientNames.{Client, Call, CallOp, Outcome, WriteOk, ReadOk}
 use Rattle.client_rules.specs.Calls.{file_of, bytes_of}
 use Rattle.client_rules.specs.Grants.{held_of}
 use Rattle.client_rules.specs.Io.{awaited_in}

@@ -5,7 +5,7 @@ use Rattle.scenario_text.specs.declared.line.Outcome.{Outcome as ToldOutcome}
 use Rattle.scenario_text.specs.declared.line.Outcome.TheVariants.{Failed}
 use Rattle.scenario_text.specs.declared.line.Line.{Line}
 use Rattle.scenario_text.specs.declared.line.Line.TheVariants as line
-use Rattle.client_rules.specs.State.{CallOp, Outcome}
+use Rattle.world_history.specs.ClientNames.{CallOp, Outcome}
 use Rattle.world_history.specs.State.{World, at_number}
 use Rattle.world_history.specs.Told.{kind_of, told_outcome}
 use Rattle.world_history.specs.History.{StandsFor, Lawful}

@@ -9,7 +9,7 @@ use Rattle.layout_ops.specs.declared.args.Args.{Args}
 use Rattle.layout_ops.specs.declared.args.Args.TheVariants as args
 use Rattle.layout_ops.specs.declared.statuses.TheConstants.{NFS4_OK, NFS4ERR_NOENT, NFS4ERR_LAYOUTTRYLATER, NFS4ERR_LAYOUTUNAVAILABLE, NFS4ERR_RECALLCONFLICT}
 use Rattle.client_rules.specs.declared.limits.TheConstants.{PERFORMED, MAX_TRIES}
-use Rattle.client_rules.specs.State.{Client, Call, CallOp, Held, Awaited, Outcome, NoFile, HeldBy, Fencing, Status, Refused, Silent, Lost, BadLayout, Why, Request, Answer, Reply, Span}
+use Rattle.world_history.specs.ClientNames.{Client, Call, CallOp, Held, Awaited, Outcome, NoFile, HeldBy, Fencing, Status, Refused, Silent, Lost, BadLayout, Why, Request, Answer, Reply, Span}
 use Rattle.client_rules.specs.Calls.{file_of, span_of, is_write}
 use Rattle.client_rules.specs.Grants.{clipped, held_of, missing_of}
 use Rattle.client_rules.specs.Commands.{of_component}

@@ -3,7 +3,7 @@ use Rattle.std.specs.Prelude.{◌≡◌, ◌≢◌, ℕ, ◌==◌, ◌&&◌, not
 use Rattle.std.specs.List.{range_with_len}
 use Rattle.stripe_plan.specs.Laws.{AreBytes, Agrees}
 use Rattle.client_rules.specs.declared.limits.TheConstants.{PERFORMED}
-use Rattle.client_rules.specs.State.{CallOp, Held, Span, Column}
+use Rattle.world_history.specs.ClientNames.{CallOp, Held, Span, Column}
 use Rattle.client_rules.specs.Calls.{file_of, span_of}
 use Rattle.client_rules.specs.Grants.{clipped, held_of}
 use Rattle.client_rules.specs.Io.{got_of}

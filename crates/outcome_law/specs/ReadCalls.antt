@@ -1,7 +1,7 @@
 -- What the call of each client has met, read off the lines.
 use Rattle.std.specs.Prelude.{ℕ, ◌==◌, if◌then◌else◌, List, [], slice_get, Option, Some, None, is_some, Result, Ok, Err}
 use Rattle.std.specs.List.{fold}
-use Rattle.client_rules.specs.State.{Client, CallOp, CallErr, Held, Outcome}
+use Rattle.world_history.specs.ClientNames.{Client, CallOp, CallErr, Held, Outcome}
 use Rattle.client_rules.specs.Messages.{Message, Step}
 use Rattle.client_rules.specs.Steps.{calls}
 use Rattle.client_rules.specs.Envelopes.{message_in}
@@ -12,7 +12,8 @@ use Rattle.scenario_text.specs.declared.event.Sender.TheVariants as sender
 use Rattle.scenario_text.specs.declared.line.Party.{Party}
 use Rattle.scenario_text.specs.declared.line.Line.{Line}
 use Rattle.scenario_text.specs.declared.line.Line.TheVariants as line
-use Rattle.world_history.specs.State.{ClientAt, Sent}
+use Rattle.world_history.specs.State.{ClientAt}
+use Rattle.world_history.specs.declared.messages.Sent.{Sent}
 use Rattle.world_history.specs.Spelled.{node_of}
 use Rattle.world_history.specs.Moves.{op_of}
 use Rattle.outcome_law.specs.Met.{Met, met_after}
