@@ -1,0 +1,9 @@
+pub mod Growing
+pub mod Hearing
+pub mod Walk
+pub mod Asked
+pub mod Places
+pub mod Fitting
+pub mod Ways
+pub mod WaysSteps
+pub mod FittingSteps

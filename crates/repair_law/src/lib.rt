@@ -1,0 +1,7 @@
+//! Laws of the commands that the server's jobs send for a file, and of what may still come of them: towards the induction
+//! that each move keeps the relation between a file and its machine (`file_simulation`).
+#![tactic(auto)]
+
+mod laws;
+
+pub use laws::{drives_grow, heard_tells_of_writes, jobs_ask_their_own, spent_stays};
