@@ -40,7 +40,7 @@ use Rattle.scenario_text.specs.declared.line.Party.TheVariants as party
 use Rattle.scenario_text.specs.declared.event.Event.{Event}
 use Rattle.scenario_text.specs.declared.line.Line.{Line}
 use Rattle.scenario_text.specs.declared.line.Line.TheVariants as line
-use Rattle.world_history.specs.ServerNames.{Awaited, Server}
+use Rattle.world_history.specs.ServerNames.{Awaited, File, Server}
 use Rattle.world_history.specs.declared.messages.Body.TheVariants.{Command as OfCommand}
 use Rattle.world_history.specs.declared.messages.Posted.{Posted}
 use Rattle.world_history.specs.declared.messages.Sent.{Sent}
