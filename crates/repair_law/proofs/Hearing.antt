@@ -33,7 +33,7 @@ use Rattle.server_rules.specs.History.{Act, state_after, step}
 use Rattle.server_rules.specs.Making.{new_server}
 use Rattle.server_rules.specs.Laws.{In}
 use Rattle.server_rules.specs.Envelopes.{message_in, by_reply}
-use Rattle.server_rules.specs.Messages.{Replies as RepliesTo, counters_have_room}
+use Rattle.server_rules.specs.Messages.{Replies as RepliesTo, awaited_by, counters_have_room}
 use Rattle.server_rules.specs.Replies.{answers}
 use Rattle.server_rules.proofs.Members.{in_map, in_either}
 use Rattle.scenario_text.specs.declared.line.Party.TheVariants as party
