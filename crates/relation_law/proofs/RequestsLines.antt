@@ -196,7 +196,7 @@ module _ (w : World) (f g : File) (i : Input) where
       (joined (table.sends_all (after_all s (table.sent s w.server g i o)) w.server g i os))
 
   -- commands and recalls have no event, and the answer stands last
-  answer_last : (s : State) (os : List Outgoing) (a : Answer) → AnswersOnly Never os
+  pub answer_last : (s : State) (os : List Outgoing) (a : Answer) → AnswersOnly Never os
       → sent_behind s (os ++ Answers a ∷ []) ≡ after_all s (table.answered_to s w.server g a i)
   unfolding table.sends_all
   answer_last s [] a none = one_sent s (Answers a) []
