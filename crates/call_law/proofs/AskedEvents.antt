@@ -56,7 +56,7 @@ quiet_one c s (ServesOther d) q = tt
 quiet_one c s (Frees d) q = tt
 quiet_one c s e q = absurd q
 
-quiet_all : (c : ℕ) (s : State) (es : List Event) → AreAll IsQuiet es → AreBeside c s es
+pub quiet_all : (c : ℕ) (s : State) (es : List Event) → AreAll IsQuiet es → AreBeside c s es
 quiet_all c s [] all = tt
 quiet_all c s (e ∷ es) all = (quiet_one c s e all.0, quiet_all c (after s e) es all.1)
 
@@ -90,7 +90,7 @@ noted_here_quiet s w f i (server_rules.Reported k) = reported_quiet k (table.ask
 noted_here_quiet s w f i (server_rules.Rebuilt k d) = (tt, where_all IsQuiet (has_failed (at_number w.drives d)) _ (tt, tt))
 noted_here_quiet s w f i n = tt
 
-noted_quiet : (s : State) (w : World) (f : File) (i : Input) (n : Note) → AreAll IsQuiet (table.noted s w f i n)
+pub noted_quiet : (s : State) (w : World) (f : File) (i : Input) (n : Note) → AreAll IsQuiet (table.noted s w f i n)
 noted_quiet s w f i n = where_all IsQuiet (n.file == f.kept.number) _ (noted_here_quiet s w f i n.kind)
 
 -- ---- from the first line to the answer

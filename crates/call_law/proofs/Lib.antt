@@ -6,3 +6,5 @@ pub mod OwnFacts
 pub mod AskedEvents
 pub mod AskedCommit
 pub mod Asked
+pub mod AskedNone
+pub mod CallsGo

@@ -113,7 +113,7 @@ none_heard s server did f g (node.Client c) (OrdersServer o) no_ = tt
 none_heard s server did f g node.Server m no_ = tt
 none_heard s server did f g (node.Drive d) m no_ = tt
 
-served_at : (server : Server) (now : ℕ) (from : Node) (m : Message)
+pub served_at : (server : Server) (now : ℕ) (from : Node) (m : Message)
     → is_served_in server (Hears 0 from m) ≡ is_served_in server (Hears now from m)
 served_at server now (node.Client c) (AsksServer q) = refl
 served_at server now (node.Client c) (RepliesServer r) = refl
