@@ -8,3 +8,5 @@ pub mod AskedCommit
 pub mod Asked
 pub mod AskedNone
 pub mod CallsGo
+pub mod CalmRuns
+pub mod Scatters

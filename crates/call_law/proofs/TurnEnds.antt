@@ -157,10 +157,12 @@ module _ (file : ℕ) (m : RawMap) (c : ℕ) (s : State) (x : Client) (slot : Op
   -- The plan of a write that starts in the turn is that of its entry.
   abbrev pub PlansFit : Type 0
   PlansFit =
-      (es : List Event) (d : Done) → IsTurn file s c x i es d → (call : Call) (io : Io) (queue : List Store) (h : Held) →
+      (es : List Event) (d : Done) → table.at_first s file c x i ≡ es → IsTurn file s c x i es d → FineDone Any d →
+      (call : Call) (io : Io) (queue : List Store) (h : Held) →
       (is : (begun d).client.call ≡ Some call) → call.phase ≡ Scatters io queue →
       (here : (file_of call.op == file) ≡ true) → (holds : held_of (begun d).client.held file ≡ Some h) → (g : Grant) →
-      (after_all s es).held c ≡ Some g → IsStarting m (after_all s es) c call.op io queue (begun d).commands →
+      (after_all s es).held c ≡ Some g → op_in x i ≡ Some call.op → IsHolding m (after_all s es) c h →
+      IsStarting m (after_all s es) c call.op io queue (begun d).commands →
       PlanFits file c (begun d).client call is here h holds m (after_all s es) g io queue (begun d).commands
 
   -- What is known of the client, and of the machine in its turn.
@@ -394,7 +396,9 @@ module _ (file : ℕ) (m : RawMap) (c : ℕ) (s : State) (x : Client) (slot : Op
             subst (λ (p : Phase). CommandsFit (begun d).client r.0 (is_scatter p) (begun d).commands) e (commands_fit r.0 r.1),
             λ g y y_is y_here y_holds same has starts.
                 let one : call ≡ y = cc (sym is ∙ y_is) in
-                facts.plans es d turn y io queue r.0 y_is (ap (λ (z : Call). z.phase) (sym one) ∙ e) y_here y_holds g has
+                facts.plans es d at turn fine_done y io queue r.0 y_is (ap (λ (z : Call). z.phase) (sym one) ∙ e) y_here y_holds g has
+                (mid.about y y_is)
+                (subst (HeldIs file m (after_all s es) c (begun d).client (kept_for slot d.client.outstanding)) y_holds mid.held)
                 (subst (λ (o : CallOp). IsStarting m (after_all s es) c o io queue (begun d).commands) (sym same) starts),
           )
 
