@@ -1,12 +1,10 @@
 -- The server carries out a client's new request: behind the step the machine has of the client what it has, with the answer that
 -- its slot keeps then.
 -- Towards `CallsGoOn` (`relation_law/specs/Steps.antt`).
-use Rattle.std.proofs.Common.{◌≡◌, ◌==◌, ◌&&◌, ◌<◌, ◌≤◌, ◌+◌, ◌++◌, not, max, ℕ, Bool, true, false, List, [], ◌∷◌, length, take, Option, Some, None, Result, Ok, Err, refl, sym, ap, subst, ◌∙◌, inl, inr, arith}
-use Rattle.std.proofs.lemmas.Bool.{true≢false, cases_eq, and_parts, eq-eqb, ne_eqb, eqb-true}
+use Rattle.std.proofs.Common.{◌≡◌, ◌==◌, ◌&&◌, ◌<◌, not, max, ℕ, Bool, true, false, List, [], ◌∷◌, Option, Some, None, refl, sym, ap, subst, ◌∙◌, inl, inr, arith}
+use Rattle.std.proofs.lemmas.Bool.{true≢false, cases_eq, eq-eqb, ne_eqb, eqb-true}
 use Rattle.osd_lists.specs.declared.node.Node.TheVariants as node
 use Rattle.data_map.specs.Check.{IsChecked}
-use Rattle.layout_ops.specs.declared.args.Args.{Args}
-use Rattle.layout_ops.specs.declared.args.Args.TheVariants as args
 use Rattle.layout_ops.specs.declared.messages.Answer.{Answer}
 use Rattle.layout_ops.specs.declared.statuses.TheConstants.{NFS4_OK}
 use Rattle.layout_types.specs.declared.ioerrs.IoErr.{IoErr}
@@ -31,7 +29,6 @@ use Rattle.world_history.specs.ClientNames.{Client, Call, CallOp, Held, Need, Fi
 use Rattle.world_history.specs.State.{World}
 use Rattle.world_history.specs.Sending.{Move, move}
 use Rattle.history_law.specs.Doing.{input_in}
-use Rattle.exchange_law.specs.Text.{AreOfText, AreFew}
 use Rattle.exchange_law.specs.Meeting.{IsReadableThrough}
 use Rattle.exchange_law.proofs.CountGrowing.{fewer, text_front}
 use Rattle.exchange_law.proofs.HeldWorlds.{readable_there, reached}
@@ -47,19 +44,19 @@ use Rattle.fence_law.proofs.EveryRun.{keep_sized}
 use Rattle.fence_law.proofs.Safe.{Safe, keep_safe}
 use Rattle.fence_law.proofs.Words.{updated_same}
 use Rattle.plan_law.proofs.Codes.{layouts_are_codes}
-use Rattle.file_simulation.specs.Calls.{IsClient, IsHolding, HeldIs, HoldsNone, reports_on, waits_report, is_taken}
+use Rattle.file_simulation.specs.Calls.{IsClient, IsHolding, HeldIs, HoldsNone, reports_on, is_taken}
 use Rattle.file_simulation.specs.EventLists.{where_so, entry_in, entry_of, of_grant}
-use Rattle.file_simulation.specs.Events.{joined, events_of}
+use Rattle.file_simulation.specs.Events.{joined}
 use Rattle.file_simulation.specs.Relation.{client_of}
-use Rattle.file_simulation.specs.Requests.{kept_for, kept_by, RequestsAgree}
+use Rattle.file_simulation.specs.Requests.{kept_for, kept_by}
 use Rattle.file_simulation.specs.ServerEvents as table
 use Rattle.relation_law.specs.CallsFrames.{IsSpared}
 use Rattle.relation_law.specs.Frames.{AreAll}
-use Rattle.relation_law.specs.RequestsClients.{IsGetting, IsCommitting, IsReturnOf, AsksBy, AsksFor}
+use Rattle.relation_law.specs.RequestsClients.{IsGetting, AsksBy, AsksFor}
 use Rattle.relation_law.specs.RequestsGoing.{IsItsRequest, IsAnsweredBy}
 use Rattle.relation_law.specs.Requests.{IsReturning, Works}
-use Rattle.relation_law.specs.Steps.{FollowsWhole, KeptGoesOn, owed, whole_behind}
-use Rattle.relation_law.proofs.CallsCarried.{IsEven, IsEvenCall, client_even, client_granted, client_committed, client_uncommitted, client_untaken, client_taken, waits_is, reporting_is, still_held}
+use Rattle.relation_law.specs.Steps.{FollowsWhole, KeptGoesOn, whole_behind}
+use Rattle.relation_law.proofs.CallsCarried.{IsEvenCall, client_even, client_granted, client_committed, client_uncommitted, client_untaken, client_taken, waits_is, reporting_is, still_held}
 use Rattle.relation_law.proofs.CallsFrames.{spared_more}
 use Rattle.relation_law.proofs.CallsSpared.{client_spared}
 use Rattle.relation_law.proofs.ComponentsMachine.{right_run}
@@ -72,92 +69,9 @@ use Rattle.relation_law.proofs.RequestsHeard.{heard_in, its_request}
 use Rattle.relation_law.proofs.RequestsOn.{IsServed, served_is, served_answered}
 use Rattle.relation_law.proofs.RequestsOwn.{lines_are, server_is}
 use Rattle.relation_law.proofs.RequestsReturns.{HeldLaws}
-use Rattle.relation_law.proofs.RequestsServed.{commit_read, return_read}
+use Rattle.call_law.proofs.AskedCalls.{get_no_commit, get_no_return, commit_no_get, commit_no_return, return_no_commit, is_returning, returns_by, WaitsFor, even_by, reports_so, quiet_report}
 use Rattle.call_law.proofs.AskedEvents.{IsQuiet, IsAsked, answer_is, quiet_spares, fences_quiet, asked_goes}
 use Rattle.call_law.proofs.AskedCommit.{committed_under}
-
--- ---- what is asked
-
--- a LAYOUTGET is no commit and no return
-get_no_commit : (a : Args) (iomode offset count : ℕ) → asked_in a ≡ Some (Gets iomode offset count) → IsCommitting a → ⊥
-get_no_commit (args.LayoutGet z) iomode offset count e i = i
-get_no_commit (args.LayoutReturn z) iomode offset count e i = i
-get_no_commit (args.LayoutCommit z) iomode offset count e i =
-    cc (sym (commit_read z.last_write_offset _ (Gets iomode offset count) e))
-
-get_no_return : (a : Args) (iomode offset count : ℕ) → asked_in a ≡ Some (Gets iomode offset count) → IsReturning a → ⊥
-get_no_return (args.LayoutGet z) iomode offset count e i = i
-get_no_return (args.LayoutCommit z) iomode offset count e i = i
-get_no_return (args.LayoutReturn z) iomode offset count e i =
-    let r = return_read _ (Gets iomode offset count) e in cc (sym r.1)
-
-commit_no_get : (a : Args) (last : Option ℕ) → asked_in a ≡ Some (Commits last) → IsGetting a → ⊥
-commit_no_get (args.LayoutGet z) last e i = cc e
-commit_no_get (args.LayoutCommit z) last e i = i
-commit_no_get (args.LayoutReturn z) last e i = i
-
-commit_no_return : (a : Args) (last : Option ℕ) → asked_in a ≡ Some (Commits last) → IsReturning a → ⊥
-commit_no_return (args.LayoutGet z) last e i = i
-commit_no_return (args.LayoutCommit z) last e i = i
-commit_no_return (args.LayoutReturn z) last e i = let r = return_read _ (Commits last) e in cc (sym r.1)
-
-return_no_commit : (a : Args) (report : List IoErr) → asked_in a ≡ Some (Returns report) → IsCommitting a → ⊥
-return_no_commit (args.LayoutGet z) report e i = i
-return_no_commit (args.LayoutReturn z) report e i = i
-return_no_commit (args.LayoutCommit z) report e i = cc (sym (commit_read z.last_write_offset _ (Returns report) e))
-
-is_returning : (es : List IoErr) (a : Args) → IsReturnOf es a → IsReturning a
-is_returning es a r = subst IsReturning (sym r.1) tt
-
-returns_by : (a : Args) (report : List IoErr) → asked_in a ≡ Some (Returns report) → IsReturning a
-returns_by (args.LayoutGet z) report e = absurd (cc e)
-returns_by (args.LayoutCommit z) report e = absurd (cc (sym (commit_read z.last_write_offset _ (Returns report) e)))
-returns_by (args.LayoutReturn z) report e = tt
-
--- ---- calls
-
--- the call on the file waits for an answer to a commit, or to a report
-abbrev WaitsFor : (file : ℕ) → Client → Need → Type 0
-WaitsFor file x n = (op : CallOp) × (x.call ≡ Some (record { op = op; phase = Waits n })) × ((file_of op == file) ≡ true)
-
-even_by : (file : ℕ) (x : Client) → ((timed : List TimedOut) → WaitsFor file x (Commit timed) → ⊥) →
-    ((timed : List TimedOut) → WaitsFor file x (Report timed) → ⊥) → IsEvenCall file x.call
-even_by file x commit report call is here = by_phase call.phase refl
-  where
-    at : (p : Phase) → call.phase ≡ p → x.call ≡ Some (record { op = call.op; phase = p })
-    at p e = is ∙ ap (λ (z : Phase). Some (record { op = call.op; phase = z })) e
-
-    by_phase : (p : Phase) → call.phase ≡ p → IsEven call.phase
-    by_phase (Waits (Commit timed)) e = absurd (commit timed (call.op, at (Waits (Commit timed)) e, here))
-    by_phase (Waits (Report timed)) e = absurd (report timed (call.op, at (Waits (Report timed)) e, here))
-    by_phase Starts e = rw e tt
-    by_phase (Needs n) e = rw e tt
-    by_phase (Waits First) e = rw e tt
-    by_phase (Waits (Get tries)) e = rw e tt
-    by_phase (Waits (Close u es)) e = rw e tt
-    by_phase (Reads io) e = rw e tt
-    by_phase (Probes io) e = rw e tt
-    by_phase (Gathers io) e = rw e tt
-    by_phase (Scatters io queue) e = rw e tt
-
--- a call that reports does so in that phase
-reports_so : (file : ℕ) (x : Client) → reports_on file x.call ≡ true → (timed : List TimedOut) × WaitsFor file x (Report timed)
-reports_so file x e = by_call x.call refl e
-  where
-    by_phase : (op : CallOp) (p : Phase) → x.call ≡ Some (record { op = op; phase = p }) → (file_of op == file) ≡ true →
-        waits_report p ≡ true → (timed : List TimedOut) × WaitsFor file x (Report timed)
-    by_phase op (Waits (Report timed)) is here z = (timed, op, is, here)
-    by_phase op p is here z = absurd (cc z)
-
-    by_call : (o : Option Call) → x.call ≡ o → reports_on file o ≡ true → (timed : List TimedOut) × WaitsFor file x (Report timed)
-    by_call None is z = absurd (cc z)
-    by_call (Some call) is z =
-        let both = and_parts (file_of call.op == file) (waits_report call.phase) z in
-        by_phase call.op call.phase is both.0 both.1
-
-quiet_report : (file : ℕ) (x : Client) (op : CallOp) (timed : List TimedOut) →
-    x.call ≡ Some (record { op = op; phase = Waits (Report timed) }) → (file_of op == file) ≡ true → reports_on file x.call ≡ true
-quiet_report file x op timed is here = rw (is, here) refl
 
 -- ---- a move
 
@@ -251,7 +165,8 @@ module _ (laws : HeldLaws) (keeps : KeptGoesOn) (w : World) (h : List Line) (m :
   asks = clients_ask_for w (reached w h k.follows.moment) c
 
   -- what the client's call waits for, it has asked by this request
-  asked_by : (op : CallOp) (n : Need) → x.call ≡ Some (record { op = op; phase = Waits n }) → (r.file ≡ file_of op) × AsksBy n r.args
+  asked_by : (op : CallOp) (n : Need) → x.call ≡ Some (record { op = op; phase = Waits n }) →
+      (r.file ≡ file_of op) × AsksBy n r.args
   asked_by op n call =
       let it = asks.waits op n call in
       let same : it.request ≡ r = cc (sym it.outstanding ∙ its.outstanding) in
@@ -387,7 +302,8 @@ module _ (laws : HeldLaws) (keeps : KeptGoesOn) (w : World) (h : List Line) (m :
 
         by_status : (b : Bool) → (status_of a.results == NFS4_OK) ≡ b → Goal (whole_behind k)
         by_status true e = by_grant (grant_of g.kept.grants c) refl (last_by true e)
-        by_status false e = quiet_last (event.Refuses c (kind.Get (iomode == LAYOUTIOMODE4_RW)) ∷ []) (last_by false e) (tt, tt) even at_u
+        by_status false e = quiet_last (event.Refuses c (kind.Get (iomode == LAYOUTIOMODE4_RW)) ∷ [])
+            (last_by false e) (tt, tt) even at_u
 
     -- ---- a return
 
@@ -439,7 +355,8 @@ module _ (laws : HeldLaws) (keeps : KeptGoesOn) (w : World) (h : List Line) (m :
             (even_by file x no_commit (λ timed z. true≢false (sym (quiet_report file x z.0 timed z.1 z.2) ∙ e))) at_u
         untaken true e none =
             let z = reports_so file x e in
-            with_answer (subst (λ (l : List Event). IsClient file f.kept.map (after_all u l) c x (Some a)) (sym (last_by false none))
+            with_answer (subst (λ (l : List Event). IsClient file f.kept.map (after_all u l) c x (Some a))
+            (sym (last_by false none))
             (client_untaken file f.kept.map c u x z.1 z.0 z.2 z.3 gone at_u a none))
 
         -- one that is taken as a loss
@@ -497,7 +414,8 @@ module _ (laws : HeldLaws) (keeps : KeptGoesOn) (w : World) (h : List Line) (m :
 
         first_by : (b : Bool) → (status_of a.results == NFS4_OK) ≡ b → firsts ≡ event.ServesOther c ∷ table.committed s c b
         first_by b e =
-            firsts_are ∙ ap (λ (z : RequestArgs). table.served_here s q.client z (table.is_ok (table.answer_of did.sends)) f g) args_are
+            firsts_are ∙ ap (λ (z : RequestArgs). table.served_here s q.client z (table.is_ok (table.answer_of did.sends)) f g)
+            args_are
             ∙ ap (λ (n : ℕ). event.ServesOther n ∷ table.committed s n (table.is_ok (table.answer_of did.sends))) is.client
             ∙ ap (λ (z : Bool). event.ServesOther c ∷ table.committed s c z) (ok_is ∙ e)
 
@@ -509,13 +427,15 @@ module _ (laws : HeldLaws) (keeps : KeptGoesOn) (w : World) (h : List Line) (m :
 
         at_s1 : IsClient file f.kept.map (after s (event.ServesOther c)) c x None
         at_s1 =
-            client_spared s (after s (event.ServesOther c)) c (quiet_spares c s (event.ServesOther c ∷ []) (tt, tt)) file f.kept.map x
+            client_spared s (after s (event.ServesOther c)) c (quiet_spares c s (event.ServesOther c ∷ []) (tt, tt)) file
+            f.kept.map x
             None before
 
         commit_goes : (op : CallOp) (timed : List TimedOut) → x.call ≡ Some (record { op = op; phase = Waits (Commit timed) }) →
             (file_of op == file) ≡ true → (b : Bool) → (status_of a.results == NFS4_OK) ≡ b → Goal (whole_behind k)
         commit_goes op timed call on true good =
-            let out0 = committed_under s w f k.follows.related.kept.phase m.chosen w.server.next_grant w.server.format now q last args_are
+            let out0 = committed_under s w f k.follows.related.kept.phase m.chosen w.server.next_grant w.server.format now q
+            last args_are
             (subst (λ (z : Answer). (status_of z.results == NFS4_OK) ≡ true) on_file good) in
             let out : s.outstanding c ≡ Some out0.0 = ap s.outstanding (sym is.client) ∙ out0.1 in
             let wait = waits_is file f.kept.map c (after s (event.ServesOther c)) x op timed call on at_s1 a in
@@ -550,9 +470,11 @@ module _ (laws : HeldLaws) (keeps : KeptGoesOn) (w : World) (h : List Line) (m :
             sym size_is ∙ ap (λ (t : State). t.size) whole ∙ seq.size
             ∙ ap (λ (es : List Event). (after_all s es).size) (first_is ∙ first) ∙ size in
             let z : IsClient file f.kept.map c1 c x (Some a) =
-            client_committed file f.kept.map c s1 x op timed call on at_s1 a out0.0 (eqb-true (status_of a.results) NFS4_OK good) a_size in
+            client_committed file f.kept.map c s1 x op timed call on at_s1 a out0.0 (eqb-true (status_of a.results) NFS4_OK good)
+            a_size in
             with_answer (subst (λ (es : List Event). IsClient file f.kept.map (after_all u es) c x (Some a)) (sym none_last)
-            (client_spared c1 u c (spared_from (event.ServesOther c ∷ (event.Commits c j out0.0 ∷ [])) first) file f.kept.map x (Some a) z))
+            (client_spared c1 u c (spared_from (event.ServesOther c ∷ (event.Commits c j out0.0 ∷ [])) first) file f.kept.map x
+            (Some a) z))
         commit_goes op timed call on false bad =
             let wait = waits_is file f.kept.map c (after s (event.ServesOther c)) x op timed call on at_s1 a in
             let j : ℕ = wait.0 in

@@ -1,6 +1,6 @@
 -- A commit that is carried out: the client has a grant outstanding in the machine.
 -- Towards `CallsGoOn` (`relation_law/specs/Steps.antt`).
-use Rattle.std.proofs.Common.{◌≡◌, ◌==◌, ℕ, Bool, true, false, List, Option, Some, refl, sym, subst, ◌∙◌}
+use Rattle.std.proofs.Common.{◌≡◌, ◌==◌, ℕ, true, false, List, Option, Some, refl, sym, subst, ◌∙◌}
 use Rattle.std.proofs.lemmas.Bool.{true≢false}
 use Rattle.layout_ops.specs.declared.statuses.TheConstants.{NFS4_OK}
 use Rattle.client_rules.specs.Results.{status_of}
@@ -8,7 +8,7 @@ use Rattle.server_rules.specs.Commit.{Committed, NoGrant, Wrong, Sizes, commit_r
 use Rattle.server_rules.specs.Files.{at_file}
 use Rattle.server_rules.specs.Grants.{grant_of}
 use Rattle.server_rules.specs.Requests.{serves, answer_with}
-use Rattle.world_history.specs.ServerNames.{File, Still, ClientRequest, Commit as Commits}
+use Rattle.world_history.specs.ServerNames.{File, Still, ClientRequest, RequestArgs, Commit as Commits}
 use Rattle.world_history.specs.State.{World}
 use Rattle.fence_law.specs.State.{State, Grant}
 use Rattle.file_simulation.specs.Phases.{IsStill, PhaseIs}
@@ -40,5 +40,6 @@ module _ (s : State) (w : World) (f : File) (phase : PhaseIs s f f.kept.phase) (
   unfolding commits
   committed_under good =
       by_row (commit_row f.kept q.client last) refl
-      (subst (λ (z : _). (status_of (answer_with w.server q (serves (at_file w.server chosen f) next format now q.client z)).results
+      (subst (λ (z : RequestArgs).
+      (status_of (answer_with w.server q (serves (at_file w.server chosen f) next format now q.client z)).results
       == NFS4_OK) ≡ true) is good)

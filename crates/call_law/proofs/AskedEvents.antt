@@ -1,7 +1,7 @@
 -- The events of a step of the server on a client's new request: those of its notes leave what the machine has of the client, and
 -- those of the answer stand last.
 -- Towards `CallsGoOn` (`relation_law/specs/Steps.antt`).
-use Rattle.std.proofs.Common.{◌≡◌, ◌==◌, ◌++◌, ℕ, Bool, true, false, List, [], ◌∷◌, Option, Some, None, refl, sym, ap, subst, ◌∙◌, if◌then◌else◌}
+use Rattle.std.proofs.Common.{◌≡◌, ◌==◌, ◌++◌, ℕ, Bool, true, false, List, [], ◌∷◌, Option, Some, None, refl, ap, subst, ◌∙◌, if◌then◌else◌}
 use Rattle.move_law.specs.Answers.{AnswersOnly, Never}
 use Rattle.server_rules.specs.Files.{Step}
 use Rattle.server_rules.specs.History.{Input}

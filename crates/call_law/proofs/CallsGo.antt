@@ -55,7 +55,7 @@ use Rattle.call_law.proofs.TurnEnds.{PlansFit}
 abbrev pub WritesHavePlans : Type 0
 WritesHavePlans =
     (w : World) (h : List Line) (m : Move) (f g : File) (s : State) → FollowsWhole w h m f g s → (j : Going) →
-    going_in w m.action ≡ Some j →
+    going_in w m.action ≡ Some j → (j.input ≡ ClientResends → ⊥) →
     (x : IsClient f.kept.number f.kept.map s j.client j.state
     (kept_for (slot_of w.server.slots j.client) j.state.outstanding)) →
     PlansFit f.kept.number f.kept.map j.client s j.state (slot_of w.server.slots j.client) x j.input
@@ -102,7 +102,7 @@ module _ (laws : CallLaws) (w : World) (h : List Line) (m : Move) (f g : File) (
       fresh none =
           calls_of_own w h m f g s k same.number same.map j goes (low laws.own.held w h m f g s k j goes) none
           (own_fits laws.own w h m f g s k same.number same.map j goes none
-          (laws.plans w h m f g s k j goes
+          (laws.plans w h m f g s k j goes none
           (client_there w h m f g s k same.number same.map j goes (low laws.own.held w h m f g s k j goes) none)))
 
       resent : j.input ≡ ClientResends → Goal j.client

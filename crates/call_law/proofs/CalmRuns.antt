@@ -1,6 +1,6 @@
 -- Events of a client keep a run calm: no write is performed by them, and no column loses a component.
 -- Towards `CallsGoOn` (`relation_law/specs/Steps.antt`).
-use Rattle.std.proofs.Common.{◌≡◌, ◌<◌, ◌+◌, ◌++◌, ℕ, Bool, true, false, List, [], ◌∷◌, refl, sym, ap, subst, ◌∙◌, inl, inr, arith}
+use Rattle.std.proofs.Common.{◌≡◌, ◌<◌, ◌+◌, ◌++◌, ℕ, Bool, true, false, List, [], ◌∷◌, sym, ap, subst, ◌∙◌, inl, inr, arith}
 use Rattle.std.proofs.lemmas.Bool.{true≢false, cases_eq}
 use Rattle.fence_law.specs.Columns.{IsCalm, Torn}
 use Rattle.fence_law.specs.Law.{IsCode, IsWholeAt, Calms, reached}
@@ -60,20 +60,20 @@ torn_acknowledged : (s : State) (c j x : ℕ) → Torn (after s (Acknowledges c 
 torn_acknowledged s c j x t = elim (cases_eq t.0 j) [
   | inl this ↦ absurd (true≢false (sym (updated_at s.acknowledged j true t.0 this) ∙ t.7))
   | inr other ↦ (
-      t.0,
-      t.1,
-      t.2,
-      t.3,
-      t.4,
-      t.5,
-      t.6,
-      sym (updated_other s.acknowledged j true t.0 other) ∙ t.7,
-      t.8,
-      t.9,
-      t.10,
-      t.11,
-      t.12,
-    )
+    t.0,
+    t.1,
+    t.2,
+    t.3,
+    t.4,
+    t.5,
+    t.6,
+    sym (updated_other s.acknowledged j true t.0 other) ∙ t.7,
+    t.8,
+    t.9,
+    t.10,
+    t.11,
+    t.12,
+  )
 ]
 
 client_calm : (c : ℕ) (s : State) (e : Event) → IsOfClient c e → IsCalm s → IsCalm (after s e)

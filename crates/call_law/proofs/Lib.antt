@@ -5,8 +5,15 @@ pub mod TurnEnds
 pub mod OwnFacts
 pub mod AskedEvents
 pub mod AskedCommit
+pub mod AskedCalls
 pub mod Asked
 pub mod AskedNone
 pub mod CallsGo
 pub mod CalmRuns
 pub mod Scatters
+pub mod Splits
+pub mod Plans
+pub mod SmallBytes
+pub mod Heard
+pub mod RunsGo
+pub mod PlanWorlds

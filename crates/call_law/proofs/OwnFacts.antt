@@ -1,17 +1,10 @@
 -- What a move of a calm history gives of the client that goes on: its call works as it should, and what its turn asks is there.
 -- Towards `CallsGoOn` (`relation_law/specs/Steps.antt`).
-use Rattle.std.proofs.Common.{◌≡◌, ◌==◌, ◌<◌, ◌≤◌, ◌+◌, ◌++◌, ◌^◌, ◌⊎◌, ℕ, Bool, true, false, List, [], ◌∷◌, length, take, find, Option, Some, None, refl, sym, ap, subst, ◌∙◌, inl, inr, arith, if◌then◌else◌}
-use Rattle.std.specs.Prelude.{is_some}
+use Rattle.std.proofs.Common.{◌≡◌, ◌==◌, ◌<◌, ◌≤◌, ◌+◌, ◌++◌, ◌^◌, ◌⊎◌, ℕ, true, false, List, [], ◌∷◌, Option, Some, None, refl, sym, ap, subst, ◌∙◌, inl, inr, arith}
 use Rattle.std.proofs.lemmas.Bool.{cases_Bool, cases_eq, eq-eqb, ne_eqb, eqb-true}
-use Rattle.data_map.specs.declared.check.RawMap.{RawMap}
-use Rattle.data_map.specs.Check.{IsChecked}
 use Rattle.layout_types.specs.declared.ioerrs.IoErr.{IoErr}
 use Rattle.layout_ops.specs.declared.messages.Answer.{Answer}
-use Rattle.osd_lists.specs.declared.node.Node.{Node}
 use Rattle.osd_commands.specs.declared.replies.Reply.{Reply}
-use Rattle.stripe_plan.specs.declared.plan.Column.{Column}
-use Rattle.stripe_plan.specs.Lost.{unwritable}
-use Rattle.stripe_plan.specs.Touched.{stripes}
 use Rattle.scenario_text.specs.declared.line.Line.{Line}
 use Rattle.server_rules.specs.Laws.{In, last_of}
 use Rattle.server_rules.specs.Slots.{slot_of}
@@ -20,14 +13,13 @@ use Rattle.client_rules.specs.Calls.{file_of, span_of, bytes_of}
 use Rattle.client_rules.specs.Grants.{held_of}
 use Rattle.client_rules.specs.History.{Input, Calls, Hears, TimesOut, Leaves, Resends, step}
 use Rattle.client_rules.specs.Io.{awaited_in, outs}
-use Rattle.client_rules.specs.Messages.{Step, Message}
+use Rattle.client_rules.specs.Messages.{Step}
 use Rattle.client_rules.specs.Replies.{answers, timed_after}
-use Rattle.client_rules.specs.Writes.{is_too_short}
 use Rattle.gather_law.proofs.Gathered.{long_enough}
 use Rattle.move_law.specs.Turns.{IsAnswered, IsReplied, IsTimed}
-use Rattle.world_history.specs.ServerNames.{File, Server, Slot}
-use Rattle.world_history.specs.ClientNames.{Awaited, Client, Call, CallOp, Held, Io, Need, First, Get, Commit, Report, Close, Outcome, Phase, Starts, Needs, Waits, Reads, Probes, Gathers, Scatters, Request, TimedOut}
-use Rattle.world_history.specs.State.{World, ClientAt, at_number}
+use Rattle.world_history.specs.ServerNames.{File, Slot}
+use Rattle.world_history.specs.ClientNames.{Awaited, Client, Call, CallOp, Held, Need, First, Get, Commit, Report, Close, Outcome, Phase, Starts, Needs, Waits, Reads, Probes, Gathers, Scatters, Request}
+use Rattle.world_history.specs.State.{World}
 use Rattle.world_history.specs.Handed.{op_in}
 use Rattle.world_history.specs.Moves.{acts}
 use Rattle.world_history.specs.Sending.{Move, move}
@@ -44,11 +36,8 @@ use Rattle.fence_law.proofs.Safe.{Safe, safe_all}
 use Rattle.file_simulation.specs.ClientEvents as table
 use Rattle.file_simulation.specs.ClientEvents.{Going, going_in}
 use Rattle.file_simulation.specs.Events.{joined, events_of}
-use Rattle.file_simulation.specs.EventLists.{Lines}
 use Rattle.file_simulation.specs.Requests.{kept_by, AwaitsNothing, RequestIs}
 use Rattle.exchange_law.specs.Messages.{last_before}
-use Rattle.file_simulation.specs.Relation.{client_of}
-use Rattle.relation_law.specs.CallsFits.{AnswerFits}
 use Rattle.relation_law.specs.CallsTurns.{NeedHas, ReplyFits, TimeFits}
 use Rattle.relation_law.specs.Frames.{AreAll, IsOfClient, ByClient}
 use Rattle.relation_law.specs.Requests.{HasRested}
@@ -62,14 +51,14 @@ use Rattle.relation_law.proofs.ComponentsGoOn.{lawful_front, lawful_behind}
 use Rattle.relation_law.proofs.FramesParties.{by_client_lines}
 use Rattle.relation_law.proofs.FramesStay.{all_joined, server_stays_all}
 use Rattle.relation_law.proofs.MessagesAlways.{found_one}
-use Rattle.relation_law.proofs.MessagesClients.{IsUsable, GathersFor}
+use Rattle.relation_law.proofs.MessagesClients.{GathersFor}
 use Rattle.relation_law.proofs.MessagesRun.{IsFine, CallFits}
 use Rattle.relation_law.proofs.RequestsKept.{taken_all}
 use Rattle.relation_law.proofs.RequestsPlain.{asking_stays_all, ended_plain}
-use Rattle.relation_law.proofs.RequestsReturns.{HeldLaws, by, then_, low, agree, is_client, asks, met, reports, safe, outstanding_is, unheld_, kept_it, served_it, not_next}
+use Rattle.relation_law.proofs.RequestsReturns.{HeldLaws, by, low, agree, asks, met, reports, safe, outstanding_is, unheld_, kept_it, served_it, not_next}
 use Rattle.relation_law.proofs.RequestsTaken.{answer_taken_rests}
 use Rattle.relation_law.proofs.ReturnsStands.{always_fine}
-use Rattle.call_law.specs.Working.{WorksUnder, CallWorks, ClientWorks}
+use Rattle.call_law.specs.Working.{WorksUnder, ClientWorks}
 use Rattle.call_law.proofs.SomeWrites.{some_stores}
 use Rattle.call_law.proofs.TurnEnds.{TurnFacts, PlansFit, told_at, ends_well}
 use Rattle.call_law.proofs.WorksRun.{step_works, one_by_nonce, under}
@@ -168,7 +157,7 @@ module _ (laws : OwnWorld) (w : World) (h : List Line) (m : Move) (f g : File) (
   safe_ : Safe s
   safe_ = safe laws.held w h m f g s k j goes
 
-  fine : IsFine x
+  pub fine : IsFine x
   fine =
       subst IsFine (sym its.state_is)
       (clients_always (λ n y. IsFine y) always_fine w (reached w h k.follows.moment) j.client its.before its.found)
@@ -201,6 +190,13 @@ module _ (laws : OwnWorld) (w : World) (h : List Line) (m : Move) (f g : File) (
       (all_joined (IsOfClient j.client) (events_of s w (owed k.follows.related) f m)
       (by_client_lines s w (owed k.follows.related) f m j goes))
 
+  -- those of the first line are the client's, and can happen
+  pub first_owned : AreAll (IsOfClient j.client) (table.at_first s f.kept.number j.client j.state j.input)
+  first_owned = all_front (IsOfClient j.client) (table.at_first s file c x j.input) rest owned
+
+  pub first_lawful : Lawful s (table.at_first s f.kept.number j.client j.state j.input)
+  first_lawful = lawful_front s (table.at_first s file c x j.input) rest lawful
+
   first_safe : Safe (after_all s (table.at_first s f.kept.number j.client j.state j.input))
   first_safe =
       safe_all s (table.at_first s file c x j.input) (lawful_front s (table.at_first s file c x j.input) rest lawful) safe_
@@ -208,7 +204,8 @@ module _ (laws : OwnWorld) (w : World) (h : List Line) (m : Move) (f g : File) (
   behind : Lawful first rest
   behind = lawful_behind s (table.at_first s file c x j.input) rest lawful
 
-  told_safe : (u : Option Outcome) → (step x j.input).outcome ≡ u → Safe (after_all first (told_events first file c (op_in x j.input) u))
+  told_safe : (u : Option Outcome) → (step x j.input).outcome ≡ u →
+      Safe (after_all first (told_events first file c (op_in x j.input) u))
   told_safe u e =
       let r = end_events first file c (op_in x j.input) (step x j.input) u e in
       safe_all first (told_events first file c (op_in x j.input) u)
@@ -260,7 +257,8 @@ module _ (laws : OwnWorld) (w : World) (h : List Line) (m : Move) (f g : File) (
       let many = as_many v _ (read_at v _ moment) in
       let few : AreFew (h ++ lines_in w m) =
       subst (λ (z : List Line). AreFew (h ++ z)) (taken_all (lines_in w m)) k.follows.calm.scenario.few in
-      let one = counts.commands hh (held_in its.after.state.held n hh (ap (λ (y : Client). held_of y.held n) its.behind ∙ held)) in
+      let one = counts.commands hh (held_in its.after.state.held n hh (ap (λ (y : Client). held_of y.held n)
+      its.behind ∙ held)) in
       omega (arith, one, many, few)
 
   -- ---- requests
@@ -384,5 +382,6 @@ module _ (laws : OwnWorld) (w : World) (h : List Line) (m : Move) (f g : File) (
       replied = λ drive q call hh a r here. replied_fits drive q call hh a r call.phase refl;
       timed = λ n call hh a xs r here. timed_fits n call hh a xs r call.phase refl;
       ends = λ es at d is turn y. ends_well file f.kept.map c s x t
-          (client_there w h m f g s k number map j goes (low laws.held w h m f g s k j goes) none) j.input facts es at d is turn y;
+          (client_there w h m f g s k number map j goes (low laws.held w h m f g s k j goes) none) j.input
+          facts es at d is turn y;
     }

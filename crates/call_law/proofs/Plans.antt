@@ -24,7 +24,7 @@ use Rattle.client_rules.specs.Answers.{not_granted}
 use Rattle.client_rules.specs.Replies.{answers, replied, timed_out}
 use Rattle.client_rules.specs.Results.{status_of}
 use Rattle.client_rules.specs.Writes.{firsts, laters}
-use Rattle.move_law.specs.Turns.{IsReplied, IsTimed}
+use Rattle.move_law.specs.Turns.{IsReplied}
 use Rattle.move_law.proofs.Turns.{each_begin}
 use Rattle.world_history.specs.ServerNames.{Slot}
 use Rattle.world_history.specs.ClientNames.{Awaited, Call, CallOp, Client, Column, Done, Held, Io, Need, First, Get, Commit, Report, Close, Phase, Starts, Needs, Waits, Reads, Probes, Gathers, Scatters, Store, TimedOut, Turn, Goes, Ends, Forgets, Why}
@@ -32,7 +32,7 @@ use Rattle.std.specs.Prelude.{Result, Ok, Err}
 use Rattle.world_history.specs.Handed.{op_in}
 use Rattle.world_history.specs.State.{World}
 use Rattle.fence_law.specs.Law.{IsCode, IsWholeAt, byte_before}
-use Rattle.fence_law.specs.Machine.{Allowed, Lawful, after, after_all}
+use Rattle.fence_law.specs.Machine.{Allowed, Lawful, after_all}
 use Rattle.fence_law.specs.Starts.{written_start}
 use Rattle.fence_law.specs.State.{State, Event, Grant, Start}
 use Rattle.fence_law.specs.State.{Event as event}
@@ -50,11 +50,11 @@ use Rattle.relation_law.specs.CallsCases.{IsTurn, Begins, Answered, Replied, Tim
 use Rattle.relation_law.specs.CallsTurns.{IsStarting, stores_of as sent_stores}
 use Rattle.relation_law.specs.Frames.{AreAll, IsOfClient}
 use Rattle.relation_law.proofs.CallsSends.{IsPlanned, gather_starts}
-use Rattle.relation_law.proofs.CallsStarts.{IsPlannedAt, PlanFits, entry_started, gathered_none}
+use Rattle.relation_law.proofs.CallsStarts.{IsPlannedAt, PlanFits, gathered_none}
 use Rattle.relation_law.proofs.FramesStay.{server_stays_all}
 use Rattle.relation_law.proofs.MessagesAlways.{Any, found_one}
 use Rattle.relation_law.proofs.MessagesClients.{IsFit, IsUsable}
-use Rattle.relation_law.proofs.MessagesContent.{start_of, stores_of}
+use Rattle.relation_law.proofs.MessagesContent.{stores_of}
 use Rattle.relation_law.proofs.MessagesRun.{CallFits, FineDone, IsFine, finishes}
 use Rattle.relation_law.proofs.MessagesScatter.{Begins as ScatterBegins, plan_is}
 use Rattle.relation_law.proofs.ReadsShown.{AllShown}
@@ -250,7 +250,8 @@ module _ (file : ℕ) (m : RawMap) (c : ℕ) (s : State) (x : Client) (slot : Op
     at_write : (call : Call) → x.call ≡ Some call → (file_of call.op == file) ≡ true → (p : Phase) → call.phase ≡ p →
         is_scatter p ≡ true → (j : ℕ) × (s.call c ≡ AtWrite j)
     at_write call is here (Scatters io queue) e t =
-        let z : (j : ℕ) × IsScattering s c call.op io queue j = at_phase call is here (Scatters io queue) e in (z.0, z.1.writing.at_)
+        let z : (j : ℕ) × IsScattering s c call.op io queue j = at_phase call is here (Scatters io queue) e in
+        (z.0, z.1.writing.at_)
     at_write call is here Starts e t = absurd (cc t)
     at_write call is here (Needs n) e t = absurd (cc t)
     at_write call is here (Waits n) e t = absurd (cc t)
@@ -309,10 +310,10 @@ module _ (file : ℕ) (m : RawMap) (c : ℕ) (s : State) (x : Client) (slot : Op
                       | inl old ↦ sh.got col old
                       | inr new ↦ elim new [
                         | inl is ↦ (
-                            a.ask.component,
-                            subst (WasShown s j a.ask.component) (heard.got ∙ sym is)
-                                (sh.replied a heard.reply awaited heard.replied heard.answers heard.performed),
-                          )
+                          a.ask.component,
+                          subst (WasShown s j a.ask.component) (heard.got ∙ sym is)
+                              (sh.replied a heard.reply awaited heard.replied heard.answers heard.performed),
+                        )
                         | inr none ↦ absurd none
                       ]
                     ]);
@@ -346,7 +347,8 @@ module _ (file : ℕ) (m : RawMap) (c : ℕ) (s : State) (x : Client) (slot : Op
               v.scatters,
             )
 
-    module _ (turn : IsTurn file s c x i es d) (fine_done : FineDone Any d) (call : Call) (io : Io) (queue : List Store) (h : Held)
+    module _ (turn : IsTurn file s c x i es d) (fine_done : FineDone Any d) (call : Call) (io : Io) (queue : List Store)
+        (h : Held)
         (is : (begun d).client.call ≡ Some call) (phase : call.phase ≡ Scatters io queue)
         (here : (file_of call.op == file) ≡ true) (holds : held_of (begun d).client.held file ≡ Some h) (g : Grant)
         (has : (after_all s es).held c ≡ Some g) (about : op_in x i ≡ Some call.op) (holding : IsHolding m (after_all s es) c h)

@@ -10,7 +10,7 @@ use Rattle.server_rules.specs.Laws.{In}
 use Rattle.client_rules.specs.declared.limits.TheConstants.{PERFORMED, OTHER_TAG}
 use Rattle.client_rules.specs.Calls.{file_of, is_write, span_of, bytes_of}
 use Rattle.client_rules.specs.Commands.{counted, nonce_at, others, not_of, read_commands, write_commands}
-use Rattle.client_rules.specs.Going.{begins, begun, by_turn, moved, phased, with_held}
+use Rattle.client_rules.specs.Going.{begins, begun, by_turn, moved, with_held}
 use Rattle.client_rules.specs.Grants.{clipped, covers, held_of, is_for, put_held}
 use Rattle.client_rules.specs.Io.{awaited_in, got_of, outs}
 use Rattle.client_rules.specs.Laws.{Awaiting}
@@ -20,7 +20,7 @@ use Rattle.client_rules.specs.Turns.{turned, closing}
 use Rattle.client_rules.specs.Writes.{accounted, written, is_past_size, firsts, laters, scatters, scatters_on, gathers, gathers_on, gathers_due, is_too_short}
 use Rattle.client_rules.proofs.ReadSteps.{held_file, put_at}
 use Rattle.move_law.proofs.Turns.{each_begin}
-use Rattle.world_history.specs.ClientNames.{Awaited, Call, CallOp, Client, Column, Done, Held, Io, Moved, Need, Needs, Outcome, Phase, Starts, Waits, Reads, Probes, Gathers, Scatters, Span, Store, TimedOut, Turn, Goes, Ends, Forgets}
+use Rattle.world_history.specs.ClientNames.{Awaited, Call, CallOp, Column, Done, Held, Io, Moved, Need, Needs, Outcome, Phase, Starts, Waits, Reads, Probes, Gathers, Scatters, Span, Store, TimedOut, Turn, Goes, Ends, Forgets}
 use Rattle.gather_law.specs.Ready.{IsSome, IsReady as IsGatherReady, AreBelow}
 use Rattle.gather_law.proofs.Gathered as gather
 use Rattle.exchange_law.proofs.Had.{rest_below}
@@ -155,7 +155,8 @@ module _ (h : Held) (op : CallOp) where
           covers = on.covers;
           may = subst (λ (out : List ℕ). MayScatter h.map (span_of op) (bytes_of op) got out) same may;
           before = h;
-          first = o.sent_is ∙ ap (λ (out : List ℕ). write_commands h (firsts [] (stores h.map (span_of op) (bytes_of op) got out))) same;
+          first = o.sent_is ∙ ap (λ (out : List ℕ). write_commands h (firsts [] (stores h.map (span_of op) (bytes_of op)
+              got out))) same;
           rest = o.queue_is ∙ ap (λ (out : List ℕ). laters [] (stores h.map (span_of op) (bytes_of op) got out)) same;
         };
       }
@@ -188,7 +189,7 @@ module _ (h : Held) (op : CallOp) where
 
   begins_so : IsUsable h → HasBytes op → covers h op ≡ true → (io : Io) (queue : List Store) →
       (begins h op).turn ≡ Goes (Scatters io queue) → ScattersSo h op [] io queue (begins h op)
-  unfolding begins
+  unfolding begins probes reads
   begins_so u has cover io queue e =
       let c = covered h op cover in
       elim (cases_Bool (is_write op)) [
@@ -204,9 +205,9 @@ module _ (h : Held) (op : CallOp) where
     where
       no_write : (if (clipped h.size (span_of op)).length == 0 then probes h [] [] []
           else reads h (clipped h.size (span_of op)) [] [] []).turn ≡ Goes (Scatters io queue) → ⊥
-      unfolding probes reads
       no_write z =
-          either_moved ((clipped h.size (span_of op)).length == 0) _ _ (probes_never [] [] [] _) (reads_never _ [] [] [] _) io queue z
+          either_moved ((clipped h.size (span_of op)).length == 0) _ _ (probes_never [] [] [] _) (reads_never _ [] [] [] _)
+          io queue z
 
   -- ---- a reply
 
@@ -219,30 +220,31 @@ module _ (h : Held) (op : CallOp) where
   performed_so : (p : Phase) (a : Awaited) (q : Reply) → IsUsable h → In a (awaited_in p) → IsFit h op p → is_scatter p ≡ false →
       q.verdict ≡ PERFORMED → (io : Io) (queue : List Store) → (performed h op p a q).turn ≡ Goes (Scatters io queue) →
       RepliesSo p a q io queue (performed h op p a q)
-  performed_so (Gathers g) a q u i fit no v io queue e = record {
+  performed_so (Gathers g) a q u i fit unsent v io queue e = record {
     gathered = g;
     phase = refl;
     performed = v;
     scatters = gather_is (g.got ++ got_of a q ∷ []) g.timed [] (others g.awaited a.command.nonce)
         (record { checked = u.checked; is = fit.is; some = fit.some; covers = fit.covers })
         (rw (gather.no_more h) at
-        (gather.ready_replied h.map (span_of op) (outs h g.timed) g.got g.awaited a q (nonce_at h h.count) i fit.ready)) io queue e;
+        (gather.ready_replied h.map (span_of op) (outs h g.timed) g.got g.awaited a q (nonce_at h h.count) i fit.ready))
+        io queue e;
   }
-  performed_so (Reads g) a q u i fit no v io queue e = absurd (reads_on_never _ _ _ _ _ io queue e)
-  performed_so (Probes g) a q u i fit no v io queue e = absurd (probes_on_never _ _ _ _ io queue e)
-  performed_so (Scatters g rest) a q u i fit no v io queue e = absurd (cc no)
-  performed_so Starts a q u i fit no v io queue e =
+  performed_so (Reads g) a q u i fit unsent v io queue e = absurd (reads_on_never _ _ _ _ _ io queue e)
+  performed_so (Probes g) a q u i fit unsent v io queue e = absurd (probes_on_never _ _ _ _ io queue e)
+  performed_so (Scatters g rest) a q u i fit unsent v io queue e = absurd (cc unsent)
+  performed_so Starts a q u i fit unsent v io queue e =
       let p : Starts ≡ Scatters io queue = goes_apart Starts (Scatters io queue) e in absurd (cc p)
-  performed_so (Needs n) a q u i fit no v io queue e = absurd (needs_never n io queue e)
-  performed_so (Waits n) a q u i fit no v io queue e =
+  performed_so (Needs n) a q u i fit unsent v io queue e = absurd (needs_never n io queue e)
+  performed_so (Waits n) a q u i fit unsent v io queue e =
       let p : Waits n ≡ Scatters io queue = goes_apart (Waits n) (Scatters io queue) e in absurd (cc p)
 
   pub replied_so : (p : Phase) (a : Awaited) (q : Reply) → IsUsable h → In a (awaited_in p) → IsFit h op p →
       is_scatter p ≡ false → (io : Io) (queue : List Store) → (replied h op p a q).turn ≡ Goes (Scatters io queue) →
       RepliesSo p a q io queue (replied h op p a q)
   unfolding replied
-  replied_so p a q u i fit no io queue e = elim (cases_Bool (q.verdict == PERFORMED)) [
-    | inl t ↦ rw t (performed_so p a q u i fit no (eqb-true q.verdict PERFORMED t) io queue (rw t at e))
+  replied_so p a q u i fit unsent io queue e = elim (cases_Bool (q.verdict == PERFORMED)) [
+    | inl t ↦ rw t (performed_so p a q u i fit unsent (eqb-true q.verdict PERFORMED t) io queue (rw t at e))
     | inr f ↦ absurd (refused_never p a q io queue (rw f at e))
   ]
 
@@ -281,18 +283,18 @@ module _ (h : Held) (op : CallOp) where
       (io : Io) (queue : List Store) → (timed_out h op p k a xs).turn ≡ Goes (Scatters io queue) →
       TimesSo p io queue (timed_out h op p k a xs)
   unfolding reads probes
-  timed_so (Gathers g) k a xs u fit no io queue e = record {
+  timed_so (Gathers g) k a xs u fit unsent io queue e = record {
     gathered = g;
     phase = refl;
     scatters = gather_timed_so g k (timed_after g.timed a xs) u fit io queue e;
   }
-  timed_so (Reads g) k a xs u fit no io queue e = absurd (reads_never _ _ _ _ _ io queue e)
-  timed_so (Probes g) k a xs u fit no io queue e = absurd (probes_never _ _ _ _ io queue e)
-  timed_so (Scatters g rest) k a xs u fit no io queue e = absurd (cc no)
-  timed_so Starts k a xs u fit no io queue e =
+  timed_so (Reads g) k a xs u fit unsent io queue e = absurd (reads_never _ _ _ _ _ io queue e)
+  timed_so (Probes g) k a xs u fit unsent io queue e = absurd (probes_never _ _ _ _ io queue e)
+  timed_so (Scatters g rest) k a xs u fit unsent io queue e = absurd (cc unsent)
+  timed_so Starts k a xs u fit unsent io queue e =
       let p : Starts ≡ Scatters io queue = goes_apart Starts (Scatters io queue) e in absurd (cc p)
-  timed_so (Needs n) k a xs u fit no io queue e = absurd (needs_never n io queue e)
-  timed_so (Waits n) k a xs u fit no io queue e =
+  timed_so (Needs n) k a xs u fit unsent io queue e = absurd (needs_never n io queue e)
+  timed_so (Waits n) k a xs u fit unsent io queue e =
       let p : Waits n ≡ Scatters io queue = goes_apart (Waits n) (Scatters io queue) e in absurd (cc p)
 
 -- ---- in the middle of a turn
@@ -360,6 +362,10 @@ begun_plan file Source d nothing fine stays = each_begin d (HasPlan file Source)
       absurd (cc p));
   begun = λ op h is held cover.
       moved_plan file Source d op h (begins h op) held
-      (λ io queue here e. ([], nothing, begins_so h op (fine.usable (file_of op) h held)
-      (call_bytes d.client.held d.client.call (record { op = op; phase = Starts }) is fine.call) cover io queue e));
+      (λ io queue here e. (
+        [],
+        nothing,
+        begins_so h op (fine.usable (file_of op) h held)
+            (call_bytes d.client.held d.client.call (record { op = op; phase = Starts }) is fine.call) cover io queue e,
+      ));
 })

@@ -1,10 +1,10 @@
 -- A write of some bytes sends something, whatever its gather got, where no touched stripe lacks more positions than it has
 -- parity: of the units that it changes, which are one of data and all of parity, one isn't out.
 -- Towards `CallsGoOn` (`relation_law/specs/Steps.antt`).
-use Rattle.std.proofs.Common.{◌≡◌, ◌⊎◌, ◌==◌, ◌<◌, ◌≤◌, ◌||◌, ℕ, zero, suc, ◌+◌, ◌-◌, ◌*◌, Bool, true, false, List, [], ◌∷◌, length, refl, sym, ap, subst, ◌∙◌, arith, inl, inr}
-use Rattle.std.specs.Prelude.{filter, Option, Some, None, nat_le, if◌then◌else◌}
+use Rattle.std.proofs.Common.{◌≡◌, ◌⊎◌, ◌==◌, ◌<◌, ◌≤◌, ◌||◌, ℕ, zero, suc, ◌+◌, ◌-◌, ◌*◌, Bool, true, false, List, [], length, refl, ap, subst, arith, inl, inr}
+use Rattle.std.specs.Prelude.{filter, None, nat_le}
 use Rattle.std.specs.List.{range_with_len}
-use Rattle.std.proofs.lemmas.Bool.{cases_Bool, cases_lt, eq-eqb, le-leb, eqb-true}
+use Rattle.std.proofs.lemmas.Bool.{cases_Bool, eq-eqb, le-leb, eqb-true}
 use Rattle.std.proofs.lemmas.Bool.Decides.{nat_tests}
 use Rattle.data_map.specs.declared.check.RawMap.{RawMap}
 use Rattle.data_map.specs.Check.{IsChecked}
@@ -167,4 +167,5 @@ module _ (m : RawMap) (r : Span) (out : List ℕ) (ch : IsChecked m) (some : 0 <
       (offset_of m (stripe_of m r.offset) (column_of m r.offset)) =
       unit_carried m r bytes got out (stripe_of m r.offset) one.0 (column_of m r.offset) (p * replicas m + left.0) one.1 some
       touched (omega arith) (omega (arith, left.1)) left.2 (within one.0 is) in
-      subst (λ ws. IsCarried ws (p * replicas m + left.0) (offset_of m (stripe_of m r.offset) (column_of m r.offset))) none carried
+      subst (λ ws. IsCarried ws (p * replicas m + left.0) (offset_of m (stripe_of m r.offset) (column_of m r.offset)))
+      none carried

@@ -75,9 +75,9 @@ split_differ seen (w ∷ ws) d = elim (cases_Bool (among w.ask.component seen)) 
   | inl t ↦
       rw t (differ_mid (firsts seen ws) (laters seen ws) w (λ q i. d.0 q (join_in seen ws q i)) (split_differ seen ws d.1))
   | inr f ↦ rw f (
-      λ q i. d.0 q (join_in (w.ask.component ∷ seen) ws q i),
-      split_differ (w.ask.component ∷ seen) ws d.1,
-    )
+    λ q i. d.0 q (join_in (w.ask.component ∷ seen) ws q i),
+    split_differ (w.ask.component ∷ seen) ws d.1,
+  )
 ]
 
 pub planned_split : (x : Start) (timed : List TimedOut) (ws : List Store) → IsPlanned x timed ws →

@@ -1,27 +1,24 @@
 -- What the begin and the end of a client's turn ask: its call begins with a plan, its commands go out under the grant that it
 -- holds, and where it asks it waits for nothing.
 -- Towards `CallsGoOn` (`relation_law/specs/Steps.antt`).
-use Rattle.std.proofs.Common.{◌≡◌, ◌==◌, ◌<◌, ◌≤◌, ◌^◌, ℕ, Bool, true, false, List, [], ◌∷◌, ◌++◌, map, Option, Some, None, refl, sym, ap, subst, ◌∙◌, inl, inr, arith, if◌then◌else◌}
+use Rattle.std.proofs.Common.{◌≡◌, ◌==◌, ◌<◌, ◌≤◌, ◌^◌, ℕ, Bool, true, false, List, [], ◌∷◌, ◌++◌, map, Option, Some, None, refl, sym, ap, subst, ◌∙◌, inl, inr, arith}
 use Rattle.std.proofs.lemmas.Bool.{cases_Bool, eqb-true}
 use Rattle.data_map.specs.declared.check.RawMap.{RawMap}
 use Rattle.layout_ops.specs.declared.messages.Answer.{Answer}
 use Rattle.osd_commands.specs.declared.replies.Reply.{Reply}
-use Rattle.stripe_plan.specs.declared.plan.Column.{Column}
 use Rattle.server_rules.specs.Laws.{In}
 use Rattle.client_rules.specs.declared.limits.TheConstants.{PERFORMED, OTHER_TAG, NONCES}
 use Rattle.client_rules.specs.Calls.{file_of, is_write, span_of, bytes_of}
-use Rattle.client_rules.specs.Commands.{nonce_at}
 use Rattle.client_rules.specs.Going.{quiet, begins, begun, by_turn, with_held, progressed, progress_free, progress_call, progress_phase}
 use Rattle.client_rules.specs.Grants.{covers, held_of}
 use Rattle.client_rules.specs.History.{Input, step}
 use Rattle.client_rules.specs.Io.{awaited_in, outs}
-use Rattle.client_rules.specs.Laws.{nonce_of}
-use Rattle.client_rules.specs.Messages.{Step, finished, on_call}
+use Rattle.client_rules.specs.Messages.{Step, finished}
 use Rattle.client_rules.specs.Replies.{replied, timed_out}
 use Rattle.move_law.specs.Turns.{IsAnswered, with_start}
 use Rattle.move_law.proofs.Turns.{each_begin}
 use Rattle.world_history.specs.ServerNames.{Slot}
-use Rattle.world_history.specs.ClientNames.{Awaited, Client, Call, CallOp, Done, Held, Io, Lost, Need, Close, Outcome, Phase, Starts, Needs, Waits, Reads, Probes, Gathers, Scatters, ReadOk, Request, Silent, Store, Turn, Goes, Ends, Forgets}
+use Rattle.world_history.specs.ClientNames.{Awaited, Client, Call, CallOp, Done, Held, Io, Lost, Close, Outcome, Phase, Starts, Needs, Waits, Reads, Probes, Gathers, Scatters, Request, Silent, Store, Turn, Goes, Ends, Forgets}
 use Rattle.world_history.specs.Handed.{op_in}
 use Rattle.exchange_law.proofs.PlaceMoving.{covered}
 use Rattle.fence_law.specs.State.{State, Event, Grant}
@@ -30,7 +27,7 @@ use Rattle.fence_law.specs.Machine.{after_all}
 use Rattle.fence_law.proofs.Holds.{Holds}
 use Rattle.fence_law.proofs.Slots.{Slots}
 use Rattle.fence_law.proofs.Safe.{Safe}
-use Rattle.file_simulation.specs.Calls.{IsClient, IsHolding, HeldIs, waits_report, reports_on}
+use Rattle.file_simulation.specs.Calls.{IsClient, IsHolding, HeldIs}
 use Rattle.file_simulation.specs.ClientEvents as table
 use Rattle.file_simulation.specs.EventLists.{where_so}
 use Rattle.file_simulation.specs.Requests.{kept_for, kept_by}
@@ -41,7 +38,7 @@ use Rattle.relation_law.proofs.CallsMid.{AsksOfBegin, begun_mid}
 use Rattle.relation_law.proofs.CallsOwn.{EndsWell}
 use Rattle.relation_law.proofs.CallsSettled.{WorkFits}
 use Rattle.relation_law.proofs.CallsStarts.{PlanFits}
-use Rattle.relation_law.proofs.CallsTells.{CommandFits, CommandsFit}
+use Rattle.relation_law.proofs.CallsTells.{CommandsFit}
 use Rattle.relation_law.proofs.CallsTurned.{EndFits}
 use Rattle.relation_law.proofs.CallsWhole.{told_end, with_outcome, outcome_stays, begun_outstanding}
 use Rattle.relation_law.proofs.MessagesAlways.{Any, on_call_fine, replied_done, timed_done, has_bytes}
@@ -376,17 +373,29 @@ module _ (file : ℕ) (m : RawMap) (c : ℕ) (s : State) (x : Client) (slot : Op
       work_by (Needs n) e u out = tt
       work_by (Waits n) e u out = tt
       work_by (Reads io) e u out =
-          let r = holds (subst IsWorking (sym e) tt) in
-          (r.0, r.1, (fit (r.0) r.1 (Reads io) e).is, subst (λ (p : Phase). CommandsFit (begun d).client r.0 (is_scatter p) (begun d).commands) e
-          (commands_fit r.0 r.1))
+          let r = holds (subst IsWorking (sym e) tt) in (
+            r.0,
+            r.1,
+            (fit (r.0) r.1 (Reads io) e).is,
+            subst (λ (p : Phase). CommandsFit (begun d).client r.0 (is_scatter p) (begun d).commands) e
+                (commands_fit r.0 r.1),
+          )
       work_by (Probes io) e u out =
-          let r = holds (subst IsWorking (sym e) tt) in
-          (r.0, r.1, (fit (r.0) r.1 (Probes io) e).is, subst (λ (p : Phase). CommandsFit (begun d).client r.0 (is_scatter p) (begun d).commands) e
-          (commands_fit r.0 r.1))
+          let r = holds (subst IsWorking (sym e) tt) in (
+            r.0,
+            r.1,
+            (fit (r.0) r.1 (Probes io) e).is,
+            subst (λ (p : Phase). CommandsFit (begun d).client r.0 (is_scatter p) (begun d).commands) e
+                (commands_fit r.0 r.1),
+          )
       work_by (Gathers io) e u out =
-          let r = holds (subst IsWorking (sym e) tt) in
-          (r.0, r.1, (fit (r.0) r.1 (Gathers io) e).is, subst (λ (p : Phase). CommandsFit (begun d).client r.0 (is_scatter p) (begun d).commands) e
-          (commands_fit r.0 r.1))
+          let r = holds (subst IsWorking (sym e) tt) in (
+            r.0,
+            r.1,
+            (fit (r.0) r.1 (Gathers io) e).is,
+            subst (λ (p : Phase). CommandsFit (begun d).client r.0 (is_scatter p) (begun d).commands) e
+                (commands_fit r.0 r.1),
+          )
       work_by (Scatters io queue) e (Some v) out = absurd (cc (sym (mid.ended v out) ∙ is))
       work_by (Scatters io queue) e None out =
           let r = holds (subst IsWorking (sym e) tt) in (
@@ -396,7 +405,8 @@ module _ (file : ℕ) (m : RawMap) (c : ℕ) (s : State) (x : Client) (slot : Op
             subst (λ (p : Phase). CommandsFit (begun d).client r.0 (is_scatter p) (begun d).commands) e (commands_fit r.0 r.1),
             λ g y y_is y_here y_holds same has starts.
                 let one : call ≡ y = cc (sym is ∙ y_is) in
-                facts.plans es d at turn fine_done y io queue r.0 y_is (ap (λ (z : Call). z.phase) (sym one) ∙ e) y_here y_holds g has
+                facts.plans es d at turn fine_done y io queue r.0 y_is (ap (λ (z : Call). z.phase) (sym one) ∙ e)
+                y_here y_holds g has
                 (mid.about y y_is)
                 (subst (HeldIs file m (after_all s es) c (begun d).client (kept_for slot d.client.outstanding)) y_holds mid.held)
                 (subst (λ (o : CallOp). IsStarting m (after_all s es) c o io queue (begun d).commands) (sym same) starts),

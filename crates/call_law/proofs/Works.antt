@@ -1,7 +1,7 @@
 -- What a call does with the drives: what it awaits then is of its kind, with nonces that differ, and what it has queued stands
 -- behind what it awaits.
 -- Towards `CallsGoOn` (`relation_law/specs/Steps.antt`).
-use Rattle.std.proofs.Common.{◌≡◌, ◌==◌, ◌<◌, ◌≤◌, ◌⊎◌, ℕ, ◌+◌, Bool, true, false, not, List, [], ◌∷◌, ◌++◌, length, map, Option, Some, None, refl, sym, ap, subst, ◌∙◌, inl, inr, arith, if◌then◌else◌}
+use Rattle.std.proofs.Common.{◌≡◌, ◌==◌, ◌<◌, ◌⊎◌, ℕ, ◌+◌, Bool, true, false, not, List, [], ◌∷◌, ◌++◌, length, map, Option, Some, None, refl, sym, ap, subst, ◌∙◌, inl, inr, arith, if◌then◌else◌}
 use Rattle.std.specs.List.{range_with_len}
 use Rattle.std.proofs.lemmas.Bool.{cases_Bool, cases_eq, eq-eqb, ne_eqb, eqb-true}
 use Rattle.std.proofs.lemmas.List.{map-append}
@@ -11,17 +11,16 @@ use Rattle.server_rules.specs.Laws.{In}
 use Rattle.server_rules.proofs.Members.{in_either, in_front, in_behind, in_filtered}
 use Rattle.osd_commands.specs.declared.replies.Reply.{Reply}
 use Rattle.client_rules.specs.declared.limits.TheConstants.{PERFORMED}
-use Rattle.client_rules.specs.Calls.{span_of}
-use Rattle.client_rules.specs.Commands.{awaited_for, command, sealed, counted, numbered, nonce_at, others, not_of, read_commands, write_commands, carrying_none}
+use Rattle.client_rules.specs.Commands.{awaited_for, command, sealed, numbered, nonce_at, others, not_of, read_commands, write_commands, carrying_none}
 use Rattle.client_rules.specs.Going.{begins}
-use Rattle.client_rules.specs.Io.{awaited_in, got_of, outs}
+use Rattle.client_rules.specs.Io.{awaited_in}
 use Rattle.client_rules.specs.Laws.{nonce_of}
-use Rattle.client_rules.specs.Reads.{reads, reads_on, reads_unless, probes, probes_on, probes_by, probes_sent, is_probe_lost}
-use Rattle.client_rules.specs.Replies.{replied, performed, refused, refusal, refused_report, timed_after, timed_out, gather_timed, scatter_timed}
-use Rattle.client_rules.specs.Turns.{turned, ended, closing}
-use Rattle.client_rules.specs.Writes.{accounted, written, is_past_size, firsts, laters, scatters, scatters_all, scatters_on, scatters_next, next_to, without_next, without_component, gathers, gathers_on, gathers_due, is_too_short}
+use Rattle.client_rules.specs.Reads.{reads, reads_on, reads_unless, probes, probes_on, probes_by}
+use Rattle.client_rules.specs.Replies.{replied, performed, refused, refusal, refused_report, timed_out, gather_timed, scatter_timed}
+use Rattle.client_rules.specs.Turns.{turned, closing}
+use Rattle.client_rules.specs.Writes.{accounted, written, is_past_size, firsts, laters, scatters, scatters_on, scatters_next, next_to, without_next, without_component, gathers, gathers_on, is_too_short}
 use Rattle.client_rules.proofs.Numbering.{numbered_from}
-use Rattle.world_history.specs.ClientNames.{Awaited, CallOp, Column, Held, Io, Lost, Moved, Need, Needs, Outcome, Phase, Starts, Waits, Reads, Probes, Gathers, Scatters, Silent, Span, Store, TimedOut, Turn, Goes, Ends, Forgets, Commit}
+use Rattle.world_history.specs.ClientNames.{Awaited, CallOp, Column, Held, Io, Moved, Need, Needs, Outcome, Phase, Starts, Waits, Reads, Probes, Gathers, Scatters, Span, Store, TimedOut, Turn, Goes, Ends, Forgets}
 use Rattle.exchange_law.proofs.Had.{AreBelow, others_below, rest_below, differ_range}
 use Rattle.gather_law.proofs.Gathered.{below_to, below_from}
 use Rattle.exchange_law.proofs.Rising.{each_map, each_more, each_range}
@@ -29,8 +28,7 @@ use Rattle.relation_law.proofs.MessagesBehind.{numbered_made, numbered_there}
 use Rattle.relation_law.specs.CallsTurns.{IsQueueBehind}
 use Rattle.relation_law.proofs.CallsDone.{in_others, from_others}
 use Rattle.relation_law.proofs.CallsOut.{in_passed}
-use Rattle.relation_law.proofs.CallsQueue.{next_there}
-use Rattle.call_law.specs.Working.{IsOne, is_scatter, QueueIn, WorksUnder, TurnWorks, MovedWorks}
+use Rattle.call_law.specs.Working.{IsOne, QueueIn, WorksUnder, TurnWorks, MovedWorks}
 
 -- ---- turns
 
@@ -380,9 +378,12 @@ module _ (h : Held) (op : CallOp) where
   unfolding not_of without_component
   left_behind k awaited queue behind q i =
       let r = in_filtered (λ (w : Store). not (w.ask.component == k)) q queue i in
-      let b = behind q r.0 in
-      (b.0, in_passed (λ (a : Awaited). not (a.ask.component == k)) b.0 awaited b.1
-      (ap (λ (n : ℕ). not (n == k)) b.2 ∙ r.1), b.2)
+      let b = behind q r.0 in (
+        b.0,
+        in_passed (λ (a : Awaited). not (a.ask.component == k)) b.0 awaited b.1
+            (ap (λ (n : ℕ). not (n == k)) b.2 ∙ r.1),
+        b.2,
+      )
 
   scatter_timed_works : (io : Io) (queue : List Store) (k : ℕ) (timed : List TimedOut) → WorksUnder h (Scatters io queue) →
       MovedWorks h (scatter_timed h op io queue k timed)

@@ -2,27 +2,25 @@
 -- that, and what it sends it awaits.
 -- Towards `CallsGoOn` (`relation_law/specs/Steps.antt`).
 use Rattle.std.proofs.Common.{◌≡◌, ◌==◌, ℕ, Bool, true, false, List, [], ◌∷◌, map, Option, Some, None, Result, Ok, Err, refl, sym, ap, subst, ◌∙◌, inl, inr, if◌then◌else◌}
-use Rattle.layout_ops.specs.declared.args.Args.{Args}
 use Rattle.layout_ops.specs.declared.messages.Answer.{Answer}
 use Rattle.layout_ops.specs.declared.statuses.TheConstants.{NFS4_OK, NFS4ERR_BADLAYOUT}
 use Rattle.osd_commands.specs.declared.replies.Reply.{Reply}
 use Rattle.server_rules.specs.Laws.{In}
 use Rattle.client_rules.specs.Answers.{not_granted, refused_with, on_commit, committed, not_committed}
 use Rattle.client_rules.specs.Calls.{file_of}
-use Rattle.client_rules.specs.Commands.{nonce_at}
-use Rattle.client_rules.specs.Going.{quiet, moved, phased, over, by_turn, with_held, begins, begun, progressed, asks_under, returns, requests}
-use Rattle.client_rules.specs.Grants.{covers, held_of}
-use Rattle.client_rules.specs.History.{Input, step, Calls, Hears}
+use Rattle.client_rules.specs.Going.{quiet, moved, phased, by_turn, with_held, begins, begun, asks_under, returns, requests}
+use Rattle.client_rules.specs.Grants.{held_of}
+use Rattle.client_rules.specs.History.{Input, step}
 use Rattle.client_rules.specs.Io.{awaited_in}
 use Rattle.client_rules.specs.Layouts.{taken}
-use Rattle.client_rules.specs.Messages.{Step, finished, on_call, on_phase, on_need, answered_get, commit_under, obeys, no_match}
+use Rattle.client_rules.specs.Messages.{finished, on_call, on_phase, on_need, answered_get, commit_under, obeys, no_match}
 use Rattle.client_rules.specs.Replies.{replied, timed_out, answers}
 use Rattle.client_rules.specs.Results.{status_of}
 use Rattle.client_rules.specs.Steps.{all_due}
 use Rattle.client_rules.specs.Turns.{turned}
 use Rattle.client_rules.proofs.ReadSteps.{held_file, put_at, Refuses, refused_with_refuses}
-use Rattle.world_history.specs.ClientNames.{Awaited, Client, Call, CallOp, Held, Due, TimedOut, Request, Need, First, Get, Commit, Report, Close, Phase, Starts, Needs, Waits, Reads, Probes, Gathers, Scatters, Outcome, Turn, Goes, Ends, Forgets, Moved, Done, Why, Status}
-use Rattle.move_law.specs.Turns.{with_start, IsReplied, IsTimed, TurnCases, FinishCases, BeginCases}
+use Rattle.world_history.specs.ClientNames.{Awaited, Client, Call, CallOp, Held, Due, TimedOut, Need, First, Get, Commit, Report, Close, Phase, Starts, Needs, Waits, Reads, Probes, Gathers, Scatters, Turn, Goes, Ends, Forgets, Moved, Done, Why, Status}
+use Rattle.move_law.specs.Turns.{with_start, IsReplied, IsTimed, TurnCases, FinishCases}
 use Rattle.move_law.proofs.Turns.{each_turn, each_finish, each_begin}
 use Rattle.client_rules.specs.Laws.{nonce_of}
 use Rattle.exchange_law.specs.ClientNonces.{AllDiffer, NoneIs}
@@ -30,7 +28,7 @@ use Rattle.relation_law.proofs.MessagesAlways.{found_one}
 use Rattle.relation_law.proofs.RequestsDealt.{file_of_moved, replied_file, timed_out_file, begins_file}
 use Rattle.relation_law.specs.CallsTurns.{IsWorking}
 use Rattle.call_law.specs.Working.{QueueIn, WorksUnder, CallWorks, ClientWorks, SentIn, DoneWorks, TurnWorks, MovedWorks}
-use Rattle.call_law.proofs.Works.{ends, forgets, goes, needs, works_of, free_works, quiet_works, accounted_works, replied_works, timed_works, begins_works}
+use Rattle.call_law.proofs.Works.{ends, forgets, needs, works_of, free_works, quiet_works, accounted_works, replied_works, timed_works, begins_works}
 
 pub none_sent : (cs : List Awaited) (x : Option Call) → cs ≡ [] → SentIn cs x
 none_sent cs None none = tt
@@ -261,7 +259,8 @@ module _ (x : Client) (w : ClientWorks x) where
     unmatched = λ q is. finished_works (no_match x q) (record { call = w; sent = none_sent [] x.call refl });
     timed = λ n call h a xs r. finished_works (moved (quiet x) call.op (timed_out h call.op call.phase n a xs))
         (timed_done i n call h a xs r);
-    leaves = λ is. finished_works (quiet (record x { due = all_due x.due x.held })) (record { call = w; sent = none_sent [] x.call refl });
+    leaves = λ is. finished_works (quiet (record x { due = all_due x.due x.held }))
+        (record { call = w; sent = none_sent [] x.call refl });
     resends = λ is. w;
   }
 

@@ -1,5 +1,5 @@
 -- What a call awaits of the drives, and what it has queued, at each moment: in every history, whatever came to its client.
-use Rattle.std.specs.Prelude.{◌≡◌, ℕ, ◌<◌, Bool, true, false, List, Option, Some, None}
+use Rattle.std.specs.Prelude.{◌≡◌, ◌<◌, Bool, true, false, List, Option, Some, None}
 use Rattle.client_rules.specs.Calls.{file_of}
 use Rattle.client_rules.specs.Commands.{nonce_at}
 use Rattle.client_rules.specs.Grants.{held_of}
