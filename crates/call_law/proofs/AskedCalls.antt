@@ -79,17 +79,22 @@ even_by file x commit report call is here = by_phase call.phase refl
     by_phase (Gathers io) e = rw e tt
     by_phase (Scatters io queue) e = rw e tt
 
+-- it reports what timed out
+abbrev pub ReportsOn : (file : ℕ) → Client → Type 0
+ReportsOn file x =
+    (timed : List TimedOut) × (op : CallOp) × (x.call ≡ Some (record { op = op; phase = Waits (Report timed) }))
+    × ((file_of op == file) ≡ true)
+
 -- a call that reports does so in that phase
-pub reports_so : (file : ℕ) (x : Client) → reports_on file x.call ≡ true →
-    (timed : List TimedOut) × WaitsFor file x (Report timed)
+pub reports_so : (file : ℕ) (x : Client) → reports_on file x.call ≡ true → ReportsOn file x
 reports_so file x e = by_call x.call refl e
   where
     by_phase : (op : CallOp) (p : Phase) → x.call ≡ Some (record { op = op; phase = p }) → (file_of op == file) ≡ true →
-        waits_report p ≡ true → (timed : List TimedOut) × WaitsFor file x (Report timed)
+        waits_report p ≡ true → ReportsOn file x
     by_phase op (Waits (Report timed)) is here z = (timed, op, is, here)
     by_phase op p is here z = absurd (cc z)
 
-    by_call : (o : Option Call) → x.call ≡ o → reports_on file o ≡ true → (timed : List TimedOut) × WaitsFor file x (Report timed)
+    by_call : (o : Option Call) → x.call ≡ o → reports_on file o ≡ true → ReportsOn file x
     by_call None is z = absurd (cc z)
     by_call (Some call) is z =
         let both = and_parts (file_of call.op == file) (waits_report call.phase) z in
