@@ -1,14 +1,13 @@
 -- The server carries out a client's new request: behind the step the machine has of the client what it has, with the answer that
 -- its slot keeps then.
 -- Towards `CallsGoOn` (`relation_law/specs/Steps.antt`).
-use Rattle.std.proofs.Common.{◌≡◌, ◌==◌, ◌&&◌, ◌<◌, not, max, ℕ, Bool, true, false, List, [], ◌∷◌, Option, Some, None, refl, sym, ap, subst, ◌∙◌, inl, inr, arith}
+use Rattle.std.proofs.Common.{◌≡◌, ◌==◌, ◌&&◌, ◌<◌, not, max, ℕ, Bool, true, false, List, [], ◌∷◌, Option, Some, None, refl, sym, ap, subst, ◌∙◌, inl, inr, arith, if◌then◌else◌}
 use Rattle.std.proofs.lemmas.Bool.{true≢false, cases_eq, eq-eqb, ne_eqb, eqb-true}
 use Rattle.osd_lists.specs.declared.node.Node.TheVariants as node
 use Rattle.data_map.specs.Check.{IsChecked}
 use Rattle.layout_ops.specs.declared.messages.Answer.{Answer}
-use Rattle.layout_ops.specs.declared.statuses.TheConstants.{NFS4_OK}
+use Rattle.layout_ops.specs.declared.statuses.TheConstants.{LAYOUTIOMODE4_RW, NFS4_OK}
 use Rattle.layout_types.specs.declared.ioerrs.IoErr.{IoErr}
-use Rattle.layout_types.specs.declared.constants.TheConstants.{LAYOUTIOMODE4_RW}
 use Rattle.scenario_text.specs.declared.line.Line.{Line}
 use Rattle.scenario_text.specs.declared.names.TheConstants.{CLIENTS}
 use Rattle.server_rules.specs.Laws.{last_of}
@@ -22,7 +21,8 @@ use Rattle.server_rules.specs.Slots.{slot_of, keep}
 use Rattle.server_rules.proofs.FileLaws.{keep_same}
 use Rattle.client_rules.specs.Calls.{file_of}
 use Rattle.client_rules.specs.Grants.{held_of}
-use Rattle.client_rules.specs.Results.{status_of, is_loss_taken}
+use Rattle.client_rules.specs.Answers.{is_loss_taken}
+use Rattle.client_rules.specs.Results.{status_of}
 use Rattle.world_history.specs.ServerNames.{File, Server, Slot, ClientRequest, RequestArgs, Get as Gets, Commit as Commits, Return as Returns}
 use Rattle.exchange_law.specs.Calls.{Has}
 use Rattle.world_history.specs.ClientNames.{Client, Call, CallOp, Held, Need, First, Get, Commit, Report, Close, Phase, Starts, Needs, Waits, Reads, Probes, Gathers, Scatters, Request, TimedOut}
@@ -38,7 +38,7 @@ use Rattle.fence_law.specs.State.{State, Event, Grant}
 use Rattle.fence_law.specs.State.{Event as event}
 use Rattle.fence_law.specs.State.Call.{Writes as AtWrite}
 use Rattle.fence_law.specs.State.Commit.{CommitDone}
-use Rattle.fence_law.specs.State.RequestKind as kind
+use Rattle.fence_law.specs.State.{RequestKind as kind}
 use Rattle.fence_law.specs.Machine.{Lawful, after, after_all}
 use Rattle.fence_law.proofs.EveryRun.{keep_sized}
 use Rattle.fence_law.proofs.Safe.{Safe, keep_safe}

@@ -17,3 +17,4 @@ pub mod SmallBytes
 pub mod Heard
 pub mod RunsGo
 pub mod PlanWorlds
+pub mod AwaitsReads

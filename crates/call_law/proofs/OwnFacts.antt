@@ -65,7 +65,7 @@ use Rattle.call_law.proofs.WorksRun.{step_works, one_by_nonce, under}
 
 -- ---- clients
 
-works_kept : IsKeptByClients (λ n x. ClientWorks x)
+pub works_kept : IsKeptByClients (λ n x. ClientWorks x)
 works_kept = record {
   more = λ n k x w. w;
   made = λ n number. tt;

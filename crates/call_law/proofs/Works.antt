@@ -87,8 +87,9 @@ record Going (h : Held) (write : Bool) (sent awaited : List Awaited) : Type 0 wh
 
 made_one : (h : Held) (write : Bool) (w : Store) (n : ℕ) → IsOne write (awaited_for h write w n)
 unfolding command sealed
-made_one h true w n = record { action = refl; offset = refl }
-made_one h false w n = record { action = refl; offset = refl }
+made_one h true w n = record { action = refl; offset = refl; read = λ e. absurd (cc e) }
+made_one h false w n =
+    record { action = refl; offset = refl; read = λ e. record { action_is = refl; offset = refl; length = refl } }
 
 numbered_ones : (h : Held) (write : Bool) (count : ℕ) (ws : List Store) (a : Awaited) → In a (numbered h write count ws) →
     IsOne write a

@@ -10,11 +10,13 @@ use Rattle.world_history.specs.ClientNames.{Awaited, Call, Client, Done, Held, M
 use Rattle.gather_law.specs.Ready.{AreBelow}
 use Rattle.osd_drive.specs.Table.{is_write as is_write_action}
 use Rattle.relation_law.specs.CallsTurns.{IsQueueBehind, IsWorking}
+use Rattle.relation_law.specs.ReadsDrive.{IsReadOf}
 
--- a command of this kind, at the offset that is asked
+-- a command of this kind, at the offset that is asked; one that reads is a READ of just what is asked
 pub record IsOne (write : Bool) (a : Awaited) : Type 0 where
   pub action : is_write_action a.command.action ≡ write
   pub offset : a.command.offset ≡ a.ask.offset
+  pub read : write ≡ false → IsReadOf a
 
 -- the phase sends WRITEs
 abbrev pub is_scatter : Phase → Bool
