@@ -46,7 +46,7 @@ use Rattle.fencing_law.proofs.Heard.{heard_reached}
 use Rattle.fencing_law.proofs.Moves.{messages_in, IsSent, Acts, Others, Serves, each_acts}
 use Rattle.fencing_law.proofs.Numbers.{to_drive, sent_anew, none_anew, messages_sent}
 use Rattle.fencing_law.proofs.Reaching.{reached_spent}
-use Rattle.sent_law.specs.Objects.{target_in, target_of}
+use Rattle.sent_law.specs.Objects.{target_in, target_of, IsOwned}
 use Rattle.sent_law.specs.Tagged.{AreNamedActs}
 use Rattle.fence_law.specs.State as machine
 use Rattle.file_simulation.specs.Claim.{IsOfScenario}
@@ -207,8 +207,9 @@ module _ (laws : JoinLaws) (w : World) (h : List Line) (m : Move) (f g : File) (
     sound_before : IsSound w.server
     sound_before =
         let r = run laws.world w h before scenario in
-        subst IsSound (sym r.server)
-        (sound_over (new_server []) r.acts r.named (record { distinct = tt; components = tt; aimed = tt; files = tt; drives = tt }))
+        let first : IsSound (new_server []) =
+        record { distinct = tt; components = tt; aimed = tt; files = tt; drives = tt }
+        in subst IsSound (sym r.server) (sound_over (new_server []) r.acts r.named first)
 
     -- where a fence of the file is over, what was sent before is spent
     ended_spent : EndsFence f.kept.number (step w.server chosen i).notes → (n : ℕ) (at : Component) (x : Command) →
@@ -412,11 +413,11 @@ module _ (laws : JoinLaws) (w : World) (h : List Line) (m : Move) (f g : File) (
                 (ap (λ (y : Server). file_at y.files f.kept.number) (sym server) ∙ k.follows.goes)
                 (ready_before laws.world w h before scenario s f k.follows.there k.follows.related.jobs.owned
                 k.follows.related.components i sent)) [
-              | inl ended ↦
-                  absurd (unspent (ended_spent chosen i sent server ended n at x fresh.there stands old earlier
-                  fresh.object))
-              | inr owned ↦ owned n at x fresh.there stands old (earlier, fresh.write, unspent) fresh.object
-            ]
+                  | inl ended ↦
+                      absurd (unspent (ended_spent chosen i sent server ended n at x fresh.there stands old earlier
+                      fresh.object))
+                  | inr owned ↦ owned n at x fresh.there stands old (earlier, fresh.write, unspent) fresh.object
+                ]
           ]
         ]
 

@@ -7,6 +7,7 @@ use Rattle.job_law.specs.Names.{File, FencingAgain, Component, Target, Note, Not
 use Rattle.file_simulation.specs.Jobs.{IsOfPhase}
 use Rattle.repair_law.specs.Owning.{Coming, IsOld, AreOfPhase, EndsFence}
 use Rattle.server_rules.specs.Jobs.{is_made}
+use Rattle.server_rules.specs.Audit.{audited}
 use Rattle.repair_law.proofs.Walk.{Place, AtStart, AtFence, Behind, AtRepair, AtRows, AtRebuild, AtFill, AtSources, AtAudit, JobCases, standing, aims_at}
 
 -- ---- components

@@ -10,7 +10,7 @@ use Rattle.world_history.specs.State.{World, DriveAt, at_number}
 use Rattle.history_law.specs.Spent.{IsSpent, IsSpentOn}
 use Rattle.fence_law.specs.Words.{In as InRun, updated}
 use Rattle.fence_law.specs.State.{State, Event, Grant, Answer, Layout, Write as MachineWrite}
-use Rattle.fence_law.specs.State.Event.{Grants, Refuses, Takes, GivesBack, Reports, Forgets, Leaves, TakesRefusal, Fenced, Refenced, Sends}
+use Rattle.fence_law.specs.State.Event.{Grants, Refuses, Takes, GivesBack, Reports, Forgets, Leaves, TakesRefusal, Fenced, Refenced, Sends, Frees}
 use Rattle.fence_law.specs.Law.{IsCode}
 use Rattle.fence_law.specs.Machine.{Allowed, Lawful, after, after_all, new_file_state}
 use Rattle.fence_law.proofs.Safe.{Safe, safe_all}
@@ -67,6 +67,15 @@ from_on first b (Grants c number rw_ range extending) a h = record {
   writes = h.writes;
 }
 from_on first b (Refuses c kind) a h = record {
+  tag = h.tag;
+  held = h.held;
+  answers = λ x g i is. elim i [
+    | inl new ↦ absurd (cc (sym is ∙ ap (λ (y : Answer). y.grant) new))
+    | inr old ↦ h.answers x g old is
+  ];
+  writes = h.writes;
+}
+from_on first b (Frees c) a h = record {
   tag = h.tag;
   held = h.held;
   answers = λ x g i is. elim i [
@@ -140,8 +149,7 @@ module _ (t : State) (v : World) (g : File) (safe : Safe t) (from : IsFrom g.kep
       let known = safe.known was.write was.sent in
       let client = (safe.formed was.write.entry known.entry).own known.write in
       let low = safe.unissued.entries was.write.entry known.entry client
-      (unused_in t g g.kept.phase kept.phase quiet) in
-      (
+      (unused_in t g g.kept.phase kept.phase quiet) in (
         omega (arith, from.writes was.write was.sent, was.tag),
         omega (arith, low, known.tag, was.tag),
       )

@@ -25,7 +25,7 @@ use Rattle.server_rules.specs.Served.{Served, tells}
 use Rattle.server_rules.specs.Standing.{lose_from, lose_on, any_on}
 use Rattle.server_rules.proofs.FileLaws.{number_at}
 use Rattle.server_rules.specs.Audit.{audited}
-use Rattle.server_rules.specs.Rounds.{step_round}
+use Rattle.server_rules.specs.Rounds.{Round, step_round}
 use Rattle.server_rules.proofs.Members.{in_either, in_map}
 use Rattle.job_law.specs.Names.{Server, File, Drive, Effects, Component, Grant, Job, JobKind, Revoking, Awaited, Work, Creates, Fences, Fetches, Stores, Targets, Gathers, Fills, Lengths, Checks, Reply, Reported, RequestArgs, Get, Commit, Return, ClientRequest, ToDrive, Answer, Spent}
 use Rattle.job_law.specs.Numbered.{Awaits, IsOf}
@@ -354,8 +354,10 @@ module _ (s : Server) (chosen : List ℕ) (i : Input) where
         one f (fence_begins kind s.format (at_file s chosen f)) f.kept.number (in_at s.files is.target f is.found) refl
         (fence_sent [] kind s.format (at_file s chosen f) refl);
     declared = λ d known.
-        by_sent (declare s chosen d) (offline s.drives d) (declares_each d (offline s.drives d) s.files (begins s) chosen).effects.sent
-        (λ drive x j. j) (declares_round d (offline s.drives d) s.files (begins s) chosen);
+        let ds : List Drive = offline s.drives d in
+        let r : Round = declares_each d ds s.files (begins s) chosen in
+        by_sent (declare s chosen d) ds r.effects.sent (λ drive x j. j)
+        (declares_round d ds s.files (begins s) chosen);
     told = λ t now o is result all drive x j. elim (in_either (ToDrive drive x) t.sends _ j) [
       | inl k ↦ all drive x k
       | inr (inl e) ↦ absurd (cc e)
@@ -373,7 +375,8 @@ module _ (s : Server) (chosen : List ℕ) (i : Input) where
     resends = λ is drive x j. again_sent s.drives s.files drive x j;
     crashes = λ is. same_nothing (still (crash s)) refl;
     opened = λ is low.
-        by_sent (step_round s (opens_each s.format s.drives s.files (begins s))) s.drives (opens_each s.format s.drives s.files (begins s)).effects.sent (λ drive x j. j)
+        let r : Round = opens_each s.format s.drives s.files (begins s) in
+        by_sent (step_round s r) s.drives r.effects.sent (λ drive x j. j)
         (opens_round s.format s.drives s.files (begins s));
   }
 
