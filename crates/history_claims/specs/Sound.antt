@@ -27,6 +27,11 @@ use Rattle.exchange_law.specs.Counters.{HaveRoomAt}
 use Rattle.exchange_law.specs.Text.{AreOfText, AreFew, WithinTheLimitAreFew}
 use Rattle.exchange_law.specs.Exact.{IssuedExactlyAt, InjectedExactlyAt}
 use Rattle.ending_law.specs.Calls.{EndsAt}
+use Rattle.cause_law.specs.Answers.{RequestsAreAnswered}
+use Rattle.cause_law.specs.Changes.{GrantsHaveCauses}
+use Rattle.cause_law.specs.Ends.{CallsEndAsSaid}
+use Rattle.outcome_law.specs.Ended.{CausedAt}
+use Rattle.outcome_law.specs.Read.{AnswersAt}
 use Rattle.tag_law.specs.Tags.{HaveTagsAt}
 use Rattle.history_claims.specs.Texts.{EventsMakeText, CutsGoOn}
 
@@ -98,6 +103,20 @@ pub record IsSound (h : List Line) : Type 0 where
   pub room : AtEachMoment HaveRoomAt h
   -- and each call ends in one of the ways that are left to it
   pub ends : AreOfText h → AreFew h → AtEachLine EndsAt h
+  -- in a whole history each request that is new to the server is answered in its step, and the answer tells the first row that
+  -- applies to what the book has of the file then; the row says which grants are live behind the step
+  pub causes : (w : World) → StandsFor w h → AreWritten h → RequestsAreAnswered h
+  -- nothing else makes a grant of a file live or ends one, or changes the file's size, but a fence that an order or an opening
+  -- begins, and that ends all
+  pub changes : (w : World) → StandsFor w h → AreWritten h → GrantsHaveCauses h
+  -- a call ends as what it met says, read off the lines before: the answers and replies that its client took in it, and the
+  -- timeouts of what it awaited
+  pub caused : AtEachLine CausedAt h
+  -- an answered read took a reply to a READ that was performed, and for any file that agrees with what was read so in its call
+  -- the answer is the file's bytes
+  pub read : AtEachLine AnswersAt h
+  -- in each move a call ends as only an answer says exactly if its client takes an answer that says so
+  pub said : CallsEndAsSaid h
 
 -- Each lawful history is sound, whatever its events name. Where a text may have the events, it is one of a scenario's text;
 -- and where a world that stands for it is within the limit of kept bytes, it has few messages. A history that is cut at that

@@ -195,8 +195,8 @@ where
     status_of(alloc, words, source, sink, links, clock, &placer, zones).exit_code()
 }
 
-// The same where they are spread as the program spreads them.
-fn exit_code<S: Source, K: Sink, L: Links, C: Clock>(
+/// The same where they are spread as the program spreads them.
+pub fn exit_code<S: Source, K: Sink, L: Links, C: Clock>(
     alloc: Global,
     words: &[String],
     source: &mut S,
@@ -282,7 +282,8 @@ fn goes_over(
         && clock.now() == case.next_time
 }
 
-fn clock(alloc: Global) -> MemClock {
+/// A clock that tells 5, 6 and so on to 9.
+pub fn the_clock(alloc: Global) -> MemClock {
     match Times::copied(alloc, &[5, 6, 7, 8, 9]) {
         Ok(times) => MemClock::new(times),
         Err(_) => MemClock::new(Times::new(alloc)),
@@ -298,8 +299,18 @@ fn goes(alloc: Global, case: &Case) -> bool {
         numbers(alloc, case.fails),
     );
     let mut sink = MemSink::new(alloc, numbers(alloc, case.writes));
-    let mut clock = clock(alloc);
+    let mut clock = the_clock(alloc);
     goes_over(alloc, case, &mut sink, &mut links, &mut clock)
+}
+
+/// Links over which nothing comes.
+pub fn no_links(alloc: Global) -> MemLinks {
+    MemLinks::new(
+        alloc,
+        lists(alloc, &[]),
+        lists(alloc, &[]),
+        numbers(alloc, &[]),
+    )
 }
 
 /// Ends the test at the first case that goes otherwise, which it names.

@@ -25,7 +25,7 @@ use Rattle.world_history.specs.Guesses.{unguessed}
 use Rattle.history_law.specs.Read.{AreWritten}
 use Rattle.exchange_law.specs.Text.{AreOfText, AreFew}
 use Rattle.ready_law.specs.Ready.{Scene, IsReady, held_by, opposed, touched}
-use Rattle.ready_law.specs.ReadClients.{client_after}
+use Rattle.outcome_law.specs.ReadClients.{client_after}
 use Rattle.ready_law.specs.Events.{IsOver}
 
 -- the scene that is read off the lines of a history

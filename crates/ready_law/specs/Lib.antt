@@ -1,5 +1,4 @@
 pub mod Ready
-pub mod ReadClients
 pub mod Events
 pub mod Queue
 pub mod Clear

@@ -9,6 +9,7 @@ ghost use Rattle.ready_law.specs.Worlds.{ScenesAreRead};
 
 use calm_law::server_writes_to_others;
 use history_law::{book_is_read, drives_are_read};
+use outcome_law::clients_are_read;
 use world_history::one_event_more;
 
 /// A READ or a WRITE to which no row of a drive's table of verdicts applies, but perhaps that of a repeat, is performed
@@ -68,11 +69,12 @@ pub fn offline_have_failed()
     server_writes_to_others();
 }
 
-/// If the clients that are read off a history are those of each world that stands for it, so are all parties: a call is
-/// ready by the lines where it is by the world.
+/// The parties that are read off a history are those of each world that stands for it: a call is ready by the lines
+/// exactly if it is by the world.
 pub fn scenes_are_read()
     ensures { ScenesAreRead }
 {
     book_is_read();
     drives_are_read();
+    clients_are_read();
 }

@@ -33,14 +33,14 @@ use Rattle.server_rules.specs.History.{Act, state_after, step}
 use Rattle.server_rules.specs.Making.{new_server}
 use Rattle.server_rules.specs.Laws.{In}
 use Rattle.server_rules.specs.Envelopes.{message_in, by_reply}
-use Rattle.server_rules.specs.Messages.{Replies as RepliesTo, counters_have_room, awaited_by}
+use Rattle.server_rules.specs.Messages.{Replies as RepliesTo, awaited_by, counters_have_room}
 use Rattle.server_rules.specs.Replies.{answers}
 use Rattle.server_rules.proofs.Members.{in_map, in_either}
 use Rattle.scenario_text.specs.declared.line.Party.TheVariants as party
 use Rattle.scenario_text.specs.declared.event.Event.{Event}
 use Rattle.scenario_text.specs.declared.line.Line.{Line}
 use Rattle.scenario_text.specs.declared.line.Line.TheVariants as line
-use Rattle.world_history.specs.ServerNames.{Awaited, Server, File}
+use Rattle.world_history.specs.ServerNames.{Awaited, File, Server}
 use Rattle.world_history.specs.declared.messages.Body.TheVariants.{Command as OfCommand}
 use Rattle.world_history.specs.declared.messages.Posted.{Posted}
 use Rattle.world_history.specs.declared.messages.Sent.{Sent}

@@ -1,0 +1,273 @@
+-- What a step of the server makes of the live grants of each file, and of its size.
+use Rattle.std.proofs.Common.{◌≡◌, ◌⊎◌, ◌==◌, ℕ, ◌+◌, Bool, true, false, List, [], ◌∷◌, is_some, Option, Some, None, refl, sym, ap, subst, ◌∙◌, arith, inl, inr, if◌then◌else◌}
+use Rattle.std.proofs.lemmas.Bool.{cases_Bool, eq-eqb, ne_eqb}
+use Rattle.std.proofs.lemmas.Bool.Decides.{nat_tests}
+use Rattle.server_rules.specs.declared.limits.TheConstants.{GREATEST_TAG}
+use Rattle.server_rules.specs.Commands.{Raising, All, to_all}
+use Rattle.server_rules.specs.Files.{Step, file_at, put_file, add_file, at_file, begins}
+use Rattle.server_rules.specs.Going.{Going, keeping, noting, rests_or}
+use Rattle.server_rules.specs.History.{Input, Makes, Opens, step}
+use Rattle.server_rules.specs.Jobs.{making, ending, fenced, fence_begins}
+use Rattle.server_rules.specs.Laws.{In, Rests, IsSafe, AreSafe, is_taken_of}
+use Rattle.server_rules.specs.Making.{checked_64, by_check, refusal, with_file}
+use Rattle.server_rules.specs.Messages.{counters_have_room}
+use Rattle.server_rules.specs.Openings.{is_unsettled, opens_made, opens_fenced, opens}
+use Rattle.server_rules.specs.Orders.{offline, declare}
+use Rattle.server_rules.specs.Replies.{hearing}
+use Rattle.server_rules.specs.Requests.{serves, on_request}
+use Rattle.server_rules.specs.Slots.{New, slot_of, admit}
+use Rattle.server_rules.proofs.FileLaws.{number_at}
+use Rattle.server_rules.proofs.HandlerLaws.{ran_hears}
+use Rattle.server_rules.proofs.Runs.{ran_fences, ran_declares, ran_making}
+use Rattle.world_history.specs.ServerNames.{Server, File, Kept, Awaited, JobKind, Fences, Revoking, Repairing, Fenced as FenceOver, ClientRequest, RawMap, FileExists}
+use Rattle.move_law.specs.Steps.{IsOrder, IsAsked, Answering, IsAnswering, answered_file, new_file, StepCases}
+use Rattle.move_law.proofs.Files as Files
+use Rattle.move_law.proofs.Files.{in_at, put_each, add_each, declared_each, crashed_each, opened_each, safe_in}
+use Rattle.move_law.proofs.Steps.{each_request, each_step}
+use Rattle.job_law.specs.Fencing.{is_fencing}
+use Rattle.job_law.proofs.Asking.{handled_served}
+use Rattle.job_law.proofs.Quiet.{quiet_repair}
+use Rattle.calm_law.specs.Going.{IsMaking}
+use Rattle.calm_law.specs.Performing.{AreDistinct}
+use Rattle.calm_law.specs.Sound.{IsSound}
+use Rattle.calm_law.specs.Tags.{EachStepRaisesTags}
+use Rattle.calm_law.specs.Words.{Each}
+use Rattle.cause_law.specs.Answers.{IsNew}
+use Rattle.cause_law.specs.Changes as changes
+use Rattle.cause_law.specs.Changes.{FenceBegan, BeginsFence, IsAskedOf, Changes}
+
+-- ---- a fence begins
+
+has_begun : (kind : JobKind) (g : Going) (cs : List Awaited)
+    → (is_fencing (rests_or cs g kind Fences (fenced kind g)).file.job ≡ true)
+    ⊎ ((rests_or cs g kind Fences (fenced kind g)).file.kept.tag ≡ g.file.kept.tag + 1)
+unfolding fenced
+has_begun kind g [] =
+    inr (quiet_repair (λ (k : Kept). k.tag ≡ g.file.kept.tag + 1) (record { mends = λ k e. e }) kind
+    (noting (keeping g (record g.file.kept { tag = g.file.kept.tag + 1; phase = Repairing }))
+    (FenceOver (g.file.kept.tag + 1))) refl).kept
+has_begun kind g (c ∷ cs) = inl refl
+
+begun : (kind : JobKind) (format : ℕ) (g : Going) → FenceBegan g.file (fence_begins kind format g).file
+unfolding fence_begins
+begun kind format g =
+    let f : Going = keeping g (ending g.file.kept format) in
+    record {
+      none = (ran_fences kind f).grants;
+      fence = has_begun kind f (to_all f.file.kept All Raising f.effects.nonce);
+    }
+
+-- ---- a file
+
+module _ (s : Server) (i : Input) where
+  -- the file goes on as the other
+  data Goes (f g : File) : Type 0 where
+    GoesSame : g.kept.number ≡ f.kept.number → g.kept.grants ≡ f.kept.grants → g.kept.size ≡ f.kept.size → Goes f g
+    GoesFenced : g.kept.number ≡ f.kept.number → BeginsFence i f.kept.number → FenceBegan f g → g.kept.size ≡ f.kept.size
+        → Goes f g
+    GoesAsked : g.kept.number ≡ f.kept.number → IsAskedOf s i f.kept.number → Goes f g
+
+  -- a file that is made
+  record IsMade (g : File) : Type 0 where
+    makes : IsMaking i g.kept.number
+    absent : file_at s.files g.kept.number ≡ None
+    none : g.kept.grants ≡ []
+    size : g.kept.size ≡ 0
+
+  -- it was there, or is made
+  abbrev Was : File → Type 0
+  Was g = ((f : File) × In f s.files × Goes f g) ⊎ IsMade g
+
+  same : (f : File) → Goes f f
+  same f = GoesSame refl refl refl
+
+  number : (f g : File) → Goes f g → g.kept.number ≡ f.kept.number
+  number f g (GoesSame n grants size) = n
+  number f g (GoesFenced n begins began size) = n
+  number f g (GoesAsked n asked) = n
+
+  -- a fence of it begins
+  goes_fenced : (kind : JobKind) (format : ℕ) (g : Going) → BeginsFence i g.file.kept.number
+      → Goes g.file (fence_begins kind format g).file
+  unfolding fence_begins
+  goes_fenced kind format g b =
+      let r = ran_fences kind (keeping g (ending g.file.kept format)) in
+      GoesFenced r.number b (begun kind format g) r.size
+
+  -- it is opened
+  by_ready : (format : ℕ) (g : Going) (b : Bool) → Goes g.file (opens_made g b).file
+  by_ready format g true = GoesSame refl refl refl
+  by_ready format g false = let r = ran_making g in GoesSame r.number r.grants r.size
+
+  by_tag : (format : ℕ) (g : Going) → i ≡ Opens → (b : Bool) → (g.file.kept.tag == GREATEST_TAG) ≡ b
+      → Goes g.file (opens_fenced format g).file
+  unfolding opens_fenced
+  by_tag format g is true e = rw e (GoesSame refl refl refl)
+  by_tag format g is false e = rw e (goes_fenced Revoking format g (inr is))
+
+  goes_opened : (format : ℕ) (g : Going) → i ≡ Opens → Goes g.file (opens format g).file
+  unfolding opens
+  goes_opened format g is = elim (cases_Bool (is_unsettled g.file.kept)) [
+    | inl t ↦ rw t (by_tag format g is (g.file.kept.tag == GREATEST_TAG) refl)
+    | inr z ↦ rw z (by_ready format g g.file.kept.ready)
+  ]
+
+-- ---- places in the list of files
+
+-- where no two files have one number
+at_place : (fs : List File) (x : File) → AreDistinct fs → In x fs → file_at fs x.kept.number ≡ Some x
+unfolding file_at
+at_place [] x d j = absurd j
+at_place (y ∷ fs) x d (inl e) = rw (e, eq-eqb y.kept.number y.kept.number refl) refl
+at_place (y ∷ fs) x d (inr j) =
+    rw (ne_eqb y.kept.number x.kept.number (λ e. absurd (none_of fs x y.kept.number d.0 j (sym e)))) (at_place fs x d.1 j)
+  where
+    none_of : (gs : List File) (z : File) (n : ℕ) → Each (λ (g : File). g.kept.number ≡ n → ⊥) gs → In z gs
+        → z.kept.number ≡ n → ⊥
+    none_of [] z n e k is = absurd k
+    none_of (g ∷ gs) z n e (inl here) is = e.0 (sym (ap (λ (v : File). v.kept.number) here) ∙ is)
+    none_of (g ∷ gs) z n e (inr k) is = none_of gs z n e.1 k is
+
+-- ---- a step
+
+module _ (s : Server) (chosen : List ℕ) (i : Input) (safe : AreSafe s.files) where
+  abbrev P : Step → Type 0
+  P t = Files.Each (Was s i) t.state.files
+
+  stay : Files.Each (Was s i) s.files
+  stay f there = inl (f, there, same s i f)
+
+  put_at : (n : ℕ) (f g : File) → In f s.files → Goes s i f g → Files.Each (Was s i) (put_file s.files n g)
+  put_at n f g there goes = put_each (Was s i) s.files n g stay (inl (f, there, goes))
+
+  answered : (x : Answering) → IsAnswering s i x → Goes s i x.file (answered_file s chosen x).file
+  answered x is =
+      let f : IsSafe x.file = safe_in s.files safe x.file is.there in
+      let r = ran_hears (at_file s chosen x.file) x.job x.awaited x.reply (hearing x.file.kept x.awaited x.reply)
+      (subst Rests is.runs f.rests) f.rests in
+      GoesSame r.number r.grants r.size
+
+  -- ---- a request
+
+  its_new : (now : ℕ) (q : ClientRequest) → IsAsked s i now q → admit (slot_of s.slots q.client) q.sequence ≡ New
+      → IsNew s i now q
+  its_new now q is new = record { comes = is.is; taken = taken is.low; new = new }
+    where
+      taken : counters_have_room s ≡ true → is_taken_of s q.client q.client q ≡ true
+      taken low = rw (eq-eqb q.client q.client refl, low) (grind (arith, nat_tests, is.named))
+
+  asked : (now : ℕ) (q : ClientRequest) → IsAsked s i now q → P (on_request s now chosen q)
+  asked now q is =
+      each_request s now chosen q P (record {
+        again = λ kept e. stay;
+        misordered = λ expected e. stay;
+        without = λ new none. stay;
+        served = λ new f found.
+            put_at q.file f (serves (at_file s chosen f) s.next_grant s.format now q.client q.args).going.file
+            (in_at s.files q.file f found)
+            (GoesAsked
+            (handled_served (λ d x tag. true) (at_file s chosen f) s.next_grant s.format now q.client q.args).goes.number_is
+            (record { now = now; request = q; new = its_new now q is new; on = sym (number_at s.files q.file f found) }));
+      })
+
+  -- ---- any
+
+  not_there : (n : ℕ) (m : RawMap) (zoned : Bool) → refusal s n m zoned ≡ None → file_at s.files n ≡ None
+  unfolding refusal
+  not_there n m zoned e = by_file (file_at s.files n) refl e
+    where
+      by_file : (o : Option File) → file_at s.files n ≡ o
+          → (if is_some o then Some FileExists else by_check zoned s.drives (checked_64 m)) ≡ None → file_at s.files n ≡ None
+      by_file None is x = is
+      by_file (Some f) is x = absurd (cc x)
+
+  its_made : (n : ℕ) (m : RawMap) (tag : ℕ) (zoned : Bool) → i ≡ Makes n m tag zoned → file_at s.files n ≡ None → (g : File)
+      → g.kept.number ≡ n → g.kept.grants ≡ [] → g.kept.size ≡ 0 → IsMade s i g
+  its_made n m tag zoned is none g here grants size = record {
+    makes = subst (λ (x : Input). IsMaking x g.kept.number) (sym is) (sym here);
+    absent = subst (λ (k : ℕ). file_at s.files k ≡ None) (sym here) none;
+    none = grants;
+    size = size;
+  }
+
+  cases : StepCases s chosen i P
+  unfolding declare
+  cases = record {
+    rests = stay;
+    asked = asked;
+    answered = λ x is.
+        put_at (answered_file s chosen x).file.kept.number x.file (answered_file s chosen x).file is.there (answered x is);
+    recalled = λ f is. stay;
+    refused = λ f is n why. put_at f.kept.number f f (in_at s.files is.target f is.found) (same s i f);
+    fenced = λ f is kind none low.
+        let here : f.kept.number ≡ is.target = number_at s.files is.target f is.found in
+        put_at f.kept.number f (fence_begins kind s.format (at_file s chosen f)).file (in_at s.files is.target f is.found)
+        (goes_fenced s i kind s.format (at_file s chosen f)
+        (inl (is.kind, subst (λ (n : ℕ). IsOrder i is.kind n) (sym here) is.order)));
+    declared = λ d known.
+        declared_each (Was s i) d (offline s.drives d) s.files (begins s) chosen (λ f there m placed.
+        let r = ran_declares (record { file = f; effects = m; drives = offline s.drives d; chosen = placed }) d
+        (safe_in s.files safe f there).rests in
+        inl (f, there, GoesSame r.number r.grants r.size));
+    told = λ t now o is result p. p;
+    made = λ n m tag zoned is none.
+        let f : File = new_file s chosen n m tag zoned in
+        let r = ran_making (at_file (with_file s f) [] f) in
+        let absent : file_at s.files n ≡ None = not_there n m zoned none in
+        put_each (Was s i) (add_file s.files f) n (making (at_file (with_file s f) [] f)).file
+        (add_each (Was s i) s.files f stay (inr (its_made n m tag zoned is absent f refl refl refl)))
+        (inr (its_made n m tag zoned is absent (making (at_file (with_file s f) [] f)).file r.number r.grants r.size));
+    added = λ d is. stay;
+    zoned = λ d zone is. stay;
+    formats = λ n is. stay;
+    resends = λ is. stay;
+    crashes = λ is. crashed_each (Was s i) s.files (λ f there. inl (f, there, GoesSame refl refl refl));
+    opened = λ is low.
+        opened_each (Was s i) s.format s.drives s.files (begins s)
+        (λ f there m.
+        inl (f, there, goes_opened s i s.format (record { file = f; effects = m; drives = s.drives; chosen = [] }) is));
+  }
+
+  each_was : P (step s chosen i)
+  each_was = each_step s chosen i P cases
+
+-- ---- before and behind
+
+module _ (raise : EachStepRaisesTags) (s : Server) (chosen : List ℕ) (i : Input) (safe : AreSafe s.files)
+    (sound : IsSound s) where
+  goes_as : (n : ℕ) (f g : File) → f.kept.number ≡ n → Goes s i f g → Changes s i n (Some f) (Some g)
+  goes_as n f g here (GoesSame k grants size) = changes.Stays f g grants size
+  goes_as n f g here (GoesFenced k begins began size) = changes.Fenced f g (subst (BeginsFence i) here begins) began size
+  goes_as n f g here (GoesAsked k asked) = changes.Asked f g (subst (IsAskedOf s i) here asked)
+
+  abbrev later : List File
+  later = (step s chosen i).state.files
+
+  was : (n : ℕ) (g : File) → file_at later n ≡ Some g → Was s i g
+  was n g d = each_was s chosen i safe g (in_at later n g d)
+
+  -- the file that it was stands under the same number
+  there : (n : ℕ) (f g : File) → file_at later n ≡ Some g → In f s.files → Goes s i f g → file_at s.files n ≡ Some f
+  there n f g d among goes =
+      subst (λ (k : ℕ). file_at s.files k ≡ Some f) (sym (number s i f g goes) ∙ number_at later n g d)
+      (at_place s.files f sound.distinct among)
+
+  not_made : (n : ℕ) (g : File) → file_at later n ≡ Some g → IsMade s i g → file_at s.files n ≡ None
+  not_made n g d made = subst (λ (k : ℕ). file_at s.files k ≡ None) (number_at later n g d) made.absent
+
+  by_files : (n : ℕ) (o p : Option File) → file_at s.files n ≡ o → file_at later n ≡ p → Changes s i n o p
+  by_files n None None e d = changes.Absent
+  by_files n None (Some g) e d = elim (was n g d) [
+    | inl (f, among, goes) ↦ absurd (cc (sym e ∙ there n f g d among goes))
+    | inr made ↦ changes.Made g (subst (IsMaking i) (number_at later n g d) made.makes) made.none made.size
+  ]
+  by_files n (Some f) None e d = absurd (cc (sym d ∙ (raise s chosen i sound n f e).there))
+  by_files n (Some f) (Some g) e d = elim (was n g d) [
+    | inl (x, among, goes) ↦
+        let same_file : x ≡ f = cc (sym (there n x g d among goes) ∙ e) in
+        goes_as n f g (number_at s.files n f e) (subst (λ (y : File). Goes s i y g) same_file goes)
+    | inr made ↦ absurd (cc (sym e ∙ not_made n g d made))
+  ]
+
+  pub changes_so : (n : ℕ) → Changes s i n (file_at s.files n) (file_at later n)
+  changes_so n = by_files n (file_at s.files n) (file_at later n) refl refl

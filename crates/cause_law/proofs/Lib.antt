@@ -1,0 +1,12 @@
+pub mod Words
+pub mod Getting
+pub mod Returning
+pub mod Causing
+pub mod Reading
+pub mod Inputs
+pub mod Answering
+pub mod Changing
+pub mod Grants
+pub mod Dealing
+pub mod Turning
+pub mod Saying

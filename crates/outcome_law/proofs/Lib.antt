@@ -1,0 +1,11 @@
+pub mod Trace
+pub mod Working
+pub mod Given
+pub mod Steps
+pub mod Inputs
+pub mod Runs
+pub mod CallLines
+pub mod CallMoves
+pub mod CallEvents
+pub mod CallHistories
+pub mod Read

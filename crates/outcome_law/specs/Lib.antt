@@ -1,0 +1,6 @@
+pub mod Met
+pub mod Caused
+pub mod ReadClients
+pub mod ReadCalls
+pub mod Ended
+pub mod Read

@@ -1,0 +1,26 @@
+// How calls end, for the crates above.
+ghost use Rattle.outcome_law.specs.Caused.{OutcomesAreCaused};
+ghost use Rattle.outcome_law.specs.Ended.{ClientsAreRead, EndsAreCaused};
+ghost use Rattle.outcome_law.specs.Read.{AnswersAreOfReplies};
+
+/// How a call ends follows from what it met, whatever came to its client since that was new: from the answers and replies
+/// that it took, and the timeouts of what it awaited.
+pub fn outcomes_are_caused()
+    ensures { OutcomesAreCaused }
+{}
+
+/// The clients that are read off the lines of a history are those of each world that stands for it.
+pub fn clients_are_read()
+    ensures { ClientsAreRead }
+{}
+
+/// Each line of a lawful history that tells how a call ended tells so by all that the call met in the lines before.
+pub fn ends_are_caused()
+    ensures { EndsAreCaused }
+{}
+
+/// Each line of a lawful history that tells that a read was answered gives bytes that follow from the performed READs whose
+/// replies the call took in the lines before, of which there is at least one.
+pub fn answers_are_of_replies()
+    ensures { AnswersAreOfReplies }
+{}
