@@ -35,7 +35,7 @@ use Rattle.history_law.proofs.Each.{EachBehind}
 use Rattle.calm_law.specs.Performing.{AreDistinct}
 use Rattle.calm_law.specs.Sound.{IsSound}
 use Rattle.calm_law.proofs.Making.{each_step_is_sound}
-use Rattle.calm_law.proofs.Tags.{each_step_raises_tags}
+use Rattle.calm_law.specs.Tags.{EachStepRaisesTags}
 use Rattle.exchange_law.specs.Files.{AllFilesFit, KeptFits}
 use Rattle.exchange_law.proofs.CountMoments.{reached}
 use Rattle.exchange_law.proofs.Knowing.{lawful_at}
@@ -116,6 +116,7 @@ pub record JoinLaws : Type 0 where
   pub fits : AllFilesFit
   pub unforged : UnguessedAreUnforged
   pub holder : UnforgedHolderIsServer
+  pub raises : EachStepRaisesTags
 
 module _ (laws : JoinLaws) (w : World) (h : List Line) (m : Move) (f g : File) (s : machine.State)
     (k : FollowsWhole w h m f g s) where
@@ -240,7 +241,7 @@ module _ (laws : JoinLaws) (w : World) (h : List Line) (m : Move) (f g : File) (
         let behind_ =
         behind_file laws.world.ahead w (run laws.world w h before scenario) f k.follows.there at.drive n x old.0 before_
         old.1 (object ∙ sym old.2) in
-        let rises = (each_step_raises_tags w.server chosen i sound_before f.kept.number f k.follows.there).later tag note in
+        let rises = (laws.raises w.server chosen i sound_before f.kept.number f k.follows.there).later tag note in
         reached_spent (at_number w.drives at.drive) at.object tag x now object (omega (arith, behind_.0, rises))
       where
         number : g.kept.number ≡ f.kept.number

@@ -6,6 +6,7 @@ ghost use Rattle.repair_law.specs.Joined.{OwnedFollows};
 ghost use Rattle.repair_law.specs.Owning.{EachSendIsAwaited};
 ghost use Rattle.repair_law.specs.Quiet.{QuietFollows};
 
+use calm_law::each_step_raises_tags;
 use exchange_law::{all_files_fit, counters_stay_low};
 use fencing_law::holder_is_server;
 use history_law::unguessed_are_unforged;
@@ -59,6 +60,7 @@ pub fn owned_follows()
     all_files_fit();
     unguessed_are_unforged();
     holder_is_server();
+    each_step_raises_tags();
 }
 
 /// Behind each move of a calm history, while no grant of the file's tag was issued, each client's WRITE to the object of a

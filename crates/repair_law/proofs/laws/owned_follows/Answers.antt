@@ -12,4 +12,5 @@ returns c =
       fits = c.all_files_fit.ensures;
       unforged = c.unguessed_are_unforged.ensures;
       holder = c.holder_is_server.ensures;
+      raises = c.each_step_raises_tags.ensures;
     })
