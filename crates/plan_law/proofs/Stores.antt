@@ -399,9 +399,22 @@ carried cols (a ∷ xs) k z (inl g) = inl (
 )
 carried cols (a ∷ xs) k z (inr g) = inr (carried cols xs k z g)
 
+-- a changed column of a unit is carried to each replica that isn't out
+pub unit_carried : (m : RawMap) (r : Span) (bytes : List ℕ) (got : List Column) (out : List ℕ) (s u b k : ℕ) →
+    u < group_width m → 0 < r.length → IsTouchedStripe m r s → position_of m s u * replicas m ≤ k →
+    k < position_of m s u * replicas m + replicas m → among k out ≡ false → IsWithin b (changed m r s u) →
+    IsCarried (stores m r bytes got out) k (offset_of m s b)
+unfolding stores
+unit_carried m r bytes got out s u b k wide some touched from to there within =
+    carried (written m r bytes got out (stripes m r)) (writes m r out) k (offset_of m s b)
+    (rw (stripes_are m r some) (all_have m r out (stripe_of m r.offset) (stripe_of m (end_of r - 1) + 1 - stripe_of m r.offset)
+    s k (offset_of m s b) touched.0 (omega (arith, touched.0, touched.1))
+    (stripe_have m r out s 0 (group_width m) (turned m s u) k (offset_of m s b) (omega arith)
+    (omega (arith, turned_below m s u wide))
+    (place_have m r out s u b (position_of m s u) k wide refl from to there within))))
+
 each_carried : (m : RawMap) (r : Span) (bytes : List ℕ) (got : List Column) (out : List ℕ) (k z : ℕ) → IsChecked m → k < m.comps →
     among k out ≡ false → touches_cell m r k z ≡ true → IsCarried (stores m r bytes got out) k z
-unfolding stores
 each_carried m r bytes got out k z c below there e =
     let means = changed_means m r k z c e in
     let p : ℕ = k / replicas m in
@@ -411,13 +424,9 @@ each_carried m r bytes got out k z c below there e =
     let wide = unit_inside m (k / replicas m) z c in
     let whole = div-add-mod' k (replicas m) in
     let rest : k % replicas m < replicas m = mod_below k (replicas m) (omega arith) in
-    let here = place_have m r out s u (z % m.unit) p k wide (position_again m p z c inside) (omega (arith, whole))
-    (omega (arith, whole, rest)) there means.1 in
-    let asked : IsAsked (asks_place Scatters m r out [] s (turned m s u)) k z = rw (offset_again m p z c inside) at here in
-    carried (written m r bytes got out (stripes m r)) (writes m r out) k z
-    (rw (stripes_are m r means.2) (all_have m r out (stripe_of m r.offset) (stripe_of m (end_of r - 1) + 1 - stripe_of m r.offset)
-    s k z means.0.0 (omega (arith, means.0.0, means.0.1))
-    (stripe_have m r out s 0 (group_width m) (turned m s u) k z (omega arith) (omega (arith, turned_below m s u wide)) asked)))
+    rw (offset_again m p z c inside) at (unit_carried m r bytes got out s u (z % m.unit) k wide means.2 means.0
+    (rw (position_again m p z c inside) (omega (arith, whole)))
+    (rw (position_again m p z c inside) (omega (arith, whole, rest))) there means.1)
 
 no_asks : (m : RawMap) (r : Span) (out : List ℕ) → asks Scatters m r out [] [] ≡ []
 unfolding asks

@@ -73,52 +73,67 @@ moved_out x op mv = by_turn_ mv.turn
     by_turn_ (Ends u) = refl
     by_turn_ (Forgets u) = refl
 
+-- and so does its next number
+pub moved_next : (x : Client) (op : CallOp) (mv : Moved) → (moved (quiet x) op mv).client.next ≡ x.next
+moved_next x op mv = by_turn_ mv.turn
+  where
+    by_turn_ : (t : Turn) → (by_turn (record (with_held (quiet x) mv.held) { commands = mv.sent }) op t).client.next ≡ x.next
+    by_turn_ (Goes p) = refl
+    by_turn_ (Ends u) = refl
+    by_turn_ (Forgets u) = refl
+
 -- ---- no request is outstanding behind an answer
 
 module _ (d : Done) (a : Answer) where
   abbrev Same : Done → Type 0
-  Same e = e.client.outstanding ≡ d.client.outstanding
+  Same e = (e.client.outstanding ≡ d.client.outstanding) × (e.client.next ≡ d.client.next)
 
-  turn_out : (b : Done) (op : CallOp) (t : Turn) → b.client.outstanding ≡ d.client.outstanding → Same (by_turn b op t)
+  turn_out : (b : Done) (op : CallOp) (t : Turn) → Same b → Same (by_turn b op t)
   turn_out b op (Goes p) e = e
   turn_out b op (Ends u) e = e
   turn_out b op (Forgets u) e = e
 
   taken_out : (op : CallOp) (r : Result Held Why) → Same (answered_get d op r)
-  taken_out op (Ok h) = refl
-  taken_out op (Err w) = refl
+  taken_out op (Ok h) = (refl, refl)
+  taken_out op (Err w) = (refl, refl)
 
   get_out : (op : CallOp) (tries : ℕ) → Same (on_get d op tries a)
   get_out op tries = elim (cases_Bool (status_of a.results == NFS4_OK)) [
     | inl t ↦ rw t (taken_out op (taken a op))
-    | inr n ↦ rw n (turn_out d op (not_granted a tries) refl)
+    | inr n ↦ rw n (turn_out d op (not_granted a tries) (refl, refl))
   ]
 
   commit_out : (op : CallOp) (timed : List TimedOut) (h : Option Held) → Same (commit_under d op a (Commit timed) h)
   commit_out op timed (Some h) =
       turn_out (record (with_held d (on_commit h op a timed).held) { commands = (on_commit h op a timed).sent }) op
-      (on_commit h op a timed).turn refl
-  commit_out op timed None = refl
+      (on_commit h op a timed).turn (refl, refl)
+  commit_out op timed None = (refl, refl)
 
   need_out : (op : CallOp) (n : Need) → Same (on_need d op n a)
-  need_out op First = refl
+  need_out op First = (refl, refl)
   need_out op (Get tries) = get_out op tries
   need_out op (Commit timed) = commit_out op timed (held_of d.client.held (file_of op))
-  need_out op (Report timed) = refl
-  need_out op (Close u report) = refl
+  need_out op (Report timed) = (refl, refl)
+  need_out op (Close u report) = (refl, refl)
 
   phase_out : (op : CallOp) (p : Phase) → Same (on_phase d op p a)
   phase_out op (Waits n) = need_out op n
-  phase_out op Starts = refl
-  phase_out op (Needs n) = refl
-  phase_out op (Reads io) = refl
-  phase_out op (Probes io) = refl
-  phase_out op (Gathers io) = refl
-  phase_out op (Scatters io queue) = refl
+  phase_out op Starts = (refl, refl)
+  phase_out op (Needs n) = (refl, refl)
+  phase_out op (Reads io) = (refl, refl)
+  phase_out op (Probes io) = (refl, refl)
+  phase_out op (Gathers io) = (refl, refl)
+  phase_out op (Scatters io queue) = (refl, refl)
 
-  pub call_out : (z : Option Call) → Same (on_call d z a)
-  call_out None = refl
-  call_out (Some call) = phase_out call.op call.phase
+  both_out : (z : Option Call) → Same (on_call d z a)
+  both_out None = (refl, refl)
+  both_out (Some call) = phase_out call.op call.phase
+
+  pub call_out : (z : Option Call) → (on_call d z a).client.outstanding ≡ d.client.outstanding
+  call_out z = (both_out z).0
+
+  pub call_next : (z : Option Call) → (on_call d z a).client.next ≡ d.client.next
+  call_next z = (both_out z).1
 
 -- ---- a call that works with the drives
 

@@ -136,7 +136,7 @@ module _ (w : World) (h : List Line) (m : Move) (f g : File) (s : State) (k : Fo
   es = joined (events_of s w (owed k.follows.related) f m)
 
   -- by the client and its slot behind the move
-  stays : (c : ℕ) → c < CLIENTS → AreBeside c s es → client_of v c ≡ client_of w c →
+  pub stays : (c : ℕ) → c < CLIENTS → AreBeside c s es → client_of v c ≡ client_of w c →
       slot_of v.server.slots c ≡ slot_of w.server.slots c →
       IsClient g.kept.number g.kept.map (whole_behind k) c (client_of v c)
       (kept_for (slot_of v.server.slots c) (client_of v c).outstanding)

@@ -1,24 +1,25 @@
 -- A client's own turn: behind all its lines the machine has of the client what it has.
 -- Towards `CallsGoOn` (`specs/Steps.antt`).
-use Rattle.std.proofs.Common.{◌≡◌, ◌==◌, ◌&&◌, not, ℕ, Bool, true, false, List, [], Option, Some, None, refl, sym, ap, subst, ◌∙◌, inl, inr}
+use Rattle.std.proofs.Common.{◌≡◌, ◌==◌, ◌&&◌, not, ℕ, Bool, true, false, List, [], Option, Some, None, Ok, Err, refl, sym, ap, subst, ◌∙◌, inl, inr, if◌then◌else◌}
+use Rattle.std.specs.Prelude.{is_some}
 use Rattle.std.proofs.lemmas.Bool.{cases_Bool, eq-eqb}
 use Rattle.std.proofs.lemmas.List.{append-nil}
 use Rattle.data_map.specs.declared.check.RawMap.{RawMap}
 use Rattle.layout_ops.specs.declared.messages.Answer.{Answer}
 use Rattle.osd_commands.specs.declared.replies.Reply.{Reply}
 use Rattle.server_rules.specs.Laws.{last_of}
-use Rattle.client_rules.specs.Calls.{file_of}
+use Rattle.client_rules.specs.Calls.{file_of, span_of}
 use Rattle.client_rules.specs.Going.{quiet, moved, begun}
 use Rattle.client_rules.specs.Grants.{held_of}
 use Rattle.osd_lists.specs.declared.node.Node.{Node}
 use Rattle.osd_lists.specs.declared.node.Node.TheVariants.{Drive as FromDrive}
-use Rattle.client_rules.specs.History.{Input, Calls, Hears, Leaves, Resends, step}
+use Rattle.client_rules.specs.History.{Input, Calls, Hears, Leaves, Resends, unless_refused, step}
 use Rattle.client_rules.specs.Messages.{Step, Message, Replies, still, finished, on_call, obeys, no_match}
 use Rattle.client_rules.specs.Replies.{answers, replied, timed_out}
-use Rattle.client_rules.specs.Steps.{all_due}
+use Rattle.client_rules.specs.Steps.{all_due, calls, is_bad_range, is_spent, writes_nothing}
 use Rattle.move_law.specs.Turns.{IsReplied, IsTimed, IsAnswered, with_start}
 use Rattle.world_history.specs.ServerNames.{Slot}
-use Rattle.world_history.specs.ClientNames.{Client, Call, CallOp, Held, Request, Awaited, Need, Phase, Starts, Needs, Waits, Reads, Probes, Gathers, Scatters, WriteOk, Moved, Done}
+use Rattle.world_history.specs.ClientNames.{Client, Call, CallOp, Held, Request, Awaited, Need, Phase, Starts, Needs, Waits, Reads, Probes, Gathers, Scatters, WriteOk, Moved, Done, Busy, BadRange, SlotSpent}
 use Rattle.world_history.specs.Handed.{op_in, pending_op}
 use Rattle.fence_law.specs.State.{State, Event}
 use Rattle.fence_law.specs.Machine.{after_all}
@@ -32,7 +33,7 @@ use Rattle.file_simulation.specs.ClientEvents as table
 use Rattle.file_simulation.specs.Requests.{kept_for, kept_by, IsOutstanding}
 use Rattle.file_simulation.specs.Calls.{IsIdle, IsClient, CallIs, CallOn, CallAt, HeldIs, reports_on, waits_report}
 use Rattle.relation_law.specs.CallsTurns.{PhasePends, PhaseOn, EndIs, PendsAt, IsMid, NeedHas, ReplyFits, TimeFits}
-use Rattle.relation_law.specs.CallsCases.{EventCases, IsUnheld}
+use Rattle.relation_law.specs.CallsCases.{EventCases, IsUnheld, IsTurn, Begins, Answered, Replied, Timed, Stays}
 use Rattle.relation_law.specs.CallsFits.{AnswerFits}
 use Rattle.relation_law.proofs.CallsMid.{AsksOfBegin, held_plain}
 use Rattle.relation_law.proofs.CallsHeard.{found_working, timed_working, moved_out, call_out, reply_any, time_any}
@@ -81,7 +82,7 @@ module _ (file : ℕ) (m : RawMap) (c : ℕ) (s : State) (x : Client) (slot : Op
     pub timed : (n : ℕ) (call : Call) (h : Held) (a : Awaited) (xs : List Awaited) → IsTimed x i n call h a xs →
         (file_of call.op == file) ≡ true → TimeFits h call.op call.phase a xs
     pub ends : (es : List Event) → table.at_first s file c x i ≡ es → (d : Done) → step x i ≡ finished d →
-        (w : IsMid file m (after_all s es) c (kept_for slot d.client.outstanding) (op_in x i) d) → EndsWell es d w
+        IsTurn file s c x i es d → (w : IsMid file m (after_all s es) c (kept_for slot d.client.outstanding) (op_in x i) d) → EndsWell es d w
 
   module _ (fits : OwnFits) where
     -- behind the turn
@@ -94,10 +95,10 @@ module _ (file : ℕ) (m : RawMap) (c : ℕ) (s : State) (x : Client) (slot : Op
     abbrev Goes_ : List Event → Step → Type 0
     Goes_ es t = (i ≡ Resends → ⊥) → table.at_first s file c x i ≡ es → step x i ≡ t → IsGone es t
 
-    finish : (es : List Event) (d : Done) →
+    finish : (es : List Event) (d : Done) → IsTurn file s c x i es d →
         IsMid file m (after_all s es) c (kept_for slot d.client.outstanding) (op_in x i) d → Goes_ es (finished d)
-    finish es d w none first is =
-        let e : EndsWell es d w = fits.ends es first d is w in
+    finish es d turn w none first is =
+        let e : EndsWell es d w = fits.ends es first d is turn w in
         whole_turn file m c slot (after_all s es) (op_in x i) d w e.begin e.formed e.holding e.slots e.end
 
     -- ---- nothing comes to the call
@@ -209,7 +210,7 @@ module _ (file : ℕ) (m : RawMap) (c : ℕ) (s : State) (x : Client) (slot : Op
         answered_mid file m c s fits.safe.slots fits.safe.holds fits.safe.calls x slot a n.request f.0 client f.1 f.2 f.3 in
         let out : kept_for slot d.client.outstanding ≡ None =
         ap (kept_for slot) (call_out (quiet (record x { outstanding = None })) a x.call) in
-        finish (table.answered s file c x a x.outstanding) d
+        finish (table.answered s file c x a x.outstanding) d (Answered a n refl refl)
         (as_out (table.answered s file c x a x.outstanding) (pending_op x) d None out (heard_op n.from n.message n.is)
         (subst (λ r. IsMid file m (after_all s (table.answered s file c x a r)) c None (pending_op x) d) (sym n.outstanding) w))
 
@@ -222,7 +223,8 @@ module _ (file : ℕ) (m : RawMap) (c : ℕ) (s : State) (x : Client) (slot : Op
         let w : IsMid file m (after_all s es) c o (Some call.op) d =
         reply_any file m c s x slot k call n.call_is h n.held (found_working call.phase (answers drive q) a n.awaits) a q
         (fits.replied drive q call h a n) (file_of call.op == file) refl in
-        finish es d (as_out es (Some call.op) d o (ap (kept_for slot) (moved_out x call.op (replied h call.op call.phase a q)))
+        finish es d (Replied drive q call h a n refl refl)
+        (as_out es (Some call.op) d o (ap (kept_for slot) (moved_out x call.op (replied h call.op call.phase a q)))
         (sym (about_call call n.call_is) ∙ heard_op (FromDrive drive) (Replies q) n.is) w)
 
     time_goes : (n : ℕ) (call : Call) (h : Held) (a : Awaited) (xs : List Awaited) → IsTimed x i n call h a xs →
@@ -235,7 +237,7 @@ module _ (file : ℕ) (m : RawMap) (c : ℕ) (s : State) (x : Client) (slot : Op
         let w : IsMid file m (after_all s es) c o (Some call.op) d =
         time_any file m c s x slot k call t.call_is h t.held (timed_working call.phase n a xs t.awaits) n a xs t.awaits
         (fits.timed n call h a xs t) (file_of call.op == file) refl in
-        finish es d (as_out es (Some call.op) d o (ap (kept_for slot) (moved_out x call.op mv))
+        finish es d (Timed n call h a xs t refl refl) (as_out es (Some call.op) d o (ap (kept_for slot) (moved_out x call.op mv))
         (sym (about_call call t.call_is) ∙ timed_op) w)
       where
         timed_op : pending_op x ≡ op_in x i
@@ -266,22 +268,41 @@ module _ (file : ℕ) (m : RawMap) (c : ℕ) (s : State) (x : Client) (slot : Op
     unfolding table.sends_all
     nothing_goes none first is = rw (nothing_told (op_in x i)) k
 
+    -- so it is whether such a call is refused or not
+    empty_gone : (op : CallOp) → i ≡ Calls op → writes_nothing op ≡ true → IsGone [] (step x i)
+    unfolding calls table.sends_all
+    empty_gone op is e =
+        subst (IsGone []) (sym (ap (step x) is))
+        (by_tests (is_some x.call) (is_bad_range (span_of op)) (is_spent x.next) (writes_nothing op) e)
+      where
+        by_tests : (a b z n : Bool) → n ≡ true → IsGone []
+            (unless_refused x (if a then Err Busy else if b then Err BadRange else if z then Err SlotSpent
+            else Ok (if n then record (still x) { outcome = Some (WriteOk 0) } else finished (quiet (with_start x op)))))
+        by_tests true b z n t = k
+        by_tests false true z n t = k
+        by_tests false false true n t = k
+        by_tests false false false true t = rw (nothing_told (op_in x i)) k
+        by_tests false false false false t = absurd (cc t)
+
     cases : EventCases file s c x i Goes_
     cases = record {
       rests = rests;
       nothing = λ op is n. nothing_goes;
-      called = λ op is none. finish [] (quiet (with_start x op))
-          (as_out [] (Some op) (quiet (with_start x op)) o refl (called_op op is) (starts op none));
+      called = λ op is none. elim (cases_Bool (writes_nothing op)) [
+        | inl empty ↦ λ rs first at. subst (IsGone []) at (empty_gone op is empty)
+        | inr some ↦ finish [] (quiet (with_start x op)) (Begins op is none some refl refl)
+            (as_out [] (Some op) (quiet (with_start x op)) o refl (called_op op is) (starts op none))
+      ];
       answered = answer_goes;
       replied = reply_goes;
       unheld = λ u es t. absurd (fits.unheld u);
-      recalled = λ q is. finish [] (obeys x q)
+      recalled = λ q is. finish [] (obeys x q) (Stays refl refl refl refl refl refl refl)
           (as_out [] (pending_op x) (obeys x q) o refl (heard_op _ _ is) (as_it_is (obeys x q) refl refl refl refl refl refl));
-      unmatched = λ q is. finish [] (no_match x q)
+      unmatched = λ q is. finish [] (no_match x q) (Stays refl refl refl refl refl refl refl)
           (as_out [] (pending_op x) (no_match x q) o refl (heard_op _ _ is)
           (as_it_is (no_match x q) refl refl refl refl refl refl));
       timed = time_goes;
-      leaves = λ is. finish [] (quiet (record x { due = all_due x.due x.held }))
+      leaves = λ is. finish [] (quiet (record x { due = all_due x.due x.held })) (Stays refl refl refl refl refl refl refl)
           (as_out [] (pending_op x) (quiet (record x { due = all_due x.due x.held })) o refl (left_op is)
           (as_it_is (quiet (record x { due = all_due x.due x.held })) refl refl refl refl refl refl));
       resends = λ is es t none. absurd (none is);

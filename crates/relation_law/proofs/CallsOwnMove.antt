@@ -31,7 +31,7 @@ either_joined : (b : Bool) (lines : Lines) → joined (if b then [] ∷ lines el
 either_joined true lines = refl
 either_joined false lines = refl
 
-led_joined : (a : moves.Action) (lines : Lines) → joined (led_by a lines) ≡ joined lines
+pub led_joined : (a : moves.Action) (lines : Lines) → joined (led_by a lines) ≡ joined lines
 led_joined (moves.Opens e) lines = either_joined (leads e) lines
 led_joined (moves.Delivers number) lines = refl
 led_joined (moves.TimesOut c k) lines = refl

@@ -57,7 +57,7 @@ pub lawful_front : (s : State) (xs ys : List Event) → Lawful s (xs ++ ys) → 
 lawful_front s [] ys l = tt
 lawful_front s (e ∷ xs) ys l = (l.0, lawful_front (after s e) xs ys l.1)
 
-lawful_behind : (s : State) (xs ys : List Event) → Lawful s (xs ++ ys) → Lawful (after_all s xs) ys
+pub lawful_behind : (s : State) (xs ys : List Event) → Lawful s (xs ++ ys) → Lawful (after_all s xs) ys
 lawful_behind s [] ys l = l
 lawful_behind s (e ∷ xs) ys l = lawful_behind (after s e) xs ys l.1
 

@@ -42,7 +42,7 @@ both_first : (a b : Bool) → (a && b) ≡ true → a ≡ true
 both_first true b e = refl
 both_first false b e = e
 
-sized_row : (k : Kept) (c : ℕ) (last : Option ℕ) (size : ℕ) → commit_row k c last ≡ Sizes size → IsSized k c last size
+pub sized_row : (k : Kept) (c : ℕ) (last : Option ℕ) (size : ℕ) → commit_row k c last ≡ Sizes size → IsSized k c last size
 unfolding commit_under may_commit
 sized_row k c last size is = by last (grant_of k.grants c) refl refl is
   where

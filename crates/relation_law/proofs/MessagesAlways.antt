@@ -55,7 +55,7 @@ on_call_fine d (Some call) a e f = on_phase_fine d call.op call.phase a f (call_
 -- ---- calls
 
 -- a call that writes, and not nothing, writes some bytes
-has_bytes : (op : CallOp) → writes_nothing op ≡ false → HasBytes op
+pub has_bytes : (op : CallOp) → writes_nothing op ≡ false → HasBytes op
 has_bytes (Write file offset bytes) e = record { some = λ w. record { long = refl; some = some_length bytes e } }
   where
     some_length : (bs : List ℕ) → (length bs == 0) ≡ false → 0 < length bs
@@ -82,7 +82,7 @@ empty_call c op f e = by_tests (is_some c.call) (is_bad_range (span_of op)) (is_
 
 -- ---- a turn
 
-found_one : (p : Awaited → Bool) (xs : List Awaited) (a : Awaited) → find p xs ≡ Some a → In a xs
+pub found_one : (p : Awaited → Bool) (xs : List Awaited) (a : Awaited) → find p xs ≡ Some a → In a xs
 found_one p [] a e = absurd (cc e)
 found_one p (x ∷ xs) a e = elim (cases_Bool (p x)) [
   | inl t ↦ let same : x ≡ a = cc (rw t at e) in inl (sym same)

@@ -129,7 +129,7 @@ pub call_bytes : (hs : List Held) (o : Option Call) (call : Call) → o ≡ Some
 call_bytes hs None call e x = absurd (cc e)
 call_bytes hs (Some q) call e x = let same : q ≡ call = cc e in rw same at x.0
 
-finishes : (Fit : List ℕ → Type 0) → FinishCases (FineDone Fit)
+pub finishes : (Fit : List ℕ → Type 0) → FinishCases (FineDone Fit)
 unfolding requests
 finishes Fit = record {
   needs = λ d op n f is out. phased_fine Fit d op (Needs n) f (call_bytes d.client.held d.client.call _ is f.call) (λ h o. tt);

@@ -40,7 +40,7 @@ use Rattle.relation_law.proofs.RequestsOwn.{lines_are, server_is}
 use Rattle.relation_law.proofs.RequestsPlain.{asking_more, asking_stays_all}
 use Rattle.relation_law.proofs.RequestsServed.{counted, own_answered}
 
-taken_all : (ls : List Line) → take (length ls) ls ≡ ls
+pub taken_all : (ls : List Line) → take (length ls) ls ≡ ls
 taken_all [] = refl
 taken_all (l ∷ ls) = ap (λ (z : List Line). l ∷ z) (taken_all ls)
 

@@ -113,7 +113,7 @@ none_heard s server did f g (node.Client c) (OrdersServer o) no_ = tt
 none_heard s server did f g node.Server m no_ = tt
 none_heard s server did f g (node.Drive d) m no_ = tt
 
-served_at : (server : Server) (now : ℕ) (from : Node) (m : Message)
+pub served_at : (server : Server) (now : ℕ) (from : Node) (m : Message)
     → is_served_in server (Hears 0 from m) ≡ is_served_in server (Hears now from m)
 served_at server now (node.Client c) (AsksServer q) = refl
 served_at server now (node.Client c) (RepliesServer r) = refl
@@ -196,7 +196,7 @@ module _ (w : World) (f g : File) (i : Input) where
       (joined (table.sends_all (after_all s (table.sent s w.server g i o)) w.server g i os))
 
   -- commands and recalls have no event, and the answer stands last
-  answer_last : (s : State) (os : List Outgoing) (a : Answer) → AnswersOnly Never os
+  pub answer_last : (s : State) (os : List Outgoing) (a : Answer) → AnswersOnly Never os
       → sent_behind s (os ++ Answers a ∷ []) ≡ after_all s (table.answered_to s w.server g a i)
   unfolding table.sends_all
   answer_last s [] a none = one_sent s (Answers a) []

@@ -10,6 +10,7 @@ use Rattle.layout_ops.specs.declared.args.Args.TheVariants as args
 use Rattle.layout_ops.specs.declared.messages.Answer.{Answer}
 use Rattle.layout_types.specs.declared.ioerrs.IoErr.{IoErr}
 use Rattle.osd_lists.specs.declared.node.Node.{Node}
+use Rattle.server_rules.specs.Laws.{last_of}
 use Rattle.client_rules.specs.declared.limits.TheConstants.{PERFORMED, OTHER_TAG}
 use Rattle.client_rules.specs.Calls.{file_of}
 use Rattle.client_rules.specs.Answers.{not_granted, on_commit}
@@ -132,7 +133,7 @@ module _ (s : State) (c : ℕ) (one : HoldsOne s c) where
   ended_holds file (Some op) None = one
 
 -- the last number that a client used isn't the next one
-not_next : (n m : ℕ) → m ≡ last_before n → m ≡ n → ⊥
+pub not_next : (n m : ℕ) → m ≡ last_before n → m ≡ n → ⊥
 not_next n m last same = elim (cases_eq n 0) [
   | inl e ↦ let l = rw (eq-eqb n 0 e) at last in absurd (omega (arith, l, same, e))
   | inr e ↦ let l = rw (ne_eqb n 0 e) at last in absurd (omega (arith, l, same, e))
@@ -300,10 +301,10 @@ module _ (laws : HeldLaws) (w : World) (h : List Line) (m : Move) (f g : File) (
   abbrev t_ : Option Slot
   t_ = slot_of w.server.slots c_
 
-  by : ByClient w m.action j (acts w m.chosen m.action)
+  pub by : ByClient w m.action j (acts w m.chosen m.action)
   by = parties.client_goes w h k.follows.moment m k.follows.is_due j goes
 
-  then_ : client_of w c_ ≡ x_
+  pub then_ : client_of w c_ ≡ x_
   then_ = parties.client_before w m.action j (acts w m.chosen m.action) by
 
   text : AreOfText h
@@ -312,43 +313,43 @@ module _ (laws : HeldLaws) (w : World) (h : List Line) (m : Move) (f g : File) (
   few : AreFew h
   few = fewer h (take (length (lines_in w m)) (lines_in w m)) k.follows.calm.scenario.few
 
-  through : IsReadableThrough h
+  pub through : IsReadableThrough h
   through = laws.right.readable h (lawful_at w h k.follows.moment) text few
 
-  readable : IsReadable w
+  pub readable : IsReadable w
   readable = readable_there w h k.follows.moment through
 
-  low : c_ < CLIENTS
+  pub low : c_ < CLIENTS
   low = client_low w h k.follows.moment text c_ by.before by.found
 
-  agree : RequestsAgree file_ f.kept.map s w.server c_ x_
+  pub agree : RequestsAgree file_ f.kept.map s w.server c_ x_
   agree =
       subst (λ (z : Client). RequestsAgree file_ f.kept.map s w.server c_ z) then_ (k.follows.related.clients c_ low).slot
 
-  is_client : IsClient file_ f.kept.map s c_ x_ (kept_for t_ x_.outstanding)
+  pub is_client : IsClient file_ f.kept.map s c_ x_ (kept_for t_ x_.outstanding)
   is_client =
       subst (λ (z : Client). IsClient file_ f.kept.map s c_ z (kept_for t_ z.outstanding)) then_
       (k.follows.related.clients c_ low).client
 
-  met : IsMet w.server c_ x_
+  pub met : IsMet w.server c_ x_
   met = subst (IsMet w.server c_) then_ (laws.right.world.agree w h k.follows.moment through c_)
 
-  asks : AsksFor x_
+  pub asks : AsksFor x_
   asks = subst AsksFor then_ (clients_ask_for w (reached w h k.follows.moment) c_)
 
-  reports : Reports w.server c_ x_
+  pub reports : Reports w.server c_ x_
   reports = subst (Reports w.server c_) then_ (reports_stand laws.right.world w h k.follows.moment through c_)
 
-  safe : Safe s
+  pub safe : Safe s
   safe =
       let checked : IsChecked f.kept.map = (readable.files file_ f k.follows.there).map in
       safe_of s k.follows.run
       (subst IsCode (sym k.follows.related.layout) (layouts_are_codes f.kept.map f.kept.first_tag checked))
 
-  outstanding_is : (r : Request) → x_.outstanding ≡ Some r → IsOutstanding file_ f.kept.map s t_ c_ x_ r
+  pub outstanding_is : (r : Request) → x_.outstanding ≡ Some r → IsOutstanding file_ f.kept.map s t_ c_ x_ r
   outstanding_is r out = subst (λ (o : Option Request). RequestIs file_ f.kept.map s t_ c_ x_ o) out agree.request
 
-  number_ : (r : Request) → x_.outstanding ≡ Some r → r.sequence ≡ x_.next → ⊥
+  pub number_ : (r : Request) → x_.outstanding ≡ Some r → r.sequence ≡ x_.next → ⊥
   number_ r out same = not_next x_.next r.sequence ((outstanding_is r out).sequence ∙ agree.sequence) same
 
   holding_ : (hh : Held) → held_of x_.held file_ ≡ Some hh → HoldsOne s c_
@@ -358,7 +359,7 @@ module _ (laws : HeldLaws) (w : World) (h : List Line) (m : Move) (f g : File) (
       (held.grant, held.held)
 
   -- a call that works holds a grant
-  unheld_ : IsUnheld x_ j.input → ⊥
+  pub unheld_ : IsUnheld x_ j.input → ⊥
   unheld_ u =
       works u.call.phase u.awaits
       (subst (λ (o : Option Held). PhaseFine (KeptGood w.server c_) o x_.outstanding u.call.op u.call.phase) u.held
@@ -374,10 +375,11 @@ module _ (laws : HeldLaws) (w : World) (h : List Line) (m : Move) (f g : File) (
       works (Gathers io) found fine = fine.0
       works (Scatters io queue) found fine = fine.0
 
-  -- the answer that is taken is the one that the server keeps
-  kept_it : (from : Node) (b : Message) (a : Answer) → j.input ≡ Hears from b → takes x_ from b ≡ Some (TakesAnswer a)
-      → (r : Request) → x_.outstanding ≡ Some r → kept_by t_ r ≡ Some a
-  kept_it from b a is took r out =
+  -- the answer that is taken is the one that the server keeps for the outstanding request
+  own_it : (from : Node) (b : Message) (a : Answer) → j.input ≡ Hears from b → takes x_ from b ≡ Some (TakesAnswer a)
+      → (r : Request) → x_.outstanding ≡ Some r
+      → (slot : Slot) × (t_ ≡ Some slot) × (slot.last ≡ r.sequence) × (a ≡ slot.kept)
+  own_it from b a is took r out =
       let heard : IsForClient w m.action c_ by.before (Hears from b) =
       subst (IsForClient w m.action c_ by.before) is by.input_is in
       let d = heard.0 in
@@ -387,12 +389,25 @@ module _ (laws : HeldLaws) (w : World) (h : List Line) (m : Move) (f g : File) (
       let own : TakesOwn w h c_ by.before.state d.posted a =
       laws.own w h k.follows.moment c_ by.before by.found d.number d.posted d.there d.receiver b a heard.2 took_it in
       let same : own.request ≡ r =
-      cc (sym own.outstanding ∙ ap (λ (z : Client). z.outstanding) (sym by.state_is) ∙ out) in
-      let last : own.slot.last ≡ r.sequence = own.last ∙ ap (λ (z : Request). z.sequence) same in
-      let exact : a ≡ own.slot.kept = own.exact (readable.answers c_ own.slot own.kept) in
-      ap (λ (o : Option Slot). kept_by o r) own.kept
-      ∙ ap (λ (z : Bool). if z then Some own.slot.kept else None) (eq-eqb own.slot.last r.sequence last)
-      ∙ ap (λ (z : Answer). Some z) (sym exact)
+      cc (sym own.outstanding ∙ ap (λ (z : Client). z.outstanding) (sym by.state_is) ∙ out) in (
+        own.slot,
+        own.kept,
+        own.last ∙ ap (λ (z : Request). z.sequence) same,
+        own.exact (readable.answers c_ own.slot own.kept),
+      )
+
+  pub kept_it : (from : Node) (b : Message) (a : Answer) → j.input ≡ Hears from b → takes x_ from b ≡ Some (TakesAnswer a)
+      → (r : Request) → x_.outstanding ≡ Some r → kept_by t_ r ≡ Some a
+  kept_it from b a is took r out =
+      let own = own_it from b a is took r out in
+      ap (λ (o : Option Slot). kept_by o r) own.1
+      ∙ ap (λ (z : Bool). if z then Some own.0.kept else None) (eq-eqb own.0.last r.sequence own.2)
+      ∙ ap (λ (z : Answer). Some z) (sym own.3)
+
+  -- which was carried out last of the client's
+  pub served_it : (from : Node) (b : Message) (a : Answer) → j.input ≡ Hears from b → takes x_ from b ≡ Some (TakesAnswer a)
+      → (r : Request) → x_.outstanding ≡ Some r → last_of t_ ≡ r.sequence
+  served_it from b a is took r out = let own = own_it from b a is took r out in ap last_of own.1 ∙ own.2
 
   answered_ : (a : Answer) → IsAnswered x_ j.input a → (hh : Held)
       → held_of (on_call (quiet (record x_ { outstanding = None })) x_.call a).client.held file_ ≡ Some hh

@@ -40,7 +40,7 @@ more_found f g p (suc n) h =
     ]
 
 -- one that only the second finds, if it finds more
-one_more : (f g : ℕ → Bool) (p n : ℕ) → length (filter f (range_with_len p n)) < length (filter g (range_with_len p n))
+pub one_more : (f g : ℕ → Bool) (p n : ℕ) → length (filter f (range_with_len p n)) < length (filter g (range_with_len p n))
     → (i : ℕ) × (i < n) × (g (p + i) ≡ true) × (f (p + i) ≡ false)
 one_more f g p zero l = absurd (omega (arith, l))
 one_more f g p (suc n) l =
@@ -93,7 +93,7 @@ all_gone out k n i none less = elim (cases_Bool (among (k + i) out)) [
 ]
 
 -- and if it isn't, one of them isn't
-some_left : (out : List ℕ) (k n : ℕ) → is_none (source_from out k n) ≡ false
+pub some_left : (out : List ℕ) (k n : ℕ) → is_none (source_from out k n) ≡ false
     → (i : ℕ) × (i < n) × (among (k + i) out ≡ false)
 unfolding source_from
 some_left out k zero e = absurd (cc e)

@@ -48,7 +48,7 @@ use Rattle.relation_law.proofs.ReturnsServer.{borne_behind, call_on}
 
 -- ---- what is known of clients and of the server's objects
 
-always_fine : IsKeptByClients (λ n x. IsFine x)
+pub always_fine : IsKeptByClients (λ n x. IsFine x)
 always_fine = record {
   more = λ n k x f. f;
   made = λ n number. new_fine number 1;

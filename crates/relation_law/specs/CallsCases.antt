@@ -1,5 +1,5 @@
 -- A turn of a client by cases, with the events of its first line.
-use Rattle.std.specs.Prelude.{◌≡◌, ◌==◌, ℕ, true, List, [], Some, None, find}
+use Rattle.std.specs.Prelude.{◌≡◌, ◌==◌, ℕ, true, false, List, [], Some, None, find}
 use Rattle.osd_lists.specs.declared.node.Node.TheVariants.{Server as FromServer}
 use Rattle.layout_ops.specs.declared.messages.Answer.{Answer}
 use Rattle.client_rules.specs.Calls.{file_of}
@@ -10,7 +10,7 @@ use Rattle.client_rules.specs.Io.{awaited_in}
 use Rattle.client_rules.specs.Messages.{Step, Recalls, still, finished, on_call, obeys, no_match}
 use Rattle.client_rules.specs.Replies.{answers, replied, timed_out}
 use Rattle.client_rules.specs.Steps.{writes_nothing, all_due}
-use Rattle.world_history.specs.ClientNames.{Client, Call, CallOp, Held, Awaited, Recall, Reply, WriteOk}
+use Rattle.world_history.specs.ClientNames.{Client, Call, CallOp, Done, Held, Awaited, Recall, Reply, WriteOk}
 use Rattle.move_law.specs.Turns.{IsReplied, IsTimed, IsAnswered, with_start}
 use Rattle.fence_law.specs.State.{State, Event}
 use Rattle.file_simulation.specs.EventLists.{where_so}
@@ -53,3 +53,18 @@ pub record EventCases (file : ℕ) (s : State) (c : ℕ) (x : Client) (i : Input
     pub leaves : i ≡ Leaves → P [] (finished (quiet (record x { due = all_due x.due x.held })))
     -- what it waits for is sent again
     pub resends : i ≡ Resends → (es : List Event) (t : Step) → P es t
+
+-- In the middle of a turn the client is so, behind the events of its first line: its call is new, an answer was taken, a reply or a
+-- timeout was, or its call is as it was.
+pub data IsTurn (file : ℕ) (s : State) (c : ℕ) (x : Client) (i : Input) (es : List Event) (d : Done) : Type 0 where
+  Begins : (op : CallOp) → i ≡ Calls op → x.call ≡ None → writes_nothing op ≡ false → es ≡ [] → d ≡ quiet (with_start x op) → IsTurn file s c x i es d
+  Answered : (a : Answer) → IsAnswered x i a → es ≡ table.answered s file c x a x.outstanding →
+      d ≡ on_call (quiet (record x { outstanding = None })) x.call a → IsTurn file s c x i es d
+  Replied : (drive : ℕ) (q : Reply) (call : Call) (h : Held) (a : Awaited) → IsReplied x i drive q call h a →
+      es ≡ where_so (file_of call.op == file) (table.replied s c a q call.phase) →
+      d ≡ moved (quiet x) call.op (replied h call.op call.phase a q) → IsTurn file s c x i es d
+  Timed : (k : ℕ) (call : Call) (h : Held) (a : Awaited) (xs : List Awaited) → IsTimed x i k call h a xs →
+      es ≡ where_so (file_of call.op == file) (table.turned s c (timed_out h call.op call.phase k a xs).turn) →
+      d ≡ moved (quiet x) call.op (timed_out h call.op call.phase k a xs) → IsTurn file s c x i es d
+  Stays : es ≡ [] → d.client.call ≡ x.call → d.client.held ≡ x.held → d.client.outstanding ≡ x.outstanding →
+      d.client.next ≡ x.next → d.commands ≡ [] → d.outcome ≡ None → IsTurn file s c x i es d
