@@ -7,3 +7,11 @@ pub mod Fitting
 pub mod Ways
 pub mod WaysSteps
 pub mod FittingSteps
+pub mod OwningPlaces
+pub mod Owning
+pub mod OwningSteps
+pub mod Sending
+pub mod Followed
+pub mod OwnedBefore
+pub mod OwnedJoined
+pub mod Quiet

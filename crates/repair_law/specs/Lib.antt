@@ -1,3 +1,6 @@
 pub mod Growing
 pub mod Hearing
 pub mod Awaiting
+pub mod Owning
+pub mod Joined
+pub mod Quiet

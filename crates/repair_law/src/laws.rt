@@ -2,8 +2,14 @@
 ghost use Rattle.repair_law.specs.Awaiting.{JobsAskTheirOwn};
 ghost use Rattle.repair_law.specs.Growing.{DrivesGrow, SpentStays};
 ghost use Rattle.repair_law.specs.Hearing.{HeardTellsOfWrites};
+ghost use Rattle.repair_law.specs.Joined.{OwnedFollows};
+ghost use Rattle.repair_law.specs.Owning.{EachSendIsAwaited};
+ghost use Rattle.repair_law.specs.Quiet.{QuietFollows};
 
-use exchange_law::counters_stay_low;
+use calm_law::each_step_raises_tags;
+use exchange_law::{all_files_fit, counters_stay_low};
+use fencing_law::holder_is_server;
+use history_law::unguessed_are_unforged;
 use sent_law::no_command_is_ahead;
 use world_history::one_event_more;
 
@@ -34,4 +40,35 @@ pub fn jobs_ask_their_own()
     ensures { JobsAskTheirOwn }
 {
     one_event_more();
+}
+
+/// What a step of the server sends to drives a job awaits behind it.
+pub fn each_send_is_awaited()
+    ensures { EachSendIsAwaited }
+{}
+
+/// Behind each move of a calm history what may still come to a present component of a file, of all that the server's jobs
+/// sent, is of the repair that runs and awaits it, in its first piece; or no job runs since the server stopped in a repair,
+/// or a fence is waited for again. Two things are asked: that each move keeps what the machine has of the components, and
+/// that where a rebuild makes a component anew, all that was sent to it is spent.
+pub fn owned_follows()
+    ensures { OwnedFollows }
+{
+    one_event_more();
+    counters_stay_low();
+    no_command_is_ahead();
+    all_files_fit();
+    unguessed_are_unforged();
+    holder_is_server();
+    each_step_raises_tags();
+}
+
+/// Behind each move of a calm history, while no grant of the file's tag was issued, each client's WRITE to the object of a
+/// component that isn't lost is spent. It is asked that each move keeps what the machine has of the components, of what was
+/// sent, and of what the server keeps.
+pub fn quiet_follows()
+    ensures { QuietFollows }
+{
+    one_event_more();
+    all_files_fit();
 }

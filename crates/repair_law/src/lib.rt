@@ -4,4 +4,7 @@
 
 mod laws;
 
-pub use laws::{drives_grow, heard_tells_of_writes, jobs_ask_their_own, spent_stays};
+pub use laws::{
+    drives_grow, each_send_is_awaited, heard_tells_of_writes, jobs_ask_their_own, owned_follows,
+    quiet_follows, spent_stays,
+};
