@@ -2,15 +2,13 @@
 -- Towards `ReadsGoOn` (`relation_law/specs/Steps.antt`).
 use Rattle.std.proofs.Common.{◌≡◌, ◌==◌, ◌<◌, ℕ, Bool, true, false, List, [], Option, Some, None, refl, sym, ap, subst, ◌∙◌}
 use Rattle.std.proofs.lemmas.Bool.{eq-eqb}
-use Rattle.data_map.specs.declared.check.RawMap.{RawMap}
-use Rattle.layout_ops.specs.declared.messages.Answer.{Answer}
 use Rattle.scenario_text.specs.declared.line.Line.{Line}
 use Rattle.scenario_text.specs.declared.names.TheConstants.{CLIENTS}
 use Rattle.server_rules.specs.Laws.{In}
 use Rattle.server_rules.specs.Slots.{slot_of}
 use Rattle.client_rules.specs.Calls.{file_of}
 use Rattle.client_rules.specs.Io.{awaited_in}
-use Rattle.world_history.specs.ClientNames.{Awaited, Call, CallOp, Client, Phase, Starts, Needs, Waits, Reads, Probes, Gathers, Scatters}
+use Rattle.world_history.specs.ClientNames.{Awaited, Call, Phase, Starts, Needs, Waits, Reads, Probes, Gathers, Scatters}
 use Rattle.world_history.specs.ServerNames.{File}
 use Rattle.world_history.specs.State.{World, ClientAt, at_number}
 use Rattle.history_law.specs.BookMoments.{IsMoment}
