@@ -59,11 +59,29 @@ impl<D> StoredDrive<D> {
         self.log.is_over()
     }
 
+    /// The least format of capabilities that the drive takes.
+    pub fn least_format(&self) -> u8
+        ensures { result ≡ (core_of self.now).least }
+    {
+        self.core.least_format()
+    }
+
     /// The disk, with the store on it.
     pub fn into_disk(self) -> D
         ensures { result ≡ disk_in self }
     {
         self.log.into_disk()
+    }
+}
+
+impl<D: Drop> StoredDrive<D> {
+    ghost use Rattle.drive_store.specs.Stores.{core_of};
+
+    /// The drive without its store, which is let go.
+    pub fn into_core(self) -> DriveCore
+        ensures { result ≡ core_of self }
+    {
+        self.core
     }
 }
 

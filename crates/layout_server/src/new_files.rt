@@ -66,9 +66,9 @@ pub struct NewFile {
     pub zoned: bool,
 }
 
-// A map as it is checked, with at most 64 components.
+/// A map as it is checked, with at most 64 components.
 #[tactic(auto, unfolding(server_rules::specs::Making::checked_64))]
-fn checked_64(raw: RawMap) -> Result<DataMap, MapErr>
+pub fn checked_64(raw: RawMap) -> Result<DataMap, MapErr>
     requires { HasAlgorithm raw }
     ensures value { result ≡ checked_64 raw }
     ensures same { IfOk result (λ map. map ≡ raw) }
@@ -83,8 +83,8 @@ fn checked_64(raw: RawMap) -> Result<DataMap, MapErr>
     DataMap::check(raw)
 }
 
-// There is a file of that number.
-fn has_file(files: &Files, number: u32) -> bool
+/// There is a file of that number.
+pub fn has_file(files: &Files, number: u32) -> bool
     requires { AreEntries files.now.entries }
     ensures { result ≡ is_some (file_at (files_in files.now.entries) number) }
 {

@@ -76,6 +76,27 @@ impl ServerCore {
         })
     }
 
+    /// The server of a state.
+    pub fn of_state(alloc: Global, state: State) -> Self
+        requires { IsGood state }
+        ensures { result ≡ server_of state }
+    {
+        let is_over = false;
+        ServerCore {
+            alloc,
+            state,
+            is_over,
+        }
+    }
+
+    /// The state that the server has. After want of memory it is an empty one.
+    pub fn state(&self) -> &State
+        ensures value { server_of result.now ≡ self.now }
+        ensures good { IsGood result.now }
+    {
+        &self.state
+    }
+
     // The state, in whose place a new one stands until the call is done.
     fn begin(&mut self) -> Result<State, Memory>
         ensures value { IfOk result (λ state. server_of state ≡ self.old) }

@@ -2,6 +2,7 @@ ghost use Rattle.std.specs.Prelude.{◌≡◌, IfOk, OnOk};
 ghost use Rattle.std.specs.Option.{option_copied};
 ghost use Rattle.server_rules.specs.declared.server.Outgoing.TheVariants.{Answers};
 ghost use Rattle.server_requests.specs.Sending.{sent_as};
+ghost use Rattle.server_rules.specs.Envelopes.{bytes_of};
 ghost use Rattle.server_rules.specs.Slots.{slot_of, keep};
 ghost use Rattle.server_state.specs.Kept.{answer_in, IsKept, place_in};
 
@@ -55,6 +56,14 @@ impl KeptAnswer {
         ensures { result ≡ self.now.last }
     {
         self.last
+    }
+
+    /// The bytes of the answer.
+    pub fn as_bytes(&self) -> &[u8]
+        ensures kept { answer_in result.now ≡ self.now.kept }
+        ensures spelled { result.now ≡ bytes_of (Answers self.now.kept) }
+    {
+        self.bytes.as_slice()
     }
 
     /// The answer again.
