@@ -17,6 +17,7 @@ use Rattle.move_law.proofs.Moments.{stands_kept}
 use Rattle.history_law.specs.BookMoments.{IsMoment, plan_at, lines_in}
 use Rattle.history_law.specs.Doing.{did_in, ServerMoves}
 use Rattle.history_law.specs.Read.{AreWritten, BookIsRead, StepIsRead}
+use Rattle.history_law.specs.StepEnds.{BeginNone}
 use Rattle.history_law.proofs.Staying.{written_front}
 use Rattle.history_law.proofs.StepEnds.{place_of}
 use Rattle.fencing_law.proofs.Ending.{next_moment}
@@ -26,7 +27,9 @@ use Rattle.cause_law.proofs.Reading.{IsRead, input_head, line_read}
 -- what such a move is
 pub record IsMoved (w : World) (h : List Line) (m : Move) (front : List Line) (l : Line) (after : List Line) (i : Input)
     : Type 0 where
+  pub comes : input_at (server_seen (h ++ front)) l ≡ Some i
   pub head : is_head l ≡ true
+  pub alone : BeginNone after
   pub server : server_after (h ++ front) ≡ w.server
   pub did : did_in w m ≡ Some (step w.server (placed_in after) i)
   pub state : (move w m).world.server ≡ (step w.server (placed_in after) i).state
@@ -57,7 +60,9 @@ module _ (read : BookIsRead) (step_read : StepIsRead) (moves : ServerMoves) (mor
 
     moved : IsMoved w h m front l after i
     moved = record {
+      comes = comes;
       head = input_head (server_seen (h ++ front)) l i comes;
+      alone = read_there.alone;
       server = there;
       did = does;
       state = state_is;

@@ -6,7 +6,10 @@ pub mod Reading
 pub mod Inputs
 pub mod Answering
 pub mod Changing
+pub mod Ordering
 pub mod Grants
+pub mod Telling
+pub mod Noting
 pub mod Dealing
 pub mod Turning
 pub mod Saying

@@ -1,5 +1,5 @@
 -- A line at which something comes to the server is the only one of its move, and what its step does is read there.
-use Rattle.std.proofs.Common.{◌≡◌, Bool, true, List, [], ◌∷◌, ◌++◌, Option, Some, None, refl, sym, ap, subst, ◌∙◌, inl, inr}
+use Rattle.std.proofs.Common.{◌≡◌, Bool, true, List, [], ◌∷◌, ◌++◌, Option, Some, None, refl, sym, ap, subst, ◌∙◌, append_assoc, inl, inr}
 use Rattle.std.proofs.lemmas.Bool.{cases_Bool, false≢true}
 use Rattle.std.specs.List.{fold}
 use Rattle.std.proofs.lemmas.List.{append-nil}
@@ -158,3 +158,27 @@ module _ (on : ServerGoesOn) (w : World) (h : List Line) (m : Move) where
       let head : is_head l ≡ true = input_head (server_seen (h ++ x ∷ y ∷ ys)) l c.0 c.1 in
       absurd (no_third x y ys l after (before_head [] x (y ∷ ys) l after is head) (before_head (x ∷ []) y ys l after is head) head
       (subst (λ (ls : List Line). Reads (steps_of ls)) is r))
+
+-- ---- lines before one that begins a step
+
+abbrev pub AllHeads : List Line → Type 0
+AllHeads [] = Unit {0}
+AllHeads (l ∷ ls) = (is_head l ≡ true) × AllHeads ls
+
+-- each of them begins one
+pub all_heads : (w : World) (m : Move) (front : List Line) (l : Line) (after : List Line)
+    → lines_in w m ≡ front ++ l ∷ after → is_head l ≡ true → AllHeads front
+all_heads w m front l after is head = from [] front is
+  where
+    from : (before rest : List Line) → lines_in w m ≡ before ++ (rest ++ l ∷ after) → AllHeads rest
+    from before [] e = tt
+    from before (x ∷ rest) e = (
+      elim (cases_Bool (is_head x)) [
+        | inl t ↦ t
+        | inr z ↦
+            absurd
+            (false≢true
+            (sym (none_behind w m before (rest ++ l ∷ after) x e z l (in_behind l rest (l ∷ after) (inl refl))) ∙ head))
+      ],
+      from (before ++ x ∷ []) rest (e ∙ sym (append_assoc before (x ∷ []) (rest ++ l ∷ after))),
+    )

@@ -1,8 +1,11 @@
 -- Which steps of the server make grants of a file live, end them, or change its size.
-use Rattle.std.specs.Prelude.{◌≡◌, ◌⊎◌, ◌+◌, ℕ, true, List, [], ◌∷◌, ◌++◌, Option, Some, None}
-use Rattle.server_rules.specs.History.{Input, Opens}
+use Rattle.std.specs.Prelude.{◌≡◌, ◌≢◌, ◌⊎◌, ◌+◌, ℕ, true, List, [], ◌∷◌, ◌++◌, Option, Some, None}
+use Rattle.server_rules.specs.declared.limits.TheConstants.{GREATEST_TAG}
+use Rattle.server_rules.specs.History.{Input, Obeys, Opens}
+use Rattle.server_rules.specs.Messages.{counters_have_room}
+use Rattle.server_rules.specs.Openings.{is_unsettled}
 use Rattle.scenario_text.specs.declared.line.Line.{Line}
-use Rattle.world_history.specs.ServerNames.{Server, File, OrderKind, ClientRequest}
+use Rattle.world_history.specs.ServerNames.{Server, File, OrderKind, ToRevoke, ToRebuild, ToAudit, ClientRequest}
 use Rattle.world_history.specs.Book.{server_after, book_of}
 use Rattle.world_history.specs.State.{World}
 use Rattle.world_history.specs.History.{StandsFor}
@@ -19,9 +22,25 @@ pub record FenceBegan (before behind : File) : Type 0 where
   pub none : behind.kept.grants ≡ []
   pub fence : (is_fencing behind.job ≡ true) ⊎ (behind.kept.tag ≡ before.kept.tag + 1)
 
--- an order on the file comes, or the server is opened
-abbrev pub BeginsFence : Input → (file : ℕ) → Type 0
-BeginsFence i n = ((kind : OrderKind) × IsOrder i kind n) ⊎ (i ≡ Opens)
+-- an order that begins with a fence
+abbrev pub IsFencing : OrderKind → Type 0
+IsFencing ToRevoke = Unit {0}
+IsFencing ToRebuild = Unit {0}
+IsFencing ToAudit = Unit {0}
+IsFencing kind = ⊥
+
+-- an order that is given at the server is taken always, one that comes in a message while the counters have room
+abbrev pub TakesOrder : Server → Input → Type 0
+TakesOrder s (Obeys kind n) = Unit {0}
+TakesOrder s i = counters_have_room s ≡ true
+
+-- What begins a fence of the file beside a request: an order to revoke, to rebuild or to audit it, while no job of it runs; or
+-- the server's opening, if the file has a grant, or a fence of it or the repair behind that is cut off. There is a further tag.
+pub data BeginsFence (s : Server) (i : Input) (f : File) : Type 0 where
+  ByOrder : (kind : OrderKind) → IsFencing kind → IsOrder i kind f.kept.number → TakesOrder s i → f.job ≡ None
+      → f.kept.tag ≢ GREATEST_TAG → BeginsFence s i f
+  ByOpening : i ≡ Opens → counters_have_room s ≡ true → is_unsettled f.kept ≡ true → f.kept.tag ≢ GREATEST_TAG
+      → BeginsFence s i f
 
 -- a new request on the file comes
 pub record IsAskedOf (s : Server) (i : Input) (file : ℕ) : Type 0 where
@@ -30,13 +49,15 @@ pub record IsAskedOf (s : Server) (i : Input) (file : ℕ) : Type 0 where
   pub new : IsNew s i now request
   pub on : request.file ≡ file
 
--- How the live grants and the size of a file go on in a step: there is no such file, or it is made; they stay; a fence ends all
--- grants; or a new request on the file comes, and its answer's cause says what changes.
+-- How the live grants and the size of a file go on in a step: there is no such file, or it is made; they stay, and nothing
+-- begins a fence; something does, and that ends all grants; or a new request on the file comes, and its answer's cause says
+-- what changes.
 pub data Changes (s : Server) (i : Input) (file : ℕ) : (before behind : Option File) → Type 0 where
   Absent : Changes s i file None None
   Made : (g : File) → IsMaking i file → g.kept.grants ≡ [] → g.kept.size ≡ 0 → Changes s i file None (Some g)
-  Stays : (f g : File) → g.kept.grants ≡ f.kept.grants → g.kept.size ≡ f.kept.size → Changes s i file (Some f) (Some g)
-  Fenced : (f g : File) → BeginsFence i file → FenceBegan f g → g.kept.size ≡ f.kept.size
+  Stays : (f g : File) → (BeginsFence s i f → ⊥) → g.kept.grants ≡ f.kept.grants → g.kept.size ≡ f.kept.size
+      → Changes s i file (Some f) (Some g)
+  Fenced : (f g : File) → BeginsFence s i f → FenceBegan f g → g.kept.size ≡ f.kept.size
       → Changes s i file (Some f) (Some g)
   Asked : (f g : File) → IsAskedOf s i file → Changes s i file (Some f) (Some g)
 

@@ -4,4 +4,6 @@ pub mod Commits
 pub mod Returns
 pub mod Answers
 pub mod Changes
+pub mod Told
+pub mod Components
 pub mod Ends

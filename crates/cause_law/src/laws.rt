@@ -2,8 +2,10 @@
 ghost use Rattle.cause_law.specs.Answers.{EachRequestIsAnswered};
 ghost use Rattle.cause_law.specs.Changes.{EachGrantHasItsCauses};
 ghost use Rattle.cause_law.specs.Ends.{EachEndIsSaid};
+ghost use Rattle.cause_law.specs.Told.{EachMessageIsCaused};
 
 use calm_law::{each_step_raises_tags, seen_is_sound};
+use exchange_law::clients_are_in_step;
 use history_law::{book_is_read, grants_are_safe, server_moves, step_is_read};
 use server_rules::{conflicts_are_exact, files_are_put};
 use world_history::{one_event_more, reading_goes_on};
@@ -25,10 +27,12 @@ pub fn requests_are_answered()
 }
 
 /// In such a history nothing else makes a grant live or ends one, or changes the size of a file, but a fence that an
-/// order or an opening begins, and that ends all grants of the file.
+/// order to revoke, rebuild or audit the file begins, or an opening, and that ends all grants of the file. Each such order
+/// does where no job of the file runs, and each opening where the file is unsettled, if there is a further tag.
 pub fn grants_have_causes()
     ensures { EachGrantHasItsCauses }
 {
+    files_are_put();
     each_step_raises_tags();
     seen_is_sound();
     grants_are_safe();
@@ -44,3 +48,17 @@ pub fn grants_have_causes()
 pub fn ends_are_said()
     ensures { EachEndIsSaid }
 {}
+
+/// In each move of such a history each message of the server to a client tells a recall, or an answer to a request of this
+/// client that the move hands the server. The request is new, and its answer is caused so; or it is the last one again, and
+/// the answer that was sent to that is sent once more; or it is misordered, and the answer says so.
+pub fn messages_are_caused()
+    ensures { EachMessageIsCaused }
+{
+    conflicts_are_exact();
+    files_are_put();
+    grants_are_safe();
+    book_is_read();
+    clients_are_in_step();
+    one_event_more();
+}

@@ -27,7 +27,9 @@ use Rattle.ending_law.specs.Calls.{CallsEndSo}
 use Rattle.cause_law.specs.Answers.{EachRequestIsAnswered}
 use Rattle.cause_law.specs.Changes.{EachGrantHasItsCauses}
 use Rattle.cause_law.specs.Ends.{EachEndIsSaid}
+use Rattle.cause_law.specs.Told.{EachMessageIsCaused}
 use Rattle.outcome_law.specs.Ended.{EndsAreCaused}
+use Rattle.outcome_law.specs.Pending.{EachCallIsLeftSo}
 use Rattle.outcome_law.specs.Read.{AnswersAreOfReplies}
 use Rattle.tag_law.specs.Tags.{EachTagIsItsFiles}
 use Rattle.history_claims.proofs.Texts.{events_make_text}
@@ -39,10 +41,11 @@ pub histories_are_sound : HistoriesAreSafe → VerdictsAreAnswered → CommandsA
     → EachHolderIsOwn → UnforgedAreFenced → EachAnswerIsLive → EachGivenWasLive → GrantsAreOlder → GivenIsBarred
     → CommandsAreIssuedExactly → UnforgedAreIssuedExactly → LanesAreFair → LanesAreOwn → RefusalsWereJudged
     → RefusalsWereAwaited → CountersStayLow → CallsEndSo → EndsAreCaused → AnswersAreOfReplies
-    → EachTagIsItsFiles → EachRequestIsAnswered → EachGrantHasItsCauses → EachEndIsSaid → WithinTheLimitAreFew
+    → EachTagIsItsFiles → EachRequestIsAnswered → EachMessageIsCaused → EachGrantHasItsCauses → EachEndIsSaid
+    → EachCallIsLeftSo → WithinTheLimitAreFew
     → HistoriesAreSound
 histories_are_sound safe answered issued listed fair ranges fronts apart spread created own fenced live given older barred exact
-    allowed lanes lanes_own judged awaited low ends outcomes read tags caused changed said few = record {
+    allowed lanes lanes_own judged awaited low ends outcomes read tags caused told changed said left few = record {
       sound = λ h l. record {
         safe = safe h l;
         answered = λ w s. answered w h s;
@@ -69,10 +72,12 @@ histories_are_sound safe answered issued listed fair ranges fronts apart spread 
         room = λ before after is w m text few. low w before m text few;
         ends = ends h l;
         causes = λ w s a. caused w h s a;
+        answers = λ w g k m rest d is a. told w g k m d a;
         changes = λ w s a. changed w h s a;
         caused = outcomes h l;
         read = read h l;
         said = λ w g k m rest d is. said w g k m d;
+        left = λ w g k m rest d is. left w g k m d;
       };
       text = events_make_text;
       few = few;

@@ -30,7 +30,9 @@ use Rattle.ending_law.specs.Calls.{EndsAt}
 use Rattle.cause_law.specs.Answers.{RequestsAreAnswered}
 use Rattle.cause_law.specs.Changes.{GrantsHaveCauses}
 use Rattle.cause_law.specs.Ends.{CallsEndAsSaid}
+use Rattle.cause_law.specs.Told.{MessagesAreCaused}
 use Rattle.outcome_law.specs.Ended.{CausedAt}
+use Rattle.outcome_law.specs.Pending.{CallsAreLeft}
 use Rattle.outcome_law.specs.Read.{AnswersAt}
 use Rattle.tag_law.specs.Tags.{HaveTagsAt}
 use Rattle.history_claims.specs.Texts.{EventsMakeText, CutsGoOn}
@@ -106,8 +108,11 @@ pub record IsSound (h : List Line) : Type 0 where
   -- in a whole history each request that is new to the server is answered in its step, and the answer tells the first row that
   -- applies to what the book has of the file then; the row says which grants are live behind the step
   pub causes : (w : World) → StandsFor w h → AreWritten h → RequestsAreAnswered h
-  -- nothing else makes a grant of a file live or ends one, or changes the file's size, but a fence that an order or an opening
-  -- begins, and that ends all
+  -- and each message of the server to a client tells a recall, or an answer to a request that the same move hands the server:
+  -- a new one, so that the answer is caused as before; the last one again, with the answer that was sent; or a misordered one
+  pub answers : MessagesAreCaused h
+  -- nothing else makes a grant of a file live or ends one, or changes the file's size, but a fence that an order to revoke,
+  -- rebuild or audit the file begins, or an opening, and that ends all; and each of these does, while no job runs
   pub changes : (w : World) → StandsFor w h → AreWritten h → GrantsHaveCauses h
   -- a call ends as what it met says, read off the lines before: the answers and replies that its client took in it, and the
   -- timeouts of what it awaited
@@ -117,6 +122,8 @@ pub record IsSound (h : List Line) : Type 0 where
   pub read : AtEachLine AnswersAt h
   -- in each move a call ends as only an answer says exactly if its client takes an answer that says so
   pub said : CallsEndAsSaid h
+  -- and in each move a call is left pending exactly if the event came with it, ends there, and the call doesn't
+  pub left : CallsAreLeft h
 
 -- Each lawful history is sound, whatever its events name. Where a text may have the events, it is one of a scenario's text;
 -- and where a world that stands for it is within the limit of kept bytes, it has few messages. A history that is cut at that

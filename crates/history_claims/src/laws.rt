@@ -5,7 +5,7 @@ ghost use Rattle.history_claims.specs.Sound.{HistoriesAreSound};
 ghost use Rattle.history_claims.specs.Spread.{ComponentsStandSpread};
 
 use calm_law::{each_step_is_apart, each_step_is_sound};
-use cause_law::{ends_are_said, grants_have_causes, requests_are_answered};
+use cause_law::{ends_are_said, grants_have_causes, messages_are_caused, requests_are_answered};
 use ending_law::calls_end_so;
 use exchange_law::{
     commands_are_issued_exactly, counters_stay_low, lanes_are_fair, lanes_are_own,
@@ -17,7 +17,7 @@ use history_law::{
     commands_are_issued, histories_are_safe, ranges_are_apart, unforged_are_issued,
     unguessed_are_unforged, verdicts_are_answered,
 };
-use outcome_law::{answers_are_of_replies, ends_are_caused};
+use outcome_law::{answers_are_of_replies, calls_are_left, ends_are_caused};
 use server_rules::files_are_put;
 use tag_law::{
     answers_are_live, each_tag_is_its_files, given_is_barred, given_was_live, grants_are_older,
@@ -71,9 +71,10 @@ pub fn files_are_created()
 /// first sent; as far as nothing is forged, the object of each present component has its file's tag, or the next one
 /// while a fence is open; no call ends since its layout can't be used or since a command lies outside its capability,
 /// none is refused since its client has no sequence number left, and the server's counters have room. Each call ends as
-/// what it met says: the answers and replies that it took, and timeouts; and a read is answered by what was read of
-/// drives in its call. In a whole history each new request is answered in its step by the first row that applies to its
-/// file's book, and nothing else makes a grant live or ends one but a fence. A history that is cut at the limit of kept
+/// what it met says: the answers and replies that it took, and timeouts, or is left pending at the end of its event; and a
+/// read is answered by what was read of drives in its call. In a whole history each new request is answered in its step by
+/// the first row that applies to its file's book, any other answer repeats the last one or says that its request is
+/// misordered, and nothing else makes a grant live or ends one but a fence. A history that is cut at the limit of kept
 /// bytes goes on being of a text.
 pub fn histories_are_sound()
     ensures { HistoriesAreSound }
@@ -106,7 +107,9 @@ pub fn histories_are_sound()
     answers_are_of_replies();
     each_tag_is_its_files();
     requests_are_answered();
+    messages_are_caused();
     grants_have_causes();
     ends_are_said();
+    calls_are_left();
     within_the_limit_are_few();
 }

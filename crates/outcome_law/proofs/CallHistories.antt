@@ -32,11 +32,13 @@ use Rattle.world_history.specs.Plans.{Rule, due_by}
 use Rattle.world_history.specs.Laws.{shown}
 use Rattle.world_history.proofs.Always.{opening, IsKept}
 use Rattle.world_history.proofs.ReadMessages.{drops_view, never_opens}
+use Rattle.history_law.specs.BookMoments.{IsMoment}
 use Rattle.history_law.proofs.Histories.{stands, lawful}
+use Rattle.exchange_law.proofs.CountMoments.{at_moment}
 use Rattle.history_law.proofs.DriveLines.{shown_get, changed_view}
 use Rattle.history_law.proofs.Each.{EachBehind, each_more, each_front, at_each_line}
 use Rattle.outcome_law.specs.ReadClients as read
-use Rattle.outcome_law.specs.ReadClients.{ClientSeen, went, where_it_is, is_client, hears_sent, hears_read, client_after_line, sees_client}
+use Rattle.outcome_law.specs.ReadClients.{client_after, ClientSeen, went, where_it_is, is_client, hears_sent, hears_read, client_after_line, sees_client}
 use Rattle.outcome_law.specs.ReadCalls.{sent_input, read_input, CallSeen, sees_call, call_seen}
 use Rattle.outcome_law.specs.Ended.{CausedAt, ClientsAreRead, EndsAreCaused}
 use Rattle.outcome_law.proofs.CallMoves.{AreSeen, seen_more, IsTold, told_seen, AreStill, none_still, noted_still, notes_still, IsStillAct, still_told, none_changed, one_changed, same_changed, last_is, goes_told, line_told}
@@ -405,6 +407,11 @@ same_seen c s (l ∷ h) = same_seen c (sees_call c s l) h
 pub clients_are_read : ClientsAreRead
 clients_are_read w h s c =
     ap (λ (x : ClientSeen). x.client) (sym (same_seen c _ h)) ∙ ((stands IsRead kept w h s).clients c).client
+
+-- so they are at each moment
+pub clients_at : (w : World) (h : List Line) → IsMoment w h → (c : ℕ) → client_after h c ≡ at_number w.clients c
+clients_at w h k c =
+    ap (λ (x : ClientSeen). x.client) (sym (same_seen c _ h)) ∙ ((at_moment IsRead kept w h k).clients c).client
 
 pub ends_are_caused : EndsAreCaused
 ends_are_caused h l =

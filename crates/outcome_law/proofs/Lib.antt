@@ -9,3 +9,5 @@ pub mod CallMoves
 pub mod CallEvents
 pub mod CallHistories
 pub mod Read
+pub mod PendingLines
+pub mod PendingMoves

@@ -4,3 +4,4 @@ pub mod ReadClients
 pub mod ReadCalls
 pub mod Ended
 pub mod Read
+pub mod Pending

@@ -1,6 +1,7 @@
 // How calls end, for the crates above.
 ghost use Rattle.outcome_law.specs.Caused.{OutcomesAreCaused};
 ghost use Rattle.outcome_law.specs.Ended.{ClientsAreRead, EndsAreCaused};
+ghost use Rattle.outcome_law.specs.Pending.{EachCallIsLeftSo};
 ghost use Rattle.outcome_law.specs.Read.{AnswersAreOfReplies};
 
 /// How a call ends follows from what it met, whatever came to its client since that was new: from the answers and replies
@@ -23,4 +24,11 @@ pub fn ends_are_caused()
 /// replies the call took in the lines before, of which there is at least one.
 pub fn answers_are_of_replies()
     ensures { AnswersAreOfReplies }
+{}
+
+/// In each move of a history a line tells that a call of a client is left pending exactly if the event is a `do` of this client,
+/// who took the call, the move is the event's last one, and a call of the client is pending behind it. It awaits nothing of
+/// a drive.
+pub fn calls_are_left()
+    ensures { EachCallIsLeftSo }
 {}
