@@ -1,7 +1,7 @@
 -- The lines of a step of the server tell of components what its notes tell.
-use Rattle.std.proofs.Common.{◌≡◌, ℕ, ◌+◌, ◌==◌, ◌&&◌, Bool, true, false, false≢true, nat_lt, List, [], ◌∷◌, ◌++◌, length, filter, slice_get, Option, Some, None, refl, sym, ap, subst, ◌∙◌, append_assoc, inl, inr, if◌then◌else◌}
+use Rattle.std.proofs.Common.{◌≡◌, ℕ, ◌+◌, ◌==◌, ◌&&◌, Bool, true, false, nat_lt, List, [], ◌∷◌, ◌++◌, length, filter, slice_get, Option, Some, None, refl, sym, ap, subst, ◌∙◌, append_assoc, inl, inr, if◌then◌else◌}
 use Rattle.std.specs.List.{list_any, cons_option, filter_map}
-use Rattle.std.proofs.lemmas.Bool.{cases_Bool}
+use Rattle.std.proofs.lemmas.Bool.{cases_Bool, false≢true}
 use Rattle.std.proofs.lemmas.List.{append-nil}
 use Rattle.std.proofs.lemmas.List.Elements.{filter-append}
 use Rattle.osd_lists.specs.declared.node.Node.TheVariants as node
@@ -217,13 +217,13 @@ module _ (moves : ServerMoves) (w : World) (m : Move) (i : Input) (comes : input
 
 -- ---- the further lines of the step
 
+head_line : (l : Line) → is_head l ≡ true → tells_component l ≡ false
+head_line (line.Note f n) e = absurd (false≢true e)
+head_line l e = refl
+
 heads_none : (ls : List Line) → AllHeads ls → NoneTells ls
 heads_none [] h = refl
 heads_none (l ∷ ls) h = one_less l ls (head_line l h.0) ∙ heads_none ls h.1
-  where
-    head_line : (l : Line) → is_head l ≡ true → tells_component l ≡ false
-    head_line (line.Note f n) e = absurd (false≢true e)
-    head_line l e = refl
 
 module _ (moves : ServerMoves) (tells : EachStepTells) (w : World) (h : List Line) (m : Move) (front : List Line) (l : Line)
     (after : List Line) (is : lines_in w m ≡ front ++ l ∷ after) (i : Input) (moved : IsMoved w h m front l after i)
@@ -241,13 +241,9 @@ module _ (moves : ServerMoves) (tells : EachStepTells) (w : World) (h : List Lin
           → Telling after ≡ Telling (notes_of t)
       by None e d = absurd (cc d)
       by (Some j) e d =
-          sym (one_less l after (tells_head l moved.head))
+          sym (one_less l after (head_line l moved.head))
           ∙ sym (both_none front (l ∷ after) (heads_none front (all_heads w m front l after is moved.head)))
           ∙ ap Telling (sym is) ∙ lines_tell moves w m j e ∙ ap (λ (u : Step). Telling (notes_of u)) (same _ t d)
-
-      tells_head : (x : Line) → is_head x ≡ true → tells_component x ≡ false
-      tells_head (line.Note f n) e = absurd (false≢true e)
-      tells_head x e = refl
 
   shown_so : (n : ℕ) → Goes i after n (file_at w.server.files n) (file_at its.state.files n)
   shown_so n =

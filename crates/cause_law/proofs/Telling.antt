@@ -1,5 +1,5 @@
 -- Each message of the server to a client tells a recall, or an answer to the request that comes.
-use Rattle.std.proofs.Common.{◌≡◌, ◌==◌, ℕ, ◌+◌, Bool, true, false, List, [], ◌∷◌, ◌++◌, length, map, Some, refl, sym, ap, subst, ◌∙◌, arith, inl, inr, if◌then◌else◌}
+use Rattle.std.proofs.Common.{◌≡◌, ◌⊎◌, ◌==◌, ℕ, ◌+◌, Bool, true, false, List, [], ◌∷◌, ◌++◌, length, map, Some, refl, sym, ap, subst, ◌∙◌, arith, inl, inr, if◌then◌else◌}
 use Rattle.std.proofs.lemmas.Bool.{eq-eqb}
 use Rattle.std.proofs.lemmas.Bool.Decides.{nat_tests}
 use Rattle.osd_lists.specs.declared.node.Node.{Node}
@@ -7,14 +7,14 @@ use Rattle.osd_lists.specs.declared.node.Node.TheVariants as node
 use Rattle.layout_ops.specs.declared.envelope.Envelope.TheVariants as envelope
 use Rattle.layout_ops.specs.declared.statuses.TheConstants.{NFS4ERR_SEQ_MISORDERED}
 use Rattle.server_rules.specs.declared.limits.TheConstants.{MAX_CLIENT}
-use Rattle.server_rules.specs.Answers.{plain_answer}
-use Rattle.server_rules.specs.Files.{Step, file_at}
+use Rattle.server_rules.specs.Answers.{plain_answer, recalls_from}
+use Rattle.server_rules.specs.Files.{Step, file_at, at_file, to_drives}
 use Rattle.server_rules.specs.History.{Input, Hears, step}
 use Rattle.server_rules.specs.Laws.{In, ConflictsAreExact, FilesArePut, AreSafe, is_taken_of}
 use Rattle.server_rules.specs.Messages.{Asks, counters_have_room}
-use Rattle.server_rules.specs.Requests.{size_in, only_answers, on_request}
-use Rattle.server_rules.specs.Served.{tells}
-use Rattle.server_rules.specs.Slots.{Admit, New, Again, Misordered, slot_of, admit}
+use Rattle.server_rules.specs.Requests.{serves, answer_with, answer_without, size_in, carried_out, only_answers, on_request}
+use Rattle.server_rules.specs.Served.{Served, tells}
+use Rattle.server_rules.specs.Slots.{Admit, New, Again, Misordered, slot_of, keep, admit}
 use Rattle.server_rules.proofs.Members.{in_front, in_behind, in_either, in_mapped, in_map, in_filtered, in_filter}
 use Rattle.scenario_text.specs.declared.line.Line.{Line}
 use Rattle.scenario_text.specs.declared.line.Line.TheVariants as line
@@ -56,7 +56,6 @@ use Rattle.exchange_law.specs.Made.{answer_to}
 use Rattle.exchange_law.proofs.Admitting.{is_last}
 use Rattle.exchange_law.proofs.CountMoments.{at_moment}
 use Rattle.exchange_law.proofs.SlotServing.{Comes, request_comes}
-use Rattle.tag_law.proofs.Saying.{Says, says_step, only_in}
 use Rattle.cause_law.specs.Answers.{IsCaused, answer_line}
 use Rattle.cause_law.specs.Told.{WasSent, IsRepeated, IsMisordered, Answers as AnswersIt, ToNew, Repeats, Refuses, IsToRequest, IsTold, TellsRecall, TellsAnswer, TellsCaused, EachMessageIsCaused}
 use Rattle.cause_law.proofs.Answering.{safe_at}
@@ -160,7 +159,70 @@ server_sent w m = each_act w m.chosen
       adds = λ d key capacity stored is knows p i e. absurd i;
     })
 
--- ---- what slots keep was sent
+-- ---- what slots keep is sent
+
+-- an answer of those that are sent
+only_in : (P : Answer → Type 0) (os : List Outgoing) (a : Answer) → AnswersOnly P os → In (Answers a) os → P a
+only_in P [] a k i = absurd i
+only_in P (Answers x ∷ os) a k (inl e) = subst P (same e) k.0
+  where
+    same : Answers a ≡ Answers x → x ≡ a
+    same f = cc f
+only_in P (ToDrive d c ∷ os) a k (inl e) = absurd (cc e)
+only_in P (Recalls r ∷ os) a k (inl e) = absurd (cc e)
+only_in P (AnswersOrder r ∷ os) a k (inl e) = absurd (cc e)
+only_in P (Answers x ∷ os) a k (inr i) = only_in P os a k.1 i
+only_in P (ToDrive d c ∷ os) a k (inr i) = only_in P os a k i
+only_in P (Recalls r ∷ os) a k (inr i) = only_in P os a k i
+only_in P (AnswersOrder r ∷ os) a k (inr i) = only_in P os a k i
+
+-- what a slot keeps behind a step it kept before, or is sent
+abbrev SlotsSent : Server → Step → Type 0
+SlotsSent s t = (x : Slot) → In x t.state.slots → In x s.slots ⊎ In (Answers x.kept) t.sends
+
+in_kept : (ss : List Slot) (s x : Slot) → In x (keep ss s) → (x ≡ s) ⊎ In x ss
+unfolding keep
+in_kept [] s x (inl e) = inl e
+in_kept [] s x (inr i) = inr i
+in_kept (t ∷ ts) s x i = by (t.client == s.client) i (in_kept ts s x)
+  where
+    by : (b : Bool) → In x (if b then s ∷ ts else t ∷ keep ts s) → (In x (keep ts s) → (x ≡ s) ⊎ In x ts)
+        → (x ≡ s) ⊎ In x (t ∷ ts)
+    by true (inl e) rest = inl e
+    by true (inr j) rest = inr (inr j)
+    by false (inl e) rest = inr (inl e)
+    by false (inr j) rest = elim (rest j) [ inl e ↦ inl e | inr k ↦ inr (inr k) ]
+
+kept_or_sent : (ss : List Slot) (s x : Slot) (os : List Outgoing) → In (Answers s.kept) os → In x (keep ss s)
+    → In x ss ⊎ In (Answers x.kept) os
+kept_or_sent ss s x os there i = elim (in_kept ss s x i) [
+  | inl e ↦ inr (subst (λ (y : Slot). In (Answers y.kept) os) (sym e) there)
+  | inr j ↦ inl j
+]
+
+request_sent : (s : Server) (now : ℕ) (chosen : List ℕ) (q : ClientRequest) → SlotsSent s (on_request s now chosen q)
+request_sent s now chosen q = each_request s now chosen q (SlotsSent s) (record {
+  again = λ kept is x i. inl i;
+  misordered = λ expected is x i. inl i;
+  without = λ new none x i.
+      let a : Answer = answer_without q in
+      kept_or_sent s.slots (record { client = q.client; last = q.sequence; kept = a }) x (Answers a ∷ []) (inl refl) i;
+  served = λ new f found x i.
+      let v : Served = serves (at_file s chosen f) s.next_grant s.format now q.client q.args in
+      let a : Answer = answer_with s q v in
+      kept_or_sent s.slots (record { client = q.client; last = q.sequence; kept = a }) x (carried_out s q v).sends
+      (in_behind (Answers a) (to_drives s.drives v.going.effects.sent) _
+      (in_behind (Answers a) (recalls_from s.next_recall v.recalled) (Answers a ∷ []) (inl refl))) i;
+})
+
+step_sent : (s : Server) (chosen : List ℕ) (i : Input) → SlotsSent s (step s chosen i)
+step_sent s chosen i = by (step s chosen i) (step_did s chosen i)
+  where
+    by : (t : Step) → ServerDid s chosen i t → SlotsSent s t
+    by t (Quiet q) = λ x j. inl (subst (λ (ss : List Slot). In x ss) q.slots j)
+    by t (Asked now q asked done) = subst (SlotsSent s) (sym done) (request_sent s now chosen q)
+
+-- ---- so each was sent
 
 abbrev Keeps : World → List Line → Type 0
 Keeps w h = (x : Slot) → In x w.server.slots → is_named (node.Client x.kept.client) ≡ true → WasSent h x.kept
@@ -169,31 +231,29 @@ Keeps w h = (x : Slot) → In x w.server.slots → is_named (node.Client x.kept.
 sent_on : (h ls : List Line) (a : Answer) → WasSent h a → WasSent (h ++ ls) a
 sent_on h ls a s = record { number = s.number; there = in_front (answer_line s.number a) h ls s.there }
 
-module _ (put : FilesArePut) where
-  keeps_by : (w : World) (h : List Line) (m : Move) → Keeps w h
-      → Acts w (acts w m.chosen m.action).world (acts w m.chosen m.action).told (acts w m.chosen m.action).posts
-      → Keeps (move w m).world (h ++ lines_in w m)
-  keeps_by w h m k (Others server messages told others) x i named =
-      sent_on h (lines_in w m) x.kept (k x (subst (λ (s : Server). In x s.slots) server i) named)
-  keeps_by w h m k (Serves chosen j sent server messages told posts) x i named =
-      let t : Step = step w.server chosen j in
-      let says : Says w.server t = says_step put w.server chosen j in
-      elim (says.slots x (subst (λ (s : Server). In x s.slots) server i)) [
-        | inl old ↦ sent_on h (lines_in w m) x.kept (k x old named)
-        | inr new ↦
-            let post : Post = server_post (Answers x.kept) in
-            let there : In post (acts w m.chosen m.action).posts =
-            subst (In post) (sym posts)
-            (in_filter is_addressed post (map server_post t.sends) (in_map server_post (Answers x.kept) t.sends new) named) in
-            let r = sent_there w m post there in
-            record { number = r.0; there = in_behind (answer_line r.0 x.kept) h (lines_in w m) r.1 }
-      ]
+keeps_by : (w : World) (h : List Line) (m : Move) → Keeps w h
+    → Acts w (acts w m.chosen m.action).world (acts w m.chosen m.action).told (acts w m.chosen m.action).posts
+    → Keeps (move w m).world (h ++ lines_in w m)
+keeps_by w h m k (Others server messages told others) x i named =
+    sent_on h (lines_in w m) x.kept (k x (subst (λ (s : Server). In x s.slots) server i) named)
+keeps_by w h m k (Serves chosen j sent server messages told posts) x i named =
+    let t : Step = step w.server chosen j in
+    elim (step_sent w.server chosen j x (subst (λ (s : Server). In x s.slots) server i)) [
+      | inl old ↦ sent_on h (lines_in w m) x.kept (k x old named)
+      | inr new ↦
+          let post : Post = server_post (Answers x.kept) in
+          let there : In post (acts w m.chosen m.action).posts =
+          subst (In post) (sym posts)
+          (in_filter is_addressed post (map server_post t.sends) (in_map server_post (Answers x.kept) t.sends new) named) in
+          let r = sent_there w m post there in
+          record { number = r.0; there = in_behind (answer_line r.0 x.kept) h (lines_in w m) r.1 }
+    ]
 
-  keeps_at : OneEventMore → (w : World) (h : List Line) → IsMoment w h → Keeps w h
-  keeps_at more w h at = always Keeps (record {
-    starts = λ x i. absurd i;
-    moves = λ v g k m d x. keeps_by v g m x (each_acts v m.chosen m.action);
-  }) more w h at
+keeps_at : OneEventMore → (w : World) (h : List Line) → IsMoment w h → Keeps w h
+keeps_at more w h at = always Keeps (record {
+  starts = λ x i. absurd i;
+  moves = λ v g k m d x. keeps_by v g m x (each_acts v m.chosen m.action);
+}) more w h at
 
 -- ---- an answer
 
@@ -364,7 +424,7 @@ module _ (exact : ConflictsAreExact) (put : FilesArePut) (safe : GrantsAreSafe) 
             (λ slot found. ((in_step w h k q.client).slot slot found).client)
             (λ slot slotted same.
             subst (WasSent h) (sym same)
-            (keeps_at put more w h k slot slotted
+            (keeps_at more w h k slot slotted
             (ap (λ (b : Answer). is_named (node.Client b.client)) (sym same) ∙ named)))
             (subst (λ (s : Server). AreSafe s.files) own (safe_at safe after (h ++ lines_in w m) (next_moment w h k m d)))
             there in

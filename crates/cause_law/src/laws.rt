@@ -1,10 +1,11 @@
 // Why each answer comes and what changes, for the crates above.
 ghost use Rattle.cause_law.specs.Answers.{EachRequestIsAnswered};
 ghost use Rattle.cause_law.specs.Changes.{EachGrantHasItsCauses};
+ghost use Rattle.cause_law.specs.Components.{EachComponentHasItsCauses};
 ghost use Rattle.cause_law.specs.Ends.{EachEndIsSaid};
 ghost use Rattle.cause_law.specs.Told.{EachMessageIsCaused};
 
-use calm_law::{each_step_raises_tags, seen_is_sound};
+use calm_law::{each_step_raises_tags, each_step_tells, seen_is_sound};
 use exchange_law::clients_are_in_step;
 use history_law::{book_is_read, grants_are_safe, server_moves, step_is_read};
 use server_rules::{conflicts_are_exact, files_are_put};
@@ -61,4 +62,18 @@ pub fn messages_are_caused()
     book_is_read();
     clients_are_in_step();
     one_event_more();
+}
+
+/// At each line of such a history at which something comes to the server, each file goes on with its map, and with its
+/// components as the notes of the step tell, but for a drive that is declared.
+pub fn components_have_causes()
+    ensures { EachComponentHasItsCauses }
+{
+    each_step_tells();
+    seen_is_sound();
+    book_is_read();
+    step_is_read();
+    server_moves();
+    one_event_more();
+    reading_goes_on();
 }

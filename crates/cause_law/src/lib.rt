@@ -7,4 +7,7 @@
 
 mod laws;
 
-pub use laws::{ends_are_said, grants_have_causes, messages_are_caused, requests_are_answered};
+pub use laws::{
+    components_have_causes, ends_are_said, grants_have_causes, messages_are_caused,
+    requests_are_answered,
+};

@@ -26,6 +26,7 @@ use Rattle.exchange_law.specs.FairLanes.{LanesAreFair}
 use Rattle.ending_law.specs.Calls.{CallsEndSo}
 use Rattle.cause_law.specs.Answers.{EachRequestIsAnswered}
 use Rattle.cause_law.specs.Changes.{EachGrantHasItsCauses}
+use Rattle.cause_law.specs.Components.{EachComponentHasItsCauses}
 use Rattle.cause_law.specs.Ends.{EachEndIsSaid}
 use Rattle.cause_law.specs.Told.{EachMessageIsCaused}
 use Rattle.outcome_law.specs.Ended.{EndsAreCaused}
@@ -41,11 +42,11 @@ pub histories_are_sound : HistoriesAreSafe → VerdictsAreAnswered → CommandsA
     → EachHolderIsOwn → UnforgedAreFenced → EachAnswerIsLive → EachGivenWasLive → GrantsAreOlder → GivenIsBarred
     → CommandsAreIssuedExactly → UnforgedAreIssuedExactly → LanesAreFair → LanesAreOwn → RefusalsWereJudged
     → RefusalsWereAwaited → CountersStayLow → CallsEndSo → EndsAreCaused → AnswersAreOfReplies
-    → EachTagIsItsFiles → EachRequestIsAnswered → EachMessageIsCaused → EachGrantHasItsCauses → EachEndIsSaid
-    → EachCallIsLeftSo → WithinTheLimitAreFew
+    → EachTagIsItsFiles → EachRequestIsAnswered → EachMessageIsCaused → EachGrantHasItsCauses
+    → EachComponentHasItsCauses → EachEndIsSaid → EachCallIsLeftSo → WithinTheLimitAreFew
     → HistoriesAreSound
 histories_are_sound safe answered issued listed fair ranges fronts apart spread created own fenced live given older barred exact
-    allowed lanes lanes_own judged awaited low ends outcomes read tags caused told changed said left few = record {
+    allowed lanes lanes_own judged awaited low ends outcomes read tags caused told changed gone said left few = record {
       sound = λ h l. record {
         safe = safe h l;
         answered = λ w s. answered w h s;
@@ -74,6 +75,7 @@ histories_are_sound safe answered issued listed fair ranges fronts apart spread 
         causes = λ w s a. caused w h s a;
         answers = λ w g k m rest d is a. told w g k m d a;
         changes = λ w s a. changed w h s a;
+        components = λ w s a. gone w h s a;
         caused = outcomes h l;
         read = read h l;
         said = λ w g k m rest d is. said w g k m d;

@@ -29,6 +29,7 @@ use Rattle.exchange_law.specs.Exact.{IssuedExactlyAt, InjectedExactlyAt}
 use Rattle.ending_law.specs.Calls.{EndsAt}
 use Rattle.cause_law.specs.Answers.{RequestsAreAnswered}
 use Rattle.cause_law.specs.Changes.{GrantsHaveCauses}
+use Rattle.cause_law.specs.Components.{ComponentsHaveCauses}
 use Rattle.cause_law.specs.Ends.{CallsEndAsSaid}
 use Rattle.cause_law.specs.Told.{MessagesAreCaused}
 use Rattle.outcome_law.specs.Ended.{CausedAt}
@@ -114,6 +115,8 @@ pub record IsSound (h : List Line) : Type 0 where
   -- nothing else makes a grant of a file live or ends one, or changes the file's size, but a fence that an order to revoke,
   -- rebuild or audit the file begins, or an opening, and that ends all; and each of these does, while no job runs
   pub changes : (w : World) → StandsFor w h → AreWritten h → GrantsHaveCauses h
+  -- and each file goes on with its map, and with its components as the notes of the step tell, but for a declared drive
+  pub components : (w : World) → StandsFor w h → AreWritten h → ComponentsHaveCauses h
   -- a call ends as what it met says, read off the lines before: the answers and replies that its client took in it, and the
   -- timeouts of what it awaited
   pub caused : AtEachLine CausedAt h

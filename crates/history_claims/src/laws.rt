@@ -5,7 +5,10 @@ ghost use Rattle.history_claims.specs.Sound.{HistoriesAreSound};
 ghost use Rattle.history_claims.specs.Spread.{ComponentsStandSpread};
 
 use calm_law::{each_step_is_apart, each_step_is_sound};
-use cause_law::{ends_are_said, grants_have_causes, messages_are_caused, requests_are_answered};
+use cause_law::{
+    components_have_causes, ends_are_said, grants_have_causes, messages_are_caused,
+    requests_are_answered,
+};
 use ending_law::calls_end_so;
 use exchange_law::{
     commands_are_issued_exactly, counters_stay_low, lanes_are_fair, lanes_are_own,
@@ -109,6 +112,7 @@ pub fn histories_are_sound()
     requests_are_answered();
     messages_are_caused();
     grants_have_causes();
+    components_have_causes();
     ends_are_said();
     calls_are_left();
     within_the_limit_are_few();

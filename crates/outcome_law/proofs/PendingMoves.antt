@@ -1,5 +1,5 @@
 -- A call is left pending exactly at the end of the event in which it came.
-use Rattle.std.proofs.Common.{◌≡◌, ◌⊎◌, ℕ, Bool, true, false, List, [], ◌∷◌, ◌++◌, length, Option, Some, None, is_some, is_err, refl, sym, ap, subst, ◌∙◌, inl, inr, if◌then◌else◌}
+use Rattle.std.proofs.Common.{◌≡◌, ◌⊎◌, ℕ, Bool, true, false, List, [], ◌∷◌, ◌++◌, length, Option, Some, None, is_some, is_err, option_map, refl, sym, ap, subst, ◌∙◌, inl, inr, if◌then◌else◌}
 use Rattle.osd_lists.proofs.Options.{same_some}
 use Rattle.server_rules.specs.Laws.{In}
 use Rattle.client_rules.specs.Messages.{awaited_of}
@@ -12,15 +12,16 @@ use Rattle.scenario_text.specs.declared.line.Line.{Line}
 use Rattle.world_history.specs.ClientNames.{Client, Call, CallOp, Awaited, Request}
 use Rattle.world_history.specs.State.{World, ClientAt, at_number}
 use Rattle.world_history.specs.Told.{kind_of}
-use Rattle.world_history.specs.Moves.{Action, Opens, Delivers, TimesOut, Pends, pends, op_of}
-use Rattle.world_history.specs.Sending.{Move, move}
+use Rattle.world_history.specs.Handed.{pending_op}
+use Rattle.world_history.specs.Moves.{Act, Action, Opens, Delivers, TimesOut, Pends, tells, by_client, pends_as, pends, op_of}
+use Rattle.world_history.specs.Sending.{Move, move, sent_lines, sends_all}
 use Rattle.world_history.specs.Plans.{when_quiet, quiet_at, quiet_of, due_pending, next_pending, Rule, Alone, Prompt, Plan, due_by, due, rule_after, went_on, is_refused, rule_of, plan_of}
 use Rattle.world_history.specs.Runs.{plan_after}
 use Rattle.move_law.specs.Moments.{IsMoment, plan_at, lines_in}
 use Rattle.outcome_law.specs.ReadClients.{client_after}
 use Rattle.outcome_law.specs.Pending.{IsTaken, IsPending, IsLeft, pending_line, IsLast, IsLeftExactly, EachCallIsLeftSo}
 use Rattle.outcome_law.proofs.CallHistories.{clients_are_read, clients_at}
-use Rattle.exchange_law.proofs.HeldWorlds.{next_moment}
+use Rattle.fencing_law.proofs.Ending.{next_moment}
 use Rattle.outcome_law.proofs.PendingLines.{none_in, IsOther, others_none}
 
 -- ---- the rule behind some moves
@@ -154,16 +155,24 @@ taken_rule v c its is = rw is refl
 
 -- ---- its line
 
+pends_act : (w : World) (c : ℕ) (a : ClientAt) (call : Call) → at_number w.clients c ≡ Some a → a.state.call ≡ Some call
+    → pends w c ≡ tells w (pending_line c (kind_of call.op))
+unfolding pends
+pends_act w c a call there pending =
+    ap (by_client w (λ (x : ClientAt). pends_as w c (pending_op x.state))) there
+    ∙ ap (λ (o : Option Call). pends_as w c (option_map (λ (y : Call). y.op) o)) pending
+
 pends_lines : (w : World) (chosen : List ℕ) (c : ℕ) (a : ClientAt) (call : Call) → at_number w.clients c ≡ Some a
     → a.state.call ≡ Some call
     → lines_in w (record { action = Pends c; chosen = chosen }) ≡ pending_line c (kind_of call.op) ∷ []
-unfolding pends
-pends_lines w chosen c a call there pending = rw (there, pending) refl
+unfolding sent_lines
+pends_lines w chosen c a call there pending =
+    ap (λ (x : Act). (sends_all x).lines) (pends_act w c a call there pending)
 
 pends_clients : (w : World) (chosen : List ℕ) (c : ℕ) (a : ClientAt) (call : Call) → at_number w.clients c ≡ Some a
     → a.state.call ≡ Some call → (move w (record { action = Pends c; chosen = chosen })).world.clients ≡ w.clients
-unfolding pends
-pends_clients w chosen c a call there pending = rw (there, pending) refl
+pends_clients w chosen c a call there pending =
+    ap (λ (x : Act). (sends_all x).world.clients) (pends_act w c a call there pending)
 
 -- ---- a move
 
@@ -191,8 +200,8 @@ module _ (w : World) (h : List Line) (k : IsMoment w h) (m : Move) (d : due (pla
           by_opening None r e = e
           by_opening (Some x) r e = absurd (cc e)
 
-  pends : (c : ℕ) → m.action ≡ Pends c → IsDue w own c
-  pends c is = subst (λ (r : Rule). IsDue w r c) rule_is (due_pends w (plan_at k).rule c (opened c is))
+  its_due : (c : ℕ) → m.action ≡ Pends c → IsDue w own c
+  its_due c is = subst (λ (r : Rule). IsDue w r c) rule_is (due_pends w (plan_at k).rule c (opened c is))
 
   its_lines : (c : ℕ) → m.action ≡ Pends c → (p : IsDue w own c) → lines_in w m ≡ pending_line c (kind_of p.call.op) ∷ []
   its_lines c is p =
@@ -213,7 +222,7 @@ module _ (w : World) (h : List Line) (k : IsMoment w h) (m : Move) (d : due (pla
     where
       by : (a : Action) → m.action ≡ a → IsLeft k.history k.event h client kind × IsLast k m
       by (Pends c) is =
-          let p : IsDue w own c = pends c is in
+          let p : IsDue w own c = its_due c is in
           let there : In (pending_line client kind) (pending_line c (kind_of p.call.op) ∷ []) =
           subst (In (pending_line client kind)) (its_lines c is p) i in
           let whose = same_line c client (kind_of p.call.op) kind there in
@@ -267,9 +276,9 @@ module _ (w : World) (h : List Line) (k : IsMoment w h) (m : Move) (d : due (pla
           none_due c a.state call pending (awaited_of a.state.call) a.state.outstanding
           (sym (ap (λ (o : Option ClientAt). quiet_at c o) there) ∙ f)
 
-  tells : (client : ℕ) (its : EventCall) → k.event ≡ event.Do client its → IsTaken k.history client (op_of its) → IsLast k m
+  tells_it : (client : ℕ) (its : EventCall) → k.event ≡ event.Do client its → IsTaken k.history client (op_of its) → IsLast k m
       → (p : IsPending (h ++ lines_in w m) client) → In (pending_line client (kind_of p.call.op)) (lines_in w m)
-  tells client its event_is taken last p = by m.action refl
+  tells_it client its event_is taken last p = by m.action refl
     where
       refused : is_refused (at_number k.before.clients client) (op_of its) ≡ false
       refused =
@@ -297,7 +306,7 @@ module _ (w : World) (h : List Line) (k : IsMoment w h) (m : Move) (d : due (pla
 
       by : (a : Action) → m.action ≡ a → In (pending_line client (kind_of p.call.op)) (lines_in w m)
       by (Pends c) is =
-          let q : IsDue w own c = pends c is in
+          let q : IsDue w own c = its_due c is in
           let its : client ≡ c = same_client c q.first q.rule in
           let stays : behind.clients ≡ w.clients =
           ap (λ (a : Action). (move w (record { action = a; chosen = m.chosen })).world.clients) is
@@ -315,7 +324,7 @@ module _ (w : World) (h : List Line) (k : IsMoment w h) (m : Move) (d : due (pla
       by (TimesOut c j) is = others (ap (rule_after own) is)
 
   pub left_exactly : IsLeftExactly w h k m
-  left_exactly = record { left = left; tells = tells }
+  left_exactly = record { left = left; tells = tells_it }
 
 pub each_call_is_left_so : EachCallIsLeftSo
 each_call_is_left_so w h k m d = left_exactly w h k m d
