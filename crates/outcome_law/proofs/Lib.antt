@@ -10,4 +10,6 @@ pub mod CallEvents
 pub mod CallHistories
 pub mod Read
 pub mod PendingLines
+pub mod Awaiting
+pub mod AwaitingMoments
 pub mod PendingMoves

@@ -4,6 +4,9 @@ ghost use Rattle.outcome_law.specs.Ended.{ClientsAreRead, EndsAreCaused};
 ghost use Rattle.outcome_law.specs.Pending.{EachCallIsLeftSo};
 ghost use Rattle.outcome_law.specs.Read.{AnswersAreOfReplies};
 
+use client_rules::each_rest_awaits_something;
+use exchange_law::clients_agree;
+
 /// How a call ends follows from what it met, whatever came to its client since that was new: from the answers and replies
 /// that it took, and the timeouts of what it awaited.
 pub fn outcomes_are_caused()
@@ -28,7 +31,10 @@ pub fn answers_are_of_replies()
 
 /// In each move of a history a line tells that a call of a client is left pending exactly if the event is a `do` of this client,
 /// who took the call, the move is the event's last one, and a call of the client is pending behind it. It awaits nothing of
-/// a drive.
+/// a drive, and as far as what is said fits its places, it waits for the answer to a request.
 pub fn calls_are_left()
     ensures { EachCallIsLeftSo }
-{}
+{
+    each_rest_awaits_something();
+    clients_agree();
+}
