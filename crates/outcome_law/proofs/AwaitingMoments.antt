@@ -1,5 +1,5 @@
 -- At each moment a pending call that awaits nothing of a drive waits for an answer of the server.
-use Rattle.std.proofs.Common.{◌≡◌, ℕ, List, [], ◌∷◌, Option, Some, None, refl, sym, ap, subst, ◌∙◌, inl, inr}
+use Rattle.std.proofs.Common.{◌≡◌, ℕ, true, List, [], ◌∷◌, Option, Some, None, refl, sym, ap, subst, ◌∙◌, inl, inr}
 use Rattle.std.proofs.lemmas.Bool.{cases_eq}
 use Rattle.osd_lists.proofs.Options.{same_some}
 use Rattle.osd_objects.proofs.Entries.{lookup_inserted, lookup_beside}
