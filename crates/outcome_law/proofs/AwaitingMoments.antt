@@ -16,6 +16,8 @@ use Rattle.exchange_law.specs.Calls.{Knows, PhaseFine, CallFine}
 use Rattle.exchange_law.specs.InStep.{state_of}
 use Rattle.exchange_law.specs.Meeting.{KeptGood, IsReadableThrough, ClientsAgree}
 use Rattle.exchange_law.proofs.Each.{put_same, put_other}
+use Rattle.outcome_law.specs.Waiting.{WaitsForAnswer, PendingCallsWait}
+use Rattle.outcome_law.proofs.CallHistories.{clients_at}
 use Rattle.outcome_law.proofs.Awaiting.{Has, PhaseAwaits, Awaits, step_awaits}
 
 -- ---- at each moment
@@ -112,3 +114,9 @@ waits_for_server rest agree w h k readable c a call found is none =
     let met = agree w h k readable c in
     by_call (KeptGood w.server c) a.state call is (all_await rest w reached c a found) none
     (subst (λ (x : Client). CallFine (KeptGood w.server c) x.held x.outstanding x.call) (ap (state_of c) found) met.call)
+
+pub pending_calls_wait : EachRestAwaitsSomething → ClientsAgree → PendingCallsWait
+pending_calls_wait rest agree w h k readable c p none =
+    let it =
+    waits_for_server rest agree w h k readable c p.caller p.call (sym (clients_at w h k c) ∙ p.there) p.pending none in
+    record { request = it.0; outstanding = it.1 }

@@ -10,6 +10,6 @@ pub mod CallEvents
 pub mod CallHistories
 pub mod Read
 pub mod PendingLines
+pub mod PendingMoves
 pub mod Awaiting
 pub mod AwaitingMoments
-pub mod PendingMoves

@@ -2,7 +2,6 @@
 use Rattle.std.proofs.Common.{◌≡◌, ◌⊎◌, ℕ, Bool, true, false, List, [], ◌∷◌, ◌++◌, length, Option, Some, None, is_some, is_err, option_map, refl, sym, ap, subst, ◌∙◌, inl, inr, if◌then◌else◌}
 use Rattle.osd_lists.proofs.Options.{same_some}
 use Rattle.server_rules.specs.Laws.{In}
-use Rattle.client_rules.specs.Laws.{EachRestAwaitsSomething}
 use Rattle.client_rules.specs.Messages.{awaited_of}
 use Rattle.client_rules.specs.Steps.{calls, awaits_by, awaits}
 use Rattle.scenario_text.specs.declared.event.Call.{Call as EventCall}
@@ -23,8 +22,6 @@ use Rattle.outcome_law.specs.ReadClients.{client_after}
 use Rattle.outcome_law.specs.Pending.{IsTaken, IsPending, IsLeft, pending_line, IsLast, IsLeftExactly, EachCallIsLeftSo}
 use Rattle.outcome_law.proofs.CallHistories.{clients_are_read, clients_at}
 use Rattle.fencing_law.proofs.Ending.{next_moment}
-use Rattle.exchange_law.specs.Meeting.{ClientsAgree}
-use Rattle.outcome_law.proofs.AwaitingMoments.{waits_for_server}
 use Rattle.outcome_law.proofs.PendingLines.{none_in, IsOther, others_none}
 
 -- ---- the rule behind some moves
@@ -184,8 +181,7 @@ not_refused : (o : Option ClientAt) (op : CallOp) → is_refused o op ≡ false
 not_refused None op e = absurd (cc e)
 not_refused (Some a) op e = (a, refl, e)
 
-module _ (rest : EachRestAwaitsSomething) (agree : ClientsAgree) (w : World) (h : List Line) (k : IsMoment w h) (m : Move)
-    (d : due (plan_at k) w ≡ Some m.action) where
+module _ (w : World) (h : List Line) (k : IsMoment w h) (m : Move) (d : due (plan_at k) w ≡ Some m.action) where
   abbrev own : Rule
   own = rule_of k.before k.event
 
@@ -248,8 +244,6 @@ module _ (rest : EachRestAwaitsSomething) (agree : ClientsAgree) (w : World) (h 
               };
               kind_is = sym whose.1;
               quiet = p.quiet;
-              waits = λ readable.
-                  waits_for_server rest agree w h k readable c p.caller p.call p.there p.pending p.quiet;
             }),
             ap (λ (a : Action). due (went_on (plan_at k) a) (move w m).world) is,
           )
@@ -332,5 +326,5 @@ module _ (rest : EachRestAwaitsSomething) (agree : ClientsAgree) (w : World) (h 
   pub left_exactly : IsLeftExactly w h k m
   left_exactly = record { left = left; tells = tells_it }
 
-pub each_call_is_left_so : EachRestAwaitsSomething → ClientsAgree → EachCallIsLeftSo
-each_call_is_left_so rest agree w h k m d = left_exactly rest agree w h k m d
+pub each_call_is_left_so : EachCallIsLeftSo
+each_call_is_left_so w h k m d = left_exactly w h k m d

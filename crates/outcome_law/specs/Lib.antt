@@ -5,3 +5,4 @@ pub mod ReadCalls
 pub mod Ended
 pub mod Read
 pub mod Pending
+pub mod Waiting

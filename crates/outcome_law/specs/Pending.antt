@@ -11,14 +11,13 @@ use Rattle.scenario_text.specs.declared.line.Ending.TheVariants as ending
 use Rattle.scenario_text.specs.declared.line.Outcome.TheVariants as outcome
 use Rattle.scenario_text.specs.declared.line.Line.{Line}
 use Rattle.scenario_text.specs.declared.line.Line.TheVariants as line
-use Rattle.world_history.specs.ClientNames.{Call, CallOp, Request}
+use Rattle.world_history.specs.ClientNames.{Call, CallOp}
 use Rattle.world_history.specs.State.{World, ClientAt}
 use Rattle.world_history.specs.Told.{kind_of}
 use Rattle.world_history.specs.Moves.{op_of}
 use Rattle.world_history.specs.Sending.{Move, move}
 use Rattle.world_history.specs.Plans.{due, went_on}
 use Rattle.move_law.specs.Moments.{IsMoment, plan_at, lines_in}
-use Rattle.exchange_law.specs.Meeting.{IsReadableThrough}
 use Rattle.outcome_law.specs.ReadClients.{client_after}
 
 -- ---- a call
@@ -37,8 +36,7 @@ pub record IsPending (h : List Line) (client : ℕ) : Type 0 where
   pub pending : caller.state.call ≡ Some call
 
 -- The event calls the client, who takes the call behind the lines `start`. Behind the lines `h` a call of it is pending, of this
--- kind, and awaits nothing of a drive. As far as what clients and the server say fits its places, the client waits for the
--- answer to a request.
+-- kind, and awaits nothing of a drive.
 pub record IsLeft (start : List Line) (e : Event) (h : List Line) (client : ℕ) (kind : CallKind) : Type 0 where
   pub its : EventCall
   pub event_is : e ≡ event.Do client its
@@ -46,7 +44,6 @@ pub record IsLeft (start : List Line) (e : Event) (h : List Line) (client : ℕ)
   pub still : IsPending h client
   pub kind_is : kind ≡ kind_of still.call.op
   pub quiet : awaited_of still.caller.state.call ≡ []
-  pub waits : IsReadableThrough h → (r : Request) × (still.caller.state.outstanding ≡ Some r)
 
 -- ---- in a move
 

@@ -3,6 +3,7 @@ ghost use Rattle.outcome_law.specs.Caused.{OutcomesAreCaused};
 ghost use Rattle.outcome_law.specs.Ended.{ClientsAreRead, EndsAreCaused};
 ghost use Rattle.outcome_law.specs.Pending.{EachCallIsLeftSo};
 ghost use Rattle.outcome_law.specs.Read.{AnswersAreOfReplies};
+ghost use Rattle.outcome_law.specs.Waiting.{PendingCallsWait};
 
 use client_rules::each_rest_awaits_something;
 use exchange_law::clients_agree;
@@ -31,9 +32,15 @@ pub fn answers_are_of_replies()
 
 /// In each move of a history a line tells that a call of a client is left pending exactly if the event is a `do` of this client,
 /// who took the call, the move is the event's last one, and a call of the client is pending behind it. It awaits nothing of
-/// a drive, and as far as what is said fits its places, it waits for the answer to a request.
+/// a drive.
 pub fn calls_are_left()
     ensures { EachCallIsLeftSo }
+{}
+
+/// At each moment up to which what clients and the server say fits its places, a client whose pending call awaits nothing of
+/// a drive waits for the answer to a request.
+pub fn pending_calls_wait()
+    ensures { PendingCallsWait }
 {
     each_rest_awaits_something();
     clients_agree();

@@ -9,4 +9,5 @@ mod laws;
 
 pub use laws::{
     answers_are_of_replies, calls_are_left, clients_are_read, ends_are_caused, outcomes_are_caused,
+    pending_calls_wait,
 };

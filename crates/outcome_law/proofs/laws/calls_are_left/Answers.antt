@@ -2,4 +2,4 @@ use Rattle.outcome_law.proofs.PendingMoves.{each_call_is_left_so}
 use Rattle.outcome_law.proofs.laws.calls_are_left.Goals as goal
 
 pub returns : goal.returns
-returns c = each_call_is_left_so c.each_rest_awaits_something.ensures c.clients_agree.ensures
+returns c = each_call_is_left_so
