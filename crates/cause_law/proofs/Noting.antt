@@ -1,27 +1,22 @@
 -- The lines of a step of the server tell of components what its notes tell.
-use Rattle.std.proofs.Common.{◌≡◌, ℕ, ◌+◌, ◌==◌, ◌&&◌, Bool, true, false, nat_lt, List, [], ◌∷◌, ◌++◌, length, filter, slice_get, Option, Some, None, refl, sym, ap, subst, ◌∙◌, append_assoc, inl, inr, if◌then◌else◌}
-use Rattle.std.specs.List.{list_any, cons_option, filter_map}
+use Rattle.std.proofs.Common.{◌≡◌, ℕ, ◌+◌, Bool, true, false, List, [], ◌∷◌, ◌++◌, length, filter, slice_get, Option, Some, None, refl, sym, ap, subst, ◌∙◌, append_assoc, inl, inr}
+use Rattle.std.specs.List.{filter_map}
 use Rattle.std.proofs.lemmas.Bool.{cases_Bool, false≢true}
 use Rattle.std.proofs.lemmas.List.{append-nil}
 use Rattle.std.proofs.lemmas.List.Elements.{filter-append}
 use Rattle.osd_lists.specs.declared.node.Node.TheVariants as node
 use Rattle.server_rules.specs.Files.{Step, file_at}
-use Rattle.server_rules.specs.Laws.{In}
 use Rattle.server_rules.specs.Messages.{Message}
 use Rattle.server_rules.specs.History.{Input, Hears, Makes, Obeys, Adds, Zones, Formats, Resends, Crashes, Opens as OpensAgain, step}
-use Rattle.server_rules.proofs.Members.{in_behind}
-use Rattle.scenario_text.specs.declared.names.TheConstants.{FILES}
 use Rattle.scenario_text.specs.declared.event.Event.TheVariants as event
 use Rattle.scenario_text.specs.declared.event.Machine.TheVariants as machine
 use Rattle.scenario_text.specs.declared.event.Sender.TheVariants as sender
-use Rattle.scenario_text.specs.declared.line.CallKind.{CallKind}
 use Rattle.scenario_text.specs.declared.line.Delivery.TheVariants as delivery
 use Rattle.scenario_text.specs.declared.line.Note.{Note}
 use Rattle.scenario_text.specs.declared.line.Note.TheVariants as note
 use Rattle.scenario_text.specs.declared.line.Outcome.{Outcome as ToldOutcome}
 use Rattle.scenario_text.specs.declared.line.Line.{Line}
 use Rattle.scenario_text.specs.declared.line.Line.TheVariants as line
-use Rattle.world_history.specs.ServerNames as server_rules
 use Rattle.world_history.specs.ServerNames.{Server, File, Component, RawMap}
 use Rattle.world_history.specs.ClientNames.{CallOp, Outcome}
 use Rattle.world_history.specs.State.{World}
@@ -33,22 +28,20 @@ use Rattle.world_history.specs.Drives.{judges, command_in}
 use Rattle.world_history.specs.Handed.{Post, end_line, ended_by, op_in, for_server}
 use Rattle.world_history.specs.Moves.{Act, Action, Opens, Delivers, TimesOut, Pends, has_algorithm, raw_of, acts}
 use Rattle.world_history.specs.Sending.{Move, move, sent_lines}
-use Rattle.world_history.specs.Plans.{due}
-use Rattle.world_history.specs.Reading.{is_head, steps_of}
-use Rattle.world_history.specs.Book.{ServerSeen, made_of, placed_in, input_at, step_by, server_seen, server_after}
-use Rattle.world_history.specs.Calm.{first_seen}
-use Rattle.world_history.specs.History.{StandsFor, OneEventMore}
+use Rattle.world_history.specs.Reading.{is_head}
+use Rattle.world_history.specs.Book.{made_of, placed_in, step_by, server_seen, server_after}
+use Rattle.world_history.specs.History.{OneEventMore}
 use Rattle.world_history.specs.Laws.{ServerGoesOn}
-use Rattle.move_law.specs.Moves.{number_in, given_in, IsForServer, front_of, IsFileRefusal, IsQuiet, AreQuiet}
+use Rattle.move_law.specs.Moves.{number_in, given_in, IsForServer, front_of, IsQuiet, AreQuiet}
 use Rattle.move_law.specs.Said.{IsDelivered}
 use Rattle.move_law.proofs.Moves.{each_act}
-use Rattle.history_law.specs.BookMoments.{IsMoment, with_event, lines_in, plan_at}
+use Rattle.history_law.specs.BookMoments.{with_event, lines_in}
 use Rattle.history_law.specs.Doing.{brought, input_in, did_in, ServerMoves}
 use Rattle.history_law.specs.Read.{is_written_line, AreWritten, BookIsRead, StepIsRead}
 use Rattle.history_law.proofs.Staying.{written_front}
 use Rattle.calm_law.specs.Components.{Paired, StandAlike, without_drive, tells_component}
 use Rattle.calm_law.specs.Sound.{IsSound}
-use Rattle.calm_law.specs.Going.{GoesOn, Goes, EachStepTells}
+use Rattle.calm_law.specs.Going.{Goes, EachStepTells}
 use Rattle.calm_law.specs.Naming.{IsNamed}
 use Rattle.calm_law.specs.Seeing.{SeenIsSound}
 use Rattle.calm_law.proofs.FileFacts.{named_input, told_same, rebuilt_same}

@@ -1,42 +1,24 @@
 -- What each step of the server makes of the live grants of each file, and which orders begin a fence.
-use Rattle.std.proofs.Common.{◌≡◌, ◌≢◌, ◌⊎◌, ◌==◌, ℕ, ◌+◌, Bool, true, false, true≢false, List, [], ◌∷◌, find, is_some, Option, Some, None, refl, sym, ap, subst, ◌∙◌, arith, inl, inr, if◌then◌else◌}
+use Rattle.std.proofs.Common.{◌≡◌, ◌≢◌, ◌==◌, ℕ, Bool, true, false, true≢false, List, [], find, is_some, Option, Some, None, refl, sym, ap, subst, ◌∙◌, inl, inr}
 use Rattle.std.proofs.lemmas.Bool.{cases_Bool, cases_eq, eq-eqb, eqb-true, ne_eqb}
-use Rattle.osd_lists.specs.declared.node.Node.{Node}
 use Rattle.osd_lists.specs.declared.node.Node.TheVariants.{Server as FromServer, Drive as FromDrive, Client as FromClient}
-use Rattle.std.proofs.lemmas.Bool.Decides.{nat_tests}
 use Rattle.server_rules.specs.declared.limits.TheConstants.{GREATEST_TAG}
-use Rattle.server_rules.specs.Commands.{Raising, All, to_all}
-use Rattle.server_rules.specs.Files.{Step, file_at, put_file, add_file, at_file, begins, step_at}
-use Rattle.server_rules.specs.Going.{Going, keeping, noting, rests_or}
+use Rattle.server_rules.specs.Files.{file_at, put_file, at_file, begins}
 use Rattle.server_rules.specs.History.{Input, Hears, Makes, Obeys, Adds, Zones, Formats, Resends, Crashes, Opens, step}
-use Rattle.server_rules.specs.Jobs.{making, ending, fenced, fence_begins}
-use Rattle.server_rules.specs.Laws.{In, Rests, FilesArePut, IsSafe, AreSafe, is_taken_of}
-use Rattle.server_rules.specs.Making.{checked_64, by_check, refusal, with_file}
-use Rattle.server_rules.specs.Messages.{Message, Asks, Replies, Orders, counters_have_room, on_message}
-use Rattle.server_rules.specs.Openings.{is_unsettled, opens_made, opens_fenced, opens, opens_each, reopen}
+use Rattle.server_rules.specs.Jobs.{fence_begins}
+use Rattle.server_rules.specs.Laws.{FilesArePut, AreSafe}
+use Rattle.server_rules.specs.Messages.{Asks, Replies, Orders, counters_have_room, on_message}
+use Rattle.server_rules.specs.Openings.{opens_each, reopen}
 use Rattle.server_rules.specs.Orders.{begins_job, starts, recalls_on, declares_known, ordered, offline, declare}
-use Rattle.server_rules.specs.Replies.{hearing}
-use Rattle.server_rules.specs.Requests.{serves, on_request}
-use Rattle.server_rules.specs.Slots.{New, slot_of, admit}
 use Rattle.server_rules.proofs.FileLaws.{number_at, put_other}
-use Rattle.server_rules.proofs.HandlerLaws.{ran_hears}
-use Rattle.server_rules.proofs.Runs.{ran_fences, ran_declares, ran_making}
-use Rattle.world_history.specs.ServerNames.{Server, File, Drive, Kept, Job, Awaited, JobKind, Fences, Revoking, Rebuilding, Auditing, Repairing, Fenced as FenceOver, ClientRequest, Order, OrderKind, ToRecall, ToRevoke, ToDeclare, ToRebuild, ToAudit, RawMap, FileExists}
-use Rattle.move_law.specs.Steps.{IsOrder, Here, Sent, IsAsked, Answering, IsAnswering, answered_file, new_file, StepCases}
-use Rattle.move_law.proofs.Files as Files
-use Rattle.move_law.proofs.Files.{in_at, put_each, add_each, declared_each, crashed_each, opened_each, safe_in}
-use Rattle.move_law.proofs.Steps.{each_request, each_step}
-use Rattle.job_law.specs.Fencing.{is_fencing}
-use Rattle.job_law.proofs.Asking.{handled_served}
-use Rattle.job_law.proofs.Quiet.{quiet_repair}
-use Rattle.calm_law.specs.Going.{IsMaking}
-use Rattle.calm_law.specs.Performing.{AreDistinct}
+use Rattle.server_rules.proofs.Runs.{ran_declares}
+use Rattle.world_history.specs.ServerNames.{Server, File, Drive, Job, JobKind, Revoking, Rebuilding, Auditing, Order, OrderKind, ToRecall, ToRevoke, ToDeclare, ToRebuild, ToAudit}
+use Rattle.move_law.specs.Steps.{IsOrder, Here, Sent}
+use Rattle.move_law.proofs.Files.{declared_each, opened_each, safe_in}
 use Rattle.calm_law.specs.Sound.{IsSound}
 use Rattle.calm_law.specs.Tags.{EachStepRaisesTags}
-use Rattle.calm_law.specs.Words.{Each}
-use Rattle.cause_law.specs.Answers.{IsNew}
 use Rattle.cause_law.specs.Changes as changes
-use Rattle.cause_law.specs.Changes.{FenceBegan, IsFencing, TakesOrder, BeginsFence, ByOrder, ByOpening, IsAskedOf, Changes}
+use Rattle.cause_law.specs.Changes.{IsFencing, TakesOrder, BeginsFence, ByOrder, ByOpening, Changes}
 
 use Rattle.cause_law.proofs.Changing.{is_plain, same_order, no_opening, same, number, Goes, GoesSame, Was, goes_fenced, spent, goes_opened, each_was, later, goes_as, all_change, all_stay}
 

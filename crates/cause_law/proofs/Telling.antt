@@ -2,16 +2,13 @@
 use Rattle.std.proofs.Common.{◌≡◌, ◌⊎◌, ◌==◌, ℕ, ◌+◌, Bool, true, false, List, [], ◌∷◌, ◌++◌, length, map, Some, refl, sym, ap, subst, ◌∙◌, arith, inl, inr, if◌then◌else◌}
 use Rattle.std.proofs.lemmas.Bool.{eq-eqb}
 use Rattle.std.proofs.lemmas.Bool.Decides.{nat_tests}
-use Rattle.osd_lists.specs.declared.node.Node.{Node}
 use Rattle.osd_lists.specs.declared.node.Node.TheVariants as node
-use Rattle.layout_ops.specs.declared.envelope.Envelope.TheVariants as envelope
 use Rattle.layout_ops.specs.declared.statuses.TheConstants.{NFS4ERR_SEQ_MISORDERED}
-use Rattle.server_rules.specs.declared.limits.TheConstants.{MAX_CLIENT}
 use Rattle.server_rules.specs.Answers.{plain_answer, recalls_from}
 use Rattle.server_rules.specs.Files.{Step, file_at, at_file, to_drives}
-use Rattle.server_rules.specs.History.{Input, Hears, step}
+use Rattle.server_rules.specs.History.{Input, step}
 use Rattle.server_rules.specs.Laws.{In, ConflictsAreExact, FilesArePut, AreSafe, is_taken_of}
-use Rattle.server_rules.specs.Messages.{Asks, counters_have_room}
+use Rattle.server_rules.specs.Messages.{counters_have_room}
 use Rattle.server_rules.specs.Requests.{serves, answer_with, answer_without, size_in, carried_out, only_answers, on_request}
 use Rattle.server_rules.specs.Served.{Served, tells}
 use Rattle.server_rules.specs.Slots.{Admit, New, Again, Misordered, slot_of, keep, admit}
@@ -27,7 +24,7 @@ use Rattle.world_history.specs.Names.{is_named}
 use Rattle.client_rules.specs.History.{step as client_step}
 use Rattle.world_history.specs.Handed.{Post, is_addressed, server_post, client_posts, op_in, wrote_in, data_in}
 use Rattle.world_history.specs.Moves.{Act, Action, Opens, Delivers, TimesOut, Pends, acts}
-use Rattle.world_history.specs.Sending.{Move, move, sent_line, sent_lines, sends_all}
+use Rattle.world_history.specs.Sending.{Move, move, sent_line, sent_lines}
 use Rattle.world_history.specs.Plans.{due}
 use Rattle.world_history.specs.Reading.{sent_in}
 use Rattle.world_history.specs.Book.{ServerSeen, server_after}
@@ -50,14 +47,14 @@ use Rattle.history_law.proofs.IssuingMoves.{acts_known}
 use Rattle.history_law.proofs.IssueLines.{IsKnown, all_known}
 use Rattle.history_law.proofs.Staying.{written_front}
 use Rattle.fencing_law.proofs.Ending.{next_moment}
-use Rattle.fencing_law.proofs.Moves.{posts_of, Acts, Others, Serves, each_acts}
+use Rattle.fencing_law.proofs.Moves.{Acts, Others, Serves, each_acts}
 use Rattle.exchange_law.specs.InStep.{ClientsAreInStep}
 use Rattle.exchange_law.specs.Made.{answer_to}
 use Rattle.exchange_law.proofs.Admitting.{is_last}
 use Rattle.exchange_law.proofs.CountMoments.{at_moment}
 use Rattle.exchange_law.proofs.SlotServing.{Comes, request_comes}
 use Rattle.cause_law.specs.Answers.{IsCaused, answer_line}
-use Rattle.cause_law.specs.Told.{WasSent, IsRepeated, IsMisordered, Answers as AnswersIt, ToNew, Repeats, Refuses, IsToRequest, IsTold, TellsRecall, TellsAnswer, TellsCaused, EachMessageIsCaused}
+use Rattle.cause_law.specs.Told.{WasSent, Answers as AnswersIt, ToNew, Repeats, Refuses, IsToRequest, IsTold, TellsRecall, TellsAnswer, TellsCaused, EachMessageIsCaused}
 use Rattle.cause_law.proofs.Answering.{safe_at}
 use Rattle.cause_law.proofs.Causing.{Answered, request_answered}
 

@@ -1,9 +1,9 @@
 -- A pending call that awaits nothing of a drive waits for an answer of the server.
-use Rattle.std.proofs.Common.{◌≡◌, ◌==◌, ◌+◌, ℕ, Bool, true, false, nat_lt, List, [], ◌∷◌, find, Option, Some, None, Result, Ok, Err, refl, sym, ap, subst, ◌∙◌, if◌then◌else◌}
+use Rattle.std.proofs.Common.{◌≡◌, ◌==◌, ◌+◌, ℕ, Bool, true, false, nat_lt, List, [], ◌∷◌, find, Option, Some, None, Result, Ok, Err, refl, sym, subst, ◌∙◌, if◌then◌else◌}
 use Rattle.layout_ops.specs.declared.messages.Answer.{Answer}
 use Rattle.layout_ops.specs.declared.statuses.TheConstants.{NFS4_OK, NFS4ERR_NOENT, NFS4ERR_BADLAYOUT, NFS4ERR_LAYOUTTRYLATER, NFS4ERR_RECALLCONFLICT, NFS4ERR_LAYOUTUNAVAILABLE}
 use Rattle.client_rules.specs.declared.limits.TheConstants.{MAX_TRIES}
-use Rattle.client_rules.specs.Answers.{unavailable, busy, refused_with, not_granted, not_committed, committed, on_commit}
+use Rattle.client_rules.specs.Answers.{busy, refused_with, not_granted, not_committed, committed, on_commit}
 use Rattle.client_rules.specs.Calls.{file_of}
 use Rattle.client_rules.specs.Commands.{of_component}
 use Rattle.client_rules.specs.Going.{quiet, moved, with_held, by_turn, begins, starts_with, starts_under, starts_at, starts_call, begun, request_of, requests, asks_under, is_held, due_behind, returns, returns_due, progress_phase, progress_call, progress_free, progressed}
@@ -18,8 +18,8 @@ use Rattle.client_rules.specs.Results.{status_of}
 use Rattle.client_rules.specs.Steps.{all_due}
 use Rattle.client_rules.specs.Turns.{turned}
 use Rattle.client_rules.specs.Writes.{accounted}
-use Rattle.world_history.specs.ClientNames.{Client, CallOp, Call, Held, Due, Awaited, TimedOut, Need, First, Get, Commit, Report, Close, Phase, Starts, Needs, Waits, Reads, Probes, Gathers, Scatters, Outcome, HeldBy, Fencing, NoFile, Status, Why, Turn, Goes, Ends, Forgets, Moved, Done, Request, Reply}
-use Rattle.move_law.specs.Turns.{IsAnswered, with_start, TurnCases}
+use Rattle.world_history.specs.ClientNames.{Client, CallOp, Call, Held, Due, Awaited, TimedOut, Need, First, Get, Commit, Report, Close, Phase, Starts, Needs, Waits, Reads, Probes, Gathers, Scatters, Outcome, HeldBy, Fencing, Why, Turn, Goes, Ends, Forgets, Moved, Done, Request}
+use Rattle.move_law.specs.Turns.{with_start}
 use Rattle.move_law.proofs.Turns.{each_turn}
 use Rattle.exchange_law.proofs.Few.{IsDriving, IsLate, FewTurn, turn_few, begins_few, replied_few, timed_out_few, accounted_few}
 

@@ -16,7 +16,7 @@ use Rattle.exchange_law.specs.Calls.{Knows, PhaseFine, CallFine}
 use Rattle.exchange_law.specs.InStep.{state_of}
 use Rattle.exchange_law.specs.Meeting.{KeptGood, IsReadableThrough, ClientsAgree}
 use Rattle.exchange_law.proofs.Each.{put_same, put_other}
-use Rattle.outcome_law.specs.Waiting.{WaitsForAnswer, PendingCallsWait}
+use Rattle.outcome_law.specs.Waiting.{PendingCallsWait}
 use Rattle.outcome_law.proofs.CallHistories.{clients_at}
 use Rattle.outcome_law.proofs.Awaiting.{Has, PhaseAwaits, Awaits, step_awaits}
 

@@ -1,5 +1,5 @@
 -- Only where a call is left pending a line tells so.
-use Rattle.std.proofs.Common.{◌≡◌, ℕ, ◌+◌, ◌&&◌, Bool, true, false, nat_lt, List, [], ◌∷◌, ◌++◌, length, Option, Some, None, Result, Ok, Err, is_some, slice_get, sym, subst, inl, inr, if◌then◌else◌}
+use Rattle.std.proofs.Common.{ℕ, ◌+◌, ◌&&◌, Bool, true, false, nat_lt, List, [], ◌∷◌, ◌++◌, length, Option, Some, None, Result, Ok, Err, is_some, slice_get, sym, subst, inl, inr, if◌then◌else◌}
 use Rattle.std.specs.List.{cons_option, filter_map}
 use Rattle.osd_lists.specs.declared.node.Node.{Node}
 use Rattle.osd_lists.specs.declared.node.Node.TheVariants as node
@@ -8,7 +8,6 @@ use Rattle.server_rules.specs.Files.{Step as ServerStep}
 use Rattle.server_rules.specs.Messages.{Message as ServerMessage}
 use Rattle.server_rules.specs.History as server
 use Rattle.server_rules.specs.Making.{create_file}
-use Rattle.server_rules.proofs.Members.{in_either}
 use Rattle.client_rules.specs.Messages.{Message as ClientMessage, Step as ClientStep}
 use Rattle.client_rules.specs.Steps.{calls}
 use Rattle.client_rules.specs.History as client
@@ -30,7 +29,7 @@ use Rattle.world_history.specs.State.{World, DriveAt, ClientAt, at_number, and_d
 use Rattle.world_history.specs.Told.{kind_of, told_outcome}
 use Rattle.world_history.specs.Names.{where_known, note_line, is_tellable, is_tellable_note, known_note_line}
 use Rattle.world_history.specs.Drives.{is_deaf, made_drive}
-use Rattle.world_history.specs.Handed.{Post, Handed, end_line, ended_by, op_in, drive_hears, server_takes, server_hears, client_takes, client_hears, client_goes, for_server, for_client, handed_to}
+use Rattle.world_history.specs.Handed.{Post, Handed, end_line, ended_by, op_in, drive_hears, server_takes, client_takes, client_hears, for_server, for_client, handed_to}
 use Rattle.world_history.specs.Moves.{Act, Action, Opens, Delivers, TimesOut, Pends, marked, delivers_found, delivers, by_client, called, calls_at, times_out, leaves, resends, op_of, raw_of, has_algorithm, made_file, makes, gives, injects_at, injects, known_drive, knows_drive, adds_drive, begins, acts}
 use Rattle.world_history.specs.Sending.{Move, move, sent_lines}
 use Rattle.move_law.specs.Moments.{with_event, lines_in}

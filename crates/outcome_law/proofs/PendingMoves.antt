@@ -15,10 +15,9 @@ use Rattle.world_history.specs.Told.{kind_of}
 use Rattle.world_history.specs.Handed.{pending_op}
 use Rattle.world_history.specs.Moves.{Act, Action, Opens, Delivers, TimesOut, Pends, tells, by_client, pends_as, pends, op_of}
 use Rattle.world_history.specs.Sending.{Move, move, sent_lines, sends_all}
-use Rattle.world_history.specs.Plans.{when_quiet, quiet_at, quiet_of, due_pending, next_pending, Rule, Alone, Prompt, Plan, due_by, due, rule_after, went_on, is_refused, rule_of, plan_of}
+use Rattle.world_history.specs.Plans.{when_quiet, quiet_at, due_pending, next_pending, Rule, Alone, Prompt, Plan, due_by, due, rule_after, went_on, is_refused, rule_of, plan_of}
 use Rattle.world_history.specs.Runs.{plan_after}
 use Rattle.move_law.specs.Moments.{IsMoment, plan_at, lines_in}
-use Rattle.outcome_law.specs.ReadClients.{client_after}
 use Rattle.outcome_law.specs.Pending.{IsTaken, IsPending, IsLeft, pending_line, IsLast, IsLeftExactly, EachCallIsLeftSo}
 use Rattle.outcome_law.proofs.CallHistories.{clients_are_read, clients_at}
 use Rattle.fencing_law.proofs.Ending.{next_moment}
