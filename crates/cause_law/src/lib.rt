@@ -1,8 +1,9 @@
 //! Laws of causes: of each answer, when exactly it comes, in the words of the lines.
 //!
 //! Each request that is new to the server is answered in its step, and its answer tells the first row that applies to
-//! what the book of the file has. Any other answer repeats the last one, or says that its request is misordered. Nothing else
-//! makes a grant live or ends one but a fence that an order or an opening begins. A call ends as only an answer says exactly if its client takes that answer.
+//! what the book of the file has. Any other answer repeats the last one, or says that its request is misordered. Nothing
+//! else makes a grant live or ends one but a fence that an order or an opening begins, and components go on as notes tell.
+//! A call ends as only an answer says exactly if its client takes that answer.
 #![tactic(auto)]
 
 mod laws;

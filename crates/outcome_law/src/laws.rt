@@ -30,9 +30,9 @@ pub fn answers_are_of_replies()
     ensures { AnswersAreOfReplies }
 {}
 
-/// In each move of a history a line tells that a call of a client is left pending exactly if the event is a `do` of this client,
-/// who took the call, the move is the event's last one, and a call of the client is pending behind it. It awaits nothing of
-/// a drive.
+/// In each move of a history a line tells that a call of a client is left pending exactly if the event is a `do` of this
+/// client, who took the call, the move is the event's last one, and a call of the client is pending behind it. It
+/// awaits nothing of a drive.
 pub fn calls_are_left()
     ensures { EachCallIsLeftSo }
 {}
