@@ -19,7 +19,6 @@ use Rattle.calm_law.specs.Sound.{IsSound}
 use Rattle.calm_law.specs.Tags.{EachStepRaisesTags}
 use Rattle.cause_law.specs.Changes as changes
 use Rattle.cause_law.specs.Changes.{IsFencing, TakesOrder, BeginsFence, ByOrder, ByOpening, Changes}
-
 use Rattle.cause_law.proofs.Changing.{is_plain, same_order, no_opening, same, number, Goes, GoesSame, Was, goes_fenced, spent, goes_opened, each_was, later, goes_as, all_change, all_stay}
 
 -- ---- an order
@@ -174,8 +173,12 @@ module _ (put : FilesArePut) (raise : EachStepRaisesTags) (s : Server) (chosen :
   opened_by n true room stays =
       rw (room, later) (all_change s Opens sound (opens_each s.format s.drives s.files (begins s)).files
       (opened_each (Was s Opens) s.format s.drives s.files (begins s) (λ f there m.
-      inl (f, there, goes_opened s Opens s.format (record { file = f; effects = m; drives = s.drives; chosen = [] })
-      refl room))) (rw (room, later) at stays) n)
+      inl (
+        f,
+        there,
+        goes_opened s Opens s.format (record { file = f; effects = m; drives = s.drives; chosen = [] })
+            refl room,
+      ))) (rw (room, later) at stays) n)
   opened_by n false full stays = rw (full, later) (all_stay s Opens sound (λ f b. unopened f full b) n)
 
   pub changes_so : (i : Input) (n : ℕ) → Changes s i n (file_at s.files n) (file_at (later s chosen i) n)

@@ -78,9 +78,11 @@ sent_there : (w : World) (m : Move) (p : Post) → In p (acts w m.chosen m.actio
 sent_there w m p i =
     let a : Act = acts w m.chosen m.action in
     let n : ℕ = length a.world.network.messages in
-    let r = in_sent n a.posts p i in
-    (r.0, behind_event m.action (move w m).lines (sent_line r.0 p.message)
-    (in_behind (sent_line r.0 p.message) a.told (sent_lines n a.posts) r.1))
+    let r = in_sent n a.posts p i in (
+      r.0,
+      behind_event m.action (move w m).lines (sent_line r.0 p.message)
+          (in_behind (sent_line r.0 p.message) a.told (sent_lines n a.posts) r.1),
+    )
 
 from_sent : (n : ℕ) (ps : List Post) (l : Line) → In l (sent_lines n ps)
     → (k : ℕ) × (p : Post) × In p ps × (l ≡ sent_line k p.message)
