@@ -1,0 +1,5 @@
+pub mod SoundLaws
+pub mod ChangeLaws
+pub mod DriveLaws
+pub mod MakingLaws
+pub mod RunLaws
