@@ -1,6 +1,6 @@
 -- A drive in the place of its former, or in the order of their numbers.
-use Rattle.std.specs.Prelude.{ℕ, suc, true, false, List, [], ◌∷◌, ◌++◌, ◌≡◌, ◌+◌, ◌≤◌, ◌<◌, ◌==◌, nat_lt, nat_le, take, drop, refl}
-use Rattle.std.proofs.Common.{arith, inl, inr, ap, sym, subst, ◌∙◌}
+use Rattle.std.specs.Prelude.{ℕ, true, false, List, [], ◌∷◌, ◌++◌, ◌≡◌, ◌+◌, ◌≤◌, ◌<◌, ◌==◌, nat_lt, nat_le, take, drop, refl}
+use Rattle.std.proofs.Common.{arith, inl, inr, ap, sym, subst}
 use Rattle.std.proofs.lemmas.Bool.{cases_Bool, eqb-true}
 use Rattle.std.proofs.lemmas.Bool.Decides.{nat_tests}
 use Rattle.zone_place.specs.declared.loads.TheConstants.{MAX_DRIVES}
@@ -9,7 +9,7 @@ use Rattle.server_state.specs.declared.state.State.{State}
 use Rattle.server_state.specs.Drives.{AreDrives, RiseFrom}
 use Rattle.server_state.specs.States.{IsReady}
 use Rattle.server_entries.specs.declared.entry.DriveEntry.{DriveEntry}
-use Rattle.server_entries.specs.Making.{drive_place, in_place_of, new_drive, put_drive}
+use Rattle.server_entries.specs.Making.{drive_place, put_drive}
 use Rattle.entry_replay.specs.Replaying.{put_before}
 
 is_behind : (n m : ℕ) → nat_lt n m ≡ true → nat_le m n ≡ false
@@ -18,7 +18,8 @@ is_behind n m t = grind (arith, nat_tests, t)
 is_before : (n m : ℕ) → nat_lt n m ≡ false → nat_le m n ≡ true
 is_before n m t = grind (arith, nat_tests, t)
 
-pub put_split : (ds : List Drive) (d : DriveEntry) → put_drive ds d ≡ take (drive_place ds d.number) ds ++ put_before (drop (drive_place ds d.number) ds) d
+pub put_split : (ds : List Drive) (d : DriveEntry) →
+    put_drive ds d ≡ take (drive_place ds d.number) ds ++ put_before (drop (drive_place ds d.number) ds) d
 unfolding put_drive drive_place
 put_split [] d = refl
 put_split (e ∷ ds) d = elim (cases_Bool (nat_lt e.number d.number)) [
@@ -32,7 +33,8 @@ next_le n m t = grind (arith, nat_tests, t)
 later : (n m : ℕ) → nat_lt n m ≡ false → (n == m) ≡ false → m + 1 ≤ n
 later n m l e = grind (arith, nat_tests, l, e)
 
-put_rises : (least : ℕ) (ds : List Drive) (d : DriveEntry) → least ≤ d.number → d.number < MAX_DRIVES → RiseFrom least ds → RiseFrom least (put_drive ds d)
+put_rises : (least : ℕ) (ds : List Drive) (d : DriveEntry) → least ≤ d.number → d.number < MAX_DRIVES → RiseFrom least ds →
+    RiseFrom least (put_drive ds d)
 unfolding put_drive
 put_rises least [] d le low r = (le, low, tt)
 put_rises least (e ∷ ds) d le low r = elim (cases_Bool (nat_lt e.number d.number)) [
@@ -44,7 +46,8 @@ put_rises least (e ∷ ds) d le low r = elim (cases_Bool (nat_lt e.number d.numb
 ]
 
 -- they stay in order
-pub drives_put : (old : State) (ds : List Drive) (d : DriveEntry) → IsReady old → d.number < MAX_DRIVES → ds ≡ put_drive old.drives d →
+pub drives_put : (old : State) (ds : List Drive) (d : DriveEntry) → IsReady old → d.number < MAX_DRIVES →
+    ds ≡ put_drive old.drives d →
     IsReady (record old { drives = ds })
 drives_put old ds d ready low e = record {
   files = ready.files;

@@ -1,11 +1,10 @@
 -- Entries one after another.
-use Rattle.std.specs.Prelude.{ℕ, List, [], ◌∷◌, ◌++◌, Option, Some, None, ◌≡◌, ◌+◌, ◌<◌, ◌≤◌, length, take, drop, refl}
+use Rattle.std.specs.Prelude.{ℕ, List, [], ◌∷◌, ◌++◌, Option, Some, None, ◌≡◌, ◌+◌, ◌<◌, length, take, drop, refl}
 use Rattle.std.proofs.Common.{ap, sym, get_or, ◌∙◌}
 use Rattle.std.proofs.lemmas.List.{take-append-drop, take_more}
 use Rattle.server_rules.specs.declared.server.Server.{Server}
 use Rattle.server_entries.specs.declared.entry.Entry.{Entry}
 use Rattle.server_entries.specs.Applying.{after_entry, applied, applied_all, applied_to}
-use Rattle.entry_replay.specs.Replaying.{StopsAt}
 
 applied_append : (s : Option Server) (es fs : List Entry) → applied_to s (es ++ fs) ≡ applied_to (applied_to s es) fs
 applied_append s [] fs = refl

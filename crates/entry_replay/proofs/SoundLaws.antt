@@ -1,6 +1,6 @@
 -- What entries make of a file is sound.
-use Rattle.std.specs.Prelude.{ℕ, Bool, true, false, List, [], ◌∷◌, ◌++◌, ◌≡◌, ◌≤◌, ◌==◌, nat_le, not, max, length, filter, IsTrue, refl}
-use Rattle.std.proofs.Common.{arith, inl, inr, ap, sym, ◌∙◌}
+use Rattle.std.specs.Prelude.{ℕ, Bool, true, false, List, [], ◌∷◌, ◌≡◌, ◌≤◌, ◌==◌, nat_le, not, length, filter, refl}
+use Rattle.std.proofs.Common.{arith, inl, inr}
 use Rattle.std.proofs.lemmas.Bool.{and_parts, cases_Bool, leb-true}
 use Rattle.std.proofs.lemmas.List.{length-set}
 use Rattle.data_map.specs.declared.ranges.TheConstants.{MAX_FILE_SIZE}
@@ -21,7 +21,8 @@ ends_inside g e =
     let stripes = (and_parts (nat_le g.first g.end) (nat_le g.end MAX_FILE_SIZE) (and_parts _ _ e).0) in
     (leb-true g.first g.end stripes.0, leb-true g.end MAX_FILE_SIZE stripes.1)
 
-high_inside : (rw_flag : Bool) (high end : ℕ) → high ≤ MAX_FILE_SIZE → end ≤ MAX_FILE_SIZE → (g : Grant) → g.rw ≡ rw_flag → g.end ≡ end →
+high_inside : (rw_flag : Bool) (high end : ℕ) → high ≤ MAX_FILE_SIZE → end ≤ MAX_FILE_SIZE → (g : Grant) → g.rw ≡ rw_flag →
+    g.end ≡ end →
     high_after high g ≤ MAX_FILE_SIZE
 high_inside true high end a b g e f = rw (e, f) (omega (arith, a, b))
 high_inside false high end a b g e f = rw e a
@@ -47,7 +48,8 @@ returned_sound n k s = record { few = s.few; whole = s.whole; high = s.high; liv
 
 pub changed_sound : (c : FileChange) (k : Kept) → IsSound k → IsSound (changed c k)
 changed_sound (Size size) k s = record { few = s.few; whole = s.whole; high = s.high; live = s.live; ended = s.ended }
-changed_sound FenceStarted k s = record { few = s.few; whole = s.whole; high = s.high; live = tt; ended = all_inside k.ended k.grants s.ended s.live }
+changed_sound FenceStarted k s =
+    record { few = s.few; whole = s.whole; high = s.high; live = tt; ended = all_inside k.ended k.grants s.ended s.live }
 changed_sound (Fenced tag format) k s = record { few = s.few; whole = s.whole; high = s.high; live = s.live; ended = s.ended }
 changed_sound Repaired k s = record { few = s.few; whole = s.whole; high = s.high; live = s.live; ended = tt }
 changed_sound (Missing j) k s = record {

@@ -1,4 +1,4 @@
-ghost use Rattle.std.specs.Prelude.{◌≡◌, IfOk};
+ghost use Rattle.std.specs.Prelude.{IfOk};
 ghost use Rattle.server_state.specs.States.{server_of, IsReady};
 ghost use Rattle.server_entries.specs.Applying.{applied, applied_all};
 ghost use Rattle.server_entries.specs.Taking.{Takes};

@@ -9,7 +9,8 @@ pub returns-in-Ok-Unmade-clause-applied : goal.returns-in-Ok-Unmade-clause-appli
 returns-in-Ok-Unmade-clause-applied c =
     let u = rw c.in-Ok-Unmade.field-0-is at c.in-Ok-Unmade.ensures.applied in
     none_of_all (server_of c.args.state.now) c.args.entries.now (c.loop-entry.entry-index + 1)
-    (one_more (server_of c.args.state.now) (server_of c.loop-entry.state) c.args.entries.now c.loop-entry.entry-index c.entry-item.result None
+    (one_more (server_of c.args.state.now) (server_of c.loop-entry.state) c.args.entries.now c.loop-entry.entry-index
+    c.entry-item.result None
     c.loop-entry-test.true c.entry-item.is c.loop-entry.invariant.made u.0)
 
 pub returns-in-Ok-Unmade-clause-stops : goal.returns-in-Ok-Unmade-clause-stops
@@ -18,14 +19,18 @@ returns-in-Ok-Unmade-clause-stops c =
       c.loop-entry.entry-index,
       record {
         made = c.loop-entry.invariant.made ∙ ap (λ (s : Server). Some s) (sym u.1);
-        unmade = one_more (server_of c.args.state.now) (server_of c.loop-entry.state) c.args.entries.now c.loop-entry.entry-index c.entry-item.result None
+        unmade =
+            one_more (server_of c.args.state.now) (server_of c.loop-entry.state) c.args.entries.now c.loop-entry.entry-index
+            c.entry-item.result None
             c.loop-entry-test.true c.entry-item.is c.loop-entry.invariant.made u.0;
       },
     )
 
 pub loop-entry-preserved : goal.loop-entry-preserved
 loop-entry-preserved c = record {
-  made = one_more (server_of c.args.state.now) (server_of c.loop-entry.state) c.args.entries.now c.loop-entry.entry-index c.entry-item.result
+  made =
+      one_more (server_of c.args.state.now) (server_of c.loop-entry.state) c.args.entries.now c.loop-entry.entry-index
+      c.entry-item.result
       (Some (server_of c.apply.new.state)) c.loop-entry-test.true c.entry-item.is c.loop-entry.invariant.made
       (rw c.in-Ok-Done.field-0-is at c.in-Ok-Done.ensures.applied);
   ready = c.apply.ensures.ready;

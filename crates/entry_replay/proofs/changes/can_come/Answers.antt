@@ -9,7 +9,9 @@ pub returns-in-Some : goal.returns-in-Some
 returns-in-Some c =
     c.can_change.ensures
     ∙ ap (can_at (can_change (server_of c.args.state.now) c.args.change.now))
-    (sym (file_there c.args.state.now.files.entries c.args.number c.in-Some.file.now c.requires.files (sym c.in-Some.ensures.value)))
+    (sym
+    (file_there c.args.state.now.files.entries c.args.number c.in-Some.file.now c.requires.files
+    (sym c.in-Some.ensures.value)))
 
 pub returns-in-None : goal.returns-in-None
 returns-in-None c =

@@ -9,7 +9,9 @@ pub returns-in-Some : goal.returns-in-Some
 returns-in-Some c =
     c.can_hold.ensures
     ∙ ap (can_at (can_grant (server_of c.args.state.now) c.args.grant.now))
-    (sym (file_there c.args.state.now.files.entries c.args.grant.now.file c.in-Some.file.now c.requires.files (sym c.in-Some.ensures.value)))
+    (sym
+    (file_there c.args.state.now.files.entries c.args.grant.now.file c.in-Some.file.now c.requires.files
+    (sym c.in-Some.ensures.value)))
 
 pub returns-in-None : goal.returns-in-None
 returns-in-None c =

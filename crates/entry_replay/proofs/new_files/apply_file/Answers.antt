@@ -7,8 +7,11 @@ pub returns-in-None-clause-applied : goal.returns-in-None-clause-applied
 returns-in-None-clause-applied c = (map_refused (server_of c.args.state.now) c.args.file.now c.in-None.ensures.none, refl)
 
 pub returns-then-not-can_place-clause-applied : goal.returns-then-not-can_place-clause-applied
-returns-then-not-can_place-clause-applied c =
-    (place_refused (server_of c.args.state.now) c.args.file.now c.in-Some.ensures.some.0 (sym c.can_place.ensures ∙ c.if-not-can_place.true), refl)
+returns-then-not-can_place-clause-applied c = (
+  place_refused (server_of c.args.state.now) c.args.file.now c.in-Some.ensures.some.0 (sym c.can_place.ensures
+      ∙ c.if-not-can_place.true),
+  refl,
+)
 
 pub returns-clause-applied : goal.returns-clause-applied
 returns-clause-applied c =
@@ -17,5 +20,6 @@ returns-clause-applied c =
 
 pub returns-clause-ready : goal.returns-clause-ready
 returns-clause-ready c =
-    ready_made c.args.state.now c.add_file.new.files c.args.file.now c.in_ok-made.made c.requires.ready (sym c.can_place.ensures ∙ c.if-not-can_place.false)
+    ready_made c.args.state.now c.add_file.new.files c.args.file.now c.in_ok-made.made c.requires.ready (sym c.can_place.ensures
+    ∙ c.if-not-can_place.false)
     (rw c.in-Some.ensures.some.1 at c.in-Some.ensures.some.2) c.in_ok-made.ensures c.in_ok-add_file.ensures.added
