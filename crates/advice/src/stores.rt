@@ -1,12 +1,13 @@
-// Why a drive doesn't serve from its store.
+// Why a drive or a server doesn't serve from its file.
+use crate::network::Asker;
 use osd_links::{FileCause, Printable};
 use std::alloc::{AllocError, Global};
 
 // The place of a drive's number in its store.
 const NUMBER_PLACE: u64 = 8;
 
-// What may be done about it.
-fn rest_for(cause: &FileCause) -> &'static str {
+// What may be done about the file of a drive.
+fn rest_for_drive(cause: &FileCause) -> &'static str {
     match cause {
         FileCause::NoFolder => "The file is made where there is none, but its folder isn't.\n",
         FileCause::InUse =>
@@ -21,34 +22,65 @@ fn rest_for(cause: &FileCause) -> &'static str {
     }
 }
 
-/// What a person is told if the file of a store can't be opened, read, written or synced.
+// What may be done about the file of a server.
+fn rest_for_server(cause: &FileCause) -> &'static str {
+    match cause {
+        FileCause::NoFolder => "The file is made where there is none, but its folder isn't.\n",
+        FileCause::InUse =>
+            "One server at a time can serve from a journal: end the other one first.\n",
+        FileCause::Full => {
+            "All that was answered is in the journal. Make room, and start the server again: it goes on from there.\n"
+        }
+        FileCause::System(_) => {
+            "If the disk itself fails, copy the file to another one first: it alone tells which objects the cluster's files are made of.\n"
+        }
+        _ => "",
+    }
+}
+
+// What may be done about the file of a party.
+fn rest_for(asker: Asker, cause: &FileCause) -> &'static str {
+    match asker {
+        Asker::Server => rest_for_server(cause),
+        Asker::Drive | Asker::Client => rest_for_drive(cause),
+    }
+}
+
+/// What a person is told if the file that keeps a party can't be opened, read, written or synced.
 pub fn failed_disk(
     alloc: Global,
+    asker: Asker,
     store: &str,
     cause: Option<&FileCause>,
 ) -> Result<String, AllocError> {
     let file = Printable::new(store.as_bytes());
     match cause {
         Some(cause) => {
-            let rest = rest_for(cause);
+            let rest = rest_for(asker, cause);
             format!(in alloc; "pnfs_osd: the file {file}: {cause}\n{rest}")
         }
         None => format!(in alloc; "pnfs_osd: the file {file} failed\n"),
     }
 }
 
-// What is wrong with a file that is no store from this place on.
-fn fault_at(at: u64) -> &'static str {
+// What is wrong with a file that is no store of the party from this place on.
+fn fault_at(asker: Asker, at: u64) -> &'static str {
     match at {
+        0 if asker == Asker::Server => "isn't the journal of a server",
         0 => "isn't the store of a drive",
         NUMBER_PLACE => "is the store of a drive with another number",
         _ => "was cut short or changed (docs/STORES.md)",
     }
 }
 
-/// What a person is told if a file is no store of the drive from this place on.
-pub fn refused_store(alloc: Global, store: &str, at: u64) -> Result<String, AllocError> {
+/// What a person is told if a file is no store of the drive, or no journal of a server, from this place on.
+pub fn refused_store(
+    alloc: Global,
+    asker: Asker,
+    store: &str,
+    at: u64,
+) -> Result<String, AllocError> {
     let file = Printable::new(store.as_bytes());
-    let fault = fault_at(at);
+    let fault = fault_at(asker, at);
     format!(in alloc; "pnfs_osd: the file {file} {fault}. It is left as it is\n")
 }

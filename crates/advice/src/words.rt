@@ -18,7 +18,7 @@ fn tip_of(command: &str) -> Option<&'static str> {
         "show" | "check" => Some(
             "  tip: the structures are read from standard input, a line each: pnfs_osd show KIND < FILE\n",
         ),
-        "drive" | "stored-drive" | "server" | "client" => Some(
+        "drive" | "stored-drive" | "server" | "stored-server" | "client" => Some(
             "  tip: the cluster text is read from standard input: .. < scenarios/cluster.toml\n",
         ),
         _ => None,

@@ -5,13 +5,15 @@ use Rattle.clap.specs.Simple.{HasMatchesOf}
 use Rattle.clap.specs.declared.parser.matches.ArgMatches.{ArgMatches}
 use Rattle.command_words.specs.Options.{client_options, drive_options, server_options, text_of}
 use Rattle.command_words.specs.Asked.{AsksClient, client_gives, drive_words_from, drive_words_of, server_words_from, server_words_of}
-use Rattle.command_words.specs.StoredAsked.{AsksStored, stored_drive_gives, stored_drive_options}
+use Rattle.command_words.specs.StoredAsked.{AsksStored, AsksStoredServer, stored_drive_gives, stored_drive_options}
+use Rattle.command_words.specs.StoredAsked.{stored_server_gives, stored_server_options}
 use Rattle.command_words.specs.Work.{Gives}
 use Rattle.command_words.specs.declared.words.ClientWords.{ClientWords}
 use Rattle.command_words.specs.declared.words.DriveWords.{DriveWords}
 use Rattle.command_words.specs.declared.words.ServerWords.{ServerWords}
 use Rattle.command_words.specs.declared.stored_words.StoredDriveWords.{StoredDriveWords}
-use Rattle.command_words.proofs.Parsed.{client_simple, drive_simple, server_simple, stored_drive_simple, value}
+use Rattle.command_words.specs.declared.stored_words.StoredServerWords.{StoredServerWords}
+use Rattle.command_words.proofs.Parsed.{client_simple, drive_simple, server_simple, stored_drive_simple, stored_server_simple, value}
 
 module _ (a : App) (words : List Text) (m : ArgMatches) where
   pub drive_asked : (n k : Option Text) (r : Option DriveWords) → a ≡ drive_options → HasMatchesOf a words m
@@ -47,3 +49,12 @@ module _ (a : App) (words : List Text) (m : ArgMatches) where
       subst (λ (w : Option Text). Gives (AsksStored (text_of stored_drive_options (codes "number") words) (text_of stored_drive_options (codes "connections") words) w) r) z
       (subst (λ (w : Option Text). Gives (AsksStored (text_of stored_drive_options (codes "number") words) w t) r) y
       (subst (λ (w : Option Text). Gives (AsksStored w k t) r) x g))
+
+  pub stored_server_asked : (k t : Option Text) (r : Option StoredServerWords) → a ≡ stored_server_options → HasMatchesOf a words m
+      → k ≡ first_value (found_of m) (codes "connections") → t ≡ first_value (found_of m) (codes "store")
+      → Gives (AsksStoredServer k t) r → stored_server_gives words r
+  stored_server_asked k t r same h count name g =
+      let y = count ∙ value a stored_server_options words m (codes "connections") same stored_server_simple h in
+      let z = name ∙ value a stored_server_options words m (codes "store") same stored_server_simple h in
+      subst (λ (w : Option Text). Gives (AsksStoredServer (text_of stored_server_options (codes "connections") words) w) r) z
+      (subst (λ (w : Option Text). Gives (AsksStoredServer w t) r) y g)

@@ -12,7 +12,7 @@ use Rattle.clap.proofs.OnLiterals.{clap_on_literals}
 use Rattle.clap.proofs.WalkLemmas.{first_value-rows}
 use Rattle.command_words.specs.Options.{client_options, drive_options, faults_of, server_options, text_of}
 use Rattle.command_words.specs.Asked.{Refuses}
-use Rattle.command_words.specs.StoredAsked.{stored_drive_options}
+use Rattle.command_words.specs.StoredAsked.{stored_drive_options, stored_server_options}
 use Rattle.command_words.specs.declared.words.WordsErr.{WordsErr}
 use Rattle.command_words.specs.declared.words.WordsErr.TheVariants.{Bad, Memory}
 
@@ -39,6 +39,14 @@ server_free = refl
 pub server_simple : is_simple server_options ≡ true
 unfolding clap_on_literals
 server_simple = refl
+
+pub stored_server_free : is_simple_and_free stored_server_options ≡ true
+unfolding clap_on_literals
+stored_server_free = refl
+
+pub stored_server_simple : is_simple stored_server_options ≡ true
+unfolding clap_on_literals
+stored_server_simple = refl
 
 pub client_free : is_simple_and_free client_options ≡ true
 unfolding clap_on_literals

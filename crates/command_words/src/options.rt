@@ -2,7 +2,7 @@
 ghost use Rattle.std.specs.Prelude.{◌≡◌, false, IfOk};
 ghost use Rattle.clap.specs.Words.{app_of, rule_of, with_rule};
 ghost use Rattle.command_words.specs.Options.{client_options, drive_options, option_rule, server_options};
-ghost use Rattle.command_words.specs.StoredAsked.{stored_drive_options};
+ghost use Rattle.command_words.specs.StoredAsked.{stored_drive_options, stored_server_options};
 
 use clap::{Arg, ArgAction, Command};
 use std::alloc::{AllocError, Global};
@@ -51,6 +51,14 @@ pub(crate) fn server_options<'a>(alloc: Global) -> Result<Command<'a>, AllocErro
     ensures { IfOk result (λ c. app_of c ≡ server_options) }
 {
     with_option(alloc, Command::new(alloc, "server"), "connections")
+}
+
+// `stored-server --connections K --store NAME`
+pub(crate) fn stored_server_options<'a>(alloc: Global) -> Result<Command<'a>, AllocError>
+    ensures { IfOk result (λ c. app_of c ≡ stored_server_options) }
+{
+    let command = with_option(alloc, Command::new(alloc, "stored-server"), "connections")?;
+    with_option(alloc, command, "store")
 }
 
 // `client --number N --sequence Q --call TEXT`

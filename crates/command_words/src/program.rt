@@ -70,6 +70,12 @@ fn server<'a>(alloc: Global) -> Result<Command<'a>, AllocError> {
     Command::new(alloc, "server").arg(number(alloc, "connections", "K", 0, MAX_U32))
 }
 
+fn stored_server<'a>(alloc: Global) -> Result<Command<'a>, AllocError> {
+    Command::new(alloc, "stored-server")
+        .arg(number(alloc, "connections", "K", 0, MAX_U32))?
+        .arg(option(alloc, "store").value_name("NAME"))
+}
+
 fn client<'a>(alloc: Global) -> Result<Command<'a>, AllocError> {
     Command::new(alloc, "client")
         .arg(number(alloc, "number", "N", 0, u64::from(MAX_CLIENT)))?
@@ -87,6 +93,7 @@ fn program<'a>(alloc: Global) -> Result<Command<'a>, AllocError> {
         .subcommand(drive(alloc)?)?
         .subcommand(stored_drive(alloc)?)?
         .subcommand(server(alloc)?)?
+        .subcommand(stored_server(alloc)?)?
         .subcommand(client(alloc)?)
 }
 
@@ -100,6 +107,7 @@ fn usage_of(command: &str) -> &'static str {
         "drive" => "pnfs_osd drive --number N --connections K < CLUSTER",
         "stored-drive" => "pnfs_osd stored-drive --number N --connections K --store NAME < CLUSTER",
         "server" => "pnfs_osd server --connections K < CLUSTER",
+        "stored-server" => "pnfs_osd stored-server --connections K --store NAME < CLUSTER",
         "client" => "pnfs_osd client --number N --sequence Q --call TEXT < CLUSTER",
         _ => "pnfs_osd <COMMAND>",
     }
@@ -108,7 +116,7 @@ fn usage_of(command: &str) -> &'static str {
 // What `clap` says if the words name no command at all.
 const NO_COMMAND: &str = "\
 error: 'pnfs_osd' requires a subcommand but one was not provided
-  [subcommands: replay, generate, show, check, drive, stored-drive, server, client, help]
+  [subcommands: replay, generate, show, check, drive, stored-drive, server, stored-server, client, help]
 
 Usage: pnfs_osd <COMMAND>
 

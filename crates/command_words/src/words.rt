@@ -109,7 +109,7 @@ pub(crate) fn drive_from(drive: Option<&str>, count: Option<&str>) -> Option<Dri
     })
 }
 
-fn server_from(count: Option<&str>) -> Option<ServerWords>
+pub(crate) fn server_from(count: Option<&str>) -> Option<ServerWords>
     ensures { result ≡ server_words_from (option_map (λ w. w.now) count.entry) }
 {
     Some(ServerWords {

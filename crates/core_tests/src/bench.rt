@@ -14,13 +14,13 @@ use std::process::Abort;
 /// The file of a case, whose number is 0, on a server with drives 0 to 5, and units of four bytes.
 #[derive(Clone, Copy)]
 pub struct File {
-    comps: u32,
-    // From RAID_0 (1) to RAID_PQ (4).
-    algorithm: u32,
+    pub comps: u32,
+    /// From RAID_0 (1) to RAID_PQ (4).
+    pub algorithm: u32,
     mirrors: u32,
-    tag: u32,
-    // Each CREATE is answered before the first move.
-    is_made: bool,
+    pub tag: u32,
+    /// Each CREATE is answered before the first move.
+    pub is_made: bool,
 }
 
 /// Three components with a rotating parity.
@@ -80,7 +80,8 @@ struct Bench {
 // The key of each drive.
 const KEY: [u8; 20] = [7; 20];
 
-fn drives(alloc: Global) -> Result<DriveTable, Memory>
+/// Drives 0 to 5.
+pub fn drives(alloc: Global) -> Result<DriveTable, Memory>
     ensures { IfOk result (CanAdd []) }
 {
     let mut table = DriveTable::new(alloc);
@@ -117,8 +118,8 @@ fn drives(alloc: Global) -> Result<DriveTable, Memory>
     Ok(table)
 }
 
-// What a step notes and sends, in words.
-fn tell(told: &mut Bytes, questions: &mut Questions, step: &Step) -> Result<(), Memory> {
+/// What a step notes and sends, in words.
+pub fn tell(told: &mut Bytes, questions: &mut Questions, step: &Step) -> Result<(), Memory> {
     for note in step.notes.as_slice() {
         put_note(told, note)?;
     }
@@ -183,7 +184,8 @@ fn makes(bench: &mut Bench, comps: u32, placer: &FirstOnline) -> bool {
     true
 }
 
-fn raw_map(file: File) -> RawMap
+/// The map of the file of a case.
+pub fn raw_map(file: File) -> RawMap
     ensures { result.algorithm ≡ file.algorithm }
 {
     RawMap {

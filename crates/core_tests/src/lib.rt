@@ -22,6 +22,8 @@ mod grants;
 #[cfg(test)]
 mod jobs;
 #[cfg(test)]
+mod journals;
+#[cfg(test)]
 mod line;
 #[cfg(test)]
 mod moves;

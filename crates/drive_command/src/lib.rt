@@ -20,5 +20,5 @@ pub use connections::serve;
 pub use device_server::{DeviceServer, HandleErr};
 pub use own::KEY_VERSION;
 pub use serve_err::DriveServeErr;
-pub use stored_command::stored_drive_command;
+pub use stored_command::{put_stored_stop, stored_drive_command};
 pub use stored_stop::StoredStop;

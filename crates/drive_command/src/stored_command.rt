@@ -168,8 +168,9 @@ fn put_store_line<K: Sink>(alloc: Global, sink: &mut K, at: u64) -> Result<(), M
     Ok(())
 }
 
-// Puts the line that tells why the command stopped, and gives that cause. If there is no memory for the line, that is it.
-fn put_stored_stop<K: Sink>(alloc: Global, sink: &mut K, stop: StoredStop) -> StoredStop
+/// Puts the line that tells why a command with a store stopped, and gives that cause. If there is no memory for the line, that is
+/// it.
+pub fn put_stored_stop<K: Sink>(alloc: Global, sink: &mut K, stop: StoredStop) -> StoredStop
     ensures cause { IsTold stop result }
     ensures puts { PutsLine (K.taken sink.old) (K.taken sink.new) (K.faults sink.old) (K.faults sink.new)
         (stored_stop_line result) }

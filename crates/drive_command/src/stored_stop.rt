@@ -1,4 +1,4 @@
-// Why a drive with a store stops.
+// Why a drive or a server with a store stops.
 ghost use Rattle.std.specs.Prelude.{◌≡◌};
 ghost use Rattle.drive_command.specs.StoredStops.{stop_of_serving};
 
@@ -8,14 +8,15 @@ use drive_store::StoreErr;
 use osd_disk::DiskErr;
 use osd_lists::Memory;
 
-/// Why a drive with a store stopped, or didn't begin.
+/// Why a drive or a server with a store stopped, or didn't begin.
 #[derive(Clone, Copy, Debug, PartialEq, Eq)]
 pub enum StoredStop {
-    /// For a cause that a drive in memory has too.
+    /// For a cause that one in memory has too.
     Command(CommandStop),
     /// The disk failed. This comes only if its count of faults rose.
     DiskFault,
-    /// What the disk has isn't in the form of a store from this byte on. With 8, it may be the store of another number.
+    /// What the disk has isn't in the form of a store from this byte on. With 8, it may be the store of a drive with another
+    /// number.
     BadStore { at: u64 },
 }
 

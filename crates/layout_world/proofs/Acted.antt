@@ -229,6 +229,13 @@ ends_none e old new act none h = λ w s.
       is = d.is;
     }
 
+pub none_ok : (r : Result Act Memory) (e : Event) (old new : Parties)
+    → ((w : World) (chosen : List ℕ) → ends_in (Opens e) w chosen ≡ [])
+    → IfOk r (λ act. Acts (λ w chosen. begins w chosen e) old new act)
+    → IfOk r (λ act. ActsWith (λ w chosen. begins w chosen e) (ends_in (Opens e)) old new act)
+none_ok (Ok act) e old new none h = ends_none e old new act none h
+none_ok (Err x) e old new none h = tt
+
 pub plain_acts : (e : Event) (old new : Parties) (act : Act) → is_plain e ≡ true
     → Acts (λ w chosen. begins w chosen e) old new act
     → ActsWith (λ w chosen. begins w chosen e) (ends_in (Opens e)) old new act

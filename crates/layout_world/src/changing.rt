@@ -14,12 +14,18 @@ use world_network::{Act, network_shows};
 use world_parties::{clients_are_the_worlds, drives_are_the_worlds};
 
 // A drive takes no more capabilities of a format below this one.
-fn raise_least(parties: &mut Parties, alloc: Global, drive: DriveName, format: u8) -> Act
-    ensures { Acts (λ w chosen. changed (at_drive w drive (λ a. raised a format))) parties.old parties.new result }
+fn raise_least(
+    parties: &mut Parties,
+    alloc: Global,
+    drive: DriveName,
+    format: u8,
+) -> Result<Act, Memory>
+    ensures { IfOk result (λ act. Acts (λ w chosen. changed (at_drive w drive (λ a. raised a format)))
+        parties.old parties.new act) }
 {
     drives_are_the_worlds();
-    parties.drives.raise_least(drive, format);
-    Act::nothing(alloc)
+    parties.drives.raise_least(alloc, drive, format)?;
+    Ok(Act::nothing(alloc))
 }
 
 // A drive fails.
@@ -78,7 +84,7 @@ pub fn change(parties: &mut Parties, alloc: Global, event: &Event) -> Result<Act
         → Acts (λ w chosen. begins w chosen event.now) parties.old parties.new act) }
 {
     match event {
-        Event::Least { drive, format } => Ok(raise_least(parties, alloc, *drive, *format)),
+        Event::Least { drive, format } => raise_least(parties, alloc, *drive, *format),
         Event::DropMessage { message } => Ok(drop_message(parties, alloc, *message as usize)),
         Event::Clock {
             machine: Machine::Drive { drive },

@@ -19,17 +19,17 @@ fn crash_drive(parties: &mut Parties, alloc: Global, drive: DriveName) -> Act
     ensures { Acts (λ w chosen. changed (at_drive w drive crashed)) parties.old parties.new result }
 {
     drives_are_the_worlds();
-    parties.drives.crash(drive);
+    parties.drives.crash(alloc, drive);
     Act::nothing(alloc)
 }
 
-// It isn't down any more.
-fn reopen_drive(parties: &mut Parties, alloc: Global, drive: DriveName) -> Act
-    ensures { Acts (λ w chosen. changed (at_drive w drive reopened)) parties.old parties.new result }
+// Its store is opened, and it isn't down any more.
+fn reopen_drive(parties: &mut Parties, alloc: Global, drive: DriveName) -> Result<Act, Memory>
+    ensures { IfOk result (λ act. Acts (λ w chosen. changed (at_drive w drive reopened)) parties.old parties.new act) }
 {
     drives_are_the_worlds();
-    parties.drives.reopen(drive);
-    Act::nothing(alloc)
+    parties.drives.reopen(alloc, drive)?;
+    Ok(Act::nothing(alloc))
 }
 
 // The server is down from now on, and no job runs.
@@ -69,7 +69,7 @@ pub fn reopen(parties: &mut Parties, alloc: Global, machine: Machine) -> Result<
         (ends_in (Opens (event.Reopen machine))) parties.old parties.new act) }
 {
     match machine {
-        Machine::Drive { drive } => Ok(reopen_drive(parties, alloc, drive)),
+        Machine::Drive { drive } => reopen_drive(parties, alloc, drive),
         Machine::Server => reopen_server(parties, alloc),
     }
 }

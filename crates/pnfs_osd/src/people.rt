@@ -24,7 +24,7 @@ pub struct Causes<'a> {
 fn asker_of(words: &[String]) -> Asker {
     match words.first() {
         Some(word) if matches!(word.as_str(), "drive" | "stored-drive") => Asker::Drive,
-        Some(word) if word.as_str() == "server" => Asker::Server,
+        Some(word) if matches!(word.as_str(), "server" | "stored-server") => Asker::Server,
         _ => Asker::Client,
     }
 }
@@ -107,8 +107,8 @@ fn text_of(
         Status::BadCluster { kind } => {
             refused_cluster(alloc, reader_of(words), *kind, causes.input)
         }
-        Status::DiskFault => failed_disk(alloc, store_in(words), causes.disk),
-        Status::BadStore { at } => refused_store(alloc, store_in(words), *at),
+        Status::DiskFault => { failed_disk(alloc, asker_of(words), store_in(words), causes.disk) }
+        Status::BadStore { at } => refused_store(alloc, asker_of(words), store_in(words), *at),
     }
 }
 

@@ -14,6 +14,7 @@ usage: pnfs_osd replay < SCENARIO
        pnfs_osd drive --number N --connections K < CLUSTER
        pnfs_osd stored-drive --number N --connections K --store NAME < CLUSTER
        pnfs_osd server --connections K < CLUSTER
+       pnfs_osd stored-server --connections K --store NAME < CLUSTER
        pnfs_osd client --number N --sequence Q --call TEXT < CLUSTER
        pnfs_osd help [COMMAND] | --help | --version
        pnfs_osd COMMAND --help
@@ -25,12 +26,13 @@ check         says whether the structure that each line spells is well formed
 drive         serves K connections as drive N of a cluster, which it keeps in memory (docs/OPERATIONS.md)
 stored-drive  does the same, and keeps the drive in the file NAME
 server        makes the files of a cluster, and serves K connections as its metadata server
+stored-server does the same, and keeps the server in the file NAME
 client        carries out one call as client N of a cluster, or hands its server one order
 
 Exit status: 0 done, 2 the words name no command, 3 a line was refused, 4 the input failed, 5 the output failed,
 6 no memory, 7 the input, a line or the bytes that are kept pass their limit, 8 the network failed or the server didn't
-answer, 9 the cluster text was refused, 10 the call or the order was refused, 11 a file failed that keeps a drive, 12 such a
-file isn't the drive's store.
+answer, 9 the cluster text was refused, 10 the call or the order was refused, 11 a file failed that keeps a drive or the
+server, 12 such a file isn't what it has to be.
 ";
 
 const REPLAY: &str = "\
@@ -84,6 +86,15 @@ connections as its metadata server (docs/OPERATIONS.md). Writes 'listening' once
 its address, and 'served K' at the end. All options are required.
 ";
 
+const STORED_SERVER: &str = "\
+usage: pnfs_osd stored-server --connections K --store NAME < CLUSTER
+
+Serves K connections as the metadata server of the cluster that the text describes, and keeps the server in the file NAME: what
+it answered is there when it is started again, whatever stopped it (docs/OPERATIONS.md). A file that isn't there, or is
+empty, is made. Drives and files of the cluster that the server lacks are added and made, on drives that have to listen already.
+Writes 'listening' once that is done and it listens at its address, and 'served K' at the end. All options are required.
+";
+
 const CLIENT: &str = "\
 usage: pnfs_osd client --number N --sequence Q --call TEXT < CLUSTER
 
@@ -105,6 +116,7 @@ fn usage_of(command: &str) -> Option<&'static str> {
         "drive" => Some(DRIVE),
         "stored-drive" => Some(STORED_DRIVE),
         "server" => Some(SERVER),
+        "stored-server" => Some(STORED_SERVER),
         "client" => Some(CLIENT),
         _ => None,
     }

@@ -1,11 +1,12 @@
--- How a run of a drive with a store ends by words that are read.
+-- How a run of a drive or of a server with a store ends by words that are read.
 use Rattle.std.proofs.Common.{◌≡◌, ◌∙◌, List, Option, Some, None, sym, subst}
 use Rattle.clap.specs.Walk.{Text}
 use Rattle.clap.specs.Simple.{App}
 use Rattle.cluster_text.specs.declared.stop.CommandStop.{CommandStop}
 use Rattle.command_words.specs.Asked.{Asks}
-use Rattle.command_words.specs.StoredAsked.{stored_drive_gives}
+use Rattle.command_words.specs.StoredAsked.{stored_drive_gives, stored_server_gives}
 use Rattle.command_words.specs.declared.stored_words.StoredDriveWords.{StoredDriveWords}
+use Rattle.command_words.specs.declared.stored_words.StoredServerWords.{StoredServerWords}
 use Rattle.drive_command.specs.declared.stored_stop.StoredStop.{StoredStop}
 use Rattle.drive_command.specs.declared.stored_stop.StoredStop.TheVariants.{Command, DiskFault, BadStore}
 use Rattle.pnfs_run.specs.declared.status.Status.{Status}
@@ -31,3 +32,7 @@ stored_stop_is_none (BadStore at) status is bad = cc (sym bad ∙ is)
 -- the words of a drive with a store give one thing or none
 pub stored_drive_apart : (words : List Text) (asked : StoredDriveWords) → stored_drive_gives words (Some asked) → stored_drive_gives words None → ⊥
 stored_drive_apart words asked some none = none asked some
+
+-- and so do those of a server with a store
+pub stored_server_apart : (words : List Text) (asked : StoredServerWords) → stored_server_gives words (Some asked) → stored_server_gives words None → ⊥
+stored_server_apart words asked some none = none asked some

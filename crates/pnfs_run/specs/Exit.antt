@@ -32,7 +32,7 @@ by_stop stop.Memory = Memory
 by_stop stop.Full = Full Input
 by_stop stop.LinkFault = LinkFault
 
--- a drive with a store that stopped before its work was done
+-- a drive or a server with a store that stopped before its work was done
 abbrev pub by_stored : StoredStop → Status
 by_stored (stored.Command stop) = by_stop stop
 by_stored stored.DiskFault = DiskFault

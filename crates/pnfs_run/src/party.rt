@@ -8,6 +8,7 @@ pub enum Party {
     Drive,
     StoredDrive,
     Server,
+    StoredServer,
     Client,
 }
 
@@ -19,6 +20,7 @@ fn party_of_word(word: &str) -> Option<Party>
         "drive" => Some(Party::Drive),
         "stored-drive" => Some(Party::StoredDrive),
         "server" => Some(Party::Server),
+        "stored-server" => Some(Party::StoredServer),
         "client" => Some(Party::Client),
         _ => None,
     }

@@ -30,9 +30,10 @@ pub enum Status {
     BadCluster { kind: ClusterKind },
     /// What the client was asked to do was refused.
     Refused { outcome: Refusal },
-    /// The disk of a drive's store failed.
+    /// The disk of a store failed.
     DiskFault,
-    /// What the disk has isn't in the form of a store from this byte on, or with 8 may be the store of another number.
+    /// What the disk has isn't in the form of a store from this byte on, or with 8 may be the store of a drive with another
+    /// number.
     BadStore { at: u64 },
 }
 

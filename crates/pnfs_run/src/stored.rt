@@ -1,20 +1,23 @@
-// The command of a drive with a store.
+// The commands of a drive and of a server with a store.
 ghost use Rattle.std.specs.Prelude.{map, string_bytes};
 ghost use Rattle.command_words.specs.declared.words.WordsErr.TheVariants as words_err;
 ghost use Rattle.command_words.specs.Asked.{Refuses};
 ghost use Rattle.command_words.specs.StoredAsked.{stored_drive_gives, stored_drive_options};
+ghost use Rattle.command_words.specs.StoredAsked.{stored_server_gives, stored_server_options};
 ghost use Rattle.pnfs_run.specs.Ends.{ends_at};
 ghost use Rattle.pnfs_run.specs.Network.{Runs};
 ghost use Rattle.pnfs_run.specs.Run.{JudgesWords};
-ghost use Rattle.pnfs_run.specs.Stored.{LeavesDisk, StoredDriveEnds};
+ghost use Rattle.pnfs_run.specs.Stored.{LeavesDisk, StoredDriveEnds, StoredServerEnds};
 
 use crate::network::words_refused;
 use crate::status::Status;
-use command_words::stored_drive_words;
+use command_words::{stored_drive_words, stored_server_words};
 use drive_command::stored_drive_command;
 use osd_bytes::{Clock, Links, Sink, Source};
 use osd_disk::Disk;
 use std::alloc::Global;
+use stored_server::stored_server_command;
+use stripe_repair::Place;
 
 /// Serves as a drive that is kept on the disk, which comes back.
 pub(crate) fn run_stored_drive<S: Source, K: Sink, L: Links, C: Clock, D: Disk>(
@@ -47,6 +50,46 @@ pub(crate) fn run_stored_drive<S: Source, K: Sink, L: Links, C: Clock, D: Disk>(
         sink,
         links,
         clock,
+        disk,
+    ) {
+        Ok(disk) => (Status::Done, disk),
+        Err(refusal) => (Status::from(refusal.0), refusal.1),
+    }
+}
+
+/// Serves as a metadata server that is kept on the disk, which comes back.
+pub(crate) fn run_stored_server<S: Source, K: Sink, L: Links, C: Clock, D: Disk, P: Place>(
+    alloc: Global,
+    words: &[String],
+    source: &mut S,
+    sink: &mut K,
+    links: &mut L,
+    clock: &mut C,
+    disk: D,
+    placer: &P,
+) -> (Status, D)
+    requires { P.is_placer placer.now }
+    ensures promise { Runs stored_server_options stored_server_gives (StoredServerEnds D.Disk disk result.1) (map string_bytes words.now)
+        (ends_at S.Source K.Sink L.Links C.Clock source.old sink.old links.old clock.old)
+        (ends_at S.Source K.Sink L.Links C.Clock source.new sink.new links.new clock.new) result.0 }
+    ensures words { JudgesWords (Refuses stored_server_options stored_server_gives (map string_bytes words.now) words_err.Bad) result.0 }
+    ensures disk { LeavesDisk disk result.1 result.0 }
+{
+    let asked = match stored_server_words(alloc, words) {
+        Ok(asked) => asked,
+        Err(e) => return (words_refused(sink, e), disk),
+    };
+    let connections = asked.server.connections;
+    let name = asked.store.as_str();
+    match stored_server_command(
+        alloc,
+        connections,
+        name,
+        source,
+        sink,
+        links,
+        clock,
+        placer,
         disk,
     ) {
         Ok(disk) => (Status::Done, disk),

@@ -10,7 +10,7 @@ ghost use Rattle.pnfs_run.specs.Stored.{KeepsDisk};
 use crate::network::{run_client, run_drive, run_server};
 use crate::party::{Party, party_named};
 use crate::status::Status;
-use crate::stored::run_stored_drive;
+use crate::stored::{run_stored_drive, run_stored_server};
 use osd_bytes::{Clock, Links, Sink, Source};
 use osd_disk::Disk;
 use osd_lists::{Memory, Numbers};
@@ -55,6 +55,9 @@ where
         Some(Party::Server) => (
             run_server(alloc, words, source, sink, links, clock, &placement),
             disk,
+        ),
+        Some(Party::StoredServer) => run_stored_server(
+            alloc, words, source, sink, links, clock, disk, &placement,
         ),
         Some(Party::Client) => (run_client(alloc, words, source, sink, links), disk),
         None => (

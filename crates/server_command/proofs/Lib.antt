@@ -8,3 +8,7 @@ pub mod ConnectionLaws
 pub mod Keeping
 pub mod KnowingLaws
 pub mod MakingLaws
+pub mod KeptLaws
+pub mod Telling
+pub mod CoreLaws
+pub mod FaultLaws

@@ -7,8 +7,9 @@ use Rattle.osd_lists.specs.declared.node.Node.{Node}
 use Rattle.osd_lists.specs.declared.node.Node.TheVariants.{Server as TheServer, Drive, Client}
 use Rattle.osd_bytes.specs.Asking.{Answered, Ends, ends_of}
 use Rattle.cluster_text.specs.declared.cluster.ClusterFile.{ClusterFile}
-use Rattle.cluster_text.specs.declared.stop.CommandStop.{CommandStop}
 use Rattle.cluster_text.specs.declared.stop.CommandStop.TheVariants.{BadCluster, ReadFault, WriteFault, Memory, Full, LinkFault}
+use Rattle.server_command.specs.declared.server_stop.ServerStop.{ServerStop}
+use Rattle.server_command.specs.declared.server_stop.ServerStop.TheVariants.{Command, DiskFault}
 use Rattle.server_rules.specs.declared.server.Server.{Server}
 use Rattle.server_requests.specs.declared.outgoing.Sent.{Sent}
 use Rattle.server_command.specs.Messages.{Handles, InTurn, Round, Rounds, Serving, UntilNone, serving}
@@ -18,20 +19,21 @@ use Rattle.server_command.specs.Files.{Begins, Loses, LosesAll, LosesDrive, Lose
 
 -- ---- where it stops
 
-stops_by : (A B X Y : Type 0) → (A → B) → (X → Y) → (stop : CommandStop) → StopsBy A X stop → StopsBy B Y stop
-stops_by A B X Y f g LinkFault s = f s
-stops_by A B X Y f g (BadCluster kind) s = (s.0, g s.1)
-stops_by A B X Y f g Memory s = tt
-stops_by A B X Y f g ReadFault s = absurd s
-stops_by A B X Y f g WriteFault s = absurd s
-stops_by A B X Y f g Full s = absurd s
+pub stops_by : (A B X Y : Type 0) → (A → B) → (X → Y) → (stop : ServerStop) → StopsBy A X stop → StopsBy B Y stop
+stops_by A B X Y f g (Command LinkFault) s = f s
+stops_by A B X Y f g (Command (BadCluster kind)) s = (s.0, g s.1)
+stops_by A B X Y f g (Command Memory) s = tt
+stops_by A B X Y f g (Command ReadFault) s = absurd s
+stops_by A B X Y f g (Command WriteFault) s = absurd s
+stops_by A B X Y f g (Command Full) s = absurd s
+stops_by A B X Y f g DiskFault s = tt
 
 split_got : {A : Type 0} (xs : List A) (i : ℕ) (x : A) → slice_get xs i ≡ Some x → xs ≡ take i xs ++ x ∷ drop (suc i) xs
 split_got [] i x e = absurd (cc e)
 split_got {A} (y ∷ xs) zero x e = ap (λ (z : A). z ∷ xs) (cc e)
 split_got {A} (y ∷ xs) (suc i) x e = ap (λ (zs : List A). y ∷ zs) (split_got xs i x e)
 
-stops_at : {A : Type 0} (Does : A → Serving → Serving → Type 0) (Stops : A → Serving → Type 0) (xs : List A) (i : ℕ) (x : A) (s u : Serving)
+pub stops_at : {A : Type 0} (Does : A → Serving → Serving → Type 0) (Stops : A → Serving → Type 0) (xs : List A) (i : ℕ) (x : A) (s u : Serving)
     → slice_get xs i ≡ Some x → InTurn Does (take i xs) s u → Stops x u → StopsAt Does Stops xs s
 stops_at Does Stops xs i x s u e does stops = record {
   done = take i xs;
@@ -95,24 +97,24 @@ all_made rounds s server waiting ends h e =
 
 -- ---- why it stopped
 
-pub round_stops : (ms : List Sent) (i : ℕ) (m : Sent) (s u t : Serving) (stop : CommandStop) → slice_get ms i ≡ Some m → InTurn Makes (take i ms) s u
+pub round_stops : (ms : List Sent) (i : ℕ) (m : Sent) (s u t : Serving) (stop : ServerStop) → slice_get ms i ≡ Some m → InTurn Makes (take i ms) s u
     → StopsBy (Loses m u t) ⊥ stop → StopsBy (LosesIn ms s t) ⊥ stop
 round_stops ms i m s u t stop e made h =
     stops_by (Loses m u t) (LosesIn ms s t) ⊥ ⊥ (λ l. stops_at Makes (λ n v. Loses n v t) ms i m s u e made l) (λ x. x) stop h
 
-pub all_stops : (rounds : ℕ) (s u : Serving) (waiting ms rest : List Sent) (server : Server) (ends : Ends) (stop : CommandStop) → Rounds Makes rounds s u
+pub all_stops : (rounds : ℕ) (s u : Serving) (waiting ms rest : List Sent) (server : Server) (ends : Ends) (stop : ServerStop) → Rounds Makes rounds s u
     → ms ≡ u.waiting → rest ≡ [] → StopsBy (LosesIn ms (record u { waiting = rest }) (serving server waiting true ends)) ⊥ stop
     → StopsBy (LosesAll s server ends) ⊥ stop
 all_stops rounds s u waiting ms rest server ends stop made e f h =
     stops_by (LosesIn ms (record u { waiting = rest }) (serving server waiting true ends)) (LosesAll s server ends) ⊥ ⊥
     (λ l. (rounds, u, made, waiting, loses_from u (serving server waiting true ends) ms rest e f l)) (λ x. x) stop h
 
-pub file_stops : (file : ClusterFile) (s u : Serving) (server : Server) (ends : Ends) (stop : CommandStop) → Begins file s u
+pub file_stops : (file : ClusterFile) (s u : Serving) (server : Server) (ends : Ends) (stop : ServerStop) → Begins file s u
     → StopsBy (LosesAll u server ends) ⊥ stop → StopsBy (LosesFile file s server ends) (RefusesFile file s.server) stop
 file_stops file s u server ends stop begins h =
     stops_by (LosesAll u server ends) (LosesFile file s server ends) ⊥ (RefusesFile file s.server) (λ l. (u, begins, l)) (λ x. absurd x) stop h
 
-pub files_stop : (files : List ClusterFile) (i : ℕ) (f : ClusterFile) (s u : Serving) (server : Server) (ends : Ends) (stop : CommandStop)
+pub files_stop : (files : List ClusterFile) (i : ℕ) (f : ClusterFile) (s u : Serving) (server : Server) (ends : Ends) (stop : ServerStop)
     → slice_get files i ≡ Some f → InTurn MakesFile (take i files) s u → StopsBy (LosesFile f u server ends) (RefusesFile f u.server) stop
     → StopsBy (LosesFiles files s server ends) (RefusesFiles files s) stop
 files_stop files i f s u server ends stop e made h =

@@ -1,5 +1,5 @@
 -- Why the command stops.
-use Rattle.std.proofs.Common.{◌≡◌, ℕ, List, Option, Ok, true, [], subst, inr}
+use Rattle.std.proofs.Common.{◌≡◌, ℕ, List, Option, Ok, true, [], subst, inl, inr}
 use Rattle.cluster_text.specs.declared.cluster.Cluster.{Cluster}
 use Rattle.cluster_text.specs.declared.cluster.ClusterFile.{ClusterFile}
 use Rattle.cluster_text.specs.declared.cluster.Reader.TheVariants.{Server as ServerReads}
@@ -10,9 +10,11 @@ use Rattle.osd_bytes.specs.Asking.{Ends}
 use Rattle.server_rules.specs.declared.server.Server.{Server}
 use Rattle.server_command.specs.Messages.{serving}
 use Rattle.server_command.specs.Drives.{server_in}
-use Rattle.server_command.specs.Files.{MakesFiles}
+use Rattle.server_command.specs.Files.{LosesFiles, MakesFiles, RefusesFiles, StopsBy}
+use Rattle.server_command.specs.declared.server_stop.ServerStop.{ServerStop}
+use Rattle.server_command.specs.declared.server_stop.ServerStop.TheVariants.{Command}
 use Rattle.cluster_text.specs.Outside.{Streams}
-use Rattle.server_command.specs.Ends.{HasMade, StopsIn, StopsServer, StopsServing}
+use Rattle.server_command.specs.Ends.{HasMade, StopsCore, StopsIn, StopsServer, StopsServing}
 use Rattle.server_command.proofs.Described.{sound}
 use Rattle.server_command.proofs.Refusing.{is_served}
 use Rattle.server_command.proofs.Rising.{makes_files, rises}
@@ -42,7 +44,8 @@ module _ (connections : ℕ) (cluster : Cluster) (before now : Ends) (taken_befo
           has_made = has;
           last = last;
           refused = s.1;
-          rose = rises connections made last before between now (makes_files cluster.files (serving has.first [] true before) (serving made [] true between) has.makes) s.1;
+          rose = rises connections made last before between now
+              (makes_files cluster.files (serving has.first [] true before) (serving made [] true between) has.makes) s.1;
         },
         s.0,
       ))
@@ -50,6 +53,39 @@ module _ (connections : ℕ) (cluster : Cluster) (before now : Ends) (taken_befo
   serving_in (BadCluster kind) made last between has s = absurd s
   serving_in ReadFault made last between has s = absurd s
   serving_in Full made last between has s = absurd s
+
+  -- the same, where the server has no disk
+  pub serving_in_memory : (told : ServerStop) (stop : CommandStop) (made last : Server) (between : Ends) → told ≡ Command stop
+      → HasMade cluster before made between
+      → StopsCore connections made last between now taken_before taken failed_before failed told
+      → StopsIn connections cluster before now taken_before taken failed_before failed stop
+  serving_in_memory told stop made last between is has s = serving_in stop made last between has
+      (subst (λ (x : ServerStop). StopsCore connections made last between now taken_before taken failed_before failed x) is s)
+
+  -- the files weren't made
+  making_in : (stop : CommandStop) (first last : Server) → server_in cluster ≡ Ok first → taken ≡ taken_before
+      → StopsBy (LosesFiles cluster.files (serving first [] true before) last now) (RefusesFiles cluster.files (serving first [] true before)) (Command stop)
+      → StopsIn connections cluster before now taken_before taken failed_before failed stop
+  making_in WriteFault first last is same s = absurd s
+  making_in LinkFault first last is same s = inr (inl ((first, is, last, s), same))
+  making_in Memory first last is same s = inl same
+  making_in (BadCluster kind) first last is same s = inr (s.0, first, is, s.1)
+  making_in ReadFault first last is same s = absurd s
+  making_in Full first last is same s = absurd s
+
+  -- why they weren't
+  abbrev StopsMaking : (first last : Server) → List ClusterFile → (begun : Ends) → ServerStop → Type 0
+  StopsMaking first last files begun told =
+      StopsBy (LosesFiles files (serving first [] true begun) last now) (RefusesFiles files (serving first [] true begun)) told
+
+  pub making_in_memory : (told : ServerStop) (stop : CommandStop) (first last : Server) (settled : Ends) (files : List ClusterFile)
+      → told ≡ Command stop → settled ≡ before → files ≡ cluster.files → server_in cluster ≡ Ok first → taken ≡ taken_before
+      → StopsBy (LosesFiles files (serving first [] true settled) last now) (RefusesFiles files (serving first [] true settled)) told
+      → StopsIn connections cluster before now taken_before taken failed_before failed stop
+  making_in_memory told stop first last settled files is e f known same s = making_in stop first last known same
+      (subst (λ (x : ServerStop). StopsMaking first last cluster.files before x) is
+      (subst (λ (x : Ends). StopsMaking first last cluster.files x told) e
+      (subst (λ (fs : List ClusterFile). StopsMaking first last fs settled told) f s)))
 
 -- ---- the command
 

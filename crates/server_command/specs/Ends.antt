@@ -13,6 +13,8 @@ use Rattle.cluster_text.specs.declared.stop.CommandStop.TheVariants.{BadCluster,
 use Rattle.cluster_text.specs.declared.stop.CommandStop.TheVariants.{Full, LinkFault}
 use Rattle.osd_bytes.specs.Asking.{Ends}
 use Rattle.server_rules.specs.declared.server.Server.{Server}
+use Rattle.server_command.specs.declared.server_stop.ServerStop.{ServerStop}
+use Rattle.server_command.specs.declared.server_stop.ServerStop.TheVariants.{Command, DiskFault}
 use Rattle.server_command.specs.Messages.{serving}
 use Rattle.server_command.specs.Connections.{IsRefused, ServesAll}
 use Rattle.server_command.specs.Drives.{server_in}
@@ -49,6 +51,14 @@ StopsServing connections old new before now taken_before taken failed_before fai
     Appends taken_before taken listening_line × IsRefused connections old new before now
 StopsServing connections old new before now taken_before taken failed_before failed Memory = TellsFirst taken_before taken
 StopsServing connections old new before now taken_before taken failed_before failed other = ⊥
+
+-- the same of a server that a disk may keep, which fails only while the server serves
+abbrev pub StopsCore : (connections : ℕ) → (old new : Server) → (before now : Ends)
+    → (taken_before taken : Option (List ℕ)) → (failed_before failed : ℕ) → ServerStop → Type 0
+StopsCore connections old new before now taken_before taken failed_before failed (Command stop) =
+    StopsServing connections old new before now taken_before taken failed_before failed stop
+StopsCore connections old new before now taken_before taken failed_before failed DiskFault =
+    Appends taken_before taken listening_line
 
 -- ---- as the server of a cluster
 

@@ -6,7 +6,6 @@ use Rattle.osd_lists.specs.declared.node.Node.TheVariants.{Server as TheServer, 
 use Rattle.data_map.specs.Check.{HasAlgorithm}
 use Rattle.cluster_text.specs.declared.cluster.ClusterFile.{ClusterFile}
 use Rattle.cluster_text.specs.declared.errors.ClusterKind.TheVariants.{Range}
-use Rattle.cluster_text.specs.declared.stop.CommandStop.{CommandStop}
 use Rattle.cluster_text.specs.declared.stop.CommandStop.TheVariants.{BadCluster, LinkFault, Memory}
 use Rattle.server_rules.specs.declared.server.Refusal.{Refusal}
 use Rattle.server_rules.specs.declared.server.Server.{Server}
@@ -19,6 +18,8 @@ use Rattle.server_command.specs.Notes.{note_texts}
 use Rattle.server_command.specs.Messages.{AsksDrive, InTurn, Rounds, Serving, UntilNone, serving}
 use Rattle.server_command.specs.Faults.{fault_line}
 use Rattle.server_command.specs.declared.files.TheConstants.{FIRST_TAG}
+use Rattle.server_command.specs.declared.server_stop.ServerStop.{ServerStop}
+use Rattle.server_command.specs.declared.server_stop.ServerStop.TheVariants.{Command, DiskFault}
 
 -- ---- where it stops
 
@@ -33,12 +34,14 @@ pub record StopsAt {A : Type 0} (Does : A → Serving → Serving → Type 0) (S
   pub does : InTurn Does done s before
   pub stops : Stops next before
 
--- why: a drive gave no record or holds an object already, the server refused a file, or there was no memory
-abbrev pub StopsBy : (lost refused : Type 0) → CommandStop → Type 0
-StopsBy lost refused LinkFault = lost
-StopsBy lost refused (BadCluster kind) = (kind ≡ Range) × refused
-StopsBy lost refused Memory = ⊤
-StopsBy lost refused other = ⊥
+-- why: a drive gave no record or holds an object already, the server refused a file, there was no memory, or the disk that
+-- keeps the server failed
+abbrev pub StopsBy : (lost refused : Type 0) → ServerStop → Type 0
+StopsBy lost refused (Command LinkFault) = lost
+StopsBy lost refused (Command (BadCluster kind)) = (kind ≡ Range) × refused
+StopsBy lost refused (Command Memory) = ⊤
+StopsBy lost refused (Command other) = ⊥
+StopsBy lost refused DiskFault = ⊤
 
 -- ---- commands to drives
 

@@ -5,3 +5,7 @@ pub mod Connections
 pub mod Drives
 pub mod Faults
 pub mod Files
+pub mod Steps
+pub mod Kept
+pub mod GoesOn
+pub mod ServerStops

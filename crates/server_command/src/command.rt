@@ -4,7 +4,8 @@ ghost use Rattle.server_command.specs.Ends.{EndsServer, ServesAs, ServesIn, Stop
 
 use crate::drives::server_of;
 use crate::files::make_files;
-use crate::service::serve_core;
+use crate::server_stop::without_disk;
+use crate::service::serve_told;
 use cluster_text::{Cluster, CommandStop, Reader, cluster_from, put_stop, settle_at};
 use osd_bytes::{Clock, Links, Sink, Source};
 use osd_lists::Memory;
@@ -47,11 +48,11 @@ fn serve_in<K: Sink, L: Links, C: Clock, P: Place>(
         cluster.files.as_slice(),
     ) {
         Ok(()) => {}
-        Err(stop) => return Err(stop),
+        Err(stop) => return Err(without_disk(stop)),
     }
-    match serve_core(alloc, &mut core, connections, sink, links, clock, placer) {
+    match serve_told(alloc, &mut core, connections, sink, links, clock, placer) {
         Ok(()) => Ok(()),
-        Err(stop) => Err(stop),
+        Err(stop) => Err(without_disk(stop)),
     }
 }
 

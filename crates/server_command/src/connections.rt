@@ -1,60 +1,76 @@
 // The records of a connection, and one connection after the other.
-ghost use Rattle.std.specs.Prelude.{◌≡◌, [], IfOk, IsErrOf, OnOk};
+ghost use Rattle.std.specs.Prelude.{◌≡◌, [], false, IfOk, IsErrOf, OnOk};
 ghost use Rattle.cluster_text.specs.Outside.{network_at};
-ghost use Rattle.osd_bytes.specs.declared.serve_err.ServeErr.TheVariants.{LinkFault};
+ghost use Rattle.server_command.specs.GoesOn.{Goes};
+ghost use Rattle.server_command.specs.declared.metadata_server.StepErr.TheVariants.{DiskFault};
+ghost use Rattle.server_command.specs.declared.serve_err.ServerServeErr.TheVariants as stops;
 ghost use Rattle.server_command.specs.Messages.{InTurn, ServesRecord, serving};
 ghost use Rattle.server_command.specs.Connections.{IsRefused, ServesAll, ServesConnection, ServesStream};
 
 use crate::messages::work_all;
+use crate::metadata_server::{MetadataServer, StepErr};
 use crate::records::{handle, sender_of};
-use layout_server::ServerCore;
-use osd_bytes::{Clock, Inbox, Links, ServeErr};
-use osd_lists::{ByteLists, Memory};
+use crate::serve_err::ServerServeErr;
+use osd_bytes::{Clock, Inbox, Links};
+use osd_lists::ByteLists;
 use std::alloc::Global;
 use stripe_repair::Place;
 
 // Handles a record of the accepted connection, and sends all that it brings. Gives whether the connection stands after
 // that: it took whole what was put on it.
-fn serve_record<L: Links, C: Clock, P: Place>(
+fn serve_record<H: MetadataServer, L: Links, C: Clock, P: Place>(
     alloc: Global,
-    core: &mut ServerCore,
+    server: &mut H,
     links: &mut L,
     clock: &mut C,
     placer: &P,
     message: &[u8],
     puts: bool,
-) -> Result<bool, Memory>
+) -> Result<bool, StepErr>
+    requires goes_on { H.is_over server.old ≡ false }
     requires placer { P.is_placer placer.now }
-    ensures { IfOk result (λ still. ServesRecord message.now
-        (serving core.old [] puts (network_at L.Links C.Clock links.old clock.old))
-        (serving core.new [] still (network_at L.Links C.Clock links.new clock.new))) }
+    ensures serves { IfOk result (λ still. ServesRecord message.now
+        (serving (H.server server.old) [] puts (network_at L.Links C.Clock links.old clock.old))
+        (serving (H.server server.new) [] still (network_at L.Links C.Clock links.new clock.new))) }
+    ensures goes { Goes H.MetadataServer DiskFault server.old server.new result }
 {
     let sender = sender_of(alloc, message)?;
-    let sends = handle(alloc, core, links, clock, placer, sender, message)?;
-    let still = work_all(alloc, core, links, clock, placer, Some(sender), sends, puts)?;
+    let sends = handle(alloc, server, links, clock, placer, sender, message)?;
+    let still = work_all(
+        alloc,
+        server,
+        links,
+        clock,
+        placer,
+        Some(sender),
+        sends,
+        puts,
+    )?;
     Ok(still)
 }
 
 // Serves these records in order. Gives whether the connection stands after them.
-fn serve_records<L: Links, C: Clock, P: Place>(
+fn serve_records<H: MetadataServer, L: Links, C: Clock, P: Place>(
     alloc: Global,
-    core: &mut ServerCore,
+    server: &mut H,
     links: &mut L,
     clock: &mut C,
     placer: &P,
     records: &ByteLists,
     puts: bool,
-) -> Result<bool, Memory>
+) -> Result<bool, StepErr>
+    requires goes_on { H.is_over server.old ≡ false }
     requires placer { P.is_placer placer.now }
-    ensures { IfOk result (λ still. InTurn ServesRecord records.now
-        (serving core.old [] puts (network_at L.Links C.Clock links.old clock.old))
-        (serving core.new [] still (network_at L.Links C.Clock links.new clock.new))) }
+    ensures serves { IfOk result (λ still. InTurn ServesRecord records.now
+        (serving (H.server server.old) [] puts (network_at L.Links C.Clock links.old clock.old))
+        (serving (H.server server.new) [] still (network_at L.Links C.Clock links.new clock.new))) }
+    ensures goes { Goes H.MetadataServer DiskFault server.old server.new result }
 {
     let mut stands = puts;
     for i in 0..records.len() {
         stands = serve_record(
             alloc,
-            core,
+            server,
             links,
             clock,
             placer,
@@ -66,18 +82,20 @@ fn serve_records<L: Links, C: Clock, P: Place>(
 }
 
 // Serves the records that come on the accepted connection.
-fn serve_stream<L: Links, C: Clock, P: Place>(
+fn serve_stream<H: MetadataServer, L: Links, C: Clock, P: Place>(
     alloc: Global,
-    core: &mut ServerCore,
+    server: &mut H,
     links: &mut L,
     clock: &mut C,
     placer: &P,
     puts: bool,
-) -> Result<(), Memory>
+) -> Result<(), StepErr>
+    requires goes_on { H.is_over server.old ≡ false }
     requires placer { P.is_placer placer.now }
-    ensures { OnOk result (ServesStream
-        (serving core.old [] puts (network_at L.Links C.Clock links.old clock.old)) core.new
+    ensures serves { OnOk result (ServesStream
+        (serving (H.server server.old) [] puts (network_at L.Links C.Clock links.old clock.old)) (H.server server.new)
         (network_at L.Links C.Clock links.new clock.new)) }
+    ensures goes { Goes H.MetadataServer DiskFault server.old server.new result }
 {
     let mut inbox = Inbox::new(alloc);
     let mut stands = puts;
@@ -85,27 +103,29 @@ fn serve_stream<L: Links, C: Clock, P: Place>(
         match inbox.more(links)? {
             None => return Ok(()),
             Some(records) => {
-                stands = serve_records(alloc, core, links, clock, placer, &records, stands)?;
+                stands = serve_records(alloc, server, links, clock, placer, &records, stands)?;
             }
         }
     }
 }
 
 // Serves the connection that was accepted.
-fn serve_connection<L: Links, C: Clock, P: Place>(
+fn serve_connection<H: MetadataServer, L: Links, C: Clock, P: Place>(
     alloc: Global,
-    core: &mut ServerCore,
+    server: &mut H,
     links: &mut L,
     clock: &mut C,
     placer: &P,
-) -> Result<(), Memory>
+) -> Result<(), StepErr>
+    requires goes_on { H.is_over server.old ≡ false }
     requires placer { P.is_placer placer.now }
-    ensures { OnOk result (ServesConnection core.old core.new
+    ensures serves { OnOk result (ServesConnection (H.server server.old) (H.server server.new)
         (network_at L.Links C.Clock links.old clock.old) (network_at L.Links C.Clock links.new clock.new)) }
+    ensures goes { Goes H.MetadataServer DiskFault server.old server.new result }
 {
-    let sends = core.resend()?;
-    let stands = work_all(alloc, core, links, clock, placer, None, sends, true)?;
-    serve_stream(alloc, core, links, clock, placer, stands)?;
+    let sends = server.resend()?;
+    let stands = work_all(alloc, server, links, clock, placer, None, sends, true)?;
+    serve_stream(alloc, server, links, clock, placer, stands)?;
     Ok(())
 }
 
@@ -120,26 +140,29 @@ fn serve_connection<L: Links, C: Clock, P: Place>(
 ///
 /// # Errors
 ///
-/// [`ServeErr::LinkFault`] if no further connection could be accepted, after those before it were served whole;
-/// [`ServeErr::Memory`], after which nothing may be left of the server.
-pub fn serve<L: Links, C: Clock, P: Place>(
+/// [`ServerServeErr::LinkFault`] if no further connection could be accepted, after those before it were served whole;
+/// [`ServerServeErr::DiskFault`] only if the count of faults of the disk that keeps the server rose;
+/// [`ServerServeErr::Memory`], after which nothing may be left of a server that no disk keeps.
+pub fn serve<H: MetadataServer, L: Links, C: Clock, P: Place>(
     alloc: Global,
-    core: &mut ServerCore,
+    server: &mut H,
     links: &mut L,
     clock: &mut C,
     placer: &P,
     connections: u32,
-) -> Result<(), ServeErr>
+) -> Result<(), ServerServeErr>
+    requires goes_on { H.is_over server.old ≡ false }
     requires placer { P.is_placer placer.now }
-    ensures served { OnOk result (ServesAll connections core.old core.new
+    ensures served { OnOk result (ServesAll connections (H.server server.old) (H.server server.new)
         (network_at L.Links C.Clock links.old clock.old) (network_at L.Links C.Clock links.new clock.new)) }
-    ensures refused { IsErrOf result LinkFault → IsRefused connections core.old core.new
+    ensures refused { IsErrOf result stops.LinkFault → IsRefused connections (H.server server.old) (H.server server.new)
         (network_at L.Links C.Clock links.old clock.old) (network_at L.Links C.Clock links.new clock.new) }
+    ensures goes { Goes H.MetadataServer stops.DiskFault server.old server.new result }
 {
     let mut served = 0;
     while served < connections {
         links.accept()?;
-        serve_connection(alloc, core, links, clock, placer)?;
+        serve_connection(alloc, server, links, clock, placer)?;
         served += 1;
     }
     Ok(())

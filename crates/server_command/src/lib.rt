@@ -8,6 +8,8 @@
 //! the links, and what it gives to send is worked at once: a command goes to its drive in an exchange, whose record is
 //! handled too; what is for who sent the record is put on the accepted connection; a message to any other client is
 //! lost.
+//!
+//! Serving and the making of files are over a [`MetadataServer`]: a server in memory, or one that a disk keeps.
 #![tactic(auto)]
 
 mod command;
@@ -17,13 +19,21 @@ mod drives;
 mod faults;
 mod files;
 mod messages;
+mod metadata_server;
 mod notes;
 mod records;
+mod serve_err;
+mod server_stop;
 mod service;
 
 pub use command::server_command;
 pub use connections::serve;
 pub use drives::server_of;
-pub use files::{FIRST_TAG, make_files};
+pub use files::{FIRST_TAG, make_file, make_files};
+pub use messages::work_all;
+pub use metadata_server::{MakeErr, MetadataServer, StepErr};
 pub use notes::tell_notes;
 pub use records::hear_drive;
+pub use serve_err::ServerServeErr;
+pub use server_stop::ServerStop;
+pub use service::serve_told;

@@ -1,13 +1,16 @@
 // The messages that a server has to send, one after the other.
-ghost use Rattle.std.specs.Prelude.{◌≡◌, [], ℕ, List, Option, IfOk};
+ghost use Rattle.std.specs.Prelude.{◌≡◌, [], ℕ, false, List, Option, IfOk};
 ghost use Rattle.cluster_text.specs.Outside.{network_at};
 ghost use Rattle.osd_bytes.specs.Asking.{ends_of};
 ghost use Rattle.server_rules.specs.declared.server.Server.{Server};
 ghost use Rattle.server_requests.specs.declared.outgoing.Sent.{Sent};
+ghost use Rattle.server_command.specs.GoesOn.{Goes};
+ghost use Rattle.server_command.specs.declared.metadata_server.StepErr.TheVariants.{DiskFault};
 ghost use Rattle.server_command.specs.Messages.{InTurn, PutsIf, Works, WorksAll, is_sender, serving};
 
+use crate::metadata_server::{MetadataServer, StepErr};
 use crate::records::ask_drive;
-use layout_server::{Sends, Sent, ServerCore};
+use layout_server::{Sends, Sent};
 use osd_bytes::{Clock, Links, put_record};
 use osd_lists::{Memory, Node};
 use std::alloc::Global;
@@ -46,9 +49,9 @@ fn put_if<L: Links>(
 }
 
 // Sends one message. Gives whether the accepted connection stands after that.
-fn work<L: Links, C: Clock, P: Place>(
+fn work<H: MetadataServer, L: Links, C: Clock, P: Place>(
     alloc: Global,
-    core: &mut ServerCore,
+    server: &mut H,
     links: &mut L,
     clock: &mut C,
     placer: &P,
@@ -56,16 +59,18 @@ fn work<L: Links, C: Clock, P: Place>(
     sent: &Sent,
     stands: bool,
     waiting: &mut Sends,
-) -> Result<bool, Memory>
+) -> Result<bool, StepErr>
+    requires goes_on { H.is_over server.old ≡ false }
     requires placer { P.is_placer placer.now }
-    ensures { IfOk result (λ still. Works sender sent.now
-        (serving core.old waiting.old stands (network_at L.Links C.Clock links.old clock.old))
-        (serving core.new waiting.new still (network_at L.Links C.Clock links.new clock.new))) }
+    ensures works { IfOk result (λ still. Works sender sent.now
+        (serving (H.server server.old) waiting.old stands (network_at L.Links C.Clock links.old clock.old))
+        (serving (H.server server.new) waiting.new still (network_at L.Links C.Clock links.new clock.new))) }
+    ensures goes { Goes H.MetadataServer DiskFault server.old server.new result }
 {
     let message = sent.bytes.as_slice();
     match sent.to {
         Node::Drive(drive) => {
-            ask_drive(alloc, core, links, clock, placer, drive, message, waiting)?;
+            ask_drive(alloc, server, links, clock, placer, drive, message, waiting)?;
             Ok(stands)
         }
         Node::Server => {
@@ -82,9 +87,9 @@ fn work<L: Links, C: Clock, P: Place>(
 }
 
 // Sends these messages in order. What they bring waits after that.
-fn work_round<L: Links, C: Clock, P: Place>(
+fn work_round<H: MetadataServer, L: Links, C: Clock, P: Place>(
     alloc: Global,
-    core: &mut ServerCore,
+    server: &mut H,
     links: &mut L,
     clock: &mut C,
     placer: &P,
@@ -92,17 +97,19 @@ fn work_round<L: Links, C: Clock, P: Place>(
     round: &Sends,
     puts: bool,
     waiting: &mut Sends,
-) -> Result<bool, Memory>
+) -> Result<bool, StepErr>
+    requires goes_on { H.is_over server.old ≡ false }
     requires placer { P.is_placer placer.now }
-    ensures { IfOk result (λ still. InTurn (Works sender) round.now
-        (serving core.old waiting.old puts (network_at L.Links C.Clock links.old clock.old))
-        (serving core.new waiting.new still (network_at L.Links C.Clock links.new clock.new))) }
+    ensures works { IfOk result (λ still. InTurn (Works sender) round.now
+        (serving (H.server server.old) waiting.old puts (network_at L.Links C.Clock links.old clock.old))
+        (serving (H.server server.new) waiting.new still (network_at L.Links C.Clock links.new clock.new))) }
+    ensures goes { Goes H.MetadataServer DiskFault server.old server.new result }
 {
     let mut stands = puts;
     for i in 0..round.len() {
         stands = work(
             alloc,
-            core,
+            server,
             links,
             clock,
             placer,
@@ -117,20 +124,22 @@ fn work_round<L: Links, C: Clock, P: Place>(
 
 /// Sends these messages in order, and then what they bring, until none waits. Gives whether the accepted connection
 /// stands after that: it took whole what was put on it.
-pub fn work_all<L: Links, C: Clock, P: Place>(
+pub fn work_all<H: MetadataServer, L: Links, C: Clock, P: Place>(
     alloc: Global,
-    core: &mut ServerCore,
+    server: &mut H,
     links: &mut L,
     clock: &mut C,
     placer: &P,
     sender: Option<Node>,
     sends: Sends,
     puts: bool,
-) -> Result<bool, Memory>
+) -> Result<bool, StepErr>
+    requires goes_on { H.is_over server.old ≡ false }
     requires placer { P.is_placer placer.now }
-    ensures { IfOk result (λ still. WorksAll sender
-        (serving core.old sends puts (network_at L.Links C.Clock links.old clock.old))
-        (serving core.new [] still (network_at L.Links C.Clock links.new clock.new))) }
+    ensures works { IfOk result (λ still. WorksAll sender
+        (serving (H.server server.old) sends puts (network_at L.Links C.Clock links.old clock.old))
+        (serving (H.server server.new) [] still (network_at L.Links C.Clock links.new clock.new))) }
+    ensures goes { Goes H.MetadataServer DiskFault server.old server.new result }
 {
     let mut waiting = sends;
     let mut stands = puts;
@@ -139,7 +148,7 @@ pub fn work_all<L: Links, C: Clock, P: Place>(
         let round = mem::replace(&mut waiting, Sends::new(alloc));
         stands = work_round(
             alloc,
-            core,
+            server,
             links,
             clock,
             placer,

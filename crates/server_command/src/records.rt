@@ -1,13 +1,16 @@
 // A record of a node, handed to the server.
-ghost use Rattle.std.specs.Prelude.{◌≡◌, ◌++◌, Bool, List, IfOk, OnOk};
+ghost use Rattle.std.specs.Prelude.{◌≡◌, ◌++◌, Bool, false, List, IfOk, OnOk};
 ghost use Rattle.cluster_text.specs.Outside.{network_at};
 ghost use Rattle.osd_lists.specs.declared.node.Node.TheVariants.{Drive};
 ghost use Rattle.server_requests.specs.declared.outgoing.Sent.{Sent};
+ghost use Rattle.server_command.specs.GoesOn.{Goes};
+ghost use Rattle.server_command.specs.declared.metadata_server.StepErr.TheVariants.{DiskFault};
 ghost use Rattle.server_command.specs.Messages.{AsksDrive, Handles, sender_of, serving};
 
+use crate::metadata_server::{MetadataServer, StepErr};
 use crate::notes::tell_notes;
 use layout_ops::{Envelope, OpErr, read_envelope};
-use layout_server::{Sends, Sent, ServerCore, Step};
+use layout_server::{Sends, Sent, Step};
 use osd_bytes::{Clock, Links, asked};
 use osd_lists::{Bytes, Memory, Node};
 use std::alloc::Global;
@@ -32,24 +35,26 @@ pub fn sender_of(alloc: Global, message: &[u8]) -> Result<Node, Memory>
 ///
 /// # Errors
 ///
-/// Want of memory alone. Then nothing is left of the server.
-pub fn handle<L: Links, C: Clock, P: Place>(
+/// [`StepErr::DiskFault`] only if the count of faults rose, and [`StepErr::Memory`]. Then the server takes no more.
+pub fn handle<H: MetadataServer, L: Links, C: Clock, P: Place>(
     alloc: Global,
-    core: &mut ServerCore,
+    server: &mut H,
     links: &mut L,
     clock: &mut C,
     placer: &P,
     from: Node,
     message: &[u8],
-) -> Result<Sends, Memory>
+) -> Result<Sends, StepErr>
+    requires goes_on { H.is_over server.old ≡ false }
     requires placer { P.is_placer placer.now }
-    ensures { IfOk result (λ sends. (waiting : List Sent) (stands : Bool) → Handles from message.now
-        (serving core.old waiting stands (network_at L.Links C.Clock links.old clock.old))
-        (serving core.new (waiting ++ sends) stands
+    ensures handles { IfOk result (λ sends. (waiting : List Sent) (stands : Bool) → Handles from message.now
+        (serving (H.server server.old) waiting stands (network_at L.Links C.Clock links.old clock.old))
+        (serving (H.server server.new) (waiting ++ sends) stands
         (network_at L.Links C.Clock links.new clock.new))) }
+    ensures goes { Goes H.MetadataServer DiskFault server.old server.new result }
 {
     let now = clock.now();
-    let Step { sends, notes, .. } = core.on_message(now, from, message, placer)?;
+    let Step { sends, notes, .. } = server.on_message(now, from, message, placer)?;
     tell_notes(alloc, links, notes)?;
     Ok(sends)
 }
@@ -67,48 +72,60 @@ fn push_all(alloc: Global, waiting: &mut Sends, more: &[Sent]) -> Result<(), Mem
 
 /// Hands the record that came of a drive to the server, and tells what the server notes then. What that gives to send
 /// waits behind all other messages.
-pub fn hear_drive<L: Links, C: Clock, P: Place>(
+pub fn hear_drive<H: MetadataServer, L: Links, C: Clock, P: Place>(
     alloc: Global,
-    core: &mut ServerCore,
+    server: &mut H,
     links: &mut L,
     clock: &mut C,
     placer: &P,
     drive: u32,
     reply: &[u8],
     waiting: &mut Sends,
-) -> Result<(), Memory>
+) -> Result<(), StepErr>
+    requires goes_on { H.is_over server.old ≡ false }
     requires placer { P.is_placer placer.now }
-    ensures { OnOk result ((stands : Bool) → Handles (Drive drive) reply.now
-        (serving core.old waiting.old stands (network_at L.Links C.Clock links.old clock.old))
-        (serving core.new waiting.new stands (network_at L.Links C.Clock links.new clock.new))) }
+    ensures hears { OnOk result ((stands : Bool) → Handles (Drive drive) reply.now
+        (serving (H.server server.old) waiting.old stands (network_at L.Links C.Clock links.old clock.old))
+        (serving (H.server server.new) waiting.new stands (network_at L.Links C.Clock links.new clock.new))) }
+    ensures goes { Goes H.MetadataServer DiskFault server.old server.new result }
 {
-    let sends = handle(alloc, core, links, clock, placer, Node::Drive(drive), reply)?;
+    let sends = handle(
+        alloc,
+        server,
+        links,
+        clock,
+        placer,
+        Node::Drive(drive),
+        reply,
+    )?;
     push_all(alloc, waiting, sends.as_slice())?;
     Ok(())
 }
 
 /// Sends a message to a drive in an exchange, and hands the record that comes, if any, to the server. What that gives to
 /// send waits behind all other messages.
-pub fn ask_drive<L: Links, C: Clock, P: Place>(
+pub fn ask_drive<H: MetadataServer, L: Links, C: Clock, P: Place>(
     alloc: Global,
-    core: &mut ServerCore,
+    server: &mut H,
     links: &mut L,
     clock: &mut C,
     placer: &P,
     drive: u32,
     message: &[u8],
     waiting: &mut Sends,
-) -> Result<(), Memory>
+) -> Result<(), StepErr>
+    requires goes_on { H.is_over server.old ≡ false }
     requires placer { P.is_placer placer.now }
-    ensures { OnOk result ((stands : Bool) → AsksDrive drive message.now
-        (serving core.old waiting.old stands (network_at L.Links C.Clock links.old clock.old))
-        (serving core.new waiting.new stands (network_at L.Links C.Clock links.new clock.new))) }
+    ensures asks { OnOk result ((stands : Bool) → AsksDrive drive message.now
+        (serving (H.server server.old) waiting.old stands (network_at L.Links C.Clock links.old clock.old))
+        (serving (H.server server.new) waiting.new stands (network_at L.Links C.Clock links.new clock.new))) }
+    ensures goes { Goes H.MetadataServer DiskFault server.old server.new result }
 {
     match asked(alloc, links, Node::Drive(drive), message)? {
         Some(reply) => {
             hear_drive(
                 alloc,
-                core,
+                server,
                 links,
                 clock,
                 placer,

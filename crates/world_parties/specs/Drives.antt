@@ -1,5 +1,5 @@
 -- The drives by number: what the world does with a named one.
-use Rattle.std.specs.Prelude.{ℕ, List, ◌≡◌, Option, Some, None, Result, if◌then◌else◌}
+use Rattle.std.specs.Prelude.{ℕ, List, ◌≡◌, ◌⊎◌, Option, Some, None, Result, if◌then◌else◌}
 use Rattle.osd_commands.specs.declared.commands.Command.{Command}
 use Rattle.osd_commands.specs.declared.commands.CommandErr.{CommandErr}
 use Rattle.osd_commands.specs.Replies as replies
@@ -26,6 +26,10 @@ changed_if t d becomes (Some a) = with_number t d (becomes a)
 
 abbrev pub changed : Table → (drive : ℕ) → (DriveAt → DriveAt) → Table
 changed t d becomes = changed_if t d becomes (at_number t d)
+
+-- nothing changed, or the drives are these
+abbrev pub StaysOrDoes : (after old new : Table) → Type 0
+StaysOrDoes after old new = (new ≡ old) ⊎ (new ≡ after)
 
 -- ---- a message
 

@@ -1,4 +1,5 @@
 pub mod Drive
+pub mod Backing
 pub mod Drives
 pub mod DriveLaws
 pub mod Posting

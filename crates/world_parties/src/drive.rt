@@ -1,61 +1,41 @@
-ghost use Rattle.std.specs.Prelude.{◌≡◌, ◌∷◌, [], length, IsTrue, Ok, IfOk, OnOk, OnErr};
-ghost use Rattle.osd_commands.specs.Commands.{reading, allows};
-ghost use Rattle.world_history.specs.Drives.{judges, first_key, made_drive, raised, at_time, fallen, crashed, reopened, is_deaf};
-ghost use Rattle.world_parties.specs.Drive.{Judges};
+ghost use Rattle.std.specs.Prelude.{◌≡◌, IfOk, OnOk, OnErr};
+ghost use Rattle.osd_commands.specs.Commands.{reading};
+ghost use Rattle.world_history.specs.Drives.{judges, made_drive, raised, at_time, fallen, crashed, reopened, is_deaf};
+ghost use Rattle.world_parties.specs.Drive.{Judges, LeavesEither};
 
-use osd_commands::{Command, CommandErr, Reply, read_command};
-use osd_drive::{DriveCore, DriveKey, KeyTable, Verdict as DriveVerdict};
+use crate::backing::{Backing, DriveMake, crash, new_backing, wake};
+use crate::judging::{Judged, empty, judge, raise_least};
 use osd_lists::Memory;
-use scenario_text::Verdict;
-use server_rules::KEY_VERSION;
 use std::alloc::Global;
 use std::marker::Model;
-use world_network::told_verdict;
 
-/// A drive of a world and its clock in seconds. One that failed has lost its objects, and is deaf. One that is stored can
-/// crash: then it is down, and deaf, and keeps all that it has.
+/// A drive of a world and its clock in seconds. One that failed has lost its objects, and is deaf. One that is stored has a
+/// store on a disk in memory. It can crash: then it is down, and deaf, and its disk is all that it has, until the store is
+/// opened again.
 #[derive(Drop)]
 pub struct WorldDrive {
-    core: DriveCore,
-    number: u32,
-    key: [u8; 20],
-    capacity: u64,
+    backing: Backing,
+    made: DriveMake,
     clock: u64,
     failed: bool,
-    stored: bool,
     down: bool,
 }
 
 impl Model for WorldDrive {
     ghost use Rattle.world_history.specs.State.{DriveAt};
-    ghost use Rattle.world_parties.specs.Drive.{IsMadeOf};
+    ghost use Rattle.world_parties.specs.Backing.{Stands, state_in};
 
     ghost Value = { DriveAt };
 
-    ghost view = { λ d. record { state = d.core; clock = d.clock; failed = d.failed; stored = d.stored; down = d.down } };
+    ghost view = { λ d. record {
+      state = state_in d.made d.backing;
+      clock = d.clock;
+      failed = d.failed;
+      stored = d.made.stored;
+      down = d.down;
+    } };
 
-    ghost invariant = { λ d. IsMadeOf d.number d.key d.capacity d.core };
-}
-
-/// What a drive made of bytes.
-#[derive(Drop)]
-pub struct Judged {
-    /// The first fault, or `Perform`; `Format` where the bytes spell no command.
-    pub verdict: Verdict,
-    /// What it replies.
-    pub reply: Reply,
-}
-
-// The keys of a drive: the one that it shares with the server.
-fn keys_of(alloc: Global, key: [u8; 20]) -> Result<KeyTable, Memory>
-    ensures { IfOk result (λ keys. keys ≡ first_key key ∷ []) }
-{
-    let mut keys = KeyTable::new(alloc);
-    keys.push(DriveKey {
-        version: KEY_VERSION,
-        key,
-    })?;
-    Ok(keys)
+    ghost invariant = { λ d. Stands d.made d.backing };
 }
 
 impl WorldDrive {
@@ -70,15 +50,18 @@ impl WorldDrive {
     ) -> Result<Self, Memory>
         ensures { IfOk result (λ drive. drive ≡ made_drive number key capacity stored) }
     {
-        let keys = keys_of(alloc, key)?;
-        Ok(WorldDrive {
-            core: DriveCore::new(alloc, number, keys, capacity),
+        let made = DriveMake {
             number,
             key,
             capacity,
+            stored,
+        };
+        let backing = new_backing(alloc, made)?;
+        Ok(WorldDrive {
+            backing,
+            made,
             clock: 0,
             failed: false,
-            stored,
             down: false,
         })
     }
@@ -94,7 +77,7 @@ impl WorldDrive {
     pub fn is_stored(&self) -> bool
         ensures { result ≡ self.now.stored }
     {
-        self.stored
+        self.made.stored
     }
 
     /// Whether it crashed and wasn't opened again.
@@ -111,66 +94,33 @@ impl WorldDrive {
         self.failed || self.down
     }
 
-    // What it makes of the command that the bytes spell.
-    #[tactic(auto, unfolding(world_history::specs::Drives::judges))]
-    fn judge_command(
-        &mut self,
-        alloc: Global,
-        command: &Command,
-        bytes: &[u8],
-    ) -> Result<Judged, Memory>
-        requires read { reading bytes.now ≡ Ok command.now }
-        requires sized { IsTrue (allows command.now.action command.now.length (length command.now.payload)) }
-        ensures judged { IfOk result (λ told. Judges (judges self.old (Ok command.now)) self.new told) }
-        ensures err { OnErr result (self.new ≡ self.old) }
-    {
-        match self.core.judge(self.clock, command) {
-            DriveVerdict::Perform => {
-                let reply = self.core.perform(alloc, command)?;
-                Ok(Judged {
-                    verdict: Verdict::Perform,
-                    reply,
-                })
-            }
-            verdict => {
-                let reply = self.core.handle(alloc, self.clock, bytes)?;
-                Ok(Judged {
-                    verdict: told_verdict(verdict),
-                    reply,
-                })
-            }
-        }
-    }
-
     /// Judges bytes as a command, performs it where nothing stands against it, and says the verdict and the
     /// reply. A drive that is deaf would do the same: who delivers a message looks at that first.
     ///
     /// # Errors
     ///
-    /// Want of memory alone; then nothing changes.
+    /// Want of memory alone. Then nothing changed; or a drive that is stored performed the command and has no answer, since
+    /// its disk wanted memory. From then on it wants memory for whatever is asked.
     #[tactic(auto, unfolding(world_history::specs::Drives::judges))]
     pub fn judge(&mut self, alloc: Global, bytes: &[u8]) -> Result<Judged, Memory>
         ensures judged { IfOk result (λ told. Judges (judges self.old (reading bytes.now)) self.new told) }
-        ensures err { OnErr result (self.new ≡ self.old) }
+        ensures err { OnErr result (LeavesEither self.old self.new (judges self.old (reading bytes.now)).drive) }
     {
-        match read_command(alloc, bytes) {
-            Ok(command) => self.judge_command(alloc, &command, bytes),
-            Err(CommandErr::Memory) => Err(Memory),
-            Err(_) => {
-                let reply = self.core.handle(alloc, self.clock, bytes)?;
-                Ok(Judged {
-                    verdict: Verdict::Format,
-                    reply,
-                })
-            }
-        }
+        wake(&mut self.backing, alloc, self.made)?;
+        judge(&mut self.backing, alloc, self.made, self.clock, bytes)
     }
 
     /// Takes no more capabilities of a format below this one, which is 1 or 2. The least format never falls.
-    pub fn raise_least(&mut self, format: u8)
-        ensures { self.new ≡ raised self.old format }
+    ///
+    /// # Errors
+    ///
+    /// As those of [`WorldDrive::judge`].
+    pub fn raise_least(&mut self, alloc: Global, format: u8) -> Result<(), Memory>
+        ensures ok { OnOk result (self.new ≡ raised self.old format) }
+        ensures err { OnErr result (LeavesEither self.old self.new (raised self.old format)) }
     {
-        self.core.raise_least(format);
+        wake(&mut self.backing, alloc, self.made)?;
+        raise_least(&mut self.backing, alloc, self.made, format)
     }
 
     /// Sets its clock, in seconds.
@@ -180,21 +130,29 @@ impl WorldDrive {
         self.clock = time;
     }
 
-    /// It crashes: it is down until it is opened again. Its clock and all that it has stay.
-    pub fn crash(&mut self)
+    /// It crashes: it is down until it is opened again. Its clock and all that it has stay: of a stored drive, on its disk.
+    pub fn crash(&mut self, alloc: Global)
         ensures { self.new ≡ crashed self.old }
     {
+        crash(&mut self.backing, alloc, self.made);
         self.down = true;
     }
 
-    /// It is opened again after a crash.
-    pub fn reopen(&mut self)
-        ensures { self.new ≡ reopened self.old }
+    /// It is opened again after a crash, as its disk has it.
+    ///
+    /// # Errors
+    ///
+    /// Want of memory alone; then nothing changes.
+    pub fn reopen(&mut self, alloc: Global) -> Result<(), Memory>
+        ensures ok { OnOk result (self.new ≡ reopened self.old) }
+        ensures err { OnErr result (self.new ≡ self.old) }
     {
+        wake(&mut self.backing, alloc, self.made)?;
         self.down = false;
+        Ok(())
     }
 
-    /// It fails: it loses its objects, and their memory is given back.
+    /// It fails: it loses its objects, and their memory and that of its disk is given back.
     ///
     /// # Errors
     ///
@@ -203,11 +161,8 @@ impl WorldDrive {
         ensures ok { OnOk result (self.new ≡ fallen self.old) }
         ensures err { OnErr result (self.new ≡ self.old) }
     {
-        let keys = keys_of(alloc, self.key)?;
-        let least = self.core.least_format();
-        let mut core = DriveCore::new(alloc, self.number, keys, self.capacity);
-        core.raise_least(least);
-        self.core = core;
+        wake(&mut self.backing, alloc, self.made)?;
+        empty(&mut self.backing, alloc, self.made)?;
         self.failed = true;
         Ok(())
     }

@@ -4,8 +4,10 @@ ghost use Rattle.osd_commands.specs.Commands.{reading};
 ghost use Rattle.world_history.specs.State.{at_number, and_number};
 ghost use Rattle.world_history.specs.Drives.{Judged as WorldJudged, made_drive, raised, at_time, fallen, crashed, reopened};
 ghost use Rattle.world_parties.specs.Drives.{changed, replied, heard_one, HearsOne, heard, Hears, injected, Injects};
+ghost use Rattle.world_parties.specs.Drives.{StaysOrDoes};
 
-use crate::drive::{Judged, WorldDrive};
+use crate::drive::WorldDrive;
+use crate::judging::Judged;
 use osd_commands::write_reply;
 use osd_lists::Memory;
 use scenario_text::{Delivery, DriveName, Party, Verdict};
@@ -124,7 +126,7 @@ impl WorldDrives {
     ///
     /// # Errors
     ///
-    /// Want of memory alone; then nothing changes.
+    /// Want of memory alone. Then nothing changed; or a stored drive judged the bytes, and its verdict isn't told.
     pub fn inject(
         &mut self,
         alloc: Global,
@@ -132,7 +134,7 @@ impl WorldDrives {
         bytes: &[u8],
     ) -> Result<Option<Verdict>, Memory>
         ensures ok { IfOk result (λ verdict. Injects (injected self.old drive (reading bytes.now)) self.new verdict) }
-        ensures err { OnErr result (self.new ≡ self.old) }
+        ensures err { OnErr result (StaysOrDoes (injected self.old drive (reading bytes.now)).drives self.old self.new) }
     {
         match self.by_number.get_mut(&drive.number()) {
             Some(found) => Ok(Some(found.judge(alloc, bytes)?.verdict)),
@@ -141,12 +143,18 @@ impl WorldDrives {
     }
 
     /// A drive takes no more capabilities of a format below this one, which is 1 or 2.
-    pub fn raise_least(&mut self, drive: DriveName, format: u8)
-        ensures { self.new ≡ changed self.old drive (λ a. raised a format) }
+    ///
+    /// # Errors
+    ///
+    /// Want of memory alone. Then nothing changed; or a stored drive did that.
+    pub fn raise_least(&mut self, alloc: Global, drive: DriveName, format: u8) -> Result<(), Memory>
+        ensures ok { OnOk result (self.new ≡ changed self.old drive (λ a. raised a format)) }
+        ensures err { OnErr result (StaysOrDoes (changed self.old drive (λ a. raised a format)) self.old self.new) }
     {
         if let Some(found) = self.by_number.get_mut(&drive.number()) {
-            found.raise_least(format);
+            found.raise_least(alloc, format)?;
         }
+        Ok(())
     }
 
     /// The clock of a drive shows this, in seconds.
@@ -159,21 +167,27 @@ impl WorldDrives {
     }
 
     /// A drive crashes, and is down.
-    pub fn crash(&mut self, drive: DriveName)
+    pub fn crash(&mut self, alloc: Global, drive: DriveName)
         ensures { self.new ≡ changed self.old drive crashed }
     {
         if let Some(found) = self.by_number.get_mut(&drive.number()) {
-            found.crash();
+            found.crash(alloc);
         }
     }
 
     /// A drive is opened again after a crash.
-    pub fn reopen(&mut self, drive: DriveName)
-        ensures { self.new ≡ changed self.old drive reopened }
+    ///
+    /// # Errors
+    ///
+    /// Want of memory alone; then nothing changes.
+    pub fn reopen(&mut self, alloc: Global, drive: DriveName) -> Result<(), Memory>
+        ensures ok { OnOk result (self.new ≡ changed self.old drive reopened) }
+        ensures err { OnErr result (self.new ≡ self.old) }
     {
         if let Some(found) = self.by_number.get_mut(&drive.number()) {
-            found.reopen();
+            found.reopen(alloc)?;
         }
+        Ok(())
     }
 
     /// A drive fails.

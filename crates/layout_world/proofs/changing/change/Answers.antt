@@ -4,7 +4,7 @@ use Rattle.layout_world.proofs.changing.change.Goals as goal
 
 pub returns-in-Least : goal.returns-in-Least
 unfolding begins
-returns-in-Least c = rw c.in-Least.is (λ _. c.raise_least.ensures)
+returns-in-Least c = rw c.in-Least.is (held c.raise_least.result _ _ c.raise_least.ensures)
 
 pub returns-in-DropMessage : goal.returns-in-DropMessage
 unfolding begins

@@ -1,11 +1,13 @@
 use Rattle.std.proofs.Common.{[], take}
 use Rattle.osd_bytes.specs.Asking.{ends_of}
+use Rattle.server_command.specs.GoesOn.{Went}
 use Rattle.server_command.specs.Messages.{InTurn, ServesRecord, serving}
 use Rattle.server_command.proofs.connections.serve_records.Given as goal
 
 abbrev pub invariant-loop-i : goal.invariant-loop-i
 invariant-loop-i g l =
     InTurn ServesRecord (take l.i l.records)
-    (serving l.initial.core [] l.initial.puts
+    (serving (g.H.MetadataServer.server l.initial.server) [] l.initial.puts
     (ends_of (g.L.Links.told l.initial.links) (g.L.Links.faults l.initial.links) (g.C.Clock.times l.initial.clock)))
-    (serving l.core [] l.stands (ends_of (g.L.Links.told l.links) (g.L.Links.faults l.links) (g.C.Clock.times l.clock)))
+    (serving (g.H.MetadataServer.server l.server) [] l.stands (ends_of (g.L.Links.told l.links) (g.L.Links.faults l.links) (g.C.Clock.times l.clock)))
+    × Went g.H.MetadataServer l.initial.server l.server

@@ -1,5 +1,6 @@
 use Rattle.std.proofs.Common.{[]}
 use Rattle.osd_bytes.specs.Asking.{ends_of}
+use Rattle.server_command.specs.GoesOn.{Went}
 use Rattle.server_command.specs.Messages.{serving}
 use Rattle.server_command.proofs.ConnectionLaws.{HasServed}
 use Rattle.server_command.proofs.connections.serve_stream.Given as goal
@@ -7,10 +8,11 @@ use Rattle.server_command.proofs.connections.serve_stream.Given as goal
 abbrev pub invariant-loop-inbox : goal.invariant-loop-inbox
 invariant-loop-inbox g l =
     HasServed
-    (serving l.initial.core [] l.initial.stands
+    (serving (g.H.MetadataServer.server l.initial.server) [] l.initial.stands
     (ends_of (g.L.Links.told l.initial.links) (g.L.Links.faults l.initial.links) (g.C.Clock.times l.initial.clock)))
-    (serving l.core [] l.stands (ends_of (g.L.Links.told l.links) (g.L.Links.faults l.links) (g.C.Clock.times l.clock)))
+    (serving (g.H.MetadataServer.server l.server) [] l.stands (ends_of (g.L.Links.told l.links) (g.L.Links.faults l.links) (g.C.Clock.times l.clock)))
     l.inbox
+    × Went g.H.MetadataServer l.initial.server l.server
 
 abbrev pub decreases-loop-inbox : goal.decreases-loop-inbox
 decreases-loop-inbox g l = l.inbox.room

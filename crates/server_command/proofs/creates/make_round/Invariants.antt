@@ -1,5 +1,6 @@
 use Rattle.std.proofs.Common.{true, take}
 use Rattle.osd_bytes.specs.Asking.{ends_of}
+use Rattle.server_command.specs.GoesOn.{Went}
 use Rattle.server_command.specs.Messages.{InTurn, serving}
 use Rattle.server_command.specs.Files.{Makes}
 use Rattle.server_command.proofs.creates.make_round.Given as goal
@@ -7,6 +8,7 @@ use Rattle.server_command.proofs.creates.make_round.Given as goal
 abbrev pub invariant-loop-i : goal.invariant-loop-i
 invariant-loop-i g l =
     InTurn Makes (take l.i l.round)
-    (serving l.initial.core l.initial.waiting true
+    (serving (g.H.MetadataServer.server l.initial.server) l.initial.waiting true
     (ends_of (g.L.Links.told l.initial.links) (g.L.Links.faults l.initial.links) (g.C.Clock.times l.initial.clock)))
-    (serving l.core l.waiting true (ends_of (g.L.Links.told l.links) (g.L.Links.faults l.links) (g.C.Clock.times l.clock)))
+    (serving (g.H.MetadataServer.server l.server) l.waiting true (ends_of (g.L.Links.told l.links) (g.L.Links.faults l.links) (g.C.Clock.times l.clock)))
+    × Went g.H.MetadataServer l.initial.server l.server

@@ -1,0 +1,4 @@
+pub mod Views
+pub mod Keeping
+pub mod Restoring
+pub mod Sameness

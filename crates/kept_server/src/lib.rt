@@ -1,0 +1,14 @@
+//! The metadata server, with the entries of what each call changes of what it keeps.
+//!
+//! [`KeptServer`] has the calls of [`ServerCore`](layout_server::ServerCore). Behind each it has the entries that make
+//! what is kept after the call of what was kept before. It is made of entries again by a [`Restoration`].
+#![tactic(auto)]
+
+mod differences;
+mod file_differences;
+mod restoration;
+mod sameness;
+mod server;
+
+pub use restoration::{Restoration, RestoreErr, restore};
+pub use server::KeptServer;

@@ -1,0 +1,5 @@
+use Rattle.server_command.proofs.CoreLaws.{core_went}
+use Rattle.server_command.proofs.metadata_server.ServerCoreMetadataServer.set_format.Goals as goal
+
+pub returns-clause-ok : goal.returns-clause-ok
+returns-clause-ok c = core_went _ _ _ c.set_format.ensures

@@ -1,0 +1,5 @@
+pub mod ContentLaws
+pub mod CounterLaws
+pub mod JournalLaws
+pub mod OpeningLaws
+pub mod RecordLaws

@@ -1,0 +1,35 @@
+use Rattle.std.proofs.Common.{sym, subst}
+use Rattle.gate_log.specs.Standing.{disk_of}
+use Rattle.server_rules.specs.declared.server.Server.{Server}
+use Rattle.server_rules.specs.Openings.{crash, reopen}
+use Rattle.server_journal.specs.Counters.{CountsOn}
+use Rattle.server_journal.specs.Journals.{LeavesEither, disk_in}
+use Rattle.server_journal.proofs.CounterLaws.{entries_count}
+use Rattle.server_journal.proofs.JournalLaws.{still}
+use Rattle.server_journal.proofs.server.JournaledServer.reopen.Goals as goal
+
+pub returns-in-Err-clause-cut_off : goal.returns-in-Err-clause-cut_off
+returns-in-Err-clause-cut_off g c kept =
+    rw c.into_disk.ensures (still g.D.Disk g.met.D.Disk.only_now c.args.restoration (crash (reopen c.args.restoration).state) c.args.log kept)
+
+pub returns-in-Ok-begin-clause-did : goal.returns-in-Ok-begin-clause-did
+returns-in-Ok-begin-clause-did g c = rw c.in-Ok-begin.ensures.server c.in-Ok.ensures.did
+
+pub returns-in-Ok-begin-clause-any_moment : goal.returns-in-Ok-begin-clause-any_moment
+returns-in-Ok-begin-clause-any_moment g c kept =
+    subst (λ (s : Server). LeavesEither g.D.Disk (disk_of c.args.log) (disk_in c.in-Ok-begin.server) c.args.restoration (crash s)) c.in-Ok.ensures.did.state
+    (c.in-Ok-begin.ensures.any_moment c.args.restoration c.in-Ok.ensures.follows kept)
+
+pub returns-in-Ok-begin-clause-kept : goal.returns-in-Ok-begin-clause-kept
+returns-in-Ok-begin-clause-kept g c kept = c.in-Ok-begin.ensures.kept c.args.restoration c.in-Ok.ensures.follows kept
+
+pub returns-in-Ok-begin-clause-counts : goal.returns-in-Ok-begin-clause-counts
+returns-in-Ok-begin-clause-counts g c =
+    let now = c.in-Ok.opened.0 in
+    subst (λ (s : Server). CountsOn c.args.restoration s) (sym c.in-Ok-begin.ensures.server)
+    (entries_count now.changes.entries c.args.restoration (crash now.server) c.in-Ok.ensures.follows)
+
+pub returns-in-Err-begin-clause-cut_off : goal.returns-in-Err-begin-clause-cut_off
+returns-in-Err-begin-clause-cut_off g c kept =
+    subst (λ (s : Server). LeavesEither g.D.Disk (disk_of c.args.log) c.in-Err-begin.refusal.1 c.args.restoration (crash s)) c.in-Ok.ensures.did.state
+    (c.in-Err-begin.ensures.cut_off c.args.restoration c.in-Ok.ensures.follows kept)

@@ -1,0 +1,19 @@
+use Rattle.std.proofs.Common.{[], refl}
+use Rattle.server_journal.specs.Calls.{after_putting}
+use Rattle.server_journal.proofs.JournalLaws.{answered, at_error, cut_off, stopped}
+use Rattle.server_journal.proofs.server.JournaledServer.set_zone.Goals as goal
+
+pub returns-in_err-put-clause-cut_off : goal.returns-in_err-put-clause-cut_off
+returns-in_err-put-clause-cut_off g c = at_error _ _ (stopped g.D.Disk g.met.D.Disk.only_now c.args.self.now _ _ refl)
+
+pub returns-in-Ok-clause-answered : goal.returns-in-Ok-clause-answered
+returns-in-Ok-clause-answered g c =
+    answered g.D.Disk c.args.self.now c.keep.new.self c.set_zone.new.self c.set_zone.ensures.kept c.set_zone.ensures.quiet c.in_ok-put.ensures.over
+    c.keep.ensures.kept_server c.keep.ensures.any_moment c.in-Ok.ensures.kept c.keep.ensures.quiet
+
+pub returns-in-Err-clause-cut_off : goal.returns-in-Err-clause-cut_off
+returns-in-Err-clause-cut_off g c =
+    cut_off g.D.Disk c.args.self.now c.keep.new.self c.set_zone.new.self
+    (λ chosen. after_putting c.args.self.now.kept.server c.args.drive c.args.zone)
+    [] c.in_ok-put.ensures.put c.set_zone.ensures.kept c.set_zone.ensures.quiet c.in_ok-put.ensures.over
+    c.keep.ensures.any_moment c.keep.ensures.quiet

@@ -1,0 +1,52 @@
+-- The server that contents stand for, and a journaled server as it stands on its disk.
+--
+-- A definition that takes `Ghosts D` takes the ghost members of a disk's trait, as `D.Disk`.
+use Rattle.std.specs.Prelude.{◌⊎◌, ℕ, List, Bool}
+use Rattle.osd_disk.specs.Crashes.{LeavesOnly}
+use Rattle.osd_disk.specs.declared.disk.Disk.{Ghosts}
+use Rattle.gate_log.specs.declared.log.GateLog.{GateLog}
+use Rattle.gate_log.specs.Logs.{IsLog}
+use Rattle.gate_log.specs.Standing.{IsAtRest, disk_of}
+use Rattle.server_rules.specs.declared.server.Server.{Server}
+use Rattle.server_rules.specs.Openings.{crash}
+use Rattle.server_journal.specs.declared.server.JournaledServer.{JournaledServer}
+use Rattle.server_journal.specs.Header.{journal_header}
+use Rattle.server_journal.specs.Records.{LeadTo}
+
+-- contents stand for a server without jobs: they are a log with a journal's header, of records that lead to it
+pub record IsJournalOf (s : Server) (c : List ℕ) : Type 0 where
+  pub records : List (List ℕ)
+  pub log : IsLog journal_header records c
+  pub lead : LeadTo records s
+
+-- contents stand for the one server or for the other
+abbrev pub StandForEither : (before after : Server) → List ℕ → Type 0
+StandForEither before after c = IsJournalOf before c ⊎ IsJournalOf after c
+
+-- the disk of a log tells its bytes, a crash leaves all of them, and they stand for the server
+pub record KeepsServer {D : Type 0} (k : Ghosts D) (s : Server) (log : GateLog D) : Type 0 where
+  pub records : List (List ℕ)
+  pub rest : IsAtRest k.tells k.seen k.may_leave journal_header records log
+  pub lead : LeadTo records s
+
+-- ---- a journaled server
+
+-- the server
+abbrev pub core_of : {D : Type 0} → JournaledServer D → Server
+core_of j = j.kept.server
+
+-- its disk
+abbrev pub disk_in : {D : Type 0} → JournaledServer D → D
+disk_in j = disk_of j.log
+
+-- a call that might have changed it wasn't answered
+abbrev pub is_over_in : {D : Type 0} → JournaledServer D → Bool
+is_over_in j = j.is_over
+
+-- its disk stands for what it keeps through a crash
+abbrev pub IsKept : {D : Type 0} → Ghosts D → JournaledServer D → Type 0
+IsKept k j = KeepsServer k (crash (core_of j)) j.log
+
+-- a crash at any moment between two states of a disk leaves what stands for the one server or for the other
+abbrev pub LeavesEither : {D : Type 0} → Ghosts D → (old new : D) → (before after : Server) → Type 0
+LeavesEither k old new before after = LeavesOnly k.moment k.left_since old new (StandForEither before after)

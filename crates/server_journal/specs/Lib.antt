@@ -1,0 +1,9 @@
+pub mod Calls
+pub mod Counters
+pub mod Errors
+pub mod Header
+pub mod Journals
+pub mod Laws
+pub mod Opening
+pub mod Records
+pub mod Resting

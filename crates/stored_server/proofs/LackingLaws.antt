@@ -1,0 +1,45 @@
+-- The drives and files that a server lacks, and where the adding and the making of them stops.
+use Rattle.std.specs.Prelude.{slice_get}
+use Rattle.std.proofs.Common.{◌≡◌, ◌∙◌, ℕ, false, List, ◌∷◌, take, Some, Ok, ap, sym}
+use Rattle.osd_bytes.specs.Asking.{Ends}
+use Rattle.cluster_text.specs.declared.cluster.ClusterDrive.{ClusterDrive}
+use Rattle.cluster_text.specs.declared.cluster.ClusterFile.{ClusterFile}
+use Rattle.cluster_text.specs.declared.stop.CommandStop.TheVariants.{BadCluster, ReadFault, WriteFault, Memory, Full, LinkFault}
+use Rattle.server_rules.specs.declared.server.Server.{Server}
+use Rattle.server_command.specs.Drives.{Known, and_then}
+use Rattle.server_command.specs.declared.server_stop.ServerStop.{ServerStop}
+use Rattle.server_command.specs.declared.server_stop.ServerStop.TheVariants.{Command, DiskFault}
+use Rattle.server_command.specs.Files.{LosesFile, RefusesFile, StopsBy}
+use Rattle.server_command.specs.Messages.{InTurn, Serving}
+use Rattle.server_command.proofs.MakingLaws.{stops_at, stops_by}
+use Rattle.stored_server.specs.Lacking.{LosesLacking, MakesLacking, RefusesLacking, StopsLacking, has_file, with_all_lacking, with_lacking}
+
+-- ---- drives
+
+-- one of them is known, or was added
+pub one_more : (s t : Server) (d : ClusterDrive) (rest ds : List ClusterDrive) (r : Known) → ds ≡ d ∷ rest → with_lacking s d ≡ Ok t
+    → with_all_lacking s ds ≡ r → with_all_lacking t rest ≡ r
+one_more s t d rest ds r e is all =
+    sym (ap (λ (k : Known). and_then k (λ u. with_all_lacking u rest)) is) ∙ (sym (ap (λ (xs : List ClusterDrive). with_all_lacking s xs) e) ∙ all)
+
+-- one of them is wrong
+pub one_stops : (s : Server) (d : ClusterDrive) (rest ds : List ClusterDrive) (r : Known) (stop : ServerStop) → ds ≡ d ∷ rest → with_all_lacking s ds ≡ r
+    → StopsLacking (with_lacking s d) stop → StopsLacking r stop
+one_stops s d rest ds r (Command (BadCluster kind)) e all wrong =
+    sym all ∙ (ap (λ (xs : List ClusterDrive). with_all_lacking s xs) e ∙ ap (λ (k : Known). and_then k (λ u. with_all_lacking u rest)) wrong)
+one_stops s d rest ds r (Command ReadFault) e all wrong = absurd wrong
+one_stops s d rest ds r (Command WriteFault) e all wrong = absurd wrong
+one_stops s d rest ds r (Command Memory) e all wrong = tt
+one_stops s d rest ds r (Command Full) e all wrong = absurd wrong
+one_stops s d rest ds r (Command LinkFault) e all wrong = absurd wrong
+one_stops s d rest ds r DiskFault e all wrong = tt
+
+-- ---- files
+
+pub lacking_stops : (files : List ClusterFile) (i : ℕ) (f : ClusterFile) (s u : Serving) (server : Server) (ends : Ends) (stop : ServerStop)
+    → slice_get files i ≡ Some f → InTurn MakesLacking (take i files) s u → has_file u.server f ≡ false
+    → StopsBy (LosesFile f u server ends) (RefusesFile f u.server) stop → StopsBy (LosesLacking files s server ends) (RefusesLacking files s) stop
+lacking_stops files i f s u server ends stop e made lacks h =
+    stops_by (LosesFile f u server ends) (LosesLacking files s server ends) (RefusesFile f u.server) (RefusesLacking files s)
+    (λ l. stops_at MakesLacking (λ g v. (has_file v.server g ≡ false) × LosesFile g v server ends) files i f s u e made (lacks, l))
+    (λ r. stops_at MakesLacking (λ g v. (has_file v.server g ≡ false) × RefusesFile g v.server) files i f s u e made (lacks, r)) stop h

@@ -1,0 +1,6 @@
+pub mod JournalLaws
+pub mod LackingLaws
+pub mod OpeningLaws
+pub mod PreparingLaws
+pub mod ServiceLaws
+pub mod StoppingLaws

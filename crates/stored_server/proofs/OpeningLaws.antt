@@ -1,0 +1,51 @@
+-- Why a journal isn't made or opened, from what its crate and its disk say.
+use Rattle.std.proofs.Common.{◌≡◌, ℕ, List, refl, sym, subst, arith}
+use Rattle.std.specs.Prelude.{IsTrue, ◌<◌, length}
+use Rattle.osd_bytes.specs.Causes.{Rose}
+use Rattle.cluster_text.specs.declared.stop.CommandStop.TheVariants as cause
+use Rattle.osd_disk.specs.declared.disk.Disk.{Ghosts as DiskGhosts}
+use Rattle.osd_disk.specs.declared.disk.DiskErr.{DiskErr}
+use Rattle.osd_disk.specs.declared.disk.DiskErr.TheVariants as failure
+use Rattle.drive_command.specs.declared.stored_stop.StoredStop.{StoredStop}
+use Rattle.drive_command.specs.declared.stored_stop.StoredStop.TheVariants.{Command, DiskFault, BadStore}
+use Rattle.drive_command.specs.StoredStops.{stop_of_disk}
+use Rattle.server_journal.specs.declared.errors.JournalErr.{JournalErr}
+use Rattle.server_journal.specs.declared.errors.JournalErr.TheVariants as journal
+use Rattle.server_journal.specs.Errors.{HasErrCause, NotAJournalSays, NotEmptySays}
+use Rattle.server_journal.specs.Opening.{IsNoJournalAt}
+use Rattle.stored_server.specs.Opened.{StopsOpening, stop_of_journal}
+
+module _ {D : Type 0} (s : DiskGhosts D) where
+  -- a call of the disk failed
+  pub disk_failed : (disk left : D) (e : DiskErr) → (e ≡ failure.Fault → Rose (s.faults disk) (s.faults left)) → StopsOpening s disk left (stop_of_disk e)
+  disk_failed disk left failure.Fault rose = rose refl
+  disk_failed disk left failure.Memory rose = tt
+
+  -- the journal wasn't opened
+  pub not_opened : (disk left : D) (e : JournalErr) → NotAJournalSays (λ at. IsTrue (s.tells disk) → IsNoJournalAt (s.seen disk) at) e
+      → HasErrCause (s.faults disk) (s.faults left) e → StopsOpening s disk left (stop_of_journal e)
+  not_opened disk left (journal.NotEmpty size) says cause = absurd says
+  not_opened disk left journal.DiskFault says cause = cause.failed refl
+  not_opened disk left (journal.NotAJournal at) says cause = says
+  not_opened disk left journal.Memory says cause = tt
+
+  -- the journal wasn't made, on a disk that has no bytes
+  pub not_made : (disk left : D) (e : JournalErr) → NotEmptySays (λ size. IsTrue (s.tells disk) → (size ≡ length (s.seen disk)) × (0 < size)) e
+      → (IsTrue (s.tells disk) → length (s.seen disk) ≡ 0) → HasErrCause (s.faults disk) (s.faults left) e → StopsOpening s disk left (stop_of_journal e)
+  not_made disk left (journal.NotEmpty size) says empty cause = λ told. absurd (omega (arith, (says told).0, (says told).1, empty told))
+  not_made disk left journal.DiskFault says empty cause = cause.failed refl
+  not_made disk left (journal.NotAJournal at) says empty cause = absurd says
+  not_made disk left journal.Memory says empty cause = tt
+
+  -- the disk was only opened and asked for its size before
+  pub since_opened : (disk mid left : D) (stop : StoredStop) → s.tells mid ≡ s.tells disk → s.seen mid ≡ s.seen disk → s.faults mid ≡ s.faults disk
+      → StopsOpening s mid left stop → StopsOpening s disk left stop
+  since_opened disk mid left (Command (cause.BadCluster kind)) told seen faults stops = absurd stops
+  since_opened disk mid left (Command cause.ReadFault) told seen faults stops = absurd stops
+  since_opened disk mid left (Command cause.WriteFault) told seen faults stops = absurd stops
+  since_opened disk mid left (Command cause.Memory) told seen faults stops = tt
+  since_opened disk mid left (Command cause.Full) told seen faults stops = absurd stops
+  since_opened disk mid left (Command cause.LinkFault) told seen faults stops = absurd stops
+  since_opened disk mid left DiskFault told seen faults stops = subst (λ (n : ℕ). Rose n (s.faults left)) faults stops
+  since_opened disk mid left (BadStore at) told seen faults stops = λ tells.
+      subst (λ (c : List ℕ). IsNoJournalAt c at) seen (stops (subst IsTrue (sym told) tells))

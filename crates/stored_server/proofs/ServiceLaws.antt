@@ -1,0 +1,74 @@
+-- What a server in a journal leaves on its disk, and how its serving ends.
+use Rattle.std.proofs.Common.{◌≡◌, ℕ, List, [], Option, sym, subst}
+use Rattle.std.specs.Prelude.{IsTrue}
+use Rattle.osd_bytes.specs.Asking.{Ends}
+use Rattle.osd_bytes.specs.Causes.{Rose}
+use Rattle.osd_disk.specs.Crashes.{Only}
+use Rattle.osd_disk.specs.declared.disk.Disk.{Ghosts as DiskGhosts}
+use Rattle.cluster_text.specs.declared.cluster.Cluster.{Cluster}
+use Rattle.drive_command.specs.declared.stored_stop.StoredStop.{StoredStop}
+use Rattle.server_rules.specs.declared.server.Server.{Server}
+use Rattle.server_rules.specs.Openings.{crash}
+use Rattle.server_state.specs.declared.step.Step.{Step}
+use Rattle.server_command.specs.declared.server_stop.ServerStop.{ServerStop}
+use Rattle.server_command.specs.declared.server_stop.ServerStop.TheVariants.{DiskFault}
+use Rattle.server_command.specs.Ends.{Serves}
+use Rattle.server_command.specs.Steps.{ServerStep, after_steps}
+use Rattle.server_journal.specs.Journals.{IsKept, core_of}
+use Rattle.server_journal.specs.Resting as resting
+use Rattle.stored_server.specs.declared.stored_server.StoredServer.{StoredServer}
+use Rattle.stored_server.specs.Opened.{BeginsWith}
+use Rattle.stored_server.specs.Preparing.{Prepares}
+use Rattle.stored_server.specs.Service.{BreaksOff, ServesFrom, StaysSince, StopsBehind, stored_stop_of}
+use Rattle.stored_server.specs.StoredServer.{StandsFor, kept_on}
+use Rattle.stored_server.proofs.JournalLaws.{JournalCarries}
+
+module _ {D : Type 0} (s : DiskGhosts D) where
+  stays_since : (old new : StoredServer D) (done cut_off : List ServerStep) (left : D) → JournalCarries s done cut_off old new → IsKept s old.journal
+      → left ≡ kept_on new → StaysSince s (core_of old.journal) done cut_off left
+  stays_since old new done cut_off left x k same =
+      subst (λ (d : D). StaysSince s (core_of old.journal) done cut_off d) (sym same)
+      (record { began = s.moment (kept_on old); is_past = (x.crash k).later; stands = x.since k })
+
+  module _ (connections : ℕ) (cluster : Cluster) (before now : Ends) (taken_before taken : Option (List ℕ)) (disk left : D)
+      (old new : StoredServer D) (step : Step) (begins : IsTrue (s.tells disk) → BeginsWith (s.seen disk) (core_of old.journal) step)
+      (kept : IsTrue (s.tells disk) → IsKept s old.journal) (done : List ServerStep) (same : left ≡ kept_on new) where
+    pub served_from : (made : Server) (between : Ends) → Prepares cluster (core_of old.journal) step before made between
+        → Serves connections made (core_of new.journal) between now taken_before taken → core_of new.journal ≡ after_steps (core_of old.journal) done
+        → JournalCarries s done [] old new → (IsKept s old.journal → IsKept s new.journal)
+        → ServesFrom s connections cluster before now taken_before taken disk left
+    served_from made between prepares serves all x keeps = record {
+      begun = core_of old.journal;
+      step = step;
+      begins = begins;
+      made = made;
+      between = between;
+      prepares = prepares;
+      last = core_of new.journal;
+      serves = serves;
+      done = done;
+      all = all;
+      stays = λ told. stays_since old new done [] left x (kept told) same;
+      stands = λ told. subst (λ (d : D). StandsFor (core_of new.journal) (s.seen d)) (sym same)
+          (resting.stands s (crash (core_of new.journal)) new.journal.log (keeps (kept told)));
+      durable = λ told. subst (λ (d : D). Only (s.seen d) (s.may_leave d)) (sym same) (keeps (kept told)).rest.durable;
+    }
+
+    pub broke_off : (cut_off : List ServerStep) (failed_before failed : ℕ) (stop : StoredStop) (cause : ServerStop) → stop ≡ stored_stop_of cause
+        → StopsBehind connections cluster (core_of old.journal) step before now taken_before taken failed_before failed cause
+        → JournalCarries s done cut_off old new → (cause ≡ DiskFault → Rose (s.faults (kept_on old)) (s.faults (kept_on new)))
+        → s.faults (kept_on old) ≡ s.faults disk
+        → BreaksOff s connections cluster before now taken_before taken failed_before failed disk left stop
+    broke_off cut_off failed_before failed stop cause is why x rose faults = record {
+      begun = core_of old.journal;
+      step = step;
+      begins = begins;
+      cause = cause;
+      is = is;
+      why = why;
+      rose = λ f. subst (λ (d : D). Rose (s.faults disk) (s.faults d)) (sym same) (subst (λ (n : ℕ). Rose n (s.faults (kept_on new))) faults (rose f));
+      done = done;
+      cut_off = cut_off;
+      few = x.few;
+      stays = λ told. stays_since old new done cut_off left x (kept told) same;
+    }

@@ -1,0 +1,6 @@
+pub mod Ends
+pub mod Lacking
+pub mod Opened
+pub mod Preparing
+pub mod Service
+pub mod StoredServer
