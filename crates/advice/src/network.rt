@@ -3,7 +3,7 @@ use osd_links::LinkFault;
 use std::alloc::{AllocError, Global};
 
 /// Who asked over the network that failed.
-#[derive(Clone, Copy, Debug, PartialEq, Eq)]
+#[derive(Clone, Copy, PartialEq, Eq)]
 pub enum Asker {
     /// A drive.
     Drive,

@@ -8,7 +8,7 @@ use std::alloc::Global;
 use stripe_client::{CStep, Sends, Sent};
 
 /// What is told of a call.
-#[derive(Debug, Drop)]
+#[derive(Drop)]
 pub enum Notice {
     /// A component timed out.
     TimedOut { component: u32 },

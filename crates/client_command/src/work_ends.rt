@@ -9,7 +9,7 @@ use std::alloc::Global;
 use stripe_client::{CallErr, Outcome};
 
 /// Why a client's work is refused.
-#[derive(Debug, Drop)]
+#[derive(Drop)]
 pub enum Refusal {
     /// The client doesn't take the call.
     Call(CallErr),
@@ -20,7 +20,7 @@ pub enum Refusal {
 }
 
 /// How a client's work ended.
-#[derive(Debug, Drop)]
+#[derive(Drop)]
 pub enum ClientEnd {
     /// It is done.
     Done,

@@ -5,7 +5,7 @@ use osd_lists::{Bytes, Sequence};
 use stripe_plan::{Ask, Column, Store};
 
 /// What a call asks.
-#[derive(Debug, Drop)]
+#[derive(Drop)]
 pub enum CallOp {
     Write {
         file: u32,
@@ -20,7 +20,7 @@ pub enum CallOp {
 }
 
 /// A command of which the reply is awaited.
-#[derive(Debug, Drop)]
+#[derive(Drop)]
 pub struct Awaited {
     /// A WRITE, else a READ.
     pub write: bool,
@@ -34,7 +34,7 @@ pub struct Awaited {
 pub type AwaitedCommands = Sequence<Awaited>;
 
 /// A component that timed out in a call, by the first command to it that was awaited then.
-#[derive(Clone, Copy, Debug, PartialEq, Eq)]
+#[derive(Clone, Copy, PartialEq, Eq)]
 pub struct TimedOut {
     pub write: bool,
     pub ask: Ask,
@@ -44,7 +44,7 @@ pub struct TimedOut {
 pub type TimedOuts = Sequence<TimedOut>;
 
 /// A call's dealings with the drives.
-#[derive(Debug, Drop)]
+#[derive(Drop)]
 pub struct Io {
     pub awaited: AwaitedCommands,
     /// What was read, in the order of the replies.
@@ -53,7 +53,7 @@ pub struct Io {
 }
 
 /// What a call needs of the server.
-#[derive(Debug, Drop)]
+#[derive(Drop)]
 pub enum Need {
     /// That it takes back a grant that doesn't cover the call.
     First,
@@ -77,7 +77,7 @@ pub enum Need {
 }
 
 /// How far a call has come.
-#[derive(Debug, Drop)]
+#[derive(Drop)]
 pub enum Phase {
     /// It has sent nothing that counts, and begins where it can.
     Starts,
@@ -96,7 +96,7 @@ pub enum Phase {
 }
 
 /// A pending call.
-#[derive(Debug, Drop)]
+#[derive(Drop)]
 pub struct Call {
     pub op: CallOp,
     pub phase: Phase,

@@ -5,7 +5,7 @@ use osd_commands::Command;
 use osd_lists::Sequence;
 
 /// A client.
-#[derive(Debug, Drop)]
+#[derive(Drop)]
 pub struct Client {
     pub number: u32,
     /// The sequence number of its next request, or 0 where none is left.
@@ -20,7 +20,7 @@ pub struct Client {
 }
 
 /// A message that a client sends.
-#[derive(Debug, Drop)]
+#[derive(Drop)]
 pub enum Outgoing {
     AnswersRecall { answer: RecallAnswer },
     Asks { request: Request },

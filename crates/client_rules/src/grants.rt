@@ -4,7 +4,7 @@ use osd_capability::{CapKey, Capability};
 use osd_lists::Sequence;
 
 /// What opens the object of a component.
-#[derive(Clone, Copy, Debug, PartialEq, Eq)]
+#[derive(Clone, Copy, PartialEq, Eq)]
 pub struct Credential {
     /// The drive on which the object stands.
     pub drive: u32,
@@ -14,7 +14,7 @@ pub struct Credential {
 }
 
 /// A component as a layout lists it.
-#[derive(Clone, Copy, Debug, PartialEq, Eq)]
+#[derive(Clone, Copy, PartialEq, Eq)]
 pub struct Listed {
     pub id: ObjId,
     /// None of a component that is missing.
@@ -22,7 +22,7 @@ pub struct Listed {
 }
 
 /// What a grant is for: bytes of the file from `first` up to `end`.
-#[derive(Clone, Copy, Debug, PartialEq, Eq)]
+#[derive(Clone, Copy, PartialEq, Eq)]
 pub struct Reach {
     /// For writing too.
     pub rw: bool,
@@ -34,7 +34,7 @@ pub struct Reach {
 }
 
 /// A grant that a client holds, with its layout.
-#[derive(Debug, Drop)]
+#[derive(Drop)]
 pub struct Held {
     pub file: u32,
     pub number: u32,
@@ -49,7 +49,7 @@ pub struct Held {
 }
 
 /// A grant that is to be returned.
-#[derive(Clone, Copy, Debug, PartialEq, Eq)]
+#[derive(Clone, Copy, PartialEq, Eq)]
 pub struct Due {
     pub file: u32,
     pub number: u32,

@@ -30,7 +30,7 @@ impl From<Memory> for CallErr {
 }
 
 /// Why a layout isn't taken: the first that holds.
-#[derive(Clone, Copy, Debug, PartialEq, Eq)]
+#[derive(Clone, Copy, PartialEq, Eq)]
 pub enum Why {
     /// There isn't one layout that can be read and that covers the call.
     Unreadable,
@@ -47,7 +47,7 @@ pub enum Why {
 }
 
 /// How a call ends.
-#[derive(Debug, Drop)]
+#[derive(Drop)]
 pub enum Outcome {
     /// So many bytes were written.
     WriteOk {
@@ -99,7 +99,7 @@ pub enum Outcome {
 }
 
 /// Whose answer a client awaits.
-#[derive(Clone, Copy, Debug, PartialEq, Eq)]
+#[derive(Clone, Copy, PartialEq, Eq)]
 pub enum Awaits {
     Nothing,
     Server,

@@ -6,7 +6,7 @@ use layout_ops::{RecallAnswer, Request};
 use osd_lists::Sequence;
 
 /// What becomes of a call.
-#[derive(Debug, Drop)]
+#[derive(Drop)]
 pub enum Turn {
     Goes { phase: Phase },
     Ends { outcome: Outcome },
@@ -16,7 +16,7 @@ pub enum Turn {
 
 /// What a call's dealings with the drives did: its grant, what becomes of it, and the commands that were
 /// sent.
-#[derive(Debug, Drop)]
+#[derive(Drop)]
 pub struct Moved {
     pub held: Held,
     pub turn: Turn,
@@ -24,7 +24,7 @@ pub struct Moved {
 }
 
 /// A client in the middle of a step, and what the step sent and ended so far.
-#[derive(Debug, Drop)]
+#[derive(Drop)]
 pub struct Done {
     pub client: Client,
     pub recalls: Sequence<RecallAnswer>,

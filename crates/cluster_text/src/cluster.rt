@@ -2,7 +2,7 @@ use data_map::RawMap;
 use osd_lists::{Bytes, Sequence};
 
 /// A drive of a cluster.
-#[derive(Debug, Drop)]
+#[derive(Drop)]
 pub struct ClusterDrive {
     /// Below 64.
     pub number: u32,
@@ -15,7 +15,7 @@ pub struct ClusterDrive {
 }
 
 /// A file that the server of a cluster makes.
-#[derive(Clone, Copy, Debug, PartialEq, Eq, Drop)]
+#[derive(Clone, Copy, PartialEq, Eq, Drop)]
 pub struct ClusterFile {
     /// Below 64.
     pub number: u32,
@@ -24,7 +24,7 @@ pub struct ClusterFile {
 }
 
 /// A cluster as its text describes it.
-#[derive(Debug, Drop)]
+#[derive(Drop)]
 pub struct Cluster {
     /// Host and port of the server.
     pub server: Bytes,
@@ -37,7 +37,7 @@ pub struct Cluster {
 }
 
 /// Who reads a cluster text.
-#[derive(Clone, Copy, Debug, PartialEq, Eq)]
+#[derive(Clone, Copy, PartialEq, Eq)]
 pub enum Reader {
     /// The drive of this number, which has to be in the text. Each drive needs its key.
     Drive(u32),

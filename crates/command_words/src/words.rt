@@ -24,7 +24,7 @@ pub const MAX_CLIENT: u32 = 15;
 const MAX_U32: u32 = 4_294_967_295;
 
 /// What the words of `drive` ask for.
-#[derive(Clone, Copy, Debug, PartialEq, Eq)]
+#[derive(Clone, Copy, PartialEq, Eq)]
 pub struct DriveWords {
     /// At most [`MAX_DRIVE`].
     pub number: u32,
@@ -33,7 +33,7 @@ pub struct DriveWords {
 }
 
 /// What the words of `server` ask for.
-#[derive(Clone, Copy, Debug, PartialEq, Eq)]
+#[derive(Clone, Copy, PartialEq, Eq)]
 pub struct ServerWords {
     /// How many connections are served.
     pub connections: u32,

@@ -7,7 +7,7 @@ use scenario_text::{Call, DriveName, Event, EventErr, FileName, read_event};
 use std::alloc::Global;
 
 /// An order to the server.
-#[derive(Clone, Copy, Debug, PartialEq, Eq)]
+#[derive(Clone, Copy, PartialEq, Eq)]
 pub enum Order {
     /// Every grant of the file is recalled.
     Recall(FileName),

@@ -26,7 +26,7 @@ pub const RAID_5: u32 = 3;
 pub const RAID_PQ: u32 = 4;
 
 /// A data map as it is written down, not yet checked (`pnfs_osd_data_map4`, RFC 5664 5.1).
-#[derive(Clone, Copy, Debug, PartialEq, Eq)]
+#[derive(Clone, Copy, PartialEq, Eq)]
 pub struct RawMap {
     /// The number of components.
     pub comps: u32,

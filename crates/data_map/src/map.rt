@@ -11,7 +11,7 @@ use std::marker::Model;
 ///
 /// A position stands for a component and its mirrors. A group of positions holds whole stripes: a
 /// unit of each data position, and the parity. Without groups all positions are one group.
-#[derive(Clone, Copy, Debug)]
+#[derive(Clone, Copy)]
 pub struct DataMap {
     raw: RawMap,
     positions: u32,

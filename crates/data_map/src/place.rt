@@ -6,7 +6,7 @@ use crate::check::{MAX_COMPONENTS, RAID_5};
 use crate::map::DataMap;
 
 /// Where a byte of a file lies (RFC 5664 5.3 and 5.4).
-#[derive(Clone, Copy, Debug, PartialEq, Eq)]
+#[derive(Clone, Copy, PartialEq, Eq)]
 pub struct Place {
     /// The position of its component.
     pub position: u32,

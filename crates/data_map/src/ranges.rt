@@ -10,7 +10,7 @@ use std::alloc::Global;
 pub const MAX_FILE_SIZE: u64 = 16_777_216;
 
 /// A part of a range of a file that lies in one unit: its bytes lie one after another.
-#[derive(Clone, Copy, Debug, PartialEq, Eq)]
+#[derive(Clone, Copy, PartialEq, Eq)]
 pub struct Extent {
     /// The position of its component.
     pub position: u32,

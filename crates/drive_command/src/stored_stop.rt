@@ -9,7 +9,7 @@ use osd_disk::DiskErr;
 use osd_lists::Memory;
 
 /// Why a drive or a server with a store stopped, or didn't begin.
-#[derive(Clone, Copy, Debug, PartialEq, Eq)]
+#[derive(Clone, Copy, PartialEq, Eq)]
 pub enum StoredStop {
     /// For a cause that one in memory has too.
     Command(CommandStop),

@@ -20,7 +20,7 @@ const VERSION: u32 = 1;
 /// | 16 | 8 | capacity in bytes |
 ///
 /// Numbers are big-endian.
-#[derive(Clone, Copy, Debug, PartialEq, Eq)]
+#[derive(Clone, Copy, PartialEq, Eq)]
 pub struct StoreHeader {
     /// The drive's number.
     pub number: u32,

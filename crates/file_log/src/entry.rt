@@ -1,7 +1,7 @@
 use osd_lists::Bytes;
 
 /// A write or a read of a file, as its log keeps it.
-#[derive(Debug, PartialEq, Drop)]
+#[derive(PartialEq, Drop)]
 pub enum Entry {
     /// A write that started: its bytes, from `offset` on, and whether it was acknowledged.
     Write {

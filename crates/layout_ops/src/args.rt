@@ -19,7 +19,7 @@ use xdr_codec::{Reader, Writer};
 
 /// What LAYOUTGET asks for (`LAYOUTGET4args`, RFC 5661 18.43.1). Its layout type is that of
 /// object-based storage.
-#[derive(Clone, Copy, Debug, PartialEq, Eq)]
+#[derive(Clone, Copy, PartialEq, Eq)]
 pub struct LayoutGetArgs {
     /// Whether the server is to tell when a layout can be had.
     pub signal_layout_avail: bool,
@@ -39,7 +39,7 @@ pub struct LayoutGetArgs {
 
 /// What LAYOUTCOMMIT tells (`LAYOUTCOMMIT4args`, RFC 5661 18.42.1). Its layout type is that of
 /// object-based storage.
-#[derive(Debug, PartialEq, Drop)]
+#[derive(PartialEq, Drop)]
 pub struct LayoutCommitArgs {
     /// The first byte of the file that is committed.
     pub offset: u64,
@@ -59,7 +59,7 @@ pub struct LayoutCommitArgs {
 
 /// What LAYOUTRETURN gives back: layouts of one file (`LAYOUTRETURN4args`, RFC 5661 18.44.1). Its
 /// layout type is that of object-based storage.
-#[derive(Debug, PartialEq, Drop)]
+#[derive(PartialEq, Drop)]
 pub struct LayoutReturnArgs {
     /// Whether it is after the server began anew.
     pub reclaim: bool,
@@ -76,7 +76,7 @@ pub struct LayoutReturnArgs {
 }
 
 /// The arguments of an operation.
-#[derive(Debug, PartialEq, Drop)]
+#[derive(PartialEq, Drop)]
 pub enum Args {
     /// Of [`Operation::LayoutCommit`].
     LayoutCommit(LayoutCommitArgs),

@@ -19,7 +19,7 @@ use std::alloc::Global;
 use xdr_codec::{Reader, Writer};
 
 /// A message between a client and the server. Its form is this project's own.
-#[derive(Debug, PartialEq, Drop)]
+#[derive(PartialEq, Drop)]
 pub enum Envelope {
     /// 1: a client asks the server.
     Request(Request),

@@ -14,7 +14,7 @@ use xdr_codec::{Reader, Writer};
 pub const STATEID_OTHER_BYTES: usize = 12;
 
 /// What names a layout's state at the server (`stateid4`, RFC 5661 3.3.12).
-#[derive(Clone, Copy, Debug, PartialEq, Eq)]
+#[derive(Clone, Copy, PartialEq, Eq)]
 pub struct StateId {
     /// How often the state changed.
     pub seqid: u32,
@@ -23,7 +23,7 @@ pub struct StateId {
 }
 
 /// A time (`nfstime4`, RFC 5661 3.3.1).
-#[derive(Clone, Copy, Debug, PartialEq, Eq)]
+#[derive(Clone, Copy, PartialEq, Eq)]
 pub struct Time {
     /// Whole seconds since the beginning of 1970, UTC, negative before.
     pub seconds: i64,

@@ -13,7 +13,7 @@ use std::alloc::Global;
 use xdr_codec::{Reader, Writer};
 
 /// What a client asks of the server.
-#[derive(Debug, PartialEq, Drop)]
+#[derive(PartialEq, Drop)]
 pub struct Request {
     /// The client that asks.
     pub client: u32,
@@ -26,7 +26,7 @@ pub struct Request {
 }
 
 /// What the server answers.
-#[derive(Debug, PartialEq, Drop)]
+#[derive(PartialEq, Drop)]
 pub struct Answer {
     /// The client that asked.
     pub client: u32,

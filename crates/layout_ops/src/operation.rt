@@ -7,7 +7,7 @@ use crate::parts::read_u32;
 use xdr_codec::Reader;
 
 /// An operation that a client asks of the server (`nfs_opnum4`, RFC 5661 16.2.1).
-#[derive(Clone, Copy, Debug, PartialEq, Eq)]
+#[derive(Clone, Copy, PartialEq, Eq)]
 pub enum Operation {
     /// 49: the client commits what it wrote (RFC 5661 18.42).
     LayoutCommit,

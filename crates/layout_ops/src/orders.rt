@@ -12,7 +12,7 @@ use osd_lists::Memory;
 use xdr_codec::{Reader, Writer};
 
 /// What an order tells the server to do.
-#[derive(Clone, Copy, Debug, PartialEq, Eq)]
+#[derive(Clone, Copy, PartialEq, Eq)]
 pub enum OrderKind {
     /// 1: ask all layouts of a file back.
     Recall,
@@ -27,7 +27,7 @@ pub enum OrderKind {
 }
 
 /// What the server says to an order.
-#[derive(Clone, Copy, Debug, PartialEq, Eq)]
+#[derive(Clone, Copy, PartialEq, Eq)]
 pub enum OrderResult {
     /// 0: it has begun.
     Started,
@@ -40,7 +40,7 @@ pub enum OrderResult {
 }
 
 /// An order to the server.
-#[derive(Clone, Copy, Debug, PartialEq, Eq)]
+#[derive(Clone, Copy, PartialEq, Eq)]
 pub struct Order {
     /// What is to be done.
     pub order: OrderKind,
@@ -49,7 +49,7 @@ pub struct Order {
 }
 
 /// The server's answer to an order.
-#[derive(Clone, Copy, Debug, PartialEq, Eq)]
+#[derive(Clone, Copy, PartialEq, Eq)]
 pub struct OrderAnswer {
     /// What was to be done.
     pub order: OrderKind,

@@ -16,7 +16,7 @@ use xdr_codec::{Reader, Writer};
 
 /// What CB_LAYOUTRECALL asks back: layouts of one file (`CB_LAYOUTRECALL4args`, RFC 5661 20.3.1).
 /// The layout type is always that of object-based storage.
-#[derive(Debug, PartialEq, Drop)]
+#[derive(PartialEq, Drop)]
 pub struct LayoutRecallArgs {
     /// The iomode of the layouts.
     pub iomode: u32,
@@ -34,7 +34,7 @@ pub struct LayoutRecallArgs {
 
 /// A recall of the server to a client: its operation is
 /// [`OP_CB_LAYOUTRECALL`](crate::OP_CB_LAYOUTRECALL).
-#[derive(Debug, PartialEq, Drop)]
+#[derive(PartialEq, Drop)]
 pub struct Recall {
     /// The client that is asked.
     pub client: u32,
@@ -47,7 +47,7 @@ pub struct Recall {
 }
 
 /// A client's answer to a recall (`CB_LAYOUTRECALL4res`, RFC 5661 20.3.2).
-#[derive(Clone, Copy, Debug, PartialEq, Eq)]
+#[derive(Clone, Copy, PartialEq, Eq)]
 pub struct RecallAnswer {
     /// The client that answers.
     pub client: u32,

@@ -22,7 +22,7 @@ use xdr_codec::{Reader, Writer};
 
 /// A layout of a part of a file (`layout4`, RFC 5661 3.3.17). Its layout type is that of object-based
 /// storage.
-#[derive(Debug, PartialEq, Drop)]
+#[derive(PartialEq, Drop)]
 pub struct LayoutSegment {
     /// The first byte of the file that it is for.
     pub offset: u64,
@@ -35,7 +35,7 @@ pub struct LayoutSegment {
 }
 
 /// The layouts that LAYOUTGET gives (`LAYOUTGET4resok`, RFC 5661 18.43.2).
-#[derive(Debug, PartialEq, Drop)]
+#[derive(PartialEq, Drop)]
 pub struct LayoutGetOk {
     /// Whether the client is to give the layouts back when it closes the file.
     pub return_on_close: bool,
@@ -46,7 +46,7 @@ pub struct LayoutGetOk {
 }
 
 /// What LAYOUTGET answers (`LAYOUTGET4res`, RFC 5661 18.43.2).
-#[derive(Debug, PartialEq, Drop)]
+#[derive(PartialEq, Drop)]
 pub enum LayoutGetResult {
     /// Status [`NFS4_OK`]: the layouts.
     Granted(LayoutGetOk),
@@ -57,7 +57,7 @@ pub enum LayoutGetResult {
 }
 
 /// What LAYOUTCOMMIT answers (`LAYOUTCOMMIT4res`, RFC 5661 18.42.2).
-#[derive(Clone, Copy, Debug, PartialEq, Eq)]
+#[derive(Clone, Copy, PartialEq, Eq)]
 pub enum LayoutCommitResult {
     /// Status [`NFS4_OK`]: the file's size, if the commit changed it.
     Committed { new_size: Option<u64> },
@@ -66,7 +66,7 @@ pub enum LayoutCommitResult {
 }
 
 /// What LAYOUTRETURN answers (`LAYOUTRETURN4res`, RFC 5661 18.44.2).
-#[derive(Clone, Copy, Debug, PartialEq, Eq)]
+#[derive(Clone, Copy, PartialEq, Eq)]
 pub enum LayoutReturnResult {
     /// Status [`NFS4_OK`]: the state of the layouts that the client still has, if it has any.
     Returned { stateid: Option<StateId> },
@@ -75,7 +75,7 @@ pub enum LayoutReturnResult {
 }
 
 /// The result of an operation.
-#[derive(Debug, PartialEq, Drop)]
+#[derive(PartialEq, Drop)]
 pub enum Results {
     /// Of [`Operation::LayoutCommit`].
     LayoutCommit(LayoutCommitResult),

@@ -11,7 +11,7 @@ use server_state::Drives;
 use std::alloc::Global;
 
 /// A drive that the server is told of.
-#[derive(Clone, Copy, Debug, PartialEq, Eq)]
+#[derive(Clone, Copy, PartialEq, Eq)]
 pub struct DriveInfo {
     /// The number of the drive, below 64.
     pub number: u32,

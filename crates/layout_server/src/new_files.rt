@@ -56,7 +56,7 @@ impl From<Memory> for FileErr {
 }
 
 /// A file that is to be made.
-#[derive(Clone, Copy, Debug)]
+#[derive(Clone, Copy)]
 pub struct NewFile {
     pub number: u32,
     pub map: DataMap,

@@ -25,7 +25,7 @@ use std::alloc::Global;
 use stripe_repair::{DriveLoad, Place};
 
 /// The step of an order, and what came of it.
-#[derive(Debug, Drop)]
+#[derive(Drop)]
 pub struct Obeyed {
     pub step: Step,
     pub result: OrderResult,

@@ -11,7 +11,7 @@ use std::alloc::Global;
 use xdr_codec::{Reader, Writer};
 
 /// The version of the OSD protocol that a drive speaks (`pnfs_osd_version4`, RFC 5664 3.2).
-#[derive(Clone, Copy, Debug, PartialEq, Eq)]
+#[derive(Clone, Copy, PartialEq, Eq)]
 pub enum OsdVersion {
     /// 0: there is no such object.
     Missing,
@@ -22,7 +22,7 @@ pub enum OsdVersion {
 }
 
 /// How a capability key is secured (`pnfs_osd_cap_key_sec4`, RFC 5664 3.3).
-#[derive(Clone, Copy, Debug, PartialEq, Eq)]
+#[derive(Clone, Copy, PartialEq, Eq)]
 pub enum KeySecurity {
     /// 0: it stands in clear.
     None,
@@ -31,7 +31,7 @@ pub enum KeySecurity {
 }
 
 /// An object and the credential for it (`pnfs_osd_object_cred4`, RFC 5664 3.3).
-#[derive(Debug, PartialEq, Drop)]
+#[derive(PartialEq, Drop)]
 pub struct ObjectCred {
     /// The object.
     pub oc_object_id: ObjId,

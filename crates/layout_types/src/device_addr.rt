@@ -12,7 +12,7 @@ use std::alloc::Global;
 use xdr_codec::{Reader, Writer};
 
 /// How a drive is named (`pnfs_osd_targetid4`, RFC 5664 4.2.1).
-#[derive(Debug, PartialEq, Drop)]
+#[derive(PartialEq, Drop)]
 pub enum TargetId {
     /// 1: not at all.
     Anon,
@@ -23,7 +23,7 @@ pub enum TargetId {
 }
 
 /// A network address (`netaddr4`, RFC 5661 3.3.9).
-#[derive(Debug, PartialEq, Drop)]
+#[derive(PartialEq, Drop)]
 pub struct NetAddr {
     /// The kind of network, as `tcp`, at most [`MAX_OPAQUE`](crate::MAX_OPAQUE) bytes.
     pub na_r_netid: Bytes,
@@ -36,7 +36,7 @@ pub const LUN_BYTES: usize = 8;
 
 /// The address of a drive (`pnfs_osd_deviceaddr4`, RFC 5664 4.2). The order of its
 /// fields is this project's own.
-#[derive(Debug, PartialEq, Drop)]
+#[derive(PartialEq, Drop)]
 pub struct DeviceAddr {
     /// How the drive is named.
     pub oda_targetid: TargetId,

@@ -7,7 +7,7 @@ use xdr_codec::{Reader, Writer};
 
 /// What a client wishes of a new file's layout (`pnfs_osd_layouthint4`, RFC 5664 9.1). Its form is
 /// this project's own: each wish is optional.
-#[derive(Clone, Copy, Debug, PartialEq, Eq)]
+#[derive(Clone, Copy, PartialEq, Eq)]
 pub struct LayoutHint {
     /// The most components.
     pub max_comps: Option<u32>,

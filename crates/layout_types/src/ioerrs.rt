@@ -12,7 +12,7 @@ use std::alloc::Global;
 use xdr_codec::{Reader, Writer};
 
 /// What went wrong at a drive (`pnfs_osd_errno4`, RFC 5664 8.1).
-#[derive(Clone, Copy, Debug, PartialEq, Eq)]
+#[derive(Clone, Copy, PartialEq, Eq)]
 pub enum Errno {
     /// 1: the drive failed.
     Eio,
@@ -31,7 +31,7 @@ pub enum Errno {
 }
 
 /// An error at one object (`pnfs_osd_ioerr4`, RFC 5664 8.2).
-#[derive(Clone, Copy, Debug, PartialEq, Eq)]
+#[derive(Clone, Copy, PartialEq, Eq)]
 pub struct IoErr {
     /// The object.
     pub oer_component: ObjId,
@@ -46,7 +46,7 @@ pub struct IoErr {
 }
 
 /// The errors that a client reports (`pnfs_osd_layoutreturn4`, RFC 5664 8.3).
-#[derive(Debug, PartialEq, Drop)]
+#[derive(PartialEq, Drop)]
 pub struct IoErrs {
     /// The errors, at most [`MAX_MEMBERS`](crate::MAX_MEMBERS).
     pub olr_ioerr_report: Sequence<IoErr>,

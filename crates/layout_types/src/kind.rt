@@ -15,7 +15,7 @@ use osd_lists::Bytes;
 use std::alloc::Global;
 
 /// A structure of RFC 5664 that can be shown.
-#[derive(Clone, Copy, Debug, PartialEq, Eq)]
+#[derive(Clone, Copy, PartialEq, Eq)]
 pub enum Kind {
     /// [`RawMap`].
     Map,

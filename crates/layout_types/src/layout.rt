@@ -9,7 +9,7 @@ use std::alloc::Global;
 use xdr_codec::{Reader, Writer};
 
 /// A layout of a file over objects (`pnfs_osd_layout4`, RFC 5664 5.2).
-#[derive(Debug, PartialEq, Drop)]
+#[derive(PartialEq, Drop)]
 pub struct Layout {
     /// How the file's bytes are spread.
     pub olo_map: RawMap,

@@ -9,7 +9,7 @@ use xdr_codec::{Reader, Writer};
 pub const DEVICE_ID_BYTES: usize = 16;
 
 /// An object of a drive (`pnfs_osd_objid4`, RFC 5664 3.1).
-#[derive(Clone, Copy, Debug, PartialEq, Eq)]
+#[derive(Clone, Copy, PartialEq, Eq)]
 pub struct ObjId {
     /// The drive, by its device id. The project writes the drive's number, big-endian.
     pub oid_device_id: [u8; DEVICE_ID_BYTES],

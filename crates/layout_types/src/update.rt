@@ -6,7 +6,7 @@ use std::alloc::Global;
 use xdr_codec::{Reader, Writer};
 
 /// What a client's writes did (`pnfs_osd_layoutupdate4`, RFC 5664 6.2).
-#[derive(Clone, Copy, Debug, PartialEq, Eq)]
+#[derive(Clone, Copy, PartialEq, Eq)]
 pub struct LayoutUpdate {
     /// By how many bytes the used space grew, if that is told (`pnfs_osd_deltaspaceused4`, 6.1).
     pub dsu_delta: Option<i64>,

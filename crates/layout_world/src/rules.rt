@@ -14,7 +14,7 @@ use std::alloc::Global;
 use stripe_client::Awaits;
 
 /// What is done behind the first move of an event.
-#[derive(Clone, Copy, Debug, PartialEq, Eq)]
+#[derive(Clone, Copy, PartialEq, Eq)]
 pub enum Rule {
     /// Nothing.
     Alone,
@@ -26,7 +26,7 @@ pub enum Rule {
 }
 
 /// What is due where no message is pending.
-#[derive(Clone, Copy, Debug, PartialEq, Eq)]
+#[derive(Clone, Copy, PartialEq, Eq)]
 pub enum Quiet {
     /// The event is over.
     Over,

@@ -7,7 +7,7 @@ use crate::source::Fault;
 use osd_lists::{Bytes, Memory, Node, Sequence};
 
 /// A node and the address at which it listens.
-#[derive(Debug, PartialEq, Drop)]
+#[derive(PartialEq, Drop)]
 pub struct Peer {
     pub node: Node,
     pub address: Bytes,

@@ -17,7 +17,7 @@ pub const CHECK_BYTES: usize = 32;
 pub const SHA1_TAG_BYTES: usize = 20;
 
 /// The key of a capability, which its holder makes check values with.
-#[derive(Clone, Copy, Debug, PartialEq, Eq)]
+#[derive(Clone, Copy, PartialEq, Eq)]
 pub enum CapKey {
     /// Of a capability of format 1, over SHA-1.
     One([u8; SHA1_TAG_BYTES]),

@@ -34,7 +34,7 @@ const FIELDS: usize = 64;
 /// | 56 | 8 | range length |
 ///
 /// Numbers are big-endian. The bytes between, and from 64 on, are 0.
-#[derive(Clone, Copy, Debug, PartialEq, Eq)]
+#[derive(Clone, Copy, PartialEq, Eq)]
 pub struct Capability {
     /// [`FORMAT_SHA1`] or [`FORMAT_SHA256`].
     pub format: u8,

@@ -6,7 +6,7 @@ use osd_capability::{
 };
 
 /// What a command asks of an object.
-#[derive(Clone, Copy, Debug, PartialEq, Eq)]
+#[derive(Clone, Copy, PartialEq, Eq)]
 pub enum Action {
     /// Makes the object, with the payload as its label.
     Create,

@@ -49,7 +49,7 @@ const HEAD: usize = 236;
 ///
 /// The bytes between are 0. The payload of a WRITE has `length` bytes. A CREATE and a SET ATTR have
 /// one of any length, and `length` 0. The others have none.
-#[derive(Debug, Drop, PartialEq)]
+#[derive(Drop, PartialEq)]
 pub struct Command {
     pub action: Action,
     /// The partition of the object.
@@ -72,7 +72,7 @@ pub struct Command {
 }
 
 /// The block of a command: all of it but its payload, as [`Command`] has it.
-#[derive(Clone, Copy, Debug)]
+#[derive(Clone, Copy)]
 pub struct CommandBlock {
     pub action: Action,
     pub partition: u64,

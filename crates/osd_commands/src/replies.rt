@@ -38,7 +38,7 @@ const PERFORMED_BEFORE: u16 = 15;
 /// | 32 | 4 | length of the payload |
 /// | 36 | 4 | 0 |
 /// | 40 | | payload |
-#[derive(Debug, Drop, PartialEq)]
+#[derive(Drop, PartialEq)]
 pub struct Reply {
     /// The number of the command's action, or 0 where the bytes spelled no command.
     pub action: u16,

@@ -4,7 +4,7 @@ ghost use Rattle.osd_lists.specs.Overwrite.{overwritten};
 use osd_lists::{Bytes, Memory};
 
 /// A call of a disk in memory, as it was done.
-#[derive(Debug, Drop)]
+#[derive(Drop)]
 pub enum Call {
     /// These bytes were written from a place on.
     Write { at: u64, bytes: Bytes },

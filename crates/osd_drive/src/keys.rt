@@ -4,7 +4,7 @@ ghost use Rattle.osd_drive.specs.State.{key_of_version};
 use osd_lists::Sequence;
 
 /// A key that a drive shares with the server.
-#[derive(Clone, Copy, Debug, PartialEq, Eq)]
+#[derive(Clone, Copy, PartialEq, Eq)]
 pub struct DriveKey {
     /// The number by which a capability names it.
     pub version: u16,

@@ -2,7 +2,7 @@ ghost use Rattle.std.specs.Prelude.{◌≡◌};
 ghost use Rattle.osd_drive.specs.Effects.{verdict_number, detail_of};
 
 /// What a drive says to a command: that it performs it, or the first reason not to.
-#[derive(Clone, Copy, Debug, PartialEq, Eq)]
+#[derive(Clone, Copy, PartialEq, Eq)]
 pub enum Verdict {
     /// Nothing stands against it.
     Perform,

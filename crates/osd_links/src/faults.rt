@@ -6,7 +6,7 @@ use std::io::ErrorKind;
 use std::{fmt, io};
 
 /// Whom a call of the links was about that failed.
-#[derive(Clone, Copy, Debug, PartialEq, Eq)]
+#[derive(Clone, Copy, PartialEq, Eq)]
 pub enum Party {
     /// The links' own address, at which they listen.
     Own,
@@ -26,7 +26,7 @@ impl Display for Party {
 }
 
 /// Why a call of the links failed.
-#[derive(Clone, Copy, Debug)]
+#[derive(Clone, Copy)]
 pub enum Cause {
     /// No address of the node is known.
     Unknown,

@@ -4,7 +4,7 @@ use std::io::ErrorKind;
 use std::{fmt, io};
 
 /// Why a call of a file disk failed.
-#[derive(Debug, Drop)]
+#[derive(Drop)]
 pub enum FileCause {
     /// No file was opened, or a call on it failed before.
     NotOpen,

@@ -25,7 +25,7 @@ pub const REST_SECONDS: u64 = 15;
 const EXCHANGE_FACTOR: u64 = 2;
 
 /// How long links wait for a peer.
-#[derive(Clone, Copy, Debug)]
+#[derive(Clone, Copy)]
 pub struct Limits {
     /// How long it may keep silent: connect, send or take nothing.
     pub silence: Duration,
@@ -34,7 +34,7 @@ pub struct Limits {
 }
 
 /// How long links wait for whom.
-#[derive(Clone, Copy, Debug)]
+#[derive(Clone, Copy)]
 pub struct Patience {
     /// For a peer that connected.
     pub caller: Limits,

@@ -8,7 +8,7 @@ use std::marker::Model;
 pub const MAX_LANES: usize = 32;
 
 /// The last change of an object that was made for a holder, with the short reply to it.
-#[derive(Clone, Copy, Debug, Default, PartialEq, Eq)]
+#[derive(Clone, Copy, Default, PartialEq, Eq)]
 pub struct LaneEntry {
     /// Whose lane it is: the holder of the command's capability.
     pub holder: u32,

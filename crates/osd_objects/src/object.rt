@@ -16,7 +16,7 @@ pub const LENGTH_ATTRIBUTE: u32 = 1;
 pub const TAG_ATTRIBUTE: u32 = 2;
 
 /// What can be told of an object without its bytes.
-#[derive(Clone, Copy, Debug, PartialEq, Eq)]
+#[derive(Clone, Copy, PartialEq, Eq)]
 pub struct ObjectState {
     /// How many bytes the object has, holes included.
     pub length: u64,

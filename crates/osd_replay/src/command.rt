@@ -10,7 +10,7 @@ use scenario_text::decimal;
 pub const MAX_CALLS: u64 = 1000;
 
 /// What is done with the spelling of a structure.
-#[derive(Clone, Copy, Debug, PartialEq, Eq)]
+#[derive(Clone, Copy, PartialEq, Eq)]
 pub enum Inspection {
     /// Its fields are written, a line each.
     Show,
@@ -19,7 +19,7 @@ pub enum Inspection {
 }
 
 /// What the program is asked to do.
-#[derive(Clone, Copy, Debug, PartialEq, Eq)]
+#[derive(Clone, Copy, PartialEq, Eq)]
 pub enum Command {
     /// `replay`: a scenario is replayed.
     Replay,

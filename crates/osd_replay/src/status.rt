@@ -5,7 +5,7 @@ use layout_world::WorldErr;
 use scenario_text::EventErr;
 
 /// Why a line of a scenario was refused.
-#[derive(Clone, Copy, Debug, PartialEq, Eq)]
+#[derive(Clone, Copy, PartialEq, Eq)]
 pub enum ScenarioKind {
     /// The line spells no event.
     Event(EventErr),
@@ -16,7 +16,7 @@ pub enum ScenarioKind {
 }
 
 /// What has a limit in a run.
-#[derive(Clone, Copy, Debug, PartialEq, Eq)]
+#[derive(Clone, Copy, PartialEq, Eq)]
 pub enum Quantity {
     /// The input, of at most 67,108,864 bytes.
     Input,
@@ -27,7 +27,7 @@ pub enum Quantity {
 }
 
 /// How a run ended.
-#[derive(Clone, Copy, Debug, PartialEq, Eq)]
+#[derive(Clone, Copy, PartialEq, Eq)]
 pub enum Status {
     /// The input was read to its end and all was written.
     Done,

@@ -10,7 +10,7 @@ use osd_bytes::{LineErr, Sink};
 use osd_lists::Memory;
 
 /// Why a replay stops before its input ends.
-#[derive(Clone, Copy, Debug, PartialEq, Eq)]
+#[derive(Clone, Copy, PartialEq, Eq)]
 pub enum Stop {
     /// A line was refused.
     Refused(ScenarioKind),

@@ -2,7 +2,7 @@
 use thiserror::Error;
 
 /// How a stripe's parity is computed.
-#[derive(Clone, Copy, Debug, PartialEq, Eq)]
+#[derive(Clone, Copy, PartialEq, Eq)]
 pub enum Code {
     /// No parity.
     Plain,

@@ -8,7 +8,7 @@ use drive_command::StoredStop;
 use osd_replay::{Quantity, ScenarioKind, Status as ReplayStatus};
 
 /// How a run ended.
-#[derive(Debug, Drop)]
+#[derive(Drop)]
 pub enum Status {
     /// Its work was done, and all was written.
     Done,

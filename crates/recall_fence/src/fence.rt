@@ -22,7 +22,7 @@ use std::marker::Model;
 use thiserror::Error;
 
 /// Where a component stands.
-#[derive(Clone, Copy, Debug, PartialEq, Eq)]
+#[derive(Clone, Copy, PartialEq, Eq)]
 pub struct ObjectPlace {
     /// The number of the drive.
     pub drive: u32,

@@ -9,7 +9,7 @@ use thiserror::Error;
 ///
 /// Any numbers of their types may stand here, but for `algorithm`, which is 1 to 4: RAID_0, RAID_4,
 /// RAID_5 and RAID_PQ. Whether they are a map is judged by whoever makes the file.
-#[derive(Clone, Copy, Debug, PartialEq, Eq)]
+#[derive(Clone, Copy, PartialEq, Eq)]
 pub struct FileMap {
     /// The number of components.
     pub components: u32,
@@ -43,14 +43,14 @@ pub enum Call {
 }
 
 /// A client or the server, as one that sends again what it waits for.
-#[derive(Clone, Copy, Debug, PartialEq, Eq)]
+#[derive(Clone, Copy, PartialEq, Eq)]
 pub enum Sender {
     Client { client: ClientName },
     Server,
 }
 
 /// A drive or the server, as a machine that has a clock and can crash.
-#[derive(Clone, Copy, Debug, PartialEq, Eq)]
+#[derive(Clone, Copy, PartialEq, Eq)]
 pub enum Machine {
     Drive { drive: DriveName },
     Server,

@@ -3,7 +3,7 @@ use crate::names::{ClientName, DriveName, FileName};
 use osd_lists::{Bytes, Numbers};
 
 /// One end of a message.
-#[derive(Clone, Copy, Debug, PartialEq, Eq)]
+#[derive(Clone, Copy, PartialEq, Eq)]
 pub enum Party {
     Drive { drive: DriveName },
     Client { client: ClientName },
@@ -11,7 +11,7 @@ pub enum Party {
 }
 
 /// What a drive makes of a command.
-#[derive(Clone, Copy, Debug, PartialEq, Eq)]
+#[derive(Clone, Copy, PartialEq, Eq)]
 pub enum Verdict {
     Perform,
     Again,
@@ -37,7 +37,7 @@ pub enum Verdict {
 }
 
 /// What became of a delivered message.
-#[derive(Clone, Copy, Debug, PartialEq, Eq)]
+#[derive(Clone, Copy, PartialEq, Eq)]
 pub enum Delivery {
     /// The receiver is a stopped client or a failed drive.
     Deaf,
@@ -48,14 +48,14 @@ pub enum Delivery {
 }
 
 /// What a call does.
-#[derive(Clone, Copy, Debug, PartialEq, Eq)]
+#[derive(Clone, Copy, PartialEq, Eq)]
 pub enum CallKind {
     Write,
     Read,
 }
 
 /// Why a client doesn't use a layout.
-#[derive(Clone, Copy, Debug, PartialEq, Eq)]
+#[derive(Clone, Copy, PartialEq, Eq)]
 pub enum LayoutFault {
     Unreadable,
     Index,
@@ -104,7 +104,7 @@ pub enum Refusal {
 }
 
 /// Why numbers are no data map.
-#[derive(Clone, Copy, Debug, PartialEq, Eq)]
+#[derive(Clone, Copy, PartialEq, Eq)]
 pub enum MapFault {
     Unit,
     TooMany,

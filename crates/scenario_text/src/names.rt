@@ -12,7 +12,7 @@ pub const CLIENTS: u32 = 16;
 pub const FILES: u32 = 64;
 
 /// A name of one of `COUNT` things: a letter and a number, which contracts see as the number.
-#[derive(Clone, Copy, Debug, PartialEq, Eq)]
+#[derive(Clone, Copy, PartialEq, Eq)]
 pub struct Name<const LETTER: u8, const COUNT: u32> {
     number: u32,
 }

@@ -9,7 +9,7 @@ use cluster_text::CommandStop;
 use osd_lists::Memory;
 
 /// Why a server stopped, or didn't begin.
-#[derive(Clone, Copy, Debug, PartialEq, Eq)]
+#[derive(Clone, Copy, PartialEq, Eq)]
 pub enum ServerStop {
     /// For a cause that a server in memory has too.
     Command(CommandStop),

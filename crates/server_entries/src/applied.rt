@@ -1,5 +1,5 @@
 /// What came of entries.
-#[derive(Clone, Copy, Debug, PartialEq, Eq)]
+#[derive(Clone, Copy, PartialEq, Eq)]
 pub enum Applied {
     /// The server is what they make of it.
     Done,

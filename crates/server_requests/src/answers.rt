@@ -15,7 +15,7 @@ use server_rules::{ClientRequest, Drive, Grant, Kept, RequestArgs};
 use std::alloc::Global;
 
 /// What an answer says.
-#[derive(Clone, Copy, Debug, PartialEq, Eq)]
+#[derive(Clone, Copy, PartialEq, Eq)]
 pub struct Told {
     /// The status, of RFC 5661 15.1.
     pub status: u32,

@@ -8,7 +8,7 @@ use grant_table::grant_of;
 use server_rules::{Grant, Kept};
 
 /// What a LAYOUTCOMMIT comes to.
-#[derive(Clone, Copy, Debug, PartialEq, Eq)]
+#[derive(Clone, Copy, PartialEq, Eq)]
 pub enum Committed {
     /// The client has no grant on the file.
     NoGrant,

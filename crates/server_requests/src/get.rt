@@ -15,7 +15,7 @@ use server_rules::{GREATEST_GRANT, Grant, Kept, LEASE};
 use std::alloc::Global;
 
 /// What a LAYOUTGET asks: these bytes of the file, in this mode.
-#[derive(Clone, Copy, Debug, PartialEq, Eq)]
+#[derive(Clone, Copy, PartialEq, Eq)]
 pub struct Wanted {
     pub iomode: u32,
     pub offset: u64,
@@ -23,7 +23,7 @@ pub struct Wanted {
 }
 
 /// The row of a LAYOUTGET that looks at no grant. The first that applies is given, in this order.
-#[derive(Clone, Copy, Debug, PartialEq, Eq)]
+#[derive(Clone, Copy, PartialEq, Eq)]
 pub enum Early {
     /// The mode is neither for reading nor for reading and writing.
     BadMode,
@@ -91,7 +91,7 @@ pub fn must_fence(now: u64, grants: &[Grant], asked: &Grant) -> bool
 }
 
 /// The row of a LAYOUTGET behind those of the fence. The first that applies is given, in this order.
-#[derive(Clone, Copy, Debug, PartialEq, Eq)]
+#[derive(Clone, Copy, PartialEq, Eq)]
 pub enum Late {
     /// No number is left for a grant.
     NoNumber,

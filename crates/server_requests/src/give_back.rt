@@ -104,7 +104,7 @@ pub fn loss(
 }
 
 /// What a LAYOUTRETURN comes to.
-#[derive(Debug, PartialEq, Drop)]
+#[derive(PartialEq, Drop)]
 pub enum Returned {
     /// The client has no grant on the file.
     NoGrant,

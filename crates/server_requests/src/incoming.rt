@@ -18,7 +18,7 @@ use server_rules::{ClientRequest, RequestArgs};
 use std::alloc::Global;
 
 /// What the server takes.
-#[derive(Debug, Drop)]
+#[derive(Drop)]
 pub enum Message {
     /// A client's request.
     Asks(ClientRequest),

@@ -1,7 +1,7 @@
 use osd_lists::{Bytes, Node, Sequence};
 
 /// A message to be sent.
-#[derive(Debug, PartialEq, Drop)]
+#[derive(PartialEq, Drop)]
 pub struct Sent {
     /// To whom.
     pub to: Node,

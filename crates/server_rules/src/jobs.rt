@@ -2,7 +2,7 @@ use osd_commands::Command;
 use osd_lists::{Bytes, Sequence};
 
 /// Columns of one stripe.
-#[derive(Clone, Copy, Debug, PartialEq, Eq)]
+#[derive(Clone, Copy, PartialEq, Eq)]
 pub struct Piece {
     /// The number of the stripe in the file.
     pub stripe: u64,
@@ -16,7 +16,7 @@ pub struct Piece {
 pub type Todo = Sequence<Piece>;
 
 /// What a job is for.
-#[derive(Clone, Copy, Debug, PartialEq, Eq)]
+#[derive(Clone, Copy, PartialEq, Eq)]
 pub enum JobKind {
     /// Makes the components of a new file.
     Making,
@@ -29,7 +29,7 @@ pub enum JobKind {
 }
 
 /// Where a missing component is made anew.
-#[derive(Clone, Copy, Debug, PartialEq, Eq)]
+#[derive(Clone, Copy, PartialEq, Eq)]
 pub struct Target {
     /// The number of the component.
     pub component: u32,
@@ -40,14 +40,14 @@ pub struct Target {
 }
 
 /// The length that a component's object told.
-#[derive(Clone, Copy, Debug, PartialEq, Eq)]
+#[derive(Clone, Copy, PartialEq, Eq)]
 pub struct Measured {
     pub component: u32,
     pub length: u64,
 }
 
 /// What an audit found so far.
-#[derive(Debug, Drop)]
+#[derive(Drop)]
 pub struct Tally {
     pub lengths: Sequence<Measured>,
     /// Stripes of which a position has no present replica.
@@ -57,7 +57,7 @@ pub struct Tally {
 }
 
 /// What a job waits for, and what it still has to do.
-#[derive(Debug, Drop)]
+#[derive(Drop)]
 pub enum Work {
     /// The components are made.
     Creates,
@@ -99,7 +99,7 @@ pub enum Work {
 }
 
 /// A command that a job sent to a drive and that isn't answered yet. It isn't sealed.
-#[derive(Debug, Drop)]
+#[derive(Drop)]
 pub struct Awaited {
     pub component: u32,
     pub drive: u32,
@@ -110,14 +110,14 @@ pub struct Awaited {
 pub type AwaitedCommands = Sequence<Awaited>;
 
 /// What a component's reply that counted carried.
-#[derive(Debug, Drop)]
+#[derive(Drop)]
 pub struct Heard {
     pub component: u32,
     pub payload: Bytes,
 }
 
 /// A job of a file. Where it rests it awaits something.
-#[derive(Debug, Drop)]
+#[derive(Drop)]
 pub struct Job {
     pub kind: JobKind,
     pub work: Work,

@@ -3,7 +3,7 @@ use layout_types::IoErr;
 use osd_lists::Sequence;
 
 /// What a request asks, with its body read.
-#[derive(Debug, Drop)]
+#[derive(Drop)]
 pub enum RequestArgs {
     /// LAYOUTGET: a layout for these bytes of the file.
     Get {
@@ -22,7 +22,7 @@ pub enum RequestArgs {
 }
 
 /// A request of a client.
-#[derive(Debug, Drop)]
+#[derive(Drop)]
 pub struct ClientRequest {
     pub client: u32,
     pub sequence: u32,

@@ -7,7 +7,7 @@ use osd_commands::Command;
 use osd_lists::Sequence;
 
 /// A drive as the server has it.
-#[derive(Clone, Copy, Debug, PartialEq, Eq)]
+#[derive(Clone, Copy, PartialEq, Eq)]
 pub struct Drive {
     pub number: u32,
     pub key: [u8; 20],
@@ -20,7 +20,7 @@ pub struct Drive {
 }
 
 /// The slot of a client: its last sequence number, and the answer to that.
-#[derive(Debug, Drop)]
+#[derive(Drop)]
 pub struct Slot {
     pub client: u32,
     /// The number of its last request.
@@ -30,7 +30,7 @@ pub struct Slot {
 }
 
 /// The metadata server.
-#[derive(Debug, Drop)]
+#[derive(Drop)]
 pub struct Server {
     /// In order of their numbers.
     pub files: Sequence<File>,
@@ -51,7 +51,7 @@ pub struct Server {
 }
 
 /// What a step did so far: the next nonce and object number, and what it sent and noted.
-#[derive(Debug, Drop)]
+#[derive(Drop)]
 pub struct Effects {
     pub nonce: u64,
     pub object: u64,
@@ -61,7 +61,7 @@ pub struct Effects {
 }
 
 /// Why a file isn't made.
-#[derive(Clone, Copy, Debug, PartialEq, Eq)]
+#[derive(Clone, Copy, PartialEq, Eq)]
 pub enum Refusal {
     /// There is a file of that number.
     FileExists,
@@ -74,7 +74,7 @@ pub enum Refusal {
 }
 
 /// A message that the server sends.
-#[derive(Debug, Drop)]
+#[derive(Drop)]
 pub enum Outgoing {
     /// A command to a drive, sealed.
     ToDrive { drive: u32, command: Command },

@@ -14,7 +14,7 @@ use server_rules::{ClientRequest, Drive, Effects};
 use std::alloc::Global;
 
 /// What a request did besides its file, and the answer to it.
-#[derive(Debug, Drop)]
+#[derive(Drop)]
 pub struct Served {
     pub outcome: Outcome,
     pub answer: Answer,

@@ -6,7 +6,7 @@ use server_rules::Grants;
 use std::alloc::Global;
 
 /// Who asks, when, and what the server counts on.
-#[derive(Clone, Copy, Debug, PartialEq, Eq)]
+#[derive(Clone, Copy, PartialEq, Eq)]
 pub struct Asking {
     /// The number of the client.
     pub client: u32,
@@ -19,7 +19,7 @@ pub struct Asking {
 }
 
 /// What a request did besides the file.
-#[derive(Debug, Drop)]
+#[derive(Drop)]
 pub struct Outcome {
     /// The grants whose holders are recalled.
     pub recalled: Grants,

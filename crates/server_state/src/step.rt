@@ -9,7 +9,7 @@ pub type Notes = Sequence<Note>;
 pub type Repairs = Sequence<Mended>;
 
 /// What a step sends and tells.
-#[derive(Debug, Drop)]
+#[derive(Drop)]
 pub struct Step {
     pub sends: Sends,
     pub notes: Notes,

@@ -14,7 +14,7 @@ use osd_lists::{Bytes, Memory, Node, Sequence};
 use std::alloc::Global;
 
 /// A message that a client sends.
-#[derive(Debug, PartialEq, Drop)]
+#[derive(PartialEq, Drop)]
 pub struct Sent {
     pub to: Node,
     pub bytes: Bytes,
@@ -24,7 +24,7 @@ pub struct Sent {
 pub type Sends = Sequence<Sent>;
 
 /// What a step of a client does for others: messages, and how a call ended.
-#[derive(Debug, Drop)]
+#[derive(Drop)]
 pub struct CStep {
     /// The answer to a recall, then a request, then commands by stripe, component and offset.
     pub sends: Sends,

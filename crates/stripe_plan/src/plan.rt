@@ -4,7 +4,7 @@ use osd_lists::{Bytes, Memory, Numbers, Sequence};
 use thiserror::Error;
 
 /// A range of a file's bytes.
-#[derive(Clone, Copy, Debug, PartialEq, Eq)]
+#[derive(Clone, Copy, PartialEq, Eq)]
 pub struct Span {
     /// The first byte.
     pub offset: u64,
@@ -13,7 +13,7 @@ pub struct Span {
 }
 
 /// Columns of a stripe, or bytes of a component, from `first` up to `end`. There are none where `first` isn't below.
-#[derive(Clone, Copy, Debug, PartialEq, Eq)]
+#[derive(Clone, Copy, PartialEq, Eq)]
 pub struct Interval {
     pub first: u64,
     pub end: u64,
@@ -23,7 +23,7 @@ pub struct Interval {
 pub type Intervals = Sequence<Interval>;
 
 /// Bytes of a position, from `first` up to `end`.
-#[derive(Clone, Copy, Debug, PartialEq, Eq)]
+#[derive(Clone, Copy, PartialEq, Eq)]
 pub struct Stretch {
     pub position: u32,
     pub first: u64,
@@ -31,7 +31,7 @@ pub struct Stretch {
 }
 
 /// What a plan is for.
-#[derive(Clone, Copy, Debug, PartialEq, Eq)]
+#[derive(Clone, Copy, PartialEq, Eq)]
 pub enum Aim {
     /// To read a range.
     Reads,
@@ -42,7 +42,7 @@ pub enum Aim {
 }
 
 /// Bytes of a component that a plan reads or writes, with their stripe and position.
-#[derive(Clone, Copy, Debug, PartialEq, Eq)]
+#[derive(Clone, Copy, PartialEq, Eq)]
 pub struct Ask {
     pub stripe: u64,
     pub position: u32,
@@ -57,7 +57,7 @@ pub struct Ask {
 pub type Asks = Sequence<Ask>;
 
 /// A range of a component.
-#[derive(Clone, Copy, Debug, PartialEq, Eq)]
+#[derive(Clone, Copy, PartialEq, Eq)]
 pub struct Piece {
     pub component: u32,
     /// The first byte in the component.
@@ -70,7 +70,7 @@ pub struct Piece {
 pub type Pieces = Sequence<Piece>;
 
 /// Bytes of a component.
-#[derive(Debug, PartialEq, Drop)]
+#[derive(PartialEq, Drop)]
 pub struct Part {
     pub component: u32,
     /// The first byte in the component.
@@ -85,7 +85,7 @@ pub type Fetched = Sequence<Part>;
 pub type Writes = Sequence<Part>;
 
 /// Bytes of a position, which each of its replicas holds.
-#[derive(Debug, PartialEq, Drop)]
+#[derive(PartialEq, Drop)]
 pub struct Column {
     pub position: u32,
     /// The first byte in the components.
@@ -97,14 +97,14 @@ pub struct Column {
 pub type Columns = Sequence<Column>;
 
 /// A write of a plan with its bytes.
-#[derive(Debug, PartialEq, Drop)]
+#[derive(PartialEq, Drop)]
 pub struct Store {
     pub ask: Ask,
     pub bytes: Bytes,
 }
 
 /// The components that can't be used: those that are missing and those that don't answer.
-#[derive(Debug, PartialEq, Drop)]
+#[derive(PartialEq, Drop)]
 pub struct Out {
     pub components: Numbers,
 }

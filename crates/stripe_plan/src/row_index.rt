@@ -19,7 +19,7 @@ const FEW_PIECES: usize = 8;
 // The numbers of pieces in the order in which they were added, in lists: those of one row of a position stand in one
 // list, maybe with those of some others. So what is had of a row is found without going through all pieces. An index that
 // is made for few pieces has no lists.
-#[derive(Debug, Drop)]
+#[derive(Drop)]
 pub(crate) struct RowIndex {
     // the length of a row
     unit: u64,

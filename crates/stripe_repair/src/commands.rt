@@ -18,7 +18,7 @@ use server_rules::{
 use std::alloc::Global;
 
 /// What a job asks of an object, but for a WRITE.
-#[derive(Clone, Copy, Debug, PartialEq, Eq)]
+#[derive(Clone, Copy, PartialEq, Eq)]
 pub enum Ask {
     /// CREATE, with a label of the file, the component and the map.
     Create,
@@ -31,7 +31,7 @@ pub enum Ask {
 }
 
 /// Which of the present components are meant.
-#[derive(Clone, Copy, Debug, PartialEq, Eq)]
+#[derive(Clone, Copy, PartialEq, Eq)]
 pub enum Which {
     /// All of them.
     Every,

@@ -8,7 +8,7 @@ use std::alloc::Global;
 use zone_place::ZoneLoad;
 
 /// A drive, and what it holds.
-#[derive(Clone, Copy, Debug, PartialEq, Eq)]
+#[derive(Clone, Copy, PartialEq, Eq)]
 pub struct DriveLoad {
     /// The number of the drive.
     pub drive: u32,

@@ -8,7 +8,7 @@ use std::marker::Model;
 
 /// Numbers that were marked, each once, in the order in which they were. A number above all of them is marked
 /// in no more time than it takes to add it.
-#[derive(Debug, Drop)]
+#[derive(Drop)]
 pub struct Marks {
     numbers: Times,
     top: u64,

@@ -24,7 +24,7 @@ use std::alloc::Global;
 use std::marker::Model;
 
 /// What is awaited of the first piece.
-#[derive(Clone, Copy, Debug, PartialEq, Eq)]
+#[derive(Clone, Copy, PartialEq, Eq)]
 pub enum FillStage {
     /// The sources of the first piece are read.
     Gathering,
@@ -33,7 +33,7 @@ pub enum FillStage {
 }
 
 /// What comes of a step of a rebuild.
-#[derive(Debug, Drop)]
+#[derive(Drop)]
 pub enum FillStep {
     /// The READs of the sources of the next piece.
     Fetch(AwaitedCommands),

@@ -22,7 +22,7 @@ use std::alloc::Global;
 use std::marker::Model;
 
 /// What is awaited of the first piece.
-#[derive(Clone, Copy, Debug, PartialEq, Eq)]
+#[derive(Clone, Copy, PartialEq, Eq)]
 pub enum Stage {
     /// The rows of the first piece are read.
     Fetching,

@@ -11,7 +11,7 @@ use server_rules::{Heard, Kept, Piece};
 use std::alloc::Global;
 
 /// What an audit finds of a piece.
-#[derive(Clone, Copy, Debug, PartialEq, Eq)]
+#[derive(Clone, Copy, PartialEq, Eq)]
 pub enum StripeState {
     /// The stripe's columns are codewords, equal in all replicas.
     Whole,

@@ -1,5 +1,5 @@
 /// What a history comes to, in numbers.
-#[derive(Clone, Copy, Debug, PartialEq, Eq)]
+#[derive(Clone, Copy, PartialEq, Eq)]
 pub struct Summary {
     /// The calls.
     pub calls: u64,

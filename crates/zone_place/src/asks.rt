@@ -5,7 +5,7 @@ use data_map::DataMap;
 
 /// What a file asks of zones: how many groups it has, of how many components, and how many of a group may
 /// stand in one zone, so that its code brings them back if the zone fails.
-#[derive(Clone, Copy, Debug, PartialEq, Eq)]
+#[derive(Clone, Copy, PartialEq, Eq)]
 pub struct ZoneAsk {
     /// How many groups the file has.
     pub groups: u32,

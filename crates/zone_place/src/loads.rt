@@ -1,5 +1,5 @@
 /// A drive that was put into a zone, and what it holds.
-#[derive(Clone, Copy, Debug, PartialEq, Eq)]
+#[derive(Clone, Copy, PartialEq, Eq)]
 pub struct ZoneLoad {
     /// The number of the drive.
     pub drive: u32,
@@ -12,7 +12,7 @@ pub struct ZoneLoad {
 }
 
 /// A component of a file, and the drive on which it stands, or last stood if it is missing.
-#[derive(Clone, Copy, Debug, PartialEq, Eq)]
+#[derive(Clone, Copy, PartialEq, Eq)]
 pub struct Holder {
     /// The number of the component.
     pub component: u32,
