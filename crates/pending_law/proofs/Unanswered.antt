@@ -72,37 +72,38 @@ module _ (one : OneRequest) (in_step : ClientsAreInStep) (readable : FilesAndAns
   -- ---- the call of a `do`, at its last move
 
   module _ (w : World) (h : List Line) (k : IsMoment w h) (m : Move) (d : due (plan_at k) w ≡ Some m.action)
-      (text : AreOfText h) (few : AreFew h) (c : ℕ) (j : ℕ) (last : m.action ≡ Pends j) (l : (kind : CallKind) × IsLeft k.history k.event h c kind) where
+      (text : AreOfText h) (few : AreFew h) (c : ℕ) (j : ℕ) (last : m.action ≡ Pends j)
+      (l : (kind : CallKind) × IsLeft k.history k.event h c kind) where
     abbrev v : World
     v = k.before
 
     abbrev first : ℕ
     first = length v.network.messages
 
-    abbrev its : EventCall
-    its = l.1.its
+    abbrev call : EventCall
+    call = l.1.its
 
     abbrev e : Event
-    e = event.Do c its
+    e = event.Do c call
 
-    is : k.event ≡ e
-    is = l.1.event_is
+    event_is : k.event ≡ e
+    event_is = l.1.event_is
 
     -- the client took the call
-    caller : ClientAt
+    abbrev caller : ClientAt
     caller = l.1.takes.caller
 
     called : at_number v.clients c ≡ Some caller
     called = sym (clients_are_read v k.history k.stands c) ∙ l.1.takes.there
 
-    taken : is_refused (at_number v.clients c) (op_of its) ≡ false
-    taken = ap (λ (o : Option ClientAt). is_refused o (op_of its)) called ∙ l.1.takes.taken
+    taken : is_refused (at_number v.clients c) (op_of call) ≡ false
+    taken = ap (λ (o : Option ClientAt). is_refused o (op_of call)) called ∙ l.1.takes.taken
 
     are_due : AreDue (plan_of v e) v k.moves
-    are_due = subst (λ (x : Event). AreDue (plan_of v x) v k.moves) is k.are_due
+    are_due = subst (λ (x : Event). AreDue (plan_of v x) v k.moves) event_is k.are_due
 
     lines : h ≡ k.history ++ lines_so_far v e k.moves
-    lines = k.lines_are ∙ ap (λ (x : Event). k.history ++ lines_so_far v x k.moves) is
+    lines = k.lines_are ∙ ap (λ (x : Event). k.history ++ lines_so_far v x k.moves) event_is
 
     -- it isn't the event's first move
     begun : (ms : List Move) → k.moves ≡ ms → (lines_so_far v e ms ≡ line.Event e ∷ lines_of v ms) × ((plan_at k).opening ≡ None)
@@ -121,7 +122,7 @@ module _ (one : OneRequest) (in_step : ClientsAreInStep) (readable : FilesAndAns
     in_do : IsInDo h c
     in_do = record {
       start = k.history;
-      its = its;
+      its = call;
       body = lines_of v k.moves;
       lines_are = lines ∙ ap (λ (ls : List Line). k.history ++ ls) own_lines;
       own = moves_plain v e k.moves are_due;
@@ -135,14 +136,14 @@ module _ (one : OneRequest) (in_step : ClientsAreInStep) (readable : FilesAndAns
     holds : IsWaiting v c w
     holds =
         subst (IsWaiting v c) (sym k.world_is)
-        (waits one in_step readable can low safe more v c named k.history k.stands its
-        (subst (λ (x : Event). refusal v x ≡ None) is k.allowed) taken k.moves are_due (subst AreOfText lines text)
+        (waits one in_step readable can low safe more v c named k.history k.stands call
+        (subst (λ (x : Event). refusal v x ≡ None) event_is k.allowed) taken k.moves are_due (subst AreOfText lines text)
         (subst AreFew lines few))
 
     -- no message of the event is left
     rule_is : (plan_at k).rule ≡ Prompt first (Some c)
     rule_is =
-        rule_there v k.event k.moves w m.action d ∙ ap (rule_of v) is ∙ taken_rule v c its taken
+        rule_there v k.event k.moves w m.action d ∙ ap (rule_of v) event_is ∙ taken_rule v c call taken
 
     none_next : next_pending w first ≡ None
     none_next = by (next_pending w first) refl due_so
@@ -183,6 +184,7 @@ module _ (one : OneRequest) (in_step : ClientsAreInStep) (readable : FilesAndAns
     ]
 
     pub is_unanswered : IsUnanswered h c
+    unfolding in_do
     is_unanswered = record {
       event = in_do;
       request = waiting.request;
@@ -203,12 +205,11 @@ module _ (one : OneRequest) (in_step : ClientsAreInStep) (readable : FilesAndAns
   module _ (w : World) (h : List Line) (k : IsMoment w h) (m : Move) (d : due (plan_at k) w ≡ Some m.action) where
     pends_lines : (j : ℕ) → m.action ≡ Pends j → (o : Option ClientAt) → at_number w.clients j ≡ o
         → EachBehind UnansweredAt h (sends_all (by_client w (λ (a : ClientAt). pends_as w j (pending_op a.state)) o)).lines
-    unfolding sent_lines
+    unfolding sent_lines pends
     pends_lines j is None there = tt
     pends_lines j is (Some a) there = by (pending_op a.state) refl
       where
         told : (op : CallOp) → pending_op a.state ≡ Some op → lines_in w m ≡ pending_line j (kind_of op) ∷ []
-        unfolding pends
         told op its =
             ap (λ (x : Action). lines_in w (record { action = x; chosen = m.chosen })) is
             ∙ ap (λ (o : Option ClientAt). (sends_all (by_client w (λ (y : ClientAt). pends_as w j (pending_op y.state)) o)).lines) there
@@ -218,9 +219,9 @@ module _ (one : OneRequest) (in_step : ClientsAreInStep) (readable : FilesAndAns
         by None its = tt
         by (Some op) its = (
           λ text few.
-          let i : In (pending_line j (kind_of op)) (lines_in w m) =
-          subst (In (pending_line j (kind_of op))) (sym (told op its)) (inl refl) in
-          is_unanswered w h k m d text few j j is (kind_of op, ((each_call_is_left_so w h k m d).left j (kind_of op) i).0),
+              let i : In (pending_line j (kind_of op)) (lines_in w m) =
+              subst (In (pending_line j (kind_of op))) (sym (told op its)) (inl refl) in
+              is_unanswered w h k m d text few j j is (kind_of op, ((each_call_is_left_so w h k m d).left j (kind_of op) i).0),
           tt,
         )
 
