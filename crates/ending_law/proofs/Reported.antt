@@ -9,7 +9,6 @@ use Rattle.osd_lists.proofs.BlockLaws.{below_64}
 use Rattle.xdr_codec.specs.Items.{u64_item}
 use Rattle.layout_types.specs.declared.ioerrs.IoErr.{IoErr}
 use Rattle.layout_types.specs.declared.ioerrs.IoErrs.{IoErrs}
-use Rattle.layout_types.specs.declared.update.LayoutUpdate.{LayoutUpdate}
 use Rattle.layout_types.specs.Grammar.{whole, list_item}
 use Rattle.layout_types.specs.Reading.{ioerrs_in, update_in}
 use Rattle.layout_types.specs.Spelling.{ioerr_item, ioerrs_item, IoErrFits, IoErrsFits, update_item, UpdateFits}
@@ -18,7 +17,7 @@ use Rattle.layout_types.proofs.Steps.{all_again}
 use Rattle.client_rules.specs.Requests.{plain_update, get_args, commit_args, return_args}
 use Rattle.server_rules.specs.Envelopes.{commit_in, return_in}
 use Rattle.world_history.specs.ClientNames.{CallOp, Held}
-use Rattle.world_history.specs.ServerNames.{Get, Commit, Return}
+use Rattle.world_history.specs.ServerNames.{Commit, Return}
 use Rattle.ending_law.specs.Reports.{as_written, error_read, report_read, CanBeRead}
 use Rattle.ending_law.proofs.Lengths.{ErrorLong, ReportShort}
 

@@ -1,18 +1,17 @@
 -- A request that comes to a server that is up is answered at once.
-use Rattle.std.proofs.Common.{◌≡◌, ◌≤◌, ◌==◌, ◌&&◌, ℕ, Bool, true, false, List, [], ◌∷◌, ◌++◌, nat_le, Option, Some, None, refl, sym, ap, subst, ◌∙◌, eq-eqb, inl, inr, arith, if◌then◌else◌}
+use Rattle.std.proofs.Common.{◌≡◌, ◌≤◌, ◌==◌, ◌&&◌, ℕ, Bool, true, false, List, [], ◌∷◌, nat_le, Option, Some, None, refl, sym, ap, subst, ◌∙◌, eq-eqb, inl, arith, if◌then◌else◌}
 use Rattle.std.proofs.lemmas.Bool.Decides.{nat_tests}
 use Rattle.osd_lists.specs.declared.node.Node.TheVariants as node
 use Rattle.layout_ops.specs.declared.envelope.Envelope.TheVariants as envelope
 use Rattle.layout_ops.specs.declared.messages.Answer.{Answer}
-use Rattle.layout_ops.specs.Spelling.{EnvelopeFits, envelope_item}
+use Rattle.layout_ops.specs.Spelling.{EnvelopeFits}
 use Rattle.layout_ops.proofs.Whole.{all_again}
 use Rattle.server_rules.specs.declared.limits.TheConstants.{MAX_CLIENT}
 use Rattle.server_rules.specs.Answers.{recalls_from}
 use Rattle.server_rules.specs.Envelopes.{message_in, by_envelope, request_with}
-use Rattle.server_rules.specs.Files.{Step, file_at, at_file, to_drives}
-use Rattle.server_rules.specs.History.{Hears as ServerHears, step}
+use Rattle.server_rules.specs.Files.{file_at, at_file, to_drives}
 use Rattle.server_rules.specs.Laws.{In}
-use Rattle.server_rules.specs.Messages.{Message as ServerMessage, Asks, counters_have_room, handled, on_message}
+use Rattle.server_rules.specs.Messages.{Asks, counters_have_room, on_message}
 use Rattle.server_rules.specs.Requests.{serves, answer_with, answer_without, carries_out, by_admit, on_request}
 use Rattle.server_rules.specs.Served.{Served}
 use Rattle.server_rules.specs.Slots.{Admit, New, Again, Misordered, slot_of, admit}
@@ -20,10 +19,9 @@ use Rattle.server_rules.proofs.Members.{in_behind}
 use Rattle.scenario_text.specs.declared.line.Delivery.TheVariants as delivery
 use Rattle.world_history.specs.ClientNames.{Request}
 use Rattle.world_history.specs.ServerNames.{Server, Slot, File, ClientRequest, Outgoing, Answers, RequestArgs}
-use Rattle.world_history.specs.declared.messages.Message.{Message}
 use Rattle.world_history.specs.State.{World}
 use Rattle.world_history.specs.Names.{is_named}
-use Rattle.world_history.specs.Handed.{Handed, quiet, server_did, for_server, server_takes, server_hears, handed_to}
+use Rattle.world_history.specs.Handed.{Handed, quiet, server_did, for_server, server_takes, handed_to}
 use Rattle.move_law.specs.Said.{posted}
 use Rattle.exchange_law.specs.Messages.{IsSlotOf}
 use Rattle.exchange_law.proofs.Admitting.{is_last}

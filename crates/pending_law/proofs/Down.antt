@@ -1,5 +1,5 @@
 -- At each moment the server is down exactly if the lines say so.
-use Rattle.std.proofs.Common.{◌≡◌, ◌||◌, ℕ, Bool, true, false, true≢false, List, [], ◌∷◌, ◌++◌, Option, Some, None, Result, Ok, Err, slice_get, refl, sym, ap, subst, ◌∙◌, if◌then◌else◌}
+use Rattle.std.proofs.Common.{◌≡◌, ℕ, Bool, true, false, true≢false, List, [], ◌∷◌, Option, Some, None, Result, Ok, Err, slice_get, refl, sym, ap, subst, ◌∙◌, if◌then◌else◌}
 use Rattle.std.specs.Prelude.{is_some}
 use Rattle.std.specs.List.{fold}
 use Rattle.std.proofs.lemmas.List.Sums.{fold-append}
@@ -16,15 +16,15 @@ use Rattle.server_rules.specs.Making.{create_file}
 use Rattle.world_history.specs.ClientNames.{CallOp, CallErr}
 use Rattle.world_history.specs.ServerNames as server_rules
 use Rattle.world_history.specs.declared.messages.Posted.{Posted}
-use Rattle.world_history.specs.State.{World, DriveAt, ClientAt, at_number, and_drive}
-use Rattle.world_history.specs.Drives.{made_drive, raised, at_time, fallen, crashed, reopened}
-use Rattle.world_history.specs.Moves.{Act, Action, Opens, Delivers, TimesOut, Pends, changed, delivers_found, delivers, drops_found, by_client, op_of, called, calls_at, times_out, leaves, resends, raw_of, has_algorithm, made_file, makes, gives, by_drive, at_drive, injects_at, injects, known_drive, knows_drive, adds_drive, stops, begins, acts}
+use Rattle.world_history.specs.State.{World, DriveAt, ClientAt, at_number}
+use Rattle.world_history.specs.Drives.{fallen, crashed, reopened}
+use Rattle.world_history.specs.Moves.{Act, Action, Opens, Delivers, TimesOut, Pends, drops_found, by_client, op_of, called, calls_at, times_out, leaves, resends, raw_of, has_algorithm, made_file, makes, gives, by_drive, injects_at, injects, knows_drive, adds_drive, stops, begins, acts}
 use Rattle.world_history.specs.Sending.{Move, move}
-use Rattle.world_history.specs.Plans.{Plan, Rule, due, due_in, due_by, plan_of}
+use Rattle.world_history.specs.Plans.{Rule, due_in, due_by}
 use Rattle.world_history.specs.History.{OneEventMore}
 use Rattle.world_history.proofs.ReadMessages.{never_opens}
-use Rattle.move_law.specs.Moments.{IsMoment, plan_at, with_event, lines_in}
-use Rattle.move_law.proofs.Moments.{IsKept, always, no_event}
+use Rattle.move_law.specs.Moments.{plan_at, lines_in}
+use Rattle.move_law.proofs.Moments.{always, no_event}
 use Rattle.pending_law.specs.Lines.{is_event}
 use Rattle.pending_law.specs.Down.{down_after_line, is_down, DownIsRead}
 use Rattle.pending_law.proofs.Eventless.{NoEvent, first_plain, opens_plain, later_plain}

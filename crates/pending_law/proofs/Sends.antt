@@ -18,7 +18,7 @@ use Rattle.world_history.specs.Names.{is_named}
 use Rattle.world_history.specs.Handed.{Post, is_addressed, server_post, client_post, client_posts}
 use Rattle.world_history.specs.Moves.{Act, Action, acts}
 use Rattle.move_law.specs.Said.{posted}
-use Rattle.move_law.specs.Goes.{OthersGo, ServerGoes, ClientGoes, ClientStops, ClientComes, Goes, Others, AServer, AClient, Stops, Comes}
+use Rattle.move_law.specs.Goes.{ClientGoes, Goes, Others, AServer, AClient, Stops, Comes}
 use Rattle.move_law.proofs.Goes.{moves_are_steps}
 use Rattle.exchange_law.specs.InStep.{state_of}
 use Rattle.exchange_law.specs.Requests.{requests_in, requests_at, left_by, outstanding_at, OneRequest}

@@ -1,5 +1,5 @@
 -- A client that isn't stopped takes the answer to its outstanding request, so that it waits for it no longer.
-use Rattle.std.proofs.Common.{◌≡◌, ◌==◌, ◌&&◌, ◌<◌, ℕ, Bool, true, false, not, nat_lt, List, map, filter, Option, Some, None, slice_get, refl, sym, ap, subst, ◌∙◌, eq-eqb, ne_eqb, inl, inr, arith, if◌then◌else◌}
+use Rattle.std.proofs.Common.{◌≡◌, ◌<◌, ℕ, Bool, true, false, nat_lt, List, Option, Some, None, slice_get, refl, sym, ap, subst, ◌∙◌, eq-eqb, ne_eqb, inl, inr, arith, if◌then◌else◌}
 use Rattle.std.proofs.lemmas.Bool.{cases_eq}
 use Rattle.std.proofs.lemmas.Bool.Decides.{nat_tests}
 use Rattle.osd_lists.specs.declared.node.Node.TheVariants as node
@@ -17,11 +17,10 @@ use Rattle.server_rules.specs.Slots.{slot_of}
 use Rattle.client_rules.specs.declared.limits.TheConstants.{MAX_CLIENT}
 use Rattle.client_rules.specs.Envelopes.{message_in, by_envelope}
 use Rattle.client_rules.specs.History.{Hears, step}
-use Rattle.client_rules.specs.Messages.{Message as ClientMessage, Answers, Taken, TakesAnswer, names_nobody, is_awaited, answer_taken, takes}
+use Rattle.client_rules.specs.Messages.{Answers, Taken, TakesAnswer, names_nobody, is_awaited, answer_taken, takes}
 use Rattle.client_rules.specs.Results.{status_of}
 use Rattle.world_history.specs.ClientNames.{Client, Request}
 use Rattle.world_history.specs.ServerNames.{Slot}
-use Rattle.world_history.specs.declared.messages.Message.{Message}
 use Rattle.world_history.specs.declared.messages.Posted.{Posted}
 use Rattle.world_history.specs.State.{World, ClientAt, at_number}
 use Rattle.world_history.specs.Handed.{Handed, quiet, client_goes, client_takes, client_hears, for_client, handed_to}
@@ -29,9 +28,7 @@ use Rattle.world_history.specs.Moves.{marked}
 use Rattle.world_history.specs.History.{OneEventMore}
 use Rattle.history_law.specs.Grants.{GrantsAreSafe}
 use Rattle.move_law.specs.Said.{posted}
-use Rattle.move_law.specs.Moments.{IsMoment}
 use Rattle.exchange_law.specs.InStep.{IsAwaiting, StandsAt, IsInStep, state_of}
-use Rattle.exchange_law.specs.Made.{WasMade}
 use Rattle.exchange_law.specs.Meeting.{IsReadable}
 use Rattle.exchange_law.specs.Messages.{last_before, WasAnswered, AnswersOf}
 use Rattle.exchange_law.specs.Requests.{outstanding_at, left_by, OneRequest}

@@ -10,19 +10,17 @@ use Rattle.scenario_text.specs.declared.line.Ending.TheVariants.{Pending}
 use Rattle.scenario_text.specs.declared.line.Outcome.TheVariants.{Failed}
 use Rattle.scenario_text.specs.declared.line.Line.{Line}
 use Rattle.scenario_text.specs.declared.line.Line.TheVariants as line
-use Rattle.client_rules.specs.Steps.{calls}
 use Rattle.server_rules.specs.Laws.{In}
 use Rattle.world_history.specs.ClientNames.{CallOp, Request}
-use Rattle.world_history.specs.declared.messages.Message.{Message}
 use Rattle.world_history.specs.State.{World, ClientAt, at_number}
 use Rattle.world_history.specs.Told.{kind_of}
 use Rattle.world_history.specs.Handed.{pending_op}
-use Rattle.world_history.specs.Moves.{Act, Action, Opens, Delivers, TimesOut, Pends, op_of, by_client, pends_as, pends}
-use Rattle.world_history.specs.Sending.{Move, move, sends_all, sent_lines}
-use Rattle.world_history.specs.Plans.{due_pending, next_pending, Rule, Prompt, Plan, due, due_in, due_by, is_refused, rule_of, plan_of}
+use Rattle.world_history.specs.Moves.{Action, Opens, Delivers, TimesOut, Pends, op_of, by_client, pends_as, pends}
+use Rattle.world_history.specs.Sending.{Move, sends_all, sent_lines}
+use Rattle.world_history.specs.Plans.{due_pending, next_pending, Prompt, due, due_in, due_by, is_refused, rule_of, plan_of}
 use Rattle.world_history.specs.Refusals.{refusal}
 use Rattle.world_history.specs.Runs.{world_after, lines_of, AreDue, plan_after, CarriesPart}
-use Rattle.world_history.specs.History.{StandsFor, Begins, Lawful, OneEventMore}
+use Rattle.world_history.specs.History.{StandsFor, Begins, OneEventMore}
 use Rattle.world_history.specs.History.Begins.{Nothing, Part}
 use Rattle.world_history.proofs.Runs.{no_opening}
 use Rattle.history_law.specs.Grants.{GrantsAreSafe}
@@ -37,14 +35,13 @@ use Rattle.exchange_law.proofs.CountGrowing.{text_behind}
 use Rattle.exchange_law.proofs.Knowing.{lawful_at}
 use Rattle.ending_law.specs.Readable.{FilesAndAnswersAreReadable}
 use Rattle.ending_law.specs.Reports.{RequestsCanBeRead}
-use Rattle.outcome_law.specs.Pending.{IsTaken, IsLeft, pending_line}
+use Rattle.outcome_law.specs.Pending.{IsLeft, pending_line}
 use Rattle.outcome_law.specs.Waiting.{PendingCallsWait, WaitsForAnswer}
 use Rattle.outcome_law.proofs.CallHistories.{clients_are_read, clients_at}
-use Rattle.outcome_law.proofs.PendingLines.{IsNone, TellNone, none_in, IsOther, others_none}
+use Rattle.outcome_law.proofs.PendingLines.{IsNone, TellNone, IsOther, others_none}
 use Rattle.outcome_law.proofs.PendingMoves.{rule_there, taken_rule, each_call_is_left_so}
 use Rattle.pending_law.specs.Lines.{IsInDo}
 use Rattle.pending_law.specs.Down.{is_down}
-use Rattle.pending_law.specs.Queue.{queue}
 use Rattle.pending_law.specs.Unanswered.{Awaits, IsUnanswered, UnansweredAt, PendingCallsAreUnanswered}
 use Rattle.pending_law.proofs.Eventless.{moves_plain}
 use Rattle.pending_law.proofs.Down.{down_is_read}

@@ -1,19 +1,16 @@
 -- While a `do` runs, an answer that its client waits for is on its way, unless the client waited for it before or the server
 -- is down.
-use Rattle.std.proofs.Common.{◌≡◌, ◌⊎◌, ◌<◌, ◌≤◌, ℕ, Bool, true, false, List, [], ◌∷◌, ◌++◌, length, nat_lt, Option, Some, None, is_some, slice_get, refl, sym, ap, subst, ◌∙◌, append_assoc, inl, inr, arith, if◌then◌else◌}
+use Rattle.std.proofs.Common.{◌≡◌, ◌⊎◌, ◌<◌, ◌≤◌, ℕ, Bool, true, false, List, [], ◌∷◌, ◌++◌, length, Option, Some, None, is_some, refl, sym, ap, subst, ◌∙◌, append_assoc, inl, inr, arith, if◌then◌else◌}
 use Rattle.std.proofs.lemmas.Bool.{cases_Bool}
 use Rattle.std.proofs.lemmas.Bool.Decides.{nat_tests}
 use Rattle.std.proofs.lemmas.List.{append-nil}
 use Rattle.osd_lists.specs.declared.node.Node.TheVariants as node
-use Rattle.layout_ops.specs.declared.envelope.Envelope.TheVariants as envelope
 use Rattle.layout_ops.specs.declared.messages.Answer.{Answer}
-use Rattle.layout_ops.specs.Spelling.{EnvelopeFits}
 use Rattle.scenario_text.specs.declared.names.TheConstants.{CLIENTS}
 use Rattle.scenario_text.specs.declared.event.Call.{Call as EventCall}
 use Rattle.scenario_text.specs.declared.event.Event.{Event}
 use Rattle.scenario_text.specs.declared.event.Event.TheVariants as event
 use Rattle.scenario_text.specs.declared.line.Line.{Line}
-use Rattle.server_rules.specs.declared.limits.TheConstants.{MAX_CLIENT}
 use Rattle.server_rules.specs.Laws.{In}
 use Rattle.server_rules.proofs.Members.{in_front, in_behind}
 use Rattle.client_rules.specs.Steps.{awaits}
@@ -23,8 +20,7 @@ use Rattle.world_history.specs.declared.err.WorldErr.TheVariants.{Dead}
 use Rattle.world_history.specs.declared.messages.Message.{Message}
 use Rattle.world_history.specs.declared.messages.Posted.{Posted}
 use Rattle.world_history.specs.State.{World, ClientAt, at_number}
-use Rattle.world_history.specs.Names.{is_named}
-use Rattle.world_history.specs.Handed.{Post, handed_to}
+use Rattle.world_history.specs.Handed.{handed_to}
 use Rattle.world_history.specs.Moves.{Act, Action, Opens, Delivers, TimesOut, Pends, marked, told_delivered, op_of, acts}
 use Rattle.world_history.specs.Sending.{Move, move}
 use Rattle.world_history.specs.Plans.{when_quiet, quiet_at, due_pending, next_pending, Rule, Prompt, Plan, due, due_in, due_by, went_on, is_refused, plan_of}
@@ -34,7 +30,7 @@ use Rattle.world_history.specs.History.{StandsFor, OneEventMore}
 use Rattle.world_history.proofs.Runs.{due_more, plan_more, world_more, no_opening}
 use Rattle.history_law.specs.Grants.{GrantsAreSafe}
 use Rattle.move_law.specs.Said.{posted}
-use Rattle.move_law.specs.Moments.{IsMoment, lines_so_far, lines_in, plan_at}
+use Rattle.move_law.specs.Moments.{IsMoment, lines_so_far, lines_in}
 use Rattle.move_law.proofs.Moments.{so_far_more}
 use Rattle.exchange_law.specs.Counters.{CountersStayLow}
 use Rattle.exchange_law.specs.InStep.{ClientsAreInStep, IsInStep, state_of}
@@ -50,7 +46,7 @@ use Rattle.outcome_law.proofs.PendingMoves.{rule_there, taken_rule}
 use Rattle.pending_law.specs.Queue.{queue, IsHead, DeliversNone}
 use Rattle.pending_law.proofs.Queue.{queue_is_due}
 use Rattle.pending_law.proofs.Sends.{request_message, answer_message, outstanding_of, move_asks}
-use Rattle.pending_law.proofs.Frames.{IsAlive, IsFrame, delivered_act, delivers_frame, other_frame}
+use Rattle.pending_law.proofs.Frames.{IsAlive, delivered_act, delivers_frame, other_frame}
 use Rattle.pending_law.proofs.Answering.{IsReplied, is_replied}
 use Rattle.pending_law.proofs.Taking.{awaiting, is_taken, asks_behind}
 
