@@ -87,7 +87,8 @@ spelled_so : (es : List IoErr) → ioerrs_item (as_errors (report_read es)) ≡ 
 unfolding list_item
 spelled_so es = rw (as_many es, same_items es) refl
 
-pub read_whole : (es : List IoErr) → ReportShort es → whole ioerrs_in (ioerrs_item (as_errors es)) ≡ Ok (as_errors (report_read es))
+pub read_whole : (es : List IoErr) → ReportShort es
+    → whole ioerrs_in (ioerrs_item (as_errors es)) ≡ Ok (as_errors (report_read es))
 read_whole es s =
     ap (whole ioerrs_in) (sym (spelled_so es))
     ∙ all_again ioerrs_in ioerrs_item IoErrsFits ioerrs_codec (as_errors (report_read es))

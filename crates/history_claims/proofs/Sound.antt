@@ -47,7 +47,8 @@ pub histories_are_sound : HistoriesAreSafe → VerdictsAreAnswered → CommandsA
     → EachComponentHasItsCauses → EachEndIsSaid → EachCallIsLeftSo → PendingCallsAreUnanswered → WithinTheLimitAreFew
     → HistoriesAreSound
 histories_are_sound safe answered issued listed fair ranges fronts apart spread created own fenced live given older barred exact
-    allowed lanes lanes_own judged awaited low ends outcomes read tags caused told changed gone said left unanswered few = record {
+    allowed lanes lanes_own judged awaited low ends outcomes read tags caused told changed gone said left unanswered
+    few = record {
       sound = λ h l. record {
         safe = safe h l;
         answered = λ w s. answered w h s;

@@ -19,7 +19,7 @@ use Rattle.client_rules.specs.Envelopes.{by_envelope, in_envelope, message_in}
 use Rattle.client_rules.specs.History.{Input, Calls, Hears, TimesOut, Leaves, Resends}
 use Rattle.client_rules.specs.Messages.{Message as ClientMessage, Answers, TakesAnswer, takes}
 use Rattle.client_rules.specs.Results.{status_of}
-use Rattle.history_law.specs.State.{Client, Awaited, Outcome, WriteOk, ReadOk, NoFile, HeldBy, Fencing, Degraded, Spent, Status, Refused, Silent, Lost, BadLayout}
+use Rattle.history_law.specs.State.{Awaited, Outcome, WriteOk, ReadOk, NoFile, HeldBy, Fencing, Degraded, Spent, Status, Refused, Silent, Lost, BadLayout}
 use Rattle.world_history.specs.State.{World, ClientAt, at_number, with_number, and_number}
 use Rattle.world_history.specs.Spelled.{spelled}
 use Rattle.world_history.specs.Names.{has_tag, is_tellable}

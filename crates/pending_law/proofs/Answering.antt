@@ -107,7 +107,8 @@ module _ (w : World) (chosen : List ℕ) (c : ℕ) (r : Request) (client : r.cli
   is_replied up room low named slots =
       let said : handed_to w chosen (request_message c r) node.Server
       ≡ server_did w (on_message w.server w.clock chosen (node.Client c) (Asks as_read)) =
-      ap (λ (b : Bool). if b then quiet w delivery.Deaf else server_takes w chosen (node.Client c) (for_server (request_message c r))) up
+      ap (λ (b : Bool). if b then quiet w delivery.Deaf
+      else server_takes w chosen (node.Client c) (for_server (request_message c r))) up
       ∙ ap (server_takes w chosen (node.Client c)) is_read in
       let it : IsAnswered c r.sequence (on_message w.server w.clock chosen (node.Client c) (Asks as_read)).sends =
       subst (λ (n : ℕ). IsAnswered n r.sequence (on_message w.server w.clock chosen (node.Client n) (Asks as_read)).sends) client

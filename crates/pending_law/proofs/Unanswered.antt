@@ -209,7 +209,8 @@ module _ (one : OneRequest) (in_step : ClientsAreInStep) (readable : FilesAndAns
         told : (op : CallOp) → pending_op a.state ≡ Some op → lines_in w m ≡ pending_line j (kind_of op) ∷ []
         told op its =
             ap (λ (x : Action). lines_in w (record { action = x; chosen = m.chosen })) is
-            ∙ ap (λ (o : Option ClientAt). (sends_all (by_client w (λ (y : ClientAt). pends_as w j (pending_op y.state)) o)).lines) there
+            ∙ ap (λ (o : Option ClientAt).
+            (sends_all (by_client w (λ (y : ClientAt). pends_as w j (pending_op y.state)) o)).lines) there
             ∙ ap (λ (o : Option CallOp). (sends_all (pends_as w j o)).lines) its
 
         by : (o : Option CallOp) → pending_op a.state ≡ o → EachBehind UnansweredAt h (sends_all (pends_as w j o)).lines

@@ -88,7 +88,8 @@ module _ (one : OneRequest) (in_step : ClientsAreInStep) (readable : FilesAndAns
 
     -- what is on its way stays so, or is sent
     module _ (a : Action) (rest : List Message)
-        (goes_on : queue first (move w (record { action = a; chosen = chosen })).world ≡ rest ++ posted (acts w chosen a).posts) where
+        (goes_on : queue first (move w (record { action = a; chosen = chosen })).world
+        ≡ rest ++ posted (acts w chosen a).posts) where
       abbrev behind : World
       behind = (move w (record { action = a; chosen = chosen })).world
 
@@ -188,7 +189,8 @@ module _ (one : OneRequest) (in_step : ClientsAreInStep) (readable : FilesAndAns
                 (inr (x.answer, refl, x.to, x.sequence))
 
         -- the answer comes to the client
-        is_answered : (b : Answer) → posted_one.message ≡ answer_message c b → b.client ≡ c → b.sequence ≡ r.sequence → Cause after r
+        is_answered : (b : Answer) → posted_one.message ≡ answer_message c b → b.client ≡ c → b.sequence ≡ r.sequence
+            → Cause after r
         is_answered b is to sequence = by (at_number w.clients c) refl
           where
             by : (o : Option ClientAt) → at_number w.clients c ≡ o → Cause after r
@@ -205,7 +207,8 @@ module _ (one : OneRequest) (in_step : ClientsAreInStep) (readable : FilesAndAns
                 let did = act ∙ ap (λ (y : _). told_delivered n y) taken in
                 sent arrival head.rest goes_on r (request_message c r)
                 (subst (λ (y : Act). In (request_message c r) (posted y.posts)) (sym did)
-                (asks_behind safe more w h c met r was b n posted_one head.found is to sequence one is_readable chosen caller there
+                (asks_behind safe more w h c met r was b n posted_one head.found is to sequence one is_readable chosen
+                caller there
                 (holds.alive caller there) r
                 (ap (λ (y : Act). outstanding_of y.world c) (sym did) ∙ e)))
                 (inl refl)
