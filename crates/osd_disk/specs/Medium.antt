@@ -39,11 +39,6 @@ abbrev pub Failed : Medium → Medium → Type 0
 Failed old new =
     (new ≡ record old { faults = new.faults }) ⊎ (new ≡ record old { calls = old.calls ++ Idle ∷ []; faults = new.faults })
 
--- none of its calls fails, and this one didn't
-pub record StaysSure {T : Type 0} (now : Medium) (result : Result T DiskErr) : Type 0 where
-  pub fails : now.fails ≡ []
-  pub no_fault : IsErrOf result Fault → ⊥
-
 -- a disk with these bytes, of which none of the calls fails
 abbrev pub fresh : List ℕ → Medium
 fresh bytes = record { first = bytes; calls = []; fails = []; faults = 0 }
