@@ -1,10 +1,8 @@
 -- What a disk in memory is seen as.
-use Rattle.std.specs.Prelude.{◌≡◌, ◌⊎◌, ℕ, List, [], ◌∷◌, ◌++◌, Option, Some, None, Result, IsErrOf}
+use Rattle.std.specs.Prelude.{◌≡◌, ◌⊎◌, ℕ, List, [], ◌∷◌, ◌++◌, Option, Some, None}
 use Rattle.osd_disk.specs.Calls.{all_done, left_after, left_from}
 use Rattle.osd_disk.specs.declared.calls.Call.{Call}
 use Rattle.osd_disk.specs.declared.calls.Call.TheVariants.{Idle}
-use Rattle.osd_disk.specs.declared.disk.DiskErr.{DiskErr}
-use Rattle.osd_disk.specs.declared.disk.DiskErr.TheVariants.{Fault}
 
 -- its first bytes, its calls since, the numbers of the calls that fail, and the faults so far
 pub record Medium : Type 0 where

@@ -1,8 +1,8 @@
 -- A past has no bytes and owns nothing, so a proof may tell any: the walk makes one of no bytes, with what its caller tells.
-use mathlib.Core.Path.{◌≡◌, refl}
+use mathlib.Core.Path.{refl}
 use mathlib.Core.List.{[], ◌∷◌}
 use seplogic.Ra.Ura.{Ura}
-use mir.Val.{Val, vstruct, vnil}
+use mir.Val.{vstruct, vnil}
 use base.Logic.{SProp, via, fst∗, emp}
 use base.Fml.{Fml}
 use prog.Wp.{Calls, Loops, WpFn}
@@ -22,7 +22,6 @@ use denote.Steps.{nothing}
 use denote.Triple.Table.{entered, run_framed}
 use denote.Triple.Walked.{says, walk_of, Walks, ends_at, walked, walk_Meets}
 use denote.Triple.Clauses.{Clauses}
-use Rattle.osd_disk.specs.Medium.{Medium}
 use Rattle.osd_disk.specs.contracts.past.Past.from_nothing.Key.{name as #self}
 use Rattle.osd_disk.specs.contracts.past.Past.from_nothing as f
 use Rattle.osd_disk.proofs.past.Past.from_nothing.Statement as stated
