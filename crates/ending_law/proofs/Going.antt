@@ -11,9 +11,10 @@ use Rattle.client_rules.specs.Going.{with_held, by_turn, moved, begins, starts_w
 use Rattle.client_rules.specs.Messages.{finished}
 use Rattle.exchange_law.proofs.PlaceGoing.{put_all, found_all}
 use Rattle.exchange_law.proofs.Parts.{each_filtered}
-use Rattle.ending_law.specs.Reports.{IsShort}
+use Rattle.ending_law.specs.Reports.{IsShort, CanBeRead}
 use Rattle.ending_law.proofs.Lengths.{ReportShort}
 use Rattle.ending_law.proofs.Lengths as lengths
+use Rattle.ending_law.proofs.Reported.{get_read, commit_read, return_read}
 use Rattle.ending_law.proofs.Moving.{HeldShort, NeedShort, PhaseShort, TurnShort, MovedShort, report_short, none_short}
 use Rattle.ending_law.proofs.Timing.{begins_short}
 
@@ -23,9 +24,13 @@ abbrev pub CallShort : Option Call → Type 0
 CallShort None = Unit {0}
 CallShort (Some call) = PhaseShort call.phase
 
+-- what is asked is short, and the server reads it
+abbrev pub ArgsShort : Args → Type 0
+ArgsShort a = IsShort a × CanBeRead a
+
 abbrev pub RequestShort : Option Request → Type 0
 RequestShort None = Unit {0}
-RequestShort (Some r) = IsShort r.args
+RequestShort (Some r) = ArgsShort r.args
 
 pub record ClientShort (c : Client) : Type 0 where
   pub helds : AllByRecursion HeldShort c.held
@@ -118,14 +123,14 @@ begun_short d k = starts_call_short d d.client.call k
 
 -- ---- a request goes out
 
-return_short : (grant : ℕ) (report : List IoErr) → ReportShort report → IsShort (return_args grant report)
-return_short grant report s = lengths.report_short report s
+return_short : (grant : ℕ) (report : List IoErr) → ReportShort report → ArgsShort (return_args grant report)
+return_short grant report s = (lengths.report_short report s, return_read grant report s)
 
-args_short : (h : Held) (op : CallOp) (n : Need) → HeldShort h → NeedShort n → IsShort (args_of h op n)
+args_short : (h : Held) (op : CallOp) (n : Need) → HeldShort h → NeedShort n → ArgsShort (args_of h op n)
 unfolding args_of
 args_short h op First s n = return_short h.number [] none_short
-args_short h op (Get tries) s n = tt
-args_short h op (Commit timed) s n = tt
+args_short h op (Get tries) s n = (tt, get_read op)
+args_short h op (Commit timed) s n = (tt, commit_read h op)
 args_short h op (Report timed) s n = return_short h.number (report_of h timed) (report_short h timed s n)
 args_short h op (Close outcome report) s n = return_short h.number report n
 
@@ -135,7 +140,7 @@ unfolding requests
 asks_short d op n None s k f = record {
   helds = after_short d.client.held (file_of op) (get_args op) k.helds;
   call = s;
-  request = tt;
+  request = (tt, get_read op);
 }
 asks_short d op n (Some h) s k f = record {
   helds = after_short d.client.held (file_of op) (args_of h op n) k.helds;

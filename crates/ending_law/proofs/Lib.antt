@@ -1,5 +1,6 @@
 pub mod Ids
 pub mod Lengths
+pub mod Reported
 pub mod Timed
 pub mod Moving
 pub mod Timing

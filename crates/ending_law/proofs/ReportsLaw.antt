@@ -1,4 +1,4 @@
--- At each moment the report whose answer a client awaits is short.
+-- At each moment the report whose answer a client awaits is short, and the server reads each request.
 use Rattle.std.proofs.Common.{◌≡◌, ℕ, Option, Some, None, refl, subst}
 use Rattle.world_history.specs.ClientNames.{Client}
 use Rattle.world_history.specs.State.{World, ClientAt, at_number}
@@ -6,7 +6,7 @@ use Rattle.exchange_law.specs.InStep.{state_of}
 use Rattle.exchange_law.proofs.ClientMoves.{IsKeptByClients, clients_always}
 use Rattle.exchange_law.proofs.CountMoments.{reached}
 use Rattle.history_law.specs.HistoryMoments.{IsReached}
-use Rattle.ending_law.specs.Reports.{ReportsAreAlwaysShort}
+use Rattle.ending_law.specs.Reports.{ReportsAreAlwaysShort, RequestsCanBeRead}
 use Rattle.ending_law.proofs.Going.{RequestShort, ClientShort}
 use Rattle.ending_law.proofs.ReportSteps.{step_short, new_short}
 
@@ -28,4 +28,8 @@ state_short w r c (Some a) found = (clients_always Short short_kept w r c a foun
 
 pub reports_are_always_short : ReportsAreAlwaysShort
 reports_are_always_short w g m c r e =
-    subst RequestShort e (state_short w (reached w g m) c (at_number w.clients c) refl)
+    (subst RequestShort e (state_short w (reached w g m) c (at_number w.clients c) refl)).0
+
+pub requests_can_be_read : RequestsCanBeRead
+requests_can_be_read w g m c r e =
+    (subst RequestShort e (state_short w (reached w g m) c (at_number w.clients c) refl)).1

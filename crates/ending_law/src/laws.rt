@@ -1,5 +1,5 @@
 // What holds of every history, for the crates above.
-ghost use Rattle.ending_law.specs.Reports.{ReportsAreAlwaysShort};
+ghost use Rattle.ending_law.specs.Reports.{ReportsAreAlwaysShort, RequestsCanBeRead};
 ghost use Rattle.ending_law.specs.Rooms.{NoLaneIsWanting};
 ghost use Rattle.ending_law.specs.Fresh.{GrantsAreFresh};
 ghost use Rattle.ending_law.specs.Readable.{AnswersAreFit, FilesAreFit, KeptAnswersFit, ShortRequestsFit, FilesAndAnswersAreReadable, ObjectsAreEnough, NoncesAreEnough, PlacesAreEnough};
@@ -19,6 +19,11 @@ use world_history::{fronts_are_lawful, one_event_more};
 /// of a message may be.
 pub fn reports_are_always_short()
     ensures { ReportsAreAlwaysShort }
+{}
+
+/// At each moment of any history the server would read what the request asks whose answer a client awaits.
+pub fn requests_can_be_read()
+    ensures { RequestsCanBeRead }
 {}
 
 /// No line of a lawful history of which nothing was guessed tells that a call ended since an object had no lane for

@@ -16,5 +16,5 @@ pub use laws::{
     answers_are_fit, calls_end_so, commands_of_text_are_placed, files_and_answers_are_readable,
     files_are_fit, grants_are_fresh, kept_answers_fit, no_call_ends_misplaced,
     no_call_of_text_ends_misplaced, no_lane_is_wanting, nonces_are_enough, objects_are_enough,
-    places_are_enough, reports_are_always_short, short_requests_fit,
+    places_are_enough, reports_are_always_short, requests_can_be_read, short_requests_fit,
 };

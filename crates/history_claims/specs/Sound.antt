@@ -35,6 +35,7 @@ use Rattle.cause_law.specs.Told.{MessagesAreCaused}
 use Rattle.outcome_law.specs.Ended.{CausedAt}
 use Rattle.outcome_law.specs.Pending.{CallsAreLeft}
 use Rattle.outcome_law.specs.Read.{AnswersAt}
+use Rattle.pending_law.specs.Unanswered.{UnansweredAt}
 use Rattle.tag_law.specs.Tags.{HaveTagsAt}
 use Rattle.history_claims.specs.Texts.{EventsMakeText, CutsGoOn}
 
@@ -127,6 +128,9 @@ pub record IsSound (h : List Line) : Type 0 where
   pub said : CallsEndAsSaid h
   -- and in each move a call is left pending exactly if the event came with it, ends there, and the call doesn't
   pub left : CallsAreLeft h
+  -- so it is only if the request that its client waits for was outstanding already when the event began, or the server was
+  -- down then: a server that is up answers in the event what is sent to it in the event
+  pub unanswered : AtEachLine UnansweredAt h
 
 -- Each lawful history is sound, whatever its events name. Where a text may have the events, it is one of a scenario's text;
 -- and where a world that stands for it is within the limit of kept bytes, it has few messages. A history that is cut at that

@@ -21,6 +21,7 @@ use history_law::{
     unguessed_are_unforged, verdicts_are_answered,
 };
 use outcome_law::{answers_are_of_replies, calls_are_left, ends_are_caused};
+use pending_law::pending_calls_are_unanswered;
 use server_rules::files_are_put;
 use tag_law::{
     answers_are_live, each_tag_is_its_files, given_is_barred, given_was_live, grants_are_older,
@@ -75,7 +76,8 @@ pub fn files_are_created()
 /// while a fence is open; no call ends since its layout can't be used or since a command lies outside its capability,
 /// none is refused since its client has no sequence number left, and the server's counters have room. Each call ends as
 /// what it met says: the answers and replies that it took, and timeouts, or is left pending at the end of its event; and a
-/// read is answered by what was read of drives in its call. In a whole history each new request is answered in its step by
+/// read is answered by what was read of drives in its call. One that is left pending waits for the answer to an older
+/// request, or its server is down. In a whole history each new request is answered in its step by
 /// the first row that applies to its file's book, any other answer repeats the last one or says that its request is
 /// misordered, and nothing else makes a grant live or ends one but a fence. A history that is cut at the limit of kept
 /// bytes goes on being of a text.
@@ -115,5 +117,6 @@ pub fn histories_are_sound()
     components_have_causes();
     ends_are_said();
     calls_are_left();
+    pending_calls_are_unanswered();
     within_the_limit_are_few();
 }

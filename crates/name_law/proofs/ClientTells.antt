@@ -45,7 +45,7 @@ use Rattle.name_law.specs.ClientTells.{OutcomesOfTextAreTold}
 use Rattle.name_law.proofs.ClientOutcomes.{OutcomeTold, CallTold, EndTold, Names}
 use Rattle.name_law.proofs.ClientSteps.{InputSays, step_told}
 use Rattle.name_law.proofs.ClientAnswers.{answer_read}
-use Rattle.name_law.proofs.ClientHolders.{AnswerNames, grants_named, answer_names}
+use Rattle.pending_law.proofs.Holders.{AnswerNames, grants_named, answer_names}
 use Rattle.name_law.proofs.DriveTags.{SaysLow, reply_low}
 use Rattle.name_law.proofs.DriveWorlds.{tags_low, to_drives}
 

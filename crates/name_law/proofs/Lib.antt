@@ -6,7 +6,6 @@ pub mod ServerMoments
 pub mod ClientOutcomes
 pub mod ClientSteps
 pub mod ClientAnswers
-pub mod ClientHolders
 pub mod DriveTags
 pub mod DriveWorlds
 pub mod ClientTells

@@ -62,7 +62,7 @@ not_alone : (w : World) (p : Plan) (a : Action) → p ≡ by_rule Alone → due 
 not_alone w p a alone d = cc (sym (ap (λ (q : Plan). due q w) alone) ∙ d)
 
 -- while something is due the rule is the event's
-rule_there : (v : World) (e : Event) (ms : List Move) (w : World) (a : Action) → due (plan_after (plan_of v e) ms) w ≡ Some a
+pub rule_there : (v : World) (e : Event) (ms : List Move) (w : World) (a : Action) → due (plan_after (plan_of v e) ms) w ≡ Some a
     → (plan_after (plan_of v e) ms).rule ≡ rule_of v e
 rule_there v e [] w a d = refl
 rule_there v e (m ∷ ms) w a d = elim (later_rule (rule_after (rule_of v e) m.action) ms) [
@@ -147,7 +147,7 @@ prompt_rule v (event.ZonedFile f m tag) first c is = absurd (cc is)
 prompt_rule v event.Settle first c is = absurd (cc is)
 prompt_rule v e first c is = absurd (cc is)
 
-taken_rule : (v : World) (c : ℕ) (its : EventCall) → is_refused (at_number v.clients c) (op_of its) ≡ false
+pub taken_rule : (v : World) (c : ℕ) (its : EventCall) → is_refused (at_number v.clients c) (op_of its) ≡ false
     → rule_of v (event.Do c its) ≡ Prompt (length v.network.messages) (Some c)
 unfolding rule_of
 taken_rule v c its is = rw is refl

@@ -2,7 +2,6 @@ pub mod Clear
 pub mod Enough
 pub mod Lacking
 pub mod Events
-pub mod Queue
 pub mod Examples
 pub mod OfflineServer
 pub mod Offline

@@ -1,5 +1,5 @@
 -- Where the lines of one event begin and end in a history.
-use Rattle.std.specs.Prelude.{◌≡◌, ◌⊎◌, Bool, true, false, List, [], ◌∷◌, ◌++◌}
+use Rattle.std.specs.Prelude.{◌≡◌, ◌⊎◌, true, false, List, [], ◌∷◌, ◌++◌}
 use Rattle.std.specs.List.{list_any}
 use Rattle.scenario_text.specs.declared.event.Event.{Event}
 use Rattle.scenario_text.specs.declared.line.Line.{Line}
@@ -7,11 +7,7 @@ use Rattle.scenario_text.specs.declared.line.Line.TheVariants as line
 use Rattle.world_history.specs.State.{World}
 use Rattle.world_history.specs.Runs.{Carries}
 use Rattle.world_history.specs.History.{StandsFor, Lawful}
-
--- the first line of an event
-abbrev pub is_event : Line → Bool
-is_event (line.Event e) = true
-is_event l = false
+pub use Rattle.pending_law.specs.Lines.{is_event}
 
 -- lines that begin with one
 abbrev pub BeginsWithEvent : List Line → Type 0

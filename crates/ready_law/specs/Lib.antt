@@ -1,6 +1,5 @@
 pub mod Ready
 pub mod Events
-pub mod Queue
 pub mod Clear
 pub mod Enough
 pub mod Answered

@@ -3,7 +3,6 @@ ghost use Rattle.ready_law.specs.Clear.{ClearCommandsAreCarriedOut, RoomStays};
 ghost use Rattle.ready_law.specs.Events.{EventsStandApart};
 ghost use Rattle.ready_law.specs.Enough.{EnoughIsLeft, LostAreListed, NoneIsLacked};
 ghost use Rattle.ready_law.specs.Offline.{OfflineHaveFailed};
-ghost use Rattle.ready_law.specs.Queue.{QueueIsDue};
 ghost use Rattle.ready_law.specs.Examples.{ExamplesAreMet};
 ghost use Rattle.ready_law.specs.Worlds.{ScenesAreRead};
 
@@ -31,12 +30,6 @@ pub fn events_stand_apart()
 {
     one_event_more();
 }
-
-/// The next message that is due is the head of the queue of those that are pending from a number on. A delivery takes it,
-/// any other action of a call leaves all, and what is sent comes behind.
-pub fn queue_is_due()
-    ensures { QueueIsDue }
-{}
 
 /// Where only lost components are out, and no stripe has more positions lost than its parity brings back, a call can read
 /// and write each.

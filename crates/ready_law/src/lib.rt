@@ -9,6 +9,5 @@ mod laws;
 
 pub use laws::{
     clear_commands_are_carried_out, enough_is_left, events_stand_apart, examples_are_met,
-    lost_are_listed, none_is_lacked, offline_have_failed, queue_is_due, room_stays,
-    scenes_are_read,
+    lost_are_listed, none_is_lacked, offline_have_failed, room_stays, scenes_are_read,
 };

@@ -1,6 +1,5 @@
 -- What the server finds of a report that a write broke off: it isn't one that may be taken as a loss.
-use Rattle.std.specs.Prelude.{◌≡◌, ◌⊎◌, ℕ, true, false, List, [], ◌∷◌, map, Option, Some, None}
-use Rattle.std.specs.Int.{w64, from_be_bytes, to_be_bytes}
+use Rattle.std.specs.Prelude.{◌≡◌, ◌⊎◌, ℕ, true, false, List, [], ◌∷◌, Option, Some, None}
 use Rattle.layout_types.specs.declared.ioerrs.IoErr.{IoErr}
 use Rattle.server_rules.specs.Files.{file_at}
 use Rattle.server_rules.specs.Grants.{grant_of}
@@ -12,6 +11,7 @@ use Rattle.client_rules.specs.Calls.{file_of}
 use Rattle.client_rules.specs.Grants.{held_of}
 use Rattle.client_rules.specs.Requests.{report_of}
 use Rattle.client_rules.specs.Writes.{is_too_short}
+pub use Rattle.ending_law.specs.Reports.{as_written, error_read, report_read}
 use Rattle.world_history.specs.ServerNames.{Server, File, Kept, Grant}
 use Rattle.world_history.specs.ClientNames.{Call, CallOp, Held, TimedOut, Need, Report, Close, Phase, Needs, Waits, Gathers, Scatters, Outcome, Refused, Silent}
 
@@ -28,27 +28,6 @@ abbrev pub CantBeBorne : Server → (c file : ℕ) → List IoErr → Type 0
 CantBeBorne s c file report =
     (f : File) (g : Grant) → file_at s.files file ≡ Some f → grant_of f.kept.grants c ≡ Some g →
     IsBeyondBearing f.kept report
-
--- ---- as it is read
-
--- a number, as 8 bytes have it
-abbrev pub as_written : ℕ → ℕ
-as_written n = from_be_bytes w64 (to_be_bytes w64 n)
-
--- an entry that was written and read
-abbrev pub error_read : IoErr → IoErr
-error_read e = record e {
-  oer_component = record e.oer_component {
-    oid_partition_id = as_written e.oer_component.oid_partition_id;
-    oid_object_id = as_written e.oer_component.oid_object_id;
-  };
-  oer_comp_offset = as_written e.oer_comp_offset;
-  oer_comp_length = as_written e.oer_comp_length;
-}
-
--- a report
-abbrev pub report_read : List IoErr → List IoErr
-report_read report = map error_read report
 
 -- ---- to the client
 

@@ -1,0 +1,10 @@
+pub mod Eventless
+pub mod Queue
+pub mod Holders
+pub mod Sends
+pub mod Frames
+pub mod Down
+pub mod Answering
+pub mod Taking
+pub mod Waiting
+pub mod Unanswered

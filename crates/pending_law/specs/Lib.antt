@@ -1,0 +1,4 @@
+pub mod Lines
+pub mod Queue
+pub mod Down
+pub mod Unanswered
