@@ -1,3 +1,6 @@
+pub mod Decodings
+pub mod Fetching
+pub mod ByteCauses
 pub mod Trace
 pub mod Working
 pub mod Given
@@ -9,6 +12,7 @@ pub mod CallMoves
 pub mod CallEvents
 pub mod CallHistories
 pub mod Read
+pub mod ReadBytes
 pub mod PendingLines
 pub mod PendingMoves
 pub mod Awaiting
