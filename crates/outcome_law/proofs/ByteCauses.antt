@@ -6,7 +6,8 @@ use Rattle.std.proofs.lemmas.Bool.{cases_Bool, cases_eq, cases_lt, eqb-true, lt-
 use Rattle.std.proofs.lemmas.Bool.Decides.{nat_tests}
 use Rattle.std.proofs.lemmas.Nat.{div-add-mod'}
 use Rattle.std.proofs.Math.Nat.{mod-lt}
-use Rattle.std.proofs.lemmas.List.{length-append, length-replicate, length-take, get_or-replicate, get_or-take, get_or_past}
+use Rattle.std.proofs.Math.ListN.{get_or-append}
+use Rattle.std.proofs.lemmas.List.{get_or-append-add, length-append, length-replicate, length-take, get_or-replicate, get_or-take, get_or_past}
 use Rattle.exchange_law.proofs.Parts.{each_more}
 use Rattle.data_map.specs.declared.check.RawMap.{RawMap}
 use Rattle.data_map.specs.Check.{IsChecked}
@@ -28,7 +29,7 @@ use Rattle.stripe_plan.specs.Words.{has_byte, byte_over, byte_at, code_of, got_a
 use Rattle.stripe_plan.specs.Laws.{IsGot, IsWithin}
 use Rattle.stripe_plan.proofs.Covering.{column_touched, own_touched}
 use Rattle.stripe_plan.proofs.Counting.{RisesFrom, lost_split, lost_rises, are_lost, among_lost, contained}
-use Rattle.stripe_plan.proofs.Columning.{run_long, run_at, code_count}
+use Rattle.stripe_plan.proofs.Columning.{code_count}
 use Rattle.stripe_plan.proofs.ReadLaws.{hit_is, few_lost, stripe_touched}
 use Rattle.client_rules.specs.declared.limits.TheConstants.{PERFORMED}
 use Rattle.world_history.specs.ClientNames.{CallOp, Held, Awaited, Reply, Column, Span}
@@ -43,16 +44,22 @@ use Rattle.outcome_law.proofs.Fetching.{IsMade, AllMade, IsPut}
 -- ---- what a reply gives
 
 -- bytes that a reply doesn't carry are 0
-carried_at : (n : ℕ) (xs : List ℕ) (i : ℕ) → i < n → get_or (carried n xs) i 0 ≡ get_or xs i 0
-carried_at zero xs i lt = absurd (omega (arith, lt))
-carried_at (suc n) [] i lt = get_or-replicate (suc n) i 0 0 lt ∙ sym (get_or_past [] i 0 (omega arith))
-carried_at (suc n) (x ∷ xs) zero lt = refl
-carried_at (suc n) (x ∷ xs) (suc i) lt = carried_at n xs i (omega (arith, lt))
-
 carried_long : (n : ℕ) (xs : List ℕ) → length (carried n xs) ≡ n
 carried_long n xs =
     let none : ℕ = 0 in
     omega (arith, length-append (take n xs) (replicate (n - length xs) none), length-replicate (n - length xs) none, length-take n xs)
+
+carried_at : (n : ℕ) (xs : List ℕ) (i : ℕ) → i < n → get_or (carried n xs) i 0 ≡ get_or xs i 0
+carried_at n xs i lt =
+    let zeros : List ℕ = replicate (n - length xs) 0 in
+    elim (cases_lt i (length xs)) [
+      | inl there ↦
+          get_or-append (take n xs) zeros 0 i (omega (arith, lt, there, length-take n xs)) ∙ get_or-take n xs i 0 lt
+      | inr past ↦
+          let is : i ≡ length (take n xs) + (i - length xs) = omega (arith, lt, past, length-take n xs) in
+          ap (λ (j : ℕ). get_or (take n xs ++ zeros) j 0) is ∙ get_or-append-add (take n xs) zeros (i - length xs) 0
+          ∙ get_or-replicate (n - length xs) (i - length xs) 0 0 (omega (arith, lt, past)) ∙ sym (get_or_past xs i 0 past)
+    ]
 
 and_both : (a b c : Bool) → (a && (b && c)) ≡ true → (a ≡ true) × (b ≡ true) × (c ≡ true)
 and_both true true true e = (refl, refl, refl)
@@ -114,6 +121,26 @@ last_of (d ∷ cs) c p o (inr g) = elim (cases_Bool (has_byte d p o)) [
   ]
 ]
 
+-- a reply more
+one_given : (h : Held) (ms : List Met) (p o : ℕ) → AreBelow h p → (a : Awaited) (r : Reply) → IsMade h a → (b : Bool)
+    → ((r.verdict == PERFORMED) && not a.write) ≡ b
+    → (IsGot (read_in ms) p o → IsGiven h ms p o (byte_at (read_in ms) p o))
+    → IsGot (if b then read_in ms ++ got_of a r ∷ [] else read_in ms) p o
+    → IsGiven h (Replied a r ∷ ms) p o (byte_at (if b then read_in ms ++ got_of a r ∷ [] else read_in ms) p o)
+one_given h ms p o below a r made false is before g = inr (before g)
+one_given h ms p o below a r made true is before g = by_last (last_of (read_in ms) (got_of a r) p o g)
+  where
+    done : (b c : Bool) → (b && c) ≡ true → b ≡ true
+    done true c e = refl
+    done false c e = absurd (cc e)
+
+    by_last : Last (read_in ms) (got_of a r) p o
+        → IsGiven h (Replied a r ∷ ms) p o (byte_at (read_in ms ++ got_of a r ∷ []) p o)
+    by_last (Before b e) = subst (λ (v : ℕ). IsGiven h (Replied a r ∷ ms) p o v) (sym e) (inr (before b))
+    by_last (There t e) =
+        subst (λ (v : ℕ). IsGiven h (Replied a r ∷ ms) p o v) (sym e)
+        (inl (gives h a r p o below made (done (r.verdict == PERFORMED) (not a.write) is) t))
+
 -- what was got of a position's byte a reply gave
 pub given_at : (h : Held) (ms : List Met) (p o : ℕ) → AreBelow h p → AllMade h ms → IsGot (read_in ms) p o
     → IsGiven h ms p o (byte_at (read_in ms) p o)
@@ -121,13 +148,8 @@ unfolding read_in
 given_at h [] p o below x g = absurd g
 given_at h (Answered r a ∷ ms) p o below x g = given_at h ms p o below x g
 given_at h (met.TimedOut k c ∷ ms) p o below x g = given_at h ms p o below x g
-given_at h (Replied a r ∷ ms) p o below x g = elim (cases_Bool (r.verdict == PERFORMED)) [
-  | inl done ↦ rw (done, x.0.write) (elim (last_of (read_in ms) (got_of a r) p o (rw (done, x.0.write) at g)) [
-    | Before b e ↦ rw e (inr (given_at h ms p o below x.1 b))
-    | There t e ↦ rw e (inl (gives h a r p o below x.0 done t))
-  ])
-  | inr other ↦ rw other (inr (given_at h ms p o below x.1 (rw other at g)))
-]
+given_at h (Replied a r ∷ ms) p o below x g =
+    one_given h ms p o below a r x.0 ((r.verdict == PERFORMED) && not a.write) refl (given_at h ms p o below x.1) g
 
 -- ---- bytes
 
@@ -143,13 +165,14 @@ unfolding read_in
 all_small [] x = tt
 all_small (Answered r a ∷ ms) x = all_small ms x
 all_small (met.TimedOut g k ∷ ms) x = all_small ms x
-all_small (Replied a r ∷ ms) x = either ((r.verdict == PERFORMED) && not a.write)
+all_small (Replied a r ∷ ms) x = either ((r.verdict == PERFORMED) && not a.write) (all_small ms x.1)
   where
-    either : (b : Bool) → AllByRecursion (λ (c : Column). (i : ℕ) → get_or c.bytes i 0 < 256)
+    either : (b : Bool) → AllByRecursion (λ (c : Column). (i : ℕ) → get_or c.bytes i 0 < 256) (read_in ms)
+        → AllByRecursion (λ (c : Column). (i : ℕ) → get_or c.bytes i 0 < 256)
         (if b then read_in ms ++ got_of a r ∷ [] else read_in ms)
-    either true =
-        each_more _ (read_in ms) (got_of a r ∷ []) (all_small ms x.1) (carried_small a.ask.length r.payload x.0, tt)
-    either false = all_small ms x.1
+    either true before =
+        each_more _ (read_in ms) (got_of a r ∷ []) before (carried_small a.ask.length r.payload x.0, tt)
+    either false before = before
 
 byte_small : (cs : List Column) (p o : ℕ) → AllByRecursion (λ (c : Column). (i : ℕ) → get_or c.bytes i 0 < 256) cs
     → byte_at cs p o < 256
@@ -177,18 +200,15 @@ known_long m got out s b c zero = refl
 known_long m got out s b c (suc n) = ap suc (known_long m got out s b (c + 1) n)
 
 known_small : (m : RawMap) (got : List Column) (out : List ℕ) (s b c n : ℕ) → ((p o : ℕ) → byte_at got p o < 256)
-    → AreBytes (known_from m got out s b c n)
+    → (k z : ℕ) → k < length (known_from m got out s b c n) → get_or (known_from m got out s b c n) k z < 256
 unfolding known_from
-known_small m got out s b c zero small = λ k z lt. absurd (omega (arith, lt))
-known_small m got out s b c (suc n) small = λ k z lt. at k z lt
+known_small m got out s b c zero small k z lt = absurd (omega (arith, lt))
+known_small m got out s b c (suc n) small zero z lt = head (is_out m out (position_of m s c))
   where
     head : (t : Bool) → (if t then 0 else got_at m got s b c) < 256
     head true = omega arith
     head false = small _ _
-
-    at : (k z : ℕ) → k < length (known_from m got out s b c (suc n)) → get_or (known_from m got out s b c (suc n)) k z < 256
-    at zero z lt = head (is_out m out (position_of m s c))
-    at (suc k) z lt = known_small m got out s b (c + 1) n small k z (omega (arith, lt))
+known_small m got out s b c (suc n) small (suc k) z lt = known_small m got out s b (c + 1) n small k z (omega (arith, lt))
 
 -- a unit that is out is counted
 some_lost : (m : RawMap) (out : List ℕ) (s c n k : ℕ) → c ≤ k → k < c + n → is_out m out (position_of m s k) ≡ true
@@ -223,12 +243,12 @@ first_low m out s c (suc n) k units from to low gone = elim (cases_Bool (is_out 
 
 -- ---- positions
 
-position_below : (h : Held) → IsChecked h.map → (s k : ℕ) → k < group_width h.map → AreBelow h (position_of h.map s k)
+pub position_below : (h : Held) → IsChecked h.map → (s k : ℕ) → k < group_width h.map → AreBelow h (position_of h.map s k)
 position_below h ch s k lt = λ n e.
     let q : ℕ = replicas h.map in
     let digits : position_of h.map s k * q + n % q ≡ n = ap (λ (x : ℕ). x * q + n % q) (sym e) ∙ div-add-mod' n q in
-    omega (arith, digits, mod-lt n q (omega arith),
-    replicas_inside h.map (position_of h.map s k) ch (position_in_range h.map s k ch lt))
+    let low : n % q < q = mod-lt n (omega arith) in
+    omega (arith, digits, low, replicas_inside h.map (position_of h.map s k) ch (position_in_range h.map s k ch lt))
 
 -- ---- decoded bytes
 
@@ -243,19 +263,19 @@ module _ (h : Held) (ms : List Met) (s b u : ℕ) (ch : IsChecked h.map) (made :
   abbrev out : List ℕ
   out = out_in h ms
 
-  abbrev units : ℕ
+  abbrev pub units : ℕ
   units = data_units m
 
-  abbrev code : Code
+  abbrev pub code : Code
   code = code_of m
 
-  abbrev lost : List ℕ
+  abbrev pub lost : List ℕ
   lost = lost_from m out s 0 (group_width m)
 
-  abbrev col : List ℕ
+  abbrev pub col : List ℕ
   col = known_from m (read_in ms) out s b 0 (group_width m)
 
-  abbrev data_of : List ℕ
+  abbrev pub data_of : List ℕ
   data_of = take units (decoded units lost col)
 
   wide : group_width m ≡ units + count_of code
@@ -316,12 +336,14 @@ module _ (h : Held) (ms : List Met) (s b u : ℕ) (ch : IsChecked h.map) (made :
   word_at k x =
       let split = lost_split m out s 0 k (group_width m - k) in
       let all : k + (group_width m - k) ≡ group_width m = omega (arith, x.unit) in
-      let less : length (lost_from m out s 0 k) ≤ length lost = rw all at (omega (arith, split)) in
+      let part : length (lost_from m out s 0 k) ≤ length (lost_from m out s 0 (k + (group_width m - k))) =
+      omega (arith, split) in
+      let less : length (lost_from m out s 0 k) ≤ length lost = rw all at part in
       let zk : 0 + k ≡ k = omega arith in
       has.same k (omega (arith, x.early, less)) (among_lost m out s 0 (group_width m) k (omega arith) (omega (arith, x.unit)) ∙ x.there)
       ∙ rw zk at (known_at m (read_in ms) out s b 0 (group_width m) k x.unit) ∙ rw x.there refl
 
-  the_data : IsTheOne h ms s b data_of
+  pub the_data : IsTheOne h ms s b data_of
   the_data = record {
     bytes = has.bytes;
     long = has.long;
@@ -367,77 +389,3 @@ module _ (h : Held) (ms : List Met) (s b u : ℕ) (ch : IsChecked h.map) (made :
             where
               two_more : (v w : ℕ) (us : List ℕ) → 1 < length (v ∷ w ∷ us)
               two_more v w us = omega arith
-
--- ---- the bytes of an answer
-
-module _ (h : Held) (op : CallOp) (ms : List Met) (bytes : List ℕ) (ch : IsChecked h.map) (x : IsPut h op ms bytes) where
-  abbrev r : Span
-  r = range_under h op
-
-  pub put_long : length bytes ≡ r.length
-  unfolding answered
-  put_long = ap length x.answer ∙ run_long _ r.offset r.length
-
-  module _ (l : ℕ) (from : r.offset ≤ l) (to : l < end_of r) where
-    abbrev m : RawMap
-    m = h.map
-
-    abbrev out : List ℕ
-    out = out_in h ms
-
-    abbrev s : ℕ
-    s = stripe_of m l
-
-    abbrev c : ℕ
-    c = data_unit_of m l
-
-    abbrev b : ℕ
-    b = column_of m l
-
-    low : c < data_units m
-    low = data_unit_below m l ch
-
-    wide : c < group_width m
-    wide = omega (arith, low)
-
-    stripe : IsTouchedStripe m r s
-    stripe = stripe_touched m r l ch from to
-
-    touch : touches m r s c ≡ true
-    unfolding touches
-    touch = let inside = own_touched m r l ch from to in lt-ltb _ _ (omega (arith, inside.0, inside.1))
-
-    within : IsWithin b (needed Reads m r out s c)
-    unfolding own_columns
-    within = elim (cases_Bool (is_hit m r out s)) [
-      | inl hit ↦ rw hit (column_touched m r l ch from to)
-      | inr free ↦ rw (free, lt-ltb c (data_units m) low, touch) (inl (own_touched m r l ch from to))
-    ]
-
-    pub cause : HasCause h ms s c b (answer_at m (read_in ms) out l)
-    unfolding answer_in decoded_at
-    cause = record {
-      read = λ there.
-          rw there (given_at h ms (position_of m s c) (offset_of m s b) (position_below h ch s c wide) x.met
-          (x.fetched s b c stripe wide there within));
-      decoded = λ gone small.
-          let hit : is_hit m r out s ≡ true =
-          hit_is m r out s 0 (data_units m) c (omega arith) (omega (arith, low)) touch gone in
-          let few = few_lost m r out s ch x.some x.readable stripe hit in
-          let had : (k : ℕ) → k < group_width m → is_out m out (position_of m s k) ≡ false
-              → IsGot (read_in ms) (position_of m s k) (offset_of m s b) =
-          λ k lt there. x.fetched s b k stripe lt there (rw hit (column_touched m r l ch from to)) in
-          (data_of h ms s b ch x.met c low small gone few had, the_data h ms s b ch x.met c low small gone few had,
-          rw gone (sym (get_or-take (data_units m) _ c 0 low)));
-    }
-
-  pub each_cause : (i l : ℕ) → i < length bytes → l ≡ r.offset + i
-      → HasCause h ms (stripe_of h.map l) (data_unit_of h.map l) (column_of h.map l) (slice_index bytes i)
-  unfolding answered
-  each_cause i l lt is =
-      let inside : i < r.length = omega (arith, lt, put_long) in
-      let value : slice_index bytes i ≡ answer_at h.map (read_in ms) (out_in h ms) l =
-      ap (λ (xs : List ℕ). slice_index xs i) x.answer ∙ run_at _ r.offset r.length i 0 inside
-      ∙ ap (answer_at h.map (read_in ms) (out_in h ms)) (sym is) in
-      subst (HasCause h ms (stripe_of h.map l) (data_unit_of h.map l) (column_of h.map l)) (sym value)
-      (cause l (omega (arith, is)) (omega (arith, is, inside)))

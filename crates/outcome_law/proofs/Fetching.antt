@@ -164,7 +164,7 @@ sent_made h xs k = numbered_made h h.count xs k
 
 -- what it has is what its call met, and what it awaits was asked of replicas
 pub record Holds (h : Held) (got : List Column) (awaited : List Awaited) (ms : List Met) : Type 0 where
-  pub got : got ≡ read_in ms
+  pub read : got ≡ read_in ms
   pub made : AllByRecursion (IsMade h) awaited
   pub met : AllMade h ms
   pub nonces : AreBelow (nonce_at h h.count) awaited
@@ -173,14 +173,14 @@ pub record Holds (h : Held) (got : List Column) (awaited : List Awaited) (ms : L
 pub record Fetching (h : Held) (op : CallOp) (got : List Column) (timed : List TimedOut) (awaited : List Awaited) (top : ℕ)
     (ms : List Met) : Type 0
   where
-    pub got : got ≡ read_in ms
+    pub read : got ≡ read_in ms
     pub made : AllByRecursion (IsMade h) awaited
     pub met : AllMade h ms
     pub ready : IsReady h.map (range_under h op) (outs h timed) got awaited top
 
 pub holds_none : (h : Held) (ms : List Met) → NoReplies ms → Holds h [] [] ms
 holds_none h ms q = record {
-  got = sym (none_read ms q);
+  read = sym (none_read ms q);
   made = tt;
   met = none_made h ms q;
   nonces = record { differ = tt; below = tt };
@@ -195,7 +195,7 @@ pub fetching_sent : (h : Held) (op : CallOp) (got : List Column) (timed : List T
 fetching_sent h op got timed awaited ms some can x =
     let due : List Ask = reads_due h (range_under h op) got timed awaited in
     record {
-      got = x.got;
+      read = x.read;
       made = each_more (IsMade h) awaited (read_commands h due) x.made (sent_made h due (of_stripes h.map _ _ _ _));
       met = x.met;
       ready = ready_sent h (range_under h op) got timed awaited some can x.nonces;
@@ -206,7 +206,7 @@ pub fetching_counted : (h : Held) (op : CallOp) (got : List Column) (timed : Lis
     → Fetching (counted h sent) op got timed awaited (nonce_at (counted h sent) (counted h sent).count) ms
 unfolding outs
 fetching_counted h op got timed sent awaited top ms e x = record {
-  got = x.got;
+  read = x.read;
   made = each_as (IsMade h) (IsMade (counted h sent)) awaited (made_counted h sent) x.made;
   met = met_counted h sent ms x.met;
   ready = subst (IsReady h.map (range_under h op) (outs h timed) got awaited) e x.ready;
@@ -221,7 +221,7 @@ unfolding read_in others
 fetching_replied h op got timed awaited top ms a r i is x =
     let made : IsMade h a = made_in h awaited a x.made i in
     record {
-      got = rw (is, made.write) (ap (λ (cs : List Column). cs ++ got_of a r ∷ []) x.got);
+      read = rw (is, made.write) (ap (λ (cs : List Column). cs ++ got_of a r ∷ []) x.read);
       made = each_filtered (IsMade h) _ awaited x.made;
       met = (made, x.met);
       ready = ready_replied h.map (range_under h op) (outs h timed) got awaited a r top i x.ready;
@@ -233,7 +233,7 @@ pub holds_timed : (h g : Held) (op : CallOp) (got : List Column) (timed : List T
     → Holds h got (not_of k awaited) (met.TimedOut g k ∷ ms)
 unfolding read_in not_of
 holds_timed h g op got timed awaited k ms x = record {
-  got = x.got;
+  read = x.read;
   made = each_filtered (IsMade h) _ awaited x.made;
   met = x.met;
   nonces = rest_below (nonce_at h h.count) k awaited x.ready.nonces;
@@ -245,7 +245,7 @@ pub fetching_answered : (h : Held) (op : CallOp) (got : List Column) (timed : Li
     → Fetching h op got timed awaited top (Answered r a ∷ ms)
 unfolding read_in
 fetching_answered h op got timed awaited top ms r a x =
-    record { got = x.got; made = x.made; met = x.met; ready = x.ready }
+    record { read = x.read; made = x.made; met = x.met; ready = x.ready }
 
 -- ---- and is answered
 
@@ -279,7 +279,7 @@ put_of h op got timed top ms same some x =
     record {
       some = some;
       readable = rw same x.ready.readable;
-      fetched = rw (same, ← x.got) all;
+      fetched = rw (same, ← x.read) all;
       met = x.met;
-      answer = rw (same, ← x.got) refl;
+      answer = rw (same, ← x.read) refl;
     }

@@ -1,6 +1,7 @@
 pub mod Decodings
 pub mod Fetching
 pub mod ByteCauses
+pub mod PutBytes
 pub mod Trace
 pub mod Working
 pub mod Given

@@ -264,4 +264,4 @@ at_line before (line.Ended c (outcome.Failed kind e)) x = tt
 at_line before l x = tt
 
 pub answers_are_of_replies : AnswersAreOfReplies
-answers_are_of_replies h l before x after is = at_line before l (ends_are_caused h l before x after is)
+answers_are_of_replies h l before x after is = at_line before x (ends_are_caused h l before x after is)

@@ -25,7 +25,7 @@ use Rattle.outcome_law.specs.ReadCalls.{LastStep, stepped}
 use Rattle.outcome_law.specs.Ended.{CausedAt}
 use Rattle.outcome_law.specs.ReadBytes.{HaveCauses, BytesAt, EachByteHasItsCause}
 use Rattle.outcome_law.proofs.Fetching.{IsEmpty, IsPut, Answers}
-use Rattle.outcome_law.proofs.ByteCauses.{put_long, each_cause}
+use Rattle.outcome_law.proofs.PutBytes.{put_long, each_cause}
 use Rattle.outcome_law.proofs.Runs.{is_answered}
 use Rattle.outcome_law.proofs.CallHistories.{ends_are_caused}
 use Rattle.exchange_law.proofs.RightSteps.{reads_are_right}
@@ -113,4 +113,4 @@ at_line before (line.Ended c (outcome.Failed kind e)) x = tt
 at_line before l x = tt
 
 pub each_byte_has_its_cause : EachByteHasItsCause
-each_byte_has_its_cause h l before x after is = at_line before l (ends_are_caused h l before x after is)
+each_byte_has_its_cause h l before x after is = at_line before x (ends_are_caused h l before x after is)

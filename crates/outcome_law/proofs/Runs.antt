@@ -21,7 +21,7 @@ use Rattle.client_rules.proofs.ReadMoves.{found_in}
 use Rattle.outcome_law.specs.Met as met
 use Rattle.outcome_law.specs.Met.{Met, Answered, Replied, since, with_answer, with_taken, with_timeout, with_silence, met_after, met_by, busy_status, busy_args, busy_in, last_busy, timed_in, given_args, given_in, grant_under, why_in, status_failure, failure_args, failure_at, cut_short, failure_in, lost_under, first_refusal, first_beyond, as_lost}
 use Rattle.outcome_law.specs.Caused.{IsWhole, call_in, client_by, call_met, IsCaused, OutcomesAreCaused}
-use Rattle.outcome_law.proofs.Fetching.{Answers, fetching_answered}
+use Rattle.outcome_law.proofs.Fetching.{Answers as HasAnswer, fetching_answered}
 use Rattle.outcome_law.proofs.Trace.{Works, IsReturn, IsPlain, return_plain, return_gives, return_quiet, busy_same, answered_works, answered_decided, uncut, last_says, lost_write}
 use Rattle.outcome_law.proofs.Working.{ReadsOn, WritesOn, GoodNeed, GoodPhase, replied_good, timed_good}
 use Rattle.outcome_law.proofs.Steps.{ReturnsOnly, Started, NeedsGood, Working, PhaseTraced, CallTraced, IsTraced, Fresh, DoneCall, Told, GoodDone, GoodStep, moved_good, finished_good}
@@ -382,7 +382,7 @@ caused c ms i o x e =
 pub is_answered : (number sequence : ℕ) (is : List Input) (i : Input) (bytes : List ℕ)
     → (step (client_by number sequence is) i).outcome ≡ Some (ReadOk bytes)
     → (op : CallOp) × (call_in (client_by number sequence is) i ≡ Some op)
-    × Answers (grant_under (client_by number sequence is).held op (met_after (client_by number sequence is) (call_met number sequence is) i))
+    × HasAnswer (grant_under (client_by number sequence is).held op (met_after (client_by number sequence is) (call_met number sequence is) i))
     op (met_after (client_by number sequence is) (call_met number sequence is) i) (ReadOk bytes)
 is_answered number sequence is i bytes e =
     let c : Client = client_by number sequence is in
