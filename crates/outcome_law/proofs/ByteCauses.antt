@@ -1,8 +1,8 @@
 -- Each byte that a read puts together was given by a reply, or is decoded from bytes that replies gave.
-use Rattle.std.proofs.Common.{◌≡◌, ◌≢◌, ◌<◌, ◌≤◌, ◌⊎◌, ℕ, zero, suc, ◌+◌, ◌-◌, ◌*◌, ◌/◌, ◌%◌, ◌==◌, Bool, true, false, List, [], ◌∷◌, ◌++◌, Option, Some, None, length, get_or, take, refl, sym, ap, subst, ◌∙◌, inl, inr, arith, if◌then◌else◌, ne_eqb}
+use Rattle.std.proofs.Common.{◌≡◌, ◌≢◌, ◌<◌, ◌≤◌, ◌⊎◌, ℕ, zero, suc, ◌+◌, ◌-◌, ◌*◌, ◌/◌, ◌%◌, ◌==◌, Bool, true, false, List, [], ◌∷◌, ◌++◌, length, get_or, take, refl, sym, ap, subst, ◌∙◌, inl, inr, arith, if◌then◌else◌, ne_eqb}
 use Rattle.std.specs.Prelude.{◌&&◌, not, nat_le, nat_lt, slice_index, replicate}
 use Rattle.std.specs.List.{All, Contains, AllByRecursion}
-use Rattle.std.proofs.lemmas.Bool.{cases_Bool, cases_eq, cases_lt, eqb-true, lt-ltb, true_from_ne_false}
+use Rattle.std.proofs.lemmas.Bool.{cases_Bool, cases_eq, cases_lt, eqb-true}
 use Rattle.std.proofs.lemmas.Bool.Decides.{nat_tests}
 use Rattle.std.proofs.lemmas.Nat.{div-add-mod'}
 use Rattle.std.proofs.Math.Nat.{mod-lt}
@@ -11,35 +11,29 @@ use Rattle.std.proofs.lemmas.List.{get_or-append-add, length-append, length-repl
 use Rattle.exchange_law.proofs.Parts.{each_more}
 use Rattle.data_map.specs.declared.check.RawMap.{RawMap}
 use Rattle.data_map.specs.Check.{IsChecked}
-use Rattle.data_map.specs.Striping.{replicas, positions, group_width, parities, data_units, stripe_of, data_unit_of, column_of, position_of, offset_of}
-use Rattle.data_map.proofs.Striping.{data_unit_below, position_in_range}
+use Rattle.data_map.specs.Striping.{replicas, group_width, parities, data_units, position_of, offset_of}
+use Rattle.data_map.proofs.Striping.{position_in_range}
 use Rattle.data_map.proofs.Shape.{replicas_inside}
 use Rattle.parity_code.specs.declared.code.Code.{Code}
 use Rattle.parity_code.specs.declared.code.Code.TheVariants.{Plain, Xor, PandQ}
 use Rattle.parity_code.specs.Codeword.{count_of, codeword}
 use Rattle.parity_code.specs.Decoding.{decoded}
-use Rattle.parity_code.proofs.ParityLaws.{AreBytes}
 use Rattle.parity_code.proofs.DecodeLaws.{count_most}
 use Rattle.parity_code.proofs.BackLaws.{AreLost}
-use Rattle.stripe_plan.specs.declared.plan.Aim.TheVariants.{Reads}
-use Rattle.stripe_plan.specs.Touched.{end_of, touches, IsTouchedStripe}
-use Rattle.stripe_plan.specs.Lost.{among, is_out, is_hit}
-use Rattle.stripe_plan.specs.Asks.{own_columns, needed}
-use Rattle.stripe_plan.specs.Words.{has_byte, byte_over, byte_at, code_of, got_at, known_from, lost_from, decoded_at, answer_in, answer_at, answered}
-use Rattle.stripe_plan.specs.Laws.{IsGot, IsWithin}
-use Rattle.stripe_plan.proofs.Covering.{column_touched, own_touched}
+use Rattle.stripe_plan.specs.Lost.{among, is_out}
+use Rattle.stripe_plan.specs.Words.{has_byte, byte_at, code_of, got_at, known_from, lost_from}
+use Rattle.stripe_plan.specs.Laws.{IsGot}
 use Rattle.stripe_plan.proofs.Counting.{RisesFrom, lost_split, lost_rises, are_lost, among_lost, contained}
 use Rattle.stripe_plan.proofs.Columning.{code_count}
-use Rattle.stripe_plan.proofs.ReadLaws.{hit_is, few_lost, stripe_touched}
 use Rattle.client_rules.specs.declared.limits.TheConstants.{PERFORMED}
-use Rattle.world_history.specs.ClientNames.{CallOp, Held, Awaited, Reply, Column, Span}
+use Rattle.world_history.specs.ClientNames.{Held, Awaited, Reply, Column}
 use Rattle.client_rules.specs.Io.{carried, got_of}
 use Rattle.outcome_law.specs.Met as met
 use Rattle.outcome_law.specs.Met.{Met, Answered, Replied, out_in}
-use Rattle.outcome_law.specs.Read.{read_in, range_under}
-use Rattle.outcome_law.specs.ReadBytes.{Gives, IsGiven, CarryBytes, IsSource, IsTheOne, HasCause}
+use Rattle.outcome_law.specs.Read.{read_in}
+use Rattle.outcome_law.specs.ReadBytes.{Gives, IsGiven, CarryBytes, IsSource, IsTheOne}
 use Rattle.outcome_law.proofs.Decodings.{HasData, BeginsWithData, has_data, only_data}
-use Rattle.outcome_law.proofs.Fetching.{IsMade, AllMade, IsPut}
+use Rattle.outcome_law.proofs.Fetching.{IsMade, AllMade}
 
 -- ---- what a reply gives
 
@@ -47,7 +41,8 @@ use Rattle.outcome_law.proofs.Fetching.{IsMade, AllMade, IsPut}
 carried_long : (n : ℕ) (xs : List ℕ) → length (carried n xs) ≡ n
 carried_long n xs =
     let none : ℕ = 0 in
-    omega (arith, length-append (take n xs) (replicate (n - length xs) none), length-replicate (n - length xs) none, length-take n xs)
+    let zeros : List ℕ = replicate (n - length xs) none in
+    omega (arith, length-append (take n xs) zeros, length-replicate (n - length xs) none, length-take n xs)
 
 carried_at : (n : ℕ) (xs : List ℕ) (i : ℕ) → i < n → get_or (carried n xs) i 0 ≡ get_or xs i 0
 carried_at n xs i lt =
@@ -77,17 +72,22 @@ lt_of a b e = grind (arith, nat_tests, e)
 abbrev AreBelow : Held → (p : ℕ) → Type 0
 AreBelow h p = (k : ℕ) → k / replicas h.map ≡ p → k < h.map.comps
 
-gives : (h : Held) (a : Awaited) (r : Reply) (p o : ℕ) → AreBelow h p → IsMade h a → (r.verdict == PERFORMED) ≡ true
-    → has_byte (got_of a r) p o ≡ true → Gives h a r p o (slice_index (carried a.ask.length r.payload) (o - a.ask.offset))
-gives h a r p o below x done has =
+gives : (h : Held) (a : Awaited) (r : Reply) (p o : ℕ) → AreBelow h p → IsMade h a → r.nonce ≡ a.command.nonce
+    → (r.verdict == PERFORMED) ≡ true → has_byte (got_of a r) p o ≡ true → Gives h a r p o (slice_index (carried a.ask.length r.payload) (o - a.ask.offset))
+gives h a r p o below x nonce done has =
     let parts = and_both (a.ask.position == p) (nat_le a.ask.offset o)
     (nat_lt o (a.ask.offset + length (carried a.ask.length r.payload))) has in
     let at : a.ask.position ≡ p = eqb-true a.ask.position p parts.0 in
     let from : a.ask.offset ≤ o = le_of a.ask.offset o parts.1 in
     let to : o < a.ask.offset + a.ask.length =
-    omega (arith, lt_of o (a.ask.offset + length (carried a.ask.length r.payload)) parts.2, carried_long a.ask.length r.payload) in
+    omega (
+      arith,
+      lt_of o (a.ask.offset + length (carried a.ask.length r.payload)) parts.2,
+      carried_long a.ask.length r.payload,
+    ) in
     record {
       performed = eqb-true r.verdict PERFORMED done;
+      nonce = nonce;
       read = x.read;
       component = a.ask.component;
       below = below a.ask.component (x.replica ∙ at);
@@ -122,13 +122,14 @@ last_of (d ∷ cs) c p o (inr g) = elim (cases_Bool (has_byte d p o)) [
 ]
 
 -- a reply more
-one_given : (h : Held) (ms : List Met) (p o : ℕ) → AreBelow h p → (a : Awaited) (r : Reply) → IsMade h a → (b : Bool)
+one_given : (h : Held) (ms : List Met) (p o : ℕ) → AreBelow h p → (a : Awaited) (r : Reply) → IsMade h a → r.nonce ≡ a.command.nonce
+    → (b : Bool)
     → ((r.verdict == PERFORMED) && not a.write) ≡ b
     → (IsGot (read_in ms) p o → IsGiven h ms p o (byte_at (read_in ms) p o))
     → IsGot (if b then read_in ms ++ got_of a r ∷ [] else read_in ms) p o
     → IsGiven h (Replied a r ∷ ms) p o (byte_at (if b then read_in ms ++ got_of a r ∷ [] else read_in ms) p o)
-one_given h ms p o below a r made false is before g = inr (before g)
-one_given h ms p o below a r made true is before g = by_last (last_of (read_in ms) (got_of a r) p o g)
+one_given h ms p o below a r made nonce false is before g = inr (before g)
+one_given h ms p o below a r made nonce true is before g = by_last (last_of (read_in ms) (got_of a r) p o g)
   where
     done : (b c : Bool) → (b && c) ≡ true → b ≡ true
     done true c e = refl
@@ -139,7 +140,7 @@ one_given h ms p o below a r made true is before g = by_last (last_of (read_in m
     by_last (Before b e) = subst (λ (v : ℕ). IsGiven h (Replied a r ∷ ms) p o v) (sym e) (inr (before b))
     by_last (There t e) =
         subst (λ (v : ℕ). IsGiven h (Replied a r ∷ ms) p o v) (sym e)
-        (inl (gives h a r p o below made (done (r.verdict == PERFORMED) (not a.write) is) t))
+        (inl (gives h a r p o below made nonce (done (r.verdict == PERFORMED) (not a.write) is) t))
 
 -- what was got of a position's byte a reply gave
 pub given_at : (h : Held) (ms : List Met) (p o : ℕ) → AreBelow h p → AllMade h ms → IsGot (read_in ms) p o
@@ -149,7 +150,7 @@ given_at h [] p o below x g = absurd g
 given_at h (Answered r a ∷ ms) p o below x g = given_at h ms p o below x g
 given_at h (met.TimedOut k c ∷ ms) p o below x g = given_at h ms p o below x g
 given_at h (Replied a r ∷ ms) p o below x g =
-    one_given h ms p o below a r x.0 ((r.verdict == PERFORMED) && not a.write) refl (given_at h ms p o below x.1) g
+    one_given h ms p o below a r x.0 x.1 ((r.verdict == PERFORMED) && not a.write) refl (given_at h ms p o below x.2) g
 
 -- ---- bytes
 
@@ -311,7 +312,8 @@ module _ (h : Held) (ms : List Met) (s b u : ℕ) (ch : IsChecked h.map) (made :
       | inl data_ ↦ omega (arith, data_)
       | inr past ↦ elim (cases_eq k units) [
         | inl is ↦
-            let one : 0 < length (lost_from m out s 0 units) = some_lost m out s 0 units u (omega arith) (omega (arith, low)) gone in
+            let one : 0 < length (lost_from m out s 0 units) =
+            some_lost m out s 0 units u (omega arith) (omega (arith, low)) gone in
             omega (arith, is, ap (λ (n : ℕ). length (lost_from m out s 0 n)) is, one)
         | inr other ↦
             let all : k + 1 ≡ group_width m = omega (arith, past, other, lt, wide, count_most code) in
@@ -327,7 +329,8 @@ module _ (h : Held) (ms : List Met) (s b u : ℕ) (ch : IsChecked h.map) (made :
 
   free : (k : ℕ) → k < units + count_of code → ¬ Contains lost k → is_out m out (position_of m s k) ≡ false
   free k lt none = elim (cases_Bool (is_out m out (position_of m s k))) [
-    | inl t ↦ absurd (none (contained k lost (among_lost m out s 0 (group_width m) k (omega arith) (omega (arith, lt, wide)) ∙ t)))
+    | inl t ↦ absurd (none (contained k lost
+        (among_lost m out s 0 (group_width m) k (omega arith) (omega (arith, lt, wide)) ∙ t)))
     | inr f ↦ f
   ]
 
@@ -340,7 +343,8 @@ module _ (h : Held) (ms : List Met) (s b u : ℕ) (ch : IsChecked h.map) (made :
       omega (arith, split) in
       let less : length (lost_from m out s 0 k) ≤ length lost = rw all at part in
       let zk : 0 + k ≡ k = omega arith in
-      has.same k (omega (arith, x.early, less)) (among_lost m out s 0 (group_width m) k (omega arith) (omega (arith, x.unit)) ∙ x.there)
+      has.same k (omega (arith, x.early, less))
+      (among_lost m out s 0 (group_width m) k (omega arith) (omega (arith, x.unit)) ∙ x.there)
       ∙ rw zk at (known_at m (read_in ms) out s b 0 (group_width m) k x.unit) ∙ rw x.there refl
 
   pub the_data : IsTheOne h ms s b data_of

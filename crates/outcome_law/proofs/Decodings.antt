@@ -1,6 +1,6 @@
 -- What a column is decoded to, whether or not it is one of a codeword.
-use Rattle.std.proofs.Common.{◌≡◌, ◌≢◌, ◌<◌, ◌≤◌, ℕ, zero, suc, ◌+◌, false, List, [], ◌∷◌, ◌++◌, length, get_or, take, set, refl, sym, ap, subst, ◌∙◌, arith, inl, inr}
-use Rattle.std.specs.List.{All, Contains}
+use Rattle.std.proofs.Common.{◌≡◌, ◌≢◌, ◌<◌, ◌≤◌, ℕ, ◌+◌, false, List, [], ◌∷◌, ◌++◌, length, get_or, take, set, refl, sym, ap, subst, ◌∙◌, arith, inl, inr}
+use Rattle.std.specs.List.{Contains}
 use Rattle.std.specs.Prelude.{bit_xor}
 use Rattle.std.specs.Int.Bits.{xor_zero_r, xor_self}
 use Rattle.std.proofs.lemmas.Bool.{cases_lt, cases_eq, lt-ltb, le-ltb, eq-eqb, ne_eqb}
@@ -183,7 +183,8 @@ module _ (units x y : ℕ) (col : List ℕ) (bytes : AreBytes col) (rising : x <
       (All-set (λ (d : ℕ). d < 256) col x 0 (omega arith) bytes)
 
   repaired_lt : (t : Repair) (p q : ℕ) → t.by_p < 256 → t.by_q < 256 → repaired t p q < 256
-  repaired_lt t p q p_lt q_lt = xor_of_8 (product t.by_p p) (product t.by_q q) (product_lt t.by_p p p_lt) (product_lt t.by_q q q_lt)
+  repaired_lt t p q p_lt q_lt =
+      xor_of_8 (product t.by_p p) (product t.by_q q) (product_lt t.by_p p p_lt) (product_lt t.by_q q q_lt)
 
   abbrev p : ℕ
   p = p_syndrome units cleared_both
@@ -234,7 +235,6 @@ module _ (units x y : ℕ) (col : List ℕ) (bytes : AreBytes col) (rising : x <
 
 -- ---- as many as there is parity, of which one is of data
 
-
 -- the first lost is a unit of data
 abbrev pub BeginsWithData : (units : ℕ) → List ℕ → Type 0
 BeginsWithData units [] = ⊥
@@ -255,7 +255,8 @@ has_data code units (x ∷ y ∷ z ∷ zs) col bytes few are low wide = absurd a
 
 pub only_data : (code : Code) (ds es lost : List ℕ) → AreBytes ds → AreBytes es → length es ≡ length ds → length ds ≤ 255
     → AreLost code (length ds) lost
-    → ((k : ℕ) → k < length ds + count_of code → ¬ Contains lost k → get_or (codeword code es) k 0 ≡ get_or (codeword code ds) k 0)
+    → ((k : ℕ) → k < length ds + count_of code → ¬ Contains lost k
+    → get_or (codeword code es) k 0 ≡ get_or (codeword code ds) k 0)
     → es ≡ ds
 only_data code ds es lost d_bytes e_bytes long few are same =
     let wide : length (codeword code ds) ≡ length ds + count_of code = length_codeword code ds in

@@ -1,31 +1,30 @@
 -- What a read has of the drives is what its call met, and was asked of replicas of its positions.
 use Rattle.std.proofs.Common.{◌≡◌, ◌<◌, ℕ, zero, suc, ◌+◌, ◌-◌, ◌*◌, ◌/◌, ◌==◌, ◌⊎◌, Bool, true, false, List, [], ◌∷◌, ◌++◌, Option, Some, None, length, refl, sym, ap, subst, ◌∙◌, inl, inr, arith}
 use Rattle.std.specs.List.{AllByRecursion}
+use Rattle.std.specs.Prelude.{◌&&◌, find, if◌then◌else◌}
+use Rattle.std.proofs.lemmas.Bool.{eqb-true}
 use Rattle.std.proofs.lemmas.Nat.{div-mul-add}
 use Rattle.data_map.specs.declared.check.RawMap.{RawMap}
 use Rattle.data_map.specs.Striping.{replicas, group_width, group_of}
-use Rattle.data_map.specs.Inverse.{unit_in}
 use Rattle.stripe_plan.specs.declared.plan.Stretch.{Stretch}
 use Rattle.stripe_plan.specs.declared.plan.Interval.{Interval}
 use Rattle.stripe_plan.specs.declared.plan.Aim.TheVariants.{Reads as ToRead}
 use Rattle.stripe_plan.specs.Touched.{stripes}
 use Rattle.stripe_plan.specs.Lost.{source, unreadable}
-use Rattle.stripe_plan.specs.Asks.{needed, at_rows, without_each, asks_of, asks_source, asks_place, asks_stripe, asks}
+use Rattle.stripe_plan.specs.Asks.{asks_of, asks_source, asks_place, asks_stripe, asks}
 use Rattle.stripe_plan.specs.Words.{answered}
 use Rattle.stripe_plan.specs.Laws.{IsFetched}
 use Rattle.osd_commands.specs.declared.actions.Action.TheVariants.{Read}
 use Rattle.client_rules.specs.declared.limits.TheConstants.{PERFORMED}
 use Rattle.world_history.specs.ClientNames.{CallOp, Held, Awaited, TimedOut, Outcome, ReadOk, Request, Answer, Reply, Column, Span, Ask}
-use Rattle.client_rules.specs.Calls.{span_of}
-use Rattle.client_rules.specs.Grants.{clipped}
 use Rattle.client_rules.specs.Requests.{object_of}
 use Rattle.client_rules.specs.Commands.{credential_of, command, sealed, nonce_at, numbered, carrying_none, read_commands, counted, others, not_of}
 use Rattle.client_rules.specs.Io.{outs, got_of}
 use Rattle.client_rules.specs.Reads.{reads_due}
+use Rattle.client_rules.specs.Replies.{answers}
 use Rattle.client_rules.proofs.Apart.{IsIn}
 use Rattle.exchange_law.proofs.Had.{AreBelow, rest_below}
 use Rattle.exchange_law.proofs.Parts.{each_more, each_filtered, each_as}
-use Rattle.exchange_law.proofs.PlaceLists.{all_map}
 use Rattle.exchange_law.proofs.Plans.{source_found}
 use Rattle.exchange_law.proofs.RightMoves.{IsReady, fetched, ready_sent, ready_replied}
 use Rattle.outcome_law.specs.Met as met
@@ -62,11 +61,11 @@ pub record IsMade (h : Held) (a : Awaited) : Type 0 where
   pub offset : a.command.offset ≡ a.ask.offset
   pub length : a.command.length ≡ a.ask.length
 
--- those to which drives replied
+-- those to which drives replied, by their nonces
 abbrev pub AllMade : Held → List Met → Type 0
 AllMade h [] = Unit {0}
 AllMade h (Answered r a ∷ ms) = AllMade h ms
-AllMade h (Replied a r ∷ ms) = IsMade h a × AllMade h ms
+AllMade h (Replied a r ∷ ms) = IsMade h a × (r.nonce ≡ a.command.nonce) × AllMade h ms
 AllMade h (met.TimedOut g k ∷ ms) = AllMade h ms
 
 none_made : (h : Held) (ms : List Met) → NoReplies ms → AllMade h ms
@@ -92,13 +91,29 @@ made_counted h sent a x = record {
 met_counted : (h : Held) (sent : List Awaited) (ms : List Met) → AllMade h ms → AllMade (counted h sent) ms
 met_counted h sent [] x = tt
 met_counted h sent (Answered r a ∷ ms) x = met_counted h sent ms x
-met_counted h sent (Replied a r ∷ ms) x = (made_counted h sent a x.0, met_counted h sent ms x.1)
+met_counted h sent (Replied a r ∷ ms) x = (made_counted h sent a x.0, x.1, met_counted h sent ms x.2)
 met_counted h sent (met.TimedOut g k ∷ ms) x = met_counted h sent ms x
 
 made_in : (h : Held) (xs : List Awaited) (a : Awaited) → AllByRecursion (IsMade h) xs → IsIn a xs → IsMade h a
 made_in h [] a x i = absurd i
 made_in h (y ∷ xs) a x (inl e) = subst (IsMade h) (sym e) x.0
 made_in h (y ∷ xs) a x (inr i) = made_in h xs a x.1 i
+
+-- a reply that is taken has the nonce of its command
+pub nonce_is : (drive : ℕ) (r : Reply) (xs : List Awaited) (a : Awaited) → find (answers drive r) xs ≡ Some a
+    → r.nonce ≡ a.command.nonce
+nonce_is drive r [] a e = absurd (cc e)
+nonce_is drive r (x ∷ xs) a e =
+    by_test (x.command.nonce == r.nonce) (x.drive == drive) refl e (λ s. nonce_is drive r xs a s)
+  where
+    by_test : (b d : Bool) → (x.command.nonce == r.nonce) ≡ b
+        → (if b && d then Some x else find (answers drive r) xs) ≡ Some a
+        → (find (answers drive r) xs ≡ Some a → r.nonce ≡ a.command.nonce) → r.nonce ≡ a.command.nonce
+    by_test true true is s later =
+        let same : x ≡ a = cc s in
+        sym (eqb-true x.command.nonce r.nonce is) ∙ ap (λ (y : Awaited). y.command.nonce) same
+    by_test true false is s later = later s
+    by_test false d is s later = later s
 
 -- ---- what a read asks
 
@@ -214,16 +229,16 @@ fetching_counted h op got timed sent awaited top ms e x = record {
 
 -- a READ was performed
 pub fetching_replied : (h : Held) (op : CallOp) (got : List Column) (timed : List TimedOut) (awaited : List Awaited) (top : ℕ)
-    (ms : List Met) (a : Awaited) (r : Reply) → IsIn a awaited → (r.verdict == PERFORMED) ≡ true
+    (ms : List Met) (a : Awaited) (r : Reply) → IsIn a awaited → (r.verdict == PERFORMED) ≡ true → r.nonce ≡ a.command.nonce
     → Fetching h op got timed awaited top ms
     → Fetching h op (got ++ got_of a r ∷ []) timed (others awaited a.command.nonce) top (Replied a r ∷ ms)
 unfolding read_in others
-fetching_replied h op got timed awaited top ms a r i is x =
+fetching_replied h op got timed awaited top ms a r i is n x =
     let made : IsMade h a = made_in h awaited a x.made i in
     record {
       read = rw (is, made.write) (ap (λ (cs : List Column). cs ++ got_of a r ∷ []) x.read);
       made = each_filtered (IsMade h) _ awaited x.made;
-      met = (made, x.met);
+      met = (made, n, x.met);
       ready = ready_replied h.map (range_under h op) (outs h timed) got awaited a r top i x.ready;
     }
 

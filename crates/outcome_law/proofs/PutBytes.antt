@@ -1,45 +1,27 @@
 -- Each byte of an answer that the plan put together has its cause.
-use Rattle.std.proofs.Common.{◌≡◌, ◌≢◌, ◌<◌, ◌≤◌, ◌⊎◌, ℕ, zero, suc, ◌+◌, ◌-◌, ◌*◌, ◌/◌, ◌%◌, ◌==◌, Bool, true, false, List, [], ◌∷◌, ◌++◌, Option, Some, None, length, get_or, take, refl, sym, ap, subst, ◌∙◌, inl, inr, arith, if◌then◌else◌, ne_eqb}
-use Rattle.std.specs.Prelude.{◌&&◌, not, nat_le, nat_lt, slice_index, replicate, map}
+use Rattle.std.proofs.Common.{◌≡◌, ◌<◌, ◌≤◌, ℕ, zero, suc, ◌+◌, true, false, List, length, get_or, sym, ap, subst, ◌∙◌, inl, inr, arith}
+use Rattle.std.specs.Prelude.{slice_index, map}
 use Rattle.std.specs.List.{range_with_len}
-use Rattle.std.proofs.lemmas.Bool.{cases_Bool, cases_eq, cases_lt, eqb-true, lt-ltb, true_from_ne_false}
-use Rattle.std.proofs.lemmas.Bool.Decides.{nat_tests}
-use Rattle.std.proofs.lemmas.Nat.{div-add-mod'}
-use Rattle.std.proofs.Math.Nat.{mod-lt}
-use Rattle.std.proofs.Math.ListN.{get_or-append}
-use Rattle.std.proofs.lemmas.List.{get_or-append-add, length-append, length-replicate, length-take, get_or-replicate, get_or-take, get_or_past}
-use Rattle.exchange_law.proofs.Parts.{each_more}
+use Rattle.std.proofs.lemmas.Bool.{cases_Bool, lt-ltb}
+use Rattle.std.proofs.lemmas.List.{get_or-take}
 use Rattle.data_map.specs.declared.check.RawMap.{RawMap}
 use Rattle.data_map.specs.Check.{IsChecked}
-use Rattle.data_map.specs.Striping.{replicas, positions, group_width, parities, data_units, stripe_of, data_unit_of, column_of, position_of, offset_of}
-use Rattle.data_map.proofs.Striping.{data_unit_below, position_in_range}
-use Rattle.data_map.proofs.Shape.{replicas_inside}
-use Rattle.parity_code.specs.declared.code.Code.{Code}
-use Rattle.parity_code.specs.declared.code.Code.TheVariants.{Plain, Xor, PandQ}
-use Rattle.parity_code.specs.Codeword.{count_of, codeword}
-use Rattle.parity_code.specs.Decoding.{decoded}
-use Rattle.parity_code.proofs.ParityLaws.{AreBytes}
-use Rattle.parity_code.proofs.DecodeLaws.{count_most}
-use Rattle.parity_code.proofs.BackLaws.{AreLost}
+use Rattle.data_map.specs.Striping.{group_width, data_units, stripe_of, data_unit_of, column_of, position_of, offset_of}
+use Rattle.data_map.proofs.Striping.{data_unit_below}
 use Rattle.stripe_plan.specs.declared.plan.Aim.TheVariants.{Reads}
 use Rattle.stripe_plan.specs.Touched.{end_of, touches, IsTouchedStripe}
-use Rattle.stripe_plan.specs.Lost.{among, is_out, is_hit}
+use Rattle.stripe_plan.specs.Lost.{is_out, is_hit}
 use Rattle.stripe_plan.specs.Asks.{own_columns, needed}
-use Rattle.stripe_plan.specs.Words.{has_byte, byte_over, byte_at, code_of, got_at, known_from, lost_from, decoded_at, answer_in, answer_at, answered}
+use Rattle.stripe_plan.specs.Words.{decoded_at, answer_in, answer_at, answered}
 use Rattle.stripe_plan.specs.Laws.{IsGot, IsWithin}
 use Rattle.stripe_plan.proofs.Covering.{column_touched, own_touched}
-use Rattle.stripe_plan.proofs.Counting.{RisesFrom, lost_split, lost_rises, are_lost, among_lost, contained}
 use Rattle.stripe_plan.proofs.Columning.{run_long}
 use Rattle.stripe_plan.proofs.ReadLaws.{hit_is, few_lost, stripe_touched}
-use Rattle.client_rules.specs.declared.limits.TheConstants.{PERFORMED}
-use Rattle.world_history.specs.ClientNames.{CallOp, Held, Awaited, Reply, Column, Span}
-use Rattle.client_rules.specs.Io.{carried, got_of}
-use Rattle.outcome_law.specs.Met as met
-use Rattle.outcome_law.specs.Met.{Met, Answered, Replied, out_in}
+use Rattle.world_history.specs.ClientNames.{CallOp, Held, Span}
+use Rattle.outcome_law.specs.Met.{Met, out_in}
 use Rattle.outcome_law.specs.Read.{read_in, range_under}
-use Rattle.outcome_law.specs.ReadBytes.{Gives, IsGiven, CarryBytes, IsSource, IsTheOne, HasCause}
-use Rattle.outcome_law.proofs.Decodings.{HasData, BeginsWithData, has_data, only_data}
-use Rattle.outcome_law.proofs.Fetching.{IsMade, AllMade, IsPut}
+use Rattle.outcome_law.specs.ReadBytes.{HasCause}
+use Rattle.outcome_law.proofs.Fetching.{IsPut}
 use Rattle.outcome_law.proofs.ByteCauses.{given_at, position_below, data_of, the_data}
 
 -- a run of numbers, mapped
@@ -103,10 +85,12 @@ module _ (h : Held) (op : CallOp) (ms : List Met) (bytes : List ℕ) (ch : IsChe
           hit_is m r out s 0 (data_units m) c (omega arith) (omega (arith, low)) touch gone in
           let few = few_lost m r out s ch x.some x.readable stripe hit in
           let had : (k : ℕ) → k < group_width m → is_out m out (position_of m s k) ≡ false
-              → IsGot (read_in ms) (position_of m s k) (offset_of m s b) =
-          λ k lt there. x.fetched s b k stripe lt there (rw hit (column_touched m r l ch from to)) in
-          (data_of h ms s b c ch x.met low small gone few had, the_data h ms s b c ch x.met low small gone few had,
-          rw gone (sym (get_or-take (data_units m) _ c 0 low)));
+          → IsGot (read_in ms) (position_of m s k) (offset_of m s b) =
+          λ k lt there. x.fetched s b k stripe lt there (rw hit (column_touched m r l ch from to)) in (
+            data_of h ms s b c ch x.met low small gone few had,
+            the_data h ms s b c ch x.met low small gone few had,
+            rw gone (sym (get_or-take (data_units m) _ c 0 low)),
+          );
     }
 
   pub each_cause : (i l : ℕ) → i < length bytes → l ≡ r.offset + i

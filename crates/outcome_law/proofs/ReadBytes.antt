@@ -24,7 +24,7 @@ use Rattle.outcome_law.specs.Caused.{call_in}
 use Rattle.outcome_law.specs.ReadCalls.{LastStep, stepped}
 use Rattle.outcome_law.specs.Ended.{CausedAt}
 use Rattle.outcome_law.specs.ReadBytes.{HaveCauses, BytesAt, EachByteHasItsCause}
-use Rattle.outcome_law.proofs.Fetching.{IsEmpty, IsPut, Answers}
+use Rattle.outcome_law.proofs.Fetching.{Answers}
 use Rattle.outcome_law.proofs.PutBytes.{put_long, each_cause}
 use Rattle.outcome_law.proofs.Runs.{is_answered}
 use Rattle.outcome_law.proofs.CallHistories.{ends_are_caused}
@@ -33,7 +33,8 @@ use Rattle.outcome_law.proofs.Read.{met_more, call_of, told_so}
 
 -- ---- the grant of a step has a map that was checked
 
-given_checked : (op : CallOp) (a : Answer) (r : Result Held Why) (h : Held) → taken a op ≡ r → given_in r ≡ Some h → IsChecked h.map
+given_checked : (op : CallOp) (a : Answer) (r : Result Held Why) (h : Held) → taken a op ≡ r → given_in r ≡ Some h
+    → IsChecked h.map
 given_checked op a (Err w) h is e = absurd (cc e)
 given_checked op a (Ok g) h is e =
     let same : g ≡ h = cc e in taken_checked a op h (is ∙ ap (λ (x : Held). Ok x) same)
@@ -103,7 +104,8 @@ has_causes k is t i bytes same e =
     λ h under. under_checked w.0 now h (given_at w.0 now) (held_of x.held (file_of w.0)) refl
     (λ g there. subst (λ (f : Held). IsChecked f.map)
     (same_held g a.held (sym there ∙ ap (λ (op : CallOp). held_of x.held (file_of op)) its ∙ a.holds)) a.checked) under in
-    subst (λ (ms : List Met). HaveCauses (record { call = call_in x i; held = x.held; met = ms; outcome = (step x i).outcome }) bytes)
+    subst (λ (ms : List Met).
+    HaveCauses (record { call = call_in x i; held = x.held; met = ms; outcome = (step x i).outcome }) bytes)
     (sym (same ∙ met_more (new_client k 1) [] is i)) (with_causes (call_in x i) x.held now _ w.0 bytes w.1 w.2 ch)
 
 at_line : (before : List Line) (l : Line) → CausedAt before l → BytesAt before l

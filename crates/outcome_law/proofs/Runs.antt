@@ -21,7 +21,7 @@ use Rattle.client_rules.proofs.ReadMoves.{found_in}
 use Rattle.outcome_law.specs.Met as met
 use Rattle.outcome_law.specs.Met.{Met, Answered, Replied, since, with_answer, with_taken, with_timeout, with_silence, met_after, met_by, busy_status, busy_args, busy_in, last_busy, timed_in, given_args, given_in, grant_under, why_in, status_failure, failure_args, failure_at, cut_short, failure_in, lost_under, first_refusal, first_beyond, as_lost}
 use Rattle.outcome_law.specs.Caused.{IsWhole, call_in, client_by, call_met, IsCaused, OutcomesAreCaused}
-use Rattle.outcome_law.proofs.Fetching.{Answers as HasAnswer, fetching_answered}
+use Rattle.outcome_law.proofs.Fetching.{Answers as HasAnswer, fetching_answered, nonce_is}
 use Rattle.outcome_law.proofs.Trace.{Works, IsReturn, IsPlain, return_plain, return_gives, return_quiet, busy_same, answered_works, answered_decided, uncut, last_says, lost_write}
 use Rattle.outcome_law.proofs.Working.{ReadsOn, WritesOn, GoodNeed, GoodPhase, replied_good, timed_good}
 use Rattle.outcome_law.proofs.Steps.{ReturnsOnly, Started, NeedsGood, Working, PhaseTraced, CallTraced, IsTraced, Fresh, DoneCall, Told, GoodDone, GoodStep, moved_good, finished_good}
@@ -198,14 +198,14 @@ module _ (c : Client) (ms : List Met) (x : IsTraced c ms) where
   working_at op (Gathers io) a y i = y
   working_at op (Scatters io queue) a y i = y
 
-  replied_call : (a : Awaited) (r : Reply) (o : Option Call) → c.call ≡ o → IsIn a (awaited_of o)
-      → GoodDone c.held (pending c.call) (Replied a r ∷ ms) (reply_call c a r o)
-  replied_call a r None is i = absurd i
-  replied_call a r (Some call) is i =
+  replied_call : (a : Awaited) (r : Reply) → r.nonce ≡ a.command.nonce → (o : Option Call) → c.call ≡ o
+      → IsIn a (awaited_of o) → GoodDone c.held (pending c.call) (Replied a r ∷ ms) (reply_call c a r o)
+  replied_call a r n None is i = absurd i
+  replied_call a r n (Some call) is i =
       let w = working_at call.op call.phase a (subst (λ (o : Option Call). CallTraced c.held c.outstanding o ms) is x) i in
       subst (λ (o : Option Held). GoodDone c.held (pending c.call) (Replied a r ∷ ms) (reply_under c call a r o)) (sym w.2)
       (moved_good c.held (pending c.call) (Replied a r ∷ ms) (quiet c) call.op w.1 _ (ap pending is) w.2 w.2 w.0
-      (replied_good w.1 call.op call.phase a r ms w.3 i) tt)
+      (replied_good w.1 call.op call.phase a r ms n w.3 i) tt)
 
   -- ---- a timeout
 
@@ -248,7 +248,8 @@ module _ (c : Client) (ms : List Met) (x : IsTraced c ms) where
   by_reply drive r None e = rests
   by_reply drive r (Some a) e =
       finished_good c.held (pending c.call) (Replied a r ∷ ms) _
-      (replied_call a r c.call refl (found_in (answers drive r) (awaited_of c.call) a e))
+      (replied_call a r (nonce_is drive r (awaited_of c.call) a e) c.call refl
+      (found_in (answers drive r) (awaited_of c.call) a e))
 
   by_awaited : (a : Answer) (r : Request) → c.outstanding ≡ Some r → (b : Bool)
       → GoodOn (with_taken c (if b then Some (TakesAnswer a) else None) ms)
@@ -378,12 +379,16 @@ caused c ms i o x e =
     let t = subst (Told c.held (call_in c i) (met_after c ms i)) e (step_good c ms i x).outcome in
     record { op = t.0; call = t.1; cause = t.2.cause; whole = t.2.whole }
 
+-- all that a call has met behind one input more
+abbrev pub met_with : (number sequence : ℕ) → List Input → Input → List Met
+met_with number sequence is i = met_after (client_by number sequence is) (call_met number sequence is) i
+
 -- a read that is answered
 pub is_answered : (number sequence : ℕ) (is : List Input) (i : Input) (bytes : List ℕ)
     → (step (client_by number sequence is) i).outcome ≡ Some (ReadOk bytes)
     → (op : CallOp) × (call_in (client_by number sequence is) i ≡ Some op)
-    × HasAnswer (grant_under (client_by number sequence is).held op (met_after (client_by number sequence is) (call_met number sequence is) i))
-    op (met_after (client_by number sequence is) (call_met number sequence is) i) (ReadOk bytes)
+    × HasAnswer (grant_under (client_by number sequence is).held op (met_with number sequence is i)) op
+    (met_with number sequence is i) (ReadOk bytes)
 is_answered number sequence is i bytes e =
     let c : Client = client_by number sequence is in
     let ms : List Met = call_met number sequence is in

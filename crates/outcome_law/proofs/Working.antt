@@ -255,13 +255,13 @@ begins_good h op ms w none quiet =
 -- ---- a reply
 
 performed_good : (h : Held) (op : CallOp) (p : Phase) (a : Awaited) (r : Reply) (ms : List Met)
-    → (r.verdict == PERFORMED) ≡ true → GoodPhase h op p ms → IsIn a (awaited_in p)
+    → (r.verdict == PERFORMED) ≡ true → r.nonce ≡ a.command.nonce → GoodPhase h op p ms → IsIn a (awaited_in p)
     → GoodMoved h op (performed h op p a r) (Replied a r ∷ ms)
 unfolding timed_in range_lost scatters_next
-performed_good h op Starts a r ms is x i = absurd x
-performed_good h op (Needs n) a r ms is x i = absurd i
-performed_good h op (Waits n) a r ms is x i = absurd x
-performed_good h op (Reads io) a r ms is x i =
+performed_good h op Starts a r ms is n x i = absurd x
+performed_good h op (Needs need) a r ms is n x i = absurd i
+performed_good h op (Waits need) a r ms is n x i = absurd x
+performed_good h op (Reads io) a r ms is n x i =
     reads_on_good h op _ io.timed [] _ (Replied a r ∷ ms)
     (record {
       reads = x.0.reads;
@@ -269,14 +269,14 @@ performed_good h op (Reads io) a r ms is x i =
       range = x.0.range;
       finds = x.0.finds;
     }) refl (nonce_at h h.count) (omega arith)
-    (fetching_replied h op io.got io.timed io.awaited (nonce_at h h.count) ms a r i is x.1)
-performed_good h op (Probes io) a r ms is x i =
+    (fetching_replied h op io.got io.timed io.awaited (nonce_at h h.count) ms a r i is n x.1)
+performed_good h op (Probes io) a r ms is n x i =
     probes_on_good h op _ io.timed [] _ (Replied a r ∷ ms)
     (record { reads = x.reads; works = performed_works op a r ms io.timed is x.works; range = x.range; finds = x.finds }) refl
-performed_good h op (Gathers io) a r ms is x i =
+performed_good h op (Gathers io) a r ms is n x i =
     gathers_on_good h op _ io.timed [] _ (Replied a r ∷ ms)
     (record { writes = x.writes; works = performed_works op a r ms io.timed is x.works }) refl
-performed_good h op (Scatters io queue) a r ms is x i =
+performed_good h op (Scatters io queue) a r ms is n x i =
     scatters_on_good h op io.timed _ _ _ (Replied a r ∷ ms)
     (record { writes = x.writes; works = performed_works op a r ms io.timed is x.works }) refl
 
@@ -299,11 +299,11 @@ works_at h op (Probes io) a ms x i = (io.timed, x.works)
 works_at h op (Gathers io) a ms x i = (io.timed, x.works)
 works_at h op (Scatters io queue) a ms x i = (io.timed, x.works)
 
-pub replied_good : (h : Held) (op : CallOp) (p : Phase) (a : Awaited) (r : Reply) (ms : List Met) → GoodPhase h op p ms
-    → IsIn a (awaited_in p) → GoodMoved h op (replied h op p a r) (Replied a r ∷ ms)
+pub replied_good : (h : Held) (op : CallOp) (p : Phase) (a : Awaited) (r : Reply) (ms : List Met)
+    → r.nonce ≡ a.command.nonce → GoodPhase h op p ms → IsIn a (awaited_in p) → GoodMoved h op (replied h op p a r) (Replied a r ∷ ms)
 unfolding replied
-replied_good h op p a r ms x i =
-    either h op (Replied a r ∷ ms) (r.verdict == PERFORMED) _ _ (λ is. performed_good h op p a r ms is x i)
+replied_good h op p a r ms n x i =
+    either h op (Replied a r ∷ ms) (r.verdict == PERFORMED) _ _ (λ is. performed_good h op p a r ms is n x i)
     (λ is. let w = works_at h op p a ms x i in
     refused_good h op p a r ms (refused_decided op a r ms w.0 is w.1))
 

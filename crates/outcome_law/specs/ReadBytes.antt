@@ -1,5 +1,5 @@
 -- Where each byte of an answered read comes from, in the words of the lines.
-use Rattle.std.specs.Prelude.{◌≡◌, ◌≢◌, ◌⊎◌, ℕ, ◌+◌, ◌-◌, ◌/◌, ◌<◌, ◌≤◌, true, false, List, [], ◌∷◌, length, slice_index, Some}
+use Rattle.std.specs.Prelude.{◌≡◌, ◌⊎◌, ℕ, ◌+◌, ◌-◌, ◌/◌, ◌<◌, ◌≤◌, true, false, List, [], ◌∷◌, length, slice_index, Some}
 use Rattle.std.specs.List.{All}
 use Rattle.data_map.specs.Striping.{replicas, group_width, data_units, stripe_of, data_unit_of, column_of, position_of, offset_of}
 use Rattle.parity_code.specs.Codeword.{codeword}
@@ -21,11 +21,12 @@ use Rattle.outcome_law.specs.Read.{range_under}
 
 -- ---- bytes that were read
 
--- The reply to a READ that was performed gives v as the byte of position p at offset o. The READ went to a replica of this
--- position, on the drive and for the object that the grant lists for it, under its capability, and was for this byte among
--- others. What the reply doesn't carry is 0.
+-- The reply to a READ that was performed, by its nonce, gives v as the byte of position p at offset o. The READ went to a
+-- replica of this position, on the drive and for the object that the grant lists for it, under its capability, and was for
+-- this byte among others. What the reply doesn't carry is 0.
 pub record Gives (h : Held) (a : Awaited) (r : Reply) (p o v : ℕ) : Type 0 where
   pub performed : r.verdict ≡ PERFORMED
+  pub nonce : r.nonce ≡ a.command.nonce
   pub read : a.command.action ≡ Read
   pub component : ℕ
   pub below : component < h.map.comps
