@@ -32,6 +32,7 @@ use Rattle.cause_law.specs.Told.{EachMessageIsCaused}
 use Rattle.outcome_law.specs.Ended.{EndsAreCaused}
 use Rattle.outcome_law.specs.Pending.{EachCallIsLeftSo}
 use Rattle.outcome_law.specs.Read.{AnswersAreOfReplies}
+use Rattle.outcome_law.specs.ReadBytes.{EachByteHasItsCause}
 use Rattle.pending_law.specs.Unanswered.{PendingCallsAreUnanswered}
 use Rattle.tag_law.specs.Tags.{EachTagIsItsFiles}
 use Rattle.history_claims.proofs.Texts.{events_make_text}
@@ -43,11 +44,11 @@ pub histories_are_sound : HistoriesAreSafe → VerdictsAreAnswered → CommandsA
     → EachHolderIsOwn → UnforgedAreFenced → EachAnswerIsLive → EachGivenWasLive → GrantsAreOlder → GivenIsBarred
     → CommandsAreIssuedExactly → UnforgedAreIssuedExactly → LanesAreFair → LanesAreOwn → RefusalsWereJudged
     → RefusalsWereAwaited → CountersStayLow → CallsEndSo → EndsAreCaused → AnswersAreOfReplies
-    → EachTagIsItsFiles → EachRequestIsAnswered → EachMessageIsCaused → EachGrantHasItsCauses
+    → EachByteHasItsCause → EachTagIsItsFiles → EachRequestIsAnswered → EachMessageIsCaused → EachGrantHasItsCauses
     → EachComponentHasItsCauses → EachEndIsSaid → EachCallIsLeftSo → PendingCallsAreUnanswered → WithinTheLimitAreFew
     → HistoriesAreSound
 histories_are_sound safe answered issued listed fair ranges fronts apart spread created own fenced live given older barred exact
-    allowed lanes lanes_own judged awaited low ends outcomes read tags caused told changed gone said left unanswered few = record {
+    allowed lanes lanes_own judged awaited low ends outcomes read bytes tags caused told changed gone said left unanswered few = record {
       sound = λ h l. record {
         safe = safe h l;
         answered = λ w s. answered w h s;
@@ -79,6 +80,7 @@ histories_are_sound safe answered issued listed fair ranges fronts apart spread 
         components = λ w s a. gone w h s a;
         caused = outcomes h l;
         read = read h l;
+        bytes = bytes h l;
         said = λ w g k m rest d is. said w g k m d;
         left = λ w g k m rest d is. left w g k m d;
         unanswered = unanswered h l;

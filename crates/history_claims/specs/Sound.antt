@@ -35,6 +35,7 @@ use Rattle.cause_law.specs.Told.{MessagesAreCaused}
 use Rattle.outcome_law.specs.Ended.{CausedAt}
 use Rattle.outcome_law.specs.Pending.{CallsAreLeft}
 use Rattle.outcome_law.specs.Read.{AnswersAt}
+use Rattle.outcome_law.specs.ReadBytes.{BytesAt}
 use Rattle.pending_law.specs.Unanswered.{UnansweredAt}
 use Rattle.tag_law.specs.Tags.{HaveTagsAt}
 use Rattle.history_claims.specs.Texts.{EventsMakeText, CutsGoOn}
@@ -124,6 +125,9 @@ pub record IsSound (h : List Line) : Type 0 where
   -- an answered read took a reply to a READ that was performed, and for any file that agrees with what was read so in its call
   -- the answer is the file's bytes
   pub read : AtEachLine AnswersAt h
+  -- each byte of the answer is one that such a reply of its own position gave; or, if the position is out by the layout and the
+  -- timeouts, the data byte of the one codeword that has what such replies gave of its column
+  pub bytes : AtEachLine BytesAt h
   -- in each move a call ends as only an answer says exactly if its client takes an answer that says so
   pub said : CallsEndAsSaid h
   -- and in each move a call is left pending exactly if the event came with it, ends there, and the call doesn't

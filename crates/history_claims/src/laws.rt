@@ -20,7 +20,9 @@ use history_law::{
     commands_are_issued, histories_are_safe, ranges_are_apart, unforged_are_issued,
     unguessed_are_unforged, verdicts_are_answered,
 };
-use outcome_law::{answers_are_of_replies, calls_are_left, ends_are_caused};
+use outcome_law::{
+    answers_are_of_replies, calls_are_left, each_byte_has_its_cause, ends_are_caused,
+};
 use pending_law::pending_calls_are_unanswered;
 use server_rules::files_are_put;
 use tag_law::{
@@ -110,6 +112,7 @@ pub fn histories_are_sound()
     calls_end_so();
     ends_are_caused();
     answers_are_of_replies();
+    each_byte_has_its_cause();
     each_tag_is_its_files();
     requests_are_answered();
     messages_are_caused();
