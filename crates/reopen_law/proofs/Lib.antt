@@ -1,0 +1,9 @@
+pub mod Fences
+pub mod Refusing
+pub mod Opening
+pub mod Steps
+pub mod Noting
+pub mod Moving
+pub mod Barring
+pub mod Telling
+pub mod Moments

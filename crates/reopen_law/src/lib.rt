@@ -1,0 +1,4 @@
+//! What a server that restarts promises.
+#![tactic(auto)]
+
+mod laws;
