@@ -37,7 +37,7 @@ use Rattle.reopen_law.proofs.Steps.{At, is_restart, fence_stays, spent_stays, ma
 abbrev pub One : (n : ℕ) → (File → Type 0) → List File → Type 0
 One n Q fs = (f : File) × (file_at fs n ≡ Some f) × Q f
 
-of_each : (P : File → Type 0) (fs : List File) (f : File) → Each P fs → In f fs → P f
+pub of_each : (P : File → Type 0) (fs : List File) (f : File) → Each P fs → In f fs → P f
 of_each P [] f e i = absurd i
 of_each P (x ∷ fs) f e (inl same) = subst P (sym same) e.0
 of_each P (x ∷ fs) f e (inr i) = of_each P fs f e.1 i

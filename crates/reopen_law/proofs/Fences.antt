@@ -1,5 +1,5 @@
 -- A fence of a file that is under way, in whatever the server does: it is still under way, or the file has the next tag.
-use Rattle.std.proofs.Common.{◌≡◌, ◌⊎◌, ◌==◌, ℕ, ◌+◌, Bool, true, false, List, [], ◌∷◌, Option, Some, None, refl, sym, ap, ◌∙◌, inl, inr, if◌then◌else◌}
+use Rattle.std.proofs.Common.{◌≡◌, ◌⊎◌, ◌==◌, ◌||◌, ℕ, ◌+◌, Bool, true, false, List, [], ◌∷◌, Option, Some, None, refl, sym, ap, ◌∙◌, inl, inr, if◌then◌else◌}
 use Rattle.std.proofs.lemmas.Bool.{cases_Bool, false≢true}
 use Rattle.server_rules.specs.declared.limits.TheConstants.{GREATEST_TAG}
 use Rattle.server_rules.specs.Commands.{Raising, All, to_all}
@@ -94,11 +94,14 @@ module _ (tag : ℕ) where
       rw (of_job g.file j runs u.0) (fence_waits g j (others j.awaited a.command.nonce) _ u.1 u.2)
   fence_hears g j a r Nothing runs u = inl u
 
+  work_lost : (g : Going) (j : Job) (w : Work) (rest : List Awaited) (gone : Bool) → w ≡ Fences
+      → is_still g.file.kept.phase ≡ false → g.file.kept.tag ≡ tag → Fence (loses g j w rest gone).file
+  work_lost g j w rest gone same p is = rw same (fence_loses g j rest gone p is)
+
   in_job : (g : Going) (d : ℕ) (o : Option Job) → is_fencing o ≡ true → is_still g.file.kept.phase ≡ false
       → g.file.kept.tag ≡ tag → Fence (declared_in g d o).file
   in_job g d None f p is = absurd (false≢true f)
-  in_job g d (Some j) f p is =
-      rw (its_fence j.work f) (fence_loses g j (others_than d j.awaited) _ p is)
+  in_job g d (Some j) f p is = work_lost g j j.work (others_than d j.awaited) (is_target j.work d) (its_fence j.work f) p is
 
   pub fence_declared : (g : Going) (d : ℕ) → IsUnder g.file → Fence (declares g d).file
   unfolding declares

@@ -1,12 +1,14 @@
 -- The number of a grant that is given is the server's next, which is past it from then on.
-use Rattle.std.proofs.Common.{◌≡◌, ◌⊎◌, ◌≤◌, ◌<◌, ◌+◌, ◌^◌, ◌==◌, ℕ, min, Bool, true, false, List, [], ◌∷◌, ◌++◌, replicate, length, Some, None, refl, sym, ap, subst, ◌∙◌, arith, inl, inr}
+use Rattle.std.proofs.Common.{◌≡◌, ◌⊎◌, ◌≤◌, ◌<◌, ◌+◌, ◌^◌, ◌==◌, ℕ, min, Bool, true, false, List, [], ◌∷◌, ◌++◌, drop, Some, None, refl, sym, ap, subst, ◌∙◌, arith, inl, inr}
 use Rattle.std.proofs.lemmas.Bool.{cases_lt}
+use Rattle.std.proofs.lemmas.Nat.{from_be_bytes-to_be_bytes_4}
 use Rattle.std.specs.Int.{w32, to_be_bytes, from_be_bytes}
 use Rattle.layout_ops.specs.declared.items.StateId.{StateId}
 use Rattle.layout_ops.specs.declared.results.LayoutGetOk.{LayoutGetOk}
 use Rattle.layout_ops.specs.declared.results.LayoutGetResult.TheVariants as get
 use Rattle.layout_ops.specs.declared.results.Results.{Results}
 use Rattle.layout_ops.specs.declared.results.Results.TheVariants as results
+use Rattle.layout_ops.specs.declared.statuses.TheConstants.{LAYOUTIOMODE4_RW}
 use Rattle.server_rules.specs.declared.limits.TheConstants.{GREATEST_GRANT}
 use Rattle.server_rules.specs.Files.{Step, file_at}
 use Rattle.server_rules.specs.Grants.{asked}
@@ -99,13 +101,35 @@ module _ (s t : Server) (now : ℕ) (q : ClientRequest) (f g : File) (a : Answer
         iomode = iomode;
         offset = offset;
         count = count;
-        wanted = asked f.kept s.next_grant q.client now offset count (iomode == 2);
+        wanted = asked f.kept s.next_grant q.client now offset count (iomode == LAYOUTIOMODE4_RW);
         next = s.next_grant;
         now = now;
       }
 
       by : c.row ≡ row.Gives → HasNext s t ok
-      by e = ?
+      by e =
+          let l : LeavesLive x row.Gives = subst (LeavesLive x) e c.live in
+          let less : s.next_grant ≤ GREATEST_GRANT = elim (cases_lt GREATEST_GRANT s.next_grant) [
+            | inl over ↦
+                absurd (c.first.none row.NoNumber
+                (subst (λ (r : Row). row.place row.NoNumber < row.place r) (sym e) (omega arith)) over)
+            | inr le ↦ le
+          ] in
+          let number : x.wanted.number ≡ s.next_grant =
+          its_number f.kept s.next_grant q.client now offset count (iomode == LAYOUTIOMODE4_RW) less in
+          let given : ok ≡ granted s.drives g.kept x.wanted =
+          same_ok ok (granted s.drives g.kept x.wanted)
+          (sym gives ∙ ap (λ (b : Answer). b.results) c.is
+          ∙ ap (λ (r : Row). told_by s.drives g.kept x.wanted r) e) in
+          record {
+            named = ap (λ (k : LayoutGetOk). k.stateid) given ∙ ap stateid_of number;
+            left = less;
+            file = g;
+            there = behind;
+            grant = x.wanted;
+            live = subst (In x.wanted) (sym l.2) (in_behind x.wanted l.0 (x.wanted ∷ []) (inl refl));
+            number_is = number;
+          }
 
   by_args : (args : RequestArgs) → IsCausedAt s now q f g a args → HasNext s t ok
   by_args (Get iomode offset count) c = by_get iomode offset count c
@@ -115,3 +139,26 @@ module _ (s t : Server) (now : ℕ) (q : ClientRequest) (f g : File) (a : Answer
   by_args (Return report) (detail, r, c, is) =
       absurd (return_none f.kept g.kept q.client report detail r c
       (same_results q a r ok (ap (λ (b : Answer). b.results) is) gives))
+
+-- so is what a new answer gives
+pub has_next : (s t : Server) (now : ℕ) (q : ClientRequest) (a : Answer) (ok : LayoutGetOk) → IsCaused s t now q a
+    → a.results ≡ results.LayoutGet (get.Granted ok) → HasNext s t ok
+has_next s t now q a ok (NoFile none is) gives =
+    absurd (plain_none q.args _ (same_results q a _ ok (ap (λ (b : Answer). b.results) is) gives))
+has_next s t now q a ok (OnFile f g found there c) gives =
+    by_args s t now q f g a ok gives (in_at t.files q.file g there) q.args c
+
+-- and the next number is past it behind
+pub next_past : (s t : Server) (ok : LayoutGetOk) → AreInOrder t → HasNext s t ok → s.next_grant < t.next_grant
+next_past s t ok order n =
+    let less : n.grant.number < t.next_grant = (order n.file n.there).below n.grant n.live in
+    omega (arith, less, n.number_is)
+
+-- ---- the names of grants
+
+-- two numbers that fit have two names
+pub same_number : (a b : ℕ) → a ≤ GREATEST_GRANT → b ≤ GREATEST_GRANT → stateid_of a ≡ stateid_of b → a ≡ b
+same_number a b la lb e =
+    let bytes : to_be_bytes w32 a ≡ to_be_bytes w32 b = ap (λ (x : StateId). drop 8 x.other) e in
+    sym (from_be_bytes-to_be_bytes_4 a (omega (arith, la))) ∙ ap (from_be_bytes w32) bytes
+    ∙ from_be_bytes-to_be_bytes_4 b (omega (arith, lb))

@@ -7,3 +7,9 @@ pub mod Moving
 pub mod Barring
 pub mod Telling
 pub mod Moments
+pub mod Giving
+pub mod Counting
+pub mod PlaceJobs
+pub mod PlaceServing
+pub mod PlaceSteps
+pub mod PlaceMoments

@@ -79,6 +79,9 @@ none_before (x ∷ front) ls e = absurd (some front (tail_same crash_line x [] (
     some [] q = cc q
     some (y ∷ ys) q = cc q
 
+nothing_in : (l : Line) (ls : List Line) → ls ≡ [] → In l ls → ⊥
+nothing_in l ls e i = subst (In l) e i
+
 leaves_front : (n : ℕ) (k : Kept) (xs ys : List Line) → LeaveBarred n k (xs ++ ys) → LeaveBarred n k xs
 leaves_front n k xs ys l = record {
   fence = λ tag i. l.fence tag (in_front (line.Note n (note.Fenced tag)) xs ys i);
@@ -206,7 +209,7 @@ module _ (causes : EachMessageIsCaused) (raise : EachStepRaisesTags) (seen : See
         (
           subst (λ (x : List Line). Stage n f.kept.tag x (move w m).world) (sym none.1)
               (crashed raise n w m sound f here open_ state down),
-          λ number client bytes i. absurd (subst (λ (x : List Line). In _ x) none.1 i),
+          λ number client bytes i. absurd (nothing_in _ ls none.1 i),
         )
     newer before front ls own is n f found open_ (Opening i asleep state down told) =
         let one : m.action ≡ Opens (event.Crash machine.Server) =

@@ -6,6 +6,7 @@ use Rattle.scenario_text.specs.declared.names.TheConstants.{FILES}
 use Rattle.scenario_text.specs.declared.event.Event.{Event}
 use Rattle.scenario_text.specs.declared.event.Event.TheVariants as event
 use Rattle.scenario_text.specs.declared.event.Machine.TheVariants as machine
+use Rattle.scenario_text.specs.declared.event.Sender.TheVariants as sender
 use Rattle.scenario_text.specs.declared.line.Delivery.TheVariants as delivery
 use Rattle.scenario_text.specs.declared.line.Note.TheVariants as note
 use Rattle.scenario_text.specs.declared.line.Line.{Line}
@@ -116,7 +117,7 @@ effects w chosen action = record {
 
 -- ---- the two events
 
-restarts_by : Option Input → Bool
+abbrev restarts_by : Option Input → Bool
 restarts_by None = false
 restarts_by (Some i) = is_restart i
 
@@ -125,6 +126,8 @@ kind_of : (a : Action) → (restarts_by (given_in a) ≡ false) ⊎ (a ≡ Opens
     ⊎ (a ≡ Opens (event.Reopen machine.Server))
 kind_of (Opens (event.Crash machine.Server)) = inr (inl refl)
 kind_of (Opens (event.Reopen machine.Server)) = inr (inr refl)
+kind_of (Opens (event.Resend sender.Server)) = inl refl
+kind_of (Opens (event.Resend (sender.Client c))) = inl refl
 kind_of a = inl refl
 
 -- what is no restart comes to a server that is up

@@ -38,13 +38,13 @@ plain_none (Get iomode offset count) status g = get_none status g
 plain_none (Commit last) status g = g
 plain_none (Return report) status g = g
 
-commit_none : (f g : Kept) (client : ℕ) (last : Option ℕ) (detail : ℕ) (r : Results) → Commits f g client last detail r
+pub commit_none : (f g : Kept) (client : ℕ) (last : Option ℕ) (detail : ℕ) (r : Results) → Commits f g client last detail r
     → GiveLayout r → ⊥
 commit_none f g client last detail r (commit.NoGrant l none same) gives = gives
 commit_none f g client last detail r (commit.Sizes l h may same) gives = gives
 commit_none f g client last detail r (commit.Wrong l h none same) gives = gives
 
-return_none : (f g : Kept) (client : ℕ) (report : _) (detail : ℕ) (r : Results) → Returns f g client report detail r
+pub return_none : (f g : Kept) (client : ℕ) (report : _) (detail : ℕ) (r : Results) → Returns f g client report detail r
     → GiveLayout r → ⊥
 return_none f g client report detail r (return.NoGrant l none same) gives = gives
 return_none f g client report detail r (return.Clean h same) gives = gives
@@ -53,7 +53,7 @@ return_none f g client report detail r (return.TagSpent l some h none tag same) 
 return_none f g client report detail r (return.Fences l some h none tag grants size) gives = gives
 
 -- the only row that gives a layout
-gives_row : (ds : List Drive) (f : Kept) (g : Grant) (r : Row) → GiveLayout (told_by ds f g r) → r ≡ row.Gives
+pub gives_row : (ds : List Drive) (f : Kept) (g : Grant) (r : Row) → GiveLayout (told_by ds f g r) → r ≡ row.Gives
 gives_row ds f g row.Gives x = refl
 gives_row ds f g row.BadMode x = absurd x
 gives_row ds f g row.BadRange x = absurd x
