@@ -23,7 +23,7 @@ use Rattle.calm_law.specs.Sound.{IsSound}
 use Rattle.calm_law.specs.Tags.{fence_note, EachStepRaisesTags}
 use Rattle.calm_law.specs.Words.{Each}
 use Rattle.calm_law.proofs.Steps.{makes}
-use Rattle.reopen_law.specs.Reopened.{crash_line, reopen_line, NoneOver, LeaveBarred}
+use Rattle.reopen_law.specs.Reopened.{crash_line, reopen_line, NoneOver}
 use Rattle.reopen_law.proofs.Fences.{IsUnder, Fence}
 use Rattle.reopen_law.proofs.Moving.{TellFences, NoRestart, Moves, Crashing, Opening, Resting, Serving}
 use Rattle.reopen_law.proofs.Noting.{step_tells}
@@ -67,10 +67,12 @@ module _ (raise : EachStepRaisesTags) (n : ℕ) (s : Server) (chosen : List ℕ)
   one_behind : (Q R : File → Type 0) → At n R (step s chosen i).state.files → One n Q s.files
       → One n R (step s chosen i).state.files
   one_behind Q R all (f, found, q) =
-      let r = raise s chosen i sound n f found in
-      (r.behind, r.there,
-      all r.behind (in_at (step s chosen i).state.files n r.behind r.there)
-      (number_at (step s chosen i).state.files n r.behind r.there))
+      let r = raise s chosen i sound n f found in (
+        r.behind,
+        r.there,
+        all r.behind (in_at (step s chosen i).state.files n r.behind r.there)
+            (number_at (step s chosen i).state.files n r.behind r.there),
+      )
 
   -- no note tells that a fence of the file is over
   abbrev NoneNoted : Type 0
@@ -160,8 +162,11 @@ module _ (raise : EachStepRaisesTags) (n tag : ℕ) (w : World) (m : Move) (soun
   pub fenced_on : w.down ≡ false → One n (IsUnder tag) w.server.files → Moves w m
       → (((move w m).world.down ≡ false) × After (IsUnder tag)) ⊎ (((move w m).world.down ≡ true) × After (IsDueAgain tag))
   fenced_on up o (Crashing lines awake state down) =
-      inr (down, crash_behind (λ f. IsUnder tag f × (f.kept.grants ≡ [])) (IsDueAgain tag)
-      (λ f q. ((unsettled _ (is_still f.kept.phase) q.0.1, refl, q.0.2), q.1)) state (with_none o))
+      inr (
+        down,
+        crash_behind (λ f. IsUnder tag f × (f.kept.grants ≡ [])) (IsDueAgain tag)
+            (λ f q. ((unsettled _ (is_still f.kept.phase) q.0.1, refl, q.0.2), q.1)) state (with_none o),
+      )
     where
       with_none : One n (IsUnder tag) w.server.files → One n (λ f. IsUnder tag f × (f.kept.grants ≡ [])) w.server.files
       with_none (f, found, u) =
@@ -169,9 +174,12 @@ module _ (raise : EachStepRaisesTags) (n tag : ℕ) (w : World) (m : Move) (soun
   fenced_on up o (Opening there asleep state down told) = absurd (true≢false (sym asleep ∙ up))
   fenced_on up o (Resting none files down) = inl (down ∙ up, by_files (IsUnder tag) files o)
   fenced_on up o (Serving i none plain named awake down state told) =
-      inl (down, by_state (step w.server m.chosen i).state (IsUnder tag) state
-      (serves_on raise n w.server m.chosen i sound safe plain named tag
-      (none_noted (step w.server m.chosen i).notes told) o))
+      inl (
+        down,
+        by_state (step w.server m.chosen i).state (IsUnder tag) state
+            (serves_on raise n w.server m.chosen i sound safe plain named tag
+            (none_noted (step w.server m.chosen i).notes told) o),
+      )
 
   -- the opening begins one
   begins_fence : (Q : File → Type 0) → ((f : File) → Q f → IsDue tag f) → counters_have_room w.server ≡ true

@@ -1,19 +1,17 @@
 -- In each whole history no two layouts that are given name one grant.
-use Rattle.std.proofs.Common.{◌≡◌, ◌<◌, ◌≤◌, ℕ, true, false, List, [], ◌∷◌, ◌++◌, Option, Some, None, refl, sym, ap, subst, ◌∙◌, append_assoc, arith, inl, inr}
+use Rattle.std.proofs.Common.{◌≡◌, ◌<◌, ◌≤◌, true, false, List, [], ◌∷◌, ◌++◌, Option, Some, None, refl, sym, ap, subst, ◌∙◌, append_assoc, arith, inl, inr}
 use Rattle.std.proofs.lemmas.Bool.{false≢true}
 use Rattle.std.proofs.lemmas.List.{append-nil}
 use Rattle.osd_lists.proofs.Slices.{tail_same}
 use Rattle.layout_ops.specs.declared.results.LayoutGetOk.{LayoutGetOk}
 use Rattle.server_rules.specs.History.{Input}
 use Rattle.server_rules.specs.Laws.{In}
-use Rattle.server_rules.specs.Layouts.{stateid_of}
 use Rattle.server_rules.proofs.Members.{in_behind}
 use Rattle.scenario_text.specs.declared.line.Line.{Line}
 use Rattle.world_history.specs.ServerNames.{Server}
 use Rattle.world_history.specs.State.{World}
 use Rattle.world_history.specs.Plans.{due}
 use Rattle.world_history.specs.Sending.{Move, move}
-use Rattle.world_history.specs.Reading.{is_head}
 use Rattle.world_history.specs.Book.{ServerSeen, input_at, step_by, server_behind, server_seen, server_after}
 use Rattle.world_history.specs.History.{OneEventMore}
 use Rattle.world_history.specs.Laws.{ServerGoesOn}
@@ -27,7 +25,7 @@ use Rattle.fencing_law.proofs.Ending.{next_moment}
 use Rattle.party_law.specs.Order.{AreInOrder, GrantsAreInOrder}
 use Rattle.cause_law.specs.Steps.{InStep}
 use Rattle.cause_law.proofs.Reading.{IsRead, input_head, line_read}
-use Rattle.reopen_law.specs.Numbers.{IsGiven, NamesNoOther, EachGrantIsNamedOnce}
+use Rattle.reopen_law.specs.Numbers.{IsGiven, EachGrantIsNamedOnce}
 use Rattle.reopen_law.proofs.Giving.{HasNext, has_next, next_past, same_number, grants_rise}
 
 -- what is given at a line names the grant of the number that was the next one then

@@ -1,5 +1,5 @@
 -- The number of a grant that is given is the server's next, which is past it from then on.
-use Rattle.std.proofs.Common.{◌≡◌, ◌⊎◌, ◌≤◌, ◌<◌, ◌+◌, ◌^◌, ◌==◌, ℕ, min, Bool, true, false, List, [], ◌∷◌, ◌++◌, drop, Some, None, refl, sym, ap, subst, ◌∙◌, arith, inl, inr}
+use Rattle.std.proofs.Common.{◌≡◌, ◌≤◌, ◌<◌, ◌==◌, ℕ, Bool, List, [], ◌∷◌, drop, refl, sym, ap, subst, ◌∙◌, arith, inl, inr}
 use Rattle.std.proofs.lemmas.Bool.{cases_lt}
 use Rattle.std.proofs.lemmas.Nat.{from_be_bytes-to_be_bytes_4}
 use Rattle.std.specs.Int.{w32, to_be_bytes, from_be_bytes}
@@ -10,7 +10,7 @@ use Rattle.layout_ops.specs.declared.results.Results.{Results}
 use Rattle.layout_ops.specs.declared.results.Results.TheVariants as results
 use Rattle.layout_ops.specs.declared.statuses.TheConstants.{LAYOUTIOMODE4_RW}
 use Rattle.server_rules.specs.declared.limits.TheConstants.{GREATEST_GRANT}
-use Rattle.server_rules.specs.Files.{Step, file_at}
+use Rattle.server_rules.specs.Files.{Step}
 use Rattle.server_rules.specs.Grants.{asked}
 use Rattle.server_rules.specs.History.{Input, step}
 use Rattle.server_rules.specs.Laws.{In}
@@ -22,7 +22,7 @@ use Rattle.move_law.specs.Steps.{StepCases, RequestCases}
 use Rattle.move_law.proofs.Files.{in_at}
 use Rattle.move_law.proofs.Steps.{each_request, each_step}
 use Rattle.party_law.specs.Order.{AreInOrder}
-use Rattle.cause_law.specs.Answers.{GetIsCaused, IsCausedAt, IsCaused, NoFile, OnFile}
+use Rattle.cause_law.specs.Answers.{IsCausedAt, IsCaused, NoFile, OnFile}
 use Rattle.cause_law.specs.Gets as row
 use Rattle.cause_law.specs.Gets.{Asking, Row, LeavesLive, result_of as told_by}
 use Rattle.reopen_law.specs.Reopened.{GiveLayout}

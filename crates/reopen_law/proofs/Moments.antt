@@ -1,15 +1,13 @@
 -- At each moment behind a crash of the server, each file that had a grant or a fence then is barred, until a fence is over.
-use Rattle.std.proofs.Common.{◌≡◌, ◌≢◌, ◌⊎◌, ℕ, ◌<◌, true, false, true≢false, List, [], ◌∷◌, ◌++◌, Option, Some, None, refl, sym, ap, subst, ◌∙◌, inl, inr}
+use Rattle.std.proofs.Common.{◌≡◌, ◌≢◌, ◌⊎◌, ℕ, ◌<◌, true, false, true≢false, List, [], ◌∷◌, ◌++◌, Some, refl, sym, ap, subst, ◌∙◌, inl, inr}
 use Rattle.std.proofs.lemmas.List.{append-nil}
 use Rattle.osd_lists.proofs.Slices.{tail_same}
 use Rattle.layout_ops.specs.declared.envelope.Envelope.TheVariants as envelope
 use Rattle.layout_ops.specs.Spelling.{envelope_item}
 use Rattle.scenario_text.specs.declared.names.TheConstants.{FILES}
-use Rattle.scenario_text.specs.declared.event.Event.{Event}
 use Rattle.scenario_text.specs.declared.event.Event.TheVariants as event
 use Rattle.scenario_text.specs.declared.event.Machine.TheVariants as machine
 use Rattle.scenario_text.specs.declared.line.Note.TheVariants as note
-use Rattle.scenario_text.specs.declared.line.Party.TheVariants as party
 use Rattle.scenario_text.specs.declared.line.Line.{Line}
 use Rattle.scenario_text.specs.declared.line.Line.TheVariants as line
 use Rattle.server_rules.specs.declared.limits.TheConstants.{GREATEST_TAG}
@@ -42,10 +40,10 @@ use Rattle.exchange_law.specs.Counters.{CountersStayLow}
 use Rattle.exchange_law.specs.Text.{AreOfText, AreFew}
 use Rattle.exchange_law.proofs.CountGrowing.{fewer, text_front}
 use Rattle.sent_law.proofs.Moments.{each_second, named_action, allowed_at}
-use Rattle.cause_law.specs.Told.{WasSent, Answers, ToNew, Repeats, Refuses, IsToRequest, IsTold, TellsRecall, TellsAnswer, EachMessageIsCaused}
+use Rattle.cause_law.specs.Told.{Answers, ToNew, Repeats, Refuses, IsToRequest, IsTold, TellsRecall, TellsAnswer, EachMessageIsCaused}
 use Rattle.cause_law.proofs.Answering.{safe_at}
 use Rattle.cause_law.proofs.Grants.{sound_at}
-use Rattle.reopen_law.specs.Reopened.{crash_line, reopen_line, NoneOver, LeaveBarred, GiveLayout, WasSentTo, GivesNone, TellNoneNew, IsRefused, IsBarred, CrashesBar, EachCrashBars}
+use Rattle.reopen_law.specs.Reopened.{crash_line, reopen_line, NoneOver, LeaveBarred, GiveLayout, WasSentTo, GivesNone, TellNoneNew, IsRefused, EachCrashBars}
 use Rattle.reopen_law.proofs.Barring.{One, Stage, Crashed, Fenced, Again, Refused, under_none, fenced_on, stage_on, crashed}
 use Rattle.reopen_law.proofs.Moving.{Moves, Crashing, Opening, Resting, Serving, each_move, events_first}
 use Rattle.reopen_law.proofs.Telling.{Bars, plain_none, new_none, sent_before}
@@ -178,8 +176,7 @@ module _ (causes : EachMessageIsCaused) (raise : EachStepRaisesTags) (seen : See
         let r = so written_here (text_front h ms text) (fewer h ms few) before rest own n f found open_
         (leaves_front n f.kept rest ms leaves) in
         let quiet : NoneOver n ms = λ tag i. leaves.fence tag (in_behind (line.Note n (note.Fenced tag)) rest ms i) in
-        let known : n < FILES = stage_known n f.kept.tag rest w r.0 sound in
-        (
+        let known : n < FILES = stage_known n f.kept.tag rest w r.0 sound in (
           stage_on raise n f.kept.tag w m sound (safe_at safe w h k) known quiet
               (low w h k (text_front h ms text) (fewer h ms few)) rest
               (λ e i. leaves.crash e (in_behind crash_line rest ms i)) r.0 moves,
@@ -205,8 +202,7 @@ module _ (causes : EachMessageIsCaused) (raise : EachStepRaisesTags) (seen : See
         let here : file_at w.server.files n ≡ Some f =
         ap (λ (s : Server). file_at s.files n)
         (sym there ∙ ap server_after (sym (append-nil h) ∙ ap (λ (x : List Line). h ++ x) (sym none.0) ∙ sym own))
-        ∙ found in
-        (
+        ∙ found in (
           subst (λ (x : List Line). Stage n f.kept.tag x (move w m).world) (sym none.1)
               (crashed raise n w m sound f here open_ state down),
           λ number client bytes i. absurd (nothing_in _ ls none.1 i),

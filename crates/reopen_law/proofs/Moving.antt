@@ -1,5 +1,5 @@
 -- What each move is to the server: a crash, an opening, a step while it is up, or nothing.
-use Rattle.std.proofs.Common.{◌≡◌, ◌⊎◌, ℕ, ◌<◌, Bool, true, false, true≢false, not, List, [], ◌∷◌, ◌++◌, Option, Some, None, refl, sym, ap, subst, ◌∙◌, inl, inr}
+use Rattle.std.proofs.Common.{◌≡◌, ◌⊎◌, ℕ, ◌<◌, Bool, true, false, true≢false, List, [], ◌∷◌, Option, Some, None, refl, sym, ap, subst, ◌∙◌, inl, inr}
 use Rattle.std.proofs.lemmas.Bool.{false≢true}
 use Rattle.std.specs.List.{filter_map}
 use Rattle.scenario_text.specs.declared.names.TheConstants.{FILES}
@@ -11,19 +11,18 @@ use Rattle.scenario_text.specs.declared.line.Delivery.TheVariants as delivery
 use Rattle.scenario_text.specs.declared.line.Note.TheVariants as note
 use Rattle.scenario_text.specs.declared.line.Line.{Line}
 use Rattle.scenario_text.specs.declared.line.Line.TheVariants as line
-use Rattle.server_rules.specs.History.{Input, Hears, Makes, Obeys, Adds, Zones, Formats, Resends, Crashes, Opens as Opened, step}
+use Rattle.server_rules.specs.History.{Input, Crashes, Opens as Opened, step}
 use Rattle.server_rules.specs.Laws.{In}
 use Rattle.server_rules.proofs.Members.{in_front, in_behind}
 use Rattle.world_history.specs.Names.{known_note_line}
 use Rattle.world_history.specs.ServerNames.{Note}
 use Rattle.world_history.specs.State.{World}
 use Rattle.world_history.specs.Moves.{Act, Action, Opens, Delivers, TimesOut, Pends, begins, gives, acts}
-use Rattle.world_history.specs.Plans.{due}
 use Rattle.world_history.specs.Sending.{Move, move, sent_lines, sends_all}
-use Rattle.move_law.specs.Moments.{IsMoment, with_event, plan_at, lines_in}
+use Rattle.move_law.specs.Moments.{with_event, lines_in}
 use Rattle.move_law.specs.Moves.{given_in, down_behind, front_of, IsForServer, MoveCases}
 use Rattle.move_law.proofs.Moves.{each_act}
-use Rattle.calm_law.specs.Naming.{IsNamedInput, IsNamed, AreNamed}
+use Rattle.calm_law.specs.Naming.{IsNamedInput}
 use Rattle.calm_law.specs.Tags.{fence_note}
 use Rattle.calm_law.specs.Words.{Each}
 use Rattle.calm_law.proofs.Inside.{shape_each, opens_each}
@@ -31,7 +30,6 @@ use Rattle.calm_law.proofs.MoveFollowing.{acts_shape}
 use Rattle.calm_law.proofs.Shapes.{is_event}
 use Rattle.sent_law.specs.Turns.{in_turn}
 use Rattle.sent_law.proofs.Doing.{Comes, IsNamedAction, IsAllowed, comes}
-use Rattle.sent_law.proofs.Moments.{each_second, named_action, allowed_at}
 use Rattle.reopen_law.specs.Reopened.{crash_line, reopen_line}
 use Rattle.reopen_law.proofs.Steps.{is_restart}
 use Rattle.reopen_law.proofs.Noting.{fence_told}

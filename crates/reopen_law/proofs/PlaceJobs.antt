@@ -112,10 +112,10 @@ module _ (C : ℕ → ℕ → Type 0) (number n : ℕ) (fresh : (k o : ℕ) → 
         h.0,
         h.1,
         λ k o e. elim (get_set (objects_of g.file.kept.components) t.component t.object k o
-        (subst (λ (xs : List ℕ). slice_get xs k ≡ Some o) same e)) [
-          | inl r ↦ rw (r.0, r.1) a
-          | inr r ↦ h.2 k o r
-        ],
+            (subst (λ (xs : List ℕ). slice_get xs k ≡ Some o) same e)) [
+              | inl r ↦ rw (r.0, r.1) a
+              | inr r ↦ h.2 k o r
+            ],
       )
 
   ends_fills : (g : Going) (t : Target) (ps : List Piece) → Own g → Aim g (Some t) → End (fills g t ps)

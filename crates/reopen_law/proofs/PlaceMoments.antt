@@ -1,9 +1,9 @@
 -- At each moment of a history, and at any place before, the object of each component is its own.
-use Rattle.std.proofs.Common.{◌≡◌, ◌⊎◌, ℕ, zero, suc, ◌<◌, ◌≤◌, List, [], ◌∷◌, ◌++◌, slice_get, option_map, Option, Some, None, refl, sym, ap, subst, ◌∙◌, arith, inl, inr}
+use Rattle.std.proofs.Common.{◌≡◌, ◌⊎◌, ℕ, zero, suc, ◌<◌, List, [], ◌∷◌, ◌++◌, slice_get, option_map, Option, Some, None, refl, sym, ap, subst, ◌∙◌, arith, inl, inr}
 use Rattle.std.proofs.lemmas.List.{append-nil}
 use Rattle.scenario_text.specs.declared.line.Line.{Line}
 use Rattle.server_rules.specs.Files.{file_at}
-use Rattle.server_rules.specs.History.{Input, step}
+use Rattle.server_rules.specs.History.{Input}
 use Rattle.server_rules.specs.Laws.{In}
 use Rattle.server_rules.proofs.FileLaws.{number_at}
 use Rattle.world_history.specs.ServerNames.{Server, File, Component}
@@ -17,7 +17,6 @@ use Rattle.move_law.specs.Moments.{IsMoment, plan_at, lines_in}
 use Rattle.move_law.proofs.Files.{in_at}
 use Rattle.move_law.proofs.Moments.{always}
 use Rattle.calm_law.specs.Seeing.{SeenIsSound}
-use Rattle.calm_law.specs.Sound.{IsSound}
 use Rattle.calm_law.proofs.Lists.{get_map}
 use Rattle.history_law.specs.Doing.{input_in, ServerMoves}
 use Rattle.history_law.specs.Parties.{AllPartiesRun}
@@ -25,7 +24,6 @@ use Rattle.history_law.specs.Read.{AreWritten, BookIsRead, StepIsRead}
 use Rattle.history_law.proofs.Staying.{written_front}
 use Rattle.history_law.proofs.StepEnds.{place_of}
 use Rattle.job_law.specs.Names.{Target}
-use Rattle.fencing_law.proofs.Ending.{next_moment}
 use Rattle.sent_law.specs.Objects.{objects_of, target_of, NoneIs, AllDiffer, IsOwned, AreOwned, EachObjectIsOwned}
 use Rattle.cause_law.proofs.Grants.{sound_at}
 use Rattle.cause_law.proofs.Reading.{line_read}
@@ -94,10 +92,12 @@ module _ (owner : ℕ → ℕ) (s : Server) (owned : AreOwned owner s) where
     unique = λ n k m j o c d.
         let same : n ≡ m = sym (of_claim n k o c).1 ∙ (of_claim m j o d).1 in
         let one : d.file ≡ c.file =
-        some_same d.file c.file (sym d.found ∙ ap (file_at s.files) (sym same) ∙ c.found) in
-        (same, in_file c.file (in_at s.files n c.file c.found) k j o c.has
-        (subst (λ (f : File). (slice_get (objects_of f.kept.components) j ≡ Some o)
-        ⊎ ((t : Target) × (target_of f.job ≡ Some t) × (t.component ≡ j) × (t.object ≡ o))) one d.has));
+        some_same d.file c.file (sym d.found ∙ ap (file_at s.files) (sym same) ∙ c.found) in (
+          same,
+          in_file c.file (in_at s.files n c.file c.found) k j o c.has
+              (subst (λ (f : File). (slice_get (objects_of f.kept.components) j ≡ Some o)
+              ⊎ ((t : Target) × (target_of f.job ≡ Some t) × (t.component ≡ j) × (t.object ≡ o))) one d.has),
+        );
   }
     where
       some_same : (f g : File) → Some f ≡ Some g → f ≡ g

@@ -1,14 +1,14 @@
 -- What each step of the server makes of the object numbers of components: each keeps its own, gets that of a rebuild's target, or
 -- gets a new one.
-use Rattle.std.proofs.Common.{◌≡◌, ◌⊎◌, ℕ, zero, suc, ◌+◌, ◌≤◌, List, [], ◌∷◌, slice_get, map, Option, Some, None, refl, sym, ap, subst, ◌∙◌, arith, inl, inr}
+use Rattle.std.proofs.Common.{◌≡◌, ◌⊎◌, ℕ, zero, suc, ◌≤◌, List, [], ◌∷◌, slice_get, Option, Some, None, refl, sym, subst, arith, inl, inr}
 use Rattle.std.proofs.lemmas.Bool.{eq-eqb, ne_eqb}
-use Rattle.server_rules.specs.Files.{Step, file_at, put_file, add_file, at_file, begins}
+use Rattle.server_rules.specs.Files.{Step, file_at, add_file, at_file, begins}
 use Rattle.server_rules.specs.Going.{Going}
 use Rattle.server_rules.specs.History.{Input, step}
 use Rattle.server_rules.specs.Jobs.{making, declares, fence_begins}
 use Rattle.server_rules.specs.Laws.{In}
-use Rattle.server_rules.specs.Making.{components_on, drives_for, with_file}
-use Rattle.server_rules.specs.Openings.{crashed_file, opens, opens_each}
+use Rattle.server_rules.specs.Making.{drives_for, with_file}
+use Rattle.server_rules.specs.Openings.{opens, opens_each}
 use Rattle.server_rules.specs.Orders.{offline, declare, declares_each}
 use Rattle.server_rules.specs.Replies.{hearing}
 use Rattle.server_rules.specs.Requests.{serves}
@@ -23,7 +23,7 @@ use Rattle.calm_law.specs.Performing.{AreDistinct}
 use Rattle.sent_law.specs.Objects.{objects_of, target_of}
 use Rattle.sent_law.proofs.Numbers.{in_new}
 use Rattle.reopen_law.proofs.Barring.{of_each}
-use Rattle.reopen_law.proofs.PlaceJobs.{Ends, Owns, IsAim, ends_making, ends_fence, ends_hears, ends_declares, ends_opens}
+use Rattle.reopen_law.proofs.PlaceJobs.{Ends, IsAim, ends_making, ends_fence, ends_hears, ends_declares, ends_opens}
 use Rattle.reopen_law.proofs.PlaceServing.{ends_served}
 
 -- ---- whatever is so of each file's component numbers and objects, and of each new object number
@@ -44,7 +44,7 @@ module _ (C : ℕ → ℕ → ℕ → Type 0) (next : ℕ) (fresh : (n k o : ℕ
   finish n g e = (
     e.0.1,
     subst (λ (m : ℕ). ((k o : ℕ) → slice_get (objects_of g.file.kept.components) k ≡ Some o → C m k o)
-    × IsAim (C m) (target_of g.file.job)) (sym e.0.0) (e.0.2, e.1),
+        × IsAim (C m) (target_of g.file.job)) (sym e.0.0) (e.0.2, e.1),
   )
 
   -- ---- all files in order

@@ -1,6 +1,6 @@
 -- A file whose fence was refused since its tag is the greatest, in whatever the server does while it is up: it stays refused, and
 -- no job of it begins.
-use Rattle.std.proofs.Common.{◌≡◌, ◌==◌, ◌||◌, ℕ, ◌+◌, Bool, true, false, List, [], ◌∷◌, Option, Some, None, refl, sym, ap, ◌∙◌, inl, inr, if◌then◌else◌}
+use Rattle.std.proofs.Common.{◌≡◌, ◌||◌, ℕ, ◌+◌, true, List, [], ◌∷◌, Option, Some, None, inl, inr}
 use Rattle.std.proofs.lemmas.Bool.{cases_Bool, eq-eqb}
 use Rattle.server_rules.specs.declared.limits.TheConstants.{GREATEST_TAG}
 use Rattle.server_rules.specs.Commit.{Committed, NoGrant, Wrong, Sizes, by_commit, commits}
@@ -10,8 +10,7 @@ use Rattle.server_rules.specs.Grants.{grant_of}
 use Rattle.server_rules.specs.Jobs.{declared_in, targets, declares}
 use Rattle.server_rules.specs.Numbers.{among}
 use Rattle.server_rules.specs.Requests.{serves}
-use Rattle.server_rules.specs.Return.{Returned, reports_from, takes_loss, by_loss, by_report, by_grant, loss, return_row, by_return, returns_on}
-use Rattle.server_rules.specs.Served.{Served}
+use Rattle.server_rules.specs.Return.{reports_from, takes_loss, by_loss, by_report, by_grant, loss, return_row, by_return, returns_on}
 use Rattle.server_rules.specs.Standing.{any_on, lose_on, lose_from}
 use Rattle.job_law.specs.Names.{File, Component, Grant, Job, Reported, RequestArgs, Get, Commit, Return}
 use Rattle.world_history.specs.ServerNames.{IoErr}

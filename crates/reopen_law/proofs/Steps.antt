@@ -9,7 +9,7 @@ use Rattle.server_rules.specs.Jobs.{making, ending, declares, fence_begins}
 use Rattle.server_rules.specs.Laws.{In, Rests, AreSafe}
 use Rattle.server_rules.specs.Making.{refusal, unless_refused, makes_file, with_file, create_file}
 use Rattle.server_rules.specs.Messages.{counters_have_room}
-use Rattle.server_rules.specs.Openings.{crashed_file, opens, opens_each, reopen}
+use Rattle.server_rules.specs.Openings.{crashed_file, opens, reopen}
 use Rattle.server_rules.specs.Orders.{offline, declare}
 use Rattle.server_rules.specs.Replies.{hearing}
 use Rattle.server_rules.specs.Requests.{serves}
@@ -17,7 +17,7 @@ use Rattle.server_rules.specs.Served.{Served}
 use Rattle.server_rules.proofs.FileLaws.{put_other, add_other, not_there}
 use Rattle.server_rules.proofs.HandlerLaws.{ran_hears, leaves_served}
 use Rattle.server_rules.proofs.Runs.{ran_making, ran_fences, ran_declares}
-use Rattle.world_history.specs.ServerNames.{Server, File, Job, JobKind, ClientRequest, RawMap, Refusal}
+use Rattle.world_history.specs.ServerNames.{Server, File, ClientRequest, RawMap, Refusal}
 use Rattle.job_law.specs.Fencing.{is_fencing}
 use Rattle.move_law.specs.Steps.{Answering, IsAnswering, answered_file, new_file, StepCases, RequestCases}
 use Rattle.move_law.proofs.Files.{Each, in_at, put_each, add_each, crashed_each, declared_each, opened_each, safe_in}

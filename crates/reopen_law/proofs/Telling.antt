@@ -1,19 +1,15 @@
 -- What clients are told of a barred file, in each move: nothing new.
-use Rattle.std.proofs.Common.{◌≡◌, ◌≢◌, ◌⊎◌, ◌==◌, ◌<◌, ℕ, Bool, true, false, true≢false, List, [], ◌∷◌, ◌++◌, Option, Some, None, refl, sym, ap, subst, ◌∙◌, arith, inl, inr, if◌then◌else◌}
+use Rattle.std.proofs.Common.{◌≡◌, ◌⊎◌, ◌==◌, ◌<◌, ℕ, true, List, [], ◌∷◌, ◌++◌, Option, Some, refl, sym, ap, subst, ◌∙◌, arith, inl, inr}
 use Rattle.std.proofs.lemmas.Bool.{cases_Bool}
 use Rattle.layout_ops.specs.declared.envelope.Envelope.TheVariants as envelope
 use Rattle.layout_ops.specs.declared.results.Results.{Results}
 use Rattle.layout_ops.specs.declared.results.Results.TheVariants as results
 use Rattle.layout_ops.specs.declared.statuses.TheConstants.{NFS4ERR_LAYOUTTRYLATER}
 use Rattle.layout_ops.specs.Spelling.{envelope_item}
-use Rattle.server_rules.specs.declared.limits.TheConstants.{GREATEST_TAG}
 use Rattle.server_rules.specs.Answers.{get_refused, result_of}
 use Rattle.server_rules.specs.Files.{file_at}
-use Rattle.server_rules.specs.Laws.{In}
 use Rattle.server_rules.proofs.Members.{in_either}
 use Rattle.scenario_text.specs.declared.line.Line.{Line}
-use Rattle.scenario_text.specs.declared.line.Line.TheVariants as line
-use Rattle.scenario_text.specs.declared.line.Party.TheVariants as party
 use Rattle.world_history.specs.ServerNames.{Server, File, Kept, Drive, Grant, Answer, ClientRequest, RequestArgs, Get, Commit, Return}
 use Rattle.cause_law.specs.Answers.{answer_line, GetIsCaused, IsCausedAt, IsCaused, NoFile, OnFile}
 use Rattle.cause_law.specs.Commits.{Commits}
