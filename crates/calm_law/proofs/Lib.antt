@@ -16,14 +16,14 @@ mod CalmFollowing
 mod CalmOpening
 mod Pending
 pub mod Components
-mod FileNotes
+pub mod FileNotes
 mod Targets
 mod Jobs
 mod Reports
 mod Serving
 pub mod Rounds
 mod Lines
-mod Steps
+pub mod Steps
 mod Finding
 pub mod Making
 mod Tags

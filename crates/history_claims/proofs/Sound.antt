@@ -29,6 +29,8 @@ use Rattle.cause_law.specs.Changes.{EachGrantHasItsCauses}
 use Rattle.cause_law.specs.Components.{EachComponentHasItsCauses}
 use Rattle.cause_law.specs.Ends.{EachEndIsSaid}
 use Rattle.cause_law.specs.Told.{EachMessageIsCaused}
+use Rattle.reopen_law.specs.Numbers.{EachGrantIsNamedOnce, EachObjectIsOwn}
+use Rattle.reopen_law.specs.Reopened.{EachCrashBars}
 use Rattle.outcome_law.specs.Ended.{EndsAreCaused}
 use Rattle.outcome_law.specs.Pending.{EachCallIsLeftSo}
 use Rattle.outcome_law.specs.Read.{AnswersAreOfReplies}
@@ -45,10 +47,12 @@ pub histories_are_sound : HistoriesAreSafe → VerdictsAreAnswered → CommandsA
     → CommandsAreIssuedExactly → UnforgedAreIssuedExactly → LanesAreFair → LanesAreOwn → RefusalsWereJudged
     → RefusalsWereAwaited → CountersStayLow → CallsEndSo → EndsAreCaused → AnswersAreOfReplies
     → EachByteHasItsCause → EachTagIsItsFiles → EachRequestIsAnswered → EachMessageIsCaused → EachGrantHasItsCauses
-    → EachComponentHasItsCauses → EachEndIsSaid → EachCallIsLeftSo → PendingCallsAreUnanswered → WithinTheLimitAreFew
+    → EachComponentHasItsCauses → EachCrashBars → EachGrantIsNamedOnce → EachObjectIsOwn → EachEndIsSaid
+    → EachCallIsLeftSo → PendingCallsAreUnanswered → WithinTheLimitAreFew
     → HistoriesAreSound
 histories_are_sound safe answered issued listed fair ranges fronts apart spread created own fenced live given older barred exact
-    allowed lanes lanes_own judged awaited low ends outcomes read bytes tags caused told changed gone said left unanswered few = record {
+    allowed lanes lanes_own judged awaited low ends outcomes read bytes tags caused told changed gone barred_by named objects
+    said left unanswered few = record {
       sound = λ h l. record {
         safe = safe h l;
         answered = λ w s. answered w h s;
@@ -78,6 +82,9 @@ histories_are_sound safe answered issued listed fair ranges fronts apart spread 
         answers = λ w g k m rest d is a. told w g k m d a;
         changes = λ w s a. changed w h s a;
         components = λ w s a. gone w h s a;
+        reopened = λ before after is. barred_by before;
+        named = λ w s a. named w h s a;
+        objects = λ before after is. objects before;
         caused = outcomes h l;
         read = read h l;
         bytes = bytes h l;

@@ -37,6 +37,8 @@ use Rattle.outcome_law.specs.Pending.{CallsAreLeft}
 use Rattle.outcome_law.specs.Read.{AnswersAt}
 use Rattle.outcome_law.specs.ReadBytes.{BytesAt}
 use Rattle.pending_law.specs.Unanswered.{UnansweredAt}
+use Rattle.reopen_law.specs.Numbers.{GrantsAreNamedOnce, ObjectsAreOwnAt}
+use Rattle.reopen_law.specs.Reopened.{CrashesBarAt}
 use Rattle.tag_law.specs.Tags.{HaveTagsAt}
 use Rattle.history_claims.specs.Texts.{EventsMakeText, CutsGoOn}
 
@@ -119,6 +121,14 @@ pub record IsSound (h : List Line) : Type 0 where
   pub changes : (w : World) → StandsFor w h → AreWritten h → GrantsHaveCauses h
   -- and each file goes on with its map, and with its components as the notes of the step tell, but for a declared drive
   pub components : (w : World) → StandsFor w h → AreWritten h → ComponentsHaveCauses h
+  -- at each moment of a history of a scenario's text with few messages, each file that had a live grant or a fence when the
+  -- server crashed is barred, until a fence of it is over: clients are told no layout of it but such as they were sent before
+  -- the crash, and none of its grants is live once the server was opened; one with the greatest tag is refused
+  pub reopened : AtEachMoment CrashesBarAt h
+  -- in a whole history no two layouts that are given to new requests name one grant, whatever crashes come between
+  pub named : (w : World) → StandsFor w h → AreWritten h → GrantsAreNamedOnce h
+  -- and at each moment each component has an object of its own: no other of any file has its number, or had it before
+  pub objects : AtEachMoment ObjectsAreOwnAt h
   -- a call ends as what it met says, read off the lines before: the answers and replies that its client took in it, and the
   -- timeouts of what it awaited
   pub caused : AtEachLine CausedAt h

@@ -24,6 +24,7 @@ use outcome_law::{
     answers_are_of_replies, calls_are_left, each_byte_has_its_cause, ends_are_caused,
 };
 use pending_law::pending_calls_are_unanswered;
+use reopen_law::{crashes_bar, grants_are_named_once, objects_are_own};
 use server_rules::files_are_put;
 use tag_law::{
     answers_are_live, each_tag_is_its_files, given_is_barred, given_was_live, grants_are_older,
@@ -81,8 +82,9 @@ pub fn files_are_created()
 /// read is answered by what was read of drives in its call. One that is left pending waits for the answer to an older
 /// request, or its server is down. In a whole history each new request is answered in its step by
 /// the first row that applies to its file's book, any other answer repeats the last one or says that its request is
-/// misordered, and nothing else makes a grant live or ends one but a fence. A history that is cut at the limit of kept
-/// bytes goes on being of a text.
+/// misordered, and nothing else makes a grant live or ends one but a fence. A crash of the server bars each file that had a
+/// grant or a fence, until a fence of it is over, and no grant and no object number comes twice. A history that is cut
+/// at the limit of kept bytes goes on being of a text.
 pub fn histories_are_sound()
     ensures { HistoriesAreSound }
 {
@@ -118,6 +120,9 @@ pub fn histories_are_sound()
     messages_are_caused();
     grants_have_causes();
     components_have_causes();
+    crashes_bar();
+    grants_are_named_once();
+    objects_are_own();
     ends_are_said();
     calls_are_left();
     pending_calls_are_unanswered();
