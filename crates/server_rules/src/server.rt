@@ -61,7 +61,7 @@ pub struct Effects {
 }
 
 /// Why a file isn't made.
-#[derive(Clone, Copy, PartialEq, Eq)]
+#[derive(Clone, Copy, Debug, PartialEq, Eq)]
 pub enum Refusal {
     /// There is a file of that number.
     FileExists,
