@@ -1,12 +1,16 @@
 -- The drives and files that a server lacks, and where the adding and the making of them stops.
-use Rattle.std.specs.Prelude.{slice_get}
-use Rattle.std.proofs.Common.{◌≡◌, ◌∙◌, ℕ, false, List, ◌∷◌, take, Some, Ok, ap, sym}
+use Rattle.std.specs.Prelude.{is_some, nat_le, slice_get}
+use Rattle.std.proofs.Common.{◌≡◌, ◌∙◌, ℕ, false, true, List, [], ◌∷◌, take, Option, Some, None, Ok, Err, ap, inl, inr, refl, sym}
+use Rattle.std.proofs.lemmas.Bool.{cases_Bool}
 use Rattle.osd_bytes.specs.Asking.{Ends}
 use Rattle.cluster_text.specs.declared.cluster.ClusterDrive.{ClusterDrive}
 use Rattle.cluster_text.specs.declared.cluster.ClusterFile.{ClusterFile}
+use Rattle.cluster_text.specs.declared.errors.ClusterKind.{ClusterKind}
 use Rattle.cluster_text.specs.declared.stop.CommandStop.TheVariants.{BadCluster, ReadFault, WriteFault, Memory, Full, LinkFault}
 use Rattle.server_rules.specs.declared.server.Server.{Server}
-use Rattle.server_command.specs.Drives.{Known, and_then}
+use Rattle.server_rules.specs.Making.{add_drive}
+use Rattle.server_command.proofs.Described.{AreKnowable}
+use Rattle.server_command.specs.Drives.{Known, and_then, drive_with, has_number, with_key}
 use Rattle.server_command.specs.declared.server_stop.ServerStop.{ServerStop}
 use Rattle.server_command.specs.declared.server_stop.ServerStop.TheVariants.{Command, DiskFault}
 use Rattle.server_command.specs.Files.{LosesFile, RefusesFile, StopsBy}
@@ -33,6 +37,26 @@ one_stops s d rest ds r (Command Memory) e all wrong = tt
 one_stops s d rest ds r (Command Full) e all wrong = absurd wrong
 one_stops s d rest ds r (Command LinkFault) e all wrong = absurd wrong
 one_stops s d rest ds r DiskFault e all wrong = tt
+
+key_there : (o : Option (List ℕ)) → is_some o ≡ true → (key : List ℕ) × (o ≡ Some key)
+key_there None there = cc there
+key_there (Some key) there = (key, refl)
+
+-- a drive with a key and a low number is known then
+one_known : (s : Server) (d : ClusterDrive) → is_some d.key ≡ true → nat_le 64 d.number ≡ false → (t : Server) × (with_lacking s d ≡ Ok t)
+one_known s d some low = elim (cases_Bool (has_number s.drives d.number)) [
+  | inl there ↦ (s, rw there refl)
+  | inr new ↦
+    let key = key_there d.key some in
+    (record s { drives = add_drive s.drives (drive_with d key.0) }, rw new (ap (with_key s d) key.1 ∙ rw (low, new) refl))
+]
+
+-- so none of these is wrong
+pub never_wrong : (s : Server) (ds : List ClusterDrive) (kind : ClusterKind) → AreKnowable ds → with_all_lacking s ds ≡ Err kind → ⊥
+never_wrong s [] kind sound wrong = cc wrong
+never_wrong s (d ∷ ds) kind sound wrong =
+    let one = one_known s d sound.0 sound.1 in
+    never_wrong one.0 ds kind sound.2 (sym (ap (λ (k : Known). and_then k (λ t. with_all_lacking t ds)) one.1) ∙ wrong)
 
 -- ---- files
 

@@ -25,8 +25,8 @@ pub returns-in-Err-add_lacking-clause-stops : goal.returns-in-Err-add_lacking-cl
 returns-in-Err-add_lacking-clause-stops g c =
     stopped_adding c.args.cluster.now (g.H.MetadataServer.server c.args.server.now) c.args.step
     (ends_of (g.L.Links.told c.args.links.now) (g.L.Links.faults c.args.links.now) (g.C.Clock.times c.args.clock.now))
-    (g.H.MetadataServer.server c.resume.new.server) (g.H.MetadataServer.server c.set_format.new.self) _ c.as_slice.result.now _ c.in-Err-add_lacking.stop
-    c.as_slice.ensures c.in-Ok.ensures.resumes c.in-Ok-set_format.ensures.ok.state c.in-Err-add_lacking.ensures.stops
+    (g.H.MetadataServer.server c.set_format.new.self) _ c.as_slice.result.now _ c.in-Err-add_lacking.stop
+    c.as_slice.ensures c.requires.knowable c.in-Err-add_lacking.ensures.stops
 
 pub returns-in-Err-add_lacking-clause-goes : goal.returns-in-Err-add_lacking-clause-goes
 returns-in-Err-add_lacking-clause-goes g c =
