@@ -12,7 +12,7 @@ use Rattle.server_command.specs.Messages.{Serving, WorksAll, serving}
 use Rattle.server_command.specs.Notes.{note_texts}
 use Rattle.server_command.specs.declared.server_stop.ServerStop.{ServerStop}
 use Rattle.server_command.specs.declared.server_stop.ServerStop.TheVariants.{Command, DiskFault}
-use Rattle.stored_server.specs.Lacking.{LosesLacking, MakesAllLacking, RefusesLacking, with_all_lacking}
+use Rattle.stored_server.specs.Lacking.{LacksDrivesFor, LosesLacking, MakesAllLacking, with_all_lacking}
 
 -- what the opening noted is told, and what it gives to send waits
 abbrev pub opened : Server → Step → Ends → Serving
@@ -38,12 +38,12 @@ pub record Prepares (cluster : Cluster) (begun : Server) (step : Step) (before :
   pub settles : Settles cluster begun step before known between
   pub makes : MakesAllLacking cluster.files (serving known [] true between) (serving made [] true now)
 
--- why it didn't: a file of the cluster was refused, a drive gave no record for a file that was made or held its object already, there
--- was no memory, or the disk failed
+-- why it didn't: too few drives are online for a file of the cluster, a drive gave no record for a file that was made or held its
+-- object already, there was no memory, or the disk failed
 abbrev pub StopsPreparing : Cluster → (begun : Server) → Step → (before : Ends) → (last : Server) → (now : Ends) → ServerStop → Type 0
 StopsPreparing cluster begun step before last now (Command (BadCluster kind)) =
     (kind ≡ Range) × (known : Server) × (between : Ends) × Settles cluster begun step before known between
-    × RefusesLacking cluster.files (serving known [] true between)
+    × LacksDrivesFor cluster.files (serving known [] true between)
 StopsPreparing cluster begun step before last now (Command LinkFault) =
     (known : Server) × (between : Ends) × Settles cluster begun step before known between
     × LosesLacking cluster.files (serving known [] true between) last now

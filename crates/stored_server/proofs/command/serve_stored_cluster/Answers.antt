@@ -4,8 +4,8 @@ use Rattle.server_command.proofs.Described.{sound}
 use Rattle.stored_server.proofs.StoppingLaws.{served_in, settled_as, stopped_in}
 use Rattle.stored_server.proofs.command.serve_stored_cluster.Goals as goal
 
-pub serve_from-requires-clause-knowable : goal.serve_from-requires-clause-knowable
-serve_from-requires-clause-knowable g c = (sound c.in-Ok.ensures.cluster.text c.in-Ok.cluster c.in-Ok.ensures.cluster.is).keys
+pub serve_from-requires-clause-sound : goal.serve_from-requires-clause-sound
+serve_from-requires-clause-sound g c = sound c.in-Ok.ensures.cluster.text c.in-Ok.cluster c.in-Ok.ensures.cluster.is
 
 pub returns-in-Ok-serve_from-clause-serves : goal.returns-in-Ok-serve_from-clause-serves
 returns-in-Ok-serve_from-clause-serves g c =

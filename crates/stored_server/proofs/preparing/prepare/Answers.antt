@@ -26,7 +26,7 @@ returns-in-Err-add_lacking-clause-stops g c =
     stopped_adding c.args.cluster.now (g.H.MetadataServer.server c.args.server.now) c.args.step
     (ends_of (g.L.Links.told c.args.links.now) (g.L.Links.faults c.args.links.now) (g.C.Clock.times c.args.clock.now))
     (g.H.MetadataServer.server c.set_format.new.self) _ c.as_slice.result.now _ c.in-Err-add_lacking.stop
-    c.as_slice.ensures c.requires.knowable c.in-Err-add_lacking.ensures.stops
+    c.as_slice.ensures c.requires.sound.keys c.in-Err-add_lacking.ensures.stops
 
 pub returns-in-Err-add_lacking-clause-goes : goal.returns-in-Err-add_lacking-clause-goes
 returns-in-Err-add_lacking-clause-goes g c =
@@ -62,7 +62,7 @@ returns-clause-stops g c =
     (settled c.args.cluster.now (g.H.MetadataServer.server c.args.server.now) c.args.step before (g.H.MetadataServer.server c.resume.new.server)
     (g.H.MetadataServer.server c.set_format.new.self) (g.H.MetadataServer.server c.add_lacking.new.server) c.as_slice.result.now _ c.as_slice.ensures
     c.in-Ok.ensures.resumes c.in-Ok-set_format.ensures.ok.state c.in-Ok-add_lacking.ensures.knows)
-    c.in-Err-make_lacking.ensures.stops
+    c.requires.sound.maps c.in-Err-make_lacking.ensures.stops
 
 pub returns-clause-goes : goal.returns-clause-goes
 returns-clause-goes g c =
