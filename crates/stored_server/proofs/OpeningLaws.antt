@@ -60,13 +60,13 @@ module _ {D : Type 0} (s : DiskGhosts D) where
   Read disk mid = OnlyRead s.tells s.seen s.may_leave s.moment s.left_since disk mid
 
   -- the disk was only opened and asked for its size
-  pub asked : (disk open mid : D) → s.tells open ≡ s.tells disk → s.seen open ≡ s.seen disk → Narrows (s.may_leave disk) (s.may_leave open)
-      → Elapses (s.moment disk) (s.moment open) (s.left_since disk) (s.left_since open) (s.may_leave open)
-      → s.tells mid ≡ s.tells open → s.seen mid ≡ s.seen open → Narrows (s.may_leave open) (s.may_leave mid)
-      → Elapses (s.moment open) (s.moment mid) (s.left_since open) (s.left_since mid) (s.may_leave mid) → Read disk mid
-  asked disk open mid told seen narrows time told2 seen2 narrows2 time2 =
-      read_more s.tells s.seen s.may_leave s.moment s.left_since disk open mid
-      (read_more s.tells s.seen s.may_leave s.moment s.left_since disk disk open
+  pub asked : (disk named mid : D) → s.tells named ≡ s.tells disk → s.seen named ≡ s.seen disk → Narrows (s.may_leave disk) (s.may_leave named)
+      → Elapses (s.moment disk) (s.moment named) (s.left_since disk) (s.left_since named) (s.may_leave named)
+      → s.tells mid ≡ s.tells named → s.seen mid ≡ s.seen named → Narrows (s.may_leave named) (s.may_leave mid)
+      → Elapses (s.moment named) (s.moment mid) (s.left_since named) (s.left_since mid) (s.may_leave mid) → Read disk mid
+  asked disk named mid told seen narrows time told2 seen2 narrows2 time2 =
+      read_more s.tells s.seen s.may_leave s.moment s.left_since disk named mid
+      (read_more s.tells s.seen s.may_leave s.moment s.left_since disk disk named
       (nothing_read s.tells s.seen s.may_leave s.moment s.left_since disk) told seen narrows time)
       told2 seen2 narrows2 time2
 
