@@ -15,7 +15,7 @@ use Rattle.server_rules.proofs.Members.{in_mapped, in_map, in_filtered, in_filte
 use Rattle.job_law.specs.Fencing.{Reached, is_fences, is_fencing, Raises, IsAsked, IsFencing, TellsRaised}
 use Rattle.job_law.proofs.Owned.{one_owned}
 use Rattle.job_law.proofs.Quiet.{is_fenced, no_end_behind, quiet_full}
-use Rattle.job_law.proofs.Fences.{GoesFrom, Fencing, WasFencing, IsNumber, quiet_goes, quiet_fencing, fenced_kind, goes_here, fencing_here, goes_waits, fencing_waits, other_waits, goes_loses, other_loses}
+use Rattle.job_law.proofs.Fences.{GoesFrom, Fencing, WasFencing, IsAsHere, quiet_goes, quiet_fencing, fenced_kind, goes_here, fencing_here, goes_waits, fencing_waits, other_waits, goes_loses, other_loses}
 
 -- ---- tests
 
@@ -99,6 +99,7 @@ goes_renews : (g : Going) (j : Job) (a : Awaited) → In a j.awaited
     → ((x : Awaited) → In x j.awaited → In x (awaited_by g.file.job)) → GoesFrom g (renews g j a)
 goes_renews g j a here there = record {
   number_is = refl;
+  tag_is = inl refl;
   fresh = again_in_2 a g.effects.nonce ∷ [];
   sent_is = refl;
   rises = refl;
@@ -202,9 +203,9 @@ fencing_noted R g h kind none f = record {
 goes_full : (g : Going) (j : Job) (a : Awaited) (work : Work) → ((x : Awaited) → In x j.awaited
     → In x (awaited_by g.file.job))
     → GoesFrom g (fills_up g j a work)
-goes_full g j a (Targets t) there = quiet_goes _ _ _ _ _ _ (quiet_full (IsNumber g.file.kept.number) g t refl)
-goes_full g j a (Gathers t ps) there = quiet_goes _ _ _ _ _ _ (quiet_full (IsNumber g.file.kept.number) g t refl)
-goes_full g j a (Fills t ps) there = quiet_goes _ _ _ _ _ _ (quiet_full (IsNumber g.file.kept.number) g t refl)
+goes_full g j a (Targets t) there = quiet_goes _ _ _ _ _ _ _ (quiet_full (IsAsHere g) g t (refl, refl))
+goes_full g j a (Gathers t ps) there = quiet_goes _ _ _ _ _ _ _ (quiet_full (IsAsHere g) g t (refl, refl))
+goes_full g j a (Fills t ps) there = quiet_goes _ _ _ _ _ _ _ (quiet_full (IsAsHere g) g t (refl, refl))
 goes_full g j a work there =
     goes_loses (noting (with_components g (lose_from (a.component ∷ []) g.file.kept.components 0)) (NoSpace
     a.component)) j
@@ -214,11 +215,11 @@ other_full : (R : Reached) (g : Going) (j : Job) (a : Awaited) (work : Work) →
     → is_fencing g.file.job ≡ false → Fencing R g.effects.notes (fills_up g j a work)
 other_full R g j a Fences e none = absurd (cc e)
 other_full R g j a (Targets t) e none =
-    quiet_fencing R _ _ _ _ _ (quiet_full (IsNumber g.file.kept.number) g t refl)
+    quiet_fencing R _ _ _ _ _ (quiet_full (IsAsHere g) g t (refl, refl))
 other_full R g j a (Gathers t ps) e none =
-    quiet_fencing R _ _ _ _ _ (quiet_full (IsNumber g.file.kept.number) g t refl)
+    quiet_fencing R _ _ _ _ _ (quiet_full (IsAsHere g) g t (refl, refl))
 other_full R g j a (Fills t ps) e none =
-    quiet_fencing R _ _ _ _ _ (quiet_full (IsNumber g.file.kept.number) g t refl)
+    quiet_fencing R _ _ _ _ _ (quiet_full (IsAsHere g) g t (refl, refl))
 other_full R g j a work e none =
     let h : Going = with_components g (lose_from (a.component ∷ []) g.file.kept.components 0) in
     fencing_noted R h _ (NoSpace a.component) refl
