@@ -9,7 +9,14 @@ pub mod Changing
 pub mod Ordering
 pub mod Grants
 pub mod Telling
+pub mod NoteLines
 pub mod Noting
+pub mod TagSteps
+pub mod TagNotes
+pub mod AwaitedSteps
+pub mod AwaitedAnswered
+pub mod AwaitedEnds
+pub mod AwaitedLines
 pub mod Dealing
 pub mod Turning
 pub mod Saying

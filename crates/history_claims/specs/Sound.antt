@@ -28,9 +28,12 @@ use Rattle.exchange_law.specs.Text.{AreOfText, AreFew, WithinTheLimitAreFew}
 use Rattle.exchange_law.specs.Exact.{IssuedExactlyAt, InjectedExactlyAt}
 use Rattle.ending_law.specs.Calls.{EndsAt}
 use Rattle.cause_law.specs.Answers.{RequestsAreAnswered}
+use Rattle.cause_law.specs.Awaiting.{AwaitedHaveCauses}
+use Rattle.cause_law.specs.AwaitedEnds.{AwaitedHaveEnds}
 use Rattle.cause_law.specs.Changes.{GrantsHaveCauses}
 use Rattle.cause_law.specs.Components.{ComponentsHaveCauses}
 use Rattle.cause_law.specs.Ends.{CallsEndAsSaid}
+use Rattle.cause_law.specs.FenceTags.{TagsHaveCauses}
 use Rattle.cause_law.specs.Told.{MessagesAreCaused}
 use Rattle.outcome_law.specs.Ended.{CausedAt}
 use Rattle.outcome_law.specs.Pending.{CallsAreLeft}
@@ -115,8 +118,16 @@ pub record IsSound (h : List Line) : Type 0 where
   -- nothing else makes a grant of a file live or ends one, or changes the file's size, but a fence that an order to revoke,
   -- rebuild or audit the file begins, or an opening, and that ends all; and each of these does, while no job runs
   pub changes : (w : World) → StandsFor w h → AreWritten h → GrantsHaveCauses h
-  -- and each file goes on with its map, and with its components as the notes of the step tell, but for a declared drive
+  -- and each file goes on with its map, and with its components as the notes of the step tell, after those on a drive that is
+  -- declared, and that the server knows, became missing
   pub components : (w : World) → StandsFor w h → AreWritten h → ComponentsHaveCauses h
+  -- and with its tag, unless just one note of the step tells that a fence of it is over: it is the next tag, and the file's then
+  pub raised : (w : World) → StandsFor w h → AreWritten h → TagsHaveCauses h
+  -- what the job of a file awaits behind a step it awaited before, and what comes doesn't answer it, or the step sends it
+  pub waits : (w : World) → StandsFor w h → AreWritten h → AwaitedHaveCauses h
+  -- and what it awaits no more was answered, or a WRITE of the job found no space, or a drive was taken out, or the server
+  -- crashed or was opened
+  pub until : (w : World) → StandsFor w h → AreWritten h → AwaitedHaveEnds h
   -- a call ends as what it met says, read off the lines before: the answers and replies that its client took in it, and the
   -- timeouts of what it awaited
   pub caused : AtEachLine CausedAt h
