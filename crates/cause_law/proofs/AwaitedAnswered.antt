@@ -1,5 +1,5 @@
 -- A command whose answer comes isn't awaited behind the step.
-use Rattle.std.proofs.Common.{◌≡◌, ◌⊎◌, ◌≤◌, ◌==◌, ◌&&◌, ℕ, Bool, true, false, not, find, List, [], ◌∷◌, Option, Some, None, refl, sym, ap, subst, ◌∙◌, arith, inl, inr, if◌then◌else◌}
+use Rattle.std.proofs.Common.{◌≡◌, ℕ, true, not, find, List, [], ◌∷◌, Option, Some, None, refl, sym, ap, subst, ◌∙◌, arith, inl, inr}
 use Rattle.std.proofs.lemmas.Bool.{cases_Bool, eq-eqb, true≢false}
 use Rattle.std.proofs.lemmas.Bool.Decides.{nat_tests}
 use Rattle.osd_lists.specs.declared.node.Node.TheVariants.{Drive as FromDrive}
@@ -7,8 +7,8 @@ use Rattle.server_rules.specs.Files.{Step, file_at, put_file, at_file}
 use Rattle.server_rules.specs.Going.{Going}
 use Rattle.server_rules.specs.History.{Input, Hears, step}
 use Rattle.server_rules.specs.Laws.{In, FilesArePut}
-use Rattle.server_rules.specs.Messages.{Replies, awaited_by, counters_have_room, or_else, heard_at, by_heard, on_drive_reply, on_message}
-use Rattle.server_rules.specs.Replies.{Nothing, answers, others, hearing, hears, heard_by, heard_in, on_reply}
+use Rattle.server_rules.specs.Messages.{Replies, awaited_by, or_else, heard_at, by_heard, on_drive_reply, on_message}
+use Rattle.server_rules.specs.Replies.{answers, hearing, hears, heard_by, heard_in, on_reply}
 use Rattle.server_rules.proofs.FileLaws.{number_at}
 use Rattle.server_rules.proofs.Members.{in_filtered}
 use Rattle.world_history.specs.ServerNames.{Server, File, Job, Awaited, Reply}
@@ -32,7 +32,7 @@ some_found d r (x ∷ ws) a i e = elim (cases_Bool (answers d r x)) [
   ]
 ]
 
-its_nonce : (d : ℕ) (r : Reply) (a : Awaited) → answers d r a ≡ true → a.command.nonce ≡ r.nonce
+pub its_nonce : (d : ℕ) (r : Reply) (a : Awaited) → answers d r a ≡ true → a.command.nonce ≡ r.nonce
 its_nonce d r a e = grind (arith, e, nat_tests)
 
 module _ (s : Server) (chosen : List ℕ) (d : ℕ) (r : Reply) where
@@ -75,11 +75,9 @@ module _ (s : Server) (chosen : List ℕ) (d : ℕ) (r : Reply) where
   first_hears (x ∷ fs) f h (inl same) alone is =
       ap (λ (o : Option Going). or_else o (heard_at s chosen d r fs))
       (ap (λ (y : File). on_reply (at_file s chosen y) d r) (sym same) ∙ is)
-  first_hears (x ∷ fs) f h (inr i) alone is = by (on_reply (at_file s chosen x) d r) refl
+  first_hears (x ∷ fs) f h (inr i) alone is =
+      by (on_reply (at_file s chosen x) d r) refl (first_hears fs f h i (λ y k b l e. alone y (inr k) b l e) is)
     where
-      rest : heard_at s chosen d r fs ≡ Some h
-      rest = first_hears fs f h i (λ y k b l e. alone y (inr k) b l e) is
-
       -- only this file hears it
       heard_same : (g : Going) → on_reply (at_file s chosen x) d r ≡ Some g → g ≡ h
       heard_same g e = by_job x.job refl
@@ -106,9 +104,10 @@ module _ (s : Server) (chosen : List ℕ) (d : ℕ) (r : Reply) where
               absurd (cc (sym (no_reply x (λ a k y. subst (λ (p : Option Job). In a (awaited_by p)) none k)) ∙ e))
           by_job (Some j) runs = by_found j runs (find (answers d r) j.awaited) refl
 
-      by : (o : Option Going) → on_reply (at_file s chosen x) d r ≡ o → or_else o (heard_at s chosen d r fs) ≡ Some h
-      by None e = rest
-      by (Some g) e = ap (λ (y : Going). Some y) (heard_same g e)
+      by : (o : Option Going) → on_reply (at_file s chosen x) d r ≡ o → heard_at s chosen d r fs ≡ Some h
+          → or_else o (heard_at s chosen d r fs) ≡ Some h
+      by None e rest = rest
+      by (Some g) e rest = ap (λ (y : Going). Some y) (heard_same g e)
 
 -- ---- a step
 

@@ -1,5 +1,5 @@
 -- What a job awaits it awaits behind a step too, unless one of a few causes ends that.
-use Rattle.std.proofs.Common.{◌≡◌, ◌⊎◌, ◌==◌, ◌&&◌, ◌||◌, ℕ, Bool, true, false, not, nat_le, nat_lt, find, is_some, map, List, [], ◌∷◌, Option, Some, None, refl, sym, ap, subst, ◌∙◌, arith, inl, inr, if◌then◌else◌}
+use Rattle.std.proofs.Common.{◌≡◌, ◌⊎◌, ◌==◌, ◌&&◌, ℕ, Bool, true, false, not, nat_le, nat_lt, find, is_some, map, List, [], ◌∷◌, Option, Some, None, refl, sym, ap, subst, ◌∙◌, arith, inl, inr, if◌then◌else◌}
 use Rattle.std.proofs.lemmas.Bool.{cases_Bool, cases_eq, eq-eqb, ne_eqb}
 use Rattle.std.proofs.lemmas.Bool.Decides.{nat_tests}
 use Rattle.osd_lists.specs.declared.node.Node.{Node}
@@ -21,7 +21,7 @@ use Rattle.server_rules.specs.Requests.{serves, on_request}
 use Rattle.server_rules.specs.Return.{return_row, returns_on}
 use Rattle.server_rules.proofs.FileLaws.{number_at, not_there}
 use Rattle.server_rules.proofs.Members.{in_map, in_filter}
-use Rattle.world_history.specs.ServerNames.{Server, File, Drive, Job, JobKind, Revoking, Rebuilding, Auditing, Awaited, Work, Heard, Reply, Grant, IoErr, Order, OrderKind, ToRecall, ToRevoke, ToDeclare, ToRebuild, ToAudit, ClientRequest, RequestArgs, Get, Commit, Return, RawMap, Refusal}
+use Rattle.world_history.specs.ServerNames.{Server, File, Drive, Job, JobKind, Revoking, Rebuilding, Auditing, Awaited, Work, Heard, Reply, Grant, IoErr, OrderKind, ToRecall, ToRevoke, ToDeclare, ToRebuild, ToAudit, ClientRequest, RequestArgs, Get, Commit, Return, RawMap, Refusal}
 use Rattle.world_history.specs.Book.{awaited_in}
 use Rattle.move_law.proofs.Files.{in_at, safe_in}
 use Rattle.move_law.proofs.Steps.{each_request}
@@ -185,212 +185,213 @@ module _ (s : Server) (chosen : List ℕ) (d : ℕ) (r : Reply) where
 -- ---- a step
 
 module _ (s : Server) (chosen : List ℕ) (i : Input) (safe : AreSafe s.files) (one : AreOne s.files) (alone : AreAlone s.files)
-    where
-  -- the file awaits it still, or not any more for a cause
-  abbrev Stays : List File → File → Awaited → Type 0
-  Stays gs f a =
-      ((g : File) × In g gs × (g.kept.number ≡ f.kept.number) × In a (awaited_by g.job)) ⊎ Ends s i f a
+  where
+    -- the file awaits it still, or not any more for a cause
+    abbrev Stays : List File → File → Awaited → Type 0
+    Stays gs f a =
+        ((g : File) × In g gs × (g.kept.number ≡ f.kept.number) × In a (awaited_by g.job)) ⊎ Ends s i f a
 
-  abbrev Q : List File → Type 0
-  Q gs = (f : File) → In f s.files → (a : Awaited) → In a (awaited_by f.job) → Stays gs f a
+    abbrev Q : List File → Type 0
+    Q gs = (f : File) → In f s.files → (a : Awaited) → In a (awaited_by f.job) → Stays gs f a
 
-  stay : Q s.files
-  stay f j a k = inl (f, j, refl, k)
+    stay : Q s.files
+    stay f j a k = inl (f, j, refl, k)
 
-  put_q : (n : ℕ) (x h : File) → In x s.files → x.kept.number ≡ n → h.kept.number ≡ n
-      → ((a : Awaited) → In a (awaited_by x.job) → In a (awaited_by h.job) ⊎ Ends s i x a) → Q (put_file s.files n h)
-  put_q n x h there is its goes f j a k = elim (cases_eq f.kept.number n) [
-    | inr o ↦ inl (f, others_there s.files n h f j o, refl, k)
-    | inl e ↦
-        let same : f ≡ x = one f x j there (e ∙ sym is) in
-        elim (goes a (subst (λ (y : File). In a (awaited_by y.job)) same k)) [
-          | inl l ↦ inl (h, put_there s.files n h x there is, its ∙ sym e, l)
-          | inr w ↦ inr (subst (λ (y : File). Ends s i y a) (sym same) w)
-        ]
-  ]
+    put_q : (n : ℕ) (x h : File) → In x s.files → x.kept.number ≡ n → h.kept.number ≡ n
+        → ((a : Awaited) → In a (awaited_by x.job) → In a (awaited_by h.job) ⊎ Ends s i x a) → Q (put_file s.files n h)
+    put_q n x h there is its goes f j a k = elim (cases_eq f.kept.number n) [
+      | inr o ↦ inl (f, others_there s.files n h f j o, refl, k)
+      | inl e ↦
+          let same : f ≡ x = one f x j there (e ∙ sym is) in
+          elim (goes a (subst (λ (y : File). In a (awaited_by y.job)) same k)) [
+            | inl l ↦ inl (h, put_there s.files n h x there is, its ∙ sym e, l)
+            | inr w ↦ inr (subst (λ (y : File). Ends s i y a) (sym same) w)
+          ]
+    ]
 
-  -- ---- a request
+    -- ---- a request
 
-  serves_on : (f : File) → In f s.files → (next format now client : ℕ) (args : RequestArgs) (a : Awaited)
-      → In a (awaited_by f.job) → In a (awaited_by (serves (at_file s chosen f) next format now client args).going.file.job)
-  serves_on f there next format now client args a k = by f.job refl
-    where
-      by : (o : Option Job) → f.job ≡ o
-          → In a (awaited_by (serves (at_file s chosen f) next format now client args).going.file.job)
-      by None none = absurd (subst (λ (o : Option Job). In a (awaited_by o)) none k)
-      by (Some j) runs =
-          subst (λ (o : Option Job). In a (awaited_by o))
-          (sym (serves_leaves (at_file s chosen f) next format now client args j runs
-          (no_grant f.job runs (safe_in s.files safe f there).alone))) k
-        where
-          no_grant : (o : Option Job) → o ≡ Some j → NoneBeside o f.kept.grants
-              → f.kept.grants ≡ []
-          no_grant None e n = absurd (cc e)
-          no_grant (Some x) e n = n
-
-  asked : (now : ℕ) (q : ClientRequest) → Q (on_request s now chosen q).state.files
-  asked now q =
-      each_request s now chosen q (λ (t : Step). Q t.state.files) (record {
-        again = λ kept e. stay;
-        misordered = λ expected e. stay;
-        without = λ new none. stay;
-        served = λ new f found.
-            let it = found_file s.files q.file f found in
-            put_q q.file f (serves (at_file s chosen f) s.next_grant s.format now q.client q.args).going.file it.0 it.1
-            ((handled_served R (at_file s chosen f) s.next_grant s.format now q.client q.args).goes.number_is ∙ it.1)
-            (λ a k. inl (serves_on f it.0 s.next_grant s.format now q.client q.args a k));
-      })
-
-  -- ---- a reply
-
-  module _ (now d : ℕ) (r : Reply) (comes : i ≡ Hears now (FromDrive d) (Replies r)) (room : counters_have_room s ≡ true)
+    serves_on : (f : File) → In f s.files → (next format now client : ℕ) (args : RequestArgs) (a : Awaited)
+        → In a (awaited_by f.job) → In a (awaited_by (serves (at_file s chosen f) next format now client args).going.file.job)
+    serves_on f there next format now client args a k = by f.job refl
       where
-    module _ (h : Going) (x : IsHeardBy s chosen d r s.files h) where
-      answers_it : (hearing x.file.kept x.awaited r ≡ Nothing → ⊥) → Answers s i x.file x.awaited
-      answers_it counts = record {
-        now = now;
-        reply = r;
-        comes =
-            comes ∙ ap (λ (n : ℕ). Hears now (FromDrive n) (Replies r)) (sym (its_drive d r x.awaited x.its));
-        room = room;
-        nonce = sym (its_nonce d r x.awaited x.its);
-        counts = counts;
-      }
+        by : (o : Option Job) → f.job ≡ o
+            → In a (awaited_by (serves (at_file s chosen f) next format now client args).going.file.job)
+        by None none = absurd (subst (λ (o : Option Job). In a (awaited_by o)) none k)
+        by (Some j) runs =
+            subst (λ (o : Option Job). In a (awaited_by o))
+            (sym (serves_leaves (at_file s chosen f) next format now client args j runs
+            (no_grant f.job runs (safe_in s.files safe f there).alone))) k
+          where
+            no_grant : (o : Option Job) → o ≡ Some j → NoneBeside o f.kept.grants
+                → f.kept.grants ≡ []
+            no_grant None e n = absurd (cc e)
+            no_grant (Some x) e n = n
 
-      in_file : (b : Awaited) → In b x.job.awaited → In b (awaited_by x.file.job)
-      in_file b k = subst (λ (o : Option Job). In b (awaited_by o)) (sym x.runs) k
+    asked : (now : ℕ) (q : ClientRequest) → Q (on_request s now chosen q).state.files
+    asked now q =
+        each_request s now chosen q (λ (t : Step). Q t.state.files) (record {
+          again = λ kept e. stay;
+          misordered = λ expected e. stay;
+          without = λ new none. stay;
+          served = λ new f found.
+              let it = found_file s.files q.file f found in
+              put_q q.file f (serves (at_file s chosen f) s.next_grant s.format now q.client q.args).going.file it.0 it.1
+              ((handled_served R (at_file s chosen f) s.next_grant s.format now q.client q.args).goes.number_is ∙ it.1)
+              (λ a k. inl (serves_on f it.0 s.next_grant s.format now q.client q.args a k));
+        })
 
-      same_command : (a : Awaited) → In a x.job.awaited → a.command.nonce ≡ x.awaited.command.nonce → a ≡ x.awaited
-      same_command a k e =
-          alone a x.awaited (x.file, x.there, in_file a k) (x.file, x.there, in_file x.awaited x.among) e
+    -- ---- a reply
 
-      its_end : (a : Awaited) → In a x.job.awaited → (hearing x.file.kept x.awaited r ≡ Nothing → ⊥)
-          → a.command.nonce ≡ x.awaited.command.nonce → Ends s i x.file a
-      its_end a k counts e =
-          subst (λ (b : Awaited). Ends s i x.file b) (sym (same_command a k e)) (Answered (answers_it counts))
-
-      abbrev Heard_ : Hearing → Going
-      Heard_ v = hears (at_file s chosen x.file) x.job x.awaited r v
-
-      by_hearing : (v : Hearing) → hearing x.file.kept x.awaited r ≡ v → (a : Awaited) → In a x.job.awaited
-          → In a (awaited_by (Heard_ v).file.job) ⊎ Ends s i x.file a
-      by_hearing Nothing is a k = inl (in_file a k)
-      by_hearing Older is a k = elim (cases_eq a.command.nonce x.awaited.command.nonce) [
-        | inl e ↦ inr (its_end a k (λ q. cc (sym is ∙ q)) e)
-        | inr o ↦
-            let b : Awaited = again_in_2 x.awaited s.next_nonce in
-            inl (subst (λ (y : Awaited). In y (map (renewed x.awaited b) x.job.awaited))
-            (ap (λ (t : Bool). if t then b else a) (ne_eqb a.command.nonce x.awaited.command.nonce o))
-            (in_map (renewed x.awaited b) a x.job.awaited k))
-      ]
-      by_hearing Done is a k = elim (cases_eq a.command.nonce x.awaited.command.nonce) [
-        | inl e ↦ inr (its_end a k (λ q. cc (sym is ∙ q)) e)
-        | inr o ↦
-            inl (rest_waits (at_file s chosen x.file) x.job x.job.work (others x.job.awaited x.awaited.command.nonce)
-            (heard_with x.job x.awaited r) a
-            (in_filter _ a x.job.awaited k (ap not (ne_eqb a.command.nonce x.awaited.command.nonce o))))
-      ]
-      by_hearing Full is a k =
-          inr (Filled x.awaited (in_file x.awaited x.among) (answers_it (λ q. cc (sym is ∙ q))) is)
-
-      heard_q : Q (put_file s.files h.file.kept.number h.file)
-      heard_q =
-          let number : h.file.kept.number ≡ x.file.kept.number =
-          ap (λ (g : Going). g.file.kept.number) x.is
-          ∙ (goes_hears (at_file s chosen x.file) x.job x.awaited r (hearing x.file.kept x.awaited r) x.among in_file).number_is in
-          put_q h.file.kept.number x.file h.file x.there (sym number) refl (λ a k.
-          subst (λ (g : Going). In a (awaited_by g.file.job) ⊎ Ends s i x.file a) (sym x.is)
-          (by_hearing (hearing x.file.kept x.awaited r) refl a
-          (subst (λ (o : Option Job). In a (awaited_by o)) x.runs k)))
-
-    replied : Q (on_drive_reply s chosen d r).state.files
-    unfolding on_drive_reply
-    replied = by (heard_at s chosen d r s.files) refl
+    module _ (now d : ℕ) (r : Reply) (comes : i ≡ Hears now (FromDrive d) (Replies r)) (room : counters_have_room s ≡ true)
       where
-        by : (o : Option Going) → heard_at s chosen d r s.files ≡ o → Q (by_heard s o).state.files
-        by None e = stay
-        by (Some h) e = heard_q h (heard_some s chosen d r s.files h e)
+        module _ (h : Going) (x : IsHeardBy s chosen d r s.files h) where
+          answers_it : (hearing x.file.kept x.awaited r ≡ Nothing → ⊥) → Answers s i x.file x.awaited
+          answers_it counts = record {
+            now = now;
+            reply = r;
+            comes =
+                comes ∙ ap (λ (n : ℕ). Hears now (FromDrive n) (Replies r)) (sym (its_drive d r x.awaited x.its));
+            room = room;
+            nonce = sym (its_nonce d r x.awaited x.its);
+            counts = counts;
+          }
 
-  -- ---- an order
+          in_file : (b : Awaited) → In b x.job.awaited → In b (awaited_by x.file.job)
+          in_file b k = subst (λ (o : Option Job). In b (awaited_by o)) (sym x.runs) k
 
-  begun : (kind : JobKind) (n : ℕ) (f : File) → file_at s.files n ≡ Some f → (o : Option Job) → f.job ≡ o
-      → Q (begins_job s chosen kind f o).step.state.files
-  begun kind n f found (Some j) runs =
-      put_q f.kept.number f f (in_at s.files n f found) refl refl (λ a k. inl k)
-  begun kind n f found None free = elim (cases_Bool (f.kept.tag == GREATEST_TAG)) [
-    | inl t ↦ rw t (put_q f.kept.number f f (in_at s.files n f found) refl refl (λ a k. inl k))
-    | inr z ↦
-        rw z (put_q f.kept.number f (fence_begins kind s.format (at_file s chosen f)).file (in_at s.files n f found) refl
-        (handled_fence R kind s.format (at_file s chosen f)).goes.number_is
-        (λ a k. absurd (subst (λ (o : Option Job). In a (awaited_by o)) free k)))
-  ]
+          same_command : (a : Awaited) → In a x.job.awaited → a.command.nonce ≡ x.awaited.command.nonce → a ≡ x.awaited
+          same_command a k e =
+              alone a x.awaited (x.file, x.there, in_file a k) (x.file, x.there, in_file x.awaited x.among) e
 
-  started : (kind : JobKind) (n : ℕ) (o : Option File) → file_at s.files n ≡ o → Q (starts s chosen kind o).step.state.files
-  started kind n None e = stay
-  started kind n (Some f) e = begun kind n f e f.job refl
+          its_end : (a : Awaited) → In a x.job.awaited → (hearing x.file.kept x.awaited r ≡ Nothing → ⊥)
+              → a.command.nonce ≡ x.awaited.command.nonce → Ends s i x.file a
+          its_end a k counts e =
+              subst (λ (b : Awaited). Ends s i x.file b) (sym (same_command a k e)) (Answered (answers_it counts))
 
-  recalled : (o : Option File) → Q (recalls_on s o).step.state.files
-  recalled None = stay
-  recalled (Some f) = stay
+          abbrev Heard_ : Hearing → Going
+          Heard_ v = hears (at_file s chosen x.file) x.job x.awaited r v
 
-  declared : (n : ℕ) (b : Bool) → (b ≡ true → taken_out s i ≡ Some n) → Q (declares_known s chosen n b).step.state.files
-  declared n true out = λ f j a k. inr (Declared n (out refl))
-  declared n false out = stay
+          by_hearing : (v : Hearing) → hearing x.file.kept x.awaited r ≡ v → (a : Awaited) → In a x.job.awaited
+              → In a (awaited_by (Heard_ v).file.job) ⊎ Ends s i x.file a
+          by_hearing Nothing is a k = inl (in_file a k)
+          by_hearing Older is a k = elim (cases_eq a.command.nonce x.awaited.command.nonce) [
+            | inl e ↦ inr (its_end a k (λ q. cc (sym is ∙ q)) e)
+            | inr o ↦
+                let b : Awaited = again_in_2 x.awaited s.next_nonce in
+                inl (subst (λ (y : Awaited). In y (map (renewed x.awaited b) x.job.awaited))
+                (ap (λ (t : Bool). if t then b else a) (ne_eqb a.command.nonce x.awaited.command.nonce o))
+                (in_map (renewed x.awaited b) a x.job.awaited k))
+          ]
+          by_hearing Done is a k = elim (cases_eq a.command.nonce x.awaited.command.nonce) [
+            | inl e ↦ inr (its_end a k (λ q. cc (sym is ∙ q)) e)
+            | inr o ↦
+                inl (rest_waits (at_file s chosen x.file) x.job x.job.work (others x.job.awaited x.awaited.command.nonce)
+                (heard_with x.job x.awaited r) a
+                (in_filter _ a x.job.awaited k (ap not (ne_eqb a.command.nonce x.awaited.command.nonce o))))
+          ]
+          by_hearing Full is a k =
+              inr (Filled x.awaited (in_file x.awaited x.among) (answers_it (λ q. cc (sym is ∙ q))) is)
 
-  obeyed : (kind : OrderKind) (n : ℕ) → taken_out s i ≡ if_known s (declared_by kind n)
-      → Q (ordered s chosen kind n).step.state.files
-  unfolding ordered
-  obeyed ToRecall n out = recalled (file_at s.files n)
-  obeyed ToRevoke n out = started Revoking n (file_at s.files n) refl
-  obeyed ToDeclare n out =
-      declared n (is_some (find (λ (d : Drive). d.number == n) s.drives))
-      (λ known. out ∙ ap (λ (b : Bool). if b then Some n else None) known)
-  obeyed ToRebuild n out = started Rebuilding n (file_at s.files n) refl
-  obeyed ToAudit n out = started Auditing n (file_at s.files n) refl
+          heard_q : Q (put_file s.files h.file.kept.number h.file)
+          heard_q =
+              let number : h.file.kept.number ≡ x.file.kept.number =
+              ap (λ (g : Going). g.file.kept.number) x.is
+              ∙ (goes_hears (at_file s chosen x.file) x.job x.awaited r (hearing x.file.kept x.awaited r) x.among
+              in_file).number_is in
+              put_q h.file.kept.number x.file h.file x.there (sym number) refl (λ a k.
+              subst (λ (g : Going). In a (awaited_by g.file.job) ⊎ Ends s i x.file a) (sym x.is)
+              (by_hearing (hearing x.file.kept x.awaited r) refl a
+              (subst (λ (o : Option Job). In a (awaited_by o)) x.runs k)))
 
-  -- ---- a message
+        replied : Q (on_drive_reply s chosen d r).state.files
+        unfolding on_drive_reply
+        replied = by (heard_at s chosen d r s.files) refl
+          where
+            by : (o : Option Going) → heard_at s chosen d r s.files ≡ o → Q (by_heard s o).state.files
+            by None e = stay
+            by (Some h) e = heard_q h (heard_some s chosen d r s.files h e)
 
-  either : (b : Bool) (t u : Step) → Q t.state.files → Q u.state.files → Q (if b then t else u).state.files
-  either true t u p q = p
-  either false t u p q = q
+    -- ---- an order
 
-  message_q : (now : ℕ) (from : Node) (m : Message) → i ≡ Hears now from m → counters_have_room s ≡ true
-      → taken_out s i ≡ if_known s (declared_in (Hears now from m)) → Q (handled s now chosen from m).state.files
-  message_q now (FromClient c) (Asks q) is room out = either ((q.client == c) && nat_le c MAX_CLIENT) _ _ (asked now q) stay
-  message_q now (FromDrive d) (Replies r) is room out = replied now d r is room
-  message_q now FromServer (Orders o) is room out = obeyed o.order o.target out
-  message_q now from m is room out = stay
+    begun : (kind : JobKind) (n : ℕ) (f : File) → file_at s.files n ≡ Some f → (o : Option Job) → f.job ≡ o
+        → Q (begins_job s chosen kind f o).step.state.files
+    begun kind n f found (Some j) runs =
+        put_q f.kept.number f f (in_at s.files n f found) refl refl (λ a k. inl k)
+    begun kind n f found None free = elim (cases_Bool (f.kept.tag == GREATEST_TAG)) [
+      | inl t ↦ rw t (put_q f.kept.number f f (in_at s.files n f found) refl refl (λ a k. inl k))
+      | inr z ↦
+          rw z (put_q f.kept.number f (fence_begins kind s.format (at_file s chosen f)).file (in_at s.files n f found) refl
+          (handled_fence R kind s.format (at_file s chosen f)).goes.number_is
+          (λ a k. absurd (subst (λ (o : Option Job). In a (awaited_by o)) free k)))
+    ]
 
-  heard_message : (now : ℕ) (from : Node) (m : Message) → i ≡ Hears now from m → (b : Bool) → counters_have_room s ≡ b
-      → Q (if b then handled s now chosen from m else record { state = s; sends = []; notes = []; mended = [] }).state.files
-  heard_message now from m is true room =
-      message_q now from m is room (ap (taken_out s) is
-      ∙ ap (λ (b : Bool). if b then if_known s (declared_in (Hears now from m)) else None) room)
-  heard_message now from m is false full = stay
+    started : (kind : JobKind) (n : ℕ) (o : Option File) → file_at s.files n ≡ o → Q (starts s chosen kind o).step.state.files
+    started kind n None e = stay
+    started kind n (Some f) e = begun kind n f e f.job refl
 
-  -- ---- a file is made
+    recalled : (o : Option File) → Q (recalls_on s o).step.state.files
+    recalled None = stay
+    recalled (Some f) = stay
 
-  made : (n : ℕ) (m : RawMap) (zoned : Bool) (f : File) (o : Option Refusal) → refusal s n m zoned ≡ o
-      → f.kept.number ≡ n → Q (unless_made s (unless_refused o (makes_file s f))).state.files
-  made n m zoned f (Some why) e is = stay
-  made n m zoned f None e is = λ g j a k.
-      inl (
-        g,
-        others_there (add_file s.files f) f.kept.number (making (at_file (with_file s f) [] f)).file g
-            (added_there s.files f g j) (λ same. none_has s.files n g j (same ∙ is) (not_there s n m zoned e)),
-        refl,
-        k,
-      )
+    declared : (n : ℕ) (b : Bool) → (b ≡ true → taken_out s i ≡ Some n) → Q (declares_known s chosen n b).step.state.files
+    declared n true out = λ f j a k. inr (Declared n (out refl))
+    declared n false out = stay
 
-  created : (n : ℕ) (m : RawMap) (tag : ℕ) (zoned : Bool) → Q (unless_made s (create_file s n m tag zoned chosen)).state.files
-  unfolding create_file
-  created n m tag zoned =
-      made n m zoned (unmade s n m tag zoned (drives_for zoned s.drives m chosen)) (refusal s n m zoned) refl refl
+    obeyed : (kind : OrderKind) (n : ℕ) → taken_out s i ≡ if_known s (declared_by kind n)
+        → Q (ordered s chosen kind n).step.state.files
+    unfolding ordered
+    obeyed ToRecall n out = recalled (file_at s.files n)
+    obeyed ToRevoke n out = started Revoking n (file_at s.files n) refl
+    obeyed ToDeclare n out =
+        declared n (is_some (find (λ (d : Drive). d.number == n) s.drives))
+        (λ known. out ∙ ap (λ (b : Bool). if b then Some n else None) known)
+    obeyed ToRebuild n out = started Rebuilding n (file_at s.files n) refl
+    obeyed ToAudit n out = started Auditing n (file_at s.files n) refl
+
+    -- ---- a message
+
+    either : (b : Bool) (t u : Step) → Q t.state.files → Q u.state.files → Q (if b then t else u).state.files
+    either true t u p q = p
+    either false t u p q = q
+
+    message_q : (now : ℕ) (from : Node) (m : Message) → i ≡ Hears now from m → counters_have_room s ≡ true
+        → taken_out s i ≡ if_known s (declared_in (Hears now from m)) → Q (handled s now chosen from m).state.files
+    message_q now (FromClient c) (Asks q) is room out = either ((q.client == c) && nat_le c MAX_CLIENT) _ _ (asked now q) stay
+    message_q now (FromDrive d) (Replies r) is room out = replied now d r is room
+    message_q now FromServer (Orders o) is room out = obeyed o.order o.target out
+    message_q now from m is room out = stay
+
+    heard_message : (now : ℕ) (from : Node) (m : Message) → i ≡ Hears now from m → (b : Bool) → counters_have_room s ≡ b
+        → Q (if b then handled s now chosen from m else record { state = s; sends = []; notes = []; mended = [] }).state.files
+    heard_message now from m is true room =
+        message_q now from m is room (ap (taken_out s) is
+        ∙ ap (λ (b : Bool). if b then if_known s (declared_in (Hears now from m)) else None) room)
+    heard_message now from m is false full = stay
+
+    -- ---- a file is made
+
+    made : (n : ℕ) (m : RawMap) (zoned : Bool) (f : File) (o : Option Refusal) → refusal s n m zoned ≡ o
+        → f.kept.number ≡ n → Q (unless_made s (unless_refused o (makes_file s f))).state.files
+    made n m zoned f (Some why) e is = stay
+    made n m zoned f None e is = λ g j a k.
+        inl (
+          g,
+          others_there (add_file s.files f) f.kept.number (making (at_file (with_file s f) [] f)).file g
+              (added_there s.files f g j) (λ same. none_has s.files n g j (same ∙ is) (not_there s n m zoned e)),
+          refl,
+          k,
+        )
+
+    created : (n : ℕ) (m : RawMap) (tag : ℕ) (zoned : Bool) → Q (unless_made s (create_file s n m tag zoned chosen)).state.files
+    unfolding create_file
+    created n m tag zoned =
+        made n m zoned (unmade s n m tag zoned (drives_for zoned s.drives m chosen)) (refusal s n m zoned) refl refl
 
 -- ---- any step
 
-ends_so : (s : Server) (chosen : List ℕ) (i : Input) → AreSafe s.files → AreOne s.files → AreAlone s.files
-    → Q s chosen i (step s chosen i).state.files
+ends_so : (s : Server) (chosen : List ℕ) (i : Input) (safe : AreSafe s.files) (one : AreOne s.files)
+    (alone : AreAlone s.files) → Q s chosen i safe one alone (step s chosen i).state.files
 unfolding on_message
 ends_so s chosen (Hears now from m) safe one alone =
     heard_message s chosen (Hears now from m) safe one alone now from m refl (counters_have_room s) refl

@@ -1,5 +1,5 @@
 -- In each whole history what a job awaits was sent in a step's lines, isn't answered yet, and ends with one of its causes.
-use Rattle.std.proofs.Common.{◌≡◌, ◌⊎◌, ◌≤◌, ◌<◌, ℕ, Bool, true, false, nat_lt, filter, map, List, [], ◌∷◌, ◌++◌, Option, Some, None, refl, sym, ap, subst, ◌∙◌, arith, inl, inr}
+use Rattle.std.proofs.Common.{◌≡◌, ◌⊎◌, ◌≤◌, ℕ, true, false, map, List, [], ◌∷◌, ◌++◌, Option, Some, None, refl, sym, ap, subst, ◌∙◌, arith, inl, inr}
 use Rattle.std.proofs.lemmas.Bool.{lt-ltb, false≢true}
 use Rattle.scenario_text.specs.declared.names.TheConstants.{DRIVES}
 use Rattle.scenario_text.specs.declared.line.Line.{Line}
@@ -12,13 +12,12 @@ use Rattle.server_rules.specs.History.{Input, step}
 use Rattle.server_rules.specs.Laws.{In, FilesArePut}
 use Rattle.server_rules.specs.Messages.{awaited_by}
 use Rattle.server_rules.proofs.FileLaws.{number_at}
-use Rattle.server_rules.proofs.Members.{in_either, in_map, in_filter}
-use Rattle.world_history.specs.ServerNames.{Server, File, Awaited, Outgoing}
+use Rattle.server_rules.proofs.Members.{in_map, in_filter}
+use Rattle.world_history.specs.ServerNames.{Server, File, Awaited}
 use Rattle.world_history.specs.State.{World}
 use Rattle.world_history.specs.Handed.{Post, is_addressed, server_post}
 use Rattle.world_history.specs.Moves.{acts}
 use Rattle.world_history.specs.Sending.{Move, move}
-use Rattle.world_history.specs.Plans.{due}
 use Rattle.world_history.specs.Reading.{is_head}
 use Rattle.world_history.specs.Book.{placed_in, step_by, server_behind, server_after, awaited_in}
 use Rattle.world_history.specs.History.{OneEventMore}
@@ -27,16 +26,16 @@ use Rattle.move_law.proofs.Files.{in_at}
 use Rattle.move_law.proofs.Moments.{always}
 use Rattle.job_law.specs.Numbered.{NumbersOn}
 use Rattle.job_law.proofs.Steps.{step_numbers}
-use Rattle.history_law.specs.BookMoments.{IsMoment, plan_at, lines_in}
+use Rattle.history_law.specs.BookMoments.{IsMoment, lines_in}
 use Rattle.history_law.specs.Doing.{input_in, ServerMoves}
 use Rattle.history_law.specs.Grants.{GrantsAreSafe}
-use Rattle.history_law.specs.Read.{AreWritten, BookIsRead, StepIsRead}
+use Rattle.history_law.specs.Read.{BookIsRead, StepIsRead}
 use Rattle.history_law.proofs.Staying.{written_front}
 use Rattle.fencing_law.proofs.Numbers.{Numbers, numbers_move, numbers_first}
 use Rattle.fencing_law.proofs.Ending.{next_moment}
 use Rattle.calm_law.specs.Sound.{IsSound}
 use Rattle.calm_law.specs.Seeing.{SeenIsSound}
-use Rattle.cause_law.specs.Awaiting.{IsSentIn, IsSent, Begins, Before, Sends, AwaitedGo, EachAwaitedHasItsCauses}
+use Rattle.cause_law.specs.Awaiting.{IsSent, Begins, Before, Sends, AwaitedGo, EachAwaitedHasItsCauses}
 use Rattle.cause_law.specs.AwaitedEnds.{Ends, AwaitedEnd, EachAwaitedHasItsEnd}
 use Rattle.cause_law.proofs.Answering.{safe_at}
 use Rattle.cause_law.proofs.Reading.{AllHeads, all_heads}
@@ -44,7 +43,7 @@ use Rattle.cause_law.proofs.Inputs.{IsMoved, IsShown, at_inputs}
 use Rattle.cause_law.proofs.Grants.{sound_at}
 use Rattle.cause_law.proofs.Changing.{at_place}
 use Rattle.cause_law.proofs.Telling.{sent_there}
-use Rattle.cause_law.proofs.AwaitedSteps.{AreBelow, Parts, step_parts}
+use Rattle.cause_law.proofs.AwaitedSteps.{AreBelow, step_parts}
 use Rattle.cause_law.proofs.AwaitedAnswered.{AreParted, AreOne, answered_ends}
 use Rattle.cause_law.proofs.AwaitedEnds.{awaits_or_ends}
 

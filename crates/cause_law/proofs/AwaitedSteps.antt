@@ -1,5 +1,5 @@
 -- What the jobs of files await behind a step: what they awaited, and new commands; and no two files await one nonce.
-use Rattle.std.proofs.Common.{◌≡◌, ◌⊎◌, ◌≤◌, ◌<◌, ℕ, ◌+◌, Bool, true, List, [], ◌∷◌, map, Option, Some, None, refl, sym, ap, subst, ◌∙◌, arith, inl, inr}
+use Rattle.std.proofs.Common.{◌≡◌, ◌⊎◌, ◌≤◌, ◌<◌, ℕ, List, [], ◌∷◌, map, Option, None, refl, sym, ap, subst, ◌∙◌, arith, inl, inr}
 use Rattle.server_rules.specs.Files.{Step, put_file, add_file, at_file, begins}
 use Rattle.server_rules.specs.Going.{Going}
 use Rattle.server_rules.specs.History.{Input, step}
@@ -10,9 +10,9 @@ use Rattle.server_rules.specs.Messages.{awaited_by}
 use Rattle.server_rules.specs.Openings.{crashed_file, opens, opens_each}
 use Rattle.server_rules.specs.Orders.{offline, declare, declares_each}
 use Rattle.server_rules.specs.Replies.{hearing}
-use Rattle.server_rules.specs.Requests.{serves, on_request}
+use Rattle.server_rules.specs.Requests.{on_request}
 use Rattle.world_history.specs.ServerNames.{Server, File, Drive, Job, Awaited, Effects, ClientRequest}
-use Rattle.move_law.specs.Steps.{Answering, IsAnswering, answered_file, new_file, IsAsked, StepCases}
+use Rattle.move_law.specs.Steps.{answered_file, new_file, IsAsked, StepCases}
 use Rattle.move_law.proofs.Files.{in_at, in_put, in_add, crashed_each}
 use Rattle.move_law.proofs.Steps.{each_request, each_step}
 use Rattle.job_law.proofs.Lists.{numbered_from}
@@ -96,11 +96,17 @@ chain_came : (lo n : ℕ) (fs gs : List File) → lo ≤ n → Chain n fs gs →
 chain_came lo n [] [] le c g i = absurd i
 chain_came lo n [] (y ∷ gs) le c g i = absurd c
 chain_came lo n (f ∷ fs) [] le c g i = absurd c
-chain_came lo n (f ∷ fs) (y ∷ gs) le c g (inl same) =
-    (f, inl refl, subst (λ (x : File). Waits lo f x) (sym same) (c.1.number, λ a i. elim (c.1.waits a i) [
+chain_came lo n (f ∷ fs) (y ∷ gs) le c g (inl same) = (
+  f,
+  inl refl,
+  subst (λ (x : File). Waits lo f x) (sym same) (
+    c.1.number,
+    λ a i. elim (c.1.waits a i) [
       | inl old ↦ inl old
       | inr new ↦ inr (omega (arith, le, new.0))
-    ]))
+    ],
+  ),
+)
 chain_came lo n (f ∷ fs) (y ∷ gs) le c g (inr i) =
     let r = chain_came lo c.0 fs gs (omega (arith, le, c.1.rises)) c.2 g i in (r.0, inr r.1, r.2)
 
@@ -188,10 +194,17 @@ module _ (s : Server) (chosen : List ℕ) (i : Input) (below : AreBelow s.next_n
       → Parts s.next_nonce s.files (put_file s.files n h.file)
   put_at n f h there goes =
       let l = link (at_file s chosen f) h goes in
-      put_in s.files n h.file own (inl (f, there, (l.number, λ a k. elim (l.waits a k) [
-        | inl old ↦ inl old
-        | inr new ↦ inr new.0
-      ])))
+      put_in s.files n h.file own (inl (
+        f,
+        there,
+        (
+          l.number,
+          λ a k. elim (l.waits a k) [
+            | inl old ↦ inl old
+            | inr new ↦ inr new.0
+          ],
+        ),
+      ))
 
   all_of : (gs : List File) → Chain s.next_nonce s.files gs → Parts s.next_nonce s.files gs
   all_of gs c = record {

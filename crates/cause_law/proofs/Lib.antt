@@ -17,6 +17,7 @@ pub mod AwaitedSteps
 pub mod AwaitedAnswered
 pub mod AwaitedEnds
 pub mod AwaitedLines
+pub mod AwaitedSent
 pub mod Dealing
 pub mod Turning
 pub mod Saying

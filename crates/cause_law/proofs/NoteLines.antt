@@ -5,7 +5,7 @@ use Rattle.std.proofs.lemmas.Bool.{cases_Bool, false≢true}
 use Rattle.std.proofs.lemmas.List.{append-nil}
 use Rattle.std.proofs.lemmas.List.Elements.{filter-append}
 use Rattle.osd_lists.specs.declared.node.Node.TheVariants as node
-use Rattle.server_rules.specs.Files.{Step, file_at}
+use Rattle.server_rules.specs.Files.{Step}
 use Rattle.server_rules.specs.Messages.{Message}
 use Rattle.server_rules.specs.History.{Input, Hears, Makes, Obeys, Adds, Zones, Formats, Resends, Crashes, Opens as OpensAgain, step}
 use Rattle.scenario_text.specs.declared.event.Event.TheVariants as event
@@ -13,11 +13,10 @@ use Rattle.scenario_text.specs.declared.event.Machine.TheVariants as machine
 use Rattle.scenario_text.specs.declared.event.Sender.TheVariants as sender
 use Rattle.scenario_text.specs.declared.line.Delivery.TheVariants as delivery
 use Rattle.scenario_text.specs.declared.line.Note.{Note}
-use Rattle.scenario_text.specs.declared.line.Note.TheVariants as note
 use Rattle.scenario_text.specs.declared.line.Outcome.{Outcome as ToldOutcome}
 use Rattle.scenario_text.specs.declared.line.Line.{Line}
 use Rattle.scenario_text.specs.declared.line.Line.TheVariants as line
-use Rattle.world_history.specs.ServerNames.{Server, File, Component, RawMap}
+use Rattle.world_history.specs.ServerNames.{Server, File, RawMap}
 use Rattle.world_history.specs.ClientNames.{CallOp, Outcome}
 use Rattle.world_history.specs.State.{World}
 use Rattle.world_history.specs.Told.{kind_of, told_refusal}
@@ -27,18 +26,14 @@ use Rattle.osd_commands.specs.Commands.{reading}
 use Rattle.world_history.specs.Drives.{judges, command_in}
 use Rattle.world_history.specs.Handed.{Post, end_line, ended_by, op_in, for_server}
 use Rattle.world_history.specs.Moves.{Act, Action, Opens, Delivers, TimesOut, Pends, has_algorithm, raw_of, acts}
-use Rattle.world_history.specs.Sending.{Move, move, sent_lines}
+use Rattle.world_history.specs.Sending.{Move, move, sent_line, sent_lines}
 use Rattle.world_history.specs.Reading.{is_head}
-use Rattle.world_history.specs.Book.{made_of, placed_in, step_by, server_seen, server_after}
-use Rattle.world_history.specs.History.{OneEventMore}
-use Rattle.world_history.specs.Laws.{ServerGoesOn}
+use Rattle.world_history.specs.Book.{made_of, step_by}
 use Rattle.move_law.specs.Moves.{number_in, given_in, IsForServer, front_of, IsFileRefusal, IsQuiet, AreQuiet}
 use Rattle.move_law.specs.Said.{IsDelivered}
 use Rattle.move_law.proofs.Moves.{each_act}
 use Rattle.history_law.specs.BookMoments.{with_event, lines_in}
 use Rattle.history_law.specs.Doing.{brought, input_in, did_in, ServerMoves}
-use Rattle.history_law.specs.Read.{is_written_line, AreWritten, BookIsRead, StepIsRead}
-use Rattle.history_law.proofs.Staying.{written_front}
 use Rattle.cause_law.proofs.Reading.{AllHeads, all_heads}
 use Rattle.cause_law.proofs.Inputs.{IsMoved}
 
@@ -137,7 +132,7 @@ module _ (tells : Line → Bool) (k : IsOfNotes tells) where
 
   front_none : (action : Action) (d : _) → NoneTells (front_of action d)
   front_none (Opens (event.Deliver n)) d = other (line.Delivered n d) [] refl
-  front_none (Opens (event.Timeout c x)) d = refl
+  front_none (Opens (event.Timeout c x)) d = other (line.TimedOut c x) [] refl
   front_none (Delivers n) d = other (line.Delivered n d) [] refl
   front_none (TimesOut c x) d = other (line.TimedOut c x) [] refl
   front_none action d = refl
@@ -148,7 +143,7 @@ module _ (tells : Line → Bool) (k : IsOfNotes tells) where
   sent_none : (n : ℕ) (ps : List Post) → NoneTells (sent_lines n ps)
   unfolding sent_lines
   sent_none n [] = refl
-  sent_none n (p ∷ ps) = other _ (sent_lines (n + 1) ps) refl ∙ sent_none (n + 1) ps
+  sent_none n (p ∷ ps) = other (sent_line n p.message) (sent_lines (n + 1) ps) refl ∙ sent_none (n + 1) ps
 
   event_none : (a : Action) (ls : List Line) → Telling (with_event a ls) ≡ Telling ls
   event_none (Opens e) ls = other (line.Event e) ls refl

@@ -36,7 +36,7 @@ use Rattle.cause_law.proofs.TagSteps.{Near, stays_near}
 
 -- ---- lines that tell that a fence is over
 
-tells_fence : Line → Bool
+abbrev tells_fence : Line → Bool
 tells_fence (line.Note f (note.Fenced tag)) = true
 tells_fence l = false
 

@@ -1,18 +1,17 @@
 -- In a step the tag of a file stays, or becomes the next one.
-use Rattle.std.proofs.Common.{◌≡◌, ◌⊎◌, ◌==◌, ℕ, ◌+◌, Bool, List, [], ◌∷◌, Option, Some, None, refl, sym, ap, subst, ◌∙◌, arith, inl, inr}
-use Rattle.std.proofs.lemmas.Bool.{cases_Bool, eq-eqb, ne_eqb}
+use Rattle.std.proofs.Common.{◌≡◌, ◌⊎◌, ℕ, ◌+◌, true, List, [], Option, Some, None, refl, sym, ap, subst, ◌∙◌, inl, inr}
 use Rattle.server_rules.specs.Files.{Step, file_at, put_file, add_file, at_file, begins}
 use Rattle.server_rules.specs.Going.{Going}
 use Rattle.server_rules.specs.History.{Input, step}
 use Rattle.server_rules.specs.Jobs.{making}
 use Rattle.server_rules.specs.Laws.{In}
-use Rattle.server_rules.specs.Making.{refusal, with_file}
+use Rattle.server_rules.specs.Making.{with_file}
 use Rattle.server_rules.specs.Messages.{awaited_by}
 use Rattle.server_rules.specs.Orders.{offline, declare}
 use Rattle.server_rules.specs.Replies.{hearing}
 use Rattle.server_rules.specs.Requests.{serves, on_request}
 use Rattle.server_rules.proofs.FileLaws.{number_at, not_there}
-use Rattle.world_history.specs.ServerNames.{Server, File, Job, Awaited, ClientRequest, RawMap}
+use Rattle.world_history.specs.ServerNames.{Server, File, Job, ClientRequest}
 use Rattle.move_law.specs.Steps.{Answering, IsAnswering, answered_file, new_file, IsAsked, StepCases}
 use Rattle.move_law.proofs.Files as Files
 use Rattle.move_law.proofs.Files.{in_at, put_each, add_each, declared_each, opened_each, crashed_each}

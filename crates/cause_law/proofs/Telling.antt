@@ -1,5 +1,5 @@
 -- Each message of the server to a client tells a recall, or an answer to the request that comes.
-use Rattle.std.proofs.Common.{◌≡◌, ◌⊎◌, ◌==◌, ℕ, ◌+◌, Bool, true, false, List, [], ◌∷◌, ◌++◌, length, map, Some, refl, sym, ap, subst, ◌∙◌, arith, inl, inr, if◌then◌else◌}
+use Rattle.std.proofs.Common.{◌≡◌, ◌⊎◌, ℕ, ◌+◌, true, List, [], ◌∷◌, ◌++◌, length, map, Some, refl, sym, ap, subst, ◌∙◌, arith, inl, inr}
 use Rattle.std.proofs.lemmas.Bool.{eq-eqb}
 use Rattle.std.proofs.lemmas.Bool.Decides.{nat_tests}
 use Rattle.osd_lists.specs.declared.node.Node.TheVariants as node
@@ -11,11 +11,10 @@ use Rattle.server_rules.specs.Laws.{In, ConflictsAreExact, FilesArePut, AreSafe,
 use Rattle.server_rules.specs.Messages.{counters_have_room}
 use Rattle.server_rules.specs.Requests.{serves, answer_with, answer_without, size_in, carried_out, only_answers, on_request}
 use Rattle.server_rules.specs.Served.{Served, tells}
-use Rattle.server_rules.specs.Slots.{Admit, New, Again, Misordered, slot_of, keep, admit}
+use Rattle.server_rules.specs.Slots.{Admit, New, Again, Misordered, slot_of, admit}
 use Rattle.server_rules.proofs.Members.{in_front, in_behind, in_either, in_mapped, in_map, in_filtered, in_filter}
 use Rattle.scenario_text.specs.declared.line.Line.{Line}
 use Rattle.scenario_text.specs.declared.line.Line.TheVariants as line
-use Rattle.scenario_text.specs.declared.line.Party.{Party}
 use Rattle.scenario_text.specs.declared.line.Party.TheVariants as party
 use Rattle.world_history.specs.ServerNames.{Server, Slot, Answer, ClientRequest, Outgoing, ToDrive, Recalls, Answers, AnswersOrder}
 use Rattle.world_history.specs.State.{World}
@@ -42,7 +41,6 @@ use Rattle.move_law.proofs.Steps.{each_request}
 use Rattle.history_law.specs.Grants.{GrantsAreSafe}
 use Rattle.history_law.specs.Read.{AreWritten, BookIsRead}
 use Rattle.history_law.proofs.DriveLines.{sent_read}
-use Rattle.history_law.proofs.Issuing.{IsSilent, AreSilent}
 use Rattle.history_law.proofs.IssuingMoves.{acts_known}
 use Rattle.history_law.proofs.IssueLines.{IsKnown, all_known}
 use Rattle.history_law.proofs.Staying.{written_front}
@@ -230,7 +228,8 @@ module _ (exact : ConflictsAreExact) (put : FilesArePut) (s : Server) (now : ℕ
       let comes : Comes s now chosen q New did =
       subst (λ (x : Admit). Comes s now chosen q x did) new (request_comes s now chosen q) in
       let last : In (Answers it.answer) did.sends =
-      subst (In (Answers it.answer)) (sym it.sends_are) (in_behind (Answers it.answer) it.front (Answers it.answer ∷ []) (inl refl))
+      subst (In (Answers it.answer)) (sym it.sends_are)
+      (in_behind (Answers it.answer) it.front (Answers it.answer ∷ []) (inl refl))
       in
       let same : it.answer ≡ a = only_in (λ b. b ≡ answer_to s now chosen q) did.sends it.answer comes.sends last
       ∙ sym (made did comes.sends i) in (

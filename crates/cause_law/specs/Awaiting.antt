@@ -1,6 +1,7 @@
 -- What the job of a file awaits: each command was sent, and isn't answered yet.
-use Rattle.std.specs.Prelude.{◌≡◌, ◌≤◌, ◌<◌, ℕ, List, ◌∷◌, ◌++◌, Option, Some}
+use Rattle.std.specs.Prelude.{◌≡◌, ◌≤◌, ◌<◌, ℕ, true, List, ◌∷◌, ◌++◌, Option, Some}
 use Rattle.osd_lists.specs.declared.node.Node.TheVariants.{Drive as FromDrive}
+use Rattle.osd_commands.specs.declared.commands.Command.{Command}
 use Rattle.osd_commands.specs.Commands.{spelling}
 use Rattle.scenario_text.specs.declared.names.TheConstants.{DRIVES}
 use Rattle.scenario_text.specs.declared.line.Line.{Line}
@@ -15,6 +16,7 @@ use Rattle.world_history.specs.ServerNames.{Server, File, Awaited, Reply}
 use Rattle.world_history.specs.Book.{server_after, book_of, awaited_in}
 use Rattle.world_history.specs.State.{World}
 use Rattle.world_history.specs.History.{StandsFor}
+use Rattle.history_law.specs.BookMoments.{IsMoment}
 use Rattle.history_law.specs.Read.{AreWritten}
 use Rattle.cause_law.specs.Steps.{AtInputs}
 
@@ -59,3 +61,23 @@ AwaitedHaveCauses h = AtInputs AwaitedGo h
 -- in each whole history whose events a text may have
 abbrev pub EachAwaitedHasItsCauses : Type 0
 EachAwaitedHasItsCauses = (w : World) (h : List Line) → StandsFor w h → AreWritten h → AwaitedHaveCauses h
+
+-- ---- at a moment
+
+-- one of these lines sent it to its drive, under some check value
+pub record WasSent (lines : List Line) (a : Awaited) : Type 0 where
+  pub number : ℕ
+  pub command : Command
+  pub is : command ≡ record a.command { check = command.check }
+  pub there : In (line.Message number party.Server (party.Drive a.drive) (spelling command)) lines
+
+-- so was each command that the job of a file awaits behind these lines, as far as a line can name its drive
+abbrev pub WereSent : List Line → Type 0
+WereSent h = (file : ℕ) (a : Awaited) → In a (awaited_in (book_of h file)) → a.drive < DRIVES → WasSent h a
+
+-- where these are a moment of a history whose events a text may have
+abbrev pub WereSentAt : List Line → Type 0
+WereSentAt h = (w : World) → IsMoment w h → AreWritten h → WereSent h
+
+abbrev pub EachAwaitedWasSent : Type 0
+EachAwaitedWasSent = (h : List Line) → WereSentAt h

@@ -1,6 +1,6 @@
 // Why each answer comes and what changes, for the crates above.
 ghost use Rattle.cause_law.specs.Answers.{EachRequestIsAnswered};
-ghost use Rattle.cause_law.specs.Awaiting.{EachAwaitedHasItsCauses};
+ghost use Rattle.cause_law.specs.Awaiting.{EachAwaitedHasItsCauses, EachAwaitedWasSent};
 ghost use Rattle.cause_law.specs.AwaitedEnds.{EachAwaitedHasItsEnd};
 ghost use Rattle.cause_law.specs.Changes.{EachGrantHasItsCauses};
 ghost use Rattle.cause_law.specs.Components.{EachComponentHasItsCauses};
@@ -124,4 +124,14 @@ pub fn awaited_have_ends()
     server_moves();
     one_event_more();
     reading_goes_on();
+}
+
+/// So at each moment of such a history each command that a job awaits was sent to its drive in the lines before, as far as a
+/// line can name the drive.
+pub fn awaited_were_sent()
+    ensures { EachAwaitedWasSent }
+{
+    book_is_read();
+    server_moves();
+    one_event_more();
 }

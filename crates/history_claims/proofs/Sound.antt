@@ -25,7 +25,7 @@ use Rattle.exchange_law.specs.Lanes.{LanesAreOwn}
 use Rattle.exchange_law.specs.FairLanes.{LanesAreFair}
 use Rattle.ending_law.specs.Calls.{CallsEndSo}
 use Rattle.cause_law.specs.Answers.{EachRequestIsAnswered}
-use Rattle.cause_law.specs.Awaiting.{EachAwaitedHasItsCauses}
+use Rattle.cause_law.specs.Awaiting.{EachAwaitedHasItsCauses, EachAwaitedWasSent}
 use Rattle.cause_law.specs.AwaitedEnds.{EachAwaitedHasItsEnd}
 use Rattle.cause_law.specs.Changes.{EachGrantHasItsCauses}
 use Rattle.cause_law.specs.Components.{EachComponentHasItsCauses}
@@ -46,12 +46,12 @@ pub histories_are_sound : HistoriesAreSafe → VerdictsAreAnswered → CommandsA
     → CommandsAreIssuedExactly → UnforgedAreIssuedExactly → LanesAreFair → LanesAreOwn → RefusalsWereJudged
     → RefusalsWereAwaited → CountersStayLow → CallsEndSo → EndsAreCaused → AnswersAreOfReplies
     → EachTagIsItsFiles → EachRequestIsAnswered → EachMessageIsCaused → EachGrantHasItsCauses
-    → EachComponentHasItsCauses → EachTagHasItsCause → EachAwaitedHasItsCauses → EachAwaitedHasItsEnd → EachEndIsSaid
-    → EachCallIsLeftSo → WithinTheLimitAreFew
+    → EachComponentHasItsCauses → EachTagHasItsCause → EachAwaitedHasItsCauses → EachAwaitedHasItsEnd
+    → EachAwaitedWasSent → EachEndIsSaid → EachCallIsLeftSo → WithinTheLimitAreFew
     → HistoriesAreSound
 histories_are_sound safe answered issued listed fair ranges fronts apart spread created own fenced live given older barred exact
-    allowed lanes lanes_own judged awaited low ends outcomes read tags caused told changed gone raised waits until said left few =
-    record {
+    allowed lanes lanes_own judged awaited low ends outcomes read tags caused told changed gone raised waits until sent said left
+    few = record {
       sound = λ h l. record {
         safe = safe h l;
         answered = λ w s. answered w h s;
@@ -84,6 +84,7 @@ histories_are_sound safe answered issued listed fair ranges fronts apart spread 
         raised = λ w s a. raised w h s a;
         waits = λ w s a. waits w h s a;
         until = λ w s a. until w h s a;
+        sent = λ before after is. sent before;
         caused = outcomes h l;
         read = read h l;
         said = λ w g k m rest d is. said w g k m d;

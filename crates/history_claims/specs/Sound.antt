@@ -28,7 +28,7 @@ use Rattle.exchange_law.specs.Text.{AreOfText, AreFew, WithinTheLimitAreFew}
 use Rattle.exchange_law.specs.Exact.{IssuedExactlyAt, InjectedExactlyAt}
 use Rattle.ending_law.specs.Calls.{EndsAt}
 use Rattle.cause_law.specs.Answers.{RequestsAreAnswered}
-use Rattle.cause_law.specs.Awaiting.{AwaitedHaveCauses}
+use Rattle.cause_law.specs.Awaiting.{AwaitedHaveCauses, WereSentAt}
 use Rattle.cause_law.specs.AwaitedEnds.{AwaitedHaveEnds}
 use Rattle.cause_law.specs.Changes.{GrantsHaveCauses}
 use Rattle.cause_law.specs.Components.{ComponentsHaveCauses}
@@ -128,6 +128,8 @@ pub record IsSound (h : List Line) : Type 0 where
   -- and what it awaits no more was answered, or a WRITE of the job found no space, or a drive was taken out, or the server
   -- crashed or was opened
   pub until : (w : World) → StandsFor w h → AreWritten h → AwaitedHaveEnds h
+  -- so at each moment each command that a job awaits was sent to its drive, as far as a line can name the drive
+  pub sent : AtEachMoment WereSentAt h
   -- a call ends as what it met says, read off the lines before: the answers and replies that its client took in it, and the
   -- timeouts of what it awaited
   pub caused : AtEachLine CausedAt h
