@@ -1,126 +1,40 @@
 -- What a job awaits it awaits behind a step too, unless one of a few causes ends that.
-use Rattle.std.proofs.Common.{◌≡◌, ◌⊎◌, ◌==◌, ◌&&◌, ℕ, Bool, true, false, not, nat_le, nat_lt, find, is_some, map, List, [], ◌∷◌, Option, Some, None, refl, sym, ap, subst, ◌∙◌, arith, inl, inr, if◌then◌else◌}
-use Rattle.std.proofs.lemmas.Bool.{cases_Bool, cases_eq, eq-eqb, ne_eqb}
+use Rattle.std.proofs.Common.{◌≡◌, ◌⊎◌, ◌==◌, ◌&&◌, ◌||◌, ℕ, Bool, true, false, not, nat_le, find, is_some, map, List, [], ◌∷◌, Option, Some, None, refl, sym, ap, subst, ◌∙◌, arith, inl, inr, if◌then◌else◌}
+use Rattle.std.proofs.lemmas.Bool.{cases_Bool, cases_eq, ne_eqb}
 use Rattle.std.proofs.lemmas.Bool.Decides.{nat_tests}
 use Rattle.osd_lists.specs.declared.node.Node.{Node}
 use Rattle.osd_lists.specs.declared.node.Node.TheVariants.{Server as FromServer, Drive as FromDrive, Client as FromClient}
 use Rattle.server_rules.specs.declared.limits.TheConstants.{MAX_CLIENT, GREATEST_TAG}
 use Rattle.server_rules.specs.Commands.{again_in_2}
-use Rattle.server_rules.specs.Commit.{Committed, NoGrant, Wrong, Sizes, by_commit, commit_row, commits}
-use Rattle.server_rules.specs.Files.{Step, file_at, put_file, add_file, at_file}
-use Rattle.server_rules.specs.Get.{Early, BadMode, Invalid, Unable, Waits, On, by_job, early, by_early, gets}
-use Rattle.server_rules.specs.Going.{Going}
+use Rattle.server_rules.specs.Files.{Step, file_at, put_file, add_file, at_file, begins}
+use Rattle.server_rules.specs.Going.{Going, with_components}
 use Rattle.server_rules.specs.History.{Input, Hears, Makes, Obeys, Adds, Zones, Formats, Resends, Crashes, Opens as OpensAgain, unless_made, step}
-use Rattle.server_rules.specs.Jobs.{fence_begins, making, waits_or_on}
+use Rattle.server_rules.specs.Jobs.{fence_begins, making, loses, others_than, is_target, targets, declares, declared_in as lost_in}
 use Rattle.server_rules.specs.Laws.{In, NoneBeside, AreSafe}
 use Rattle.server_rules.specs.Making.{refusal, unless_refused, makes_file, with_file, unmade, drives_for, create_file}
 use Rattle.server_rules.specs.Messages.{Message, Asks, Replies, Orders, awaited_by, counters_have_room, or_else, heard_at, by_heard, on_drive_reply, handled, on_message}
-use Rattle.server_rules.specs.Orders.{begins_job, starts, recalls_on, declares_known, ordered}
+use Rattle.server_rules.specs.Orders.{begins_job, starts, recalls_on, declares_known, ordered, offline, declare, declares_each}
 use Rattle.server_rules.specs.Replies.{Hearing, Older, Full, Done, Nothing, answers, others, renewed, heard_with, hearing, hears, heard_by, heard_in, on_reply}
 use Rattle.server_rules.specs.Requests.{serves, on_request}
-use Rattle.server_rules.specs.Return.{return_row, returns_on}
+use Rattle.server_rules.specs.Standing.{any_on, lose_on}
 use Rattle.server_rules.proofs.FileLaws.{number_at, not_there}
 use Rattle.server_rules.proofs.Members.{in_map, in_filter}
-use Rattle.world_history.specs.ServerNames.{Server, File, Drive, Job, JobKind, Revoking, Rebuilding, Auditing, Awaited, Work, Heard, Reply, Grant, IoErr, OrderKind, ToRecall, ToRevoke, ToDeclare, ToRebuild, ToAudit, ClientRequest, RequestArgs, Get, Commit, Return, RawMap, Refusal}
+use Rattle.world_history.specs.ServerNames.{Server, File, Drive, Job, JobKind, Revoking, Rebuilding, Auditing, Awaited, Reply, OrderKind, ToRecall, ToRevoke, ToDeclare, ToRebuild, ToAudit, ClientRequest, RequestArgs, RawMap, Refusal, Effects}
 use Rattle.world_history.specs.Book.{awaited_in}
 use Rattle.move_law.proofs.Files.{in_at, safe_in}
 use Rattle.move_law.proofs.Steps.{each_request}
 use Rattle.job_law.proofs.Files.{found_file, put_there}
 use Rattle.job_law.proofs.Fences.{handled_fence}
 use Rattle.job_law.proofs.Hearing.{found_in, goes_hears}
-use Rattle.job_law.proofs.Asking.{handled_served}
+use Rattle.job_law.proofs.Asking.{handled_served, handled_declares}
 use Rattle.calm_law.specs.Going.{declared_by, declared_in, if_known, taken_out}
 use Rattle.calm_law.specs.Performing.{AreDistinct}
 use Rattle.cause_law.specs.Awaiting.{Answers}
-use Rattle.cause_law.specs.AwaitedEnds.{Ends, Answered, Filled, Declared, Stopped}
+use Rattle.cause_law.specs.AwaitedEnds.{Ends, Answered, Filled, Declared, Stopped, waits_for_all, begins_again, Without}
 use Rattle.cause_law.proofs.Changing.{at_place}
 use Rattle.cause_law.proofs.TagSteps.{R}
+use Rattle.cause_law.proofs.AwaitedRests.{others_there, added_there, none_has, serves_leaves, rest_waits, lost_waits, full_waits}
 use Rattle.cause_law.proofs.AwaitedAnswered.{AreOne, AreAlone, its_nonce}
-
--- ---- the list of files
-
-others_there : (fs : List File) (n : ℕ) (h f : File) → In f fs → (f.kept.number ≡ n → ⊥) → In f (put_file fs n h)
-unfolding put_file
-others_there [] n h f i o = absurd i
-others_there (x ∷ fs) n h f (inl same) o =
-    rw (ne_eqb x.kept.number n (λ e. o (ap (λ (y : File). y.kept.number) same ∙ e))) (inl same)
-others_there (x ∷ fs) n h f (inr i) o = either (x.kept.number == n) (others_there fs n h f i o)
-  where
-    either : (b : Bool) → In f (put_file fs n h) → In f (if b then h ∷ fs else x ∷ put_file fs n h)
-    either true j = inr i
-    either false j = inr j
-
-added_there : (fs : List File) (g f : File) → In f fs → In f (add_file fs g)
-unfolding add_file
-added_there [] g f i = absurd i
-added_there (x ∷ fs) g f i = either (nat_lt x.kept.number g.kept.number) i (λ j. added_there fs g f j)
-  where
-    either : (b : Bool) → In f (x ∷ fs) → (In f fs → In f (add_file fs g))
-        → In f (if b then x ∷ add_file fs g else g ∷ x ∷ fs)
-    either true (inl e) rest = inl e
-    either true (inr j) rest = inr (rest j)
-    either false j rest = inr j
-
-none_has : (fs : List File) (n : ℕ) (g : File) → In g fs → g.kept.number ≡ n → file_at fs n ≡ None → ⊥
-unfolding file_at
-none_has [] n g j e z = j
-none_has (x ∷ fs) n g j e z = elim (cases_eq x.kept.number n) [
-  | inl same ↦ cc (rw (eq-eqb x.kept.number n same) at z)
-  | inr o ↦ elim j [
-    | inl here ↦ o (ap (λ (y : File). y.kept.number) (sym here) ∙ e)
-    | inr k ↦ none_has fs n g k e (rw (ne_eqb x.kept.number n o) at z)
-  ]
-]
-
--- ---- a request leaves a job as it is
-
-pick : (b : Bool) (x y : Early) → (if b then x else y) ≡ On → (x ≡ On → ⊥) → y ≡ On
-pick true x y e other = absurd (other e)
-pick false x y e other = e
-
-on_free : (f : File) (iomode offset count : ℕ) → early f iomode offset count ≡ On → f.job ≡ None
-unfolding early
-on_free f iomode offset count e =
-    free f.job (pick _ Unable _ (pick _ Invalid _ (pick _ BadMode _ e (λ q. cc q)) (λ q. cc q)) (λ q. cc q))
-  where
-    free : (o : Option Job) → by_job o ≡ On → o ≡ None
-    free None q = refl
-    free (Some j) q = absurd (cc q)
-
-early_leaves : (go : Going) (next format now : ℕ) (g : Grant) (e : Early) → (e ≡ On → ⊥)
-    → (by_early go next format now g e).going.file.job ≡ go.file.job
-early_leaves go next format now g BadMode other = refl
-early_leaves go next format now g Invalid other = refl
-early_leaves go next format now g Unable other = refl
-early_leaves go next format now g (Waits k) other = refl
-early_leaves go next format now g On other = absurd (other refl)
-
-commit_leaves : (go : Going) (c : Committed) → (by_commit go c).going.file.job ≡ go.file.job
-commit_leaves go NoGrant = refl
-commit_leaves go Wrong = refl
-commit_leaves go (Sizes size) = refl
-
-return_leaves : (go : Going) (format client : ℕ) (report : List IoErr) → go.file.kept.grants ≡ []
-    → (returns_on go format client report).going.file.job ≡ go.file.job
-unfolding returns_on return_row
-return_leaves go format client report none = rw none refl
-
-serves_leaves : (go : Going) (next format now client : ℕ) (args : RequestArgs) (j : Job) → go.file.job ≡ Some j
-    → go.file.kept.grants ≡ [] → (serves go next format now client args).going.file.job ≡ go.file.job
-unfolding gets commits
-serves_leaves go next format now client (Get iomode offset count) j runs none =
-    early_leaves go next format now _ (early go.file iomode offset count)
-    (λ e. cc (sym (on_free go.file iomode offset count e) ∙ runs))
-serves_leaves go next format now client (Commit last) j runs none =
-    commit_leaves go (commit_row go.file.kept client last)
-serves_leaves go next format now client (Return report) j runs none = return_leaves go format client report none
-
--- ---- a job waits on for the rest
-
-rest_waits : (g : Going) (j : Job) (work : Work) (rest : List Awaited) (heard : List Heard) (a : Awaited) → In a rest
-    → In a (awaited_by (waits_or_on g j work rest heard).file.job)
-rest_waits g j work [] heard a i = absurd i
-rest_waits g j work (c ∷ cs) heard a i = i
 
 -- ---- a reply
 
@@ -246,7 +160,7 @@ module _ (s : Server) (chosen : List ℕ) (i : Input) (safe : AreSafe s.files) (
     module _ (now d : ℕ) (r : Reply) (comes : i ≡ Hears now (FromDrive d) (Replies r)) (room : counters_have_room s ≡ true)
       where
         module _ (h : Going) (x : IsHeardBy s chosen d r s.files h) where
-          answers_it : (hearing x.file.kept x.awaited r ≡ Nothing → ⊥) → Answers s i x.file x.awaited
+          abbrev answers_it : (hearing x.file.kept x.awaited r ≡ Nothing → ⊥) → Answers s i x.file x.awaited
           answers_it counts = record {
             now = now;
             reply = r;
@@ -290,8 +204,19 @@ module _ (s : Server) (chosen : List ℕ) (i : Input) (safe : AreSafe s.files) (
                 (heard_with x.job x.awaited r) a
                 (in_filter _ a x.job.awaited k (ap not (ne_eqb a.command.nonce x.awaited.command.nonce o))))
           ]
-          by_hearing Full is a k =
-              inr (Filled x.awaited (in_file x.awaited x.among) (answers_it (λ q. cc (sym is ∙ q))) is)
+          by_hearing Full is a k = elim (cases_eq a.command.nonce x.awaited.command.nonce) [
+            | inl e ↦ inr (its_end a k (λ q. cc (sym is ∙ q)) e)
+            | inr o ↦
+                of_kind (waits_for_all x.job.work) refl
+                (in_filter _ a x.job.awaited k (ap not (ne_eqb a.command.nonce x.awaited.command.nonce o)))
+          ]
+            where
+              of_kind : (b : Bool) → waits_for_all x.job.work ≡ b → In a (others x.job.awaited x.awaited.command.nonce)
+                  → In a (awaited_by (Heard_ Full).file.job) ⊎ Ends s i x.file a
+              of_kind true w l = inl (full_waits (at_file s chosen x.file) x.job x.awaited x.job.work a w l)
+              of_kind false w l =
+                  inr (Filled x.awaited (in_file x.awaited x.among) (answers_it (λ q. cc (sym is ∙ q))) is
+                  (ap begins_again x.runs ∙ ap not w))
 
           heard_q : Q (put_file s.files h.file.kept.number h.file)
           heard_q =
@@ -334,8 +259,57 @@ module _ (s : Server) (chosen : List ℕ) (i : Input) (safe : AreSafe s.files) (
     recalled None = stay
     recalled (Some f) = stay
 
+    module _ (d : ℕ) (out : taken_out s i ≡ Some d) where
+      declares_goes : (g : Going) (a : Awaited) → In a (awaited_by g.file.job)
+          → In a (awaited_by (declares g d).file.job) ⊎ Ends s i g.file a
+      unfolding declares
+      declares_goes g a k = by (any_on d g.file.kept.components || targets g.file.job d)
+        where
+          h : Going
+          h = with_components g (lose_on d g.file.kept.components)
+
+          of_kind : (j : Job) → g.file.job ≡ Some j → (a.drive ≡ d → ⊥) → (b : Bool) → waits_for_all j.work ≡ b
+              → In a (awaited_by (loses h j j.work (others_than d j.awaited) (is_target j.work d)).file.job)
+              ⊎ Ends s i g.file a
+          of_kind j e other true w =
+              inl (lost_waits h j j.work (others_than d j.awaited) (is_target j.work d) a w
+              (in_filter _ a j.awaited (subst (λ (o : Option Job). In a (awaited_by o)) e k) (ap not (ne_eqb a.drive d other))))
+          of_kind j e other false w = inr (Without d out (ap begins_again e ∙ ap not w))
+
+          of_job : (o : Option Job) → g.file.job ≡ o
+              → In a (awaited_by (lost_in h d o).file.job) ⊎ Ends s i g.file a
+          of_job None e = absurd (subst (λ (o : Option Job). In a (awaited_by o)) e k)
+          of_job (Some j) e = elim (cases_eq a.drive d) [
+            | inl same ↦ inr (Declared (out ∙ ap (λ (n : ℕ). Some n) (sym same)))
+            | inr other ↦ of_kind j e other (waits_for_all j.work) refl
+          ]
+
+          by : (b : Bool) → In a (awaited_by (if b then lost_in h d g.file.job else g).file.job) ⊎ Ends s i g.file a
+          by false = inl k
+          by true = of_job g.file.job refl
+
+      all_declared : (ds : List Drive) (fs : List File) (m : Effects) (placed : List ℕ) → (f : File) → In f fs
+          → (a : Awaited) → In a (awaited_by f.job) → Stays (declares_each d ds fs m placed).files f a
+      unfolding declares_each
+      all_declared ds [] m placed f j a k = absurd j
+      all_declared ds (x ∷ fs) m placed f (inl same) a k =
+          let g : Going = record { file = x; effects = m; drives = ds; chosen = placed } in
+          let number : (declares g d).file.kept.number ≡ x.kept.number = (handled_declares R g d).goes.number_is in
+          elim (declares_goes g a (subst (λ (y : File). In a (awaited_by y.job)) same k)) [
+            | inl l ↦
+                inl ((declares g d).file, inl refl, number ∙ sym (ap (λ (y : File). y.kept.number) same), l)
+            | inr w ↦ inr (subst (λ (y : File). Ends s i y a) (sym same) w)
+          ]
+      all_declared ds (x ∷ fs) m placed f (inr j) a k =
+          let g : Going = record { file = x; effects = m; drives = ds; chosen = placed } in
+          elim (all_declared ds fs (declares g d).effects (declares g d).chosen f j a k) [
+            | inl (y, there, number, l) ↦ inl (y, inr there, number, l)
+            | inr w ↦ inr w
+          ]
+
     declared : (n : ℕ) (b : Bool) → (b ≡ true → taken_out s i ≡ Some n) → Q (declares_known s chosen n b).step.state.files
-    declared n true out = λ f j a k. inr (Declared n (out refl))
+    unfolding declare
+    declared n true out = all_declared n (out refl) (offline s.drives n) s.files (begins s) chosen
     declared n false out = stay
 
     obeyed : (kind : OrderKind) (n : ℕ) → taken_out s i ≡ if_known s (declared_by kind n)

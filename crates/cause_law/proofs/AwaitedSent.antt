@@ -1,5 +1,5 @@
 -- At each moment what a job awaits was sent in the lines before.
-use Rattle.std.proofs.Common.{◌≡◌, ◌<◌, ℕ, map, List, [], ◌++◌, Option, Some, None, refl, sym, ap, subst, ◌∙◌, inl, inr}
+use Rattle.std.proofs.Common.{◌≡◌, ◌<◌, map, List, ◌++◌, Option, Some, None, refl, sym, ap, subst, inl, inr}
 use Rattle.std.proofs.lemmas.Bool.{lt-ltb}
 use Rattle.scenario_text.specs.declared.names.TheConstants.{DRIVES}
 use Rattle.scenario_text.specs.declared.line.Line.{Line}
@@ -24,7 +24,7 @@ use Rattle.job_law.specs.Numbered.{Awaits}
 use Rattle.job_law.proofs.Steps.{step_numbers}
 use Rattle.history_law.specs.BookMoments.{IsMoment, lines_in}
 use Rattle.history_law.specs.Doing.{input_in, did_in, ServerMoves}
-use Rattle.history_law.specs.Read.{AreWritten, BookIsRead}
+use Rattle.history_law.specs.Read.{BookIsRead}
 use Rattle.cause_law.specs.Awaiting.{WasSent, EachAwaitedWasSent}
 use Rattle.cause_law.proofs.Telling.{sent_there}
 

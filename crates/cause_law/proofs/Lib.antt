@@ -15,6 +15,7 @@ pub mod TagSteps
 pub mod TagNotes
 pub mod AwaitedSteps
 pub mod AwaitedAnswered
+pub mod AwaitedRests
 pub mod AwaitedEnds
 pub mod AwaitedLines
 pub mod AwaitedSent

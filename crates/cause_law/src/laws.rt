@@ -112,8 +112,8 @@ pub fn awaited_have_causes()
     reading_goes_on();
 }
 
-/// What it awaits no more behind the step was answered by what comes, or a WRITE of the same job found no space, or a drive
-/// is taken out, or the server crashes or is opened.
+/// What it awaits no more behind the step was answered by what comes, or its drive is taken out, or the server crashes or
+/// is opened; or another component is lost, and the job begins a piece that it reads again, or gives a target up.
 pub fn awaited_have_ends()
     ensures { EachAwaitedHasItsEnd }
 {

@@ -125,8 +125,8 @@ pub record IsSound (h : List Line) : Type 0 where
   pub raised : (w : World) → StandsFor w h → AreWritten h → TagsHaveCauses h
   -- what the job of a file awaits behind a step it awaited before, and what comes doesn't answer it, or the step sends it
   pub waits : (w : World) → StandsFor w h → AreWritten h → AwaitedHaveCauses h
-  -- and what it awaits no more was answered, or a WRITE of the job found no space, or a drive was taken out, or the server
-  -- crashed or was opened
+  -- and what it awaits no more was answered, or its drive was taken out, or the server crashed or was opened; or another
+  -- component was lost, and the job begins a piece that it reads again, or gives the target of a rebuild up
   pub until : (w : World) → StandsFor w h → AreWritten h → AwaitedHaveEnds h
   -- so at each moment each command that a job awaits was sent to its drive, as far as a line can name the drive
   pub sent : AtEachMoment WereSentAt h
