@@ -1,5 +1,5 @@
 -- What a step of the lines shows of the files.
-use Rattle.std.proofs.Common.{◌≡◌, ℕ, ◌==◌, ◌&&◌, ◌||◌, ◌∷◌, [], List, Bool, true, false, Option, Some, None, filter, slice_get, refl, sym, ap, subst, ◌∙◌, inl, inr, eq-eqb}
+use Rattle.std.proofs.Common.{◌≡◌, ℕ, ◌==◌, ◌&&◌, ◌||◌, ◌∷◌, [], List, Bool, true, false, Option, Some, None, find, is_some, if◌then◌else◌, filter, slice_get, refl, sym, ap, subst, ◌∙◌, inl, inr, eq-eqb}
 use Rattle.std.specs.List.{list_any}
 use Rattle.std.proofs.lemmas.Bool.{cases_Bool, or_parts}
 use Rattle.scenario_text.specs.declared.event.Event.{Event}
@@ -11,11 +11,11 @@ use Rattle.scenario_text.specs.declared.line.Party.{Party}
 use Rattle.scenario_text.specs.declared.line.Party.TheVariants as party
 use Rattle.scenario_text.specs.declared.line.Line.{Line}
 use Rattle.scenario_text.specs.declared.line.Line.TheVariants as line
-use Rattle.server_rules.specs.Messages.{Message}
+use Rattle.server_rules.specs.Messages.{Message, counters_have_room}
 use Rattle.server_rules.specs.Envelopes.{message_in}
 use Rattle.server_rules.specs.History.{Input, Hears, Makes, Obeys, Adds, Zones, Formats, Crashes, Opens}
 use Rattle.world_history.specs.declared.messages.Sent.{Sent}
-use Rattle.world_history.specs.ServerNames.{File, Component, RawMap, ToRecall, ToRevoke, ToDeclare, ToRebuild, ToAudit}
+use Rattle.world_history.specs.ServerNames.{Server, Drive, File, Component, RawMap, ToRecall, ToRevoke, ToDeclare, ToRebuild, ToAudit}
 use Rattle.world_history.specs.Spelled.{node_of}
 use Rattle.world_history.specs.Moves.{has_algorithm, raw_of, known_drive}
 use Rattle.world_history.specs.Book.{ServerSeen, heard, heard_for, heard_from, made_of, input_of, input_at}
@@ -23,7 +23,7 @@ use Rattle.calm_law.specs.Words.{is_there}
 use Rattle.calm_law.specs.Files.{shows_file}
 use Rattle.calm_law.specs.Components.{told_by, told_in, tells_component, tells_rebuilt}
 use Rattle.calm_law.specs.Naming.{IsNamed, IsNamedInput}
-use Rattle.calm_law.specs.Going.{declared_in, IsMaking}
+use Rattle.calm_law.specs.Going.{declared_in, if_known, taken_out, IsMaking}
 
 -- ---- what comes to the server at a line
 
@@ -89,6 +89,24 @@ named_input s (line.Delivered number d) i e h =
 named_input s l i e h = absurd (cc e)
 
 -- ---- a drive that is declared
+
+-- what is taken out is declared
+known_declared : (s : Server) (o : Option ℕ) (d : ℕ) → if_known s o ≡ Some d → o ≡ Some d
+known_declared s None d e = absurd (cc e)
+known_declared s (Some n) d e = by_known (is_some (find (λ (x : Drive). x.number == n) s.drives)) e
+  where
+    by_known : (b : Bool) → (if b then Some n else None) ≡ Some d → Some n ≡ Some d
+    by_known true q = q
+    by_known false q = absurd (cc q)
+
+pub taken_declared : (s : Server) (i : Input) (d : ℕ) → taken_out s i ≡ Some d → declared_in i ≡ Some d
+taken_declared s (Hears now from m) d e = by_room (counters_have_room s) e
+  where
+    by_room : (b : Bool) → (if b then if_known s (declared_in (Hears now from m)) else None) ≡ Some d
+        → declared_in (Hears now from m) ≡ Some d
+    by_room true q = known_declared s (declared_in (Hears now from m)) d q
+    by_room false q = absurd (cc q)
+taken_declared s i d e = known_declared s (declared_in i) d e
 
 -- only the server's own order declares
 hears_declared : (now : ℕ) (p : Party) (x : Message) (d : ℕ) → declared_in (Hears now (node_of p) x) ≡ Some d

@@ -22,13 +22,13 @@ use Rattle.calm_law.specs.Following.{seen_then}
 use Rattle.calm_law.specs.Components.{Paired, StandAlike, told_in, tells_rebuilt, without_drive}
 use Rattle.calm_law.specs.Naming.{IsNamed, AreNamed, IsNamedInput}
 use Rattle.calm_law.specs.Sound.{IsSound}
-use Rattle.calm_law.specs.Going.{declared_in, TakesOut, Goes}
+use Rattle.calm_law.specs.Going.{taken_out, Goes}
 use Rattle.calm_law.specs.Seeing.{notes_in, IsMoveOf, ShowsFiles, SeenIsSound, MovesShowFiles}
 use Rattle.calm_law.proofs.Components.{paired_more, paired_same, paired_then}
 use Rattle.calm_law.proofs.Making.{each_step_is_sound, each_step_tells}
 use Rattle.calm_law.proofs.Short.{LostAlike, short_alike, lost_by_standing, out_alike, told_alike}
 use Rattle.calm_law.proofs.Through.{with_parts, through_at, through_failed, begun_at}
-use Rattle.calm_law.proofs.FileFacts.{named_input, declares_at, making_at, told_same, rebuilt_same, hidden}
+use Rattle.calm_law.proofs.FileFacts.{named_input, declares_at, making_at, told_same, rebuilt_same, hidden, taken_declared}
 
 -- ---- a file that was there
 
@@ -60,22 +60,22 @@ rests s t n behind (Some f) = record {
   exact = λ e w. refl;
 }
 
-takes : (s : Seen) (t : Step) (i : Input) → IsMoveOf s t → input_at s.server t.head ≡ Some i → (out : Option ℕ)
-    → TakesOut (declared_in i) out → (d : ℕ) → out ≡ Some d → t.head ≡ line.Event (event.Declare d)
-takes s t i m e None h d q = absurd (cc q)
-takes s t i m e (Some k) h d q = declares_at s.server t.head i d m.sent e (h ∙ q)
+takes : (s : Seen) (t : Step) (i : Input) → IsMoveOf s t → input_at s.server t.head ≡ Some i
+    → (d : ℕ) → taken_out s.server.server i ≡ Some d → t.head ≡ line.Event (event.Declare d)
+takes s t i m e d q = declares_at s.server t.head i d m.sent e (taken_declared s.server.server i d q)
 
 does : (s : Seen) (t : Step) (i : Input) (lines : List Line) (n : ℕ) (behind : List File) (o p : Option File) → IsMoveOf s t
-    → input_at s.server t.head ≡ Some i → Goes i lines n o p → WentTo s t lines n behind o p
+    → input_at s.server t.head ≡ Some i → Goes i (taken_out s.server.server i) lines n o p → WentTo s t lines n behind o p
 does s t i lines n behind None None m e h = tt
 does s t i lines n behind None (Some g) m e h = λ known is. making_at s.server t.head i n known behind e h is
 does s t i lines n behind (Some f) None m e h = absurd h
 does s t i lines n behind (Some f) (Some g) m e h = record {
   map = h.map;
-  out = h.out;
-  declared = takes s t i m e h.out h.takes;
+  out = taken_out s.server.server i;
+  declared = takes s t i m e;
   alike = h.alike;
-  exact = h.exact;
+  exact = λ none plain.
+      h.exact plain ∙ ap (λ (out : Option ℕ). told_in n (without_drive out f.kept.components) lines) none;
 }
 
 went_by : (s : Seen) (t : Step) (o : Option Input) (n : ℕ) → IsMoveOf s t → IsSound s.server.server → IsNamed t.head

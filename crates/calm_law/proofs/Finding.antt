@@ -9,7 +9,7 @@ use Rattle.world_history.specs.ServerNames.{Component, File, Note, NoteKind}
 use Rattle.calm_law.specs.Words.{Each}
 use Rattle.calm_law.specs.Performing.{AreDistinct}
 use Rattle.calm_law.specs.Components.{Paired, StandAlike, told_in, tells_rebuilt, without_drive}
-use Rattle.calm_law.specs.Going.{TakesOut, declared_in, GoesOn, Goes}
+use Rattle.calm_law.specs.Going.{GoesOn, Goes}
 use Rattle.calm_law.proofs.FileNotes.{behind, any_rebuilt}
 use Rattle.calm_law.proofs.Rounds.{WentAs, WentEach, NoneHas}
 use Rattle.calm_law.proofs.Lines.{lines_of, told_here, told_beside, whole_here, whole_beside}
@@ -112,23 +112,19 @@ at_number out n (f ∷ fs) (g ∷ gs) before after d named w = elim (cases_eq f.
 
 -- ---- it goes on as the lines tell
 
-goes_on : (i : Input) (out : Option ℕ) (n : ℕ) (notes : List Note) (f g : File) → TakesOut (declared_in i) out
-    → AtNumber out n [] notes (Some f) (Some g) → GoesOn i (lines_of notes) n f g
-goes_on i out n notes f g takes a = record {
+goes_on : (out : Option ℕ) (n : ℕ) (notes : List Note) (f g : File) → AtNumber out n [] notes (Some f) (Some g)
+    → GoesOn out (lines_of notes) n f g
+goes_on out n notes f g a = record {
   map = a.map;
-  out = out;
-  takes = takes;
   alike =
       subst (λ (cs : List Component). Paired StandAlike cs g.kept.components)
       (sym (a.told (without_drive out f.kept.components))) a.alike;
-  exact = λ e w.
-      a.exact (a.whole w).0 ∙ ap (λ (o : Option ℕ). behind (without_drive o f.kept.components) a.kinds) e
-      ∙ sym (a.told f.kept.components);
+  exact = λ w. a.exact (a.whole w).0 ∙ sym (a.told (without_drive out f.kept.components));
 }
 
-pub goes : (i : Input) (out : Option ℕ) (n : ℕ) (notes : List Note) (o p : Option File) → TakesOut (declared_in i) out
-    → AtNumber out n [] notes o p → Goes i (lines_of notes) n o p
-goes i out n notes None None takes a = tt
-goes i out n notes None (Some g) takes a = absurd a
-goes i out n notes (Some f) None takes a = absurd a
-goes i out n notes (Some f) (Some g) takes a = goes_on i out n notes f g takes a
+pub goes : (i : Input) (out : Option ℕ) (n : ℕ) (notes : List Note) (o p : Option File) → AtNumber out n [] notes o p
+    → Goes i out (lines_of notes) n o p
+goes i out n notes None None a = tt
+goes i out n notes None (Some g) a = absurd a
+goes i out n notes (Some f) None a = absurd a
+goes i out n notes (Some f) (Some g) a = goes_on out n notes f g a

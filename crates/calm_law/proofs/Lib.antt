@@ -16,17 +16,18 @@ mod CalmFollowing
 mod CalmOpening
 mod Pending
 pub mod Components
-mod FileNotes
+pub mod FileNotes
 mod Targets
 mod Jobs
 mod Reports
 mod Serving
 pub mod Rounds
 mod Lines
-mod Steps
+pub mod Steps
 mod Finding
 pub mod Making
 mod Tags
+mod FenceTags
 mod Short
 mod Through
 pub mod FileFacts

@@ -16,7 +16,7 @@ use Rattle.calm_law.specs.Words.{Each}
 use Rattle.calm_law.specs.Performing.{AreDistinct}
 use Rattle.calm_law.specs.Naming.{IsNamedInput}
 use Rattle.calm_law.specs.Sound.{IsAimed, IsSound, EachStepIsSound}
-use Rattle.calm_law.specs.Going.{declared_in, IsMaking, Goes, EachStepTells}
+use Rattle.calm_law.specs.Going.{taken_out, IsMaking, Goes, EachStepTells}
 use Rattle.calm_law.proofs.FileNotes.{tells_first}
 use Rattle.calm_law.proofs.Jobs.{ends_making}
 use Rattle.calm_law.proofs.Rounds.{WentEach, NoneHas, went_plain, went_put, stays_each, distinct_went, components_went, aimed_went, named_went}
@@ -50,7 +50,7 @@ distinct_added (g ∷ fs) f d h = elim (cases_Bool (nat_lt g.kept.number f.kept.
   | inr z ↦ rw z (h, d)
 ]
 
-there : (fs : List File) (f : File) → NoneHas f.kept.number fs → file_at (add_file fs f) f.kept.number ≡ Some f
+pub there : (fs : List File) (f : File) → NoneHas f.kept.number fs → file_at (add_file fs f) f.kept.number ≡ Some f
 unfolding file_at add_file
 there [] f h = rw (eq-eqb f.kept.number f.kept.number refl) refl
 there (g ∷ fs) f h = elim (cases_Bool (nat_lt g.kept.number f.kept.number)) [
@@ -99,43 +99,45 @@ sound_made s f h none a named few =
     }
 
 -- the others go on
-made_here : (i : Input) (ls : List Line) (n : ℕ) (o p : Option File) → o ≡ None → IsMaking i n → Goes i ls n o p
-made_here i ls n None None e m = tt
-made_here i ls n None (Some g) e m = m
-made_here i ls n (Some f) p e m = absurd (cc e)
+made_here : (i : Input) (out : Option ℕ) (ls : List Line) (n : ℕ) (o p : Option File) → o ≡ None → IsMaking i n
+    → Goes i out ls n o p
+made_here i out ls n None None e m = tt
+made_here i out ls n None (Some g) e m = m
+made_here i out ls n (Some f) p e m = absurd (cc e)
 
-tells_made : (s : Server) (i : Input) (f : File) → IsSound s → NoneHas f.kept.number s.files → IsAimed f
+tells_made : (s : Server) (i : Input) (f : File) → taken_out s i ≡ None → IsSound s → NoneHas f.kept.number s.files → IsAimed f
     → f.kept.number < FILES → file_at s.files f.kept.number ≡ None → IsMaking i f.kept.number → (n : ℕ)
-    → Goes i (lines_of (makes_file s f).notes) n (file_at s.files n) (file_at (makes_file s f).state.files n)
-tells_made s i f h none a named lacks m n =
+    → Goes i (taken_out s i) (lines_of (makes_file s f).notes) n (file_at s.files n)
+    (file_at (makes_file s f).state.files n)
+tells_made s i f out h none a named lacks m n =
     let gs : List File = (makes_file s f).state.files in
     let notes : List Note = (makes_file s f).notes in
     elim (cases_eq f.kept.number n) [
-      | inl e ↦ made_here i (lines_of notes) n (file_at s.files n) (file_at gs n)
+      | inl e ↦ made_here i (taken_out s i) (lines_of notes) n (file_at s.files n) (file_at gs n)
           (ap (λ (x : ℕ). file_at s.files x) (sym e) ∙ lacks) (subst (λ (x : ℕ). IsMaking i x) e m)
-      | inr o ↦ subst (λ (q : Option File). Goes i (lines_of notes) n q (file_at gs n))
+      | inr o ↦ rw out (subst (λ (q : Option File). Goes i None (lines_of notes) n q (file_at gs n))
           (beside s.files f n (ne_eqb f.kept.number n o))
-          (goes i None n notes (file_at (add_file s.files f) n) (file_at gs n) tt
+          (goes i None n notes (file_at (add_file s.files f) n) (file_at gs n)
           (at_number None n (add_file s.files f) gs [] notes (distinct_added s.files f h.distinct none)
-          (each_added (λ (x : File). x.kept.number < FILES) s.files f h.files named) (went_made s f h none a)))
+          (each_added (λ (x : File). x.kept.number < FILES) s.files f h.files named) (went_made s f h none a))))
     ]
 
 -- ---- any step
 
-sound_went : (o : Option ℕ) (s : Server) (did : Step) → IsSound s → Went o s did → IsSound did.state
-sound_went o s did h w = record {
-  distinct = distinct_went w.out s.files did.state.files [] did.notes h.distinct w.each;
-  components = components_went w.out s.files did.state.files [] did.notes h.components w.each;
-  aimed = aimed_went w.out s.files did.state.files [] did.notes w.each;
-  files = named_went w.out s.files did.state.files [] did.notes h.files w.each;
+sound_went : (out : Option ℕ) (s : Server) (did : Step) → IsSound s → Went out s did → IsSound did.state
+sound_went out s did h w = record {
+  distinct = distinct_went out s.files did.state.files [] did.notes h.distinct w.each;
+  components = components_went out s.files did.state.files [] did.notes h.components w.each;
+  aimed = aimed_went out s.files did.state.files [] did.notes w.each;
+  files = named_went out s.files did.state.files [] did.notes h.files w.each;
   drives = w.known;
 }
 
-tells_went : (i : Input) (s : Server) (did : Step) → IsSound s → Went (declared_in i) s did → (n : ℕ)
-    → Goes i (lines_of did.notes) n (file_at s.files n) (file_at did.state.files n)
+tells_went : (i : Input) (s : Server) (did : Step) → IsSound s → Went (taken_out s i) s did → (n : ℕ)
+    → Goes i (taken_out s i) (lines_of did.notes) n (file_at s.files n) (file_at did.state.files n)
 tells_went i s did h w n =
-    goes i w.out n did.notes (file_at s.files n) (file_at did.state.files n) w.takes
-    (at_number w.out n s.files did.state.files [] did.notes h.distinct h.files w.each)
+    goes i (taken_out s i) n did.notes (file_at s.files n) (file_at did.state.files n)
+    (at_number (taken_out s i) n s.files did.state.files [] did.notes h.distinct h.files w.each)
 
 -- a file that is made, or refused
 sound_unless : (s : Server) (n : ℕ) (m : RawMap) (tag : ℕ) (zoned : Bool) (ds : List ℕ) (o : Option Refusal)
@@ -148,14 +150,14 @@ sound_unless s n m tag zoned ds None e h named many =
 
 tells_unless : (s : Server) (n : ℕ) (m : RawMap) (tag : ℕ) (zoned : Bool) (ds : List ℕ) (o : Option Refusal)
     → refusal s n m zoned ≡ o → IsSound s → n < FILES → (k : ℕ)
-    → Goes (Makes n m tag zoned)
+    → Goes (Makes n m tag zoned) None
     (lines_of (unless_made s (unless_refused o (makes_file s (unmade s n m tag zoned ds)))).notes) k (file_at s.files k)
     (file_at (unless_made s (unless_refused o (makes_file s (unmade s n m tag zoned ds)))).state.files k)
 tells_unless s n m tag zoned ds (Some r) e h named k =
-    goes (Makes n m tag zoned) None k [] (file_at s.files k) (file_at s.files k) tt
+    goes (Makes n m tag zoned) None k [] (file_at s.files k) (file_at s.files k)
     (at_number None k s.files s.files [] [] h.distinct h.files (stays_each s.files [] h.aimed))
 tells_unless s n m tag zoned ds None e h named k =
-    tells_made s (Makes n m tag zoned) (unmade s n m tag zoned ds) h (none_there s.files n (not_there s n m zoned e)) tt
+    tells_made s (Makes n m tag zoned) (unmade s n m tag zoned ds) refl h (none_there s.files n (not_there s n m zoned e)) tt
     named (not_there s n m zoned e) refl k
 
 sound_created : (s : Server) (chosen : List ℕ) (n : ℕ) (m : RawMap) (tag : ℕ) (zoned : Bool) → IsSound s → n < FILES
@@ -167,7 +169,7 @@ sound_created s chosen n m tag zoned h named =
 
 tells_created : (s : Server) (chosen : List ℕ) (n : ℕ) (m : RawMap) (tag : ℕ) (zoned : Bool) → IsSound s → n < FILES
     → (k : ℕ)
-    → Goes (Makes n m tag zoned) (lines_of (step s chosen (Makes n m tag zoned)).notes) k (file_at s.files k)
+    → Goes (Makes n m tag zoned) None (lines_of (step s chosen (Makes n m tag zoned)).notes) k (file_at s.files k)
     (file_at (step s chosen (Makes n m tag zoned)).state.files k)
 unfolding create_file
 tells_created s chosen n m tag zoned h named k =
@@ -178,13 +180,14 @@ sound_by : (b : Bool) (s : Server) (chosen : List ℕ) (i : Input) → makes i �
     → IsSound (step s chosen i).state
 sound_by true s chosen (Makes n m tag zoned) e h named = sound_created s chosen n m tag zoned h named
 sound_by true s chosen i e h named = absurd (cc e)
-sound_by false s chosen i e h named = sound_went (declared_in i) s (step s chosen i) h (went s chosen i h named e)
+sound_by false s chosen i e h named = sound_went (taken_out s i) s (step s chosen i) h (went s chosen i h named e)
 
 pub each_step_is_sound : EachStepIsSound
 each_step_is_sound s chosen i h named = sound_by (makes i) s chosen i refl h named
 
 tells_by : (b : Bool) (s : Server) (chosen : List ℕ) (i : Input) → makes i ≡ b → IsSound s → IsNamedInput i → (n : ℕ)
-    → Goes i (lines_of (step s chosen i).notes) n (file_at s.files n) (file_at (step s chosen i).state.files n)
+    → Goes i (taken_out s i) (lines_of (step s chosen i).notes) n (file_at s.files n)
+    (file_at (step s chosen i).state.files n)
 tells_by true s chosen (Makes k m tag zoned) e h named n = tells_created s chosen k m tag zoned h named n
 tells_by true s chosen i e h named n = absurd (cc e)
 tells_by false s chosen i e h named n = tells_went i s (step s chosen i) h (went s chosen i h named e) n

@@ -1,5 +1,5 @@
 -- What becomes of the files in each step.
-use Rattle.std.proofs.Common.{◌≡◌, ℕ, ◌<◌, ◌==◌, ◌&&◌, ◌∷◌, [], List, Bool, true, false, Option, Some, None, find, is_some, map, nat_le, nat_lt, refl, sym, ap, ◌∙◌, inl, inr, eq-eqb, ne_eqb}
+use Rattle.std.proofs.Common.{◌≡◌, ℕ, ◌<◌, ◌==◌, ◌&&◌, ◌∷◌, [], List, Bool, true, false, Option, Some, None, find, is_some, if◌then◌else◌, map, nat_le, nat_lt, refl, sym, ap, ◌∙◌, inl, inr, eq-eqb, ne_eqb}
 use Rattle.std.proofs.lemmas.Bool.{cases_Bool}
 use Rattle.osd_lists.specs.declared.node.Node.{Node}
 use Rattle.osd_lists.specs.declared.node.Node.TheVariants.{Server as FromServer, Drive as FromDrive, Client as FromClient}
@@ -24,7 +24,7 @@ use Rattle.calm_law.specs.Words.{Each}
 use Rattle.calm_law.specs.Performing.{AreDistinct}
 use Rattle.calm_law.specs.Sound.{IsAimed, IsSound}
 use Rattle.calm_law.specs.Naming.{IsNamedInput}
-use Rattle.calm_law.specs.Going.{TakesOut, declared_by, declared_in}
+use Rattle.calm_law.specs.Going.{declared_by, declared_in, if_known, taken_out}
 use Rattle.calm_law.proofs.Components.{alike_same}
 use Rattle.calm_law.proofs.FileNotes.{tells_plain, tells_first}
 use Rattle.calm_law.proofs.Targets.{AreKnown}
@@ -34,53 +34,49 @@ use Rattle.calm_law.proofs.Rounds.{WentAs, WentEach, went_plain, went_out, went_
 
 -- ---- a step
 
--- Its files went on, none or the declared drive was taken out, and lines can name the drives.
-abbrev pub Went : (declared : Option ℕ) → Server → Step → Type 0
-Went o s did = record {
-  out : Option ℕ;
-  takes : TakesOut o out;
+-- Its files went on, the one drive or none was taken out, and lines can name the drives.
+abbrev pub Went : (out : Option ℕ) → Server → Step → Type 0
+Went out s did = record {
   each : WentEach out s.files [] did.state.files did.notes;
   known : AreKnown did.state.drives;
 }
 
 -- nothing happens to files
-went_still : (o : Option ℕ) (s : Server) → IsSound s → Went o s (record { state = s; sends = []; notes = []; mended = [] })
-went_still o s h = record { out = None; takes = tt; each = stays_each s.files [] h.aimed; known = h.drives }
+went_still : (s : Server) → IsSound s → Went None s (record { state = s; sends = []; notes = []; mended = [] })
+went_still s h = record { each = stays_each s.files [] h.aimed; known = h.drives }
 
 -- one file goes on
-went_one : (o : Option ℕ) (s : Server) (m : ℕ) (f g : File) (after : List Note) → IsSound s → file_at s.files m ≡ Some f
+went_one : (s : Server) (m : ℕ) (f g : File) (after : List Note) → IsSound s → file_at s.files m ≡ Some f
     → WentAs None f [] g after → WentEach None s.files [] (put_file s.files m g) after
-went_one o s m f g after h e w = went_put s.files m f g [] after h.aimed e w
+went_one s m f g after h e w = went_put s.files m f g [] after h.aimed e w
 
 aimed_at : (s : Server) (n : ℕ) (f : File) → IsSound s → file_at s.files n ≡ Some f → IsAimed f
 aimed_at s n f h e = each_at IsAimed s.files n f h.aimed e
 
 -- ---- a request
 
-went_carried : (o : Option ℕ) (s : Server) (now : ℕ) (chosen : List ℕ) (q : ClientRequest) (p : Option File)
-    → file_at s.files q.file ≡ p → IsSound s → Went o s (carries_out s now chosen q p)
-went_carried o s now chosen q None e h = record { out = None; takes = tt; each = stays_each s.files [] h.aimed; known = h.drives }
-went_carried o s now chosen q (Some f) e h = record {
-  out = None;
-  takes = tt;
-  each = went_one o s q.file f _ _ h e
+went_carried : (s : Server) (now : ℕ) (chosen : List ℕ) (q : ClientRequest) (p : Option File)
+    → file_at s.files q.file ≡ p → IsSound s → Went None s (carries_out s now chosen q p)
+went_carried s now chosen q None e h = record { each = stays_each s.files [] h.aimed; known = h.drives }
+went_carried s now chosen q (Some f) e h = record {
+  each = went_one s q.file f _ _ h e
       (went_plain f [] (serves (at_file s chosen f) s.next_grant s.format now q.client q.args).going
       (ends_served (at_file s chosen f) s.next_grant s.format now q.client q.args h.drives (aimed_at s q.file f h e)));
   known = h.drives;
 }
 
-went_admitted : (o : Option ℕ) (s : Server) (now : ℕ) (chosen : List ℕ) (q : ClientRequest) (a : Admit) → IsSound s
-    → Went o s (by_admit s now chosen q a)
-went_admitted o s now chosen q New h = went_carried o s now chosen q (file_at s.files q.file) refl h
-went_admitted o s now chosen q (Again kept) h =
-    record { out = None; takes = tt; each = stays_each s.files [] h.aimed; known = h.drives }
-went_admitted o s now chosen q (Misordered expected) h =
-    record { out = None; takes = tt; each = stays_each s.files [] h.aimed; known = h.drives }
+went_admitted : (s : Server) (now : ℕ) (chosen : List ℕ) (q : ClientRequest) (a : Admit) → IsSound s
+    → Went None s (by_admit s now chosen q a)
+went_admitted s now chosen q New h = went_carried s now chosen q (file_at s.files q.file) refl h
+went_admitted s now chosen q (Again kept) h =
+    record { each = stays_each s.files [] h.aimed; known = h.drives }
+went_admitted s now chosen q (Misordered expected) h =
+    record { each = stays_each s.files [] h.aimed; known = h.drives }
 
-went_request : (o : Option ℕ) (s : Server) (now : ℕ) (chosen : List ℕ) (q : ClientRequest) → IsSound s
-    → Went o s (on_request s now chosen q)
+went_request : (s : Server) (now : ℕ) (chosen : List ℕ) (q : ClientRequest) → IsSound s
+    → Went None s (on_request s now chosen q)
 unfolding on_request
-went_request o s now chosen q h = went_admitted o s now chosen q (admit (slot_of s.slots q.client) q.sequence) h
+went_request s now chosen q h = went_admitted s now chosen q (admit (slot_of s.slots q.client) q.sequence) h
 
 -- ---- a reply
 
@@ -110,41 +106,35 @@ heard_as s chosen drive r (f ∷ fs) known d a =
     heard_first s chosen f fs (on_reply (at_file s chosen f) drive r) (heard_at s chosen drive r fs)
     (ends_reply (at_file s chosen f) drive r known a.0) d (heard_as s chosen drive r fs known d.1 a.1)
 
-went_heard : (o : Option ℕ) (s : Server) (p : Option Going) → IsSound s → HeardAs s.files p → Went o s (by_heard s p)
-went_heard o s None h w = went_still o s h
-went_heard o s (Some g) h w = record {
-  out = None;
-  takes = tt;
-  each = went_one o s g.file.kept.number w.0 g.file g.effects.notes h
+went_heard : (s : Server) (p : Option Going) → IsSound s → HeardAs s.files p → Went None s (by_heard s p)
+went_heard s None h w = went_still s h
+went_heard s (Some g) h w = record {
+  each = went_one s g.file.kept.number w.0 g.file g.effects.notes h
       (ap (λ (n : ℕ). file_at s.files n) w.2.number ∙ w.1) w.2;
   known = h.drives;
 }
 
-went_reply : (o : Option ℕ) (s : Server) (chosen : List ℕ) (drive : ℕ) (r : Reply) → IsSound s
-    → Went o s (on_drive_reply s chosen drive r)
+went_reply : (s : Server) (chosen : List ℕ) (drive : ℕ) (r : Reply) → IsSound s
+    → Went None s (on_drive_reply s chosen drive r)
 unfolding on_drive_reply
-went_reply o s chosen drive r h =
-    went_heard o s (heard_at s chosen drive r s.files) h (heard_as s chosen drive r s.files h.drives h.distinct h.aimed)
+went_reply s chosen drive r h =
+    went_heard s (heard_at s chosen drive r s.files) h (heard_as s chosen drive r s.files h.drives h.distinct h.aimed)
 
 -- ---- an order
 
-went_job : (o : Option ℕ) (s : Server) (chosen : List ℕ) (kind : JobKind) (n : ℕ) (f : File) (j : Option Job) → IsSound s
-    → file_at s.files n ≡ Some f → Went o s (begins_job s chosen kind f j).step
-went_job o s chosen kind n f (Some j) h e = record {
-  out = None;
-  takes = tt;
-  each = went_one o s f.kept.number f _ _ h (ap (λ (x : ℕ). file_at s.files x) (number_at s.files n f e) ∙ e)
+went_job : (s : Server) (chosen : List ℕ) (kind : JobKind) (n : ℕ) (f : File) (j : Option Job) → IsSound s
+    → file_at s.files n ≡ Some f → Went None s (begins_job s chosen kind f j).step
+went_job s chosen kind n f (Some j) h e = record {
+  each = went_one s f.kept.number f _ _ h (ap (λ (x : ℕ). file_at s.files x) (number_at s.files n f e) ∙ e)
       (went_plain f [] (noting (at_file s chosen f) (Busy (lowest j.awaited))) (
         tells_plain f.kept [] (at_file s chosen f) (Busy (lowest j.awaited)) (λ cs. refl) refl refl refl (tells_first (at_file s chosen f)),
         aimed_at s n f h e,
       ));
   known = h.drives;
 }
-went_job o s chosen kind n f None h e = elim (cases_Bool (f.kept.tag == GREATEST_TAG)) [
+went_job s chosen kind n f None h e = elim (cases_Bool (f.kept.tag == GREATEST_TAG)) [
   | inl t ↦ rw t (record {
-    out = None;
-    takes = tt;
-    each = went_one o s f.kept.number f _ _ h (ap (λ (x : ℕ). file_at s.files x) (number_at s.files n f e) ∙ e)
+    each = went_one s f.kept.number f _ _ h (ap (λ (x : ℕ). file_at s.files x) (number_at s.files n f e) ∙ e)
         (went_plain f [] (noting (at_file s chosen f) Spent) (
           tells_plain f.kept [] (at_file s chosen f) Spent (λ cs. refl) refl refl refl (tells_first (at_file s chosen f)),
           aimed_at s n f h e,
@@ -152,23 +142,21 @@ went_job o s chosen kind n f None h e = elim (cases_Bool (f.kept.tag == GREATEST
     known = h.drives;
   })
   | inr z ↦ rw z (record {
-    out = None;
-    takes = tt;
-    each = went_one o s f.kept.number f _ _ h (ap (λ (x : ℕ). file_at s.files x) (number_at s.files n f e) ∙ e)
+    each = went_one s f.kept.number f _ _ h (ap (λ (x : ℕ). file_at s.files x) (number_at s.files n f e) ∙ e)
         (went_plain f [] (fence_begins kind s.format (at_file s chosen f))
         (ends_fence f.kept [] kind s.format (at_file s chosen f) (tells_first (at_file s chosen f)) h.drives));
     known = h.drives;
   })
 ]
 
-went_starts : (o : Option ℕ) (s : Server) (chosen : List ℕ) (kind : JobKind) (n : ℕ) (p : Option File) → IsSound s
-    → file_at s.files n ≡ p → Went o s (starts s chosen kind p).step
-went_starts o s chosen kind n None h e = went_still o s h
-went_starts o s chosen kind n (Some f) h e = went_job o s chosen kind n f f.job h e
+went_starts : (s : Server) (chosen : List ℕ) (kind : JobKind) (n : ℕ) (p : Option File) → IsSound s
+    → file_at s.files n ≡ p → Went None s (starts s chosen kind p).step
+went_starts s chosen kind n None h e = went_still s h
+went_starts s chosen kind n (Some f) h e = went_job s chosen kind n f f.job h e
 
-went_recalls : (o : Option ℕ) (s : Server) (p : Option File) → IsSound s → Went o s (recalls_on s p).step
-went_recalls o s None h = went_still o s h
-went_recalls o s (Some f) h = record { out = None; takes = tt; each = stays_each s.files [] h.aimed; known = h.drives }
+went_recalls : (s : Server) (p : Option File) → IsSound s → Went None s (recalls_on s p).step
+went_recalls s None h = went_still s h
+went_recalls s (Some f) h = record { each = stays_each s.files [] h.aimed; known = h.drives }
 
 known_offline : (ds : List Drive) (drive : ℕ) → AreKnown ds → AreKnown (offline ds drive)
 unfolding offline
@@ -192,43 +180,41 @@ went_declares drive ds (f ∷ fs) m chosen known a =
     )
 
 went_declared : (s : Server) (chosen : List ℕ) (drive : ℕ) (b : Bool) → IsSound s
-    → Went (Some drive) s (declares_known s chosen drive b).step
+    → Went (if b then Some drive else None) s (declares_known s chosen drive b).step
 unfolding declare
 went_declared s chosen drive true h = record {
-  out = Some drive;
-  takes = refl;
   each = went_declares drive (offline s.drives drive) s.files (begins s) chosen (known_offline s.drives drive h.drives) h.aimed;
   known = known_offline s.drives drive h.drives;
 }
-went_declared s chosen drive false h = went_still (Some drive) s h
+went_declared s chosen drive false h = went_still s h
 
 went_ordered : (s : Server) (chosen : List ℕ) (kind : OrderKind) (n : ℕ) → IsSound s
-    → Went (declared_by kind n) s (ordered s chosen kind n).step
+    → Went (if_known s (declared_by kind n)) s (ordered s chosen kind n).step
 unfolding ordered
-went_ordered s chosen ToRecall n h = went_recalls None s (file_at s.files n) h
-went_ordered s chosen ToRevoke n h = went_starts None s chosen Revoking n (file_at s.files n) h refl
+went_ordered s chosen ToRecall n h = went_recalls s (file_at s.files n) h
+went_ordered s chosen ToRevoke n h = went_starts s chosen Revoking n (file_at s.files n) h refl
 went_ordered s chosen ToDeclare n h = went_declared s chosen n (is_some (find (λ d. d.number == n) s.drives)) h
-went_ordered s chosen ToRebuild n h = went_starts None s chosen Rebuilding n (file_at s.files n) h refl
-went_ordered s chosen ToAudit n h = went_starts None s chosen Auditing n (file_at s.files n) h refl
+went_ordered s chosen ToRebuild n h = went_starts s chosen Rebuilding n (file_at s.files n) h refl
+went_ordered s chosen ToAudit n h = went_starts s chosen Auditing n (file_at s.files n) h refl
 
 -- ---- messages
 
 went_handled : (s : Server) (now : ℕ) (chosen : List ℕ) (from : Node) (m : Message) → IsSound s
-    → Went (declared_in (Hears now from m)) s (handled s now chosen from m)
+    → Went (if_known s (declared_in (Hears now from m))) s (handled s now chosen from m)
 went_handled s now chosen (FromClient c) (Asks q) h = elim (cases_Bool ((q.client == c) && nat_le c MAX_CLIENT)) [
-  | inl t ↦ rw t (went_request None s now chosen q h)
-  | inr z ↦ rw z (went_still None s h)
+  | inl t ↦ rw t (went_request s now chosen q h)
+  | inr z ↦ rw z (went_still s h)
 ]
-went_handled s now chosen (FromDrive d) (Replies r) h = went_reply None s chosen d r h
+went_handled s now chosen (FromDrive d) (Replies r) h = went_reply s chosen d r h
 went_handled s now chosen FromServer (Orders o) h = went_ordered s chosen o.order o.target h
-went_handled s now chosen from m h = went_still (declared_in (Hears now from m)) s h
+went_handled s now chosen from m h = went_still s h
 
 went_message : (s : Server) (now : ℕ) (chosen : List ℕ) (from : Node) (m : Message) → IsSound s
-    → Went (declared_in (Hears now from m)) s (on_message s now chosen from m)
+    → Went (taken_out s (Hears now from m)) s (on_message s now chosen from m)
 unfolding on_message
 went_message s now chosen from m h = elim (cases_Bool (counters_have_room s)) [
   | inl t ↦ rw t (went_handled s now chosen from m h)
-  | inr z ↦ rw z (went_still (declared_in (Hears now from m)) s h)
+  | inr z ↦ rw z (went_still s h)
 ]
 
 -- ---- drives, and the opening
@@ -283,12 +269,10 @@ went_reopened : (s : Server) → IsSound s → Went None s (reopen s)
 unfolding reopen
 went_reopened s h = elim (cases_Bool (counters_have_room s)) [
   | inl t ↦ rw t (record {
-    out = None;
-    takes = tt;
     each = went_opens s.format s.drives s.files (begins s) h.drives h.aimed;
     known = h.drives;
   })
-  | inr z ↦ rw z (went_still None s h)
+  | inr z ↦ rw z (went_still s h)
 ]
 
 -- ---- any step that makes no file
@@ -299,23 +283,19 @@ makes (Makes n m tag zoned) = true
 makes i = false
 
 pub went : (s : Server) (chosen : List ℕ) (i : Input) → IsSound s → IsNamedInput i → makes i ≡ false
-    → Went (declared_in i) s (step s chosen i)
+    → Went (taken_out s i) s (step s chosen i)
 went s chosen (Hears now from m) h n e = went_message s now chosen from m h
 went s chosen (Makes k m tag zoned) h n e = absurd (cc e)
 went s chosen (Obeys kind k) h n e = went_ordered s chosen kind k h
 went s chosen (Adds d) h n e = record {
-  out = None;
-  takes = tt;
   each = stays_each s.files [] h.aimed;
   known = known_added s.drives d h.drives n;
 }
 went s chosen (Zones d zone) h n e = record {
-  out = None;
-  takes = tt;
   each = stays_each s.files [] h.aimed;
   known = known_zoned s.drives d zone h.drives;
 }
-went s chosen (Formats k) h n e = record { out = None; takes = tt; each = stays_each s.files [] h.aimed; known = h.drives }
-went s chosen Resends h n e = record { out = None; takes = tt; each = stays_each s.files [] h.aimed; known = h.drives }
-went s chosen Crashes h n e = record { out = None; takes = tt; each = went_crashes s.files; known = h.drives }
+went s chosen (Formats k) h n e = record { each = stays_each s.files [] h.aimed; known = h.drives }
+went s chosen Resends h n e = record { each = stays_each s.files [] h.aimed; known = h.drives }
+went s chosen Crashes h n e = record { each = went_crashes s.files; known = h.drives }
 went s chosen Opens h n e = went_reopened s h

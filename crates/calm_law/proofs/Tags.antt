@@ -9,10 +9,10 @@ use Rattle.server_rules.specs.Making.{refusal, unless_refused, makes_file, unmad
 use Rattle.server_rules.proofs.FileLaws.{not_there}
 use Rattle.world_history.specs.ServerNames.{Server, File, Note, NoteKind, Refusal, Fenced}
 use Rattle.calm_law.specs.Performing.{AreDistinct}
-use Rattle.calm_law.specs.Going.{declared_in}
+use Rattle.calm_law.specs.Going.{taken_out}
 use Rattle.calm_law.specs.Sound.{IsSound}
 use Rattle.calm_law.specs.Tags.{fence_note, TagRises, EachStepRaisesTags}
-use Rattle.calm_law.proofs.FileNotes.{noted_with, tag_behind, AreLater}
+use Rattle.calm_law.proofs.FileNotes.{noted_with, tag_behind, AreNext}
 use Rattle.calm_law.proofs.Rounds.{WentAs, WentEach, NoneHas}
 use Rattle.calm_law.proofs.Steps.{Went, went}
 use Rattle.calm_law.proofs.Making.{went_made, distinct_added, none_there, beside}
@@ -37,12 +37,12 @@ noted_among n tag m before (k ∷ ks) i =
 
 -- ---- later tags
 
-at_least : (t : ℕ) (ks : List NoteKind) → AreLater t ks → t ≤ tag_behind t ks
+at_least : (t : ℕ) (ks : List NoteKind) → AreNext t ks → t ≤ tag_behind t ks
 at_least t [] h = omega arith
 at_least t (Fenced u ∷ ks) h = let r = at_least t ks h.1 in omega (arith, r, h.0)
 at_least t (k ∷ ks) h = at_least t ks h
 
-later_in : (t u : ℕ) (ks : List NoteKind) → AreLater t ks → In (Fenced u) ks → t < u
+later_in : (t u : ℕ) (ks : List NoteKind) → AreNext t ks → In (Fenced u) ks → t < u
 later_in t u [] h i = absurd i
 later_in t u (Fenced v ∷ ks) h (inl e) =
     let s : u ≡ v = cc e in
@@ -159,14 +159,14 @@ rises_created s chosen n m tag zoned h k f e =
     rises_made s n m tag zoned (drives_for zoned s.drives m chosen) (refusal s n m zoned) refl h k f e
 
 -- where files go on as in any step that makes none
-rises_went : (o : Option ℕ) (s : Server) (did : Step) → IsSound s → Went o s did → (n : ℕ) (f : File)
+rises_went : (out : Option ℕ) (s : Server) (did : Step) → IsSound s → Went out s did → (n : ℕ) (f : File)
     → file_at s.files n ≡ Some f → TagRises n f did.state.files did.notes
-rises_went o s did h w n f e =
-    rises_in n f did.state.files did.notes (raised_each w.out n f s.files did.state.files [] did.notes h.distinct w.each e)
+rises_went out s did h w n f e =
+    rises_in n f did.state.files did.notes (raised_each out n f s.files did.state.files [] did.notes h.distinct w.each e)
 
-rises_step : (s : Server) (chosen : List ℕ) (i : Input) → IsSound s → Went (declared_in i) s (step s chosen i) → (n : ℕ)
+rises_step : (s : Server) (chosen : List ℕ) (i : Input) → IsSound s → Went (taken_out s i) s (step s chosen i) → (n : ℕ)
     (f : File) → file_at s.files n ≡ Some f → TagRises n f (step s chosen i).state.files (step s chosen i).notes
-rises_step s chosen i h w n f e = rises_went (declared_in i) s (step s chosen i) h w n f e
+rises_step s chosen i h w n f e = rises_went (taken_out s i) s (step s chosen i) h w n f e
 
 pub each_step_raises_tags : EachStepRaisesTags
 each_step_raises_tags s chosen (Makes k m tag zoned) h n f e = rises_created s chosen k m tag zoned h n f e

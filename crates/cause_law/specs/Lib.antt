@@ -6,4 +6,7 @@ pub mod Answers
 pub mod Changes
 pub mod Told
 pub mod Components
+pub mod FenceTags
+pub mod Awaiting
+pub mod AwaitedEnds
 pub mod Ends

@@ -25,13 +25,19 @@ use Rattle.exchange_law.specs.Lanes.{LanesAreOwn}
 use Rattle.exchange_law.specs.FairLanes.{LanesAreFair}
 use Rattle.ending_law.specs.Calls.{CallsEndSo}
 use Rattle.cause_law.specs.Answers.{EachRequestIsAnswered}
+use Rattle.cause_law.specs.Awaiting.{EachAwaitedHasItsCauses, EachAwaitedWasSent}
+use Rattle.cause_law.specs.AwaitedEnds.{EachAwaitedHasItsEnd}
 use Rattle.cause_law.specs.Changes.{EachGrantHasItsCauses}
 use Rattle.cause_law.specs.Components.{EachComponentHasItsCauses}
 use Rattle.cause_law.specs.Ends.{EachEndIsSaid}
+use Rattle.cause_law.specs.FenceTags.{EachTagHasItsCause}
 use Rattle.cause_law.specs.Told.{EachMessageIsCaused}
+use Rattle.reopen_law.specs.Numbers.{EachGrantIsNamedOnce, EachObjectIsOwn}
+use Rattle.reopen_law.specs.Reopened.{EachCrashBars}
 use Rattle.outcome_law.specs.Ended.{EndsAreCaused}
 use Rattle.outcome_law.specs.Pending.{EachCallIsLeftSo}
 use Rattle.outcome_law.specs.Read.{AnswersAreOfReplies}
+use Rattle.outcome_law.specs.ReadBytes.{EachByteHasItsCause}
 use Rattle.pending_law.specs.Unanswered.{PendingCallsAreUnanswered}
 use Rattle.tag_law.specs.Tags.{EachTagIsItsFiles}
 use Rattle.history_claims.proofs.Texts.{events_make_text}
@@ -43,12 +49,14 @@ pub histories_are_sound : HistoriesAreSafe → VerdictsAreAnswered → CommandsA
     → EachHolderIsOwn → UnforgedAreFenced → EachAnswerIsLive → EachGivenWasLive → GrantsAreOlder → GivenIsBarred
     → CommandsAreIssuedExactly → UnforgedAreIssuedExactly → LanesAreFair → LanesAreOwn → RefusalsWereJudged
     → RefusalsWereAwaited → CountersStayLow → CallsEndSo → EndsAreCaused → AnswersAreOfReplies
-    → EachTagIsItsFiles → EachRequestIsAnswered → EachMessageIsCaused → EachGrantHasItsCauses
-    → EachComponentHasItsCauses → EachEndIsSaid → EachCallIsLeftSo → PendingCallsAreUnanswered → WithinTheLimitAreFew
+    → EachByteHasItsCause → EachTagIsItsFiles → EachRequestIsAnswered → EachMessageIsCaused → EachGrantHasItsCauses
+    → EachComponentHasItsCauses → EachTagHasItsCause → EachAwaitedHasItsCauses → EachAwaitedHasItsEnd → EachAwaitedWasSent
+    → EachCrashBars → EachGrantIsNamedOnce → EachObjectIsOwn → EachEndIsSaid
+    → EachCallIsLeftSo → PendingCallsAreUnanswered → WithinTheLimitAreFew
     → HistoriesAreSound
 histories_are_sound safe answered issued listed fair ranges fronts apart spread created own fenced live given older barred exact
-    allowed lanes lanes_own judged awaited low ends outcomes read tags caused told changed gone said left unanswered
-    few = record {
+    allowed lanes lanes_own judged awaited low ends outcomes read bytes tags caused told changed gone raised waits until sent
+    barred_by named objects said left unanswered few = record {
       sound = λ h l. record {
         safe = safe h l;
         answered = λ w s. answered w h s;
@@ -78,8 +86,16 @@ histories_are_sound safe answered issued listed fair ranges fronts apart spread 
         answers = λ w g k m rest d is a. told w g k m d a;
         changes = λ w s a. changed w h s a;
         components = λ w s a. gone w h s a;
+        raised = λ w s a. raised w h s a;
+        waits = λ w s a. waits w h s a;
+        until = λ w s a. until w h s a;
+        sent = λ before after is. sent before;
+        reopened = λ before after is. barred_by before;
+        named = λ w s a. named w h s a;
+        objects = λ before after is. objects before;
         caused = outcomes h l;
         read = read h l;
+        bytes = bytes h l;
         said = λ w g k m rest d is. said w g k m d;
         left = λ w g k m rest d is. left w g k m d;
         unanswered = unanswered h l;

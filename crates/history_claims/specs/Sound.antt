@@ -28,14 +28,20 @@ use Rattle.exchange_law.specs.Text.{AreOfText, AreFew, WithinTheLimitAreFew}
 use Rattle.exchange_law.specs.Exact.{IssuedExactlyAt, InjectedExactlyAt}
 use Rattle.ending_law.specs.Calls.{EndsAt}
 use Rattle.cause_law.specs.Answers.{RequestsAreAnswered}
+use Rattle.cause_law.specs.Awaiting.{AwaitedHaveCauses, WereSentAt}
+use Rattle.cause_law.specs.AwaitedEnds.{AwaitedHaveEnds}
 use Rattle.cause_law.specs.Changes.{GrantsHaveCauses}
 use Rattle.cause_law.specs.Components.{ComponentsHaveCauses}
 use Rattle.cause_law.specs.Ends.{CallsEndAsSaid}
+use Rattle.cause_law.specs.FenceTags.{TagsHaveCauses}
 use Rattle.cause_law.specs.Told.{MessagesAreCaused}
 use Rattle.outcome_law.specs.Ended.{CausedAt}
 use Rattle.outcome_law.specs.Pending.{CallsAreLeft}
 use Rattle.outcome_law.specs.Read.{AnswersAt}
+use Rattle.outcome_law.specs.ReadBytes.{BytesAt}
 use Rattle.pending_law.specs.Unanswered.{UnansweredAt}
+use Rattle.reopen_law.specs.Numbers.{GrantsAreNamedOnce, ObjectsAreOwnAt}
+use Rattle.reopen_law.specs.Reopened.{CrashesBarAt}
 use Rattle.tag_law.specs.Tags.{HaveTagsAt}
 use Rattle.history_claims.specs.Texts.{EventsMakeText, CutsGoOn}
 
@@ -116,14 +122,35 @@ pub record IsSound (h : List Line) : Type 0 where
   -- nothing else makes a grant of a file live or ends one, or changes the file's size, but a fence that an order to revoke,
   -- rebuild or audit the file begins, or an opening, and that ends all; and each of these does, while no job runs
   pub changes : (w : World) → StandsFor w h → AreWritten h → GrantsHaveCauses h
-  -- and each file goes on with its map, and with its components as the notes of the step tell, but for a declared drive
+  -- and each file goes on with its map, and with its components as the notes of the step tell, after those on a drive that is
+  -- declared, and that the server knows, became missing
   pub components : (w : World) → StandsFor w h → AreWritten h → ComponentsHaveCauses h
+  -- and with its tag, unless just one note of the step tells that a fence of it is over: it is the next tag, and the file's then
+  pub raised : (w : World) → StandsFor w h → AreWritten h → TagsHaveCauses h
+  -- what the job of a file awaits behind a step it awaited before, and what comes doesn't answer it, or the step sends it
+  pub waits : (w : World) → StandsFor w h → AreWritten h → AwaitedHaveCauses h
+  -- and what it awaits no more was answered, or its drive was taken out, or the server crashed or was opened; or another
+  -- component was lost, and the job begins a piece that it reads again, or gives the target of a rebuild up
+  pub until : (w : World) → StandsFor w h → AreWritten h → AwaitedHaveEnds h
+  -- so at each moment each command that a job awaits was sent to its drive, as far as a line can name the drive
+  pub sent : AtEachMoment WereSentAt h
+  -- at each moment of a history of a scenario's text with few messages, each file that had a live grant or a fence when the
+  -- server crashed is barred, until a fence of it is over: clients are told no layout of it but such as they were sent before
+  -- the crash, and none of its grants is live once the server was opened; one with the greatest tag is refused
+  pub reopened : AtEachMoment CrashesBarAt h
+  -- in a whole history no two layouts that are given to new requests name one grant, whatever crashes come between
+  pub named : (w : World) → StandsFor w h → AreWritten h → GrantsAreNamedOnce h
+  -- and at each moment each component has an object of its own: no other of any file has its number, or had it before
+  pub objects : AtEachMoment ObjectsAreOwnAt h
   -- a call ends as what it met says, read off the lines before: the answers and replies that its client took in it, and the
   -- timeouts of what it awaited
   pub caused : AtEachLine CausedAt h
   -- an answered read took a reply to a READ that was performed, and for any file that agrees with what was read so in its call
   -- the answer is the file's bytes
   pub read : AtEachLine AnswersAt h
+  -- each byte of the answer is one that such a reply of its own position gave; or, if the position is out by the layout and the
+  -- timeouts, the data byte of the one codeword that has what such replies gave of its column
+  pub bytes : AtEachLine BytesAt h
   -- in each move a call ends as only an answer says exactly if its client takes an answer that says so
   pub said : CallsEndAsSaid h
   -- and in each move a call is left pending exactly if the event came with it, ends there, and the call doesn't

@@ -6,8 +6,9 @@ ghost use Rattle.history_claims.specs.Spread.{ComponentsStandSpread};
 
 use calm_law::{each_step_is_apart, each_step_is_sound};
 use cause_law::{
-    components_have_causes, ends_are_said, grants_have_causes, messages_are_caused,
-    requests_are_answered,
+    awaited_have_causes, awaited_have_ends, awaited_were_sent, components_have_causes,
+    ends_are_said, grants_have_causes, messages_are_caused, requests_are_answered,
+    tags_have_causes,
 };
 use ending_law::calls_end_so;
 use exchange_law::{
@@ -20,8 +21,11 @@ use history_law::{
     commands_are_issued, histories_are_safe, ranges_are_apart, unforged_are_issued,
     unguessed_are_unforged, verdicts_are_answered,
 };
-use outcome_law::{answers_are_of_replies, calls_are_left, ends_are_caused};
+use outcome_law::{
+    answers_are_of_replies, calls_are_left, each_byte_has_its_cause, ends_are_caused,
+};
 use pending_law::pending_calls_are_unanswered;
+use reopen_law::{crashes_bar, grants_are_named_once, objects_are_own};
 use server_rules::files_are_put;
 use tag_law::{
     answers_are_live, each_tag_is_its_files, given_is_barred, given_was_live, grants_are_older,
@@ -79,8 +83,10 @@ pub fn files_are_created()
 /// read is answered by what was read of drives in its call. One that is left pending waits for the answer to an older
 /// request, or its server is down. In a whole history each new request is answered in its step by
 /// the first row that applies to its file's book, any other answer repeats the last one or says that its request is
-/// misordered, and nothing else makes a grant live or ends one but a fence. A history that is cut at the limit of kept
-/// bytes goes on being of a text.
+/// misordered, and nothing else makes a grant live or ends one but a fence. There a file's tag changes exactly with the
+/// note that a fence of it is over, its components as notes and declarations say, and what its job awaits was sent and
+/// isn't answered. A crash of the server bars each file that had a grant or a fence, until a fence of it is over, and no
+/// grant and no object number comes twice. A history that is cut at the limit of kept bytes goes on being of a text.
 pub fn histories_are_sound()
     ensures { HistoriesAreSound }
 {
@@ -110,11 +116,19 @@ pub fn histories_are_sound()
     calls_end_so();
     ends_are_caused();
     answers_are_of_replies();
+    each_byte_has_its_cause();
     each_tag_is_its_files();
     requests_are_answered();
     messages_are_caused();
     grants_have_causes();
     components_have_causes();
+    tags_have_causes();
+    awaited_have_causes();
+    awaited_have_ends();
+    awaited_were_sent();
+    crashes_bar();
+    grants_are_named_once();
+    objects_are_own();
     ends_are_said();
     calls_are_left();
     pending_calls_are_unanswered();

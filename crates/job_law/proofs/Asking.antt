@@ -18,7 +18,7 @@ use Rattle.server_rules.specs.Laws.{In}
 use Rattle.server_rules.proofs.Members.{in_filtered, in_filter}
 use Rattle.job_law.specs.Fencing.{Reached, is_fences, is_fencing, Raises, IsAsked, IsFencing}
 use Rattle.job_law.proofs.Quiet.{is_fenced, NoEnd, no_end_behind, quiet_over}
-use Rattle.job_law.proofs.Fences.{Fencing, WasFencing, Handled, IsNumber, quiet_handled, fenced_kind, handled_here, handled_fence, handled_making, fencing_waits, goes_loses, other_loses}
+use Rattle.job_law.proofs.Fences.{Fencing, WasFencing, Handled, IsAsHere, quiet_handled, fenced_kind, handled_here, handled_fence, handled_making, fencing_waits, goes_loses, other_loses}
 use Rattle.job_law.proofs.Hearing.{fences_is}
 
 -- ---- what stays
@@ -49,6 +49,7 @@ pub handled_stays : (R : Reached) (g h k : Going) → Handled R g h → Stays h 
 handled_stays R g h k d s = record {
   goes = record {
     number_is = s.number ∙ d.goes.number_is;
+    tag_is = elim d.goes.tag_is [ inl e ↦ inl (s.tag ∙ e) | inr e ↦ inr (s.tag ∙ e) ];
     fresh = d.goes.fresh;
     sent_is = s.sent ∙ d.goes.sent_is;
     rises = s.nonce ∙ d.goes.rises;
@@ -342,7 +343,7 @@ handled_declares R g drive =
 -- ---- an opening
 
 opened_made : (R : Reached) (g : Going) (ready : Bool) → Handled R g (opens_made g ready)
-opened_made R g true = quiet_handled R g (over g) (quiet_over (IsNumber g.file.kept.number) g refl)
+opened_made R g true = quiet_handled R g (over g) (quiet_over (IsAsHere g) g (refl, refl))
 opened_made R g false = handled_making R g
 
 opened_spent : (R : Reached) (g : Going) → Handled R g (opens_spent g)

@@ -17,9 +17,10 @@ use Rattle.job_law.proofs.Quiet.{each_numbered, is_fenced, Quiet, From, noted, q
 -- ---- what is left
 
 -- It sends some commands anew, numbered from the next nonce on, under the server's holder if what it awaited was so;
--- what it awaits was awaited or is new.
-pub record Goes (number nonce : ℕ) (sent old : List Awaited) (g : Going) : Type 0 where
+-- what it awaits was awaited or is new. Its tag is as it was, or the next one.
+pub record Goes (number tag nonce : ℕ) (sent old : List Awaited) (g : Going) : Type 0 where
   pub number_is : g.file.kept.number ≡ number
+  pub tag_is : (g.file.kept.tag ≡ tag) ⊎ (g.file.kept.tag ≡ tag + 1)
   pub fresh : List Awaited
   pub sent_is : g.effects.sent ≡ sent ++ fresh
   pub rises : g.effects.nonce ≡ nonce + length fresh
@@ -28,7 +29,7 @@ pub record Goes (number nonce : ℕ) (sent old : List Awaited) (g : Going) : Typ
   pub waits : (a : Awaited) → In a (awaited_by g.file.job) → In a old ⊎ In a fresh
 
 abbrev pub GoesFrom : Going → Going → Type 0
-GoesFrom g h = Goes g.file.kept.number g.effects.nonce g.effects.sent (awaited_by g.file.job) h
+GoesFrom g h = Goes g.file.kept.number g.file.kept.tag g.effects.nonce g.effects.sent (awaited_by g.file.job) h
 
 -- the note is of this file, which has that tag, and each component that isn't missing reached it
 abbrev pub Ended : Reached → Note → (tag : ℕ) → File → Type 0
@@ -49,20 +50,26 @@ pub record Handled (R : Reached) (g h : Going) : Type 0 where
 
 -- ---- from a run that ends no fence
 
-abbrev pub IsNumber : ℕ → Kept → Type 0
-IsNumber n k = k.number ≡ n
+-- a file of this number and tag
+abbrev pub IsFile : (number tag : ℕ) → Kept → Type 0
+IsFile n t k = (k.number ≡ n) × (k.tag ≡ t)
 
-pub number_mended : (n : ℕ) → IsMended (IsNumber n)
-number_mended n = record { mends = λ k is. is }
+-- as it is here
+abbrev pub IsAsHere : Going → Kept → Type 0
+IsAsHere g = IsFile g.file.kept.number g.file.kept.tag
 
-pub number_placed : (n : ℕ) → IsPlaced (IsNumber n)
-number_placed n = record { places = λ k cs is. is }
+pub file_mended : (n t : ℕ) → IsMended (IsFile n t)
+file_mended n t = record { mends = λ k is. is }
 
-pub quiet_goes : (n nonce : ℕ) (sent old : List Awaited) (notes : List Note) (g : Going)
-    → Quiet (IsNumber n) nonce sent notes g
-    → Goes n nonce sent old g
-quiet_goes n nonce sent old notes g q = record {
-  number_is = q.kept;
+pub file_placed : (n t : ℕ) → IsPlaced (IsFile n t)
+file_placed n t = record { places = λ k cs is. is }
+
+pub quiet_goes : (n t nonce : ℕ) (sent old : List Awaited) (notes : List Note) (g : Going)
+    → Quiet (IsFile n t) nonce sent notes g
+    → Goes n t nonce sent old g
+quiet_goes n t nonce sent old notes g q = record {
+  number_is = q.kept.0;
+  tag_is = inl q.kept.1;
   fresh = awaited_by g.file.job;
   sent_is = q.sent_is;
   rises = q.rises;
@@ -81,9 +88,11 @@ quiet_fencing R K nonce sent notes g q = record {
   ended = λ x tag i e. inl (q.ends x i (fenced_kind x tag e));
 }
 
-pub quiet_handled : (R : Reached) (g h : Going) → From (IsNumber g.file.kept.number) g h → Handled R g h
+pub quiet_handled : (R : Reached) (g h : Going) → From (IsAsHere g) g h → Handled R g h
 quiet_handled R g h q = record {
-  goes = quiet_goes g.file.kept.number g.effects.nonce g.effects.sent (awaited_by g.file.job) g.effects.notes h q;
+  goes =
+      quiet_goes g.file.kept.number g.file.kept.tag g.effects.nonce g.effects.sent (awaited_by g.file.job) g.effects.notes h
+      q;
   fences = λ was. quiet_fencing R _ g.effects.nonce g.effects.sent g.effects.notes h q;
 }
 
@@ -92,6 +101,7 @@ quiet_handled R g h q = record {
 pub goes_here : (g : Going) → GoesFrom g g
 goes_here g = record {
   number_is = refl;
+  tag_is = inl refl;
   fresh = [];
   sent_is = sym (append-nil g.effects.sent);
   rises = omega arith;
@@ -132,11 +142,12 @@ quiet_raised kind g =
     quiet_repair _ (at_mended _ _ _) kind (raised g) (record { components = refl; tag = refl; number = refl })
 
 pub goes_fenced : (kind : JobKind) (g : Going) (old : List Awaited)
-    → Goes g.file.kept.number g.effects.nonce g.effects.sent old (fenced kind g)
+    → Goes g.file.kept.number g.file.kept.tag g.effects.nonce g.effects.sent old (fenced kind g)
 goes_fenced kind g old =
     let q = quiet_raised kind g in
     record {
       number_is = q.kept.number;
+      tag_is = inr q.kept.tag;
       fresh = awaited_by (fenced kind g).file.job;
       sent_is = q.sent_is;
       rises = q.rises;
@@ -226,10 +237,12 @@ fencing_or R (c ∷ cs) kind g raises asked = record {
 
 goes_or : (ws : List Awaited) (kind : JobKind) (g : Going) (old : List Awaited) → Numbered g.effects.nonce ws
     → AllOwned ws
-    → Goes g.file.kept.number g.effects.nonce g.effects.sent old (rests_or ws g kind Fences (fenced kind g))
+    → Goes g.file.kept.number g.file.kept.tag g.effects.nonce g.effects.sent old
+    (rests_or ws g kind Fences (fenced kind g))
 goes_or [] kind g old n o = goes_fenced kind g old
 goes_or (c ∷ cs) kind g old n o = record {
   number_is = refl;
+  tag_is = inl refl;
   fresh = c ∷ cs;
   sent_is = refl;
   rises = refl;
@@ -254,46 +267,48 @@ handled_fence R kind format g =
 
 -- ---- a file that is made
 
-pub quiet_is_made : (n : ℕ) (g : Going) → g.file.kept.number ≡ n → From (IsNumber n) g (is_made g)
-quiet_is_made n g is =
-    noted (IsNumber n) (keeping g (record g.file.kept { ready = true })) (is_made g) Ready refl
-    (quiet_over (IsNumber n) (noting (keeping g (record g.file.kept { ready = true })) Ready) is)
+pub quiet_is_made : (g : Going) → From (IsAsHere g) g (is_made g)
+quiet_is_made g =
+    noted (IsAsHere g) (keeping g (record g.file.kept { ready = true })) (is_made g) Ready refl
+    (quiet_over (IsAsHere g) (noting (keeping g (record g.file.kept { ready = true })) Ready) (refl, refl))
 
 pub handled_making : (R : Reached) (g : Going) → Handled R g (making g)
 unfolding making
 handled_making R g =
     quiet_handled R g _
-    (quiet_rests_or (IsNumber g.file.kept.number) _ g _ _ _ refl
+    (quiet_rests_or (IsAsHere g) _ g _ _ _ (refl, refl)
     (each_numbered g.file.kept _ _ g.file.kept.components 0 g.effects.nonce)
     (each_owned g.file.kept _ _ g.file.kept.components 0 g.effects.nonce) refl
-    (quiet_is_made g.file.kept.number g refl))
+    (quiet_is_made g))
 
 -- ---- the job goes on
 
 -- the next part of a job that isn't a fence
 quiet_on : (kind : JobKind) (work : Work) (heard : List Heard) (g : Going) → is_fences work ≡ false
-    → From (IsNumber g.file.kept.number) g (goes_on kind work heard g)
+    → From (IsAsHere g) g (goes_on kind work heard g)
 unfolding goes_on
-quiet_on kind Creates heard g e = quiet_is_made g.file.kept.number g refl
+quiet_on kind Creates heard g e = quiet_is_made g
 quiet_on kind Fences heard g e = absurd (cc e)
-quiet_on kind (Fetches ps short) heard g e = quiet_fetched _ (number_mended _) kind g ps short heard refl
-quiet_on kind (Stores ps short broken) heard g e = quiet_written _ (number_mended _) kind g ps short broken refl
-quiet_on kind (Targets t) heard g e = quiet_fills _ (number_placed _) g t _ refl
-quiet_on kind (Gathers t ps) heard g e = quiet_gathered _ (number_placed _) g t ps heard refl
-quiet_on kind (Fills t ps) heard g e = quiet_filled _ (number_placed _) g t ps refl
-quiet_on kind Lengths heard g e = quiet_audits_all _ g heard refl
-quiet_on kind (Checks ps t) heard g e = quiet_audited _ g ps t heard refl
+quiet_on kind (Fetches ps short) heard g e = quiet_fetched _ (file_mended _ _) kind g ps short heard (refl, refl)
+quiet_on kind (Stores ps short broken) heard g e = quiet_written _ (file_mended _ _) kind g ps short broken (refl, refl)
+quiet_on kind (Targets t) heard g e = quiet_fills _ (file_placed _ _) g t _ (refl, refl)
+quiet_on kind (Gathers t ps) heard g e = quiet_gathered _ (file_placed _ _) g t ps heard (refl, refl)
+quiet_on kind (Fills t ps) heard g e = quiet_filled _ (file_placed _ _) g t ps (refl, refl)
+quiet_on kind Lengths heard g e = quiet_audits_all _ g heard (refl, refl)
+quiet_on kind (Checks ps t) heard g e = quiet_audited _ g ps t heard (refl, refl)
 
 -- it waits for what is left, or goes on
 pub goes_waits : (g : Going) (j : Job) (work : Work) (rest : List Awaited) (heard : List Heard) (old : List Awaited)
     → ((a : Awaited) → In a rest → In a old)
-    → Goes g.file.kept.number g.effects.nonce g.effects.sent old (waits_or_on g j work rest heard)
+    → Goes g.file.kept.number g.file.kept.tag g.effects.nonce g.effects.sent old (waits_or_on g j work rest heard)
 unfolding goes_on
 goes_waits g j Fences [] heard old left = goes_fenced j.kind g old
 goes_waits g j work [] heard old left =
-    quiet_goes g.file.kept.number g.effects.nonce g.effects.sent old g.effects.notes _ (quiet_on j.kind work heard g refl)
+    quiet_goes g.file.kept.number g.file.kept.tag g.effects.nonce g.effects.sent old g.effects.notes _
+    (quiet_on j.kind work heard g refl)
 goes_waits g j work (c ∷ cs) heard old left = record {
   number_is = refl;
+  tag_is = inl refl;
   fresh = [];
   sent_is = sym (append-nil g.effects.sent);
   rises = omega arith;
@@ -338,45 +353,64 @@ quiet_refills : (K : Kept → Type 0) → IsPlaced K → (g : Going) (t : Target
 quiet_refills K c g t ps true k = quiet_gone K g t k
 quiet_refills K c g t ps false k = quiet_fills K c g t ps k
 
-goes_remakes : (g : Going) (t : Target) (gone : Bool) → GoesFrom g (remakes g t gone)
-goes_remakes g t true =
-    quiet_goes g.file.kept.number g.effects.nonce g.effects.sent (awaited_by g.file.job) g.effects.notes _
-    (quiet_gone (IsNumber g.file.kept.number) g t refl)
-goes_remakes g t false = goes_here g
+goes_remakes : (g : Going) (t : Target) (gone : Bool) (old : List Awaited)
+    → ((a : Awaited) → In a (awaited_by g.file.job) → In a old)
+    → Goes g.file.kept.number g.file.kept.tag g.effects.nonce g.effects.sent old (remakes g t gone)
+goes_remakes g t true old left =
+    quiet_goes g.file.kept.number g.file.kept.tag g.effects.nonce g.effects.sent old g.effects.notes _
+    (quiet_gone (IsAsHere g) g t (refl, refl))
+goes_remakes g t false old left =
+    record {
+      number_is = refl;
+      tag_is = inl refl;
+      fresh = [];
+      sent_is = sym (append-nil g.effects.sent);
+      rises = omega arith;
+      numbered = tt;
+      owned = λ was. none_owned;
+      waits = λ a i. inl (left a i);
+    }
 
 other_remakes : (R : Reached) (g : Going) (t : Target) (gone : Bool) → is_fencing g.file.job ≡ false
     → Fencing R g.effects.notes (remakes g t gone)
 other_remakes R g t true none =
-    quiet_fencing R _ g.effects.nonce g.effects.sent g.effects.notes _ (quiet_gone (IsNumber g.file.kept.number) g t refl)
+    quiet_fencing R _ g.effects.nonce g.effects.sent g.effects.notes _ (quiet_gone (IsAsHere g) g t (refl, refl))
 other_remakes R g t false none = fencing_here R g (λ e. absurd (cc (sym e ∙ none)))
+
+-- what is awaited then was among these, as long as the rest is, and all is where a target waits as before
+pub goes_left : (g : Going) (j : Job) (work : Work) (rest : List Awaited) (gone : Bool) (old : List Awaited)
+    → ((a : Awaited) → In a rest → In a old)
+    → ((t : Target) → work ≡ Targets t → (a : Awaited) → In a (awaited_by g.file.job) → In a old)
+    → Goes g.file.kept.number g.file.kept.tag g.effects.nonce g.effects.sent old (loses g j work rest gone)
+unfolding loses
+goes_left g j (Fetches ps short) rest gone old left all =
+    quiet_goes _ _ _ _ _ _ _ (quiet_repairs (IsAsHere g) (file_mended _ _) j.kind g ps short (refl, refl))
+goes_left g j (Stores ps short broken) rest gone old left all = goes_waits g j _ rest _ old left
+goes_left g j (Targets t) rest gone old left all = goes_remakes g t gone old (all t refl)
+goes_left g j (Gathers t ps) rest gone old left all =
+    quiet_goes _ _ _ _ _ _ _ (quiet_refills (IsAsHere g) (file_placed _ _) g t ps gone (refl, refl))
+goes_left g j (Fills t ps) rest gone old left all =
+    quiet_goes _ _ _ _ _ _ _ (quiet_refills (IsAsHere g) (file_placed _ _) g t ps gone (refl, refl))
+goes_left g j (Checks ps t) rest gone old left all =
+    quiet_goes _ _ _ _ _ _ _ (quiet_audits (IsAsHere g) g ps t (refl, refl))
+goes_left g j work rest gone old left all = goes_waits g j work rest j.heard old left
 
 pub goes_loses : (g : Going) (j : Job) (work : Work) (rest : List Awaited) (gone : Bool)
     → ((a : Awaited) → In a rest → In a (awaited_by g.file.job)) → GoesFrom g (loses g j work rest gone)
-unfolding loses
-goes_loses g j (Fetches ps short) rest gone left =
-    quiet_goes _ _ _ _ _ _ (quiet_repairs (IsNumber g.file.kept.number) (number_mended _) j.kind g ps short refl)
-goes_loses g j (Stores ps short broken) rest gone left = goes_waits g j _ rest _ _ left
-goes_loses g j (Targets t) rest gone left = goes_remakes g t gone
-goes_loses g j (Gathers t ps) rest gone left =
-    quiet_goes _ _ _ _ _ _ (quiet_refills (IsNumber g.file.kept.number) (number_placed _) g t ps gone refl)
-goes_loses g j (Fills t ps) rest gone left =
-    quiet_goes _ _ _ _ _ _ (quiet_refills (IsNumber g.file.kept.number) (number_placed _) g t ps gone refl)
-goes_loses g j (Checks ps t) rest gone left =
-    quiet_goes _ _ _ _ _ _ (quiet_audits (IsNumber g.file.kept.number) g ps t refl)
-goes_loses g j work rest gone left = goes_waits g j work rest j.heard _ left
+goes_loses g j work rest gone left = goes_left g j work rest gone (awaited_by g.file.job) left (λ t e a i. i)
 
 pub other_loses : (R : Reached) (g : Going) (j : Job) (work : Work) (rest : List Awaited) (gone : Bool)
     → is_fences work ≡ false → is_fencing g.file.job ≡ false → Fencing R g.effects.notes (loses g j work rest gone)
 unfolding loses
 other_loses R g j Fences rest gone e none = absurd (cc e)
 other_loses R g j (Fetches ps short) rest gone e none =
-    quiet_fencing R _ _ _ _ _ (quiet_repairs (IsNumber g.file.kept.number) (number_mended _) j.kind g ps short refl)
+    quiet_fencing R _ _ _ _ _ (quiet_repairs (IsAsHere g) (file_mended _ _) j.kind g ps short (refl, refl))
 other_loses R g j (Stores ps short broken) rest gone e none = other_waits R g j _ rest _ refl
 other_loses R g j (Targets t) rest gone e none = other_remakes R g t gone none
 other_loses R g j (Gathers t ps) rest gone e none =
-    quiet_fencing R _ _ _ _ _ (quiet_refills (IsNumber g.file.kept.number) (number_placed _) g t ps gone refl)
+    quiet_fencing R _ _ _ _ _ (quiet_refills (IsAsHere g) (file_placed _ _) g t ps gone (refl, refl))
 other_loses R g j (Fills t ps) rest gone e none =
-    quiet_fencing R _ _ _ _ _ (quiet_refills (IsNumber g.file.kept.number) (number_placed _) g t ps gone refl)
+    quiet_fencing R _ _ _ _ _ (quiet_refills (IsAsHere g) (file_placed _ _) g t ps gone (refl, refl))
 other_loses R g j (Checks ps t) rest gone e none =
-    quiet_fencing R _ _ _ _ _ (quiet_audits (IsNumber g.file.kept.number) g ps t refl)
+    quiet_fencing R _ _ _ _ _ (quiet_audits (IsAsHere g) g ps t (refl, refl))
 other_loses R g j work rest gone e none = other_waits R g j work rest j.heard e

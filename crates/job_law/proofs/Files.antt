@@ -13,7 +13,7 @@ use Rattle.server_rules.specs.Orders.{declares_each}
 use Rattle.server_rules.specs.Openings.{opens, opens_each}
 use Rattle.server_rules.specs.Rounds.{Round, step_round}
 use Rattle.server_rules.specs.Laws.{In}
-use Rattle.server_rules.proofs.Members.{in_front, in_behind, in_either, in_mapped}
+use Rattle.server_rules.proofs.Members.{in_front, in_behind, in_either, in_map, in_mapped}
 use Rattle.job_law.specs.Numbered.{Numbered, Awaits, IsOf, NumbersOn}
 use Rattle.job_law.specs.Fencing.{Reached, is_fencing, IsFencing, AreFencing, FencesHold}
 use Rattle.job_law.specs.Owned.{AreOwned, Owns}
@@ -125,13 +125,14 @@ pub record IsStepAt (s : Server) (f : File) (h : Going) (t : Step) : Type 0 wher
   pub notes : t.notes ≡ h.effects.notes
   pub sends : (drive : ℕ) (c : Command) → In (ToDrive drive c) t.sends
       → In (ToDrive drive c) (to_drives s.drives h.effects.sent)
+  pub out : (a : Awaited) → In a h.effects.sent → In (to_drive t.state.drives a) t.sends
 
 module _ (s : Server) (f : File) (h : Going) (t : Step) (is : IsStepAt s f h t) where
   none_awaited : (o : Option Job) (a : Awaited) → o ≡ None → In a (awaited_by o) → ⊥
   none_awaited o a e i = subst (λ (x : Option Job). In a (awaited_by x)) e i
 
-  pub numbers_at : (number : ℕ) → Goes number s.next_nonce [] (awaited_by f.job) h → NumbersOn s t
-  numbers_at number g = record {
+  pub numbers_at : (number tag : ℕ) → Goes number tag s.next_nonce [] (awaited_by f.job) h → NumbersOn s t
+  numbers_at number tag g = record {
     fresh = g.fresh;
     numbered = g.numbered;
     rises = is.nonce ∙ g.rises;
@@ -146,10 +147,11 @@ module _ (s : Server) (f : File) (h : Going) (t : Step) (is : IsStepAt s f h t) 
     sends = λ drive c i.
         let r = in_drives s.drives h.effects.sent drive c (is.sends drive c i) in
         (r.0, r.1, inr (subst (In r.0) g.sent_is r.2));
+    goes_out = λ a i. is.out a (subst (In a) (sym g.sent_is) i);
   }
 
-  pub owns_at : (number : ℕ) → Goes number s.next_nonce [] (awaited_by f.job) h → Owns s t
-  owns_at number g = record {
+  pub owns_at : (number tag : ℕ) → Goes number tag s.next_nonce [] (awaited_by f.job) h → Owns s t
+  owns_at number tag g = record {
     waits = λ were a w. let x = w.0 in elim (is.files x w.1) [
       | inl same ↦ elim (g.waits a (subst (λ (y : File). In a (awaited_by y.job)) same w.2)) [
         | inl old ↦ were a (is.awaits a old)
@@ -287,6 +289,7 @@ numbers_round s t r same g = record {
   waits = g.waits;
   sends = λ drive c i.
       let x = in_drives t.drives r.effects.sent drive c i in (x.0, x.1, inr (subst (In x.0) g.sent_is x.2));
+  goes_out = λ a i. in_map (to_drive t.drives) a r.effects.sent (subst (In a) (sym g.sent_is) i);
 }
 
 pub owns_round : (s t : Server) (r : Round) → GoesAll s.next_nonce [] s.files r → Owns s (step_round t r)

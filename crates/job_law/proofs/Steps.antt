@@ -10,7 +10,7 @@ use Rattle.server_rules.specs.Going.{Going}
 use Rattle.server_rules.specs.Served.{Served}
 use Rattle.server_rules.specs.Answers.{recalls_from}
 use Rattle.server_rules.specs.Slots.{Admit, New, Again, Misordered, admit, slot_of}
-use Rattle.server_rules.specs.Files.{Step, still, file_at, add_file, at_file, to_drives, step_at}
+use Rattle.server_rules.specs.Files.{Step, still, file_at, add_file, at_file, to_drive, to_drives, step_at}
 use Rattle.server_rules.specs.Jobs.{making}
 use Rattle.server_rules.specs.Replies.{on_reply}
 use Rattle.server_rules.specs.Requests.{carried_out, carries_out, by_admit, on_request}
@@ -20,7 +20,7 @@ use Rattle.server_rules.specs.Making.{refusal, unless_refused, makes_file, with_
 use Rattle.server_rules.specs.Openings.{crashed_file, reopen}
 use Rattle.server_rules.specs.History.{Input, Hears, Makes, Obeys, Adds, Zones, Formats, Resends, Crashes, Opens, unless_made, step}
 use Rattle.server_rules.specs.Laws.{In}
-use Rattle.server_rules.proofs.Members.{in_front, in_behind, in_either, in_mapped}
+use Rattle.server_rules.proofs.Members.{in_front, in_behind, in_either, in_map, in_mapped}
 use Rattle.job_law.specs.Numbered.{Awaits, IsOf, NumbersOn, EachStepNumbers, EachRunNumbers}
 use Rattle.job_law.specs.Fencing.{Reached, is_fencing, AreFencing, IsHeardTruly, FencesHold, FencesWait}
 use Rattle.job_law.proofs.Lists.{numbered_at, numbered_more}
@@ -62,6 +62,7 @@ both_idle R given s t i = record {
       | inr none ↦ absurd (no_job_awaits w.0.job a none w.2)
     ];
     sends = λ drive c j. absurd (i.sends drive c j);
+    goes_out = λ a j. absurd j;
   };
   owns = record {
     waits = λ were a w. elim (i.files w.0 w.1) [
@@ -111,6 +112,7 @@ at_put s chosen n f h i e = record {
   nonce = refl;
   notes = refl;
   sends = λ drive c j. j;
+  out = λ a j. in_map (to_drive s.drives) a h.effects.sent j;
 }
 
 both_at : (R : Reached) (given : Type 0) (s : Server) (chosen : List ℕ) (n : ℕ) (f : File) (h : Going) → In f s.files
@@ -118,8 +120,8 @@ both_at : (R : Reached) (given : Type 0) (s : Server) (chosen : List ℕ) (n : �
 both_at R given s chosen n f h i e d =
     let is = at_put s chosen n f h i e in
     record {
-      numbers = numbers_at s f h (step_at s n h) is f.kept.number d.goes;
-      owns = owns_at s f h (step_at s n h) is f.kept.number d.goes;
+      numbers = numbers_at s f h (step_at s n h) is f.kept.number f.kept.tag d.goes;
+      owns = owns_at s f h (step_at s n h) is f.kept.number f.kept.tag d.goes;
       fences = λ were g. fences_at s f h (step_at s n h) is R were (d.fences (were f i));
     }
 
@@ -130,8 +132,8 @@ carried : (R : Reached) (given : Type 0) (s : Server) (q : ClientRequest) (chose
     → Both R given s (carried_out s q v)
 carried R given s q chosen f v i e d =
     record {
-      numbers = numbers_at s f v.going (carried_out s q v) is f.kept.number d.goes;
-      owns = owns_at s f v.going (carried_out s q v) is f.kept.number d.goes;
+      numbers = numbers_at s f v.going (carried_out s q v) is f.kept.number f.kept.tag d.goes;
+      owns = owns_at s f v.going (carried_out s q v) is f.kept.number f.kept.tag d.goes;
       fences = λ were g. fences_at s f v.going (carried_out s q v) is R were (d.fences (were f i));
     }
   where
@@ -149,6 +151,9 @@ carried R given s q chosen f v i e d =
           | inr l ↦ absurd (no_answer _ drive c l)
         ]
       ];
+      out = λ a j.
+          in_front (to_drive s.drives a) (to_drives s.drives v.going.effects.sent) _
+          (in_map (to_drive s.drives) a v.going.effects.sent j);
     }
 
 carries : (R : Reached) (given : Type 0) (s : Server) (now : ℕ) (chosen : List ℕ) (q : ClientRequest) (o : Option File)
@@ -210,8 +215,8 @@ heard_both R s chosen drive r o Nobody = both_still R _ s
 heard_both R s chosen drive r o (Somebody f h i goes fences) =
     let is = at_put s chosen h.file.kept.number f h i (sym goes.number_is) in
     record {
-      numbers = numbers_at s f h (step_at s h.file.kept.number h) is f.kept.number goes;
-      owns = owns_at s f h (step_at s h.file.kept.number h) is f.kept.number goes;
+      numbers = numbers_at s f h (step_at s h.file.kept.number h) is f.kept.number f.kept.tag goes;
+      owns = owns_at s f h (step_at s h.file.kept.number h) is f.kept.number f.kept.tag goes;
       fences = λ were g. fences_at s f h (step_at s h.file.kept.number h) is R were (fences (were f i) (g f i));
     }
 
@@ -285,6 +290,7 @@ answered R given s kind o b = record {
       | inr (inl e) ↦ absurd (cc e)
       | inr (inr none) ↦ absurd none
     ];
+    goes_out = λ a i. in_front (to_drive o.step.state.drives a) o.step.sends _ (b.numbers.goes_out a i);
   };
   owns = record {
     waits = b.owns.waits;
@@ -336,8 +342,8 @@ made R given s f (Some why) none = both_still R given s
 made R given s f None none =
     let d = handled_making R (at_file (with_file s f) [] f) in
     record {
-      numbers = numbers_at s f h (makes_file s f) is f.kept.number d.goes;
-      owns = owns_at s f h (makes_file s f) is f.kept.number d.goes;
+      numbers = numbers_at s f h (makes_file s f) is f.kept.number f.kept.tag d.goes;
+      owns = owns_at s f h (makes_file s f) is f.kept.number f.kept.tag d.goes;
       fences = λ were g. fences_at s f h (makes_file s f) is R were
           (d.fences (λ e. absurd (cc (sym e ∙ ap is_fencing none))));
     }
@@ -359,6 +365,7 @@ made R given s f None none =
       nonce = refl;
       notes = refl;
       sends = λ drive c i. i;
+      out = λ a i. in_map (to_drive s.drives) a h.effects.sent i;
     }
 
 created : (R : Reached) (given : Type 0) (s : Server) (n : ℕ) (m : RawMap) (tag : ℕ) (zoned : Bool) (chosen : List ℕ)
@@ -384,6 +391,7 @@ resent R given s = record {
     rises = omega arith;
     waits = λ a w. inl w;
     sends = λ drive c i. let r = in_flat s.drives s.files drive c i in (r.0, r.1, inl r.2);
+    goes_out = λ a i. absurd i;
   };
   owns = record {
     waits = λ were. were;

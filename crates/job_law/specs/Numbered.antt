@@ -2,7 +2,7 @@
 use Rattle.std.specs.Prelude.{◌≡◌, ◌⊎◌, ℕ, ◌+◌, List, [], ◌∷◌, length}
 use Rattle.osd_commands.specs.declared.commands.Command.{Command}
 use Rattle.job_law.specs.Names.{Server, File, Awaited, ToDrive}
-use Rattle.server_rules.specs.Files.{Step}
+use Rattle.server_rules.specs.Files.{Step, to_drive}
 use Rattle.server_rules.specs.Messages.{awaited_by}
 use Rattle.server_rules.specs.History.{Input, Act, step, state_after}
 use Rattle.server_rules.specs.Laws.{In}
@@ -21,7 +21,7 @@ abbrev pub IsOf : (drive : ℕ) → Command → Awaited → Type 0
 IsOf drive c a = (a.drive ≡ drive) × (c ≡ record a.command { check = c.check })
 
 -- A step numbers its new commands from the server's next nonce on, and that rises by as many. What jobs await behind it
--- was awaited before or is new, and so is each command that is sent.
+-- was awaited before or is new, and so is each command that is sent. Each new one is sent, under its drive's key.
 pub record NumbersOn (s : Server) (t : Step) : Type 0 where
   pub fresh : List Awaited
   pub numbered : Numbered s.next_nonce fresh
@@ -29,6 +29,7 @@ pub record NumbersOn (s : Server) (t : Step) : Type 0 where
   pub waits : (a : Awaited) → Awaits t.state.files a → Awaits s.files a ⊎ In a fresh
   pub sends : (drive : ℕ) (c : Command) → In (ToDrive drive c) t.sends →
       (a : Awaited) × IsOf drive c a × (Awaits s.files a ⊎ In a fresh)
+  pub goes_out : (a : Awaited) → In a fresh → In (to_drive t.state.drives a) t.sends
 
 -- so does each step
 abbrev pub EachStepNumbers : Type 0

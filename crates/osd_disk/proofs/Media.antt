@@ -48,6 +48,19 @@ did_more m call first calls fails faults a b c d =
     the_medium : List ℕ → List Call → List ℕ → ℕ → Medium
     the_medium f cs ns n = record { first = f; calls = cs; fails = ns; faults = n }
 
+-- the same of a disk that was told before and after by its past
+abbrev Told : List ℕ → List Call → Medium
+Told first calls = record { first = first; calls = calls; fails = []; faults = 0 }
+
+pub did_told : (m : Medium) (call : Call) (first first' : List ℕ) (calls calls' : List Call) → Told first calls ≡ m
+    → first' ≡ first → calls' ≡ calls ++ call ∷ [] → Did call m (Told first' calls')
+did_told m call first first' calls calls' is a b =
+    did_more m call first' calls' [] 0
+    (a ∙ ap (λ (k : Medium). k.first) is)
+    (b ∙ ap (λ (k : Medium). k.calls ++ call ∷ []) is)
+    (ap (λ (k : Medium). k.fails) is)
+    (ap (λ (k : Medium). k.faults) is)
+
 -- what a crash may leave after one more
 left_last : (calls : List Call) (call : Call) (seen : List ℕ) (before : Outcomes) (c : List ℕ) →
     left_after (calls ++ call ∷ []) seen before c → left_by call (all_done calls seen) (λ d. left_after calls seen before d) c

@@ -1,10 +1,8 @@
 -- What a disk in memory is seen as.
-use Rattle.std.specs.Prelude.{◌≡◌, ◌⊎◌, ℕ, List, [], ◌∷◌, ◌++◌, Option, Some, None, Result, IsErrOf}
+use Rattle.std.specs.Prelude.{◌≡◌, ◌⊎◌, ℕ, List, [], ◌∷◌, ◌++◌, Option, Some, None}
 use Rattle.osd_disk.specs.Calls.{all_done, left_after, left_from}
 use Rattle.osd_disk.specs.declared.calls.Call.{Call}
 use Rattle.osd_disk.specs.declared.calls.Call.TheVariants.{Idle}
-use Rattle.osd_disk.specs.declared.disk.DiskErr.{DiskErr}
-use Rattle.osd_disk.specs.declared.disk.DiskErr.TheVariants.{Fault}
 
 -- its first bytes, its calls since, the numbers of the calls that fail, and the faults so far
 pub record Medium : Type 0 where
@@ -38,11 +36,6 @@ Did call old new = new ≡ record old { calls = old.calls ++ call ∷ [] }
 abbrev pub Failed : Medium → Medium → Type 0
 Failed old new =
     (new ≡ record old { faults = new.faults }) ⊎ (new ≡ record old { calls = old.calls ++ Idle ∷ []; faults = new.faults })
-
--- none of its calls fails, and this one didn't
-pub record StaysSure {T : Type 0} (now : Medium) (result : Result T DiskErr) : Type 0 where
-  pub fails : now.fails ≡ []
-  pub no_fault : IsErrOf result Fault → ⊥
 
 -- a disk with these bytes, of which none of the calls fails
 abbrev pub fresh : List ℕ → Medium

@@ -1,27 +1,31 @@
 ghost use Rattle.std.specs.Prelude.{◌≡◌, [], length};
 
-use crate::calls::Call;
+use crate::calls::write_over;
 use crate::disk::{Disk, DiskErr};
-use crate::mem_disk::{MemDisk, copy_from, size_of};
-use osd_lists::Numbers;
+use crate::mem_disk::{copy_from, size_of};
+use crate::past::Past;
+use osd_lists::Bytes;
 use std::alloc::Global;
 use std::marker::Model;
 
 /// A disk in memory whose calls don't fail but for want of memory: the count of its faults stays 0.
+/// It keeps its bytes alone: what was done to it is known to clauses, and costs nothing.
 #[derive(Drop)]
 pub struct FaultlessDisk {
-    disk: MemDisk,
+    bytes: Bytes,
+    past: Past,
 }
 
 impl Model for FaultlessDisk {
     ghost use Rattle.std.specs.Prelude.{◌≡◌, []};
+    ghost use Rattle.osd_disk.specs.Calls.{all_done};
     ghost use Rattle.osd_disk.specs.Medium.{Medium};
 
     ghost Value = { Medium };
 
-    ghost view = { λ d. d.disk };
+    ghost view = { λ d. record { first = d.past.first; calls = d.past.calls; fails = []; faults = 0 } };
 
-    ghost invariant = { λ d. d.disk.fails ≡ [] };
+    ghost invariant = { λ d. d.bytes ≡ all_done d.past.calls d.past.first };
 }
 
 impl FaultlessDisk {
@@ -31,18 +35,22 @@ impl FaultlessDisk {
     pub fn new(alloc: Global) -> Self
         ensures { result ≡ fresh [] }
     {
-        FaultlessDisk {
-            disk: MemDisk::new(alloc, Numbers::new(alloc)),
-        }
+        FaultlessDisk::holding(Bytes::new(alloc))
     }
 
-    /// The disk after a crash that left all that was written. The record of its calls is given back.
+    /// The disk after a crash that left all that was written.
     pub fn crash(self) -> Self
         ensures { result ≡ fresh (bytes_of self) }
     {
-        FaultlessDisk {
-            disk: self.disk.crash(),
-        }
+        FaultlessDisk::holding(self.bytes)
+    }
+
+    // A disk with these bytes, to which nothing was done yet.
+    fn holding(bytes: Bytes) -> Self
+        ensures { result ≡ fresh bytes }
+    {
+        let past = Past::of_these(bytes.as_slice());
+        FaultlessDisk { bytes, past }
     }
 }
 
@@ -71,24 +79,25 @@ impl Disk for FaultlessDisk {
     ghost seen_may_stay = { λ m told. all_seen_stays m.calls m.first (λ d. d ≡ m.first) refl };
 
     fn open(&mut self, _name: &str) -> Result<(), DiskErr> {
-        self.disk.note_idle()
+        Ok(())
     }
 
     fn size(&mut self) -> Result<u64, DiskErr> {
-        self.disk.note_idle()?;
-        Ok(size_of(self.disk.bytes()))
+        Ok(size_of(self.bytes.as_slice()))
     }
 
     fn read(&mut self, at: u64, buf: &mut [u8]) -> Result<usize, DiskErr> {
-        self.disk.note_idle()?;
-        Ok(copy_from(self.disk.bytes(), at, buf))
+        Ok(copy_from(self.bytes.as_slice(), at, buf))
     }
 
     fn write_at(&mut self, at: u64, bytes: &[u8]) -> Result<(), DiskErr> {
-        self.disk.write(at, bytes)
+        write_over(&mut self.bytes, at, bytes)?;
+        self.past = self.past.with_write(at, bytes);
+        Ok(())
     }
 
     fn sync(&mut self) -> Result<(), DiskErr> {
-        self.disk.note(Call::Sync)
+        self.past = self.past.with_sync();
+        Ok(())
     }
 }

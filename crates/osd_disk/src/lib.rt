@@ -1,7 +1,8 @@
 //! A disk as a log sees it: which bytes a read gives, and which a crash at any moment may leave.
 //!
 //! The trait [`Disk`] is what is asked of a disk. [`MemDisk`] is one in memory, for tests and for
-//! worlds: it can fail at each call, and be crashed between any two. The calls of [`FaultlessDisk`] don't fail.
+//! worlds: it can fail at each call, and be crashed between any two. The calls of [`FaultlessDisk`] don't fail,
+//! and it keeps its bytes alone.
 #![tactic(auto)]
 
 mod calls;
@@ -9,6 +10,7 @@ mod disk;
 mod faultless;
 mod images;
 mod mem_disk;
+mod past;
 mod whole;
 
 pub use calls::Call;

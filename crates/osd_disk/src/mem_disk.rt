@@ -35,7 +35,7 @@ impl Model for MemDisk {
 }
 
 impl MemDisk {
-    ghost use Rattle.osd_disk.specs.Medium.{Did, Failed, StaysSure, bytes_of, may_hold, might_hold};
+    ghost use Rattle.osd_disk.specs.Medium.{Did, Failed, bytes_of, may_hold, might_hold};
     ghost use Rattle.osd_disk.specs.declared.calls.Call.TheVariants.{Idle, Sync, Write};
 
     /// A disk with no bytes.
@@ -101,11 +101,10 @@ impl MemDisk {
     }
 
     // Notes a call that writes nothing.
-    pub(crate) fn note(&mut self, call: Call) -> Result<(), DiskErr>
+    fn note(&mut self, call: Call) -> Result<(), DiskErr>
         requires { (call ≡ Idle) ⊎ (call ≡ Sync) }
         ensures ok { OnOk result (Did call self.old self.new) }
         ensures err { OnErr result (Failed self.old self.new) }
-        ensures sure { self.old.fails ≡ [] → StaysSure self.new result }
         ensures cause { HasDiskCause self.old.faults self.new.faults result }
     {
         if is_listed(self.fails.as_slice(), self.calls.len()) {
@@ -116,11 +115,10 @@ impl MemDisk {
     }
 
     // Notes a call that changes nothing.
-    pub(crate) fn note_idle(&mut self) -> Result<(), DiskErr>
+    fn note_idle(&mut self) -> Result<(), DiskErr>
         ensures seen { bytes_of self.new ≡ bytes_of self.old }
         ensures crash { Narrows (may_hold self.old) (may_hold self.new) }
         ensures time { Elapses (length self.old.calls) (length self.new.calls) (might_hold self.old) (might_hold self.new) (may_hold self.new) }
-        ensures sure { self.old.fails ≡ [] → StaysSure self.new result }
         ensures cause { HasDiskCause self.old.faults self.new.faults result }
     {
         self.note(Call::Idle)
@@ -138,10 +136,9 @@ impl MemDisk {
     }
 
     // A call that writes bytes from a place on.
-    pub(crate) fn write(&mut self, at: u64, bytes: &[u8]) -> Result<(), DiskErr>
+    fn write(&mut self, at: u64, bytes: &[u8]) -> Result<(), DiskErr>
         ensures ok { OnOk result (Did (Write at bytes.now) self.old self.new) }
         ensures err { OnErr result (Failed self.old self.new) }
-        ensures sure { self.old.fails ≡ [] → StaysSure self.new result }
         ensures bound { OnOk result (at + length bytes.now < 2 ^ 63) }
         ensures cause { HasDiskCause self.old.faults self.new.faults result }
     {

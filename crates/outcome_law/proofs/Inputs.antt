@@ -18,6 +18,7 @@ use Rattle.client_rules.specs.Messages.{answered_get, on_get, commit_under, on_n
 use Rattle.client_rules.proofs.ReadSteps.{put_at}
 use Rattle.outcome_law.specs.Met.{Met, Answered, busy_status, busy_args, given_args, grant_under, failure_args, failure_at, lost_under, first_refusal, first_beyond}
 use Rattle.outcome_law.specs.Caused.{failure_of}
+use Rattle.outcome_law.proofs.Fetching.{failed_answers}
 use Rattle.outcome_law.proofs.Trace.{whole_failed, IsReturn, IsPlain, return_plain, return_gives, return_fails, return_quiet, busy_same, answered_works, answered_decided, EndsSo, last_says, lost_write, Decided, decided_ends}
 use Rattle.outcome_law.proofs.Working.{WritesOn, GoodTurn, GoodMoved, either_turn, turned_good, write_ends, accounted_good}
 use Rattle.outcome_law.proofs.Given.{IsGet, get_busy, get_gives, get_fails, NotGiven, Says, Again, not_given, taken_covers, again_works, again_ends, again_count, last_try, first_tries}
@@ -52,6 +53,7 @@ module _ (before : List Held) (mine : Option CallOp) (ms : List Met) where
               nothing_out,
               record {
                 works = answered_works op r a ms [] (return_plain r.args a return) x.works;
+                quiet = x.quiet;
                 says = return_quiet op r.args a ms return x.works.silent;
                 next = inl (ap length (busy_same r a ms (return_plain r.args a return)) ∙ x.count);
                 under = same;
@@ -82,6 +84,7 @@ module _ (before : List Held) (mine : Option CallOp) (ms : List Met) where
             last_says (grant_under before op now) op now [] (answered_works op r a ms [] p x.works)
             (ap (lost_under op now) (none_given none)) ∙ says ∙ sym fails;
         whole = whole_failed op o fails;
+        answer = failed_answers (grant_under before op now) op now o fails;
       }
 
       given : (t : Result Held Why) → taken a op ≡ t → (status == NFS4_OK) ≡ true → Good (answered_get d op t)
@@ -105,6 +108,7 @@ module _ (before : List Held) (mine : Option CallOp) (ms : List Met) where
                 nothing_out,
                 record {
                   works = answered_works op r a ms [] (plain e) x.works;
+                  quiet = x.quiet;
                   says = get_fails op r.args a ms get ∙ rw (ok, took) refl;
                   next = inr (h, there, c.1);
                   under = under (put_held d.client.held h) ∙ sym there;
@@ -124,6 +128,7 @@ module _ (before : List Held) (mine : Option CallOp) (ms : List Met) where
             nothing_out,
             record {
               works = again_works op r a ms o tries x.count (first_tries tries less) x.works;
+              quiet = x.quiet;
               count = again_count r a ms o tries says x.count;
               less = first_tries tries less;
               none = subst (λ (hs : List Held). held_of hs (file_of op) ≡ None) (sym held) x.none;
@@ -140,6 +145,7 @@ module _ (before : List Held) (mine : Option CallOp) (ms : List Met) where
                 (option_or (first_beyond op now) (lost_under op now (grant_under before op now))))) (failure_at op now))
                 (again_ends op r a ms o tries says x.count (last_try tries x.less less) x.works) ∙ sym fails;
             whole = whole_failed op o fails;
+            answer = failed_answers (grant_under before op now) op now o fails;
           })
 
       not_given_good : (status == NFS4_OK) ≡ false → NotGiven status a.detail tries
@@ -203,6 +209,7 @@ module _ (before : List Held) (mine : Option CallOp) (ms : List Met) where
             last_says (Some h) op now timed goes_on.works (lost_write (Some h) op now x.writes)
             ∙ commit_fails ∙ rw bad refl;
         whole = tt;
+        answer = tt;
       }
 
       commit_moved : GoodMoved h op (on_commit h op a timed) now
@@ -255,6 +262,7 @@ module _ (before : List Held) (mine : Option CallOp) (ms : List Met) where
                   last_says (grant_under before op now) op now (t ∷ ts) w.works
                   (lost_write (grant_under before op now) op now w.writes) ∙ says;
               whole = tt;
+              answer = tt;
             }
 
     closed_good : (o : Outcome) → IsReturn r.args → Decided op ms o → Good (over d o)

@@ -1,3 +1,7 @@
+pub mod Decodings
+pub mod Fetching
+pub mod ByteCauses
+pub mod PutBytes
 pub mod Trace
 pub mod Working
 pub mod Given
@@ -9,6 +13,7 @@ pub mod CallMoves
 pub mod CallEvents
 pub mod CallHistories
 pub mod Read
+pub mod ReadBytes
 pub mod PendingLines
 pub mod PendingMoves
 pub mod Awaiting

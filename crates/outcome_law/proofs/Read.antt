@@ -109,7 +109,7 @@ state_more : (c : Client) (is : List Input) (i : Input) → state_after c (is ++
 state_more c [] i = refl
 state_more c (j ∷ is) i = state_more (step c j).client is i
 
-met_more : (c : Client) (ms : List Met) (is : List Input) (i : Input)
+pub met_more : (c : Client) (ms : List Met) (is : List Input) (i : Input)
     → met_by c ms (is ++ i ∷ []) ≡ met_after (state_after c is) (met_by c ms is) i
 met_more c ms [] i = refl
 met_more c ms (j ∷ is) i = met_more (step c j).client (met_after c ms j) is i
@@ -146,7 +146,7 @@ module _ (took : ReadsTookReplies) (are_right : ReadsAreRight) where
       else if is_spent x.next then Err SlotSpent
       else Ok (starts x op))).outcome) (ap is_some is)) ∙ e))
 
-  call_of : (x : Client) (i : Input) (call : Call) (o : Outcome) → x.call ≡ Some call → (step x i).outcome ≡ Some o
+  pub call_of : (x : Client) (i : Input) (call : Call) (o : Outcome) → x.call ≡ Some call → (step x i).outcome ≡ Some o
       → call_in x i ≡ Some call.op
   call_of x (Calls op) call o is e = absurd (busy x op call o is e)
   call_of x (Hears from m) call o is e = ap (option_map (λ (c : Call). c.op)) is
@@ -176,10 +176,17 @@ module _ (took : ReadsTookReplies) (are_right : ReadsAreRight) where
             r.right d b (subst (λ (cs : List Column). Agrees r.held.map cs d) (sym got) g);
       }
 
+-- ---- what holds of each answered read whatever came to its client, in the lines
+
+module _ (P : LastStep → List ℕ → Type 0)
+    (holds : (k : ℕ) (is : List Input) (t : LastStep) (i : Input) (bytes : List ℕ)
+    → met_after (state_after (new_client k 1) is) t.met i ≡ met_by (new_client k 1) [] (is ++ i ∷ [])
+    → (step (state_after (new_client k 1) is) i).outcome ≡ Some (ReadOk bytes)
+    → P (stepped (state_after (new_client k 1) is) t i) bytes) where
   -- what is read of a call in the lines
   record IsRun (s : CallSeen) : Type 0 where
     ran : (a : ClientAt) → s.seen.client ≡ Some a → Ran a.state s.last.met
-    reads : (bytes : List ℕ) → s.last.outcome ≡ Some (ReadOk bytes) → IsOfReplies s.last bytes
+    reads : (bytes : List ℕ) → s.last.outcome ≡ Some (ReadOk bytes) → P s.last bytes
 
   same_client : (a b : ClientAt) → Some a ≡ Some b → a ≡ b
   same_client a b e = cc e
@@ -189,7 +196,7 @@ module _ (took : ReadsTookReplies) (are_right : ReadsAreRight) where
       record { number = new.0; inputs = []; state = new.1; met = inr (ap (λ (x : Client). x.call) new.1) }
 
   module _ (c : ℕ) (sent : List Sent) (t : LastStep)
-      (reads : (bytes : List ℕ) → t.outcome ≡ Some (ReadOk bytes) → IsOfReplies t bytes) (l : Line) where
+      (reads : (bytes : List ℕ) → t.outcome ≡ Some (ReadOk bytes) → P t bytes) (l : Line) where
     by_input : (a : ClientAt) → Ran a.state t.met → (i : Option Input) → (o : Option ClientAt) → Becomes a i o
         → IsRun (record { seen = record { sent = []; client = o }; last = after_input a.state t i })
     by_input a x None o b = record {
@@ -203,8 +210,8 @@ module _ (took : ReadsTookReplies) (are_right : ReadsAreRight) where
       ran = λ d e. subst (λ (y : ClientAt). Ran y.state (met_after a.state t.met i))
           (same_client (went a i (step a.state i)) d (sym b ∙ e)) (ran_more a.state t.met i x);
       reads = λ bytes e.
-          subst (λ (z : Client). IsOfReplies (stepped z t i) bytes) (sym x.state)
-          (answered x.number x.inputs t i bytes
+          subst (λ (z : Client). P (stepped z t i) bytes) (sym x.state)
+          (holds x.number x.inputs t i bytes
           (ap (λ (z : Client). met_after z t.met i) (sym x.state) ∙ met_then a.state t.met x i)
           (ap (λ (z : Client). (step z i).outcome) (sym x.state) ∙ e));
     }
@@ -222,7 +229,7 @@ module _ (took : ReadsTookReplies) (are_right : ReadsAreRight) where
       all_run c (sees_call c s l) h (on_line c s.seen.sent s.last x.reads l s.seen.client x.ran)
 
   read_ended : (c : ℕ) (h : List Line) (bytes : List ℕ) → (call_seen c h).last.outcome ≡ Some (ReadOk bytes)
-      → IsOfReplies (call_seen c h).last bytes
+      → P (call_seen c h).last bytes
   read_ended c h bytes e =
       (all_run c _ h (record { ran = λ a e. absurd (cc e); reads = λ u e. absurd (cc e) })).reads bytes e
 
@@ -242,14 +249,19 @@ module _ (took : ReadsTookReplies) (are_right : ReadsAreRight) where
   told_read kind (Lost ps) bytes e = absurd (cc e)
   told_read kind (BadLayout why) bytes e = absurd (cc e)
 
-  at_line : (before : List Line) (l : Line) → CausedAt before l → AnswersAt before l
-  at_line before (line.Ended c (outcome.ReadOk bytes)) x =
+  -- so it does where a line tells the answer
+  pub told_so : (before : List Line) (c : ℕ) (bytes : List ℕ) → CausedAt before (line.Ended c (outcome.ReadOk bytes))
+      → P (call_seen c before).last bytes
+  told_so before c bytes x =
       read_ended c before bytes
       (x.ended ∙ ap (λ (f : Outcome). Some f) (told_read (kind_of x.op) x.outcome bytes x.is))
-  at_line before (line.Ended c (outcome.WriteOk n)) x = tt
-  at_line before (line.Ended c (outcome.Failed kind e)) x = tt
-  at_line before l x = tt
+
+at_line : (before : List Line) (l : Line) → CausedAt before l → AnswersAt before l
+at_line before (line.Ended c (outcome.ReadOk bytes)) x =
+    told_so IsOfReplies (answered reads_took_replies reads_are_right) before c bytes x
+at_line before (line.Ended c (outcome.WriteOk n)) x = tt
+at_line before (line.Ended c (outcome.Failed kind e)) x = tt
+at_line before l x = tt
 
 pub answers_are_of_replies : AnswersAreOfReplies
-answers_are_of_replies h l before x after is =
-    at_line reads_took_replies reads_are_right before x (ends_are_caused h l before x after is)
+answers_are_of_replies h l before x after is = at_line before x (ends_are_caused h l before x after is)

@@ -5,7 +5,7 @@ use Rattle.std.specs.Option.{option_or}
 use Rattle.std.proofs.lemmas.Bool.{eqb-true}
 use Rattle.osd_lists.specs.declared.node.Node.{Node}
 use Rattle.osd_lists.specs.declared.node.Node.TheVariants.{Server as FromServer, Drive as FromDrive, Client as FromClient}
-use Rattle.world_history.specs.ClientNames.{Client, Call, CallOp, Write, Read, CallErr, Busy, BadRange, SlotSpent, Held, Awaited, TimedOut, Need, First, Get, Commit, Report, Close, Phase, Starts, Needs, Waits, Reads, Probes, Gathers, Scatters, Outcome, WriteOk, Done, Request, Answer, Recall, Reply}
+use Rattle.world_history.specs.ClientNames.{Client, Call, CallOp, Write, Read, CallErr, Busy, BadRange, SlotSpent, Held, Awaited, TimedOut, Need, First, Get, Commit, Report, Close, Phase, Starts, Needs, Waits, Reads, Probes, Gathers, Scatters, Outcome, WriteOk, ReadOk, Done, Request, Answer, Recall, Reply}
 use Rattle.client_rules.specs.Calls.{file_of, span_of, is_write}
 use Rattle.client_rules.specs.Commands.{of_component}
 use Rattle.client_rules.specs.Grants.{held_of}
@@ -21,6 +21,7 @@ use Rattle.client_rules.proofs.ReadMoves.{found_in}
 use Rattle.outcome_law.specs.Met as met
 use Rattle.outcome_law.specs.Met.{Met, Answered, Replied, since, with_answer, with_taken, with_timeout, with_silence, met_after, met_by, busy_status, busy_args, busy_in, last_busy, timed_in, given_args, given_in, grant_under, why_in, status_failure, failure_args, failure_at, cut_short, failure_in, lost_under, first_refusal, first_beyond, as_lost}
 use Rattle.outcome_law.specs.Caused.{IsWhole, call_in, client_by, call_met, IsCaused, OutcomesAreCaused}
+use Rattle.outcome_law.proofs.Fetching.{Answers as HasAnswer, fetching_answered, nonce_is}
 use Rattle.outcome_law.proofs.Trace.{Works, IsReturn, IsPlain, return_plain, return_gives, return_quiet, busy_same, answered_works, answered_decided, uncut, last_says, lost_write}
 use Rattle.outcome_law.proofs.Working.{ReadsOn, WritesOn, GoodNeed, GoodPhase, replied_good, timed_good}
 use Rattle.outcome_law.proofs.Steps.{ReturnsOnly, Started, NeedsGood, Working, PhaseTraced, CallTraced, IsTraced, Fresh, DoneCall, Told, GoodDone, GoodStep, moved_good, finished_good}
@@ -58,7 +59,8 @@ module _ (r : Request) (a : Answer) (return : IsReturn r.args) (op : CallOp) (ms
   phase_on h Starts x = x
   phase_on h (Needs n) x = need_on n x
   phase_on h (Waits n) x = x
-  phase_on h (Reads io) x = reads_on h io.timed false x
+  phase_on h (Reads io) x =
+      (reads_on h io.timed false x.0, fetching_answered h op io.got io.timed io.awaited _ ms r a x.1)
   phase_on h (Probes io) x = reads_on h io.timed true x
   phase_on h (Gathers io) x = writes_on io.timed x
   phase_on h (Scatters io queue) x = writes_on io.timed x
@@ -67,9 +69,16 @@ module _ (r : Request) (a : Answer) (return : IsReturn r.args) (op : CallOp) (ms
   same_count = ap length (busy_same r a ms plain)
 
   needs_on : (hs : List Held) (n : Need) → NeedsGood hs op n ms → NeedsGood hs op n later
-  needs_on hs First x = (x.0, record { works = works_on [] x.1.works; count = same_count ∙ x.1.count })
+  needs_on hs First x =
+      (x.0, record { works = works_on [] x.1.works; quiet = x.1.quiet; count = same_count ∙ x.1.count })
   needs_on hs (Get tries) x =
-      record { works = works_on [] x.works; count = same_count ∙ x.count; less = x.less; none = x.none }
+      record {
+        works = works_on [] x.works;
+        quiet = x.quiet;
+        count = same_count ∙ x.count;
+        less = x.less;
+        none = x.none;
+      }
   needs_on hs (Commit timed) x = (x.0, need_on (Commit timed) x.1)
   needs_on hs (Report timed) x = (x.0, need_on (Report timed) x.1)
   needs_on hs (Close o report) x = (x.0, need_on (Close o report) x.1)
@@ -77,6 +86,7 @@ module _ (r : Request) (a : Answer) (return : IsReturn r.args) (op : CallOp) (ms
   started_on : (hs : List Held) → Started hs op ms → Started hs op later
   started_on hs x = record {
     works = works_on [] x.works;
+    quiet = x.quiet;
     says = return_quiet op r.args a ms return x.works.silent;
     next = elim x.next [ inl none ↦ inl (same_count ∙ none) | inr k ↦ inr k ];
     under = ap (λ (o : Option Held). option_or o (held_of hs (file_of op))) (return_gives op r.args a return);
@@ -188,14 +198,14 @@ module _ (c : Client) (ms : List Met) (x : IsTraced c ms) where
   working_at op (Gathers io) a y i = y
   working_at op (Scatters io queue) a y i = y
 
-  replied_call : (a : Awaited) (r : Reply) (o : Option Call) → c.call ≡ o → IsIn a (awaited_of o)
-      → GoodDone c.held (pending c.call) (Replied a r ∷ ms) (reply_call c a r o)
-  replied_call a r None is i = absurd i
-  replied_call a r (Some call) is i =
+  replied_call : (a : Awaited) (r : Reply) → r.nonce ≡ a.command.nonce → (o : Option Call) → c.call ≡ o
+      → IsIn a (awaited_of o) → GoodDone c.held (pending c.call) (Replied a r ∷ ms) (reply_call c a r o)
+  replied_call a r n None is i = absurd i
+  replied_call a r n (Some call) is i =
       let w = working_at call.op call.phase a (subst (λ (o : Option Call). CallTraced c.held c.outstanding o ms) is x) i in
       subst (λ (o : Option Held). GoodDone c.held (pending c.call) (Replied a r ∷ ms) (reply_under c call a r o)) (sym w.2)
       (moved_good c.held (pending c.call) (Replied a r ∷ ms) (quiet c) call.op w.1 _ (ap pending is) w.2 w.2 w.0
-      (replied_good w.1 call.op call.phase a r ms w.3 i) tt)
+      (replied_good w.1 call.op call.phase a r ms n w.3 i) tt)
 
   -- ---- a timeout
 
@@ -238,7 +248,8 @@ module _ (c : Client) (ms : List Met) (x : IsTraced c ms) where
   by_reply drive r None e = rests
   by_reply drive r (Some a) e =
       finished_good c.held (pending c.call) (Replied a r ∷ ms) _
-      (replied_call a r c.call refl (found_in (answers drive r) (awaited_of c.call) a e))
+      (replied_call a r (nonce_is drive r (awaited_of c.call) a e) c.call refl
+      (found_in (answers drive r) (awaited_of c.call) a e))
 
   by_awaited : (a : Answer) (r : Request) → c.outstanding ≡ Some r → (b : Bool)
       → GoodOn (with_taken c (if b then Some (TakesAnswer a) else None) ms)
@@ -307,12 +318,13 @@ module _ (c : Client) (op : CallOp) where
             cause = last_says (grant_under c.held op []) op [] [] (none_met op)
                 (lost_write (grant_under c.held op []) op [] w.0);
             whole = w.1;
+            answer = tt;
           },
         );
       }
   starts_good r free false e =
       finished_good c.held (Some op) [] _ (record {
-        call = (refl, (r, record { works = none_met op; says = refl; next = inl refl; under = refl }), refl);
+        call = (refl, (r, record { works = none_met op; quiet = tt; says = refl; next = inl refl; under = refl }), refl);
         outcome = tt;
       })
 
@@ -367,6 +379,23 @@ caused c ms i o x e =
     let t = subst (Told c.held (call_in c i) (met_after c ms i)) e (step_good c ms i x).outcome in
     record { op = t.0; call = t.1; cause = t.2.cause; whole = t.2.whole }
 
+-- all that a call has met behind one input more
+abbrev pub met_with : (number sequence : ℕ) → List Input → Input → List Met
+met_with number sequence is i = met_after (client_by number sequence is) (call_met number sequence is) i
+
+-- a read that is answered
+pub is_answered : (number sequence : ℕ) (is : List Input) (i : Input) (bytes : List ℕ)
+    → (step (client_by number sequence is) i).outcome ≡ Some (ReadOk bytes)
+    → (op : CallOp) × (call_in (client_by number sequence is) i ≡ Some op)
+    × HasAnswer (grant_under (client_by number sequence is).held op (met_with number sequence is i)) op
+    (met_with number sequence is i) (ReadOk bytes)
+is_answered number sequence is i bytes e =
+    let c : Client = client_by number sequence is in
+    let ms : List Met = call_met number sequence is in
+    let t = subst (Told c.held (call_in c i) (met_after c ms i)) e
+    (step_good c ms i (all_good (new_client number sequence) [] is tt)).outcome in
+    (t.0, t.1, t.2.answer)
+
 read_goes_on : (c : Client) (op : CallOp) (ms : List Met) (h : Held) (timed : List TimedOut) (empty : Bool)
     → held_of c.held (file_of op) ≡ Some h → ReadsOn h op ms timed empty
     → cut_short (held_of c.held (file_of op)) op ms ≡ None
@@ -384,7 +413,7 @@ goes_on : (c : Client) (op : CallOp) (p : Phase) (ms : List Met) → PhaseTraced
 goes_on c op Starts ms x some = absurd (some refl)
 goes_on c op (Needs n) ms x some = absurd (some refl)
 goes_on c op (Waits n) ms x some = absurd (some refl)
-goes_on c op (Reads io) ms x some = read_goes_on c op ms x.1 io.timed false x.2 x.3
+goes_on c op (Reads io) ms x some = read_goes_on c op ms x.1 io.timed false x.2 x.3.0
 goes_on c op (Probes io) ms x some = read_goes_on c op ms x.1 io.timed true x.2 x.3
 goes_on c op (Gathers io) ms x some = write_goes_on c op ms io.timed x.3
 goes_on c op (Scatters io queue) ms x some = write_goes_on c op ms io.timed x.3

@@ -11,6 +11,7 @@ use Rattle.client_rules.specs.Messages.{Step, finished}
 use Rattle.client_rules.proofs.ReadSteps.{held_file, put_at}
 use Rattle.move_law.proofs.Turns.{each_progress}
 use Rattle.outcome_law.specs.Met.{Met, busy_in, grant_under, failure_at}
+use Rattle.outcome_law.proofs.Fetching.{NoReplies}
 use Rattle.outcome_law.proofs.Trace.{Works, IsReturn, EndsSo}
 use Rattle.outcome_law.proofs.Working.{GoodNeed, GoodPhase, GoodTurn, GoodMoved, begins_good}
 use Rattle.outcome_law.proofs.Given.{IsGet}
@@ -25,6 +26,7 @@ ReturnsOnly (Some r) = IsReturn r.args
 -- a call that hasn't begun: it has asked for no layout in vain, or holds a grant that covers it
 pub record Started (hs : List Held) (op : CallOp) (ms : List Met) : Type 0 where
   pub works : Works op ms []
+  pub quiet : NoReplies ms
   pub says : failure_at op ms ≡ None
   pub next : (length (busy_in ms) ≡ 0)
       ⊎ ((h : Held) × (held_of hs (file_of op) ≡ Some h) × (covers h op ≡ true))
@@ -33,6 +35,7 @@ pub record Started (hs : List Held) (op : CallOp) (ms : List Met) : Type 0 where
 -- one that asks for a layout, after so many busy answers
 pub record Asking (hs : List Held) (op : CallOp) (ms : List Met) (tries : ℕ) : Type 0 where
   pub works : Works op ms []
+  pub quiet : NoReplies ms
   pub count : length (busy_in ms) ≡ tries
   pub less : tries < 3
   pub none : held_of hs (file_of op) ≡ None
@@ -40,6 +43,7 @@ pub record Asking (hs : List Held) (op : CallOp) (ms : List Met) (tries : ℕ) :
 -- one that gives back a grant that doesn't cover it
 pub record Returning (op : CallOp) (ms : List Met) : Type 0 where
   pub works : Works op ms []
+  pub quiet : NoReplies ms
   pub count : length (busy_in ms) ≡ 0
 
 abbrev pub HasGrant : List Held → CallOp → Type 0
@@ -191,17 +195,19 @@ module _ (before : List Held) (mine : Option CallOp) (ms : List Met) where
       starts_with_good d op (Get 0) _ refl is
       (record {
         works = s.works;
+        quiet = s.quiet;
         count = elim s.next [ inl none ↦ none | inr k ↦ absurd (cc (sym k.1 ∙ e)) ];
         less = omega arith;
         none = e;
       }) g
   starts_under_good d op (Some h) e is r s under g =
       either_done (covers h op) _ _
-      (λ yes. moved_good d op h (begins h op) is (under ∙ e) e r (begins_good h op ms s.works s.says) g.outcome)
+      (λ yes. moved_good d op h (begins h op) is (under ∙ e) e r (begins_good h op ms s.works s.says s.quiet) g.outcome)
       (λ no_. starts_with_good d op First _ refl is (
         (h, e),
         record {
           works = s.works;
+          quiet = s.quiet;
           count = elim s.next [
             | inl none ↦ none
             | inr k ↦ absurd (cc (sym k.2 ∙ ap (λ (x : Held). covers x op) (same_held k.0 h (sym k.1 ∙ e)) ∙ no_))

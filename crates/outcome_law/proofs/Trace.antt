@@ -19,6 +19,7 @@ use Rattle.client_rules.specs.Replies.{timed_after}
 use Rattle.outcome_law.specs.Met as met
 use Rattle.outcome_law.specs.Met.{Met, Answered, Replied, busy_args, busy_at, busy_status, busy_in, last_busy, last_busy_at, refusal_at, first_refusal, rising_with, timed_in, out_in, is_beyond, beyond_at, first_beyond, lost_under, given_args, silent_first, failure_args, failure_at, cut_short, failure_in}
 use Rattle.outcome_law.specs.Caused.{failure_of, IsWhole}
+use Rattle.outcome_law.proofs.Fetching.{Answers, failed_answers}
 
 -- ---- options
 
@@ -206,6 +207,7 @@ write_beyond op h k ms timed after b more same is short =
 pub record EndsSo (g : Option Held) (op : CallOp) (ms : List Met) (o : Outcome) : Type 0 where
   pub cause : failure_in g op ms ≡ failure_of o
   pub whole : IsWhole op o
+  pub answer : Answers g op ms o
 
 -- nothing cut it short
 pub uncut : (g : Option Held) (op : CallOp) (ms : List Met) (timed : List TimedOut) → Works op ms timed
@@ -250,6 +252,7 @@ decided_ends g op ms o d = record {
       (or_more (first_refusal ms) (first_beyond op ms) (lost_under op ms g) o d.by)
       ∙ sym d.fails;
   whole = whole_failed op o d.fails;
+  answer = failed_answers g op ms o d.fails;
 }
 
 pub answered_decided : (op : CallOp) (r : Request) (a : Answer) (ms : List Met) (o : Outcome) → IsPlain r a

@@ -4,5 +4,6 @@ pub mod ReadClients
 pub mod ReadCalls
 pub mod Ended
 pub mod Read
+pub mod ReadBytes
 pub mod Pending
 pub mod Waiting

@@ -3,6 +3,7 @@ ghost use Rattle.outcome_law.specs.Caused.{OutcomesAreCaused};
 ghost use Rattle.outcome_law.specs.Ended.{ClientsAreRead, EndsAreCaused};
 ghost use Rattle.outcome_law.specs.Pending.{EachCallIsLeftSo};
 ghost use Rattle.outcome_law.specs.Read.{AnswersAreOfReplies};
+ghost use Rattle.outcome_law.specs.ReadBytes.{EachByteHasItsCause};
 ghost use Rattle.outcome_law.specs.Waiting.{PendingCallsWait};
 
 use client_rules::each_rest_awaits_something;
@@ -28,6 +29,12 @@ pub fn ends_are_caused()
 /// replies the call took in the lines before, of which there is at least one.
 pub fn answers_are_of_replies()
     ensures { AnswersAreOfReplies }
+{}
+
+/// Each byte of a read that a line tells as answered is one that a reply gave for its place, or, if its position is out, the
+/// data byte of the one codeword that has what replies gave of its column.
+pub fn each_byte_has_its_cause()
+    ensures { EachByteHasItsCause }
 {}
 
 /// In each move of a history a line tells that a call of a client is left pending exactly if the event is a `do` of this

@@ -169,7 +169,7 @@ named_drive w d key capacity false named allowed = record {
   sent = tt;
 }
 
-comes : (w : World) (action : Action) (i : Input) → IsForServer w action i → IsNamedAction action
+pub comes : (w : World) (action : Action) (i : Input) → IsForServer w action i → IsNamedAction action
     → IsAllowed w action → Comes w i
 comes w action (Hears now from m) (d, now_is, from_is, read, number, awake) named allowed = record {
   named = tt;

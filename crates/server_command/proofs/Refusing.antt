@@ -137,7 +137,7 @@ unfolding checked_64
 checked_as m h few =
     let c = checked_is m h in rw (c.0, few_enough m.comps 64 few) c.1
 
-unrefused : (s : Server) (number : ℕ) (m : RawMap) (n : ℕ) → file_at s.files number ≡ None → length (online s.drives) ≡ n → is_good_map n m ≡ true
+pub unrefused : (s : Server) (number : ℕ) (m : RawMap) (n : ℕ) → file_at s.files number ≡ None → length (online s.drives) ≡ n → is_good_map n m ≡ true
     → refusal s number m false ≡ None
 unfolding refusal
 unrefused s number m n none drives good =
@@ -157,7 +157,7 @@ unrepeated (f ∷ done) next left h =
     in_middle [] e = (or_parts (nat_eq next.number f.number) (list_any (λ m. nat_eq m f.number) (map (λ x. x.number) left)) e).0
     in_middle (g ∷ fs) e = in_middle fs (or_parts (nat_eq g.number f.number) (list_any (λ m. nat_eq m f.number) (map (λ x. x.number) (fs ++ next ∷ left))) e).1
 
-makeable_at : (n : ℕ) (done : List ClusterFile) (next : ClusterFile) (left : List ClusterFile) → AreMakeable n (done ++ next ∷ left)
+pub makeable_at : (n : ℕ) (done : List ClusterFile) (next : ClusterFile) (left : List ClusterFile) → AreMakeable n (done ++ next ∷ left)
     → (is_good_map n next.map ≡ true) × HasAlgorithm next.map
 makeable_at n [] next left h = (h.0, h.1)
 makeable_at n (f ∷ done) next left h = makeable_at n done next left h.2

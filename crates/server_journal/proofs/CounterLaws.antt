@@ -26,7 +26,7 @@ use Rattle.server_entries.specs.Changes.{can_change, can_grant, changed, granted
 use Rattle.server_entries.specs.Making.{can_make, new_file, put_drive}
 use Rattle.server_entries.specs.Reading.{record_in}
 use Rattle.server_journal.specs.Counters.{CountsOn}
-use Rattle.server_journal.specs.Records.{LeadTo, after_reading, after_record, after_record_of, replayed}
+use Rattle.server_journal.specs.Records.{LeadTo, after_reading, after_record, replayed}
 use Rattle.server_journal.proofs.RecordLaws.{replayed-none, replayed-then}
 
 some_is : (s t : Server) → Some s ≡ Some t → s ≡ t

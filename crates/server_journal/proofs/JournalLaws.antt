@@ -1,5 +1,5 @@
 -- How a journal goes from one server to the next, and what a crash leaves meanwhile.
-use Rattle.std.proofs.Common.{◌≡◌, ◌⊎◌, ◌≤◌, inl, inr, ⊎_elim, ℕ, List, [], ◌∷◌, ◌++◌, length, Bool, false, Option, Some, Result, Ok, Err, OnErr, refl, sym, ◌∙◌, ap, subst, arith}
+use Rattle.std.proofs.Common.{◌≡◌, ◌⊎◌, inl, inr, ⊎_elim, ℕ, List, [], ◌∷◌, ◌++◌, length, Bool, false, Some, Result, Ok, Err, OnErr, refl, sym, ◌∙◌, ap, subst, arith}
 use Rattle.osd_disk.specs.Crashes.{LeavesOnly}
 use Rattle.osd_disk.specs.declared.disk.Disk.{Ghosts}
 use Rattle.gate_log.specs.declared.log.GateLog.{GateLog}
@@ -26,7 +26,7 @@ use Rattle.server_journal.specs.Calls.{Answered, CutOff, MakesNot, Stays, after_
 use Rattle.server_journal.specs.Counters.{CountsOn}
 use Rattle.server_journal.specs.Errors.{HasErrCause, HasJournalCause, file_told_by}
 use Rattle.server_journal.specs.Header.{journal_header}
-use Rattle.server_journal.specs.Journals.{IsJournalOf, IsKept, KeepsServer, LeavesEither, StandForEither, core_of, disk_in}
+use Rattle.server_journal.specs.Journals.{IsKept, KeepsServer, LeavesEither, StandForEither, core_of, disk_in}
 use Rattle.server_journal.specs.Records.{LeadTo, after_record}
 use Rattle.server_journal.specs.Resting.{kept_leaves}
 use Rattle.server_journal.proofs.CounterLaws.{entries_count}

@@ -1,5 +1,5 @@
 -- When a journal may answer an error.
-use Rattle.std.specs.Prelude.{◌≡◌, ◌≤◌, ◌≢◌, ℕ, Result, IsErrOf, OnOk}
+use Rattle.std.specs.Prelude.{◌≡◌, ◌≤◌, ℕ, Result, IsErrOf, OnOk}
 use Rattle.gate_log.specs.declared.errors.LogErr.{LogErr}
 use Rattle.gate_log.specs.declared.errors.LogErr.TheVariants as log
 use Rattle.osd_bytes.specs.Causes.{Rose}

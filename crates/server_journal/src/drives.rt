@@ -73,6 +73,7 @@ impl<D: Disk> JournaledServer<D> {
         requires known { IsTrue (is_known drive (core_of self.old).drives) }
         ensures did { OnOk result (core_of self.new ≡ after_putting (core_of self.old) drive zone) }
         ensures taken { IfOk result (λ put. IsErr put ↔ IsTrue (is_in_zone drive (core_of self.old).drives)) }
+        ensures stays { IfOk result (λ put. IsErr put → core_of self.new ≡ core_of self.old) }
         ensures answered { OnOk result (Answered D.Disk self.old self.new) }
         ensures cut_off { OnErr result (CutOffBefore D.Disk self.old self.new (after_putting (core_of self.old) drive zone)) }
         ensures error { IfErr result IsOfDisk }

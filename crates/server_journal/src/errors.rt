@@ -19,7 +19,8 @@ pub enum JournalErr {
     /// The disk failed. This comes only if its count of faults rose in the call.
     #[error("the disk failed")]
     DiskFault,
-    /// Want of memory, and nothing else.
+    /// Want of memory. It stands also for a step of more entries or bytes than a record takes, and for a counter of 64 bits
+    /// without room in the middle of a step.
     #[error("out of memory")]
     Memory,
 }

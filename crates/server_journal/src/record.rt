@@ -1,5 +1,5 @@
 // The records of a journal: the entries of one step after another.
-ghost use Rattle.std.specs.Prelude.{◌≡◌, None, Ok, IfOk, OnErr};
+ghost use Rattle.std.specs.Prelude.{◌≡◌, Ok, IfOk};
 ghost use Rattle.layout_types.specs.Grammar.{whole};
 ghost use Rattle.server_entries.specs.Reading.{record_in};
 ghost use Rattle.server_entries.specs.Spelling.{RecordWritable};

@@ -1,33 +1,24 @@
 // A server and its log.
-ghost use Rattle.std.specs.Prelude.{◌≡◌, ◌≢◌, ◌↔◌, ◌⊎◌, ◌<◌, [], List, ℕ, false, true, is_err, map, option_map, IsErr, IsErrOf, IsTrue, IfOk, IfErr, OnOk, OnErr, Some};
+ghost use Rattle.std.specs.Prelude.{◌≡◌, ◌↔◌, [], List, ℕ, false, is_err, map, option_map, IsTrue, IfOk, IfErr, OnOk, OnErr};
 ghost use Rattle.std.specs.Option.{option_copied};
-ghost use Rattle.layout_ops.specs.declared.orders.OrderKind.TheVariants as order;
-ghost use Rattle.data_map.specs.Check.{HasAlgorithm};
-ghost use Rattle.zone_place.specs.declared.loads.TheConstants.{MAX_DRIVES};
 ghost use Rattle.gate_log.specs.Standing.{over_of};
 ghost use Rattle.server_rules.specs.Envelopes.{on_bytes};
 ghost use Rattle.server_rules.specs.Files.{file_at};
-ghost use Rattle.server_rules.specs.Making.{add_drive, set_format};
 ghost use Rattle.server_rules.specs.Messages.{counters_have_room, resend};
 ghost use Rattle.server_rules.specs.Openings.{crash};
-ghost use Rattle.server_rules.specs.Orders.{ordered};
 ghost use Rattle.server_requests.specs.Sending.{all_sent};
 ghost use Rattle.server_state.specs.States.{Did, HasRoom};
 ghost use Rattle.server_rules.specs.declared.server.Server.{Server};
 ghost use Rattle.kept_server.specs.Keeping.{Follows};
-ghost use Rattle.layout_server.specs.Adding.{IsNew, drive_of};
 ghost use Rattle.layout_server.specs.Resending.{waited_of};
-ghost use Rattle.layout_server.specs.Calls.{Makes};
 ghost use Rattle.server_journal.specs.declared.errors.JournalErr.TheVariants.{Memory as NoMemory};
 ghost use Rattle.server_journal.specs.Errors.{HasJournalCause, IsOfDisk};
 
-use crate::errors::{JournalErr, JournalFileErr};
+use crate::errors::JournalErr;
 use crate::record::entry_of;
-use data_map::RawMap;
 use gate_log::GateLog;
 use kept_server::KeptServer;
-use layout_ops::OrderKind;
-use layout_server::{DriveInfo, FileErr, Sends, Step};
+use layout_server::{Sends, Step};
 use osd_disk::Disk;
 use osd_lists::{Node, Numbers};
 use server_rules::{Drive, Kept};

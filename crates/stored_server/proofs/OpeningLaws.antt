@@ -1,8 +1,10 @@
 -- Why a journal isn't made or opened, from what its crate and its disk say.
-use Rattle.std.proofs.Common.{◌≡◌, ℕ, List, refl, sym, subst, arith}
+use Rattle.std.proofs.Common.{◌≡◌, ◌∙◌, ◌⊎◌, ⊎_elim, inl, inr, ℕ, List, [], ◌∷◌, refl, sym, subst, arith}
 use Rattle.std.specs.Prelude.{IsTrue, ◌<◌, length}
 use Rattle.osd_bytes.specs.Causes.{Rose}
 use Rattle.cluster_text.specs.declared.stop.CommandStop.TheVariants as cause
+use Rattle.osd_disk.specs.Crashes.{Elapses, Narrows, OnlyRead}
+use Rattle.osd_disk.proofs.Moments.{leaves_as_before, nothing_read, read_more}
 use Rattle.osd_disk.specs.declared.disk.Disk.{Ghosts as DiskGhosts}
 use Rattle.osd_disk.specs.declared.disk.DiskErr.{DiskErr}
 use Rattle.osd_disk.specs.declared.disk.DiskErr.TheVariants as failure
@@ -12,8 +14,10 @@ use Rattle.drive_command.specs.StoredStops.{stop_of_disk}
 use Rattle.server_journal.specs.declared.errors.JournalErr.{JournalErr}
 use Rattle.server_journal.specs.declared.errors.JournalErr.TheVariants as journal
 use Rattle.server_journal.specs.Errors.{HasErrCause, NotAJournalSays, NotEmptySays}
-use Rattle.server_journal.specs.Opening.{IsNoJournalAt}
-use Rattle.stored_server.specs.Opened.{StopsOpening, stop_of_journal}
+use Rattle.server_journal.specs.Opening.{IsNoJournalAt, IsOfOpening, LeavesOpening}
+use Rattle.server_journal.proofs.JournalLaws.{on_and_on, weaker}
+use Rattle.server_journal.proofs.OpeningLaws.{read_leaves}
+use Rattle.stored_server.specs.Opened.{LeavesOpenable, StopsOpening, stop_of_journal}
 
 module _ {D : Type 0} (s : DiskGhosts D) where
   -- a call of the disk failed
@@ -49,3 +53,42 @@ module _ {D : Type 0} (s : DiskGhosts D) where
   since_opened disk mid left DiskFault told seen faults stops = subst (λ (n : ℕ). Rose n (s.faults left)) faults stops
   since_opened disk mid left (BadStore at) told seen faults stops = λ tells.
       subst (λ (c : List ℕ). IsNoJournalAt c at) seen (stops (subst IsTrue (sym told) tells))
+
+  -- ---- what a crash leaves meanwhile
+
+  abbrev Read : D → D → Type 0
+  Read disk mid = OnlyRead s.tells s.seen s.may_leave s.moment s.left_since disk mid
+
+  -- the disk was only opened and asked for its size
+  pub asked : (disk named mid : D) → s.tells named ≡ s.tells disk → s.seen named ≡ s.seen disk → Narrows (s.may_leave disk) (s.may_leave named)
+      → Elapses (s.moment disk) (s.moment named) (s.left_since disk) (s.left_since named) (s.may_leave named)
+      → s.tells mid ≡ s.tells named → s.seen mid ≡ s.seen named → Narrows (s.may_leave named) (s.may_leave mid)
+      → Elapses (s.moment named) (s.moment mid) (s.left_since named) (s.left_since mid) (s.may_leave mid) → Read disk mid
+  asked disk named mid told seen narrows time told2 seen2 narrows2 time2 =
+      read_more s.tells s.seen s.may_leave s.moment s.left_since disk named mid
+      (read_more s.tells s.seen s.may_leave s.moment s.left_since disk disk named
+      (nothing_read s.tells s.seen s.may_leave s.moment s.left_since disk) told seen narrows time)
+      told2 seen2 narrows2 time2
+
+  -- before a journal is opened
+  pub as_before : ((d : D) (c : List ℕ) → s.left_since d (s.moment d) c → s.may_leave d c) → (disk mid : D) → Read disk mid → LeavesOpenable s disk mid
+  as_before only_now disk mid read = inr (read_leaves s only_now disk mid mid refl read)
+
+  -- and once it is
+  pub since_asked : ((d : D) (c : List ℕ) → s.left_since d (s.moment d) c → s.may_leave d c) → (disk mid left : D) → Read disk mid
+      → LeavesOpening s mid left → LeavesOpenable s disk left
+  since_asked only_now disk mid left read opening =
+      let here = λ c. s.may_leave disk c ⊎ IsOfOpening (s.seen disk) c in
+      inr (on_and_on s disk mid left here
+      (leaves_as_before s.tells s.seen s.may_leave s.moment s.left_since disk mid here read only_now (λ c left. inl left))
+      (weaker s mid left (λ c. s.may_leave mid c ⊎ IsOfOpening (s.seen mid) c) here opening
+      (λ c left. ⊎_elim (λ now. inl (read.narrows c now)) (λ o. inr (subst (λ (b : List ℕ). IsOfOpening b c) read.seen_same o)) left)))
+
+  -- no bytes
+  pub none_seen : (disk mid : D) (size : ℕ) → Read disk mid → (IsTrue (s.tells disk) → size ≡ length (s.seen disk)) → size ≡ 0 → IsTrue (s.tells disk)
+      → s.seen disk ≡ []
+  none_seen disk mid size read is none told = go (s.seen disk) (sym (is told) ∙ none)
+    where
+      go : (c : List ℕ) → length c ≡ 0 → c ≡ []
+      go [] e = refl
+      go (x ∷ c) e = absurd (omega (arith, e))

@@ -1,5 +1,5 @@
 -- What a server does before its first connection, and where it stops.
-use Rattle.std.proofs.Common.{◌≡◌, ℕ, Bool, true, List, [], Option, None, Ok, inl, inr, refl, sym, ap, subst}
+use Rattle.std.proofs.Common.{◌≡◌, ℕ, Bool, true, List, [], length, Option, None, Ok, refl, sym, ap, subst}
 use Rattle.osd_bytes.specs.Asking.{Ends, ends_of}
 use Rattle.osd_bytes.specs.Connections.{Traffic, after_notes}
 use Rattle.osd_bytes.specs.Counts.{Faults}
@@ -10,7 +10,7 @@ use Rattle.cluster_text.specs.declared.stop.CommandStop.TheVariants.{BadCluster,
 use Rattle.server_rules.specs.declared.server.Server.{Server}
 use Rattle.server_rules.specs.Making.{set_format}
 use Rattle.server_state.specs.declared.step.Step.{Step}
-use Rattle.server_command.specs.Drives.{Known}
+use Rattle.server_command.proofs.Described.{AreKnowable, AreMakeable}
 use Rattle.server_command.specs.Files.{StopsBy}
 use Rattle.server_command.specs.Messages.{Serving, WorksAll, serving}
 use Rattle.server_command.specs.Notes.{note_texts}
@@ -20,6 +20,7 @@ use Rattle.server_command.specs.declared.metadata_server.StepErr.TheVariants as 
 use Rattle.server_command.specs.declared.server_stop.ServerStop.{ServerStop}
 use Rattle.server_command.specs.declared.server_stop.ServerStop.TheVariants.{Command, DiskFault}
 use Rattle.stored_server.specs.Lacking.{LosesLacking, MakesAllLacking, RefusesLacking, StopsLacking, with_all_lacking}
+use Rattle.stored_server.proofs.LackingLaws.{few_drives, never_wrong}
 use Rattle.stored_server.specs.Preparing.{Prepares, Resumes, Settles, StopsPreparing, opened}
 
 -- what the opening gave was worked
@@ -62,17 +63,14 @@ module _ (cluster : Cluster) (begun : Server) (step : Step) (before : Ends) wher
   stopped_step last now step_err.DiskFault = tt
   stopped_step last now step_err.Memory = tt
 
-  -- a drive wasn't added
-  pub stopped_adding : (worked raised last : Server) (ds : List ClusterDrive) (now : Ends) (stop : ServerStop) → ds ≡ cluster.drives
-      → Resumes begun step before worked now → raised ≡ set_format worked cluster.format → StopsLacking (with_all_lacking raised ds) stop
-      → StopsPreparing cluster begun step before last now stop
-  stopped_adding worked raised last ds now stop e r is stops =
-      go stop (subst (λ (xs : List ClusterDrive). StopsLacking (with_all_lacking (set_format worked cluster.format) xs) stop) e
-      (subst (λ (s : Server). StopsLacking (with_all_lacking s ds) stop) is stops))
+  -- a drive wasn't added, but none of them is wrong
+  pub stopped_adding : (raised last : Server) (ds : List ClusterDrive) (now : Ends) (stop : ServerStop) → ds ≡ cluster.drives → AreKnowable cluster.drives
+      → StopsLacking (with_all_lacking raised ds) stop → StopsPreparing cluster begun step before last now stop
+  stopped_adding raised last ds now stop e sound stops =
+      go stop (subst (λ (xs : List ClusterDrive). StopsLacking (with_all_lacking raised xs) stop) e stops)
     where
-      go : (x : ServerStop) → StopsLacking (with_all_lacking (set_format worked cluster.format) cluster.drives) x
-          → StopsPreparing cluster begun step before last now x
-      go (Command (BadCluster kind)) wrong = inl (record { server = worked; resumes = r; wrong = wrong })
+      go : (x : ServerStop) → StopsLacking (with_all_lacking raised cluster.drives) x → StopsPreparing cluster begun step before last now x
+      go (Command (BadCluster kind)) wrong = absurd (never_wrong raised cluster.drives kind sound wrong)
       go (Command ReadFault) x = absurd x
       go (Command WriteFault) x = absurd x
       go (Command Memory) x = tt
@@ -82,17 +80,17 @@ module _ (cluster : Cluster) (begun : Server) (step : Step) (before : Ends) wher
 
   -- a file wasn't made
   pub stopped_making : (known last : Server) (fs : List ClusterFile) (between now : Ends) (stop : ServerStop) → fs ≡ cluster.files
-      → Settles cluster begun step before known between
+      → Settles cluster begun step before known between → AreMakeable (length cluster.drives) cluster.files
       → StopsBy (LosesLacking fs (serving known [] true between) last now) (RefusesLacking fs (serving known [] true between)) stop
       → StopsPreparing cluster begun step before last now stop
-  stopped_making known last fs between now stop e settles stops = go stop
+  stopped_making known last fs between now stop e settles sound stops = go stop
       (subst (λ (xs : List ClusterFile). StopsBy (LosesLacking xs (serving known [] true between) last now)
       (RefusesLacking xs (serving known [] true between)) stop) e stops)
     where
       go : (x : ServerStop) → StopsBy (LosesLacking cluster.files (serving known [] true between) last now)
           (RefusesLacking cluster.files (serving known [] true between)) x
           → StopsPreparing cluster begun step before last now x
-      go (Command (BadCluster kind)) x = inr (x.0, known, between, settles, x.1)
+      go (Command (BadCluster kind)) x = (x.0, known, between, settles, few_drives (length cluster.drives) cluster.files (serving known [] true between) sound x.1)
       go (Command ReadFault) x = absurd x
       go (Command WriteFault) x = absurd x
       go (Command Memory) x = tt

@@ -1,9 +1,9 @@
 -- What a server in a journal leaves on its disk, and how its serving ends.
-use Rattle.std.proofs.Common.{◌≡◌, ℕ, List, [], Option, sym, subst}
+use Rattle.std.proofs.Common.{◌≡◌, ◌∙◌, ◌⊎◌, ⊎_elim, inl, inr, ℕ, List, [], ◌++◌, Option, ap, append-nil, sym, subst}
 use Rattle.std.specs.Prelude.{IsTrue}
 use Rattle.osd_bytes.specs.Asking.{Ends}
 use Rattle.osd_bytes.specs.Causes.{Rose}
-use Rattle.osd_disk.specs.Crashes.{Only}
+use Rattle.osd_disk.specs.Crashes.{LeavesOnly, Only}
 use Rattle.osd_disk.specs.declared.disk.Disk.{Ghosts as DiskGhosts}
 use Rattle.cluster_text.specs.declared.cluster.Cluster.{Cluster}
 use Rattle.drive_command.specs.declared.stored_stop.StoredStop.{StoredStop}
@@ -13,13 +13,16 @@ use Rattle.server_state.specs.declared.step.Step.{Step}
 use Rattle.server_command.specs.declared.server_stop.ServerStop.{ServerStop}
 use Rattle.server_command.specs.declared.server_stop.ServerStop.TheVariants.{DiskFault}
 use Rattle.server_command.specs.Ends.{Serves}
+use Rattle.server_command.specs.Kept.{StandsForSome}
 use Rattle.server_command.specs.Steps.{ServerStep, after_steps}
 use Rattle.server_journal.specs.Journals.{IsKept, core_of}
+use Rattle.server_journal.specs.Opening.{IsOfOpening}
 use Rattle.server_journal.specs.Resting as resting
+use Rattle.server_journal.proofs.JournalLaws.{on_and_on, weaker}
 use Rattle.stored_server.specs.declared.stored_server.StoredServer.{StoredServer}
-use Rattle.stored_server.specs.Opened.{BeginsWith}
+use Rattle.stored_server.specs.Opened.{BeginsWith, LeavesOpenable}
 use Rattle.stored_server.specs.Preparing.{Prepares}
-use Rattle.stored_server.specs.Service.{BreaksOff, ServesFrom, StaysSince, StopsBehind, stored_stop_of}
+use Rattle.stored_server.specs.Service.{BreaksOff, IsOfRun, LeavesRun, ServesFrom, StaysSince, StopsBehind, stored_stop_of}
 use Rattle.stored_server.specs.StoredServer.{StandsFor, kept_on}
 use Rattle.stored_server.proofs.JournalLaws.{JournalCarries}
 
@@ -30,14 +33,29 @@ module _ {D : Type 0} (s : DiskGhosts D) where
       subst (λ (d : D). StaysSince s (core_of old.journal) done cut_off d) (sym same)
       (record { began = s.moment (kept_on old); is_past = (x.crash k).later; stands = x.since k })
 
+  -- a crash at any moment of the run
+  leaves_run : (disk left : D) (old new : StoredServer D) (steps : List ServerStep) → left ≡ kept_on new → LeavesOpenable s disk (kept_on old)
+      → LeavesOnly (λ (x : StoredServer D). s.moment (kept_on x)) (λ (x : StoredServer D). s.left_since (kept_on x)) old new
+      (StandsForSome StandsFor (core_of old.journal) steps)
+      → LeavesRun s disk left (core_of old.journal) steps
+  leaves_run disk left old new steps same (inl empty) leaves = inl empty
+  leaves_run disk left old new steps same (inr opening) leaves =
+      subst (λ (d : D). LeavesRun s disk d (core_of old.journal) steps) (sym same)
+      (inr (on_and_on s disk (kept_on old) (kept_on new) (IsOfRun s disk (core_of old.journal) steps)
+      (weaker s disk (kept_on old) (λ c. s.may_leave disk c ⊎ IsOfOpening (s.seen disk) c) (IsOfRun s disk (core_of old.journal) steps) opening
+      (λ c left. ⊎_elim inl (λ here. inr (inl here)) left))
+      (weaker s (kept_on old) (kept_on new) (StandsForSome StandsFor (core_of old.journal) steps) (IsOfRun s disk (core_of old.journal) steps)
+      (record { later = leaves.later; each = leaves.each; before = leaves.before }) (λ c left. inr (inr left)))))
+
   module _ (connections : ℕ) (cluster : Cluster) (before now : Ends) (taken_before taken : Option (List ℕ)) (disk left : D)
       (old new : StoredServer D) (step : Step) (begins : IsTrue (s.tells disk) → BeginsWith (s.seen disk) (core_of old.journal) step)
-      (kept : IsTrue (s.tells disk) → IsKept s old.journal) (done : List ServerStep) (same : left ≡ kept_on new) where
+      (kept : IsTrue (s.tells disk) → IsKept s old.journal) (opens : IsTrue (s.tells disk) → LeavesOpenable s disk (kept_on old)) (done : List ServerStep) (same : left ≡ kept_on new) where
     pub served_from : (made : Server) (between : Ends) → Prepares cluster (core_of old.journal) step before made between
         → Serves connections made (core_of new.journal) between now taken_before taken → core_of new.journal ≡ after_steps (core_of old.journal) done
         → JournalCarries s done [] old new → (IsKept s old.journal → IsKept s new.journal)
+        → s.faults (kept_on new) ≡ s.faults (kept_on old) → s.faults (kept_on old) ≡ s.faults disk
         → ServesFrom s connections cluster before now taken_before taken disk left
-    served_from made between prepares serves all x keeps = record {
+    served_from made between prepares serves all x keeps still faults = record {
       begun = core_of old.journal;
       step = step;
       begins = begins;
@@ -48,10 +66,13 @@ module _ {D : Type 0} (s : DiskGhosts D) where
       serves = serves;
       done = done;
       all = all;
+      any_moment = λ told. subst (λ (xs : List ServerStep). LeavesRun s disk left (core_of old.journal) xs) (append-nil done)
+          (leaves_run disk left old new (done ++ []) same (opens told) (x.crash (kept told)));
       stays = λ told. stays_since old new done [] left x (kept told) same;
       stands = λ told. subst (λ (d : D). StandsFor (core_of new.journal) (s.seen d)) (sym same)
           (resting.stands s (crash (core_of new.journal)) new.journal.log (keeps (kept told)));
       durable = λ told. subst (λ (d : D). Only (s.seen d) (s.may_leave d)) (sym same) (keeps (kept told)).rest.durable;
+      same = ap (λ (d : D). s.faults d) same ∙ (still ∙ faults);
     }
 
     pub broke_off : (cut_off : List ServerStep) (failed_before failed : ℕ) (stop : StoredStop) (cause : ServerStop) → stop ≡ stored_stop_of cause
@@ -70,5 +91,6 @@ module _ {D : Type 0} (s : DiskGhosts D) where
       done = done;
       cut_off = cut_off;
       few = x.few;
+      any_moment = λ told. leaves_run disk left old new (done ++ cut_off) same (opens told) (x.crash (kept told));
       stays = λ told. stays_since old new done cut_off left x (kept told) same;
     }

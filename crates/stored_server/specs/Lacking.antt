@@ -1,11 +1,12 @@
 -- The drives and files of a cluster that its server lacks.
-use Rattle.std.specs.Prelude.{◌≡◌, Bool, true, false, List, [], ◌∷◌, is_some, Ok, Err, ⊤, if◌then◌else◌}
+use Rattle.std.specs.Prelude.{◌≡◌, ◌<◌, Bool, true, false, List, [], ◌∷◌, length, is_some, Ok, Err, ⊤, if◌then◌else◌}
 use Rattle.cluster_text.specs.declared.cluster.ClusterDrive.{ClusterDrive}
 use Rattle.cluster_text.specs.declared.cluster.ClusterFile.{ClusterFile}
 use Rattle.cluster_text.specs.declared.stop.CommandStop.TheVariants.{BadCluster, Memory}
 use Rattle.osd_bytes.specs.Asking.{Ends}
 use Rattle.server_rules.specs.declared.server.Server.{Server}
 use Rattle.server_rules.specs.Files.{file_at}
+use Rattle.server_rules.specs.Making.{online}
 use Rattle.server_command.specs.Drives.{Known, and_then, has_number, with_drive}
 use Rattle.server_command.specs.Files.{LosesFile, MakesFile, RefusesFile, StopsAt}
 use Rattle.server_command.specs.Messages.{InTurn, Serving}
@@ -56,3 +57,8 @@ LosesLacking fs s server ends =
 -- or the server refuses the next, which it lacks
 abbrev pub RefusesLacking : List ClusterFile → (s : Serving) → Type 0
 RefusesLacking fs s = StopsAt MakesLacking (λ f u. (has_file u.server f ≡ false) × RefusesFile f u.server) fs s
+
+-- or for the next, which the server lacks, fewer drives are online than it has components
+abbrev pub LacksDrivesFor : List ClusterFile → (s : Serving) → Type 0
+LacksDrivesFor fs s =
+    StopsAt MakesLacking (λ f u. (has_file u.server f ≡ false) × (length (online u.server.drives) < f.map.comps)) fs s

@@ -15,7 +15,7 @@ use Rattle.server_state.specs.States.{Did}
 use Rattle.server_journal.specs.declared.errors.JournalErr.{JournalErr}
 use Rattle.server_journal.specs.declared.errors.JournalErr.TheVariants as journal
 use Rattle.server_journal.specs.Journals.{IsJournalOf}
-use Rattle.server_journal.specs.Opening.{IsNoJournalAt}
+use Rattle.server_journal.specs.Opening.{IsNoJournalAt, LeavesOpening}
 
 -- where a journal wasn't made or opened; a disk that was empty has no bytes when the journal is made
 abbrev pub stop_of_journal : JournalErr → StoredStop
@@ -37,3 +37,8 @@ StopsOpening s disk left (Command cause.Memory) = Unit {0}
 StopsOpening s disk left (Command other) = ⊥
 StopsOpening s disk left DiskFault = Rose (s.faults disk) (s.faults left)
 StopsOpening s disk left (BadStore at) = IsTrue (s.tells disk) → IsNoJournalAt (s.seen disk) at
+
+-- While a journal is opened, a crash leaves what it might have left before, or what comes of the step of the opening. While one is made
+-- on an empty disk, it may leave anything.
+abbrev pub LeavesOpenable : {D : Type 0} → DiskGhosts D → (disk left : D) → Type 0
+LeavesOpenable s disk left = (s.seen disk ≡ []) ⊎ LeavesOpening s disk left

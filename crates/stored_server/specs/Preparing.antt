@@ -1,7 +1,6 @@
 -- What a server does between its opening and its first connection.
-use Rattle.std.specs.Prelude.{◌≡◌, ◌⊎◌, true, [], None, Ok, Err, ⊤}
+use Rattle.std.specs.Prelude.{◌≡◌, true, [], None, Ok, ⊤}
 use Rattle.cluster_text.specs.declared.cluster.Cluster.{Cluster}
-use Rattle.cluster_text.specs.declared.errors.ClusterKind.{ClusterKind}
 use Rattle.cluster_text.specs.declared.errors.ClusterKind.TheVariants.{Range}
 use Rattle.cluster_text.specs.declared.stop.CommandStop.TheVariants.{BadCluster, LinkFault, Memory}
 use Rattle.osd_bytes.specs.Asking.{Ends}
@@ -13,7 +12,7 @@ use Rattle.server_command.specs.Messages.{Serving, WorksAll, serving}
 use Rattle.server_command.specs.Notes.{note_texts}
 use Rattle.server_command.specs.declared.server_stop.ServerStop.{ServerStop}
 use Rattle.server_command.specs.declared.server_stop.ServerStop.TheVariants.{Command, DiskFault}
-use Rattle.stored_server.specs.Lacking.{LosesLacking, MakesAllLacking, RefusesLacking, with_all_lacking}
+use Rattle.stored_server.specs.Lacking.{LacksDrivesFor, LosesLacking, MakesAllLacking, with_all_lacking}
 
 -- what the opening noted is told, and what it gives to send waits
 abbrev pub opened : Server → Step → Ends → Serving
@@ -39,19 +38,12 @@ pub record Prepares (cluster : Cluster) (begun : Server) (step : Step) (before :
   pub settles : Settles cluster begun step before known between
   pub makes : MakesAllLacking cluster.files (serving known [] true between) (serving made [] true now)
 
--- a drive of the cluster is wrong
-pub record HasWrongDrive (cluster : Cluster) (begun : Server) (step : Step) (before : Ends) (kind : ClusterKind) (now : Ends) : Type 0 where
-  pub server : Server
-  pub resumes : Resumes begun step before server now
-  pub wrong : with_all_lacking (set_format server cluster.format) cluster.drives ≡ Err kind
-
--- why it didn't: a drive or a file of the cluster was refused, a drive gave no record for a file that was made or held its object
--- already, there was no memory, or the disk failed
+-- why it didn't: too few drives are online for a file of the cluster, a drive gave no record for a file that was made or held its
+-- object already, there was no memory, or the disk failed
 abbrev pub StopsPreparing : Cluster → (begun : Server) → Step → (before : Ends) → (last : Server) → (now : Ends) → ServerStop → Type 0
 StopsPreparing cluster begun step before last now (Command (BadCluster kind)) =
-    HasWrongDrive cluster begun step before kind now
-    ⊎ ((kind ≡ Range) × (known : Server) × (between : Ends) × Settles cluster begun step before known between
-    × RefusesLacking cluster.files (serving known [] true between))
+    (kind ≡ Range) × (known : Server) × (between : Ends) × Settles cluster begun step before known between
+    × LacksDrivesFor cluster.files (serving known [] true between)
 StopsPreparing cluster begun step before last now (Command LinkFault) =
     (known : Server) × (between : Ends) × Settles cluster begun step before known between
     × LosesLacking cluster.files (serving known [] true between) last now

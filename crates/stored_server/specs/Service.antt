@@ -1,8 +1,8 @@
 -- What a server does that serves from the journal on a disk, and what stays there.
-use Rattle.std.specs.Prelude.{◌≡◌, ◌⊎◌, ◌≤◌, ℕ, List, [], length, IsTrue, Option}
+use Rattle.std.specs.Prelude.{◌≡◌, ◌⊎◌, ◌≤◌, ℕ, List, [], ◌++◌, length, IsTrue, Option}
 use Rattle.osd_bytes.specs.Asking.{Ends}
 use Rattle.osd_bytes.specs.Causes.{Rose}
-use Rattle.osd_disk.specs.Crashes.{Only}
+use Rattle.osd_disk.specs.Crashes.{LeavesOnly, Only}
 use Rattle.osd_disk.specs.declared.disk.Disk.{Ghosts as DiskGhosts}
 use Rattle.cluster_text.specs.declared.cluster.Cluster.{Cluster}
 use Rattle.drive_command.specs.declared.stored_stop.StoredStop.{StoredStop}
@@ -10,12 +10,13 @@ use Rattle.drive_command.specs.declared.stored_stop.StoredStop.TheVariants as st
 use Rattle.server_rules.specs.declared.server.Server.{Server}
 use Rattle.server_state.specs.declared.step.Step.{Step}
 use Rattle.server_command.specs.Ends.{Serves, StopsCore}
-use Rattle.server_command.specs.Kept.{StandsSince}
+use Rattle.server_command.specs.Kept.{StandsForSome, StandsSince}
 use Rattle.server_command.specs.Steps.{ServerStep, after_steps}
 use Rattle.server_command.specs.declared.server_stop.ServerStop.{ServerStop}
 use Rattle.server_command.specs.declared.server_stop.ServerStop.TheVariants.{Command, DiskFault}
+use Rattle.server_journal.specs.Opening.{IsOfOpening}
 use Rattle.stored_server.specs.StoredServer.{StandsFor}
-use Rattle.stored_server.specs.Opened.{BeginsWith, StopsOpening}
+use Rattle.stored_server.specs.Opened.{BeginsWith, LeavesOpenable, StopsOpening}
 use Rattle.stored_server.specs.Preparing.{Prepares, StopsPreparing}
 
 -- ---- what stays on the disk
@@ -26,6 +27,16 @@ pub record StaysSince {D : Type 0} (s : DiskGhosts D) (begun : Server) (done cut
   pub began : ℕ
   pub is_past : began ≤ s.moment left
   pub stands : StandsSince StandsFor (s.left_since left) (s.moment left) begun done cut_off began
+
+-- what a crash leaves at any moment of a run: what it might have left before, or what comes of the opening, or a journal of the
+-- server after some of these steps
+abbrev pub IsOfRun : {D : Type 0} → DiskGhosts D → (disk : D) → (begun : Server) → List ServerStep → List ℕ → Type 0
+IsOfRun s disk begun steps c = s.may_leave disk c ⊎ IsOfOpening (s.seen disk) c ⊎ StandsForSome StandsFor begun steps c
+
+-- so it is at every moment, but while a journal is made on an empty disk
+abbrev pub LeavesRun : {D : Type 0} → DiskGhosts D → (disk left : D) → (begun : Server) → List ServerStep → Type 0
+LeavesRun s disk left begun steps =
+    (s.seen disk ≡ []) ⊎ LeavesOnly s.moment s.left_since disk left (IsOfRun s disk begun steps)
 
 -- ---- serving from a disk
 
@@ -43,9 +54,12 @@ pub record ServesFrom {D : Type 0} (s : DiskGhosts D) (connections : ℕ) (clust
   pub serves : Serves connections made last between now taken_before taken
   pub done : List ServerStep
   pub all : last ≡ after_steps begun done
+  pub any_moment : IsTrue (s.tells disk) → LeavesRun s disk left begun done
   pub stays : IsTrue (s.tells disk) → StaysSince s begun done [] left
   pub stands : IsTrue (s.tells disk) → StandsFor last (s.seen left)
   pub durable : IsTrue (s.tells disk) → Only (s.seen left) (s.may_leave left)
+  -- no call of the disk failed
+  pub same : s.faults left ≡ s.faults disk
 
 -- ---- why it stops
 
@@ -75,6 +89,7 @@ pub record BreaksOff {D : Type 0} (s : DiskGhosts D) (connections : ℕ) (cluste
   pub done : List ServerStep
   pub cut_off : List ServerStep
   pub few : length cut_off ≤ 1
+  pub any_moment : IsTrue (s.tells disk) → LeavesRun s disk left begun (done ++ cut_off)
   pub stays : IsTrue (s.tells disk) → StaysSince s begun done cut_off left
 
 -- its journal was neither made nor opened, and nothing else happened
@@ -83,6 +98,7 @@ pub record StaysShut {D : Type 0} (s : DiskGhosts D) (before now : Ends) (taken_
   pub why : StopsOpening s disk left stop
   pub ends : now ≡ before
   pub silent : taken ≡ taken_before
+  pub stays : IsTrue (s.tells disk) → LeavesOpenable s disk left
 
 -- why the server hasn't served all connections
 abbrev pub StopsFrom : {D : Type 0} → DiskGhosts D → (connections : ℕ) → Cluster → (before now : Ends)

@@ -1,6 +1,7 @@
 // The command of a metadata server with a store.
 ghost use Rattle.std.specs.Prelude.{◌≡◌, IfErr, IfOk};
 ghost use Rattle.cluster_text.specs.Outside.{network_at, streams_at};
+ghost use Rattle.server_command.proofs.Described.{IsSound};
 ghost use Rattle.stored_server.specs.Ends.{EndsStored, ServesStoredAs, StopsStoredServer};
 ghost use Rattle.stored_server.specs.Service.{ServesFrom, StopsFrom, stored_stop_of};
 
@@ -37,6 +38,7 @@ fn serve_from<K: Sink, L: Links, C: Clock, D: Disk, P: Place>(
     disk: D,
 ) -> Result<D, (StoredStop, D)>
     requires placer { P.is_placer placer.now }
+    requires sound { IsSound cluster.now }
     ensures serves { IfOk result (λ left. ServesFrom D.Disk connections cluster.now
         (network_at L.Links C.Clock links.old clock.old) (network_at L.Links C.Clock links.new clock.new)
         (K.taken sink.old) (K.taken sink.new) disk left) }

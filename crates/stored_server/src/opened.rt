@@ -1,7 +1,7 @@
 // The journal of a server on a disk.
 ghost use Rattle.std.specs.Prelude.{◌≡◌, false, IsTrue, IfOk, IfErr};
 ghost use Rattle.server_journal.specs.Journals.{IsKept, core_of, is_over_in};
-ghost use Rattle.stored_server.specs.Opened.{BeginsWith, StopsOpening, stop_of_journal};
+ghost use Rattle.stored_server.specs.Opened.{BeginsWith, LeavesOpenable, StopsOpening, stop_of_journal};
 ghost use Rattle.stored_server.specs.StoredServer.{kept_on};
 
 use crate::stored_server::StoredServer;
@@ -36,6 +36,8 @@ pub(crate) fn journal_on<D: Disk>(
     ensures kept { IfOk result (λ b. IsTrue (D.tells disk) → IsKept D.Disk b.0.journal) }
     ensures goes_on { IfOk result (λ b. is_over_in b.0.journal ≡ false) }
     ensures refused { IfErr result (λ e. StopsOpening D.Disk disk e.1 e.0) }
+    ensures leaves { IfOk result (λ b. IsTrue (D.tells disk) → LeavesOpenable D.Disk disk (kept_on b.0)) }
+    ensures cut_off { IfErr result (λ e. IsTrue (D.tells disk) → LeavesOpenable D.Disk disk e.1) }
     ensures no_fault { IfOk result (λ b. D.faults (kept_on b.0) ≡ D.faults disk) }
 {
     let mut disk = disk;

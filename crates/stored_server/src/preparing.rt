@@ -1,6 +1,7 @@
 // What a server does between its opening and its first connection.
 ghost use Rattle.std.specs.Prelude.{◌≡◌, false, IfErr, OnOk};
 ghost use Rattle.cluster_text.specs.Outside.{network_at};
+ghost use Rattle.server_command.proofs.Described.{IsSound};
 ghost use Rattle.server_command.specs.GoesOn.{Goes};
 ghost use Rattle.server_command.specs.declared.metadata_server.StepErr.TheVariants as step_err;
 ghost use Rattle.server_command.specs.declared.server_stop.ServerStop.TheVariants.{DiskFault};
@@ -50,6 +51,7 @@ pub(crate) fn prepare<H: MetadataServer, L: Links, C: Clock, P: Place>(
 ) -> Result<(), ServerStop>
     requires goes_on { H.is_over server.old ≡ false }
     requires placer { P.is_placer placer.now }
+    requires sound { IsSound cluster.now }
     ensures prepares { OnOk result (Prepares cluster.now (H.server server.old) step
         (network_at L.Links C.Clock links.old clock.old) (H.server server.new)
         (network_at L.Links C.Clock links.new clock.new)) }

@@ -76,7 +76,7 @@ impl<D: Disk> MetadataServer for StoredServer<D> {
 
     ghost stands_for = { λ s c. StandsFor s c };
 
-    ghost kept_stays = { stays D.Disk D.only_now };
+    ghost kept_stays = { stays D.only_now };
 
     fn drives(&self) -> &[Drive] {
         self.journal.drives()

@@ -1,4 +1,3 @@
-use Rattle.std.proofs.Common.{◌<◌, ℕ, List, length, sym, subst}
 use Rattle.server_journal.proofs.RecordLaws.{some_bytes}
 use Rattle.server_journal.proofs.record.entry_of.Goals as goal
 

@@ -10,9 +10,9 @@ returns-in-Ok-serve_told-clause-serves g c =
     served_from g.D.Disk c.args.connections c.args.cluster.now
     (ends_of (g.L.Links.told c.args.links.now) (g.L.Links.faults c.args.links.now) (g.C.Clock.times c.args.clock.now))
     (ends_of (g.L.Links.told c.serve_told.new.links) (g.L.Links.faults c.serve_told.new.links) (g.C.Clock.times c.serve_told.new.clock))
-    (g.K.Sink.taken c.args.sink.now) (g.K.Sink.taken c.serve_told.new.sink) c.args.disk c.into_disk.result
-    c.in-Ok.opened.0 c.serve_told.new.server c.in-Ok.opened.1 c.in-Ok.ensures.begins c.in-Ok.ensures.kept w.done c.into_disk.ensures
-    _ _ c.in-Ok-prepare.ensures.prepares c.in-Ok-serve_told.ensures.serves w.state w.carries w.keeps_on
+    (g.K.Sink.taken c.args.sink.now) (g.K.Sink.taken c.serve_told.new.sink) c.args.disk c.into_disk-in-Ok-serve_told.result
+    c.in-Ok.opened.0 c.serve_told.new.server c.in-Ok.opened.1 c.in-Ok.ensures.begins c.in-Ok.ensures.kept c.in-Ok.ensures.leaves w.done c.into_disk-in-Ok-serve_told.ensures
+    _ _ c.in-Ok-prepare.ensures.prepares c.in-Ok-serve_told.ensures.serves w.state w.carries w.keeps_on w.same c.in-Ok.ensures.no_fault
 
 pub returns-in-Err-serve_told-clause-stops : goal.returns-in-Err-serve_told-clause-stops
 returns-in-Err-serve_told-clause-stops g c =
@@ -21,7 +21,7 @@ returns-in-Err-serve_told-clause-stops g c =
     (ends_of (g.L.Links.told c.args.links.now) (g.L.Links.faults c.args.links.now) (g.C.Clock.times c.args.clock.now))
     (ends_of (g.L.Links.told c.serve_told.new.links) (g.L.Links.faults c.serve_told.new.links) (g.C.Clock.times c.serve_told.new.clock))
     (g.K.Sink.taken c.args.sink.now) (g.K.Sink.taken c.serve_told.new.sink) c.args.disk c.into_disk-in-Err-serve_told.result
-    c.in-Ok.opened.0 c.serve_told.new.server c.in-Ok.opened.1 c.in-Ok.ensures.begins c.in-Ok.ensures.kept b.done c.into_disk-in-Err-serve_told.ensures
+    c.in-Ok.opened.0 c.serve_told.new.server c.in-Ok.opened.1 c.in-Ok.ensures.begins c.in-Ok.ensures.kept c.in-Ok.ensures.leaves b.done c.into_disk-in-Err-serve_told.ensures
     b.cut_off (g.K.Sink.faults c.args.sink.now) (g.K.Sink.faults c.serve_told.new.sink) _ c.in-Err-serve_told.stop c.stored_stop_of-in-Err-serve_told.ensures
     (inr (_, _, c.in-Ok-prepare.ensures.prepares, _, c.in-Err-serve_told.ensures.stops)) b.carries b.rose c.in-Ok.ensures.no_fault)
 
@@ -31,10 +31,10 @@ returns-in-Err-prepare-clause-stops g c =
     inr (broke_off g.D.Disk c.args.connections c.args.cluster.now
     (ends_of (g.L.Links.told c.args.links.now) (g.L.Links.faults c.args.links.now) (g.C.Clock.times c.args.clock.now))
     (ends_of (g.L.Links.told c.prepare.new.links) (g.L.Links.faults c.prepare.new.links) (g.C.Clock.times c.prepare.new.clock))
-    (g.K.Sink.taken c.args.sink.now) (g.K.Sink.taken c.args.sink.now) c.args.disk c.into_disk-in-Err-prepare.result
-    c.in-Ok.opened.0 c.prepare.new.server c.in-Ok.opened.1 c.in-Ok.ensures.begins c.in-Ok.ensures.kept b.done c.into_disk-in-Err-prepare.ensures
-    b.cut_off (g.K.Sink.faults c.args.sink.now) (g.K.Sink.faults c.args.sink.now) _ c.in-Err-prepare.stop c.stored_stop_of-in-Err-prepare.ensures
+    (g.K.Sink.taken c.args.sink.now) (g.K.Sink.taken c.args.sink.now) c.args.disk c.into_disk.result
+    c.in-Ok.opened.0 c.prepare.new.server c.in-Ok.opened.1 c.in-Ok.ensures.begins c.in-Ok.ensures.kept c.in-Ok.ensures.leaves b.done c.into_disk.ensures
+    b.cut_off (g.K.Sink.faults c.args.sink.now) (g.K.Sink.faults c.args.sink.now) _ c.in-Err-prepare.stop c.stored_stop_of.ensures
     (inl (refl, _, c.in-Err-prepare.ensures.stops)) b.carries b.rose c.in-Ok.ensures.no_fault)
 
 pub returns-in-Err-clause-stops : goal.returns-in-Err-clause-stops
-returns-in-Err-clause-stops g c = inl (record { why = c.in-Err.ensures.refused; ends = refl; silent = refl })
+returns-in-Err-clause-stops g c = inl (record { why = c.in-Err.ensures.refused; ends = refl; silent = refl; stays = c.in-Err.ensures.cut_off })

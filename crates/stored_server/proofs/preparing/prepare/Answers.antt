@@ -25,8 +25,8 @@ pub returns-in-Err-add_lacking-clause-stops : goal.returns-in-Err-add_lacking-cl
 returns-in-Err-add_lacking-clause-stops g c =
     stopped_adding c.args.cluster.now (g.H.MetadataServer.server c.args.server.now) c.args.step
     (ends_of (g.L.Links.told c.args.links.now) (g.L.Links.faults c.args.links.now) (g.C.Clock.times c.args.clock.now))
-    (g.H.MetadataServer.server c.resume.new.server) (g.H.MetadataServer.server c.set_format.new.self) _ c.as_slice.result.now _ c.in-Err-add_lacking.stop
-    c.as_slice.ensures c.in-Ok.ensures.resumes c.in-Ok-set_format.ensures.ok.state c.in-Err-add_lacking.ensures.stops
+    (g.H.MetadataServer.server c.set_format.new.self) _ c.as_slice.result.now _ c.in-Err-add_lacking.stop
+    c.as_slice.ensures c.requires.sound.keys c.in-Err-add_lacking.ensures.stops
 
 pub returns-in-Err-add_lacking-clause-goes : goal.returns-in-Err-add_lacking-clause-goes
 returns-in-Err-add_lacking-clause-goes g c =
@@ -54,18 +54,18 @@ returns-in-Ok-make_lacking-clause-goes g c =
     c.in-Ok-add_lacking.ensures.goes)
     c.in-Ok-make_lacking.ensures.goes
 
-pub returns-clause-stops : goal.returns-clause-stops
-returns-clause-stops g c =
+pub returns-in-Err-make_lacking-clause-stops : goal.returns-in-Err-make_lacking-clause-stops
+returns-in-Err-make_lacking-clause-stops g c =
     let before = ends_of (g.L.Links.told c.args.links.now) (g.L.Links.faults c.args.links.now) (g.C.Clock.times c.args.clock.now) in
     stopped_making c.args.cluster.now (g.H.MetadataServer.server c.args.server.now) c.args.step before (g.H.MetadataServer.server c.add_lacking.new.server) _
     c.as_slice-2.result.now _ _ c.in-Err-make_lacking.stop c.as_slice-2.ensures
     (settled c.args.cluster.now (g.H.MetadataServer.server c.args.server.now) c.args.step before (g.H.MetadataServer.server c.resume.new.server)
     (g.H.MetadataServer.server c.set_format.new.self) (g.H.MetadataServer.server c.add_lacking.new.server) c.as_slice.result.now _ c.as_slice.ensures
     c.in-Ok.ensures.resumes c.in-Ok-set_format.ensures.ok.state c.in-Ok-add_lacking.ensures.knows)
-    c.in-Err-make_lacking.ensures.stops
+    c.requires.sound.maps c.in-Err-make_lacking.ensures.stops
 
-pub returns-clause-goes : goal.returns-clause-goes
-returns-clause-goes g c =
+pub returns-in-Err-make_lacking-clause-goes : goal.returns-in-Err-make_lacking-clause-goes
+returns-in-Err-make_lacking-clause-goes g c =
     broke_then g.H.MetadataServer _ c.args.server.now c.add_lacking.new.server c.make_lacking.new.server
     (went_then g.H.MetadataServer c.args.server.now c.set_format.new.self c.add_lacking.new.server
     (went_then g.H.MetadataServer c.args.server.now c.resume.new.server c.set_format.new.self c.in-Ok.ensures.goes

@@ -1,4 +1,4 @@
-use Rattle.std.proofs.Common.{◌≡◌, ◌∙◌, ap, arith, length, sym, List}
+use Rattle.std.proofs.Common.{◌≡◌, ◌∙◌, ap, arith, length, sym}
 use Rattle.server_entries.specs.declared.record.Record.{Record}
 use Rattle.server_rules.specs.Openings.{crash}
 use Rattle.server_journal.proofs.JournalLaws.{still, unchanged}
@@ -11,7 +11,7 @@ returns-then-len-eq0-clause-any_moment g c was follows kept =
 pub returns-then-len-eq0-clause-kept : goal.returns-then-len-eq0-clause-kept
 returns-then-len-eq0-clause-kept g c was follows kept =
     let none : length c.args.self.now.kept.changes.entries ≡ 0 =
-        ap (λ (r : Record). length r.entries) (sym c.changes.ensures.value) ∙ sym c.len.ensures ∙ c.if-len-eq0.true in
+    ap (λ (r : Record). length r.entries) (sym c.changes.ensures.value) ∙ sym c.len.ensures ∙ c.if-len-eq0.true in
     unchanged g.D.Disk was c.args.self.now.kept c.args.self.now.log none follows kept
 
 pub returns-in-Ok-clause-quiet : goal.returns-in-Ok-clause-quiet

@@ -1,8 +1,7 @@
-use Rattle.std.proofs.Common.{rules, ◌≡◌, IsTrue, ◌∙◌, refl, sym, subst}
+use Rattle.std.proofs.Common.{rules, IsTrue, ◌∙◌, refl, sym, subst}
 use Rattle.osd_disk.proofs.Moments.{read_again}
-use Rattle.gate_log.specs.Standing.{disk_of, header_of, read_disk}
+use Rattle.gate_log.specs.Standing.{header_of, read_disk}
 use Rattle.server_rules.specs.declared.server.Server.{Server}
-use Rattle.server_journal.specs.Header.{journal_header}
 use Rattle.server_journal.specs.Opening.{HasTaken}
 use Rattle.server_journal.proofs.OpeningLaws.{no_place, opening_leaves, other_header_at, read_leaves, read_so_far, stood_for, taken_first, taken_kept}
 use Rattle.server_journal.proofs.server.JournaledServer.open.Goals as goal
@@ -31,11 +30,11 @@ pub returns-in-Ok-reopen-clause-opened : goal.returns-in-Ok-reopen-clause-opened
 returns-in-Ok-reopen-clause-opened g c told =
     let yes : IsTrue c.is_header.result = search rules in
     let first = taken_first g.D.Disk (header_of c.in-Ok.reader) c.in-Ok.reader (sym c.header.ensures ∙ c.is_header.ensures.yes yes)
-        (c.in-Ok.ensures.begun told) in
+    (c.in-Ok.ensures.begun told) in
     let taken = c.in-Ok-take_records.ensures.taken (subst (λ (s : Server). HasTaken g.D.Disk s c.in-Ok.reader) (sym c.new-restoration.ensures) first) in
     let kept = taken_kept g.D.Disk c.take_records.new.restoration c.take_records.new.reader c.into_log.result taken c.into_log.ensures.log in
     let read = read_so_far g.D.Disk c.args.disk c.in-Ok.reader c.take_records.new.reader c.into_log.result c.in-Ok.ensures.disk c.take_records.ensures.disk
-        c.into_log.ensures.disk in
+    c.into_log.ensures.disk in
     record {
       before = c.take_records.new.restoration;
       stood = stood_for g.D.Disk c.args.disk c.take_records.new.restoration c.into_log.result read kept;
@@ -50,11 +49,11 @@ pub returns-in-Err-reopen-clause-cut_off : goal.returns-in-Err-reopen-clause-cut
 returns-in-Err-reopen-clause-cut_off g c told =
     let yes : IsTrue c.is_header.result = search rules in
     let first = taken_first g.D.Disk (header_of c.in-Ok.reader) c.in-Ok.reader (sym c.header.ensures ∙ c.is_header.ensures.yes yes)
-        (c.in-Ok.ensures.begun told) in
+    (c.in-Ok.ensures.begun told) in
     let taken = c.in-Ok-take_records.ensures.taken (subst (λ (s : Server). HasTaken g.D.Disk s c.in-Ok.reader) (sym c.new-restoration.ensures) first) in
     let kept = taken_kept g.D.Disk c.take_records.new.restoration c.take_records.new.reader c.into_log.result taken c.into_log.ensures.log in
     let read = read_so_far g.D.Disk c.args.disk c.in-Ok.reader c.take_records.new.reader c.into_log.result c.in-Ok.ensures.disk c.take_records.ensures.disk
-        c.into_log.ensures.disk in
+    c.into_log.ensures.disk in
     opening_leaves g.D.Disk g.met.D.Disk.only_now c.args.disk _ c.take_records.new.restoration c.into_log.result read kept
     (c.in-Err-reopen.ensures.cut_off kept)
 

@@ -6,6 +6,9 @@ use Rattle.server_journal.proofs.server.JournaledServer.set_zone.Goals as goal
 pub returns-in_err-put-clause-cut_off : goal.returns-in_err-put-clause-cut_off
 returns-in_err-put-clause-cut_off g c = at_error _ _ (stopped g.D.Disk g.met.D.Disk.only_now c.args.self.now _ _ refl)
 
+pub returns-in-Ok-clause-stays : goal.returns-in-Ok-clause-stays
+returns-in-Ok-clause-stays g c taken = rw c.keep.ensures.kept_server (c.in_ok-put.ensures.stays taken)
+
 pub returns-in-Ok-clause-answered : goal.returns-in-Ok-clause-answered
 returns-in-Ok-clause-answered g c =
     answered g.D.Disk c.args.self.now c.keep.new.self c.set_zone.new.self c.set_zone.ensures.kept c.set_zone.ensures.quiet c.in_ok-put.ensures.over

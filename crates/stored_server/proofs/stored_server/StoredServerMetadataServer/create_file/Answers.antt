@@ -1,6 +1,4 @@
-use Rattle.std.proofs.Common.{sym, subst}
-use Rattle.server_command.specs.declared.metadata_server.MakeErr.{MakeErr}
-use Rattle.stored_server.proofs.JournalLaws.{JournalMakesNot, not_making, went_making}
+use Rattle.stored_server.proofs.JournalLaws.{not_making, went_making}
 use Rattle.stored_server.proofs.stored_server.StoredServerMetadataServer.create_file.Goals as goal
 
 pub returns-in-Ok-clause-ok : goal.returns-in-Ok-clause-ok
@@ -16,5 +14,4 @@ returns-in-Ok-clause-ok g c =
 
 pub returns-in-Err-clause-err : goal.returns-in-Err-clause-err
 returns-in-Err-clause-err g c =
-    subst (λ (e : MakeErr). JournalMakesNot g.D.Disk _ _ _ _ _ e) (sym c.make_err_of.ensures)
-    (not_making g.D.Disk g.met.D.Disk.only_now _ _ _ _ _ c.in-Err.e c.in-Err.ensures.refused)
+    rw c.make_err_of.ensures (not_making g.D.Disk g.met.D.Disk.only_now _ _ _ _ _ c.in-Err.e c.in-Err.ensures.refused)

@@ -1,0 +1,6 @@
+use Rattle.std.proofs.Common.{[], ◌∷◌, ◌++◌}
+use Rattle.osd_disk.specs.declared.calls.Call.TheVariants.{Sync}
+use Rattle.osd_disk.proofs.past.Past.with_sync.Given as goal
+
+abbrev pub ghost-from_call : goal.ghost-from_call
+ghost-from_call a = record { first = a.self.now.first; calls = a.self.now.calls ++ Sync ∷ []; fails = []; faults = 0 }

@@ -1,0 +1,15 @@
+pub mod Fences
+pub mod Refusing
+pub mod Opening
+pub mod Steps
+pub mod Noting
+pub mod Moving
+pub mod Barring
+pub mod Telling
+pub mod Moments
+pub mod Giving
+pub mod Counting
+pub mod PlaceJobs
+pub mod PlaceServing
+pub mod PlaceSteps
+pub mod PlaceMoments
