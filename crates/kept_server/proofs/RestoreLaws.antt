@@ -1,6 +1,6 @@
 -- Records, one after the other.
 use Rattle.std.specs.Prelude.{◌<◌}
-use Rattle.std.proofs.Common.{◌≡◌, ◌+◌, ℕ, List, [], ◌∷◌, ◌++◌, length, take, get_or, Option, Some, refl, sym, ap, ◌∙◌}
+use Rattle.std.proofs.Common.{◌≡◌, ◌+◌, ℕ, List, [], ◌∷◌, ◌++◌, length, take, get_or, Option, Some, refl, ap, ◌∙◌}
 use Rattle.std.proofs.lemmas.List.{take_more}
 use Rattle.server_rules.specs.declared.server.Server.{Server}
 use Rattle.server_rules.specs.Making.{new_server}
@@ -13,8 +13,6 @@ replayed-more s [] r = refl
 replayed-more s (q ∷ rs) r = replayed-more (applied_to s q.entries) rs r
 
 -- one record more
-pub restored_more : (rs : List Record) (i : ℕ) (r : Record) → i < length rs → r ≡ get_or rs i r →
-    restored (take (i + 1) rs) ≡ applied_to (restored (take i rs)) r.entries
-restored_more rs i r l is =
-    ap restored (take_more rs i r l) ∙ replayed-more (Some (new_server [])) (take i rs) (get_or rs i r)
-    ∙ ap (λ (q : Record). applied_to (restored (take i rs)) q.entries) (sym is)
+pub restored_more : (rs : List Record) (i : ℕ) (r : Record) → i < length rs →
+    restored (take (i + 1) rs) ≡ applied_to (restored (take i rs)) (get_or rs i r).entries
+restored_more rs i r l = ap restored (take_more rs i r l) ∙ replayed-more (Some (new_server [])) (take i rs) (get_or rs i r)

@@ -10,12 +10,13 @@ use Rattle.server_entries.specs.Applying.{replayed_to}
 use Rattle.kept_server.specs.declared.restoration.RestoreErr.{RestoreErr}
 use Rattle.kept_server.specs.declared.restoration.RestoreErr.TheVariants as restore
 use Rattle.kept_server.specs.Views.{Keeping}
-use Rattle.kept_server.specs.Keeping.{Follows}
+use Rattle.kept_server.specs.Keeping.{Follows, SaysNoMore}
 
 -- a server that kept this was opened: its step is the rules', and the changes are those of the opening
 pub record Opens (before : Server) (now : Keeping) (out : Step) : Type 0 where
   pub did : Did out now.server (reopen before)
   pub follows : Follows before now
+  pub quiet : SaysNoMore before now
   pub going : now.is_over ≡ false
 
 -- what these records make of a new server

@@ -1,8 +1,9 @@
 // A server that is made of records again.
-ghost use Rattle.std.specs.Prelude.{◌≡◌, [], Option, Some, None, IfOk, IfErr};
+ghost use Rattle.std.specs.Prelude.{◌≡◌, [], Option, Some, None, IfOk, IfErr, OnErr};
 ghost use Rattle.server_rules.specs.Making.{new_server};
 ghost use Rattle.server_entries.specs.Applying.{applied_to};
 ghost use Rattle.server_entries.specs.Taking.{Takes};
+ghost use Rattle.server_entries.specs.declared.applied.Applied.TheVariants.{Unmade};
 ghost use Rattle.kept_server.specs.Restoring.{Opens, Restores, SaysUnmade};
 
 use crate::server::KeptServer;
@@ -71,7 +72,9 @@ impl Restoration {
     /// Takes the entries of a record, and tells whether something can be made of each. If not, or at an error, the
     /// restoration is over, and nothing is left of what was taken.
     pub fn take(&mut self, alloc: Global, entries: &[Entry]) -> Result<Applied, WantOfMemory>
-        ensures { IfOk result (λ a. Takes a self.new (applied_to (Some self.old) entries.now)) }
+        ensures takes { IfOk result (λ a. Takes a self.new (applied_to (Some self.old) entries.now)) }
+        ensures unmade { IfOk result (λ a. a ≡ Unmade → self.new ≡ new_server []) }
+        ensures failed { OnErr result (self.new ≡ new_server []) }
     {
         let mut state = mem::replace(&mut self.state, State::new(alloc));
         let mut mirror = mem::replace(&mut self.mirror, State::new(alloc));

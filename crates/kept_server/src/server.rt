@@ -18,7 +18,7 @@ ghost use Rattle.layout_server.specs.Calls.{Makes, IsRefused};
 ghost use Rattle.layout_server.specs.Zones.{is_in_zone, is_known};
 ghost use Rattle.server_entries.specs.Applying.{applied_all};
 ghost use Rattle.server_entries.specs.Spelling.{RecordWritable};
-ghost use Rattle.kept_server.specs.Keeping.{Follows, GoesOn, IsMirror, IsQuiet, Keeps};
+ghost use Rattle.kept_server.specs.Keeping.{Ends, Follows, GoesOn, IsMirror, IsQuiet, Keeps, SaysNoMore, StaysOver};
 ghost use Rattle.kept_server.specs.Restoring.{Opens};
 
 use crate::differences::differences;
@@ -71,6 +71,7 @@ impl KeptServer {
         requires { CanAdd [] drives }
         ensures new { IfOk result (λ server. server.server ≡ new_server (and_drives [] drives)) }
         ensures follows { IfOk result (Follows (new_server [])) }
+        ensures quiet { IfOk result (SaysNoMore (new_server [])) }
         ensures over { IfOk result (λ server. server.is_over ≡ false) }
     {
         let core = ServerCore::new(alloc, drives)?;
@@ -111,6 +112,7 @@ impl KeptServer {
     // What is kept before a call. The server is over until the call is done.
     fn begin(&mut self) -> Result<State, Memory>
         ensures mirror { IfOk result (λ mirror. IsMirror mirror self.old.server) }
+        ensures goes_on { OnOk result (self.old.is_over ≡ false) }
         ensures server { self.new.server ≡ self.old.server }
         ensures over { self.new.is_over ≡ true }
     {
@@ -161,6 +163,7 @@ impl KeptServer {
         ensures added { OnOk result (self.new.server ≡ record self.old.server { drives = add_drive self.old.server.drives (drive_of info) }) }
         ensures kept { Keeps self.old self.new }
         ensures quiet { IsQuiet self.old self.new }
+        ensures stays_over { StaysOver self.old self.new }
         ensures over { self.new.is_over ≡ is_err result }
     {
         let mirror = self.begin()?;
@@ -187,8 +190,10 @@ impl KeptServer {
         ensures made { IfOk result (λ out. Makes file raw tag false self.old.server self.new.server out) }
         ensures kept { Keeps self.old self.new }
         ensures quiet { IsQuiet self.old self.new }
+        ensures stays_over { StaysOver self.old self.new }
         ensures over { OnOk result (self.new.is_over ≡ false) }
         ensures goes_on { IfErr result (GoesOn self.new) }
+        ensures ends { IfErr result (Ends self.new) }
     {
         let mirror = self.begin()?;
         let made = self.core.create_file(file, raw, tag, placer);
@@ -218,8 +223,10 @@ impl KeptServer {
         ensures made { IfOk result (λ out. Makes file raw tag true self.old.server self.new.server out) }
         ensures kept { Keeps self.old self.new }
         ensures quiet { IsQuiet self.old self.new }
+        ensures stays_over { StaysOver self.old self.new }
         ensures over { OnOk result (self.new.is_over ≡ false) }
         ensures goes_on { IfErr result (GoesOn self.new) }
+        ensures ends { IfErr result (Ends self.new) }
     {
         let mirror = self.begin()?;
         let made = self.core.create_zoned(file, raw, tag, placer);
@@ -243,6 +250,7 @@ impl KeptServer {
         ensures stays { IfOk result (λ put. IsErr put → self.new.server ≡ self.old.server) }
         ensures kept { Keeps self.old self.new }
         ensures quiet { IsQuiet self.old self.new }
+        ensures stays_over { StaysOver self.old self.new }
         ensures over { self.new.is_over ≡ is_err result }
     {
         let mirror = self.begin()?;
@@ -257,6 +265,7 @@ impl KeptServer {
         ensures set { OnOk result (self.new.server ≡ set_format self.old.server format) }
         ensures kept { Keeps self.old self.new }
         ensures quiet { IsQuiet self.old self.new }
+        ensures stays_over { StaysOver self.old self.new }
         ensures over { self.new.is_over ≡ is_err result }
     {
         let mirror = self.begin()?;
@@ -277,6 +286,7 @@ impl KeptServer {
             × Did out self.new.server (on_bytes self.old.server now chosen from bytes.now)) }
         ensures kept { Keeps self.old self.new }
         ensures quiet { IsQuiet self.old self.new }
+        ensures stays_over { StaysOver self.old self.new }
         ensures over { self.new.is_over ≡ is_err result }
     {
         let mirror = self.begin()?;
@@ -302,6 +312,7 @@ impl KeptServer {
             × Did out self.new.server (ordered self.old.server chosen kind target).step) }
         ensures kept { Keeps self.old self.new }
         ensures quiet { IsQuiet self.old self.new }
+        ensures stays_over { StaysOver self.old self.new }
         ensures over { self.new.is_over ≡ is_err result }
     {
         let mirror = self.begin()?;
@@ -317,6 +328,7 @@ impl KeptServer {
             → Did out self.new.server (ordered self.old.server chosen order.Recall file).step) }
         ensures kept { Keeps self.old self.new }
         ensures quiet { IsQuiet self.old self.new }
+        ensures stays_over { StaysOver self.old self.new }
         ensures over { self.new.is_over ≡ is_err result }
     {
         let mirror = self.begin()?;
@@ -333,6 +345,7 @@ impl KeptServer {
             × Did out self.new.server (ordered self.old.server chosen order.Revoke file).step) }
         ensures kept { Keeps self.old self.new }
         ensures quiet { IsQuiet self.old self.new }
+        ensures stays_over { StaysOver self.old self.new }
         ensures over { self.new.is_over ≡ is_err result }
     {
         self.order(OrderKind::Revoke, file, placer)
@@ -346,6 +359,7 @@ impl KeptServer {
             × Did out self.new.server (ordered self.old.server chosen order.Rebuild file).step) }
         ensures kept { Keeps self.old self.new }
         ensures quiet { IsQuiet self.old self.new }
+        ensures stays_over { StaysOver self.old self.new }
         ensures over { self.new.is_over ≡ is_err result }
     {
         self.order(OrderKind::Rebuild, file, placer)
@@ -359,6 +373,7 @@ impl KeptServer {
             × Did out self.new.server (ordered self.old.server chosen order.Audit file).step) }
         ensures kept { Keeps self.old self.new }
         ensures quiet { IsQuiet self.old self.new }
+        ensures stays_over { StaysOver self.old self.new }
         ensures over { self.new.is_over ≡ is_err result }
     {
         self.order(OrderKind::Audit, file, placer)
@@ -375,6 +390,7 @@ impl KeptServer {
             × Did out self.new.server (ordered self.old.server chosen order.Declare drive).step) }
         ensures kept { Keeps self.old self.new }
         ensures quiet { IsQuiet self.old self.new }
+        ensures stays_over { StaysOver self.old self.new }
         ensures over { self.new.is_over ≡ is_err result }
     {
         let mirror = self.begin()?;
@@ -386,7 +402,8 @@ impl KeptServer {
     /// Every command that a job waits for, once more. A server that is over sends nothing: its last step may be one that no
     /// entries were given of.
     pub fn resend(&self) -> Result<Sends, Memory>
-        ensures { IfOk result (λ sends. sends ≡ all_sent (resend self.now.server)) }
+        ensures sends { IfOk result (λ sends. sends ≡ all_sent (resend self.now.server)) }
+        ensures goes_on { OnOk result (self.now.is_over ≡ false) }
     {
         if self.is_over {
             return Err(Memory);
