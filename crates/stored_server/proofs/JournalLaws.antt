@@ -96,7 +96,7 @@ module _ {D : Type 0} (s : DiskGhosts D) where
             s.moment (kept_on new),
             leaves.later,
             omega arith,
-            λ c left. subst (λ (v : Server). StandsFor v c) is (stays only_now new c (answered.kept k) left),
+            λ c left. subst (λ (v : Server). StandsFor v c) is (stays s only_now new c (answered.kept k) left),
           );
     };
     keeps_on = answered.kept;
@@ -133,7 +133,7 @@ module _ {D : Type 0} (s : DiskGhosts D) where
   unchanged only_now old new same =
       let disk : kept_on new ≡ kept_on old = ap (λ (l : GateLog D). disk_of l) same.log in
       let held : (c : List ℕ) → IsKept s old.journal → s.left_since (kept_on new) (s.moment (kept_on old)) c → StandsFor (core_of old.journal) c =
-      λ c k left. stays only_now old c k (subst (λ (d : D). s.left_since d (s.moment (kept_on old)) c) disk left) in record {
+      λ c k left. stays s only_now old c k (subst (λ (d : D). s.left_since d (s.moment (kept_on old)) c) disk left) in record {
         state = same.server;
         carries = record {
           few = omega arith;

@@ -74,14 +74,17 @@ module _ {D : Type 0} (s : DiskGhosts D) where
   pub as_before : ((d : D) (c : List ℕ) → s.left_since d (s.moment d) c → s.may_leave d c) → (disk mid : D) → Read disk mid → LeavesOpenable s disk mid
   as_before only_now disk mid read = inr (read_leaves s only_now disk mid mid refl read)
 
+  -- what an opening may leave
+  abbrev Leavable : D → List ℕ → Type 0
+  Leavable disk c = s.may_leave disk c ⊎ IsOfOpening (s.seen disk) c
+
   -- and once it is
   pub since_asked : ((d : D) (c : List ℕ) → s.left_since d (s.moment d) c → s.may_leave d c) → (disk mid left : D) → Read disk mid
       → LeavesOpening s mid left → LeavesOpenable s disk left
   since_asked only_now disk mid left read opening =
-      let here = λ c. s.may_leave disk c ⊎ IsOfOpening (s.seen disk) c in
-      inr (on_and_on s disk mid left here
-      (leaves_as_before s.tells s.seen s.may_leave s.moment s.left_since disk mid here read only_now (λ c left. inl left))
-      (weaker s mid left (λ c. s.may_leave mid c ⊎ IsOfOpening (s.seen mid) c) here opening
+      inr (on_and_on s disk mid left (Leavable disk)
+      (leaves_as_before s.tells s.seen s.may_leave s.moment s.left_since disk mid (Leavable disk) read only_now (λ c left. inl left))
+      (weaker s mid left (Leavable mid) (Leavable disk) opening
       (λ c left. ⊎_elim (λ now. inl (read.narrows c now)) (λ o. inr (subst (λ (b : List ℕ). IsOfOpening b c) read.seen_same o)) left)))
 
   -- no bytes

@@ -1,5 +1,5 @@
 -- A server in a journal, as what takes messages.
-use Rattle.std.specs.Prelude.{ℕ, List}
+use Rattle.std.specs.Prelude.{ℕ, List, Bool}
 use Rattle.osd_disk.specs.declared.disk.Disk.{Ghosts}
 use Rattle.server_rules.specs.declared.server.Server.{Server}
 use Rattle.server_rules.specs.Openings.{crash}
@@ -39,7 +39,13 @@ abbrev pub StandsFor : Server → List ℕ → Type 0
 StandsFor s c = IsJournalOf (crash s) c
 
 -- if nothing is asked of it, a crash leaves a journal of the server as it is
-pub stays : {D : Type 0} {k : Ghosts D} → ((disk : D) (c : List ℕ) → k.left_since disk (k.moment disk) c → k.may_leave disk c)
+pub stays : {D : Type 0} (k : Ghosts D) → ((disk : D) (c : List ℕ) → k.left_since disk (k.moment disk) c → k.may_leave disk c)
     → (s : StoredServer D) (c : List ℕ) → IsKept k s.journal → k.left_since (kept_on s) (k.moment (kept_on s)) c
     → StandsFor (core_of s.journal) c
-stays {D} {k} only_now s c kept left = kept_leaves k (crash (core_of s.journal)) s.journal.log kept c (only_now (kept_on s) c left)
+stays k only_now s c kept left = kept_leaves k (crash (core_of s.journal)) s.journal.log kept c (only_now (kept_on s) c left)
+
+-- the ghost members of a disk, one by one
+abbrev pub ghosts_of : {D : Type 0} (tells : D → Bool) (seen : D → List ℕ) (may_leave : D → List ℕ → Type 0) (moment : D → ℕ)
+    (left_since : D → ℕ → List ℕ → Type 0) (faults : D → ℕ) → Ghosts D
+ghosts_of tells seen may_leave moment left_since faults =
+    record { tells = tells; seen = seen; may_leave = may_leave; moment = moment; left_since = left_since; faults = faults }

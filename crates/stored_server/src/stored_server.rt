@@ -60,7 +60,7 @@ impl<D> StoredServer<D> {
 
 impl<D: Disk> MetadataServer for StoredServer<D> {
     ghost use Rattle.server_journal.specs.Journals.{IsKept, core_of, is_over_in};
-    ghost use Rattle.stored_server.specs.StoredServer.{StandsFor, kept_on, stays};
+    ghost use Rattle.stored_server.specs.StoredServer.{StandsFor, ghosts_of, kept_on, stays};
 
     ghost server = { λ s. core_of s.journal };
 
@@ -76,7 +76,7 @@ impl<D: Disk> MetadataServer for StoredServer<D> {
 
     ghost stands_for = { λ s c. StandsFor s c };
 
-    ghost kept_stays = { stays D.only_now };
+    ghost kept_stays = { stays (ghosts_of D.tells D.seen D.may_leave D.moment D.left_since D.faults) D.only_now };
 
     fn drives(&self) -> &[Drive] {
         self.journal.drives()
