@@ -1,5 +1,5 @@
 -- Notes of a file in a step, and what they make of its components.
-use Rattle.std.proofs.Common.{◌≡◌, ℕ, ◌<◌, ◌+◌, ◌||◌, ◌++◌, ◌∷◌, [], List, Bool, true, false, slice_set, refl, sym, ap, ◌∙◌, arith}
+use Rattle.std.proofs.Common.{◌≡◌, ℕ, ◌<◌, ◌+◌, ◌||◌, ◌++◌, ◌∷◌, [], List, Bool, true, false, slice_set, refl, sym, ap, ◌∙◌}
 use Rattle.std.proofs.lemmas.Bool.{lt-ltb}
 use Rattle.scenario_text.specs.declared.names.TheConstants.{DRIVES}
 use Rattle.server_rules.specs.Going.{Going, keeping, with_components, noting, noting_if}
@@ -52,15 +52,15 @@ tag_behind t [] = t
 tag_behind t (Fenced u ∷ ks) = u
 tag_behind t (k ∷ ks) = tag_behind t ks
 
--- which is a later one
-abbrev pub AreLater : (tag : ℕ) → List NoteKind → Type 0
-AreLater t [] = Unit {0}
-AreLater t (Fenced u ∷ ks) = (tag_behind t ks < u) × AreLater t ks
-AreLater t (k ∷ ks) = AreLater t ks
+-- which is the next one each time
+abbrev pub AreNext : (tag : ℕ) → List NoteKind → Type 0
+AreNext t [] = Unit {0}
+AreNext t (Fenced u ∷ ks) = (u ≡ tag_behind t ks + 1) × AreNext t ks
+AreNext t (k ∷ ks) = AreNext t ks
 
 -- a file that had the one tag has the other behind them
 abbrev pub Tagged : (tag : ℕ) → List NoteKind → (then : ℕ) → Type 0
-Tagged t ks u = (u ≡ tag_behind t ks) × AreLater t ks
+Tagged t ks u = (u ≡ tag_behind t ks) × AreNext t ks
 
 tagged_plain : (t : ℕ) (k : NoteKind) (ks : List NoteKind) (u : ℕ) → is_fenced k ≡ false → Tagged t ks u
     → Tagged t (k ∷ ks) u
@@ -194,7 +194,7 @@ tells_fenced k before g h = record {
       note_more k before (keeping g (record g.file.kept { tag = g.file.kept.tag + 1; phase = Repairing }))
       (Fenced (g.file.kept.tag + 1)) h.kinds h.number h.notes;
   tellable = (refl, h.tellable);
-  tags = (refl, (omega (arith, h.tags.0), h.tags.1));
+  tags = (refl, (ap (λ (t : ℕ). t + 1) h.tags.0, h.tags.1));
   alike = h.alike;
   exact = h.exact;
   apart = h.apart;

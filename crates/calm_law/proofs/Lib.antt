@@ -27,6 +27,7 @@ mod Steps
 mod Finding
 pub mod Making
 mod Tags
+mod FenceTags
 mod Short
 mod Through
 pub mod FileFacts

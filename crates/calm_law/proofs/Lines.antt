@@ -19,11 +19,11 @@ abbrev pub lines_of : List Note → List Line
 lines_of ns = filter_map known_note_line ns
 
 -- a note that lines can tell is a line
-one_line : (n : ℕ) (k : NoteKind) → n < FILES → is_tellable_note k ≡ true
+pub one_line : (n : ℕ) (k : NoteKind) → n < FILES → is_tellable_note k ≡ true
     → lines_of (record { file = n; kind = k } ∷ []) ≡ note_line (record { file = n; kind = k }) ∷ []
 one_line n k named known = rw (lt-ltb n FILES named, known) refl
 
-line_more : (before : List Note) (n : ℕ) (k : NoteKind) (ks : List NoteKind) → n < FILES → is_tellable_note k ≡ true
+pub line_more : (before : List Note) (n : ℕ) (k : NoteKind) (ks : List NoteKind) → n < FILES → is_tellable_note k ≡ true
     → lines_of (noted_with before n (k ∷ ks)) ≡ lines_of (noted_with before n ks) ++ note_line (record { file = n; kind = k }) ∷ []
 line_more before n k ks named known =
     filter_map-append known_note_line (noted_with before n ks) (record { file = n; kind = k } ∷ [])

@@ -50,7 +50,7 @@ distinct_added (g ∷ fs) f d h = elim (cases_Bool (nat_lt g.kept.number f.kept.
   | inr z ↦ rw z (h, d)
 ]
 
-there : (fs : List File) (f : File) → NoneHas f.kept.number fs → file_at (add_file fs f) f.kept.number ≡ Some f
+pub there : (fs : List File) (f : File) → NoneHas f.kept.number fs → file_at (add_file fs f) f.kept.number ≡ Some f
 unfolding file_at add_file
 there [] f h = rw (eq-eqb f.kept.number f.kept.number refl) refl
 there (g ∷ fs) f h = elim (cases_Bool (nat_lt g.kept.number f.kept.number)) [

@@ -17,6 +17,7 @@ use Rattle.server_rules.proofs.FileLaws.{not_there}
 use Rattle.world_history.specs.ServerNames.{Server, File, Drive, ClientRequest, Refusal, RawMap}
 use Rattle.move_law.proofs.Steps.{each_request, each_step}
 use Rattle.calm_law.specs.Words.{Each}
+use Rattle.calm_law.specs.Going.{taken_out}
 use Rattle.calm_law.specs.Naming.{IsNamedInput}
 use Rattle.calm_law.specs.Sound.{IsSound}
 use Rattle.calm_law.specs.Apart.{AreDifferent, AreApart, IsApart, IsFresh, EachStepIsApart, AreGiven, ComponentsApart}
@@ -253,7 +254,7 @@ files_by true s chosen (Makes n m tag zoned) e h a named = files_created s chose
 files_by true s chosen i e h a named = absurd (cc e)
 files_by false s chosen i e h a named =
     let w = went s chosen i h named e in
-    apart_went w.out s.files (step s chosen i).state.files [] (step s chosen i).notes a.files w.each
+    apart_went (taken_out s i) s.files (step s chosen i).state.files [] (step s chosen i).notes a.files w.each
 
 pub each_step_is_apart : EachStepIsApart
 each_step_is_apart s chosen i h a named fresh = record {

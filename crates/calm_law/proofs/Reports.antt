@@ -12,7 +12,7 @@ use Rattle.calm_law.specs.Sound.{IsAimed, target_of}
 use Rattle.calm_law.specs.Apart.{AreApart}
 use Rattle.calm_law.proofs.Drives.{apart_lost}
 use Rattle.calm_law.proofs.Components.{lost, alike_same}
-use Rattle.calm_law.proofs.FileNotes.{Ends, AreTellable, tag_behind, AreLater, Tagged, noted_with, behind, any_rebuilt}
+use Rattle.calm_law.proofs.FileNotes.{Ends, AreTellable, tag_behind, AreNext, Tagged, noted_with, behind, any_rebuilt}
 use Rattle.calm_law.proofs.Targets.{aim_lost}
 
 -- ---- components that are lost one by one
@@ -104,12 +104,12 @@ tag_stays : (tag : ℕ) (ns : List ℕ) → tag ≡ tag_behind tag (kinds_of ns)
 tag_stays tag [] = refl
 tag_stays tag (n ∷ ns) = tag_stays tag ns
 
-none_later : (tag : ℕ) (ns : List ℕ) → AreLater tag (kinds_of ns)
-none_later tag [] = tt
-none_later tag (n ∷ ns) = none_later tag ns
+none_next : (tag : ℕ) (ns : List ℕ) → AreNext tag (kinds_of ns)
+none_next tag [] = tt
+none_next tag (n ∷ ns) = none_next tag ns
 
 still_tagged : (tag : ℕ) (ns : List ℕ) → Tagged tag (kinds_of ns) tag
-still_tagged tag ns = (tag_stays tag ns, none_later tag ns)
+still_tagged tag ns = (tag_stays tag ns, none_next tag ns)
 
 -- the file stays, and has these notes more
 abbrev Reports : (before : List Note) → (ns : List ℕ) → (g h : Going) → Type 0

@@ -1,5 +1,5 @@
 -- What becomes of the files in each step.
-use Rattle.std.proofs.Common.{◌≡◌, ℕ, ◌<◌, ◌==◌, ◌&&◌, ◌∷◌, [], List, Bool, true, false, Option, Some, None, find, is_some, map, nat_le, nat_lt, refl, sym, ap, ◌∙◌, inl, inr, eq-eqb, ne_eqb}
+use Rattle.std.proofs.Common.{◌≡◌, ℕ, ◌<◌, ◌==◌, ◌&&◌, ◌∷◌, [], List, Bool, true, false, Option, Some, None, find, is_some, if◌then◌else◌, map, nat_le, nat_lt, refl, sym, ap, ◌∙◌, inl, inr, eq-eqb, ne_eqb}
 use Rattle.std.proofs.lemmas.Bool.{cases_Bool}
 use Rattle.osd_lists.specs.declared.node.Node.{Node}
 use Rattle.osd_lists.specs.declared.node.Node.TheVariants.{Server as FromServer, Drive as FromDrive, Client as FromClient}
@@ -46,9 +46,9 @@ went_still : (s : Server) → IsSound s → Went None s (record { state = s; sen
 went_still s h = record { each = stays_each s.files [] h.aimed; known = h.drives }
 
 -- one file goes on
-went_one : (o : Option ℕ) (s : Server) (m : ℕ) (f g : File) (after : List Note) → IsSound s → file_at s.files m ≡ Some f
+went_one : (s : Server) (m : ℕ) (f g : File) (after : List Note) → IsSound s → file_at s.files m ≡ Some f
     → WentAs None f [] g after → WentEach None s.files [] (put_file s.files m g) after
-went_one o s m f g after h e w = went_put s.files m f g [] after h.aimed e w
+went_one s m f g after h e w = went_put s.files m f g [] after h.aimed e w
 
 aimed_at : (s : Server) (n : ℕ) (f : File) → IsSound s → file_at s.files n ≡ Some f → IsAimed f
 aimed_at s n f h e = each_at IsAimed s.files n f h.aimed e
@@ -59,7 +59,7 @@ went_carried : (s : Server) (now : ℕ) (chosen : List ℕ) (q : ClientRequest) 
     → file_at s.files q.file ≡ p → IsSound s → Went None s (carries_out s now chosen q p)
 went_carried s now chosen q None e h = record { each = stays_each s.files [] h.aimed; known = h.drives }
 went_carried s now chosen q (Some f) e h = record {
-  each = went_one o s q.file f _ _ h e
+  each = went_one s q.file f _ _ h e
       (went_plain f [] (serves (at_file s chosen f) s.next_grant s.format now q.client q.args).going
       (ends_served (at_file s chosen f) s.next_grant s.format now q.client q.args h.drives (aimed_at s q.file f h e)));
   known = h.drives;
@@ -109,7 +109,7 @@ heard_as s chosen drive r (f ∷ fs) known d a =
 went_heard : (s : Server) (p : Option Going) → IsSound s → HeardAs s.files p → Went None s (by_heard s p)
 went_heard s None h w = went_still s h
 went_heard s (Some g) h w = record {
-  each = went_one o s g.file.kept.number w.0 g.file g.effects.notes h
+  each = went_one s g.file.kept.number w.0 g.file g.effects.notes h
       (ap (λ (n : ℕ). file_at s.files n) w.2.number ∙ w.1) w.2;
   known = h.drives;
 }
@@ -125,7 +125,7 @@ went_reply s chosen drive r h =
 went_job : (s : Server) (chosen : List ℕ) (kind : JobKind) (n : ℕ) (f : File) (j : Option Job) → IsSound s
     → file_at s.files n ≡ Some f → Went None s (begins_job s chosen kind f j).step
 went_job s chosen kind n f (Some j) h e = record {
-  each = went_one o s f.kept.number f _ _ h (ap (λ (x : ℕ). file_at s.files x) (number_at s.files n f e) ∙ e)
+  each = went_one s f.kept.number f _ _ h (ap (λ (x : ℕ). file_at s.files x) (number_at s.files n f e) ∙ e)
       (went_plain f [] (noting (at_file s chosen f) (Busy (lowest j.awaited))) (
         tells_plain f.kept [] (at_file s chosen f) (Busy (lowest j.awaited)) (λ cs. refl) refl refl refl (tells_first (at_file s chosen f)),
         aimed_at s n f h e,
@@ -134,7 +134,7 @@ went_job s chosen kind n f (Some j) h e = record {
 }
 went_job s chosen kind n f None h e = elim (cases_Bool (f.kept.tag == GREATEST_TAG)) [
   | inl t ↦ rw t (record {
-    each = went_one o s f.kept.number f _ _ h (ap (λ (x : ℕ). file_at s.files x) (number_at s.files n f e) ∙ e)
+    each = went_one s f.kept.number f _ _ h (ap (λ (x : ℕ). file_at s.files x) (number_at s.files n f e) ∙ e)
         (went_plain f [] (noting (at_file s chosen f) Spent) (
           tells_plain f.kept [] (at_file s chosen f) Spent (λ cs. refl) refl refl refl (tells_first (at_file s chosen f)),
           aimed_at s n f h e,
@@ -142,7 +142,7 @@ went_job s chosen kind n f None h e = elim (cases_Bool (f.kept.tag == GREATEST_T
     known = h.drives;
   })
   | inr z ↦ rw z (record {
-    each = went_one o s f.kept.number f _ _ h (ap (λ (x : ℕ). file_at s.files x) (number_at s.files n f e) ∙ e)
+    each = went_one s f.kept.number f _ _ h (ap (λ (x : ℕ). file_at s.files x) (number_at s.files n f e) ∙ e)
         (went_plain f [] (fence_begins kind s.format (at_file s chosen f))
         (ends_fence f.kept [] kind s.format (at_file s chosen f) (tells_first (at_file s chosen f)) h.drives));
     known = h.drives;

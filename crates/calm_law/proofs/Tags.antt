@@ -12,7 +12,7 @@ use Rattle.calm_law.specs.Performing.{AreDistinct}
 use Rattle.calm_law.specs.Going.{taken_out}
 use Rattle.calm_law.specs.Sound.{IsSound}
 use Rattle.calm_law.specs.Tags.{fence_note, TagRises, EachStepRaisesTags}
-use Rattle.calm_law.proofs.FileNotes.{noted_with, tag_behind, AreLater}
+use Rattle.calm_law.proofs.FileNotes.{noted_with, tag_behind, AreNext}
 use Rattle.calm_law.proofs.Rounds.{WentAs, WentEach, NoneHas}
 use Rattle.calm_law.proofs.Steps.{Went, went}
 use Rattle.calm_law.proofs.Making.{went_made, distinct_added, none_there, beside}
@@ -37,12 +37,12 @@ noted_among n tag m before (k ∷ ks) i =
 
 -- ---- later tags
 
-at_least : (t : ℕ) (ks : List NoteKind) → AreLater t ks → t ≤ tag_behind t ks
+at_least : (t : ℕ) (ks : List NoteKind) → AreNext t ks → t ≤ tag_behind t ks
 at_least t [] h = omega arith
 at_least t (Fenced u ∷ ks) h = let r = at_least t ks h.1 in omega (arith, r, h.0)
 at_least t (k ∷ ks) h = at_least t ks h
 
-later_in : (t u : ℕ) (ks : List NoteKind) → AreLater t ks → In (Fenced u) ks → t < u
+later_in : (t u : ℕ) (ks : List NoteKind) → AreNext t ks → In (Fenced u) ks → t < u
 later_in t u [] h i = absurd i
 later_in t u (Fenced v ∷ ks) h (inl e) =
     let s : u ≡ v = cc e in

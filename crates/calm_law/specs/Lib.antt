@@ -14,6 +14,7 @@ pub mod Going
 pub mod Seeing
 pub mod Moments
 pub mod Tags
+pub mod FenceTags
 pub mod Told
 pub mod Sightings
 pub mod Steps

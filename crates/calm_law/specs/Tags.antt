@@ -21,4 +21,5 @@ pub record TagRises (n : ℕ) (f : File) (files : List File) (notes : List Note)
 -- so it is of each file in each step
 abbrev pub EachStepRaisesTags : Type 0
 EachStepRaisesTags =
-    (s : Server) (chosen : List ℕ) (i : Input) → IsSound s → (n : ℕ) (f : File) → file_at s.files n ≡ Some f → TagRises n f (step s chosen i).state.files (step s chosen i).notes
+    (s : Server) (chosen : List ℕ) (i : Input) → IsSound s → (n : ℕ) (f : File) → file_at s.files n ≡ Some f
+    → TagRises n f (step s chosen i).state.files (step s chosen i).notes

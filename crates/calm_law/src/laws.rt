@@ -5,6 +5,7 @@ ghost use Rattle.calm_law.specs.Marks.{MarksAreKept};
 ghost use Rattle.calm_law.specs.Harms.{CalmAlike};
 ghost use Rattle.calm_law.specs.Performing.{WritesMark};
 ghost use Rattle.calm_law.specs.Flagging.{BeginIsSeen};
+ghost use Rattle.calm_law.specs.FenceTags.{EachStepTellsTags};
 ghost use Rattle.calm_law.specs.Following.{FollowsEvents, FollowsFirst, FollowsOn, PendingIsRead};
 ghost use Rattle.calm_law.specs.Sound.{EachStepIsSound};
 ghost use Rattle.calm_law.specs.Going.{EachStepTells};
@@ -78,8 +79,8 @@ pub fn each_step_is_sound()
     ensures { EachStepIsSound }
 {}
 
-/// In each step a file stays with its map, and its components are behind it as its notes tell, but for the objects of
-/// those that were rebuilt, and for a drive that was declared.
+/// In each step a file stays with its map. Its components are behind it as its notes tell, after those on a drive that is
+/// declared and that the server knows became missing, but for the objects of those that were rebuilt.
 pub fn each_step_tells()
     ensures { EachStepTells }
 {}
@@ -88,6 +89,12 @@ pub fn each_step_tells()
 /// before.
 pub fn each_step_raises_tags()
     ensures { EachStepRaisesTags }
+{}
+
+/// In each step the tag of a file rises by one with each note that a fence of it is over, and is the tag of that note
+/// then. A file that is made has the tag with which it is to be made.
+pub fn each_step_tells_tags()
+    ensures { EachStepTellsTags }
 {}
 
 /// The server that is read off the lines of a history is sound, where lines can name the files and drives of its
