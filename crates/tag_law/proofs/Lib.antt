@@ -1,8 +1,8 @@
-mod Saying
+pub mod Saying
 mod Aging
 mod Bodies
 mod Holding
-mod Telling
+pub mod Telling
 mod BarredLaw
 mod HandedLaw
 pub mod Rights

@@ -62,7 +62,7 @@ in_kept (t ∷ ts) s x i = either (t.client == s.client) i (in_kept ts s x)
     either false (inl e) rest = inr (inl e)
     either false (inr j) rest = elim (rest j) [ inl e ↦ inl e | inr k ↦ inr (inr k) ]
 
-found_slot : (p : Slot → Bool) (ss : List Slot) (s : Slot) → find p ss ≡ Some s → In s ss
+pub found_slot : (p : Slot → Bool) (ss : List Slot) (s : Slot) → find p ss ≡ Some s → In s ss
 found_slot p [] s e = absurd (cc e)
 found_slot p (t ∷ ts) s e = elim (cases_Bool (p t)) [
   | inl y ↦ let same : t ≡ s = cc (rw y at e) in inl (sym same)
@@ -70,7 +70,7 @@ found_slot p (t ∷ ts) s e = elim (cases_Bool (p t)) [
 ]
 
 -- what is kept of the answer that is sent last
-kept_sent : (ss : List Slot) (s x : Slot) (os : List Outgoing) → In (Answers s.kept) os → In x (keep ss s)
+pub kept_sent : (ss : List Slot) (s x : Slot) (os : List Outgoing) → In (Answers s.kept) os → In x (keep ss s)
     → In x ss ⊎ In (Answers x.kept) os
 kept_sent ss s x os there i = elim (in_kept ss s x i) [
   | inl e ↦ inr (subst (λ (y : Slot). In (Answers y.kept) os) (sym e) there)

@@ -117,20 +117,20 @@ was_told w h front read c b i =
       bytes_are = s.bytes_are ∙ ap (λ (m : Message). spelled m.body) r.3;
     }
 
-in_sent : (n : ℕ) (ps : List Post) (l : Line) → In l (sent_lines n ps)
+pub in_sent : (n : ℕ) (ps : List Post) (l : Line) → In l (sent_lines n ps)
     → (k : ℕ) × (p : Post) × In p ps × (l ≡ sent_line k p.message)
 unfolding sent_lines
 in_sent n [] l i = absurd i
 in_sent n (p ∷ ps) l (inl e) = (n, p, inl refl, e)
 in_sent n (p ∷ ps) l (inr i) = let r = in_sent (n + 1) ps l i in (r.0, r.1, inr r.2, r.3)
 
-not_silent : (ls : List Line) → AreSilent ls → (n : ℕ) (from to : Party) (bytes : List ℕ)
+pub not_silent : (ls : List Line) → AreSilent ls → (n : ℕ) (from to : Party) (bytes : List ℕ)
     → In (line.Message n from to bytes) ls → ⊥
 not_silent [] s n from to bytes i = i
 not_silent (l ∷ ls) s n from to bytes (inl e) = subst IsSilent (sym e) s.0
 not_silent (l ∷ ls) s n from to bytes (inr i) = not_silent ls s.1 n from to bytes i
 
-behind_event : (a : Action) (ls : List Line) (n : ℕ) (from to : Party) (bytes : List ℕ)
+pub behind_event : (a : Action) (ls : List Line) (n : ℕ) (from to : Party) (bytes : List ℕ)
     → In (line.Message n from to bytes) (with_event a ls) → In (line.Message n from to bytes) ls
 behind_event (Opens e) ls n from to bytes (inl x) = absurd (cc x)
 behind_event (Opens e) ls n from to bytes (inr i) = i
