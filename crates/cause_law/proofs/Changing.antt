@@ -163,7 +163,7 @@ module _ (s : Server) (i : Input) where
 -- ---- places in the list of files
 
 -- where no two files have one number
-at_place : (fs : List File) (x : File) → AreDistinct fs → In x fs → file_at fs x.kept.number ≡ Some x
+pub at_place : (fs : List File) (x : File) → AreDistinct fs → In x fs → file_at fs x.kept.number ≡ Some x
 unfolding file_at
 at_place [] x d j = absurd j
 at_place (y ∷ fs) x d (inl e) = rw (e, eq-eqb y.kept.number y.kept.number refl) refl

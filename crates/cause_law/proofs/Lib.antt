@@ -9,7 +9,17 @@ pub mod Changing
 pub mod Ordering
 pub mod Grants
 pub mod Telling
+pub mod NoteLines
 pub mod Noting
+pub mod Losses
+pub mod TagSteps
+pub mod TagNotes
+pub mod AwaitedSteps
+pub mod AwaitedAnswered
+pub mod AwaitedRests
+pub mod AwaitedEnds
+pub mod AwaitedLines
+pub mod AwaitedSent
 pub mod Dealing
 pub mod Turning
 pub mod Saying

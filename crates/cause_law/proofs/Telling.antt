@@ -1,5 +1,5 @@
 -- Each message of the server to a client tells a recall, or an answer to the request that comes.
-use Rattle.std.proofs.Common.{◌≡◌, ◌⊎◌, ◌==◌, ℕ, ◌+◌, Bool, true, false, List, [], ◌∷◌, ◌++◌, length, map, Some, refl, sym, ap, subst, ◌∙◌, arith, inl, inr, if◌then◌else◌}
+use Rattle.std.proofs.Common.{◌≡◌, ◌⊎◌, ℕ, ◌+◌, true, List, [], ◌∷◌, ◌++◌, length, map, Some, refl, sym, ap, subst, ◌∙◌, arith, inl, inr}
 use Rattle.std.proofs.lemmas.Bool.{eq-eqb}
 use Rattle.std.proofs.lemmas.Bool.Decides.{nat_tests}
 use Rattle.osd_lists.specs.declared.node.Node.TheVariants as node
@@ -11,11 +11,10 @@ use Rattle.server_rules.specs.Laws.{In, ConflictsAreExact, FilesArePut, AreSafe,
 use Rattle.server_rules.specs.Messages.{counters_have_room}
 use Rattle.server_rules.specs.Requests.{serves, answer_with, answer_without, size_in, carried_out, only_answers, on_request}
 use Rattle.server_rules.specs.Served.{Served, tells}
-use Rattle.server_rules.specs.Slots.{Admit, New, Again, Misordered, slot_of, keep, admit}
+use Rattle.server_rules.specs.Slots.{Admit, New, Again, Misordered, slot_of, admit}
 use Rattle.server_rules.proofs.Members.{in_front, in_behind, in_either, in_mapped, in_map, in_filtered, in_filter}
 use Rattle.scenario_text.specs.declared.line.Line.{Line}
 use Rattle.scenario_text.specs.declared.line.Line.TheVariants as line
-use Rattle.scenario_text.specs.declared.line.Party.{Party}
 use Rattle.scenario_text.specs.declared.line.Party.TheVariants as party
 use Rattle.world_history.specs.ServerNames.{Server, Slot, Answer, ClientRequest, Outgoing, ToDrive, Recalls, Answers, AnswersOrder}
 use Rattle.world_history.specs.State.{World}
@@ -42,7 +41,6 @@ use Rattle.move_law.proofs.Steps.{each_request}
 use Rattle.history_law.specs.Grants.{GrantsAreSafe}
 use Rattle.history_law.specs.Read.{AreWritten, BookIsRead}
 use Rattle.history_law.proofs.DriveLines.{sent_read}
-use Rattle.history_law.proofs.Issuing.{IsSilent, AreSilent}
 use Rattle.history_law.proofs.IssuingMoves.{acts_known}
 use Rattle.history_law.proofs.IssueLines.{IsKnown, all_known}
 use Rattle.history_law.proofs.Staying.{written_front}
@@ -53,6 +51,8 @@ use Rattle.exchange_law.specs.Made.{answer_to}
 use Rattle.exchange_law.proofs.Admitting.{is_last}
 use Rattle.exchange_law.proofs.CountMoments.{at_moment}
 use Rattle.exchange_law.proofs.SlotServing.{Comes, request_comes}
+use Rattle.tag_law.proofs.Saying.{only_in, found_slot, kept_sent}
+use Rattle.tag_law.proofs.Telling.{in_sent as in_sent_lines, not_silent, behind_event as behind_event_line}
 use Rattle.cause_law.specs.Answers.{IsCaused, answer_line}
 use Rattle.cause_law.specs.Told.{WasSent, Answers as AnswersIt, ToNew, Repeats, Refuses, IsToRequest, IsTold, TellsRecall, TellsAnswer, TellsCaused, EachMessageIsCaused}
 use Rattle.cause_law.proofs.Answering.{safe_at}
@@ -73,7 +73,7 @@ behind_event (TimesOut c k) ls x i = i
 behind_event (Pends c) ls x i = i
 
 -- the line of what an act sends
-sent_there : (w : World) (m : Move) (p : Post) → In p (acts w m.chosen m.action).posts
+pub sent_there : (w : World) (m : Move) (p : Post) → In p (acts w m.chosen m.action).posts
     → (k : ℕ) × In (sent_line k p.message) (lines_in w m)
 sent_there w m p i =
     let a : Act = acts w m.chosen m.action in
@@ -83,27 +83,6 @@ sent_there w m p i =
       behind_event m.action (move w m).lines (sent_line r.0 p.message)
           (in_behind (sent_line r.0 p.message) a.told (sent_lines n a.posts) r.1),
     )
-
-from_sent : (n : ℕ) (ps : List Post) (l : Line) → In l (sent_lines n ps)
-    → (k : ℕ) × (p : Post) × In p ps × (l ≡ sent_line k p.message)
-unfolding sent_lines
-from_sent n [] l i = absurd i
-from_sent n (p ∷ ps) l (inl e) = (n, p, inl refl, e)
-from_sent n (p ∷ ps) l (inr i) = let r = from_sent (n + 1) ps l i in (r.0, r.1, inr r.2, r.3)
-
-not_silent : (ls : List Line) → AreSilent ls → (n : ℕ) (from to : Party) (bytes : List ℕ)
-    → In (line.Message n from to bytes) ls → ⊥
-not_silent [] s n from to bytes i = i
-not_silent (l ∷ ls) s n from to bytes (inl e) = subst IsSilent (sym e) s.0
-not_silent (l ∷ ls) s n from to bytes (inr i) = not_silent ls s.1 n from to bytes i
-
-in_front_of : (a : Action) (ls : List Line) (n : ℕ) (from to : Party) (bytes : List ℕ)
-    → In (line.Message n from to bytes) (with_event a ls) → In (line.Message n from to bytes) ls
-in_front_of (Opens e) ls n from to bytes (inl x) = absurd (cc x)
-in_front_of (Opens e) ls n from to bytes (inr i) = i
-in_front_of (Delivers number) ls n from to bytes i = i
-in_front_of (TimesOut c k) ls n from to bytes i = i
-in_front_of (Pends c) ls n from to bytes i = i
 
 -- ---- what the server sends
 
@@ -160,44 +139,9 @@ server_sent w m = each_act w m.chosen
 
 -- ---- what slots keep is sent
 
--- an answer of those that are sent
-only_in : (P : Answer → Type 0) (os : List Outgoing) (a : Answer) → AnswersOnly P os → In (Answers a) os → P a
-only_in P [] a k i = absurd i
-only_in P (Answers x ∷ os) a k (inl e) = subst P (same e) k.0
-  where
-    same : Answers a ≡ Answers x → x ≡ a
-    same f = cc f
-only_in P (ToDrive d c ∷ os) a k (inl e) = absurd (cc e)
-only_in P (Recalls r ∷ os) a k (inl e) = absurd (cc e)
-only_in P (AnswersOrder r ∷ os) a k (inl e) = absurd (cc e)
-only_in P (Answers x ∷ os) a k (inr i) = only_in P os a k.1 i
-only_in P (ToDrive d c ∷ os) a k (inr i) = only_in P os a k i
-only_in P (Recalls r ∷ os) a k (inr i) = only_in P os a k i
-only_in P (AnswersOrder r ∷ os) a k (inr i) = only_in P os a k i
-
 -- what a slot keeps behind a step it kept before, or is sent
 abbrev SlotsSent : Server → Step → Type 0
 SlotsSent s t = (x : Slot) → In x t.state.slots → In x s.slots ⊎ In (Answers x.kept) t.sends
-
-in_kept : (ss : List Slot) (s x : Slot) → In x (keep ss s) → (x ≡ s) ⊎ In x ss
-unfolding keep
-in_kept [] s x (inl e) = inl e
-in_kept [] s x (inr i) = inr i
-in_kept (t ∷ ts) s x i = by (t.client == s.client) i (in_kept ts s x)
-  where
-    by : (b : Bool) → In x (if b then s ∷ ts else t ∷ keep ts s) → (In x (keep ts s) → (x ≡ s) ⊎ In x ts)
-        → (x ≡ s) ⊎ In x (t ∷ ts)
-    by true (inl e) rest = inl e
-    by true (inr j) rest = inr (inr j)
-    by false (inl e) rest = inr (inl e)
-    by false (inr j) rest = elim (rest j) [ inl e ↦ inl e | inr k ↦ inr (inr k) ]
-
-kept_or_sent : (ss : List Slot) (s x : Slot) (os : List Outgoing) → In (Answers s.kept) os → In x (keep ss s)
-    → In x ss ⊎ In (Answers x.kept) os
-kept_or_sent ss s x os there i = elim (in_kept ss s x i) [
-  | inl e ↦ inr (subst (λ (y : Slot). In (Answers y.kept) os) (sym e) there)
-  | inr j ↦ inl j
-]
 
 request_sent : (s : Server) (now : ℕ) (chosen : List ℕ) (q : ClientRequest) → SlotsSent s (on_request s now chosen q)
 request_sent s now chosen q = each_request s now chosen q (SlotsSent s) (record {
@@ -205,11 +149,11 @@ request_sent s now chosen q = each_request s now chosen q (SlotsSent s) (record 
   misordered = λ expected is x i. inl i;
   without = λ new none x i.
       let a : Answer = answer_without q in
-      kept_or_sent s.slots (record { client = q.client; last = q.sequence; kept = a }) x (Answers a ∷ []) (inl refl) i;
+      kept_sent s.slots (record { client = q.client; last = q.sequence; kept = a }) x (Answers a ∷ []) (inl refl) i;
   served = λ new f found x i.
       let v : Served = serves (at_file s chosen f) s.next_grant s.format now q.client q.args in
       let a : Answer = answer_with s q v in
-      kept_or_sent s.slots (record { client = q.client; last = q.sequence; kept = a }) x (carried_out s q v).sends
+      kept_sent s.slots (record { client = q.client; last = q.sequence; kept = a }) x (carried_out s q v).sends
       (in_behind (Answers a) (to_drives s.drives v.going.effects.sent) _
       (in_behind (Answers a) (recalls_from s.next_recall v.recalled) (Answers a ∷ []) (inl refl))) i;
 })
@@ -256,14 +200,6 @@ keeps_at more w h at = always Keeps (record {
 
 -- ---- an answer
 
-found_slot : (ss : List Slot) (c : ℕ) (x : Slot) → slot_of ss c ≡ Some x → In x ss
-found_slot [] c x e = absurd (cc e)
-found_slot (t ∷ ts) c x e = by (t.client == c) e (found_slot ts c x)
-  where
-    by : (b : Bool) → (if b then Some t else slot_of ts c) ≡ Some x → (slot_of ts c ≡ Some x → In x ts) → In x (t ∷ ts)
-    by true f rest = let same : t ≡ x = cc f in inl (sym same)
-    by false f rest = inr (rest f)
-
 only_kept : (s : Server) (a b : Answer) → In (Answers a) (only_answers s b).sends → a ≡ b
 only_kept s a b (inl e) = same e
   where
@@ -292,7 +228,8 @@ module _ (exact : ConflictsAreExact) (put : FilesArePut) (s : Server) (now : ℕ
       let comes : Comes s now chosen q New did =
       subst (λ (x : Admit). Comes s now chosen q x did) new (request_comes s now chosen q) in
       let last : In (Answers it.answer) did.sends =
-      subst (In (Answers it.answer)) (sym it.sends_are) (in_behind (Answers it.answer) it.front (Answers it.answer ∷ []) (inl refl))
+      subst (In (Answers it.answer)) (sym it.sends_are)
+      (in_behind (Answers it.answer) it.front (Answers it.answer ∷ []) (inl refl))
       in
       let same : it.answer ≡ a = only_in (λ b. b ≡ answer_to s now chosen q) did.sends it.answer comes.sends last
       ∙ sym (made did comes.sends i) in (
@@ -312,7 +249,7 @@ module _ (exact : ConflictsAreExact) (put : FilesArePut) (s : Server) (now : ℕ
           kept = it.there;
           last = it.last;
           same = same;
-          sent = sent it.slot (found_slot s.slots q.client it.slot it.there) same;
+          sent = sent it.slot (found_slot _ s.slots it.slot it.there) same;
         }),
       )
 
@@ -373,12 +310,12 @@ module _ (exact : ConflictsAreExact) (put : FilesArePut) (safe : GrantsAreSafe) 
         let known : IsKnown w h = at_moment IsKnown all_known w h k in
         elim (in_either (line.Message n party.Server (party.Client c) bytes) a.told
         (sent_lines (length a.world.network.messages) a.posts)
-        (in_front_of m.action (move w m).lines n party.Server (party.Client c) bytes i)) [
+        (behind_event_line m.action (move w m).lines n party.Server (party.Client c) bytes i)) [
           | inl told ↦
               absurd (not_silent a.told (acts_known (sent_in h) w known.world (sym messages_are) m.chosen m.action).told n
               party.Server (party.Client c) bytes told)
           | inr sent ↦
-              let r = from_sent (length a.world.network.messages) a.posts (line.Message n party.Server (party.Client c) bytes)
+              let r = in_sent_lines (length a.world.network.messages) a.posts (line.Message n party.Server (party.Client c) bytes)
               sent in (
                 r.1,
                 r.2,

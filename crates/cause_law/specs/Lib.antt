@@ -6,4 +6,8 @@ pub mod Answers
 pub mod Changes
 pub mod Told
 pub mod Components
+pub mod Losses
+pub mod FenceTags
+pub mod Awaiting
+pub mod AwaitedEnds
 pub mod Ends
