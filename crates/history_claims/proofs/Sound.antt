@@ -25,9 +25,13 @@ use Rattle.exchange_law.specs.Lanes.{LanesAreOwn}
 use Rattle.exchange_law.specs.FairLanes.{LanesAreFair}
 use Rattle.ending_law.specs.Calls.{CallsEndSo}
 use Rattle.cause_law.specs.Answers.{EachRequestIsAnswered}
+use Rattle.cause_law.specs.Awaiting.{EachAwaitedHasItsCauses, EachAwaitedWasSent}
+use Rattle.cause_law.specs.AwaitedEnds.{EachAwaitedHasItsEnd}
 use Rattle.cause_law.specs.Changes.{EachGrantHasItsCauses}
 use Rattle.cause_law.specs.Components.{EachComponentHasItsCauses}
 use Rattle.cause_law.specs.Ends.{EachEndIsSaid}
+use Rattle.cause_law.specs.FenceTags.{EachTagHasItsCause}
+use Rattle.cause_law.specs.Losses.{EachLossHasItsCause}
 use Rattle.cause_law.specs.Told.{EachMessageIsCaused}
 use Rattle.outcome_law.specs.Ended.{EndsAreCaused}
 use Rattle.outcome_law.specs.Pending.{EachCallIsLeftSo}
@@ -43,10 +47,12 @@ pub histories_are_sound : HistoriesAreSafe → VerdictsAreAnswered → CommandsA
     → CommandsAreIssuedExactly → UnforgedAreIssuedExactly → LanesAreFair → LanesAreOwn → RefusalsWereJudged
     → RefusalsWereAwaited → CountersStayLow → CallsEndSo → EndsAreCaused → AnswersAreOfReplies
     → EachTagIsItsFiles → EachRequestIsAnswered → EachMessageIsCaused → EachGrantHasItsCauses
-    → EachComponentHasItsCauses → EachEndIsSaid → EachCallIsLeftSo → WithinTheLimitAreFew
+    → EachComponentHasItsCauses → EachLossHasItsCause → EachTagHasItsCause → EachAwaitedHasItsCauses → EachAwaitedHasItsEnd
+    → EachAwaitedWasSent → EachEndIsSaid → EachCallIsLeftSo → WithinTheLimitAreFew
     → HistoriesAreSound
 histories_are_sound safe answered issued listed fair ranges fronts apart spread created own fenced live given older barred exact
-    allowed lanes lanes_own judged awaited low ends outcomes read tags caused told changed gone said left few = record {
+    allowed lanes lanes_own judged awaited low ends outcomes read tags caused told changed gone lost raised waits until sent said
+    left few = record {
       sound = λ h l. record {
         safe = safe h l;
         answered = λ w s. answered w h s;
@@ -76,6 +82,11 @@ histories_are_sound safe answered issued listed fair ranges fronts apart spread 
         answers = λ w g k m rest d is a. told w g k m d a;
         changes = λ w s a. changed w h s a;
         components = λ w s a. gone w h s a;
+        lost = λ w s a. lost w h s a;
+        raised = λ w s a. raised w h s a;
+        waits = λ w s a. waits w h s a;
+        until = λ w s a. until w h s a;
+        sent = λ before after is. sent before;
         caused = outcomes h l;
         read = read h l;
         said = λ w g k m rest d is. said w g k m d;

@@ -28,9 +28,13 @@ use Rattle.exchange_law.specs.Text.{AreOfText, AreFew, WithinTheLimitAreFew}
 use Rattle.exchange_law.specs.Exact.{IssuedExactlyAt, InjectedExactlyAt}
 use Rattle.ending_law.specs.Calls.{EndsAt}
 use Rattle.cause_law.specs.Answers.{RequestsAreAnswered}
+use Rattle.cause_law.specs.Awaiting.{AwaitedHaveCauses, WereSentAt}
+use Rattle.cause_law.specs.AwaitedEnds.{AwaitedHaveEnds}
 use Rattle.cause_law.specs.Changes.{GrantsHaveCauses}
 use Rattle.cause_law.specs.Components.{ComponentsHaveCauses}
 use Rattle.cause_law.specs.Ends.{CallsEndAsSaid}
+use Rattle.cause_law.specs.FenceTags.{TagsHaveCauses}
+use Rattle.cause_law.specs.Losses.{LossesHaveCauses}
 use Rattle.cause_law.specs.Told.{MessagesAreCaused}
 use Rattle.outcome_law.specs.Ended.{CausedAt}
 use Rattle.outcome_law.specs.Pending.{CallsAreLeft}
@@ -115,8 +119,21 @@ pub record IsSound (h : List Line) : Type 0 where
   -- nothing else makes a grant of a file live or ends one, or changes the file's size, but a fence that an order to revoke,
   -- rebuild or audit the file begins, or an opening, and that ends all; and each of these does, while no job runs
   pub changes : (w : World) → StandsFor w h → AreWritten h → GrantsHaveCauses h
-  -- and each file goes on with its map, and with its components as the notes of the step tell, but for a declared drive
+  -- and each file goes on with its map, and with its components as the notes of the step tell, after those on a drive that is
+  -- declared, and that the server knows, became missing
   pub components : (w : World) → StandsFor w h → AreWritten h → ComponentsHaveCauses h
+  -- so a component becomes missing only by its own note among them, or by such a declaration of its drive
+  pub lost : (w : World) → StandsFor w h → AreWritten h → LossesHaveCauses h
+  -- each file goes on with its tag too, unless just one note of the step tells that a fence of it is over: with the next tag,
+  -- which is the file's then
+  pub raised : (w : World) → StandsFor w h → AreWritten h → TagsHaveCauses h
+  -- what the job of a file awaits behind a step it awaited before, and what comes doesn't answer it, or the step sends it
+  pub waits : (w : World) → StandsFor w h → AreWritten h → AwaitedHaveCauses h
+  -- and what it awaits no more was answered, or its drive was taken out, or the server crashed or was opened; or another
+  -- component was lost, and the job begins a piece that it reads again, or gives the target of a rebuild up
+  pub until : (w : World) → StandsFor w h → AreWritten h → AwaitedHaveEnds h
+  -- so at each moment each command that a job awaits was sent to its drive, as far as a line can name the drive
+  pub sent : AtEachMoment WereSentAt h
   -- a call ends as what it met says, read off the lines before: the answers and replies that its client took in it, and the
   -- timeouts of what it awaited
   pub caused : AtEachLine CausedAt h

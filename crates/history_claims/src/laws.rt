@@ -6,8 +6,9 @@ ghost use Rattle.history_claims.specs.Spread.{ComponentsStandSpread};
 
 use calm_law::{each_step_is_apart, each_step_is_sound};
 use cause_law::{
-    components_have_causes, ends_are_said, grants_have_causes, messages_are_caused,
-    requests_are_answered,
+    awaited_have_causes, awaited_have_ends, awaited_were_sent, components_have_causes,
+    ends_are_said, grants_have_causes, losses_have_causes, messages_are_caused,
+    requests_are_answered, tags_have_causes,
 };
 use ending_law::calls_end_so;
 use exchange_law::{
@@ -77,8 +78,9 @@ pub fn files_are_created()
 /// what it met says: the answers and replies that it took, and timeouts, or is left pending at the end of its event; and a
 /// read is answered by what was read of drives in its call. In a whole history each new request is answered in its step by
 /// the first row that applies to its file's book, any other answer repeats the last one or says that its request is
-/// misordered, and nothing else makes a grant live or ends one but a fence. A history that is cut at the limit of kept
-/// bytes goes on being of a text.
+/// misordered, and nothing else makes a grant live or ends one but a fence. There a file's tag changes exactly with the
+/// note that a fence of it is over, its components as notes and declarations say, and what its job awaits was sent and
+/// isn't answered. A history that is cut at the limit of kept bytes goes on being of a text.
 pub fn histories_are_sound()
     ensures { HistoriesAreSound }
 {
@@ -113,6 +115,11 @@ pub fn histories_are_sound()
     messages_are_caused();
     grants_have_causes();
     components_have_causes();
+    losses_have_causes();
+    tags_have_causes();
+    awaited_have_causes();
+    awaited_have_ends();
+    awaited_were_sent();
     ends_are_said();
     calls_are_left();
     within_the_limit_are_few();

@@ -353,11 +353,23 @@ quiet_refills : (K : Kept → Type 0) → IsPlaced K → (g : Going) (t : Target
 quiet_refills K c g t ps true k = quiet_gone K g t k
 quiet_refills K c g t ps false k = quiet_fills K c g t ps k
 
-goes_remakes : (g : Going) (t : Target) (gone : Bool) → GoesFrom g (remakes g t gone)
-goes_remakes g t true =
-    quiet_goes g.file.kept.number g.file.kept.tag g.effects.nonce g.effects.sent (awaited_by g.file.job) g.effects.notes _
+goes_remakes : (g : Going) (t : Target) (gone : Bool) (old : List Awaited)
+    → ((a : Awaited) → In a (awaited_by g.file.job) → In a old)
+    → Goes g.file.kept.number g.file.kept.tag g.effects.nonce g.effects.sent old (remakes g t gone)
+goes_remakes g t true old left =
+    quiet_goes g.file.kept.number g.file.kept.tag g.effects.nonce g.effects.sent old g.effects.notes _
     (quiet_gone (IsAsHere g) g t (refl, refl))
-goes_remakes g t false = goes_here g
+goes_remakes g t false old left =
+    record {
+      number_is = refl;
+      tag_is = inl refl;
+      fresh = [];
+      sent_is = sym (append-nil g.effects.sent);
+      rises = omega arith;
+      numbered = tt;
+      owned = λ was. none_owned;
+      waits = λ a i. inl (left a i);
+    }
 
 other_remakes : (R : Reached) (g : Going) (t : Target) (gone : Bool) → is_fencing g.file.job ≡ false
     → Fencing R g.effects.notes (remakes g t gone)
@@ -365,20 +377,27 @@ other_remakes R g t true none =
     quiet_fencing R _ g.effects.nonce g.effects.sent g.effects.notes _ (quiet_gone (IsAsHere g) g t (refl, refl))
 other_remakes R g t false none = fencing_here R g (λ e. absurd (cc (sym e ∙ none)))
 
+-- what is awaited then was among these, as long as the rest is, and all is where a target waits as before
+pub goes_left : (g : Going) (j : Job) (work : Work) (rest : List Awaited) (gone : Bool) (old : List Awaited)
+    → ((a : Awaited) → In a rest → In a old)
+    → ((t : Target) → work ≡ Targets t → (a : Awaited) → In a (awaited_by g.file.job) → In a old)
+    → Goes g.file.kept.number g.file.kept.tag g.effects.nonce g.effects.sent old (loses g j work rest gone)
+unfolding loses
+goes_left g j (Fetches ps short) rest gone old left all =
+    quiet_goes _ _ _ _ _ _ _ (quiet_repairs (IsAsHere g) (file_mended _ _) j.kind g ps short (refl, refl))
+goes_left g j (Stores ps short broken) rest gone old left all = goes_waits g j _ rest _ old left
+goes_left g j (Targets t) rest gone old left all = goes_remakes g t gone old (all t refl)
+goes_left g j (Gathers t ps) rest gone old left all =
+    quiet_goes _ _ _ _ _ _ _ (quiet_refills (IsAsHere g) (file_placed _ _) g t ps gone (refl, refl))
+goes_left g j (Fills t ps) rest gone old left all =
+    quiet_goes _ _ _ _ _ _ _ (quiet_refills (IsAsHere g) (file_placed _ _) g t ps gone (refl, refl))
+goes_left g j (Checks ps t) rest gone old left all =
+    quiet_goes _ _ _ _ _ _ _ (quiet_audits (IsAsHere g) g ps t (refl, refl))
+goes_left g j work rest gone old left all = goes_waits g j work rest j.heard old left
+
 pub goes_loses : (g : Going) (j : Job) (work : Work) (rest : List Awaited) (gone : Bool)
     → ((a : Awaited) → In a rest → In a (awaited_by g.file.job)) → GoesFrom g (loses g j work rest gone)
-unfolding loses
-goes_loses g j (Fetches ps short) rest gone left =
-    quiet_goes _ _ _ _ _ _ _ (quiet_repairs (IsAsHere g) (file_mended _ _) j.kind g ps short (refl, refl))
-goes_loses g j (Stores ps short broken) rest gone left = goes_waits g j _ rest _ _ left
-goes_loses g j (Targets t) rest gone left = goes_remakes g t gone
-goes_loses g j (Gathers t ps) rest gone left =
-    quiet_goes _ _ _ _ _ _ _ (quiet_refills (IsAsHere g) (file_placed _ _) g t ps gone (refl, refl))
-goes_loses g j (Fills t ps) rest gone left =
-    quiet_goes _ _ _ _ _ _ _ (quiet_refills (IsAsHere g) (file_placed _ _) g t ps gone (refl, refl))
-goes_loses g j (Checks ps t) rest gone left =
-    quiet_goes _ _ _ _ _ _ _ (quiet_audits (IsAsHere g) g ps t (refl, refl))
-goes_loses g j work rest gone left = goes_waits g j work rest j.heard _ left
+goes_loses g j work rest gone left = goes_left g j work rest gone (awaited_by g.file.job) left (λ t e a i. i)
 
 pub other_loses : (R : Reached) (g : Going) (j : Job) (work : Work) (rest : List Awaited) (gone : Bool)
     → is_fences work ≡ false → is_fencing g.file.job ≡ false → Fencing R g.effects.notes (loses g j work rest gone)

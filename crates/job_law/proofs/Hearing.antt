@@ -1,6 +1,6 @@
 -- A drive's reply, and a declaration, at a file.
-use Rattle.std.proofs.Common.{◌≡◌, ◌⊎◌, ◌&&◌, ◌==◌, ℕ, ◌+◌, Bool, true, false, not, find, List, [], ◌∷◌, map, Option, Some, None, refl, sym, ap, subst, ◌∙◌, inl, inr, if◌then◌else◌}
-use Rattle.std.proofs.lemmas.Bool.{cases_eq, ne_eqb}
+use Rattle.std.proofs.Common.{◌≡◌, ◌⊎◌, ◌≤◌, ◌&&◌, ◌==◌, ℕ, ◌+◌, Bool, true, false, not, find, List, [], ◌∷◌, map, Option, Some, None, refl, sym, ap, subst, ◌∙◌, arith, inl, inr, if◌then◌else◌}
+use Rattle.std.proofs.lemmas.Bool.{cases_eq, eq-eqb, ne_eqb}
 use Rattle.osd_commands.specs.declared.actions.Action.{Action}
 use Rattle.osd_commands.specs.declared.actions.Action.TheVariants.{SetTag}
 use Rattle.job_law.specs.Names.{Kept, File, Component, Awaited, Job, Work, Reply, NoteKind, Creates, Fences, Fetches, Stores, Targets, Gathers, Fills, Lengths, Checks, NoSpace}
@@ -13,9 +13,10 @@ use Rattle.server_rules.specs.Replies.{Hearing, Older, Full, Done, Nothing, is_w
 use Rattle.server_rules.specs.Laws.{In}
 use Rattle.server_rules.proofs.Members.{in_mapped, in_map, in_filtered, in_filter}
 use Rattle.job_law.specs.Fencing.{Reached, is_fences, is_fencing, Raises, IsAsked, IsFencing, TellsRaised}
+use Rattle.job_law.proofs.Lists.{numbered_from}
 use Rattle.job_law.proofs.Owned.{one_owned}
 use Rattle.job_law.proofs.Quiet.{is_fenced, no_end_behind, quiet_full}
-use Rattle.job_law.proofs.Fences.{GoesFrom, Fencing, WasFencing, IsAsHere, quiet_goes, quiet_fencing, fenced_kind, goes_here, fencing_here, goes_waits, fencing_waits, other_waits, goes_loses, other_loses}
+use Rattle.job_law.proofs.Fences.{Goes, GoesFrom, Fencing, WasFencing, IsAsHere, quiet_goes, quiet_fencing, fenced_kind, goes_here, fencing_here, goes_waits, fencing_waits, other_waits, goes_loses, other_loses, goes_left}
 
 -- ---- tests
 
@@ -225,7 +226,7 @@ other_full R g j a work e none =
     fencing_noted R h _ (NoSpace a.component) refl
     (other_loses R (noting h (NoSpace a.component)) j work (others j.awaited a.command.nonce) false e none)
 
-goes_hears : (g : Going) (j : Job) (a : Awaited) (r : Reply) (x : Hearing) → In a j.awaited
+pub goes_hears : (g : Going) (j : Job) (a : Awaited) (r : Reply) (x : Hearing) → In a j.awaited
     → ((y : Awaited) → In y j.awaited → In y (awaited_by g.file.job)) → GoesFrom g (hears g j a r x)
 goes_hears g j a r Older here there = goes_renews g j a here there
 goes_hears g j a r Full here there = goes_full g j a j.work there
@@ -233,6 +234,64 @@ goes_hears g j a r Done here there =
     goes_waits g j j.work (others j.awaited a.command.nonce) (heard_with j a r) (awaited_by g.file.job)
     (λ y i. there y (in_filtered _ y j.awaited i).0)
 goes_hears g j a r Nothing here there = goes_here g
+
+-- ---- what is left when a command is answered
+
+-- the others, or new ones
+abbrev pub IsLeftOf : Going → Job → Awaited → Going → Type 0
+IsLeftOf g j a h =
+    (y : Awaited) → In y (awaited_by h.file.job)
+    → In y (others j.awaited a.command.nonce) ⊎ (g.effects.nonce ≤ y.command.nonce)
+
+left_of : (g : Going) (j : Job) (a : Awaited) (h : Going)
+    → Goes g.file.kept.number g.file.kept.tag g.effects.nonce g.effects.sent (others j.awaited a.command.nonce) h
+    → IsLeftOf g j a h
+left_of g j a h x y i = elim (x.waits y i) [
+  | inl old ↦ inl old
+  | inr new ↦ inr (numbered_from g.effects.nonce x.fresh y x.numbered new).0
+]
+
+left_renews : (g : Going) (j : Job) (a : Awaited) → IsLeftOf g j a (renews g j a)
+left_renews g j a y i =
+    let r = in_mapped (renewed a (again_in_2 a g.effects.nonce)) y j.awaited i in
+    elim (cases_eq r.0.command.nonce a.command.nonce) [
+      | inl e ↦ inr (newer r.0 e y r.2)
+      | inr ne ↦ inl (subst (λ (x : Awaited). In x (others j.awaited a.command.nonce)) (sym (r.2 ∙ same r.0 ne))
+          (in_filter _ r.0 j.awaited r.1 (ap not (ne_eqb _ _ ne))))
+    ]
+  where
+    same : (x : Awaited) → (x.command.nonce ≡ a.command.nonce → ⊥) → renewed a (again_in_2 a g.effects.nonce) x ≡ x
+    same x ne = ap (λ (t : Bool). if t then again_in_2 a g.effects.nonce else x) (ne_eqb _ _ ne)
+
+    newer : (x : Awaited) → x.command.nonce ≡ a.command.nonce → (z : Awaited)
+        → z ≡ renewed a (again_in_2 a g.effects.nonce) x → g.effects.nonce ≤ z.command.nonce
+    newer x e z is =
+        let it : z ≡ again_in_2 a g.effects.nonce =
+        is ∙ ap (λ (t : Bool). if t then again_in_2 a g.effects.nonce else x) (eq-eqb _ _ e) in
+        let nonce : z.command.nonce ≡ g.effects.nonce = ap (λ (v : Awaited). v.command.nonce) it in
+        omega (arith, nonce)
+
+left_full : (g : Going) (j : Job) (a : Awaited) (work : Work) → IsLeftOf g j a (fills_up g j a work)
+left_full g j a (Targets t) =
+    left_of g j a _ (quiet_goes _ _ _ _ _ _ _ (quiet_full (IsAsHere g) g t (refl, refl)))
+left_full g j a (Gathers t ps) =
+    left_of g j a _ (quiet_goes _ _ _ _ _ _ _ (quiet_full (IsAsHere g) g t (refl, refl)))
+left_full g j a (Fills t ps) =
+    left_of g j a _ (quiet_goes _ _ _ _ _ _ _ (quiet_full (IsAsHere g) g t (refl, refl)))
+left_full g j a work =
+    left_of g j a _
+    (goes_left (noting (with_components g (lose_from (a.component ∷ []) g.file.kept.components 0)) (NoSpace a.component)) j
+    work (others j.awaited a.command.nonce) false (others j.awaited a.command.nonce) (λ x i. i) (λ t e. absurd (cc e)))
+
+-- behind a reply that counts
+pub left_hears : (g : Going) (j : Job) (a : Awaited) (r : Reply) (x : Hearing) → (x ≡ Nothing → ⊥)
+    → IsLeftOf g j a (hears g j a r x)
+left_hears g j a r Older counts = left_renews g j a
+left_hears g j a r Full counts = left_full g j a j.work
+left_hears g j a r Done counts =
+    left_of g j a _
+    (goes_waits g j j.work (others j.awaited a.command.nonce) (heard_with j a r) (others j.awaited a.command.nonce) (λ y i. i))
+left_hears g j a r Nothing counts = absurd (counts refl)
 
 -- a job that is no fence
 other_hears : (R : Reached) (g : Going) (j : Job) (a : Awaited) (r : Reply) (x : Hearing) → is_fences j.work ≡ false

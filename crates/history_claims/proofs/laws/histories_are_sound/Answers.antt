@@ -13,5 +13,6 @@ returns c =
     c.counters_stay_low.ensures
     c.calls_end_so.ensures c.ends_are_caused.ensures c.answers_are_of_replies.ensures c.each_tag_is_its_files.ensures
     c.requests_are_answered.ensures c.messages_are_caused.ensures c.grants_have_causes.ensures c.components_have_causes.ensures
-    c.ends_are_said.ensures
+    c.losses_have_causes.ensures c.tags_have_causes.ensures c.awaited_have_causes.ensures c.awaited_have_ends.ensures
+    c.awaited_were_sent.ensures c.ends_are_said.ensures
     c.calls_are_left.ensures c.within_the_limit_are_few.ensures
