@@ -11,6 +11,7 @@ pub mod Grants
 pub mod Telling
 pub mod NoteLines
 pub mod Noting
+pub mod Losses
 pub mod TagSteps
 pub mod TagNotes
 pub mod AwaitedSteps

@@ -6,6 +6,7 @@ pub mod Answers
 pub mod Changes
 pub mod Told
 pub mod Components
+pub mod Losses
 pub mod FenceTags
 pub mod Awaiting
 pub mod AwaitedEnds

@@ -6,6 +6,7 @@ ghost use Rattle.cause_law.specs.Changes.{EachGrantHasItsCauses};
 ghost use Rattle.cause_law.specs.Components.{EachComponentHasItsCauses};
 ghost use Rattle.cause_law.specs.Ends.{EachEndIsSaid};
 ghost use Rattle.cause_law.specs.FenceTags.{EachTagHasItsCause};
+ghost use Rattle.cause_law.specs.Losses.{EachLossHasItsCause};
 ghost use Rattle.cause_law.specs.Told.{EachMessageIsCaused};
 
 use calm_law::{each_step_raises_tags, each_step_tells, each_step_tells_tags, seen_is_sound};
@@ -134,4 +135,12 @@ pub fn awaited_were_sent()
     book_is_read();
     server_moves();
     one_event_more();
+}
+
+/// So at each such line a component of a file becomes missing only if its note `nospace` or `reported` is among the step's
+/// lines, or what comes is the order to declare its drive, and the server knows that drive.
+pub fn losses_have_causes()
+    ensures { EachLossHasItsCause }
+{
+    components_have_causes();
 }

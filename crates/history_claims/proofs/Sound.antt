@@ -31,6 +31,7 @@ use Rattle.cause_law.specs.Changes.{EachGrantHasItsCauses}
 use Rattle.cause_law.specs.Components.{EachComponentHasItsCauses}
 use Rattle.cause_law.specs.Ends.{EachEndIsSaid}
 use Rattle.cause_law.specs.FenceTags.{EachTagHasItsCause}
+use Rattle.cause_law.specs.Losses.{EachLossHasItsCause}
 use Rattle.cause_law.specs.Told.{EachMessageIsCaused}
 use Rattle.reopen_law.specs.Numbers.{EachGrantIsNamedOnce, EachObjectIsOwn}
 use Rattle.reopen_law.specs.Reopened.{EachCrashBars}
@@ -50,12 +51,12 @@ pub histories_are_sound : HistoriesAreSafe → VerdictsAreAnswered → CommandsA
     → CommandsAreIssuedExactly → UnforgedAreIssuedExactly → LanesAreFair → LanesAreOwn → RefusalsWereJudged
     → RefusalsWereAwaited → CountersStayLow → CallsEndSo → EndsAreCaused → AnswersAreOfReplies
     → EachByteHasItsCause → EachTagIsItsFiles → EachRequestIsAnswered → EachMessageIsCaused → EachGrantHasItsCauses
-    → EachComponentHasItsCauses → EachTagHasItsCause → EachAwaitedHasItsCauses → EachAwaitedHasItsEnd → EachAwaitedWasSent
-    → EachCrashBars → EachGrantIsNamedOnce → EachObjectIsOwn → EachEndIsSaid
+    → EachComponentHasItsCauses → EachLossHasItsCause → EachTagHasItsCause → EachAwaitedHasItsCauses → EachAwaitedHasItsEnd
+    → EachAwaitedWasSent → EachCrashBars → EachGrantIsNamedOnce → EachObjectIsOwn → EachEndIsSaid
     → EachCallIsLeftSo → PendingCallsAreUnanswered → WithinTheLimitAreFew
     → HistoriesAreSound
 histories_are_sound safe answered issued listed fair ranges fronts apart spread created own fenced live given older barred exact
-    allowed lanes lanes_own judged awaited low ends outcomes read bytes tags caused told changed gone raised waits until sent
+    allowed lanes lanes_own judged awaited low ends outcomes read bytes tags caused told changed gone lost raised waits until sent
     barred_by named objects said left unanswered few = record {
       sound = λ h l. record {
         safe = safe h l;
@@ -86,6 +87,7 @@ histories_are_sound safe answered issued listed fair ranges fronts apart spread 
         answers = λ w g k m rest d is a. told w g k m d a;
         changes = λ w s a. changed w h s a;
         components = λ w s a. gone w h s a;
+        lost = λ w s a. lost w h s a;
         raised = λ w s a. raised w h s a;
         waits = λ w s a. waits w h s a;
         until = λ w s a. until w h s a;

@@ -34,6 +34,7 @@ use Rattle.cause_law.specs.Changes.{GrantsHaveCauses}
 use Rattle.cause_law.specs.Components.{ComponentsHaveCauses}
 use Rattle.cause_law.specs.Ends.{CallsEndAsSaid}
 use Rattle.cause_law.specs.FenceTags.{TagsHaveCauses}
+use Rattle.cause_law.specs.Losses.{LossesHaveCauses}
 use Rattle.cause_law.specs.Told.{MessagesAreCaused}
 use Rattle.outcome_law.specs.Ended.{CausedAt}
 use Rattle.outcome_law.specs.Pending.{CallsAreLeft}
@@ -125,7 +126,10 @@ pub record IsSound (h : List Line) : Type 0 where
   -- and each file goes on with its map, and with its components as the notes of the step tell, after those on a drive that is
   -- declared, and that the server knows, became missing
   pub components : (w : World) → StandsFor w h → AreWritten h → ComponentsHaveCauses h
-  -- and with its tag, unless just one note of the step tells that a fence of it is over: it is the next tag, and the file's then
+  -- so a component becomes missing only by its own note among them, or by such a declaration of its drive
+  pub lost : (w : World) → StandsFor w h → AreWritten h → LossesHaveCauses h
+  -- each file goes on with its tag too, unless just one note of the step tells that a fence of it is over: with the next tag,
+  -- which is the file's then
   pub raised : (w : World) → StandsFor w h → AreWritten h → TagsHaveCauses h
   -- what the job of a file awaits behind a step it awaited before, and what comes doesn't answer it, or the step sends it
   pub waits : (w : World) → StandsFor w h → AreWritten h → AwaitedHaveCauses h

@@ -7,8 +7,8 @@ ghost use Rattle.history_claims.specs.Spread.{ComponentsStandSpread};
 use calm_law::{each_step_is_apart, each_step_is_sound};
 use cause_law::{
     awaited_have_causes, awaited_have_ends, awaited_were_sent, components_have_causes,
-    ends_are_said, grants_have_causes, messages_are_caused, requests_are_answered,
-    tags_have_causes,
+    ends_are_said, grants_have_causes, losses_have_causes, messages_are_caused,
+    requests_are_answered, tags_have_causes,
 };
 use ending_law::calls_end_so;
 use exchange_law::{
@@ -122,6 +122,7 @@ pub fn histories_are_sound()
     messages_are_caused();
     grants_have_causes();
     components_have_causes();
+    losses_have_causes();
     tags_have_causes();
     awaited_have_causes();
     awaited_have_ends();

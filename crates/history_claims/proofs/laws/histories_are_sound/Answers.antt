@@ -14,7 +14,7 @@ returns c =
     c.calls_end_so.ensures c.ends_are_caused.ensures c.answers_are_of_replies.ensures
     c.each_byte_has_its_cause.ensures c.each_tag_is_its_files.ensures
     c.requests_are_answered.ensures c.messages_are_caused.ensures c.grants_have_causes.ensures c.components_have_causes.ensures
-    c.tags_have_causes.ensures c.awaited_have_causes.ensures c.awaited_have_ends.ensures c.awaited_were_sent.ensures
-    c.crashes_bar.ensures c.grants_are_named_once.ensures c.objects_are_own.ensures
+    c.losses_have_causes.ensures c.tags_have_causes.ensures c.awaited_have_causes.ensures c.awaited_have_ends.ensures
+    c.awaited_were_sent.ensures c.crashes_bar.ensures c.grants_are_named_once.ensures c.objects_are_own.ensures
     c.ends_are_said.ensures
     c.calls_are_left.ensures c.pending_calls_are_unanswered.ensures c.within_the_limit_are_few.ensures
