@@ -52,8 +52,8 @@ one_known : (s : Server) (d : ClusterDrive) → is_some d.key ≡ true → nat_l
 one_known s d some low = elim (cases_Bool (has_number s.drives d.number)) [
   | inl there ↦ (s, rw there refl)
   | inr new ↦
-    let key = key_there d.key some in
-    (record s { drives = add_drive s.drives (drive_with d key.0) }, rw new (ap (with_key s d) key.1 ∙ rw (low, new) refl))
+      let key = key_there d.key some in
+      (record s { drives = add_drive s.drives (drive_with d key.0) }, rw new (ap (with_key s d) key.1 ∙ rw (low, new) refl))
 ]
 
 -- so none of these is wrong
@@ -83,9 +83,9 @@ few_for : (n : ℕ) (f : ClusterFile) (server : Server) → is_good_map n f.map 
 few_for n f server good algorithm lacks (inr without) = absurd (without algorithm)
 few_for n f server good algorithm lacks (inl refused) = elim (cases_Bool (nat_le f.map.comps (length (online server.drives)))) [
   | inl enough ↦
-    let parts = and_parts (is_ok (checked f.map) && nat_le f.map.comps 64) (nat_le f.map.comps n) good in
-    let none = unrefused server f.number f.map (length (online server.drives)) (none_there (file_at server.files f.number) lacks) refl (rw (parts.0, enough) refl) in
-    absurd (cc (sym none ∙ refused.1))
+      let parts = and_parts (is_ok (checked f.map) && nat_le f.map.comps 64) (nat_le f.map.comps n) good in
+      let none = unrefused server f.number f.map (length (online server.drives)) (none_there (file_at server.files f.number) lacks) refl (rw (parts.0, enough) refl) in
+      absurd (cc (sym none ∙ refused.1))
   | inr few ↦ grind (arith, nat_tests, few)
 ]
 
