@@ -1,6 +1,6 @@
 -- What a server in a journal leaves on its disk over a step.
-use Rattle.std.proofs.Common.{◌≡◌, ℕ, List, [], ◌∷◌, Some, Ok, Result, inl, inr, refl, ◌∙◌, sym, ap, subst, arith}
-use Rattle.std.specs.Prelude.{false, length}
+use Rattle.std.proofs.Common.{◌≡◌, ℕ, List, [], ◌∷◌, Ok, Result, inl, refl, ◌∙◌, sym, ap, subst, arith}
+use Rattle.std.specs.Prelude.{false}
 use Rattle.osd_bytes.specs.Causes.{Rose}
 use Rattle.osd_disk.specs.Crashes.{LeavesOnly}
 use Rattle.osd_disk.specs.declared.disk.Disk.{Ghosts as DiskGhosts}
@@ -56,20 +56,27 @@ module _ {D : Type 0} (s : DiskGhosts D) where
   -- ---- what is known of a server in a journal
 
   abbrev pub JournalCarries : (done cut_off : List ServerStep) → (old new : StoredServer D) → Type 0
-  JournalCarries done cut_off old new = Carries (λ (x : StoredServer D). core_of x.journal) (λ x. is_over_in x.journal) (λ x. s.faults (kept_on x))
-      (λ x. IsKept s x.journal) (λ x. s.moment (kept_on x)) (λ x. s.left_since (kept_on x)) (λ v c. StandsFor v c) done cut_off old new
+  JournalCarries done cut_off old new =
+      Carries (λ (x : StoredServer D). core_of x.journal) (λ x. is_over_in x.journal) (λ x. s.faults (kept_on x))
+      (λ x. IsKept s x.journal) (λ x. s.moment (kept_on x)) (λ x. s.left_since (kept_on x)) (λ v c. StandsFor v c) done
+      cut_off old new
 
   abbrev pub JournalWent : (done : List ServerStep) → (old new : StoredServer D) → Type 0
-  JournalWent done old new = WentOn (λ (x : StoredServer D). core_of x.journal) (λ x. is_over_in x.journal) (λ x. s.faults (kept_on x))
+  JournalWent done old new =
+      WentOn (λ (x : StoredServer D). core_of x.journal) (λ x. is_over_in x.journal) (λ x. s.faults (kept_on x))
       (λ x. IsKept s x.journal) (λ x. s.moment (kept_on x)) (λ x. s.left_since (kept_on x)) (λ v c. StandsFor v c) done old new
 
   abbrev pub JournalBroke : (done cut_off : List ServerStep) → (failed : Type 0) → (old new : StoredServer D) → Type 0
-  JournalBroke done cut_off failed old new = BrokeOff (λ (x : StoredServer D). core_of x.journal) (λ x. is_over_in x.journal) (λ x. s.faults (kept_on x))
-      (λ x. IsKept s x.journal) (λ x. s.moment (kept_on x)) (λ x. s.left_since (kept_on x)) (λ v c. StandsFor v c) done cut_off failed old new
+  JournalBroke done cut_off failed old new =
+      BrokeOff (λ (x : StoredServer D). core_of x.journal) (λ x. is_over_in x.journal) (λ x. s.faults (kept_on x))
+      (λ x. IsKept s x.journal) (λ x. s.moment (kept_on x)) (λ x. s.left_since (kept_on x)) (λ v c. StandsFor v c) done cut_off
+      failed old new
 
   abbrev pub JournalMakesNot : (number : ℕ) → RawMap → (tag : ℕ) → (old new : StoredServer D) → MakeErr → Type 0
-  JournalMakesNot number raw tag old new e = NotMade (λ (x : StoredServer D). core_of x.journal) (λ x. is_over_in x.journal) (λ x. s.faults (kept_on x))
-      (λ x. IsKept s x.journal) (λ x. s.moment (kept_on x)) (λ x. s.left_since (kept_on x)) (λ v c. StandsFor v c) number raw tag old new e
+  JournalMakesNot number raw tag old new e =
+      NotMade (λ (x : StoredServer D). core_of x.journal) (λ x. is_over_in x.journal) (λ x. s.faults (kept_on x))
+      (λ x. IsKept s x.journal) (λ x. s.moment (kept_on x)) (λ x. s.left_since (kept_on x)) (λ v c. StandsFor v c) number raw
+      tag old new e
 
   -- ---- a step
 
@@ -82,8 +89,10 @@ module _ {D : Type 0} (s : DiskGhosts D) where
       let m = subst (λ (v : Server). LeavesEither s (kept_on old) (kept_on new) (crash (core_of old.journal)) (crash v)) is l in
       record { later = m.later; each = m.each; before = m.before }
 
-  pub went_step : ((disk : D) (c : List ℕ) → s.left_since disk (s.moment disk) c → s.may_leave disk c) → (x : ServerStep) (old new : StoredServer D)
-      → core_of new.journal ≡ after_step (core_of old.journal) x → Answered s old.journal new.journal → is_over_in new.journal ≡ false
+  pub went_step : ((disk : D) (c : List ℕ) → s.left_since disk (s.moment disk) c → s.may_leave disk c)
+      → (x : ServerStep) (old new : StoredServer D)
+      → core_of new.journal ≡ after_step (core_of old.journal) x → Answered s old.journal new.journal
+      → is_over_in new.journal ≡ false
       → s.faults (kept_on new) ≡ s.faults (kept_on old) → JournalWent (x ∷ []) old new
   went_step only_now x old new is answered on same = record {
     state = is;
@@ -104,7 +113,8 @@ module _ {D : Type 0} (s : DiskGhosts D) where
     same = same;
   }
 
-  pub broke_step : (x : ServerStep) (failed : Type 0) (old new : StoredServer D) (after : Server) → after ≡ after_step (core_of old.journal) x
+  pub broke_step : (x : ServerStep) (failed : Type 0) (old new : StoredServer D) (after : Server)
+      → after ≡ after_step (core_of old.journal) x
       → (IsKept s old.journal → LeavesEither s (kept_on old) (kept_on new) (crash (core_of old.journal)) (crash after))
       → (failed → Rose (s.faults (kept_on old)) (s.faults (kept_on new))) → JournalBroke [] (x ∷ []) failed old new
   broke_step x failed old new after is leaves rose = record {
@@ -119,8 +129,10 @@ module _ {D : Type 0} (s : DiskGhosts D) where
   -- ---- files
 
   -- a file that was made
-  pub went_making : ((disk : D) (c : List ℕ) → s.left_since disk (s.moment disk) c → s.may_leave disk c) → (number : ℕ) (raw : RawMap) (tag : ℕ)
-      (chosen : List ℕ) (old new : StoredServer D) (r : RulesStep) → create_file (core_of old.journal) number raw tag false chosen ≡ Ok r
+  pub went_making : ((disk : D) (c : List ℕ) → s.left_since disk (s.moment disk) c → s.may_leave disk c)
+      → (number : ℕ) (raw : RawMap) (tag : ℕ)
+      (chosen : List ℕ) (old new : StoredServer D) (r : RulesStep)
+      → create_file (core_of old.journal) number raw tag false chosen ≡ Ok r
       → core_of new.journal ≡ r.state → Answered s old.journal new.journal → is_over_in new.journal ≡ false
       → s.faults (kept_on new) ≡ s.faults (kept_on old) → JournalWent (steps.Makes number raw tag chosen ∷ []) old new
   went_making only_now number raw tag chosen old new r makes is answered on same =
@@ -132,7 +144,8 @@ module _ {D : Type 0} (s : DiskGhosts D) where
       → Stays old.journal new.journal → JournalWent [] old new
   unchanged only_now old new same =
       let disk : kept_on new ≡ kept_on old = ap (λ (l : GateLog D). disk_of l) same.log in
-      let held : (c : List ℕ) → IsKept s old.journal → s.left_since (kept_on new) (s.moment (kept_on old)) c → StandsFor (core_of old.journal) c =
+      let held : (c : List ℕ) → IsKept s old.journal → s.left_since (kept_on new) (s.moment (kept_on old)) c
+      → StandsFor (core_of old.journal) c =
       λ c k left. stays s only_now old c k (subst (λ (d : D). s.left_since d (s.moment (kept_on old)) c) disk left) in record {
         state = same.server;
         carries = record {
@@ -151,25 +164,31 @@ module _ {D : Type 0} (s : DiskGhosts D) where
       }
 
   -- one that wasn't
-  pub not_making : ((disk : D) (c : List ℕ) → s.left_since disk (s.moment disk) c → s.may_leave disk c) → (number : ℕ) (raw : RawMap) (tag : ℕ)
+  pub not_making : ((disk : D) (c : List ℕ) → s.left_since disk (s.moment disk) c → s.may_leave disk c)
+      → (number : ℕ) (raw : RawMap) (tag : ℕ)
       (old new : StoredServer D) (e : JournalFileErr) → MakesNot s old.journal new.journal number raw tag false e
       → JournalMakesNot number raw tag old new (make_err_of e)
   not_making only_now number raw tag old new e m = go e m
     where
-      refused : (x : JournalFileErr) → IsRefused old.journal new.journal number raw false x → JournalMakesNot number raw tag old new (make_err_of x)
+      refused : (x : JournalFileErr) → IsRefused old.journal new.journal number raw false x
+          → JournalMakesNot number raw tag old new (make_err_of x)
       refused x r =
-          subst (λ (y : MakeErr). JournalMakesNot number raw tag old new y) (sym (ap (λ (y : JournalFileErr). make_err_of y) r.told ∙ told_refusal r.reason))
+          subst (λ (y : MakeErr). JournalMakesNot number raw tag old new y)
+          (sym (ap (λ (y : JournalFileErr). make_err_of y) r.told ∙ told_refusal r.reason))
           (r.refused, unchanged only_now old new r.stays)
 
       cut : (x : JournalErr) → MakesNot s old.journal new.journal number raw tag false (file.Journal x)
-          → (chosen : List ℕ) × JournalBroke [] (steps.Makes number raw tag chosen ∷ []) (make_err_of (file.Journal x) ≡ made.DiskFault) old new
+          → (chosen : List ℕ)
+          × JournalBroke [] (steps.Makes number raw tag chosen ∷ []) (make_err_of (file.Journal x) ≡ made.DiskFault) old new
       cut x c = (
         c.3.chosen,
-        broke_step (steps.Makes number raw tag c.3.chosen) (make_err_of (file.Journal x) ≡ made.DiskFault) old new _ refl c.3.any_moment
+        broke_step (steps.Makes number raw tag c.3.chosen) (make_err_of (file.Journal x) ≡ made.DiskFault) old new _ refl
+            c.3.any_moment
             (λ is. c.2.failed (make_fault x is)),
       )
 
-      go : (x : JournalFileErr) → MakesNot s old.journal new.journal number raw tag false x → JournalMakesNot number raw tag old new (make_err_of x)
+      go : (x : JournalFileErr) → MakesNot s old.journal new.journal number raw tag false x
+          → JournalMakesNot number raw tag old new (make_err_of x)
       go file.FileExists r = refused file.FileExists r
       go (file.BadMap why) r = refused (file.BadMap why) r
       go (file.TooFewDrives online) r = refused (file.TooFewDrives online) r

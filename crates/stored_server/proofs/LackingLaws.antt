@@ -8,7 +8,6 @@ use Rattle.osd_bytes.specs.Asking.{Ends}
 use Rattle.cluster_text.specs.declared.cluster.ClusterDrive.{ClusterDrive}
 use Rattle.cluster_text.specs.declared.cluster.ClusterFile.{ClusterFile}
 use Rattle.cluster_text.specs.declared.errors.ClusterKind.{ClusterKind}
-use Rattle.cluster_text.specs.declared.stop.CommandStop.TheVariants.{BadCluster, ReadFault, WriteFault, Memory, Full, LinkFault}
 use Rattle.server_rules.specs.declared.server.Server.{Server}
 use Rattle.cluster_text.specs.Fields.{is_good_map}
 use Rattle.server_rules.specs.Files.{file_at}
@@ -17,47 +16,38 @@ use Rattle.server_command.proofs.Described.{AreKnowable, AreMakeable}
 use Rattle.server_command.proofs.Refusing.{makeable_at, unrefused}
 use Rattle.server_command.specs.Drives.{Known, and_then, drive_with, has_number, with_key}
 use Rattle.server_command.specs.declared.server_stop.ServerStop.{ServerStop}
-use Rattle.server_command.specs.declared.server_stop.ServerStop.TheVariants.{Command, DiskFault}
 use Rattle.server_command.specs.Files.{LosesFile, RefusesFile, StopsBy}
 use Rattle.server_command.specs.Messages.{InTurn, Serving}
 use Rattle.server_command.proofs.MakingLaws.{stops_at, stops_by}
-use Rattle.stored_server.specs.Lacking.{LacksDrivesFor, LosesLacking, MakesLacking, RefusesLacking, StopsLacking, has_file, with_all_lacking, with_lacking}
+use Rattle.stored_server.specs.Lacking.{LacksDrivesFor, LosesLacking, MakesLacking, RefusesLacking, has_file, with_all_lacking, with_lacking}
 
 -- ---- drives
 
 -- one of them is known, or was added
-pub one_more : (s t : Server) (d : ClusterDrive) (rest ds : List ClusterDrive) (r : Known) → ds ≡ d ∷ rest → with_lacking s d ≡ Ok t
+pub one_more : (s t : Server) (d : ClusterDrive) (rest ds : List ClusterDrive) (r : Known) → ds ≡ d ∷ rest
+    → with_lacking s d ≡ Ok t
     → with_all_lacking s ds ≡ r → with_all_lacking t rest ≡ r
 one_more s t d rest ds r e is all =
-    sym (ap (λ (k : Known). and_then k (λ u. with_all_lacking u rest)) is) ∙ (sym (ap (λ (xs : List ClusterDrive). with_all_lacking s xs) e) ∙ all)
-
--- one of them is wrong
-pub one_stops : (s : Server) (d : ClusterDrive) (rest ds : List ClusterDrive) (r : Known) (stop : ServerStop) → ds ≡ d ∷ rest → with_all_lacking s ds ≡ r
-    → StopsLacking (with_lacking s d) stop → StopsLacking r stop
-one_stops s d rest ds r (Command (BadCluster kind)) e all wrong =
-    sym all ∙ (ap (λ (xs : List ClusterDrive). with_all_lacking s xs) e ∙ ap (λ (k : Known). and_then k (λ u. with_all_lacking u rest)) wrong)
-one_stops s d rest ds r (Command ReadFault) e all wrong = absurd wrong
-one_stops s d rest ds r (Command WriteFault) e all wrong = absurd wrong
-one_stops s d rest ds r (Command Memory) e all wrong = tt
-one_stops s d rest ds r (Command Full) e all wrong = absurd wrong
-one_stops s d rest ds r (Command LinkFault) e all wrong = absurd wrong
-one_stops s d rest ds r DiskFault e all wrong = tt
+    sym (ap (λ (k : Known). and_then k (λ u. with_all_lacking u rest)) is)
+    ∙ (sym (ap (λ (xs : List ClusterDrive). with_all_lacking s xs) e) ∙ all)
 
 key_there : (o : Option (List ℕ)) → is_some o ≡ true → (key : List ℕ) × (o ≡ Some key)
 key_there None there = cc there
 key_there (Some key) there = (key, refl)
 
 -- a drive with a key and a low number is known then
-one_known : (s : Server) (d : ClusterDrive) → is_some d.key ≡ true → nat_le 64 d.number ≡ false → (t : Server) × (with_lacking s d ≡ Ok t)
+one_known : (s : Server) (d : ClusterDrive) → is_some d.key ≡ true → nat_le 64 d.number ≡ false
+    → (t : Server) × (with_lacking s d ≡ Ok t)
 one_known s d some low = elim (cases_Bool (has_number s.drives d.number)) [
   | inl there ↦ (s, rw there refl)
   | inr new ↦
-    let key = key_there d.key some in
-    (record s { drives = add_drive s.drives (drive_with d key.0) }, rw new (ap (with_key s d) key.1 ∙ rw (low, new) refl))
+      let key = key_there d.key some in
+      (record s { drives = add_drive s.drives (drive_with d key.0) }, rw new (ap (with_key s d) key.1 ∙ rw (low, new) refl))
 ]
 
 -- so none of these is wrong
-pub never_wrong : (s : Server) (ds : List ClusterDrive) (kind : ClusterKind) → AreKnowable ds → with_all_lacking s ds ≡ Err kind → ⊥
+pub never_wrong : (s : Server) (ds : List ClusterDrive) (kind : ClusterKind) → AreKnowable ds
+    → with_all_lacking s ds ≡ Err kind → ⊥
 never_wrong s [] kind sound wrong = cc wrong
 never_wrong s (d ∷ ds) kind sound wrong =
     let one = one_known s d sound.0 sound.1 in
@@ -65,31 +55,39 @@ never_wrong s (d ∷ ds) kind sound wrong =
 
 -- ---- files
 
-pub lacking_stops : (files : List ClusterFile) (i : ℕ) (f : ClusterFile) (s u : Serving) (server : Server) (ends : Ends) (stop : ServerStop)
+pub lacking_stops : (files : List ClusterFile) (i : ℕ) (f : ClusterFile) (s u : Serving) (server : Server) (ends : Ends)
+    (stop : ServerStop)
     → slice_get files i ≡ Some f → InTurn MakesLacking (take i files) s u → has_file u.server f ≡ false
-    → StopsBy (LosesFile f u server ends) (RefusesFile f u.server) stop → StopsBy (LosesLacking files s server ends) (RefusesLacking files s) stop
+    → StopsBy (LosesFile f u server ends) (RefusesFile f u.server) stop
+    → StopsBy (LosesLacking files s server ends) (RefusesLacking files s) stop
 lacking_stops files i f s u server ends stop e made lacks h =
     stops_by (LosesFile f u server ends) (LosesLacking files s server ends) (RefusesFile f u.server) (RefusesLacking files s)
-    (λ l. stops_at MakesLacking (λ g v. (has_file v.server g ≡ false) × LosesFile g v server ends) files i f s u e made (lacks, l))
-    (λ r. stops_at MakesLacking (λ g v. (has_file v.server g ≡ false) × RefusesFile g v.server) files i f s u e made (lacks, r)) stop h
+    (λ l. stops_at MakesLacking (λ g v. (has_file v.server g ≡ false) × LosesFile g v server ends) files i f s u e
+    made (lacks, l))
+    (λ r. stops_at MakesLacking (λ g v. (has_file v.server g ≡ false) × RefusesFile g v.server) files i f s u e made
+    (lacks, r)) stop h
 
 none_there : {A : Type 0} (o : Option A) → is_some o ≡ false → o ≡ None
 none_there None there = refl
 none_there (Some x) there = cc there
 
 -- a file with a good map that the server lacks is refused for want of drives alone
-few_for : (n : ℕ) (f : ClusterFile) (server : Server) → is_good_map n f.map ≡ true → HasAlgorithm f.map → has_file server f ≡ false → RefusesFile f server
+few_for : (n : ℕ) (f : ClusterFile) (server : Server) → is_good_map n f.map ≡ true → HasAlgorithm f.map
+    → has_file server f ≡ false → RefusesFile f server
     → length (online server.drives) < f.map.comps
 few_for n f server good algorithm lacks (inr without) = absurd (without algorithm)
 few_for n f server good algorithm lacks (inl refused) = elim (cases_Bool (nat_le f.map.comps (length (online server.drives)))) [
   | inl enough ↦
-    let parts = and_parts (is_ok (checked f.map) && nat_le f.map.comps 64) (nat_le f.map.comps n) good in
-    let none = unrefused server f.number f.map (length (online server.drives)) (none_there (file_at server.files f.number) lacks) refl (rw (parts.0, enough) refl) in
-    absurd (cc (sym none ∙ refused.1))
+      let parts = and_parts (is_ok (checked f.map) && nat_le f.map.comps 64) (nat_le f.map.comps n) good in
+      let none =
+      unrefused server f.number f.map (length (online server.drives)) (none_there (file_at server.files f.number) lacks) refl
+      (rw (parts.0, enough) refl) in
+      absurd (cc (sym none ∙ refused.1))
   | inr few ↦ grind (arith, nat_tests, few)
 ]
 
-pub few_drives : (n : ℕ) (files : List ClusterFile) (s : Serving) → AreMakeable n files → RefusesLacking files s → LacksDrivesFor files s
+pub few_drives : (n : ℕ) (files : List ClusterFile) (s : Serving) → AreMakeable n files → RefusesLacking files s
+    → LacksDrivesFor files s
 few_drives n files s sound r =
     let maps = makeable_at n r.done r.next r.left (subst (λ (fs : List ClusterFile). AreMakeable n fs) r.are sound) in record {
       done = r.done;

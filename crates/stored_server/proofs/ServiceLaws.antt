@@ -27,14 +27,16 @@ use Rattle.stored_server.specs.StoredServer.{StandsFor, kept_on}
 use Rattle.stored_server.proofs.JournalLaws.{JournalCarries}
 
 module _ {D : Type 0} (s : DiskGhosts D) where
-  stays_since : (old new : StoredServer D) (done cut_off : List ServerStep) (left : D) → JournalCarries s done cut_off old new → IsKept s old.journal
+  stays_since : (old new : StoredServer D) (done cut_off : List ServerStep) (left : D) → JournalCarries s done cut_off old new
+      → IsKept s old.journal
       → left ≡ kept_on new → StaysSince s (core_of old.journal) done cut_off left
   stays_since old new done cut_off left x k same =
       subst (λ (d : D). StaysSince s (core_of old.journal) done cut_off d) (sym same)
       (record { began = s.moment (kept_on old); is_past = (x.crash k).later; stands = x.since k })
 
   -- a crash at any moment of the run
-  leaves_run : (disk left : D) (old new : StoredServer D) (steps : List ServerStep) → left ≡ kept_on new → LeavesOpenable s disk (kept_on old)
+  leaves_run : (disk left : D) (old new : StoredServer D) (steps : List ServerStep) → left ≡ kept_on new
+      → LeavesOpenable s disk (kept_on old)
       → LeavesOnly (λ (x : StoredServer D). s.moment (kept_on x)) (λ (x : StoredServer D). s.left_since (kept_on x)) old new
       (StandsForSome StandsFor (core_of old.journal) steps)
       → LeavesRun s disk left (core_of old.journal) steps
@@ -42,16 +44,21 @@ module _ {D : Type 0} (s : DiskGhosts D) where
   leaves_run disk left old new steps same (inr opening) leaves =
       subst (λ (d : D). LeavesRun s disk d (core_of old.journal) steps) (sym same)
       (inr (on_and_on s disk (kept_on old) (kept_on new) (IsOfRun s disk (core_of old.journal) steps)
-      (weaker s disk (kept_on old) (λ c. s.may_leave disk c ⊎ IsOfOpening (s.seen disk) c) (IsOfRun s disk (core_of old.journal) steps) opening
+      (weaker s disk (kept_on old) (λ c. s.may_leave disk c ⊎ IsOfOpening (s.seen disk) c)
+      (IsOfRun s disk (core_of old.journal) steps) opening
       (λ c left. ⊎_elim inl (λ here. inr (inl here)) left))
-      (weaker s (kept_on old) (kept_on new) (StandsForSome StandsFor (core_of old.journal) steps) (IsOfRun s disk (core_of old.journal) steps)
+      (weaker s (kept_on old) (kept_on new) (StandsForSome StandsFor (core_of old.journal) steps)
+      (IsOfRun s disk (core_of old.journal) steps)
       (record { later = leaves.later; each = leaves.each; before = leaves.before }) (λ c left. inr (inr left)))))
 
   module _ (connections : ℕ) (cluster : Cluster) (before now : Ends) (taken_before taken : Option (List ℕ)) (disk left : D)
-      (old new : StoredServer D) (step : Step) (begins : IsTrue (s.tells disk) → BeginsWith (s.seen disk) (core_of old.journal) step)
-      (kept : IsTrue (s.tells disk) → IsKept s old.journal) (opens : IsTrue (s.tells disk) → LeavesOpenable s disk (kept_on old)) (done : List ServerStep) (same : left ≡ kept_on new) where
+      (old new : StoredServer D) (step : Step) (begins : IsTrue (s.tells disk)
+      → BeginsWith (s.seen disk) (core_of old.journal) step)
+      (kept : IsTrue (s.tells disk) → IsKept s old.journal) (opens : IsTrue (s.tells disk)
+      → LeavesOpenable s disk (kept_on old)) (done : List ServerStep) (same : left ≡ kept_on new) where
     pub served_from : (made : Server) (between : Ends) → Prepares cluster (core_of old.journal) step before made between
-        → Serves connections made (core_of new.journal) between now taken_before taken → core_of new.journal ≡ after_steps (core_of old.journal) done
+        → Serves connections made (core_of new.journal) between now taken_before taken
+        → core_of new.journal ≡ after_steps (core_of old.journal) done
         → JournalCarries s done [] old new → (IsKept s old.journal → IsKept s new.journal)
         → s.faults (kept_on new) ≡ s.faults (kept_on old) → s.faults (kept_on old) ≡ s.faults disk
         → ServesFrom s connections cluster before now taken_before taken disk left
@@ -75,7 +82,8 @@ module _ {D : Type 0} (s : DiskGhosts D) where
       same = ap (λ (d : D). s.faults d) same ∙ (still ∙ faults);
     }
 
-    pub broke_off : (cut_off : List ServerStep) (failed_before failed : ℕ) (stop : StoredStop) (cause : ServerStop) → stop ≡ stored_stop_of cause
+    pub broke_off : (cut_off : List ServerStep) (failed_before failed : ℕ) (stop : StoredStop) (cause : ServerStop)
+        → stop ≡ stored_stop_of cause
         → StopsBehind connections cluster (core_of old.journal) step before now taken_before taken failed_before failed cause
         → JournalCarries s done cut_off old new → (cause ≡ DiskFault → Rose (s.faults (kept_on old)) (s.faults (kept_on new)))
         → s.faults (kept_on old) ≡ s.faults disk
@@ -87,7 +95,9 @@ module _ {D : Type 0} (s : DiskGhosts D) where
       cause = cause;
       is = is;
       why = why;
-      rose = λ f. subst (λ (d : D). Rose (s.faults disk) (s.faults d)) (sym same) (subst (λ (n : ℕ). Rose n (s.faults (kept_on new))) faults (rose f));
+      rose =
+          λ f. subst (λ (d : D). Rose (s.faults disk) (s.faults d)) (sym same)
+          (subst (λ (n : ℕ). Rose n (s.faults (kept_on new))) faults (rose f));
       done = done;
       cut_off = cut_off;
       few = x.few;

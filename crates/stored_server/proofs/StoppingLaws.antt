@@ -22,7 +22,8 @@ never_bad at (server.Command stop) is = cc is
 never_bad at server.DiskFault is = cc is
 
 -- links that were settled tell what they told before
-pub settled_as : (told now_told : Option Traffic) (faults now_faults : Faults) (times : Option (List ℕ)) → now_told ≡ told → now_faults ≡ faults
+pub settled_as : (told now_told : Option Traffic) (faults now_faults : Faults) (times : Option (List ℕ)) → now_told ≡ told
+    → now_faults ≡ faults
     → ends_of now_told now_faults times ≡ ends_of told faults times
 settled_as told now_told faults now_faults times tells same =
     ap (λ (t : Option Traffic). ends_of t now_faults times) tells ∙ ap (λ (f : Faults). ends_of told f times) same
@@ -35,14 +36,21 @@ module _ {D : Type 0} (s : DiskGhosts D) (connections : ℕ) (disk left : D) (in
   without_line at (inr x) = elim x.why [
     | inl y ↦ absurd y.why
     | inr y ↦ elim y [
-      | inl shut ↦ inr (record { cluster = x.cluster; gives = x.gives; why = inr (inl (record { why = tt; ends = shut.ends; silent = shut.silent; stays = shut.stays })) })
+      | inl shut ↦
+          inr (record {
+            cluster = x.cluster;
+            gives = x.gives;
+            why = inr (inl (record { why = tt; ends = shut.ends; silent = shut.silent; stays = shut.stays }));
+          })
       | inr broke ↦ absurd (never_bad at broke.cause broke.is)
     ]
   ]
 
-  pub told_as : (stop told : StoredStop) → IsTold stop told → StopsStoredServer s connections in_before in_now before now disk left stop
+  pub told_as : (stop told : StoredStop) → IsTold stop told
+      → StopsStoredServer s connections in_before in_now before now disk left stop
       → StopsStoredServer s connections in_before in_now before now disk left told
-  told_as stop told (inl same) x = subst (λ (e : StoredStop). StopsStoredServer s connections in_before in_now before now disk left e) (sym same) x
+  told_as stop told (inl same) x =
+      subst (λ (e : StoredStop). StopsStoredServer s connections in_before in_now before now disk left e) (sym same) x
   told_as stop told (inr (none, at, is)) x =
       subst (λ (e : StoredStop). StopsStoredServer s connections in_before in_now before now disk left e) (sym none)
       (without_line at (subst (λ (e : StoredStop). StopsStoredServer s connections in_before in_now before now disk left e) is x))
@@ -58,11 +66,17 @@ module _ {D : Type 0} (s : DiskGhosts D) (connections : ℕ) (disk left : D) (in
     serves = subst (λ (b : Ends). ServesFrom s connections c b now in_before.taken in_now.taken disk left) same x;
   }
 
-  pub stopped_in : (c : Cluster) (settled : Ends) (stop : StoredStop) → GivesCluster ServerReads in_before.left in_now.left c → settled ≡ before
-      → StopsFrom s connections c settled now in_before.taken in_now.taken in_before.writes_failed in_now.writes_failed disk left stop
+  pub stopped_in : (c : Cluster) (settled : Ends) (stop : StoredStop) → GivesCluster ServerReads in_before.left in_now.left c
+      → settled ≡ before
+      → StopsFrom s connections c settled now in_before.taken in_now.taken in_before.writes_failed in_now.writes_failed
+      disk left stop
       → StopsStoredServer s connections in_before in_now before now disk left stop
   stopped_in c settled stop gives same x = inr (record {
     cluster = c;
     gives = gives;
-    why = inr (subst (λ (b : Ends). StopsFrom s connections c b now in_before.taken in_now.taken in_before.writes_failed in_now.writes_failed disk left stop) same x);
+    why =
+        inr
+        (subst
+        (λ (b : Ends). StopsFrom s connections c b now in_before.taken in_now.taken in_before.writes_failed in_now.writes_failed
+        disk left stop) same x);
   })

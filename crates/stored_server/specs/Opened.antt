@@ -38,7 +38,8 @@ StopsOpening s disk left (Command other) = ⊥
 StopsOpening s disk left DiskFault = Rose (s.faults disk) (s.faults left)
 StopsOpening s disk left (BadStore at) = IsTrue (s.tells disk) → IsNoJournalAt (s.seen disk) at
 
--- While a journal is opened, a crash leaves what it might have left before, or what comes of the step of the opening. While one is made
+-- While a journal is opened, a crash leaves what it might have left before, or what comes of the step of the opening. While one
+-- is made
 -- on an empty disk, it may leave anything.
 abbrev pub LeavesOpenable : {D : Type 0} → DiskGhosts D → (disk left : D) → Type 0
 LeavesOpenable s disk left = (s.seen disk ≡ []) ⊎ LeavesOpening s disk left

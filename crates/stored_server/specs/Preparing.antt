@@ -40,7 +40,8 @@ pub record Prepares (cluster : Cluster) (begun : Server) (step : Step) (before :
 
 -- why it didn't: too few drives are online for a file of the cluster, a drive gave no record for a file that was made or held its
 -- object already, there was no memory, or the disk failed
-abbrev pub StopsPreparing : Cluster → (begun : Server) → Step → (before : Ends) → (last : Server) → (now : Ends) → ServerStop → Type 0
+abbrev pub StopsPreparing : Cluster → (begun : Server) → Step → (before : Ends) → (last : Server) → (now : Ends) →
+    ServerStop → Type 0
 StopsPreparing cluster begun step before last now (Command (BadCluster kind)) =
     (kind ≡ Range) × (known : Server) × (between : Ends) × Settles cluster begun step before known between
     × LacksDrivesFor cluster.files (serving known [] true between)

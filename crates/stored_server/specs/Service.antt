@@ -21,7 +21,8 @@ use Rattle.stored_server.specs.Preparing.{Prepares, StopsPreparing}
 
 -- ---- what stays on the disk
 
--- From the moment on at which the journal was open, a crash leaves one of the server as `StandsSince` says: with all that was done
+-- From the moment on at which the journal was open, a crash leaves one of the server as `StandsSince` says: with all that was
+-- done
 -- to its end till then.
 pub record StaysSince {D : Type 0} (s : DiskGhosts D) (begun : Server) (done cut_off : List ServerStep) (left : D) : Type 0 where
   pub began : ℕ

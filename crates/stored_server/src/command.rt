@@ -105,16 +105,17 @@ fn serve_stored_cluster<S: Source, K: Sink, L: Links, C: Clock, D: Disk, P: Plac
 }
 
 /// Serves so many connections as the metadata server of the cluster that the source describes, from its journal: the file of
-/// this name, if the disk is one. On an empty disk a journal is made. What an opening gives to send is sent; then the drives of the
-/// cluster that the server doesn't know are added, its files that the server lacks are made, and the server's format is at
-/// least the cluster's. The sink is told `listening` and `served` as by [`server_command::server_command`], or else, in a line of
-/// its own, why the server stopped before. The disk comes back.
+/// this name, if the disk is one. On an empty disk a journal is made. What an opening gives to send is sent; then the drives
+/// of the cluster that the server doesn't know are added, its files that the server lacks are made, and the server's format
+/// is at least the cluster's. The sink is told `listening` and `served` as by [`server_command::server_command`], or else, in
+/// a line of its own, why the server stopped before. The disk comes back.
 ///
 /// # Errors
 ///
-/// [`StoredStop::Command`] for the causes of [`server_command::server_command`], those of the text and the links first;
-/// [`StoredStop::DiskFault`] only if the disk's count of faults rose; [`StoredStop::BadStore`] exactly if what the disk has isn't
-/// in the form of a journal from this byte on.
+/// [`StoredStop::Command`] for the causes of [`server_command::server_command`], those of the text and the links first, and if
+/// fewer drives are online than a file that the server lacks has components; [`StoredStop::DiskFault`] only if the disk's
+/// count of faults rose; [`StoredStop::BadStore`] exactly if what the disk has isn't in the form of a journal from this byte
+/// on.
 pub fn stored_server_command<S: Source, K: Sink, L: Links, C: Clock, D: Disk, P: Place>(
     alloc: Global,
     connections: u32,

@@ -8,16 +8,19 @@ use Rattle.stored_server.proofs.lacking.add_lacking.Goals as goal
 
 pub returns-in-Err-clause-goes : goal.returns-in-Err-clause-goes
 returns-in-Err-clause-goes g c =
-    broke_then g.H.MetadataServer _ c.args.server.now c.loop-drive.server c.add_lacking_one.new.server c.loop-drive.invariant.1 c.in-Err.ensures.goes
+    broke_then g.H.MetadataServer _ c.args.server.now c.loop-drive.server c.add_lacking_one.new.server c.loop-drive.invariant.1
+    c.in-Err.ensures.goes
 
 pub loop-drive-preserved : goal.loop-drive-preserved
 loop-drive-preserved g c =
     let drives = c.args.drives.now in
     let behind = drop (c.loop-drive.drive-index + 1) drives in (
-      one_more (g.H.MetadataServer.server c.loop-drive.server) (g.H.MetadataServer.server c.add_lacking_one.new.server) c.drive-item.result behind
+      one_more (g.H.MetadataServer.server c.loop-drive.server) (g.H.MetadataServer.server c.add_lacking_one.new.server)
+          c.drive-item.result behind
           (drop c.loop-drive.drive-index drives) (with_all_lacking (g.H.MetadataServer.server c.args.server.now) drives)
           (drop_more drives c.loop-drive.drive-index c.drive-item.result c.loop-drive-test.true
           ∙ ap (λ (d : ClusterDrive). d ∷ behind) (sym c.drive-item.is))
           c.in-Ok.ensures.knows c.loop-drive.invariant.0,
-      went_then g.H.MetadataServer c.args.server.now c.loop-drive.server c.add_lacking_one.new.server c.loop-drive.invariant.1 c.in-Ok.ensures.goes,
+      went_then g.H.MetadataServer c.args.server.now c.loop-drive.server c.add_lacking_one.new.server c.loop-drive.invariant.1
+          c.in-Ok.ensures.goes,
     )

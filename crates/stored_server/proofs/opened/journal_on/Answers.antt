@@ -6,6 +6,7 @@ use Rattle.stored_server.proofs.opened.journal_on.Goals as goal
 pub returns-in-Ok-open-clause-leaves : goal.returns-in-Ok-open-clause-leaves
 returns-in-Ok-open-clause-leaves g c told =
     since_asked g.D.Disk g.met.D.Disk.only_now c.args.disk c.size.new.self _
-    (asked g.D.Disk c.args.disk c.open.new.self c.size.new.self c.open.ensures.tells c.open.ensures.seen c.open.ensures.crash c.open.ensures.time
+    (asked g.D.Disk c.args.disk c.open.new.self c.size.new.self c.open.ensures.tells c.open.ensures.seen c.open.ensures.crash
+    c.open.ensures.time
     c.size.ensures.tells c.size.ensures.seen c.size.ensures.crash c.size.ensures.time)
     (c.in-Ok-open.ensures.opened (subst IsTrue (sym (c.size.ensures.tells ∙ c.open.ensures.tells)) told)).any_moment

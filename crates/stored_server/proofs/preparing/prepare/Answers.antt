@@ -9,7 +9,8 @@ pub returns-in-Err-clause-stops : goal.returns-in-Err-clause-stops
 returns-in-Err-clause-stops g c = rw c.from.ensures (stopped_step c.args.cluster.now _ c.args.step _ _ _ c.in-Err.e)
 
 pub returns-in-Err-clause-goes : goal.returns-in-Err-clause-goes
-returns-in-Err-clause-goes g c = broke_as g.H.MetadataServer _ _ _ _ (λ is. step_fault c.in-Err.e (sym c.from.ensures ∙ is)) c.in-Err.ensures.goes
+returns-in-Err-clause-goes g c =
+    broke_as g.H.MetadataServer _ _ _ _ (λ is. step_fault c.in-Err.e (sym c.from.ensures ∙ is)) c.in-Err.ensures.goes
 
 pub returns-in-Err-set_format-clause-stops : goal.returns-in-Err-set_format-clause-stops
 returns-in-Err-set_format-clause-stops g c =
@@ -37,11 +38,15 @@ returns-in-Err-add_lacking-clause-goes g c =
 
 pub returns-in-Ok-make_lacking-clause-prepares : goal.returns-in-Ok-make_lacking-clause-prepares
 returns-in-Ok-make_lacking-clause-prepares g c =
-    let before = ends_of (g.L.Links.told c.args.links.now) (g.L.Links.faults c.args.links.now) (g.C.Clock.times c.args.clock.now) in
-    prepared c.args.cluster.now (g.H.MetadataServer.server c.args.server.now) c.args.step before (g.H.MetadataServer.server c.add_lacking.new.server) _
+    let before =
+    ends_of (g.L.Links.told c.args.links.now) (g.L.Links.faults c.args.links.now) (g.C.Clock.times c.args.clock.now) in
+    prepared c.args.cluster.now (g.H.MetadataServer.server c.args.server.now) c.args.step before
+    (g.H.MetadataServer.server c.add_lacking.new.server) _
     c.as_slice-2.result.now _ _ c.as_slice-2.ensures
-    (settled c.args.cluster.now (g.H.MetadataServer.server c.args.server.now) c.args.step before (g.H.MetadataServer.server c.resume.new.server)
-    (g.H.MetadataServer.server c.set_format.new.self) (g.H.MetadataServer.server c.add_lacking.new.server) c.as_slice.result.now _ c.as_slice.ensures
+    (settled c.args.cluster.now (g.H.MetadataServer.server c.args.server.now) c.args.step before
+    (g.H.MetadataServer.server c.resume.new.server)
+    (g.H.MetadataServer.server c.set_format.new.self) (g.H.MetadataServer.server c.add_lacking.new.server) c.as_slice.result.now _
+    c.as_slice.ensures
     c.in-Ok.ensures.resumes c.in-Ok-set_format.ensures.ok.state c.in-Ok-add_lacking.ensures.knows)
     c.in-Ok-make_lacking.ensures.makes
 
@@ -56,11 +61,15 @@ returns-in-Ok-make_lacking-clause-goes g c =
 
 pub returns-in-Err-make_lacking-clause-stops : goal.returns-in-Err-make_lacking-clause-stops
 returns-in-Err-make_lacking-clause-stops g c =
-    let before = ends_of (g.L.Links.told c.args.links.now) (g.L.Links.faults c.args.links.now) (g.C.Clock.times c.args.clock.now) in
-    stopped_making c.args.cluster.now (g.H.MetadataServer.server c.args.server.now) c.args.step before (g.H.MetadataServer.server c.add_lacking.new.server) _
+    let before =
+    ends_of (g.L.Links.told c.args.links.now) (g.L.Links.faults c.args.links.now) (g.C.Clock.times c.args.clock.now) in
+    stopped_making c.args.cluster.now (g.H.MetadataServer.server c.args.server.now) c.args.step before
+    (g.H.MetadataServer.server c.add_lacking.new.server) _
     c.as_slice-2.result.now _ _ c.in-Err-make_lacking.stop c.as_slice-2.ensures
-    (settled c.args.cluster.now (g.H.MetadataServer.server c.args.server.now) c.args.step before (g.H.MetadataServer.server c.resume.new.server)
-    (g.H.MetadataServer.server c.set_format.new.self) (g.H.MetadataServer.server c.add_lacking.new.server) c.as_slice.result.now _ c.as_slice.ensures
+    (settled c.args.cluster.now (g.H.MetadataServer.server c.args.server.now) c.args.step before
+    (g.H.MetadataServer.server c.resume.new.server)
+    (g.H.MetadataServer.server c.set_format.new.self) (g.H.MetadataServer.server c.add_lacking.new.server) c.as_slice.result.now _
+    c.as_slice.ensures
     c.in-Ok.ensures.resumes c.in-Ok-set_format.ensures.ok.state c.in-Ok-add_lacking.ensures.knows)
     c.requires.sound.maps c.in-Err-make_lacking.ensures.stops
 

@@ -12,6 +12,8 @@ returns-in_err-tell_notes-clause-goes g c =
 
 pub returns-clause-resumes : goal.returns-clause-resumes
 returns-clause-resumes g c =
-    resumed (g.H.MetadataServer.server c.args.server.now) (g.H.MetadataServer.server c.work_all.new.server) c.args.step (g.L.Links.told c.args.links.now)
-    (g.L.Links.told c.tell_notes.new.links) (g.L.Links.faults c.args.links.now) (g.L.Links.faults c.tell_notes.new.links) (g.C.Clock.times c.args.clock.now)
+    resumed (g.H.MetadataServer.server c.args.server.now) (g.H.MetadataServer.server c.work_all.new.server) c.args.step
+    (g.L.Links.told c.args.links.now)
+    (g.L.Links.told c.tell_notes.new.links) (g.L.Links.faults c.args.links.now) (g.L.Links.faults c.tell_notes.new.links)
+    (g.C.Clock.times c.args.clock.now)
     c.in_ok-work_all.field-0 _ c.in_ok-tell_notes.ensures.told c.in_ok-tell_notes.ensures.same c.in_ok-work_all.ensures.works

@@ -4,7 +4,8 @@ use Rattle.stored_server.proofs.stored_server.StoredServerMetadataServer.add_dri
 
 pub returns-in-Ok-clause-ok : goal.returns-in-Ok-clause-ok
 returns-in-Ok-clause-ok g c =
-    went_step g.D.Disk g.met.D.Disk.only_now _ _ _ c.in-Ok.ensures.did c.in-Ok.ensures.answered c.in-Ok.ensures.over c.in-Ok.ensures.cause.same
+    went_step g.D.Disk g.met.D.Disk.only_now _ _ _ c.in-Ok.ensures.did c.in-Ok.ensures.answered c.in-Ok.ensures.over
+    c.in-Ok.ensures.cause.same
 
 pub returns-in-Err-clause-err : goal.returns-in-Err-clause-err
 returns-in-Err-clause-err g c =

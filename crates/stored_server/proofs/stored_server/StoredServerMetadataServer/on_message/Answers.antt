@@ -4,8 +4,12 @@ use Rattle.stored_server.proofs.stored_server.StoredServerMetadataServer.on_mess
 
 pub returns-in-Ok-clause-ok : goal.returns-in-Ok-clause-ok
 returns-in-Ok-clause-ok g c =
-    let did = c.in-Ok.ensures.did in
-    (did.0, did.1, went_step g.D.Disk g.met.D.Disk.only_now _ _ _ did.1.state c.in-Ok.ensures.answered c.in-Ok.ensures.over c.in-Ok.ensures.cause.same)
+    let did = c.in-Ok.ensures.did in (
+      did.0,
+      did.1,
+      went_step g.D.Disk g.met.D.Disk.only_now _ _ _ did.1.state c.in-Ok.ensures.answered c.in-Ok.ensures.over
+          c.in-Ok.ensures.cause.same,
+    )
 
 pub returns-in-Err-clause-err : goal.returns-in-Err-clause-err
 returns-in-Err-clause-err g c =
